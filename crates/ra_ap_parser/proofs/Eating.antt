@@ -1,0 +1,36 @@
+-- Trivia handed out one by one.
+use Rattle.std.proofs.Common.{◌≡◌, sym, ◌∙◌, ap, subst, List, [], ◌∷◌, ◌++◌, ℕ, ◌+◌, ◌<◌, ◌≤◌, true, length, arith}
+use Rattle.ra_ap_parser.specs.declared.shortcuts.builder.Builder.{Builder}
+use Rattle.ra_ap_parser.specs.LexedStr.{token_at}
+use Rattle.ra_ap_parser.specs.StrStep.{StrStepValue, str_token}
+use Rattle.ra_ap_parser.specs.StrSink.{Takes, Stops}
+use Rattle.ra_ap_parser.specs.Trivia.{is_trivial, trivia_at, past_trivia, text_of}
+use Rattle.ra_ap_parser.specs.Builder.{leaves_of}
+use Rattle.ra_ap_parser.proofs.Handed.{Reached, reached-more, reached-stops}
+use Rattle.ra_ap_parser.proofs.TriviaRuns.{trivia-more, past-more}
+
+-- trivia were handed out from the first builder's place to the second one's
+pub record Eats {S : Type 0} (takes : S → StrStepValue → S → Type 0) (b : Builder) (s : S) (d : Builder) (t : S) : Type 0 where
+  pub within : d.pos ≤ length d.lexed.now.tokens
+  pub same : d ≡ record b { pos = d.pos }
+  pub past : past_trivia d.lexed.now.tokens d.pos ≡ past_trivia b.lexed.now.tokens b.pos
+  pub so : Reached takes (leaves_of (trivia_at b.lexed.now.tokens b.pos)) s (leaves_of (trivia_at d.lexed.now.tokens d.pos)) t
+
+module _ {S : Type 0} (takes : S → StrStepValue → S → Type 0) (b : Builder) (s : S) where
+  module _ (d : Builder) (m : S) (eats : Eats takes b s d m) (kind : ℕ) (inside : d.pos < length d.lexed.now.tokens) (same_kind : kind ≡ (token_at d.lexed.now.tokens d.pos).kind) (trivial : is_trivial (token_at d.lexed.now.tokens d.pos) ≡ true) where
+    -- what remains begins with the trivia at the place
+    next : Reached takes (leaves_of (trivia_at b.lexed.now.tokens b.pos)) s ((str_token kind (text_of d.lexed.now.tokens d.pos 1) ∷ []) ++ leaves_of (trivia_at d.lexed.now.tokens (d.pos + 1))) m
+    next = subst (λ (l : List StrStepValue). Reached takes (leaves_of (trivia_at b.lexed.now.tokens b.pos)) s l m)
+        (trivia-more d.lexed.now.tokens d.pos inside trivial ∙ ap (λ k. str_token k (text_of d.lexed.now.tokens d.pos 1) ∷ leaves_of (trivia_at d.lexed.now.tokens (d.pos + 1))) (sym same_kind))
+        eats.so
+
+    pub eats-more : (t : S) → Takes takes m (str_token kind (text_of d.lexed.now.tokens d.pos 1) ∷ []) t → Eats takes b s (record d { pos = d.pos + 1 }) t
+    eats-more t h = record {
+      within = omega arith;
+      same = ap {A = Builder} {B = Builder} (λ x. record x { pos = d.pos + 1 }) eats.same;
+      past = past-more d.lexed.now.tokens d.pos inside trivial ∙ eats.past;
+      so = reached-more takes (leaves_of (trivia_at b.lexed.now.tokens b.pos)) (str_token kind (text_of d.lexed.now.tokens d.pos 1) ∷ []) (leaves_of (trivia_at d.lexed.now.tokens (d.pos + 1))) s m t next h;
+    }
+
+    pub eats-stops : {R : Type 0} (refuses : S → StrStepValue → R → S → Type 0) (t : S) (e : R) → Stops takes refuses m (str_token kind (text_of d.lexed.now.tokens d.pos 1) ∷ []) e t → Stops takes refuses s (leaves_of (trivia_at b.lexed.now.tokens b.pos)) e t
+    eats-stops refuses t e h = reached-stops takes refuses (leaves_of (trivia_at b.lexed.now.tokens b.pos)) (str_token kind (text_of d.lexed.now.tokens d.pos 1) ∷ []) (leaves_of (trivia_at d.lexed.now.tokens (d.pos + 1))) s m t e next h

@@ -1,0 +1,14 @@
+pub mod Covered
+pub mod Cuts
+pub mod Eating
+pub mod Emitted
+pub mod Handed
+pub mod InputRecords
+pub mod Joined
+pub mod Messages
+pub mod Places
+pub mod Records
+pub mod Tokens
+pub mod TriviaRuns
+pub mod Upto
+pub mod Walk

@@ -1,0 +1,68 @@
+-- Messages that are added.
+use Rattle.std.proofs.Common.{◌≡◌, ◌≢◌, ℕ, true, false, ◌+◌, ◌≤◌, ◌==◌, arith, eq-eqb, ne_eqb, List, [], ◌∷◌, ◌++◌, Bool, Option, Some, None, option_to_list, MatchOption, if◌then◌else◌, map, refl, ap, sym, ◌∙◌, append_assoc}
+use Rattle.std.proofs.lemmas.List.{map_push}
+use Rattle.rap_base.specs.declared.escape.Mode.{Mode}
+use Rattle.rap_base.specs.declared.lexer.lexeme.Remark.{Remark}
+use Rattle.ra_ap_parser.specs.About.{about}
+use Rattle.std.specs.List.{AllByRecursion}
+use Rattle.ra_ap_parser.specs.LexedStr.{Message, AreInOrder, messages_of}
+use Rattle.ra_ap_parser.specs.Told.{checked_mode, has_note, prefix_note, fixed_message, TellsFaults, TellsOf, body_of}
+
+no_mode : (P : Type 0) (Q : Mode → Type 0) (o : Option Mode) → o ≡ None → P → MatchOption o P Q
+no_mode P Q None e p = p
+no_mode P Q (Some mode) e p = cc
+
+-- what is told of a token that is no literal to check
+pub tells_other : (after_open : Bool) (text : List ℕ) (remark : Remark) (ms : List (List ℕ)) → checked_mode remark ≡ None → ms ≡ (if has_note after_open remark then prefix_note text ∷ [] else option_to_list (fixed_message remark)) → TellsOf after_open text remark ms
+tells_other after_open text remark ms e h = no_mode _ (λ mode. TellsFaults mode (body_of mode text) ms) (checked_mode remark) e h
+
+-- one message more
+pub adds_more : {X : Type 0} (f : X → List ℕ) (token : ℕ) (start errors more : List Message) (done : List X) (x : X) → errors ≡ start ++ about token (map f done) → more ≡ errors ++ about token (f x ∷ []) → more ≡ start ++ about token (map f (done ++ x ∷ []))
+adds_more f token start errors more done x e h =
+    let texts : map f (done ++ x ∷ []) ≡ map f done ++ f x ∷ [] = map_push f done x in
+    let all : about token (map f (done ++ x ∷ [])) ≡ about token (map f done) ++ about token (f x ∷ []) = ap (λ l. about token l) texts ∙ map_push (λ text. record { token = token; text = text }) (map f done) (f x) in
+    h ∙ (ap (λ l. l ++ about token (f x ∷ [])) e ∙ (append_assoc start (about token (map f done)) (about token (f x ∷ [])) ∙ ap (λ l. start ++ l) (sym all)))
+
+pub messages_of-append : (xs ys : List Message) (i : ℕ) → messages_of (xs ++ ys) i ≡ messages_of xs i ++ messages_of ys i
+messages_of-append [] ys i = refl
+messages_of-append (m ∷ xs) ys i =
+    elim (m.token == i) as (λ b. (if b then m.text ∷ messages_of (xs ++ ys) i else messages_of (xs ++ ys) i) ≡ (if b then m.text ∷ messages_of xs i else messages_of xs i) ++ messages_of ys i) [
+      | true ↦ ap (λ l. m.text ∷ l) (messages_of-append xs ys i)
+      | false ↦ messages_of-append xs ys i
+    ]
+
+pub messages_of-about : (n : ℕ) (ms : List (List ℕ)) → messages_of (about n ms) n ≡ ms
+messages_of-about n [] = refl
+messages_of-about n (m ∷ ms) = rw (eq-eqb n n refl) (ap (λ l. m ∷ l) (messages_of-about n ms))
+
+pub messages_of-other : (n i : ℕ) (ms : List (List ℕ)) → n ≢ i → messages_of (about n ms) i ≡ []
+messages_of-other n i [] d = refl
+messages_of-other n i (m ∷ ms) d = rw (ne_eqb n i d) (messages_of-other n i ms d)
+
+-- there is no message yet about a later token
+pub messages_of-past : (count i : ℕ) (ms : List Message) → AreInOrder count ms → count ≤ i → messages_of ms i ≡ []
+messages_of-past count i [] o h = refl
+messages_of-past count i (m ∷ ms) o h =
+    let d : m.token ≢ i = λ e. absurd (omega (arith, o.0)) in
+    rw (ne_eqb m.token i d) (messages_of-past count i ms o.2 h)
+
+all_append : (P : Message → Type 0) (xs ys : List Message) → AllByRecursion P xs → AllByRecursion P ys → AllByRecursion P (xs ++ ys)
+all_append P [] ys p q = q
+all_append P (x ∷ xs) ys p q = (p.0, all_append P xs ys p.1 q)
+
+all_about : (k n : ℕ) (ms : List (List ℕ)) → k ≤ n → AllByRecursion (λ (later : Message). k ≤ later.token) (about n ms)
+all_about k n [] h = tt
+all_about k n (m ∷ ms) h = (h, all_about k n ms h)
+
+pub ordered_more : (count : ℕ) (xs : List Message) (ms : List (List ℕ)) → AreInOrder count xs → AreInOrder (count + 1) (xs ++ about count ms)
+ordered_more count [] [] o = tt
+ordered_more count [] (m ∷ ms) o = (omega arith, all_about count count ms (omega arith), ordered_more count [] ms tt)
+ordered_more count (x ∷ xs) ms o = (omega (arith, o.0), all_append (λ (later : Message). x.token ≤ later.token) xs (about count ms) o.1 (all_about x.token count ms (omega (arith, o.0))), ordered_more count xs ms o.2)
+
+texts_of-about : (token : ℕ) (texts : List (List ℕ)) → map (λ m. m.text) (about token texts) ≡ texts
+texts_of-about token [] = refl
+texts_of-about token (t ∷ ts) = ap (λ l. t ∷ l) (texts_of-about token ts)
+
+-- the last message has the last text
+pub last_text : (token : ℕ) (texts : List (List ℕ)) (front : List Message) (m : Message) → about token texts ≡ front ++ m ∷ [] → texts ≡ map (λ m. m.text) front ++ m.text ∷ []
+last_text token texts front m e = sym (texts_of-about token texts) ∙ (ap (λ l. map (λ m. m.text) l) e ∙ map_push (λ m. m.text) front m)

@@ -1,0 +1,10 @@
+pub mod About
+pub mod Builder
+pub mod Input
+pub mod LexedStr
+pub mod SingleToken
+pub mod StrForest
+pub mod StrSink
+pub mod StrStep
+pub mod Told
+pub mod Trivia

@@ -1,0 +1,96 @@
+-- What the lexer tells of a token.
+use Rattle.std.specs.Prelude.{◌≡◌, ℕ, zero, suc, ◌+◌, Bool, false, ◌&&◌, ◌||◌, ◌==◌, Option, Some, None, option_to_list, MatchOption, List, [], ◌∷◌, ◌++◌, length, map, chars, codes, slice_index, slice_range, if◌then◌else◌}
+use Rattle.std.specs.Str.{byte}
+use Rattle.rap_base.specs.Escape.{Tells, message}
+use Rattle.rap_base.specs.Run.{next_is}
+use Rattle.rap_base.specs.declared.escape.Fault.{Fault}
+use Rattle.rap_base.specs.declared.escape.Mode.{Mode}
+use Rattle.rap_base.specs.declared.escape.Mode.TheVariants.{Char, Byte, Str, ByteStr, CStr}
+use Rattle.rap_base.specs.declared.lexer.lexeme.Remark.{Remark}
+use Rattle.rap_base.specs.declared.lexer.lexeme.Remark.TheVariants.{Nothing, OpenComment, InvalidRawString, UnknownPrefix, NoDigits, NoExponentDigits, ReservedString, InvalidIdent, UnknownLifetimePrefix, LifetimeStartsWithNumber, Unterminated, Escapes}
+
+-- the quote of a literal
+abbrev pub quote_of : Mode → ℕ
+quote_of Char = byte "'"
+quote_of Byte = byte "'"
+quote_of Str = byte "\""
+quote_of ByteStr = byte "\""
+quote_of CStr = byte "\""
+
+-- where the first of these bytes stands, or the text's length
+abbrev pub first_place : ℕ → List ℕ → ℕ
+first_place b [] = 0
+first_place b (c ∷ cs) = if c == b then 0 else first_place b cs + 1
+
+-- where the last of these bytes stands among the first `n`, or 0
+abbrev pub last_place : ℕ → List ℕ → ℕ → ℕ
+last_place b text zero = 0
+last_place b text (suc n) = if slice_index text n == b then n else last_place b text n
+
+-- the text between the opening quote and the last quote
+abbrev pub body_of : Mode → List ℕ → List ℕ
+body_of mode text =
+    slice_range text (first_place (quote_of mode) text + 1) (last_place (quote_of mode) text (length text))
+
+-- what is told of a literal without a closing quote
+abbrev pub unterminated : Mode → List ℕ
+unterminated Char = codes "Missing trailing `'` symbol to terminate the character literal"
+unterminated Byte = codes "Missing trailing `'` symbol to terminate the byte literal"
+unterminated Str = codes "Missing trailing `\"` symbol to terminate the string literal"
+unterminated ByteStr = codes "Missing trailing `\"` symbol to terminate the byte string literal"
+unterminated CStr = codes "Missing trailing `\"` symbol to terminate the C string literal"
+
+-- the message of a remark that has one of its own
+abbrev pub fixed_message : Remark → Option (List ℕ)
+fixed_message Nothing = None
+fixed_message OpenComment = Some (codes "Missing trailing `*/` symbols to terminate the block comment")
+fixed_message InvalidRawString = Some (codes "Invalid raw string literal")
+fixed_message UnknownPrefix = Some (codes "unknown literal prefix")
+fixed_message NoDigits = Some (codes "Missing digits after the integer base prefix")
+fixed_message NoExponentDigits = Some (codes "Missing digits after the exponent symbol")
+fixed_message ReservedString = Some (codes "Invalid string literal (reserved syntax)")
+fixed_message InvalidIdent = Some (codes "Ident contains invalid characters")
+fixed_message UnknownLifetimePrefix = Some (codes "Unknown lifetime prefix")
+fixed_message LifetimeStartsWithNumber = Some (codes "Lifetime name cannot start with a number")
+fixed_message (Unterminated mode) = Some (unterminated mode)
+fixed_message (Escapes mode) = None
+
+-- a byte stands in the text
+abbrev pub holds : ℕ → List ℕ → Bool
+holds b [] = false
+holds b (c ∷ cs) = (c == b) || holds b cs
+
+-- two bytes stand in the text, one directly after the other
+abbrev pub holds_pair : ℕ → ℕ → List ℕ → Bool
+holds_pair a b [] = false
+holds_pair a b (c ∷ cs) = ((c == a) && next_is b cs) || holds_pair a b cs
+
+-- a text that looks as if its string went on too far: it has a `(`, and `//` or a `;` directly before a line feed
+abbrev pub looks_open : List ℕ → Bool
+looks_open text = holds (byte "(") text && (holds_pair (byte "/") (byte "/") text || holds_pair (byte ";") 0xa text)
+
+-- the note on an unknown prefix after such a string
+abbrev pub prefix_note : List ℕ → List ℕ
+prefix_note text = codes "unknown literal prefix `" ++ (text ++ codes "` (note: check for unterminated string literal)")
+
+-- the faults of a literal's body, each by its message
+abbrev pub TellsFaults : Mode → List ℕ → List (List ℕ) → Type 0
+TellsFaults mode body ms = (faults : List Fault) × Tells mode (chars body) faults × (ms ≡ map (λ fault. message fault mode) faults)
+
+-- what literal a remark asks to be checked
+abbrev pub checked_mode : Remark → Option Mode
+checked_mode (Escapes mode) = Some mode
+checked_mode remark = None
+
+-- a prefix that has the note
+abbrev pub has_note : Bool → Remark → Bool
+has_note after_open UnknownPrefix = after_open
+has_note after_open remark = false
+
+-- The messages that are told of a token with this text and remark: of a literal the faults of its body in order, of
+-- an unknown prefix the note where a string before it looks open, and else the message of the remark, if it has one.
+abbrev pub TellsOf : Bool → List ℕ → Remark → List (List ℕ) → Type 0
+TellsOf after_open text remark ms =
+    MatchOption (checked_mode remark)
+    (ms ≡ (if has_note after_open remark then prefix_note text ∷ [] else option_to_list (fixed_message remark)))
+    (λ mode. TellsFaults mode (body_of mode text) ms)

@@ -1,0 +1,63 @@
+//! Where a parse begins.
+ghost use Rattle.std.specs.Prelude.{◌≡◌, ◌<◌, ◌↔◌, length, IfOk};
+ghost use Rattle.rap_grammar.specs.Top.{IsTreeOver};
+
+use rap_base::no_memory::NoMemory;
+use rap_events::input::Input;
+use rap_events::output::Output;
+use rap_grammar::entry::top;
+use std::alloc::Global;
+use std::error::Error;
+use std::fmt;
+
+/// The most tokens that an input may have, so that each event's place fits 32 bits.
+pub const MAX_TOKENS: usize = 8_388_607;
+
+/// Why an input was not parsed.
+#[derive(Clone, Copy, Debug, PartialEq, Eq)]
+pub enum ParseFault {
+    /// The input has more than [`MAX_TOKENS`] tokens.
+    TooManyTokens,
+    /// A growth was refused for want of memory.
+    NoMemory,
+}
+
+impl fmt::Display for ParseFault {
+    fn fmt<W: fmt::Write>(&self, f: &mut fmt::Formatter<W>) -> fmt::Result {
+        match self {
+            ParseFault::TooManyTokens => write!(f, "too many tokens"),
+            ParseFault::NoMemory => write!(f, "no memory"),
+        }
+    }
+}
+
+impl Error for ParseFault {}
+
+/// What a whole input is read as.
+#[derive(Clone, Copy, Debug, PartialEq, Eq)]
+pub enum TopEntryPoint {
+    /// An expression.
+    Expr,
+}
+
+impl TopEntryPoint {
+    /// Reads the whole input as one tree, whatever its tokens are.
+    ///
+    /// The error is `TooManyTokens` exactly for an input of more than [`MAX_TOKENS`] tokens, which is decided
+    /// first, and else `NoMemory` where a growth was refused.
+    pub fn parse(&self, alloc: Global, input: &Input) -> Result<Output, ParseFault>
+        ensures tree { IfOk result (IsTreeOver input.now) }
+        ensures too_many { (result ≡ Err ParseFault.TooManyTokens) ↔ (MAX_TOKENS < length input.now) }
+    {
+        if input.len() > MAX_TOKENS {
+            return Err(ParseFault::TooManyTokens);
+        }
+        let parsed = match self {
+            TopEntryPoint::Expr => top::expr(alloc, input),
+        };
+        match parsed {
+            Ok(output) => Ok(output),
+            Err(NoMemory) => Err(ParseFault::NoMemory),
+        }
+    }
+}

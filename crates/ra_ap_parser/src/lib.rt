@@ -1,0 +1,20 @@
+//! A parser of Rust: a text is lexed, parsed, and handed out as the steps of one tree over all its bytes.
+//!
+//! [`LexedStr::new`] cuts a text into tokens, [`LexedStr::to_input`] leaves the trivia out,
+//! [`TopEntryPoint::parse`] parses what is left, and [`LexedStr::intersperse_trivia`] hands the tree, with the
+//! texts and the trivia put back, to a [`StrSink`].
+#![tactic(auto)]
+
+mod entry_point;
+mod lexed_str;
+mod shortcuts;
+
+pub use entry_point::{ParseFault, TopEntryPoint};
+pub use lexed_str::{Errors, LexFault, LexedStr};
+pub use rap_base::edition::{Edition, InvalidEdition};
+pub use rap_base::no_memory::NoMemory;
+pub use rap_base::syntax_kind::SyntaxKind;
+pub use rap_base::whitespace::is_rust_whitespace;
+pub use rap_events::input::Input;
+pub use rap_events::output::{Output, Step, Steps};
+pub use shortcuts::{StrSink, StrStep};

@@ -1,0 +1,122 @@
+//! A sink for tests, which keeps its steps and refuses one.
+use super::{StrSink, StrStep};
+use crate::lexed_str::LexedStr;
+use rap_base::edition::Edition;
+use rap_base::syntax_kind::SyntaxKind;
+use std::alloc::{AllocError, Global};
+use std::test::Fail;
+
+#[derive(Drop, PartialEq, Debug)]
+enum Kept {
+    Token { kind: SyntaxKind, text: String },
+    Enter { kind: SyntaxKind },
+    Exit,
+    Error { msg: String, pos: usize },
+}
+
+#[derive(Drop, PartialEq, Debug)]
+enum Refusal {
+    Full,
+    NoMemory,
+}
+
+impl From<AllocError> for Refusal {
+    fn from(_error: AllocError) -> Refusal {
+        Refusal::NoMemory
+    }
+}
+
+impl From<std::alloc::AllocFailed<Kept>> for Refusal {
+    fn from(_error: std::alloc::AllocFailed<Kept>) -> Refusal {
+        Refusal::NoMemory
+    }
+}
+
+/// Keeps `left` steps more, and refuses the next one.
+#[derive(Drop)]
+struct Keeper {
+    alloc: Global,
+    kept: Vec<Kept>,
+    left: usize,
+}
+
+impl StrSink for Keeper {
+    ghost use Rattle.std.specs.Prelude.{◌≡◌, ◌+◌, vec_len};
+
+    type Refusal = Refusal;
+
+    ghost takes = { λ s _ t. (vec_len t.kept ≡ vec_len s.kept + 1) × (s.left ≡ t.left + 1) };
+
+    ghost refuses = { λ s _ _ t. t.kept.items ≡ s.kept.items };
+
+    fn step(&mut self, step: StrStep<'_>) -> Result<(), Refusal> {
+        if self.left == 0 {
+            return Err(Refusal::Full);
+        }
+        let alloc = self.alloc;
+        let kept = match step {
+            StrStep::Token { kind, text } => {
+                let text = String::from_str(alloc, text)?;
+                Kept::Token { kind, text }
+            }
+            StrStep::Enter { kind } => Kept::Enter { kind },
+            StrStep::Exit => Kept::Exit,
+            StrStep::Error { msg, pos } => {
+                let msg = String::from_str(alloc, msg)?;
+                Kept::Error { msg, pos }
+            }
+        };
+        self.kept.push(kept)?;
+        self.left -= 1;
+        Ok(())
+    }
+}
+
+/// Hands out a node over a leaf, with a message after the leaf.
+fn hand_out_a_node<S: StrSink>(sink: &mut S) -> Result<(), S::Refusal> {
+    let kind = SyntaxKind::ERROR;
+    sink.step(StrStep::Enter { kind })?;
+    sink.step(StrStep::Token { kind, text: "é" })?;
+    sink.step(StrStep::Error { msg: "odd", pos: 2 })?;
+    sink.step(StrStep::Exit)
+}
+
+#[test]
+fn hands_out_steps_until_one_is_refused(rt: HostRuntime) -> Result<(), Fail> {
+    let alloc = rt.alloc();
+    let kind = SyntaxKind::ERROR;
+    let text = String::from_str(alloc, "é")?;
+    let msg = String::from_str(alloc, "odd")?;
+    let want = [
+        Kept::Enter { kind },
+        Kept::Token { kind, text },
+        Kept::Error { msg, pos: 2 },
+        Kept::Exit,
+    ];
+    for left in 0..5 {
+        let mut sink = Keeper {
+            alloc,
+            kept: Vec::new(alloc),
+            left,
+        };
+        let answer = hand_out_a_node(&mut sink);
+        if left < 4 {
+            assert_eq!(rt; answer, Err(Refusal::Full), "with {left} left");
+            assert_eq!(rt; sink.kept.as_slice(), &want[..left]);
+        } else {
+            assert_eq!(rt; answer, Ok(()));
+            assert_eq!(rt; sink.kept.as_slice(), want.as_slice());
+        }
+    }
+    Ok(())
+}
+
+#[test]
+fn reads_the_tokens_that_are_no_trivia(rt: HostRuntime) -> Result<(), Fail> {
+    let text = "fn f() { /* é */ a.0.1 } // end";
+    let lexed = LexedStr::new(rt.alloc(), Edition::Edition2024, text)?;
+    let input = lexed.to_input(rt.alloc(), Edition::Edition2024)?;
+    assert_eq!(rt; lexed.len(), 17);
+    assert_eq!(rt; input.len(), 9);
+    Ok(())
+}

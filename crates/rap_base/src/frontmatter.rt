@@ -1,0 +1,17 @@
+//! Script source: the shebang and the frontmatter that may stand before Rust code (Cargo's scripts, RFC 3502
+//! and RFC 3503).
+
+mod close;
+mod error;
+mod line;
+mod open;
+mod parse;
+mod script_source;
+mod strip;
+mod tell;
+#[cfg(test)]
+mod tests;
+
+pub use error::{FrontmatterError, ScriptFault, Span};
+pub use script_source::ScriptSource;
+pub use strip::{strip_shebang, strip_ws_lines};

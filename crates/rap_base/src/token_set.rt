@@ -1,0 +1,78 @@
+//! Sets of token kinds.
+ghost use Rattle.std.specs.Prelude.{◌≡◌, ℕ, ◌||◌, ◌==◌, false, IsTrue};
+ghost use Rattle.std.specs.List.{list_all, list_any};
+ghost use Rattle.rap_base.specs.TokenSet.{member};
+ghost use Rattle.rap_base.specs.TokenTests.{is_token};
+
+use crate::syntax_kind::SyntaxKind;
+
+/// How many kinds of tokens there are.
+const KINDS: usize = 157;
+
+/// A set of token kinds, as a table that says of each kind whether it is in the set.
+#[derive(Clone, Copy)]
+pub struct TokenSet {
+    has: [bool; KINDS],
+}
+
+impl TokenSet {
+    /// The set without kinds.
+    pub const EMPTY: TokenSet = TokenSet {
+        has: [false; KINDS],
+    };
+
+    /// The set of these kinds, which are kinds of tokens.
+    pub fn new(kinds: &[SyntaxKind]) -> TokenSet
+        requires { IsTrue (list_all is_token kinds.now) }
+        ensures { (kind : ℕ) → member result kind ≡ list_any (λ k. k == kind) kinds.now }
+    {
+        let mut set = TokenSet::EMPTY;
+        'kinds: for kind in kinds {
+            set.has[u16::from(*kind) as usize] = true;
+        }
+        set
+    }
+
+    /// The set of the kinds that are in either set.
+    #[tactic(auto, unfolding(crate::specs::TokenSet::member))]
+    pub fn union(self, other: TokenSet) -> TokenSet
+        ensures { (kind : ℕ) → member result kind ≡ (member self kind || member other kind) }
+    {
+        let mut has = self.has;
+        'all: for i in 0..KINDS {
+            has[i] |= other.has[i];
+        }
+        TokenSet { has }
+    }
+
+    /// Whether the set has `kind`, which is a kind of tokens.
+    #[tactic(auto, unfolding(crate::specs::TokenSet::member))]
+    pub fn contains(&self, kind: SyntaxKind) -> bool
+        requires { IsTrue (is_token kind) }
+        ensures { result ≡ member self.now kind }
+    {
+        self.has[u16::from(kind) as usize]
+    }
+}
+
+#[cfg(test)]
+mod tests {
+    use super::*;
+
+    // The empty set has no kind.
+    fn empty() -> TokenSet
+        ensures { (kind : ℕ) → member result kind ≡ false }
+    {
+        TokenSet::EMPTY
+    }
+
+    #[test]
+    fn holds_what_it_is_made_of(rt: HostRuntime) {
+        let ends = TokenSet::new(&[SyntaxKind::EOF, SyntaxKind::SHEBANG]);
+        assert!(rt; ends.contains(SyntaxKind::EOF) && ends.contains(SyntaxKind::SHEBANG));
+        assert!(rt; !ends.contains(SyntaxKind::PLUS) && !empty().contains(SyntaxKind::EOF));
+        let more = ends.union(TokenSet::new(&[SyntaxKind::PLUS]));
+        assert!(rt; more.contains(SyntaxKind::EOF) && more.contains(SyntaxKind::PLUS));
+        assert!(rt; !more.contains(SyntaxKind::MINUS));
+    }
+}

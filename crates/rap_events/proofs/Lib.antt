@@ -1,0 +1,12 @@
+pub mod Backing
+pub mod Calls
+pub mod Composites
+pub mod Finished
+pub mod HistoryLemmas
+pub mod MachineLemmas
+pub mod Marks
+pub mod Records
+pub mod Skips
+pub mod Truth
+pub mod Unwinding
+pub mod Weight

@@ -1,0 +1,163 @@
+-- Reading the calls from the last one back gives the steps of the forest.
+use Rattle.std.proofs.Common.{◌≡◌, ℕ, suc, ◌+◌, List, [], ◌∷◌, ◌++◌, Bool, true, false, refl, sym, ap, ◌∙◌, append_assoc, append-nil, reverse, length, map, min, take, drop, ◌≤◌, arith}
+use Rattle.std.proofs.lemmas.List.{reverse-append, map-append, take-append-drop, drop_min, take_min}
+use Rattle.rap_events.specs.StepValue.{StepValue, enter, exit, token, message}
+use Rattle.rap_events.specs.Forest.{Forest, none, node, leaf, mark, ◌⧺◌, flat}
+use Rattle.rap_events.specs.History.{Call}
+use Rattle.rap_events.specs.History as call
+use Rattle.rap_events.specs.Machine.{Stack, floor, push, Config, close, merge, wrap, stretch, step, run, initial}
+use Rattle.rap_events.specs.Output.{value_of}
+use Rattle.rap_events.specs.Unwind.{Opening, Walk, enters, glue, others, back, unwind, nothing_yet, openings_of}
+use Rattle.rap_events.specs.declared.event.walk.Opening as kept
+use Rattle.rap_events.specs.declared.output.OwnedStep.{OwnedStep}
+use Rattle.rap_events.specs.declared.output.OwnedStep.TheVariants as owned
+use Rattle.rap_events.proofs.Truth.{and_left}
+use Rattle.rap_events.proofs.MachineLemmas.{sound-run}
+
+pub unwind-push : (xs : List Call) (x : Call) (w : Walk) → unwind (xs ++ x ∷ []) w ≡ unwind xs (back x w)
+unwind-push [] x w = refl
+unwind-push (y ∷ xs) x w = ap (back y) (unwind-push xs x w)
+
+-- the steps of all that is open, before the steps w
+close_all : Stack → List Opening → List StepValue → List StepValue
+close_all floor os w = w
+close_all (push r m b) os w = close_all r (others os) (flat b ++ (enters (glue os) ++ w))
+
+-- to go on from here with U gives the steps of what is open at c
+record Good (c : Config) (U : Walk → List StepValue) : Type 0 where
+  plain : (os : List Opening) (w : List StepValue) → U (record { kinds = []; skips = 0; openings = os; steps = w }) ≡ close_all c.below os (flat c.forest ++ w)
+  after_node : c.closed ≡ true → (b : Forest) (k : ℕ) (x : Forest) → c.forest ≡ node b k x → (g : List ℕ) (s : ℕ) (os : List Opening) (w : List StepValue) →
+      U (record { kinds = g; skips = s; openings = os; steps = w }) ≡ close_all (push c.below c.marker b) (record { kinds = g ++ k ∷ []; skips = s } ∷ os) (flat x ++ exit ∷ w)
+
+pub flat-⧺ : (f g : Forest) → flat (f ⧺ g) ≡ flat f ++ flat g
+flat-⧺ f none = sym (append-nil (flat f))
+flat-⧺ f (node b k x) = simp (flat-⧺ f b, append_assoc)
+flat-⧺ f (leaf b k w) = simp (flat-⧺ f b, append_assoc)
+flat-⧺ f (mark b m) = simp (flat-⧺ f b, append_assoc)
+
+pub enters-push : (g : List ℕ) (k : ℕ) (w : List StepValue) → enters (g ++ k ∷ []) ++ w ≡ enters g ++ enter k ∷ w
+enters-push [] k w = refl
+enters-push (j ∷ g) k w = ap (λ (v : List StepValue). enter j ∷ v) (enters-push g k w)
+
+good-start : (c : Config) (U : Walk → List StepValue) → Good c U → Good (step c call.start) (λ w. U (back call.start w))
+unfolding close_all
+good-start c U h = record { plain = λ os w. h.plain (others os) (enters (glue os) ++ w); after_node = λ e. absurd cc }
+
+good-token : (k n : ℕ) (c : Config) (U : Walk → List StepValue) → Good c U → Good (step c (call.token k n)) (λ w. U (back (call.token k n) w))
+good-token k n c U h = record {
+  plain = λ os w. h.plain os (token k n ∷ w) ∙ ap (close_all c.below os) (sym (append_assoc (flat c.forest) (token k n ∷ []) w));
+  after_node = λ e. absurd cc;
+}
+
+good-message : (m : List ℕ) (c : Config) (U : Walk → List StepValue) → Good c U → Good (step c (call.message m)) (λ w. U (back (call.message m) w))
+good-message m c U h = record {
+  plain = λ os w. h.plain os (message m ∷ w) ∙ ap (close_all c.below os) (sym (append_assoc (flat c.forest) (message m ∷ []) w));
+  after_node = λ e. absurd cc;
+}
+
+good-finish : (k : ℕ) (c : Config) (s : Stack) (U : Walk → List StepValue) → s ≡ c.below → (close k c s).sound ≡ true → Good c U → Good (close k c s) (λ w. U (back (call.finish k) w))
+unfolding close_all
+good-finish k c floor U e t h = absurd cc
+good-finish k c (push r m b) U e t h = record {
+  plain = λ os w. h.plain (record { kinds = k ∷ []; skips = 0 } ∷ os) (exit ∷ w) ∙ rw (← e) (ap (close_all r os) (simp append_assoc));
+  after_node = λ d b' k' x' i g n os w.
+      let eb : b ≡ b' = cc in
+      let ek : k ≡ k' = cc in
+      let ex : c.forest ≡ x' = cc in
+      rw (← eb, ← ek, ← ex) (h.plain (record { kinds = g ++ k ∷ []; skips = n } ∷ os) (exit ∷ w) ∙ rw (← e) refl);
+}
+
+good-abandon : (c : Config) (s : Stack) (U : Walk → List StepValue) → s ≡ c.below → (merge c s).sound ≡ true → Good c U → Good (merge c s) (λ w. U (back call.abandon w))
+unfolding close_all
+good-abandon c floor U e t h = absurd cc
+good-abandon c (push r m b) U e t h = record {
+  plain = λ os w. h.plain (record { kinds = []; skips = 0 } ∷ os) w ∙ rw (← e) (ap (close_all r os) (simp (flat-⧺ b c.forest, append_assoc)));
+  after_node = λ d. absurd cc;
+}
+
+good-precede : (c : Config) (a : Bool) (x : Forest) (U : Walk → List StepValue) → a ≡ c.closed → x ≡ c.forest → (wrap c a x).sound ≡ true → Good c U → Good (wrap c a x) (λ w. U (back call.precede w))
+unfolding close_all
+good-precede c a none U d e t h = absurd cc
+good-precede c a (leaf f k w) U d e t h = absurd cc
+good-precede c a (mark f m) U d e t h = absurd cc
+good-precede c false (node f k x) U d e t h = absurd cc
+good-precede c true (node f k x) U d e t h = record {
+  plain = λ os w. h.after_node (sym d) f k x (sym e) (glue os) 0 (others os) w
+      ∙ ap (λ (v : List StepValue). close_all c.below (others os) (flat f ++ v)) (enters-push (glue os) k (flat x ++ exit ∷ w) ∙ simp append_assoc);
+  after_node = λ z. absurd cc;
+}
+
+good-extend : (c : Config) (x : Forest) (s : Stack) (U : Walk → List StepValue) → x ≡ c.forest → s ≡ c.below → (stretch c x s).sound ≡ true → Good c U → Good (stretch c x s) (λ w. U (back call.extend w))
+unfolding close_all
+good-extend c x floor U e p t h = absurd cc
+good-extend c none (push r m b) U e p t h = absurd cc
+good-extend c (leaf f k n) (push r m b) U e p t h = absurd cc
+good-extend c (mark f y) (push r m b) U e p t h = absurd cc
+good-extend c (node f k x) (push r m b) U e p t h =
+    let d : c.closed ≡ true = and_left c.closed c.sound t in
+    record {
+      plain = λ os w. h.after_node d f k x (sym e) [] 1 os w ∙ rw (← p) (ap (close_all r os) (simp (flat-⧺ f x, append_assoc)));
+      after_node = λ z b' k' x' i g n os w.
+          let eb : b ≡ b' = cc in
+          let ek : k ≡ k' = cc in
+          let ex : (f ⧺ x) ≡ x' = cc in
+          rw (← eb, ← ek, ← ex) (h.after_node d f k x (sym e) g (suc n) os w ∙ rw (← p) (simp (flat-⧺ f x, append_assoc)));
+    }
+
+good-step : (c : Config) (x : Call) (U : Walk → List StepValue) → (step c x).sound ≡ true → Good c U → Good (step c x) (λ w. U (back x w))
+good-step c call.start U t h = good-start c U h
+good-step c call.precede U t h = good-precede c c.closed c.forest U refl refl t h
+good-step c (call.finish k) U t h = good-finish k c c.below U refl t h
+good-step c call.extend U t h = good-extend c c.forest c.below U refl refl t h
+good-step c call.abandon U t h = good-abandon c c.below U refl t h
+good-step c (call.token k n) U t h = good-token k n c U h
+good-step c (call.message m) U t h = good-message m c U h
+
+good-run : (c : Config) (xs : List Call) (U : Walk → List StepValue) → (run c xs).sound ≡ true → Good c U → Good (run c xs) (λ w. U (unwind xs w))
+good-run c [] U t h = h
+good-run c (x ∷ xs) U t h = good-run (step c x) xs (λ w. U (back x w)) t (good-step c x U (sound-run (step c x) xs t) h)
+
+good-initial : Good initial (λ w. w.steps)
+unfolding close_all
+good-initial = record { plain = λ os w. refl; after_node = λ e. absurd cc }
+
+-- reading all calls back gives the steps of the forest
+pub unwound : (xs : List Call) → (run initial xs).sound ≡ true → (run initial xs).below ≡ floor → (unwind xs nothing_yet).steps ≡ flat (run initial xs).forest
+unfolding close_all
+unwound xs t f = (good-run initial xs (λ w. w.steps) t good-initial).plain [] [] ∙ rw f (append-nil (flat (run initial xs).forest))
+
+pub back-skips : (x : Call) (w : Walk) → (back x w).skips ≤ w.skips + 1
+back-skips call.start w = omega arith
+back-skips call.precede w = omega arith
+back-skips (call.finish k) w = omega arith
+back-skips call.extend w = omega arith
+back-skips call.abandon w = omega arith
+back-skips (call.token k n) w = omega arith
+back-skips (call.message m) w = omega arith
+
+pub map-reverse : {A B : Type 0} (f : A → B) (xs : List A) → map f (reverse xs) ≡ reverse (map f xs)
+map-reverse f [] = refl
+map-reverse f (x ∷ xs) = ap (map f) (reverse-append (x ∷ []) xs) ∙ map-append f (reverse xs) (x ∷ []) ∙ ap (λ ys. ys ++ f x ∷ []) (map-reverse f xs) ∙ sym (reverse-append (f x ∷ []) (map f xs))
+
+-- one more node begins
+pub entered : (kinds kinds' : List ℕ) (k : ℕ) (steps steps' : List OwnedStep) → kinds ≡ kinds' ++ k ∷ [] → steps' ≡ steps ++ owned.Enter k ∷ [] →
+    enters kinds' ++ reverse (map value_of steps') ≡ enters kinds ++ reverse (map value_of steps)
+entered kinds kinds' k steps steps' e f =
+    rw (e, f, enters-push kinds' k (reverse (map value_of steps)), map-append value_of steps (owned.Enter k ∷ []), reverse-append (map value_of steps) (enter k ∷ [])) refl
+
+-- the topmost opening becomes what is around the node that ends next
+pub preceded_back : (w : Walk) (kinds : List ℕ) (held first held' s t : ℕ) (below os : List kept.Opening) (steps : List StepValue) →
+    os ≡ record { first = first; skips = t } ∷ below → t ≡ 0 →
+    record { kinds = drop held kinds; skips = s; openings = openings_of os (take held kinds); steps = steps } ≡ record w { kinds = []; skips = 0 } →
+    held' ≡ min first (length kinds) →
+    record { kinds = drop held' kinds; skips = s; openings = openings_of below (take held' kinds); steps = steps } ≡ back call.precede w
+preceded_back w kinds held first held' s t below os steps e z f m =
+    let gone : drop held kinds ≡ [] = ap (λ (v : Walk). v.kinds) f in
+    let whole : take held kinds ≡ kinds = sym (append-nil (take held kinds)) ∙ ap (λ (ks : List ℕ). take held kinds ++ ks) (sym gone) ∙ take-append-drop held kinds in
+    let held-drop : drop held' kinds ≡ drop first kinds = ap (λ (n : ℕ). drop n kinds) m ∙ drop_min first kinds in
+    let held-take : take held' kinds ≡ take first kinds = ap (λ (n : ℕ). take n kinds) m ∙ take_min first kinds in
+    let opened : w.openings ≡ record { kinds = drop first kinds; skips = 0 } ∷ openings_of below (take first kinds) =
+    sym (ap (λ (v : Walk). v.openings) f) ∙ ap (openings_of os) whole ∙ ap (λ (x : List kept.Opening). openings_of x kinds) (e ∙ ap (λ (n : ℕ). record { first = first; skips = n } ∷ below) z) in
+    let steps-are : steps ≡ w.steps = ap (λ (v : Walk). v.steps) f in
+    let skips-are : s ≡ 0 = ap (λ (v : Walk). v.skips) f in
+    rw (opened, held-drop, held-take, steps-are, skips-are) refl

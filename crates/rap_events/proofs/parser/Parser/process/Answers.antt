@@ -1,0 +1,50 @@
+use mathlib.Core.Logic.{∥∥₁_map}
+use Rattle.std.proofs.Common.{◌≡◌, refl, ℕ, List, length-drop, map, ap, ◌∙◌, arith}
+use Rattle.std.specs.Prelude.{string_bytes}
+use Rattle.rap_events.specs.Forest.{used}
+use Rattle.rap_events.specs.History.{history}
+use Rattle.rap_events.specs.Machine.{run, initial}
+use Rattle.rap_events.specs.State.{state, calls}
+use Rattle.rap_events.specs.declared.event.Event.{Event}
+use Rattle.rap_events.proofs.Finished.{covered, used_all}
+use Rattle.rap_events.proofs.Marks.{no_messages}
+use Rattle.rap_events.proofs.Weight.{few_steps}
+use Rattle.rap_events.proofs.parser.Parser.process.Goals as goal
+
+pub process-requires-clause-closed : goal.process-requires-clause-closed
+unfolding state calls
+process-requires-clause-closed c = rw c.deref.ensures.value c.requires
+
+pub returns-clause-forest : goal.returns-clause-forest
+unfolding state calls
+returns-clause-forest c =
+    let texts : List (List ℕ) = map string_bytes c.args.self.messages.items in
+    c.in_ok-output.ensures ∙ ap (λ (es : List Event). (run initial (history es texts)).forest) c.deref.ensures.value
+
+pub returns-clause-few : goal.returns-clause-few
+unfolding state calls
+returns-clause-few c = rw (returns-clause-forest c) (few_steps (calls c.args.self))
+
+pub returns-clause-covers : goal.returns-clause-covers
+unfolding state calls
+returns-clause-covers c = let s = c.args.self in rw (returns-clause-forest c) (covered (run initial (calls s)) s.input.now c.requires s.covers)
+
+pub returns-clause-used : goal.returns-clause-used
+unfolding state calls
+returns-clause-used c =
+    let s = c.args.self in
+    let place : used c.in_ok-output.output ≡ s.pos = ap used (returns-clause-forest c) ∙ used_all (run initial (calls s)) s.pos c.requires s.place in
+    omega (arith, place, s.ends, s.in_input, length-drop s.pos s.input.now)
+
+pub returns-clause-rest : goal.returns-clause-rest
+unfolding state calls
+returns-clause-rest c =
+    let s = c.args.self in
+    let place : used c.in_ok-output.output ≡ s.pos = ap used (returns-clause-forest c) ∙ used_all (run initial (calls s)) s.pos c.requires s.place in
+    rw place refl
+
+pub returns-clause-fit : goal.returns-clause-fit
+unfolding state calls
+returns-clause-fit c =
+    let s = c.args.self in
+    rw (returns-clause-forest c) (λ z. ∥∥₁_map (s.fit (no_messages (calls s) c.requires z)) (λ a. a.1))

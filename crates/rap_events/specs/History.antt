@@ -1,0 +1,39 @@
+-- The calls that a parser recorded, in order. The number of a call is its place among them.
+use Rattle.std.specs.Prelude.{ℕ, ◌+◌, List, [], ◌∷◌}
+use Rattle.rap_events.specs.declared.event.Event.{Event}
+use Rattle.rap_events.specs.declared.event.Event.TheVariants as event
+
+-- A marker is started; one is started before the last node; the newest marker becomes a node of a kind; the last
+-- node begins where the newest marker does, and that marker is gone; the newest marker is forgotten; so many tokens
+-- are taken under one kind; a message is told, by its bytes.
+pub data Call : Type 0 where
+  start : Call
+  precede : Call
+  finish : ℕ → Call
+  extend : Call
+  abandon : Call
+  token : ℕ → ℕ → Call
+  message : List ℕ → Call
+
+-- the calls that the events show, each error with the next of the messages
+abbrev pub history : List Event → List (List ℕ) → List Call
+history [] ms = []
+history (event.Start ∷ es) ms = start ∷ history es ms
+history (event.Precede ∷ es) ms = precede ∷ history es ms
+history (event.Finish kind ∷ es) ms = finish kind ∷ history es ms
+history (event.Extend ∷ es) ms = extend ∷ history es ms
+history (event.Abandon ∷ es) ms = abandon ∷ history es ms
+history (event.Token kind width ∷ es) ms = token kind width ∷ history es ms
+history (event.Error ∷ es) [] = message [] ∷ history es []
+history (event.Error ∷ es) (m ∷ ms) = message m ∷ history es ms
+
+-- how many of the events are errors
+abbrev pub errors : List Event → ℕ
+errors [] = 0
+errors (event.Start ∷ es) = errors es
+errors (event.Precede ∷ es) = errors es
+errors (event.Finish kind ∷ es) = errors es
+errors (event.Extend ∷ es) = errors es
+errors (event.Abandon ∷ es) = errors es
+errors (event.Token kind width ∷ es) = errors es
+errors (event.Error ∷ es) = errors es + 1

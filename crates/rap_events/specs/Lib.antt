@@ -1,0 +1,15 @@
+pub mod Composite
+pub mod Cover
+pub mod Fit
+pub mod Forest
+pub mod History
+pub mod Input
+pub mod Machine
+pub mod Output
+pub mod Power
+pub mod Reading
+pub mod Record
+pub mod State
+pub mod Step
+pub mod StepValue
+pub mod Unwind

@@ -1,0 +1,64 @@
+//! What a parser records, and what it makes of it.
+ghost use Rattle.std.specs.Prelude.{◌≡◌, ◌^◌, ◌<◌, map, length, true, IfOk, string_bytes};
+ghost use Rattle.rap_events.specs.Machine.{run, initial, floor};
+
+use crate::output::Output;
+use rap_base::no_memory::NoMemory;
+use rap_base::syntax_kind::SyntaxKind;
+use std::alloc::Global;
+use std::mem::size_of;
+
+mod walk;
+
+use walk::Walk;
+
+/// One call of a parser: a marker's start or end, a token, or a message.
+///
+/// Events are only ever appended: a node that another one precedes or extends is not changed in place.
+#[derive(Clone, Copy, PartialEq, Eq, Debug)]
+pub(crate) enum Event {
+    /// A marker is started.
+    Start,
+    /// A marker is started before the node that the event before this one finished.
+    Precede,
+    /// The newest open marker becomes a node.
+    Finish { kind: SyntaxKind },
+    /// The node that was just finished begins where the newest open marker does, and that marker is gone.
+    Extend,
+    /// The newest open marker is forgotten.
+    Abandon,
+    /// So many tokens of the input are taken as one token.
+    Token { kind: SyntaxKind, n_raw_tokens: u8 },
+    /// A message is told: the n-th error has the parser's n-th message.
+    Error,
+}
+
+const _: () = prove!(size_of::<Event>() <= 8);
+
+impl Event {
+    ghost use Rattle.rap_events.specs.History.{history, errors};
+
+    /// The output that the events make: the forest of their history. The messages are moved into it.
+    ///
+    /// The events are read from the last one back: only then is it known, at the start of a node, which nodes
+    /// that were finished later begin before it.
+    pub(crate) fn process(
+        alloc: Global,
+        events: &[Event],
+        messages: Vec<String>,
+    ) -> Result<Output, NoMemory>
+        requires paired { errors events.now ≡ length messages.items }
+        requires sound { (run initial (history events.now (map string_bytes messages.items))).sound ≡ true }
+        requires closed { (run initial (history events.now (map string_bytes messages.items))).below ≡ floor }
+        ensures { IfOk result (λ output. output ≡ (run initial (history events.now (map string_bytes messages.items))).forest) }
+    {
+        let mut walk = Walk::new(alloc, events.len(), messages)?;
+        let mut i = events.len();
+        while i > 0 {
+            i -= 1;
+            walk.back(events[i])?;
+        }
+        let output = walk.output();
+        Ok(output)
+    }
+}

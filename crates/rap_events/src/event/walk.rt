@@ -1,0 +1,180 @@
+//! Reading events from the last one back.
+ghost use Rattle.std.specs.Prelude.{◌≡◌, ◌≤◌, ◌<◌, ◌+◌, ◌^◌, IfOk, OnOk, length, ◌++◌, reverse, map, [], ◌∷◌};
+ghost use Rattle.rap_events.specs.Forest.{flat};
+ghost use Rattle.rap_events.specs.Reading.{forest_of};
+
+use super::Event;
+use crate::output::{Output, OwnedStep};
+use rap_base::no_memory::NoMemory;
+use rap_base::syntax_kind::SyntaxKind;
+use std::alloc::Global;
+
+// Nodes that begin at one place: where their kinds begin in the walk's list, and past how many older markers.
+#[derive(Drop)]
+pub(super) struct Opening {
+    first: usize,
+    skips: usize,
+}
+
+// What is known on the way back.
+#[derive(Drop)]
+pub(super) struct Walk {
+    // The messages that were not yet met.
+    messages: Vec<String>,
+    // The kinds of all nodes that are still to begin. From `held` on, those around the node that ends next.
+    kinds: Vec<SyntaxKind>,
+    held: usize,
+    // Past how many open markers the node that ends next begins.
+    skips: usize,
+    openings: Vec<Opening>,
+    // The steps, from the last one back.
+    steps: Vec<OwnedStep>,
+    ghost within: { held ≤ length kinds.items },
+}
+
+impl Walk {
+    ghost use Rattle.rap_events.specs.History as call;
+    ghost use Rattle.rap_events.specs.History.{errors};
+    ghost use Rattle.rap_events.specs.Output.{value_of};
+    ghost use Rattle.rap_events.specs.Unwind.{walk_of, glue, others, enters, nothing_yet, Backed, ToldBack, EventBacked};
+
+    pub(super) fn new(alloc: Global, events: usize, messages: Vec<String>) -> Result<Walk, NoMemory>
+        ensures walk { IfOk result (λ w. walk_of w ≡ nothing_yet) }
+        ensures messages { IfOk result (λ w. w.messages.items ≡ messages.items) }
+    {
+        Ok(Walk {
+            messages,
+            kinds: Vec::new(alloc),
+            held: 0,
+            skips: 0,
+            openings: Vec::new(alloc),
+            steps: Vec::with_capacity(alloc, events)?,
+        })
+    }
+
+    // Forgets what was known of the node that ends next.
+    fn let_go(&mut self)
+        ensures walk { walk_of self.new ≡ record (walk_of self.old) { kinds = []; skips = 0 } }
+        ensures messages { self.new.messages.items ≡ self.old.messages.items }
+    {
+        self.kinds.truncate(self.held);
+        self.skips = 0;
+    }
+
+    fn leaf(&mut self, step: OwnedStep) -> Result<(), NoMemory>
+        ensures walk { OnOk result (walk_of self.new ≡ record (walk_of self.old) { kinds = []; skips = 0; steps = value_of step ∷ (walk_of self.old).steps }) }
+        ensures messages { self.new.messages.items ≡ self.old.messages.items }
+    {
+        self.let_go();
+        self.steps.push(step)?;
+        Ok(())
+    }
+
+    fn finish(&mut self, kind: SyntaxKind) -> Result<(), NoMemory>
+        ensures { OnOk result (Backed (call.finish kind) self.old self.new) }
+    {
+        self.kinds.push(kind)?;
+        self.openings.push(Opening {
+            first: self.held,
+            skips: self.skips,
+        })?;
+        self.held = self.kinds.len();
+        self.skips = 0;
+        self.steps.push(OwnedStep::Exit)?;
+        Ok(())
+    }
+
+    fn abandon(&mut self) -> Result<(), NoMemory>
+        ensures { OnOk result (Backed call.abandon self.old self.new) }
+    {
+        self.let_go();
+        self.openings.push(Opening {
+            first: self.held,
+            skips: 0,
+        })?;
+        Ok(())
+    }
+
+    // The nodes that begin at the newest open marker are those around the node that ends next.
+    fn precede(&mut self) -> Result<(), NoMemory>
+        ensures { OnOk result (Backed call.precede self.old self.new) }
+    {
+        self.let_go();
+        let Some(opening) = self.openings.pop() else {
+            return Ok(());
+        };
+        let Opening { first, skips } = opening;
+        if skips == 0 {
+            self.held = first.min(self.kinds.len());
+            return Ok(());
+        }
+        self.openings.push(Opening {
+            first,
+            skips: skips - 1,
+        })?;
+        Ok(())
+    }
+
+    // Begins nodes of these kinds, the outermost first.
+    fn enter_all(steps: &mut Vec<OwnedStep>, kinds: &[SyntaxKind]) -> Result<(), NoMemory>
+        ensures { OnOk result (reverse (map value_of steps.new.items) ≡ enters kinds.now ++ reverse (map value_of steps.old.items)) }
+    {
+        let mut i = kinds.len();
+        while i > 0 {
+            i -= 1;
+            steps.push(OwnedStep::Enter { kind: kinds[i] })?;
+        }
+        Ok(())
+    }
+
+    fn start(&mut self) -> Result<(), NoMemory>
+        ensures { OnOk result (Backed call.start self.old self.new) }
+    {
+        self.precede()?;
+        Self::enter_all(&mut self.steps, &self.kinds[self.held..])?;
+        self.let_go();
+        Ok(())
+    }
+
+    fn tell(&mut self) -> Result<(), NoMemory>
+        requires { 0 < length self.old.messages.items }
+        ensures { OnOk result (ToldBack self.old self.new) }
+    {
+        let msg = self.messages.pop().unwrap();
+        self.leaf(OwnedStep::Error { msg })?;
+        Ok(())
+    }
+
+    /// Takes an event back.
+    pub(super) fn back(&mut self, event: Event) -> Result<(), NoMemory>
+        requires few { (walk_of self.old).skips + 1 < 2 ^ 64 }
+        requires told { errors (event ∷ []) ≤ length self.old.messages.items }
+        ensures { OnOk result (EventBacked event self.old self.new) }
+    {
+        match event {
+            Event::Start => self.start(),
+            Event::Precede => self.precede(),
+            Event::Finish { kind } => self.finish(kind),
+            Event::Extend => {
+                self.skips += 1;
+                Ok(())
+            }
+            Event::Abandon => self.abandon(),
+            Event::Token { kind, n_raw_tokens } => self.leaf(OwnedStep::Token {
+                kind,
+                n_input_tokens: n_raw_tokens,
+            }),
+            Event::Error => self.tell(),
+        }
+    }
+
+    /// The output that the steps make.
+    pub(super) fn output(self) -> Output
+        requires { flat (forest_of (walk_of self).steps) ≡ (walk_of self).steps }
+        ensures { result ≡ forest_of (walk_of self).steps }
+    {
+        let mut steps = self.steps;
+        steps.reverse();
+        Output::of_steps(steps)
+    }
+}

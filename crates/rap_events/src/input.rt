@@ -1,0 +1,151 @@
+//! The tokens that a parser reads.
+ghost use Rattle.std.specs.Prelude.{◌≡◌, ◌≢◌, ℕ, ◌+◌, ◌-◌, ◌<◌, ◌↔◌, List, [], ◌∷◌, ◌++◌, length, map, true, false, All, IsTrue, IfOk, OnOk, OnErr};
+ghost use Rattle.rap_base.specs.TokenKind.{EOF, IDENT};
+ghost use Rattle.rap_base.specs.TokenTests.{is_token};
+
+use rap_base::edition::Edition;
+use rap_base::no_memory::NoMemory;
+use rap_base::syntax_kind::SyntaxKind;
+use std::alloc::Global;
+use std::marker::Model;
+
+/// A token: its kind, what an identifier may be read as instead, its edition, and whether it touches the next one.
+#[derive(Clone, Copy)]
+struct InputToken {
+    kind: SyntaxKind,
+    contextual_kind: SyntaxKind,
+    edition: Edition,
+    joint: bool,
+}
+
+/// The tokens that a parser reads, without trivia. Contracts see the list of their records.
+#[derive(Drop)]
+pub struct Input {
+    tokens: Vec<InputToken>,
+}
+
+impl Model for Input {
+    ghost use Rattle.std.specs.Prelude.{List, map, All};
+    ghost use Rattle.rap_events.specs.Record.{Record, IsTokenRecord};
+
+    ghost Value = { List Record };
+
+    ghost use Rattle.rap_events.specs.Input.{record_of};
+
+    ghost view = { λ input. map record_of input.tokens.items };
+
+    ghost invariant = { λ input. All IsTokenRecord (map record_of input.tokens.items) };
+}
+
+impl Input {
+    ghost use Rattle.rap_events.specs.Record.{kind_at, contextual_at, edition_at, joint_at, with_last_joint, IsTokenRecord};
+
+    /// No tokens yet, with room for `capacity` of them if memory allows. A capacity that no list can have counts as
+    /// want of memory.
+    pub fn with_capacity(alloc: Global, capacity: usize) -> Result<Input, NoMemory>
+        ensures { IfOk result (λ input. input ≡ []) }
+    {
+        let tokens = Vec::with_capacity(alloc, capacity)?;
+        Ok(Input { tokens })
+    }
+
+    /// Appends a token that is read as nothing else, and that does not touch the next one.
+    pub fn push(&mut self, kind: SyntaxKind, edition: Edition) -> Result<(), NoMemory>
+        requires token { is_token kind ≡ true }
+        requires some { kind ≢ EOF }
+        ensures ok { OnOk result (self.new ≡ self.old ++ record { kind = kind; contextual = EOF; edition = edition; joint = false } ∷ []) }
+        ensures err { OnErr result (self.new ≡ self.old) }
+    {
+        self.tokens.push(InputToken {
+            kind,
+            contextual_kind: SyntaxKind::EOF,
+            edition,
+            joint: false,
+        })?;
+        Ok(())
+    }
+
+    /// Appends an identifier that may be read as `contextual_kind`, and that does not touch the next token.
+    pub fn push_ident(
+        &mut self,
+        contextual_kind: SyntaxKind,
+        edition: Edition,
+    ) -> Result<(), NoMemory>
+        requires { is_token contextual_kind ≡ true }
+        ensures ok { OnOk result (self.new ≡ self.old ++ record { kind = IDENT; contextual = contextual_kind; edition = edition; joint = false } ∷ []) }
+        ensures err { OnErr result (self.new ≡ self.old) }
+    {
+        self.tokens.push(InputToken {
+            kind: SyntaxKind::IDENT,
+            contextual_kind,
+            edition,
+            joint: false,
+        })?;
+        Ok(())
+    }
+
+    /// Says that the last token touches the next one.
+    pub fn was_joint(&mut self)
+        requires { 0 < length self.old }
+        ensures { self.new ≡ with_last_joint self.old }
+    {
+        let last = self.tokens.len() - 1;
+        self.tokens[last].joint = true;
+    }
+
+    /// How many tokens there are.
+    pub fn len(&self) -> usize
+        ensures len { result ≡ length self.now }
+        ensures tokens { All IsTokenRecord self.now }
+    {
+        self.tokens.len()
+    }
+
+    /// Whether there is no token.
+    pub fn is_empty(&self) -> bool
+        ensures { IsTrue result ↔ (self.now ≡ []) }
+    {
+        self.tokens.is_empty()
+    }
+
+    /// The kind of the token at a place, or `EOF` past the last one.
+    pub(crate) fn kind(&self, index: usize) -> SyntaxKind
+        ensures { result ≡ kind_at self.now index }
+    {
+        if index < self.tokens.len() {
+            self.tokens[index].kind
+        } else {
+            SyntaxKind::EOF
+        }
+    }
+
+    /// What the identifier at a place may be read as; `EOF` for any other token, and past the last one.
+    pub(crate) fn contextual_kind(&self, index: usize) -> SyntaxKind
+        ensures contextual { result ≡ contextual_at self.now index }
+        ensures identifier { result ≢ EOF → kind_at self.now index ≡ IDENT }
+    {
+        if index < self.tokens.len() {
+            self.tokens[index].contextual_kind
+        } else {
+            SyntaxKind::EOF
+        }
+    }
+
+    /// The edition of the token at a place, or the latest one past the last token.
+    pub(crate) fn edition(&self, index: usize) -> Edition
+        ensures { result ≡ edition_at self.now index }
+    {
+        if index < self.tokens.len() {
+            self.tokens[index].edition
+        } else {
+            Edition::Edition2024
+        }
+    }
+
+    /// Whether the token at a place touches the one after it.
+    pub(crate) fn is_joint(&self, index: usize) -> bool
+        ensures { result ≡ joint_at self.now index }
+    {
+        index < self.tokens.len() && self.tokens[index].joint
+    }
+}

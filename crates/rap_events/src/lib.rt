@@ -1,0 +1,9 @@
+//! The parser's input, its history of calls, and its output.
+#![tactic(auto)]
+
+pub mod event;
+pub mod input;
+pub mod output;
+pub mod parser;
+#[cfg(test)]
+mod tests;

@@ -1,0 +1,428 @@
+//! The parser: a place in the input, and what was recorded so far.
+ghost use Rattle.std.specs.Prelude.{◌≡◌, ◌^◌, ◌≢◌, ℕ, ◌+◌, ◌-◌, ◌<◌, ◌≤◌, ◌↔◌, List, [], ◌∷◌, ◌++◌, length, drop, map, true, All, IfOk, OnOk, IsTrue, Some, None, string_bytes};
+ghost use Rattle.rap_base.specs.TokenKind.{EOF, IDENT};
+ghost use Rattle.rap_base.specs.TokenSet.{member};
+ghost use Rattle.rap_base.specs.Keyword.{is_any_identifier};
+ghost use Rattle.rap_events.specs.Record.{IsTokenRecord};
+ghost use Rattle.rap_events.specs.Cover.{stand, widths};
+ghost use Rattle.rap_events.specs.History.{history, errors};
+ghost use Rattle.rap_events.specs.Machine.{run, initial, all_leaves};
+ghost use Rattle.rap_events.specs.Fit.{AllFit};
+ghost use Rattle.std.proofs.Props.{props};
+
+use crate::event::Event;
+use crate::input::Input;
+use crate::output::Output;
+use rap_base::edition::Edition;
+use rap_base::no_memory::NoMemory;
+use rap_base::syntax_kind::SyntaxKind;
+use rap_base::token_set::TokenSet;
+use std::alloc::Global;
+
+mod composite;
+
+use composite::{at_place, width_of};
+
+/// Reads an input from its front and records what it is made of.
+///
+/// After want of memory a parser is of no use any more: what it recorded is not promised.
+#[derive(Drop)]
+pub struct Parser<'t> {
+    alloc: Global,
+    input: &'t Input,
+    len: usize,
+    pos: usize,
+    events: Vec<Event>,
+    messages: Vec<String>,
+    ghost tokens: { All IsTokenRecord input.now },
+    ghost ends: { len ≡ length input.now },
+    ghost in_input: { pos ≤ len },
+    ghost told: { errors events.items ≡ length messages.items },
+    ghost sound: { (run initial (history events.items (map string_bytes messages.items))).sound ≡ true },
+    ghost covers: { stand (all_leaves (run initial (history events.items (map string_bytes messages.items)))) input.now ≡ true },
+    ghost place: { widths (all_leaves (run initial (history events.items (map string_bytes messages.items)))) ≡ pos },
+    ghost fit: { (run initial (history events.items (map string_bytes messages.items))).messages ≡ 0 → ∥ AllFit (run initial (history events.items (map string_bytes messages.items))) ∥₁ },
+}
+
+/// A node that was started and not finished: the number of the call that started it.
+#[derive(Drop)]
+pub struct Marker {
+    pos: usize,
+}
+
+/// A node that was finished: how many calls there were then, and its kind.
+#[derive(Drop)]
+pub struct CompletedMarker {
+    end: usize,
+    kind: SyntaxKind,
+}
+
+impl<'t> Parser<'t> {
+    ghost use Rattle.rap_events.specs.History as call;
+    ghost use Rattle.rap_events.specs.Cover.{stands, covers};
+    ghost use Rattle.rap_events.specs.Fit.{AllFitIn};
+    ghost use Rattle.rap_events.specs.Forest.{flat, used, marks};
+    ghost use Rattle.rap_events.specs.Machine.{floor};
+    ghost use Rattle.rap_events.specs.Composite.{width};
+    ghost use Rattle.rap_events.specs.Record.{kind_at, contextual_at, edition_at};
+    ghost use Rattle.rap_events.specs.State.{state, calls, start_state, Opened, Bumped, Told, Ate, AteAs, Expected, Skipped, Recovered, is_kept, next, next_contextual, At, NthAt, Bears};
+
+    /// At the first token, with nothing recorded. Takes no memory.
+    pub fn new(alloc: Global, input: &'t Input) -> Self
+        ensures state { state result ≡ start_state input.now }
+        ensures calls { calls result ≡ [] }
+    {
+        Parser {
+            alloc,
+            input,
+            len: input.len(),
+            pos: 0,
+            events: Vec::new(alloc),
+            messages: Vec::new(alloc),
+        }
+    }
+
+    /// The next token's kind, or `EOF` where none is left.
+    pub fn current(&self) -> SyntaxKind
+        ensures kind { result ≡ next (state self.now) }
+        ensures end { result ≡ EOF → (state self.now).rest ≡ [] }
+    {
+        self.input.kind(self.pos)
+    }
+
+    /// The kind of the token `n` places after the next one, or `EOF`.
+    pub fn nth(&self, n: usize) -> SyntaxKind
+        requires { n < 4 }
+        ensures { result ≡ kind_at (state self.now).rest n }
+    {
+        self.input.kind(self.ahead(n))
+    }
+
+    // The place that many tokens after the next one, or the end.
+    fn ahead(&self, n: usize) -> usize
+        ensures { drop result self.now.input.now ≡ drop n (state self.now).rest }
+    {
+        self.pos + n.min(self.len - self.pos)
+    }
+
+    /// How many tokens are left.
+    pub fn left(&self) -> usize
+        ensures { result ≡ (state self.now).left }
+    {
+        self.len - self.pos
+    }
+
+    /// The edition of the next token, or the latest one at the end.
+    pub fn current_edition(&self) -> Edition
+        ensures { result ≡ edition_at (state self.now).rest 0 }
+    {
+        self.input.edition(self.pos)
+    }
+
+    /// Whether a token of this kind comes next. An operator of two or three tokens comes next where its tokens
+    /// follow one another and each but the last touches the one after it.
+    pub fn at(&self, kind: SyntaxKind) -> bool
+        ensures { IsTrue result ↔ At (state self.now) kind }
+    {
+        at_place(self.input, self.pos, kind)
+    }
+
+    /// The same after `n` tokens.
+    pub fn nth_at(&self, n: usize, kind: SyntaxKind) -> bool
+        requires { n < 4 }
+        ensures { IsTrue result ↔ NthAt (state self.now) n kind }
+    {
+        at_place(self.input, self.ahead(n), kind)
+    }
+
+    /// Whether the next token's kind is in the set.
+    pub fn at_ts(&self, kinds: TokenSet) -> bool
+        ensures { result ≡ member kinds (next (state self.now)) }
+    {
+        kinds.contains(self.current())
+    }
+
+    /// The same for the token `n` places after the next one.
+    pub fn nth_at_ts(&self, n: usize, kinds: TokenSet) -> bool
+        requires { n < 4 }
+        ensures { result ≡ member kinds (kind_at (state self.now).rest n) }
+    {
+        kinds.contains(self.nth(n))
+    }
+
+    /// Whether the next token is an identifier that may be read as this keyword.
+    pub fn at_contextual_kw(&self, kw: SyntaxKind) -> bool
+        requires { kw ≢ EOF }
+        ensures here { IsTrue result ↔ (next_contextual (state self.now) ≡ kw) }
+        ensures bears { IsTrue result → Bears (state self.now) kw }
+    {
+        self.input.contextual_kind(self.pos) == kw
+    }
+
+    /// The same after `n` tokens.
+    pub fn nth_at_contextual_kw(&self, n: usize, kw: SyntaxKind) -> bool
+        requires near { n < 4 }
+        requires keyword { kw ≢ EOF }
+        ensures { IsTrue result ↔ (contextual_at (state self.now).rest n ≡ kw) }
+    {
+        self.input.contextual_kind(self.ahead(n)) == kw
+    }
+
+    /// Takes a token of this kind if one comes next, and tells whether it did.
+    pub fn eat(&mut self, kind: SyntaxKind) -> Result<bool, NoMemory>
+        requires { kind ≢ EOF }
+        ensures { IfOk result (λ taken. Ate (state self.old) (state self.new) kind taken) }
+    {
+        if self.at(kind) {
+            self.bump(kind)?;
+            Ok(true)
+        } else {
+            Ok(false)
+        }
+    }
+
+    /// Takes the next token as this keyword if it is an identifier that may be read so, and tells whether it did.
+    pub fn eat_contextual_kw(&mut self, kw: SyntaxKind) -> Result<bool, NoMemory>
+        requires { kw ≢ EOF }
+        ensures { IfOk result (λ taken. AteAs (state self.old) (state self.new) kw taken) }
+    {
+        if self.at_contextual_kw(kw) {
+            self.bump_remap(kw)?;
+            Ok(true)
+        } else {
+            Ok(false)
+        }
+    }
+
+    /// Takes the token of this kind that comes next.
+    pub fn bump(&mut self, kind: SyntaxKind) -> Result<(), NoMemory>
+        requires here { At (state self.old) kind }
+        requires some { kind ≢ EOF }
+        ensures state { OnOk result (Bumped (state self.old) (state self.new) kind (width kind)) }
+        ensures recorded { OnOk result (calls self.new ≡ calls self.old ++ call.token kind (width kind) ∷ []) }
+    {
+        let n_raw_tokens = width_of(kind);
+        self.take(kind, n_raw_tokens)?;
+        Ok(())
+    }
+
+    /// Takes the next token under its own kind.
+    pub fn bump_any(&mut self) -> Result<(), NoMemory>
+        requires { next (state self.old) ≢ EOF }
+        ensures state { OnOk result (Bumped (state self.old) (state self.new) (next (state self.old)) 1) }
+        ensures recorded { OnOk result (calls self.new ≡ calls self.old ++ call.token (next (state self.old)) 1 ∷ []) }
+    {
+        let kind = self.current();
+        self.bump_remap(kind)?;
+        Ok(())
+    }
+
+    /// Takes the next token under another kind that it may bear: an identifier as a contextual keyword, or a keyword
+    /// as an identifier.
+    pub fn bump_remap(&mut self, kind: SyntaxKind) -> Result<(), NoMemory>
+        requires { Bears (state self.old) kind }
+        ensures state { OnOk result (Bumped (state self.old) (state self.new) kind 1) }
+        ensures recorded { OnOk result (calls self.new ≡ calls self.old ++ call.token kind 1 ∷ []) }
+    {
+        self.take(kind, 1)?;
+        Ok(())
+    }
+
+    /// Takes the next token, an identifier or a keyword, as an identifier.
+    pub fn bump_remap_any_ident(&mut self) -> Result<(), NoMemory>
+        requires { is_any_identifier (next (state self.old)) ≡ true }
+        ensures state { OnOk result (Bumped (state self.old) (state self.new) IDENT 1) }
+        ensures recorded { OnOk result (calls self.new ≡ calls self.old ++ call.token IDENT 1 ∷ []) }
+    {
+        self.bump_remap(SyntaxKind::IDENT)?;
+        Ok(())
+    }
+
+    /// Takes a token of this kind if one comes next, and else tells that it is missing. Tells whether it took one.
+    pub fn expect(&mut self, kind: SyntaxKind) -> Result<bool, NoMemory>
+        requires { kind ≢ EOF }
+        ensures { IfOk result (λ taken. Expected (state self.old) (state self.new) kind taken) }
+    {
+        if self.eat(kind)? {
+            return Ok(true);
+        }
+        let mut message = String::from_str(self.alloc, "expected ")?;
+        message.push_str(kind.name())?;
+        self.tell(message)?;
+        Ok(false)
+    }
+
+    /// Tells a message before the next token.
+    pub fn error(&mut self, message: &str) -> Result<(), NoMemory>
+        ensures state { OnOk result (Told (state self.old) (state self.new) message.now) }
+        ensures recorded { OnOk result (calls self.new ≡ calls self.old ++ call.message message.now ∷ []) }
+    {
+        let message = String::from_str(self.alloc, message)?;
+        self.tell(message)?;
+        Ok(())
+    }
+
+    /// Tells a message and takes the next token, if there is one, into an `ERROR`.
+    pub fn err_and_bump(&mut self, message: &str) -> Result<(), NoMemory>
+        ensures { OnOk result (Skipped (state self.old) (state self.new) message.now) }
+    {
+        let marker = self.start()?;
+        self.error(message)?;
+        if self.current() != SyntaxKind::EOF {
+            self.bump_any()?;
+        }
+        marker.complete(self, SyntaxKind::ERROR)?;
+        Ok(())
+    }
+
+    /// Tells a message and takes the next token into an `ERROR`, unless that is a brace or a kind of the set: then
+    /// the message is all. Tells whether the token was kept.
+    pub fn err_recover(&mut self, message: &str, recovery: TokenSet) -> Result<bool, NoMemory>
+        ensures { IfOk result (λ kept. Recovered (state self.old) (state self.new) message.now recovery kept) }
+    {
+        if self.at_kept(recovery) {
+            self.error(message)?;
+            return Ok(true);
+        }
+        self.err_and_bump(message)?;
+        Ok(false)
+    }
+
+    fn at_kept(&self, recovery: TokenSet) -> bool
+        ensures { result ≡ is_kept recovery (next (state self.now)) }
+    {
+        let kind = self.current();
+        kind == SyntaxKind::L_CURLY || kind == SyntaxKind::R_CURLY || self.at_ts(recovery)
+    }
+
+    fn take(&mut self, kind: SyntaxKind, n_raw_tokens: u8) -> Result<(), NoMemory>
+        requires within { n_raw_tokens ≤ (state self.old).left }
+        requires stands { stands (record { kind = kind; width = n_raw_tokens }) (state self.old).rest ≡ true }
+        ensures state { OnOk result (Bumped (state self.old) (state self.new) kind n_raw_tokens) }
+        ensures recorded { OnOk result (calls self.new ≡ calls self.old ++ call.token kind n_raw_tokens ∷ []) }
+    {
+        self.events.push(Event::Token { kind, n_raw_tokens })?;
+        self.pos += usize::from(n_raw_tokens);
+        Ok(())
+    }
+
+    fn tell(&mut self, message: String) -> Result<(), NoMemory>
+        ensures state { OnOk result (Told (state self.old) (state self.new) (string_bytes message)) }
+        ensures recorded { OnOk result (calls self.new ≡ calls self.old ++ call.message (string_bytes message) ∷ []) }
+    {
+        self.events.reserve(1)?;
+        self.messages.push(message)?;
+        self.events.push_reserved(Event::Error);
+        Ok(())
+    }
+
+    /// The output that was recorded. Each marker must have been finished or forgotten.
+    pub fn process(self, alloc: Global) -> Result<Output, NoMemory>
+        requires { (state self).below ≡ floor }
+        ensures forest { IfOk result (λ output. output ≡ (state self.entry).forest) }
+        ensures few { IfOk result (λ output. length (flat output) ≤ (state self.entry).count) }
+        ensures covers { IfOk result (λ output. covers (state self.entry).input output ≡ true) }
+        ensures used { IfOk result (λ output. used output + (state self.entry).left ≡ length (state self.entry).input) }
+        ensures rest { IfOk result (λ output. (state self.entry).rest ≡ drop (used output) (state self.entry).input) }
+        ensures fit { IfOk result (λ output. marks output ≡ 0 → ∥ AllFitIn output ∥₁) }
+    {
+        let messages = self.messages;
+        let output = Event::process(alloc, &self.events, messages)?;
+        Ok(output)
+    }
+
+    /// Starts a node.
+    pub fn start(&mut self) -> Result<Marker, NoMemory>
+        ensures state { IfOk result (λ m. Opened (state self.old) (state self.new) m.pos) }
+        ensures recorded { OnOk result (calls self.new ≡ calls self.old ++ call.start ∷ []) }
+    {
+        let pos = self.events.len();
+        self.events.push(Event::Start)?;
+        Ok(Marker { pos })
+    }
+}
+
+impl Marker {
+    ghost use Rattle.rap_events.specs.History as call;
+    ghost use Rattle.rap_events.specs.Fit.{Fit, is_plain};
+    ghost use Rattle.rap_events.specs.State.{state, calls, IsLast, Completed, Abandoned};
+
+    /// Finishes the node, which has the newest marker. Of a `BIN_EXPR` and a `TOKEN_TREE` more is asked:
+    /// see [`Marker::complete_fit`].
+    pub fn complete(self, p: &mut Parser<'_>, kind: SyntaxKind) -> Result<CompletedMarker, NoMemory>
+        requires newest { (state p.old).marker ≡ Some self.pos }
+        requires plain { is_plain kind ≡ true }
+        ensures state { IfOk result (λ cm. Completed (state p.old) (state p.new) kind × IsLast (state p.new) cm kind) }
+        ensures recorded { OnOk result (calls p.new ≡ calls p.old ++ call.finish kind ∷ []) }
+    {
+        let completed = self.complete_fit(p, kind)?;
+        Ok(completed)
+    }
+
+    /// The same for every kind: unless a message was told, the node's children are what its kind asks for.
+    pub fn complete_fit(
+        self,
+        p: &mut Parser<'_>,
+        kind: SyntaxKind,
+    ) -> Result<CompletedMarker, NoMemory>
+        requires newest { (state p.old).marker ≡ Some self.pos }
+        requires fit { (state p.old).messages ≡ 0 → Fit kind (state p.old).forest }
+        ensures state { IfOk result (λ cm. Completed (state p.old) (state p.new) kind × IsLast (state p.new) cm kind) }
+        ensures recorded { OnOk result (calls p.new ≡ calls p.old ++ call.finish kind ∷ []) }
+    {
+        p.events.push(Event::Finish { kind })?;
+        Ok(CompletedMarker {
+            end: p.events.len(),
+            kind,
+        })
+    }
+
+    /// Forgets the node, which has the newest marker: what was recorded under it stays.
+    pub fn abandon(self, p: &mut Parser<'_>) -> Result<(), NoMemory>
+        requires { (state p.old).marker ≡ Some self.pos }
+        ensures state { OnOk result (Abandoned (state p.old) (state p.new)) }
+        ensures recorded { OnOk result (calls p.new ≡ calls p.old ++ call.abandon ∷ []) }
+    {
+        p.events.push(Event::Abandon)?;
+        Ok(())
+    }
+}
+
+impl CompletedMarker {
+    ghost use Rattle.rap_events.specs.History as call;
+    ghost use Rattle.rap_events.specs.Fit.{is_plain};
+    ghost use Rattle.rap_events.specs.State.{state, calls, IsLast, Preceded, Extended};
+
+    /// The node's kind.
+    pub fn kind(&self) -> SyntaxKind
+        ensures { result ≡ self.now.kind }
+    {
+        self.kind
+    }
+
+    /// Starts a node around this one, which was just finished.
+    pub fn precede(self, p: &mut Parser<'_>) -> Result<Marker, NoMemory>
+        requires { IsLast (state p.old) self self.kind }
+        ensures state { IfOk result (λ m. Preceded (state p.old) (state p.new) m.pos self.kind) }
+        ensures recorded { OnOk result (calls p.new ≡ calls p.old ++ call.precede ∷ []) }
+    {
+        let pos = p.events.len();
+        p.events.push(Event::Precede)?;
+        Ok(Marker { pos })
+    }
+
+    /// Lets this node, which was just finished, begin where the newest marker does. The marker is gone.
+    pub fn extend_to(self, p: &mut Parser<'_>, m: Marker) -> Result<CompletedMarker, NoMemory>
+        requires last { IsLast (state p.old) self self.kind }
+        requires newest { (state p.old).marker ≡ Some m.pos }
+        requires plain { is_plain self.kind ≡ true }
+        ensures state { IfOk result (λ cm. Extended (state p.old) (state p.new) self.kind × IsLast (state p.new) cm self.kind) }
+        ensures recorded { OnOk result (calls p.new ≡ calls p.old ++ call.extend ∷ []) }
+    {
+        p.events.push(Event::Extend)?;
+        Ok(CompletedMarker {
+            end: p.events.len(),
+            kind: self.kind,
+        })
+    }
+}

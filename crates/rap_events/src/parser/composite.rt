@@ -1,0 +1,136 @@
+//! Operators that are written with two or three tokens.
+ghost use Rattle.std.specs.Prelude.{◌≡◌, ◌≢◌, ◌+◌, ◌≤◌, ◌^◌, ◌<◌, ◌↔◌, List, [], ◌∷◌, drop, length, true, IsTrue};
+ghost use Rattle.rap_base.specs.TokenKind.{EOF};
+ghost use Rattle.rap_events.specs.Composite.{begins_with, touches_next, parts, IsFirst, width};
+
+use crate::input::Input;
+use rap_base::syntax_kind::SyntaxKind;
+
+/// How many tokens a token of this kind is written with.
+pub(super) fn width_of(kind: SyntaxKind) -> u8
+    ensures { result ≡ width kind }
+{
+    match kind {
+        SyntaxKind::DOT3 | SyntaxKind::DOT2EQ | SyntaxKind::SHLEQ | SyntaxKind::SHREQ => 3,
+        SyntaxKind::DOT2
+        | SyntaxKind::COLON2
+        | SyntaxKind::EQ2
+        | SyntaxKind::FAT_ARROW
+        | SyntaxKind::NEQ
+        | SyntaxKind::THIN_ARROW
+        | SyntaxKind::LTEQ
+        | SyntaxKind::GTEQ
+        | SyntaxKind::PLUSEQ
+        | SyntaxKind::MINUSEQ
+        | SyntaxKind::PIPEEQ
+        | SyntaxKind::AMPEQ
+        | SyntaxKind::CARETEQ
+        | SyntaxKind::SLASHEQ
+        | SyntaxKind::STAREQ
+        | SyntaxKind::PERCENTEQ
+        | SyntaxKind::AMP2
+        | SyntaxKind::PIPE2
+        | SyntaxKind::SHL
+        | SyntaxKind::SHR => 2,
+        _ => 1,
+    }
+}
+
+// Whether a token of this kind stands at a place and touches the one after it.
+fn touching(input: &Input, place: usize, kind: SyntaxKind) -> bool
+    ensures touches { result ≡ touches_next (drop place input.now) kind }
+    ensures fits { IsTrue result → place + 1 < 2 ^ 64 }
+{
+    if place >= input.len() {
+        return false;
+    }
+    if input.kind(place) != kind {
+        return false;
+    }
+    input.is_joint(place)
+}
+
+// Whether tokens of these two kinds stand at a place, the first touching the second.
+fn at_two(input: &Input, place: usize, first: SyntaxKind, second: SyntaxKind) -> bool
+    requires { second ≢ EOF }
+    ensures { IsTrue result ↔ (begins_with (first ∷ second ∷ []) (drop place input.now) ≡ true) }
+{
+    if !touching(input, place, first) {
+        return false;
+    }
+    input.kind(place + 1) == second
+}
+
+// Whether tokens of these three kinds stand at a place, each but the last touching the one after it.
+fn at_three(
+    input: &Input,
+    place: usize,
+    first: SyntaxKind,
+    second: SyntaxKind,
+    third: SyntaxKind,
+) -> bool
+    requires { third ≢ EOF }
+    ensures { IsTrue result ↔ (begins_with (first ∷ second ∷ third ∷ []) (drop place input.now) ≡ true) }
+{
+    if !touching(input, place, first) {
+        return false;
+    }
+    at_two(input, place + 1, second, third)
+}
+
+/// Whether a token of this kind stands at a place of the input.
+pub(super) fn at_place(input: &Input, place: usize, kind: SyntaxKind) -> bool
+    ensures { IsTrue result ↔ IsFirst (parts kind) kind (drop place input.now) }
+{
+    match kind {
+        SyntaxKind::DOT2 => at_two(input, place, SyntaxKind::DOT, SyntaxKind::DOT),
+        SyntaxKind::COLON2 => at_two(input, place, SyntaxKind::COLON, SyntaxKind::COLON),
+        SyntaxKind::EQ2 => at_two(input, place, SyntaxKind::EQ, SyntaxKind::EQ),
+        SyntaxKind::FAT_ARROW => at_two(input, place, SyntaxKind::EQ, SyntaxKind::R_ANGLE),
+        SyntaxKind::NEQ => at_two(input, place, SyntaxKind::BANG, SyntaxKind::EQ),
+        SyntaxKind::THIN_ARROW => at_two(input, place, SyntaxKind::MINUS, SyntaxKind::R_ANGLE),
+        SyntaxKind::LTEQ => at_two(input, place, SyntaxKind::L_ANGLE, SyntaxKind::EQ),
+        SyntaxKind::GTEQ => at_two(input, place, SyntaxKind::R_ANGLE, SyntaxKind::EQ),
+        SyntaxKind::PLUSEQ => at_two(input, place, SyntaxKind::PLUS, SyntaxKind::EQ),
+        SyntaxKind::MINUSEQ => at_two(input, place, SyntaxKind::MINUS, SyntaxKind::EQ),
+        SyntaxKind::PIPEEQ => at_two(input, place, SyntaxKind::PIPE, SyntaxKind::EQ),
+        SyntaxKind::AMPEQ => at_two(input, place, SyntaxKind::AMP, SyntaxKind::EQ),
+        SyntaxKind::CARETEQ => at_two(input, place, SyntaxKind::CARET, SyntaxKind::EQ),
+        SyntaxKind::SLASHEQ => at_two(input, place, SyntaxKind::SLASH, SyntaxKind::EQ),
+        SyntaxKind::STAREQ => at_two(input, place, SyntaxKind::STAR, SyntaxKind::EQ),
+        SyntaxKind::PERCENTEQ => at_two(input, place, SyntaxKind::PERCENT, SyntaxKind::EQ),
+        SyntaxKind::AMP2 => at_two(input, place, SyntaxKind::AMP, SyntaxKind::AMP),
+        SyntaxKind::PIPE2 => at_two(input, place, SyntaxKind::PIPE, SyntaxKind::PIPE),
+        SyntaxKind::SHL => at_two(input, place, SyntaxKind::L_ANGLE, SyntaxKind::L_ANGLE),
+        SyntaxKind::SHR => at_two(input, place, SyntaxKind::R_ANGLE, SyntaxKind::R_ANGLE),
+        SyntaxKind::DOT3 => at_three(
+            input,
+            place,
+            SyntaxKind::DOT,
+            SyntaxKind::DOT,
+            SyntaxKind::DOT,
+        ),
+        SyntaxKind::DOT2EQ => at_three(
+            input,
+            place,
+            SyntaxKind::DOT,
+            SyntaxKind::DOT,
+            SyntaxKind::EQ,
+        ),
+        SyntaxKind::SHLEQ => at_three(
+            input,
+            place,
+            SyntaxKind::L_ANGLE,
+            SyntaxKind::L_ANGLE,
+            SyntaxKind::EQ,
+        ),
+        SyntaxKind::SHREQ => at_three(
+            input,
+            place,
+            SyntaxKind::R_ANGLE,
+            SyntaxKind::R_ANGLE,
+            SyntaxKind::EQ,
+        ),
+        _ => input.kind(place) == kind,
+    }
+}

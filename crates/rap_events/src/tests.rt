@@ -1,0 +1,136 @@
+use crate::input::Input;
+use crate::output::{Output, Step, under};
+use crate::parser::Parser;
+use rap_base::edition::Edition;
+use rap_base::no_memory::NoMemory;
+use rap_base::syntax_kind::SyntaxKind;
+use rap_base::token_set::TokenSet;
+use std::alloc::Global;
+use std::test::Fail;
+
+// The steps of an output in one line: a node as `KIND(..)`, a token by its kind and how many tokens it takes, a
+// message in quotes.
+fn line(alloc: Global, output: &Output) -> Result<String, NoMemory> {
+    let mut text = String::new(alloc);
+    for step in output.iter() {
+        match step {
+            Step::Token {
+                kind,
+                n_input_tokens,
+            } => {
+                text.push_str(kind.name())?;
+                for _ in 1..n_input_tokens {
+                    text.push_str("+")?;
+                }
+                text.push_str(" ")?;
+            }
+            Step::Enter { kind } => {
+                text.push_str(kind.name())?;
+                text.push_str("( ")?;
+            }
+            Step::Exit => text.push_str(") ")?,
+            Step::Error { msg } => {
+                text.push_str("'")?;
+                text.push_str(msg)?;
+                text.push_str("' ")?;
+            }
+        }
+    }
+    Ok(text)
+}
+
+// The tokens of `a == b`, the first `=` touching the second.
+fn comparison(alloc: Global) -> Result<Input, NoMemory> {
+    let mut input = Input::with_capacity(alloc, 4)?;
+    input.push_ident(SyntaxKind::IDENT, Edition::Edition2024)?;
+    input.push(SyntaxKind::EQ, Edition::Edition2024)?;
+    input.was_joint();
+    input.push(SyntaxKind::EQ, Edition::Edition2024)?;
+    input.push_ident(SyntaxKind::UNION_KW, Edition::Edition2018)?;
+    Ok(input)
+}
+
+#[test]
+fn reads_tokens_back(rt: HostRuntime) -> Result<(), Fail> {
+    let input = comparison(rt.alloc())?;
+    assert_eq!(rt; input.len(), 4);
+    assert!(rt; input.kind(1) == SyntaxKind::EQ && input.is_joint(1) && !input.is_joint(2));
+    assert!(rt; input.contextual_kind(3) == SyntaxKind::UNION_KW);
+    assert!(rt; input.edition(3) == Edition::Edition2018);
+    assert!(rt; input.kind(4) == SyntaxKind::EOF);
+    Ok(())
+}
+
+#[test]
+fn precedes_a_node(rt: HostRuntime) -> Result<(), Fail> {
+    let input = comparison(rt.alloc())?;
+    let mut p = Parser::new(rt.alloc(), &input);
+    let m = p.start()?;
+    p.expect(SyntaxKind::IDENT)?;
+    let name = m.complete(&mut p, SyntaxKind::NAME_REF)?;
+    let outer = name.precede(&mut p)?;
+    p.expect(SyntaxKind::EQ2)?;
+    p.expect(SyntaxKind::COMMA)?;
+    outer.complete(&mut p, SyntaxKind::RANGE_EXPR)?;
+    let output = p.process(rt.alloc())?;
+    let text = line(rt.alloc(), &output)?;
+    assert_eq!(rt;
+        text.as_str(),
+        "RANGE_EXPR( NAME_REF( IDENT ) EQ2+ 'expected COMMA' ) "
+    );
+    Ok(())
+}
+
+#[test]
+fn extends_and_abandons(rt: HostRuntime) -> Result<(), Fail> {
+    let input = comparison(rt.alloc())?;
+    let mut p = Parser::new(rt.alloc(), &input);
+    let older = p.start()?;
+    p.eat(SyntaxKind::IDENT)?;
+    let dropped = p.start()?;
+    p.error("m")?;
+    dropped.abandon(&mut p)?;
+    let m = p.start()?;
+    p.eat(SyntaxKind::EQ)?;
+    let node = m.complete(&mut p, SyntaxKind::ERROR)?;
+    node.extend_to(&mut p, older)?;
+    let output = p.process(rt.alloc())?;
+    let whole = under(rt.alloc(), output, SyntaxKind::SOURCE_FILE)?;
+    let text = line(rt.alloc(), &whole)?;
+    assert_eq!(rt; text.as_str(), "SOURCE_FILE( ERROR( IDENT 'm' EQ ) ) ");
+    Ok(())
+}
+
+#[test]
+fn recovers(rt: HostRuntime) -> Result<(), Fail> {
+    let input = comparison(rt.alloc())?;
+    let mut p = Parser::new(rt.alloc(), &input);
+    p.err_recover("a", TokenSet::new(&[SyntaxKind::EQ]))?;
+    p.err_recover("b", TokenSet::new(&[SyntaxKind::EQ]))?;
+    p.err_and_bump("c")?;
+    p.err_and_bump("d")?;
+    p.eat_contextual_kw(SyntaxKind::UNION_KW)?;
+    p.err_and_bump("e")?;
+    let output = p.process(rt.alloc())?;
+    let text = line(rt.alloc(), &output)?;
+    assert_eq!(rt;
+        text.as_str(),
+        "ERROR( 'a' IDENT ) 'b' ERROR( 'c' EQ ) ERROR( 'd' EQ ) UNION_KW ERROR( 'e' ) "
+    );
+    Ok(())
+}
+
+#[test]
+fn takes_a_keyword_as_an_identifier(rt: HostRuntime) -> Result<(), Fail> {
+    let mut input = Input::with_capacity(rt.alloc(), 0)?;
+    input.push(SyntaxKind::FN_KW, Edition::Edition2024)?;
+    let mut p = Parser::new(rt.alloc(), &input);
+    if p.current().is_any_identifier() {
+        p.bump_remap_any_ident()?;
+    }
+    let output = p.process(rt.alloc())?;
+    let text = line(rt.alloc(), &output)?;
+    assert_eq!(rt; text.as_str(), "IDENT ");
+    assert_eq!(rt; Output::default().iter().len(), 0);
+    Ok(())
+}

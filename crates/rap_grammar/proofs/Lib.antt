@@ -1,0 +1,3 @@
+pub mod Binary
+pub mod OneTree
+pub mod TopTree

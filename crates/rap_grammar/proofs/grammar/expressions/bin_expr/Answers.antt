@@ -1,0 +1,13 @@
+use Rattle.rap_events.specs.State.{state}
+use Rattle.rap_grammar.proofs.Binary.{fits, bound}
+use Rattle.rap_grammar.proofs.grammar.expressions.bin_expr.Goals as goal
+
+pub complete_fit-requires-clause-fit : goal.complete_fit-requires-clause-fit
+complete_fit-requires-clause-fit g c =
+    let r = c.requires in
+    fits _ _ _ _ _ _ _ _ _ _ c.in_ok-expr_bp.field-0 c.in_ok-m.ensures.state c.in_ok-bump.ensures.state c.in_ok-expr_bp.ensures r.power r.positive r.no_range r.no_cast c.right_power-least.ensures.left r.left_side
+
+pub returns-clause-bound : goal.returns-clause-bound
+returns-clause-bound g c =
+    let n = c.right_power-least.ensures in
+    bound _ _ _ _ _ _ _ _ _ _ _ c.in_ok-expr_bp.field-0 c.in_ok-m.ensures.state c.in_ok-bump.ensures.state c.in_ok-expr_bp.ensures c.in_ok-cm.ensures.state.0 c.requires.power n.most n.right

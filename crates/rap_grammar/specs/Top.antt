@@ -1,0 +1,30 @@
+-- What a top entry makes of what was parsed.
+use Rattle.std.specs.Prelude.{◌≡◌, ℕ, ◌+◌, ◌*◌, ◌≤◌, List, [], ◌∷◌, length, Bool, true, false}
+use Rattle.rap_base.specs.TokenKind.{ERROR}
+use Rattle.rap_events.specs.Record.{Record}
+use Rattle.rap_events.specs.Forest.{Forest, none, node, leaf, flat, used, marks, one_tree}
+use Rattle.rap_events.specs.Cover.{covers}
+use Rattle.rap_events.specs.Fit.{AllFitIn}
+
+-- a forest, and each of these tokens as a leaf of its own kind after it
+abbrev pub with_leaves : Forest → List Record → Forest
+with_leaves f [] = f
+with_leaves f (r ∷ rs) = with_leaves (leaf f r.kind 1) rs
+
+abbrev pub kept : Bool → Forest → Forest
+kept true f = f
+kept false f = node none ERROR f
+
+-- The forest itself if it is one tree and no token is left. Else one `ERROR` over it and what is left.
+abbrev pub top_tree : Forest → List Record → Forest
+top_tree f [] = kept (one_tree f) f
+top_tree f (r ∷ rs) = node none ERROR (with_leaves f (r ∷ rs))
+
+-- One tree over the whole input, by few steps. In an output without messages all binary expressions and token trees
+-- are as their rules ask.
+pub record IsTreeOver (input : List Record) (f : Forest) : Type 0 where
+  pub one : one_tree f ≡ true
+  pub covers : covers input f ≡ true
+  pub used : used f ≡ length input
+  pub few : length (flat f) ≤ 256 * (length input + 1)
+  pub fit : marks f ≡ 0 → ∥ AllFitIn f ∥₁

@@ -1,0 +1,110 @@
+//! Where a parse begins, and what is made of its end.
+ghost use Rattle.std.specs.Prelude.{◌≡◌, ◌≢◌, ◌^◌, ℕ, ◌+◌, ◌*◌, ◌<◌, ◌≤◌, ◌↔◌, length, [], IfOk, OnOk, IsTrue, Some, None, true};
+ghost use Rattle.rap_events.specs.Cover.{covers};
+ghost use Rattle.rap_events.specs.Fit.{AllFitIn};
+ghost use Rattle.rap_events.specs.Forest.{Forest, node, none, flat, marks, one_tree, used};
+ghost use Rattle.rap_events.specs.Machine.{floor, push};
+ghost use Rattle.rap_events.specs.State.{state, next};
+ghost use Rattle.rap_grammar.specs.Grew.{Grew};
+ghost use Rattle.rap_grammar.specs.Top.{top_tree, with_leaves};
+
+use super::BlockLike;
+use super::expressions::Restrictions;
+use super::knot::{Outcome, Rule, run};
+use rap_base::no_memory::NoMemory;
+use rap_base::syntax_kind::SyntaxKind;
+use rap_events::output::{Output, Step, under};
+use rap_events::parser::{CompletedMarker, Marker, Parser};
+use std::alloc::Global;
+
+pub mod top;
+
+/// Whether the output is exactly one node, with nothing beside it.
+fn is_one_tree(output: &Output) -> bool
+    ensures { result ≡ one_tree output.now }
+{
+    let mut steps = output.iter();
+    let mut depth = 0usize;
+    let mut nodes = 0u8;
+    'steps: while let Some(step) = steps.next() {
+        match step {
+            Step::Enter { .. } => {
+                if depth == 0 {
+                    if nodes == 1 {
+                        return false;
+                    }
+                    nodes = 1;
+                }
+                depth += 1;
+            }
+            Step::Exit => depth = depth.saturating_sub(1),
+            Step::Token { .. } | Step::Error { .. } => {
+                if depth == 0 {
+                    return false;
+                }
+            }
+        }
+    }
+    nodes == 1
+}
+
+/// Reads an expression.
+fn expr(p: &mut Parser<'_>) -> Result<Option<CompletedMarker>, NoMemory>
+    ensures { OnOk result (Grew (state p.old) (state p.new) 8) }
+{
+    let r = Restrictions {
+        forbid_structs: false,
+        prefer_stmt: false,
+    };
+    match run(p, Rule::Expr { m: None, r, bp: 1 })? {
+        Outcome::Expr {
+            expr: Some((expr, _)),
+        } => Ok(Some(expr)),
+        Outcome::Expr { expr: None } => Ok(None),
+    }
+}
+
+/// Takes each token that is left, one by one.
+fn take_rest(p: &mut Parser<'_>) -> Result<(), NoMemory>
+    ensures forest { OnOk result ((state p.new).forest ≡ with_leaves (state p.old).forest (state p.old).rest) }
+    ensures rest { OnOk result ((state p.new).rest ≡ []) }
+    ensures left { OnOk result ((state p.new).left ≡ 0) }
+    ensures count { OnOk result ((state p.new).count ≡ (state p.old).count + (state p.old).left) }
+    ensures input { OnOk result ((state p.new).input ≡ (state p.old).input) }
+    ensures messages { OnOk result ((state p.new).messages ≡ (state p.old).messages) }
+    ensures marker { OnOk result ((state p.new).marker ≡ (state p.old).marker) }
+    ensures below { OnOk result ((state p.new).below ≡ (state p.old).below) }
+{
+    'tokens: while p.current() != SyntaxKind::EOF {
+        p.bump_any()?;
+    }
+    Ok(())
+}
+
+/// Ends the parse of a top entry that made what stands under the marker `m`, the only open one.
+///
+/// What was made is kept as it is if no token is left and it is one tree: exactly one node, with no token and no message
+/// beside it. Otherwise the tokens that are left are taken one by one, and all of it stands in one `ERROR`.
+pub fn close_top(alloc: Global, mut p: Parser<'_>, m: Marker) -> Result<Output, NoMemory>
+    requires newest { (state p).marker ≡ Some m.pos }
+    requires below { (state p).below ≡ push floor None none }
+    ensures top { IfOk result (λ output. output ≡ top_tree (state p.entry).forest (state p.entry).rest) }
+    ensures covers { IfOk result (λ output. covers (state p.entry).input output ≡ true) }
+    ensures used { IfOk result (λ output. used output ≡ length (state p.entry).input) }
+    ensures few { IfOk result (λ output. length (flat output) ≤ (state p.entry).count + (state p.entry).left + 3) }
+    ensures fit { IfOk result (λ output. marks output ≡ 0 → ∥ AllFitIn output ∥₁) }
+{
+    if p.current() != SyntaxKind::EOF {
+        take_rest(&mut p)?;
+        m.complete(&mut p, SyntaxKind::ERROR)?;
+        let output = p.process(alloc)?;
+        return Ok(output);
+    }
+    m.abandon(&mut p)?;
+    let output = p.process(alloc)?;
+    if is_one_tree(&output) {
+        return Ok(output);
+    }
+    let output = under(alloc, output, SyntaxKind::ERROR)?;
+    Ok(output)
+}

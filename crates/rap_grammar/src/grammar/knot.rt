@@ -1,0 +1,106 @@
+//! How the rules of the grammar reach one another.
+//!
+//! Rust's grammar is one recursion: an expression holds types, a type expressions, a block both. Here no function
+//! calls itself, not even through others. Each is generic over [`Grammar`], the rules that it may come back to, and
+//! is proved from what that trait promises. A rule is called directly before a token was taken, and through the
+//! trait afterwards.
+//!
+//! [`run`] ties the knot: it hands each rule a `Grammar` that runs `run` again. It ends because a rule that is come
+//! back to has fewer tokens left than the one that came back: the trait asks for that, so a rule that came back to
+//! itself without taking a token would not be proved.
+ghost use Rattle.std.specs.Prelude.{◌≡◌, ℕ, ◌<◌, ◌≤◌, IfOk};
+ghost use Rattle.rap_grammar.specs.Rules.{Answered, IsNewest, Pre, Post};
+ghost use Rattle.rap_events.specs.State.{state};
+
+use super::BlockLike;
+use super::expressions::{Restrictions, expr_bp};
+use rap_base::no_memory::NoMemory;
+use rap_events::parser::{CompletedMarker, Marker, Parser};
+
+/// The rules that are come back to, with fewer than `left` tokens to go.
+pub trait Grammar {
+    ghost left: { Self → ℕ };
+
+    ghost valid: { Self → Type 0 };
+
+    /// An expression of at least this power, from the marker on if there is one.
+    fn expr_bp(
+        &self,
+        p: &mut Parser<'_>,
+        m: Option<Marker>,
+        r: Restrictions,
+        bp: u8,
+    ) -> Result<Option<(CompletedMarker, BlockLike)>, NoMemory>
+        requires valid { valid self.now }
+        requires left { (state p.old).left < left self.now }
+        requires newest { IsNewest (state p.old) m }
+        requires power { 1 ≤ bp }
+        ensures { IfOk result (Answered (state p.old) (state p.new) m r.prefer_stmt bp) };
+}
+
+/// A rule with its arguments.
+#[derive(Drop)]
+pub enum Rule {
+    Expr {
+        m: Option<Marker>,
+        r: Restrictions,
+        bp: u8,
+    },
+}
+
+/// What a rule gives.
+#[derive(Drop)]
+pub enum Outcome {
+    Expr {
+        expr: Option<(CompletedMarker, BlockLike)>,
+    },
+}
+
+/// The grammar, by a call that runs any rule.
+#[derive(Drop)]
+struct Rules<F: Fn(&mut Parser<'_>, Rule) -> Result<Outcome, NoMemory>> {
+    run: F,
+    left: usize,
+}
+
+impl<F: Fn(&mut Parser<'_>, Rule) -> Result<Outcome, NoMemory>> Grammar for Rules<F> {
+    ghost left = { λ rules. rules.left };
+
+    ghost valid = { λ rules. ((q : _) (c : _) → Pre c (state q.now) → (state q.now).left < rules.left → F.pre rules.run q c) × ((q : _) (c : _) (a : _) (s : _) → F.post rules.run q c a s → IfOk a (Post c (state q.now) (state s.now))) };
+
+    fn expr_bp(
+        &self,
+        p: &mut Parser<'_>,
+        m: Option<Marker>,
+        r: Restrictions,
+        bp: u8,
+    ) -> Result<Option<(CompletedMarker, BlockLike)>, NoMemory> {
+        match (self.run)(p, Rule::Expr { m, r, bp })? {
+            Outcome::Expr { expr } => Ok(expr),
+        }
+    }
+}
+
+/// Runs a rule.
+#[cycle(run)]
+pub fn run(p: &mut Parser<'_>, rule: Rule) -> Result<Outcome, NoMemory>
+    requires { Pre rule (state p.old) }
+    ensures { IfOk result (Post rule (state p.old) (state p.new)) }
+{
+    let left = p.left();
+    let call = |q: &mut Parser<'_>, c: Rule| -> Result<Outcome, NoMemory>
+        requires pre { Pre c (state q.old) }
+        requires left { (state q.old).left < left }
+        ensures { IfOk result (Post c (state q.old) (state q.new)) }
+    {
+        let _ = &left;
+        run(q, c)
+    };
+    let g = Rules { run: call, left };
+    match rule {
+        Rule::Expr { m, r, bp } => {
+            let expr = expr_bp(p, &g, m, r, bp)?;
+            Ok(Outcome::Expr { expr })
+        }
+    }
+}

@@ -1,0 +1,29 @@
+-- What a printer has written along the steps of a tree.
+use Rattle.std.proofs.Common.{◌≡◌, ℕ, zero, suc, ◌+◌, List, [], ◌∷◌, ◌++◌, ap, sym, ◌∙◌, refl, subst, codes, string_bytes, append_assoc, append-nil}
+use Rattle.ra_ap_parser.specs.StrSink.{Takes}
+use Rattle.ra_ap_parser.specs.StrStep.{StrStepValue}
+use Rattle.rast.specs.Printed.{indent, line, depth_after, printed, told_line, told}
+use Rattle.rast.specs.Prints.{Prints}
+use Rattle.rast.specs.declared.printer.Printer.{Printer}
+
+-- one more open node
+pub indent-suc : (depth : ℕ) → indent depth ++ codes "  " ≡ indent (suc depth)
+indent-suc zero = refl
+indent-suc (suc depth) = ap (λ l. codes "  " ++ l) (indent-suc depth)
+
+pub tree_along : (steps : List StrStepValue) (s t : Printer) → Takes Prints s steps t → string_bytes t.tree ≡ string_bytes s.tree ++ printed s.depth steps
+tree_along [] s t h = ap (λ (p : Printer). string_bytes p.tree) (sym h) ∙ sym (append-nil (string_bytes s.tree))
+tree_along (x ∷ xs) s t h =
+    let m = h.0 in
+    tree_along xs m t h.2
+    ∙ (ap (λ l. l ++ printed m.depth xs) h.1.tree
+    ∙ (append_assoc (string_bytes s.tree) (line s.depth x) (printed m.depth xs)
+    ∙ ap (λ d. string_bytes s.tree ++ (line s.depth x ++ printed d xs)) h.1.depth))
+
+pub messages_along : (steps : List StrStepValue) (s t : Printer) → Takes Prints s steps t → string_bytes t.messages ≡ string_bytes s.messages ++ told steps
+messages_along [] s t h = ap (λ (p : Printer). string_bytes p.messages) (sym h) ∙ sym (append-nil (string_bytes s.messages))
+messages_along (x ∷ xs) s t h =
+    let m = h.0 in
+    messages_along xs m t h.2
+    ∙ (ap (λ l. l ++ told xs) h.1.messages
+    ∙ append_assoc (string_bytes s.messages) (told_line x) (told xs))

@@ -1,0 +1,54 @@
+-- What the parser promises of a whole text.
+use Rattle.std.specs.Prelude.{◌≡◌, ℕ, ◌+◌, ◌*◌, ◌≤◌, ◌<◌, List, Bool, true, length}
+use Rattle.rap_base.specs.declared.edition.Edition.{Edition}
+use Rattle.rap_events.specs.Cover.{covers}
+use Rattle.rap_events.specs.Forest.{Forest, flat, one_tree, used}
+use Rattle.ra_ap_parser.specs.Input.{records}
+use Rattle.ra_ap_parser.specs.LexedStr.{Lexed, IsLexing}
+use Rattle.ra_ap_parser.specs.StrForest.{str_flat, str_joined, str_one_tree}
+use Rattle.ra_ap_parser.specs.StrSink.{Takes, Stops}
+use Rattle.ra_ap_parser.specs.StrStep.{StrStepValue}
+use Rattle.ra_ap_parser.specs.Trivia.{with_trivia}
+use Rattle.rast.specs.declared.parse_text.TextFault.{TextFault}
+use Rattle.rast.specs.declared.parse_text.TextFault.TheVariants.{TextTooLong, TooManyTokens, NoMemory, Refused}
+
+-- The text's tokens; one tree over all those that are no trivia, in at most 256 steps for each and 256 more; and the
+-- same tree with the trivia put back, which is one tree too.
+pub record IsParsed (text : List ℕ) (edition : Edition) (lexed : Lexed) (forest : Forest) : Type 0 where
+  pub small : length text ≤ 4294967295
+  pub lexing : IsLexing text edition lexed
+  pub few_tokens : length (records lexed.tokens edition) ≤ 8388607
+  pub one : one_tree forest ≡ true
+  pub covering : covers (records lexed.tokens edition) forest ≡ true
+  pub all_used : used forest ≡ length (records lexed.tokens edition)
+  pub few_steps : length (flat forest) ≤ 256 * (length (records lexed.tokens edition) + 1)
+  pub str_one : str_one_tree (with_trivia lexed.tokens forest) ≡ true
+
+-- The sink has taken the steps of that tree, one after another; its token texts joined are the text, byte for byte;
+-- and the answer says so.
+pub record Headline {S : Type 0} (takes : S → StrStepValue → S → Type 0) (text : List ℕ) (edition : Edition) (lexed : Lexed) (answer : Bool) (before after : S) : Type 0 where
+  pub forest : Forest
+  pub parsed : IsParsed text edition lexed forest
+  pub taken : Takes takes before (str_flat (with_trivia lexed.tokens forest)) after
+  pub whole : str_joined (with_trivia lexed.tokens forest) ≡ text
+  pub all : answer ≡ true
+
+-- The sink has taken a front of the steps of that tree, and refused the next one.
+pub record CutShort {S R : Type 0} (takes : S → StrStepValue → S → Type 0) (refuses : S → StrStepValue → R → S → Type 0) (text : List ℕ) (edition : Edition) (refusal : R) (before after : S) : Type 0 where
+  pub lexed : Lexed
+  pub forest : Forest
+  pub parsed : IsParsed text edition lexed forest
+  pub stopped : Stops takes refuses before (str_flat (with_trivia lexed.tokens forest)) refusal after
+
+-- The text has more tokens than a parse takes.
+pub record HasTooManyTokens (text : List ℕ) (edition : Edition) : Type 0 where
+  pub lexed : Lexed
+  pub lexing : IsLexing text edition lexed
+  pub many : 8388607 < length (records lexed.tokens edition)
+
+-- When each fault comes, and what it leaves the sink at.
+abbrev pub Faulted : {S R : Type 0} → (S → StrStepValue → S → Type 0) → (S → StrStepValue → R → S → Type 0) → List ℕ → Edition → TextFault R → S → S → Type 0
+Faulted takes refuses text edition TextTooLong before after = (4294967295 < length text) × (after ≡ before)
+Faulted takes refuses text edition TooManyTokens before after = HasTooManyTokens text edition × (after ≡ before)
+Faulted takes refuses text edition NoMemory before after = (length text ≤ 4294967295) × (after ≡ before)
+Faulted takes refuses text edition (Refused e) before after = CutShort takes refuses text edition e before after

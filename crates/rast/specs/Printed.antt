@@ -1,0 +1,42 @@
+-- A tree as the program prints it.
+use Rattle.std.specs.Prelude.{ℕ, ◌+◌, ◌-◌, ◌^◌, List, [], ◌∷◌, ◌++◌, zero, suc, codes, chars, min}
+use Rattle.std.specs.Fmt.{decimal}
+use Rattle.rap_base.specs.Names.{name_of}
+use Rattle.rast_common.specs.Quote.{quoted}
+use Rattle.ra_ap_parser.specs.StrStep.{StrStepValue, str_enter, str_exit, str_token, str_message}
+
+-- two spaces for each open node
+abbrev pub indent : ℕ → List ℕ
+indent zero = []
+indent (suc depth) = codes "  " ++ indent depth
+
+-- the line of a step
+abbrev pub line : ℕ → StrStepValue → List ℕ
+line depth (str_enter kind) = indent depth ++ (name_of kind ++ codes "\n")
+line depth (str_token kind text) = indent depth ++ (name_of kind ++ (codes " " ++ (quoted (chars text) ++ codes "\n")))
+line depth str_exit = []
+line depth (str_message text pos) = []
+
+-- how many nodes are open after a step, as far as the machine counts
+abbrev pub depth_after : ℕ → StrStepValue → ℕ
+depth_after depth (str_enter kind) = min (depth + 1) (2 ^ 64 - 1)
+depth_after depth (str_token kind text) = depth
+depth_after depth str_exit = depth - 1
+depth_after depth (str_message text pos) = depth
+
+-- the lines of a tree
+abbrev pub printed : ℕ → List StrStepValue → List ℕ
+printed depth [] = []
+printed depth (step ∷ steps) = line depth step ++ printed (depth_after depth step) steps
+
+-- a message's line
+abbrev pub told_line : StrStepValue → List ℕ
+told_line (str_enter kind) = []
+told_line (str_token kind text) = []
+told_line str_exit = []
+told_line (str_message text pos) = codes "error " ++ (decimal pos ++ (codes ": " ++ (text ++ codes "\n")))
+
+-- the lines of a tree's messages
+abbrev pub told : List StrStepValue → List ℕ
+told [] = []
+told (step ∷ steps) = told_line step ++ told steps

@@ -1,0 +1,95 @@
+//! A sink that writes a tree down.
+ghost use Rattle.std.specs.Prelude.{◌≡◌, ◌+◌, ◌^◌, ◌-◌, ◌++◌, [], IfOk, OnOk, min, string_bytes, codes, chars};
+ghost use Rattle.std.specs.Fmt.{decimal};
+ghost use Rattle.rap_base.specs.Names.{name_of};
+ghost use Rattle.rast_common.specs.Quote.{quoted};
+ghost use Rattle.rast.specs.Printed.{indent};
+
+use ra_ap_parser::{NoMemory, StrSink, StrStep, SyntaxKind};
+use rast_common::quote::push_quoted;
+use std::alloc::{AllocError, Global};
+use std::fmt::Write as _;
+
+/// A tree's lines, indented by two spaces for each open node, and its messages, a line each.
+#[derive(Drop)]
+pub struct Printer {
+    pub tree: String,
+    pub messages: String,
+    pub depth: usize,
+}
+
+/// Begins a line with the kind's name, behind two spaces for each open node.
+fn push_kind(lines: &mut String, depth: usize, kind: SyntaxKind) -> Result<(), AllocError>
+    ensures { OnOk result (string_bytes lines.new ≡ string_bytes lines.old ++ (indent depth ++ name_of kind)) }
+{
+    'indent: for _ in 0..depth {
+        lines.push_str("  ")?;
+    }
+    lines.push_str(kind.name())?;
+    Ok(())
+}
+
+/// Adds a token's line.
+fn push_token(
+    lines: &mut String,
+    depth: usize,
+    kind: SyntaxKind,
+    text: &str,
+) -> Result<(), AllocError>
+    ensures { OnOk result (string_bytes lines.new
+        ≡ string_bytes lines.old ++ (indent depth ++ (name_of kind ++ (codes " " ++ (quoted (chars text.now) ++ codes "\n"))))) }
+{
+    push_kind(lines, depth, kind)?;
+    lines.push_str(" ")?;
+    push_quoted(lines, text)?;
+    lines.push_str("\n")?;
+    Ok(())
+}
+
+/// Adds a message's line.
+fn push_message(lines: &mut String, message: &str, pos: usize) -> Result<(), AllocError>
+    ensures { OnOk result (string_bytes lines.new
+        ≡ string_bytes lines.old ++ (codes "error " ++ (decimal pos ++ (codes ": " ++ (message.now ++ codes "\n"))))) }
+{
+    writeln!(lines, "error {pos}: {message}")?;
+    Ok(())
+}
+
+impl Printer {
+    pub fn new(alloc: Global) -> Printer
+        ensures tree { string_bytes result.tree ≡ [] }
+        ensures messages { string_bytes result.messages ≡ [] }
+        ensures depth { result.depth ≡ 0 }
+    {
+        Printer {
+            tree: String::new(alloc),
+            messages: String::new(alloc),
+            depth: 0,
+        }
+    }
+}
+
+impl StrSink for Printer {
+    ghost use Rattle.rast.specs.Prints.{Prints};
+
+    type Refusal = NoMemory;
+
+    ghost takes = { Prints };
+
+    // After want of memory nothing is claimed of the lines.
+    ghost refuses = { λ _ _ _ _. Unit {0} };
+
+    fn step(&mut self, step: StrStep<'_>) -> Result<(), NoMemory> {
+        match step {
+            StrStep::Enter { kind } => {
+                push_kind(&mut self.tree, self.depth, kind)?;
+                self.tree.push_str("\n")?;
+                self.depth = self.depth.saturating_add(1);
+            }
+            StrStep::Token { kind, text } => push_token(&mut self.tree, self.depth, kind, text)?,
+            StrStep::Exit => self.depth = self.depth.saturating_sub(1),
+            StrStep::Error { msg, pos } => push_message(&mut self.messages, msg, pos)?,
+        }
+        Ok(())
+    }
+}

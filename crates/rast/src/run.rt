@@ -1,0 +1,69 @@
+//! All that the program does once its file is read.
+ghost use Rattle.std.specs.Prelude.{◌≤◌};
+
+use crate::parse_text::{TextFault, parse_text};
+use crate::printer::Printer;
+use ra_ap_parser::{Edition, TopEntryPoint};
+use rast_common::fault::tell;
+use std::alloc::Global;
+use std::io;
+use std::str::FromStr;
+
+/// An entry point as the command line names it.
+#[derive(Clone, Copy, Debug)]
+pub struct Entry(pub TopEntryPoint);
+
+/// The word is no entry point's name.
+#[derive(Clone, Copy, Debug)]
+pub struct InvalidEntry;
+
+impl FromStr for Entry {
+    type Err = InvalidEntry;
+
+    fn from_str(s: &str) -> Result<Entry, InvalidEntry> {
+        match s {
+            "Expr" => Ok(Entry(TopEntryPoint::Expr)),
+            _ => Err(InvalidEntry),
+        }
+    }
+}
+
+/// What a fault is called on the error stream.
+fn fault_message<R>(fault: &TextFault<R>) -> &'static str {
+    match fault {
+        TextFault::TextTooLong => "rast: text too long\n",
+        TextFault::TooManyTokens => "rast: too many tokens\n",
+        TextFault::NoMemory | TextFault::Refused(_) => "rast: no memory\n",
+    }
+}
+
+/// Writes the tree's lines and then the messages'.
+fn write_lines<W: io::Write>(out: &mut W, printer: &Printer) -> io::Result<()> {
+    out.write_all(printer.tree.as_bytes())?;
+    out.write_all(printer.messages.as_bytes())?;
+    out.flush()
+}
+
+/// Parses the text and prints its tree and its messages.
+///
+/// Gives the program's status: 0 where there is no message, 1 where there is one, and 2 at a fault, which
+/// is told on `err`. At a fault nothing is written to `out`, unless `out` itself refused a write.
+pub fn run<W: io::Write, V: io::Write>(
+    alloc: Global,
+    edition: Edition,
+    entry: TopEntryPoint,
+    text: &str,
+    out: &mut W,
+    err: &mut V,
+) -> u8
+    ensures { result ≤ 2 }
+{
+    let mut printer = Printer::new(alloc);
+    if let Err(fault) = parse_text(alloc, edition, entry, text, &mut printer) {
+        return tell(err, fault_message(&fault));
+    }
+    if write_lines(out, &printer).is_err() {
+        return tell(err, "rast: cannot write\n");
+    }
+    if printer.messages.is_empty() { 0 } else { 1 }
+}
