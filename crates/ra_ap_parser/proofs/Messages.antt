@@ -1,8 +1,8 @@
 -- Messages that are added.
 use Rattle.std.proofs.Common.{◌≡◌, ◌≢◌, ℕ, true, false, ◌+◌, ◌≤◌, ◌==◌, arith, eq-eqb, ne_eqb, List, [], ◌∷◌, ◌++◌, Bool, Option, Some, None, option_to_list, MatchOption, if◌then◌else◌, map, refl, ap, sym, ◌∙◌, append_assoc}
 use Rattle.std.proofs.lemmas.List.{map_push}
-use Rattle.rap_base.specs.declared.escape.Mode.{Mode}
-use Rattle.rap_base.specs.declared.lexer.lexeme.Remark.{Remark}
+use Rattle.rap_lexer.specs.declared.escape.Mode.{Mode}
+use Rattle.rap_lexer.specs.declared.lexer.lexeme.Remark.{Remark}
 use Rattle.ra_ap_parser.specs.About.{about}
 use Rattle.std.specs.List.{AllByRecursion}
 use Rattle.ra_ap_parser.specs.LexedStr.{Message, AreInOrder, messages_of}

@@ -2,11 +2,11 @@
 use Rattle.std.specs.Prelude.{◌≡◌, ℕ, zero, suc, ⊤, Bool, ◌&&◌, ◌==◌, nat_lt, if◌then◌else◌, Option, Some, None, ◌<◌, ◌≤◌, ◌+◌, ◌^◌, List, [], ◌∷◌, ◌++◌, length, take, drop, All, chars, slice_index, slice_index_or, slice_range, IsUtf8, IsCharBoundary}
 use Rattle.std.specs.Borrow.{Bor}
 use Rattle.std.specs.List.{AllByRecursion}
-use Rattle.rap_base.specs.First.{First}
-use Rattle.rap_base.specs.Lexeme.{told}
+use Rattle.rap_lexer.specs.First.{First}
+use Rattle.rap_lexer.specs.Lexeme.{told}
 use Rattle.rap_base.specs.TokenKind.{EOF, STRING}
 use Rattle.rap_base.specs.declared.edition.Edition.{Edition}
-use Rattle.rap_base.specs.declared.lexer.lexeme.Remark.{Remark}
+use Rattle.rap_lexer.specs.declared.lexer.lexeme.Remark.{Remark}
 use Rattle.ra_ap_parser.specs.Told.{TellsOf, looks_open}
 
 -- A token: its kind's number, and the bytes of its text.

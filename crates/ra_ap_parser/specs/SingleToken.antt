@@ -1,10 +1,10 @@
 -- A text that is one token.
 use Rattle.std.specs.Prelude.{◌≡◌, ◌≢◌, ◌⊎◌, ℕ, false, Option, MatchOption, List, [], ◌∷◌, ◌++◌, chars}
-use Rattle.rap_base.specs.First.{First}
-use Rattle.rap_base.specs.Lexeme.{told}
+use Rattle.rap_lexer.specs.First.{First}
+use Rattle.rap_lexer.specs.Lexeme.{told}
 use Rattle.rap_base.specs.declared.edition.Edition.{Edition}
-use Rattle.rap_base.specs.declared.lexer.lexeme.Lexeme.{Lexeme}
-use Rattle.rap_base.specs.declared.lexer.lexeme.Remark.{Remark}
+use Rattle.rap_lexer.specs.declared.lexer.lexeme.Lexeme.{Lexeme}
+use Rattle.rap_lexer.specs.declared.lexer.lexeme.Remark.{Remark}
 use Rattle.ra_ap_parser.specs.Told.{TellsOf}
 
 -- the last of the texts, if there is one

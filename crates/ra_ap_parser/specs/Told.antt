@@ -1,13 +1,13 @@
 -- What the lexer tells of a token.
 use Rattle.std.specs.Prelude.{◌≡◌, ℕ, zero, suc, ◌+◌, Bool, false, ◌&&◌, ◌||◌, ◌==◌, Option, Some, None, option_to_list, MatchOption, List, [], ◌∷◌, ◌++◌, length, map, chars, codes, slice_index, slice_range, if◌then◌else◌}
 use Rattle.std.specs.Str.{byte}
-use Rattle.rap_base.specs.Escape.{Tells, message}
-use Rattle.rap_base.specs.Run.{next_is}
-use Rattle.rap_base.specs.declared.escape.Fault.{Fault}
-use Rattle.rap_base.specs.declared.escape.Mode.{Mode}
-use Rattle.rap_base.specs.declared.escape.Mode.TheVariants.{Char, Byte, Str, ByteStr, CStr}
-use Rattle.rap_base.specs.declared.lexer.lexeme.Remark.{Remark}
-use Rattle.rap_base.specs.declared.lexer.lexeme.Remark.TheVariants.{Nothing, OpenComment, InvalidRawString, UnknownPrefix, NoDigits, NoExponentDigits, ReservedString, InvalidIdent, UnknownLifetimePrefix, LifetimeStartsWithNumber, Unterminated, Escapes}
+use Rattle.rap_lexer.specs.Escape.{Tells, message}
+use Rattle.rap_lexer.specs.Run.{next_is}
+use Rattle.rap_lexer.specs.declared.escape.Fault.{Fault}
+use Rattle.rap_lexer.specs.declared.escape.Mode.{Mode}
+use Rattle.rap_lexer.specs.declared.escape.Mode.TheVariants.{Char, Byte, Str, ByteStr, CStr}
+use Rattle.rap_lexer.specs.declared.lexer.lexeme.Remark.{Remark}
+use Rattle.rap_lexer.specs.declared.lexer.lexeme.Remark.TheVariants.{Nothing, OpenComment, InvalidRawString, UnknownPrefix, NoDigits, NoExponentDigits, ReservedString, InvalidIdent, UnknownLifetimePrefix, LifetimeStartsWithNumber, Unterminated, Escapes}
 
 -- the quote of a literal
 abbrev pub quote_of : Mode → ℕ

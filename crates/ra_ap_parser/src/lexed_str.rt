@@ -6,7 +6,7 @@ ghost use Rattle.ra_ap_parser.specs.SingleToken.{IsNotOneToken, IsOneToken};
 ghost use Rattle.ra_ap_parser.specs.LexedStr.{joined, start_of, token_at, error_of, since_open_after, AreTokens, IsLexing};
 
 use rap_base::edition::Edition;
-use rap_base::lexer::first_token;
+use rap_lexer::lexer::first_token;
 use rap_base::syntax_kind::SyntaxKind;
 use told::{LexError, last_message, looks_open, tell};
 

@@ -5,8 +5,8 @@ ghost use Rattle.ra_ap_parser.specs.SingleToken.{TellsLast};
 ghost use Rattle.ra_ap_parser.specs.Told.{TellsFaults, checked_mode, has_note, first_place, quote_of, last_place, body_of, fixed_message, unterminated, holds, holds_pair, looks_open, prefix_note, TellsOf};
 ghost use Rattle.ra_ap_parser.specs.About.{about, Adds};
 
-use rap_base::escape::{Faults, Mode};
-use rap_base::lexer::Remark;
+use rap_lexer::escape::{Faults, Mode};
+use rap_lexer::lexer::Remark;
 use std::alloc::{AllocError, Global};
 use std::marker::Model;
 

@@ -1,7 +1,7 @@
 use Rattle.std.proofs.Common.{◌≡◌, ℕ, List, [], ◌∷◌, ◌++◌, ◌+◌, length, nat_lt, drop, chars, slice_range, IsCharBoundary, subst, ap, ◌∙◌, arith}
 use Rattle.std.proofs.lemmas.List.{drop-drop}
 use Rattle.std.proofs.lemmas.List.Elements.{All-push}
-use Rattle.rap_base.specs.First.{First}
+use Rattle.rap_lexer.specs.First.{First}
 use Rattle.rap_base.specs.TokenTests.{IsTokenKind}
 use Rattle.ra_ap_parser.specs.About.{about}
 use Rattle.ra_ap_parser.specs.LexedStr.{IsFirst}

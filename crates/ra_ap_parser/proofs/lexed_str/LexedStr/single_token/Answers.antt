@@ -1,7 +1,7 @@
 use Rattle.std.proofs.Common.{◌≡◌, [], List, ℕ, chars, drop, ap, ◌∙◌, subst}
 use Rattle.std.proofs.lemmas.List.{drop_all}
 use Rattle.std.proofs.lemmas.Str.{chars-nil}
-use Rattle.rap_base.specs.First.{First}
+use Rattle.rap_lexer.specs.First.{First}
 use Rattle.ra_ap_parser.proofs.lexed_str.LexedStr.single_token.Goals as goal
 
 pub returns-clause-single : goal.returns-clause-single

@@ -1,7 +1,7 @@
 use Rattle.std.proofs.Common.{◌≡◌, ◌<◌, ◌+◌, ℕ, length, IsCharBoundary, arith, sym, subst}
 use Rattle.std.proofs.lemmas.Str.{IsCharBoundary-after_ascii, IsCharBoundary-before_ascii}
-use Rattle.rap_base.specs.declared.escape.Mode.{Mode}
-use Rattle.rap_base.specs.declared.escape.Mode.TheVariants.{Char, Byte, Str, ByteStr, CStr}
+use Rattle.rap_lexer.specs.declared.escape.Mode.{Mode}
+use Rattle.rap_lexer.specs.declared.escape.Mode.TheVariants.{Char, Byte, Str, ByteStr, CStr}
 use Rattle.ra_ap_parser.specs.Told.{quote_of, first_place, last_place}
 use Rattle.ra_ap_parser.proofs.Places.{first_is, last_is, last_below, last_within}
 use Rattle.ra_ap_parser.proofs.lexed_str.told.body.Goals as goal

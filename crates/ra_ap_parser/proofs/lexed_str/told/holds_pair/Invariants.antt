@@ -1,5 +1,5 @@
 use Rattle.std.proofs.Common.{◌≡◌, ◌&&◌, ◌||◌, drop}
-use Rattle.rap_base.specs.Run.{next_is}
+use Rattle.rap_lexer.specs.Run.{next_is}
 use Rattle.ra_ap_parser.specs.Told.{holds_pair}
 use Rattle.ra_ap_parser.proofs.lexed_str.told.holds_pair.Given as goal
 

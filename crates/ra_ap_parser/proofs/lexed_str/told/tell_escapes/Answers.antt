@@ -1,5 +1,5 @@
 use Rattle.std.proofs.Common.{◌++◌, ◌∷◌, [], ap, sym, ◌∙◌, append_assoc}
-use Rattle.rap_base.specs.Escape.{message}
+use Rattle.rap_lexer.specs.Escape.{message}
 use Rattle.ra_ap_parser.proofs.Messages.{adds_more}
 use Rattle.ra_ap_parser.proofs.lexed_str.told.tell_escapes.Goals as goal
 

@@ -1,6 +1,6 @@
 use Rattle.std.proofs.Common.{◌≡◌, ◌++◌, List, map}
-use Rattle.rap_base.specs.Escape.{message}
-use Rattle.rap_base.specs.declared.escape.Fault.{Fault}
+use Rattle.rap_lexer.specs.Escape.{message}
+use Rattle.rap_lexer.specs.declared.escape.Fault.{Fault}
 use Rattle.ra_ap_parser.specs.About.{about}
 use Rattle.ra_ap_parser.proofs.lexed_str.told.tell_escapes.Given as goal
 

@@ -1,6 +1,0 @@
-use Rattle.std.proofs.Common.{◌-◌}
-use Rattle.rap_base.proofs.RawStrings.{Ahead}
-use Rattle.rap_base.proofs.lexer.raw_string.eat_hashes.Given as goal
-
-abbrev pub invariant-loop : goal.invariant-loop
-invariant-loop l = Ahead l.hashes (l.hashes - l.counter) l.cursor l.ahead

@@ -1,0 +1,10 @@
+pub mod Class
+pub mod Comment
+pub mod Escape
+pub mod EscapeWalk
+pub mod First
+pub mod Lexeme
+pub mod Number
+pub mod Quoted
+pub mod Run
+pub mod Word

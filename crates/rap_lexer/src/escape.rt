@@ -1,0 +1,345 @@
+//! The faults of escapes in literals, after the Rust Reference, "Tokens", and the crate `rustc-literal-escaper`.
+ghost use Rattle.std.specs.Prelude.{◌≡◌, List, [], ◌∷◌, MatchOption, option_to_list, IfSome};
+ghost use Rattle.std.specs.Str.{chars};
+ghost use Rattle.rap_lexer.specs.Escape.{message, is_byte, is_single, hex_limit, told, Character, CharacterTells, StringTells, Tells, is_gap};
+ghost use Rattle.rap_lexer.specs.EscapeWalk.{faults};
+ghost use Rattle.rap_lexer.specs.Run.{after_run};
+ghost use Rattle.rap_lexer.specs.declared.escape.Fault.{Fault};
+
+mod character;
+
+use crate::escape::character::character;
+use crate::lexer::cursor::Cursor;
+use std::marker::Model;
+
+/// What kind of literal a body belongs to.
+#[derive(Clone, Copy, PartialEq, Eq, Debug)]
+pub enum Mode {
+    /// A character, `'..'`.
+    Char,
+    /// A byte, `b'..'`.
+    Byte,
+    /// A string, `".."`.
+    Str,
+    /// A byte string, `b".."`.
+    ByteStr,
+    /// A C string, `c".."`.
+    CStr,
+}
+
+/// What is wrong in a literal's body.
+#[derive(Clone, Copy, PartialEq, Eq, Debug)]
+pub enum Fault {
+    /// A character or byte has an empty body.
+    ZeroChars,
+    /// A character or byte has more after its first character.
+    MoreThanOneChar,
+    /// No escape begins with this character after its backslash.
+    InvalidEscape,
+    /// A character or byte is a line feed, a tab or a `'` without a backslash.
+    EscapeOnlyChar,
+    /// The body ends before the second digit of a `\x`.
+    TooShortHexEscape,
+    /// A character after `\x` is no hexadecimal digit.
+    InvalidCharInHexEscape,
+    /// A `\x` is over 7F where it has to be ASCII.
+    OutOfRangeHexEscape,
+    /// No `{` follows a `\u`.
+    NoBraceInUnicodeEscape,
+    /// The body ends before the `}` of a `\u{`.
+    UnclosedUnicodeEscape,
+    /// A `\u{` begins with `_`.
+    LeadingUnderscoreUnicodeEscape,
+    /// Nothing stands between the braces of a `\u{}`.
+    EmptyUnicodeEscape,
+    /// A character between the braces of a `\u{..}` is neither a hexadecimal digit nor `_`.
+    InvalidCharInUnicodeEscape,
+    /// A `\u{..}` has more than six digits.
+    OverlongUnicodeEscape,
+    /// A `\u{..}` stands in a byte or a byte string.
+    UnicodeEscapeInByte,
+    /// A `\u{..}` is over 10FFFF, or a surrogate.
+    InvalidUnicodeEscape,
+    /// A byte or a byte string has a character that is not ASCII.
+    NonAsciiCharInByte,
+    /// A C string has a NUL.
+    NulInCStr,
+}
+
+impl Mode {
+    // Bytes and byte strings.
+    fn is_byte(self) -> bool
+        ensures { result ≡ is_byte self }
+    {
+        matches!(self, Mode::Byte | Mode::ByteStr)
+    }
+
+    // Characters and bytes.
+    fn is_single(self) -> bool
+        ensures { result ≡ is_single self }
+    {
+        matches!(self, Mode::Char | Mode::Byte)
+    }
+
+    // The greatest value of a `\x`.
+    fn hex_limit(self) -> u32
+        ensures { result ≡ hex_limit self }
+    {
+        match self {
+            Mode::Char | Mode::Str => 0x7F,
+            Mode::Byte | Mode::ByteStr | Mode::CStr => 0xFF,
+        }
+    }
+}
+
+impl Fault {
+    /// What is said of the fault in a literal of this kind.
+    pub fn message(self, mode: Mode) -> &'static str
+        ensures { result.now ≡ message self mode }
+    {
+        match self {
+            Fault::ZeroChars => "empty character literal",
+            Fault::MoreThanOneChar => "character literal may only contain one codepoint",
+            Fault::InvalidEscape if mode.is_byte() => "unknown byte escape",
+            Fault::InvalidEscape => "unknown character escape",
+            Fault::EscapeOnlyChar if mode.is_byte() => "byte constant must be escaped",
+            Fault::EscapeOnlyChar => "character constant must be escaped",
+            Fault::TooShortHexEscape => "numeric character escape is too short",
+            Fault::InvalidCharInHexEscape => "invalid character in numeric character escape",
+            Fault::OutOfRangeHexEscape => "out of range hex escape",
+            Fault::NoBraceInUnicodeEscape => "incorrect unicode escape sequence",
+            Fault::UnclosedUnicodeEscape => "unterminated unicode escape",
+            Fault::LeadingUnderscoreUnicodeEscape => "invalid start of unicode escape",
+            Fault::EmptyUnicodeEscape => "empty unicode escape",
+            Fault::InvalidCharInUnicodeEscape => "invalid character in unicode escape",
+            Fault::OverlongUnicodeEscape => "overlong unicode escape",
+            Fault::UnicodeEscapeInByte => "unicode escape in byte string",
+            Fault::InvalidUnicodeEscape => "invalid unicode character escape",
+            Fault::NonAsciiCharInByte if mode.is_single() => "non-ASCII character in byte literal",
+            Fault::NonAsciiCharInByte => "non-ASCII character in byte string literal",
+            Fault::NulInCStr => "null character in C string literal",
+        }
+    }
+}
+
+// The fault of a character's or byte's body.
+fn character_fault(mode: Mode, body: &str) -> Option<Fault>
+    ensures { CharacterTells mode (chars body.now) (option_to_list result) }
+{
+    let mut rest = Cursor::new(body);
+    match rest.bump() {
+        None => Some(Fault::ZeroChars),
+        Some('\r') => None,
+        Some(c) => match character(mode, c, &mut rest) {
+            Err(fault) => Some(fault),
+            Ok(_) if rest.first().is_some() => Some(Fault::MoreThanOneChar),
+            Ok(_) => None,
+        },
+    }
+}
+
+// The fault that a string tells of one of its characters.
+fn told(mode: Mode, outcome: Result<u32, Fault>) -> Option<Fault>
+    ensures { option_to_list result ≡ told mode outcome }
+{
+    match outcome {
+        Err(fault) => Some(fault),
+        Ok(0) if mode == Mode::CStr => Some(Fault::NulInCStr),
+        Ok(_) => None,
+    }
+}
+
+// What a backslash before a line feed skips.
+fn is_gap(c: char) -> bool
+    ensures { result ≡ is_gap c }
+{
+    matches!(c, ' ' | '\t' | '\n' | '\r')
+}
+
+// Passes over what a backslash before a line feed skips.
+fn skip_gap(rest: &mut Cursor<'_>)
+    ensures { rest.new ≡ after_run is_gap rest.old }
+{
+    'gap: while let Some(c) = rest.first() {
+        if !is_gap(c) {
+            break;
+        }
+        let _ = rest.bump();
+    }
+}
+
+// The next fault of a string's body.
+fn next_fault(mode: Mode, rest: &mut Cursor<'_>) -> Option<Fault>
+    ensures { MatchOption result ((rest.new ≡ []) × StringTells mode rest.old [])
+        (λ fault. (faults : List Fault) → StringTells mode rest.new faults → StringTells mode rest.old (fault ∷ faults)) }
+{
+    'body: while let Some(c) = rest.bump() {
+        if c == '\\' && rest.first() == Some('\n') {
+            skip_gap(rest);
+            continue;
+        }
+        if let Some(fault) = told(mode, character(mode, c, rest)) {
+            return Some(fault);
+        }
+    }
+    None
+}
+
+/// The faults of a literal's body that are still to come. Contracts see their list.
+#[derive(Drop)]
+pub struct Faults<'a> {
+    mode: Mode,
+    // The fault of a character or byte.
+    single: Option<Fault>,
+    // What is left of a string's body.
+    rest: Cursor<'a>,
+}
+
+impl<'a> Model for Faults<'a> {
+    ghost use Rattle.std.specs.Prelude.{List, if◌then◌else◌};
+    ghost use Rattle.std.specs.Option.{option_to_list};
+    ghost use Rattle.rap_lexer.specs.declared.escape.Fault.{Fault};
+    ghost use Rattle.rap_lexer.specs.Escape.{is_single};
+    ghost use Rattle.rap_lexer.specs.EscapeWalk.{faults_from};
+    ghost use Rattle.rap_lexer.specs.EscapeWalk.Place.{before_character};
+
+    ghost Value = { List Fault };
+
+    ghost view = { λ s. if is_single s.mode then option_to_list s.single else faults_from s.mode before_character s.rest };
+}
+
+impl<'a> Faults<'a> {
+    /// The faults that the body of a literal tells, which is the text between its quotes.
+    ///
+    /// A character or byte tells one fault at most.
+    pub fn new(mode: Mode, body: &'a str) -> Faults<'a>
+        ensures list { result ≡ faults mode (chars body.now) }
+        ensures told { Tells mode (chars body.now) result }
+        ensures only { (others : List Fault) → Tells mode (chars body.now) others → others ≡ result }
+    {
+        if mode.is_single() {
+            Faults {
+                mode,
+                single: character_fault(mode, body),
+                rest: Cursor::new(""),
+            }
+        } else {
+            Faults {
+                mode,
+                single: None,
+                rest: Cursor::new(body),
+            }
+        }
+    }
+}
+
+impl Iterator for Faults<'_> {
+    ghost use Rattle.std.specs.Iterator.{YieldsFirst, item_count};
+
+    type Item = Fault;
+
+    ghost next_gives = { YieldsFirst (λ faults. faults) };
+
+    ghost remaining = { item_count (λ faults. faults) };
+
+    fn next(&mut self) -> Option<Fault> {
+        if self.mode.is_single() {
+            self.single.take()
+        } else {
+            next_fault(self.mode, &mut self.rest)
+        }
+    }
+}
+
+#[cfg(test)]
+mod tests {
+    use super::*;
+
+    #[test]
+    fn tells_each_fault(rt: HostRuntime) {
+        for (mode, body, message) in [
+            (Mode::Char, "", "empty character literal"),
+            (Mode::Byte, "", "empty character literal"),
+            (
+                Mode::Char,
+                "ab",
+                "character literal may only contain one codepoint",
+            ),
+            (
+                Mode::Byte,
+                r"\x41\x42",
+                "character literal may only contain one codepoint",
+            ),
+            (Mode::Char, r"\q", "unknown character escape"),
+            (Mode::Char, "\\\n", "unknown character escape"),
+            (Mode::ByteStr, "\\\r", "unknown byte escape"),
+            (Mode::Char, "\t", "character constant must be escaped"),
+            (Mode::Byte, "'x", "byte constant must be escaped"),
+            (Mode::Char, r"\x4", "numeric character escape is too short"),
+            (
+                Mode::Char,
+                r"\xы",
+                "invalid character in numeric character escape",
+            ),
+            (Mode::Str, r"\x80", "out of range hex escape"),
+            (Mode::Str, r"\u0041", "incorrect unicode escape sequence"),
+            (Mode::Str, r"\u{0", "unterminated unicode escape"),
+            (Mode::Str, r"\u{_0", "invalid start of unicode escape"),
+            (Mode::CStr, r"\u{}", "empty unicode escape"),
+            (Mode::Str, r"\u{zz", "invalid character in unicode escape"),
+            (Mode::Str, r"\u{0_000041}", "overlong unicode escape"),
+            (Mode::Byte, r"\u{0}x", "unicode escape in byte string"),
+            (Mode::Str, r"\u{DFFF}", "invalid unicode character escape"),
+            (
+                Mode::Char,
+                r"\u{110000}",
+                "invalid unicode character escape",
+            ),
+            (Mode::Byte, "ы", "non-ASCII character in byte literal"),
+            (
+                Mode::ByteStr,
+                "ы",
+                "non-ASCII character in byte string literal",
+            ),
+            (Mode::CStr, "\0", "null character in C string literal"),
+        ] {
+            let mut faults = Faults::new(mode, body);
+            let first = faults.next().map(|fault| fault.message(mode));
+            assert_eq!(rt; first, Some(message), "in {mode:?} {body}");
+            assert_eq!(rt; faults.next(), None, "in {mode:?} {body}");
+        }
+    }
+
+    #[test]
+    fn passes_bodies_without_fault(rt: HostRuntime) {
+        for (mode, body) in [
+            (Mode::Char, "ы"),
+            (Mode::Char, "\""),
+            (Mode::Char, r"\u{10_FF_FF}"),
+            (Mode::Byte, r"\xFF"),
+            (Mode::Byte, "\r"),
+            (Mode::Str, ""),
+            (Mode::Str, "a\t'\n\r\0"),
+            (Mode::Str, "\\\n \t\r\n\\\n\\\""),
+            (Mode::ByteStr, r"\x80\\"),
+            (Mode::CStr, r"\xFF\u{1}\'"),
+        ] {
+            assert_eq!(rt; Faults::new(mode, body).next(), None, "in {mode:?} {body}");
+        }
+    }
+
+    #[test]
+    fn tells_faults_in_order(rt: HostRuntime) {
+        let mut faults = Faults::new(Mode::CStr, "\\u{\\0\\x0\0\\x00\\u{0}\\q\\");
+        for wanted in [
+            Fault::InvalidCharInUnicodeEscape,
+            Fault::InvalidCharInHexEscape,
+            Fault::NulInCStr,
+            Fault::NulInCStr,
+            Fault::InvalidEscape,
+        ] {
+            assert_eq!(rt; faults.next(), Some(wanted));
+        }
+        assert_eq!(rt; faults.next(), None);
+    }
+}

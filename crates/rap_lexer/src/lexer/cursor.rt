@@ -1,0 +1,104 @@
+//! A place in a text.
+ghost use Rattle.std.specs.Prelude.{◌≡◌, ◌≢◌, ◌≤◌, ◌++◌, MatchBool, ℕ, List, [], ◌∷◌, ◌<◌, ◌^◌, length, slice_get, MatchOption, encode_utf8_all};
+ghost use Rattle.std.specs.Str.{chars};
+ghost use Rattle.rap_lexer.specs.Run.{next_is, tail};
+
+use std::marker::Model;
+
+/// A place in a text. Contracts see the characters that are left.
+#[derive(Drop)]
+pub struct Cursor<'a> {
+    rest: &'a str,
+}
+
+impl<'a> Model for Cursor<'a> {
+    ghost use Rattle.std.specs.Prelude.{List, ℕ};
+    ghost use Rattle.std.specs.Str.{chars, IsUtf8};
+
+    ghost Value = { List ℕ };
+
+    ghost view = { λ s. chars s.rest.now };
+
+    ghost invariant = { λ s. IsUtf8 s.rest.now };
+}
+
+impl<'a> Cursor<'a> {
+    /// A cursor at the front of the text.
+    pub fn new(text: &'a str) -> Cursor<'a>
+        ensures { result ≡ chars text.now }
+    {
+        Cursor { rest: text }
+    }
+
+    /// What is left of the text.
+    pub fn as_str(&self) -> &'a str
+        ensures text { result.now ≡ encode_utf8_all self.now }
+        ensures same { chars result.now ≡ self.now }
+    {
+        self.rest
+    }
+
+    /// The next character.
+    pub fn first(&self) -> Option<char>
+        ensures { result ≡ slice_get self.now 0 }
+    {
+        self.rest.chars().next()
+    }
+
+    /// Takes the next character.
+    pub fn bump(&mut self) -> Option<char>
+        ensures taken { MatchOption result ((self.old ≡ []) × (self.new ≡ [])) (λ c. self.old ≡ c ∷ self.new) }
+        ensures room { length self.old < 2 ^ 63 }
+    {
+        let mut chars = self.rest.chars();
+        let c = chars.next();
+        self.rest = chars.as_str();
+        c
+    }
+
+    /// Takes the next character, if there is one.
+    pub fn skip(&mut self)
+        ensures { self.new ≡ tail self.old }
+    {
+        let _ = self.bump();
+    }
+
+    /// The place after the next character.
+    pub fn ahead(&self) -> Cursor<'a>
+        ensures { result ≡ tail self.now }
+    {
+        let mut ahead = Cursor { rest: self.rest };
+        ahead.skip();
+        ahead
+    }
+
+    /// Whether this character stands next.
+    pub fn is_next(&self, c: char) -> bool
+        ensures { result ≡ next_is c self.now }
+    {
+        match self.first() {
+            Some(next) => next == c,
+            None => false,
+        }
+    }
+
+    /// The length of what is left, in bytes.
+    pub fn len(&self) -> usize
+        ensures { length self.now < 2 ^ 63 }
+    {
+        self.rest.len()
+    }
+
+    /// Takes these two characters, if they stand next.
+    pub fn eat_pair(&mut self, a: char, b: char) -> bool
+        ensures { MatchBool result (self.old ≡ a ∷ b ∷ self.new) ((self.new ≡ self.old) × ((rest : List ℕ) → self.old ≢ a ∷ b ∷ rest)) }
+    {
+        if self.is_next(a) && self.ahead().is_next(b) {
+            self.skip();
+            self.skip();
+            true
+        } else {
+            false
+        }
+    }
+}

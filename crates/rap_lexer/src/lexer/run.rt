@@ -1,0 +1,95 @@
+//! Runs of characters of one class.
+ghost use Rattle.std.specs.Prelude.{◌≡◌};
+ghost use Rattle.rap_lexer.specs.Class.{is_hex_digit, is_in};
+ghost use Rattle.rap_lexer.specs.Run.{next_in, after_run, after_suffix};
+
+use crate::lexer::cursor::Cursor;
+use rap_base::whitespace::is_rust_whitespace;
+
+/// A class of characters that the lexical rules name.
+#[derive(Clone, Copy)]
+pub enum Class {
+    /// Rust's white space.
+    White,
+    /// All but the line feed.
+    InLine,
+    /// What an identifier begins with: `_` or XID_Start.
+    IdentStart,
+    /// What an identifier goes on with: XID_Continue.
+    IdentContinue,
+    /// The property Emoji past ASCII.
+    Emoji,
+    /// What an identifier with an emoji in it goes on with: XID_Continue, emoji, and the joiner U+200D.
+    InvalidContinue,
+    /// The digits 0 to 9.
+    Digit,
+    /// `_`.
+    Underscore,
+    /// The digits 0 to 9 and `_`.
+    DigitOrUnderscore,
+    /// The hexadecimal digits and `_`.
+    HexOrUnderscore,
+    /// `#`.
+    Hash,
+}
+
+/// Whether the character is in the class.
+pub fn is_in(class: Class, c: char) -> bool
+    ensures { result ≡ is_in class c }
+{
+    match class {
+        Class::White => is_rust_whitespace(c),
+        Class::InLine => c != '\n',
+        Class::IdentStart => c == '_' || unicode_ident::is_xid_start(c),
+        Class::IdentContinue => unicode_ident::is_xid_continue(c),
+        Class::Emoji => !c.is_ascii() && unicode::properties::is_emoji(c),
+        Class::InvalidContinue => {
+            unicode_ident::is_xid_continue(c)
+                || !c.is_ascii() && unicode::properties::is_emoji(c)
+                || c == '\u{200d}'
+        }
+        Class::Digit => c.is_ascii_digit(),
+        Class::Underscore => c == '_',
+        Class::DigitOrUnderscore => c == '_' || c.is_ascii_digit(),
+        Class::HexOrUnderscore => c == '_' || is_hex_digit(c),
+        Class::Hash => c == '#',
+    }
+}
+
+fn is_hex_digit(c: char) -> bool
+    ensures { result ≡ is_hex_digit c }
+{
+    c.is_ascii_digit() || 'a' <= c && c <= 'f' || 'A' <= c && c <= 'F'
+}
+
+/// Whether a character of the class stands next.
+pub fn is_next_in(cursor: &Cursor<'_>, class: Class) -> bool
+    ensures { result ≡ next_in class cursor.now }
+{
+    match cursor.first() {
+        Some(c) => is_in(class, c),
+        None => false,
+    }
+}
+
+/// Takes the characters of the class that stand next.
+pub fn eat_run(cursor: &mut Cursor<'_>, class: Class)
+    ensures { cursor.new ≡ after_run (is_in class) cursor.old }
+{
+    'run: while let Some(c) = cursor.first() {
+        if !is_in(class, c) {
+            break;
+        }
+        let _ = cursor.bump();
+    }
+}
+
+/// Takes the identifier that stands next, if there is one.
+pub fn eat_suffix(cursor: &mut Cursor<'_>)
+    ensures { cursor.new ≡ after_suffix cursor.old }
+{
+    if is_next_in(cursor, Class::IdentStart) {
+        cursor.skip();
+        eat_run(cursor, Class::IdentContinue);
+    }
+}

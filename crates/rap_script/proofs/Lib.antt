@@ -1,0 +1,9 @@
+pub mod ScriptAccepted
+pub mod ScriptBlank
+pub mod ScriptBorders
+pub mod ScriptClosing
+pub mod ScriptFences
+pub mod ScriptLines
+pub mod ScriptParts
+pub mod ScriptRefused
+pub mod ScriptShebang

@@ -1,0 +1,4 @@
+pub mod Refusal
+pub mod Script
+pub mod ScriptFault
+pub mod ScriptPlaces
