@@ -1,9 +1,15 @@
 -- What a printer has written along the steps of a tree.
-use Rattle.std.proofs.Common.{◌≡◌, ℕ, zero, suc, ◌+◌, List, [], ◌∷◌, ◌++◌, ap, sym, ◌∙◌, refl, subst, codes, string_bytes, append_assoc, append-nil}
+use Rattle.std.proofs.Common.{◌≡◌, ℕ, zero, suc, ◌+◌, List, [], ◌∷◌, ◌++◌, ap, sym, ◌∙◌, refl, subst, Bool, codes, string_bytes, append_assoc, append-nil}
+use Rattle.rap_base.specs.declared.edition.Edition.{Edition}
+use Rattle.ra_ap_parser.specs.LexedStr.{Lexed}
+use Rattle.ra_ap_parser.specs.StrForest.{str_flat}
 use Rattle.ra_ap_parser.specs.StrSink.{Takes}
 use Rattle.ra_ap_parser.specs.StrStep.{StrStepValue}
-use Rattle.rast.specs.Printed.{indent, line, depth_after, printed, told_line, told}
+use Rattle.ra_ap_parser.specs.Trivia.{with_trivia}
+use Rattle.rast.specs.Headline.{Headline}
+use Rattle.rast.specs.Printed.{indent, line, depth_after, printed, told_line, told, lexer_told}
 use Rattle.rast.specs.Prints.{Prints}
+use Rattle.rast.specs.Ran.{IsPrinted}
 use Rattle.rast.specs.declared.printer.Printer.{Printer}
 
 -- one more open node
@@ -27,3 +33,19 @@ messages_along (x ∷ xs) s t h =
     messages_along xs m t h.2
     ∙ (ap (λ l. l ++ told xs) h.1.messages
     ∙ append_assoc (string_bytes s.messages) (told_line x) (told xs))
+
+-- the lines of a tree and of all messages, from a printer that had written nothing
+pub printed_whole : (text : List ℕ) (edition : Edition) (lexed : Lexed) (all : Bool) (s t u : Printer)
+    → string_bytes s.tree ≡ [] → string_bytes s.messages ≡ [] → s.depth ≡ 0
+    → Headline Prints text edition lexed all s t
+    → u.tree ≡ t.tree → string_bytes u.messages ≡ string_bytes t.messages ++ lexer_told lexed.tokens lexed.errors
+    → IsPrinted text edition u
+printed_whole text edition lexed all s t u no_tree no_messages no_depth h same more =
+    let steps = str_flat (with_trivia lexed.tokens h.forest) in
+    record {
+      lexed = lexed;
+      forest = h.forest;
+      parsed = h.parsed;
+      tree = ap string_bytes same ∙ (tree_along steps s t h.taken ∙ (ap (λ l. l ++ printed s.depth steps) no_tree ∙ ap (λ d. printed d steps) no_depth));
+      messages = more ∙ ap (λ l. l ++ lexer_told lexed.tokens lexed.errors) (messages_along steps s t h.taken ∙ ap (λ l. l ++ told steps) no_messages);
+    }

@@ -1,3 +1,4 @@
 pub mod Headline
 pub mod Printed
 pub mod Prints
+pub mod Ran

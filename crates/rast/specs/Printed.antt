@@ -3,6 +3,7 @@ use Rattle.std.specs.Prelude.{ℕ, ◌+◌, ◌-◌, ◌^◌, List, [], ◌∷�
 use Rattle.std.specs.Fmt.{decimal}
 use Rattle.rap_base.specs.Names.{name_of}
 use Rattle.rast_common.specs.Quote.{quoted}
+use Rattle.ra_ap_parser.specs.LexedStr.{Token, Message, start_of}
 use Rattle.ra_ap_parser.specs.StrStep.{StrStepValue, str_enter, str_exit, str_token, str_message}
 
 -- two spaces for each open node
@@ -29,14 +30,23 @@ abbrev pub printed : ℕ → List StrStepValue → List ℕ
 printed depth [] = []
 printed depth (step ∷ steps) = line depth step ++ printed (depth_after depth step) steps
 
--- a message's line
+-- the line of a message about a place of the text
+abbrev pub message_line : ℕ → List ℕ → List ℕ
+message_line pos text = codes "error " ++ (decimal pos ++ (codes ": " ++ (text ++ codes "\n")))
+
+-- the line that a step adds to the messages
 abbrev pub told_line : StrStepValue → List ℕ
 told_line (str_enter kind) = []
 told_line (str_token kind text) = []
 told_line str_exit = []
-told_line (str_message text pos) = codes "error " ++ (decimal pos ++ (codes ": " ++ (text ++ codes "\n")))
+told_line (str_message text pos) = message_line pos text
 
 -- the lines of a tree's messages
 abbrev pub told : List StrStepValue → List ℕ
 told [] = []
 told (step ∷ steps) = told_line step ++ told steps
+
+-- the lines of the lexer's messages, each at the start of its token
+abbrev pub lexer_told : List Token → List Message → List ℕ
+lexer_told tokens [] = []
+lexer_told tokens (m ∷ ms) = message_line (start_of tokens m.token) m.text ++ lexer_told tokens ms

@@ -1,11 +1,12 @@
 //! A sink that writes a tree down.
-ghost use Rattle.std.specs.Prelude.{◌≡◌, ◌+◌, ◌^◌, ◌-◌, ◌++◌, [], IfOk, OnOk, min, string_bytes, codes, chars};
+ghost use Rattle.std.specs.Prelude.{◌≡◌, ◌+◌, ◌^◌, ◌-◌, ◌++◌, [], IfOk, OnOk, min, length, string_bytes, codes, chars};
 ghost use Rattle.std.specs.Fmt.{decimal};
 ghost use Rattle.rap_base.specs.Names.{name_of};
 ghost use Rattle.rast_common.specs.Quote.{quoted};
-ghost use Rattle.rast.specs.Printed.{indent};
+ghost use Rattle.ra_ap_parser.specs.LexedStr.{AreInOrder};
+ghost use Rattle.rast.specs.Printed.{indent, message_line, lexer_told};
 
-use ra_ap_parser::{NoMemory, StrSink, StrStep, SyntaxKind};
+use ra_ap_parser::{LexedStr, NoMemory, StrSink, StrStep, SyntaxKind};
 use rast_common::quote::push_quoted;
 use std::alloc::{AllocError, Global};
 use std::fmt::Write as _;
@@ -48,8 +49,7 @@ fn push_token(
 
 /// Adds a message's line.
 fn push_message(lines: &mut String, message: &str, pos: usize) -> Result<(), AllocError>
-    ensures { OnOk result (string_bytes lines.new
-        ≡ string_bytes lines.old ++ (codes "error " ++ (decimal pos ++ (codes ": " ++ (message.now ++ codes "\n"))))) }
+    ensures { OnOk result (string_bytes lines.new ≡ string_bytes lines.old ++ message_line pos message.now) }
 {
     writeln!(lines, "error {pos}: {message}")?;
     Ok(())
@@ -66,6 +66,19 @@ impl Printer {
             messages: String::new(alloc),
             depth: 0,
         }
+    }
+
+    /// Adds the lexer's messages, each at the start of its token.
+    pub fn add_errors_of(&mut self, lexed: &LexedStr<'_>) -> Result<(), AllocError>
+        requires { AreInOrder (length lexed.now.tokens) lexed.now.errors }
+        ensures messages { OnOk result (string_bytes self.new.messages
+            ≡ string_bytes self.old.messages ++ lexer_told lexed.now.tokens lexed.now.errors) }
+        ensures tree { self.new.tree ≡ self.old.tree }
+    {
+        'errors: for (token, message) in lexed.errors() {
+            push_message(&mut self.messages, message, lexed.text_start(token))?;
+        }
+        Ok(())
     }
 }
 

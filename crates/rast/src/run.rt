@@ -1,9 +1,11 @@
 //! All that the program does once its file is read.
-ghost use Rattle.std.specs.Prelude.{◌≤◌};
+ghost use Rattle.std.specs.Prelude.{◌≤◌, ◌<◌, ◌++◌, IfOk, OnOk, string_bytes};
+ghost use Rattle.std.specs.Io.KnownBytes.{Appends};
+ghost use Rattle.rast.specs.Ran.{IsPrinted, Shows};
 
 use crate::parse_text::{TextFault, parse_text};
 use crate::printer::Printer;
-use ra_ap_parser::{Edition, TopEntryPoint};
+use ra_ap_parser::{Edition, NoMemory, TopEntryPoint};
 use rast_common::fault::tell;
 use std::alloc::Global;
 use std::io;
@@ -37,14 +39,33 @@ fn fault_message<R>(fault: &TextFault<R>) -> &'static str {
     }
 }
 
+/// The lines of the text's tree and of its messages.
+fn print_text(
+    alloc: Global,
+    edition: Edition,
+    entry: TopEntryPoint,
+    text: &str,
+) -> Result<Printer, TextFault<NoMemory>>
+    ensures { IfOk result (IsPrinted text.now edition) }
+{
+    let mut printer = Printer::new(alloc);
+    let parsed = parse_text(alloc, edition, entry, text, &mut printer)?;
+    let Ok(()) = printer.add_errors_of(&parsed.lexed) else {
+        return Err(TextFault::NoMemory);
+    };
+    Ok(printer)
+}
+
 /// Writes the tree's lines and then the messages'.
-fn write_lines<W: io::Write>(out: &mut W, printer: &Printer) -> io::Result<()> {
+fn write_lines<W: io::Write>(out: &mut W, printer: &Printer) -> io::Result<()>
+    ensures { OnOk result (Appends (W.contents out.old) (W.contents out.new) (string_bytes printer.now.tree ++ string_bytes printer.now.messages)) }
+{
     out.write_all(printer.tree.as_bytes())?;
     out.write_all(printer.messages.as_bytes())?;
     out.flush()
 }
 
-/// Parses the text and prints its tree and its messages.
+/// Parses the text and prints its tree and its messages, the tree's before the lexer's.
 ///
 /// Gives the program's status: 0 where there is no message, 1 where there is one, and 2 at a fault, which
 /// is told on `err`. At a fault nothing is written to `out`, unless `out` itself refused a write.
@@ -56,12 +77,13 @@ pub fn run<W: io::Write, V: io::Write>(
     out: &mut W,
     err: &mut V,
 ) -> u8
-    ensures { result ≤ 2 }
+    ensures status { result ≤ 2 }
+    ensures shown { result < 2 → Shows text.now edition result (W.contents out.old) (W.contents out.new) }
 {
-    let mut printer = Printer::new(alloc);
-    if let Err(fault) = parse_text(alloc, edition, entry, text, &mut printer) {
-        return tell(err, fault_message(&fault));
-    }
+    let printer = match print_text(alloc, edition, entry, text) {
+        Ok(printer) => printer,
+        Err(fault) => return tell(err, fault_message(&fault)),
+    };
     if write_lines(out, &printer).is_err() {
         return tell(err, "rast: cannot write\n");
     }
