@@ -109,7 +109,7 @@ impl Input {
     }
 
     /// The kind of the token at a place, or `EOF` past the last one.
-    pub(crate) fn kind(&self, index: usize) -> SyntaxKind
+    pub fn kind(&self, index: usize) -> SyntaxKind
         ensures { result ≡ kind_at self.now index }
     {
         if index < self.tokens.len() {
@@ -120,7 +120,7 @@ impl Input {
     }
 
     /// What the identifier at a place may be read as; `EOF` for any other token, and past the last one.
-    pub(crate) fn contextual_kind(&self, index: usize) -> SyntaxKind
+    pub fn contextual_kind(&self, index: usize) -> SyntaxKind
         ensures contextual { result ≡ contextual_at self.now index }
         ensures identifier { result ≢ EOF → kind_at self.now index ≡ IDENT }
     {
@@ -132,7 +132,7 @@ impl Input {
     }
 
     /// The edition of the token at a place, or the latest one past the last token.
-    pub(crate) fn edition(&self, index: usize) -> Edition
+    pub fn edition(&self, index: usize) -> Edition
         ensures { result ≡ edition_at self.now index }
     {
         if index < self.tokens.len() {
@@ -143,7 +143,7 @@ impl Input {
     }
 
     /// Whether the token at a place touches the one after it.
-    pub(crate) fn is_joint(&self, index: usize) -> bool
+    pub fn is_joint(&self, index: usize) -> bool
         ensures { result ≡ joint_at self.now index }
     {
         index < self.tokens.len() && self.tokens[index].joint

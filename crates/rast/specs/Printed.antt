@@ -1,7 +1,7 @@
 -- A tree as the program prints it.
 use Rattle.std.specs.Prelude.{ℕ, ◌+◌, ◌-◌, ◌^◌, List, [], ◌∷◌, ◌++◌, zero, suc, codes, chars, min}
-use Rattle.std.specs.Fmt.{decimal}
 use Rattle.rap_base.specs.Names.{name_of}
+use Rattle.rast_common.specs.Message.{message_line}
 use Rattle.rast_common.specs.Quote.{quoted}
 use Rattle.ra_ap_parser.specs.LexedStr.{Token, Message, start_of}
 use Rattle.ra_ap_parser.specs.StrStep.{StrStepValue, str_enter, str_exit, str_token, str_message}
@@ -29,10 +29,6 @@ depth_after depth (str_message text pos) = depth
 abbrev pub printed : ℕ → List StrStepValue → List ℕ
 printed depth [] = []
 printed depth (step ∷ steps) = line depth step ++ printed (depth_after depth step) steps
-
--- the line of a message about a place of the text
-abbrev pub message_line : ℕ → List ℕ → List ℕ
-message_line pos text = codes "error " ++ (decimal pos ++ (codes ": " ++ (text ++ codes "\n")))
 
 -- the line that a step adds to the messages
 abbrev pub told_line : StrStepValue → List ℕ

@@ -5,6 +5,9 @@ ghost use Rattle.rast.specs.Headline.{Headline, Faulted};
 use ra_ap_parser::{Edition, LexFault, LexedStr, ParseFault, StrSink, TopEntryPoint};
 use std::alloc::Global;
 
+#[cfg(test)]
+mod rows;
+
 /// Why a text was not handed out whole.
 #[derive(Debug, Drop)]
 pub enum TextFault<R> {

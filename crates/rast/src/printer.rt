@@ -1,15 +1,14 @@
 //! A sink that writes a tree down.
 ghost use Rattle.std.specs.Prelude.{◌≡◌, ◌+◌, ◌^◌, ◌-◌, ◌++◌, [], IfOk, OnOk, min, length, string_bytes, codes, chars};
-ghost use Rattle.std.specs.Fmt.{decimal};
 ghost use Rattle.rap_base.specs.Names.{name_of};
 ghost use Rattle.rast_common.specs.Quote.{quoted};
 ghost use Rattle.ra_ap_parser.specs.LexedStr.{AreInOrder};
-ghost use Rattle.rast.specs.Printed.{indent, message_line, lexer_told};
+ghost use Rattle.rast.specs.Printed.{indent, lexer_told};
 
 use ra_ap_parser::{LexedStr, NoMemory, StrSink, StrStep, SyntaxKind};
+use rast_common::message::push_message;
 use rast_common::quote::push_quoted;
 use std::alloc::{AllocError, Global};
-use std::fmt::Write as _;
 
 /// A tree's lines, indented by two spaces for each open node, and its messages, a line each.
 #[derive(Drop)]
@@ -47,14 +46,6 @@ fn push_token(
     Ok(())
 }
 
-/// Adds a message's line.
-fn push_message(lines: &mut String, message: &str, pos: usize) -> Result<(), AllocError>
-    ensures { OnOk result (string_bytes lines.new ≡ string_bytes lines.old ++ message_line pos message.now) }
-{
-    writeln!(lines, "error {pos}: {message}")?;
-    Ok(())
-}
-
 impl Printer {
     pub fn new(alloc: Global) -> Printer
         ensures tree { string_bytes result.tree ≡ [] }
@@ -76,7 +67,7 @@ impl Printer {
         ensures tree { self.new.tree ≡ self.old.tree }
     {
         'errors: for (token, message) in lexed.errors() {
-            push_message(&mut self.messages, message, lexed.text_start(token))?;
+            push_message(&mut self.messages, lexed.text_start(token), message)?;
         }
         Ok(())
     }
@@ -101,7 +92,7 @@ impl StrSink for Printer {
             }
             StrStep::Token { kind, text } => push_token(&mut self.tree, self.depth, kind, text)?,
             StrStep::Exit => self.depth = self.depth.saturating_sub(1),
-            StrStep::Error { msg, pos } => push_message(&mut self.messages, msg, pos)?,
+            StrStep::Error { msg, pos } => push_message(&mut self.messages, pos, msg)?,
         }
         Ok(())
     }

@@ -11,6 +11,9 @@ use std::alloc::Global;
 use std::io;
 use std::str::FromStr;
 
+#[cfg(test)]
+mod tests;
+
 /// An entry point as the command line names it.
 #[derive(Clone, Copy, Debug)]
 pub struct Entry(pub TopEntryPoint);

@@ -1,5 +1,6 @@
-//! What the programs share: quoted texts, and how a fault is told.
+//! What the programs share: quoted texts, messages, and how a fault is told.
 #![tactic(auto)]
 
 pub mod fault;
+pub mod message;
 pub mod quote;

@@ -1,0 +1,182 @@
+//! Texts with their trees and messages, as tables.
+//!
+//! `K(..)` is a node with its children and `K"t"` a leaf; `_` is a leaf of one space. Each message stands behind a bar,
+//! with its place.
+use super::parse_text;
+use ra_ap_parser::{Edition, NoMemory, StrSink, StrStep, SyntaxKind, TopEntryPoint};
+use std::alloc::Global;
+use std::fmt::Write as _;
+use std::process::Abort;
+use std::test::Fail;
+
+/// Writes a tree down in one line, and its messages in another.
+#[derive(Drop)]
+struct Notation {
+    tree: String,
+    messages: String,
+    begun: bool,
+}
+
+impl StrSink for Notation {
+    type Refusal = NoMemory;
+
+    ghost takes = { λ _ _ _. Unit {0} };
+
+    ghost refuses = { λ _ _ _ _. Unit {0} };
+
+    fn step(&mut self, step: StrStep<'_>) -> Result<(), NoMemory> {
+        match step {
+            StrStep::Enter { kind } => {
+                self.space()?;
+                self.begun = false;
+                write!(self.tree, "{}(", kind.name())?;
+            }
+            StrStep::Token { kind, text } => {
+                self.space()?;
+                if kind == SyntaxKind::WHITESPACE && text == " " {
+                    self.tree.push_str("_")?;
+                } else {
+                    write!(self.tree, "{}\"{text}\"", kind.name())?;
+                }
+            }
+            StrStep::Exit => {
+                self.begun = true;
+                self.tree.push_str(")")?;
+            }
+            StrStep::Error { msg, pos } => write!(self.messages, "|{pos} {msg}")?,
+        }
+        Ok(())
+    }
+}
+
+impl Notation {
+    /// Parts what comes next from what stands before it in the same node.
+    fn space(&mut self) -> Result<(), NoMemory> {
+        if self.begun {
+            self.tree.push_str(" ")?;
+        }
+        self.begun = true;
+        Ok(())
+    }
+}
+
+/// A text, its tree, and its messages.
+type Row = (&'static str, &'static str, &'static str);
+
+/// Compares each text's tree and messages with what its row says.
+fn compare(rt: &impl Abort, alloc: Global, rows: &[Row]) -> Result<(), Fail> {
+    for (text, tree, messages) in rows {
+        let mut sink = Notation {
+            tree: String::new(alloc),
+            messages: String::new(alloc),
+            begun: false,
+        };
+        let edition = Edition::Edition2024;
+        let Ok(parsed) = parse_text(alloc, edition, TopEntryPoint::Expr, text, &mut sink) else {
+            return Err(Fail::from("not parsed"));
+        };
+        assert!(rt; parsed.whole);
+        assert_eq!(rt; sink.tree.as_str(), *tree);
+        assert_eq!(rt; sink.messages.as_str(), *messages);
+    }
+    Ok(())
+}
+
+#[test]
+fn texts_without_an_operand(rt: HostRuntime) -> Result<(), Fail> {
+    compare(
+        &rt,
+        rt.alloc(),
+        &[
+            ("", "ERROR()", "|0 expected expression"),
+            (
+                "2 3",
+                r#"ERROR(LITERAL(INT_NUMBER"2") _ INT_NUMBER"3")"#,
+                "",
+            ),
+            (
+                "2 +",
+                r#"BIN_EXPR(LITERAL(INT_NUMBER"2") _ PLUS"+" ERROR())"#,
+                "|3 expected expression",
+            ),
+            (
+                "2 + ",
+                r#"BIN_EXPR(LITERAL(INT_NUMBER"2") _ PLUS"+" _ ERROR())"#,
+                "|4 expected expression",
+            ),
+            (
+                "foo(a, , b)",
+                r#"CALL_EXPR(PATH_EXPR(PATH(PATH_SEGMENT(NAME_REF(IDENT"foo")))) ARG_LIST(L_PAREN"(" PATH_EXPR(PATH(PATH_SEGMENT(NAME_REF(IDENT"a")))) COMMA"," _ ERROR(COMMA",") _ PATH_EXPR(PATH(PATH_SEGMENT(NAME_REF(IDENT"b")))) R_PAREN")"))"#,
+                "|7 expected expression",
+            ),
+        ],
+    )
+}
+
+#[test]
+fn operators(rt: HostRuntime) -> Result<(), Fail> {
+    compare(
+        &rt,
+        rt.alloc(),
+        &[
+            (
+                "a & &b",
+                r#"BIN_EXPR(PATH_EXPR(PATH(PATH_SEGMENT(NAME_REF(IDENT"a")))) _ AMP"&" _ REF_EXPR(AMP"&" PATH_EXPR(PATH(PATH_SEGMENT(NAME_REF(IDENT"b"))))))"#,
+                "",
+            ),
+            (
+                "a &&b",
+                r#"BIN_EXPR(PATH_EXPR(PATH(PATH_SEGMENT(NAME_REF(IDENT"a")))) _ AMP2"&&" PATH_EXPR(PATH(PATH_SEGMENT(NAME_REF(IDENT"b")))))"#,
+                "",
+            ),
+            (
+                "a - b - c",
+                r#"BIN_EXPR(BIN_EXPR(PATH_EXPR(PATH(PATH_SEGMENT(NAME_REF(IDENT"a")))) _ MINUS"-" _ PATH_EXPR(PATH(PATH_SEGMENT(NAME_REF(IDENT"b"))))) _ MINUS"-" _ PATH_EXPR(PATH(PATH_SEGMENT(NAME_REF(IDENT"c")))))"#,
+                "",
+            ),
+            (
+                "a = b = c",
+                r#"BIN_EXPR(PATH_EXPR(PATH(PATH_SEGMENT(NAME_REF(IDENT"a")))) _ EQ"=" _ BIN_EXPR(PATH_EXPR(PATH(PATH_SEGMENT(NAME_REF(IDENT"b")))) _ EQ"=" _ PATH_EXPR(PATH(PATH_SEGMENT(NAME_REF(IDENT"c"))))))"#,
+                "",
+            ),
+            (
+                "a = b.. + c",
+                r#"BIN_EXPR(BIN_EXPR(PATH_EXPR(PATH(PATH_SEGMENT(NAME_REF(IDENT"a")))) _ EQ"=" _ RANGE_EXPR(PATH_EXPR(PATH(PATH_SEGMENT(NAME_REF(IDENT"b")))) DOT2"..")) _ PLUS"+" _ PATH_EXPR(PATH(PATH_SEGMENT(NAME_REF(IDENT"c")))))"#,
+                "",
+            ),
+        ],
+    )
+}
+
+#[test]
+fn postfix_forms(rt: HostRuntime) -> Result<(), Fail> {
+    compare(
+        &rt,
+        rt.alloc(),
+        &[
+            (
+                "f(a,b)[0]?",
+                r#"TRY_EXPR(INDEX_EXPR(CALL_EXPR(PATH_EXPR(PATH(PATH_SEGMENT(NAME_REF(IDENT"f")))) ARG_LIST(L_PAREN"(" PATH_EXPR(PATH(PATH_SEGMENT(NAME_REF(IDENT"a")))) COMMA"," PATH_EXPR(PATH(PATH_SEGMENT(NAME_REF(IDENT"b")))) R_PAREN")")) L_BRACK"[" LITERAL(INT_NUMBER"0") R_BRACK"]") QUESTION"?")"#,
+                "",
+            ),
+            (
+                "x.f(1)",
+                r#"METHOD_CALL_EXPR(PATH_EXPR(PATH(PATH_SEGMENT(NAME_REF(IDENT"x")))) DOT"." NAME_REF(IDENT"f") ARG_LIST(L_PAREN"(" LITERAL(INT_NUMBER"1") R_PAREN")"))"#,
+                "",
+            ),
+        ],
+    )
+}
+
+#[test]
+fn trivia_at_both_ends(rt: HostRuntime) -> Result<(), Fail> {
+    compare(
+        &rt,
+        rt.alloc(),
+        &[(
+            " x ",
+            r#"PATH_EXPR(_ PATH(PATH_SEGMENT(NAME_REF(IDENT"x"))) _)"#,
+            "",
+        )],
+    )
+}
