@@ -10,6 +10,9 @@ pub mod EscapeWalks
 pub mod Fronts
 pub mod Leads
 pub mod Nesting
+pub mod OneBody
+pub mod OneRun
+pub mod OneToken
 pub mod RawStrings
 pub mod Runs
 pub mod Steps

@@ -8,13 +8,13 @@ abbrev pub Nested : ℕ → List ℕ → List ℕ → Type 0
 Nested zero cs rest = cs ≡ rest
 Nested (suc d) cs rest = (mid : List ℕ) × (Body cs (42 ∷ 47 ∷ mid)) × Nested d mid rest
 
-abbrev Opens : List ℕ → List ℕ → Type 0
+abbrev pub Opens : List ℕ → List ℕ → Type 0
 Opens xs ys = (cs : List ℕ) × (mid : List ℕ) × (xs ≡ 47 ∷ 42 ∷ cs) × Body cs (42 ∷ 47 ∷ mid) × Body mid ys
 
-abbrev Texts : List ℕ → List ℕ → Type 0
+abbrev pub Texts : List ℕ → List ℕ → Type 0
 Texts xs ys = (c : ℕ) × (cs : List ℕ) × (xs ≡ c ∷ cs) × IsText (c ∷ cs) × Body cs ys
 
-cases : {xs ys : List ℕ} → Body xs ys → (xs ≡ ys) ⊎ (Opens xs ys ⊎ Texts xs ys)
+pub cases : {xs ys : List ℕ} → Body xs ys → (xs ≡ ys) ⊎ (Opens xs ys ⊎ Texts xs ys)
 cases (empty rest) = inl refl
 cases (comment cs mid rest p q) = inr (inl (cs, mid, refl, p, q))
 cases (text c cs rest n p) = inr (inr (c, cs, refl, n, p))
@@ -22,20 +22,20 @@ cases (text c cs rest n p) = inr (inr (c, cs, refl, n, p))
 head : List ℕ → ℕ
 head xs = get_or xs 0 0
 
-at_open : (xs cs ys : List ℕ) → xs ≡ 47 ∷ 42 ∷ cs → (xs ≡ 42 ∷ 47 ∷ ys) ⊎ (Opens xs (42 ∷ 47 ∷ ys) ⊎ Texts xs (42 ∷ 47 ∷ ys)) → (mid : List ℕ) × Body cs (42 ∷ 47 ∷ mid) × Body mid (42 ∷ 47 ∷ ys)
+pub at_open : (xs cs ys : List ℕ) → xs ≡ 47 ∷ 42 ∷ cs → (xs ≡ 42 ∷ 47 ∷ ys) ⊎ (Opens xs (42 ∷ 47 ∷ ys) ⊎ Texts xs (42 ∷ 47 ∷ ys)) → (mid : List ℕ) × Body cs (42 ∷ 47 ∷ mid) × Body mid (42 ∷ 47 ∷ ys)
 at_open xs cs ys e (inl h) = absurd (omega (arith, ap (λ l. get_or l 0 0) (sym e ∙ h)))
 at_open xs cs ys e (inr (inl (ds, mid, f, p, q))) =
     let g : ds ≡ cs = cc in (mid, subst (λ (l : List ℕ). Body l (42 ∷ 47 ∷ mid)) g p, q)
 at_open xs cs ys e (inr (inr (c, ds, f, n, p))) =
     absurd (n.0 cs (sym f ∙ e))
 
-at_close : (xs cs ys : List ℕ) → xs ≡ 42 ∷ 47 ∷ cs → (xs ≡ 42 ∷ 47 ∷ ys) ⊎ (Opens xs (42 ∷ 47 ∷ ys) ⊎ Texts xs (42 ∷ 47 ∷ ys)) → cs ≡ ys
+pub at_close : (xs cs ys : List ℕ) → xs ≡ 42 ∷ 47 ∷ cs → (xs ≡ 42 ∷ 47 ∷ ys) ⊎ (Opens xs (42 ∷ 47 ∷ ys) ⊎ Texts xs (42 ∷ 47 ∷ ys)) → cs ≡ ys
 at_close xs cs ys e (inl h) = cc
 at_close xs cs ys e (inr (inl (ds, mid, f, p, q))) = absurd (omega (arith, ap (λ l. get_or l 0 0) (sym e ∙ f)))
 at_close xs cs ys e (inr (inr (c, ds, f, n, p))) =
     absurd (n.1 cs (sym f ∙ e))
 
-at_text : (xs : List ℕ) (b : ℕ) (cs ys : List ℕ) → xs ≡ b ∷ cs → IsText (b ∷ cs) → (xs ≡ 42 ∷ 47 ∷ ys) ⊎ (Opens xs (42 ∷ 47 ∷ ys) ⊎ Texts xs (42 ∷ 47 ∷ ys)) → Body cs (42 ∷ 47 ∷ ys)
+pub at_text : (xs : List ℕ) (b : ℕ) (cs ys : List ℕ) → xs ≡ b ∷ cs → IsText (b ∷ cs) → (xs ≡ 42 ∷ 47 ∷ ys) ⊎ (Opens xs (42 ∷ 47 ∷ ys) ⊎ Texts xs (42 ∷ 47 ∷ ys)) → Body cs (42 ∷ 47 ∷ ys)
 at_text xs b cs ys e m (inl h) =
     absurd (m.1 ys (sym e ∙ h))
 at_text xs b cs ys e m (inr (inl (ds, mid, f, p, q))) =

@@ -1,20 +1,20 @@
 -- The first token of a text has a token's kind, and not the end's.
-use Rattle.std.proofs.Common.{inl, inr, ◌≡◌, ◌≢◌, ℕ, Bool, true, false, List, [], ◌∷◌, MatchBool, MatchOption, Option, Some, None, ◌==◌, ◌&&◌, ◌||◌, if◌then◌else◌, ap, sym, ◌∙◌, refl, subst}
-use Rattle.std.specs.Prelude.{nat_le, nat_lt, not, unwrap_or, bytes_eq, codes, encode_utf8_all}
+use Rattle.std.proofs.Common.{inl, inr, ◌≡◌, ◌≢◌, ℕ, Bool, true, false, List, [], ◌∷◌, MatchBool, MatchOption, Option, Some, None, ◌==◌, ◌&&◌, if◌then◌else◌, ap, sym, ◌∙◌, refl, subst}
+use Rattle.std.specs.Prelude.{nat_lt, not, unwrap_or, bytes_eq, codes, encode_utf8_all}
 use Rattle.std.specs.List.{list_all}
 use Rattle.std.specs.Str.{byte}
 use Rattle.std.proofs.lemmas.Bool.{and_parts, cases_Bool, cond-true, cond-false}
 use Rattle.rap_lexer.specs.Class.{is_in}
-use Rattle.rap_lexer.specs.Comment.{IsLineComment, IsBlockComment, line_kind, block_kind}
-use Rattle.rap_lexer.specs.First.{First, IsSlash, IsHash, IsSign, IsSingle, is_reserved_hash, single_kind}
+use Rattle.rap_lexer.specs.Comment.{line_kind, block_kind}
+use Rattle.rap_lexer.specs.First.{First, IsSlash, IsHash, IsSign, is_reserved_hash, single_kind}
 use Rattle.rap_base.specs.Keyword.{from_keyword, kind_of_word, reserved}
-use Rattle.rap_lexer.specs.Lexeme.{plain, told, literal}
+use Rattle.rap_lexer.specs.Lexeme.{plain, told}
 use Rattle.rap_lexer.specs.Number.{IsExponent, IsFraction, IsPastDigits, IsBased, IsNumber, base_of, takes_dot, starts_exponent, has_digit}
 use Rattle.rap_lexer.specs.Quoted.{StringRun, CharacterEnds, IsLiteral, IsLifetime, IsCommonLifetime, IsTick, IsRawString, is_raw_lifetime, starts_lifetime}
 use Rattle.rap_lexer.specs.Run.{next_is, next_in, tail, run_of, after_run}
 use Rattle.rap_base.specs.TokenKind.{EOF, IDENT}
 use Rattle.rap_base.specs.TokenTests.{IsTokenKind, is_token}
-use Rattle.rap_lexer.specs.Word.{IsInvalidWord, IsWord, IsPastR, IsPastB, IsPastC, IsWordLike, ends_prefix, starts_raw_ident, starts_raw, starts_prefixed_raw, word_kind}
+use Rattle.rap_lexer.specs.Word.{IsWord, IsPastR, IsPastB, IsPastC, IsWordLike, ends_prefix, starts_raw_ident, starts_raw, starts_prefixed_raw, word_kind}
 use Rattle.rap_base.specs.declared.edition.Edition.{Edition}
 use Rattle.rap_base.specs.declared.edition.Edition.TheVariants.{Edition2015, Edition2018, Edition2021, Edition2024}
 use Rattle.rap_lexer.specs.declared.escape.Mode.{Mode}

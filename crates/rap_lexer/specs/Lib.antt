@@ -5,6 +5,7 @@ pub mod EscapeWalk
 pub mod First
 pub mod Lexeme
 pub mod Number
+pub mod OneToken
 pub mod Quoted
 pub mod Run
 pub mod Word

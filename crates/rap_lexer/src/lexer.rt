@@ -3,8 +3,8 @@
 ghost use Rattle.std.specs.Prelude.{◌≡◌, ◌<◌, length, chars, drop, IsCharBoundary};
 ghost use Rattle.rap_base.specs.TokenTests.{IsTokenKind};
 ghost use Rattle.rap_lexer.specs.First.{single_kind, is_reserved_hash, IsSlash, IsHash, IsSign, First};
+ghost use Rattle.rap_lexer.specs.OneToken.{IsOnlyToken};
 
-use rap_base::edition::Edition;
 use crate::escape::Mode;
 use crate::lexer::comment::{block_comment, line_comment};
 use crate::lexer::cursor::Cursor;
@@ -12,8 +12,9 @@ use crate::lexer::number::number;
 use crate::lexer::quoted::{string, tick};
 use crate::lexer::run::{Class, eat_run, is_in};
 use crate::lexer::word::{invalid_word, word_like};
-use rap_base::syntax_kind::SyntaxKind;
 pub use lexeme::{Lexeme, Remark};
+use rap_base::edition::Edition;
+use rap_base::syntax_kind::SyntaxKind;
 
 mod comment;
 pub(crate) mod cursor;
@@ -28,6 +29,7 @@ mod word;
 pub fn first_token(edition: Edition, text: &str) -> (Lexeme, usize)
     requires { 0 < length text.now }
     ensures token { First edition (chars text.now) result.0 (chars (drop result.1 text.now)) }
+    ensures only { IsOnlyToken edition text.now result.0 result.1 }
     ensures kind { IsTokenKind result.0.kind }
     ensures positive { 0 < result.1 }
     ensures border { IsCharBoundary text.now result.1 }

@@ -3,13 +3,13 @@ ghost use Rattle.std.specs.Prelude.{◌≡◌, ◌∷◌, ◌++◌, ℕ, List, c
 ghost use Rattle.std.specs.Str.{byte};
 ghost use Rattle.rap_lexer.specs.Word.{word_kind, prefix_remark, ends_prefix, starts_raw, starts_raw_ident, starts_prefixed_raw, IsInvalidWord, IsWordBefore, IsWord, IsPastR, IsPastB, IsPastC, IsWordLike};
 
-use rap_base::edition::Edition;
 use crate::escape::Mode;
 use crate::lexer::cursor::Cursor;
 use crate::lexer::lexeme::{Lexeme, Remark};
 use crate::lexer::quoted::{character, string};
 use crate::lexer::raw_string::raw_string;
 use crate::lexer::run::{Class, eat_run, is_next_in};
+use rap_base::edition::Edition;
 use rap_base::syntax_kind::SyntaxKind;
 
 /// Takes what begins with the start of an identifier, `first`, which is taken. `text` begins there.

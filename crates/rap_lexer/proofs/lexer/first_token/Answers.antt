@@ -1,5 +1,6 @@
 use Rattle.std.proofs.lemmas.Str.{encodes-chars}
 use Rattle.rap_lexer.proofs.Fronts.{within, positive, after_front, border}
+use Rattle.rap_lexer.proofs.OneToken.{only_token}
 use Rattle.rap_lexer.proofs.TokenEnds.{front_of, has_character}
 use Rattle.rap_lexer.proofs.TokenKinds.{token_kind}
 use Rattle.rap_lexer.proofs.lexer.first_token.Goals as goal
@@ -30,3 +31,9 @@ returns-clause-border c =
 
 pub returns-clause-kind : goal.returns-clause-kind
 returns-clause-kind c = token_kind c.args.edition c.new-cursor.result c.take_token-token.result c.take_token-token.new.cursor c.take_token-token.ensures
+
+pub returns-clause-only : goal.returns-clause-only
+returns-clause-only c =
+    let t = rw c.new-cursor.ensures at c.take_token-token.ensures in
+    let f = front_of c.args.edition _ _ _ t in
+    only_token _ _ _ _ c.utf8.text (border _ _ f.front _ c.utf8.text f.join c.as_str.ensures.text c.as_str.utf8) (rw (after_front _ _ f.front _ c.utf8.text f.join c.as_str.ensures.text, c.as_str.ensures.same) t)
