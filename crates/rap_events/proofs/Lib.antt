@@ -1,12 +1,15 @@
 pub mod Backing
 pub mod Calls
 pub mod Composites
+pub mod Ends
 pub mod Finished
 pub mod HistoryLemmas
+pub mod Intervals
 pub mod MachineLemmas
 pub mod Marks
 pub mod Records
 pub mod Skips
+pub mod TreeExamples
 pub mod Truth
 pub mod Unwinding
 pub mod Weight

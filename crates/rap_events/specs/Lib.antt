@@ -4,6 +4,7 @@ pub mod Fit
 pub mod Forest
 pub mod History
 pub mod Input
+pub mod Interval
 pub mod Machine
 pub mod Output
 pub mod Power

@@ -62,6 +62,7 @@ impl<'t> Parser<'t> {
     ghost use Rattle.rap_events.specs.Cover.{stands, covers};
     ghost use Rattle.rap_events.specs.Fit.{AllFitIn};
     ghost use Rattle.rap_events.specs.Forest.{flat, used, marks};
+    ghost use Rattle.rap_events.specs.Interval.{tree_steps};
     ghost use Rattle.rap_events.specs.Machine.{floor};
     ghost use Rattle.rap_events.specs.Composite.{width};
     ghost use Rattle.rap_events.specs.Record.{kind_at, contextual_at, edition_at};
@@ -316,10 +317,12 @@ impl<'t> Parser<'t> {
         Ok(())
     }
 
-    /// The output that was recorded. Each marker must have been finished or forgotten.
+    /// The output that was recorded: the tree of the history's intervals. Each marker must have been finished or
+    /// forgotten.
     pub fn process(self, alloc: Global) -> Result<Output, NoMemory>
         requires { (state self).below ≡ floor }
         ensures forest { IfOk result (λ output. output ≡ (state self.entry).forest) }
+        ensures tree { IfOk result (λ output. flat output ≡ tree_steps (calls self.entry)) }
         ensures few { IfOk result (λ output. length (flat output) ≤ (state self.entry).count) }
         ensures covers { IfOk result (λ output. covers (state self.entry).input output ≡ true) }
         ensures used { IfOk result (λ output. used output + (state self.entry).left ≡ length (state self.entry).input) }

@@ -7,6 +7,7 @@ use Rattle.rap_events.specs.Machine.{run, initial}
 use Rattle.rap_events.specs.State.{state, calls}
 use Rattle.rap_events.specs.declared.event.Event.{Event}
 use Rattle.rap_events.proofs.Finished.{covered, used_all}
+use Rattle.rap_events.proofs.Intervals.{forest_is_tree}
 use Rattle.rap_events.proofs.Marks.{no_messages}
 use Rattle.rap_events.proofs.Weight.{few_steps}
 use Rattle.rap_events.proofs.parser.Parser.process.Goals as goal
@@ -20,6 +21,10 @@ unfolding state calls
 returns-clause-forest c =
     let texts : List (List ℕ) = map string_bytes c.args.self.messages.items in
     c.in_ok-output.ensures ∙ ap (λ (es : List Event). (run initial (history es texts)).forest) c.deref.ensures.value
+
+pub returns-clause-tree : goal.returns-clause-tree
+unfolding state calls
+returns-clause-tree c = let s = c.args.self in rw (returns-clause-forest c) (forest_is_tree (calls s) s.sound c.requires)
 
 pub returns-clause-few : goal.returns-clause-few
 unfolding state calls

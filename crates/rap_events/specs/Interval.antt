@@ -1,0 +1,82 @@
+-- The tree of a history: its nodes are intervals of call numbers.
+use Rattle.std.specs.Prelude.{ℕ, ◌+◌, List, [], ◌∷◌, ◌++◌, drop, ◌==◌, if◌then◌else◌}
+use Rattle.rap_events.specs.StepValue.{StepValue, enter, exit, token, message}
+use Rattle.rap_events.specs.History.{Call}
+use Rattle.rap_events.specs.History as call
+
+-- a node: its kind, the number of the call where it begins, and the number of the call that finished it
+pub record Interval : Type 0 where
+  pub kind : ℕ
+  pub begin : ℕ
+  pub end : ℕ
+
+-- where each open marker begins, the newest first, and the nodes, the last finished first
+pub record Marked : Type 0 where
+  pub markers : List ℕ
+  pub nodes : List Interval
+
+abbrev pub newest : List ℕ → ℕ
+newest [] = 0
+newest (begin ∷ bs) = begin
+
+abbrev pub begin_of_last : List Interval → ℕ
+begin_of_last [] = 0
+begin_of_last (n ∷ ns) = n.begin
+
+-- the last node begins at this number
+abbrev pub with_last_from : ℕ → List Interval → List Interval
+with_last_from begin [] = []
+with_last_from begin (n ∷ ns) = record n { begin = begin } ∷ ns
+
+-- What the call of a number does. A marker begins at the call that starts it, or where the node begins that it
+-- precedes. A finish makes the newest marker a node. An extended node begins where the newest marker begins, and that
+-- marker is gone. An abandoned marker is gone.
+abbrev pub marked : ℕ → Call → Marked → Marked
+marked number call.start m = record { markers = number ∷ m.markers; nodes = m.nodes }
+marked number call.precede m = record { markers = begin_of_last m.nodes ∷ m.markers; nodes = m.nodes }
+marked number (call.finish kind) m = record { markers = drop 1 m.markers; nodes = record { kind = kind; begin = newest m.markers; end = number } ∷ m.nodes }
+marked number call.extend m = record { markers = drop 1 m.markers; nodes = with_last_from (newest m.markers) m.nodes }
+marked number call.abandon m = record { markers = drop 1 m.markers; nodes = m.nodes }
+marked number (call.token kind width) m = m
+marked number (call.message bytes) m = m
+
+abbrev pub marked_from : ℕ → List Call → Marked → Marked
+marked_from number [] m = m
+marked_from number (x ∷ xs) m = marked_from (number + 1) xs (marked number x m)
+
+-- before the first call
+abbrev pub unmarked : Marked
+unmarked = record { markers = []; nodes = [] }
+
+-- the nodes of a history, the last finished first
+abbrev pub nodes_of : List Call → List Interval
+nodes_of xs = (marked_from 0 xs unmarked).nodes
+
+-- the nodes that begin at a number, the last finished outside
+abbrev pub begins : List Interval → ℕ → List StepValue
+begins [] number = []
+begins (n ∷ ns) number = if n.begin == number then enter n.kind ∷ begins ns number else begins ns number
+
+-- the nodes that end at a number
+abbrev pub ends : List Interval → ℕ → List StepValue
+ends [] number = []
+ends (n ∷ ns) number = if n.end == number then exit ∷ ends ns number else ends ns number
+
+-- the leaf or the message that a call is
+abbrev pub point : Call → List StepValue
+point call.start = []
+point call.precede = []
+point (call.finish kind) = []
+point call.extend = []
+point call.abandon = []
+point (call.token kind width) = token kind width ∷ []
+point (call.message bytes) = message bytes ∷ []
+
+-- from a number on, at each number: the nodes that begin there, its leaf or message, and the nodes that end there
+abbrev pub steps_between : List Interval → ℕ → List Call → List StepValue
+steps_between ns number [] = []
+steps_between ns number (x ∷ xs) = begins ns number ++ (point x ++ (ends ns number ++ steps_between ns (number + 1) xs))
+
+-- the steps of the tree in which these intervals and points are nested
+abbrev pub tree_steps : List Call → List StepValue
+tree_steps xs = steps_between (nodes_of xs) 0 xs
