@@ -84,7 +84,8 @@ impl<'a> Cursor<'a> {
 
     /// The length of what is left, in bytes.
     pub fn len(&self) -> usize
-        ensures { length self.now < 2 ^ 63 }
+        ensures bytes { result ≡ length (encode_utf8_all self.now) }
+        ensures room { length self.now < 2 ^ 63 }
     {
         self.rest.len()
     }
