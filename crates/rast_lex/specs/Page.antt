@@ -1,0 +1,56 @@
+-- What is listed of a text, and whether a message is among it.
+use Rattle.std.specs.Prelude.{◌≡◌, ◌≢◌, ◌⊎◌, ◌↔◌, IsTrue, IsFalse, ℕ, List, [], ◌++◌, Option, None, Some, length, codes, string_bytes}
+use Rattle.std.specs.Io.KnownBytes.{Appends}
+use Rattle.rap_base.specs.declared.edition.Edition.{Edition}
+use Rattle.ra_ap_parser.specs.Input.{records}
+use Rattle.ra_ap_parser.specs.LexedStr.{Lexed, IsLexing}
+use Rattle.ra_ap_parser.specs.SingleToken.{IsOneToken, IsNotOneToken}
+use Rattle.rast_lex.specs.Listed.{lines, token_line, message_lines, record_line, single_line}
+use Rattle.rast_lex.specs.declared.listing.Page.{Page}
+use Rattle.rast_lex.specs.declared.run.Listing.{Listing}
+use Rattle.rast_lex.specs.declared.run.Listing.TheVariants.{Tokens, Input, Single}
+
+-- the text's tokens, a line each, and then the lexer's messages
+pub record ListsTokens (text : List ℕ) (edition : Edition) (page : Page) : Type 0 where
+  pub lexed : Lexed
+  pub lexing : IsLexing text edition lexed
+  pub is : string_bytes page.lines ≡ lines (token_line lexed.tokens) (length lexed.tokens) ++ message_lines lexed.errors
+  pub told : IsTrue page.has_message ↔ (lexed.errors ≢ [])
+
+-- what the parser reads of the text, a line for each token that is no trivia
+pub record ListsInput (text : List ℕ) (edition : Edition) (page : Page) : Type 0 where
+  pub lexed : Lexed
+  pub lexing : IsLexing text edition lexed
+  pub is : string_bytes page.lines ≡ lines (record_line (records lexed.tokens edition)) (length (records lexed.tokens edition))
+  pub quiet : IsFalse page.has_message
+
+-- the text is no one token, and the line says so
+pub record ListsNone (text : List ℕ) (edition : Edition) (page : Page) : Type 0 where
+  pub none : IsNotOneToken edition text
+  pub is : string_bytes page.lines ≡ codes "none\n"
+  pub quiet : IsFalse page.has_message
+
+-- the text is one token, and the line has its kind and its last message
+pub record ListsOne (text : List ℕ) (edition : Edition) (page : Page) : Type 0 where
+  pub kind : ℕ
+  pub message : Option (List ℕ)
+  pub one : IsOneToken edition text kind message
+  pub is : string_bytes page.lines ≡ single_line kind message
+  pub told : IsTrue page.has_message ↔ (message ≢ None)
+
+abbrev pub ListsSingle : List ℕ → Edition → Page → Type 0
+ListsSingle text edition page = ListsNone text edition page ⊎ ListsOne text edition page
+
+-- what is asked is listed
+abbrev pub Lists : List ℕ → Edition → Listing → Page → Type 0
+Lists text edition Tokens page = ListsTokens text edition page
+Lists text edition Input page = ListsInput text edition page
+Lists text edition Single page = ListsSingle text edition page
+
+-- It was written, and the status is 0 where no message is among it, and else 1.
+pub record Shows (text : List ℕ) (edition : Edition) (listing : Listing) (status : ℕ) (before after : Option (List ℕ)) : Type 0 where
+  pub page : Page
+  pub lists : Lists text edition listing page
+  pub written : Appends before after (string_bytes page.lines)
+  pub quiet : status ≡ 0 → IsFalse page.has_message
+  pub loud : status ≡ 1 → IsTrue page.has_message

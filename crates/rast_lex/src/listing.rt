@@ -1,0 +1,138 @@
+//! What is listed of a text.
+ghost use Rattle.std.specs.Prelude.{◌≡◌, ◌<◌, ◌++◌, IfOk, OnOk, length, string_bytes};
+ghost use Rattle.rast_lex.specs.Listed.{lines, places, token_line, message_lines, record_line};
+ghost use Rattle.rast_lex.specs.Page.{ListsTokens, ListsInput, ListsSingle};
+
+use ra_ap_parser::{Edition, Input, LexFault, LexedStr};
+use rast_common::message::push_message;
+use rast_common::quote::push_quoted;
+use std::alloc::{AllocError, Global};
+use std::fmt::Write as _;
+
+/// The lines that are listed, and whether a message is among them.
+#[derive(Drop)]
+pub struct Page {
+    pub lines: String,
+    pub has_message: bool,
+}
+
+/// Adds two places with two dots between them.
+fn push_places(lines: &mut String, start: usize, end: usize) -> Result<(), AllocError>
+    ensures { OnOk result (string_bytes lines.new ≡ string_bytes lines.old ++ places start end) }
+{
+    write!(lines, "{start}..{end}")?;
+    Ok(())
+}
+
+/// Adds the line of a token.
+fn push_token(lines: &mut String, lexed: &LexedStr<'_>, i: usize) -> Result<(), AllocError>
+    requires { i < length lexed.now.tokens }
+    ensures { OnOk result (string_bytes lines.new ≡ string_bytes lines.old ++ token_line lexed.now.tokens i) }
+{
+    let range = lexed.text_range(i);
+    lines.push_str(lexed.kind(i).name())?;
+    lines.push_str(" ")?;
+    push_places(lines, range.start, range.end)?;
+    lines.push_str(" ")?;
+    push_quoted(lines, lexed.text(i))?;
+    lines.push_str("\n")?;
+    Ok(())
+}
+
+/// Adds the lines of all tokens.
+fn push_tokens(page: &mut String, lexed: &LexedStr<'_>) -> Result<(), AllocError>
+    ensures { OnOk result (string_bytes page.new ≡ string_bytes page.old ++ lines (token_line lexed.now.tokens) (length lexed.now.tokens)) }
+{
+    'tokens: for i in 0..lexed.len() {
+        push_token(page, lexed, i)?;
+    }
+    Ok(())
+}
+
+/// Adds the lines of the lexer's messages.
+fn push_messages(lines: &mut String, lexed: &LexedStr<'_>) -> Result<(), AllocError>
+    ensures { OnOk result (string_bytes lines.new ≡ string_bytes lines.old ++ message_lines lexed.now.errors) }
+{
+    'errors: for (token, message) in lexed.errors() {
+        push_message(lines, token, message)?;
+    }
+    Ok(())
+}
+
+/// Lists the text's tokens with the places of their first bytes and of those after them, and then the lexer's
+/// messages with the numbers of their tokens.
+pub fn list_tokens(alloc: Global, edition: Edition, text: &str) -> Result<Page, LexFault>
+    ensures { IfOk result (ListsTokens text.now edition) }
+{
+    let lexed = LexedStr::new(alloc, edition, text)?;
+    let mut lines = String::new(alloc);
+    push_tokens(&mut lines, &lexed)?;
+    push_messages(&mut lines, &lexed)?;
+    let has_message = lexed.errors().len() > 0;
+    Ok(Page { lines, has_message })
+}
+
+/// Adds the line of a token as the parser reads it.
+fn push_record(lines: &mut String, input: &Input, i: usize) -> Result<(), AllocError>
+    ensures { OnOk result (string_bytes lines.new ≡ string_bytes lines.old ++ record_line input.now i) }
+{
+    lines.push_str(input.kind(i).name())?;
+    lines.push_str(" ")?;
+    lines.push_str(input.contextual_kind(i).name())?;
+    lines.push_str(if input.is_joint(i) {
+        " true\n"
+    } else {
+        " false\n"
+    })?;
+    Ok(())
+}
+
+/// Adds the lines of all that the parser reads.
+fn push_records(page: &mut String, input: &Input) -> Result<(), AllocError>
+    ensures { OnOk result (string_bytes page.new ≡ string_bytes page.old ++ lines (record_line input.now) (length input.now)) }
+{
+    'records: for i in 0..input.len() {
+        push_record(page, input, i)?;
+    }
+    Ok(())
+}
+
+/// Lists what the parser reads of the text: for each token that is no trivia its kind, the keyword that an
+/// identifier may be read as, and whether it touches the next token.
+pub fn list_input(alloc: Global, edition: Edition, text: &str) -> Result<Page, LexFault>
+    ensures { IfOk result (ListsInput text.now edition) }
+{
+    let lexed = LexedStr::new(alloc, edition, text)?;
+    let Ok(input) = lexed.to_input(alloc, edition) else {
+        return Err(LexFault::NoMemory);
+    };
+    let mut lines = String::new(alloc);
+    push_records(&mut lines, &input)?;
+    Ok(Page {
+        lines,
+        has_message: false,
+    })
+}
+
+/// Lists the kind of a text that is one token, with its last message, or that it is none.
+pub fn list_single(alloc: Global, edition: Edition, text: &str) -> Result<Page, LexFault>
+    ensures { IfOk result (ListsSingle text.now edition) }
+{
+    let single = LexedStr::single_token(alloc, edition, text)?;
+    let mut lines = String::new(alloc);
+    let Some((kind, message)) = single else {
+        lines.push_str("none\n")?;
+        return Ok(Page {
+            lines,
+            has_message: false,
+        });
+    };
+    lines.push_str(kind.name())?;
+    let has_message = message.is_some();
+    if let Some(message) = message {
+        lines.push_str(" error ")?;
+        lines.push_str(message.as_str())?;
+    }
+    lines.push_str("\n")?;
+    Ok(Page { lines, has_message })
+}

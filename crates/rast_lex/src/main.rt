@@ -1,0 +1,61 @@
+//! `rast_lex EDITION FILE [input|single|script]` prints a file's tokens, what the parser reads of them, the one
+//! token that it is, or the parts of a script.
+#![tactic(auto)]
+
+mod listing;
+mod run;
+
+use ra_ap_parser::Edition;
+use rast_common::fault::tell;
+use run::{Listing, run};
+use std::process::ExitCode;
+use std::{env, fs, io};
+
+const USAGE: &str = "usage: rast_lex EDITION FILE [input|single|script]\n";
+
+const UNREADABLE: &str = "rast_lex: cannot read the file\n";
+
+/// Tells a fault, and gives its status.
+fn fail<V: io::Write>(err: &mut V, message: &str) -> ExitCode {
+    ExitCode::from(tell(err, message))
+}
+
+fn main(rt: HostRuntime) -> ExitCode {
+    let mut err = rt.stderr();
+    let Ok(mut args) = env::args(&rt) else {
+        return fail(&mut err, USAGE);
+    };
+    let _program = args.next();
+    let Some(edition) = args.next() else {
+        return fail(&mut err, USAGE);
+    };
+    let Some(file) = args.next() else {
+        return fail(&mut err, USAGE);
+    };
+    let listing = match args.next() {
+        None => Ok(Listing::Tokens),
+        Some(word) => word.as_str().parse::<Listing>(),
+    };
+    let Ok(listing) = listing else {
+        return fail(&mut err, USAGE);
+    };
+    if args.next().is_some() {
+        return fail(&mut err, USAGE);
+    }
+    let Ok(edition) = edition.as_str().parse::<Edition>() else {
+        return fail(&mut err, USAGE);
+    };
+    let Ok(text) = fs::read_to_string(&rt, file.as_str()) else {
+        return fail(&mut err, UNREADABLE);
+    };
+    let mut out = rt.stdout();
+    let status = run(
+        rt.alloc(),
+        edition,
+        listing,
+        text.as_str(),
+        &mut out,
+        &mut err,
+    );
+    ExitCode::from(status)
+}

@@ -1,0 +1,90 @@
+//! All that the program does once its file is read.
+ghost use Rattle.std.specs.Prelude.{◌≤◌, ◌<◌, ◌≡◌, ◌++◌, IfOk, OnOk, string_bytes};
+ghost use Rattle.std.specs.Io.KnownBytes.{Appends};
+ghost use Rattle.rast_lex.specs.Page.{Lists, Shows};
+
+use crate::listing::{Page, list_input, list_single, list_tokens};
+use ra_ap_parser::{Edition, LexFault};
+use rast_common::fault::tell;
+use std::alloc::Global;
+use std::io;
+use std::str::FromStr;
+
+/// What is to be listed.
+#[derive(Clone, Copy, Debug)]
+pub enum Listing {
+    /// The tokens and the lexer's messages.
+    Tokens,
+    /// What the parser reads of the tokens.
+    Input,
+    /// The one token that the text is.
+    Single,
+}
+
+/// The word names nothing that is listed.
+#[derive(Clone, Copy, Debug)]
+pub struct InvalidListing;
+
+impl FromStr for Listing {
+    type Err = InvalidListing;
+
+    fn from_str(s: &str) -> Result<Listing, InvalidListing> {
+        match s {
+            "input" => Ok(Listing::Input),
+            "single" => Ok(Listing::Single),
+            _ => Err(InvalidListing),
+        }
+    }
+}
+
+/// Lists what is asked.
+fn list(alloc: Global, edition: Edition, listing: Listing, text: &str) -> Result<Page, LexFault>
+    ensures { IfOk result (Lists text.now edition listing) }
+{
+    match listing {
+        Listing::Tokens => list_tokens(alloc, edition, text),
+        Listing::Input => list_input(alloc, edition, text),
+        Listing::Single => list_single(alloc, edition, text),
+    }
+}
+
+/// What a fault is called on the error stream.
+fn fault_message(fault: &LexFault) -> &'static str {
+    match fault {
+        LexFault::TextTooLong => "rast_lex: text too long\n",
+        LexFault::NoMemory => "rast_lex: no memory\n",
+    }
+}
+
+/// Writes the lines.
+fn write_lines<W: io::Write>(out: &mut W, lines: &str) -> io::Result<()>
+    ensures { OnOk result (Appends (W.contents out.old) (W.contents out.new) lines.now) }
+{
+    out.write_all(lines.as_bytes())?;
+    out.flush()
+}
+
+/// Lists what is asked of the text.
+///
+/// Gives the program's status: 0 where no message is listed, 1 where there is one, and 2 at a fault, which is
+/// told on `err`. At a fault nothing is written to `out`, unless `out` itself refused a write.
+pub fn run<W: io::Write, V: io::Write>(
+    alloc: Global,
+    edition: Edition,
+    listing: Listing,
+    text: &str,
+    out: &mut W,
+    err: &mut V,
+) -> u8
+    ensures status { result ≤ 2 }
+    ensures shown { result < 2 → Shows text.now edition listing result (W.contents out.old) (W.contents out.new) }
+{
+    let page = match list(alloc, edition, listing, text) {
+        Ok(page) => page,
+        Err(fault) => return tell(err, fault_message(&fault)),
+    };
+    let Ok(()) = write_lines(out, page.lines.as_str()) else {
+        return tell(err, "rast_lex: cannot write\n");
+    };
+    if page.has_message { 1 } else { 0 }
+}
