@@ -57,10 +57,10 @@ fn fault_message(fault: &LexFault) -> &'static str {
 }
 
 /// Writes the lines.
-fn write_lines<W: io::Write>(out: &mut W, lines: &str) -> io::Result<()>
-    ensures { OnOk result (Appends (W.contents out.old) (W.contents out.new) lines.now) }
+fn write_lines<W: io::Write>(out: &mut W, page: &Page) -> io::Result<()>
+    ensures { OnOk result (Appends (W.contents out.old) (W.contents out.new) (string_bytes page.now.lines)) }
 {
-    out.write_all(lines.as_bytes())?;
+    out.write_all(page.lines.as_bytes())?;
     out.flush()
 }
 
@@ -83,7 +83,7 @@ pub fn run<W: io::Write, V: io::Write>(
         Ok(page) => page,
         Err(fault) => return tell(err, fault_message(&fault)),
     };
-    let Ok(()) = write_lines(out, page.lines.as_str()) else {
+    let Ok(()) = write_lines(out, &page) else {
         return tell(err, "rast_lex: cannot write\n");
     };
     if page.has_message { 1 } else { 0 }

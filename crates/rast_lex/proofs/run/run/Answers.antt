@@ -1,4 +1,4 @@
-use Rattle.std.proofs.Common.{◌≡◌, arith}
+use Rattle.std.proofs.Common.{◌≡◌}
 use Rattle.rast_lex.proofs.run.run.Goals as goal
 
 pub returns-then-page-clause-shown : goal.returns-then-page-clause-shown
@@ -6,7 +6,7 @@ returns-then-page-clause-shown g c = λ _. record {
   page = c.in-Ok.page;
   lists = c.in-Ok.ensures;
   written = c.in-Ok-write_lines.ensures;
-  quiet = λ e. omega (arith, e);
+  quiet = λ e. cc e;
   loud = λ _. c.if-page.true;
 }
 
@@ -16,5 +16,5 @@ returns-clause-shown g c = λ _. record {
   lists = c.in-Ok.ensures;
   written = c.in-Ok-write_lines.ensures;
   quiet = λ _. c.if-page.false;
-  loud = λ e. omega (arith, e);
+  loud = λ e. cc e;
 }
