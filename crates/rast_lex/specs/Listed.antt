@@ -34,7 +34,7 @@ truth false = codes "false"
 abbrev pub record_line : List Record → ℕ → List ℕ
 record_line rs i = name_of (kind_at rs i) ++ (codes " " ++ (name_of (contextual_at rs i) ++ (codes " " ++ (truth (joint_at rs i) ++ codes "\n"))))
 
--- the line of a text that is one token: its kind, and its last message, if it has one
+-- the line of a text that is one token: its kind, and its last message, or a dash where it has none
 abbrev pub single_line : ℕ → Option (List ℕ) → List ℕ
-single_line kind None = name_of kind ++ codes "\n"
+single_line kind None = name_of kind ++ codes " -\n"
 single_line kind (Some message) = name_of kind ++ (codes " error " ++ (message ++ codes "\n"))

@@ -114,7 +114,7 @@ pub fn list_input(alloc: Global, edition: Edition, text: &str) -> Result<Page, L
     })
 }
 
-/// Lists the kind of a text that is one token, with its last message, or that it is none.
+/// Lists the kind of a text that is one token, with its last message or a dash, or that it is none.
 pub fn list_single(alloc: Global, edition: Edition, text: &str) -> Result<Page, LexFault>
     ensures { IfOk result (ListsSingle text.now edition) }
 {
@@ -129,10 +129,9 @@ pub fn list_single(alloc: Global, edition: Edition, text: &str) -> Result<Page, 
     };
     lines.push_str(kind.name())?;
     let has_message = message.is_some();
-    if let Some(message) = message {
-        lines.push_str(" error ")?;
-        lines.push_str(message.as_str())?;
+    match message {
+        Some(message) => write!(lines, " error {message}\n")?,
+        None => lines.push_str(" -\n")?,
     }
-    lines.push_str("\n")?;
     Ok(Page { lines, has_message })
 }
