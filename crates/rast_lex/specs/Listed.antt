@@ -4,6 +4,8 @@ use Rattle.std.specs.Fmt.{decimal}
 use Rattle.std.specs.declared.ops.Range.{Range}
 use Rattle.rap_base.specs.Names.{name_of}
 use Rattle.rap_events.specs.Record.{Record, kind_at, contextual_at, joint_at}
+use Rattle.rap_script.specs.Refusal.{Refusal}
+use Rattle.rap_script.specs.Script.{Script}
 use Rattle.ra_ap_parser.specs.LexedStr.{Token, Message, token_at, start_of}
 use Rattle.rast_common.specs.Message.{message_line}
 use Rattle.rast_common.specs.Quote.{quoted}
@@ -38,3 +40,31 @@ record_line rs i = name_of (kind_at rs i) ++ (codes " " ++ (name_of (contextual_
 abbrev pub single_line : ℕ → Option (List ℕ) → List ℕ
 single_line kind None = name_of kind ++ codes " -\n"
 single_line kind (Some message) = name_of kind ++ (codes " error " ++ (message ++ codes "\n"))
+
+-- the line of a script's part: where it stands, if there is one
+abbrev pub part_line : List ℕ → Option (Range ℕ) → List ℕ
+part_line name None = name ++ codes " none\n"
+part_line name (Some r) = name ++ (codes " " ++ (places r.start r.end ++ codes "\n"))
+
+-- the lines of a text that is accepted as a script source: where its parts stand
+abbrev pub script_lines : Script → List ℕ
+script_lines s =
+    codes "accepted\n"
+    ++ (part_line (codes "shebang") s.shebang
+    ++ (part_line (codes "open") s.opening
+    ++ (part_line (codes "info") s.info
+    ++ (part_line (codes "frontmatter") s.frontmatter
+    ++ (part_line (codes "close") s.close
+    ++ part_line (codes "content") (Some s.content))))))
+
+-- spans, each behind a space
+abbrev pub shown_spans : List (Range ℕ) → List ℕ
+shown_spans [] = []
+shown_spans (r ∷ rs) = codes " " ++ (places r.start r.end ++ shown_spans rs)
+
+-- the lines of a text that is refused: the message, the span that it speaks of, and those to show beside it
+abbrev pub refusal_lines : Refusal → List ℕ
+refusal_lines e =
+    codes "refused " ++ (e.message
+    ++ (codes "\nprimary " ++ (places e.primary.start e.primary.end
+    ++ (codes "\nvisible" ++ (shown_spans e.visible ++ codes "\n")))))

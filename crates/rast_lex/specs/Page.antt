@@ -2,13 +2,15 @@
 use Rattle.std.specs.Prelude.{◌≡◌, ◌≢◌, ◌⊎◌, ◌↔◌, IsTrue, IsFalse, ℕ, List, [], ◌++◌, Option, None, Some, length, codes, string_bytes}
 use Rattle.std.specs.Io.KnownBytes.{Appends}
 use Rattle.rap_base.specs.declared.edition.Edition.{Edition}
+use Rattle.rap_script.specs.Refusal.{Refusal, IsRefused}
+use Rattle.rap_script.specs.Script.{Script, IsScript}
 use Rattle.ra_ap_parser.specs.Input.{records}
 use Rattle.ra_ap_parser.specs.LexedStr.{Lexed, IsLexing}
 use Rattle.ra_ap_parser.specs.SingleToken.{IsOneToken, IsNotOneToken}
-use Rattle.rast_lex.specs.Listed.{lines, token_line, message_lines, record_line, single_line}
+use Rattle.rast_lex.specs.Listed.{lines, token_line, message_lines, record_line, single_line, script_lines, refusal_lines}
 use Rattle.rast_lex.specs.declared.listing.Page.{Page}
 use Rattle.rast_lex.specs.declared.run.Listing.{Listing}
-use Rattle.rast_lex.specs.declared.run.Listing.TheVariants.{Tokens, Input, Single}
+use Rattle.rast_lex.specs.declared.run.Listing.TheVariants.{Tokens, Input, Single, Script as script}
 
 -- the text's tokens, a line each, and then the lexer's messages
 pub record ListsTokens (text : List ℕ) (edition : Edition) (page : Page) : Type 0 where
@@ -41,11 +43,29 @@ pub record ListsOne (text : List ℕ) (edition : Edition) (page : Page) : Type 0
 abbrev pub ListsSingle : List ℕ → Edition → Page → Type 0
 ListsSingle text edition page = ListsNone text edition page ⊎ ListsOne text edition page
 
+-- the text is a script source, and the lines say where its parts stand
+pub record ListsParts (text : List ℕ) (page : Page) : Type 0 where
+  pub script : Script
+  pub accepted : IsScript text script
+  pub is : string_bytes page.lines ≡ script_lines script
+  pub quiet : IsFalse page.has_message
+
+-- the text is refused as a script source, and the lines say why
+pub record ListsRefusal (text : List ℕ) (page : Page) : Type 0 where
+  pub refusal : Refusal
+  pub refused : IsRefused text refusal
+  pub is : string_bytes page.lines ≡ refusal_lines refusal
+  pub told : IsTrue page.has_message
+
+abbrev pub ListsScript : List ℕ → Page → Type 0
+ListsScript text page = ListsParts text page ⊎ ListsRefusal text page
+
 -- what is asked is listed
 abbrev pub Lists : List ℕ → Edition → Listing → Page → Type 0
 Lists text edition Tokens page = ListsTokens text edition page
 Lists text edition Input page = ListsInput text edition page
 Lists text edition Single page = ListsSingle text edition page
+Lists text edition script page = ListsScript text page
 
 -- It was written, and the status is 0 where no message is among it, and else 1.
 pub record Shows (text : List ℕ) (edition : Edition) (listing : Listing) (status : ℕ) (before after : Option (List ℕ)) : Type 0 where

@@ -1,9 +1,10 @@
 //! What is listed of a text.
 ghost use Rattle.std.specs.Prelude.{◌≡◌, ◌<◌, ◌++◌, IfOk, OnOk, length, string_bytes};
-ghost use Rattle.rast_lex.specs.Listed.{lines, places, token_line, message_lines, record_line};
-ghost use Rattle.rast_lex.specs.Page.{ListsTokens, ListsInput, ListsSingle};
+ghost use Rattle.rast_lex.specs.Listed.{lines, places, token_line, message_lines, record_line, part_line, script_lines, shown_spans, refusal_lines};
+ghost use Rattle.rast_lex.specs.Page.{ListsTokens, ListsInput, ListsSingle, ListsScript};
 
 use ra_ap_parser::{Edition, Input, LexFault, LexedStr};
+use rap_script::frontmatter::{FrontmatterError, ScriptFault, ScriptSource, Span};
 use rast_common::message::push_message;
 use rast_common::quote::push_quoted;
 use std::alloc::{AllocError, Global};
@@ -134,4 +135,77 @@ pub fn list_single(alloc: Global, edition: Edition, text: &str) -> Result<Page, 
         None => lines.push_str(" -\n")?,
     }
     Ok(Page { lines, has_message })
+}
+
+/// Adds the line of a script's part.
+fn push_part(lines: &mut String, name: &str, part: &Option<Span>) -> Result<(), AllocError>
+    ensures { OnOk result (string_bytes lines.new ≡ string_bytes lines.old ++ part_line name.now part.now) }
+{
+    lines.push_str(name)?;
+    match part {
+        None => lines.push_str(" none\n")?,
+        Some(span) => {
+            lines.push_str(" ")?;
+            push_places(lines, span.start, span.end)?;
+            lines.push_str("\n")?;
+        }
+    }
+    Ok(())
+}
+
+/// Lists where the parts of a script stand.
+fn list_parts(alloc: Global, script: &ScriptSource<'_>) -> Result<String, AllocError>
+    ensures { IfOk result (λ lines. string_bytes lines ≡ script_lines script.now) }
+{
+    let mut lines = String::new(alloc);
+    lines.push_str("accepted\n")?;
+    push_part(&mut lines, "shebang", &script.shebang_span())?;
+    push_part(&mut lines, "open", &script.open_span())?;
+    push_part(&mut lines, "info", &script.info_span())?;
+    push_part(&mut lines, "frontmatter", &script.frontmatter_span())?;
+    push_part(&mut lines, "close", &script.close_span())?;
+    push_part(&mut lines, "content", &Some(script.content_span()))?;
+    Ok(lines)
+}
+
+/// Adds spans, each behind a space.
+fn push_spans(lines: &mut String, spans: &[Span]) -> Result<(), AllocError>
+    ensures { OnOk result (string_bytes lines.new ≡ string_bytes lines.old ++ shown_spans spans.now) }
+{
+    'spans: for span in spans {
+        lines.push_str(" ")?;
+        push_places(lines, span.start, span.end)?;
+    }
+    Ok(())
+}
+
+/// Lists why a text is refused as a script.
+fn list_refusal(alloc: Global, error: &FrontmatterError) -> Result<String, AllocError>
+    ensures { IfOk result (λ lines. string_bytes lines ≡ refusal_lines error.now) }
+{
+    let mut lines = String::new(alloc);
+    let primary = error.primary_span();
+    write!(lines, "refused {}\nprimary ", error.message())?;
+    push_places(&mut lines, primary.start, primary.end)?;
+    lines.push_str("\nvisible")?;
+    push_spans(&mut lines, error.visible_spans())?;
+    lines.push_str("\n")?;
+    Ok(lines)
+}
+
+/// Lists where the parts of a script stand, or why the text is refused as one.
+pub fn list_script(alloc: Global, text: &str) -> Result<Page, LexFault>
+    ensures { IfOk result (ListsScript text.now) }
+{
+    match ScriptSource::parse(alloc, text) {
+        Ok(script) => Ok(Page {
+            lines: list_parts(alloc, &script)?,
+            has_message: false,
+        }),
+        Err(ScriptFault::Refused(error)) => Ok(Page {
+            lines: list_refusal(alloc, &error)?,
+            has_message: true,
+        }),
+        Err(ScriptFault::NoMemory) => Err(LexFault::NoMemory),
+    }
 }

@@ -3,12 +3,15 @@ ghost use Rattle.std.specs.Prelude.{◌≤◌, ◌<◌, ◌≡◌, ◌++◌, IfO
 ghost use Rattle.std.specs.Io.KnownBytes.{Appends};
 ghost use Rattle.rast_lex.specs.Page.{Lists, Shows};
 
-use crate::listing::{Page, list_input, list_single, list_tokens};
+use crate::listing::{Page, list_input, list_script, list_single, list_tokens};
 use ra_ap_parser::{Edition, LexFault};
 use rast_common::fault::tell;
 use std::alloc::Global;
 use std::io;
 use std::str::FromStr;
+
+#[cfg(test)]
+mod tests;
 
 /// What is to be listed.
 #[derive(Clone, Copy, Debug)]
@@ -19,6 +22,8 @@ pub enum Listing {
     Input,
     /// The one token that the text is.
     Single,
+    /// The parts of a script.
+    Script,
 }
 
 /// The word names nothing that is listed.
@@ -32,6 +37,7 @@ impl FromStr for Listing {
         match s {
             "input" => Ok(Listing::Input),
             "single" => Ok(Listing::Single),
+            "script" => Ok(Listing::Script),
             _ => Err(InvalidListing),
         }
     }
@@ -45,6 +51,7 @@ fn list(alloc: Global, edition: Edition, listing: Listing, text: &str) -> Result
         Listing::Tokens => list_tokens(alloc, edition, text),
         Listing::Input => list_input(alloc, edition, text),
         Listing::Single => list_single(alloc, edition, text),
+        Listing::Script => list_script(alloc, text),
     }
 }
 

@@ -1,0 +1,2 @@
+// Places are counted in bytes.
+let r#in = b"\xff"; // é
