@@ -12,6 +12,10 @@ one_of kinds kind = list_any (λ k. k == kind) kinds
 abbrev pub is_path_name : ℕ → Bool
 is_path_name kind = one_of (IDENT ∷ SELF_KW ∷ SUPER_KW ∷ CRATE_KW ∷ SELF_TYPE_KW ∷ []) kind
 
+-- the same, or a field's number
+abbrev pub is_path_name_or_index : ℕ → Bool
+is_path_name_or_index kind = is_path_name kind || one_of (INT_NUMBER ∷ []) kind
+
 -- a literal
 abbrev pub is_literal_first : ℕ → Bool
 is_literal_first kind = one_of (TRUE_KW ∷ FALSE_KW ∷ INT_NUMBER ∷ FLOAT_NUMBER ∷ BYTE ∷ CHAR ∷ STRING ∷ BYTE_STRING ∷ C_STRING ∷ []) kind

@@ -1,8 +1,9 @@
 -- What a grammar function does to a parser, whatever the tokens are.
 use Rattle.std.specs.Prelude.{◌≡◌, ℕ, ◌+◌, ◌≤◌, ◌*◌, ◌<◌, true}
 use Rattle.rap_events.specs.Fit.{is_plain}
+use Rattle.rap_events.specs.Forest.{Forest, none, node, leaf}
 use Rattle.rap_events.specs.Machine.{push, top}
-use Rattle.rap_events.specs.State.{State, IsLast, but_last}
+use Rattle.rap_events.specs.State.{State, IsLast, but_last, next}
 use Rattle.rap_events.specs.declared.parser.CompletedMarker.{CompletedMarker}
 
 -- The open markers are as before. At most 256 events for each token taken, and `k` more, were recorded.
@@ -22,6 +23,10 @@ pub record Took (old new : State) (room : ℕ) : Type 0 where
   pub messages : old.messages ≤ new.messages
   pub marker : new.marker ≡ old.marker
   pub below : new.below ≡ old.below
+
+-- the forest so far, and the next token alone in a node of this kind after it
+abbrev pub in_node : State → ℕ → Forest
+in_node s kind = node s.forest kind (leaf none (next s) 1)
 
 -- tokens were taken, and exactly this node was made
 pub record Made (old new : State) (cm : CompletedMarker) (room : ℕ) : Type 0 where

@@ -1,10 +1,12 @@
 //! The rules, one function each, and what they share.
-ghost use Rattle.std.specs.Prelude.{◌≡◌, ◌≢◌, ℕ, ◌<◌, ◌≤◌, OnOk, IfOk, true, ◌||◌, ◌∷◌, []};
-ghost use Rattle.rap_base.specs.TokenKind.{EOF, INT_NUMBER};
+ghost use Rattle.std.specs.Prelude.{◌≡◌, ◌≢◌, ℕ, ◌<◌, ◌≤◌, OnOk, ◌↔◌, IfOk, IsTrue, Some, true, false};
+ghost use Rattle.rap_base.specs.TokenKind.{EOF};
+ghost use Rattle.rap_base.specs.NodeKind.{NAME_REF};
 ghost use Rattle.rap_base.specs.TokenSet.{member};
+ghost use Rattle.rap_events.specs.Power.{last_leaf};
 ghost use Rattle.rap_events.specs.State.{state, next, At};
-ghost use Rattle.rap_grammar.specs.First.{is_path_name, one_of};
-ghost use Rattle.rap_grammar.specs.Grew.{Grew, Took};
+ghost use Rattle.rap_grammar.specs.First.{is_path_name, is_path_name_or_index};
+ghost use Rattle.rap_grammar.specs.Grew.{Grew, Took, in_node};
 
 use rap_base::no_memory::NoMemory;
 use rap_base::syntax_kind::SyntaxKind;
@@ -27,7 +29,9 @@ pub enum BlockLike {
 }
 
 impl BlockLike {
-    fn is_block(self) -> bool {
+    fn is_block(self) -> bool
+        ensures { IsTrue result ↔ (self ≡ BlockLike.Block) }
+    {
         matches!(self, BlockLike::Block)
     }
 }
@@ -55,6 +59,8 @@ fn path_name_ref_kinds() -> TokenSet
 fn name_ref_mod_path(p: &mut Parser<'_>) -> Result<(), NoMemory>
     ensures grew { OnOk result (Grew (state p.old) (state p.new) 3) }
     ensures took { OnOk result (next (state p.old) ≢ EOF → Took (state p.old) (state p.new) 200) }
+    ensures named { OnOk result (is_path_name (next (state p.old)) ≡ true → (state p.new).forest ≡ in_node (state p.old) NAME_REF) }
+    ensures told { OnOk result (is_path_name (next (state p.old)) ≡ false → (state p.old).messages < (state p.new).messages) }
 {
     if p.at_ts(path_name_ref_kinds()) {
         let m = p.start()?;
@@ -70,6 +76,8 @@ fn name_ref_mod_path(p: &mut Parser<'_>) -> Result<(), NoMemory>
 fn name_ref_mod_path_or_index(p: &mut Parser<'_>) -> Result<(), NoMemory>
     ensures grew { OnOk result (Grew (state p.old) (state p.new) 3) }
     ensures took { OnOk result (next (state p.old) ≢ EOF → Took (state p.old) (state p.new) 200) }
+    ensures named { OnOk result (is_path_name_or_index (next (state p.old)) ≡ true → (state p.new).forest ≡ in_node (state p.old) NAME_REF) }
+    ensures told { OnOk result (is_path_name_or_index (next (state p.old)) ≡ false → (state p.old).messages < (state p.new).messages) }
 {
     if p.at_ts(path_name_ref_or_index_kinds()) {
         let m = p.start()?;
@@ -82,7 +90,7 @@ fn name_ref_mod_path_or_index(p: &mut Parser<'_>) -> Result<(), NoMemory>
 }
 
 fn path_name_ref_or_index_kinds() -> TokenSet
-    ensures { (kind : ℕ) → member result kind ≡ (is_path_name kind || one_of (INT_NUMBER ∷ []) kind) }
+    ensures { (kind : ℕ) → member result kind ≡ is_path_name_or_index kind }
 {
     path_name_ref_kinds().union(TokenSet::new(&[SyntaxKind::INT_NUMBER]))
 }
@@ -92,6 +100,7 @@ fn list_element<G: Grammar>(p: &mut Parser<'_>, g: &G, kind: Element) -> Result<
     requires valid { G.valid g.now }
     requires left { (state p.old).left < G.left g.now }
     ensures grew { OnOk result (Grew (state p.old) (state p.new) 8) }
+    ensures told { IfOk result (λ going_on. going_on ≡ false → (state p.old).messages < (state p.new).messages) }
     ensures took { IfOk result (λ going_on. going_on ≡ true → Took (state p.old) (state p.new) 100) }
 {
     match kind {
@@ -120,7 +129,8 @@ fn delimited<G: Grammar>(
     requires bra { bra ≢ EOF }
     requires ket { ket ≢ EOF }
     requires delim { delim ≢ EOF }
-    ensures { OnOk result (Took (state p.old) (state p.new) 150) }
+    ensures took { OnOk result (Took (state p.old) (state p.new) 150) }
+    ensures closed { OnOk result ((state p.new).messages ≡ 0 → last_leaf (state p.new).forest ≡ Some ket) }
 {
     p.bump(bra)?;
     'elements: while !p.at(ket) && !p.at(SyntaxKind::EOF) {

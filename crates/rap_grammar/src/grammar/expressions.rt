@@ -1,12 +1,14 @@
 //! Expressions.
-ghost use Rattle.std.specs.Prelude.{◌≡◌, ◌≢◌, ℕ, ◌+◌, ◌<◌, ◌≤◌, ◌↔◌, IfOk, OnOk, IfSome, IsTrue, Some, None, true, false};
-ghost use Rattle.rap_base.specs.TokenKind.{EOF, AMP, L_PAREN, L_BRACK, DOT, QUESTION};
+ghost use Rattle.std.specs.Prelude.{◌≡◌, ◌≢◌, ℕ, ◌+◌, ◌<◌, ◌≤◌, ◌↔◌, IfOk, OnOk, IfSome, IsTrue, Some, None, true, false, [], ◌∷◌};
+ghost use Rattle.rap_base.specs.TokenKind.{EOF, IDENT, AMP, L_PAREN, L_BRACK, DOT, QUESTION, MUT_KW, CONST_KW};
+ghost use Rattle.rap_base.specs.NodeKind.{REF_EXPR, PREFIX_EXPR, RANGE_EXPR, CALL_EXPR, INDEX_EXPR, METHOD_CALL_EXPR, FIELD_EXPR, AWAIT_EXPR, TRY_EXPR};
 ghost use Rattle.rap_base.specs.TokenSet.{member};
 ghost use Rattle.rap_events.specs.Fit.{is_plain};
 ghost use Rattle.rap_events.specs.Power.{power, open_ended};
 ghost use Rattle.rap_events.specs.State.{state, next, IsLast, At, but_last, last_children};
+ghost use Rattle.rap_grammar.specs.Ahead.{has_end, calls_method, is_postfix};
 ghost use Rattle.rap_grammar.specs.Climb.{Climbed, LeftFits, Bound};
-ghost use Rattle.rap_grammar.specs.First.{is_expr_first};
+ghost use Rattle.rap_grammar.specs.First.{is_expr_first, one_of};
 ghost use Rattle.rap_grammar.specs.Grew.{Grew, Took, Made, Wrapped, Closed, Dropped};
 ghost use Rattle.rap_grammar.specs.Operator.{operator_at};
 ghost use Rattle.rap_grammar.specs.Rules.{Answered, IsNewest};
@@ -257,7 +259,10 @@ fn right_power(bp: u8, associativity: Associativity) -> u8
 }
 
 /// Whether the dots of a range have an end after them: not in `(1..).max()`, nor before the block of `for i in 1.. {}`.
-fn has_range_end(p: &Parser<'_>, r: Restrictions) -> bool {
+#[tactic(auto, unfolding(crate::specs::Ahead::has_end))]
+fn has_range_end(p: &Parser<'_>, r: Restrictions) -> bool
+    ensures { result ≡ has_end r.forbid_structs (state p.now).rest }
+{
     let has_access_after = p.at(SyntaxKind::DOT) && p.nth_at(1, SyntaxKind::IDENT);
     let struct_forbidden = r.forbid_structs && p.at(SyntaxKind::L_CURLY);
     p.at_ts(expr_first()) && !has_access_after && !struct_forbidden
@@ -278,6 +283,7 @@ fn range_expr<G: Grammar>(
     requires here { At (state p.old) op }
     requires power { power op ≡ 2 }
     ensures wrapped { IfOk result (λ range. Wrapped (state p.old) (state p.new) range.0 110) }
+    ensures kind { IfOk result (λ range. range.0.kind ≡ RANGE_EXPR) }
     ensures open { IfOk result (λ range. range.1 ≡ false → open_ended (last_children (state p.new).forest) ≡ true) }
 {
     let m = lhs.precede(p)?;
@@ -350,7 +356,29 @@ fn lhs<G: Grammar>(
     }
 }
 
-/// A reference, as `&a` and `&mut a`.
+/// What stands between the `&` of a reference and its operand: `mut`, `raw mut`, `raw const`, and `raw` before a name.
+/// Elsewhere `raw` is a name itself, as in `&raw.b`.
+fn ref_qualifier(p: &mut Parser<'_>) -> Result<(), NoMemory>
+    ensures { OnOk result (Grew (state p.old) (state p.new) 0) }
+{
+    if p.at_contextual_kw(SyntaxKind::RAW_KW) && p.nth_at_ts(1, raw_follow()) {
+        p.bump_remap(SyntaxKind::RAW_KW)?;
+        if p.eat(SyntaxKind::CONST_KW)? {
+            return Ok(());
+        }
+    }
+    p.eat(SyntaxKind::MUT_KW)?;
+    Ok(())
+}
+
+/// What follows `raw` where it is no name.
+fn raw_follow() -> TokenSet
+    ensures { (kind : ℕ) → member result kind ≡ one_of (MUT_KW ∷ CONST_KW ∷ IDENT ∷ []) kind }
+{
+    TokenSet::new(&[SyntaxKind::MUT_KW, SyntaxKind::CONST_KW, SyntaxKind::IDENT])
+}
+
+/// A reference, as `&a`, `&mut a` and `&raw const a`.
 fn ref_expr<G: Grammar>(
     p: &mut Parser<'_>,
     g: &G,
@@ -360,11 +388,11 @@ fn ref_expr<G: Grammar>(
     requires left { (state p.old).left ≤ G.left g.now }
     requires here { next (state p.old) ≡ AMP }
     ensures made { IfOk result (λ cm. Made (state p.old) (state p.new) cm 110) }
-    ensures plain { IfOk result (λ cm. is_plain cm.kind ≡ true) }
+    ensures kind { IfOk result (λ cm. cm.kind ≡ REF_EXPR) }
 {
     let m = p.start()?;
     p.bump(SyntaxKind::AMP)?;
-    p.eat(SyntaxKind::MUT_KW)?;
+    ref_qualifier(p)?;
     g.expr_bp(p, None, r, 255)?;
     let cm = m.complete(p, SyntaxKind::REF_EXPR)?;
     Ok(cm)
@@ -380,7 +408,7 @@ fn prefix_expr<G: Grammar>(
     requires left { (state p.old).left ≤ G.left g.now }
     requires more { next (state p.old) ≢ EOF }
     ensures made { IfOk result (λ cm. Made (state p.old) (state p.new) cm 110) }
-    ensures plain { IfOk result (λ cm. is_plain cm.kind ≡ true) }
+    ensures kind { IfOk result (λ cm. cm.kind ≡ PREFIX_EXPR) }
 {
     let m = p.start()?;
     p.bump_any()?;
@@ -402,7 +430,7 @@ fn prefix_range<G: Grammar>(
     requires here { At (state p.old) op }
     requires some { op ≢ EOF }
     ensures made { IfOk result (λ cm. Made (state p.old) (state p.new) cm 110) }
-    ensures plain { IfOk result (λ cm. is_plain cm.kind ≡ true) }
+    ensures kind { IfOk result (λ cm. cm.kind ≡ RANGE_EXPR) }
 {
     let m = p.start()?;
     p.bump(op)?;
@@ -414,6 +442,7 @@ fn prefix_range<G: Grammar>(
 }
 
 /// What follows an operand directly, as `(a)`, `[0]`, `.b`, `.c()` and `?`.
+#[tactic(auto, unfolding(crate::specs::Ahead::is_postfix))]
 fn postfix_expr<G: Grammar>(
     p: &mut Parser<'_>,
     g: &G,
@@ -428,6 +457,8 @@ fn postfix_expr<G: Grammar>(
     ensures grew { OnOk result (Grew (state p.old) (state p.new) 0) }
     ensures last { IfOk result (λ e. IsLast (state p.new) e.0 e.0.kind) }
     ensures plain { IfOk result (λ e. is_plain e.0.kind ≡ true) }
+    ensures end { OnOk result (allow_calls ≡ true → is_postfix (state p.new).rest ≡ false) }
+    ensures block { IfOk result (λ e. e.1 ≡ BlockLike.Block → block_like ≡ BlockLike.Block) }
     ensures one { OnOk result (but_last (state p.new).forest ≡ but_last (state p.old).forest) }
 {
     'postfixes: loop {
@@ -471,7 +502,10 @@ fn postfix_dot_expr<G: Grammar>(
 }
 
 /// Whether what follows the dot is called: a name before `(` or `::`, or a `(` without a name.
-fn is_method_call(p: &Parser<'_>) -> bool {
+#[tactic(auto, unfolding(crate::specs::Ahead::calls_method))]
+fn is_method_call(p: &Parser<'_>) -> bool
+    ensures { result ≡ calls_method (state p.now).rest }
+{
     if p.nth_at(1, SyntaxKind::L_PAREN) {
         return true;
     }
@@ -489,7 +523,8 @@ fn call_expr<G: Grammar>(
     requires left { (state p.old).left ≤ G.left g.now }
     requires last { IsLast (state p.old) lhs lhs.kind }
     requires here { next (state p.old) ≡ L_PAREN }
-    ensures { IfOk result (λ cm. Wrapped (state p.old) (state p.new) cm 110) }
+    ensures wrapped { IfOk result (λ cm. Wrapped (state p.old) (state p.new) cm 110) }
+    ensures kind { IfOk result (λ cm. cm.kind ≡ CALL_EXPR) }
 {
     let m = lhs.precede(p)?;
     arg_list(p, g)?;
@@ -507,7 +542,8 @@ fn index_expr<G: Grammar>(
     requires left { (state p.old).left ≤ G.left g.now }
     requires last { IsLast (state p.old) lhs lhs.kind }
     requires here { next (state p.old) ≡ L_BRACK }
-    ensures { IfOk result (λ cm. Wrapped (state p.old) (state p.new) cm 110) }
+    ensures wrapped { IfOk result (λ cm. Wrapped (state p.old) (state p.new) cm 110) }
+    ensures kind { IfOk result (λ cm. cm.kind ≡ INDEX_EXPR) }
 {
     let m = lhs.precede(p)?;
     p.bump(SyntaxKind::L_BRACK)?;
@@ -527,7 +563,8 @@ fn method_call_expr<G: Grammar>(
     requires left { (state p.old).left ≤ G.left g.now }
     requires last { IsLast (state p.old) lhs lhs.kind }
     requires here { next (state p.old) ≡ DOT }
-    ensures { IfOk result (λ cm. Wrapped (state p.old) (state p.new) cm 110) }
+    ensures wrapped { IfOk result (λ cm. Wrapped (state p.old) (state p.new) cm 110) }
+    ensures kind { IfOk result (λ cm. cm.kind ≡ METHOD_CALL_EXPR) }
 {
     let m = lhs.precede(p)?;
     p.bump(SyntaxKind::DOT)?;
@@ -549,7 +586,8 @@ fn method_call_expr<G: Grammar>(
 fn await_expr(p: &mut Parser<'_>, lhs: CompletedMarker) -> Result<CompletedMarker, NoMemory>
     requires last { IsLast (state p.old) lhs lhs.kind }
     requires here { next (state p.old) ≡ DOT }
-    ensures { IfOk result (λ cm. Wrapped (state p.old) (state p.new) cm 110) }
+    ensures wrapped { IfOk result (λ cm. Wrapped (state p.old) (state p.new) cm 110) }
+    ensures kind { IfOk result (λ cm. cm.kind ≡ AWAIT_EXPR) }
 {
     let m = lhs.precede(p)?;
     p.bump(SyntaxKind::DOT)?;
@@ -562,7 +600,8 @@ fn await_expr(p: &mut Parser<'_>, lhs: CompletedMarker) -> Result<CompletedMarke
 fn field_expr(p: &mut Parser<'_>, lhs: CompletedMarker) -> Result<CompletedMarker, NoMemory>
     requires last { IsLast (state p.old) lhs lhs.kind }
     requires here { next (state p.old) ≡ DOT }
-    ensures { IfOk result (λ cm. Wrapped (state p.old) (state p.new) cm 110) }
+    ensures wrapped { IfOk result (λ cm. Wrapped (state p.old) (state p.new) cm 110) }
+    ensures kind { IfOk result (λ cm. cm.kind ≡ FIELD_EXPR) }
 {
     let m = lhs.precede(p)?;
     p.bump(SyntaxKind::DOT)?;
@@ -579,7 +618,8 @@ fn field_expr(p: &mut Parser<'_>, lhs: CompletedMarker) -> Result<CompletedMarke
 fn try_expr(p: &mut Parser<'_>, lhs: CompletedMarker) -> Result<CompletedMarker, NoMemory>
     requires last { IsLast (state p.old) lhs lhs.kind }
     requires here { next (state p.old) ≡ QUESTION }
-    ensures { IfOk result (λ cm. Wrapped (state p.old) (state p.new) cm 110) }
+    ensures wrapped { IfOk result (λ cm. Wrapped (state p.old) (state p.new) cm 110) }
+    ensures kind { IfOk result (λ cm. cm.kind ≡ TRY_EXPR) }
 {
     let m = lhs.precede(p)?;
     p.bump(SyntaxKind::QUESTION)?;

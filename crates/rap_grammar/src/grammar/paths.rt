@@ -1,9 +1,12 @@
 //! Paths.
 ghost use Rattle.std.specs.Prelude.{◌≡◌, ◌≢◌, ℕ, ◌<◌, ◌≤◌, ◌+◌, IfOk, OnOk, IfSome, None, true};
+ghost use Rattle.rap_base.specs.NodeKind.{PATH, PATH_SEGMENT};
+ghost use Rattle.rap_base.specs.TokenKind.{COLON2};
 ghost use Rattle.rap_base.specs.TokenSet.{member};
 ghost use Rattle.rap_events.specs.State.{state, next, At, IsLast, but_last};
 ghost use Rattle.rap_grammar.specs.First.{is_path_name, is_path_first, starts_path};
 ghost use Rattle.rap_grammar.specs.Grew.{Grew, Took};
+ghost use Rattle.rap_grammar.specs.Recovery.{is_item_recovery, is_expr_path_segment_recovery};
 
 use super::expressions::expr_recovery_set;
 use super::{name_ref_mod_path, path_name_ref_kinds};
@@ -45,7 +48,9 @@ pub(super) fn expr_path(p: &mut Parser<'_>) -> Result<(), NoMemory>
 /// A path.
 fn path(p: &mut Parser<'_>) -> Result<Option<CompletedMarker>, NoMemory>
     requires { starts_path (state p.old).rest ≡ true }
-    ensures { OnOk result (Took (state p.old) (state p.new) 180) }
+    ensures took { OnOk result (Took (state p.old) (state p.new) 180) }
+    ensures some { IfOk result (λ o. IfSome o (λ cm. IsLast (state p.new) cm PATH × (but_last (state p.new).forest ≡ (state p.old).forest))) }
+    ensures none { IfOk result (λ o. o ≡ None → (state p.old).messages < (state p.new).messages) }
 {
     let path = p.start()?;
     if path_segment(p, true)?.is_none() {
@@ -62,9 +67,10 @@ fn path_for_qualifier(
     p: &mut Parser<'_>,
     mut qual: CompletedMarker,
 ) -> Result<CompletedMarker, NoMemory>
-    requires last { IsLast (state p.old) qual qual.kind }
+    requires last { IsLast (state p.old) qual PATH }
     ensures grew { OnOk result (Grew (state p.old) (state p.new) 0) }
-    ensures last { IfOk result (λ cm. IsLast (state p.new) cm cm.kind) }
+    ensures last { IfOk result (λ cm. IsLast (state p.new) cm PATH) }
+    ensures end { OnOk result (¬ At (state p.new) COLON2) }
     ensures one { OnOk result (but_last (state p.new).forest ≡ but_last (state p.old).forest) }
 {
     'segments: while p.at(SyntaxKind::COLON2) {
@@ -77,12 +83,16 @@ fn path_for_qualifier(
 }
 
 /// What ends the search for a segment's name in an expression.
-fn expr_path_segment_recovery_set() -> TokenSet {
+fn expr_path_segment_recovery_set() -> TokenSet
+    ensures { (kind : ℕ) → member result kind ≡ is_expr_path_segment_recovery kind }
+{
     expr_recovery_set().union(item_recovery_set())
 }
 
 /// What items begin with, and the semicolon after them.
-fn item_recovery_set() -> TokenSet {
+fn item_recovery_set() -> TokenSet
+    ensures { (kind : ℕ) → member result kind ≡ is_item_recovery kind }
+{
     TokenSet::new(&[
         SyntaxKind::FN_KW,
         SyntaxKind::STRUCT_KW,
@@ -107,6 +117,8 @@ fn item_recovery_set() -> TokenSet {
 /// A segment of a path, as `a`, and `::a` where it is the first. None, and a message, where no name follows.
 fn path_segment(p: &mut Parser<'_>, first: bool) -> Result<Option<CompletedMarker>, NoMemory>
     ensures grew { OnOk result (Grew (state p.old) (state p.new) 6) }
+    ensures some { IfOk result (λ o. IfSome o (λ cm. IsLast (state p.new) cm PATH_SEGMENT × (but_last (state p.new).forest ≡ (state p.old).forest))) }
+    ensures none { IfOk result (λ o. o ≡ None → (state p.old).messages < (state p.new).messages) }
     ensures took { OnOk result (first ≡ true → starts_path (state p.old).rest ≡ true → Took (state p.old) (state p.new) 190) }
 {
     let m = p.start()?;

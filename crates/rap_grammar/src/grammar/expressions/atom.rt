@@ -1,11 +1,13 @@
 //! Expressions that begin with no operator.
-ghost use Rattle.std.specs.Prelude.{◌≡◌, ◌≢◌, ℕ, ◌<◌, ◌≤◌, IfOk, OnOk, IfSome, None, true};
-ghost use Rattle.rap_base.specs.TokenKind.{EOF, L_PAREN, L_BRACK};
+ghost use Rattle.std.specs.Prelude.{◌≡◌, ◌≢◌, ℕ, ◌<◌, ◌≤◌, IfOk, OnOk, IfSome, is_some, None, true, ◌⊎◌};
+ghost use Rattle.rap_base.specs.TokenKind.{EOF, L_PAREN, L_BRACK, R_BRACK};
+ghost use Rattle.rap_base.specs.NodeKind.{LITERAL, PATH_EXPR, PAREN_EXPR, TUPLE_EXPR, ARRAY_EXPR};
 ghost use Rattle.rap_base.specs.TokenSet.{member};
 ghost use Rattle.rap_events.specs.Fit.{is_plain};
 ghost use Rattle.rap_events.specs.State.{state, next};
 ghost use Rattle.rap_grammar.specs.First.{is_literal_first, is_atom_expr_first, starts_path};
-ghost use Rattle.rap_grammar.specs.Grew.{Grew, Made, Took};
+ghost use Rattle.rap_grammar.specs.Grew.{Grew, Made, Took, in_node};
+ghost use Rattle.rap_grammar.specs.Recovery.{is_expr_recovery};
 
 use super::expr;
 use crate::grammar::BlockLike;
@@ -36,8 +38,10 @@ fn literal_first() -> TokenSet
 /// A literal, as `1` and `true`, if one comes next.
 fn literal(p: &mut Parser<'_>) -> Result<Option<CompletedMarker>, NoMemory>
     ensures some { IfOk result (λ o. IfSome o (λ cm. Made (state p.old) (state p.new) cm 130)) }
-    ensures plain { IfOk result (λ o. IfSome o (λ cm. is_plain cm.kind ≡ true)) }
+    ensures kind { IfOk result (λ o. IfSome o (λ cm. cm.kind ≡ LITERAL)) }
+    ensures node { IfOk result (λ o. IfSome o (λ cm. (state p.new).forest ≡ in_node (state p.old) LITERAL)) }
     ensures none { IfOk result (λ o. o ≡ None → state p.new ≡ state p.old) }
+    ensures begins { IfOk result (λ o. is_some o ≡ is_literal_first (next (state p.old))) }
 {
     if !p.at_ts(literal_first()) {
         return Ok(None);
@@ -58,7 +62,9 @@ pub(super) fn atom_expr_first() -> TokenSet
 }
 
 /// What ends the search for an expression.
-pub(in crate::grammar) fn expr_recovery_set() -> TokenSet {
+pub(in crate::grammar) fn expr_recovery_set() -> TokenSet
+    ensures { (kind : ℕ) → member result kind ≡ is_expr_recovery kind }
+{
     TokenSet::new(&[
         SyntaxKind::L_PAREN,
         SyntaxKind::R_CURLY,
@@ -101,7 +107,7 @@ pub(super) fn atom_expr<G: Grammar>(
 fn path_expr(p: &mut Parser<'_>) -> Result<CompletedMarker, NoMemory>
     requires { starts_path (state p.old).rest ≡ true }
     ensures made { IfOk result (λ cm. Made (state p.old) (state p.new) cm 130) }
-    ensures plain { IfOk result (λ cm. is_plain cm.kind ≡ true) }
+    ensures kind { IfOk result (λ cm. cm.kind ≡ PATH_EXPR) }
 {
     let m = p.start()?;
     expr_path(p)?;
@@ -115,7 +121,7 @@ fn tuple_expr<G: Grammar>(p: &mut Parser<'_>, g: &G) -> Result<CompletedMarker, 
     requires left { (state p.old).left ≤ G.left g.now }
     requires here { next (state p.old) ≡ L_PAREN }
     ensures made { IfOk result (λ cm. Made (state p.old) (state p.new) cm 130) }
-    ensures plain { IfOk result (λ cm. is_plain cm.kind ≡ true) }
+    ensures kind { IfOk result (λ cm. (cm.kind ≡ PAREN_EXPR) ⊎ (cm.kind ≡ TUPLE_EXPR)) }
 {
     let m = p.start()?;
     p.bump(SyntaxKind::L_PAREN)?;
@@ -154,7 +160,7 @@ fn array_expr<G: Grammar>(p: &mut Parser<'_>, g: &G) -> Result<CompletedMarker, 
     requires left { (state p.old).left ≤ G.left g.now }
     requires here { next (state p.old) ≡ L_BRACK }
     ensures made { IfOk result (λ cm. Made (state p.old) (state p.new) cm 130) }
-    ensures plain { IfOk result (λ cm. is_plain cm.kind ≡ true) }
+    ensures kind { IfOk result (λ cm. cm.kind ≡ ARRAY_EXPR) }
 {
     let m = p.start()?;
     p.bump(SyntaxKind::L_BRACK)?;
@@ -168,7 +174,8 @@ fn array_expr<G: Grammar>(p: &mut Parser<'_>, g: &G) -> Result<CompletedMarker, 
 fn array_elements<G: Grammar>(p: &mut Parser<'_>, g: &G) -> Result<(), NoMemory>
     requires valid { G.valid g.now }
     requires left { (state p.old).left < G.left g.now }
-    ensures { OnOk result (Grew (state p.old) (state p.new) 9) }
+    ensures grew { OnOk result (Grew (state p.old) (state p.new) 9) }
+    ensures some { OnOk result (next (state p.old) ≢ EOF → next (state p.old) ≢ R_BRACK → (state p.new).messages ≡ (state p.old).messages → (state p.new).left < (state p.old).left) }
 {
     let mut is_first = true;
     let mut has_semi = false;

@@ -1,4 +1,5 @@
 use Rattle.std.proofs.Common.{◌≡◌}
+use Rattle.rap_base.specs.NodeKind.{PATH}
 use Rattle.rap_events.specs.State.{state, IsLast, but_last}
 use Rattle.rap_grammar.specs.Grew.{Grew}
 use Rattle.rap_grammar.proofs.grammar.paths.path_for_qualifier.Given as goal
@@ -6,7 +7,7 @@ use Rattle.rap_grammar.proofs.grammar.paths.path_for_qualifier.Given as goal
 abbrev pub invariant-segments : goal.invariant-segments
 invariant-segments l = record {
   grew : Grew (state l.initial.p) (state l.p) 0;
-  last : IsLast (state l.p) l.qual l.qual.kind;
+  last : IsLast (state l.p) l.qual PATH;
   one : but_last (state l.p).forest ≡ but_last (state l.initial.p).forest;
 }
 
