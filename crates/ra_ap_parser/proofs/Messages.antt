@@ -1,11 +1,12 @@
 -- Messages that are added.
-use Rattle.std.proofs.Common.{◌≡◌, ◌≢◌, ℕ, true, false, ◌+◌, ◌≤◌, ◌==◌, arith, eq-eqb, ne_eqb, List, [], ◌∷◌, ◌++◌, Bool, Option, Some, None, option_to_list, MatchOption, if◌then◌else◌, map, refl, ap, sym, ◌∙◌, append_assoc}
-use Rattle.std.proofs.lemmas.List.{map_push}
+use Rattle.std.proofs.Common.{◌≡◌, ◌≢◌, ℕ, zero, suc, ◌<◌, length, drop, get_or, get_or-drop, length-drop, true, false, ◌+◌, ◌≤◌, ◌==◌, arith, eq-eqb, ne_eqb, List, [], ◌∷◌, ◌++◌, Bool, Option, Some, None, option_to_list, MatchOption, if◌then◌else◌, map, refl, ap, sym, ◌∙◌, append_assoc}
+use Rattle.std.proofs.lemmas.List.{map_push, drop_more}
+use Rattle.std.specs.List.Sorted.{IsNonDecreasingBy, IsPartitionPoint}
 use Rattle.rap_lexer.specs.declared.escape.Mode.{Mode}
 use Rattle.rap_lexer.specs.declared.lexer.lexeme.Remark.{Remark}
 use Rattle.ra_ap_parser.specs.About.{about}
-use Rattle.std.specs.List.{AllByRecursion}
-use Rattle.ra_ap_parser.specs.LexedStr.{Message, AreInOrder, messages_of}
+use Rattle.std.specs.List.{AllByRecursion, AllWithin}
+use Rattle.ra_ap_parser.specs.LexedStr.{Message, AreInOrder, messages_of, error_of}
 use Rattle.ra_ap_parser.specs.Told.{checked_mode, has_note, prefix_note, fixed_message, TellsFaults, TellsOf, body_of}
 
 no_mode : (P : Type 0) (Q : Mode → Type 0) (o : Option Mode) → o ≡ None → P → MatchOption o P Q
@@ -66,3 +67,51 @@ texts_of-about token (t ∷ ts) = ap (λ l. t ∷ l) (texts_of-about token ts)
 -- the last message has the last text
 pub last_text : (token : ℕ) (texts : List (List ℕ)) (front : List Message) (m : Message) → about token texts ≡ front ++ m ∷ [] → texts ≡ map (λ m. m.text) front ++ m.text ∷ []
 last_text token texts front m e = sym (texts_of-about token texts) ∙ (ap (λ l. map (λ m. m.text) l) e ∙ map_push (λ m. m.text) front m)
+
+-- ---- the first message about a token
+
+all_at : (P : Message → Type 0) (ms : List Message) → AllByRecursion P ms → (j : ℕ) (d : Message) → j < length ms → P (get_or ms j d)
+all_at P [] h j d l = absurd (omega arith)
+all_at P (m ∷ ms) h zero d l = h.0
+all_at P (m ∷ ms) h (suc j) d l = all_at P ms h.1 j d (omega arith)
+
+-- no message is about an earlier token than one before it
+pub ordered_rises : (count : ℕ) (ms : List Message) → AreInOrder count ms → IsNonDecreasingBy (λ (m : Message). m.token) ms
+ordered_rises count [] o i j d low h = absurd (omega arith)
+ordered_rises count (m ∷ ms) o zero zero d low h = omega arith
+ordered_rises count (m ∷ ms) o zero (suc j) d low h = all_at (λ (later : Message). m.token ≤ later.token) ms o.1 j d (omega arith)
+ordered_rises count (m ∷ ms) o (suc i) zero d low h = absurd (omega arith)
+ordered_rises count (m ∷ ms) o (suc i) (suc j) d low h = ordered_rises count ms o.2 i j d (omega arith) (omega arith)
+
+-- messages about earlier tokens are passed over
+error_of-past : (ms : List Message) (i n : ℕ) → AllWithin (λ (m : Message). m.token < i) ms 0 n → error_of ms i ≡ error_of (drop n ms) i
+error_of-past ms i zero h = refl
+error_of-past [] i (suc n) h = refl
+error_of-past (m ∷ ms) i (suc n) h =
+    let here : m.token < i = h 0 m (omega arith) (omega arith) in
+    let d : m.token ≢ i = λ e. absurd (omega (arith, here, e)) in
+    rw (ne_eqb m.token i d) (error_of-past ms i n (λ k d low high. h (suc k) d (omega arith) (omega arith)))
+
+error_of-none : (ms : List Message) (i : ℕ) → ((k : ℕ) (d : Message) → k < length ms → i < (get_or ms k d).token) → error_of ms i ≡ None
+error_of-none [] i h = refl
+error_of-none (m ∷ ms) i h =
+    let here : i < m.token = h 0 m (omega arith) in
+    let d : m.token ≢ i = λ e. absurd (omega (arith, here, e)) in
+    rw (ne_eqb m.token i d) (error_of-none ms i (λ k d l. h (suc k) d (omega arith)))
+
+abbrev IsPlace : List Message → ℕ → ℕ → Type 0
+IsPlace ms i n = IsPartitionPoint (λ (m : Message). m.token < i) (λ (m : Message). i ≤ m.token) ms n
+
+pub error_found : (ms : List Message) (i n : ℕ) (d : Message) → IsPlace ms i n → n < length ms → (get_or ms n d).token ≡ i → error_of ms i ≡ Some (get_or ms n d).text
+error_found ms i n d h inside e = error_of-past ms i n h.0 ∙ rw (drop_more ms n d inside, eq-eqb (get_or ms n d).token i e) refl
+
+pub error_missing : (count : ℕ) (ms : List Message) (i n : ℕ) → AreInOrder count ms → IsPlace ms i n → ((d : Message) → n < length ms → (get_or ms n d).token ≢ i) → error_of ms i ≡ None
+error_missing count ms i n o h other =
+    let later : (k : ℕ) (d : Message) → k < length (drop n ms) → i < (get_or (drop n ms) k d).token = λ k d l.
+    let inside : n + k < length ms = omega (arith, length-drop n ms) in
+    let low : i ≤ (get_or ms n d).token = h.1 n d (omega arith) (omega arith) in
+    let differs : (get_or ms n d).token ≢ i = other d (omega arith) in
+    let up : (get_or ms n d).token ≤ (get_or ms (n + k) d).token = ordered_rises count ms o n (n + k) d (omega arith) inside in
+    rw (get_or-drop n ms k d) (omega (arith, low, differs, up))
+    in
+    error_of-past ms i n h.0 ∙ error_of-none (drop n ms) i later

@@ -7,12 +7,9 @@ use Rattle.rap_lexer.specs.Lexeme.{told}
 use Rattle.rap_base.specs.TokenKind.{EOF, STRING}
 use Rattle.rap_base.specs.declared.edition.Edition.{Edition}
 use Rattle.rap_lexer.specs.declared.lexer.lexeme.Remark.{Remark}
+use Rattle.ra_ap_parser.specs.Front.{IsFront}
 use Rattle.ra_ap_parser.specs.Told.{TellsOf, looks_open}
-
--- A token: its kind's number, and the bytes of its text.
-pub record Token : Type 0 where
-  pub kind : ℕ
-  pub text : List ℕ
+pub use Rattle.ra_ap_parser.specs.Token.{Token}
 
 -- A message of the lexer: the number of the token that it is about, and the bytes of its text.
 pub record Message : Type 0 where
@@ -80,10 +77,16 @@ abbrev pub AreInOrder : ℕ → List Message → Type 0
 AreInOrder count [] = ⊤
 AreInOrder count (m ∷ ms) = (m.token < count) × AllByRecursion (λ later. m.token ≤ later.token) ms × AreInOrder count ms
 
--- The tokens joined are the text, each of them is the first of what remains, and the messages are what is told of them.
+-- The tokens joined are the text. First stand the pieces of the script source, of which nothing is told; from there on
+-- each token is the first of what remains, and the messages are what is told of it.
 pub record IsLexing (text : List ℕ) (edition : Edition) (lexed : Lexed) : Type 0 where
   pub whole : joined lexed.tokens ≡ text
-  pub each : (i : ℕ) → i < length lexed.tokens → IsFirst edition (after_open (token_at lexed.tokens) i) (drop (start_of lexed.tokens i) text) (token_at lexed.tokens i) (drop (start_of lexed.tokens (i + 1)) text) (messages_of lexed.errors i)
+  pub front : List Token
+  pub is_front : IsFront edition text front
+  pub rest : List Token
+  pub parts : lexed.tokens ≡ front ++ rest
+  pub silent : (i : ℕ) → i < length front → messages_of lexed.errors i ≡ []
+  pub each : (i : ℕ) → length front ≤ i → i < length lexed.tokens → IsFirst edition (after_open (token_at lexed.tokens) i) (drop (start_of lexed.tokens i) text) (token_at lexed.tokens i) (drop (start_of lexed.tokens (i + 1)) text) (messages_of lexed.errors i)
   pub ordered : AreInOrder (length lexed.tokens) lexed.errors
 
 -- The text cut at the starts, its pieces with the kinds.

@@ -1,10 +1,12 @@
 pub mod About
 pub mod Builder
+pub mod Front
 pub mod Input
 pub mod LexedStr
 pub mod SingleToken
 pub mod StrForest
 pub mod StrSink
 pub mod StrStep
+pub mod Token
 pub mod Told
 pub mod Trivia

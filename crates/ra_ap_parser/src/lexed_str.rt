@@ -1,15 +1,21 @@
 //! A text cut into tokens, with the lexer's messages.
 ghost use Rattle.std.specs.Prelude.{◌≡◌, ℕ, ◌<◌, ◌≤◌, ◌+◌, ◌^◌, ◌↔◌, IfOk, IsTrue, MatchOption, string_bytes, length, slice_range};
+ghost use Rattle.std.specs.List.Sorted.{IsNonDecreasingBy, IsPartitionPoint};
 ghost use Rattle.std.specs.Option.{option_copied, option_map};
 ghost use Rattle.rap_base.specs.TokenTests.{IsTokenKind};
 ghost use Rattle.ra_ap_parser.specs.SingleToken.{IsNotOneToken, IsOneToken};
 ghost use Rattle.ra_ap_parser.specs.LexedStr.{joined, start_of, token_at, error_of, since_open_after, AreTokens, IsLexing};
 
+use front::{find_front, push_front};
 use rap_base::edition::Edition;
-use rap_lexer::lexer::first_token;
+use rap_base::no_memory::NoMemory;
 use rap_base::syntax_kind::SyntaxKind;
+use rap_lexer::lexer::first_token;
 use told::{LexError, last_message, looks_open, tell};
 
+mod front;
+#[cfg(test)]
+mod tests;
 mod told;
 
 use std::alloc::{AllocError, AllocFailed, Global};
@@ -61,6 +67,16 @@ impl<T: Drop> From<AllocFailed<T>> for LexFault {
     }
 }
 
+impl From<NoMemory> for LexFault {
+    ghost use Rattle.ra_ap_parser.specs.declared.lexed_str.LexFault.TheVariants.{NoMemory};
+
+    ghost from_gives = { λ _ fault. fault ≡ NoMemory };
+
+    fn from(_error: NoMemory) -> LexFault {
+        LexFault::NoMemory
+    }
+}
+
 /// A text cut into tokens that are not empty and that joined are the text. Contracts see the list of the
 /// tokens and the list of the messages.
 ///
@@ -76,13 +92,13 @@ pub struct LexedStr<'a> {
 impl<'a> Model for LexedStr<'a> {
     ghost use Rattle.std.specs.Prelude.{length, All};
     ghost use Rattle.rap_base.specs.TokenTests.{IsTokenKind};
-    ghost use Rattle.ra_ap_parser.specs.LexedStr.{Lexed, cut, AreStarts};
+    ghost use Rattle.ra_ap_parser.specs.LexedStr.{Lexed, cut, AreStarts, AreInOrder};
 
     ghost Value = { Lexed };
 
     ghost view = { λ s. record { tokens = cut s.text.now s.kind.items s.start.items; errors = s.error.items } };
 
-    ghost invariant = { λ s. AreStarts s.text.now (length s.kind.items) s.start.items × All IsTokenKind s.kind.items };
+    ghost invariant = { λ s. AreStarts s.text.now (length s.kind.items) s.start.items × All IsTokenKind s.kind.items × AreInOrder (length s.kind.items) s.error.items };
 }
 
 /// How many tokens stand after the last string that looks open, up to 5, with one token more.
@@ -98,8 +114,20 @@ fn since_open_after(since: usize, kind: SyntaxKind, text: &str) -> usize
     }
 }
 
+/// Where the messages about the token and the later ones begin.
+fn first_error(errors: &[LexError], token: usize) -> usize
+    requires { IsNonDecreasingBy (λ m. m.token) errors.now }
+    ensures point { IsPartitionPoint (λ m. m.token < token) (λ m. token ≤ m.token) errors.now result }
+    ensures bound { result ≤ length errors.now }
+{
+    errors.partition_point(|error| error.token() < token)
+}
+
 impl<'a> LexedStr<'a> {
     /// Cuts the text into tokens by the lexical rules of the edition.
+    ///
+    /// A script source's shebang and frontmatter come first, each as one token; of a text that is refused as a script
+    /// source the shebang's line alone. Nothing is told of them.
     ///
     /// The error is `TextTooLong` exactly for a text of more than [`MAX_TEXT`] bytes, which is decided first,
     /// and else `NoMemory` where a growth was refused.
@@ -110,10 +138,12 @@ impl<'a> LexedStr<'a> {
         if text.len() > MAX_TEXT {
             return Err(LexFault::TextTooLong);
         }
+        let front = find_front(alloc, edition, text)?;
         let mut kind = Vec::with_capacity(alloc, text.len() / 3)?;
         let mut start = Vec::with_capacity(alloc, text.len() / 3 + 1)?;
         start.push(0)?;
-        let mut offset = 0usize;
+        push_front(&front, &mut kind, &mut start)?;
+        let mut offset = front.end();
         let mut error = Vec::new(alloc);
         let mut since_open = 5usize;
         'tokens: while offset < text.len() {
@@ -252,12 +282,17 @@ impl<'a> LexedStr<'a> {
         requires { i < length self.now.tokens }
         ensures { option_copied result ≡ error_of self.now.errors i }
     {
-        for error in &self.error {
-            if error.token() == i {
-                return Some(error.message());
-            }
+        let errors = self.error.as_slice();
+        let place = first_error(errors, i);
+        if place == errors.len() {
+            return None;
         }
-        None
+        let error = &errors[place];
+        if error.token() == i {
+            Some(error.message())
+        } else {
+            None
+        }
     }
 
     /// All messages, each with the number of its token, in the order of the tokens.
@@ -316,85 +351,5 @@ impl ExactSizeIterator for Errors<'_> {
         ensures { result ≡ length self.now }
     {
         self.rest.len()
-    }
-}
-
-#[cfg(test)]
-mod tests {
-    use super::*;
-    use std::test::Fail;
-
-    /// A line for each token: its number of kind, its place and its text.
-    fn described(alloc: Global, edition: Edition, text: &str) -> Result<String, Fail> {
-        let lexed = LexedStr::new(alloc, edition, text)?;
-        let mut lines = String::new(alloc);
-        for i in 0..lexed.len() {
-            let range = lexed.text_range(i);
-            let kind = lexed.kind(i).name();
-            writeln!(
-                lines,
-                "{kind} {}..{} {}",
-                range.start,
-                range.end,
-                lexed.text(i)
-            )?;
-        }
-        Ok(lines)
-    }
-
-    #[test]
-    fn cuts_a_text(rt: HostRuntime) -> Result<(), Fail> {
-        let lines = described(rt.alloc(), Edition::Edition2024, "_ é1=4_2")?;
-        let wanted =
-            "UNDERSCORE 0..1 _\nWHITESPACE 1..2  \nIDENT 2..5 é1\nEQ 5..6 =\nINT_NUMBER 6..9 4_2\n";
-        assert_eq!(rt; lines.as_str(), wanted);
-        Ok(())
-    }
-
-    #[test]
-    fn tells_messages(rt: HostRuntime) -> Result<(), Fail> {
-        let text = "\"(;\n\" A\"b\" 0x '' \"\\u{}\\q\" 1e+";
-        let lexed = LexedStr::new(rt.alloc(), Edition::Edition2024, text)?;
-        let mut lines = String::new(rt.alloc());
-        for (token, message) in lexed.errors() {
-            writeln!(lines, "{token} {message}")?;
-        }
-        let wanted =
-            "2 unknown literal prefix `A` (note: check for unterminated string literal)\n5 Missing digits after the integer base prefix\n7 empty character literal\n9 empty unicode escape\n9 unknown character escape\n11 Missing digits after the exponent symbol\n";
-        assert_eq!(rt; lines.as_str(), wanted);
-        assert_eq!(rt; lexed.errors().len(), 6);
-        assert_eq!(rt; lexed.len(), 12);
-        assert_eq!(rt; lexed.error(9).ok_or("no message")?, "empty unicode escape");
-        Ok(())
-    }
-
-    #[test]
-    fn takes_single_tokens(rt: HostRuntime) -> Result<(), Fail> {
-        let alloc = rt.alloc();
-        let reserved = LexedStr::single_token(alloc, Edition::Edition2021, "##")?;
-        assert!(rt; reserved.is_none());
-        let (kind, message) = LexedStr::single_token(alloc, Edition::Edition2024, "##")?.ok_or(
-            "none",
-        )?;
-        assert_eq!(rt; kind, SyntaxKind::ERROR);
-        let message = message.ok_or("no message")?;
-        assert_eq!(rt;
-            message.as_str(),
-            "Invalid string literal (reserved syntax)"
-        );
-        let string = LexedStr::single_token(alloc, Edition::Edition2024, "\"\\u{}\\q\"")?;
-        let (kind, message) = string.ok_or("none")?;
-        assert_eq!(rt; kind, SyntaxKind::STRING);
-        let message = message.ok_or("no message")?;
-        assert_eq!(rt; message.as_str(), "unknown character escape");
-        Ok(())
-    }
-
-    #[test]
-    fn takes_the_empty_text(rt: HostRuntime) -> Result<(), Fail> {
-        let lexed = LexedStr::new(rt.alloc(), Edition::Edition2015, "")?;
-        assert!(rt; lexed.is_empty());
-        assert_eq!(rt; lexed.as_str(), "");
-        Ok(())
     }
 }

@@ -2,19 +2,20 @@
 //!
 //! [`LexedStr::new`] cuts a text into tokens, [`LexedStr::to_input`] leaves the trivia out,
 //! [`TopEntryPoint::parse`] parses what is left, and [`LexedStr::intersperse_trivia`] hands the tree, with the
-//! texts and the trivia put back, to a [`StrSink`].
+//! texts and the trivia put back, to a [`StrSink`]. [`frontmatter`] cuts a script source into its parts.
 #![tactic(auto)]
 
 mod entry_point;
 mod lexed_str;
 mod shortcuts;
 
-pub use entry_point::{ParseFault, TopEntryPoint};
-pub use lexed_str::{Errors, LexFault, LexedStr};
+pub use entry_point::{MAX_TOKENS, ParseFault, TopEntryPoint};
+pub use lexed_str::{Errors, LexFault, LexedStr, MAX_TEXT};
 pub use rap_base::edition::{Edition, InvalidEdition};
 pub use rap_base::no_memory::NoMemory;
 pub use rap_base::syntax_kind::SyntaxKind;
 pub use rap_base::whitespace::is_rust_whitespace;
 pub use rap_events::input::Input;
 pub use rap_events::output::{Output, Step, Steps};
+pub use rap_script::frontmatter;
 pub use shortcuts::{StrSink, StrStep};

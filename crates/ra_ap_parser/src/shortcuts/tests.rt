@@ -3,6 +3,7 @@ use super::{StrSink, StrStep};
 use crate::lexed_str::LexedStr;
 use rap_base::edition::Edition;
 use rap_base::syntax_kind::SyntaxKind;
+use rap_events::parser::Parser;
 use std::alloc::{AllocError, Global};
 use std::test::Fail;
 
@@ -118,5 +119,17 @@ fn reads_the_tokens_that_are_no_trivia(rt: HostRuntime) -> Result<(), Fail> {
     let input = lexed.to_input(rt.alloc(), Edition::Edition2024)?;
     assert_eq!(rt; lexed.len(), 17);
     assert_eq!(rt; input.len(), 9);
+    Ok(())
+}
+
+#[test]
+fn reads_contextual_keywords(rt: HostRuntime) -> Result<(), Fail> {
+    let alloc = rt.alloc();
+    let lexed = LexedStr::new(alloc, Edition::Edition2015, "dyn")?;
+    assert_eq!(rt; lexed.len(), 1);
+    assert_eq!(rt; lexed.kind(0), SyntaxKind::IDENT);
+    let input = lexed.to_input(alloc, Edition::Edition2015)?;
+    let parser = Parser::new(alloc, &input);
+    assert!(rt; parser.at_contextual_kw(SyntaxKind::DYN_KW));
     Ok(())
 }

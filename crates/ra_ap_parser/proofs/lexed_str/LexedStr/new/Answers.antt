@@ -4,16 +4,26 @@ use Rattle.std.proofs.lemmas.List.Elements.{All-push}
 use Rattle.rap_lexer.specs.First.{First}
 use Rattle.rap_base.specs.TokenTests.{IsTokenKind}
 use Rattle.ra_ap_parser.specs.About.{about}
+use Rattle.std.specs.Prelude.{option_to_list}
+use Rattle.ra_ap_parser.specs.Front.{pieces, front_kinds}
 use Rattle.ra_ap_parser.specs.LexedStr.{IsFirst}
 use Rattle.ra_ap_parser.specs.Told.{TellsOf}
-use Rattle.ra_ap_parser.proofs.Upto.{begun, more, lexing}
+use Rattle.std.proofs.lemmas.Str.{IsCharBoundary-from_rest}
+use Rattle.ra_ap_parser.proofs.Upto.{front_begun, front_tokens, more, lexing}
 use Rattle.ra_ap_parser.proofs.lexed_str.LexedStr.new.Goals as goal
 
 pub tokens-init : goal.tokens-init
-tokens-init c = (
-  begun c.args.edition _ _ _ _ c.utf8.text c.in_ok-kind.ensures.items (c.in_ok-push.ensures.items ∙ ap (λ l. l ++ 0 ∷ []) c.in_ok-start.ensures.items) c.new-error.ensures.items,
-  rw c.in_ok-kind.ensures.items (λ i d h. absurd (omega arith)),
-)
+tokens-init c =
+    let f = c.in_ok-front.front in
+    let kinds : c.push_front.new.kinds.items ≡ front_kinds f.shebang f.frontmatter = c.in_ok-push_front.ensures.kinds ∙ ap (λ l. l ++ front_kinds f.shebang f.frontmatter) c.in_ok-kind.ensures.items in
+    let zero : c.push.new.self.items ≡ 0 ∷ [] = c.in_ok-push.ensures.items ∙ ap (λ l. l ++ 0 ∷ []) c.in_ok-start.ensures.items in
+    let starts : c.push_front.new.starts.items ≡ 0 ∷ (option_to_list f.shebang ++ option_to_list f.frontmatter) = c.in_ok-push_front.ensures.starts ∙ ap (λ l. l ++ (option_to_list f.shebang ++ option_to_list f.frontmatter)) zero in
+    record {
+      front = pieces c.args.text.now f.shebang f.frontmatter;
+      is_front = c.in_ok-front.ensures.front;
+      upto = front_begun c.args.edition c.args.text.now f.shebang f.frontmatter _ _ _ _ c.utf8.text c.in_ok-front.ensures.ends kinds starts c.new-error.ensures.items c.end-offset.ensures;
+      kinds = rw kinds (front_tokens f.shebang f.frontmatter);
+    }
 
 pub tokens-preserved : goal.tokens-preserved
 tokens-preserved c =
@@ -31,10 +41,13 @@ tokens-preserved c =
     let number : c.len-number.result ≡ length c.tokens.kind.items = omega (arith, c.len-number.ensures) in
     let errors : c.tell.new.errors.items ≡ c.tokens.error.items ++ about (length c.tokens.kind.items) told.0 = told.2 ∙ ap (λ i. c.tokens.error.items ++ about i told.0) number in
     let since = rw next at c.since_open_after-since_open.ensures in
-    let all = more c.args.edition text _ _ c.tokens.error.items c.tokens.since_open offset token.kind n c.tokens.invariant.0 c.first_token-len.ensures.positive border told.0 is_first in (
-      rw (c.in_ok-push-2.ensures.items, c.in_ok-push-3.ensures.items, errors, since) all,
-      rw c.in_ok-push-2.ensures.items (All-push IsTokenKind c.tokens.kind.items token.kind c.tokens.invariant.1 c.first_token-len.ensures.kind),
-    )
+    let all = more c.args.edition text _ _ _ c.tokens.error.items c.tokens.since_open offset token.kind (offset + n) c.tokens.invariant.upto (omega (arith, c.first_token-len.ensures.positive)) (IsCharBoundary-from_rest text offset n c.tokens.invariant.upto.within border) told.0 is_first in
+    record {
+      front = c.tokens.invariant.front;
+      is_front = c.tokens.invariant.is_front;
+      upto = rw (c.in_ok-push-2.ensures.items, c.in_ok-push-3.ensures.items, errors, since) all;
+      kinds = rw c.in_ok-push-2.ensures.items (All-push IsTokenKind c.tokens.kind.items token.kind c.tokens.invariant.kinds c.first_token-len.ensures.kind);
+    }
 
 pub returns-clause-lexing : goal.returns-clause-lexing
-returns-clause-lexing c = lexing c.args.edition _ _ _ _ c.tokens.since_open c.tokens.offset c.tokens.invariant.0 (omega arith) c.utf8.text c.tokens-test.false
+returns-clause-lexing c = lexing c.args.edition _ _ _ _ _ c.tokens.since_open c.tokens.offset c.tokens.invariant.upto (omega arith) c.utf8.text c.tokens-test.false c.tokens.invariant.is_front
