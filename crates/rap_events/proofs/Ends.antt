@@ -25,7 +25,7 @@ abbrev pub Ended : ℕ → List Interval → Type 0
 Ended l [] = Unit {0}
 Ended l (n ∷ ns) = (n.end < l) × Ended l ns
 
-ended-next : (l : ℕ) (ns : List Interval) → Ended l ns → Ended (l + 1) ns
+pub ended-next : (l : ℕ) (ns : List Interval) → Ended l ns → Ended (l + 1) ns
 ended-next l [] h = tt
 ended-next l (n ∷ ns) h = (omega (arith, h.0), ended-next l ns h.1)
 
@@ -60,7 +60,7 @@ end_from-moved begin [] i xs h = h
 end_from-moved begin (n ∷ ns) i [] h = tt
 end_from-moved begin (n ∷ ns) i (x ∷ xs) h = (h.0, end_from-moved begin (n ∷ ns) (i + 1) xs h.1)
 
-ended-moved : (begin l : ℕ) (ns : List Interval) → Ended l ns → Ended l (with_last_from begin ns)
+pub ended-moved : (begin l : ℕ) (ns : List Interval) → Ended l ns → Ended l (with_last_from begin ns)
 ended-moved begin l [] h = h
 ended-moved begin l (n ∷ ns) h = h
 

@@ -7,6 +7,7 @@ pub mod HistoryLemmas
 pub mod Intervals
 pub mod MachineLemmas
 pub mod Marks
+pub mod Nesting
 pub mod Records
 pub mod Skips
 pub mod TreeExamples

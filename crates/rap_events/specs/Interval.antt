@@ -1,5 +1,5 @@
 -- The tree of a history: its nodes are intervals of call numbers.
-use Rattle.std.specs.Prelude.{ℕ, ◌+◌, List, [], ◌∷◌, ◌++◌, drop, ◌==◌, if◌then◌else◌}
+use Rattle.std.specs.Prelude.{ℕ, ◌+◌, ◌<◌, ◌≤◌, ◌⊎◌, List, [], ◌∷◌, ◌++◌, drop, ◌==◌, if◌then◌else◌}
 use Rattle.rap_events.specs.StepValue.{StepValue, enter, exit, token, message}
 use Rattle.rap_events.specs.History.{Call}
 use Rattle.rap_events.specs.History as call
@@ -9,6 +9,11 @@ pub record Interval : Type 0 where
   pub kind : ℕ
   pub begin : ℕ
   pub end : ℕ
+
+-- Of two nodes the one that was finished earlier ends before the other begins, or stands inside it.
+pub record Nested (later earlier : Interval) : Type 0 where
+  pub end : earlier.end < later.end
+  pub place : (earlier.end < later.begin) ⊎ (later.begin ≤ earlier.begin)
 
 -- where each open marker begins, the newest first, and the nodes, the last finished first
 pub record Marked : Type 0 where

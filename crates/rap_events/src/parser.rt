@@ -1,5 +1,5 @@
 //! The parser: a place in the input, and what was recorded so far.
-ghost use Rattle.std.specs.Prelude.{◌≡◌, ◌^◌, ◌≢◌, ℕ, ◌+◌, ◌-◌, ◌<◌, ◌≤◌, ◌↔◌, List, [], ◌∷◌, ◌++◌, length, drop, map, true, All, IfOk, OnOk, IsTrue, Some, None, string_bytes};
+ghost use Rattle.std.specs.Prelude.{◌≡◌, ◌^◌, ◌≢◌, ℕ, ◌+◌, ◌-◌, ◌<◌, ◌≤◌, ◌↔◌, List, [], ◌∷◌, ◌++◌, length, drop, map, true, All, AllPairs, IfOk, OnOk, IsTrue, Some, None, string_bytes};
 ghost use Rattle.rap_base.specs.TokenKind.{EOF, IDENT};
 ghost use Rattle.rap_base.specs.TokenSet.{member};
 ghost use Rattle.rap_base.specs.Keyword.{is_any_identifier};
@@ -62,7 +62,7 @@ impl<'t> Parser<'t> {
     ghost use Rattle.rap_events.specs.Cover.{stands, covers};
     ghost use Rattle.rap_events.specs.Fit.{AllFitIn};
     ghost use Rattle.rap_events.specs.Forest.{flat, used, marks};
-    ghost use Rattle.rap_events.specs.Interval.{tree_steps};
+    ghost use Rattle.rap_events.specs.Interval.{tree_steps, nodes_of, Nested};
     ghost use Rattle.rap_events.specs.Machine.{floor};
     ghost use Rattle.rap_events.specs.Composite.{width};
     ghost use Rattle.rap_events.specs.Record.{kind_at, contextual_at, edition_at};
@@ -323,6 +323,7 @@ impl<'t> Parser<'t> {
         requires { (state self).below ≡ floor }
         ensures forest { IfOk result (λ output. output ≡ (state self.entry).forest) }
         ensures tree { IfOk result (λ output. flat output ≡ tree_steps (calls self.entry)) }
+        ensures nested { AllPairs Nested (nodes_of (calls self.entry)) }
         ensures few { IfOk result (λ output. length (flat output) ≤ (state self.entry).count) }
         ensures covers { IfOk result (λ output. covers (state self.entry).input output ≡ true) }
         ensures used { IfOk result (λ output. used output + (state self.entry).left ≡ length (state self.entry).input) }
