@@ -146,7 +146,9 @@ impl<'a> Model for Steps<'a> {
 impl<'a> Iterator for Steps<'a> {
     type Item = Step<'a>;
 
-    ghost use Rattle.std.specs.Iterator.{YieldsFirstBy, item_count};
+    ghost use Rattle.std.specs.Prelude.{Some, IfSome};
+    ghost use Rattle.std.specs.Iterator.{YieldsFirstBy, item_count, UpTo};
+    ghost use Rattle.std.specs.Iterator.SizeHint.{IsWithinCount};
     ghost use Rattle.rap_events.specs.Step.{step_value};
 
     ghost next_gives = { YieldsFirstBy step_value (λ steps. steps) };
@@ -159,7 +161,11 @@ impl<'a> Iterator for Steps<'a> {
         Some(first.handed_out())
     }
 
-    fn size_hint(&self) -> (usize, Option<usize>) {
+    fn size_hint(&self) -> (usize, Option<usize>)
+        ensures lower { IsWithinCount result.0 (item_count (λ steps. steps) self.now) }
+        ensures upper { IfSome result.1 (UpTo (item_count (λ steps. steps) self.now)) }
+        ensures exact { (result.0 ≡ length self.now) × (result.1 ≡ Some (length self.now)) }
+    {
         (self.rest.len(), Some(self.rest.len()))
     }
 }
