@@ -1,9 +1,11 @@
 pub mod ScriptAccepted
+pub mod ScriptAnswers
 pub mod ScriptBlank
 pub mod ScriptBorders
 pub mod ScriptClosing
 pub mod ScriptFences
 pub mod ScriptLines
+pub mod ScriptOnce
 pub mod ScriptParts
 pub mod ScriptRefused
 pub mod ScriptShebang

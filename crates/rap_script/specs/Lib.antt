@@ -1,3 +1,4 @@
+pub mod OneAnswer
 pub mod Refusal
 pub mod Script
 pub mod ScriptFault

@@ -4,6 +4,7 @@ ghost use Rattle.std.specs.Option.{option_map};
 ghost use Rattle.rap_script.specs.Script.{IsScript, AtBorders, dashes, span, up_to, moved};
 ghost use Rattle.rap_script.specs.ScriptPlaces.{HasNoDashes, Opens, Closes, Ends, closed};
 ghost use Rattle.rap_script.specs.ScriptFault.{IsFault};
+ghost use Rattle.rap_script.specs.OneAnswer.{IsOnlyScript, IsOnlyFault};
 ghost use Rattle.rap_script.specs.Refusal.{unclosed, end_of};
 
 use crate::frontmatter::close::{Closing, FoundClose, find_close};
@@ -26,24 +27,35 @@ impl<'s> ScriptSource<'s> {
     pub fn parse(alloc: Global, raw: &'s str) -> Result<ScriptSource<'s>, ScriptFault>
         ensures accepted { IfOk result (IsScript raw.now) }
         ensures borders { IfOk result AtBorders }
+        ensures only { IfOk result (IsOnlyScript raw.now) }
         ensures refused { IfErr result (IsFault raw.now) }
+        ensures only_fault { IfErr result (IsOnlyFault raw.now) }
     {
-        let opening = find_opening(raw);
-        if opening.dashes.len == 0 {
-            return Ok(without_frontmatter(raw, &opening));
-        }
-        if opening.dashes.len < SHORTEST_FENCE {
-            let len = raw.len();
-            let error = tell::opens_too_short(
-                alloc,
-                opening.dashes.len,
-                len..len,
-                opening.dashes.span(),
-            )?;
-            return Err(ScriptFault::Refused(error));
-        }
-        after_opening(alloc, raw, &opening)
+        source_of(alloc, raw)
     }
+}
+
+/// The parts of a text, or why it has none.
+fn source_of<'s>(alloc: Global, raw: &'s str) -> Result<ScriptSource<'s>, ScriptFault>
+    ensures accepted { IfOk result (IsScript raw.now) }
+    ensures borders { IfOk result AtBorders }
+    ensures refused { IfErr result (IsFault raw.now) }
+{
+    let opening = find_opening(raw);
+    if opening.dashes.len == 0 {
+        return Ok(without_frontmatter(raw, &opening));
+    }
+    if opening.dashes.len < SHORTEST_FENCE {
+        let len = raw.len();
+        let error = tell::opens_too_short(
+            alloc,
+            opening.dashes.len,
+            len..len,
+            opening.dashes.span(),
+        )?;
+        return Err(ScriptFault::Refused(error));
+    }
+    after_opening(alloc, raw, &opening)
 }
 
 /// What follows the shebang is the content.

@@ -1,14 +1,8 @@
-use Rattle.std.proofs.Common.{refl, sym, subst, ◌∙◌, arith}
-use Rattle.rap_script.specs.Refusal.{Refusal, IsRefused}
-use Rattle.rap_script.proofs.ScriptRefused.{no_memory, told_same, refused_short}
+use Rattle.rap_script.proofs.ScriptAnswers.{only_script, only_fault}
 use Rattle.rap_script.proofs.frontmatter.script_source.ScriptSource.parse.Goals as goal
 
-pub returns-in_err-error-clause-refused : goal.returns-in_err-error-clause-refused
-returns-in_err-error-clause-refused c =
-    no_memory _ _ _ c.from_residual.ensures.1 (refused_short _ _ _ _ c.find_opening-opening.ensures (omega arith) c.if-opening-lt-SHORTEST_FENCE.true)
+pub returns-clause-only : goal.returns-clause-only
+returns-clause-only c = only_script _ _ c.source_of.ensures.accepted
 
-pub returns-then-opening-lt-SHORTEST_FENCE-clause-refused : goal.returns-then-opening-lt-SHORTEST_FENCE-clause-refused
-returns-then-opening-lt-SHORTEST_FENCE-clause-refused c =
-    let refused = refused_short _ _ _ _ c.find_opening-opening.ensures (omega arith) c.if-opening-lt-SHORTEST_FENCE.true in
-    let same = c.in_ok-error.ensures ∙ told_same _ _ _ _ _ _ refl refl c.span.ensures in
-    subst (λ (e : Refusal). IsRefused c.args.raw.now e) (sym same) refused
+pub returns-clause-only_fault : goal.returns-clause-only_fault
+returns-clause-only_fault c = only_fault _ _ c.source_of.ensures.refused
