@@ -1,13 +1,12 @@
 -- The operands of a binary expression, and what is known at its end.
-use Rattle.std.proofs.Common.{◌≡◌, ◌≢◌, ℕ, ◌+◌, ◌*◌, ◌<◌, ◌≤◌, ap, sym, ◌∙◌, refl, arith, true, false, Bool, Option, Some, None, List, [], ◌∷◌}
-use Rattle.rap_base.specs.NodeKind.{BIN_EXPR, TOKEN_TREE}
+use Rattle.std.proofs.Common.{◌≡◌, ◌≢◌, ℕ, ◌+◌, ◌<◌, ◌≤◌, ap, sym, ◌∙◌, refl, arith, false, Option, Some, None, List, [], ◌∷◌}
+use Rattle.rap_base.specs.NodeKind.{BIN_EXPR}
 use Rattle.rap_events.specs.Composite.{parts, width, width_of}
 use Rattle.rap_events.specs.Forest.{Forest, none, node, leaf}
 use Rattle.rap_events.specs.Power.{power, operator, open_ended, last_leaf, or_else, is_dots}
-use Rattle.rap_events.specs.Fit.{Fit, Binds}
-use Rattle.rap_events.specs.State.{State, Preceded, Bumped, Completed, last_children, but_last}
+use Rattle.rap_events.specs.Fit.{Fit}
+use Rattle.rap_events.specs.State.{State, Preceded, Bumped, Completed, last_children}
 use Rattle.rap_events.specs.declared.parser.CompletedMarker.{CompletedMarker}
-use Rattle.rap_events.specs.declared.parser.Marker.{Marker}
 use Rattle.rap_grammar.specs.declared.grammar.BlockLike.{BlockLike}
 use Rattle.rap_grammar.specs.Operator.{operator_at}
 use Rattle.rap_grammar.specs.Rules.{Answered}

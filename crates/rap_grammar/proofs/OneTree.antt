@@ -1,6 +1,6 @@
 -- Whether steps show one tree, weighed from left to right: one for each node outside of others, two for each token
 -- and each message there.
-use Rattle.std.proofs.Common.{◌≡◌, ◌≢◌, ℕ, suc, zero, ◌+◌, ◌-◌, ◌<◌, ◌≤◌, List, [], ◌∷◌, ◌++◌, Bool, true, false, refl, ap, sym, ◌∙◌, arith, append_assoc, append-nil, nat_eq}
+use Rattle.std.proofs.Common.{◌≡◌, ◌≢◌, ℕ, suc, zero, ◌+◌, ◌-◌, List, [], ◌∷◌, ◌++◌, Bool, true, false, refl, ap, sym, ◌∙◌, arith, append_assoc, append-nil, nat_eq}
 use Rattle.std.proofs.lemmas.Bool.Decides.{nat_tests}
 use Rattle.rap_events.specs.StepValue.{StepValue, enter, exit, token, message}
 use Rattle.rap_events.specs.Forest.{Forest, none, node, leaf, mark, flat, one_tree}

@@ -1,11 +1,11 @@
 -- What a top entry makes of what was parsed.
-use Rattle.std.proofs.Common.{◌≡◌, ◌≢◌, ℕ, ◌+◌, ◌≤◌, List, [], ◌∷◌, ◌++◌, drop, length, length-append, Bool, true, false, Some, None, refl, ap, sym, ◌∙◌, arith}
+use Rattle.std.proofs.Common.{◌≡◌, ◌≢◌, ℕ, ◌+◌, List, [], ◌∷◌, drop, length, length-append, Bool, true, false, None, refl, ap, sym, ◌∙◌, arith}
 use Rattle.std.proofs.Math.Logic.{∥∥₁_map}
 use Rattle.rap_base.specs.TokenKind.{EOF, ERROR}
 use Rattle.rap_events.specs.Record.{Record, next_kind}
 use Rattle.rap_events.specs.Forest.{Forest, none, node, leaf, mark, ◌⧺◌, flat, used, marks, one_tree}
 use Rattle.rap_events.specs.Fit.{AllFitIn}
-use Rattle.rap_events.specs.Machine.{Stack, floor, push, top}
+use Rattle.rap_events.specs.Machine.{floor, push, top}
 use Rattle.rap_events.specs.State.{State, state, next, Bumped, Abandoned, Completed, but_last}
 use Rattle.rap_events.specs.declared.parser.Parser.{Parser}
 use Rattle.rap_grammar.specs.Top.{with_leaves, top_tree, kept}

@@ -1,5 +1,5 @@
 -- What a rule decides by the tokens that come next.
-use Rattle.std.specs.Prelude.{ℕ, List, [], ◌∷◌, ◌==◌, ◌||◌, ◌&&◌, not, Bool, drop}
+use Rattle.std.specs.Prelude.{List, [], ◌∷◌, ◌==◌, ◌||◌, ◌&&◌, not, Bool, drop}
 use Rattle.rap_base.specs.TokenKind.{IDENT, L_PAREN, L_BRACK, L_CURLY, DOT, DOT2, DOT2EQ, COLON2, QUESTION}
 use Rattle.rap_events.specs.Record.{Record, next_kind, kind_at}
 use Rattle.rap_events.specs.Composite.{parts, begins_with}

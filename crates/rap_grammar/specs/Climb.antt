@@ -1,5 +1,5 @@
 -- What climbing by powers knows of an expression, as long as no message was told.
-use Rattle.std.specs.Prelude.{◌≡◌, ◌≢◌, ℕ, ◌≤◌, ◌<◌, Bool, true, false}
+use Rattle.std.specs.Prelude.{◌≡◌, ◌≢◌, ℕ, ◌≤◌, ◌<◌, Bool, false}
 use Rattle.rap_base.specs.NodeKind.{BIN_EXPR}
 use Rattle.rap_events.specs.Forest.{Forest}
 use Rattle.rap_events.specs.Power.{power, operator, open_ended}

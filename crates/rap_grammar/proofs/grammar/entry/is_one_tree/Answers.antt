@@ -1,4 +1,4 @@
-use Rattle.std.proofs.Common.{arith, ap, refl, ◌∙◌, ◌≡◌, [], ◌∷◌, inl, inr}
+use Rattle.std.proofs.Common.{arith, ap, refl, ◌≡◌, inl, inr}
 use Rattle.rap_events.specs.Step.{step_value}
 use Rattle.rap_grammar.proofs.OneTree.{weight_of, by_weight, second, beside}
 use Rattle.rap_grammar.proofs.grammar.entry.is_one_tree.Goals as goal

@@ -1,4 +1,3 @@
-use Rattle.rap_events.specs.State.{state}
 use Rattle.rap_grammar.proofs.Binary.{fits, bound}
 use Rattle.rap_grammar.proofs.grammar.expressions.bin_expr.Goals as goal
 
