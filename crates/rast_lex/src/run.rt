@@ -11,6 +11,8 @@ use std::io;
 use std::str::FromStr;
 
 #[cfg(test)]
+mod sample;
+#[cfg(test)]
 mod tests;
 
 /// What is to be listed.
