@@ -13,4 +13,5 @@ pub mod Skips
 pub mod TreeExamples
 pub mod Truth
 pub mod Unwinding
+pub mod Values
 pub mod Weight

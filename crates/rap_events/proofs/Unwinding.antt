@@ -1,16 +1,18 @@
 -- Reading the calls from the last one back gives the steps of the forest.
-use Rattle.std.proofs.Common.{◌≡◌, ℕ, suc, ◌+◌, List, [], ◌∷◌, ◌++◌, Bool, true, false, refl, sym, ap, ◌∙◌, append_assoc, append-nil, reverse, length, map, min, take, drop, ◌≤◌, arith}
-use Rattle.std.proofs.lemmas.List.{reverse-append, map-append, take-append-drop, drop_min, take_min}
+use Rattle.std.proofs.Common.{◌≡◌, ℕ, suc, ◌+◌, List, [], ◌∷◌, ◌++◌, Bool, true, false, refl, sym, ap, ◌∙◌, append_assoc, append-nil, reverse, length, min, take, drop, ◌≤◌, arith}
+use Rattle.std.proofs.lemmas.List.{reverse-append, take-append-drop, drop_min, take_min}
+use Rattle.std.specs.Prelude.{String}
+use Rattle.std.specs.declared.alloc.Global.{Global}
 use Rattle.rap_events.specs.StepValue.{StepValue, enter, exit, token, message}
 use Rattle.rap_events.specs.Forest.{Forest, none, node, leaf, mark, ◌⧺◌, flat}
 use Rattle.rap_events.specs.History.{Call}
 use Rattle.rap_events.specs.History as call
 use Rattle.rap_events.specs.Machine.{Stack, floor, push, Config, close, merge, wrap, stretch, step, run, initial}
-use Rattle.rap_events.specs.Output.{value_of}
+use Rattle.rap_events.specs.Output.{values}
 use Rattle.rap_events.specs.Unwind.{Opening, Walk, enters, glue, others, back, unwind, nothing_yet, openings_of}
 use Rattle.rap_events.specs.declared.event.walk.Opening as kept
-use Rattle.rap_events.specs.declared.output.OwnedStep.{OwnedStep}
-use Rattle.rap_events.specs.declared.output.OwnedStep.TheVariants as owned
+use Rattle.rap_events.specs.declared.output.PlainStep.{PlainStep}
+use Rattle.rap_events.specs.declared.output.PlainStep.TheVariants as plain
 use Rattle.rap_events.proofs.Truth.{and_left}
 use Rattle.rap_events.proofs.MachineLemmas.{sound-run}
 
@@ -135,15 +137,11 @@ back-skips call.abandon w = omega arith
 back-skips (call.token k n) w = omega arith
 back-skips (call.message m) w = omega arith
 
-pub map-reverse : {A B : Type 0} (f : A → B) (xs : List A) → map f (reverse xs) ≡ reverse (map f xs)
-map-reverse f [] = refl
-map-reverse f (x ∷ xs) = ap (map f) (reverse-append (x ∷ []) xs) ∙ map-append f (reverse xs) (x ∷ []) ∙ ap (λ ys. ys ++ f x ∷ []) (map-reverse f xs) ∙ sym (reverse-append (f x ∷ []) (map f xs))
-
 -- one more node begins
-pub entered : (kinds kinds' : List ℕ) (k : ℕ) (steps steps' : List OwnedStep) → kinds ≡ kinds' ++ k ∷ [] → steps' ≡ steps ++ owned.Enter k ∷ [] →
-    enters kinds' ++ reverse (map value_of steps') ≡ enters kinds ++ reverse (map value_of steps)
-entered kinds kinds' k steps steps' e f =
-    rw (e, f, enters-push kinds' k (reverse (map value_of steps)), map-append value_of steps (owned.Enter k ∷ []), reverse-append (map value_of steps) (enter k ∷ [])) refl
+pub entered : (kinds kinds' : List ℕ) (k : ℕ) (steps steps' : List PlainStep) (ms : List (String Global)) → kinds ≡ kinds' ++ k ∷ [] → steps' ≡ steps ++ plain.Enter k ∷ [] →
+    enters kinds' ++ values (reverse steps') ms ≡ enters kinds ++ values (reverse steps) ms
+entered kinds kinds' k steps steps' ms e f =
+    rw (e, f, enters-push kinds' k (values (reverse steps) ms), reverse-append steps (plain.Enter k ∷ [])) refl
 
 -- the topmost opening becomes what is around the node that ends next
 pub preceded_back : (w : Walk) (kinds : List ℕ) (held first held' s t : ℕ) (below os : List kept.Opening) (steps : List StepValue) →

@@ -1,18 +1,21 @@
 -- The steps that an output holds.
-use Rattle.std.specs.Prelude.{List, [], map, Option, Some, None, Vec, string_bytes}
+use Rattle.std.specs.Prelude.{List, [], ◌∷◌, Option, Some, None, String, string_bytes}
 use Rattle.std.specs.declared.alloc.Global.{Global}
 use Rattle.rap_events.specs.StepValue.{StepValue, enter, exit, token, message}
-use Rattle.rap_events.specs.declared.output.OwnedStep.{OwnedStep}
-use Rattle.rap_events.specs.declared.output.OwnedStep.TheVariants as owned
+use Rattle.rap_events.specs.declared.output.PlainStep.{PlainStep}
+use Rattle.rap_events.specs.declared.output.PlainStep.TheVariants as plain
+use Rattle.rap_events.specs.declared.output.StepList.{StepList}
 
--- what a contract sees of a step
-abbrev pub value_of : OwnedStep → StepValue
-value_of (owned.Token kind width) = token kind width
-value_of (owned.Enter kind) = enter kind
-value_of owned.Exit = exit
-value_of (owned.Error msg) = message (string_bytes msg)
+-- what a contract sees of steps, each error with the next of the messages
+abbrev pub values : List PlainStep → List (String Global) → List StepValue
+values [] ms = []
+values (plain.Token kind width ∷ ss) ms = token kind width ∷ values ss ms
+values (plain.Enter kind ∷ ss) ms = enter kind ∷ values ss ms
+values (plain.Exit ∷ ss) ms = exit ∷ values ss ms
+values (plain.Error ∷ ss) [] = message [] ∷ values ss []
+values (plain.Error ∷ ss) (m ∷ ms) = message (string_bytes m) ∷ values ss ms
 
 -- what a contract sees of steps that may be there
-abbrev pub values_of : Option (Vec OwnedStep Global) → List StepValue
+abbrev pub values_of : Option StepList → List StepValue
 values_of None = []
-values_of (Some steps) = map value_of steps.items
+values_of (Some list) = values list.steps.items list.messages.items

@@ -1,10 +1,10 @@
 -- Reading a history from its last call back: what is kept on the way, and what each call does to it.
-use Rattle.std.specs.Prelude.{◌≡◌, ℕ, suc, zero, List, [], ◌∷◌, ◌++◌, map, reverse, take, drop, String, string_bytes}
+use Rattle.std.specs.Prelude.{◌≡◌, ℕ, suc, zero, List, [], ◌∷◌, ◌++◌, reverse, take, drop, String, string_bytes}
 use Rattle.std.specs.declared.alloc.Global.{Global}
 use Rattle.rap_events.specs.StepValue.{StepValue, enter, exit, token, message}
 use Rattle.rap_events.specs.History.{Call}
 use Rattle.rap_events.specs.History as call
-use Rattle.rap_events.specs.Output.{value_of}
+use Rattle.rap_events.specs.Output.{values}
 use Rattle.rap_events.specs.declared.event.Event.{Event}
 use Rattle.rap_events.specs.declared.event.Event.TheVariants as event
 use Rattle.rap_events.specs.declared.event.walk.Opening as kept_opening
@@ -76,7 +76,7 @@ walk_of w = record {
   kinds = drop w.held w.kinds.items;
   skips = w.skips;
   openings = openings_of (reverse w.openings.items) (take w.held w.kinds.items);
-  steps = reverse (map value_of w.steps.items);
+  steps = values (reverse w.steps.items) (reverse w.told.items);
 }
 
 -- the messages are as before, and this call was taken back

@@ -1,5 +1,8 @@
 //! What a parse gives: the steps of its forest.
-ghost use Rattle.std.specs.Prelude.{◌≡◌, ◌<◌, ◌^◌, length, map, IfOk};
+ghost use Rattle.std.specs.Prelude.{◌≡◌, ◌≤◌, ◌<◌, ◌^◌, List, ◌∷◌, length, IfOk};
+ghost use Rattle.rap_events.specs.StepValue.{message};
+ghost use Rattle.rap_events.specs.Output.{values};
+ghost use Rattle.rap_events.specs.declared.output.PlainStep.TheVariants as plain;
 ghost use Rattle.rap_events.specs.Forest.{none, node, flat};
 ghost use Rattle.rap_events.specs.Reading.{forest_of};
 
@@ -7,10 +10,11 @@ use rap_base::no_memory::NoMemory;
 use rap_base::syntax_kind::SyntaxKind;
 use std::alloc::Global;
 use std::marker::Model;
+use std::mem::size_of;
 
-/// A step with its message.
-#[derive(Drop)]
-pub(crate) enum OwnedStep {
+/// A step. The n-th error has the n-th of the messages beside.
+#[derive(Clone, Copy)]
+pub(crate) enum PlainStep {
     Token {
         kind: SyntaxKind,
         n_input_tokens: u8,
@@ -19,15 +23,22 @@ pub(crate) enum OwnedStep {
         kind: SyntaxKind,
     },
     Exit,
-    Error {
-        msg: String,
-    },
+    Error,
+}
+
+const _: () = prove!(size_of::<PlainStep>() <= 8);
+
+/// Steps with their messages.
+#[derive(Drop)]
+pub(crate) struct StepList {
+    steps: Vec<PlainStep>,
+    messages: Vec<String>,
 }
 
 /// What a parse gives. Contracts see the forest.
 #[derive(Drop)]
 pub struct Output {
-    steps: Option<Vec<OwnedStep>>,
+    list: Option<StepList>,
 }
 
 impl Model for Output {
@@ -41,9 +52,9 @@ impl Model for Output {
 
     ghost use Rattle.rap_events.specs.Output.{values_of};
 
-    ghost view = { λ output. forest_of (values_of output.steps) };
+    ghost view = { λ output. forest_of (values_of output.list) };
 
-    ghost invariant = { λ output. flat (forest_of (values_of output.steps)) ≡ values_of output.steps };
+    ghost invariant = { λ output. flat (forest_of (values_of output.list)) ≡ values_of output.list };
 }
 
 /// No steps.
@@ -54,41 +65,49 @@ impl Default for Output {
     ghost is_default = { λ output. output ≡ none };
 
     fn default() -> Output {
-        Output { steps: None }
+        Output { list: None }
     }
 }
 
 impl Output {
-    ghost use Rattle.rap_events.specs.Output.{value_of};
-
-    /// The output that these steps make.
-    pub(crate) fn of_steps(steps: Vec<OwnedStep>) -> Output
-        requires { flat (forest_of (map value_of steps.items)) ≡ map value_of steps.items }
-        ensures { result ≡ forest_of (map value_of steps.items) }
+    /// The output that these steps make, each error with the next of the messages.
+    pub(crate) fn of_steps(steps: Vec<PlainStep>, messages: Vec<String>) -> Output
+        requires { flat (forest_of (values steps.items messages.items)) ≡ values steps.items messages.items }
+        ensures { result ≡ forest_of (values steps.items messages.items) }
     {
-        Output { steps: Some(steps) }
+        Output {
+            list: Some(StepList { steps, messages }),
+        }
     }
 
     /// The steps that show this forest.
-    fn into_steps(self, alloc: Global) -> Vec<OwnedStep>
-        ensures { map value_of result.items ≡ flat self }
+    fn into_list(self, alloc: Global) -> StepList
+        ensures { values result.steps.items result.messages.items ≡ flat self }
     {
-        match self.steps {
-            Some(steps) => steps,
-            None => Vec::new(alloc),
+        match self.list {
+            Some(list) => list,
+            None => StepList {
+                steps: Vec::new(alloc),
+                messages: Vec::new(alloc),
+            },
         }
     }
 
     /// The steps of the forest, from left to right. Takes no memory.
+    #[tactic(auto, using(crate::proofs::Values::values_length))]
     pub fn iter(&self) -> Steps<'_>
         ensures steps { result ≡ flat self.now }
         ensures few { length (flat self.now) < 2 ^ 64 }
     {
-        match &self.steps {
-            Some(steps) => Steps {
-                rest: steps.as_slice(),
+        match &self.list {
+            Some(list) => Steps {
+                rest: list.steps.as_slice(),
+                messages: list.messages.as_slice(),
             },
-            None => Steps { rest: &[] },
+            None => Steps {
+                rest: &[],
+                messages: &[],
+            },
         }
     }
 }
@@ -99,10 +118,13 @@ impl Output {
 pub fn under(alloc: Global, output: Output, kind: SyntaxKind) -> Result<Output, NoMemory>
     ensures { IfOk result (λ wrapped. wrapped ≡ node none kind output) }
 {
-    let mut steps = output.into_steps(alloc);
-    steps.insert(0, OwnedStep::Enter { kind })?;
-    steps.push(OwnedStep::Exit)?;
-    Ok(Output::of_steps(steps))
+    let StepList {
+        mut steps,
+        messages,
+    } = output.into_list(alloc);
+    steps.insert(0, PlainStep::Enter { kind })?;
+    steps.push(PlainStep::Exit)?;
+    Ok(Output::of_steps(steps, messages))
 }
 
 /// A step of an output: `n_input_tokens` tokens under one kind, the beginning of a node, the end of the newest open
@@ -122,10 +144,11 @@ pub enum Step<'a> {
     },
 }
 
-/// The steps that are left. Contracts see their list.
+/// The steps that are left, and the messages of their errors. Contracts see the list of the steps.
 #[derive(Drop)]
 pub struct Steps<'a> {
-    rest: &'a [OwnedStep],
+    rest: &'a [PlainStep],
+    messages: &'a [String],
 }
 
 impl<'a> Model for Steps<'a> {
@@ -138,11 +161,12 @@ impl<'a> Model for Steps<'a> {
 
     ghost coded = { coded_list step_code };
 
-    ghost use Rattle.rap_events.specs.Output.{value_of};
+    ghost use Rattle.rap_events.specs.Output.{values};
 
-    ghost view = { λ steps. map value_of steps.rest.now };
+    ghost view = { λ steps. values steps.rest.now steps.messages.now };
 }
 
+#[tactic(auto, using(crate::proofs::Values::values_length))]
 impl<'a> Iterator for Steps<'a> {
     type Item = Step<'a>;
 
@@ -158,7 +182,22 @@ impl<'a> Iterator for Steps<'a> {
     fn next(&mut self) -> Option<Step<'a>> {
         let (first, rest) = self.rest.split_first()?;
         self.rest = rest;
-        Some(first.handed_out())
+        Some(match *first {
+            PlainStep::Token {
+                kind,
+                n_input_tokens,
+            } => Step::Token {
+                kind,
+                n_input_tokens,
+            },
+            PlainStep::Enter { kind } => Step::Enter { kind },
+            PlainStep::Exit => Step::Exit,
+            PlainStep::Error => {
+                let (msg, later) = first_message(self.messages);
+                self.messages = later;
+                Step::Error { msg }
+            }
+        })
     }
 
     fn size_hint(&self) -> (usize, Option<usize>)
@@ -170,30 +209,19 @@ impl<'a> Iterator for Steps<'a> {
     }
 }
 
+#[tactic(auto, using(crate::proofs::Values::values_length))]
 impl<'a> ExactSizeIterator for Steps<'a> {
     fn len(&self) -> usize {
         self.rest.len()
     }
 }
 
-impl OwnedStep {
-    ghost use Rattle.rap_events.specs.Output.{value_of};
-    ghost use Rattle.rap_events.specs.Step.{step_value};
-
-    fn handed_out(&self) -> Step<'_>
-        ensures { step_value result ≡ value_of self.now }
-    {
-        match self {
-            OwnedStep::Token {
-                kind,
-                n_input_tokens,
-            } => Step::Token {
-                kind: *kind,
-                n_input_tokens: *n_input_tokens,
-            },
-            OwnedStep::Enter { kind } => Step::Enter { kind: *kind },
-            OwnedStep::Exit => Step::Exit,
-            OwnedStep::Error { msg } => Step::Error { msg: msg.as_str() },
-        }
+// The first message, or nothing where there is none, and the later ones.
+fn first_message(messages: &[String]) -> (&str, &[String])
+    ensures { (ss : List PlainStep) → values (plain.Error ∷ ss) messages.now ≡ message result.0.now ∷ values ss result.1.now }
+{
+    match messages.split_first() {
+        Some((first, later)) => (first.as_str(), later),
+        None => ("", messages),
     }
 }

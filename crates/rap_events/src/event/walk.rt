@@ -1,10 +1,10 @@
 //! Reading events from the last one back.
-ghost use Rattle.std.specs.Prelude.{◌≡◌, ◌≤◌, ◌<◌, ◌+◌, ◌^◌, IfOk, OnOk, length, ◌++◌, reverse, map, [], ◌∷◌};
+ghost use Rattle.std.specs.Prelude.{◌≡◌, ◌≤◌, ◌<◌, ◌+◌, ◌^◌, IfOk, OnOk, length, ◌++◌, reverse, List, String, [], ◌∷◌};
 ghost use Rattle.rap_events.specs.Forest.{flat};
 ghost use Rattle.rap_events.specs.Reading.{forest_of};
 
 use super::Event;
-use crate::output::{Output, OwnedStep};
+use crate::output::{Output, PlainStep};
 use rap_base::no_memory::NoMemory;
 use rap_base::syntax_kind::SyntaxKind;
 use std::alloc::Global;
@@ -27,15 +27,16 @@ pub(super) struct Walk {
     // Past how many open markers the node that ends next begins.
     skips: usize,
     openings: Vec<Opening>,
-    // The steps, from the last one back.
-    steps: Vec<OwnedStep>,
+    // The steps, from the last one back, and the messages of their errors.
+    steps: Vec<PlainStep>,
+    told: Vec<String>,
     ghost within: { held ≤ length kinds.items },
 }
 
 impl Walk {
     ghost use Rattle.rap_events.specs.History as call;
     ghost use Rattle.rap_events.specs.History.{errors};
-    ghost use Rattle.rap_events.specs.Output.{value_of};
+    ghost use Rattle.rap_events.specs.Output.{values};
     ghost use Rattle.rap_events.specs.Unwind.{walk_of, glue, others, enters, nothing_yet, Backed, ToldBack, EventBacked};
 
     pub(super) fn new(alloc: Global, events: usize, messages: Vec<String>) -> Result<Walk, NoMemory>
@@ -49,6 +50,7 @@ impl Walk {
             skips: 0,
             openings: Vec::new(alloc),
             steps: Vec::with_capacity(alloc, events)?,
+            told: Vec::new(alloc),
         })
     }
 
@@ -61,12 +63,14 @@ impl Walk {
         self.skips = 0;
     }
 
-    fn leaf(&mut self, step: OwnedStep) -> Result<(), NoMemory>
-        ensures walk { OnOk result (walk_of self.new ≡ record (walk_of self.old) { kinds = []; skips = 0; steps = value_of step ∷ (walk_of self.old).steps }) }
-        ensures messages { self.new.messages.items ≡ self.old.messages.items }
+    fn token(&mut self, kind: SyntaxKind, n_input_tokens: u8) -> Result<(), NoMemory>
+        ensures { OnOk result (Backed (call.token kind n_input_tokens) self.old self.new) }
     {
         self.let_go();
-        self.steps.push(step)?;
+        self.steps.push(PlainStep::Token {
+            kind,
+            n_input_tokens,
+        })?;
         Ok(())
     }
 
@@ -80,7 +84,7 @@ impl Walk {
         })?;
         self.held = self.kinds.len();
         self.skips = 0;
-        self.steps.push(OwnedStep::Exit)?;
+        self.steps.push(PlainStep::Exit)?;
         Ok(())
     }
 
@@ -116,13 +120,13 @@ impl Walk {
     }
 
     // Begins nodes of these kinds, the outermost first.
-    fn enter_all(steps: &mut Vec<OwnedStep>, kinds: &[SyntaxKind]) -> Result<(), NoMemory>
-        ensures { OnOk result (reverse (map value_of steps.new.items) ≡ enters kinds.now ++ reverse (map value_of steps.old.items)) }
+    fn enter_all(steps: &mut Vec<PlainStep>, kinds: &[SyntaxKind]) -> Result<(), NoMemory>
+        ensures { OnOk result ((ms : List (String Global)) → values (reverse steps.new.items) ms ≡ enters kinds.now ++ values (reverse steps.old.items) ms) }
     {
         let mut i = kinds.len();
         while i > 0 {
             i -= 1;
-            steps.push(OwnedStep::Enter { kind: kinds[i] })?;
+            steps.push(PlainStep::Enter { kind: kinds[i] })?;
         }
         Ok(())
     }
@@ -140,8 +144,10 @@ impl Walk {
         requires { 0 < length self.old.messages.items }
         ensures { OnOk result (ToldBack self.old self.new) }
     {
-        let msg = self.messages.pop().unwrap();
-        self.leaf(OwnedStep::Error { msg })?;
+        self.let_go();
+        let message = self.messages.pop().unwrap();
+        self.told.push(message)?;
+        self.steps.push(PlainStep::Error)?;
         Ok(())
     }
 
@@ -160,10 +166,7 @@ impl Walk {
                 Ok(())
             }
             Event::Abandon => self.abandon(),
-            Event::Token { kind, n_raw_tokens } => self.leaf(OwnedStep::Token {
-                kind,
-                n_input_tokens: n_raw_tokens,
-            }),
+            Event::Token { kind, n_raw_tokens } => self.token(kind, n_raw_tokens),
             Event::Error => self.tell(),
         }
     }
@@ -175,6 +178,8 @@ impl Walk {
     {
         let mut steps = self.steps;
         steps.reverse();
-        Output::of_steps(steps)
+        let mut messages = self.told;
+        messages.reverse();
+        Output::of_steps(steps, messages)
     }
 }

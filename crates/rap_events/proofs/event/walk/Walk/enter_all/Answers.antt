@@ -13,5 +13,5 @@ loop-i-preserved c =
     ap (λ (n : ℕ). take n kinds) (sym next) ∙ take_more kinds (i - 1) c.index-kinds-i.result last ∙ ap (λ (k : ℕ). take (i - 1) kinds ++ k ∷ []) (sym c.index-kinds-i.is) in
     record {
       within = omega arith;
-      entered = entered (take i kinds) (take (i - 1) kinds) c.index-kinds-i.result c.loop-i.steps.items c.push.new.self.items more c.in_ok-push.ensures.items ∙ c.loop-i.invariant.entered;
+      entered = λ ms. entered (take i kinds) (take (i - 1) kinds) c.index-kinds-i.result c.loop-i.steps.items c.push.new.self.items ms more c.in_ok-push.ensures.items ∙ c.loop-i.invariant.entered ms;
     }
