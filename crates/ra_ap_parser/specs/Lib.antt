@@ -1,5 +1,6 @@
 pub mod About
 pub mod Builder
+pub mod Fault
 pub mod Front
 pub mod Input
 pub mod LexedStr

@@ -1,5 +1,5 @@
 //! Where a parse begins.
-ghost use Rattle.std.specs.Prelude.{◌≡◌, ◌<◌, ◌↔◌, length, IfOk};
+ghost use Rattle.std.specs.Prelude.{◌≡◌, ◌<◌, ◌↔◌, length, IfOk, Some};
 ghost use Rattle.rap_grammar.specs.Top.{IsTreeOver};
 
 use rap_base::no_memory::NoMemory;
@@ -23,10 +23,14 @@ pub enum ParseFault {
 }
 
 impl fmt::Display for ParseFault {
+    ghost use Rattle.ra_ap_parser.specs.Fault.{parse_fault_text};
+
+    ghost output = { λ fault. Some (parse_fault_text fault) };
+
     fn fmt<W: fmt::Write>(&self, f: &mut fmt::Formatter<W>) -> fmt::Result {
         match self {
-            ParseFault::TooManyTokens => write!(f, "too many tokens"),
-            ParseFault::NoMemory => write!(f, "no memory"),
+            ParseFault::TooManyTokens => f.write_str("too many tokens"),
+            ParseFault::NoMemory => f.write_str("no memory"),
         }
     }
 }

@@ -1,5 +1,5 @@
 //! A text cut into tokens, with the lexer's messages.
-ghost use Rattle.std.specs.Prelude.{◌≡◌, ℕ, ◌<◌, ◌≤◌, ◌+◌, ◌^◌, ◌↔◌, IfOk, IsTrue, MatchOption, string_bytes, length, slice_range};
+ghost use Rattle.std.specs.Prelude.{◌≡◌, ℕ, ◌<◌, ◌≤◌, ◌+◌, ◌^◌, ◌↔◌, Some, IfOk, IfSome, IsTrue, MatchOption, string_bytes, length, slice_range};
 ghost use Rattle.std.specs.List.Sorted.{IsNonDecreasingBy, IsPartitionPoint};
 ghost use Rattle.std.specs.Option.{option_copied, option_map};
 ghost use Rattle.rap_base.specs.TokenTests.{IsTokenKind};
@@ -37,10 +37,14 @@ pub enum LexFault {
 }
 
 impl fmt::Display for LexFault {
+    ghost use Rattle.ra_ap_parser.specs.Fault.{lex_fault_text};
+
+    ghost output = { λ fault. Some (lex_fault_text fault) };
+
     fn fmt<W: fmt::Write>(&self, f: &mut fmt::Formatter<W>) -> fmt::Result {
         match self {
-            LexFault::TextTooLong => write!(f, "text too long"),
-            LexFault::NoMemory => write!(f, "no memory"),
+            LexFault::TextTooLong => f.write_str("text too long"),
+            LexFault::NoMemory => f.write_str("no memory"),
         }
     }
 }
@@ -321,7 +325,8 @@ impl<'a> Model for Errors<'a> {
 }
 
 impl<'a> Iterator for Errors<'a> {
-    ghost use Rattle.std.specs.Iterator.{YieldsFirstBy, item_count};
+    ghost use Rattle.std.specs.Iterator.{YieldsFirstBy, item_count, UpTo};
+    ghost use Rattle.std.specs.Iterator.SizeHint.{IsWithinCount};
     ghost use Rattle.ra_ap_parser.specs.LexedStr.{message_of_item};
 
     type Item = (usize, &'a str);
@@ -340,7 +345,11 @@ impl<'a> Iterator for Errors<'a> {
         }
     }
 
-    fn size_hint(&self) -> (usize, Option<usize>) {
+    fn size_hint(&self) -> (usize, Option<usize>)
+        ensures lower { IsWithinCount result.0 (item_count (λ errors. errors) self.now) }
+        ensures upper { IfSome result.1 (UpTo (item_count (λ errors. errors) self.now)) }
+        ensures exact { (result.0 ≡ length self.now) × (result.1 ≡ Some (length self.now)) }
+    {
         let count = self.len();
         (count, Some(count))
     }

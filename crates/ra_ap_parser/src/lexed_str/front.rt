@@ -1,6 +1,7 @@
 //! What stands before the first token of a text: the shebang and the frontmatter of a script source.
-ghost use Rattle.std.specs.Prelude.{◌≡◌, ◌<◌, ◌^◌, ◌++◌, ◌==◌, ℕ, position, IfOk, IfSome, OnOk, None, chars, unwrap_or, option_to_list};
+ghost use Rattle.std.specs.Prelude.{◌≡◌, ◌<◌, ◌^◌, ◌++◌, ◌==◌, ℕ, position, IfErr, IfOk, IfSome, OnOk, None, chars, unwrap_or, option_to_list};
 ghost use Rattle.std.specs.Option.{option_map};
+ghost use Rattle.rap_script.specs.Refusal.{Refusal, IsRefused};
 ghost use Rattle.rap_script.specs.Script.{HasLine};
 ghost use Rattle.ra_ap_parser.specs.Front.{front_kinds, pieces, is_passed, Leads, IsShebangLine, IsFront, AreEnds};
 
@@ -28,10 +29,11 @@ impl Front {
     }
 }
 
-/// Finds the pieces of a script source, or the shebang of a text that is refused as one.
+/// Finds the pieces of a script source, or the shebang of a text that is refused as one. Only the latter takes memory.
 pub fn find_front(alloc: Global, edition: Edition, text: &str) -> Result<Front, NoMemory>
     ensures front { IfOk result (λ f. IsFront edition text.now (pieces text.now f.shebang f.frontmatter)) }
     ensures ends { IfOk result (λ f. AreEnds text.now f.shebang f.frontmatter) }
+    ensures memory { IfErr result (λ _. (e : Refusal) × IsRefused text.now e) }
 {
     match ScriptSource::parse(alloc, text) {
         Ok(script) => Ok(script_front(&script)),
