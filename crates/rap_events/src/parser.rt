@@ -240,6 +240,7 @@ impl<'t> Parser<'t> {
     }
 
     /// Takes a token of this kind if one comes next, and else tells that it is missing. Tells whether it took one.
+    #[inline(never)]
     pub fn expect(&mut self, kind: SyntaxKind) -> Result<bool, NoMemory>
         requires { kind ≢ EOF }
         ensures { IfOk result (λ taken. Expected (state self.old) (state self.new) kind taken) }
@@ -254,6 +255,7 @@ impl<'t> Parser<'t> {
     }
 
     /// Tells a message before the next token.
+    #[inline(never)]
     pub fn error(&mut self, message: &str) -> Result<(), NoMemory>
         ensures state { OnOk result (Told (state self.old) (state self.new) message.now) }
         ensures recorded { OnOk result (calls self.new ≡ calls self.old ++ call.message message.now ∷ []) }
@@ -264,6 +266,7 @@ impl<'t> Parser<'t> {
     }
 
     /// Tells a message and takes the next token, if there is one, into an `ERROR`.
+    #[inline(never)]
     pub fn err_and_bump(&mut self, message: &str) -> Result<(), NoMemory>
         ensures { OnOk result (Skipped (state self.old) (state self.new) message.now) }
     {
@@ -278,6 +281,7 @@ impl<'t> Parser<'t> {
 
     /// Tells a message and takes the next token into an `ERROR`, unless that is a brace or a kind of the set: then
     /// the message is all. Tells whether the token was kept.
+    #[inline(never)]
     pub fn err_recover(&mut self, message: &str, recovery: TokenSet) -> Result<bool, NoMemory>
         ensures { IfOk result (λ kept. Recovered (state self.old) (state self.new) message.now recovery kept) }
     {

@@ -151,9 +151,8 @@ fn expr_from<G: Grammar>(
     ensures some { IfOk result (λ o. IfSome o (λ e. Closed (state p.old) (state p.new) e.0 104 × Climbed (state p.new) e.0.kind bp r.prefer_stmt)) }
     ensures none { IfOk result (λ o. o ≡ None → Dropped (state p.old) (state p.new) 5) }
 {
-    if !p.at_ts(expr_first()) {
-        p.err_recover("expected expression", expr_recovery_set())?;
-        m.abandon(p)?;
+    if !is_expr_start(p) {
+        missing_expr(p, m)?;
         return Ok(None);
     }
     let Some((lhs, block_like)) = lhs(p, g, r)? else {
@@ -169,6 +168,7 @@ fn expr_from<G: Grammar>(
 }
 
 /// The operators of at least the power `bp` after `lhs`, each with its operand on the right.
+#[inline(never)]
 fn climb<G: Grammar>(
     p: &mut Parser<'_>,
     g: &G,
@@ -270,6 +270,7 @@ fn has_range_end(p: &Parser<'_>, r: Restrictions) -> bool
 
 /// The dots of a range after its start `lhs`, as `..` and `..=b` after `a`. Tells whether an end followed them.
 #[tactic(auto, using(crate::proofs::Binary::width_positive))]
+#[inline(never)]
 fn range_expr<G: Grammar>(
     p: &mut Parser<'_>,
     g: &G,
@@ -313,6 +314,25 @@ fn expr_first() -> TokenSet
         SyntaxKind::DOT,
         SyntaxKind::MINUS,
     ]))
+}
+
+/// Whether an expression may begin here. It keeps the tables of the sets off the stack of those that go deeper.
+#[inline(never)]
+fn is_expr_start(p: &Parser<'_>) -> bool
+    ensures first { result ≡ is_expr_first (next (state p.now)) }
+    ensures more { IsTrue result → next (state p.now) ≢ EOF }
+{
+    p.at_ts(expr_first())
+}
+
+/// An expression is missing: the marker goes. It keeps the table of the set off the stack of those that go deeper.
+#[inline(never)]
+fn missing_expr(p: &mut Parser<'_>, m: Marker) -> Result<(), NoMemory>
+    requires newest { (state p.old).marker ≡ Some m.pos }
+    ensures { OnOk result (Dropped (state p.old) (state p.new) 5) }
+{
+    p.err_recover("expected expression", expr_recovery_set())?;
+    m.abandon(p)
 }
 
 /// An expression without an operator between two expressions, as `-a` and `a.b()`.
@@ -379,6 +399,7 @@ fn raw_follow() -> TokenSet
 }
 
 /// A reference, as `&a`, `&mut a` and `&raw const a`.
+#[inline(never)]
 fn ref_expr<G: Grammar>(
     p: &mut Parser<'_>,
     g: &G,
@@ -399,6 +420,7 @@ fn ref_expr<G: Grammar>(
 }
 
 /// An operator before its operand, as `-a`.
+#[inline(never)]
 fn prefix_expr<G: Grammar>(
     p: &mut Parser<'_>,
     g: &G,
@@ -419,6 +441,7 @@ fn prefix_expr<G: Grammar>(
 
 /// A range without a start, as `..` and `..=b`.
 #[tactic(auto, using(crate::proofs::Binary::width_positive))]
+#[inline(never)]
 fn prefix_range<G: Grammar>(
     p: &mut Parser<'_>,
     g: &G,
@@ -443,6 +466,7 @@ fn prefix_range<G: Grammar>(
 
 /// What follows an operand directly, as `(a)`, `[0]`, `.b`, `.c()` and `?`.
 #[tactic(auto, unfolding(crate::specs::Ahead::is_postfix))]
+#[inline(never)]
 fn postfix_expr<G: Grammar>(
     p: &mut Parser<'_>,
     g: &G,

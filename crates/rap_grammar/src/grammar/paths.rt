@@ -30,6 +30,7 @@ pub(super) fn path_first() -> TokenSet
 }
 
 /// Whether a path comes next.
+#[inline(never)]
 pub(super) fn is_path_start(p: &Parser<'_>) -> bool
     ensures { result ≡ starts_path (state p.now).rest }
 {

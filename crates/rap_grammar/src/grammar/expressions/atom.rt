@@ -36,6 +36,7 @@ fn literal_first() -> TokenSet
 }
 
 /// A literal, as `1` and `true`, if one comes next.
+#[inline(never)]
 fn literal(p: &mut Parser<'_>) -> Result<Option<CompletedMarker>, NoMemory>
     ensures some { IfOk result (λ o. IfSome o (λ cm. Made (state p.old) (state p.new) cm 130)) }
     ensures kind { IfOk result (λ o. IfSome o (λ cm. cm.kind ≡ LITERAL)) }
@@ -104,6 +105,7 @@ pub(super) fn atom_expr<G: Grammar>(
 }
 
 /// A path as an expression, as `a::b`.
+#[inline(never)]
 fn path_expr(p: &mut Parser<'_>) -> Result<CompletedMarker, NoMemory>
     requires { starts_path (state p.old).rest ≡ true }
     ensures made { IfOk result (λ cm. Made (state p.old) (state p.new) cm 130) }
@@ -116,6 +118,7 @@ fn path_expr(p: &mut Parser<'_>) -> Result<CompletedMarker, NoMemory>
 }
 
 /// An expression in parentheses, as `(a)`, or a tuple, as `()`, `(a,)` and `(a, b)`.
+#[inline(never)]
 fn tuple_expr<G: Grammar>(p: &mut Parser<'_>, g: &G) -> Result<CompletedMarker, NoMemory>
     requires valid { G.valid g.now }
     requires left { (state p.old).left ≤ G.left g.now }
@@ -155,6 +158,7 @@ fn tuple_expr<G: Grammar>(p: &mut Parser<'_>, g: &G) -> Result<CompletedMarker, 
 }
 
 /// An array by its elements, as `[a, b]`, or by one and their number, as `[a; n]`.
+#[inline(never)]
 fn array_expr<G: Grammar>(p: &mut Parser<'_>, g: &G) -> Result<CompletedMarker, NoMemory>
     requires valid { G.valid g.now }
     requires left { (state p.old).left ≤ G.left g.now }
