@@ -32,6 +32,14 @@ is_atom_expr_first kind = (is_literal_first kind || is_path_first kind) || one_o
 abbrev pub is_expr_first : ℕ → Bool
 is_expr_first kind = is_atom_expr_first kind || one_of (AMP ∷ STAR ∷ BANG ∷ DOT ∷ MINUS ∷ []) kind
 
+-- a literal, a name, or a bracket: an expression without an operator before it begins
+abbrev pub is_atom : ℕ → Bool
+is_atom kind = is_literal_first kind || (is_path_name kind || one_of (L_PAREN ∷ L_BRACK ∷ []) kind)
+
+-- the same, or an operator before an operand: an expression begins, whatever follows
+abbrev pub is_operand : ℕ → Bool
+is_operand kind = is_atom kind || one_of (AMP ∷ STAR ∷ BANG ∷ MINUS ∷ []) kind
+
 -- a path comes next
 abbrev pub starts_path : List Record → Bool
 starts_path rs = is_path_name (next_kind rs) || begins_with (parts COLON2) rs

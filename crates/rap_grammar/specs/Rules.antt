@@ -1,8 +1,10 @@
 -- What the rules that are come back to ask and give.
-use Rattle.std.specs.Prelude.{◌≡◌, ℕ, ◌≤◌, ◌<◌, Option, Some, None, Bool}
-use Rattle.rap_events.specs.State.{State}
+use Rattle.std.specs.Prelude.{◌≡◌, ◌≢◌, false, ℕ, ◌≤◌, ◌<◌, Option, Some, None, Bool}
+use Rattle.rap_base.specs.TokenKind.{ERROR}
+use Rattle.rap_events.specs.State.{State, next}
 use Rattle.rap_events.specs.declared.parser.CompletedMarker.{CompletedMarker}
 use Rattle.rap_events.specs.declared.parser.Marker.{Marker}
+use Rattle.rap_grammar.specs.First.{is_operand}
 use Rattle.rap_grammar.specs.Grew.{Grew, Made, Closed, Dropped}
 use Rattle.rap_grammar.specs.Climb.{Climbed}
 use Rattle.rap_grammar.specs.declared.grammar.BlockLike.{BlockLike}
@@ -18,10 +20,10 @@ IsNewest s (Some m) = s.marker ≡ Some m.pos
 
 -- an expression of its own, or one from the marker on that was handed over; or a message and no expression
 abbrev pub Answered : State → State → Option Marker → Bool → ℕ → Option (CompletedMarker × BlockLike) → Type 0
-Answered old new None stmt bp (Some e) = Made old new e.0 100 × Climbed new e.0.kind bp stmt
-Answered old new None stmt bp None = Grew old new 8 × (old.messages < new.messages)
-Answered old new (Some m) stmt bp (Some e) = Closed old new e.0 100 × Climbed new e.0.kind bp stmt
-Answered old new (Some m) stmt bp None = Dropped old new 8
+Answered old new None stmt bp (Some e) = Made old new e.0 100 × Climbed new e.0.kind bp stmt × (e.0.kind ≢ ERROR)
+Answered old new None stmt bp None = Grew old new 8 × (old.messages < new.messages) × (is_operand (next old) ≡ false)
+Answered old new (Some m) stmt bp (Some e) = Closed old new e.0 100 × Climbed new e.0.kind bp stmt × (e.0.kind ≢ ERROR)
+Answered old new (Some m) stmt bp None = Dropped old new 8 × (is_operand (next old) ≡ false)
 
 -- what each rule asks
 abbrev pub Pre : Rule → State → Type 0

@@ -1,14 +1,14 @@
 //! Expressions.
 ghost use Rattle.std.specs.Prelude.{◌≡◌, ◌≢◌, ℕ, ◌+◌, ◌<◌, ◌≤◌, ◌↔◌, IfOk, OnOk, IfSome, IsTrue, Some, None, true, false, [], ◌∷◌};
-ghost use Rattle.rap_base.specs.TokenKind.{EOF, IDENT, AMP, L_PAREN, L_BRACK, DOT, QUESTION, MUT_KW, CONST_KW};
-ghost use Rattle.rap_base.specs.NodeKind.{REF_EXPR, PREFIX_EXPR, RANGE_EXPR, CALL_EXPR, INDEX_EXPR, METHOD_CALL_EXPR, FIELD_EXPR, AWAIT_EXPR, TRY_EXPR};
+ghost use Rattle.rap_base.specs.TokenKind.{EOF, ERROR, IDENT, AMP, L_PAREN, L_BRACK, DOT, QUESTION, MUT_KW, CONST_KW};
+ghost use Rattle.rap_base.specs.NodeKind.{BIN_EXPR, REF_EXPR, PREFIX_EXPR, RANGE_EXPR, CALL_EXPR, INDEX_EXPR, METHOD_CALL_EXPR, FIELD_EXPR, AWAIT_EXPR, TRY_EXPR};
 ghost use Rattle.rap_base.specs.TokenSet.{member};
 ghost use Rattle.rap_events.specs.Fit.{is_plain};
 ghost use Rattle.rap_events.specs.Power.{power, open_ended};
 ghost use Rattle.rap_events.specs.State.{state, next, IsLast, At, but_last, last_children};
 ghost use Rattle.rap_grammar.specs.Ahead.{has_end, calls_method, is_postfix};
 ghost use Rattle.rap_grammar.specs.Climb.{Climbed, LeftFits, Bound};
-ghost use Rattle.rap_grammar.specs.First.{is_expr_first, one_of};
+ghost use Rattle.rap_grammar.specs.First.{is_expr_first, is_operand, one_of};
 ghost use Rattle.rap_grammar.specs.Grew.{Grew, Took, Made, Wrapped, Closed, Dropped};
 ghost use Rattle.rap_grammar.specs.Operator.{operator_at};
 ghost use Rattle.rap_grammar.specs.Rules.{Answered, IsNewest};
@@ -149,6 +149,8 @@ fn expr_from<G: Grammar>(
     requires newest { (state p.old).marker ≡ Some m.pos }
     requires power { 1 ≤ bp }
     ensures some { IfOk result (λ o. IfSome o (λ e. Closed (state p.old) (state p.new) e.0 104 × Climbed (state p.new) e.0.kind bp r.prefer_stmt)) }
+    ensures no_error { IfOk result (λ o. IfSome o (λ e. e.0.kind ≢ ERROR)) }
+    ensures begins { IfOk result (λ o. o ≡ None → is_operand (next (state p.old)) ≡ false) }
     ensures none { IfOk result (λ o. o ≡ None → Dropped (state p.old) (state p.new) 5) }
 {
     if !is_expr_start(p) {
@@ -180,9 +182,11 @@ fn climb<G: Grammar>(
     requires left { (state p.old).left ≤ G.left g.now }
     requires last { IsLast (state p.old) lhs lhs.kind }
     requires plain { is_plain lhs.kind ≡ true }
+    requires no_error { lhs.kind ≢ ERROR }
     requires power { 1 ≤ bp }
     ensures grew { OnOk result (Grew (state p.old) (state p.new) 0) }
     ensures last { IfOk result (λ cm. IsLast (state p.new) cm cm.kind) }
+    ensures no_error { IfOk result (λ cm. cm.kind ≢ ERROR) }
     ensures one { OnOk result (but_last (state p.new).forest ≡ but_last (state p.old).forest) }
     ensures climbed { IfOk result (λ cm. Climbed (state p.new) cm.kind bp false) }
 {
@@ -227,6 +231,7 @@ fn bin_expr<G: Grammar>(
     requires left_side { (state p.old).messages ≡ 0 → LeftFits lhs.kind (last_children (state p.old).forest) bp }
     ensures took { OnOk result (Took (state p.old) (state p.new) 110) }
     ensures last { IfOk result (λ cm. IsLast (state p.new) cm cm.kind) }
+    ensures kind { IfOk result (λ cm. cm.kind ≡ BIN_EXPR) }
     ensures one { OnOk result (but_last (state p.new).forest ≡ but_last (state p.old).forest) }
     ensures bound { OnOk result ((state p.new).messages ≡ 0 → Bound (state p.new) bp) }
 {
@@ -346,6 +351,8 @@ fn lhs<G: Grammar>(
     requires more { next (state p.old) ≢ EOF }
     ensures some { IfOk result (λ o. IfSome o (λ e. Made (state p.old) (state p.new) e.0 110)) }
     ensures plain { IfOk result (λ o. IfSome o (λ e. is_plain e.0.kind ≡ true)) }
+    ensures no_error { IfOk result (λ o. IfSome o (λ e. e.0.kind ≢ ERROR)) }
+    ensures begins { IfOk result (λ o. o ≡ None → is_operand (next (state p.old)) ≡ false) }
     ensures none { IfOk result (λ o. o ≡ None → Took (state p.old) (state p.new) 110 × ((state p.old).messages < (state p.new).messages)) }
 {
     match p.current() {
@@ -478,11 +485,13 @@ fn postfix_expr<G: Grammar>(
     requires left { (state p.old).left ≤ G.left g.now }
     requires last { IsLast (state p.old) lhs lhs.kind }
     requires plain { is_plain lhs.kind ≡ true }
+    requires no_error { lhs.kind ≢ ERROR }
     ensures grew { OnOk result (Grew (state p.old) (state p.new) 0) }
     ensures last { IfOk result (λ e. IsLast (state p.new) e.0 e.0.kind) }
     ensures plain { IfOk result (λ e. is_plain e.0.kind ≡ true) }
     ensures end { OnOk result (allow_calls ≡ true → is_postfix (state p.new).rest ≡ false) }
     ensures block { IfOk result (λ e. e.1 ≡ BlockLike.Block → block_like ≡ BlockLike.Block) }
+    ensures no_error { IfOk result (λ e. e.0.kind ≢ ERROR) }
     ensures one { OnOk result (but_last (state p.new).forest ≡ but_last (state p.old).forest) }
 {
     'postfixes: loop {
@@ -511,7 +520,8 @@ fn postfix_dot_expr<G: Grammar>(
     requires left { (state p.old).left ≤ G.left g.now }
     requires last { IsLast (state p.old) lhs lhs.kind }
     requires here { next (state p.old) ≡ DOT }
-    ensures { IfOk result (λ cm. Wrapped (state p.old) (state p.new) cm 110) }
+    ensures wrapped { IfOk result (λ cm. Wrapped (state p.old) (state p.new) cm 110) }
+    ensures no_error { IfOk result (λ cm. cm.kind ≢ ERROR) }
 {
     if is_method_call(p) {
         let cm = method_call_expr(p, g, lhs)?;

@@ -1,11 +1,11 @@
 //! Expressions that begin with no operator.
-ghost use Rattle.std.specs.Prelude.{◌≡◌, ◌≢◌, ℕ, ◌<◌, ◌≤◌, IfOk, OnOk, IfSome, is_some, None, true, ◌⊎◌};
-ghost use Rattle.rap_base.specs.TokenKind.{EOF, L_PAREN, L_BRACK, R_BRACK};
+ghost use Rattle.std.specs.Prelude.{◌≡◌, ◌≢◌, ℕ, ◌<◌, ◌≤◌, IfOk, OnOk, IfSome, is_some, None, true, false, ◌⊎◌};
+ghost use Rattle.rap_base.specs.TokenKind.{EOF, ERROR, L_PAREN, L_BRACK, R_BRACK};
 ghost use Rattle.rap_base.specs.NodeKind.{LITERAL, PATH_EXPR, PAREN_EXPR, TUPLE_EXPR, ARRAY_EXPR};
 ghost use Rattle.rap_base.specs.TokenSet.{member};
 ghost use Rattle.rap_events.specs.Fit.{is_plain};
 ghost use Rattle.rap_events.specs.State.{state, next};
-ghost use Rattle.rap_grammar.specs.First.{is_literal_first, is_atom_expr_first, starts_path};
+ghost use Rattle.rap_grammar.specs.First.{is_literal_first, is_atom_expr_first, is_atom, starts_path};
 ghost use Rattle.rap_grammar.specs.Grew.{Grew, Made, Took, in_node};
 ghost use Rattle.rap_grammar.specs.Recovery.{is_expr_recovery};
 
@@ -86,6 +86,8 @@ pub(super) fn atom_expr<G: Grammar>(
     requires more { next (state p.old) ≢ EOF }
     ensures some { IfOk result (λ o. IfSome o (λ e. Made (state p.old) (state p.new) e.0 130)) }
     ensures plain { IfOk result (λ o. IfSome o (λ e. is_plain e.0.kind ≡ true)) }
+    ensures no_error { IfOk result (λ o. IfSome o (λ e. e.0.kind ≢ ERROR)) }
+    ensures begins { IfOk result (λ o. o ≡ None → is_atom (next (state p.old)) ≡ false) }
     ensures none { IfOk result (λ o. o ≡ None → Took (state p.old) (state p.new) 130 × ((state p.old).messages < (state p.new).messages)) }
 {
     if let Some(cm) = literal(p)? {

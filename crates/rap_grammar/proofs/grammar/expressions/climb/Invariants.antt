@@ -1,4 +1,5 @@
-use Rattle.std.proofs.Common.{◌≡◌, ◌≤◌}
+use Rattle.rap_base.specs.TokenKind.{ERROR}
+use Rattle.std.proofs.Common.{◌≡◌, ◌≢◌, ◌≤◌}
 use Rattle.rap_base.specs.NodeKind.{BIN_EXPR}
 use Rattle.rap_events.specs.State.{state, IsLast, but_last, last_children}
 use Rattle.rap_events.specs.Power.{power, operator}
@@ -10,6 +11,7 @@ abbrev pub invariant-operators : goal.invariant-operators
 invariant-operators g l = record {
   grew : Grew (state l.fn.p) (state l.p) 0;
   last : IsLast (state l.p) l.lhs l.lhs.kind;
+  no_error : l.lhs.kind ≢ ERROR;
   one : but_last (state l.p).forest ≡ but_last (state l.fn.p).forest;
   least : (state l.p).messages ≡ 0 → l.lhs.kind ≡ BIN_EXPR → l.bp ≤ power (operator (last_children (state l.p).forest));
   bound : (state l.p).messages ≡ 0 → l.lhs.kind ≡ BIN_EXPR → Bound (state l.p) (power (operator (last_children (state l.p).forest)));

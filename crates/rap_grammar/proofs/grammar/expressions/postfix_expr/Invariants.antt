@@ -1,4 +1,5 @@
-use Rattle.std.proofs.Common.{◌≡◌, true}
+use Rattle.rap_base.specs.TokenKind.{ERROR}
+use Rattle.std.proofs.Common.{◌≡◌, ◌≢◌, true}
 use Rattle.rap_events.specs.Fit.{is_plain}
 use Rattle.rap_events.specs.State.{state, IsLast, but_last}
 use Rattle.rap_grammar.specs.Grew.{Grew}
@@ -12,6 +13,7 @@ invariant-postfixes g l = record {
   plain : is_plain l.lhs.kind ≡ true;
   block : l.block_like ≡ BlockLike.Block → l.fn.block_like ≡ BlockLike.Block;
   calls : l.fn.allow_calls ≡ true → l.allow_calls ≡ true;
+  no_error : l.lhs.kind ≢ ERROR;
   one : but_last (state l.p).forest ≡ but_last (state l.fn.p).forest;
 }
 
