@@ -4,11 +4,11 @@ ghost use Rattle.rap_events.specs.Cover.{covers};
 ghost use Rattle.rap_events.specs.Fit.{AllFitIn};
 ghost use Rattle.rap_events.specs.Forest.{Forest, node, none, flat, marks, one_tree, used};
 ghost use Rattle.rap_events.specs.Machine.{floor, push};
-ghost use Rattle.rap_events.specs.State.{state, next};
+ghost use Rattle.rap_events.specs.State.{state, next, but_last};
 ghost use Rattle.rap_base.specs.TokenKind.{ERROR};
 ghost use Rattle.rap_grammar.specs.First.{is_operand};
 ghost use Rattle.rap_grammar.specs.Grew.{Grew, Made};
-ghost use Rattle.rap_grammar.specs.Top.{top_tree, with_leaves};
+ghost use Rattle.rap_grammar.specs.Top.{top_tree, with_leaves, ends_with_node};
 
 use super::BlockLike;
 use super::expressions::Restrictions;
@@ -54,7 +54,7 @@ fn is_one_tree(output: &Output) -> bool
 fn expr(p: &mut Parser<'_>) -> Result<Option<CompletedMarker>, NoMemory>
     ensures some { IfOk result (λ o. IfSome o (λ cm. Made (state p.old) (state p.new) cm 100)) }
     ensures no_error { IfOk result (λ o. IfSome o (λ cm. cm.kind ≢ ERROR)) }
-    ensures begins { IfOk result (λ o. o ≡ None → is_operand (next (state p.old)) ≡ false) }
+    ensures begun { OnOk result (is_operand (next (state p.old)) ≡ true → (ends_with_node (state p.new).forest ≡ true) × (but_last (state p.new).forest ≡ (state p.old).forest)) }
     ensures none { IfOk result (λ o. o ≡ None → Grew (state p.old) (state p.new) 8 × ((state p.old).messages < (state p.new).messages)) }
 {
     let r = Restrictions {

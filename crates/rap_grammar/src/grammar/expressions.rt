@@ -386,7 +386,8 @@ fn lhs<G: Grammar>(
 /// What stands between the `&` of a reference and its operand: `mut`, `raw mut`, `raw const`, and `raw` before a name.
 /// Elsewhere `raw` is a name itself, as in `&raw.b`.
 fn ref_qualifier(p: &mut Parser<'_>) -> Result<(), NoMemory>
-    ensures { OnOk result (Grew (state p.old) (state p.new) 0) }
+    ensures grew { OnOk result (Grew (state p.old) (state p.new) 0) }
+    ensures mutable { OnOk result (next (state p.old) ≡ MUT_KW → (state p.new).left < (state p.old).left) }
 {
     if p.at_contextual_kw(SyntaxKind::RAW_KW) && p.nth_at_ts(1, raw_follow()) {
         p.bump_remap(SyntaxKind::RAW_KW)?;

@@ -1,6 +1,8 @@
 //! Entries that read a whole input as one tree.
-ghost use Rattle.std.specs.Prelude.{◌≡◌, ◌≤◌, length, IfOk};
-ghost use Rattle.rap_grammar.specs.Top.{IsTreeOver};
+ghost use Rattle.std.specs.Prelude.{◌≡◌, ◌≤◌, length, IfOk, true};
+ghost use Rattle.rap_events.specs.Record.{next_kind};
+ghost use Rattle.rap_grammar.specs.First.{is_operand};
+ghost use Rattle.rap_grammar.specs.Top.{IsTreeOver, Begun};
 
 use super::close_top;
 use rap_base::no_memory::NoMemory;
@@ -12,10 +14,12 @@ use std::alloc::Global;
 /// An expression. Where the input is no expression, or not only one, the tree is an `ERROR`.
 pub fn expr(alloc: Global, input: &Input) -> Result<Output, NoMemory>
     requires { length input.now ≤ 8388607 }
-    ensures { IfOk result (IsTreeOver input.now) }
+    ensures tree { IfOk result (IsTreeOver input.now) }
+    ensures begun { IfOk result (λ output. is_operand (next_kind input.now) ≡ true → Begun output) }
 {
     let mut p = Parser::new(alloc, input);
     let m = p.start()?;
     super::expr(&mut p)?;
-    close_top(alloc, p, m)
+    let output = close_top(alloc, p, m)?;
+    Ok(output)
 }
