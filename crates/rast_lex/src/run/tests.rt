@@ -17,7 +17,7 @@ fn lists(
 ) -> Result<(), Fail> {
     let mut out = Vec::new(alloc);
     let mut err = Vec::new(alloc);
-    let edition = Edition::Edition2021;
+    let edition = Edition::Edition2024;
     assert_eq!(rt;
         run(alloc, edition, listing, text, &mut out, &mut err),
         status
@@ -39,6 +39,68 @@ fn lists_tokens(rt: HostRuntime) -> Result<(), Fail> {
         1,
         "IDENT 0..2 \"é\"\nWHITESPACE 2..4 \" \\t\"\nCHAR 4..6 \"''\"\nerror 2: empty character literal\n",
     )
+}
+
+#[test]
+fn lists_numbers(rt: HostRuntime) -> Result<(), Fail> {
+    for (text, status, output) in [
+        (
+            "0..2",
+            0,
+            "INT_NUMBER 0..1 \"0\"\nDOT 1..2 \".\"\nDOT 2..3 \".\"\nINT_NUMBER 3..4 \"2\"\n",
+        ),
+        (
+            "42.e+",
+            0,
+            "INT_NUMBER 0..2 \"42\"\nDOT 2..3 \".\"\nIDENT 3..4 \"e\"\nPLUS 4..5 \"+\"\n",
+        ),
+        (
+            "42.2e+f32",
+            1,
+            "FLOAT_NUMBER 0..9 \"42.2e+f32\"\nerror 0: Missing digits after the exponent symbol\n",
+        ),
+        (
+            "0xG",
+            1,
+            "INT_NUMBER 0..3 \"0xG\"\nerror 0: Missing digits after the integer base prefix\n",
+        ),
+    ] {
+        lists(&rt, rt.alloc(), Listing::Tokens, text, status, output)?;
+    }
+    Ok(())
+}
+
+#[test]
+fn lists_faults_of_escapes(rt: HostRuntime) -> Result<(), Fail> {
+    for (text, output) in [
+        (
+            "b'\\u{0}x'",
+            "BYTE 0..9 \"b'\\\\u{0}x'\"\nerror 0: unicode escape in byte string\n",
+        ),
+        (
+            "'\\xы'",
+            "CHAR 0..6 \"'\\\\xы'\"\nerror 0: invalid character in numeric character escape\n",
+        ),
+        (
+            "'\\x4'",
+            "CHAR 0..5 \"'\\\\x4'\"\nerror 0: numeric character escape is too short\n",
+        ),
+        (
+            "\"\\u{zz\"",
+            "STRING 0..7 \"\\\"\\\\u{zz\\\"\"\nerror 0: invalid character in unicode escape\n",
+        ),
+        (
+            "\"\\u{_0\"",
+            "STRING 0..7 \"\\\"\\\\u{_0\\\"\"\nerror 0: invalid start of unicode escape\n",
+        ),
+        (
+            "\"\\u{0\"",
+            "STRING 0..6 \"\\\"\\\\u{0\\\"\"\nerror 0: unterminated unicode escape\n",
+        ),
+    ] {
+        lists(&rt, rt.alloc(), Listing::Tokens, text, 1, output)?;
+    }
+    Ok(())
 }
 
 #[test]
