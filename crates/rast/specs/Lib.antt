@@ -2,3 +2,4 @@ pub mod Headline
 pub mod Printed
 pub mod Prints
 pub mod Ran
+pub mod Words

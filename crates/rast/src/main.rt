@@ -1,6 +1,9 @@
 //! `rast EDITION ENTRY FILE` prints the syntax tree of a file.
 #![tactic(auto)]
 
+ghost use Rattle.std.specs.Prelude.{◌≡◌};
+ghost use Rattle.std.specs.Process.{exit_status};
+
 mod parse_text;
 mod printer;
 mod run;
@@ -16,7 +19,9 @@ const USAGE: &str = "usage: rast EDITION ENTRY FILE\n";
 const UNREADABLE: &str = "rast: cannot read the file\n";
 
 /// Tells a fault, and gives its status.
-fn fail<V: io::Write>(err: &mut V, message: &str) -> ExitCode {
+fn fail<V: io::Write>(err: &mut V, message: &str) -> ExitCode
+    ensures { exit_status result ≡ 2 }
+{
     ExitCode::from(tell(err, message))
 }
 

@@ -1,7 +1,8 @@
 //! All that the program does once its file is read.
-ghost use Rattle.std.specs.Prelude.{◌≤◌, ◌<◌, ◌++◌, IfOk, OnOk, string_bytes};
+ghost use Rattle.std.specs.Prelude.{◌≡◌, ◌≤◌, ◌<◌, ◌++◌, IfOk, OnOk, string_bytes};
 ghost use Rattle.std.specs.Io.KnownBytes.{Appends};
 ghost use Rattle.rast.specs.Ran.{IsPrinted, Shows};
+ghost use Rattle.rast.specs.Words.{IsNamed, fault_line};
 
 use crate::parse_text::{TextFault, parse_text};
 use crate::printer::Printer;
@@ -22,8 +23,11 @@ pub struct Entry(pub TopEntryPoint);
 #[derive(Clone, Copy, Debug)]
 pub struct InvalidEntry;
 
+/// Reads an entry point from its name.
 impl FromStr for Entry {
     type Err = InvalidEntry;
+
+    ghost from_str_gives = { IsNamed };
 
     fn from_str(s: &str) -> Result<Entry, InvalidEntry> {
         match s {
@@ -34,7 +38,9 @@ impl FromStr for Entry {
 }
 
 /// What a fault is called on the error stream.
-fn fault_message<R>(fault: &TextFault<R>) -> &'static str {
+fn fault_message<R>(fault: &TextFault<R>) -> &'static str
+    ensures { result.now ≡ fault_line fault.now }
+{
     match fault {
         TextFault::TextTooLong => "rast: text too long\n",
         TextFault::TooManyTokens => "rast: too many tokens\n",

@@ -1,5 +1,5 @@
 //! What is listed of a text.
-ghost use Rattle.std.specs.Prelude.{◌≡◌, ◌<◌, ◌++◌, IfOk, OnOk, length, string_bytes};
+ghost use Rattle.std.specs.Prelude.{◌≡◌, ◌≢◌, ◌<◌, ◌↔◌, ◌++◌, IfOk, OnOk, Err, length, string_bytes};
 ghost use Rattle.rast_lex.specs.Listed.{lines, places, token_line, message_lines, record_line, part_line, script_lines, shown_spans, refusal_lines};
 ghost use Rattle.rast_lex.specs.Page.{ListsTokens, ListsInput, ListsSingle, ListsScript};
 
@@ -63,7 +63,8 @@ fn push_messages(lines: &mut String, lexed: &LexedStr<'_>) -> Result<(), AllocEr
 /// Lists the text's tokens with the places of their first bytes and of those after them, and then the lexer's
 /// messages with the numbers of their tokens.
 pub fn list_tokens(alloc: Global, edition: Edition, text: &str) -> Result<Page, LexFault>
-    ensures { IfOk result (ListsTokens text.now edition) }
+    ensures lists { IfOk result (ListsTokens text.now edition) }
+    ensures too_long { (result ≡ Err LexFault.TextTooLong) ↔ (4294967295 < length text.now) }
 {
     let lexed = LexedStr::new(alloc, edition, text)?;
     let mut lines = String::new(alloc);
@@ -101,7 +102,8 @@ fn push_records(page: &mut String, input: &Input) -> Result<(), AllocError>
 /// Lists what the parser reads of the text: for each token that is no trivia its kind, the keyword that an
 /// identifier may be read as, and whether it touches the next token.
 pub fn list_input(alloc: Global, edition: Edition, text: &str) -> Result<Page, LexFault>
-    ensures { IfOk result (ListsInput text.now edition) }
+    ensures lists { IfOk result (ListsInput text.now edition) }
+    ensures too_long { (result ≡ Err LexFault.TextTooLong) ↔ (4294967295 < length text.now) }
 {
     let lexed = LexedStr::new(alloc, edition, text)?;
     let Ok(input) = lexed.to_input(alloc, edition) else {
@@ -117,7 +119,8 @@ pub fn list_input(alloc: Global, edition: Edition, text: &str) -> Result<Page, L
 
 /// Lists the kind of a text that is one token, with its last message or a dash, or that it is none.
 pub fn list_single(alloc: Global, edition: Edition, text: &str) -> Result<Page, LexFault>
-    ensures { IfOk result (ListsSingle text.now edition) }
+    ensures lists { IfOk result (ListsSingle text.now edition) }
+    ensures too_long { (result ≡ Err LexFault.TextTooLong) ↔ (4294967295 < length text.now) }
 {
     let single = LexedStr::single_token(alloc, edition, text)?;
     let mut lines = String::new(alloc);
@@ -195,7 +198,8 @@ fn list_refusal(alloc: Global, error: &FrontmatterError) -> Result<String, Alloc
 
 /// Lists where the parts of a script stand, or why the text is refused as one.
 pub fn list_script(alloc: Global, text: &str) -> Result<Page, LexFault>
-    ensures { IfOk result (ListsScript text.now) }
+    ensures lists { IfOk result (ListsScript text.now) }
+    ensures never_too_long { result ≢ Err LexFault.TextTooLong }
 {
     match ScriptSource::parse(alloc, text) {
         Ok(script) => Ok(Page {

@@ -2,6 +2,9 @@
 //! token that it is, or the parts of a script.
 #![tactic(auto)]
 
+ghost use Rattle.std.specs.Prelude.{◌≡◌};
+ghost use Rattle.std.specs.Process.{exit_status};
+
 mod listing;
 mod run;
 
@@ -16,7 +19,9 @@ const USAGE: &str = "usage: rast_lex EDITION FILE [input|single|script]\n";
 const UNREADABLE: &str = "rast_lex: cannot read the file\n";
 
 /// Tells a fault, and gives its status.
-fn fail<V: io::Write>(err: &mut V, message: &str) -> ExitCode {
+fn fail<V: io::Write>(err: &mut V, message: &str) -> ExitCode
+    ensures { exit_status result ≡ 2 }
+{
     ExitCode::from(tell(err, message))
 }
 

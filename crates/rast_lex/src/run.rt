@@ -1,7 +1,8 @@
 //! All that the program does once its file is read.
-ghost use Rattle.std.specs.Prelude.{◌≤◌, ◌<◌, ◌≡◌, ◌++◌, IfOk, OnOk, string_bytes};
+ghost use Rattle.std.specs.Prelude.{◌≤◌, ◌<◌, ◌≡◌, IfOk, OnOk, Err, length, string_bytes};
 ghost use Rattle.std.specs.Io.KnownBytes.{Appends};
 ghost use Rattle.rast_lex.specs.Page.{Lists, Shows};
+ghost use Rattle.rast_lex.specs.Words.{IsAsked, fault_line};
 
 use crate::listing::{Page, list_input, list_script, list_single, list_tokens};
 use ra_ap_parser::{Edition, LexFault};
@@ -32,8 +33,11 @@ pub enum Listing {
 #[derive(Clone, Copy, Debug)]
 pub struct InvalidListing;
 
+/// Reads what is to be listed from its word.
 impl FromStr for Listing {
     type Err = InvalidListing;
+
+    ghost from_str_gives = { IsAsked };
 
     fn from_str(s: &str) -> Result<Listing, InvalidListing> {
         match s {
@@ -47,7 +51,8 @@ impl FromStr for Listing {
 
 /// Lists what is asked.
 fn list(alloc: Global, edition: Edition, listing: Listing, text: &str) -> Result<Page, LexFault>
-    ensures { IfOk result (Lists text.now edition listing) }
+    ensures lists { IfOk result (Lists text.now edition listing) }
+    ensures too_long { (result ≡ Err LexFault.TextTooLong) → (4294967295 < length text.now) }
 {
     match listing {
         Listing::Tokens => list_tokens(alloc, edition, text),
@@ -58,7 +63,9 @@ fn list(alloc: Global, edition: Edition, listing: Listing, text: &str) -> Result
 }
 
 /// What a fault is called on the error stream.
-fn fault_message(fault: &LexFault) -> &'static str {
+fn fault_message(fault: &LexFault) -> &'static str
+    ensures { result.now ≡ fault_line fault.now }
+{
     match fault {
         LexFault::TextTooLong => "rast_lex: text too long\n",
         LexFault::NoMemory => "rast_lex: no memory\n",

@@ -1,0 +1,25 @@
+-- The program's words: what is asked for, and what is told of a fault.
+use Rattle.std.specs.Prelude.{◌≡◌, ◌≢◌, List, ℕ, Option, None, Some, Result, MatchResult, codes}
+use Rattle.ra_ap_parser.specs.declared.lexed_str.LexFault.{LexFault}
+use Rattle.ra_ap_parser.specs.declared.lexed_str.LexFault.TheVariants.{TextTooLong, NoMemory}
+use Rattle.rast_lex.specs.declared.run.Listing.{Listing}
+use Rattle.rast_lex.specs.declared.run.Listing.TheVariants.{Tokens, Input, Single, Script}
+
+-- the word that asks for a listing; the tokens are listed where there is none
+abbrev pub word_of : Listing → Option (List ℕ)
+word_of Tokens = None
+word_of Input = Some (codes "input")
+word_of Single = Some (codes "single")
+word_of Script = Some (codes "script")
+
+-- a word is read as what it asks for, and refused where it asks for nothing
+abbrev pub IsAsked : {Refusal : Type 0} → List ℕ → Result Listing Refusal → Type 0
+IsAsked word result =
+    MatchResult result
+    (λ listing. Some word ≡ word_of listing)
+    (λ _. (listing : Listing) → Some word ≢ word_of listing)
+
+-- what is told of a fault
+abbrev pub fault_line : LexFault → List ℕ
+fault_line TextTooLong = codes "rast_lex: text too long\n"
+fault_line NoMemory = codes "rast_lex: no memory\n"
