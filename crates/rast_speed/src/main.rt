@@ -1,4 +1,5 @@
-//! `rast_speed EDITION FILE` prints how long each part of a parse of the file takes, under the entry `Expr`.
+//! `rast_speed EDITION FILE` prints how long each part of a parse of the file takes, under the entry `Expr`; alone it
+//! prints how it is called.
 #![tactic(auto)]
 
 mod times;
@@ -29,7 +30,10 @@ fn main(rt: HostRuntime) -> ExitCode {
     };
     let _program = args.next();
     let Some(edition) = args.next() else {
-        return ExitCode::from(2);
+        return match println!(rt; "usage: rast_speed EDITION FILE") {
+            Ok(()) => ExitCode::from(0),
+            Err(_) => ExitCode::from(2),
+        };
     };
     let Some(file) = args.next() else {
         return ExitCode::from(2);
