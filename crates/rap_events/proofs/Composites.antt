@@ -1,12 +1,12 @@
 -- Operators of several tokens, and the kinds that a token may bear.
 use Rattle.std.proofs.Common.{◌≡◌, ◌≢◌, ℕ, suc, zero, ◌<◌, ◌≤◌, List, [], ◌∷◌, length, Bool, true, false, ◌&&◌, ◌||◌, ◌==◌, ◌⊎◌, inl, inr, refl, sym, ap, ◌∙◌, arith, drop}
 use Rattle.std.specs.Prelude.{nat_lt, if◌then◌else◌}
-use Rattle.std.proofs.lemmas.Bool.{ltb-true, lt-ltb, eq-eqb, ne_eqb}
+use Rattle.std.proofs.lemmas.Bool.{ltb-true, lt-ltb, eq-eqb, eqb-true, ne_eqb}
 use Rattle.rap_base.specs.TokenKind.{EOF, IDENT}
 use Rattle.rap_base.specs.Keyword.{is_keyword, is_any_identifier}
 use Rattle.rap_base.specs.declared.edition.Edition.TheVariants.{Edition2024}
 use Rattle.rap_events.specs.Record.{Record, next_kind, kind_at, joint_at, contextual_at}
-use Rattle.rap_events.specs.Composite.{composites, row_of, parts, begins_with, touches_next, IsFirst, width_of, width}
+use Rattle.rap_events.specs.Composite.{composites, row_of, parts, begins_with, touches_next, is_first, is_at, width_of, width}
 use Rattle.rap_events.specs.Cover.{first_may_bear, stands}
 use Rattle.rap_events.proofs.Truth.{and_left, and_right, and_both, or_left, or_right}
 
@@ -48,9 +48,9 @@ own_kind kind (r ∷ rs) n h = (omega arith, or_left (r.kind == kind) _ (eq-eqb 
 unequal : (n : ℕ) → 1 < n → (n == 1) ≡ false
 unequal n h = ne_eqb n 1 (λ e. omega arith)
 
-fits-at : (ps : List ℕ) (kind : ℕ) (rs : List Record) → (ps ≡ []) ⊎ (1 < length ps) → kind ≢ EOF → parts kind ≡ ps → IsFirst ps kind rs →
+fits-at : (ps : List ℕ) (kind : ℕ) (rs : List Record) → (ps ≡ []) ⊎ (1 < length ps) → kind ≢ EOF → parts kind ≡ ps → is_first ps kind rs ≡ true →
     (width_of ps ≤ length rs) × (stands (record { kind = kind; width = width_of ps }) rs ≡ true)
-fits-at [] kind rs l n e h = own_kind kind rs n h
+fits-at [] kind rs l n e h = own_kind kind rs n (eqb-true (next_kind rs) kind h)
 fits-at (p ∷ ps) kind rs (inl l) n e h = absurd cc
 fits-at (p ∷ ps) kind rs (inr l) n e h =
     let w : ℕ = length (p ∷ ps) in
@@ -62,7 +62,7 @@ fits-at (p ∷ ps) kind rs (inr l) n e h =
           ∙ and_both (nat_lt 0 w) _ (lt-ltb 0 w (omega arith)) (and_both (length (parts kind) == w) _ long there),
     )
 
-pub fits : (kind : ℕ) (rs : List Record) → kind ≢ EOF → IsFirst (parts kind) kind rs → Fits kind rs
+pub fits : (kind : ℕ) (rs : List Record) → kind ≢ EOF → is_at kind rs ≡ true → Fits kind rs
 fits kind rs n h =
     let f = fits-at (parts kind) kind rs (row_of-long composites kind composites-long) n refl h in
     record { within = f.0; stands = f.1 }

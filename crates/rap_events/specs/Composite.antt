@@ -1,5 +1,5 @@
 -- Operators that are written with two or three tokens.
-use Rattle.std.specs.Prelude.{◌≡◌, ℕ, List, [], ◌∷◌, Bool, true, false, ◌&&◌, ◌==◌, length, if◌then◌else◌}
+use Rattle.std.specs.Prelude.{ℕ, List, [], ◌∷◌, Bool, true, false, ◌&&◌, ◌==◌, length, if◌then◌else◌}
 use Rattle.rap_base.specs.TokenKind.{AMP, PIPE, PLUS, STAR, SLASH, CARET, PERCENT, DOT, COLON, EQ, BANG, MINUS, L_ANGLE, R_ANGLE, DOT2, DOT3, DOT2EQ, COLON2, EQ2, FAT_ARROW, NEQ, THIN_ARROW, LTEQ, GTEQ, PLUSEQ, MINUSEQ, PIPEEQ, AMPEQ, CARETEQ, SLASHEQ, STAREQ, PERCENTEQ, AMP2, PIPE2, SHL, SHR, SHLEQ, SHREQ}
 use Rattle.rap_events.specs.Record.{Record, next_kind}
 
@@ -51,10 +51,13 @@ abbrev pub touches_next : List Record → ℕ → Bool
 touches_next [] kind = false
 touches_next (r ∷ rs) kind = (r.kind == kind) && r.joint
 
--- the tokens of a kind come first: all of an operator's, or one token of that kind
-abbrev pub IsFirst : List ℕ → ℕ → List Record → Type 0
-IsFirst [] kind rs = next_kind rs ≡ kind
-IsFirst (k ∷ ks) kind rs = begins_with (k ∷ ks) rs ≡ true
+abbrev pub is_first : List ℕ → ℕ → List Record → Bool
+is_first [] kind rs = next_kind rs == kind
+is_first (k ∷ ks) kind rs = begins_with (k ∷ ks) rs
+
+-- whether the tokens of a kind come first: all of an operator's, or one token of that kind
+abbrev pub is_at : ℕ → List Record → Bool
+is_at kind rs = is_first (parts kind) kind rs
 
 abbrev pub width_of : List ℕ → ℕ
 width_of [] = 1

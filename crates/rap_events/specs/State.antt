@@ -5,7 +5,7 @@ use Rattle.rap_base.specs.TokenSet.{member}
 use Rattle.rap_base.specs.declared.token_set.TokenSet.{TokenSet}
 use Rattle.rap_base.specs.Names.{name_of}
 use Rattle.rap_events.specs.Record.{Record, next_kind, contextual_at}
-use Rattle.rap_events.specs.Composite.{parts, IsFirst, width}
+use Rattle.rap_events.specs.Composite.{is_at, width}
 use Rattle.rap_events.specs.Cover.{first_may_bear}
 use Rattle.rap_events.specs.Forest.{Forest, none, node, leaf, mark, ◌⧺◌}
 use Rattle.rap_events.specs.History.{Call, history}
@@ -51,11 +51,11 @@ next_contextual s = contextual_at s.rest 0
 
 -- a token of this kind comes next, be it written with one token or with several
 abbrev pub At : State → ℕ → Type 0
-At s kind = IsFirst (parts kind) kind s.rest
+At s kind = is_at kind s.rest ≡ true
 
 -- the same after so many tokens
 abbrev pub NthAt : State → ℕ → ℕ → Type 0
-NthAt s n kind = IsFirst (parts kind) kind (drop n s.rest)
+NthAt s n kind = is_at kind (drop n s.rest) ≡ true
 
 -- the next token may be taken under this kind
 abbrev pub Bears : State → ℕ → Type 0
@@ -158,8 +158,9 @@ pub record Ate (old new : State) (kind : ℕ) (taken : Bool) : Type 0 where
   pub messages : new.messages ≡ old.messages
   pub marker : new.marker ≡ old.marker
   pub below : new.below ≡ old.below
-  pub token : taken ≡ true → At old kind × Bumped old new kind (width kind)
-  pub not_token : taken ≡ false → (¬ At old kind) × (new ≡ old)
+  pub decided : taken ≡ is_at kind old.rest
+  pub token : taken ≡ true → Bumped old new kind (width kind)
+  pub not_token : taken ≡ false → new ≡ old
 
 -- the same for an identifier that is read as a keyword
 pub record AteAs (old new : State) (kind : ℕ) (taken : Bool) : Type 0 where
@@ -170,8 +171,9 @@ pub record AteAs (old new : State) (kind : ℕ) (taken : Bool) : Type 0 where
   pub messages : new.messages ≡ old.messages
   pub marker : new.marker ≡ old.marker
   pub below : new.below ≡ old.below
-  pub token : taken ≡ true → (next_contextual old ≡ kind) × Bumped old new kind 1
-  pub not_token : taken ≡ false → (next_contextual old ≢ kind) × (new ≡ old)
+  pub decided : taken ≡ (next_contextual old == kind)
+  pub token : taken ≡ true → Bumped old new kind 1
+  pub not_token : taken ≡ false → new ≡ old
 
 -- a token of this kind was taken if one came next, and else a message says that it is missing
 pub record Expected (old new : State) (kind : ℕ) (taken : Bool) : Type 0 where
@@ -183,8 +185,9 @@ pub record Expected (old new : State) (kind : ℕ) (taken : Bool) : Type 0 where
   pub marker : new.marker ≡ old.marker
   pub below : new.below ≡ old.below
   pub clean : new.messages ≡ 0 → new.forest ≡ leaf old.forest kind (width kind)
-  pub token : taken ≡ true → At old kind × Bumped old new kind (width kind)
-  pub not_token : taken ≡ false → (¬ At old kind) × Told old new (expected kind)
+  pub decided : taken ≡ is_at kind old.rest
+  pub token : taken ≡ true → Bumped old new kind (width kind)
+  pub not_token : taken ≡ false → Told old new (expected kind)
 
 -- a message, and the next token if there is one
 abbrev pub skipped : List Record → List ℕ → Forest

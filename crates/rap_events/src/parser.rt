@@ -1,5 +1,5 @@
 //! The parser: a place in the input, and what was recorded so far.
-ghost use Rattle.std.specs.Prelude.{◌≡◌, ◌^◌, ◌≢◌, ℕ, ◌+◌, ◌-◌, ◌<◌, ◌≤◌, ◌↔◌, List, [], ◌∷◌, ◌++◌, length, drop, map, true, All, AllPairs, IfOk, OnOk, IsTrue, Some, None, string_bytes};
+ghost use Rattle.std.specs.Prelude.{◌≡◌, ◌==◌, ◌^◌, ◌≢◌, ℕ, ◌+◌, ◌-◌, ◌<◌, ◌≤◌, List, [], ◌∷◌, ◌++◌, length, drop, map, true, All, AllPairs, IfOk, OnOk, IsTrue, Some, None, string_bytes};
 ghost use Rattle.rap_base.specs.TokenKind.{EOF, IDENT};
 ghost use Rattle.rap_base.specs.TokenSet.{member};
 ghost use Rattle.rap_base.specs.Keyword.{is_any_identifier};
@@ -64,9 +64,9 @@ impl<'t> Parser<'t> {
     ghost use Rattle.rap_events.specs.Forest.{flat, used, marks};
     ghost use Rattle.rap_events.specs.Interval.{tree_steps, nodes_of, Nested};
     ghost use Rattle.rap_events.specs.Machine.{floor};
-    ghost use Rattle.rap_events.specs.Composite.{width};
+    ghost use Rattle.rap_events.specs.Composite.{is_at, width};
     ghost use Rattle.rap_events.specs.Record.{kind_at, contextual_at, edition_at};
-    ghost use Rattle.rap_events.specs.State.{state, calls, start_state, Opened, Bumped, Told, Ate, AteAs, Expected, Skipped, Recovered, is_kept, next, next_contextual, At, NthAt, Bears};
+    ghost use Rattle.rap_events.specs.State.{state, calls, start_state, Opened, Bumped, Told, Ate, AteAs, Expected, Skipped, Recovered, is_kept, next, next_contextual, At, Bears};
 
     /// At the first token, with nothing recorded. Takes no memory.
     pub fn new(alloc: Global, input: &'t Input) -> Self
@@ -123,7 +123,7 @@ impl<'t> Parser<'t> {
     /// Whether a token of this kind comes next. An operator of two or three tokens comes next where its tokens
     /// follow one another and each but the last touches the one after it.
     pub fn at(&self, kind: SyntaxKind) -> bool
-        ensures { IsTrue result ↔ At (state self.now) kind }
+        ensures { result ≡ is_at kind (state self.now).rest }
     {
         at_place(self.input, self.pos, kind)
     }
@@ -131,7 +131,7 @@ impl<'t> Parser<'t> {
     /// The same after `n` tokens.
     pub fn nth_at(&self, n: usize, kind: SyntaxKind) -> bool
         requires { n < 4 }
-        ensures { IsTrue result ↔ NthAt (state self.now) n kind }
+        ensures { result ≡ is_at kind (drop n (state self.now).rest) }
     {
         at_place(self.input, self.ahead(n), kind)
     }
@@ -154,7 +154,7 @@ impl<'t> Parser<'t> {
     /// Whether the next token is an identifier that may be read as this keyword.
     pub fn at_contextual_kw(&self, kw: SyntaxKind) -> bool
         requires { kw ≢ EOF }
-        ensures here { IsTrue result ↔ (next_contextual (state self.now) ≡ kw) }
+        ensures here { result ≡ (next_contextual (state self.now) == kw) }
         ensures bears { IsTrue result → Bears (state self.now) kw }
     {
         self.input.contextual_kind(self.pos) == kw
@@ -164,7 +164,7 @@ impl<'t> Parser<'t> {
     pub fn nth_at_contextual_kw(&self, n: usize, kw: SyntaxKind) -> bool
         requires near { n < 4 }
         requires keyword { kw ≢ EOF }
-        ensures { IsTrue result ↔ (contextual_at (state self.now).rest n ≡ kw) }
+        ensures { result ≡ (contextual_at (state self.now).rest n == kw) }
     {
         self.input.contextual_kind(self.ahead(n)) == kw
     }

@@ -1,7 +1,7 @@
 //! Operators that are written with two or three tokens.
-ghost use Rattle.std.specs.Prelude.{◌≡◌, ◌≢◌, ◌+◌, ◌≤◌, ◌^◌, ◌<◌, ◌↔◌, List, [], ◌∷◌, drop, length, true, IsTrue};
+ghost use Rattle.std.specs.Prelude.{◌≡◌, ◌≢◌, ◌+◌, ◌≤◌, ◌^◌, ◌<◌, List, [], ◌∷◌, drop, length, true, IsTrue};
 ghost use Rattle.rap_base.specs.TokenKind.{EOF};
-ghost use Rattle.rap_events.specs.Composite.{begins_with, touches_next, parts, IsFirst, width};
+ghost use Rattle.rap_events.specs.Composite.{begins_with, touches_next, is_at, width};
 
 use crate::input::Input;
 use rap_base::syntax_kind::SyntaxKind;
@@ -53,7 +53,7 @@ fn touching(input: &Input, place: usize, kind: SyntaxKind) -> bool
 // Whether tokens of these two kinds stand at a place, the first touching the second.
 fn at_two(input: &Input, place: usize, first: SyntaxKind, second: SyntaxKind) -> bool
     requires { second ≢ EOF }
-    ensures { IsTrue result ↔ (begins_with (first ∷ second ∷ []) (drop place input.now) ≡ true) }
+    ensures { result ≡ begins_with (first ∷ second ∷ []) (drop place input.now) }
 {
     if !touching(input, place, first) {
         return false;
@@ -70,7 +70,7 @@ fn at_three(
     third: SyntaxKind,
 ) -> bool
     requires { third ≢ EOF }
-    ensures { IsTrue result ↔ (begins_with (first ∷ second ∷ third ∷ []) (drop place input.now) ≡ true) }
+    ensures { result ≡ begins_with (first ∷ second ∷ third ∷ []) (drop place input.now) }
 {
     if !touching(input, place, first) {
         return false;
@@ -80,7 +80,7 @@ fn at_three(
 
 /// Whether a token of this kind stands at a place of the input.
 pub(super) fn at_place(input: &Input, place: usize, kind: SyntaxKind) -> bool
-    ensures { IsTrue result ↔ IsFirst (parts kind) kind (drop place input.now) }
+    ensures { result ≡ is_at kind (drop place input.now) }
 {
     match kind {
         SyntaxKind::DOT2 => at_two(input, place, SyntaxKind::DOT, SyntaxKind::DOT),

@@ -1,5 +1,5 @@
-use Rattle.std.proofs.Common.{◌≡◌, ◌≢◌, sym, ◌∙◌}
-use Rattle.std.proofs.lemmas.Bool.{eqb-true, eq-eqb}
+use Rattle.std.proofs.Common.{◌≡◌, ◌≢◌, ℕ, ◌==◌, sym, ap, ◌∙◌}
+use Rattle.std.proofs.lemmas.Bool.{eqb-true}
 use Rattle.rap_base.specs.TokenKind.{EOF, IDENT}
 use Rattle.rap_events.specs.State.{state, next_contextual, next}
 use Rattle.rap_events.proofs.Records.{contextual_at-drop, kind_at-drop}
@@ -11,7 +11,7 @@ unfolding state
 returns-clause-here c =
     let s = c.args.self.now in
     let e : c.contextual_kind.result ≡ next_contextual (state s) = c.contextual_kind.ensures.contextual ∙ contextual_at-drop s.input.now s.pos in
-    (λ t. sym e ∙ eqb-true c.contextual_kind.result c.args.kw (sym c.eq.ensures ∙ t), λ h. c.eq.ensures ∙ eq-eqb c.contextual_kind.result c.args.kw (e ∙ h))
+    c.eq.ensures ∙ ap (λ (k : ℕ). k == c.args.kw) e
 
 pub returns-clause-bears : goal.returns-clause-bears
 unfolding state

@@ -1,5 +1,4 @@
-use Rattle.std.proofs.Common.{◌≡◌, sym, ap, ◌∙◌, List}
-use Rattle.std.proofs.lemmas.Bool.{eqb-true, eq-eqb}
+use Rattle.std.proofs.Common.{◌≡◌, ℕ, ◌==◌, sym, ap, ◌∙◌, List}
 use Rattle.rap_events.specs.Record.{Record, contextual_at}
 use Rattle.rap_events.specs.State.{state}
 use Rattle.rap_events.proofs.Records.{contextual_at-drop}
@@ -10,4 +9,4 @@ returns c =
     let s = c.args.self.now in
     let e : c.contextual_kind.result ≡ contextual_at (state s).rest c.args.n =
     c.contextual_kind.ensures.contextual ∙ contextual_at-drop s.input.now c.ahead.result ∙ ap (λ (rs : List Record). contextual_at rs 0) c.ahead.ensures ∙ sym (contextual_at-drop (state s).rest c.args.n) in
-    (λ t. sym e ∙ eqb-true c.contextual_kind.result c.args.kw (sym c.eq.ensures ∙ t), λ h. c.eq.ensures ∙ eq-eqb c.contextual_kind.result c.args.kw (e ∙ h))
+    c.eq.ensures ∙ ap (λ (k : ℕ). k == c.args.kw) e

@@ -10,4 +10,4 @@ returns c =
     let e : begins_with (c.args.first ∷ c.args.second ∷ c.args.third ∷ []) (drop c.args.place rs) ≡ begins_with (c.args.second ∷ c.args.third ∷ []) (drop (c.args.place + 1) rs) =
     begins_with-touching c.args.first c.args.second (c.args.third ∷ []) (drop c.args.place rs) (sym c.touching.ensures.touches ∙ c.if-not-touching.false)
     ∙ ap (begins_with (c.args.second ∷ c.args.third ∷ [])) (drop-drop 1 c.args.place rs) in
-    (λ t. e ∙ c.at_two.ensures.0 t, λ h. c.at_two.ensures.1 (sym e ∙ h))
+    c.at_two.ensures ∙ sym e

@@ -16,4 +16,4 @@ returns c =
     ∙ begins_with-one c.args.second after c.requires
     ∙ ap (λ (k : ℕ). k == c.args.second) (sym (kind_at-drop rs (c.args.place + 1)) ∙ sym c.kind.ensures)
     ∙ sym c.eq.ensures in
-    (λ t. e ∙ t, λ h. sym e ∙ h)
+    sym e
