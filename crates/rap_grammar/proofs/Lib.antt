@@ -1,3 +1,4 @@
 pub mod Binary
 pub mod OneTree
+pub mod Steps
 pub mod TopTree

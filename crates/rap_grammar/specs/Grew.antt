@@ -1,10 +1,16 @@
 -- What a grammar function does to a parser, whatever the tokens are.
-use Rattle.std.specs.Prelude.{◌≡◌, ℕ, ◌+◌, ◌≤◌, ◌*◌, ◌<◌, true}
-use Rattle.rap_events.specs.Fit.{is_plain}
-use Rattle.rap_events.specs.Forest.{Forest, none, node, leaf}
+use Rattle.std.specs.Prelude.{◌≡◌, ℕ, ◌+◌, ◌≤◌, ◌*◌, ◌<◌, Option, Some, None}
 use Rattle.rap_events.specs.Machine.{push, top}
-use Rattle.rap_events.specs.State.{State, IsLast, but_last, next}
+use Rattle.rap_events.specs.State.{State, IsLast, but_last}
 use Rattle.rap_events.specs.declared.parser.CompletedMarker.{CompletedMarker}
+
+-- No more tokens are left than the rules that may be come back to can have.
+abbrev pub Within : {G : Type 0} → (G → Type 0) → (G → ℕ) → G → State → Type 0
+Within valid left g s = valid g × (s.left ≤ left g)
+
+-- The same after a token was taken.
+abbrev pub Behind : {G : Type 0} → (G → Type 0) → (G → ℕ) → G → State → Type 0
+Behind valid left g s = valid g × (s.left < left g)
 
 -- The open markers are as before. At most 256 events for each token taken, and `k` more, were recorded.
 pub record Grew (old new : State) (k : ℕ) : Type 0 where
@@ -24,22 +30,23 @@ pub record Took (old new : State) (room : ℕ) : Type 0 where
   pub marker : new.marker ≡ old.marker
   pub below : new.below ≡ old.below
 
--- the forest so far, and the next token alone in a node of this kind after it
-abbrev pub in_node : State → ℕ → Forest
-in_node s kind = node s.forest kind (leaf none (next s) 1)
-
 -- tokens were taken, and exactly this node was made
 pub record Made (old new : State) (cm : CompletedMarker) (room : ℕ) : Type 0 where
   pub took : Took old new room
   pub last : IsLast new cm cm.kind
   pub one : but_last new.forest ≡ old.forest
 
--- tokens were taken, and the last node became a part of this node, which is now the last
-pub record Wrapped (old new : State) (cm : CompletedMarker) (room : ℕ) : Type 0 where
+-- the same, of a kind
+pub record Makes (node_kind room : ℕ) (old new : State) (cm : CompletedMarker) : Type 0 where
+  pub made : Made old new cm room
+  pub kind : cm.kind ≡ node_kind
+
+-- tokens were taken, and the last node became a part of a node of this kind, which is now the last
+pub record Wraps (node_kind room : ℕ) (old new : State) (cm : CompletedMarker) : Type 0 where
   pub took : Took old new room
   pub last : IsLast new cm cm.kind
   pub one : but_last new.forest ≡ but_last old.forest
-  pub plain : is_plain cm.kind ≡ true
+  pub kind : cm.kind ≡ node_kind
 
 -- tokens were taken, and the newest open marker became this node
 pub record Closed (old new : State) (cm : CompletedMarker) (room : ℕ) : Type 0 where
@@ -50,10 +57,30 @@ pub record Closed (old new : State) (cm : CompletedMarker) (room : ℕ) : Type 0
   pub last : IsLast new cm cm.kind
   pub below : old.below ≡ push new.below new.marker (but_last new.forest)
 
--- the newest open marker was abandoned, and a message was told
+-- the newest open marker became a node of this kind, with at most `k` events more than the tokens pay for
+pub record Closes (node_kind k : ℕ) (old new : State) (cm : CompletedMarker) : Type 0 where
+  pub input : new.input ≡ old.input
+  pub left : new.left ≤ old.left
+  pub count : new.count + 256 * new.left ≤ old.count + 256 * old.left + k
+  pub messages : old.messages ≤ new.messages
+  pub last : IsLast new cm cm.kind
+  pub below : old.below ≡ push new.below new.marker (but_last new.forest)
+  pub kind : cm.kind ≡ node_kind
+
+-- the newest open marker was abandoned, and a message was reported
 pub record Dropped (old new : State) (k : ℕ) : Type 0 where
   pub input : new.input ≡ old.input
   pub left : new.left ≤ old.left
   pub count : new.count + 256 * new.left ≤ old.count + 256 * old.left + k
   pub messages : old.messages < new.messages
   pub below : old.below ≡ push new.below new.marker (top old.below)
+
+-- a rule that makes a node, or reports a message and makes none, with at most `k` events more than its tokens pay for
+abbrev pub Reads : ℕ → ℕ → State → State → Option CompletedMarker → Type 0
+Reads room k old new (Some cm) = Made old new cm room
+Reads room k old new None = Grew old new k × (old.messages < new.messages)
+
+-- a rule that makes a node, or does nothing
+abbrev pub Optional : ℕ → ℕ → State → State → Option CompletedMarker → Type 0
+Optional kind room old new (Some cm) = Makes kind room old new cm
+Optional kind room old new None = new ≡ old

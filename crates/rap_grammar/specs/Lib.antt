@@ -1,8 +1,16 @@
-pub mod Ahead
+pub mod Atom
 pub mod Climb
+pub mod Expressions
 pub mod First
+pub mod Grammar
 pub mod Grew
+pub mod Knot
 pub mod Operator
+pub mod Paths
+pub mod Phrase
 pub mod Recovery
+pub mod Room
 pub mod Rules
+pub mod Script
 pub mod Top
+pub mod Words

@@ -1,6 +1,6 @@
--- The operator between two expressions that comes next.
+-- The operator after an operand that comes next.
 use Rattle.std.specs.Prelude.{ℕ, List, [], ◌∷◌, ◌==◌, if◌then◌else◌}
-use Rattle.rap_base.specs.TokenKind.{EOF, EQ, FAT_ARROW, PLUSEQ, MINUSEQ, STAREQ, SLASHEQ, PERCENTEQ, CARETEQ, AMPEQ, PIPEEQ, SHLEQ, SHREQ, DOT, DOT2, DOT2EQ, PIPE2, AMP2, EQ2, NEQ, L_ANGLE, R_ANGLE, LTEQ, GTEQ, PIPE, CARET, AMP, SHL, SHR, PLUS, MINUS, STAR, SLASH, PERCENT, BANG}
+use Rattle.rap_base.specs.TokenKind.{EOF, EQ, FAT_ARROW, PLUSEQ, MINUSEQ, STAREQ, SLASHEQ, PERCENTEQ, CARETEQ, AMPEQ, PIPEEQ, SHLEQ, SHREQ, DOT, DOT2, DOT2EQ, PIPE2, AMP2, EQ2, NEQ, L_ANGLE, R_ANGLE, LTEQ, GTEQ, PIPE, CARET, AMP, SHL, SHR, PLUS, MINUS, STAR, SLASH, PERCENT, BANG, AS_KW}
 use Rattle.rap_events.specs.Record.{Record, next_kind}
 use Rattle.rap_events.specs.Composite.{parts, begins_with}
 
@@ -20,7 +20,8 @@ families =
     (STAR, STAREQ ∷ [], STAR) ∷
     (DOT, DOT2EQ ∷ DOT2 ∷ [], EOF) ∷
     (BANG, NEQ ∷ [], EOF) ∷
-    (MINUS, MINUSEQ ∷ [], MINUS) ∷ []
+    (MINUS, MINUSEQ ∷ [], MINUS) ∷
+    (AS_KW, [], AS_KW) ∷ []
 
 -- the first of the kinds whose tokens come first, or else the last one
 abbrev pub first_of : List ℕ → ℕ → List Record → ℕ

@@ -1,17 +1,16 @@
 -- What the rules that are come back to ask and give.
-use Rattle.std.specs.Prelude.{◌≡◌, ◌≢◌, false, ℕ, ◌≤◌, ◌<◌, Option, Some, None, Bool}
-use Rattle.rap_base.specs.TokenKind.{ERROR}
-use Rattle.rap_events.specs.State.{State, next}
+use Rattle.std.specs.Prelude.{◌≡◌, ℕ, ◌≤◌, ◌<◌, Option, Some, None, is_some, Bool}
+use Rattle.rap_events.specs.State.{State}
 use Rattle.rap_events.specs.declared.parser.CompletedMarker.{CompletedMarker}
 use Rattle.rap_events.specs.declared.parser.Marker.{Marker}
-use Rattle.rap_grammar.specs.First.{is_operand}
-use Rattle.rap_grammar.specs.Grew.{Grew, Made, Closed, Dropped}
 use Rattle.rap_grammar.specs.Climb.{Climbed}
+use Rattle.rap_grammar.specs.Expressions.{expr_bp, of_expr}
+use Rattle.rap_grammar.specs.Grew.{Grew, Made, Closed, Dropped}
+use Rattle.rap_grammar.specs.Knot.{Follows}
+use Rattle.rap_grammar.specs.Room.{expression_room}
 use Rattle.rap_grammar.specs.declared.grammar.BlockLike.{BlockLike}
 use Rattle.rap_grammar.specs.declared.grammar.knot.Rule.{Rule}
 use Rattle.rap_grammar.specs.declared.grammar.knot.Rule.TheVariants as rule
-use Rattle.rap_grammar.specs.declared.grammar.knot.Outcome.{Outcome}
-use Rattle.rap_grammar.specs.declared.grammar.knot.Outcome.TheVariants as outcome
 
 -- a marker that is handed over is the newest one
 abbrev pub IsNewest : State → Option Marker → Type 0
@@ -20,15 +19,15 @@ IsNewest s (Some m) = s.marker ≡ Some m.pos
 
 -- an expression of its own, or one from the marker on that was handed over; or a message and no expression
 abbrev pub Answered : State → State → Option Marker → Bool → ℕ → Option (CompletedMarker × BlockLike) → Type 0
-Answered old new None stmt bp (Some e) = Made old new e.0 100 × Climbed new e.0.kind bp stmt × (e.0.kind ≢ ERROR)
-Answered old new None stmt bp None = Grew old new 8 × (old.messages < new.messages) × (is_operand (next old) ≡ false)
-Answered old new (Some m) stmt bp (Some e) = Closed old new e.0 100 × Climbed new e.0.kind bp stmt × (e.0.kind ≢ ERROR)
-Answered old new (Some m) stmt bp None = Dropped old new 8 × (is_operand (next old) ≡ false)
+Answered old new None stmt bp (Some e) = Made old new e.0 expression_room × Climbed new e.0.kind bp stmt
+Answered old new None stmt bp None = Grew old new 8 × (old.messages < new.messages)
+Answered old new (Some m) stmt bp (Some e) = Closed old new e.0 expression_room × Climbed new e.0.kind bp stmt
+Answered old new (Some m) stmt bp None = Dropped old new 8
 
 -- what each rule asks
 abbrev pub Pre : Rule → State → Type 0
 Pre (rule.Expr m r bp) s = IsNewest s m × (1 ≤ bp)
 
 -- what each rule gives
-abbrev pub Post : Rule → State → State → Outcome → Type 0
-Post (rule.Expr m r bp) old new (outcome.Expr e) = Answered old new m r.prefer_stmt bp e
+abbrev pub Post : Rule → State → State → Option (CompletedMarker × BlockLike) → Type 0
+Post (rule.Expr m r bp) old new e = Answered old new m r.prefer_stmt bp e × Follows (expr_bp (is_some m) r bp) (of_expr e) old new

@@ -1,13 +1,18 @@
 //! The rules, one function each, and what they share.
-ghost use Rattle.std.specs.Prelude.{◌≡◌, ◌≢◌, ℕ, ◌<◌, ◌≤◌, OnOk, ◌↔◌, IfOk, IsTrue, Some, true, false};
+ghost use Rattle.std.specs.Prelude.{◌≡◌, ◌≢◌, ℕ, Bool, ◌<◌, ◌≤◌, OnOk, ◌↔◌, IfOk, IsTrue, true, false};
 ghost use Rattle.rap_base.specs.TokenKind.{EOF};
-ghost use Rattle.rap_base.specs.NodeKind.{NAME_REF};
 ghost use Rattle.rap_base.specs.TokenSet.{member};
-ghost use Rattle.rap_events.specs.Power.{last_leaf};
 ghost use Rattle.rap_events.specs.State.{state, next, At};
 ghost use Rattle.rap_grammar.specs.First.{is_path_name, is_path_name_or_index};
-ghost use Rattle.rap_grammar.specs.Grew.{Grew, Took, in_node};
+ghost use Rattle.rap_grammar.specs.Grammar as script;
+ghost use Rattle.rap_grammar.specs.Grew.{Within, Behind, Grew, Took};
+ghost use Rattle.rap_grammar.specs.Knot.{Follows};
+ghost use Rattle.rap_grammar.specs.Phrase.{Phrase};
+ghost use Rattle.rap_grammar.specs.Room.{name_room, list_room, element_room};
+ghost use Rattle.rap_grammar.specs.Script.{Script, something};
+ghost use Rattle.rap_grammar.specs.Words.{of_bool};
 
+use crate::token_kind::T;
 use rap_base::no_memory::NoMemory;
 use rap_base::syntax_kind::SyntaxKind;
 use rap_base::token_set::TokenSet;
@@ -18,7 +23,6 @@ mod expressions;
 mod knot;
 mod paths;
 
-use expressions::expr;
 use knot::Grammar;
 
 /// Whether an expression reads like a block: as a statement it needs no semicolon, and no operator goes on after it.
@@ -36,33 +40,20 @@ impl BlockLike {
     }
 }
 
-/// What stands between the delimiters of a list.
-#[derive(Clone, Copy)]
-enum Element {
-    Expr,
-}
-
-/// The names of a path's segments.
-fn path_name_ref_kinds() -> TokenSet
-    ensures { (kind : ℕ) → member result kind ≡ is_path_name kind }
+/// Whether a kind is a name in a path.
+fn is_path_name(kind: SyntaxKind) -> bool
+    ensures { result ≡ is_path_name kind }
 {
-    TokenSet::new(&[
-        SyntaxKind::IDENT,
-        SyntaxKind::SELF_KW,
-        SyntaxKind::SUPER_KW,
-        SyntaxKind::CRATE_KW,
-        SyntaxKind::SELF_TYPE_KW,
-    ])
+    matches!(kind, T![ident] | T![self] | T![super] | T![crate] | T![Self])
 }
 
 /// A name in a path, as `a` or `self`.
 fn name_ref_mod_path(p: &mut Parser<'_>) -> Result<(), NoMemory>
     ensures grew { OnOk result (Grew (state p.old) (state p.new) 3) }
-    ensures took { OnOk result (next (state p.old) ≢ EOF → Took (state p.old) (state p.new) 200) }
-    ensures named { OnOk result (is_path_name (next (state p.old)) ≡ true → (state p.new).forest ≡ in_node (state p.old) NAME_REF) }
-    ensures told { OnOk result (is_path_name (next (state p.old)) ≡ false → (state p.old).messages < (state p.new).messages) }
+    ensures took { OnOk result (next (state p.old) ≢ EOF → Took (state p.old) (state p.new) name_room) }
+    ensures script { OnOk result (Follows script.name_ref_mod_path something (state p.old) (state p.new)) }
 {
-    if p.at_ts(path_name_ref_kinds()) {
+    if is_path_name(p.current()) {
         let m = p.start()?;
         p.bump_any()?;
         m.complete(p, SyntaxKind::NAME_REF)?;
@@ -72,14 +63,20 @@ fn name_ref_mod_path(p: &mut Parser<'_>) -> Result<(), NoMemory>
     Ok(())
 }
 
+/// Whether a kind is a name in a path or a field's number.
+fn is_path_name_or_index(kind: SyntaxKind) -> bool
+    ensures { result ≡ is_path_name_or_index kind }
+{
+    is_path_name(kind) || kind == T![int_number]
+}
+
 /// A name in a path or a field's number, as `a` or `0`.
 fn name_ref_mod_path_or_index(p: &mut Parser<'_>) -> Result<(), NoMemory>
     ensures grew { OnOk result (Grew (state p.old) (state p.new) 3) }
-    ensures took { OnOk result (next (state p.old) ≢ EOF → Took (state p.old) (state p.new) 200) }
-    ensures named { OnOk result (is_path_name_or_index (next (state p.old)) ≡ true → (state p.new).forest ≡ in_node (state p.old) NAME_REF) }
-    ensures told { OnOk result (is_path_name_or_index (next (state p.old)) ≡ false → (state p.old).messages < (state p.new).messages) }
+    ensures took { OnOk result (next (state p.old) ≢ EOF → Took (state p.old) (state p.new) name_room) }
+    ensures script { OnOk result (Follows script.name_ref_mod_path_or_index something (state p.old) (state p.new)) }
 {
-    if p.at_ts(path_name_ref_or_index_kinds()) {
+    if is_path_name_or_index(p.current()) {
         let m = p.start()?;
         p.bump_any()?;
         m.complete(p, SyntaxKind::NAME_REF)?;
@@ -89,48 +86,44 @@ fn name_ref_mod_path_or_index(p: &mut Parser<'_>) -> Result<(), NoMemory>
     Ok(())
 }
 
-fn path_name_ref_or_index_kinds() -> TokenSet
-    ensures { (kind : ℕ) → member result kind ≡ is_path_name_or_index kind }
-{
-    path_name_ref_kinds().union(TokenSet::new(&[SyntaxKind::INT_NUMBER]))
+/// What stands between the delimiters of a list.
+trait Element {
+    /// What one element makes, and whether the list goes on after it.
+    ghost element: { Self → Script Phrase };
+
+    /// What elements begin with.
+    ghost first: { Self → ℕ → Bool };
+
+    /// One element, if one begins. Tells whether the list can go on after it.
+    fn parse<G: Grammar>(&self, p: &mut Parser<'_>, g: &G) -> Result<bool, NoMemory>
+        requires behind { Behind G.valid G.left g.now (state p.old) }
+        ensures grew { OnOk result (Grew (state p.old) (state p.new) 8) }
+        ensures took { IfOk result (λ going_on. going_on ≡ true → Took (state p.old) (state p.new) element_room) }
+        ensures script { IfOk result (λ going_on. Follows (element self.now) (of_bool going_on) (state p.old) (state p.new)) };
+
+    /// Whether an element may begin with a token of this kind.
+    fn is_first(&self, kind: SyntaxKind) -> bool
+        ensures { result ≡ first self.now kind };
 }
 
-/// One element of a list, if one begins. Tells whether the list can go on after it.
-fn list_element<G: Grammar>(p: &mut Parser<'_>, g: &G, kind: Element) -> Result<bool, NoMemory>
-    requires valid { G.valid g.now }
-    requires left { (state p.old).left < G.left g.now }
-    ensures grew { OnOk result (Grew (state p.old) (state p.new) 8) }
-    ensures told { IfOk result (λ going_on. going_on ≡ false → (state p.old).messages < (state p.new).messages) }
-    ensures took { IfOk result (λ going_on. going_on ≡ true → Took (state p.old) (state p.new) 100) }
-{
-    match kind {
-        Element::Expr => {
-            let expr = expr(p, g)?;
-            Ok(expr.is_some())
-        }
-    }
-}
-
-/// A list from `bra` to `ket`, as `(a, b)`, its elements with `delim` between. A missing element is told and passed over; a missing
-/// `delim` is told where the next element begins.
-fn delimited<G: Grammar>(
+/// A list from `bra` to `ket`, as `(a, b)`, its elements with `delim` between. A missing element is reported and passed
+/// over; a missing `delim` is reported where the next element begins.
+fn delimited<G: Grammar, E: Element>(
     p: &mut Parser<'_>,
     g: &G,
     bra: SyntaxKind,
     ket: SyntaxKind,
     delim: SyntaxKind,
     unexpected_delim_message: &str,
-    first_set: TokenSet,
-    kind: Element,
+    element: &E,
 ) -> Result<(), NoMemory>
-    requires valid { G.valid g.now }
-    requires left { (state p.old).left ≤ G.left g.now }
+    requires within { Within G.valid G.left g.now (state p.old) }
     requires here { At (state p.old) bra }
     requires bra { bra ≢ EOF }
     requires ket { ket ≢ EOF }
     requires delim { delim ≢ EOF }
-    ensures took { OnOk result (Took (state p.old) (state p.new) 150) }
-    ensures closed { OnOk result ((state p.new).messages ≡ 0 → last_leaf (state p.new).forest ≡ Some ket) }
+    ensures took { OnOk result (Took (state p.old) (state p.new) list_room) }
+    ensures script { OnOk result (Follows (script.delimited (E.element element.now) bra ket delim unexpected_delim_message.now (E.first element.now)) something (state p.old) (state p.new)) }
 {
     p.bump(bra)?;
     'elements: while !p.at(ket) && !p.at(SyntaxKind::EOF) {
@@ -141,10 +134,10 @@ fn delimited<G: Grammar>(
             m.complete(p, SyntaxKind::ERROR)?;
             continue;
         }
-        if !list_element(p, g, kind)? {
+        if !element.parse(p, g)? {
             break;
         }
-        if !p.at(delim) && !p.at_ts(first_set) {
+        if !p.at(delim) && !element.is_first(p.current()) {
             break;
         }
         p.expect(delim)?;

@@ -4,15 +4,17 @@ ghost use Rattle.rap_events.specs.Cover.{covers};
 ghost use Rattle.rap_events.specs.Fit.{AllFitIn};
 ghost use Rattle.rap_events.specs.Forest.{Forest, node, none, flat, marks, one_tree, used};
 ghost use Rattle.rap_events.specs.Machine.{floor, push};
-ghost use Rattle.rap_events.specs.State.{state, next, but_last};
+ghost use Rattle.rap_events.specs.State.{state};
 ghost use Rattle.rap_base.specs.TokenKind.{ERROR};
-ghost use Rattle.rap_grammar.specs.First.{is_operand};
-ghost use Rattle.rap_grammar.specs.Grew.{Grew, Made};
-ghost use Rattle.rap_grammar.specs.Top.{top_tree, with_leaves, ends_with_node};
+ghost use Rattle.rap_grammar.specs.Atom as atom_script;
+ghost use Rattle.rap_grammar.specs.Grew.{Reads};
+ghost use Rattle.rap_grammar.specs.Knot.{Follows};
+ghost use Rattle.rap_grammar.specs.Room.{expression_room};
+ghost use Rattle.rap_grammar.specs.Top.{top_tree, with_leaves};
+ghost use Rattle.rap_grammar.specs.Words.{of_option};
 
-use super::BlockLike;
 use super::expressions::Restrictions;
-use super::knot::{Outcome, Rule, run};
+use super::knot::{Rule, run};
 use rap_base::no_memory::NoMemory;
 use rap_base::syntax_kind::SyntaxKind;
 use rap_events::output::{Output, Step, under};
@@ -52,20 +54,16 @@ fn is_one_tree(output: &Output) -> bool
 
 /// Reads an expression.
 fn expr(p: &mut Parser<'_>) -> Result<Option<CompletedMarker>, NoMemory>
-    ensures some { IfOk result (λ o. IfSome o (λ cm. Made (state p.old) (state p.new) cm 100)) }
-    ensures no_error { IfOk result (λ o. IfSome o (λ cm. cm.kind ≢ ERROR)) }
-    ensures begun { OnOk result (is_operand (next (state p.old)) ≡ true → (ends_with_node (state p.new).forest ≡ true) × (but_last (state p.new).forest ≡ (state p.old).forest)) }
-    ensures none { IfOk result (λ o. o ≡ None → Grew (state p.old) (state p.new) 8 × ((state p.old).messages < (state p.new).messages)) }
+    ensures reads { IfOk result (Reads expression_room 8 (state p.old) (state p.new)) }
+    ensures script { IfOk result (λ o. Follows atom_script.expr (of_option o) (state p.old) (state p.new)) }
 {
     let r = Restrictions {
         forbid_structs: false,
         prefer_stmt: false,
     };
     match run(p, Rule::Expr { m: None, r, bp: 1 })? {
-        Outcome::Expr {
-            expr: Some((expr, _)),
-        } => Ok(Some(expr)),
-        Outcome::Expr { expr: None } => Ok(None),
+        Some((cm, _)) => Ok(Some(cm)),
+        None => Ok(None),
     }
 }
 

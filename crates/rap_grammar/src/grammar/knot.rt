@@ -9,7 +9,7 @@
 //! back to has fewer tokens left than the one that came back: the trait asks for that, so a rule that came back to
 //! itself without taking a token would not be proved.
 ghost use Rattle.std.specs.Prelude.{◌≡◌, ℕ, ◌<◌, ◌≤◌, IfOk};
-ghost use Rattle.rap_grammar.specs.Rules.{Answered, IsNewest, Pre, Post};
+ghost use Rattle.rap_grammar.specs.Rules.{Pre, Post};
 ghost use Rattle.rap_events.specs.State.{state};
 
 use super::BlockLike;
@@ -23,24 +23,18 @@ pub trait Grammar {
 
     ghost valid: { Self → Type 0 };
 
-    /// An expression of at least this power, from the marker on if there is one.
-    fn expr_bp(
-        &self,
-        p: &mut Parser<'_>,
-        m: Option<Marker>,
-        r: Restrictions,
-        bp: u8,
-    ) -> Result<Option<(CompletedMarker, BlockLike)>, NoMemory>
+    /// Runs a rule.
+    fn run(&self, p: &mut Parser<'_>, rule: Rule) -> Result<Answer, NoMemory>
         requires valid { valid self.now }
         requires left { (state p.old).left < left self.now }
-        requires newest { IsNewest (state p.old) m }
-        requires power { 1 ≤ bp }
-        ensures { IfOk result (Answered (state p.old) (state p.new) m r.prefer_stmt bp) };
+        requires pre { Pre rule (state p.old) }
+        ensures { IfOk result (Post rule (state p.old) (state p.new)) };
 }
 
 /// A rule with its arguments.
 #[derive(Drop)]
 pub enum Rule {
+    /// An expression of at least the power `bp`, from the marker on if there is one.
     Expr {
         m: Option<Marker>,
         r: Restrictions,
@@ -48,47 +42,34 @@ pub enum Rule {
     },
 }
 
-/// What a rule gives.
-#[derive(Drop)]
-pub enum Outcome {
-    Expr {
-        expr: Option<(CompletedMarker, BlockLike)>,
-    },
-}
+/// What a rule gives: its node, if it made one, and whether that reads like a block.
+pub type Answer = Option<(CompletedMarker, BlockLike)>;
 
 /// The grammar, by a call that runs any rule.
 #[derive(Drop)]
-struct Rules<F: Fn(&mut Parser<'_>, Rule) -> Result<Outcome, NoMemory>> {
+struct Rules<F: Fn(&mut Parser<'_>, Rule) -> Result<Answer, NoMemory>> {
     run: F,
     left: usize,
 }
 
-impl<F: Fn(&mut Parser<'_>, Rule) -> Result<Outcome, NoMemory>> Grammar for Rules<F> {
+impl<F: Fn(&mut Parser<'_>, Rule) -> Result<Answer, NoMemory>> Grammar for Rules<F> {
     ghost left = { λ rules. rules.left };
 
     ghost valid = { λ rules. ((q : _) (c : _) → Pre c (state q.now) → (state q.now).left < rules.left → F.pre rules.run q c) × ((q : _) (c : _) (a : _) (s : _) → F.post rules.run q c a s → IfOk a (Post c (state q.now) (state s.now))) };
 
-    fn expr_bp(
-        &self,
-        p: &mut Parser<'_>,
-        m: Option<Marker>,
-        r: Restrictions,
-        bp: u8,
-    ) -> Result<Option<(CompletedMarker, BlockLike)>, NoMemory> {
-        match (self.run)(p, Rule::Expr { m, r, bp })? {
-            Outcome::Expr { expr } => Ok(expr),
-        }
+    fn run(&self, p: &mut Parser<'_>, rule: Rule) -> Result<Answer, NoMemory> {
+        (self.run)(p, rule)
     }
 }
 
 /// Runs a rule.
 #[cycle(run)]
-pub fn run(p: &mut Parser<'_>, rule: Rule) -> Result<Outcome, NoMemory>
+pub fn run(p: &mut Parser<'_>, rule: Rule) -> Result<Answer, NoMemory>
     requires { Pre rule (state p.old) }
     ensures { IfOk result (Post rule (state p.old) (state p.new)) }
 {
     let left = p.left();
-    let call = |q: &mut Parser<'_>, c: Rule| -> Result<Outcome, NoMemory>
+    let call = |q: &mut Parser<'_>, c: Rule| -> Result<Answer, NoMemory>
         requires pre { Pre c (state q.old) }
         requires left { (state q.old).left < left }
         ensures { IfOk result (Post c (state q.old) (state q.new)) }
@@ -100,7 +81,7 @@ pub fn run(p: &mut Parser<'_>, rule: Rule) -> Result<Outcome, NoMemory>
     match rule {
         Rule::Expr { m, r, bp } => {
             let expr = expr_bp(p, &g, m, r, bp)?;
-            Ok(Outcome::Expr { expr })
+            Ok(expr)
         }
     }
 }

@@ -1,46 +1,44 @@
 //! Paths.
-ghost use Rattle.std.specs.Prelude.{◌≡◌, ◌≢◌, ℕ, ◌<◌, ◌≤◌, ◌+◌, IfOk, OnOk, IfSome, None, true};
+ghost use Rattle.std.specs.Prelude.{◌≡◌, ℕ, ◌<◌, ◌≤◌, IfOk, OnOk, IfSome, None, true};
 ghost use Rattle.rap_base.specs.NodeKind.{PATH, PATH_SEGMENT};
-ghost use Rattle.rap_base.specs.TokenKind.{COLON2};
 ghost use Rattle.rap_base.specs.TokenSet.{member};
-ghost use Rattle.rap_events.specs.State.{state, next, At, IsLast, but_last};
-ghost use Rattle.rap_grammar.specs.First.{is_path_name, is_path_first, starts_path};
+ghost use Rattle.rap_events.specs.State.{state, IsLast, but_last};
+ghost use Rattle.rap_grammar.specs.First.{is_path_first, starts_path};
 ghost use Rattle.rap_grammar.specs.Grew.{Grew, Took};
+ghost use Rattle.rap_grammar.specs.Knot.{Follows};
+ghost use Rattle.rap_grammar.specs.Paths as script;
 ghost use Rattle.rap_grammar.specs.Recovery.{is_item_recovery, is_expr_path_segment_recovery};
+ghost use Rattle.rap_grammar.specs.Room.{segment_room, path_room};
+ghost use Rattle.rap_grammar.specs.Script.{something};
+ghost use Rattle.rap_grammar.specs.Words.{of_option};
 
 use super::expressions::expr_recovery_set;
-use super::{name_ref_mod_path, path_name_ref_kinds};
+use super::{is_path_name, name_ref_mod_path};
+use crate::token_kind::T;
 use rap_base::no_memory::NoMemory;
 use rap_base::syntax_kind::SyntaxKind;
 use rap_base::token_set::TokenSet;
 use rap_events::parser::{CompletedMarker, Parser};
 
-/// The tokens that paths begin with.
-pub(super) fn path_first() -> TokenSet
-    ensures { (kind : ℕ) → member result kind ≡ is_path_first kind }
+/// Whether a path may begin with a token of this kind: a `:` may be the first of `::`.
+pub(super) fn is_path_first(kind: SyntaxKind) -> bool
+    ensures { result ≡ is_path_first kind }
 {
-    TokenSet::new(&[
-        SyntaxKind::IDENT,
-        SyntaxKind::SELF_KW,
-        SyntaxKind::SUPER_KW,
-        SyntaxKind::CRATE_KW,
-        SyntaxKind::SELF_TYPE_KW,
-        SyntaxKind::COLON,
-    ])
+    is_path_name(kind) || kind == T![:]
 }
 
 /// Whether a path comes next.
-#[inline(never)]
 pub(super) fn is_path_start(p: &Parser<'_>) -> bool
     ensures { result ≡ starts_path (state p.now).rest }
 {
-    p.at_ts(path_name_ref_kinds()) || p.at(SyntaxKind::COLON2)
+    is_path_name(p.current()) || p.at(T![::])
 }
 
 /// A path in an expression, as `a::b` and `::a`.
 pub(super) fn expr_path(p: &mut Parser<'_>) -> Result<(), NoMemory>
     requires { starts_path (state p.old).rest ≡ true }
-    ensures { OnOk result (Took (state p.old) (state p.new) 180) }
+    ensures took { OnOk result (Took (state p.old) (state p.new) path_room) }
+    ensures script { OnOk result (Follows script.expr_path something (state p.old) (state p.new)) }
 {
     path(p)?;
     Ok(())
@@ -49,9 +47,9 @@ pub(super) fn expr_path(p: &mut Parser<'_>) -> Result<(), NoMemory>
 /// A path.
 fn path(p: &mut Parser<'_>) -> Result<Option<CompletedMarker>, NoMemory>
     requires { starts_path (state p.old).rest ≡ true }
-    ensures took { OnOk result (Took (state p.old) (state p.new) 180) }
+    ensures took { OnOk result (Took (state p.old) (state p.new) path_room) }
     ensures some { IfOk result (λ o. IfSome o (λ cm. IsLast (state p.new) cm PATH × (but_last (state p.new).forest ≡ (state p.old).forest))) }
-    ensures none { IfOk result (λ o. o ≡ None → (state p.old).messages < (state p.new).messages) }
+    ensures script { IfOk result (λ o. Follows script.path (of_option o) (state p.old) (state p.new)) }
 {
     let path = p.start()?;
     if path_segment(p, true)?.is_none() {
@@ -71,12 +69,12 @@ fn path_for_qualifier(
     requires last { IsLast (state p.old) qual PATH }
     ensures grew { OnOk result (Grew (state p.old) (state p.new) 0) }
     ensures last { IfOk result (λ cm. IsLast (state p.new) cm PATH) }
-    ensures end { OnOk result (¬ At (state p.new) COLON2) }
     ensures one { OnOk result (but_last (state p.new).forest ≡ but_last (state p.old).forest) }
+    ensures script { OnOk result (Follows script.path_for_qualifier something (state p.old) (state p.new)) }
 {
-    'segments: while p.at(SyntaxKind::COLON2) {
+    'segments: while p.at(T![::]) {
         let path = qual.precede(p)?;
-        p.bump(SyntaxKind::COLON2)?;
+        p.bump(T![::])?;
         path_segment(p, false)?;
         qual = path.complete(p, SyntaxKind::PATH)?;
     }
@@ -95,23 +93,23 @@ fn item_recovery_set() -> TokenSet
     ensures { (kind : ℕ) → member result kind ≡ is_item_recovery kind }
 {
     TokenSet::new(&[
-        SyntaxKind::FN_KW,
-        SyntaxKind::STRUCT_KW,
-        SyntaxKind::ENUM_KW,
-        SyntaxKind::IMPL_KW,
-        SyntaxKind::TRAIT_KW,
-        SyntaxKind::CONST_KW,
-        SyntaxKind::ASYNC_KW,
-        SyntaxKind::UNSAFE_KW,
-        SyntaxKind::EXTERN_KW,
-        SyntaxKind::STATIC_KW,
-        SyntaxKind::LET_KW,
-        SyntaxKind::MOD_KW,
-        SyntaxKind::PUB_KW,
-        SyntaxKind::CRATE_KW,
-        SyntaxKind::USE_KW,
-        SyntaxKind::MACRO_KW,
-        SyntaxKind::SEMICOLON,
+        T![fn],
+        T![struct],
+        T![enum],
+        T![impl],
+        T![trait],
+        T![const],
+        T![async],
+        T![unsafe],
+        T![extern],
+        T![static],
+        T![let],
+        T![mod],
+        T![pub],
+        T![crate],
+        T![use],
+        T![macro],
+        T![;],
     ])
 }
 
@@ -119,15 +117,15 @@ fn item_recovery_set() -> TokenSet
 fn path_segment(p: &mut Parser<'_>, first: bool) -> Result<Option<CompletedMarker>, NoMemory>
     ensures grew { OnOk result (Grew (state p.old) (state p.new) 6) }
     ensures some { IfOk result (λ o. IfSome o (λ cm. IsLast (state p.new) cm PATH_SEGMENT × (but_last (state p.new).forest ≡ (state p.old).forest))) }
-    ensures none { IfOk result (λ o. o ≡ None → (state p.old).messages < (state p.new).messages) }
-    ensures took { OnOk result (first ≡ true → starts_path (state p.old).rest ≡ true → Took (state p.old) (state p.new) 190) }
+    ensures took { OnOk result (first ≡ true → starts_path (state p.old).rest ≡ true → Took (state p.old) (state p.new) segment_room) }
+    ensures script { IfOk result (λ o. Follows (script.path_segment first) (of_option o) (state p.old) (state p.new)) }
 {
     let m = p.start()?;
     let mut empty = true;
     if first {
-        empty = !p.eat(SyntaxKind::COLON2)?;
+        empty = !p.eat(T![::])?;
     }
-    if p.at_ts(path_name_ref_kinds()) {
+    if is_path_name(p.current()) {
         name_ref_mod_path(p)?;
     } else {
         let stopped = p.err_recover(

@@ -1,8 +1,7 @@
 //! Entries that read a whole input as one tree.
-ghost use Rattle.std.specs.Prelude.{◌≡◌, ◌≤◌, length, IfOk, true};
-ghost use Rattle.rap_events.specs.Record.{next_kind};
-ghost use Rattle.rap_grammar.specs.First.{is_operand};
-ghost use Rattle.rap_grammar.specs.Top.{IsTreeOver, Begun};
+ghost use Rattle.std.specs.Prelude.{◌≡◌, ◌≤◌, length, IfOk};
+ghost use Rattle.rap_grammar.specs.Atom as script;
+ghost use Rattle.rap_grammar.specs.Top.{IsTreeOver, IsTopOf};
 
 use super::close_top;
 use rap_base::no_memory::NoMemory;
@@ -15,7 +14,7 @@ use std::alloc::Global;
 pub fn expr(alloc: Global, input: &Input) -> Result<Output, NoMemory>
     requires { length input.now ≤ 8388607 }
     ensures tree { IfOk result (IsTreeOver input.now) }
-    ensures begun { IfOk result (λ output. is_operand (next_kind input.now) ≡ true → Begun output) }
+    ensures script { IfOk result (IsTopOf script.expr input.now) }
 {
     let mut p = Parser::new(alloc, input);
     let m = p.start()?;

@@ -1,0 +1,41 @@
+-- How many events a rule that takes a token leaves, of the 256 that each token pays for, to the rules around it. A rule
+-- records at most 256 less its room; a rule that only wraps another leaves less than that one.
+use Rattle.std.specs.Prelude.{ℕ}
+
+-- a name or a token in a node
+abbrev pub name_room : ℕ
+name_room = 200
+
+-- a path
+abbrev pub segment_room : ℕ
+segment_room = 190
+
+abbrev pub path_room : ℕ
+path_room = 180
+
+-- a list in its brackets
+abbrev pub list_room : ℕ
+list_room = 150
+
+-- an expression that begins with no operator
+abbrev pub atom_room : ℕ
+atom_room = 130
+
+-- the arguments of a call
+abbrev pub arguments_room : ℕ
+arguments_room = 120
+
+-- an operand, and an operator with its operands
+abbrev pub operand_room : ℕ
+operand_room = 110
+
+-- an expression under its marker
+abbrev pub marked_room : ℕ
+marked_room = 104
+
+-- an expression, and an element of a list
+abbrev pub expression_room : ℕ
+expression_room = 100
+
+abbrev pub element_room : ℕ
+element_room = 100

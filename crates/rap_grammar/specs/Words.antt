@@ -1,0 +1,43 @@
+-- What scripts say often.
+use Rattle.std.specs.Prelude.{◌≡◌, ℕ, Bool, true, false, ◌==◌, ◌||◌, List, Option, Some, None, codes}
+use Rattle.rap_base.specs.TokenKind.{EOF, L_CURLY, R_CURLY}
+use Rattle.rap_events.specs.Record.{Record, next_kind, contextual_at}
+use Rattle.rap_events.specs.Composite.{is_at}
+use Rattle.rap_events.specs.State.{expected}
+use Rattle.rap_grammar.specs.Script.{Script, Outcome, nothing, something, block, again, give, test, token, report, skip}
+
+-- the end of a rule that has nothing to tell
+abbrev pub done : {P : Type 0} → Script P
+done = give something
+
+-- one of two ways, by whether there is something
+abbrev pub if_some : {P : Type 0} → Outcome → Script P → Script P → Script P
+if_some nothing s t = t
+if_some something s t = s
+if_some block s t = s
+if_some (again a b) s t = s
+
+-- whether the next token is of this kind
+abbrev pub next_is : ℕ → List Record → Bool
+next_is kind rs = next_kind rs == kind
+
+-- a token of this kind if one comes next, and on
+abbrev pub eat : {P : Type 0} → ℕ → Script P → Script P
+eat kind s = test (is_at kind) (token kind s) s
+
+-- a token of this kind, or the message that it is missing, and on
+abbrev pub expect : {P : Type 0} → ℕ → Script P → Script P
+expect kind s = test (is_at kind) (token kind s) (report (expected kind) s)
+
+-- a message before a brace or a token that is kept, and else with the next token in an `ERROR`; and on, by one way or the other
+abbrev pub recover : {P : Type 0} → List ℕ → (ℕ → Bool) → Script P → Script P → Script P
+recover bytes kept s t = test (λ rs. (next_kind rs == L_CURLY) || ((next_kind rs == R_CURLY) || kept (next_kind rs))) (report bytes s) (skip bytes t)
+
+-- what is told of an option and of a truth value
+abbrev pub of_option : {A : Type 0} → Option A → Outcome
+of_option None = nothing
+of_option (Some a) = something
+
+abbrev pub of_bool : Bool → Outcome
+of_bool false = nothing
+of_bool true = something
