@@ -1,5 +1,6 @@
 -- The operands of a binary expression, and what is known at its end.
-use Rattle.std.proofs.Common.{◌≡◌, ◌≢◌, ℕ, ◌+◌, ◌<◌, ◌≤◌, ap, sym, ◌∙◌, refl, arith, false, Option, Some, None, List, [], ◌∷◌}
+use Rattle.std.proofs.Common.{◌≡◌, ◌≢◌, ℕ, ◌+◌, ◌<◌, ◌≤◌, ap, sym, ◌∙◌, refl, arith, Bool, true, false, ◌==◌, if◌then◌else◌, Option, Some, None, List, [], ◌∷◌}
+use Rattle.rap_base.specs.TokenKind.{AS_KW}
 use Rattle.rap_base.specs.NodeKind.{BIN_EXPR}
 use Rattle.rap_events.specs.Composite.{parts, width, width_of}
 use Rattle.rap_events.specs.Forest.{Forest, none, node, leaf}
@@ -8,6 +9,8 @@ use Rattle.rap_events.specs.Fit.{Fit}
 use Rattle.rap_events.specs.State.{State, Preceded, Bumped, Completed, last_children}
 use Rattle.rap_events.specs.declared.parser.CompletedMarker.{CompletedMarker}
 use Rattle.rap_grammar.specs.declared.grammar.BlockLike.{BlockLike}
+use Rattle.std.proofs.lemmas.Bool.{eqb-true, eqb-false}
+use Rattle.rap_grammar.specs.Expressions.{right_of}
 use Rattle.rap_grammar.specs.Operator.{operator_at}
 use Rattle.rap_grammar.specs.Rules.{Answered}
 use Rattle.rap_grammar.specs.Climb.{LeftFits, Bound}
@@ -27,7 +30,7 @@ record Operands (s0 s3 : State) (kind op w least : ℕ) : Type 0 where
   right : Forest
   shape : s3.forest ≡ node (leaf (node none kind (last_children s0.forest)) op w) right_kind right
   least_power : right_kind ≡ BIN_EXPR → least ≤ power (operator right)
-  follows : open_ended right ≡ false → power (operator_at s3.rest) < least
+  follows : open_ended right ≡ false → operator_at s3.rest ≢ AS_KW → power (operator_at s3.rest) < least
 
 operands : (s0 s1 s2 s3 : State) (m least kind op w : ℕ) (o : Option (CompletedMarker × BlockLike)) → Preceded s0 s1 m kind → Bumped s1 s2 op w → Answered s2 s3 None false least o → s3.messages ≡ 0 → Operands s0 s3 kind op w least
 operands s0 s1 s2 s3 m least kind op w None a b t z = absurd (omega arith)
@@ -74,9 +77,20 @@ bound s0 s1 s2 s3 s4 m least bp kind op w o a b t d e most one z =
     let u = operands s0 s1 s2 s3 m least kind op w o a b t (sym d.recorded.messages ∙ z) in
     let c : last_children s4.forest ≡ node (leaf (node none kind (last_children s0.forest)) op w) u.right_kind u.right = d.children ∙ u.shape in
     let n : operator_at s4.rest ≡ operator_at s3.rest = ap operator_at d.recorded.rest in
-    let ends : open_ended (last_children s4.forest) ≡ false → power (operator_at s4.rest) < least = λ h. rw n (u.follows (closed_left (last_leaf u.right) _ (rw c at h))) in
+    let ends : open_ended (last_children s4.forest) ≡ false → operator_at s4.rest ≢ AS_KW → power (operator_at s4.rest) < least = λ h a. rw n (u.follows (closed_left (last_leaf u.right) _ (rw c at h)) (rw n at a)) in
     record {
       power_is = rw c (sym e);
-      follows = λ h. let l = ends h in omega arith;
-      not_twice = λ h i. let l = ends h in let j = one i in omega arith;
+      follows = λ h a. let l = ends h a in omega arith;
+      not_twice = λ h a i. let l = ends h a in let j = one i in omega arith;
     }
+
+by_test : {a b c : ℕ} (t : Bool) → (t ≡ true → a ≡ b) → (t ≡ false → a ≡ c) → a ≡ if t then b else c
+by_test true h k = h refl
+by_test false h k = k refl
+
+right_at : (n least : ℕ) → (n ≢ 1 → least ≡ n + 1) → (n ≡ 1 → least ≡ 1) → least ≡ if n == 1 then 1 else n + 1
+right_at n least f g = by_test (n == 1) (λ h. g (eqb-true n 1 h)) (λ h. f (eqb-false n 1 h))
+
+-- the least power on the right, by the operator
+pub right_is : (op bp least : ℕ) → bp ≡ power op → (bp ≢ 1 → least ≡ bp + 1) → (bp ≡ 1 → least ≡ 1) → least ≡ right_of op
+right_is op bp least e f g = right_at (power op) least (λ n. f (λ h. n (sym e ∙ h)) ∙ ap (λ (x : ℕ). x + 1) e) (λ h. g (e ∙ h))

@@ -1,6 +1,6 @@
 -- What each call of the parser does of a script.
-use Rattle.std.proofs.Common.{◌≡◌, ◌≢◌, ℕ, List, [], ◌∷◌, Bool, true, false, drop, refl, sym, ap, subst, ◌∙◌}
-use Rattle.rap_base.specs.TokenKind.{EOF}
+use Rattle.std.proofs.Common.{◌≡◌, ◌≢◌, ℕ, List, [], ◌∷◌, Bool, true, false, ◌&&◌, ◌||◌, Option, Some, None, drop, refl, sym, ap, subst, ◌∙◌}
+use Rattle.rap_base.specs.TokenKind.{EOF, COLON2}
 use Rattle.rap_base.specs.TokenSet.{member}
 use Rattle.rap_base.specs.declared.token_set.TokenSet.{TokenSet}
 use Rattle.rap_events.specs.Record.{Record, next_kind, contextual_at}
@@ -10,10 +10,15 @@ use Rattle.rap_events.specs.Forest.{Forest, none, node, leaf, mark, ◌⧺◌}
 use Rattle.rap_events.specs.Machine.{Stack, floor, push, top}
 use Rattle.rap_events.specs.State.{State, next, Opened, IsLast, Completed, Abandoned, Preceded, Extended, Bumped, Told, Ate, Expected, Skipped, Recovered, but_last, last_children, expected}
 use Rattle.rap_events.specs.declared.parser.CompletedMarker.{CompletedMarker}
+use Rattle.rap_grammar.specs.First.{is_path_name, starts_path}
 use Rattle.rap_grammar.specs.Knot.{script_of, Follows}
-use Rattle.rap_grammar.specs.Phrase.{Phrase}
-use Rattle.rap_grammar.specs.Script.{Script, Outcome, again, goes_on, Spot, spot, forests, taken, reported, skipped_over, started, preceded, finished, extended, abandoned, last_tree, last_kind, newest, give, test, look, token, any, bear, report, skip, start, precede, finish, extend, abandon, after, rule, loop, Runs, gives, looks, passes, fails, takes, takes_any, bears, reports, skips, starts, precedes, finishes, extends, abandons, follows, obeys, turns, stops}
-use Rattle.rap_grammar.specs.Words.{eat, expect, recover}
+use Rattle.rap_grammar.specs.Expressions.{expr_bp, of_like}
+use Rattle.rap_grammar.specs.Phrase.{Phrase, expression}
+use Rattle.rap_grammar.specs.declared.grammar.BlockLike.{BlockLike}
+use Rattle.rap_grammar.specs.declared.grammar.BlockLike.TheVariants as like
+use Rattle.rap_grammar.specs.declared.grammar.expressions.Restrictions.{Restrictions}
+use Rattle.rap_grammar.specs.Script.{Script, Outcome, nothing, something, again, goes_on, Spot, spot, forests, taken, reported, skipped_over, started, preceded, finished, extended, abandoned, last_tree, last_kind, newest, give, test, look, token, any, bear, report, skip, start, precede, finish, extend, abandon, after, rule, loop, Runs, gives, looks, passes, fails, takes, takes_any, bears, reports, skips, starts, precedes, finishes, extends, abandons, follows, obeys, turns, stops}
+use Rattle.rap_grammar.specs.Words.{done, if_some, eat, expect, recover, of_option, of_bool}
 
 -- from a spot by a script of the grammar
 abbrev pub On : Script Phrase → Spot → Spot → Outcome → Type 0
@@ -57,8 +62,10 @@ by_abandon {s = s} {t = t} b d = abandons (from_there (same_spot (sym b.recorded
     (ap (λ (x : Stack). newest (forests x) ⧺ s.forest) b.below ∙ sym b.forest)
     (ap (λ (x : Stack). drop 1 (forests x)) b.below)) d)
 
-pub by_precede : {s t : State} {m : ℕ} {cm : CompletedMarker} {n : Script Phrase} {q : Spot} {v : Outcome} → IsLast s cm cm.kind → Preceded s t m cm.kind → On n (spot t) q v → On (precede n) (spot s) q v
-by_precede h b d = precedes (from_there (same_spot (sym b.recorded.rest) (ap last_tree h.forest ∙ sym b.forest) (ap forests (sym b.below))) d)
+pub by_precede : {s t : State} {m k : ℕ} {cm : CompletedMarker} {n : Script Phrase} {q : Spot} {v : Outcome} → IsLast s cm k → Preceded s t m cm.kind → On n (spot t) q v → On (precede n) (spot s) q v
+by_precede {s = s} h b d = precedes (from_there (same_spot (sym b.recorded.rest)
+    (ap last_tree h.forest ∙ ap (λ (x : ℕ). node none x (last_children s.forest)) (sym h.kind) ∙ sym b.forest)
+    (ap forests (sym b.below))) d)
 
 pub by_extend : {s t : State} {cm : CompletedMarker} {n : Script Phrase} {q : Spot} {v : Outcome} → IsLast s cm cm.kind → Extended s t cm.kind → On n (spot t) q v → On (extend n) (spot s) q v
 by_extend {s = s} {t = t} {cm = cm} h b d = extends (from_there (same_spot (sym b.recorded.rest)
@@ -79,3 +86,114 @@ by_expect {b = false} e d = fails (sym e.decided) (by_report (e.not_token refl) 
 pub by_eat : {s t : State} {k : ℕ} {b : Bool} {n : Script Phrase} {q : Spot} {v : Outcome} → Ate s t k b → On n (spot t) q v → On (eat k n) (spot s) q v
 by_eat {b = true} e d = passes (sym e.decided) (by_bump (sym e.decided) (e.token refl) d)
 by_eat {b = false} e d = fails (sym e.decided) (from_there (ap spot (sym (e.not_token refl))) d)
+
+-- a loop, as far as it has come: from these flags to those
+pub record Turns (h : Bool → Bool → Script Phrase) (a b c d : Bool) (s t : State) : Type 0 where
+  pub on : (q : Spot) (v : Outcome) → On (loop h c d) (spot t) q v → On (loop h a b) (spot s) q v
+
+pub no_turn : {h : Bool → Bool → Script Phrase} {a b : Bool} {s : State} → Turns h a b a b s s
+no_turn = record { on = λ q v d. d }
+
+-- one turn more
+pub turn : {h : Bool → Bool → Script Phrase} {a b c d e f : Bool} {s t u : State} → Turns h a b c d s t → On (h c d) (spot t) (spot u) (again e f) → Turns h a b e f s u
+turn k d = record { on = λ q v r. k.on q v (turns d r) }
+
+-- the last turn
+pub last_turn : {h : Bool → Bool → Script Phrase} {a b c d : Bool} {s t : State} {q : Spot} {v : Outcome} → Turns h a b c d s t → On (h c d) (spot t) q v → goes_on v ≡ false → On (loop h a b) (spot s) q v
+last_turn {q = q} {v = v} k d e = k.on q v (stops d e)
+
+-- where a message keeps the next token out of an `ERROR`
+pub by_recover : {s t : State} {bytes : List ℕ} {set : TokenSet} {kept : Bool} (first : ℕ → Bool) {n m : Script Phrase} {q : Spot} {v : Outcome} → ((k : ℕ) → member set k ≡ first k) → Recovered s t bytes set kept → (kept ≡ true → On n (spot t) q v) → (kept ≡ false → On m (spot t) q v) → On (recover bytes first n m) (spot s) q v
+by_recover {s = s} {kept = true} first e r d f = passes (rw (← (e (next s))) (sym r.decided)) (by_report (r.told refl) (d refl))
+by_recover {s = s} {kept = false} first e r d f = fails (rw (← (e (next s))) (sym r.decided)) (by_skip (r.skipped refl) (f refl))
+
+-- a rule at the end
+pub to_end : {c : Script Phrase} {s t : State} {v : Outcome} → Follows c v s t → On c (spot s) (spot t) v
+to_end h = h.run
+
+-- a test that is an equation of truth values
+pub then_by : {h : List Record → Bool} {a b : Script Phrase} {p q : Spot} {v : Outcome} {t : Bool} → t ≡ h p.rest → t ≡ true → On a p q v → On (test h a b) p q v
+then_by e f d = passes (sym e ∙ f) d
+
+pub else_by : {h : List Record → Bool} {a b : Script Phrase} {p q : Spot} {v : Outcome} {t : Bool} → t ≡ h p.rest → t ≡ false → On b p q v → On (test h a b) p q v
+else_by e f d = fails (sym e ∙ f) d
+
+-- what a rule told, by what is known of its answer
+pub nothing_told : {A : Type 0} {c : Script Phrase} {s t : State} {o : Option A} → o ≡ None → Follows c (of_option o) s t → Follows c nothing s t
+nothing_told {c = c} {s = s} {t = t} e h = subst (λ (x : Option _). Follows c (of_option x) s t) e h
+
+pub something_told : {A : Type 0} {c : Script Phrase} {s t : State} {o : Option A} → (o ≡ None → ⊥) → Follows c (of_option o) s t → Follows c something s t
+something_told {o = None} e h = absurd (e refl)
+something_told {o = Some x} e h = h
+
+-- a token of a kind came next and was taken, or none did
+pub ate : {s t : State} {k : ℕ} {b : Bool} {n m : Script Phrase} {q : Spot} {v : Outcome} → Ate s t k b → b ≡ true → On n (spot t) q v → On (test (is_at k) (token k n) m) (spot s) q v
+ate a e d = passes (sym a.decided ∙ e) (by_bump (sym a.decided ∙ e) (a.token e) d)
+
+pub not_ate : {s t : State} {k : ℕ} {b : Bool} {n m : Script Phrase} {q : Spot} {v : Outcome} → Ate s t k b → b ≡ false → On m (spot t) q v → On (test (is_at k) (token k n) m) (spot s) q v
+not_ate a e d = fails (sym a.decided ∙ e) (from_there (ap spot (sym (a.not_token e))) d)
+
+pub clash : {b : Bool} → b ≡ true → b ≡ false → ⊥
+clash e f = let x : true ≡ false = sym e ∙ f in cc
+
+-- an expression through the knot
+pub by_expression : {from : Bool} {r : Restrictions} {bp : ℕ} {s t : State} {n : Outcome → Script Phrase} {q : Spot} {w v : Outcome} → Follows (expr_bp from r bp) w s t → On (n w) (spot t) q v → On (rule (expression from r bp) n) (spot s) q v
+unfolding script_of
+by_expression h d = obeys h.run d
+
+pub by_kind : {b : Bool} {k n : ℕ} (f : ℕ → Bool) → b ≡ f k → k ≡ n → b ≡ f n
+by_kind f e h = e ∙ ap f h
+
+pub neither : {a b : Bool} → a ≡ false → b ≡ false → a || b ≡ false
+neither e f = rw (e, f) refl
+
+pub either : {a b : Bool} → (a ≡ false → b ≡ true) → a || b ≡ true
+either {a = true} h = refl
+either {a = false} h = h refl
+
+pub both : {a b : Bool} → a ≡ true → b ≡ true → a && b ≡ true
+both e f = rw (e, f) refl
+
+pub not_both : {a b : Bool} → (a ≡ true → b ≡ false) → a && b ≡ false
+not_both {a = true} h = h refl
+not_both {a = false} h = refl
+
+-- at the same spot
+pub at_same : {s : Script Phrase} {t u : State} {q : Spot} {v : Outcome} → u ≡ t → On s (spot t) q v → On s (spot u) q v
+at_same e d = from_there (ap spot e) d
+
+-- what a rule told, by its truth value
+pub told_no : {c : Script Phrase} {s t : State} {b : Bool} → b ≡ false → Follows c (of_bool b) s t → Follows c nothing s t
+told_no {b = true} e h = absurd cc
+told_no {b = false} e h = h
+
+pub told_yes : {c : Script Phrase} {s t : State} {b : Bool} → b ≡ true → Follows c (of_bool b) s t → Follows c something s t
+told_yes {b = true} e h = h
+told_yes {b = false} e h = absurd cc
+
+pub taken_expected : {s t : State} {k : ℕ} {b : Bool} {n m : Script Phrase} {q : Spot} {v : Outcome} → Expected s t k b → b ≡ true → On n (spot t) q v → On (test (is_at k) (token k n) m) (spot s) q v
+taken_expected a e d = passes (sym a.decided ∙ e) (by_bump (sym a.decided ∙ e) (a.token e) d)
+
+pub lacking_expected : {s t : State} {k : ℕ} {b : Bool} {n m : Script Phrase} {q : Spot} {v : Outcome} → Expected s t k b → b ≡ false → On m (spot t) q v → On (test (is_at k) n (report (expected k) m)) (spot s) q v
+lacking_expected a e d = fails (sym a.decided ∙ e) (by_report (a.not_token e) d)
+
+-- an expression, whether it reads like a block or not
+pub some_expr : (e : BlockLike) {r : Restrictions} {bp : ℕ} {s t : State} → Follows (expr_bp false r bp) (of_like e) s t → On (rule (expression false r bp) (λ v. if_some v done (give nothing))) (spot s) (spot t) something
+some_expr like.Block h = by_expression h gives
+some_expr like.NotBlock h = by_expression h gives
+
+-- a truth value ends a loop
+pub not_on : (b : Bool) → goes_on (of_bool b) ≡ false
+not_on true = refl
+not_on false = refl
+
+first_of : {a b : Bool} → b ≡ false → a || b ≡ true → a ≡ true
+first_of {a = true} e h = refl
+first_of {a = false} e h = absurd (clash h e)
+
+-- where a path begins and no `::` was taken, a name comes next
+pub name_left : {s t : State} {b : Bool} → Ate s t COLON2 b → b ≡ false → starts_path s.rest ≡ true → is_path_name (next t) ≡ true
+name_left {s = s} {t = t} a e h =
+    let n : is_at COLON2 s.rest ≡ false = sym a.decided ∙ e in
+    let p : is_path_name (next s) ≡ true = first_of n h in
+    subst (λ (x : State). is_path_name (next x) ≡ true) (sym (a.not_token e)) p

@@ -9,7 +9,7 @@ use Rattle.rap_events.proofs.Truth.{or_left}
 use Rattle.rap_events.specs.Machine.{floor, push, top}
 use Rattle.rap_events.specs.State.{State, state, next, Bumped, Abandoned, Completed, but_last, last_children}
 use Rattle.rap_events.specs.declared.parser.Parser.{Parser}
-use Rattle.rap_grammar.specs.Top.{with_leaves, top_tree, kept, begins_with_node, ends_with_node, Begun}
+use Rattle.rap_grammar.specs.Top.{with_leaves, top_tree, kept}
 
 -- where no token comes next, none is left
 pub left-none : (p : Parser) → (state p).rest ≡ [] → (state p).left ≡ 0
@@ -70,23 +70,3 @@ fit_error f h = (tt, h, record { operation = λ e. absurd (omega arith); tree = 
 -- an `ERROR` around a forest asks nothing more
 pub fit_in_error : (f g : Forest) → g ≡ node none ERROR f → (marks f ≡ 0 → ∥ AllFitIn f ∥₁) → marks g ≡ 0 → ∥ AllFitIn g ∥₁
 fit_in_error f g e h z = rw e (let y : marks f ≡ 0 = omega (arith, ap marks e) in ∥∥₁_map (h y) (fit_error f))
-
-begins-leaves : (f : Forest) (rs : List Record) → begins_with_node (with_leaves f rs) ≡ begins_with_node f
-begins-leaves f [] = refl
-begins-leaves f (r ∷ rs) = begins-leaves (leaf f r.kind 1) rs
-
-begun_alone : (k : ℕ) (x : Forest) (rs : List Record) → ends_with_node (node none k x) ≡ true → Begun (top_tree (node none k x) rs)
-unfolding last_children
-begun_alone k x [] h = or_left _ _ h
-begun_alone k x (r ∷ rs) h = begins-leaves (node none k x) (r ∷ rs) ∙ h
-
-begun_node : (b : Forest) (k : ℕ) (x : Forest) (rs : List Record) → ends_with_node (node b k x) ≡ true → b ≡ none → Begun (top_tree (node b k x) rs)
-begun_node b k x rs h e = rw e (begun_alone k x rs h)
-
--- one node that is no `ERROR` was made
-pub begun : (g : Forest) (rs : List Record) (f : Forest) → ends_with_node g ≡ true → but_last g ≡ none → f ≡ top_tree g rs → Begun f
-unfolding but_last
-begun none rs f h e i = absurd cc
-begun (node b k x) rs f h e i = rw i (begun_node b k x rs h e)
-begun (leaf b k w) rs f h e i = absurd cc
-begun (mark b m) rs f h e i = absurd cc

@@ -1,5 +1,5 @@
 -- Expressions that begin with no operator.
-use Rattle.std.specs.Prelude.{ℕ, Bool, true, false, ◌&&◌, not, if◌then◌else◌, codes}
+use Rattle.std.specs.Prelude.{ℕ, Bool, true, false, ◌&&◌, not, if◌then◌else◌, Option, Some, None, codes}
 use Rattle.rap_base.specs.TokenKind.{EOF, COMMA, SEMICOLON, L_PAREN, R_PAREN, L_BRACK, R_BRACK}
 use Rattle.rap_base.specs.NodeKind.{LITERAL, PATH_EXPR, PAREN_EXPR, TUPLE_EXPR, ARRAY_EXPR}
 use Rattle.rap_events.specs.Record.{next_kind}
@@ -26,15 +26,18 @@ literal = test (λ rs. is_literal_first (next_kind rs)) (start (any (finish LITE
 unfoldable pub path_expr : Script Phrase
 path_expr = start (after expr_path (λ v. finish PATH_EXPR done))
 
--- what stands in parentheses: something where it is one expression and no comma
-unfoldable pub tuple_elements : Script Phrase
-tuple_elements = loop (λ comma seen.
+abbrev pub tuple_turn : Bool → Bool → Script Phrase
+tuple_turn comma seen =
     test (is_at EOF) (give (of_bool (seen && not comma)))
     (test (is_at R_PAREN) (give (of_bool (seen && not comma)))
     (test (is_at COMMA) (report (codes "expected expression") (token COMMA (give (again true seen))))
     (after expr (λ v. if_some v
     (test (is_at R_PAREN) (give (again comma true)) (expect COMMA (give (again true true))))
-    (give (of_bool (not comma)))))))) false false
+    (give (of_bool (not comma)))))))
+
+-- what stands in parentheses: something where it is one expression and no comma
+unfoldable pub tuple_elements : Script Phrase
+tuple_elements = loop tuple_turn false false
 
 abbrev pub tuple_kind : Outcome → ℕ
 tuple_kind nothing = TUPLE_EXPR
@@ -45,17 +48,28 @@ tuple_kind (again a b) = PAREN_EXPR
 unfoldable pub tuple_expr : Script Phrase
 tuple_expr = start (token L_PAREN (after tuple_elements (λ v. expect R_PAREN (finish (tuple_kind v) done))))
 
--- what stands in the brackets of an array; a semicolon after the first element ends it after the second
-unfoldable pub array_elements : Script Phrase
-array_elements = loop (λ first semi.
+-- the next turn, if there was or was no semicolon, or the end
+abbrev pub of_semi : Option Bool → Outcome
+of_semi None = something
+of_semi (Some semi) = again false semi
+
+-- what stands behind an element of an array
+unfoldable pub after_element : Bool → Bool → Script Phrase
+after_element first semi =
+    test (λ rs. first && is_at SEMICOLON rs) (token SEMICOLON (give (again false true)))
+    (if semi then done
+    else test (is_at R_BRACK) (give (again false false))
+    (test (is_at COMMA) (token COMMA (give (again false false))) (report (expected COMMA) done)))
+
+abbrev pub array_turn : Bool → Bool → Script Phrase
+array_turn first semi =
     test (is_at EOF) done
     (test (is_at R_BRACK) done
-    (after expr (λ v. if_some v
-    (test (λ rs. first && is_at SEMICOLON rs) (token SEMICOLON (give (again false true)))
-    (if semi then done
-    else test (is_at R_BRACK) (give (again false semi))
-    (test (is_at COMMA) (token COMMA (give (again false semi))) (report (expected COMMA) done))))
-    done)))) true false
+    (after expr (λ v. if_some v (after_element first semi) done)))
+
+-- what stands in the brackets of an array; a semicolon after the first element ends it after the second
+unfoldable pub array_elements : Script Phrase
+array_elements = loop array_turn true false
 
 unfoldable pub array_expr : Script Phrase
 array_expr = start (token L_BRACK (after array_elements (λ v. expect R_BRACK (finish ARRAY_EXPR done))))

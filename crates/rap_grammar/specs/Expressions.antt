@@ -60,13 +60,17 @@ range_expr r op = precede (token op (test (has_end r.forbid_structs)
 -- an operator of at least a power, with its operand; a range without an end goes no further
 abbrev pub operation : Restrictions → ℕ → ℕ → Script Phrase
 operation r bp op =
-    if nat_lt (power op) bp || (op == AS_KW) then done
+    if nat_lt (power op) bp then done
+    else (if op == AS_KW then done
     else (if power op == 2 then after (range_expr r op) (λ v. if_some v (give (again false false)) done)
-    else after (bin_expr r op) (λ v. give (again false false)))
+    else after (bin_expr r op) (λ v. give (again false false))))
+
+abbrev pub climb_turn : Restrictions → ℕ → Bool → Bool → Script Phrase
+climb_turn r bp a b = look (λ rs. operation r bp (operator_at rs))
 
 -- the operators of at least a power after an operand
 unfoldable pub climb : Restrictions → ℕ → Script Phrase
-climb r bp = loop (λ a b. look (λ rs. operation r bp (operator_at rs))) false false
+climb r bp = loop (climb_turn r bp) false false
 
 -- what stands between the `&` of a reference and its operand
 unfoldable pub ref_qualifier : Script Phrase
@@ -136,13 +140,16 @@ is_access rs = (next_kind rs == DOT) && (not (is_at DOT2EQ rs) && not (is_at DOT
 
 -- What follows an operand directly, calls and indexes only where they are allowed. A block with something after it is
 -- none any more.
-unfoldable pub postfix_expr : Bool → Bool → Script Phrase
-postfix_expr allow_calls is_block = loop (λ calls blocky.
+abbrev pub postfix_turn : Bool → Bool → Script Phrase
+postfix_turn calls blocky =
     test (λ rs. (next_kind rs == L_PAREN) && calls) (after call_expr (λ v. give (again true false)))
     (test (λ rs. (next_kind rs == L_BRACK) && calls) (after index_expr (λ v. give (again true false)))
     (test is_access (after postfix_dot_expr (λ v. give (again true false)))
     (test (next_is QUESTION) (after try_expr (λ v. give (again true false)))
-    (give (if blocky then block else something)))))) allow_calls is_block
+    (give (if blocky then block else something)))))
+
+unfoldable pub postfix_expr : Bool → Bool → Script Phrase
+postfix_expr allow_calls is_block = loop postfix_turn allow_calls is_block
 
 -- an operand with what follows it
 unfoldable pub lhs : Restrictions → Script Phrase

@@ -25,14 +25,17 @@ name_ref_mod_path_or_index =
 
 -- Elements with a delimiter between them. Where an element is missing a message stands in the place of it; the list ends
 -- where no element begins, and where neither a delimiter nor another element follows.
-unfoldable pub elements : Script Phrase → ℕ → ℕ → List ℕ → (ℕ → Bool) → Script Phrase
-elements element ket delim missing first = loop (λ a b.
+abbrev pub element_turn : Script Phrase → ℕ → ℕ → List ℕ → (ℕ → Bool) → Bool → Bool → Script Phrase
+element_turn element ket delim missing first a b =
     test (is_at ket) done
     (test (is_at EOF) done
     (test (is_at delim) (start (report missing (token delim (finish ERROR (give (again a b))))))
     (after element (λ v. if_some v
     (test (λ rs. is_at delim rs || first (next_kind rs)) (expect delim (give (again a b))) done)
-    done))))) false false
+    done))))
+
+unfoldable pub elements : Script Phrase → ℕ → ℕ → List ℕ → (ℕ → Bool) → Script Phrase
+elements element ket delim missing first = loop (element_turn element ket delim missing first) false false
 
 -- a list in its brackets
 unfoldable pub delimited : Script Phrase → ℕ → ℕ → ℕ → List ℕ → (ℕ → Bool) → Script Phrase

@@ -30,6 +30,11 @@ pub record Took (old new : State) (room : ℕ) : Type 0 where
   pub marker : new.marker ≡ old.marker
   pub below : new.below ≡ old.below
 
+-- Tokens were taken, and each left so much room.
+pub record Spent (old new : State) (room : ℕ) : Type 0 where
+  pub left : new.left < old.left
+  pub count : new.count + 256 * new.left + room ≤ old.count + 256 * old.left
+
 -- tokens were taken, and exactly this node was made
 pub record Made (old new : State) (cm : CompletedMarker) (room : ℕ) : Type 0 where
   pub took : Took old new room

@@ -13,7 +13,7 @@ use Rattle.rap_grammar.specs.Words.{done, if_some, recover}
 
 -- A segment's name. Where there is none and nothing of the segment was taken, a message is all, unless it takes a token
 -- along.
-abbrev pub segment_name : Bool → Script Phrase
+unfoldable pub segment_name : Bool → Script Phrase
 segment_name empty =
     test (λ rs. is_path_name (next_kind rs))
     (after name_ref_mod_path (λ v. finish PATH_SEGMENT done))
@@ -26,12 +26,15 @@ unfoldable pub path_segment : Bool → Script Phrase
 path_segment false = start (segment_name true)
 path_segment true = start (test (is_at COLON2) (token COLON2 (segment_name false)) (segment_name true))
 
--- the segments after a path, each with that path in a larger one
-unfoldable pub path_for_qualifier : Script Phrase
-path_for_qualifier = loop (λ a b.
+abbrev pub segment_turn : Bool → Bool → Script Phrase
+segment_turn a b =
     test (is_at COLON2)
     (precede (token COLON2 (after (path_segment false) (λ v. finish PATH (give (again a b))))))
-    done) false false
+    done
+
+-- the segments after a path, each with that path in a larger one
+unfoldable pub path_for_qualifier : Script Phrase
+path_for_qualifier = loop segment_turn false false
 
 unfoldable pub path : Script Phrase
 path = start (after (path_segment true) (λ v. if_some v (finish PATH path_for_qualifier) (abandon (give nothing))))

@@ -6,6 +6,10 @@ use Rattle.std.specs.Prelude.{ℕ}
 abbrev pub name_room : ℕ
 name_room = 200
 
+-- a name, and the end of the node around it
+abbrev pub name_end_room : ℕ
+name_end_room = 198
+
 -- a path
 abbrev pub segment_room : ℕ
 segment_room = 190

@@ -1,5 +1,5 @@
 //! The rules, one function each, and what they share.
-ghost use Rattle.std.specs.Prelude.{◌≡◌, ◌≢◌, ℕ, Bool, ◌<◌, ◌≤◌, OnOk, ◌↔◌, IfOk, IsTrue, true, false};
+ghost use Rattle.std.specs.Prelude.{◌≡◌, ◌≢◌, ℕ, Bool, ◌<◌, ◌≤◌, OnOk, IfOk, true, false};
 ghost use Rattle.rap_base.specs.TokenKind.{EOF};
 ghost use Rattle.rap_base.specs.TokenSet.{member};
 ghost use Rattle.rap_events.specs.State.{state, next, At};
@@ -33,8 +33,10 @@ pub enum BlockLike {
 }
 
 impl BlockLike {
+    ghost use Rattle.rap_grammar.specs.Expressions.{of_like, is_block};
+
     fn is_block(self) -> bool
-        ensures { IsTrue result ↔ (self ≡ BlockLike.Block) }
+        ensures { result ≡ is_block (of_like self) }
     {
         matches!(self, BlockLike::Block)
     }
@@ -108,6 +110,7 @@ trait Element {
 
 /// A list from `bra` to `ket`, as `(a, b)`, its elements with `delim` between. A missing element is reported and passed
 /// over; a missing `delim` is reported where the next element begins.
+#[tactic(auto, using(crate::proofs::Binary::width_positive))]
 fn delimited<G: Grammar, E: Element>(
     p: &mut Parser<'_>,
     g: &G,
@@ -126,6 +129,25 @@ fn delimited<G: Grammar, E: Element>(
     ensures script { OnOk result (Follows (script.delimited (E.element element.now) bra ket delim unexpected_delim_message.now (E.first element.now)) something (state p.old) (state p.new)) }
 {
     p.bump(bra)?;
+    elements(p, g, ket, delim, unexpected_delim_message, element)?;
+    p.expect(ket)?;
+    Ok(())
+}
+
+/// The elements of a list up to `ket`, or to where it can't go on.
+fn elements<G: Grammar, E: Element>(
+    p: &mut Parser<'_>,
+    g: &G,
+    ket: SyntaxKind,
+    delim: SyntaxKind,
+    unexpected_delim_message: &str,
+    element: &E,
+) -> Result<(), NoMemory>
+    requires behind { Behind G.valid G.left g.now (state p.old) }
+    requires delim { delim ≢ EOF }
+    ensures grew { OnOk result (Grew (state p.old) (state p.new) 8) }
+    ensures script { OnOk result (Follows (script.elements (E.element element.now) ket delim unexpected_delim_message.now (E.first element.now)) something (state p.old) (state p.new)) }
+{
     'elements: while !p.at(ket) && !p.at(SyntaxKind::EOF) {
         if p.at(delim) {
             let m = p.start()?;
@@ -135,13 +157,12 @@ fn delimited<G: Grammar, E: Element>(
             continue;
         }
         if !element.parse(p, g)? {
-            break;
+            return Ok(());
         }
         if !p.at(delim) && !element.is_first(p.current()) {
-            break;
+            return Ok(());
         }
         p.expect(delim)?;
     }
-    p.expect(ket)?;
     Ok(())
 }

@@ -126,7 +126,8 @@ fn missing_expr(p: &mut Parser<'_>, m: Marker) -> Result<(), NoMemory>
     ensures script { OnOk result (Follows script.missing_expr nothing (state p.old) (state p.new)) }
 {
     p.err_recover("expected expression", expr_recovery_set())?;
-    m.abandon(p)
+    m.abandon(p)?;
+    Ok(())
 }
 
 /// Whether an expression may begin with a token of this kind: a `.` may be the first of `..`.

@@ -1,14 +1,14 @@
 //! Paths.
-ghost use Rattle.std.specs.Prelude.{◌≡◌, ℕ, ◌<◌, ◌≤◌, IfOk, OnOk, IfSome, None, true};
+ghost use Rattle.std.specs.Prelude.{◌≡◌, ℕ, ◌<◌, ◌≤◌, IfOk, OnOk, IfSome, Some, None, true};
 ghost use Rattle.rap_base.specs.NodeKind.{PATH, PATH_SEGMENT};
 ghost use Rattle.rap_base.specs.TokenSet.{member};
-ghost use Rattle.rap_events.specs.State.{state, IsLast, but_last};
-ghost use Rattle.rap_grammar.specs.First.{is_path_first, starts_path};
-ghost use Rattle.rap_grammar.specs.Grew.{Grew, Took};
+ghost use Rattle.rap_events.specs.State.{state, next, IsLast, but_last};
+ghost use Rattle.rap_grammar.specs.First.{is_path_name, is_path_first, starts_path};
+ghost use Rattle.rap_grammar.specs.Grew.{Grew, Took, Spent, Closes, Dropped};
 ghost use Rattle.rap_grammar.specs.Knot.{Follows};
 ghost use Rattle.rap_grammar.specs.Paths as script;
 ghost use Rattle.rap_grammar.specs.Recovery.{is_item_recovery, is_expr_path_segment_recovery};
-ghost use Rattle.rap_grammar.specs.Room.{segment_room, path_room};
+ghost use Rattle.rap_grammar.specs.Room.{name_end_room, segment_room, path_room};
 ghost use Rattle.rap_grammar.specs.Script.{something};
 ghost use Rattle.rap_grammar.specs.Words.{of_option};
 
@@ -18,7 +18,7 @@ use crate::token_kind::T;
 use rap_base::no_memory::NoMemory;
 use rap_base::syntax_kind::SyntaxKind;
 use rap_base::token_set::TokenSet;
-use rap_events::parser::{CompletedMarker, Parser};
+use rap_events::parser::{CompletedMarker, Marker, Parser};
 
 /// Whether a path may begin with a token of this kind: a `:` may be the first of `::`.
 pub(super) fn is_path_first(kind: SyntaxKind) -> bool
@@ -121,21 +121,42 @@ fn path_segment(p: &mut Parser<'_>, first: bool) -> Result<Option<CompletedMarke
     ensures script { IfOk result (λ o. Follows (script.path_segment first) (of_option o) (state p.old) (state p.new)) }
 {
     let m = p.start()?;
-    let mut empty = true;
-    if first {
-        empty = !p.eat(T![::])?;
+    if !first {
+        let segment = segment_name(p, m, true)?;
+        return Ok(segment);
     }
+    if p.eat(T![::])? {
+        let segment = segment_name(p, m, false)?;
+        return Ok(segment);
+    }
+    let segment = segment_name(p, m, true)?;
+    Ok(segment)
+}
+
+/// The name of a segment whose marker is open. None, and a message, where no name follows and nothing was taken.
+fn segment_name(
+    p: &mut Parser<'_>,
+    m: Marker,
+    empty: bool,
+) -> Result<Option<CompletedMarker>, NoMemory>
+    requires newest { (state p.old).marker ≡ Some m.pos }
+    ensures some { IfOk result (λ o. IfSome o (λ cm. Closes PATH_SEGMENT 4 (state p.old) (state p.new) cm)) }
+    ensures none { IfOk result (λ o. o ≡ None → Dropped (state p.old) (state p.new) 5) }
+    ensures took { OnOk result (is_path_name (next (state p.old)) ≡ true → Spent (state p.old) (state p.new) name_end_room) }
+    ensures script { IfOk result (λ o. Follows (script.segment_name empty) (of_option o) (state p.old) (state p.new)) }
+{
     if is_path_name(p.current()) {
         name_ref_mod_path(p)?;
-    } else {
-        let stopped = p.err_recover(
-            "expected identifier, `self`, `super`, `crate`, or `Self`",
-            expr_path_segment_recovery_set(),
-        )?;
-        if empty && stopped {
-            m.abandon(p)?;
-            return Ok(None);
-        }
+        let segment = m.complete(p, SyntaxKind::PATH_SEGMENT)?;
+        return Ok(Some(segment));
+    }
+    let stopped = p.err_recover(
+        "expected identifier, `self`, `super`, `crate`, or `Self`",
+        expr_path_segment_recovery_set(),
+    )?;
+    if empty && stopped {
+        m.abandon(p)?;
+        return Ok(None);
     }
     let segment = m.complete(p, SyntaxKind::PATH_SEGMENT)?;
     Ok(Some(segment))

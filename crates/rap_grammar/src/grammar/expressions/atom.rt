@@ -152,7 +152,7 @@ fn tuple_elements<G: Grammar>(p: &mut Parser<'_>, g: &G) -> Result<bool, NoMemor
         }
         saw_expr = true;
         if expr(p, g)?.is_none() {
-            break;
+            return Ok(!saw_comma);
         }
         if !p.at(T![')']) {
             saw_comma = true;
@@ -190,12 +190,38 @@ fn array_elements<G: Grammar>(p: &mut Parser<'_>, g: &G) -> Result<(), NoMemory>
         if expr(p, g)?.is_none() {
             return Ok(());
         }
-        if is_first && p.eat(T![;])? {
-            has_semi = true;
-        } else if has_semi || !p.at(T![']']) && !p.expect(T![,])? {
-            return Ok(());
+        match after_element(p, is_first, has_semi)? {
+            Some(semi) => has_semi = semi,
+            None => return Ok(()),
         }
         is_first = false;
     }
     Ok(())
+}
+
+/// What stands behind an element of an array: a semicolon behind the first one, or a comma. Tells whether there was a
+/// semicolon, or nothing where the array ends.
+fn after_element(
+    p: &mut Parser<'_>,
+    is_first: bool,
+    has_semi: bool,
+) -> Result<Option<bool>, NoMemory>
+    ensures grew { OnOk result (Grew (state p.old) (state p.new) 1) }
+    ensures on { IfOk result (λ o. IfSome o (λ semi. Grew (state p.old) (state p.new) 0)) }
+    ensures script { IfOk result (λ o. Follows (script.after_element is_first has_semi) (script.of_semi o) (state p.old) (state p.new)) }
+{
+    if is_first && p.at(T![;]) {
+        p.bump(T![;])?;
+        return Ok(Some(true));
+    }
+    if has_semi {
+        return Ok(None);
+    }
+    if p.at(T![']']) {
+        return Ok(Some(false));
+    }
+    if p.expect(T![,])? {
+        return Ok(Some(false));
+    }
+    Ok(None)
 }

@@ -98,20 +98,22 @@ pub(super) fn climb<G: Grammar>(
 {
     'operators: loop {
         let (op_bp, op, associativity) = current_op(p);
-        if op_bp < bp || op == T![as] {
-            break;
+        if op_bp < bp {
+            return Ok(lhs);
+        }
+        if op == T![as] {
+            return Ok(lhs);
         }
         if op_bp == 2 {
             let (range, has_end) = range_expr(p, g, lhs, r, op)?;
             lhs = range;
             if !has_end {
-                break;
+                return Ok(lhs);
             }
             continue;
         }
         lhs = bin_expr(p, g, lhs, r, op, op_bp, associativity)?;
     }
-    Ok(lhs)
 }
 
 /// An operator between two expressions, the left one done, as `+ b` after `a`.
@@ -177,6 +179,8 @@ fn ref_qualifier(p: &mut Parser<'_>) -> Result<(), NoMemory>
         if p.eat(T![const])? {
             return Ok(());
         }
+        p.eat(T![mut])?;
+        return Ok(());
     }
     p.eat(T![mut])?;
     Ok(())

@@ -46,12 +46,11 @@ pub(super) fn postfix_expr<G: Grammar>(
             T!['['] if allow_calls => index_expr(p, g, lhs)?,
             T![.] if !p.at(T![..=]) && !p.at(T![..]) => postfix_dot_expr(p, g, lhs)?,
             T![?] => try_expr(p, lhs)?,
-            _ => break,
+            _ => return Ok((lhs, block_like)),
         };
         allow_calls = true;
         block_like = BlockLike::NotBlock;
     }
-    Ok((lhs, block_like))
 }
 
 /// A dot and what follows it, as `.b`, `.0`, `.c()` and `.await`.

@@ -1,14 +1,17 @@
-use Rattle.std.proofs.Common.{◌≡◌}
+use Rattle.std.proofs.Common.{◌≡◌, false}
 use Rattle.rap_base.specs.NodeKind.{PATH}
 use Rattle.rap_events.specs.State.{state, IsLast, but_last}
 use Rattle.rap_grammar.specs.Grew.{Grew}
+use Rattle.rap_grammar.specs.Paths.{segment_turn}
+use Rattle.rap_grammar.proofs.Steps.{Turns}
 use Rattle.rap_grammar.proofs.grammar.paths.path_for_qualifier.Given as goal
 
 abbrev pub invariant-segments : goal.invariant-segments
 invariant-segments l = record {
-  grew : Grew (state l.initial.p) (state l.p) 0;
+  grew : Grew (state l.fn.p) (state l.p) 0;
   last : IsLast (state l.p) l.qual PATH;
-  one : but_last (state l.p).forest ≡ but_last (state l.initial.p).forest;
+  one : but_last (state l.p).forest ≡ but_last (state l.fn.p).forest;
+  script : Turns segment_turn false false false false (state l.fn.p) (state l.p);
 }
 
 abbrev pub decreases-segments : goal.decreases-segments

@@ -1,0 +1,32 @@
+-- What has grown on the way through a rule.
+use Rattle.std.proofs.Common.{◌≡◌, ℕ, ◌+◌, ◌<◌, ◌≤◌, Bool, Option, Some, None, IfSome, refl, sym, ◌∙◌, arith}
+use Rattle.rap_base.specs.NodeKind.{PATH_SEGMENT}
+use Rattle.rap_events.specs.Machine.{Stack, push, top}
+use Rattle.rap_events.specs.State.{State, Opened, Ate, but_last}
+use Rattle.rap_events.specs.declared.parser.CompletedMarker.{CompletedMarker}
+use Rattle.rap_grammar.specs.Grew.{Took, Spent, Closes, Dropped}
+use Rattle.rap_grammar.specs.Room.{segment_room, name_end_room}
+
+-- a segment whose name was there, after an `eat`
+pub segment_took : (o : Option CompletedMarker) {s0 s1 s2 t : State} {m k : ℕ} {b : Bool} → Opened s0 s1 m → Ate s1 s2 k b → IfSome o (λ cm. Closes PATH_SEGMENT 4 s2 t cm) → (o ≡ None → Dropped s2 t 5) → Spent s2 t name_end_room → Took s0 t segment_room
+segment_took (Some cm) {s0 = s0} {t = t} p a h n l =
+    let below : push s0.below s0.marker s0.forest ≡ push t.below t.marker (but_last t.forest) = sym p.below ∙ sym a.below ∙ h.below in
+    record {
+      input = h.input ∙ a.input ∙ p.recorded.input;
+      left = omega (arith, p.recorded.left, a.left, l.left);
+      count = omega (arith, p.recorded.left, p.recorded.count, a.left, a.count, l.count);
+      messages = omega (arith, p.recorded.messages, a.messages, h.messages);
+      marker = cc;
+      below = cc;
+    }
+segment_took None {s0 = s0} {s2 = s2} {t = t} p a h n l =
+    let d = n refl in
+    let below : push s0.below s0.marker s0.forest ≡ push t.below t.marker (top s2.below) = sym p.below ∙ sym a.below ∙ d.below in
+    record {
+      input = d.input ∙ a.input ∙ p.recorded.input;
+      left = omega (arith, p.recorded.left, a.left, l.left);
+      count = omega (arith, p.recorded.left, p.recorded.count, a.left, a.count, l.count);
+      messages = omega (arith, p.recorded.messages, a.messages, d.messages);
+      marker = cc;
+      below = cc;
+    }

@@ -1,0 +1,11 @@
+use Rattle.rap_grammar.specs.Expressions.{expr_bp}
+use Rattle.rap_grammar.proofs.Steps.{by_start, to_end}
+use Rattle.rap_grammar.proofs.grammar.expressions.expr_bp.Goals as goal
+
+pub returns-in_ok-expr-in-Some-clause-script : goal.returns-in_ok-expr-in-Some-clause-script
+unfolding expr_bp
+returns-in_ok-expr-in-Some-clause-script g c = rw c.in-Some.is (record { run = to_end c.in_ok-expr-in-Some.ensures.script })
+
+pub returns-in_ok-expr-in-None-clause-script : goal.returns-in_ok-expr-in-None-clause-script
+unfolding expr_bp
+returns-in_ok-expr-in-None-clause-script g c = rw c.in-None.is (record { run = by_start c.in_ok-m-in-None.ensures.state (to_end c.in_ok-expr-in-None.ensures.script) })
