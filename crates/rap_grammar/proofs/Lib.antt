@@ -1,4 +1,5 @@
 pub mod Binary
 pub mod OneTree
+pub mod Operators
 pub mod Steps
 pub mod TopTree
