@@ -3,3 +3,4 @@ pub mod OneTree
 pub mod Operators
 pub mod Steps
 pub mod TopTree
+pub mod Ways

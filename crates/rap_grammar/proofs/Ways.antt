@@ -1,0 +1,234 @@
+-- How scripts run over tokens that are known.
+use Rattle.std.proofs.Common.{rules, ◌≡◌, ◌≢◌, ℕ, ◌<◌, ◌≤◌, List, [], ◌∷◌, drop, Bool, true, false, not, refl, sym, ap, ◌∙◌, arith, ◌==◌, ◌&&◌, ◌||◌, nat_lt, codes, if◌then◌else◌}
+use Rattle.std.proofs.lemmas.Bool.Decides.{nat_tests}
+use Rattle.rap_base.specs.TokenKind.{EOF, EQ, IDENT, AMP, STAR, BANG, MINUS, DOT, DOT2, DOT2EQ, COLON, COLON2, COMMA, QUESTION, L_PAREN, R_PAREN, L_BRACK, R_BRACK, MUT_KW, RAW_KW, AWAIT_KW, AS_KW}
+use Rattle.rap_base.specs.NodeKind.{BIN_EXPR, REF_EXPR, PREFIX_EXPR, LITERAL, PAREN_EXPR, PATH_EXPR, PATH, PATH_SEGMENT, NAME_REF, CALL_EXPR, INDEX_EXPR, TRY_EXPR, METHOD_CALL_EXPR, FIELD_EXPR, ARG_LIST}
+use Rattle.rap_events.specs.Record.{Record, next_kind, kind_at}
+use Rattle.rap_events.specs.Composite.{parts, width, is_at, begins_with}
+use Rattle.rap_events.specs.Forest.{Forest, none, node, leaf, mark, ◌⧺◌}
+use Rattle.rap_events.specs.Power.{power}
+use Rattle.rap_events.specs.State.{but_last, last_children}
+use Rattle.rap_grammar.specs.Atom.{unrestricted, expr, literal, path_expr, tuple_elements, tuple_expr, atom_expr}
+use Rattle.rap_grammar.specs.Expressions.{operand_of, right_of, bin_expr, climb, ref_qualifier, ref_expr, prefix_expr, arg_list, call_expr, index_expr, try_expr, calls_method, method_call_expr, field_expr, postfix_dot_expr, is_access, postfix_expr, lhs, expr_from, expr_bp}
+use Rattle.rap_grammar.specs.First.{is_operand, is_atom, is_literal_first, is_path_name, is_path_name_or_index, is_expr_first, one_of}
+use Rattle.rap_grammar.specs.Grammar.{name_ref_mod_path, name_ref_mod_path_or_index, elements, delimited}
+use Rattle.rap_grammar.specs.Knot.{script_of}
+use Rattle.rap_grammar.specs.Operator.{operator_at}
+use Rattle.rap_grammar.specs.Paths.{segment_name, path_segment, path_for_qualifier, path, expr_path}
+use Rattle.rap_grammar.specs.Phrase.{Phrase}
+use Rattle.rap_grammar.specs.Script.{Script, nothing, something, loop, Runs, gives, looks, passes, fails, takes, takes_any, starts, precedes, finishes, extends, follows, obeys, turns, stops, last_tree, last_kind}
+use Rattle.rap_grammar.specs.Words.{reads_as}
+use Rattle.rap_grammar.specs.declared.grammar.expressions.Restrictions.{Restrictions}
+use Rattle.rap_grammar.proofs.Operators.{differ, differ_back, and_false}
+
+-- from these tokens and this forest a script leads to those tokens and that forest, and the older forests stay
+abbrev pub Leads : Script Phrase → List Forest → List Record → Forest → List Record → Forest → Type 0
+Leads s b rs f l g = Runs script_of s (record { rest = rs; forest = f; below = b }) (record { rest = l; forest = g; below = b }) something
+
+-- the same for a script that ends the newest open node, which is empty: what it makes goes to the next older forest
+abbrev pub LeadsOut : Script Phrase → List Forest → List Record → Forest → List Record → Forest → Type 0
+LeadsOut s b rs f l g = Runs script_of s (record { rest = rs; forest = none; below = f ∷ b }) (record { rest = l; forest = g; below = b }) something
+
+-- one node
+pub record Single (t : Forest) : Type 0 where
+  pub kind : ℕ
+  pub children : Forest
+  pub is : t ≡ node none kind children
+
+pub none-⧺ : (f : Forest) → none ⧺ f ≡ f
+none-⧺ none = refl
+none-⧺ (node before kind children) = ap (λ (f : Forest). node f kind children) (none-⧺ before)
+none-⧺ (leaf before kind width) = ap (λ (f : Forest). leaf f kind width) (none-⧺ before)
+none-⧺ (mark before bytes) = ap (λ (f : Forest). mark f bytes) (none-⧺ before)
+
+below : (a b : ℕ) → a < b → nat_lt a b ≡ true
+below a b h = grind (arith, nat_tests)
+
+not_below : (a b : ℕ) → b ≤ a → nat_lt a b ≡ false
+not_below a b h = grind (arith, nat_tests)
+
+apart : (a b : ℕ) → a ≢ b → (a == b) ≡ false
+apart a b h = grind (arith, nat_tests)
+
+-- tokens that begin with another one
+not_first : (k : ℕ) (ks : List ℕ) (rs : List Record) → (next_kind rs == k) ≡ false → begins_with (k ∷ ks) rs ≡ false
+not_first k ks [] h = refl
+not_first k [] (r ∷ rs) h = h
+not_first k (j ∷ ks) (r ∷ rs) h = rw h refl
+
+-- paths
+name_way : {b : List Forest} {r : Record} {l : List Record} {f : Forest} → r.kind ≡ IDENT → Leads name_ref_mod_path b (r ∷ l) f l (node f NAME_REF (leaf none IDENT 1))
+unfolding name_ref_mod_path
+name_way e = passes (rw e refl) (starts (takes_any (rw e (λ h. absurd cc)) (finishes (rw e gives))))
+
+segment_name_way : {b : List Forest} {r : Record} {l : List Record} {f : Forest} → r.kind ≡ IDENT → LeadsOut (segment_name true) b (r ∷ l) f l (node f PATH_SEGMENT (node none NAME_REF (leaf none IDENT 1)))
+unfolding segment_name
+segment_name_way e = passes (rw e refl) (follows (name_way e) (finishes gives))
+
+pub segment_way : (first : Bool) {b : List Forest} {r : Record} {l : List Record} {f : Forest} → r.kind ≡ IDENT → Leads (path_segment first) b (r ∷ l) f l (node f PATH_SEGMENT (node none NAME_REF (leaf none IDENT 1)))
+unfolding path_segment
+segment_way false e = starts (segment_name_way e)
+segment_way true e = starts (fails (rw e refl) (segment_name_way e))
+
+pub path_end : {b : List Forest} {rs : List Record} {f : Forest} → is_at COLON2 rs ≡ false → Leads path_for_qualifier b rs f rs f
+unfolding path_for_qualifier
+path_end e = stops (fails e gives) refl
+
+pub path_goes_on : {b : List Forest} {rs s m l : List Record} {f x g : Forest} → is_at COLON2 rs ≡ true → drop 2 rs ≡ s → Leads (path_segment false) (but_last f ∷ b) s (leaf (last_tree f) COLON2 2) m x →
+    Leads path_for_qualifier b m (node (but_last f) PATH x) l g → Leads path_for_qualifier b rs f l g
+unfolding path_for_qualifier
+path_goes_on e past x y = turns (passes e (precedes (takes e (rw past (follows x (finishes gives)))))) y
+
+pub path_way : {b : List Forest} {rs m l : List Record} {f x g : Forest} → Leads (path_segment true) (f ∷ b) rs none m x → Leads path_for_qualifier b m (node f PATH x) l g → Leads path b rs f l g
+unfolding path
+path_way x y = starts (follows x (finishes y))
+
+-- atoms
+no_literal : {rs : List Record} → is_literal_first (next_kind rs) ≡ false → (b : List Forest) (f : Forest) → Runs script_of literal (record { rest = rs; forest = f; below = b }) (record { rest = rs; forest = f; below = b }) nothing
+unfolding literal
+no_literal e b f = fails e gives
+
+pub literal_way : {b : List Forest} {r : Record} {l : List Record} {f : Forest} → r.kind ≢ EOF → is_literal_first r.kind ≡ true → Leads atom_expr b (r ∷ l) f l (node f LITERAL (leaf none r.kind 1))
+unfolding atom_expr literal
+literal_way ne e = follows (passes e (starts (takes_any ne (finishes gives)))) gives
+
+pub path_expr_way : {b : List Forest} {rs m : List Record} {f x : Forest} → next_kind rs ≡ IDENT → Leads path (f ∷ b) rs none m x → Leads atom_expr b rs f m (node f PATH_EXPR x)
+unfolding atom_expr path_expr expr_path
+path_expr_way {b = b} {f = f} e x = follows (no_literal (rw e refl) b f) (passes (rw e refl) (starts (follows (follows x gives) (finishes gives))))
+
+elements_way : {b : List Forest} {rs l : List Record} {c : Record} {f x : Forest} → is_operand (next_kind rs) ≡ true → Leads expr b rs f (c ∷ l) x → c.kind ≡ R_PAREN → Leads tuple_elements b rs f (c ∷ l) x
+unfolding tuple_elements
+elements_way {rs = rs} o x c =
+    let k = next_kind rs in
+    turns (fails (differ is_operand k EOF o refl) (fails (differ is_operand k R_PAREN o refl) (fails (differ is_operand k COMMA o refl) (follows x (passes (rw c refl) gives)))))
+    (stops (fails (rw c refl) (passes (rw c refl) gives)) refl)
+
+pub paren_way : {b : List Forest} {a c : Record} {rs l : List Record} {f x : Forest} → a.kind ≡ L_PAREN → is_operand (next_kind rs) ≡ true → Leads expr (f ∷ b) rs (leaf none L_PAREN 1) (c ∷ l) x → c.kind ≡ R_PAREN →
+    Leads atom_expr b (a ∷ rs) f l (node f PAREN_EXPR (leaf x R_PAREN 1))
+unfolding atom_expr tuple_expr
+paren_way {b = b} {f = f} e o x c =
+    follows (no_literal (rw e refl) b f) (fails (rw e refl) (passes (rw e refl) (starts (takes (rw e refl) (follows (elements_way o x c) (passes (rw c refl) (takes (rw c refl) (finishes gives))))))))
+
+-- expressions
+pub expr_way : {b : List Forest} {rs l : List Record} {f g : Forest} → LeadsOut (expr_from unrestricted 1) b rs f l g → Leads expr b rs f l g
+unfolding expr script_of expr_bp
+expr_way x = obeys (starts x) gives
+
+extended_one : (f x : Forest) → Single x → node f (last_kind x) (but_last x ⧺ last_children x) ≡ f ⧺ x
+unfolding but_last last_children
+extended_one f x s = rw s.is (ap (λ (c : Forest). node f s.kind c) (none-⧺ s.children))
+
+pub from_way : (r : Restrictions) (bp : ℕ) {b : List Forest} {rs m l : List Record} {f x g : Forest} → is_operand (next_kind rs) ≡ true → Single x → Leads (lhs r) (f ∷ b) rs none m x → Leads (climb r bp) b m (f ⧺ x) l g → LeadsOut (expr_from r bp) b rs f l g
+unfolding expr_from
+from_way r bp {rs = rs} {f = f} {x = x} o s d y =
+    let e : is_expr_first (next_kind rs) ≡ true = search rules in
+    passes e (follows d (extends (rw (and_false r.prefer_stmt, extended_one f x s) (follows y gives))))
+
+pub climb_end : (r : Restrictions) {bp : ℕ} {b : List Forest} {rs : List Record} {f : Forest} → power (operator_at rs) < bp → Leads (climb r bp) b rs f rs f
+unfolding climb
+climb_end r h = stops (looks (rw (below _ _ h) gives)) refl
+
+bin_way : (r : Restrictions) {op : ℕ} {b : List Forest} {rs s m : List Record} {f x : Forest} → is_at op rs ≡ true → drop (width op) rs ≡ s → LeadsOut (expr_from (operand_of r) (right_of op)) (but_last f ∷ b) s (leaf (last_tree f) op (width op)) m x →
+    Leads (bin_expr r op) b rs f m (node (but_last f) BIN_EXPR x)
+unfolding bin_expr script_of expr_bp
+bin_way r first past x = precedes (takes first (rw past (obeys (starts x) (finishes gives))))
+
+pub climb_on : (r : Restrictions) {bp op : ℕ} {b : List Forest} {rs s m l : List Record} {f x g : Forest} → operator_at rs ≡ op → bp ≤ power op → power op ≢ 2 → op ≢ AS_KW → is_at op rs ≡ true → drop (width op) rs ≡ s →
+    LeadsOut (expr_from (operand_of r) (right_of op)) (but_last f ∷ b) s (leaf (last_tree f) op (width op)) m x → Leads (climb r bp) b m (node (but_last f) BIN_EXPR x) l g → Leads (climb r bp) b rs f l g
+unfolding climb
+climb_on r {bp = bp} {op = op} e h n a first past x y =
+    turns (looks (rw (e, not_below _ _ h, apart _ _ a, apart _ _ n) (follows (bin_way r first past x) gives))) y
+
+-- operands
+pub operand_way : (r : Restrictions) {b : List Forest} {rs m l : List Record} {f x g : Forest} → is_atom (next_kind rs) ≡ true → Leads atom_expr b rs f m x → Leads (postfix_expr true false) b m x l g → Leads (lhs r) b rs f l g
+unfolding lhs
+operand_way r {rs = rs} k x y =
+    let n = next_kind rs in
+    let d = differ is_atom n DOT k refl in
+    fails (differ is_atom n AMP k refl)
+    (fails (rw (differ_back is_atom n STAR k refl, differ_back is_atom n BANG k refl, differ_back is_atom n MINUS k refl) refl)
+    (fails (not_first DOT (DOT ∷ EQ ∷ []) rs d) (fails (not_first DOT (DOT ∷ []) rs d) (follows x (rw (and_false r.prefer_stmt) y)))))
+
+pub prefix_way : (r : Restrictions) {b : List Forest} {a : Record} {rs l : List Record} {f x : Forest} → one_of (STAR ∷ BANG ∷ MINUS ∷ []) a.kind ≡ true → (a.kind == AMP) ≡ false → a.kind ≢ EOF → LeadsOut (expr_from r 255) (f ∷ b) rs (leaf none a.kind 1) l x →
+    Leads (lhs r) b (a ∷ rs) f l (node f PREFIX_EXPR x)
+unfolding lhs prefix_expr script_of expr_bp
+prefix_way r k n ne x = fails n (passes k (starts (takes_any ne (obeys (starts x) (finishes gives)))))
+
+pub ref_way : (r : Restrictions) {b : List Forest} {a : Record} {rs l : List Record} {f x : Forest} → a.kind ≡ AMP → reads_as RAW_KW rs ≡ false → (next_kind rs == MUT_KW) ≡ false → LeadsOut (expr_from r 255) (f ∷ b) rs (leaf none AMP 1) l x →
+    Leads (lhs r) b (a ∷ rs) f l (node f REF_EXPR x)
+unfolding lhs ref_expr ref_qualifier script_of expr_bp
+ref_way r e n m x = passes (rw e refl) (starts (takes (rw e refl) (follows (fails (rw n refl) (fails m gives)) (obeys (starts x) (finishes gives)))))
+
+pub ref_mut_way : (r : Restrictions) {b : List Forest} {a c : Record} {rs l : List Record} {f x : Forest} → a.kind ≡ AMP → reads_as RAW_KW (c ∷ rs) ≡ false → c.kind ≡ MUT_KW → LeadsOut (expr_from r 255) (f ∷ b) rs (leaf (leaf none AMP 1) MUT_KW 1) l x →
+    Leads (lhs r) b (a ∷ c ∷ rs) f l (node f REF_EXPR x)
+unfolding lhs ref_expr ref_qualifier script_of expr_bp
+ref_mut_way r e n m x =
+    passes (rw e refl) (starts (takes (rw e refl) (follows (fails (rw n refl) (passes (rw m refl) (takes (rw m refl) gives))) (obeys (starts x) (finishes gives)))))
+
+-- what follows an operand
+pub postfix_end : {b : List Forest} {rs : List Record} {f : Forest} → (next_kind rs == L_PAREN) ≡ false → (next_kind rs == L_BRACK) ≡ false → (next_kind rs == DOT) ≡ false → (next_kind rs == QUESTION) ≡ false → Leads (postfix_expr true false) b rs f rs f
+unfolding postfix_expr
+postfix_end p q d t = stops (fails (rw p refl) (fails (rw q refl) (fails (rw d refl) (fails t gives)))) refl
+
+pub call_way : {b : List Forest} {rs m l : List Record} {f x g : Forest} → next_kind rs ≡ L_PAREN → Leads arg_list (but_last f ∷ b) rs (last_tree f) m x → Leads (postfix_expr true false) b m (node (but_last f) CALL_EXPR x) l g → Leads (postfix_expr true false) b rs f l g
+unfolding postfix_expr call_expr
+call_way e x y = turns (passes (rw e refl) (follows (precedes (follows x (finishes gives))) gives)) y
+
+pub index_way : {b : List Forest} {a c : Record} {rs m l : List Record} {f x g : Forest} → a.kind ≡ L_BRACK → Leads expr (but_last f ∷ b) rs (leaf (last_tree f) L_BRACK 1) (c ∷ m) x → c.kind ≡ R_BRACK → Leads (postfix_expr true false) b m (node (but_last f) INDEX_EXPR (leaf x R_BRACK 1)) l g →
+    Leads (postfix_expr true false) b (a ∷ rs) f l g
+unfolding postfix_expr index_expr
+index_way e x c y =
+    turns (fails (rw e refl) (passes (rw e refl) (follows (precedes (takes (rw e refl) (follows x (passes (rw c refl) (takes (rw c refl) (finishes gives)))))) gives))) y
+
+pub try_way : {b : List Forest} {a : Record} {m l : List Record} {f g : Forest} → a.kind ≡ QUESTION → Leads (postfix_expr true false) b m (node (but_last f) TRY_EXPR (leaf (last_tree f) QUESTION 1)) l g → Leads (postfix_expr true false) b (a ∷ m) f l g
+unfolding postfix_expr try_expr
+try_way e y = turns (fails (rw e refl) (fails (rw e refl) (fails (rw e refl) (passes (rw e refl) (follows (precedes (takes (rw e refl) (finishes gives))) gives))))) y
+
+-- a dot before a token that is no dot
+access : (a c : Record) (m : List Record) → a.kind ≡ DOT → (c.kind == DOT) ≡ false → is_access (a ∷ c ∷ m) ≡ true
+access a c m e d = rw (e, d, and_false a.joint) refl
+
+dot_way : {b : List Forest} {a c : Record} {rs m l : List Record} {f h g : Forest} → a.kind ≡ DOT → (c.kind == DOT) ≡ false → Leads postfix_dot_expr b (a ∷ c ∷ rs) f m h → Leads (postfix_expr true false) b m h l g → Leads (postfix_expr true false) b (a ∷ c ∷ rs) f l g
+unfolding postfix_expr
+dot_way {a = a} {c = c} {rs = rs} e d x y = turns (fails (rw e refl) (fails (rw e refl) (passes (access a c rs e d) (follows x gives)))) y
+
+pub field_way : {b : List Forest} {a c : Record} {m l : List Record} {f g : Forest} → a.kind ≡ DOT → (c.kind == DOT) ≡ false → calls_method 1 (a ∷ c ∷ m) ≡ false → (c.kind == AWAIT_KW) ≡ false → c.kind ≢ EOF → is_path_name_or_index c.kind ≡ true →
+    Leads (postfix_expr true false) b m (node (but_last f) FIELD_EXPR (node (leaf (last_tree f) DOT 1) NAME_REF (leaf none c.kind 1))) l g → Leads (postfix_expr true false) b (a ∷ c ∷ m) f l g
+unfolding postfix_dot_expr field_expr name_ref_mod_path_or_index
+field_way e d call wait ne i y =
+    dot_way e d (fails call (fails wait (precedes (takes (rw e refl) (passes i (follows (passes i (starts (takes_any ne (finishes gives)))) (finishes gives))))))) y
+
+kind_at_first : (rs : List Record) → kind_at rs 0 ≡ next_kind rs
+kind_at_first [] = refl
+kind_at_first (r ∷ rs) = refl
+
+pub method_way : {b : List Forest} {a c : Record} {rs m l : List Record} {f x g : Forest} → a.kind ≡ DOT → c.kind ≡ IDENT → next_kind rs ≡ L_PAREN → Leads arg_list (but_last f ∷ b) rs (node (leaf (last_tree f) DOT 1) NAME_REF (leaf none IDENT 1)) m x →
+    Leads (postfix_expr true false) b m (node (but_last f) METHOD_CALL_EXPR x) l g → Leads (postfix_expr true false) b (a ∷ c ∷ rs) f l g
+unfolding postfix_dot_expr method_call_expr calls_method
+method_way {rs = rs} e n p x y =
+    let there : (kind_at rs 0 == L_PAREN) ≡ true = rw (kind_at_first rs, p) refl in
+    dot_way e (rw n refl) (passes (rw (n, there) refl) (precedes (takes (rw e refl) (passes (rw n refl) (follows (name_way n) (passes (rw p refl) (follows x (finishes gives)))))))) y
+
+-- arguments
+abbrev pub arguments : Script Phrase
+arguments = elements expr R_PAREN COMMA (codes "expected expression") is_expr_first
+
+pub arg_list_way : {b : List Forest} {a c : Record} {rs l : List Record} {f x : Forest} → a.kind ≡ L_PAREN → Leads arguments (f ∷ b) rs (leaf none L_PAREN 1) (c ∷ l) x → c.kind ≡ R_PAREN → Leads arg_list b (a ∷ rs) f l (node f ARG_LIST (leaf x R_PAREN 1))
+unfolding arg_list delimited
+arg_list_way e x c = starts (follows (takes (rw e refl) (follows x (passes (rw c refl) (takes (rw c refl) gives)))) (finishes gives))
+
+pub arguments_end : {b : List Forest} {c : Record} {l : List Record} {f : Forest} → c.kind ≡ R_PAREN → Leads arguments b (c ∷ l) f (c ∷ l) f
+unfolding elements
+arguments_end c = stops (passes (rw c refl) gives) refl
+
+pub arguments_on : {b : List Forest} {rs m l : List Record} {c : Record} {f x g : Forest} → is_operand (next_kind rs) ≡ true → Leads expr b rs f (c ∷ m) x → c.kind ≡ COMMA → Leads arguments b m (leaf x COMMA 1) l g → Leads arguments b rs f l g
+unfolding elements
+arguments_on {rs = rs} o x c y =
+    let k = next_kind rs in
+    turns (fails (differ is_operand k R_PAREN o refl) (fails (differ is_operand k EOF o refl) (fails (differ is_operand k COMMA o refl) (follows x (passes (rw c refl) (passes (rw c refl) (takes (rw c refl) gives))))))) y
+
+pub arguments_last : {b : List Forest} {rs m : List Record} {c : Record} {f x : Forest} → is_operand (next_kind rs) ≡ true → Leads expr b rs f (c ∷ m) x → c.kind ≡ R_PAREN → Leads arguments b rs f (c ∷ m) x
+unfolding elements
+arguments_last {rs = rs} o x c =
+    let k = next_kind rs in
+    stops (fails (differ is_operand k R_PAREN o refl) (fails (differ is_operand k EOF o refl) (fails (differ is_operand k COMMA o refl) (follows x (fails (rw c refl) gives))))) refl
