@@ -1,6 +1,9 @@
 pub mod Binary
+pub mod Complete
+pub mod Entry
 pub mod OneTree
 pub mod Operators
 pub mod Steps
 pub mod TopTree
+pub mod Unique
 pub mod Ways

@@ -1,7 +1,7 @@
 -- How scripts run over tokens that are known.
 use Rattle.std.proofs.Common.{rules, ◌≡◌, ◌≢◌, ℕ, ◌<◌, ◌≤◌, List, [], ◌∷◌, drop, Bool, true, false, not, refl, sym, ap, ◌∙◌, arith, ◌==◌, ◌&&◌, ◌||◌, nat_lt, codes, if◌then◌else◌}
 use Rattle.std.proofs.lemmas.Bool.Decides.{nat_tests}
-use Rattle.rap_base.specs.TokenKind.{EOF, EQ, IDENT, AMP, STAR, BANG, MINUS, DOT, DOT2, DOT2EQ, COLON, COLON2, COMMA, QUESTION, L_PAREN, R_PAREN, L_BRACK, R_BRACK, MUT_KW, RAW_KW, AWAIT_KW, AS_KW}
+use Rattle.rap_base.specs.TokenKind.{EOF, EQ, IDENT, AMP, STAR, BANG, MINUS, DOT, DOT2, DOT2EQ, COLON, COLON2, COMMA, QUESTION, INT_NUMBER, L_PAREN, R_PAREN, L_BRACK, R_BRACK, MUT_KW, RAW_KW, AWAIT_KW, AS_KW}
 use Rattle.rap_base.specs.NodeKind.{BIN_EXPR, REF_EXPR, PREFIX_EXPR, LITERAL, PAREN_EXPR, PATH_EXPR, PATH, PATH_SEGMENT, NAME_REF, CALL_EXPR, INDEX_EXPR, TRY_EXPR, METHOD_CALL_EXPR, FIELD_EXPR, ARG_LIST}
 use Rattle.rap_events.specs.Record.{Record, next_kind, kind_at}
 use Rattle.rap_events.specs.Composite.{parts, width, is_at, begins_with}
@@ -16,7 +16,7 @@ use Rattle.rap_grammar.specs.Knot.{script_of}
 use Rattle.rap_grammar.specs.Operator.{operator_at}
 use Rattle.rap_grammar.specs.Paths.{segment_name, path_segment, path_for_qualifier, path, expr_path}
 use Rattle.rap_grammar.specs.Phrase.{Phrase}
-use Rattle.rap_grammar.specs.Script.{Script, nothing, something, loop, Runs, gives, looks, passes, fails, takes, takes_any, starts, precedes, finishes, extends, follows, obeys, turns, stops, last_tree, last_kind}
+use Rattle.rap_grammar.specs.Script.{Script, Outcome, Spot, nothing, something, precede, Runs, gives, looks, passes, fails, takes, takes_any, starts, precedes, finishes, extends, follows, obeys, turns, stops, last_tree, last_kind}
 use Rattle.rap_grammar.specs.Words.{reads_as}
 use Rattle.rap_grammar.specs.declared.grammar.expressions.Restrictions.{Restrictions}
 use Rattle.rap_grammar.proofs.Operators.{differ, differ_back, and_false}
@@ -34,6 +34,12 @@ pub record Single (t : Forest) : Type 0 where
   pub kind : ℕ
   pub children : Forest
   pub is : t ≡ node none kind children
+
+-- a node around the last node alone
+precedes_one : {s : Script Phrase} {b : List Forest} {rs : List Record} {t : Forest} {q : Spot} {v : Outcome} (f : Forest) → Single t →
+    Runs script_of s (record { rest = rs; forest = t; below = f ∷ b }) q v → Runs script_of (precede s) (record { rest = rs; forest = f ⧺ t; below = b }) q v
+unfolding but_last
+precedes_one f h x = precedes (rw h.is (rw h.is at x))
 
 pub none-⧺ : (f : Forest) → none ⧺ f ≡ f
 none-⧺ none = refl
@@ -74,10 +80,10 @@ pub path_end : {b : List Forest} {rs : List Record} {f : Forest} → is_at COLON
 unfolding path_for_qualifier
 path_end e = stops (fails e gives) refl
 
-pub path_goes_on : {b : List Forest} {rs s m l : List Record} {f x g : Forest} → is_at COLON2 rs ≡ true → drop 2 rs ≡ s → Leads (path_segment false) (but_last f ∷ b) s (leaf (last_tree f) COLON2 2) m x →
-    Leads path_for_qualifier b m (node (but_last f) PATH x) l g → Leads path_for_qualifier b rs f l g
+pub path_goes_on : {b : List Forest} {rs s m l : List Record} {f t x g : Forest} → Single t → is_at COLON2 rs ≡ true → drop 2 rs ≡ s → Leads (path_segment false) (f ∷ b) s (leaf t COLON2 2) m x →
+    Leads path_for_qualifier b m (node f PATH x) l g → Leads path_for_qualifier b rs (f ⧺ t) l g
 unfolding path_for_qualifier
-path_goes_on e past x y = turns (passes e (precedes (takes e (rw past (follows x (finishes gives)))))) y
+path_goes_on {f = f} h e past x y = turns (passes e (precedes_one f h (takes e (rw past (follows x (finishes gives)))))) y
 
 pub path_way : {b : List Forest} {rs m l : List Record} {f x g : Forest} → Leads (path_segment true) (f ∷ b) rs none m x → Leads path_for_qualifier b m (node f PATH x) l g → Leads path b rs f l g
 unfolding path
@@ -128,16 +134,16 @@ pub climb_end : (r : Restrictions) {bp : ℕ} {b : List Forest} {rs : List Recor
 unfolding climb
 climb_end r h = stops (looks (rw (below _ _ h) gives)) refl
 
-bin_way : (r : Restrictions) {op : ℕ} {b : List Forest} {rs s m : List Record} {f x : Forest} → is_at op rs ≡ true → drop (width op) rs ≡ s → LeadsOut (expr_from (operand_of r) (right_of op)) (but_last f ∷ b) s (leaf (last_tree f) op (width op)) m x →
-    Leads (bin_expr r op) b rs f m (node (but_last f) BIN_EXPR x)
+bin_way : (r : Restrictions) {op : ℕ} {b : List Forest} {rs s m : List Record} {f t x : Forest} → Single t → is_at op rs ≡ true → drop (width op) rs ≡ s → LeadsOut (expr_from (operand_of r) (right_of op)) (f ∷ b) s (leaf t op (width op)) m x →
+    Leads (bin_expr r op) b rs (f ⧺ t) m (node f BIN_EXPR x)
 unfolding bin_expr script_of expr_bp
-bin_way r first past x = precedes (takes first (rw past (obeys (starts x) (finishes gives))))
+bin_way r {f = f} h first past x = precedes_one f h (takes first (rw past (obeys (starts x) (finishes gives))))
 
-pub climb_on : (r : Restrictions) {bp op : ℕ} {b : List Forest} {rs s m l : List Record} {f x g : Forest} → operator_at rs ≡ op → bp ≤ power op → power op ≢ 2 → op ≢ AS_KW → is_at op rs ≡ true → drop (width op) rs ≡ s →
-    LeadsOut (expr_from (operand_of r) (right_of op)) (but_last f ∷ b) s (leaf (last_tree f) op (width op)) m x → Leads (climb r bp) b m (node (but_last f) BIN_EXPR x) l g → Leads (climb r bp) b rs f l g
+pub climb_on : (r : Restrictions) {bp op : ℕ} {b : List Forest} {rs s m l : List Record} {f t x g : Forest} → Single t → operator_at rs ≡ op → bp ≤ power op → power op ≢ 2 → op ≢ AS_KW → is_at op rs ≡ true → drop (width op) rs ≡ s →
+    LeadsOut (expr_from (operand_of r) (right_of op)) (f ∷ b) s (leaf t op (width op)) m x → Leads (climb r bp) b m (node f BIN_EXPR x) l g → Leads (climb r bp) b rs (f ⧺ t) l g
 unfolding climb
-climb_on r {bp = bp} {op = op} e h n a first past x y =
-    turns (looks (rw (e, not_below _ _ h, apart _ _ a, apart _ _ n) (follows (bin_way r first past x) gives))) y
+climb_on r {bp = bp} {op = op} h e least n a first past x y =
+    turns (looks (rw (e, not_below _ _ least, apart _ _ a, apart _ _ n) (follows (bin_way r h first past x) gives))) y
 
 -- operands
 pub operand_way : (r : Restrictions) {b : List Forest} {rs m l : List Record} {f x g : Forest} → is_atom (next_kind rs) ≡ true → Leads atom_expr b rs f m x → Leads (postfix_expr true false) b m x l g → Leads (lhs r) b rs f l g
@@ -170,19 +176,20 @@ pub postfix_end : {b : List Forest} {rs : List Record} {f : Forest} → (next_ki
 unfolding postfix_expr
 postfix_end p q d t = stops (fails (rw p refl) (fails (rw q refl) (fails (rw d refl) (fails t gives)))) refl
 
-pub call_way : {b : List Forest} {rs m l : List Record} {f x g : Forest} → next_kind rs ≡ L_PAREN → Leads arg_list (but_last f ∷ b) rs (last_tree f) m x → Leads (postfix_expr true false) b m (node (but_last f) CALL_EXPR x) l g → Leads (postfix_expr true false) b rs f l g
+pub call_way : {b : List Forest} {rs m l : List Record} {f t x g : Forest} → Single t → next_kind rs ≡ L_PAREN → Leads arg_list (f ∷ b) rs t m x → Leads (postfix_expr true false) b m (node f CALL_EXPR x) l g →
+    Leads (postfix_expr true false) b rs (f ⧺ t) l g
 unfolding postfix_expr call_expr
-call_way e x y = turns (passes (rw e refl) (follows (precedes (follows x (finishes gives))) gives)) y
+call_way {f = f} h e x y = turns (passes (rw e refl) (follows (precedes_one f h (follows x (finishes gives))) gives)) y
 
-pub index_way : {b : List Forest} {a c : Record} {rs m l : List Record} {f x g : Forest} → a.kind ≡ L_BRACK → Leads expr (but_last f ∷ b) rs (leaf (last_tree f) L_BRACK 1) (c ∷ m) x → c.kind ≡ R_BRACK → Leads (postfix_expr true false) b m (node (but_last f) INDEX_EXPR (leaf x R_BRACK 1)) l g →
-    Leads (postfix_expr true false) b (a ∷ rs) f l g
+pub index_way : {b : List Forest} {a c : Record} {rs m l : List Record} {f t x g : Forest} → Single t → a.kind ≡ L_BRACK → Leads expr (f ∷ b) rs (leaf t L_BRACK 1) (c ∷ m) x → c.kind ≡ R_BRACK →
+    Leads (postfix_expr true false) b m (node f INDEX_EXPR (leaf x R_BRACK 1)) l g → Leads (postfix_expr true false) b (a ∷ rs) (f ⧺ t) l g
 unfolding postfix_expr index_expr
-index_way e x c y =
-    turns (fails (rw e refl) (passes (rw e refl) (follows (precedes (takes (rw e refl) (follows x (passes (rw c refl) (takes (rw c refl) (finishes gives)))))) gives))) y
+index_way {f = f} h e x c y =
+    turns (fails (rw e refl) (passes (rw e refl) (follows (precedes_one f h (takes (rw e refl) (follows x (passes (rw c refl) (takes (rw c refl) (finishes gives)))))) gives))) y
 
-pub try_way : {b : List Forest} {a : Record} {m l : List Record} {f g : Forest} → a.kind ≡ QUESTION → Leads (postfix_expr true false) b m (node (but_last f) TRY_EXPR (leaf (last_tree f) QUESTION 1)) l g → Leads (postfix_expr true false) b (a ∷ m) f l g
+pub try_way : {b : List Forest} {a : Record} {m l : List Record} {f t g : Forest} → Single t → a.kind ≡ QUESTION → Leads (postfix_expr true false) b m (node f TRY_EXPR (leaf t QUESTION 1)) l g → Leads (postfix_expr true false) b (a ∷ m) (f ⧺ t) l g
 unfolding postfix_expr try_expr
-try_way e y = turns (fails (rw e refl) (fails (rw e refl) (fails (rw e refl) (passes (rw e refl) (follows (precedes (takes (rw e refl) (finishes gives))) gives))))) y
+try_way {f = f} h e y = turns (fails (rw e refl) (fails (rw e refl) (fails (rw e refl) (passes (rw e refl) (follows (precedes_one f h (takes (rw e refl) (finishes gives))) gives))))) y
 
 -- a dot before a token that is no dot
 access : (a c : Record) (m : List Record) → a.kind ≡ DOT → (c.kind == DOT) ≡ false → is_access (a ∷ c ∷ m) ≡ true
@@ -192,22 +199,38 @@ dot_way : {b : List Forest} {a c : Record} {rs m l : List Record} {f h g : Fores
 unfolding postfix_expr
 dot_way {a = a} {c = c} {rs = rs} e d x y = turns (fails (rw e refl) (fails (rw e refl) (passes (access a c rs e d) (follows x gives)))) y
 
-pub field_way : {b : List Forest} {a c : Record} {m l : List Record} {f g : Forest} → a.kind ≡ DOT → (c.kind == DOT) ≡ false → calls_method 1 (a ∷ c ∷ m) ≡ false → (c.kind == AWAIT_KW) ≡ false → c.kind ≢ EOF → is_path_name_or_index c.kind ≡ true →
-    Leads (postfix_expr true false) b m (node (but_last f) FIELD_EXPR (node (leaf (last_tree f) DOT 1) NAME_REF (leaf none c.kind 1))) l g → Leads (postfix_expr true false) b (a ∷ c ∷ m) f l g
+-- a field's name or number, where no call follows
+field_way : {b : List Forest} {a c : Record} {m l : List Record} {f t g : Forest} → Single t → a.kind ≡ DOT → is_path_name_or_index c.kind ≡ true → calls_method 1 (a ∷ c ∷ m) ≡ false →
+    Leads (postfix_expr true false) b m (node f FIELD_EXPR (node (leaf t DOT 1) NAME_REF (leaf none c.kind 1))) l g → Leads (postfix_expr true false) b (a ∷ c ∷ m) (f ⧺ t) l g
 unfolding postfix_dot_expr field_expr name_ref_mod_path_or_index
-field_way e d call wait ne i y =
-    dot_way e d (fails call (fails wait (precedes (takes (rw e refl) (passes i (follows (passes i (starts (takes_any ne (finishes gives)))) (finishes gives))))))) y
+field_way {c = c} {f = f} h e i call y =
+    let k = c.kind in
+    let some : k ≢ EOF = λ z. let x : is_path_name_or_index EOF ≡ true = rw z at i in absurd cc in
+    dot_way e (differ is_path_name_or_index k DOT i refl)
+    (fails call (fails (differ is_path_name_or_index k AWAIT_KW i refl) (precedes_one f h (takes (rw e refl) (passes i (follows (passes i (starts (takes_any some (finishes gives)))) (finishes gives))))))) y
 
 kind_at_first : (rs : List Record) → kind_at rs 0 ≡ next_kind rs
 kind_at_first [] = refl
 kind_at_first (r ∷ rs) = refl
 
-pub method_way : {b : List Forest} {a c : Record} {rs m l : List Record} {f x g : Forest} → a.kind ≡ DOT → c.kind ≡ IDENT → next_kind rs ≡ L_PAREN → Leads arg_list (but_last f ∷ b) rs (node (leaf (last_tree f) DOT 1) NAME_REF (leaf none IDENT 1)) m x →
-    Leads (postfix_expr true false) b m (node (but_last f) METHOD_CALL_EXPR x) l g → Leads (postfix_expr true false) b (a ∷ c ∷ rs) f l g
+pub name_field_way : {b : List Forest} {a c : Record} {m l : List Record} {f t g : Forest} → Single t → a.kind ≡ DOT → c.kind ≡ IDENT → next_kind m ≢ L_PAREN → is_at COLON2 m ≡ false →
+    Leads (postfix_expr true false) b m (node f FIELD_EXPR (node (leaf t DOT 1) NAME_REF (leaf none IDENT 1))) l g → Leads (postfix_expr true false) b (a ∷ c ∷ m) (f ⧺ t) l g
+unfolding calls_method
+name_field_way {m = m} h e i p q y =
+    let n : (kind_at m 0 == L_PAREN) ≡ false = rw (kind_at_first m) (apart (next_kind m) L_PAREN p) in
+    field_way h e (rw i refl) (rw (i, n, q) refl) (rw i y)
+
+pub number_field_way : {b : List Forest} {a c : Record} {m l : List Record} {f t g : Forest} → Single t → a.kind ≡ DOT → c.kind ≡ INT_NUMBER →
+    Leads (postfix_expr true false) b m (node f FIELD_EXPR (node (leaf t DOT 1) NAME_REF (leaf none INT_NUMBER 1))) l g → Leads (postfix_expr true false) b (a ∷ c ∷ m) (f ⧺ t) l g
+unfolding calls_method
+number_field_way h e i y = field_way h e (rw i refl) (rw i refl) (rw i y)
+
+pub method_way : {b : List Forest} {a c : Record} {rs m l : List Record} {f t x g : Forest} → Single t → a.kind ≡ DOT → c.kind ≡ IDENT → next_kind rs ≡ L_PAREN → Leads arg_list (f ∷ b) rs (node (leaf t DOT 1) NAME_REF (leaf none IDENT 1)) m x →
+    Leads (postfix_expr true false) b m (node f METHOD_CALL_EXPR x) l g → Leads (postfix_expr true false) b (a ∷ c ∷ rs) (f ⧺ t) l g
 unfolding postfix_dot_expr method_call_expr calls_method
-method_way {rs = rs} e n p x y =
+method_way {rs = rs} {f = f} h e n p x y =
     let there : (kind_at rs 0 == L_PAREN) ≡ true = rw (kind_at_first rs, p) refl in
-    dot_way e (rw n refl) (passes (rw (n, there) refl) (precedes (takes (rw e refl) (passes (rw n refl) (follows (name_way n) (passes (rw p refl) (follows x (finishes gives)))))))) y
+    dot_way e (rw n refl) (passes (rw (n, there) refl) (precedes_one f h (takes (rw e refl) (passes (rw n refl) (follows (name_way n) (passes (rw p refl) (follows x (finishes gives)))))))) y
 
 -- arguments
 abbrev pub arguments : Script Phrase
