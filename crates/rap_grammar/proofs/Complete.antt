@@ -1,5 +1,5 @@
 -- What the core grammar derives is what the scripts make, from the left.
-use Rattle.std.proofs.Common.{rules, ◌≡◌, ◌≢◌, ◌⊎◌, inl, inr, ℕ, suc, ◌<◌, ◌≤◌, List, [], ◌∷◌, ◌++◌, Bool, true, false, not, refl, ap, sym, ◌∙◌, arith, ◌==◌, ◌&&◌, ◌||◌, nat_lt, if◌then◌else◌, append_assoc, append-nil}
+use Rattle.std.proofs.Common.{rules, ◌≡◌, ◌≢◌, inl, inr, ℕ, suc, ◌<◌, ◌≤◌, List, [], ◌∷◌, ◌++◌, Bool, true, false, not, refl, ap, sym, ◌∙◌, arith, ◌==◌, ◌&&◌, nat_lt, if◌then◌else◌, append_assoc, append-nil}
 use Rattle.std.proofs.lemmas.Bool.{eqb-true, ne_eqb}
 use Rattle.std.proofs.lemmas.Bool.Decides.{nat_tests}
 use Rattle.rap_base.specs.TokenKind.{EOF, SEMICOLON, IDENT, AMP, STAR, BANG, MINUS, DOT, COLON, COLON2, COMMA, QUESTION, L_PAREN, R_PAREN, L_BRACK, R_BRACK, L_CURLY, R_CURLY, PIPE, R_ANGLE, EQ, L_ANGLE, PLUS, CARET, PERCENT, SLASH, MUT_KW, RAW_KW, AS_KW}
@@ -203,10 +203,22 @@ quiet rs h =
     record {
       calm = record { kind = search rules };
       power_is =
-          rw (differ_back ends_quietly k PIPE h refl, differ_back ends_quietly k R_ANGLE h refl, differ_back ends_quietly k EQ h refl, differ_back ends_quietly k L_ANGLE h refl,
-              differ_back ends_quietly k PLUS h refl, differ_back ends_quietly k CARET h refl, differ_back ends_quietly k PERCENT h refl, differ_back ends_quietly k AMP h refl,
-              differ_back ends_quietly k SLASH h refl, differ_back ends_quietly k STAR h refl, differ_back ends_quietly k DOT h refl, differ_back ends_quietly k BANG h refl,
-              differ_back ends_quietly k MINUS h refl, differ_back ends_quietly k AS_KW h refl) (omega arith);
+          rw (
+            differ_back ends_quietly k PIPE h refl,
+            differ_back ends_quietly k R_ANGLE h refl,
+            differ_back ends_quietly k EQ h refl,
+            differ_back ends_quietly k L_ANGLE h refl,
+            differ_back ends_quietly k PLUS h refl,
+            differ_back ends_quietly k CARET h refl,
+            differ_back ends_quietly k PERCENT h refl,
+            differ_back ends_quietly k AMP h refl,
+            differ_back ends_quietly k SLASH h refl,
+            differ_back ends_quietly k STAR h refl,
+            differ_back ends_quietly k DOT h refl,
+            differ_back ends_quietly k BANG h refl,
+            differ_back ends_quietly k MINUS h refl,
+            differ_back ends_quietly k AS_KW h refl,
+          ) (omega arith);
     }
 
 quiet_is : (r : Record) (l : List Record) (k : ℕ) → Is r k → ends_quietly k ≡ true → Quiet (r ∷ l)

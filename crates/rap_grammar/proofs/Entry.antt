@@ -1,13 +1,13 @@
 -- What a parse of a whole input, or of its front, makes of what is derived; and that equal inputs give equal outputs.
-use Rattle.std.proofs.Common.{◌≡◌, List, [], ◌∷◌, ◌++◌, true, refl, ap, sym, ◌∙◌}
+use Rattle.std.proofs.Common.{◌≡◌, List, [], ◌∷◌, ◌++◌, refl, ap, sym, ◌∙◌}
 use Rattle.rap_events.specs.Record.{Record}
-use Rattle.rap_events.specs.Forest.{Forest, none, node, ◌⧺◌, marks, one_tree}
+use Rattle.rap_events.specs.Forest.{Forest, none, ◌⧺◌, marks}
 use Rattle.rap_grammar.specs.Atom.{expr}
 use Rattle.rap_grammar.specs.Derives.{Derives, Expression, EndsExpression}
 use Rattle.rap_grammar.specs.Knot.{script_of}
 use Rattle.rap_grammar.specs.Phrase.{Phrase}
 use Rattle.rap_grammar.specs.Script.{Script, Spot, Outcome, something, Runs}
-use Rattle.rap_grammar.specs.Top.{IsTopOf, top_tree, kept}
+use Rattle.rap_grammar.specs.Top.{IsTopOf, top_tree}
 use Rattle.rap_grammar.proofs.Complete.{expression_whole, expression_front, expression_single}
 use Rattle.rap_grammar.proofs.Unique.{Same, one_end, unmarked}
 use Rattle.rap_grammar.proofs.Ways.{Single}

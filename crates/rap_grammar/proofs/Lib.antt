@@ -1,6 +1,7 @@
 pub mod Binary
 pub mod Complete
 pub mod Entry
+pub mod Example
 pub mod OneTree
 pub mod Operators
 pub mod Steps

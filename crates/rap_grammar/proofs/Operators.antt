@@ -1,7 +1,7 @@
 -- Each operator is seen where its tokens stand before an operand.
 use Rattle.std.proofs.Common.{◌≡◌, ◌≢◌, ℕ, ◌<◌, List, [], ◌∷◌, ◌++◌, drop, length, Bool, true, false, not, refl, ap, sym, ◌∙◌, arith, ◌==◌, ◌&&◌}
 use Rattle.std.proofs.lemmas.Bool.{eqb-true, eq-eqb, ne_eqb}
-use Rattle.rap_base.specs.TokenKind.{EOF, EQ, PLUSEQ, MINUSEQ, STAREQ, SLASHEQ, PERCENTEQ, CARETEQ, AMPEQ, PIPEEQ, SHLEQ, SHREQ, DOT, DOT2, DOT2EQ, PIPE2, AMP2, EQ2, NEQ, L_ANGLE, R_ANGLE, LTEQ, GTEQ, PIPE, CARET, AMP, SHL, SHR, PLUS, MINUS, STAR, SLASH, PERCENT, BANG, AS_KW, L_PAREN, L_BRACK, QUESTION, COLON, COLON2}
+use Rattle.rap_base.specs.TokenKind.{EOF, EQ, PLUSEQ, MINUSEQ, STAREQ, SLASHEQ, PERCENTEQ, CARETEQ, AMPEQ, PIPEEQ, SHLEQ, SHREQ, DOT, DOT2, DOT2EQ, PIPE2, AMP2, EQ2, NEQ, L_ANGLE, R_ANGLE, LTEQ, GTEQ, PIPE, CARET, AMP, SHL, SHR, PLUS, MINUS, STAR, SLASH, PERCENT, BANG, AS_KW, L_PAREN, L_BRACK, QUESTION, COLON}
 use Rattle.rap_events.specs.Record.{Record, next_kind}
 use Rattle.rap_events.specs.Composite.{parts, width, width_of, is_at, is_first, begins_with}
 use Rattle.rap_events.specs.Power.{power, power_in, powers}

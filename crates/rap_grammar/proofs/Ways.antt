@@ -1,22 +1,22 @@
 -- How scripts run over tokens that are known.
-use Rattle.std.proofs.Common.{rules, ◌≡◌, ◌≢◌, ℕ, ◌<◌, ◌≤◌, List, [], ◌∷◌, drop, Bool, true, false, not, refl, sym, ap, ◌∙◌, arith, ◌==◌, ◌&&◌, ◌||◌, nat_lt, codes, if◌then◌else◌}
+use Rattle.std.proofs.Common.{rules, ◌≡◌, ◌≢◌, ℕ, ◌<◌, ◌≤◌, List, [], ◌∷◌, drop, Bool, true, false, refl, ap, arith, ◌==◌, nat_lt, codes}
 use Rattle.std.proofs.lemmas.Bool.Decides.{nat_tests}
-use Rattle.rap_base.specs.TokenKind.{EOF, EQ, IDENT, AMP, STAR, BANG, MINUS, DOT, DOT2, DOT2EQ, COLON, COLON2, COMMA, QUESTION, INT_NUMBER, L_PAREN, R_PAREN, L_BRACK, R_BRACK, MUT_KW, RAW_KW, AWAIT_KW, AS_KW}
+use Rattle.rap_base.specs.TokenKind.{EOF, EQ, IDENT, AMP, STAR, BANG, MINUS, DOT, COLON2, COMMA, QUESTION, INT_NUMBER, L_PAREN, R_PAREN, L_BRACK, R_BRACK, MUT_KW, RAW_KW, AWAIT_KW, AS_KW}
 use Rattle.rap_base.specs.NodeKind.{BIN_EXPR, REF_EXPR, PREFIX_EXPR, LITERAL, PAREN_EXPR, PATH_EXPR, PATH, PATH_SEGMENT, NAME_REF, CALL_EXPR, INDEX_EXPR, TRY_EXPR, METHOD_CALL_EXPR, FIELD_EXPR, ARG_LIST}
 use Rattle.rap_events.specs.Record.{Record, next_kind, kind_at}
-use Rattle.rap_events.specs.Composite.{parts, width, is_at, begins_with}
+use Rattle.rap_events.specs.Composite.{width, is_at, begins_with}
 use Rattle.rap_events.specs.Forest.{Forest, none, node, leaf, mark, ◌⧺◌}
 use Rattle.rap_events.specs.Power.{power}
 use Rattle.rap_events.specs.State.{but_last, last_children}
 use Rattle.rap_grammar.specs.Atom.{unrestricted, expr, literal, path_expr, tuple_elements, tuple_expr, atom_expr}
 use Rattle.rap_grammar.specs.Expressions.{operand_of, right_of, bin_expr, climb, ref_qualifier, ref_expr, prefix_expr, arg_list, call_expr, index_expr, try_expr, calls_method, method_call_expr, field_expr, postfix_dot_expr, is_access, postfix_expr, lhs, expr_from, expr_bp}
-use Rattle.rap_grammar.specs.First.{is_operand, is_atom, is_literal_first, is_path_name, is_path_name_or_index, is_expr_first, one_of}
+use Rattle.rap_grammar.specs.First.{is_operand, is_atom, is_literal_first, is_path_name_or_index, is_expr_first, one_of}
 use Rattle.rap_grammar.specs.Grammar.{name_ref_mod_path, name_ref_mod_path_or_index, elements, delimited}
 use Rattle.rap_grammar.specs.Knot.{script_of}
 use Rattle.rap_grammar.specs.Operator.{operator_at}
 use Rattle.rap_grammar.specs.Paths.{segment_name, path_segment, path_for_qualifier, path, expr_path}
 use Rattle.rap_grammar.specs.Phrase.{Phrase}
-use Rattle.rap_grammar.specs.Script.{Script, Outcome, Spot, nothing, something, precede, Runs, gives, looks, passes, fails, takes, takes_any, starts, precedes, finishes, extends, follows, obeys, turns, stops, last_tree, last_kind}
+use Rattle.rap_grammar.specs.Script.{Script, Outcome, Spot, nothing, something, precede, Runs, gives, looks, passes, fails, takes, takes_any, starts, precedes, finishes, extends, follows, obeys, turns, stops, last_kind}
 use Rattle.rap_grammar.specs.Words.{reads_as}
 use Rattle.rap_grammar.specs.declared.grammar.expressions.Restrictions.{Restrictions}
 use Rattle.rap_grammar.proofs.Operators.{differ, differ_back, and_false}
