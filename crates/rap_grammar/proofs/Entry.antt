@@ -2,11 +2,12 @@
 use Rattle.std.proofs.Common.{◌≡◌, List, [], ◌∷◌, ◌++◌, refl, ap, sym, ◌∙◌}
 use Rattle.rap_events.specs.Record.{Record}
 use Rattle.rap_events.specs.Forest.{Forest, none, ◌⧺◌, marks}
+use Rattle.rap_events.specs.State.{State}
 use Rattle.rap_grammar.specs.Atom.{expr}
 use Rattle.rap_grammar.specs.Derives.{Derives, Expression, EndsExpression}
-use Rattle.rap_grammar.specs.Knot.{script_of}
+use Rattle.rap_grammar.specs.Knot.{script_of, Follows}
 use Rattle.rap_grammar.specs.Phrase.{Phrase}
-use Rattle.rap_grammar.specs.Script.{Script, Spot, Outcome, something, Runs}
+use Rattle.rap_grammar.specs.Script.{Script, forests, Spot, Outcome, something, Runs}
 use Rattle.rap_grammar.specs.Top.{IsTopOf, top_tree}
 use Rattle.rap_grammar.proofs.Complete.{expression_whole, expression_front, expression_single}
 use Rattle.rap_grammar.proofs.Unique.{Same, one_end, unmarked}
@@ -36,3 +37,10 @@ one_output i j =
 pub front_derived : {ks : List Record} {t : Forest} {q : Spot} {v : Outcome} (b : List Forest) (f : Forest) (l : List Record) → Derives Expression ks t → EndsExpression l →
     Runs script_of expr (record { rest = ks ++ l; forest = f; below = b }) q v → Same q (record { rest = l; forest = f ⧺ t; below = b }) v something
 front_derived b f l d e x = one_end x (expression_front d b f l e)
+
+-- the same for a parser that followed the script
+pub front_read : {ks : List Record} {t : Forest} {s u : State} {v : Outcome} (l : List Record) → Derives Expression ks t → EndsExpression l → s.rest ≡ ks ++ l → Follows expr v s u →
+    (u.forest ≡ s.forest ⧺ t) × (u.rest ≡ l) × (v ≡ something)
+front_read {s = s} l d e n h =
+    let e = front_derived (forests s.below) s.forest l d e (rw n at h.run) in
+    (ap (λ (p : Spot). p.forest) e.spot, ap (λ (p : Spot). p.rest) e.spot, e.outcome)

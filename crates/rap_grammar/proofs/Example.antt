@@ -1,12 +1,12 @@
 -- Expressions derived by hand, as the rows of the grammar say: a sum with a product on its right, a call whose arguments
--- end with a comma, a field by its number, a reference and an assignment.
+-- end with a comma, a field by its number, a reference, assignments, and a method's call on a path.
 use Rattle.std.proofs.Common.{ℕ, List, [], ◌∷◌, true, false, inl, refl, arith}
-use Rattle.rap_base.specs.TokenKind.{EOF, IDENT, INT_NUMBER, PLUS, STAR, EQ, L_ANGLE, SHLEQ, AMP, DOT, COMMA, L_PAREN, R_PAREN, MUT_KW}
-use Rattle.rap_base.specs.NodeKind.{BIN_EXPR, REF_EXPR, LITERAL, PATH_EXPR, PATH, PATH_SEGMENT, NAME_REF, CALL_EXPR, FIELD_EXPR, ARG_LIST}
+use Rattle.rap_base.specs.TokenKind.{EOF, IDENT, INT_NUMBER, PLUS, STAR, EQ, L_ANGLE, SHLEQ, AMP, DOT, COLON, COLON2, COMMA, L_PAREN, R_PAREN, MUT_KW}
+use Rattle.rap_base.specs.NodeKind.{BIN_EXPR, REF_EXPR, LITERAL, PATH_EXPR, PATH, PATH_SEGMENT, NAME_REF, CALL_EXPR, METHOD_CALL_EXPR, FIELD_EXPR, ARG_LIST}
 use Rattle.rap_base.specs.declared.edition.Edition.TheVariants.{Edition2024}
 use Rattle.rap_events.specs.Record.{Record}
 use Rattle.rap_events.specs.Forest.{Forest, none, node, leaf}
-use Rattle.rap_grammar.specs.Derives.{IsOperator, Postfix, Unary, Binary, Elements, Expression, IsNamedField, Derives, reference, segment, path_one, atom_literal, atom_path, postfix_atom, postfix_call, postfix_number, arguments_some, element_comma, unary_ref_mut, unary_postfix, binary_unary, binary_tighter, binary_operator, expression_binary, expression_assign}
+use Rattle.rap_grammar.specs.Derives.{IsOperator, Segment, Postfix, Unary, Binary, Elements, Expression, IsNamedField, Derives, reference, segment, path_one, path_more, atom_literal, atom_path, postfix_atom, postfix_call, postfix_number, postfix_method, arguments_none, arguments_some, element_comma, unary_ref_mut, unary_postfix, binary_unary, binary_tighter, binary_operator, expression_binary, expression_assign}
 
 -- a token, and one that touches the token after it
 abbrev token : ℕ → Record
@@ -90,3 +90,15 @@ pub an_assignment : Derives Expression (name ∷ touching L_ANGLE ∷ touching L
 an_assignment =
     expression_assign (three_of_ten (ten (unary_postfix a_name))) shift
     (expression_assign (three_of_ten (ten (unary_postfix a_name))) equals (expression (unary_postfix a_number)))
+
+-- `a::b.c()`: two touching tokens are one leaf, and a path is on the left of a longer one
+a_path : Derives Postfix (name ∷ touching COLON ∷ token COLON ∷ name ∷ []) (node none PATH_EXPR (node none PATH (node (leaf (node none PATH (node none PATH_SEGMENT (node none NAME_REF (leaf none IDENT 1)))) COLON2 2) PATH_SEGMENT (node none NAME_REF (leaf none IDENT 1)))))
+a_path =
+    let a_segment : Derives Segment (name ∷ []) (node none PATH_SEGMENT (node none NAME_REF (leaf none IDENT 1))) = segment (reference (record { kind = refl; contextual = refl })) in
+    postfix_atom (atom_path (path_more {os = touching COLON ∷ token COLON ∷ []} (path_one a_segment) (record { touching = (refl, refl, refl) }) a_segment))
+
+pub a_method_call : Derives Expression (name ∷ touching COLON ∷ token COLON ∷ name ∷ token DOT ∷ name ∷ token L_PAREN ∷ token R_PAREN ∷ [])
+    (node none METHOD_CALL_EXPR (node (node (leaf (node none PATH_EXPR (node none PATH (node (leaf (node none PATH (node none PATH_SEGMENT (node none NAME_REF (leaf none IDENT 1)))) COLON2 2) PATH_SEGMENT (node none NAME_REF (leaf none IDENT 1))))) DOT 1)
+    NAME_REF (leaf none IDENT 1)) ARG_LIST (leaf (leaf none L_PAREN 1) R_PAREN 1)))
+a_method_call =
+    expression (unary_postfix (postfix_method a_path (record { kind_is = refl }) (reference (record { kind = refl; contextual = refl })) (arguments_none (record { kind_is = refl }) (record { kind_is = refl }))))

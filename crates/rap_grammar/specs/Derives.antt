@@ -74,31 +74,49 @@ pub data Derives : Category → List Record → Forest → Type 0 where
   reference : {r : Record} → IsName r → Derives Reference (r ∷ []) (node none NAME_REF (leaf none IDENT 1))
   segment : {ks : List Record} {t : Forest} → Derives Reference ks t → Derives Segment ks (node none PATH_SEGMENT t)
   path_one : {ks : List Record} {t : Forest} → Derives Segment ks t → Derives Path ks (node none PATH t)
-  path_more : {ks os js : List Record} {t u : Forest} → Derives Path ks t → Writes os COLON2 → Derives Segment js u → Derives Path (ks ++ (os ++ js)) (node none PATH (leaf t COLON2 2 ⧺ u))
+  path_more : {ks os js : List Record} {t u : Forest} → Derives Path ks t → Writes os COLON2 → Derives Segment js u →
+      Derives Path (ks ++ (os ++ js)) (node none PATH (leaf t COLON2 2 ⧺ u))
   atom_literal : {r : Record} → IsLiteral r → Derives Atom (r ∷ []) (node none LITERAL (leaf none r.kind 1))
   atom_path : {ks : List Record} {t : Forest} → Derives Path ks t → Derives Atom ks (node none PATH_EXPR t)
-  atom_paren : {a b : Record} {ks : List Record} {t : Forest} → Is a L_PAREN → Derives Expression ks t → Is b R_PAREN → Derives Atom (a ∷ (ks ++ b ∷ [])) (node none PAREN_EXPR (leaf (leaf none L_PAREN 1 ⧺ t) R_PAREN 1))
+  atom_paren : {a b : Record} {ks : List Record} {t : Forest} → Is a L_PAREN → Derives Expression ks t → Is b R_PAREN →
+      Derives Atom (a ∷ (ks ++ b ∷ [])) (node none PAREN_EXPR (leaf (leaf none L_PAREN 1 ⧺ t) R_PAREN 1))
   postfix_atom : {ks : List Record} {t : Forest} → Derives Atom ks t → Derives Postfix ks t
-  postfix_call : {ks js : List Record} {t u : Forest} → Derives Postfix ks t → ¬ IsNamedField t → Derives Arguments js u → Derives Postfix (ks ++ js) (node none CALL_EXPR (t ⧺ u))
-  postfix_index : {a b : Record} {ks js : List Record} {t u : Forest} → Derives Postfix ks t → Is a L_BRACK → Derives Expression js u → Is b R_BRACK → Derives Postfix (ks ++ a ∷ (js ++ b ∷ [])) (node none INDEX_EXPR (leaf (leaf t L_BRACK 1 ⧺ u) R_BRACK 1))
-  postfix_try : {a : Record} {ks : List Record} {t : Forest} → Derives Postfix ks t → Is a QUESTION → Derives Postfix (ks ++ a ∷ []) (node none TRY_EXPR (leaf t QUESTION 1))
-  postfix_field : {a : Record} {ks js : List Record} {t u : Forest} → Derives Postfix ks t → Is a DOT → Derives Reference js u → Derives Postfix (ks ++ a ∷ js) (node none FIELD_EXPR (leaf t DOT 1 ⧺ u))
-  postfix_number : {a b : Record} {ks : List Record} {t : Forest} → Derives Postfix ks t → Is a DOT → Is b INT_NUMBER → Derives Postfix (ks ++ a ∷ b ∷ []) (node none FIELD_EXPR (node (leaf t DOT 1) NAME_REF (leaf none INT_NUMBER 1)))
-  postfix_method : {a : Record} {ks js is : List Record} {t u v : Forest} → Derives Postfix ks t → Is a DOT → Derives Reference js u → Derives Arguments is v → Derives Postfix (ks ++ a ∷ (js ++ is)) (node none METHOD_CALL_EXPR (leaf t DOT 1 ⧺ u ⧺ v))
-  arguments_none : {a b : Record} → Is a L_PAREN → Is b R_PAREN → Derives Arguments (a ∷ b ∷ []) (node none ARG_LIST (leaf (leaf none L_PAREN 1) R_PAREN 1))
-  arguments_some : {a b : Record} {ks : List Record} {t : Forest} → Is a L_PAREN → Derives Elements ks t → Is b R_PAREN → Derives Arguments (a ∷ (ks ++ b ∷ [])) (node none ARG_LIST (leaf (leaf none L_PAREN 1 ⧺ t) R_PAREN 1))
+  postfix_call : {ks js : List Record} {t u : Forest} → Derives Postfix ks t → ¬ IsNamedField t → Derives Arguments js u →
+      Derives Postfix (ks ++ js) (node none CALL_EXPR (t ⧺ u))
+  postfix_index : {a b : Record} {ks js : List Record} {t u : Forest} → Derives Postfix ks t → Is a L_BRACK → Derives Expression js u → Is b R_BRACK →
+      Derives Postfix (ks ++ a ∷ (js ++ b ∷ [])) (node none INDEX_EXPR (leaf (leaf t L_BRACK 1 ⧺ u) R_BRACK 1))
+  postfix_try : {a : Record} {ks : List Record} {t : Forest} → Derives Postfix ks t → Is a QUESTION →
+      Derives Postfix (ks ++ a ∷ []) (node none TRY_EXPR (leaf t QUESTION 1))
+  postfix_field : {a : Record} {ks js : List Record} {t u : Forest} → Derives Postfix ks t → Is a DOT → Derives Reference js u →
+      Derives Postfix (ks ++ a ∷ js) (node none FIELD_EXPR (leaf t DOT 1 ⧺ u))
+  postfix_number : {a b : Record} {ks : List Record} {t : Forest} → Derives Postfix ks t → Is a DOT → Is b INT_NUMBER →
+      Derives Postfix (ks ++ a ∷ b ∷ []) (node none FIELD_EXPR (node (leaf t DOT 1) NAME_REF (leaf none INT_NUMBER 1)))
+  postfix_method : {a : Record} {ks js is : List Record} {t u v : Forest} → Derives Postfix ks t → Is a DOT → Derives Reference js u → Derives Arguments is v →
+      Derives Postfix (ks ++ a ∷ (js ++ is)) (node none METHOD_CALL_EXPR (leaf t DOT 1 ⧺ u ⧺ v))
+  arguments_none : {a b : Record} → Is a L_PAREN → Is b R_PAREN →
+      Derives Arguments (a ∷ b ∷ []) (node none ARG_LIST (leaf (leaf none L_PAREN 1) R_PAREN 1))
+  arguments_some : {a b : Record} {ks : List Record} {t : Forest} → Is a L_PAREN → Derives Elements ks t → Is b R_PAREN →
+      Derives Arguments (a ∷ (ks ++ b ∷ [])) (node none ARG_LIST (leaf (leaf none L_PAREN 1 ⧺ t) R_PAREN 1))
   element_last : {ks : List Record} {t : Forest} → Derives Expression ks t → Derives Elements ks t
-  element_comma : {a : Record} {ks : List Record} {t : Forest} → Derives Expression ks t → Is a COMMA → Derives Elements (ks ++ a ∷ []) (leaf t COMMA 1)
-  element_more : {a : Record} {ks js : List Record} {t u : Forest} → Derives Expression ks t → Is a COMMA → Derives Elements js u → Derives Elements (ks ++ a ∷ js) (leaf t COMMA 1 ⧺ u)
-  unary_prefix : {a : Record} {ks : List Record} {t : Forest} → IsOneOf a (MINUS ∷ BANG ∷ STAR ∷ []) → Derives Unary ks t → Derives Unary (a ∷ ks) (node none PREFIX_EXPR (leaf none a.kind 1 ⧺ t))
-  unary_ref : {a : Record} {ks : List Record} {t : Forest} → Is a AMP → Derives Unary ks t → Derives Unary (a ∷ ks) (node none REF_EXPR (leaf none AMP 1 ⧺ t))
-  unary_ref_mut : {a b : Record} {ks : List Record} {t : Forest} → Is a AMP → Is b MUT_KW → Derives Unary ks t → Derives Unary (a ∷ b ∷ ks) (node none REF_EXPR (leaf (leaf none AMP 1) MUT_KW 1 ⧺ t))
+  element_comma : {a : Record} {ks : List Record} {t : Forest} → Derives Expression ks t → Is a COMMA →
+      Derives Elements (ks ++ a ∷ []) (leaf t COMMA 1)
+  element_more : {a : Record} {ks js : List Record} {t u : Forest} → Derives Expression ks t → Is a COMMA → Derives Elements js u →
+      Derives Elements (ks ++ a ∷ js) (leaf t COMMA 1 ⧺ u)
+  unary_prefix : {a : Record} {ks : List Record} {t : Forest} → IsOneOf a (MINUS ∷ BANG ∷ STAR ∷ []) → Derives Unary ks t →
+      Derives Unary (a ∷ ks) (node none PREFIX_EXPR (leaf none a.kind 1 ⧺ t))
+  unary_ref : {a : Record} {ks : List Record} {t : Forest} → Is a AMP → Derives Unary ks t →
+      Derives Unary (a ∷ ks) (node none REF_EXPR (leaf none AMP 1 ⧺ t))
+  unary_ref_mut : {a b : Record} {ks : List Record} {t : Forest} → Is a AMP → Is b MUT_KW → Derives Unary ks t →
+      Derives Unary (a ∷ b ∷ ks) (node none REF_EXPR (leaf (leaf none AMP 1) MUT_KW 1 ⧺ t))
   unary_postfix : {ks : List Record} {t : Forest} → Derives Postfix ks t → Derives Unary ks t
   binary_unary : {ks : List Record} {t : Forest} → Derives Unary ks t → Derives (Binary 12) ks t
-  binary_tighter : {p : ℕ} {ks : List Record} {t : Forest} → 3 ≤ p → p ≤ 11 → Derives (Binary (suc p)) ks t → Derives (Binary p) ks t
-  binary_operator : {p op : ℕ} {ks os js : List Record} {t u : Forest} → 3 ≤ p → p ≤ 11 → Derives (Binary p) ks t → IsOperator os op p js → Derives (Binary (suc p)) js u → Derives (Binary p) (ks ++ (os ++ js)) (node none BIN_EXPR (leaf t op (width op) ⧺ u))
+  binary_tighter : {p : ℕ} {ks : List Record} {t : Forest} → 3 ≤ p → p ≤ 11 → Derives (Binary (suc p)) ks t →
+      Derives (Binary p) ks t
+  binary_operator : {p op : ℕ} {ks os js : List Record} {t u : Forest} → 3 ≤ p → p ≤ 11 → Derives (Binary p) ks t → IsOperator os op p js → Derives (Binary (suc p)) js u →
+      Derives (Binary p) (ks ++ (os ++ js)) (node none BIN_EXPR (leaf t op (width op) ⧺ u))
   expression_binary : {ks : List Record} {t : Forest} → Derives (Binary 3) ks t → Derives Expression ks t
-  expression_assign : {op : ℕ} {ks os js : List Record} {t u : Forest} → Derives (Binary 3) ks t → IsOperator os op 1 js → Derives Expression js u → Derives Expression (ks ++ (os ++ js)) (node none BIN_EXPR (leaf t op (width op) ⧺ u))
+  expression_assign : {op : ℕ} {ks os js : List Record} {t u : Forest} → Derives (Binary 3) ks t → IsOperator os op 1 js → Derives Expression js u →
+      Derives Expression (ks ++ (os ++ js)) (node none BIN_EXPR (leaf t op (width op) ⧺ u))
 
 -- what can follow an expression that is read alone: the end, `;`, `,` or `)`
 pub record EndsExpression (rs : List Record) : Type 0 where
