@@ -1,10 +1,10 @@
 -- From one spot a script leads to one spot with one outcome; so the same tokens have at most one tree.
-use Rattle.std.proofs.Common.{◌≡◌, ◌+◌, ℕ, List, [], Bool, true, false, refl, ap, sym, ◌∙◌, arith}
+use Rattle.std.proofs.Common.{◌≡◌, ◌+◌, ℕ, List, [], ◌∷◌, length, length-append, Bool, true, false, refl, ap, sym, ◌∙◌, arith}
 use Rattle.rap_base.specs.TokenKind.{AMP, COLON2, COMMA, DOT, L_PAREN, L_BRACK, MUT_KW}
 use Rattle.rap_events.specs.Record.{Record}
-use Rattle.rap_events.specs.Composite.{width}
-use Rattle.rap_events.specs.Forest.{Forest, none, node, leaf, mark, ◌⧺◌, marks}
-use Rattle.rap_grammar.specs.Derives.{Derives, Category, Expression, reference, segment, path_one, path_more, atom_literal, atom_path, atom_paren, postfix_atom, postfix_call, postfix_index, postfix_try, postfix_field, postfix_number, postfix_method, arguments_none, arguments_some, element_last, element_comma, element_more, unary_prefix, unary_ref, unary_ref_mut, unary_postfix, binary_unary, binary_tighter, binary_operator, expression_binary, expression_assign}
+use Rattle.rap_events.specs.Composite.{parts, width, width_of}
+use Rattle.rap_events.specs.Forest.{Forest, none, node, leaf, mark, ◌⧺◌, marks, used}
+use Rattle.rap_grammar.specs.Derives.{Touching, tokens_of, Writes, Derives, Category, Expression, reference, segment, path_one, path_more, atom_literal, atom_path, atom_paren, postfix_atom, postfix_call, postfix_index, postfix_try, postfix_field, postfix_number, postfix_method, arguments_none, arguments_some, element_last, element_comma, element_more, unary_prefix, unary_ref, unary_ref_mut, unary_postfix, binary_unary, binary_tighter, binary_operator, expression_binary, expression_assign}
 use Rattle.rap_grammar.specs.Script.{Script, Spot, Outcome, nothing, something, block, again, goes_on, Runs, gives, looks, passes, fails, takes, takes_any, bears, reports, skips, starts, precedes, finishes, extends, abandons, follows, obeys, turns, stops}
 use Rattle.rap_grammar.proofs.Complete.{expression_whole}
 
@@ -100,3 +100,53 @@ unmarked (expression_assign {op = op} {t = t} {u = u} d o e) = over (joined (lea
 -- the same tokens have at most one tree
 pub at_most_one : {ks : List Record} {t u : Forest} → Derives Expression ks t → Derives Expression ks u → t ≡ u
 at_most_one d e = let s = one_end (expression_whole d []) (expression_whole e []) in ap (λ (p : Spot). p.forest) s.spot
+
+used-⧺ : (f g : Forest) → used (f ⧺ g) ≡ used f + used g
+used-⧺ f none = omega arith
+used-⧺ f (node b k c) = omega (arith, used-⧺ f b)
+used-⧺ f (leaf b k w) = omega (arith, used-⧺ f b)
+used-⧺ f (mark b m) = used-⧺ f b
+
+length-touching : (k : ℕ) (ks : List ℕ) (os : List Record) → Touching (k ∷ ks) os → length os ≡ length (k ∷ ks)
+length-touching k ks [] h = absurd h
+length-touching k [] (r ∷ []) h = refl
+length-touching k [] (r ∷ s ∷ os) h = absurd h
+length-touching k (j ∷ ks) (r ∷ os) h = omega (arith, length-touching j ks os h.2)
+
+length-parts : (ps : List ℕ) (kind : ℕ) (os : List Record) → Touching (tokens_of ps kind) os → length os ≡ width_of ps
+length-parts [] kind os h = length-touching kind [] os h
+length-parts (k ∷ ks) kind os h = length-touching k ks os h
+
+length-written : {os : List Record} {kind : ℕ} → Writes os kind → length os ≡ width kind
+length-written {os = os} {kind = kind} w = length-parts (parts kind) kind os w.touching
+
+-- what is derived stands for its tokens
+pub used-derived : {c : Category} {ks : List Record} {t : Forest} → Derives c ks t → used t ≡ length ks
+used-derived (reference n) = refl
+used-derived (segment d) = omega (arith, used-derived d)
+used-derived (path_one d) = omega (arith, used-derived d)
+used-derived (path_more {ks = ks} {os = os} {js = js} {t = t} {u = u} d w e) = simp (used-⧺, length-append) (omega (arith, used-derived d, used-derived e, length-written w))
+used-derived (atom_literal h) = refl
+used-derived (atom_path d) = omega (arith, used-derived d)
+used-derived (atom_paren o d c) = simp (used-⧺, length-append) (omega (arith, used-derived d))
+used-derived (postfix_atom d) = used-derived d
+used-derived (postfix_call d n e) = simp (used-⧺, length-append) (omega (arith, used-derived d, used-derived e))
+used-derived (postfix_index d o e c) = simp (used-⧺, length-append) (omega (arith, used-derived d, used-derived e))
+used-derived (postfix_try d o) = simp length-append (omega (arith, used-derived d))
+used-derived (postfix_field d o e) = simp (used-⧺, length-append) (omega (arith, used-derived d, used-derived e))
+used-derived (postfix_number d o e) = simp length-append (omega (arith, used-derived d))
+used-derived (postfix_method d o e g) = simp (used-⧺, length-append) (omega (arith, used-derived d, used-derived e, used-derived g))
+used-derived (arguments_none o c) = refl
+used-derived (arguments_some o d c) = simp (used-⧺, length-append) (omega (arith, used-derived d))
+used-derived (element_last d) = used-derived d
+used-derived (element_comma d o) = simp length-append (omega (arith, used-derived d))
+used-derived (element_more d o e) = simp (used-⧺, length-append) (omega (arith, used-derived d, used-derived e))
+used-derived (unary_prefix h d) = simp used-⧺ (omega (arith, used-derived d))
+used-derived (unary_ref o d) = simp used-⧺ (omega (arith, used-derived d))
+used-derived (unary_ref_mut o m d) = simp used-⧺ (omega (arith, used-derived d))
+used-derived (unary_postfix d) = used-derived d
+used-derived (binary_unary d) = used-derived d
+used-derived (binary_tighter h i d) = used-derived d
+used-derived (binary_operator h i d o e) = simp (used-⧺, length-append) (omega (arith, used-derived d, used-derived e, length-written o.writes))
+used-derived (expression_binary d) = used-derived d
+used-derived (expression_assign d o e) = simp (used-⧺, length-append) (omega (arith, used-derived d, used-derived e, length-written o.writes))
