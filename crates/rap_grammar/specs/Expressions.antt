@@ -2,7 +2,7 @@
 use Rattle.std.specs.Prelude.{ℕ, ◌+◌, Bool, true, false, ◌==◌, ◌&&◌, ◌||◌, not, nat_lt, if◌then◌else◌, List, [], ◌∷◌, Option, Some, None, drop, codes}
 use Rattle.rap_base.specs.TokenKind.{COMMA, L_PAREN, R_PAREN, L_BRACK, R_BRACK, L_CURLY, IDENT, AMP, STAR, BANG, MINUS, DOT, DOT2, DOT2EQ, COLON2, QUESTION, MUT_KW, CONST_KW, RAW_KW, AWAIT_KW, AS_KW}
 use Rattle.rap_base.specs.NodeKind.{BIN_EXPR, REF_EXPR, PREFIX_EXPR, RANGE_EXPR, CALL_EXPR, INDEX_EXPR, METHOD_CALL_EXPR, FIELD_EXPR, AWAIT_EXPR, TRY_EXPR, ARG_LIST}
-use Rattle.rap_events.specs.Record.{Record, next_kind, kind_at, contextual_at}
+use Rattle.rap_events.specs.Record.{Record, next_kind, kind_at}
 use Rattle.rap_events.specs.Composite.{is_at}
 use Rattle.rap_events.specs.Power.{power}
 use Rattle.rap_events.specs.declared.parser.CompletedMarker.{CompletedMarker}
@@ -13,7 +13,7 @@ use Rattle.rap_grammar.specs.Operator.{operator_at}
 use Rattle.rap_grammar.specs.Phrase.{Phrase, expression}
 use Rattle.rap_grammar.specs.Recovery.{is_expr_recovery}
 use Rattle.rap_grammar.specs.Script.{Script, Outcome, nothing, something, block, give, look, test, token, any, bear, report, start, precede, finish, extend, abandon, after, rule, loop, again}
-use Rattle.rap_grammar.specs.Words.{done, if_some, next_is, eat, expect, recover}
+use Rattle.rap_grammar.specs.Words.{done, if_some, next_is, reads_as, eat, expect, recover}
 use Rattle.rap_grammar.specs.declared.grammar.BlockLike.{BlockLike}
 use Rattle.rap_grammar.specs.declared.grammar.BlockLike.TheVariants as like
 use Rattle.rap_grammar.specs.declared.grammar.expressions.Restrictions.{Restrictions}
@@ -75,7 +75,7 @@ climb r bp = loop (climb_turn r bp) false false
 -- what stands between the `&` of a reference and its operand
 unfoldable pub ref_qualifier : Script Phrase
 ref_qualifier =
-    test (λ rs. (contextual_at rs 0 == RAW_KW) && one_of (MUT_KW ∷ CONST_KW ∷ IDENT ∷ []) (kind_at rs 1))
+    test (λ rs. reads_as RAW_KW rs && one_of (MUT_KW ∷ CONST_KW ∷ IDENT ∷ []) (kind_at rs 1))
     (bear RAW_KW (test (is_at CONST_KW) (token CONST_KW done) (eat MUT_KW done)))
     (eat MUT_KW done)
 

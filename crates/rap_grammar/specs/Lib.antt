@@ -1,5 +1,6 @@
 pub mod Atom
 pub mod Climb
+pub mod Derives
 pub mod Expressions
 pub mod First
 pub mod Grammar

@@ -1,8 +1,9 @@
 -- What scripts say often.
-use Rattle.std.specs.Prelude.{◌≡◌, ℕ, Bool, true, false, ◌==◌, ◌||◌, List, Option, Some, None, codes}
-use Rattle.rap_base.specs.TokenKind.{EOF, L_CURLY, R_CURLY}
+use Rattle.std.specs.Prelude.{ℕ, Bool, true, false, ◌==◌, ◌&&◌, ◌||◌, List, Option, Some, None}
+use Rattle.rap_base.specs.TokenKind.{L_CURLY, R_CURLY}
 use Rattle.rap_events.specs.Record.{Record, next_kind, contextual_at}
 use Rattle.rap_events.specs.Composite.{is_at}
+use Rattle.rap_events.specs.Cover.{first_may_bear}
 use Rattle.rap_events.specs.State.{expected}
 use Rattle.rap_grammar.specs.Script.{Script, Outcome, nothing, something, block, again, give, test, token, report, skip}
 
@@ -20,6 +21,10 @@ if_some (again a b) s t = s
 -- whether the next token is of this kind
 abbrev pub next_is : ℕ → List Record → Bool
 next_is kind rs = next_kind rs == kind
+
+-- whether the next token is an identifier that is read as this keyword
+abbrev pub reads_as : ℕ → List Record → Bool
+reads_as kind rs = first_may_bear rs kind && (contextual_at rs 0 == kind)
 
 -- a token of this kind if one comes next, and on
 abbrev pub eat : {P : Type 0} → ℕ → Script P → Script P

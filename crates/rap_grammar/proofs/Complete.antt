@@ -1,0 +1,367 @@
+-- What the core grammar derives is what the scripts make, from the left.
+use Rattle.std.proofs.Common.{rules, ◌≡◌, ◌≢◌, inl, inr, ℕ, suc, ◌<◌, ◌≤◌, List, [], ◌∷◌, ◌++◌, Bool, true, false, not, refl, ap, sym, ◌∙◌, arith, ◌==◌, ◌&&◌, nat_lt, if◌then◌else◌, append_assoc, append-nil}
+use Rattle.std.proofs.lemmas.Bool.{eqb-true, ne_eqb}
+use Rattle.std.proofs.lemmas.Bool.Decides.{nat_tests}
+use Rattle.rap_base.specs.TokenKind.{EOF, SEMICOLON, IDENT, AMP, STAR, BANG, MINUS, DOT, COLON, COLON2, COMMA, QUESTION, L_PAREN, R_PAREN, L_BRACK, R_BRACK, L_CURLY, R_CURLY, PIPE, R_ANGLE, EQ, L_ANGLE, PLUS, CARET, PERCENT, SLASH, MUT_KW, RAW_KW, AS_KW}
+use Rattle.rap_base.specs.NodeKind.{BIN_EXPR, NAME_REF}
+use Rattle.rap_events.specs.Record.{Record, next_kind}
+use Rattle.rap_events.specs.Composite.{width, is_at}
+use Rattle.rap_events.specs.Forest.{Forest, none, node, leaf, mark, ◌⧺◌}
+use Rattle.rap_events.specs.Power.{power, power_in, powers}
+use Rattle.rap_grammar.specs.Atom.{unrestricted, expr, atom_expr}
+use Rattle.rap_grammar.specs.Derives.{IsName, Is, IsOneOf, IsLiteral, Category, Expression, Binary, Unary, Postfix, Arguments, Elements, Atom, Path, Segment, Reference, IsNamedField, Derives, EndsExpression, reference, segment, path_one, path_more, atom_literal, atom_path, atom_paren, postfix_atom, postfix_call, postfix_index, postfix_try, postfix_field, postfix_number, postfix_method, arguments_none, arguments_some, element_last, element_comma, element_more, unary_prefix, unary_ref, unary_ref_mut, unary_postfix, binary_unary, binary_tighter, binary_operator, expression_binary, expression_assign}
+use Rattle.rap_grammar.specs.Expressions.{operand_of, right_of, climb, arg_list, postfix_expr, lhs, expr_from}
+use Rattle.rap_grammar.specs.First.{is_operand, is_atom, is_literal_first, one_of}
+use Rattle.rap_grammar.specs.Operator.{operator_at}
+use Rattle.rap_grammar.specs.Paths.{path_segment, path_for_qualifier, path}
+use Rattle.rap_grammar.specs.Words.{reads_as}
+use Rattle.rap_grammar.specs.declared.grammar.expressions.Restrictions.{Restrictions}
+use Rattle.rap_grammar.proofs.Operators.{differ, differ_back, is_calm, Calm, operator_seen, written_first, written_past}
+use Rattle.rap_grammar.proofs.Ways.{Leads, LeadsOut, Single, none-⧺, segment_way, path_end, path_goes_on, path_way, literal_way, path_expr_way, paren_way, expr_way, from_way, climb_end, climb_on, operand_way, prefix_way, ref_way, ref_mut_way, postfix_end, call_way, index_way, try_way, name_field_way, number_field_way, method_way, arguments, arg_list_way, arguments_end, arguments_on, arguments_last}
+
+-- what a category begins with
+abbrev Begins : Category → ℕ → Bool
+Begins Reference k = k == IDENT
+Begins Segment k = k == IDENT
+Begins Path k = k == IDENT
+Begins Atom k = is_atom k
+Begins Postfix k = is_atom k
+Begins Arguments k = k == L_PAREN
+Begins Elements k = is_operand k
+Begins Unary k = is_operand k
+Begins (Binary p) k = is_operand k
+Begins Expression k = is_operand k
+
+-- the first token: no `raw`, whatever follows it
+record First (c : Category) (ks : List Record) : Type 0 where
+  r : Record
+  rs : List Record
+  is : ks ≡ r ∷ rs
+  kind : Begins c r.kind ≡ true
+  plain : reads_as RAW_KW (r ∷ []) ≡ false
+
+plain_kind : (r : Record) (test : ℕ → Bool) → test r.kind ≡ true → test RAW_KW ≡ false → test IDENT ≡ false → reads_as RAW_KW (r ∷ []) ≡ false
+plain_kind r test h a b = rw (differ test r.kind RAW_KW h a, differ test r.kind IDENT h b) refl
+
+name_first : {c : Category} (r : Record) (rs : List Record) → IsName r → Begins c IDENT ≡ true → First c (r ∷ rs)
+name_first r rs n h = record { r = r; rs = rs; is = refl; kind = rw n.kind h; plain = rw (n.kind, n.contextual) refl }
+
+kind_first : {c : Category} (r : Record) (rs : List Record) (k : ℕ) → Is r k → Begins c k ≡ true → (k == RAW_KW) ≡ false → (k == IDENT) ≡ false → First c (r ∷ rs)
+kind_first r rs k e h a b = record { r = r; rs = rs; is = refl; kind = rw e.kind_is h; plain = rw (e.kind_is, a, b) refl }
+
+test_first : {c : Category} (r : Record) (rs : List Record) (test : ℕ → Bool) → test r.kind ≡ true → Begins c r.kind ≡ true → test RAW_KW ≡ false → test IDENT ≡ false → First c (r ∷ rs)
+test_first r rs test e h a b = record { r = r; rs = rs; is = refl; kind = h; plain = plain_kind r test e a b }
+
+-- a category that begins with another one
+also : {c d : Category} {ks : List Record} (js : List Record) (f : First c ks) → Begins d f.r.kind ≡ true → First d (ks ++ js)
+also js f h = record { r = f.r; rs = f.rs ++ js; is = ap (λ (x : List Record). x ++ js) f.is; kind = h; plain = f.plain }
+
+alone : {c d : Category} {ks : List Record} (f : First c ks) → Begins d f.r.kind ≡ true → First d ks
+alone f h = record { r = f.r; rs = f.rs; is = f.is; kind = h; plain = f.plain }
+
+name_atom : (k : ℕ) → (k == IDENT) ≡ true → is_atom k ≡ true
+name_atom k h = rw (eqb-true k IDENT h) refl
+
+atom_operand : (k : ℕ) → is_atom k ≡ true → is_operand k ≡ true
+atom_operand k h = rw h refl
+
+literal_kind : (r : Record) → IsLiteral r → is_literal_first r.kind ≡ true
+literal_kind r (inl h) = search rules
+literal_kind r (inr h) = let e = h.among in search rules
+
+literal_atom : (k : ℕ) → is_literal_first k ≡ true → is_atom k ≡ true
+literal_atom k h = rw h refl
+
+abbrev is_prefix : ℕ → Bool
+is_prefix k = one_of (STAR ∷ BANG ∷ MINUS ∷ []) k
+
+prefix_kind : (r : Record) → IsOneOf r (MINUS ∷ BANG ∷ STAR ∷ []) → is_prefix r.kind ≡ true
+prefix_kind r h = let e = h.among in search rules
+
+prefix_operand : (k : ℕ) → is_prefix k ≡ true → is_operand k ≡ true
+prefix_operand k h = search rules
+
+first : {c : Category} {ks : List Record} {t : Forest} → Derives c ks t → First c ks
+first (reference {r = r} n) = name_first r [] n refl
+first (segment d) = let f = first d in alone f f.kind
+first (path_one d) = let f = first d in alone f f.kind
+first (path_more {os = os} {js = js} d w e) = let f = first d in also (os ++ js) f f.kind
+first (atom_literal {r = r} h) = let k = literal_kind r h in test_first r [] is_literal_first k (literal_atom r.kind k) refl refl
+first (atom_path d) = let f = first d in alone f (name_atom f.r.kind f.kind)
+first (atom_paren {a = a} {b = b} {ks = ks} o d c) = kind_first a (ks ++ b ∷ []) L_PAREN o refl refl refl
+first (postfix_atom d) = let f = first d in alone f f.kind
+first (postfix_call {js = js} d n e) = let f = first d in also js f f.kind
+first (postfix_index {a = a} {b = b} {js = js} d o e c) = let f = first d in also (a ∷ (js ++ b ∷ [])) f f.kind
+first (postfix_try {a = a} d o) = let f = first d in also (a ∷ []) f f.kind
+first (postfix_field {a = a} {js = js} d o e) = let f = first d in also (a ∷ js) f f.kind
+first (postfix_number {a = a} {b = b} d o e) = let f = first d in also (a ∷ b ∷ []) f f.kind
+first (postfix_method {a = a} {js = js} {is = is} d o e g) = let f = first d in also (a ∷ (js ++ is)) f f.kind
+first (arguments_none {a = a} {b = b} o c) = kind_first a (b ∷ []) L_PAREN o refl refl refl
+first (arguments_some {a = a} {b = b} {ks = ks} o d c) = kind_first a (ks ++ b ∷ []) L_PAREN o refl refl refl
+first (element_last d) = let f = first d in alone f f.kind
+first (element_comma {a = a} d o) = let f = first d in also (a ∷ []) f f.kind
+first (element_more {a = a} {js = js} d o e) = let f = first d in also (a ∷ js) f f.kind
+first (unary_prefix {a = a} {ks = ks} h d) = let k = prefix_kind a h in test_first a ks is_prefix k (prefix_operand a.kind k) refl refl
+first (unary_ref {a = a} {ks = ks} o d) = kind_first a ks AMP o refl refl refl
+first (unary_ref_mut {a = a} {b = b} {ks = ks} o m d) = kind_first a (b ∷ ks) AMP o refl refl refl
+first (unary_postfix d) = let f = first d in alone f (atom_operand f.r.kind f.kind)
+first (binary_unary d) = let f = first d in alone f f.kind
+first (binary_tighter h i d) = let f = first d in alone f f.kind
+first (binary_operator {os = os} {js = js} h i d o e) = let f = first d in also (os ++ js) f f.kind
+first (expression_binary d) = let f = first d in alone f f.kind
+first (expression_assign {os = os} {js = js} d o e) = let f = first d in also (os ++ js) f f.kind
+
+next_is : {c : Category} {ks : List Record} (l : List Record) (f : First c ks) → next_kind (ks ++ l) ≡ f.r.kind
+next_is l f = rw f.is refl
+
+next_same : {c : Category} {ks : List Record} (l : List Record) → First c ks → next_kind (ks ++ l) ≡ next_kind ks
+next_same l f = next_is l f ∙ rw f.is refl
+
+next_begins : {c : Category} {ks : List Record} (l : List Record) → First c ks → Begins c (next_kind (ks ++ l)) ≡ true
+next_begins l f = rw (next_is l f) f.kind
+
+next_plain : {c : Category} {ks : List Record} (l : List Record) → First c ks → reads_as RAW_KW (ks ++ l) ≡ false
+next_plain l f = rw f.is f.plain
+
+is_node : (k : ℕ) (x : Forest) → Single (node none k x)
+is_node k x = record { kind = k; children = x; is = refl }
+
+abbrev SingleIn : Category → Forest → Type 0
+SingleIn Elements t = Unit {0}
+SingleIn Expression t = Single t
+SingleIn (Binary p) t = Single t
+SingleIn Unary t = Single t
+SingleIn Postfix t = Single t
+SingleIn Arguments t = Single t
+SingleIn Atom t = Single t
+SingleIn Path t = Single t
+SingleIn Segment t = Single t
+SingleIn Reference t = Single t
+
+-- all but the elements of a list are one node
+single : {c : Category} {ks : List Record} {t : Forest} → Derives c ks t → SingleIn c t
+single (reference n) = is_node _ _
+single (segment d) = is_node _ _
+single (path_one d) = is_node _ _
+single (path_more d w e) = is_node _ _
+single (atom_literal h) = is_node _ _
+single (atom_path d) = is_node _ _
+single (atom_paren o d c) = is_node _ _
+single (postfix_atom d) = single d
+single (postfix_call d n e) = is_node _ _
+single (postfix_index d o e c) = is_node _ _
+single (postfix_try d o) = is_node _ _
+single (postfix_field d o e) = is_node _ _
+single (postfix_number d o e) = is_node _ _
+single (postfix_method d o e g) = is_node _ _
+single (arguments_none o c) = is_node _ _
+single (arguments_some o d c) = is_node _ _
+single (element_last d) = tt
+single (element_comma d o) = tt
+single (element_more d o e) = tt
+single (unary_prefix h d) = is_node _ _
+single (unary_ref o d) = is_node _ _
+single (unary_ref_mut o m d) = is_node _ _
+single (unary_postfix d) = single d
+single (binary_unary d) = single d
+single (binary_tighter h i d) = single d
+single (binary_operator h i d o e) = is_node _ _
+single (expression_binary d) = single d
+single (expression_assign d o e) = is_node _ _
+
+-- no power is above 12
+abbrev none_above : ℕ → List (ℕ × ℕ) → Bool
+none_above n [] = true
+none_above n (row ∷ rows) = not (nat_lt n row.1) && none_above n rows
+
+either_small : (b : Bool) (i j n : ℕ) → i ≤ n → j ≤ n → (if b then i else j) ≤ n
+either_small true i j n h k = h
+either_small false i j n h k = k
+
+not_above : (n p : ℕ) (b : Bool) → not (nat_lt n p) && b ≡ true → (p ≤ n) × (b ≡ true)
+not_above n p b h = grind (arith, nat_tests)
+
+power_in-le : (n : ℕ) (rows : List (ℕ × ℕ)) (k : ℕ) → none_above n rows ≡ true → power_in rows k ≤ n
+power_in-le n [] k h = omega arith
+power_in-le n (row ∷ rows) k h = let i = not_above n row.1 (none_above n rows) h in either_small (row.0 == k) row.1 (power_in rows k) n i.0 (power_in-le n rows k i.1)
+
+power-le : (k : ℕ) → power k ≤ 12
+power-le k = power_in-le 12 powers k refl
+
+-- What goes on with no expression: nothing that follows an operand directly, and no operator.
+pub record Quiet (rs : List Record) : Type 0 where
+  pub calm : Calm rs
+  pub power_is : power (operator_at rs) < 1
+
+abbrev pub ends_quietly : ℕ → Bool
+ends_quietly k = one_of (EOF ∷ SEMICOLON ∷ COMMA ∷ R_PAREN ∷ R_BRACK ∷ L_CURLY ∷ R_CURLY ∷ []) k
+
+pub quiet : (rs : List Record) → ends_quietly (next_kind rs) ≡ true → Quiet rs
+unfolding operator_at
+quiet rs h =
+    let k = next_kind rs in
+    record {
+      calm = record { kind = search rules };
+      power_is =
+          rw (
+            differ_back ends_quietly k PIPE h refl,
+            differ_back ends_quietly k R_ANGLE h refl,
+            differ_back ends_quietly k EQ h refl,
+            differ_back ends_quietly k L_ANGLE h refl,
+            differ_back ends_quietly k PLUS h refl,
+            differ_back ends_quietly k CARET h refl,
+            differ_back ends_quietly k PERCENT h refl,
+            differ_back ends_quietly k AMP h refl,
+            differ_back ends_quietly k SLASH h refl,
+            differ_back ends_quietly k STAR h refl,
+            differ_back ends_quietly k DOT h refl,
+            differ_back ends_quietly k BANG h refl,
+            differ_back ends_quietly k MINUS h refl,
+            differ_back ends_quietly k AS_KW h refl,
+          ) (omega arith);
+    }
+
+quiet_is : (r : Record) (l : List Record) (k : ℕ) → Is r k → ends_quietly k ≡ true → Quiet (r ∷ l)
+quiet_is r l k e h = quiet (r ∷ l) (rw e.kind_is h)
+
+not_paren : (l : List Record) → Calm l → next_kind l ≢ L_PAREN
+not_paren l c e = let h : is_calm L_PAREN ≡ true = rw e at c.kind in absurd cc
+
+no_colon : (rs : List Record) → (next_kind rs == COLON) ≡ false → is_at COLON2 rs ≡ false
+no_colon [] h = refl
+no_colon (r ∷ rs) h = rw h refl
+
+calm_colon : (rs : List Record) → Calm rs → is_at COLON2 rs ≡ false
+calm_colon rs c = no_colon rs (differ is_calm (next_kind rs) COLON c.kind refl)
+
+not_end : (test : ℕ → Bool) (k : ℕ) → test k ≡ true → test EOF ≡ false → k ≢ EOF
+not_end test k h i e = let x : true ≡ false = sym h ∙ ap test e ∙ i in cc
+
+right_tighter : (op p : ℕ) → power op ≡ p → p ≢ 1 → right_of op ≡ suc p
+right_tighter op p e n = rw (e, ne_eqb p 1 n) (omega arith)
+
+no_cast : (op p : ℕ) → power op ≡ p → p < 12 → op ≢ AS_KW
+no_cast op p e h i = let x : power op ≡ power AS_KW = ap power i in omega arith
+
+-- an operand of an operator before it
+operand_alone : (r : Restrictions) {b : List Forest} {rs l : List Record} {f t : Forest} → is_operand (next_kind rs) ≡ true → Single t → Leads (lhs r) (f ∷ b) rs none l (none ⧺ t) → LeadsOut (expr_from r 255) b rs f l (f ⧺ t)
+operand_alone r {l = l} o s x = from_way r 255 o s (rw none-⧺ at x) (climb_end r (omega (arith, power-le (operator_at l))))
+
+-- What is shown of each category. Where the grammar goes to the left, any way on from the tree so far is a way on from
+-- the tokens.
+Claim : Category → List Record → Forest → Type 0
+Claim Expression ks t = (r : Restrictions) (b : List Forest) (f : Forest) (l : List Record) → Quiet l → LeadsOut (expr_from r 1) b (ks ++ l) f l (f ⧺ t)
+Claim (Binary p) ks t = (r : Restrictions) (bp : ℕ) (b : List Forest) (f : Forest) (l : List Record) (g : Forest) (m : List Record) → bp ≤ p → Calm l → power (operator_at l) ≤ p → Leads (climb r bp) b l (f ⧺ t) m g → LeadsOut (expr_from r bp) b (ks ++ l) f m g
+Claim Unary ks t = (r : Restrictions) (b : List Forest) (f : Forest) (l : List Record) → Calm l → Leads (lhs r) b (ks ++ l) f l (f ⧺ t)
+Claim Postfix ks t = (r : Restrictions) (b : List Forest) (f : Forest) (l : List Record) (g : Forest) (m : List Record) → (IsNamedField t → next_kind l ≢ L_PAREN) → is_at COLON2 l ≡ false → Leads (postfix_expr true false) b l (f ⧺ t) m g → Leads (lhs r) b (ks ++ l) f m g
+Claim Arguments ks t = (b : List Forest) (f : Forest) (l : List Record) → Leads arg_list b (ks ++ l) f l (f ⧺ t)
+Claim Elements ks t = (b : List Forest) (f : Forest) (c : Record) (l : List Record) → Is c R_PAREN → Leads arguments b (ks ++ c ∷ l) f (c ∷ l) (f ⧺ t)
+Claim Atom ks t = (b : List Forest) (f : Forest) (l : List Record) → is_at COLON2 l ≡ false → Leads atom_expr b (ks ++ l) f l (f ⧺ t)
+Claim Path ks t = (b : List Forest) (f : Forest) (l : List Record) (g : Forest) (m : List Record) → Leads path_for_qualifier b l (f ⧺ t) m g → Leads path b (ks ++ l) f m g
+Claim Segment ks t = (first : Bool) (b : List Forest) (f : Forest) (l : List Record) → Leads (path_segment first) b (ks ++ l) f l (f ⧺ t)
+Claim Reference ks t = Unit {0}
+
+⧺-assoc : (f g h : Forest) → (f ⧺ g) ⧺ h ≡ f ⧺ (g ⧺ h)
+⧺-assoc f g none = refl
+⧺-assoc f g (node b k c) = ap (λ (x : Forest). node x k c) (⧺-assoc f g b)
+⧺-assoc f g (leaf b k w) = ap (λ (x : Forest). leaf x k w) (⧺-assoc f g b)
+⧺-assoc f g (mark b m) = ap (λ (x : Forest). mark x m) (⧺-assoc f g b)
+
+three_lists : (ks os js l : List Record) → (ks ++ (os ++ js)) ++ l ≡ ks ++ (os ++ (js ++ l))
+three_lists ks os js l = simp append_assoc
+
+in_brackets : (ks js l : List Record) (a b : Record) → (ks ++ a ∷ (js ++ b ∷ [])) ++ l ≡ ks ++ a ∷ (js ++ b ∷ l)
+in_brackets ks js l a b = simp append_assoc
+
+claim : {c : Category} {ks : List Record} {t : Forest} → Derives c ks t → Claim c ks t
+unfolding Claim
+claim (reference n) = tt
+claim (segment (reference n)) = λ first b f l. segment_way first n.kind
+claim (path_one d) = λ b f l g m y. path_way (rw none-⧺ at (claim d true (f ∷ b) none l)) y
+claim (path_more {ks = ks} {os = os} {js = js} {t = t} d w e) = λ b f l g m y.
+    rw (three_lists ks os js l) (claim d b f (os ++ (js ++ l)) g m (path_goes_on (single d) (written_first (js ++ l) w) (written_past (js ++ l) w) (claim e false (f ∷ b) (leaf t COLON2 2) l) y))
+claim (atom_literal {r = r} h) = λ b f l c. let k = literal_kind r h in literal_way (not_end is_literal_first r.kind k refl) k
+claim (atom_path {ks = ks} {t = t} d) = λ b f l c.
+    let e : next_kind (ks ++ l) ≡ IDENT = eqb-true (next_kind (ks ++ l)) IDENT (next_begins l (first d)) in
+    path_expr_way e (rw none-⧺ at (claim d (f ∷ b) none l (none ⧺ t) l (path_end c)))
+claim (atom_paren {b = c} o d e) = λ b f l n.
+    rw append_assoc (paren_way o.kind_is (next_begins (c ∷ l) (first d)) (expr_way (claim d unrestricted (f ∷ b) (leaf none L_PAREN 1) (c ∷ l) (quiet_is c l R_PAREN e refl))) e.kind_is)
+claim (postfix_atom d) = λ r b f l g m h c y. operand_way r (next_begins l (first d)) (claim d b f l c) y
+claim (postfix_call {ks = ks} {js = js} {t = t} d n e) = λ r b f l g m h c y.
+    let i : next_kind (js ++ l) ≡ L_PAREN = eqb-true (next_kind (js ++ l)) L_PAREN (next_begins l (first e)) in
+    rw append_assoc (claim d r b f (js ++ l) g m (λ z. absurd (n z)) (no_colon (js ++ l) (rw i refl)) (call_way (single d) i (claim e (f ∷ b) t l) y))
+claim (postfix_index {a = a} {b = z} {ks = ks} {js = js} {t = t} d o e i) = λ r b f l g m h c y.
+    rw (in_brackets ks js l a z) (claim d r b f (a ∷ (js ++ z ∷ l)) g m (λ n. rw o.kind_is (λ k. absurd (omega arith))) (no_colon (a ∷ (js ++ z ∷ l)) (rw o.kind_is refl))
+    (index_way (single d) o.kind_is (expr_way (claim e unrestricted (f ∷ b) (leaf t L_BRACK 1) (z ∷ l) (quiet_is z l R_BRACK i refl))) i.kind_is y))
+claim (postfix_try {a = a} d o) = λ r b f l g m h c y.
+    rw append_assoc (claim d r b f (a ∷ l) g m (λ n. rw o.kind_is (λ k. absurd (omega arith))) (no_colon (a ∷ l) (rw o.kind_is refl)) (try_way (single d) o.kind_is y))
+claim (postfix_field {a = a} {t = t} d o (reference {r = z} n)) = λ r b f l g m h c y.
+    rw append_assoc (claim d r b f (a ∷ z ∷ l) g m (λ j. rw o.kind_is (λ k. absurd (omega arith))) (no_colon (a ∷ z ∷ l) (rw o.kind_is refl))
+    (name_field_way (single d) o.kind_is n.kind (h (leaf t DOT 1, refl)) c y))
+claim (postfix_number {a = a} {b = z} d o i) = λ r b f l g m h c y.
+    rw append_assoc (claim d r b f (a ∷ z ∷ l) g m (λ j. rw o.kind_is (λ k. absurd (omega arith))) (no_colon (a ∷ z ∷ l) (rw o.kind_is refl))
+    (number_field_way (single d) o.kind_is i.kind_is y))
+claim (postfix_method {a = a} {is = is} {t = t} d o (reference {r = z} n) e) = λ r b f l g m h c y.
+    let i : next_kind (is ++ l) ≡ L_PAREN = eqb-true (next_kind (is ++ l)) L_PAREN (next_begins l (first e)) in
+    rw append_assoc (claim d r b f (a ∷ z ∷ (is ++ l)) g m (λ j. rw o.kind_is (λ k. absurd (omega arith))) (no_colon (a ∷ z ∷ (is ++ l)) (rw o.kind_is refl))
+    (method_way (single d) o.kind_is n.kind i (claim e (f ∷ b) (node (leaf t DOT 1) NAME_REF (leaf none IDENT 1)) l) y))
+claim (arguments_none o c) = λ b f l. arg_list_way o.kind_is (arguments_end c.kind_is) c.kind_is
+claim (arguments_some {b = z} o d c) = λ b f l. rw append_assoc (arg_list_way o.kind_is (claim d (f ∷ b) (leaf none L_PAREN 1) z l c) c.kind_is)
+claim (element_last d) = λ b f c l i. arguments_last (next_begins (c ∷ l) (first d)) (expr_way (claim d unrestricted b f (c ∷ l) (quiet_is c l R_PAREN i refl))) i.kind_is
+claim (element_comma {a = a} d o) = λ b f c l i.
+    rw append_assoc (arguments_on (next_begins (a ∷ c ∷ l) (first d)) (expr_way (claim d unrestricted b f (a ∷ c ∷ l) (quiet_is a (c ∷ l) COMMA o refl))) o.kind_is (arguments_end i.kind_is))
+claim (element_more {a = a} {js = js} {t = t} {u = u} d o e) = λ b f c l i.
+    let n = js ++ c ∷ l in
+    rw (append_assoc, ← (⧺-assoc f (leaf t COMMA 1) u)) (arguments_on (next_begins (a ∷ n) (first d)) (expr_way (claim d unrestricted b f (a ∷ n) (quiet_is a n COMMA o refl))) o.kind_is (claim e b (leaf (f ⧺ t) COMMA 1) c l i))
+claim (unary_prefix {a = a} d e) = λ r b f l c.
+    let k = prefix_kind a d in
+    prefix_way r k (differ is_prefix a.kind AMP k refl) (not_end is_prefix a.kind k refl) (operand_alone r (next_begins l (first e)) (single e) (claim e r (leaf none a.kind 1 ∷ f ∷ b) none l c))
+claim (unary_ref {ks = ks} o d) = λ r b f l c.
+    let k = next_begins l (first d) in
+    ref_way r o.kind_is (next_plain l (first d)) (differ is_operand (next_kind (ks ++ l)) MUT_KW k refl) (operand_alone r k (single d) (claim d r (leaf none AMP 1 ∷ f ∷ b) none l c))
+claim (unary_ref_mut {b = z} o n d) = λ r b f l c.
+    ref_mut_way r o.kind_is (rw n.kind_is refl) n.kind_is (operand_alone r (next_begins l (first d)) (single d) (claim d r (leaf (leaf none AMP 1) MUT_KW 1 ∷ f ∷ b) none l c))
+claim (unary_postfix {t = t} d) = λ r b f l c.
+    let k = next_kind l in
+    let e = c.kind in
+    claim d r b f l (f ⧺ t) l (λ n. not_paren l c) (calm_colon l c)
+    (postfix_end (differ is_calm k L_PAREN e refl) (differ is_calm k L_BRACK e refl) (differ is_calm k DOT e refl) (differ is_calm k QUESTION e refl))
+claim (binary_unary d) = λ r bp b f l g m h c p y. from_way r bp (next_begins l (first d)) (single d) (rw none-⧺ at (claim d r (f ∷ b) none l c)) y
+claim (binary_tighter lo hi d) = λ r bp b f l g m h c p y. claim d r bp b f l g m (omega arith) c (omega arith) y
+claim (binary_operator {p = p} {op = op} {ks = ks} {os = os} {js = js} {t = t} {u = u} lo hi d o e) = λ r bp b f l g m h c k y.
+    let n = first e in
+    let q = operator_seen (js ++ l) (next_same l n) (next_begins l n) (omega arith) (λ z. omega arith) (omega arith) o in
+    let i = q.power_is in
+    let x : LeadsOut (expr_from (operand_of r) (right_of op)) (f ∷ b) (js ++ l) (leaf t op (width op)) l (leaf t op (width op) ⧺ u) =
+    rw (right_tighter op p i (λ z. omega arith)) (claim e (operand_of r) (suc p) (f ∷ b) (leaf t op (width op)) l (leaf t op (width op) ⧺ u) l (omega arith) c (omega arith) (climb_end (operand_of r) (omega arith))) in
+    rw (three_lists ks os js l) (claim d r bp b f (os ++ (js ++ l)) g m h q.calm (omega (arith, ap power q.is))
+    (climb_on r (single d) q.is (omega arith) (λ z. omega arith) (no_cast op p i (omega arith)) q.first q.past x y))
+claim (expression_binary {t = t} d) = λ r b f l q. claim d r 1 b f l (f ⧺ t) l (omega arith) q.calm (omega (arith, q.power_is)) (climb_end r q.power_is)
+claim (expression_assign {op = op} {ks = ks} {os = os} {js = js} {t = t} {u = u} d o e) = λ r b f l c.
+    let n = first e in
+    let q = operator_seen (js ++ l) (next_same l n) (next_begins l n) (omega arith) (λ z. omega arith) (omega arith) o in
+    let i = q.power_is in
+    let x : LeadsOut (expr_from (operand_of r) (right_of op)) (f ∷ b) (js ++ l) (leaf t op (width op)) l (leaf t op (width op) ⧺ u) = rw i (claim e (operand_of r) (f ∷ b) (leaf t op (width op)) l c) in
+    rw (three_lists ks os js l) (claim d r 1 b f (os ++ (js ++ l)) (f ⧺ node none BIN_EXPR (leaf t op (width op) ⧺ u)) l (omega arith) q.calm (omega (arith, ap power q.is))
+    (climb_on r (single d) q.is (omega arith) (λ z. omega arith) (no_cast op 1 i (omega arith)) q.first q.past x (climb_end r c.power_is)))
+
+-- an expression from the newest open node on, before what goes on with none
+pub expression_from : (r : Restrictions) {ks : List Record} {t : Forest} → Derives Expression ks t → (b : List Forest) (f : Forest) (l : List Record) → Quiet l → LeadsOut (expr_from r 1) b (ks ++ l) f l (f ⧺ t)
+unfolding Claim
+expression_from r d b f l q = claim d r b f l q
+
+-- an expression before what goes on with none
+pub expression_before : {ks : List Record} {t : Forest} → Derives Expression ks t → (b : List Forest) (f : Forest) (l : List Record) → Quiet l → Leads expr b (ks ++ l) f l (f ⧺ t)
+expression_before d b f l q = expr_way (expression_from unrestricted d b f l q)
+
+-- an expression before what can follow one that is read alone
+pub expression_front : {ks : List Record} {t : Forest} → Derives Expression ks t → (b : List Forest) (f : Forest) (l : List Record) → EndsExpression l → Leads expr b (ks ++ l) f l (f ⧺ t)
+expression_front d b f l e = let n = e.next in expression_before d b f l (quiet l (search rules))
+
+-- an expression that is all there is
+pub expression_whole : {ks : List Record} {t : Forest} → Derives Expression ks t → (b : List Forest) → Leads expr b ks none [] t
+expression_whole d b = rw (append-nil, none-⧺) at (expression_before d b none [] (quiet [] refl))
+
+-- an expression is one node
+pub expression_single : {ks : List Record} {t : Forest} → Derives Expression ks t → Single t
+expression_single d = single d

@@ -1,0 +1,152 @@
+-- From one spot a script leads to one spot with one outcome; so the same tokens have at most one tree.
+use Rattle.std.proofs.Common.{◌≡◌, ◌+◌, ℕ, List, [], ◌∷◌, length, length-append, Bool, true, false, refl, ap, sym, ◌∙◌, arith}
+use Rattle.rap_base.specs.TokenKind.{AMP, COLON2, COMMA, DOT, L_PAREN, L_BRACK, MUT_KW}
+use Rattle.rap_events.specs.Record.{Record}
+use Rattle.rap_events.specs.Composite.{parts, width, width_of}
+use Rattle.rap_events.specs.Forest.{Forest, none, node, leaf, mark, ◌⧺◌, marks, used}
+use Rattle.rap_grammar.specs.Derives.{Touching, tokens_of, Writes, Derives, Category, Expression, reference, segment, path_one, path_more, atom_literal, atom_path, atom_paren, postfix_atom, postfix_call, postfix_index, postfix_try, postfix_field, postfix_number, postfix_method, arguments_none, arguments_some, element_last, element_comma, element_more, unary_prefix, unary_ref, unary_ref_mut, unary_postfix, binary_unary, binary_tighter, binary_operator, expression_binary, expression_assign}
+use Rattle.rap_grammar.specs.Script.{Script, Spot, Outcome, nothing, something, block, again, goes_on, Runs, gives, looks, passes, fails, takes, takes_any, bears, reports, skips, starts, precedes, finishes, extends, abandons, follows, obeys, turns, stops}
+use Rattle.rap_grammar.proofs.Complete.{expression_whole}
+
+-- the same end
+pub record Same (p q : Spot) (v w : Outcome) : Type 0 where
+  pub spot : p ≡ q
+  pub outcome : v ≡ w
+
+clash : {b : Bool} → b ≡ true → b ≡ false → ⊥
+clash h i = let x : true ≡ false = sym h ∙ i in cc
+
+-- the flags of a turn
+abbrev one_flag : Outcome → Bool
+one_flag nothing = false
+one_flag something = false
+one_flag block = false
+one_flag (again a b) = a
+
+abbrev other_flag : Outcome → Bool
+other_flag nothing = false
+other_flag something = false
+other_flag block = false
+other_flag (again a b) = b
+
+pub one_end : {P : Type 0} {script_of : P → Script P} {s : Script P} {p q r : Spot} {v w : Outcome} → Runs script_of s p q v → Runs script_of s p r w → Same q r v w
+one_end gives gives = record { spot = refl; outcome = refl }
+one_end (looks x) (looks y) = one_end x y
+one_end (passes e x) (passes f y) = one_end x y
+one_end (passes e x) (fails f y) = absurd (clash e f)
+one_end (fails e x) (passes f y) = absurd (clash f e)
+one_end (fails e x) (fails f y) = one_end x y
+one_end (takes e x) (takes f y) = one_end x y
+one_end (takes_any e x) (takes_any f y) = one_end x y
+one_end (bears e x) (bears f y) = one_end x y
+one_end (reports x) (reports y) = one_end x y
+one_end (skips x) (skips y) = one_end x y
+one_end (starts x) (starts y) = one_end x y
+one_end (precedes x) (precedes y) = one_end x y
+one_end (finishes x) (finishes y) = one_end x y
+one_end (extends x) (extends y) = one_end x y
+one_end (abandons x) (abandons y) = one_end x y
+one_end (follows x x') (follows y y') = let a = one_end x y in one_end x' (rw (a.spot, a.outcome) y')
+one_end (obeys x x') (obeys y y') = let a = one_end x y in one_end x' (rw (a.spot, a.outcome) y')
+one_end (turns x x') (turns y y') = let a = one_end x y in one_end x' (rw (a.spot, ap one_flag a.outcome, ap other_flag a.outcome) y')
+one_end (turns x x') (stops y e) = let a = one_end x y in absurd (clash refl (ap goes_on a.outcome ∙ e))
+one_end (stops x e) (turns y y') = let a = one_end x y in absurd (clash refl (ap goes_on (sym a.outcome) ∙ e))
+one_end (stops x e) (stops y f) = one_end x y
+
+marks-⧺ : (f g : Forest) → marks (f ⧺ g) ≡ marks f + marks g
+marks-⧺ f none = omega arith
+marks-⧺ f (node b k c) = omega (arith, marks-⧺ f b)
+marks-⧺ f (leaf b k w) = marks-⧺ f b
+marks-⧺ f (mark b m) = omega (arith, marks-⧺ f b)
+
+joined : (f g : Forest) → marks f ≡ 0 → marks g ≡ 0 → marks (f ⧺ g) ≡ 0
+joined f g h i = omega (arith, marks-⧺ f g)
+
+-- what a node adds
+over : {n : ℕ} → n ≡ 0 → 0 + n ≡ 0
+over h = rw h refl
+
+-- what is derived has no message
+pub unmarked : {c : Category} {ks : List Record} {t : Forest} → Derives c ks t → marks t ≡ 0
+unmarked (reference n) = refl
+unmarked (segment {t = t} d) = over (unmarked d)
+unmarked (path_one {t = t} d) = over (unmarked d)
+unmarked (path_more {t = t} {u = u} d w e) = over (joined (leaf t COLON2 2) u (unmarked d) (unmarked e))
+unmarked (atom_literal h) = refl
+unmarked (atom_path {t = t} d) = over (unmarked d)
+unmarked (atom_paren {t = t} o d c) = over (joined (leaf none L_PAREN 1) t refl (unmarked d))
+unmarked (postfix_atom d) = unmarked d
+unmarked (postfix_call {t = t} {u = u} d n e) = over (joined t u (unmarked d) (unmarked e))
+unmarked (postfix_index {t = t} {u = u} d o e c) = over (joined (leaf t L_BRACK 1) u (unmarked d) (unmarked e))
+unmarked (postfix_try {t = t} d o) = over (unmarked d)
+unmarked (postfix_field {t = t} {u = u} d o e) = over (joined (leaf t DOT 1) u (unmarked d) (unmarked e))
+unmarked (postfix_number {t = t} d o e) = omega (arith, unmarked d)
+unmarked (postfix_method {t = t} {u = u} {v = v} d o e g) = over (joined (leaf t DOT 1 ⧺ u) v (joined (leaf t DOT 1) u (unmarked d) (unmarked e)) (unmarked g))
+unmarked (arguments_none o c) = refl
+unmarked (arguments_some {t = t} o d c) = over (joined (leaf none L_PAREN 1) t refl (unmarked d))
+unmarked (element_last d) = unmarked d
+unmarked (element_comma d o) = unmarked d
+unmarked (element_more {t = t} {u = u} d o e) = joined (leaf t COMMA 1) u (unmarked d) (unmarked e)
+unmarked (unary_prefix {a = a} {t = t} h d) = over (joined (leaf none a.kind 1) t refl (unmarked d))
+unmarked (unary_ref {t = t} o d) = over (joined (leaf none AMP 1) t refl (unmarked d))
+unmarked (unary_ref_mut {t = t} o m d) = over (joined (leaf (leaf none AMP 1) MUT_KW 1) t refl (unmarked d))
+unmarked (unary_postfix d) = unmarked d
+unmarked (binary_unary d) = unmarked d
+unmarked (binary_tighter h i d) = unmarked d
+unmarked (binary_operator {op = op} {t = t} {u = u} h i d o e) = over (joined (leaf t op (width op)) u (unmarked d) (unmarked e))
+unmarked (expression_binary d) = unmarked d
+unmarked (expression_assign {op = op} {t = t} {u = u} d o e) = over (joined (leaf t op (width op)) u (unmarked d) (unmarked e))
+
+-- the same tokens have at most one tree
+pub at_most_one : {ks : List Record} {t u : Forest} → Derives Expression ks t → Derives Expression ks u → t ≡ u
+at_most_one d e = let s = one_end (expression_whole d []) (expression_whole e []) in ap (λ (p : Spot). p.forest) s.spot
+
+used-⧺ : (f g : Forest) → used (f ⧺ g) ≡ used f + used g
+used-⧺ f none = omega arith
+used-⧺ f (node b k c) = omega (arith, used-⧺ f b)
+used-⧺ f (leaf b k w) = omega (arith, used-⧺ f b)
+used-⧺ f (mark b m) = used-⧺ f b
+
+length-touching : (k : ℕ) (ks : List ℕ) (os : List Record) → Touching (k ∷ ks) os → length os ≡ length (k ∷ ks)
+length-touching k ks [] h = absurd h
+length-touching k [] (r ∷ []) h = refl
+length-touching k [] (r ∷ s ∷ os) h = absurd h
+length-touching k (j ∷ ks) (r ∷ os) h = omega (arith, length-touching j ks os h.2)
+
+length-parts : (ps : List ℕ) (kind : ℕ) (os : List Record) → Touching (tokens_of ps kind) os → length os ≡ width_of ps
+length-parts [] kind os h = length-touching kind [] os h
+length-parts (k ∷ ks) kind os h = length-touching k ks os h
+
+length-written : {os : List Record} {kind : ℕ} → Writes os kind → length os ≡ width kind
+length-written {os = os} {kind = kind} w = length-parts (parts kind) kind os w.touching
+
+-- what is derived stands for its tokens
+pub used-derived : {c : Category} {ks : List Record} {t : Forest} → Derives c ks t → used t ≡ length ks
+used-derived (reference n) = refl
+used-derived (segment d) = omega (arith, used-derived d)
+used-derived (path_one d) = omega (arith, used-derived d)
+used-derived (path_more {ks = ks} {os = os} {js = js} {t = t} {u = u} d w e) = simp (used-⧺, length-append) (omega (arith, used-derived d, used-derived e, length-written w))
+used-derived (atom_literal h) = refl
+used-derived (atom_path d) = omega (arith, used-derived d)
+used-derived (atom_paren o d c) = simp (used-⧺, length-append) (omega (arith, used-derived d))
+used-derived (postfix_atom d) = used-derived d
+used-derived (postfix_call d n e) = simp (used-⧺, length-append) (omega (arith, used-derived d, used-derived e))
+used-derived (postfix_index d o e c) = simp (used-⧺, length-append) (omega (arith, used-derived d, used-derived e))
+used-derived (postfix_try d o) = simp length-append (omega (arith, used-derived d))
+used-derived (postfix_field d o e) = simp (used-⧺, length-append) (omega (arith, used-derived d, used-derived e))
+used-derived (postfix_number d o e) = simp length-append (omega (arith, used-derived d))
+used-derived (postfix_method d o e g) = simp (used-⧺, length-append) (omega (arith, used-derived d, used-derived e, used-derived g))
+used-derived (arguments_none o c) = refl
+used-derived (arguments_some o d c) = simp (used-⧺, length-append) (omega (arith, used-derived d))
+used-derived (element_last d) = used-derived d
+used-derived (element_comma d o) = simp length-append (omega (arith, used-derived d))
+used-derived (element_more d o e) = simp (used-⧺, length-append) (omega (arith, used-derived d, used-derived e))
+used-derived (unary_prefix h d) = simp used-⧺ (omega (arith, used-derived d))
+used-derived (unary_ref o d) = simp used-⧺ (omega (arith, used-derived d))
+used-derived (unary_ref_mut o m d) = simp used-⧺ (omega (arith, used-derived d))
+used-derived (unary_postfix d) = used-derived d
+used-derived (binary_unary d) = used-derived d
+used-derived (binary_tighter h i d) = used-derived d
+used-derived (binary_operator h i d o e) = simp (used-⧺, length-append) (omega (arith, used-derived d, used-derived e, length-written o.writes))
+used-derived (expression_binary d) = used-derived d
+used-derived (expression_assign d o e) = simp (used-⧺, length-append) (omega (arith, used-derived d, used-derived e, length-written o.writes))

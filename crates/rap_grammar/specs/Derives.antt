@@ -1,0 +1,123 @@
+-- The core grammar of expressions: which tokens make which tree.
+use Rattle.std.specs.Prelude.{◌≡◌, ◌≢◌, ◌⊎◌, ℕ, suc, List, [], ◌∷◌, ◌++◌, ◌≤◌, true}
+use Rattle.rap_base.specs.TokenKind.{EOF, SEMICOLON, IDENT, AMP, STAR, BANG, MINUS, DOT, COLON2, COMMA, QUESTION, L_PAREN, R_PAREN, L_BRACK, R_BRACK, MUT_KW, INT_NUMBER, TRUE_KW, FALSE_KW}
+use Rattle.rap_base.specs.TokenTests.{is_literal}
+use Rattle.rap_base.specs.NodeKind.{BIN_EXPR, REF_EXPR, PREFIX_EXPR, LITERAL, PAREN_EXPR, PATH_EXPR, PATH, PATH_SEGMENT, NAME_REF, CALL_EXPR, INDEX_EXPR, TRY_EXPR, METHOD_CALL_EXPR, FIELD_EXPR, ARG_LIST}
+use Rattle.rap_events.specs.Record.{Record, next_kind}
+use Rattle.rap_events.specs.Composite.{parts, width}
+use Rattle.rap_events.specs.Forest.{Forest, none, node, leaf, ◌⧺◌}
+use Rattle.rap_events.specs.Power.{power}
+use Rattle.rap_grammar.specs.First.{one_of}
+
+-- an identifier that is read as nothing else
+pub record IsName (r : Record) : Type 0 where
+  pub kind : r.kind ≡ IDENT
+  pub contextual : r.contextual ≡ IDENT
+
+-- a token of this kind
+pub record Is (r : Record) (kind : ℕ) : Type 0 where
+  pub kind_is : r.kind ≡ kind
+
+-- a token of one of these kinds
+pub record IsOneOf (r : Record) (kinds : List ℕ) : Type 0 where
+  pub among : one_of kinds r.kind ≡ true
+
+-- a literal's token
+abbrev pub IsLiteral : Record → Type 0
+IsLiteral r = (is_literal r.kind ≡ true) ⊎ IsOneOf r (TRUE_KW ∷ FALSE_KW ∷ [])
+
+-- exactly tokens of these kinds, each but the last touching the one after it
+abbrev pub Touching : List ℕ → List Record → Type 0
+Touching [] rs = ⊥
+Touching (k ∷ ks) [] = ⊥
+Touching (k ∷ []) (r ∷ []) = r.kind ≡ k
+Touching (k ∷ []) (r ∷ s ∷ rs) = ⊥
+Touching (k ∷ j ∷ ks) (r ∷ rs) = (r.kind ≡ k) × (r.joint ≡ true) × Touching (j ∷ ks) rs
+
+-- the kinds of the tokens that a kind is written with: an operator's parts, or the kind itself
+abbrev pub tokens_of : List ℕ → ℕ → List ℕ
+tokens_of [] kind = kind ∷ []
+tokens_of (k ∷ ks) kind = k ∷ ks
+
+-- exactly the tokens that a kind is written with
+pub record Writes (rs : List Record) (kind : ℕ) : Type 0 where
+  pub touching : Touching (tokens_of (parts kind) kind) rs
+
+-- The tokens of an operator of this power, before those of its right operand. An `&` touches no `&` after it.
+pub record IsOperator (os : List Record) (op p : ℕ) (js : List Record) : Type 0 where
+  pub power_is : power op ≡ p
+  pub writes : Writes os op
+  pub apart : op ≡ AMP → next_kind js ≡ AMP → (r : Record) → os ≡ r ∷ [] → r.joint ≢ true
+
+-- What is derived: an expression; one of operators of at least a power, 12 being above them all; one with operators
+-- before it alone; an operand with what follows it directly; the arguments of a call in their parentheses, and without
+-- them; an operand alone; a path, one of its segments, and that segment's name.
+pub data Category : Type 0 where
+  Expression : Category
+  Binary : ℕ → Category
+  Unary : Category
+  Postfix : Category
+  Arguments : Category
+  Elements : Category
+  Atom : Category
+  Path : Category
+  Segment : Category
+  Reference : Category
+
+-- the field of a name, as `a.b`
+abbrev pub IsNamedField : Forest → Type 0
+IsNamedField t = (c : Forest) × (t ≡ node none FIELD_EXPR (node c NAME_REF (leaf none IDENT 1)))
+
+-- These tokens are in this category, with this tree. A constructor is a row of the grammar: its pieces in order, and the
+-- node over them, if there is one.
+pub data Derives : Category → List Record → Forest → Type 0 where
+  reference : {r : Record} → IsName r → Derives Reference (r ∷ []) (node none NAME_REF (leaf none IDENT 1))
+  segment : {ks : List Record} {t : Forest} → Derives Reference ks t → Derives Segment ks (node none PATH_SEGMENT t)
+  path_one : {ks : List Record} {t : Forest} → Derives Segment ks t → Derives Path ks (node none PATH t)
+  path_more : {ks os js : List Record} {t u : Forest} → Derives Path ks t → Writes os COLON2 → Derives Segment js u →
+      Derives Path (ks ++ (os ++ js)) (node none PATH (leaf t COLON2 2 ⧺ u))
+  atom_literal : {r : Record} → IsLiteral r → Derives Atom (r ∷ []) (node none LITERAL (leaf none r.kind 1))
+  atom_path : {ks : List Record} {t : Forest} → Derives Path ks t → Derives Atom ks (node none PATH_EXPR t)
+  atom_paren : {a b : Record} {ks : List Record} {t : Forest} → Is a L_PAREN → Derives Expression ks t → Is b R_PAREN →
+      Derives Atom (a ∷ (ks ++ b ∷ [])) (node none PAREN_EXPR (leaf (leaf none L_PAREN 1 ⧺ t) R_PAREN 1))
+  postfix_atom : {ks : List Record} {t : Forest} → Derives Atom ks t → Derives Postfix ks t
+  postfix_call : {ks js : List Record} {t u : Forest} → Derives Postfix ks t → ¬ IsNamedField t → Derives Arguments js u →
+      Derives Postfix (ks ++ js) (node none CALL_EXPR (t ⧺ u))
+  postfix_index : {a b : Record} {ks js : List Record} {t u : Forest} → Derives Postfix ks t → Is a L_BRACK → Derives Expression js u → Is b R_BRACK →
+      Derives Postfix (ks ++ a ∷ (js ++ b ∷ [])) (node none INDEX_EXPR (leaf (leaf t L_BRACK 1 ⧺ u) R_BRACK 1))
+  postfix_try : {a : Record} {ks : List Record} {t : Forest} → Derives Postfix ks t → Is a QUESTION →
+      Derives Postfix (ks ++ a ∷ []) (node none TRY_EXPR (leaf t QUESTION 1))
+  postfix_field : {a : Record} {ks js : List Record} {t u : Forest} → Derives Postfix ks t → Is a DOT → Derives Reference js u →
+      Derives Postfix (ks ++ a ∷ js) (node none FIELD_EXPR (leaf t DOT 1 ⧺ u))
+  postfix_number : {a b : Record} {ks : List Record} {t : Forest} → Derives Postfix ks t → Is a DOT → Is b INT_NUMBER →
+      Derives Postfix (ks ++ a ∷ b ∷ []) (node none FIELD_EXPR (node (leaf t DOT 1) NAME_REF (leaf none INT_NUMBER 1)))
+  postfix_method : {a : Record} {ks js is : List Record} {t u v : Forest} → Derives Postfix ks t → Is a DOT → Derives Reference js u → Derives Arguments is v →
+      Derives Postfix (ks ++ a ∷ (js ++ is)) (node none METHOD_CALL_EXPR (leaf t DOT 1 ⧺ u ⧺ v))
+  arguments_none : {a b : Record} → Is a L_PAREN → Is b R_PAREN →
+      Derives Arguments (a ∷ b ∷ []) (node none ARG_LIST (leaf (leaf none L_PAREN 1) R_PAREN 1))
+  arguments_some : {a b : Record} {ks : List Record} {t : Forest} → Is a L_PAREN → Derives Elements ks t → Is b R_PAREN →
+      Derives Arguments (a ∷ (ks ++ b ∷ [])) (node none ARG_LIST (leaf (leaf none L_PAREN 1 ⧺ t) R_PAREN 1))
+  element_last : {ks : List Record} {t : Forest} → Derives Expression ks t → Derives Elements ks t
+  element_comma : {a : Record} {ks : List Record} {t : Forest} → Derives Expression ks t → Is a COMMA →
+      Derives Elements (ks ++ a ∷ []) (leaf t COMMA 1)
+  element_more : {a : Record} {ks js : List Record} {t u : Forest} → Derives Expression ks t → Is a COMMA → Derives Elements js u →
+      Derives Elements (ks ++ a ∷ js) (leaf t COMMA 1 ⧺ u)
+  unary_prefix : {a : Record} {ks : List Record} {t : Forest} → IsOneOf a (MINUS ∷ BANG ∷ STAR ∷ []) → Derives Unary ks t →
+      Derives Unary (a ∷ ks) (node none PREFIX_EXPR (leaf none a.kind 1 ⧺ t))
+  unary_ref : {a : Record} {ks : List Record} {t : Forest} → Is a AMP → Derives Unary ks t →
+      Derives Unary (a ∷ ks) (node none REF_EXPR (leaf none AMP 1 ⧺ t))
+  unary_ref_mut : {a b : Record} {ks : List Record} {t : Forest} → Is a AMP → Is b MUT_KW → Derives Unary ks t →
+      Derives Unary (a ∷ b ∷ ks) (node none REF_EXPR (leaf (leaf none AMP 1) MUT_KW 1 ⧺ t))
+  unary_postfix : {ks : List Record} {t : Forest} → Derives Postfix ks t → Derives Unary ks t
+  binary_unary : {ks : List Record} {t : Forest} → Derives Unary ks t → Derives (Binary 12) ks t
+  binary_tighter : {p : ℕ} {ks : List Record} {t : Forest} → 3 ≤ p → p ≤ 11 → Derives (Binary (suc p)) ks t →
+      Derives (Binary p) ks t
+  binary_operator : {p op : ℕ} {ks os js : List Record} {t u : Forest} → 3 ≤ p → p ≤ 11 → Derives (Binary p) ks t → IsOperator os op p js → Derives (Binary (suc p)) js u →
+      Derives (Binary p) (ks ++ (os ++ js)) (node none BIN_EXPR (leaf t op (width op) ⧺ u))
+  expression_binary : {ks : List Record} {t : Forest} → Derives (Binary 3) ks t → Derives Expression ks t
+  expression_assign : {op : ℕ} {ks os js : List Record} {t u : Forest} → Derives (Binary 3) ks t → IsOperator os op 1 js → Derives Expression js u →
+      Derives Expression (ks ++ (os ++ js)) (node none BIN_EXPR (leaf t op (width op) ⧺ u))
+
+-- what can follow an expression that is read alone: the end, `;`, `,` or `)`
+pub record EndsExpression (rs : List Record) : Type 0 where
+  pub next : one_of (EOF ∷ SEMICOLON ∷ COMMA ∷ R_PAREN ∷ []) (next_kind rs) ≡ true
