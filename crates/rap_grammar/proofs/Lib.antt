@@ -1,11 +1,11 @@
 pub mod Binary
 pub mod Complete
-pub mod Entry
 pub mod Example
 pub mod Growth
 pub mod OneTree
 pub mod Operating
 pub mod Operators
+pub mod Outputs
 pub mod Steps
 pub mod TopTree
 pub mod Unique

@@ -70,7 +70,7 @@ by_precede {s = s} h b d = precedes (from_there (same_spot (sym b.recorded.rest)
 pub by_extend : {s t : State} {cm : CompletedMarker} {n : Script Phrase} {q : Spot} {v : Outcome} → IsLast s cm cm.kind → Extended s t cm.kind → On n (spot t) q v → On (extend n) (spot s) q v
 by_extend {s = s} {t = t} {cm = cm} h b d = extends (from_there (same_spot (sym b.recorded.rest)
     (ap (λ (x : Stack). node (newest (forests x)) (last_kind s.forest) (but_last s.forest ⧺ last_children s.forest)) b.below
-        ∙ ap (λ (x : ℕ). node (but_last t.forest) x (but_last s.forest ⧺ last_children s.forest)) (ap last_kind h.forest) ∙ sym b.forest)
+    ∙ ap (λ (x : ℕ). node (but_last t.forest) x (but_last s.forest ⧺ last_children s.forest)) (ap last_kind h.forest) ∙ sym b.forest)
     (ap (λ (x : Stack). drop 1 (forests x)) b.below)) d)
 
 -- a rule, and on as its outcome says

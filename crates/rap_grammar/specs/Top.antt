@@ -1,5 +1,5 @@
 -- What a top entry makes of what was parsed.
-use Rattle.std.specs.Prelude.{◌≡◌, ◌+◌, ◌*◌, ◌≤◌, List, [], ◌∷◌, length, Bool, true, false}
+use Rattle.std.specs.Prelude.{◌≡◌, ℕ, ◌+◌, ◌*◌, ◌≤◌, List, [], ◌∷◌, length, Bool, true, false}
 use Rattle.rap_base.specs.TokenKind.{ERROR}
 use Rattle.rap_events.specs.Record.{Record}
 use Rattle.rap_events.specs.Forest.{Forest, none, node, leaf, mark, flat, used, marks, one_tree}
@@ -23,14 +23,18 @@ abbrev pub top_tree : Forest → List Record → Forest
 top_tree f [] = kept (one_tree f) f
 top_tree f (r ∷ rs) = node none ERROR (with_leaves f (r ∷ rs))
 
--- One tree over the whole input, by few steps. In an output without messages all binary expressions and token trees
--- are as their rules ask.
-pub record IsTreeOver (input : List Record) (f : Forest) : Type 0 where
-  pub one : one_tree f ≡ true
+-- A forest over the first of the input's tokens, by few steps. In an output without messages all binary expressions and
+-- token trees are as their rules ask.
+pub record IsForestOver (input : List Record) (tokens : ℕ) (f : Forest) : Type 0 where
   pub covers : covers input f ≡ true
-  pub used : used f ≡ length input
+  pub used : used f ≡ tokens
   pub few : length (flat f) ≤ 256 * (length input + 1)
   pub fit : marks f ≡ 0 → ∥ AllFitIn f ∥₁
+
+-- one tree over the whole input
+pub record IsTreeOver (input : List Record) (f : Forest) : Type 0 where
+  pub one : one_tree f ≡ true
+  pub forest : IsForestOver input (length input) f
 
 -- The output of a top entry with this script: what the script makes of the whole input under one marker, and of what it
 -- leaves.

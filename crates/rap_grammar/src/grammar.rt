@@ -46,7 +46,10 @@ impl BlockLike {
 fn is_path_name(kind: SyntaxKind) -> bool
     ensures { result ≡ is_path_name kind }
 {
-    matches!(kind, T![ident] | T![self] | T![super] | T![crate] | T![Self])
+    matches!(
+        kind,
+        T![ident] | T![self] | T![super] | T![crate] | T![Self]
+    )
 }
 
 /// A name in a path, as `a` or `self`.

@@ -5,8 +5,7 @@
 //! follows its script, which says for every input what it makes.
 #![tactic(auto)]
 
-mod token_kind;
-
 mod grammar;
+mod token_kind;
 
 pub use grammar::entry;

@@ -1,17 +1,15 @@
 //! Expressions.
-ghost use Rattle.std.specs.Prelude.{◌≡◌, ◌≢◌, ◌<◌, ◌≤◌, IfOk, OnOk, IfSome, IsTrue, Some, None, is_some, true};
+ghost use Rattle.std.specs.Prelude.{◌≡◌, ◌≢◌, ◌<◌, ◌≤◌, IfOk, OnOk, IsTrue, Some, is_some};
 ghost use Rattle.rap_base.specs.TokenKind.{EOF};
-ghost use Rattle.rap_events.specs.Fit.{is_plain};
 ghost use Rattle.rap_events.specs.State.{state, next};
 ghost use Rattle.rap_grammar.specs.Atom as atom_script;
-ghost use Rattle.rap_grammar.specs.Climb.{Climbed};
 ghost use Rattle.rap_grammar.specs.Expressions as script;
 ghost use Rattle.rap_grammar.specs.Expressions.{of_expr};
 ghost use Rattle.rap_grammar.specs.First.{is_expr_first};
-ghost use Rattle.rap_grammar.specs.Grew.{Within, Behind, Reads, Took, Made, Closed, Dropped};
+ghost use Rattle.rap_grammar.specs.Grew.{Within, Behind, Reads, Dropped};
 ghost use Rattle.rap_grammar.specs.Knot.{Follows};
-ghost use Rattle.rap_grammar.specs.Room.{expression_room, marked_room, operand_room};
-ghost use Rattle.rap_grammar.specs.Rules.{Answered, IsNewest};
+ghost use Rattle.rap_grammar.specs.Room.{expression_room, operand_room};
+ghost use Rattle.rap_grammar.specs.Rules.{Answered, AnsweredFrom, Operand, IsNewest};
 ghost use Rattle.rap_grammar.specs.Script.{nothing};
 ghost use Rattle.rap_grammar.specs.Words.{of_option};
 
@@ -98,8 +96,7 @@ fn expr_from<G: Grammar>(
     requires within { Within G.valid G.left g.now (state p.old) }
     requires newest { (state p.old).marker ≡ Some m.pos }
     requires power { 1 ≤ bp }
-    ensures some { IfOk result (λ o. IfSome o (λ e. Closed (state p.old) (state p.new) e.0 marked_room × Climbed (state p.new) e.0.kind bp r.prefer_stmt)) }
-    ensures none { IfOk result (λ o. o ≡ None → Dropped (state p.old) (state p.new) 5) }
+    ensures answered { IfOk result (AnsweredFrom (state p.old) (state p.new) r.prefer_stmt bp) }
     ensures script { IfOk result (λ e. Follows (script.expr_from r bp) (of_expr e) (state p.old) (state p.new)) }
 {
     if !is_expr_first(p.current()) {
@@ -146,21 +143,14 @@ fn lhs<G: Grammar>(
 ) -> Result<Option<(CompletedMarker, BlockLike)>, NoMemory>
     requires within { Within G.valid G.left g.now (state p.old) }
     requires more { next (state p.old) ≢ EOF }
-    ensures some { IfOk result (λ o. IfSome o (λ e. Made (state p.old) (state p.new) e.0 operand_room × (is_plain e.0.kind ≡ true))) }
-    ensures none { IfOk result (λ o. o ≡ None → Took (state p.old) (state p.new) operand_room × ((state p.old).messages < (state p.new).messages)) }
+    ensures operand { IfOk result (Operand operand_room (state p.old) (state p.new)) }
     ensures script { IfOk result (λ e. Follows (script.lhs r) (of_expr e) (state p.old) (state p.new)) }
 {
     match p.current() {
         T![&] => Ok(Some((ref_expr(p, g, r)?, BlockLike::NotBlock))),
         T![*] | T![!] | T![-] => Ok(Some((prefix_expr(p, g, r)?, BlockLike::NotBlock))),
-        T![.] if p.at(T![..=]) => Ok(Some((
-            prefix_range(p, g, r, T![..=])?,
-            BlockLike::NotBlock,
-        ))),
-        T![.] if p.at(T![..]) => Ok(Some((
-            prefix_range(p, g, r, T![..])?,
-            BlockLike::NotBlock,
-        ))),
+        T![.] if p.at(T![..=]) => Ok(Some((prefix_range(p, g, r, T![..=])?, BlockLike::NotBlock))),
+        T![.] if p.at(T![..]) => Ok(Some((prefix_range(p, g, r, T![..])?, BlockLike::NotBlock))),
         _ => {
             let Some((atom, block_like)) = atom_expr(p, g)? else {
                 return Ok(None);

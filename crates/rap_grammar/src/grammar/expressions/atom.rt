@@ -1,17 +1,17 @@
 //! Expressions that begin with no operator.
-ghost use Rattle.std.specs.Prelude.{◌≡◌, ◌≢◌, ℕ, ◌<◌, ◌≤◌, IfOk, OnOk, IfSome, None, true, ◌⊎◌};
+ghost use Rattle.std.specs.Prelude.{◌≡◌, ◌≢◌, ℕ, ◌<◌, ◌≤◌, IfOk, OnOk, IfSome, true, ◌⊎◌};
 ghost use Rattle.rap_base.specs.TokenKind.{EOF, L_PAREN, L_BRACK};
 ghost use Rattle.rap_base.specs.NodeKind.{LITERAL, PATH_EXPR, PAREN_EXPR, TUPLE_EXPR, ARRAY_EXPR};
 ghost use Rattle.rap_base.specs.TokenSet.{member};
-ghost use Rattle.rap_events.specs.Fit.{is_plain};
 ghost use Rattle.rap_events.specs.State.{state, next};
 ghost use Rattle.rap_grammar.specs.Atom as script;
 ghost use Rattle.rap_grammar.specs.Expressions.{of_expr};
 ghost use Rattle.rap_grammar.specs.First.{is_literal_first, is_atom_expr_first, starts_path};
-ghost use Rattle.rap_grammar.specs.Grew.{Within, Behind, Grew, Took, Made, Makes, Optional};
+ghost use Rattle.rap_grammar.specs.Grew.{Within, Behind, Grew, Made, Makes, Optional};
 ghost use Rattle.rap_grammar.specs.Knot.{Follows};
 ghost use Rattle.rap_grammar.specs.Recovery.{is_expr_recovery};
 ghost use Rattle.rap_grammar.specs.Room.{atom_room};
+ghost use Rattle.rap_grammar.specs.Rules.{Operand};
 ghost use Rattle.rap_grammar.specs.Script.{something};
 ghost use Rattle.rap_grammar.specs.Words.{of_option, of_bool};
 
@@ -80,8 +80,7 @@ pub(super) fn atom_expr<G: Grammar>(
 ) -> Result<Option<(CompletedMarker, BlockLike)>, NoMemory>
     requires within { Within G.valid G.left g.now (state p.old) }
     requires more { next (state p.old) ≢ EOF }
-    ensures some { IfOk result (λ o. IfSome o (λ e. Made (state p.old) (state p.new) e.0 atom_room × (is_plain e.0.kind ≡ true))) }
-    ensures none { IfOk result (λ o. o ≡ None → Took (state p.old) (state p.new) atom_room × ((state p.old).messages < (state p.new).messages)) }
+    ensures operand { IfOk result (Operand atom_room (state p.old) (state p.new)) }
     ensures script { IfOk result (λ o. Follows script.atom_expr (of_expr o) (state p.old) (state p.new)) }
 {
     if let Some(cm) = literal(p)? {

@@ -208,7 +208,14 @@ pub(super) fn ref_expr<G: Grammar>(
     let m = p.start()?;
     p.bump(T![&])?;
     ref_qualifier(p)?;
-    g.run(p, Rule::Expr { m: None, r, bp: 255 })?;
+    g.run(
+        p,
+        Rule::Expr {
+            m: None,
+            r,
+            bp: 255,
+        },
+    )?;
     let cm = m.complete(p, SyntaxKind::REF_EXPR)?;
     Ok(cm)
 }
@@ -227,7 +234,9 @@ pub(super) fn prefix_expr<G: Grammar>(
 {
     let m = p.start()?;
     p.bump_any()?;
-    g.run(p, Rule::Expr { m: None, r, bp: 255 })?;
+    // It binds tighter than any operator between two operands.
+    let bp = 255;
+    g.run(p, Rule::Expr { m: None, r, bp })?;
     let cm = m.complete(p, SyntaxKind::PREFIX_EXPR)?;
     Ok(cm)
 }

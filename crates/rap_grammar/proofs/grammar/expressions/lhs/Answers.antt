@@ -39,14 +39,14 @@ pub returns-in_default-2-clause-script : goal.returns-in_default-2-clause-script
 unfolding lhs
 returns-in_default-2-clause-script g c = record {
   run = elim c.in_default.branch [
-        | in_default-via-in-DOT-2+else-at-2 w ↦
-            let e : next (state c.args.p.now) ≡ DOT = search rules in
-            let d : is_at DOT2 (state c.args.p.now).rest ≡ false = search rules in
-            fails (rw e refl) (fails (rw e refl) (else_by w.at.ensures w.if-at.false (fails d (by_rule (rw c.in_default-2.is at c.in_ok-atom-in_default.ensures.script) gives))))
-        | in_default-via-in_default-1 w ↦
-            let n : next (state c.args.p.now) ≢ DOT = search rules in
-            fails (search rules) (fails (search rules) (fails (no_first (state c.args.p.now).rest DOT DOT (EQ ∷ []) n) (fails (no_first (state c.args.p.now).rest DOT DOT [] n) (by_rule (rw c.in_default-2.is at c.in_ok-atom-in_default.ensures.script) gives))))
-      ];
+    | in_default-via-in-DOT-2+else-at-2 w ↦
+        let e : next (state c.args.p.now) ≡ DOT = search rules in
+        let d : is_at DOT2 (state c.args.p.now).rest ≡ false = search rules in
+        fails (rw e refl) (fails (rw e refl) (else_by w.at.ensures w.if-at.false (fails d (by_rule (rw c.in_default-2.is at c.in_ok-atom-in_default.ensures.script) gives))))
+    | in_default-via-in_default-1 w ↦
+        let n : next (state c.args.p.now) ≢ DOT = search rules in
+        fails (search rules) (fails (search rules) (fails (no_first (state c.args.p.now).rest DOT DOT (EQ ∷ []) n) (fails (no_first (state c.args.p.now).rest DOT DOT [] n) (by_rule (rw c.in_default-2.is at c.in_ok-atom-in_default.ensures.script) gives))))
+  ];
 }
 
 pub returns-in_ok-expr-in_default-clause-script : goal.returns-in_ok-expr-in_default-clause-script

@@ -49,7 +49,6 @@ returns-then-is_none-clause-script g c = record {
       (by_rule (nothing_told (search rules) c.in_ok-expr.ensures.script) gives)))) (not_on _);
 }
 
-
 pub returns-then-saw_expr-clause-script : goal.returns-then-saw_expr-clause-script
 unfolding tuple_elements
 returns-then-saw_expr-clause-script g c = record {

@@ -26,7 +26,9 @@ returns-then-is_raw_follow-clause-script c = record {
 
 pub returns-clause-script : goal.returns-clause-script
 unfolding ref_qualifier
-returns-clause-script c = record { run = fails (elim c.else-at_contextual_kw.branch [
-  | else-at_contextual_kw-via-then-at_contextual_kw+else-is_raw_follow w ↦ not_both {b = one_of (MUT_KW ∷ CONST_KW ∷ IDENT ∷ []) (kind_at (state c.args.p.now).rest 1)} (λ _. search rules)
-  | else-at_contextual_kw-via-else-at_contextual_kw w ↦ not_both {b = one_of (MUT_KW ∷ CONST_KW ∷ IDENT ∷ []) (kind_at (state c.args.p.now).rest 1)} (λ e. absurd (clash (and_right _ _ e) (sym c.at_contextual_kw.ensures.here ∙ w.if-at_contextual_kw.false)))
-]) (by_eat c.in_ok-eat-3.ensures gives) }
+returns-clause-script c = record {
+  run = fails (elim c.else-at_contextual_kw.branch [
+    | else-at_contextual_kw-via-then-at_contextual_kw+else-is_raw_follow w ↦ not_both {b = one_of (MUT_KW ∷ CONST_KW ∷ IDENT ∷ []) (kind_at (state c.args.p.now).rest 1)} (λ _. search rules)
+    | else-at_contextual_kw-via-else-at_contextual_kw w ↦ not_both {b = one_of (MUT_KW ∷ CONST_KW ∷ IDENT ∷ []) (kind_at (state c.args.p.now).rest 1)} (λ e. absurd (clash (and_right _ _ e) (sym c.at_contextual_kw.ensures.here ∙ w.if-at_contextual_kw.false)))
+  ]) (by_eat c.in_ok-eat-3.ensures gives);
+}
