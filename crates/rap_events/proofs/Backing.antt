@@ -40,8 +40,8 @@ told_back es old new h b =
     let told : errors es ≡ length (texts_of new) = paired ∙ sym (length-map new.messages.items string_bytes) in
     record {
       paired = paired;
-      unwound = rw (b.walk, texts, history-tell es (texts_of new) m told) (sym (unwind-push (history es (texts_of new)) (call.message m) (walk_of old)));
-      skips = skips_of (call.message m) old new b.walk;
+      unwound = rw (b.walk, texts, history-tell es (texts_of new) m told) (sym (unwind-push (history es (texts_of new)) (call.error m) (walk_of old)));
+      skips = skips_of (call.error m) old new b.walk;
     }
 
 event_back : (es : List Event) (e : Event) (old new : kept.Walk) → errors (es ++ e ∷ []) ≡ length old.messages.items → EventBacked e old new → Same (es ++ e ∷ []) es old new
@@ -51,6 +51,7 @@ event_back es (event.Finish k) old new h b = backed es _ _ old new (shows.finish
 event_back es event.Extend old new h b = backed es _ _ old new shows.extend h b
 event_back es event.Abandon old new h b = backed es _ _ old new shows.abandon h b
 event_back es (event.Token k w) old new h b = backed es _ _ old new (shows.token k w) h b
+event_back es (event.FloatSplit d) old new h b = backed es _ _ old new (shows.float_split d) h b
 event_back es event.Error old new h b = told_back es old new h b
 
 -- the event at a place is the last of those up to it

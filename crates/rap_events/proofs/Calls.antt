@@ -6,16 +6,17 @@ use Rattle.std.proofs.lemmas.List.{drop-drop, length-map, map-append}
 use mathlib.Core.Logic.{∥∥₁_map}
 use Rattle.rap_base.specs.NodeKind.{BIN_EXPR, TOKEN_TREE}
 use Rattle.rap_events.specs.Record.{Record}
-use Rattle.rap_events.specs.Forest.{Forest, none, node, leaf, mark, ◌⧺◌}
-use Rattle.rap_events.specs.Cover.{Leaf, leaves, stand, stands, widths}
+use Rattle.rap_events.specs.Forest.{Forest, none, node, leaf, message, split, ◌⧺◌}
+use Rattle.rap_events.specs.Cover.{Leaf, of_tokens, leaf_width, leaves, stand, stands, widths}
 use Rattle.rap_events.specs.History.{Call, history, errors}
 use Rattle.rap_events.specs.History as call
-use Rattle.rap_events.specs.Machine.{Stack, floor, push, top, stack_leaves, all_leaves, Config, close, merge, wrap, stretch, run, initial}
+use Rattle.rap_events.specs.Machine.{Stack, floor, push, top, stack_leaves, all_leaves, Config, close, merge, wrap, stretch, run, initial, all_splits_placed}
 use Rattle.rap_events.specs.State.{view, but_last, last_children, Opened, IsLast, Completed, Abandoned, Preceded, Extended, Bumped, Told}
 use Rattle.rap_events.specs.Fit.{Fit, AllFitIn, StackFit, AllFit, is_plain}
 use Rattle.rap_events.specs.declared.event.Event.{Event}
 use Rattle.rap_events.specs.declared.event.Event.TheVariants as event
 use Rattle.rap_events.specs.declared.parser.CompletedMarker.{CompletedMarker}
+use Rattle.rap_events.proofs.Splits.{placed, all_placed, start_placed, point_placed, placed-close, placed-merge, placed-wrap, placed-stretch}
 use Rattle.rap_events.proofs.Truth.{and_left, and_right, and_both}
 use Rattle.rap_events.proofs.MachineLemmas.{run-push, Rooted, rooted, count_of, leaves-⧺}
 use Rattle.rap_events.proofs.HistoryLemmas.{Shows, history-push, history-tell, errors-push, errors-append}
@@ -31,10 +32,10 @@ opened input rest xs n e = rw (run-push initial xs call.start) (record {
 })
 
 pub told : (input rest : List Record) (xs : List Call) (m : List ℕ) →
-    Told (view input rest (run initial xs)) (view input rest (run initial (xs ++ call.message m ∷ []))) m
-told input rest xs m = rw (run-push initial xs (call.message m)) (record { input = refl; rest = refl; left = refl; count = refl; messages = refl; marker = refl; forest = refl; below = refl })
+    Told (view input rest (run initial xs)) (view input rest (run initial (xs ++ call.error m ∷ []))) m
+told input rest xs m = rw (run-push initial xs (call.error m)) (record { input = refl; rest = refl; left = refl; count = refl; messages = refl; marker = refl; forest = refl; below = refl })
 
-drop-plus : (rs : List Record) (n m : ℕ) → drop (n + m) rs ≡ drop m (drop n rs)
+pub drop-plus : (rs : List Record) (n m : ℕ) → drop (n + m) rs ≡ drop m (drop n rs)
 drop-plus rs n m = sym (drop-drop m n rs)
 
 pub bumped : (input : List Record) (pos : ℕ) (xs : List Call) (k w : ℕ) → w ≤ length (drop pos input) →
@@ -81,7 +82,8 @@ preceded-at : (input rest : List Record) (c : Config) (b : Bool) (x : Forest) (n
 unfolding but_last last_children
 preceded-at input rest c b none n k t e g h = absurd cc
 preceded-at input rest c b (leaf x l w) n k t e g h = absurd cc
-preceded-at input rest c b (mark x l) n k t e g h = absurd cc
+preceded-at input rest c b (message x l) n k t e g h = absurd cc
+preceded-at input rest c b (split x l) n k t e g h = absurd cc
 preceded-at input rest c false (node x l z) n k t e g h = absurd cc
 preceded-at input rest c true (node x l z) n k t e g h =
     let l-is : l ≡ k = cc in
@@ -100,7 +102,8 @@ unfolding but_last last_children
 extended-at input rest c x floor n end k e g p h m t d = absurd cc
 extended-at input rest c none (push r m' b) n end k e g p h m t d = absurd cc
 extended-at input rest c (leaf z l w) (push r m' b) n end k e g p h m t d = absurd cc
-extended-at input rest c (mark z y) (push r m' b) n end k e g p h m t d = absurd cc
+extended-at input rest c (message z y) (push r m' b) n end k e g p h m t d = absurd cc
+extended-at input rest c (split z y) (push r m' b) n end k e g p h m t d = absurd cc
 extended-at input rest c (node z l w) (push r m' b) n end k e g p h m t d =
     let l-is : l ≡ k = cc in
     let c-is : last_children c.forest ≡ w = ap last_children (sym g) in
@@ -120,6 +123,7 @@ pub record Kept (c : Config) (input : List Record) (pos : ℕ) : Type 0 where
   pub sound : c.sound ≡ true
   pub covers : stand (all_leaves c) input ≡ true
   pub place : widths (all_leaves c) ≡ pos
+  pub splits : all_splits_placed c ≡ true
   pub fit : c.messages ≡ 0 → ∥ AllFit c ∥₁
 
 pub kept-start : (xs : List Call) (input : List Record) (pos : ℕ) → Kept (run initial xs) input pos → Kept (run initial (xs ++ call.start ∷ [])) input pos
@@ -129,39 +133,42 @@ kept-start xs input pos h =
       sound = rw (run-push initial xs call.start) h.sound;
       covers = rw e h.covers;
       place = rw e h.place;
+      splits = rw (run-push initial xs call.start) (start_placed (run initial xs) h.splits);
       fit = rw (run-push initial xs call.start) (λ z. ∥∥₁_map (h.fit z) (λ a. (a, tt)));
     }
 
-pub kept-message : (xs : List Call) (input : List Record) (pos : ℕ) (m : List ℕ) → Kept (run initial xs) input pos → Kept (run initial (xs ++ call.message m ∷ [])) input pos
-kept-message xs input pos m h = rw (run-push initial xs (call.message m)) (record {
+pub kept-error : (xs : List Call) (input : List Record) (pos : ℕ) (m : List ℕ) → Kept (run initial xs) input pos → Kept (run initial (xs ++ call.error m ∷ [])) input pos
+kept-error xs input pos m h = rw (run-push initial xs (call.error m)) (record {
   sound = h.sound;
   covers = h.covers;
   place = h.place;
+  splits = point_placed (run initial xs) h.splits;
   fit = λ z. absurd (omega arith);
 })
 
 -- one leaf more
-stand-push : (ls : List Leaf) (l : Leaf) (rs : List Record) → stand ls rs ≡ true → stands l (drop (widths ls) rs) ≡ true → stand (ls ++ l ∷ []) rs ≡ true
+pub stand-push : (ls : List Leaf) (l : Leaf) (rs : List Record) → stand ls rs ≡ true → stands l (drop (widths ls) rs) ≡ true → stand (ls ++ l ∷ []) rs ≡ true
 stand-push [] l rs h s = and_both (stands l rs) true s refl
 stand-push (x ∷ ls) l rs h s =
-    let first : stands x rs ≡ true = and_left (stands x rs) (stand ls (drop x.width rs)) h in
-    let others : stand ls (drop x.width rs) ≡ true = and_right (stands x rs) (stand ls (drop x.width rs)) h in
-    let t : stands l (drop (widths ls) (drop x.width rs)) ≡ true = rw (← drop-plus rs x.width (widths ls)) s in
-    and_both (stands x rs) (stand (ls ++ l ∷ []) (drop x.width rs)) first (stand-push ls l (drop x.width rs) others t)
+    let first : stands x rs ≡ true = and_left (stands x rs) (stand ls (drop (leaf_width x) rs)) h in
+    let others : stand ls (drop (leaf_width x) rs) ≡ true = and_right (stands x rs) (stand ls (drop (leaf_width x) rs)) h in
+    let t : stands l (drop (widths ls) (drop (leaf_width x) rs)) ≡ true = rw (← drop-plus rs (leaf_width x) (widths ls)) s in
+    and_both (stands x rs) (stand (ls ++ l ∷ []) (drop (leaf_width x) rs)) first (stand-push ls l (drop (leaf_width x) rs) others t)
 
 pub widths-append : (ls ms : List Leaf) → widths (ls ++ ms) ≡ widths ls + widths ms
 widths-append [] ms = omega arith
 widths-append (l ∷ ls) ms = omega (arith, widths-append ls ms)
 
-pub kept-token : (xs : List Call) (input : List Record) (pos : ℕ) (k w : ℕ) → stands (record { kind = k; width = w }) (drop pos input) ≡ true → Kept (run initial xs) input pos → Kept (run initial (xs ++ call.token k w ∷ [])) input (pos + w)
+pub kept-token : (xs : List Call) (input : List Record) (pos : ℕ) (k w : ℕ) → stands (of_tokens k w) (drop pos input) ≡ true → Kept (run initial xs) input pos → Kept (run initial (xs ++ call.token k w ∷ [])) input (pos + w)
 kept-token xs input pos k w s h =
     let c = run initial xs in
-    let l : Leaf = record { kind = k; width = w } in
+    let l : Leaf = of_tokens k w in
     let e : all_leaves (run initial (xs ++ call.token k w ∷ [])) ≡ all_leaves c ++ l ∷ [] = rw (run-push initial xs (call.token k w)) (sym (append_assoc (stack_leaves c.below) (leaves c.forest) (l ∷ []))) in
     record {
       sound = rw (run-push initial xs (call.token k w)) h.sound;
       covers = rw e (stand-push (all_leaves c) l input h.covers (rw h.place s));
       place = rw e (omega (arith, widths-append (all_leaves c) (l ∷ []), h.place));
+      splits = rw (run-push initial xs (call.token k w)) (point_placed c h.splits);
       fit = rw (run-push initial xs (call.token k w)) h.fit;
     }
 
@@ -183,6 +190,7 @@ kept-finish xs input pos k n m f h =
       sound = w.0 ∙ h.sound;
       covers = rw w.1 h.covers;
       place = rw w.1 h.place;
+      splits = all_placed _ (placed-close k c c.below refl (placed c h.splits));
       fit = λ z. let y = sym w.2 ∙ z in ∥∥₁_map (h.fit y) (λ a. fit-close k c c.below refl a (f y));
     })
 
@@ -195,7 +203,8 @@ fit-⧺ : (f g : Forest) → AllFitIn f → AllFitIn g → AllFitIn (f ⧺ g)
 fit-⧺ f none a b = a
 fit-⧺ f (node b k x) a d = (fit-⧺ f b a d.0, d.1, d.2)
 fit-⧺ f (leaf b k w) a d = fit-⧺ f b a d
-fit-⧺ f (mark b m) a d = fit-⧺ f b a d
+fit-⧺ f (message b m) a d = fit-⧺ f b a d
+fit-⧺ f (split b e) a d = fit-⧺ f b a d
 
 fit-merge : (c : Config) (s : Stack) → s ≡ c.below → AllFit c → AllFit (merge c s)
 fit-merge c floor e a = (tt, a.1)
@@ -209,6 +218,7 @@ kept-abandon xs input pos n m h =
       sound = w.0 ∙ h.sound;
       covers = rw w.1 h.covers;
       place = rw w.1 h.place;
+      splits = all_placed _ (placed-merge c c.below refl (placed c h.splits));
       fit = λ z. ∥∥₁_map (h.fit (sym w.2 ∙ z)) (fit-merge c c.below refl);
     })
 
@@ -216,14 +226,16 @@ kept-wrap : (c : Config) (b : Bool) (x : Forest) (k : ℕ) → b ≡ true → x 
     ((wrap c b x).sound ≡ c.sound) × (all_leaves (wrap c b x) ≡ all_leaves c) × ((wrap c b x).messages ≡ c.messages)
 kept-wrap c b none k t e g = absurd cc
 kept-wrap c b (leaf x l w) k t e g = absurd cc
-kept-wrap c b (mark x l) k t e g = absurd cc
+kept-wrap c b (message x l) k t e g = absurd cc
+kept-wrap c b (split x l) k t e g = absurd cc
 kept-wrap c false (node x l z) k t e g = absurd cc
 kept-wrap c true (node x l z) k t e g = (refl, rw (← g) (append_assoc (stack_leaves c.below) (leaves x) (leaves z)), refl)
 
 fit-wrap : (c : Config) (b : Bool) (x : Forest) → x ≡ c.forest → AllFit c → AllFit (wrap c b x)
 fit-wrap c b none e a = a
 fit-wrap c b (leaf x l w) e a = a
-fit-wrap c b (mark x l) e a = a
+fit-wrap c b (message x l) e a = a
+fit-wrap c b (split x l) e a = a
 fit-wrap c false (node x l z) e a = a
 fit-wrap c true (node x l z) e a = let d : AllFitIn (node x l z) = subst AllFitIn (sym e) a.1 in ((a.0, d.0), (tt, d.1, d.2))
 
@@ -235,6 +247,7 @@ kept-precede xs input rest pos cm k l h =
       sound = w.0 ∙ h.sound;
       covers = rw w.1 h.covers;
       place = rw w.1 h.place;
+      splits = all_placed _ (placed-wrap c c.closed c.forest refl (placed c h.splits));
       fit = λ z. ∥∥₁_map (h.fit (sym w.2 ∙ z)) (fit-wrap c c.closed c.forest refl);
     })
 
@@ -243,7 +256,8 @@ kept-stretch : (c : Config) (x : Forest) (s : Stack) (n : ℕ) (k : ℕ) → x �
 kept-stretch c x floor n k e g p h m t = absurd cc
 kept-stretch c none (push r m' b) n k e g p h m t = absurd cc
 kept-stretch c (leaf z l w) (push r m' b) n k e g p h m t = absurd cc
-kept-stretch c (mark z y) (push r m' b) n k e g p h m t = absurd cc
+kept-stretch c (message z y) (push r m' b) n k e g p h m t = absurd cc
+kept-stretch c (split z y) (push r m' b) n k e g p h m t = absurd cc
 kept-stretch c (node z l w) (push r m' b) n k e g p h m t =
     (rw t refl, rw (← g, ← p, leaves-⧺ z w) (sym (append_assoc (stack_leaves r) (leaves b) (leaves z ++ leaves w))), refl)
 
@@ -258,7 +272,8 @@ unfolding but_last last_children
 fit-stretch c x floor k p g e q a = a
 fit-stretch c none (push r m' b) k p g e q a = a
 fit-stretch c (leaf z l w) (push r m' b) k p g e q a = a
-fit-stretch c (mark z y) (push r m' b) k p g e q a = a
+fit-stretch c (message z y) (push r m' b) k p g e q a = a
+fit-stretch c (split z y) (push r m' b) k p g e q a = a
 fit-stretch c (node z l w) (push r m' b) k p g e q a =
     let d : StackFit (push r m' b) = subst StackFit (sym q) a.0 in
     let o : AllFitIn (node z l w) = subst AllFitIn (sym e) a.1 in
@@ -274,6 +289,7 @@ kept-extend xs input rest pos cm k n l m f h =
       sound = w.0 ∙ h.sound;
       covers = rw w.1 h.covers;
       place = rw w.1 h.place;
+      splits = all_placed _ (placed-stretch c c.forest c.below refl refl (placed c h.splits));
       fit = λ z. ∥∥₁_map (h.fit (sym w.2 ∙ z)) (fit-stretch c c.forest c.below k f l.forest refl refl);
     })
 
@@ -302,10 +318,10 @@ held_told es texts text input pos h =
     let paired : errors es ≡ length ms = h.told ∙ sym (length-map texts string_bytes) in
     record {
       told = omega (arith, h.told, errors-append es (event.Error ∷ []), length-append texts (text ∷ []));
-      kept = rw (map-append string_bytes texts (text ∷ []), history-tell es ms m paired) (kept-message (history es ms) input pos m h.kept);
+      kept = rw (map-append string_bytes texts (text ∷ []), history-tell es ms m paired) (kept-error (history es ms) input pos m h.kept);
     }
 
 pub told_history : (es : List Event) (texts : List (String Global)) (text : String Global) → errors es ≡ length texts →
-    history (es ++ event.Error ∷ []) (map string_bytes (texts ++ text ∷ [])) ≡ history es (map string_bytes texts) ++ call.message (string_bytes text) ∷ []
+    history (es ++ event.Error ∷ []) (map string_bytes (texts ++ text ∷ [])) ≡ history es (map string_bytes texts) ++ call.error (string_bytes text) ∷ []
 told_history es texts text h =
     rw (map-append string_bytes texts (text ∷ [])) (history-tell es (map string_bytes texts) (string_bytes text) (h ∙ sym (length-map texts string_bytes)))

@@ -7,7 +7,7 @@ use Rattle.rap_base.specs.Keyword.{is_keyword, is_any_identifier}
 use Rattle.rap_base.specs.declared.edition.Edition.TheVariants.{Edition2024}
 use Rattle.rap_events.specs.Record.{Record, next_kind, kind_at, joint_at, contextual_at}
 use Rattle.rap_events.specs.Composite.{composites, row_of, parts, begins_with, touches_next, is_first, is_at, width_of, width}
-use Rattle.rap_events.specs.Cover.{first_may_bear, stands}
+use Rattle.rap_events.specs.Cover.{of_tokens, first_may_bear, stands}
 use Rattle.rap_events.proofs.Truth.{and_left, and_right, and_both, or_left, or_right}
 
 -- so many tokens are there
@@ -39,7 +39,7 @@ composites-long = refl
 -- what is asked of a leaf that takes the tokens of a kind
 pub record Fits (kind : ℕ) (rs : List Record) : Type 0 where
   pub within : width kind ≤ length rs
-  pub stands : stands (record { kind = kind; width = width kind }) rs ≡ true
+  pub stands : stands (of_tokens kind (width kind)) rs ≡ true
 
 own_kind : (kind : ℕ) (rs : List Record) → kind ≢ EOF → next_kind rs ≡ kind → (1 ≤ length rs) × (first_may_bear rs kind ≡ true)
 own_kind kind [] n h = absurd (n (sym h))
@@ -49,7 +49,7 @@ unequal : (n : ℕ) → 1 < n → (n == 1) ≡ false
 unequal n h = ne_eqb n 1 (λ e. omega arith)
 
 fits-at : (ps : List ℕ) (kind : ℕ) (rs : List Record) → (ps ≡ []) ⊎ (1 < length ps) → kind ≢ EOF → parts kind ≡ ps → is_first ps kind rs ≡ true →
-    (width_of ps ≤ length rs) × (stands (record { kind = kind; width = width_of ps }) rs ≡ true)
+    (width_of ps ≤ length rs) × (stands (of_tokens kind (width_of ps)) rs ≡ true)
 fits-at [] kind rs l n e h = own_kind kind rs n (eqb-true (next_kind rs) kind h)
 fits-at (p ∷ ps) kind rs (inl l) n e h = absurd cc
 fits-at (p ∷ ps) kind rs (inr l) n e h =

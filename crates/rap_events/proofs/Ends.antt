@@ -18,7 +18,8 @@ stop (call.finish kind) = exit ∷ []
 stop call.extend = []
 stop call.abandon = []
 stop (call.token kind width) = []
-stop (call.message bytes) = []
+stop (call.float_split ends_in_dot) = []
+stop (call.error bytes) = []
 
 -- all nodes end before a number
 abbrev pub Ended : ℕ → List Interval → Type 0
@@ -82,7 +83,8 @@ ends-step call.extend m l h e t =
     quiet (with_last_from b m.nodes) l h call.extend e refl (end_from-moved b m.nodes 0 h t.0, ended-moved b l m.nodes t.1)
 ends-step call.abandon m l h e t = quiet m.nodes l h call.abandon e refl t
 ends-step (call.token k w) m l h e t = quiet m.nodes l h (call.token k w) e refl t
-ends-step (call.message b) m l h e t = quiet m.nodes l h (call.message b) e refl t
+ends-step (call.float_split d) m l h e t = quiet m.nodes l h (call.float_split d) e refl t
+ends-step (call.error b) m l h e t = quiet m.nodes l h (call.error b) e refl t
 
 pub ends-run : (xs : List Call) (m : Marked) (l : ℕ) (h : List Call) → l ≡ length h → EndFrom m.nodes 0 h × Ended l m.nodes → EndFrom (marked_from l xs m).nodes 0 (h ++ xs)
 ends-run [] m l h e t = rw (append-nil h) t.0

@@ -1,5 +1,5 @@
 -- Histories of longer lists of events.
-use Rattle.std.proofs.Common.{◌≡◌, ℕ, ◌+◌, List, [], ◌∷◌, ◌++◌, length, refl, ap, arith}
+use Rattle.std.proofs.Common.{◌≡◌, ℕ, ◌+◌, List, [], ◌∷◌, ◌++◌, length, Bool, refl, ap, arith}
 use Rattle.rap_events.specs.History.{Call, history, errors}
 use Rattle.rap_events.specs.History as call
 use Rattle.rap_events.specs.declared.event.Event.{Event}
@@ -13,6 +13,7 @@ pub data Shows : Event → Call → Type 0 where
   extend : Shows event.Extend call.extend
   abandon : Shows event.Abandon call.abandon
   token : (k w : ℕ) → Shows (event.Token k w) (call.token k w)
+  float_split : (d : Bool) → Shows (event.FloatSplit d) (call.float_split d)
 
 history-one : (e : Event) (x : Call) (ms : List (List ℕ)) → Shows e x → history (e ∷ []) ms ≡ x ∷ []
 history-one e x ms start = refl
@@ -21,6 +22,7 @@ history-one e x ms (finish k) = refl
 history-one e x ms extend = refl
 history-one e x ms abandon = refl
 history-one e x ms (token k w) = refl
+history-one e x ms (float_split d) = refl
 
 -- one event more that is no message
 pub history-push : (es : List Event) (ms : List (List ℕ)) (e : Event) (x : Call) → Shows e x → history (es ++ e ∷ []) ms ≡ history es ms ++ x ∷ []
@@ -31,11 +33,12 @@ history-push (event.Finish k ∷ es) ms e x h = ap (λ (xs : List Call). call.fi
 history-push (event.Extend ∷ es) ms e x h = ap (λ (xs : List Call). call.extend ∷ xs) (history-push es ms e x h)
 history-push (event.Abandon ∷ es) ms e x h = ap (λ (xs : List Call). call.abandon ∷ xs) (history-push es ms e x h)
 history-push (event.Token k w ∷ es) ms e x h = ap (λ (xs : List Call). call.token k w ∷ xs) (history-push es ms e x h)
-history-push (event.Error ∷ es) [] e x h = ap (λ (xs : List Call). call.message [] ∷ xs) (history-push es [] e x h)
-history-push (event.Error ∷ es) (m ∷ ms) e x h = ap (λ (xs : List Call). call.message m ∷ xs) (history-push es ms e x h)
+history-push (event.FloatSplit d ∷ es) ms e x h = ap (λ (xs : List Call). call.float_split d ∷ xs) (history-push es ms e x h)
+history-push (event.Error ∷ es) [] e x h = ap (λ (xs : List Call). call.error [] ∷ xs) (history-push es [] e x h)
+history-push (event.Error ∷ es) (m ∷ ms) e x h = ap (λ (xs : List Call). call.error m ∷ xs) (history-push es ms e x h)
 
 -- one message more
-pub history-tell : (es : List Event) (ms : List (List ℕ)) (m : List ℕ) → errors es ≡ length ms → history (es ++ event.Error ∷ []) (ms ++ m ∷ []) ≡ history es ms ++ call.message m ∷ []
+pub history-tell : (es : List Event) (ms : List (List ℕ)) (m : List ℕ) → errors es ≡ length ms → history (es ++ event.Error ∷ []) (ms ++ m ∷ []) ≡ history es ms ++ call.error m ∷ []
 history-tell [] [] m h = refl
 history-tell [] (n ∷ ms) m h = absurd (omega arith)
 history-tell (event.Start ∷ es) ms m h = ap (λ (xs : List Call). call.start ∷ xs) (history-tell es ms m h)
@@ -44,8 +47,9 @@ history-tell (event.Finish k ∷ es) ms m h = ap (λ (xs : List Call). call.fini
 history-tell (event.Extend ∷ es) ms m h = ap (λ (xs : List Call). call.extend ∷ xs) (history-tell es ms m h)
 history-tell (event.Abandon ∷ es) ms m h = ap (λ (xs : List Call). call.abandon ∷ xs) (history-tell es ms m h)
 history-tell (event.Token k w ∷ es) ms m h = ap (λ (xs : List Call). call.token k w ∷ xs) (history-tell es ms m h)
+history-tell (event.FloatSplit d ∷ es) ms m h = ap (λ (xs : List Call). call.float_split d ∷ xs) (history-tell es ms m h)
 history-tell (event.Error ∷ es) [] m h = absurd (omega arith)
-history-tell (event.Error ∷ es) (n ∷ ms) m h = ap (λ (xs : List Call). call.message n ∷ xs) (history-tell es ms m (omega arith))
+history-tell (event.Error ∷ es) (n ∷ ms) m h = ap (λ (xs : List Call). call.error n ∷ xs) (history-tell es ms m (omega arith))
 
 -- how many calls there are
 pub length-history : (es : List Event) (ms : List (List ℕ)) → length (history es ms) ≡ length es
@@ -56,6 +60,7 @@ length-history (event.Finish k ∷ es) ms = omega (arith, length-history es ms)
 length-history (event.Extend ∷ es) ms = omega (arith, length-history es ms)
 length-history (event.Abandon ∷ es) ms = omega (arith, length-history es ms)
 length-history (event.Token k w ∷ es) ms = omega (arith, length-history es ms)
+length-history (event.FloatSplit d ∷ es) ms = omega (arith, length-history es ms)
 length-history (event.Error ∷ es) [] = omega (arith, length-history es [])
 length-history (event.Error ∷ es) (m ∷ ms) = omega (arith, length-history es ms)
 
@@ -66,6 +71,7 @@ errors-one e x (finish k) = refl
 errors-one e x extend = refl
 errors-one e x abandon = refl
 errors-one e x (token k w) = refl
+errors-one e x (float_split d) = refl
 
 pub errors-append : (es fs : List Event) → errors (es ++ fs) ≡ errors es + errors fs
 errors-append [] fs = omega arith
@@ -75,6 +81,7 @@ errors-append (event.Finish k ∷ es) fs = errors-append es fs
 errors-append (event.Extend ∷ es) fs = errors-append es fs
 errors-append (event.Abandon ∷ es) fs = errors-append es fs
 errors-append (event.Token k w ∷ es) fs = errors-append es fs
+errors-append (event.FloatSplit d ∷ es) fs = errors-append es fs
 errors-append (event.Error ∷ es) fs = omega (arith, errors-append es fs)
 
 pub errors-push : (es : List Event) (e : Event) (x : Call) → Shows e x → errors (es ++ e ∷ []) ≡ errors es

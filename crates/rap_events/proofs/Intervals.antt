@@ -3,15 +3,16 @@ use Rattle.std.proofs.Common.{◌≡◌, ◌≢◌, ℕ, ◌+◌, ◌<◌, ◌�
 use Rattle.std.specs.Prelude.{if◌then◌else◌}
 use Rattle.std.proofs.lemmas.Bool.{eq-eqb, ne_eqb}
 use Rattle.rap_events.specs.StepValue.{StepValue, enter, exit}
-use Rattle.rap_events.specs.Forest.{Forest, none, node, leaf, mark, ◌⧺◌, flat}
+use Rattle.rap_events.specs.Forest.{Forest, none, node, leaf, message, split, ◌⧺◌, flat, splits_placed}
 use Rattle.rap_events.specs.History.{Call}
 use Rattle.rap_events.specs.History as call
 use Rattle.rap_events.specs.Machine.{Stack, floor, push, Config, close, merge, wrap, stretch, step, run, initial}
-use Rattle.rap_events.specs.Interval.{Interval, Marked, newest, begin_of_last, with_last_from, marked, marked_from, unmarked, nodes_of, begins, point, steps_between, tree_steps}
+use Rattle.rap_events.specs.Interval.{Interval, Marked, newest, begin_of_last, with_last_from, marked, marked_from, unmarked, nodes_of, begins, point, steps_between, without_ends, tree_steps}
+use Rattle.rap_events.specs.Reading.{all_steps}
 use Rattle.rap_events.proofs.Truth.{and_left}
 use Rattle.rap_events.proofs.Ends.{length-next, stop, EndFrom, ends-run}
 use Rattle.rap_events.proofs.MachineLemmas.{sound-run}
-use Rattle.rap_events.proofs.Unwinding.{flat-⧺}
+use Rattle.rap_events.proofs.StepLemmas.{all_steps-⧺, without_ends-whole}
 
 -- the steps of a call itself
 abbrev shown : Call → List StepValue
@@ -71,7 +72,7 @@ begins-none l (n ∷ ns) h = begins-other n ns l (λ e. omega (arith, h.0)) ∙ 
 data Spans (ns : List Interval) : Stack → List ℕ → List StepValue → List Call → Type 0 where
   bottom : {s : List StepValue} {h : List Call} → s ≡ steps ns 0 h → Spans ns floor [] s h
   above : {r : Stack} {m : Option ℕ} {b : Forest} {p : ℕ} {os : List ℕ} {s : List StepValue} {h : List Call} (xs ys : List Call) →
-      h ≡ xs ++ ys → p ≡ length xs → Spans ns r os (flat b) xs → s ≡ steps ns p ys → Spans ns (push r m b) (p ∷ os) s h
+      h ≡ xs ++ ys → p ≡ length xs → Spans ns r os (all_steps b) xs → s ≡ steps ns p ys → Spans ns (push r m b) (p ∷ os) s h
 
 -- more calls
 spans-append : (ns : List Interval) (k : Stack) (os : List ℕ) (s : List StepValue) (h ys : List Call) → Spans ns k os s h → Spans ns k os (s ++ steps ns (length h) ys) (h ++ ys)
@@ -90,28 +91,28 @@ spans-call ns k os s h x w t =
     subst (λ (v : List StepValue). Spans ns k os v (h ++ x ∷ [])) same (spans-append ns k os s h (x ∷ []) t)
 
 -- a marker more, at the last call
-spans-start : (ns : List Interval) (k : Stack) (os : List ℕ) (m : Option ℕ) (f : Forest) (h : List Call) → Within (length h) ns → Spans ns k os (flat f) h →
+spans-start : (ns : List Interval) (k : Stack) (os : List ℕ) (m : Option ℕ) (f : Forest) (h : List Call) → Within (length h) ns → Spans ns k os (all_steps f) h →
     Spans ns (push k m f) (length h ∷ os) [] (h ++ call.start ∷ [])
 spans-start ns k os m f h w t = above h (call.start ∷ []) refl refl t (sym (rw (begins-none (length h) ns w) refl))
 
 -- the newest marker is gone
 spans-merge : (ns : List Interval) (k : Stack) (m : Option ℕ) (b : Forest) (p : ℕ) (os : List ℕ) (s : List StepValue) (h : List Call) →
-    Spans ns (push k m b) (p ∷ os) s h → Spans ns k os (flat b ++ s) h
-spans-merge ns k m b p os s h (above xs ys e q below t) = rw (e, t, q) (spans-append ns k os (flat b) xs ys below)
+    Spans ns (push k m b) (p ∷ os) s h → Spans ns k os (all_steps b ++ s) h
+spans-merge ns k m b p os s h (above xs ys e q below t) = rw (e, t, q) (spans-append ns k os (all_steps b) xs ys below)
 
 -- a node that begins after all calls
 spans-later : (n : Interval) (ns : List Interval) (k : Stack) (os : List ℕ) (s : List StepValue) (h : List Call) → length h ≤ n.begin → Spans ns k os s h → Spans (n ∷ ns) k os s h
 spans-later n ns k os s h l (bottom e) = bottom (e ∙ sym (steps-before n ns 0 h (omega arith)))
 spans-later n ns (push r m b) (p ∷ os) s h l (above xs ys e q below t) =
     let whole : length h ≡ length xs + length ys = ap length e ∙ length-append xs ys in
-    above xs ys e q (spans-later n ns r os (flat b) xs (omega arith) below) (t ∙ sym (steps-before n ns p ys (omega arith)))
+    above xs ys e q (spans-later n ns r os (all_steps b) xs (omega arith) below) (t ∙ sym (steps-before n ns p ys (omega arith)))
 
 -- a node that begins where the newest marker does
 spans-node : (n : Interval) (ns : List Interval) (k : Stack) (m m' : Option ℕ) (b : Forest) (os : List ℕ) (s : List StepValue) (h : List Call) → n.begin < length h →
     Spans ns (push k m b) (n.begin ∷ os) s h → Spans (n ∷ ns) (push k m' b) (n.begin ∷ os) (enter n.kind ∷ s) h
 spans-node n ns k m m' b os s h l (above xs ys e q below t) =
     let whole : length h ≡ length xs + length ys = ap length e ∙ length-append xs ys in
-    above xs ys e q (spans-later n ns k os (flat b) xs (omega arith) below)
+    above xs ys e q (spans-later n ns k os (all_steps b) xs (omega arith) below)
     (ap (λ (v : List StepValue). enter n.kind ∷ v) t ∙ sym (steps-here n ns n.begin ys refl (omega arith)))
 
 -- all markers begin before a number
@@ -126,11 +127,11 @@ early-next l l' (b ∷ bs) e h = (omega (arith, h.0), early-next l l' bs e h.1)
 -- the last node, as if its marker were still there
 data Last (h : List Call) : Stack → Forest → List ℕ → List Interval → Type 0 where
   finished : {k : Stack} {m : Option ℕ} {before children : Forest} {kind : ℕ} {os : List ℕ} {n : Interval} {ns : List Interval} → kind ≡ n.kind →
-      Spans ns (push k m before) (n.begin ∷ os) (flat children ++ exit ∷ []) h → Last h k (node before kind children) os (n ∷ ns)
+      Spans ns (push k m before) (n.begin ∷ os) (all_steps children ++ exit ∷ []) h → Last h k (node before kind children) os (n ∷ ns)
 
 -- after these calls the forests are those of the intervals
 record Tracked (c : Config) (os : List ℕ) (ns : List Interval) (h : List Call) : Type 0 where
-  spans : Spans ns c.below os (flat c.forest) h
+  spans : Spans ns c.below os (all_steps c.forest) h
   early : Early (length h) os
   within : Within (length h) ns
   last : c.closed ≡ true → Last h c.below c.forest os ns
@@ -145,43 +146,51 @@ tracked-start c os ns h t = record {
 
 tracked-token : (c : Config) (k w : ℕ) (os : List ℕ) (ns : List Interval) (h : List Call) → Tracked c os ns h → Tracked (step c (call.token k w)) os ns (h ++ call.token k w ∷ [])
 tracked-token c k w os ns h t = record {
-  spans = spans-call ns c.below os (flat c.forest) h (call.token k w) t.within t.spans;
+  spans = spans-call ns c.below os (all_steps c.forest) h (call.token k w) t.within t.spans;
   early = early-next (length h) (length (h ++ (call.token k w) ∷ [])) os (length-next h (call.token k w)) t.early;
   within = within-next (length h) (length (h ++ (call.token k w) ∷ [])) ns (length-next h (call.token k w)) t.within;
   last = λ e. absurd cc;
 }
 
-tracked-message : (c : Config) (b : List ℕ) (os : List ℕ) (ns : List Interval) (h : List Call) → Tracked c os ns h → Tracked (step c (call.message b)) os ns (h ++ call.message b ∷ [])
-tracked-message c b os ns h t = record {
-  spans = spans-call ns c.below os (flat c.forest) h (call.message b) t.within t.spans;
-  early = early-next (length h) (length (h ++ (call.message b) ∷ [])) os (length-next h (call.message b)) t.early;
-  within = within-next (length h) (length (h ++ (call.message b) ∷ [])) ns (length-next h (call.message b)) t.within;
+tracked-split : (c : Config) (d : Bool) (os : List ℕ) (ns : List Interval) (h : List Call) → Tracked c os ns h → Tracked (step c (call.float_split d)) os ns (h ++ call.float_split d ∷ [])
+tracked-split c d os ns h t = record {
+  spans = spans-call ns c.below os (all_steps c.forest) h (call.float_split d) t.within t.spans;
+  early = early-next (length h) (length (h ++ (call.float_split d) ∷ [])) os (length-next h (call.float_split d)) t.early;
+  within = within-next (length h) (length (h ++ (call.float_split d) ∷ [])) ns (length-next h (call.float_split d)) t.within;
+  last = λ e. absurd cc;
+}
+
+tracked-error : (c : Config) (b : List ℕ) (os : List ℕ) (ns : List Interval) (h : List Call) → Tracked c os ns h → Tracked (step c (call.error b)) os ns (h ++ call.error b ∷ [])
+tracked-error c b os ns h t = record {
+  spans = spans-call ns c.below os (all_steps c.forest) h (call.error b) t.within t.spans;
+  early = early-next (length h) (length (h ++ (call.error b) ∷ [])) os (length-next h (call.error b)) t.early;
+  within = within-next (length h) (length (h ++ (call.error b) ∷ [])) ns (length-next h (call.error b)) t.within;
   last = λ e. absurd cc;
 }
 
 tracked-finish : (k : ℕ) (c : Config) (s : Stack) (os : List ℕ) (ns : List Interval) (h : List Call) → Early (length h) os → Within (length h) ns → (close k c s).sound ≡ true →
-    Spans ns s os (flat c.forest) h → Tracked (close k c s) (drop 1 os) (record { kind = k; begin = newest os; end = length h } ∷ ns) (h ++ call.finish k ∷ [])
+    Spans ns s os (all_steps c.forest) h → Tracked (close k c s) (drop 1 os) (record { kind = k; begin = newest os; end = length h } ∷ ns) (h ++ call.finish k ∷ [])
 tracked-finish k c floor os ns h l w d t = absurd cc
 tracked-finish k c (push r m b) [] ns h l w d t = elim t [ ]
 tracked-finish k c (push r m b) (p ∷ os) ns h l w d t =
     let n : Interval = record { kind = k; begin = p; end = length h } in
     let x : Call = call.finish k in
-    let begun : Spans ns (push r m b) (p ∷ os) (flat c.forest ++ exit ∷ []) (h ++ x ∷ []) = spans-call ns (push r m b) (p ∷ os) (flat c.forest) h x w t in
+    let begun : Spans ns (push r m b) (p ∷ os) (all_steps c.forest ++ exit ∷ []) (h ++ x ∷ []) = spans-call ns (push r m b) (p ∷ os) (all_steps c.forest) h x w t in
     let more : p < length (h ++ x ∷ []) = omega (arith, l.0, length-next h x) in record {
-      spans = spans-merge (n ∷ ns) r m b p os (enter k ∷ (flat c.forest ++ exit ∷ [])) (h ++ x ∷ []) (spans-node n ns r m m b os (flat c.forest ++ exit ∷ []) (h ++ x ∷ []) more begun);
+      spans = spans-merge (n ∷ ns) r m b p os (enter k ∷ (all_steps c.forest ++ exit ∷ [])) (h ++ x ∷ []) (spans-node n ns r m m b os (all_steps c.forest ++ exit ∷ []) (h ++ x ∷ []) more begun);
       early = early-next (length h) (length (h ++ x ∷ [])) os (length-next h x) l.1;
       within = (more, within-next (length h) (length (h ++ x ∷ [])) ns (length-next h x) w);
       last = λ e. finished refl begun;
     }
 
 tracked-abandon : (c : Config) (s : Stack) (os : List ℕ) (ns : List Interval) (h : List Call) → Early (length h) os → Within (length h) ns → (merge c s).sound ≡ true →
-    Spans ns s os (flat c.forest) h → Tracked (merge c s) (drop 1 os) ns (h ++ call.abandon ∷ [])
+    Spans ns s os (all_steps c.forest) h → Tracked (merge c s) (drop 1 os) ns (h ++ call.abandon ∷ [])
 tracked-abandon c floor os ns h l w d t = absurd cc
 tracked-abandon c (push r m b) [] ns h l w d t = elim t [ ]
 tracked-abandon c (push r m b) (p ∷ os) ns h l w d t =
     let x : Call = call.abandon in
-    let merged : Spans ns r os ((flat b ++ flat c.forest) ++ []) (h ++ x ∷ []) = spans-call ns r os (flat b ++ flat c.forest) h x w (spans-merge ns r m b p os (flat c.forest) h t) in
-    let same : (flat b ++ flat c.forest) ++ [] ≡ flat (b ⧺ c.forest) = append-nil (flat b ++ flat c.forest) ∙ sym (flat-⧺ b c.forest) in record {
+    let merged : Spans ns r os ((all_steps b ++ all_steps c.forest) ++ []) (h ++ x ∷ []) = spans-call ns r os (all_steps b ++ all_steps c.forest) h x w (spans-merge ns r m b p os (all_steps c.forest) h t) in
+    let same : (all_steps b ++ all_steps c.forest) ++ [] ≡ all_steps (b ⧺ c.forest) = append-nil (all_steps b ++ all_steps c.forest) ∙ sym (all_steps-⧺ b c.forest) in record {
       spans = subst (λ (v : List StepValue). Spans ns r os v (h ++ x ∷ [])) same merged;
       early = early-next (length h) (length (h ++ x ∷ [])) os (length-next h x) l.1;
       within = within-next (length h) (length (h ++ x ∷ [])) ns (length-next h x) w;
@@ -193,7 +202,7 @@ preceded : (c : Config) (f : Forest) (k : ℕ) (x : Forest) (os : List ℕ) (ns 
 preceded c f k x os [] h l w t = elim t [ ]
 preceded c f k x os (n ∷ ns) h l w (finished {m = m} e t) =
     let y : Call = call.precede in
-    let s : List StepValue = flat x ++ exit ∷ [] in
+    let s : List StepValue = all_steps x ++ exit ∷ [] in
     let more : n.begin < length (h ++ y ∷ []) = omega (arith, w.0, length-next h y) in
     let begun : Spans ns (push c.below m f) (n.begin ∷ os) s (h ++ y ∷ []) =
     subst (λ (v : List StepValue). Spans ns (push c.below m f) (n.begin ∷ os) v (h ++ y ∷ [])) (append-nil s) (spans-call ns (push c.below m f) (n.begin ∷ os) s h y w.1 t) in record {
@@ -207,23 +216,24 @@ tracked-precede : (c : Config) (a : Bool) (f : Forest) (os : List ℕ) (ns : Lis
     (a ≡ true → Last h c.below f os ns) → Tracked (wrap c a f) (begin_of_last ns ∷ os) ns (h ++ call.precede ∷ [])
 tracked-precede c a none os ns h l w d t = absurd cc
 tracked-precede c a (leaf f k n) os ns h l w d t = absurd cc
-tracked-precede c a (mark f m) os ns h l w d t = absurd cc
+tracked-precede c a (message f m) os ns h l w d t = absurd cc
+tracked-precede c a (split f m) os ns h l w d t = absurd cc
 tracked-precede c false (node f k x) os ns h l w d t = absurd cc
 tracked-precede c true (node f k x) os ns h l w d t = preceded c f k x os ns h l w (t refl)
 
 extended : (c : Config) (r : Stack) (m : Option ℕ) (b f : Forest) (k : ℕ) (x : Forest) (os : List ℕ) (ns : List Interval) (h : List Call) → Early (length h) os → Within (length h) ns →
     Last h (push r m b) (node f k x) os ns → Tracked (stretch c (node f k x) (push r m b)) (drop 1 os) (with_last_from (newest os) ns) (h ++ call.extend ∷ [])
 extended c r m b f k x os [] h l w t = elim t [ ]
-extended c r m b f k x [] (n ∷ ns) h l w (finished {m = m'} e t) = elim (spans-merge ns (push r m b) m' f n.begin [] (flat x ++ exit ∷ []) h t) [ ]
+extended c r m b f k x [] (n ∷ ns) h l w (finished {m = m'} e t) = elim (spans-merge ns (push r m b) m' f n.begin [] (all_steps x ++ exit ∷ []) h t) [ ]
 extended c r m b f k x (p ∷ os) (n ∷ ns) h l w (finished {m = m'} e t) =
     let y : Call = call.extend in
     let wide : Interval = record n { begin = p } in
-    let s : List StepValue = flat (f ⧺ x) ++ exit ∷ [] in
+    let s : List StepValue = all_steps (f ⧺ x) ++ exit ∷ [] in
     let more : p < length (h ++ y ∷ []) = omega (arith, l.0, length-next h y) in
-    let same : (flat f ++ (flat x ++ exit ∷ [])) ++ [] ≡ s = simp (flat-⧺ f x, append_assoc) in
+    let same : (all_steps f ++ (all_steps x ++ exit ∷ [])) ++ [] ≡ s = simp (all_steps-⧺ f x, append_assoc) in
     let begun : Spans ns (push r m b) (p ∷ os) s (h ++ y ∷ []) =
     subst (λ (v : List StepValue). Spans ns (push r m b) (p ∷ os) v (h ++ y ∷ [])) same
-    (spans-call ns (push r m b) (p ∷ os) (flat f ++ (flat x ++ exit ∷ [])) h y w.1 (spans-merge ns (push r m b) m' f n.begin (p ∷ os) (flat x ++ exit ∷ []) h t)) in record {
+    (spans-call ns (push r m b) (p ∷ os) (all_steps f ++ (all_steps x ++ exit ∷ [])) h y w.1 (spans-merge ns (push r m b) m' f n.begin (p ∷ os) (all_steps x ++ exit ∷ []) h t)) in record {
       spans = rw e (spans-merge (wide ∷ ns) r m b p os (enter n.kind ∷ s) (h ++ y ∷ []) (spans-node wide ns r m m b os s (h ++ y ∷ []) more begun));
       early = early-next (length h) (length (h ++ y ∷ [])) os (length-next h y) l.1;
       within = (more, within-next (length h) (length (h ++ y ∷ [])) ns (length-next h y) w.1);
@@ -235,7 +245,8 @@ tracked-extend : (c : Config) (f : Forest) (k : Stack) (os : List ℕ) (ns : Lis
 tracked-extend c f floor os ns h l w d t = absurd cc
 tracked-extend c none (push r m b) os ns h l w d t = absurd cc
 tracked-extend c (leaf f k n) (push r m b) os ns h l w d t = absurd cc
-tracked-extend c (mark f y) (push r m b) os ns h l w d t = absurd cc
+tracked-extend c (message f y) (push r m b) os ns h l w d t = absurd cc
+tracked-extend c (split f y) (push r m b) os ns h l w d t = absurd cc
 tracked-extend c (node f k x) (push r m b) os ns h l w d t = extended c r m b f k x os ns h l w (t (and_left c.closed c.sound d))
 
 tracked-step : (c : Config) (x : Call) (m : Marked) (h : List Call) → (step c x).sound ≡ true → Tracked c m.markers m.nodes h →
@@ -246,7 +257,8 @@ tracked-step c (call.finish k) m h d t = tracked-finish k c c.below m.markers m.
 tracked-step c call.extend m h d t = tracked-extend c c.forest c.below m.markers m.nodes h t.early t.within d t.last
 tracked-step c call.abandon m h d t = tracked-abandon c c.below m.markers m.nodes h t.early t.within d t.spans
 tracked-step c (call.token k w) m h d t = tracked-token c k w m.markers m.nodes h t
-tracked-step c (call.message b) m h d t = tracked-message c b m.markers m.nodes h t
+tracked-step c (call.float_split d) m h e t = tracked-split c d m.markers m.nodes h t
+tracked-step c (call.error b) m h d t = tracked-error c b m.markers m.nodes h t
 
 tracked-run : (c : Config) (xs : List Call) (m : Marked) (h : List Call) (l : ℕ) → l ≡ length h → (run c xs).sound ≡ true → Tracked c m.markers m.nodes h →
     Tracked (run c xs) (marked_from l xs m).markers (marked_from l xs m).nodes (h ++ xs)
@@ -272,8 +284,10 @@ steps-ended ns i (x ∷ xs) h =
     rw (h.0, steps-ended ns (i + 1) xs h.1) (ap (λ (v : List StepValue). begins ns i ++ v) (sym (append_assoc (point x) (stop x) (steps ns (i + 1) xs))))
 
 -- the forest of a history is the tree of its intervals
-pub forest_is_tree : (xs : List Call) → (run initial xs).sound ≡ true → (run initial xs).below ≡ floor → flat (run initial xs).forest ≡ tree_steps xs
-forest_is_tree xs d f =
+pub forest_is_tree : (xs : List Call) → (run initial xs).sound ≡ true → (run initial xs).below ≡ floor → splits_placed (run initial xs).forest ≡ true → flat (run initial xs).forest ≡ tree_steps xs
+forest_is_tree xs d f p =
     let t : Tracked (run initial xs) (marked_from 0 xs unmarked).markers (nodes_of xs) xs = tracked-run initial xs unmarked [] 0 refl d tracked-initial in
     let ended : EndFrom (nodes_of xs) 0 xs = ends-run xs unmarked 0 [] refl (tt, tt) in
-    steps-all (nodes_of xs) (run initial xs).below (marked_from 0 xs unmarked).markers (flat (run initial xs).forest) xs f t.spans ∙ sym (steps-ended (nodes_of xs) 0 xs ended)
+    let all : all_steps (run initial xs).forest ≡ steps_between (nodes_of xs) 0 xs =
+    steps-all (nodes_of xs) (run initial xs).below (marked_from 0 xs unmarked).markers (all_steps (run initial xs).forest) xs f t.spans ∙ sym (steps-ended (nodes_of xs) 0 xs ended) in
+    sym (without_ends-whole (run initial xs).forest p) ∙ ap without_ends all

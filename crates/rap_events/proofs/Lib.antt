@@ -3,13 +3,16 @@ pub mod Calls
 pub mod Composites
 pub mod Ends
 pub mod Finished
+pub mod FloatSplits
 pub mod HistoryLemmas
 pub mod Intervals
 pub mod MachineLemmas
-pub mod Marks
+pub mod MessageCount
 pub mod Nesting
 pub mod Records
 pub mod Skips
+pub mod Splits
+pub mod StepLemmas
 pub mod TreeExamples
 pub mod Truth
 pub mod Unwinding

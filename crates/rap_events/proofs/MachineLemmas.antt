@@ -1,6 +1,6 @@
 -- What each call does to what a history has made.
 use Rattle.std.proofs.Common.{◌≡◌, ℕ, ◌+◌, List, [], ◌∷◌, ◌++◌, length, Option, None, Bool, true, false, refl, sym, ◌∙◌, append_assoc, append-nil, arith, zero-add}
-use Rattle.rap_events.specs.Forest.{Forest, none, node, leaf, mark, ◌⧺◌}
+use Rattle.rap_events.specs.Forest.{Forest, none, node, leaf, message, split, ◌⧺◌}
 use Rattle.rap_events.specs.Cover.{leaves}
 use Rattle.rap_events.specs.History.{Call, history, errors}
 use Rattle.rap_events.specs.History as call
@@ -30,7 +30,8 @@ rooted-merge c (push r m b) h = h
 rooted-wrap : (c : Config) (b : Bool) (f : Forest) → RootedConfig c → RootedConfig (wrap c b f)
 rooted-wrap c b none h = h
 rooted-wrap c b (leaf f k w) h = h
-rooted-wrap c b (mark f m) h = h
+rooted-wrap c b (message f m) h = h
+rooted-wrap c b (split f m) h = h
 rooted-wrap c false (node f k x) h = h
 rooted-wrap c true (node f k x) h = h
 
@@ -38,7 +39,8 @@ rooted-stretch : (c : Config) (x : Forest) (s : Stack) → RootedConfig c → Ro
 rooted-stretch c x floor g h = g
 rooted-stretch c none (push r m b) g h = g
 rooted-stretch c (leaf f k w) (push r m b) g h = g
-rooted-stretch c (mark f y) (push r m b) g h = g
+rooted-stretch c (message f y) (push r m b) g h = g
+rooted-stretch c (split f y) (push r m b) g h = g
 rooted-stretch c (node f k x) (push r m b) g h = h
 
 rooted-step : (c : Config) (x : Call) → RootedConfig c → RootedConfig (step c x)
@@ -48,7 +50,8 @@ rooted-step c (call.finish k) h = rooted-close k c c.below h
 rooted-step c call.extend h = rooted-stretch c c.forest c.below h h
 rooted-step c call.abandon h = rooted-merge c c.below h
 rooted-step c (call.token k w) h = h
-rooted-step c (call.message m) h = h
+rooted-step c (call.float_split d) h = h
+rooted-step c (call.error m) h = h
 
 rooted-run : (c : Config) (xs : List Call) → RootedConfig c → RootedConfig (run c xs)
 rooted-run c [] h = h
@@ -69,7 +72,8 @@ count-merge c (push r m b) = refl
 count-wrap : (c : Config) (b : Bool) (f : Forest) → (wrap c b f).count ≡ c.count + 1
 count-wrap c b none = refl
 count-wrap c b (leaf f k w) = refl
-count-wrap c b (mark f m) = refl
+count-wrap c b (message f m) = refl
+count-wrap c b (split f m) = refl
 count-wrap c false (node f k x) = refl
 count-wrap c true (node f k x) = refl
 
@@ -77,7 +81,8 @@ count-stretch : (c : Config) (x : Forest) (s : Stack) → (stretch c x s).count 
 count-stretch c x floor = refl
 count-stretch c none (push r m b) = refl
 count-stretch c (leaf f k w) (push r m b) = refl
-count-stretch c (mark f y) (push r m b) = refl
+count-stretch c (message f y) (push r m b) = refl
+count-stretch c (split f y) (push r m b) = refl
 count-stretch c (node f k x) (push r m b) = refl
 
 pub count-step : (c : Config) (x : Call) → (step c x).count ≡ c.count + 1
@@ -87,7 +92,8 @@ count-step c (call.finish k) = count-close k c c.below
 count-step c call.extend = count-stretch c c.forest c.below
 count-step c call.abandon = count-merge c c.below
 count-step c (call.token k w) = refl
-count-step c (call.message m) = refl
+count-step c (call.float_split d) = refl
+count-step c (call.error m) = refl
 
 count-run : (c : Config) (xs : List Call) → (run c xs).count ≡ c.count + length xs
 count-run c [] = omega arith
@@ -108,7 +114,8 @@ sound-merge c (push r m b) h = h
 sound-wrap : (c : Config) (b : Bool) (f : Forest) → (wrap c b f).sound ≡ true → c.sound ≡ true
 sound-wrap c b none h = absurd cc
 sound-wrap c b (leaf f k w) h = absurd cc
-sound-wrap c b (mark f m) h = absurd cc
+sound-wrap c b (message f m) h = absurd cc
+sound-wrap c b (split f m) h = absurd cc
 sound-wrap c false (node f k x) h = absurd cc
 sound-wrap c true (node f k x) h = h
 
@@ -116,7 +123,8 @@ sound-stretch : (c : Config) (x : Forest) (s : Stack) → (stretch c x s).sound 
 sound-stretch c x floor h = absurd cc
 sound-stretch c none (push r m b) h = absurd cc
 sound-stretch c (leaf f k w) (push r m b) h = absurd cc
-sound-stretch c (mark f y) (push r m b) h = absurd cc
+sound-stretch c (message f y) (push r m b) h = absurd cc
+sound-stretch c (split f y) (push r m b) h = absurd cc
 sound-stretch c (node f k x) (push r m b) h = and_right c.closed c.sound h
 
 pub sound-step : (c : Config) (x : Call) → (step c x).sound ≡ true → c.sound ≡ true
@@ -126,7 +134,8 @@ sound-step c (call.finish k) h = sound-close k c c.below h
 sound-step c call.extend h = sound-stretch c c.forest c.below h
 sound-step c call.abandon h = sound-merge c c.below h
 sound-step c (call.token k w) h = h
-sound-step c (call.message m) h = h
+sound-step c (call.float_split d) h = h
+sound-step c (call.error m) h = h
 
 pub sound-run : (c : Config) (xs : List Call) → (run c xs).sound ≡ true → c.sound ≡ true
 sound-run c [] h = h
@@ -136,4 +145,5 @@ pub leaves-⧺ : (f g : Forest) → leaves (f ⧺ g) ≡ leaves f ++ leaves g
 leaves-⧺ f none = sym (append-nil (leaves f))
 leaves-⧺ f (node b k x) = simp (leaves-⧺ f b, append_assoc)
 leaves-⧺ f (leaf b k w) = simp (leaves-⧺ f b, append_assoc)
-leaves-⧺ f (mark b m) = leaves-⧺ f b
+leaves-⧺ f (message b m) = leaves-⧺ f b
+leaves-⧺ f (split b d) = simp (leaves-⧺ f b, append_assoc)

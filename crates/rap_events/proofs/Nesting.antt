@@ -3,7 +3,7 @@ use Rattle.std.proofs.Common.{◌≡◌, ℕ, ◌+◌, ◌<◌, ◌≤◌, List,
 use Rattle.std.specs.Prelude.{All, AllPairs}
 use Rattle.std.proofs.lemmas.List.Elements.{All-nil, All-cons}
 use Rattle.std.proofs.lemmas.List.Kept.{AllPairs-cons}
-use Rattle.rap_events.specs.Forest.{Forest, none, node, leaf, mark}
+use Rattle.rap_events.specs.Forest.{Forest, none, node, leaf, message, split}
 use Rattle.rap_events.specs.History.{Call}
 use Rattle.rap_events.specs.History as call
 use Rattle.rap_events.specs.Machine.{Stack, floor, push, Config, merge, wrap, stretch, step, run, initial}
@@ -209,7 +209,8 @@ placed-extend closed l m h =
 wrap-closed : (c : Config) (a : Bool) (f : Forest) → (wrap c a f).sound ≡ true → (a ≡ true) × ((wrap c a f).closed ≡ false)
 wrap-closed c a none d = absurd cc
 wrap-closed c a (leaf f k w) d = absurd cc
-wrap-closed c a (mark f m) d = absurd cc
+wrap-closed c a (message f m) d = absurd cc
+wrap-closed c a (split f m) d = absurd cc
 wrap-closed c false (node f k x) d = absurd cc
 wrap-closed c true (node f k x) d = (refl, refl)
 
@@ -221,7 +222,8 @@ stretch-closed : (c : Config) (f : Forest) (s : Stack) → (stretch c f s).sound
 stretch-closed c f floor d = absurd cc
 stretch-closed c none (push r m b) d = absurd cc
 stretch-closed c (leaf f k w) (push r m b) d = absurd cc
-stretch-closed c (mark f y) (push r m b) d = absurd cc
+stretch-closed c (message f y) (push r m b) d = absurd cc
+stretch-closed c (split f y) (push r m b) d = absurd cc
 stretch-closed c (node f k x) (push r m b) d = refl
 
 placed-step : (c : Config) (x : Call) (l : ℕ) (m : Marked) → (step c x).sound ≡ true → Placed c.closed l m → Placed (step c x).closed (l + 1) (marked l x m)
@@ -233,7 +235,8 @@ placed-step c (call.finish k) l m d h = placed-finish c.closed (step c (call.fin
 placed-step c call.extend l m d h = rw (stretch-closed c c.forest c.below d) (placed-extend c.closed l m h)
 placed-step c call.abandon l m d h = rw (merge-closed c c.below) (placed-abandon c.closed l m h)
 placed-step c (call.token k w) l m d h = placed-still c.closed l m h
-placed-step c (call.message b) l m d h = placed-still c.closed l m h
+placed-step c (call.float_split e) l m d h = placed-still c.closed l m h
+placed-step c (call.error b) l m d h = placed-still c.closed l m h
 
 placed-run : (c : Config) (xs : List Call) (l : ℕ) (m : Marked) → (run c xs).sound ≡ true → Placed c.closed l m → AllNested (marked_from l xs m).nodes
 placed-run c [] l m d h = h.nested

@@ -107,3 +107,8 @@ kind_at_is_token [] zero m h = refl
 kind_at_is_token [] (suc n) m h = refl
 kind_at_is_token (r ∷ rs) zero m h = kind_is_token (r ∷ rs) m h
 kind_at_is_token (r ∷ rs) (suc n) m h = kind_at_is_token rs n m (λ j d below. h (suc j) d (omega arith))
+
+pub joint_at-drop : (rs : List Record) (n : ℕ) → joint_at rs n ≡ joint_at (drop n rs) 0
+joint_at-drop rs zero = refl
+joint_at-drop [] (suc n) = refl
+joint_at-drop (r ∷ rs) (suc n) = joint_at-drop rs n

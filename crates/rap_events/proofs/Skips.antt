@@ -2,7 +2,7 @@
 use Rattle.std.proofs.Common.{◌≡◌, ◌≢◌, ℕ, ◌+◌, ◌≤◌, List, [], ◌∷◌, drop, refl, sym, ap, ◌∙◌, arith}
 use Rattle.rap_base.specs.TokenKind.{EOF, ERROR}
 use Rattle.rap_events.specs.Record.{Record, next_kind}
-use Rattle.rap_events.specs.Forest.{Forest, none, node, leaf, mark}
+use Rattle.rap_events.specs.Forest.{Forest, none, node, leaf, message}
 use Rattle.rap_events.specs.Machine.{push}
 use Rattle.rap_events.specs.State.{State, state, next, but_last, Opened, Told, Bumped, Completed, skipped, Skipped}
 use Rattle.rap_events.specs.declared.parser.Parser.{Parser}
@@ -13,7 +13,7 @@ pub rest_at_end : (p : Parser) → next (state p) ≡ EOF → (state p).rest ≡
 unfolding state
 rest_at_end p h = no_end p.input.now p.pos p.tokens h
 
-skipped-some : (rs : List Record) (bytes : List ℕ) → next_kind rs ≢ EOF → leaf (mark none bytes) (next_kind rs) 1 ≡ skipped rs bytes
+skipped-some : (rs : List Record) (bytes : List ℕ) → next_kind rs ≢ EOF → leaf (message none bytes) (next_kind rs) 1 ≡ skipped rs bytes
 skipped-some [] bytes h = absurd (h refl)
 skipped-some (r ∷ rs) bytes h = refl
 
@@ -32,7 +32,7 @@ pub inside_some : (s0 s1 s2 s3 : State) (n : ℕ) (bytes : List ℕ) → Opened 
 inside_some s0 s1 s2 s3 n bytes o t h b =
     let r : s2.rest ≡ s0.rest = t.rest ∙ o.recorded.rest in
     let some : next_kind s0.rest ≢ EOF = λ e. h (ap next_kind r ∙ e) in
-    let under : s2.forest ≡ mark none bytes = t.forest ∙ ap (λ (f : Forest). mark f bytes) o.forest in
+    let under : s2.forest ≡ message none bytes = t.forest ∙ ap (λ (f : Forest). message f bytes) o.forest in
     record {
       input = b.input ∙ t.input ∙ o.recorded.input;
       rest = b.rest ∙ ap (drop 1) r;
@@ -40,7 +40,7 @@ inside_some s0 s1 s2 s3 n bytes o t h b =
       less = λ _. omega (arith, b.left, t.left, o.recorded.left);
       count = omega (arith, b.left, t.left, o.recorded.left, b.count, t.count, o.recorded.count);
       messages = omega (arith, b.messages, t.messages, o.recorded.messages);
-      forest = b.forest ∙ ap (λ (f : Forest). leaf f (next s2) 1) under ∙ ap (λ (rs : List Record). leaf (mark none bytes) (next_kind rs) 1) r ∙ skipped-some s0.rest bytes some;
+      forest = b.forest ∙ ap (λ (f : Forest). leaf f (next s2) 1) under ∙ ap (λ (rs : List Record). leaf (message none bytes) (next_kind rs) 1) r ∙ skipped-some s0.rest bytes some;
       below = b.below ∙ t.below ∙ o.below;
     }
 
@@ -54,7 +54,7 @@ inside_end s0 s1 s2 n bytes o t e =
       less = λ h. absurd (h (ap next_kind r));
       count = omega (arith, t.left, o.recorded.left, t.count, o.recorded.count);
       messages = omega (arith, t.messages, o.recorded.messages);
-      forest = t.forest ∙ ap (λ (f : Forest). mark f bytes) o.forest ∙ sym (ap (λ (rs : List Record). skipped rs bytes) r);
+      forest = t.forest ∙ ap (λ (f : Forest). message f bytes) o.forest ∙ sym (ap (λ (rs : List Record). skipped rs bytes) r);
       below = t.below ∙ o.below;
     }
 

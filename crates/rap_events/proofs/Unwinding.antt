@@ -3,18 +3,21 @@ use Rattle.std.proofs.Common.{◌≡◌, ℕ, suc, ◌+◌, List, [], ◌∷◌,
 use Rattle.std.proofs.lemmas.List.{reverse-append, take-append-drop, drop_min, take_min}
 use Rattle.std.specs.Prelude.{String}
 use Rattle.std.specs.declared.alloc.Global.{Global}
-use Rattle.rap_events.specs.StepValue.{StepValue, enter, exit, token, message}
-use Rattle.rap_events.specs.Forest.{Forest, none, node, leaf, mark, ◌⧺◌, flat}
+use Rattle.rap_events.specs.StepValue.{StepValue, enter, exit, token, float_split, error}
+use Rattle.rap_events.specs.Forest.{Forest, none, node, leaf, message, split, ◌⧺◌, flat, ended_by, splits_placed}
 use Rattle.rap_events.specs.History.{Call}
 use Rattle.rap_events.specs.History as call
 use Rattle.rap_events.specs.Machine.{Stack, floor, push, Config, close, merge, wrap, stretch, step, run, initial}
+use Rattle.rap_events.specs.Interval.{without_exits, without_ends}
 use Rattle.rap_events.specs.Output.{values}
+use Rattle.rap_events.specs.Reading.{all_steps}
 use Rattle.rap_events.specs.Unwind.{Opening, Walk, enters, glue, others, back, unwind, nothing_yet, openings_of}
 use Rattle.rap_events.specs.declared.event.walk.Opening as kept
 use Rattle.rap_events.specs.declared.output.PlainStep.{PlainStep}
 use Rattle.rap_events.specs.declared.output.PlainStep.TheVariants as plain
 use Rattle.rap_events.proofs.Truth.{and_left}
 use Rattle.rap_events.proofs.MachineLemmas.{sound-run}
+use Rattle.rap_events.proofs.StepLemmas.{all_steps-⧺, without_ends-whole}
 
 pub unwind-push : (xs : List Call) (x : Call) (w : Walk) → unwind (xs ++ x ∷ []) w ≡ unwind xs (back x w)
 unwind-push [] x w = refl
@@ -23,37 +26,43 @@ unwind-push (y ∷ xs) x w = ap (back y) (unwind-push xs x w)
 -- the steps of all that is open, before the steps w
 close_all : Stack → List Opening → List StepValue → List StepValue
 close_all floor os w = w
-close_all (push r m b) os w = close_all r (others os) (flat b ++ (enters (glue os) ++ w))
+close_all (push r m b) os w = close_all r (others os) (all_steps b ++ (enters (glue os) ++ w))
 
--- to go on from here with U gives the steps of what is open at c
+-- to go on from here with U gives the steps of what is open at c; the steps w are those of v, whose floats stand for ends
 record Good (c : Config) (U : Walk → List StepValue) : Type 0 where
-  plain : (os : List Opening) (w : List StepValue) → U (record { kinds = []; skips = 0; openings = os; steps = w }) ≡ close_all c.below os (flat c.forest ++ w)
-  after_node : c.closed ≡ true → (b : Forest) (k : ℕ) (x : Forest) → c.forest ≡ node b k x → (g : List ℕ) (s : ℕ) (os : List Opening) (w : List StepValue) →
-      U (record { kinds = g; skips = s; openings = os; steps = w }) ≡ close_all (push c.below c.marker b) (record { kinds = g ++ k ∷ []; skips = s } ∷ os) (flat x ++ exit ∷ w)
-
-pub flat-⧺ : (f g : Forest) → flat (f ⧺ g) ≡ flat f ++ flat g
-flat-⧺ f none = sym (append-nil (flat f))
-flat-⧺ f (node b k x) = simp (flat-⧺ f b, append_assoc)
-flat-⧺ f (leaf b k w) = simp (flat-⧺ f b, append_assoc)
-flat-⧺ f (mark b m) = simp (flat-⧺ f b, append_assoc)
+  plain : (os : List Opening) (w v : List StepValue) → w ≡ without_ends v → U (record { kinds = []; skips = 0; openings = os; steps = w }) ≡ without_ends (close_all c.below os (all_steps c.forest ++ v))
+  after_node : c.closed ≡ true → (b : Forest) (k : ℕ) (x : Forest) → c.forest ≡ node b k x → (g : List ℕ) (s : ℕ) (os : List Opening) (w v : List StepValue) → w ≡ without_ends v →
+      U (record { kinds = g; skips = s; openings = os; steps = w }) ≡ without_ends (close_all (push c.below c.marker b) (record { kinds = g ++ k ∷ []; skips = s } ∷ os) (all_steps x ++ exit ∷ v))
 
 pub enters-push : (g : List ℕ) (k : ℕ) (w : List StepValue) → enters (g ++ k ∷ []) ++ w ≡ enters g ++ enter k ∷ w
 enters-push [] k w = refl
 enters-push (j ∷ g) k w = ap (λ (v : List StepValue). enter j ∷ v) (enters-push g k w)
 
+enters-without : (ks : List ℕ) (w v : List StepValue) → w ≡ without_ends v → enters ks ++ w ≡ without_ends (enters ks ++ v)
+enters-without [] w v e = e
+enters-without (k ∷ ks) w v e = ap (λ (u : List StepValue). enter k ∷ u) (enters-without ks w v e)
+
 good-start : (c : Config) (U : Walk → List StepValue) → Good c U → Good (step c call.start) (λ w. U (back call.start w))
 unfolding close_all
-good-start c U h = record { plain = λ os w. h.plain (others os) (enters (glue os) ++ w); after_node = λ e. absurd cc }
+good-start c U h = record { plain = λ os w v q. h.plain (others os) (enters (glue os) ++ w) (enters (glue os) ++ v) (enters-without (glue os) w v q); after_node = λ e. absurd cc }
 
 good-token : (k n : ℕ) (c : Config) (U : Walk → List StepValue) → Good c U → Good (step c (call.token k n)) (λ w. U (back (call.token k n) w))
 good-token k n c U h = record {
-  plain = λ os w. h.plain os (token k n ∷ w) ∙ ap (close_all c.below os) (sym (append_assoc (flat c.forest) (token k n ∷ []) w));
+  plain = λ os w v q. h.plain os (token k n ∷ w) (token k n ∷ v) (ap (λ (u : List StepValue). token k n ∷ u) q) ∙ ap (λ (u : List StepValue). without_ends (close_all c.below os u)) (sym (append_assoc (all_steps c.forest) (token k n ∷ []) v));
   after_node = λ e. absurd cc;
 }
 
-good-message : (m : List ℕ) (c : Config) (U : Walk → List StepValue) → Good c U → Good (step c (call.message m)) (λ w. U (back (call.message m) w))
-good-message m c U h = record {
-  plain = λ os w. h.plain os (message m ∷ w) ∙ ap (close_all c.below os) (sym (append_assoc (flat c.forest) (message m ∷ []) w));
+good-split : (d : Bool) (c : Config) (U : Walk → List StepValue) → Good c U → Good (step c (call.float_split d)) (λ w. U (back (call.float_split d) w))
+good-split d c U h = record {
+  plain = λ os w v q.
+      h.plain os (float_split d ∷ without_exits (ended_by d) w) (float_split d ∷ v) (ap (λ (u : List StepValue). float_split d ∷ without_exits (ended_by d) u) q)
+      ∙ ap (λ (u : List StepValue). without_ends (close_all c.below os u)) (sym (append_assoc (all_steps c.forest) (float_split d ∷ []) v));
+  after_node = λ e. absurd cc;
+}
+
+good-error : (m : List ℕ) (c : Config) (U : Walk → List StepValue) → Good c U → Good (step c (call.error m)) (λ w. U (back (call.error m) w))
+good-error m c U h = record {
+  plain = λ os w v q. h.plain os (error m ∷ w) (error m ∷ v) (ap (λ (u : List StepValue). error m ∷ u) q) ∙ ap (λ (u : List StepValue). without_ends (close_all c.below os u)) (sym (append_assoc (all_steps c.forest) (error m ∷ []) v));
   after_node = λ e. absurd cc;
 }
 
@@ -61,19 +70,19 @@ good-finish : (k : ℕ) (c : Config) (s : Stack) (U : Walk → List StepValue) �
 unfolding close_all
 good-finish k c floor U e t h = absurd cc
 good-finish k c (push r m b) U e t h = record {
-  plain = λ os w. h.plain (record { kinds = k ∷ []; skips = 0 } ∷ os) (exit ∷ w) ∙ rw (← e) (ap (close_all r os) (simp append_assoc));
-  after_node = λ d b' k' x' i g n os w.
+  plain = λ os w v q. h.plain (record { kinds = k ∷ []; skips = 0 } ∷ os) (exit ∷ w) (exit ∷ v) (ap (λ (u : List StepValue). exit ∷ u) q) ∙ rw (← e) (ap (λ (u : List StepValue). without_ends (close_all r os u)) (simp append_assoc));
+  after_node = λ d b' k' x' i g n os w v q.
       let eb : b ≡ b' = cc in
       let ek : k ≡ k' = cc in
       let ex : c.forest ≡ x' = cc in
-      rw (← eb, ← ek, ← ex) (h.plain (record { kinds = g ++ k ∷ []; skips = n } ∷ os) (exit ∷ w) ∙ rw (← e) refl);
+      rw (← eb, ← ek, ← ex) (h.plain (record { kinds = g ++ k ∷ []; skips = n } ∷ os) (exit ∷ w) (exit ∷ v) (ap (λ (u : List StepValue). exit ∷ u) q) ∙ rw (← e) refl);
 }
 
 good-abandon : (c : Config) (s : Stack) (U : Walk → List StepValue) → s ≡ c.below → (merge c s).sound ≡ true → Good c U → Good (merge c s) (λ w. U (back call.abandon w))
 unfolding close_all
 good-abandon c floor U e t h = absurd cc
 good-abandon c (push r m b) U e t h = record {
-  plain = λ os w. h.plain (record { kinds = []; skips = 0 } ∷ os) w ∙ rw (← e) (ap (close_all r os) (simp (flat-⧺ b c.forest, append_assoc)));
+  plain = λ os w v q. h.plain (record { kinds = []; skips = 0 } ∷ os) w v q ∙ rw (← e) (ap (λ (u : List StepValue). without_ends (close_all r os u)) (simp (all_steps-⧺ b c.forest, append_assoc)));
   after_node = λ d. absurd cc;
 }
 
@@ -81,11 +90,12 @@ good-precede : (c : Config) (a : Bool) (x : Forest) (U : Walk → List StepValue
 unfolding close_all
 good-precede c a none U d e t h = absurd cc
 good-precede c a (leaf f k w) U d e t h = absurd cc
-good-precede c a (mark f m) U d e t h = absurd cc
+good-precede c a (message f m) U d e t h = absurd cc
+good-precede c a (split f m) U d e t h = absurd cc
 good-precede c false (node f k x) U d e t h = absurd cc
 good-precede c true (node f k x) U d e t h = record {
-  plain = λ os w. h.after_node (sym d) f k x (sym e) (glue os) 0 (others os) w
-      ∙ ap (λ (v : List StepValue). close_all c.below (others os) (flat f ++ v)) (enters-push (glue os) k (flat x ++ exit ∷ w) ∙ simp append_assoc);
+  plain = λ os w v q. h.after_node (sym d) f k x (sym e) (glue os) 0 (others os) w v q
+      ∙ ap (λ (u : List StepValue). without_ends (close_all c.below (others os) (all_steps f ++ u))) (enters-push (glue os) k (all_steps x ++ exit ∷ v) ∙ simp append_assoc);
   after_node = λ z. absurd cc;
 }
 
@@ -94,16 +104,17 @@ unfolding close_all
 good-extend c x floor U e p t h = absurd cc
 good-extend c none (push r m b) U e p t h = absurd cc
 good-extend c (leaf f k n) (push r m b) U e p t h = absurd cc
-good-extend c (mark f y) (push r m b) U e p t h = absurd cc
+good-extend c (message f y) (push r m b) U e p t h = absurd cc
+good-extend c (split f y) (push r m b) U e p t h = absurd cc
 good-extend c (node f k x) (push r m b) U e p t h =
     let d : c.closed ≡ true = and_left c.closed c.sound t in
     record {
-      plain = λ os w. h.after_node d f k x (sym e) [] 1 os w ∙ rw (← p) (ap (close_all r os) (simp (flat-⧺ f x, append_assoc)));
-      after_node = λ z b' k' x' i g n os w.
+      plain = λ os w v q. h.after_node d f k x (sym e) [] 1 os w v q ∙ rw (← p) (ap (λ (u : List StepValue). without_ends (close_all r os u)) (simp (all_steps-⧺ f x, append_assoc)));
+      after_node = λ z b' k' x' i g n os w v q.
           let eb : b ≡ b' = cc in
           let ek : k ≡ k' = cc in
           let ex : (f ⧺ x) ≡ x' = cc in
-          rw (← eb, ← ek, ← ex) (h.after_node d f k x (sym e) g (suc n) os w ∙ rw (← p) (simp (flat-⧺ f x, append_assoc)));
+          rw (← eb, ← ek, ← ex) (h.after_node d f k x (sym e) g (suc n) os w v q ∙ rw (← p) (simp (all_steps-⧺ f x, append_assoc)));
     }
 
 good-step : (c : Config) (x : Call) (U : Walk → List StepValue) → (step c x).sound ≡ true → Good c U → Good (step c x) (λ w. U (back x w))
@@ -113,7 +124,8 @@ good-step c (call.finish k) U t h = good-finish k c c.below U refl t h
 good-step c call.extend U t h = good-extend c c.forest c.below U refl refl t h
 good-step c call.abandon U t h = good-abandon c c.below U refl t h
 good-step c (call.token k n) U t h = good-token k n c U h
-good-step c (call.message m) U t h = good-message m c U h
+good-step c (call.float_split d) U t h = good-split d c U h
+good-step c (call.error m) U t h = good-error m c U h
 
 good-run : (c : Config) (xs : List Call) (U : Walk → List StepValue) → (run c xs).sound ≡ true → Good c U → Good (run c xs) (λ w. U (unwind xs w))
 good-run c [] U t h = h
@@ -121,12 +133,14 @@ good-run c (x ∷ xs) U t h = good-run (step c x) xs (λ w. U (back x w)) t (goo
 
 good-initial : Good initial (λ w. w.steps)
 unfolding close_all
-good-initial = record { plain = λ os w. refl; after_node = λ e. absurd cc }
+good-initial = record { plain = λ os w v q. q; after_node = λ e. absurd cc }
 
 -- reading all calls back gives the steps of the forest
-pub unwound : (xs : List Call) → (run initial xs).sound ≡ true → (run initial xs).below ≡ floor → (unwind xs nothing_yet).steps ≡ flat (run initial xs).forest
+pub unwound : (xs : List Call) → (run initial xs).sound ≡ true → (run initial xs).below ≡ floor → splits_placed (run initial xs).forest ≡ true → (unwind xs nothing_yet).steps ≡ flat (run initial xs).forest
 unfolding close_all
-unwound xs t f = (good-run initial xs (λ w. w.steps) t good-initial).plain [] [] ∙ rw f (append-nil (flat (run initial xs).forest))
+unwound xs t f p =
+    let F : Forest = (run initial xs).forest in
+    (good-run initial xs (λ w. w.steps) t good-initial).plain [] [] [] refl ∙ rw f (ap without_ends (append-nil (all_steps F)) ∙ without_ends-whole F p)
 
 pub back-skips : (x : Call) (w : Walk) → (back x w).skips ≤ w.skips + 1
 back-skips call.start w = omega arith
@@ -135,7 +149,8 @@ back-skips (call.finish k) w = omega arith
 back-skips call.extend w = omega arith
 back-skips call.abandon w = omega arith
 back-skips (call.token k n) w = omega arith
-back-skips (call.message m) w = omega arith
+back-skips (call.float_split d) w = omega arith
+back-skips (call.error m) w = omega arith
 
 -- one more node begins
 pub entered : (kinds kinds' : List ℕ) (k : ℕ) (steps steps' : List PlainStep) (ms : List (String Global)) → kinds ≡ kinds' ++ k ∷ [] → steps' ≡ steps ++ plain.Enter k ∷ [] →

@@ -3,7 +3,7 @@ use Rattle.std.specs.Prelude.{◌≡◌, ◌≢◌, ℕ, ◌<◌, ◌≤◌, Boo
 use Rattle.rap_base.specs.TokenKind.{L_PAREN, R_PAREN, L_BRACK, R_BRACK, R_CURLY}
 use Rattle.rap_base.specs.TokenTests.{is_l_delimiter, is_delimiter}
 use Rattle.rap_base.specs.NodeKind.{BIN_EXPR, TOKEN_TREE}
-use Rattle.rap_events.specs.Forest.{Forest, none, node, leaf, mark}
+use Rattle.rap_events.specs.Forest.{Forest, none, node, leaf, message, split}
 use Rattle.rap_events.specs.Machine.{Stack, floor, push, Config}
 use Rattle.rap_events.specs.Power.{power, operator, open_ended}
 
@@ -54,7 +54,8 @@ abbrev pub AllFitIn : Forest → Type 0
 AllFitIn none = Unit {0}
 AllFitIn (node before kind children) = AllFitIn before × AllFitIn children × Fit kind children
 AllFitIn (leaf before kind width) = AllFitIn before
-AllFitIn (mark before bytes) = AllFitIn before
+AllFitIn (message before bytes) = AllFitIn before
+AllFitIn (split before ends_in_dot) = AllFitIn before
 
 abbrev pub StackFit : Stack → Type 0
 StackFit floor = Unit {0}

@@ -1,6 +1,7 @@
 -- The tree of a history: its nodes are intervals of call numbers.
-use Rattle.std.specs.Prelude.{ℕ, ◌+◌, ◌<◌, ◌≤◌, ◌⊎◌, List, [], ◌∷◌, ◌++◌, drop, ◌==◌, if◌then◌else◌}
-use Rattle.rap_events.specs.StepValue.{StepValue, enter, exit, token, message}
+use Rattle.std.specs.Prelude.{ℕ, ◌+◌, ◌<◌, ◌≤◌, ◌⊎◌, zero, suc, List, [], ◌∷◌, ◌++◌, drop, ◌==◌, if◌then◌else◌}
+use Rattle.rap_events.specs.StepValue.{StepValue, enter, exit, token, float_split, error}
+use Rattle.rap_events.specs.Forest.{ended_by}
 use Rattle.rap_events.specs.History.{Call}
 use Rattle.rap_events.specs.History as call
 
@@ -43,7 +44,8 @@ marked number (call.finish kind) m = record { markers = drop 1 m.markers; nodes 
 marked number call.extend m = record { markers = drop 1 m.markers; nodes = with_last_from (newest m.markers) m.nodes }
 marked number call.abandon m = record { markers = drop 1 m.markers; nodes = m.nodes }
 marked number (call.token kind width) m = m
-marked number (call.message bytes) m = m
+marked number (call.float_split ends_in_dot) m = m
+marked number (call.error bytes) m = m
 
 abbrev pub marked_from : ℕ → List Call → Marked → Marked
 marked_from number [] m = m
@@ -67,7 +69,7 @@ abbrev pub ends : List Interval → ℕ → List StepValue
 ends [] number = []
 ends (n ∷ ns) number = if n.end == number then exit ∷ ends ns number else ends ns number
 
--- the leaf or the message that a call is
+-- the leaf, the float or the message that a call is
 abbrev pub point : Call → List StepValue
 point call.start = []
 point call.precede = []
@@ -75,13 +77,36 @@ point (call.finish kind) = []
 point call.extend = []
 point call.abandon = []
 point (call.token kind width) = token kind width ∷ []
-point (call.message bytes) = message bytes ∷ []
+point (call.float_split ends_in_dot) = float_split ends_in_dot ∷ []
+point (call.error bytes) = error bytes ∷ []
 
--- from a number on, at each number: the nodes that begin there, its leaf or message, and the nodes that end there
+-- from a number on, at each number: the nodes that begin there, its leaf, float or message, and the nodes that end there
 abbrev pub steps_between : List Interval → ℕ → List Call → List StepValue
 steps_between ns number [] = []
 steps_between ns number (x ∷ xs) = begins ns number ++ (point x ++ (ends ns number ++ steps_between ns (number + 1) xs))
 
+abbrev pub without_exit : List StepValue → List StepValue
+without_exit [] = []
+without_exit (enter kind ∷ ss) = enter kind ∷ ss
+without_exit (exit ∷ ss) = ss
+without_exit (token kind width ∷ ss) = token kind width ∷ ss
+without_exit (float_split ends_in_dot ∷ ss) = float_split ends_in_dot ∷ ss
+without_exit (error bytes ∷ ss) = error bytes ∷ ss
+
+-- the steps without so many of the first of them, as far as these are ends
+abbrev pub without_exits : ℕ → List StepValue → List StepValue
+without_exits zero ss = ss
+without_exits (suc n) ss = without_exits n (without_exit ss)
+
+-- the steps, where that of a float that is taken apart stands for the ends of the nodes that it ends
+abbrev pub without_ends : List StepValue → List StepValue
+without_ends [] = []
+without_ends (enter kind ∷ ss) = enter kind ∷ without_ends ss
+without_ends (exit ∷ ss) = exit ∷ without_ends ss
+without_ends (token kind width ∷ ss) = token kind width ∷ without_ends ss
+without_ends (float_split ends_in_dot ∷ ss) = float_split ends_in_dot ∷ without_exits (ended_by ends_in_dot) (without_ends ss)
+without_ends (error bytes ∷ ss) = error bytes ∷ without_ends ss
+
 -- the steps of the tree in which these intervals and points are nested
 abbrev pub tree_steps : List Call → List StepValue
-tree_steps xs = steps_between (nodes_of xs) 0 xs
+tree_steps xs = without_ends (steps_between (nodes_of xs) 0 xs)

@@ -1,6 +1,7 @@
 pub mod Composite
 pub mod Cover
 pub mod Fit
+pub mod FloatSplit
 pub mod Forest
 pub mod History
 pub mod Input

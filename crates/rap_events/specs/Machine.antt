@@ -1,6 +1,6 @@
 -- What a history has made so far: the forest under the newest open marker, and the older open markers below.
 use Rattle.std.specs.Prelude.{ℕ, ◌+◌, List, [], ◌∷◌, ◌++◌, Option, Some, None, Bool, true, false, ◌&&◌}
-use Rattle.rap_events.specs.Forest.{Forest, none, node, leaf, mark, ◌⧺◌}
+use Rattle.rap_events.specs.Forest.{Forest, none, node, leaf, message, split, ◌⧺◌, splits_placed}
 use Rattle.rap_events.specs.Cover.{Leaf, leaves}
 use Rattle.rap_events.specs.History.{Call}
 use Rattle.rap_events.specs.History as call
@@ -44,7 +44,8 @@ misfit c = record { count = c.count + 1; messages = c.messages; closed = false; 
 abbrev pub wrap : Config → Bool → Forest → Config
 wrap c closed none = misfit c
 wrap c closed (leaf f k w) = misfit c
-wrap c closed (mark f m) = misfit c
+wrap c closed (message f m) = misfit c
+wrap c closed (split f d) = misfit c
 wrap c false (node f k x) = misfit c
 wrap c true (node f k x) = record { count = c.count + 1; messages = c.messages; closed = false; marker = Some c.count; forest = node none k x; below = push c.below c.marker f; sound = c.sound }
 
@@ -53,7 +54,8 @@ abbrev pub stretch : Config → Forest → Stack → Config
 stretch c x floor = misfit c
 stretch c none (push r m t) = misfit c
 stretch c (leaf f k w) (push r m t) = misfit c
-stretch c (mark f b) (push r m t) = misfit c
+stretch c (message f b) (push r m t) = misfit c
+stretch c (split f d) (push r m t) = misfit c
 stretch c (node f k x) (push r m t) = record { count = c.count + 1; messages = c.messages; closed = c.closed; marker = m; forest = node t k (f ⧺ x); below = r; sound = c.closed && c.sound }
 
 -- one call more
@@ -64,7 +66,8 @@ step c (call.finish kind) = close kind c c.below
 step c call.extend = stretch c c.forest c.below
 step c call.abandon = merge c c.below
 step c (call.token kind width) = record { count = c.count + 1; messages = c.messages; closed = false; marker = c.marker; forest = leaf c.forest kind width; below = c.below; sound = c.sound }
-step c (call.message bytes) = record { count = c.count + 1; messages = c.messages + 1; closed = false; marker = c.marker; forest = mark c.forest bytes; below = c.below; sound = c.sound }
+step c (call.float_split ends_in_dot) = record { count = c.count + 1; messages = c.messages; closed = false; marker = c.marker; forest = split c.forest ends_in_dot; below = c.below; sound = c.sound }
+step c (call.error bytes) = record { count = c.count + 1; messages = c.messages + 1; closed = false; marker = c.marker; forest = message c.forest bytes; below = c.below; sound = c.sound }
 
 -- all calls, one after another
 abbrev pub run : Config → List Call → Config
@@ -74,6 +77,14 @@ run c (x ∷ xs) = run (step c x) xs
 -- before the first call
 abbrev pub initial : Config
 initial = record { count = 0; messages = 0; closed = false; marker = None; forest = none; below = floor; sound = true }
+
+-- each float that was taken apart stands where it must
+abbrev pub stack_splits_placed : Stack → Bool
+stack_splits_placed floor = true
+stack_splits_placed (push r m b) = stack_splits_placed r && splits_placed b
+
+abbrev pub all_splits_placed : Config → Bool
+all_splits_placed c = stack_splits_placed c.below && splits_placed c.forest
 
 -- the leaves so far, in order
 abbrev pub stack_leaves : Stack → List Leaf

@@ -1,7 +1,7 @@
 -- The steps that an output holds.
 use Rattle.std.specs.Prelude.{List, [], ◌∷◌, Option, Some, None, String, string_bytes}
 use Rattle.std.specs.declared.alloc.Global.{Global}
-use Rattle.rap_events.specs.StepValue.{StepValue, enter, exit, token, message}
+use Rattle.rap_events.specs.StepValue.{StepValue, enter, exit, token, float_split, error}
 use Rattle.rap_events.specs.declared.output.PlainStep.{PlainStep}
 use Rattle.rap_events.specs.declared.output.PlainStep.TheVariants as plain
 use Rattle.rap_events.specs.declared.output.StepList.{StepList}
@@ -10,10 +10,11 @@ use Rattle.rap_events.specs.declared.output.StepList.{StepList}
 abbrev pub values : List PlainStep → List (String Global) → List StepValue
 values [] ms = []
 values (plain.Token kind width ∷ ss) ms = token kind width ∷ values ss ms
+values (plain.FloatSplit ends_in_dot ∷ ss) ms = float_split ends_in_dot ∷ values ss ms
 values (plain.Enter kind ∷ ss) ms = enter kind ∷ values ss ms
 values (plain.Exit ∷ ss) ms = exit ∷ values ss ms
-values (plain.Error ∷ ss) [] = message [] ∷ values ss []
-values (plain.Error ∷ ss) (m ∷ ms) = message (string_bytes m) ∷ values ss ms
+values (plain.Error ∷ ss) [] = error [] ∷ values ss []
+values (plain.Error ∷ ss) (m ∷ ms) = error (string_bytes m) ∷ values ss ms
 
 -- what a contract sees of steps that may be there
 abbrev pub values_of : Option StepList → List StepValue

@@ -1,7 +1,7 @@
 -- How tightly operators bind.
 use Rattle.std.specs.Prelude.{ℕ, Bool, false, ◌==◌, ◌||◌, if◌then◌else◌, List, [], ◌∷◌, Option, Some, None}
-use Rattle.rap_base.specs.TokenKind.{EOF, EQ, PLUSEQ, MINUSEQ, STAREQ, SLASHEQ, PERCENTEQ, CARETEQ, AMPEQ, PIPEEQ, SHLEQ, SHREQ, DOT2, DOT2EQ, PIPE2, AMP2, EQ2, NEQ, L_ANGLE, R_ANGLE, LTEQ, GTEQ, PIPE, CARET, AMP, SHL, SHR, PLUS, MINUS, STAR, SLASH, PERCENT, AS_KW}
-use Rattle.rap_events.specs.Forest.{Forest, none, node, leaf, mark}
+use Rattle.rap_base.specs.TokenKind.{EOF, EQ, PLUSEQ, MINUSEQ, STAREQ, SLASHEQ, PERCENTEQ, CARETEQ, AMPEQ, PIPEEQ, SHLEQ, SHREQ, DOT2, DOT2EQ, PIPE2, AMP2, EQ2, NEQ, L_ANGLE, R_ANGLE, LTEQ, GTEQ, PIPE, CARET, AMP, SHL, SHR, PLUS, MINUS, STAR, SLASH, PERCENT, AS_KW, FLOAT_NUMBER}
+use Rattle.rap_events.specs.Forest.{Forest, none, node, leaf, message, split}
 
 -- the operators between two expressions, each with its power
 abbrev pub powers : List (ℕ × ℕ)
@@ -32,14 +32,16 @@ abbrev pub leaf_kind : Forest → ℕ
 leaf_kind none = EOF
 leaf_kind (node before kind children) = EOF
 leaf_kind (leaf before kind width) = kind
-leaf_kind (mark before bytes) = EOF
+leaf_kind (message before bytes) = EOF
+leaf_kind (split before ends_in_dot) = EOF
 
 -- the operator of a binary expression over these children
 abbrev pub operator : Forest → ℕ
 operator none = EOF
 operator (node before kind children) = leaf_kind before
 operator (leaf before kind width) = EOF
-operator (mark before bytes) = EOF
+operator (message before bytes) = EOF
+operator (split before ends_in_dot) = EOF
 
 abbrev pub or_else : Option ℕ → Option ℕ → Option ℕ
 or_else (Some kind) o = Some kind
@@ -50,7 +52,8 @@ abbrev pub last_leaf : Forest → Option ℕ
 last_leaf none = None
 last_leaf (node before kind children) = or_else (last_leaf children) (last_leaf before)
 last_leaf (leaf before kind width) = Some kind
-last_leaf (mark before bytes) = last_leaf before
+last_leaf (message before bytes) = last_leaf before
+last_leaf (split before ends_in_dot) = Some FLOAT_NUMBER
 
 abbrev pub is_dots : Option ℕ → Bool
 is_dots None = false

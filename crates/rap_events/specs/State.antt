@@ -1,13 +1,15 @@
 -- What a caller sees of a parser, and what each of its calls does to that.
-use Rattle.std.specs.Prelude.{◌≡◌, ◌≢◌, ℕ, ◌+◌, ◌≤◌, ◌<◌, List, [], ◌∷◌, ◌++◌, Option, Some, Bool, true, false, length, drop, map, string_bytes, codes, ◌||◌, ◌==◌}
+use Rattle.std.specs.Prelude.{◌≡◌, ◌≢◌, ℕ, ◌+◌, ◌≤◌, ◌<◌, List, [], ◌∷◌, ◌++◌, Option, Some, Bool, true, false, length, drop, map, string_bytes, codes, ◌||◌, ◌==◌, not}
 use Rattle.rap_base.specs.TokenKind.{EOF, ERROR, L_CURLY, R_CURLY}
+use Rattle.rap_base.specs.NodeKind.{FIELD_EXPR}
 use Rattle.rap_base.specs.TokenSet.{member}
 use Rattle.rap_base.specs.declared.token_set.TokenSet.{TokenSet}
 use Rattle.rap_base.specs.Names.{name_of}
-use Rattle.rap_events.specs.Record.{Record, next_kind, contextual_at}
+use Rattle.rap_events.specs.Record.{Record, next_kind, contextual_at, joint_at}
 use Rattle.rap_events.specs.Composite.{is_at, width}
 use Rattle.rap_events.specs.Cover.{first_may_bear}
-use Rattle.rap_events.specs.Forest.{Forest, none, node, leaf, mark, ◌⧺◌}
+use Rattle.rap_events.specs.FloatSplit.{split_children, split_calls}
+use Rattle.rap_events.specs.Forest.{Forest, none, node, leaf, message, split, ◌⧺◌}
 use Rattle.rap_events.specs.History.{Call, history}
 use Rattle.rap_events.specs.Machine.{Stack, push, Config, run, initial, top}
 use Rattle.rap_events.specs.declared.parser.Parser.{Parser}
@@ -70,14 +72,16 @@ unfoldable pub but_last : Forest → Forest
 but_last none = none
 but_last (node before kind children) = before
 but_last (leaf before kind width) = before
-but_last (mark before bytes) = before
+but_last (message before bytes) = before
+but_last (split before ends_in_dot) = before
 
 -- what the last tree has under it
 unfoldable pub last_children : Forest → Forest
 last_children none = none
 last_children (node before kind children) = children
 last_children (leaf before kind width) = none
-last_children (mark before bytes) = none
+last_children (message before bytes) = none
+last_children (split before ends_in_dot) = none
 
 -- the tokens are as before, and one more call is recorded, which told no message
 pub record Recorded (old new : State) : Type 0 where
@@ -146,8 +150,21 @@ pub record Told (old new : State) (bytes : List ℕ) : Type 0 where
   pub count : new.count ≡ old.count + 1
   pub messages : new.messages ≡ old.messages + 1
   pub marker : new.marker ≡ old.marker
-  pub forest : new.forest ≡ mark old.forest bytes
+  pub forest : new.forest ≡ message old.forest bytes
   pub below : new.below ≡ old.below
+
+-- A float is taken, which ends in a dot or not, and the newest marker is a field access that ends with it, the last node
+-- under the marker below. Where the float does not end in a dot, that node has another one around it.
+pub record SplitFloat (old new : State) (ends_in_dot : Bool) : Type 0 where
+  pub decided : joint_at old.rest 0 ≡ not ends_in_dot
+  pub input : new.input ≡ old.input
+  pub rest : new.rest ≡ drop 1 old.rest
+  pub left : old.left ≡ new.left + 1
+  pub count : new.count ≡ old.count + length (split_calls ends_in_dot)
+  pub messages : new.messages ≡ old.messages
+  pub below : old.below ≡ push new.below new.marker (but_last new.forest)
+  pub forest : new.forest ≡ node (but_last new.forest) FIELD_EXPR (split_children old.forest ends_in_dot)
+  pub children : last_children new.forest ≡ split_children old.forest ends_in_dot
 
 -- a token of this kind was taken if one came next, and else nothing was done
 pub record Ate (old new : State) (kind : ℕ) (taken : Bool) : Type 0 where
@@ -191,8 +208,8 @@ pub record Expected (old new : State) (kind : ℕ) (taken : Bool) : Type 0 where
 
 -- a message, and the next token if there is one
 abbrev pub skipped : List Record → List ℕ → Forest
-skipped [] bytes = mark none bytes
-skipped (r ∷ rs) bytes = leaf (mark none bytes) r.kind 1
+skipped [] bytes = message none bytes
+skipped (r ∷ rs) bytes = leaf (message none bytes) r.kind 1
 
 -- an `ERROR` over a message and the next token, or over the message alone at the end
 pub record Skipped (old new : State) (bytes : List ℕ) : Type 0 where

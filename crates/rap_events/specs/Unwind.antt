@@ -1,9 +1,11 @@
 -- Reading a history from its last call back: what is kept on the way, and what each call does to it.
 use Rattle.std.specs.Prelude.{◌≡◌, ℕ, suc, zero, List, [], ◌∷◌, ◌++◌, reverse, take, drop, String, string_bytes}
 use Rattle.std.specs.declared.alloc.Global.{Global}
-use Rattle.rap_events.specs.StepValue.{StepValue, enter, exit, token, message}
+use Rattle.rap_events.specs.StepValue.{StepValue, enter, exit, token, float_split, error}
 use Rattle.rap_events.specs.History.{Call}
 use Rattle.rap_events.specs.History as call
+use Rattle.rap_events.specs.Forest.{ended_by}
+use Rattle.rap_events.specs.Interval.{without_exits}
 use Rattle.rap_events.specs.Output.{values}
 use Rattle.rap_events.specs.declared.event.Event.{Event}
 use Rattle.rap_events.specs.declared.event.Event.TheVariants as event
@@ -54,7 +56,8 @@ back (call.finish k) w = record { kinds = []; skips = 0; openings = record { kin
 back call.extend w = record { kinds = w.kinds; skips = suc w.skips; openings = w.openings; steps = w.steps }
 back call.abandon w = record { kinds = []; skips = 0; openings = record { kinds = []; skips = 0 } ∷ w.openings; steps = w.steps }
 back (call.token k width) w = record { kinds = []; skips = 0; openings = w.openings; steps = token k width ∷ w.steps }
-back (call.message bytes) w = record { kinds = []; skips = 0; openings = w.openings; steps = message bytes ∷ w.steps }
+back (call.float_split ends_in_dot) w = record { kinds = []; skips = 0; openings = w.openings; steps = float_split ends_in_dot ∷ without_exits (ended_by ends_in_dot) w.steps }
+back (call.error bytes) w = record { kinds = []; skips = 0; openings = w.openings; steps = error bytes ∷ w.steps }
 
 -- all calls back, the last one first
 abbrev pub unwind : List Call → Walk → Walk
@@ -88,7 +91,7 @@ pub record Backed (x : Call) (old new : kept.Walk) : Type 0 where
 pub record ToldBack (old new : kept.Walk) : Type 0 where
   pub text : String Global
   pub messages : old.messages.items ≡ new.messages.items ++ text ∷ []
-  pub walk : walk_of new ≡ back (call.message (string_bytes text)) (walk_of old)
+  pub walk : walk_of new ≡ back (call.error (string_bytes text)) (walk_of old)
 
 -- an event was taken back
 abbrev pub EventBacked : Event → kept.Walk → kept.Walk → Type 0
@@ -98,4 +101,5 @@ EventBacked (event.Finish kind) old new = Backed (call.finish kind) old new
 EventBacked event.Extend old new = Backed call.extend old new
 EventBacked event.Abandon old new = Backed call.abandon old new
 EventBacked (event.Token kind width) old new = Backed (call.token kind width) old new
+EventBacked (event.FloatSplit ends_in_dot) old new = Backed (call.float_split ends_in_dot) old new
 EventBacked event.Error old new = ToldBack old new

@@ -1,6 +1,6 @@
 //! What a parser records, and what it makes of it.
 ghost use Rattle.std.specs.Prelude.{◌≡◌, ◌^◌, ◌<◌, map, length, true, IfOk, string_bytes};
-ghost use Rattle.rap_events.specs.Machine.{run, initial, floor};
+ghost use Rattle.rap_events.specs.Machine.{run, initial, floor, all_splits_placed};
 
 use crate::output::Output;
 use rap_base::no_memory::NoMemory;
@@ -12,7 +12,7 @@ mod walk;
 
 use walk::Walk;
 
-/// One call of a parser: a marker's start or end, a token, or a message.
+/// One call of a parser: a marker's start or end, a token, a float that is taken apart, or a message.
 ///
 /// Events are only ever appended: a node that another one precedes or extends is not changed in place.
 #[derive(Clone, Copy, PartialEq, Eq, Debug)]
@@ -22,13 +22,23 @@ pub(crate) enum Event {
     /// A marker is started before the node that the event before this one finished.
     Precede,
     /// The newest open marker becomes a node.
-    Finish { kind: SyntaxKind },
+    Finish {
+        kind: SyntaxKind,
+    },
     /// The node that was just finished begins where the newest open marker does, and that marker is gone.
     Extend,
     /// The newest open marker is forgotten.
     Abandon,
     /// So many tokens of the input are taken as one token.
-    Token { kind: SyntaxKind, n_raw_tokens: u8 },
+    Token {
+        kind: SyntaxKind,
+        n_input_tokens: u8,
+    },
+    /// A float of a field access is taken apart. It ends the nodes that the next calls finish: one `FIELD_EXPR`, and
+    /// where it does not end in a dot, two.
+    FloatSplit {
+        ends_in_dot: bool,
+    },
     /// A message is told: the n-th error has the parser's n-th message.
     Error,
 }
@@ -50,6 +60,7 @@ impl Event {
         requires paired { errors events.now ≡ length messages.items }
         requires sound { (run initial (history events.now (map string_bytes messages.items))).sound ≡ true }
         requires closed { (run initial (history events.now (map string_bytes messages.items))).below ≡ floor }
+        requires splits { all_splits_placed (run initial (history events.now (map string_bytes messages.items))) ≡ true }
         ensures { IfOk result (λ output. output ≡ (run initial (history events.now (map string_bytes messages.items))).forest) }
     {
         let mut walk = Walk::new(alloc, events.len(), messages)?;

@@ -1,9 +1,9 @@
 //! What a parse gives: the steps of its forest.
-ghost use Rattle.std.specs.Prelude.{◌≡◌, ◌≤◌, ◌<◌, ◌^◌, List, ◌∷◌, length, IfOk};
-ghost use Rattle.rap_events.specs.StepValue.{message};
+ghost use Rattle.std.specs.Prelude.{◌≡◌, ◌≤◌, ◌<◌, ◌^◌, List, ◌∷◌, length, true, IfOk};
+ghost use Rattle.rap_events.specs.StepValue.{error};
 ghost use Rattle.rap_events.specs.Output.{values};
 ghost use Rattle.rap_events.specs.declared.output.PlainStep.TheVariants as plain;
-ghost use Rattle.rap_events.specs.Forest.{none, node, flat};
+ghost use Rattle.rap_events.specs.Forest.{none, node, flat, splits_placed};
 ghost use Rattle.rap_events.specs.Reading.{forest_of};
 
 use rap_base::no_memory::NoMemory;
@@ -18,6 +18,9 @@ pub(crate) enum PlainStep {
     Token {
         kind: SyntaxKind,
         n_input_tokens: u8,
+    },
+    FloatSplit {
+        ends_in_dot: bool,
     },
     Enter {
         kind: SyntaxKind,
@@ -43,7 +46,8 @@ pub struct Output {
 
 impl Model for Output {
     ghost use Rattle.std.specs.Prelude.{◌≡◌};
-    ghost use Rattle.rap_events.specs.Forest.{Forest, flat};
+    ghost use Rattle.std.specs.Prelude.{true};
+    ghost use Rattle.rap_events.specs.Forest.{Forest, flat, splits_placed};
     ghost use Rattle.rap_events.specs.Reading.{forest_of, forest_code};
 
     ghost Value = { Forest };
@@ -54,7 +58,7 @@ impl Model for Output {
 
     ghost view = { λ output. forest_of (values_of output.list) };
 
-    ghost invariant = { λ output. flat (forest_of (values_of output.list)) ≡ values_of output.list };
+    ghost invariant = { λ output. (flat (forest_of (values_of output.list)) ≡ values_of output.list) × (splits_placed (forest_of (values_of output.list)) ≡ true) };
 }
 
 /// No steps.
@@ -72,7 +76,8 @@ impl Default for Output {
 impl Output {
     /// The output that these steps make, each error with the next of the messages.
     pub(crate) fn of_steps(steps: Vec<PlainStep>, messages: Vec<String>) -> Output
-        requires { flat (forest_of (values steps.items messages.items)) ≡ values steps.items messages.items }
+        requires steps { flat (forest_of (values steps.items messages.items)) ≡ values steps.items messages.items }
+        requires splits { splits_placed (forest_of (values steps.items messages.items)) ≡ true }
         ensures { result ≡ forest_of (values steps.items messages.items) }
     {
         Output {
@@ -82,7 +87,8 @@ impl Output {
 
     /// The steps that show this forest.
     fn into_list(self, alloc: Global) -> StepList
-        ensures { values result.steps.items result.messages.items ≡ flat self }
+        ensures list { values result.steps.items result.messages.items ≡ flat self }
+        ensures splits { splits_placed self ≡ true }
     {
         match self.list {
             Some(list) => list,
@@ -98,6 +104,7 @@ impl Output {
     pub fn iter(&self) -> Steps<'_>
         ensures steps { result ≡ flat self.now }
         ensures few { length (flat self.now) < 2 ^ 64 }
+        ensures splits { splits_placed self.now ≡ true }
     {
         match &self.list {
             Some(list) => Steps {
@@ -115,7 +122,7 @@ impl Output {
 /// The output's forest as the children of one node.
 ///
 /// The error is want of memory.
-pub fn under(alloc: Global, output: Output, kind: SyntaxKind) -> Result<Output, NoMemory>
+pub fn wrap_in_node(alloc: Global, output: Output, kind: SyntaxKind) -> Result<Output, NoMemory>
     ensures { IfOk result (λ wrapped. wrapped ≡ node none kind output) }
 {
     let StepList {
@@ -127,13 +134,19 @@ pub fn under(alloc: Global, output: Output, kind: SyntaxKind) -> Result<Output, 
     Ok(Output::of_steps(steps, messages))
 }
 
-/// A step of an output: `n_input_tokens` tokens under one kind, the beginning of a node, the end of the newest open
-/// one, or a message.
+/// A step of an output: `n_input_tokens` tokens under one kind, a float of a field access that is taken apart, the
+/// beginning of a node, the end of the newest open one, or a message.
+///
+/// A float stands for the end of the newest open node too, and where it does not end in a dot, for that of the two
+/// newest.
 #[derive(Clone, Copy, Debug)]
 pub enum Step<'a> {
     Token {
         kind: SyntaxKind,
         n_input_tokens: u8,
+    },
+    FloatSplit {
+        ends_in_dot: bool,
     },
     Enter {
         kind: SyntaxKind,
@@ -190,6 +203,7 @@ impl<'a> Iterator for Steps<'a> {
                 kind,
                 n_input_tokens,
             },
+            PlainStep::FloatSplit { ends_in_dot } => Step::FloatSplit { ends_in_dot },
             PlainStep::Enter { kind } => Step::Enter { kind },
             PlainStep::Exit => Step::Exit,
             PlainStep::Error => {
@@ -218,7 +232,7 @@ impl<'a> ExactSizeIterator for Steps<'a> {
 
 // The first message, or nothing where there is none, and the later ones.
 fn first_message(messages: &[String]) -> (&str, &[String])
-    ensures { (ss : List PlainStep) → values (plain.Error ∷ ss) messages.now ≡ message result.0.now ∷ values ss result.1.now }
+    ensures { (ss : List PlainStep) → values (plain.Error ∷ ss) messages.now ≡ error result.0.now ∷ values ss result.1.now }
 {
     match messages.split_first() {
         Some((first, later)) => (first.as_str(), later),

@@ -1,13 +1,15 @@
 //! The parser: a place in the input, and what was recorded so far.
 ghost use Rattle.std.specs.Prelude.{◌≡◌, ◌==◌, ◌^◌, ◌≢◌, ℕ, ◌+◌, ◌-◌, ◌<◌, ◌≤◌, List, [], ◌∷◌, ◌++◌, length, drop, map, true, All, AllPairs, IfOk, OnOk, IsTrue, Some, None, string_bytes};
-ghost use Rattle.rap_base.specs.TokenKind.{EOF, IDENT};
+ghost use Rattle.rap_base.specs.TokenKind.{EOF, IDENT, FLOAT_NUMBER};
+ghost use Rattle.rap_base.specs.NodeKind.{FIELD_EXPR};
 ghost use Rattle.rap_base.specs.TokenSet.{member};
 ghost use Rattle.rap_base.specs.Keyword.{is_any_identifier};
 ghost use Rattle.rap_events.specs.Record.{IsTokenRecord};
 ghost use Rattle.rap_events.specs.Cover.{stand, widths};
 ghost use Rattle.rap_events.specs.History.{history, errors};
-ghost use Rattle.rap_events.specs.Machine.{run, initial, all_leaves};
+ghost use Rattle.rap_events.specs.Machine.{run, initial, all_leaves, all_splits_placed};
 ghost use Rattle.rap_events.specs.Fit.{AllFit};
+ghost use Rattle.rap_events.specs.FloatSplit.{split_calls};
 ghost use Rattle.std.proofs.Props.{props};
 
 use crate::event::Event;
@@ -41,6 +43,7 @@ pub struct Parser<'t> {
     ghost sound: { (run initial (history events.items (map string_bytes messages.items))).sound ≡ true },
     ghost covers: { stand (all_leaves (run initial (history events.items (map string_bytes messages.items)))) input.now ≡ true },
     ghost place: { widths (all_leaves (run initial (history events.items (map string_bytes messages.items)))) ≡ pos },
+    ghost splits: { all_splits_placed (run initial (history events.items (map string_bytes messages.items))) ≡ true },
     ghost fit: { (run initial (history events.items (map string_bytes messages.items))).messages ≡ 0 → ∥ AllFit (run initial (history events.items (map string_bytes messages.items))) ∥₁ },
 }
 
@@ -59,14 +62,14 @@ pub struct CompletedMarker {
 
 impl<'t> Parser<'t> {
     ghost use Rattle.rap_events.specs.History as call;
-    ghost use Rattle.rap_events.specs.Cover.{stands, covers};
+    ghost use Rattle.rap_events.specs.Cover.{stands, covers, of_tokens};
     ghost use Rattle.rap_events.specs.Fit.{AllFitIn};
-    ghost use Rattle.rap_events.specs.Forest.{flat, used, marks};
+    ghost use Rattle.rap_events.specs.Forest.{flat, used, message_count, splits_placed};
     ghost use Rattle.rap_events.specs.Interval.{tree_steps, nodes_of, Nested};
     ghost use Rattle.rap_events.specs.Machine.{floor};
     ghost use Rattle.rap_events.specs.Composite.{is_at, width};
     ghost use Rattle.rap_events.specs.Record.{kind_at, contextual_at, edition_at};
-    ghost use Rattle.rap_events.specs.State.{state, calls, start_state, Opened, Bumped, Told, Ate, AteAs, Expected, Skipped, Recovered, is_kept, next, next_contextual, At, Bears};
+    ghost use Rattle.rap_events.specs.State.{state, calls, start_state, Opened, Bumped, SplitFloat, IsLast, Told, Ate, AteAs, Expected, Skipped, Recovered, is_kept, next, next_contextual, At, Bears};
 
     /// At the first token, with nothing recorded. Takes no memory.
     pub fn new(alloc: Global, input: &'t Input) -> Self
@@ -202,8 +205,8 @@ impl<'t> Parser<'t> {
         ensures state { OnOk result (Bumped (state self.old) (state self.new) kind (width kind)) }
         ensures recorded { OnOk result (calls self.new ≡ calls self.old ++ call.token kind (width kind) ∷ []) }
     {
-        let n_raw_tokens = width_of(kind);
-        self.take(kind, n_raw_tokens)?;
+        let n_input_tokens = width_of(kind);
+        self.take(kind, n_input_tokens)?;
         Ok(())
     }
 
@@ -258,7 +261,7 @@ impl<'t> Parser<'t> {
     #[inline(never)]
     pub fn error(&mut self, message: &str) -> Result<(), NoMemory>
         ensures state { OnOk result (Told (state self.old) (state self.new) message.now) }
-        ensures recorded { OnOk result (calls self.new ≡ calls self.old ++ call.message message.now ∷ []) }
+        ensures recorded { OnOk result (calls self.new ≡ calls self.old ++ call.error message.now ∷ []) }
     {
         let message = String::from_str(self.alloc, message)?;
         self.tell(message)?;
@@ -300,20 +303,48 @@ impl<'t> Parser<'t> {
         kind == SyntaxKind::L_CURLY || kind == SyntaxKind::R_CURLY || self.at_ts(recovery)
     }
 
-    fn take(&mut self, kind: SyntaxKind, n_raw_tokens: u8) -> Result<(), NoMemory>
-        requires within { n_raw_tokens ≤ (state self.old).left }
-        requires stands { stands (record { kind = kind; width = n_raw_tokens }) (state self.old).rest ≡ true }
-        ensures state { OnOk result (Bumped (state self.old) (state self.new) kind n_raw_tokens) }
-        ensures recorded { OnOk result (calls self.new ≡ calls self.old ++ call.token kind n_raw_tokens ∷ []) }
+    /// Takes the next token, a float, apart: it is what follows the dot of a field access, which has the newest marker.
+    ///
+    /// It ends that access, and where it does not end in a dot, another one around it: `x.0.1` is a field of a field.
+    /// Tells whether it ends in a dot, with the field access that was finished last.
+    pub fn split_float(&mut self, marker: Marker) -> Result<(bool, CompletedMarker), NoMemory>
+        requires newest { (state self.old).marker ≡ Some marker.pos }
+        requires float { next (state self.old) ≡ FLOAT_NUMBER }
+        ensures state { IfOk result (λ r. SplitFloat (state self.old) (state self.new) r.0 × IsLast (state self.new) r.1 FIELD_EXPR) }
+        ensures recorded { IfOk result (λ r. calls self.new ≡ calls self.old ++ split_calls r.0) }
     {
-        self.events.push(Event::Token { kind, n_raw_tokens })?;
-        self.pos += usize::from(n_raw_tokens);
+        let kind = SyntaxKind::FIELD_EXPR;
+        let ends_in_dot = !self.input.is_joint(self.pos);
+        let count = split_len(ends_in_dot);
+        let events = [
+            Event::FloatSplit { ends_in_dot },
+            Event::Finish { kind },
+            Event::Precede,
+            Event::Finish { kind },
+        ];
+        self.events.extend_from_slice(&events[..count])?;
+        self.pos += 1;
+        let end = self.events.len();
+        Ok((ends_in_dot, CompletedMarker { end, kind }))
+    }
+
+    fn take(&mut self, kind: SyntaxKind, n_input_tokens: u8) -> Result<(), NoMemory>
+        requires within { n_input_tokens ≤ (state self.old).left }
+        requires stands { stands (of_tokens kind n_input_tokens) (state self.old).rest ≡ true }
+        ensures state { OnOk result (Bumped (state self.old) (state self.new) kind n_input_tokens) }
+        ensures recorded { OnOk result (calls self.new ≡ calls self.old ++ call.token kind n_input_tokens ∷ []) }
+    {
+        self.events.push(Event::Token {
+            kind,
+            n_input_tokens,
+        })?;
+        self.pos += usize::from(n_input_tokens);
         Ok(())
     }
 
     fn tell(&mut self, message: String) -> Result<(), NoMemory>
         ensures state { OnOk result (Told (state self.old) (state self.new) (string_bytes message)) }
-        ensures recorded { OnOk result (calls self.new ≡ calls self.old ++ call.message (string_bytes message) ∷ []) }
+        ensures recorded { OnOk result (calls self.new ≡ calls self.old ++ call.error (string_bytes message) ∷ []) }
     {
         self.events.reserve(1)?;
         self.messages.push(message)?;
@@ -332,7 +363,8 @@ impl<'t> Parser<'t> {
         ensures covers { IfOk result (λ output. covers (state self.entry).input output ≡ true) }
         ensures used { IfOk result (λ output. used output + (state self.entry).left ≡ length (state self.entry).input) }
         ensures rest { IfOk result (λ output. (state self.entry).rest ≡ drop (used output) (state self.entry).input) }
-        ensures fit { IfOk result (λ output. marks output ≡ 0 → ∥ AllFitIn output ∥₁) }
+        ensures splits { IfOk result (λ output. splits_placed output ≡ true) }
+        ensures fit { IfOk result (λ output. message_count output ≡ 0 → ∥ AllFitIn output ∥₁) }
     {
         let messages = self.messages;
         let output = Event::process(alloc, &self.events, messages)?;
@@ -348,6 +380,14 @@ impl<'t> Parser<'t> {
         self.events.push(Event::Start)?;
         Ok(Marker { pos })
     }
+}
+
+/// How many events show a float that is taken apart.
+fn split_len(ends_in_dot: bool) -> usize
+    ensures calls { result ≡ length (split_calls ends_in_dot) }
+    ensures few { result ≤ 4 }
+{
+    if ends_in_dot { 2 } else { 4 }
 }
 
 impl Marker {

@@ -1,5 +1,5 @@
 use crate::input::Input;
-use crate::output::{Output, Step, under};
+use crate::output::{Output, Step, wrap_in_node};
 use crate::parser::Parser;
 use rap_base::edition::Edition;
 use rap_base::no_memory::NoMemory;
@@ -9,7 +9,7 @@ use std::alloc::Global;
 use std::test::Fail;
 
 // The steps of an output in one line: a node as `KIND(..)`, a token by its kind and how many tokens it takes, a
-// message in quotes.
+// float that is taken apart by what it ends, a message in quotes.
 fn line(alloc: Global, output: &Output) -> Result<String, NoMemory> {
     let mut text = String::new(alloc);
     for step in output.iter() {
@@ -24,6 +24,8 @@ fn line(alloc: Global, output: &Output) -> Result<String, NoMemory> {
                 }
                 text.push_str(" ")?;
             }
+            Step::FloatSplit { ends_in_dot: true } => text.push_str("l. ) ")?,
+            Step::FloatSplit { ends_in_dot: false } => text.push_str("l.r ) ) ")?,
             Step::Enter { kind } => {
                 text.push_str(kind.name())?;
                 text.push_str("( ")?;
@@ -95,7 +97,7 @@ fn extends_and_abandons(rt: HostRuntime) -> Result<(), Fail> {
     let node = m.complete(&mut p, SyntaxKind::ERROR)?;
     node.extend_to(&mut p, older)?;
     let output = p.process(rt.alloc())?;
-    let whole = under(rt.alloc(), output, SyntaxKind::SOURCE_FILE)?;
+    let whole = wrap_in_node(rt.alloc(), output, SyntaxKind::SOURCE_FILE)?;
     let text = line(rt.alloc(), &whole)?;
     assert_eq!(rt; text.as_str(), "SOURCE_FILE( ERROR( IDENT 'm' EQ ) ) ");
     Ok(())
@@ -132,5 +134,52 @@ fn takes_a_keyword_as_an_identifier(rt: HostRuntime) -> Result<(), Fail> {
     let text = line(rt.alloc(), &output)?;
     assert_eq!(rt; text.as_str(), "IDENT ");
     assert_eq!(rt; Output::default().iter().len(), 0);
+    Ok(())
+}
+
+// The tokens of `x.0.1`, where the float ends in a dot those of `x.1.`.
+fn field(alloc: Global, ends_in_dot: bool) -> Result<Input, NoMemory> {
+    let mut input = Input::with_capacity(alloc, 3)?;
+    input.push_ident(SyntaxKind::IDENT, Edition::Edition2024)?;
+    input.push(SyntaxKind::DOT, Edition::Edition2024)?;
+    input.was_joint();
+    input.push(SyntaxKind::FLOAT_NUMBER, Edition::Edition2024)?;
+    if !ends_in_dot {
+        input.was_joint();
+    }
+    Ok(input)
+}
+
+// The steps of a field access by a float, inside an `ERROR` with a message at its end.
+fn field_line(alloc: Global, input: &Input) -> Result<String, NoMemory> {
+    let mut p = Parser::new(alloc, input);
+    let whole = p.start()?;
+    let m = p.start()?;
+    p.expect(SyntaxKind::IDENT)?;
+    p.expect(SyntaxKind::DOT)?;
+    if p.current() == SyntaxKind::FLOAT_NUMBER {
+        let (_, access) = p.split_float(m)?;
+        let m = access.precede(&mut p)?;
+        m.abandon(&mut p)?;
+    } else {
+        m.abandon(&mut p)?;
+    }
+    p.error("m")?;
+    whole.complete(&mut p, SyntaxKind::ERROR)?;
+    let output = p.process(alloc)?;
+    line(alloc, &output)
+}
+
+#[test]
+fn takes_a_float_apart(rt: HostRuntime) -> Result<(), Fail> {
+    let whole = field(rt.alloc(), false)?;
+    let text = field_line(rt.alloc(), &whole)?;
+    assert_eq!(rt;
+        text.as_str(),
+        "ERROR( FIELD_EXPR( FIELD_EXPR( IDENT DOT l.r ) ) 'm' ) "
+    );
+    let dotted = field(rt.alloc(), true)?;
+    let text = field_line(rt.alloc(), &dotted)?;
+    assert_eq!(rt; text.as_str(), "ERROR( FIELD_EXPR( IDENT DOT l. ) 'm' ) ");
     Ok(())
 }

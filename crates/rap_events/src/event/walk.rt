@@ -1,7 +1,8 @@
 //! Reading events from the last one back.
-ghost use Rattle.std.specs.Prelude.{◌≡◌, ◌≤◌, ◌<◌, ◌+◌, ◌^◌, IfOk, OnOk, length, ◌++◌, reverse, List, String, [], ◌∷◌};
-ghost use Rattle.rap_events.specs.Forest.{flat};
+ghost use Rattle.std.specs.Prelude.{◌≡◌, ◌≤◌, ◌<◌, ◌+◌, ◌^◌, IfOk, OnOk, length, ◌++◌, reverse, true, List, String, [], ◌∷◌};
+ghost use Rattle.rap_events.specs.Forest.{flat, splits_placed};
 ghost use Rattle.rap_events.specs.Reading.{forest_of};
+ghost use Rattle.rap_events.specs.Interval.{without_exit};
 
 use super::Event;
 use crate::output::{Output, PlainStep};
@@ -140,6 +141,29 @@ impl Walk {
         Ok(())
     }
 
+    // Takes the last step away, if it ends a node.
+    fn drop_exit(&mut self)
+        ensures walk { walk_of self.new ≡ record (walk_of self.old) { steps = without_exit (walk_of self.old).steps } }
+        ensures messages { self.new.messages.items ≡ self.old.messages.items }
+    {
+        if let Some(PlainStep::Exit) = self.steps.last() {
+            self.steps.pop();
+        }
+    }
+
+    // The float stands for the ends of the nodes that it ends.
+    fn float_split(&mut self, ends_in_dot: bool) -> Result<(), NoMemory>
+        ensures { OnOk result (Backed (call.float_split ends_in_dot) self.old self.new) }
+    {
+        self.let_go();
+        self.drop_exit();
+        if !ends_in_dot {
+            self.drop_exit();
+        }
+        self.steps.push(PlainStep::FloatSplit { ends_in_dot })?;
+        Ok(())
+    }
+
     fn tell(&mut self) -> Result<(), NoMemory>
         requires { 0 < length self.old.messages.items }
         ensures { OnOk result (ToldBack self.old self.new) }
@@ -166,14 +190,19 @@ impl Walk {
                 Ok(())
             }
             Event::Abandon => self.abandon(),
-            Event::Token { kind, n_raw_tokens } => self.token(kind, n_raw_tokens),
+            Event::Token {
+                kind,
+                n_input_tokens,
+            } => self.token(kind, n_input_tokens),
+            Event::FloatSplit { ends_in_dot } => self.float_split(ends_in_dot),
             Event::Error => self.tell(),
         }
     }
 
     /// The output that the steps make.
     pub(super) fn output(self) -> Output
-        requires { flat (forest_of (walk_of self).steps) ≡ (walk_of self).steps }
+        requires steps { flat (forest_of (walk_of self).steps) ≡ (walk_of self).steps }
+        requires splits { splits_placed (forest_of (walk_of self).steps) ≡ true }
         ensures { result ≡ forest_of (walk_of self).steps }
     {
         let mut steps = self.steps;

@@ -1,8 +1,10 @@
-use Rattle.std.proofs.Common.{◌≡◌, refl, ◌+◌, ◌-◌, List, length, take, map, ap, ◌∙◌, arith}
+use Rattle.std.proofs.Common.{◌≡◌, true, refl, ◌+◌, ◌-◌, List, length, take, map, ap, ◌∙◌, arith}
 use Rattle.std.specs.Prelude.{string_bytes}
 use Rattle.std.proofs.lemmas.List.{take_all}
-use Rattle.rap_events.specs.Forest.{Forest, flat}
-use Rattle.rap_events.specs.Reading.{forest_of, forest_of-flat}
+use Rattle.rap_events.specs.Forest.{Forest, flat, splits_placed}
+use Rattle.rap_events.specs.Reading.{forest_of}
+use Rattle.rap_events.proofs.StepLemmas.{forest_of-flat}
+use Rattle.rap_events.proofs.Splits.{floor_placed}
 use Rattle.rap_events.specs.History.{Call, history}
 use Rattle.rap_events.specs.Machine.{run, initial}
 use Rattle.rap_events.specs.Unwind.{Walk, walk_of, unwind, nothing_yet}
@@ -41,20 +43,32 @@ loop-i-preserved c =
       so_far = same.unwound ∙ rw next c.loop-i.invariant.so_far;
     }
 
-pub output-output-requires : goal.output-output-requires
-output-output-requires c =
+pub output-output-requires-clause-steps : goal.output-output-requires-clause-steps
+output-output-requires-clause-steps c =
     let xs : List Call = history c.args.events.now (map string_bytes c.args.messages.items) in
     let F : Forest = (run initial xs).forest in
+    let placed : splits_placed F ≡ true = floor_placed (run initial xs) c.requires.splits in
     let zero : c.loop-i.i ≡ 0 = omega arith in
     let end : walk_of c.loop-i.walk ≡ unwind xs nothing_yet = rw zero at c.loop-i.invariant.so_far in
-    let steps : (walk_of c.loop-i.walk).steps ≡ flat F = ap (λ (w : Walk). w.steps) end ∙ unwound xs c.requires.sound c.requires.closed in
-    rw steps (ap flat (forest_of-flat F))
+    let steps : (walk_of c.loop-i.walk).steps ≡ flat F = ap (λ (w : Walk). w.steps) end ∙ unwound xs c.requires.sound c.requires.closed placed in
+    rw steps (ap flat (forest_of-flat F placed))
+
+pub output-output-requires-clause-splits : goal.output-output-requires-clause-splits
+output-output-requires-clause-splits c =
+    let xs : List Call = history c.args.events.now (map string_bytes c.args.messages.items) in
+    let F : Forest = (run initial xs).forest in
+    let placed : splits_placed F ≡ true = floor_placed (run initial xs) c.requires.splits in
+    let zero : c.loop-i.i ≡ 0 = omega arith in
+    let end : walk_of c.loop-i.walk ≡ unwind xs nothing_yet = rw zero at c.loop-i.invariant.so_far in
+    let steps : (walk_of c.loop-i.walk).steps ≡ flat F = ap (λ (w : Walk). w.steps) end ∙ unwound xs c.requires.sound c.requires.closed placed in
+    rw steps (rw (forest_of-flat F placed) placed)
 
 pub returns : goal.returns
 returns c =
     let xs : List Call = history c.args.events.now (map string_bytes c.args.messages.items) in
     let F : Forest = (run initial xs).forest in
+    let placed : splits_placed F ≡ true = floor_placed (run initial xs) c.requires.splits in
     let zero : c.loop-i.i ≡ 0 = omega arith in
     let end : walk_of c.loop-i.walk ≡ unwind xs nothing_yet = rw zero at c.loop-i.invariant.so_far in
-    let steps : (walk_of c.loop-i.walk).steps ≡ flat F = ap (λ (w : Walk). w.steps) end ∙ unwound xs c.requires.sound c.requires.closed in
-    c.output-output.ensures ∙ ap forest_of steps ∙ forest_of-flat F
+    let steps : (walk_of c.loop-i.walk).steps ≡ flat F = ap (λ (w : Walk). w.steps) end ∙ unwound xs c.requires.sound c.requires.closed placed in
+    c.output-output.ensures ∙ ap forest_of steps ∙ forest_of-flat F placed

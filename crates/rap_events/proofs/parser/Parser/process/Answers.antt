@@ -8,7 +8,8 @@ use Rattle.rap_events.specs.State.{state, calls}
 use Rattle.rap_events.specs.declared.event.Event.{Event}
 use Rattle.rap_events.proofs.Finished.{covered, used_all}
 use Rattle.rap_events.proofs.Intervals.{forest_is_tree}
-use Rattle.rap_events.proofs.Marks.{no_messages}
+use Rattle.rap_events.proofs.MessageCount.{no_messages}
+use Rattle.rap_events.proofs.Splits.{floor_placed}
 use Rattle.rap_events.proofs.Nesting.{nodes_nest}
 use Rattle.rap_events.proofs.Weight.{few_steps}
 use Rattle.rap_events.proofs.parser.Parser.process.Goals as goal
@@ -25,7 +26,7 @@ returns-clause-forest c =
 
 pub returns-clause-tree : goal.returns-clause-tree
 unfolding state calls
-returns-clause-tree c = let s = c.args.self in rw (returns-clause-forest c) (forest_is_tree (calls s) s.sound c.requires)
+returns-clause-tree c = let s = c.args.self in rw (returns-clause-forest c) (forest_is_tree (calls s) s.sound c.requires (floor_placed (run initial (calls s)) s.splits))
 
 pub returns-clause-nested : goal.returns-clause-nested
 unfolding state calls
@@ -34,6 +35,10 @@ returns-clause-nested c = let s = c.args.self in nodes_nest (calls s) s.sound
 pub returns-in_err-output-clause-nested : goal.returns-in_err-output-clause-nested
 unfolding state calls
 returns-in_err-output-clause-nested c = let s = c.args.self in nodes_nest (calls s) s.sound
+
+pub returns-clause-splits : goal.returns-clause-splits
+unfolding state calls
+returns-clause-splits c = let s = c.args.self in rw (returns-clause-forest c) (floor_placed (run initial (calls s)) s.splits)
 
 pub returns-clause-few : goal.returns-clause-few
 unfolding state calls

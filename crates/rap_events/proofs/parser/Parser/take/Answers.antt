@@ -13,7 +13,7 @@ pub invariant_of-self : goal.invariant_of-self
 invariant_of-self c =
     let s = c.args.self.now in
     let e : c.push.new.self.items ≡ s.events.items = rw c.in_err-push.was at c.push.ensures.items in
-    record { tokens = s.tokens; ends = s.ends; in_input = s.in_input; told = rw e s.told; sound = rw e s.sound; covers = rw e s.covers; place = rw e s.place; fit = rw e s.fit }
+    record { tokens = s.tokens; ends = s.ends; in_input = s.in_input; told = rw e s.told; sound = rw e s.sound; covers = rw e s.covers; place = rw e s.place; splits = rw e s.splits; fit = rw e s.fit }
 
 pub overflow_add-self : goal.overflow_add-self
 unfolding state
@@ -26,23 +26,23 @@ unfolding state
 invariant_of-self-2 c =
     let s = c.args.self.now in
     let k = c.args.kind in
-    let w = c.args.n_raw_tokens in
+    let w = c.args.n_input_tokens in
     let ms : List (List ℕ) = map string_bytes s.messages.items in
     let before : Held s.events.items (map string_bytes s.messages.items) (length s.messages.items) s.input.now s.pos =
-    record { told = s.told; kept = record { sound = s.sound; covers = s.covers; place = s.place; fit = s.fit } } in
+    record { told = s.told; kept = record { sound = s.sound; covers = s.covers; place = s.place; splits = s.splits; fit = s.fit } } in
     let kept = kept-token (history s.events.items ms) s.input.now s.pos k w c.requires.stands before.kept in
     let h = held-push s.events.items ms _ s.input.now s.pos (s.pos + w) (event.Token k w) (call.token k w) (shows.token k w) before kept in
     let place : s.pos + c.from.result ≡ s.pos + w = ap (λ (n : ℕ). s.pos + n) c.from.ensures in
     let within : s.pos + w ≤ s.len = omega (arith, s.ends, s.in_input, c.requires.within, length-drop s.pos s.input.now) in
     let e = c.in_ok-push.ensures.items in
-    record { tokens = s.tokens; ends = s.ends; in_input = rw place within; told = rw e h.told; sound = rw e h.kept.sound; covers = rw e h.kept.covers; place = rw (e, place) h.kept.place; fit = rw e h.kept.fit }
+    record { tokens = s.tokens; ends = s.ends; in_input = rw place within; told = rw e h.told; sound = rw e h.kept.sound; covers = rw e h.kept.covers; place = rw (e, place) h.kept.place; splits = rw e h.kept.splits; fit = rw e h.kept.fit }
 
 pub returns-clause-state : goal.returns-clause-state
 unfolding state calls
 returns-clause-state c =
     let s = c.args.self.now in
     let k = c.args.kind in
-    let w = c.args.n_raw_tokens in
+    let w = c.args.n_input_tokens in
     let ms : List (List ℕ) = map string_bytes s.messages.items in
     let place : s.pos + c.from.result ≡ s.pos + w = ap (λ (n : ℕ). s.pos + n) c.from.ensures in
     rw (c.in_ok-push.ensures.items, place, history-push s.events.items ms (event.Token k w) (call.token k w) (shows.token k w)) (bumped s.input.now s.pos (history s.events.items ms) k w c.requires.within)
@@ -52,5 +52,5 @@ unfolding calls
 returns-clause-recorded c =
     let s = c.args.self.now in
     let k = c.args.kind in
-    let w = c.args.n_raw_tokens in
+    let w = c.args.n_input_tokens in
     rw c.in_ok-push.ensures.items (history-push s.events.items (map string_bytes s.messages.items) (event.Token k w) (call.token k w) (shows.token k w))

@@ -2,7 +2,7 @@ use Rattle.std.proofs.Common.{◌≡◌, refl, List, [], ◌∷◌, ◌++◌, re
 use Rattle.std.specs.Prelude.{String, option_to_list, string_bytes}
 use Rattle.std.specs.declared.alloc.Global.{Global}
 use Rattle.std.proofs.lemmas.List.{reverse-append}
-use Rattle.rap_events.specs.StepValue.{StepValue, message}
+use Rattle.rap_events.specs.StepValue.{StepValue, error}
 use Rattle.rap_events.specs.Output.{values}
 use Rattle.rap_events.specs.Unwind.{Walk, walk_of}
 use Rattle.rap_events.specs.declared.output.PlainStep.TheVariants as plain
@@ -13,10 +13,10 @@ returns c =
     let w = c.let_go.new.self in
     let told = c.unwrap-message.result in
     let popped = c.pop.ensures.items ∙ ap (λ (o : Option (String Global)). c.pop.new.self.items ++ option_to_list o) c.unwrap-message.ensures in
-    let steps : values (reverse c.push-2.new.self.items) (reverse c.push.new.self.items) ≡ message (string_bytes told) ∷ values (reverse w.steps.items) (reverse w.told.items) =
+    let steps : values (reverse c.push-2.new.self.items) (reverse c.push.new.self.items) ≡ error (string_bytes told) ∷ values (reverse w.steps.items) (reverse w.told.items) =
     rw (c.in_ok-push-2.ensures.items, c.in_ok-push.ensures.items, reverse-append w.steps.items (plain.Error ∷ []), reverse-append w.told.items (told ∷ [])) refl in
     record {
       text = told;
       messages = sym c.let_go.ensures.messages ∙ popped;
-      walk = ap (λ (ss : List StepValue). record (walk_of w) { steps = ss }) steps ∙ ap (λ (v : Walk). record v { steps = message (string_bytes told) ∷ v.steps }) c.let_go.ensures.walk;
+      walk = ap (λ (ss : List StepValue). record (walk_of w) { steps = ss }) steps ∙ ap (λ (v : Walk). record v { steps = error (string_bytes told) ∷ v.steps }) c.let_go.ensures.walk;
     }
