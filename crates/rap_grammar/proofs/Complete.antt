@@ -6,7 +6,7 @@ use Rattle.rap_base.specs.TokenKind.{EOF, SEMICOLON, IDENT, AMP, STAR, BANG, MIN
 use Rattle.rap_base.specs.NodeKind.{BIN_EXPR, NAME_REF}
 use Rattle.rap_events.specs.Record.{Record, next_kind}
 use Rattle.rap_events.specs.Composite.{width, is_at}
-use Rattle.rap_events.specs.Forest.{Forest, none, node, leaf, mark, ◌⧺◌}
+use Rattle.rap_events.specs.Forest.{Forest, none, node, leaf, message, split, ◌⧺◌}
 use Rattle.rap_events.specs.Power.{power, power_in, powers}
 use Rattle.rap_grammar.specs.Atom.{unrestricted, expr, atom_expr}
 use Rattle.rap_grammar.specs.Derives.{IsName, Is, IsOneOf, IsLiteral, Category, Expression, Binary, Unary, Postfix, Arguments, Elements, Atom, Path, Segment, Reference, IsNamedField, Derives, EndsExpression, reference, segment, path_one, path_more, atom_literal, atom_path, atom_paren, postfix_atom, postfix_call, postfix_index, postfix_try, postfix_field, postfix_number, postfix_method, arguments_none, arguments_some, element_last, element_comma, element_more, unary_prefix, unary_ref, unary_ref_mut, unary_postfix, binary_unary, binary_tighter, binary_operator, expression_binary, expression_assign}
@@ -265,7 +265,8 @@ Claim Reference ks t = Unit {0}
 ⧺-assoc f g none = refl
 ⧺-assoc f g (node b k c) = ap (λ (x : Forest). node x k c) (⧺-assoc f g b)
 ⧺-assoc f g (leaf b k w) = ap (λ (x : Forest). leaf x k w) (⧺-assoc f g b)
-⧺-assoc f g (mark b m) = ap (λ (x : Forest). mark x m) (⧺-assoc f g b)
+⧺-assoc f g (message b m) = ap (λ (x : Forest). message x m) (⧺-assoc f g b)
+⧺-assoc f g (split b d) = ap (λ (x : Forest). split x d) (⧺-assoc f g b)
 
 three_lists : (ks os js l : List Record) → (ks ++ (os ++ js)) ++ l ≡ ks ++ (os ++ (js ++ l))
 three_lists ks os js l = simp append_assoc

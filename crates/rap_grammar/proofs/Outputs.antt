@@ -1,7 +1,7 @@
 -- What a parse of a whole input, or of its front, makes of what is derived; and that equal inputs give equal outputs.
-use Rattle.std.proofs.Common.{◌≡◌, List, [], ◌∷◌, ◌++◌, refl, ap, sym, ◌∙◌}
+use Rattle.std.proofs.Common.{◌≡◌, List, [], ◌∷◌, ◌++◌, true, refl, ap, sym, ◌∙◌}
 use Rattle.rap_events.specs.Record.{Record}
-use Rattle.rap_events.specs.Forest.{Forest, none, ◌⧺◌, marks}
+use Rattle.rap_events.specs.Forest.{Forest, none, ◌⧺◌, message_count, one_tree}
 use Rattle.rap_events.specs.State.{State}
 use Rattle.rap_grammar.specs.Atom.{expr}
 use Rattle.rap_grammar.specs.Derives.{Derives, Expression, EndsExpression}
@@ -9,23 +9,22 @@ use Rattle.rap_grammar.specs.Knot.{script_of, Follows}
 use Rattle.rap_grammar.specs.Phrase.{Phrase}
 use Rattle.rap_grammar.specs.Script.{Script, forests, Spot, Outcome, something, Runs}
 use Rattle.rap_grammar.specs.Top.{IsTopOf, top_tree}
-use Rattle.rap_grammar.proofs.Complete.{expression_whole, expression_front, expression_single}
-use Rattle.rap_grammar.proofs.Unique.{Same, one_end, unmarked}
-use Rattle.rap_grammar.proofs.Ways.{Single}
+use Rattle.rap_grammar.proofs.Complete.{expression_whole, expression_front}
+use Rattle.rap_grammar.proofs.Unique.{Same, one_end, unmarked, one_expression}
 
 -- one tree is kept as it is
-top_tree-single : (t : Forest) → Single t → top_tree t [] ≡ t
-top_tree-single t s = rw s.is refl
+top_tree-whole : (t : Forest) → one_tree t ≡ true → top_tree t [] ≡ t
+top_tree-whole t e = rw e refl
 
 -- a whole input that is derived gives its tree
 pub derived : {input : List Record} {t output : Forest} → IsTopOf expr input output → Derives Expression input t → output ≡ t
 derived {t = t} i d =
     let e = one_end i.run (expression_whole d (none ∷ [])) in
-    i.tree ∙ rw (ap (λ (p : Spot). p.forest) e.spot, ap (λ (p : Spot). p.rest) e.spot) (top_tree-single t (expression_single d))
+    i.tree ∙ rw (ap (λ (p : Spot). p.forest) e.spot, ap (λ (p : Spot). p.rest) e.spot) (top_tree-whole t (one_expression d))
 
 -- without a message
-pub derived_clean : {input : List Record} {t output : Forest} → IsTopOf expr input output → Derives Expression input t → marks output ≡ 0
-derived_clean i d = ap marks (derived i d) ∙ unmarked d
+pub derived_clean : {input : List Record} {t output : Forest} → IsTopOf expr input output → Derives Expression input t → message_count output ≡ 0
+derived_clean i d = ap message_count (derived i d) ∙ unmarked d
 
 -- the same input gives the same output
 pub one_output : {s : Script Phrase} {input : List Record} {a b : Forest} → IsTopOf s input a → IsTopOf s input b → a ≡ b

@@ -1,9 +1,9 @@
 -- What a top entry makes of what was parsed.
-use Rattle.std.proofs.Common.{◌≡◌, ◌≢◌, ℕ, ◌+◌, List, [], ◌∷◌, drop, length, length-append, Bool, true, false, None, refl, ap, sym, ◌∙◌, arith}
+use Rattle.std.proofs.Common.{◌≡◌, ◌≢◌, ℕ, zero, suc, ◌+◌, ◌≤◌, not, List, [], ◌∷◌, drop, length, length-append, Bool, true, false, None, refl, ap, sym, ◌∙◌, arith}
 use Rattle.std.proofs.Math.Logic.{∥∥₁_map}
 use Rattle.rap_base.specs.TokenKind.{EOF, ERROR}
 use Rattle.rap_events.specs.Record.{Record, next_kind}
-use Rattle.rap_events.specs.Forest.{Forest, none, node, leaf, mark, ◌⧺◌, flat, used, marks, one_tree}
+use Rattle.rap_events.specs.Forest.{Forest, none, node, leaf, message, split, ◌⧺◌, flat, split_ends, exit_of, used, message_count, ends_in_dot, one_tree}
 use Rattle.rap_events.specs.Fit.{AllFitIn}
 use Rattle.rap_events.proofs.Truth.{or_left}
 use Rattle.rap_events.specs.Machine.{floor, push, top}
@@ -28,7 +28,8 @@ none-⧺ : (f : Forest) → none ⧺ f ≡ f
 none-⧺ none = refl
 none-⧺ (node before kind children) = ap (λ (f : Forest). node f kind children) (none-⧺ before)
 none-⧺ (leaf before kind width) = ap (λ (f : Forest). leaf f kind width) (none-⧺ before)
-none-⧺ (mark before bytes) = ap (λ (f : Forest). mark f bytes) (none-⧺ before)
+none-⧺ (message before bytes) = ap (λ (f : Forest). message f bytes) (none-⧺ before)
+none-⧺ (split before d) = ap (λ (f : Forest). split f d) (none-⧺ before)
 
 -- the only open marker is abandoned: what it had is all there is
 pub alone : (s t : State) → Abandoned s t → s.below ≡ push floor None none → t.forest ≡ s.forest
@@ -60,13 +61,17 @@ in_error s f g e same h w =
 pub all_used : (s t : State) (f : Forest) → used f + t.left ≡ length t.input → Abandoned s t → s.left ≡ 0 → used f ≡ length s.input
 all_used s t f e a z = omega (arith, ap length a.recorded.input, a.recorded.left)
 
--- a node around a forest has two steps more
-pub length-flat-node : (kind : ℕ) (f : Forest) → length (flat (node none kind f)) ≡ length (flat f) + 2
-length-flat-node kind f = simp length-append (omega arith)
+exit_of-length : (n : ℕ) → length (exit_of n) ≤ 1
+exit_of-length zero = omega arith
+exit_of-length (suc n) = omega arith
+
+-- a node around a forest has at most two steps more
+pub length-flat-node : (kind : ℕ) (f : Forest) → length (flat (node none kind f)) ≤ length (flat f) + 2
+length-flat-node kind f = omega (arith, length-append (flat f) (exit_of (split_ends f)), exit_of-length (split_ends f))
 
 fit_error : (f : Forest) → AllFitIn f → AllFitIn (node none ERROR f)
 fit_error f h = (tt, h, record { operation = λ e. absurd (omega arith); tree = λ e. absurd (omega arith) })
 
 -- an `ERROR` around a forest asks nothing more
-pub fit_in_error : (f g : Forest) → g ≡ node none ERROR f → (marks f ≡ 0 → ∥ AllFitIn f ∥₁) → marks g ≡ 0 → ∥ AllFitIn g ∥₁
-fit_in_error f g e h z = rw e (let y : marks f ≡ 0 = omega (arith, ap marks e) in ∥∥₁_map (h y) (fit_error f))
+pub fit_in_error : (f g : Forest) → g ≡ node none ERROR f → (message_count f ≡ 0 → ∥ AllFitIn f ∥₁) → message_count g ≡ 0 → ∥ AllFitIn g ∥₁
+fit_in_error f g e h z = rw e (let y : message_count f ≡ 0 = omega (arith, ap message_count e) in ∥∥₁_map (h y) (fit_error f))

@@ -1,12 +1,13 @@
 -- From one spot a script leads to one spot with one outcome; so the same tokens have at most one tree.
-use Rattle.std.proofs.Common.{◌≡◌, ◌+◌, ℕ, List, [], ◌∷◌, length, length-append, Bool, true, false, refl, ap, sym, ◌∙◌, arith}
+use Rattle.std.proofs.Common.{◌≡◌, ◌+◌, ◌≤◌, ℕ, List, [], ◌∷◌, length, length-append, Bool, true, false, refl, ap, sym, ◌∙◌, arith}
 use Rattle.rap_base.specs.TokenKind.{AMP, COLON2, COMMA, DOT, L_PAREN, L_BRACK, MUT_KW}
 use Rattle.rap_events.specs.Record.{Record}
 use Rattle.rap_events.specs.Composite.{parts, width, width_of}
-use Rattle.rap_events.specs.Forest.{Forest, none, node, leaf, mark, ◌⧺◌, marks, used}
+use Rattle.rap_events.specs.Forest.{Forest, none, node, leaf, message, split, ◌⧺◌, message_count, used, ends_in_dot, one_tree}
 use Rattle.rap_grammar.specs.Derives.{Touching, tokens_of, Writes, Derives, Category, Expression, reference, segment, path_one, path_more, atom_literal, atom_path, atom_paren, postfix_atom, postfix_call, postfix_index, postfix_try, postfix_field, postfix_number, postfix_method, arguments_none, arguments_some, element_last, element_comma, element_more, unary_prefix, unary_ref, unary_ref_mut, unary_postfix, binary_unary, binary_tighter, binary_operator, expression_binary, expression_assign}
 use Rattle.rap_grammar.specs.Script.{Script, Spot, Outcome, nothing, something, block, again, goes_on, Runs, gives, looks, passes, fails, takes, takes_any, bears, reports, skips, starts, precedes, finishes, extends, abandons, follows, obeys, turns, stops}
-use Rattle.rap_grammar.proofs.Complete.{expression_whole}
+use Rattle.rap_grammar.proofs.Complete.{expression_whole, expression_single}
+use Rattle.rap_grammar.proofs.Ways.{Single}
 
 -- the same end
 pub record Same (p q : Spot) (v w : Outcome) : Type 0 where
@@ -53,49 +54,83 @@ one_end (turns x x') (stops y e) = let a = one_end x y in absurd (clash refl (ap
 one_end (stops x e) (turns y y') = let a = one_end x y in absurd (clash refl (ap goes_on (sym a.outcome) ∙ e))
 one_end (stops x e) (stops y f) = one_end x y
 
-marks-⧺ : (f g : Forest) → marks (f ⧺ g) ≡ marks f + marks g
-marks-⧺ f none = omega arith
-marks-⧺ f (node b k c) = omega (arith, marks-⧺ f b)
-marks-⧺ f (leaf b k w) = marks-⧺ f b
-marks-⧺ f (mark b m) = omega (arith, marks-⧺ f b)
+-- how many messages and floats taken apart a forest has
+abbrev foreign : Forest → ℕ
+foreign none = 0
+foreign (node before kind children) = foreign before + foreign children
+foreign (leaf before kind width) = foreign before
+foreign (message before bytes) = foreign before + 1
+foreign (split before ends_in_dot) = foreign before + 1
 
-joined : (f g : Forest) → marks f ≡ 0 → marks g ≡ 0 → marks (f ⧺ g) ≡ 0
-joined f g h i = omega (arith, marks-⧺ f g)
+foreign-⧺ : (f g : Forest) → foreign (f ⧺ g) ≡ foreign f + foreign g
+foreign-⧺ f none = omega arith
+foreign-⧺ f (node b k c) = omega (arith, foreign-⧺ f b)
+foreign-⧺ f (leaf b k w) = foreign-⧺ f b
+foreign-⧺ f (message b m) = omega (arith, foreign-⧺ f b)
+foreign-⧺ f (split b d) = omega (arith, foreign-⧺ f b)
+
+joined : (f g : Forest) → foreign f ≡ 0 → foreign g ≡ 0 → foreign (f ⧺ g) ≡ 0
+joined f g h i = omega (arith, foreign-⧺ f g)
 
 -- what a node adds
 over : {n : ℕ} → n ≡ 0 → 0 + n ≡ 0
 over h = rw h refl
 
+-- what is derived has none of them
+no_foreign : {c : Category} {ks : List Record} {t : Forest} → Derives c ks t → foreign t ≡ 0
+no_foreign (reference n) = refl
+no_foreign (segment {t = t} d) = over (no_foreign d)
+no_foreign (path_one {t = t} d) = over (no_foreign d)
+no_foreign (path_more {t = t} {u = u} d w e) = over (joined (leaf t COLON2 2) u (no_foreign d) (no_foreign e))
+no_foreign (atom_literal h) = refl
+no_foreign (atom_path {t = t} d) = over (no_foreign d)
+no_foreign (atom_paren {t = t} o d c) = over (joined (leaf none L_PAREN 1) t refl (no_foreign d))
+no_foreign (postfix_atom d) = no_foreign d
+no_foreign (postfix_call {t = t} {u = u} d n e) = over (joined t u (no_foreign d) (no_foreign e))
+no_foreign (postfix_index {t = t} {u = u} d o e c) = over (joined (leaf t L_BRACK 1) u (no_foreign d) (no_foreign e))
+no_foreign (postfix_try {t = t} d o) = over (no_foreign d)
+no_foreign (postfix_field {t = t} {u = u} d o e) = over (joined (leaf t DOT 1) u (no_foreign d) (no_foreign e))
+no_foreign (postfix_number {t = t} d o e) = omega (arith, no_foreign d)
+no_foreign (postfix_method {t = t} {u = u} {v = v} d o e g) = over (joined (leaf t DOT 1 ⧺ u) v (joined (leaf t DOT 1) u (no_foreign d) (no_foreign e)) (no_foreign g))
+no_foreign (arguments_none o c) = refl
+no_foreign (arguments_some {t = t} o d c) = over (joined (leaf none L_PAREN 1) t refl (no_foreign d))
+no_foreign (element_last d) = no_foreign d
+no_foreign (element_comma d o) = no_foreign d
+no_foreign (element_more {t = t} {u = u} d o e) = joined (leaf t COMMA 1) u (no_foreign d) (no_foreign e)
+no_foreign (unary_prefix {a = a} {t = t} h d) = over (joined (leaf none a.kind 1) t refl (no_foreign d))
+no_foreign (unary_ref {t = t} o d) = over (joined (leaf none AMP 1) t refl (no_foreign d))
+no_foreign (unary_ref_mut {t = t} o m d) = over (joined (leaf (leaf none AMP 1) MUT_KW 1) t refl (no_foreign d))
+no_foreign (unary_postfix d) = no_foreign d
+no_foreign (binary_unary d) = no_foreign d
+no_foreign (binary_tighter h i d) = no_foreign d
+no_foreign (binary_operator {op = op} {t = t} {u = u} h i d o e) = over (joined (leaf t op (width op)) u (no_foreign d) (no_foreign e))
+no_foreign (expression_binary d) = no_foreign d
+no_foreign (expression_assign {op = op} {t = t} {u = u} d o e) = over (joined (leaf t op (width op)) u (no_foreign d) (no_foreign e))
+
+messages_among : (f : Forest) → message_count f ≤ foreign f
+messages_among none = omega arith
+messages_among (node b k c) = omega (arith, messages_among b, messages_among c)
+messages_among (leaf b k w) = messages_among b
+messages_among (message b m) = omega (arith, messages_among b)
+messages_among (split b d) = omega (arith, messages_among b)
+
 -- what is derived has no message
-pub unmarked : {c : Category} {ks : List Record} {t : Forest} → Derives c ks t → marks t ≡ 0
-unmarked (reference n) = refl
-unmarked (segment {t = t} d) = over (unmarked d)
-unmarked (path_one {t = t} d) = over (unmarked d)
-unmarked (path_more {t = t} {u = u} d w e) = over (joined (leaf t COLON2 2) u (unmarked d) (unmarked e))
-unmarked (atom_literal h) = refl
-unmarked (atom_path {t = t} d) = over (unmarked d)
-unmarked (atom_paren {t = t} o d c) = over (joined (leaf none L_PAREN 1) t refl (unmarked d))
-unmarked (postfix_atom d) = unmarked d
-unmarked (postfix_call {t = t} {u = u} d n e) = over (joined t u (unmarked d) (unmarked e))
-unmarked (postfix_index {t = t} {u = u} d o e c) = over (joined (leaf t L_BRACK 1) u (unmarked d) (unmarked e))
-unmarked (postfix_try {t = t} d o) = over (unmarked d)
-unmarked (postfix_field {t = t} {u = u} d o e) = over (joined (leaf t DOT 1) u (unmarked d) (unmarked e))
-unmarked (postfix_number {t = t} d o e) = omega (arith, unmarked d)
-unmarked (postfix_method {t = t} {u = u} {v = v} d o e g) = over (joined (leaf t DOT 1 ⧺ u) v (joined (leaf t DOT 1) u (unmarked d) (unmarked e)) (unmarked g))
-unmarked (arguments_none o c) = refl
-unmarked (arguments_some {t = t} o d c) = over (joined (leaf none L_PAREN 1) t refl (unmarked d))
-unmarked (element_last d) = unmarked d
-unmarked (element_comma d o) = unmarked d
-unmarked (element_more {t = t} {u = u} d o e) = joined (leaf t COMMA 1) u (unmarked d) (unmarked e)
-unmarked (unary_prefix {a = a} {t = t} h d) = over (joined (leaf none a.kind 1) t refl (unmarked d))
-unmarked (unary_ref {t = t} o d) = over (joined (leaf none AMP 1) t refl (unmarked d))
-unmarked (unary_ref_mut {t = t} o m d) = over (joined (leaf (leaf none AMP 1) MUT_KW 1) t refl (unmarked d))
-unmarked (unary_postfix d) = unmarked d
-unmarked (binary_unary d) = unmarked d
-unmarked (binary_tighter h i d) = unmarked d
-unmarked (binary_operator {op = op} {t = t} {u = u} h i d o e) = over (joined (leaf t op (width op)) u (unmarked d) (unmarked e))
-unmarked (expression_binary d) = unmarked d
-unmarked (expression_assign {op = op} {t = t} {u = u} d o e) = over (joined (leaf t op (width op)) u (unmarked d) (unmarked e))
+pub unmarked : {c : Category} {ks : List Record} {t : Forest} → Derives c ks t → message_count t ≡ 0
+unmarked {t = t} d = omega (arith, messages_among t, no_foreign d)
+
+no_dot : (f : Forest) → foreign f ≡ 0 → ends_in_dot f ≡ false
+no_dot none h = refl
+no_dot (node b k c) h = refl
+no_dot (leaf b k w) h = refl
+no_dot (message b m) h = refl
+no_dot (split b d) h = absurd (omega (arith, h))
+
+single_whole : (t : Forest) → Single t → foreign t ≡ 0 → one_tree t ≡ true
+single_whole t s h = rw s.is (rw (no_dot s.children (let i : foreign (node none s.kind s.children) ≡ 0 = rw s.is at h in omega arith)) refl)
+
+-- an expression is one tree
+pub one_expression : {ks : List Record} {t : Forest} → Derives Expression ks t → one_tree t ≡ true
+one_expression {t = t} d = single_whole t (expression_single d) (no_foreign d)
 
 -- the same tokens have at most one tree
 pub at_most_one : {ks : List Record} {t u : Forest} → Derives Expression ks t → Derives Expression ks u → t ≡ u
@@ -105,7 +140,8 @@ used-⧺ : (f g : Forest) → used (f ⧺ g) ≡ used f + used g
 used-⧺ f none = omega arith
 used-⧺ f (node b k c) = omega (arith, used-⧺ f b)
 used-⧺ f (leaf b k w) = omega (arith, used-⧺ f b)
-used-⧺ f (mark b m) = used-⧺ f b
+used-⧺ f (message b m) = used-⧺ f b
+used-⧺ f (split b d) = omega (arith, used-⧺ f b)
 
 length-touching : (k : ℕ) (ks : List ℕ) (os : List Record) → Touching (k ∷ ks) os → length os ≡ length (k ∷ ks)
 length-touching k ks [] h = absurd h

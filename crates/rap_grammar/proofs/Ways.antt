@@ -5,7 +5,7 @@ use Rattle.rap_base.specs.TokenKind.{EOF, EQ, IDENT, AMP, STAR, BANG, MINUS, DOT
 use Rattle.rap_base.specs.NodeKind.{BIN_EXPR, REF_EXPR, PREFIX_EXPR, LITERAL, PAREN_EXPR, PATH_EXPR, PATH, PATH_SEGMENT, NAME_REF, CALL_EXPR, INDEX_EXPR, TRY_EXPR, METHOD_CALL_EXPR, FIELD_EXPR, ARG_LIST}
 use Rattle.rap_events.specs.Record.{Record, next_kind, kind_at}
 use Rattle.rap_events.specs.Composite.{width, is_at, begins_with}
-use Rattle.rap_events.specs.Forest.{Forest, none, node, leaf, mark, ◌⧺◌}
+use Rattle.rap_events.specs.Forest.{Forest, none, node, leaf, message, split, ◌⧺◌}
 use Rattle.rap_events.specs.Power.{power}
 use Rattle.rap_events.specs.State.{but_last, last_children}
 use Rattle.rap_grammar.specs.Atom.{unrestricted, expr, literal, path_expr, tuple_elements, tuple_expr, atom_expr}
@@ -45,7 +45,8 @@ pub none-⧺ : (f : Forest) → none ⧺ f ≡ f
 none-⧺ none = refl
 none-⧺ (node before kind children) = ap (λ (f : Forest). node f kind children) (none-⧺ before)
 none-⧺ (leaf before kind width) = ap (λ (f : Forest). leaf f kind width) (none-⧺ before)
-none-⧺ (mark before bytes) = ap (λ (f : Forest). mark f bytes) (none-⧺ before)
+none-⧺ (message before bytes) = ap (λ (f : Forest). message f bytes) (none-⧺ before)
+none-⧺ (split before dot) = ap (λ (f : Forest). split f dot) (none-⧺ before)
 
 below : (a b : ℕ) → a < b → nat_lt a b ≡ true
 below a b h = grind (arith, nat_tests)

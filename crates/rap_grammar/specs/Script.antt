@@ -4,7 +4,7 @@ use Rattle.rap_base.specs.TokenKind.{EOF, ERROR}
 use Rattle.rap_events.specs.Record.{Record, next_kind}
 use Rattle.rap_events.specs.Composite.{is_at, width}
 use Rattle.rap_events.specs.Cover.{first_may_bear}
-use Rattle.rap_events.specs.Forest.{Forest, none, node, leaf, mark, ◌⧺◌}
+use Rattle.rap_events.specs.Forest.{Forest, none, node, leaf, message, split, ◌⧺◌}
 use Rattle.rap_events.specs.Machine.{Stack, floor, push}
 use Rattle.rap_events.specs.State.{State, but_last, last_children, skipped}
 
@@ -64,21 +64,23 @@ abbrev pub last_tree : Forest → Forest
 last_tree none = none
 last_tree (node before kind children) = node none kind children
 last_tree (leaf before kind width) = leaf none kind width
-last_tree (mark before bytes) = mark none bytes
+last_tree (message before bytes) = message none bytes
+last_tree (split before dot) = split none dot
 
 -- the kind of the last tree
 abbrev pub last_kind : Forest → ℕ
 last_kind none = EOF
 last_kind (node before kind children) = kind
 last_kind (leaf before kind width) = kind
-last_kind (mark before bytes) = EOF
+last_kind (message before bytes) = EOF
+last_kind (split before dot) = EOF
 
 -- what each word does
 abbrev pub taken : ℕ → ℕ → Spot → Spot
 taken kind width p = record { rest = drop width p.rest; forest = leaf p.forest kind width; below = p.below }
 
 abbrev pub reported : List ℕ → Spot → Spot
-reported bytes p = record { rest = p.rest; forest = mark p.forest bytes; below = p.below }
+reported bytes p = record { rest = p.rest; forest = message p.forest bytes; below = p.below }
 
 abbrev pub skipped_over : List ℕ → Spot → Spot
 skipped_over bytes p = record { rest = drop 1 p.rest; forest = node p.forest ERROR (skipped p.rest bytes); below = p.below }

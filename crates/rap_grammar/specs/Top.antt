@@ -2,7 +2,7 @@
 use Rattle.std.specs.Prelude.{◌≡◌, ℕ, ◌+◌, ◌*◌, ◌≤◌, List, [], ◌∷◌, length, Bool, true, false}
 use Rattle.rap_base.specs.TokenKind.{ERROR}
 use Rattle.rap_events.specs.Record.{Record}
-use Rattle.rap_events.specs.Forest.{Forest, none, node, leaf, mark, flat, used, marks, one_tree}
+use Rattle.rap_events.specs.Forest.{Forest, none, node, leaf, message, split, flat, used, message_count, one_tree}
 use Rattle.rap_events.specs.Cover.{covers}
 use Rattle.rap_events.specs.Fit.{AllFitIn}
 use Rattle.rap_grammar.specs.Knot.{script_of}
@@ -29,7 +29,7 @@ pub record IsForestOver (input : List Record) (tokens : ℕ) (f : Forest) : Type
   pub covers : covers input f ≡ true
   pub used : used f ≡ tokens
   pub few : length (flat f) ≤ 256 * (length input + 1)
-  pub fit : marks f ≡ 0 → ∥ AllFitIn f ∥₁
+  pub fit : message_count f ≡ 0 → ∥ AllFitIn f ∥₁
 
 -- one tree over the whole input
 pub record IsTreeOver (input : List Record) (f : Forest) : Type 0 where

@@ -2,7 +2,7 @@
 ghost use Rattle.std.specs.Prelude.{◌≡◌, ◌≢◌, ◌^◌, ℕ, ◌+◌, ◌*◌, ◌<◌, ◌≤◌, ◌↔◌, length, [], IfOk, IfSome, OnOk, IsTrue, Some, None, true, false};
 ghost use Rattle.rap_events.specs.Cover.{covers};
 ghost use Rattle.rap_events.specs.Fit.{AllFitIn};
-ghost use Rattle.rap_events.specs.Forest.{Forest, node, none, flat, marks, one_tree, used};
+ghost use Rattle.rap_events.specs.Forest.{Forest, node, none, flat, message_count, one_tree, used};
 ghost use Rattle.rap_events.specs.Machine.{floor, push};
 ghost use Rattle.rap_events.specs.State.{state};
 ghost use Rattle.rap_base.specs.TokenKind.{ERROR};
@@ -17,7 +17,7 @@ use super::expressions::Restrictions;
 use super::knot::{Rule, run};
 use rap_base::no_memory::NoMemory;
 use rap_base::syntax_kind::SyntaxKind;
-use rap_events::output::{Output, Step, under};
+use rap_events::output::{Output, Step, wrap_in_node};
 use rap_events::parser::{CompletedMarker, Marker, Parser};
 use std::alloc::Global;
 
@@ -42,6 +42,18 @@ fn is_one_tree(output: &Output) -> bool
                 depth += 1;
             }
             Step::Exit => depth = depth.saturating_sub(1),
+            Step::FloatSplit { ends_in_dot: true } => {
+                if depth < 2 {
+                    return false;
+                }
+                depth -= 1;
+            }
+            Step::FloatSplit { ends_in_dot: false } => {
+                if depth == 0 {
+                    return false;
+                }
+                depth = depth.saturating_sub(2);
+            }
             Step::Token { .. } | Step::Error { .. } => {
                 if depth == 0 {
                     return false;
@@ -95,7 +107,7 @@ pub fn close_top(alloc: Global, mut p: Parser<'_>, m: Marker) -> Result<Output, 
     ensures covers { IfOk result (λ output. covers (state p.entry).input output ≡ true) }
     ensures used { IfOk result (λ output. used output ≡ length (state p.entry).input) }
     ensures few { IfOk result (λ output. length (flat output) ≤ (state p.entry).count + (state p.entry).left + 3) }
-    ensures fit { IfOk result (λ output. marks output ≡ 0 → ∥ AllFitIn output ∥₁) }
+    ensures fit { IfOk result (λ output. message_count output ≡ 0 → ∥ AllFitIn output ∥₁) }
 {
     if p.current() != SyntaxKind::EOF {
         take_rest(&mut p)?;
@@ -108,6 +120,6 @@ pub fn close_top(alloc: Global, mut p: Parser<'_>, m: Marker) -> Result<Output, 
     if is_one_tree(&output) {
         return Ok(output);
     }
-    let output = under(alloc, output, SyntaxKind::ERROR)?;
+    let output = wrap_in_node(alloc, output, SyntaxKind::ERROR)?;
     Ok(output)
 }
