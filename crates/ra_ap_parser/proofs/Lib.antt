@@ -7,6 +7,7 @@ pub mod Handed
 pub mod InputRecords
 pub mod Joined
 pub mod Messages
+pub mod OneLexing
 pub mod Places
 pub mod Records
 pub mod Tokens

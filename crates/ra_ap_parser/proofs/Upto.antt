@@ -260,6 +260,7 @@ module _ (edition : Edition) (text : List ℕ) (front : List Token) (ks ss : Lis
   pub lexing : IsFront edition text front → IsLexing text edition (record { tokens = cut text ks ss; errors = errors })
   lexing is_front = record {
     whole = joined-cut text ks ss starts;
+    borders = λ i h. let l : i ≤ length ks = omega (arith, length-cut text ks ss) in subst (λ (x : ℕ). IsCharBoundary text x) (sym (start_of-cut text ks ss starts i l)) (u.borders i l);
     front = front;
     is_front = is_front;
     rest = drop (length front) (cut text ks ss);

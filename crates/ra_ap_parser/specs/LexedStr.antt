@@ -77,10 +77,11 @@ abbrev pub AreInOrder : ℕ → List Message → Type 0
 AreInOrder count [] = ⊤
 AreInOrder count (m ∷ ms) = (m.token < count) × AllByRecursion (λ later. m.token ≤ later.token) ms × AreInOrder count ms
 
--- The tokens joined are the text. First stand the pieces of the script source, of which nothing is told; from there on
+-- The tokens joined are the text, and each is whole characters. First stand the pieces of the script source, of which nothing is told; from there on
 -- each token is the first of what remains, and the messages are what is told of it.
 pub record IsLexing (text : List ℕ) (edition : Edition) (lexed : Lexed) : Type 0 where
   pub whole : joined lexed.tokens ≡ text
+  pub borders : (i : ℕ) → i ≤ length lexed.tokens → IsCharBoundary text (start_of lexed.tokens i)
   pub front : List Token
   pub is_front : IsFront edition text front
   pub rest : List Token

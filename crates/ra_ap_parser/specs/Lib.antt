@@ -4,6 +4,7 @@ pub mod Fault
 pub mod Front
 pub mod Input
 pub mod LexedStr
+pub mod OneLexing
 pub mod SingleToken
 pub mod StrForest
 pub mod StrSink

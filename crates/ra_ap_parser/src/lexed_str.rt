@@ -3,6 +3,7 @@ ghost use Rattle.std.specs.Prelude.{◌≡◌, ℕ, ◌<◌, ◌≤◌, ◌+◌,
 ghost use Rattle.std.specs.List.Sorted.{IsNonDecreasingBy, IsPartitionPoint};
 ghost use Rattle.std.specs.Option.{option_copied, option_map};
 ghost use Rattle.rap_base.specs.TokenTests.{IsTokenKind};
+ghost use Rattle.ra_ap_parser.specs.OneLexing.{IsOnlyLexing};
 ghost use Rattle.ra_ap_parser.specs.SingleToken.{IsNotOneToken, IsOneToken};
 ghost use Rattle.ra_ap_parser.specs.LexedStr.{joined, start_of, token_at, error_of, since_open_after, AreTokens, IsLexing};
 
@@ -137,6 +138,7 @@ impl<'a> LexedStr<'a> {
     /// and else `NoMemory` where a growth was refused.
     pub fn new(alloc: Global, edition: Edition, text: &'a str) -> Result<LexedStr<'a>, LexFault>
         ensures lexing { IfOk result (IsLexing text.now edition) }
+        ensures only { IfOk result (IsOnlyLexing text.now edition) }
         ensures too_long { (result ≡ Err LexFault.TextTooLong) ↔ (MAX_TEXT < length text.now) }
     {
         if text.len() > MAX_TEXT {

@@ -9,6 +9,7 @@ use Rattle.ra_ap_parser.specs.Front.{pieces, front_kinds}
 use Rattle.ra_ap_parser.specs.LexedStr.{IsFirst}
 use Rattle.ra_ap_parser.specs.Told.{TellsOf}
 use Rattle.std.proofs.lemmas.Str.{IsCharBoundary-from_rest}
+use Rattle.ra_ap_parser.proofs.OneLexing.{only_lexing}
 use Rattle.ra_ap_parser.proofs.Upto.{front_begun, front_tokens, more, lexing}
 use Rattle.ra_ap_parser.proofs.lexed_str.LexedStr.new.Goals as goal
 
@@ -51,3 +52,6 @@ tokens-preserved c =
 
 pub returns-clause-lexing : goal.returns-clause-lexing
 returns-clause-lexing c = lexing c.args.edition _ _ _ _ _ c.tokens.since_open c.tokens.offset c.tokens.invariant.upto (omega arith) c.utf8.text c.tokens-test.false c.tokens.invariant.is_front
+
+pub returns-clause-only : goal.returns-clause-only
+returns-clause-only c = only_lexing c.args.text.now c.args.edition _ c.utf8.text (lexing c.args.edition _ _ _ _ _ c.tokens.since_open c.tokens.offset c.tokens.invariant.upto (omega arith) c.utf8.text c.tokens-test.false c.tokens.invariant.is_front)
