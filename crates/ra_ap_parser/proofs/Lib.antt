@@ -2,12 +2,14 @@ pub mod Covered
 pub mod Cuts
 pub mod Eating
 pub mod Emitted
+pub mod Examples
 pub mod Fronts
 pub mod Handed
 pub mod InputRecords
 pub mod Joined
 pub mod Messages
 pub mod OneLexing
+pub mod Parsed
 pub mod Places
 pub mod Records
 pub mod Tokens

@@ -2,6 +2,7 @@ pub mod About
 pub mod Builder
 pub mod Fault
 pub mod Front
+pub mod Headline
 pub mod Input
 pub mod LexedStr
 pub mod OneLexing

@@ -6,7 +6,7 @@ use Rattle.rap_events.specs.Forest.{Forest}
 use Rattle.ra_ap_parser.specs.LexedStr.{Lexed}
 use Rattle.ra_ap_parser.specs.StrForest.{str_flat}
 use Rattle.ra_ap_parser.specs.Trivia.{with_trivia}
-use Rattle.rast.specs.Headline.{IsParsed}
+use Rattle.ra_ap_parser.specs.Headline.{IsParsed}
 use Rattle.rast.specs.declared.printer.Printer.{Printer}
 use Rattle.rast.specs.Printed.{printed, told, lexer_told}
 

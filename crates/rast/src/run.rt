@@ -4,9 +4,8 @@ ghost use Rattle.std.specs.Io.KnownBytes.{Appends};
 ghost use Rattle.rast.specs.Ran.{IsPrinted, Shows};
 ghost use Rattle.rast.specs.Words.{IsNamed, fault_line};
 
-use crate::parse_text::{TextFault, parse_text};
 use crate::printer::Printer;
-use ra_ap_parser::{Edition, NoMemory, TopEntryPoint};
+use ra_ap_parser::{Edition, NoMemory, TextFault, TopEntryPoint, parse_text};
 use rast_common::fault::tell;
 use std::alloc::Global;
 use std::io;

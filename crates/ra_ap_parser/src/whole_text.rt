@@ -1,8 +1,11 @@
 //! A whole text, from its bytes to the steps of its tree.
 ghost use Rattle.std.specs.Prelude.{MatchResult};
-ghost use Rattle.rast.specs.Headline.{Headline, Faulted};
+ghost use Rattle.ra_ap_parser.specs.Headline.{Headline, Faulted};
 
-use ra_ap_parser::{Edition, LexFault, LexedStr, ParseFault, StrSink, TopEntryPoint};
+use crate::entry_point::{ParseFault, TopEntryPoint};
+use crate::lexed_str::{LexFault, LexedStr};
+use crate::shortcuts::StrSink;
+use rap_base::edition::Edition;
 use std::alloc::Global;
 
 #[cfg(test)]

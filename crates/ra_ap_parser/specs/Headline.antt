@@ -9,8 +9,8 @@ use Rattle.ra_ap_parser.specs.StrForest.{str_flat, str_joined, str_one_tree}
 use Rattle.ra_ap_parser.specs.StrSink.{Takes, Stops}
 use Rattle.ra_ap_parser.specs.StrStep.{StrStepValue}
 use Rattle.ra_ap_parser.specs.Trivia.{with_trivia}
-use Rattle.rast.specs.declared.parse_text.TextFault.{TextFault}
-use Rattle.rast.specs.declared.parse_text.TextFault.TheVariants.{TextTooLong, TooManyTokens, NoMemory, Refused}
+use Rattle.ra_ap_parser.specs.declared.whole_text.TextFault.{TextFault}
+use Rattle.ra_ap_parser.specs.declared.whole_text.TextFault.TheVariants.{TextTooLong, TooManyTokens, NoMemory, Refused}
 
 -- The text's tokens; one tree over all those that are no trivia, in at most 256 steps for each and 256 more; and the
 -- same tree with the trivia put back, which is one tree too.

@@ -3,7 +3,11 @@
 //! `K(..)` is a node with its children and `K"t"` a leaf; `_` is a leaf of one space. Each message stands behind a bar,
 //! with its place.
 use super::parse_text;
-use ra_ap_parser::{Edition, NoMemory, StrSink, StrStep, SyntaxKind, TopEntryPoint};
+use crate::entry_point::TopEntryPoint;
+use crate::shortcuts::{StrSink, StrStep};
+use rap_base::edition::Edition;
+use rap_base::no_memory::NoMemory;
+use rap_base::syntax_kind::SyntaxKind;
 use std::alloc::Global;
 use std::fmt::Write as _;
 use std::process::Abort;

@@ -1,25 +1,15 @@
 -- The parts of the promise, put together.
 use Rattle.std.proofs.Common.{◌≡◌, ◌≢◌, ℕ, suc, ◌+◌, ◌*◌, ◌<◌, ◌≤◌, List, [], ◌∷◌, Bool, true, false, length, ap, sym, ◌∙◌, refl, inl, inr, subst, arith}
-use Rattle.std.proofs.lemmas.Bool.{cases_Bool}
 use Rattle.rap_base.specs.declared.edition.Edition.{Edition}
 use Rattle.rap_events.specs.Cover.{covers}
 use Rattle.rap_events.specs.Forest.{Forest, flat, one_tree, used}
 use Rattle.rap_events.specs.Record.{Record}
 use Rattle.rap_grammar.specs.Top.{IsTreeOver}
 use Rattle.ra_ap_parser.specs.Input.{records}
-use Rattle.ra_ap_parser.specs.LexedStr.{Token, Lexed, IsLexing}
+use Rattle.ra_ap_parser.specs.LexedStr.{Lexed, IsLexing}
 use Rattle.ra_ap_parser.specs.StrForest.{str_one_tree}
-use Rattle.ra_ap_parser.specs.Trivia.{is_trivial, significant, with_trivia}
-use Rattle.ra_ap_parser.proofs.Records.{records-trivial, records-significant, significant-trivial, significant-more}
-use Rattle.rast.specs.Headline.{IsParsed}
-
-pub length-records : (ts : List Token) (edition : Edition) → length (records ts edition) ≡ significant ts
-length-records [] edition = refl
-length-records (t ∷ ts) edition =
-    elim (cases_Bool (is_trivial t)) as (λ _. length (records (t ∷ ts) edition) ≡ significant (t ∷ ts)) [
-      | inl e ↦ ap length (records-trivial t ts edition e) ∙ (length-records ts edition ∙ sym (significant-trivial t ts e))
-      | inr e ↦ omega (arith, ap length (records-significant t ts edition e), length-records ts edition, significant-more t ts e)
-    ]
+use Rattle.ra_ap_parser.specs.Trivia.{with_trivia}
+use Rattle.ra_ap_parser.specs.Headline.{IsParsed}
 
 at_most : (m n : ℕ) → (m < n → ⊥) → n ≤ m
 at_most m n h = omega (arith, h)
