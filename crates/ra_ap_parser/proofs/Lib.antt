@@ -12,6 +12,7 @@ pub mod OneLexing
 pub mod Parsed
 pub mod Places
 pub mod Records
+pub mod Tells
 pub mod Tokens
 pub mod TriviaRuns
 pub mod Upto

@@ -1,12 +1,11 @@
 -- A text has one lexing.
-use Rattle.std.proofs.Common.{◌≡◌, ◌≢◌, ℕ, zero, suc, ◌<◌, ◌≤◌, ◌+◌, ◌==◌, ◌⊎◌, Bool, List, [], ◌∷◌, ◌++◌, Option, Some, None, MatchOption, length, length-append, take, drop, chars, Result, Ok, map, IsUtf8, IsCharBoundary, refl, ap, sym, ◌∙◌, subst, inl, inr, arith, eq-eqb, ne_eqb}
+use Rattle.std.proofs.Common.{◌≡◌, ◌≢◌, ℕ, zero, suc, ◌<◌, ◌≤◌, ◌+◌, ◌⊎◌, Bool, List, [], ◌∷◌, ◌++◌, Option, Some, None, MatchOption, length, length-append, drop, chars, Ok, map, IsUtf8, refl, ap, sym, ◌∙◌, subst, inl, inr, arith, eq-eqb, ne_eqb}
 use Rattle.std.specs.Prelude.{⊤}
 use Rattle.std.specs.List.{AllByRecursion}
 use Rattle.std.proofs.lemmas.List.{append_cancel_right, append_cancel_left, drop_all, drop_more, drop_at}
 use Rattle.std.proofs.lemmas.Bool.{cases_eq, cases_order, cases_lt}
 use Rattle.std.proofs.lemmas.Str.{chars-nil, encodes-chars, IsUtf8-drop}
 use Rattle.std.specs.Prelude.{encode_utf8_all}
-use Rattle.rap_base.specs.TokenKind.{L_BRACK}
 use Rattle.rap_base.specs.declared.edition.Edition.{Edition}
 use Rattle.rap_lexer.proofs.EscapeWalks.{told_is}
 use Rattle.rap_lexer.proofs.OneToken.{one_token}
@@ -19,13 +18,12 @@ use Rattle.rap_lexer.specs.declared.lexer.lexeme.Remark.{Remark}
 use Rattle.rap_script.proofs.ScriptAnswers.{only_script}
 use Rattle.rap_script.specs.OneAnswer.{IsOnlyScript}
 use Rattle.rap_script.proofs.ScriptOnce.{line_once}
-use Rattle.rap_script.specs.Refusal.{Refusal, IsRefused}
 use Rattle.rap_script.specs.Script.{Script, IsScript, HasLine}
 use Rattle.ra_ap_parser.proofs.Messages.{messages_of-past}
 use Rattle.ra_ap_parser.proofs.Tokens.{joined-append, joined-from_start}
-use Rattle.ra_ap_parser.specs.Front.{Leads, HasShebangLine, IsShebangLine, IsFront, is_passed, pieces, script_pieces}
+use Rattle.ra_ap_parser.specs.Front.{Leads, IsShebangLine, IsFront, is_passed, pieces, script_pieces}
 use Rattle.ra_ap_parser.specs.Front.Leads.{nothing, token, past}
-use Rattle.ra_ap_parser.specs.LexedStr.{Token, Message, Lexed, IsLexing, IsFirst, AreInOrder, joined, start_of, token_at, after_open, messages_of}
+use Rattle.ra_ap_parser.specs.LexedStr.{Token, Message, Lexed, IsLexing, IsFirst, AreInOrder, joined, start_of, token_at, messages_of}
 use Rattle.ra_ap_parser.specs.OneLexing.{IsOnlyLexing}
 use Rattle.ra_ap_parser.specs.Told.{TellsOf, TellsFaults, body_of, checked_mode}
 

@@ -7,6 +7,7 @@ ghost use Rattle.ra_ap_parser.specs.OneLexing.{IsOnlyLexing};
 ghost use Rattle.ra_ap_parser.specs.SingleToken.{IsNotOneToken, IsOneToken};
 ghost use Rattle.ra_ap_parser.specs.LexedStr.{joined, start_of, token_at, error_of, since_open_after, AreTokens, IsLexing};
 
+pub(crate) use count::significant_tokens;
 use front::{find_front, push_front};
 use rap_base::edition::Edition;
 use rap_base::no_memory::NoMemory;
@@ -14,6 +15,7 @@ use rap_base::syntax_kind::SyntaxKind;
 use rap_lexer::lexer::first_token;
 use told::{LexError, last_message, looks_open, tell};
 
+mod count;
 mod front;
 #[cfg(test)]
 mod tests;
@@ -144,7 +146,7 @@ impl<'a> LexedStr<'a> {
         if text.len() > MAX_TEXT {
             return Err(LexFault::TextTooLong);
         }
-        let front = find_front(alloc, edition, text)?;
+        let front = find_front(alloc, edition, text);
         let mut kind = Vec::with_capacity(alloc, text.len() / 3)?;
         let mut start = Vec::with_capacity(alloc, text.len() / 3 + 1)?;
         start.push(0)?;

@@ -1,9 +1,9 @@
 //! A whole text, from its bytes to the steps of its tree.
-ghost use Rattle.std.specs.Prelude.{MatchResult};
-ghost use Rattle.ra_ap_parser.specs.Headline.{Headline, Faulted};
+ghost use Rattle.std.specs.Prelude.{◌≡◌, ◌≤◌, ◌<◌, ◌↔◌, ◌⊎◌, Err, IfErr, IfOk, length};
+ghost use Rattle.ra_ap_parser.specs.Headline.{HasTooManyTokens, Headline, Leaves};
 
-use crate::entry_point::{ParseFault, TopEntryPoint};
-use crate::lexed_str::{LexFault, LexedStr};
+use crate::entry_point::{MAX_TOKENS, ParseFault, TopEntryPoint};
+use crate::lexed_str::{LexFault, LexedStr, MAX_TEXT, significant_tokens};
 use crate::shortcuts::StrSink;
 use rap_base::edition::Edition;
 use std::alloc::Global;
@@ -14,9 +14,9 @@ mod rows;
 /// Why a text was not handed out whole.
 #[derive(Debug, Drop)]
 pub enum TextFault<R> {
-    /// The text has more than 4,294,967,295 bytes.
+    /// The text has more than [`MAX_TEXT`] bytes.
     TextTooLong,
-    /// The text has more than 8,388,607 tokens that are no trivia.
+    /// The text has more than [`MAX_TOKENS`] tokens that are no trivia.
     TooManyTokens,
     /// A growth was refused for want of memory.
     NoMemory,
@@ -31,8 +31,25 @@ pub struct ParsedText<'t> {
     pub whole: bool,
 }
 
+/// The fault of a text whose tokens wanted memory.
+fn without_memory<R>(alloc: Global, edition: Edition, text: &str) -> TextFault<R>
+    requires { length text.now ≤ MAX_TEXT }
+    ensures many { (result ≡ TextFault.TooManyTokens) ↔ HasTooManyTokens text.now edition }
+    ensures else_memory { (result ≡ TextFault.TooManyTokens) ⊎ (result ≡ TextFault.NoMemory) }
+{
+    if significant_tokens(alloc, edition, text) > MAX_TOKENS {
+        TextFault::TooManyTokens
+    } else {
+        TextFault::NoMemory
+    }
+}
+
 /// Cuts the text into tokens, parses them from the entry point, and hands the sink the steps of the one tree
 /// over all of the text.
+///
+/// The error is `TextTooLong` exactly for a text of more than [`MAX_TEXT`] bytes, which is decided first, and else
+/// `TooManyTokens` exactly for one of more than [`MAX_TOKENS`] tokens that are no trivia, wanting memory or not. Then it
+/// is `NoMemory` where a growth was refused, and `Refused` where the sink refused a step.
 pub fn parse_text<'t, S: StrSink>(
     alloc: Global,
     edition: Edition,
@@ -40,17 +57,18 @@ pub fn parse_text<'t, S: StrSink>(
     text: &'t str,
     sink: &mut S,
 ) -> Result<ParsedText<'t>, TextFault<S::Refusal>>
-    ensures { MatchResult result
-        (λ r. Headline S.takes text.now edition r.lexed r.whole sink.old sink.new)
-        (λ fault. Faulted S.takes S.refuses text.now edition fault sink.old sink.new) }
+    ensures parsed { IfOk result (λ r. Headline S.takes text.now edition r.lexed r.whole sink.old sink.new) }
+    ensures too_long { (result ≡ Err TextFault.TextTooLong) ↔ (MAX_TEXT < length text.now) }
+    ensures too_many { (result ≡ Err TextFault.TooManyTokens) ↔ HasTooManyTokens text.now edition }
+    ensures left { IfErr result (λ fault. Leaves S.takes S.refuses text.now edition fault sink.old sink.new) }
 {
     let lexed = match LexedStr::new(alloc, edition, text) {
         Ok(lexed) => lexed,
         Err(LexFault::TextTooLong) => return Err(TextFault::TextTooLong),
-        Err(LexFault::NoMemory) => return Err(TextFault::NoMemory),
+        Err(LexFault::NoMemory) => return Err(without_memory(alloc, edition, text)),
     };
     let Ok(input) = lexed.to_input(alloc, edition) else {
-        return Err(TextFault::NoMemory);
+        return Err(without_memory(alloc, edition, text));
     };
     let output = match entry.parse(alloc, &input) {
         Ok(output) => output,

@@ -15,14 +15,14 @@ use Rattle.ra_ap_parser.proofs.lexed_str.LexedStr.new.Goals as goal
 
 pub tokens-init : goal.tokens-init
 tokens-init c =
-    let f = c.in_ok-front.front in
+    let f = c.find_front-front.result in
     let kinds : c.push_front.new.kinds.items ≡ front_kinds f.shebang f.frontmatter = c.in_ok-push_front.ensures.kinds ∙ ap (λ l. l ++ front_kinds f.shebang f.frontmatter) c.in_ok-kind.ensures.items in
     let zero : c.push.new.self.items ≡ 0 ∷ [] = c.in_ok-push.ensures.items ∙ ap (λ l. l ++ 0 ∷ []) c.in_ok-start.ensures.items in
     let starts : c.push_front.new.starts.items ≡ 0 ∷ (option_to_list f.shebang ++ option_to_list f.frontmatter) = c.in_ok-push_front.ensures.starts ∙ ap (λ l. l ++ (option_to_list f.shebang ++ option_to_list f.frontmatter)) zero in
     record {
       front = pieces c.args.text.now f.shebang f.frontmatter;
-      is_front = c.in_ok-front.ensures.front;
-      upto = front_begun c.args.edition c.args.text.now f.shebang f.frontmatter _ _ _ _ c.utf8.text c.in_ok-front.ensures.ends kinds starts c.new-error.ensures.items c.end-offset.ensures;
+      is_front = c.find_front-front.ensures.front;
+      upto = front_begun c.args.edition c.args.text.now f.shebang f.frontmatter _ _ _ _ c.utf8.text c.find_front-front.ensures.ends kinds starts c.new-error.ensures.items c.end-offset.ensures;
       kinds = rw kinds (front_tokens f.shebang f.frontmatter);
     }
 
