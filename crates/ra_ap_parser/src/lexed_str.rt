@@ -31,7 +31,7 @@ use std::ops::Range;
 pub const MAX_TEXT: usize = 4_294_967_295;
 
 /// Why a text was not lexed.
-#[derive(Debug, Drop)]
+#[derive(Clone, Copy, Debug, PartialEq, Eq)]
 pub enum LexFault {
     /// The text has more than [`MAX_TEXT`] bytes.
     TextTooLong,

@@ -1,5 +1,5 @@
 //! A whole text, from its bytes to the steps of its tree.
-ghost use Rattle.std.specs.Prelude.{◌≡◌, ◌≤◌, ◌<◌, ◌↔◌, ◌⊎◌, Err, IfErr, IfOk, length};
+ghost use Rattle.std.specs.Prelude.{◌≡◌, ◌≤◌, ◌<◌, ◌↔◌, ◌⊎◌, Err, IfErr, IfOk, Some, length};
 ghost use Rattle.ra_ap_parser.specs.Headline.{HasTooManyTokens, Headline, Leaves};
 
 use crate::entry_point::{MAX_TOKENS, ParseFault, TopEntryPoint};
@@ -7,12 +7,14 @@ use crate::lexed_str::{LexFault, LexedStr, MAX_TEXT, significant_tokens};
 use crate::shortcuts::StrSink;
 use rap_base::edition::Edition;
 use std::alloc::Global;
+use std::error::Error;
+use std::fmt;
 
 #[cfg(test)]
 mod rows;
 
 /// Why a text was not handed out whole.
-#[derive(Debug, Drop)]
+#[derive(Clone, Debug, Drop, PartialEq, Eq)]
 pub enum TextFault<R> {
     /// The text has more than [`MAX_TEXT`] bytes.
     TextTooLong,
@@ -23,6 +25,23 @@ pub enum TextFault<R> {
     /// The sink refused a step.
     Refused(R),
 }
+
+impl<R> fmt::Display for TextFault<R> {
+    ghost use Rattle.ra_ap_parser.specs.Fault.{text_fault_text};
+
+    ghost output = { λ fault. Some (text_fault_text fault) };
+
+    fn fmt<W: fmt::Write>(&self, f: &mut fmt::Formatter<W>) -> fmt::Result {
+        match self {
+            TextFault::TextTooLong => f.write_str("text too long"),
+            TextFault::TooManyTokens => f.write_str("too many tokens"),
+            TextFault::NoMemory => f.write_str("no memory"),
+            TextFault::Refused(_) => f.write_str("refused by the sink"),
+        }
+    }
+}
+
+impl<R: fmt::Debug + Drop> Error for TextFault<R> {}
 
 /// A text's tokens, and whether the sink has been handed all of them.
 #[derive(Drop)]

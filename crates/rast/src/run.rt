@@ -19,7 +19,7 @@ mod tests;
 pub struct Entry(pub TopEntryPoint);
 
 /// The word is no entry point's name.
-#[derive(Clone, Copy, Debug)]
+#[derive(Clone, Copy, PartialEq, Eq, Debug)]
 pub struct InvalidEntry;
 
 /// Reads an entry point from its name.

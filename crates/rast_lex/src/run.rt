@@ -30,7 +30,7 @@ pub enum Listing {
 }
 
 /// The word names nothing that is listed.
-#[derive(Clone, Copy, Debug)]
+#[derive(Clone, Copy, PartialEq, Eq, Debug)]
 pub struct InvalidListing;
 
 /// Reads what is to be listed from its word.
