@@ -17,6 +17,10 @@ IsNamed word result =
     (λ entry. word ≡ name_of_entry entry.0)
     (λ _. (entry : TopEntryPoint) → word ≢ name_of_entry entry)
 
+-- what is told where the output refuses a write
+abbrev pub cannot_write : List ℕ
+cannot_write = codes "rast: cannot write\n"
+
 -- what is told of a fault; the program's own sink refuses a step only for want of memory
 abbrev pub fault_line : {R : Type 0} → TextFault R → List ℕ
 fault_line TextTooLong = codes "rast: text too long\n"
