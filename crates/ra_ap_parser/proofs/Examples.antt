@@ -28,6 +28,7 @@ use Rattle.ra_ap_parser.specs.LexedStr.{IsFirst, IsLexing, joined, start_of, tok
 use Rattle.ra_ap_parser.specs.StrForest.{StrForest, str_none, str_node, str_leaf, str_mark, str_joined, str_one_tree}
 use Rattle.ra_ap_parser.specs.Token.{Token}
 use Rattle.ra_ap_parser.specs.Trivia.{with_trivia}
+use Rattle.ra_ap_parser.proofs.OpenStrings.{after_open, follows}
 use lib.Utf8.{encode}
 use Rattle.unicode_ident.proofs.Computing.{unicode_ident}
 
@@ -125,7 +126,7 @@ lexing ts s feed hash dash = record {
   rest = ts;
   parts = refl;
   silent = λ i h. refl;
-  each = λ i l h. rw (plus_one i) (first ts _ i s h);
+  each = λ i l h. (after_open (token_at ts) i, follows ts i, rw (plus_one i) (first ts _ i s h));
   ordered = tt;
 }
 

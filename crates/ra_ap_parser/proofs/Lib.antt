@@ -9,6 +9,7 @@ pub mod InputRecords
 pub mod Joined
 pub mod Messages
 pub mod OneLexing
+pub mod OpenStrings
 pub mod Parsed
 pub mod Places
 pub mod Records

@@ -1,6 +1,6 @@
 -- A text has one lexing.
 use Rattle.std.proofs.Common.{◌≡◌, ◌≢◌, ℕ, zero, suc, ◌<◌, ◌≤◌, ◌+◌, ◌⊎◌, Bool, List, [], ◌∷◌, ◌++◌, Option, Some, None, MatchOption, length, length-append, drop, chars, Ok, map, IsUtf8, refl, ap, sym, ◌∙◌, subst, inl, inr, arith, eq-eqb, ne_eqb}
-use Rattle.std.specs.Prelude.{⊤}
+use Rattle.std.specs.Prelude.{◌↔◌, IsTrue, ⊤}
 use Rattle.std.specs.List.{AllByRecursion}
 use Rattle.std.proofs.lemmas.List.{append_cancel_right, append_cancel_left, drop_all, drop_more, drop_at}
 use Rattle.std.proofs.lemmas.Bool.{cases_eq, cases_order, cases_lt}
@@ -20,10 +20,11 @@ use Rattle.rap_script.specs.OneAnswer.{IsOnlyScript}
 use Rattle.rap_script.proofs.ScriptOnce.{line_once}
 use Rattle.rap_script.specs.Script.{Script, IsScript, HasLine}
 use Rattle.ra_ap_parser.proofs.Messages.{messages_of-past}
+use Rattle.ra_ap_parser.proofs.OpenStrings.{same_note}
 use Rattle.ra_ap_parser.proofs.Tokens.{joined-append, joined-from_start}
 use Rattle.ra_ap_parser.specs.Front.{Leads, IsShebangLine, IsFront, is_passed, pieces, script_pieces}
 use Rattle.ra_ap_parser.specs.Front.Leads.{nothing, token, past}
-use Rattle.ra_ap_parser.specs.LexedStr.{Token, Message, Lexed, IsLexing, IsFirst, AreInOrder, joined, start_of, token_at, messages_of}
+use Rattle.ra_ap_parser.specs.LexedStr.{Token, Message, Lexed, IsLexing, IsFirst, AreInOrder, FollowsOpen, joined, start_of, token_at, messages_of}
 use Rattle.ra_ap_parser.specs.OneLexing.{IsOnlyLexing}
 use Rattle.ra_ap_parser.specs.Told.{TellsOf, TellsFaults, body_of, checked_mode}
 
@@ -126,7 +127,7 @@ module _ (text : List ℕ) (edition : Edition) (utf8 : IsUtf8 text) (lexed : Lex
 
   next : (i : ℕ) → length h.front ≤ i → i < length lexed.tokens → IsNext edition lexed.tokens i
   next i l m =
-      let f = h.each i l m in
+      let f = (h.each i l m).2 in
       ((f.0, rw (remains i, remains (i + 1)) at f.1), rw (← remains (i + 1)) (IsUtf8-drop text (start_of lexed.tokens (i + 1)) utf8 (h.borders (i + 1) (omega arith))))
 
   split : joined h.front ++ joined h.rest ≡ text
@@ -157,6 +158,16 @@ first_once edition note text t rest ms ns h k =
     let one = one_token edition (chars text) (told t.kind h.0) (told t.kind k.0) (chars rest) (chars rest) h.1 k.1 in
     let remark : h.0 ≡ k.0 = ap (λ (x : Lexeme). x.remark) one.0 in
     tells_once note t.text h.0 ms ns h.2 (subst (λ (r : Remark). TellsOf note t.text r ns) (sym remark) k.2)
+
+-- what is told of the i-th token
+abbrev IsAt : Edition → List ℕ → List Token → ℕ → List (List ℕ) → Type 0
+IsAt edition text ts i ms =
+    (note : Bool) × (IsTrue note ↔ FollowsOpen ts i) × IsFirst edition note (drop (start_of ts i) text) (token_at ts i) (drop (start_of ts (i + 1)) text) ms
+
+at_once : (edition : Edition) (text : List ℕ) (ts : List Token) (i : ℕ) (ms ns : List (List ℕ)) → IsAt edition text ts i ms → IsAt edition text ts i ns → ms ≡ ns
+at_once edition text ts i ms ns h k =
+    let note : h.0 ≡ k.0 = same_note h.0 k.0 (FollowsOpen ts i) h.1 k.1 in
+    first_once edition k.0 _ _ _ ms ns (subst (λ (b : Bool). IsFirst edition b (drop (start_of ts i) text) (token_at ts i) (drop (start_of ts (i + 1)) text) ms) note h.2) k.2
 
 -- messages about later tokens alone
 none_before : (ms : List Message) (i n : ℕ) → i < n → AllByRecursion (λ (later : Message). n ≤ later.token) ms → messages_of ms i ≡ []
@@ -219,8 +230,8 @@ only_lexing text edition lexed utf8 h other k =
     let size : length k.front ≡ length h.front = ap length front in
     let silent : (i : ℕ) → i < length h.front → messages_of other.errors i ≡ messages_of lexed.errors i = λ i l. k.silent i (omega (arith, size)) ∙ sym (h.silent i l) in
     let each : (i : ℕ) → length h.front ≤ i → i < length lexed.tokens → messages_of other.errors i ≡ messages_of lexed.errors i = λ i l m.
-    let first = k.each i (omega (arith, size)) (omega (arith, ap length tokens)) in
-    first_once edition _ _ _ _ _ _ (rw tokens at first) (h.each i l m) in
+    let there = k.each i (omega (arith, size)) (omega (arith, ap length tokens)) in
+    at_once edition text lexed.tokens i _ _ (subst (λ (ts : List Token). IsAt edition text ts i (messages_of other.errors i)) tokens there) (h.each i l m) in
     let past : (i : ℕ) → length lexed.tokens ≤ i → messages_of other.errors i ≡ messages_of lexed.errors i = λ i l. messages_of-past (length other.tokens) i other.errors k.ordered (omega (arith, ap length tokens)) ∙ sym (messages_of-past (length lexed.tokens) i lexed.errors h.ordered l) in
     let same : (i : ℕ) → messages_of other.errors i ≡ messages_of lexed.errors i = λ i. elim (cases_lt i (length h.front)) as (λ _. messages_of other.errors i ≡ messages_of lexed.errors i) [
       | inl l ↦ silent i l

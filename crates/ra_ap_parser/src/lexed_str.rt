@@ -1,11 +1,13 @@
 //! A text cut into tokens, with the lexer's messages.
-ghost use Rattle.std.specs.Prelude.{◌≡◌, ℕ, ◌<◌, ◌≤◌, ◌+◌, ◌^◌, ◌↔◌, Some, IfOk, IfSome, IsTrue, MatchOption, string_bytes, length, slice_range};
+ghost use Rattle.std.specs.Prelude.{◌≡◌, ℕ, ◌<◌, ◌≤◌, ◌+◌, ◌^◌, ◌↔◌, ◌&&◌, ◌==◌, Some, IfOk, IfSome, IsFalse, IsTrue, MatchOption, min, string_bytes, length, slice_range};
 ghost use Rattle.std.specs.List.Sorted.{IsNonDecreasingBy, IsPartitionPoint};
 ghost use Rattle.std.specs.Option.{option_copied, option_map};
+ghost use Rattle.rap_base.specs.TokenKind.{STRING};
 ghost use Rattle.rap_base.specs.TokenTests.{IsTokenKind};
 ghost use Rattle.ra_ap_parser.specs.OneLexing.{IsOnlyLexing};
 ghost use Rattle.ra_ap_parser.specs.SingleToken.{IsNotOneToken, IsOneToken};
-ghost use Rattle.ra_ap_parser.specs.LexedStr.{joined, start_of, token_at, error_of, since_open_after, AreTokens, IsLexing};
+ghost use Rattle.ra_ap_parser.specs.Told.{looks_open};
+ghost use Rattle.ra_ap_parser.specs.LexedStr.{joined, start_of, token_at, error_of, AreTokens, IsLexing};
 
 pub(crate) use count::significant_tokens;
 use front::{find_front, push_front};
@@ -110,7 +112,8 @@ impl<'a> Model for LexedStr<'a> {
 
 /// How many tokens stand after the last string that looks open, up to 5, with one token more.
 fn since_open_after(since: usize, kind: SyntaxKind, text: &str) -> usize
-    ensures { result ≡ since_open_after since kind text.now }
+    ensures opens { IsTrue ((kind == STRING) && looks_open text.now) → result ≡ 0 }
+    ensures other { IsFalse ((kind == STRING) && looks_open text.now) → result ≡ min (since + 1) 5 }
 {
     if kind == SyntaxKind::STRING && looks_open(text) {
         0

@@ -10,6 +10,7 @@ use Rattle.ra_ap_parser.specs.LexedStr.{IsFirst}
 use Rattle.ra_ap_parser.specs.Told.{TellsOf}
 use Rattle.std.proofs.lemmas.Str.{IsCharBoundary-from_rest}
 use Rattle.ra_ap_parser.proofs.OneLexing.{only_lexing}
+use Rattle.ra_ap_parser.proofs.OpenStrings.{counts}
 use Rattle.ra_ap_parser.proofs.Upto.{front_begun, front_tokens, more, lexing}
 use Rattle.ra_ap_parser.proofs.lexed_str.LexedStr.new.Goals as goal
 
@@ -41,12 +42,12 @@ tokens-preserved c =
     let is_first : IsFirst c.args.edition (nat_lt c.tokens.since_open 5) (drop offset text) (record { kind = token.kind; text = slice_range text offset (offset + n) }) (drop (offset + n) text) told.0 = (token.remark, first, tells) in
     let number : c.len-number.result ≡ length c.tokens.kind.items = omega (arith, c.len-number.ensures) in
     let errors : c.tell.new.errors.items ≡ c.tokens.error.items ++ about (length c.tokens.kind.items) told.0 = told.2 ∙ ap (λ i. c.tokens.error.items ++ about i told.0) number in
-    let since = rw next at c.since_open_after-since_open.ensures in
+    let counted = counts c.tokens.since_open token.kind (slice_range text offset (offset + n)) _ (rw next at c.since_open_after-since_open.ensures.opens) (rw next at c.since_open_after-since_open.ensures.other) in
     let all = more c.args.edition text _ _ _ c.tokens.error.items c.tokens.since_open offset token.kind (offset + n) c.tokens.invariant.upto (omega (arith, c.first_token-len.ensures.positive)) (IsCharBoundary-from_rest text offset n c.tokens.invariant.upto.within border) told.0 is_first in
     record {
       front = c.tokens.invariant.front;
       is_front = c.tokens.invariant.is_front;
-      upto = rw (c.in_ok-push-2.ensures.items, c.in_ok-push-3.ensures.items, errors, since) all;
+      upto = rw (c.in_ok-push-2.ensures.items, c.in_ok-push-3.ensures.items, errors, counted) all;
       kinds = rw c.in_ok-push-2.ensures.items (All-push IsTokenKind c.tokens.kind.items token.kind c.tokens.invariant.kinds c.first_token-len.ensures.kind);
     }
 
