@@ -155,3 +155,12 @@ leaf-touches kind width ts edition past h =
           let touches : length (parts kind) ≤ prefix_len is_significant ts = operator-touches (parts kind) ts edition (parts-plain kind) past both.1 in
           (ltb-true 0 width all.0, omega arith)
     ]
+
+-- as many records as tokens that are no trivia
+pub length-records : (ts : List Token) (edition : Edition) → length (records ts edition) ≡ significant ts
+length-records [] edition = refl
+length-records (t ∷ ts) edition =
+    elim (cases_Bool (is_trivial t)) as (λ _. length (records (t ∷ ts) edition) ≡ significant (t ∷ ts)) [
+      | inl e ↦ ap length (records-trivial t ts edition e) ∙ (length-records ts edition ∙ sym (significant-trivial t ts e))
+      | inr e ↦ omega (arith, ap length (records-significant t ts edition e), length-records ts edition, significant-more t ts e)
+    ]

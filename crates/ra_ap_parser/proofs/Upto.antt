@@ -12,8 +12,9 @@ use Rattle.rap_base.specs.TokenTests.{IsTokenKind}
 use Rattle.rap_base.specs.declared.edition.Edition.{Edition}
 use Rattle.ra_ap_parser.specs.About.{about}
 use Rattle.ra_ap_parser.specs.Front.{pieces, front_kinds, IsFront, AreEnds}
-use Rattle.ra_ap_parser.specs.LexedStr.{Token, Message, AreStarts, AreInOrder, IsFirst, IsLexing, token_at, start_of, cut, since_open, since_open_after, after_open, messages_of}
+use Rattle.ra_ap_parser.specs.LexedStr.{Token, Message, AreStarts, AreInOrder, IsFirst, IsLexing, token_at, start_of, cut, messages_of}
 use Rattle.ra_ap_parser.proofs.Messages.{messages_of-append, messages_of-about, messages_of-other, messages_of-past, ordered_more}
+use Rattle.ra_ap_parser.proofs.OpenStrings.{since_open, since_open_after, after_open, follows}
 use Rattle.ra_ap_parser.proofs.Cuts.{piece, joined-cut, length-cut, token_at-cut, start_of-cut}
 
 -- the pieces of the script source and the tokens so far have these kinds, starts and messages, and what follows them
@@ -260,11 +261,12 @@ module _ (edition : Edition) (text : List ℕ) (front : List Token) (ks ss : Lis
   pub lexing : IsFront edition text front → IsLexing text edition (record { tokens = cut text ks ss; errors = errors })
   lexing is_front = record {
     whole = joined-cut text ks ss starts;
+    borders = λ i h. let l : i ≤ length ks = omega (arith, length-cut text ks ss) in subst (λ (x : ℕ). IsCharBoundary text x) (sym (start_of-cut text ks ss starts i l)) (u.borders i l);
     front = front;
     is_front = is_front;
     rest = drop (length front) (cut text ks ss);
     parts = front_from_reads (record { kind = EOF; text = [] }) (cut text ks ss) front (omega (arith, u.fits, length-cut text ks ss)) front_at;
     silent = u.silent;
-    each = first_at;
+    each = λ i l h. (after_open (token_at (cut text ks ss)) i, follows (cut text ks ss) i, first_at i l h);
     ordered = rw (length-cut text ks ss) u.ordered;
   }

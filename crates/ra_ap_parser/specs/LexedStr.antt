@@ -1,5 +1,5 @@
 -- A text cut into tokens.
-use Rattle.std.specs.Prelude.{◌≡◌, ℕ, zero, suc, ⊤, Bool, ◌&&◌, ◌==◌, nat_lt, if◌then◌else◌, Option, Some, None, ◌<◌, ◌≤◌, ◌+◌, ◌^◌, List, [], ◌∷◌, ◌++◌, length, take, drop, All, chars, slice_index, slice_index_or, slice_range, IsUtf8, IsCharBoundary}
+use Rattle.std.specs.Prelude.{◌≡◌, ◌↔◌, ℕ, ⊤, Bool, IsTrue, ◌==◌, if◌then◌else◌, Option, Some, None, ◌<◌, ◌≤◌, ◌+◌, ◌^◌, List, [], ◌∷◌, ◌++◌, length, take, drop, All, chars, slice_index, slice_index_or, slice_range, IsUtf8, IsCharBoundary}
 use Rattle.std.specs.Borrow.{Bor}
 use Rattle.std.specs.List.{AllByRecursion}
 use Rattle.rap_lexer.specs.First.{First}
@@ -44,18 +44,9 @@ pub record AreTokens (ts : List Token) : Type 0 where
   pub utf8 : All (λ t. IsUtf8 t.text) ts
   pub small : length (joined ts) < 2 ^ 32
 
--- one token more since the last string that looks open, up to 5
-abbrev pub since_open_after : ℕ → ℕ → List ℕ → ℕ
-since_open_after since kind text = if kind == STRING && looks_open text then 0 else (if nat_lt since 5 then since + 1 else 5)
-
--- Of the tokens that `at` gives, how many stand after the last string that looks open and before the i-th, up to 5.
-abbrev pub since_open : (ℕ → Token) → ℕ → ℕ
-since_open at zero = 5
-since_open at (suc i) = since_open_after (since_open at i) (at i).kind (at i).text
-
--- such a string is among the last five tokens before the i-th
-abbrev pub after_open : (ℕ → Token) → ℕ → Bool
-after_open at i = nat_lt (since_open at i) 5
+-- One of the five tokens before the i-th is a string that looks open.
+abbrev pub FollowsOpen : List Token → ℕ → Type 0
+FollowsOpen ts i = (j : ℕ) × (j < i) × (i ≤ j + 5) × ((token_at ts j).kind ≡ STRING) × IsTrue (looks_open (token_at ts j).text)
 
 -- the texts of the messages about the i-th token, in order
 abbrev pub messages_of : List Message → ℕ → List (List ℕ)
@@ -77,16 +68,18 @@ abbrev pub AreInOrder : ℕ → List Message → Type 0
 AreInOrder count [] = ⊤
 AreInOrder count (m ∷ ms) = (m.token < count) × AllByRecursion (λ later. m.token ≤ later.token) ms × AreInOrder count ms
 
--- The tokens joined are the text. First stand the pieces of the script source, of which nothing is told; from there on
--- each token is the first of what remains, and the messages are what is told of it.
+-- The tokens joined are the text, and each is whole characters. First stand the pieces of the script source, of which nothing is told; from there on
+-- each token is the first of what remains, and the messages are what is told of it, with a note where it follows a string
+-- that looks open.
 pub record IsLexing (text : List ℕ) (edition : Edition) (lexed : Lexed) : Type 0 where
   pub whole : joined lexed.tokens ≡ text
+  pub borders : (i : ℕ) → i ≤ length lexed.tokens → IsCharBoundary text (start_of lexed.tokens i)
   pub front : List Token
   pub is_front : IsFront edition text front
   pub rest : List Token
   pub parts : lexed.tokens ≡ front ++ rest
   pub silent : (i : ℕ) → i < length front → messages_of lexed.errors i ≡ []
-  pub each : (i : ℕ) → length front ≤ i → i < length lexed.tokens → IsFirst edition (after_open (token_at lexed.tokens) i) (drop (start_of lexed.tokens i) text) (token_at lexed.tokens i) (drop (start_of lexed.tokens (i + 1)) text) (messages_of lexed.errors i)
+  pub each : (i : ℕ) → length front ≤ i → i < length lexed.tokens → (note : Bool) × (IsTrue note ↔ FollowsOpen lexed.tokens i) × IsFirst edition note (drop (start_of lexed.tokens i) text) (token_at lexed.tokens i) (drop (start_of lexed.tokens (i + 1)) text) (messages_of lexed.errors i)
   pub ordered : AreInOrder (length lexed.tokens) lexed.errors
 
 -- The text cut at the starts, its pieces with the kinds.

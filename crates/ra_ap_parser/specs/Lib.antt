@@ -2,8 +2,10 @@ pub mod About
 pub mod Builder
 pub mod Fault
 pub mod Front
+pub mod Headline
 pub mod Input
 pub mod LexedStr
+pub mod OneLexing
 pub mod SingleToken
 pub mod StrForest
 pub mod StrSink

@@ -1,5 +1,5 @@
 -- A text that is one token.
-use Rattle.std.specs.Prelude.{◌≡◌, ◌≢◌, ◌⊎◌, ℕ, false, Option, MatchOption, List, [], ◌∷◌, ◌++◌, chars}
+use Rattle.std.specs.Prelude.{◌≡◌, ◌⊎◌, ℕ, ◌<◌, false, Option, MatchOption, List, [], ◌∷◌, ◌++◌, length, drop, chars, IsCharBoundary}
 use Rattle.rap_lexer.specs.First.{First}
 use Rattle.rap_lexer.specs.Lexeme.{told}
 use Rattle.rap_base.specs.declared.edition.Edition.{Edition}
@@ -19,6 +19,7 @@ TellsLast text remark last = (texts : List (List ℕ)) × TellsOf false text rem
 abbrev pub IsOneToken : Edition → List ℕ → ℕ → Option (List ℕ) → Type 0
 IsOneToken edition text kind last = (remark : Remark) × First edition (chars text) (told kind remark) [] × TellsLast text remark last
 
--- The text is empty, or something follows its first token.
+-- The text is empty, or its first token ends before the text does.
 abbrev pub IsNotOneToken : Edition → List ℕ → Type 0
-IsNotOneToken edition text = (text ≡ []) ⊎ ((token : Lexeme) × (rest : List ℕ) × First edition (chars text) token (chars rest) × (rest ≢ []))
+IsNotOneToken edition text =
+    (text ≡ []) ⊎ ((token : Lexeme) × (n : ℕ) × IsCharBoundary text n × First edition (chars text) token (chars (drop n text)) × (n < length text))

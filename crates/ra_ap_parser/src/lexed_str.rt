@@ -1,11 +1,15 @@
 //! A text cut into tokens, with the lexer's messages.
-ghost use Rattle.std.specs.Prelude.{◌≡◌, ℕ, ◌<◌, ◌≤◌, ◌+◌, ◌^◌, ◌↔◌, Some, IfOk, IfSome, IsTrue, MatchOption, string_bytes, length, slice_range};
+ghost use Rattle.std.specs.Prelude.{◌≡◌, ℕ, ◌<◌, ◌≤◌, ◌+◌, ◌^◌, ◌↔◌, ◌&&◌, ◌==◌, Some, IfOk, IfSome, IsFalse, IsTrue, MatchOption, min, string_bytes, length, slice_range};
 ghost use Rattle.std.specs.List.Sorted.{IsNonDecreasingBy, IsPartitionPoint};
 ghost use Rattle.std.specs.Option.{option_copied, option_map};
+ghost use Rattle.rap_base.specs.TokenKind.{STRING};
 ghost use Rattle.rap_base.specs.TokenTests.{IsTokenKind};
+ghost use Rattle.ra_ap_parser.specs.OneLexing.{IsOnlyLexing};
 ghost use Rattle.ra_ap_parser.specs.SingleToken.{IsNotOneToken, IsOneToken};
-ghost use Rattle.ra_ap_parser.specs.LexedStr.{joined, start_of, token_at, error_of, since_open_after, AreTokens, IsLexing};
+ghost use Rattle.ra_ap_parser.specs.Told.{looks_open};
+ghost use Rattle.ra_ap_parser.specs.LexedStr.{joined, start_of, token_at, error_of, AreTokens, IsLexing};
 
+pub(crate) use count::significant_tokens;
 use front::{find_front, push_front};
 use rap_base::edition::Edition;
 use rap_base::no_memory::NoMemory;
@@ -13,6 +17,7 @@ use rap_base::syntax_kind::SyntaxKind;
 use rap_lexer::lexer::first_token;
 use told::{LexError, last_message, looks_open, tell};
 
+mod count;
 mod front;
 #[cfg(test)]
 mod tests;
@@ -28,7 +33,7 @@ use std::ops::Range;
 pub const MAX_TEXT: usize = 4_294_967_295;
 
 /// Why a text was not lexed.
-#[derive(Debug, Drop)]
+#[derive(Clone, Copy, Debug, PartialEq, Eq)]
 pub enum LexFault {
     /// The text has more than [`MAX_TEXT`] bytes.
     TextTooLong,
@@ -107,7 +112,8 @@ impl<'a> Model for LexedStr<'a> {
 
 /// How many tokens stand after the last string that looks open, up to 5, with one token more.
 fn since_open_after(since: usize, kind: SyntaxKind, text: &str) -> usize
-    ensures { result ≡ since_open_after since kind text.now }
+    ensures opens { IsTrue ((kind == STRING) && looks_open text.now) → result ≡ 0 }
+    ensures other { IsFalse ((kind == STRING) && looks_open text.now) → result ≡ min (since + 1) 5 }
 {
     if kind == SyntaxKind::STRING && looks_open(text) {
         0
@@ -137,12 +143,13 @@ impl<'a> LexedStr<'a> {
     /// and else `NoMemory` where a growth was refused.
     pub fn new(alloc: Global, edition: Edition, text: &'a str) -> Result<LexedStr<'a>, LexFault>
         ensures lexing { IfOk result (IsLexing text.now edition) }
+        ensures only { IfOk result (IsOnlyLexing text.now edition) }
         ensures too_long { (result ≡ Err LexFault.TextTooLong) ↔ (MAX_TEXT < length text.now) }
     {
         if text.len() > MAX_TEXT {
             return Err(LexFault::TextTooLong);
         }
-        let front = find_front(alloc, edition, text)?;
+        let front = find_front(alloc, edition, text);
         let mut kind = Vec::with_capacity(alloc, text.len() / 3)?;
         let mut start = Vec::with_capacity(alloc, text.len() / 3 + 1)?;
         start.push(0)?;

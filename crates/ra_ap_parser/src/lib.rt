@@ -2,12 +2,14 @@
 //!
 //! [`LexedStr::new`] cuts a text into tokens, [`LexedStr::to_input`] leaves the trivia out,
 //! [`TopEntryPoint::parse`] parses what is left, and [`LexedStr::intersperse_trivia`] hands the tree, with the
-//! texts and the trivia put back, to a [`StrSink`]. [`frontmatter`] cuts a script source into its parts.
+//! texts and the trivia put back, to a [`StrSink`]. [`parse_text`] is all of that in one call. [`frontmatter`] cuts a
+//! script source into its parts.
 #![tactic(auto)]
 
 mod entry_point;
 mod lexed_str;
 mod shortcuts;
+mod whole_text;
 
 pub use entry_point::{MAX_TOKENS, ParseFault, TopEntryPoint};
 pub use lexed_str::{Errors, LexFault, LexedStr, MAX_TEXT};
@@ -19,3 +21,4 @@ pub use rap_events::input::Input;
 pub use rap_events::output::{Output, Step, Steps};
 pub use rap_script::frontmatter;
 pub use shortcuts::{StrSink, StrStep};
+pub use whole_text::{ParsedText, TextFault, parse_text};

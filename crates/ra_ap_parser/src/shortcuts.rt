@@ -65,7 +65,8 @@ impl LexedStr<'_> {
     /// as joint if its text does not end with a dot; any other token but an identifier if the token right after it
     /// is neither trivia nor an identifier. The error is want of memory.
     pub fn to_input(&self, alloc: Global, edition: Edition) -> Result<Input, NoMemory>
-        ensures { IfOk result (λ input. input ≡ records self.now.tokens edition) }
+        ensures records { IfOk result (λ input. input ≡ records self.now.tokens edition) }
+        ensures count { IfOk result (λ input. length input ≡ significant self.now.tokens) }
     {
         let mut input = Input::with_capacity(alloc, self.len())?;
         for i in 0..self.len() {

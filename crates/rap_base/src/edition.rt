@@ -1,6 +1,6 @@
 //! Editions of the language.
 ghost use Rattle.std.specs.Prelude.{◌≡◌, Some, codes};
-ghost use Rattle.rap_base.specs.Edition.{at_least_2018, at_least_2024, IsRead};
+ghost use Rattle.rap_base.specs.Edition.{at_least_2018, at_least_2024, year, IsRead};
 
 use std::error::Error;
 use std::fmt;
@@ -29,9 +29,11 @@ impl Edition {
         self >= Edition::Edition2018
     }
 
-    /// Whether this is the edition 2024 or a later one.
+    /// Whether this is the edition 2024 or a later one, as [`Edition::CURRENT`] and [`Edition::LATEST`] are.
     pub fn at_least_2024(self) -> bool
-        ensures { result ≡ at_least_2024 self }
+        ensures test { result ≡ at_least_2024 self }
+        ensures current { year Edition.CURRENT ≡ 2024 }
+        ensures latest { year Edition.LATEST ≡ 2024 }
     {
         self >= Edition::Edition2024
     }

@@ -9,3 +9,4 @@ pub mod ScriptOnce
 pub mod ScriptParts
 pub mod ScriptRefused
 pub mod ScriptShebang
+pub mod ScriptSpans

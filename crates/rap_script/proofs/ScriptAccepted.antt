@@ -107,7 +107,7 @@ module _ (text : List ℕ) (end : ℕ) (at : Range ℕ) (u : IsUtf8 text) (fits 
   word_cut = subst (λ (r : Range ℕ). IsCut text r) (sym w.is) (omega arith, starts, ends)
 
 -- a line ends before an ASCII byte, or with the text
-line_end_ascii : (text line end rest : List ℕ) → text ≡ line ++ (end ++ rest) → IsLineEnd line end rest → length line < length text → get_or text (length line) 0 < 128
+pub line_end_ascii : (text line end rest : List ℕ) → text ≡ line ++ (end ++ rest) → IsLineEnd line end rest → length line < length text → get_or text (length line) 0 < 128
 line_end_ascii text line _ _ e (with_return _ rest) l = omega (arith, ap (λ l. get_or l (length line) 0) e, get_or_at line 13 (10 ∷ rest) 0 (length line) refl)
 line_end_ascii text line _ _ e (feed _ rest bare) l = omega (arith, ap (λ l. get_or l (length line) 0) e, get_or_at line 10 rest 0 (length line) refl)
 line_end_ascii text line _ _ e (text_end _) l = absurd (omega (arith, ap length e, length-append line []))

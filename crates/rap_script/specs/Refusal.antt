@@ -1,9 +1,13 @@
 -- How a text that is no script source is refused.
-use Rattle.std.specs.Prelude.{◌≡◌, ℕ, ◌+◌, ◌-◌, ◌<◌, ◌≤◌, List, [], ◌∷◌, ◌++◌, length, unwrap_or, codes}
+use Rattle.std.specs.Prelude.{◌≡◌, ◌==◌, Bool, ℕ, ◌+◌, ◌-◌, ◌<◌, ◌≤◌, List, [], ◌∷◌, ◌++◌, length, All, unwrap_or, codes}
 use Rattle.std.specs.List.{AllPass}
 use Rattle.std.specs.Fmt.{decimal}
+use Rattle.std.proofs.lemmas.Cmp.{and_equiv, lists_equiv, nat_eq_equiv, on_equiv}
+use Rattle.std.specs.Cmp.{IsEquivalence}
+use Rattle.std.specs.Cmp.Lexicographic.{pointwise}
+use Rattle.std.specs.Ordering.{eq_of_both, on}
 use Rattle.std.specs.declared.ops.Range.{Range}
-use Rattle.rap_script.specs.Script.{dashes, NoDash, NoLineFeed, Fence, Opening, Closing, Ending, HasFence, IsLongestFence, HasWord, is_horizontal, span, moved, open_at, open_end, close_at, close_end, content_at}
+use Rattle.rap_script.specs.Script.{dashes, NoDash, NoLineFeed, Fence, Opening, Closing, Ending, HasFence, IsLongestFence, HasWord, IsCut, is_horizontal, span, moved, open_at, open_end, close_at, close_end, content_at}
 
 -- a message, the span that it speaks of, and the spans shown beside it, all in bytes
 pub record Refusal : Type 0 where
@@ -30,6 +34,23 @@ after_close = codes "unexpected characters after frontmatter close"
 
 abbrev pub only_one : List ℕ
 only_one = codes "only one frontmatter is supported"
+
+abbrev pub is_same_span : Range ℕ → Range ℕ → Bool
+is_same_span = eq_of_both (on (λ r. r.start) ◌==◌) (on (λ r. r.end) ◌==◌)
+
+-- the messages are equal, and the spans
+abbrev pub is_same : Refusal → Refusal → Bool
+is_same = eq_of_both (on (λ e. e.message) (pointwise ◌==◌)) (eq_of_both (on (λ e. e.primary) is_same_span) (on (λ e. e.visible) (pointwise is_same_span)))
+
+pub same_laws : IsEquivalence is_same
+same_laws =
+    let span : IsEquivalence is_same_span = and_equiv (on_equiv (λ (r : Range ℕ). r.start) nat_eq_equiv) (on_equiv (λ (r : Range ℕ). r.end) nat_eq_equiv) in
+    and_equiv (on_equiv (λ (e : Refusal). e.message) (lists_equiv nat_eq_equiv)) (and_equiv (on_equiv (λ (e : Refusal). e.primary) span) (on_equiv (λ (e : Refusal). e.visible) (lists_equiv span)))
+
+-- its spans go forward, and the text may be cut at both their ends
+pub record LiesAtBorders (text : List ℕ) (e : Refusal) : Type 0 where
+  pub primary : IsCut text e.primary
+  pub visible : All (IsCut text) e.visible
 
 -- what stands at the text's end
 abbrev pub end_of : List ℕ → Range ℕ

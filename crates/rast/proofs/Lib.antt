@@ -1,3 +1,1 @@
-pub mod Examples
 pub mod Lines
-pub mod Parsed

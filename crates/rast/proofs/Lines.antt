@@ -6,7 +6,7 @@ use Rattle.ra_ap_parser.specs.StrForest.{str_flat}
 use Rattle.ra_ap_parser.specs.StrSink.{Takes}
 use Rattle.ra_ap_parser.specs.StrStep.{StrStepValue}
 use Rattle.ra_ap_parser.specs.Trivia.{with_trivia}
-use Rattle.rast.specs.Headline.{Headline}
+use Rattle.ra_ap_parser.specs.Headline.{Headline}
 use Rattle.rast.specs.Printed.{indent, line, depth_after, printed, told_line, told, lexer_told}
 use Rattle.rast.specs.Prints.{Prints}
 use Rattle.rast.specs.Ran.{IsPrinted}

@@ -1,4 +1,3 @@
-pub mod Headline
 pub mod Printed
 pub mod Prints
 pub mod Ran

@@ -1,12 +1,16 @@
 -- What the program shows of a text.
-use Rattle.std.specs.Prelude.{◌≡◌, ◌≢◌, ℕ, ◌<◌, Option, List, [], ◌++◌, string_bytes}
+use Rattle.std.specs.Prelude.{◌≡◌, ◌≢◌, ◌⊎◌, ℕ, ◌<◌, ◌≤◌, Option, List, [], ◌++◌, length, string_bytes}
 use Rattle.std.specs.Io.KnownBytes.{Appends}
 use Rattle.rap_base.specs.declared.edition.Edition.{Edition}
 use Rattle.rap_events.specs.Forest.{Forest}
 use Rattle.ra_ap_parser.specs.LexedStr.{Lexed}
 use Rattle.ra_ap_parser.specs.StrForest.{str_flat}
 use Rattle.ra_ap_parser.specs.Trivia.{with_trivia}
-use Rattle.rast.specs.Headline.{IsParsed}
+use Rattle.ra_ap_parser.specs.Headline.{HasTooManyTokens, IsParsed}
+use Rattle.ra_ap_parser.specs.declared.whole_text.TextFault.{TextFault}
+use Rattle.ra_ap_parser.specs.declared.whole_text.TextFault.TheVariants.{TextTooLong, TooManyTokens, NoMemory, Refused}
+use Rattle.rap_base.specs.declared.no_memory.NoMemory.{NoMemory as Memory}
+use Rattle.rast.specs.Words.{cannot_write, fault_line}
 use Rattle.rast.specs.declared.printer.Printer.{Printer}
 use Rattle.rast.specs.Printed.{printed, told, lexer_told}
 
@@ -21,6 +25,31 @@ pub record IsPrinted (text : List ℕ) (edition : Edition) (printer : Printer) :
   pub parsed : IsParsed text edition lexed forest
   pub tree : string_bytes printer.tree ≡ printed 0 (str_flat (with_trivia lexed.tokens forest))
   pub messages : string_bytes printer.messages ≡ all_told lexed forest
+
+-- when a fault comes; the program's own sink refuses a step only for want of memory
+abbrev pub Comes : {R : Type 0} → List ℕ → Edition → TextFault R → Type 0
+Comes text edition TextTooLong = 4294967295 < length text
+Comes text edition TooManyTokens = HasTooManyTokens text edition
+Comes text edition NoMemory = (length text ≤ 4294967295) × ¬ HasTooManyTokens text edition
+Comes text edition (Refused e) = (length text ≤ 4294967295) × ¬ HasTooManyTokens text edition
+
+-- A fault came before the first write: the output is as it was, and the line tells the fault.
+pub record StopsBefore {W : Type 0} (text : List ℕ) (edition : Edition) (before after : W) (line : List ℕ) : Type 0 where
+  pub fault : TextFault Memory
+  pub comes : Comes text edition fault
+  pub untouched : after ≡ before
+  pub is : line ≡ fault_line fault
+
+-- All lines were there, and the output refused a write.
+pub record StopsWriting (text : List ℕ) (edition : Edition) (line : List ℕ) : Type 0 where
+  pub printer : Printer
+  pub printed : IsPrinted text edition printer
+  pub is : line ≡ cannot_write
+
+-- a fault stopped the program, and what is asked holds of the line that tells it
+abbrev pub IfStops : {W : Type 0} → List ℕ → Edition → W → W → (List ℕ → Type 0) → Type 0
+IfStops text edition before after Asked =
+    (line : List ℕ) × (StopsBefore text edition before after line ⊎ StopsWriting text edition line) × Asked line
 
 -- The lines of the text's one tree were written, and after them those of its messages; the status is 0 where there is no
 -- message, and else 1.

@@ -2,8 +2,8 @@
 use Rattle.std.specs.Prelude.{◌≡◌, ◌≢◌, List, ℕ, Result, MatchResult, codes}
 use Rattle.ra_ap_parser.specs.declared.entry_point.TopEntryPoint.{TopEntryPoint}
 use Rattle.ra_ap_parser.specs.declared.entry_point.TopEntryPoint.TheVariants.{Expr}
-use Rattle.rast.specs.declared.parse_text.TextFault.{TextFault}
-use Rattle.rast.specs.declared.parse_text.TextFault.TheVariants.{TextTooLong, TooManyTokens, NoMemory, Refused}
+use Rattle.ra_ap_parser.specs.declared.whole_text.TextFault.{TextFault}
+use Rattle.ra_ap_parser.specs.declared.whole_text.TextFault.TheVariants.{TextTooLong, TooManyTokens, NoMemory, Refused}
 use Rattle.rast.specs.declared.run.Entry.{Entry}
 
 -- an entry point's name on the command line
@@ -16,6 +16,10 @@ IsNamed word result =
     MatchResult result
     (λ entry. word ≡ name_of_entry entry.0)
     (λ _. (entry : TopEntryPoint) → word ≢ name_of_entry entry)
+
+-- what is told where the output refuses a write
+abbrev pub cannot_write : List ℕ
+cannot_write = codes "rast: cannot write\n"
 
 -- what is told of a fault; the program's own sink refuses a step only for want of memory
 abbrev pub fault_line : {R : Type 0} → TextFault R → List ℕ

@@ -1,12 +1,11 @@
 //! All that the program does once its file is read.
-ghost use Rattle.std.specs.Prelude.{◌≡◌, ◌≤◌, ◌<◌, ◌++◌, IfOk, OnOk, string_bytes};
+ghost use Rattle.std.specs.Prelude.{◌≡◌, ◌≤◌, ◌<◌, ◌++◌, IfErr, IfOk, OnOk, string_bytes};
 ghost use Rattle.std.specs.Io.KnownBytes.{Appends};
-ghost use Rattle.rast.specs.Ran.{IsPrinted, Shows};
+ghost use Rattle.rast.specs.Ran.{Comes, IfStops, IsPrinted, Shows};
 ghost use Rattle.rast.specs.Words.{IsNamed, fault_line};
 
-use crate::parse_text::{TextFault, parse_text};
 use crate::printer::Printer;
-use ra_ap_parser::{Edition, NoMemory, TopEntryPoint};
+use ra_ap_parser::{Edition, NoMemory, TextFault, TopEntryPoint, parse_text};
 use rast_common::fault::tell;
 use std::alloc::Global;
 use std::io;
@@ -20,7 +19,7 @@ mod tests;
 pub struct Entry(pub TopEntryPoint);
 
 /// The word is no entry point's name.
-#[derive(Clone, Copy, Debug)]
+#[derive(Clone, Copy, PartialEq, Eq, Debug)]
 pub struct InvalidEntry;
 
 /// Reads an entry point from its name.
@@ -55,7 +54,8 @@ fn print_text(
     entry: TopEntryPoint,
     text: &str,
 ) -> Result<Printer, TextFault<NoMemory>>
-    ensures { IfOk result (IsPrinted text.now edition) }
+    ensures printed { IfOk result (IsPrinted text.now edition) }
+    ensures fault { IfErr result (Comes text.now edition) }
 {
     let mut printer = Printer::new(alloc);
     let parsed = parse_text(alloc, edition, entry, text, &mut printer)?;
@@ -77,7 +77,8 @@ fn write_lines<W: io::Write>(out: &mut W, printer: &Printer) -> io::Result<()>
 /// Parses the text and prints its tree and its messages, the tree's before the lexer's.
 ///
 /// Gives the program's status: 0 where there is no message, 1 where there is one, and 2 at a fault, which
-/// is told on `err`. At a fault nothing is written to `out`, unless `out` itself refused a write.
+/// is told on `err`. At a fault nothing is written to `out`, unless `out` itself refused a write. The error is that of
+/// `err`, where it refused to be told.
 pub fn run<W: io::Write, V: io::Write>(
     alloc: Global,
     edition: Edition,
@@ -85,9 +86,11 @@ pub fn run<W: io::Write, V: io::Write>(
     text: &str,
     out: &mut W,
     err: &mut V,
-) -> u8
-    ensures status { result ≤ 2 }
-    ensures shown { result < 2 → Shows text.now edition result (W.contents out.old) (W.contents out.new) }
+) -> io::Result<u8>
+    ensures status { IfOk result (λ status. status ≤ 2) }
+    ensures shown { IfOk result (λ status. status < 2 → Shows text.now edition status (W.contents out.old) (W.contents out.new) × (err.new ≡ err.old)) }
+    ensures told { IfOk result (λ status. status ≡ 2 → IfStops text.now edition out.old out.new (Appends (V.contents err.old) (V.contents err.new))) }
+    ensures untold { IfErr result (λ _. IfStops text.now edition out.old out.new (λ _. Unit {0})) }
 {
     let printer = match print_text(alloc, edition, entry, text) {
         Ok(printer) => printer,
@@ -96,5 +99,9 @@ pub fn run<W: io::Write, V: io::Write>(
     if write_lines(out, &printer).is_err() {
         return tell(err, "rast: cannot write\n");
     }
-    if printer.messages.is_empty() { 0 } else { 1 }
+    if printer.messages.is_empty() {
+        Ok(0)
+    } else {
+        Ok(1)
+    }
 }

@@ -1,14 +1,17 @@
 //! How a program tells a fault.
-ghost use Rattle.std.specs.Prelude.{◌≡◌};
+ghost use Rattle.std.specs.Prelude.{◌≡◌, IfOk};
+ghost use Rattle.std.specs.Io.KnownBytes.{Appends};
 
 use std::io;
 
-/// Writes the message to the error stream, and gives the status of a fault, 2.
-///
-/// Where writing fails the status is the same.
-pub fn tell<V: io::Write>(err: &mut V, message: &str) -> u8
-    ensures { result ≡ 2 }
+/// The status of a fault.
+pub const FAULT: u8 = 2;
+
+/// Writes the message to the error stream, and gives the status of a fault. An error is that of the stream.
+pub fn tell<V: io::Write>(err: &mut V, message: &str) -> io::Result<u8>
+    ensures status { IfOk result (λ status. status ≡ 2) }
+    ensures told { IfOk result (λ _. Appends (V.contents err.old) (V.contents err.new) message.now) }
 {
-    let _ = err.write_all(message.as_bytes());
-    2
+    err.write_all(message.as_bytes())?;
+    Ok(FAULT)
 }

@@ -1,5 +1,5 @@
 -- What is listed of a text, and whether a message is among it.
-use Rattle.std.specs.Prelude.{◌≡◌, ◌≢◌, ◌⊎◌, ◌↔◌, IsTrue, IsFalse, ℕ, List, [], ◌++◌, Option, None, Some, length, codes, string_bytes}
+use Rattle.std.specs.Prelude.{◌≡◌, ◌≢◌, ◌⊎◌, ◌↔◌, ◌<◌, ◌≤◌, IsTrue, IsFalse, ℕ, List, [], ◌++◌, Option, None, Some, length, codes, string_bytes}
 use Rattle.std.specs.Io.KnownBytes.{Appends}
 use Rattle.rap_base.specs.declared.edition.Edition.{Edition}
 use Rattle.rap_script.specs.Refusal.{Refusal, IsRefused}
@@ -8,6 +8,9 @@ use Rattle.ra_ap_parser.specs.Input.{records}
 use Rattle.ra_ap_parser.specs.LexedStr.{Lexed, IsLexing}
 use Rattle.ra_ap_parser.specs.SingleToken.{IsOneToken, IsNotOneToken}
 use Rattle.rast_lex.specs.Listed.{lines, token_line, message_lines, record_line, single_line, script_lines, refusal_lines}
+use Rattle.ra_ap_parser.specs.declared.lexed_str.LexFault.{LexFault}
+use Rattle.ra_ap_parser.specs.declared.lexed_str.LexFault.TheVariants.{TextTooLong, NoMemory}
+use Rattle.rast_lex.specs.Words.{cannot_write, fault_line}
 use Rattle.rast_lex.specs.declared.listing.Page.{Page}
 use Rattle.rast_lex.specs.declared.run.Listing.{Listing}
 use Rattle.rast_lex.specs.declared.run.Listing.TheVariants.{Tokens, Input, Single, Script as script}
@@ -66,6 +69,29 @@ Lists text edition Tokens page = ListsTokens text edition page
 Lists text edition Input page = ListsInput text edition page
 Lists text edition Single page = ListsSingle text edition page
 Lists text edition script page = ListsScript text page
+
+-- when a fault comes: the parts of a script are listed of a text of any length
+abbrev pub Comes : List ℕ → Listing → LexFault → Type 0
+Comes text listing TextTooLong = (4294967295 < length text) × (listing ≢ script)
+Comes text listing NoMemory = (length text ≤ 4294967295) ⊎ (listing ≡ script)
+
+-- A fault came before the first write: the output is as it was, and the line tells the fault.
+pub record StopsBefore {W : Type 0} (text : List ℕ) (listing : Listing) (before after : W) (line : List ℕ) : Type 0 where
+  pub fault : LexFault
+  pub comes : Comes text listing fault
+  pub untouched : after ≡ before
+  pub is : line ≡ fault_line fault
+
+-- All lines were there, and the output refused a write.
+pub record StopsWriting (text : List ℕ) (edition : Edition) (listing : Listing) (line : List ℕ) : Type 0 where
+  pub page : Page
+  pub lists : Lists text edition listing page
+  pub is : line ≡ cannot_write
+
+-- a fault stopped the program, and what is asked holds of the line that tells it
+abbrev pub IfStops : {W : Type 0} → List ℕ → Edition → Listing → W → W → (List ℕ → Type 0) → Type 0
+IfStops text edition listing before after Asked =
+    (line : List ℕ) × (StopsBefore text listing before after line ⊎ StopsWriting text edition listing line) × Asked line
 
 -- It was written, and the status is 0 where no message is among it, and else 1.
 pub record Shows (text : List ℕ) (edition : Edition) (listing : Listing) (status : ℕ) (before after : Option (List ℕ)) : Type 0 where

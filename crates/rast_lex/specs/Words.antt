@@ -19,6 +19,10 @@ IsAsked word result =
     (λ listing. Some word ≡ word_of listing)
     (λ _. (listing : Listing) → Some word ≢ word_of listing)
 
+-- what is told where the output refuses a write
+abbrev pub cannot_write : List ℕ
+cannot_write = codes "rast_lex: cannot write\n"
+
 -- what is told of a fault
 abbrev pub fault_line : LexFault → List ℕ
 fault_line TextTooLong = codes "rast_lex: text too long\n"

@@ -9,7 +9,7 @@ mod listing;
 mod run;
 
 use ra_ap_parser::Edition;
-use rast_common::fault::tell;
+use rast_common::fault::{FAULT, tell};
 use run::{Listing, run};
 use std::process::ExitCode;
 use std::{env, fs, io};
@@ -22,7 +22,7 @@ const UNREADABLE: &str = "rast_lex: cannot read the file\n";
 fn fail<V: io::Write>(err: &mut V, message: &str) -> ExitCode
     ensures { exit_status result ≡ 2 }
 {
-    ExitCode::from(tell(err, message))
+    ExitCode::from(tell(err, message).unwrap_or(FAULT))
 }
 
 fn main(rt: HostRuntime) -> ExitCode {
@@ -62,5 +62,5 @@ fn main(rt: HostRuntime) -> ExitCode {
         &mut out,
         &mut err,
     );
-    ExitCode::from(status)
+    ExitCode::from(status.unwrap_or(FAULT))
 }

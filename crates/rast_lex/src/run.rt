@@ -1,7 +1,7 @@
 //! All that the program does once its file is read.
-ghost use Rattle.std.specs.Prelude.{◌≤◌, ◌<◌, ◌≡◌, IfOk, OnOk, Err, length, string_bytes};
+ghost use Rattle.std.specs.Prelude.{◌≤◌, ◌<◌, ◌≡◌, IfErr, IfOk, OnOk, string_bytes};
 ghost use Rattle.std.specs.Io.KnownBytes.{Appends};
-ghost use Rattle.rast_lex.specs.Page.{Lists, Shows};
+ghost use Rattle.rast_lex.specs.Page.{Comes, IfStops, Lists, Shows};
 ghost use Rattle.rast_lex.specs.Words.{IsAsked, fault_line};
 
 use crate::listing::{Page, list_input, list_script, list_single, list_tokens};
@@ -30,7 +30,7 @@ pub enum Listing {
 }
 
 /// The word names nothing that is listed.
-#[derive(Clone, Copy, Debug)]
+#[derive(Clone, Copy, PartialEq, Eq, Debug)]
 pub struct InvalidListing;
 
 /// Reads what is to be listed from its word.
@@ -52,7 +52,7 @@ impl FromStr for Listing {
 /// Lists what is asked.
 fn list(alloc: Global, edition: Edition, listing: Listing, text: &str) -> Result<Page, LexFault>
     ensures lists { IfOk result (Lists text.now edition listing) }
-    ensures too_long { (result ≡ Err LexFault.TextTooLong) → (4294967295 < length text.now) }
+    ensures fault { IfErr result (Comes text.now listing) }
 {
     match listing {
         Listing::Tokens => list_tokens(alloc, edition, text),
@@ -83,7 +83,8 @@ fn write_lines<W: io::Write>(out: &mut W, page: &Page) -> io::Result<()>
 /// Lists what is asked of the text.
 ///
 /// Gives the program's status: 0 where no message is listed, 1 where there is one, and 2 at a fault, which is
-/// told on `err`. At a fault nothing is written to `out`, unless `out` itself refused a write.
+/// told on `err`. At a fault nothing is written to `out`, unless `out` itself refused a write. The error is that of
+/// `err`, where it refused to be told.
 pub fn run<W: io::Write, V: io::Write>(
     alloc: Global,
     edition: Edition,
@@ -91,9 +92,11 @@ pub fn run<W: io::Write, V: io::Write>(
     text: &str,
     out: &mut W,
     err: &mut V,
-) -> u8
-    ensures status { result ≤ 2 }
-    ensures shown { result < 2 → Shows text.now edition listing result (W.contents out.old) (W.contents out.new) }
+) -> io::Result<u8>
+    ensures status { IfOk result (λ status. status ≤ 2) }
+    ensures shown { IfOk result (λ status. status < 2 → Shows text.now edition listing status (W.contents out.old) (W.contents out.new) × (err.new ≡ err.old)) }
+    ensures told { IfOk result (λ status. status ≡ 2 → IfStops text.now edition listing out.old out.new (Appends (V.contents err.old) (V.contents err.new))) }
+    ensures untold { IfErr result (λ _. IfStops text.now edition listing out.old out.new (λ _. Unit {0})) }
 {
     let page = match list(alloc, edition, listing, text) {
         Ok(page) => page,
@@ -102,5 +105,5 @@ pub fn run<W: io::Write, V: io::Write>(
     let Ok(()) = write_lines(out, &page) else {
         return tell(err, "rast_lex: cannot write\n");
     };
-    if page.has_message { 1 } else { 0 }
+    if page.has_message { Ok(1) } else { Ok(0) }
 }

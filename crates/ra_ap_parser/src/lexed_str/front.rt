@@ -1,7 +1,6 @@
 //! What stands before the first token of a text: the shebang and the frontmatter of a script source.
-ghost use Rattle.std.specs.Prelude.{◌≡◌, ◌<◌, ◌^◌, ◌++◌, ◌==◌, ℕ, position, IfErr, IfOk, IfSome, OnOk, None, chars, unwrap_or, option_to_list};
+ghost use Rattle.std.specs.Prelude.{◌≡◌, ◌<◌, ◌^◌, ◌++◌, ◌==◌, ℕ, length, position, IfSome, OnOk, None, chars, unwrap_or, option_to_list};
 ghost use Rattle.std.specs.Option.{option_map};
-ghost use Rattle.rap_script.specs.Refusal.{Refusal, IsRefused};
 ghost use Rattle.rap_script.specs.Script.{HasLine};
 ghost use Rattle.ra_ap_parser.specs.Front.{front_kinds, pieces, is_passed, Leads, IsShebangLine, IsFront, AreEnds};
 
@@ -9,7 +8,7 @@ use rap_base::edition::Edition;
 use rap_base::no_memory::NoMemory;
 use rap_base::syntax_kind::SyntaxKind;
 use rap_lexer::lexer::first_token;
-use rap_script::frontmatter::{ScriptFault, ScriptSource};
+use rap_script::frontmatter::ScriptSource;
 use std::alloc::Global;
 
 /// Where the pieces end that stand before the first token: a shebang, which begins the text, and a frontmatter, which
@@ -27,23 +26,28 @@ impl Front {
     {
         self.frontmatter.unwrap_or(self.shebang.unwrap_or(0))
     }
+
+    /// How many pieces there are.
+    pub fn count(&self) -> usize
+        ensures { result ≡ length (front_kinds self.now.shebang self.now.frontmatter) }
+    {
+        usize::from(self.shebang.is_some()) + usize::from(self.frontmatter.is_some())
+    }
 }
 
-/// Finds the pieces of a script source, or the shebang of a text that is refused as one. Only the latter takes memory.
-pub fn find_front(alloc: Global, edition: Edition, text: &str) -> Result<Front, NoMemory>
-    ensures front { IfOk result (λ f. IsFront edition text.now (pieces text.now f.shebang f.frontmatter)) }
-    ensures ends { IfOk result (λ f. AreEnds text.now f.shebang f.frontmatter) }
-    ensures memory { IfErr result (λ _. (e : Refusal) × IsRefused text.now e) }
+/// Finds the pieces of a script source, or the shebang of a text that is refused as one.
+///
+/// Memory is taken for the refusal alone, which is not told: without it the text is refused all the same.
+pub fn find_front(alloc: Global, edition: Edition, text: &str) -> Front
+    ensures front { IsFront edition text.now (pieces text.now result.shebang result.frontmatter) }
+    ensures ends { AreEnds text.now result.shebang result.frontmatter }
 {
     match ScriptSource::parse(alloc, text) {
-        Ok(script) => Ok(script_front(&script)),
-        Err(ScriptFault::Refused(_)) => {
-            Ok(Front {
-                shebang: shebang_line(edition, text),
-                frontmatter: None,
-            })
-        }
-        Err(ScriptFault::NoMemory) => Err(NoMemory),
+        Ok(script) => script_front(&script),
+        Err(_refused) => Front {
+            shebang: shebang_line(edition, text),
+            frontmatter: None,
+        },
     }
 }
 

@@ -13,7 +13,7 @@ use std::ops::Range;
 pub type Span = Range<usize>;
 
 /// Why a text is no script source: a message, the span that it speaks of, and the spans to show beside it.
-#[derive(Debug, Drop)]
+#[derive(Clone, Debug, Drop)]
 pub struct FrontmatterError {
     message: String,
     primary_span: Span,
@@ -90,6 +90,28 @@ impl FrontmatterError {
     }
 }
 
+/// Errors are equal where their messages and their spans are.
+impl PartialEq for FrontmatterError {
+    ghost use Rattle.std.specs.Cmp.{partial_equiv_from_equiv};
+    ghost use Rattle.rap_script.specs.Refusal.{is_same, same_laws};
+
+    ghost eq = { is_same };
+
+    ghost laws = { partial_equiv_from_equiv same_laws };
+
+    fn eq(&self, other: &FrontmatterError) -> bool {
+        self.message == other.message
+            && self.primary_span == other.primary_span
+            && self.visible_spans == other.visible_spans
+    }
+}
+
+impl Eq for FrontmatterError {
+    ghost use Rattle.rap_script.specs.Refusal.{same_laws};
+
+    ghost laws = { same_laws };
+}
+
 impl fmt::Display for FrontmatterError {
     ghost output = { λ e. Some e.message };
 
@@ -102,6 +124,28 @@ impl fmt::Display for FrontmatterError {
 
 impl Error for FrontmatterError {}
 
+/// Why a text has no script source to give: it is refused, or memory is wanted to tell how.
+#[derive(Clone, PartialEq, Eq, Debug, Drop)]
+pub enum ScriptFault {
+    Refused(FrontmatterError),
+    NoMemory,
+}
+
+impl fmt::Display for ScriptFault {
+    ghost use Rattle.rap_script.specs.ScriptFault.{script_fault_text};
+
+    ghost output = { λ fault. Some (script_fault_text fault) };
+
+    fn fmt<W: fmt::Write>(&self, f: &mut fmt::Formatter<W>) -> fmt::Result {
+        match self {
+            ScriptFault::Refused(error) => f.write_str(error.message()),
+            ScriptFault::NoMemory => f.write_str("no memory"),
+        }
+    }
+}
+
+impl Error for ScriptFault {}
+
 impl From<NoMemory> for ScriptFault {
     ghost use Rattle.std.specs.Prelude.{◌≡◌};
     ghost use Rattle.rap_script.specs.declared.frontmatter.error.ScriptFault.TheVariants.{NoMemory as no_memory};
@@ -111,13 +155,6 @@ impl From<NoMemory> for ScriptFault {
     fn from(_error: NoMemory) -> ScriptFault {
         ScriptFault::NoMemory
     }
-}
-
-/// Why a text has no script source to give: it is refused, or memory is wanted to tell how.
-#[derive(Debug, Drop)]
-pub enum ScriptFault {
-    Refused(FrontmatterError),
-    NoMemory,
 }
 
 #[cfg(test)]
@@ -136,6 +173,18 @@ mod tests {
         assert_eq!(rt; error.visible_spans(), [2..3, 1..7].as_slice());
         let shown = format!(in alloc; "{error} {error:>8}")?;
         assert_eq!(rt; shown.as_str(), "no end   no end");
+        Ok(())
+    }
+
+    #[test]
+    fn faults_are_told_and_compared(rt: HostRuntime) -> Result<(), Fail> {
+        let alloc = rt.alloc();
+        let refused = ScriptFault::Refused(FrontmatterError::new(alloc, "no end", 0..1)?);
+        let shown = format!(in alloc; "{refused}, {}", ScriptFault::NoMemory)?;
+        assert_eq!(rt; shown.as_str(), "no end, no memory");
+        let copy = refused.clone()?;
+        assert_eq!(rt; copy, refused);
+        assert_ne!(rt; copy, ScriptFault::NoMemory);
         Ok(())
     }
 }

@@ -3,7 +3,7 @@ ghost use Rattle.std.specs.Prelude.{◌≡◌, ◌+◌, ◌<◌, ◌≤◌, ◌^
 ghost use Rattle.std.specs.Option.{option_map};
 ghost use Rattle.rap_script.specs.Script.{IsScript, AtBorders, dashes, span, up_to, moved};
 ghost use Rattle.rap_script.specs.ScriptPlaces.{HasNoDashes, Opens, Closes, Ends, closed};
-ghost use Rattle.rap_script.specs.ScriptFault.{IsFault};
+ghost use Rattle.rap_script.specs.ScriptFault.{IsFault, IsShownAtBorders};
 ghost use Rattle.rap_script.specs.OneAnswer.{IsOnlyScript, IsOnlyFault};
 ghost use Rattle.rap_script.specs.Refusal.{unclosed, end_of};
 
@@ -30,6 +30,7 @@ impl<'s> ScriptSource<'s> {
         ensures only { IfOk result (IsOnlyScript raw.now) }
         ensures refused { IfErr result (IsFault raw.now) }
         ensures only_fault { IfErr result (IsOnlyFault raw.now) }
+        ensures fault_borders { IfErr result (IsShownAtBorders raw.now) }
     {
         source_of(alloc, raw)
     }

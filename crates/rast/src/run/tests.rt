@@ -18,7 +18,7 @@ fn shows(rt: &impl Abort, alloc: Global, text: &str, status: u8, output: &str) -
         text,
         &mut out,
         &mut err,
-    );
+    )?;
     assert_eq!(rt; got, status);
     assert_eq!(rt; out.as_slice(), output.as_bytes());
     assert!(rt; err.is_empty());
@@ -98,11 +98,13 @@ fn tells(rt: &impl Abort, alloc: Global, at: usize, status: u8, told: &str) -> R
     let mut err = Vec::new(alloc);
     let entry = TopEntryPoint::Expr;
     let edition = Edition::Edition2015;
-    assert_eq!(rt; run(alloc, edition, entry, "+", &mut out, &mut err), status);
+    let got = run(alloc, edition, entry, "+", &mut out, &mut err)?;
+    assert_eq!(rt; got, status);
     assert_eq!(rt; err.as_slice(), told.as_bytes());
     let mut out = Refusing { calls: 0, at };
     let mut err = Refusing { calls: 0, at: 0 };
-    assert_eq!(rt; run(alloc, edition, entry, "+", &mut out, &mut err), status);
+    let got = run(alloc, edition, entry, "+", &mut out, &mut err);
+    assert_eq!(rt; got.is_err(), status == 2);
     Ok(())
 }
 

@@ -18,10 +18,8 @@ fn lists(
     let mut out = Vec::new(alloc);
     let mut err = Vec::new(alloc);
     let edition = Edition::Edition2024;
-    assert_eq!(rt;
-        run(alloc, edition, listing, text, &mut out, &mut err),
-        status
-    );
+    let got = run(alloc, edition, listing, text, &mut out, &mut err)?;
+    assert_eq!(rt; got, status);
     assert_eq!(rt; out.as_slice(), output.as_bytes());
     assert!(rt; err.is_empty());
     Ok(())
@@ -174,17 +172,13 @@ fn tells(rt: &impl Abort, alloc: Global, at: usize, status: u8, told: &str) -> R
     let edition = Edition::Edition2018;
     let mut out = Refusing { calls: 0, at };
     let mut err = Vec::new(alloc);
-    assert_eq!(rt;
-        run(alloc, edition, listing, "+", &mut out, &mut err),
-        status
-    );
+    let got = run(alloc, edition, listing, "+", &mut out, &mut err)?;
+    assert_eq!(rt; got, status);
     assert_eq!(rt; err.as_slice(), told.as_bytes());
     let mut out = Refusing { calls: 0, at };
     let mut err = Refusing { calls: 0, at: 0 };
-    assert_eq!(rt;
-        run(alloc, edition, listing, "+", &mut out, &mut err),
-        status
-    );
+    let got = run(alloc, edition, listing, "+", &mut out, &mut err);
+    assert_eq!(rt; got.is_err(), status == 2);
     Ok(())
 }
 

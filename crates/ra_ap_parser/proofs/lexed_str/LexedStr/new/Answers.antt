@@ -9,19 +9,21 @@ use Rattle.ra_ap_parser.specs.Front.{pieces, front_kinds}
 use Rattle.ra_ap_parser.specs.LexedStr.{IsFirst}
 use Rattle.ra_ap_parser.specs.Told.{TellsOf}
 use Rattle.std.proofs.lemmas.Str.{IsCharBoundary-from_rest}
+use Rattle.ra_ap_parser.proofs.OneLexing.{only_lexing}
+use Rattle.ra_ap_parser.proofs.OpenStrings.{counts}
 use Rattle.ra_ap_parser.proofs.Upto.{front_begun, front_tokens, more, lexing}
 use Rattle.ra_ap_parser.proofs.lexed_str.LexedStr.new.Goals as goal
 
 pub tokens-init : goal.tokens-init
 tokens-init c =
-    let f = c.in_ok-front.front in
+    let f = c.find_front-front.result in
     let kinds : c.push_front.new.kinds.items ≡ front_kinds f.shebang f.frontmatter = c.in_ok-push_front.ensures.kinds ∙ ap (λ l. l ++ front_kinds f.shebang f.frontmatter) c.in_ok-kind.ensures.items in
     let zero : c.push.new.self.items ≡ 0 ∷ [] = c.in_ok-push.ensures.items ∙ ap (λ l. l ++ 0 ∷ []) c.in_ok-start.ensures.items in
     let starts : c.push_front.new.starts.items ≡ 0 ∷ (option_to_list f.shebang ++ option_to_list f.frontmatter) = c.in_ok-push_front.ensures.starts ∙ ap (λ l. l ++ (option_to_list f.shebang ++ option_to_list f.frontmatter)) zero in
     record {
       front = pieces c.args.text.now f.shebang f.frontmatter;
-      is_front = c.in_ok-front.ensures.front;
-      upto = front_begun c.args.edition c.args.text.now f.shebang f.frontmatter _ _ _ _ c.utf8.text c.in_ok-front.ensures.ends kinds starts c.new-error.ensures.items c.end-offset.ensures;
+      is_front = c.find_front-front.ensures.front;
+      upto = front_begun c.args.edition c.args.text.now f.shebang f.frontmatter _ _ _ _ c.utf8.text c.find_front-front.ensures.ends kinds starts c.new-error.ensures.items c.end-offset.ensures;
       kinds = rw kinds (front_tokens f.shebang f.frontmatter);
     }
 
@@ -40,14 +42,17 @@ tokens-preserved c =
     let is_first : IsFirst c.args.edition (nat_lt c.tokens.since_open 5) (drop offset text) (record { kind = token.kind; text = slice_range text offset (offset + n) }) (drop (offset + n) text) told.0 = (token.remark, first, tells) in
     let number : c.len-number.result ≡ length c.tokens.kind.items = omega (arith, c.len-number.ensures) in
     let errors : c.tell.new.errors.items ≡ c.tokens.error.items ++ about (length c.tokens.kind.items) told.0 = told.2 ∙ ap (λ i. c.tokens.error.items ++ about i told.0) number in
-    let since = rw next at c.since_open_after-since_open.ensures in
+    let counted = counts c.tokens.since_open token.kind (slice_range text offset (offset + n)) _ (rw next at c.since_open_after-since_open.ensures.opens) (rw next at c.since_open_after-since_open.ensures.other) in
     let all = more c.args.edition text _ _ _ c.tokens.error.items c.tokens.since_open offset token.kind (offset + n) c.tokens.invariant.upto (omega (arith, c.first_token-len.ensures.positive)) (IsCharBoundary-from_rest text offset n c.tokens.invariant.upto.within border) told.0 is_first in
     record {
       front = c.tokens.invariant.front;
       is_front = c.tokens.invariant.is_front;
-      upto = rw (c.in_ok-push-2.ensures.items, c.in_ok-push-3.ensures.items, errors, since) all;
+      upto = rw (c.in_ok-push-2.ensures.items, c.in_ok-push-3.ensures.items, errors, counted) all;
       kinds = rw c.in_ok-push-2.ensures.items (All-push IsTokenKind c.tokens.kind.items token.kind c.tokens.invariant.kinds c.first_token-len.ensures.kind);
     }
 
 pub returns-clause-lexing : goal.returns-clause-lexing
 returns-clause-lexing c = lexing c.args.edition _ _ _ _ _ c.tokens.since_open c.tokens.offset c.tokens.invariant.upto (omega arith) c.utf8.text c.tokens-test.false c.tokens.invariant.is_front
+
+pub returns-clause-only : goal.returns-clause-only
+returns-clause-only c = only_lexing c.args.text.now c.args.edition _ c.utf8.text (lexing c.args.edition _ _ _ _ _ c.tokens.since_open c.tokens.offset c.tokens.invariant.upto (omega arith) c.utf8.text c.tokens-test.false c.tokens.invariant.is_front)

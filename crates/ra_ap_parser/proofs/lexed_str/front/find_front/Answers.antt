@@ -12,5 +12,4 @@ returns-in-Ok c =
     record {
       front = inl (record { script = s; accepted = accepted; is = rw (c.script_front.ensures.shebang, c.script_front.ensures.frontmatter) (ap (λ (t : List ℕ). pieces t (option_map (λ r. r.end) s.shebang) (option_map (λ _. s.content.start) s.frontmatter)) (sym same)) });
       ends = rw (c.script_front.ensures.shebang, c.script_front.ensures.frontmatter) (script_ends c.args.text.now s accepted c.in-Ok.ensures.borders);
-      memory = tt;
     }

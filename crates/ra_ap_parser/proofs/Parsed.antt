@@ -1,25 +1,16 @@
 -- The parts of the promise, put together.
-use Rattle.std.proofs.Common.{◌≡◌, ◌≢◌, ℕ, suc, ◌+◌, ◌*◌, ◌<◌, ◌≤◌, List, [], ◌∷◌, Bool, true, false, length, ap, sym, ◌∙◌, refl, inl, inr, subst, arith}
-use Rattle.std.proofs.lemmas.Bool.{cases_Bool}
+use Rattle.std.proofs.Common.{◌≡◌, ℕ, ◌+◌, ◌*◌, ◌<◌, ◌≤◌, List, true, length, ap, ◌∙◌, subst, arith}
 use Rattle.rap_base.specs.declared.edition.Edition.{Edition}
 use Rattle.rap_events.specs.Cover.{covers}
-use Rattle.rap_events.specs.Forest.{Forest, flat, one_tree, used}
+use Rattle.rap_events.specs.Forest.{Forest, flat}
 use Rattle.rap_events.specs.Record.{Record}
 use Rattle.rap_grammar.specs.Top.{IsTreeOver}
 use Rattle.ra_ap_parser.specs.Input.{records}
-use Rattle.ra_ap_parser.specs.LexedStr.{Token, Lexed, IsLexing}
+use Rattle.ra_ap_parser.specs.LexedStr.{Lexed, IsLexing}
+use Rattle.ra_ap_parser.specs.OneLexing.{IsOnlyLexing}
 use Rattle.ra_ap_parser.specs.StrForest.{str_one_tree}
-use Rattle.ra_ap_parser.specs.Trivia.{is_trivial, significant, with_trivia}
-use Rattle.ra_ap_parser.proofs.Records.{records-trivial, records-significant, significant-trivial, significant-more}
-use Rattle.rast.specs.Headline.{IsParsed}
-
-pub length-records : (ts : List Token) (edition : Edition) → length (records ts edition) ≡ significant ts
-length-records [] edition = refl
-length-records (t ∷ ts) edition =
-    elim (cases_Bool (is_trivial t)) as (λ _. length (records (t ∷ ts) edition) ≡ significant (t ∷ ts)) [
-      | inl e ↦ ap length (records-trivial t ts edition e) ∙ (length-records ts edition ∙ sym (significant-trivial t ts e))
-      | inr e ↦ omega (arith, ap length (records-significant t ts edition e), length-records ts edition, significant-more t ts e)
-    ]
+use Rattle.ra_ap_parser.specs.Trivia.{significant, with_trivia}
+use Rattle.ra_ap_parser.specs.Headline.{HasTooManyTokens, IsParsed}
 
 at_most : (m n : ℕ) → (m < n → ⊥) → n ≤ m
 at_most m n h = omega (arith, h)
@@ -35,3 +26,9 @@ parsed text edition lexed input f small lexing e few tree one = record {
   few_steps = subst (λ (rs : List Record). length (flat f) ≤ 256 * (length rs + 1)) e tree.few;
   str_one = one;
 }
+
+-- a text with so few records has not too many tokens
+pub few_tokens : (text : List ℕ) (edition : Edition) (lexed : Lexed) (input : List Record) → IsOnlyLexing text edition lexed → length input ≡ significant lexed.tokens → (8388607 < length input → ⊥) → ¬ HasTooManyTokens text edition
+few_tokens text edition lexed input only e few h =
+    let same = ap (λ l. significant l.tokens) (only h.lexed h.lexing) in
+    few (omega (arith, h.many, same, e))

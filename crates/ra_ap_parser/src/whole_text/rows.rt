@@ -2,8 +2,12 @@
 //!
 //! `K(..)` is a node with its children and `K"t"` a leaf; `_` is a leaf of one space. Each message stands behind a bar,
 //! with its place.
-use super::parse_text;
-use ra_ap_parser::{Edition, NoMemory, StrSink, StrStep, SyntaxKind, TopEntryPoint};
+use super::{TextFault, parse_text};
+use crate::entry_point::TopEntryPoint;
+use crate::shortcuts::{StrSink, StrStep};
+use rap_base::edition::Edition;
+use rap_base::no_memory::NoMemory;
+use rap_base::syntax_kind::SyntaxKind;
 use std::alloc::Global;
 use std::fmt::Write as _;
 use std::process::Abort;
@@ -179,4 +183,16 @@ fn trivia_at_both_ends(rt: HostRuntime) -> Result<(), Fail> {
             "",
         )],
     )
+}
+
+#[test]
+fn faults_are_told_and_compared(rt: HostRuntime) -> Result<(), Fail> {
+    let refused = TextFault::Refused(NoMemory);
+    let long: TextFault<NoMemory> = TextFault::TextTooLong;
+    let shown = format!(in rt.alloc(); "{refused}, {long}")?;
+    assert_eq!(rt; shown.as_str(), "refused by the sink, text too long");
+    let copy = refused.clone()?;
+    assert_eq!(rt; copy, refused);
+    assert_ne!(rt; copy, long);
+    Ok(())
 }

@@ -1,7 +1,7 @@
 -- Texts with their trees, worked out by the definitions alone: the tokens are a lexing of the text, the parser reads
 -- these records of them, and the forest over the records, with the trivia put back, is the tree that stands here.
 -- Nothing of it comes from the program.
-use Rattle.std.proofs.Common.{◌≡◌, ℕ, zero, suc, ◌+◌, ◌<◌, ◌==◌, List, [], ◌∷◌, ◌++◌, Bool, true, false, None, length, take, drop, length-append, refl, ap, sym, ◌∙◌, inl, arith, codes, nat_lt, slice_index}
+use Rattle.std.proofs.Common.{◌≡◌, ℕ, zero, suc, ◌+◌, ◌<◌, ◌≤◌, ◌==◌, List, [], ◌∷◌, ◌++◌, Bool, true, false, None, length, take, drop, length-append, refl, ap, sym, ◌∙◌, inl, arith, codes, nat_lt, slice_index}
 use Rattle.std.specs.Prelude.{⊤}
 use Rattle.std.proofs.Math.Seq.{drop-append-add}
 use Rattle.std.specs.List.{list_any, list_all}
@@ -10,7 +10,7 @@ use Rattle.std.proofs.lemmas.Bool.{eq-eqb, ltb-true}
 use Rattle.std.proofs.lemmas.List.Folds.{list_any-append}
 use Rattle.std.specs.Str.{IsAscii}
 use Rattle.std.proofs.lemmas.Str.Ascii.{IsAscii-nil}
-use Rattle.std.proofs.lemmas.Str.{IsAscii-append, chars-IsAscii}
+use Rattle.std.proofs.lemmas.Str.{IsAscii-append, IsCharBoundary-from_ascii, chars-IsAscii}
 use Rattle.rap_events.proofs.Truth.{and_left, and_right}
 use Rattle.rap_base.specs.NodeKind.{LITERAL, BIN_EXPR, REF_EXPR, PATH_EXPR, PATH, PATH_SEGMENT, NAME_REF}
 use Rattle.rap_base.specs.TokenKind.{EOF, ERROR, IDENT, INT_NUMBER, WHITESPACE, PLUS, MINUS, AMP, AMP2, EQ, EQ2}
@@ -28,6 +28,7 @@ use Rattle.ra_ap_parser.specs.LexedStr.{IsFirst, IsLexing, joined, start_of, tok
 use Rattle.ra_ap_parser.specs.StrForest.{StrForest, str_none, str_node, str_leaf, str_mark, str_joined, str_one_tree}
 use Rattle.ra_ap_parser.specs.Token.{Token}
 use Rattle.ra_ap_parser.specs.Trivia.{with_trivia}
+use Rattle.ra_ap_parser.proofs.OpenStrings.{after_open, follows}
 use lib.Utf8.{encode}
 use Rattle.unicode_ident.proofs.Computing.{unicode_ident}
 
@@ -74,6 +75,11 @@ first (t ∷ ts) note zero s h =
     rw (past t ts zero, chars-IsAscii (joined (t ∷ ts)) (ascii_joined (t ∷ ts) s), chars-IsAscii (joined ts) (ascii_joined ts s.2)) (Nothing, s.1, refl)
 first (t ∷ ts) note (suc i) s h = rw (past t ts i, past t ts (suc i)) (first ts note i s.2 (omega arith))
 
+start_within : (ts : List Token) (i : ℕ) → start_of ts i ≤ length (joined ts)
+start_within ts zero = omega arith
+start_within [] (suc i) = omega arith
+start_within (t ∷ ts) (suc i) = omega (arith, start_within ts i, length-append t.text (joined (take i ts)), length-append t.text (joined ts))
+
 plus_one : (i : ℕ) → i + 1 ≡ suc i
 plus_one i = omega arith
 
@@ -114,12 +120,13 @@ no_script text ascii feed hash dash = inl (record {
 lexing : (ts : List Token) → Splits ts → list_any (λ c. c == 10) (joined ts) ≡ false → next_is 35 (joined ts) ≡ false → next_is 45 (joined ts) ≡ false → IsLexing (joined ts) Edition2024 (record { tokens = ts; errors = [] })
 lexing ts s feed hash dash = record {
   whole = refl;
+  borders = λ i h. IsCharBoundary-from_ascii (joined ts) (start_of ts i) (ascii_joined ts s) (start_within ts i);
   front = [];
   is_front = no_script (joined ts) (ascii_joined ts s) feed hash dash;
   rest = ts;
   parts = refl;
   silent = λ i h. refl;
-  each = λ i l h. rw (plus_one i) (first ts _ i s h);
+  each = λ i l h. (after_open (token_at ts) i, follows ts i, rw (plus_one i) (first ts _ i s h));
   ordered = tt;
 }
 

@@ -8,9 +8,9 @@ use Rattle.ra_ap_parser.specs.LexedStr.{Lexed, IsLexing}
 use Rattle.ra_ap_parser.specs.StrForest.{str_flat, str_joined, str_one_tree}
 use Rattle.ra_ap_parser.specs.StrSink.{Takes, Stops}
 use Rattle.ra_ap_parser.specs.StrStep.{StrStepValue}
-use Rattle.ra_ap_parser.specs.Trivia.{with_trivia}
-use Rattle.rast.specs.declared.parse_text.TextFault.{TextFault}
-use Rattle.rast.specs.declared.parse_text.TextFault.TheVariants.{TextTooLong, TooManyTokens, NoMemory, Refused}
+use Rattle.ra_ap_parser.specs.Trivia.{significant, with_trivia}
+use Rattle.ra_ap_parser.specs.declared.whole_text.TextFault.{TextFault}
+use Rattle.ra_ap_parser.specs.declared.whole_text.TextFault.TheVariants.{TextTooLong, TooManyTokens, NoMemory, Refused}
 
 -- The text's tokens; one tree over all those that are no trivia, in at most 256 steps for each and 256 more; and the
 -- same tree with the trivia put back, which is one tree too.
@@ -40,15 +40,16 @@ pub record CutShort {S R : Type 0} (takes : S → StrStepValue → S → Type 0)
   pub parsed : IsParsed text edition lexed forest
   pub stopped : Stops takes refuses before (str_flat (with_trivia lexed.tokens forest)) refusal after
 
--- The text has more tokens than a parse takes.
+-- The text has more tokens that are no trivia than a parse takes.
 pub record HasTooManyTokens (text : List ℕ) (edition : Edition) : Type 0 where
+  pub small : length text ≤ 4294967295
   pub lexed : Lexed
   pub lexing : IsLexing text edition lexed
-  pub many : 8388607 < length (records lexed.tokens edition)
+  pub many : 8388607 < significant lexed.tokens
 
--- When each fault comes, and what it leaves the sink at.
-abbrev pub Faulted : {S R : Type 0} → (S → StrStepValue → S → Type 0) → (S → StrStepValue → R → S → Type 0) → List ℕ → Edition → TextFault R → S → S → Type 0
-Faulted takes refuses text edition TextTooLong before after = (4294967295 < length text) × (after ≡ before)
-Faulted takes refuses text edition TooManyTokens before after = HasTooManyTokens text edition × (after ≡ before)
-Faulted takes refuses text edition NoMemory before after = (length text ≤ 4294967295) × (after ≡ before)
-Faulted takes refuses text edition (Refused e) before after = CutShort takes refuses text edition e before after
+-- What a fault leaves the sink at: where it was, unless it has refused a step.
+abbrev pub Leaves : {S R : Type 0} → (S → StrStepValue → S → Type 0) → (S → StrStepValue → R → S → Type 0) → List ℕ → Edition → TextFault R → S → S → Type 0
+Leaves takes refuses text edition TextTooLong before after = after ≡ before
+Leaves takes refuses text edition TooManyTokens before after = after ≡ before
+Leaves takes refuses text edition NoMemory before after = after ≡ before
+Leaves takes refuses text edition (Refused e) before after = CutShort takes refuses text edition e before after

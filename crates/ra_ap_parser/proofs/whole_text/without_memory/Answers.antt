@@ -1,0 +1,12 @@
+use Rattle.std.proofs.Common.{ap, arith}
+use Rattle.ra_ap_parser.specs.Trivia.{significant}
+use Rattle.ra_ap_parser.proofs.OneLexing.{only_lexing}
+use Rattle.ra_ap_parser.proofs.whole_text.without_memory.Goals as goal
+
+pub returns-else-significant_tokens-gt-MAX_TOKENS-clause-many : goal.returns-else-significant_tokens-gt-MAX_TOKENS-clause-many
+returns-else-significant_tokens-gt-MAX_TOKENS-clause-many g c =
+    let s = c.significant_tokens.ensures in (
+      λ e. cc,
+      λ h. let same = ap (λ l. significant l.tokens) (only_lexing c.args.text.now c.args.edition s.0 c.utf8.text s.1 h.lexed h.lexing) in
+          absurd (omega (arith, h.many, same, s.2, c.if-significant_tokens-gt-MAX_TOKENS.false)),
+    )

@@ -1,0 +1,28 @@
+//! How many tokens a text has.
+ghost use Rattle.std.specs.Prelude.{◌≡◌, ◌≤◌, length};
+ghost use Rattle.ra_ap_parser.specs.LexedStr.{Lexed, IsLexing};
+ghost use Rattle.ra_ap_parser.specs.Trivia.{significant};
+
+use super::MAX_TEXT;
+use super::front::find_front;
+use rap_base::edition::Edition;
+use rap_lexer::lexer::first_token;
+use std::alloc::Global;
+
+/// How many tokens of the text are no trivia. That is found out where memory is refused, too.
+pub fn significant_tokens(alloc: Global, edition: Edition, text: &str) -> usize
+    requires { length text.now ≤ MAX_TEXT }
+    ensures { (lexed : Lexed) × IsLexing text.now edition lexed × (result ≡ significant lexed.tokens) }
+{
+    let front = find_front(alloc, edition, text);
+    let mut count = front.count();
+    let mut offset = front.end();
+    'tokens: while offset < text.len() {
+        let (token, len) = first_token(edition, &text[offset..]);
+        if !token.kind.is_trivia() {
+            count += 1;
+        }
+        offset += len;
+    }
+    count
+}

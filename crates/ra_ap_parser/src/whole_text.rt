@@ -1,0 +1,101 @@
+//! A whole text, from its bytes to the steps of its tree.
+ghost use Rattle.std.specs.Prelude.{◌≡◌, ◌≤◌, ◌<◌, ◌↔◌, ◌⊎◌, Err, IfErr, IfOk, Some, length};
+ghost use Rattle.ra_ap_parser.specs.Headline.{HasTooManyTokens, Headline, Leaves};
+
+use crate::entry_point::{MAX_TOKENS, ParseFault, TopEntryPoint};
+use crate::lexed_str::{LexFault, LexedStr, MAX_TEXT, significant_tokens};
+use crate::shortcuts::StrSink;
+use rap_base::edition::Edition;
+use std::alloc::Global;
+use std::error::Error;
+use std::fmt;
+
+#[cfg(test)]
+mod rows;
+
+/// Why a text was not handed out whole.
+#[derive(Clone, Debug, Drop, PartialEq, Eq)]
+pub enum TextFault<R> {
+    /// The text has more than [`MAX_TEXT`] bytes.
+    TextTooLong,
+    /// The text has more than [`MAX_TOKENS`] tokens that are no trivia.
+    TooManyTokens,
+    /// A growth was refused for want of memory.
+    NoMemory,
+    /// The sink refused a step.
+    Refused(R),
+}
+
+impl<R> fmt::Display for TextFault<R> {
+    ghost use Rattle.ra_ap_parser.specs.Fault.{text_fault_text};
+
+    ghost output = { λ fault. Some (text_fault_text fault) };
+
+    fn fmt<W: fmt::Write>(&self, f: &mut fmt::Formatter<W>) -> fmt::Result {
+        match self {
+            TextFault::TextTooLong => f.write_str("text too long"),
+            TextFault::TooManyTokens => f.write_str("too many tokens"),
+            TextFault::NoMemory => f.write_str("no memory"),
+            TextFault::Refused(_) => f.write_str("refused by the sink"),
+        }
+    }
+}
+
+impl<R: fmt::Debug + Drop> Error for TextFault<R> {}
+
+/// A text's tokens, and whether the sink has been handed all of them.
+#[derive(Drop)]
+pub struct ParsedText<'t> {
+    pub lexed: LexedStr<'t>,
+    pub whole: bool,
+}
+
+/// The fault of a text whose tokens wanted memory.
+fn without_memory<R>(alloc: Global, edition: Edition, text: &str) -> TextFault<R>
+    requires { length text.now ≤ MAX_TEXT }
+    ensures many { (result ≡ TextFault.TooManyTokens) ↔ HasTooManyTokens text.now edition }
+    ensures else_memory { (result ≡ TextFault.TooManyTokens) ⊎ (result ≡ TextFault.NoMemory) }
+{
+    if significant_tokens(alloc, edition, text) > MAX_TOKENS {
+        TextFault::TooManyTokens
+    } else {
+        TextFault::NoMemory
+    }
+}
+
+/// Cuts the text into tokens, parses them from the entry point, and hands the sink the steps of the one tree
+/// over all of the text.
+///
+/// The error is `TextTooLong` exactly for a text of more than [`MAX_TEXT`] bytes, which is decided first, and else
+/// `TooManyTokens` exactly for one of more than [`MAX_TOKENS`] tokens that are no trivia, wanting memory or not. Then it
+/// is `NoMemory` where a growth was refused, and `Refused` where the sink refused a step.
+pub fn parse_text<'t, S: StrSink>(
+    alloc: Global,
+    edition: Edition,
+    entry: TopEntryPoint,
+    text: &'t str,
+    sink: &mut S,
+) -> Result<ParsedText<'t>, TextFault<S::Refusal>>
+    ensures parsed { IfOk result (λ r. Headline S.takes text.now edition r.lexed r.whole sink.old sink.new) }
+    ensures too_long { (result ≡ Err TextFault.TextTooLong) ↔ (MAX_TEXT < length text.now) }
+    ensures too_many { (result ≡ Err TextFault.TooManyTokens) ↔ HasTooManyTokens text.now edition }
+    ensures left { IfErr result (λ fault. Leaves S.takes S.refuses text.now edition fault sink.old sink.new) }
+{
+    let lexed = match LexedStr::new(alloc, edition, text) {
+        Ok(lexed) => lexed,
+        Err(LexFault::TextTooLong) => return Err(TextFault::TextTooLong),
+        Err(LexFault::NoMemory) => return Err(without_memory(alloc, edition, text)),
+    };
+    let Ok(input) = lexed.to_input(alloc, edition) else {
+        return Err(without_memory(alloc, edition, text));
+    };
+    let output = match entry.parse(alloc, &input) {
+        Ok(output) => output,
+        Err(ParseFault::TooManyTokens) => return Err(TextFault::TooManyTokens),
+        Err(ParseFault::NoMemory) => return Err(TextFault::NoMemory),
+    };
+    match lexed.intersperse_trivia(&output, sink) {
+        Ok(whole) => Ok(ParsedText { lexed, whole }),
+        Err(refusal) => Err(TextFault::Refused(refusal)),
+    }
+}
