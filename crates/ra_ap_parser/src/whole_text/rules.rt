@@ -19,18 +19,23 @@ fn operators_bind_by_their_powers(rt: HostRuntime) -> Result<(), Fail> {
                 "",
             ),
             (
-                "a / b % c * d",
-                r#"BIN_EXPR(BIN_EXPR(BIN_EXPR(E:a _ SLASH"/" _ E:b) _ PERCENT"%" _ E:c) _ STAR"*" _ E:d)"#,
+                "a * b / c % d * e",
+                r#"BIN_EXPR(BIN_EXPR(BIN_EXPR(BIN_EXPR(E:a _ STAR"*" _ E:b) _ SLASH"/" _ E:c) _ PERCENT"%" _ E:d) _ STAR"*" _ E:e)"#,
                 "",
             ),
             (
-                "a >> b << c",
-                r#"BIN_EXPR(BIN_EXPR(E:a _ SHR">>" _ E:b) _ SHL"<<" _ E:c)"#,
+                "a - b + c - d",
+                r#"BIN_EXPR(BIN_EXPR(BIN_EXPR(E:a _ MINUS"-" _ E:b) _ PLUS"+" _ E:c) _ MINUS"-" _ E:d)"#,
                 "",
             ),
             (
-                "a < b > c <= d >= e == f != g",
-                r#"BIN_EXPR(BIN_EXPR(BIN_EXPR(BIN_EXPR(BIN_EXPR(BIN_EXPR(E:a _ L_ANGLE"<" _ E:b) _ R_ANGLE">" _ E:c) _ LTEQ"<=" _ E:d) _ GTEQ">=" _ E:e) _ EQ2"==" _ E:f) _ NEQ"!=" _ E:g)"#,
+                "a >> b << c >> d",
+                r#"BIN_EXPR(BIN_EXPR(BIN_EXPR(E:a _ SHR">>" _ E:b) _ SHL"<<" _ E:c) _ SHR">>" _ E:d)"#,
+                "",
+            ),
+            (
+                "a < b > c <= d >= e == f != g < h",
+                r#"BIN_EXPR(BIN_EXPR(BIN_EXPR(BIN_EXPR(BIN_EXPR(BIN_EXPR(BIN_EXPR(E:a _ L_ANGLE"<" _ E:b) _ R_ANGLE">" _ E:c) _ LTEQ"<=" _ E:d) _ GTEQ">=" _ E:e) _ EQ2"==" _ E:f) _ NEQ"!=" _ E:g) _ L_ANGLE"<" _ E:h)"#,
                 "",
             ),
             ("a => b", r#"ERROR(E:a _ EQ"=" R_ANGLE">" _ IDENT"b")"#, ""),
@@ -224,8 +229,8 @@ fn calls(rt: HostRuntime) -> Result<(), Fail> {
         rt.alloc(),
         &[
             (
-                "a(b, c)(d)",
-                r#"CALL_EXPR(CALL_EXPR(E:a ARG_LIST(L_PAREN"(" E:b COMMA"," _ E:c R_PAREN")")) ARG_LIST(L_PAREN"(" E:d R_PAREN")"))"#,
+                "a(b, c = d)(e)",
+                r#"CALL_EXPR(CALL_EXPR(E:a ARG_LIST(L_PAREN"(" E:b COMMA"," _ BIN_EXPR(E:c _ EQ"=" _ E:d) R_PAREN")")) ARG_LIST(L_PAREN"(" E:e R_PAREN")"))"#,
                 "",
             ),
             (
@@ -483,8 +488,8 @@ fn one_expression_in_parentheses_is_no_tuple(rt: HostRuntime) -> Result<(), Fail
         &[
             ("(a)", r#"PAREN_EXPR(L_PAREN"(" E:a R_PAREN")")"#, ""),
             (
-                "(a + b) * c",
-                r#"BIN_EXPR(PAREN_EXPR(L_PAREN"(" BIN_EXPR(E:a _ PLUS"+" _ E:b) R_PAREN")") _ STAR"*" _ E:c)"#,
+                "(a = b) * c",
+                r#"BIN_EXPR(PAREN_EXPR(L_PAREN"(" BIN_EXPR(E:a _ EQ"=" _ E:b) R_PAREN")") _ STAR"*" _ E:c)"#,
                 "",
             ),
             (
