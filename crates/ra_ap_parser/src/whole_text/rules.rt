@@ -731,6 +731,16 @@ fn an_operand_is_missing(rt: HostRuntime) -> Result<(), Fail> {
             (",", r#"ERROR(COMMA",")"#, "|0 expected expression"),
             ("fn", r#"ERROR(FN_KW"fn")"#, "|0 expected expression"),
             (
+                ".a",
+                r#"ERROR(ERROR(DOT".") IDENT"a")"#,
+                "|0 expected expression",
+            ),
+            (
+                "-:",
+                r#"PREFIX_EXPR(MINUS"-" ERROR(COLON":"))"#,
+                "|1 expected expression",
+            ),
+            (
                 "a + )",
                 r#"ERROR(BIN_EXPR(E:a _ PLUS"+") _ R_PAREN")")"#,
                 "|3 expected expression",
