@@ -12,6 +12,8 @@ use std::fmt;
 
 #[cfg(test)]
 mod rows;
+#[cfg(test)]
+mod rules;
 
 /// Why a text was not handed out whole.
 #[derive(Clone, Debug, Drop, PartialEq, Eq)]

@@ -1,7 +1,9 @@
 //! Kinds of tokens and nodes.
-ghost use Rattle.std.specs.Prelude.{◌≡◌, ℕ, ◌≤◌};
+ghost use Rattle.std.specs.Prelude.{◌≡◌, ℕ, ◌≤◌, Some};
+ghost use Rattle.rap_base.specs.Names.{name_of};
 ghost use Rattle.rap_base.specs.NodeKind.{PATH_META};
 
+use std::fmt;
 use std::marker::Model;
 
 mod keywords;
@@ -14,7 +16,7 @@ mod token_tests;
 ///
 /// The tokens come first, from `EOF` to `SHEBANG`, then the nodes from `TOMBSTONE` on. `ERROR` is both a
 /// token and a node.
-#[derive(Clone, Copy, PartialEq, Eq, PartialOrd, Ord, Hash, Debug)]
+#[derive(Clone, Copy, PartialEq, Eq, PartialOrd, Ord, Hash)]
 pub struct SyntaxKind {
     number: u16,
 }
@@ -689,6 +691,15 @@ impl SyntaxKind {
     pub const TOKEN_TREE_META: SyntaxKind = SyntaxKind { number: 328 };
 
     pub const PATH_META: SyntaxKind = SyntaxKind { number: 329 };
+}
+
+/// Prints the kind's name.
+impl fmt::Debug for SyntaxKind {
+    ghost debug_output = { λ kind. Some (name_of kind) };
+
+    fn fmt<W: fmt::Write>(&self, f: &mut fmt::Formatter<W>) -> fmt::Result {
+        f.write_str(self.name())
+    }
 }
 
 /// The number of a kind.

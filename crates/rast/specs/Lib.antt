@@ -1,4 +1,2 @@
-pub mod Printed
-pub mod Prints
 pub mod Ran
 pub mod Words

@@ -4,12 +4,12 @@
 ghost use Rattle.std.specs.Prelude.{◌≡◌};
 ghost use Rattle.std.specs.Process.{exit_status};
 
-mod printer;
 mod run;
 
 use ra_ap_parser::Edition;
 use rast_common::fault::{FAULT, tell};
-use run::{Entry, run};
+use rast_print::entry::Entry;
+use run::run;
 use std::process::ExitCode;
 use std::{env, fs, io};
 

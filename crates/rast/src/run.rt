@@ -1,40 +1,18 @@
 //! All that the program does once its file is read.
 ghost use Rattle.std.specs.Prelude.{◌≡◌, ◌≤◌, ◌<◌, ◌++◌, IfErr, IfOk, OnOk, string_bytes};
 ghost use Rattle.std.specs.Io.KnownBytes.{Appends};
-ghost use Rattle.rast.specs.Ran.{Comes, IfStops, IsPrinted, Shows};
-ghost use Rattle.rast.specs.Words.{IsNamed, fault_line};
+ghost use Rattle.rast.specs.Ran.{IfStops, Shows};
+ghost use Rattle.rast.specs.Words.{fault_line};
 
-use crate::printer::Printer;
-use ra_ap_parser::{Edition, NoMemory, TextFault, TopEntryPoint, parse_text};
+use ra_ap_parser::{Edition, TextFault, TopEntryPoint};
 use rast_common::fault::tell;
+use rast_print::print_text::print_text;
+use rast_print::printer::Printer;
 use std::alloc::Global;
 use std::io;
-use std::str::FromStr;
 
 #[cfg(test)]
 mod tests;
-
-/// An entry point as the command line names it.
-#[derive(Clone, Copy, Debug)]
-pub struct Entry(pub TopEntryPoint);
-
-/// The word is no entry point's name.
-#[derive(Clone, Copy, PartialEq, Eq, Debug)]
-pub struct InvalidEntry;
-
-/// Reads an entry point from its name.
-impl FromStr for Entry {
-    type Err = InvalidEntry;
-
-    ghost from_str_gives = { IsNamed };
-
-    fn from_str(s: &str) -> Result<Entry, InvalidEntry> {
-        match s {
-            "Expr" => Ok(Entry(TopEntryPoint::Expr)),
-            _ => Err(InvalidEntry),
-        }
-    }
-}
 
 /// What a fault is called on the error stream.
 fn fault_message<R>(fault: &TextFault<R>) -> &'static str
@@ -45,24 +23,6 @@ fn fault_message<R>(fault: &TextFault<R>) -> &'static str
         TextFault::TooManyTokens => "rast: too many tokens\n",
         TextFault::NoMemory | TextFault::Refused(_) => "rast: no memory\n",
     }
-}
-
-/// The lines of the text's tree and of its messages.
-fn print_text(
-    alloc: Global,
-    edition: Edition,
-    entry: TopEntryPoint,
-    text: &str,
-) -> Result<Printer, TextFault<NoMemory>>
-    ensures printed { IfOk result (IsPrinted text.now edition) }
-    ensures fault { IfErr result (Comes text.now edition) }
-{
-    let mut printer = Printer::new(alloc);
-    let parsed = parse_text(alloc, edition, entry, text, &mut printer)?;
-    let Ok(()) = printer.add_errors_of(&parsed.lexed) else {
-        return Err(TextFault::NoMemory);
-    };
-    Ok(printer)
 }
 
 /// Writes the tree's lines and then the messages'.

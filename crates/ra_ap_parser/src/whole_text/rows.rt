@@ -1,14 +1,14 @@
 //! Texts with their trees and messages, as tables.
 //!
-//! `K(..)` is a node with its children and `K"t"` a leaf; `_` is a leaf of one space. Each message stands behind a bar,
-//! with its place.
+//! `K(..)` is a node with its children and `K"t"` a leaf; `_` is a leaf of one space, and `E:a` the expression that is the
+//! name `a`. Each message stands behind a bar, with its place.
 use super::{TextFault, parse_text};
 use crate::entry_point::TopEntryPoint;
 use crate::shortcuts::{StrSink, StrStep};
 use rap_base::edition::Edition;
 use rap_base::no_memory::NoMemory;
 use rap_base::syntax_kind::SyntaxKind;
-use std::alloc::Global;
+use std::alloc::{AllocError, Global};
 use std::fmt::Write as _;
 use std::process::Abort;
 use std::test::Fail;
@@ -65,10 +65,32 @@ impl Notation {
 }
 
 /// A text, its tree, and its messages.
-type Row = (&'static str, &'static str, &'static str);
+pub type Row = (&'static str, &'static str, &'static str);
+
+/// The tree with each `E:a` as the nodes that it stands for.
+fn spelled_out(alloc: Global, tree: &str) -> Result<String, AllocError> {
+    let mut out = String::new(alloc);
+    let mut last = ' ';
+    let mut names = false;
+    for c in tree.chars() {
+        if names {
+            out.push(c)?;
+            out.push_str("\"))))")?;
+            names = false;
+        } else if last == 'E' && c == ':' {
+            out.pop();
+            out.push_str("PATH_EXPR(PATH(PATH_SEGMENT(NAME_REF(IDENT\"")?;
+            names = true;
+        } else {
+            out.push(c)?;
+        }
+        last = c;
+    }
+    Ok(out)
+}
 
 /// Compares each text's tree and messages with what its row says.
-fn compare(rt: &impl Abort, alloc: Global, rows: &[Row]) -> Result<(), Fail> {
+pub fn compare(rt: &impl Abort, alloc: Global, rows: &[Row]) -> Result<(), Fail> {
     for (text, tree, messages) in rows {
         let mut sink = Notation {
             tree: String::new(alloc),
@@ -79,9 +101,10 @@ fn compare(rt: &impl Abort, alloc: Global, rows: &[Row]) -> Result<(), Fail> {
         let Ok(parsed) = parse_text(alloc, edition, TopEntryPoint::Expr, text, &mut sink) else {
             return Err(Fail::from("not parsed"));
         };
-        assert!(rt; parsed.whole);
-        assert_eq!(rt; sink.tree.as_str(), *tree);
-        assert_eq!(rt; sink.messages.as_str(), *messages);
+        assert!(rt; parsed.whole, "{text}");
+        let tree = spelled_out(alloc, tree)?;
+        assert_eq!(rt; sink.tree.as_str(), tree.as_str(), "{text}");
+        assert_eq!(rt; sink.messages.as_str(), *messages, "{text}");
     }
     Ok(())
 }

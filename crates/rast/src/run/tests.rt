@@ -1,5 +1,5 @@
 //! What the program shows, and its faults.
-use super::{Entry, run};
+use super::run;
 use ra_ap_parser::{Edition, TopEntryPoint};
 use std::alloc::Global;
 use std::io;
@@ -114,12 +114,4 @@ fn tells_that_it_cannot_write(rt: HostRuntime) -> Result<(), Fail> {
         tells(&rt, rt.alloc(), at, 2, "rast: cannot write\n")?;
     }
     tells(&rt, rt.alloc(), 3, 1, "")
-}
-
-#[test]
-fn knows_the_entry_points(rt: HostRuntime) -> Result<(), Fail> {
-    assert!(rt; "Expr".parse::<Entry>().is_ok());
-    assert!(rt; "expr".parse::<Entry>().is_err());
-    assert!(rt; "".parse::<Entry>().is_err());
-    Ok(())
 }

@@ -3,7 +3,7 @@ ghost use Rattle.std.specs.Prelude.{◌≡◌, ◌+◌, ◌^◌, ◌-◌, ◌++�
 ghost use Rattle.rap_base.specs.Names.{name_of};
 ghost use Rattle.rast_common.specs.Quote.{quoted};
 ghost use Rattle.ra_ap_parser.specs.LexedStr.{AreInOrder};
-ghost use Rattle.rast.specs.Printed.{indent, lexer_told};
+ghost use Rattle.rast_print.specs.Printed.{indent, lexer_told};
 
 use ra_ap_parser::{LexedStr, NoMemory, StrSink, StrStep, SyntaxKind};
 use rast_common::message::push_message;
@@ -74,7 +74,7 @@ impl Printer {
 }
 
 impl StrSink for Printer {
-    ghost use Rattle.rast.specs.Prints.{Prints};
+    ghost use Rattle.rast_print.specs.Prints.{Prints};
 
     type Refusal = NoMemory;
 

@@ -1,5 +1,5 @@
 -- What a printer has written along the steps of a tree.
-use Rattle.std.proofs.Common.{◌≡◌, ℕ, zero, suc, ◌+◌, List, [], ◌∷◌, ◌++◌, ap, sym, ◌∙◌, refl, subst, Bool, codes, string_bytes, append_assoc, append-nil}
+use Rattle.std.proofs.Common.{◌≡◌, ℕ, zero, suc, List, [], ◌∷◌, ◌++◌, ap, sym, ◌∙◌, refl, Bool, codes, string_bytes, append_assoc, append-nil}
 use Rattle.rap_base.specs.declared.edition.Edition.{Edition}
 use Rattle.ra_ap_parser.specs.LexedStr.{Lexed}
 use Rattle.ra_ap_parser.specs.StrForest.{str_flat}
@@ -7,10 +7,10 @@ use Rattle.ra_ap_parser.specs.StrSink.{Takes}
 use Rattle.ra_ap_parser.specs.StrStep.{StrStepValue}
 use Rattle.ra_ap_parser.specs.Trivia.{with_trivia}
 use Rattle.ra_ap_parser.specs.Headline.{Headline}
-use Rattle.rast.specs.Printed.{indent, line, depth_after, printed, told_line, told, lexer_told}
-use Rattle.rast.specs.Prints.{Prints}
-use Rattle.rast.specs.Ran.{IsPrinted}
-use Rattle.rast.specs.declared.printer.Printer.{Printer}
+use Rattle.rast_print.specs.Printed.{indent, line, printed, told_line, told, lexer_told}
+use Rattle.rast_print.specs.Prints.{Prints}
+use Rattle.rast_print.specs.Shown.{IsPrinted}
+use Rattle.rast_print.specs.declared.printer.Printer.{Printer}
 
 -- one more open node
 pub indent-suc : (depth : ℕ) → indent depth ++ codes "  " ≡ indent (suc depth)

@@ -1,7 +1,7 @@
 use Rattle.std.proofs.Common.{◌≡◌, ◌++◌, length, string_bytes}
 use Rattle.ra_ap_parser.specs.LexedStr.{AreInOrder}
-use Rattle.rast.specs.Printed.{lexer_told}
-use Rattle.rast.proofs.printer.Printer.add_errors_of.Given as goal
+use Rattle.rast_print.specs.Printed.{lexer_told}
+use Rattle.rast_print.proofs.printer.Printer.add_errors_of.Given as goal
 
 abbrev pub invariant-errors : goal.invariant-errors
 invariant-errors l =

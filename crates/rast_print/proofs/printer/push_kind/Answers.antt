@@ -1,7 +1,7 @@
-use Rattle.std.proofs.Common.{◌≡◌, ◌+◌, suc, ◌++◌, ap, sym, ◌∙◌, append_assoc, add-one, string_bytes, codes}
-use Rattle.rast.specs.Printed.{indent}
-use Rattle.rast.proofs.Lines.{indent-suc}
-use Rattle.rast.proofs.printer.push_kind.Goals as goal
+use Rattle.std.proofs.Common.{◌++◌, ap, sym, ◌∙◌, append_assoc, add-one, string_bytes, codes}
+use Rattle.rast_print.specs.Printed.{indent}
+use Rattle.rast_print.proofs.Lines.{indent-suc}
+use Rattle.rast_print.proofs.printer.push_kind.Goals as goal
 
 pub indent-preserved : goal.indent-preserved
 indent-preserved c =

@@ -1,8 +1,8 @@
 -- What a printer does with a step.
 use Rattle.std.specs.Prelude.{◌≡◌, ◌++◌, string_bytes}
 use Rattle.ra_ap_parser.specs.StrStep.{StrStepValue}
-use Rattle.rast.specs.Printed.{line, depth_after, told_line}
-use Rattle.rast.specs.declared.printer.Printer.{Printer}
+use Rattle.rast_print.specs.Printed.{line, depth_after, told_line}
+use Rattle.rast_print.specs.declared.printer.Printer.{Printer}
 
 -- the step's line is added to those of the tree or to those of the messages
 pub record Prints (old : Printer) (step : StrStepValue) (new : Printer) : Type 0 where

@@ -1,0 +1,4 @@
+pub mod EntryName
+pub mod Printed
+pub mod Prints
+pub mod Shown

@@ -1,0 +1,41 @@
+//! Entry points by their names.
+ghost use Rattle.rast_print.specs.EntryName.{IsNamed};
+
+use ra_ap_parser::TopEntryPoint;
+use std::str::FromStr;
+
+/// An entry point as a command line and a record name it.
+#[derive(Clone, Copy, Debug)]
+pub struct Entry(pub TopEntryPoint);
+
+/// The word is no entry point's name.
+#[derive(Clone, Copy, PartialEq, Eq, Debug)]
+pub struct InvalidEntry;
+
+/// Reads an entry point from its name.
+impl FromStr for Entry {
+    type Err = InvalidEntry;
+
+    ghost from_str_gives = { IsNamed };
+
+    fn from_str(s: &str) -> Result<Entry, InvalidEntry> {
+        match s {
+            "Expr" => Ok(Entry(TopEntryPoint::Expr)),
+            _ => Err(InvalidEntry),
+        }
+    }
+}
+
+#[cfg(test)]
+mod tests {
+    use super::*;
+    use std::test::Fail;
+
+    #[test]
+    fn knows_the_entry_points(rt: HostRuntime) -> Result<(), Fail> {
+        assert!(rt; "Expr".parse::<Entry>().is_ok());
+        assert!(rt; "expr".parse::<Entry>().is_err());
+        assert!(rt; "".parse::<Entry>().is_err());
+        Ok(())
+    }
+}

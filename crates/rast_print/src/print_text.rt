@@ -1,0 +1,25 @@
+//! A whole text, from its bytes to the lines of its tree.
+ghost use Rattle.std.specs.Prelude.{IfErr, IfOk};
+ghost use Rattle.rast_print.specs.Shown.{Comes, IsPrinted};
+
+use crate::printer::Printer;
+use ra_ap_parser::{Edition, NoMemory, TextFault, TopEntryPoint, parse_text};
+use std::alloc::Global;
+
+/// The lines of the text's tree and of its messages, the tree's messages before the lexer's.
+pub fn print_text(
+    alloc: Global,
+    edition: Edition,
+    entry: TopEntryPoint,
+    text: &str,
+) -> Result<Printer, TextFault<NoMemory>>
+    ensures printed { IfOk result (IsPrinted text.now edition) }
+    ensures fault { IfErr result (Comes text.now edition) }
+{
+    let mut printer = Printer::new(alloc);
+    let parsed = parse_text(alloc, edition, entry, text, &mut printer)?;
+    let Ok(()) = printer.add_errors_of(&parsed.lexed) else {
+        return Err(TextFault::NoMemory);
+    };
+    Ok(printer)
+}
