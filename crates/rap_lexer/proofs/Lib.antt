@@ -1,3 +1,5 @@
+pub mod AsciiClasses
+pub mod AsciiRuns
 pub mod Characters
 pub mod Ends
 pub mod EscapeDigits

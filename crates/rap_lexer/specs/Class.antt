@@ -1,5 +1,5 @@
 -- Classes of characters.
-use Rattle.std.specs.Prelude.{ℕ, Bool, ◌||◌, ◌&&◌, ◌==◌, not, nat_le}
+use Rattle.std.specs.Prelude.{ℕ, Bool, ◌||◌, ◌&&◌, ◌==◌, not, nat_le, nat_lt}
 use Rattle.std.specs.Char.{is_ascii_digit}
 use Rattle.std.specs.Str.{byte}
 use Rattle.unicode_ident.specs.Ident.{is_xid_start, is_xid_continue}
@@ -25,3 +25,7 @@ is_in Underscore c = c == byte "_"
 is_in DigitOrUnderscore c = (c == byte "_") || is_ascii_digit c
 is_in HexOrUnderscore c = (c == byte "_") || is_hex_digit c
 is_in Hash c = c == byte "#"
+
+-- the byte is an ASCII character of the class
+abbrev pub is_ascii_in : Class → ℕ → Bool
+is_ascii_in class b = nat_lt b 0x80 && is_in class b

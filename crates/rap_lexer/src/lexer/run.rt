@@ -1,7 +1,7 @@
 //! Runs of characters of one class.
-ghost use Rattle.std.specs.Prelude.{◌≡◌};
-ghost use Rattle.rap_lexer.specs.Class.{is_hex_digit, is_in};
-ghost use Rattle.rap_lexer.specs.Run.{next_in, after_run, after_suffix};
+ghost use Rattle.std.specs.Prelude.{◌≡◌, length};
+ghost use Rattle.rap_lexer.specs.Class.{is_hex_digit, is_in, is_ascii_in};
+ghost use Rattle.rap_lexer.specs.Run.{next_in, run_of, after_run, after_suffix};
 
 use crate::lexer::cursor::Cursor;
 use rap_base::whitespace::is_rust_whitespace;
@@ -34,7 +34,19 @@ pub enum Class {
 }
 
 /// Whether the character is in the class.
+#[inline(always)]
 pub fn is_in(class: Class, c: char) -> bool
+    ensures { result ≡ is_in class c }
+{
+    if c.is_ascii() {
+        is_ascii_in(class, c as u8)
+    } else {
+        is_any_in(class, c)
+    }
+}
+
+/// Whether the character is in the class, ASCII or not.
+fn is_any_in(class: Class, c: char) -> bool
     ensures { result ≡ is_in class c }
 {
     match class {
@@ -72,8 +84,54 @@ pub fn is_next_in(cursor: &Cursor<'_>, class: Class) -> bool
     }
 }
 
+/// Whether the byte is an ASCII character of the class.
+#[inline(always)]
+fn is_ascii_in(class: Class, b: u8) -> bool
+    ensures { result ≡ is_ascii_in class b }
+{
+    match class {
+        Class::White => matches!(b, 9..=13 | b' '),
+        Class::InLine => b < 0x80 && b != b'\n',
+        Class::IdentStart => (b == b'_') | b.is_ascii_alphabetic(),
+        Class::IdentContinue => (b == b'_') | b.is_ascii_alphanumeric(),
+        Class::InvalidContinue => (b == b'_') | b.is_ascii_alphanumeric(),
+        Class::Emoji => false,
+        Class::Digit => b.is_ascii_digit(),
+        Class::Underscore => b == b'_',
+        Class::DigitOrUnderscore => (b == b'_') | b.is_ascii_digit(),
+        Class::HexOrUnderscore => (b == b'_') | b.is_ascii_hexdigit(),
+        Class::Hash => b == b'#',
+    }
+}
+
+/// How many ASCII characters of the class stand first.
+#[inline(always)]
+fn ascii_run(bytes: &[u8], class: Class) -> usize
+    ensures { result ≡ length (run_of (is_ascii_in class) bytes.now) }
+{
+    let mut n = 0usize;
+    'run: while n < bytes.len() && is_ascii_in(class, bytes[n]) {
+        n += 1;
+    }
+    n
+}
+
 /// Takes the characters of the class that stand next.
+#[inline(always)]
 pub fn eat_run(cursor: &mut Cursor<'_>, class: Class)
+    ensures { cursor.new ≡ after_run (is_in class) cursor.old }
+{
+    let bytes = cursor.as_str().as_bytes();
+    let n = ascii_run(bytes, class);
+    cursor.advance(n);
+    if n < bytes.len() && bytes[n] >= 0x80 {
+        eat_any(cursor, class);
+    }
+}
+
+/// Takes the characters of the class that stand next, one by one.
+#[inline(never)]
+fn eat_any(cursor: &mut Cursor<'_>, class: Class)
     ensures { cursor.new ≡ after_run (is_in class) cursor.old }
 {
     'run: while let Some(c) = cursor.first() {
