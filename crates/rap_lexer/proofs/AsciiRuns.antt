@@ -7,7 +7,7 @@ use Rattle.std.proofs.Math.Seq.{drop-append_seam, take-append_seam}
 use Rattle.rap_lexer.specs.Class.{is_in, is_ascii_in}
 use Rattle.rap_lexer.specs.Run.{run_of, after_run}
 use Rattle.rap_lexer.specs.declared.lexer.run.Class.{Class}
-use Rattle.rap_lexer.proofs.Runs.{run_of-after_run}
+use Rattle.rap_lexer.proofs.Runs.{run_of-after_run, after_drop}
 
 first_true : (x y : Bool) → (x && y) ≡ true → x ≡ true
 first_true true y h = refl
@@ -25,9 +25,6 @@ not_second false y e h = cc
 utf8_rest : (xs ys : List ℕ) → IsAscii xs → IsUtf8 (xs ++ ys) → IsUtf8 ys
 utf8_rest [] ys a u = u
 utf8_rest (x ∷ xs) ys a u = utf8_rest xs ys (IsAscii-drop (x ∷ xs) 1 a) (IsUtf8-past_char (x ∷ (xs ++ ys)) (xs ++ ys) x u (ap (λ l. l ++ (xs ++ ys)) (sym (encode_ascii x (a 0)))))
-
-pub after_drop : (q : ℕ → Bool) (bs : List ℕ) → drop (length (run_of q bs)) bs ≡ after_run q bs
-after_drop q bs = ap (λ x. drop (length (run_of q bs)) x) (sym (run_of-after_run q bs)) ∙ drop-append_seam (run_of q bs) (after_run q bs)
 
 -- what follows a run begins with nothing of it
 pub after_head : (q : ℕ → Bool) (bs : List ℕ) (c : ℕ) (t : List ℕ) → after_run q bs ≡ c ∷ t → q c ≡ false

@@ -19,5 +19,6 @@ pub mod RawStrings
 pub mod Runs
 pub mod Steps
 pub mod Strings
+pub mod TextRuns
 pub mod TokenEnds
 pub mod TokenKinds

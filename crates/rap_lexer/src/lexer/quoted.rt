@@ -7,7 +7,7 @@ ghost use Rattle.rap_lexer.specs.Run.{after_suffix};
 use crate::escape::Mode;
 use crate::lexer::cursor::Cursor;
 use crate::lexer::lexeme::{Lexeme, Remark};
-use crate::lexer::run::{Class, eat_run, eat_suffix, is_next_in};
+use crate::lexer::run::{Class, eat_run, eat_suffix, eat_text, is_next_in};
 use rap_base::syntax_kind::SyntaxKind;
 
 /// Takes a string whose opening quote is taken.
@@ -41,7 +41,11 @@ fn ended(cursor: &mut Cursor<'_>, kind: SyntaxKind, mode: Mode, closed: bool) ->
 fn eat_string(cursor: &mut Cursor<'_>) -> bool
     ensures { StringRun cursor.old result cursor.new }
 {
-    'body: while let Some(c) = cursor.bump() {
+    'body: loop {
+        eat_text(cursor, Class::InString);
+        let Some(c) = cursor.bump() else {
+            return false;
+        };
         if c == '"' {
             return true;
         }
@@ -49,7 +53,6 @@ fn eat_string(cursor: &mut Cursor<'_>) -> bool
             cursor.skip();
         }
     }
-    false
 }
 
 /// Whether the character takes the next one of a string along.
