@@ -10,6 +10,7 @@ pub mod EscapeRules
 pub mod EscapeStrings
 pub mod EscapeWalks
 pub mod Fronts
+pub mod Lanes
 pub mod Leads
 pub mod Nesting
 pub mod OneBody

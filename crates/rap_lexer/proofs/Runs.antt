@@ -1,5 +1,5 @@
 -- Runs of characters that pass a test.
-use Rattle.std.proofs.Common.{◌≡◌, ℕ, Bool, true, false, not, List, [], ◌∷◌, ◌++◌, zero, suc, ◌<◌, ◌≤◌, length, drop, get_or, Option, Some, None, unwrap_or, slice_get, if◌then◌else◌, refl, ap, sym, ◌∙◌, arith}
+use Rattle.std.proofs.Common.{◌≡◌, ℕ, Bool, true, false, not, List, [], ◌∷◌, ◌++◌, zero, suc, ◌+◌, ◌<◌, ◌≤◌, length, drop, get_or, Option, Some, None, unwrap_or, slice_get, if◌then◌else◌, refl, ap, sym, ◌∙◌, arith}
 use Rattle.std.proofs.Math.Seq.{drop-append_seam}
 use Rattle.memchr.specs.Find.{IsFirstByte}
 use Rattle.rap_lexer.specs.Run.{tail, run_of, after_run}
@@ -61,3 +61,12 @@ after_length p (c ∷ cs) =
 pub tail_length : (cs : List ℕ) → length (tail cs) ≤ length cs
 tail_length [] = omega arith
 tail_length (c ∷ cs) = omega arith
+
+-- a run whose first n elements pass goes on past them
+pub run_past : (p : ℕ → Bool) (xs : List ℕ) (n : ℕ) → n ≤ length xs → ((k : ℕ) → k < n → p (get_or xs k 0) ≡ true) → n + length (run_of p (drop n xs)) ≡ length (run_of p xs)
+run_past p xs zero w h = omega arith
+run_past p [] (suc n) w h = absurd (omega arith)
+run_past p (x ∷ xs) (suc n) w h =
+    let f : p x ≡ true = h 0 (omega arith) in
+    let g : n + length (run_of p (drop n xs)) ≡ length (run_of p xs) = run_past p xs n (omega arith) (λ k l. h (suc k) (omega arith)) in
+    rw f (omega (arith, g))

@@ -18,6 +18,7 @@ use rap_base::syntax_kind::SyntaxKind;
 
 mod comment;
 pub(crate) mod cursor;
+mod lanes;
 mod lexeme;
 mod number;
 mod quoted;

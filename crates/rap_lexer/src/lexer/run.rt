@@ -1,9 +1,10 @@
 //! Runs of characters of one class.
-ghost use Rattle.std.specs.Prelude.{◌≡◌, ◌<◌, ℕ, false, length};
+ghost use Rattle.std.specs.Prelude.{◌≡◌, ◌<◌, ◌≤◌, ℕ, false, length};
 ghost use Rattle.rap_lexer.specs.Class.{is_hex_digit, is_in, is_ascii_in};
 ghost use Rattle.rap_lexer.specs.Run.{next_in, run_of, after_run, after_suffix};
 
 use crate::lexer::cursor::Cursor;
+use crate::lexer::lanes::{white_run, word_run};
 use memchr::{memchr, memchr2};
 use rap_base::whitespace::is_rust_whitespace;
 
@@ -122,6 +123,18 @@ fn is_ascii_in(class: Class, b: u8) -> bool
 fn ascii_run(bytes: &[u8], class: Class) -> usize
     ensures { result ≡ length (run_of (is_ascii_in class) bytes.now) }
 {
+    match class {
+        Class::White => white_run(bytes),
+        Class::IdentContinue => word_run(bytes),
+        _ => byte_run(bytes, class),
+    }
+}
+
+/// How many ASCII characters of the class stand first.
+pub fn byte_run(bytes: &[u8], class: Class) -> usize
+    ensures run { result ≡ length (run_of (is_ascii_in class) bytes.now) }
+    ensures within { result ≤ length bytes.now }
+{
     let mut n = 0usize;
     'run: while n < bytes.len() && is_ascii_in(class, bytes[n]) {
         n += 1;
@@ -152,12 +165,12 @@ fn text_run(bytes: &[u8], class: Class) -> usize
         Class::InString => memchr2(b'"', b'\\', bytes).unwrap_or(bytes.len()),
         Class::InRawString => memchr(b'"', bytes).unwrap_or(bytes.len()),
         Class::InBlock => memchr2(b'/', b'*', bytes).unwrap_or(bytes.len()),
-        _ => byte_run(bytes, class),
+        _ => any_run(bytes, class),
     }
 }
 
 /// How many bytes of the class stand first.
-fn byte_run(bytes: &[u8], class: Class) -> usize
+fn any_run(bytes: &[u8], class: Class) -> usize
     ensures { result ≡ length (run_of (is_in class) bytes.now) }
 {
     let mut n = 0usize;
