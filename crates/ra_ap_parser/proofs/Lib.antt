@@ -1,3 +1,4 @@
+pub mod ContextualWords
 pub mod Covered
 pub mod Cuts
 pub mod Eating

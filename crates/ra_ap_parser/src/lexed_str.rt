@@ -32,6 +32,9 @@ use std::ops::Range;
 /// The most bytes that a text may have, so that every place in it fits 32 bits.
 pub const MAX_TEXT: usize = 4_294_967_295;
 
+/// The most tokens for which there is room from the start: a long text can be few tokens.
+const FIRST_ROOM: usize = 4_194_304;
+
 /// Why a text was not lexed.
 #[derive(Clone, Copy, Debug, PartialEq, Eq)]
 pub enum LexFault {
@@ -111,6 +114,7 @@ impl<'a> Model for LexedStr<'a> {
 }
 
 /// How many tokens stand after the last string that looks open, up to 5, with one token more.
+#[inline(always)]
 fn since_open_after(since: usize, kind: SyntaxKind, text: &str) -> usize
     ensures opens { IsTrue ((kind == STRING) && looks_open text.now) → result ≡ 0 }
     ensures other { IsFalse ((kind == STRING) && looks_open text.now) → result ≡ min (since + 1) 5 }
@@ -150,8 +154,9 @@ impl<'a> LexedStr<'a> {
             return Err(LexFault::TextTooLong);
         }
         let front = find_front(alloc, edition, text);
-        let mut kind = Vec::with_capacity(alloc, text.len() / 3)?;
-        let mut start = Vec::with_capacity(alloc, text.len() / 3 + 1)?;
+        let room = (text.len() / 3).min(FIRST_ROOM);
+        let mut kind = Vec::with_capacity(alloc, room)?;
+        let mut start = Vec::with_capacity(alloc, room + 1)?;
         start.push(0)?;
         push_front(&front, &mut kind, &mut start)?;
         let mut offset = front.end();

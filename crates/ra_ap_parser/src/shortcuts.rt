@@ -20,10 +20,12 @@ use rap_events::output::Output;
 use std::alloc::Global;
 
 mod builder;
+mod contextual;
 #[cfg(test)]
 mod tests;
 
 use builder::Builder;
+use contextual::contextual_keyword;
 
 /// A step of the walk through a tree over a text, from left to right.
 #[derive(Clone, Copy, Debug)]
@@ -122,7 +124,7 @@ fn push_record(
         return Ok(());
     }
     if kind == SyntaxKind::IDENT {
-        let keyword = SyntaxKind::from_contextual_keyword(lexed.text(i), edition);
+        let keyword = contextual_keyword(lexed.text(i), edition);
         return input.push_ident(keyword.unwrap_or(SyntaxKind::IDENT), edition);
     }
     input.push(kind, edition)?;

@@ -1,3 +1,5 @@
+pub mod AsciiClasses
+pub mod AsciiRuns
 pub mod Characters
 pub mod Ends
 pub mod EscapeDigits
@@ -8,6 +10,7 @@ pub mod EscapeRules
 pub mod EscapeStrings
 pub mod EscapeWalks
 pub mod Fronts
+pub mod Lanes
 pub mod Leads
 pub mod Nesting
 pub mod OneBody
@@ -17,5 +20,6 @@ pub mod RawStrings
 pub mod Runs
 pub mod Steps
 pub mod Strings
+pub mod TextRuns
 pub mod TokenEnds
 pub mod TokenKinds

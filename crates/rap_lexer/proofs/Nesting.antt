@@ -1,7 +1,11 @@
 -- How the depth of a block comment goes along its body.
-use Rattle.std.proofs.Common.{◌≡◌, ℕ, zero, suc, List, [], ◌∷◌, ◌⊎◌, inl, inr, get_or, ◌<◌, ◌+◌, ◌-◌, refl, ap, sym, ◌∙◌, subst, arith, add-one}
+use Rattle.std.proofs.Common.{◌≡◌, ℕ, zero, suc, List, [], ◌∷◌, ◌⊎◌, inl, inr, get_or, ◌<◌, ◌+◌, ◌-◌, refl, ap, sym, ◌∙◌, subst, arith, add-one, not, ◌||◌, ◌==◌, true, false, if◌then◌else◌}
+use Rattle.std.proofs.lemmas.Bool.{eqb-false}
 use Rattle.rap_lexer.specs.Comment.{Body, IsText}
 use Rattle.rap_lexer.specs.Comment.Body.{empty, comment, text}
+use Rattle.rap_lexer.specs.Class.{is_in}
+use Rattle.rap_lexer.specs.Run.{after_run}
+use Rattle.rap_lexer.specs.declared.lexer.run.Class.TheVariants.{InBlock}
 
 -- the text closes so many comments, and `rest` follows
 abbrev pub Nested : ℕ → List ℕ → List ℕ → Type 0
@@ -94,3 +98,15 @@ pub missing : (d : ℕ) (start cur : List ℕ) → Keeps d start cur → 0 < d �
 missing zero start cur k h e rest b = absurd (omega arith)
 missing (suc d) start cur k h e rest b =
     let n = k.back rest (rest, b, refl) in at_end cur n.0 e (cases n.1)
+
+-- what is neither a slash nor a star is passed over
+pub keeps_past : (d : ℕ) (start cur : List ℕ) → Keeps d start cur → 0 < d → Keeps d start (after_run (is_in InBlock) cur)
+keeps_past d start [] k h = k
+keeps_past d start (c ∷ cs) k h =
+    (elim (c == 47) as (λ z. (c == 47) ≡ z → Keeps d start (if not (z || (c == 42)) then after_run (is_in InBlock) cs else (c ∷ cs))) [
+      | true ↦ λ a. k
+      | false ↦ λ a. (elim (c == 42) as (λ z. (c == 42) ≡ z → Keeps d start (if not z then after_run (is_in InBlock) cs else (c ∷ cs))) [
+        | true ↦ λ b. k
+        | false ↦ λ b. keeps_past d start cs (keeps_text d start (c ∷ cs) c cs k h refl (λ rest e. eqb-false c 47 a (ap (λ l. get_or l 0 0) e), λ rest e. eqb-false c 42 b (ap (λ l. get_or l 0 0) e))) h
+      ]) refl
+    ]) refl

@@ -1,11 +1,12 @@
 -- The steps of a raw string.
-use Rattle.std.proofs.Common.{◌≡◌, ◌≢◌, ℕ, zero, suc, Bool, true, false, List, [], ◌∷◌, ◌++◌, ◌+◌, ◌<◌, length, replicate, refl, ap, sym, ◌∙◌, subst, arith, eqb-true}
+use Rattle.std.proofs.Common.{◌≡◌, ◌≢◌, ℕ, zero, suc, Bool, true, false, List, [], ◌∷◌, ◌++◌, ◌+◌, ◌<◌, length, replicate, refl, ap, sym, ◌∙◌, subst, arith, eqb-true, not, ◌==◌, get_or, if◌then◌else◌}
+use Rattle.std.proofs.lemmas.Bool.{eqb-false}
 use Rattle.std.specs.Str.{byte}
 use Rattle.rap_lexer.specs.Class.{is_in}
 use Rattle.rap_lexer.specs.Quoted.{RawRun}
 use Rattle.rap_lexer.specs.Quoted.RawRun.{end, close, other}
 use Rattle.rap_lexer.specs.Run.{next_is, tail, run_of, after_run}
-use Rattle.rap_lexer.specs.declared.lexer.run.Class.TheVariants.{Hash}
+use Rattle.rap_lexer.specs.declared.lexer.run.Class.TheVariants.{Hash, InRawString}
 use Rattle.rap_lexer.proofs.Ends.{IsEnd, all, cons, front}
 use Rattle.rap_lexer.proofs.Leads.{Leads}
 
@@ -74,3 +75,12 @@ pub raw_end : {n : ℕ} {cs rest : List ℕ} {closed : Bool} → RawRun n cs clo
 raw_end end = all []
 raw_end {n} (close cs rest e) = front (byte "\"" ∷ replicate n (byte "#")) rest e
 raw_end (other c cs closed rest t r) = cons c (raw_end r)
+
+-- what is no quote is passed over
+pub past_text : (n : ℕ) (start here : List ℕ) → Leads (RawRun n) start here → Leads (RawRun n) start (after_run (is_in InRawString) here)
+past_text n start [] l = l
+past_text n start (c ∷ cs) l =
+    (elim (c == byte "\"") as (λ z. (c == byte "\"") ≡ z → Leads (RawRun n) start (if not z then after_run (is_in InRawString) cs else (c ∷ cs))) [
+      | true ↦ λ q. l
+      | false ↦ λ q. past_text n start cs (past_other n start (c ∷ cs) l c cs refl (λ rest e. eqb-false c (byte "\"") q (ap (λ l. get_or l 0 0) e)))
+    ]) refl

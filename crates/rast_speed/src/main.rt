@@ -1,61 +1,114 @@
-//! `rast_speed EDITION FILE` prints how long each part of a parse of the file takes, under the entry `Expr`; alone it
-//! prints how it is called.
+//! `rast_speed EDITION ENTRY FILE` prints how long each part of a parse of the file takes.
 #![tactic(auto)]
+
+ghost use Rattle.std.specs.Prelude.{◌≡◌};
+ghost use Rattle.std.specs.Process.{exit_status};
 
 mod times;
 
-use ra_ap_parser::Edition;
+use ra_ap_parser::{Edition, LexFault, ParseFault, TopEntryPoint};
+use rast_common::fault::tell;
+use std::alloc::{AllocError, Global};
 use std::process::ExitCode;
+use std::rt::Clock;
 use std::{env, fs, io};
-use times::{Times, measure};
+use times::{Failure, Times, measure};
 
 /// How often each part is measured; the shortest time counts.
 const ROUNDS: usize = 5;
 
-/// Prints the times.
-fn show<R: Print>(rt: &R, bytes: usize, times: &Times) -> io::Result<()> {
-    println!(rt;
-        "{bytes} bytes, {} input tokens, {} steps, {} ERROR nodes",
-        times.tokens, times.steps, times.errors
-    )?;
-    println!(rt;
-        "lex {} us, to_input {} us, parse {} us, intersperse {} us",
-        times.lex, times.input, times.parse, times.sink
+const USAGE: &str = "usage: rast_speed EDITION ENTRY FILE\n";
+
+const UNREADABLE: &str = "rast_speed: cannot read the file\n";
+
+const NO_MEMORY: &str = "rast_speed: no memory\n";
+
+/// Tells a fault, and gives its status.
+fn fail<V: io::Write>(err: &mut V, message: &str) -> ExitCode
+    ensures { exit_status result ≡ 2 }
+{
+    ExitCode::from(tell(err, message))
+}
+
+/// The entry point with this name.
+fn entry_named(name: &str) -> Option<TopEntryPoint> {
+    match name {
+        "Expr" => Some(TopEntryPoint::Expr),
+        _ => None,
+    }
+}
+
+/// What is told where nothing was measured.
+fn failure_message(failure: &Failure) -> &'static str {
+    match failure {
+        Failure::Clock(_) => "rast_speed: cannot read the clock\n",
+        Failure::Lex(LexFault::TextTooLong) => "rast_speed: text too long\n",
+        Failure::Parse(ParseFault::TooManyTokens) => "rast_speed: too many tokens\n",
+        _ => NO_MEMORY,
+    }
+}
+
+/// The shortest times of all rounds.
+fn measure_rounds<R: Clock>(
+    rt: &R,
+    alloc: Global,
+    edition: Edition,
+    entry: TopEntryPoint,
+    text: &str,
+) -> Result<Times, Failure> {
+    let mut best = measure(rt, alloc, edition, entry, text)?;
+    for _ in 1..ROUNDS {
+        let next = measure(rt, alloc, edition, entry, text)?;
+        best = best.shortest(&next);
+    }
+    Ok(best)
+}
+
+/// The lines that show the times.
+fn lines(alloc: Global, bytes: usize, times: &Times) -> Result<String, AllocError> {
+    format!(in alloc;
+        "{bytes} bytes, {} input tokens, {} steps, {} ERROR nodes\nlex {} us, to_input {} us, parse {} us, intersperse {} us\n",
+        times.tokens, times.steps, times.errors, times.lex, times.input, times.parse, times.sink
     )
 }
 
+/// Writes the lines.
+fn write<W: io::Write>(out: &mut W, lines: &str) -> io::Result<()> {
+    out.write_all(lines.as_bytes())?;
+    out.flush()
+}
+
 fn main(rt: HostRuntime) -> ExitCode {
+    let mut err = rt.stderr();
     let Ok(mut args) = env::args(&rt) else {
-        return ExitCode::from(2);
+        return fail(&mut err, USAGE);
     };
     let _program = args.next();
-    let Some(edition) = args.next() else {
-        return match println!(rt; "usage: rast_speed EDITION FILE") {
-            Ok(()) => ExitCode::from(0),
-            Err(_) => ExitCode::from(2),
-        };
+    let (Some(edition), Some(entry), Some(file)) = (args.next(), args.next(), args.next()) else {
+        return fail(&mut err, USAGE);
     };
-    let Some(file) = args.next() else {
-        return ExitCode::from(2);
-    };
+    if args.next().is_some() {
+        return fail(&mut err, USAGE);
+    }
     let Ok(edition) = edition.as_str().parse::<Edition>() else {
-        return ExitCode::from(2);
+        return fail(&mut err, USAGE);
+    };
+    let Some(entry) = entry_named(entry.as_str()) else {
+        return fail(&mut err, USAGE);
     };
     let Ok(text) = fs::read_to_string(&rt, file.as_str()) else {
-        return ExitCode::from(2);
+        return fail(&mut err, UNREADABLE);
     };
     let alloc = rt.alloc();
-    let Ok(mut best) = measure(&rt, alloc, edition, text.as_str()) else {
-        return ExitCode::from(2);
+    let times = match measure_rounds(&rt, alloc, edition, entry, text.as_str()) {
+        Ok(times) => times,
+        Err(failure) => return fail(&mut err, failure_message(&failure)),
     };
-    for _ in 1..ROUNDS {
-        let Ok(next) = measure(&rt, alloc, edition, text.as_str()) else {
-            return ExitCode::from(2);
-        };
-        best = best.shortest(&next);
-    }
-    match show(&rt, text.len(), &best) {
+    let Ok(lines) = lines(alloc, text.len(), &times) else {
+        return fail(&mut err, NO_MEMORY);
+    };
+    match write(&mut rt.stdout(), lines.as_str()) {
         Ok(()) => ExitCode::from(0),
-        Err(_) => ExitCode::from(2),
+        Err(_) => fail(&mut err, "rast_speed: cannot write\n"),
     }
 }

@@ -98,6 +98,7 @@ pub fn measure<R: Clock>(
     rt: &R,
     alloc: Global,
     edition: Edition,
+    entry: TopEntryPoint,
     text: &str,
 ) -> Result<Times, Failure> {
     let start = Instant::now(rt)?;
@@ -107,7 +108,7 @@ pub fn measure<R: Clock>(
     let read = lexed.to_input(alloc, edition)?;
     let input = start.elapsed(rt)?.as_micros();
     let start = Instant::now(rt)?;
-    let output = TopEntryPoint::Expr.parse(alloc, &read)?;
+    let output = entry.parse(alloc, &read)?;
     let parse = start.elapsed(rt)?.as_micros();
     let mut counter = Counter {
         steps: 0,

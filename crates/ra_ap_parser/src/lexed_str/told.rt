@@ -64,7 +64,26 @@ pub fn last_message(alloc: Global, text: &str, remark: Remark) -> Result<Option<
 }
 
 /// Tells what is to be told of the token with this text. After an open string an unknown prefix has a note.
+#[inline(always)]
 pub fn tell(
+    alloc: Global,
+    errors: &mut Vec<LexError>,
+    token: u32,
+    text: &str,
+    remark: Remark,
+    after_open: bool,
+) -> Result<(), AllocError>
+    ensures { OnOk result (Adds (TellsOf after_open text.now remark) token errors.old.items errors.new.items) }
+{
+    match remark {
+        Remark::Nothing => Ok(()),
+        _ => tell_remark(alloc, errors, token, text, remark, after_open),
+    }
+}
+
+/// Tells what is to be told of the token with this text and this remark.
+#[inline(never)]
+fn tell_remark(
     alloc: Global,
     errors: &mut Vec<LexError>,
     token: u32,
@@ -245,6 +264,7 @@ fn last_place(byte: u8, text: &[u8]) -> usize
 }
 
 /// Whether the text looks as if its string went on too far.
+#[inline(never)]
 pub fn looks_open(text: &str) -> bool
     ensures { result ≡ looks_open text.now }
 {

@@ -4,7 +4,7 @@ ghost use Rattle.rap_lexer.specs.Comment.{line_kind, block_kind, IsLineComment, 
 
 use crate::lexer::cursor::Cursor;
 use crate::lexer::lexeme::{Lexeme, Remark};
-use crate::lexer::run::{Class, eat_run};
+use crate::lexer::run::{Class, eat_text};
 use rap_base::syntax_kind::SyntaxKind;
 
 /// Takes a line comment up to the next line feed.
@@ -12,7 +12,7 @@ pub fn line_comment(cursor: &mut Cursor<'_>) -> Lexeme
     ensures { IsLineComment cursor.old result cursor.new }
 {
     let kind = line_kind(cursor);
-    eat_run(cursor, Class::InLine);
+    eat_text(cursor, Class::InLine);
     Lexeme::plain(kind)
 }
 
@@ -64,6 +64,7 @@ fn eat_body(cursor: &mut Cursor<'_>) -> bool
     let _len = cursor.len();
     let mut depth: u64 = 1;
     'body: loop {
+        eat_text(cursor, Class::InBlock);
         if cursor.eat_pair('/', '*') {
             depth += 1;
         } else if cursor.eat_pair('*', '/') {

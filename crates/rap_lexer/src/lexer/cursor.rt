@@ -1,6 +1,6 @@
 //! A place in a text.
-ghost use Rattle.std.specs.Prelude.{◌≡◌, ◌≢◌, ◌≤◌, ◌++◌, MatchBool, ℕ, List, [], ◌∷◌, ◌<◌, ◌^◌, length, slice_get, MatchOption, encode_utf8_all};
-ghost use Rattle.std.specs.Str.{chars};
+ghost use Rattle.std.specs.Prelude.{◌≡◌, ◌≢◌, ◌≤◌, ◌++◌, MatchBool, ℕ, List, [], ◌∷◌, ◌<◌, ◌^◌, length, drop, slice_get, MatchOption, encode_utf8_all};
+ghost use Rattle.std.specs.Str.{chars, IsCharBoundary};
 ghost use Rattle.rap_lexer.specs.Run.{next_is, tail};
 
 use std::marker::Model;
@@ -61,6 +61,15 @@ impl<'a> Cursor<'a> {
         ensures { self.new ≡ tail self.old }
     {
         let _ = self.bump();
+    }
+
+    /// Takes the next `n` bytes, past which a character begins or the text ends.
+    #[inline(always)]
+    pub fn advance(&mut self, n: usize)
+        requires { IsCharBoundary (encode_utf8_all self.old) n }
+        ensures { self.new ≡ chars (drop n (encode_utf8_all self.old)) }
+    {
+        self.rest = &self.rest[n..];
     }
 
     /// The place after the next character.

@@ -7,10 +7,11 @@ ghost use Rattle.rap_lexer.specs.Run.{after_suffix};
 use crate::escape::Mode;
 use crate::lexer::cursor::Cursor;
 use crate::lexer::lexeme::{Lexeme, Remark};
-use crate::lexer::run::{Class, eat_run, eat_suffix, is_next_in};
+use crate::lexer::run::{Class, eat_run, eat_suffix, eat_text, is_next_in};
 use rap_base::syntax_kind::SyntaxKind;
 
 /// Takes a string whose opening quote is taken.
+#[inline(never)]
 pub fn string(cursor: &mut Cursor<'_>, kind: SyntaxKind, mode: Mode) -> Lexeme
     ensures { IsLiteral StringRun kind mode cursor.old result cursor.new }
 {
@@ -19,6 +20,7 @@ pub fn string(cursor: &mut Cursor<'_>, kind: SyntaxKind, mode: Mode) -> Lexeme
 }
 
 /// Takes a character or byte whose opening quote is taken.
+#[inline(never)]
 pub fn character(cursor: &mut Cursor<'_>, kind: SyntaxKind, mode: Mode) -> Lexeme
     ensures { IsLiteral CharacterEnds kind mode cursor.old result cursor.new }
 {
@@ -41,7 +43,11 @@ fn ended(cursor: &mut Cursor<'_>, kind: SyntaxKind, mode: Mode, closed: bool) ->
 fn eat_string(cursor: &mut Cursor<'_>) -> bool
     ensures { StringRun cursor.old result cursor.new }
 {
-    'body: while let Some(c) = cursor.bump() {
+    'body: loop {
+        eat_text(cursor, Class::InString);
+        let Some(c) = cursor.bump() else {
+            return false;
+        };
         if c == '"' {
             return true;
         }
@@ -49,7 +55,6 @@ fn eat_string(cursor: &mut Cursor<'_>) -> bool
             cursor.skip();
         }
     }
-    false
 }
 
 /// Whether the character takes the next one of a string along.
@@ -104,6 +109,7 @@ fn stops_at(c: char, cursor: &Cursor<'_>) -> bool
 }
 
 /// Takes what follows a quote: a lifetime or a character.
+#[inline(never)]
 pub fn tick(cursor: &mut Cursor<'_>) -> Lexeme
     ensures { IsTick cursor.old result cursor.new }
 {

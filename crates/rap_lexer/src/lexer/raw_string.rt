@@ -9,7 +9,7 @@ ghost use Rattle.rap_lexer.specs.declared.lexer.run.Class.TheVariants.{Hash};
 
 use crate::lexer::cursor::Cursor;
 use crate::lexer::lexeme::{Lexeme, Remark};
-use crate::lexer::run::eat_suffix;
+use crate::lexer::run::{Class, eat_suffix, eat_text};
 use rap_base::syntax_kind::SyntaxKind;
 
 /// Takes a raw string whose `r` is taken.
@@ -63,12 +63,15 @@ fn count_hashes(cursor: &mut Cursor<'_>) -> usize
 fn eat_raw(cursor: &mut Cursor<'_>, hashes: usize) -> bool
     ensures { RawRun hashes cursor.old result cursor.new }
 {
-    'body: while let Some(c) = cursor.bump() {
+    'body: loop {
+        eat_text(cursor, Class::InRawString);
+        let Some(c) = cursor.bump() else {
+            return false;
+        };
         if closes(c, cursor, hashes) {
             return true;
         }
     }
-    false
 }
 
 /// Takes so many `#`, if they stand next after a quote.

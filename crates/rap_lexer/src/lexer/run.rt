@@ -1,9 +1,11 @@
 //! Runs of characters of one class.
-ghost use Rattle.std.specs.Prelude.{◌≡◌};
-ghost use Rattle.rap_lexer.specs.Class.{is_hex_digit, is_in};
-ghost use Rattle.rap_lexer.specs.Run.{next_in, after_run, after_suffix};
+ghost use Rattle.std.specs.Prelude.{◌≡◌, ◌<◌, ◌≤◌, ℕ, false, length};
+ghost use Rattle.rap_lexer.specs.Class.{is_hex_digit, is_in, is_ascii_in};
+ghost use Rattle.rap_lexer.specs.Run.{next_in, run_of, after_run, after_suffix};
 
 use crate::lexer::cursor::Cursor;
+use crate::lexer::lanes::{white_run, word_run};
+use memchr::{memchr, memchr2};
 use rap_base::whitespace::is_rust_whitespace;
 
 /// A class of characters that the lexical rules name.
@@ -13,6 +15,12 @@ pub enum Class {
     White,
     /// All but the line feed.
     InLine,
+    /// All but the double quote and the backslash.
+    InString,
+    /// All but the double quote.
+    InRawString,
+    /// All but `/` and `*`.
+    InBlock,
     /// What an identifier begins with: `_` or XID_Start.
     IdentStart,
     /// What an identifier goes on with: XID_Continue.
@@ -34,12 +42,27 @@ pub enum Class {
 }
 
 /// Whether the character is in the class.
+#[inline(always)]
 pub fn is_in(class: Class, c: char) -> bool
+    ensures { result ≡ is_in class c }
+{
+    if c.is_ascii() {
+        is_ascii_in(class, c as u8)
+    } else {
+        is_any_in(class, c)
+    }
+}
+
+/// Whether the character is in the class, ASCII or not.
+fn is_any_in(class: Class, c: char) -> bool
     ensures { result ≡ is_in class c }
 {
     match class {
         Class::White => is_rust_whitespace(c),
         Class::InLine => c != '\n',
+        Class::InString => c != '"' && c != '\\',
+        Class::InRawString => c != '"',
+        Class::InBlock => c != '/' && c != '*',
         Class::IdentStart => c == '_' || unicode_ident::is_xid_start(c),
         Class::IdentContinue => unicode_ident::is_xid_continue(c),
         Class::Emoji => !c.is_ascii() && unicode::properties::is_emoji(c),
@@ -72,8 +95,104 @@ pub fn is_next_in(cursor: &Cursor<'_>, class: Class) -> bool
     }
 }
 
+/// Whether the byte is an ASCII character of the class.
+#[inline(always)]
+fn is_ascii_in(class: Class, b: u8) -> bool
+    ensures { result ≡ is_ascii_in class b }
+{
+    match class {
+        Class::White => matches!(b, 9..=13 | b' '),
+        Class::InLine => b < 0x80 && b != b'\n',
+        Class::InString => b < 0x80 && b != b'"' && b != b'\\',
+        Class::InRawString => b < 0x80 && b != b'"',
+        Class::InBlock => b < 0x80 && b != b'/' && b != b'*',
+        Class::IdentStart => (b == b'_') | b.is_ascii_alphabetic(),
+        Class::IdentContinue => (b == b'_') | b.is_ascii_alphanumeric(),
+        Class::InvalidContinue => (b == b'_') | b.is_ascii_alphanumeric(),
+        Class::Emoji => false,
+        Class::Digit => b.is_ascii_digit(),
+        Class::Underscore => b == b'_',
+        Class::DigitOrUnderscore => (b == b'_') | b.is_ascii_digit(),
+        Class::HexOrUnderscore => (b == b'_') | b.is_ascii_hexdigit(),
+        Class::Hash => b == b'#',
+    }
+}
+
+/// How many ASCII characters of the class stand first.
+#[inline(always)]
+fn ascii_run(bytes: &[u8], class: Class) -> usize
+    ensures { result ≡ length (run_of (is_ascii_in class) bytes.now) }
+{
+    match class {
+        Class::White => white_run(bytes),
+        Class::IdentContinue => word_run(bytes),
+        _ => byte_run(bytes, class),
+    }
+}
+
+/// How many ASCII characters of the class stand first.
+pub fn byte_run(bytes: &[u8], class: Class) -> usize
+    ensures run { result ≡ length (run_of (is_ascii_in class) bytes.now) }
+    ensures within { result ≤ length bytes.now }
+{
+    let mut n = 0usize;
+    'run: while n < bytes.len() && is_ascii_in(class, bytes[n]) {
+        n += 1;
+    }
+    n
+}
+
 /// Takes the characters of the class that stand next.
+#[inline(always)]
 pub fn eat_run(cursor: &mut Cursor<'_>, class: Class)
+    ensures { cursor.new ≡ after_run (is_in class) cursor.old }
+{
+    let bytes = cursor.as_str().as_bytes();
+    let n = ascii_run(bytes, class);
+    cursor.advance(n);
+    if n < bytes.len() && bytes[n] >= 0x80 {
+        eat_any(cursor, class);
+    }
+}
+
+/// How many bytes of the class stand first.
+#[inline(always)]
+fn text_run(bytes: &[u8], class: Class) -> usize
+    ensures { result ≡ length (run_of (is_in class) bytes.now) }
+{
+    match class {
+        Class::InLine => memchr(b'\n', bytes).unwrap_or(bytes.len()),
+        Class::InString => memchr2(b'"', b'\\', bytes).unwrap_or(bytes.len()),
+        Class::InRawString => memchr(b'"', bytes).unwrap_or(bytes.len()),
+        Class::InBlock => memchr2(b'/', b'*', bytes).unwrap_or(bytes.len()),
+        _ => any_run(bytes, class),
+    }
+}
+
+/// How many bytes of the class stand first.
+fn any_run(bytes: &[u8], class: Class) -> usize
+    ensures { result ≡ length (run_of (is_in class) bytes.now) }
+{
+    let mut n = 0usize;
+    'run: while n < bytes.len() && is_in(class, bytes[n] as char) {
+        n += 1;
+    }
+    n
+}
+
+/// Takes the characters of the class that stand next, where all but some ASCII characters are in it.
+#[inline(always)]
+pub fn eat_text(cursor: &mut Cursor<'_>, class: Class)
+    requires { (c : ℕ) → is_in class c ≡ false → c < 128 }
+    ensures { cursor.new ≡ after_run (is_in class) cursor.old }
+{
+    let n = text_run(cursor.as_str().as_bytes(), class);
+    cursor.advance(n);
+}
+
+/// Takes the characters of the class that stand next, one by one.
+#[inline(never)]
+fn eat_any(cursor: &mut Cursor<'_>, class: Class)
     ensures { cursor.new ≡ after_run (is_in class) cursor.old }
 {
     'run: while let Some(c) = cursor.first() {

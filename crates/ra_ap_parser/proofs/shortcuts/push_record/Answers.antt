@@ -3,7 +3,7 @@ use Rattle.ra_ap_parser.proofs.InputRecords.{contextual-token, with_last_joint-p
 use Rattle.ra_ap_parser.proofs.shortcuts.push_record.Goals as goal
 
 pub push_ident-requires : goal.push_ident-requires
-push_ident-requires c = rw (c.unwrap_or.ensures, c.from_contextual_keyword-keyword.ensures) (contextual-token c.text.result.now c.args.edition)
+push_ident-requires c = rw (c.unwrap_or.ensures, c.contextual_keyword-keyword.ensures) (contextual-token c.text.result.now c.args.edition)
 
 pub returns-then-is_joint : goal.returns-then-is_joint
 returns-then-is_joint c =

@@ -1,7 +1,7 @@
 use Rattle.std.proofs.Common.{◌∷◌, [], sym, ◌∙◌, refl}
 use Rattle.ra_ap_parser.specs.Told.{prefix_note}
 use Rattle.ra_ap_parser.proofs.Messages.{tells_other}
-use Rattle.ra_ap_parser.proofs.lexed_str.told.tell.Goals as goal
+use Rattle.ra_ap_parser.proofs.lexed_str.told.tell_remark.Goals as goal
 
 pub returns-then-has_note : goal.returns-then-has_note
 returns-then-has_note c =
