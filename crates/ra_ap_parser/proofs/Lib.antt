@@ -2,6 +2,7 @@ pub mod Covered
 pub mod Cuts
 pub mod Eating
 pub mod Emitted
+pub mod FloatTexts
 pub mod Fronts
 pub mod Handed
 pub mod InputRecords
