@@ -247,14 +247,14 @@ fn hand_out_dotted<S: StrSink>(number: &str, sink: &mut S) -> Result<(), S::Refu
     ensures { HandsOut S.takes S.refuses sink.old (dotted_steps number.now) result sink.new }
 {
     hand_out_number(number, sink)?;
-    let steps = [
+    let end = [
         StrStep::Exit,
         StrStep::Token {
             kind: SyntaxKind::DOT,
             text: ".",
         },
     ];
-    hand_out(&steps, sink)
+    hand_out(&end, sink)
 }
 
 /// Hands out an `ERROR` over a float without a dot, and the end of the node around it.
