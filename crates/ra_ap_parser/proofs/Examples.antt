@@ -16,7 +16,7 @@ use Rattle.rap_base.specs.NodeKind.{LITERAL, BIN_EXPR, REF_EXPR, PATH_EXPR, PATH
 use Rattle.rap_base.specs.TokenKind.{EOF, ERROR, IDENT, INT_NUMBER, WHITESPACE, PLUS, MINUS, AMP, AMP2, EQ, EQ2}
 use Rattle.rap_base.specs.declared.edition.Edition.TheVariants.{Edition2024}
 use Rattle.rap_events.specs.Cover.{covers}
-use Rattle.rap_events.specs.Forest.{Forest, none, node, leaf, mark, one_tree, used}
+use Rattle.rap_events.specs.Forest.{Forest, none, node, leaf, message, one_tree, used}
 use Rattle.rap_events.specs.Record.{Record}
 use Rattle.rap_lexer.specs.First.{First}
 use Rattle.rap_lexer.specs.Lexeme.{plain}
@@ -25,7 +25,7 @@ use Rattle.rap_lexer.specs.declared.lexer.lexeme.Remark.TheVariants.{Nothing}
 use Rattle.ra_ap_parser.specs.Front.{IsFront}
 use Rattle.ra_ap_parser.specs.Input.{records}
 use Rattle.ra_ap_parser.specs.LexedStr.{IsFirst, IsLexing, joined, start_of, token_at}
-use Rattle.ra_ap_parser.specs.StrForest.{StrForest, str_none, str_node, str_leaf, str_mark, str_joined, str_one_tree}
+use Rattle.ra_ap_parser.specs.StrForest.{StrForest, str_none, str_node, str_leaf, str_message, str_joined, str_one_tree}
 use Rattle.ra_ap_parser.specs.Token.{Token}
 use Rattle.ra_ap_parser.specs.Trivia.{with_trivia}
 use Rattle.ra_ap_parser.proofs.OpenStrings.{after_open, follows}
@@ -173,8 +173,8 @@ nothing_tokens = []
 
 nothing : Shown (codes "") nothing_tokens
     ([])
-    (node none ERROR (mark none (codes "expected expression")))
-    (str_node str_none ERROR (str_mark str_none (codes "expected expression") 0))
+    (node none ERROR (message none (codes "expected expression")))
+    (str_node str_none ERROR (str_message str_none (codes "expected expression") 0))
 nothing =
     (lexing nothing_tokens tt refl refl refl, refl, refl, refl, refl, refl, refl, refl)
 
@@ -196,8 +196,8 @@ no_operand_tokens = token INT_NUMBER (codes "2") ∷ space ∷ token PLUS (codes
 
 no_operand : Shown (codes "2 +") no_operand_tokens
     (apart INT_NUMBER ∷ apart PLUS ∷ [])
-    (node none BIN_EXPR (node (leaf (number none) PLUS 1) ERROR (mark none (codes "expected expression"))))
-    (str_node str_none BIN_EXPR (str_node (str_leaf (gap (str_number str_none (codes "2"))) PLUS (codes "+")) ERROR (str_mark str_none (codes "expected expression") 3)))
+    (node none BIN_EXPR (node (leaf (number none) PLUS 1) ERROR (message none (codes "expected expression"))))
+    (str_node str_none BIN_EXPR (str_node (str_leaf (gap (str_number str_none (codes "2"))) PLUS (codes "+")) ERROR (str_message str_none (codes "expected expression") 3)))
 unfolding unicode_ident
 no_operand =
     (lexing no_operand_tokens (refl, (refl, refl), (refl, (refl, refl), (refl, (refl, refl), tt))) refl refl refl, refl, refl, refl, refl, refl, refl, refl)
@@ -208,8 +208,8 @@ no_operand_after_space_tokens = token INT_NUMBER (codes "2") ∷ space ∷ token
 
 no_operand_after_space : Shown (codes "2 + ") no_operand_after_space_tokens
     (apart INT_NUMBER ∷ apart PLUS ∷ [])
-    (node none BIN_EXPR (node (leaf (number none) PLUS 1) ERROR (mark none (codes "expected expression"))))
-    (str_node str_none BIN_EXPR (str_node (gap (str_leaf (gap (str_number str_none (codes "2"))) PLUS (codes "+"))) ERROR (str_mark str_none (codes "expected expression") 4)))
+    (node none BIN_EXPR (node (leaf (number none) PLUS 1) ERROR (message none (codes "expected expression"))))
+    (str_node str_none BIN_EXPR (str_node (gap (str_leaf (gap (str_number str_none (codes "2"))) PLUS (codes "+"))) ERROR (str_message str_none (codes "expected expression") 4)))
 unfolding unicode_ident
 no_operand_after_space =
     (lexing no_operand_after_space_tokens (refl, (refl, refl), (refl, (refl, refl), (refl, (refl, refl), (refl, (refl, refl), tt)))) refl refl refl, refl, refl, refl, refl, refl, refl, refl)

@@ -1,13 +1,21 @@
 -- The texts of the leaves of the tree over a text, joined.
-use Rattle.std.proofs.Common.{◌≡◌, refl, sym, ◌∙◌, ap, List, [], ◌∷◌, ◌++◌, ℕ, ◌+◌, true, append_assoc, append-nil, take, drop, length, arith}
+use Rattle.std.specs.Prelude.{codes, if◌then◌else◌, slice_index}
+use Rattle.std.specs.List.{prefix_len, position_or_len, before_first, after_first}
+use Rattle.std.specs.Str.{byte}
+use Rattle.std.proofs.Common.{◌≡◌, refl, sym, ◌∙◌, ap, List, [], ◌∷◌, ◌++◌, ℕ, ◌+◌, ◌-◌, ◌<◌, Bool, true, false, append_assoc, append-nil, take, drop, length, get_or, arith}
 use Rattle.std.proofs.Math.Seq.{take-add}
-use Rattle.std.proofs.lemmas.List.{take_all}
-use Rattle.std.specs.List.{prefix_len}
-use Rattle.rap_events.specs.Forest.{Forest, none, node, leaf, mark, one_tree}
+use Rattle.std.proofs.lemmas.Bool.{eqb-true, ltb-true}
+use Rattle.std.proofs.lemmas.List.{take_all, take_more}
+use Rattle.std.proofs.lemmas.List.Sums.{split_at_first, passes_at_first}
+use Rattle.rap_base.specs.TokenKind.{DOT, ERROR, FLOAT_NUMBER}
+use Rattle.rap_events.specs.Forest.{Forest, none, node, leaf, message, split, split_ends, one_tree}
+use Rattle.rap_events.proofs.Trees.{Tree, nothing, a_node, a_leaf, a_message, dotted, apart}
+use Rattle.ra_ap_parser.specs.FloatParts.{is_dot, has_dot, without_dot, illegal, with_number}
+use Rattle.ra_ap_parser.specs.Input.{ends_with_dot}
 use Rattle.ra_ap_parser.specs.LexedStr.{Token, joined, start_of}
-use Rattle.ra_ap_parser.specs.StrForest.{StrForest, str_none, str_node, str_leaf, str_mark, str_joined, str_one_tree, with_leaves, with_mark}
+use Rattle.ra_ap_parser.specs.StrForest.{StrForest, str_none, str_node, str_leaf, str_message, str_joined, str_one_tree, with_leaves, with_message}
 use Rattle.ra_ap_parser.proofs.Tokens.{joined-append}
-use Rattle.ra_ap_parser.specs.Trivia.{is_trivial, trivia_at, past_trivia, text_of, end_of, placed, with_trivia}
+use Rattle.ra_ap_parser.specs.Trivia.{is_trivial, trivia_at, past_trivia, text_of, end_of, float_text, after_node, placed, with_trivia, LeavesTouch, TreeTouches}
 
 -- one front of the tokens, and the tokens after it
 pub joined-more : (ts : List Token) (at n : ℕ) → joined (take at ts) ++ joined (take n (drop at ts)) ≡ joined (take (at + n) ts)
@@ -17,62 +25,167 @@ str_joined-with_leaves : (ts : List Token) (g : StrForest) → str_joined (with_
 str_joined-with_leaves [] g = sym (append-nil (str_joined g))
 str_joined-with_leaves (t ∷ ts) g = str_joined-with_leaves ts (str_leaf g t.kind t.text) ∙ append_assoc (str_joined g) t.text (joined ts)
 
-str_joined-with_mark : (g : StrForest) (bytes : List ℕ) (pos : ℕ) → str_joined (with_mark g bytes pos) ≡ str_joined g
-str_joined-with_mark str_none bytes pos = refl
-str_joined-with_mark (str_node before kind children) bytes pos = refl
-str_joined-with_mark (str_leaf before kind text) bytes pos = refl
-str_joined-with_mark (str_mark before m p) bytes pos = refl
+str_joined-with_message : (g : StrForest) (bytes : List ℕ) (pos : ℕ) → str_joined (with_message g bytes pos) ≡ str_joined g
+str_joined-with_message str_none bytes pos = refl
+str_joined-with_message (str_node before kind children) bytes pos = refl
+str_joined-with_message (str_leaf before kind text) bytes pos = refl
+str_joined-with_message (str_message before m p) bytes pos = refl
 
 -- a forest with the trivia after it
-joined-trivia : (ts : List Token) (at e : ℕ) (g : StrForest) → joined (take at ts) ++ str_joined g ≡ joined (take e ts) → joined (take at ts) ++ str_joined (with_leaves g (trivia_at ts e)) ≡ joined (take (past_trivia ts e) ts)
-joined-trivia ts at e g h =
-    ap (λ l. joined (take at ts) ++ l) (str_joined-with_leaves (trivia_at ts e) g)
-    ∙ sym (append_assoc (joined (take at ts)) (str_joined g) (joined (trivia_at ts e)))
+joined-trivia : (ts : List Token) (pre : List ℕ) (e : ℕ) (g : StrForest) → pre ++ str_joined g ≡ joined (take e ts) → pre ++ str_joined (with_leaves g (trivia_at ts e)) ≡ joined (take (past_trivia ts e) ts)
+joined-trivia ts pre e g h =
+    ap (λ l. pre ++ l) (str_joined-with_leaves (trivia_at ts e) g)
+    ∙ sym (append_assoc pre (str_joined g) (joined (trivia_at ts e)))
     ∙ ap (λ l. l ++ joined (trivia_at ts e)) h
     ∙ joined-more ts e (prefix_len is_trivial (drop e ts))
 
--- a forest's leaves are the tokens up to its end
-pub joined-placed : (ts : List Token) (at : ℕ) (f : Forest) → joined (take at ts) ++ str_joined (placed ts at f) ≡ joined (take (end_of ts at f) ts)
-joined-placed ts at none = append-nil (joined (take at ts))
-joined-placed ts at (node before kind children) =
-    let e : ℕ = end_of ts at before in
-    let g : StrForest = with_leaves (placed ts at before) (trivia_at ts e) in
-    let inside : ℕ = past_trivia ts e in
-    sym (append_assoc (joined (take at ts)) (str_joined g) (str_joined (placed ts inside children)))
-    ∙ ap (λ l. l ++ str_joined (placed ts inside children)) (joined-trivia ts at e (placed ts at before) (joined-placed ts at before))
-    ∙ joined-placed ts inside children
-joined-placed ts at (leaf before kind width) =
-    let e : ℕ = end_of ts at before in
-    let g : StrForest = with_leaves (placed ts at before) (trivia_at ts e) in
-    let start : ℕ = past_trivia ts e in
-    sym (append_assoc (joined (take at ts)) (str_joined g) (text_of ts start width))
-    ∙ ap (λ l. l ++ text_of ts start width) (joined-trivia ts at e (placed ts at before) (joined-placed ts at before))
-    ∙ joined-more ts start width
-joined-placed ts at (mark before bytes) =
-    ap (λ l. joined (take at ts) ++ l) (str_joined-with_mark (placed ts at before) bytes (start_of ts (end_of ts at before)))
-    ∙ joined-placed ts at before
+-- nothing stands after a node over children without a float at their end
+pub after_node-plain : (ts : List Token) (at : ℕ) (x : Forest) (f : StrForest) → split_ends x ≡ 0 → after_node ts at x f ≡ f
+after_node-plain ts at none f h = refl
+after_node-plain ts at (node b k y) f h = refl
+after_node-plain ts at (leaf b k w) f h = refl
+after_node-plain ts at (message b m) f h = refl
+after_node-plain ts at (split b true) f h = absurd (omega arith)
+after_node-plain ts at (split b false) f h = absurd (omega arith)
+
+-- after a front of the tokens, the text of one more
+one-more : (ts : List Token) (front text : List ℕ) (p : ℕ) → front ≡ joined (take p ts) → text ≡ text_of ts p 1 → front ++ text ≡ joined (take (p + 1) ts)
+one-more ts front text p e t = ap (λ l. l ++ text) e ∙ ap (λ l. joined (take p ts) ++ l) t ∙ joined-more ts p 1
+
+-- the parts of a float are its text
+pub dot_text : (text : List ℕ) → ends_with_dot text ≡ true → without_dot text ++ codes "." ≡ text
+dot_text [] h = absurd cc
+dot_text (b ∷ bs) h =
+    let i : ℕ = length (b ∷ bs) - 1 in
+    let n : i + 1 ≡ length (b ∷ bs) = omega arith in
+    let last : slice_index (b ∷ bs) i ≡ byte "." = eqb-true (slice_index (b ∷ bs) i) (byte ".") h in
+    ap (λ c. take i (b ∷ bs) ++ c ∷ []) (sym last) ∙ sym (take_more (b ∷ bs) i _ (omega arith)) ∙ ap (λ m. take m (b ∷ bs)) n ∙ take_all (length (b ∷ bs)) (b ∷ bs) (omega arith)
+
+first_dot : (text : List ℕ) → has_dot text ≡ true → (before_first is_dot text ++ codes ".") ++ after_first is_dot text ≡ text
+first_dot text h =
+    let i : ℕ = position_or_len is_dot text in
+    let within : i < length text = ltb-true i (length text) h in
+    let here : get_or text i 0 ≡ byte "." = eqb-true (get_or text i 0) (byte ".") (passes_at_first is_dot text 0 within) in
+    append_assoc (before_first is_dot text) (codes ".") (after_first is_dot text)
+    ∙ ap (λ c. before_first is_dot text ++ c ∷ after_first is_dot text) (sym here)
+    ∙ sym (split_at_first is_dot text 0 within)
+
+apart_text : (v : Bool) (j : ℕ) (f g : StrForest) (text left right : List ℕ) (pos : ℕ) → (v ≡ true → (left ++ codes ".") ++ right ≡ text) →
+    str_joined (
+    if v then with_number (str_leaf (str_node f j (if v then with_number g left else str_node (str_message g illegal pos) ERROR (str_leaf str_none FLOAT_NUMBER text))) DOT (codes ".")) right
+    else str_node f j (if v then with_number g left else str_node (str_message g illegal pos) ERROR (str_leaf str_none FLOAT_NUMBER text))
+    ) ≡ (str_joined f ++ str_joined g) ++ text
+apart_text true j f g text left right pos h = rw (← h refl) (simp append_assoc)
+apart_text false j f g text left right pos h = simp append_assoc
+
+module _ (ts : List Token) where
+  -- a node begins, after a front of the tokens
+  joined-open : (pre : List ℕ) (front : StrForest) (p : ℕ) → pre ++ str_joined front ≡ joined (take p ts) → (pre ++ str_joined front) ++ str_joined str_none ≡ joined (take p ts)
+  joined-open pre front p h = append-nil (pre ++ str_joined front) ∙ h
+
+  -- a forest's leaves are the tokens up to its end
+  pub joined-placed : (pre : List ℕ) (at : ℕ) (start : StrForest) (f : Forest) → Tree f → LeavesTouch ts at f → pre ++ str_joined start ≡ joined (take at ts) →
+      pre ++ str_joined (placed ts at start f) ≡ joined (take (end_of ts at f) ts)
+  joined-placed pre at start none nothing l h = h
+  joined-placed pre at start (split b d) t l h = elim t [ ]
+  joined-placed pre at start (node b k x) (a_node t u z) l h =
+      let e : ℕ = end_of ts at b in
+      let inside : ℕ = past_trivia ts e in
+      let front : StrForest = with_leaves (placed ts at start b) (trivia_at ts e) in
+      let inner : StrForest = placed ts inside str_none x in
+      let begun : pre ++ str_joined front ≡ joined (take inside ts) = joined-trivia ts pre e (placed ts at start b) (joined-placed pre at start b t l.0 h) in
+      ap (λ g. pre ++ str_joined g) (after_node-plain ts inside x (str_node front k inner) z)
+      ∙ sym (append_assoc pre (str_joined front) (str_joined inner))
+      ∙ joined-placed (pre ++ str_joined front) inside str_none x u l.1 (joined-open pre front inside begun)
+  joined-placed pre at start (node b k (split y true)) (dotted t u) l h =
+      let e : ℕ = end_of ts at b in
+      let inside : ℕ = past_trivia ts e in
+      let front : StrForest = with_leaves (placed ts at start b) (trivia_at ts e) in
+      let begun : pre ++ str_joined front ≡ joined (take inside ts) = joined-trivia ts pre e (placed ts at start b) (joined-placed pre at start b t l.0 h) in
+      let d : ℕ = end_of ts inside y in
+      let g : StrForest = with_leaves (placed ts inside str_none y) (trivia_at ts d) in
+      let more : (pre ++ str_joined front) ++ str_joined g ≡ joined (take (past_trivia ts d) ts) =
+      joined-trivia ts (pre ++ str_joined front) d (placed ts inside str_none y) (joined-placed (pre ++ str_joined front) inside str_none y u l.1.0 (joined-open pre front inside begun)) in
+      let text : List ℕ = float_text ts inside y in
+      let parts : pre ++ ((str_joined front ++ (str_joined g ++ ([] ++ without_dot text))) ++ codes ".") ≡ ((pre ++ str_joined front) ++ str_joined g) ++ (without_dot text ++ codes ".") = simp append_assoc in
+      parts ∙ one-more ts ((pre ++ str_joined front) ++ str_joined g) (without_dot text ++ codes ".") (past_trivia ts d) more (dot_text text l.1.2)
+  joined-placed pre at start (node b k (node c j (split y false))) (apart t u v) l h =
+      let e : ℕ = end_of ts at b in
+      let inside : ℕ = past_trivia ts e in
+      let front : StrForest = with_leaves (placed ts at start b) (trivia_at ts e) in
+      let begun : pre ++ str_joined front ≡ joined (take inside ts) = joined-trivia ts pre e (placed ts at start b) (joined-placed pre at start b t l.0 h) in
+      let pre2 : List ℕ = pre ++ str_joined front in
+      let e2 : ℕ = end_of ts inside c in
+      let inside2 : ℕ = past_trivia ts e2 in
+      let front2 : StrForest = with_leaves (placed ts inside str_none c) (trivia_at ts e2) in
+      let begun2 : pre2 ++ str_joined front2 ≡ joined (take inside2 ts) = joined-trivia ts pre2 e2 (placed ts inside str_none c) (joined-placed pre2 inside str_none c u l.1.0 (joined-open pre front inside begun)) in
+      let d : ℕ = end_of ts inside2 y in
+      let g : StrForest = with_leaves (placed ts inside2 str_none y) (trivia_at ts d) in
+      let more : (pre2 ++ str_joined front2) ++ str_joined g ≡ joined (take (past_trivia ts d) ts) =
+      joined-trivia ts (pre2 ++ str_joined front2) d (placed ts inside2 str_none y) (joined-placed (pre2 ++ str_joined front2) inside2 str_none y v l.1.1.0 (joined-open pre2 front2 inside2 begun2)) in
+      let text : List ℕ = float_text ts inside2 y in
+      let pos : ℕ = start_of ts (past_trivia ts d) in
+      let parts : pre ++ (str_joined front ++ ((str_joined front2 ++ str_joined g) ++ text)) ≡ (((pre ++ str_joined front) ++ str_joined front2) ++ str_joined g) ++ text = simp append_assoc in
+      ap (λ w. pre ++ (str_joined front ++ w)) (apart_text (has_dot text) j front2 g text (before_first is_dot text) (after_first is_dot text) pos (first_dot text))
+      ∙ parts ∙ one-more ts ((pre2 ++ str_joined front2) ++ str_joined g) text (past_trivia ts d) more refl
+  joined-placed pre at start (leaf b k w) (a_leaf t) l h =
+      let e : ℕ = end_of ts at b in
+      let g : StrForest = with_leaves (placed ts at start b) (trivia_at ts e) in
+      let p : ℕ = past_trivia ts e in
+      sym (append_assoc pre (str_joined g) (text_of ts p w))
+      ∙ ap (λ m. m ++ text_of ts p w) (joined-trivia ts pre e (placed ts at start b) (joined-placed pre at start b t l.0 h))
+      ∙ joined-more ts p w
+  joined-placed pre at start (message b m) (a_message t) l h =
+      ap (λ w. pre ++ w) (str_joined-with_message (placed ts at start b) m (start_of ts (end_of ts at b)))
+      ∙ joined-placed pre at start b t l h
+
+  -- the same of a node that a float at its end ends, with the node around it
+  joined-half : (c : Forest) (j : ℕ) (y : Forest) → Tree c → Tree y → LeavesTouch ts 0 (node c j (split y false)) → str_joined (placed ts 0 str_none (node c j (split y false))) ≡ joined (take (end_of ts 0 (node c j (split y false))) ts)
+  joined-half c j y u v l =
+      let e : ℕ = end_of ts 0 c in
+      let inside : ℕ = past_trivia ts e in
+      let front : StrForest = with_leaves (placed ts 0 str_none c) (trivia_at ts e) in
+      let begun : [] ++ str_joined front ≡ joined (take inside ts) = joined-trivia ts [] e (placed ts 0 str_none c) (joined-placed [] 0 str_none c u l.0 refl) in
+      let d : ℕ = end_of ts inside y in
+      let g : StrForest = with_leaves (placed ts inside str_none y) (trivia_at ts d) in
+      let more : str_joined front ++ str_joined g ≡ joined (take (past_trivia ts d) ts) =
+      joined-trivia ts (str_joined front) d (placed ts inside str_none y) (joined-placed (str_joined front) inside str_none y v l.1.0 (joined-open [] front inside begun)) in
+      let text : List ℕ = float_text ts inside y in
+      apart_text (has_dot text) j front g text (before_first is_dot text) (after_first is_dot text) (start_of ts (past_trivia ts d)) (first_dot text)
+      ∙ one-more ts (str_joined front ++ str_joined g) text (past_trivia ts d) more refl
 
 -- where a tree ends, with the trivia that stand at the root's end
 abbrev pub tree_end : List Token → Forest → ℕ
 tree_end ts none = 0
 tree_end ts (node before kind children) = past_trivia ts (end_of ts 0 children)
 tree_end ts (leaf before kind width) = 0
-tree_end ts (mark before bytes) = 0
+tree_end ts (message before bytes) = 0
+tree_end ts (split before d) = 0
 
 -- a tree's leaves are the tokens up to its end
-pub joined-tree : (ts : List Token) (f : Forest) → str_joined (with_trivia ts f) ≡ joined (take (tree_end ts f) ts)
-joined-tree ts none = refl
-joined-tree ts (node before kind children) = joined-trivia ts 0 (end_of ts 0 children) (placed ts 0 children) (joined-placed ts 0 children)
-joined-tree ts (leaf before kind width) = refl
-joined-tree ts (mark before bytes) = refl
+pub joined-tree : (ts : List Token) (f : Forest) → one_tree f ≡ true → Tree f → TreeTouches ts f → str_joined (with_trivia ts f) ≡ joined (take (tree_end ts f) ts)
+joined-tree ts (node none k x) h (a_node t u z) l = joined-trivia ts [] (end_of ts 0 x) (placed ts 0 str_none x) (joined-placed ts [] 0 str_none x u l refl)
+joined-tree ts (node none k (split y true)) h (dotted t u) l = absurd cc
+joined-tree ts (node none k (node c j (split y false))) h (apart t u v) l =
+    let x : Forest = node c j (split y false) in
+    joined-trivia ts [] (end_of ts 0 x) (placed ts 0 str_none x) (joined-half ts c j y u v l)
+joined-tree ts (node (node f m y) k x) h t l = absurd cc
+joined-tree ts (node (leaf f m w) k x) h t l = absurd cc
+joined-tree ts (node (message f m) k x) h t l = absurd cc
+joined-tree ts (node (split f d) k x) h t l = absurd cc
+joined-tree ts none h t l = absurd cc
+joined-tree ts (leaf b k w) h t l = absurd cc
+joined-tree ts (message b m) h t l = absurd cc
+joined-tree ts (split b d) h t l = elim t [ ]
 
 -- a tree that ends at the text's end has the text
-pub joined-whole : (ts : List Token) (f : Forest) → length ts ≡ tree_end ts f → str_joined (with_trivia ts f) ≡ joined ts
-joined-whole ts f h = joined-tree ts f ∙ ap joined (ap (λ n. take n ts) (sym h) ∙ take_all (length ts) ts (omega arith))
+pub joined-whole : (ts : List Token) (f : Forest) → one_tree f ≡ true → Tree f → TreeTouches ts f → length ts ≡ tree_end ts f → str_joined (with_trivia ts f) ≡ joined ts
+joined-whole ts f h t l e = joined-tree ts f h t l ∙ ap joined (ap (λ n. take n ts) (sym e) ∙ take_all (length ts) ts (omega arith))
 
 -- it is one tree
 pub one-tree : (ts : List Token) (f : Forest) → one_tree f ≡ true → str_one_tree (with_trivia ts f) ≡ true
 one-tree ts none h = h
 one-tree ts (node before kind children) h = refl
 one-tree ts (leaf before kind width) h = h
-one-tree ts (mark before bytes) h = h
+one-tree ts (message before bytes) h = h
+one-tree ts (split before d) h = h

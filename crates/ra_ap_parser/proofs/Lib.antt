@@ -4,6 +4,7 @@ pub mod Cuts
 pub mod Eating
 pub mod Emitted
 pub mod Examples
+pub mod FloatTexts
 pub mod Fronts
 pub mod Handed
 pub mod InputRecords

@@ -1,5 +1,5 @@
 -- The records of tokens, and the tokens that a leaf stands for.
-use Rattle.std.proofs.Common.{◌≡◌, refl, sym, ◌∙◌, ap, subst, List, [], ◌∷◌, ℕ, ◌+◌, ◌<◌, ◌≤◌, inl, inr, zero, suc, Bool, true, false, not, ◌&&◌, ◌||◌, cond, length, drop, arith}
+use Rattle.std.proofs.Common.{◌≡◌, refl, sym, ◌∙◌, ap, subst, List, [], ◌∷◌, ℕ, ◌+◌, ◌<◌, ◌≤◌, inl, inr, zero, suc, Bool, true, false, not, ◌&&◌, ◌||◌, cond, length, drop, take, append-nil, arith}
 use Rattle.std.specs.Prelude.{◌==◌, nat_lt}
 use Rattle.std.specs.List.{prefix_len, list_all}
 use Rattle.std.proofs.lemmas.Bool.{and_parts, eqb-true, ltb-true, cond-true, cond-false, cases_Bool, or_parts, not-true, not_from_true, not_from_false}
@@ -9,8 +9,8 @@ use Rattle.rap_base.specs.TokenTests.{is_trivia}
 use Rattle.rap_base.specs.declared.edition.Edition.{Edition}
 use Rattle.rap_events.specs.Record.{Record}
 use Rattle.rap_events.specs.Composite.{composites, row_of, parts, begins_with}
-use Rattle.rap_events.specs.Cover.{first_may_bear, stands}
-use Rattle.ra_ap_parser.specs.LexedStr.{Token}
+use Rattle.rap_events.specs.Cover.{of_tokens, of_float, first_may_bear, first_splits, stands}
+use Rattle.ra_ap_parser.specs.LexedStr.{Token, joined}
 use Rattle.ra_ap_parser.specs.Input.{contextual_of, ends_with_dot, begins_touching, joint_of, records}
 use Rattle.ra_ap_parser.specs.Trivia.{is_trivial, is_significant, significant}
 
@@ -139,7 +139,7 @@ bears-one kind [] edition past h = cc h
 bears-one kind (t ∷ ts) edition past h = omega (arith, head-counts t ts past)
 
 -- so do the tokens of a leaf
-pub leaf-touches : (kind width : ℕ) (ts : List Token) (edition : Edition) → IsPast ts → stands (record { kind = kind; width = width }) (records ts edition) ≡ true → (0 < width) × (width ≤ prefix_len is_significant ts)
+pub leaf-touches : (kind width : ℕ) (ts : List Token) (edition : Edition) → IsPast ts → stands (of_tokens kind width) (records ts edition) ≡ true → (0 < width) × (width ≤ prefix_len is_significant ts)
 leaf-touches kind width ts edition past h =
     let one = first_may_bear (records ts edition) kind in
     let more = nat_lt 0 width && ((length (parts kind) == width) && begins_with (parts kind) (records ts edition)) in
@@ -164,3 +164,23 @@ length-records (t ∷ ts) edition =
       | inl e ↦ ap length (records-trivial t ts edition e) ∙ (length-records ts edition ∙ sym (significant-trivial t ts e))
       | inr e ↦ omega (arith, ap length (records-significant t ts edition e), length-records ts edition, significant-more t ts e)
     ]
+
+agree : (b d : Bool) → cond (not b) (not d) d ≡ true → b ≡ d
+agree true true h = refl
+agree true false h = absurd cc
+agree false true h = absurd cc
+agree false false h = refl
+
+joint-float : (t : Token) (ts : List Token) → t.kind ≡ FLOAT_NUMBER → joint_of t ts ≡ not (ends_with_dot t.text)
+joint-float t ts e = ap (λ k. cond (k == IDENT) false (cond (k == FLOAT_NUMBER) (not (ends_with_dot t.text)) (begins_touching ts))) e
+
+-- a float that is taken apart is one token, and ends in a dot exactly if its text does
+pub float-touches : (d : Bool) (ts : List Token) (edition : Edition) → IsPast ts → stands (of_float d) (records ts edition) ≡ true → (1 ≤ prefix_len is_significant ts) × (ends_with_dot (joined (take 1 ts)) ≡ d)
+float-touches d [] edition past h = cc h
+float-touches d (t ∷ ts) edition past h =
+    let splits : first_splits (record_of t ts edition ∷ records ts edition) d ≡ true = ap (λ rs. first_splits rs d) (sym (records-significant t ts edition past)) ∙ h in
+    let both = and_parts (t.kind == FLOAT_NUMBER) (cond (joint_of t ts) (not d) d) splits in
+    let joint : joint_of t ts ≡ not (ends_with_dot t.text) = joint-float t ts (eqb-true t.kind FLOAT_NUMBER both.0) in (
+      omega (arith, head-counts t ts past),
+      ap ends_with_dot (append-nil t.text) ∙ agree (ends_with_dot t.text) d (ap (λ b. cond b (not d) d) (sym joint) ∙ both.1),
+    )

@@ -3,9 +3,10 @@ use Rattle.std.proofs.Common.{◌≡◌, sym, ◌∙◌, ap, subst, List, [], �
 use Rattle.std.specs.Prelude.{IfOk, ◌↔◌}
 use Rattle.std.proofs.lemmas.Result.{IfOk-weaker}
 use Rattle.rap_base.specs.declared.edition.Edition.{Edition}
-use Rattle.rap_events.specs.StepValue.{StepValue, enter, exit, token, message}
+use Rattle.rap_events.specs.StepValue.{StepValue, enter, exit, token, float_split, error}
 use Rattle.rap_events.specs.Forest.{Forest, flat, used, one_tree}
 use Rattle.rap_events.specs.Cover.{covers}
+use Rattle.rap_events.proofs.Trees.{Tree}
 use Rattle.ra_ap_parser.specs.declared.shortcuts.builder.Builder.{Builder}
 use Rattle.ra_ap_parser.specs.declared.shortcuts.builder.State.{State}
 use Rattle.ra_ap_parser.specs.declared.shortcuts.builder.State.TheVariants.{PendingEnter, Normal, PendingExit}
@@ -36,16 +37,17 @@ place-within ts Normal at (enter kind) h c = past_trivia-within ts at h
 place-within ts PendingExit at (enter kind) h c = past_trivia-within ts at h
 place-within ts state at exit h c = h
 place-within ts state at (token kind width) h c = c.1
-place-within ts state at (message bytes) h c = h
+place-within ts state at (float_split d) h c = c.0
+place-within ts state at (error bytes) h c = h
 
 module _ {S : Type 0} (takes : S → StrStepValue → S → Type 0) (ts : List Token) (f : Forest) (s : S) where
-  pub stands-start : (b : Builder) (edition : Edition) → b.lexed.now.tokens ≡ ts → b.pos ≡ 0 → b.state ≡ PendingEnter → one_tree f ≡ true → covers (records ts edition) f ≡ true → Stands takes ts f s b (flat f) s
-  stands-start b edition same zero first tree front = record {
+  pub stands-start : (b : Builder) (edition : Edition) → b.lexed.now.tokens ≡ ts → b.pos ≡ 0 → b.state ≡ PendingEnter → one_tree f ≡ true → Tree f → covers (records ts edition) f ≡ true → Stands takes ts f s b (flat f) s
+  stands-start b edition same zero first tree shape front = record {
     same = same;
     within = omega arith;
-    fits = rw (zero, first) (fits-tree ts edition f tree front);
-    end = rw (zero, first) (ending-tree ts f tree);
-    so = rw (zero, first, emitted-tree ts f tree) (reached-none takes (str_flat (with_trivia ts f)) s);
+    fits = rw (zero, first) (fits-tree ts edition f tree shape front);
+    end = rw (zero, first) (ending-tree ts f tree shape);
+    so = rw (zero, first, emitted-tree ts f tree shape) (reached-none takes (str_flat (with_trivia ts f)) s);
   }
 
   module _ (b : Builder) (x : StepValue) (xs : List StepValue) (m : S) (h : Stands takes ts f s b (x ∷ xs) m) where
@@ -78,7 +80,7 @@ module _ {S : Type 0} (takes : S → StrStepValue → S → Type 0) (ts : List T
     stands-end = subst (λ (u : List Token). past_trivia u b.pos ≡ tree_end ts f) (sym h.same) h.end
 
 -- whether all tokens were handed out, by where the tree ends
-module _ {R : Type 0} (ts us : List Token) (f : Forest) (p : ℕ) (same : us ≡ ts) (end : p ≡ tree_end ts f) (answers : Answers ts f) (r : Result Bool R) (h : IfOk r (λ all. IsTrue all ↔ (p ≡ length us))) where
+module _ {R : Type 0} (ts us : List Token) (f : Forest) (tree : one_tree f ≡ true) (shape : Tree f) (p : ℕ) (same : us ≡ ts) (end : p ≡ tree_end ts f) (answers : Answers ts f) (r : Result Bool R) (h : IfOk r (λ all. IsTrue all ↔ (p ≡ length us))) where
   pub answer-used : IfOk r (λ all. IsTrue all ↔ (used f ≡ significant ts))
   answer-used = IfOk-weaker r (λ all. IsTrue all ↔ (p ≡ length us)) (λ all. IsTrue all ↔ (used f ≡ significant ts))
       (λ all k. (
@@ -88,4 +90,4 @@ module _ {R : Type 0} (ts us : List Token) (f : Forest) (p : ℕ) (same : us ≡
 
   pub answer-whole : IfOk r (λ all. IsTrue all → str_joined (with_trivia ts f) ≡ joined ts)
   answer-whole = IfOk-weaker r (λ all. IsTrue all ↔ (p ≡ length us)) (λ all. IsTrue all → str_joined (with_trivia ts f) ≡ joined ts)
-      (λ all k t. joined-whole ts f (sym (sym end ∙ k.0 t ∙ ap length same))) h
+      (λ all k t. joined-whole ts f tree shape answers.touch (sym (sym end ∙ k.0 t ∙ ap length same))) h

@@ -1,11 +1,16 @@
 -- What a builder hands out at a step of an output, and where it stands then.
-use Rattle.std.specs.Prelude.{ℕ, ◌+◌, ◌<◌, ◌≤◌, List, [], ◌∷◌, ◌++◌, length}
-use Rattle.rap_events.specs.StepValue.{StepValue, enter, exit, token, message}
+use Rattle.std.specs.Prelude.{ℕ, ◌+◌, ◌<◌, ◌≤◌, List, [], ◌∷◌, ◌++◌, Bool, true, false, length, codes, if◌then◌else◌, ◌≡◌}
+use Rattle.rap_events.specs.StepValue.{StepValue, enter, exit, token, float_split, error}
 use Rattle.ra_ap_parser.specs.declared.shortcuts.builder.State.{State}
 use Rattle.ra_ap_parser.specs.declared.shortcuts.builder.State.TheVariants.{PendingEnter, Normal, PendingExit}
 use Rattle.ra_ap_parser.specs.declared.shortcuts.builder.Builder.{Builder}
+use Rattle.std.specs.List.{before_first, after_first}
+use Rattle.rap_base.specs.TokenKind.{DOT, ERROR, FLOAT_NUMBER, INT_NUMBER}
+use Rattle.rap_base.specs.NodeKind.{NAME_REF}
+use Rattle.ra_ap_parser.specs.FloatParts.{is_dot, has_dot, without_dot, illegal}
+use Rattle.ra_ap_parser.specs.Input.{ends_with_dot}
 use Rattle.ra_ap_parser.specs.LexedStr.{Token, start_of}
-use Rattle.ra_ap_parser.specs.StrStep.{StrStepValue, str_enter, str_exit, str_token, str_message}
+use Rattle.ra_ap_parser.specs.StrStep.{StrStepValue, str_enter, str_exit, str_token, str_error}
 use Rattle.ra_ap_parser.specs.Trivia.{trivia_at, past_trivia, text_of}
 
 -- the step that waits
@@ -23,6 +28,31 @@ leaves_of (t ∷ ts) = str_token t.kind t.text ∷ leaves_of ts
 abbrev pub before_next : List Token → State → ℕ → List StrStepValue
 before_next ts state at = held state ++ leaves_of (trivia_at ts at)
 
+-- a number as the name of a field
+abbrev pub number_steps : List ℕ → List StrStepValue
+number_steps number = str_enter NAME_REF ∷ str_token INT_NUMBER number ∷ str_exit ∷ []
+
+-- the same, the end of the node around it, and the dot
+abbrev pub dotted_steps : List ℕ → List StrStepValue
+dotted_steps number = number_steps number ++ str_exit ∷ str_token DOT (codes ".") ∷ []
+
+-- a message, the float in an `ERROR`, and the end of the node around it
+abbrev pub illegal_steps : List ℕ → ℕ → List StrStepValue
+illegal_steps text pos =
+    str_error illegal pos ∷ str_enter ERROR ∷ str_token FLOAT_NUMBER text ∷ str_exit ∷ str_exit ∷ []
+
+-- what is handed out of a float that is taken apart
+abbrev pub float_steps : Bool → List ℕ → ℕ → List StrStepValue
+float_steps true text pos = dotted_steps (without_dot text)
+float_steps false text pos =
+    if has_dot text then dotted_steps (before_first is_dot text) ++ number_steps (after_first is_dot text)
+    else illegal_steps text pos
+
+-- what is handed out last, of a float: where it does not end in a dot, the end of the outer node waits
+abbrev pub after_float : Bool → State
+after_float true = Normal
+after_float false = PendingExit
+
 -- what is handed out at a step, from a place on
 abbrev pub made_of : List Token → State → ℕ → StepValue → List StrStepValue
 made_of ts PendingEnter at (enter kind) = str_enter kind ∷ []
@@ -31,14 +61,17 @@ made_of ts PendingExit at (enter kind) = before_next ts PendingExit at ++ str_en
 made_of ts state at exit = held state
 made_of ts state at (token kind width) =
     before_next ts state at ++ str_token kind (text_of ts (past_trivia ts at) width) ∷ []
-made_of ts state at (message bytes) = str_message bytes (start_of ts at) ∷ []
+made_of ts state at (float_split ends_in_dot) =
+    before_next ts state at ++ float_steps ends_in_dot (text_of ts (past_trivia ts at) 1) (start_of ts (past_trivia ts at))
+made_of ts state at (error bytes) = str_error bytes (start_of ts at) ∷ []
 
 -- what was handed out last, after a step
 abbrev pub state_after : State → StepValue → State
 state_after state (enter kind) = Normal
 state_after state exit = PendingExit
 state_after state (token kind width) = Normal
-state_after state (message bytes) = state
+state_after state (float_split ends_in_dot) = after_float ends_in_dot
+state_after state (error bytes) = state
 
 -- the place after a step
 abbrev pub place_after : List Token → State → ℕ → StepValue → ℕ
@@ -47,14 +80,17 @@ place_after ts Normal at (enter kind) = past_trivia ts at
 place_after ts PendingExit at (enter kind) = past_trivia ts at
 place_after ts state at exit = at
 place_after ts state at (token kind width) = past_trivia ts at + width
-place_after ts state at (message bytes) = at
+place_after ts state at (float_split ends_in_dot) = past_trivia ts at + 1
+place_after ts state at (error bytes) = at
 
--- a step can be handed out from a place on: the tokens of a leaf are there
+-- a step can be handed out from a place on: the tokens of a leaf are there, and a float with a dot at its end if it must
+-- have one
 abbrev pub CanMake : List Token → ℕ → StepValue → Type 0
 CanMake ts at (enter kind) = Unit {0}
 CanMake ts at exit = Unit {0}
 CanMake ts at (token kind width) = (0 < width) × (past_trivia ts at + width ≤ length ts)
-CanMake ts at (message bytes) = Unit {0}
+CanMake ts at (float_split ends_in_dot) = (past_trivia ts at + 1 ≤ length ts) × (ends_with_dot (text_of ts (past_trivia ts at) 1) ≡ ends_in_dot)
+CanMake ts at (error bytes) = Unit {0}
 
 -- what a builder hands out at a step
 abbrev pub made_by : Builder → StepValue → List StrStepValue

@@ -1,6 +1,7 @@
 pub mod About
 pub mod Builder
 pub mod Fault
+pub mod FloatParts
 pub mod Front
 pub mod Headline
 pub mod Input

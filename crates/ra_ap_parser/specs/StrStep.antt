@@ -9,11 +9,11 @@ pub data StrStepValue : Type 0 where
   str_enter : ℕ → StrStepValue
   str_exit : StrStepValue
   str_token : ℕ → List ℕ → StrStepValue
-  str_message : List ℕ → ℕ → StrStepValue
+  str_error : List ℕ → ℕ → StrStepValue
 
 -- the step that a sink is handed
 abbrev pub str_step_value : StrStep → StrStepValue
 str_step_value (Token kind text) = str_token kind text.now
 str_step_value (Enter kind) = str_enter kind
 str_step_value Exit = str_exit
-str_step_value (Error msg pos) = str_message msg.now pos
+str_step_value (Error msg pos) = str_error msg.now pos

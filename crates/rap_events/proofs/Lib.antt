@@ -14,6 +14,7 @@ pub mod Skips
 pub mod Splits
 pub mod StepLemmas
 pub mod TreeExamples
+pub mod Trees
 pub mod Truth
 pub mod Unwinding
 pub mod Values

@@ -4,7 +4,7 @@ use Rattle.rap_base.specs.Names.{name_of}
 use Rattle.rast_common.specs.Message.{message_line}
 use Rattle.rast_common.specs.Quote.{quoted}
 use Rattle.ra_ap_parser.specs.LexedStr.{Token, Message, start_of}
-use Rattle.ra_ap_parser.specs.StrStep.{StrStepValue, str_enter, str_exit, str_token, str_message}
+use Rattle.ra_ap_parser.specs.StrStep.{StrStepValue, str_enter, str_exit, str_token, str_error}
 
 -- two spaces for each open node
 abbrev pub indent : ℕ → List ℕ
@@ -16,14 +16,14 @@ abbrev pub line : ℕ → StrStepValue → List ℕ
 line depth (str_enter kind) = indent depth ++ (name_of kind ++ codes "\n")
 line depth (str_token kind text) = indent depth ++ (name_of kind ++ (codes " " ++ (quoted (chars text) ++ codes "\n")))
 line depth str_exit = []
-line depth (str_message text pos) = []
+line depth (str_error text pos) = []
 
 -- how many nodes are open after a step, as far as the machine counts
 abbrev pub depth_after : ℕ → StrStepValue → ℕ
 depth_after depth (str_enter kind) = min (depth + 1) (2 ^ 64 - 1)
 depth_after depth (str_token kind text) = depth
 depth_after depth str_exit = depth - 1
-depth_after depth (str_message text pos) = depth
+depth_after depth (str_error text pos) = depth
 
 -- the lines of a tree
 abbrev pub printed : ℕ → List StrStepValue → List ℕ
@@ -35,7 +35,7 @@ abbrev pub told_line : StrStepValue → List ℕ
 told_line (str_enter kind) = []
 told_line (str_token kind text) = []
 told_line str_exit = []
-told_line (str_message text pos) = message_line pos text
+told_line (str_error text pos) = message_line pos text
 
 -- the lines of a tree's messages
 abbrev pub told : List StrStepValue → List ℕ

@@ -1,9 +1,11 @@
 //! Trivia put between the steps of an output.
-ghost use Rattle.std.specs.Prelude.{◌≡◌, ◌+◌, ◌<◌, ◌≤◌, ◌↔◌, ◌∷◌, [], ◌++◌, length, IsTrue, IfOk, OnOk};
-ghost use Rattle.rap_events.specs.StepValue.{enter, exit, token};
+ghost use Rattle.std.specs.Prelude.{◌≡◌, ◌+◌, ◌<◌, ◌≤◌, ◌↔◌, ◌∷◌, [], ◌++◌, length, map, IsTrue, IfOk, OnOk};
+ghost use Rattle.rap_events.specs.StepValue.{enter, exit, token, float_split};
 ghost use Rattle.rap_events.specs.Step.{step_value};
 ghost use Rattle.ra_ap_parser.specs.StrSink.{HandsOut};
-ghost use Rattle.ra_ap_parser.specs.StrStep.{str_token};
+ghost use Rattle.ra_ap_parser.specs.Builder.{number_steps, dotted_steps, illegal_steps, float_steps, after_float};
+ghost use Rattle.ra_ap_parser.specs.Input.{ends_with_dot};
+ghost use Rattle.ra_ap_parser.specs.StrStep.{str_token, str_step_value};
 ghost use Rattle.ra_ap_parser.specs.Trivia.{trivia_at, past_trivia, text_of};
 
 use super::{StrSink, StrStep};
@@ -20,6 +22,19 @@ pub(super) enum State {
     Normal,
     /// The end of a node, which waits for the messages that follow it.
     PendingExit,
+}
+
+impl State {
+    /// What was handed out last, of a float.
+    fn after_float(ends_in_dot: bool) -> State
+        ensures { result ≡ after_float ends_in_dot }
+    {
+        if ends_in_dot {
+            State::Normal
+        } else {
+            State::PendingExit
+        }
+    }
 }
 
 /// Where the walk through an output stands: how many tokens of the text were handed out, and what came last.
@@ -59,6 +74,7 @@ impl<'a, 'text> Builder<'a, 'text> {
                 kind,
                 n_input_tokens,
             } => self.token(kind, n_input_tokens as usize, sink),
+            Step::FloatSplit { ends_in_dot } => self.float_split(ends_in_dot, sink),
             Step::Enter { kind } => self.enter(kind, sink),
             Step::Exit => self.exit(sink),
             Step::Error { msg } => {
@@ -82,16 +98,31 @@ impl<'a, 'text> Builder<'a, 'text> {
     fn token<S: StrSink>(
         &mut self,
         kind: SyntaxKind,
-        n_tokens: usize,
+        n_input_tokens: usize,
         sink: &mut S,
     ) -> Result<(), S::Refusal>
         requires within { self.old.pos ≤ length self.old.lexed.now.tokens }
-        requires can { CanMake self.old.lexed.now.tokens self.old.pos (token kind n_tokens) }
-        ensures steps { HandsOut S.takes S.refuses sink.old (made_by self.old (token kind n_tokens)) result sink.new }
-        ensures after { OnOk result (self.new ≡ moved self.old (token kind n_tokens)) }
+        requires can { CanMake self.old.lexed.now.tokens self.old.pos (token kind n_input_tokens) }
+        ensures steps { HandsOut S.takes S.refuses sink.old (made_by self.old (token kind n_input_tokens)) result sink.new }
+        ensures after { OnOk result (self.new ≡ moved self.old (token kind n_input_tokens)) }
     {
         self.settle(sink)?;
-        self.do_token(kind, n_tokens, sink)
+        self.do_token(kind, n_input_tokens, sink)
+    }
+
+    fn float_split<S: StrSink>(&mut self, ends_in_dot: bool, sink: &mut S) -> Result<(), S::Refusal>
+        requires within { self.old.pos ≤ length self.old.lexed.now.tokens }
+        requires can { CanMake self.old.lexed.now.tokens self.old.pos (float_split ends_in_dot) }
+        ensures steps { HandsOut S.takes S.refuses sink.old (made_by self.old (float_split ends_in_dot)) result sink.new }
+        ensures after { OnOk result (self.new ≡ moved self.old (float_split ends_in_dot)) }
+    {
+        self.settle(sink)?;
+        let _count = self.lexed.len();
+        let text = self.lexed.text(self.pos);
+        let start = self.lexed.text_start(self.pos);
+        self.pos += 1;
+        self.state = State::after_float(ends_in_dot);
+        hand_out_float(text, ends_in_dot, start, sink)
     }
 
     fn enter<S: StrSink>(&mut self, kind: SyntaxKind, sink: &mut S) -> Result<(), S::Refusal>
@@ -156,17 +187,115 @@ impl<'a, 'text> Builder<'a, 'text> {
     fn do_token<S: StrSink>(
         &mut self,
         kind: SyntaxKind,
-        n_tokens: usize,
+        n_input_tokens: usize,
         sink: &mut S,
     ) -> Result<(), S::Refusal>
-        requires some { 0 < n_tokens }
-        requires within { self.old.pos + n_tokens ≤ length self.old.lexed.now.tokens }
-        ensures steps { HandsOut S.takes S.refuses sink.old (str_token kind (text_of self.old.lexed.now.tokens self.old.pos n_tokens) ∷ []) result sink.new }
-        ensures after { OnOk result (self.new ≡ record self.old { pos = self.old.pos + n_tokens }) }
+        requires some { 0 < n_input_tokens }
+        requires within { self.old.pos + n_input_tokens ≤ length self.old.lexed.now.tokens }
+        ensures steps { HandsOut S.takes S.refuses sink.old (str_token kind (text_of self.old.lexed.now.tokens self.old.pos n_input_tokens) ∷ []) result sink.new }
+        ensures after { OnOk result (self.new ≡ record self.old { pos = self.old.pos + n_input_tokens }) }
     {
         let _count = self.lexed.len();
-        let text = self.lexed.range_text(self.pos..self.pos + n_tokens);
-        self.pos += n_tokens;
+        let text = self.lexed.range_text(self.pos..self.pos + n_input_tokens);
+        self.pos += n_input_tokens;
         sink.step(StrStep::Token { kind, text })
+    }
+}
+
+/// Hands out the parts of a float that a field access ends with, and the end of that access: its numbers are the names
+/// of fields. Where it does not end in a dot, the end of the access around it is not handed out yet.
+fn hand_out_float<S: StrSink>(
+    text: &str,
+    ends_in_dot: bool,
+    pos: usize,
+    sink: &mut S,
+) -> Result<(), S::Refusal>
+    requires { ends_with_dot text.now ≡ ends_in_dot }
+    ensures { HandsOut S.takes S.refuses sink.old (float_steps ends_in_dot text.now pos) result sink.new }
+{
+    if ends_in_dot {
+        return hand_out_dotted(text.strip_suffix('.').unwrap_or(text), sink);
+    }
+    match text.split_once('.') {
+        Some((left, right)) => {
+            hand_out_dotted(left, sink)?;
+            hand_out_number(right, sink)
+        }
+        None => hand_out_illegal(text, pos, sink),
+    }
+}
+
+/// Hands out a number as the name of a field.
+fn hand_out_number<S: StrSink>(number: &str, sink: &mut S) -> Result<(), S::Refusal>
+    ensures { HandsOut S.takes S.refuses sink.old (number_steps number.now) result sink.new }
+{
+    let steps = [
+        StrStep::Enter {
+            kind: SyntaxKind::NAME_REF,
+        },
+        StrStep::Token {
+            kind: SyntaxKind::INT_NUMBER,
+            text: number,
+        },
+        StrStep::Exit,
+    ];
+    hand_out(&steps, sink)
+}
+
+/// Hands out a number as the name of a field, the end of the node around it, and a dot.
+fn hand_out_dotted<S: StrSink>(number: &str, sink: &mut S) -> Result<(), S::Refusal>
+    ensures { HandsOut S.takes S.refuses sink.old (dotted_steps number.now) result sink.new }
+{
+    hand_out_number(number, sink)?;
+    let end = [
+        StrStep::Exit,
+        StrStep::Token {
+            kind: SyntaxKind::DOT,
+            text: ".",
+        },
+    ];
+    hand_out(&end, sink)
+}
+
+/// Hands out an `ERROR` over a float without a dot, and the end of the node around it.
+fn hand_out_illegal<S: StrSink>(text: &str, pos: usize, sink: &mut S) -> Result<(), S::Refusal>
+    ensures { HandsOut S.takes S.refuses sink.old (illegal_steps text.now pos) result sink.new }
+{
+    let steps = [
+        StrStep::Error {
+            msg: "illegal float literal",
+            pos,
+        },
+        StrStep::Enter {
+            kind: SyntaxKind::ERROR,
+        },
+        StrStep::Token {
+            kind: SyntaxKind::FLOAT_NUMBER,
+            text,
+        },
+        StrStep::Exit,
+        StrStep::Exit,
+    ];
+    hand_out(&steps, sink)
+}
+
+/// Hands out steps, one after another.
+fn hand_out<S: StrSink>(steps: &[StrStep<'_>], sink: &mut S) -> Result<(), S::Refusal>
+    ensures { HandsOut S.takes S.refuses sink.old (map str_step_value steps.now) result sink.new }
+{
+    'steps: for step in steps {
+        sink.step(copied(step))?;
+    }
+    Ok(())
+}
+
+fn copied<'a>(step: &StrStep<'a>) -> StrStep<'a>
+    ensures { str_step_value result ≡ str_step_value step.now }
+{
+    match step {
+        StrStep::Token { kind, text } => StrStep::Token { kind: *kind, text },
+        StrStep::Enter { kind } => StrStep::Enter { kind: *kind },
+        StrStep::Exit => StrStep::Exit,
+        StrStep::Error { msg, pos } => StrStep::Error { msg, pos: *pos },
     }
 }

@@ -3,8 +3,10 @@ use super::{StrSink, StrStep};
 use crate::lexed_str::LexedStr;
 use rap_base::edition::Edition;
 use rap_base::syntax_kind::SyntaxKind;
+use rap_events::output::wrap_in_node;
 use rap_events::parser::Parser;
 use std::alloc::{AllocError, Global};
+use std::fmt::Write;
 use std::test::Fail;
 
 #[derive(Drop, PartialEq, Debug)]
@@ -131,5 +133,78 @@ fn reads_contextual_keywords(rt: HostRuntime) -> Result<(), Fail> {
     let input = lexed.to_input(alloc, Edition::Edition2015)?;
     let parser = Parser::new(alloc, &input);
     assert!(rt; parser.at_contextual_kw(SyntaxKind::DYN_KW));
+    Ok(())
+}
+
+/// The steps in one line: a node as `KIND(..)`, a token by its kind and its text, a message with its place.
+fn line(alloc: Global, steps: &[Kept]) -> Result<String, AllocError> {
+    let mut line = String::new(alloc);
+    for step in steps {
+        match step {
+            Kept::Token { kind, text } => write!(line, "{}{text:?} ", kind.name())?,
+            Kept::Enter { kind } => write!(line, "{}( ", kind.name())?,
+            Kept::Exit => line.push_str(") ")?,
+            Kept::Error { msg, pos } => write!(line, "{pos}:{msg} ")?,
+        }
+    }
+    Ok(line)
+}
+
+/// The tree of a field access by a float, with a message after it, inside an `ERROR`.
+fn field_line(alloc: Global, text: &str) -> Result<String, Fail> {
+    let lexed = LexedStr::new(alloc, Edition::Edition2024, text)?;
+    let input = lexed.to_input(alloc, Edition::Edition2024)?;
+    let mut p = Parser::new(alloc, &input);
+    let m = p.start()?;
+    p.expect(SyntaxKind::IDENT)?;
+    p.expect(SyntaxKind::DOT)?;
+    if p.current() == SyntaxKind::FLOAT_NUMBER {
+        p.split_float(m)?;
+    } else {
+        m.abandon(&mut p)?;
+    }
+    p.error("m")?;
+    let output = p.process(alloc)?;
+    let tree = wrap_in_node(alloc, output, SyntaxKind::ERROR)?;
+    let mut sink = Keeper {
+        alloc,
+        kept: Vec::new(alloc),
+        left: 100,
+    };
+    let all = lexed
+        .intersperse_trivia(&tree, &mut sink)
+        .ok()
+        .ok_or("refused")?;
+    if !all {
+        return Err(Fail::from("left over"));
+    }
+    let line = line(alloc, &sink.kept)?;
+    Ok(line)
+}
+
+#[test]
+fn takes_a_float_apart(rt: HostRuntime) -> Result<(), Fail> {
+    let rows = [
+        (
+            "x.0.1 ",
+            "ERROR( FIELD_EXPR( FIELD_EXPR( IDENT\"x\" DOT\".\" NAME_REF( INT_NUMBER\"0\" ) ) DOT\".\" NAME_REF( INT_NUMBER\"1\" ) 5:m ) WHITESPACE\" \" ) ",
+        ),
+        (
+            "x . 1. ",
+            "ERROR( FIELD_EXPR( IDENT\"x\" WHITESPACE\" \" DOT\".\" WHITESPACE\" \" NAME_REF( INT_NUMBER\"1\" ) ) DOT\".\" 6:m WHITESPACE\" \" ) ",
+        ),
+        (
+            "é. 1e0",
+            "ERROR( FIELD_EXPR( FIELD_EXPR( IDENT\"é\" DOT\".\" WHITESPACE\" \" 4:illegal float literal ERROR( FLOAT_NUMBER\"1e0\" ) ) 7:m ) ) ",
+        ),
+        (
+            "x.1.0e1",
+            "ERROR( FIELD_EXPR( FIELD_EXPR( IDENT\"x\" DOT\".\" NAME_REF( INT_NUMBER\"1\" ) ) DOT\".\" NAME_REF( INT_NUMBER\"0e1\" ) 7:m ) ) ",
+        ),
+    ];
+    for (text, want) in rows {
+        let line = field_line(rt.alloc(), text)?;
+        assert_eq!(rt; line.as_str(), want);
+    }
     Ok(())
 }

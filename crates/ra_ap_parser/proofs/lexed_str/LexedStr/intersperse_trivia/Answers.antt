@@ -1,4 +1,5 @@
 use Rattle.std.proofs.Common.{ap}
+use Rattle.rap_events.proofs.Trees.{tree}
 use Rattle.ra_ap_parser.proofs.Covered.{answers-tree}
 use Rattle.ra_ap_parser.proofs.Handed.{hands-refused}
 use Rattle.ra_ap_parser.proofs.Walk.{stands-start, stands-more, stands-stops, stands-hands, stands-end, answer-used, answer-whole}
@@ -9,7 +10,7 @@ loop-step-init g c =
     rw (c.into_iter-step-iterator.ensures.into_iter_gives, c.iter-step-items.ensures.steps)
     (stands-start g.S.StrSink.takes c.args.self.now.tokens c.args.output.now c.args.sink.now c.new-builder.result c.requires.front.0
     (ap (λ b. b.lexed.now.tokens) c.new-builder.ensures) (ap (λ b. b.pos) c.new-builder.ensures) (ap (λ b. b.state) c.new-builder.ensures)
-    c.requires.tree c.requires.front.1)
+    c.requires.tree (tree c.args.output.now c.iter-step-items.ensures.splits) c.requires.front.1)
 
 pub loop-step-preserved : goal.loop-step-preserved
 loop-step-preserved g c =
@@ -33,7 +34,7 @@ returns-clause-steps g c =
 
 pub returns-clause-answer : goal.returns-clause-answer
 returns-clause-answer g c =
-    answer-used c.args.self.now.tokens _ c.args.output.now _ c.loop-step.invariant.same
+    answer-used c.args.self.now.tokens _ c.args.output.now c.requires.tree (tree c.args.output.now c.iter-step-items.ensures.splits) _ c.loop-step.invariant.same
     (stands-end g.S.StrSink.takes c.args.self.now.tokens c.args.output.now c.args.sink.now c.loop-step.builder c.loop-step.sink (rw c.in-None.ensures.steps.0 at c.loop-step.invariant))
     (answers-tree c.args.self.now.tokens c.requires.front.0 c.args.output.now c.requires.tree c.requires.front.1) c.finish.result c.finish.ensures.answer
 
@@ -42,6 +43,6 @@ returns-clause-touching g c = (answers-tree c.args.self.now.tokens c.requires.fr
 
 pub returns-clause-whole : goal.returns-clause-whole
 returns-clause-whole g c =
-    answer-whole c.args.self.now.tokens _ c.args.output.now _ c.loop-step.invariant.same
+    answer-whole c.args.self.now.tokens _ c.args.output.now c.requires.tree (tree c.args.output.now c.iter-step-items.ensures.splits) _ c.loop-step.invariant.same
     (stands-end g.S.StrSink.takes c.args.self.now.tokens c.args.output.now c.args.sink.now c.loop-step.builder c.loop-step.sink (rw c.in-None.ensures.steps.0 at c.loop-step.invariant))
     (answers-tree c.args.self.now.tokens c.requires.front.0 c.args.output.now c.requires.tree c.requires.front.1) c.finish.result c.finish.ensures.answer
