@@ -21,9 +21,9 @@ parsed text edition lexed input f small lexing e few tree one = record {
   lexing = lexing;
   few_tokens = subst (λ (rs : List Record). length rs ≤ 8388607) e (at_most 8388607 (length input) few);
   one = tree.one;
-  covering = subst (λ (rs : List Record). covers rs f ≡ true) e tree.covers;
-  all_used = tree.used ∙ ap length e;
-  few_steps = subst (λ (rs : List Record). length (flat f) ≤ 256 * (length rs + 1)) e tree.few;
+  covering = subst (λ (rs : List Record). covers rs f ≡ true) e tree.forest.covers;
+  all_used = tree.forest.used ∙ ap length e;
+  few_steps = subst (λ (rs : List Record). length (flat f) ≤ 256 * (length rs + 1)) e tree.forest.few;
   str_one = one;
 }
 

@@ -1,5 +1,6 @@
 pub mod About
 pub mod Builder
+pub mod EntryScript
 pub mod Fault
 pub mod FloatParts
 pub mod Front
