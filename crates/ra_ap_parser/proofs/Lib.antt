@@ -1,3 +1,4 @@
+pub mod Bodies
 pub mod ContextualWords
 pub mod Covered
 pub mod Cuts
@@ -13,7 +14,6 @@ pub mod Messages
 pub mod OneLexing
 pub mod OpenStrings
 pub mod Parsed
-pub mod Places
 pub mod Records
 pub mod Tells
 pub mod Tokens

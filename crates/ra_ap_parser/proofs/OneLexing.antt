@@ -10,6 +10,7 @@ use Rattle.rap_base.specs.declared.edition.Edition.{Edition}
 use Rattle.rap_lexer.proofs.EscapeWalks.{told_is}
 use Rattle.rap_lexer.proofs.OneToken.{one_token}
 use Rattle.rap_lexer.specs.Escape.{message}
+use Rattle.rap_lexer.specs.EscapeWalk.{faults}
 use Rattle.rap_lexer.specs.First.{First}
 use Rattle.rap_lexer.specs.Lexeme.{told}
 use Rattle.rap_lexer.specs.declared.escape.Mode.{Mode}
@@ -19,6 +20,7 @@ use Rattle.rap_script.proofs.ScriptAnswers.{only_script}
 use Rattle.rap_script.specs.OneAnswer.{IsOnlyScript}
 use Rattle.rap_script.proofs.ScriptOnce.{line_once}
 use Rattle.rap_script.specs.Script.{Script, IsScript, HasLine}
+use Rattle.ra_ap_parser.proofs.Bodies.{body_once}
 use Rattle.ra_ap_parser.proofs.Messages.{messages_of-past}
 use Rattle.ra_ap_parser.proofs.OpenStrings.{same_note}
 use Rattle.ra_ap_parser.proofs.Tokens.{joined-append, joined-from_start}
@@ -26,7 +28,7 @@ use Rattle.ra_ap_parser.specs.Front.{Leads, IsShebangLine, IsFront, is_passed, p
 use Rattle.ra_ap_parser.specs.Front.Leads.{nothing, token, past}
 use Rattle.ra_ap_parser.specs.LexedStr.{Token, Message, Lexed, IsLexing, IsFirst, AreInOrder, FollowsOpen, joined, start_of, token_at, messages_of}
 use Rattle.ra_ap_parser.specs.OneLexing.{IsOnlyLexing}
-use Rattle.ra_ap_parser.specs.Told.{TellsOf, TellsFaults, body_of, checked_mode}
+use Rattle.ra_ap_parser.specs.Told.{TellsOf, TellsFaults, IsBody, checked_mode}
 
 -- ---- What stands before the first token
 
@@ -146,12 +148,12 @@ module _ (text : List ℕ) (edition : Edition) (utf8 : IsUtf8 text) (lexed : Lex
 tells_once : (note : Bool) (text : List ℕ) (remark : Remark) (ms ns : List (List ℕ)) → TellsOf note text remark ms → TellsOf note text remark ns → ms ≡ ns
 tells_once note text remark ms ns h k = by_mode (checked_mode remark) _ h k
   where
-    by_mode : (o : Option Mode) (x : List (List ℕ)) → MatchOption o (ms ≡ x) (λ mode. TellsFaults mode (body_of mode text) ms) → MatchOption o (ns ≡ x) (λ mode. TellsFaults mode (body_of mode text) ns) → ms ≡ ns
+    by_mode : (o : Option Mode) (x : List (List ℕ)) → MatchOption o (ms ≡ x) (λ mode. (body : List ℕ) × IsBody mode text body × TellsFaults mode body ms) → MatchOption o (ns ≡ x) (λ mode. (body : List ℕ) × IsBody mode text body × TellsFaults mode body ns) → ms ≡ ns
     by_mode None x h k = h ∙ sym k
     by_mode (Some mode) x h k =
-        let body = chars (body_of mode text) in
-        let same : h.0 ≡ k.0 = told_is mode body h.0 h.1 ∙ sym (told_is mode body k.0 k.1) in
-        h.2 ∙ (ap (λ faults. map (λ fault. message fault mode) faults) same ∙ sym k.2)
+        let body : h.0 ≡ k.0 = body_once mode text h.0 k.0 h.1 k.1 in
+        let same : h.2.0 ≡ k.2.0 = told_is mode (chars h.0) h.2.0 h.2.1 ∙ (ap (λ b. faults mode (chars b)) body ∙ sym (told_is mode (chars k.0) k.2.0 k.2.1)) in
+        h.2.2 ∙ (ap (λ l. map (λ fault. message fault mode) l) same ∙ sym k.2.2)
 
 first_once : (edition : Edition) (note : Bool) (text : List ℕ) (t : Token) (rest : List ℕ) (ms ns : List (List ℕ)) → IsFirst edition note text t rest ms → IsFirst edition note text t rest ns → ms ≡ ns
 first_once edition note text t rest ms ns h k =

@@ -11,7 +11,8 @@ use Rattle.rap_lexer.specs.declared.escape.Fault.TheVariants.{ZeroChars, MoreTha
 use Rattle.rap_lexer.specs.declared.escape.Mode.{Mode}
 use Rattle.rap_lexer.specs.declared.escape.Mode.TheVariants.{Char, Byte, Str, ByteStr, CStr}
 use Rattle.rap_lexer.specs.declared.lexer.lexeme.Remark.{Remark}
-use Rattle.ra_ap_parser.specs.Told.{checked_mode, has_note, prefix_note, fixed_message, body_of, TellsOf, TellsFaults}
+use Rattle.ra_ap_parser.proofs.Bodies.{some_body}
+use Rattle.ra_ap_parser.specs.Told.{checked_mode, has_note, prefix_note, fixed_message, IsBody, TellsOf, TellsFaults}
 
 -- a body that begins with a character is read in some way
 some_character : (mode : Mode) (c : ℕ) (cs : List ℕ) → (outcome : Result ℕ Fault) × (rest : List ℕ) × Character mode (c ∷ cs) outcome rest
@@ -48,6 +49,6 @@ some_faults CStr body = of_string CStr body
 pub some_messages : (note : Bool) (text : List ℕ) (remark : Remark) → (ms : List (List ℕ)) × TellsOf note text remark ms
 some_messages note text remark = by_mode (checked_mode remark)
   where
-    by_mode : (o : Option Mode) → (ms : List (List ℕ)) × MatchOption o (ms ≡ (if has_note note remark then prefix_note text ∷ [] else option_to_list (fixed_message remark))) (λ mode. TellsFaults mode (body_of mode text) ms)
+    by_mode : (o : Option Mode) → (ms : List (List ℕ)) × MatchOption o (ms ≡ (if has_note note remark then prefix_note text ∷ [] else option_to_list (fixed_message remark))) (λ mode. (body : List ℕ) × IsBody mode text body × TellsFaults mode body ms)
     by_mode None = (_, refl)
-    by_mode (Some mode) = let f = some_faults mode (chars (body_of mode text)) in (map (λ fault. message fault mode) f.0, (f.0, f.1, refl))
+    by_mode (Some mode) = let b = some_body mode text in let f = some_faults mode (chars b.0) in (map (λ fault. message fault mode) f.0, (b.0, b.1, (f.0, f.1, refl)))

@@ -1,5 +1,5 @@
 -- What the lexer tells of a token.
-use Rattle.std.specs.Prelude.{◌≡◌, ℕ, zero, suc, ◌+◌, Bool, false, ◌&&◌, ◌||◌, ◌==◌, Option, Some, None, option_to_list, MatchOption, List, [], ◌∷◌, ◌++◌, length, map, chars, codes, slice_index, slice_range, if◌then◌else◌}
+use Rattle.std.specs.Prelude.{◌≡◌, ◌≢◌, ◌⊎◌, ℕ, All, Bool, false, ◌&&◌, ◌||◌, ◌==◌, Option, Some, None, option_to_list, MatchOption, List, [], ◌∷◌, ◌++◌, map, chars, codes, if◌then◌else◌}
 use Rattle.std.specs.Str.{byte}
 use Rattle.rap_lexer.specs.Escape.{Tells, message}
 use Rattle.rap_lexer.specs.Run.{next_is}
@@ -17,20 +17,18 @@ quote_of Str = byte "\""
 quote_of ByteStr = byte "\""
 quote_of CStr = byte "\""
 
--- where the first of these bytes stands, or the text's length
-abbrev pub first_place : ℕ → List ℕ → ℕ
-first_place b [] = 0
-first_place b (c ∷ cs) = if c == b then 0 else first_place b cs + 1
+-- the body stands between the first of these quotes and the last one
+pub record IsBetween (quote : ℕ) (text body : List ℕ) : Type 0 where
+  pub before : List ℕ
+  pub after : List ℕ
+  pub split : text ≡ before ++ quote ∷ (body ++ quote ∷ after)
+  pub first : All (λ b. b ≢ quote) before
+  pub last : All (λ b. b ≢ quote) after
 
--- where the last of these bytes stands among the first `n`, or 0
-abbrev pub last_place : ℕ → List ℕ → ℕ → ℕ
-last_place b text zero = 0
-last_place b text (suc n) = if slice_index text n == b then n else last_place b text n
-
--- the text between the opening quote and the last quote
-abbrev pub body_of : Mode → List ℕ → List ℕ
-body_of mode text =
-    slice_range text (first_place (quote_of mode) text + 1) (last_place (quote_of mode) text (length text))
+-- the body of a literal with this text; where no two quotes stand in it, nothing
+abbrev pub IsBody : Mode → List ℕ → List ℕ → Type 0
+IsBody mode text body =
+    IsBetween (quote_of mode) text body ⊎ ((body ≡ []) × ((other : List ℕ) → ¬ IsBetween (quote_of mode) text other))
 
 -- what is told of a literal without a closing quote
 abbrev pub unterminated : Mode → List ℕ
@@ -93,4 +91,4 @@ abbrev pub TellsOf : Bool → List ℕ → Remark → List (List ℕ) → Type 0
 TellsOf after_open text remark ms =
     MatchOption (checked_mode remark)
     (ms ≡ (if has_note after_open remark then prefix_note text ∷ [] else option_to_list (fixed_message remark)))
-    (λ mode. TellsFaults mode (body_of mode text) ms)
+    (λ mode. (body : List ℕ) × IsBody mode text body × TellsFaults mode body ms)

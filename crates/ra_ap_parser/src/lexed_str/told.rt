@@ -2,7 +2,7 @@
 ghost use Rattle.std.specs.Prelude.{◌≡◌, ◌++◌, ◌∷◌, [], ℕ, List, IfOk, OnOk, map, length, string_bytes, option_to_list};
 ghost use Rattle.std.specs.Option.{option_copied, option_map};
 ghost use Rattle.ra_ap_parser.specs.SingleToken.{TellsLast};
-ghost use Rattle.ra_ap_parser.specs.Told.{TellsFaults, checked_mode, has_note, first_place, quote_of, last_place, body_of, fixed_message, unterminated, holds, holds_pair, looks_open, prefix_note, TellsOf};
+ghost use Rattle.ra_ap_parser.specs.Told.{TellsFaults, checked_mode, has_note, quote_of, IsBody, fixed_message, unterminated, holds, holds_pair, looks_open, prefix_note, TellsOf};
 ghost use Rattle.ra_ap_parser.specs.About.{about, Adds};
 
 use rap_lexer::escape::{Faults, Mode};
@@ -215,12 +215,15 @@ fn unterminated(mode: Mode) -> &'static str
 
 /// What stands between the opening quote of a literal and its last quote.
 fn body(mode: Mode, text: &str) -> &str
-    ensures { result.now ≡ body_of mode text.now }
+    ensures { IsBody mode text.now result.now }
 {
     let quote = quote_of(mode);
-    let bytes = text.as_bytes();
-    let end = last_place(quote, bytes);
-    let opening = first_place(quote, bytes);
+    let Some(opening) = text.find(quote) else {
+        return "";
+    };
+    let Some(end) = text.rfind(quote) else {
+        return "";
+    };
     if opening < end {
         &text[opening + 1..end]
     } else {
@@ -228,39 +231,13 @@ fn body(mode: Mode, text: &str) -> &str
     }
 }
 
-/// Where the byte stands first, or the text's length.
-fn first_place(byte: u8, text: &[u8]) -> usize
-    ensures { result ≡ first_place byte text.now }
-{
-    for (i, &next) in text.iter().enumerate() {
-        if next == byte {
-            return i;
-        }
-    }
-    text.len()
-}
-
-fn quote_of(mode: Mode) -> u8
+fn quote_of(mode: Mode) -> char
     ensures { result ≡ quote_of mode }
 {
     match mode {
-        Mode::Char | Mode::Byte => b'\'',
-        Mode::Str | Mode::ByteStr | Mode::CStr => b'"',
+        Mode::Char | Mode::Byte => '\'',
+        Mode::Str | Mode::ByteStr | Mode::CStr => '"',
     }
-}
-
-/// Where the byte stands last, or 0.
-fn last_place(byte: u8, text: &[u8]) -> usize
-    ensures { result ≡ last_place byte text.now (length text.now) }
-{
-    let mut end = text.len();
-    'back: while end > 0 {
-        end -= 1;
-        if text[end] == byte {
-            return end;
-        }
-    }
-    0
 }
 
 /// Whether the text looks as if its string went on too far.

@@ -1,9 +1,9 @@
-use Rattle.std.proofs.Common.{◌≡◌, ◌<◌, ◌+◌, ℕ, length, IsCharBoundary, arith, sym, subst}
-use Rattle.std.proofs.lemmas.Str.{IsCharBoundary-after_ascii, IsCharBoundary-before_ascii}
+use Rattle.std.proofs.Common.{◌<◌, ℕ, List, Some, None, inl, inr, refl, sym, subst, arith}
+use Rattle.std.proofs.lemmas.Str.Pattern.{find_char, rfind_char}
 use Rattle.rap_lexer.specs.declared.escape.Mode.{Mode}
 use Rattle.rap_lexer.specs.declared.escape.Mode.TheVariants.{Char, Byte, Str, ByteStr, CStr}
-use Rattle.ra_ap_parser.specs.Told.{quote_of, first_place, last_place}
-use Rattle.ra_ap_parser.proofs.Places.{first_is, last_is, last_below, last_within}
+use Rattle.ra_ap_parser.specs.Told.{quote_of, IsBetween}
+use Rattle.ra_ap_parser.proofs.Bodies.{no_quote, one_quote, two_quotes}
 use Rattle.ra_ap_parser.proofs.lexed_str.told.body.Goals as goal
 
 ascii : (mode : Mode) → quote_of mode < 128
@@ -13,22 +13,30 @@ ascii Str = omega arith
 ascii ByteStr = omega arith
 ascii CStr = omega arith
 
-pub range-requires-clause-start_boundary : goal.range-requires-clause-start_boundary
-range-requires-clause-start_boundary c =
-    let text = c.args.text.now in
+pub returns-in_default : goal.returns-in_default
+returns-in_default c =
     let q = quote_of c.args.mode in
-    let first : c.first_place-opening.result ≡ first_place q text = rw (c.quote_of-quote.ensures, c.as_bytes-bytes.ensures.value) at c.first_place-opening.ensures in
-    let last : c.last_place-end.result ≡ last_place q text (length text) = rw (c.quote_of-quote.ensures, c.as_bytes-bytes.ensures.value) at c.last_place-end.ensures in
-    let some : 0 < length text = omega (arith, last, last_within q text (length text)) in
-    let inside : first_place q text < length text = omega (arith, first, last, last_below q text (length text) some) in
-    λ _. subst (λ (i : ℕ). IsCharBoundary text (i + 1)) (sym first) (IsCharBoundary-after_ascii text (first_place q text) c.utf8.text inside (omega (arith, first_is q text inside, ascii c.args.mode)))
+    let first = find_char q c.args.text.now None (rw c.quote_of-quote.ensures at c.in_default.ensures.cases) (ascii c.args.mode) in
+    inr (refl, no_quote q c.args.text.now first)
 
-pub range-requires-clause-end_boundary : goal.range-requires-clause-end_boundary
-range-requires-clause-end_boundary c =
-    let text = c.args.text.now in
+pub returns-in_default-rfind : goal.returns-in_default-rfind
+returns-in_default-rfind c =
     let q = quote_of c.args.mode in
-    let first : c.first_place-opening.result ≡ first_place q text = rw (c.quote_of-quote.ensures, c.as_bytes-bytes.ensures.value) at c.first_place-opening.ensures in
-    let last : c.last_place-end.result ≡ last_place q text (length text) = rw (c.quote_of-quote.ensures, c.as_bytes-bytes.ensures.value) at c.last_place-end.ensures in
-    let some : 0 < length text = omega (arith, last, last_within q text (length text)) in
-    let inside : last_place q text (length text) < length text = last_below q text (length text) some in
-    subst (λ (i : ℕ). IsCharBoundary text i) (sym last) (IsCharBoundary-before_ascii text (last_place q text (length text)) inside (omega (arith, last_is q text (length text) (omega (arith, last)), ascii c.args.mode)))
+    let last = rfind_char q c.args.text.now None (rw c.quote_of-quote.ensures at c.in_default-rfind.ensures.cases) (ascii c.args.mode) in
+    inr (refl, no_quote q c.args.text.now last)
+
+pub returns-then-opening-end : goal.returns-then-opening-end
+returns-then-opening-end c =
+    let q = quote_of c.args.mode in
+    let text = c.args.text.now in
+    let first = find_char q text (Some c.in-Some.opening) (rw c.quote_of-quote.ensures at c.in-Some.ensures.cases) (ascii c.args.mode) in
+    let last = rfind_char q text (Some c.in-Some-rfind.end) (rw c.quote_of-quote.ensures at c.in-Some-rfind.ensures.cases) (ascii c.args.mode) in
+    inl (subst (λ (l : List ℕ). IsBetween q text l) (sym c.range.ensures.value) (two_quotes q text c.in-Some.opening c.in-Some-rfind.end first.2 last.2 c.if-opening-end.true last.0 first.1 last.1))
+
+pub returns-else-opening-end : goal.returns-else-opening-end
+returns-else-opening-end c =
+    let q = quote_of c.args.mode in
+    let text = c.args.text.now in
+    let first = find_char q text (Some c.in-Some.opening) (rw c.quote_of-quote.ensures at c.in-Some.ensures.cases) (ascii c.args.mode) in
+    let last = rfind_char q text (Some c.in-Some-rfind.end) (rw c.quote_of-quote.ensures at c.in-Some-rfind.ensures.cases) (ascii c.args.mode) in
+    inr (refl, one_quote q text c.in-Some.opening c.in-Some-rfind.end first.2 last.2 c.if-opening-end.false)
