@@ -15,7 +15,7 @@ use Rattle.rap_lexer.proofs.AsciiClasses.{continues}
 use Rattle.rap_lexer.proofs.Runs.{run_length, run_past}
 
 -- a test that holds below a number, one number after the other
-unfoldable pub all_under : (ℕ → Bool) → ℕ → Bool
+all_under : (ℕ → Bool) → ℕ → Bool
 all_under p zero = true
 all_under p (suc n) = p n && all_under p n
 
@@ -23,7 +23,7 @@ both : (x y : Bool) → (x && y) ≡ true → (x ≡ true) × (y ≡ true)
 both true y e = (refl, e)
 both false y e = cc
 
-pub under : (p : ℕ → Bool) (n : ℕ) → all_under p n ≡ true → (x : ℕ) → x < n → p x ≡ true
+under : (p : ℕ → Bool) (n : ℕ) → all_under p n ≡ true → (x : ℕ) → x < n → p x ≡ true
 unfolding all_under
 under p zero e x l = absurd (omega arith)
 under p (suc n) e x l =
