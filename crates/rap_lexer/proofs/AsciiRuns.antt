@@ -1,9 +1,8 @@
 -- Runs of ASCII characters of a class, as bytes.
-use Rattle.std.proofs.Common.{◌≡◌, ℕ, Bool, true, false, List, [], ◌∷◌, ◌++◌, ◌+◌, ◌<◌, ◌≤◌, ◌&&◌, nat_lt, get_or, length, take, drop, chars, encode_utf8_all, IsUtf8, IsAscii, IsCharBoundary, if◌then◌else◌, refl, ap, sym, ◌∙◌, subst, arith, ltb-true, lt-ltb}
+use Rattle.std.proofs.Common.{◌≡◌, ℕ, Bool, true, false, List, [], ◌∷◌, ◌++◌, ◌+◌, ◌<◌, ◌&&◌, nat_lt, get_or, length, drop, chars, IsUtf8, IsAscii, IsCharBoundary, if◌then◌else◌, refl, ap, sym, ◌∙◌, arith, ltb-true, lt-ltb}
 use Rattle.std.proofs.lemmas.Str.{chars-append, chars-IsAscii, chars-nil, chars_past_char, encode_ascii, IsUtf8-from_ascii, IsUtf8-past_char, IsAscii-drop, IsCharBoundary-at_seam}
 use Rattle.std.proofs.lemmas.List.{get_or-drop}
 use Rattle.std.proofs.lemmas.Str.Ascii.{IsAscii-nil, IsAscii-cons}
-use Rattle.std.proofs.Math.Seq.{drop-append_seam, take-append_seam}
 use Rattle.rap_lexer.specs.Class.{is_in, is_ascii_in}
 use Rattle.rap_lexer.specs.Run.{run_of, after_run}
 use Rattle.rap_lexer.specs.declared.lexer.run.Class.{Class}

@@ -1,5 +1,5 @@
 -- Tests of sixteen bytes at a time.
-use Rattle.std.proofs.Common.{◌≡◌, ℕ, zero, suc, ◌+◌, ◌-◌, ◌%◌, ◌^◌, ◌<◌, ◌≤◌, List, [], ◌∷◌, Bool, true, false, not, ◌&&◌, ◌||◌, ◌==◌, nat_lt, cond, leb, eqb, length, get_or, drop, length-drop, map, replicate, bit_and, refl, sym, ap, ◌∙◌, subst, arith, w8}
+use Rattle.std.proofs.Common.{◌≡◌, ℕ, zero, suc, ◌+◌, ◌-◌, ◌%◌, ◌^◌, ◌<◌, ◌≤◌, List, [], ◌∷◌, Bool, true, false, not, ◌&&◌, ◌||◌, ◌==◌, nat_lt, cond, leb, eqb, length, get_or, drop, length-drop, map, replicate, bit_and, refl, sym, ap, ◌∙◌, arith}
 use Rattle.std.specs.Bool.{beq}
 use Rattle.std.specs.Char.{is_ascii_alphanumeric}
 use Rattle.std.specs.Simd.Lanes.{zip2, mask_l, top, chunk, Each1}
@@ -7,7 +7,7 @@ use Rattle.std.proofs.lemmas.Bool.{eqb-true, eqb-false, ltb-true, ltb-false}
 use Rattle.std.proofs.lemmas.Simd.{zip2_of_maps, splat_is_map, map-map, mask_l-mod, bit_mask_l, length-chunk, get_or-chunk, none_from_empty_mask}
 use Rattle.std.proofs.Math.ListN.{get_or-map}
 use Rattle.std.proofs.lemmas.List.{length-map, get_or_default, get_or_past, get_or-drop, drop-drop}
-use Rattle.rap_lexer.specs.Class.{is_in, is_ascii_in}
+use Rattle.rap_lexer.specs.Class.{is_ascii_in}
 use Rattle.rap_lexer.specs.declared.lexer.run.Class.TheVariants.{White, IdentContinue}
 use Rattle.std.specs.Int.{bit_at}
 use Rattle.rap_lexer.specs.Run.{run_of}
@@ -15,7 +15,7 @@ use Rattle.rap_lexer.proofs.AsciiClasses.{continues}
 use Rattle.rap_lexer.proofs.Runs.{run_length, run_past}
 
 -- a test that holds below a number, one number after the other
-unfoldable pub all_under : (ℕ → Bool) → ℕ → Bool
+all_under : (ℕ → Bool) → ℕ → Bool
 all_under p zero = true
 all_under p (suc n) = p n && all_under p n
 
@@ -23,7 +23,7 @@ both : (x y : Bool) → (x && y) ≡ true → (x ≡ true) × (y ≡ true)
 both true y e = (refl, e)
 both false y e = cc
 
-pub under : (p : ℕ → Bool) (n : ℕ) → all_under p n ≡ true → (x : ℕ) → x < n → p x ≡ true
+under : (p : ℕ → Bool) (n : ℕ) → all_under p n ≡ true → (x : ℕ) → x < n → p x ≡ true
 unfolding all_under
 under p zero e x l = absurd (omega arith)
 under p (suc n) e x l =

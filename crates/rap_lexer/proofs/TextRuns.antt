@@ -1,6 +1,6 @@
 -- Runs of characters that only ASCII characters end, as bytes.
 use lib.Utf8.{scalar, scalars, encode}
-use Rattle.std.proofs.Common.{◌≡◌, ℕ, suc, Bool, true, false, not, List, [], ◌∷◌, ◌++◌, ◌<◌, ◌≤◌, ◌&&◌, get_or, length, drop, chars, encode_utf8_all, IsUtf8, IsCharBoundary, if◌then◌else◌, refl, ap, sym, ◌∙◌, arith, append-nil}
+use Rattle.std.proofs.Common.{◌≡◌, ℕ, suc, Bool, true, false, List, [], ◌∷◌, ◌++◌, ◌<◌, ◌&&◌, get_or, length, drop, chars, encode_utf8_all, IsUtf8, IsCharBoundary, if◌then◌else◌, refl, ap, sym, ◌∙◌, arith, append-nil}
 use Rattle.std.proofs.lemmas.Str.{chars_from_encodes, encodes-chars, encode_ascii, inside_one, IsCharBoundary-at_seam}
 use Rattle.rap_lexer.specs.Run.{run_of, after_run}
 use Rattle.rap_lexer.proofs.Runs.{run_of-after_run, after_drop}

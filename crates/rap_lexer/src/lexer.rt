@@ -1,7 +1,6 @@
 //! The lexer: the first token of a text, by the lexical rules of the Rust Reference ("Lexical structure") and, where a
 //! token is malformed, those of rustc's own lexer.
-ghost use Rattle.std.specs.Prelude.{◌≡◌, ◌<◌, ◌≤◌, length, chars, drop, IsCharBoundary};
-ghost use Rattle.rap_base.specs.NodeKind.{PATH_META};
+ghost use Rattle.std.specs.Prelude.{◌≡◌, ◌<◌, length, chars, drop, IsCharBoundary};
 ghost use Rattle.rap_base.specs.TokenTests.{IsTokenKind};
 ghost use Rattle.rap_lexer.specs.First.{single_kind, is_reserved_hash, IsSlash, IsHash, IsSign, First};
 ghost use Rattle.rap_lexer.specs.OneToken.{IsOnlyToken};
@@ -79,7 +78,6 @@ fn sign(edition: Edition, cursor: &mut Cursor<'_>, first: char) -> Lexeme
 }
 
 /// Takes a token that begins with `/`.
-#[inline(never)]
 fn slash(cursor: &mut Cursor<'_>) -> Lexeme
     ensures { IsSlash cursor.old result cursor.new }
 {
@@ -120,31 +118,34 @@ fn is_reserved_hash(edition: Edition, cursor: &Cursor<'_>) -> bool
 fn single_kind(c: char) -> SyntaxKind
     ensures { result ≡ single_kind c }
 {
-    SyntaxKind::from_u16(single_number(c))
-}
-
-/// The number of that kind.
-fn single_number(c: char) -> u16
-    ensures kind { result ≡ single_kind c }
-    ensures fits { result ≤ PATH_META }
-{
-    if c.is_ascii() {
-        SINGLES[c as usize]
-    } else {
-        u16::from(SyntaxKind::ERROR)
+    match c {
+        ';' => SyntaxKind::SEMICOLON,
+        ',' => SyntaxKind::COMMA,
+        '(' => SyntaxKind::L_PAREN,
+        ')' => SyntaxKind::R_PAREN,
+        '{' => SyntaxKind::L_CURLY,
+        '}' => SyntaxKind::R_CURLY,
+        '[' => SyntaxKind::L_BRACK,
+        ']' => SyntaxKind::R_BRACK,
+        '<' => SyntaxKind::L_ANGLE,
+        '>' => SyntaxKind::R_ANGLE,
+        '@' => SyntaxKind::AT,
+        '#' => SyntaxKind::POUND,
+        '~' => SyntaxKind::TILDE,
+        '?' => SyntaxKind::QUESTION,
+        '$' => SyntaxKind::DOLLAR,
+        '&' => SyntaxKind::AMP,
+        '|' => SyntaxKind::PIPE,
+        '+' => SyntaxKind::PLUS,
+        '*' => SyntaxKind::STAR,
+        '/' => SyntaxKind::SLASH,
+        '^' => SyntaxKind::CARET,
+        '%' => SyntaxKind::PERCENT,
+        '.' => SyntaxKind::DOT,
+        ':' => SyntaxKind::COLON,
+        '=' => SyntaxKind::EQ,
+        '!' => SyntaxKind::BANG,
+        '-' => SyntaxKind::MINUS,
+        _ => SyntaxKind::ERROR,
     }
 }
-
-// The same for each ASCII character, sixteen in a row, as one look into memory: a jump by the character is often
-// guessed wrong. 150 is ERROR.
-#[rattlefmt::skip]
-static SINGLES: [u16; 128] = [
-    150, 150, 150, 150, 150, 150, 150, 150, 150, 150, 150, 150, 150, 150, 150, 150,
-    150, 150, 150, 150, 150, 150, 150, 150, 150, 150, 150, 150, 150, 150, 150, 150,
-    150,  27, 150,  12,  15,  22,  16, 150,   3,   4,  19,  18,   2,  28,  24,  20,
-    150, 150, 150, 150, 150, 150, 150, 150, 150, 150,  25,   1,   9,  26,  10,  14,
-     11, 150, 150, 150, 150, 150, 150, 150, 150, 150, 150, 150, 150, 150, 150, 150,
-    150, 150, 150, 150, 150, 150, 150, 150, 150, 150, 150,   7, 150,   8,  21, 150,
-    150, 150, 150, 150, 150, 150, 150, 150, 150, 150, 150, 150, 150, 150, 150, 150,
-    150, 150, 150, 150, 150, 150, 150, 150, 150, 150, 150,   5,  17,   6,  13, 150,
-];

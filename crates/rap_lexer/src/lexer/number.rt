@@ -10,7 +10,6 @@ use crate::lexer::run::{Class, eat_run, eat_suffix, is_next_in};
 use rap_base::syntax_kind::SyntaxKind;
 
 /// Takes a number whose first digit is taken.
-#[inline(never)]
 pub fn number(cursor: &mut Cursor<'_>, first: char) -> Lexeme
     ensures { IsNumber first cursor.old result cursor.new }
 {

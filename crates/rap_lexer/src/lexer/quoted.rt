@@ -11,7 +11,6 @@ use crate::lexer::run::{Class, eat_run, eat_suffix, eat_text, is_next_in};
 use rap_base::syntax_kind::SyntaxKind;
 
 /// Takes a string whose opening quote is taken.
-#[inline(never)]
 pub fn string(cursor: &mut Cursor<'_>, kind: SyntaxKind, mode: Mode) -> Lexeme
     ensures { IsLiteral StringRun kind mode cursor.old result cursor.new }
 {
@@ -20,7 +19,6 @@ pub fn string(cursor: &mut Cursor<'_>, kind: SyntaxKind, mode: Mode) -> Lexeme
 }
 
 /// Takes a character or byte whose opening quote is taken.
-#[inline(never)]
 pub fn character(cursor: &mut Cursor<'_>, kind: SyntaxKind, mode: Mode) -> Lexeme
     ensures { IsLiteral CharacterEnds kind mode cursor.old result cursor.new }
 {
@@ -109,7 +107,6 @@ fn stops_at(c: char, cursor: &Cursor<'_>) -> bool
 }
 
 /// Takes what follows a quote: a lifetime or a character.
-#[inline(never)]
 pub fn tick(cursor: &mut Cursor<'_>) -> Lexeme
     ensures { IsTick cursor.old result cursor.new }
 {

@@ -26,7 +26,6 @@ pub fn word_like(edition: Edition, cursor: &mut Cursor<'_>, first: char, text: &
 }
 
 /// Takes what begins with an `r`.
-#[inline(never)]
 fn past_r(edition: Edition, cursor: &mut Cursor<'_>, text: &str) -> Lexeme
     requires { chars text.now ≡ byte "r" ∷ cursor.old }
     ensures { IsPastR edition cursor.old result cursor.new }
@@ -44,7 +43,6 @@ fn past_r(edition: Edition, cursor: &mut Cursor<'_>, text: &str) -> Lexeme
 }
 
 /// Takes what begins with a `b`.
-#[inline(never)]
 fn past_b(edition: Edition, cursor: &mut Cursor<'_>, text: &str) -> Lexeme
     requires { chars text.now ≡ byte "b" ∷ cursor.old }
     ensures { IsPastB edition cursor.old result cursor.new }
@@ -64,7 +62,6 @@ fn past_b(edition: Edition, cursor: &mut Cursor<'_>, text: &str) -> Lexeme
 }
 
 /// Takes what begins with a `c`.
-#[inline(never)]
 fn past_c(edition: Edition, cursor: &mut Cursor<'_>, text: &str) -> Lexeme
     requires { chars text.now ≡ byte "c" ∷ cursor.old }
     ensures { IsPastC edition cursor.old result cursor.new }
@@ -102,7 +99,6 @@ fn starts_prefixed_raw(cursor: &Cursor<'_>) -> bool
 }
 
 /// Takes an identifier whose first character is taken.
-#[inline(never)]
 fn word(edition: Edition, cursor: &mut Cursor<'_>, first: char, text: &str) -> Lexeme
     requires { chars text.now ≡ first ∷ cursor.old }
     ensures { IsWord edition first cursor.old result cursor.new }
@@ -129,7 +125,6 @@ fn word_before(edition: Edition, text: &str, cursor: &mut Cursor<'_>) -> Lexeme
 }
 
 /// Takes the rest of an identifier that has an emoji in it.
-#[inline(never)]
 pub fn invalid_word(cursor: &mut Cursor<'_>) -> Lexeme
     ensures { IsInvalidWord cursor.old result cursor.new }
 {

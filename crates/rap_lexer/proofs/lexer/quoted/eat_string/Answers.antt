@@ -1,8 +1,6 @@
-use Rattle.std.proofs.Common.{◌≡◌, length, sym, ap, ◌∙◌, arith}
+use Rattle.std.proofs.Common.{length, sym, ap, ◌∙◌, arith}
 use Rattle.rap_lexer.specs.Class.{is_in}
-use Rattle.rap_lexer.specs.Quoted.{StringRun}
 use Rattle.rap_lexer.specs.declared.lexer.run.Class.TheVariants.{InString}
-use Rattle.rap_lexer.proofs.Leads.{Leads}
 use Rattle.rap_lexer.proofs.Runs.{after_length, tail_length}
 use Rattle.rap_lexer.proofs.Strings.{at_end, at_quote, past_escape, past_other, past_text}
 use Rattle.rap_lexer.proofs.lexer.quoted.eat_string.Goals as goal

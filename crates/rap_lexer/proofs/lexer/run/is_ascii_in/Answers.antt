@@ -1,4 +1,3 @@
-use Rattle.std.proofs.Common.{◌≡◌}
 use Rattle.rap_lexer.proofs.AsciiClasses.{starts, continues, goes_on}
 use Rattle.rap_lexer.proofs.lexer.run.is_ascii_in.Goals as goal
 

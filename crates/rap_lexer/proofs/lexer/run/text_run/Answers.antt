@@ -1,4 +1,4 @@
-use Rattle.std.proofs.Common.{◌≡◌, refl, ◌∙◌}
+use Rattle.std.proofs.Common.{refl, ◌∙◌}
 use Rattle.memchr.specs.Find.{is_byte, is_byte2}
 use Rattle.rap_lexer.specs.Class.{is_in}
 use Rattle.rap_lexer.specs.declared.lexer.run.Class.TheVariants.{InLine, InString, InRawString, InBlock}

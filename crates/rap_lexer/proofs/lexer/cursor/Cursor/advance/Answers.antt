@@ -1,4 +1,4 @@
-use Rattle.std.proofs.Common.{◌≡◌, encode_utf8_all, drop, chars, IsCharBoundary, ap, sym, subst, ◌∙◌}
+use Rattle.std.proofs.Common.{◌≡◌, encode_utf8_all, drop, chars, ap, sym, ◌∙◌}
 use Rattle.std.proofs.lemmas.Str.{encodes-chars}
 use Rattle.rap_lexer.proofs.lexer.cursor.Cursor.advance.Goals as goal
 
