@@ -1,0 +1,13 @@
+use Rattle.std.proofs.Common.{◌≡◌, ℕ, Result, Ok, Err, IfOk, arith}
+use Rattle.rast_replay.proofs.replay.run.Goals as goal
+
+-- the status of a fault is not that of a whole run
+at_fault : {E : Type 0} (P : Type 0) (r : Result ℕ E) → IfOk r (λ status. status ≡ 2) → IfOk r (λ status. status ≡ 0 → P)
+at_fault P (Ok status) two = λ none. absurd (omega (arith, two, none))
+at_fault P (Err e) two = tt
+
+pub returns-in-Err-Text-clause-same : goal.returns-in-Err-Text-clause-same
+returns-in-Err-Text-clause-same g c = at_fault _ c.tell.result c.tell.ensures.status
+
+pub returns-in-Err-Write-clause-same : goal.returns-in-Err-Write-clause-same
+returns-in-Err-Write-clause-same g c = at_fault _ c.tell-in-Err-Write.result c.tell-in-Err-Write.ensures.status
