@@ -11,6 +11,7 @@ use Rattle.rap_events.specs.Cover.{first_may_bear}
 use Rattle.rap_events.specs.FloatSplit.{split_children, split_calls}
 use Rattle.rap_events.specs.Forest.{Forest, none, node, leaf, message, split, ◌⧺◌}
 use Rattle.rap_events.specs.History.{Call, history}
+use Rattle.rap_events.specs.History as call
 use Rattle.rap_events.specs.Machine.{Stack, push, Config, run, initial, top}
 use Rattle.rap_events.specs.declared.parser.Parser.{Parser}
 use Rattle.rap_events.specs.declared.parser.CompletedMarker.{CompletedMarker}
@@ -210,6 +211,11 @@ pub record Expected (old new : State) (kind : ℕ) (taken : Bool) : Type 0 where
 abbrev pub skipped : List Record → List ℕ → Forest
 skipped [] bytes = message none bytes
 skipped (r ∷ rs) bytes = leaf (message none bytes) r.kind 1
+
+-- the calls of the same
+abbrev pub skip_calls : List Record → List ℕ → List Call
+skip_calls [] bytes = call.start ∷ call.error bytes ∷ call.finish ERROR ∷ []
+skip_calls (r ∷ rs) bytes = call.start ∷ call.error bytes ∷ call.token r.kind 1 ∷ call.finish ERROR ∷ []
 
 -- an `ERROR` over a message and the next token, or over the message alone at the end
 pub record Skipped (old new : State) (bytes : List ℕ) : Type 0 where

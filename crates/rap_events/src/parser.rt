@@ -1,5 +1,5 @@
 //! The parser: a place in the input, and what was recorded so far.
-ghost use Rattle.std.specs.Prelude.{◌≡◌, ◌==◌, ◌^◌, ◌≢◌, ℕ, ◌+◌, ◌-◌, ◌<◌, ◌≤◌, List, [], ◌∷◌, ◌++◌, length, drop, map, true, All, AllPairs, IfOk, OnOk, IsTrue, Some, None, string_bytes};
+ghost use Rattle.std.specs.Prelude.{◌≡◌, ◌==◌, ◌^◌, ◌≢◌, ℕ, ◌+◌, ◌-◌, ◌<◌, ◌≤◌, List, [], ◌∷◌, ◌++◌, length, drop, map, true, All, AllPairs, IfOk, OnOk, IsTrue, Some, None, string_bytes, if◌then◌else◌};
 ghost use Rattle.rap_base.specs.TokenKind.{EOF, IDENT, FLOAT_NUMBER};
 ghost use Rattle.rap_base.specs.NodeKind.{FIELD_EXPR};
 ghost use Rattle.rap_base.specs.TokenSet.{member};
@@ -69,7 +69,7 @@ impl<'t> Parser<'t> {
     ghost use Rattle.rap_events.specs.Machine.{floor};
     ghost use Rattle.rap_events.specs.Composite.{is_at, width};
     ghost use Rattle.rap_events.specs.Record.{kind_at, contextual_at, edition_at};
-    ghost use Rattle.rap_events.specs.State.{state, calls, start_state, Opened, Bumped, SplitFloat, IsLast, Told, Ate, AteAs, Expected, Skipped, Recovered, is_kept, next, next_contextual, At, Bears};
+    ghost use Rattle.rap_events.specs.State.{state, calls, start_state, Opened, Bumped, SplitFloat, IsLast, Told, Ate, AteAs, Expected, Skipped, Recovered, is_kept, expected, skip_calls, next, next_contextual, At, Bears};
 
     /// At the first token, with nothing recorded. Takes no memory.
     pub fn new(alloc: Global, input: &'t Input) -> Self
@@ -175,7 +175,8 @@ impl<'t> Parser<'t> {
     /// Takes a token of this kind if one comes next, and tells whether it did.
     pub fn eat(&mut self, kind: SyntaxKind) -> Result<bool, NoMemory>
         requires { kind ≢ EOF }
-        ensures { IfOk result (λ taken. Ate (state self.old) (state self.new) kind taken) }
+        ensures state { IfOk result (λ taken. Ate (state self.old) (state self.new) kind taken) }
+        ensures recorded { IfOk result (λ taken. calls self.new ≡ calls self.old ++ (if taken then call.token kind (width kind) ∷ [] else [])) }
     {
         if self.at(kind) {
             self.bump(kind)?;
@@ -188,7 +189,8 @@ impl<'t> Parser<'t> {
     /// Takes the next token as this keyword if it is an identifier that may be read so, and tells whether it did.
     pub fn eat_contextual_kw(&mut self, kw: SyntaxKind) -> Result<bool, NoMemory>
         requires { kw ≢ EOF }
-        ensures { IfOk result (λ taken. AteAs (state self.old) (state self.new) kw taken) }
+        ensures state { IfOk result (λ taken. AteAs (state self.old) (state self.new) kw taken) }
+        ensures recorded { IfOk result (λ taken. calls self.new ≡ calls self.old ++ (if taken then call.token kw 1 ∷ [] else [])) }
     {
         if self.at_contextual_kw(kw) {
             self.bump_remap(kw)?;
@@ -246,7 +248,8 @@ impl<'t> Parser<'t> {
     #[inline(never)]
     pub fn expect(&mut self, kind: SyntaxKind) -> Result<bool, NoMemory>
         requires { kind ≢ EOF }
-        ensures { IfOk result (λ taken. Expected (state self.old) (state self.new) kind taken) }
+        ensures state { IfOk result (λ taken. Expected (state self.old) (state self.new) kind taken) }
+        ensures recorded { IfOk result (λ taken. calls self.new ≡ calls self.old ++ (if taken then call.token kind (width kind) else call.error (expected kind)) ∷ []) }
     {
         if self.eat(kind)? {
             return Ok(true);
@@ -271,7 +274,8 @@ impl<'t> Parser<'t> {
     /// Tells a message and takes the next token, if there is one, into an `ERROR`.
     #[inline(never)]
     pub fn err_and_bump(&mut self, message: &str) -> Result<(), NoMemory>
-        ensures { OnOk result (Skipped (state self.old) (state self.new) message.now) }
+        ensures state { OnOk result (Skipped (state self.old) (state self.new) message.now) }
+        ensures recorded { OnOk result (calls self.new ≡ calls self.old ++ skip_calls (state self.old).rest message.now) }
     {
         let marker = self.start()?;
         self.error(message)?;
@@ -286,7 +290,8 @@ impl<'t> Parser<'t> {
     /// the message is all. Tells whether the token was kept.
     #[inline(never)]
     pub fn err_recover(&mut self, message: &str, recovery: TokenSet) -> Result<bool, NoMemory>
-        ensures { IfOk result (λ kept. Recovered (state self.old) (state self.new) message.now recovery kept) }
+        ensures state { IfOk result (λ kept. Recovered (state self.old) (state self.new) message.now recovery kept) }
+        ensures recorded { IfOk result (λ kept. calls self.new ≡ calls self.old ++ (if kept then call.error message.now ∷ [] else skip_calls (state self.old).rest message.now)) }
     {
         if self.at_kept(recovery) {
             self.error(message)?;

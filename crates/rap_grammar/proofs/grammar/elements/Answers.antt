@@ -35,7 +35,7 @@ elements-preserved g c = record {
       (else_by c.at-in-elements.ensures c.if-not-at.true
       (else_by c.at-in-elements-2.ensures c.if-at.false
       (by_rule (told_yes c.if-not-branch.false c.in_ok-parse.ensures.script)
-      (passes e (by_expect c.in_ok-expect.ensures gives))))));
+      (passes e (by_expect c.in_ok-expect.ensures.state gives))))));
 }
 
 pub returns-then-not-branch-clause-script : goal.returns-then-not-branch-clause-script

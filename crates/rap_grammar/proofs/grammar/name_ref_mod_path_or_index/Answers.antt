@@ -10,4 +10,4 @@ returns-in_ok-complete-clause-script c = record { run = passes (search rules) (b
 
 pub returns-in_ok-err_and_bump-clause-script : goal.returns-in_ok-err_and_bump-clause-script
 unfolding name_ref_mod_path_or_index
-returns-in_ok-err_and_bump-clause-script c = record { run = fails (search rules) (by_skip c.in_ok-err_and_bump.ensures gives) }
+returns-in_ok-err_and_bump-clause-script c = record { run = fails (search rules) (by_skip c.in_ok-err_and_bump.ensures.state gives) }

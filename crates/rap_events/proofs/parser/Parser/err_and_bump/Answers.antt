@@ -6,8 +6,8 @@ use Rattle.rap_events.proofs.Skips.{rest_at_end, inside_some, inside_end, skippe
 use Rattle.rap_events.proofs.parser.Parser.err_and_bump.Goals as goal
 use Rattle.rap_events.proofs.parser.Parser.err_and_bump.Goals.{then-ne+in_ok-bump_any, else-ne}
 
-pub returns : goal.returns
-returns c =
+pub returns-clause-state : goal.returns-clause-state
+returns-clause-state c =
     let s0 = state c.args.self.now in
     let s1 = state c.start.new.self in
     let s2 = state c.error.new.self in

@@ -7,4 +7,4 @@ use Rattle.rap_grammar.proofs.grammar.expressions.missing_expr.Goals as goal
 
 pub returns-clause-script : goal.returns-clause-script
 unfolding missing_expr
-returns-clause-script c = record { run = by_recover is_expr_recovery (search rules) c.in_ok-err_recover.ensures (λ k. by_abandon c.in_ok-abandon.ensures.state gives) (λ k. by_abandon c.in_ok-abandon.ensures.state gives) }
+returns-clause-script c = record { run = by_recover is_expr_recovery (search rules) c.in_ok-err_recover.ensures.state (λ k. by_abandon c.in_ok-abandon.ensures.state gives) (λ k. by_abandon c.in_ok-abandon.ensures.state gives) }

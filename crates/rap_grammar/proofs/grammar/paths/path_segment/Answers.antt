@@ -9,14 +9,14 @@ returns-then-not-first-clause-script c = record { run = rw c.if-not-first.true (
 
 pub returns-then-branch-clause-script : goal.returns-then-branch-clause-script
 unfolding path_segment
-returns-then-branch-clause-script c = record { run = rw c.if-not-first.false (by_start c.in_ok-m.ensures.state (ate c.in_ok-eat.ensures c.if-branch.true (to_end c.in_ok-segment-2.ensures.script))) }
+returns-then-branch-clause-script c = record { run = rw c.if-not-first.false (by_start c.in_ok-m.ensures.state (ate c.in_ok-eat.ensures.state c.if-branch.true (to_end c.in_ok-segment-2.ensures.script))) }
 
 pub returns-clause-script : goal.returns-clause-script
 unfolding path_segment
-returns-clause-script c = record { run = rw c.if-not-first.false (by_start c.in_ok-m.ensures.state (not_ate c.in_ok-eat.ensures c.if-branch.false (to_end c.in_ok-segment-3.ensures.script))) }
+returns-clause-script c = record { run = rw c.if-not-first.false (by_start c.in_ok-m.ensures.state (not_ate c.in_ok-eat.ensures.state c.if-branch.false (to_end c.in_ok-segment-3.ensures.script))) }
 
 pub returns-clause-took : goal.returns-clause-took
 returns-clause-took c = λ f h.
     let n = c.in_ok-segment-3.ensures in
-    let named = n.took (name_left c.in_ok-eat.ensures c.if-branch.false (rw c.in_ok-m.ensures.state.recorded.rest h)) in
-    segment_took c.in_ok-segment-3.segment c.in_ok-m.ensures.state c.in_ok-eat.ensures n.some n.none named
+    let named = n.took (name_left c.in_ok-eat.ensures.state c.if-branch.false (rw c.in_ok-m.ensures.state.recorded.rest h)) in
+    segment_took c.in_ok-segment-3.segment c.in_ok-m.ensures.state c.in_ok-eat.ensures.state n.some n.none named

@@ -13,7 +13,7 @@ returns-then-is_path_name-clause-script c = record { run = passes (search rules)
 pub returns-then-stopped-clause-script : goal.returns-then-stopped-clause-script
 unfolding segment_name
 returns-then-stopped-clause-script c = record {
-  run = fails (search rules) (by_recover is_expr_path_segment_recovery (search rules) c.in_ok-stopped.ensures
+  run = fails (search rules) (by_recover is_expr_path_segment_recovery (search rules) c.in_ok-stopped.ensures.state
       (λ k. rw c.if-empty.true (by_abandon c.in_ok-abandon.ensures.state gives))
       (λ k. absurd (clash c.if-stopped.true k)));
 }
@@ -21,7 +21,7 @@ returns-then-stopped-clause-script c = record {
 pub returns-clause-script : goal.returns-clause-script
 unfolding segment_name
 returns-clause-script c = record {
-  run = fails (search rules) (by_recover is_expr_path_segment_recovery (search rules) c.in_ok-stopped.ensures
+  run = fails (search rules) (by_recover is_expr_path_segment_recovery (search rules) c.in_ok-stopped.ensures.state
       (λ k. let e : c.args.empty ≡ false = elim c.else-empty.branch [
         | else-empty-via-then-empty+else-stopped w ↦ absurd (clash k w.if-stopped.false)
         | else-empty-via-else-empty w ↦ w.if-empty.false

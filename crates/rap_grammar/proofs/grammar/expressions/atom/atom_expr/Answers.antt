@@ -35,5 +35,5 @@ unfolding atom_expr
 returns-in_ok-err_and_bump-in_default-current-clause-script g c = record {
   run = by_rule (rw c.in_default.is at c.in_ok-cm.ensures.script)
       (else_by c.is_path_start.ensures c.if-is_path_start.false
-      (fails (search rules) (fails (search rules) (by_skip c.in_ok-err_and_bump-in_default-current.ensures gives))));
+      (fails (search rules) (fails (search rules) (by_skip c.in_ok-err_and_bump-in_default-current.ensures.state gives))));
 }

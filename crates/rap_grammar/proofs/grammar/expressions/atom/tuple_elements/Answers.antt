@@ -25,7 +25,7 @@ elements-preserved-in_ok-expect g c = record {
       (else_by c.at-in-elements-2.ensures c.if-at.false
       (by_rule (something_told (search rules) c.in_ok-expr.ensures.script)
       (else_by c.at-in-elements-3.ensures c.if-not-at-2.true
-      (by_expect c.in_ok-expect.ensures gives))))));
+      (by_expect c.in_ok-expect.ensures.state gives))))));
 }
 
 pub elements-preserved : goal.elements-preserved

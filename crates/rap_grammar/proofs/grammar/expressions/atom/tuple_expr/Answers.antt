@@ -17,6 +17,6 @@ returns-clause-script g c = record {
       by_start c.in_ok-m.ensures.state
       (by_bump (search rules) c.in_ok-bump.ensures.state
       (by_rule c.in_ok-is_parens.ensures.script
-      (by_expect c.in_ok-expect.ensures
+      (by_expect c.in_ok-expect.ensures.state
       (rw k (by_complete c.in_ok-cm.ensures.state.0 gives)))));
 }

@@ -10,6 +10,6 @@ returns-clause-script g c = record {
   run = by_precede c.requires.last c.in_ok-m.ensures.state
       (by_bump (search rules) c.in_ok-bump.ensures.state
       (by_rule c.in_ok-expr.ensures.script
-      (by_expect c.in_ok-expect.ensures
+      (by_expect c.in_ok-expect.ensures.state
       (by_complete c.in_ok-cm.ensures.state.0 gives))));
 }
