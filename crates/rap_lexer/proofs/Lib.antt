@@ -17,6 +17,7 @@ pub mod OneBody
 pub mod OneRun
 pub mod OneToken
 pub mod RawStrings
+pub mod RawWalk
 pub mod Runs
 pub mod Steps
 pub mod Strings

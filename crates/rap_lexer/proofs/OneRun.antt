@@ -1,10 +1,11 @@
 -- A string, a character and a raw string end at one place.
-use Rattle.std.proofs.Common.{◌≡◌, ◌≢◌, ℕ, Bool, true, false, List, [], ◌∷◌, ◌++◌, ◌⊎◌, inl, inr, ◌==◌, replicate, MatchBool, refl, ap, sym, ◌∙◌, subst}
+use Rattle.std.proofs.Common.{◌≡◌, ◌≢◌, ℕ, ◌+◌, ◌≤◌, Bool, true, false, List, [], ◌∷◌, ◌++◌, ◌⊎◌, inl, inr, ◌==◌, drop, replicate, MatchBool, append_assoc, length-append, refl, ap, sym, ◌∙◌, subst, arith}
 use Rattle.std.proofs.lemmas.Bool.Decides.{eqb_tells}
-use Rattle.std.proofs.lemmas.List.{append_cancel_left}
+use Rattle.std.proofs.lemmas.List.{drop_at, length-replicate}
 use Rattle.std.specs.Prelude.{nat_eq}
 use Rattle.std.specs.Str.{byte}
-use Rattle.rap_lexer.specs.Quoted.{StringRun, CharacterRun, CharacterEnds, RawRun, takes_next, stops_at, is_one_character}
+use Rattle.rap_lexer.specs.Quoted.{StringRun, CharacterRun, CharacterEnds, ClosesRaw, RawRun, takes_next, stops_at, is_one_character}
+use Rattle.rap_lexer.specs.Quoted.RawRun.{closes_at, runs_on}
 use Rattle.rap_lexer.specs.Run.{tail}
 
 -- the two runs end alike
@@ -106,34 +107,19 @@ one_character cs b b' r r' = by_test (is_one_character cs)
 
 -- ---- Raw strings
 
--- a quote and so many `#`, before the rest
-abbrev closing : ℕ → List ℕ → List ℕ
-closing n rest = byte "\"" ∷ (replicate n (byte "#") ++ rest)
-
-abbrev RawEnd : List ℕ → Bool → List ℕ → Type 0
-RawEnd xs b r = (xs ≡ []) × (b ≡ false) × (r ≡ [])
-
-abbrev RawClose : ℕ → List ℕ → Bool → List ℕ → Type 0
-RawClose n xs b r = (b ≡ true) × (xs ≡ closing n r)
-
-abbrev RawOther : ℕ → List ℕ → Bool → List ℕ → Type 0
-RawOther n xs b r = (c : ℕ) × (cs : List ℕ) × (xs ≡ c ∷ cs) × ((end : List ℕ) → c ∷ cs ≢ closing n end) × RawRun n cs b r
-
-raw_cases : {n : ℕ} {xs r : List ℕ} {b : Bool} → RawRun n xs b r → RawEnd xs b r ⊎ (RawClose n xs b r ⊎ RawOther n xs b r)
-raw_cases RawRun.end = inl (refl, refl, refl)
-raw_cases (RawRun.close cs rest e) = inr (inl (refl, e))
-raw_cases (RawRun.other c cs b r none h) = inr (inr (c, cs, refl, none, h))
-
-raw_once : {n : ℕ} {xs r : List ℕ} {b : Bool} → RawRun n xs b r → (b' : Bool) (r' : List ℕ) → RawEnd xs b' r' ⊎ (RawClose n xs b' r' ⊎ RawOther n xs b' r') → SameEnd b b' r r'
-raw_once RawRun.end b' r' (inl s) = ended false refl refl (s.1, s.2)
-raw_once RawRun.end b' r' (inr (inl s)) = absurd cc
-raw_once RawRun.end b' r' (inr (inr s)) = absurd cc
-raw_once (RawRun.close cs rest e) b' r' (inl s) = absurd cc
-raw_once {n} (RawRun.close cs rest e) b' r' (inr (inl s)) = record { closed = sym s.0; rest = append_cancel_left (replicate n (byte "#")) rest r' (ap tail (sym e ∙ s.1)) }
-raw_once (RawRun.close cs rest e) b' r' (inr (inr s)) = absurd (s.3 rest (sym s.2 ∙ e))
-raw_once (RawRun.other c cs b r none h) b' r' (inl s) = absurd cc
-raw_once (RawRun.other c cs b r none h) b' r' (inr (inl s)) = absurd (none r' s.1)
-raw_once {n} (RawRun.other c cs b r none h) b' r' (inr (inr s)) = raw_once h b' r' (raw_cases (subst (λ (x : List ℕ). RawRun n x b' r') (sym (ap tail s.2)) s.4))
+-- what follows the place
+after_place : (n : ℕ) (cs : List ℕ) (place : ℕ) (rest : List ℕ) → ClosesRaw n cs place rest → drop (place + (n + 1)) cs ≡ rest
+after_place n cs place rest k =
+    let quote = byte "\"" ∷ replicate n (byte "#") in
+    let whole : cs ≡ (k.front ++ quote) ++ rest = k.split ∙ sym (append_assoc k.front quote rest) in
+    ap (λ l. drop (place + (n + 1)) l) whole ∙ drop_at (k.front ++ quote) rest (place + (n + 1)) (omega (arith, length-append k.front quote, length-replicate {A = ℕ} n (byte "#"), k.size))
 
 pub one_raw : (n : ℕ) → EndsOnce (RawRun n)
-one_raw n cs b b' r r' h h' = raw_once h b' r' (raw_cases h')
+one_raw n cs _ _ _ _ (closes_at p r k first) (closes_at q s m first') =
+    let a : p ≤ q = first q s m in
+    let b : q ≤ p = first' p r k in
+    let e : p ≡ q = omega arith in
+    record { closed = refl; rest = sym (after_place n cs p r k) ∙ (ap (λ i. drop (i + (n + 1)) cs) e ∙ after_place n cs q s m) }
+one_raw n cs _ _ _ _ (closes_at p r k first) (runs_on none) = absurd (none p r k)
+one_raw n cs _ _ _ _ (runs_on none) (closes_at q s m first') = absurd (none q s m)
+one_raw n cs _ _ _ _ (runs_on none) (runs_on none') = record { closed = refl; rest = refl }

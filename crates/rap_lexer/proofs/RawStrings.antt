@@ -1,13 +1,15 @@
 -- The steps of a raw string.
-use Rattle.std.proofs.Common.{◌≡◌, ◌≢◌, ℕ, zero, suc, Bool, true, false, List, [], ◌∷◌, ◌++◌, ◌+◌, ◌<◌, length, replicate, refl, ap, sym, ◌∙◌, subst, arith, eqb-true, not, ◌==◌, get_or, if◌then◌else◌}
+use Rattle.std.proofs.Common.{◌≡◌, ◌≢◌, ℕ, zero, suc, Bool, true, false, List, [], ◌∷◌, ◌++◌, ◌+◌, ◌<◌, length, replicate, refl, ap, sym, ◌∙◌, subst, arith, eqb-true, not, ◌==◌, get_or, if◌then◌else◌, append-nil, append_assoc}
 use Rattle.std.proofs.lemmas.Bool.{eqb-false}
 use Rattle.std.specs.Str.{byte}
 use Rattle.rap_lexer.specs.Class.{is_in}
 use Rattle.rap_lexer.specs.Quoted.{RawRun}
-use Rattle.rap_lexer.specs.Quoted.RawRun.{end, close, other}
 use Rattle.rap_lexer.specs.Run.{next_is, tail, run_of, after_run}
 use Rattle.rap_lexer.specs.declared.lexer.run.Class.TheVariants.{Hash, InRawString}
-use Rattle.rap_lexer.proofs.Ends.{IsEnd, all, cons, front}
+use Rattle.rap_lexer.proofs.Ends.{IsEnd, all, front}
+use Rattle.rap_lexer.specs.Quoted.RawRun.{closes_at, runs_on}
+use Rattle.rap_lexer.proofs.RawWalk.{RawWalk}
+use Rattle.rap_lexer.proofs.RawWalk.RawWalk.{end, close, other}
 use Rattle.rap_lexer.proofs.Leads.{Leads}
 
 -- a text that begins with a character is that and its tail
@@ -61,26 +63,27 @@ pub ahead_none : (all left : ℕ) (start here : List ℕ) → Ahead all left sta
 ahead_none all zero start here a p h rest e = absurd (omega arith)
 ahead_none all (suc left) start here a p h rest e = let f : next_is (byte "#") here ≡ true = ap (λ x. next_is (byte "#") x) (a.back rest e) in cc
 
-module _ (n : ℕ) (start here : List ℕ) (l : Leads (RawRun n) start here) where
-  pub at_end : here ≡ [] → RawRun n start false []
-  at_end e = l.back false [] (subst (λ (x : List ℕ). RawRun n x false []) (sym e) end)
+module _ (n : ℕ) (start here : List ℕ) (l : Leads (RawWalk n) start here) where
+  pub at_end : here ≡ [] → RawWalk n start false []
+  at_end e = l.back false [] (subst (λ (x : List ℕ). RawWalk n x false []) (sym e) end)
 
-  pub at_close : (cs rest : List ℕ) → here ≡ cs → cs ≡ byte "\"" ∷ (replicate n (byte "#") ++ rest) → RawRun n start true rest
+  pub at_close : (cs rest : List ℕ) → here ≡ cs → cs ≡ byte "\"" ∷ (replicate n (byte "#") ++ rest) → RawWalk n start true rest
   at_close cs rest e f = l.back true rest (close here rest (e ∙ f))
 
-  pub past_other : (c : ℕ) (cs : List ℕ) → here ≡ c ∷ cs → ((rest : List ℕ) → c ∷ cs ≢ byte "\"" ∷ (replicate n (byte "#") ++ rest)) → Leads (RawRun n) start cs
-  past_other c cs e f = record { back = λ closed rest run. l.back closed rest (subst (λ (x : List ℕ). RawRun n x closed rest) (sym e) (other c cs closed rest f run)) }
+  pub past_other : (c : ℕ) (cs : List ℕ) → here ≡ c ∷ cs → ((rest : List ℕ) → c ∷ cs ≢ byte "\"" ∷ (replicate n (byte "#") ++ rest)) → Leads (RawWalk n) start cs
+  past_other c cs e f = record { back = λ closed rest run. l.back closed rest (subst (λ (x : List ℕ). RawWalk n x closed rest) (sym e) (other c cs closed rest f run)) }
 
 pub raw_end : {n : ℕ} {cs rest : List ℕ} {closed : Bool} → RawRun n cs closed rest → IsEnd cs rest
-raw_end end = all []
-raw_end {n} (close cs rest e) = front (byte "\"" ∷ replicate n (byte "#")) rest e
-raw_end (other c cs closed rest t r) = cons c (raw_end r)
+raw_end {n} (closes_at place rest k first) =
+    let quote = byte "\"" ∷ replicate n (byte "#") in
+    front (k.front ++ quote) rest (k.split ∙ sym (append_assoc k.front quote rest))
+raw_end {n} {cs} (runs_on h) = front cs [] (sym (append-nil cs))
 
 -- what is no quote is passed over
-pub past_text : (n : ℕ) (start here : List ℕ) → Leads (RawRun n) start here → Leads (RawRun n) start (after_run (is_in InRawString) here)
+pub past_text : (n : ℕ) (start here : List ℕ) → Leads (RawWalk n) start here → Leads (RawWalk n) start (after_run (is_in InRawString) here)
 past_text n start [] l = l
 past_text n start (c ∷ cs) l =
-    (elim (c == byte "\"") as (λ z. (c == byte "\"") ≡ z → Leads (RawRun n) start (if not z then after_run (is_in InRawString) cs else (c ∷ cs))) [
+    (elim (c == byte "\"") as (λ z. (c == byte "\"") ≡ z → Leads (RawWalk n) start (if not z then after_run (is_in InRawString) cs else (c ∷ cs))) [
       | true ↦ λ q. l
       | false ↦ λ q. past_text n start cs (past_other n start (c ∷ cs) l c cs refl (λ rest e. eqb-false c (byte "\"") q (ap (λ l. get_or l 0 0) e)))
     ]) refl

@@ -1,5 +1,5 @@
 -- Literals in quotes and lifetimes (the Reference, "Literals" and "Lifetimes and loop labels", and rustc_lexer where one is malformed).
-use Rattle.std.specs.Prelude.{◌≡◌, ◌≢◌, ℕ, Bool, true, false, not, ◌&&◌, ◌||◌, ◌==◌, nat_le, List, [], ◌∷◌, ◌++◌, length, replicate, if◌then◌else◌, MatchBool}
+use Rattle.std.specs.Prelude.{◌≡◌, ◌≢◌, ◌≤◌, ℕ, Bool, true, false, not, ◌&&◌, ◌||◌, ◌==◌, nat_le, List, [], ◌∷◌, ◌++◌, length, replicate, if◌then◌else◌, MatchBool}
 use Rattle.std.specs.Str.{byte}
 use Rattle.rap_lexer.specs.Class.{is_in}
 use Rattle.rap_lexer.specs.Lexeme.{plain, told, literal}
@@ -83,11 +83,16 @@ IsTick cs token rest =
     (IsLifetime cs token rest)
     (IsLiteral CharacterEnds CHAR Char cs token rest)
 
--- A raw string past its opening quote: whether it is closed, by a quote and `n` of `#`, and what follows it.
-pub data RawRun (n : ℕ) : List ℕ → Bool → List ℕ → Type 0 where
-  end : RawRun n [] false []
-  close : (cs rest : List ℕ) → cs ≡ byte "\"" ∷ (replicate n (byte "#") ++ rest) → RawRun n cs true rest
-  other : (c : ℕ) (cs : List ℕ) (closed : Bool) (rest : List ℕ) → ((end : List ℕ) → c ∷ cs ≢ byte "\"" ∷ (replicate n (byte "#") ++ end)) → RawRun n cs closed rest → RawRun n (c ∷ cs) closed rest
+-- A quote and `n` of `#` stand at the place, and `rest` follows them.
+pub record ClosesRaw (n : ℕ) (cs : List ℕ) (place : ℕ) (rest : List ℕ) : Type 0 where
+  pub front : List ℕ
+  pub split : cs ≡ front ++ byte "\"" ∷ (replicate n (byte "#") ++ rest)
+  pub size : place ≡ length front
+
+-- A raw string past its opening quote: the first such place closes it; where there is none it runs to the end.
+pub data RawRun (n : ℕ) (cs : List ℕ) : Bool → List ℕ → Type 0 where
+  closes_at : (place : ℕ) (rest : List ℕ) → ClosesRaw n cs place rest → ((other : ℕ) (after : List ℕ) → ClosesRaw n cs other after → place ≤ other) → RawRun n cs true rest
+  runs_on : ((place : ℕ) (after : List ℕ) → ¬ ClosesRaw n cs place after) → RawRun n cs false []
 
 -- closed, and with no more `#` than a raw string may have
 abbrev pub is_well_formed : Bool → ℕ → Bool
