@@ -1,5 +1,5 @@
 -- The steps that an output holds.
-use Rattle.std.specs.Prelude.{List, [], ◌∷◌, Option, Some, None, String, string_bytes}
+use Rattle.std.specs.Prelude.{List, [], ◌∷◌, Option, Some, None, String, string_bytes, reverse}
 use Rattle.std.specs.declared.alloc.Global.{Global}
 use Rattle.rap_events.specs.StepValue.{StepValue, enter, exit, token, float_split, error}
 use Rattle.rap_events.specs.declared.output.PlainStep.{PlainStep}
@@ -16,7 +16,11 @@ values (plain.Exit ∷ ss) ms = exit ∷ values ss ms
 values (plain.Error ∷ ss) [] = error [] ∷ values ss []
 values (plain.Error ∷ ss) (m ∷ ms) = error (string_bytes m) ∷ values ss ms
 
+-- the same of steps and messages that are kept from the last one back
+abbrev pub values_back : List PlainStep → List (String Global) → List StepValue
+values_back ss ms = values (reverse ss) (reverse ms)
+
 -- what a contract sees of steps that may be there
 abbrev pub values_of : Option StepList → List StepValue
 values_of None = []
-values_of (Some list) = values list.steps.items list.messages.items
+values_of (Some list) = values_back list.steps.items list.messages.items

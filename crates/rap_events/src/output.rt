@@ -1,7 +1,7 @@
 //! What a parse gives: the steps of its forest.
-ghost use Rattle.std.specs.Prelude.{◌≡◌, ◌≤◌, ◌<◌, ◌^◌, List, ◌∷◌, length, true, IfOk};
+ghost use Rattle.std.specs.Prelude.{◌≡◌, ◌≤◌, ◌<◌, ◌^◌, List, ◌∷◌, length, reverse, true, IfOk};
 ghost use Rattle.rap_events.specs.StepValue.{error};
-ghost use Rattle.rap_events.specs.Output.{values};
+ghost use Rattle.rap_events.specs.Output.{values, values_back};
 ghost use Rattle.rap_events.specs.declared.output.PlainStep.TheVariants as plain;
 ghost use Rattle.rap_events.specs.Forest.{none, node, flat, splits_placed};
 ghost use Rattle.rap_events.specs.Reading.{forest_of};
@@ -31,7 +31,7 @@ pub(crate) enum PlainStep {
 
 const _: () = prove!(size_of::<PlainStep>() <= 8);
 
-/// Steps with their messages.
+/// Steps with their messages, from the last one back.
 #[derive(Drop)]
 pub(crate) struct StepList {
     steps: Vec<PlainStep>,
@@ -74,11 +74,11 @@ impl Default for Output {
 }
 
 impl Output {
-    /// The output that these steps make, each error with the next of the messages.
+    /// The output that these steps make, each error with the next of the messages, both from the last one back.
     pub(crate) fn of_steps(steps: Vec<PlainStep>, messages: Vec<String>) -> Output
-        requires steps { flat (forest_of (values steps.items messages.items)) ≡ values steps.items messages.items }
-        requires splits { splits_placed (forest_of (values steps.items messages.items)) ≡ true }
-        ensures { result ≡ forest_of (values steps.items messages.items) }
+        requires steps { flat (forest_of (values_back steps.items messages.items)) ≡ values_back steps.items messages.items }
+        requires splits { splits_placed (forest_of (values_back steps.items messages.items)) ≡ true }
+        ensures { result ≡ forest_of (values_back steps.items messages.items) }
     {
         Output {
             list: Some(StepList { steps, messages }),
@@ -87,7 +87,7 @@ impl Output {
 
     /// The steps that show this forest.
     fn into_list(self, alloc: Global) -> StepList
-        ensures list { values result.steps.items result.messages.items ≡ flat self }
+        ensures list { values_back result.steps.items result.messages.items ≡ flat self }
         ensures splits { splits_placed self ≡ true }
     {
         match self.list {
@@ -100,7 +100,7 @@ impl Output {
     }
 
     /// The steps of the forest, from left to right. Takes no memory.
-    #[tactic(auto, using(crate::proofs::Values::values_length))]
+    #[tactic(auto, using(crate::proofs::Values::values_back_length))]
     pub fn iter(&self) -> Steps<'_>
         ensures steps { result ≡ flat self.now }
         ensures few { length (flat self.now) < 2 ^ 64 }
@@ -129,8 +129,8 @@ pub fn wrap_in_node(alloc: Global, output: Output, kind: SyntaxKind) -> Result<O
         mut steps,
         messages,
     } = output.into_list(alloc);
-    steps.insert(0, PlainStep::Enter { kind })?;
-    steps.push(PlainStep::Exit)?;
+    steps.insert(0, PlainStep::Exit)?;
+    steps.push(PlainStep::Enter { kind })?;
     Ok(Output::of_steps(steps, messages))
 }
 
@@ -157,7 +157,8 @@ pub enum Step<'a> {
     },
 }
 
-/// The steps that are left, and the messages of their errors. Contracts see the list of the steps.
+/// The steps that are left, and the messages of their errors, from the last one back. Contracts see the list of the
+/// steps from the first one on.
 #[derive(Drop)]
 pub struct Steps<'a> {
     rest: &'a [PlainStep],
@@ -174,12 +175,12 @@ impl<'a> Model for Steps<'a> {
 
     ghost coded = { coded_list step_code };
 
-    ghost use Rattle.rap_events.specs.Output.{values};
+    ghost use Rattle.rap_events.specs.Output.{values_back};
 
-    ghost view = { λ steps. values steps.rest.now steps.messages.now };
+    ghost view = { λ steps. values_back steps.rest.now steps.messages.now };
 }
 
-#[tactic(auto, using(crate::proofs::Values::values_length))]
+#[tactic(auto, using(crate::proofs::Values::values_back_length))]
 impl<'a> Iterator for Steps<'a> {
     type Item = Step<'a>;
 
@@ -193,7 +194,7 @@ impl<'a> Iterator for Steps<'a> {
     ghost remaining = { item_count (λ steps. steps) };
 
     fn next(&mut self) -> Option<Step<'a>> {
-        let (first, rest) = self.rest.split_first()?;
+        let (first, rest) = self.rest.split_last()?;
         self.rest = rest;
         Some(match *first {
             PlainStep::Token {
@@ -207,7 +208,7 @@ impl<'a> Iterator for Steps<'a> {
             PlainStep::Enter { kind } => Step::Enter { kind },
             PlainStep::Exit => Step::Exit,
             PlainStep::Error => {
-                let (msg, later) = first_message(self.messages);
+                let (msg, later) = last_message(self.messages);
                 self.messages = later;
                 Step::Error { msg }
             }
@@ -223,19 +224,19 @@ impl<'a> Iterator for Steps<'a> {
     }
 }
 
-#[tactic(auto, using(crate::proofs::Values::values_length))]
+#[tactic(auto, using(crate::proofs::Values::values_back_length))]
 impl<'a> ExactSizeIterator for Steps<'a> {
     fn len(&self) -> usize {
         self.rest.len()
     }
 }
 
-// The first message, or nothing where there is none, and the later ones.
-fn first_message(messages: &[String]) -> (&str, &[String])
-    ensures { (ss : List PlainStep) → values (plain.Error ∷ ss) messages.now ≡ error result.0.now ∷ values ss result.1.now }
+// The last message of the list, which is the next one, or nothing where there is none, and the later ones.
+fn last_message(messages: &[String]) -> (&str, &[String])
+    ensures { (ss : List PlainStep) → values (plain.Error ∷ ss) (reverse messages.now) ≡ error result.0.now ∷ values ss (reverse result.1.now) }
 {
-    match messages.split_first() {
-        Some((first, later)) => (first.as_str(), later),
+    match messages.split_last() {
+        Some((next, later)) => (next.as_str(), later),
         None => ("", messages),
     }
 }

@@ -205,10 +205,6 @@ impl Walk {
         requires splits { splits_placed (forest_of (walk_of self).steps) ≡ true }
         ensures { result ≡ forest_of (walk_of self).steps }
     {
-        let mut steps = self.steps;
-        steps.reverse();
-        let mut messages = self.told;
-        messages.reverse();
-        Output::of_steps(steps, messages)
+        Output::of_steps(self.steps, self.told)
     }
 }
