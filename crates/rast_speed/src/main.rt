@@ -7,7 +7,8 @@ ghost use Rattle.std.specs.Process.{exit_status};
 mod times;
 
 use ra_ap_parser::{Edition, LexFault, ParseFault, TopEntryPoint};
-use rast_common::fault::tell;
+use rast_common::fault::{FAULT, tell};
+use rast_print::entry::Entry;
 use std::alloc::{AllocError, Global};
 use std::process::ExitCode;
 use std::rt::Clock;
@@ -27,15 +28,7 @@ const NO_MEMORY: &str = "rast_speed: no memory\n";
 fn fail<V: io::Write>(err: &mut V, message: &str) -> ExitCode
     ensures { exit_status result ≡ 2 }
 {
-    ExitCode::from(tell(err, message))
-}
-
-/// The entry point with this name.
-fn entry_named(name: &str) -> Option<TopEntryPoint> {
-    match name {
-        "Expr" => Some(TopEntryPoint::Expr),
-        _ => None,
-    }
+    ExitCode::from(tell(err, message).unwrap_or(FAULT))
 }
 
 /// What is told where nothing was measured.
@@ -93,7 +86,7 @@ fn main(rt: HostRuntime) -> ExitCode {
     let Ok(edition) = edition.as_str().parse::<Edition>() else {
         return fail(&mut err, USAGE);
     };
-    let Some(entry) = entry_named(entry.as_str()) else {
+    let Ok(Entry(entry)) = entry.as_str().parse::<Entry>() else {
         return fail(&mut err, USAGE);
     };
     let Ok(text) = fs::read_to_string(&rt, file.as_str()) else {
