@@ -1,5 +1,5 @@
 -- Words that have neither the length nor the first letter of a keyword are none.
-use Rattle.std.proofs.Common.{◌≡◌, ℕ, Bool, true, false, ◌&&◌, ◌==◌, ◌/◌, ◌%◌, ◌^◌, nat_lt, List, [], ◌∷◌, Some, None, get_or, length, if◌then◌else◌, refl, ap, sym, ◌∙◌, subst}
+use Rattle.std.proofs.Common.{◌≡◌, ℕ, Bool, true, false, ◌&&◌, ◌==◌, ◌/◌, ◌%◌, ◌^◌, nat_lt, List, [], ◌∷◌, Some, None, get_or, length, if◌then◌else◌, refl, ap, ◌∙◌}
 use Rattle.std.specs.Prelude.{bytes_eq}
 use Rattle.std.specs.List.{list_all}
 use Rattle.std.proofs.lemmas.Slice.Eq.{bytes_eq-Decides}

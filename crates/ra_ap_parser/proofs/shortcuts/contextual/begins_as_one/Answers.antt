@@ -1,4 +1,4 @@
-use Rattle.std.proofs.Common.{◌≡◌, ◌<◌, true, length, nat_lt, arith, lt-ltb}
+use Rattle.std.proofs.Common.{◌≡◌, true, length, nat_lt, arith, lt-ltb}
 use Rattle.ra_ap_parser.proofs.ContextualWords.{not_one}
 use Rattle.ra_ap_parser.proofs.shortcuts.contextual.begins_as_one.Goals as goal
 
