@@ -50,7 +50,7 @@ event_back es event.Precede old new h b = backed es _ _ old new shows.precede h 
 event_back es (event.Finish k) old new h b = backed es _ _ old new (shows.finish k) h b
 event_back es event.Extend old new h b = backed es _ _ old new shows.extend h b
 event_back es event.Abandon old new h b = backed es _ _ old new shows.abandon h b
-event_back es (event.Token k w) old new h b = backed es _ _ old new (shows.token k w) h b
+event_back es (event.Token w k) old new h b = backed es _ _ old new (shows.token k w) h b
 event_back es (event.FloatSplit d) old new h b = backed es _ _ old new (shows.float_split d) h b
 event_back es event.Error old new h b = told_back es old new h b
 

@@ -12,7 +12,7 @@ pub data Shows : Event → Call → Type 0 where
   finish : (k : ℕ) → Shows (event.Finish k) (call.finish k)
   extend : Shows event.Extend call.extend
   abandon : Shows event.Abandon call.abandon
-  token : (k w : ℕ) → Shows (event.Token k w) (call.token k w)
+  token : (k w : ℕ) → Shows (event.Token w k) (call.token k w)
   float_split : (d : Bool) → Shows (event.FloatSplit d) (call.float_split d)
 
 history-one : (e : Event) (x : Call) (ms : List (List ℕ)) → Shows e x → history (e ∷ []) ms ≡ x ∷ []
@@ -32,7 +32,7 @@ history-push (event.Precede ∷ es) ms e x h = ap (λ (xs : List Call). call.pre
 history-push (event.Finish k ∷ es) ms e x h = ap (λ (xs : List Call). call.finish k ∷ xs) (history-push es ms e x h)
 history-push (event.Extend ∷ es) ms e x h = ap (λ (xs : List Call). call.extend ∷ xs) (history-push es ms e x h)
 history-push (event.Abandon ∷ es) ms e x h = ap (λ (xs : List Call). call.abandon ∷ xs) (history-push es ms e x h)
-history-push (event.Token k w ∷ es) ms e x h = ap (λ (xs : List Call). call.token k w ∷ xs) (history-push es ms e x h)
+history-push (event.Token w k ∷ es) ms e x h = ap (λ (xs : List Call). call.token k w ∷ xs) (history-push es ms e x h)
 history-push (event.FloatSplit d ∷ es) ms e x h = ap (λ (xs : List Call). call.float_split d ∷ xs) (history-push es ms e x h)
 history-push (event.Error ∷ es) [] e x h = ap (λ (xs : List Call). call.error [] ∷ xs) (history-push es [] e x h)
 history-push (event.Error ∷ es) (m ∷ ms) e x h = ap (λ (xs : List Call). call.error m ∷ xs) (history-push es ms e x h)
@@ -46,7 +46,7 @@ history-tell (event.Precede ∷ es) ms m h = ap (λ (xs : List Call). call.prece
 history-tell (event.Finish k ∷ es) ms m h = ap (λ (xs : List Call). call.finish k ∷ xs) (history-tell es ms m h)
 history-tell (event.Extend ∷ es) ms m h = ap (λ (xs : List Call). call.extend ∷ xs) (history-tell es ms m h)
 history-tell (event.Abandon ∷ es) ms m h = ap (λ (xs : List Call). call.abandon ∷ xs) (history-tell es ms m h)
-history-tell (event.Token k w ∷ es) ms m h = ap (λ (xs : List Call). call.token k w ∷ xs) (history-tell es ms m h)
+history-tell (event.Token w k ∷ es) ms m h = ap (λ (xs : List Call). call.token k w ∷ xs) (history-tell es ms m h)
 history-tell (event.FloatSplit d ∷ es) ms m h = ap (λ (xs : List Call). call.float_split d ∷ xs) (history-tell es ms m h)
 history-tell (event.Error ∷ es) [] m h = absurd (omega arith)
 history-tell (event.Error ∷ es) (n ∷ ms) m h = ap (λ (xs : List Call). call.error n ∷ xs) (history-tell es ms m (omega arith))
@@ -59,7 +59,7 @@ length-history (event.Precede ∷ es) ms = omega (arith, length-history es ms)
 length-history (event.Finish k ∷ es) ms = omega (arith, length-history es ms)
 length-history (event.Extend ∷ es) ms = omega (arith, length-history es ms)
 length-history (event.Abandon ∷ es) ms = omega (arith, length-history es ms)
-length-history (event.Token k w ∷ es) ms = omega (arith, length-history es ms)
+length-history (event.Token w k ∷ es) ms = omega (arith, length-history es ms)
 length-history (event.FloatSplit d ∷ es) ms = omega (arith, length-history es ms)
 length-history (event.Error ∷ es) [] = omega (arith, length-history es [])
 length-history (event.Error ∷ es) (m ∷ ms) = omega (arith, length-history es ms)
@@ -80,7 +80,7 @@ errors-append (event.Precede ∷ es) fs = errors-append es fs
 errors-append (event.Finish k ∷ es) fs = errors-append es fs
 errors-append (event.Extend ∷ es) fs = errors-append es fs
 errors-append (event.Abandon ∷ es) fs = errors-append es fs
-errors-append (event.Token k w ∷ es) fs = errors-append es fs
+errors-append (event.Token w k ∷ es) fs = errors-append es fs
 errors-append (event.FloatSplit d ∷ es) fs = errors-append es fs
 errors-append (event.Error ∷ es) fs = omega (arith, errors-append es fs)
 

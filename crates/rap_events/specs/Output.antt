@@ -9,7 +9,7 @@ use Rattle.rap_events.specs.declared.output.StepList.{StepList}
 -- what a contract sees of steps, each error with the next of the messages
 abbrev pub values : List PlainStep → List (String Global) → List StepValue
 values [] ms = []
-values (plain.Token kind width ∷ ss) ms = token kind width ∷ values ss ms
+values (plain.Token width kind ∷ ss) ms = token kind width ∷ values ss ms
 values (plain.FloatSplit ends_in_dot ∷ ss) ms = float_split ends_in_dot ∷ values ss ms
 values (plain.Enter kind ∷ ss) ms = enter kind ∷ values ss ms
 values (plain.Exit ∷ ss) ms = exit ∷ values ss ms

@@ -100,6 +100,6 @@ EventBacked event.Precede old new = Backed call.precede old new
 EventBacked (event.Finish kind) old new = Backed (call.finish kind) old new
 EventBacked event.Extend old new = Backed call.extend old new
 EventBacked event.Abandon old new = Backed call.abandon old new
-EventBacked (event.Token kind width) old new = Backed (call.token kind width) old new
+EventBacked (event.Token width kind) old new = Backed (call.token kind width) old new
 EventBacked (event.FloatSplit ends_in_dot) old new = Backed (call.float_split ends_in_dot) old new
 EventBacked event.Error old new = ToldBack old new

@@ -31,8 +31,8 @@ pub(crate) enum Event {
     Abandon,
     /// So many tokens of the input are taken as one token.
     Token {
-        kind: SyntaxKind,
         n_input_tokens: u8,
+        kind: SyntaxKind,
     },
     /// A float of a field access is taken apart. It ends the nodes that the next calls finish: one `FIELD_EXPR`, and
     /// where it does not end in a dot, two.
@@ -43,7 +43,7 @@ pub(crate) enum Event {
     Error,
 }
 
-const _: () = prove!(size_of::<Event>() <= 8);
+const _: () = prove!(size_of::<Event>() <= 4);
 
 impl Event {
     ghost use Rattle.rap_events.specs.History.{history, errors};

@@ -16,8 +16,8 @@ use std::mem::size_of;
 #[derive(Clone, Copy)]
 pub(crate) enum PlainStep {
     Token {
-        kind: SyntaxKind,
         n_input_tokens: u8,
+        kind: SyntaxKind,
     },
     FloatSplit {
         ends_in_dot: bool,
@@ -29,7 +29,7 @@ pub(crate) enum PlainStep {
     Error,
 }
 
-const _: () = prove!(size_of::<PlainStep>() <= 8);
+const _: () = prove!(size_of::<PlainStep>() <= 4);
 
 /// Steps with their messages, from the last one back.
 #[derive(Drop)]

@@ -31,7 +31,7 @@ invariant_of-self-2 c =
     let before : Held s.events.items (map string_bytes s.messages.items) (length s.messages.items) s.input.now s.pos =
     record { told = s.told; kept = record { sound = s.sound; covers = s.covers; place = s.place; splits = s.splits; fit = s.fit } } in
     let kept = kept-token (history s.events.items ms) s.input.now s.pos k w c.requires.stands before.kept in
-    let h = held-push s.events.items ms _ s.input.now s.pos (s.pos + w) (event.Token k w) (call.token k w) (shows.token k w) before kept in
+    let h = held-push s.events.items ms _ s.input.now s.pos (s.pos + w) (event.Token w k) (call.token k w) (shows.token k w) before kept in
     let place : s.pos + c.from.result ≡ s.pos + w = ap (λ (n : ℕ). s.pos + n) c.from.ensures in
     let within : s.pos + w ≤ s.len = omega (arith, s.ends, s.in_input, c.requires.within, length-drop s.pos s.input.now) in
     let e = c.in_ok-push.ensures.items in
@@ -45,7 +45,7 @@ returns-clause-state c =
     let w = c.args.n_input_tokens in
     let ms : List (List ℕ) = map string_bytes s.messages.items in
     let place : s.pos + c.from.result ≡ s.pos + w = ap (λ (n : ℕ). s.pos + n) c.from.ensures in
-    rw (c.in_ok-push.ensures.items, place, history-push s.events.items ms (event.Token k w) (call.token k w) (shows.token k w)) (bumped s.input.now s.pos (history s.events.items ms) k w c.requires.within)
+    rw (c.in_ok-push.ensures.items, place, history-push s.events.items ms (event.Token w k) (call.token k w) (shows.token k w)) (bumped s.input.now s.pos (history s.events.items ms) k w c.requires.within)
 
 pub returns-clause-recorded : goal.returns-clause-recorded
 unfolding calls
@@ -53,4 +53,4 @@ returns-clause-recorded c =
     let s = c.args.self.now in
     let k = c.args.kind in
     let w = c.args.n_input_tokens in
-    rw c.in_ok-push.ensures.items (history-push s.events.items (map string_bytes s.messages.items) (event.Token k w) (call.token k w) (shows.token k w))
+    rw c.in_ok-push.ensures.items (history-push s.events.items (map string_bytes s.messages.items) (event.Token w k) (call.token k w) (shows.token k w))
