@@ -1,6 +1,5 @@
 use Rattle.std.proofs.Common.{inl, inr, refl}
 use Rattle.rast_common.proofs.Told.{told, untold}
-use Rattle.rast.specs.Ran.{StopsBefore, StopsWriting}
 use Rattle.rast.specs.Words.{cannot_write, fault_line}
 use Rattle.rast.proofs.run.run.Goals as goal
 
