@@ -1,5 +1,5 @@
 -- the spans of a refusal lie where the text may be cut
-use Rattle.std.proofs.Common.{◌≡◌, ℕ, List, [], ◌∷◌, ◌++◌, ◌+◌, ◌<◌, ◌≤◌, length, take, drop, All, Option, None, Some, Result, Ok, Err, IfErr, unwrap_or, IsUtf8, IsCharBoundary, refl, ap, sym, ◌∙◌, subst, arith}
+use Rattle.std.proofs.Common.{◌≡◌, ℕ, List, [], ◌∷◌, ◌++◌, ◌+◌, ◌<◌, ◌≤◌, length, take, drop, All, Result, Ok, Err, IfErr, unwrap_or, IsUtf8, IsCharBoundary, refl, ap, sym, ◌∙◌, subst, arith}
 use Rattle.std.specs.declared.ops.Range.{Range}
 use Rattle.std.proofs.lemmas.List.{append_assoc, length-append, drop-drop, drop_at, take_at}
 use Rattle.std.proofs.lemmas.List.Elements.{All-nil, All-push}
@@ -13,7 +13,7 @@ use Rattle.rap_script.specs.declared.frontmatter.error.ScriptFault.{ScriptFault}
 use Rattle.rap_script.specs.declared.frontmatter.error.ScriptFault.TheVariants.{Refused, NoMemory}
 use Rattle.rap_script.proofs.ScriptAccepted.{word_cut, line_end_ascii}
 use Rattle.rap_script.proofs.ScriptBorders.{line_ends_at}
-use Rattle.rap_script.proofs.ScriptParts.{DashesAt, opening_dashes, closing_dashes, rest_at, dashes_fit, cut_at_dashes, cut_past_dashes}
+use Rattle.rap_script.proofs.ScriptParts.{DashesAt, opening_dashes, closing_dashes, rest_at, cut_at_dashes, cut_past_dashes}
 
 end_cut : (text : List ℕ) → IsCut text (end_of text)
 end_cut text = (omega arith, IsCharBoundary-end text, IsCharBoundary-end text)

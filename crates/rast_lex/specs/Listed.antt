@@ -1,5 +1,5 @@
 -- The lines that the program prints.
-use Rattle.std.specs.Prelude.{ℕ, zero, suc, ◌+◌, Bool, true, false, List, [], ◌∷◌, ◌++◌, Option, None, Some, length, codes, chars}
+use Rattle.std.specs.Prelude.{ℕ, zero, suc, ◌+◌, Bool, true, false, List, [], ◌∷◌, ◌++◌, Option, None, Some, codes, chars}
 use Rattle.std.specs.Fmt.{decimal}
 use Rattle.std.specs.declared.ops.Range.{Range}
 use Rattle.rap_base.specs.Names.{name_of}

@@ -1,5 +1,5 @@
 -- What is listed of a text, and whether a message is among it.
-use Rattle.std.specs.Prelude.{◌≡◌, ◌≢◌, ◌⊎◌, ◌↔◌, ◌<◌, ◌≤◌, IsTrue, IsFalse, ℕ, List, [], ◌++◌, Option, None, Some, length, codes, string_bytes}
+use Rattle.std.specs.Prelude.{◌≡◌, ◌≢◌, ◌⊎◌, ◌↔◌, ◌<◌, ◌≤◌, IsTrue, IsFalse, ℕ, List, [], ◌++◌, Option, None, length, codes, string_bytes}
 use Rattle.std.specs.Io.KnownBytes.{Appends}
 use Rattle.rap_base.specs.declared.edition.Edition.{Edition}
 use Rattle.rap_script.specs.Refusal.{Refusal, IsRefused}

@@ -1,9 +1,7 @@
-use Rattle.std.proofs.Common.{◌≡◌, ◌++◌, ◌∷◌, [], List, ℕ, codes, ap, sym, ◌∙◌, chars, append_assoc, arith}
+use Rattle.std.proofs.Common.{◌≡◌, chars, append_assoc, arith}
 use Rattle.std.proofs.lemmas.Iterator.{YieldsList-from_chars}
 use Rattle.std.proofs.lemmas.Iterator.Consumers.{YieldsList-end}
 use Rattle.std.proofs.lemmas.Grind.{common_steps}
-use Rattle.std.specs.List.{flat_map}
-use Rattle.rast_common.specs.Quote.{escaped}
 use Rattle.rast_common.proofs.quote.push_quoted.Goals as goal
 
 pub returns : goal.returns

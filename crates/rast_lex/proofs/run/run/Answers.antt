@@ -1,4 +1,4 @@
-use Rattle.std.proofs.Common.{◌≡◌, inl, inr, refl}
+use Rattle.std.proofs.Common.{inl, inr, refl}
 use Rattle.rast_common.proofs.Told.{told, untold}
 use Rattle.rast_lex.specs.Words.{cannot_write, fault_line}
 use Rattle.rast_lex.proofs.run.run.Goals as goal
