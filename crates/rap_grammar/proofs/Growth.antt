@@ -1,7 +1,7 @@
 -- What has grown on the way through a rule.
-use Rattle.std.proofs.Common.{◌≡◌, ℕ, ◌+◌, ◌<◌, ◌≤◌, Bool, Option, Some, None, IfSome, refl, sym, ◌∙◌, arith}
+use Rattle.std.proofs.Common.{◌≡◌, ℕ, Bool, Option, Some, None, IfSome, refl, sym, ◌∙◌, arith}
 use Rattle.rap_base.specs.NodeKind.{PATH_SEGMENT}
-use Rattle.rap_events.specs.Machine.{Stack, push, top}
+use Rattle.rap_events.specs.Machine.{push, top}
 use Rattle.rap_events.specs.State.{State, Opened, Ate, but_last}
 use Rattle.rap_events.specs.declared.parser.CompletedMarker.{CompletedMarker}
 use Rattle.rap_grammar.specs.Grew.{Took, Spent, Closes, Dropped}

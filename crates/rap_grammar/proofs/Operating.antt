@@ -1,8 +1,8 @@
 -- The script of an expression from its operand on.
-use Rattle.std.proofs.Common.{◌≡◌, ◌≢◌, ℕ, ◌<◌, ◌≤◌, List, [], ◌∷◌, Bool, true, false, ◌==◌, ◌&&◌, nat_lt, not, refl, sym, ap, ◌∙◌, arith, if◌then◌else◌}
+use Rattle.std.proofs.Common.{◌≡◌, ◌≢◌, ℕ, ◌<◌, ◌≤◌, List, [], ◌∷◌, Bool, true, false, ◌==◌, ◌&&◌, nat_lt, not, refl, ◌∙◌, arith, if◌then◌else◌}
 use Rattle.std.proofs.lemmas.Bool.{ne_eqb}
 use Rattle.std.proofs.lemmas.Bool.Decides.{nat_tests}
-use Rattle.rap_base.specs.TokenKind.{AS_KW, L_PAREN, L_BRACK, DOT, QUESTION}
+use Rattle.rap_base.specs.TokenKind.{AS_KW}
 use Rattle.rap_events.specs.Composite.{begins_with}
 use Rattle.rap_events.specs.Power.{power}
 use Rattle.rap_events.specs.Record.{Record, next_kind}

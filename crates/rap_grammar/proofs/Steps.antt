@@ -1,13 +1,13 @@
 -- What each call of the parser does of a script.
-use Rattle.std.proofs.Common.{◌≡◌, ◌≢◌, ℕ, List, [], ◌∷◌, Bool, true, false, ◌&&◌, ◌||◌, Option, Some, None, drop, refl, sym, ap, subst, ◌∙◌}
+use Rattle.std.proofs.Common.{◌≡◌, ◌≢◌, ℕ, List, Bool, true, false, ◌&&◌, ◌||◌, Option, Some, None, drop, refl, sym, ap, subst, ◌∙◌}
 use Rattle.rap_base.specs.TokenKind.{EOF, COLON2}
 use Rattle.rap_base.specs.TokenSet.{member}
 use Rattle.rap_base.specs.declared.token_set.TokenSet.{TokenSet}
-use Rattle.rap_events.specs.Record.{Record, next_kind, contextual_at}
+use Rattle.rap_events.specs.Record.{Record}
 use Rattle.rap_events.specs.Composite.{is_at, width}
 use Rattle.rap_events.specs.Cover.{first_may_bear}
-use Rattle.rap_events.specs.Forest.{Forest, none, node, leaf, message, split, ◌⧺◌}
-use Rattle.rap_events.specs.Machine.{Stack, floor, push, top}
+use Rattle.rap_events.specs.Forest.{Forest, none, node, ◌⧺◌}
+use Rattle.rap_events.specs.Machine.{Stack}
 use Rattle.rap_events.specs.State.{State, next, Opened, IsLast, Completed, Abandoned, Preceded, Extended, Bumped, Told, Ate, Expected, Skipped, Recovered, but_last, last_children, expected}
 use Rattle.rap_events.specs.declared.parser.CompletedMarker.{CompletedMarker}
 use Rattle.rap_grammar.specs.First.{is_path_name, starts_path}
@@ -17,7 +17,7 @@ use Rattle.rap_grammar.specs.Phrase.{Phrase, expression}
 use Rattle.rap_grammar.specs.declared.grammar.BlockLike.{BlockLike}
 use Rattle.rap_grammar.specs.declared.grammar.BlockLike.TheVariants as like
 use Rattle.rap_grammar.specs.declared.grammar.expressions.Restrictions.{Restrictions}
-use Rattle.rap_grammar.specs.Script.{Script, Outcome, nothing, something, again, goes_on, Spot, spot, forests, taken, reported, skipped_over, started, preceded, finished, extended, abandoned, last_tree, last_kind, newest, give, test, look, token, any, bear, report, skip, start, precede, finish, extend, abandon, after, rule, loop, Runs, gives, looks, passes, fails, takes, takes_any, bears, reports, skips, starts, precedes, finishes, extends, abandons, follows, obeys, turns, stops}
+use Rattle.rap_grammar.specs.Script.{Script, Outcome, nothing, something, again, goes_on, Spot, spot, forests, taken, last_tree, last_kind, newest, give, test, token, any, bear, report, skip, start, precede, finish, extend, abandon, after, rule, loop, Runs, gives, passes, fails, takes, takes_any, bears, reports, skips, starts, precedes, finishes, extends, abandons, follows, obeys, turns, stops}
 use Rattle.rap_grammar.specs.Words.{done, if_some, eat, expect, recover, of_option, of_bool}
 
 -- from a spot by a script of the grammar

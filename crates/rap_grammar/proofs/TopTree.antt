@@ -1,13 +1,12 @@
 -- What a top entry makes of what was parsed.
-use Rattle.std.proofs.Common.{◌≡◌, ◌≢◌, ℕ, zero, suc, ◌+◌, ◌≤◌, not, List, [], ◌∷◌, drop, length, length-append, Bool, true, false, None, refl, ap, sym, ◌∙◌, arith}
+use Rattle.std.proofs.Common.{◌≡◌, ◌≢◌, ℕ, zero, suc, ◌+◌, ◌≤◌, List, [], ◌∷◌, drop, length, length-append, Bool, true, false, None, refl, ap, sym, ◌∙◌, arith}
 use Rattle.std.proofs.Math.Logic.{∥∥₁_map}
 use Rattle.rap_base.specs.TokenKind.{EOF, ERROR}
 use Rattle.rap_events.specs.Record.{Record, next_kind}
-use Rattle.rap_events.specs.Forest.{Forest, none, node, leaf, message, split, ◌⧺◌, flat, split_ends, exit_of, used, message_count, ends_in_dot, one_tree}
+use Rattle.rap_events.specs.Forest.{Forest, none, node, leaf, message, split, ◌⧺◌, flat, split_ends, exit_of, used, message_count, one_tree}
 use Rattle.rap_events.specs.Fit.{AllFitIn}
-use Rattle.rap_events.proofs.Truth.{or_left}
 use Rattle.rap_events.specs.Machine.{floor, push, top}
-use Rattle.rap_events.specs.State.{State, state, next, Bumped, Abandoned, Completed, but_last, last_children}
+use Rattle.rap_events.specs.State.{State, state, next, Bumped, Abandoned, Completed, but_last}
 use Rattle.rap_events.specs.declared.parser.Parser.{Parser}
 use Rattle.rap_grammar.specs.Top.{with_leaves, top_tree, kept}
 

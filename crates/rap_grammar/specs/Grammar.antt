@@ -2,7 +2,7 @@
 use Rattle.std.specs.Prelude.{ℕ, Bool, false, ◌||◌, List, codes}
 use Rattle.rap_base.specs.TokenKind.{EOF, ERROR}
 use Rattle.rap_base.specs.NodeKind.{NAME_REF}
-use Rattle.rap_events.specs.Record.{Record, next_kind}
+use Rattle.rap_events.specs.Record.{next_kind}
 use Rattle.rap_events.specs.Composite.{is_at}
 use Rattle.rap_grammar.specs.First.{is_path_name, is_path_name_or_index}
 use Rattle.rap_grammar.specs.Phrase.{Phrase}

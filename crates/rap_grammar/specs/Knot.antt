@@ -1,7 +1,7 @@
 -- The script of each rule that others come back to.
 use Rattle.rap_grammar.specs.Expressions.{expr_bp}
 use Rattle.rap_grammar.specs.Phrase.{Phrase, expression}
-use Rattle.rap_grammar.specs.Script.{Script, Outcome, Spot, Runs, spot}
+use Rattle.rap_grammar.specs.Script.{Script, Outcome, Runs, spot}
 use Rattle.rap_events.specs.State.{State}
 
 unfoldable pub script_of : Phrase → Script Phrase

@@ -1,4 +1,4 @@
-use Rattle.std.proofs.Common.{sym, ◌∙◌, rules}
+use Rattle.std.proofs.Common.{rules}
 use Rattle.rap_grammar.specs.Grammar.{name_ref_mod_path}
 use Rattle.rap_grammar.specs.Script.{gives, passes, fails}
 use Rattle.rap_grammar.proofs.Steps.{by_start, by_any, by_complete, by_skip}

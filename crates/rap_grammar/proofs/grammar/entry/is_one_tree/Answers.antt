@@ -1,5 +1,4 @@
-use Rattle.std.proofs.Common.{arith, ap, refl, ◌≡◌, inl, inr}
-use Rattle.rap_events.specs.Step.{step_value}
+use Rattle.std.proofs.Common.{arith, ap, ◌≡◌, inl, inr}
 use Rattle.rap_grammar.proofs.OneTree.{weight_of, by_weight, second, beside, dot_shows, float_shows, token_shows, error_shows}
 use Rattle.rap_grammar.proofs.grammar.entry.is_one_tree.Goals as goal
 

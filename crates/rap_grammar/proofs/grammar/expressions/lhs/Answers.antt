@@ -1,4 +1,4 @@
-use Rattle.std.proofs.Common.{rules, refl, sym, ◌∙◌, ◌≡◌, ◌≢◌, false, ◌&&◌, ◌∷◌, []}
+use Rattle.std.proofs.Common.{rules, refl, ◌∙◌, ◌≡◌, ◌≢◌, false, ◌&&◌, ◌∷◌, []}
 use Rattle.rap_base.specs.TokenKind.{DOT, DOT2, EQ}
 use Rattle.rap_events.specs.Composite.{is_at}
 use Rattle.rap_events.specs.State.{state, next}

@@ -1,4 +1,4 @@
-use Rattle.std.proofs.Common.{◌≡◌, true, false}
+use Rattle.std.proofs.Common.{true, false}
 use Rattle.rap_events.specs.State.{state}
 use Rattle.rap_grammar.specs.Atom.{array_turn}
 use Rattle.rap_grammar.specs.Grew.{Grew}

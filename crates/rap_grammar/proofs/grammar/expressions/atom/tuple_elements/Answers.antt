@@ -1,4 +1,4 @@
-use Rattle.std.proofs.Common.{rules, refl, sym, ◌∙◌}
+use Rattle.std.proofs.Common.{rules}
 use Rattle.rap_grammar.specs.Atom.{tuple_elements}
 use Rattle.rap_grammar.specs.Script.{gives}
 use Rattle.rap_grammar.proofs.Steps.{then_by, else_by, by_rule, by_report, by_bump, by_expect, turn, last_turn, nothing_told, something_told, not_on}

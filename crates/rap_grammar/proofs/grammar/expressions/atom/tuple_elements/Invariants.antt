@@ -1,4 +1,4 @@
-use Rattle.std.proofs.Common.{◌≡◌, false}
+use Rattle.std.proofs.Common.{false}
 use Rattle.rap_events.specs.State.{state}
 use Rattle.rap_grammar.specs.Atom.{tuple_turn}
 use Rattle.rap_grammar.specs.Grew.{Grew}

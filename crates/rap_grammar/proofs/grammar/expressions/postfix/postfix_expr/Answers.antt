@@ -1,5 +1,4 @@
-use Rattle.std.proofs.Common.{rules, refl, sym, ◌∙◌, ◌≡◌, ◌≢◌, false, ◌==◌, ◌&&◌}
-use Rattle.std.proofs.lemmas.Bool.{ne_eqb}
+use Rattle.std.proofs.Common.{rules, refl, ◌≡◌, false, ◌==◌}
 use Rattle.rap_base.specs.TokenKind.{L_PAREN, L_BRACK, DOT, QUESTION}
 use Rattle.rap_events.specs.State.{state, next}
 use Rattle.rap_grammar.specs.Expressions.{postfix_expr}

@@ -1,9 +1,7 @@
 use Rattle.std.proofs.Common.{rules}
-use Rattle.rap_events.specs.State.{state}
-use Rattle.rap_grammar.specs.Expressions.{prefix_range, has_end}
-use Rattle.rap_grammar.specs.Phrase.{expression}
+use Rattle.rap_grammar.specs.Expressions.{prefix_range}
 use Rattle.rap_grammar.specs.Script.{gives}
-use Rattle.rap_grammar.proofs.Steps.{by_start, by_bump, then_by, else_by, by_expression, by_complete, at_same}
+use Rattle.rap_grammar.proofs.Steps.{by_start, by_bump, then_by, else_by, by_expression, by_complete}
 use Rattle.rap_grammar.proofs.grammar.expressions.ranges.prefix_range.Goals.{then-has_range_end+in_ok-run, else-has_range_end}
 use Rattle.rap_grammar.proofs.grammar.expressions.ranges.prefix_range.Goals as goal
 
