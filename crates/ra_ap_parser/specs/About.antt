@@ -1,4 +1,5 @@
 -- Messages about one token.
+-- (What calls promise one another; no promise of the library rests on it.)
 use Rattle.std.specs.Prelude.{◌≡◌, ℕ, List, ◌++◌, map}
 use Rattle.ra_ap_parser.specs.LexedStr.{Message}
 

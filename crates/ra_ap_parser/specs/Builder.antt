@@ -1,4 +1,5 @@
 -- What a builder hands out at a step of an output, and where it stands then.
+-- (What calls promise one another; no promise of the library rests on it.)
 use Rattle.std.specs.Prelude.{ℕ, ◌+◌, ◌<◌, ◌≤◌, List, [], ◌∷◌, ◌++◌, Bool, true, false, length, codes, if◌then◌else◌, ◌≡◌}
 use Rattle.rap_events.specs.StepValue.{StepValue, enter, exit, token, float_split, error}
 use Rattle.ra_ap_parser.specs.declared.shortcuts.builder.State.{State}

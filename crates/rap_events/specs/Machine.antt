@@ -1,4 +1,5 @@
 -- What a history has made so far: the forest under the newest open marker, and the older open markers below.
+-- (What calls promise one another; no promise of the library rests on it.)
 use Rattle.std.specs.Prelude.{ℕ, ◌+◌, List, [], ◌∷◌, ◌++◌, Option, Some, None, Bool, true, false, ◌&&◌}
 use Rattle.rap_events.specs.Forest.{Forest, none, node, leaf, message, split, ◌⧺◌, splits_placed}
 use Rattle.rap_events.specs.Cover.{Leaf, leaves}

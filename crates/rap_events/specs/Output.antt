@@ -1,4 +1,5 @@
 -- The steps that an output holds.
+-- (What calls promise one another; no promise of the library rests on it.)
 use Rattle.std.specs.Prelude.{List, [], ◌∷◌, Option, Some, None, String, string_bytes, reverse}
 use Rattle.std.specs.declared.alloc.Global.{Global}
 use Rattle.rap_events.specs.StepValue.{StepValue, enter, exit, token, float_split, error}

@@ -1,4 +1,5 @@
 -- What climbing by powers knows of an expression, as long as no message was reported. An `as` is left to whoever reads casts.
+-- (What calls promise one another; no promise of the library rests on it.)
 use Rattle.std.specs.Prelude.{◌≡◌, ◌≢◌, ℕ, ◌≤◌, ◌<◌, Bool, false}
 use Rattle.rap_base.specs.TokenKind.{AS_KW}
 use Rattle.rap_base.specs.NodeKind.{BIN_EXPR}

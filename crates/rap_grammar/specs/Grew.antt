@@ -1,4 +1,5 @@
 -- What a grammar function does to a parser, whatever the tokens are.
+-- (What calls promise one another; no promise of the library rests on it.)
 use Rattle.std.specs.Prelude.{◌≡◌, ℕ, ◌+◌, ◌≤◌, ◌*◌, ◌<◌, Option, Some, None}
 use Rattle.rap_events.specs.Machine.{push, top}
 use Rattle.rap_events.specs.State.{State, IsLast, but_last}

@@ -1,5 +1,6 @@
 -- How many events a rule that takes a token leaves, of the 256 that each token pays for, to the rules around it. A rule
 -- records at most 256 less its room; a rule that only wraps another leaves less than that one.
+-- (What calls promise one another; no promise of the library rests on it.)
 use Rattle.std.specs.Prelude.{ℕ}
 
 -- a name or a token in a node

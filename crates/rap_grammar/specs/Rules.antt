@@ -1,4 +1,5 @@
 -- What the rules that are come back to ask and give.
+-- (What calls promise one another; no promise of the library rests on it.)
 use Rattle.std.specs.Prelude.{◌≡◌, ℕ, ◌≤◌, ◌<◌, Option, Some, None, is_some, Bool, true}
 use Rattle.rap_events.specs.Fit.{is_plain}
 use Rattle.rap_events.specs.State.{State}
