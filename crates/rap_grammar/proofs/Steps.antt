@@ -141,6 +141,10 @@ pub by_expression : {from : Bool} {r : Restrictions} {bp : ℕ} {s t : State} {n
 unfolding script_of
 by_expression h d = obeys h.run d
 
+-- any other rule through the knot
+pub by_part : (c : Phrase) {s t : State} {n : Outcome → Script Phrase} {q : Spot} {w v : Outcome} → Follows (script_of c) w s t → On (n w) (spot t) q v → On (rule c n) (spot s) q v
+by_part c h d = obeys h.run d
+
 pub by_kind : {b : Bool} {k n : ℕ} (f : ℕ → Bool) → b ≡ f k → k ≡ n → b ≡ f n
 by_kind f e h = e ∙ ap f h
 

@@ -1,7 +1,7 @@
 -- What the rules begin with.
 use Rattle.std.specs.Prelude.{ℕ, List, [], ◌∷◌, Bool, ◌==◌, ◌||◌}
 use Rattle.std.specs.List.{list_any}
-use Rattle.rap_base.specs.TokenKind.{IDENT, SELF_KW, SUPER_KW, CRATE_KW, SELF_TYPE_KW, TRUE_KW, FALSE_KW, INT_NUMBER, FLOAT_NUMBER, BYTE, CHAR, STRING, BYTE_STRING, C_STRING, COLON, COLON2, L_PAREN, L_BRACK, AMP, STAR, BANG, DOT, MINUS}
+use Rattle.rap_base.specs.TokenKind.{IDENT, SELF_KW, SUPER_KW, CRATE_KW, SELF_TYPE_KW, TRUE_KW, FALSE_KW, INT_NUMBER, FLOAT_NUMBER, BYTE, CHAR, STRING, BYTE_STRING, C_STRING, COLON, COLON2, L_ANGLE, L_PAREN, L_BRACK, L_CURLY, AMP, PIPE, STAR, BANG, DOT, MINUS, UNDERSCORE, POUND, OUTER_DOC_COMMENT, LIFETIME_IDENT, FN_KW, UNSAFE_KW, EXTERN_KW, FOR_KW, IMPL_KW, DYN_KW, CONST_KW, BOX_KW, REF_KW, MUT_KW}
 use Rattle.rap_events.specs.Record.{Record, next_kind}
 use Rattle.rap_events.specs.Composite.{parts, begins_with}
 
@@ -22,7 +22,7 @@ is_literal_first kind = one_of (TRUE_KW ∷ FALSE_KW ∷ INT_NUMBER ∷ FLOAT_NU
 
 -- a path, by its first token alone: a `:` may be the first of `::`
 abbrev pub is_path_first : ℕ → Bool
-is_path_first kind = one_of (IDENT ∷ SELF_KW ∷ SUPER_KW ∷ CRATE_KW ∷ SELF_TYPE_KW ∷ COLON ∷ []) kind
+is_path_first kind = one_of (IDENT ∷ SELF_KW ∷ SUPER_KW ∷ CRATE_KW ∷ SELF_TYPE_KW ∷ COLON ∷ L_ANGLE ∷ []) kind
 
 -- an expression without an operator before it, by its first token alone
 abbrev pub is_atom_expr_first : ℕ → Bool
@@ -40,6 +40,48 @@ is_atom kind = is_literal_first kind || (is_path_name kind || one_of (L_PAREN �
 abbrev pub is_operand : ℕ → Bool
 is_operand kind = is_atom kind || one_of (AMP ∷ STAR ∷ BANG ∷ MINUS ∷ []) kind
 
+-- a type, by its first token alone
+abbrev pub is_type_first : ℕ → Bool
+is_type_first kind =
+    is_path_first kind || one_of (L_PAREN ∷ L_BRACK ∷ BANG ∷ STAR ∷ AMP ∷ UNDERSCORE ∷ FN_KW ∷ UNSAFE_KW ∷ EXTERN_KW ∷ FOR_KW ∷ IMPL_KW ∷ DYN_KW ∷ LIFETIME_IDENT ∷ []) kind
+
+-- an argument of something generic
+abbrev pub is_generic_arg_first : ℕ → Bool
+is_generic_arg_first kind = is_type_first kind || (is_literal_first kind || one_of (L_CURLY ∷ MINUS ∷ []) kind)
+
+-- a parameter of something generic, without the attributes before it
+abbrev pub is_generic_param_first : ℕ → Bool
+is_generic_param_first kind = one_of (IDENT ∷ LIFETIME_IDENT ∷ CONST_KW ∷ []) kind
+
+-- an attribute before what it is of
+abbrev pub is_outer_attr_first : ℕ → Bool
+is_outer_attr_first kind = one_of (POUND ∷ OUTER_DOC_COMMENT ∷ []) kind
+
+-- a pattern without alternatives, by its first token alone
+abbrev pub is_pattern_first : ℕ → Bool
+is_pattern_first kind =
+    is_literal_first kind || is_path_first kind || one_of (BOX_KW ∷ REF_KW ∷ MUT_KW ∷ CONST_KW ∷ L_PAREN ∷ L_BRACK ∷ AMP ∷ UNDERSCORE ∷ MINUS ∷ DOT ∷ BANG ∷ []) kind
+
+-- a pattern
+abbrev pub is_pat_top_first : ℕ → Bool
+is_pat_top_first kind = is_pattern_first kind || one_of (PIPE ∷ []) kind
+
+-- the end of a range in a pattern
+abbrev pub is_range_pat_end_first : ℕ → Bool
+is_range_pat_end_first kind = is_literal_first kind || is_path_first kind || one_of (MINUS ∷ CONST_KW ∷ []) kind
+
+-- a condition in an attribute
+abbrev pub is_cfg_predicate_first : ℕ → Bool
+is_cfg_predicate_first kind = one_of (TRUE_KW ∷ FALSE_KW ∷ IDENT ∷ []) kind
+
+-- a path comes next that begins with a name or `::`
+abbrev pub starts_use_path : List Record → Bool
+starts_use_path rs = one_of (IDENT ∷ SELF_KW ∷ SUPER_KW ∷ CRATE_KW ∷ []) (next_kind rs) || begins_with (parts COLON2) rs
+
 -- a path comes next
 abbrev pub starts_path : List Record → Bool
 starts_path rs = is_path_name (next_kind rs) || begins_with (parts COLON2) rs
+
+-- a bracket that opens
+abbrev pub is_bracket : ℕ → Bool
+is_bracket kind = one_of (L_CURLY ∷ L_PAREN ∷ L_BRACK ∷ []) kind

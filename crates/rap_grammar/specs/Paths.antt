@@ -42,3 +42,18 @@ path = start (after (path_segment true) (λ v. if_some v (finish PATH path_for_q
 -- a path in an expression
 unfoldable pub expr_path : Script Phrase
 expr_path = after path (λ v. done)
+
+unfoldable pub attr_path : Script Phrase
+attr_path = done
+
+unfoldable pub type_path : Script Phrase
+type_path = done
+
+unfoldable pub type_path_for_qualifier : Script Phrase
+type_path_for_qualifier = done
+
+unfoldable pub opt_path_type_args : Script Phrase
+opt_path_type_args = done
+
+unfoldable pub opt_generic_arg_list_expr : Script Phrase
+opt_generic_arg_list_expr = done

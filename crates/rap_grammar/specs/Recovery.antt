@@ -1,6 +1,6 @@
 -- Where the search for a rule's beginning ends: tokens that are not taken into an `ERROR`.
 use Rattle.std.specs.Prelude.{ℕ, Bool, [], ◌∷◌, ◌||◌}
-use Rattle.rap_base.specs.TokenKind.{L_PAREN, R_CURLY, R_PAREN, R_BRACK, COMMA, SEMICOLON, FN_KW, STRUCT_KW, ENUM_KW, IMPL_KW, TRAIT_KW, CONST_KW, ASYNC_KW, UNSAFE_KW, EXTERN_KW, STATIC_KW, LET_KW, MOD_KW, PUB_KW, CRATE_KW, USE_KW, MACRO_KW}
+use Rattle.rap_base.specs.TokenKind.{EOF, L_PAREN, L_CURLY, R_CURLY, R_PAREN, R_BRACK, R_ANGLE, COMMA, SEMICOLON, EQ, AMP, IF_KW, WHILE_KW, LOOP_KW, MATCH_KW, FN_KW, STRUCT_KW, ENUM_KW, IMPL_KW, TRAIT_KW, CONST_KW, ASYNC_KW, UNSAFE_KW, EXTERN_KW, STATIC_KW, LET_KW, MOD_KW, PUB_KW, CRATE_KW, USE_KW, MACRO_KW}
 use Rattle.rap_grammar.specs.First.{one_of}
 
 -- the search for an expression
@@ -15,3 +15,21 @@ is_item_recovery kind =
 -- the search for a segment's name of a path in an expression
 abbrev pub is_expr_path_segment_recovery : ℕ → Bool
 is_expr_path_segment_recovery kind = is_expr_recovery kind || is_item_recovery kind
+
+-- the search for a type
+abbrev pub is_type_recovery : ℕ → Bool
+is_type_recovery kind = one_of (R_PAREN ∷ R_BRACK ∷ R_CURLY ∷ R_ANGLE ∷ COMMA ∷ PUB_KW ∷ []) kind
+
+-- the search for an argument of something generic
+abbrev pub is_generic_arg_recovery : ℕ → Bool
+is_generic_arg_recovery kind = one_of (R_ANGLE ∷ COMMA ∷ []) kind
+
+-- the search for a pattern
+abbrev pub is_pattern_recovery : ℕ → Bool
+is_pattern_recovery kind =
+    one_of (LET_KW ∷ IF_KW ∷ WHILE_KW ∷ LOOP_KW ∷ MATCH_KW ∷ R_PAREN ∷ R_BRACK ∷ R_CURLY ∷ COMMA ∷ EQ ∷ AMP ∷ []) kind
+
+-- where a pattern that does not begin takes no token along
+abbrev pub stops_pattern : ℕ → Bool
+stops_pattern kind =
+    one_of (EOF ∷ LET_KW ∷ IF_KW ∷ WHILE_KW ∷ LOOP_KW ∷ MATCH_KW ∷ R_PAREN ∷ R_BRACK ∷ L_CURLY ∷ R_CURLY ∷ COMMA ∷ EQ ∷ []) kind

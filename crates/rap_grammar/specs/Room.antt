@@ -44,3 +44,10 @@ expression_room = 100
 
 abbrev pub element_room : ℕ
 element_room = 100
+
+-- a type, and a pattern
+abbrev pub type_room : ℕ
+type_room = 110
+
+abbrev pub pattern_room : ℕ
+pattern_room = 110

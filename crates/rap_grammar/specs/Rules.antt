@@ -1,15 +1,24 @@
 -- What the rules that are come back to ask and give.
 -- (What calls promise one another; no promise of the library rests on it.)
-use Rattle.std.specs.Prelude.{◌≡◌, ℕ, ◌≤◌, ◌<◌, Option, Some, None, is_some, Bool, true}
+use Rattle.std.specs.Prelude.{◌≡◌, ℕ, ◌≤◌, ◌<◌, Option, Some, None, is_some, Bool, true, false}
+use Rattle.rap_base.specs.TokenKind.{L_ANGLE}
 use Rattle.rap_events.specs.Fit.{is_plain}
-use Rattle.rap_events.specs.State.{State}
+use Rattle.rap_events.specs.State.{State, next}
 use Rattle.rap_events.specs.declared.parser.CompletedMarker.{CompletedMarker}
 use Rattle.rap_events.specs.declared.parser.Marker.{Marker}
+use Rattle.rap_grammar.specs.Attributes.{meta, cfg_predicate}
 use Rattle.rap_grammar.specs.Climb.{Climbed}
 use Rattle.rap_grammar.specs.Expressions.{expr_bp, of_expr}
+use Rattle.rap_grammar.specs.First.{is_type_first, is_generic_arg_first, is_cfg_predicate_first, starts_use_path}
+use Rattle.rap_grammar.specs.GenericArgs.{generic_arg}
+use Rattle.rap_grammar.specs.GenericParams.{generic_param_list}
 use Rattle.rap_grammar.specs.Grew.{Grew, Took, Made, Closed, Dropped}
 use Rattle.rap_grammar.specs.Knot.{Follows}
-use Rattle.rap_grammar.specs.Room.{expression_room, marked_room}
+use Rattle.rap_grammar.specs.Patterns.{pattern_r, pattern_single_r}
+use Rattle.rap_grammar.specs.Recovery.{stops_pattern}
+use Rattle.rap_grammar.specs.Room.{expression_room, marked_room, element_room, list_room, type_room, pattern_room}
+use Rattle.rap_grammar.specs.Script.{something}
+use Rattle.rap_grammar.specs.Types.{type_with_bounds_cond, path_type_bounds}
 use Rattle.rap_grammar.specs.declared.grammar.BlockLike.{BlockLike}
 use Rattle.rap_grammar.specs.declared.grammar.knot.Rule.{Rule}
 use Rattle.rap_grammar.specs.declared.grammar.knot.Rule.TheVariants as rule
@@ -36,10 +45,42 @@ abbrev pub AnsweredFrom : State → State → Bool → ℕ → Option (Completed
 AnsweredFrom old new stmt bp (Some e) = Closed old new e.0 marked_room × Climbed new e.0.kind bp stmt
 AnsweredFrom old new stmt bp None = Dropped old new 5
 
+-- A rule that gives no node: where it begins with one of these tokens, it takes one at least, and else it records at
+-- most so many events more than its tokens pay for.
+pub record Parsed (first : ℕ → Bool) (k room : ℕ) (old new : State) : Type 0 where
+  pub grew : Grew old new k
+  pub took : first (next old) ≡ true → Took old new room
+
+-- a type
+abbrev pub IsType : State → State → Type 0
+IsType old new = Parsed is_type_first 8 type_room old new
+
+-- a pattern: where it takes no token, the next one is as before
+pub record IsPattern (old new : State) : Type 0 where
+  pub grew : Grew old new 8
+  pub took : stops_pattern (next old) ≡ false → Took old new pattern_room
+  pub stays : stops_pattern (next old) ≡ true → next new ≡ next old
+
 -- what each rule asks
 abbrev pub Pre : Rule → State → Type 0
 Pre (rule.Expr m r bp) s = IsNewest s m × (1 ≤ bp)
+Pre (rule.Ty allow_bounds) s = Unit {0}
+Pre rule.TraitPath s = starts_use_path s.rest ≡ true
+Pre rule.GenericArg s = is_generic_arg_first (next s) ≡ true
+Pre rule.GenericParamList s = next s ≡ L_ANGLE
+Pre rule.Pattern s = Unit {0}
+Pre rule.PatternSingle s = Unit {0}
+Pre rule.Meta s = Unit {0}
+Pre rule.CfgPredicate s = Unit {0}
 
 -- what each rule gives
 abbrev pub Post : Rule → State → State → Option (CompletedMarker × BlockLike) → Type 0
 Post (rule.Expr m r bp) old new e = Answered old new m r.prefer_stmt bp e × Follows (expr_bp (is_some m) r bp) (of_expr e) old new
+Post (rule.Ty allow_bounds) old new e = IsType old new × Follows (type_with_bounds_cond allow_bounds) something old new
+Post rule.TraitPath old new e = Took old new type_room × Follows (path_type_bounds true) something old new
+Post rule.GenericArg old new e = Took old new element_room × Follows generic_arg something old new
+Post rule.GenericParamList old new e = Took old new list_room × Follows generic_param_list something old new
+Post rule.Pattern old new e = IsPattern old new × Follows pattern_r something old new
+Post rule.PatternSingle old new e = IsPattern old new × Follows pattern_single_r something old new
+Post rule.Meta old new e = Grew old new 16 × Follows meta something old new
+Post rule.CfgPredicate old new e = Parsed is_cfg_predicate_first 8 element_room old new × Follows cfg_predicate something old new

@@ -1,6 +1,6 @@
 //! The rules, one function each, and what they share.
 ghost use Rattle.std.specs.Prelude.{◌≡◌, ◌≢◌, ℕ, Bool, ◌<◌, ◌≤◌, OnOk, IfOk, true, false};
-ghost use Rattle.rap_base.specs.TokenKind.{EOF};
+ghost use Rattle.rap_base.specs.TokenKind.{EOF, IDENT, LIFETIME_IDENT, EXTERN_KW};
 ghost use Rattle.rap_base.specs.TokenSet.{member};
 ghost use Rattle.rap_events.specs.State.{state, next, At};
 ghost use Rattle.rap_grammar.specs.First.{is_path_name, is_path_name_or_index};
@@ -18,10 +18,17 @@ use rap_base::syntax_kind::SyntaxKind;
 use rap_base::token_set::TokenSet;
 use rap_events::parser::Parser;
 
+mod attributes;
 pub mod entry;
 mod expressions;
+mod generic_args;
+mod generic_params;
+mod items;
 mod knot;
+mod params;
 mod paths;
+mod patterns;
+mod types;
 
 use knot::Grammar;
 
@@ -89,6 +96,102 @@ fn name_ref_mod_path_or_index(p: &mut Parser<'_>) -> Result<(), NoMemory>
         p.err_and_bump("expected integer, identifier, `self`, `super`, `crate`, or `Self`")?;
     }
     Ok(())
+}
+
+/// A lifetime, as `'a`.
+fn lifetime(p: &mut Parser<'_>) -> Result<(), NoMemory>
+    requires here { next (state p.old) ≡ LIFETIME_IDENT }
+    ensures took { OnOk result (Took (state p.old) (state p.new) name_room) }
+    ensures script { OnOk result (Follows script.lifetime something (state p.old) (state p.new)) }
+{
+    let m = p.start()?;
+    p.bump(T![lifetime_ident])?;
+    m.complete(p, SyntaxKind::LIFETIME)?;
+    Ok(())
+}
+
+/// A name that is given, as the `a` of `let a`. Where it is missing, the next token is taken along, unless it is a brace
+/// or in the set.
+fn name_r(p: &mut Parser<'_>, recovery: TokenSet) -> Result<(), NoMemory>
+    ensures grew { OnOk result (Grew (state p.old) (state p.new) 3) }
+    ensures took { OnOk result (next (state p.old) ≡ IDENT → Took (state p.old) (state p.new) name_room) }
+    ensures script { OnOk result ((kept : ℕ → Bool) → ((kind : ℕ) → member recovery kind ≡ kept kind) → Follows (script.name_r kept) something (state p.old) (state p.new)) }
+{
+    if p.at(T![ident]) {
+        let m = p.start()?;
+        p.bump(T![ident])?;
+        m.complete(p, SyntaxKind::NAME)?;
+        return Ok(());
+    }
+    p.err_recover("expected a name", recovery)?;
+    Ok(())
+}
+
+/// A name that is given.
+fn name(p: &mut Parser<'_>) -> Result<(), NoMemory>
+    ensures grew { OnOk result (Grew (state p.old) (state p.new) 3) }
+    ensures took { OnOk result (next (state p.old) ≡ IDENT → Took (state p.old) (state p.new) name_room) }
+    ensures script { OnOk result (Follows script.name something (state p.old) (state p.new)) }
+{
+    name_r(p, TokenSet::new(&[]))?;
+    Ok(())
+}
+
+/// A field by its name or number, as the `a` of `S { a: 1 }`.
+fn name_ref_or_index(p: &mut Parser<'_>) -> Result<(), NoMemory>
+    requires more { next (state p.old) ≢ EOF }
+    ensures took { OnOk result (Took (state p.old) (state p.new) name_room) }
+    ensures script { OnOk result (Follows script.name_ref_or_index something (state p.old) (state p.new)) }
+{
+    let m = p.start()?;
+    p.bump_any()?;
+    m.complete(p, SyntaxKind::NAME_REF)?;
+    Ok(())
+}
+
+/// A name or `Self`.
+fn name_ref_or_upper_self(p: &mut Parser<'_>) -> Result<(), NoMemory>
+    ensures grew { OnOk result (Grew (state p.old) (state p.new) 3) }
+    ensures took { OnOk result (next (state p.old) ≢ EOF → Took (state p.old) (state p.new) name_room) }
+    ensures script { OnOk result (Follows script.name_ref_or_upper_self something (state p.old) (state p.new)) }
+{
+    if matches!(p.current(), T![ident] | T![Self]) {
+        let m = p.start()?;
+        p.bump_any()?;
+        m.complete(p, SyntaxKind::NAME_REF)?;
+    } else {
+        p.err_and_bump("expected identifier or `Self`")?;
+    }
+    Ok(())
+}
+
+/// An ABI, as `extern "C"`.
+fn abi(p: &mut Parser<'_>) -> Result<(), NoMemory>
+    requires here { next (state p.old) ≡ EXTERN_KW }
+    ensures took { OnOk result (Took (state p.old) (state p.new) name_room) }
+    ensures script { OnOk result (Follows script.abi something (state p.old) (state p.new)) }
+{
+    let m = p.start()?;
+    p.bump(T![extern])?;
+    p.eat(T![string])?;
+    m.complete(p, SyntaxKind::ABI)?;
+    Ok(())
+}
+
+/// What a function gives back, as `-> a`, if it says so. Tells whether it does.
+fn opt_ret_type<G: Grammar>(p: &mut Parser<'_>, g: &G) -> Result<bool, NoMemory>
+    requires within { Within G.valid G.left g.now (state p.old) }
+    ensures grew { OnOk result (Grew (state p.old) (state p.new) 0) }
+    ensures script { IfOk result (λ found. Follows script.opt_ret_type (of_bool found) (state p.old) (state p.new)) }
+{
+    if !p.at(T![->]) {
+        return Ok(false);
+    }
+    let m = p.start()?;
+    p.bump(T![->])?;
+    types::type_no_bounds(p, g)?;
+    m.complete(p, SyntaxKind::RET_TYPE)?;
+    Ok(true)
 }
 
 /// What stands between the delimiters of a list.

@@ -13,7 +13,12 @@ ghost use Rattle.rap_grammar.specs.Rules.{Pre, Post};
 ghost use Rattle.rap_events.specs.State.{state};
 
 use super::BlockLike;
+use super::attributes::{cfg_predicate, meta};
 use super::expressions::{Restrictions, expr_bp};
+use super::generic_args::generic_arg;
+use super::generic_params::generic_param_list;
+use super::patterns::{pattern_r, pattern_single_r};
+use super::types::{path_type_bounds, type_with_bounds_cond};
 use rap_base::no_memory::NoMemory;
 use rap_events::parser::{CompletedMarker, Marker, Parser};
 
@@ -40,9 +45,22 @@ pub enum Rule {
         r: Restrictions,
         bp: u8,
     },
+    /// A type, with bounds after it where they are allowed.
+    Ty { allow_bounds: bool },
+    /// A path as a type, and bounds after it.
+    TraitPath,
+    GenericArg,
+    GenericParamList,
+    /// A pattern, with its alternatives.
+    Pattern,
+    PatternSingle,
+    /// What stands in the brackets of an attribute.
+    Meta,
+    CfgPredicate,
 }
 
-/// What a rule gives: its node, if it made one, and whether that reads like a block.
+/// What a rule gives: an expression's node, if it made one, and whether that reads like a block. The other rules give
+/// none.
 pub type Answer = Option<(CompletedMarker, BlockLike)>;
 
 /// The grammar, by a call that runs any rule.
@@ -82,6 +100,38 @@ pub fn run(p: &mut Parser<'_>, rule: Rule) -> Result<Answer, NoMemory>
         Rule::Expr { m, r, bp } => {
             let expr = expr_bp(p, &g, m, r, bp)?;
             Ok(expr)
+        }
+        Rule::Ty { allow_bounds } => {
+            type_with_bounds_cond(p, &g, allow_bounds)?;
+            Ok(None)
+        }
+        Rule::TraitPath => {
+            path_type_bounds(p, &g, true)?;
+            Ok(None)
+        }
+        Rule::GenericArg => {
+            generic_arg(p, &g)?;
+            Ok(None)
+        }
+        Rule::GenericParamList => {
+            generic_param_list(p, &g)?;
+            Ok(None)
+        }
+        Rule::Pattern => {
+            pattern_r(p, &g)?;
+            Ok(None)
+        }
+        Rule::PatternSingle => {
+            pattern_single_r(p, &g)?;
+            Ok(None)
+        }
+        Rule::Meta => {
+            meta(p, &g)?;
+            Ok(None)
+        }
+        Rule::CfgPredicate => {
+            cfg_predicate(p, &g)?;
+            Ok(None)
         }
     }
 }

@@ -3,7 +3,7 @@ ghost use Rattle.std.specs.Prelude.{◌≡◌, ℕ, ◌<◌, ◌≤◌, IfOk, On
 ghost use Rattle.rap_base.specs.NodeKind.{PATH, PATH_SEGMENT};
 ghost use Rattle.rap_base.specs.TokenSet.{member};
 ghost use Rattle.rap_events.specs.State.{state, next, IsLast, but_last};
-ghost use Rattle.rap_grammar.specs.First.{is_path_name, is_path_first, starts_path};
+ghost use Rattle.rap_grammar.specs.First.{is_path_name, is_path_first, starts_path, starts_use_path};
 ghost use Rattle.rap_grammar.specs.Grew.{Grew, Took, Spent, Closes, Dropped};
 ghost use Rattle.rap_grammar.specs.Knot.{Follows};
 ghost use Rattle.rap_grammar.specs.Paths as script;
@@ -24,7 +24,7 @@ use rap_events::parser::{CompletedMarker, Marker, Parser};
 pub(super) fn is_path_first(kind: SyntaxKind) -> bool
     ensures { result ≡ is_path_first kind }
 {
-    is_path_name(kind) || kind == T![:]
+    is_path_name(kind) || matches!(kind, T![:] | T![<])
 }
 
 /// Whether a path comes next.
@@ -86,6 +86,16 @@ fn expr_path_segment_recovery_set() -> TokenSet
     ensures { (kind : ℕ) → member result kind ≡ is_expr_path_segment_recovery kind }
 {
     expr_recovery_set().union(item_recovery_set())
+}
+
+/// Whether a path comes next that begins with a name or `::`, and with no `Self`.
+pub(super) fn is_use_path_start(p: &Parser<'_>) -> bool
+    ensures { result ≡ starts_use_path (state p.now).rest }
+{
+    matches!(
+        p.current(),
+        T![ident] | T![self] | T![super] | T![crate]
+    ) || p.at(T![::])
 }
 
 /// What items begin with, and the semicolon after them.

@@ -1,16 +1,16 @@
 //! Expressions that begin with no operator.
 ghost use Rattle.std.specs.Prelude.{◌≡◌, ◌≢◌, ℕ, ◌<◌, ◌≤◌, IfOk, OnOk, IfSome, true, ◌⊎◌};
-ghost use Rattle.rap_base.specs.TokenKind.{EOF, L_PAREN, L_BRACK};
+ghost use Rattle.rap_base.specs.TokenKind.{EOF, L_PAREN, L_BRACK, L_CURLY};
 ghost use Rattle.rap_base.specs.NodeKind.{LITERAL, PATH_EXPR, PAREN_EXPR, TUPLE_EXPR, ARRAY_EXPR};
 ghost use Rattle.rap_base.specs.TokenSet.{member};
 ghost use Rattle.rap_events.specs.State.{state, next};
 ghost use Rattle.rap_grammar.specs.Atom as script;
 ghost use Rattle.rap_grammar.specs.Expressions.{of_expr};
 ghost use Rattle.rap_grammar.specs.First.{is_literal_first, is_atom_expr_first, starts_path};
-ghost use Rattle.rap_grammar.specs.Grew.{Within, Behind, Grew, Made, Makes, Optional};
+ghost use Rattle.rap_grammar.specs.Grew.{Within, Behind, Grew, Took, Made, Makes, Optional};
 ghost use Rattle.rap_grammar.specs.Knot.{Follows};
 ghost use Rattle.rap_grammar.specs.Recovery.{is_expr_recovery};
-ghost use Rattle.rap_grammar.specs.Room.{atom_room};
+ghost use Rattle.rap_grammar.specs.Room.{atom_room, name_room};
 ghost use Rattle.rap_grammar.specs.Rules.{Operand};
 ghost use Rattle.rap_grammar.specs.Script.{something};
 ghost use Rattle.rap_grammar.specs.Words.{of_option, of_bool};
@@ -97,6 +97,20 @@ pub(super) fn atom_expr<G: Grammar>(
             Ok(None)
         }
     }
+}
+
+/// A block. So far its `{` alone stands in an `ERROR`.
+pub(in crate::grammar) fn block_expr(p: &mut Parser<'_>) -> Result<(), NoMemory>
+    ensures grew { OnOk result (Grew (state p.old) (state p.new) 3) }
+    ensures took { OnOk result (next (state p.old) ≡ L_CURLY → Took (state p.old) (state p.new) name_room) }
+    ensures script { OnOk result (Follows script.block_expr something (state p.old) (state p.new)) }
+{
+    if !p.at(T!['{']) {
+        p.error("expected a block")?;
+        return Ok(());
+    }
+    p.err_and_bump("expected a block")?;
+    Ok(())
 }
 
 /// A path as an expression, as `a::b`.
