@@ -80,7 +80,7 @@ starts_use_path rs = one_of (IDENT ∷ SELF_KW ∷ SUPER_KW ∷ CRATE_KW ∷ [])
 
 -- a path comes next
 abbrev pub starts_path : List Record → Bool
-starts_path rs = is_path_name (next_kind rs) || begins_with (parts COLON2) rs
+starts_path rs = (is_path_name (next_kind rs) || begins_with (parts COLON2) rs) || (next_kind rs == L_ANGLE)
 
 -- a bracket that opens
 abbrev pub is_bracket : ℕ → Bool

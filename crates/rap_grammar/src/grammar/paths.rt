@@ -4,7 +4,7 @@ ghost use Rattle.rap_base.specs.NodeKind.{PATH, PATH_SEGMENT};
 ghost use Rattle.rap_base.specs.TokenSet.{member};
 ghost use Rattle.rap_events.specs.State.{state, next, IsLast, but_last};
 ghost use Rattle.rap_grammar.specs.First.{is_path_name, is_path_first, starts_path, starts_use_path};
-ghost use Rattle.rap_grammar.specs.Grew.{Grew, Took, Spent, Closes, Dropped};
+ghost use Rattle.rap_grammar.specs.Grew.{Within, Grew, Took, Spent, Closes, Dropped};
 ghost use Rattle.rap_grammar.specs.Knot.{Follows};
 ghost use Rattle.rap_grammar.specs.Paths as script;
 ghost use Rattle.rap_grammar.specs.Recovery.{is_item_recovery, is_expr_path_segment_recovery};
@@ -13,6 +13,7 @@ ghost use Rattle.rap_grammar.specs.Script.{something};
 ghost use Rattle.rap_grammar.specs.Words.{of_option};
 
 use super::expressions::expr_recovery_set;
+use super::knot::Grammar;
 use super::{is_path_name, name_ref_mod_path};
 use crate::token_kind::T;
 use rap_base::no_memory::NoMemory;
@@ -31,12 +32,58 @@ pub(super) fn is_path_first(kind: SyntaxKind) -> bool
 pub(super) fn is_path_start(p: &Parser<'_>) -> bool
     ensures { result ≡ starts_path (state p.now).rest }
 {
-    is_path_name(p.current()) || p.at(T![::])
+    is_path_name(p.current()) || p.at(T![::]) || p.at(T![<])
+}
+
+/// A path in an attribute, as `a::b` in `#[a::b]`.
+pub(super) fn attr_path<G: Grammar>(p: &mut Parser<'_>, g: &G) -> Result<(), NoMemory>
+    requires within { Within G.valid G.left g.now (state p.old) }
+    ensures grew { OnOk result (Grew (state p.old) (state p.new) 8) }
+    ensures took { OnOk result (starts_path (state p.old).rest ≡ true → Took (state p.old) (state p.new) path_room) }
+    ensures script { OnOk result (Follows script.attr_path something (state p.old) (state p.new)) }
+{
+    Ok(())
+}
+
+/// A path in a type, as `a::b<c>`.
+pub(super) fn type_path<G: Grammar>(p: &mut Parser<'_>, g: &G) -> Result<(), NoMemory>
+    requires within { Within G.valid G.left g.now (state p.old) }
+    requires path { starts_path (state p.old).rest ≡ true }
+    ensures took { OnOk result (Took (state p.old) (state p.new) path_room) }
+    ensures script { OnOk result (Follows script.type_path something (state p.old) (state p.new)) }
+{
+    Ok(())
+}
+
+/// The segments after a first path in a type, as `::b<c>` after `a`.
+pub(super) fn type_path_for_qualifier<G: Grammar>(
+    p: &mut Parser<'_>,
+    g: &G,
+    qual: CompletedMarker,
+) -> Result<CompletedMarker, NoMemory>
+    requires within { Within G.valid G.left g.now (state p.old) }
+    requires last { IsLast (state p.old) qual PATH }
+    ensures grew { OnOk result (Grew (state p.old) (state p.new) 0) }
+    ensures last { IfOk result (λ cm. IsLast (state p.new) cm PATH) }
+    ensures one { OnOk result (but_last (state p.new).forest ≡ but_last (state p.old).forest) }
+    ensures script { OnOk result (Follows script.type_path_for_qualifier something (state p.old) (state p.new)) }
+{
+    Ok(qual)
+}
+
+/// The arguments behind a name in a type, as `<a>`, `::<a>` and `(a) -> b`, if there are.
+pub(super) fn opt_path_type_args<G: Grammar>(p: &mut Parser<'_>, g: &G) -> Result<(), NoMemory>
+    requires within { Within G.valid G.left g.now (state p.old) }
+    ensures grew { OnOk result (Grew (state p.old) (state p.new) 0) }
+    ensures script { OnOk result (Follows script.opt_path_type_args something (state p.old) (state p.new)) }
+{
+    Ok(())
 }
 
 /// A path in an expression, as `a::b` and `::a`.
-pub(super) fn expr_path(p: &mut Parser<'_>) -> Result<(), NoMemory>
-    requires { starts_path (state p.old).rest ≡ true }
+pub(super) fn expr_path<G: Grammar>(p: &mut Parser<'_>, g: &G) -> Result<(), NoMemory>
+    requires within { Within G.valid G.left g.now (state p.old) }
+    requires path { starts_path (state p.old).rest ≡ true }
     ensures took { OnOk result (Took (state p.old) (state p.new) path_room) }
     ensures script { OnOk result (Follows script.expr_path something (state p.old) (state p.new)) }
 {

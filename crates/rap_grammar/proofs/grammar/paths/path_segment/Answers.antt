@@ -18,5 +18,5 @@ returns-clause-script c = record { run = rw c.if-not-first.false (by_start c.in_
 pub returns-clause-took : goal.returns-clause-took
 returns-clause-took c = λ f h.
     let n = c.in_ok-segment-3.ensures in
-    let named = n.took (name_left c.in_ok-eat.ensures.state c.if-branch.false (rw c.in_ok-m.ensures.state.recorded.rest h)) in
+    let named = n.took (name_left c.in_ok-eat.ensures.state c.if-branch.false ? (rw c.in_ok-m.ensures.state.recorded.rest h)) in
     segment_took c.in_ok-segment-3.segment c.in_ok-m.ensures.state c.in_ok-eat.ensures.state n.some n.none named
