@@ -26,7 +26,7 @@ use rap_base::token_set::TokenSet;
 use rap_events::parser::{CompletedMarker, Parser};
 
 /// Whether a kind is a literal.
-fn is_literal_first(kind: SyntaxKind) -> bool
+pub(in crate::grammar) fn is_literal_first(kind: SyntaxKind) -> bool
     ensures { result ≡ is_literal_first kind }
 {
     matches!(
@@ -45,8 +45,12 @@ fn is_literal_first(kind: SyntaxKind) -> bool
 
 /// A literal, as `1` and `true`, if one comes next.
 #[inline(never)]
-fn literal(p: &mut Parser<'_>) -> Result<Option<CompletedMarker>, NoMemory>
+pub(in crate::grammar) fn literal(
+    p: &mut Parser<'_>,
+) -> Result<Option<CompletedMarker>, NoMemory>
     ensures made { IfOk result (Optional LITERAL atom_room (state p.old) (state p.new)) }
+    ensures grew { OnOk result (Grew (state p.old) (state p.new) 0) }
+    ensures took { OnOk result (is_literal_first (next (state p.old)) ≡ true → Took (state p.old) (state p.new) atom_room) }
     ensures script { IfOk result (λ o. Follows script.literal (of_option o) (state p.old) (state p.new)) }
 {
     if !is_literal_first(p.current()) {
