@@ -7,11 +7,11 @@ ghost use Rattle.rap_events.specs.State.{state, next, At, NthAt, Bears, IsLast};
 ghost use Rattle.rap_grammar.specs.Called as called;
 ghost use Rattle.rap_grammar.specs.First.{one_of, is_pattern_first, is_pat_top_first, is_range_pat_end_first, starts_path};
 ghost use Rattle.rap_grammar.specs.Patterns as script;
-ghost use Rattle.rap_grammar.specs.Patterns.{names_path, starts_literal_pat, starts_rest_pat, ends_range_pat};
+ghost use Rattle.rap_grammar.specs.Patterns.{names_path, starts_field, starts_literal_pat, starts_rest_pat, ends_range_pat};
 ghost use Rattle.rap_grammar.specs.Grew.{Within, Behind, Grew, Took, Made, Makes};
 ghost use Rattle.rap_grammar.specs.Knot.{Follows};
 ghost use Rattle.rap_grammar.specs.Recovery.{is_pattern_recovery};
-ghost use Rattle.rap_grammar.specs.Room.{name_room, name_end_room, list_room, atom_pattern_room, single_pattern_room};
+ghost use Rattle.rap_grammar.specs.Room.{name_room, list_room, atom_pattern_room, single_pattern_room};
 ghost use Rattle.rap_grammar.specs.Rules.{PatternIn, IsPattern, IsSinglePattern, IsAtomPattern};
 ghost use Rattle.rap_grammar.specs.Script.{something, nothing};
 ghost use Rattle.rap_grammar.specs.Words.{of_bool, of_option};
@@ -320,6 +320,7 @@ fn symbol_pat<G: Grammar>(
 #[inline(never)]
 fn missing_pat(p: &mut Parser<'_>) -> Result<(), NoMemory>
     requires no_reference { next (state p.old) ≢ AMP }
+    requires end { next (state p.old) ≡ EOF → (state p.old).rest ≡ [] }
     ensures reads { OnOk result (PatternIn 3 atom_pattern_room (state p.old) (state p.new)) }
     ensures script { OnOk result (Follows script.missing_pat nothing (state p.old) (state p.new)) }
 {
@@ -433,26 +434,33 @@ fn tuple_pat_fields<G: Grammar>(p: &mut Parser<'_>, g: &G) -> Result<(), NoMemor
     Ok(())
 }
 
+/// Whether a field's name or number and this separator come next.
+fn at_field(p: &Parser<'_>, separator: SyntaxKind) -> bool
+    ensures { result ≡ starts_field separator (state p.now).rest }
+{
+    matches!(p.current(), T![ident] | T![int_number]) && p.nth(1) == separator
+}
+
 /// A field of a record, as `x: 1`, `ref x` and `box x`.
 fn record_pat_field<G: Grammar>(p: &mut Parser<'_>, g: &G) -> Result<(), NoMemory>
     requires within { Within G.valid G.left g.now (state p.old) }
     ensures grew { OnOk result (Grew (state p.old) (state p.new) 3) }
-    ensures took { OnOk result (next (state p.old) ≢ EOF → Took (state p.old) (state p.new) list_room) }
+    ensures took { OnOk result (next (state p.old) ≢ EOF → Took (state p.old) (state p.new) atom_pattern_room) }
     ensures script { OnOk result (Follows script.record_pat_field something (state p.old) (state p.new)) }
 {
+    if at_field(p, T![:]) {
+        name_ref_or_index(p)?;
+        p.bump(T![:])?;
+        pattern(p, g)?;
+        return Ok(());
+    }
+    if at_field(p, T![=]) {
+        name_ref_or_index(p)?;
+        p.err_and_bump("expected `:`")?;
+        pattern(p, g)?;
+        return Ok(());
+    }
     match p.current() {
-        T![ident] | T![int_number] if p.nth(1) == T![:] => {
-            name_ref_or_index(p)?;
-            p.bump(T![:])?;
-            pattern(p, g)?;
-            Ok(())
-        }
-        T![ident] | T![int_number] if p.nth(1) == T![=] => {
-            name_ref_or_index(p)?;
-            p.err_and_bump("expected `:`")?;
-            pattern(p, g)?;
-            Ok(())
-        }
         T![box] => {
             box_pat(p, g)?;
             Ok(())
@@ -502,7 +510,7 @@ fn record_pat_fields<G: Grammar>(p: &mut Parser<'_>, g: &G) -> Result<(), NoMemo
 fn record_pat_element<G: Grammar>(p: &mut Parser<'_>, g: &G) -> Result<(), NoMemory>
     requires within { Within G.valid G.left g.now (state p.old) }
     requires more { next (state p.old) ≢ EOF }
-    ensures took { OnOk result (Took (state p.old) (state p.new) name_end_room) }
+    ensures took { OnOk result (Took (state p.old) (state p.new) single_pattern_room) }
     ensures script { OnOk result (Follows script.record_pat_element something (state p.old) (state p.new)) }
 {
     let m = p.start()?;
