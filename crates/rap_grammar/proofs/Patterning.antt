@@ -1,10 +1,11 @@
 -- Where no pattern begins, and what a list of patterns has taken.
 use Rattle.std.proofs.Common.{◌≡◌, ◌≢◌, ℕ, Bool, true, false, ◌==◌, ◌||◌, List, [], ◌∷◌, drop, refl, sym, ◌∙◌, ap, arith}
 use Rattle.std.proofs.lemmas.Bool.Decides.{nat_tests}
-use Rattle.rap_base.specs.TokenKind.{EOF, AMP, COMMA, L_CURLY, R_CURLY}
+use Rattle.rap_base.specs.TokenKind.{EOF, AMP, COMMA, BUILTIN_KW, L_CURLY, R_CURLY}
 use Rattle.rap_base.specs.TokenSet.{member}
 use Rattle.rap_base.specs.declared.token_set.TokenSet.{TokenSet}
 use Rattle.rap_events.specs.Record.{Record, next_kind, kind_at}
+use Rattle.rap_events.specs.Cover.{first_may_bear}
 use Rattle.rap_events.specs.State.{State, next, Ate, Recovered}
 use Rattle.rap_grammar.specs.Grew.{Grew, Took}
 use Rattle.rap_events.proofs.Truth.{and_right}
@@ -68,3 +69,8 @@ next_is_second (r ∷ s ∷ rs) = refl
 -- behind a field's name its separator comes next
 pub separator_next : (separator : ℕ) (rs : List Record) {qs : List Record} → starts_field separator rs ≡ true → qs ≡ drop 1 rs → (next_kind qs == separator) ≡ true
 separator_next separator rs h e = ap (λ (k : ℕ). k == separator) (ap next_kind e ∙ next_is_second rs) ∙ and_right _ _ h
+
+-- `builtin` begins a pattern
+pub builtin_no_stop : (rs : List Record) → first_may_bear rs BUILTIN_KW ≡ true → stops_pattern (next_kind rs) ≡ false
+builtin_no_stop [] h = absurd cc
+builtin_no_stop (r ∷ rs) h = grind (arith, nat_tests)
