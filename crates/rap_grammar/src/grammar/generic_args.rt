@@ -4,6 +4,7 @@ ghost use Rattle.rap_base.specs.TokenKind.{EOF, L_ANGLE, COLON, FOR_KW, L_PAREN,
 ghost use Rattle.rap_base.specs.NodeKind.{PATH, PATH_TYPE, TYPE_BOUND_LIST};
 ghost use Rattle.rap_events.specs.State.{state, next, At, IsLast, but_last};
 ghost use Rattle.rap_grammar.specs.ConstArgs as const_script;
+ghost use Rattle.rap_grammar.specs.Paths as paths_script;
 ghost use Rattle.rap_grammar.specs.First.{is_type_first, is_generic_arg_first, is_cfg_predicate_first, is_outer_attr_first, starts_use_path, starts_path};
 ghost use Rattle.rap_grammar.specs.GenericArgs as script;
 ghost use Rattle.rap_grammar.specs.Grew.{Within, Behind, Grew, Took, Makes, Wraps, Closes};
@@ -34,6 +35,15 @@ pub(super) fn const_arg<G: Grammar>(p: &mut Parser<'_>, g: &G) -> Result<(), NoM
     requires within { Within G.valid G.left g.now (state p.old) }
     ensures grew { OnOk result (Grew (state p.old) (state p.new) 8) }
     ensures script { OnOk result (Follows const_script.const_arg something (state p.old) (state p.new)) }
+{
+    Ok(())
+}
+
+/// The arguments behind a `::`, as `::<T>` of `f::<T>`, if there are.
+pub(super) fn opt_generic_arg_list_expr<G: Grammar>(p: &mut Parser<'_>, g: &G) -> Result<(), NoMemory>
+    requires within { Within G.valid G.left g.now (state p.old) }
+    ensures grew { OnOk result (Grew (state p.old) (state p.new) 0) }
+    ensures script { OnOk result (Follows paths_script.opt_generic_arg_list_expr something (state p.old) (state p.new)) }
 {
     Ok(())
 }
