@@ -1,5 +1,5 @@
 -- Types.
-use Rattle.std.specs.Prelude.{ℕ, Bool, true, false, ◌==◌, ◌&&◌, ◌||◌, not, if◌then◌else◌, drop, codes}
+use Rattle.std.specs.Prelude.{ℕ, Bool, true, false, ◌==◌, ◌&&◌, ◌||◌, not, if◌then◌else◌, [], ◌∷◌, drop, codes}
 use Rattle.rap_base.specs.TokenKind.{EOF, ERROR, L_PAREN, R_PAREN, L_BRACK, R_BRACK, L_ANGLE, L_CURLY, COMMA, SEMICOLON, PLUS, STAR, AMP, BANG, NEQ, UNDERSCORE, POUND, LIFETIME_IDENT, MUT_KW, CONST_KW, FN_KW, UNSAFE_KW, EXTERN_KW, FOR_KW, IMPL_KW, DYN_KW, BUILTIN_KW, PATTERN_TYPE_KW, IS_KW}
 use Rattle.rap_base.specs.NodeKind.{PAREN_TYPE, TUPLE_TYPE, NEVER_TYPE, PTR_TYPE, SLICE_TYPE, ARRAY_TYPE, CONST_ARG, REF_TYPE, INFER_TYPE, FN_PTR_TYPE, FOR_TYPE, IMPL_TRAIT_TYPE, DYN_TRAIT_TYPE, TYPE_BOUND, MACRO_CALL, MACRO_TYPE, PATH_TYPE, PATTERN_TYPE}
 use Rattle.rap_events.specs.Record.{next_kind}
