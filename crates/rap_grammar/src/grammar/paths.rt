@@ -9,7 +9,7 @@ ghost use Rattle.rap_grammar.specs.First.{is_path_name, is_path_first, starts_pa
 ghost use Rattle.rap_grammar.specs.Grew.{Within, Behind, Grew, Took, Spent, Closes, Dropped, Ended};
 ghost use Rattle.rap_grammar.specs.Knot.{Follows};
 ghost use Rattle.rap_grammar.specs.Paths as script;
-ghost use Rattle.rap_grammar.specs.Recovery.{is_item_recovery, is_type_recovery, is_segment_recovery};
+ghost use Rattle.rap_grammar.specs.Recovery.{is_item_recovery, is_segment_recovery};
 ghost use Rattle.rap_grammar.specs.Room.{name_room, name_end_room, segment_room, path_room, element_room, list_room};
 ghost use Rattle.rap_grammar.specs.Script.{something};
 ghost use Rattle.rap_grammar.specs.Words.{of_option};
@@ -17,7 +17,7 @@ ghost use Rattle.rap_grammar.specs.Words.{of_option};
 use super::expressions::expr_recovery_set;
 use super::generic_args::{generic_arg_list, opt_generic_arg_list_expr};
 use super::knot::{Grammar, Rule};
-use super::types::{is_type_first, type_};
+use super::types::{is_type_first, type_, type_recovery_set};
 use super::{Element, delimited, is_path_name, name_ref_mod_path, opt_ret_type};
 use crate::token_kind::T;
 use rap_base::no_memory::NoMemory;
@@ -295,13 +295,6 @@ fn segment_recovery_set(mode: Mode) -> TokenSet
         Mode::Expr => expr_recovery_set().union(item_recovery_set()),
         Mode::Vis => item_recovery_set().union(TokenSet::new(&[T![')']])),
     }
-}
-
-/// What ends the search for a type.
-fn type_recovery_set() -> TokenSet
-    ensures { (kind : ℕ) → member result kind ≡ is_type_recovery kind }
-{
-    TokenSet::new(&[T![')'], T![']'], T!['}'], T![>], T![,], T![pub]])
 }
 
 /// What items begin with, and the semicolon after them.
