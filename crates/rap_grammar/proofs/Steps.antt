@@ -1,6 +1,6 @@
 -- What each call of the parser does of a script.
-use Rattle.std.proofs.Common.{◌≡◌, ◌≢◌, ℕ, List, Bool, true, false, ◌&&◌, ◌||◌, Option, Some, None, drop, refl, sym, ap, subst, ◌∙◌}
-use Rattle.rap_base.specs.TokenKind.{EOF, COLON2}
+use Rattle.std.proofs.Common.{◌≡◌, ◌≢◌, ℕ, List, Bool, true, false, ◌&&◌, ◌||◌, Option, Some, None, drop, ◌==◌, refl, sym, ap, subst, ◌∙◌}
+use Rattle.rap_base.specs.TokenKind.{EOF, COLON2, L_ANGLE}
 use Rattle.rap_base.specs.TokenSet.{member}
 use Rattle.rap_base.specs.declared.token_set.TokenSet.{TokenSet}
 use Rattle.rap_events.specs.Record.{Record}
@@ -195,9 +195,14 @@ first_of : {a b : Bool} → b ≡ false → a || b ≡ true → a ≡ true
 first_of {a = true} e h = refl
 first_of {a = false} e h = absurd (clash h e)
 
--- where a path begins and no `::` was taken, a name comes next
-pub name_left : {s t : State} {b : Bool} → Ate s t COLON2 b → b ≡ false → starts_path s.rest ≡ true → is_path_name (next t) ≡ true
-name_left {s = s} {t = t} a e h =
+-- where a path begins with no `<` and no `::` was taken, a name comes next
+pub name_left : {s t : State} {b : Bool} → Ate s t COLON2 b → b ≡ false → (next s == L_ANGLE) ≡ false → starts_path s.rest ≡ true → is_path_name (next t) ≡ true
+name_left {s = s} {t = t} a e l h =
     let n : is_at COLON2 s.rest ≡ false = sym a.decided ∙ e in
-    let p : is_path_name (next s) ≡ true = first_of n h in
+    let p : is_path_name (next s) ≡ true = first_of n (first_of l h) in
     subst (λ (x : State). is_path_name (next x) ≡ true) (sym (a.not_token e)) p
+
+-- a test whose answer is a rule's outcome
+pub decided : {h : List Record → Bool} {a b : Script Phrase} {p q : Spot} {v : Outcome} (t : Bool) → t ≡ h p.rest → (t ≡ true → On a p q v) → (t ≡ false → On b p q v) → On (test h a b) p q v
+decided true e y n = passes (sym e) (y refl)
+decided false e y n = fails (sym e) (n refl)

@@ -26,7 +26,7 @@ use rap_base::token_set::TokenSet;
 use rap_events::parser::{CompletedMarker, Parser};
 
 /// Whether a kind is a literal.
-fn is_literal_first(kind: SyntaxKind) -> bool
+pub(in crate::grammar) fn is_literal_first(kind: SyntaxKind) -> bool
     ensures { result ≡ is_literal_first kind }
 {
     matches!(
@@ -87,7 +87,7 @@ pub(super) fn atom_expr<G: Grammar>(
         return Ok(Some((cm, BlockLike::NotBlock)));
     }
     if is_path_start(p) {
-        return Ok(Some((path_expr(p)?, BlockLike::NotBlock)));
+        return Ok(Some((path_expr(p, g)?, BlockLike::NotBlock)));
     }
     match p.current() {
         T!['('] => Ok(Some((tuple_expr(p, g)?, BlockLike::NotBlock))),
@@ -115,13 +115,14 @@ pub(in crate::grammar) fn block_expr(p: &mut Parser<'_>) -> Result<(), NoMemory>
 
 /// A path as an expression, as `a::b`.
 #[inline(never)]
-fn path_expr(p: &mut Parser<'_>) -> Result<CompletedMarker, NoMemory>
-    requires { starts_path (state p.old).rest ≡ true }
+fn path_expr<G: Grammar>(p: &mut Parser<'_>, g: &G) -> Result<CompletedMarker, NoMemory>
+    requires within { Within G.valid G.left g.now (state p.old) }
+    requires path { starts_path (state p.old).rest ≡ true }
     ensures made { IfOk result (Makes PATH_EXPR atom_room (state p.old) (state p.new)) }
     ensures script { OnOk result (Follows script.path_expr something (state p.old) (state p.new)) }
 {
     let m = p.start()?;
-    expr_path(p)?;
+    expr_path(p, g)?;
     let cm = m.complete(p, SyntaxKind::PATH_EXPR)?;
     Ok(cm)
 }
