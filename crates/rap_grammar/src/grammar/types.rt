@@ -15,6 +15,7 @@ ghost use Rattle.rap_grammar.specs.Rules.{IsType};
 ghost use Rattle.rap_grammar.specs.Script.{something};
 ghost use Rattle.rap_grammar.specs.TypeParts as parts;
 ghost use Rattle.rap_grammar.specs.Types as script;
+ghost use Rattle.rap_grammar.specs.Types.{starts_for_target, starts_macro_call, starts_builtin};
 ghost use Rattle.rap_grammar.specs.Words.{of_bool};
 
 use super::expressions::expr;
@@ -475,7 +476,7 @@ fn for_type<G: Grammar>(p: &mut Parser<'_>, g: &G, allow_bounds: bool) -> Result
 {
     let m = p.start()?;
     for_binder(p, g)?;
-    if !is_fn_ptr_first(p.current()) && !is_use_path_start(p) {
+    if !at_for_target(p) {
         p.error("expected a function pointer or path")?;
     }
     type_no_bounds(p, g)?;
@@ -485,6 +486,13 @@ fn for_type<G: Grammar>(p: &mut Parser<'_>, g: &G, allow_bounds: bool) -> Result
         return Ok(());
     }
     Ok(())
+}
+
+/// Whether a function pointer or a path comes next.
+fn at_for_target(p: &Parser<'_>) -> bool
+    ensures { result ≡ starts_for_target (state p.now).rest }
+{
+    is_fn_ptr_first(p.current()) || is_use_path_start(p)
 }
 
 /// A type by its bounds, as `impl a + 'b`.
@@ -557,12 +565,21 @@ fn path_or_macro_type<G: Grammar>(
     ensures took { OnOk result (Took (state p.old) (state p.new) type_room) }
     ensures script { OnOk result (Follows (script.path_or_macro_type allow_bounds) something (state p.old) (state p.new)) }
 {
-    if p.at_contextual_kw(T![builtin]) && p.nth_at(1, T![#]) {
+    if at_builtin(p) {
         pattern_type(p, g)?;
         return Ok(());
     }
     path_or_macro(p, g, allow_bounds)?;
     Ok(())
+}
+
+/// Whether `builtin#` comes next.
+fn at_builtin(p: &Parser<'_>) -> bool
+    ensures here { result ≡ starts_builtin (state p.now).rest }
+    ensures bears { IsTrue result → Bears (state p.now) BUILTIN_KW }
+    ensures pound { IsTrue result → NthAt (state p.now) 1 POUND }
+{
+    p.at_contextual_kw(T![builtin]) && p.nth_at(1, T![#])
 }
 
 /// A path as a type, as `a::b`, or a macro call, as `a!()`.
@@ -576,19 +593,26 @@ fn path_or_macro<G: Grammar>(p: &mut Parser<'_>, g: &G, allow_bounds: bool) -> R
     let r = p.start()?;
     let m = p.start()?;
     type_path(p, g)?;
-    let kind = if p.at(T![!]) && !p.at(T![!=]) {
+    if at_macro_call(p) {
         macro_call_after_excl(p)?;
         m.complete(p, SyntaxKind::MACRO_CALL)?;
-        SyntaxKind::MACRO_TYPE
-    } else {
-        m.abandon(p)?;
-        SyntaxKind::PATH_TYPE
-    };
-    let path = r.complete(p, kind)?;
+        r.complete(p, SyntaxKind::MACRO_TYPE)?;
+        return Ok(());
+    }
+    m.abandon(p)?;
+    let path = r.complete(p, SyntaxKind::PATH_TYPE)?;
     if allow_bounds {
         opt_type_bounds_as_dyn_trait_type(p, g, path)?;
+        return Ok(());
     }
     Ok(())
+}
+
+/// Whether the `!` of a macro call comes next, and no `!=`.
+fn at_macro_call(p: &Parser<'_>) -> bool
+    ensures { result ≡ starts_macro_call (state p.now).rest }
+{
+    p.at(T![!]) && !p.at(T![!=])
 }
 
 /// A path as a type, as `a::b`.
