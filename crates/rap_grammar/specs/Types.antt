@@ -165,12 +165,16 @@ missing_type =
     test (next_is L_CURLY) (report (codes "expected type, found `{`") done)
     (recover (codes "expected type") is_type_recovery done done)
 
+-- bounds come next that begin with a lifetime
+abbrev pub starts_bare_dyn : List Record → Bool
+starts_bare_dyn rs = next_is LIFETIME_IDENT rs && is_at PLUS (drop 1 rs)
+
 -- a type that begins with no symbol and no keyword of its own
 unfoldable pub named_type : Bool → Script Phrase
 named_type allow_bounds =
     test starts_weak_dyn dyn_trait_type_weak
     (test starts_path (path_or_macro_type allow_bounds)
-    (test (λ rs. next_is LIFETIME_IDENT rs && is_at PLUS (drop 1 rs)) bare_dyn_trait_type
+    (test starts_bare_dyn bare_dyn_trait_type
     missing_type))
 
 unfoldable pub type_with_bounds_cond : Bool → Script Phrase

@@ -15,7 +15,7 @@ ghost use Rattle.rap_grammar.specs.Rules.{IsType};
 ghost use Rattle.rap_grammar.specs.Script.{something};
 ghost use Rattle.rap_grammar.specs.TypeParts as parts;
 ghost use Rattle.rap_grammar.specs.Types as script;
-ghost use Rattle.rap_grammar.specs.Types.{starts_for_target, starts_macro_call, starts_builtin};
+ghost use Rattle.rap_grammar.specs.Types.{starts_bare_dyn, starts_for_target, starts_macro_call, starts_builtin};
 ghost use Rattle.rap_grammar.specs.Words.{of_bool};
 
 use super::expressions::expr;
@@ -163,12 +163,19 @@ fn named_type<G: Grammar>(p: &mut Parser<'_>, g: &G, allow_bounds: bool) -> Resu
         path_or_macro_type(p, g, allow_bounds)?;
         return Ok(());
     }
-    if p.current() == T![lifetime_ident] && p.nth_at(1, T![+]) {
+    if starts_bare_dyn(p) {
         bare_dyn_trait_type(p, g)?;
         return Ok(());
     }
     missing_type(p)?;
     Ok(())
+}
+
+/// Whether bounds come next that begin with a lifetime, as `'a + b`.
+fn starts_bare_dyn(p: &Parser<'_>) -> bool
+    ensures { result ≡ starts_bare_dyn (state p.now).rest }
+{
+    p.current() == T![lifetime_ident] && p.nth_at(1, T![+])
 }
 
 /// A type is missing: the next token stands in an `ERROR`, unless it is kept.
@@ -476,7 +483,7 @@ fn for_type<G: Grammar>(p: &mut Parser<'_>, g: &G, allow_bounds: bool) -> Result
 {
     let m = p.start()?;
     for_binder(p, g)?;
-    if !at_for_target(p) {
+    if !starts_for_target(p) {
         p.error("expected a function pointer or path")?;
     }
     type_no_bounds(p, g)?;
@@ -489,7 +496,7 @@ fn for_type<G: Grammar>(p: &mut Parser<'_>, g: &G, allow_bounds: bool) -> Result
 }
 
 /// Whether a function pointer or a path comes next.
-fn at_for_target(p: &Parser<'_>) -> bool
+fn starts_for_target(p: &Parser<'_>) -> bool
     ensures { result ≡ starts_for_target (state p.now).rest }
 {
     is_fn_ptr_first(p.current()) || is_use_path_start(p)
@@ -565,7 +572,7 @@ fn path_or_macro_type<G: Grammar>(
     ensures took { OnOk result (Took (state p.old) (state p.new) type_room) }
     ensures script { OnOk result (Follows (script.path_or_macro_type allow_bounds) something (state p.old) (state p.new)) }
 {
-    if at_builtin(p) {
+    if starts_builtin(p) {
         pattern_type(p, g)?;
         return Ok(());
     }
@@ -574,7 +581,7 @@ fn path_or_macro_type<G: Grammar>(
 }
 
 /// Whether `builtin#` comes next.
-fn at_builtin(p: &Parser<'_>) -> bool
+fn starts_builtin(p: &Parser<'_>) -> bool
     ensures here { result ≡ starts_builtin (state p.now).rest }
     ensures bears { IsTrue result → Bears (state p.now) BUILTIN_KW }
     ensures pound { IsTrue result → NthAt (state p.now) 1 POUND }
@@ -593,7 +600,7 @@ fn path_or_macro<G: Grammar>(p: &mut Parser<'_>, g: &G, allow_bounds: bool) -> R
     let r = p.start()?;
     let m = p.start()?;
     type_path(p, g)?;
-    if at_macro_call(p) {
+    if starts_macro_call(p) {
         macro_call_after_excl(p)?;
         m.complete(p, SyntaxKind::MACRO_CALL)?;
         r.complete(p, SyntaxKind::MACRO_TYPE)?;
@@ -609,7 +616,7 @@ fn path_or_macro<G: Grammar>(p: &mut Parser<'_>, g: &G, allow_bounds: bool) -> R
 }
 
 /// Whether the `!` of a macro call comes next, and no `!=`.
-fn at_macro_call(p: &Parser<'_>) -> bool
+fn starts_macro_call(p: &Parser<'_>) -> bool
     ensures { result ≡ starts_macro_call (state p.now).rest }
 {
     p.at(T![!]) && !p.at(T![!=])
