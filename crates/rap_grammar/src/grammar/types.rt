@@ -1,10 +1,9 @@
 //! Types.
-ghost use Rattle.std.specs.Prelude.{◌≡◌, ◌≢◌, ℕ, ◌<◌, ◌≤◌, IfOk, OnOk, IsTrue, Some, true};
+ghost use Rattle.std.specs.Prelude.{◌≡◌, ◌≢◌, ℕ, ◌<◌, ◌≤◌, IfOk, OnOk, IsTrue, true};
 ghost use Rattle.rap_base.specs.TokenKind.{SEMICOLON, L_PAREN, L_BRACK, COLON, LIFETIME_IDENT, STAR, AMP, BANG, UNDERSCORE, FN_KW, FOR_KW, IMPL_KW, DYN_KW, BUILTIN_KW, POUND};
 ghost use Rattle.rap_base.specs.NodeKind.{PATH_TYPE};
 ghost use Rattle.rap_base.specs.TokenSet.{member};
-ghost use Rattle.rap_events.specs.Composite.{is_at};
-ghost use Rattle.rap_events.specs.State.{state, next, At, NthAt, Bears, IsLast, but_last};
+ghost use Rattle.rap_events.specs.State.{state, next, NthAt, Bears, IsLast, but_last};
 ghost use Rattle.rap_grammar.specs.Called as called;
 ghost use Rattle.rap_grammar.specs.First.{is_type_first, is_fn_ptr_first, is_weak_dyn_path_first, is_dyn_weak, starts_weak_dyn, starts_path};
 ghost use Rattle.rap_grammar.specs.Grew.{Within, Behind, Grew, Took, Makes};

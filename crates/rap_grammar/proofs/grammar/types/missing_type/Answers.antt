@@ -11,4 +11,7 @@ returns-then-eq-clause-script c = record { run = passes (search rules) (by_repor
 
 pub returns-clause-script : goal.returns-clause-script
 unfolding missing_type
-returns-clause-script c = record { run = fails (search rules) (by_recover is_type_recovery (search rules) c.in_ok-err_recover.ensures.state (λ k. gives) (λ k. gives)); }
+returns-clause-script c = record {
+  run = fails (search rules)
+      (by_recover is_type_recovery (search rules) c.in_ok-err_recover.ensures.state (λ k. gives) (λ k. gives));
+}

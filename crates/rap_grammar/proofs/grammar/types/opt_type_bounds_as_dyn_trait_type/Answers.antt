@@ -3,9 +3,6 @@ use Rattle.rap_grammar.specs.Types.{opt_type_bounds_as_dyn_trait_type}
 use Rattle.rap_grammar.specs.Script.{gives, passes, fails}
 use Rattle.rap_grammar.proofs.Steps.{by_bump, by_complete, by_precede, by_rule, both, not_both}
 use Rattle.rap_base.specs.NodeKind.{MACRO_TYPE}
-use Rattle.rap_events.specs.State.{state}
-use Rattle.rap_events.specs.Composite.{is_at}
-use Rattle.rap_base.specs.TokenKind.{PLUS}
 use Rattle.rap_grammar.proofs.grammar.types.opt_type_bounds_as_dyn_trait_type.Goals.{then-eq-via-then-eq, then-eq-via-else-eq+then-not-at}
 use Rattle.rap_grammar.proofs.grammar.types.opt_type_bounds_as_dyn_trait_type.Goals as goal
 

@@ -1,4 +1,4 @@
-use Rattle.std.proofs.Common.{rules, refl, true, false, ◌≡◌}
+use Rattle.std.proofs.Common.{rules, refl, ◌≡◌}
 use Rattle.rap_grammar.specs.Types.{paren_or_tuple, paren_or_tuple_type}
 use Rattle.rap_grammar.specs.Script.{gives}
 use Rattle.rap_grammar.specs.Words.{of_bool}

@@ -1,4 +1,4 @@
-use Rattle.std.proofs.Common.{rules, refl, true, false}
+use Rattle.std.proofs.Common.{rules, refl}
 use Rattle.rap_grammar.specs.Types.{tuple_types}
 use Rattle.rap_grammar.specs.Script.{gives}
 use Rattle.rap_grammar.proofs.Steps.{by_rule, turn, last_turn, then_by, else_by, ate, not_ate, not_on}
@@ -27,8 +27,15 @@ types-preserved g c = record {
 
 pub returns-else-not-at-clause-script : goal.returns-else-not-at-clause-script
 unfolding tuple_types
-returns-else-not-at-clause-script g c = record { run = last_turn c.types.invariant.script (else_by c.at.ensures c.types-test.true (then_by c.at-in-types.ensures c.if-not-at.false gives)) refl; }
+returns-else-not-at-clause-script g c = record {
+  run = last_turn c.types.invariant.script
+      (else_by c.at.ensures c.types-test.true
+      (then_by c.at-in-types.ensures c.if-not-at.false gives)) refl;
+}
 
 pub returns-after-types-clause-script : goal.returns-after-types-clause-script
 unfolding tuple_types
-returns-after-types-clause-script g c = record { run = last_turn c.types.invariant.script (then_by c.at.ensures c.types-test.false gives) refl; }
+returns-after-types-clause-script g c = record {
+  run = last_turn c.types.invariant.script
+      (then_by c.at.ensures c.types-test.false gives) refl;
+}
