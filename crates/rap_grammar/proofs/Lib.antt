@@ -8,5 +8,6 @@ pub mod Operators
 pub mod Outputs
 pub mod Steps
 pub mod TopTree
+pub mod TypeWays
 pub mod Unique
 pub mod Ways

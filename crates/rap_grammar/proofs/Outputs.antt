@@ -4,13 +4,14 @@ use Rattle.rap_events.specs.Record.{Record}
 use Rattle.rap_events.specs.Forest.{Forest, none, ◌⧺◌, message_count, one_tree}
 use Rattle.rap_events.specs.State.{State}
 use Rattle.rap_grammar.specs.Atom.{expr}
-use Rattle.rap_grammar.specs.Derives.{Derives, Expression, EndsExpression}
+use Rattle.rap_grammar.specs.Called.{type_}
+use Rattle.rap_grammar.specs.Derives.{Derives, Expression, Ty, EndsExpression}
 use Rattle.rap_grammar.specs.Knot.{script_of, Follows}
 use Rattle.rap_grammar.specs.Phrase.{Phrase}
 use Rattle.rap_grammar.specs.Script.{Script, forests, Spot, Outcome, something, Runs}
 use Rattle.rap_grammar.specs.Top.{IsTopOf, top_tree}
-use Rattle.rap_grammar.proofs.Complete.{expression_whole, expression_front}
-use Rattle.rap_grammar.proofs.Unique.{Same, one_end, unmarked, one_expression}
+use Rattle.rap_grammar.proofs.Complete.{expression_whole, type_whole, expression_front}
+use Rattle.rap_grammar.proofs.Unique.{Same, one_end, unmarked, one_expression, one_type}
 
 -- one tree is kept as it is
 top_tree-whole : (t : Forest) → one_tree t ≡ true → top_tree t [] ≡ t
@@ -25,6 +26,15 @@ derived {t = t} i d =
 -- without a message
 pub derived_clean : {input : List Record} {t output : Forest} → IsTopOf expr input output → Derives Expression input t → message_count output ≡ 0
 derived_clean i d = ap message_count (derived i d) ∙ unmarked d
+
+-- the same of a type
+pub derived_type : {input : List Record} {t output : Forest} → IsTopOf type_ input output → Derives Ty input t → output ≡ t
+derived_type {t = t} i d =
+    let e = one_end i.run (type_whole d (none ∷ [])) in
+    i.tree ∙ rw (ap (λ (p : Spot). p.forest) e.spot, ap (λ (p : Spot). p.rest) e.spot) (top_tree-whole t (one_type d))
+
+pub derived_type_clean : {input : List Record} {t output : Forest} → IsTopOf type_ input output → Derives Ty input t → message_count output ≡ 0
+derived_type_clean i d = ap message_count (derived_type i d) ∙ unmarked d
 
 -- the same input gives the same output
 pub one_output : {s : Script Phrase} {input : List Record} {a b : Forest} → IsTopOf s input a → IsTopOf s input b → a ≡ b
