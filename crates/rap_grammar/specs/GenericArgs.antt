@@ -25,6 +25,14 @@ starts_lifetime_arg rs = next_is LIFETIME_IDENT rs && not (is_at PLUS (drop 1 rs
 abbrev pub starts_named_arg : List Record → Bool
 starts_named_arg rs = is_path_name (next_kind rs) && not (starts_weak_dyn rs)
 
+-- the `!` of a macro call
+abbrev pub starts_macro_call : List Record → Bool
+starts_macro_call rs = is_at BANG rs && not (is_at NEQ rs)
+
+-- the colon of bounds
+abbrev pub starts_bounds : List Record → Bool
+starts_bounds rs = next_is COLON rs && not (is_at COLON2 rs)
+
 unfoldable pub lifetime_arg : Script Phrase
 lifetime_arg = start (after lifetime (λ v. finish LIFETIME_ARG done))
 
@@ -49,7 +57,7 @@ macro_arg = after macro_call_after_excl (λ v. finish MACRO_CALL (precede (finis
 unfoldable pub path_arg : Script Phrase
 path_arg =
     precede (finish PATH (after type_path_for_qualifier (λ v. precede
-    (test (λ rs. is_at BANG rs && not (is_at NEQ rs)) macro_arg
+    (test starts_macro_call macro_arg
     (finish PATH_TYPE (bounded_arg PATH_TYPE))))))
 
 -- a name with its own arguments: bound to something by `=`, with bounds, or a path's first segment
@@ -57,7 +65,7 @@ unfoldable pub named_arg : Script Phrase
 named_arg =
     start (after name_ref_mod_path (λ v. after opt_path_type_args (λ w.
     test (next_is EQ) (any (after assoc_value (λ x. finish ASSOC_TYPE_ARG done)))
-    (test (λ rs. next_is COLON rs && not (is_at COLON2 rs)) (after bounds (λ x. finish ASSOC_TYPE_ARG done))
+    (test starts_bounds (after bounds (λ x. finish ASSOC_TYPE_ARG done))
     (finish PATH_SEGMENT path_arg)))))
 
 unfoldable pub generic_arg : Script Phrase

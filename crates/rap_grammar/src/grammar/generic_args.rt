@@ -1,6 +1,6 @@
 //! Arguments of something generic.
 ghost use Rattle.std.specs.Prelude.{◌≡◌, ◌<◌, ◌≤◌, IfOk, OnOk, Some, true, false};
-ghost use Rattle.rap_base.specs.TokenKind.{COLON2, L_ANGLE, BANG, MINUS, LIFETIME_IDENT};
+ghost use Rattle.rap_base.specs.TokenKind.{COLON, COLON2, L_ANGLE, BANG, MINUS, LIFETIME_IDENT};
 ghost use Rattle.rap_events.specs.Composite.{is_at};
 ghost use Rattle.rap_events.specs.State.{state, next, IsLast};
 ghost use Rattle.rap_grammar.specs.ConstArgs as const_script;
@@ -92,6 +92,14 @@ fn starts_named_arg(p: &Parser<'_>) -> bool
     is_path_name(p.current()) && !starts_weak_dyn(p)
 }
 
+/// Whether bounds come next, from their colon on.
+fn starts_bounds(p: &Parser<'_>) -> bool
+    ensures starts { result ≡ script.starts_bounds (state p.now).rest }
+    ensures here { result ≡ true → next (state p.now) ≡ COLON }
+{
+    p.current() == T![:] && !p.at(T![::])
+}
+
 /// An argument that begins with a name, as `a::b<c>`, `a = b` and `a<b>: c`.
 fn named_arg<G: Grammar>(p: &mut Parser<'_>, g: &G) -> Result<(), NoMemory>
     requires within { Within G.valid G.left g.now (state p.old) }
@@ -108,7 +116,7 @@ fn named_arg<G: Grammar>(p: &mut Parser<'_>, g: &G) -> Result<(), NoMemory>
         m.complete(p, SyntaxKind::ASSOC_TYPE_ARG)?;
         return Ok(());
     }
-    if p.current() == T![:] && !p.at(T![::]) {
+    if starts_bounds(p) {
         bounds(p, g)?;
         m.complete(p, SyntaxKind::ASSOC_TYPE_ARG)?;
         return Ok(());
@@ -154,13 +162,21 @@ fn path_arg<G: Grammar>(p: &mut Parser<'_>, g: &G, segment: CompletedMarker) -> 
     let qual = m.complete(p, SyntaxKind::PATH)?;
     let path = type_path_for_qualifier(p, g, qual)?;
     let m = path.precede(p)?;
-    if p.at(T![!]) && !p.at(T![!=]) {
+    if starts_macro_call(p) {
         macro_arg(p, g, m)?;
         return Ok(());
     }
     let ty = m.complete(p, SyntaxKind::PATH_TYPE)?;
     bounded_arg(p, g, ty)?;
     Ok(())
+}
+
+/// Whether the `!` of a macro call comes next.
+fn starts_macro_call(p: &Parser<'_>) -> bool
+    ensures starts { result ≡ script.starts_macro_call (state p.now).rest }
+    ensures here { result ≡ true → next (state p.now) ≡ BANG }
+{
+    p.at(T![!]) && !p.at(T![!=])
 }
 
 /// A macro call behind its path, as the `!()` of `a!()`. The marker before the path is open.
