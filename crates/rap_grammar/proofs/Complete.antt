@@ -10,15 +10,15 @@ use Rattle.rap_events.specs.Forest.{Forest, none, node, leaf, message, split, �
 use Rattle.rap_events.specs.Power.{power, power_in, powers}
 use Rattle.rap_grammar.specs.Atom.{unrestricted, expr, atom_expr}
 use Rattle.rap_grammar.specs.Derives.{IsName, Is, IsOneOf, IsLiteral, Category, Expression, Binary, Unary, Postfix, Arguments, Elements, Atom, Path, Segment, Reference, IsNamedField, Derives, EndsExpression, reference, segment, path_one, path_more, atom_literal, atom_path, atom_paren, postfix_atom, postfix_call, postfix_index, postfix_try, postfix_field, postfix_number, postfix_method, arguments_none, arguments_some, element_last, element_comma, element_more, unary_prefix, unary_ref, unary_ref_mut, unary_postfix, binary_unary, binary_tighter, binary_operator, expression_binary, expression_assign}
-use Rattle.rap_grammar.specs.Expressions.{operand_of, right_of, climb, arg_list, postfix_expr, lhs, expr_from}
-use Rattle.rap_grammar.specs.First.{starts_expr_args, is_operand, is_atom, is_literal_first, one_of}
+use Rattle.rap_grammar.specs.Expressions.{operand_of, right_of, climb, arg_list, postfix_expr, lhs}
+use Rattle.rap_grammar.specs.First.{is_operand, is_atom, is_literal_first, one_of, starts_expr_args}
 use Rattle.rap_grammar.specs.Operator.{operator_at}
 use Rattle.rap_grammar.specs.Paths.{path_segment, path_for_qualifier, path}
 use Rattle.rap_grammar.specs.Words.{reads_as}
 use Rattle.rap_grammar.specs.declared.grammar.expressions.Restrictions.{Restrictions}
+use Rattle.rap_grammar.proofs.Operators.{differ, differ_back, is_calm, Calm, operator_seen, written_first, written_past, and_false}
+use Rattle.rap_grammar.proofs.Ways.{Leads, LeadsOut, attributed, Single, none-⧺, segment_way, path_end, path_goes_on, path_way, literal_way, path_expr_way, paren_way, expr_way, from_way, climb_end, climb_on, operand_way, prefix_way, ref_way, ref_mut_way, postfix_end, call_way, index_way, try_way, name_field_way, number_field_way, method_way, arguments, arg_list_way, arguments_end, arguments_on, arguments_last}
 use Rattle.rap_grammar.specs.declared.grammar.paths.Mode.TheVariants as mode
-use Rattle.rap_grammar.proofs.Operators.{differ, differ_back, and_false, is_calm, Calm, operator_seen, written_first, written_past}
-use Rattle.rap_grammar.proofs.Ways.{Leads, LeadsOut, Single, none-⧺, segment_way, path_end, path_goes_on, path_way, literal_way, path_expr_way, paren_way, expr_way, from_way, climb_end, climb_on, operand_way, prefix_way, ref_way, ref_mut_way, postfix_end, call_way, index_way, try_way, name_field_way, number_field_way, method_way, arguments, arg_list_way, arguments_end, arguments_on, arguments_last}
 
 -- what a category begins with
 abbrev Begins : Category → ℕ → Bool
@@ -245,14 +245,14 @@ no_cast : (op p : ℕ) → power op ≡ p → p < 12 → op ≢ AS_KW
 no_cast op p e h i = let x : power op ≡ power AS_KW = ap power i in omega arith
 
 -- an operand of an operator before it
-operand_alone : (r : Restrictions) {b : List Forest} {rs l : List Record} {f t : Forest} → is_operand (next_kind rs) ≡ true → Single t → Leads (lhs r) (f ∷ b) rs none l (none ⧺ t) → LeadsOut (expr_from r 255) b rs f l (f ⧺ t)
+operand_alone : (r : Restrictions) {b : List Forest} {rs l : List Record} {f t : Forest} → is_operand (next_kind rs) ≡ true → Single t → Leads (lhs r) (f ∷ b) rs none l (none ⧺ t) → LeadsOut (attributed r 255) b rs f l (f ⧺ t)
 operand_alone r {l = l} o s x = from_way r 255 o s (rw none-⧺ at x) (climb_end r (omega (arith, power-le (operator_at l))))
 
 -- What is shown of each category. Where the grammar goes to the left, any way on from the tree so far is a way on from
 -- the tokens.
 Claim : Category → List Record → Forest → Type 0
-Claim Expression ks t = (r : Restrictions) (b : List Forest) (f : Forest) (l : List Record) → Quiet l → LeadsOut (expr_from r 1) b (ks ++ l) f l (f ⧺ t)
-Claim (Binary p) ks t = (r : Restrictions) (bp : ℕ) (b : List Forest) (f : Forest) (l : List Record) (g : Forest) (m : List Record) → bp ≤ p → Calm l → power (operator_at l) ≤ p → Leads (climb r bp) b l (f ⧺ t) m g → LeadsOut (expr_from r bp) b (ks ++ l) f m g
+Claim Expression ks t = (r : Restrictions) (b : List Forest) (f : Forest) (l : List Record) → Quiet l → LeadsOut (attributed r 1) b (ks ++ l) f l (f ⧺ t)
+Claim (Binary p) ks t = (r : Restrictions) (bp : ℕ) (b : List Forest) (f : Forest) (l : List Record) (g : Forest) (m : List Record) → bp ≤ p → Calm l → power (operator_at l) ≤ p → Leads (climb r bp) b l (f ⧺ t) m g → LeadsOut (attributed r bp) b (ks ++ l) f m g
 Claim Unary ks t = (r : Restrictions) (b : List Forest) (f : Forest) (l : List Record) → Calm l → Leads (lhs r) b (ks ++ l) f l (f ⧺ t)
 Claim Postfix ks t = (r : Restrictions) (b : List Forest) (f : Forest) (l : List Record) (g : Forest) (m : List Record) → (IsNamedField t → next_kind l ≢ L_PAREN) → is_at COLON2 l ≡ false → Leads (postfix_expr true false) b l (f ⧺ t) m g → Leads (lhs r) b (ks ++ l) f m g
 Claim Arguments ks t = (b : List Forest) (f : Forest) (l : List Record) → Leads arg_list b (ks ++ l) f l (f ⧺ t)
@@ -336,7 +336,7 @@ claim (binary_operator {p = p} {op = op} {ks = ks} {os = os} {js = js} {t = t} {
     let n = first e in
     let q = operator_seen (js ++ l) (next_same l n) (next_begins l n) (omega arith) (λ z. omega arith) (omega arith) o in
     let i = q.power_is in
-    let x : LeadsOut (expr_from (operand_of r) (right_of op)) (f ∷ b) (js ++ l) (leaf t op (width op)) l (leaf t op (width op) ⧺ u) =
+    let x : LeadsOut (attributed (operand_of r) (right_of op)) (f ∷ b) (js ++ l) (leaf t op (width op)) l (leaf t op (width op) ⧺ u) =
     rw (right_tighter op p i (λ z. omega arith)) (claim e (operand_of r) (suc p) (f ∷ b) (leaf t op (width op)) l (leaf t op (width op) ⧺ u) l (omega arith) c (omega arith) (climb_end (operand_of r) (omega arith))) in
     rw (three_lists ks os js l) (claim d r bp b f (os ++ (js ++ l)) g m h q.calm (omega (arith, ap power q.is))
     (climb_on r (single d) q.is (omega arith) (λ z. omega arith) (no_cast op p i (omega arith)) q.first q.past x y))
@@ -345,12 +345,12 @@ claim (expression_assign {op = op} {ks = ks} {os = os} {js = js} {t = t} {u = u}
     let n = first e in
     let q = operator_seen (js ++ l) (next_same l n) (next_begins l n) (omega arith) (λ z. omega arith) (omega arith) o in
     let i = q.power_is in
-    let x : LeadsOut (expr_from (operand_of r) (right_of op)) (f ∷ b) (js ++ l) (leaf t op (width op)) l (leaf t op (width op) ⧺ u) = rw i (claim e (operand_of r) (f ∷ b) (leaf t op (width op)) l c) in
+    let x : LeadsOut (attributed (operand_of r) (right_of op)) (f ∷ b) (js ++ l) (leaf t op (width op)) l (leaf t op (width op) ⧺ u) = rw i (claim e (operand_of r) (f ∷ b) (leaf t op (width op)) l c) in
     rw (three_lists ks os js l) (claim d r 1 b f (os ++ (js ++ l)) (f ⧺ node none BIN_EXPR (leaf t op (width op) ⧺ u)) l (omega arith) q.calm (omega (arith, ap power q.is))
     (climb_on r (single d) q.is (omega arith) (λ z. omega arith) (no_cast op 1 i (omega arith)) q.first q.past x (climb_end r c.power_is)))
 
 -- an expression from the newest open node on, before what goes on with none
-pub expression_from : (r : Restrictions) {ks : List Record} {t : Forest} → Derives Expression ks t → (b : List Forest) (f : Forest) (l : List Record) → Quiet l → LeadsOut (expr_from r 1) b (ks ++ l) f l (f ⧺ t)
+pub expression_from : (r : Restrictions) {ks : List Record} {t : Forest} → Derives Expression ks t → (b : List Forest) (f : Forest) (l : List Record) → Quiet l → LeadsOut (attributed r 1) b (ks ++ l) f l (f ⧺ t)
 unfolding Claim
 expression_from r d b f l q = claim d r b f l q
 

@@ -1,8 +1,8 @@
 -- Types.
-use Rattle.std.specs.Prelude.{ℕ, Bool, true, false, ◌==◌, ◌&&◌, ◌||◌, not, if◌then◌else◌, [], ◌∷◌, drop, codes}
+use Rattle.std.specs.Prelude.{ℕ, Bool, true, false, ◌==◌, ◌&&◌, ◌||◌, not, if◌then◌else◌, List, [], ◌∷◌, drop, codes}
 use Rattle.rap_base.specs.TokenKind.{EOF, ERROR, L_PAREN, R_PAREN, L_BRACK, R_BRACK, L_ANGLE, L_CURLY, COMMA, SEMICOLON, PLUS, STAR, AMP, BANG, NEQ, UNDERSCORE, POUND, LIFETIME_IDENT, MUT_KW, CONST_KW, FN_KW, UNSAFE_KW, EXTERN_KW, FOR_KW, IMPL_KW, DYN_KW, BUILTIN_KW, PATTERN_TYPE_KW, IS_KW}
 use Rattle.rap_base.specs.NodeKind.{PAREN_TYPE, TUPLE_TYPE, NEVER_TYPE, PTR_TYPE, SLICE_TYPE, ARRAY_TYPE, CONST_ARG, REF_TYPE, INFER_TYPE, FN_PTR_TYPE, FOR_TYPE, IMPL_TRAIT_TYPE, DYN_TRAIT_TYPE, TYPE_BOUND, MACRO_CALL, MACRO_TYPE, PATH_TYPE, PATTERN_TYPE}
-use Rattle.rap_events.specs.Record.{next_kind}
+use Rattle.rap_events.specs.Record.{Record, next_kind}
 use Rattle.rap_events.specs.Composite.{is_at}
 use Rattle.rap_grammar.specs.Atom.{expr}
 use Rattle.rap_grammar.specs.Called.{type_, type_no_bounds, pattern}
@@ -94,13 +94,17 @@ opt_type_bounds_as_dyn_trait_type kind =
 abbrev pub bounds_if : Bool → ℕ → Script Phrase
 bounds_if allow_bounds kind = if allow_bounds then opt_type_bounds_as_dyn_trait_type kind else done
 
+-- a function pointer or a path comes next
+abbrev pub starts_for_target : List Record → Bool
+starts_for_target rs = is_fn_ptr_first (next_kind rs) || starts_use_path rs
+
 abbrev pub for_target : Bool → Script Phrase
 for_target allow_bounds = after type_no_bounds (λ v. finish FOR_TYPE (bounds_if allow_bounds FOR_TYPE))
 
 unfoldable pub for_type : Bool → Script Phrase
 for_type allow_bounds =
     start (after for_binder (λ v.
-    test (λ rs. is_fn_ptr_first (next_kind rs) || starts_use_path rs) (for_target allow_bounds)
+    test starts_for_target (for_target allow_bounds)
     (report (codes "expected a function pointer or path") (for_target allow_bounds))))
 
 unfoldable pub impl_trait_type : Script Phrase
@@ -131,17 +135,25 @@ pattern_type =
     (bear PATTERN_TYPE_KW (after pattern_type_parts (λ v. finish PATTERN_TYPE done)))
     (report (codes "unknown name after `builtin#`") (finish ERROR done)))))
 
+-- the `!` of a macro call comes next, and no `!=`
+abbrev pub starts_macro_call : List Record → Bool
+starts_macro_call rs = is_at BANG rs && not (is_at NEQ rs)
+
 -- a path as a type, or a macro call
 unfoldable pub path_or_macro : Bool → Script Phrase
 path_or_macro allow_bounds =
     start (start (after type_path (λ v.
-    test (λ rs. is_at BANG rs && not (is_at NEQ rs))
-    (after macro_call_after_excl (λ w. finish MACRO_CALL (finish MACRO_TYPE (bounds_if allow_bounds MACRO_TYPE))))
+    test starts_macro_call
+    (after macro_call_after_excl (λ w. finish MACRO_CALL (finish MACRO_TYPE done)))
     (abandon (finish PATH_TYPE (bounds_if allow_bounds PATH_TYPE))))))
+
+-- `builtin#` comes next
+abbrev pub starts_builtin : List Record → Bool
+starts_builtin rs = reads_as BUILTIN_KW rs && is_at POUND (drop 1 rs)
 
 unfoldable pub path_or_macro_type : Bool → Script Phrase
 path_or_macro_type allow_bounds =
-    test (λ rs. reads_as BUILTIN_KW rs && is_at POUND (drop 1 rs)) pattern_type (path_or_macro allow_bounds)
+    test starts_builtin pattern_type (path_or_macro allow_bounds)
 
 -- a path as a type, and bounds after it
 unfoldable pub path_type_bounds : Bool → Script Phrase
@@ -153,12 +165,16 @@ missing_type =
     test (next_is L_CURLY) (report (codes "expected type, found `{`") done)
     (recover (codes "expected type") is_type_recovery done done)
 
+-- bounds come next that begin with a lifetime
+abbrev pub starts_bare_dyn : List Record → Bool
+starts_bare_dyn rs = next_is LIFETIME_IDENT rs && is_at PLUS (drop 1 rs)
+
 -- a type that begins with no symbol and no keyword of its own
 unfoldable pub named_type : Bool → Script Phrase
 named_type allow_bounds =
     test starts_weak_dyn dyn_trait_type_weak
     (test starts_path (path_or_macro_type allow_bounds)
-    (test (λ rs. next_is LIFETIME_IDENT rs && is_at PLUS (drop 1 rs)) bare_dyn_trait_type
+    (test starts_bare_dyn bare_dyn_trait_type
     missing_type))
 
 unfoldable pub type_with_bounds_cond : Bool → Script Phrase

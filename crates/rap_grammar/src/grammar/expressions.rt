@@ -14,6 +14,7 @@ ghost use Rattle.rap_grammar.specs.Script.{nothing};
 ghost use Rattle.rap_grammar.specs.Words.{of_option};
 
 use super::BlockLike;
+use super::attributes::outer_attrs;
 use super::knot::{Grammar, Rule};
 use crate::token_kind::T;
 use rap_base::no_memory::NoMemory;
@@ -79,6 +80,7 @@ pub(super) fn expr_bp<G: Grammar>(
         }
         None => {
             let m = p.start()?;
+            outer_attrs(p, g)?;
             let expr = expr_from(p, g, m, r, bp)?;
             Ok(expr)
         }

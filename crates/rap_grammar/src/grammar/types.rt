@@ -1,10 +1,9 @@
 //! Types.
-ghost use Rattle.std.specs.Prelude.{◌≡◌, ◌≢◌, ℕ, ◌<◌, ◌≤◌, IfOk, OnOk, IsTrue, Some, true};
+ghost use Rattle.std.specs.Prelude.{◌≡◌, ◌≢◌, ℕ, ◌<◌, ◌≤◌, IfOk, OnOk, IsTrue, true};
 ghost use Rattle.rap_base.specs.TokenKind.{SEMICOLON, L_PAREN, L_BRACK, COLON, LIFETIME_IDENT, STAR, AMP, BANG, UNDERSCORE, FN_KW, FOR_KW, IMPL_KW, DYN_KW, BUILTIN_KW, POUND};
 ghost use Rattle.rap_base.specs.NodeKind.{PATH_TYPE};
 ghost use Rattle.rap_base.specs.TokenSet.{member};
-ghost use Rattle.rap_events.specs.Composite.{is_at};
-ghost use Rattle.rap_events.specs.State.{state, next, At, NthAt, Bears, IsLast, but_last};
+ghost use Rattle.rap_events.specs.State.{state, next, NthAt, Bears, IsLast, but_last};
 ghost use Rattle.rap_grammar.specs.Called as called;
 ghost use Rattle.rap_grammar.specs.First.{is_type_first, is_fn_ptr_first, is_weak_dyn_path_first, is_dyn_weak, starts_weak_dyn, starts_path};
 ghost use Rattle.rap_grammar.specs.Grew.{Within, Behind, Grew, Took, Makes};
@@ -15,6 +14,7 @@ ghost use Rattle.rap_grammar.specs.Rules.{IsType};
 ghost use Rattle.rap_grammar.specs.Script.{something};
 ghost use Rattle.rap_grammar.specs.TypeParts as parts;
 ghost use Rattle.rap_grammar.specs.Types as script;
+ghost use Rattle.rap_grammar.specs.Types.{starts_bare_dyn, starts_for_target, starts_macro_call, starts_builtin};
 ghost use Rattle.rap_grammar.specs.Words.{of_bool};
 
 use super::expressions::expr;
@@ -162,12 +162,19 @@ fn named_type<G: Grammar>(p: &mut Parser<'_>, g: &G, allow_bounds: bool) -> Resu
         path_or_macro_type(p, g, allow_bounds)?;
         return Ok(());
     }
-    if p.current() == T![lifetime_ident] && p.nth_at(1, T![+]) {
+    if starts_bare_dyn(p) {
         bare_dyn_trait_type(p, g)?;
         return Ok(());
     }
     missing_type(p)?;
     Ok(())
+}
+
+/// Whether bounds come next that begin with a lifetime, as `'a + b`.
+fn starts_bare_dyn(p: &Parser<'_>) -> bool
+    ensures { result ≡ starts_bare_dyn (state p.now).rest }
+{
+    p.current() == T![lifetime_ident] && p.nth_at(1, T![+])
 }
 
 /// A type is missing: the next token stands in an `ERROR`, unless it is kept.
@@ -475,7 +482,7 @@ fn for_type<G: Grammar>(p: &mut Parser<'_>, g: &G, allow_bounds: bool) -> Result
 {
     let m = p.start()?;
     for_binder(p, g)?;
-    if !is_fn_ptr_first(p.current()) && !is_use_path_start(p) {
+    if !starts_for_target(p) {
         p.error("expected a function pointer or path")?;
     }
     type_no_bounds(p, g)?;
@@ -485,6 +492,13 @@ fn for_type<G: Grammar>(p: &mut Parser<'_>, g: &G, allow_bounds: bool) -> Result
         return Ok(());
     }
     Ok(())
+}
+
+/// Whether a function pointer or a path comes next.
+fn starts_for_target(p: &Parser<'_>) -> bool
+    ensures { result ≡ starts_for_target (state p.now).rest }
+{
+    is_fn_ptr_first(p.current()) || is_use_path_start(p)
 }
 
 /// A type by its bounds, as `impl a + 'b`.
@@ -557,12 +571,21 @@ fn path_or_macro_type<G: Grammar>(
     ensures took { OnOk result (Took (state p.old) (state p.new) type_room) }
     ensures script { OnOk result (Follows (script.path_or_macro_type allow_bounds) something (state p.old) (state p.new)) }
 {
-    if p.at_contextual_kw(T![builtin]) && p.nth_at(1, T![#]) {
+    if starts_builtin(p) {
         pattern_type(p, g)?;
         return Ok(());
     }
     path_or_macro(p, g, allow_bounds)?;
     Ok(())
+}
+
+/// Whether `builtin#` comes next.
+fn starts_builtin(p: &Parser<'_>) -> bool
+    ensures here { result ≡ starts_builtin (state p.now).rest }
+    ensures bears { IsTrue result → Bears (state p.now) BUILTIN_KW }
+    ensures pound { IsTrue result → NthAt (state p.now) 1 POUND }
+{
+    p.at_contextual_kw(T![builtin]) && p.nth_at(1, T![#])
 }
 
 /// A path as a type, as `a::b`, or a macro call, as `a!()`.
@@ -576,19 +599,26 @@ fn path_or_macro<G: Grammar>(p: &mut Parser<'_>, g: &G, allow_bounds: bool) -> R
     let r = p.start()?;
     let m = p.start()?;
     type_path(p, g)?;
-    let kind = if p.at(T![!]) && !p.at(T![!=]) {
+    if starts_macro_call(p) {
         macro_call_after_excl(p)?;
         m.complete(p, SyntaxKind::MACRO_CALL)?;
-        SyntaxKind::MACRO_TYPE
-    } else {
-        m.abandon(p)?;
-        SyntaxKind::PATH_TYPE
-    };
-    let path = r.complete(p, kind)?;
+        r.complete(p, SyntaxKind::MACRO_TYPE)?;
+        return Ok(());
+    }
+    m.abandon(p)?;
+    let path = r.complete(p, SyntaxKind::PATH_TYPE)?;
     if allow_bounds {
         opt_type_bounds_as_dyn_trait_type(p, g, path)?;
+        return Ok(());
     }
     Ok(())
+}
+
+/// Whether the `!` of a macro call comes next, and no `!=`.
+fn starts_macro_call(p: &Parser<'_>) -> bool
+    ensures { result ≡ starts_macro_call (state p.now).rest }
+{
+    p.at(T![!]) && !p.at(T![!=])
 }
 
 /// A path as a type, as `a::b`.
