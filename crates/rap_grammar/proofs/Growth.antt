@@ -36,3 +36,10 @@ segment_took None {s0 = s0} {s2 = s2} {t = t} p a h n l =
 pub gone : {s b : Stack} {m : Option ℕ} {f : Forest} → s ≡ push b m f → s ≡ push b m (top s)
 unfolding top
 gone {b = b} {m = m} e = e ∙ ap (push b m) (sym (ap top e))
+
+-- the same where that node became a part of another one
+pub gone_after : {s b c : Stack} {m n : Option ℕ} {f g h : Forest} → s ≡ push b m f → push b m g ≡ push c n h → s ≡ push c n (top s)
+gone_after {b = b} {c = c} {m = m} {n = n} e i =
+    let x : b ≡ c = cc in
+    let y : m ≡ n = cc in
+    rw (← x, ← y) (gone e)

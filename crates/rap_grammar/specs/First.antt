@@ -46,9 +46,13 @@ abbrev pub is_type_first : ℕ → Bool
 is_type_first kind =
     is_path_first kind || one_of (L_PAREN ∷ L_BRACK ∷ BANG ∷ STAR ∷ AMP ∷ UNDERSCORE ∷ FN_KW ∷ UNSAFE_KW ∷ EXTERN_KW ∷ FOR_KW ∷ IMPL_KW ∷ DYN_KW ∷ LIFETIME_IDENT ∷ []) kind
 
+-- a constant as an argument of something generic, by its first token: no name
+abbrev pub is_const_arg_first : ℕ → Bool
+is_const_arg_first kind = is_literal_first kind || one_of (L_CURLY ∷ MINUS ∷ []) kind
+
 -- an argument of something generic
 abbrev pub is_generic_arg_first : ℕ → Bool
-is_generic_arg_first kind = is_type_first kind || (is_literal_first kind || one_of (L_CURLY ∷ MINUS ∷ []) kind)
+is_generic_arg_first kind = is_type_first kind || is_const_arg_first kind
 
 -- a parameter of something generic, without the attributes before it
 abbrev pub is_generic_param_first : ℕ → Bool

@@ -26,7 +26,7 @@ mod operators;
 mod postfix;
 mod ranges;
 
-pub(super) use atom::{expr_recovery_set, is_literal_first};
+pub(super) use atom::{block_expr, expr_recovery_set, is_literal_first, literal, path_expr};
 use atom::{atom_expr, is_atom_expr_first};
 use operators::{climb, prefix_expr, ref_expr};
 use postfix::postfix_expr;

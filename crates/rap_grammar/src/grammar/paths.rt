@@ -53,10 +53,7 @@ pub(super) fn is_path_start(p: &Parser<'_>) -> bool
 pub(super) fn is_use_path_start(p: &Parser<'_>) -> bool
     ensures { result ≡ starts_use_path (state p.now).rest }
 {
-    matches!(
-        p.current(),
-        T![ident] | T![self] | T![super] | T![crate]
-    ) || p.at(T![::])
+    matches!(p.current(), T![ident] | T![self] | T![super] | T![crate]) || p.at(T![::])
 }
 
 /// A path in an attribute, as the `a::b` of `#[a::b]`.
@@ -417,15 +414,7 @@ fn parenthesized_args<G: Grammar>(p: &mut Parser<'_>, g: &G, m: Marker) -> Resul
     ensures ended { OnOk result (Ended (state p.old) (state p.new) element_room) }
     ensures script { OnOk result (Follows script.parenthesized_args something (state p.old) (state p.new)) }
 {
-    delimited(
-        p,
-        g,
-        T!['('],
-        T![')'],
-        T![,],
-        "expected type",
-        &TypeArg,
-    )?;
+    delimited(p, g, T!['('], T![')'], T![,], "expected type", &TypeArg)?;
     m.complete(p, SyntaxKind::PARENTHESIZED_ARG_LIST)?;
     opt_ret_type(p, g)?;
     Ok(())
