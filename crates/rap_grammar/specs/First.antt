@@ -1,5 +1,5 @@
 -- What the rules begin with.
-use Rattle.std.specs.Prelude.{ℕ, List, [], ◌∷◌, Bool, ◌==◌, ◌||◌}
+use Rattle.std.specs.Prelude.{ℕ, List, [], ◌∷◌, Bool, ◌==◌, ◌&&◌, ◌||◌, not}
 use Rattle.std.specs.List.{list_any}
 use Rattle.rap_base.specs.TokenKind.{IDENT, SELF_KW, SUPER_KW, CRATE_KW, SELF_TYPE_KW, TRUE_KW, FALSE_KW, INT_NUMBER, FLOAT_NUMBER, BYTE, CHAR, STRING, BYTE_STRING, C_STRING, COLON, COLON2, L_ANGLE, L_PAREN, L_BRACK, L_CURLY, AMP, PIPE, STAR, BANG, DOT, MINUS, UNDERSCORE, POUND, OUTER_DOC_COMMENT, LIFETIME_IDENT, FN_KW, UNSAFE_KW, EXTERN_KW, FOR_KW, IMPL_KW, DYN_KW, CONST_KW, BOX_KW, REF_KW, MUT_KW}
 use Rattle.rap_events.specs.Record.{Record, next_kind}
@@ -85,3 +85,19 @@ starts_path rs = (is_path_name (next_kind rs) || begins_with (parts COLON2) rs) 
 -- a bracket that opens
 abbrev pub is_bracket : ℕ → Bool
 is_bracket kind = one_of (L_CURLY ∷ L_PAREN ∷ L_BRACK ∷ []) kind
+
+-- a parameter of something generic, or an attribute before it
+abbrev pub is_attributed_generic_param_first : ℕ → Bool
+is_attributed_generic_param_first kind = is_generic_param_first kind || is_outer_attr_first kind
+
+-- what a type captures
+abbrev pub is_use_bound_arg_first : ℕ → Bool
+is_use_bound_arg_first kind = one_of (SELF_TYPE_KW ∷ IDENT ∷ LIFETIME_IDENT ∷ []) kind
+
+-- a predicate of a `where`
+abbrev pub is_where_predicate_first : ℕ → Bool
+is_where_predicate_first kind = not (kind == IMPL_KW) && is_type_first kind
+
+-- a parameter of a function, or an attribute before it
+abbrev pub is_param_first : ℕ → Bool
+is_param_first kind = (is_pattern_first kind || is_type_first kind) || is_outer_attr_first kind

@@ -45,6 +45,13 @@ expression_room = 100
 abbrev pub element_room : ℕ
 element_room = 100
 
+-- a parameter without its marker, and under it
+abbrev pub bare_param_room : ℕ
+bare_param_room = 108
+
+abbrev pub param_room : ℕ
+param_room = 104
+
 -- a type, and a pattern
 abbrev pub type_room : ℕ
 type_room = 110

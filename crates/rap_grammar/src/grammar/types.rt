@@ -14,11 +14,35 @@ ghost use Rattle.rap_grammar.specs.Rules.{Parsed, IsType, IsPattern};
 ghost use Rattle.rap_grammar.specs.Script.{something};
 
 use super::knot::{Grammar, Rule};
+use super::paths::is_path_first;
 use crate::token_kind::T;
 use rap_base::no_memory::NoMemory;
 use rap_base::syntax_kind::SyntaxKind;
 use rap_base::token_set::TokenSet;
 use rap_events::parser::{CompletedMarker, Marker, Parser};
+
+/// Whether a type may begin with a token of this kind.
+pub(super) fn is_type_first(kind: SyntaxKind) -> bool
+    ensures { result ≡ is_type_first kind }
+{
+    is_path_first(kind)
+        || matches!(
+            kind,
+            T!['(']
+                | T!['[']
+                | T![!]
+                | T![*]
+                | T![&]
+                | T![_]
+                | T![fn]
+                | T![unsafe]
+                | T![extern]
+                | T![for]
+                | T![impl]
+                | T![dyn]
+                | T![lifetime_ident]
+        )
+}
 
 /// A type, after a token of the rule around it.
 pub(super) fn type_<G: Grammar>(p: &mut Parser<'_>, g: &G) -> Result<(), NoMemory>
