@@ -205,6 +205,7 @@ trait Element {
     /// One element, if one begins. Tells whether the list can go on after it.
     fn parse<G: Grammar>(&self, p: &mut Parser<'_>, g: &G) -> Result<bool, NoMemory>
         requires behind { Behind G.valid G.left g.now (state p.old) }
+        requires more { next (state p.old) ≢ EOF }
         ensures grew { OnOk result (Grew (state p.old) (state p.new) 8) }
         ensures took { IfOk result (λ going_on. going_on ≡ true → Took (state p.old) (state p.new) element_room) }
         ensures script { IfOk result (λ going_on. Follows (element self.now) (of_bool going_on) (state p.old) (state p.new)) };

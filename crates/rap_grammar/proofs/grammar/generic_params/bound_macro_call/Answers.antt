@@ -1,0 +1,13 @@
+use Rattle.std.proofs.Common.{rules}
+use Rattle.rap_grammar.specs.GenericParams.{bound_macro_call}
+use Rattle.rap_grammar.specs.Script.{gives, passes, fails}
+use Rattle.rap_grammar.proofs.Steps.{by_start, by_bump, by_report, by_rule, by_complete}
+use Rattle.rap_grammar.proofs.grammar.generic_params.bound_macro_call.Goals as goal
+
+pub returns-clause-script : goal.returns-clause-script
+unfolding bound_macro_call
+returns-clause-script c = record {
+  run = by_start c.in_ok-m.ensures.state
+      (by_bump (search rules) c.in_ok-bump.ensures.state
+      (by_report c.in_ok-error.ensures.state ?));
+}
