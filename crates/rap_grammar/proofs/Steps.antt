@@ -201,3 +201,11 @@ name_left {s = s} {t = t} a e l h =
     let n : is_at COLON2 s.rest ≡ false = sym a.decided ∙ e in
     let p : is_path_name (next s) ≡ true = first_of n (first_of l h) in
     subst (λ (x : State). is_path_name (next x) ≡ true) (sym (a.not_token e)) p
+
+-- a token of a kind, and on by one way, or by the other without it
+pub by_eat_or : {s t : State} {k : ℕ} {b : Bool} {n m : Script Phrase} {q : Spot} {v : Outcome} → Ate s t k b → (b ≡ true → On n (spot t) q v) → (b ≡ false → On m (spot t) q v) → On (test (is_at k) (token k n) m) (spot s) q v
+by_eat_or {b = true} a d e = ate a refl (d refl)
+by_eat_or {b = false} a d e = not_ate a refl (e refl)
+
+pub not_left : {a : Bool} (b : Bool) → a ≡ false → a && b ≡ false
+not_left b e = rw e refl

@@ -7,7 +7,7 @@ ghost use Rattle.rap_grammar.specs.First.{is_type_first, is_where_predicate_firs
 ghost use Rattle.rap_grammar.specs.GenericParams as script;
 ghost use Rattle.rap_grammar.specs.Grew.{Within, Behind, Grew, Took, Gone, Spent, Closes};
 ghost use Rattle.rap_grammar.specs.Knot.{Follows};
-ghost use Rattle.rap_grammar.specs.Room.{name_room, list_room, element_room, param_room};
+ghost use Rattle.rap_grammar.specs.Room.{name_room, name_end_room, segment_room, path_room, list_room, element_room, param_room};
 ghost use Rattle.rap_grammar.specs.Script.{something};
 ghost use Rattle.rap_grammar.specs.Words.{of_bool};
 
@@ -224,6 +224,7 @@ pub(super) fn bounds<G: Grammar>(p: &mut Parser<'_>, g: &G) -> Result<(), NoMemo
 pub(super) fn bounds_without_colon<G: Grammar>(p: &mut Parser<'_>, g: &G) -> Result<(), NoMemory>
     requires within { Within G.valid G.left g.now (state p.old) }
     ensures grew { OnOk result (Grew (state p.old) (state p.new) 16) }
+    ensures took { OnOk result (next (state p.old) ≡ LIFETIME_IDENT → Took (state p.old) (state p.new) list_room) }
     ensures script { OnOk result (Follows script.bounds_without_colon something (state p.old) (state p.new)) }
 {
     let m = p.start()?;
@@ -240,6 +241,7 @@ pub(super) fn bounds_without_colon_m<G: Grammar>(
     requires within { Within G.valid G.left g.now (state p.old) }
     requires newest { (state p.old).marker ≡ Some m.pos }
     ensures closes { IfOk result (Closes TYPE_BOUND_LIST 8 (state p.old) (state p.new)) }
+    ensures spent { OnOk result (next (state p.old) ≡ LIFETIME_IDENT → Spent (state p.old) (state p.new) path_room) }
     ensures script { OnOk result (Follows script.bounds_without_colon_m something (state p.old) (state p.new)) }
 {
     type_bounds(p, g)?;
@@ -251,6 +253,7 @@ pub(super) fn bounds_without_colon_m<G: Grammar>(
 fn type_bounds<G: Grammar>(p: &mut Parser<'_>, g: &G) -> Result<(), NoMemory>
     requires within { Within G.valid G.left g.now (state p.old) }
     ensures grew { OnOk result (Grew (state p.old) (state p.new) 4) }
+    ensures took { OnOk result (next (state p.old) ≡ LIFETIME_IDENT → Took (state p.old) (state p.new) segment_room) }
     ensures script { OnOk result (Follows script.type_bounds something (state p.old) (state p.new)) }
 {
     'bounds: while type_bound(p, g)? {
@@ -266,6 +269,7 @@ fn type_bound<G: Grammar>(p: &mut Parser<'_>, g: &G) -> Result<bool, NoMemory>
     requires within { Within G.valid G.left g.now (state p.old) }
     ensures grew { OnOk result (Grew (state p.old) (state p.new) 2) }
     ensures took { IfOk result (λ found. found ≡ true → Took (state p.old) (state p.new) param_room) }
+    ensures lifetime { OnOk result (next (state p.old) ≡ LIFETIME_IDENT → Took (state p.old) (state p.new) name_end_room) }
     ensures script { IfOk result (λ found. Follows script.type_bound (of_bool found) (state p.old) (state p.new)) }
 {
     let m = p.start()?;
@@ -286,6 +290,7 @@ fn bare_bound<G: Grammar>(p: &mut Parser<'_>, g: &G) -> Result<bool, NoMemory>
     requires within { Within G.valid G.left g.now (state p.old) }
     ensures grew { OnOk result (Grew (state p.old) (state p.new) 0) }
     ensures took { IfOk result (λ found. found ≡ true → Took (state p.old) (state p.new) list_room) }
+    ensures lifetime { OnOk result (next (state p.old) ≡ LIFETIME_IDENT → Took (state p.old) (state p.new) name_room) }
     ensures script { IfOk result (λ found. Follows script.bare_bound (of_bool found) (state p.old) (state p.new)) }
 {
     match p.current() {
