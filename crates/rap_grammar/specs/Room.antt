@@ -18,7 +18,10 @@ segment_room = 190
 abbrev pub path_room : ℕ
 path_room = 180
 
--- a list in its brackets
+-- elements in their brackets, and a list, which is a node around them
+abbrev pub brackets_room : ℕ
+brackets_room = 160
+
 abbrev pub list_room : ℕ
 list_room = 150
 

@@ -8,7 +8,7 @@ ghost use Rattle.rap_grammar.specs.Grammar as script;
 ghost use Rattle.rap_grammar.specs.Grew.{Within, Behind, Grew, Took};
 ghost use Rattle.rap_grammar.specs.Knot.{Follows};
 ghost use Rattle.rap_grammar.specs.Phrase.{Phrase};
-ghost use Rattle.rap_grammar.specs.Room.{name_room, list_room, element_room};
+ghost use Rattle.rap_grammar.specs.Room.{name_room, brackets_room, element_room};
 ghost use Rattle.rap_grammar.specs.Script.{Script, something};
 ghost use Rattle.rap_grammar.specs.Words.{of_bool};
 
@@ -232,7 +232,7 @@ fn delimited<G: Grammar, E: Element>(
     requires bra { bra ≢ EOF }
     requires ket { ket ≢ EOF }
     requires delim { delim ≢ EOF }
-    ensures took { OnOk result (Took (state p.old) (state p.new) list_room) }
+    ensures took { OnOk result (Took (state p.old) (state p.new) brackets_room) }
     ensures script { OnOk result (Follows (script.delimited (E.element element.now) bra ket delim unexpected_delim_message.now (E.first element.now)) something (state p.old) (state p.new)) }
 {
     p.bump(bra)?;

@@ -434,7 +434,7 @@ pub(super) fn opt_where_clause<G: Grammar>(p: &mut Parser<'_>, g: &G) -> Result<
 
 /// The predicates of a `where`, with commas between them.
 fn where_predicates<G: Grammar>(p: &mut Parser<'_>, g: &G) -> Result<(), NoMemory>
-    requires within { Within G.valid G.left g.now (state p.old) }
+    requires behind { Behind G.valid G.left g.now (state p.old) }
     ensures grew { OnOk result (Grew (state p.old) (state p.new) 0) }
     ensures script { OnOk result (Follows script.where_predicates something (state p.old) (state p.new)) }
 {
@@ -471,7 +471,7 @@ fn after_predicate(p: &mut Parser<'_>) -> Result<bool, NoMemory>
 
 /// A predicate of a `where`, as `'a: 'b`, `T: A` and `for<'a> T: A<'a>`.
 fn where_predicate<G: Grammar>(p: &mut Parser<'_>, g: &G) -> Result<(), NoMemory>
-    requires within { Within G.valid G.left g.now (state p.old) }
+    requires behind { Behind G.valid G.left g.now (state p.old) }
     ensures grew { OnOk result (Grew (state p.old) (state p.new) 16) }
     ensures took { OnOk result (is_where_predicate_first (next (state p.old)) ≡ true → Took (state p.old) (state p.new) element_room) }
     ensures script { OnOk result (Follows script.where_predicate something (state p.old) (state p.new)) }

@@ -26,6 +26,12 @@ returns-then-not-branch-clause-script g c = record {
       (not_ate c.in_ok-eat.ensures.state c.if-not-branch.true gives)) refl;
 }
 
+pub returns-clause-took : goal.returns-clause-took
+returns-clause-took g c = λ e. elim (c.bounds.invariant.begun e) [
+  | inl h ↦ let k : next (state c.bounds.p) ≡ LIFETIME_IDENT = rw h e in let t = c.in_ok-type_bound.ensures.lifetime k in search rules
+  | inr t ↦ search rules
+]
+
 pub returns-clause-script : goal.returns-clause-script
 unfolding type_bounds
 returns-clause-script g c = record {
