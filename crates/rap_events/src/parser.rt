@@ -133,7 +133,6 @@ impl<'t> Parser<'t> {
 
     /// The same after `n` tokens.
     pub fn nth_at(&self, n: usize, kind: SyntaxKind) -> bool
-        requires { n < 4 }
         ensures { result ≡ is_at kind (drop n (state self.now).rest) }
     {
         at_place(self.input, self.ahead(n), kind)

@@ -2,6 +2,7 @@ pub mod Binary
 pub mod Complete
 pub mod Example
 pub mod Growth
+pub mod Lookahead
 pub mod OneTree
 pub mod Operating
 pub mod Operators

@@ -206,3 +206,11 @@ name_left {s = s} {t = t} a e l h =
 pub decided : {h : List Record → Bool} {a b : Script Phrase} {p q : Spot} {v : Outcome} (t : Bool) → t ≡ h p.rest → (t ≡ true → On a p q v) → (t ≡ false → On b p q v) → On (test h a b) p q v
 decided true e y n = passes (sym e) (y refl)
 decided false e y n = fails (sym e) (n refl)
+
+-- a token of a kind, and on by one way, or by the other without it
+pub by_eat_or : {s t : State} {k : ℕ} {b : Bool} {n m : Script Phrase} {q : Spot} {v : Outcome} → Ate s t k b → (b ≡ true → On n (spot t) q v) → (b ≡ false → On m (spot t) q v) → On (test (is_at k) (token k n) m) (spot s) q v
+by_eat_or {b = true} a d e = ate a refl (d refl)
+by_eat_or {b = false} a d e = not_ate a refl (e refl)
+
+pub not_left : {a : Bool} (b : Bool) → a ≡ false → a && b ≡ false
+not_left b e = rw e refl

@@ -18,6 +18,13 @@ use rap_base::syntax_kind::SyntaxKind;
 use rap_base::token_set::TokenSet;
 use rap_events::parser::{CompletedMarker, Marker, Parser};
 
+/// Whether an attribute before what it is of may begin with a token of this kind.
+pub(super) fn is_outer_attr_first(kind: SyntaxKind) -> bool
+    ensures { result ≡ is_outer_attr_first kind }
+{
+    matches!(kind, T![#] | SyntaxKind::OUTER_DOC_COMMENT)
+}
+
 /// The attributes before what they are of.
 pub(super) fn outer_attrs<G: Grammar>(p: &mut Parser<'_>, g: &G) -> Result<(), NoMemory>
     requires within { Within G.valid G.left g.now (state p.old) }

@@ -5,7 +5,7 @@ ghost use Rattle.rap_base.specs.NodeKind.{PATH, PATH_TYPE, TYPE_BOUND_LIST};
 ghost use Rattle.rap_events.specs.State.{state, next, At, IsLast, but_last};
 ghost use Rattle.rap_grammar.specs.Called as called;
 ghost use Rattle.rap_grammar.specs.TypeParts as parts;
-ghost use Rattle.rap_grammar.specs.First.{is_type_first, is_generic_arg_first, is_cfg_predicate_first, is_outer_attr_first, starts_use_path, starts_path};
+ghost use Rattle.rap_grammar.specs.First.{is_type_first, is_generic_arg_first, is_cfg_predicate_first, is_outer_attr_first, is_pattern_first, starts_use_path, starts_path};
 ghost use Rattle.rap_grammar.specs.Patterns as script;
 ghost use Rattle.rap_grammar.specs.Grew.{Within, Behind, Grew, Took, Makes, Wraps, Closes};
 ghost use Rattle.rap_grammar.specs.Knot.{Follows};
@@ -13,12 +13,36 @@ ghost use Rattle.rap_grammar.specs.Room.{name_room, path_room, list_room, elemen
 ghost use Rattle.rap_grammar.specs.Rules.{Parsed, IsType, IsPattern};
 ghost use Rattle.rap_grammar.specs.Script.{something};
 
+use super::expressions::is_literal_first;
 use super::knot::{Grammar, Rule};
+use super::paths::is_path_first;
 use crate::token_kind::T;
 use rap_base::no_memory::NoMemory;
 use rap_base::syntax_kind::SyntaxKind;
 use rap_base::token_set::TokenSet;
 use rap_events::parser::{CompletedMarker, Marker, Parser};
+
+/// Whether a pattern without alternatives may begin with a token of this kind.
+pub(super) fn is_pattern_first(kind: SyntaxKind) -> bool
+    ensures { result ≡ is_pattern_first kind }
+{
+    is_literal_first(kind)
+        || is_path_first(kind)
+        || matches!(
+            kind,
+            T![box]
+                | T![ref]
+                | T![mut]
+                | T![const]
+                | T!['(']
+                | T!['[']
+                | T![&]
+                | T![_]
+                | T![-]
+                | T![.]
+                | T![!]
+        )
+}
 
 /// A pattern, after a token of the rule around it.
 pub(super) fn pattern<G: Grammar>(p: &mut Parser<'_>, g: &G) -> Result<(), NoMemory>
