@@ -7,6 +7,7 @@ pub mod Operating
 pub mod Operators
 pub mod Outputs
 pub mod Steps
+pub mod TokenTrees
 pub mod TopTree
 pub mod Unique
 pub mod Ways
