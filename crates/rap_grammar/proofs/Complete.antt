@@ -261,7 +261,7 @@ Claim Path ks t = (b : List Forest) (f : Forest) (l : List Record) (g : Forest) 
 Claim Segment ks t = (first : Bool) (b : List Forest) (f : Forest) (l : List Record) → Leads (path_segment first) b (ks ++ l) f l (f ⧺ t)
 Claim Reference ks t = Unit {0}
 
-⧺-assoc : (f g h : Forest) → (f ⧺ g) ⧺ h ≡ f ⧺ (g ⧺ h)
+pub ⧺-assoc : (f g h : Forest) → (f ⧺ g) ⧺ h ≡ f ⧺ (g ⧺ h)
 ⧺-assoc f g none = refl
 ⧺-assoc f g (node b k c) = ap (λ (x : Forest). node x k c) (⧺-assoc f g b)
 ⧺-assoc f g (leaf b k w) = ap (λ (x : Forest). leaf x k w) (⧺-assoc f g b)

@@ -1,3 +1,4 @@
+pub mod Balance
 pub mod Binary
 pub mod Complete
 pub mod Example

@@ -5,6 +5,7 @@ ghost use Rattle.rap_base.specs.NodeKind.{TOKEN_TREE};
 ghost use Rattle.rap_events.specs.Fit.{partner};
 ghost use Rattle.rap_events.specs.Forest.{node};
 ghost use Rattle.rap_events.specs.State.{state, next, last_children};
+ghost use Rattle.rap_grammar.specs.Balanced.{NestsAsBrackets};
 ghost use Rattle.rap_grammar.specs.Expressions.{of_like};
 ghost use Rattle.rap_grammar.specs.First.{one_of, is_bracket};
 ghost use Rattle.rap_grammar.specs.Grew.{Took};
@@ -50,6 +51,7 @@ pub(super) fn token_tree(p: &mut Parser<'_>) -> Result<(), NoMemory>
     ensures took { OnOk result (Took (state p.old) (state p.new) list_room) }
     ensures one { OnOk result ((state p.new).forest ≡ node (state p.old).forest TOKEN_TREE (last_children (state p.new).forest)) }
     ensures script { OnOk result (Follows script.bracketed_tokens something (state p.old) (state p.new)) }
+    ensures balanced { OnOk result (NestsAsBrackets (state p.old) (state p.new)) }
 {
     let ket = closing_bracket(p.current());
     let m = p.start()?;

@@ -6,6 +6,7 @@ use Rattle.rap_grammar.specs.Items.{tokens_to}
 use Rattle.rap_grammar.specs.Knot.{script_of}
 use Rattle.rap_grammar.specs.Phrase.{bracketed}
 use Rattle.rap_grammar.specs.Script.{gives, passes, fails, follows}
+use Rattle.rap_grammar.proofs.Balance.{nests_as_brackets}
 use Rattle.rap_grammar.proofs.Steps.{then_by, else_by, by_kind, by_part, by_start, by_any, by_report, by_skip, by_expect, by_complete, turn, last_turn, clash}
 use Rattle.rap_grammar.proofs.TokenTrees.{begun, more_tree, more_token, closed, by_bracket, tokens_end}
 use Rattle.rap_grammar.proofs.grammar.items.+token_tree.Goals.{then-tokens-test+else-not-at, else-tokens-test}
@@ -87,3 +88,9 @@ returns-clause-script t c = record {
       ]))
       (by_expect c.in_ok-expect.ensures.state (by_complete c.in_ok-complete_fit-2.ensures.state.0 gives)))));
 }
+
+pub returns-then-eq-clause-balanced : goal.returns-then-eq-clause-balanced
+returns-then-eq-clause-balanced t c = nests_as_brackets (returns-then-eq-clause-script t c)
+
+pub returns-clause-balanced : goal.returns-clause-balanced
+returns-clause-balanced t c = nests_as_brackets (returns-clause-script t c)
