@@ -1,9 +1,9 @@
 -- What the rules begin with.
-use Rattle.std.specs.Prelude.{ℕ, List, [], ◌∷◌, Bool, ◌==◌, ◌||◌}
+use Rattle.std.specs.Prelude.{ℕ, List, [], ◌∷◌, drop, Bool, true, false, ◌==◌, ◌||◌, ◌&&◌, not}
 use Rattle.std.specs.List.{list_any}
-use Rattle.rap_base.specs.TokenKind.{IDENT, SELF_KW, SUPER_KW, CRATE_KW, SELF_TYPE_KW, TRUE_KW, FALSE_KW, INT_NUMBER, FLOAT_NUMBER, BYTE, CHAR, STRING, BYTE_STRING, C_STRING, COLON, COLON2, L_ANGLE, L_PAREN, L_BRACK, L_CURLY, AMP, PIPE, STAR, BANG, DOT, MINUS, UNDERSCORE, POUND, OUTER_DOC_COMMENT, LIFETIME_IDENT, FN_KW, UNSAFE_KW, EXTERN_KW, FOR_KW, IMPL_KW, DYN_KW, CONST_KW, BOX_KW, REF_KW, MUT_KW}
+use Rattle.rap_base.specs.TokenKind.{IDENT, SELF_KW, SUPER_KW, CRATE_KW, SELF_TYPE_KW, TRUE_KW, FALSE_KW, INT_NUMBER, FLOAT_NUMBER, BYTE, CHAR, STRING, BYTE_STRING, C_STRING, COLON, COLON2, L_ANGLE, L_PAREN, L_BRACK, L_CURLY, AMP, PIPE, STAR, BANG, DOT, MINUS, UNDERSCORE, POUND, INNER_DOC_COMMENT, OUTER_DOC_COMMENT, EQ, EQ2, FAT_ARROW, LIFETIME_IDENT, FN_KW, UNSAFE_KW, EXTERN_KW, FOR_KW, IMPL_KW, DYN_KW, CONST_KW, BOX_KW, REF_KW, MUT_KW}
 use Rattle.rap_events.specs.Record.{Record, next_kind}
-use Rattle.rap_events.specs.Composite.{parts, begins_with}
+use Rattle.rap_events.specs.Composite.{parts, begins_with, is_at}
 
 abbrev pub one_of : List ℕ → ℕ → Bool
 one_of kinds kind = list_any (λ k. k == kind) kinds
@@ -56,6 +56,19 @@ is_generic_param_first kind = one_of (IDENT ∷ LIFETIME_IDENT ∷ CONST_KW ∷ 
 -- an attribute before what it is of
 abbrev pub is_outer_attr_first : ℕ → Bool
 is_outer_attr_first kind = one_of (POUND ∷ OUTER_DOC_COMMENT ∷ []) kind
+
+-- an attribute of what it stands in
+abbrev pub starts_inner_attr : List Record → Bool
+starts_inner_attr rs = is_at INNER_DOC_COMMENT rs || (is_at POUND rs && is_at BANG (drop 1 rs))
+
+-- an attribute, an inner one or not
+abbrev pub starts_attr : Bool → List Record → Bool
+starts_attr true rs = starts_inner_attr rs
+starts_attr false rs = is_outer_attr_first (next_kind rs)
+
+-- the value of an attribute
+abbrev pub starts_value : List Record → Bool
+starts_value rs = is_at EQ rs && (not (is_at FAT_ARROW rs) && not (is_at EQ2 rs))
 
 -- a pattern without alternatives, by its first token alone
 abbrev pub is_pattern_first : ℕ → Bool
