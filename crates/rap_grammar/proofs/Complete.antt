@@ -11,12 +11,13 @@ use Rattle.rap_events.specs.Power.{power, power_in, powers}
 use Rattle.rap_grammar.specs.Atom.{unrestricted, expr, atom_expr}
 use Rattle.rap_grammar.specs.Derives.{IsName, Is, IsOneOf, IsLiteral, Category, Expression, Binary, Unary, Postfix, Arguments, Elements, Atom, Path, Segment, Reference, IsNamedField, Derives, EndsExpression, reference, segment, path_one, path_more, atom_literal, atom_path, atom_paren, postfix_atom, postfix_call, postfix_index, postfix_try, postfix_field, postfix_number, postfix_method, arguments_none, arguments_some, element_last, element_comma, element_more, unary_prefix, unary_ref, unary_ref_mut, unary_postfix, binary_unary, binary_tighter, binary_operator, expression_binary, expression_assign}
 use Rattle.rap_grammar.specs.Expressions.{operand_of, right_of, climb, arg_list, postfix_expr, lhs, expr_from}
-use Rattle.rap_grammar.specs.First.{is_operand, is_atom, is_literal_first, one_of}
+use Rattle.rap_grammar.specs.First.{starts_expr_args, is_operand, is_atom, is_literal_first, one_of}
 use Rattle.rap_grammar.specs.Operator.{operator_at}
 use Rattle.rap_grammar.specs.Paths.{path_segment, path_for_qualifier, path}
 use Rattle.rap_grammar.specs.Words.{reads_as}
 use Rattle.rap_grammar.specs.declared.grammar.expressions.Restrictions.{Restrictions}
-use Rattle.rap_grammar.proofs.Operators.{differ, differ_back, is_calm, Calm, operator_seen, written_first, written_past}
+use Rattle.rap_grammar.specs.declared.grammar.paths.Mode.TheVariants as mode
+use Rattle.rap_grammar.proofs.Operators.{differ, differ_back, and_false, is_calm, Calm, operator_seen, written_first, written_past}
 use Rattle.rap_grammar.proofs.Ways.{Leads, LeadsOut, Single, none-⧺, segment_way, path_end, path_goes_on, path_way, literal_way, path_expr_way, paren_way, expr_way, from_way, climb_end, climb_on, operand_way, prefix_way, ref_way, ref_mut_way, postfix_end, call_way, index_way, try_way, name_field_way, number_field_way, method_way, arguments, arg_list_way, arguments_end, arguments_on, arguments_last}
 
 -- what a category begins with
@@ -257,8 +258,8 @@ Claim Postfix ks t = (r : Restrictions) (b : List Forest) (f : Forest) (l : List
 Claim Arguments ks t = (b : List Forest) (f : Forest) (l : List Record) → Leads arg_list b (ks ++ l) f l (f ⧺ t)
 Claim Elements ks t = (b : List Forest) (f : Forest) (c : Record) (l : List Record) → Is c R_PAREN → Leads arguments b (ks ++ c ∷ l) f (c ∷ l) (f ⧺ t)
 Claim Atom ks t = (b : List Forest) (f : Forest) (l : List Record) → is_at COLON2 l ≡ false → Leads atom_expr b (ks ++ l) f l (f ⧺ t)
-Claim Path ks t = (b : List Forest) (f : Forest) (l : List Record) (g : Forest) (m : List Record) → Leads path_for_qualifier b l (f ⧺ t) m g → Leads path b (ks ++ l) f m g
-Claim Segment ks t = (first : Bool) (b : List Forest) (f : Forest) (l : List Record) → Leads (path_segment first) b (ks ++ l) f l (f ⧺ t)
+Claim Path ks t = (b : List Forest) (f : Forest) (l : List Record) (g : Forest) (m : List Record) → starts_expr_args l ≡ false → Leads (path_for_qualifier mode.Expr) b l (f ⧺ t) m g → Leads (path mode.Expr) b (ks ++ l) f m g
+Claim Segment ks t = (first : Bool) (b : List Forest) (f : Forest) (l : List Record) → starts_expr_args l ≡ false → Leads (path_segment mode.Expr first) b (ks ++ l) f l (f ⧺ t)
 Claim Reference ks t = Unit {0}
 
 pub ⧺-assoc : (f g h : Forest) → (f ⧺ g) ⧺ h ≡ f ⧺ (g ⧺ h)
@@ -277,14 +278,16 @@ in_brackets ks js l a b = simp append_assoc
 claim : {c : Category} {ks : List Record} {t : Forest} → Derives c ks t → Claim c ks t
 unfolding Claim
 claim (reference n) = tt
-claim (segment (reference n)) = λ first b f l. segment_way first n.kind
-claim (path_one d) = λ b f l g m y. path_way (rw none-⧺ at (claim d true (f ∷ b) none l)) y
-claim (path_more {ks = ks} {os = os} {js = js} {t = t} d w e) = λ b f l g m y.
-    rw (three_lists ks os js l) (claim d b f (os ++ (js ++ l)) g m (path_goes_on (single d) (written_first (js ++ l) w) (written_past (js ++ l) w) (claim e false (f ∷ b) (leaf t COLON2 2) l) y))
+claim (segment (reference n)) = λ first b f l a. segment_way first n.kind a
+claim (path_one d) = λ b f l g m a y. path_way (rw none-⧺ at (claim d true (f ∷ b) none l a)) y
+claim (path_more {ks = ks} {os = os} {js = js} {t = t} d w e) = λ b f l g m a y.
+    let k : next_kind (js ++ l) ≡ IDENT = eqb-true (next_kind (js ++ l)) IDENT (next_begins l (first e)) in
+    let i : starts_expr_args (os ++ (js ++ l)) ≡ false = rw (written_past (js ++ l) w, k) (and_false (is_at COLON2 (os ++ (js ++ l)))) in
+    rw (three_lists ks os js l) (claim d b f (os ++ (js ++ l)) g m i (path_goes_on (single d) (written_first (js ++ l) w) (written_past (js ++ l) w) (claim e false (f ∷ b) (leaf t COLON2 2) l a) y))
 claim (atom_literal {r = r} h) = λ b f l c. let k = literal_kind r h in literal_way (not_end is_literal_first r.kind k refl) k
 claim (atom_path {ks = ks} {t = t} d) = λ b f l c.
     let e : next_kind (ks ++ l) ≡ IDENT = eqb-true (next_kind (ks ++ l)) IDENT (next_begins l (first d)) in
-    path_expr_way e (rw none-⧺ at (claim d (f ∷ b) none l (none ⧺ t) l (path_end c)))
+    path_expr_way e (rw none-⧺ at (claim d (f ∷ b) none l (none ⧺ t) l (rw c refl) (path_end c)))
 claim (atom_paren {b = c} o d e) = λ b f l n.
     rw append_assoc (paren_way o.kind_is (next_begins (c ∷ l) (first d)) (expr_way (claim d unrestricted (f ∷ b) (leaf none L_PAREN 1) (c ∷ l) (quiet_is c l R_PAREN e refl))) e.kind_is)
 claim (postfix_atom d) = λ r b f l g m h c y. operand_way r (next_begins l (first d)) (claim d b f l c) y

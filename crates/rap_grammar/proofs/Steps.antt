@@ -201,3 +201,8 @@ name_left {s = s} {t = t} a e l h =
     let n : is_at COLON2 s.rest ≡ false = sym a.decided ∙ e in
     let p : is_path_name (next s) ≡ true = first_of n (first_of l h) in
     subst (λ (x : State). is_path_name (next x) ≡ true) (sym (a.not_token e)) p
+
+-- a test whose answer is a rule's outcome
+pub decided : {h : List Record → Bool} {a b : Script Phrase} {p q : Spot} {v : Outcome} (t : Bool) → t ≡ h p.rest → (t ≡ true → On a p q v) → (t ≡ false → On b p q v) → On (test h a b) p q v
+decided true e y n = passes (sym e) (y refl)
+decided false e y n = fails (sym e) (n refl)

@@ -10,15 +10,16 @@ use Rattle.rap_events.specs.Power.{power}
 use Rattle.rap_events.specs.State.{but_last, last_children}
 use Rattle.rap_grammar.specs.Atom.{unrestricted, expr, literal, path_expr, tuple_elements, tuple_expr, atom_expr}
 use Rattle.rap_grammar.specs.Expressions.{operand_of, right_of, bin_expr, climb, ref_qualifier, ref_expr, prefix_expr, arg_list, call_expr, index_expr, try_expr, calls_method, method_call_expr, field_expr, postfix_dot_expr, is_access, postfix_expr, lhs, expr_from, expr_bp}
-use Rattle.rap_grammar.specs.First.{is_operand, is_atom, is_literal_first, is_path_name_or_index, is_expr_first, one_of}
+use Rattle.rap_grammar.specs.First.{starts_expr_args, is_operand, is_atom, is_literal_first, is_path_name_or_index, is_expr_first, one_of}
 use Rattle.rap_grammar.specs.Grammar.{name_ref_mod_path, name_ref_mod_path_or_index, elements, delimited}
 use Rattle.rap_grammar.specs.Knot.{script_of}
 use Rattle.rap_grammar.specs.Operator.{operator_at}
-use Rattle.rap_grammar.specs.Paths.{segment_name, path_segment, path_for_qualifier, path, expr_path}
+use Rattle.rap_grammar.specs.Paths.{opt_generic_arg_list_expr, opt_path_args, segment_name, path_segment, path_for_qualifier, path, expr_path}
 use Rattle.rap_grammar.specs.Phrase.{Phrase}
 use Rattle.rap_grammar.specs.Script.{Script, Outcome, Spot, nothing, something, precede, Runs, gives, looks, passes, fails, takes, takes_any, starts, precedes, finishes, extends, follows, obeys, turns, stops, last_kind}
 use Rattle.rap_grammar.specs.Words.{reads_as}
 use Rattle.rap_grammar.specs.declared.grammar.expressions.Restrictions.{Restrictions}
+use Rattle.rap_grammar.specs.declared.grammar.paths.Mode.TheVariants as mode
 use Rattle.rap_grammar.proofs.Operators.{differ, differ_back, and_false}
 
 -- from these tokens and this forest a script leads to those tokens and that forest, and the older forests stay
@@ -68,25 +69,25 @@ name_way : {b : List Forest} {r : Record} {l : List Record} {f : Forest} → r.k
 unfolding name_ref_mod_path
 name_way e = passes (rw e refl) (starts (takes_any (rw e (λ h. absurd cc)) (finishes (rw e gives))))
 
-segment_name_way : {b : List Forest} {r : Record} {l : List Record} {f : Forest} → r.kind ≡ IDENT → LeadsOut (segment_name true) b (r ∷ l) f l (node f PATH_SEGMENT (node none NAME_REF (leaf none IDENT 1)))
-unfolding segment_name
-segment_name_way e = passes (rw e refl) (follows (name_way e) (finishes gives))
+segment_name_way : {b : List Forest} {r : Record} {l : List Record} {f : Forest} → r.kind ≡ IDENT → starts_expr_args l ≡ false → LeadsOut (segment_name mode.Expr true) b (r ∷ l) f l (node f PATH_SEGMENT (node none NAME_REF (leaf none IDENT 1)))
+unfolding segment_name opt_path_args opt_generic_arg_list_expr
+segment_name_way e n = passes (rw e refl) (follows (name_way e) (follows (fails n gives) (finishes gives)))
 
-pub segment_way : (first : Bool) {b : List Forest} {r : Record} {l : List Record} {f : Forest} → r.kind ≡ IDENT → Leads (path_segment first) b (r ∷ l) f l (node f PATH_SEGMENT (node none NAME_REF (leaf none IDENT 1)))
+pub segment_way : (first : Bool) {b : List Forest} {r : Record} {l : List Record} {f : Forest} → r.kind ≡ IDENT → starts_expr_args l ≡ false → Leads (path_segment mode.Expr first) b (r ∷ l) f l (node f PATH_SEGMENT (node none NAME_REF (leaf none IDENT 1)))
 unfolding path_segment
-segment_way false e = starts (segment_name_way e)
-segment_way true e = starts (fails (rw e refl) (segment_name_way e))
+segment_way false e n = starts (segment_name_way e n)
+segment_way true e n = starts (fails (rw e refl) (fails (rw e refl) (segment_name_way e n)))
 
-pub path_end : {b : List Forest} {rs : List Record} {f : Forest} → is_at COLON2 rs ≡ false → Leads path_for_qualifier b rs f rs f
+pub path_end : {b : List Forest} {rs : List Record} {f : Forest} → is_at COLON2 rs ≡ false → Leads (path_for_qualifier mode.Expr) b rs f rs f
 unfolding path_for_qualifier
 path_end e = stops (fails e gives) refl
 
-pub path_goes_on : {b : List Forest} {rs s m l : List Record} {f t x g : Forest} → Single t → is_at COLON2 rs ≡ true → drop 2 rs ≡ s → Leads (path_segment false) (f ∷ b) s (leaf t COLON2 2) m x →
-    Leads path_for_qualifier b m (node f PATH x) l g → Leads path_for_qualifier b rs (f ⧺ t) l g
+pub path_goes_on : {b : List Forest} {rs s m l : List Record} {f t x g : Forest} → Single t → is_at COLON2 rs ≡ true → drop 2 rs ≡ s → Leads (path_segment mode.Expr false) (f ∷ b) s (leaf t COLON2 2) m x →
+    Leads (path_for_qualifier mode.Expr) b m (node f PATH x) l g → Leads (path_for_qualifier mode.Expr) b rs (f ⧺ t) l g
 unfolding path_for_qualifier
 path_goes_on {f = f} h e past x y = turns (passes e (precedes_one f h (takes e (rw past (follows x (finishes gives)))))) y
 
-pub path_way : {b : List Forest} {rs m l : List Record} {f x g : Forest} → Leads (path_segment true) (f ∷ b) rs none m x → Leads path_for_qualifier b m (node f PATH x) l g → Leads path b rs f l g
+pub path_way : {b : List Forest} {rs m l : List Record} {f x g : Forest} → Leads (path_segment mode.Expr true) (f ∷ b) rs none m x → Leads (path_for_qualifier mode.Expr) b m (node f PATH x) l g → Leads (path mode.Expr) b rs f l g
 unfolding path
 path_way x y = starts (follows x (finishes y))
 
@@ -99,7 +100,7 @@ pub literal_way : {b : List Forest} {r : Record} {l : List Record} {f : Forest} 
 unfolding atom_expr literal
 literal_way ne e = follows (passes e (starts (takes_any ne (finishes gives)))) gives
 
-pub path_expr_way : {b : List Forest} {rs m : List Record} {f x : Forest} → next_kind rs ≡ IDENT → Leads path (f ∷ b) rs none m x → Leads atom_expr b rs f m (node f PATH_EXPR x)
+pub path_expr_way : {b : List Forest} {rs m : List Record} {f x : Forest} → next_kind rs ≡ IDENT → Leads (path mode.Expr) (f ∷ b) rs none m x → Leads atom_expr b rs f m (node f PATH_EXPR x)
 unfolding atom_expr path_expr expr_path
 path_expr_way {b = b} {f = f} e x = follows (no_literal (rw e refl) b f) (passes (rw e refl) (starts (follows (follows x gives) (finishes gives))))
 

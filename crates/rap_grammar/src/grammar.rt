@@ -205,7 +205,7 @@ trait Element {
     /// One element, if one begins. Tells whether the list can go on after it.
     fn parse<G: Grammar>(&self, p: &mut Parser<'_>, g: &G) -> Result<bool, NoMemory>
         requires behind { Behind G.valid G.left g.now (state p.old) }
-        ensures grew { OnOk result (Grew (state p.old) (state p.new) 8) }
+        ensures grew { OnOk result (Grew (state p.old) (state p.new) 16) }
         ensures took { IfOk result (λ going_on. going_on ≡ true → Took (state p.old) (state p.new) element_room) }
         ensures script { IfOk result (λ going_on. Follows (element self.now) (of_bool going_on) (state p.old) (state p.new)) };
 
@@ -251,7 +251,7 @@ fn elements<G: Grammar, E: Element>(
 ) -> Result<(), NoMemory>
     requires behind { Behind G.valid G.left g.now (state p.old) }
     requires delim { delim ≢ EOF }
-    ensures grew { OnOk result (Grew (state p.old) (state p.new) 8) }
+    ensures grew { OnOk result (Grew (state p.old) (state p.new) 16) }
     ensures script { OnOk result (Follows (script.elements (E.element element.now) ket delim unexpected_delim_message.now (E.first element.now)) something (state p.old) (state p.new)) }
 {
     'elements: while !p.at(ket) && !p.at(SyntaxKind::EOF) {

@@ -25,7 +25,7 @@ mod operators;
 mod postfix;
 mod ranges;
 
-pub(super) use atom::expr_recovery_set;
+pub(super) use atom::{expr_recovery_set, is_literal_first};
 use atom::{atom_expr, is_atom_expr_first};
 use operators::{climb, prefix_expr, ref_expr};
 use postfix::postfix_expr;

@@ -49,8 +49,9 @@ pub(super) fn bounds<G: Grammar>(p: &mut Parser<'_>, g: &G) -> Result<(), NoMemo
 
 /// Bounds.
 pub(super) fn bounds_without_colon<G: Grammar>(p: &mut Parser<'_>, g: &G) -> Result<(), NoMemory>
-    requires behind { Behind G.valid G.left g.now (state p.old) }
+    requires within { Within G.valid G.left g.now (state p.old) }
     ensures grew { OnOk result (Grew (state p.old) (state p.new) 16) }
+    ensures took { OnOk result (next (state p.old) ≡ LIFETIME_IDENT → Took (state p.old) (state p.new) list_room) }
     ensures script { OnOk result (Follows script.bounds_without_colon something (state p.old) (state p.new)) }
 {
     Ok(())

@@ -26,7 +26,7 @@ use rap_base::token_set::TokenSet;
 use rap_events::parser::{CompletedMarker, Parser};
 
 /// Whether a kind is a literal.
-fn is_literal_first(kind: SyntaxKind) -> bool
+pub(in crate::grammar) fn is_literal_first(kind: SyntaxKind) -> bool
     ensures { result ≡ is_literal_first kind }
 {
     matches!(
