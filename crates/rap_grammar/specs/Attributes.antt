@@ -1,18 +1,31 @@
 -- Attributes.
-use Rattle.std.specs.Prelude.{ℕ, Bool, true, false, if◌then◌else◌, ◌&&◌, List, [], ◌∷◌, drop, codes}
-use Rattle.rap_base.specs.TokenKind.{EOF, POUND, BANG, EQ, COMMA, L_PAREN, R_PAREN, L_BRACK, R_BRACK, IDENT, STRING, TRUE_KW, FALSE_KW, UNSAFE_KW, CFG_KW, CFG_ATTR_KW, INNER_DOC_COMMENT, OUTER_DOC_COMMENT}
+use Rattle.std.specs.Prelude.{ℕ, Bool, true, false, if◌then◌else◌, ◌&&◌, ◌||◌, not, List, [], ◌∷◌, drop, codes}
+use Rattle.rap_base.specs.TokenKind.{EOF, POUND, BANG, EQ, EQ2, FAT_ARROW, COMMA, L_PAREN, R_PAREN, L_BRACK, R_BRACK, IDENT, STRING, TRUE_KW, FALSE_KW, UNSAFE_KW, CFG_KW, CFG_ATTR_KW, INNER_DOC_COMMENT, OUTER_DOC_COMMENT}
 use Rattle.rap_base.specs.NodeKind.{ATTR, DOC_COMMENT, UNSAFE_META, CFG_ATTR_META, CFG_META, CFG_ATOM, CFG_COMPOSITE, KEY_VALUE_META, TOKEN_TREE_META, PATH_META}
 use Rattle.rap_events.specs.Record.{Record, next_kind}
 use Rattle.rap_events.specs.Composite.{is_at}
 use Rattle.rap_events.specs.State.{expected}
 use Rattle.rap_grammar.specs.Called.{expr, cfg_predicate_element}
-use Rattle.rap_grammar.specs.First.{one_of, is_bracket, is_outer_attr_first, starts_inner_attr, starts_value, is_cfg_predicate_first}
+use Rattle.rap_grammar.specs.First.{one_of, is_bracket, is_outer_attr_first, is_cfg_predicate_first}
 use Rattle.rap_grammar.specs.Grammar.{delimited}
 use Rattle.rap_grammar.specs.Items.{bracketed_tokens}
 use Rattle.rap_grammar.specs.Paths.{attr_path}
 use Rattle.rap_grammar.specs.Phrase.{Phrase, meta_item}
 use Rattle.rap_grammar.specs.Script.{Script, give, test, token, any, bear, report, skip, start, finish, after, rule, loop, again}
 use Rattle.rap_grammar.specs.Words.{done, if_some, reads_as, eat, expect}
+
+-- an attribute of what it stands in comes next
+abbrev pub starts_inner_attr : List Record → Bool
+starts_inner_attr rs = is_at INNER_DOC_COMMENT rs || (is_at POUND rs && is_at BANG (drop 1 rs))
+
+-- the same, or one before what it is of
+abbrev pub starts_attr : Bool → List Record → Bool
+starts_attr true rs = starts_inner_attr rs
+starts_attr false rs = is_outer_attr_first (next_kind rs)
+
+-- the value of an attribute comes next: an `=` that begins no other operator
+abbrev pub starts_value : List Record → Bool
+starts_value rs = is_at EQ rs && (not (is_at FAT_ARROW rs) && not (is_at EQ2 rs))
 
 -- what stands behind the `=` of a condition
 unfoldable pub cfg_value : Script Phrase

@@ -4,8 +4,8 @@ ghost use Rattle.rap_base.specs.TokenKind.{EOF, EQ, L_PAREN, TRUE_KW, FALSE_KW, 
 ghost use Rattle.rap_events.specs.Composite.{is_at};
 ghost use Rattle.rap_events.specs.State.{state, next, At};
 ghost use Rattle.rap_grammar.specs.Attributes as script;
-ghost use Rattle.rap_grammar.specs.Attributes.{calls_keyword, doc_comment};
-ghost use Rattle.rap_grammar.specs.First.{one_of, is_cfg_predicate_first, is_outer_attr_first, starts_inner_attr, starts_attr, starts_value};
+ghost use Rattle.rap_grammar.specs.Attributes.{calls_keyword, doc_comment, starts_inner_attr, starts_attr, starts_value};
+ghost use Rattle.rap_grammar.specs.First.{one_of, is_cfg_predicate_first, is_outer_attr_first};
 ghost use Rattle.rap_grammar.specs.Grew.{Within, Behind, Grew, Took};
 ghost use Rattle.rap_grammar.specs.Knot.{Follows};
 ghost use Rattle.rap_grammar.specs.Room.{name_room, list_room, element_room};

@@ -1,7 +1,6 @@
 use Rattle.std.proofs.Common.{◌≡◌, false}
 use Rattle.rap_events.specs.State.{state}
-use Rattle.rap_grammar.specs.Attributes.{inner_turn}
-use Rattle.rap_grammar.specs.First.{starts_inner_attr}
+use Rattle.rap_grammar.specs.Attributes.{inner_turn, starts_inner_attr}
 use Rattle.rap_grammar.specs.Grew.{Grew}
 use Rattle.rap_grammar.proofs.Steps.{Turns}
 use Rattle.rap_grammar.proofs.grammar.attributes.inner_attrs.Given as goal

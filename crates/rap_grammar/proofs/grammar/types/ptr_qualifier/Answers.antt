@@ -6,8 +6,8 @@ use Rattle.rap_grammar.proofs.grammar.types.ptr_qualifier.Goals as goal
 
 pub returns-then-matches-clause-script : goal.returns-then-matches-clause-script
 unfolding ptr_qualifier
-returns-then-matches-clause-script c = record { run = passes (search rules) (by_any (search rules) c.in_ok-bump_any.ensures.state gives); }
+returns-then-matches-clause-script c = record { run = passes (search rules) (by_any (search rules) c.in_ok-bump_any.ensures.state gives) }
 
 pub returns-clause-script : goal.returns-clause-script
 unfolding ptr_qualifier
-returns-clause-script c = record { run = fails (search rules) (by_report c.in_ok-error.ensures.state gives); }
+returns-clause-script c = record { run = fails (search rules) (by_report c.in_ok-error.ensures.state gives) }
