@@ -191,6 +191,7 @@ pub record AteAs (old new : State) (kind : ℕ) (taken : Bool) : Type 0 where
   pub marker : new.marker ≡ old.marker
   pub below : new.below ≡ old.below
   pub decided : taken ≡ (next_contextual old == kind)
+  pub bears : taken ≡ true → Bears old kind
   pub token : taken ≡ true → Bumped old new kind 1
   pub not_token : taken ≡ false → new ≡ old
 

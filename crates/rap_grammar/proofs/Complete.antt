@@ -290,7 +290,7 @@ Claim Segment ks t = (ty first : Bool) (b : List Forest) (f : Forest) (l : List 
 Claim Reference ks t = Unit {0}
 Claim Ty ks t = (bounds : Bool) (b : List Forest) (f : Forest) (l : List Record) → EndsType l → Leads (type_with_bounds_cond bounds) b (ks ++ l) f l (f ⧺ t)
 
-⧺-assoc : (f g h : Forest) → (f ⧺ g) ⧺ h ≡ f ⧺ (g ⧺ h)
+pub ⧺-assoc : (f g h : Forest) → (f ⧺ g) ⧺ h ≡ f ⧺ (g ⧺ h)
 ⧺-assoc f g none = refl
 ⧺-assoc f g (node b k c) = ap (λ (x : Forest). node x k c) (⧺-assoc f g b)
 ⧺-assoc f g (leaf b k w) = ap (λ (x : Forest). leaf x k w) (⧺-assoc f g b)

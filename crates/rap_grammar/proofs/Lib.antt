@@ -1,3 +1,4 @@
+pub mod Balance
 pub mod Binary
 pub mod Complete
 pub mod Example
@@ -8,6 +9,7 @@ pub mod Operating
 pub mod Operators
 pub mod Outputs
 pub mod Steps
+pub mod TokenTrees
 pub mod TopTree
 pub mod TypeWays
 pub mod Unique

@@ -8,7 +8,7 @@ use Rattle.rap_events.specs.Composite.{is_at, width}
 use Rattle.rap_events.specs.Cover.{first_may_bear}
 use Rattle.rap_events.specs.Forest.{Forest, none, node, ◌⧺◌}
 use Rattle.rap_events.specs.Machine.{Stack}
-use Rattle.rap_events.specs.State.{State, next, Opened, IsLast, Completed, Abandoned, Preceded, Extended, Bumped, Told, Ate, Expected, Skipped, Recovered, but_last, last_children, expected}
+use Rattle.rap_events.specs.State.{State, next, Opened, IsLast, Completed, Abandoned, Preceded, Extended, Bumped, Told, Ate, AteAs, Expected, Skipped, Recovered, but_last, last_children, expected}
 use Rattle.rap_events.specs.declared.parser.CompletedMarker.{CompletedMarker}
 use Rattle.rap_grammar.specs.First.{is_path_name, starts_path}
 use Rattle.rap_grammar.specs.Knot.{script_of, Follows}
@@ -18,7 +18,7 @@ use Rattle.rap_grammar.specs.declared.grammar.BlockLike.{BlockLike}
 use Rattle.rap_grammar.specs.declared.grammar.BlockLike.TheVariants as like
 use Rattle.rap_grammar.specs.declared.grammar.expressions.Restrictions.{Restrictions}
 use Rattle.rap_grammar.specs.Script.{Script, Outcome, nothing, something, again, goes_on, Spot, spot, forests, taken, last_tree, last_kind, newest, give, test, token, any, bear, report, skip, start, precede, finish, extend, abandon, after, rule, loop, Runs, gives, passes, fails, takes, takes_any, bears, reports, skips, starts, precedes, finishes, extends, abandons, follows, obeys, turns, stops}
-use Rattle.rap_grammar.specs.Words.{done, if_some, eat, expect, recover, of_option, of_bool}
+use Rattle.rap_grammar.specs.Words.{done, if_some, reads_as, eat, eat_as, expect, recover, of_option, of_bool}
 
 -- from a spot by a script of the grammar
 abbrev pub On : Script Phrase → Spot → Spot → Outcome → Type 0
@@ -214,3 +214,14 @@ by_eat_or {b = false} a d e = not_ate a refl (e refl)
 
 pub not_left : {a : Bool} (b : Bool) → a ≡ false → a && b ≡ false
 not_left b e = rw e refl
+
+-- an identifier that is read as a keyword, if one comes next
+pub ate_as : {s t : State} {k : ℕ} {b : Bool} {n m : Script Phrase} {q : Spot} {v : Outcome} → AteAs s t k b → b ≡ true → On n (spot t) q v → On (test (reads_as k) (bear k n) m) (spot s) q v
+ate_as a e d = passes (both (a.bears e) (sym a.decided ∙ e)) (by_bear (a.bears e) (a.token e) d)
+
+pub not_ate_as : {s t : State} {k : ℕ} {b : Bool} {n m : Script Phrase} {q : Spot} {v : Outcome} → AteAs s t k b → b ≡ false → On m (spot t) q v → On (test (reads_as k) (bear k n) m) (spot s) q v
+not_ate_as a e d = fails (not_both (λ _. sym a.decided ∙ e)) (from_there (ap spot (sym (a.not_token e))) d)
+
+pub by_eat_as : {s t : State} {k : ℕ} {b : Bool} {n : Script Phrase} {q : Spot} {v : Outcome} → AteAs s t k b → On n (spot t) q v → On (eat_as k n) (spot s) q v
+by_eat_as {b = true} e d = ate_as e refl d
+by_eat_as {b = false} e d = not_ate_as e refl d

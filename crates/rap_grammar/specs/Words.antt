@@ -5,7 +5,7 @@ use Rattle.rap_events.specs.Record.{Record, next_kind, contextual_at}
 use Rattle.rap_events.specs.Composite.{is_at}
 use Rattle.rap_events.specs.Cover.{first_may_bear}
 use Rattle.rap_events.specs.State.{expected}
-use Rattle.rap_grammar.specs.Script.{Script, Outcome, nothing, something, block, again, give, test, token, report, skip}
+use Rattle.rap_grammar.specs.Script.{Script, Outcome, nothing, something, block, again, give, test, token, bear, report, skip}
 
 -- the end of a rule that has nothing to tell
 abbrev pub done : {P : Type 0} → Script P
@@ -29,6 +29,10 @@ reads_as kind rs = first_may_bear rs kind && (contextual_at rs 0 == kind)
 -- a token of this kind if one comes next, and on
 abbrev pub eat : {P : Type 0} → ℕ → Script P → Script P
 eat kind s = test (is_at kind) (token kind s) s
+
+-- an identifier that is read as this keyword if one comes next, as that keyword, and on
+abbrev pub eat_as : {P : Type 0} → ℕ → Script P → Script P
+eat_as kind s = test (reads_as kind) (bear kind s) s
 
 -- a token of this kind, or the message that it is missing, and on
 abbrev pub expect : {P : Type 0} → ℕ → Script P → Script P
