@@ -69,6 +69,10 @@ Bears s kind = first_may_bear s.rest kind ≡ true
 abbrev pub expected : ℕ → List ℕ
 expected kind = codes "expected " ++ name_of kind
 
+-- a message that ends with a kind's name
+abbrev pub with_kind : List ℕ → ℕ → List ℕ
+with_kind bytes kind = bytes ++ name_of kind
+
 -- the forest without its last tree
 unfoldable pub but_last : Forest → Forest
 but_last none = none

@@ -69,7 +69,7 @@ impl<'t> Parser<'t> {
     ghost use Rattle.rap_events.specs.Machine.{floor};
     ghost use Rattle.rap_events.specs.Composite.{is_at, width};
     ghost use Rattle.rap_events.specs.Record.{kind_at, contextual_at, edition_at};
-    ghost use Rattle.rap_events.specs.State.{state, calls, start_state, Opened, Bumped, SplitFloat, IsLast, Told, Ate, AteAs, Expected, Skipped, Recovered, is_kept, expected, skip_calls, next, next_contextual, At, Bears};
+    ghost use Rattle.rap_events.specs.State.{state, calls, start_state, Opened, Bumped, SplitFloat, IsLast, Told, Ate, AteAs, Expected, Skipped, Recovered, is_kept, expected, with_kind, skip_calls, next, next_contextual, At, Bears};
 
     /// At the first token, with nothing recorded. Takes no memory.
     pub fn new(alloc: Global, input: &'t Input) -> Self
@@ -266,6 +266,18 @@ impl<'t> Parser<'t> {
         ensures recorded { OnOk result (calls self.new ≡ calls self.old ++ call.error message.now ∷ []) }
     {
         let message = String::from_str(self.alloc, message)?;
+        self.tell(message)?;
+        Ok(())
+    }
+
+    /// Reports a message before the next token, ended by the name of that token's kind.
+    #[inline(never)]
+    pub fn error_with_kind(&mut self, message: &str) -> Result<(), NoMemory>
+        ensures state { OnOk result (Told (state self.old) (state self.new) (with_kind message.now (next (state self.old)))) }
+        ensures recorded { OnOk result (calls self.new ≡ calls self.old ++ call.error (with_kind message.now (next (state self.old))) ∷ []) }
+    {
+        let mut message = String::from_str(self.alloc, message)?;
+        message.push_str(self.current().name())?;
         self.tell(message)?;
         Ok(())
     }

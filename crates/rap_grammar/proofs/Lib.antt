@@ -8,6 +8,7 @@ pub mod OneTree
 pub mod Operating
 pub mod Operators
 pub mod Outputs
+pub mod Patterning
 pub mod Steps
 pub mod TokenTrees
 pub mod TopTree

@@ -53,6 +53,7 @@ pub(super) fn is_outer_attr_first(kind: SyntaxKind) -> bool
 pub(super) fn outer_attrs<G: Grammar>(p: &mut Parser<'_>, g: &G) -> Result<(), NoMemory>
     requires within { Within G.valid G.left g.now (state p.old) }
     ensures grew { OnOk result (Grew (state p.old) (state p.new) 0) }
+    ensures took { OnOk result (is_outer_attr_first (next (state p.old)) ≡ true → Took (state p.old) (state p.new) list_room) }
     ensures stays { OnOk result (is_outer_attr_first (next (state p.old)) ≡ false → state p.new ≡ state p.old) }
     ensures script { OnOk result (Follows script.outer_attrs something (state p.old) (state p.new)) }
 {

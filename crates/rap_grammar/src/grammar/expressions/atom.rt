@@ -45,8 +45,11 @@ pub(in crate::grammar) fn is_literal_first(kind: SyntaxKind) -> bool
 
 /// A literal, as `1` and `true`, if one comes next.
 #[inline(never)]
-pub(in crate::grammar) fn literal(p: &mut Parser<'_>) -> Result<Option<CompletedMarker>, NoMemory>
+pub(in crate::grammar) fn literal(
+    p: &mut Parser<'_>,
+) -> Result<Option<CompletedMarker>, NoMemory>
     ensures made { IfOk result (Optional LITERAL atom_room (state p.old) (state p.new)) }
+    ensures grew { OnOk result (Grew (state p.old) (state p.new) 0) }
     ensures took { OnOk result (is_literal_first (next (state p.old)) ≡ true → Took (state p.old) (state p.new) atom_room) }
     ensures script { IfOk result (λ o. Follows script.literal (of_option o) (state p.old) (state p.new)) }
 {
@@ -116,10 +119,7 @@ pub(in crate::grammar) fn block_expr(p: &mut Parser<'_>) -> Result<(), NoMemory>
 
 /// A path as an expression, as `a::b`.
 #[inline(never)]
-pub(in crate::grammar) fn path_expr<G: Grammar>(
-    p: &mut Parser<'_>,
-    g: &G,
-) -> Result<CompletedMarker, NoMemory>
+fn path_expr<G: Grammar>(p: &mut Parser<'_>, g: &G) -> Result<CompletedMarker, NoMemory>
     requires within { Within G.valid G.left g.now (state p.old) }
     requires path { starts_path (state p.old).rest ≡ true }
     ensures made { IfOk result (Makes PATH_EXPR atom_room (state p.old) (state p.new)) }
