@@ -139,7 +139,7 @@ paren_way {b = b} {f = f} e o x c =
 -- no attribute comes next
 no_attributes : {b : List Forest} {rs : List Record} {f : Forest} → is_outer_attr_first (next_kind rs) ≡ false → Leads outer_attrs b rs f rs f
 unfolding outer_attrs
-no_attributes e = gives
+no_attributes e = stops (fails e gives) refl
 
 -- an expression under its marker, with the attributes before it
 abbrev pub attributed : Restrictions → ℕ → Script Phrase

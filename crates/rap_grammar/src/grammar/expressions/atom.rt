@@ -119,7 +119,10 @@ pub(in crate::grammar) fn block_expr(p: &mut Parser<'_>) -> Result<(), NoMemory>
 
 /// A path as an expression, as `a::b`.
 #[inline(never)]
-fn path_expr<G: Grammar>(p: &mut Parser<'_>, g: &G) -> Result<CompletedMarker, NoMemory>
+pub(in crate::grammar) fn path_expr<G: Grammar>(
+    p: &mut Parser<'_>,
+    g: &G,
+) -> Result<CompletedMarker, NoMemory>
     requires within { Within G.valid G.left g.now (state p.old) }
     requires path { starts_path (state p.old).rest ≡ true }
     ensures made { IfOk result (Makes PATH_EXPR atom_room (state p.old) (state p.new)) }
