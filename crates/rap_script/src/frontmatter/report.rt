@@ -1,4 +1,4 @@
-//! How each refusal of a script source is told.
+//! How each refusal of a script source is reported.
 ghost use Rattle.std.specs.Prelude.{◌≡◌, ◌<◌, [], ◌∷◌, IfOk};
 ghost use Rattle.rap_script.specs.Refusal.{too_short, unclosed, fewer, more, after_close, only_one};
 
