@@ -26,7 +26,7 @@ only_fault (Err fault) rest = fault ∷ []
 only_fault (Ok value) [] = []
 only_fault (Ok value) (c ∷ cs) = MoreThanOneChar ∷ []
 
--- what is reported about a character and about what follows it, where `later` is what a string reports about that
+-- what is reported for a character and for what follows it, where `later` is what a string reports for that
 abbrev pub reported_then : Mode → Result ℕ Fault → List ℕ → List Fault → List Fault
 reported_then mode outcome rest later = if is_single mode then only_fault outcome rest else (reported mode outcome ++ later)
 

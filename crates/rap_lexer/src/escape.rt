@@ -138,7 +138,7 @@ fn character_fault(mode: Mode, body: &str) -> Option<Fault>
     }
 }
 
-// The fault that a string reports about one of its characters.
+// The fault that a string reports for one of its characters.
 fn reported(mode: Mode, outcome: Result<u32, Fault>) -> Option<Fault>
     ensures { option_to_list result ≡ reported mode outcome }
 {
@@ -209,7 +209,7 @@ impl<'a> Model for Faults<'a> {
 }
 
 impl<'a> Faults<'a> {
-    /// The faults that the body of a literal reports, which is the text between its quotes.
+    /// The faults in the body of a literal, which is the text between its quotes.
     ///
     /// A character or byte reports one fault at most.
     pub fn new(mode: Mode, body: &'a str) -> Faults<'a>
