@@ -405,8 +405,8 @@ pub expression_before : {ks : List Record} {t : Forest} → Derives Expression k
 expression_before d b f l q = expr_way (expression_from unrestricted d b f l q)
 
 -- an expression before what can follow one that is read alone
-pub expression_front : {ks : List Record} {t : Forest} → Derives Expression ks t → (b : List Forest) (f : Forest) (l : List Record) → EndsExpression l → Leads expr b (ks ++ l) f l (f ⧺ t)
-expression_front d b f l e = let n = e.next in expression_before d b f l (quiet l (search rules))
+pub expression_at_beginning : {ks : List Record} {t : Forest} → Derives Expression ks t → (b : List Forest) (f : Forest) (l : List Record) → EndsExpression l → Leads expr b (ks ++ l) f l (f ⧺ t)
+expression_at_beginning d b f l e = let n = e.next in expression_before d b f l (quiet l (search rules))
 
 -- an expression that is all there is
 pub expression_whole : {ks : List Record} {t : Forest} → Derives Expression ks t → (b : List Forest) → Leads expr b ks none [] t

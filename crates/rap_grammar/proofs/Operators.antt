@@ -9,7 +9,7 @@ use Rattle.rap_grammar.specs.First.{is_operand, one_of}
 use Rattle.rap_grammar.specs.Operator.{operator_at}
 use Rattle.rap_grammar.specs.Derives.{Touching, tokens_of, Writes, IsOperator}
 
--- two kinds that a test tells apart
+-- two kinds that a test distinguishes
 pub differ : (test : ℕ → Bool) (a b : ℕ) → test a ≡ true → test b ≡ false → (a == b) ≡ false
 differ test a b h k = ne_eqb a b (λ e. let x : true ≡ false = sym h ∙ ap test e ∙ k in cc)
 

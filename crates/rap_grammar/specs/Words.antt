@@ -7,7 +7,7 @@ use Rattle.rap_events.specs.Cover.{first_may_bear}
 use Rattle.rap_events.specs.State.{expected}
 use Rattle.rap_grammar.specs.Script.{Script, Outcome, nothing, something, block, again, give, test, token, bear, report, skip}
 
--- the end of a rule that has nothing to tell
+-- the end of a rule that has nothing to answer
 abbrev pub done : {P : Type 0} → Script P
 done = give something
 
@@ -42,7 +42,7 @@ expect kind s = test (is_at kind) (token kind s) (report (expected kind) s)
 abbrev pub recover : {P : Type 0} → List ℕ → (ℕ → Bool) → Script P → Script P → Script P
 recover bytes kept s t = test (λ rs. (next_kind rs == L_CURLY) || ((next_kind rs == R_CURLY) || kept (next_kind rs))) (report bytes s) (skip bytes t)
 
--- what is told of an option and of a truth value
+-- the outcome of an option and of a truth value
 abbrev pub of_option : {A : Type 0} → Option A → Outcome
 of_option None = nothing
 of_option (Some a) = something

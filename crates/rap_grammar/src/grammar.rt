@@ -193,7 +193,7 @@ fn abi(p: &mut Parser<'_>) -> Result<(), NoMemory>
     Ok(())
 }
 
-/// What a function gives back, as `-> a`, if it says so. Tells whether it does.
+/// What a function gives back, as `-> a`, if it says so. Answers whether it does.
 fn opt_ret_type<G: Grammar>(p: &mut Parser<'_>, g: &G) -> Result<bool, NoMemory>
     requires within { Within G.valid G.left g.now (state p.old) }
     ensures grew { OnOk result (Grew (state p.old) (state p.new) 0) }
@@ -217,7 +217,7 @@ trait Element {
     /// What elements begin with.
     ghost first: { Self → ℕ → Bool };
 
-    /// One element, if one begins. Tells whether the list can go on after it.
+    /// One element, if one begins. Answers whether the list can go on after it.
     fn parse<G: Grammar>(&self, p: &mut Parser<'_>, g: &G) -> Result<bool, NoMemory>
         requires behind { Behind G.valid G.left g.now (state p.old) }
         requires more { next (state p.old) ≢ EOF }
