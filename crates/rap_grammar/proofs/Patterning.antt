@@ -31,7 +31,7 @@ no_end k s e = clash (rw e refl) s
 -- a message, and the next token along with it unless that is kept
 pub missing : {s t : State} {bytes : List ℕ} {set : TokenSet} {kept : Bool} → ((k : ℕ) → member set k ≡ is_pattern_recovery k) → (next s ≡ EOF → s.rest ≡ []) → next s ≢ AMP → Recovered s t bytes set kept → PatternIn 3 atom_pattern_room s t
 missing {s = s} {t = t} {kept = true} first end no_amp r =
-    let d = r.told refl in
+    let d = r.reported refl in
     let k : keeps (next s) ≡ true = rw (← (first (next s))) (sym r.decided) in
     record {
       grew = record { input = d.input; left = omega arith; count = omega arith; messages = omega arith; marker = d.marker; below = d.below };

@@ -15,7 +15,7 @@ use Rattle.rap_grammar.specs.GenericParams.{generic_param_list}
 use Rattle.rap_grammar.specs.Grew.{Grew, Took, Made, Closed, Dropped}
 use Rattle.rap_grammar.specs.Knot.{Follows}
 use Rattle.rap_grammar.specs.Patterns.{pattern_r, pattern_single_r}
-use Rattle.rap_grammar.specs.Recovery.{stops_pattern}
+use Rattle.rap_grammar.specs.Recovery.{stops_pattern, stops_type}
 use Rattle.rap_grammar.specs.Room.{expression_room, marked_room, element_room, list_room, type_room, pattern_room, single_pattern_room, atom_pattern_room}
 use Rattle.rap_grammar.specs.Script.{something}
 use Rattle.rap_grammar.specs.Types.{type_with_bounds_cond, path_type_bounds}
@@ -51,9 +51,11 @@ pub record Parsed (first : ℕ → Bool) (k room : ℕ) (old new : State) : Type
   pub grew : Grew old new k
   pub took : first (next old) ≡ true → Took old new room
 
--- a type
-abbrev pub IsType : State → State → Type 0
-IsType old new = Parsed is_type_first 8 type_room old new
+-- a type: a token at least is taken where one begins, and also where the next one does not end the search for it
+pub record IsType (old new : State) : Type 0 where
+  pub grew : Grew old new 8
+  pub took : is_type_first (next old) ≡ true → Took old new type_room
+  pub skips : stops_type (next old) ≡ false → Took old new type_room
 
 -- a pattern, by its costs: where it takes no token, the next one is as before
 pub record PatternIn (k room : ℕ) (old new : State) : Type 0 where

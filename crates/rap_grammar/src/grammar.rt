@@ -8,7 +8,7 @@ ghost use Rattle.rap_grammar.specs.Grammar as script;
 ghost use Rattle.rap_grammar.specs.Grew.{Within, Behind, Grew, Took};
 ghost use Rattle.rap_grammar.specs.Knot.{Follows};
 ghost use Rattle.rap_grammar.specs.Phrase.{Phrase};
-ghost use Rattle.rap_grammar.specs.Room.{name_room, list_room, element_room};
+ghost use Rattle.rap_grammar.specs.Room.{name_room, brackets_room, element_room};
 ghost use Rattle.rap_grammar.specs.Script.{Script, something};
 ghost use Rattle.rap_grammar.specs.Words.{of_bool};
 
@@ -193,7 +193,7 @@ fn abi(p: &mut Parser<'_>) -> Result<(), NoMemory>
     Ok(())
 }
 
-/// What a function gives back, as `-> a`, if it says so. Tells whether it does.
+/// What a function gives back, as `-> a`, if it says so. Answers whether it does.
 fn opt_ret_type<G: Grammar>(p: &mut Parser<'_>, g: &G) -> Result<bool, NoMemory>
     requires within { Within G.valid G.left g.now (state p.old) }
     ensures grew { OnOk result (Grew (state p.old) (state p.new) 0) }
@@ -217,10 +217,11 @@ trait Element {
     /// What elements begin with.
     ghost first: { Self → ℕ → Bool };
 
-    /// One element, if one begins. Tells whether the list can go on after it.
+    /// One element, if one begins. Answers whether the list can go on after it.
     fn parse<G: Grammar>(&self, p: &mut Parser<'_>, g: &G) -> Result<bool, NoMemory>
         requires behind { Behind G.valid G.left g.now (state p.old) }
-        ensures grew { OnOk result (Grew (state p.old) (state p.new) 8) }
+        requires more { next (state p.old) ≢ EOF }
+        ensures grew { OnOk result (Grew (state p.old) (state p.new) 16) }
         ensures took { IfOk result (λ going_on. going_on ≡ true → Took (state p.old) (state p.new) element_room) }
         ensures script { IfOk result (λ going_on. Follows (element self.now) (of_bool going_on) (state p.old) (state p.new)) };
 
@@ -246,7 +247,7 @@ fn delimited<G: Grammar, E: Element>(
     requires bra { bra ≢ EOF }
     requires ket { ket ≢ EOF }
     requires delim { delim ≢ EOF }
-    ensures took { OnOk result (Took (state p.old) (state p.new) list_room) }
+    ensures took { OnOk result (Took (state p.old) (state p.new) brackets_room) }
     ensures script { OnOk result (Follows (script.delimited (E.element element.now) bra ket delim unexpected_delim_message.now (E.first element.now)) something (state p.old) (state p.new)) }
 {
     p.bump(bra)?;
@@ -266,7 +267,7 @@ fn elements<G: Grammar, E: Element>(
 ) -> Result<(), NoMemory>
     requires behind { Behind G.valid G.left g.now (state p.old) }
     requires delim { delim ≢ EOF }
-    ensures grew { OnOk result (Grew (state p.old) (state p.new) 8) }
+    ensures grew { OnOk result (Grew (state p.old) (state p.new) 16) }
     ensures script { OnOk result (Follows (script.elements (E.element element.now) ket delim unexpected_delim_message.now (E.first element.now)) something (state p.old) (state p.new)) }
 {
     'elements: while !p.at(ket) && !p.at(SyntaxKind::EOF) {

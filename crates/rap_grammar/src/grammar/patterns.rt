@@ -3,7 +3,7 @@ ghost use Rattle.std.specs.Prelude.{◌≡◌, ◌≢◌, ℕ, ◌<◌, ◌≤�
 ghost use Rattle.rap_base.specs.TokenKind.{EOF, IDENT, AMP, BANG, POUND, UNDERSCORE, DOT2, DOT2EQ, L_PAREN, L_BRACK, L_CURLY, BOX_KW, BUILTIN_KW, CONST_KW, MUT_KW, REF_KW};
 ghost use Rattle.rap_base.specs.NodeKind.{IDENT_PAT, BOX_PAT, CONST_BLOCK_PAT, LITERAL_PAT, WILDCARD_PAT, REF_PAT, NOT_NULL, SLICE_PAT};
 ghost use Rattle.rap_base.specs.TokenSet.{member};
-ghost use Rattle.rap_events.specs.State.{state, next, At, NthAt, Bears, IsLast};
+ghost use Rattle.rap_events.specs.State.{state, next, At, NthAt, ReadsAs, IsLast};
 ghost use Rattle.rap_grammar.specs.Called as called;
 ghost use Rattle.rap_grammar.specs.First.{one_of, is_pattern_first, is_pat_top_first, is_range_pat_end_first, starts_path};
 ghost use Rattle.rap_grammar.specs.Patterns as script;
@@ -343,7 +343,7 @@ fn builtin_pat<G: Grammar>(
     g: &G,
 ) -> Result<Option<CompletedMarker>, NoMemory>
     requires within { Within G.valid G.left g.now (state p.old) }
-    requires here { Bears (state p.old) BUILTIN_KW }
+    requires here { ReadsAs (state p.old) BUILTIN_KW }
     requires pound { NthAt (state p.old) 1 POUND }
     ensures atom { IfOk result (IsAtomPattern (state p.old) (state p.new)) }
     ensures script { IfOk result (λ o. Follows script.builtin_pat (of_option o) (state p.old) (state p.new)) }
@@ -602,7 +602,7 @@ fn tuple_pat<G: Grammar>(p: &mut Parser<'_>, g: &G) -> Result<CompletedMarker, N
     Ok(cm)
 }
 
-/// A comma before the first pattern, as in `(, a)`, which is reported. Tells whether there is one.
+/// A comma before the first pattern, as in `(, a)`, which is reported. Answers whether there is one.
 fn leading_comma(p: &mut Parser<'_>) -> Result<bool, NoMemory>
     ensures grew { OnOk result (Grew (state p.old) (state p.new) 0) }
     ensures script { IfOk result (λ comma. Follows script.leading_comma (of_bool comma) (state p.old) (state p.new)) }
@@ -614,7 +614,7 @@ fn leading_comma(p: &mut Parser<'_>) -> Result<bool, NoMemory>
     Ok(false)
 }
 
-/// What stands in parentheses. Tells whether it is one pattern, no comma and no `..`.
+/// What stands in parentheses. Answers whether it is one pattern, no comma and no `..`.
 fn tuple_patterns<G: Grammar>(
     p: &mut Parser<'_>,
     g: &G,
