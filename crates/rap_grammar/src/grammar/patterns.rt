@@ -331,7 +331,7 @@ fn missing_pat(p: &mut Parser<'_>) -> Result<(), NoMemory>
 /// Whether `builtin#` comes next.
 fn is_builtin_start(p: &Parser<'_>) -> bool
     ensures here { result ≡ starts_builtin (state p.now).rest }
-    ensures bears { IsTrue result → Bears (state p.now) BUILTIN_KW }
+    ensures bears { IsTrue result → ReadsAs (state p.now) BUILTIN_KW }
     ensures pound { IsTrue result → NthAt (state p.now) 1 POUND }
 {
     p.at_contextual_kw(T![builtin]) && p.nth_at(1, T![#])
@@ -351,16 +351,14 @@ fn builtin_pat<G: Grammar>(
     let m = p.start()?;
     p.bump_remap(T![builtin])?;
     p.bump(T![#])?;
-    if p.at_contextual_kw(T![deref]) {
-        p.bump_remap(T![deref])?;
+    if p.eat_contextual_kw(T![deref])? {
         p.expect(T!['('])?;
         pattern(p, g)?;
         p.expect(T![')'])?;
         let cm = m.complete(p, SyntaxKind::DEREF_PAT)?;
         return Ok(Some(cm));
     }
-    if p.at_contextual_kw(T![cfg]) {
-        p.bump_remap(T![cfg])?;
+    if p.eat_contextual_kw(T![cfg])? {
         p.expect(T!['('])?;
         cfg_predicate(p, g)?;
         p.eat(T![,])?;
