@@ -70,9 +70,14 @@ name_way : {b : List Forest} {r : Record} {l : List Record} {f : Forest} → r.k
 unfolding name_ref_mod_path
 name_way e = passes (rw e refl) (starts (takes_any (rw e (λ h. absurd cc)) (finishes (rw e gives))))
 
+-- no generic arguments come next
+no_arguments : {b : List Forest} {rs : List Record} {f : Forest} → starts_expr_args rs ≡ false → Leads opt_generic_arg_list_expr b rs f rs f
+unfolding opt_generic_arg_list_expr
+no_arguments e = fails e gives
+
 segment_name_way : {b : List Forest} {r : Record} {l : List Record} {f : Forest} → r.kind ≡ IDENT → starts_expr_args l ≡ false → LeadsOut (segment_name mode.Expr true) b (r ∷ l) f l (node f PATH_SEGMENT (node none NAME_REF (leaf none IDENT 1)))
-unfolding segment_name opt_path_args opt_generic_arg_list_expr
-segment_name_way e n = passes (rw e refl) (follows (name_way e) (follows (fails n gives) (finishes gives)))
+unfolding segment_name opt_path_args
+segment_name_way e n = passes (rw e refl) (follows (name_way e) (follows (no_arguments n) (finishes gives)))
 
 pub segment_way : (first : Bool) {b : List Forest} {r : Record} {l : List Record} {f : Forest} → r.kind ≡ IDENT → starts_expr_args l ≡ false → Leads (path_segment mode.Expr first) b (r ∷ l) f l (node f PATH_SEGMENT (node none NAME_REF (leaf none IDENT 1)))
 unfolding path_segment
@@ -241,18 +246,13 @@ pub number_field_way : {b : List Forest} {a c : Record} {m l : List Record} {f t
 unfolding calls_method
 number_field_way h e i y = field_way h e (rw i refl) (rw i refl) (rw i y)
 
--- no generic arguments come next
-no_arguments : {b : List Forest} {rs : List Record} {f : Forest} → is_at COLON2 rs ≡ false → Leads opt_generic_arg_list_expr b rs f rs f
-unfolding opt_generic_arg_list_expr
-no_arguments e = gives
-
 pub method_way : {b : List Forest} {a c : Record} {rs m l : List Record} {f t x g : Forest} → Single t → a.kind ≡ DOT → c.kind ≡ IDENT → next_kind rs ≡ L_PAREN → Leads arg_list (f ∷ b) rs (node (leaf t DOT 1) NAME_REF (leaf none IDENT 1)) m x →
     Leads (postfix_expr true false) b m (node f METHOD_CALL_EXPR x) l g → Leads (postfix_expr true false) b (a ∷ c ∷ rs) (f ⧺ t) l g
 unfolding postfix_dot_expr method_call_expr method_arguments calls_method
 method_way {rs = rs} {f = f} h e n p x y =
     let there : (kind_at rs 0 == L_PAREN) ≡ true = rw (kind_at_first rs, p) refl in
     let colons : is_at COLON2 rs ≡ false = not_first COLON (COLON ∷ []) rs (rw p refl) in
-    dot_way e (rw n refl) (passes (rw (n, there) refl) (precedes_one f h (takes (rw e refl) (passes (rw n refl) (follows (name_way n) (follows (no_arguments colons) (passes (rw p refl) (follows x (finishes gives))))))))) y
+    dot_way e (rw n refl) (passes (rw (n, there) refl) (precedes_one f h (takes (rw e refl) (passes (rw n refl) (follows (name_way n) (follows (no_arguments (rw colons refl)) (passes (rw p refl) (follows x (finishes gives))))))))) y
 
 -- arguments
 abbrev pub arguments : Script Phrase
