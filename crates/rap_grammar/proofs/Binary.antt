@@ -22,7 +22,7 @@ positive (k ∷ ks) = omega arith
 pub width_positive : (kind : ℕ) → 1 ≤ width kind
 width_positive kind = positive (parts kind)
 
--- the right operand, unless a message was told
+-- the right operand, unless a message was reported
 record Operands (s0 s3 : State) (kind op w least : ℕ) : Type 0 where
   clean : s0.messages ≡ 0
   right_kind : ℕ

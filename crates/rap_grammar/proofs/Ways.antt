@@ -1,5 +1,5 @@
 -- How scripts run over tokens that are known.
-use Rattle.std.proofs.Common.{rules, ◌≡◌, ◌≢◌, ℕ, ◌<◌, ◌≤◌, List, [], ◌∷◌, drop, Bool, true, false, refl, ap, arith, ◌==◌, nat_lt, codes}
+use Rattle.std.proofs.Common.{rules, zero, suc, ◌≡◌, ◌≢◌, ℕ, ◌<◌, ◌≤◌, List, [], ◌∷◌, drop, Bool, true, false, refl, ap, arith, ◌==◌, nat_lt, codes}
 use Rattle.std.proofs.lemmas.Bool.Decides.{nat_tests}
 use Rattle.rap_base.specs.TokenKind.{EOF, EQ, IDENT, AMP, STAR, BANG, MINUS, DOT, COLON, COLON2, COMMA, QUESTION, INT_NUMBER, L_PAREN, R_PAREN, L_BRACK, R_BRACK, MUT_KW, RAW_KW, AWAIT_KW, AS_KW, POUND, OUTER_DOC_COMMENT}
 use Rattle.rap_base.specs.NodeKind.{BIN_EXPR, REF_EXPR, PREFIX_EXPR, LITERAL, PAREN_EXPR, PATH_EXPR, PATH, PATH_SEGMENT, NAME_REF, CALL_EXPR, INDEX_EXPR, TRY_EXPR, METHOD_CALL_EXPR, FIELD_EXPR, ARG_LIST}
@@ -15,11 +15,12 @@ use Rattle.rap_grammar.specs.First.{is_outer_attr_first, is_operand, is_atom, is
 use Rattle.rap_grammar.specs.Grammar.{name_ref_mod_path, name_ref_mod_path_or_index, elements, delimited}
 use Rattle.rap_grammar.specs.Knot.{script_of}
 use Rattle.rap_grammar.specs.Operator.{operator_at}
-use Rattle.rap_grammar.specs.Paths.{opt_generic_arg_list_expr, segment_name, path_segment, path_for_qualifier, path, expr_path, opt_path_args}
+use Rattle.rap_grammar.specs.Paths.{opt_generic_arg_list_expr, has_args_behind, has_args, opt_path_type_args, segment_name, path_segment, path_for_qualifier, path, expr_path, opt_path_args}
 use Rattle.rap_grammar.specs.Phrase.{Phrase}
 use Rattle.rap_grammar.specs.Script.{Script, Outcome, Spot, nothing, something, precede, after, Runs, gives, looks, passes, fails, takes, takes_any, starts, precedes, finishes, extends, follows, obeys, turns, stops, last_kind}
 use Rattle.rap_grammar.specs.Words.{reads_as}
 use Rattle.rap_grammar.specs.declared.grammar.expressions.Restrictions.{Restrictions}
+use Rattle.rap_grammar.specs.declared.grammar.paths.Mode.{Mode}
 use Rattle.rap_grammar.specs.declared.grammar.paths.Mode.TheVariants as mode
 use Rattle.rap_grammar.proofs.Operators.{differ, differ_back, and_false}
 
@@ -70,32 +71,44 @@ name_way : {b : List Forest} {r : Record} {l : List Record} {f : Forest} → r.k
 unfolding name_ref_mod_path
 name_way e = passes (rw e refl) (starts (takes_any (rw e (λ h. absurd cc)) (finishes (rw e gives))))
 
--- no generic arguments come next
-no_arguments : {b : List Forest} {rs : List Record} {f : Forest} → starts_expr_args rs ≡ false → Leads opt_generic_arg_list_expr b rs f rs f
-unfolding opt_generic_arg_list_expr
-no_arguments e = fails e gives
+-- a path in a type, or in an expression
+abbrev pub mode_of : Bool → Mode
+mode_of true = mode.Type
+mode_of false = mode.Expr
 
-segment_name_way : {b : List Forest} {r : Record} {l : List Record} {f : Forest} → r.kind ≡ IDENT → starts_expr_args l ≡ false → LeadsOut (segment_name mode.Expr true) b (r ∷ l) f l (node f PATH_SEGMENT (node none NAME_REF (leaf none IDENT 1)))
-unfolding segment_name opt_path_args
-segment_name_way e n = passes (rw e refl) (follows (name_way e) (follows (no_arguments n) (finishes gives)))
+-- no arguments come next
+abbrev pub NoArguments : Bool → List Record → Type 0
+NoArguments true rs = (has_args_behind rs ≡ false) × (has_args rs ≡ false)
+NoArguments false rs = starts_expr_args rs ≡ false
 
-pub segment_way : (first : Bool) {b : List Forest} {r : Record} {l : List Record} {f : Forest} → r.kind ≡ IDENT → starts_expr_args l ≡ false → Leads (path_segment mode.Expr first) b (r ∷ l) f l (node f PATH_SEGMENT (node none NAME_REF (leaf none IDENT 1)))
+no_arguments_way : (ty : Bool) {b : List Forest} {rs : List Record} {f : Forest} → NoArguments ty rs → Leads (opt_path_args (mode_of ty)) b rs f rs f
+unfolding opt_path_args opt_path_type_args opt_generic_arg_list_expr
+no_arguments_way true n = fails n.0 (fails n.1 gives)
+no_arguments_way false n = fails n gives
+
+segment_name_way : (ty : Bool) {b : List Forest} {r : Record} {l : List Record} {f : Forest} → r.kind ≡ IDENT → NoArguments ty l → LeadsOut (segment_name (mode_of ty) true) b (r ∷ l) f l (node f PATH_SEGMENT (node none NAME_REF (leaf none IDENT 1)))
+unfolding segment_name
+segment_name_way ty e n = passes (rw e refl) (follows (name_way e) (follows (no_arguments_way ty n) (finishes gives)))
+
+pub segment_way : (ty first : Bool) {b : List Forest} {r : Record} {l : List Record} {f : Forest} → r.kind ≡ IDENT → NoArguments ty l → Leads (path_segment (mode_of ty) first) b (r ∷ l) f l (node f PATH_SEGMENT (node none NAME_REF (leaf none IDENT 1)))
 unfolding path_segment
-segment_way false e n = starts (segment_name_way e n)
-segment_way true e n = starts (fails (rw e refl) (fails (rw e refl) (segment_name_way e n)))
+segment_way ty false e n = starts (segment_name_way ty e n)
+segment_way ty true e n = starts (fails (rw e refl) (fails (rw e refl) (segment_name_way ty e n)))
 
-pub path_end : {b : List Forest} {rs : List Record} {f : Forest} → is_at COLON2 rs ≡ false → Leads (path_for_qualifier mode.Expr) b rs f rs f
+pub path_end : (ty : Bool) {b : List Forest} {rs : List Record} {f : Forest} → is_at COLON2 rs ≡ false → Leads (path_for_qualifier (mode_of ty)) b rs f rs f
 unfolding path_for_qualifier
-path_end e = stops (fails e gives) refl
+path_end true e = stops (fails e gives) refl
+path_end false e = stops (fails e gives) refl
 
-pub path_goes_on : {b : List Forest} {rs s m l : List Record} {f t x g : Forest} → Single t → is_at COLON2 rs ≡ true → drop 2 rs ≡ s → Leads (path_segment mode.Expr false) (f ∷ b) s (leaf t COLON2 2) m x →
-    Leads (path_for_qualifier mode.Expr) b m (node f PATH x) l g → Leads (path_for_qualifier mode.Expr) b rs (f ⧺ t) l g
+pub path_goes_on : (ty : Bool) {b : List Forest} {rs s m l : List Record} {f t x g : Forest} → Single t → is_at COLON2 rs ≡ true → drop 2 rs ≡ s → Leads (path_segment (mode_of ty) false) (f ∷ b) s (leaf t COLON2 2) m x →
+    Leads (path_for_qualifier (mode_of ty)) b m (node f PATH x) l g → Leads (path_for_qualifier (mode_of ty)) b rs (f ⧺ t) l g
 unfolding path_for_qualifier
-path_goes_on {f = f} h e past x y = turns (passes e (precedes_one f h (takes e (rw past (follows x (finishes gives)))))) y
+path_goes_on true {f = f} h e past x y = turns (passes e (precedes_one f h (takes e (rw past (follows x (finishes gives)))))) y
+path_goes_on false {f = f} h e past x y = turns (passes e (precedes_one f h (takes e (rw past (follows x (finishes gives)))))) y
 
-pub path_way : {b : List Forest} {rs m l : List Record} {f x g : Forest} → Leads (path_segment mode.Expr true) (f ∷ b) rs none m x → Leads (path_for_qualifier mode.Expr) b m (node f PATH x) l g → Leads (path mode.Expr) b rs f l g
+pub path_way : (m : Mode) {b : List Forest} {rs n l : List Record} {f x g : Forest} → Leads (path_segment m true) (f ∷ b) rs none n x → Leads (path_for_qualifier m) b n (node f PATH x) l g → Leads (path m) b rs f l g
 unfolding path
-path_way x y = starts (follows x (finishes y))
+path_way m x y = starts (follows x (finishes y))
 
 -- atoms
 no_literal : {rs : List Record} → is_literal_first (next_kind rs) ≡ false → (b : List Forest) (f : Forest) → Runs script_of literal (record { rest = rs; forest = f; below = b }) (record { rest = rs; forest = f; below = b }) nothing
@@ -126,7 +139,7 @@ paren_way {b = b} {f = f} e o x c =
 -- no attribute comes next
 no_attributes : {b : List Forest} {rs : List Record} {f : Forest} → is_outer_attr_first (next_kind rs) ≡ false → Leads outer_attrs b rs f rs f
 unfolding outer_attrs
-no_attributes e = gives
+no_attributes e = stops (fails e gives) refl
 
 -- an expression under its marker, with the attributes before it
 abbrev pub attributed : Restrictions → ℕ → Script Phrase
@@ -230,6 +243,12 @@ field_way {c = c} {f = f} h e i call y =
     dot_way e (differ is_path_name_or_index k DOT i refl)
     (fails call (fails (differ is_path_name_or_index k AWAIT_KW i refl) (precedes_one f h (takes (rw e refl) (passes i (follows (passes i (starts (takes_any some (finishes gives)))) (finishes gives))))))) y
 
+pub kind_at-drop : (rs : List Record) (n : ℕ) → kind_at rs n ≡ next_kind (drop n rs)
+kind_at-drop [] zero = refl
+kind_at-drop [] (suc n) = refl
+kind_at-drop (r ∷ rs) zero = refl
+kind_at-drop (r ∷ rs) (suc n) = kind_at-drop rs n
+
 kind_at_first : (rs : List Record) → kind_at rs 0 ≡ next_kind rs
 kind_at_first [] = refl
 kind_at_first (r ∷ rs) = refl
@@ -246,13 +265,18 @@ pub number_field_way : {b : List Forest} {a c : Record} {m l : List Record} {f t
 unfolding calls_method
 number_field_way h e i y = field_way h e (rw i refl) (rw i refl) (rw i y)
 
+-- no generic arguments come next
+no_arguments : {b : List Forest} {rs : List Record} {f : Forest} → is_at COLON2 rs ≡ false → Leads opt_generic_arg_list_expr b rs f rs f
+unfolding opt_generic_arg_list_expr
+no_arguments e = fails (rw e refl) gives
+
 pub method_way : {b : List Forest} {a c : Record} {rs m l : List Record} {f t x g : Forest} → Single t → a.kind ≡ DOT → c.kind ≡ IDENT → next_kind rs ≡ L_PAREN → Leads arg_list (f ∷ b) rs (node (leaf t DOT 1) NAME_REF (leaf none IDENT 1)) m x →
     Leads (postfix_expr true false) b m (node f METHOD_CALL_EXPR x) l g → Leads (postfix_expr true false) b (a ∷ c ∷ rs) (f ⧺ t) l g
 unfolding postfix_dot_expr method_call_expr method_arguments calls_method
 method_way {rs = rs} {f = f} h e n p x y =
     let there : (kind_at rs 0 == L_PAREN) ≡ true = rw (kind_at_first rs, p) refl in
     let colons : is_at COLON2 rs ≡ false = not_first COLON (COLON ∷ []) rs (rw p refl) in
-    dot_way e (rw n refl) (passes (rw (n, there) refl) (precedes_one f h (takes (rw e refl) (passes (rw n refl) (follows (name_way n) (follows (no_arguments (rw colons refl)) (passes (rw p refl) (follows x (finishes gives))))))))) y
+    dot_way e (rw n refl) (passes (rw (n, there) refl) (precedes_one f h (takes (rw e refl) (passes (rw n refl) (follows (name_way n) (follows (no_arguments colons) (passes (rw p refl) (follows x (finishes gives))))))))) y
 
 -- arguments
 abbrev pub arguments : Script Phrase

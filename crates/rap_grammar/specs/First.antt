@@ -111,3 +111,19 @@ is_dyn_weak rs = (contextual_at rs 0 == DYN_KW) && is_weak_dyn_path_first (kind_
 -- the same before 2018, when it is the keyword
 abbrev pub starts_weak_dyn : List Record → Bool
 starts_weak_dyn rs = (next_kind rs == IDENT) && (not (at_least_2018 (edition_at rs 0)) && is_dyn_weak rs)
+
+-- a parameter of something generic, or an attribute before it
+abbrev pub is_attributed_generic_param_first : ℕ → Bool
+is_attributed_generic_param_first kind = is_generic_param_first kind || is_outer_attr_first kind
+
+-- what a type captures
+abbrev pub is_use_bound_arg_first : ℕ → Bool
+is_use_bound_arg_first kind = one_of (SELF_TYPE_KW ∷ IDENT ∷ LIFETIME_IDENT ∷ []) kind
+
+-- a predicate of a `where`
+abbrev pub is_where_predicate_first : ℕ → Bool
+is_where_predicate_first kind = not (kind == IMPL_KW) && is_type_first kind
+
+-- a parameter of a function, or an attribute before it
+abbrev pub is_param_first : ℕ → Bool
+is_param_first kind = (is_pattern_first kind || is_type_first kind) || is_outer_attr_first kind

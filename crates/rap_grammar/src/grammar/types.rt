@@ -3,7 +3,7 @@ ghost use Rattle.std.specs.Prelude.{◌≡◌, ◌≢◌, ℕ, ◌<◌, ◌≤�
 ghost use Rattle.rap_base.specs.TokenKind.{SEMICOLON, L_PAREN, L_BRACK, COLON, LIFETIME_IDENT, STAR, AMP, BANG, UNDERSCORE, FN_KW, FOR_KW, IMPL_KW, DYN_KW, BUILTIN_KW, POUND};
 ghost use Rattle.rap_base.specs.NodeKind.{PATH_TYPE};
 ghost use Rattle.rap_base.specs.TokenSet.{member};
-ghost use Rattle.rap_events.specs.State.{state, next, NthAt, Bears, IsLast, but_last};
+ghost use Rattle.rap_events.specs.State.{state, next, NthAt, ReadsAs, IsLast, but_last};
 ghost use Rattle.rap_grammar.specs.Called as called;
 ghost use Rattle.rap_grammar.specs.First.{is_type_first, is_fn_ptr_first, is_weak_dyn_path_first, is_dyn_weak, starts_weak_dyn, starts_path};
 ghost use Rattle.rap_grammar.specs.Grew.{Within, Behind, Grew, Took, Makes};
@@ -212,7 +212,7 @@ fn is_weak_dyn_path_first(kind: SyntaxKind) -> bool
 /// Whether an identifier `dyn` before a bound comes next, as in `dyn a`.
 fn is_dyn_weak(p: &Parser<'_>) -> bool
     ensures here { result ≡ is_dyn_weak (state p.now).rest }
-    ensures bears { IsTrue result → Bears (state p.now) DYN_KW }
+    ensures bears { IsTrue result → ReadsAs (state p.now) DYN_KW }
 {
     p.at_contextual_kw(T![dyn]) && is_weak_dyn_path_first(p.nth(1))
 }
@@ -220,7 +220,7 @@ fn is_dyn_weak(p: &Parser<'_>) -> bool
 /// The same before 2018, when such a `dyn` is the keyword.
 pub(super) fn starts_weak_dyn(p: &Parser<'_>) -> bool
     ensures here { result ≡ starts_weak_dyn (state p.now).rest }
-    ensures bears { IsTrue result → Bears (state p.now) DYN_KW }
+    ensures bears { IsTrue result → ReadsAs (state p.now) DYN_KW }
 {
     p.current() == T![ident] && !p.current_edition().at_least_2018() && is_dyn_weak(p)
 }
@@ -535,7 +535,7 @@ fn dyn_trait_type<G: Grammar>(p: &mut Parser<'_>, g: &G) -> Result<(), NoMemory>
 #[inline(never)]
 fn dyn_trait_type_weak<G: Grammar>(p: &mut Parser<'_>, g: &G) -> Result<(), NoMemory>
     requires within { Within G.valid G.left g.now (state p.old) }
-    requires here { Bears (state p.old) DYN_KW }
+    requires here { ReadsAs (state p.old) DYN_KW }
     ensures took { OnOk result (Took (state p.old) (state p.new) type_room) }
     ensures script { OnOk result (Follows script.dyn_trait_type_weak something (state p.old) (state p.new)) }
 {
@@ -582,7 +582,7 @@ fn path_or_macro_type<G: Grammar>(
 /// Whether `builtin#` comes next.
 fn starts_builtin(p: &Parser<'_>) -> bool
     ensures here { result ≡ starts_builtin (state p.now).rest }
-    ensures bears { IsTrue result → Bears (state p.now) BUILTIN_KW }
+    ensures bears { IsTrue result → ReadsAs (state p.now) BUILTIN_KW }
     ensures pound { IsTrue result → NthAt (state p.now) 1 POUND }
 {
     p.at_contextual_kw(T![builtin]) && p.nth_at(1, T![#])
@@ -685,7 +685,7 @@ pub(super) fn opt_type_bounds_as_dyn_trait_type<G: Grammar>(
 #[inline(never)]
 fn pattern_type<G: Grammar>(p: &mut Parser<'_>, g: &G) -> Result<(), NoMemory>
     requires within { Within G.valid G.left g.now (state p.old) }
-    requires here { Bears (state p.old) BUILTIN_KW }
+    requires here { ReadsAs (state p.old) BUILTIN_KW }
     requires pound { NthAt (state p.old) 1 POUND }
     ensures took { OnOk result (Took (state p.old) (state p.new) type_room) }
     ensures script { OnOk result (Follows script.pattern_type something (state p.old) (state p.new)) }
