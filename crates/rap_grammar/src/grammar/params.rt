@@ -175,11 +175,7 @@ fn params<G: Grammar>(p: &mut Parser<'_>, g: &G, flavor: Flavor) -> Result<(), N
 }
 
 /// A parameter with its attributes, as `#[a] b: c`. Tells whether another one may follow.
-fn attributed_param<G: Grammar>(
-    p: &mut Parser<'_>,
-    g: &G,
-    flavor: Flavor,
-) -> Result<bool, NoMemory>
+fn attributed_param<G: Grammar>(p: &mut Parser<'_>, g: &G, flavor: Flavor) -> Result<bool, NoMemory>
     requires behind { Behind G.valid G.left g.now (state p.old) }
     ensures grew { OnOk result (Grew (state p.old) (state p.new) 4) }
     ensures took { IfOk result (λ on. on ≡ true → Took (state p.old) (state p.new) element_room) }
