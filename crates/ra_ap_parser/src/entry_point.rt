@@ -1,5 +1,5 @@
 //! Where a parse begins.
-ghost use Rattle.std.specs.Prelude.{◌≡◌, ◌<◌, ◌↔◌, length, IfOk, Some};
+ghost use Rattle.std.specs.Prelude.{◌≡◌, ◌<◌, ◌≤◌, ◌↔◌, length, IfOk, Some};
 ghost use Rattle.rap_events.specs.Forest.{Forest, message_count};
 ghost use Rattle.rap_grammar.specs.Derives.{Derives, Expression};
 ghost use Rattle.rap_grammar.specs.Top.{IsTreeOver, IsTopOf};
@@ -42,18 +42,39 @@ impl Error for ParseFault {}
 /// What a whole input is read as.
 #[derive(Clone, Copy, Debug, PartialEq, Eq)]
 pub enum TopEntryPoint {
+    /// A pattern, with its alternatives.
+    Pattern,
+    /// A type.
+    Ty,
     /// An expression.
     Expr,
+    /// What stands in the brackets of an attribute, as `cfg(a)` in `#[cfg(a)]`.
+    MetaItem,
 }
 
 impl TopEntryPoint {
     ghost use Rattle.ra_ap_parser.specs.EntryScript.{entry_script};
 
+    /// Reads the input as one tree.
+    fn run(&self, alloc: Global, input: &Input) -> Result<Output, NoMemory>
+        requires { length input.now ≤ MAX_TOKENS }
+        ensures tree { IfOk result (IsTreeOver input.now) }
+        ensures script { IfOk result (IsTopOf (entry_script self.now) input.now) }
+    {
+        match self {
+            TopEntryPoint::Pattern => top::pattern(alloc, input),
+            TopEntryPoint::Ty => top::type_(alloc, input),
+            TopEntryPoint::Expr => top::expr(alloc, input),
+            TopEntryPoint::MetaItem => top::meta_item(alloc, input),
+        }
+    }
+
     /// Reads the whole input as one tree, whatever its tokens are.
     ///
     /// The error is `TooManyTokens` exactly for an input of more than [`MAX_TOKENS`] tokens, which is decided
-    /// first, and else `NoMemory` where a growth was refused. The tree is that of the entry's script, and no other; an
-    /// input that the core grammar derives as an expression gives its derivation's tree, without a message.
+    /// first, and else `NoMemory` where a growth was refused. The tree is that of the entry's script, and no other;
+    /// under `Expr` an input that the core grammar derives as an expression gives its derivation's tree, without a
+    /// message.
     pub fn parse(&self, alloc: Global, input: &Input) -> Result<Output, ParseFault>
         ensures tree { IfOk result (IsTreeOver input.now) }
         ensures script { IfOk result (IsTopOf (entry_script self.now) input.now) }
@@ -64,10 +85,7 @@ impl TopEntryPoint {
         if input.len() > MAX_TOKENS {
             return Err(ParseFault::TooManyTokens);
         }
-        let parsed = match self {
-            TopEntryPoint::Expr => top::expr(alloc, input),
-        };
-        match parsed {
+        match self.run(alloc, input) {
             Ok(output) => Ok(output),
             Err(NoMemory) => Err(ParseFault::NoMemory),
         }

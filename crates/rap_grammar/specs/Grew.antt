@@ -82,6 +82,14 @@ pub record Closes (node_kind k : ℕ) (old new : State) (cm : CompletedMarker) :
   pub below : old.below ≡ push new.below new.marker (but_last new.forest)
   pub kind : cm.kind ≡ node_kind
 
+-- tokens were taken, and the newest open marker is gone
+pub record Ended (old new : State) (room : ℕ) : Type 0 where
+  pub input : new.input ≡ old.input
+  pub left : new.left < old.left
+  pub count : new.count + 256 * new.left + room ≤ old.count + 256 * old.left
+  pub messages : old.messages ≤ new.messages
+  pub below : old.below ≡ push new.below new.marker (top old.below)
+
 -- the newest open marker was abandoned, and a message was reported
 pub record Dropped (old new : State) (k : ℕ) : Type 0 where
   pub input : new.input ≡ old.input

@@ -61,3 +61,10 @@ type_room = 110
 
 abbrev pub pattern_room : ℕ
 pattern_room = 110
+
+-- a pattern without alternatives, and one that is no range
+abbrev pub single_pattern_room : ℕ
+single_pattern_room = 120
+
+abbrev pub atom_pattern_room : ℕ
+atom_pattern_room = 124

@@ -1,12 +1,15 @@
 -- The names of entry points.
 use Rattle.std.specs.Prelude.{◌≡◌, ◌≢◌, List, ℕ, Result, MatchResult, codes}
 use Rattle.ra_ap_parser.specs.declared.entry_point.TopEntryPoint.{TopEntryPoint}
-use Rattle.ra_ap_parser.specs.declared.entry_point.TopEntryPoint.TheVariants.{Expr}
+use Rattle.ra_ap_parser.specs.declared.entry_point.TopEntryPoint.TheVariants.{Pattern, Ty, Expr, MetaItem}
 use Rattle.rast_print.specs.declared.entry.Entry.{Entry}
 
 -- an entry point's name
 abbrev pub name_of_entry : TopEntryPoint → List ℕ
+name_of_entry Pattern = codes "Pattern"
+name_of_entry Ty = codes "Type"
 name_of_entry Expr = codes "Expr"
+name_of_entry MetaItem = codes "MetaItem"
 
 -- a word is read as the entry point that it names, and refused where it names none
 abbrev pub IsNamed : {Refusal : Type 0} → List ℕ → Result Entry Refusal → Type 0

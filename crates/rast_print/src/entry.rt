@@ -20,7 +20,10 @@ impl FromStr for Entry {
 
     fn from_str(s: &str) -> Result<Entry, InvalidEntry> {
         match s {
+            "Pattern" => Ok(Entry(TopEntryPoint::Pattern)),
+            "Type" => Ok(Entry(TopEntryPoint::Ty)),
             "Expr" => Ok(Entry(TopEntryPoint::Expr)),
+            "MetaItem" => Ok(Entry(TopEntryPoint::MetaItem)),
             _ => Err(InvalidEntry),
         }
     }
@@ -33,7 +36,10 @@ mod tests {
 
     #[test]
     fn knows_the_entry_points(rt: HostRuntime) -> Result<(), Fail> {
-        assert!(rt; "Expr".parse::<Entry>().is_ok());
+        for name in ["Pattern", "Type", "Expr", "MetaItem"] {
+            assert!(rt; name.parse::<Entry>().is_ok(), "{name}");
+        }
+        assert!(rt; "Ty".parse::<Entry>().is_err());
         assert!(rt; "expr".parse::<Entry>().is_err());
         assert!(rt; "".parse::<Entry>().is_err());
         Ok(())

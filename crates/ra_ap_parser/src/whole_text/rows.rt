@@ -1,7 +1,9 @@
 //! Texts with their trees and messages, as tables.
 //!
-//! `K(..)` is a node with its children and `K"t"` a leaf; `_` is a leaf of one space, and `E:a` the expression that is the
-//! name `a`. Each message stands behind a bar, with its place.
+//! `K(..)` is a node with its children and `K"t"` a leaf; `_` is a leaf of one space, `P:a` the path that is the name `a`,
+//! and `E:a` and `T:a` are the expression and the type that are that path. Each message stands behind a bar, with its
+//! place. In a table each text stands between `«` and `»`, and its tree and messages behind it, each message in a line of
+//! its own.
 use super::{TextFault, parse_text};
 use crate::entry_point::TopEntryPoint;
 use crate::shortcuts::{StrSink, StrStep};
@@ -67,20 +69,25 @@ impl Notation {
 /// A text, its tree, and its messages.
 pub type Row = (&'static str, &'static str, &'static str);
 
-/// The tree with each `E:a` as the nodes that it stands for.
+/// The tree with each `P:a`, `E:a` and `T:a` as the nodes that it stands for.
 fn spelled_out(alloc: Global, tree: &str) -> Result<String, AllocError> {
     let mut out = String::new(alloc);
     let mut last = ' ';
-    let mut names = false;
+    let mut nodes = 0u8;
     for c in tree.chars() {
-        if names {
+        if nodes > 0 {
             out.push(c)?;
-            out.push_str("\"))))")?;
-            names = false;
-        } else if last == 'E' && c == ':' {
+            out.push_str(if nodes == 3 { "\")))" } else { "\"))))" })?;
+            nodes = 0;
+        } else if c == ':' && matches!(last, 'P' | 'E' | 'T') {
             out.pop();
-            out.push_str("PATH_EXPR(PATH(PATH_SEGMENT(NAME_REF(IDENT\"")?;
-            names = true;
+            out.push_str(match last {
+                'E' => "PATH_EXPR(",
+                'T' => "PATH_TYPE(",
+                _ => "",
+            })?;
+            out.push_str("PATH(PATH_SEGMENT(NAME_REF(IDENT\"")?;
+            nodes = if last == 'P' { 3 } else { 4 };
         } else {
             out.push(c)?;
         }
@@ -89,24 +96,95 @@ fn spelled_out(alloc: Global, tree: &str) -> Result<String, AllocError> {
     Ok(out)
 }
 
-/// Compares each text's tree and messages with what its row says.
+/// Compares the text's tree and messages, under an entry, with what they are to be.
+fn compare_text(
+    rt: &impl Abort,
+    alloc: Global,
+    (edition, entry): (Edition, TopEntryPoint),
+    (text, tree, messages): (&str, &str, &str),
+) -> Result<(), Fail> {
+    let mut sink = Notation {
+        tree: String::new(alloc),
+        messages: String::new(alloc),
+        begun: false,
+    };
+    let Ok(parsed) = parse_text(alloc, edition, entry, text, &mut sink) else {
+        return Err(Fail::from("not parsed"));
+    };
+    assert!(rt; parsed.whole, "{text}");
+    let tree = spelled_out(alloc, tree)?;
+    assert_eq!(rt; sink.tree.as_str(), tree.as_str(), "{text}");
+    assert_eq!(rt; sink.messages.as_str(), messages, "{text}");
+    Ok(())
+}
+
+/// Compares each text, as an expression in the newest edition, with its row.
 pub fn compare(rt: &impl Abort, alloc: Global, rows: &[Row]) -> Result<(), Fail> {
+    let read = (Edition::LATEST, TopEntryPoint::Expr);
     for (text, tree, messages) in rows {
-        let mut sink = Notation {
-            tree: String::new(alloc),
-            messages: String::new(alloc),
-            begun: false,
-        };
-        let edition = Edition::Edition2024;
-        let Ok(parsed) = parse_text(alloc, edition, TopEntryPoint::Expr, text, &mut sink) else {
-            return Err(Fail::from("not parsed"));
-        };
-        assert!(rt; parsed.whole, "{text}");
-        let tree = spelled_out(alloc, tree)?;
-        assert_eq!(rt; sink.tree.as_str(), tree.as_str(), "{text}");
-        assert_eq!(rt; sink.messages.as_str(), *messages, "{text}");
+        compare_text(rt, alloc, read, (text, tree, messages))?;
     }
     Ok(())
+}
+
+/// The tree and the messages out of their lines.
+fn tree_and_messages(alloc: Global, lines: &str) -> Result<(String, String), AllocError> {
+    let mut tree = String::new(alloc);
+    let mut messages = String::new(alloc);
+    for line in lines.lines() {
+        let line = line.trim();
+        if line.starts_with('|') {
+            messages.push_str(line)?;
+        } else if !line.is_empty() {
+            if !tree.is_empty() {
+                tree.push_str(" ")?;
+            }
+            tree.push_str(line)?;
+        }
+    }
+    Ok((tree, messages))
+}
+
+/// Compares each text of a table with what stands behind it.
+fn compare_table(
+    rt: &impl Abort,
+    alloc: Global,
+    read: (Edition, TopEntryPoint),
+    table: &str,
+) -> Result<(), Fail> {
+    for row in table.split('«').skip(1) {
+        let Some((text, lines)) = row.split_once('»') else {
+            return Err(Fail::from("a text without an end"));
+        };
+        let (tree, messages) = tree_and_messages(alloc, lines)?;
+        compare_text(rt, alloc, read, (text, tree.as_str(), messages.as_str()))?;
+    }
+    Ok(())
+}
+
+/// Compares each text of a table, as a type in the newest edition.
+pub fn types(rt: &impl Abort, alloc: Global, table: &str) -> Result<(), Fail> {
+    types_in(rt, alloc, Edition::LATEST, table)
+}
+
+/// The same, in an edition.
+pub fn types_in(rt: &impl Abort, alloc: Global, edition: Edition, table: &str) -> Result<(), Fail> {
+    compare_table(rt, alloc, (edition, TopEntryPoint::Ty), table)
+}
+
+/// Compares each text of a table, as a pattern in the newest edition.
+pub fn patterns(rt: &impl Abort, alloc: Global, table: &str) -> Result<(), Fail> {
+    compare_table(rt, alloc, (Edition::LATEST, TopEntryPoint::Pattern), table)
+}
+
+/// The same as an expression.
+pub fn expressions(rt: &impl Abort, alloc: Global, table: &str) -> Result<(), Fail> {
+    compare_table(rt, alloc, (Edition::LATEST, TopEntryPoint::Expr), table)
+}
+
+/// The same as what stands in the brackets of an attribute.
+pub fn metas(rt: &impl Abort, alloc: Global, table: &str) -> Result<(), Fail> {
+    compare_table(rt, alloc, (Edition::LATEST, TopEntryPoint::MetaItem), table)
 }
 
 #[test]
@@ -209,7 +287,7 @@ fn trivia_at_both_ends(rt: HostRuntime) -> Result<(), Fail> {
 }
 
 #[test]
-fn faults_are_told_and_compared(rt: HostRuntime) -> Result<(), Fail> {
+fn faults_are_reported_and_compared(rt: HostRuntime) -> Result<(), Fail> {
     let refused = TextFault::Refused(NoMemory);
     let long: TextFault<NoMemory> = TextFault::TextTooLong;
     let shown = format!(in rt.alloc(); "{refused}, {long}")?;

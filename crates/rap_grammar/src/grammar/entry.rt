@@ -7,9 +7,12 @@ ghost use Rattle.rap_events.specs.Machine.{floor, push};
 ghost use Rattle.rap_events.specs.State.{state};
 ghost use Rattle.rap_base.specs.TokenKind.{ERROR};
 ghost use Rattle.rap_grammar.specs.Atom as atom_script;
-ghost use Rattle.rap_grammar.specs.Grew.{Reads};
+ghost use Rattle.rap_grammar.specs.Called as called;
+ghost use Rattle.rap_grammar.specs.Grew.{Grew, Reads};
 ghost use Rattle.rap_grammar.specs.Knot.{Follows};
 ghost use Rattle.rap_grammar.specs.Room.{expression_room};
+ghost use Rattle.rap_grammar.specs.Rules.{IsPattern, IsType};
+ghost use Rattle.rap_grammar.specs.Script.{something};
 ghost use Rattle.rap_grammar.specs.Top.{top_tree, with_leaves};
 ghost use Rattle.rap_grammar.specs.Words.{of_option};
 
@@ -77,6 +80,33 @@ fn expr(p: &mut Parser<'_>) -> Result<Option<CompletedMarker>, NoMemory>
         Some((cm, _)) => Ok(Some(cm)),
         None => Ok(None),
     }
+}
+
+/// Reads a pattern.
+fn pattern(p: &mut Parser<'_>) -> Result<(), NoMemory>
+    ensures reads { OnOk result (IsPattern (state p.old) (state p.new)) }
+    ensures script { OnOk result (Follows called.pattern something (state p.old) (state p.new)) }
+{
+    run(p, Rule::Pattern)?;
+    Ok(())
+}
+
+/// Reads a type.
+fn type_(p: &mut Parser<'_>) -> Result<(), NoMemory>
+    ensures reads { OnOk result (IsType (state p.old) (state p.new)) }
+    ensures script { OnOk result (Follows called.type_ something (state p.old) (state p.new)) }
+{
+    run(p, Rule::Ty { allow_bounds: true })?;
+    Ok(())
+}
+
+/// Reads what stands in the brackets of an attribute.
+fn meta_item(p: &mut Parser<'_>) -> Result<(), NoMemory>
+    ensures grew { OnOk result (Grew (state p.old) (state p.new) 16) }
+    ensures script { OnOk result (Follows called.inner_meta something (state p.old) (state p.new)) }
+{
+    run(p, Rule::Meta)?;
+    Ok(())
 }
 
 /// Takes each token that is left, one by one.
