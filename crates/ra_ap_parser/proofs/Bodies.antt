@@ -4,7 +4,7 @@ use Rattle.std.proofs.lemmas.Bool.{cases_eq, cases_lt}
 use Rattle.std.proofs.lemmas.List.{append_assoc, drop-drop, drop_more, get_or-take, get_or_at, length-take-le, take-append-drop}
 use Rattle.std.proofs.lemmas.List.Elements.{All-cons, All-nil, All-from_get_or}
 use Rattle.rap_lexer.specs.declared.escape.Mode.{Mode}
-use Rattle.ra_ap_parser.specs.Told.{quote_of, IsBetween, IsBody}
+use Rattle.ra_ap_parser.specs.Reported.{quote_of, IsBetween, IsBody}
 
 abbrev Lacks : ℕ → List ℕ → Type 0
 Lacks q text = All (λ b. b ≢ q) text

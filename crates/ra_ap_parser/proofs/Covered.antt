@@ -197,7 +197,7 @@ module _ (ts : List Token) (edition : Edition) where
 covers-children : (ts : List Token) (edition : Edition) (kind : ℕ) (children : Forest) → covers (records ts edition) (node none kind children) ≡ true → stand (leaves children ++ []) (records ts edition) ≡ true
 covers-children ts edition kind children h = ap (λ l. stand l (records ts edition)) (append-nil (leaves children)) ∙ h
 
--- every step of a tree that covers a front of the records can be handed out
+-- every step of a tree that covers a prefix of the records can be handed out
 pub fits-tree : (ts : List Token) (edition : Edition) (f : Forest) → one_tree f ≡ true → Tree f → covers (records ts edition) f ≡ true → Fits ts PendingEnter 0 (flat f)
 fits-tree ts edition (node none kind x) h (a_node t u z) c =
     (tt, subst (λ (n : ℕ). Fits ts Normal 0 (flat x ++ exit_of n)) (sym z) (fits-flat ts edition 0 str_none x [] (exit ∷ []) u (omega arith) (covers-children ts edition kind x c) (tt, tt)))

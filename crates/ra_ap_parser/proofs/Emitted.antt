@@ -163,18 +163,18 @@ module _ (ts : List Token) where
   emitted-flat at start (node b k x) xs (a_node t u h) =
       let e : ℕ = end_of ts at b in
       let inside : ℕ = past_trivia ts e in
-      let front : StrForest = with_leaves (placed ts at start b) (trivia_at ts e) in
+      let prefix : StrForest = with_leaves (placed ts at start b) (trivia_at ts e) in
       let g : StrForest = placed ts inside str_none x in
       ap (λ l. open_flat start ++ emitted ts (state_of start) at l) (flat-node b k x xs h)
       ∙ emitted-flat at start b (enter k ∷ (flat x ++ (exit ∷ xs))) t
       ∙ begun at start b k (flat x ++ (exit ∷ xs))
-      ∙ ap (λ l. (str_flat front ++ str_enter k ∷ []) ++ l) (emitted-flat inside str_none x (exit ∷ xs) u)
-      ∙ node-steps (str_flat front) k g (emitted ts PendingExit (end_of ts inside x) xs)
-      ∙ ap (λ w. open_flat w ++ emitted ts (state_of w) (end_of ts inside x) xs) (sym (after_node-plain ts inside x (str_node front k g) h))
+      ∙ ap (λ l. (str_flat prefix ++ str_enter k ∷ []) ++ l) (emitted-flat inside str_none x (exit ∷ xs) u)
+      ∙ node-steps (str_flat prefix) k g (emitted ts PendingExit (end_of ts inside x) xs)
+      ∙ ap (λ w. open_flat w ++ emitted ts (state_of w) (end_of ts inside x) xs) (sym (after_node-plain ts inside x (str_node prefix k g) h))
   emitted-flat at start (node b k (split y true)) xs (dotted t u) =
       let e : ℕ = end_of ts at b in
       let inside : ℕ = past_trivia ts e in
-      let front : StrForest = with_leaves (placed ts at start b) (trivia_at ts e) in
+      let prefix : StrForest = with_leaves (placed ts at start b) (trivia_at ts e) in
       let g : StrForest = placed ts inside str_none y in
       let d : ℕ = end_of ts inside y in
       let text : List ℕ = float_text ts inside y in
@@ -182,15 +182,15 @@ module _ (ts : List Token) where
       ap (λ l. open_flat start ++ emitted ts (state_of start) at l) (flat-dotted b k y xs)
       ∙ emitted-flat at start b (enter k ∷ (flat y ++ (float_split true ∷ xs))) t
       ∙ begun at start b k (flat y ++ (float_split true ∷ xs))
-      ∙ ap (λ l. (str_flat front ++ str_enter k ∷ []) ++ l) (emitted-flat inside str_none y (float_split true ∷ xs) u ∙ next-steps ts d g (dotted_steps (without_dot text)) rest)
-      ∙ dotted-steps (str_flat front) (str_flat (with_leaves g (trivia_at ts d))) k (without_dot text) rest
+      ∙ ap (λ l. (str_flat prefix ++ str_enter k ∷ []) ++ l) (emitted-flat inside str_none y (float_split true ∷ xs) u ∙ next-steps ts d g (dotted_steps (without_dot text)) rest)
+      ∙ dotted-steps (str_flat prefix) (str_flat (with_leaves g (trivia_at ts d))) k (without_dot text) rest
   emitted-flat at start (node b k (node c j (split y false))) xs (apart t u v) =
       let e : ℕ = end_of ts at b in
       let inside : ℕ = past_trivia ts e in
-      let front : StrForest = with_leaves (placed ts at start b) (trivia_at ts e) in
+      let prefix : StrForest = with_leaves (placed ts at start b) (trivia_at ts e) in
       let e2 : ℕ = end_of ts inside c in
       let inside2 : ℕ = past_trivia ts e2 in
-      let front2 : StrForest = with_leaves (placed ts inside str_none c) (trivia_at ts e2) in
+      let prefix2 : StrForest = with_leaves (placed ts inside str_none c) (trivia_at ts e2) in
       let g : StrForest = placed ts inside2 str_none y in
       let d : ℕ = end_of ts inside2 y in
       let text : List ℕ = float_text ts inside2 y in
@@ -199,12 +199,12 @@ module _ (ts : List Token) where
       ap (λ l. open_flat start ++ emitted ts (state_of start) at l) (flat-apart b k c j y xs)
       ∙ emitted-flat at start b (enter k ∷ (flat c ++ (enter j ∷ (flat y ++ (float_split false ∷ xs))))) t
       ∙ begun at start b k (flat c ++ (enter j ∷ (flat y ++ (float_split false ∷ xs))))
-      ∙ ap (λ l. (str_flat front ++ str_enter k ∷ []) ++ l)
+      ∙ ap (λ l. (str_flat prefix ++ str_enter k ∷ []) ++ l)
       (emitted-flat inside str_none c (enter j ∷ (flat y ++ (float_split false ∷ xs))) u
       ∙ begun inside str_none c j (flat y ++ (float_split false ∷ xs))
-      ∙ ap (λ l. (str_flat front2 ++ str_enter j ∷ []) ++ l) (emitted-flat inside2 str_none y (float_split false ∷ xs) v ∙ next-steps ts d g (float_steps false text pos) rest)
-      ∙ apart-steps (has_dot text) j front2 (with_leaves g (trivia_at ts d)) text (before_first is_dot text) (after_first is_dot text) pos rest)
-      ∙ open-node (str_flat front) (str_flat (placed ts inside str_none (node c j (split y false)))) k rest
+      ∙ ap (λ l. (str_flat prefix2 ++ str_enter j ∷ []) ++ l) (emitted-flat inside2 str_none y (float_split false ∷ xs) v ∙ next-steps ts d g (float_steps false text pos) rest)
+      ∙ apart-steps (has_dot text) j prefix2 (with_leaves g (trivia_at ts d)) text (before_first is_dot text) (after_first is_dot text) pos rest)
+      ∙ open-node (str_flat prefix) (str_flat (placed ts inside str_none (node c j (split y false)))) k rest
   emitted-flat at start (leaf b k w) xs (a_leaf t) =
       let e : ℕ = end_of ts at b in
       ap (λ l. open_flat start ++ emitted ts (state_of start) at l) (append_assoc (flat b) (token k w ∷ []) xs)
@@ -226,7 +226,7 @@ module _ (ts : List Token) where
   emitted-half at c j y xs u v =
       let e : ℕ = end_of ts at c in
       let inside : ℕ = past_trivia ts e in
-      let front : StrForest = with_leaves (placed ts at str_none c) (trivia_at ts e) in
+      let prefix : StrForest = with_leaves (placed ts at str_none c) (trivia_at ts e) in
       let g : StrForest = placed ts inside str_none y in
       let d : ℕ = end_of ts inside y in
       let text : List ℕ = float_text ts inside y in
@@ -235,8 +235,8 @@ module _ (ts : List Token) where
       ap (emitted ts Normal at) (flat-half c j y xs)
       ∙ emitted-flat at str_none c (enter j ∷ (flat y ++ (float_split false ∷ xs))) u
       ∙ begun at str_none c j (flat y ++ (float_split false ∷ xs))
-      ∙ ap (λ l. (str_flat front ++ str_enter j ∷ []) ++ l) (emitted-flat inside str_none y (float_split false ∷ xs) v ∙ next-steps ts d g (float_steps false text pos) rest)
-      ∙ apart-steps (has_dot text) j front (with_leaves g (trivia_at ts d)) text (before_first is_dot text) (after_first is_dot text) pos rest
+      ∙ ap (λ l. (str_flat prefix ++ str_enter j ∷ []) ++ l) (emitted-flat inside str_none y (float_split false ∷ xs) v ∙ next-steps ts d g (float_steps false text pos) rest)
+      ∙ apart-steps (has_dot text) j prefix (with_leaves g (trivia_at ts d)) text (before_first is_dot text) (after_first is_dot text) pos rest
 
   -- what is left at the root's end
   rooted : (e : ℕ) (k : ℕ) (g : StrForest) → str_enter k ∷ (open_flat g ++ (held (state_of g) ++ (leaves_of (trivia_at ts e) ++ str_exit ∷ []))) ≡ str_flat (str_node str_none k (with_leaves g (trivia_at ts e)))
@@ -278,12 +278,12 @@ module _ (ts : List Token) where
   ending-flat at start (node b k x) xs (a_node t u h) =
       let e : ℕ = end_of ts at b in
       let inside : ℕ = past_trivia ts e in
-      let front : StrForest = with_leaves (placed ts at start b) (trivia_at ts e) in
+      let prefix : StrForest = with_leaves (placed ts at start b) (trivia_at ts e) in
       ap (ending ts (state_of start) at) (flat-node b k x xs h)
       ∙ ending-flat at start b (enter k ∷ (flat x ++ (exit ∷ xs))) t
       ∙ ap (λ p. ending ts Normal p (flat x ++ (exit ∷ xs))) (place-enter ts (placed ts at start b) e k)
       ∙ ending-flat inside str_none x (exit ∷ xs) u
-      ∙ ap (λ w. ending ts (state_of w) (end_of ts inside x) xs) (sym (after_node-plain ts inside x (str_node front k (placed ts inside str_none x)) h))
+      ∙ ap (λ w. ending ts (state_of w) (end_of ts inside x) xs) (sym (after_node-plain ts inside x (str_node prefix k (placed ts inside str_none x)) h))
   ending-flat at start (node b k (split y true)) xs (dotted t u) =
       let e : ℕ = end_of ts at b in
       let inside : ℕ = past_trivia ts e in

@@ -22,7 +22,7 @@ use Rattle.rap_lexer.specs.First.{First}
 use Rattle.rap_lexer.specs.Lexeme.{plain}
 use Rattle.rap_lexer.specs.Run.{next_is}
 use Rattle.rap_lexer.specs.declared.lexer.lexeme.Remark.TheVariants.{Nothing}
-use Rattle.ra_ap_parser.specs.Front.{IsFront}
+use Rattle.ra_ap_parser.specs.Header.{IsHeader}
 use Rattle.ra_ap_parser.specs.Input.{records}
 use Rattle.ra_ap_parser.specs.LexedStr.{IsFirst, IsLexing, joined, start_of, token_at}
 use Rattle.ra_ap_parser.specs.StrForest.{StrForest, str_none, str_node, str_leaf, str_message, str_joined, str_one_tree}
@@ -91,8 +91,8 @@ no_feed xs white rest h e =
 not_first : (c : ℕ) (text rest : List ℕ) → next_is c text ≡ false → text ≡ c ∷ rest → ⊥
 not_first c text rest h e = let t : (c == c) ≡ false = ap (next_is c) (sym e) ∙ h in let u : (c == c) ≡ true = eq-eqb c c refl in let z : true ≡ false = sym u ∙ t in absurd cc
 
--- no line feed, and neither a `#` nor a `-` at its front: no script
-no_script : (text : List ℕ) → IsAscii text → list_any (λ c. c == 10) text ≡ false → next_is 35 text ≡ false → next_is 45 text ≡ false → IsFront Edition2024 text []
+-- no line feed, and neither a `#` nor a `-` at its beginning: no script
+no_script : (text : List ℕ) → IsAscii text → list_any (λ c. c == 10) text ≡ false → next_is 35 text ≡ false → next_is 45 text ≡ false → IsHeader Edition2024 text []
 no_script text ascii feed hash dash = inl (record {
   script = record { text = text; shebang = None; opening = None; info = None; frontmatter = None; close = None; content = record { start = 0; end = length text } };
   accepted = inl (record {
@@ -100,13 +100,13 @@ no_script text ascii feed hash dash = inl (record {
       shebang = None;
       below = text;
       ends = λ s. not_first 35 text (33 ∷ s.rest) hash s.begins;
-      splits = record { front = []; whole = refl; size = refl };
+      splits = record { prefix = []; whole = refl; size = refl };
       fence = record {
         blank = None;
         n = 0;
         after = text;
         ends = λ n b. no_feed text b.white b.rest feed (sym (chars-IsAscii text ascii) ∙ b.split);
-        splits = record { front = []; whole = refl; size = refl };
+        splits = record { prefix = []; whole = refl; size = refl };
         no_more = λ rest e. not_first 45 text rest dash e;
       };
     };
@@ -121,8 +121,8 @@ lexing : (ts : List Token) → Splits ts → list_any (λ c. c == 10) (joined ts
 lexing ts s feed hash dash = record {
   whole = refl;
   borders = λ i h. IsCharBoundary-from_ascii (joined ts) (start_of ts i) (ascii_joined ts s) (start_within ts i);
-  front = [];
-  is_front = no_script (joined ts) (ascii_joined ts s) feed hash dash;
+  header = [];
+  is_header = no_script (joined ts) (ascii_joined ts s) feed hash dash;
   rest = ts;
   parts = refl;
   silent = λ i h. refl;

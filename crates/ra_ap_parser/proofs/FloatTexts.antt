@@ -13,14 +13,14 @@ use Rattle.ra_ap_parser.specs.FloatParts.{is_dot, has_dot, without_dot}
 use Rattle.ra_ap_parser.specs.Input.{ends_with_dot}
 use Rattle.ra_ap_parser.proofs.Joined.{dot_text}
 
-front_is : (text front : List ℕ) → text ≡ front ++ 46 ∷ [] → front ≡ without_dot text
-front_is text front e =
-    let long : length text ≡ length front + 1 = ap length e ∙ length-append front (46 ∷ []) in
-    sym (ap (λ n. take n text) (omega (arith, long)) ∙ ap (take (length front)) e ∙ take_at front (46 ∷ []) (length front) (omega arith))
+prefix_is : (text prefix : List ℕ) → text ≡ prefix ++ 46 ∷ [] → prefix ≡ without_dot text
+prefix_is text prefix e =
+    let long : length text ≡ length prefix + 1 = ap length e ∙ length-append prefix (46 ∷ []) in
+    sym (ap (λ n. take n text) (omega (arith, long)) ∙ ap (take (length prefix)) e ∙ take_at prefix (46 ∷ []) (length prefix) (omega arith))
 
-strips : (text : List ℕ) (r : Option (Bor (List ℕ))) (d : Bor (List ℕ)) → MatchOption r ((front : List ℕ) → text ≡ front ++ 46 ∷ [] → ⊥) (λ x. text ≡ x.now ++ 46 ∷ []) → ends_with_dot text ≡ true → (unwrap_or r d).now ≡ without_dot text
+strips : (text : List ℕ) (r : Option (Bor (List ℕ))) (d : Bor (List ℕ)) → MatchOption r ((prefix : List ℕ) → text ≡ prefix ++ 46 ∷ [] → ⊥) (λ x. text ≡ x.now ++ 46 ∷ []) → ends_with_dot text ≡ true → (unwrap_or r d).now ≡ without_dot text
 strips text None d h e = absurd (h (without_dot text) (sym (dot_text text e)))
-strips text (Some x) d h e = front_is text x.now h
+strips text (Some x) d h e = prefix_is text x.now h
 
 pub stripped : (text : List ℕ) (r : Option (Bor (List ℕ))) (d : Bor (List ℕ)) →
     MatchOption r (FindsCharSuffix 46 text None) (λ x. (n : ℕ) × FindsCharSuffix 46 text (Some n) × (x.now ≡ take (length text - n) text) × (length x.now + n ≡ length text)) →

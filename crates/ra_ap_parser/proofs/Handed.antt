@@ -18,16 +18,16 @@ takes-one takes x s t h = (t, h, refl)
 
 -- the first step is refused
 pub stops-here : {S R : Type 0} (takes : S → StrStepValue → S → Type 0) (refuses : S → StrStepValue → R → S → Type 0) (x : StrStepValue) (xs : List StrStepValue) (s t : S) (e : R) → refuses s x e t → Stops takes refuses s (x ∷ xs) e t
-stops-here takes refuses x xs s t e h = record { front = []; next = x; back = xs; before = s; split = refl; taken = refl; refused = h }
+stops-here takes refuses x xs s t e h = record { prefix = []; next = x; back = xs; before = s; split = refl; taken = refl; refused = h }
 
 -- a step is refused among the first ones
 pub stops-within : {S R : Type 0} (takes : S → StrStepValue → S → Type 0) (refuses : S → StrStepValue → R → S → Type 0) (xs ys : List StrStepValue) (s t : S) (e : R) → Stops takes refuses s xs e t → Stops takes refuses s (xs ++ ys) e t
 stops-within takes refuses xs ys s t e h = record {
-  front = h.front;
+  prefix = h.prefix;
   next = h.next;
   back = h.back ++ ys;
   before = h.before;
-  split = ap (λ l. l ++ ys) h.split ∙ append_assoc h.front (h.next ∷ h.back) ys;
+  split = ap (λ l. l ++ ys) h.split ∙ append_assoc h.prefix (h.next ∷ h.back) ys;
   taken = h.taken;
   refused = h.refused;
 }
@@ -35,12 +35,12 @@ stops-within takes refuses xs ys s t e h = record {
 -- a step is refused after the first ones
 pub stops-after : {S R : Type 0} (takes : S → StrStepValue → S → Type 0) (refuses : S → StrStepValue → R → S → Type 0) (xs ys : List StrStepValue) (s m t : S) (e : R) → Takes takes s xs m → Stops takes refuses m ys e t → Stops takes refuses s (xs ++ ys) e t
 stops-after takes refuses xs ys s m t e h k = record {
-  front = xs ++ k.front;
+  prefix = xs ++ k.prefix;
   next = k.next;
   back = k.back;
   before = k.before;
-  split = ap (λ l. xs ++ l) k.split ∙ sym (append_assoc xs k.front (k.next ∷ k.back));
-  taken = takes-append takes s m k.before xs k.front h k.taken;
+  split = ap (λ l. xs ++ l) k.split ∙ sym (append_assoc xs k.prefix (k.next ∷ k.back));
+  taken = takes-append takes s m k.before xs k.prefix h k.taken;
   refused = k.refused;
 }
 

@@ -17,7 +17,7 @@ use Rattle.ra_ap_parser.specs.StrForest.{StrForest, str_none, str_node, str_leaf
 use Rattle.ra_ap_parser.proofs.Tokens.{joined-append}
 use Rattle.ra_ap_parser.specs.Trivia.{is_trivial, trivia_at, past_trivia, text_of, end_of, float_text, after_node, placed, with_trivia, LeavesTouch, TreeTouches}
 
--- one front of the tokens, and the tokens after it
+-- one prefix of the tokens, and the tokens after it
 pub joined-more : (ts : List Token) (at n : ℕ) → joined (take at ts) ++ joined (take n (drop at ts)) ≡ joined (take (at + n) ts)
 joined-more ts at n = sym (joined-append (take at ts) (take n (drop at ts))) ∙ ap joined (sym (take-add at n ts))
 
@@ -48,9 +48,9 @@ after_node-plain ts at (message b m) f h = refl
 after_node-plain ts at (split b true) f h = absurd (omega arith)
 after_node-plain ts at (split b false) f h = absurd (omega arith)
 
--- after a front of the tokens, the text of one more
-one-more : (ts : List Token) (front text : List ℕ) (p : ℕ) → front ≡ joined (take p ts) → text ≡ text_of ts p 1 → front ++ text ≡ joined (take (p + 1) ts)
-one-more ts front text p e t = ap (λ l. l ++ text) e ∙ ap (λ l. joined (take p ts) ++ l) t ∙ joined-more ts p 1
+-- after a prefix of the tokens, the text of one more
+one-more : (ts : List Token) (prefix text : List ℕ) (p : ℕ) → prefix ≡ joined (take p ts) → text ≡ text_of ts p 1 → prefix ++ text ≡ joined (take (p + 1) ts)
+one-more ts prefix text p e t = ap (λ l. l ++ text) e ∙ ap (λ l. joined (take p ts) ++ l) t ∙ joined-more ts p 1
 
 -- the parts of a float are its text
 pub dot_text : (text : List ℕ) → ends_with_dot text ≡ true → without_dot text ++ codes "." ≡ text
@@ -79,9 +79,9 @@ apart_text true j f g text left right pos h = rw (← h refl) (simp append_assoc
 apart_text false j f g text left right pos h = simp append_assoc
 
 module _ (ts : List Token) where
-  -- a node begins, after a front of the tokens
-  joined-open : (pre : List ℕ) (front : StrForest) (p : ℕ) → pre ++ str_joined front ≡ joined (take p ts) → (pre ++ str_joined front) ++ str_joined str_none ≡ joined (take p ts)
-  joined-open pre front p h = append-nil (pre ++ str_joined front) ∙ h
+  -- a node begins, after a prefix of the tokens
+  joined-open : (pre : List ℕ) (prefix : StrForest) (p : ℕ) → pre ++ str_joined prefix ≡ joined (take p ts) → (pre ++ str_joined prefix) ++ str_joined str_none ≡ joined (take p ts)
+  joined-open pre prefix p h = append-nil (pre ++ str_joined prefix) ∙ h
 
   -- a forest's leaves are the tokens up to its end
   pub joined-placed : (pre : List ℕ) (at : ℕ) (start : StrForest) (f : Forest) → Tree f → LeavesTouch ts at f → pre ++ str_joined start ≡ joined (take at ts) →
@@ -91,43 +91,43 @@ module _ (ts : List Token) where
   joined-placed pre at start (node b k x) (a_node t u z) l h =
       let e : ℕ = end_of ts at b in
       let inside : ℕ = past_trivia ts e in
-      let front : StrForest = with_leaves (placed ts at start b) (trivia_at ts e) in
+      let prefix : StrForest = with_leaves (placed ts at start b) (trivia_at ts e) in
       let inner : StrForest = placed ts inside str_none x in
-      let begun : pre ++ str_joined front ≡ joined (take inside ts) = joined-trivia ts pre e (placed ts at start b) (joined-placed pre at start b t l.0 h) in
-      ap (λ g. pre ++ str_joined g) (after_node-plain ts inside x (str_node front k inner) z)
-      ∙ sym (append_assoc pre (str_joined front) (str_joined inner))
-      ∙ joined-placed (pre ++ str_joined front) inside str_none x u l.1 (joined-open pre front inside begun)
+      let begun : pre ++ str_joined prefix ≡ joined (take inside ts) = joined-trivia ts pre e (placed ts at start b) (joined-placed pre at start b t l.0 h) in
+      ap (λ g. pre ++ str_joined g) (after_node-plain ts inside x (str_node prefix k inner) z)
+      ∙ sym (append_assoc pre (str_joined prefix) (str_joined inner))
+      ∙ joined-placed (pre ++ str_joined prefix) inside str_none x u l.1 (joined-open pre prefix inside begun)
   joined-placed pre at start (node b k (split y true)) (dotted t u) l h =
       let e : ℕ = end_of ts at b in
       let inside : ℕ = past_trivia ts e in
-      let front : StrForest = with_leaves (placed ts at start b) (trivia_at ts e) in
-      let begun : pre ++ str_joined front ≡ joined (take inside ts) = joined-trivia ts pre e (placed ts at start b) (joined-placed pre at start b t l.0 h) in
+      let prefix : StrForest = with_leaves (placed ts at start b) (trivia_at ts e) in
+      let begun : pre ++ str_joined prefix ≡ joined (take inside ts) = joined-trivia ts pre e (placed ts at start b) (joined-placed pre at start b t l.0 h) in
       let d : ℕ = end_of ts inside y in
       let g : StrForest = with_leaves (placed ts inside str_none y) (trivia_at ts d) in
-      let more : (pre ++ str_joined front) ++ str_joined g ≡ joined (take (past_trivia ts d) ts) =
-      joined-trivia ts (pre ++ str_joined front) d (placed ts inside str_none y) (joined-placed (pre ++ str_joined front) inside str_none y u l.1.0 (joined-open pre front inside begun)) in
+      let more : (pre ++ str_joined prefix) ++ str_joined g ≡ joined (take (past_trivia ts d) ts) =
+      joined-trivia ts (pre ++ str_joined prefix) d (placed ts inside str_none y) (joined-placed (pre ++ str_joined prefix) inside str_none y u l.1.0 (joined-open pre prefix inside begun)) in
       let text : List ℕ = float_text ts inside y in
-      let parts : pre ++ ((str_joined front ++ (str_joined g ++ ([] ++ without_dot text))) ++ codes ".") ≡ ((pre ++ str_joined front) ++ str_joined g) ++ (without_dot text ++ codes ".") = simp append_assoc in
-      parts ∙ one-more ts ((pre ++ str_joined front) ++ str_joined g) (without_dot text ++ codes ".") (past_trivia ts d) more (dot_text text l.1.2)
+      let parts : pre ++ ((str_joined prefix ++ (str_joined g ++ ([] ++ without_dot text))) ++ codes ".") ≡ ((pre ++ str_joined prefix) ++ str_joined g) ++ (without_dot text ++ codes ".") = simp append_assoc in
+      parts ∙ one-more ts ((pre ++ str_joined prefix) ++ str_joined g) (without_dot text ++ codes ".") (past_trivia ts d) more (dot_text text l.1.2)
   joined-placed pre at start (node b k (node c j (split y false))) (apart t u v) l h =
       let e : ℕ = end_of ts at b in
       let inside : ℕ = past_trivia ts e in
-      let front : StrForest = with_leaves (placed ts at start b) (trivia_at ts e) in
-      let begun : pre ++ str_joined front ≡ joined (take inside ts) = joined-trivia ts pre e (placed ts at start b) (joined-placed pre at start b t l.0 h) in
-      let pre2 : List ℕ = pre ++ str_joined front in
+      let prefix : StrForest = with_leaves (placed ts at start b) (trivia_at ts e) in
+      let begun : pre ++ str_joined prefix ≡ joined (take inside ts) = joined-trivia ts pre e (placed ts at start b) (joined-placed pre at start b t l.0 h) in
+      let pre2 : List ℕ = pre ++ str_joined prefix in
       let e2 : ℕ = end_of ts inside c in
       let inside2 : ℕ = past_trivia ts e2 in
-      let front2 : StrForest = with_leaves (placed ts inside str_none c) (trivia_at ts e2) in
-      let begun2 : pre2 ++ str_joined front2 ≡ joined (take inside2 ts) = joined-trivia ts pre2 e2 (placed ts inside str_none c) (joined-placed pre2 inside str_none c u l.1.0 (joined-open pre front inside begun)) in
+      let prefix2 : StrForest = with_leaves (placed ts inside str_none c) (trivia_at ts e2) in
+      let begun2 : pre2 ++ str_joined prefix2 ≡ joined (take inside2 ts) = joined-trivia ts pre2 e2 (placed ts inside str_none c) (joined-placed pre2 inside str_none c u l.1.0 (joined-open pre prefix inside begun)) in
       let d : ℕ = end_of ts inside2 y in
       let g : StrForest = with_leaves (placed ts inside2 str_none y) (trivia_at ts d) in
-      let more : (pre2 ++ str_joined front2) ++ str_joined g ≡ joined (take (past_trivia ts d) ts) =
-      joined-trivia ts (pre2 ++ str_joined front2) d (placed ts inside2 str_none y) (joined-placed (pre2 ++ str_joined front2) inside2 str_none y v l.1.1.0 (joined-open pre2 front2 inside2 begun2)) in
+      let more : (pre2 ++ str_joined prefix2) ++ str_joined g ≡ joined (take (past_trivia ts d) ts) =
+      joined-trivia ts (pre2 ++ str_joined prefix2) d (placed ts inside2 str_none y) (joined-placed (pre2 ++ str_joined prefix2) inside2 str_none y v l.1.1.0 (joined-open pre2 prefix2 inside2 begun2)) in
       let text : List ℕ = float_text ts inside2 y in
       let pos : ℕ = start_of ts (past_trivia ts d) in
-      let parts : pre ++ (str_joined front ++ ((str_joined front2 ++ str_joined g) ++ text)) ≡ (((pre ++ str_joined front) ++ str_joined front2) ++ str_joined g) ++ text = simp append_assoc in
-      ap (λ w. pre ++ (str_joined front ++ w)) (apart_text (has_dot text) j front2 g text (before_first is_dot text) (after_first is_dot text) pos (first_dot text))
-      ∙ parts ∙ one-more ts ((pre2 ++ str_joined front2) ++ str_joined g) text (past_trivia ts d) more refl
+      let parts : pre ++ (str_joined prefix ++ ((str_joined prefix2 ++ str_joined g) ++ text)) ≡ (((pre ++ str_joined prefix) ++ str_joined prefix2) ++ str_joined g) ++ text = simp append_assoc in
+      ap (λ w. pre ++ (str_joined prefix ++ w)) (apart_text (has_dot text) j prefix2 g text (before_first is_dot text) (after_first is_dot text) pos (first_dot text))
+      ∙ parts ∙ one-more ts ((pre2 ++ str_joined prefix2) ++ str_joined g) text (past_trivia ts d) more refl
   joined-placed pre at start (leaf b k w) (a_leaf t) l h =
       let e : ℕ = end_of ts at b in
       let g : StrForest = with_leaves (placed ts at start b) (trivia_at ts e) in
@@ -144,15 +144,15 @@ module _ (ts : List Token) where
   joined-half c j y u v l =
       let e : ℕ = end_of ts 0 c in
       let inside : ℕ = past_trivia ts e in
-      let front : StrForest = with_leaves (placed ts 0 str_none c) (trivia_at ts e) in
-      let begun : [] ++ str_joined front ≡ joined (take inside ts) = joined-trivia ts [] e (placed ts 0 str_none c) (joined-placed [] 0 str_none c u l.0 refl) in
+      let prefix : StrForest = with_leaves (placed ts 0 str_none c) (trivia_at ts e) in
+      let begun : [] ++ str_joined prefix ≡ joined (take inside ts) = joined-trivia ts [] e (placed ts 0 str_none c) (joined-placed [] 0 str_none c u l.0 refl) in
       let d : ℕ = end_of ts inside y in
       let g : StrForest = with_leaves (placed ts inside str_none y) (trivia_at ts d) in
-      let more : str_joined front ++ str_joined g ≡ joined (take (past_trivia ts d) ts) =
-      joined-trivia ts (str_joined front) d (placed ts inside str_none y) (joined-placed (str_joined front) inside str_none y v l.1.0 (joined-open [] front inside begun)) in
+      let more : str_joined prefix ++ str_joined g ≡ joined (take (past_trivia ts d) ts) =
+      joined-trivia ts (str_joined prefix) d (placed ts inside str_none y) (joined-placed (str_joined prefix) inside str_none y v l.1.0 (joined-open [] prefix inside begun)) in
       let text : List ℕ = float_text ts inside y in
-      apart_text (has_dot text) j front g text (before_first is_dot text) (after_first is_dot text) (start_of ts (past_trivia ts d)) (first_dot text)
-      ∙ one-more ts (str_joined front ++ str_joined g) text (past_trivia ts d) more refl
+      apart_text (has_dot text) j prefix g text (before_first is_dot text) (after_first is_dot text) (start_of ts (past_trivia ts d)) (first_dot text)
+      ∙ one-more ts (str_joined prefix ++ str_joined g) text (past_trivia ts d) more refl
 
 -- where a tree ends, with the trivia that stand at the root's end
 abbrev pub tree_end : List Token → Forest → ℕ

@@ -6,8 +6,8 @@ pub mod Eating
 pub mod Emitted
 pub mod Examples
 pub mod FloatTexts
-pub mod Fronts
 pub mod Handed
+pub mod Headers
 pub mod InputRecords
 pub mod Joined
 pub mod Messages
@@ -15,7 +15,7 @@ pub mod OneLexing
 pub mod OpenStrings
 pub mod Parsed
 pub mod Records
-pub mod Tells
+pub mod Reports
 pub mod Tokens
 pub mod TriviaRuns
 pub mod Upto

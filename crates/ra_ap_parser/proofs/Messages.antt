@@ -7,23 +7,23 @@ use Rattle.rap_lexer.specs.declared.lexer.lexeme.Remark.{Remark}
 use Rattle.ra_ap_parser.specs.About.{about}
 use Rattle.std.specs.List.{AllByRecursion, AllWithin}
 use Rattle.ra_ap_parser.specs.LexedStr.{Message, AreInOrder, messages_of, error_of}
-use Rattle.ra_ap_parser.specs.Told.{checked_mode, has_note, prefix_note, fixed_message, TellsFaults, TellsOf, IsBody}
+use Rattle.ra_ap_parser.specs.Reported.{checked_mode, has_note, prefix_note, fixed_message, ReportsFaults, ReportsOf, IsBody}
 
 no_mode : (P : Type 0) (Q : Mode → Type 0) (o : Option Mode) → o ≡ None → P → MatchOption o P Q
 no_mode P Q None e p = p
 no_mode P Q (Some mode) e p = cc
 
--- what is told of a token that is no literal to check
-pub tells_other : (after_open : Bool) (text : List ℕ) (remark : Remark) (ms : List (List ℕ)) → checked_mode remark ≡ None → ms ≡ (if has_note after_open remark then prefix_note text ∷ [] else option_to_list (fixed_message remark)) → TellsOf after_open text remark ms
-tells_other after_open text remark ms e h = no_mode _ (λ mode. (body : List ℕ) × IsBody mode text body × TellsFaults mode body ms) (checked_mode remark) e h
+-- what is reported about a token that is no literal to check
+pub reports_other : (after_open : Bool) (text : List ℕ) (remark : Remark) (ms : List (List ℕ)) → checked_mode remark ≡ None → ms ≡ (if has_note after_open remark then prefix_note text ∷ [] else option_to_list (fixed_message remark)) → ReportsOf after_open text remark ms
+reports_other after_open text remark ms e h = no_mode _ (λ mode. (body : List ℕ) × IsBody mode text body × ReportsFaults mode body ms) (checked_mode remark) e h
 
 the_mode : (P : Type 0) (Q : Mode → Type 0) (o : Option Mode) (mode : Mode) → o ≡ Some mode → Q mode → MatchOption o P Q
 the_mode P Q None mode e q = cc
 the_mode P Q (Some other) mode e q = let f : mode ≡ other = cc in subst Q f q
 
--- what is told of a literal to check
-pub tells_checked : (after_open : Bool) (text : List ℕ) (remark : Remark) (mode : Mode) (body : List ℕ) (ms : List (List ℕ)) → checked_mode remark ≡ Some mode → IsBody mode text body → TellsFaults mode body ms → TellsOf after_open text remark ms
-tells_checked after_open text remark mode body ms e b h = the_mode _ (λ mode. (body : List ℕ) × IsBody mode text body × TellsFaults mode body ms) (checked_mode remark) mode e (body, b, h)
+-- what is reported about a literal to check
+pub reports_checked : (after_open : Bool) (text : List ℕ) (remark : Remark) (mode : Mode) (body : List ℕ) (ms : List (List ℕ)) → checked_mode remark ≡ Some mode → IsBody mode text body → ReportsFaults mode body ms → ReportsOf after_open text remark ms
+reports_checked after_open text remark mode body ms e b h = the_mode _ (λ mode. (body : List ℕ) × IsBody mode text body × ReportsFaults mode body ms) (checked_mode remark) mode e (body, b, h)
 
 -- one message more
 pub adds_more : {X : Type 0} (f : X → List ℕ) (token : ℕ) (start errors more : List Message) (done : List X) (x : X) → errors ≡ start ++ about token (map f done) → more ≡ errors ++ about token (f x ∷ []) → more ≡ start ++ about token (map f (done ++ x ∷ []))
@@ -73,8 +73,8 @@ texts_of-about token [] = refl
 texts_of-about token (t ∷ ts) = ap (λ l. t ∷ l) (texts_of-about token ts)
 
 -- the last message has the last text
-pub last_text : (token : ℕ) (texts : List (List ℕ)) (front : List Message) (m : Message) → about token texts ≡ front ++ m ∷ [] → texts ≡ map (λ m. m.text) front ++ m.text ∷ []
-last_text token texts front m e = sym (texts_of-about token texts) ∙ (ap (λ l. map (λ m. m.text) l) e ∙ map_push (λ m. m.text) front m)
+pub last_text : (token : ℕ) (texts : List (List ℕ)) (prefix : List Message) (m : Message) → about token texts ≡ prefix ++ m ∷ [] → texts ≡ map (λ m. m.text) prefix ++ m.text ∷ []
+last_text token texts prefix m e = sym (texts_of-about token texts) ∙ (ap (λ l. map (λ m. m.text) l) e ∙ map_push (λ m. m.text) prefix m)
 
 -- ---- the first message about a token
 

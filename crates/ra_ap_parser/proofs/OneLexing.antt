@@ -7,12 +7,12 @@ use Rattle.std.proofs.lemmas.Bool.{cases_eq, cases_order, cases_lt}
 use Rattle.std.proofs.lemmas.Str.{chars-nil, encodes-chars, IsUtf8-drop}
 use Rattle.std.specs.Prelude.{encode_utf8_all}
 use Rattle.rap_base.specs.declared.edition.Edition.{Edition}
-use Rattle.rap_lexer.proofs.EscapeWalks.{told_is}
+use Rattle.rap_lexer.proofs.EscapeWalks.{reported_is}
 use Rattle.rap_lexer.proofs.OneToken.{one_token}
 use Rattle.rap_lexer.specs.Escape.{message}
 use Rattle.rap_lexer.specs.EscapeWalk.{faults}
 use Rattle.rap_lexer.specs.First.{First}
-use Rattle.rap_lexer.specs.Lexeme.{told}
+use Rattle.rap_lexer.specs.Lexeme.{with_remark}
 use Rattle.rap_lexer.specs.declared.escape.Mode.{Mode}
 use Rattle.rap_lexer.specs.declared.lexer.lexeme.Lexeme.{Lexeme}
 use Rattle.rap_lexer.specs.declared.lexer.lexeme.Remark.{Remark}
@@ -24,11 +24,11 @@ use Rattle.ra_ap_parser.proofs.Bodies.{body_once}
 use Rattle.ra_ap_parser.proofs.Messages.{messages_of-past}
 use Rattle.ra_ap_parser.proofs.OpenStrings.{same_note}
 use Rattle.ra_ap_parser.proofs.Tokens.{joined-append, joined-from_start}
-use Rattle.ra_ap_parser.specs.Front.{Leads, IsShebangLine, IsFront, is_passed, pieces, script_pieces}
-use Rattle.ra_ap_parser.specs.Front.Leads.{nothing, token, past}
+use Rattle.ra_ap_parser.specs.Header.{Leads, IsShebangLine, IsHeader, is_passed, pieces, script_pieces}
+use Rattle.ra_ap_parser.specs.Header.Leads.{nothing, token, past}
 use Rattle.ra_ap_parser.specs.LexedStr.{Token, Message, Lexed, IsLexing, IsFirst, AreInOrder, FollowsOpen, joined, start_of, token_at, messages_of}
 use Rattle.ra_ap_parser.specs.OneLexing.{IsOnlyLexing}
-use Rattle.ra_ap_parser.specs.Told.{TellsOf, TellsFaults, IsBody, checked_mode}
+use Rattle.ra_ap_parser.specs.Reported.{ReportsOf, ReportsFaults, IsBody, checked_mode}
 
 -- ---- What stands before the first token
 
@@ -73,11 +73,11 @@ shebang_once edition text (Some n) (Some m) h k = ap (λ (x : ℕ). Some x) (lin
 the_script : (text : List ℕ) (s : Script) → IsScript text s → IsOnlyScript text s
 the_script text s h = only_script text (Ok s) h
 
-front_once : (edition : Edition) (text : List ℕ) (a b : List Token) → IsFront edition text a → IsFront edition text b → a ≡ b
-front_once edition text a b (inl h) (inl k) = h.is ∙ (ap script_pieces (sym ((the_script text h.script h.accepted).0 k.script k.accepted)) ∙ sym k.is)
-front_once edition text a b (inl h) (inr k) = absurd ((the_script text h.script h.accepted).1 k.refusal k.refused)
-front_once edition text a b (inr h) (inl k) = absurd ((the_script text k.script k.accepted).1 h.refusal h.refused)
-front_once edition text a b (inr h) (inr k) = h.is ∙ (ap (λ o. pieces text o None) (shebang_once edition text h.shebang k.shebang h.line k.line) ∙ sym k.is)
+header_once : (edition : Edition) (text : List ℕ) (a b : List Token) → IsHeader edition text a → IsHeader edition text b → a ≡ b
+header_once edition text a b (inl h) (inl k) = h.is ∙ (ap script_pieces (sym ((the_script text h.script h.accepted).0 k.script k.accepted)) ∙ sym k.is)
+header_once edition text a b (inl h) (inr k) = absurd ((the_script text h.script h.accepted).1 k.refusal k.refused)
+header_once edition text a b (inr h) (inl k) = absurd ((the_script text k.script k.accepted).1 h.refusal h.refused)
+header_once edition text a b (inr h) (inr k) = h.is ∙ (ap (λ o. pieces text o None) (shebang_once edition text h.shebang k.shebang h.line k.line) ∙ sym k.is)
 
 -- ---- The tokens
 
@@ -85,7 +85,7 @@ front_once edition text a b (inr h) (inr k) = h.is ∙ (ap (λ o. pieces text o 
 abbrev Run : Edition → List Token → Type 0
 Run edition [] = ⊤
 Run edition (t ∷ ts) =
-    ((remark : Remark) × First edition (chars (joined (t ∷ ts))) (told t.kind remark) (chars (joined ts))) × IsUtf8 (joined ts) × Run edition ts
+    ((remark : Remark) × First edition (chars (joined (t ∷ ts))) (with_remark t.kind remark) (chars (joined ts))) × IsUtf8 (joined ts) × Run edition ts
 
 same_text : (a b : List ℕ) → IsUtf8 a → IsUtf8 b → chars a ≡ chars b → a ≡ b
 same_text a b u v e = sym (encodes-chars a u) ∙ (ap encode_utf8_all e ∙ encodes-chars b v)
@@ -101,8 +101,8 @@ run_once edition [] [] e r s = refl
 run_once edition [] (u ∷ us) e r s = absurd (no_first edition u us (sym e) s)
 run_once edition (t ∷ ts) [] e r s = absurd (no_first edition t ts e r)
 run_once edition (t ∷ ts) (u ∷ us) e r s =
-    let f : First edition (chars (joined (t ∷ ts))) (told u.kind s.0.0) (chars (joined us)) = subst (λ (l : List ℕ). First edition (chars l) (told u.kind s.0.0) (chars (joined us))) (sym e) s.0.1 in
-    let one = one_token edition (chars (joined (t ∷ ts))) (told t.kind r.0.0) (told u.kind s.0.0) (chars (joined ts)) (chars (joined us)) r.0.1 f in
+    let f : First edition (chars (joined (t ∷ ts))) (with_remark u.kind s.0.0) (chars (joined us)) = subst (λ (l : List ℕ). First edition (chars l) (with_remark u.kind s.0.0) (chars (joined us))) (sym e) s.0.1 in
+    let one = one_token edition (chars (joined (t ∷ ts))) (with_remark t.kind r.0.0) (with_remark u.kind s.0.0) (chars (joined ts)) (chars (joined us)) r.0.1 f in
     let rest : joined ts ≡ joined us = same_text (joined ts) (joined us) r.1 s.1 one.1 in
     let text : t.text ≡ u.text = append_cancel_right t.text u.text (joined us) (ap (λ l. t.text ++ l) (sym rest) ∙ e) in
     let token : t ≡ u = same_token t u (ap (λ (x : Lexeme). x.kind) one.0) text in
@@ -112,7 +112,7 @@ run_once edition (t ∷ ts) (u ∷ us) e r s =
 -- the i-th token is the first of what remains, and what follows it is text
 abbrev IsNext : Edition → List Token → ℕ → Type 0
 IsNext edition ts i =
-    ((remark : Remark) × First edition (chars (joined (drop i ts))) (told (token_at ts i).kind remark) (chars (joined (drop (i + 1) ts)))) × IsUtf8 (joined (drop (i + 1) ts))
+    ((remark : Remark) × First edition (chars (joined (drop i ts))) (with_remark (token_at ts i).kind remark) (chars (joined (drop (i + 1) ts)))) × IsUtf8 (joined (drop (i + 1) ts))
 
 to_run : (edition : Edition) (ts : List Token) (n left : ℕ) → n + left ≡ length ts → ((i : ℕ) → n ≤ i → i < length ts → IsNext edition ts i) → Run edition (drop n ts)
 to_run edition ts n zero e h = rw (drop_all n ts (omega (arith, e))) tt
@@ -120,48 +120,48 @@ to_run edition ts n (suc left) e h =
     let here : n < length ts = omega (arith, e) in
     let next = h n (omega arith) here in
     let split : drop n ts ≡ token_at ts n ∷ drop (n + 1) ts = drop_more ts n _ here in
-    let first : First edition (chars (joined (token_at ts n ∷ drop (n + 1) ts))) (told (token_at ts n).kind next.0.0) (chars (joined (drop (n + 1) ts))) = rw split at next.0.1 in
+    let first : First edition (chars (joined (token_at ts n ∷ drop (n + 1) ts))) (with_remark (token_at ts n).kind next.0.0) (chars (joined (drop (n + 1) ts))) = rw split at next.0.1 in
     rw split ((next.0.0, first), next.1, to_run edition ts (n + 1) left (omega (arith, e)) (λ i l m. h i (omega arith) m))
 
 module _ (text : List ℕ) (edition : Edition) (utf8 : IsUtf8 text) (lexed : Lexed) (h : IsLexing text edition lexed) where
   remains : (i : ℕ) → drop (start_of lexed.tokens i) text ≡ joined (drop i lexed.tokens)
   remains i = ap (λ l. drop (start_of lexed.tokens i) l) (sym h.whole) ∙ joined-from_start lexed.tokens i
 
-  next : (i : ℕ) → length h.front ≤ i → i < length lexed.tokens → IsNext edition lexed.tokens i
+  next : (i : ℕ) → length h.header ≤ i → i < length lexed.tokens → IsNext edition lexed.tokens i
   next i l m =
       let f = (h.each i l m).2 in
       ((f.0, rw (remains i, remains (i + 1)) at f.1), rw (← remains (i + 1)) (IsUtf8-drop text (start_of lexed.tokens (i + 1)) utf8 (h.borders (i + 1) (omega arith))))
 
-  split : joined h.front ++ joined h.rest ≡ text
-  split = sym (ap joined h.parts ∙ joined-append h.front h.rest) ∙ h.whole
+  split : joined h.header ++ joined h.rest ≡ text
+  split = sym (ap joined h.parts ∙ joined-append h.header h.rest) ∙ h.whole
 
-  count : length h.front + length h.rest ≡ length lexed.tokens
-  count = sym (ap length h.parts ∙ length-append h.front h.rest)
+  count : length h.header + length h.rest ≡ length lexed.tokens
+  count = sym (ap length h.parts ∙ length-append h.header h.rest)
 
   rest_run : Run edition h.rest
   rest_run =
-      let rest : drop (length h.front) lexed.tokens ≡ h.rest = ap (λ l. drop (length h.front) l) h.parts ∙ drop_at h.front h.rest (length h.front) refl in
-      subst (λ (ts : List Token). Run edition ts) rest (to_run edition lexed.tokens (length h.front) (length h.rest) count next)
+      let rest : drop (length h.header) lexed.tokens ≡ h.rest = ap (λ l. drop (length h.header) l) h.parts ∙ drop_at h.header h.rest (length h.header) refl in
+      subst (λ (ts : List Token). Run edition ts) rest (to_run edition lexed.tokens (length h.header) (length h.rest) count next)
 
 -- ---- The messages
 
-tells_once : (note : Bool) (text : List ℕ) (remark : Remark) (ms ns : List (List ℕ)) → TellsOf note text remark ms → TellsOf note text remark ns → ms ≡ ns
-tells_once note text remark ms ns h k = by_mode (checked_mode remark) _ h k
+reports_once : (note : Bool) (text : List ℕ) (remark : Remark) (ms ns : List (List ℕ)) → ReportsOf note text remark ms → ReportsOf note text remark ns → ms ≡ ns
+reports_once note text remark ms ns h k = by_mode (checked_mode remark) _ h k
   where
-    by_mode : (o : Option Mode) (x : List (List ℕ)) → MatchOption o (ms ≡ x) (λ mode. (body : List ℕ) × IsBody mode text body × TellsFaults mode body ms) → MatchOption o (ns ≡ x) (λ mode. (body : List ℕ) × IsBody mode text body × TellsFaults mode body ns) → ms ≡ ns
+    by_mode : (o : Option Mode) (x : List (List ℕ)) → MatchOption o (ms ≡ x) (λ mode. (body : List ℕ) × IsBody mode text body × ReportsFaults mode body ms) → MatchOption o (ns ≡ x) (λ mode. (body : List ℕ) × IsBody mode text body × ReportsFaults mode body ns) → ms ≡ ns
     by_mode None x h k = h ∙ sym k
     by_mode (Some mode) x h k =
         let body : h.0 ≡ k.0 = body_once mode text h.0 k.0 h.1 k.1 in
-        let same : h.2.0 ≡ k.2.0 = told_is mode (chars h.0) h.2.0 h.2.1 ∙ (ap (λ b. faults mode (chars b)) body ∙ sym (told_is mode (chars k.0) k.2.0 k.2.1)) in
+        let same : h.2.0 ≡ k.2.0 = reported_is mode (chars h.0) h.2.0 h.2.1 ∙ (ap (λ b. faults mode (chars b)) body ∙ sym (reported_is mode (chars k.0) k.2.0 k.2.1)) in
         h.2.2 ∙ (ap (λ l. map (λ fault. message fault mode) l) same ∙ sym k.2.2)
 
 first_once : (edition : Edition) (note : Bool) (text : List ℕ) (t : Token) (rest : List ℕ) (ms ns : List (List ℕ)) → IsFirst edition note text t rest ms → IsFirst edition note text t rest ns → ms ≡ ns
 first_once edition note text t rest ms ns h k =
-    let one = one_token edition (chars text) (told t.kind h.0) (told t.kind k.0) (chars rest) (chars rest) h.1 k.1 in
+    let one = one_token edition (chars text) (with_remark t.kind h.0) (with_remark t.kind k.0) (chars rest) (chars rest) h.1 k.1 in
     let remark : h.0 ≡ k.0 = ap (λ (x : Lexeme). x.remark) one.0 in
-    tells_once note t.text h.0 ms ns h.2 (subst (λ (r : Remark). TellsOf note t.text r ns) (sym remark) k.2)
+    reports_once note t.text h.0 ms ns h.2 (subst (λ (r : Remark). ReportsOf note t.text r ns) (sym remark) k.2)
 
--- what is told of the i-th token
+-- what is reported about the i-th token
 abbrev IsAt : Edition → List ℕ → List Token → ℕ → List (List ℕ) → Type 0
 IsAt edition text ts i ms =
     (note : Bool) × (IsTrue note ↔ FollowsOpen ts i) × IsFirst edition note (drop (start_of ts i) text) (token_at ts i) (drop (start_of ts (i + 1)) text) ms
@@ -225,17 +225,17 @@ same_lexed a b e f = rw (e, f) refl
 
 pub only_lexing : (text : List ℕ) (edition : Edition) (lexed : Lexed) → IsUtf8 text → IsLexing text edition lexed → IsOnlyLexing text edition lexed
 only_lexing text edition lexed utf8 h other k =
-    let front : k.front ≡ h.front = front_once edition text k.front h.front k.is_front h.is_front in
-    let rest_text : joined k.rest ≡ joined h.rest = append_cancel_left (joined h.front) (joined k.rest) (joined h.rest) (ap (λ l. joined l ++ joined k.rest) (sym front) ∙ (split text edition utf8 other k ∙ sym (split text edition utf8 lexed h))) in
+    let header : k.header ≡ h.header = header_once edition text k.header h.header k.is_header h.is_header in
+    let rest_text : joined k.rest ≡ joined h.rest = append_cancel_left (joined h.header) (joined k.rest) (joined h.rest) (ap (λ l. joined l ++ joined k.rest) (sym header) ∙ (split text edition utf8 other k ∙ sym (split text edition utf8 lexed h))) in
     let rest : k.rest ≡ h.rest = run_once edition k.rest h.rest rest_text (rest_run text edition utf8 other k) (rest_run text edition utf8 lexed h) in
-    let tokens : other.tokens ≡ lexed.tokens = k.parts ∙ (ap (λ l. l ++ k.rest) front ∙ (ap (λ l. h.front ++ l) rest ∙ sym h.parts)) in
-    let size : length k.front ≡ length h.front = ap length front in
-    let silent : (i : ℕ) → i < length h.front → messages_of other.errors i ≡ messages_of lexed.errors i = λ i l. k.silent i (omega (arith, size)) ∙ sym (h.silent i l) in
-    let each : (i : ℕ) → length h.front ≤ i → i < length lexed.tokens → messages_of other.errors i ≡ messages_of lexed.errors i = λ i l m.
+    let tokens : other.tokens ≡ lexed.tokens = k.parts ∙ (ap (λ l. l ++ k.rest) header ∙ (ap (λ l. h.header ++ l) rest ∙ sym h.parts)) in
+    let size : length k.header ≡ length h.header = ap length header in
+    let silent : (i : ℕ) → i < length h.header → messages_of other.errors i ≡ messages_of lexed.errors i = λ i l. k.silent i (omega (arith, size)) ∙ sym (h.silent i l) in
+    let each : (i : ℕ) → length h.header ≤ i → i < length lexed.tokens → messages_of other.errors i ≡ messages_of lexed.errors i = λ i l m.
     let there = k.each i (omega (arith, size)) (omega (arith, ap length tokens)) in
     at_once edition text lexed.tokens i _ _ (subst (λ (ts : List Token). IsAt edition text ts i (messages_of other.errors i)) tokens there) (h.each i l m) in
     let past : (i : ℕ) → length lexed.tokens ≤ i → messages_of other.errors i ≡ messages_of lexed.errors i = λ i l. messages_of-past (length other.tokens) i other.errors k.ordered (omega (arith, ap length tokens)) ∙ sym (messages_of-past (length lexed.tokens) i lexed.errors h.ordered l) in
-    let same : (i : ℕ) → messages_of other.errors i ≡ messages_of lexed.errors i = λ i. elim (cases_lt i (length h.front)) as (λ _. messages_of other.errors i ≡ messages_of lexed.errors i) [
+    let same : (i : ℕ) → messages_of other.errors i ≡ messages_of lexed.errors i = λ i. elim (cases_lt i (length h.header)) as (λ _. messages_of other.errors i ≡ messages_of lexed.errors i) [
       | inl l ↦ silent i l
       | inr l ↦ elim (cases_lt i (length lexed.tokens)) as (λ _. messages_of other.errors i ≡ messages_of lexed.errors i) [
         | inl m ↦ each i l m

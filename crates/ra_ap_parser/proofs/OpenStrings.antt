@@ -4,7 +4,7 @@ use Rattle.std.specs.Prelude.{◌↔◌, IsFalse, IsTrue, min}
 use Rattle.std.proofs.lemmas.Bool.{and_parts, cases_eq, eqb-true, ltb-true, ltb-false, lt-ltb}
 use Rattle.rap_base.specs.TokenKind.{STRING}
 use Rattle.ra_ap_parser.specs.LexedStr.{Token, token_at, FollowsOpen}
-use Rattle.ra_ap_parser.specs.Told.{looks_open}
+use Rattle.ra_ap_parser.specs.Reported.{looks_open}
 
 -- a string that looks open
 abbrev pub is_open : Token → Bool

@@ -39,7 +39,7 @@ prefix-yes p t ts h = cond-true (p t) (1 + prefix_len p ts) 0 h ∙ omega arith
 prefix-no : (p : Token → Bool) (t : Token) (ts : List Token) → p t ≡ false → prefix_len p (t ∷ ts) ≡ 0
 prefix-no p t ts h = cond-false (p t) (1 + prefix_len p ts) 0 h
 
--- trivia at the front have no records
+-- trivia at the beginning have no records
 pub records-past : (ts : List Token) (edition : Edition) → records (drop (prefix_len is_trivial ts) ts) edition ≡ records ts edition
 records-past [] edition = refl
 records-past (t ∷ ts) edition = elim (cases_Bool (is_trivial t)) [
@@ -133,10 +133,10 @@ operator-touches (k ∷ j ∷ ks) (t ∷ ts) edition plain past h =
     let next : IsPast ts = touching-past ts (sym (joint-plain t ts same) ∙ rest.0) in
     omega (arith, head-counts t ts past, operator-touches (j ∷ ks) ts edition plains.1 next rest.1)
 
--- a token that bears a kind is no trivia
-bears-one : (kind : ℕ) (ts : List Token) (edition : Edition) → IsPast ts → first_may_bear (records ts edition) kind ≡ true → 1 ≤ prefix_len is_significant ts
-bears-one kind [] edition past h = cc h
-bears-one kind (t ∷ ts) edition past h = omega (arith, head-counts t ts past)
+-- a token that is read as a kind is no trivia
+reads_as-one : (kind : ℕ) (ts : List Token) (edition : Edition) → IsPast ts → first_may_bear (records ts edition) kind ≡ true → 1 ≤ prefix_len is_significant ts
+reads_as-one kind [] edition past h = cc h
+reads_as-one kind (t ∷ ts) edition past h = omega (arith, head-counts t ts past)
 
 -- so do the tokens of a leaf
 pub leaf-touches : (kind width : ℕ) (ts : List Token) (edition : Edition) → IsPast ts → stands (of_tokens kind width) (records ts edition) ≡ true → (0 < width) × (width ≤ prefix_len is_significant ts)
@@ -146,7 +146,7 @@ leaf-touches kind width ts edition past h =
     elim (cases_Bool (width == 1)) [
       | inl e ↦
           let w : width ≡ 1 = eqb-true width 1 e in
-          let bears : 1 ≤ prefix_len is_significant ts = bears-one kind ts edition past (sym (cond-true (width == 1) one more e) ∙ h) in
+          let reads_as : 1 ≤ prefix_len is_significant ts = reads_as-one kind ts edition past (sym (cond-true (width == 1) one more e) ∙ h) in
           (omega arith, omega arith)
       | inr e ↦
           let all = and_parts (nat_lt 0 width) ((length (parts kind) == width) && begins_with (parts kind) (records ts edition)) (sym (cond-false (width == 1) one more e) ∙ h) in

@@ -1,4 +1,4 @@
--- A front of the text is cut into tokens.
+-- A prefix of the text is cut into tokens.
 use Rattle.std.proofs.Common.{◌≡◌, ◌≢◌, ℕ, Bool, nat_lt, slice_range, append-nil, List, [], ◌∷◌, ◌++◌, ◌<◌, ◌≤◌, ◌+◌, ◌^◌, length, drop, slice_index, IsUtf8, IsCharBoundary, refl, ap, sym, subst, zero, suc, ◌∙◌, arith, ◌⊎◌, inl, inr, length-append}
 use Rattle.std.proofs.lemmas.Grind.{common_steps}
 use Rattle.std.proofs.lemmas.Str.{IsCharBoundary-start}
@@ -11,7 +11,7 @@ use Rattle.rap_base.specs.TokenKind.{EOF, SHEBANG, FRONTMATTER}
 use Rattle.rap_base.specs.TokenTests.{IsTokenKind}
 use Rattle.rap_base.specs.declared.edition.Edition.{Edition}
 use Rattle.ra_ap_parser.specs.About.{about}
-use Rattle.ra_ap_parser.specs.Front.{pieces, front_kinds, IsFront, AreEnds}
+use Rattle.ra_ap_parser.specs.Header.{pieces, header_kinds, IsHeader, AreEnds}
 use Rattle.ra_ap_parser.specs.LexedStr.{Token, Message, AreStarts, AreInOrder, IsFirst, IsLexing, token_at, start_of, cut, messages_of}
 use Rattle.ra_ap_parser.proofs.Messages.{messages_of-append, messages_of-about, messages_of-other, messages_of-past, ordered_more}
 use Rattle.ra_ap_parser.proofs.OpenStrings.{since_open, since_open_after, after_open, follows}
@@ -19,7 +19,7 @@ use Rattle.ra_ap_parser.proofs.Cuts.{piece, joined-cut, length-cut, token_at-cut
 
 -- the pieces of the script source and the tokens so far have these kinds, starts and messages, and what follows them
 -- begins at `offset`
-pub record Upto (edition : Edition) (text : List ℕ) (front : List Token) (kinds starts : List ℕ) (errors : List Message) (since offset : ℕ) : Type 0 where
+pub record Upto (edition : Edition) (text : List ℕ) (header : List Token) (kinds starts : List ℕ) (errors : List Message) (since offset : ℕ) : Type 0 where
   pub within : offset ≤ length text
   pub few : length kinds ≤ offset
   pub long : length starts ≡ length kinds + 1
@@ -28,10 +28,10 @@ pub record Upto (edition : Edition) (text : List ℕ) (front : List Token) (kind
   pub rising : (i j : ℕ) → i < j → j ≤ length kinds → slice_index starts i < slice_index starts j
   pub borders : (i : ℕ) → i ≤ length kinds → IsCharBoundary text (slice_index starts i)
   pub since_is : since ≡ since_open (piece text kinds starts) (length kinds)
-  pub fits : length front ≤ length kinds
-  pub stand : (i : ℕ) → i < length front → piece text kinds starts i ≡ token_at front i
-  pub silent : (i : ℕ) → i < length front → messages_of errors i ≡ []
-  pub each : (i : ℕ) → length front ≤ i → i < length kinds → IsFirst edition (after_open (piece text kinds starts) i) (drop (slice_index starts i) text) (piece text kinds starts i) (drop (slice_index starts (i + 1)) text) (messages_of errors i)
+  pub fits : length header ≤ length kinds
+  pub stand : (i : ℕ) → i < length header → piece text kinds starts i ≡ token_at header i
+  pub silent : (i : ℕ) → i < length header → messages_of errors i ≡ []
+  pub each : (i : ℕ) → length header ≤ i → i < length kinds → IsFirst edition (after_open (piece text kinds starts) i) (drop (slice_index starts i) text) (piece text kinds starts i) (drop (slice_index starts (i + 1)) text) (messages_of errors i)
   pub ordered : AreInOrder (length kinds) errors
 
 -- the same with parts that are equal
@@ -81,7 +81,7 @@ begun edition text u = record {
   ordered = tt;
 }
 
-module _ (edition : Edition) (text : List ℕ) (front : List Token) (ks ss : List ℕ) (errors : List Message) (since offset k end : ℕ) (u : Upto edition text front ks ss errors since offset) (positive : offset < end) (there : IsCharBoundary text end) where
+module _ (edition : Edition) (text : List ℕ) (header : List Token) (ks ss : List ℕ) (errors : List Message) (since offset k end : ℕ) (u : Upto edition text header ks ss errors since offset) (positive : offset < end) (there : IsCharBoundary text end) where
   was : (i : ℕ) → i ≤ length ks → slice_index (ss ++ end ∷ []) i ≡ slice_index ss i
   was i h = old ss end i (omega (arith, u.long))
 
@@ -130,7 +130,7 @@ module _ (edition : Edition) (text : List ℕ) (front : List Token) (ks ss : Lis
       sym (ap (λ z. since_open (piece text (ks ++ k ∷ []) (ss ++ end ∷ [])) z) more ∙ after_same _ _ _ _ s new_piece)
 
   module _ (texts : List (List ℕ)) (t : IsFirst edition (nat_lt since 5) (drop offset text) (record { kind = k; text = slice_range text offset end }) (drop end text) texts) where
-    earlier : (i : ℕ) → length front ≤ i → i < length ks → At i (errors ++ about (length ks) texts)
+    earlier : (i : ℕ) → length header ≤ i → i < length ks → At i (errors ++ about (length ks) texts)
     earlier i f h =
         let d : length ks ≢ i = λ e. absurd (omega arith) in
         let m : messages_of (errors ++ about (length ks) texts) i ≡ messages_of errors i = messages_of-append errors (about (length ks) texts) i ∙ (ap (λ l. messages_of errors i ++ l) (messages_of-other (length ks) i texts d) ∙ append-nil (messages_of errors i)) in
@@ -148,7 +148,7 @@ module _ (edition : Edition) (text : List ℕ) (front : List Token) (ks ss : Lis
         let s : since_open (piece text (ks ++ k ∷ []) (ss ++ end ∷ [])) (length ks) ≡ since = same_since (length ks) (omega arith) ∙ sym u.since_is in
         move edition _ _ _ _ _ _ _ _ _ _ (ap (λ z. nat_lt z 5) s) (ap (λ z. drop z text) x) new_piece (ap (λ z. drop z text) y) m t
 
-    eachs : (i : ℕ) → length front ≤ i → i < length (ks ++ k ∷ []) → At i (errors ++ about (length ks) texts)
+    eachs : (i : ℕ) → length header ≤ i → i < length (ks ++ k ∷ []) → At i (errors ++ about (length ks) texts)
     eachs i f m =
         let l : i ≤ length ks = omega (arith, len ks k) in
         elim (last_or i (length ks) l) as (λ _. At i (errors ++ about (length ks) texts)) [
@@ -156,12 +156,12 @@ module _ (edition : Edition) (text : List ℕ) (front : List Token) (ks ss : Lis
           | inr e ↦ subst (λ (j : ℕ). At j (errors ++ about (length ks) texts)) (sym e) latest
         ]
 
-    silents : (i : ℕ) → i < length front → messages_of (errors ++ about (length ks) texts) i ≡ []
+    silents : (i : ℕ) → i < length header → messages_of (errors ++ about (length ks) texts) i ≡ []
     silents i h =
         let d : length ks ≢ i = λ e. absurd (omega (arith, u.fits)) in
         messages_of-append errors (about (length ks) texts) i ∙ (ap (λ l. messages_of errors i ++ l) (messages_of-other (length ks) i texts d) ∙ (append-nil (messages_of errors i) ∙ u.silent i h))
 
-    pub more : Upto edition text front (ks ++ k ∷ []) (ss ++ end ∷ []) (errors ++ about (length ks) texts) (since_open_after since k (slice_range text offset end)) end
+    pub more : Upto edition text header (ks ++ k ∷ []) (ss ++ end ∷ []) (errors ++ about (length ks) texts) (since_open_after since k (slice_range text offset end)) end
     more = record {
       within = there.0;
       few = omega (arith, len ks k, u.few);
@@ -179,23 +179,23 @@ module _ (edition : Edition) (text : List ℕ) (front : List Token) (ks ss : Lis
     }
 
   -- one more piece of the script source, before the first token
-  module _ (all : length front ≡ length ks) (none : errors ≡ []) (same : since_open_after since k (slice_range text offset end) ≡ since) where
-    abbrev new_front : List Token
-    new_front = front ++ record { kind = k; text = slice_range text offset end } ∷ []
+  module _ (all : length header ≡ length ks) (none : errors ≡ []) (same : since_open_after since k (slice_range text offset end) ≡ since) where
+    abbrev new_header : List Token
+    new_header = header ++ record { kind = k; text = slice_range text offset end } ∷ []
 
-    front_size : length new_front ≡ length front + 1
-    front_size = length-append front (record { kind = k; text = slice_range text offset end } ∷ [])
+    header_size : length new_header ≡ length header + 1
+    header_size = length-append header (record { kind = k; text = slice_range text offset end } ∷ [])
 
-    fronts : (i : ℕ) → i < length new_front → piece text (ks ++ k ∷ []) (ss ++ end ∷ []) i ≡ token_at new_front i
-    fronts i m =
-        let l : i ≤ length ks = omega (arith, front_size) in
-        elim (last_or i (length ks) l) as (λ _. piece text (ks ++ k ∷ []) (ss ++ end ∷ []) i ≡ token_at new_front i) [
-          | inl b ↦ same_piece i b ∙ (u.stand i (omega arith) ∙ sym (get_or-append front _ _ i (omega arith)))
-          | inr e ↦ ap (λ j. piece text (ks ++ k ∷ []) (ss ++ end ∷ []) j) e ∙ (new_piece ∙ sym (get_or_at front _ [] _ i (omega arith)))
+    headers : (i : ℕ) → i < length new_header → piece text (ks ++ k ∷ []) (ss ++ end ∷ []) i ≡ token_at new_header i
+    headers i m =
+        let l : i ≤ length ks = omega (arith, header_size) in
+        elim (last_or i (length ks) l) as (λ _. piece text (ks ++ k ∷ []) (ss ++ end ∷ []) i ≡ token_at new_header i) [
+          | inl b ↦ same_piece i b ∙ (u.stand i (omega arith) ∙ sym (get_or-append header _ _ i (omega arith)))
+          | inr e ↦ ap (λ j. piece text (ks ++ k ∷ []) (ss ++ end ∷ []) j) e ∙ (new_piece ∙ sym (get_or_at header _ [] _ i (omega arith)))
         ]
 
-    pub more_front : Upto edition text (front ++ record { kind = k; text = slice_range text offset end } ∷ []) (ks ++ k ∷ []) (ss ++ end ∷ []) errors since end
-    more_front = record {
+    pub more_header : Upto edition text (header ++ record { kind = k; text = slice_range text offset end } ∷ []) (ks ++ k ∷ []) (ss ++ end ∷ []) errors since end
+    more_header = record {
       within = there.0;
       few = omega (arith, len ks k, u.few);
       long = omega (arith, len ks k, len ss end, u.long);
@@ -204,25 +204,25 @@ module _ (edition : Edition) (text : List ℕ) (front : List Token) (ks ss : Lis
       rising = climbs;
       borders = bounds;
       since_is = sym same ∙ sinces;
-      fits = omega (arith, len ks k, front_size);
-      stand = fronts;
+      fits = omega (arith, len ks k, header_size);
+      stand = headers;
       silent = λ i h. rw none refl;
-      each = λ i f h. absurd (omega (arith, len ks k, front_size));
+      each = λ i f h. absurd (omega (arith, len ks k, header_size));
       ordered = rw none tt;
     }
 
 -- all pieces of the script source
-all_pieces : (edition : Edition) (text : List ℕ) (shebang frontmatter : Option ℕ) → IsUtf8 text → AreEnds text shebang frontmatter → Upto edition text (pieces text shebang frontmatter) (front_kinds shebang frontmatter) (0 ∷ (option_to_list shebang ++ option_to_list frontmatter)) [] 5 (unwrap_or frontmatter (unwrap_or shebang 0))
+all_pieces : (edition : Edition) (text : List ℕ) (shebang frontmatter : Option ℕ) → IsUtf8 text → AreEnds text shebang frontmatter → Upto edition text (pieces text shebang frontmatter) (header_kinds shebang frontmatter) (0 ∷ (option_to_list shebang ++ option_to_list frontmatter)) [] 5 (unwrap_or frontmatter (unwrap_or shebang 0))
 all_pieces edition text None None u e = begun edition text u
-all_pieces edition text (Some a) None u e = more_front edition text [] [] (0 ∷ []) [] 5 0 SHEBANG a (begun edition text u) e.first.0 e.first.1 refl refl refl
-all_pieces edition text None (Some b) u e = more_front edition text [] [] (0 ∷ []) [] 5 0 FRONTMATTER b (begun edition text u) e.second.0 e.second.1 refl refl refl
+all_pieces edition text (Some a) None u e = more_header edition text [] [] (0 ∷ []) [] 5 0 SHEBANG a (begun edition text u) e.first.0 e.first.1 refl refl refl
+all_pieces edition text None (Some b) u e = more_header edition text [] [] (0 ∷ []) [] 5 0 FRONTMATTER b (begun edition text u) e.second.0 e.second.1 refl refl refl
 all_pieces edition text (Some a) (Some b) u e =
-    let one = more_front edition text [] [] (0 ∷ []) [] 5 0 SHEBANG a (begun edition text u) e.first.0 e.first.1 refl refl refl in
-    more_front edition text _ _ _ [] 5 a FRONTMATTER b one e.second.0 e.second.1 refl refl refl
+    let one = more_header edition text [] [] (0 ∷ []) [] 5 0 SHEBANG a (begun edition text u) e.first.0 e.first.1 refl refl refl in
+    more_header edition text _ _ _ [] 5 a FRONTMATTER b one e.second.0 e.second.1 refl refl refl
 
 -- the same at what has them
-pub front_begun : (edition : Edition) (text : List ℕ) (shebang frontmatter : Option ℕ) (ks ss : List ℕ) (errors : List Message) (offset : ℕ) → IsUtf8 text → AreEnds text shebang frontmatter → ks ≡ front_kinds shebang frontmatter → ss ≡ 0 ∷ (option_to_list shebang ++ option_to_list frontmatter) → errors ≡ [] → offset ≡ unwrap_or frontmatter (unwrap_or shebang 0) → Upto edition text (pieces text shebang frontmatter) ks ss errors 5 offset
-front_begun edition text shebang frontmatter ks ss errors offset u ends e f g h = rw (e, f, g, h) (all_pieces edition text shebang frontmatter u ends)
+pub header_begun : (edition : Edition) (text : List ℕ) (shebang frontmatter : Option ℕ) (ks ss : List ℕ) (errors : List Message) (offset : ℕ) → IsUtf8 text → AreEnds text shebang frontmatter → ks ≡ header_kinds shebang frontmatter → ss ≡ 0 ∷ (option_to_list shebang ++ option_to_list frontmatter) → errors ≡ [] → offset ≡ unwrap_or frontmatter (unwrap_or shebang 0) → Upto edition text (pieces text shebang frontmatter) ks ss errors 5 offset
+header_begun edition text shebang frontmatter ks ss errors offset u ends e f g h = rw (e, f, g, h) (all_pieces edition text shebang frontmatter u ends)
 
 -- a piece's kind is a token's
 shebang_token : IsTokenKind SHEBANG
@@ -231,13 +231,13 @@ shebang_token = record { token = refl; some = λ e. cc e }
 frontmatter_token : IsTokenKind FRONTMATTER
 frontmatter_token = record { token = refl; some = λ e. cc e }
 
-pub front_tokens : (shebang frontmatter : Option ℕ) → All IsTokenKind (front_kinds shebang frontmatter)
-front_tokens None None = All-nil IsTokenKind
-front_tokens (Some a) None = All-push IsTokenKind [] SHEBANG (All-nil IsTokenKind) shebang_token
-front_tokens None (Some b) = All-push IsTokenKind [] FRONTMATTER (All-nil IsTokenKind) frontmatter_token
-front_tokens (Some a) (Some b) = All-push IsTokenKind (SHEBANG ∷ []) FRONTMATTER (All-push IsTokenKind [] SHEBANG (All-nil IsTokenKind) shebang_token) frontmatter_token
+pub header_tokens : (shebang frontmatter : Option ℕ) → All IsTokenKind (header_kinds shebang frontmatter)
+header_tokens None None = All-nil IsTokenKind
+header_tokens (Some a) None = All-push IsTokenKind [] SHEBANG (All-nil IsTokenKind) shebang_token
+header_tokens None (Some b) = All-push IsTokenKind [] FRONTMATTER (All-nil IsTokenKind) frontmatter_token
+header_tokens (Some a) (Some b) = All-push IsTokenKind (SHEBANG ∷ []) FRONTMATTER (All-push IsTokenKind [] SHEBANG (All-nil IsTokenKind) shebang_token) frontmatter_token
 
-module _ (edition : Edition) (text : List ℕ) (front : List Token) (ks ss : List ℕ) (errors : List Message) (since offset : ℕ) (u : Upto edition text front ks ss errors since offset) (small : length text < 2 ^ 32) (utf8 : IsUtf8 text) (done : length text ≤ offset) where
+module _ (edition : Edition) (text : List ℕ) (header : List Token) (ks ss : List ℕ) (errors : List Message) (since offset : ℕ) (u : Upto edition text header ks ss errors since offset) (small : length text < 2 ^ 32) (utf8 : IsUtf8 text) (done : length text ≤ offset) where
   pub starts : AreStarts text (length ks) ss
   starts = record {
     small = small;
@@ -249,23 +249,23 @@ module _ (edition : Edition) (text : List ℕ) (front : List Token) (ks ss : Lis
     borders = u.borders;
   }
 
-  first_at : (i : ℕ) → length front ≤ i → i < length (cut text ks ss) → IsFirst edition (after_open (token_at (cut text ks ss)) i) (drop (start_of (cut text ks ss) i) text) (token_at (cut text ks ss) i) (drop (start_of (cut text ks ss) (i + 1)) text) (messages_of errors i)
+  first_at : (i : ℕ) → length header ≤ i → i < length (cut text ks ss) → IsFirst edition (after_open (token_at (cut text ks ss)) i) (drop (start_of (cut text ks ss) i) text) (token_at (cut text ks ss) i) (drop (start_of (cut text ks ss) (i + 1)) text) (messages_of errors i)
   first_at i f h =
       let inside : i < length ks = omega (arith, length-cut text ks ss) in
       let s : since_open (token_at (cut text ks ss)) i ≡ since_open (piece text ks ss) i = since_same _ _ i (λ j m. token_at-cut text ks ss j (omega arith)) in
       move edition _ _ _ _ _ _ _ _ _ _ (ap (λ z. nat_lt z 5) s) (ap (λ z. drop z text) (start_of-cut text ks ss starts i (omega arith))) (token_at-cut text ks ss i inside) (ap (λ z. drop z text) (start_of-cut text ks ss starts (i + 1) (omega arith))) refl (u.each i f inside)
 
-  front_at : (i : ℕ) → i < length front → token_at (cut text ks ss) i ≡ token_at front i
-  front_at i h = token_at-cut text ks ss i (omega (arith, u.fits)) ∙ u.stand i h
+  header_at : (i : ℕ) → i < length header → token_at (cut text ks ss) i ≡ token_at header i
+  header_at i h = token_at-cut text ks ss i (omega (arith, u.fits)) ∙ u.stand i h
 
-  pub lexing : IsFront edition text front → IsLexing text edition (record { tokens = cut text ks ss; errors = errors })
-  lexing is_front = record {
+  pub lexing : IsHeader edition text header → IsLexing text edition (record { tokens = cut text ks ss; errors = errors })
+  lexing is_header = record {
     whole = joined-cut text ks ss starts;
     borders = λ i h. let l : i ≤ length ks = omega (arith, length-cut text ks ss) in subst (λ (x : ℕ). IsCharBoundary text x) (sym (start_of-cut text ks ss starts i l)) (u.borders i l);
-    front = front;
-    is_front = is_front;
-    rest = drop (length front) (cut text ks ss);
-    parts = front_from_reads (record { kind = EOF; text = [] }) (cut text ks ss) front (omega (arith, u.fits, length-cut text ks ss)) front_at;
+    header = header;
+    is_header = is_header;
+    rest = drop (length header) (cut text ks ss);
+    parts = front_from_reads (record { kind = EOF; text = [] }) (cut text ks ss) header (omega (arith, u.fits, length-cut text ks ss)) header_at;
     silent = u.silent;
     each = λ i l h. (after_open (token_at (cut text ks ss)) i, follows (cut text ks ss) i, first_at i l h);
     ordered = rw (length-cut text ks ss) u.ordered;

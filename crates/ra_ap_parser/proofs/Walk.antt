@@ -42,10 +42,10 @@ place-within ts state at (error bytes) h c = h
 
 module _ {S : Type 0} (takes : S → StrStepValue → S → Type 0) (ts : List Token) (f : Forest) (s : S) where
   pub stands-start : (b : Builder) (edition : Edition) → b.lexed.now.tokens ≡ ts → b.pos ≡ 0 → b.state ≡ PendingEnter → one_tree f ≡ true → Tree f → covers (records ts edition) f ≡ true → Stands takes ts f s b (flat f) s
-  stands-start b edition same zero first tree shape front = record {
+  stands-start b edition same zero first tree shape prefix = record {
     same = same;
     within = omega arith;
-    fits = rw (zero, first) (fits-tree ts edition f tree shape front);
+    fits = rw (zero, first) (fits-tree ts edition f tree shape prefix);
     end = rw (zero, first) (ending-tree ts f tree shape);
     so = rw (zero, first, emitted-tree ts f tree shape) (reached-none takes (str_flat (with_trivia ts f)) s);
   }

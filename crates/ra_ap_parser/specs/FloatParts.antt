@@ -17,7 +17,7 @@ has_dot text = nat_lt (position_or_len is_dot text) (length text)
 abbrev pub without_dot : List ℕ → List ℕ
 without_dot text = take (length text - 1) text
 
--- what is told of a float without a dot
+-- what is reported about a float without a dot
 abbrev pub illegal : List ℕ
 illegal = codes "illegal float literal"
 
@@ -26,7 +26,7 @@ abbrev pub with_number : StrForest → List ℕ → StrForest
 with_number f number = str_node f NAME_REF (str_leaf str_none INT_NUMBER number)
 
 -- Inside the node, after what stands there: the number before the dot. A float without a dot is no field, and that is
--- told where it begins.
+-- reported where it begins.
 abbrev pub float_in : Bool → List ℕ → ℕ → StrForest → StrForest
 float_in true text pos f = with_number f (without_dot text)
 float_in false text pos f =

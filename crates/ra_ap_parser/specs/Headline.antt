@@ -33,7 +33,7 @@ pub record Headline {S : Type 0} (takes : S → StrStepValue → S → Type 0) (
   pub whole : str_joined (with_trivia lexed.tokens forest) ≡ text
   pub all : answer ≡ true
 
--- The sink has taken a front of the steps of that tree, and refused the next one.
+-- The sink has taken a prefix of the steps of that tree, and refused the next one.
 pub record CutShort {S R : Type 0} (takes : S → StrStepValue → S → Type 0) (refuses : S → StrStepValue → R → S → Type 0) (text : List ℕ) (edition : Edition) (refusal : R) (before after : S) : Type 0 where
   pub lexed : Lexed
   pub forest : Forest

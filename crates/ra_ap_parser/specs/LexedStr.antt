@@ -3,12 +3,12 @@ use Rattle.std.specs.Prelude.{◌≡◌, ◌↔◌, ℕ, ⊤, Bool, IsTrue, ◌=
 use Rattle.std.specs.Borrow.{Bor}
 use Rattle.std.specs.List.{AllByRecursion}
 use Rattle.rap_lexer.specs.First.{First}
-use Rattle.rap_lexer.specs.Lexeme.{told}
+use Rattle.rap_lexer.specs.Lexeme.{with_remark}
 use Rattle.rap_base.specs.TokenKind.{EOF, STRING}
 use Rattle.rap_base.specs.declared.edition.Edition.{Edition}
 use Rattle.rap_lexer.specs.declared.lexer.lexeme.Remark.{Remark}
-use Rattle.ra_ap_parser.specs.Front.{IsFront}
-use Rattle.ra_ap_parser.specs.Told.{TellsOf, looks_open}
+use Rattle.ra_ap_parser.specs.Header.{IsHeader}
+use Rattle.ra_ap_parser.specs.Reported.{ReportsOf, looks_open}
 pub use Rattle.ra_ap_parser.specs.Token.{Token}
 
 -- A message of the lexer: the number of the token that it is about, and the bytes of its text.
@@ -58,28 +58,28 @@ abbrev pub error_of : List Message → ℕ → Option (List ℕ)
 error_of [] i = None
 error_of (m ∷ ms) i = if m.token == i then Some m.text else error_of ms i
 
--- A token with this kind is the first of the text, `rest` follows it, and the messages are what is told of it.
+-- A token with this kind is the first of the text, `rest` follows it, and the messages are what is reported about it.
 abbrev pub IsFirst : Edition → Bool → List ℕ → Token → List ℕ → List (List ℕ) → Type 0
 IsFirst edition note text token rest messages =
-    (remark : Remark) × First edition (chars text) (told token.kind remark) (chars rest) × TellsOf note token.text remark messages
+    (remark : Remark) × First edition (chars text) (with_remark token.kind remark) (chars rest) × ReportsOf note token.text remark messages
 
 -- the messages are about the first `count` tokens, in the order of the tokens
 abbrev pub AreInOrder : ℕ → List Message → Type 0
 AreInOrder count [] = ⊤
 AreInOrder count (m ∷ ms) = (m.token < count) × AllByRecursion (λ later. m.token ≤ later.token) ms × AreInOrder count ms
 
--- The tokens joined are the text, and each is whole characters. First stand the pieces of the script source, of which nothing is told; from there on
--- each token is the first of what remains, and the messages are what is told of it, with a note where it follows a string
--- that looks open.
+-- The tokens joined are the text, and each is whole characters. First stand the pieces of the script source, about
+-- which nothing is reported; from there on each token is the first of what remains, and the messages are what is
+-- reported about it, with a note where it follows a string that looks open.
 pub record IsLexing (text : List ℕ) (edition : Edition) (lexed : Lexed) : Type 0 where
   pub whole : joined lexed.tokens ≡ text
   pub borders : (i : ℕ) → i ≤ length lexed.tokens → IsCharBoundary text (start_of lexed.tokens i)
-  pub front : List Token
-  pub is_front : IsFront edition text front
+  pub header : List Token
+  pub is_header : IsHeader edition text header
   pub rest : List Token
-  pub parts : lexed.tokens ≡ front ++ rest
-  pub silent : (i : ℕ) → i < length front → messages_of lexed.errors i ≡ []
-  pub each : (i : ℕ) → length front ≤ i → i < length lexed.tokens → (note : Bool) × (IsTrue note ↔ FollowsOpen lexed.tokens i) × IsFirst edition note (drop (start_of lexed.tokens i) text) (token_at lexed.tokens i) (drop (start_of lexed.tokens (i + 1)) text) (messages_of lexed.errors i)
+  pub parts : lexed.tokens ≡ header ++ rest
+  pub silent : (i : ℕ) → i < length header → messages_of lexed.errors i ≡ []
+  pub each : (i : ℕ) → length header ≤ i → i < length lexed.tokens → (note : Bool) × (IsTrue note ↔ FollowsOpen lexed.tokens i) × IsFirst edition note (drop (start_of lexed.tokens i) text) (token_at lexed.tokens i) (drop (start_of lexed.tokens (i + 1)) text) (messages_of lexed.errors i)
   pub ordered : AreInOrder (length lexed.tokens) lexed.errors
 
 -- The text cut at the starts, its pieces with the kinds.

@@ -3,15 +3,15 @@ pub mod Builder
 pub mod EntryScript
 pub mod Fault
 pub mod FloatParts
-pub mod Front
+pub mod Header
 pub mod Headline
 pub mod Input
 pub mod LexedStr
 pub mod OneLexing
+pub mod Reported
 pub mod SingleToken
 pub mod StrForest
 pub mod StrSink
 pub mod StrStep
 pub mod Token
-pub mod Told
 pub mod Trivia

@@ -1,23 +1,23 @@
 -- A text that is one token.
 use Rattle.std.specs.Prelude.{◌≡◌, ◌⊎◌, ℕ, ◌<◌, false, Option, MatchOption, List, [], ◌∷◌, ◌++◌, length, drop, chars, IsCharBoundary}
 use Rattle.rap_lexer.specs.First.{First}
-use Rattle.rap_lexer.specs.Lexeme.{told}
+use Rattle.rap_lexer.specs.Lexeme.{with_remark}
 use Rattle.rap_base.specs.declared.edition.Edition.{Edition}
 use Rattle.rap_lexer.specs.declared.lexer.lexeme.Lexeme.{Lexeme}
 use Rattle.rap_lexer.specs.declared.lexer.lexeme.Remark.{Remark}
-use Rattle.ra_ap_parser.specs.Told.{TellsOf}
+use Rattle.ra_ap_parser.specs.Reported.{ReportsOf}
 
 -- the last of the texts, if there is one
 abbrev pub IsLast : List (List ℕ) → Option (List ℕ) → Type 0
-IsLast texts last = MatchOption last (texts ≡ []) (λ text. (front : List (List ℕ)) × (texts ≡ front ++ text ∷ []))
+IsLast texts last = MatchOption last (texts ≡ []) (λ text. (prefix : List (List ℕ)) × (texts ≡ prefix ++ text ∷ []))
 
--- the last message that is told of the text, if there is one, with no token before it
-abbrev pub TellsLast : List ℕ → Remark → Option (List ℕ) → Type 0
-TellsLast text remark last = (texts : List (List ℕ)) × TellsOf false text remark texts × IsLast texts last
+-- the last message that is reported about the text, if there is one, with no token before it
+abbrev pub ReportsLast : List ℕ → Remark → Option (List ℕ) → Type 0
+ReportsLast text remark last = (texts : List (List ℕ)) × ReportsOf false text remark texts × IsLast texts last
 
 -- The text is one token of this kind, and this is its last message.
 abbrev pub IsOneToken : Edition → List ℕ → ℕ → Option (List ℕ) → Type 0
-IsOneToken edition text kind last = (remark : Remark) × First edition (chars text) (told kind remark) [] × TellsLast text remark last
+IsOneToken edition text kind last = (remark : Remark) × First edition (chars text) (with_remark kind remark) [] × ReportsLast text remark last
 
 -- The text is empty, or its first token ends before the text does.
 abbrev pub IsNotOneToken : Edition → List ℕ → Type 0

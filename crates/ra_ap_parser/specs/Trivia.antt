@@ -70,7 +70,7 @@ placed ts at start (split before ends_in_dot) =
     float_in ends_in_dot (float_text ts at before) (start_of ts (past_trivia ts (end_of ts at before)))
     (with_leaves (placed ts at start before) (trivia_at ts (end_of ts at before)))
 
--- One tree over the whole text: trivia at the front stand inside the root, and so do those at its end.
+-- One tree over the whole text: trivia at the beginning stand inside the root, and so do those at its end.
 abbrev pub with_trivia : List Token → Forest → StrForest
 with_trivia ts none = str_none
 with_trivia ts (node before kind children) =

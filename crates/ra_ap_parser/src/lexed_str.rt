@@ -6,22 +6,22 @@ ghost use Rattle.rap_base.specs.TokenKind.{STRING};
 ghost use Rattle.rap_base.specs.TokenTests.{IsTokenKind};
 ghost use Rattle.ra_ap_parser.specs.OneLexing.{IsOnlyLexing};
 ghost use Rattle.ra_ap_parser.specs.SingleToken.{IsNotOneToken, IsOneToken};
-ghost use Rattle.ra_ap_parser.specs.Told.{looks_open};
+ghost use Rattle.ra_ap_parser.specs.Reported.{looks_open};
 ghost use Rattle.ra_ap_parser.specs.LexedStr.{joined, start_of, token_at, error_of, AreTokens, IsLexing};
 
 pub(crate) use count::significant_tokens;
-use front::{find_front, push_front};
+use header::{find_header, push_header};
 use rap_base::edition::Edition;
 use rap_base::no_memory::NoMemory;
 use rap_base::syntax_kind::SyntaxKind;
 use rap_lexer::lexer::first_token;
-use told::{LexError, last_message, looks_open, tell};
+use reported::{LexError, last_message, looks_open, report};
 
 mod count;
-mod front;
+mod header;
+mod reported;
 #[cfg(test)]
 mod tests;
-mod told;
 
 use std::alloc::{AllocError, AllocFailed, Global};
 use std::error::Error;
@@ -141,7 +141,7 @@ impl<'a> LexedStr<'a> {
     /// Cuts the text into tokens by the lexical rules of the edition.
     ///
     /// A script source's shebang and frontmatter come first, each as one token; of a text that is refused as a script
-    /// source the shebang's line alone. Nothing is told of them.
+    /// source the shebang's line alone. Nothing is reported about them.
     ///
     /// The error is `TextTooLong` exactly for a text of more than [`MAX_TEXT`] bytes, which is decided first,
     /// and else `NoMemory` where a growth was refused.
@@ -153,20 +153,20 @@ impl<'a> LexedStr<'a> {
         if text.len() > MAX_TEXT {
             return Err(LexFault::TextTooLong);
         }
-        let front = find_front(alloc, edition, text);
+        let header = find_header(alloc, edition, text);
         let room = (text.len() / 3).min(FIRST_ROOM);
         let mut kind = Vec::with_capacity(alloc, room)?;
         let mut start = Vec::with_capacity(alloc, room + 1)?;
         start.push(0)?;
-        push_front(&front, &mut kind, &mut start)?;
-        let mut offset = front.end();
+        push_header(&header, &mut kind, &mut start)?;
+        let mut offset = header.end();
         let mut error = Vec::new(alloc);
         let mut since_open = 5usize;
         'tokens: while offset < text.len() {
             let (token, len) = first_token(edition, &text[offset..]);
             let next = &text[offset..offset + len];
             let number = kind.len() as u32;
-            tell(
+            report(
                 alloc,
                 &mut error,
                 number,

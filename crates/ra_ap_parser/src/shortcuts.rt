@@ -78,10 +78,10 @@ impl LexedStr<'_> {
     }
 
     /// Hands the tree of an output to a sink, with the texts of its leaves and with the trivia that the parser left
-    /// out. The answer tells whether all tokens of the text were handed out.
+    /// out. The answer says whether all tokens of the text were handed out.
     ///
-    /// The output is one tree over a front of this text's tokens. Trivia stand right before the node or the leaf
-    /// that comes next; those at the text's front stand inside the root, and so do those with nothing after them.
+    /// The output is one tree over a prefix of this text's tokens. Trivia stand right before the node or the leaf
+    /// that comes next; those at the text's beginning stand inside the root, and so do those with nothing after them.
     /// A message that follows a node stands at that node's end, and where the first token begins that was not yet
     /// handed out. No memory is taken, but by the sink. An error is the sink's refusal of a step; it has taken those
     /// before it.
@@ -91,7 +91,7 @@ impl LexedStr<'_> {
         sink: &mut S,
     ) -> Result<bool, S::Refusal>
         requires tree { one_tree output.now ≡ true }
-        requires front { (edition : Edition) × (covers (records self.now.tokens edition) output.now ≡ true) }
+        requires prefix { (edition : Edition) × (covers (records self.now.tokens edition) output.now ≡ true) }
         ensures steps { HandsOut S.takes S.refuses sink.old (str_flat (with_trivia self.now.tokens output.now)) result sink.new }
         ensures answer { IfOk result (λ all. IsTrue all ↔ (used output.now ≡ significant self.now.tokens)) }
 

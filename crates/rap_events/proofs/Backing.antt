@@ -4,11 +4,11 @@ use Rattle.std.specs.Prelude.{string_bytes}
 use Rattle.std.proofs.lemmas.List.{take_more, map-append, length-map}
 use Rattle.rap_events.specs.History.{Call, history, errors}
 use Rattle.rap_events.specs.History as call
-use Rattle.rap_events.specs.Unwind.{Walk, back, unwind, walk_of, Backed, ToldBack, EventBacked}
+use Rattle.rap_events.specs.Unwind.{Walk, back, unwind, walk_of, Backed, ReportedBack, EventBacked}
 use Rattle.rap_events.specs.declared.event.Event.{Event}
 use Rattle.rap_events.specs.declared.event.Event.TheVariants as event
 use Rattle.rap_events.specs.declared.event.walk.Walk as kept
-use Rattle.rap_events.proofs.HistoryLemmas.{Shows, history-push, history-tell, errors-push, errors-append}
+use Rattle.rap_events.proofs.HistoryLemmas.{Shows, history-push, history-report, errors-push, errors-append}
 use Rattle.rap_events.proofs.HistoryLemmas as shows
 use Rattle.rap_events.proofs.Unwinding.{unwind-push, back-skips}
 
@@ -32,15 +32,15 @@ backed es e x old new s h b = record {
   skips = skips_of x old new b.walk;
 }
 
-told_back : (es : List Event) (old new : kept.Walk) → errors (es ++ event.Error ∷ []) ≡ length old.messages.items → ToldBack old new → Same (es ++ event.Error ∷ []) es old new
-told_back es old new h b =
+reported_back : (es : List Event) (old new : kept.Walk) → errors (es ++ event.Error ∷ []) ≡ length old.messages.items → ReportedBack old new → Same (es ++ event.Error ∷ []) es old new
+reported_back es old new h b =
     let m : List ℕ = string_bytes b.text in
     let texts : texts_of old ≡ texts_of new ++ m ∷ [] = ap (map string_bytes) b.messages ∙ map-append string_bytes new.messages.items (b.text ∷ []) in
     let paired : errors es ≡ length new.messages.items = omega (arith, errors-append es (event.Error ∷ []), h, ap length b.messages, length-append new.messages.items (b.text ∷ [])) in
-    let told : errors es ≡ length (texts_of new) = paired ∙ sym (length-map new.messages.items string_bytes) in
+    let reported : errors es ≡ length (texts_of new) = paired ∙ sym (length-map new.messages.items string_bytes) in
     record {
       paired = paired;
-      unwound = rw (b.walk, texts, history-tell es (texts_of new) m told) (sym (unwind-push (history es (texts_of new)) (call.error m) (walk_of old)));
+      unwound = rw (b.walk, texts, history-report es (texts_of new) m reported) (sym (unwind-push (history es (texts_of new)) (call.error m) (walk_of old)));
       skips = skips_of (call.error m) old new b.walk;
     }
 
@@ -52,7 +52,7 @@ event_back es event.Extend old new h b = backed es _ _ old new shows.extend h b
 event_back es event.Abandon old new h b = backed es _ _ old new shows.abandon h b
 event_back es (event.Token w k) old new h b = backed es _ _ old new (shows.token k w) h b
 event_back es (event.FloatSplit d) old new h b = backed es _ _ old new (shows.float_split d) h b
-event_back es event.Error old new h b = told_back es old new h b
+event_back es event.Error old new h b = reported_back es old new h b
 
 -- the event at a place is the last of those up to it
 pub last_event : (es : List Event) (i : ℕ) (e : Event) → i < length es → e ≡ get_or es i e → take (i + 1) es ≡ take i es ++ e ∷ []

@@ -11,7 +11,7 @@ use Rattle.rap_events.specs.Cover.{Leaf, of_tokens, leaf_width, leaves, stand, s
 use Rattle.rap_events.specs.History.{Call, history, errors}
 use Rattle.rap_events.specs.History as call
 use Rattle.rap_events.specs.Machine.{Stack, floor, push, top, stack_leaves, all_leaves, Config, close, merge, wrap, stretch, run, initial, all_splits_placed}
-use Rattle.rap_events.specs.State.{view, but_last, last_children, Opened, IsLast, Completed, Abandoned, Preceded, Extended, Bumped, Told}
+use Rattle.rap_events.specs.State.{view, but_last, last_children, Opened, IsLast, Completed, Abandoned, Preceded, Extended, Bumped, Reported}
 use Rattle.rap_events.specs.Fit.{Fit, AllFitIn, StackFit, AllFit, is_plain}
 use Rattle.rap_events.specs.declared.event.Event.{Event}
 use Rattle.rap_events.specs.declared.event.Event.TheVariants as event
@@ -19,7 +19,7 @@ use Rattle.rap_events.specs.declared.parser.CompletedMarker.{CompletedMarker}
 use Rattle.rap_events.proofs.Splits.{placed, all_placed, start_placed, point_placed, placed-close, placed-merge, placed-wrap, placed-stretch}
 use Rattle.rap_events.proofs.Truth.{and_left, and_right, and_both}
 use Rattle.rap_events.proofs.MachineLemmas.{run-push, Rooted, rooted, count_of, leaves-⧺}
-use Rattle.rap_events.proofs.HistoryLemmas.{Shows, history-push, history-tell, errors-push, errors-append}
+use Rattle.rap_events.proofs.HistoryLemmas.{Shows, history-push, history-report, errors-push, errors-append}
 
 -- the calls, on states
 pub opened : (input rest : List Record) (xs : List Call) (n : ℕ) → n ≡ length xs →
@@ -31,9 +31,9 @@ opened input rest xs n e = rw (run-push initial xs call.start) (record {
   below = refl;
 })
 
-pub told : (input rest : List Record) (xs : List Call) (m : List ℕ) →
-    Told (view input rest (run initial xs)) (view input rest (run initial (xs ++ call.error m ∷ []))) m
-told input rest xs m = rw (run-push initial xs (call.error m)) (record { input = refl; rest = refl; left = refl; count = refl; messages = refl; marker = refl; forest = refl; below = refl })
+pub reported : (input rest : List Record) (xs : List Call) (m : List ℕ) →
+    Reported (view input rest (run initial xs)) (view input rest (run initial (xs ++ call.error m ∷ []))) m
+reported input rest xs m = rw (run-push initial xs (call.error m)) (record { input = refl; rest = refl; left = refl; count = refl; messages = refl; marker = refl; forest = refl; below = refl })
 
 pub drop-plus : (rs : List Record) (n m : ℕ) → drop (n + m) rs ≡ drop m (drop n rs)
 drop-plus rs n m = sym (drop-drop m n rs)
@@ -295,12 +295,12 @@ kept-extend xs input rest pos cm k n l m f h =
 
 -- the same of events and messages, the errors being as many as the messages
 pub record Held (es : List Event) (ms : List (List ℕ)) (n : ℕ) (input : List Record) (pos : ℕ) : Type 0 where
-  pub told : errors es ≡ n
+  pub reported : errors es ≡ n
   pub kept : Kept (run initial (history es ms)) input pos
 
 pub held-push : (es : List Event) (ms : List (List ℕ)) (n : ℕ) (input : List Record) (pos pos' : ℕ) (e : Event) (x : Call) → Shows e x →
     Held es ms n input pos → Kept (run initial (history es ms ++ x ∷ [])) input pos' → Held (es ++ e ∷ []) ms n input pos'
-held-push es ms n input pos pos' e x s h k = record { told = errors-push es e x s ∙ h.told; kept = rw (history-push es ms e x s) k }
+held-push es ms n input pos pos' e x s h k = record { reported = errors-push es e x s ∙ h.reported; kept = rw (history-push es ms e x s) k }
 
 -- after a push that may be refused
 pub held_either : (b : Bool) (old new es : List Event) (ms : List (List ℕ)) (n : ℕ) (input : List Record) (pos : ℕ) → es ≡ cond b new old →
@@ -309,19 +309,19 @@ held_either true old new es ms n input pos e h k = rw e k
 held_either false old new es ms n input pos e h k = rw e h
 
 -- one message more
-pub held_told : (es : List Event) (texts : List (String Global)) (text : String Global) (input : List Record) (pos : ℕ) →
+pub held_reported : (es : List Event) (texts : List (String Global)) (text : String Global) (input : List Record) (pos : ℕ) →
     Held es (map string_bytes texts) (length texts) input pos →
     Held (es ++ event.Error ∷ []) (map string_bytes (texts ++ text ∷ [])) (length (texts ++ text ∷ [])) input pos
-held_told es texts text input pos h =
+held_reported es texts text input pos h =
     let m : List ℕ = string_bytes text in
     let ms : List (List ℕ) = map string_bytes texts in
-    let paired : errors es ≡ length ms = h.told ∙ sym (length-map texts string_bytes) in
+    let paired : errors es ≡ length ms = h.reported ∙ sym (length-map texts string_bytes) in
     record {
-      told = omega (arith, h.told, errors-append es (event.Error ∷ []), length-append texts (text ∷ []));
-      kept = rw (map-append string_bytes texts (text ∷ []), history-tell es ms m paired) (kept-error (history es ms) input pos m h.kept);
+      reported = omega (arith, h.reported, errors-append es (event.Error ∷ []), length-append texts (text ∷ []));
+      kept = rw (map-append string_bytes texts (text ∷ []), history-report es ms m paired) (kept-error (history es ms) input pos m h.kept);
     }
 
-pub told_history : (es : List Event) (texts : List (String Global)) (text : String Global) → errors es ≡ length texts →
+pub reported_history : (es : List Event) (texts : List (String Global)) (text : String Global) → errors es ≡ length texts →
     history (es ++ event.Error ∷ []) (map string_bytes (texts ++ text ∷ [])) ≡ history es (map string_bytes texts) ++ call.error (string_bytes text) ∷ []
-told_history es texts text h =
-    rw (map-append string_bytes texts (text ∷ [])) (history-tell es (map string_bytes texts) (string_bytes text) (h ∙ sym (length-map texts string_bytes)))
+reported_history es texts text h =
+    rw (map-append string_bytes texts (text ∷ [])) (history-report es (map string_bytes texts) (string_bytes text) (h ∙ sym (length-map texts string_bytes)))

@@ -68,13 +68,13 @@ fits kind rs n h =
     record { within = f.0; stands = f.1 }
 
 -- a token may bear its own kind
-pub bears_own : (rs : List Record) → next_kind rs ≢ EOF → first_may_bear rs (next_kind rs) ≡ true
-bears_own rs h = (own_kind (next_kind rs) rs h refl).1
+pub reads_as_own : (rs : List Record) → next_kind rs ≢ EOF → first_may_bear rs (next_kind rs) ≡ true
+reads_as_own rs h = (own_kind (next_kind rs) rs h refl).1
 
 -- an identifier may bear what it is read as
-pub bears_contextual : (rs : List Record) (kw : ℕ) → kw ≢ EOF → contextual_at rs 0 ≡ kw → next_kind rs ≡ IDENT → first_may_bear rs kw ≡ true
-bears_contextual [] kw n c k = absurd (n (sym c))
-bears_contextual (r ∷ rs) kw n c k =
+pub reads_as_contextual : (rs : List Record) (kw : ℕ) → kw ≢ EOF → contextual_at rs 0 ≡ kw → next_kind rs ≡ IDENT → first_may_bear rs kw ≡ true
+reads_as_contextual [] kw n c k = absurd (n (sym c))
+reads_as_contextual (r ∷ rs) kw n c k =
     or_right (r.kind == kw) _ (or_left ((r.kind == IDENT) && (r.contextual == kw)) _ (and_both (r.kind == IDENT) (r.contextual == kw) (eq-eqb r.kind IDENT k) (eq-eqb r.contextual kw c)))
 
 and_assoc : (a b c : Bool) → ((a && b) && c) ≡ (a && (b && c))
@@ -86,14 +86,14 @@ either true b c h = refl
 either false b c h = or_right b (true && c) h
 
 -- an identifier or a keyword may bear the identifier's kind
-pub bears_ident : (rs : List Record) → is_any_identifier (next_kind rs) ≡ true → first_may_bear rs IDENT ≡ true
-bears_ident [] h = absurd (let g : false ≡ true = h in cc)
-bears_ident (r ∷ rs) h = either (r.kind == IDENT) _ (is_keyword r.kind Edition2024) h
+pub reads_as_ident : (rs : List Record) → is_any_identifier (next_kind rs) ≡ true → first_may_bear rs IDENT ≡ true
+reads_as_ident [] h = absurd (let g : false ≡ true = h in cc)
+reads_as_ident (r ∷ rs) h = either (r.kind == IDENT) _ (is_keyword r.kind Edition2024) h
 
 -- a token comes next
-pub bears_within : (rs : List Record) (kind : ℕ) → first_may_bear rs kind ≡ true → 1 ≤ length rs
-bears_within [] kind h = absurd cc
-bears_within (r ∷ rs) kind h = omega arith
+pub reads_as_within : (rs : List Record) (kind : ℕ) → first_may_bear rs kind ≡ true → 1 ≤ length rs
+reads_as_within [] kind h = absurd cc
+reads_as_within (r ∷ rs) kind h = omega arith
 
 -- a token of this kind touches the one after it
 pub touches_next-drop : (rs : List Record) (place kind : ℕ) → place < length rs → touches_next (drop place rs) kind ≡ ((kind_at rs place == kind) && joint_at rs place)

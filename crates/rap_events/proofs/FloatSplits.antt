@@ -175,7 +175,7 @@ split_errors es false = omega (arith, shows.errors-append es (split_events false
 pub held-split : (es : List Event) (ms : List (List ℕ)) (m : ℕ) (input : List Record) (pos : ℕ) (d : Bool) (n : ℕ) → (run initial (history es ms)).marker ≡ Some n →
     next_kind (drop pos input) ≡ FLOAT_NUMBER → joint_at (drop pos input) 0 ≡ not d → Held es ms m input pos → Held (es ++ split_events d) ms m input (pos + 1)
 held-split es ms m input pos d n marker k j h = record {
-  told = split_errors es d ∙ h.told;
+  reported = split_errors es d ∙ h.reported;
   kept = rw (split_history es ms d) (kept-split input pos (history es ms) d n marker k j h.kept);
 }
 

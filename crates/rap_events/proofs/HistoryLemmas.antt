@@ -5,7 +5,7 @@ use Rattle.rap_events.specs.History as call
 use Rattle.rap_events.specs.declared.event.Event.{Event}
 use Rattle.rap_events.specs.declared.event.Event.TheVariants as event
 
--- how a call that tells no message is recorded
+-- how a call that reports no message is recorded
 pub data Shows : Event → Call → Type 0 where
   start : Shows event.Start call.start
   precede : Shows event.Precede call.precede
@@ -38,18 +38,18 @@ history-push (event.Error ∷ es) [] e x h = ap (λ (xs : List Call). call.error
 history-push (event.Error ∷ es) (m ∷ ms) e x h = ap (λ (xs : List Call). call.error m ∷ xs) (history-push es ms e x h)
 
 -- one message more
-pub history-tell : (es : List Event) (ms : List (List ℕ)) (m : List ℕ) → errors es ≡ length ms → history (es ++ event.Error ∷ []) (ms ++ m ∷ []) ≡ history es ms ++ call.error m ∷ []
-history-tell [] [] m h = refl
-history-tell [] (n ∷ ms) m h = absurd (omega arith)
-history-tell (event.Start ∷ es) ms m h = ap (λ (xs : List Call). call.start ∷ xs) (history-tell es ms m h)
-history-tell (event.Precede ∷ es) ms m h = ap (λ (xs : List Call). call.precede ∷ xs) (history-tell es ms m h)
-history-tell (event.Finish k ∷ es) ms m h = ap (λ (xs : List Call). call.finish k ∷ xs) (history-tell es ms m h)
-history-tell (event.Extend ∷ es) ms m h = ap (λ (xs : List Call). call.extend ∷ xs) (history-tell es ms m h)
-history-tell (event.Abandon ∷ es) ms m h = ap (λ (xs : List Call). call.abandon ∷ xs) (history-tell es ms m h)
-history-tell (event.Token w k ∷ es) ms m h = ap (λ (xs : List Call). call.token k w ∷ xs) (history-tell es ms m h)
-history-tell (event.FloatSplit d ∷ es) ms m h = ap (λ (xs : List Call). call.float_split d ∷ xs) (history-tell es ms m h)
-history-tell (event.Error ∷ es) [] m h = absurd (omega arith)
-history-tell (event.Error ∷ es) (n ∷ ms) m h = ap (λ (xs : List Call). call.error n ∷ xs) (history-tell es ms m (omega arith))
+pub history-report : (es : List Event) (ms : List (List ℕ)) (m : List ℕ) → errors es ≡ length ms → history (es ++ event.Error ∷ []) (ms ++ m ∷ []) ≡ history es ms ++ call.error m ∷ []
+history-report [] [] m h = refl
+history-report [] (n ∷ ms) m h = absurd (omega arith)
+history-report (event.Start ∷ es) ms m h = ap (λ (xs : List Call). call.start ∷ xs) (history-report es ms m h)
+history-report (event.Precede ∷ es) ms m h = ap (λ (xs : List Call). call.precede ∷ xs) (history-report es ms m h)
+history-report (event.Finish k ∷ es) ms m h = ap (λ (xs : List Call). call.finish k ∷ xs) (history-report es ms m h)
+history-report (event.Extend ∷ es) ms m h = ap (λ (xs : List Call). call.extend ∷ xs) (history-report es ms m h)
+history-report (event.Abandon ∷ es) ms m h = ap (λ (xs : List Call). call.abandon ∷ xs) (history-report es ms m h)
+history-report (event.Token w k ∷ es) ms m h = ap (λ (xs : List Call). call.token k w ∷ xs) (history-report es ms m h)
+history-report (event.FloatSplit d ∷ es) ms m h = ap (λ (xs : List Call). call.float_split d ∷ xs) (history-report es ms m h)
+history-report (event.Error ∷ es) [] m h = absurd (omega arith)
+history-report (event.Error ∷ es) (n ∷ ms) m h = ap (λ (xs : List Call). call.error n ∷ xs) (history-report es ms m (omega arith))
 
 -- how many calls there are
 pub length-history : (es : List Event) (ms : List (List ℕ)) → length (history es ms) ≡ length es

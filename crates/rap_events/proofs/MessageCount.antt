@@ -1,4 +1,4 @@
--- The messages of the forests are those that were told.
+-- The messages of the forests are those that were reported.
 use Rattle.std.proofs.Common.{◌≡◌, ℕ, ◌+◌, List, [], ◌∷◌, Bool, true, false, refl, ap, sym, arith}
 use Rattle.rap_events.specs.Forest.{Forest, none, node, leaf, message, split, ◌⧺◌, message_count}
 use Rattle.rap_events.specs.History.{Call}

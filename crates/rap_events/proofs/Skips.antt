@@ -4,7 +4,7 @@ use Rattle.rap_base.specs.TokenKind.{EOF, ERROR}
 use Rattle.rap_events.specs.Record.{Record, next_kind}
 use Rattle.rap_events.specs.Forest.{Forest, none, node, leaf, message}
 use Rattle.rap_events.specs.Machine.{push}
-use Rattle.rap_events.specs.State.{State, state, next, but_last, Opened, Told, Bumped, Completed, skipped, Skipped}
+use Rattle.rap_events.specs.State.{State, state, next, but_last, Opened, Reported, Bumped, Completed, skipped, Skipped}
 use Rattle.rap_events.specs.declared.parser.Parser.{Parser}
 use Rattle.rap_events.proofs.Records.{no_end}
 
@@ -28,7 +28,7 @@ pub record Inside (old new : State) (bytes : List ℕ) : Type 0 where
   pub forest : new.forest ≡ skipped old.rest bytes
   pub below : new.below ≡ push old.below old.marker old.forest
 
-pub inside_some : (s0 s1 s2 s3 : State) (n : ℕ) (bytes : List ℕ) → Opened s0 s1 n → Told s1 s2 bytes → next s2 ≢ EOF → Bumped s2 s3 (next s2) 1 → Inside s0 s3 bytes
+pub inside_some : (s0 s1 s2 s3 : State) (n : ℕ) (bytes : List ℕ) → Opened s0 s1 n → Reported s1 s2 bytes → next s2 ≢ EOF → Bumped s2 s3 (next s2) 1 → Inside s0 s3 bytes
 inside_some s0 s1 s2 s3 n bytes o t h b =
     let r : s2.rest ≡ s0.rest = t.rest ∙ o.recorded.rest in
     let some : next_kind s0.rest ≢ EOF = λ e. h (ap next_kind r ∙ e) in
@@ -44,7 +44,7 @@ inside_some s0 s1 s2 s3 n bytes o t h b =
       below = b.below ∙ t.below ∙ o.below;
     }
 
-pub inside_end : (s0 s1 s2 : State) (n : ℕ) (bytes : List ℕ) → Opened s0 s1 n → Told s1 s2 bytes → s2.rest ≡ [] → Inside s0 s2 bytes
+pub inside_end : (s0 s1 s2 : State) (n : ℕ) (bytes : List ℕ) → Opened s0 s1 n → Reported s1 s2 bytes → s2.rest ≡ [] → Inside s0 s2 bytes
 inside_end s0 s1 s2 n bytes o t e =
     let r : s0.rest ≡ [] = sym (t.rest ∙ o.recorded.rest) ∙ e in
     record {

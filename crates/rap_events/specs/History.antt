@@ -6,8 +6,8 @@ use Rattle.rap_events.specs.declared.event.Event.TheVariants as event
 
 -- A marker is started; one is started before the last node; the newest marker becomes a node of a kind; the last
 -- node begins where the newest marker does, and that marker is gone; the newest marker is forgotten; so many tokens
--- are taken under one kind; a float of a field access is taken apart, which ends in a dot or not; a message is told, by its
--- bytes.
+-- are taken under one kind; a float of a field access is taken apart, which ends in a dot or not; a message is
+-- reported, by its bytes.
 pub data Call : Type 0 where
   start : Call
   precede : Call

@@ -16,7 +16,7 @@ unfoldable pub top : Stack → Forest
 top floor = none
 top (push below marker forest) = forest
 
--- How many calls there were, how many of them told a message, whether the last one finished a node, the newest open
+-- How many calls there were, how many of them reported a message, whether the last one finished a node, the newest open
 -- marker, the forest under it so far, the older markers, and whether each call fitted what was open then.
 pub record Config : Type 0 where
   pub count : ℕ

@@ -17,8 +17,9 @@ use Rattle.rap_events.specs.Machine.{Stack, push, Config, run, initial, top}
 use Rattle.rap_events.specs.declared.parser.Parser.{Parser}
 use Rattle.rap_events.specs.declared.parser.CompletedMarker.{CompletedMarker}
 
--- The tokens; those from the next one on; how many these are; how many calls were recorded, and how many of them told a message; whether the last
--- one finished a node; the newest open marker, the forest under it so far, and the older open markers.
+-- The tokens; those from the next one on; how many these are; how many calls were recorded, and how many of them
+-- reported a message; whether the last one finished a node; the newest open marker, the forest under it so far, and the
+-- older open markers.
 pub record State : Type 0 where
   pub input : List Record
   pub rest : List Record
@@ -62,12 +63,16 @@ abbrev pub NthAt : State → ℕ → ℕ → Type 0
 NthAt s n kind = is_at kind (drop n s.rest) ≡ true
 
 -- the next token may be taken under this kind
-abbrev pub Bears : State → ℕ → Type 0
-Bears s kind = first_may_bear s.rest kind ≡ true
+abbrev pub ReadsAs : State → ℕ → Type 0
+ReadsAs s kind = first_may_bear s.rest kind ≡ true
 
 -- the message that a token of this kind is missing
 abbrev pub expected : ℕ → List ℕ
 expected kind = codes "expected " ++ name_of kind
+
+-- a message that ends with a kind's name
+abbrev pub with_kind : List ℕ → ℕ → List ℕ
+with_kind bytes kind = bytes ++ name_of kind
 
 -- the forest without its last tree
 unfoldable pub but_last : Forest → Forest
@@ -85,7 +90,7 @@ last_children (leaf before kind width) = none
 last_children (message before bytes) = none
 last_children (split before ends_in_dot) = none
 
--- the tokens are as before, and one more call is recorded, which told no message
+-- the tokens are as before, and one more call is recorded, which reported no message
 pub record Recorded (old new : State) : Type 0 where
   pub input : new.input ≡ old.input
   pub rest : new.rest ≡ old.rest
@@ -144,8 +149,8 @@ pub record Bumped (old new : State) (kind : ℕ) (width : ℕ) : Type 0 where
   pub forest : new.forest ≡ leaf old.forest kind width
   pub below : new.below ≡ old.below
 
--- a message is told
-pub record Told (old new : State) (bytes : List ℕ) : Type 0 where
+-- a message is reported
+pub record Reported (old new : State) (bytes : List ℕ) : Type 0 where
   pub input : new.input ≡ old.input
   pub rest : new.rest ≡ old.rest
   pub left : new.left ≡ old.left
@@ -191,6 +196,7 @@ pub record AteAs (old new : State) (kind : ℕ) (taken : Bool) : Type 0 where
   pub marker : new.marker ≡ old.marker
   pub below : new.below ≡ old.below
   pub decided : taken ≡ (next_contextual old == kind)
+  pub bears : taken ≡ true → ReadsAs old kind
   pub token : taken ≡ true → Bumped old new kind 1
   pub not_token : taken ≡ false → new ≡ old
 
@@ -206,7 +212,7 @@ pub record Expected (old new : State) (kind : ℕ) (taken : Bool) : Type 0 where
   pub clean : new.messages ≡ 0 → new.forest ≡ leaf old.forest kind (width kind)
   pub decided : taken ≡ is_at kind old.rest
   pub token : taken ≡ true → Bumped old new kind (width kind)
-  pub not_token : taken ≡ false → Told old new (expected kind)
+  pub not_token : taken ≡ false → Reported old new (expected kind)
 
 -- a message, and the next token if there is one
 abbrev pub skipped : List Record → List ℕ → Forest
@@ -234,7 +240,7 @@ pub record Skipped (old new : State) (bytes : List ℕ) : Type 0 where
 abbrev pub is_kept : TokenSet → ℕ → Bool
 is_kept set kind = (kind == L_CURLY) || ((kind == R_CURLY) || member set kind)
 
--- a message is told before a token that is kept, and else with the next token in an `ERROR`
+-- a message is reported before a token that is kept, and else with the next token in an `ERROR`
 pub record Recovered (old new : State) (bytes : List ℕ) (set : TokenSet) (kept : Bool) : Type 0 where
   pub input : new.input ≡ old.input
   pub left : new.left ≤ old.left
@@ -243,5 +249,5 @@ pub record Recovered (old new : State) (bytes : List ℕ) (set : TokenSet) (kept
   pub marker : new.marker ≡ old.marker
   pub below : new.below ≡ old.below
   pub decided : kept ≡ is_kept set (next old)
-  pub told : kept ≡ true → Told old new bytes
+  pub reported : kept ≡ true → Reported old new bytes
   pub skipped : kept ≡ false → Skipped old new bytes

@@ -80,7 +80,7 @@ walk_of w = record {
   kinds = drop w.held w.kinds.items;
   skips = w.skips;
   openings = openings_of (reverse w.openings.items) (take w.held w.kinds.items);
-  steps = values (reverse w.steps.items) (reverse w.told.items);
+  steps = values (reverse w.steps.items) (reverse w.reported.items);
 }
 
 -- the messages are as before, and this call was taken back
@@ -89,7 +89,7 @@ pub record Backed (x : Call) (old new : kept.Walk) : Type 0 where
   pub walk : walk_of new ≡ back x (walk_of old)
 
 -- the last of the messages was handed out
-pub record ToldBack (old new : kept.Walk) : Type 0 where
+pub record ReportedBack (old new : kept.Walk) : Type 0 where
   pub text : String Global
   pub messages : old.messages.items ≡ new.messages.items ++ text ∷ []
   pub walk : walk_of new ≡ back (call.error (string_bytes text)) (walk_of old)
@@ -103,4 +103,4 @@ EventBacked event.Extend old new = Backed call.extend old new
 EventBacked event.Abandon old new = Backed call.abandon old new
 EventBacked (event.Token width kind) old new = Backed (call.token kind width) old new
 EventBacked (event.FloatSplit ends_in_dot) old new = Backed (call.float_split ends_in_dot) old new
-EventBacked event.Error old new = ToldBack old new
+EventBacked event.Error old new = ReportedBack old new

@@ -39,7 +39,7 @@ pub(crate) enum Event {
     FloatSplit {
         ends_in_dot: bool,
     },
-    /// A message is told: the n-th error has the parser's n-th message.
+    /// A message is reported: the n-th error has the parser's n-th message.
     Error,
 }
 

@@ -25,7 +25,7 @@ mod composite;
 
 use composite::{at_place, width_of};
 
-/// Reads an input from its front and records what it is made of.
+/// Reads an input from its beginning and records what it is made of.
 ///
 /// After want of memory a parser is of no use any more: what it recorded is not promised.
 #[derive(Drop)]
@@ -39,7 +39,7 @@ pub struct Parser<'t> {
     ghost tokens: { All IsTokenRecord input.now },
     ghost ends: { len ≡ length input.now },
     ghost in_input: { pos ≤ len },
-    ghost told: { errors events.items ≡ length messages.items },
+    ghost reported: { errors events.items ≡ length messages.items },
     ghost sound: { (run initial (history events.items (map string_bytes messages.items))).sound ≡ true },
     ghost covers: { stand (all_leaves (run initial (history events.items (map string_bytes messages.items)))) input.now ≡ true },
     ghost place: { widths (all_leaves (run initial (history events.items (map string_bytes messages.items)))) ≡ pos },
@@ -69,7 +69,7 @@ impl<'t> Parser<'t> {
     ghost use Rattle.rap_events.specs.Machine.{floor};
     ghost use Rattle.rap_events.specs.Composite.{is_at, width};
     ghost use Rattle.rap_events.specs.Record.{kind_at, contextual_at, edition_at};
-    ghost use Rattle.rap_events.specs.State.{state, calls, start_state, Opened, Bumped, SplitFloat, IsLast, Told, Ate, AteAs, Expected, Skipped, Recovered, is_kept, expected, skip_calls, next, next_contextual, At, Bears};
+    ghost use Rattle.rap_events.specs.State.{state, calls, start_state, Opened, Bumped, SplitFloat, IsLast, Reported, Ate, AteAs, Expected, Skipped, Recovered, is_kept, expected, with_kind, skip_calls, next, next_contextual, At, ReadsAs};
 
     /// At the first token, with nothing recorded. Takes no memory.
     pub fn new(alloc: Global, input: &'t Input) -> Self
@@ -133,7 +133,6 @@ impl<'t> Parser<'t> {
 
     /// The same after `n` tokens.
     pub fn nth_at(&self, n: usize, kind: SyntaxKind) -> bool
-        requires { n < 4 }
         ensures { result ≡ is_at kind (drop n (state self.now).rest) }
     {
         at_place(self.input, self.ahead(n), kind)
@@ -158,7 +157,7 @@ impl<'t> Parser<'t> {
     pub fn at_contextual_kw(&self, kw: SyntaxKind) -> bool
         requires { kw ≢ EOF }
         ensures here { result ≡ (next_contextual (state self.now) == kw) }
-        ensures bears { IsTrue result → Bears (state self.now) kw }
+        ensures reads_as { IsTrue result → ReadsAs (state self.now) kw }
     {
         self.input.contextual_kind(self.pos) == kw
     }
@@ -172,7 +171,7 @@ impl<'t> Parser<'t> {
         self.input.contextual_kind(self.ahead(n)) == kw
     }
 
-    /// Takes a token of this kind if one comes next, and tells whether it did.
+    /// Takes a token of this kind if one comes next, and answers whether it did.
     pub fn eat(&mut self, kind: SyntaxKind) -> Result<bool, NoMemory>
         requires { kind ≢ EOF }
         ensures state { IfOk result (λ taken. Ate (state self.old) (state self.new) kind taken) }
@@ -186,7 +185,7 @@ impl<'t> Parser<'t> {
         }
     }
 
-    /// Takes the next token as this keyword if it is an identifier that may be read so, and tells whether it did.
+    /// Takes the next token as this keyword if it is an identifier that may be read so, and answers whether it did.
     pub fn eat_contextual_kw(&mut self, kw: SyntaxKind) -> Result<bool, NoMemory>
         requires { kw ≢ EOF }
         ensures state { IfOk result (λ taken. AteAs (state self.old) (state self.new) kw taken) }
@@ -226,7 +225,7 @@ impl<'t> Parser<'t> {
     /// Takes the next token under another kind that it may bear: an identifier as a contextual keyword, or a keyword
     /// as an identifier.
     pub fn bump_remap(&mut self, kind: SyntaxKind) -> Result<(), NoMemory>
-        requires { Bears (state self.old) kind }
+        requires { ReadsAs (state self.old) kind }
         ensures state { OnOk result (Bumped (state self.old) (state self.new) kind 1) }
         ensures recorded { OnOk result (calls self.new ≡ calls self.old ++ call.token kind 1 ∷ []) }
     {
@@ -244,7 +243,7 @@ impl<'t> Parser<'t> {
         Ok(())
     }
 
-    /// Takes a token of this kind if one comes next, and else tells that it is missing. Tells whether it took one.
+    /// Takes a token of this kind if one comes next, and else reports that it is missing. Answers whether it took one.
     #[inline(never)]
     pub fn expect(&mut self, kind: SyntaxKind) -> Result<bool, NoMemory>
         requires { kind ≢ EOF }
@@ -256,22 +255,34 @@ impl<'t> Parser<'t> {
         }
         let mut message = String::from_str(self.alloc, "expected ")?;
         message.push_str(kind.name())?;
-        self.tell(message)?;
+        self.report(message)?;
         Ok(false)
     }
 
-    /// Tells a message before the next token.
+    /// Reports a message before the next token.
     #[inline(never)]
     pub fn error(&mut self, message: &str) -> Result<(), NoMemory>
-        ensures state { OnOk result (Told (state self.old) (state self.new) message.now) }
+        ensures state { OnOk result (Reported (state self.old) (state self.new) message.now) }
         ensures recorded { OnOk result (calls self.new ≡ calls self.old ++ call.error message.now ∷ []) }
     {
         let message = String::from_str(self.alloc, message)?;
-        self.tell(message)?;
+        self.report(message)?;
         Ok(())
     }
 
-    /// Tells a message and takes the next token, if there is one, into an `ERROR`.
+    /// Reports a message before the next token, ended by the name of that token's kind.
+    #[inline(never)]
+    pub fn error_with_kind(&mut self, message: &str) -> Result<(), NoMemory>
+        ensures state { OnOk result (Reported (state self.old) (state self.new) (with_kind message.now (next (state self.old)))) }
+        ensures recorded { OnOk result (calls self.new ≡ calls self.old ++ call.error (with_kind message.now (next (state self.old))) ∷ []) }
+    {
+        let mut message = String::from_str(self.alloc, message)?;
+        message.push_str(self.current().name())?;
+        self.report(message)?;
+        Ok(())
+    }
+
+    /// Reports a message and takes the next token, if there is one, into an `ERROR`.
     #[inline(never)]
     pub fn err_and_bump(&mut self, message: &str) -> Result<(), NoMemory>
         ensures state { OnOk result (Skipped (state self.old) (state self.new) message.now) }
@@ -286,8 +297,8 @@ impl<'t> Parser<'t> {
         Ok(())
     }
 
-    /// Tells a message and takes the next token into an `ERROR`, unless that is a brace or a kind of the set: then
-    /// the message is all. Tells whether the token was kept.
+    /// Reports a message and takes the next token into an `ERROR`, unless that is a brace or a kind of the set: then
+    /// the message is all. Answers whether the token was kept.
     #[inline(never)]
     pub fn err_recover(&mut self, message: &str, recovery: TokenSet) -> Result<bool, NoMemory>
         ensures state { IfOk result (λ kept. Recovered (state self.old) (state self.new) message.now recovery kept) }
@@ -311,7 +322,7 @@ impl<'t> Parser<'t> {
     /// Takes the next token, a float, apart: it is what follows the dot of a field access, which has the newest marker.
     ///
     /// It ends that access, and where it does not end in a dot, another one around it: `x.0.1` is a field of a field.
-    /// Tells whether it ends in a dot, with the field access that was finished last.
+    /// Answers whether it ends in a dot, with the field access that was finished last.
     pub fn split_float(&mut self, marker: Marker) -> Result<(bool, CompletedMarker), NoMemory>
         requires newest { (state self.old).marker ≡ Some marker.pos }
         requires float { next (state self.old) ≡ FLOAT_NUMBER }
@@ -347,8 +358,8 @@ impl<'t> Parser<'t> {
         Ok(())
     }
 
-    fn tell(&mut self, message: String) -> Result<(), NoMemory>
-        ensures state { OnOk result (Told (state self.old) (state self.new) (string_bytes message)) }
+    fn report(&mut self, message: String) -> Result<(), NoMemory>
+        ensures state { OnOk result (Reported (state self.old) (state self.new) (string_bytes message)) }
         ensures recorded { OnOk result (calls self.new ≡ calls self.old ++ call.error (string_bytes message) ∷ []) }
     {
         self.events.reserve(1)?;
@@ -412,7 +423,7 @@ impl Marker {
         Ok(completed)
     }
 
-    /// The same for every kind: unless a message was told, the node's children are what its kind asks for.
+    /// The same for every kind: unless a message was reported, the node's children are what its kind asks for.
     pub fn complete_fit(
         self,
         p: &mut Parser<'_>,

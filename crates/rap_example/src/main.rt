@@ -1,4 +1,4 @@
-//! Prints the leaves of a text's tree, and what is told of it: the smallest program on the library.
+//! Prints the leaves of a text's tree, and what is reported about it: the smallest program on the library.
 #![tactic(auto)]
 
 use ra_ap_parser::{Edition, NoMemory, StrSink, StrStep, TextFault, TopEntryPoint, parse_text};

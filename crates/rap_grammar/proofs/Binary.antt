@@ -1,6 +1,5 @@
 -- The operands of a binary expression, and what is known at its end.
 use Rattle.std.proofs.Common.{◌≡◌, ◌≢◌, ℕ, ◌+◌, ◌<◌, ◌≤◌, ap, sym, ◌∙◌, refl, arith, Bool, true, false, ◌==◌, if◌then◌else◌, Option, Some, None, List, [], ◌∷◌}
-use Rattle.rap_base.specs.TokenKind.{AS_KW}
 use Rattle.rap_base.specs.NodeKind.{BIN_EXPR}
 use Rattle.rap_events.specs.Composite.{parts, width, width_of}
 use Rattle.rap_events.specs.Forest.{Forest, none, node, leaf}
@@ -23,14 +22,14 @@ positive (k ∷ ks) = omega arith
 pub width_positive : (kind : ℕ) → 1 ≤ width kind
 width_positive kind = positive (parts kind)
 
--- the right operand, unless a message was told
+-- the right operand, unless a message was reported
 record Operands (s0 s3 : State) (kind op w least : ℕ) : Type 0 where
   clean : s0.messages ≡ 0
   right_kind : ℕ
   right : Forest
   shape : s3.forest ≡ node (leaf (node none kind (last_children s0.forest)) op w) right_kind right
   least_power : right_kind ≡ BIN_EXPR → least ≤ power (operator right)
-  follows : open_ended right ≡ false → operator_at s3.rest ≢ AS_KW → power (operator_at s3.rest) < least
+  follows : open_ended right ≡ false → power (operator_at s3.rest) < least
 
 operands : (s0 s1 s2 s3 : State) (m least kind op w : ℕ) (o : Option (CompletedMarker × BlockLike)) → Preceded s0 s1 m kind → Bumped s1 s2 op w → Answered s2 s3 None false least o → s3.messages ≡ 0 → Operands s0 s3 kind op w least
 operands s0 s1 s2 s3 m least kind op w None a b t z = absurd (omega arith)
@@ -77,11 +76,11 @@ bound s0 s1 s2 s3 s4 m least bp kind op w o a b t d e most one z =
     let u = operands s0 s1 s2 s3 m least kind op w o a b t (sym d.recorded.messages ∙ z) in
     let c : last_children s4.forest ≡ node (leaf (node none kind (last_children s0.forest)) op w) u.right_kind u.right = d.children ∙ u.shape in
     let n : operator_at s4.rest ≡ operator_at s3.rest = ap operator_at d.recorded.rest in
-    let ends : open_ended (last_children s4.forest) ≡ false → operator_at s4.rest ≢ AS_KW → power (operator_at s4.rest) < least = λ h a. rw n (u.follows (closed_left (last_leaf u.right) _ (rw c at h)) (rw n at a)) in
+    let ends : open_ended (last_children s4.forest) ≡ false → power (operator_at s4.rest) < least = λ h. rw n (u.follows (closed_left (last_leaf u.right) _ (rw c at h))) in
     record {
       power_is = rw c (sym e);
-      follows = λ h a. let l = ends h a in omega arith;
-      not_twice = λ h a i. let l = ends h a in let j = one i in omega arith;
+      follows = λ h. let l = ends h in omega arith;
+      not_twice = λ h i. let l = ends h in let j = one i in omega arith;
     }
 
 by_test : {a b c : ℕ} (t : Bool) → (t ≡ true → a ≡ b) → (t ≡ false → a ≡ c) → a ≡ if t then b else c

@@ -9,15 +9,22 @@ use Rattle.rap_events.specs.Composite.{width, is_at}
 use Rattle.rap_events.specs.Forest.{Forest, none, node, leaf, message, split, ◌⧺◌}
 use Rattle.rap_events.specs.Power.{power, power_in, powers}
 use Rattle.rap_grammar.specs.Atom.{unrestricted, expr, atom_expr}
-use Rattle.rap_grammar.specs.Derives.{IsName, Is, IsOneOf, IsLiteral, Category, Expression, Binary, Unary, Postfix, Arguments, Elements, Atom, Path, Segment, Reference, IsNamedField, Derives, EndsExpression, reference, segment, path_one, path_more, atom_literal, atom_path, atom_paren, postfix_atom, postfix_call, postfix_index, postfix_try, postfix_field, postfix_number, postfix_method, arguments_none, arguments_some, element_last, element_comma, element_more, unary_prefix, unary_ref, unary_ref_mut, unary_postfix, binary_unary, binary_tighter, binary_operator, expression_binary, expression_assign}
-use Rattle.rap_grammar.specs.Expressions.{operand_of, right_of, climb, arg_list, postfix_expr, lhs, expr_from}
-use Rattle.rap_grammar.specs.First.{is_operand, is_atom, is_literal_first, one_of}
+use Rattle.rap_grammar.specs.Called.{type_}
+use Rattle.rap_grammar.specs.Derives.{IsName, Is, IsOneOf, IsLiteral, Category, Expression, Binary, Unary, Postfix, Arguments, Elements, Atom, Path, Segment, Reference, IsNamedField, Derives, EndsExpression, reference, segment, path_one, path_more, atom_literal, atom_path, atom_paren, postfix_atom, postfix_call, postfix_index, postfix_try, postfix_field, postfix_number, postfix_method, arguments_none, arguments_some, element_last, element_comma, element_more, unary_prefix, unary_ref, unary_ref_mut, unary_postfix, binary_unary, binary_tighter, binary_operator, expression_binary, expression_assign, Ty, EndsType, type_path, type_ref, type_ref_mut, type_slice}
+use Rattle.rap_grammar.specs.Expressions.{operand_of, right_of, climb, arg_list, postfix_expr, lhs}
+use Rattle.rap_grammar.specs.First.{is_operand, is_atom, is_literal_first, one_of, starts_expr_args}
 use Rattle.rap_grammar.specs.Operator.{operator_at}
 use Rattle.rap_grammar.specs.Paths.{path_segment, path_for_qualifier, path}
 use Rattle.rap_grammar.specs.Words.{reads_as}
 use Rattle.rap_grammar.specs.declared.grammar.expressions.Restrictions.{Restrictions}
-use Rattle.rap_grammar.proofs.Operators.{differ, differ_back, is_calm, Calm, operator_seen, written_first, written_past}
-use Rattle.rap_grammar.proofs.Ways.{Leads, LeadsOut, Single, none-⧺, segment_way, path_end, path_goes_on, path_way, literal_way, path_expr_way, paren_way, expr_way, from_way, climb_end, climb_on, operand_way, prefix_way, ref_way, ref_mut_way, postfix_end, call_way, index_way, try_way, name_field_way, number_field_way, method_way, arguments, arg_list_way, arguments_end, arguments_on, arguments_last}
+use Rattle.rap_grammar.proofs.Operators.{written_lead, differ, differ_back, is_calm, Calm, operator_seen, written_first, written_past, and_false}
+use Rattle.rap_grammar.specs.Types.{type_with_bounds_cond}
+use Rattle.rap_grammar.proofs.TypeWays.{ends_type, type_has_no_arguments, no_bounds_way, with_bounds_way, ref_type_way, ref_mut_type_way, slice_type_way, path_type_way}
+use Rattle.rap_grammar.proofs.Ways.{mode_of, NoArguments, kind_at-drop, Leads, LeadsOut, attributed, Single, none-⧺, segment_way, path_end, path_goes_on, path_way, literal_way, path_expr_way, paren_way, expr_way, from_way, climb_end, climb_on, operand_way, prefix_way, ref_way, ref_mut_way, postfix_end, call_way, index_way, try_way, name_field_way, number_field_way, method_way, arguments, arg_list_way, arguments_end, arguments_on, arguments_last}
+use Rattle.rap_grammar.specs.declared.grammar.paths.Mode.TheVariants as mode
+
+abbrev begins_type : ℕ → Bool
+begins_type k = one_of (IDENT ∷ AMP ∷ L_BRACK ∷ []) k
 
 -- what a category begins with
 abbrev Begins : Category → ℕ → Bool
@@ -31,6 +38,7 @@ Begins Elements k = is_operand k
 Begins Unary k = is_operand k
 Begins (Binary p) k = is_operand k
 Begins Expression k = is_operand k
+Begins Ty k = begins_type k
 
 -- the first token: no `raw`, whatever follows it
 record First (c : Category) (ks : List Record) : Type 0 where
@@ -110,6 +118,21 @@ first (binary_tighter h i d) = let f = first d in alone f f.kind
 first (binary_operator {os = os} {js = js} h i d o e) = let f = first d in also (os ++ js) f f.kind
 first (expression_binary d) = let f = first d in alone f f.kind
 first (expression_assign {os = os} {js = js} d o e) = let f = first d in also (os ++ js) f f.kind
+first (type_path d) = let f = first d in alone f (rw (eqb-true f.r.kind IDENT f.kind) refl)
+first (type_ref {a = a} {ks = ks} o d) = kind_first a ks AMP o refl refl refl
+first (type_ref_mut {a = a} {b = b} {ks = ks} o n d) = kind_first a (b ∷ ks) AMP o refl refl refl
+first (type_slice {a = a} {b = b} {ks = ks} o d c) = kind_first a (ks ++ b ∷ []) L_BRACK o refl refl refl
+
+-- the name that a path begins with
+record Named (ks : List Record) : Type 0 where
+  r : Record
+  rs : List Record
+  is : ks ≡ r ∷ rs
+  name : IsName r
+
+path_named : {ks : List Record} {t : Forest} → Derives Path ks t → Named ks
+path_named (path_one (segment (reference {r = r} n))) = record { r = r; rs = []; is = refl; name = n }
+path_named (path_more {os = os} {js = js} d w e) = let n = path_named d in record { r = n.r; rs = n.rs ++ (os ++ js); is = ap (λ (x : List Record). x ++ (os ++ js)) n.is; name = n.name }
 
 next_is : {c : Category} {ks : List Record} (l : List Record) (f : First c ks) → next_kind (ks ++ l) ≡ f.r.kind
 next_is l f = rw f.is refl
@@ -137,6 +160,7 @@ SingleIn Atom t = Single t
 SingleIn Path t = Single t
 SingleIn Segment t = Single t
 SingleIn Reference t = Single t
+SingleIn Ty t = Single t
 
 -- all but the elements of a list are one node
 single : {c : Category} {ks : List Record} {t : Forest} → Derives c ks t → SingleIn c t
@@ -168,6 +192,10 @@ single (binary_tighter h i d) = single d
 single (binary_operator h i d o e) = is_node _ _
 single (expression_binary d) = single d
 single (expression_assign d o e) = is_node _ _
+single (type_path d) = is_node _ _
+single (type_ref o d) = is_node _ _
+single (type_ref_mut o n d) = is_node _ _
+single (type_slice o d c) = is_node _ _
 
 -- no power is above 12
 abbrev none_above : ℕ → List (ℕ × ℕ) → Bool
@@ -244,24 +272,25 @@ no_cast : (op p : ℕ) → power op ≡ p → p < 12 → op ≢ AS_KW
 no_cast op p e h i = let x : power op ≡ power AS_KW = ap power i in omega arith
 
 -- an operand of an operator before it
-operand_alone : (r : Restrictions) {b : List Forest} {rs l : List Record} {f t : Forest} → is_operand (next_kind rs) ≡ true → Single t → Leads (lhs r) (f ∷ b) rs none l (none ⧺ t) → LeadsOut (expr_from r 255) b rs f l (f ⧺ t)
+operand_alone : (r : Restrictions) {b : List Forest} {rs l : List Record} {f t : Forest} → is_operand (next_kind rs) ≡ true → Single t → Leads (lhs r) (f ∷ b) rs none l (none ⧺ t) → LeadsOut (attributed r 255) b rs f l (f ⧺ t)
 operand_alone r {l = l} o s x = from_way r 255 o s (rw none-⧺ at x) (climb_end r (omega (arith, power-le (operator_at l))))
 
 -- What is shown of each category. Where the grammar goes to the left, any way on from the tree so far is a way on from
 -- the tokens.
 Claim : Category → List Record → Forest → Type 0
-Claim Expression ks t = (r : Restrictions) (b : List Forest) (f : Forest) (l : List Record) → Quiet l → LeadsOut (expr_from r 1) b (ks ++ l) f l (f ⧺ t)
-Claim (Binary p) ks t = (r : Restrictions) (bp : ℕ) (b : List Forest) (f : Forest) (l : List Record) (g : Forest) (m : List Record) → bp ≤ p → Calm l → power (operator_at l) ≤ p → Leads (climb r bp) b l (f ⧺ t) m g → LeadsOut (expr_from r bp) b (ks ++ l) f m g
+Claim Expression ks t = (r : Restrictions) (b : List Forest) (f : Forest) (l : List Record) → Quiet l → LeadsOut (attributed r 1) b (ks ++ l) f l (f ⧺ t)
+Claim (Binary p) ks t = (r : Restrictions) (bp : ℕ) (b : List Forest) (f : Forest) (l : List Record) (g : Forest) (m : List Record) → bp ≤ p → Calm l → power (operator_at l) ≤ p → Leads (climb r bp) b l (f ⧺ t) m g → LeadsOut (attributed r bp) b (ks ++ l) f m g
 Claim Unary ks t = (r : Restrictions) (b : List Forest) (f : Forest) (l : List Record) → Calm l → Leads (lhs r) b (ks ++ l) f l (f ⧺ t)
 Claim Postfix ks t = (r : Restrictions) (b : List Forest) (f : Forest) (l : List Record) (g : Forest) (m : List Record) → (IsNamedField t → next_kind l ≢ L_PAREN) → is_at COLON2 l ≡ false → Leads (postfix_expr true false) b l (f ⧺ t) m g → Leads (lhs r) b (ks ++ l) f m g
 Claim Arguments ks t = (b : List Forest) (f : Forest) (l : List Record) → Leads arg_list b (ks ++ l) f l (f ⧺ t)
 Claim Elements ks t = (b : List Forest) (f : Forest) (c : Record) (l : List Record) → Is c R_PAREN → Leads arguments b (ks ++ c ∷ l) f (c ∷ l) (f ⧺ t)
 Claim Atom ks t = (b : List Forest) (f : Forest) (l : List Record) → is_at COLON2 l ≡ false → Leads atom_expr b (ks ++ l) f l (f ⧺ t)
-Claim Path ks t = (b : List Forest) (f : Forest) (l : List Record) (g : Forest) (m : List Record) → Leads path_for_qualifier b l (f ⧺ t) m g → Leads path b (ks ++ l) f m g
-Claim Segment ks t = (first : Bool) (b : List Forest) (f : Forest) (l : List Record) → Leads (path_segment first) b (ks ++ l) f l (f ⧺ t)
+Claim Path ks t = (ty : Bool) (b : List Forest) (f : Forest) (l : List Record) (g : Forest) (m : List Record) → NoArguments ty l → Leads (path_for_qualifier (mode_of ty)) b l (f ⧺ t) m g → Leads (path (mode_of ty)) b (ks ++ l) f m g
+Claim Segment ks t = (ty first : Bool) (b : List Forest) (f : Forest) (l : List Record) → NoArguments ty l → Leads (path_segment (mode_of ty) first) b (ks ++ l) f l (f ⧺ t)
 Claim Reference ks t = Unit {0}
+Claim Ty ks t = (bounds : Bool) (b : List Forest) (f : Forest) (l : List Record) → EndsType l → Leads (type_with_bounds_cond bounds) b (ks ++ l) f l (f ⧺ t)
 
-⧺-assoc : (f g h : Forest) → (f ⧺ g) ⧺ h ≡ f ⧺ (g ⧺ h)
+pub ⧺-assoc : (f g h : Forest) → (f ⧺ g) ⧺ h ≡ f ⧺ (g ⧺ h)
 ⧺-assoc f g none = refl
 ⧺-assoc f g (node b k c) = ap (λ (x : Forest). node x k c) (⧺-assoc f g b)
 ⧺-assoc f g (leaf b k w) = ap (λ (x : Forest). leaf x k w) (⧺-assoc f g b)
@@ -274,17 +303,25 @@ three_lists ks os js l = simp append_assoc
 in_brackets : (ks js l : List Record) (a b : Record) → (ks ++ a ∷ (js ++ b ∷ [])) ++ l ≡ ks ++ a ∷ (js ++ b ∷ l)
 in_brackets ks js l a b = simp append_assoc
 
+-- behind a `::` a name is no argument
+colons_alone : (ty : Bool) {os : List Record} (rest : List Record) → Writes os COLON2 → next_kind rest ≡ IDENT → NoArguments ty (os ++ rest)
+colons_alone true {os = os} rest w k =
+    let n : kind_at (os ++ rest) 2 ≡ IDENT = kind_at-drop (os ++ rest) 2 ∙ ap next_kind (written_past rest w) ∙ k in
+    (rw n (and_false (is_at COLON2 (os ++ rest))), rw (written_lead rest w) refl)
+colons_alone false {os = os} rest w k = rw (written_past rest w, k) (and_false (is_at COLON2 (os ++ rest)))
+
 claim : {c : Category} {ks : List Record} {t : Forest} → Derives c ks t → Claim c ks t
 unfolding Claim
 claim (reference n) = tt
-claim (segment (reference n)) = λ first b f l. segment_way first n.kind
-claim (path_one d) = λ b f l g m y. path_way (rw none-⧺ at (claim d true (f ∷ b) none l)) y
-claim (path_more {ks = ks} {os = os} {js = js} {t = t} d w e) = λ b f l g m y.
-    rw (three_lists ks os js l) (claim d b f (os ++ (js ++ l)) g m (path_goes_on (single d) (written_first (js ++ l) w) (written_past (js ++ l) w) (claim e false (f ∷ b) (leaf t COLON2 2) l) y))
+claim (segment (reference n)) = λ ty first b f l a. segment_way ty first n.kind a
+claim (path_one d) = λ ty b f l g m a y. path_way (mode_of ty) (rw none-⧺ at (claim d ty true (f ∷ b) none l a)) y
+claim (path_more {ks = ks} {os = os} {js = js} {t = t} d w e) = λ ty b f l g m a y.
+    let k : next_kind (js ++ l) ≡ IDENT = eqb-true (next_kind (js ++ l)) IDENT (next_begins l (first e)) in
+    rw (three_lists ks os js l) (claim d ty b f (os ++ (js ++ l)) g m (colons_alone ty (js ++ l) w k) (path_goes_on ty (single d) (written_first (js ++ l) w) (written_past (js ++ l) w) (claim e ty false (f ∷ b) (leaf t COLON2 2) l a) y))
 claim (atom_literal {r = r} h) = λ b f l c. let k = literal_kind r h in literal_way (not_end is_literal_first r.kind k refl) k
 claim (atom_path {ks = ks} {t = t} d) = λ b f l c.
     let e : next_kind (ks ++ l) ≡ IDENT = eqb-true (next_kind (ks ++ l)) IDENT (next_begins l (first d)) in
-    path_expr_way e (rw none-⧺ at (claim d (f ∷ b) none l (none ⧺ t) l (path_end c)))
+    path_expr_way e (rw none-⧺ at (claim d false (f ∷ b) none l (none ⧺ t) l (rw c refl) (path_end false c)))
 claim (atom_paren {b = c} o d e) = λ b f l n.
     rw append_assoc (paren_way o.kind_is (next_begins (c ∷ l) (first d)) (expr_way (claim d unrestricted (f ∷ b) (leaf none L_PAREN 1) (c ∷ l) (quiet_is c l R_PAREN e refl))) e.kind_is)
 claim (postfix_atom d) = λ r b f l g m h c y. operand_way r (next_begins l (first d)) (claim d b f l c) y
@@ -333,7 +370,7 @@ claim (binary_operator {p = p} {op = op} {ks = ks} {os = os} {js = js} {t = t} {
     let n = first e in
     let q = operator_seen (js ++ l) (next_same l n) (next_begins l n) (omega arith) (λ z. omega arith) (omega arith) o in
     let i = q.power_is in
-    let x : LeadsOut (expr_from (operand_of r) (right_of op)) (f ∷ b) (js ++ l) (leaf t op (width op)) l (leaf t op (width op) ⧺ u) =
+    let x : LeadsOut (attributed (operand_of r) (right_of op)) (f ∷ b) (js ++ l) (leaf t op (width op)) l (leaf t op (width op) ⧺ u) =
     rw (right_tighter op p i (λ z. omega arith)) (claim e (operand_of r) (suc p) (f ∷ b) (leaf t op (width op)) l (leaf t op (width op) ⧺ u) l (omega arith) c (omega arith) (climb_end (operand_of r) (omega arith))) in
     rw (three_lists ks os js l) (claim d r bp b f (os ++ (js ++ l)) g m h q.calm (omega (arith, ap power q.is))
     (climb_on r (single d) q.is (omega arith) (λ z. omega arith) (no_cast op p i (omega arith)) q.first q.past x y))
@@ -342,12 +379,24 @@ claim (expression_assign {op = op} {ks = ks} {os = os} {js = js} {t = t} {u = u}
     let n = first e in
     let q = operator_seen (js ++ l) (next_same l n) (next_begins l n) (omega arith) (λ z. omega arith) (omega arith) o in
     let i = q.power_is in
-    let x : LeadsOut (expr_from (operand_of r) (right_of op)) (f ∷ b) (js ++ l) (leaf t op (width op)) l (leaf t op (width op) ⧺ u) = rw i (claim e (operand_of r) (f ∷ b) (leaf t op (width op)) l c) in
+    let x : LeadsOut (attributed (operand_of r) (right_of op)) (f ∷ b) (js ++ l) (leaf t op (width op)) l (leaf t op (width op) ⧺ u) = rw i (claim e (operand_of r) (f ∷ b) (leaf t op (width op)) l c) in
     rw (three_lists ks os js l) (claim d r 1 b f (os ++ (js ++ l)) (f ⧺ node none BIN_EXPR (leaf t op (width op) ⧺ u)) l (omega arith) q.calm (omega (arith, ap power q.is))
     (climb_on r (single d) q.is (omega arith) (λ z. omega arith) (no_cast op 1 i (omega arith)) q.first q.past x (climb_end r c.power_is)))
 
+claim (type_path {t = t} d) = λ bounds b f l e.
+    let n = path_named d in
+    let colons : is_at COLON2 l ≡ false = no_colon l (differ ends_type (next_kind l) COLON e.next refl) in
+    let x = rw none-⧺ at (claim d true (none ∷ f ∷ b) none l (none ⧺ t) l (type_has_no_arguments l colons e) (path_end true colons)) in
+    rw n.is (path_type_way bounds n.name (rw n.is at x) e)
+claim (type_ref {ks = ks} o d) = λ bounds b f l e.
+    let k = next_begins l (first d) in
+    ref_type_way bounds o.kind_is (differ begins_type (next_kind (ks ++ l)) LIFETIME_IDENT k refl) (differ begins_type (next_kind (ks ++ l)) MUT_KW k refl) (no_bounds_way (claim d false (f ∷ b) (leaf none AMP 1) l e))
+claim (type_ref_mut {b = z} o n d) = λ bounds b f l e. ref_mut_type_way bounds o.kind_is n.kind_is (no_bounds_way (claim d false (f ∷ b) (leaf (leaf none AMP 1) MUT_KW 1) l e))
+claim (type_slice {b = z} o d i) = λ bounds b f l e.
+    rw append_assoc (slice_type_way bounds o.kind_is (with_bounds_way (claim d true (f ∷ b) (leaf none L_BRACK 1) (z ∷ l) (record { next = rw i.kind_is refl }))) i.kind_is)
+
 -- an expression from the newest open node on, before what goes on with none
-pub expression_from : (r : Restrictions) {ks : List Record} {t : Forest} → Derives Expression ks t → (b : List Forest) (f : Forest) (l : List Record) → Quiet l → LeadsOut (expr_from r 1) b (ks ++ l) f l (f ⧺ t)
+pub expression_from : (r : Restrictions) {ks : List Record} {t : Forest} → Derives Expression ks t → (b : List Forest) (f : Forest) (l : List Record) → Quiet l → LeadsOut (attributed r 1) b (ks ++ l) f l (f ⧺ t)
 unfolding Claim
 expression_from r d b f l q = claim d r b f l q
 
@@ -356,8 +405,8 @@ pub expression_before : {ks : List Record} {t : Forest} → Derives Expression k
 expression_before d b f l q = expr_way (expression_from unrestricted d b f l q)
 
 -- an expression before what can follow one that is read alone
-pub expression_front : {ks : List Record} {t : Forest} → Derives Expression ks t → (b : List Forest) (f : Forest) (l : List Record) → EndsExpression l → Leads expr b (ks ++ l) f l (f ⧺ t)
-expression_front d b f l e = let n = e.next in expression_before d b f l (quiet l (search rules))
+pub expression_at_beginning : {ks : List Record} {t : Forest} → Derives Expression ks t → (b : List Forest) (f : Forest) (l : List Record) → EndsExpression l → Leads expr b (ks ++ l) f l (f ⧺ t)
+expression_at_beginning d b f l e = let n = e.next in expression_before d b f l (quiet l (search rules))
 
 -- an expression that is all there is
 pub expression_whole : {ks : List Record} {t : Forest} → Derives Expression ks t → (b : List Forest) → Leads expr b ks none [] t
@@ -366,3 +415,12 @@ expression_whole d b = rw (append-nil, none-⧺) at (expression_before d b none 
 -- an expression is one node
 pub expression_single : {ks : List Record} {t : Forest} → Derives Expression ks t → Single t
 expression_single d = single d
+
+-- a type that is all there is
+pub type_whole : {ks : List Record} {t : Forest} → Derives Ty ks t → (b : List Forest) → Leads type_ b ks none [] t
+unfolding Claim
+type_whole d b = with_bounds_way (rw (append-nil, none-⧺) at (claim d true b none [] (record { next = refl })))
+
+-- a type is one node
+pub type_single : {ks : List Record} {t : Forest} → Derives Ty ks t → Single t
+type_single d = single d

@@ -1,7 +1,8 @@
 -- What has grown on the way through a rule.
-use Rattle.std.proofs.Common.{◌≡◌, ℕ, Bool, Option, Some, None, IfSome, refl, sym, ◌∙◌, arith}
+use Rattle.std.proofs.Common.{◌≡◌, ℕ, Bool, Option, Some, None, IfSome, refl, sym, ap, ◌∙◌, arith}
 use Rattle.rap_base.specs.NodeKind.{PATH_SEGMENT}
-use Rattle.rap_events.specs.Machine.{push, top}
+use Rattle.rap_events.specs.Forest.{Forest}
+use Rattle.rap_events.specs.Machine.{Stack, push, top}
 use Rattle.rap_events.specs.State.{State, Opened, Ate, but_last}
 use Rattle.rap_events.specs.declared.parser.CompletedMarker.{CompletedMarker}
 use Rattle.rap_grammar.specs.Grew.{Took, Spent, Closes, Dropped}
@@ -30,3 +31,15 @@ segment_took None {s0 = s0} {s2 = s2} {t = t} p a h n l =
       marker = cc;
       below = cc;
     }
+
+-- a marker that became a node is gone
+pub gone : {s b : Stack} {m : Option ℕ} {f : Forest} → s ≡ push b m f → s ≡ push b m (top s)
+unfolding top
+gone {b = b} {m = m} e = e ∙ ap (push b m) (sym (ap top e))
+
+-- the same where that node became a part of another one
+pub gone_after : {s b c : Stack} {m n : Option ℕ} {f g h : Forest} → s ≡ push b m f → push b m g ≡ push c n h → s ≡ push c n (top s)
+gone_after {b = b} {c = c} {m = m} {n = n} e i =
+    let x : b ≡ c = cc in
+    let y : m ≡ n = cc in
+    rw (← x, ← y) (gone e)

@@ -1,12 +1,17 @@
+pub mod Balance
 pub mod Binary
 pub mod Complete
 pub mod Example
 pub mod Growth
+pub mod Lookahead
 pub mod OneTree
 pub mod Operating
 pub mod Operators
 pub mod Outputs
+pub mod Patterning
 pub mod Steps
+pub mod TokenTrees
 pub mod TopTree
+pub mod TypeWays
 pub mod Unique
 pub mod Ways

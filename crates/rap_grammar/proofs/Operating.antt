@@ -8,7 +8,7 @@ use Rattle.rap_events.specs.Power.{power}
 use Rattle.rap_events.specs.Record.{Record, next_kind}
 use Rattle.rap_events.specs.State.{State}
 use Rattle.rap_grammar.specs.Atom.{atom_expr}
-use Rattle.rap_grammar.specs.Expressions.{operation, range_expr, bin_expr, climb, lhs, postfix_expr, of_like, is_block}
+use Rattle.rap_grammar.specs.Expressions.{operation, cast_expr, range_expr, bin_expr, climb, lhs, postfix_expr, of_like, is_block}
 use Rattle.rap_grammar.specs.Knot.{Follows}
 use Rattle.rap_grammar.specs.Script.{Outcome, nothing, something, block, again, goes_on, Spot, spot, give, extend, abandon, after, gives}
 use Rattle.rap_grammar.specs.Words.{done, if_some, of_bool}
@@ -28,11 +28,11 @@ pub stops_low : (r : Restrictions) (bp op : ℕ) {n : ℕ} {p : Spot} → n ≡ 
 stops_low r bp op e h = let lo : nat_lt (power op) bp ≡ true = below _ _ (rw e at h) in rw lo gives
 
 -- a cast
-pub stops_as : (r : Restrictions) (bp op : ℕ) {n : ℕ} {p : Spot} → n ≡ power op → bp ≤ n → op ≡ AS_KW → On (operation r bp op) p p something
-stops_as r bp op e h a =
+pub goes_as : (r : Restrictions) (bp op : ℕ) {n : ℕ} {s t : State} → n ≡ power op → bp ≤ n → op ≡ AS_KW → Follows cast_expr something s t → On (operation r bp op) (spot s) (spot t) (again false false)
+goes_as r bp op e h a f =
     let lo : nat_lt (power op) bp ≡ false = not_below _ _ (rw e at h) in
     let cast : (op == AS_KW) ≡ true = rw a refl in
-    rw (lo, cast) gives
+    rw (lo, cast) (by_rule f gives)
 
 -- a range without an end
 pub stops_range : (r : Restrictions) (bp op : ℕ) {n : ℕ} {s t : State} {b : Bool} → n ≡ power op → bp ≤ n → op ≢ AS_KW → n ≡ 2 → Follows (range_expr r op) (of_bool b) s t → b ≡ false → On (operation r bp op) (spot s) (spot t) something

@@ -9,7 +9,7 @@ use Rattle.rap_grammar.specs.First.{is_operand, one_of}
 use Rattle.rap_grammar.specs.Operator.{operator_at}
 use Rattle.rap_grammar.specs.Derives.{Touching, tokens_of, Writes, IsOperator}
 
--- two kinds that a test tells apart
+-- two kinds that a test distinguishes
 pub differ : (test : ℕ → Bool) (a b : ℕ) → test a ≡ true → test b ≡ false → (a == b) ≡ false
 differ test a b h k = ne_eqb a b (λ e. let x : true ≡ false = sym h ∙ ap test e ∙ k in cc)
 
@@ -70,7 +70,7 @@ three k j i (r ∷ os) h =
     record { r = r; s = t.r; t = t.s; is = ap (λ (x : List Record). r ∷ x) t.is; kind = h.0; joint = h.1; second = t.kind; second_joint = t.joint; third = t.second }
 
 -- the first of the kinds that an operator is written with
-abbrev lead : List ℕ → ℕ
+abbrev pub lead : List ℕ → ℕ
 lead [] = EOF
 lead (k ∷ ks) = k
 
@@ -315,6 +315,10 @@ written_first {kind = kind} {os = os} rest w = first_of_parts (parts kind) kind 
 
 pub written_past : {kind : ℕ} {os : List Record} (rest : List Record) → Writes os kind → drop (width kind) (os ++ rest) ≡ rest
 written_past {kind = kind} {os = os} rest w = past_parts (parts kind) kind os rest w.touching
+
+-- the first token of a kind, first of what comes next
+pub written_lead : {kind : ℕ} {os : List Record} (rest : List Record) → Writes os kind → next_kind (os ++ rest) ≡ lead (tokens_of (parts kind) kind)
+written_lead {kind = kind} {os = os} rest w = lead_is (tokens_of (parts kind) kind) os rest w.touching
 
 -- an operator where its tokens stand
 pub record OperatorAt (os : List Record) (op p : ℕ) (rest : List Record) : Type 0 where

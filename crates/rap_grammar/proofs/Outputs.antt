@@ -1,16 +1,18 @@
--- What a parse of a whole input, or of its front, makes of what is derived; and that equal inputs give equal outputs.
+-- What a parse of a whole input, or of its beginning, makes of what is derived; and that equal inputs give equal
+-- outputs.
 use Rattle.std.proofs.Common.{◌≡◌, List, [], ◌∷◌, ◌++◌, true, refl, ap, sym, ◌∙◌}
 use Rattle.rap_events.specs.Record.{Record}
 use Rattle.rap_events.specs.Forest.{Forest, none, ◌⧺◌, message_count, one_tree}
 use Rattle.rap_events.specs.State.{State}
 use Rattle.rap_grammar.specs.Atom.{expr}
-use Rattle.rap_grammar.specs.Derives.{Derives, Expression, EndsExpression}
+use Rattle.rap_grammar.specs.Called.{type_}
+use Rattle.rap_grammar.specs.Derives.{Derives, Expression, Ty, EndsExpression}
 use Rattle.rap_grammar.specs.Knot.{script_of, Follows}
 use Rattle.rap_grammar.specs.Phrase.{Phrase}
 use Rattle.rap_grammar.specs.Script.{Script, forests, Spot, Outcome, something, Runs}
 use Rattle.rap_grammar.specs.Top.{IsTopOf, top_tree}
-use Rattle.rap_grammar.proofs.Complete.{expression_whole, expression_front}
-use Rattle.rap_grammar.proofs.Unique.{Same, one_end, unmarked, one_expression}
+use Rattle.rap_grammar.proofs.Complete.{expression_whole, type_whole, expression_at_beginning}
+use Rattle.rap_grammar.proofs.Unique.{Same, one_end, unmarked, one_expression, one_type}
 
 -- one tree is kept as it is
 top_tree-whole : (t : Forest) → one_tree t ≡ true → top_tree t [] ≡ t
@@ -26,20 +28,29 @@ derived {t = t} i d =
 pub derived_clean : {input : List Record} {t output : Forest} → IsTopOf expr input output → Derives Expression input t → message_count output ≡ 0
 derived_clean i d = ap message_count (derived i d) ∙ unmarked d
 
+-- the same of a type
+pub derived_type : {input : List Record} {t output : Forest} → IsTopOf type_ input output → Derives Ty input t → output ≡ t
+derived_type {t = t} i d =
+    let e = one_end i.run (type_whole d (none ∷ [])) in
+    i.tree ∙ rw (ap (λ (p : Spot). p.forest) e.spot, ap (λ (p : Spot). p.rest) e.spot) (top_tree-whole t (one_type d))
+
+pub derived_type_clean : {input : List Record} {t output : Forest} → IsTopOf type_ input output → Derives Ty input t → message_count output ≡ 0
+derived_type_clean i d = ap message_count (derived_type i d) ∙ unmarked d
+
 -- the same input gives the same output
 pub one_output : {s : Script Phrase} {input : List Record} {a b : Forest} → IsTopOf s input a → IsTopOf s input b → a ≡ b
 one_output i j =
     let e = one_end i.run j.run in
     i.tree ∙ rw (ap (λ (p : Spot). p.forest) e.spot, ap (λ (p : Spot). p.rest) e.spot) (sym j.tree)
 
--- a front that is derived, before what can follow an expression, is read to its end and becomes its tree
-pub front_derived : {ks : List Record} {t : Forest} {q : Spot} {v : Outcome} (b : List Forest) (f : Forest) (l : List Record) → Derives Expression ks t → EndsExpression l →
+-- a beginning that is derived, before what can follow an expression, is read to its end and becomes its tree
+pub beginning_derived : {ks : List Record} {t : Forest} {q : Spot} {v : Outcome} (b : List Forest) (f : Forest) (l : List Record) → Derives Expression ks t → EndsExpression l →
     Runs script_of expr (record { rest = ks ++ l; forest = f; below = b }) q v → Same q (record { rest = l; forest = f ⧺ t; below = b }) v something
-front_derived b f l d e x = one_end x (expression_front d b f l e)
+beginning_derived b f l d e x = one_end x (expression_at_beginning d b f l e)
 
 -- the same for a parser that followed the script
-pub front_read : {ks : List Record} {t : Forest} {s u : State} {v : Outcome} (l : List Record) → Derives Expression ks t → EndsExpression l → s.rest ≡ ks ++ l → Follows expr v s u →
+pub beginning_read : {ks : List Record} {t : Forest} {s u : State} {v : Outcome} (l : List Record) → Derives Expression ks t → EndsExpression l → s.rest ≡ ks ++ l → Follows expr v s u →
     (u.forest ≡ s.forest ⧺ t) × (u.rest ≡ l) × (v ≡ something)
-front_read {s = s} l d e n h =
-    let e = front_derived (forests s.below) s.forest l d e (rw n at h.run) in
+beginning_read {s = s} l d e n h =
+    let e = beginning_derived (forests s.below) s.forest l d e (rw n at h.run) in
     (ap (λ (p : Spot). p.forest) e.spot, ap (λ (p : Spot). p.rest) e.spot, e.outcome)

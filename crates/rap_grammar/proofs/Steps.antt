@@ -1,6 +1,6 @@
 -- What each call of the parser does of a script.
-use Rattle.std.proofs.Common.{◌≡◌, ◌≢◌, ℕ, List, Bool, true, false, ◌&&◌, ◌||◌, Option, Some, None, drop, refl, sym, ap, subst, ◌∙◌}
-use Rattle.rap_base.specs.TokenKind.{EOF, COLON2}
+use Rattle.std.proofs.Common.{◌≡◌, ◌≢◌, ℕ, List, Bool, true, false, ◌&&◌, ◌||◌, Option, Some, None, drop, ◌==◌, refl, sym, ap, subst, ◌∙◌}
+use Rattle.rap_base.specs.TokenKind.{EOF, COLON2, L_ANGLE}
 use Rattle.rap_base.specs.TokenSet.{member}
 use Rattle.rap_base.specs.declared.token_set.TokenSet.{TokenSet}
 use Rattle.rap_events.specs.Record.{Record}
@@ -8,7 +8,7 @@ use Rattle.rap_events.specs.Composite.{is_at, width}
 use Rattle.rap_events.specs.Cover.{first_may_bear}
 use Rattle.rap_events.specs.Forest.{Forest, none, node, ◌⧺◌}
 use Rattle.rap_events.specs.Machine.{Stack}
-use Rattle.rap_events.specs.State.{State, next, Opened, IsLast, Completed, Abandoned, Preceded, Extended, Bumped, Told, Ate, Expected, Skipped, Recovered, but_last, last_children, expected}
+use Rattle.rap_events.specs.State.{State, next, Opened, IsLast, Completed, Abandoned, Preceded, Extended, Bumped, Reported, Ate, AteAs, Expected, Skipped, Recovered, but_last, last_children, expected}
 use Rattle.rap_events.specs.declared.parser.CompletedMarker.{CompletedMarker}
 use Rattle.rap_grammar.specs.First.{is_path_name, starts_path}
 use Rattle.rap_grammar.specs.Knot.{script_of, Follows}
@@ -18,7 +18,7 @@ use Rattle.rap_grammar.specs.declared.grammar.BlockLike.{BlockLike}
 use Rattle.rap_grammar.specs.declared.grammar.BlockLike.TheVariants as like
 use Rattle.rap_grammar.specs.declared.grammar.expressions.Restrictions.{Restrictions}
 use Rattle.rap_grammar.specs.Script.{Script, Outcome, nothing, something, again, goes_on, Spot, spot, forests, taken, last_tree, last_kind, newest, give, test, token, any, bear, report, skip, start, precede, finish, extend, abandon, after, rule, loop, Runs, gives, passes, fails, takes, takes_any, bears, reports, skips, starts, precedes, finishes, extends, abandons, follows, obeys, turns, stops}
-use Rattle.rap_grammar.specs.Words.{done, if_some, eat, expect, recover, of_option, of_bool}
+use Rattle.rap_grammar.specs.Words.{done, if_some, reads_as, eat, eat_as, expect, recover, of_option, of_bool}
 
 -- from a spot by a script of the grammar
 abbrev pub On : Script Phrase → Spot → Spot → Outcome → Type 0
@@ -43,7 +43,7 @@ by_any e b d = takes_any e (from_there (bumped b) d)
 pub by_bear : {s t : State} {k : ℕ} {n : Script Phrase} {q : Spot} {v : Outcome} → first_may_bear s.rest k ≡ true → Bumped s t k 1 → On n (spot t) q v → On (bear k n) (spot s) q v
 by_bear e b d = bears e (from_there (bumped b) d)
 
-pub by_report : {s t : State} {bytes : List ℕ} {n : Script Phrase} {q : Spot} {v : Outcome} → Told s t bytes → On n (spot t) q v → On (report bytes n) (spot s) q v
+pub by_report : {s t : State} {bytes : List ℕ} {n : Script Phrase} {q : Spot} {v : Outcome} → Reported s t bytes → On n (spot t) q v → On (report bytes n) (spot s) q v
 by_report b d = reports (from_there (same_spot (sym b.rest) (sym b.forest) (ap forests (sym b.below))) d)
 
 pub by_skip : {s t : State} {bytes : List ℕ} {n : Script Phrase} {q : Spot} {v : Outcome} → Skipped s t bytes → On n (spot t) q v → On (skip bytes n) (spot s) q v
@@ -104,7 +104,7 @@ last_turn {q = q} {v = v} k d e = k.on q v (stops d e)
 
 -- where a message keeps the next token out of an `ERROR`
 pub by_recover : {s t : State} {bytes : List ℕ} {set : TokenSet} {kept : Bool} (first : ℕ → Bool) {n m : Script Phrase} {q : Spot} {v : Outcome} → ((k : ℕ) → member set k ≡ first k) → Recovered s t bytes set kept → (kept ≡ true → On n (spot t) q v) → (kept ≡ false → On m (spot t) q v) → On (recover bytes first n m) (spot s) q v
-by_recover {s = s} {kept = true} first e r d f = passes (rw (← (e (next s))) (sym r.decided)) (by_report (r.told refl) (d refl))
+by_recover {s = s} {kept = true} first e r d f = passes (rw (← (e (next s))) (sym r.decided)) (by_report (r.reported refl) (d refl))
 by_recover {s = s} {kept = false} first e r d f = fails (rw (← (e (next s))) (sym r.decided)) (by_skip (r.skipped refl) (f refl))
 
 -- a rule at the end
@@ -118,13 +118,13 @@ then_by e f d = passes (sym e ∙ f) d
 pub else_by : {h : List Record → Bool} {a b : Script Phrase} {p q : Spot} {v : Outcome} {t : Bool} → t ≡ h p.rest → t ≡ false → On b p q v → On (test h a b) p q v
 else_by e f d = fails (sym e ∙ f) d
 
--- what a rule told, by what is known of its answer
-pub nothing_told : {A : Type 0} {c : Script Phrase} {s t : State} {o : Option A} → o ≡ None → Follows c (of_option o) s t → Follows c nothing s t
-nothing_told {c = c} {s = s} {t = t} e h = subst (λ (x : Option _). Follows c (of_option x) s t) e h
+-- what a rule answers, by what is known of its result
+pub answers_nothing : {A : Type 0} {c : Script Phrase} {s t : State} {o : Option A} → o ≡ None → Follows c (of_option o) s t → Follows c nothing s t
+answers_nothing {c = c} {s = s} {t = t} e h = subst (λ (x : Option _). Follows c (of_option x) s t) e h
 
-pub something_told : {A : Type 0} {c : Script Phrase} {s t : State} {o : Option A} → (o ≡ None → ⊥) → Follows c (of_option o) s t → Follows c something s t
-something_told {o = None} e h = absurd (e refl)
-something_told {o = Some x} e h = h
+pub answers_something : {A : Type 0} {c : Script Phrase} {s t : State} {o : Option A} → (o ≡ None → ⊥) → Follows c (of_option o) s t → Follows c something s t
+answers_something {o = None} e h = absurd (e refl)
+answers_something {o = Some x} e h = h
 
 -- a token of a kind came next and was taken, or none did
 pub ate : {s t : State} {k : ℕ} {b : Bool} {n m : Script Phrase} {q : Spot} {v : Outcome} → Ate s t k b → b ≡ true → On n (spot t) q v → On (test (is_at k) (token k n) m) (spot s) q v
@@ -166,14 +166,14 @@ not_both {a = false} h = refl
 pub at_same : {s : Script Phrase} {t u : State} {q : Spot} {v : Outcome} → u ≡ t → On s (spot t) q v → On s (spot u) q v
 at_same e d = from_there (ap spot e) d
 
--- what a rule told, by its truth value
-pub told_no : {c : Script Phrase} {s t : State} {b : Bool} → b ≡ false → Follows c (of_bool b) s t → Follows c nothing s t
-told_no {b = true} e h = absurd cc
-told_no {b = false} e h = h
+-- what a rule answers, by its truth value
+pub answers_no : {c : Script Phrase} {s t : State} {b : Bool} → b ≡ false → Follows c (of_bool b) s t → Follows c nothing s t
+answers_no {b = true} e h = absurd cc
+answers_no {b = false} e h = h
 
-pub told_yes : {c : Script Phrase} {s t : State} {b : Bool} → b ≡ true → Follows c (of_bool b) s t → Follows c something s t
-told_yes {b = true} e h = h
-told_yes {b = false} e h = absurd cc
+pub answers_yes : {c : Script Phrase} {s t : State} {b : Bool} → b ≡ true → Follows c (of_bool b) s t → Follows c something s t
+answers_yes {b = true} e h = h
+answers_yes {b = false} e h = absurd cc
 
 pub taken_expected : {s t : State} {k : ℕ} {b : Bool} {n m : Script Phrase} {q : Spot} {v : Outcome} → Expected s t k b → b ≡ true → On n (spot t) q v → On (test (is_at k) (token k n) m) (spot s) q v
 taken_expected a e d = passes (sym a.decided ∙ e) (by_bump (sym a.decided ∙ e) (a.token e) d)
@@ -195,9 +195,33 @@ first_of : {a b : Bool} → b ≡ false → a || b ≡ true → a ≡ true
 first_of {a = true} e h = refl
 first_of {a = false} e h = absurd (clash h e)
 
--- where a path begins and no `::` was taken, a name comes next
-pub name_left : {s t : State} {b : Bool} → Ate s t COLON2 b → b ≡ false → starts_path s.rest ≡ true → is_path_name (next t) ≡ true
-name_left {s = s} {t = t} a e h =
+-- where a path begins with no `<` and no `::` was taken, a name comes next
+pub name_left : {s t : State} {b : Bool} → Ate s t COLON2 b → b ≡ false → (next s == L_ANGLE) ≡ false → starts_path s.rest ≡ true → is_path_name (next t) ≡ true
+name_left {s = s} {t = t} a e l h =
     let n : is_at COLON2 s.rest ≡ false = sym a.decided ∙ e in
-    let p : is_path_name (next s) ≡ true = first_of n h in
+    let p : is_path_name (next s) ≡ true = first_of n (first_of l h) in
     subst (λ (x : State). is_path_name (next x) ≡ true) (sym (a.not_token e)) p
+
+-- a test whose answer is a rule's outcome
+pub decided : {h : List Record → Bool} {a b : Script Phrase} {p q : Spot} {v : Outcome} (t : Bool) → t ≡ h p.rest → (t ≡ true → On a p q v) → (t ≡ false → On b p q v) → On (test h a b) p q v
+decided true e y n = passes (sym e) (y refl)
+decided false e y n = fails (sym e) (n refl)
+
+-- a token of a kind, and on by one way, or by the other without it
+pub by_eat_or : {s t : State} {k : ℕ} {b : Bool} {n m : Script Phrase} {q : Spot} {v : Outcome} → Ate s t k b → (b ≡ true → On n (spot t) q v) → (b ≡ false → On m (spot t) q v) → On (test (is_at k) (token k n) m) (spot s) q v
+by_eat_or {b = true} a d e = ate a refl (d refl)
+by_eat_or {b = false} a d e = not_ate a refl (e refl)
+
+pub not_left : {a : Bool} (b : Bool) → a ≡ false → a && b ≡ false
+not_left b e = rw e refl
+
+-- an identifier that is read as a keyword, if one comes next
+pub ate_as : {s t : State} {k : ℕ} {b : Bool} {n m : Script Phrase} {q : Spot} {v : Outcome} → AteAs s t k b → b ≡ true → On n (spot t) q v → On (test (reads_as k) (bear k n) m) (spot s) q v
+ate_as a e d = passes (both (a.bears e) (sym a.decided ∙ e)) (by_bear (a.bears e) (a.token e) d)
+
+pub not_ate_as : {s t : State} {k : ℕ} {b : Bool} {n m : Script Phrase} {q : Spot} {v : Outcome} → AteAs s t k b → b ≡ false → On m (spot t) q v → On (test (reads_as k) (bear k n) m) (spot s) q v
+not_ate_as a e d = fails (not_both (λ _. sym a.decided ∙ e)) (from_there (ap spot (sym (a.not_token e))) d)
+
+pub by_eat_as : {s t : State} {k : ℕ} {b : Bool} {n : Script Phrase} {q : Spot} {v : Outcome} → AteAs s t k b → On n (spot t) q v → On (eat_as k n) (spot s) q v
+by_eat_as {b = true} e d = ate_as e refl d
+by_eat_as {b = false} e d = not_ate_as e refl d

@@ -4,9 +4,9 @@ use Rattle.rap_base.specs.TokenKind.{AMP, COLON2, COMMA, DOT, L_PAREN, L_BRACK, 
 use Rattle.rap_events.specs.Record.{Record}
 use Rattle.rap_events.specs.Composite.{parts, width, width_of}
 use Rattle.rap_events.specs.Forest.{Forest, none, node, leaf, message, split, ◌⧺◌, message_count, used, ends_in_dot, one_tree}
-use Rattle.rap_grammar.specs.Derives.{Touching, tokens_of, Writes, Derives, Category, Expression, reference, segment, path_one, path_more, atom_literal, atom_path, atom_paren, postfix_atom, postfix_call, postfix_index, postfix_try, postfix_field, postfix_number, postfix_method, arguments_none, arguments_some, element_last, element_comma, element_more, unary_prefix, unary_ref, unary_ref_mut, unary_postfix, binary_unary, binary_tighter, binary_operator, expression_binary, expression_assign}
+use Rattle.rap_grammar.specs.Derives.{Touching, tokens_of, Writes, Derives, Category, Expression, reference, segment, path_one, path_more, atom_literal, atom_path, atom_paren, postfix_atom, postfix_call, postfix_index, postfix_try, postfix_field, postfix_number, postfix_method, arguments_none, arguments_some, element_last, element_comma, element_more, unary_prefix, unary_ref, unary_ref_mut, unary_postfix, binary_unary, binary_tighter, binary_operator, expression_binary, expression_assign, Ty, type_path, type_ref, type_ref_mut, type_slice}
 use Rattle.rap_grammar.specs.Script.{Script, Spot, Outcome, nothing, something, block, again, goes_on, Runs, gives, looks, passes, fails, takes, takes_any, bears, reports, skips, starts, precedes, finishes, extends, abandons, follows, obeys, turns, stops}
-use Rattle.rap_grammar.proofs.Complete.{expression_whole, expression_single}
+use Rattle.rap_grammar.proofs.Complete.{expression_whole, expression_single, type_whole, type_single}
 use Rattle.rap_grammar.proofs.Ways.{Single}
 
 -- the same end
@@ -106,6 +106,10 @@ no_foreign (binary_tighter h i d) = no_foreign d
 no_foreign (binary_operator {op = op} {t = t} {u = u} h i d o e) = over (joined (leaf t op (width op)) u (no_foreign d) (no_foreign e))
 no_foreign (expression_binary d) = no_foreign d
 no_foreign (expression_assign {op = op} {t = t} {u = u} d o e) = over (joined (leaf t op (width op)) u (no_foreign d) (no_foreign e))
+no_foreign (type_path d) = over (no_foreign d)
+no_foreign (type_ref {t = t} o d) = over (joined (leaf none AMP 1) t refl (no_foreign d))
+no_foreign (type_ref_mut {t = t} o m d) = over (joined (leaf (leaf none AMP 1) MUT_KW 1) t refl (no_foreign d))
+no_foreign (type_slice {t = t} o d c) = over (joined (leaf none L_BRACK 1) t refl (no_foreign d))
 
 messages_among : (f : Forest) → message_count f ≤ foreign f
 messages_among none = omega arith
@@ -132,9 +136,15 @@ single_whole t s h = rw s.is (rw (no_dot s.children (let i : foreign (node none 
 pub one_expression : {ks : List Record} {t : Forest} → Derives Expression ks t → one_tree t ≡ true
 one_expression {t = t} d = single_whole t (expression_single d) (no_foreign d)
 
+pub one_type : {ks : List Record} {t : Forest} → Derives Ty ks t → one_tree t ≡ true
+one_type {t = t} d = single_whole t (type_single d) (no_foreign d)
+
 -- the same tokens have at most one tree
 pub at_most_one : {ks : List Record} {t u : Forest} → Derives Expression ks t → Derives Expression ks u → t ≡ u
 at_most_one d e = let s = one_end (expression_whole d []) (expression_whole e []) in ap (λ (p : Spot). p.forest) s.spot
+
+pub at_most_one_type : {ks : List Record} {t u : Forest} → Derives Ty ks t → Derives Ty ks u → t ≡ u
+at_most_one_type d e = let s = one_end (type_whole d []) (type_whole e []) in ap (λ (p : Spot). p.forest) s.spot
 
 used-⧺ : (f g : Forest) → used (f ⧺ g) ≡ used f + used g
 used-⧺ f none = omega arith
@@ -186,3 +196,7 @@ used-derived (binary_tighter h i d) = used-derived d
 used-derived (binary_operator h i d o e) = simp (used-⧺, length-append) (omega (arith, used-derived d, used-derived e, length-written o.writes))
 used-derived (expression_binary d) = used-derived d
 used-derived (expression_assign d o e) = simp (used-⧺, length-append) (omega (arith, used-derived d, used-derived e, length-written o.writes))
+used-derived (type_path d) = omega (arith, used-derived d)
+used-derived (type_ref o d) = simp used-⧺ (omega (arith, used-derived d))
+used-derived (type_ref_mut o m d) = simp used-⧺ (omega (arith, used-derived d))
+used-derived (type_slice o d c) = simp (used-⧺, length-append) (omega (arith, used-derived d))

@@ -5,20 +5,13 @@ use Rattle.rap_base.specs.NodeKind.{LITERAL, PATH_EXPR, PAREN_EXPR, TUPLE_EXPR, 
 use Rattle.rap_events.specs.Record.{next_kind}
 use Rattle.rap_events.specs.Composite.{is_at}
 use Rattle.rap_events.specs.State.{expected}
+unfoldable pub use Rattle.rap_grammar.specs.Called.{unrestricted, expr}
 use Rattle.rap_grammar.specs.First.{is_literal_first, starts_path}
 use Rattle.rap_grammar.specs.Paths.{expr_path}
 use Rattle.rap_grammar.specs.Phrase.{Phrase, expression}
 use Rattle.rap_grammar.specs.Script.{Script, Outcome, nothing, something, block, give, test, token, any, report, skip, start, finish, after, rule, loop, again}
 use Rattle.rap_grammar.specs.Words.{done, if_some, next_is, expect, of_bool}
 use Rattle.rap_grammar.specs.declared.grammar.expressions.Restrictions.{Restrictions}
-
--- an expression may be anything, and ends as far on as it can
-abbrev pub unrestricted : Restrictions
-unrestricted = record { forbid_structs = false; prefer_stmt = false }
-
--- an expression, after a token of the rule around it
-unfoldable pub expr : Script Phrase
-expr = rule (expression false unrestricted 1) (λ v. if_some v done (give nothing))
 
 unfoldable pub literal : Script Phrase
 literal = test (λ rs. is_literal_first (next_kind rs)) (start (any (finish LITERAL done))) (give nothing)

@@ -1,10 +1,19 @@
 -- Rules that are come back to, as a part of another rule.
 use Rattle.std.specs.Prelude.{Bool, true, false}
-use Rattle.rap_grammar.specs.First.{is_generic_arg_first, is_cfg_predicate_first}
-use Rattle.rap_grammar.specs.Phrase.{Phrase, any_type, trait_path, generic_argument, generic_parameters, any_pattern, single_pattern, meta_item, condition, bracketed}
 use Rattle.rap_events.specs.Record.{next_kind}
+use Rattle.rap_grammar.specs.First.{is_generic_arg_first, is_cfg_predicate_first}
+use Rattle.rap_grammar.specs.Phrase.{Phrase, expression, any_type, trait_path, generic_argument, generic_parameters, any_pattern, single_pattern, meta_item, condition, bracketed}
 use Rattle.rap_grammar.specs.Script.{Script, nothing, give, test, rule}
-use Rattle.rap_grammar.specs.Words.{done}
+use Rattle.rap_grammar.specs.Words.{done, if_some}
+use Rattle.rap_grammar.specs.declared.grammar.expressions.Restrictions.{Restrictions}
+
+-- an expression may be anything, and ends as far on as it can
+abbrev pub unrestricted : Restrictions
+unrestricted = record { forbid_structs = false; prefer_stmt = false }
+
+-- an expression
+unfoldable pub expr : Script Phrase
+expr = rule (expression false unrestricted 1) (λ v. if_some v done (give nothing))
 
 -- a type, with bounds after it, and without
 unfoldable pub type_ : Script Phrase

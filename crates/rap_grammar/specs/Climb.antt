@@ -1,7 +1,6 @@
--- What climbing by powers knows of an expression, as long as no message was reported. An `as` is left to whoever reads casts.
+-- What climbing by powers knows of an expression, as long as no message was reported.
 -- (What calls promise one another; no promise of the library rests on it.)
 use Rattle.std.specs.Prelude.{◌≡◌, ◌≢◌, ℕ, ◌≤◌, ◌<◌, Bool, false}
-use Rattle.rap_base.specs.TokenKind.{AS_KW}
 use Rattle.rap_base.specs.NodeKind.{BIN_EXPR}
 use Rattle.rap_events.specs.Forest.{Forest}
 use Rattle.rap_events.specs.Power.{power, operator, open_ended}
@@ -12,7 +11,7 @@ use Rattle.rap_grammar.specs.Operator.{operator_at}
 -- unless the expression ends in the dots of a range, or may have stopped as a statement's block.
 pub record Climbed (s : State) (kind : ℕ) (bp : ℕ) (prefer_stmt : Bool) : Type 0 where
   pub least : s.messages ≡ 0 → kind ≡ BIN_EXPR → bp ≤ power (operator (last_children s.forest))
-  pub follows : s.messages ≡ 0 → prefer_stmt ≡ false → open_ended (last_children s.forest) ≡ false → operator_at s.rest ≢ AS_KW → power (operator_at s.rest) < bp
+  pub follows : s.messages ≡ 0 → prefer_stmt ≡ false → open_ended (last_children s.forest) ≡ false → power (operator_at s.rest) < bp
 
 -- a node of this kind over these children may stand on the left of an operator of this power
 abbrev pub LeftFits : ℕ → Forest → ℕ → Type 0
@@ -22,5 +21,5 @@ LeftFits kind children bp = kind ≡ BIN_EXPR → open_ended children ≡ false 
 -- all, unless the expression ends in the dots of a range.
 pub record Bound (s : State) (bp : ℕ) : Type 0 where
   pub power_is : power (operator (last_children s.forest)) ≡ bp
-  pub follows : open_ended (last_children s.forest) ≡ false → operator_at s.rest ≢ AS_KW → power (operator_at s.rest) ≤ bp
-  pub not_twice : open_ended (last_children s.forest) ≡ false → operator_at s.rest ≢ AS_KW → bp ≡ 1 → power (operator_at s.rest) ≡ 0
+  pub follows : open_ended (last_children s.forest) ≡ false → power (operator_at s.rest) ≤ bp
+  pub not_twice : open_ended (last_children s.forest) ≡ false → bp ≡ 1 → power (operator_at s.rest) ≡ 0

@@ -1,8 +1,8 @@
--- The core grammar of expressions: which tokens make which tree.
+-- The core grammar of expressions and types: which tokens make which tree.
 use Rattle.std.specs.Prelude.{◌≡◌, ◌≢◌, ◌⊎◌, ℕ, suc, List, [], ◌∷◌, ◌++◌, ◌≤◌, true}
-use Rattle.rap_base.specs.TokenKind.{EOF, SEMICOLON, IDENT, AMP, STAR, BANG, MINUS, DOT, COLON2, COMMA, QUESTION, L_PAREN, R_PAREN, L_BRACK, R_BRACK, MUT_KW, INT_NUMBER, TRUE_KW, FALSE_KW}
+use Rattle.rap_base.specs.TokenKind.{EOF, EQ, L_CURLY, R_CURLY, SEMICOLON, IDENT, AMP, STAR, BANG, MINUS, DOT, COLON2, COMMA, QUESTION, L_PAREN, R_PAREN, L_BRACK, R_BRACK, MUT_KW, INT_NUMBER, TRUE_KW, FALSE_KW}
 use Rattle.rap_base.specs.TokenTests.{is_literal}
-use Rattle.rap_base.specs.NodeKind.{BIN_EXPR, REF_EXPR, PREFIX_EXPR, LITERAL, PAREN_EXPR, PATH_EXPR, PATH, PATH_SEGMENT, NAME_REF, CALL_EXPR, INDEX_EXPR, TRY_EXPR, METHOD_CALL_EXPR, FIELD_EXPR, ARG_LIST}
+use Rattle.rap_base.specs.NodeKind.{BIN_EXPR, REF_EXPR, PREFIX_EXPR, LITERAL, PAREN_EXPR, PATH_EXPR, PATH, PATH_SEGMENT, NAME_REF, CALL_EXPR, INDEX_EXPR, TRY_EXPR, METHOD_CALL_EXPR, FIELD_EXPR, ARG_LIST, PATH_TYPE, REF_TYPE, SLICE_TYPE}
 use Rattle.rap_events.specs.Record.{Record, next_kind}
 use Rattle.rap_events.specs.Composite.{parts, width}
 use Rattle.rap_events.specs.Forest.{Forest, none, node, leaf, ◌⧺◌}
@@ -51,7 +51,7 @@ pub record IsOperator (os : List Record) (op p : ℕ) (js : List Record) : Type 
 
 -- What is derived: an expression; one of operators of at least a power, 12 being above them all; one with operators
 -- before it alone; an operand with what follows it directly; the arguments of a call in their parentheses, and without
--- them; an operand alone; a path, one of its segments, and that segment's name.
+-- them; an operand alone; a path, one of its segments, and that segment's name; a type.
 pub data Category : Type 0 where
   Expression : Category
   Binary : ℕ → Category
@@ -63,6 +63,7 @@ pub data Category : Type 0 where
   Path : Category
   Segment : Category
   Reference : Category
+  Ty : Category
 
 -- the field of a name, as `a.b`
 abbrev pub IsNamedField : Forest → Type 0
@@ -117,7 +118,18 @@ pub data Derives : Category → List Record → Forest → Type 0 where
   expression_binary : {ks : List Record} {t : Forest} → Derives (Binary 3) ks t → Derives Expression ks t
   expression_assign : {op : ℕ} {ks os js : List Record} {t u : Forest} → Derives (Binary 3) ks t → IsOperator os op 1 js → Derives Expression js u →
       Derives Expression (ks ++ (os ++ js)) (node none BIN_EXPR (leaf t op (width op) ⧺ u))
+  type_path : {ks : List Record} {t : Forest} → Derives Path ks t → Derives Ty ks (node none PATH_TYPE t)
+  type_ref : {a : Record} {ks : List Record} {t : Forest} → Is a AMP → Derives Ty ks t →
+      Derives Ty (a ∷ ks) (node none REF_TYPE (leaf none AMP 1 ⧺ t))
+  type_ref_mut : {a b : Record} {ks : List Record} {t : Forest} → Is a AMP → Is b MUT_KW → Derives Ty ks t →
+      Derives Ty (a ∷ b ∷ ks) (node none REF_TYPE (leaf (leaf none AMP 1) MUT_KW 1 ⧺ t))
+  type_slice : {a b : Record} {ks : List Record} {t : Forest} → Is a L_BRACK → Derives Ty ks t → Is b R_BRACK →
+      Derives Ty (a ∷ (ks ++ b ∷ [])) (node none SLICE_TYPE (leaf (leaf none L_BRACK 1 ⧺ t) R_BRACK 1))
 
 -- what can follow an expression that is read alone: the end, `;`, `,` or `)`
 pub record EndsExpression (rs : List Record) : Type 0 where
   pub next : one_of (EOF ∷ SEMICOLON ∷ COMMA ∷ R_PAREN ∷ []) (next_kind rs) ≡ true
+
+-- what can follow a type: the end, `;`, `,`, `=`, a bracket that closes, or a block
+pub record EndsType (rs : List Record) : Type 0 where
+  pub next : one_of (EOF ∷ SEMICOLON ∷ COMMA ∷ EQ ∷ R_PAREN ∷ R_BRACK ∷ R_CURLY ∷ L_CURLY ∷ []) (next_kind rs) ≡ true

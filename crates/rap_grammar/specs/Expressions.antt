@@ -1,15 +1,18 @@
 -- Expressions with operators.
 use Rattle.std.specs.Prelude.{ℕ, ◌+◌, Bool, true, false, ◌==◌, ◌&&◌, ◌||◌, not, nat_lt, if◌then◌else◌, List, [], ◌∷◌, Option, Some, None, drop, codes}
 use Rattle.rap_base.specs.TokenKind.{COMMA, L_PAREN, R_PAREN, L_BRACK, R_BRACK, L_CURLY, IDENT, AMP, STAR, BANG, MINUS, DOT, DOT2, DOT2EQ, COLON2, QUESTION, MUT_KW, CONST_KW, RAW_KW, AWAIT_KW, AS_KW}
-use Rattle.rap_base.specs.NodeKind.{BIN_EXPR, REF_EXPR, PREFIX_EXPR, RANGE_EXPR, CALL_EXPR, INDEX_EXPR, METHOD_CALL_EXPR, FIELD_EXPR, AWAIT_EXPR, TRY_EXPR, ARG_LIST}
+use Rattle.rap_base.specs.NodeKind.{BIN_EXPR, REF_EXPR, PREFIX_EXPR, RANGE_EXPR, CALL_EXPR, INDEX_EXPR, METHOD_CALL_EXPR, FIELD_EXPR, AWAIT_EXPR, TRY_EXPR, ARG_LIST, CAST_EXPR}
 use Rattle.rap_events.specs.Record.{Record, next_kind, kind_at}
 use Rattle.rap_events.specs.Composite.{is_at}
 use Rattle.rap_events.specs.Power.{power}
 use Rattle.rap_events.specs.declared.parser.CompletedMarker.{CompletedMarker}
 use Rattle.rap_grammar.specs.Atom.{expr, atom_expr}
+use Rattle.rap_grammar.specs.Attributes.{outer_attrs}
+use Rattle.rap_grammar.specs.Called.{type_no_bounds}
 use Rattle.rap_grammar.specs.First.{is_expr_first, is_path_name, is_path_name_or_index, one_of}
 use Rattle.rap_grammar.specs.Grammar.{name_ref_mod_path, name_ref_mod_path_or_index, delimited}
 use Rattle.rap_grammar.specs.Operator.{operator_at}
+use Rattle.rap_grammar.specs.Paths.{opt_generic_arg_list_expr}
 use Rattle.rap_grammar.specs.Phrase.{Phrase, expression}
 use Rattle.rap_grammar.specs.Recovery.{is_expr_recovery}
 use Rattle.rap_grammar.specs.Script.{Script, Outcome, nothing, something, block, give, look, test, token, any, bear, report, start, precede, finish, extend, abandon, after, rule, loop, again}
@@ -57,11 +60,15 @@ range_expr r op = precede (token op (test (has_end r.forbid_structs)
     (rule (expression false (operand_of r) 3) (λ v. finish RANGE_EXPR done))
     (finish RANGE_EXPR (give nothing))))
 
+-- a type behind `as`, after an operand
+unfoldable pub cast_expr : Script Phrase
+cast_expr = precede (token AS_KW (after type_no_bounds (λ v. finish CAST_EXPR done)))
+
 -- an operator of at least a power, with its operand; a range without an end goes no further
 abbrev pub operation : Restrictions → ℕ → ℕ → Script Phrase
 operation r bp op =
     if nat_lt (power op) bp then done
-    else (if op == AS_KW then done
+    else (if op == AS_KW then after cast_expr (λ v. give (again false false))
     else (if power op == 2 then after (range_expr r op) (λ v. if_some v (give (again false false)) done)
     else after (bin_expr r op) (λ v. give (again false false))))
 
@@ -108,10 +115,11 @@ unfoldable pub calls_method : ℕ → List Record → Bool
 calls_method n rs =
     (kind_at rs n == L_PAREN) || (is_path_name (kind_at rs n) && ((kind_at rs (n + 1) == L_PAREN) || is_at COLON2 (drop (n + 1) rs)))
 
-abbrev pub method_arguments : Script Phrase
+unfoldable pub method_arguments : Script Phrase
 method_arguments =
-    test (is_at L_PAREN) (after arg_list (λ v. finish METHOD_CALL_EXPR done))
-    (report (codes "expected argument list") (finish METHOD_CALL_EXPR done))
+    after opt_generic_arg_list_expr (λ v.
+    test (is_at L_PAREN) (after arg_list (λ w. finish METHOD_CALL_EXPR done))
+    (report (codes "expected argument list") (finish METHOD_CALL_EXPR done)))
 
 -- a method behind the dot
 unfoldable pub method_call_expr : Script Phrase
@@ -176,5 +184,5 @@ expr_from r bp =
     missing_expr
 
 unfoldable pub expr_bp : Bool → Restrictions → ℕ → Script Phrase
-expr_bp false r bp = start (expr_from r bp)
+expr_bp false r bp = start (after outer_attrs (λ v. expr_from r bp))
 expr_bp true r bp = expr_from r bp

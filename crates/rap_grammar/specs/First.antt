@@ -1,9 +1,10 @@
 -- What the rules begin with.
-use Rattle.std.specs.Prelude.{ℕ, List, [], ◌∷◌, Bool, ◌==◌, ◌||◌}
+use Rattle.std.specs.Prelude.{ℕ, List, [], ◌∷◌, drop, Bool, ◌==◌, ◌&&◌, ◌||◌, not}
 use Rattle.std.specs.List.{list_any}
-use Rattle.rap_base.specs.TokenKind.{IDENT, SELF_KW, SUPER_KW, CRATE_KW, SELF_TYPE_KW, TRUE_KW, FALSE_KW, INT_NUMBER, FLOAT_NUMBER, BYTE, CHAR, STRING, BYTE_STRING, C_STRING, COLON, COLON2, L_ANGLE, L_PAREN, L_BRACK, L_CURLY, AMP, PIPE, STAR, BANG, DOT, MINUS, UNDERSCORE, POUND, OUTER_DOC_COMMENT, LIFETIME_IDENT, FN_KW, UNSAFE_KW, EXTERN_KW, FOR_KW, IMPL_KW, DYN_KW, CONST_KW, BOX_KW, REF_KW, MUT_KW}
-use Rattle.rap_events.specs.Record.{Record, next_kind}
-use Rattle.rap_events.specs.Composite.{parts, begins_with}
+use Rattle.rap_base.specs.TokenKind.{IDENT, SELF_KW, SUPER_KW, CRATE_KW, SELF_TYPE_KW, TRUE_KW, FALSE_KW, INT_NUMBER, FLOAT_NUMBER, BYTE, CHAR, STRING, BYTE_STRING, C_STRING, COLON, COLON2, L_ANGLE, L_PAREN, L_BRACK, L_CURLY, AMP, PIPE, STAR, BANG, DOT, MINUS, UNDERSCORE, POUND, OUTER_DOC_COMMENT, LIFETIME_IDENT, FN_KW, UNSAFE_KW, EXTERN_KW, FOR_KW, IMPL_KW, DYN_KW, CONST_KW, BOX_KW, REF_KW, MUT_KW, QUESTION}
+use Rattle.rap_base.specs.Edition.{at_least_2018}
+use Rattle.rap_events.specs.Record.{Record, next_kind, kind_at, contextual_at, edition_at}
+use Rattle.rap_events.specs.Composite.{parts, begins_with, is_at}
 
 abbrev pub one_of : List ℕ → ℕ → Bool
 one_of kinds kind = list_any (λ k. k == kind) kinds
@@ -45,9 +46,13 @@ abbrev pub is_type_first : ℕ → Bool
 is_type_first kind =
     is_path_first kind || one_of (L_PAREN ∷ L_BRACK ∷ BANG ∷ STAR ∷ AMP ∷ UNDERSCORE ∷ FN_KW ∷ UNSAFE_KW ∷ EXTERN_KW ∷ FOR_KW ∷ IMPL_KW ∷ DYN_KW ∷ LIFETIME_IDENT ∷ []) kind
 
+-- a constant as an argument of something generic, by its first token: no name
+abbrev pub is_const_arg_first : ℕ → Bool
+is_const_arg_first kind = is_literal_first kind || one_of (L_CURLY ∷ MINUS ∷ []) kind
+
 -- an argument of something generic
 abbrev pub is_generic_arg_first : ℕ → Bool
-is_generic_arg_first kind = is_type_first kind || (is_literal_first kind || one_of (L_CURLY ∷ MINUS ∷ []) kind)
+is_generic_arg_first kind = is_type_first kind || is_const_arg_first kind
 
 -- a parameter of something generic, without the attributes before it
 abbrev pub is_generic_param_first : ℕ → Bool
@@ -80,8 +85,45 @@ starts_use_path rs = one_of (IDENT ∷ SELF_KW ∷ SUPER_KW ∷ CRATE_KW ∷ [])
 
 -- a path comes next
 abbrev pub starts_path : List Record → Bool
-starts_path rs = is_path_name (next_kind rs) || begins_with (parts COLON2) rs
+starts_path rs = (is_path_name (next_kind rs) || begins_with (parts COLON2) rs) || (next_kind rs == L_ANGLE)
+
+-- the arguments of something generic in an expression, as `::<a>`
+abbrev pub starts_expr_args : List Record → Bool
+starts_expr_args rs = is_at COLON2 rs && is_at L_ANGLE (drop 2 rs)
 
 -- a bracket that opens
 abbrev pub is_bracket : ℕ → Bool
 is_bracket kind = one_of (L_CURLY ∷ L_PAREN ∷ L_BRACK ∷ []) kind
+
+-- a function pointer
+abbrev pub is_fn_ptr_first : ℕ → Bool
+is_fn_ptr_first kind = one_of (FN_KW ∷ UNSAFE_KW ∷ EXTERN_KW ∷ []) kind
+
+-- what may follow an identifier `dyn` that is read as the keyword
+abbrev pub is_weak_dyn_path_first : ℕ → Bool
+is_weak_dyn_path_first kind =
+    one_of (IDENT ∷ SELF_KW ∷ SUPER_KW ∷ CRATE_KW ∷ SELF_TYPE_KW ∷ LIFETIME_IDENT ∷ QUESTION ∷ FOR_KW ∷ L_PAREN ∷ []) kind
+
+-- an identifier `dyn` before a bound comes next
+abbrev pub is_dyn_weak : List Record → Bool
+is_dyn_weak rs = (contextual_at rs 0 == DYN_KW) && is_weak_dyn_path_first (kind_at rs 1)
+
+-- the same before 2018, when it is the keyword
+abbrev pub starts_weak_dyn : List Record → Bool
+starts_weak_dyn rs = (next_kind rs == IDENT) && (not (at_least_2018 (edition_at rs 0)) && is_dyn_weak rs)
+
+-- a parameter of something generic, or an attribute before it
+abbrev pub is_attributed_generic_param_first : ℕ → Bool
+is_attributed_generic_param_first kind = is_generic_param_first kind || is_outer_attr_first kind
+
+-- what a type captures
+abbrev pub is_use_bound_arg_first : ℕ → Bool
+is_use_bound_arg_first kind = one_of (SELF_TYPE_KW ∷ IDENT ∷ LIFETIME_IDENT ∷ []) kind
+
+-- a predicate of a `where`
+abbrev pub is_where_predicate_first : ℕ → Bool
+is_where_predicate_first kind = not (kind == IMPL_KW) && is_type_first kind
+
+-- a parameter of a function, or an attribute before it
+abbrev pub is_param_first : ℕ → Bool
+is_param_first kind = (is_pattern_first kind || is_type_first kind) || is_outer_attr_first kind

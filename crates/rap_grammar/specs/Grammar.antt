@@ -1,6 +1,6 @@
 -- The rules that the others share.
 use Rattle.std.specs.Prelude.{ℕ, Bool, false, ◌||◌, List, [], ◌∷◌, codes}
-use Rattle.rap_base.specs.TokenKind.{EOF, ERROR, IDENT, LIFETIME_IDENT, SELF_TYPE_KW, EXTERN_KW, STRING, THIN_ARROW}
+use Rattle.rap_base.specs.TokenKind.{EOF, ERROR, IDENT, L_CURLY, R_CURLY, LIFETIME_IDENT, SELF_TYPE_KW, EXTERN_KW, STRING, THIN_ARROW}
 use Rattle.rap_base.specs.NodeKind.{NAME, NAME_REF, LIFETIME, ABI, RET_TYPE}
 use Rattle.rap_events.specs.Record.{next_kind}
 use Rattle.rap_events.specs.Composite.{is_at}
@@ -51,6 +51,10 @@ name_r kept = test (is_at IDENT) (start (token IDENT (finish NAME done))) (recov
 
 unfoldable pub name : Script Phrase
 name = name_r (λ kind. false)
+
+-- a block where none may be
+unfoldable pub error_block : List ℕ → Script Phrase
+error_block message = start (report message (token L_CURLY (eat R_CURLY (finish ERROR done))))
 
 unfoldable pub name_ref_or_index : Script Phrase
 name_ref_or_index = start (any (finish NAME_REF done))

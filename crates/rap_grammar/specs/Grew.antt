@@ -1,7 +1,7 @@
 -- What a grammar function does to a parser, whatever the tokens are.
 -- (What calls promise one another; no promise of the library rests on it.)
 use Rattle.std.specs.Prelude.{◌≡◌, ℕ, ◌+◌, ◌≤◌, ◌*◌, ◌<◌, Option, Some, None}
-use Rattle.rap_events.specs.Machine.{push, top}
+use Rattle.rap_events.specs.Machine.{Stack, floor, push, top}
 use Rattle.rap_events.specs.State.{State, IsLast, but_last}
 use Rattle.rap_events.specs.declared.parser.CompletedMarker.{CompletedMarker}
 
@@ -12,6 +12,15 @@ Within valid left g s = valid g × (s.left ≤ left g)
 -- The same after a token was taken.
 abbrev pub Behind : {G : Type 0} → (G → Type 0) → (G → ℕ) → G → State → Type 0
 Behind valid left g s = valid g × (s.left < left g)
+
+-- the topmost of the older markers, and those below it
+abbrev pub top_marker : Stack → Option ℕ
+top_marker floor = None
+top_marker (push below marker forest) = marker
+
+abbrev pub rest : Stack → Stack
+rest floor = floor
+rest (push below marker forest) = below
 
 -- The open markers are as before. At most 256 events for each token taken, and `k` more, were recorded.
 pub record Grew (old new : State) (k : ℕ) : Type 0 where
@@ -73,6 +82,14 @@ pub record Closes (node_kind k : ℕ) (old new : State) (cm : CompletedMarker) :
   pub below : old.below ≡ push new.below new.marker (but_last new.forest)
   pub kind : cm.kind ≡ node_kind
 
+-- tokens were taken, and the newest open marker is gone
+pub record Ended (old new : State) (room : ℕ) : Type 0 where
+  pub input : new.input ≡ old.input
+  pub left : new.left < old.left
+  pub count : new.count + 256 * new.left + room ≤ old.count + 256 * old.left
+  pub messages : old.messages ≤ new.messages
+  pub below : old.below ≡ push new.below new.marker (top old.below)
+
 -- the newest open marker was abandoned, and a message was reported
 pub record Dropped (old new : State) (k : ℕ) : Type 0 where
   pub input : new.input ≡ old.input
@@ -80,6 +97,15 @@ pub record Dropped (old new : State) (k : ℕ) : Type 0 where
   pub count : new.count + 256 * new.left ≤ old.count + 256 * old.left + k
   pub messages : old.messages < new.messages
   pub below : old.below ≡ push new.below new.marker (top old.below)
+
+-- the newest open marker is gone, finished or abandoned, with at most `k` events more than the tokens pay for
+pub record Gone (old new : State) (k : ℕ) : Type 0 where
+  pub input : new.input ≡ old.input
+  pub left : new.left ≤ old.left
+  pub count : new.count + 256 * new.left ≤ old.count + 256 * old.left + k
+  pub messages : old.messages ≤ new.messages
+  pub marker : new.marker ≡ top_marker old.below
+  pub below : new.below ≡ rest old.below
 
 -- a rule that makes a node, or reports a message and makes none, with at most `k` events more than its tokens pay for
 abbrev pub Reads : ℕ → ℕ → State → State → Option CompletedMarker → Type 0

@@ -1,5 +1,6 @@
 pub mod Atom
 pub mod Attributes
+pub mod Balanced
 pub mod Called
 pub mod Climb
 pub mod ConstArgs

@@ -18,7 +18,10 @@ segment_room = 190
 abbrev pub path_room : ℕ
 path_room = 180
 
--- a list in its brackets
+-- elements in their brackets, and a list, which is a node around them
+abbrev pub brackets_room : ℕ
+brackets_room = 160
+
 abbrev pub list_room : ℕ
 list_room = 150
 
@@ -45,9 +48,23 @@ expression_room = 100
 abbrev pub element_room : ℕ
 element_room = 100
 
+-- a parameter without its marker, and under it
+abbrev pub bare_param_room : ℕ
+bare_param_room = 108
+
+abbrev pub param_room : ℕ
+param_room = 104
+
 -- a type, and a pattern
 abbrev pub type_room : ℕ
 type_room = 110
 
 abbrev pub pattern_room : ℕ
 pattern_room = 110
+
+-- a pattern without alternatives, and one that is no range
+abbrev pub single_pattern_room : ℕ
+single_pattern_room = 120
+
+abbrev pub atom_pattern_room : ℕ
+atom_pattern_room = 124

@@ -15,8 +15,8 @@ use Rattle.rap_grammar.specs.GenericParams.{generic_param_list}
 use Rattle.rap_grammar.specs.Grew.{Grew, Took, Made, Closed, Dropped}
 use Rattle.rap_grammar.specs.Knot.{Follows}
 use Rattle.rap_grammar.specs.Patterns.{pattern_r, pattern_single_r}
-use Rattle.rap_grammar.specs.Recovery.{stops_pattern}
-use Rattle.rap_grammar.specs.Room.{expression_room, marked_room, element_room, list_room, type_room, pattern_room}
+use Rattle.rap_grammar.specs.Recovery.{stops_pattern, stops_type}
+use Rattle.rap_grammar.specs.Room.{expression_room, marked_room, element_room, list_room, type_room, pattern_room, single_pattern_room, atom_pattern_room}
 use Rattle.rap_grammar.specs.Script.{something}
 use Rattle.rap_grammar.specs.Types.{type_with_bounds_cond, path_type_bounds}
 use Rattle.rap_grammar.specs.declared.grammar.BlockLike.{BlockLike}
@@ -51,15 +51,29 @@ pub record Parsed (first : ℕ → Bool) (k room : ℕ) (old new : State) : Type
   pub grew : Grew old new k
   pub took : first (next old) ≡ true → Took old new room
 
--- a type
-abbrev pub IsType : State → State → Type 0
-IsType old new = Parsed is_type_first 8 type_room old new
-
--- a pattern: where it takes no token, the next one is as before
-pub record IsPattern (old new : State) : Type 0 where
+-- a type: a token at least is taken where one begins, and also where the next one does not end the search for it
+pub record IsType (old new : State) : Type 0 where
   pub grew : Grew old new 8
-  pub took : stops_pattern (next old) ≡ false → Took old new pattern_room
+  pub took : is_type_first (next old) ≡ true → Took old new type_room
+  pub skips : stops_type (next old) ≡ false → Took old new type_room
+
+-- a pattern, by its costs: where it takes no token, the next one is as before
+pub record PatternIn (k room : ℕ) (old new : State) : Type 0 where
+  pub grew : Grew old new k
+  pub took : stops_pattern (next old) ≡ false → Took old new room
   pub stays : stops_pattern (next old) ≡ true → next new ≡ next old
+
+abbrev pub IsPattern : State → State → Type 0
+IsPattern old new = PatternIn 8 pattern_room old new
+
+-- a pattern without alternatives
+abbrev pub IsSinglePattern : State → State → Type 0
+IsSinglePattern old new = PatternIn 3 single_pattern_room old new
+
+-- a pattern that is no range: a node, or none
+abbrev pub IsAtomPattern : State → State → Option CompletedMarker → Type 0
+IsAtomPattern old new (Some cm) = Made old new cm atom_pattern_room × (stops_pattern (next old) ≡ false)
+IsAtomPattern old new None = PatternIn 3 atom_pattern_room old new
 
 -- what each rule asks
 abbrev pub Pre : Rule → State → Type 0
@@ -81,6 +95,6 @@ Post rule.TraitPath old new e = Took old new type_room × Follows (path_type_bou
 Post rule.GenericArg old new e = Took old new element_room × Follows generic_arg something old new
 Post rule.GenericParamList old new e = Took old new list_room × Follows generic_param_list something old new
 Post rule.Pattern old new e = IsPattern old new × Follows pattern_r something old new
-Post rule.PatternSingle old new e = IsPattern old new × Follows pattern_single_r something old new
+Post rule.PatternSingle old new e = IsSinglePattern old new × Follows pattern_single_r something old new
 Post rule.Meta old new e = Grew old new 16 × Follows meta something old new
 Post rule.CfgPredicate old new e = Parsed is_cfg_predicate_first 8 element_room old new × Follows cfg_predicate something old new

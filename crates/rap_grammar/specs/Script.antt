@@ -8,8 +8,8 @@ use Rattle.rap_events.specs.Forest.{Forest, none, node, leaf, message, split, �
 use Rattle.rap_events.specs.Machine.{Stack, floor, push}
 use Rattle.rap_events.specs.State.{State, but_last, last_children, skipped}
 
--- What a rule tells its caller: nothing (`None`, `false`), something, or a node that reads like a block. A turn of a loop
--- tells that the loop goes on, with these two flags.
+-- What a rule answers to its caller: nothing (`None`, `false`), something, or a node that reads like a block. A turn of
+-- a loop answers that the loop goes on, with these two flags.
 pub data Outcome : Type 0 where
   nothing : Outcome
   something : Outcome
@@ -20,7 +20,7 @@ pub data Outcome : Type 0 where
 -- test of them. It takes a token: of a kind, under its own kind, or under another kind that it may bear. It reports a
 -- message, or reports one and takes the next token into an `ERROR`. It starts a node, starts one around the last node,
 -- finishes the newest one under a kind, lets the last node begin where the newest one does, or abandons the newest one.
--- It goes on after another script, or after a rule, as their outcome says. It takes turns, as long as they tell so.
+-- It goes on after another script, or after a rule, as their outcome says. It takes turns, as long as they answer so.
 pub data Script (P : Type 0) : Type 0 where
   give : Outcome → Script P
   look : (List Record → Script P) → Script P

@@ -5,9 +5,9 @@ use Rattle.rap_events.specs.Record.{Record, next_kind, contextual_at}
 use Rattle.rap_events.specs.Composite.{is_at}
 use Rattle.rap_events.specs.Cover.{first_may_bear}
 use Rattle.rap_events.specs.State.{expected}
-use Rattle.rap_grammar.specs.Script.{Script, Outcome, nothing, something, block, again, give, test, token, report, skip}
+use Rattle.rap_grammar.specs.Script.{Script, Outcome, nothing, something, block, again, give, test, token, bear, report, skip}
 
--- the end of a rule that has nothing to tell
+-- the end of a rule that has nothing to answer
 abbrev pub done : {P : Type 0} → Script P
 done = give something
 
@@ -30,6 +30,10 @@ reads_as kind rs = first_may_bear rs kind && (contextual_at rs 0 == kind)
 abbrev pub eat : {P : Type 0} → ℕ → Script P → Script P
 eat kind s = test (is_at kind) (token kind s) s
 
+-- an identifier that is read as this keyword if one comes next, as that keyword, and on
+abbrev pub eat_as : {P : Type 0} → ℕ → Script P → Script P
+eat_as kind s = test (reads_as kind) (bear kind s) s
+
 -- a token of this kind, or the message that it is missing, and on
 abbrev pub expect : {P : Type 0} → ℕ → Script P → Script P
 expect kind s = test (is_at kind) (token kind s) (report (expected kind) s)
@@ -38,7 +42,7 @@ expect kind s = test (is_at kind) (token kind s) (report (expected kind) s)
 abbrev pub recover : {P : Type 0} → List ℕ → (ℕ → Bool) → Script P → Script P → Script P
 recover bytes kept s t = test (λ rs. (next_kind rs == L_CURLY) || ((next_kind rs == R_CURLY) || kept (next_kind rs))) (report bytes s) (skip bytes t)
 
--- what is told of an option and of a truth value
+-- the outcome of an option and of a truth value
 abbrev pub of_option : {A : Type 0} → Option A → Outcome
 of_option None = nothing
 of_option (Some a) = something

@@ -1,6 +1,6 @@
 //! The rules, one function each, and what they share.
-ghost use Rattle.std.specs.Prelude.{◌≡◌, ◌≢◌, ℕ, Bool, ◌<◌, ◌≤◌, OnOk, IfOk, true, false};
-ghost use Rattle.rap_base.specs.TokenKind.{EOF, IDENT, LIFETIME_IDENT, EXTERN_KW};
+ghost use Rattle.std.specs.Prelude.{◌≡◌, ◌≢◌, ℕ, Bool, ◌<◌, ◌≤◌, OnOk, IfOk, true, false, drop};
+ghost use Rattle.rap_base.specs.TokenKind.{EOF, IDENT, L_CURLY, LIFETIME_IDENT, EXTERN_KW};
 ghost use Rattle.rap_base.specs.TokenSet.{member};
 ghost use Rattle.rap_events.specs.State.{state, next, At};
 ghost use Rattle.rap_grammar.specs.First.{is_path_name, is_path_name_or_index};
@@ -8,7 +8,7 @@ ghost use Rattle.rap_grammar.specs.Grammar as script;
 ghost use Rattle.rap_grammar.specs.Grew.{Within, Behind, Grew, Took};
 ghost use Rattle.rap_grammar.specs.Knot.{Follows};
 ghost use Rattle.rap_grammar.specs.Phrase.{Phrase};
-ghost use Rattle.rap_grammar.specs.Room.{name_room, list_room, element_room};
+ghost use Rattle.rap_grammar.specs.Room.{name_room, brackets_room, element_room};
 ghost use Rattle.rap_grammar.specs.Script.{Script, something};
 ghost use Rattle.rap_grammar.specs.Words.{of_bool};
 
@@ -137,10 +137,25 @@ fn name(p: &mut Parser<'_>) -> Result<(), NoMemory>
     Ok(())
 }
 
+/// A block where none may be, as the `{}` of `S { {} }`. So far nothing stands in it.
+fn error_block(p: &mut Parser<'_>, message: &str) -> Result<(), NoMemory>
+    requires here { next (state p.old) ≡ L_CURLY }
+    ensures took { OnOk result (Took (state p.old) (state p.new) name_room) }
+    ensures script { OnOk result (Follows (script.error_block message.now) something (state p.old) (state p.new)) }
+{
+    let m = p.start()?;
+    p.error(message)?;
+    p.bump(T!['{'])?;
+    p.eat(T!['}'])?;
+    m.complete(p, SyntaxKind::ERROR)?;
+    Ok(())
+}
+
 /// A field by its name or number, as the `a` of `S { a: 1 }`.
 fn name_ref_or_index(p: &mut Parser<'_>) -> Result<(), NoMemory>
     requires more { next (state p.old) ≢ EOF }
     ensures took { OnOk result (Took (state p.old) (state p.new) name_room) }
+    ensures rest { OnOk result ((state p.new).rest ≡ drop 1 (state p.old).rest) }
     ensures script { OnOk result (Follows script.name_ref_or_index something (state p.old) (state p.new)) }
 {
     let m = p.start()?;
@@ -178,7 +193,7 @@ fn abi(p: &mut Parser<'_>) -> Result<(), NoMemory>
     Ok(())
 }
 
-/// What a function gives back, as `-> a`, if it says so. Tells whether it does.
+/// What a function gives back, as `-> a`, if it says so. Answers whether it does.
 fn opt_ret_type<G: Grammar>(p: &mut Parser<'_>, g: &G) -> Result<bool, NoMemory>
     requires within { Within G.valid G.left g.now (state p.old) }
     ensures grew { OnOk result (Grew (state p.old) (state p.new) 0) }
@@ -202,10 +217,11 @@ trait Element {
     /// What elements begin with.
     ghost first: { Self → ℕ → Bool };
 
-    /// One element, if one begins. Tells whether the list can go on after it.
+    /// One element, if one begins. Answers whether the list can go on after it.
     fn parse<G: Grammar>(&self, p: &mut Parser<'_>, g: &G) -> Result<bool, NoMemory>
         requires behind { Behind G.valid G.left g.now (state p.old) }
-        ensures grew { OnOk result (Grew (state p.old) (state p.new) 8) }
+        requires more { next (state p.old) ≢ EOF }
+        ensures grew { OnOk result (Grew (state p.old) (state p.new) 16) }
         ensures took { IfOk result (λ going_on. going_on ≡ true → Took (state p.old) (state p.new) element_room) }
         ensures script { IfOk result (λ going_on. Follows (element self.now) (of_bool going_on) (state p.old) (state p.new)) };
 
@@ -231,7 +247,7 @@ fn delimited<G: Grammar, E: Element>(
     requires bra { bra ≢ EOF }
     requires ket { ket ≢ EOF }
     requires delim { delim ≢ EOF }
-    ensures took { OnOk result (Took (state p.old) (state p.new) list_room) }
+    ensures took { OnOk result (Took (state p.old) (state p.new) brackets_room) }
     ensures script { OnOk result (Follows (script.delimited (E.element element.now) bra ket delim unexpected_delim_message.now (E.first element.now)) something (state p.old) (state p.new)) }
 {
     p.bump(bra)?;
@@ -251,7 +267,7 @@ fn elements<G: Grammar, E: Element>(
 ) -> Result<(), NoMemory>
     requires behind { Behind G.valid G.left g.now (state p.old) }
     requires delim { delim ≢ EOF }
-    ensures grew { OnOk result (Grew (state p.old) (state p.new) 8) }
+    ensures grew { OnOk result (Grew (state p.old) (state p.new) 16) }
     ensures script { OnOk result (Follows (script.elements (E.element element.now) ket delim unexpected_delim_message.now (E.first element.now)) something (state p.old) (state p.new)) }
 {
     'elements: while !p.at(ket) && !p.at(SyntaxKind::EOF) {

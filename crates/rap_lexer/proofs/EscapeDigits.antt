@@ -14,15 +14,15 @@ use Rattle.rap_lexer.specs.Escape.{IsHexDigit, IsDigitOrUnderscore, IsForeign, w
 use Rattle.rap_lexer.specs.Escape.Escape.{no_brace_at_end, no_brace, unclosed, foreign, closed}
 use Rattle.rap_lexer.proofs.EscapeRules.{at}
 
--- after a digit of the value `first`, the characters `front` were read
+-- after a digit of the value `first`, the characters `prefix` were read
 pub record Read (first : ℕ) (start left : List ℕ) (digits value : ℕ) : Type 0 where
-  pub front : List ℕ
-  pub join : start ≡ front ++ left
-  pub allowed : AllByRecursion IsDigitOrUnderscore front
-  pub counted : digits ≡ min 7 (1 + length (without_underscores front))
-  pub valued : value ≡ min 0x110000 (digits_value_after 16 first (without_underscores front))
+  pub prefix : List ℕ
+  pub join : start ≡ prefix ++ left
+  pub allowed : AllByRecursion IsDigitOrUnderscore prefix
+  pub counted : digits ≡ min 7 (1 + length (without_underscores prefix))
+  pub valued : value ≡ min 0x110000 (digits_value_after 16 first (without_underscores prefix))
 
-pub allowed_push : (front : List ℕ) (c : ℕ) → AllByRecursion IsDigitOrUnderscore front → IsDigitOrUnderscore c → AllByRecursion IsDigitOrUnderscore (front ++ c ∷ [])
+pub allowed_push : (prefix : List ℕ) (c : ℕ) → AllByRecursion IsDigitOrUnderscore prefix → IsDigitOrUnderscore c → AllByRecursion IsDigitOrUnderscore (prefix ++ c ∷ [])
 allowed_push [] c a h = (h, tt)
 allowed_push (d ∷ ds) c a h = (a.0, allowed_push ds c a.1 h)
 
@@ -39,46 +39,46 @@ digit_stays c h =
     let other : c ≢ 95 = λ e. let f : digit_value 95 < 16 = subst (λ x. digit_value x < 16) e h in absurd (omega arith) in
     rw (ne_eqb c 95 other) refl
 
-joined : (start front left rest : List ℕ) (c : ℕ) → start ≡ front ++ left → left ≡ c ∷ rest → start ≡ (front ++ c ∷ []) ++ rest
-joined start front left rest c e f = e ∙ (ap (λ l. front ++ l) f ∙ sym (append_assoc front (c ∷ []) rest))
+joined : (start prefix left rest : List ℕ) (c : ℕ) → start ≡ prefix ++ left → left ≡ c ∷ rest → start ≡ (prefix ++ c ∷ []) ++ rest
+joined start prefix left rest c e f = e ∙ (ap (λ l. prefix ++ l) f ∙ sym (append_assoc prefix (c ∷ []) rest))
 
 module _ (first : ℕ) (start left : List ℕ) (digits value : ℕ) (r : Read first start left digits value) where
   pub past_underscore : (rest : List ℕ) → left ≡ 95 ∷ rest → Read first start rest digits value
   past_underscore rest e =
-      let f : without_underscores (r.front ++ 95 ∷ []) ≡ without_underscores r.front = filter-append _ r.front (95 ∷ []) ∙ append-nil _ in
+      let f : without_underscores (r.prefix ++ 95 ∷ []) ≡ without_underscores r.prefix = filter-append _ r.prefix (95 ∷ []) ∙ append-nil _ in
       record {
-        front = r.front ++ 95 ∷ [];
-        join = joined start r.front left rest 95 r.join e;
-        allowed = allowed_push r.front 95 r.allowed (inr refl);
+        prefix = r.prefix ++ 95 ∷ [];
+        join = joined start r.prefix left rest 95 r.join e;
+        allowed = allowed_push r.prefix 95 r.allowed (inr refl);
         counted = rw f r.counted;
         valued = rw f r.valued;
       }
 
   pub past_digit : (c digit : ℕ) (rest : List ℕ) (more sum : ℕ) → left ≡ c ∷ rest → IsHexDigit c → digit_value c ≡ digit → more ≡ min (digits + 1) 7 → sum ≡ min (value * 16 + digit) 0x110000 → Read first start rest more sum
   past_digit c digit rest more sum e h d m s =
-      let f : without_underscores (r.front ++ c ∷ []) ≡ without_underscores r.front ++ c ∷ [] = filter-append _ r.front (c ∷ []) ∙ ap (λ l. without_underscores r.front ++ l) (digit_stays c h) in
+      let f : without_underscores (r.prefix ++ c ∷ []) ≡ without_underscores r.prefix ++ c ∷ [] = filter-append _ r.prefix (c ∷ []) ∙ ap (λ l. without_underscores r.prefix ++ l) (digit_stays c h) in
       record {
-        front = r.front ++ c ∷ [];
-        join = joined start r.front left rest c r.join e;
-        allowed = allowed_push r.front c r.allowed (inl h);
-        counted = rw f (counted_push digits (without_underscores r.front) c more r.counted m);
-        valued = rw (f, value_push first (without_underscores r.front) c) (omega (arith, r.valued, s, d));
+        prefix = r.prefix ++ c ∷ [];
+        join = joined start r.prefix left rest c r.join e;
+        allowed = allowed_push r.prefix c r.allowed (inl h);
+        counted = rw f (counted_push digits (without_underscores r.prefix) c more r.counted m);
+        valued = rw (f, value_push first (without_underscores r.prefix) c) (omega (arith, r.valued, s, d));
       }
 
   module _ (mode : Mode) (c : ℕ) (h : IsHexDigit c) where
     pub ends : left ≡ [] → Escape mode (117 ∷ 123 ∷ c ∷ start) (Err UnclosedUnicodeEscape) []
-    ends e = at (unclosed (c ∷ r.front) (h, r.allowed)) (ap (λ l. 117 ∷ 123 ∷ c ∷ l) (r.join ∙ (ap (λ l. r.front ++ l) e ∙ append-nil r.front))) refl refl
+    ends e = at (unclosed (c ∷ r.prefix) (h, r.allowed)) (ap (λ l. 117 ∷ 123 ∷ c ∷ l) (r.join ∙ (ap (λ l. r.prefix ++ l) e ∙ append-nil r.prefix))) refl refl
 
     pub stops : (d : ℕ) (rest : List ℕ) → left ≡ d ∷ rest → IsForeign d → Escape mode (117 ∷ 123 ∷ c ∷ start) (Err InvalidCharInUnicodeEscape) rest
-    stops d rest e f = at (foreign (c ∷ r.front) d rest (h, r.allowed) f) (ap (λ l. 117 ∷ 123 ∷ c ∷ l) (r.join ∙ ap (λ l. r.front ++ l) e)) refl refl
+    stops d rest e f = at (foreign (c ∷ r.prefix) d rest (h, r.allowed) f) (ap (λ l. 117 ∷ 123 ∷ c ∷ l) (r.join ∙ ap (λ l. r.prefix ++ l) e)) refl refl
 
     pub closes : (rest : List ℕ) (outcome : Result ℕ Fault) → left ≡ 125 ∷ rest → digit_value c ≡ first → ((cs : List ℕ) → digits ≡ min 7 (length cs) → value ≡ min 0x110000 (digits_value 16 cs) → outcome ≡ unicode_escape mode cs) → Escape mode (117 ∷ 123 ∷ c ∷ start) outcome rest
     closes rest outcome e f k =
-        let later = without_underscores r.front in
-        let w : without_underscores (c ∷ r.front) ≡ c ∷ later = filter-append (λ d. not (nat_eq d 95)) (c ∷ []) r.front ∙ ap (λ l. l ++ later) (digit_stays c h) in
+        let later = without_underscores r.prefix in
+        let w : without_underscores (c ∷ r.prefix) ≡ c ∷ later = filter-append (λ d. not (nat_eq d 95)) (c ∷ []) r.prefix ∙ ap (λ l. l ++ later) (digit_stays c h) in
         let n : 0 * 16 + digit_value c ≡ first = omega arith in
         let v : digits_value 16 (c ∷ later) ≡ digits_value_after 16 first later = ap (λ x. digits_value_after 16 x later) n in
-        at (closed (c ∷ r.front) rest (h, r.allowed)) (ap (λ l. 117 ∷ 123 ∷ c ∷ l) (r.join ∙ ap (λ l. r.front ++ l) e)) (k (c ∷ later) (omega (arith, r.counted)) (rw v r.valued) ∙ ap (unicode_escape mode) (sym w)) refl
+        at (closed (c ∷ r.prefix) rest (h, r.allowed)) (ap (λ l. 117 ∷ 123 ∷ c ∷ l) (r.join ∙ ap (λ l. r.prefix ++ l) e)) (k (c ∷ later) (omega (arith, r.counted)) (rw v r.valued) ∙ ap (unicode_escape mode) (sym w)) refl
 
 -- the character after `\u`
 pub at_brace : (old new : List ℕ) (r : Option ℕ) → MatchOption r ((old ≡ []) × (new ≡ [])) (λ c. old ≡ c ∷ new) → option_eq nat_eq r (Some 123) ≡ true → old ≡ 123 ∷ new

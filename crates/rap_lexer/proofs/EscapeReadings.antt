@@ -40,21 +40,21 @@ some_hex mode (a ∷ cs) = elim (hex_or_not a) [ inl h ↦ second cs h | inr h �
 abbrev after_digit : ℕ → List ℕ → List ℕ
 after_digit c cs = 117 ∷ 123 ∷ c ∷ cs
 
-one_digit : (mode : Mode) (c : ℕ) (front : List ℕ) (d : ℕ) (cs : List ℕ) → AreDigits (c ∷ front) → (IsDigitOrUnderscore d → Read mode (after_digit c (front ++ d ∷ cs))) → Read mode (after_digit c (front ++ d ∷ cs))
-one_digit mode c front d cs a more = by_character (eqb_tells d 125) (hex_or_not d) (eqb_tells d 95)
+one_digit : (mode : Mode) (c : ℕ) (prefix : List ℕ) (d : ℕ) (cs : List ℕ) → AreDigits (c ∷ prefix) → (IsDigitOrUnderscore d → Read mode (after_digit c (prefix ++ d ∷ cs))) → Read mode (after_digit c (prefix ++ d ∷ cs))
+one_digit mode c prefix d cs a more = by_character (eqb_tells d 125) (hex_or_not d) (eqb_tells d 95)
   where
-    shorter : length cs ≤ length (after_digit c (front ++ d ∷ cs))
-    shorter = omega (arith, length-append front (d ∷ cs))
+    shorter : length cs ≤ length (after_digit c (prefix ++ d ∷ cs))
+    shorter = omega (arith, length-append prefix (d ∷ cs))
 
-    by_character : ((nat_eq d 125 ≡ true) × (d ≡ 125)) ⊎ ((nat_eq d 125 ≡ false) × (d ≢ 125)) → IsHexDigit d ⊎ (16 ≤ digit_value d) → ((nat_eq d 95 ≡ true) × (d ≡ 95)) ⊎ ((nat_eq d 95 ≡ false) × (d ≢ 95)) → Read mode (after_digit c (front ++ d ∷ cs))
-    by_character (inl e) h f = read (subst (λ x. Escape mode (after_digit c (front ++ x ∷ cs)) (unicode_escape mode (without_underscores (c ∷ front))) cs) (sym e.1) (closed (c ∷ front) cs a)) shorter
+    by_character : ((nat_eq d 125 ≡ true) × (d ≡ 125)) ⊎ ((nat_eq d 125 ≡ false) × (d ≢ 125)) → IsHexDigit d ⊎ (16 ≤ digit_value d) → ((nat_eq d 95 ≡ true) × (d ≡ 95)) ⊎ ((nat_eq d 95 ≡ false) × (d ≢ 95)) → Read mode (after_digit c (prefix ++ d ∷ cs))
+    by_character (inl e) h f = read (subst (λ x. Escape mode (after_digit c (prefix ++ x ∷ cs)) (unicode_escape mode (without_underscores (c ∷ prefix))) cs) (sym e.1) (closed (c ∷ prefix) cs a)) shorter
     by_character (inr e) (inl h) f = more (inl h)
     by_character (inr e) (inr h) (inl f) = more (inr f.1)
-    by_character (inr e) (inr h) (inr f) = read (foreign (c ∷ front) d cs a (h, f.1, e.1)) shorter
+    by_character (inr e) (inr h) (inr f) = read (foreign (c ∷ prefix) d cs a (h, f.1, e.1)) shorter
 
-some_digits : (mode : Mode) (c : ℕ) (front cs : List ℕ) → AreDigits (c ∷ front) → Read mode (after_digit c (front ++ cs))
-some_digits mode c front [] a = subst (λ l. Read mode (after_digit c l)) (sym (append-nil front)) (read (unclosed (c ∷ front) a) (omega arith))
-some_digits mode c front (d ∷ cs) a = one_digit mode c front d cs a (λ h. subst (λ l. Read mode (after_digit c l)) (append_assoc front (d ∷ []) cs) (some_digits mode c (front ++ d ∷ []) cs (a.0, allowed_push front d a.1 h)))
+some_digits : (mode : Mode) (c : ℕ) (prefix cs : List ℕ) → AreDigits (c ∷ prefix) → Read mode (after_digit c (prefix ++ cs))
+some_digits mode c prefix [] a = subst (λ l. Read mode (after_digit c l)) (sym (append-nil prefix)) (read (unclosed (c ∷ prefix) a) (omega arith))
+some_digits mode c prefix (d ∷ cs) a = one_digit mode c prefix d cs a (λ h. subst (λ l. Read mode (after_digit c l)) (append_assoc prefix (d ∷ []) cs) (some_digits mode c (prefix ++ d ∷ []) cs (a.0, allowed_push prefix d a.1 h)))
 
 some_braced : (mode : Mode) (cs : List ℕ) → Read mode (117 ∷ 123 ∷ cs)
 some_braced mode [] = read (unclosed [] tt) (omega arith)

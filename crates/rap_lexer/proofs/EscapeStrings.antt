@@ -4,9 +4,9 @@ use Rattle.std.proofs.lemmas.Bool.{eqb-true}
 use Rattle.std.specs.Option.{option_eq}
 use Rattle.rap_lexer.specs.declared.escape.Mode.{Mode}
 use Rattle.rap_lexer.specs.declared.escape.Fault.{Fault}
-use Rattle.rap_lexer.specs.Escape.{Character, StringTells, is_gap, told}
+use Rattle.rap_lexer.specs.Escape.{Character, StringReports, is_gap, reported}
 use Rattle.rap_lexer.specs.Run.{after_run}
-use Rattle.rap_lexer.specs.Escape.StringTells.{gap, next}
+use Rattle.rap_lexer.specs.Escape.StringReports.{gap, next}
 use Rattle.rap_lexer.proofs.EscapeGaps.{no_longer}
 
 -- a line feed stands first
@@ -28,13 +28,13 @@ module _ (body : List ℕ) (c : ℕ) (cs : List ℕ) (e : body ≡ c ∷ cs) whe
   is_no_gap (inr h) rest f = let g : cs ≡ 10 ∷ rest = cc in let k : begins_line cs ≡ true = rw g refl in cc
 
   module _ (mode : Mode) where
-    pub past_gap : (left : List ℕ) (faults : List Fault) → c ≡ 92 → begins_line cs ≡ true → left ≡ after_run is_gap cs → StringTells mode left faults → StringTells mode body faults
+    pub past_gap : (left : List ℕ) (faults : List Fault) → c ≡ 92 → begins_line cs ≡ true → left ≡ after_run is_gap cs → StringReports mode left faults → StringReports mode body faults
     past_gap left faults f h l t =
         let r = is_gap_from f h in
-        let k : StringTells mode (after_run is_gap r.0) faults = rw (l, r.2) at t in
+        let k : StringReports mode (after_run is_gap r.0) faults = rw (l, r.2) at t in
         rw r.1 (gap r.0 faults k)
 
-    pub past_character : (outcome : Result ℕ Fault) (left : List ℕ) (own faults : List Fault) → (c ≢ 92) ⊎ (begins_line cs ≡ false) → Character mode (c ∷ cs) outcome left → own ≡ told mode outcome → StringTells mode left faults → StringTells mode body (own ++ faults)
+    pub past_character : (outcome : Result ℕ Fault) (left : List ℕ) (own faults : List Fault) → (c ≢ 92) ⊎ (begins_line cs ≡ false) → Character mode (c ∷ cs) outcome left → own ≡ reported mode outcome → StringReports mode left faults → StringReports mode body (own ++ faults)
     past_character outcome left own faults g k o t = rw o (next body outcome left faults (is_no_gap g) (rw e k) t)
 
   pub gap_smaller : (left : List ℕ) → left ≡ after_run is_gap cs → length left < length body

@@ -9,13 +9,13 @@ pub mod EscapeReadings
 pub mod EscapeRules
 pub mod EscapeStrings
 pub mod EscapeWalks
-pub mod Fronts
 pub mod Lanes
 pub mod Leads
 pub mod Nesting
 pub mod OneBody
 pub mod OneRun
 pub mod OneToken
+pub mod Prefixes
 pub mod RawStrings
 pub mod RawWalk
 pub mod Runs

@@ -34,11 +34,11 @@ to_false true P Q e h = cc
 to_false false P Q e h = h
 
 differs : (a b : ℕ) → a ≢ b → nat_eq a b ≡ false
-differs a b n = tell (eqb_tells a b)
+differs a b n = by_case (eqb_tells a b)
   where
-    tell : ((nat_eq a b ≡ true) × (a ≡ b)) ⊎ ((nat_eq a b ≡ false) × (a ≢ b)) → nat_eq a b ≡ false
-    tell (inl e) = absurd (n e.1)
-    tell (inr e) = e.0
+    by_case : ((nat_eq a b ≡ true) × (a ≡ b)) ⊎ ((nat_eq a b ≡ false) × (a ≢ b)) → nat_eq a b ≡ false
+    by_case (inl e) = absurd (n e.1)
+    by_case (inr e) = e.0
 
 ended : {b b' : Bool} {r r' x : List ℕ} (c : Bool) → b ≡ c → r ≡ x → (b' ≡ c) × (r' ≡ x) → SameEnd b b' r r'
 ended c e f h = record { closed = e ∙ sym h.0; rest = f ∙ sym h.1 }
@@ -111,8 +111,8 @@ one_character cs b b' r r' = by_test (is_one_character cs)
 after_place : (n : ℕ) (cs : List ℕ) (place : ℕ) (rest : List ℕ) → ClosesRaw n cs place rest → drop (place + (n + 1)) cs ≡ rest
 after_place n cs place rest k =
     let quote = byte "\"" ∷ replicate n (byte "#") in
-    let whole : cs ≡ (k.front ++ quote) ++ rest = k.split ∙ sym (append_assoc k.front quote rest) in
-    ap (λ l. drop (place + (n + 1)) l) whole ∙ drop_at (k.front ++ quote) rest (place + (n + 1)) (omega (arith, length-append k.front quote, length-replicate {A = ℕ} n (byte "#"), k.size))
+    let whole : cs ≡ (k.prefix ++ quote) ++ rest = k.split ∙ sym (append_assoc k.prefix quote rest) in
+    ap (λ l. drop (place + (n + 1)) l) whole ∙ drop_at (k.prefix ++ quote) rest (place + (n + 1)) (omega (arith, length-append k.prefix quote, length-replicate {A = ℕ} n (byte "#"), k.size))
 
 pub one_raw : (n : ℕ) → EndsOnce (RawRun n)
 one_raw n cs _ _ _ _ (closes_at p r k first) (closes_at q s m first') =

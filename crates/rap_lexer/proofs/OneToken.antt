@@ -5,7 +5,7 @@ use Rattle.std.proofs.lemmas.Str.{IsUtf8-drop, encodes-chars}
 use Rattle.rap_lexer.specs.Class.{is_in}
 use Rattle.rap_lexer.specs.Comment.{IsBlockComment, Ends, block_kind}
 use Rattle.rap_lexer.specs.First.{First, IsSlash, IsHash, IsSign, is_reserved_hash}
-use Rattle.rap_lexer.specs.Lexeme.{plain, told, literal}
+use Rattle.rap_lexer.specs.Lexeme.{plain, with_remark, literal}
 use Rattle.rap_lexer.specs.Number.{IsExponent, IsFraction, IsPastDigits, IsBased, IsNumber, base_of, takes_dot, starts_exponent, has_digit}
 use Rattle.rap_lexer.specs.OneToken.{IsOnlyToken}
 use Rattle.rap_lexer.specs.Quoted.{StringRun, CharacterEnds, RawRun, IsLiteral, IsLifetime, IsCommonLifetime, IsTick, IsRawString, is_raw_lifetime, starts_lifetime, is_well_formed}
@@ -36,7 +36,7 @@ named token rest t t' r r' h h' = (h.0 ∙ sym h'.0, h.1 ∙ sym h'.1)
 block_comment : (cs : List ℕ) → One (IsBlockComment cs)
 block_comment cs t t' r r' h h' = by_ends h.0 h'.0 h.1 h'.1 h.2 h'.2
   where
-    by_ends : (b b' : Bool) → t ≡ (if b then plain (block_kind cs) else told (block_kind cs) OpenComment) → t' ≡ (if b' then plain (block_kind cs) else told (block_kind cs) OpenComment) → MatchBool b (Ends cs r) ((r ≡ []) × ((end : List ℕ) → ¬ Ends cs end)) → MatchBool b' (Ends cs r') ((r' ≡ []) × ((end : List ℕ) → ¬ Ends cs end)) → (t ≡ t') × (r ≡ r')
+    by_ends : (b b' : Bool) → t ≡ (if b then plain (block_kind cs) else with_remark (block_kind cs) OpenComment) → t' ≡ (if b' then plain (block_kind cs) else with_remark (block_kind cs) OpenComment) → MatchBool b (Ends cs r) ((r ≡ []) × ((end : List ℕ) → ¬ Ends cs end)) → MatchBool b' (Ends cs r') ((r' ≡ []) × ((end : List ℕ) → ¬ Ends cs end)) → (t ≡ t') × (r ≡ r')
     by_ends true true e e' h h' = (e ∙ sym e', one_body cs r r' h h')
     by_ends true false e e' h h' = absurd (h'.1 r h)
     by_ends false true e e' h h' = absurd (h.1 r' h')
@@ -71,10 +71,10 @@ literal_of Run once kind mode cs t t' r r' h h' =
 common_lifetime : (cs : List ℕ) → One (IsCommonLifetime cs)
 common_lifetime cs = by_test (next_is (byte "'") (after_run (is_in IdentContinue) (tail cs))) _ _ (named _ _) lasting
   where
-    lasting : One (λ t r. (r ≡ after_run (is_in IdentContinue) (tail cs)) × (t ≡ told LIFETIME_IDENT (if next_in Digit cs then LifetimeStartsWithNumber else (if next_is (byte "#") r then UnknownLifetimePrefix else Nothing))))
+    lasting : One (λ t r. (r ≡ after_run (is_in IdentContinue) (tail cs)) × (t ≡ with_remark LIFETIME_IDENT (if next_in Digit cs then LifetimeStartsWithNumber else (if next_is (byte "#") r then UnknownLifetimePrefix else Nothing))))
     lasting t t' r r' h h' =
         let e : r ≡ r' = h.0 ∙ sym h'.0 in
-        (h.1 ∙ (ap (λ x. told LIFETIME_IDENT (if next_in Digit cs then LifetimeStartsWithNumber else (if next_is (byte "#") x then UnknownLifetimePrefix else Nothing))) e ∙ sym h'.1), e)
+        (h.1 ∙ (ap (λ x. with_remark LIFETIME_IDENT (if next_in Digit cs then LifetimeStartsWithNumber else (if next_is (byte "#") x then UnknownLifetimePrefix else Nothing))) e ∙ sym h'.1), e)
 
 lifetime : (cs : List ℕ) → One (IsLifetime cs)
 lifetime cs = by_test (is_raw_lifetime cs) _ _ (named _ _) (common_lifetime cs)
@@ -82,10 +82,10 @@ lifetime cs = by_test (is_raw_lifetime cs) _ _ (named _ _) (common_lifetime cs)
 tick : (cs : List ℕ) → One (IsTick cs)
 tick cs = by_test (starts_lifetime cs) _ _ (lifetime cs) (literal_of CharacterEnds one_character _ _ cs)
 
-closed_raw : (kind n : ℕ) (cs : List ℕ) → One (λ t r. (closed : Bool) × (after : List ℕ) × RawRun n cs closed after × (t ≡ told kind (if is_well_formed closed n then Nothing else InvalidRawString)) × (r ≡ (if is_well_formed closed n then after_suffix after else after)))
+closed_raw : (kind n : ℕ) (cs : List ℕ) → One (λ t r. (closed : Bool) × (after : List ℕ) × RawRun n cs closed after × (t ≡ with_remark kind (if is_well_formed closed n then Nothing else InvalidRawString)) × (r ≡ (if is_well_formed closed n then after_suffix after else after)))
 closed_raw kind n cs t t' r r' h h' =
     let s = one_raw n cs h.0 h'.0 h.1 h'.1 h.2 h'.2 in
-    let a : told kind (if is_well_formed h.0 n then Nothing else InvalidRawString) ≡ told kind (if is_well_formed h'.0 n then Nothing else InvalidRawString) = rw s.closed refl in
+    let a : with_remark kind (if is_well_formed h.0 n then Nothing else InvalidRawString) ≡ with_remark kind (if is_well_formed h'.0 n then Nothing else InvalidRawString) = rw s.closed refl in
     let b : (if is_well_formed h.0 n then after_suffix h.1 else h.1) ≡ (if is_well_formed h'.0 n then after_suffix h'.1 else h'.1) = rw (s.closed, s.rest) refl in
     (h.3 ∙ (a ∙ sym h'.3), h.4 ∙ (b ∙ sym h'.4))
 

@@ -6,7 +6,7 @@ use Rattle.rap_lexer.specs.Class.{is_in}
 use Rattle.rap_lexer.specs.Quoted.{RawRun}
 use Rattle.rap_lexer.specs.Run.{next_is, tail, run_of, after_run}
 use Rattle.rap_lexer.specs.declared.lexer.run.Class.TheVariants.{Hash, InRawString}
-use Rattle.rap_lexer.proofs.Ends.{IsEnd, all, front}
+use Rattle.rap_lexer.proofs.Ends.{IsEnd, all, prefix}
 use Rattle.rap_lexer.specs.Quoted.RawRun.{closes_at, runs_on}
 use Rattle.rap_lexer.proofs.RawWalk.{RawWalk}
 use Rattle.rap_lexer.proofs.RawWalk.RawWalk.{end, close, other}
@@ -76,8 +76,8 @@ module _ (n : ℕ) (start here : List ℕ) (l : Leads (RawWalk n) start here) wh
 pub raw_end : {n : ℕ} {cs rest : List ℕ} {closed : Bool} → RawRun n cs closed rest → IsEnd cs rest
 raw_end {n} (closes_at place rest k first) =
     let quote = byte "\"" ∷ replicate n (byte "#") in
-    front (k.front ++ quote) rest (k.split ∙ sym (append_assoc k.front quote rest))
-raw_end {n} {cs} (runs_on h) = front cs [] (sym (append-nil cs))
+    prefix (k.prefix ++ quote) rest (k.split ∙ sym (append_assoc k.prefix quote rest))
+raw_end {n} {cs} (runs_on h) = prefix cs [] (sym (append-nil cs))
 
 -- what is no quote is passed over
 pub past_text : (n : ℕ) (start here : List ℕ) → Leads (RawWalk n) start here → Leads (RawWalk n) start (after_run (is_in InRawString) here)

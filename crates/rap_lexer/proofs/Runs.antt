@@ -24,8 +24,8 @@ run_of-after_run p (c ∷ cs) =
     ]
 
 -- a character, its run, and what follows
-pub run_front : (p : ℕ → Bool) (c : ℕ) (cs rest : List ℕ) → rest ≡ after_run p cs → c ∷ cs ≡ (c ∷ run_of p cs) ++ rest
-run_front p c cs rest e = ap (λ x. c ∷ x) (sym (ap (λ x. run_of p cs ++ x) e ∙ run_of-after_run p cs))
+pub run_prefix : (p : ℕ → Bool) (c : ℕ) (cs rest : List ℕ) → rest ≡ after_run p cs → c ∷ cs ≡ (c ∷ run_of p cs) ++ rest
+run_prefix p c cs rest e = ap (λ x. c ∷ x) (sym (ap (λ x. run_of p cs ++ x) e ∙ run_of-after_run p cs))
 
 -- as many elements as the run has stand before what follows it
 pub after_drop : (q : ℕ → Bool) (bs : List ℕ) → drop (length (run_of q bs)) bs ≡ after_run q bs

@@ -20,10 +20,10 @@ use Rattle.rap_lexer.proofs.Characters.{character_end}
 use Rattle.rap_lexer.proofs.RawStrings.{raw_end}
 
 -- `rest` ends the text, and something stands before it
-pub record IsFront (cs rest : List ℕ) : Type 0 where
-  pub front : List ℕ
-  pub join : cs ≡ front ++ rest
-  pub some : 0 < length front
+pub record IsPrefix (cs rest : List ℕ) : Type 0 where
+  pub prefix : List ℕ
+  pub join : cs ≡ prefix ++ rest
+  pub some : 0 < length prefix
 
 match_some : (P : Type 0) (Q : Class → Type 0) (o : Option Class) (class : Class) → o ≡ Some class → Q class → MatchOption o P Q
 match_some P Q None class e q = cc
@@ -154,14 +154,14 @@ sign_end edition c cs token rest = by_cases (c == byte "/") (slash_end cs token 
     (by_cases (c == byte "#") (hash_end edition cs token rest)
     (by_cases (is_in Emoji c) (invalid_word_end cs token rest) (λ h. is h.1 (all cs))))))
 
-pub front_of : (edition : Edition) (cs : List ℕ) (token : Lexeme) (rest : List ℕ) → First edition cs token rest → IsFront cs rest
-front_of edition [] token rest h = absurd h
-front_of edition (c ∷ cs) token rest h =
+pub prefix_of : (edition : Edition) (cs : List ℕ) (token : Lexeme) (rest : List ℕ) → First edition cs token rest → IsPrefix cs rest
+prefix_of edition [] token rest h = absurd h
+prefix_of edition (c ∷ cs) token rest h =
     let e : IsEnd cs rest =
     by_cases (is_in White c) (λ w. is w.1 (run (is_in White) cs))
     (by_cases (is_in IdentStart c) (word_like_end edition c cs token rest)
     (by_cases (is_in Digit c) (number_end c cs token rest) (sign_end edition c cs token rest))) h in
-    record { front = c ∷ e.front; join = ap (λ x. c ∷ x) e.join; some = omega arith }
+    record { prefix = c ∷ e.prefix; join = ap (λ x. c ∷ x) e.join; some = omega arith }
 
 -- a text with a byte has a character
 pub has_character : (bytes cs : List ℕ) → encode_utf8_all cs ≡ bytes → 0 < length bytes → 0 < length cs

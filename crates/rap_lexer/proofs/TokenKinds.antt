@@ -8,7 +8,7 @@ use Rattle.rap_lexer.specs.Class.{is_in}
 use Rattle.rap_lexer.specs.Comment.{line_kind, block_kind}
 use Rattle.rap_lexer.specs.First.{First, IsSlash, IsHash, IsSign, is_reserved_hash, single_kind}
 use Rattle.rap_base.specs.Keyword.{from_keyword, kind_of_word, reserved}
-use Rattle.rap_lexer.specs.Lexeme.{plain, told}
+use Rattle.rap_lexer.specs.Lexeme.{plain, with_remark}
 use Rattle.rap_lexer.specs.Number.{IsExponent, IsFraction, IsPastDigits, IsBased, IsNumber, base_of, takes_dot, starts_exponent, has_digit}
 use Rattle.rap_lexer.specs.Quoted.{StringRun, CharacterEnds, IsLiteral, IsLifetime, IsCommonLifetime, IsTick, IsRawString, is_raw_lifetime, starts_lifetime}
 use Rattle.rap_lexer.specs.Run.{next_is, next_in, tail, run_of, after_run}
@@ -126,7 +126,7 @@ word_like edition c cs token rest = by_cases (c == byte "r") (past_r edition cs 
     (by_cases (c == byte "b") (past_b edition cs token rest)
     (by_cases (c == byte "c") (past_c edition cs token rest) (word edition c cs token rest)))
 
-block_comment : (cs : List ℕ) (token : Lexeme) (rest : List ℕ) (closed : Bool) → token ≡ (if closed then plain (block_kind cs) else told (block_kind cs) OpenComment) → Low token
+block_comment : (cs : List ℕ) (token : Lexeme) (rest : List ℕ) (closed : Bool) → token ≡ (if closed then plain (block_kind cs) else with_remark (block_kind cs) OpenComment) → Low token
 block_comment cs token rest true e = is e (block_low cs)
 block_comment cs token rest false e = is e (block_low cs)
 

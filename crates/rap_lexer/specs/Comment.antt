@@ -2,7 +2,7 @@
 use Rattle.std.specs.Prelude.{◌≡◌, ◌≢◌, ℕ, Bool, not, ◌&&◌, List, [], ◌∷◌, if◌then◌else◌, MatchBool}
 use Rattle.std.specs.Str.{byte}
 use Rattle.rap_lexer.specs.Class.{is_in}
-use Rattle.rap_lexer.specs.Lexeme.{plain, told}
+use Rattle.rap_lexer.specs.Lexeme.{plain, with_remark}
 use Rattle.rap_lexer.specs.Run.{next_is, tail, after_run}
 use Rattle.rap_base.specs.TokenKind.{COMMENT, INNER_DOC_COMMENT, OUTER_DOC_COMMENT}
 use Rattle.rap_lexer.specs.declared.lexer.lexeme.Lexeme.{Lexeme}
@@ -31,7 +31,7 @@ block_kind cs =
 abbrev pub IsText : List ℕ → Type 0
 IsText cs = ((rest : List ℕ) → cs ≢ byte "/" ∷ byte "*" ∷ rest) × ((rest : List ℕ) → cs ≢ byte "*" ∷ byte "/" ∷ rest)
 
--- The body of a block comment stands at the front of the text, and `rest` follows it. Comments inside it nest.
+-- The body of a block comment stands at the beginning of the text, and `rest` follows it. Comments inside it nest.
 pub data Body : List ℕ → List ℕ → Type 0 where
   empty : (rest : List ℕ) → Body rest rest
   comment : (cs mid rest : List ℕ) → Body cs (byte "*" ∷ byte "/" ∷ mid) → Body mid rest → Body (byte "/" ∷ byte "*" ∷ cs) rest
@@ -41,9 +41,9 @@ pub data Body : List ℕ → List ℕ → Type 0 where
 abbrev pub Ends : List ℕ → List ℕ → Type 0
 Ends cs rest = Body cs (byte "*" ∷ byte "/" ∷ rest)
 
--- A block comment runs to its `*/`. Without one it runs to the end, and that is told.
+-- A block comment runs to its `*/`. Without one it runs to the end, and that is reported.
 abbrev pub IsBlockComment : List ℕ → Lexeme → List ℕ → Type 0
 IsBlockComment cs token rest =
     (closed : Bool)
-    × (token ≡ (if closed then plain (block_kind cs) else told (block_kind cs) OpenComment))
+    × (token ≡ (if closed then plain (block_kind cs) else with_remark (block_kind cs) OpenComment))
     × MatchBool closed (Ends cs rest) ((rest ≡ []) × ((end : List ℕ) → ¬ Ends cs end))

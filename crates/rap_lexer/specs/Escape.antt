@@ -1,4 +1,4 @@
--- The faults that the body of a literal tells. A body is the list of the characters between the quotes.
+-- The faults in the body of a literal. A body is the list of the characters between the quotes.
 use Rattle.std.specs.Prelude.{◌≡◌, ◌≢◌, ℕ, ◌<◌, ◌≤◌, ◌⊎◌, Bool, true, false, not, ◌&&◌, ◌||◌, ◌==◌, nat_lt, nat_le, if◌then◌else◌, ⊤, List, [], ◌∷◌, ◌++◌, length, filter, Option, Some, None, Result, Ok, Err, codes}
 use Rattle.std.specs.Str.{byte}
 use Rattle.std.specs.Str.Parse.{digits_value}
@@ -78,9 +78,9 @@ AreDigits [] = ⊥
 AreDigits (c ∷ cs) = IsHexDigit c × AllByRecursion IsDigitOrUnderscore cs
 
 -- the same, or nothing yet
-abbrev pub AreFrontDigits : List ℕ → Type 0
-AreFrontDigits [] = ⊤
-AreFrontDigits (c ∷ cs) = AreDigits (c ∷ cs)
+abbrev pub AreInitialDigits : List ℕ → Type 0
+AreInitialDigits [] = ⊤
+AreInitialDigits (c ∷ cs) = AreDigits (c ∷ cs)
 
 -- neither a digit nor `_` nor the end of a `\u{..}`
 abbrev pub IsForeign : ℕ → Type 0
@@ -93,7 +93,7 @@ without_underscores = filter (λ c. not (c == byte "_"))
 abbrev pub is_no_character : ℕ → Bool
 is_no_character value = nat_lt 0x10FFFF value || (nat_le 0xD800 value && nat_le value 0xDFFF)
 
--- what a `\u{..}` of these digits is: too many digits are told first, then a mode of bytes, then the value
+-- what a `\u{..}` of these digits is: too many digits are reported first, then a mode of bytes, then the value
 abbrev pub unicode_escape : Mode → List ℕ → Result ℕ Fault
 unicode_escape mode digits =
     if nat_lt 6 (length digits) then Err OverlongUnicodeEscape
@@ -128,9 +128,9 @@ pub data Escape (mode : Mode) : List ℕ → Result ℕ Fault → List ℕ → T
       → Escape mode (codes "u{_" ++ rest) (Err LeadingUnderscoreUnicodeEscape) rest
   empty : (rest : List ℕ)
       → Escape mode (codes "u{}" ++ rest) (Err EmptyUnicodeEscape) rest
-  unclosed : (cs : List ℕ) → AreFrontDigits cs
+  unclosed : (cs : List ℕ) → AreInitialDigits cs
       → Escape mode (codes "u{" ++ cs) (Err UnclosedUnicodeEscape) []
-  foreign : (cs : List ℕ) (c : ℕ) (rest : List ℕ) → AreFrontDigits cs → IsForeign c
+  foreign : (cs : List ℕ) (c : ℕ) (rest : List ℕ) → AreInitialDigits cs → IsForeign c
       → Escape mode (codes "u{" ++ cs ++ c ∷ rest) (Err InvalidCharInUnicodeEscape) rest
   closed : (cs rest : List ℕ) → AreDigits cs
       → Escape mode (codes "u{" ++ cs ++ byte "}" ∷ rest) (unicode_escape mode (without_underscores cs)) rest
@@ -150,49 +150,49 @@ pub data Character (mode : Mode) : List ℕ → Result ℕ Fault → List ℕ �
       → Character mode (backslash ∷ cs) outcome rest
 
 abbrev pub BeginsNot : List ℕ → List ℕ → Type 0
-BeginsNot front body = (rest : List ℕ) → body ≢ front ++ rest
+BeginsNot prefix body = (rest : List ℕ) → body ≢ prefix ++ rest
 
--- The body of a character or byte tells at most one fault. A carriage return without a backslash ends the check.
-pub data CharacterTells (mode : Mode) : List ℕ → List Fault → Type 0 where
-  empty : CharacterTells mode [] (ZeroChars ∷ [])
-  bare_return : (rest : List ℕ) → CharacterTells mode (carriage_return ∷ rest) []
+-- The body of a character or byte reports at most one fault. A carriage return without a backslash ends the check.
+pub data CharacterReports (mode : Mode) : List ℕ → List Fault → Type 0 where
+  empty : CharacterReports mode [] (ZeroChars ∷ [])
+  bare_return : (rest : List ℕ) → CharacterReports mode (carriage_return ∷ rest) []
   faulty : (body : List ℕ) (fault : Fault) (rest : List ℕ) → BeginsNot (carriage_return ∷ []) body
       → Character mode body (Err fault) rest
-      → CharacterTells mode body (fault ∷ [])
+      → CharacterReports mode body (fault ∷ [])
   more : (body : List ℕ) (value c : ℕ) (rest : List ℕ) → BeginsNot (carriage_return ∷ []) body
       → Character mode body (Ok value) (c ∷ rest)
-      → CharacterTells mode body (MoreThanOneChar ∷ [])
+      → CharacterReports mode body (MoreThanOneChar ∷ [])
   one : (body : List ℕ) (value : ℕ) → BeginsNot (carriage_return ∷ []) body
       → Character mode body (Ok value) []
-      → CharacterTells mode body []
+      → CharacterReports mode body []
 
 -- what a backslash before a line feed skips
 abbrev pub is_gap : ℕ → Bool
 is_gap c = (c == byte " ") || (c == tab) || (c == line_feed) || (c == carriage_return)
 
 -- the faults of one character in a string: its own, or that it is the NUL of a C string
-abbrev pub told : Mode → Result ℕ Fault → List Fault
-told CStr (Ok value) = if value == 0 then NulInCStr ∷ [] else []
-told mode (Ok value) = []
-told mode (Err fault) = fault ∷ []
+abbrev pub reported : Mode → Result ℕ Fault → List Fault
+reported CStr (Ok value) = if value == 0 then NulInCStr ∷ [] else []
+reported mode (Ok value) = []
+reported mode (Err fault) = fault ∷ []
 
--- The body of a string tells the faults of its characters in order.
-pub data StringTells (mode : Mode) : List ℕ → List Fault → Type 0 where
-  end : StringTells mode [] []
-  gap : (cs : List ℕ) (faults : List Fault) → StringTells mode (after_run is_gap cs) faults
-      → StringTells mode (backslash ∷ line_feed ∷ cs) faults
+-- The body of a string reports the faults of its characters in order.
+pub data StringReports (mode : Mode) : List ℕ → List Fault → Type 0 where
+  end : StringReports mode [] []
+  gap : (cs : List ℕ) (faults : List Fault) → StringReports mode (after_run is_gap cs) faults
+      → StringReports mode (backslash ∷ line_feed ∷ cs) faults
   next : (body : List ℕ) (outcome : Result ℕ Fault) (rest : List ℕ) (faults : List Fault)
       → BeginsNot (backslash ∷ line_feed ∷ []) body
-      → Character mode body outcome rest → StringTells mode rest faults
-      → StringTells mode body (told mode outcome ++ faults)
+      → Character mode body outcome rest → StringReports mode rest faults
+      → StringReports mode body (reported mode outcome ++ faults)
 
--- the body of a literal tells these faults
-abbrev pub Tells : Mode → List ℕ → List Fault → Type 0
-Tells Char = CharacterTells Char
-Tells Byte = CharacterTells Byte
-Tells Str = StringTells Str
-Tells ByteStr = StringTells ByteStr
-Tells CStr = StringTells CStr
+-- the body of a literal reports these faults
+abbrev pub Reports : Mode → List ℕ → List Fault → Type 0
+Reports Char = CharacterReports Char
+Reports Byte = CharacterReports Byte
+Reports Str = StringReports Str
+Reports ByteStr = StringReports ByteStr
+Reports CStr = StringReports CStr
 
 -- what is said of a fault
 abbrev pub message : Fault → Mode → List ℕ

@@ -4,7 +4,7 @@ use Rattle.std.specs.Str.{byte}
 use Rattle.rap_lexer.specs.Class.{is_in}
 use Rattle.rap_lexer.specs.Comment.{IsLineComment, IsBlockComment}
 use Rattle.rap_base.specs.Edition.{at_least_2024}
-use Rattle.rap_lexer.specs.Lexeme.{plain, told}
+use Rattle.rap_lexer.specs.Lexeme.{plain, with_remark}
 use Rattle.rap_lexer.specs.Number.{IsNumber}
 use Rattle.rap_lexer.specs.Quoted.{IsLiteral, StringRun, IsTick}
 use Rattle.rap_lexer.specs.Run.{next_is, tail, after_run}
@@ -66,7 +66,7 @@ is_reserved_hash edition cs = at_least_2024 edition && (next_is (byte "\"") cs |
 abbrev pub IsHash : Edition → List ℕ → Lexeme → List ℕ → Type 0
 IsHash edition cs token rest =
     MatchBool (is_reserved_hash edition cs)
-    ((token ≡ told ERROR ReservedString) × (rest ≡ tail cs))
+    ((token ≡ with_remark ERROR ReservedString) × (rest ≡ tail cs))
     (IsSingle (byte "#") cs token rest)
 
 -- What begins with neither white space nor an identifier nor a digit.

@@ -2,7 +2,7 @@
 use Rattle.std.specs.Prelude.{◌≡◌, ℕ, Bool, not, ◌&&◌, ◌||◌, ◌==◌, List, if◌then◌else◌, MatchBool, MatchOption, Option, Some, None}
 use Rattle.std.specs.Str.{byte}
 use Rattle.rap_lexer.specs.Class.{is_in}
-use Rattle.rap_lexer.specs.Lexeme.{plain, told}
+use Rattle.rap_lexer.specs.Lexeme.{plain, with_remark}
 use Rattle.rap_lexer.specs.Run.{next_is, next_in, tail, after_run, after_suffix}
 use Rattle.rap_base.specs.TokenKind.{INT_NUMBER, FLOAT_NUMBER}
 use Rattle.rap_lexer.specs.declared.lexer.lexeme.Lexeme.{Lexeme}
@@ -21,10 +21,10 @@ starts_exponent cs = next_is (byte "e") cs || next_is (byte "E") cs
 abbrev pub after_sign : List ℕ → List ℕ
 after_sign cs = if next_is (byte "+") cs || next_is (byte "-") cs then tail cs else cs
 
--- An exponent past its letter: an optional sign, then digits and `_`; that there is no digit is told.
+-- An exponent past its letter: an optional sign, then digits and `_`; that there is no digit is reported.
 abbrev pub IsExponent : List ℕ → Lexeme → List ℕ → Type 0
 IsExponent cs token rest =
-    (token ≡ told FLOAT_NUMBER (if has_digit DigitOrUnderscore (after_sign cs) then Nothing else NoExponentDigits))
+    (token ≡ with_remark FLOAT_NUMBER (if has_digit DigitOrUnderscore (after_sign cs) then Nothing else NoExponentDigits))
     × (rest ≡ after_suffix (after_run (is_in DigitOrUnderscore) (after_sign cs)))
 
 -- A float past its dot: if a digit follows at once, digits and `_`, and then perhaps an exponent.
@@ -45,11 +45,11 @@ IsPastDigits cs token rest =
     (MatchBool (starts_exponent cs) (IsExponent (tail cs) token rest)
     ((token ≡ plain INT_NUMBER) × (rest ≡ after_suffix cs)))
 
--- A number past its base prefix, with the digits of the base and `_`; that there is no digit is told.
+-- A number past its base prefix, with the digits of the base and `_`; that there is no digit is reported.
 abbrev pub IsBased : Class → List ℕ → Lexeme → List ℕ → Type 0
 IsBased class cs token rest =
     MatchBool (has_digit class cs) (IsPastDigits (after_run (is_in class) cs) token rest)
-    ((token ≡ told INT_NUMBER NoDigits) × (rest ≡ after_suffix (after_run (is_in class) cs)))
+    ((token ≡ with_remark INT_NUMBER NoDigits) × (rest ≡ after_suffix (after_run (is_in class) cs)))
 
 -- the digits that a base prefix asks for: after `0b` and `0o` all decimal ones, after `0x` the hexadecimal ones
 abbrev pub base_of : ℕ → List ℕ → Option Class

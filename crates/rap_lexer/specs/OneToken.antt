@@ -4,7 +4,7 @@ use Rattle.rap_lexer.specs.First.{First}
 use Rattle.rap_base.specs.declared.edition.Edition.{Edition}
 use Rattle.rap_lexer.specs.declared.lexer.lexeme.Lexeme.{Lexeme}
 
--- Whatever token of whatever length the rules allow at the front of the text is this one.
+-- Whatever token of whatever length the rules allow at the beginning of the text is this one.
 abbrev pub IsOnlyToken : Edition → List ℕ → Lexeme → ℕ → Type 0
 IsOnlyToken edition text token len =
     (other : Lexeme) (n : ℕ) → IsCharBoundary text n → First edition (chars text) other (chars (drop n text))

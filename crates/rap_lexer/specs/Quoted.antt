@@ -2,7 +2,7 @@
 use Rattle.std.specs.Prelude.{◌≡◌, ◌≢◌, ◌≤◌, ℕ, Bool, true, false, not, ◌&&◌, ◌||◌, ◌==◌, nat_le, List, [], ◌∷◌, ◌++◌, length, replicate, if◌then◌else◌, MatchBool}
 use Rattle.std.specs.Str.{byte}
 use Rattle.rap_lexer.specs.Class.{is_in}
-use Rattle.rap_lexer.specs.Lexeme.{plain, told, literal}
+use Rattle.rap_lexer.specs.Lexeme.{plain, with_remark, literal}
 use Rattle.rap_lexer.specs.Run.{next_is, next_in, tail, run_of, after_run, after_suffix}
 use Rattle.rap_base.specs.TokenKind.{CHAR, LIFETIME_IDENT}
 use Rattle.rap_lexer.specs.declared.escape.Mode.{Mode}
@@ -54,13 +54,13 @@ IsLiteral Run kind mode cs token rest =
     × (rest ≡ (if closed then after_suffix after else after))
 
 -- A lifetime past its quote: its first character, and then continues. With a quote directly after it is a character;
--- a `#` directly after, or a digit as its first character, is told.
+-- a `#` directly after, or a digit as its first character, is reported.
 abbrev pub IsCommonLifetime : List ℕ → Lexeme → List ℕ → Type 0
 IsCommonLifetime cs token rest =
     MatchBool (next_is (byte "'") (after_run (is_in IdentContinue) (tail cs)))
-    ((token ≡ told CHAR (Escapes Char)) × (rest ≡ tail (after_run (is_in IdentContinue) (tail cs))))
+    ((token ≡ with_remark CHAR (Escapes Char)) × (rest ≡ tail (after_run (is_in IdentContinue) (tail cs))))
     ((rest ≡ after_run (is_in IdentContinue) (tail cs))
-    × (token ≡ told LIFETIME_IDENT (if next_in Digit cs then LifetimeStartsWithNumber else (if next_is (byte "#") rest then UnknownLifetimePrefix else Nothing))))
+    × (token ≡ with_remark LIFETIME_IDENT (if next_in Digit cs then LifetimeStartsWithNumber else (if next_is (byte "#") rest then UnknownLifetimePrefix else Nothing))))
 
 abbrev pub is_raw_lifetime : List ℕ → Bool
 is_raw_lifetime cs = next_is (byte "r") cs && next_is (byte "#") (tail cs) && next_in IdentStart (tail (tail cs))
@@ -85,9 +85,9 @@ IsTick cs token rest =
 
 -- A quote and `n` of `#` stand at the place, and `rest` follows them.
 pub record ClosesRaw (n : ℕ) (cs : List ℕ) (place : ℕ) (rest : List ℕ) : Type 0 where
-  pub front : List ℕ
-  pub split : cs ≡ front ++ byte "\"" ∷ (replicate n (byte "#") ++ rest)
-  pub size : place ≡ length front
+  pub prefix : List ℕ
+  pub split : cs ≡ prefix ++ byte "\"" ∷ (replicate n (byte "#") ++ rest)
+  pub size : place ≡ length prefix
 
 -- A raw string past its opening quote: the first such place closes it; where there is none it runs to the end.
 pub data RawRun (n : ℕ) (cs : List ℕ) : Bool → List ℕ → Type 0 where
@@ -99,12 +99,12 @@ abbrev pub is_well_formed : Bool → ℕ → Bool
 is_well_formed closed n = closed && nat_le n 255
 
 -- A raw string past its `r`: `#`s, a quote, and up to a quote and as many `#`. A character in place of the first
--- quote is taken in and ends it. A suffix only where it is well formed; else that is told.
+-- quote is taken in and ends it. A suffix only where it is well formed; else that is reported.
 abbrev pub IsRawString : ℕ → List ℕ → Lexeme → List ℕ → Type 0
 IsRawString kind cs token rest =
     MatchBool (next_is (byte "\"") (after_run (is_in Hash) cs))
     ((closed : Bool) × (after : List ℕ)
     × RawRun (length (run_of (is_in Hash) cs)) (tail (after_run (is_in Hash) cs)) closed after
-    × (token ≡ told kind (if is_well_formed closed (length (run_of (is_in Hash) cs)) then Nothing else InvalidRawString))
+    × (token ≡ with_remark kind (if is_well_formed closed (length (run_of (is_in Hash) cs)) then Nothing else InvalidRawString))
     × (rest ≡ (if is_well_formed closed (length (run_of (is_in Hash) cs)) then after_suffix after else after)))
-    ((token ≡ told kind InvalidRawString) × (rest ≡ tail (after_run (is_in Hash) cs)))
+    ((token ≡ with_remark kind InvalidRawString) × (rest ≡ tail (after_run (is_in Hash) cs)))

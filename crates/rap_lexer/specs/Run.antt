@@ -1,4 +1,4 @@
--- What stands at the front of a text.
+-- What stands at the beginning of a text.
 use Rattle.std.specs.Prelude.{ℕ, Bool, false, List, [], ◌∷◌, ◌==◌, if◌then◌else◌}
 use Rattle.rap_lexer.specs.Class.{is_in}
 use Rattle.rap_lexer.specs.declared.lexer.run.Class.{Class}
@@ -19,7 +19,7 @@ abbrev pub tail : List ℕ → List ℕ
 tail [] = []
 tail (c ∷ cs) = cs
 
--- the characters from the front on that pass the test, as many as there are
+-- the characters from the beginning on that pass the test, as many as there are
 abbrev pub run_of : (ℕ → Bool) → List ℕ → List ℕ
 run_of p [] = []
 run_of p (c ∷ cs) = if p c then c ∷ run_of p cs else []

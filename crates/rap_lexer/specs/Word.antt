@@ -3,7 +3,7 @@ use Rattle.std.specs.Prelude.{◌≡◌, ℕ, Bool, ◌&&◌, ◌||◌, ◌==◌
 use Rattle.std.specs.Str.{byte}
 use Rattle.rap_lexer.specs.Class.{is_in}
 use Rattle.rap_base.specs.Keyword.{from_keyword}
-use Rattle.rap_lexer.specs.Lexeme.{plain, told}
+use Rattle.rap_lexer.specs.Lexeme.{plain, with_remark}
 use Rattle.rap_lexer.specs.Quoted.{IsLiteral, IsRawString, StringRun, CharacterEnds}
 use Rattle.rap_lexer.specs.Run.{next_is, next_in, tail, run_of, after_run}
 use Rattle.rap_base.specs.TokenKind.{UNDERSCORE, IDENT, STRING, BYTE, BYTE_STRING, C_STRING}
@@ -22,19 +22,19 @@ word_kind edition text = if bytes_eq text (codes "_") then UNDERSCORE else unwra
 abbrev pub ends_prefix : List ℕ → Bool
 ends_prefix cs = next_is (byte "#") cs || next_is (byte "\"") cs || next_is (byte "'") cs
 
--- what is to be told of a prefix with this text: of `builtin` nothing
+-- what is to be reported about a prefix with this text: of `builtin` nothing
 abbrev pub prefix_remark : List ℕ → Remark
 prefix_remark text = if bytes_eq text (codes "builtin") then Nothing else UnknownPrefix
 
 -- An identifier that met an emoji goes on over more of them.
 abbrev pub IsInvalidWord : List ℕ → Lexeme → List ℕ → Type 0
-IsInvalidWord cs token rest = (token ≡ told IDENT InvalidIdent) × (rest ≡ after_run (is_in InvalidContinue) cs)
+IsInvalidWord cs token rest = (token ≡ with_remark IDENT InvalidIdent) × (rest ≡ after_run (is_in InvalidContinue) cs)
 
 -- An identifier by its text and what follows it.
 abbrev pub IsWordBefore : Edition → List ℕ → List ℕ → Lexeme → List ℕ → Type 0
 IsWordBefore edition text after token rest =
     MatchBool (ends_prefix after)
-    ((token ≡ told IDENT (prefix_remark text)) × (rest ≡ after))
+    ((token ≡ with_remark IDENT (prefix_remark text)) × (rest ≡ after))
     (MatchBool (next_in Emoji after) (IsInvalidWord after token rest)
     ((token ≡ plain (word_kind edition text)) × (rest ≡ after)))
 

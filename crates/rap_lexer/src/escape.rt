@@ -1,7 +1,7 @@
 //! The faults of escapes in literals, after the Rust Reference, "Tokens", and the crate `rustc-literal-escaper`.
 ghost use Rattle.std.specs.Prelude.{◌≡◌, List, [], ◌∷◌, MatchOption, option_to_list, IfSome};
 ghost use Rattle.std.specs.Str.{chars};
-ghost use Rattle.rap_lexer.specs.Escape.{message, is_byte, is_single, hex_limit, told, Character, CharacterTells, StringTells, Tells, is_gap};
+ghost use Rattle.rap_lexer.specs.Escape.{message, is_byte, is_single, hex_limit, reported, Character, CharacterReports, StringReports, Reports, is_gap};
 ghost use Rattle.rap_lexer.specs.EscapeWalk.{faults};
 ghost use Rattle.rap_lexer.specs.Run.{after_run};
 ghost use Rattle.rap_lexer.specs.declared.escape.Fault.{Fault};
@@ -124,7 +124,7 @@ impl Fault {
 
 // The fault of a character's or byte's body.
 fn character_fault(mode: Mode, body: &str) -> Option<Fault>
-    ensures { CharacterTells mode (chars body.now) (option_to_list result) }
+    ensures { CharacterReports mode (chars body.now) (option_to_list result) }
 {
     let mut rest = Cursor::new(body);
     match rest.bump() {
@@ -138,9 +138,9 @@ fn character_fault(mode: Mode, body: &str) -> Option<Fault>
     }
 }
 
-// The fault that a string tells of one of its characters.
-fn told(mode: Mode, outcome: Result<u32, Fault>) -> Option<Fault>
-    ensures { option_to_list result ≡ told mode outcome }
+// The fault that a string reports for one of its characters.
+fn reported(mode: Mode, outcome: Result<u32, Fault>) -> Option<Fault>
+    ensures { option_to_list result ≡ reported mode outcome }
 {
     match outcome {
         Err(fault) => Some(fault),
@@ -170,15 +170,15 @@ fn skip_gap(rest: &mut Cursor<'_>)
 
 // The next fault of a string's body.
 fn next_fault(mode: Mode, rest: &mut Cursor<'_>) -> Option<Fault>
-    ensures { MatchOption result ((rest.new ≡ []) × StringTells mode rest.old [])
-        (λ fault. (faults : List Fault) → StringTells mode rest.new faults → StringTells mode rest.old (fault ∷ faults)) }
+    ensures { MatchOption result ((rest.new ≡ []) × StringReports mode rest.old [])
+        (λ fault. (faults : List Fault) → StringReports mode rest.new faults → StringReports mode rest.old (fault ∷ faults)) }
 {
     'body: while let Some(c) = rest.bump() {
         if c == '\\' && rest.first() == Some('\n') {
             skip_gap(rest);
             continue;
         }
-        if let Some(fault) = told(mode, character(mode, c, rest)) {
+        if let Some(fault) = reported(mode, character(mode, c, rest)) {
             return Some(fault);
         }
     }
@@ -209,13 +209,13 @@ impl<'a> Model for Faults<'a> {
 }
 
 impl<'a> Faults<'a> {
-    /// The faults that the body of a literal tells, which is the text between its quotes.
+    /// The faults in the body of a literal, which is the text between its quotes.
     ///
-    /// A character or byte tells one fault at most.
+    /// A character or byte reports one fault at most.
     pub fn new(mode: Mode, body: &'a str) -> Faults<'a>
         ensures list { result ≡ faults mode (chars body.now) }
-        ensures told { Tells mode (chars body.now) result }
-        ensures only { (others : List Fault) → Tells mode (chars body.now) others → others ≡ result }
+        ensures reported { Reports mode (chars body.now) result }
+        ensures only { (others : List Fault) → Reports mode (chars body.now) others → others ≡ result }
     {
         if mode.is_single() {
             Faults {
@@ -256,7 +256,7 @@ mod tests {
     use super::*;
 
     #[test]
-    fn tells_each_fault(rt: HostRuntime) {
+    fn reports_each_fault(rt: HostRuntime) {
         for (mode, body, message) in [
             (Mode::Char, "", "empty character literal"),
             (Mode::Byte, "", "empty character literal"),
@@ -329,7 +329,7 @@ mod tests {
     }
 
     #[test]
-    fn tells_faults_in_order(rt: HostRuntime) {
+    fn reports_faults_in_order(rt: HostRuntime) {
         let mut faults = Faults::new(Mode::CStr, "\\u{\\0\\x0\0\\x00\\u{0}\\q\\");
         for wanted in [
             Fault::InvalidCharInUnicodeEscape,

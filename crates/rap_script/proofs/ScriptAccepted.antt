@@ -56,9 +56,9 @@ module _ (text : List ℕ) (shebang : Option ℕ) (start n : ℕ) (h : HasOpenin
 
 -- ---- with a frontmatter
 
--- the bytes below `end` are read in the front of the text that ends there
-read_front : (text front : List ℕ) (end i : ℕ) → take end text ≡ front → i < end → get_or text i 0 ≡ get_or front i 0
-read_front text front end i e l = sym (get_or-take end text i 0 l) ∙ ap (λ l. get_or l i 0) e
+-- the bytes below `end` are read in the prefix of the text that ends there
+read_prefix : (text prefix : List ℕ) (end i : ℕ) → take end text ≡ prefix → i < end → get_or text i 0 ≡ get_or prefix i 0
+read_prefix text prefix end i e l = sym (get_or-take end text i 0 l) ∙ ap (λ l. get_or l i 0) e
 
 blank_ascii : (xs : List ℕ) (k : ℕ) → AllPass is_horizontal xs → k < length xs → get_or xs k 0 < 128
 blank_ascii xs k all l = let p : is_horizontal (get_or xs k 0) ≡ true = all k 0 l in grind (arith, nat_tests)
@@ -74,14 +74,14 @@ module _ (text : List ℕ) (end : ℕ) (at : Range ℕ) (u : IsUtf8 text) (fits 
   starts_at (inr none) = subst (λ (k : ℕ). IsCharBoundary text k) (omega arith) (IsCharBoundary-start text u)
   starts_at (inl some) =
       let k = length w.left - 1 in
-      let read : get_or text k 0 ≡ get_or w.left k 0 = read_front text (w.left ++ (w.word ++ w.right)) end k w.whole (omega (arith, sizes)) ∙ get_or_append_left w.left (w.word ++ w.right) 0 k (omega arith) in
+      let read : get_or text k 0 ≡ get_or w.left k 0 = read_prefix text (w.left ++ (w.word ++ w.right)) end k w.whole (omega (arith, sizes)) ∙ get_or_append_left w.left (w.word ++ w.right) 0 k (omega arith) in
       let ascii : get_or w.left k 0 < 128 = blank_ascii w.left k w.left_blank (omega arith) in
       subst (λ (j : ℕ). IsCharBoundary text j) (omega arith) (IsCharBoundary-after_ascii text k u (omega (arith, sizes)) (omega (arith, read, ascii)))
 
   right_read : 0 < length w.right → get_or text (length w.left + length w.word) 0 ≡ get_or w.right 0 0
   right_read some =
       let place : length w.left + length w.word ≡ length w.left + (length w.word + 0) = omega arith in
-      read_front text (w.left ++ (w.word ++ w.right)) end (length w.left + length w.word) w.whole (omega (arith, sizes))
+      read_prefix text (w.left ++ (w.word ++ w.right)) end (length w.left + length w.word) w.whole (omega (arith, sizes))
       ∙ (ap (λ k. get_or (w.left ++ (w.word ++ w.right)) k 0) place
       ∙ (get_or-append-add w.left (w.word ++ w.right) (length w.word + 0) 0
       ∙ get_or-append-add w.word w.right 0 0))

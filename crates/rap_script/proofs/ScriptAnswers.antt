@@ -22,8 +22,8 @@ One P = (a b : Answer) → P a → P b → a ≡ b
 
 -- the answers, where the shebang ends at `sh`, and `n` dashes stand at `at`
 module _ (text : List ℕ) (sh : Option ℕ) (at n : ℕ) where
-  abbrev told : List ℕ → Range ℕ → Answer
-  told message primary = inr (record { message = message; primary = primary; visible = span at n ∷ [] })
+  abbrev reported : List ℕ → Range ℕ → Answer
+  reported message primary = inr (record { message = message; primary = primary; visible = span at n ∷ [] })
 
   abbrev plain : Answer
   plain = inl (record {
@@ -68,22 +68,22 @@ module _ (text : List ℕ) (sh : Option ℕ) (at n : ℕ) where
   -- by what follows the closing dashes
   abbrev AtClose : List ℕ → ℕ → ℕ → List ℕ → Answer → Type 0
   AtClose line matter size rest a =
-      ((extra : ℕ) × (after : List ℕ) × (0 < extra) × (rest ≡ dashes extra ++ after) × NoDash after × (a ≡ told (more extra) (span (matter + size + n) extra)))
-      ⊎ (((tail : List ℕ) × (end : List ℕ) × (content : List ℕ) × NoDash rest × FirstLine rest tail end content × (word : Range ℕ) × HasWord tail word × (a ≡ told after_close (moved (matter + size + n) word)))
+      ((extra : ℕ) × (after : List ℕ) × (0 < extra) × (rest ≡ dashes extra ++ after) × NoDash after × (a ≡ reported (more extra) (span (matter + size + n) extra)))
+      ⊎ (((tail : List ℕ) × (end : List ℕ) × (content : List ℕ) × NoDash rest × FirstLine rest tail end content × (word : Range ℕ) × HasWord tail word × (a ≡ reported after_close (moved (matter + size + n) word)))
       ⊎ ((tail : List ℕ) × (end : List ℕ) × (content : List ℕ) × FirstLine rest tail end content × AllPass is_horizontal tail × AtContent line matter size content (matter + size + n + length tail + length end) a))
 
   no_dash_after : (rest tail end content after : List ℕ) (extra : ℕ) → 0 < extra → rest ≡ dashes extra ++ after → FirstLine rest tail end content → AllPass is_horizontal tail → ⊥
   no_dash_after rest tail end content after extra some e l blank = no_dashes extra rest after some (λ more f. blank_no_dash rest tail end content more l blank f) e
 
   at_close : (line : List ℕ) (matter size : ℕ) (rest : List ℕ) → One (AtClose line matter size rest)
-  at_close line matter size rest a b (inl h) (inl k) = h.5 ∙ (ap (λ m. told (more m) (span (matter + size + n) m)) (extra_once h.0 k.0 rest h.1 k.1 h.4 k.4 h.3 k.3) ∙ sym k.5)
+  at_close line matter size rest a b (inl h) (inl k) = h.5 ∙ (ap (λ m. reported (more m) (span (matter + size + n) m)) (extra_once h.0 k.0 rest h.1 k.1 h.4 k.4 h.3 k.3) ∙ sym k.5)
   at_close line matter size rest a b (inl h) (inr (inl k)) = absurd (no_dashes h.0 rest h.1 h.2 k.3 h.3)
   at_close line matter size rest a b (inl h) (inr (inr k)) = absurd (no_dash_after rest k.0 k.1 k.2 h.1 h.0 h.2 h.3 k.3 k.4)
   at_close line matter size rest a b (inr (inl h)) (inl k) = absurd (no_dashes k.0 rest k.1 k.2 h.3 k.3)
   at_close line matter size rest a b (inr (inl h)) (inr (inl k)) =
       let s = line_once rest h.0 k.0 h.1 k.1 h.2 k.2 h.4 k.4 in
       let w : HasWord h.0 k.5 = subst (λ (l : List ℕ). HasWord l k.5) (sym s.line_is) k.6 in
-      h.7 ∙ (ap (λ r. told after_close (moved (matter + size + n) r)) (word_once h.0 h.5 k.5 h.6 w) ∙ sym k.7)
+      h.7 ∙ (ap (λ r. reported after_close (moved (matter + size + n) r)) (word_once h.0 h.5 k.5 h.6 w) ∙ sym k.7)
   at_close line matter size rest a b (inr (inl h)) (inr (inr k)) =
       let s = line_once rest h.0 k.0 h.1 k.1 h.2 k.2 h.4 k.3 in
       absurd (word_or_blank h.0 h.5 h.6 (subst (λ (l : List ℕ). AllPass is_horizontal l) (sym s.line_is) k.4))
@@ -100,8 +100,8 @@ module _ (text : List ℕ) (sh : Option ℕ) (at n : ℕ) where
   -- by what closes the fence
   abbrev AtFence : List ℕ → Answer → Type 0
   AtFence after a =
-      (((p : ℕ) → ¬ HasFence 1 after p) × (a ≡ told (unclosed (dashes n)) (end_of text)))
-      ⊎ (((most : ℕ) × (place : ℕ) × (0 < most) × (most < n) × IsLongestFence most after place × (a ≡ told (fewer (n - most)) (span (at + n + place) most)))
+      (((p : ℕ) → ¬ HasFence 1 after p) × (a ≡ reported (unclosed (dashes n)) (end_of text)))
+      ⊎ (((most : ℕ) × (place : ℕ) × (0 < most) × (most < n) × IsLongestFence most after place × (a ≡ reported (fewer (n - most)) (span (at + n + place) most)))
       ⊎ ((line : List ℕ) × (end : List ℕ) × (matter : List ℕ) × (rest : List ℕ) × FirstLine after line end (matter ++ (dashes n ++ rest)) × IsFirstFence n after (length line + length end + length matter) × AtClose line (at + n + length line + length end) (length matter) rest a))
 
   at_fence : 3 ≤ n → (after : List ℕ) → One (AtFence after)
@@ -111,7 +111,7 @@ module _ (text : List ℕ) (sh : Option ℕ) (at n : ℕ) where
   at_fence enough after a b (inr (inl h)) (inl k) = absurd (k.0 h.1 (fewer_dashes h.0 1 after h.1 (omega (arith, h.2)) h.4.fence.fence))
   at_fence enough after a b (inr (inl h)) (inr (inl k)) =
       let s = longest_once h.0 k.0 after h.1 k.1 h.4 k.4 in
-      h.5 ∙ (ap (λ m. told (fewer (n - m)) (span (at + n + h.1) m)) s.0 ∙ (ap (λ p. told (fewer (n - k.0)) (span (at + n + p) k.0)) s.1 ∙ sym k.5))
+      h.5 ∙ (ap (λ m. reported (fewer (n - m)) (span (at + n + h.1) m)) s.0 ∙ (ap (λ p. reported (fewer (n - k.0)) (span (at + n + p) k.0)) s.1 ∙ sym k.5))
   at_fence enough after a b (inr (inl h)) (inr (inr k)) = absurd (omega (arith, h.3, h.4.longest n _ k.5.fence))
   at_fence enough after a b (inr (inr h)) (inl k) = absurd (k.0 _ (fewer_dashes n 1 after _ (omega arith) h.5.fence))
   at_fence enough after a b (inr (inr h)) (inr (inl k)) = absurd (omega (arith, k.3, k.4.longest n _ h.5.fence))
@@ -129,7 +129,7 @@ module _ (text : List ℕ) (sh : Option ℕ) (at n : ℕ) where
   abbrev AtOpening : List ℕ → Answer → Type 0
   AtOpening after a =
       ((n ≡ 0) × (a ≡ plain))
-      ⊎ (((0 < n) × (n < 3) × (a ≡ told (too_short n) (end_of text)))
+      ⊎ (((0 < n) × (n < 3) × (a ≡ reported (too_short n) (end_of text)))
       ⊎ ((3 ≤ n) × AtFence after a))
 
   at_opening : (after : List ℕ) → One (AtOpening after)
@@ -171,7 +171,7 @@ of_script text s (inl h) = of_plain text s h
 of_script text s (inr h) = of_fenced text s h
 
 no_fence : (text : List ℕ) → NoLineFeed text → (p : ℕ) → ¬ HasFence 1 text p
-no_fence text none p f = feed_inside f.front _ (subst (λ (l : List ℕ). NoLineFeed l) f.split none)
+no_fence text none p f = feed_inside f.prefix _ (subst (λ (l : List ℕ). NoLineFeed l) f.split none)
 
 of_refusal : (text : List ℕ) (e : Refusal) → IsRefused text e → Answers text (inr e)
 of_refusal text e (opens_too_short h) = record { o = h.opening; stage = inr (inl (h.some, h.few, ap (λ x. inr x) h.is)) }

@@ -1,4 +1,4 @@
--- where the blank lines at the front of a text end
+-- where the blank lines at the beginning of a text end
 use Rattle.std.proofs.Common.{◌≡◌, ◌≢◌, ℕ, zero, suc, Bool, true, false, cond, eqb, List, [], ◌∷◌, ◌++◌, ◌+◌, ◌<◌, ◌≤◌, ◌⊎◌, inl, inr, length, take, drop, get_or, Option, Some, None, chars, encode_utf8, encode_utf8_all, eq-eqb, IsUtf8, refl, ap, sym, ◌∙◌, subst, arith}
 use Rattle.std.specs.Char.{len_utf8}
 use Rattle.std.specs.List.{AllPass}
@@ -118,7 +118,7 @@ found text r (inl (e, none)) =
 found text r (inr (n, e, b, most)) =
     subst (λ (x : Option ℕ). EndsBlankLines text x) (sym (e ∙ ap (λ (x : ℕ). Some x) (omega arith))) (to_lines text n b, λ m h. most m (from_lines text m h))
 
--- the walk from the front on ends where the blank lines end
+-- the walk from the beginning on ends where the blank lines end
 pub ends_blank_lines : (text : List ℕ) (r : Option ℕ) → r ≡ blank_from 0 None (chars text) → EndsBlankLines text r
 ends_blank_lines text r e = found text r (subst (λ (x : Option ℕ). Ends 0 None (chars text) x) (sym e) (ends 0 None (chars text)))
 
@@ -161,8 +161,8 @@ module _ (cs : List ℕ) (k c at len : ℕ) (inside : k < length cs) (is : c ≡
   pub step_other : (end found : Option ℕ) → is_rust_whitespace c ≡ false → blank_from at end (drop k cs) ≡ found → end ≡ found
   step_other end found w h = sym (cond_false (is_rust_whitespace c) _ end w) ∙ (sym (here end) ∙ h)
 
--- a front of the text's characters takes no more bytes than the text
-pub front_fits : (text : List ℕ) (k : ℕ) → IsUtf8 text → length (encode_utf8_all (take k (chars text))) ≤ length text
-front_fits text k u =
+-- a prefix of the text's characters takes no more bytes than the text
+pub prefix_fits : (text : List ℕ) (k : ℕ) → IsUtf8 text → length (encode_utf8_all (take k (chars text))) ≤ length text
+prefix_fits text k u =
     let whole : encode_utf8_all (take k (chars text)) ++ encode_utf8_all (drop k (chars text)) ≡ text = sym (encodes-append (take k (chars text)) (drop k (chars text))) ∙ (ap encode_utf8_all (take-append-drop k (chars text)) ∙ encodes-chars text u) in
     omega (arith, ap length whole, length-append (encode_utf8_all (take k (chars text))) (encode_utf8_all (drop k (chars text))))

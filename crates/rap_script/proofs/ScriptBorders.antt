@@ -9,16 +9,16 @@ use Rattle.rap_script.specs.Script.IsLineEnd.{with_return, feed, text_end}
 use Rattle.rap_script.proofs.ScriptLines.{starts_with_dashes}
 
 -- a text may be cut after an ASCII byte
-pub cut_after : (text front rest : List ℕ) (b : ℕ) → IsUtf8 text → text ≡ front ++ b ∷ rest → b < 128 → IsCharBoundary text (length front + 1)
-cut_after text front rest b u e small =
-    let read : get_or text (length front) 0 ≡ b = ap (λ l. get_or l (length front) 0) e ∙ get_or_at front b rest 0 (length front) refl in
-    IsCharBoundary-after_ascii text (length front) u (omega (arith, ap length e, length-append front (b ∷ rest))) (omega (arith, read))
+pub cut_after : (text prefix rest : List ℕ) (b : ℕ) → IsUtf8 text → text ≡ prefix ++ b ∷ rest → b < 128 → IsCharBoundary text (length prefix + 1)
+cut_after text prefix rest b u e small =
+    let read : get_or text (length prefix) 0 ≡ b = ap (λ l. get_or l (length prefix) 0) e ∙ get_or_at prefix b rest 0 (length prefix) refl in
+    IsCharBoundary-after_ascii text (length prefix) u (omega (arith, ap length e, length-append prefix (b ∷ rest))) (omega (arith, read))
 
 -- and before one
-pub cut_before : (text front rest : List ℕ) (b : ℕ) → text ≡ front ++ b ∷ rest → b < 128 → IsCharBoundary text (length front)
-cut_before text front rest b e small =
-    let read : get_or text (length front) 0 ≡ b = ap (λ l. get_or l (length front) 0) e ∙ get_or_at front b rest 0 (length front) refl in
-    IsCharBoundary-before_ascii text (length front) (omega (arith, ap length e, length-append front (b ∷ rest))) (omega (arith, read))
+pub cut_before : (text prefix rest : List ℕ) (b : ℕ) → text ≡ prefix ++ b ∷ rest → b < 128 → IsCharBoundary text (length prefix)
+cut_before text prefix rest b e small =
+    let read : get_or text (length prefix) 0 ≡ b = ap (λ l. get_or l (length prefix) 0) e ∙ get_or_at prefix b rest 0 (length prefix) refl in
+    IsCharBoundary-before_ascii text (length prefix) (omega (arith, ap length e, length-append prefix (b ∷ rest))) (omega (arith, read))
 
 pub line_ends_at : (text line end rest : List ℕ) → IsUtf8 text → text ≡ line ++ (end ++ rest) → IsLineEnd line end rest → IsCharBoundary text (length line + length end)
 line_ends_at text line _ _ u e (with_return _ rest) =
@@ -51,13 +51,13 @@ blank_border text (Some n) u h = lines_border text n u h.0
 pub splits : (text : List ℕ) (n : Option ℕ) (rest : List ℕ) → unwrap_or n 0 ≤ length text → drop (unwrap_or n 0) text ≡ rest → Splits text n rest
 splits text n rest inside e =
     record {
-      front = take (unwrap_or n 0) text;
+      prefix = take (unwrap_or n 0) text;
       whole = sym (take-append-drop (unwrap_or n 0) text) ∙ ap (λ l. take (unwrap_or n 0) text ++ l) e;
       size = length-take-le (unwrap_or n 0) text inside;
     }
 
 pub rest_of : (text : List ℕ) (n : Option ℕ) (rest : List ℕ) → Splits text n rest → rest ≡ drop (unwrap_or n 0) text
-rest_of text n rest s = sym (ap (λ l. drop (unwrap_or n 0) l) s.whole ∙ drop_at s.front rest (unwrap_or n 0) s.size)
+rest_of text n rest s = sym (ap (λ l. drop (unwrap_or n 0) l) s.whole ∙ drop_at s.prefix rest (unwrap_or n 0) s.size)
 
 pub found_dashes : (text : List ℕ) (end : Option ℕ) (n : ℕ) → IsUtf8 text → EndsBlankLines text end → n ≡ prefix_len (λ b. eqb b 45) (drop (unwrap_or end 0) text) → HasDashes text (unwrap_or end 0) n
 found_dashes text end n u h e =
@@ -94,7 +94,7 @@ found_opening text end start n u h d =
 pub dashes_inside : (text : List ℕ) (start n : ℕ) → HasDashes text start n → start + n ≤ length text
 dashes_inside text start n d =
     let f = d.fence in
-    let a = ap length f.splits.whole ∙ length-append f.splits.front (dashes f.n ++ f.after) in
+    let a = ap length f.splits.whole ∙ length-append f.splits.prefix (dashes f.n ++ f.after) in
     let b = length-append (dashes f.n) f.after in
     let c = length-replicate {A = ℕ} f.n 45 in
     omega (arith, a, b, c, f.splits.size, d.start_is, d.size)

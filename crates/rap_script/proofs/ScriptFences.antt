@@ -10,24 +10,24 @@ use Rattle.rap_script.proofs.ScriptLines.{FirstFeed, first_feed, no_feed, Starts
 
 pub fence_feed : (n : ℕ) (text : List ℕ) (p : ℕ) → HasFence n text p → get_or text (p - 1) 0 ≡ 10
 fence_feed n text p f =
-    ap (λ l. get_or l (p - 1) 0) f.split ∙ get_or_at f.front 10 (dashes n ++ f.rest) 0 (p - 1) (omega (arith, f.size))
+    ap (λ l. get_or l (p - 1) 0) f.split ∙ get_or_at f.prefix 10 (dashes n ++ f.rest) 0 (p - 1) (omega (arith, f.size))
 
 pub fence_inside : (n : ℕ) (text : List ℕ) (p : ℕ) → HasFence n text p → (0 < p) × (p + n ≤ length text)
 fence_inside n text p f =
-    let a : length text ≡ length f.front + suc (length (dashes n ++ f.rest)) = ap length f.split ∙ length-append f.front (10 ∷ (dashes n ++ f.rest)) in
+    let a : length text ≡ length f.prefix + suc (length (dashes n ++ f.rest)) = ap length f.split ∙ length-append f.prefix (10 ∷ (dashes n ++ f.rest)) in
     let b : length (dashes n ++ f.rest) ≡ n + length f.rest = length-append (dashes n) f.rest ∙ ap (λ m. m + length f.rest) (length-replicate {A = ℕ} n 45) in
     (omega (arith, f.size), omega (arith, a, b, f.size))
 
 pub fence_rest : (n : ℕ) (text : List ℕ) (p : ℕ) → (f : HasFence n text p) → drop p text ≡ dashes n ++ f.rest
 fence_rest n text p f =
-    let whole : text ≡ (f.front ++ 10 ∷ []) ++ (dashes n ++ f.rest) = f.split ∙ sym (append_assoc f.front (10 ∷ []) (dashes n ++ f.rest)) in
-    ap (λ l. drop p l) whole ∙ drop_at (f.front ++ 10 ∷ []) (dashes n ++ f.rest) p (omega (arith, length-append f.front (10 ∷ []), f.size))
+    let whole : text ≡ (f.prefix ++ 10 ∷ []) ++ (dashes n ++ f.rest) = f.split ∙ sym (append_assoc f.prefix (10 ∷ []) (dashes n ++ f.rest)) in
+    ap (λ l. drop p l) whole ∙ drop_at (f.prefix ++ 10 ∷ []) (dashes n ++ f.rest) p (omega (arith, length-append f.prefix (10 ∷ []), f.size))
 
 -- a fence stands where a line feed does, and dashes after it
 pub fence_from : (n : ℕ) (text : List ℕ) (k : ℕ) (rest : List ℕ) → k < length text → get_or text k 0 ≡ 10 → drop (k + 1) text ≡ dashes n ++ rest → HasFence n text (k + 1)
 fence_from n text k rest inside is e =
     record {
-      front = take k text;
+      prefix = take k text;
       rest = rest;
       split = sym (take-append-drop k text) ∙ ap (λ l. take k text ++ l) (drop_more text k 0 inside ∙ (ap (λ x. x ∷ drop (k + 1) text) is ∙ ap (λ l. 10 ∷ l) e));
       size = omega (arith, length-take-le k text (omega arith));

@@ -51,10 +51,10 @@ line_whole text h =
 around_feed : (text : List ℕ) (k : ℕ) → FirstFeed text k → drop k text ≡ 10 ∷ drop (k + 1) text
 around_feed text k h = drop_more text k 0 h.inside ∙ ap (λ x. x ∷ drop (k + 1) text) h.is
 
-no_return : (text : List ℕ) (k : ℕ) → k ≤ length text → (0 < k → get_or text (k - 1) 0 ≢ 13) → (front : List ℕ) → take k text ≢ front ++ 13 ∷ []
-no_return text k inside bare front e =
-    let size : length front + 1 ≡ k = omega (arith, ap length e, length-take-le k text inside, length-append front (13 ∷ [])) in
-    let last : get_or (take k text) (k - 1) 0 ≡ 13 = ap (λ l. get_or l (k - 1) 0) e ∙ get_or_at front 13 [] 0 (k - 1) (omega arith) in
+no_return : (text : List ℕ) (k : ℕ) → k ≤ length text → (0 < k → get_or text (k - 1) 0 ≢ 13) → (prefix : List ℕ) → take k text ≢ prefix ++ 13 ∷ []
+no_return text k inside bare prefix e =
+    let size : length prefix + 1 ≡ k = omega (arith, ap length e, length-take-le k text inside, length-append prefix (13 ∷ [])) in
+    let last : get_or (take k text) (k - 1) 0 ≡ 13 = ap (λ l. get_or l (k - 1) 0) e ∙ get_or_at prefix 13 [] 0 (k - 1) (omega arith) in
     bare (omega arith) (sym (get_or-take k text (k - 1) 0 (omega arith)) ∙ last)
 
 pub line_before_feed : (text : List ℕ) (k : ℕ) → FirstFeed text k → (0 < k → get_or text (k - 1) 0 ≢ 13) → HasLine text k (k + 1)
@@ -108,8 +108,8 @@ dash_at : (text : List ℕ) (i : ℕ) → i < prefix_len (λ b. eqb b 45) text �
 dash_at text i l = let p : eqb (get_or text i 0) 45 ≡ true = prefix_len_passes (λ (b : ℕ). eqb b 45) text i 0 l in grind (arith, nat_tests)
 
 -- dashes that are read one by one stand there as one part
-pub dashes_front : (text : List ℕ) (n : ℕ) → n ≤ length text → ((i : ℕ) → i < n → get_or text i 0 ≡ 45) → text ≡ dashes n ++ drop n text
-dashes_front text n inside each =
+pub dashes_prefix : (text : List ℕ) (n : ℕ) → n ≤ length text → ((i : ℕ) → i < n → get_or text i 0 ≡ 45) → text ≡ dashes n ++ drop n text
+dashes_prefix text n inside each =
     let size : length (dashes n) ≡ n = length-replicate n 45 in
     front_from_reads 0 text (dashes n) (omega arith) (λ i l. each i (omega arith) ∙ sym (get_or-replicate n i 45 0 (omega arith))) ∙ ap (λ m. dashes n ++ drop m text) size
 
@@ -118,7 +118,7 @@ starts_with_dashes text n e =
     let inside : n ≤ length text = omega (arith, prefix_len-le-length (λ (b : ℕ). eqb b 45) text) in
     record {
       inside = inside;
-      split = dashes_front text n inside (λ i l. dash_at text i (omega arith));
+      split = dashes_prefix text n inside (λ i l. dash_at text i (omega arith));
       no_more = λ rest f. no_dash_at text n e (omega (arith, ap length f, length-drop n text)) (sym (get_or-drop_zero n text) ∙ ap (λ l. get_or l 0 0) f);
     }
 
@@ -185,11 +185,11 @@ module _ (line : List ℕ) (start end : ℕ) (low : start < end) (high : end ≤
       let at : get_or (word line start end) 0 0 ≡ get_or line (start + 0) 0 = read_part line start end 0 0 (omega arith) in
       ap (λ j. get_or line j 0) (omega arith) ∙ (sym at ∙ ap (λ l. get_or l 0 0) e)
 
-  last_read : (front : List ℕ) (b : ℕ) → word line start end ≡ front ++ b ∷ [] → get_or line (end - 1) 0 ≡ b
-  last_read front b e =
-      let size : length front + 1 ≡ end - start = omega (arith, word_size, ap length e, length-append front (b ∷ [])) in
-      let at : get_or (word line start end) (length front) 0 ≡ get_or line (start + length front) 0 = read_part line start end (length front) 0 (omega arith) in
-      ap (λ j. get_or line j 0) (omega arith) ∙ (sym at ∙ (ap (λ l. get_or l (length front) 0) e ∙ get_or_at front b [] 0 (length front) refl))
+  last_read : (prefix : List ℕ) (b : ℕ) → word line start end ≡ prefix ++ b ∷ [] → get_or line (end - 1) 0 ≡ b
+  last_read prefix b e =
+      let size : length prefix + 1 ≡ end - start = omega (arith, word_size, ap length e, length-append prefix (b ∷ [])) in
+      let at : get_or (word line start end) (length prefix) 0 ≡ get_or line (start + length prefix) 0 = read_part line start end (length prefix) 0 (omega arith) in
+      ap (λ j. get_or line j 0) (omega arith) ∙ (sym at ∙ (ap (λ l. get_or l (length prefix) 0) e ∙ get_or_at prefix b [] 0 (length prefix) refl))
 
 pub span_from_ends : (a b at len : ℕ) → a ≡ at → b ≡ at + len → record { start = a; end = b } ≡ span at len
 span_from_ends a b at len e f = rw (e, f)
@@ -210,6 +210,6 @@ has_word line start end s some e =
       right_blank = λ k d l. subst (λ (b : ℕ). is_horizontal b ≡ true) (sym (get_or-drop end line k d)) (passes_after is_horizontal line (end + k) d (omega arith) (omega (arith, length-drop end line)));
       some = omega (arith, word_size line start end low high);
       first = λ b rest f. subst (λ (x : ℕ). is_horizontal x ≡ false) (first_read line start end low high b rest f) fails_at_start;
-      last = λ front b f. subst (λ (x : ℕ). is_horizontal x ≡ false) (last_read line start end low high front b f) fails_at_end;
+      last = λ prefix b f. subst (λ (x : ℕ). is_horizontal x ≡ false) (last_read line start end low high prefix b f) fails_at_end;
       is = span_from_ends start end (length (take start line)) (length (word line start end)) (sym size) (omega (arith, word_size line start end low high));
     }

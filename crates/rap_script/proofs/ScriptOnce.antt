@@ -96,8 +96,8 @@ extra_once n m text a b h k e f = let p = dashes_once n m a b h k (sym e ∙ f) 
 
 splits_once : (text : List ℕ) (n m : Option ℕ) (rest rest' : List ℕ) → Splits text n rest → Splits text m rest' → n ≡ m → rest ≡ rest'
 splits_once text n m rest rest' h k e =
-    let a : drop (unwrap_or n 0) text ≡ rest = ap (λ l. drop (unwrap_or n 0) l) h.whole ∙ drop_at h.front rest (unwrap_or n 0) h.size in
-    let b : drop (unwrap_or m 0) text ≡ rest' = ap (λ l. drop (unwrap_or m 0) l) k.whole ∙ drop_at k.front rest' (unwrap_or m 0) k.size in
+    let a : drop (unwrap_or n 0) text ≡ rest = ap (λ l. drop (unwrap_or n 0) l) h.whole ∙ drop_at h.prefix rest (unwrap_or n 0) h.size in
+    let b : drop (unwrap_or m 0) text ≡ rest' = ap (λ l. drop (unwrap_or m 0) l) k.whole ∙ drop_at k.prefix rest' (unwrap_or m 0) k.size in
     sym a ∙ (ap (λ o. drop (unwrap_or o 0) text) e ∙ b)
 
 pub shebang_once : (text : List ℕ) (o p : Option ℕ) → EndsShebang text o → EndsShebang text p → o ≡ p
@@ -152,7 +152,7 @@ longest_once most most' text p p' h k =
 
 -- more dashes are also fewer
 pub fewer_dashes : (n m : ℕ) (text : List ℕ) (p : ℕ) → m ≤ n → HasFence n text p → HasFence m text p
-fewer_dashes n m text p l h = record { front = h.front; rest = dashes (n - m) ++ h.rest; split = h.split ∙ ap (λ x. h.front ++ 10 ∷ x) (cut n m h.rest l); size = h.size }
+fewer_dashes n m text p l h = record { prefix = h.prefix; rest = dashes (n - m) ++ h.rest; split = h.split ∙ ap (λ x. h.prefix ++ 10 ∷ x) (cut n m h.rest l); size = h.size }
   where
     cut : (n m : ℕ) (rest : List ℕ) → m ≤ n → dashes n ++ rest ≡ dashes m ++ (dashes (n - m) ++ rest)
     cut n zero rest l = let e : n - 0 ≡ n = omega arith in ap (λ k. dashes k ++ rest) (sym e)
@@ -171,7 +171,7 @@ head_of : (w : List ℕ) → 0 < length w → (b : ℕ) × (rest : List ℕ) × 
 head_of [] p = absurd (omega arith)
 head_of (b ∷ rest) p = (b, rest, refl)
 
-last_of : (w : List ℕ) → 0 < length w → (front : List ℕ) × (b : ℕ) × (w ≡ front ++ b ∷ [])
+last_of : (w : List ℕ) → 0 < length w → (prefix : List ℕ) × (b : ℕ) × (w ≡ prefix ++ b ∷ [])
 last_of [] p = absurd (omega arith)
 last_of (x ∷ []) p = ([], x, refl)
 last_of (x ∷ y ∷ w) p = let l = last_of (y ∷ w) (omega arith) in (x ∷ l.0, l.1, ap (λ z. x ∷ z) l.2)

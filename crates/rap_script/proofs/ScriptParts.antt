@@ -8,28 +8,28 @@ use Rattle.rap_script.specs.ScriptPlaces.{HasOpening, HasClosing, HasEnding}
 
 -- `n` dashes stand at `start`, and the rest follows
 pub record DashesAt (text : List ℕ) (start n : ℕ) (rest : List ℕ) : Type 0 where
-  pub front : List ℕ
-  pub whole : text ≡ front ++ (dashes n ++ rest)
-  pub size : start ≡ length front
+  pub prefix : List ℕ
+  pub whole : text ≡ prefix ++ (dashes n ++ rest)
+  pub size : start ≡ length prefix
 
 module _ (text : List ℕ) (start n : ℕ) (rest : List ℕ) (d : DashesAt text start n rest) where
   pub rest_at : rest ≡ drop (start + n) text
   rest_at =
-      let whole : text ≡ (d.front ++ dashes n) ++ rest = d.whole ∙ sym (append_assoc d.front (dashes n) rest) in
-      let size : length (d.front ++ dashes n) ≡ start + n = omega (arith, length-append d.front (dashes n), length-replicate {A = ℕ} n 45, d.size) in
-      sym (ap (λ l. drop (start + n) l) whole ∙ drop_at (d.front ++ dashes n) rest (start + n) size)
+      let whole : text ≡ (d.prefix ++ dashes n) ++ rest = d.whole ∙ sym (append_assoc d.prefix (dashes n) rest) in
+      let size : length (d.prefix ++ dashes n) ≡ start + n = omega (arith, length-append d.prefix (dashes n), length-replicate {A = ℕ} n 45, d.size) in
+      sym (ap (λ l. drop (start + n) l) whole ∙ drop_at (d.prefix ++ dashes n) rest (start + n) size)
 
   pub dashes_fit : start + n ≤ length text
   dashes_fit =
-      let a = ap length d.whole ∙ length-append d.front (dashes n ++ rest) in
+      let a = ap length d.whole ∙ length-append d.prefix (dashes n ++ rest) in
       let b = length-append (dashes n) rest in
       omega (arith, a, b, length-replicate {A = ℕ} n 45, d.size)
 
   pub dash_read : (i : ℕ) → i < n → get_or text (start + i) 0 ≡ 45
   dash_read i l =
-      let past : get_or (d.front ++ (dashes n ++ rest)) (length d.front + i) 0 ≡ get_or (dashes n ++ rest) i 0 = get_or-append-add d.front (dashes n ++ rest) i 0 in
+      let past : get_or (d.prefix ++ (dashes n ++ rest)) (length d.prefix + i) 0 ≡ get_or (dashes n ++ rest) i 0 = get_or-append-add d.prefix (dashes n ++ rest) i 0 in
       let dash : get_or (dashes n ++ rest) i 0 ≡ 45 = get_or_append_left (dashes n) rest 0 i (omega (arith, length-replicate {A = ℕ} n 45)) ∙ get_or-replicate n i 45 0 l in
-      ap (λ l. get_or l (start + i) 0) d.whole ∙ (ap (λ k. get_or (d.front ++ (dashes n ++ rest)) (k + i) 0) d.size ∙ (past ∙ dash))
+      ap (λ l. get_or l (start + i) 0) d.whole ∙ (ap (λ k. get_or (d.prefix ++ (dashes n ++ rest)) (k + i) 0) d.size ∙ (past ∙ dash))
 
   pub cut_at_dashes : 0 < n → IsCharBoundary text start
   cut_at_dashes some =
@@ -43,7 +43,7 @@ module _ (text : List ℕ) (start n : ℕ) (rest : List ℕ) (d : DashesAt text 
 
   pub dashes_slice : slice_range text start (start + n) ≡ dashes n
   dashes_slice =
-      let below : drop start text ≡ dashes n ++ rest = ap (λ l. drop start l) d.whole ∙ drop_at d.front (dashes n ++ rest) start (sym d.size) in
+      let below : drop start text ≡ dashes n ++ rest = ap (λ l. drop start l) d.whole ∙ drop_at d.prefix (dashes n ++ rest) start (sym d.size) in
       let size : start + n - start ≡ n = omega arith in
       ap (λ k. take k (drop start text)) size ∙ (ap (λ l. take n l) below ∙ take_at (dashes n) rest n (length-replicate {A = ℕ} n 45))
 
@@ -52,11 +52,11 @@ module _ (text : List ℕ) (start n : ℕ) (rest : List ℕ) (d : DashesAt text 
 pub opening_dashes : (text : List ℕ) (shebang : Option ℕ) (start n : ℕ) (h : HasOpening text shebang start n) → DashesAt text start n h.opening.fence.after
 opening_dashes text shebang start n h =
     let o = h.opening in
-    let a = o.splits.front in
-    let b = o.fence.splits.front in
+    let a = o.splits.prefix in
+    let b = o.fence.splits.prefix in
     let whole : text ≡ (a ++ b) ++ (dashes o.fence.n ++ o.fence.after) = o.splits.whole ∙ (ap (λ l. a ++ l) o.fence.splits.whole ∙ sym (append_assoc a b (dashes o.fence.n ++ o.fence.after))) in
     record {
-      front = a ++ b;
+      prefix = a ++ b;
       whole = whole ∙ ap (λ m. (a ++ b) ++ (dashes m ++ o.fence.after)) (sym h.size);
       size = omega (arith, length-append a b, h.start_is, o.splits.size, o.fence.splits.size);
     }
@@ -69,7 +69,7 @@ closing_dashes n text line matter close h =
     let tail = dashes n ++ c.rest in
     let whole : text ≡ (c.line ++ (c.end ++ c.matter)) ++ tail = c.info_line.whole ∙ (ap (λ l. c.line ++ l) (sym (append_assoc c.end c.matter tail)) ∙ sym (append_assoc c.line (c.end ++ c.matter) tail)) in
     record {
-      front = c.line ++ (c.end ++ c.matter);
+      prefix = c.line ++ (c.end ++ c.matter);
       whole = whole;
       size = omega (arith, length-append c.line (c.end ++ c.matter), length-append c.end c.matter, h.line_is, h.matter_is, h.close_is);
     }

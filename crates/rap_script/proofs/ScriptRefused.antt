@@ -16,8 +16,8 @@ use Rattle.rap_script.proofs.ScriptParts.{opening_dashes, closing_dashes, rest_a
 abbrev pub one_shown : List ℕ → Range ℕ → Range ℕ → Refusal
 one_shown message primary visible = record { message = message; primary = primary; visible = visible ∷ [] }
 
-pub told_same : (m m' : List ℕ) (p p' v v' : Range ℕ) → m ≡ m' → p ≡ p' → v ≡ v' → one_shown m p v ≡ one_shown m' p' v'
-told_same m m' p p' v v' e f g = rw (e, f, g)
+pub reported_same : (m m' : List ℕ) (p p' v v' : Range ℕ) → m ≡ m' → p ≡ p' → v ≡ v' → one_shown m p v ≡ one_shown m' p' v'
+reported_same m m' p p' v v' e f g = rw (e, f, g)
 
 pub twice_same : (p p' v v' w w' : Range ℕ) → p ≡ p' → v ≡ v' → w ≡ w' → (let r : Refusal = record { message = only_one; primary = p; visible = v ∷ w ∷ [] } in r) ≡ record { message = only_one; primary = p'; visible = v' ∷ w' ∷ [] }
 twice_same p p' v v' w w' e f g = rw (e, f, g)
@@ -25,7 +25,7 @@ twice_same p p' v v' w w' e f g = rw (e, f, g)
 pub span_same : (at at' len len' : ℕ) → at ≡ at' → len ≡ len' → span at len ≡ span at' len'
 span_same at at' len len' e f = rw (e, f)
 
--- a wanted memory is told only where something is refused
+-- a wanted memory is reported only where something is refused
 pub no_memory : {T : Type 0} (r : Result T ScriptFault) (text : List ℕ) (e : Refusal) → IsErrAnd r (λ f. f ≡ NoMemory) → IsRefused text e → IfErr r (IsFault text)
 no_memory (Ok x) text e h q = tt
 no_memory (Err f) text e h q = subst (λ (g : ScriptFault). IsFault text g) (sym h) (e, q)
@@ -46,7 +46,7 @@ module _ (text : List ℕ) (shebang : Option ℕ) (start n : ℕ) (h : HasOpenin
         opening = h.opening;
         some = omega (arith, h.size);
         few = omega (arith, h.size);
-        is = told_same _ _ _ _ _ _ (ap too_short h.size) refl shown;
+        is = reported_same _ _ _ _ _ _ (ap too_short h.size) refl shown;
       })
 
   pub refused_line : 3 ≤ n → NoLineFeed (drop (start + n) text) → IsRefused text (one_shown (unclosed (dashes n)) (end_of text) (span start n))
@@ -55,7 +55,7 @@ module _ (text : List ℕ) (shebang : Option ℕ) (start n : ℕ) (h : HasOpenin
         opening = h.opening;
         enough = omega (arith, h.size);
         one_line = subst (λ (l : List ℕ). NoLineFeed l) after_is none;
-        is = told_same _ _ _ _ _ _ (ap (λ m. unclosed (dashes m)) h.size) refl shown;
+        is = reported_same _ _ _ _ _ _ (ap (λ m. unclosed (dashes m)) h.size) refl shown;
       })
 
   pub refused_close : 3 ≤ n → ((p : ℕ) → ¬ HasFence 1 (drop (start + n) text) p) → IsRefused text (one_shown (unclosed (dashes n)) (end_of text) (span start n))
@@ -64,7 +64,7 @@ module _ (text : List ℕ) (shebang : Option ℕ) (start n : ℕ) (h : HasOpenin
         opening = h.opening;
         enough = omega (arith, h.size);
         none = subst (λ (l : List ℕ). (p : ℕ) → ¬ HasFence 1 l p) after_is none;
-        is = told_same _ _ _ _ _ _ (ap (λ m. unclosed (dashes m)) h.size) refl shown;
+        is = reported_same _ _ _ _ _ _ (ap (λ m. unclosed (dashes m)) h.size) refl shown;
       })
 
   pub refused_fewer : (place len : ℕ) → 3 ≤ n → 0 < len → len < n → IsLongestFence len (drop (start + n) text) place → IsRefused text (one_shown (fewer (n - len)) (span (start + n + place) len) (span start n))
@@ -77,7 +77,7 @@ module _ (text : List ℕ) (shebang : Option ℕ) (start n : ℕ) (h : HasOpenin
         some = some;
         less = omega (arith, h.size);
         longest = subst (λ (l : List ℕ). IsLongestFence len l place) after_is longest;
-        is = told_same _ _ _ _ _ _ (ap (λ m. fewer (m - len)) h.size) (ap (λ k. span (k + place) len) end_is) shown;
+        is = reported_same _ _ _ _ _ _ (ap (λ m. fewer (m - len)) h.size) (ap (λ k. span (k + place) len) end_is) shown;
       })
 
   module _ (line matter close : ℕ) (enough : 3 ≤ n) (k : HasClosing n (drop (start + n) text) line matter close) where
@@ -106,7 +106,7 @@ module _ (text : List ℕ) (shebang : Option ℕ) (start n : ℕ) (h : HasOpenin
           some = some;
           split = sym rest_is ∙ d.split;
           no_more = d.no_more;
-          is = told_same _ _ _ _ _ _ refl (ap (λ j. span j extra) close_end_is) shown;
+          is = reported_same _ _ _ _ _ _ refl (ap (λ j. span j extra) close_end_is) shown;
         })
 
     pub refused_word : (len next : ℕ) (word : Range ℕ) → NoDash (drop (start + n + close + n) text) → HasLine (drop (start + n + close + n) text) len next → HasWord (take len (drop (start + n + close + n) text)) word → IsRefused text (one_shown after_close (moved (start + n + close + n) word) (span start n))
@@ -121,7 +121,7 @@ module _ (text : List ℕ) (shebang : Option ℕ) (start n : ℕ) (h : HasOpenin
           ending = record { tail = here.line; end = here.end; content = here.rest; line = here.first };
           word = word;
           has_word = subst (λ (t : List ℕ). HasWord t word) tail w;
-          is = told_same _ _ _ _ _ _ refl (ap (λ j. moved j word) close_end_is) shown;
+          is = reported_same _ _ _ _ _ _ refl (ap (λ j. moved j word) close_end_is) shown;
         })
 
     module _ (content : ℕ) (e : HasEnding (drop (start + n + close + n) text) content) where

@@ -4,7 +4,7 @@ use Rattle.std.specs.declared.ops.Range.{Range}
 use Rattle.std.proofs.lemmas.List.{append_assoc, length-append, drop-drop, drop_at, take_at}
 use Rattle.std.proofs.lemmas.List.Elements.{All-nil, All-push}
 use Rattle.std.proofs.lemmas.Str.{IsUtf8-drop, IsCharBoundary-end, IsCharBoundary-from_rest}
-use Rattle.rap_script.specs.Refusal.{Refusal, IsRefused, LiesAtBorders, end_of, open_span, told}
+use Rattle.rap_script.specs.Refusal.{Refusal, IsRefused, LiesAtBorders, end_of, open_span, reported}
 use Rattle.rap_script.specs.Refusal.IsRefused.{opens_too_short, lacks_line, closes_too_short, lacks_close, closes_too_long, follows_close, opens_twice}
 use Rattle.rap_script.specs.Script.{Script, Opening, Closing, Ending, Fence, HasFence, HasWord, IsCut, dashes, moved, span, open_at, open_end, close_at, close_end, content_at}
 use Rattle.rap_script.specs.ScriptFault.{IsFault, IsShownAtBorders}
@@ -75,9 +75,9 @@ module _ (text : List ℕ) (u : IsUtf8 text) (o : Opening text) (some : 0 < o.fe
   fence_cut : (m place : ℕ) → 0 < m → HasFence m o.fence.after place → IsCut text (span (open_end o + place) m)
   fence_cut m place more h =
       let d : DashesAt o.fence.after place m h.rest = record {
-        front = h.front ++ 10 ∷ [];
-        whole = h.split ∙ sym (append_assoc h.front (10 ∷ []) (dashes m ++ h.rest));
-        size = omega (arith, h.size, length-append h.front (10 ∷ []));
+        prefix = h.prefix ++ 10 ∷ [];
+        whole = h.split ∙ sym (append_assoc h.prefix (10 ∷ []) (dashes m ++ h.rest));
+        size = omega (arith, h.size, length-append h.prefix (10 ∷ []));
       }
       in
       cut_up text (open_end o) o.fence.after u after (span place m) (span (open_end o + place) m) (dashes_cut o.fence.after place m h.rest after_utf8 more d) refl (omega arith)
@@ -102,7 +102,7 @@ module _ (text : List ℕ) (u : IsUtf8 text) (o : Opening text) (some : 0 < o.fe
 
     more_cut : (extra : ℕ) (tail : List ℕ) → 0 < extra → c.rest ≡ dashes extra ++ tail → IsCut text (span (close_end o c) extra)
     more_cut extra tail more e =
-        let d : DashesAt c.rest 0 extra tail = record { front = []; whole = e; size = refl } in
+        let d : DashesAt c.rest 0 extra tail = record { prefix = []; whole = e; size = refl } in
         cut_up text (close_end o c) c.rest u rest (span 0 extra) (span (close_end o c) extra) (dashes_cut c.rest 0 extra tail closed_utf8 more d) (omega arith) (omega arith)
 
     module _ (e : Ending c.rest) where
@@ -125,12 +125,12 @@ module _ (text : List ℕ) (u : IsUtf8 text) (o : Opening text) (some : 0 < o.fe
 
       second_cut : (f : Fence e.content) → 0 < f.n → IsCut text (span (content_at o c e + unwrap_or f.blank 0) f.n)
       second_cut f more =
-          let d : DashesAt e.content (unwrap_or f.blank 0) f.n f.after = record { front = f.splits.front; whole = f.splits.whole; size = sym f.splits.size } in
+          let d : DashesAt e.content (unwrap_or f.blank 0) f.n f.after = record { prefix = f.splits.prefix; whole = f.splits.whole; size = sym f.splits.size } in
           let cut = dashes_cut e.content (unwrap_or f.blank 0) f.n f.after (rest_utf8 text (content_at o c e) e.content u content) more d in
           cut_up text (content_at o c e) e.content u content (span (unwrap_or f.blank 0) f.n) (span (content_at o c e + unwrap_or f.blank 0) f.n) cut refl (omega arith)
 
 -- a refusal that shows the opening dashes beside it
-by_spans : (text : List ℕ) (e : Refusal) → IsUtf8 text → (o : Opening text) → 0 < o.fence.n → (message : List ℕ) (primary : Range ℕ) → e ≡ told o message primary → IsCut text primary → LiesAtBorders text e
+by_spans : (text : List ℕ) (e : Refusal) → IsUtf8 text → (o : Opening text) → 0 < o.fence.n → (message : List ℕ) (primary : Range ℕ) → e ≡ reported o message primary → IsCut text primary → LiesAtBorders text e
 by_spans text e u o some message primary is c =
     subst (λ (r : Refusal). LiesAtBorders text r) (sym is) (record { primary = c; visible = one_cut text (open_span o) (open_cut text u o some) })
 

@@ -9,7 +9,7 @@ use Rattle.rap_script.specs.declared.frontmatter.error.ScriptFault.TheVariants.{
 abbrev pub IsOnlyScript : List ℕ → Script → Type 0
 IsOnlyScript text s = ((other : Script) → IsScript text other → other ≡ s) × ((e : Refusal) → ¬ IsRefused text e)
 
--- The text is not accepted, and nothing else is told of it.
+-- The text is not accepted, and nothing else is reported about it.
 abbrev pub IsOnlyFault : List ℕ → ScriptFault → Type 0
 IsOnlyFault text (Refused e) = ((s : Script) → ¬ IsScript text s) × ((other : Refusal) → IsRefused text other → other ≡ e)
 IsOnlyFault text NoMemory = (s : Script) → ¬ IsScript text s

@@ -61,8 +61,8 @@ module _ {text : List ℕ} (o : Opening text) where
   open_span = span (open_at o) o.fence.n
 
   -- all but one show the opening dashes beside them
-  abbrev pub told : List ℕ → Range ℕ → Refusal
-  told message primary = record { message = message; primary = primary; visible = open_span ∷ [] }
+  abbrev pub reported : List ℕ → Range ℕ → Refusal
+  reported message primary = record { message = message; primary = primary; visible = open_span ∷ [] }
 
 -- ---- The seven refusals
 
@@ -71,14 +71,14 @@ pub record OpensTooShort (text : List ℕ) (e : Refusal) : Type 0 where
   pub opening : Opening text
   pub some : 0 < opening.fence.n
   pub few : opening.fence.n < 3
-  pub is : e ≡ told opening (too_short opening.fence.n) (end_of text)
+  pub is : e ≡ reported opening (too_short opening.fence.n) (end_of text)
 
 -- no line feed follows the opening
 pub record LacksLine (text : List ℕ) (e : Refusal) : Type 0 where
   pub opening : Opening text
   pub enough : 3 ≤ opening.fence.n
   pub one_line : NoLineFeed opening.fence.after
-  pub is : e ≡ told opening (unclosed (dashes opening.fence.n)) (end_of text)
+  pub is : e ≡ reported opening (unclosed (dashes opening.fence.n)) (end_of text)
 
 -- No line that follows begins with as many dashes. `most` is the most with which one does, first at `place`.
 pub record ClosesTooShort (text : List ℕ) (e : Refusal) : Type 0 where
@@ -89,14 +89,14 @@ pub record ClosesTooShort (text : List ℕ) (e : Refusal) : Type 0 where
   pub some : 0 < most
   pub less : most < opening.fence.n
   pub longest : IsLongestFence most opening.fence.after place
-  pub is : e ≡ told opening (fewer (opening.fence.n - most)) (span (open_end opening + place) most)
+  pub is : e ≡ reported opening (fewer (opening.fence.n - most)) (span (open_end opening + place) most)
 
 -- no line that follows begins with a dash
 pub record LacksClose (text : List ℕ) (e : Refusal) : Type 0 where
   pub opening : Opening text
   pub enough : 3 ≤ opening.fence.n
   pub none : (place : ℕ) → ¬ HasFence 1 opening.fence.after place
-  pub is : e ≡ told opening (unclosed (dashes opening.fence.n)) (end_of text)
+  pub is : e ≡ reported opening (unclosed (dashes opening.fence.n)) (end_of text)
 
 -- more dashes stand at the close than open
 pub record ClosesTooLong (text : List ℕ) (e : Refusal) : Type 0 where
@@ -108,7 +108,7 @@ pub record ClosesTooLong (text : List ℕ) (e : Refusal) : Type 0 where
   pub some : 0 < extra
   pub split : closing.rest ≡ dashes extra ++ rest
   pub no_more : NoDash rest
-  pub is : e ≡ told opening (more extra) (span (close_end opening closing) extra)
+  pub is : e ≡ reported opening (more extra) (span (close_end opening closing) extra)
 
 -- a word follows the close on its line
 pub record FollowsClose (text : List ℕ) (e : Refusal) : Type 0 where
@@ -119,7 +119,7 @@ pub record FollowsClose (text : List ℕ) (e : Refusal) : Type 0 where
   pub ending : Ending closing.rest
   pub word : Range ℕ
   pub has_word : HasWord ending.tail word
-  pub is : e ≡ told opening after_close (moved (close_end opening closing) word)
+  pub is : e ≡ reported opening after_close (moved (close_end opening closing) word)
 
 -- after the close and blank lines or none, dashes stand again
 pub record OpensTwice (text : List ℕ) (e : Refusal) : Type 0 where
@@ -136,7 +136,7 @@ pub record OpensTwice (text : List ℕ) (e : Refusal) : Type 0 where
     visible = open_span opening ∷ span (close_at opening closing) opening.fence.n ∷ [];
   }
 
--- the text is refused, and this tells why
+-- the text is refused, and this says why
 pub data IsRefused (text : List ℕ) (e : Refusal) : Type 0 where
   opens_too_short : OpensTooShort text e → IsRefused text e
   lacks_line : LacksLine text e → IsRefused text e

@@ -21,7 +21,7 @@ NoLineFeed text = All (λ b. b ≢ 10) text
 -- What ends a line: a line feed, with the carriage return before it, or the text's end. `rest` follows.
 pub data IsLineEnd : List ℕ → List ℕ → List ℕ → Type 0 where
   with_return : (line rest : List ℕ) → IsLineEnd line (13 ∷ 10 ∷ []) rest
-  feed : (line rest : List ℕ) → ((front : List ℕ) → line ≢ front ++ 13 ∷ []) → IsLineEnd line (10 ∷ []) rest
+  feed : (line rest : List ℕ) → ((prefix : List ℕ) → line ≢ prefix ++ 13 ∷ []) → IsLineEnd line (10 ∷ []) rest
   text_end : (line : List ℕ) → IsLineEnd line [] []
 
 -- the text is its first line, what ends the line, and a rest
@@ -32,9 +32,9 @@ pub record FirstLine (text line end rest : List ℕ) : Type 0 where
 
 -- the text is its first `n` bytes, none of them for `None`, and a rest
 pub record Splits (text : List ℕ) (n : Option ℕ) (rest : List ℕ) : Type 0 where
-  pub front : List ℕ
-  pub whole : text ≡ front ++ rest
-  pub size : length front ≡ unwrap_or n 0
+  pub prefix : List ℕ
+  pub whole : text ≡ prefix ++ rest
+  pub size : length prefix ≡ unwrap_or n 0
 
 abbrev pub span : ℕ → ℕ → Range ℕ
 span at len = record { start = at; end = at + len }
@@ -75,7 +75,7 @@ pub record HasBlankLines (text : List ℕ) (n : ℕ) : Type 0 where
   pub blank : AllPass is_rust_whitespace white
   pub size : n ≡ length (encode_utf8_all white) + 1
 
--- where the longest such front ends, if there is one
+-- where the longest such prefix ends, if there is one
 abbrev pub EndsBlankLines : List ℕ → Option ℕ → Type 0
 EndsBlankLines text end =
     MatchOption end ((n : ℕ) → ¬ HasBlankLines text n) (λ n. HasBlankLines text n × ((m : ℕ) → HasBlankLines text m → m ≤ n))
@@ -101,10 +101,10 @@ pub record Opening (text : List ℕ) : Type 0 where
 
 -- `n` dashes stand at the place, a line feed before them
 pub record HasFence (n : ℕ) (text : List ℕ) (place : ℕ) : Type 0 where
-  pub front : List ℕ
+  pub prefix : List ℕ
   pub rest : List ℕ
-  pub split : text ≡ front ++ 10 ∷ (dashes n ++ rest)
-  pub size : place ≡ length front + 1
+  pub split : text ≡ prefix ++ 10 ∷ (dashes n ++ rest)
+  pub size : place ≡ length prefix + 1
 
 -- and at no place before
 pub record IsFirstFence (n : ℕ) (text : List ℕ) (place : ℕ) : Type 0 where
@@ -147,7 +147,7 @@ pub record HasWord (line : List ℕ) (at : Range ℕ) : Type 0 where
   pub right_blank : AllPass is_horizontal right
   pub some : 0 < length word
   pub first : (b : ℕ) (rest : List ℕ) → word ≡ b ∷ rest → is_horizontal b ≡ false
-  pub last : (front : List ℕ) (b : ℕ) → word ≡ front ++ b ∷ [] → is_horizontal b ≡ false
+  pub last : (prefix : List ℕ) (b : ℕ) → word ≡ prefix ++ b ∷ [] → is_horizontal b ≡ false
   pub is : at ≡ span (length left) (length word)
 
 -- where it stands, if there is one

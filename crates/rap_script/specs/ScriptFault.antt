@@ -9,7 +9,7 @@ abbrev pub IsShownAtBorders : List ℕ → ScriptFault → Type 0
 IsShownAtBorders text (Refused e) = LiesAtBorders text e
 IsShownAtBorders text NoMemory = ⊤
 
--- It tells why the text is refused, or that memory is wanted to tell why it is.
+-- It says why the text is refused, or that memory is wanted to report why it is.
 abbrev pub IsFault : List ℕ → ScriptFault → Type 0
 IsFault text (Refused e) = IsRefused text e
 IsFault text NoMemory = (e : Refusal) × IsRefused text e

@@ -9,7 +9,7 @@ use Rattle.rap_script.specs.declared.frontmatter.close.FoundFence.TheVariants.{F
 use Rattle.rap_script.specs.declared.frontmatter.close.FoundClose.{FoundClose}
 use Rattle.rap_script.specs.declared.frontmatter.close.FoundClose.TheVariants.{At, TooShort, NoFence, NoLine}
 
--- the dashes at the front, past the blank lines, begin at `start`
+-- the dashes at the beginning, past the blank lines, begin at `start`
 pub record HasDashes (text : List ℕ) (start n : ℕ) : Type 0 where
   pub fence : Fence text
   pub start_is : start ≡ unwrap_or fence.blank 0

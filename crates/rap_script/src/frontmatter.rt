@@ -6,9 +6,9 @@ mod error;
 mod line;
 mod open;
 mod parse;
+mod report;
 mod script_source;
 mod strip;
-mod tell;
 #[cfg(test)]
 mod tests;
 

@@ -11,10 +11,10 @@ use Rattle.ra_ap_parser.specs.declared.whole_text.TextFault.{TextFault}
 use Rattle.rap_base.specs.declared.no_memory.NoMemory.{NoMemory as Memory}
 use Rattle.rast.specs.Words.{cannot_write, fault_line}
 use Rattle.rast_print.specs.Printed.{printed}
-use Rattle.rast_print.specs.Shown.{Comes, IsPrinted, all_told}
+use Rattle.rast_print.specs.Shown.{Comes, IsPrinted, all_reported}
 use Rattle.rast_print.specs.declared.printer.Printer.{Printer}
 
--- A fault came before the first write: the output is as it was, and the line tells the fault.
+-- A fault came before the first write: the output is as it was, and the line reports the fault.
 pub record StopsBefore {W : Type 0} (text : List ℕ) (edition : Edition) (before after : W) (line : List ℕ) : Type 0 where
   pub fault : TextFault Memory
   pub comes : Comes text edition fault
@@ -27,7 +27,7 @@ pub record StopsWriting (text : List ℕ) (edition : Edition) (line : List ℕ) 
   pub printed : IsPrinted text edition printer
   pub is : line ≡ cannot_write
 
--- a fault stopped the program, and what is asked holds of the line that tells it
+-- a fault stopped the program, and what is asked holds of the line that reports it
 abbrev pub IfStops : {W : Type 0} → List ℕ → Edition → W → W → (List ℕ → Type 0) → Type 0
 IfStops text edition before after Asked =
     (line : List ℕ) × (StopsBefore text edition before after line ⊎ StopsWriting text edition line) × Asked line
@@ -38,6 +38,6 @@ pub record Shows (text : List ℕ) (edition : Edition) (status : ℕ) (before af
   pub lexed : Lexed
   pub forest : Forest
   pub parsed : IsParsed text edition lexed forest
-  pub written : Appends before after (printed 0 (str_flat (with_trivia lexed.tokens forest)) ++ all_told lexed forest)
-  pub quiet : status ≡ 0 → all_told lexed forest ≡ []
-  pub loud : status ≡ 1 → all_told lexed forest ≢ []
+  pub written : Appends before after (printed 0 (str_flat (with_trivia lexed.tokens forest)) ++ all_reported lexed forest)
+  pub quiet : status ≡ 0 → all_reported lexed forest ≡ []
+  pub loud : status ≡ 1 → all_reported lexed forest ≢ []

@@ -1,13 +1,13 @@
--- What is told of a fault.
+-- What is reported about a fault.
 use Rattle.std.specs.Prelude.{List, ℕ, codes}
 use Rattle.ra_ap_parser.specs.declared.whole_text.TextFault.{TextFault}
 use Rattle.ra_ap_parser.specs.declared.whole_text.TextFault.TheVariants.{TextTooLong, TooManyTokens, NoMemory, Refused}
 
--- what is told where the output refuses a write
+-- what is reported where the output refuses a write
 abbrev pub cannot_write : List ℕ
 cannot_write = codes "rast: cannot write\n"
 
--- what is told of a fault; the program's own sink refuses a step only for want of memory
+-- what is reported about a fault; the program's own sink refuses a step only for want of memory
 abbrev pub fault_line : {R : Type 0} → TextFault R → List ℕ
 fault_line TextTooLong = codes "rast: text too long\n"
 fault_line TooManyTokens = codes "rast: too many tokens\n"

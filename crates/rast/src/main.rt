@@ -7,7 +7,7 @@ ghost use Rattle.std.specs.Process.{exit_status};
 mod run;
 
 use ra_ap_parser::Edition;
-use rast_common::fault::{FAULT, tell};
+use rast_common::fault::{FAULT, report};
 use rast_print::entry::Entry;
 use run::run;
 use std::process::ExitCode;
@@ -17,11 +17,11 @@ const USAGE: &str = "usage: rast EDITION ENTRY FILE\n";
 
 const UNREADABLE: &str = "rast: cannot read the file\n";
 
-/// Tells a fault, and gives its status.
+/// Reports a fault, and gives its status.
 fn fail<V: io::Write>(err: &mut V, message: &str) -> ExitCode
     ensures { exit_status result ≡ 2 }
 {
-    ExitCode::from(tell(err, message).unwrap_or(FAULT))
+    ExitCode::from(report(err, message).unwrap_or(FAULT))
 }
 
 fn main(rt: HostRuntime) -> ExitCode {

@@ -5,7 +5,7 @@ ghost use Rattle.rast.specs.Ran.{IfStops, Shows};
 ghost use Rattle.rast.specs.Words.{fault_line};
 
 use ra_ap_parser::{Edition, TextFault, TopEntryPoint};
-use rast_common::fault::tell;
+use rast_common::fault::report;
 use rast_print::print_text::print_text;
 use rast_print::printer::Printer;
 use std::alloc::Global;
@@ -37,8 +37,8 @@ fn write_lines<W: io::Write>(out: &mut W, printer: &Printer) -> io::Result<()>
 /// Parses the text and prints its tree and its messages, the tree's before the lexer's.
 ///
 /// Gives the program's status: 0 where there is no message, 1 where there is one, and 2 at a fault, which
-/// is told on `err`. At a fault nothing is written to `out`, unless `out` itself refused a write. The error is that of
-/// `err`, where it refused to be told.
+/// is reported on `err`. At a fault nothing is written to `out`, unless `out` itself refused a write. The error is that
+/// of `err`, where it refused the report.
 pub fn run<W: io::Write, V: io::Write>(
     alloc: Global,
     edition: Edition,
@@ -49,15 +49,15 @@ pub fn run<W: io::Write, V: io::Write>(
 ) -> io::Result<u8>
     ensures status { IfOk result (λ status. status ≤ 2) }
     ensures shown { IfOk result (λ status. status < 2 → Shows text.now edition status (W.contents out.old) (W.contents out.new) × (err.new ≡ err.old)) }
-    ensures told { IfOk result (λ status. status ≡ 2 → IfStops text.now edition out.old out.new (Appends (V.contents err.old) (V.contents err.new))) }
-    ensures untold { IfErr result (λ _. IfStops text.now edition out.old out.new (λ _. Unit {0})) }
+    ensures reported { IfOk result (λ status. status ≡ 2 → IfStops text.now edition out.old out.new (Appends (V.contents err.old) (V.contents err.new))) }
+    ensures unreported { IfErr result (λ _. IfStops text.now edition out.old out.new (λ _. Unit {0})) }
 {
     let printer = match print_text(alloc, edition, entry, text) {
         Ok(printer) => printer,
-        Err(fault) => return tell(err, fault_message(&fault)),
+        Err(fault) => return report(err, fault_message(&fault)),
     };
     if write_lines(out, &printer).is_err() {
-        return tell(err, "rast: cannot write\n");
+        return report(err, "rast: cannot write\n");
     }
     if printer.messages.is_empty() {
         Ok(0)

@@ -1,4 +1,4 @@
-//! What the programs share: quoted texts, messages, and how a fault is told.
+//! What the programs share: quoted texts, messages, and how a fault is reported.
 #![tactic(auto)]
 
 pub mod fault;

@@ -20,7 +20,7 @@ pub record ListsTokens (text : List ℕ) (edition : Edition) (page : Page) : Typ
   pub lexed : Lexed
   pub lexing : IsLexing text edition lexed
   pub is : string_bytes page.lines ≡ lines (token_line lexed.tokens) (length lexed.tokens) ++ message_lines lexed.errors
-  pub told : IsTrue page.has_message ↔ (lexed.errors ≢ [])
+  pub reported : IsTrue page.has_message ↔ (lexed.errors ≢ [])
 
 -- what the parser reads of the text, a line for each token that is no trivia
 pub record ListsInput (text : List ℕ) (edition : Edition) (page : Page) : Type 0 where
@@ -41,7 +41,7 @@ pub record ListsOne (text : List ℕ) (edition : Edition) (page : Page) : Type 0
   pub message : Option (List ℕ)
   pub one : IsOneToken edition text kind message
   pub is : string_bytes page.lines ≡ single_line kind message
-  pub told : IsTrue page.has_message ↔ (message ≢ None)
+  pub reported : IsTrue page.has_message ↔ (message ≢ None)
 
 abbrev pub ListsSingle : List ℕ → Edition → Page → Type 0
 ListsSingle text edition page = ListsNone text edition page ⊎ ListsOne text edition page
@@ -58,7 +58,7 @@ pub record ListsRefusal (text : List ℕ) (page : Page) : Type 0 where
   pub refusal : Refusal
   pub refused : IsRefused text refusal
   pub is : string_bytes page.lines ≡ refusal_lines refusal
-  pub told : IsTrue page.has_message
+  pub reported : IsTrue page.has_message
 
 abbrev pub ListsScript : List ℕ → Page → Type 0
 ListsScript text page = ListsParts text page ⊎ ListsRefusal text page
@@ -75,7 +75,7 @@ abbrev pub Comes : List ℕ → Listing → LexFault → Type 0
 Comes text listing TextTooLong = (4294967295 < length text) × (listing ≢ script)
 Comes text listing NoMemory = (length text ≤ 4294967295) ⊎ (listing ≡ script)
 
--- A fault came before the first write: the output is as it was, and the line tells the fault.
+-- A fault came before the first write: the output is as it was, and the line reports the fault.
 pub record StopsBefore {W : Type 0} (text : List ℕ) (listing : Listing) (before after : W) (line : List ℕ) : Type 0 where
   pub fault : LexFault
   pub comes : Comes text listing fault
@@ -88,7 +88,7 @@ pub record StopsWriting (text : List ℕ) (edition : Edition) (listing : Listing
   pub lists : Lists text edition listing page
   pub is : line ≡ cannot_write
 
--- a fault stopped the program, and what is asked holds of the line that tells it
+-- a fault stopped the program, and what is asked holds of the line that reports it
 abbrev pub IfStops : {W : Type 0} → List ℕ → Edition → Listing → W → W → (List ℕ → Type 0) → Type 0
 IfStops text edition listing before after Asked =
     (line : List ℕ) × (StopsBefore text listing before after line ⊎ StopsWriting text edition listing line) × Asked line

@@ -1,4 +1,4 @@
--- The program's words: what is asked for, and what is told of a fault.
+-- The program's words: what is asked for, and what is reported about a fault.
 use Rattle.std.specs.Prelude.{◌≡◌, ◌≢◌, List, ℕ, Option, None, Some, Result, MatchResult, codes}
 use Rattle.ra_ap_parser.specs.declared.lexed_str.LexFault.{LexFault}
 use Rattle.ra_ap_parser.specs.declared.lexed_str.LexFault.TheVariants.{TextTooLong, NoMemory}
@@ -19,11 +19,11 @@ IsAsked word result =
     (λ listing. Some word ≡ word_of listing)
     (λ _. (listing : Listing) → Some word ≢ word_of listing)
 
--- what is told where the output refuses a write
+-- what is reported where the output refuses a write
 abbrev pub cannot_write : List ℕ
 cannot_write = codes "rast_lex: cannot write\n"
 
--- what is told of a fault
+-- what is reported about a fault
 abbrev pub fault_line : LexFault → List ℕ
 fault_line TextTooLong = codes "rast_lex: text too long\n"
 fault_line NoMemory = codes "rast_lex: no memory\n"

@@ -9,7 +9,7 @@ mod listing;
 mod run;
 
 use ra_ap_parser::Edition;
-use rast_common::fault::{FAULT, tell};
+use rast_common::fault::{FAULT, report};
 use run::{Listing, run};
 use std::process::ExitCode;
 use std::{env, fs, io};
@@ -18,11 +18,11 @@ const USAGE: &str = "usage: rast_lex EDITION FILE [input|single|script]\n";
 
 const UNREADABLE: &str = "rast_lex: cannot read the file\n";
 
-/// Tells a fault, and gives its status.
+/// Reports a fault, and gives its status.
 fn fail<V: io::Write>(err: &mut V, message: &str) -> ExitCode
     ensures { exit_status result ≡ 2 }
 {
-    ExitCode::from(tell(err, message).unwrap_or(FAULT))
+    ExitCode::from(report(err, message).unwrap_or(FAULT))
 }
 
 fn main(rt: HostRuntime) -> ExitCode {

@@ -6,7 +6,7 @@ ghost use Rattle.rast_lex.specs.Words.{IsAsked, fault_line};
 
 use crate::listing::{Page, list_input, list_script, list_single, list_tokens};
 use ra_ap_parser::{Edition, LexFault};
-use rast_common::fault::tell;
+use rast_common::fault::report;
 use std::alloc::Global;
 use std::io;
 use std::str::FromStr;
@@ -83,8 +83,8 @@ fn write_lines<W: io::Write>(out: &mut W, page: &Page) -> io::Result<()>
 /// Lists what is asked of the text.
 ///
 /// Gives the program's status: 0 where no message is listed, 1 where there is one, and 2 at a fault, which is
-/// told on `err`. At a fault nothing is written to `out`, unless `out` itself refused a write. The error is that of
-/// `err`, where it refused to be told.
+/// reported on `err`. At a fault nothing is written to `out`, unless `out` itself refused a write. The error is that of
+/// `err`, where it refused the report.
 pub fn run<W: io::Write, V: io::Write>(
     alloc: Global,
     edition: Edition,
@@ -95,15 +95,15 @@ pub fn run<W: io::Write, V: io::Write>(
 ) -> io::Result<u8>
     ensures status { IfOk result (λ status. status ≤ 2) }
     ensures shown { IfOk result (λ status. status < 2 → Shows text.now edition listing status (W.contents out.old) (W.contents out.new) × (err.new ≡ err.old)) }
-    ensures told { IfOk result (λ status. status ≡ 2 → IfStops text.now edition listing out.old out.new (Appends (V.contents err.old) (V.contents err.new))) }
-    ensures untold { IfErr result (λ _. IfStops text.now edition listing out.old out.new (λ _. Unit {0})) }
+    ensures reported { IfOk result (λ status. status ≡ 2 → IfStops text.now edition listing out.old out.new (Appends (V.contents err.old) (V.contents err.new))) }
+    ensures unreported { IfErr result (λ _. IfStops text.now edition listing out.old out.new (λ _. Unit {0})) }
 {
     let page = match list(alloc, edition, listing, text) {
         Ok(page) => page,
-        Err(fault) => return tell(err, fault_message(&fault)),
+        Err(fault) => return report(err, fault_message(&fault)),
     };
     let Ok(()) = write_lines(out, &page) else {
-        return tell(err, "rast_lex: cannot write\n");
+        return report(err, "rast_lex: cannot write\n");
     };
     if page.has_message { Ok(1) } else { Ok(0) }
 }

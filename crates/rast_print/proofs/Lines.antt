@@ -7,7 +7,7 @@ use Rattle.ra_ap_parser.specs.StrSink.{Takes}
 use Rattle.ra_ap_parser.specs.StrStep.{StrStepValue}
 use Rattle.ra_ap_parser.specs.Trivia.{with_trivia}
 use Rattle.ra_ap_parser.specs.Headline.{Headline}
-use Rattle.rast_print.specs.Printed.{indent, line, printed, told_line, told, lexer_told}
+use Rattle.rast_print.specs.Printed.{indent, line, printed, reported_line, reported, lexer_reported}
 use Rattle.rast_print.specs.Prints.{Prints}
 use Rattle.rast_print.specs.Shown.{IsPrinted}
 use Rattle.rast_print.specs.declared.printer.Printer.{Printer}
@@ -26,19 +26,19 @@ tree_along (x ∷ xs) s t h =
     ∙ (append_assoc (string_bytes s.tree) (line s.depth x) (printed m.depth xs)
     ∙ ap (λ d. string_bytes s.tree ++ (line s.depth x ++ printed d xs)) h.1.depth))
 
-pub messages_along : (steps : List StrStepValue) (s t : Printer) → Takes Prints s steps t → string_bytes t.messages ≡ string_bytes s.messages ++ told steps
+pub messages_along : (steps : List StrStepValue) (s t : Printer) → Takes Prints s steps t → string_bytes t.messages ≡ string_bytes s.messages ++ reported steps
 messages_along [] s t h = ap (λ (p : Printer). string_bytes p.messages) (sym h) ∙ sym (append-nil (string_bytes s.messages))
 messages_along (x ∷ xs) s t h =
     let m = h.0 in
     messages_along xs m t h.2
-    ∙ (ap (λ l. l ++ told xs) h.1.messages
-    ∙ append_assoc (string_bytes s.messages) (told_line x) (told xs))
+    ∙ (ap (λ l. l ++ reported xs) h.1.messages
+    ∙ append_assoc (string_bytes s.messages) (reported_line x) (reported xs))
 
 -- the lines of a tree and of all messages, from a printer that had written nothing
 pub printed_whole : (text : List ℕ) (edition : Edition) (lexed : Lexed) (all : Bool) (s t u : Printer)
     → string_bytes s.tree ≡ [] → string_bytes s.messages ≡ [] → s.depth ≡ 0
     → Headline Prints text edition lexed all s t
-    → u.tree ≡ t.tree → string_bytes u.messages ≡ string_bytes t.messages ++ lexer_told lexed.tokens lexed.errors
+    → u.tree ≡ t.tree → string_bytes u.messages ≡ string_bytes t.messages ++ lexer_reported lexed.tokens lexed.errors
     → IsPrinted text edition u
 printed_whole text edition lexed all s t u no_tree no_messages no_depth h same more =
     let steps = str_flat (with_trivia lexed.tokens h.forest) in
@@ -47,5 +47,5 @@ printed_whole text edition lexed all s t u no_tree no_messages no_depth h same m
       forest = h.forest;
       parsed = h.parsed;
       tree = ap string_bytes same ∙ (tree_along steps s t h.taken ∙ (ap (λ l. l ++ printed s.depth steps) no_tree ∙ ap (λ d. printed d steps) no_depth));
-      messages = more ∙ ap (λ l. l ++ lexer_told lexed.tokens lexed.errors) (messages_along steps s t h.taken ∙ ap (λ l. l ++ told steps) no_messages);
+      messages = more ∙ ap (λ l. l ++ lexer_reported lexed.tokens lexed.errors) (messages_along steps s t h.taken ∙ ap (λ l. l ++ reported steps) no_messages);
     }

@@ -31,18 +31,18 @@ printed depth [] = []
 printed depth (step ∷ steps) = line depth step ++ printed (depth_after depth step) steps
 
 -- the line that a step adds to the messages
-abbrev pub told_line : StrStepValue → List ℕ
-told_line (str_enter kind) = []
-told_line (str_token kind text) = []
-told_line str_exit = []
-told_line (str_error text pos) = message_line pos text
+abbrev pub reported_line : StrStepValue → List ℕ
+reported_line (str_enter kind) = []
+reported_line (str_token kind text) = []
+reported_line str_exit = []
+reported_line (str_error text pos) = message_line pos text
 
 -- the lines of a tree's messages
-abbrev pub told : List StrStepValue → List ℕ
-told [] = []
-told (step ∷ steps) = told_line step ++ told steps
+abbrev pub reported : List StrStepValue → List ℕ
+reported [] = []
+reported (step ∷ steps) = reported_line step ++ reported steps
 
 -- the lines of the lexer's messages, each at the start of its token
-abbrev pub lexer_told : List Token → List Message → List ℕ
-lexer_told tokens [] = []
-lexer_told tokens (m ∷ ms) = message_line (start_of tokens m.token) m.text ++ lexer_told tokens ms
+abbrev pub lexer_reported : List Token → List Message → List ℕ
+lexer_reported tokens [] = []
+lexer_reported tokens (m ∷ ms) = message_line (start_of tokens m.token) m.text ++ lexer_reported tokens ms

@@ -8,12 +8,12 @@ use Rattle.ra_ap_parser.specs.StrForest.{str_flat}
 use Rattle.ra_ap_parser.specs.Trivia.{with_trivia}
 use Rattle.ra_ap_parser.specs.declared.whole_text.TextFault.{TextFault}
 use Rattle.ra_ap_parser.specs.declared.whole_text.TextFault.TheVariants.{TextTooLong, TooManyTokens, NoMemory, Refused}
-use Rattle.rast_print.specs.Printed.{printed, told, lexer_told}
+use Rattle.rast_print.specs.Printed.{printed, reported, lexer_reported}
 use Rattle.rast_print.specs.declared.printer.Printer.{Printer}
 
 -- the lines of all messages: those of the tree, and after them those of the lexer
-abbrev pub all_told : Lexed → Forest → List ℕ
-all_told lexed forest = told (str_flat (with_trivia lexed.tokens forest)) ++ lexer_told lexed.tokens lexed.errors
+abbrev pub all_reported : Lexed → Forest → List ℕ
+all_reported lexed forest = reported (str_flat (with_trivia lexed.tokens forest)) ++ lexer_reported lexed.tokens lexed.errors
 
 -- The lines of the text's one tree, and those of its messages.
 pub record IsPrinted (text : List ℕ) (edition : Edition) (printer : Printer) : Type 0 where
@@ -21,7 +21,7 @@ pub record IsPrinted (text : List ℕ) (edition : Edition) (printer : Printer) :
   pub forest : Forest
   pub parsed : IsParsed text edition lexed forest
   pub tree : string_bytes printer.tree ≡ printed 0 (str_flat (with_trivia lexed.tokens forest))
-  pub messages : string_bytes printer.messages ≡ all_told lexed forest
+  pub messages : string_bytes printer.messages ≡ all_reported lexed forest
 
 -- when a fault comes; the printer refuses a step only for want of memory
 abbrev pub Comes : {R : Type 0} → List ℕ → Edition → TextFault R → Type 0

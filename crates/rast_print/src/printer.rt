@@ -3,7 +3,7 @@ ghost use Rattle.std.specs.Prelude.{◌≡◌, ◌+◌, ◌^◌, ◌-◌, ◌++�
 ghost use Rattle.rap_base.specs.Names.{name_of};
 ghost use Rattle.rast_common.specs.Quote.{quoted};
 ghost use Rattle.ra_ap_parser.specs.LexedStr.{AreInOrder};
-ghost use Rattle.rast_print.specs.Printed.{indent, lexer_told};
+ghost use Rattle.rast_print.specs.Printed.{indent, lexer_reported};
 
 use ra_ap_parser::{LexedStr, NoMemory, StrSink, StrStep, SyntaxKind};
 use rast_common::message::push_message;
@@ -63,7 +63,7 @@ impl Printer {
     pub fn add_errors_of(&mut self, lexed: &LexedStr<'_>) -> Result<(), AllocError>
         requires { AreInOrder (length lexed.now.tokens) lexed.now.errors }
         ensures messages { OnOk result (string_bytes self.new.messages
-            ≡ string_bytes self.old.messages ++ lexer_told lexed.now.tokens lexed.now.errors) }
+            ≡ string_bytes self.old.messages ++ lexer_reported lexed.now.tokens lexed.now.errors) }
         ensures tree { self.new.tree ≡ self.old.tree }
     {
         'errors: for (token, message) in lexed.errors() {

@@ -12,7 +12,7 @@ use Rattle.rast_common.specs.Quote.{quoted}
 use Rattle.rast_print.specs.EntryName.{name_of_entry}
 use Rattle.ra_ap_parser.specs.Headline.{IsParsed}
 use Rattle.rast_print.specs.Printed.{printed}
-use Rattle.rast_print.specs.Shown.{all_told}
+use Rattle.rast_print.specs.Shown.{all_reported}
 use Rattle.rast_replay.specs.Hash.{fnv1a_of}
 
 -- a hash in sixteen hexadecimal digits, in lower case
@@ -31,4 +31,4 @@ pub record IsRow (line : List ℕ) : Type 0 where
   pub lexed : Lexed
   pub forest : Forest
   pub parsed : IsParsed text edition lexed forest
-  pub is : line ≡ row_line (year_text edition) (name_of_entry entry) (fnv1a_of (printed 0 (str_flat (with_trivia lexed.tokens forest)) ++ all_told lexed forest)) text
+  pub is : line ≡ row_line (year_text edition) (name_of_entry entry) (fnv1a_of (printed 0 (str_flat (with_trivia lexed.tokens forest)) ++ all_reported lexed forest)) text

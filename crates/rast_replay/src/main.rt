@@ -10,16 +10,16 @@ mod replay;
 mod row;
 mod unquote;
 
-use rast_common::fault::{FAULT, tell};
+use rast_common::fault::{FAULT, report};
 use replay::run;
 use std::process::ExitCode;
 use std::{env, fs, io};
 
-/// Tells a fault, and gives its status.
+/// Reports a fault, and gives its status.
 fn fail<V: io::Write>(err: &mut V, message: &str) -> ExitCode
     ensures { exit_status result ≡ 2 }
 {
-    ExitCode::from(tell(err, message).unwrap_or(FAULT))
+    ExitCode::from(report(err, message).unwrap_or(FAULT))
 }
 
 fn main(rt: HostRuntime) -> ExitCode {

@@ -6,7 +6,7 @@ ghost use Rattle.rast_replay.specs.Row.{IsRow};
 
 use crate::row::row_of;
 use ra_ap_parser::{NoMemory, TextFault};
-use rast_common::fault::tell;
+use rast_common::fault::report;
 use std::alloc::Global;
 use std::io;
 
@@ -77,8 +77,8 @@ fn replay<W: io::Write>(alloc: Global, rows: &str, out: &mut W) -> Result<Count,
 /// Replays each row, prints those that this library reads otherwise, and then how many were the same and how many
 /// were not.
 ///
-/// Gives the program's status: 0 where none was different, 1 where one was, and 2 at a fault, which is told on `err`. The
-/// error is that of `err`, where it refused to be told.
+/// Gives the program's status: 0 where none was different, 1 where one was, and 2 at a fault, which is reported on
+/// `err`. The error is that of `err`, where it refused the report.
 pub fn run<W: io::Write, V: io::Write>(
     alloc: Global,
     rows: &str,
@@ -90,11 +90,11 @@ pub fn run<W: io::Write, V: io::Write>(
 {
     let count = match replay(alloc, rows, out) {
         Ok(count) => count,
-        Err(Fault::Text(_)) => return tell(err, "rast_replay: no memory\n"),
-        Err(Fault::Write(_)) => return tell(err, "rast_replay: cannot write\n"),
+        Err(Fault::Text(_)) => return report(err, "rast_replay: no memory\n"),
+        Err(Fault::Write(_)) => return report(err, "rast_replay: cannot write\n"),
     };
     if writeln!(out, "{} same, {} different", count.same, count.different).is_err() {
-        return tell(err, "rast_replay: cannot write\n");
+        return report(err, "rast_replay: cannot write\n");
     }
     if count.different == 0 { Ok(0) } else { Ok(1) }
 }

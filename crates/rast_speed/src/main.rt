@@ -7,7 +7,7 @@ ghost use Rattle.std.specs.Process.{exit_status};
 mod times;
 
 use ra_ap_parser::{Edition, LexFault, ParseFault, TopEntryPoint};
-use rast_common::fault::{FAULT, tell};
+use rast_common::fault::{FAULT, report};
 use rast_print::entry::Entry;
 use std::alloc::{AllocError, Global};
 use std::process::ExitCode;
@@ -24,14 +24,14 @@ const UNREADABLE: &str = "rast_speed: cannot read the file\n";
 
 const NO_MEMORY: &str = "rast_speed: no memory\n";
 
-/// Tells a fault, and gives its status.
+/// Reports a fault, and gives its status.
 fn fail<V: io::Write>(err: &mut V, message: &str) -> ExitCode
     ensures { exit_status result ≡ 2 }
 {
-    ExitCode::from(tell(err, message).unwrap_or(FAULT))
+    ExitCode::from(report(err, message).unwrap_or(FAULT))
 }
 
-/// What is told where nothing was measured.
+/// What is reported where nothing was measured.
 fn failure_message(failure: &Failure) -> &'static str {
     match failure {
         Failure::Clock(_) => "rast_speed: cannot read the clock\n",

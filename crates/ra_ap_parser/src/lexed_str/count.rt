@@ -4,7 +4,7 @@ ghost use Rattle.ra_ap_parser.specs.LexedStr.{Lexed, IsLexing};
 ghost use Rattle.ra_ap_parser.specs.Trivia.{significant};
 
 use super::MAX_TEXT;
-use super::front::find_front;
+use super::header::find_header;
 use rap_base::edition::Edition;
 use rap_lexer::lexer::first_token;
 use std::alloc::Global;
@@ -14,9 +14,9 @@ pub fn significant_tokens(alloc: Global, edition: Edition, text: &str) -> usize
     requires { length text.now ≤ MAX_TEXT }
     ensures { (lexed : Lexed) × IsLexing text.now edition lexed × (result ≡ significant lexed.tokens) }
 {
-    let front = find_front(alloc, edition, text);
-    let mut count = front.count();
-    let mut offset = front.end();
+    let header = find_header(alloc, edition, text);
+    let mut count = header.count();
+    let mut offset = header.end();
     'tokens: while offset < text.len() {
         let (token, len) = first_token(edition, &text[offset..]);
         if !token.kind.is_trivia() {

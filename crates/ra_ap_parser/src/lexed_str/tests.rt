@@ -53,7 +53,7 @@ fn puts_script_sources_first(rt: HostRuntime) -> Result<(), Fail> {
 }
 
 #[test]
-fn tells_of_malformed_tokens(rt: HostRuntime) -> Result<(), Fail> {
+fn reports_of_malformed_tokens(rt: HostRuntime) -> Result<(), Fail> {
     for (text, want) in [
         (
             "##\"",

@@ -84,7 +84,7 @@ impl<'a, 'text> Builder<'a, 'text> {
         }
     }
 
-    /// Hands out what is left after the last step: trivia, and the root's end. Tells whether all tokens are out.
+    /// Hands out what is left after the last step: trivia, and the root's end. Answers whether all tokens are out.
     pub(super) fn finish<S: StrSink>(mut self, sink: &mut S) -> Result<bool, S::Refusal>
         requires { self.pos ≤ length self.lexed.now.tokens }
         ensures steps { HandsOut S.takes S.refuses sink.old (leaves_of (trivia_at self.entry.lexed.now.tokens self.entry.pos) ++ held self.entry.state) result sink.new }

@@ -287,7 +287,7 @@ fn trivia_at_both_ends(rt: HostRuntime) -> Result<(), Fail> {
 }
 
 #[test]
-fn faults_are_told_and_compared(rt: HostRuntime) -> Result<(), Fail> {
+fn faults_are_reported_and_compared(rt: HostRuntime) -> Result<(), Fail> {
     let refused = TextFault::Refused(NoMemory);
     let long: TextFault<NoMemory> = TextFault::TextTooLong;
     let shown = format!(in rt.alloc(); "{refused}, {long}")?;

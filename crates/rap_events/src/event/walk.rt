@@ -30,7 +30,7 @@ pub(super) struct Walk {
     openings: Vec<Opening>,
     // The steps, from the last one back, and the messages of their errors.
     steps: Vec<PlainStep>,
-    told: Vec<String>,
+    reported: Vec<String>,
     ghost within: { held ≤ length kinds.items },
 }
 
@@ -38,7 +38,7 @@ impl Walk {
     ghost use Rattle.rap_events.specs.History as call;
     ghost use Rattle.rap_events.specs.History.{errors};
     ghost use Rattle.rap_events.specs.Output.{values};
-    ghost use Rattle.rap_events.specs.Unwind.{walk_of, glue, others, enters, nothing_yet, Backed, ToldBack, EventBacked};
+    ghost use Rattle.rap_events.specs.Unwind.{walk_of, glue, others, enters, nothing_yet, Backed, ReportedBack, EventBacked};
 
     pub(super) fn new(alloc: Global, events: usize, messages: Vec<String>) -> Result<Walk, NoMemory>
         ensures walk { IfOk result (λ w. walk_of w ≡ nothing_yet) }
@@ -51,7 +51,7 @@ impl Walk {
             skips: 0,
             openings: Vec::new(alloc),
             steps: Vec::with_capacity(alloc, events)?,
-            told: Vec::new(alloc),
+            reported: Vec::new(alloc),
         })
     }
 
@@ -164,13 +164,13 @@ impl Walk {
         Ok(())
     }
 
-    fn tell(&mut self) -> Result<(), NoMemory>
+    fn report(&mut self) -> Result<(), NoMemory>
         requires { 0 < length self.old.messages.items }
-        ensures { OnOk result (ToldBack self.old self.new) }
+        ensures { OnOk result (ReportedBack self.old self.new) }
     {
         self.let_go();
         let message = self.messages.pop().unwrap();
-        self.told.push(message)?;
+        self.reported.push(message)?;
         self.steps.push(PlainStep::Error)?;
         Ok(())
     }
@@ -178,7 +178,7 @@ impl Walk {
     /// Takes an event back.
     pub(super) fn back(&mut self, event: Event) -> Result<(), NoMemory>
         requires few { (walk_of self.old).skips + 1 < 2 ^ 64 }
-        requires told { errors (event ∷ []) ≤ length self.old.messages.items }
+        requires reported { errors (event ∷ []) ≤ length self.old.messages.items }
         ensures { OnOk result (EventBacked event self.old self.new) }
     {
         match event {
@@ -195,7 +195,7 @@ impl Walk {
                 n_input_tokens,
             } => self.token(kind, n_input_tokens),
             Event::FloatSplit { ends_in_dot } => self.float_split(ends_in_dot),
-            Event::Error => self.tell(),
+            Event::Error => self.report(),
         }
     }
 
@@ -205,6 +205,6 @@ impl Walk {
         requires splits { splits_placed (forest_of (walk_of self).steps) ≡ true }
         ensures { result ≡ forest_of (walk_of self).steps }
     {
-        Output::of_steps(self.steps, self.told)
+        Output::of_steps(self.steps, self.reported)
     }
 }

@@ -14,6 +14,7 @@ ghost use Rattle.rap_grammar.specs.Script.{nothing};
 ghost use Rattle.rap_grammar.specs.Words.{of_option};
 
 use super::BlockLike;
+use super::attributes::outer_attrs;
 use super::knot::{Grammar, Rule};
 use crate::token_kind::T;
 use rap_base::no_memory::NoMemory;
@@ -25,7 +26,7 @@ mod operators;
 mod postfix;
 mod ranges;
 
-pub(super) use atom::expr_recovery_set;
+pub(super) use atom::{block_expr, expr_recovery_set, is_literal_first, literal, path_expr};
 use atom::{atom_expr, is_atom_expr_first};
 use operators::{climb, prefix_expr, ref_expr};
 use postfix::postfix_expr;
@@ -79,6 +80,7 @@ pub(super) fn expr_bp<G: Grammar>(
         }
         None => {
             let m = p.start()?;
+            outer_attrs(p, g)?;
             let expr = expr_from(p, g, m, r, bp)?;
             Ok(expr)
         }

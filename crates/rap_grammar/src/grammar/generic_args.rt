@@ -1,39 +1,364 @@
 //! Arguments of something generic.
-ghost use Rattle.std.specs.Prelude.{◌≡◌, ◌≢◌, ℕ, ◌<◌, ◌≤◌, IfOk, OnOk, IfSome, Some, None, true, false};
-ghost use Rattle.rap_base.specs.TokenKind.{EOF, L_ANGLE, COLON, FOR_KW, L_PAREN, PIPE, PLUS, BANG, LIFETIME_IDENT};
-ghost use Rattle.rap_base.specs.NodeKind.{PATH, PATH_TYPE, TYPE_BOUND_LIST};
-ghost use Rattle.rap_events.specs.State.{state, next, At, IsLast, but_last};
+ghost use Rattle.std.specs.Prelude.{◌≡◌, ◌<◌, ◌≤◌, IfOk, OnOk, Some, true, false};
+ghost use Rattle.rap_base.specs.TokenKind.{COLON, COLON2, L_ANGLE, BANG, MINUS, LIFETIME_IDENT};
+ghost use Rattle.rap_events.specs.Composite.{is_at};
+ghost use Rattle.rap_events.specs.State.{state, next, IsLast};
 ghost use Rattle.rap_grammar.specs.ConstArgs as const_script;
-ghost use Rattle.rap_grammar.specs.First.{is_type_first, is_generic_arg_first, is_cfg_predicate_first, is_outer_attr_first, starts_use_path, starts_path};
+ghost use Rattle.rap_grammar.specs.First.{is_path_name, is_type_first, is_const_arg_first, is_generic_arg_first, starts_expr_args};
 ghost use Rattle.rap_grammar.specs.GenericArgs as script;
-ghost use Rattle.rap_grammar.specs.Grew.{Within, Behind, Grew, Took, Makes, Wraps, Closes};
+ghost use Rattle.rap_grammar.specs.Grew.{Within, Behind, Grew, Took, Ended};
 ghost use Rattle.rap_grammar.specs.Knot.{Follows};
-ghost use Rattle.rap_grammar.specs.Room.{name_room, path_room, list_room, element_room, type_room, pattern_room};
-ghost use Rattle.rap_grammar.specs.Rules.{Parsed, IsType, IsPattern};
+ghost use Rattle.rap_grammar.specs.Paths as path_script;
+ghost use Rattle.rap_grammar.specs.Recovery.{is_generic_arg_recovery};
+ghost use Rattle.rap_grammar.specs.Room.{element_room, operand_room};
 ghost use Rattle.rap_grammar.specs.Script.{something};
 
+use super::expressions::{block_expr, is_literal_first, literal, path_expr};
+use super::generic_params::bounds;
+use super::items::macro_call_after_excl;
 use super::knot::{Grammar, Rule};
+use super::paths::{is_path_start, opt_path_type_args, type_path_for_qualifier};
+use super::types::{
+    is_type_first, opt_type_bounds_as_dyn_trait_type, starts_weak_dyn, type_, type_with_bounds_cond,
+};
+use super::{Element, delimited, is_path_name, lifetime, name_ref_mod_path};
 use crate::token_kind::T;
 use rap_base::no_memory::NoMemory;
 use rap_base::syntax_kind::SyntaxKind;
 use rap_base::token_set::TokenSet;
 use rap_events::parser::{CompletedMarker, Marker, Parser};
 
-/// An argument.
+/// An argument, as `'a`, `1`, `a`, `a = b` and `a: b`.
 pub(super) fn generic_arg<G: Grammar>(p: &mut Parser<'_>, g: &G) -> Result<(), NoMemory>
     requires within { Within G.valid G.left g.now (state p.old) }
     requires first { is_generic_arg_first (next (state p.old)) ≡ true }
     ensures took { OnOk result (Took (state p.old) (state p.new) element_room) }
     ensures script { OnOk result (Follows script.generic_arg something (state p.old) (state p.new)) }
 {
+    if starts_lifetime_arg(p) {
+        lifetime_arg(p)?;
+        return Ok(());
+    }
+    if is_const_arg_first(p.current()) {
+        const_arg(p, g)?;
+        return Ok(());
+    }
+    if starts_named_arg(p) {
+        named_arg(p, g)?;
+        return Ok(());
+    }
+    type_arg(p, g)?;
     Ok(())
 }
 
-/// A constant as an argument.
+/// Whether a lifetime comes next that is no bound of a type, as in `'a + b`.
+fn starts_lifetime_arg(p: &Parser<'_>) -> bool
+    ensures starts { result ≡ script.starts_lifetime_arg (state p.now).rest }
+    ensures here { result ≡ true → next (state p.now) ≡ LIFETIME_IDENT }
+{
+    p.current() == T![lifetime_ident] && !p.nth_at(1, T![+])
+}
+
+/// A lifetime as an argument, as `'a`.
+fn lifetime_arg(p: &mut Parser<'_>) -> Result<(), NoMemory>
+    requires here { next (state p.old) ≡ LIFETIME_IDENT }
+    ensures took { OnOk result (Took (state p.old) (state p.new) element_room) }
+    ensures script { OnOk result (Follows script.lifetime_arg something (state p.old) (state p.new)) }
+{
+    let m = p.start()?;
+    lifetime(p)?;
+    m.complete(p, SyntaxKind::LIFETIME_ARG)?;
+    Ok(())
+}
+
+/// A type as an argument, as `&a`.
+fn type_arg<G: Grammar>(p: &mut Parser<'_>, g: &G) -> Result<(), NoMemory>
+    requires within { Within G.valid G.left g.now (state p.old) }
+    requires first { is_type_first (next (state p.old)) ≡ true }
+    ensures took { OnOk result (Took (state p.old) (state p.new) element_room) }
+    ensures script { OnOk result (Follows script.type_arg something (state p.old) (state p.new)) }
+{
+    let m = p.start()?;
+    type_with_bounds_cond(p, g, true)?;
+    m.complete(p, SyntaxKind::TYPE_ARG)?;
+    Ok(())
+}
+
+/// Whether a name comes next that is no `dyn` of a type.
+fn starts_named_arg(p: &Parser<'_>) -> bool
+    ensures starts { result ≡ script.starts_named_arg (state p.now).rest }
+    ensures here { result ≡ true → is_path_name (next (state p.now)) ≡ true }
+{
+    is_path_name(p.current()) && !starts_weak_dyn(p)
+}
+
+/// Whether bounds come next, from their colon on.
+fn starts_bounds(p: &Parser<'_>) -> bool
+    ensures starts { result ≡ script.starts_bounds (state p.now).rest }
+    ensures here { result ≡ true → next (state p.now) ≡ COLON }
+{
+    p.current() == T![:] && !p.at(T![::])
+}
+
+/// An argument that begins with a name, as `a::b<c>`, `a = b` and `a<b>: c`.
+fn named_arg<G: Grammar>(p: &mut Parser<'_>, g: &G) -> Result<(), NoMemory>
+    requires within { Within G.valid G.left g.now (state p.old) }
+    requires name { is_path_name (next (state p.old)) ≡ true }
+    ensures took { OnOk result (Took (state p.old) (state p.new) element_room) }
+    ensures script { OnOk result (Follows script.named_arg something (state p.old) (state p.new)) }
+{
+    let m = p.start()?;
+    name_ref_mod_path(p)?;
+    opt_path_type_args(p, g)?;
+    if p.current() == T![=] {
+        p.bump_any()?;
+        assoc_value(p, g)?;
+        m.complete(p, SyntaxKind::ASSOC_TYPE_ARG)?;
+        return Ok(());
+    }
+    if starts_bounds(p) {
+        bounds(p, g)?;
+        m.complete(p, SyntaxKind::ASSOC_TYPE_ARG)?;
+        return Ok(());
+    }
+    let segment = m.complete(p, SyntaxKind::PATH_SEGMENT)?;
+    path_arg(p, g, segment)?;
+    Ok(())
+}
+
+/// What a name is bound to behind the `=`, as the `b` of `a = b`.
+fn assoc_value<G: Grammar>(p: &mut Parser<'_>, g: &G) -> Result<(), NoMemory>
+    requires behind { Behind G.valid G.left g.now (state p.old) }
+    ensures grew { OnOk result (Grew (state p.old) (state p.new) 8) }
+    ensures script { OnOk result (Follows script.assoc_value something (state p.old) (state p.new)) }
+{
+    if is_type_first(p.current()) {
+        type_(p, g)?;
+        return Ok(());
+    }
+    if is_generic_arg_recovery(p.current()) {
+        p.error("missing associated item binding")?;
+        return Ok(());
+    }
+    const_arg(p, g)?;
+    Ok(())
+}
+
+/// What ends the search for an argument.
+fn is_generic_arg_recovery(kind: SyntaxKind) -> bool
+    ensures { result ≡ is_generic_arg_recovery kind }
+{
+    matches!(kind, T![>] | T![,])
+}
+
+/// A path from its first segment on, as a type, as `a::b`, or a macro call, as `a!()`.
+fn path_arg<G: Grammar>(p: &mut Parser<'_>, g: &G, segment: CompletedMarker) -> Result<(), NoMemory>
+    requires behind { Behind G.valid G.left g.now (state p.old) }
+    requires last { IsLast (state p.old) segment segment.kind }
+    ensures grew { OnOk result (Grew (state p.old) (state p.new) 24) }
+    ensures script { OnOk result (Follows script.path_arg something (state p.old) (state p.new)) }
+{
+    let m = segment.precede(p)?;
+    let qual = m.complete(p, SyntaxKind::PATH)?;
+    let path = type_path_for_qualifier(p, g, qual)?;
+    let m = path.precede(p)?;
+    if starts_macro_call(p) {
+        macro_arg(p, g, m)?;
+        return Ok(());
+    }
+    let ty = m.complete(p, SyntaxKind::PATH_TYPE)?;
+    bounded_arg(p, g, ty)?;
+    Ok(())
+}
+
+/// Whether the `!` of a macro call comes next.
+fn starts_macro_call(p: &Parser<'_>) -> bool
+    ensures starts { result ≡ script.starts_macro_call (state p.now).rest }
+    ensures here { result ≡ true → next (state p.now) ≡ BANG }
+{
+    p.at(T![!]) && !p.at(T![!=])
+}
+
+/// A macro call behind its path, as the `!()` of `a!()`. The marker before the path is open.
+fn macro_arg<G: Grammar>(p: &mut Parser<'_>, g: &G, m: Marker) -> Result<(), NoMemory>
+    requires behind { Behind G.valid G.left g.now (state p.old) }
+    requires newest { (state p.old).marker ≡ Some m.pos }
+    requires here { next (state p.old) ≡ BANG }
+    ensures ended { OnOk result (Ended (state p.old) (state p.new) element_room) }
+    ensures script { OnOk result (Follows script.macro_arg something (state p.old) (state p.new)) }
+{
+    macro_call_after_excl(p)?;
+    let call = m.complete(p, SyntaxKind::MACRO_CALL)?;
+    let m = call.precede(p)?;
+    let ty = m.complete(p, SyntaxKind::MACRO_TYPE)?;
+    bounded_arg(p, g, ty)?;
+    Ok(())
+}
+
+/// The bounds after a type, as `+ b` after `a`, if there are; and what comes of it is an argument.
+fn bounded_arg<G: Grammar>(p: &mut Parser<'_>, g: &G, ty: CompletedMarker) -> Result<(), NoMemory>
+    requires behind { Behind G.valid G.left g.now (state p.old) }
+    requires last { IsLast (state p.old) ty ty.kind }
+    ensures grew { OnOk result (Grew (state p.old) (state p.new) 18) }
+    ensures script { OnOk result (Follows (script.bounded_arg ty.kind) something (state p.old) (state p.new)) }
+{
+    let ty = opt_type_bounds_as_dyn_trait_type(p, g, ty)?;
+    let m = ty.precede(p)?;
+    m.complete(p, SyntaxKind::TYPE_ARG)?;
+    Ok(())
+}
+
+/// Whether a constant as an argument begins with a token of this kind, if it is no name.
+fn is_const_arg_first(kind: SyntaxKind) -> bool
+    ensures { result ≡ is_const_arg_first kind }
+{
+    is_literal_first(kind) || matches!(kind, T!['{'] | T![-])
+}
+
+/// A constant as an argument, as `1`, `-1`, `{ a }` and `a::b`.
 pub(super) fn const_arg<G: Grammar>(p: &mut Parser<'_>, g: &G) -> Result<(), NoMemory>
     requires within { Within G.valid G.left g.now (state p.old) }
     ensures grew { OnOk result (Grew (state p.old) (state p.new) 8) }
+    ensures took { OnOk result (is_const_arg_first (next (state p.old)) ≡ true → Took (state p.old) (state p.new) element_room) }
     ensures script { OnOk result (Follows const_script.const_arg something (state p.old) (state p.new)) }
 {
+    let m = p.start()?;
+    const_arg_expr(p, g)?;
+    m.complete(p, SyntaxKind::CONST_ARG)?;
+    Ok(())
+}
+
+/// The expression of a constant.
+fn const_arg_expr<G: Grammar>(p: &mut Parser<'_>, g: &G) -> Result<(), NoMemory>
+    requires within { Within G.valid G.left g.now (state p.old) }
+    ensures grew { OnOk result (Grew (state p.old) (state p.new) 6) }
+    ensures took { OnOk result (is_const_arg_first (next (state p.old)) ≡ true → Took (state p.old) (state p.new) operand_room) }
+    ensures script { OnOk result (Follows const_script.const_arg_expr something (state p.old) (state p.new)) }
+{
+    if p.current() == T!['{'] {
+        block_expr(p)?;
+        return Ok(());
+    }
+    if is_literal_first(p.current()) {
+        literal(p)?;
+        return Ok(());
+    }
+    if p.current() == T![-] {
+        negative_const(p)?;
+        return Ok(());
+    }
+    if is_path_start(p) {
+        path_expr(p, g)?;
+        return Ok(());
+    }
+    missing_const(p)?;
+    Ok(())
+}
+
+/// A negative number, as `-1`.
+fn negative_const(p: &mut Parser<'_>) -> Result<(), NoMemory>
+    requires here { next (state p.old) ≡ MINUS }
+    ensures took { OnOk result (Took (state p.old) (state p.new) operand_room) }
+    ensures script { OnOk result (Follows const_script.negative_const something (state p.old) (state p.new)) }
+{
+    let m = p.start()?;
+    p.bump(T![-])?;
+    literal(p)?;
+    m.complete(p, SyntaxKind::PREFIX_EXPR)?;
+    Ok(())
+}
+
+/// A constant is missing. It keeps the table of the set off the stack of those that go deeper.
+#[inline(never)]
+fn missing_const(p: &mut Parser<'_>) -> Result<(), NoMemory>
+    ensures grew { OnOk result (Grew (state p.old) (state p.new) 3) }
+    ensures script { OnOk result (Follows const_script.missing_const something (state p.old) (state p.new)) }
+{
+    p.err_recover(
+        "expected a generic const argument",
+        TokenSet::new(&[T![>], T![,]]),
+    )?;
+    Ok(())
+}
+
+/// Whether an argument may begin with a token of this kind.
+fn is_generic_arg_first(kind: SyntaxKind) -> bool
+    ensures { result ≡ is_generic_arg_first kind }
+{
+    is_type_first(kind) || is_const_arg_first(kind)
+}
+
+/// An argument in a list.
+struct GenericArg;
+
+impl Element for GenericArg {
+    ghost use Rattle.rap_grammar.specs.First as set;
+    ghost use Rattle.rap_grammar.specs.Called as called;
+
+    ghost element = { λ _. called.generic_arg_element };
+
+    ghost first = { λ _. set.is_generic_arg_first };
+
+    fn parse<G: Grammar>(&self, p: &mut Parser<'_>, g: &G) -> Result<bool, NoMemory> {
+        if !is_generic_arg_first(p.current()) {
+            return Ok(false);
+        }
+        g.run(p, Rule::GenericArg)?;
+        Ok(true)
+    }
+
+    fn is_first(&self, kind: SyntaxKind) -> bool {
+        is_generic_arg_first(kind)
+    }
+}
+
+/// Arguments in angle brackets, as `<a, 'b, 1>`, whose marker is open.
+pub(super) fn generic_arg_list<G: Grammar>(
+    p: &mut Parser<'_>,
+    g: &G,
+    m: Marker,
+) -> Result<(), NoMemory>
+    requires within { Within G.valid G.left g.now (state p.old) }
+    requires newest { (state p.old).marker ≡ Some m.pos }
+    requires here { next (state p.old) ≡ L_ANGLE }
+    ensures ended { OnOk result (Ended (state p.old) (state p.new) element_room) }
+    ensures script { OnOk result (Follows path_script.generic_arg_list something (state p.old) (state p.new)) }
+{
+    delimited(
+        p,
+        g,
+        T![<],
+        T![>],
+        T![,],
+        "expected generic argument",
+        &GenericArg,
+    )?;
+    m.complete(p, SyntaxKind::GENERIC_ARG_LIST)?;
+    Ok(())
+}
+
+/// Whether the arguments behind a name in an expression come next.
+fn starts_expr_args(p: &Parser<'_>) -> bool
+    ensures { result ≡ starts_expr_args (state p.now).rest }
+{
+    p.at(T![::]) && p.nth_at(2, T![<])
+}
+
+/// The arguments behind a name in an expression, as `::<a>`, if there are.
+pub(super) fn opt_generic_arg_list_expr<G: Grammar>(
+    p: &mut Parser<'_>,
+    g: &G,
+) -> Result<(), NoMemory>
+    requires within { Within G.valid G.left g.now (state p.old) }
+    ensures grew { OnOk result (Grew (state p.old) (state p.new) 0) }
+    ensures stays { OnOk result (is_at COLON2 (state p.old).rest ≡ false → state p.new ≡ state p.old) }
+    ensures script { OnOk result (Follows path_script.opt_generic_arg_list_expr something (state p.old) (state p.new)) }
+{
+    if !starts_expr_args(p) {
+        return Ok(());
+    }
+    let m = p.start()?;
+    p.bump(T![::])?;
+    generic_arg_list(p, g, m)?;
     Ok(())
 }

@@ -1,37 +1,99 @@
 //! Items.
-ghost use Rattle.std.specs.Prelude.{◌≡◌, ◌≢◌, ℕ, ◌<◌, ◌≤◌, IfOk, OnOk, IfSome, Some, None, true, false};
-ghost use Rattle.rap_base.specs.TokenKind.{EOF, L_ANGLE, COLON, FOR_KW, L_PAREN, PIPE, PLUS, BANG, LIFETIME_IDENT};
-ghost use Rattle.rap_base.specs.NodeKind.{PATH, PATH_TYPE, TYPE_BOUND_LIST};
-ghost use Rattle.rap_events.specs.State.{state, next, At, IsLast, but_last};
-ghost use Rattle.rap_grammar.specs.First.{is_type_first, is_generic_arg_first, is_cfg_predicate_first, is_outer_attr_first, starts_use_path, starts_path, is_bracket};
+ghost use Rattle.std.specs.Prelude.{◌≡◌, IfOk, OnOk, true, [], ◌∷◌};
+ghost use Rattle.rap_base.specs.TokenKind.{R_PAREN, R_BRACK, BANG};
+ghost use Rattle.rap_base.specs.NodeKind.{TOKEN_TREE};
+ghost use Rattle.rap_events.specs.Fit.{partner};
+ghost use Rattle.rap_events.specs.Forest.{node};
+ghost use Rattle.rap_events.specs.State.{state, next, last_children};
+ghost use Rattle.rap_grammar.specs.Balanced.{NestsAsBrackets};
+ghost use Rattle.rap_grammar.specs.Expressions.{of_like};
+ghost use Rattle.rap_grammar.specs.First.{one_of, is_bracket};
+ghost use Rattle.rap_grammar.specs.Grew.{Took};
 ghost use Rattle.rap_grammar.specs.Items as script;
-ghost use Rattle.rap_grammar.specs.Grew.{Within, Behind, Grew, Took, Makes, Wraps, Closes};
 ghost use Rattle.rap_grammar.specs.Knot.{Follows};
-ghost use Rattle.rap_grammar.specs.Room.{name_room, path_room, list_room, element_room, type_room, pattern_room};
-ghost use Rattle.rap_grammar.specs.Rules.{Parsed, IsType, IsPattern};
+ghost use Rattle.rap_grammar.specs.Room.{list_room};
 ghost use Rattle.rap_grammar.specs.Script.{something};
 
-use super::knot::{Grammar, Rule};
+use super::BlockLike;
 use crate::token_kind::T;
 use rap_base::no_memory::NoMemory;
 use rap_base::syntax_kind::SyntaxKind;
-use rap_base::token_set::TokenSet;
-use rap_events::parser::{CompletedMarker, Marker, Parser};
+use rap_events::parser::Parser;
 
-/// A list of tokens in its brackets.
+/// Whether a kind is an opening bracket.
+pub(super) fn is_bracket(kind: SyntaxKind) -> bool
+    ensures { result ≡ is_bracket kind }
+{
+    matches!(kind, T!['{'] | T!['('] | T!['['])
+}
+
+/// The bracket that closes an opening one.
+fn closing_bracket(kind: SyntaxKind) -> SyntaxKind
+    ensures { result ≡ partner kind }
+{
+    match kind {
+        T!['('] => T![')'],
+        T!['['] => T![']'],
+        _ => T!['}'],
+    }
+}
+
+/// Whether a kind is a bracket that closes, but no brace.
+fn is_unmatched(kind: SyntaxKind) -> bool
+    ensures { result ≡ one_of (R_PAREN ∷ R_BRACK ∷ []) kind }
+{
+    matches!(kind, T![')'] | T![']'])
+}
+
+/// A list of tokens in its brackets, with such lists among them, as `(a, [b; 2])`.
 pub(super) fn token_tree(p: &mut Parser<'_>) -> Result<(), NoMemory>
     requires bracket { is_bracket (next (state p.old)) ≡ true }
     ensures took { OnOk result (Took (state p.old) (state p.new) list_room) }
+    ensures one { OnOk result ((state p.new).forest ≡ node (state p.old).forest TOKEN_TREE (last_children (state p.new).forest)) }
     ensures script { OnOk result (Follows script.bracketed_tokens something (state p.old) (state p.new)) }
+    ensures balanced { OnOk result (NestsAsBrackets (state p.old) (state p.new)) }
 {
+    let ket = closing_bracket(p.current());
+    let m = p.start()?;
+    p.bump_any()?;
+    'tokens: while !p.at(SyntaxKind::EOF) && !p.at(ket) {
+        let kind = p.current();
+        if is_bracket(kind) {
+            token_tree(p)?;
+            continue;
+        }
+        if kind == T!['}'] {
+            p.error("unmatched `}`")?;
+            m.complete_fit(p, SyntaxKind::TOKEN_TREE)?;
+            return Ok(());
+        }
+        if is_unmatched(kind) {
+            p.err_and_bump("unmatched brace")?;
+            continue;
+        }
+        p.bump_any()?;
+    }
+    p.expect(ket)?;
+    m.complete_fit(p, SyntaxKind::TOKEN_TREE)?;
     Ok(())
 }
 
-/// A macro call behind its path.
-pub(super) fn macro_call_after_excl(p: &mut Parser<'_>) -> Result<(), NoMemory>
+/// A macro call behind its path, as `!(a)` in `f!(a)`. With braces it reads like a block.
+pub(super) fn macro_call_after_excl(p: &mut Parser<'_>) -> Result<BlockLike, NoMemory>
     requires here { next (state p.old) ≡ BANG }
     ensures took { OnOk result (Took (state p.old) (state p.new) list_room) }
-    ensures script { OnOk result (Follows script.macro_call_after_excl something (state p.old) (state p.new)) }
+    ensures script { IfOk result (λ e. Follows script.macro_call_after_excl (of_like e) (state p.old) (state p.new)) }
 {
-    Ok(())
+    p.bump(T![!])?;
+    let kind = p.current();
+    if kind == T!['{'] {
+        token_tree(p)?;
+        return Ok(BlockLike::Block);
+    }
+    if is_bracket(kind) {
+        token_tree(p)?;
+        return Ok(BlockLike::NotBlock);
+    }
+    p.error("expected `{`, `[`, `(`")?;
+    Ok(BlockLike::NotBlock)
 }

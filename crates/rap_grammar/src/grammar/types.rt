@@ -1,24 +1,65 @@
 //! Types.
-ghost use Rattle.std.specs.Prelude.{◌≡◌, ◌≢◌, ℕ, ◌<◌, ◌≤◌, IfOk, OnOk, IfSome, Some, None, true, false};
-ghost use Rattle.rap_base.specs.TokenKind.{EOF, L_ANGLE, COLON, FOR_KW, L_PAREN, PIPE, PLUS, BANG, LIFETIME_IDENT};
-ghost use Rattle.rap_base.specs.NodeKind.{PATH, PATH_TYPE, TYPE_BOUND_LIST};
-ghost use Rattle.rap_events.specs.State.{state, next, At, IsLast, but_last};
+ghost use Rattle.std.specs.Prelude.{◌≡◌, ◌≢◌, ℕ, ◌<◌, ◌≤◌, IfOk, OnOk, IsTrue, true};
+ghost use Rattle.rap_base.specs.TokenKind.{SEMICOLON, L_PAREN, L_BRACK, COLON, LIFETIME_IDENT, STAR, AMP, BANG, UNDERSCORE, FN_KW, FOR_KW, IMPL_KW, DYN_KW, BUILTIN_KW, POUND};
+ghost use Rattle.rap_base.specs.NodeKind.{PATH_TYPE};
+ghost use Rattle.rap_base.specs.TokenSet.{member};
+ghost use Rattle.rap_events.specs.State.{state, next, NthAt, ReadsAs, IsLast, but_last};
 ghost use Rattle.rap_grammar.specs.Called as called;
-ghost use Rattle.rap_grammar.specs.TypeParts as parts;
-ghost use Rattle.rap_grammar.specs.First.{is_type_first, is_generic_arg_first, is_cfg_predicate_first, is_outer_attr_first, starts_use_path, starts_path};
-ghost use Rattle.rap_grammar.specs.Types as script;
-ghost use Rattle.rap_grammar.specs.Grew.{Within, Behind, Grew, Took, Makes, Wraps, Closes};
+ghost use Rattle.rap_grammar.specs.First.{is_type_first, is_fn_ptr_first, is_weak_dyn_path_first, is_dyn_weak, starts_weak_dyn, starts_path};
+ghost use Rattle.rap_grammar.specs.Grew.{Within, Behind, Grew, Took, Makes};
 ghost use Rattle.rap_grammar.specs.Knot.{Follows};
-ghost use Rattle.rap_grammar.specs.Room.{name_room, path_room, list_room, element_room, type_room, pattern_room};
-ghost use Rattle.rap_grammar.specs.Rules.{Parsed, IsType, IsPattern};
+ghost use Rattle.rap_grammar.specs.Recovery.{is_type_recovery};
+ghost use Rattle.rap_grammar.specs.Room.{name_room, list_room, type_room};
+ghost use Rattle.rap_grammar.specs.Rules.{IsType};
 ghost use Rattle.rap_grammar.specs.Script.{something};
+ghost use Rattle.rap_grammar.specs.TypeParts as parts;
+ghost use Rattle.rap_grammar.specs.Types as script;
+ghost use Rattle.rap_grammar.specs.Types.{starts_bare_dyn, starts_for_target, starts_macro_call, starts_builtin};
+ghost use Rattle.rap_grammar.specs.Words.{of_bool};
 
+use super::expressions::expr;
+use super::generic_params::{bounds_without_colon, bounds_without_colon_m};
+use super::items::macro_call_after_excl;
 use super::knot::{Grammar, Rule};
+use super::params::param_list_fn_ptr;
+use super::paths::{is_path_first, is_path_start, is_use_path_start, type_path};
+use super::patterns::pattern;
+use super::{abi, lifetime, opt_ret_type};
 use crate::token_kind::T;
 use rap_base::no_memory::NoMemory;
 use rap_base::syntax_kind::SyntaxKind;
 use rap_base::token_set::TokenSet;
-use rap_events::parser::{CompletedMarker, Marker, Parser};
+use rap_events::parser::{CompletedMarker, Parser};
+
+/// Whether a type may begin with a token of this kind: a `:` may be the first of `::`.
+pub(super) fn is_type_first(kind: SyntaxKind) -> bool
+    ensures { result ≡ is_type_first kind }
+{
+    is_path_first(kind)
+        || matches!(
+            kind,
+            T!['(']
+                | T!['[']
+                | T![!]
+                | T![*]
+                | T![&]
+                | T![_]
+                | T![fn]
+                | T![unsafe]
+                | T![extern]
+                | T![for]
+                | T![impl]
+                | T![dyn]
+                | T![lifetime_ident]
+        )
+}
+
+/// What ends the search for a type.
+pub(super) fn type_recovery_set() -> TokenSet
+    ensures { (kind : ℕ) → member result kind ≡ is_type_recovery kind }
+{
+    TokenSet::new(&[T![')'], T![']'], T!['}'], T![>], T![,], T![pub]])
+}
 
 /// A type, after a token of the rule around it.
 pub(super) fn type_<G: Grammar>(p: &mut Parser<'_>, g: &G) -> Result<(), NoMemory>
@@ -45,36 +86,542 @@ pub(super) fn type_no_bounds<G: Grammar>(p: &mut Parser<'_>, g: &G) -> Result<()
     Ok(())
 }
 
-/// A type.
-pub(super) fn type_with_bounds_cond<G: Grammar>(p: &mut Parser<'_>, g: &G, allow_bounds: bool) -> Result<(), NoMemory>
+/// A type, as `&a` and `[a; 1]`, with bounds after it, as `a + b`, where they are allowed.
+pub(super) fn type_with_bounds_cond<G: Grammar>(
+    p: &mut Parser<'_>,
+    g: &G,
+    allow_bounds: bool,
+) -> Result<(), NoMemory>
     requires within { Within G.valid G.left g.now (state p.old) }
     ensures reads { OnOk result (IsType (state p.old) (state p.new)) }
     ensures script { OnOk result (Follows (script.type_with_bounds_cond allow_bounds) something (state p.old) (state p.new)) }
 {
+    match p.current() {
+        T!['('] => {
+            paren_or_tuple_type(p, g)?;
+            Ok(())
+        }
+        T![!] => {
+            never_type(p)?;
+            Ok(())
+        }
+        T![*] => {
+            ptr_type(p, g)?;
+            Ok(())
+        }
+        T!['['] => {
+            array_or_slice_type(p, g)?;
+            Ok(())
+        }
+        T![&] => {
+            ref_type(p, g)?;
+            Ok(())
+        }
+        T![_] => {
+            infer_type(p)?;
+            Ok(())
+        }
+        T![fn] | T![unsafe] | T![extern] => {
+            fn_ptr_type(p, g)?;
+            Ok(())
+        }
+        T![for] => {
+            for_type(p, g, allow_bounds)?;
+            Ok(())
+        }
+        T![impl] => {
+            impl_trait_type(p, g)?;
+            Ok(())
+        }
+        T![dyn] => {
+            dyn_trait_type(p, g)?;
+            Ok(())
+        }
+        T![<] => {
+            path_type_bounds(p, g, allow_bounds)?;
+            Ok(())
+        }
+        _ => {
+            named_type(p, g, allow_bounds)?;
+            Ok(())
+        }
+    }
+}
+
+/// A type that begins with no symbol and no keyword of its own, as `a::b` and `'a + b`.
+fn named_type<G: Grammar>(p: &mut Parser<'_>, g: &G, allow_bounds: bool) -> Result<(), NoMemory>
+    requires within { Within G.valid G.left g.now (state p.old) }
+    ensures reads { OnOk result (IsType (state p.old) (state p.new)) }
+    ensures script { OnOk result (Follows (script.named_type allow_bounds) something (state p.old) (state p.new)) }
+{
+    if starts_weak_dyn(p) {
+        dyn_trait_type_weak(p, g)?;
+        return Ok(());
+    }
+    if is_path_start(p) {
+        path_or_macro_type(p, g, allow_bounds)?;
+        return Ok(());
+    }
+    if starts_bare_dyn(p) {
+        bare_dyn_trait_type(p, g)?;
+        return Ok(());
+    }
+    missing_type(p)?;
     Ok(())
 }
 
-/// A type behind its colon.
+/// Whether bounds come next that begin with a lifetime, as `'a + b`.
+fn starts_bare_dyn(p: &Parser<'_>) -> bool
+    ensures { result ≡ starts_bare_dyn (state p.now).rest }
+{
+    p.current() == T![lifetime_ident] && p.nth_at(1, T![+])
+}
+
+/// A type is missing: the next token stands in an `ERROR`, unless it is kept.
+#[inline(never)]
+fn missing_type(p: &mut Parser<'_>) -> Result<(), NoMemory>
+    ensures reads { OnOk result (IsType (state p.old) (state p.new)) }
+    ensures script { OnOk result (Follows script.missing_type something (state p.old) (state p.new)) }
+{
+    if p.current() == T!['{'] {
+        p.error("expected type, found `{`")?;
+        return Ok(());
+    }
+    p.err_recover("expected type", type_recovery_set())?;
+    Ok(())
+}
+
+/// What may follow an identifier `dyn` that is read as the keyword.
+fn is_weak_dyn_path_first(kind: SyntaxKind) -> bool
+    ensures { result ≡ is_weak_dyn_path_first kind }
+{
+    matches!(
+        kind,
+        T![ident]
+            | T![self]
+            | T![super]
+            | T![crate]
+            | T![Self]
+            | T![lifetime_ident]
+            | T![?]
+            | T![for]
+            | T!['(']
+    )
+}
+
+/// Whether an identifier `dyn` before a bound comes next, as in `dyn a`.
+fn is_dyn_weak(p: &Parser<'_>) -> bool
+    ensures here { result ≡ is_dyn_weak (state p.now).rest }
+    ensures bears { IsTrue result → ReadsAs (state p.now) DYN_KW }
+{
+    p.at_contextual_kw(T![dyn]) && is_weak_dyn_path_first(p.nth(1))
+}
+
+/// The same before 2018, when such a `dyn` is the keyword.
+pub(super) fn starts_weak_dyn(p: &Parser<'_>) -> bool
+    ensures here { result ≡ starts_weak_dyn (state p.now).rest }
+    ensures bears { IsTrue result → ReadsAs (state p.now) DYN_KW }
+{
+    p.current() == T![ident] && !p.current_edition().at_least_2018() && is_dyn_weak(p)
+}
+
+/// A type behind its colon, as `: a`.
 pub(super) fn ascription<G: Grammar>(p: &mut Parser<'_>, g: &G) -> Result<(), NoMemory>
     requires within { Within G.valid G.left g.now (state p.old) }
     requires here { next (state p.old) ≡ COLON }
     ensures took { OnOk result (Took (state p.old) (state p.new) list_room) }
     ensures script { OnOk result (Follows parts.ascription something (state p.old) (state p.new)) }
 {
+    p.bump(T![:])?;
+    if p.at(T![=]) {
+        p.error("missing type")?;
+        return Ok(());
+    }
+    type_(p, g)?;
     Ok(())
 }
 
-/// The lifetimes behind `for`.
+/// A type in parentheses, as `(a)`, or a tuple of types, as `()`, `(a,)` and `(a, b)`.
+#[inline(never)]
+fn paren_or_tuple_type<G: Grammar>(p: &mut Parser<'_>, g: &G) -> Result<(), NoMemory>
+    requires within { Within G.valid G.left g.now (state p.old) }
+    requires here { next (state p.old) ≡ L_PAREN }
+    ensures took { OnOk result (Took (state p.old) (state p.new) type_room) }
+    ensures script { OnOk result (Follows script.paren_or_tuple_type something (state p.old) (state p.new)) }
+{
+    let m = p.start()?;
+    p.bump(T!['('])?;
+    let is_parens = tuple_types(p, g)?;
+    p.expect(T![')'])?;
+    let kind = if is_parens {
+        SyntaxKind::PAREN_TYPE
+    } else {
+        SyntaxKind::TUPLE_TYPE
+    };
+    m.complete(p, kind)?;
+    Ok(())
+}
+
+/// What stands in parentheses. Reports whether it is one type and no comma.
+fn tuple_types<G: Grammar>(p: &mut Parser<'_>, g: &G) -> Result<bool, NoMemory>
+    requires behind { Behind G.valid G.left g.now (state p.old) }
+    ensures grew { OnOk result (Grew (state p.old) (state p.new) 8) }
+    ensures script { IfOk result (λ parens. Follows script.tuple_types (of_bool parens) (state p.old) (state p.new)) }
+{
+    let mut seen = false;
+    'types: while !p.at(SyntaxKind::EOF) && !p.at(T![')']) {
+        type_(p, g)?;
+        if !p.eat(T![,])? {
+            return Ok(!seen);
+        }
+        seen = true;
+    }
+    Ok(false)
+}
+
+/// The type of what never comes, `!`.
+#[inline(never)]
+fn never_type(p: &mut Parser<'_>) -> Result<(), NoMemory>
+    requires here { next (state p.old) ≡ BANG }
+    ensures took { OnOk result (Took (state p.old) (state p.new) type_room) }
+    ensures script { OnOk result (Follows script.never_type something (state p.old) (state p.new)) }
+{
+    let m = p.start()?;
+    p.bump(T![!])?;
+    m.complete(p, SyntaxKind::NEVER_TYPE)?;
+    Ok(())
+}
+
+/// A pointer, as `*const a`.
+fn ptr_type<G: Grammar>(p: &mut Parser<'_>, g: &G) -> Result<(), NoMemory>
+    requires within { Within G.valid G.left g.now (state p.old) }
+    requires here { next (state p.old) ≡ STAR }
+    ensures took { OnOk result (Took (state p.old) (state p.new) type_room) }
+    ensures script { OnOk result (Follows script.ptr_type something (state p.old) (state p.new)) }
+{
+    let m = p.start()?;
+    p.bump(T![*])?;
+    ptr_qualifier(p)?;
+    type_no_bounds(p, g)?;
+    m.complete(p, SyntaxKind::PTR_TYPE)?;
+    Ok(())
+}
+
+/// What stands behind the star of a pointer, as `const` and `mut`.
+#[inline(never)]
+fn ptr_qualifier(p: &mut Parser<'_>) -> Result<(), NoMemory>
+    ensures grew { OnOk result (Grew (state p.old) (state p.new) 1) }
+    ensures script { OnOk result (Follows script.ptr_qualifier something (state p.old) (state p.new)) }
+{
+    if matches!(p.current(), T![mut] | T![const]) {
+        p.bump_any()?;
+        return Ok(());
+    }
+    p.error(
+        "expected mut or const in raw pointer type (use `*mut T` or `*const T` as appropriate)",
+    )?;
+    Ok(())
+}
+
+/// An array with its length, as `[a; 1]`, or a slice, as `[a]`.
+#[inline(never)]
+fn array_or_slice_type<G: Grammar>(p: &mut Parser<'_>, g: &G) -> Result<(), NoMemory>
+    requires within { Within G.valid G.left g.now (state p.old) }
+    requires here { next (state p.old) ≡ L_BRACK }
+    ensures took { OnOk result (Took (state p.old) (state p.new) type_room) }
+    ensures script { OnOk result (Follows script.array_or_slice_type something (state p.old) (state p.new)) }
+{
+    let m = p.start()?;
+    p.bump(T!['['])?;
+    type_(p, g)?;
+    if p.at(T![']']) {
+        p.bump(T![']'])?;
+        m.complete(p, SyntaxKind::SLICE_TYPE)?;
+        return Ok(());
+    }
+    if p.at(T![;]) {
+        array_length(p, g)?;
+        m.complete(p, SyntaxKind::ARRAY_TYPE)?;
+        return Ok(());
+    }
+    p.error("expected `;` or `]`")?;
+    m.complete(p, SyntaxKind::SLICE_TYPE)?;
+    Ok(())
+}
+
+/// The length of an array and its bracket, as `; 1]`.
+fn array_length<G: Grammar>(p: &mut Parser<'_>, g: &G) -> Result<(), NoMemory>
+    requires within { Within G.valid G.left g.now (state p.old) }
+    requires here { next (state p.old) ≡ SEMICOLON }
+    ensures took { OnOk result (Took (state p.old) (state p.new) list_room) }
+    ensures script { OnOk result (Follows script.array_length something (state p.old) (state p.new)) }
+{
+    p.bump(T![;])?;
+    let m = p.start()?;
+    expr(p, g)?;
+    m.complete(p, SyntaxKind::CONST_ARG)?;
+    p.expect(T![']'])?;
+    Ok(())
+}
+
+/// A reference, as `&a` and `&'a mut b`.
+#[inline(never)]
+fn ref_type<G: Grammar>(p: &mut Parser<'_>, g: &G) -> Result<(), NoMemory>
+    requires within { Within G.valid G.left g.now (state p.old) }
+    requires here { next (state p.old) ≡ AMP }
+    ensures took { OnOk result (Took (state p.old) (state p.new) type_room) }
+    ensures script { OnOk result (Follows script.ref_type something (state p.old) (state p.new)) }
+{
+    let m = p.start()?;
+    p.bump(T![&])?;
+    if p.at(T![lifetime_ident]) {
+        lifetime(p)?;
+    }
+    p.eat(T![mut])?;
+    type_no_bounds(p, g)?;
+    m.complete(p, SyntaxKind::REF_TYPE)?;
+    Ok(())
+}
+
+/// A type that is found by itself, `_`.
+#[inline(never)]
+fn infer_type(p: &mut Parser<'_>) -> Result<(), NoMemory>
+    requires here { next (state p.old) ≡ UNDERSCORE }
+    ensures took { OnOk result (Took (state p.old) (state p.new) type_room) }
+    ensures script { OnOk result (Follows script.infer_type something (state p.old) (state p.new)) }
+{
+    let m = p.start()?;
+    p.bump(T![_])?;
+    m.complete(p, SyntaxKind::INFER_TYPE)?;
+    Ok(())
+}
+
+/// Whether a function pointer begins with a token of this kind.
+fn is_fn_ptr_first(kind: SyntaxKind) -> bool
+    ensures { result ≡ is_fn_ptr_first kind }
+{
+    matches!(kind, T![fn] | T![unsafe] | T![extern])
+}
+
+/// A function pointer, as `fn(a) -> b` and `unsafe extern "C" fn()`.
+#[inline(never)]
+fn fn_ptr_type<G: Grammar>(p: &mut Parser<'_>, g: &G) -> Result<(), NoMemory>
+    requires within { Within G.valid G.left g.now (state p.old) }
+    requires first { is_fn_ptr_first (next (state p.old)) ≡ true }
+    ensures took { OnOk result (Took (state p.old) (state p.new) type_room) }
+    ensures script { OnOk result (Follows script.fn_ptr_type something (state p.old) (state p.new)) }
+{
+    let m = p.start()?;
+    fn_qualifiers(p)?;
+    if !p.at(T![fn]) {
+        m.abandon(p)?;
+        p.error("expected `fn`")?;
+        return Ok(());
+    }
+    p.bump(T![fn])?;
+    fn_ptr_params(p, g)?;
+    opt_ret_type(p, g)?;
+    m.complete(p, SyntaxKind::FN_PTR_TYPE)?;
+    Ok(())
+}
+
+/// What stands before the `fn` of a function pointer, as `unsafe extern "C"`.
+fn fn_qualifiers(p: &mut Parser<'_>) -> Result<(), NoMemory>
+    ensures grew { OnOk result (Grew (state p.old) (state p.new) 0) }
+    ensures took { OnOk result (is_fn_ptr_first (next (state p.old)) ≡ true → next (state p.new) ≢ FN_KW → Took (state p.old) (state p.new) name_room) }
+    ensures script { OnOk result (Follows script.fn_qualifiers something (state p.old) (state p.new)) }
+{
+    p.eat(T![unsafe])?;
+    if p.at(T![extern]) {
+        abi(p)?;
+        return Ok(());
+    }
+    Ok(())
+}
+
+/// The parameters of a function pointer, as `(a, b)`.
+fn fn_ptr_params<G: Grammar>(p: &mut Parser<'_>, g: &G) -> Result<(), NoMemory>
+    requires within { Within G.valid G.left g.now (state p.old) }
+    ensures grew { OnOk result (Grew (state p.old) (state p.new) 1) }
+    ensures script { OnOk result (Follows script.fn_ptr_params something (state p.old) (state p.new)) }
+{
+    if p.at(T!['(']) {
+        param_list_fn_ptr(p, g)?;
+        return Ok(());
+    }
+    p.error("expected parameters")?;
+    Ok(())
+}
+
+/// The parameters behind `for`, as `for<'a>`.
 pub(super) fn for_binder<G: Grammar>(p: &mut Parser<'_>, g: &G) -> Result<(), NoMemory>
     requires within { Within G.valid G.left g.now (state p.old) }
     requires here { next (state p.old) ≡ FOR_KW }
     ensures took { OnOk result (Took (state p.old) (state p.new) list_room) }
     ensures script { OnOk result (Follows parts.for_binder something (state p.old) (state p.new)) }
 {
+    let m = p.start()?;
+    p.bump(T![for])?;
+    if p.at(T![<]) {
+        g.run(p, Rule::GenericParamList)?;
+        m.complete(p, SyntaxKind::FOR_BINDER)?;
+        return Ok(());
+    }
+    p.error("expected `<`")?;
+    m.complete(p, SyntaxKind::FOR_BINDER)?;
     Ok(())
 }
 
-/// A path as a type.
+/// A type over any lifetimes, as `for<'a> fn(&'a b)` and `for<'a> b<'a> + c`.
+#[inline(never)]
+fn for_type<G: Grammar>(p: &mut Parser<'_>, g: &G, allow_bounds: bool) -> Result<(), NoMemory>
+    requires within { Within G.valid G.left g.now (state p.old) }
+    requires here { next (state p.old) ≡ FOR_KW }
+    ensures took { OnOk result (Took (state p.old) (state p.new) type_room) }
+    ensures script { OnOk result (Follows (script.for_type allow_bounds) something (state p.old) (state p.new)) }
+{
+    let m = p.start()?;
+    for_binder(p, g)?;
+    if !starts_for_target(p) {
+        p.error("expected a function pointer or path")?;
+    }
+    type_no_bounds(p, g)?;
+    let cm = m.complete(p, SyntaxKind::FOR_TYPE)?;
+    if allow_bounds {
+        opt_type_bounds_as_dyn_trait_type(p, g, cm)?;
+        return Ok(());
+    }
+    Ok(())
+}
+
+/// Whether a function pointer or a path comes next.
+fn starts_for_target(p: &Parser<'_>) -> bool
+    ensures { result ≡ starts_for_target (state p.now).rest }
+{
+    is_fn_ptr_first(p.current()) || is_use_path_start(p)
+}
+
+/// A type by its bounds, as `impl a + 'b`.
+#[inline(never)]
+fn impl_trait_type<G: Grammar>(p: &mut Parser<'_>, g: &G) -> Result<(), NoMemory>
+    requires within { Within G.valid G.left g.now (state p.old) }
+    requires here { next (state p.old) ≡ IMPL_KW }
+    ensures took { OnOk result (Took (state p.old) (state p.new) type_room) }
+    ensures script { OnOk result (Follows script.impl_trait_type something (state p.old) (state p.new)) }
+{
+    let m = p.start()?;
+    p.bump(T![impl])?;
+    bounds_without_colon(p, g)?;
+    m.complete(p, SyntaxKind::IMPL_TRAIT_TYPE)?;
+    Ok(())
+}
+
+/// The type of trait objects, as `dyn a + 'b`.
+#[inline(never)]
+fn dyn_trait_type<G: Grammar>(p: &mut Parser<'_>, g: &G) -> Result<(), NoMemory>
+    requires within { Within G.valid G.left g.now (state p.old) }
+    requires here { next (state p.old) ≡ DYN_KW }
+    ensures took { OnOk result (Took (state p.old) (state p.new) type_room) }
+    ensures script { OnOk result (Follows script.dyn_trait_type something (state p.old) (state p.new)) }
+{
+    let m = p.start()?;
+    p.bump(T![dyn])?;
+    bounds_without_colon(p, g)?;
+    m.complete(p, SyntaxKind::DYN_TRAIT_TYPE)?;
+    Ok(())
+}
+
+/// The same where `dyn` is an identifier.
+#[inline(never)]
+fn dyn_trait_type_weak<G: Grammar>(p: &mut Parser<'_>, g: &G) -> Result<(), NoMemory>
+    requires within { Within G.valid G.left g.now (state p.old) }
+    requires here { ReadsAs (state p.old) DYN_KW }
+    ensures took { OnOk result (Took (state p.old) (state p.new) type_room) }
+    ensures script { OnOk result (Follows script.dyn_trait_type_weak something (state p.old) (state p.new)) }
+{
+    let m = p.start()?;
+    p.bump_remap(T![dyn])?;
+    bounds_without_colon(p, g)?;
+    m.complete(p, SyntaxKind::DYN_TRAIT_TYPE)?;
+    Ok(())
+}
+
+/// The same without a `dyn`, as `'a + b`.
+#[inline(never)]
+fn bare_dyn_trait_type<G: Grammar>(p: &mut Parser<'_>, g: &G) -> Result<(), NoMemory>
+    requires within { Within G.valid G.left g.now (state p.old) }
+    requires here { next (state p.old) ≡ LIFETIME_IDENT }
+    ensures took { OnOk result (Took (state p.old) (state p.new) type_room) }
+    ensures script { OnOk result (Follows script.bare_dyn_trait_type something (state p.old) (state p.new)) }
+{
+    let m = p.start()?;
+    bounds_without_colon(p, g)?;
+    m.complete(p, SyntaxKind::DYN_TRAIT_TYPE)?;
+    Ok(())
+}
+
+/// A path, as `a::b`, a macro call, as `a!()`, or `builtin#pattern_type(a is b)`.
+fn path_or_macro_type<G: Grammar>(
+    p: &mut Parser<'_>,
+    g: &G,
+    allow_bounds: bool,
+) -> Result<(), NoMemory>
+    requires within { Within G.valid G.left g.now (state p.old) }
+    requires path { starts_path (state p.old).rest ≡ true }
+    ensures took { OnOk result (Took (state p.old) (state p.new) type_room) }
+    ensures script { OnOk result (Follows (script.path_or_macro_type allow_bounds) something (state p.old) (state p.new)) }
+{
+    if starts_builtin(p) {
+        pattern_type(p, g)?;
+        return Ok(());
+    }
+    path_or_macro(p, g, allow_bounds)?;
+    Ok(())
+}
+
+/// Whether `builtin#` comes next.
+fn starts_builtin(p: &Parser<'_>) -> bool
+    ensures here { result ≡ starts_builtin (state p.now).rest }
+    ensures bears { IsTrue result → ReadsAs (state p.now) BUILTIN_KW }
+    ensures pound { IsTrue result → NthAt (state p.now) 1 POUND }
+{
+    p.at_contextual_kw(T![builtin]) && p.nth_at(1, T![#])
+}
+
+/// A path as a type, as `a::b`, or a macro call, as `a!()`.
+#[inline(never)]
+fn path_or_macro<G: Grammar>(p: &mut Parser<'_>, g: &G, allow_bounds: bool) -> Result<(), NoMemory>
+    requires within { Within G.valid G.left g.now (state p.old) }
+    requires path { starts_path (state p.old).rest ≡ true }
+    ensures took { OnOk result (Took (state p.old) (state p.new) type_room) }
+    ensures script { OnOk result (Follows (script.path_or_macro allow_bounds) something (state p.old) (state p.new)) }
+{
+    let r = p.start()?;
+    let m = p.start()?;
+    type_path(p, g)?;
+    if starts_macro_call(p) {
+        macro_call_after_excl(p)?;
+        m.complete(p, SyntaxKind::MACRO_CALL)?;
+        r.complete(p, SyntaxKind::MACRO_TYPE)?;
+        return Ok(());
+    }
+    m.abandon(p)?;
+    let path = r.complete(p, SyntaxKind::PATH_TYPE)?;
+    if allow_bounds {
+        opt_type_bounds_as_dyn_trait_type(p, g, path)?;
+        return Ok(());
+    }
+    Ok(())
+}
+
+/// Whether the `!` of a macro call comes next, and no `!=`.
+fn starts_macro_call(p: &Parser<'_>) -> bool
+    ensures { result ≡ starts_macro_call (state p.now).rest }
+{
+    p.at(T![!]) && !p.at(T![!=])
+}
+
+/// A path as a type, as `a::b`.
 pub(super) fn path_type<G: Grammar>(p: &mut Parser<'_>, g: &G) -> Result<CompletedMarker, NoMemory>
     requires within { Within G.valid G.left g.now (state p.old) }
     requires path { starts_path (state p.old).rest ≡ true }
@@ -82,30 +629,95 @@ pub(super) fn path_type<G: Grammar>(p: &mut Parser<'_>, g: &G) -> Result<Complet
     ensures script { OnOk result (Follows parts.path_type something (state p.old) (state p.new)) }
 {
     let m = p.start()?;
-    let cm = m.complete(p, SyntaxKind::PATH)?;
+    type_path(p, g)?;
+    let cm = m.complete(p, SyntaxKind::PATH_TYPE)?;
     Ok(cm)
 }
 
-/// A path as a type, and bounds after it.
-pub(super) fn path_type_bounds<G: Grammar>(p: &mut Parser<'_>, g: &G, allow_bounds: bool) -> Result<(), NoMemory>
+/// A path as a type, and bounds after it where they are allowed, as `a + b`.
+pub(super) fn path_type_bounds<G: Grammar>(
+    p: &mut Parser<'_>,
+    g: &G,
+    allow_bounds: bool,
+) -> Result<(), NoMemory>
     requires within { Within G.valid G.left g.now (state p.old) }
     requires path { starts_path (state p.old).rest ≡ true }
     ensures took { OnOk result (Took (state p.old) (state p.new) type_room) }
     ensures script { OnOk result (Follows (script.path_type_bounds allow_bounds) something (state p.old) (state p.new)) }
 {
+    let path = path_type(p, g)?;
+    if allow_bounds {
+        opt_type_bounds_as_dyn_trait_type(p, g, path)?;
+        return Ok(());
+    }
     Ok(())
 }
 
-/// The bounds after a type.
-pub(super) fn opt_type_bounds_as_dyn_trait_type<G: Grammar>(p: &mut Parser<'_>, g: &G, lhs: CompletedMarker) -> Result<CompletedMarker, NoMemory>
+/// The bounds after a type, as `+ b` after `a`, if there are: all is one type of trait objects, and the type before them
+/// its first bound. A macro call has no bounds after it.
+#[inline(never)]
+pub(super) fn opt_type_bounds_as_dyn_trait_type<G: Grammar>(
+    p: &mut Parser<'_>,
+    g: &G,
+    lhs: CompletedMarker,
+) -> Result<CompletedMarker, NoMemory>
     requires behind { Behind G.valid G.left g.now (state p.old) }
     requires last { IsLast (state p.old) lhs lhs.kind }
     ensures grew { OnOk result (Grew (state p.old) (state p.new) 16) }
     ensures last { IfOk result (λ cm. IsLast (state p.new) cm cm.kind) }
     ensures one { OnOk result (but_last (state p.new).forest ≡ but_last (state p.old).forest) }
-    ensures script { OnOk result (Follows script.opt_type_bounds_as_dyn_trait_type something (state p.old) (state p.new)) }
+    ensures script { OnOk result (Follows (script.opt_type_bounds_as_dyn_trait_type lhs.kind) something (state p.old) (state p.new)) }
+{
+    if lhs.kind() == SyntaxKind::MACRO_TYPE || !p.at(T![+]) {
+        return Ok(lhs);
+    }
+    let m = lhs.precede(p)?;
+    let bound = m.complete(p, SyntaxKind::TYPE_BOUND)?;
+    let m = bound.precede(p)?;
+    p.bump(T![+])?;
+    let bounds = bounds_without_colon_m(p, g, m)?;
+    let m = bounds.precede(p)?;
+    let cm = m.complete(p, SyntaxKind::DYN_TRAIT_TYPE)?;
+    Ok(cm)
+}
+
+/// A type by its values, as `builtin#pattern_type(a is 1..)`. Where another name follows, `builtin#` is an error.
+#[inline(never)]
+fn pattern_type<G: Grammar>(p: &mut Parser<'_>, g: &G) -> Result<(), NoMemory>
+    requires within { Within G.valid G.left g.now (state p.old) }
+    requires here { ReadsAs (state p.old) BUILTIN_KW }
+    requires pound { NthAt (state p.old) 1 POUND }
+    ensures took { OnOk result (Took (state p.old) (state p.new) type_room) }
+    ensures script { OnOk result (Follows script.pattern_type something (state p.old) (state p.new)) }
 {
     let m = p.start()?;
-    let cm = m.complete(p, SyntaxKind::PATH)?;
-    Ok(cm)
+    p.bump_remap(T![builtin])?;
+    p.bump(T![#])?;
+    if !p.at_contextual_kw(T![pattern_type]) {
+        p.error("unknown name after `builtin#`")?;
+        m.complete(p, SyntaxKind::ERROR)?;
+        return Ok(());
+    }
+    p.bump_remap(T![pattern_type])?;
+    pattern_type_parts(p, g)?;
+    m.complete(p, SyntaxKind::PATTERN_TYPE)?;
+    Ok(())
+}
+
+/// What stands behind `builtin#pattern_type`: a type and its values, as `(a is 1..)`.
+fn pattern_type_parts<G: Grammar>(p: &mut Parser<'_>, g: &G) -> Result<(), NoMemory>
+    requires behind { Behind G.valid G.left g.now (state p.old) }
+    ensures grew { OnOk result (Grew (state p.old) (state p.new) 32) }
+    ensures script { OnOk result (Follows script.pattern_type_parts something (state p.old) (state p.new)) }
+{
+    p.expect(T!['('])?;
+    type_(p, g)?;
+    if p.at_contextual_kw(T![is]) {
+        p.bump_remap(T![is])?;
+    } else {
+        p.error("expected `is`")?;
+    }
+    pattern(p, g)?;
+    p.expect(T![')'])?;
+    Ok(())
 }

@@ -23,7 +23,7 @@ impl<'a> Model for Cursor<'a> {
 }
 
 impl<'a> Cursor<'a> {
-    /// A cursor at the front of the text.
+    /// A cursor at the beginning of the text.
     pub fn new(text: &'a str) -> Cursor<'a>
         ensures { result ≡ chars text.now }
     {

@@ -5,14 +5,14 @@ ghost use Rattle.rap_lexer.specs.Lexeme.{plain, literal};
 use crate::escape::Mode;
 use rap_base::syntax_kind::SyntaxKind;
 
-/// A token: its kind, and what is to be told of it.
+/// A token: its kind, and what is to be reported about it.
 #[derive(Clone, Copy, PartialEq, Eq, Debug)]
 pub struct Lexeme {
     pub kind: SyntaxKind,
     pub remark: Remark,
 }
 
-/// What is to be told of a token.
+/// What is to be reported about a token.
 #[derive(Clone, Copy, PartialEq, Eq, Debug)]
 pub enum Remark {
     /// Nothing.
@@ -42,7 +42,7 @@ pub enum Remark {
 }
 
 impl Lexeme {
-    /// A token of this kind, with nothing to tell.
+    /// A token of this kind, with nothing to report.
     pub fn plain(kind: SyntaxKind) -> Lexeme
         ensures { result ≡ plain kind }
     {

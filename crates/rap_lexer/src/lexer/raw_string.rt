@@ -3,7 +3,7 @@ ghost use Rattle.std.specs.Prelude.{◌≡◌, ◌≢◌, ◌<◌, ◌^◌, ℕ,
 ghost use Rattle.std.specs.Str.{byte};
 ghost use Rattle.rap_lexer.specs.Class.{is_in};
 ghost use Rattle.rap_lexer.specs.Quoted.{IsRawString, RawRun};
-ghost use Rattle.rap_lexer.specs.Lexeme.{told};
+ghost use Rattle.rap_lexer.specs.Lexeme.{with_remark};
 ghost use Rattle.rap_lexer.specs.Run.{run_of, after_run, after_suffix};
 ghost use Rattle.rap_lexer.specs.declared.lexer.run.Class.TheVariants.{Hash};
 
@@ -31,7 +31,7 @@ pub fn raw_string(cursor: &mut Cursor<'_>, kind: SyntaxKind) -> Lexeme
 
 /// The raw string that was taken, with its suffix if it is well formed.
 fn ended(cursor: &mut Cursor<'_>, kind: SyntaxKind, well_formed: bool) -> Lexeme
-    ensures token { result ≡ told kind (if well_formed then Remark.Nothing else Remark.InvalidRawString) }
+    ensures token { result ≡ with_remark kind (if well_formed then Remark.Nothing else Remark.InvalidRawString) }
     ensures rest { cursor.new ≡ (if well_formed then after_suffix cursor.old else cursor.old) }
 {
     if well_formed {

@@ -142,7 +142,7 @@ fn ends_prefix(cursor: &Cursor<'_>) -> bool
     cursor.is_next('#') || cursor.is_next('"') || cursor.is_next('\'')
 }
 
-/// What is to be told of a prefix.
+/// What is to be reported about a prefix.
 fn prefix_remark(text: &str) -> Remark
     ensures { result ≡ prefix_remark text.now }
 {
@@ -166,8 +166,8 @@ fn word_kind(edition: Edition, text: &str) -> SyntaxKind
 
 /// What stands before the cursor in the text that it came from.
 fn taken<'a>(text: &'a str, cursor: &Cursor<'_>) -> &'a str
-    requires { (front : List ℕ) × (chars text.now ≡ front ++ cursor.now) }
-    ensures { (front : List ℕ) → chars text.now ≡ front ++ cursor.now → result.now ≡ encode_utf8_all front }
+    requires { (initial : List ℕ) × (chars text.now ≡ initial ++ cursor.now) }
+    ensures { (initial : List ℕ) → chars text.now ≡ initial ++ cursor.now → result.now ≡ encode_utf8_all initial }
 {
     let rest = cursor.as_str();
     &text[..text.len() - rest.len()]

@@ -124,7 +124,7 @@ impl fmt::Display for FrontmatterError {
 
 impl Error for FrontmatterError {}
 
-/// Why a text has no script source to give: it is refused, or memory is wanted to tell how.
+/// Why a text has no script source to give: it is refused, or memory is wanted to report how.
 #[derive(Clone, PartialEq, Eq, Debug, Drop)]
 pub enum ScriptFault {
     Refused(FrontmatterError),
@@ -177,7 +177,7 @@ mod tests {
     }
 
     #[test]
-    fn faults_are_told_and_compared(rt: HostRuntime) -> Result<(), Fail> {
+    fn faults_are_reported_and_compared(rt: HostRuntime) -> Result<(), Fail> {
         let alloc = rt.alloc();
         let refused = ScriptFault::Refused(FrontmatterError::new(alloc, "no end", 0..1)?);
         let shown = format!(in alloc; "{refused}, {}", ScriptFault::NoMemory)?;

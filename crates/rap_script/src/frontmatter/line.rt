@@ -53,7 +53,7 @@ pub(super) fn count_dashes(text: &[u8]) -> usize
 pub(super) fn find_word(line: &[u8]) -> Option<Range<usize>>
     ensures { FindsWord line.now result }
 {
-    let start = count_blank_front(line);
+    let start = count_blank_prefix(line);
     if start == line.len() {
         return None;
     }
@@ -61,7 +61,7 @@ pub(super) fn find_word(line: &[u8]) -> Option<Range<usize>>
 }
 
 /// How many spaces and tabs the line begins with.
-fn count_blank_front(line: &[u8]) -> usize
+fn count_blank_prefix(line: &[u8]) -> usize
     ensures { result ≡ prefix_len is_horizontal line.now }
 {
     line.iter().take_while(|b| is_horizontal(**b)).count()

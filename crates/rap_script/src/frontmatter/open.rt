@@ -31,7 +31,7 @@ impl Dashes {
     }
 }
 
-/// Finds the dashes at the front of the text, past its blank lines. There may be none.
+/// Finds the dashes at the beginning of the text, past its blank lines. There may be none.
 pub(super) fn find_dashes(text: &str) -> Dashes
     ensures { HasDashes text.now result.start result.len }
 {
@@ -47,7 +47,7 @@ pub(super) struct Opening {
     pub(super) dashes: Dashes,
 }
 
-/// Finds the dashes at the front of the text, past its shebang and blank lines.
+/// Finds the dashes at the beginning of the text, past its shebang and blank lines.
 pub(super) fn find_opening(text: &str) -> Opening
     ensures { HasOpening text.now result.shebang result.dashes.start result.dashes.len }
 {

@@ -1,4 +1,4 @@
-//! Script sources, read from the front of a text on.
+//! Script sources, read from the beginning of a text on.
 ghost use Rattle.std.specs.Prelude.{◌≡◌, ◌+◌, ◌<◌, ◌≤◌, ◌^◌, [], ◌∷◌, drop, IfOk, IfErr, IfSome};
 ghost use Rattle.std.specs.Option.{option_map};
 ghost use Rattle.rap_script.specs.Script.{IsScript, AtBorders, dashes, span, up_to, moved};
@@ -11,8 +11,8 @@ use crate::frontmatter::close::{Closing, FoundClose, find_close};
 use crate::frontmatter::error::{FrontmatterError, ScriptFault, Span};
 use crate::frontmatter::line::{count_dashes, find_word, first_line};
 use crate::frontmatter::open::{Opening, find_dashes, find_opening};
+use crate::frontmatter::report;
 use crate::frontmatter::script_source::ScriptSource;
-use crate::frontmatter::tell;
 use rap_base::no_memory::NoMemory;
 use std::alloc::Global;
 
@@ -48,7 +48,7 @@ fn source_of<'s>(alloc: Global, raw: &'s str) -> Result<ScriptSource<'s>, Script
     }
     if opening.dashes.len < SHORTEST_FENCE {
         let len = raw.len();
-        let error = tell::opens_too_short(
+        let error = report::opens_too_short(
             alloc,
             opening.dashes.len,
             len..len,
@@ -68,7 +68,7 @@ fn without_frontmatter<'s>(raw: &'s str, opening: &Opening) -> ScriptSource<'s>
 {
     ScriptSource {
         raw,
-        shebang: front(opening.shebang),
+        shebang: span_to(opening.shebang),
         open: None,
         info: None,
         frontmatter: None,
@@ -95,7 +95,7 @@ fn after_opening<'s>(
         FoundClose::TooShort { place, len } => {
             let missing = opening.dashes.len - len;
             let close = end + place..end + place + len;
-            let error = tell::closes_too_short(alloc, missing, close, opening.dashes.span())?;
+            let error = report::closes_too_short(alloc, missing, close, opening.dashes.span())?;
             Err(ScriptFault::Refused(error))
         }
         FoundClose::NoFence => Err(ScriptFault::Refused(unclosed(alloc, raw, opening)?)),
@@ -103,7 +103,7 @@ fn after_opening<'s>(
     }
 }
 
-/// Tells that nothing closes the frontmatter.
+/// Reports that nothing closes the frontmatter.
 fn unclosed(alloc: Global, raw: &str, opening: &Opening) -> Result<FrontmatterError, NoMemory>
     requires opens { Opens raw.now opening.now }
     requires some { 0 < opening.now.dashes.len }
@@ -112,7 +112,7 @@ fn unclosed(alloc: Global, raw: &str, opening: &Opening) -> Result<FrontmatterEr
     let len = raw.len();
     let open = opening.dashes.span();
     let fence = &raw[opening.dashes.start..opening.dashes.end()];
-    tell::lacks_close(alloc, fence, len..len, open)
+    report::lacks_close(alloc, fence, len..len, open)
 }
 
 /// Goes on after the dashes that close a frontmatter.
@@ -133,13 +133,13 @@ fn after_close<'s>(
     let rest = &raw.as_bytes()[end..];
     let extra = count_dashes(rest);
     if extra > 0 {
-        let error = tell::closes_too_long(alloc, extra, end..end + extra, opening.dashes.span())?;
+        let error = report::closes_too_long(alloc, extra, end..end + extra, opening.dashes.span())?;
         return Err(ScriptFault::Refused(error));
     }
     let tail = first_line(rest);
     if let Some(word) = find_word(&rest[..tail.len]) {
         let word = end + word.start..end + word.end;
-        let error = tell::follows_close(alloc, word, opening.dashes.span())?;
+        let error = report::follows_close(alloc, word, opening.dashes.span())?;
         return Err(ScriptFault::Refused(error));
     }
     before_content(alloc, raw, opening, closing, tail.next)
@@ -167,7 +167,7 @@ fn before_content<'s>(
     if second.len > 0 {
         let dashes = content + second.start..content + second.end();
         let close = close..close + opening.dashes.len;
-        let error = tell::opens_twice(alloc, dashes, opening.dashes.span(), close)?;
+        let error = report::opens_twice(alloc, dashes, opening.dashes.span(), close)?;
         return Err(ScriptFault::Refused(error));
     }
     Ok(with_frontmatter(raw, opening, closing, line))
@@ -193,7 +193,7 @@ fn with_frontmatter<'s>(
     let close = end + closing.close;
     ScriptSource {
         raw,
-        shebang: front(opening.shebang),
+        shebang: span_to(opening.shebang),
         open: Some(opening.dashes.span()),
         info: moved(info, end),
         frontmatter: Some(end + closing.matter..close),
@@ -203,7 +203,7 @@ fn with_frontmatter<'s>(
 }
 
 /// The span from the text's start on.
-fn front(end: Option<usize>) -> Option<Span>
+fn span_to(end: Option<usize>) -> Option<Span>
     ensures { result ≡ option_map up_to end }
 {
     end.map(|end| 0..end)

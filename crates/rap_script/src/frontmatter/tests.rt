@@ -131,7 +131,7 @@ fn slices_the_text(rt: HostRuntime) -> Result<(), Fail> {
     Ok(())
 }
 
-/// A search from the front for each shorter close would not end.
+/// A search from the beginning for each shorter close would not end.
 #[test]
 fn takes_long_fences(rt: HostRuntime) -> Result<(), Fail> {
     let alloc = rt.alloc();

@@ -92,15 +92,21 @@ impl io::Write for Refusing {
 }
 
 /// Runs the program over a text with one message, where a call of a stream is refused, and compares the status
-/// and what is told.
-fn tells(rt: &impl Abort, alloc: Global, at: usize, status: u8, told: &str) -> Result<(), Fail> {
+/// and what is reported.
+fn reports(
+    rt: &impl Abort,
+    alloc: Global,
+    at: usize,
+    status: u8,
+    reported: &str,
+) -> Result<(), Fail> {
     let mut out = Refusing { calls: 0, at };
     let mut err = Vec::new(alloc);
     let entry = TopEntryPoint::Expr;
     let edition = Edition::Edition2015;
     let got = run(alloc, edition, entry, "+", &mut out, &mut err)?;
     assert_eq!(rt; got, status);
-    assert_eq!(rt; err.as_slice(), told.as_bytes());
+    assert_eq!(rt; err.as_slice(), reported.as_bytes());
     let mut out = Refusing { calls: 0, at };
     let mut err = Refusing { calls: 0, at: 0 };
     let got = run(alloc, edition, entry, "+", &mut out, &mut err);
@@ -109,9 +115,9 @@ fn tells(rt: &impl Abort, alloc: Global, at: usize, status: u8, told: &str) -> R
 }
 
 #[test]
-fn tells_that_it_cannot_write(rt: HostRuntime) -> Result<(), Fail> {
+fn reports_that_it_cannot_write(rt: HostRuntime) -> Result<(), Fail> {
     for at in 0..3 {
-        tells(&rt, rt.alloc(), at, 2, "rast: cannot write\n")?;
+        reports(&rt, rt.alloc(), at, 2, "rast: cannot write\n")?;
     }
-    tells(&rt, rt.alloc(), 3, 1, "")
+    reports(&rt, rt.alloc(), 3, 1, "")
 }

@@ -166,15 +166,21 @@ impl io::Write for Refusing {
     }
 }
 
-/// Lists one token where a call of a stream is refused, and compares the status and what is told.
-fn tells(rt: &impl Abort, alloc: Global, at: usize, status: u8, told: &str) -> Result<(), Fail> {
+/// Lists one token where a call of a stream is refused, and compares the status and what is reported.
+fn reports(
+    rt: &impl Abort,
+    alloc: Global,
+    at: usize,
+    status: u8,
+    reported: &str,
+) -> Result<(), Fail> {
     let listing = Listing::Tokens;
     let edition = Edition::Edition2018;
     let mut out = Refusing { calls: 0, at };
     let mut err = Vec::new(alloc);
     let got = run(alloc, edition, listing, "+", &mut out, &mut err)?;
     assert_eq!(rt; got, status);
-    assert_eq!(rt; err.as_slice(), told.as_bytes());
+    assert_eq!(rt; err.as_slice(), reported.as_bytes());
     let mut out = Refusing { calls: 0, at };
     let mut err = Refusing { calls: 0, at: 0 };
     let got = run(alloc, edition, listing, "+", &mut out, &mut err);
@@ -183,11 +189,11 @@ fn tells(rt: &impl Abort, alloc: Global, at: usize, status: u8, told: &str) -> R
 }
 
 #[test]
-fn tells_that_it_cannot_write(rt: HostRuntime) -> Result<(), Fail> {
+fn reports_that_it_cannot_write(rt: HostRuntime) -> Result<(), Fail> {
     for at in 0..2 {
-        tells(&rt, rt.alloc(), at, 2, "rast_lex: cannot write\n")?;
+        reports(&rt, rt.alloc(), at, 2, "rast_lex: cannot write\n")?;
     }
-    tells(&rt, rt.alloc(), 2, 0, "")
+    reports(&rt, rt.alloc(), 2, 0, "")
 }
 
 #[test]

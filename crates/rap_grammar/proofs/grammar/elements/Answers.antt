@@ -3,7 +3,7 @@ use Rattle.rap_events.specs.Composite.{is_at}
 use Rattle.rap_events.specs.State.{state, next}
 use Rattle.rap_grammar.specs.Grammar.{elements}
 use Rattle.rap_grammar.specs.Script.{gives, passes, fails}
-use Rattle.rap_grammar.proofs.Steps.{then_by, else_by, by_start, by_report, by_bump, by_complete, by_rule, by_expect, turn, last_turn, by_kind, neither, either, told_no, told_yes}
+use Rattle.rap_grammar.proofs.Steps.{then_by, else_by, by_start, by_report, by_bump, by_complete, by_rule, by_expect, turn, last_turn, by_kind, neither, either, answers_no, answers_yes}
 use Rattle.rap_grammar.proofs.grammar.elements.Goals.{else-not-at-2-via-then-not-at-2+else-not-is_first, else-not-at-2-via-else-not-at-2}
 use Rattle.rap_grammar.proofs.grammar.elements.Goals as goal
 
@@ -34,7 +34,7 @@ elements-preserved g c = record {
       (else_by c.at.ensures c.elements-test.true
       (else_by c.at-in-elements.ensures c.if-not-at.true
       (else_by c.at-in-elements-2.ensures c.if-at.false
-      (by_rule (told_yes c.if-not-branch.false c.in_ok-parse.ensures.script)
+      (by_rule (answers_yes c.if-not-branch.false c.in_ok-parse.ensures.script)
       (passes e (by_expect c.in_ok-expect.ensures.state gives))))));
 }
 
@@ -45,7 +45,7 @@ returns-then-not-branch-clause-script g c = record {
       (else_by c.at.ensures c.elements-test.true
       (else_by c.at-in-elements.ensures c.if-not-at.true
       (else_by c.at-in-elements-2.ensures c.if-at.false
-      (by_rule (told_no c.if-not-branch.true c.in_ok-parse.ensures.script) gives)))) refl;
+      (by_rule (answers_no c.if-not-branch.true c.in_ok-parse.ensures.script) gives)))) refl;
 }
 
 pub returns-then-not-is_first-clause-script : goal.returns-then-not-is_first-clause-script
@@ -57,7 +57,7 @@ returns-then-not-is_first-clause-script g c = record {
       (else_by c.at.ensures c.elements-test.true
       (else_by c.at-in-elements.ensures c.if-not-at.true
       (else_by c.at-in-elements-2.ensures c.if-at.false
-      (by_rule (told_yes c.if-not-branch.false c.in_ok-parse.ensures.script)
+      (by_rule (answers_yes c.if-not-branch.false c.in_ok-parse.ensures.script)
       (fails (neither (sym c.at-in-elements-3.ensures ∙ c.if-not-at-2.true) (sym (by_kind f c.is_first.ensures c.current.ensures.kind) ∙ c.if-not-is_first.true)) gives))))) refl;
 }
 

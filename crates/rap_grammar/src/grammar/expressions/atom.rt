@@ -26,7 +26,7 @@ use rap_base::token_set::TokenSet;
 use rap_events::parser::{CompletedMarker, Parser};
 
 /// Whether a kind is a literal.
-fn is_literal_first(kind: SyntaxKind) -> bool
+pub(in crate::grammar) fn is_literal_first(kind: SyntaxKind) -> bool
     ensures { result ≡ is_literal_first kind }
 {
     matches!(
@@ -45,8 +45,12 @@ fn is_literal_first(kind: SyntaxKind) -> bool
 
 /// A literal, as `1` and `true`, if one comes next.
 #[inline(never)]
-fn literal(p: &mut Parser<'_>) -> Result<Option<CompletedMarker>, NoMemory>
+pub(in crate::grammar) fn literal(
+    p: &mut Parser<'_>,
+) -> Result<Option<CompletedMarker>, NoMemory>
     ensures made { IfOk result (Optional LITERAL atom_room (state p.old) (state p.new)) }
+    ensures grew { OnOk result (Grew (state p.old) (state p.new) 0) }
+    ensures took { OnOk result (is_literal_first (next (state p.old)) ≡ true → Took (state p.old) (state p.new) atom_room) }
     ensures script { IfOk result (λ o. Follows script.literal (of_option o) (state p.old) (state p.new)) }
 {
     if !is_literal_first(p.current()) {
@@ -87,7 +91,7 @@ pub(super) fn atom_expr<G: Grammar>(
         return Ok(Some((cm, BlockLike::NotBlock)));
     }
     if is_path_start(p) {
-        return Ok(Some((path_expr(p)?, BlockLike::NotBlock)));
+        return Ok(Some((path_expr(p, g)?, BlockLike::NotBlock)));
     }
     match p.current() {
         T!['('] => Ok(Some((tuple_expr(p, g)?, BlockLike::NotBlock))),
@@ -115,13 +119,17 @@ pub(in crate::grammar) fn block_expr(p: &mut Parser<'_>) -> Result<(), NoMemory>
 
 /// A path as an expression, as `a::b`.
 #[inline(never)]
-fn path_expr(p: &mut Parser<'_>) -> Result<CompletedMarker, NoMemory>
-    requires { starts_path (state p.old).rest ≡ true }
+pub(in crate::grammar) fn path_expr<G: Grammar>(
+    p: &mut Parser<'_>,
+    g: &G,
+) -> Result<CompletedMarker, NoMemory>
+    requires within { Within G.valid G.left g.now (state p.old) }
+    requires path { starts_path (state p.old).rest ≡ true }
     ensures made { IfOk result (Makes PATH_EXPR atom_room (state p.old) (state p.new)) }
     ensures script { OnOk result (Follows script.path_expr something (state p.old) (state p.new)) }
 {
     let m = p.start()?;
-    expr_path(p)?;
+    expr_path(p, g)?;
     let cm = m.complete(p, SyntaxKind::PATH_EXPR)?;
     Ok(cm)
 }
@@ -147,7 +155,7 @@ fn tuple_expr<G: Grammar>(p: &mut Parser<'_>, g: &G) -> Result<CompletedMarker, 
     Ok(cm)
 }
 
-/// What stands in parentheses. Tells whether it is one expression and no comma.
+/// What stands in parentheses. Answers whether it is one expression and no comma.
 fn tuple_elements<G: Grammar>(p: &mut Parser<'_>, g: &G) -> Result<bool, NoMemory>
     requires behind { Behind G.valid G.left g.now (state p.old) }
     ensures grew { OnOk result (Grew (state p.old) (state p.new) 8) }
@@ -212,7 +220,7 @@ fn array_elements<G: Grammar>(p: &mut Parser<'_>, g: &G) -> Result<(), NoMemory>
     Ok(())
 }
 
-/// What stands behind an element of an array: a semicolon behind the first one, or a comma. Tells whether there was a
+/// What stands behind an element of an array: a semicolon behind the first one, or a comma. Answers whether there was a
 /// semicolon, or nothing where the array ends.
 fn after_element(
     p: &mut Parser<'_>,

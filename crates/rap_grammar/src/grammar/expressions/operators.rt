@@ -1,7 +1,7 @@
 //! Operators before an operand and between two.
 ghost use Rattle.std.specs.Prelude.{◌≡◌, ◌≢◌, ◌+◌, ◌<◌, ◌≤◌, ◌↔◌, IfOk, OnOk, true, false, [], ◌∷◌};
 ghost use Rattle.rap_base.specs.TokenKind.{EOF, AMP, MUT_KW, CONST_KW, IDENT, AS_KW};
-ghost use Rattle.rap_base.specs.NodeKind.{BIN_EXPR, REF_EXPR, PREFIX_EXPR};
+ghost use Rattle.rap_base.specs.NodeKind.{BIN_EXPR, CAST_EXPR, REF_EXPR, PREFIX_EXPR};
 ghost use Rattle.rap_events.specs.Fit.{is_plain};
 ghost use Rattle.rap_events.specs.Power.{power};
 ghost use Rattle.rap_events.specs.State.{state, next, IsLast, At, but_last, last_children};
@@ -17,6 +17,7 @@ ghost use Rattle.rap_grammar.specs.Script.{something};
 use super::Restrictions;
 use super::ranges::range_expr;
 use crate::grammar::knot::{Grammar, Rule};
+use crate::grammar::types::type_no_bounds;
 use crate::token_kind::T;
 use rap_base::no_memory::NoMemory;
 use rap_base::syntax_kind::SyntaxKind;
@@ -102,7 +103,8 @@ pub(super) fn climb<G: Grammar>(
             return Ok(lhs);
         }
         if op == T![as] {
-            return Ok(lhs);
+            lhs = cast_expr(p, g, lhs)?;
+            continue;
         }
         if op_bp == 2 {
             let (range, has_end) = range_expr(p, g, lhs, r, op)?;
@@ -149,6 +151,25 @@ fn bin_expr<G: Grammar>(
     };
     g.run(p, Rule::Expr { m: None, r, bp })?;
     let cm = m.complete_fit(p, SyntaxKind::BIN_EXPR)?;
+    Ok(cm)
+}
+
+/// A cast, as `as b` after `a`.
+fn cast_expr<G: Grammar>(
+    p: &mut Parser<'_>,
+    g: &G,
+    lhs: CompletedMarker,
+) -> Result<CompletedMarker, NoMemory>
+    requires within { Within G.valid G.left g.now (state p.old) }
+    requires last { IsLast (state p.old) lhs lhs.kind }
+    requires here { At (state p.old) AS_KW }
+    ensures wraps { IfOk result (Wraps CAST_EXPR operand_room (state p.old) (state p.new)) }
+    ensures script { OnOk result (Follows script.cast_expr something (state p.old) (state p.new)) }
+{
+    let m = lhs.precede(p)?;
+    p.bump(T![as])?;
+    type_no_bounds(p, g)?;
+    let cm = m.complete(p, SyntaxKind::CAST_EXPR)?;
     Ok(cm)
 }
 

@@ -12,6 +12,7 @@ ghost use Rattle.rap_grammar.specs.Room.{operand_room, arguments_room};
 ghost use Rattle.rap_grammar.specs.Script.{something};
 
 use super::{expr, is_expr_first};
+use crate::grammar::generic_args::opt_generic_arg_list_expr;
 use crate::grammar::knot::Grammar;
 use crate::grammar::{
     BlockLike, Element, delimited, is_path_name, is_path_name_or_index, name_ref_mod_path,
@@ -147,6 +148,22 @@ fn method_call_expr<G: Grammar>(
     } else {
         p.error("expected method name, field name or number")?;
     }
+    let cm = method_arguments(p, g, m)?;
+    Ok(cm)
+}
+
+/// The arguments of a method behind its name, as `(1)` and `::<T>(1)`.
+fn method_arguments<G: Grammar>(
+    p: &mut Parser<'_>,
+    g: &G,
+    m: Marker,
+) -> Result<CompletedMarker, NoMemory>
+    requires behind { Behind G.valid G.left g.now (state p.old) }
+    requires newest { (state p.old).marker ≡ Some m.pos }
+    ensures closes { IfOk result (Closes METHOD_CALL_EXPR 2 (state p.old) (state p.new)) }
+    ensures script { OnOk result (Follows script.method_arguments something (state p.old) (state p.new)) }
+{
+    opt_generic_arg_list_expr(p, g)?;
     if p.at(T!['(']) {
         arg_list(p, g)?;
     } else {

@@ -1,7 +1,7 @@
 use Rattle.std.proofs.Common.{◌≡◌, ◌≢◌, ◌∷◌, List, ℕ, ◌∙◌, sym, slice_get, Bool, true, false, if◌then◌else◌, is_some, Ok, []}
 use Rattle.std.specs.Str.{chars}
-use Rattle.rap_lexer.specs.Escape.{Character, CharacterTells}
-use Rattle.rap_lexer.specs.Escape.CharacterTells.{empty, bare_return, faulty, more, one}
+use Rattle.rap_lexer.specs.Escape.{Character, CharacterReports}
+use Rattle.rap_lexer.specs.Escape.CharacterReports.{empty, bare_return, faulty, more, one}
 use Rattle.rap_lexer.specs.declared.escape.Mode.{Mode}
 use Rattle.rap_lexer.specs.declared.escape.Fault.TheVariants.{MoreThanOneChar}
 use Rattle.rap_lexer.proofs.escape.character_fault.Goals as goal
@@ -25,7 +25,7 @@ returns-in-Err c =
     rw (body_is d) (faulty _ _ _ (no_return d) c.in-Err.ensures)
 
 -- what follows a character without a fault
-one_or_more : (mode : Mode) (body rest : List ℕ) (value : ℕ) (more_follows : Bool) → ((cs : List ℕ) → body ≢ 13 ∷ cs) → Character mode body (Ok value) rest → more_follows ≡ is_some (slice_get rest 0) → CharacterTells mode body (if more_follows then MoreThanOneChar ∷ [] else [])
+one_or_more : (mode : Mode) (body rest : List ℕ) (value : ℕ) (more_follows : Bool) → ((cs : List ℕ) → body ≢ 13 ∷ cs) → Character mode body (Ok value) rest → more_follows ≡ is_some (slice_get rest 0) → CharacterReports mode body (if more_follows then MoreThanOneChar ∷ [] else [])
 one_or_more mode body [] value b n k e = rw e (one body value n k)
 one_or_more mode body (c ∷ rest) value b n k e = rw e (more body value c rest n k)
 

@@ -1,19 +1,19 @@
 use Rattle.std.proofs.Common.{inl, inr, refl}
-use Rattle.rast_common.proofs.Told.{told, untold}
+use Rattle.rast_common.proofs.Reported.{reported, unreported}
 use Rattle.rast_lex.specs.Words.{cannot_write, fault_line}
 use Rattle.rast_lex.proofs.run.run.Goals as goal
 
-pub returns-in-Err-clause-untold : goal.returns-in-Err-clause-untold
-returns-in-Err-clause-untold g c =
-    untold c.tell.result (fault_line c.in-Err.fault, inl (record { fault = c.in-Err.fault; comes = c.in-Err.ensures.fault; untouched = refl; is = refl }), tt)
+pub returns-in-Err-clause-unreported : goal.returns-in-Err-clause-unreported
+returns-in-Err-clause-unreported g c =
+    unreported c.report.result (fault_line c.in-Err.fault, inl (record { fault = c.in-Err.fault; comes = c.in-Err.ensures.fault; untouched = refl; is = refl }), tt)
 
-pub returns-in_default-clause-told : goal.returns-in_default-clause-told
-returns-in_default-clause-told g c =
-    told c.tell-in_default.result c.tell-in_default.ensures.told (λ a. (cannot_write, inr (record { page = c.in-Ok.page; lists = c.in-Ok.ensures.lists; is = refl }), a))
+pub returns-in_default-clause-reported : goal.returns-in_default-clause-reported
+returns-in_default-clause-reported g c =
+    reported c.report-in_default.result c.report-in_default.ensures.reported (λ a. (cannot_write, inr (record { page = c.in-Ok.page; lists = c.in-Ok.ensures.lists; is = refl }), a))
 
-pub returns-in_default-clause-untold : goal.returns-in_default-clause-untold
-returns-in_default-clause-untold g c =
-    untold c.tell-in_default.result (cannot_write, inr (record { page = c.in-Ok.page; lists = c.in-Ok.ensures.lists; is = refl }), tt)
+pub returns-in_default-clause-unreported : goal.returns-in_default-clause-unreported
+returns-in_default-clause-unreported g c =
+    unreported c.report-in_default.result (cannot_write, inr (record { page = c.in-Ok.page; lists = c.in-Ok.ensures.lists; is = refl }), tt)
 
 pub returns-then-page-clause-shown : goal.returns-then-page-clause-shown
 returns-then-page-clause-shown g c = λ _. (

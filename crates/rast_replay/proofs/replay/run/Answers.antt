@@ -7,7 +7,7 @@ at_fault P (Ok status) two = λ none. absurd (omega (arith, two, none))
 at_fault P (Err e) two = tt
 
 pub returns-in-Err-Text-clause-same : goal.returns-in-Err-Text-clause-same
-returns-in-Err-Text-clause-same g c = at_fault _ c.tell.result c.tell.ensures.status
+returns-in-Err-Text-clause-same g c = at_fault _ c.report.result c.report.ensures.status
 
 pub returns-in-Err-Write-clause-same : goal.returns-in-Err-Write-clause-same
-returns-in-Err-Write-clause-same g c = at_fault _ c.tell-in-Err-Write.result c.tell-in-Err-Write.ensures.status
+returns-in-Err-Write-clause-same g c = at_fault _ c.report-in-Err-Write.result c.report-in-Err-Write.ensures.status

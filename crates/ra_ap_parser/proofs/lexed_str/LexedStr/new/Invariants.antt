@@ -1,15 +1,15 @@
 use Rattle.std.proofs.Common.{List, length, ◌-◌, All}
 use Rattle.rap_base.specs.TokenTests.{IsTokenKind}
-use Rattle.ra_ap_parser.specs.Front.{IsFront}
+use Rattle.ra_ap_parser.specs.Header.{IsHeader}
 use Rattle.ra_ap_parser.specs.LexedStr.{Token}
 use Rattle.ra_ap_parser.proofs.Upto.{Upto}
 use Rattle.ra_ap_parser.proofs.lexed_str.LexedStr.new.Given as goal
 
 abbrev pub invariant-tokens : goal.invariant-tokens
 invariant-tokens l = record {
-  front : List Token;
-  is_front : IsFront l.edition l.text front;
-  upto : Upto l.edition l.text front l.kind.items l.start.items l.error.items l.since_open l.offset;
+  header : List Token;
+  is_header : IsHeader l.edition l.text header;
+  upto : Upto l.edition l.text header l.kind.items l.start.items l.error.items l.since_open l.offset;
   kinds : All IsTokenKind l.kind.items;
 }
 

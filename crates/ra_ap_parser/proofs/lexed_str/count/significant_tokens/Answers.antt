@@ -6,11 +6,11 @@ use Rattle.std.proofs.lemmas.List.Sums.{sum_by-append, sum_by-cons}
 use Rattle.std.proofs.lemmas.Str.{IsCharBoundary-from_rest}
 use Rattle.rap_base.specs.TokenTests.{is_trivia}
 use Rattle.rap_lexer.specs.First.{First}
-use Rattle.ra_ap_parser.specs.Front.{pieces, front_kinds}
+use Rattle.ra_ap_parser.specs.Header.{pieces, header_kinds}
 use Rattle.ra_ap_parser.specs.LexedStr.{Token, IsFirst, cut}
 use Rattle.ra_ap_parser.specs.Trivia.{significant, is_significant}
-use Rattle.ra_ap_parser.proofs.Tells.{some_messages}
-use Rattle.ra_ap_parser.proofs.Upto.{front_begun, more, lexing}
+use Rattle.ra_ap_parser.proofs.Reports.{some_messages}
+use Rattle.ra_ap_parser.proofs.Upto.{header_begun, more, lexing}
 use Rattle.ra_ap_parser.proofs.lexed_str.count.significant_tokens.Goals as goal
 use Rattle.ra_ap_parser.proofs.lexed_str.count.significant_tokens.Goals.{then-not-is_trivia, else-not-is_trivia}
 
@@ -18,11 +18,11 @@ use Rattle.ra_ap_parser.proofs.lexed_str.count.significant_tokens.Goals.{then-no
 abbrev counted : List ℕ → ℕ
 counted kinds = count_by (λ kind. not (is_trivia kind)) kinds
 
-counted-front : (shebang frontmatter : Option ℕ) → counted (front_kinds shebang frontmatter) ≡ length (front_kinds shebang frontmatter)
-counted-front None None = refl
-counted-front (Some a) None = refl
-counted-front None (Some b) = refl
-counted-front (Some a) (Some b) = refl
+counted-header : (shebang frontmatter : Option ℕ) → counted (header_kinds shebang frontmatter) ≡ length (header_kinds shebang frontmatter)
+counted-header None None = refl
+counted-header (Some a) None = refl
+counted-header None (Some b) = refl
+counted-header (Some a) (Some b) = refl
 
 counted-push : (kinds : List ℕ) (kind : ℕ) → counted (kinds ++ kind ∷ []) ≡ counted kinds + cond {A = ℕ} (not (is_trivia kind)) 1 0
 counted-push kinds kind =
@@ -37,16 +37,16 @@ significant-cut text (k ∷ kinds) starts =
 
 pub tokens-init : goal.tokens-init
 tokens-init c =
-    let f = c.find_front-front.result in
+    let f = c.find_header-header.result in
     record {
-      front = pieces c.args.text.now f.shebang f.frontmatter;
-      kinds = front_kinds f.shebang f.frontmatter;
+      header = pieces c.args.text.now f.shebang f.frontmatter;
+      kinds = header_kinds f.shebang f.frontmatter;
       starts = 0 ∷ (option_to_list f.shebang ++ option_to_list f.frontmatter);
       errors = [];
       since = 5;
-      is_front = c.find_front-front.ensures.front;
-      upto = front_begun c.args.edition c.args.text.now f.shebang f.frontmatter _ _ _ _ c.utf8.text c.find_front-front.ensures.ends refl refl refl c.end-offset.ensures;
-      counted = c.count-count.ensures ∙ sym (counted-front f.shebang f.frontmatter);
+      is_header = c.find_header-header.ensures.header;
+      upto = header_begun c.args.edition c.args.text.now f.shebang f.frontmatter _ _ _ _ c.utf8.text c.find_header-header.ensures.ends refl refl refl c.end-offset.ensures;
+      counted = c.count-count.ensures ∙ sym (counted-header f.shebang f.frontmatter);
     }
 
 pub tokens-preserved : goal.tokens-preserved
@@ -59,16 +59,16 @@ tokens-preserved c =
     let i = c.tokens.invariant in
     let first : First c.args.edition (chars (drop offset text)) token (chars (drop (offset + n) text)) = subst (λ (l : List ℕ). First c.args.edition (chars (drop offset text)) token (chars l)) (drop-drop n offset text) (rw e at c.first_token-token.ensures.token) in
     let border : IsCharBoundary (drop offset text) n = subst (λ (l : List ℕ). IsCharBoundary l n) e c.first_token-token.ensures.border in
-    let told = some_messages (nat_lt i.since 5) (slice_range text offset (offset + n)) token.remark in
-    let is_first : IsFirst c.args.edition (nat_lt i.since 5) (drop offset text) (record { kind = token.kind; text = slice_range text offset (offset + n) }) (drop (offset + n) text) told.0 = (token.remark, first, told.1) in
+    let reported = some_messages (nat_lt i.since 5) (slice_range text offset (offset + n)) token.remark in
+    let is_first : IsFirst c.args.edition (nat_lt i.since 5) (drop offset text) (record { kind = token.kind; text = slice_range text offset (offset + n) }) (drop (offset + n) text) reported.0 = (token.remark, first, reported.1) in
     record {
-      front = i.front;
+      header = i.header;
       kinds = _;
       starts = _;
       errors = _;
       since = _;
-      is_front = i.is_front;
-      upto = more c.args.edition text _ _ _ i.errors i.since offset token.kind (offset + n) i.upto (omega (arith, c.first_token-token.ensures.positive)) (IsCharBoundary-from_rest text offset n i.upto.within border) told.0 is_first;
+      is_header = i.is_header;
+      upto = more c.args.edition text _ _ _ i.errors i.since offset token.kind (offset + n) i.upto (omega (arith, c.first_token-token.ensures.positive)) (IsCharBoundary-from_rest text offset n i.upto.within border) reported.0 is_first;
       counted = elim c.if-not-is_trivia.branch [
         | then-not-is_trivia w ↦ omega (arith, w.count-is, i.counted, counted-push i.kinds token.kind, cond-true {A = ℕ} (not (is_trivia token.kind)) 1 0 cc)
         | else-not-is_trivia w ↦ omega (arith, w.count-is, i.counted, counted-push i.kinds token.kind, cond-false {A = ℕ} (not (is_trivia token.kind)) 1 0 cc)
@@ -78,4 +78,4 @@ tokens-preserved c =
 pub returns : goal.returns
 returns c =
     let i = c.tokens.invariant in
-    (_, lexing c.args.edition _ _ _ _ _ i.since c.tokens.offset i.upto (omega arith) c.utf8.text c.tokens-test.false i.is_front, i.counted ∙ sym (significant-cut c.args.text.now i.kinds i.starts))
+    (_, lexing c.args.edition _ _ _ _ _ i.since c.tokens.offset i.upto (omega arith) c.utf8.text c.tokens-test.false i.is_header, i.counted ∙ sym (significant-cut c.args.text.now i.kinds i.starts))

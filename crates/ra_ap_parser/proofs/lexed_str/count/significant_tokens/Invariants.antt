@@ -1,20 +1,20 @@
 use Rattle.std.proofs.Common.{◌≡◌, ℕ, ◌-◌, List, length, not}
 use Rattle.std.specs.List.{count_by}
 use Rattle.rap_base.specs.TokenTests.{is_trivia}
-use Rattle.ra_ap_parser.specs.Front.{IsFront}
+use Rattle.ra_ap_parser.specs.Header.{IsHeader}
 use Rattle.ra_ap_parser.specs.LexedStr.{Token, Message}
 use Rattle.ra_ap_parser.proofs.Upto.{Upto}
 use Rattle.ra_ap_parser.proofs.lexed_str.count.significant_tokens.Given as goal
 
 abbrev pub invariant-tokens : goal.invariant-tokens
 invariant-tokens l = record {
-  front : List Token;
+  header : List Token;
   kinds : List ℕ;
   starts : List ℕ;
   errors : List Message;
   since : ℕ;
-  is_front : IsFront l.edition l.text front;
-  upto : Upto l.edition l.text front kinds starts errors since l.offset;
+  is_header : IsHeader l.edition l.text header;
+  upto : Upto l.edition l.text header kinds starts errors since l.offset;
   counted : l.count ≡ count_by (λ kind. not (is_trivia kind)) kinds;
 }
 

@@ -23,8 +23,8 @@ loop-i-init c =
       so_far = rw (all, c.in_ok-walk.ensures.messages, c.in_ok-walk.ensures.walk) refl;
     }
 
-pub back-requires-clause-told : goal.back-requires-clause-told
-back-requires-clause-told c =
+pub back-requires-clause-reported : goal.back-requires-clause-reported
+back-requires-clause-reported c =
     let es = c.args.events.now in
     let i = c.loop-i.i - 1 in
     let next : i + 1 ≡ c.loop-i.i = omega arith in

@@ -16,11 +16,11 @@ invariant_of-p c =
     let ms : List (List ℕ) = map string_bytes s.messages.items in
     let xs : List Call = history s.events.items ms in
     let before : Held s.events.items ms (length s.messages.items) s.input.now s.pos =
-    record { told = s.told; kept = record { sound = s.sound; covers = s.covers; place = s.place; splits = s.splits; fit = s.fit } } in
+    record { reported = s.reported; kept = record { sound = s.sound; covers = s.covers; place = s.place; splits = s.splits; fit = s.fit } } in
     let after : Held (s.events.items ++ event.Extend ∷ []) ms (length s.messages.items) s.input.now s.pos =
     held-push s.events.items ms _ s.input.now s.pos s.pos event.Extend call.extend shows.extend before (kept-extend xs s.input.now _ s.pos c.args.self c.args.self.kind c.args.m.pos c.requires.last c.requires.newest c.requires.plain before.kept) in
     let h = held_either _ s.events.items (s.events.items ++ event.Extend ∷ []) _ ms _ s.input.now s.pos c.push.ensures.items before after in
-    record { tokens = s.tokens; ends = s.ends; in_input = s.in_input; told = h.told; sound = h.kept.sound; covers = h.kept.covers; place = h.kept.place; splits = h.kept.splits; fit = h.kept.fit }
+    record { tokens = s.tokens; ends = s.ends; in_input = s.in_input; reported = h.reported; sound = h.kept.sound; covers = h.kept.covers; place = h.kept.place; splits = h.kept.splits; fit = h.kept.fit }
 
 pub returns-clause-state : goal.returns-clause-state
 unfolding state calls

@@ -13,7 +13,7 @@ pub invariant_of-self : goal.invariant_of-self
 invariant_of-self c =
     let s = c.args.self.now in
     let e : c.push.new.self.items ≡ s.events.items = rw c.in_err-push.was at c.push.ensures.items in
-    record { tokens = s.tokens; ends = s.ends; in_input = s.in_input; told = rw e s.told; sound = rw e s.sound; covers = rw e s.covers; place = rw e s.place; splits = rw e s.splits; fit = rw e s.fit }
+    record { tokens = s.tokens; ends = s.ends; in_input = s.in_input; reported = rw e s.reported; sound = rw e s.sound; covers = rw e s.covers; place = rw e s.place; splits = rw e s.splits; fit = rw e s.fit }
 
 pub overflow_add-self : goal.overflow_add-self
 unfolding state
@@ -29,13 +29,13 @@ invariant_of-self-2 c =
     let w = c.args.n_input_tokens in
     let ms : List (List ℕ) = map string_bytes s.messages.items in
     let before : Held s.events.items (map string_bytes s.messages.items) (length s.messages.items) s.input.now s.pos =
-    record { told = s.told; kept = record { sound = s.sound; covers = s.covers; place = s.place; splits = s.splits; fit = s.fit } } in
+    record { reported = s.reported; kept = record { sound = s.sound; covers = s.covers; place = s.place; splits = s.splits; fit = s.fit } } in
     let kept = kept-token (history s.events.items ms) s.input.now s.pos k w c.requires.stands before.kept in
     let h = held-push s.events.items ms _ s.input.now s.pos (s.pos + w) (event.Token w k) (call.token k w) (shows.token k w) before kept in
     let place : s.pos + c.from.result ≡ s.pos + w = ap (λ (n : ℕ). s.pos + n) c.from.ensures in
     let within : s.pos + w ≤ s.len = omega (arith, s.ends, s.in_input, c.requires.within, length-drop s.pos s.input.now) in
     let e = c.in_ok-push.ensures.items in
-    record { tokens = s.tokens; ends = s.ends; in_input = rw place within; told = rw e h.told; sound = rw e h.kept.sound; covers = rw e h.kept.covers; place = rw (e, place) h.kept.place; splits = rw e h.kept.splits; fit = rw e h.kept.fit }
+    record { tokens = s.tokens; ends = s.ends; in_input = rw place within; reported = rw e h.reported; sound = rw e h.kept.sound; covers = rw e h.kept.covers; place = rw (e, place) h.kept.place; splits = rw e h.kept.splits; fit = rw e h.kept.fit }
 
 pub returns-clause-state : goal.returns-clause-state
 unfolding state calls

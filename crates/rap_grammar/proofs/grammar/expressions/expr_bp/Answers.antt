@@ -1,5 +1,5 @@
 use Rattle.rap_grammar.specs.Expressions.{expr_bp}
-use Rattle.rap_grammar.proofs.Steps.{by_start, to_end}
+use Rattle.rap_grammar.proofs.Steps.{by_start, by_rule, to_end}
 use Rattle.rap_grammar.proofs.grammar.expressions.expr_bp.Goals as goal
 
 pub returns-in_ok-expr-in-Some-clause-script : goal.returns-in_ok-expr-in-Some-clause-script
@@ -8,4 +8,8 @@ returns-in_ok-expr-in-Some-clause-script g c = rw c.in-Some.is (record { run = t
 
 pub returns-in_ok-expr-in-None-clause-script : goal.returns-in_ok-expr-in-None-clause-script
 unfolding expr_bp
-returns-in_ok-expr-in-None-clause-script g c = rw c.in-None.is (record { run = by_start c.in_ok-m-in-None.ensures.state (to_end c.in_ok-expr-in-None.ensures.script) })
+returns-in_ok-expr-in-None-clause-script g c = rw c.in-None.is (record {
+  run = by_start c.in_ok-m-in-None.ensures.state
+      (by_rule c.in_ok-outer_attrs-in-None.ensures.script
+      (to_end c.in_ok-expr-in-None.ensures.script));
+})

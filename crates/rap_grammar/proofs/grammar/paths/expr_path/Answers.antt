@@ -5,4 +5,4 @@ use Rattle.rap_grammar.proofs.grammar.paths.expr_path.Goals as goal
 
 pub returns-clause-script : goal.returns-clause-script
 unfolding expr_path
-returns-clause-script c = record { run = by_rule c.in_ok-path.ensures.script gives }
+returns-clause-script g c = record { run = by_rule c.in_ok-path.ensures.script gives }

@@ -7,12 +7,12 @@ use Rattle.rap_grammar.proofs.Steps.{Turns}
 use Rattle.rap_grammar.proofs.grammar.paths.path_for_qualifier.Given as goal
 
 abbrev pub invariant-segments : goal.invariant-segments
-invariant-segments l = record {
-  grew : Grew (state l.fn.p) (state l.p) 0;
+invariant-segments g l = record {
+  grew : Grew (state l.initial.p) (state l.p) 0;
   last : IsLast (state l.p) l.qual PATH;
-  one : but_last (state l.p).forest ≡ but_last (state l.fn.p).forest;
-  script : Turns segment_turn false false false false (state l.fn.p) (state l.p);
+  one : but_last (state l.p).forest ≡ but_last (state l.initial.p).forest;
+  script : Turns (segment_turn l.mode) false false false false (state l.initial.p) (state l.p);
 }
 
 abbrev pub decreases-segments : goal.decreases-segments
-decreases-segments l = (state l.p).left
+decreases-segments g l = (state l.p).left

@@ -5,10 +5,10 @@ use Rattle.rap_script.proofs.ScriptLines.{all_blank, has_word}
 use Rattle.rap_script.proofs.frontmatter.line.find_word.Goals as goal
 
 pub returns-then-start-line : goal.returns-then-start-line
-returns-then-start-line c = all_blank _ (sym c.count_blank_front-start.ensures ∙ c.if-start-line.true)
+returns-then-start-line c = all_blank _ (sym c.count_blank_prefix-start.ensures ∙ c.if-start-line.true)
 
 pub overflow_sub-result : goal.overflow_sub-result
 overflow_sub-result c = omega (arith, suffix_len-le-length is_horizontal c.args.line.now)
 
 pub returns : goal.returns
-returns c = has_word _ _ _ c.count_blank_front-start.ensures (omega (arith, prefix_len-le-length is_horizontal c.args.line.now)) (ap (λ n. length c.args.line.now - n) c.count_blank_end.ensures)
+returns c = has_word _ _ _ c.count_blank_prefix-start.ensures (omega (arith, prefix_len-le-length is_horizontal c.args.line.now)) (ap (λ n. length c.args.line.now - n) c.count_blank_end.ensures)

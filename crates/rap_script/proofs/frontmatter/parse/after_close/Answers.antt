@@ -7,7 +7,7 @@ use Rattle.rap_script.proofs.ScriptFences.{tail_cut}
 use Rattle.std.proofs.lemmas.List.{length-drop}
 use Rattle.rap_script.proofs.ScriptParts.{blank_ending}
 use Rattle.rap_script.proofs.ScriptAccepted.{rest_border}
-use Rattle.rap_script.proofs.ScriptRefused.{no_memory, told_same, refused_more, refused_word}
+use Rattle.rap_script.proofs.ScriptRefused.{no_memory, reported_same, refused_more, refused_word}
 use Rattle.rap_script.proofs.frontmatter.parse.after_close.Goals as goal
 
 pub overflow_add-end : goal.overflow_add-end
@@ -67,7 +67,7 @@ returns-then-extra-gt0-clause-refused c =
     let d = starts_with_dashes (drop rest raw) extra (c.count_dashes-extra.ensures ∙ ap (λ l. prefix_len (λ (b : ℕ). eqb b 45) l) cut) in
     let refused = refused_more raw _ _ _ q.opens _ _ _ q.enough q.closes extra c.if-extra-gt0.true d in
     let primary = span_from_ends _ _ rest extra (omega (arith, c.end.ensures)) (omega (arith, c.end.ensures)) in
-    let same = c.in_ok-error.ensures ∙ told_same _ _ _ _ _ _ refl primary c.span.ensures in
+    let same = c.in_ok-error.ensures ∙ reported_same _ _ _ _ _ _ refl primary c.span.ensures in
     subst (λ (e : Refusal). IsRefused raw e) (sym same) refused
 
 pub returns-in_err-error-2-clause-refused : goal.returns-in_err-error-2-clause-refused
@@ -105,7 +105,7 @@ returns-in-Some-clause-refused c =
     let no_dash = subst (λ (m : ℕ). NoDash (drop m (drop rest raw))) none d.no_more in
     let refused = refused_word raw _ _ _ q.opens _ _ _ q.enough q.closes _ _ c.in-Some.word no_dash line word in
     let primary = ap (λ j. moved (j + k.close + o.len) c.in-Some.word) c.end.ensures in
-    let same = c.in_ok-error-2.ensures ∙ told_same _ _ _ _ _ _ refl primary c.span-in-Some.ensures in
+    let same = c.in_ok-error-2.ensures ∙ reported_same _ _ _ _ _ _ refl primary c.span-in-Some.ensures in
     subst (λ (e : Refusal). IsRefused raw e) (sym same) refused
 
 pub before_content-requires-clause-ends : goal.before_content-requires-clause-ends

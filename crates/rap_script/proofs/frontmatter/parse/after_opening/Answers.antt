@@ -4,7 +4,7 @@ use Rattle.rap_script.specs.ScriptPlaces.{HasClosing}
 use Rattle.rap_script.specs.Refusal.{Refusal, IsRefused}
 use Rattle.rap_script.proofs.ScriptLines.{span_from_ends}
 use Rattle.rap_script.proofs.ScriptFences.{tail_cut}
-use Rattle.rap_script.proofs.ScriptRefused.{no_memory, told_same, refused_fewer, refused_close, refused_line}
+use Rattle.rap_script.proofs.ScriptRefused.{no_memory, reported_same, refused_fewer, refused_close, refused_line}
 use Rattle.rap_script.proofs.frontmatter.parse.after_opening.Goals as goal
 
 pub after_close-requires-clause-closes : goal.after_close-requires-clause-closes
@@ -34,7 +34,7 @@ returns-in_ok-error-in-TooShort-clause-refused c =
     let longest = subst (λ (l : List ℕ). IsLongestFence c.in-TooShort.len l c.in-TooShort.place) cut found.2 in
     let refused = refused_fewer raw _ _ _ c.requires.opens c.in-TooShort.place c.in-TooShort.len c.requires.enough found.0 found.1 longest in
     let primary = span_from_ends _ _ (o.start + o.len + c.in-TooShort.place) c.in-TooShort.len (omega (arith, c.end-end.ensures)) (omega (arith, c.end-end.ensures)) in
-    let same = c.in_ok-error-in-TooShort.ensures ∙ told_same _ _ _ _ _ _ refl primary c.span.ensures in
+    let same = c.in_ok-error-in-TooShort.ensures ∙ reported_same _ _ _ _ _ _ refl primary c.span.ensures in
     subst (λ (e : Refusal). IsRefused raw e) (sym same) refused
 
 pub returns-in_err-unclosed-in-NoFence-clause-refused : goal.returns-in_err-unclosed-in-NoFence-clause-refused

@@ -21,7 +21,7 @@ invariant_of-result c =
     let text = c.args.raw.now in
     let cut = line_cut text c.as_bytes.result.now c.end-end.result c.args.closing.line _ c.as_bytes.ensures.value c.end-end.ensures in
     let finds = subst (λ (l : List ℕ). FindsWord l c.find_word-info.result) cut c.find_word-info.ensures in
-    let same = fenced_same text _ _ _ _ _ _ _ c.find_word-info.result _ _ _ c.front.ensures c.span.ensures c.moved.ensures c.end-end.ensures in
+    let same = fenced_same text _ _ _ _ _ _ _ c.find_word-info.result _ _ _ c.span_to.ensures c.span.ensures c.moved.ensures c.end-end.ensures in
     subst (λ (s : Script). AtBorders s) (sym same) (fenced_borders text _ _ _ q.opens _ _ _ q.enough q.closes _ q.ends _ finds c.utf8.raw)
 
 pub returns-clause-accepted : goal.returns-clause-accepted
@@ -30,7 +30,7 @@ returns-clause-accepted c =
     let text = c.args.raw.now in
     let cut = line_cut text c.as_bytes.result.now c.end-end.result c.args.closing.line _ c.as_bytes.ensures.value c.end-end.ensures in
     let finds = subst (λ (l : List ℕ). FindsWord l c.find_word-info.result) cut c.find_word-info.ensures in
-    let same = fenced_same text _ _ _ _ _ _ _ c.find_word-info.result _ _ _ c.front.ensures c.span.ensures c.moved.ensures c.end-end.ensures in
+    let same = fenced_same text _ _ _ _ _ _ _ c.find_word-info.result _ _ _ c.span_to.ensures c.span.ensures c.moved.ensures c.end-end.ensures in
     subst (λ (s : Script). IsScript text s) (sym same) (accepts_fenced text _ _ _ q.opens _ _ _ q.enough q.closes _ q.ends _ finds q.no_second)
 
 pub returns-clause-borders : goal.returns-clause-borders
@@ -39,5 +39,5 @@ returns-clause-borders c =
     let text = c.args.raw.now in
     let cut = line_cut text c.as_bytes.result.now c.end-end.result c.args.closing.line _ c.as_bytes.ensures.value c.end-end.ensures in
     let finds = subst (λ (l : List ℕ). FindsWord l c.find_word-info.result) cut c.find_word-info.ensures in
-    let same = fenced_same text _ _ _ _ _ _ _ c.find_word-info.result _ _ _ c.front.ensures c.span.ensures c.moved.ensures c.end-end.ensures in
+    let same = fenced_same text _ _ _ _ _ _ _ c.find_word-info.result _ _ _ c.span_to.ensures c.span.ensures c.moved.ensures c.end-end.ensures in
     subst (λ (s : Script). AtBorders s) (sym same) (fenced_borders text _ _ _ q.opens _ _ _ q.enough q.closes _ q.ends _ finds c.utf8.raw)

@@ -2,7 +2,7 @@ use Rattle.std.proofs.Common.{◌+◌, length, chars, refl, sym, ◌∙◌, arit
 use Rattle.std.proofs.lemmas.Iterator.{YieldsList-from_chars}
 use Rattle.std.proofs.lemmas.Iterator.Consumers.{YieldsList-turn, YieldsList-end}
 use Rattle.std.proofs.lemmas.List.{at_drop_all, length_push}
-use Rattle.rap_script.proofs.ScriptBlank.{blank_from, ends_blank_lines, step_place, step_feed, step_plain, step_other, front_fits}
+use Rattle.rap_script.proofs.ScriptBlank.{blank_from, ends_blank_lines, step_place, step_feed, step_plain, step_other, prefix_fits}
 use Rattle.rap_script.proofs.frontmatter.strip.strip_ws_lines.Goals as goal
 
 pub returns-then-not-is_rust_whitespace : goal.returns-then-not-is_rust_whitespace
@@ -14,7 +14,7 @@ pub overflow_add-at : goal.overflow_add-at
 overflow_add-at c =
     let t = YieldsList-turn (YieldsList-from_chars c.args.input.now c.utf8.input cc) c.loop-c.yielded _ c.loop-c.yielded_by _ _ c.in-Some.c c.in-Some.is c.next.ensures.steps in
     let p = step_place _ _ _ _ _ t.0 t.1 c.loop-c.invariant.place c.len_utf8-at.ensures.value (length c.loop-c.yielded + 1) refl in
-    omega (arith, p, front_fits c.args.input.now (length c.loop-c.yielded + 1) c.utf8.input)
+    omega (arith, p, prefix_fits c.args.input.now (length c.loop-c.yielded + 1) c.utf8.input)
 
 pub loop-c-preserved-then-c-eq10 : goal.loop-c-preserved-then-c-eq10
 loop-c-preserved-then-c-eq10 c =

@@ -16,5 +16,5 @@ returns-then-skips-eq0 c =
     let capped : c.min-self.result ≡ min top.first (length w.kinds.items) = c.min-self.ensures ∙ ap (min top.first) (c.len.ensures ∙ w.kinds.ok.0) in
     record {
       messages = c.let_go.ensures.messages;
-      walk = preceded_back (walk_of c.args.self.now) w.kinds.items w.held top.first c.min-self.result w.skips top.skips below (reverse w.openings.items) (values (reverse w.steps.items) (reverse w.told.items)) popped c.if-skips-eq0.true freed capped;
+      walk = preceded_back (walk_of c.args.self.now) w.kinds.items w.held top.first c.min-self.result w.skips top.skips below (reverse w.openings.items) (values (reverse w.steps.items) (reverse w.reported.items)) popped c.if-skips-eq0.true freed capped;
     }

@@ -1,7 +1,7 @@
 use Rattle.std.proofs.Common.{rules, refl}
 use Rattle.rap_grammar.specs.Atom.{array_elements}
 use Rattle.rap_grammar.specs.Script.{gives}
-use Rattle.rap_grammar.proofs.Steps.{then_by, else_by, by_rule, to_end, turn, last_turn, nothing_told, something_told}
+use Rattle.rap_grammar.proofs.Steps.{then_by, else_by, by_rule, to_end, turn, last_turn, answers_nothing, answers_something}
 use Rattle.rap_grammar.proofs.grammar.expressions.atom.array_elements.Goals as goal
 
 pub elements-preserved : goal.elements-preserved
@@ -10,7 +10,7 @@ elements-preserved g c = record {
   script = turn c.elements.invariant.script
       (else_by c.at.ensures c.elements-test.true
       (else_by c.at-in-elements.ensures c.if-not-at.true
-      (by_rule (something_told (search rules) c.in_ok-expr.ensures.script)
+      (by_rule (answers_something (search rules) c.in_ok-expr.ensures.script)
       (to_end (rw c.in-Some.is at c.in_ok-semi.ensures.script)))));
 }
 
@@ -20,7 +20,7 @@ returns-then-is_none-clause-script g c = record {
   run = last_turn c.elements.invariant.script
       (else_by c.at.ensures c.elements-test.true
       (else_by c.at-in-elements.ensures c.if-not-at.true
-      (by_rule (nothing_told (search rules) c.in_ok-expr.ensures.script) gives))) refl;
+      (by_rule (answers_nothing (search rules) c.in_ok-expr.ensures.script) gives))) refl;
 }
 
 pub returns-in-None-clause-script : goal.returns-in-None-clause-script
@@ -29,7 +29,7 @@ returns-in-None-clause-script g c = record {
   run = last_turn c.elements.invariant.script
       (else_by c.at.ensures c.elements-test.true
       (else_by c.at-in-elements.ensures c.if-not-at.true
-      (by_rule (something_told (search rules) c.in_ok-expr.ensures.script)
+      (by_rule (answers_something (search rules) c.in_ok-expr.ensures.script)
       (to_end (rw c.in-None.is at c.in_ok-semi.ensures.script))))) refl;
 }
 

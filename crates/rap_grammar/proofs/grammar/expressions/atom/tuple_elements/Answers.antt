@@ -1,7 +1,7 @@
 use Rattle.std.proofs.Common.{rules}
 use Rattle.rap_grammar.specs.Atom.{tuple_elements}
 use Rattle.rap_grammar.specs.Script.{gives}
-use Rattle.rap_grammar.proofs.Steps.{then_by, else_by, by_rule, by_report, by_bump, by_expect, turn, last_turn, nothing_told, something_told, not_on}
+use Rattle.rap_grammar.proofs.Steps.{then_by, else_by, by_rule, by_report, by_bump, by_expect, turn, last_turn, answers_nothing, answers_something, not_on}
 use Rattle.rap_grammar.proofs.grammar.expressions.atom.tuple_elements.Goals.{then-elements-test+else-not-at, else-elements-test}
 use Rattle.rap_grammar.proofs.grammar.expressions.atom.tuple_elements.Goals as goal
 
@@ -23,7 +23,7 @@ elements-preserved-in_ok-expect g c = record {
       (else_by c.at.ensures c.elements-test.true
       (else_by c.at-in-elements.ensures c.if-not-at.true
       (else_by c.at-in-elements-2.ensures c.if-at.false
-      (by_rule (something_told (search rules) c.in_ok-expr.ensures.script)
+      (by_rule (answers_something (search rules) c.in_ok-expr.ensures.script)
       (else_by c.at-in-elements-3.ensures c.if-not-at-2.true
       (by_expect c.in_ok-expect.ensures.state gives))))));
 }
@@ -35,7 +35,7 @@ elements-preserved g c = record {
       (else_by c.at.ensures c.elements-test.true
       (else_by c.at-in-elements.ensures c.if-not-at.true
       (else_by c.at-in-elements-2.ensures c.if-at.false
-      (by_rule (something_told (search rules) c.in_ok-expr.ensures.script)
+      (by_rule (answers_something (search rules) c.in_ok-expr.ensures.script)
       (then_by c.at-in-elements-3.ensures c.if-not-at-2.false gives)))));
 }
 
@@ -46,7 +46,7 @@ returns-then-is_none-clause-script g c = record {
       (else_by c.at.ensures c.elements-test.true
       (else_by c.at-in-elements.ensures c.if-not-at.true
       (else_by c.at-in-elements-2.ensures c.if-at.false
-      (by_rule (nothing_told (search rules) c.in_ok-expr.ensures.script) gives)))) (not_on _);
+      (by_rule (answers_nothing (search rules) c.in_ok-expr.ensures.script) gives)))) (not_on _);
 }
 
 pub returns-then-saw_expr-clause-script : goal.returns-then-saw_expr-clause-script

@@ -4,7 +4,7 @@ use Rattle.rap_events.specs.State.{state}
 use Rattle.rap_grammar.specs.Expressions.{climb}
 use Rattle.rap_grammar.specs.Operator.{operator_at}
 use Rattle.rap_grammar.specs.Script.{looks}
-use Rattle.rap_grammar.proofs.Operating.{stops_low, stops_as, stops_range, goes_range, goes_binary}
+use Rattle.rap_grammar.proofs.Operating.{stops_low, goes_as, stops_range, goes_range, goes_binary}
 use Rattle.rap_grammar.proofs.Steps.{turn, last_turn}
 use Rattle.rap_grammar.proofs.grammar.expressions.operators.climb.Goals as goal
 
@@ -12,13 +12,19 @@ pub returns-then-op_bp-bp-clause-script : goal.returns-then-op_bp-bp-clause-scri
 unfolding climb
 returns-then-op_bp-bp-clause-script g c = record { run = last_turn c.operators.invariant.script (looks (stops_low c.args.r c.args.bp (operator_at (state c.operators.p).rest) c.current_op-op_bp.ensures.power c.if-op_bp-bp.true)) refl }
 
-pub returns-then-eq-clause-script : goal.returns-then-eq-clause-script
-unfolding climb
-returns-then-eq-clause-script g c =
+pub operators-preserved-then-eq : goal.operators-preserved-then-eq
+operators-preserved-then-eq g c =
     let e = c.current_op-op_bp.ensures in
     let some : 0 < c.current_op-op_bp.result.0 = omega (arith, c.if-op_bp-bp.false, c.requires.power) in
     let cast : operator_at (state c.operators.p).rest ≡ AS_KW = search rules in
-    record { run = last_turn c.operators.invariant.script (looks (stops_as c.args.r c.args.bp (operator_at (state c.operators.p).rest) e.power c.if-op_bp-bp.false cast)) refl }
+    record {
+      grew = search rules;
+      last = search rules;
+      one = search rules;
+      least = search rules;
+      bound = search rules;
+      script = turn c.operators.invariant.script (looks (goes_as c.args.r c.args.bp (operator_at (state c.operators.p).rest) e.power c.if-op_bp-bp.false cast c.in_ok-lhs.ensures.script));
+    }
 
 pub returns-then-not-has_end-clause-script : goal.returns-then-not-has_end-clause-script
 unfolding climb
@@ -48,7 +54,7 @@ bin_expr-requires-clause-left_side g c = λ m k o.
     let some : 0 < c.current_op-op_bp.result.0 = omega (arith, c.if-op_bp-bp.false, c.requires.power) in
     let no_cast : operator_at (state c.operators.p).rest ≢ AS_KW = search rules in
     let b = c.operators.invariant.bound m k in
-    (omega (arith, e.power, b.follows o no_cast), λ i. let z = b.not_twice o no_cast i in absurd (omega (arith, e.power)))
+    (omega (arith, e.power, b.follows o), λ i. let z = b.not_twice o i in absurd (omega (arith, e.power)))
 
 pub operators-preserved : goal.operators-preserved
 operators-preserved g c =
@@ -61,5 +67,5 @@ operators-preserved g c =
       one = search rules;
       least = search rules;
       bound = search rules;
-      script = turn c.operators.invariant.script (looks (goes_binary c.args.r c.args.bp (operator_at (state c.operators.p).rest) e.power c.if-op_bp-bp.false no_cast c.if-op_bp-eq2.false (rw (e.op some) at c.in_ok-lhs.ensures.script)));
+      script = turn c.operators.invariant.script (looks (goes_binary c.args.r c.args.bp (operator_at (state c.operators.p).rest) e.power c.if-op_bp-bp.false no_cast c.if-op_bp-eq2.false (rw (e.op some) at c.in_ok-lhs-2.ensures.script)));
     }

@@ -1,0 +1,17 @@
+use Rattle.std.proofs.Common.{◌≡◌, false}
+use Rattle.rap_events.specs.State.{state, next}
+use Rattle.rap_grammar.specs.Attributes.{outer_turn}
+use Rattle.rap_grammar.specs.First.{is_outer_attr_first}
+use Rattle.rap_grammar.specs.Grew.{Grew}
+use Rattle.rap_grammar.proofs.Steps.{Turns}
+use Rattle.rap_grammar.proofs.grammar.attributes.outer_attrs.Given as goal
+
+abbrev pub invariant-attrs : goal.invariant-attrs
+invariant-attrs g l = record {
+  grew : Grew (state l.initial.p) (state l.p) 0;
+  stays : is_outer_attr_first (next (state l.initial.p)) ≡ false → state l.p ≡ state l.initial.p;
+  script : Turns outer_turn false false false false (state l.initial.p) (state l.p);
+}
+
+abbrev pub decreases-attrs : goal.decreases-attrs
+decreases-attrs g l = (state l.p).left

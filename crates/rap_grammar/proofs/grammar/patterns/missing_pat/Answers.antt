@@ -1,0 +1,16 @@
+use Rattle.std.proofs.Common.{rules}
+use Rattle.rap_grammar.specs.Patterns.{missing_pat}
+use Rattle.rap_grammar.specs.Recovery.{is_pattern_recovery}
+use Rattle.rap_grammar.specs.Script.{gives}
+use Rattle.rap_grammar.proofs.Patterning.{missing}
+use Rattle.rap_grammar.proofs.Steps.{by_recover}
+use Rattle.rap_grammar.proofs.grammar.patterns.missing_pat.Goals as goal
+
+pub returns-clause-reads : goal.returns-clause-reads
+returns-clause-reads c = missing c.pat_recovery_set.ensures c.requires.end c.requires.no_reference c.in_ok-err_recover.ensures.state
+
+pub returns-clause-script : goal.returns-clause-script
+unfolding missing_pat
+returns-clause-script c = record {
+  run = by_recover is_pattern_recovery (search rules) c.in_ok-err_recover.ensures.state (λ k. gives) (λ k. gives);
+}
