@@ -4,7 +4,7 @@ use Rattle.std.proofs.lemmas.Bool.{eqb-true, ne_eqb}
 use Rattle.std.proofs.lemmas.Bool.Decides.{nat_tests}
 use Rattle.rap_base.specs.TokenKind.{LIFETIME_IDENT, EOF, SEMICOLON, IDENT, AMP, STAR, BANG, MINUS, DOT, COLON, COLON2, COMMA, QUESTION, L_PAREN, R_PAREN, L_BRACK, R_BRACK, L_CURLY, R_CURLY, PIPE, R_ANGLE, EQ, L_ANGLE, PLUS, CARET, PERCENT, SLASH, MUT_KW, RAW_KW, AS_KW}
 use Rattle.rap_base.specs.NodeKind.{BIN_EXPR, NAME_REF}
-use Rattle.rap_events.specs.Record.{Record, next_kind}
+use Rattle.rap_events.specs.Record.{Record, next_kind, kind_at}
 use Rattle.rap_events.specs.Composite.{width, is_at}
 use Rattle.rap_events.specs.Forest.{Forest, none, node, leaf, message, split, ◌⧺◌}
 use Rattle.rap_events.specs.Power.{power, power_in, powers}
