@@ -12,4 +12,7 @@ returns-in_ok-complete-clause-script c = record {
 
 pub returns-in_ok-err_and_bump-clause-script : goal.returns-in_ok-err_and_bump-clause-script
 unfolding name_ref_or_upper_self
-returns-in_ok-err_and_bump-clause-script c = record { run = fails (search rules) (by_skip c.in_ok-err_and_bump.ensures.state gives) }
+returns-in_ok-err_and_bump-clause-script c = record {
+  run = fails (search rules)
+      (by_skip c.in_ok-err_and_bump.ensures.state gives);
+}
