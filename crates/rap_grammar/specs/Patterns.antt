@@ -104,7 +104,7 @@ tuple_pat_kind (again a b) = PAREN_PAT
 unfoldable pub tuple_pat : Script Phrase
 tuple_pat =
     start (token L_PAREN (after leading_comma (λ v. after (tuple_patterns (is_something v)) (λ w.
-        expect R_PAREN (finish (tuple_pat_kind w) done)))))
+    expect R_PAREN (finish (tuple_pat_kind w) done)))))
 
 -- a field's name or number and this separator come next
 abbrev pub starts_field : ℕ → List Record → Bool
