@@ -86,8 +86,8 @@ pub took_before : {s t u : State} {b : Bool} {k room : ℕ} →
 took_before {s = s} {t = t} {u = u} d a e first =
     by_test (stops_pattern (next s))
     (λ stop.
-        let n : next u ≡ next s = ap next (a.not_token e) ∙ d.stays stop in
-        absurd (clash stop (ap stops_pattern (sym n) ∙ no_stop (next u) first)))
+    let n : next u ≡ next s = ap next (a.not_token e) ∙ d.stays stop in
+    absurd (clash stop (ap stops_pattern (sym n) ∙ no_stop (next u) first)))
     d.took
 
 next_is_second : (rs : List Record) → next_kind (drop 1 rs) ≡ kind_at rs 1
