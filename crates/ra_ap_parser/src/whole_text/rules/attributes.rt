@@ -434,7 +434,12 @@ fn attributes_of_expressions_that_go_wrong(rt: HostRuntime) -> Result<(), Fail> 
     expressions(
         &rt,
         rt.alloc(),
-        r###"
+        r##"
+        «#[a]» ERROR(ATTR(POUND"#" L_BRACK"[" PATH_META(P:a) R_BRACK"]") ERROR())
+            |4 expected expression
+        «#» ERROR(ATTR(POUND"#") ERROR())
+            |1 expected L_BRACK
+            |1 expected expression
         «#[» ERROR(ATTR(POUND"#" L_BRACK"[" PATH_META(PATH(PATH_SEGMENT(ERROR())))) ERROR())
             |2 expected identifier, `self`, `super`, `crate`, or `Self`
             |2 expected R_BRACK
@@ -477,18 +482,17 @@ fn attributes_of_expressions_that_go_wrong(rt: HostRuntime) -> Result<(), Fail> 
             |3 expected expression
         «-#[a]» PREFIX_EXPR(MINUS"-" ATTR(POUND"#" L_BRACK"[" PATH_META(P:a) R_BRACK"]") ERROR())
             |5 expected expression
-        «##[a] b» ERROR(ERROR(ERROR"##") L_BRACK"[" IDENT"a" R_BRACK"]" _ IDENT"b")
-            |0 expected expression
-            |0 Invalid string literal (reserved syntax)
         «#[[a]] b» ERROR(PATH_EXPR(ATTR(POUND"#" L_BRACK"[" PATH_META(PATH(PATH_SEGMENT(ERROR(L_BRACK"["))))) P:a)
             R_BRACK"]" R_BRACK"]" _ IDENT"b")
             |2 expected identifier, `self`, `super`, `crate`, or `Self`
             |3 expected R_BRACK
         «a..#[b]» RANGE_EXPR(E:a DOT2".." ATTR(POUND"#" L_BRACK"[" PATH_META(P:b) R_BRACK"]") ERROR())
             |7 expected expression
+        «#!a» ERROR(SHEBANG"#!a")
+            |0 expected expression
         «#[a.b] c» ERROR(ATTR(POUND"#" L_BRACK"[" PATH_META(P:a)) ERROR(DOT".") IDENT"b" R_BRACK"]" _ IDENT"c")
             |3 expected R_BRACK
             |3 expected expression
-        "###,
+        "##,
     )
 }

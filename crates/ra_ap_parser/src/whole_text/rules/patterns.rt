@@ -68,6 +68,7 @@ fn ranges(rt: HostRuntime) -> Result<(), Fail> {
         «"a".."b"» RANGE_PAT(LITERAL_PAT(LITERAL(STRING""a"")) DOT2".." LITERAL_PAT(LITERAL(STRING""b"")))
         «A::<B>..c» RANGE_PAT(PATH_PAT(PATH(PATH_SEGMENT(NAME_REF(IDENT"A") GENERIC_ARG_LIST(COLON2"::" L_ANGLE"<"
             TYPE_ARG(T:B) R_ANGLE">")))) DOT2".." IDENT_PAT(NAME(IDENT"c")))
+        «0..=9» RANGE_PAT(LITERAL_PAT(LITERAL(INT_NUMBER"0")) DOT2EQ"..=" LITERAL_PAT(LITERAL(INT_NUMBER"9")))
         «..::A» RANGE_PAT(DOT2".." PATH_PAT(PATH(PATH_SEGMENT(COLON2"::" NAME_REF(IDENT"A")))))
         «..=A::B» RANGE_PAT(DOT2EQ"..=" PATH_PAT(PATH(P:A COLON2"::" PATH_SEGMENT(NAME_REF(IDENT"B")))))
         «..<A>::B» RANGE_PAT(DOT2".." PATH_PAT(PATH(PATH(PATH_SEGMENT(TYPE_ANCHOR(L_ANGLE"<" T:A R_ANGLE">")))
@@ -445,6 +446,8 @@ fn no_pattern(rt: HostRuntime) -> Result<(), Fail> {
         rt.alloc(),
         r##"
         «» ERROR()
+            |0 expected pattern
+        «@err» ERROR(ERROR(AT"@") IDENT"err")
             |0 expected pattern
         «#[a] b» ERROR(ERROR(POUND"#") L_BRACK"[" IDENT"a" R_BRACK"]" _ IDENT"b")
             |0 expected pattern

@@ -175,6 +175,8 @@ fn references(rt: HostRuntime) -> Result<(), Fail> {
         «&'a A» REF_TYPE(AMP"&" LIFETIME(LIFETIME_IDENT"'a") _ T:A)
         «&mut A» REF_TYPE(AMP"&" MUT_KW"mut" _ T:A)
         «&'a mut A» REF_TYPE(AMP"&" LIFETIME(LIFETIME_IDENT"'a") _ MUT_KW"mut" _ T:A)
+        «&'a mut [T]» REF_TYPE(AMP"&" LIFETIME(LIFETIME_IDENT"'a") _ MUT_KW"mut" _ SLICE_TYPE(L_BRACK"[" T:T
+            R_BRACK"]"))
         «&&A» REF_TYPE(AMP"&" REF_TYPE(AMP"&" T:A))
         «&mut &A» REF_TYPE(AMP"&" MUT_KW"mut" _ REF_TYPE(AMP"&" T:A))
         «&dyn A + B» REF_TYPE(AMP"&" DYN_TRAIT_TYPE(DYN_KW"dyn" _ TYPE_BOUND_LIST(TYPE_BOUND(T:A) _ PLUS"+" _
@@ -374,6 +376,17 @@ fn types_for_all_lifetimes_that_go_wrong(rt: HostRuntime) -> Result<(), Fail> {
 }
 
 #[test]
+fn types_by_their_traits(rt: HostRuntime) -> Result<(), Fail> {
+    types(
+        &rt,
+        rt.alloc(),
+        r#"
+        «dyn T» DYN_TRAIT_TYPE(DYN_KW"dyn" _ TYPE_BOUND_LIST(TYPE_BOUND(T:T)))
+        "#,
+    )
+}
+
+#[test]
 fn a_lifetime_before_a_trait(rt: HostRuntime) -> Result<(), Fail> {
     types(
         &rt,
@@ -406,6 +419,7 @@ fn bounds_behind_a_path(rt: HostRuntime) -> Result<(), Fail> {
         &rt,
         rt.alloc(),
         r#"
+        «A + B» DYN_TRAIT_TYPE(TYPE_BOUND_LIST(TYPE_BOUND(T:A) _ PLUS"+" _ TYPE_BOUND(T:B)))
         «A + ?B» DYN_TRAIT_TYPE(TYPE_BOUND_LIST(TYPE_BOUND(T:A) _ PLUS"+" _ TYPE_BOUND(QUESTION"?" T:B)))
         «A + (B)» DYN_TRAIT_TYPE(TYPE_BOUND_LIST(TYPE_BOUND(T:A) _ PLUS"+" _ TYPE_BOUND(L_PAREN"(" T:B R_PAREN")")))
         «A + B!» DYN_TRAIT_TYPE(TYPE_BOUND_LIST(TYPE_BOUND(T:A) _ PLUS"+" _ TYPE_BOUND(T:B ERROR(BANG"!"))))
@@ -625,6 +639,7 @@ fn the_weak_dyn(rt: HostRuntime) -> Result<(), Fail> {
         rt.alloc(),
         Edition::Edition2015,
         r#"
+        «dyn T» DYN_TRAIT_TYPE(DYN_KW"dyn" _ TYPE_BOUND_LIST(TYPE_BOUND(T:T)))
         «A<dyn B>» PATH_TYPE(PATH(PATH_SEGMENT(NAME_REF(IDENT"A") GENERIC_ARG_LIST(L_ANGLE"<"
             TYPE_ARG(DYN_TRAIT_TYPE(DYN_KW"dyn" _ TYPE_BOUND_LIST(TYPE_BOUND(T:B)))) R_ANGLE">"))))
         «fn(dyn A) -> dyn B» FN_PTR_TYPE(FN_KW"fn" PARAM_LIST(L_PAREN"(" PARAM(DYN_TRAIT_TYPE(DYN_KW"dyn" _
