@@ -1,22 +1,26 @@
 -- Balanced tokens between two brackets become the node that nests as they do, without a message.
-use Rattle.std.proofs.Common.{◌≡◌, ◌≢◌, ℕ, ◌+◌, Bool, true, false, ◌==◌, List, [], ◌∷◌, ◌++◌, append_assoc, refl, ap, ◌∙◌, arith, if◌then◌else◌}
+use Rattle.std.proofs.Common.{◌≡◌, ◌≢◌, ℕ, Bool, true, false, ◌==◌, List, [], ◌∷◌, ◌++◌, append_assoc, refl, ap, ◌∙◌, arith, if◌then◌else◌}
 use Rattle.std.proofs.lemmas.Bool.Decides.{nat_tests}
 use Rattle.rap_base.specs.TokenKind.{EOF, L_PAREN, R_PAREN, L_BRACK, R_BRACK, R_CURLY}
 use Rattle.rap_base.specs.TokenTests.{is_l_delimiter, is_delimiter}
 use Rattle.rap_events.specs.Record.{Record, next_kind}
 use Rattle.rap_events.specs.Composite.{is_at}
 use Rattle.rap_events.specs.Fit.{partner}
-use Rattle.rap_events.specs.Forest.{Forest, none, node, leaf, message, split, ◌⧺◌, message_count}
+use Rattle.rap_events.specs.Forest.{Forest, none, leaf, ◌⧺◌, message_count}
 use Rattle.rap_events.specs.State.{State}
 use Rattle.rap_grammar.specs.Balanced.{ArePartners, Balanced, nothing_more, token_first, list_first, in_brackets, NestsAsBrackets}
 use Rattle.rap_grammar.specs.First.{one_of, is_bracket}
 use Rattle.rap_grammar.specs.Items.{tokens_to, bracketed_tokens}
 use Rattle.rap_grammar.specs.Knot.{script_of, Follows}
-use Rattle.rap_grammar.specs.Script.{Outcome, Spot, forests, gives, looks, passes, fails, takes, takes_any, starts, finishes, follows, obeys, turns, stops}
-use Rattle.rap_grammar.proofs.Complete.{⧺-assoc}
+use Rattle.rap_grammar.specs.Phrase.{Phrase}
+use Rattle.rap_grammar.specs.Script.{Script, Outcome, something, Spot, Runs, forests, gives, looks, passes, fails, takes, takes_any, starts, finishes, follows, obeys, turns, stops}
+use Rattle.rap_grammar.proofs.Forests.{⧺-assoc, message_count-⧺}
+use Rattle.rap_grammar.proofs.OneEnd.{one_end}
 use Rattle.rap_grammar.proofs.TokenTrees.{one_wide}
-use Rattle.rap_grammar.proofs.Unique.{one_end}
-use Rattle.rap_grammar.proofs.Ways.{Leads}
+
+-- from these tokens and this forest a script leads to those tokens and that forest, and the older forests stay
+abbrev Leads : Script Phrase → List Forest → List Record → Forest → List Record → Forest → Type 0
+Leads s b rs f l g = Runs script_of s (record { rest = rs; forest = f; below = b }) (record { rest = l; forest = g; below = b }) something
 
 -- the tests of a turn: a closing bracket is one token, and no other token is one
 closing : (a b : Bool) (rs : List Record) → is_at (if a then R_PAREN else (if b then R_BRACK else R_CURLY)) rs ≡ (next_kind rs == (if a then R_PAREN else (if b then R_BRACK else R_CURLY)))
@@ -83,13 +87,6 @@ between (list_first {a = a} {c = z} {js = js} {ks = ks} {t = t} {u = u} p d x) k
     rw (append_assoc, ← (⧺-assoc f (in_brackets a t z) u))
     (turns (fails (not_end a.kind (opens_some a.kind p.opens)) (fails (at_closing k (a ∷ (js ++ z ∷ (ks ++ c ∷ l))) ∙ opens_only k a.kind p.opens) (passes (opening a.kind p.opens) (obeys (list_way js t p (between d a.kind z p.closes) b f (ks ++ c ∷ l)) gives))))
     (between x k c e b (f ⧺ in_brackets a t z) l))
-
-message_count-⧺ : (f g : Forest) → message_count (f ⧺ g) ≡ message_count f + message_count g
-message_count-⧺ f none = omega arith
-message_count-⧺ f (node b k c) = omega (arith, message_count-⧺ f b)
-message_count-⧺ f (leaf b k w) = message_count-⧺ f b
-message_count-⧺ f (message b m) = omega (arith, message_count-⧺ f b)
-message_count-⧺ f (split b d) = message_count-⧺ f b
 
 -- what is balanced has no message
 no_message : {ks : List Record} {t : Forest} → Balanced ks t → message_count t ≡ 0

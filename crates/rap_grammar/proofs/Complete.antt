@@ -4,7 +4,7 @@ use Rattle.std.proofs.lemmas.Bool.{eqb-true, ne_eqb}
 use Rattle.std.proofs.lemmas.Bool.Decides.{nat_tests}
 use Rattle.rap_base.specs.TokenKind.{LIFETIME_IDENT, EOF, SEMICOLON, IDENT, AMP, STAR, BANG, MINUS, DOT, COLON, COLON2, COMMA, QUESTION, L_PAREN, R_PAREN, L_BRACK, R_BRACK, L_CURLY, R_CURLY, PIPE, R_ANGLE, EQ, L_ANGLE, PLUS, CARET, PERCENT, SLASH, MUT_KW, RAW_KW, AS_KW}
 use Rattle.rap_base.specs.NodeKind.{BIN_EXPR, NAME_REF}
-use Rattle.rap_events.specs.Record.{Record, next_kind}
+use Rattle.rap_events.specs.Record.{Record, next_kind, kind_at}
 use Rattle.rap_events.specs.Composite.{width, is_at}
 use Rattle.rap_events.specs.Forest.{Forest, none, node, leaf, message, split, ◌⧺◌}
 use Rattle.rap_events.specs.Power.{power, power_in, powers}
@@ -17,6 +17,7 @@ use Rattle.rap_grammar.specs.Operator.{operator_at}
 use Rattle.rap_grammar.specs.Paths.{path_segment, path_for_qualifier, path}
 use Rattle.rap_grammar.specs.Words.{reads_as}
 use Rattle.rap_grammar.specs.declared.grammar.expressions.Restrictions.{Restrictions}
+use Rattle.rap_grammar.proofs.Forests.{⧺-assoc}
 use Rattle.rap_grammar.proofs.Operators.{written_lead, differ, differ_back, is_calm, Calm, operator_seen, written_first, written_past, and_false}
 use Rattle.rap_grammar.specs.Types.{type_with_bounds_cond}
 use Rattle.rap_grammar.proofs.TypeWays.{ends_type, type_has_no_arguments, no_bounds_way, with_bounds_way, ref_type_way, ref_mut_type_way, slice_type_way, path_type_way}
@@ -290,13 +291,6 @@ Claim Segment ks t = (ty first : Bool) (b : List Forest) (f : Forest) (l : List 
 Claim Reference ks t = Unit {0}
 Claim Ty ks t = (bounds : Bool) (b : List Forest) (f : Forest) (l : List Record) → EndsType l → Leads (type_with_bounds_cond bounds) b (ks ++ l) f l (f ⧺ t)
 
-pub ⧺-assoc : (f g h : Forest) → (f ⧺ g) ⧺ h ≡ f ⧺ (g ⧺ h)
-⧺-assoc f g none = refl
-⧺-assoc f g (node b k c) = ap (λ (x : Forest). node x k c) (⧺-assoc f g b)
-⧺-assoc f g (leaf b k w) = ap (λ (x : Forest). leaf x k w) (⧺-assoc f g b)
-⧺-assoc f g (message b m) = ap (λ (x : Forest). message x m) (⧺-assoc f g b)
-⧺-assoc f g (split b d) = ap (λ (x : Forest). split x d) (⧺-assoc f g b)
-
 three_lists : (ks os js l : List Record) → (ks ++ (os ++ js)) ++ l ≡ ks ++ (os ++ (js ++ l))
 three_lists ks os js l = simp append_assoc
 
@@ -382,7 +376,6 @@ claim (expression_assign {op = op} {ks = ks} {os = os} {js = js} {t = t} {u = u}
     let x : LeadsOut (attributed (operand_of r) (right_of op)) (f ∷ b) (js ++ l) (leaf t op (width op)) l (leaf t op (width op) ⧺ u) = rw i (claim e (operand_of r) (f ∷ b) (leaf t op (width op)) l c) in
     rw (three_lists ks os js l) (claim d r 1 b f (os ++ (js ++ l)) (f ⧺ node none BIN_EXPR (leaf t op (width op) ⧺ u)) l (omega arith) q.calm (omega (arith, ap power q.is))
     (climb_on r (single d) q.is (omega arith) (λ z. omega arith) (no_cast op 1 i (omega arith)) q.first q.past x (climb_end r c.power_is)))
-
 claim (type_path {t = t} d) = λ bounds b f l e.
     let n = path_named d in
     let colons : is_at COLON2 l ≡ false = no_colon l (differ ends_type (next_kind l) COLON e.next refl) in

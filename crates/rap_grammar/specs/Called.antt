@@ -1,5 +1,5 @@
 -- Rules that are come back to, as a part of another rule.
-use Rattle.std.specs.Prelude.{Bool, true, false}
+use Rattle.std.specs.Prelude.{true, false}
 use Rattle.rap_events.specs.Record.{next_kind}
 use Rattle.rap_grammar.specs.First.{is_generic_arg_first, is_cfg_predicate_first}
 use Rattle.rap_grammar.specs.Phrase.{Phrase, expression, any_type, trait_path, generic_argument, generic_parameters, any_pattern, single_pattern, meta_item, condition, bracketed}
