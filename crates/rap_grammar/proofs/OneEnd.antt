@@ -23,7 +23,8 @@ other_flag something = false
 other_flag block = false
 other_flag (again a b) = b
 
-pub one_end : {P : Type 0} {script_of : P → Script P} {s : Script P} {p q r : Spot} {v w : Outcome} → Runs script_of s p q v → Runs script_of s p r w → Same q r v w
+pub one_end : {P : Type 0} {script_of : P → Script P} {s : Script P} {p q r : Spot} {v w : Outcome} →
+    Runs script_of s p q v → Runs script_of s p r w → Same q r v w
 one_end gives gives = record { spot = refl; outcome = refl }
 one_end (looks x) (looks y) = one_end x y
 one_end (passes e x) (passes f y) = one_end x y
@@ -42,7 +43,9 @@ one_end (extends x) (extends y) = one_end x y
 one_end (abandons x) (abandons y) = one_end x y
 one_end (follows x x') (follows y y') = let a = one_end x y in one_end x' (rw (a.spot, a.outcome) y')
 one_end (obeys x x') (obeys y y') = let a = one_end x y in one_end x' (rw (a.spot, a.outcome) y')
-one_end (turns x x') (turns y y') = let a = one_end x y in one_end x' (rw (a.spot, ap one_flag a.outcome, ap other_flag a.outcome) y')
+one_end (turns x x') (turns y y') =
+    let a = one_end x y in
+    one_end x' (rw (a.spot, ap one_flag a.outcome, ap other_flag a.outcome) y')
 one_end (turns x x') (stops y e) = let a = one_end x y in absurd (clash refl (ap goes_on a.outcome ∙ e))
 one_end (stops x e) (turns y y') = let a = one_end x y in absurd (clash refl (ap goes_on (sym a.outcome) ∙ e))
 one_end (stops x e) (stops y f) = one_end x y
