@@ -81,7 +81,7 @@ tuple_pat_turn tuple seen =
     (test (is_at R_PAREN) (give (of_bool (seen && not tuple)))
     (test (λ rs. is_pat_top_first (next_kind rs))
     (look (λ rs. after pattern (λ v.
-        test (is_at R_PAREN) (give (again (tuple || starts_rest_pat rs) true)) (expect COMMA (give (again true true))))))
+    test (is_at R_PAREN) (give (again (tuple || starts_rest_pat rs) true)) (expect COMMA (give (again true true))))))
     (report (codes "expected a pattern") (give (of_bool (not tuple))))))
 
 -- what stands in parentheses: something where it is one pattern, no comma and no `..`
@@ -103,7 +103,7 @@ tuple_pat_kind (again a b) = PAREN_PAT
 unfoldable pub tuple_pat : Script Phrase
 tuple_pat =
     start (token L_PAREN (after leading_comma (λ v. after (tuple_patterns (is_something v)) (λ w.
-        expect R_PAREN (finish (tuple_pat_kind w) done)))))
+    expect R_PAREN (finish (tuple_pat_kind w) done)))))
 
 -- a field's name or number and this separator come next
 abbrev pub starts_field : ℕ → List Record → Bool
