@@ -17,6 +17,7 @@ use Rattle.rap_grammar.specs.Operator.{operator_at}
 use Rattle.rap_grammar.specs.Paths.{path_segment, path_for_qualifier, path}
 use Rattle.rap_grammar.specs.Words.{reads_as}
 use Rattle.rap_grammar.specs.declared.grammar.expressions.Restrictions.{Restrictions}
+use Rattle.rap_grammar.proofs.Forests.{⧺-assoc}
 use Rattle.rap_grammar.proofs.Operators.{written_lead, differ, differ_back, is_calm, Calm, operator_seen, written_first, written_past, and_false}
 use Rattle.rap_grammar.specs.Types.{type_with_bounds_cond}
 use Rattle.rap_grammar.proofs.TypeWays.{ends_type, type_has_no_arguments, no_bounds_way, with_bounds_way, ref_type_way, ref_mut_type_way, slice_type_way, path_type_way}
@@ -289,13 +290,6 @@ Claim Path ks t = (ty : Bool) (b : List Forest) (f : Forest) (l : List Record) (
 Claim Segment ks t = (ty first : Bool) (b : List Forest) (f : Forest) (l : List Record) → NoArguments ty l → Leads (path_segment (mode_of ty) first) b (ks ++ l) f l (f ⧺ t)
 Claim Reference ks t = Unit {0}
 Claim Ty ks t = (bounds : Bool) (b : List Forest) (f : Forest) (l : List Record) → EndsType l → Leads (type_with_bounds_cond bounds) b (ks ++ l) f l (f ⧺ t)
-
-pub ⧺-assoc : (f g h : Forest) → (f ⧺ g) ⧺ h ≡ f ⧺ (g ⧺ h)
-⧺-assoc f g none = refl
-⧺-assoc f g (node b k c) = ap (λ (x : Forest). node x k c) (⧺-assoc f g b)
-⧺-assoc f g (leaf b k w) = ap (λ (x : Forest). leaf x k w) (⧺-assoc f g b)
-⧺-assoc f g (message b m) = ap (λ (x : Forest). message x m) (⧺-assoc f g b)
-⧺-assoc f g (split b d) = ap (λ (x : Forest). split x d) (⧺-assoc f g b)
 
 three_lists : (ks os js l : List Record) → (ks ++ (os ++ js)) ++ l ≡ ks ++ (os ++ (js ++ l))
 three_lists ks os js l = simp append_assoc
