@@ -116,9 +116,9 @@ pub nests_as_brackets : {old new : State} {v : Outcome} → Follows bracketed_to
 nests_as_brackets {old = old} {new = new} h = record {
   nests = λ a c ks rs t p d e.
       let w : Leads bracketed_tokens (forests old.below) old.rest old.forest rs (old.forest ⧺ in_brackets a t c) =
-          rw e (list_way ks t p (between d a.kind c p.closes) (forests old.below) old.forest rs) in
+      rw e (list_way ks t p (between d a.kind c p.closes) (forests old.below) old.forest rs) in
       let s = one_end h.run w in
       let calm : message_count (in_brackets a t c) ≡ 0 =
-          omega (arith, message_count-⧺ (leaf none a.kind 1) t, no_message d) in
+      omega (arith, message_count-⧺ (leaf none a.kind 1) t, no_message d) in
       (ap (λ (q : Spot). q.rest) s.spot, ap (λ (q : Spot). q.forest) s.spot, calm);
 }

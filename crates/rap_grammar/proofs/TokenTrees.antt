@@ -36,7 +36,7 @@ pub begun : {s t u : State} {m : ℕ} → Opened s t m → Bumped t u (next t) 1
 begun {s = s} {t = t} {u = u} o b h =
     let n : next t ≡ next s = ap next_kind o.recorded.rest in
     let f : u.forest ≡ leaf none (next s) 1 =
-        b.forest ∙ ap (λ (x : Forest). leaf x (next t) 1) o.forest ∙ ap (λ (x : ℕ). leaf none x 1) n in
+    b.forest ∙ ap (λ (x : Forest). leaf x (next t) 1) o.forest ∙ ap (λ (x : ℕ). leaf none x 1) n in
     subst (λ (x : Forest). Opens (next s) x) (sym f) (begin (bracket_opens (next s) h))
 
 -- a list in brackets, and any other token

@@ -42,7 +42,7 @@ tokens-preserved-then-is_unmatched t c = record {
       (else_by (by_kind is_bracket c.is_bracket.ensures c.current-kind.ensures.kind) c.if-is_bracket.false
       (fails (search rules)
       (then_by (by_kind (one_of (R_PAREN ∷ R_BRACK ∷ [])) c.is_unmatched.ensures c.current-kind.ensures.kind)
-          c.if-is_unmatched.true
+      c.if-is_unmatched.true
       (by_skip c.in_ok-err_and_bump.ensures.state gives))))));
 }
 
