@@ -134,7 +134,7 @@ pub(super) fn is_expr_first(kind: SyntaxKind) -> bool
     ensures first { result ≡ is_expr_first kind }
     ensures more { IsTrue result → kind ≢ EOF }
 {
-    is_atom_expr_first(kind) || matches!(kind, T![&] | T![*] | T![!] | T![.] | T![-])
+    is_atom_expr_first(kind) || matches!(kind, T![&] | T![*] | T![!] | T![.] | T![-] | T![#])
 }
 
 /// An expression without an operator between two expressions, as `-a` and `a.b()`.
