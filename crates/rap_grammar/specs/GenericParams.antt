@@ -1,6 +1,6 @@
 -- Parameters of something generic, bounds, and `where`.
 use Rattle.std.specs.Prelude.{ℕ, Bool, false, ◌&&◌, [], ◌∷◌, drop, codes}
-use Rattle.rap_base.specs.TokenKind.{ERROR, L_ANGLE, R_ANGLE, L_PAREN, R_PAREN, L_BRACK, R_BRACK, L_CURLY, COMMA, COLON, SEMICOLON, EQ, PLUS, TILDE, QUESTION, BANG, IDENT, LIFETIME_IDENT, SELF_TYPE_KW, CONST_KW, ASYNC_KW, FOR_KW, USE_KW, IMPL_KW, WHERE_KW}
+use Rattle.rap_base.specs.TokenKind.{ERROR, L_ANGLE, R_ANGLE, L_PAREN, R_PAREN, L_BRACK, R_BRACK, L_CURLY, COMMA, COLON, SEMICOLON, EQ, PLUS, TILDE, QUESTION, BANG, IDENT, LIFETIME_IDENT, CONST_KW, ASYNC_KW, FOR_KW, USE_KW, IMPL_KW, WHERE_KW}
 use Rattle.rap_base.specs.NodeKind.{GENERIC_PARAM_LIST, LIFETIME_PARAM, TYPE_PARAM, CONST_PARAM, TYPE_BOUND, TYPE_BOUND_LIST, USE_BOUND_GENERIC_ARGS, WHERE_CLAUSE, WHERE_PRED}
 use Rattle.rap_events.specs.Record.{next_kind}
 use Rattle.rap_events.specs.Composite.{is_at}

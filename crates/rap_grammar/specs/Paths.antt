@@ -1,5 +1,5 @@
 -- Paths.
-use Rattle.std.specs.Prelude.{ℕ, Bool, true, false, ◌==◌, ◌&&◌, ◌||◌, not, if◌then◌else◌, List, [], ◌∷◌, drop, codes}
+use Rattle.std.specs.Prelude.{Bool, true, false, ◌==◌, ◌&&◌, ◌||◌, not, if◌then◌else◌, List, [], ◌∷◌, drop, codes}
 use Rattle.rap_base.specs.TokenKind.{COLON2, COMMA, L_ANGLE, R_ANGLE, L_PAREN, R_PAREN, L_CURLY, DOT2, EQ, STAR, AS_KW}
 use Rattle.rap_base.specs.NodeKind.{PATH, PATH_SEGMENT, TYPE_ANCHOR, TYPE_ARG, GENERIC_ARG_LIST, PARENTHESIZED_ARG_LIST, RETURN_TYPE_SYNTAX}
 use Rattle.rap_events.specs.Record.{Record, next_kind, kind_at}
@@ -17,7 +17,8 @@ use Rattle.rap_grammar.specs.declared.grammar.paths.Mode.TheVariants as mode
 -- arguments in angle brackets, whose node is open
 unfoldable pub generic_arg_list : Script Phrase
 generic_arg_list =
-    after (delimited generic_arg_element L_ANGLE R_ANGLE COMMA (codes "expected generic argument") is_generic_arg_first) (λ v. finish GENERIC_ARG_LIST done)
+    after (delimited generic_arg_element L_ANGLE R_ANGLE COMMA (codes "expected generic argument") is_generic_arg_first)
+    (λ v. finish GENERIC_ARG_LIST done)
 
 -- the arguments behind a name in an expression
 unfoldable pub opt_generic_arg_list_expr : Script Phrase
@@ -33,7 +34,8 @@ type_arg_element =
 -- types in parentheses, as those of a function that are taken, and the one that it gives back; their node is open
 unfoldable pub parenthesized_args : Script Phrase
 parenthesized_args =
-    after (delimited type_arg_element L_PAREN R_PAREN COMMA (codes "expected type") is_type_first) (λ v. finish PARENTHESIZED_ARG_LIST (after opt_ret_type (λ w. done)))
+    after (delimited type_arg_element L_PAREN R_PAREN COMMA (codes "expected type") is_type_first)
+    (λ v. finish PARENTHESIZED_ARG_LIST (after opt_ret_type (λ w. done)))
 
 -- two dots in parentheses, for whatever a function gives back; their node is open
 unfoldable pub return_type_syntax : Script Phrase

@@ -149,6 +149,10 @@ path_or_macro_pat =
     (test (next_is BANG) (after macro_call_after_excl (λ w. finish MACRO_CALL (precede (finish MACRO_PAT done))))
     (finish PATH_PAT done)))))
 
+-- `builtin#` comes next
+abbrev pub starts_builtin : List Record → Bool
+starts_builtin rs = reads_as BUILTIN_KW rs && is_at POUND (drop 1 rs)
+
 -- `builtin#` with a name behind it, which is not taken where it is unknown
 unfoldable pub builtin_pat : Script Phrase
 builtin_pat =
@@ -159,9 +163,9 @@ builtin_pat =
     (bear CFG_KW (expect L_PAREN (after cfg_predicate (λ v. eat COMMA (expect R_PAREN (finish CFG_PRED_PAT done))))))
     (report (codes "unknown name after `builtin#`") (finish ERROR (give nothing)))))))
 
--- an identifier comes next that begins a path of several names, a path with fields, or a macro call
-abbrev pub names_path : List Record → Bool
-names_path rs = one_of (L_PAREN ∷ L_CURLY ∷ BANG ∷ []) (kind_at rs 1) || is_at COLON2 (drop 1 rs)
+-- an identifier comes next that begins no path of several names, no path with fields, and no macro call
+abbrev pub starts_ident_pat : List Record → Bool
+starts_ident_pat rs = is_at IDENT rs && (not (one_of (L_PAREN ∷ L_CURLY ∷ BANG ∷ []) (kind_at rs 1)) && not (is_at COLON2 (drop 1 rs)))
 
 -- no pattern begins
 unfoldable pub missing_pat : Script Phrase
@@ -179,11 +183,11 @@ symbol_pat =
 
 unfoldable pub atom_pat : Script Phrase
 atom_pat =
-    test (λ rs. reads_as BUILTIN_KW rs && is_at POUND (drop 1 rs)) builtin_pat
+    test starts_builtin builtin_pat
     (test (next_is BOX_KW) box_pat
     (test (λ rs. one_of (REF_KW ∷ MUT_KW ∷ []) (next_kind rs)) (ident_pat true)
     (test (next_is CONST_KW) const_block_pat
-    (test (λ rs. next_is IDENT rs && not (names_path rs)) (ident_pat true)
+    (test starts_ident_pat (ident_pat true)
     (test starts_path path_or_macro_pat symbol_pat)))))
 
 -- where a range that has begun ends

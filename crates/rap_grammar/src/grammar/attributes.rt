@@ -78,7 +78,7 @@ fn doc_comment(inner: bool) -> SyntaxKind
 fn attr<G: Grammar>(p: &mut Parser<'_>, g: &G, inner: bool) -> Result<(), NoMemory>
     requires within { Within G.valid G.left g.now (state p.old) }
     requires first { starts_attr inner (state p.old).rest ≡ true }
-    ensures took { OnOk result (Took (state p.old) (state p.new) element_room) }
+    ensures took { OnOk result (Took (state p.old) (state p.new) list_room) }
     ensures script { OnOk result (Follows (script.attr inner) something (state p.old) (state p.new)) }
 {
     if p.at(doc_comment(inner)) {

@@ -1,5 +1,5 @@
 //! Arguments of something generic.
-ghost use Rattle.std.specs.Prelude.{◌≡◌, ◌<◌, ◌≤◌, IfOk, OnOk, Some, true, false};
+ghost use Rattle.std.specs.Prelude.{◌≡◌, ◌<◌, ◌≤◌, OnOk, Some, true, false};
 ghost use Rattle.rap_base.specs.TokenKind.{COLON, COLON2, L_ANGLE, BANG, MINUS, LIFETIME_IDENT};
 ghost use Rattle.rap_events.specs.Composite.{is_at};
 ghost use Rattle.rap_events.specs.State.{state, next, IsLast};

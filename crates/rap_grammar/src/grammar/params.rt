@@ -175,11 +175,7 @@ fn params<G: Grammar>(p: &mut Parser<'_>, g: &G, flavor: Flavor) -> Result<(), N
 }
 
 /// A parameter with its attributes, as `#[a] b: c`. Answers whether another one may follow.
-fn attributed_param<G: Grammar>(
-    p: &mut Parser<'_>,
-    g: &G,
-    flavor: Flavor,
-) -> Result<bool, NoMemory>
+fn attributed_param<G: Grammar>(p: &mut Parser<'_>, g: &G, flavor: Flavor) -> Result<bool, NoMemory>
     requires behind { Behind G.valid G.left g.now (state p.old) }
     ensures grew { OnOk result (Grew (state p.old) (state p.new) 4) }
     ensures took { IfOk result (λ on. on ≡ true → Took (state p.old) (state p.new) element_room) }
@@ -223,7 +219,7 @@ fn is_param_first(kind: SyntaxKind) -> bool
     is_pattern_first(kind) || is_type_first(kind) || is_outer_attr_first(kind)
 }
 
-/// The comma after a parameter. Answers whether another one may follow: where one begins, the missing comma is reported.
+/// The comma after a parameter. Answers whether another one may follow. Where one begins, a missing comma is reported.
 fn after_param(p: &mut Parser<'_>) -> Result<bool, NoMemory>
     ensures grew { OnOk result (Grew (state p.old) (state p.new) 1) }
     ensures script { IfOk result (λ on. Follows script.after_param (of_bool on) (state p.old) (state p.new)) }

@@ -10,7 +10,7 @@ ghost use Rattle.rap_grammar.specs.Grew.{Within, Behind, Grew, Took, Spent, Clos
 ghost use Rattle.rap_grammar.specs.Knot.{Follows};
 ghost use Rattle.rap_grammar.specs.Paths as script;
 ghost use Rattle.rap_grammar.specs.Recovery.{is_item_recovery, is_segment_recovery};
-ghost use Rattle.rap_grammar.specs.Room.{name_room, name_end_room, segment_room, path_room, element_room, list_room};
+ghost use Rattle.rap_grammar.specs.Room.{name_room, name_end_room, segment_room, path_room, element_room};
 ghost use Rattle.rap_grammar.specs.Script.{something};
 ghost use Rattle.rap_grammar.specs.Words.{of_option};
 

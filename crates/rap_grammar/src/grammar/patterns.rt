@@ -1,5 +1,5 @@
 //! Patterns.
-ghost use Rattle.std.specs.Prelude.{◌≡◌, ◌≢◌, ℕ, ◌<◌, ◌≤◌, IfOk, OnOk, true, false, [], ◌∷◌, drop};
+ghost use Rattle.std.specs.Prelude.{◌≡◌, ◌≢◌, ℕ, ◌<◌, ◌≤◌, IfOk, OnOk, IsTrue, true, false, [], ◌∷◌, drop};
 ghost use Rattle.rap_base.specs.TokenKind.{EOF, IDENT, AMP, BANG, POUND, UNDERSCORE, DOT2, DOT2EQ, L_PAREN, L_BRACK, L_CURLY, BOX_KW, BUILTIN_KW, CONST_KW, MUT_KW, REF_KW};
 ghost use Rattle.rap_base.specs.NodeKind.{IDENT_PAT, BOX_PAT, CONST_BLOCK_PAT, LITERAL_PAT, WILDCARD_PAT, REF_PAT, NOT_NULL, SLICE_PAT};
 ghost use Rattle.rap_base.specs.TokenSet.{member};
@@ -7,7 +7,7 @@ ghost use Rattle.rap_events.specs.State.{state, next, At, NthAt, ReadsAs, IsLast
 ghost use Rattle.rap_grammar.specs.Called as called;
 ghost use Rattle.rap_grammar.specs.First.{one_of, is_pattern_first, is_pat_top_first, is_range_pat_end_first, starts_path};
 ghost use Rattle.rap_grammar.specs.Patterns as script;
-ghost use Rattle.rap_grammar.specs.Patterns.{names_path, starts_field, starts_literal_pat, starts_rest_pat, ends_range_pat};
+ghost use Rattle.rap_grammar.specs.Patterns.{starts_builtin, starts_field, starts_ident_pat, starts_literal_pat, starts_rest_pat, ends_range_pat};
 ghost use Rattle.rap_grammar.specs.Grew.{Within, Behind, Grew, Took, Made, Makes};
 ghost use Rattle.rap_grammar.specs.Knot.{Follows};
 ghost use Rattle.rap_grammar.specs.Recovery.{is_pattern_recovery};
@@ -267,7 +267,7 @@ fn atom_pat<G: Grammar>(
     ensures atom { IfOk result (IsAtomPattern (state p.old) (state p.new)) }
     ensures script { IfOk result (λ o. Follows script.atom_pat (of_option o) (state p.old) (state p.new)) }
 {
-    if p.at_contextual_kw(T![builtin]) && p.nth_at(1, T![#]) {
+    if is_builtin_start(p) {
         let cm = builtin_pat(p, g)?;
         return Ok(cm);
     }
@@ -275,7 +275,7 @@ fn atom_pat<G: Grammar>(
         T![box] => Ok(Some(box_pat(p, g)?)),
         T![ref] | T![mut] => Ok(Some(ident_pat(p, g, true)?)),
         T![const] => Ok(Some(const_block_pat(p)?)),
-        T![ident] if !names_path(p) => Ok(Some(ident_pat(p, g, true)?)),
+        _ if is_ident_pat_start(p) => Ok(Some(ident_pat(p, g, true)?)),
         _ if is_path_start(p) => Ok(Some(path_or_macro_pat(p, g)?)),
         _ => {
             let cm = symbol_pat(p, g)?;
@@ -284,11 +284,11 @@ fn atom_pat<G: Grammar>(
     }
 }
 
-/// Whether the identifier that comes next begins a path of several names, a path with fields, or a macro call.
-fn names_path(p: &Parser<'_>) -> bool
-    ensures { result ≡ names_path (state p.now).rest }
+/// Whether an identifier comes next that begins no path of several names, no path with fields, and no macro call.
+fn is_ident_pat_start(p: &Parser<'_>) -> bool
+    ensures { result ≡ starts_ident_pat (state p.now).rest }
 {
-    matches!(p.nth(1), T!['('] | T!['{'] | T![!]) || p.nth_at(1, T![::])
+    p.at(T![ident]) && !matches!(p.nth(1), T!['('] | T!['{'] | T![!]) && !p.nth_at(1, T![::])
 }
 
 /// A pattern that begins with no keyword and no path, as `1`, `_` and `(a, b)`.
@@ -328,6 +328,15 @@ fn missing_pat(p: &mut Parser<'_>) -> Result<(), NoMemory>
     Ok(())
 }
 
+/// Whether `builtin#` comes next.
+fn is_builtin_start(p: &Parser<'_>) -> bool
+    ensures here { result ≡ starts_builtin (state p.now).rest }
+    ensures bears { IsTrue result → ReadsAs (state p.now) BUILTIN_KW }
+    ensures pound { IsTrue result → NthAt (state p.now) 1 POUND }
+{
+    p.at_contextual_kw(T![builtin]) && p.nth_at(1, T![#])
+}
+
 /// What the compiler alone reads, as `builtin#deref(a)` and `builtin#cfg(unix)`. An unknown name is not taken.
 fn builtin_pat<G: Grammar>(
     p: &mut Parser<'_>,
@@ -342,16 +351,14 @@ fn builtin_pat<G: Grammar>(
     let m = p.start()?;
     p.bump_remap(T![builtin])?;
     p.bump(T![#])?;
-    if p.at_contextual_kw(T![deref]) {
-        p.bump_remap(T![deref])?;
+    if p.eat_contextual_kw(T![deref])? {
         p.expect(T!['('])?;
         pattern(p, g)?;
         p.expect(T![')'])?;
         let cm = m.complete(p, SyntaxKind::DEREF_PAT)?;
         return Ok(Some(cm));
     }
-    if p.at_contextual_kw(T![cfg]) {
-        p.bump_remap(T![cfg])?;
+    if p.eat_contextual_kw(T![cfg])? {
         p.expect(T!['('])?;
         cfg_predicate(p, g)?;
         p.eat(T![,])?;

@@ -97,54 +97,18 @@ pub(super) fn type_with_bounds_cond<G: Grammar>(
     ensures script { OnOk result (Follows (script.type_with_bounds_cond allow_bounds) something (state p.old) (state p.new)) }
 {
     match p.current() {
-        T!['('] => {
-            paren_or_tuple_type(p, g)?;
-            Ok(())
-        }
-        T![!] => {
-            never_type(p)?;
-            Ok(())
-        }
-        T![*] => {
-            ptr_type(p, g)?;
-            Ok(())
-        }
-        T!['['] => {
-            array_or_slice_type(p, g)?;
-            Ok(())
-        }
-        T![&] => {
-            ref_type(p, g)?;
-            Ok(())
-        }
-        T![_] => {
-            infer_type(p)?;
-            Ok(())
-        }
-        T![fn] | T![unsafe] | T![extern] => {
-            fn_ptr_type(p, g)?;
-            Ok(())
-        }
-        T![for] => {
-            for_type(p, g, allow_bounds)?;
-            Ok(())
-        }
-        T![impl] => {
-            impl_trait_type(p, g)?;
-            Ok(())
-        }
-        T![dyn] => {
-            dyn_trait_type(p, g)?;
-            Ok(())
-        }
-        T![<] => {
-            path_type_bounds(p, g, allow_bounds)?;
-            Ok(())
-        }
-        _ => {
-            named_type(p, g, allow_bounds)?;
-            Ok(())
-        }
+        T!['('] => paren_or_tuple_type(p, g),
+        T![!] => never_type(p),
+        T![*] => ptr_type(p, g),
+        T!['['] => array_or_slice_type(p, g),
+        T![&] => ref_type(p, g),
+        T![_] => infer_type(p),
+        T![fn] | T![unsafe] | T![extern] => fn_ptr_type(p, g),
+        T![for] => for_type(p, g, allow_bounds),
+        T![impl] => impl_trait_type(p, g),
+        T![dyn] => dyn_trait_type(p, g),
+        T![<] => path_type_bounds(p, g, allow_bounds),
+        _ => named_type(p, g, allow_bounds),
     }
 }
 

@@ -31,7 +31,7 @@ pub returns-in_ok-found-in_default-clause-script : goal.returns-in_ok-found-in_d
 unfolding bare_bound
 returns-in_ok-found-in_default-clause-script g c = record {
   run = fails (search rules) (fails (search rules) (fails (elim c.in_default.branch [
-        | in_default-via-in-USE_KW+else-nth_at w ↦ not_both (λ _. sym w.nth_at.ensures ∙ w.if-nth_at.false)
-        | in_default-via-in_default-1 w ↦ not_left {a = next_is USE_KW (state c.args.p.now).rest} _ (search rules)
-      ]) (to_end c.in_ok-found-in_default.ensures.script)));
+    | in_default-via-in-USE_KW+else-nth_at w ↦ not_both (λ _. sym w.nth_at.ensures ∙ w.if-nth_at.false)
+    | in_default-via-in_default-1 w ↦ not_left {a = next_is USE_KW (state c.args.p.now).rest} _ (search rules)
+  ]) (to_end c.in_ok-found-in_default.ensures.script)));
 }

@@ -1,48 +1,46 @@
-use Rattle.std.proofs.Common.{rules, sym, ◌∙◌, true, false}
+use Rattle.std.proofs.Common.{rules, true, false}
 use Rattle.rap_events.specs.State.{state}
 use Rattle.rap_grammar.specs.Patterns.{builtin_pat}
 use Rattle.rap_grammar.proofs.Patterning.{builtin_no_stop}
-use Rattle.rap_grammar.specs.Script.{gives, passes, fails}
-use Rattle.rap_grammar.proofs.Steps.{by_bump, by_bear, by_report, by_start, by_complete, by_rule, by_expect, by_eat, clash, both, not_both}
+use Rattle.rap_grammar.specs.Script.{gives}
+use Rattle.rap_grammar.proofs.Steps.{by_bump, by_bear, by_report, by_start, by_complete, by_rule, by_expect, by_eat, clash, ate_as, not_ate_as}
 use Rattle.rap_grammar.proofs.grammar.patterns.builtin_pat.Goals as goal
 
-pub returns-then-at_contextual_kw-clause-atom : goal.returns-then-at_contextual_kw-clause-atom
-returns-then-at_contextual_kw-clause-atom g c = (search rules, builtin_no_stop (state c.args.p.now).rest c.requires.here)
+pub returns-then-branch-clause-atom : goal.returns-then-branch-clause-atom
+returns-then-branch-clause-atom g c = (search rules, builtin_no_stop (state c.args.p.now).rest c.requires.here)
 
-pub returns-then-at_contextual_kw-2-clause-atom : goal.returns-then-at_contextual_kw-2-clause-atom
-returns-then-at_contextual_kw-2-clause-atom g c = (search rules, builtin_no_stop (state c.args.p.now).rest c.requires.here)
+pub returns-then-branch-2-clause-atom : goal.returns-then-branch-2-clause-atom
+returns-then-branch-2-clause-atom g c = (search rules, builtin_no_stop (state c.args.p.now).rest c.requires.here)
 
 pub returns-clause-atom : goal.returns-clause-atom
 returns-clause-atom g c = record { grew = search rules; took = λ n. search rules; stays = λ s. absurd (clash s (builtin_no_stop (state c.args.p.now).rest c.requires.here)) }
 
-pub returns-then-at_contextual_kw-clause-script : goal.returns-then-at_contextual_kw-clause-script
+pub returns-then-branch-clause-script : goal.returns-then-branch-clause-script
 unfolding builtin_pat
-returns-then-at_contextual_kw-clause-script g c = record {
+returns-then-branch-clause-script g c = record {
   run = by_start c.in_ok-m.ensures.state
       (by_bear (search rules) c.in_ok-bump_remap.ensures.state
       (by_bump (search rules) c.in_ok-bump.ensures.state
-      (passes (both (search rules) (sym c.at_contextual_kw.ensures.here ∙ c.if-at_contextual_kw.true))
-      (by_bear (search rules) c.in_ok-bump_remap-2.ensures.state
+      (ate_as c.in_ok-eat_contextual_kw.ensures.state c.if-branch.true
       (by_expect c.in_ok-expect.ensures.state
       (by_rule c.in_ok-pattern.ensures.script
       (by_expect c.in_ok-expect-2.ensures.state
-      (by_complete c.in_ok-cm.ensures.state.0 gives))))))));
+      (by_complete c.in_ok-cm.ensures.state.0 gives)))))));
 }
 
-pub returns-then-at_contextual_kw-2-clause-script : goal.returns-then-at_contextual_kw-2-clause-script
+pub returns-then-branch-2-clause-script : goal.returns-then-branch-2-clause-script
 unfolding builtin_pat
-returns-then-at_contextual_kw-2-clause-script g c = record {
+returns-then-branch-2-clause-script g c = record {
   run = by_start c.in_ok-m.ensures.state
       (by_bear (search rules) c.in_ok-bump_remap.ensures.state
       (by_bump (search rules) c.in_ok-bump.ensures.state
-      (fails (not_both (λ n. sym c.at_contextual_kw.ensures.here ∙ c.if-at_contextual_kw.false))
-      (passes (both (search rules) (sym c.at_contextual_kw-2.ensures.here ∙ c.if-at_contextual_kw-2.true))
-      (by_bear (search rules) c.in_ok-bump_remap-3.ensures.state
+      (not_ate_as c.in_ok-eat_contextual_kw.ensures.state c.if-branch.false
+      (ate_as c.in_ok-eat_contextual_kw-2.ensures.state c.if-branch-2.true
       (by_expect c.in_ok-expect-3.ensures.state
       (by_rule c.in_ok-cfg_predicate.ensures.script
       (by_eat c.in_ok-eat.ensures.state
       (by_expect c.in_ok-expect-4.ensures.state
-      (by_complete c.in_ok-cm-2.ensures.state.0 gives))))))))));
+      (by_complete c.in_ok-cm-2.ensures.state.0 gives)))))))));
 }
 
 pub returns-clause-script : goal.returns-clause-script
@@ -51,8 +49,8 @@ returns-clause-script g c = record {
   run = by_start c.in_ok-m.ensures.state
       (by_bear (search rules) c.in_ok-bump_remap.ensures.state
       (by_bump (search rules) c.in_ok-bump.ensures.state
-      (fails (not_both (λ n. sym c.at_contextual_kw.ensures.here ∙ c.if-at_contextual_kw.false))
-      (fails (not_both (λ n. sym c.at_contextual_kw-2.ensures.here ∙ c.if-at_contextual_kw-2.false))
+      (not_ate_as c.in_ok-eat_contextual_kw.ensures.state c.if-branch.false
+      (not_ate_as c.in_ok-eat_contextual_kw-2.ensures.state c.if-branch-2.false
       (by_report c.in_ok-error.ensures.state
       (by_complete c.in_ok-complete.ensures.state.0 gives))))));
 }

@@ -21,7 +21,7 @@ unfolding pattern_single_r
 returns-in_default-clause-script g c = record {
   run = else_by c.at.ensures c.if-at.false
       (else_by c.at-2.ensures c.if-at-2.false
-      (by_rule (rw c.in_default.is at c.in_ok-atom_pat.ensures.script) gives));
+      (by_rule (rw c.in_default.is at c.in_ok-lhs.ensures.script) gives));
 }
 
 pub returns-clause-script : goal.returns-clause-script
@@ -29,6 +29,6 @@ unfolding pattern_single_r
 returns-clause-script g c = record {
   run = else_by c.at.ensures c.if-at.false
       (else_by c.at-2.ensures c.if-at-2.false
-      (by_rule (rw c.in-Some.is at c.in_ok-atom_pat.ensures.script)
+      (by_rule (rw c.in-Some.is at c.in_ok-lhs.ensures.script)
       (to_end c.in_ok-range_op.ensures.script)));
 }

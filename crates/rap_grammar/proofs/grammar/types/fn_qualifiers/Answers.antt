@@ -13,4 +13,4 @@ returns-then-at-clause-script c = record {
 
 pub returns-clause-script : goal.returns-clause-script
 unfolding fn_qualifiers
-returns-clause-script c = record { run = by_eat c.in_ok-eat.ensures.state (else_by c.at.ensures c.if-at.false gives); }
+returns-clause-script c = record { run = by_eat c.in_ok-eat.ensures.state (else_by c.at.ensures c.if-at.false gives) }

@@ -7,7 +7,7 @@ use Rattle.rap_grammar.proofs.grammar.types.missing_type.Goals as goal
 
 pub returns-then-eq-clause-script : goal.returns-then-eq-clause-script
 unfolding missing_type
-returns-then-eq-clause-script c = record { run = passes (search rules) (by_report c.in_ok-error.ensures.state gives); }
+returns-then-eq-clause-script c = record { run = passes (search rules) (by_report c.in_ok-error.ensures.state gives) }
 
 pub returns-clause-script : goal.returns-clause-script
 unfolding missing_type

@@ -19,7 +19,7 @@ returns-then-eq-clause-script g c = record {
 
 pub returns-clause-script : goal.returns-clause-script
 unfolding opt_type_bounds_as_dyn_trait_type
-returns-clause-script g c = 
+returns-clause-script g c =
     let e : (c.args.lhs.kind == MACRO_TYPE) ≡ false = rw (← c.kind.ensures) (sym c.eq.ensures ∙ c.if-eq.false) in
     record {
       run = passes (both (rw e refl) (sym c.at.ensures ∙ c.if-not-at.false))

@@ -12,4 +12,4 @@ returns-then-allow_bounds-clause-script g c = record {
 
 pub returns-clause-script : goal.returns-clause-script
 unfolding path_type_bounds
-returns-clause-script g c = record { run = by_rule c.in_ok-path.ensures.script (rw c.if-allow_bounds.false gives); }
+returns-clause-script g c = record { run = by_rule c.in_ok-path.ensures.script (rw c.if-allow_bounds.false gives) }

@@ -13,4 +13,4 @@ returns-then-matches-clause-script c = record {
 
 pub returns-clause-script : goal.returns-clause-script
 unfolding ptr_qualifier
-returns-clause-script c = record { run = fails (search rules) (by_report c.in_ok-error.ensures.state gives); }
+returns-clause-script c = record { run = fails (search rules) (by_report c.in_ok-error.ensures.state gives) }
