@@ -496,3 +496,19 @@ fn attributes_of_expressions_that_go_wrong(rt: HostRuntime) -> Result<(), Fail> 
         "##,
     )
 }
+
+#[test]
+fn conditions_without_a_comma(rt: HostRuntime) -> Result<(), Fail> {
+    metas(
+        &rt,
+        rt.alloc(),
+        r#"
+        «cfg(all(a true false b))» CFG_META(CFG_KW"cfg" L_PAREN"(" CFG_COMPOSITE(IDENT"all" L_PAREN"("
+            CFG_ATOM(IDENT"a") _ CFG_ATOM(TRUE_KW"true") _ CFG_ATOM(FALSE_KW"false") _ CFG_ATOM(IDENT"b") R_PAREN")")
+            R_PAREN")")
+            |9 expected COMMA
+            |14 expected COMMA
+            |20 expected COMMA
+        "#,
+    )
+}

@@ -497,3 +497,65 @@ fn lists_of_arguments_in_expressions_that_go_wrong(rt: HostRuntime) -> Result<()
         "#,
     )
 }
+
+#[test]
+fn arguments_without_a_comma(rt: HostRuntime) -> Result<(), Fail> {
+    types(
+        &rt,
+        rt.alloc(),
+        r#"
+        «A<B 1 1.5 'c' b'c' "s" b"s" c"s" true false -1 'a C>» PATH_TYPE(PATH(PATH_SEGMENT(NAME_REF(IDENT"A")
+            GENERIC_ARG_LIST(L_ANGLE"<" TYPE_ARG(T:B) _ CONST_ARG(LITERAL(INT_NUMBER"1")) _
+            CONST_ARG(LITERAL(FLOAT_NUMBER"1.5")) _ CONST_ARG(LITERAL(CHAR"'c'")) _ CONST_ARG(LITERAL(BYTE"b'c'")) _
+            CONST_ARG(LITERAL(STRING""s"")) _ CONST_ARG(LITERAL(BYTE_STRING"b"s"")) _ CONST_ARG(LITERAL(C_STRING"c"s""))
+            _ CONST_ARG(LITERAL(TRUE_KW"true")) _ CONST_ARG(LITERAL(FALSE_KW"false")) _ CONST_ARG(PREFIX_EXPR(MINUS"-"
+            LITERAL(INT_NUMBER"1"))) _ LIFETIME_ARG(LIFETIME(LIFETIME_IDENT"'a")) _ TYPE_ARG(T:C) R_ANGLE">"))))
+            |3 expected COMMA
+            |5 expected COMMA
+            |9 expected COMMA
+            |13 expected COMMA
+            |18 expected COMMA
+            |22 expected COMMA
+            |27 expected COMMA
+            |32 expected COMMA
+            |37 expected COMMA
+            |43 expected COMMA
+            |46 expected COMMA
+            |49 expected COMMA
+        «A(_ ::B _ (C) ! <D>::E *const F [G] &H fn() unsafe fn() extern fn() for<'a> I impl J dyn K self super crate Self)»
+            PATH_TYPE(PATH(PATH_SEGMENT(NAME_REF(IDENT"A") PARENTHESIZED_ARG_LIST(L_PAREN"("
+            TYPE_ARG(INFER_TYPE(UNDERSCORE"_")) _ TYPE_ARG(PATH_TYPE(PATH(PATH_SEGMENT(COLON2"::" NAME_REF(IDENT"B")))))
+            _ TYPE_ARG(INFER_TYPE(UNDERSCORE"_")) _ TYPE_ARG(PAREN_TYPE(L_PAREN"(" T:C R_PAREN")")) _
+            TYPE_ARG(NEVER_TYPE(BANG"!")) _ TYPE_ARG(PATH_TYPE(PATH(PATH(PATH_SEGMENT(TYPE_ANCHOR(L_ANGLE"<" T:D
+            R_ANGLE">"))) COLON2"::" PATH_SEGMENT(NAME_REF(IDENT"E"))))) _ TYPE_ARG(PTR_TYPE(STAR"*" CONST_KW"const" _
+            T:F)) _ TYPE_ARG(SLICE_TYPE(L_BRACK"[" T:G R_BRACK"]")) _ TYPE_ARG(REF_TYPE(AMP"&" T:H)) _
+            TYPE_ARG(FN_PTR_TYPE(FN_KW"fn" PARAM_LIST(L_PAREN"(" R_PAREN")"))) _ TYPE_ARG(FN_PTR_TYPE(UNSAFE_KW"unsafe"
+            _ FN_KW"fn" PARAM_LIST(L_PAREN"(" R_PAREN")"))) _ TYPE_ARG(FN_PTR_TYPE(ABI(EXTERN_KW"extern") _ FN_KW"fn"
+            PARAM_LIST(L_PAREN"(" R_PAREN")"))) _ TYPE_ARG(FOR_TYPE(FOR_BINDER(FOR_KW"for" GENERIC_PARAM_LIST(L_ANGLE"<"
+            LIFETIME_PARAM(LIFETIME(LIFETIME_IDENT"'a")) R_ANGLE">")) _ T:I)) _ TYPE_ARG(IMPL_TRAIT_TYPE(IMPL_KW"impl" _
+            TYPE_BOUND_LIST(TYPE_BOUND(T:J)))) _ TYPE_ARG(DYN_TRAIT_TYPE(DYN_KW"dyn" _
+            TYPE_BOUND_LIST(TYPE_BOUND(T:K)))) _ TYPE_ARG(PATH_TYPE(PATH(PATH_SEGMENT(NAME_REF(SELF_KW"self"))))) _
+            TYPE_ARG(PATH_TYPE(PATH(PATH_SEGMENT(NAME_REF(SUPER_KW"super"))))) _
+            TYPE_ARG(PATH_TYPE(PATH(PATH_SEGMENT(NAME_REF(CRATE_KW"crate"))))) _
+            TYPE_ARG(PATH_TYPE(PATH(PATH_SEGMENT(NAME_REF(SELF_TYPE_KW"Self"))))) R_PAREN")"))))
+            |3 expected COMMA
+            |7 expected COMMA
+            |9 expected COMMA
+            |13 expected COMMA
+            |15 expected COMMA
+            |22 expected COMMA
+            |31 expected COMMA
+            |35 expected COMMA
+            |38 expected COMMA
+            |43 expected COMMA
+            |55 expected COMMA
+            |67 expected COMMA
+            |77 expected COMMA
+            |84 expected COMMA
+            |90 expected COMMA
+            |95 expected COMMA
+            |101 expected COMMA
+            |107 expected COMMA
+        "#,
+    )
+}

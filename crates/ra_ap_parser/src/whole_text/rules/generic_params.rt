@@ -694,3 +694,36 @@ fn macro_calls_as_bounds(rt: HostRuntime) -> Result<(), Fail> {
         "#,
     )
 }
+
+#[test]
+fn parameters_without_a_comma(rt: HostRuntime) -> Result<(), Fail> {
+    types(
+        &rt,
+        rt.alloc(),
+        r##"
+        «for<A 'b const C: D #[e] F> G» FOR_TYPE(FOR_BINDER(FOR_KW"for" GENERIC_PARAM_LIST(L_ANGLE"<"
+            TYPE_PARAM(NAME(IDENT"A")) _ LIFETIME_PARAM(LIFETIME(LIFETIME_IDENT"'b")) _ CONST_PARAM(CONST_KW"const" _
+            NAME(IDENT"C") COLON":" _ T:D) _ TYPE_PARAM(ATTR(POUND"#" L_BRACK"[" PATH_META(P:e) R_BRACK"]") _
+            NAME(IDENT"F")) R_ANGLE">")) _ T:G)
+            |5 expected COMMA
+            |8 expected COMMA
+            |19 expected COMMA
+        "##,
+    )
+}
+
+#[test]
+fn what_is_captured_without_a_comma(rt: HostRuntime) -> Result<(), Fail> {
+    types(
+        &rt,
+        rt.alloc(),
+        r#"
+        «impl use<A 'b Self C>» IMPL_TRAIT_TYPE(IMPL_KW"impl" _ TYPE_BOUND_LIST(TYPE_BOUND(USE_KW"use"
+            USE_BOUND_GENERIC_ARGS(L_ANGLE"<" NAME_REF(IDENT"A") _ LIFETIME(LIFETIME_IDENT"'b") _
+            NAME_REF(SELF_TYPE_KW"Self") _ NAME_REF(IDENT"C") R_ANGLE">"))))
+            |10 expected COMMA
+            |13 expected COMMA
+            |18 expected COMMA
+        "#,
+    )
+}

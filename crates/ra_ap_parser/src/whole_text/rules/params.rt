@@ -235,3 +235,88 @@ fn patterns_that_are_no_parameters(rt: HostRuntime) -> Result<(), Fail> {
         "#,
     )
 }
+
+#[test]
+fn parameters_without_a_comma(rt: HostRuntime) -> Result<(), Fail> {
+    types(
+        &rt,
+        rt.alloc(),
+        r##"
+        «fn(_ 1 1.5 'c' b'c' "s" b"s" c"s" true false - . ref mut box const)» FN_PTR_TYPE(FN_KW"fn"
+            PARAM_LIST(L_PAREN"(" PARAM(INFER_TYPE(UNDERSCORE"_")) _ PARAM(ERROR(INT_NUMBER"1")) _
+            PARAM(ERROR(FLOAT_NUMBER"1.5")) _ PARAM(ERROR(CHAR"'c'")) _ PARAM(ERROR(BYTE"b'c'")) _
+            PARAM(ERROR(STRING""s"")) _ PARAM(ERROR(BYTE_STRING"b"s"")) _ PARAM(ERROR(C_STRING"c"s"")) _
+            PARAM(ERROR(TRUE_KW"true")) _ PARAM(ERROR(FALSE_KW"false")) _ PARAM(ERROR(MINUS"-")) _ PARAM(ERROR(DOT"."))
+            _ PARAM(ERROR(REF_KW"ref")) _ PARAM(ERROR(MUT_KW"mut")) _ PARAM(ERROR(BOX_KW"box")) _
+            PARAM(ERROR(CONST_KW"const")) R_PAREN")"))
+            |4 expected `,`
+            |5 expected type
+            |6 expected `,`
+            |7 expected type
+            |10 expected `,`
+            |11 expected type
+            |14 expected `,`
+            |15 expected type
+            |19 expected `,`
+            |20 expected type
+            |23 expected `,`
+            |24 expected type
+            |28 expected `,`
+            |29 expected type
+            |33 expected `,`
+            |34 expected type
+            |38 expected `,`
+            |39 expected type
+            |44 expected `,`
+            |45 expected type
+            |46 expected `,`
+            |47 expected type
+            |48 expected `,`
+            |49 expected type
+            |52 expected `,`
+            |53 expected type
+            |56 expected `,`
+            |57 expected type
+            |60 expected `,`
+            |61 expected type
+        «fn(_ ::B _ (C) ! <D>::E *const F [G] &H fn() unsafe fn() extern fn() for<'a> I impl J dyn K self super crate Self 'a + L #[m] N)»
+            FN_PTR_TYPE(FN_KW"fn" PARAM_LIST(L_PAREN"(" PARAM(INFER_TYPE(UNDERSCORE"_")) _
+            PARAM(PATH_TYPE(PATH(PATH_SEGMENT(COLON2"::" NAME_REF(IDENT"B"))))) _ PARAM(INFER_TYPE(UNDERSCORE"_")) _
+            PARAM(PAREN_TYPE(L_PAREN"(" T:C R_PAREN")")) _ PARAM(NEVER_TYPE(BANG"!")) _
+            PARAM(PATH_TYPE(PATH(PATH(PATH_SEGMENT(TYPE_ANCHOR(L_ANGLE"<" T:D R_ANGLE">"))) COLON2"::"
+            PATH_SEGMENT(NAME_REF(IDENT"E"))))) _ PARAM(PTR_TYPE(STAR"*" CONST_KW"const" _ T:F)) _
+            PARAM(SLICE_TYPE(L_BRACK"[" T:G R_BRACK"]")) _ PARAM(REF_TYPE(AMP"&" T:H)) _ PARAM(FN_PTR_TYPE(FN_KW"fn"
+            PARAM_LIST(L_PAREN"(" R_PAREN")"))) _ PARAM(FN_PTR_TYPE(UNSAFE_KW"unsafe" _ FN_KW"fn" PARAM_LIST(L_PAREN"("
+            R_PAREN")"))) _ PARAM(FN_PTR_TYPE(ABI(EXTERN_KW"extern") _ FN_KW"fn" PARAM_LIST(L_PAREN"(" R_PAREN")"))) _
+            PARAM(FOR_TYPE(FOR_BINDER(FOR_KW"for" GENERIC_PARAM_LIST(L_ANGLE"<"
+            LIFETIME_PARAM(LIFETIME(LIFETIME_IDENT"'a")) R_ANGLE">")) _ T:I)) _ PARAM(IMPL_TRAIT_TYPE(IMPL_KW"impl" _
+            TYPE_BOUND_LIST(TYPE_BOUND(T:J)))) _ PARAM(DYN_TRAIT_TYPE(DYN_KW"dyn" _ TYPE_BOUND_LIST(TYPE_BOUND(T:K)))) _
+            PARAM(PATH_TYPE(PATH(PATH_SEGMENT(NAME_REF(SELF_KW"self"))))) _
+            PARAM(PATH_TYPE(PATH(PATH_SEGMENT(NAME_REF(SUPER_KW"super"))))) _
+            PARAM(PATH_TYPE(PATH(PATH_SEGMENT(NAME_REF(CRATE_KW"crate"))))) _
+            PARAM(PATH_TYPE(PATH(PATH_SEGMENT(NAME_REF(SELF_TYPE_KW"Self"))))) _
+            PARAM(DYN_TRAIT_TYPE(TYPE_BOUND_LIST(TYPE_BOUND(LIFETIME(LIFETIME_IDENT"'a")) _ PLUS"+" _ TYPE_BOUND(T:L))))
+            _ PARAM(ATTR(POUND"#" L_BRACK"[" PATH_META(P:m) R_BRACK"]") _ T:N) R_PAREN")"))
+            |4 expected `,`
+            |8 expected `,`
+            |10 expected `,`
+            |14 expected `,`
+            |16 expected `,`
+            |23 expected `,`
+            |32 expected `,`
+            |36 expected `,`
+            |39 expected `,`
+            |44 expected `,`
+            |56 expected `,`
+            |68 expected `,`
+            |78 expected `,`
+            |85 expected `,`
+            |91 expected `,`
+            |96 expected `,`
+            |102 expected `,`
+            |108 expected `,`
+            |113 expected `,`
+            |120 expected `,`
+        "##,
+    )
+}

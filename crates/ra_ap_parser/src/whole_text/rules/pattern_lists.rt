@@ -18,8 +18,6 @@ fn paths_and_what_they_hold(rt: HostRuntime) -> Result<(), Fail> {
         «A(| b)» TUPLE_STRUCT_PAT(P:A L_PAREN"(" OR_PAT(PIPE"|" _ IDENT_PAT(NAME(IDENT"b"))) R_PAREN")")
         «A(b | c, d)» TUPLE_STRUCT_PAT(P:A L_PAREN"(" OR_PAT(IDENT_PAT(NAME(IDENT"b")) _ PIPE"|" _
             IDENT_PAT(NAME(IDENT"c"))) COMMA"," _ IDENT_PAT(NAME(IDENT"d")) R_PAREN")")
-        «super::A» PATH_PAT(PATH(PATH(PATH_SEGMENT(NAME_REF(SUPER_KW"super"))) COLON2"::"
-            PATH_SEGMENT(NAME_REF(IDENT"A"))))
         «A(B(c))» TUPLE_STRUCT_PAT(P:A L_PAREN"(" TUPLE_STRUCT_PAT(P:B L_PAREN"(" IDENT_PAT(NAME(IDENT"c")) R_PAREN")")
             R_PAREN")")
         «A(b, .., c)» TUPLE_STRUCT_PAT(P:A L_PAREN"(" IDENT_PAT(NAME(IDENT"b")) COMMA"," _ REST_PAT(DOT2"..") COMMA"," _
@@ -110,6 +108,9 @@ fn fields(rt: HostRuntime) -> Result<(), Fail> {
             COLON":" _ IDENT_PAT(NAME(IDENT"a"))) _ R_CURLY"}"))
         «A { b: | c | d }» RECORD_PAT(P:A _ RECORD_PAT_FIELD_LIST(L_CURLY"{" _ RECORD_PAT_FIELD(NAME_REF(IDENT"b")
             COLON":" _ OR_PAT(PIPE"|" _ IDENT_PAT(NAME(IDENT"c")) _ PIPE"|" _ IDENT_PAT(NAME(IDENT"d")))) _ R_CURLY"}"))
+        «A { mut b, ref mut c }» RECORD_PAT(P:A _ RECORD_PAT_FIELD_LIST(L_CURLY"{" _
+            RECORD_PAT_FIELD(IDENT_PAT(MUT_KW"mut" _ NAME(IDENT"b"))) COMMA"," _ RECORD_PAT_FIELD(IDENT_PAT(REF_KW"ref"
+            _ MUT_KW"mut" _ NAME(IDENT"c"))) _ R_CURLY"}"))
         «A { box b }» RECORD_PAT(P:A _ RECORD_PAT_FIELD_LIST(L_CURLY"{" _ RECORD_PAT_FIELD(BOX_PAT(BOX_KW"box" _
             IDENT_PAT(NAME(IDENT"b")))) _ R_CURLY"}"))
         «A { .. }» RECORD_PAT(P:A _ RECORD_PAT_FIELD_LIST(L_CURLY"{" _ REST_PAT(DOT2"..") _ R_CURLY"}"))
@@ -264,7 +265,6 @@ fn tuples(rt: HostRuntime) -> Result<(), Fail> {
         «(a..)» PAREN_PAT(L_PAREN"(" RANGE_PAT(IDENT_PAT(NAME(IDENT"a")) DOT2"..") R_PAREN")")
         «(_)» PAREN_PAT(L_PAREN"(" WILDCARD_PAT(UNDERSCORE"_") R_PAREN")")
         «(1)» PAREN_PAT(L_PAREN"(" LITERAL_PAT(LITERAL(INT_NUMBER"1")) R_PAREN")")
-        «(..=1,)» TUPLE_PAT(L_PAREN"(" RANGE_PAT(DOT2EQ"..=" LITERAL_PAT(LITERAL(INT_NUMBER"1"))) COMMA"," R_PAREN")")
         «(..1 | ..)» PAREN_PAT(L_PAREN"(" OR_PAT(RANGE_PAT(DOT2".." LITERAL_PAT(LITERAL(INT_NUMBER"1"))) _ PIPE"|" _
             REST_PAT(DOT2"..")) R_PAREN")")
         "#,
@@ -376,6 +376,87 @@ fn slices_that_go_wrong(rt: HostRuntime) -> Result<(), Fail> {
         «[}]» ERROR(SLICE_PAT(L_BRACK"[") R_CURLY"}" R_BRACK"]")
             |1 expected pattern
             |1 expected R_BRACK
+        "#,
+    )
+}
+
+#[test]
+fn lists_without_a_comma(rt: HostRuntime) -> Result<(), Fail> {
+    patterns(
+        &rt,
+        rt.alloc(),
+        r#"
+        «[a 1 1.5 'c' b'c' "s" b"s" c"s" true false -1 _ (b) _ ::C [d] &e !f ref g mut h box i self super crate Self <J>::K ..]»
+            SLICE_PAT(L_BRACK"[" IDENT_PAT(NAME(IDENT"a")) _ LITERAL_PAT(LITERAL(INT_NUMBER"1")) _
+            LITERAL_PAT(LITERAL(FLOAT_NUMBER"1.5")) _ LITERAL_PAT(LITERAL(CHAR"'c'")) _ LITERAL_PAT(LITERAL(BYTE"b'c'"))
+            _ LITERAL_PAT(LITERAL(STRING""s"")) _ LITERAL_PAT(LITERAL(BYTE_STRING"b"s"")) _
+            LITERAL_PAT(LITERAL(C_STRING"c"s"")) _ LITERAL_PAT(LITERAL(TRUE_KW"true")) _
+            LITERAL_PAT(LITERAL(FALSE_KW"false")) _ LITERAL_PAT(MINUS"-" LITERAL(INT_NUMBER"1")) _
+            WILDCARD_PAT(UNDERSCORE"_") _ PAREN_PAT(L_PAREN"(" IDENT_PAT(NAME(IDENT"b")) R_PAREN")") _
+            WILDCARD_PAT(UNDERSCORE"_") _ PATH_PAT(PATH(PATH_SEGMENT(COLON2"::" NAME_REF(IDENT"C")))) _
+            SLICE_PAT(L_BRACK"[" IDENT_PAT(NAME(IDENT"d")) R_BRACK"]") _ REF_PAT(AMP"&" MACRO_PAT(MACRO_CALL(P:e _
+            BANG"!"))) IDENT_PAT(NAME(IDENT"f")) _ IDENT_PAT(REF_KW"ref" _ NAME(IDENT"g")) _ IDENT_PAT(MUT_KW"mut" _
+            NAME(IDENT"h")) _ BOX_PAT(BOX_KW"box" _ IDENT_PAT(NAME(IDENT"i"))) _
+            PATH_PAT(PATH(PATH_SEGMENT(NAME_REF(SELF_KW"self")))) _
+            PATH_PAT(PATH(PATH_SEGMENT(NAME_REF(SUPER_KW"super")))) _
+            PATH_PAT(PATH(PATH_SEGMENT(NAME_REF(CRATE_KW"crate")))) _
+            PATH_PAT(PATH(PATH_SEGMENT(NAME_REF(SELF_TYPE_KW"Self")))) _
+            RANGE_PAT(PATH_PAT(PATH(PATH(PATH_SEGMENT(TYPE_ANCHOR(L_ANGLE"<" T:J R_ANGLE">"))) COLON2"::"
+            PATH_SEGMENT(NAME_REF(IDENT"K")))) _ DOT2"..") R_BRACK"]")
+            |2 expected COMMA, got INT_NUMBER
+            |4 expected COMMA, got FLOAT_NUMBER
+            |8 expected COMMA, got CHAR
+            |12 expected COMMA, got BYTE
+            |17 expected COMMA, got STRING
+            |21 expected COMMA, got BYTE_STRING
+            |26 expected COMMA, got C_STRING
+            |31 expected COMMA, got TRUE_KW
+            |36 expected COMMA, got FALSE_KW
+            |42 expected COMMA, got MINUS
+            |45 expected COMMA, got UNDERSCORE
+            |47 expected COMMA, got L_PAREN
+            |51 expected COMMA, got UNDERSCORE
+            |53 expected COMMA, got COLON
+            |57 expected COMMA, got L_BRACK
+            |61 expected COMMA, got AMP
+            |66 expected `{`, `[`, `(`
+            |66 expected COMMA, got IDENT
+            |67 expected COMMA, got REF_KW
+            |73 expected COMMA, got MUT_KW
+            |79 expected COMMA, got BOX_KW
+            |85 expected COMMA, got SELF_KW
+            |90 expected COMMA, got SUPER_KW
+            |96 expected COMMA, got CRATE_KW
+            |102 expected COMMA, got SELF_TYPE_KW
+            |107 expected COMMA, got L_ANGLE
+        "#,
+    )
+}
+
+#[test]
+fn tuples_of_all_patterns(rt: HostRuntime) -> Result<(), Fail> {
+    patterns(
+        &rt,
+        rt.alloc(),
+        r#"
+        «(1, 1.5, 'c', b'c', "s", b"s", c"s", true, false, -1, _, (b), ::C, [d], &e, !f, ref g, mut h, box i, self, super, crate, Self, <J>::K, .., | l)»
+            TUPLE_PAT(L_PAREN"(" LITERAL_PAT(LITERAL(INT_NUMBER"1")) COMMA"," _ LITERAL_PAT(LITERAL(FLOAT_NUMBER"1.5"))
+            COMMA"," _ LITERAL_PAT(LITERAL(CHAR"'c'")) COMMA"," _ LITERAL_PAT(LITERAL(BYTE"b'c'")) COMMA"," _
+            LITERAL_PAT(LITERAL(STRING""s"")) COMMA"," _ LITERAL_PAT(LITERAL(BYTE_STRING"b"s"")) COMMA"," _
+            LITERAL_PAT(LITERAL(C_STRING"c"s"")) COMMA"," _ LITERAL_PAT(LITERAL(TRUE_KW"true")) COMMA"," _
+            LITERAL_PAT(LITERAL(FALSE_KW"false")) COMMA"," _ LITERAL_PAT(MINUS"-" LITERAL(INT_NUMBER"1")) COMMA"," _
+            WILDCARD_PAT(UNDERSCORE"_") COMMA"," _ PAREN_PAT(L_PAREN"(" IDENT_PAT(NAME(IDENT"b")) R_PAREN")") COMMA"," _
+            PATH_PAT(PATH(PATH_SEGMENT(COLON2"::" NAME_REF(IDENT"C")))) COMMA"," _ SLICE_PAT(L_BRACK"["
+            IDENT_PAT(NAME(IDENT"d")) R_BRACK"]") COMMA"," _ REF_PAT(AMP"&" IDENT_PAT(NAME(IDENT"e"))) COMMA"," _
+            NOT_NULL(BANG"!" IDENT_PAT(NAME(IDENT"f"))) COMMA"," _ IDENT_PAT(REF_KW"ref" _ NAME(IDENT"g")) COMMA"," _
+            IDENT_PAT(MUT_KW"mut" _ NAME(IDENT"h")) COMMA"," _ BOX_PAT(BOX_KW"box" _ IDENT_PAT(NAME(IDENT"i"))) COMMA","
+            _ PATH_PAT(PATH(PATH_SEGMENT(NAME_REF(SELF_KW"self")))) COMMA"," _
+            PATH_PAT(PATH(PATH_SEGMENT(NAME_REF(SUPER_KW"super")))) COMMA"," _
+            PATH_PAT(PATH(PATH_SEGMENT(NAME_REF(CRATE_KW"crate")))) COMMA"," _
+            PATH_PAT(PATH(PATH_SEGMENT(NAME_REF(SELF_TYPE_KW"Self")))) COMMA"," _
+            PATH_PAT(PATH(PATH(PATH_SEGMENT(TYPE_ANCHOR(L_ANGLE"<" T:J R_ANGLE">"))) COLON2"::"
+            PATH_SEGMENT(NAME_REF(IDENT"K")))) COMMA"," _ REST_PAT(DOT2"..") COMMA"," _ OR_PAT(PIPE"|" _
+            IDENT_PAT(NAME(IDENT"l"))) R_PAREN")")
         "#,
     )
 }

@@ -287,6 +287,8 @@ fn names_that_go_wrong(rt: HostRuntime) -> Result<(), Fail> {
             |4 expected COMMA
             |4 expected a pattern
             |4 expected R_PAREN
+        «ref &a» ERROR(IDENT_PAT(REF_KW"ref") _ AMP"&" IDENT"a")
+            |3 expected a name
         «mut Self» IDENT_PAT(MUT_KW"mut" _ ERROR(SELF_TYPE_KW"Self"))
             |4 expected a name
         «a @@ b» ERROR(IDENT_PAT(NAME(IDENT"a") _ AT"@" ERROR(AT"@")) _ IDENT"b")
@@ -472,6 +474,64 @@ fn wildcards(rt: HostRuntime) -> Result<(), Fail> {
         «_ | _» OR_PAT(WILDCARD_PAT(UNDERSCORE"_") _ PIPE"|" _ WILDCARD_PAT(UNDERSCORE"_"))
         «(_, _)» TUPLE_PAT(L_PAREN"(" WILDCARD_PAT(UNDERSCORE"_") COMMA"," _ WILDCARD_PAT(UNDERSCORE"_") R_PAREN")")
         «_..» RANGE_PAT(WILDCARD_PAT(UNDERSCORE"_") DOT2"..")
+        "#,
+    )
+}
+
+#[test]
+fn what_ends_the_search_for_a_pattern(rt: HostRuntime) -> Result<(), Fail> {
+    patterns(
+        &rt,
+        rt.alloc(),
+        r#"
+        «&let» ERROR(REF_PAT(AMP"&") LET_KW"let")
+            |1 expected pattern
+        «&if» ERROR(REF_PAT(AMP"&") IF_KW"if")
+            |1 expected pattern
+        «&while» ERROR(REF_PAT(AMP"&") WHILE_KW"while")
+            |1 expected pattern
+        «&loop» ERROR(REF_PAT(AMP"&") LOOP_KW"loop")
+            |1 expected pattern
+        «&match» ERROR(REF_PAT(AMP"&") MATCH_KW"match")
+            |1 expected pattern
+        «&]» ERROR(REF_PAT(AMP"&") R_BRACK"]")
+            |1 expected pattern
+        «&}» ERROR(REF_PAT(AMP"&") R_CURLY"}")
+            |1 expected pattern
+        «&,» ERROR(REF_PAT(AMP"&") COMMA",")
+            |1 expected pattern
+        «&=» ERROR(REF_PAT(AMP"&") EQ"=")
+            |1 expected pattern
+        «(& &)» PAREN_PAT(L_PAREN"(" REF_PAT(AMP"&" _ REF_PAT(AMP"&")) R_PAREN")")
+            |4 expected pattern
+        "#,
+    )
+}
+
+#[test]
+fn ends_of_ranges(rt: HostRuntime) -> Result<(), Fail> {
+    patterns(
+        &rt,
+        rt.alloc(),
+        r#"
+        «(..1, ..1.5, ..'c', ..b'c', .."s", ..b"s", ..c"s", ..true, ..false, ..-1, ..a, ..self, ..super, ..crate, ..Self, ..::A, ..<B>::C, ..const)»
+            TUPLE_PAT(L_PAREN"(" RANGE_PAT(DOT2".." LITERAL_PAT(LITERAL(INT_NUMBER"1"))) COMMA"," _ RANGE_PAT(DOT2".."
+            LITERAL_PAT(LITERAL(FLOAT_NUMBER"1.5"))) COMMA"," _ RANGE_PAT(DOT2".." LITERAL_PAT(LITERAL(CHAR"'c'")))
+            COMMA"," _ RANGE_PAT(DOT2".." LITERAL_PAT(LITERAL(BYTE"b'c'"))) COMMA"," _ RANGE_PAT(DOT2".."
+            LITERAL_PAT(LITERAL(STRING""s""))) COMMA"," _ RANGE_PAT(DOT2".." LITERAL_PAT(LITERAL(BYTE_STRING"b"s"")))
+            COMMA"," _ RANGE_PAT(DOT2".." LITERAL_PAT(LITERAL(C_STRING"c"s""))) COMMA"," _ RANGE_PAT(DOT2".."
+            LITERAL_PAT(LITERAL(TRUE_KW"true"))) COMMA"," _ RANGE_PAT(DOT2".." LITERAL_PAT(LITERAL(FALSE_KW"false")))
+            COMMA"," _ RANGE_PAT(DOT2".." LITERAL_PAT(MINUS"-" LITERAL(INT_NUMBER"1"))) COMMA"," _ RANGE_PAT(DOT2".."
+            IDENT_PAT(NAME(IDENT"a"))) COMMA"," _ RANGE_PAT(DOT2".."
+            PATH_PAT(PATH(PATH_SEGMENT(NAME_REF(SELF_KW"self"))))) COMMA"," _ RANGE_PAT(DOT2".."
+            PATH_PAT(PATH(PATH_SEGMENT(NAME_REF(SUPER_KW"super"))))) COMMA"," _ RANGE_PAT(DOT2".."
+            PATH_PAT(PATH(PATH_SEGMENT(NAME_REF(CRATE_KW"crate"))))) COMMA"," _ RANGE_PAT(DOT2".."
+            PATH_PAT(PATH(PATH_SEGMENT(NAME_REF(SELF_TYPE_KW"Self"))))) COMMA"," _ RANGE_PAT(DOT2".."
+            PATH_PAT(PATH(PATH_SEGMENT(COLON2"::" NAME_REF(IDENT"A"))))) COMMA"," _ RANGE_PAT(DOT2".."
+            PATH_PAT(PATH(PATH(PATH_SEGMENT(TYPE_ANCHOR(L_ANGLE"<" T:B R_ANGLE">"))) COLON2"::"
+            PATH_SEGMENT(NAME_REF(IDENT"C"))))) COMMA"," _ RANGE_PAT(DOT2".." CONST_BLOCK_PAT(CONST_KW"const"))
+            R_PAREN")")
+            |137 expected a block
         "#,
     )
 }

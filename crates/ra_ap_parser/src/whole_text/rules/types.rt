@@ -206,6 +206,8 @@ fn references_that_go_wrong(rt: HostRuntime) -> Result<(), Fail> {
             |5 expected type
         «&'a 'b A» ERROR(REF_TYPE(AMP"&" LIFETIME(LIFETIME_IDENT"'a") _ ERROR(LIFETIME_IDENT"'b")) _ IDENT"A")
             |4 expected type
+        «&)» ERROR(REF_TYPE(AMP"&") R_PAREN")")
+            |1 expected type
         «&const A» ERROR(REF_TYPE(AMP"&" ERROR(CONST_KW"const")) _ IDENT"A")
             |1 expected type
         "#,
@@ -523,6 +525,7 @@ fn types_with_a_pattern_that_go_wrong(rt: HostRuntime) -> Result<(), Fail> {
             |8 unknown name after `builtin#`
         «builtin#» ERROR(BUILTIN_KW"builtin" POUND"#")
             |8 unknown name after `builtin#`
+        «builtin» PATH_TYPE(PATH(PATH_SEGMENT(NAME_REF(IDENT"builtin"))))
         «(builtin#x, A)» ERROR(PAREN_TYPE(L_PAREN"(" ERROR(BUILTIN_KW"builtin" POUND"#")) IDENT"x" COMMA"," _ IDENT"A"
             R_PAREN")")
             |9 unknown name after `builtin#`
@@ -554,6 +557,10 @@ fn no_type(rt: HostRuntime) -> Result<(), Fail> {
             |1 expected R_PAREN
         «&{» ERROR(REF_TYPE(AMP"&") L_CURLY"{")
             |1 expected type, found `{`
+        «&}» ERROR(REF_TYPE(AMP"&") R_CURLY"}")
+            |1 expected type
+        «&pub» ERROR(REF_TYPE(AMP"&") PUB_KW"pub")
+            |1 expected type
         «[>]» ERROR(SLICE_TYPE(L_BRACK"[") R_ANGLE">" R_BRACK"]")
             |1 expected type
             |1 expected `;` or `]`
@@ -640,6 +647,7 @@ fn the_weak_dyn(rt: HostRuntime) -> Result<(), Fail> {
         Edition::Edition2015,
         r#"
         «dyn T» DYN_TRAIT_TYPE(DYN_KW"dyn" _ TYPE_BOUND_LIST(TYPE_BOUND(T:T)))
+        «dyn Self» ERROR(DYN_TRAIT_TYPE(DYN_KW"dyn" _ TYPE_BOUND_LIST()) SELF_TYPE_KW"Self")
         «A<dyn B>» PATH_TYPE(PATH(PATH_SEGMENT(NAME_REF(IDENT"A") GENERIC_ARG_LIST(L_ANGLE"<"
             TYPE_ARG(DYN_TRAIT_TYPE(DYN_KW"dyn" _ TYPE_BOUND_LIST(TYPE_BOUND(T:B)))) R_ANGLE">"))))
         «fn(dyn A) -> dyn B» FN_PTR_TYPE(FN_KW"fn" PARAM_LIST(L_PAREN"(" PARAM(DYN_TRAIT_TYPE(DYN_KW"dyn" _
@@ -672,6 +680,47 @@ fn the_strict_dyn(rt: HostRuntime) -> Result<(), Fail> {
         Edition::Edition2018,
         r#"
         «dyn async T» DYN_TRAIT_TYPE(DYN_KW"dyn" _ TYPE_BOUND_LIST(TYPE_BOUND(ASYNC_KW"async" _ T:T)))
+        "#,
+    )
+}
+
+#[test]
+fn what_ends_the_search_for_a_type(rt: HostRuntime) -> Result<(), Fail> {
+    types(
+        &rt,
+        rt.alloc(),
+        r#"
+        «&>» ERROR(REF_TYPE(AMP"&") R_ANGLE">")
+            |1 expected type
+        «&,» ERROR(REF_TYPE(AMP"&") COMMA",")
+            |1 expected type
+        «&]» ERROR(REF_TYPE(AMP"&") R_BRACK"]")
+            |1 expected type
+        "#,
+    )
+}
+
+#[test]
+fn what_begins_a_bound_of_the_weak_dyn(rt: HostRuntime) -> Result<(), Fail> {
+    types_in(
+        &rt,
+        rt.alloc(),
+        Edition::Edition2015,
+        r#"
+        «(dyn A, dyn self::A, dyn super::A, dyn crate::A, dyn 'a + A, dyn ?A, dyn for<'a> A, dyn (A))»
+            TUPLE_TYPE(L_PAREN"(" DYN_TRAIT_TYPE(DYN_KW"dyn" _ TYPE_BOUND_LIST(TYPE_BOUND(T:A))) COMMA"," _
+            DYN_TRAIT_TYPE(DYN_KW"dyn" _
+            TYPE_BOUND_LIST(TYPE_BOUND(PATH_TYPE(PATH(PATH(PATH_SEGMENT(NAME_REF(SELF_KW"self"))) COLON2"::"
+            PATH_SEGMENT(NAME_REF(IDENT"A"))))))) COMMA"," _ DYN_TRAIT_TYPE(DYN_KW"dyn" _
+            TYPE_BOUND_LIST(TYPE_BOUND(PATH_TYPE(PATH(PATH(PATH_SEGMENT(NAME_REF(SUPER_KW"super"))) COLON2"::"
+            PATH_SEGMENT(NAME_REF(IDENT"A"))))))) COMMA"," _ DYN_TRAIT_TYPE(DYN_KW"dyn" _
+            TYPE_BOUND_LIST(TYPE_BOUND(PATH_TYPE(PATH(PATH(PATH_SEGMENT(NAME_REF(CRATE_KW"crate"))) COLON2"::"
+            PATH_SEGMENT(NAME_REF(IDENT"A"))))))) COMMA"," _ DYN_TRAIT_TYPE(DYN_KW"dyn" _
+            TYPE_BOUND_LIST(TYPE_BOUND(LIFETIME(LIFETIME_IDENT"'a")) _ PLUS"+" _ TYPE_BOUND(T:A))) COMMA"," _
+            DYN_TRAIT_TYPE(DYN_KW"dyn" _ TYPE_BOUND_LIST(TYPE_BOUND(QUESTION"?" T:A))) COMMA"," _
+            DYN_TRAIT_TYPE(DYN_KW"dyn" _ TYPE_BOUND_LIST(TYPE_BOUND(FOR_BINDER(FOR_KW"for" GENERIC_PARAM_LIST(L_ANGLE"<"
+            LIFETIME_PARAM(LIFETIME(LIFETIME_IDENT"'a")) R_ANGLE">")) _ T:A))) COMMA"," _ DYN_TRAIT_TYPE(DYN_KW"dyn" _
+            TYPE_BOUND_LIST(TYPE_BOUND(L_PAREN"(" T:A R_PAREN")"))) R_PAREN")")
         "#,
     )
 }
