@@ -1,6 +1,6 @@
 -- Arguments of something generic.
 use Rattle.std.specs.Prelude.{ℕ, List, Bool, true, ◌&&◌, not, drop, codes}
-use Rattle.rap_base.specs.TokenKind.{LIFETIME_IDENT, PLUS, EQ, COLON, COLON2, BANG, NEQ}
+use Rattle.rap_base.specs.TokenKind.{LIFETIME_IDENT, PLUS, EQ, COLON, COLON2}
 use Rattle.rap_base.specs.NodeKind.{LIFETIME_ARG, TYPE_ARG, ASSOC_TYPE_ARG, PATH_SEGMENT, PATH, MACRO_CALL, MACRO_TYPE, PATH_TYPE}
 use Rattle.rap_events.specs.Record.{Record, next_kind}
 use Rattle.rap_events.specs.Composite.{is_at}
@@ -9,7 +9,7 @@ use Rattle.rap_grammar.specs.ConstArgs.{const_arg}
 use Rattle.rap_grammar.specs.First.{is_path_name, is_type_first, is_const_arg_first, starts_weak_dyn}
 use Rattle.rap_grammar.specs.GenericParams.{bounds}
 use Rattle.rap_grammar.specs.Grammar.{name_ref_mod_path, lifetime}
-use Rattle.rap_grammar.specs.Items.{macro_call_after_excl}
+use Rattle.rap_grammar.specs.Items.{macro_call_after_excl, starts_macro_call}
 use Rattle.rap_grammar.specs.Paths.{opt_path_type_args, type_path_for_qualifier}
 use Rattle.rap_grammar.specs.Phrase.{Phrase}
 use Rattle.rap_grammar.specs.Recovery.{is_generic_arg_recovery}
@@ -24,10 +24,6 @@ starts_lifetime_arg rs = next_is LIFETIME_IDENT rs && not (is_at PLUS (drop 1 rs
 -- a name that is no `dyn` of a type
 abbrev pub starts_named_arg : List Record → Bool
 starts_named_arg rs = is_path_name (next_kind rs) && not (starts_weak_dyn rs)
-
--- the `!` of a macro call
-abbrev pub starts_macro_call : List Record → Bool
-starts_macro_call rs = is_at BANG rs && not (is_at NEQ rs)
 
 -- the colon of bounds
 abbrev pub starts_bounds : List Record → Bool

@@ -1,8 +1,8 @@
 -- Lists of tokens in brackets, and macro calls.
-use Rattle.std.specs.Prelude.{ℕ, Bool, false, [], ◌∷◌, codes}
-use Rattle.rap_base.specs.TokenKind.{EOF, R_PAREN, R_BRACK, L_CURLY, R_CURLY, BANG}
+use Rattle.std.specs.Prelude.{ℕ, Bool, false, List, [], ◌∷◌, ◌&&◌, not, codes}
+use Rattle.rap_base.specs.TokenKind.{EOF, R_PAREN, R_BRACK, L_CURLY, R_CURLY, BANG, NEQ}
 use Rattle.rap_base.specs.NodeKind.{TOKEN_TREE}
-use Rattle.rap_events.specs.Record.{next_kind}
+use Rattle.rap_events.specs.Record.{Record, next_kind}
 use Rattle.rap_events.specs.Composite.{is_at}
 use Rattle.rap_events.specs.Fit.{partner}
 use Rattle.rap_grammar.specs.First.{one_of, is_bracket}
@@ -33,6 +33,10 @@ tokens_in ket =
 
 unfoldable pub bracketed_tokens : Script Phrase
 bracketed_tokens = look (λ rs. tokens_in (partner (next_kind rs)))
+
+-- the `!` of a macro call comes next, and no `!=`
+abbrev pub starts_macro_call : List Record → Bool
+starts_macro_call rs = is_at BANG rs && not (is_at NEQ rs)
 
 -- a macro call behind its path; with braces it reads like a block
 unfoldable pub macro_call_after_excl : Script Phrase

@@ -15,7 +15,7 @@ use Rattle.rap_grammar.specs.Paths.{expr_path}
 use Rattle.rap_grammar.specs.Phrase.{Phrase}
 use Rattle.rap_grammar.specs.Recovery.{is_pattern_recovery}
 use Rattle.rap_grammar.specs.Script.{Script, Outcome, nothing, something, block, again, give, look, test, token, bear, report, skip, start, precede, finish, abandon, after, loop}
-use Rattle.rap_grammar.specs.Words.{done, if_some, next_is, reads_as, eat, expect, recover, of_bool}
+use Rattle.rap_grammar.specs.Words.{done, if_some, next_is, reads_as, eat, expect, recover, of_bool, starts_builtin}
 
 -- a name that is bound
 unfoldable pub binding : Script Phrase
@@ -150,10 +150,6 @@ path_or_macro_pat =
     (test (next_is L_CURLY) (after record_pat_field_list (λ w. finish RECORD_PAT done))
     (test (next_is BANG) (after macro_call_after_excl (λ w. finish MACRO_CALL (precede (finish MACRO_PAT done))))
     (finish PATH_PAT done)))))
-
--- `builtin#` comes next
-abbrev pub starts_builtin : List Record → Bool
-starts_builtin rs = reads_as BUILTIN_KW rs && is_at POUND (drop 1 rs)
 
 -- `builtin#` with a name behind it, which is not taken where it is unknown
 unfoldable pub builtin_pat : Script Phrase

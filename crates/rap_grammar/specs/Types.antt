@@ -1,6 +1,6 @@
 -- Types.
 use Rattle.std.specs.Prelude.{ℕ, Bool, true, false, ◌==◌, ◌&&◌, ◌||◌, not, if◌then◌else◌, List, [], ◌∷◌, drop, codes}
-use Rattle.rap_base.specs.TokenKind.{EOF, ERROR, L_PAREN, R_PAREN, L_BRACK, R_BRACK, L_ANGLE, L_CURLY, COMMA, SEMICOLON, PLUS, STAR, AMP, BANG, NEQ, UNDERSCORE, POUND, LIFETIME_IDENT, MUT_KW, CONST_KW, FN_KW, UNSAFE_KW, EXTERN_KW, FOR_KW, IMPL_KW, DYN_KW, BUILTIN_KW, PATTERN_TYPE_KW, IS_KW}
+use Rattle.rap_base.specs.TokenKind.{EOF, ERROR, L_PAREN, R_PAREN, L_BRACK, R_BRACK, L_ANGLE, L_CURLY, COMMA, SEMICOLON, PLUS, STAR, AMP, BANG, UNDERSCORE, POUND, LIFETIME_IDENT, MUT_KW, CONST_KW, FN_KW, UNSAFE_KW, EXTERN_KW, FOR_KW, IMPL_KW, DYN_KW, BUILTIN_KW, PATTERN_TYPE_KW, IS_KW}
 use Rattle.rap_base.specs.NodeKind.{PAREN_TYPE, TUPLE_TYPE, NEVER_TYPE, PTR_TYPE, SLICE_TYPE, ARRAY_TYPE, CONST_ARG, REF_TYPE, INFER_TYPE, FN_PTR_TYPE, FOR_TYPE, IMPL_TRAIT_TYPE, DYN_TRAIT_TYPE, TYPE_BOUND, MACRO_CALL, MACRO_TYPE, PATH_TYPE, PATTERN_TYPE}
 use Rattle.rap_events.specs.Record.{Record, next_kind}
 use Rattle.rap_events.specs.Composite.{is_at}
@@ -9,14 +9,14 @@ use Rattle.rap_grammar.specs.Called.{type_, type_no_bounds, pattern}
 use Rattle.rap_grammar.specs.First.{one_of, is_fn_ptr_first, starts_weak_dyn, starts_use_path, starts_path}
 use Rattle.rap_grammar.specs.GenericParams.{bounds_without_colon, bounds_without_colon_m}
 use Rattle.rap_grammar.specs.Grammar.{lifetime, abi, opt_ret_type}
-use Rattle.rap_grammar.specs.Items.{macro_call_after_excl}
+use Rattle.rap_grammar.specs.Items.{macro_call_after_excl, starts_macro_call}
 use Rattle.rap_grammar.specs.Params.{param_list_fn_ptr}
 use Rattle.rap_grammar.specs.Paths.{type_path}
 use Rattle.rap_grammar.specs.Phrase.{Phrase}
 use Rattle.rap_grammar.specs.Recovery.{is_type_recovery}
 use Rattle.rap_grammar.specs.Script.{Script, Outcome, nothing, something, block, again, give, test, token, any, bear, report, start, precede, finish, abandon, after, loop}
 use Rattle.rap_grammar.specs.TypeParts.{for_binder, path_type}
-use Rattle.rap_grammar.specs.Words.{done, next_is, reads_as, eat, expect, recover, of_bool}
+use Rattle.rap_grammar.specs.Words.{done, next_is, reads_as, eat, expect, recover, of_bool, starts_builtin}
 
 abbrev pub types_turn : Bool → Bool → Script Phrase
 types_turn seen b =
@@ -135,10 +135,6 @@ pattern_type =
     (bear PATTERN_TYPE_KW (after pattern_type_parts (λ v. finish PATTERN_TYPE done)))
     (report (codes "unknown name after `builtin#`") (finish ERROR done)))))
 
--- the `!` of a macro call comes next, and no `!=`
-abbrev pub starts_macro_call : List Record → Bool
-starts_macro_call rs = is_at BANG rs && not (is_at NEQ rs)
-
 -- a path as a type, or a macro call
 unfoldable pub path_or_macro : Bool → Script Phrase
 path_or_macro allow_bounds =
@@ -146,10 +142,6 @@ path_or_macro allow_bounds =
     test starts_macro_call
     (after macro_call_after_excl (λ w. finish MACRO_CALL (finish MACRO_TYPE done)))
     (abandon (finish PATH_TYPE (bounds_if allow_bounds PATH_TYPE))))))
-
--- `builtin#` comes next
-abbrev pub starts_builtin : List Record → Bool
-starts_builtin rs = reads_as BUILTIN_KW rs && is_at POUND (drop 1 rs)
 
 unfoldable pub path_or_macro_type : Bool → Script Phrase
 path_or_macro_type allow_bounds =

@@ -1,6 +1,6 @@
 -- What scripts say often.
-use Rattle.std.specs.Prelude.{ℕ, Bool, true, false, ◌==◌, ◌&&◌, ◌||◌, List, Option, Some, None}
-use Rattle.rap_base.specs.TokenKind.{L_CURLY, R_CURLY}
+use Rattle.std.specs.Prelude.{ℕ, Bool, true, false, ◌==◌, ◌&&◌, ◌||◌, List, Option, Some, None, drop}
+use Rattle.rap_base.specs.TokenKind.{L_CURLY, R_CURLY, POUND, BUILTIN_KW}
 use Rattle.rap_events.specs.Record.{Record, next_kind, contextual_at}
 use Rattle.rap_events.specs.Composite.{is_at}
 use Rattle.rap_events.specs.Cover.{first_may_bear}
@@ -25,6 +25,10 @@ next_is kind rs = next_kind rs == kind
 -- whether the next token is an identifier that is read as this keyword
 abbrev pub reads_as : ℕ → List Record → Bool
 reads_as kind rs = first_may_bear rs kind && (contextual_at rs 0 == kind)
+
+-- `builtin#` comes next
+abbrev pub starts_builtin : List Record → Bool
+starts_builtin rs = reads_as BUILTIN_KW rs && is_at POUND (drop 1 rs)
 
 -- a token of this kind if one comes next, and on
 abbrev pub eat : {P : Type 0} → ℕ → Script P → Script P

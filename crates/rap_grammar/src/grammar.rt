@@ -1,8 +1,8 @@
 //! The rules, one function each, and what they share.
-ghost use Rattle.std.specs.Prelude.{◌≡◌, ◌≢◌, ℕ, Bool, ◌<◌, ◌≤◌, OnOk, IfOk, true, false, drop};
-ghost use Rattle.rap_base.specs.TokenKind.{EOF, IDENT, L_CURLY, LIFETIME_IDENT, EXTERN_KW};
+ghost use Rattle.std.specs.Prelude.{◌≡◌, ◌≢◌, ℕ, Bool, ◌<◌, ◌≤◌, OnOk, IfOk, IsTrue, true, false, drop};
+ghost use Rattle.rap_base.specs.TokenKind.{EOF, IDENT, L_CURLY, POUND, LIFETIME_IDENT, EXTERN_KW, BUILTIN_KW};
 ghost use Rattle.rap_base.specs.TokenSet.{member};
-ghost use Rattle.rap_events.specs.State.{state, next, At};
+ghost use Rattle.rap_events.specs.State.{state, next, At, NthAt, ReadsAs};
 ghost use Rattle.rap_grammar.specs.First.{is_path_name, is_path_name_or_index};
 ghost use Rattle.rap_grammar.specs.Grammar as script;
 ghost use Rattle.rap_grammar.specs.Grew.{Within, Behind, Grew, Took};
@@ -10,7 +10,7 @@ ghost use Rattle.rap_grammar.specs.Knot.{Follows};
 ghost use Rattle.rap_grammar.specs.Phrase.{Phrase};
 ghost use Rattle.rap_grammar.specs.Room.{name_room, brackets_room, element_room};
 ghost use Rattle.rap_grammar.specs.Script.{Script, something};
-ghost use Rattle.rap_grammar.specs.Words.{of_bool};
+ghost use Rattle.rap_grammar.specs.Words.{of_bool, starts_builtin};
 
 use crate::token_kind::T;
 use rap_base::no_memory::NoMemory;
@@ -47,6 +47,15 @@ impl BlockLike {
     {
         matches!(self, BlockLike::Block)
     }
+}
+
+/// Whether `builtin#` comes next.
+fn starts_builtin(p: &Parser<'_>) -> bool
+    ensures here { result ≡ starts_builtin (state p.now).rest }
+    ensures bears { IsTrue result → ReadsAs (state p.now) BUILTIN_KW }
+    ensures pound { IsTrue result → NthAt (state p.now) 1 POUND }
+{
+    p.at_contextual_kw(T![builtin]) && p.nth_at(1, T![#])
 }
 
 /// Whether a kind is a name in a path.

@@ -15,7 +15,7 @@ ghost use Rattle.rap_grammar.specs.Script.{something};
 
 use super::expressions::{block_expr, is_literal_first, literal, path_expr};
 use super::generic_params::bounds;
-use super::items::macro_call_after_excl;
+use super::items::{macro_call_after_excl, starts_macro_call};
 use super::knot::{Grammar, Rule};
 use super::paths::{is_path_start, opt_path_type_args, type_path_for_qualifier};
 use super::types::{
@@ -169,14 +169,6 @@ fn path_arg<G: Grammar>(p: &mut Parser<'_>, g: &G, segment: CompletedMarker) -> 
     let ty = m.complete(p, SyntaxKind::PATH_TYPE)?;
     bounded_arg(p, g, ty)?;
     Ok(())
-}
-
-/// Whether the `!` of a macro call comes next.
-fn starts_macro_call(p: &Parser<'_>) -> bool
-    ensures starts { result ≡ script.starts_macro_call (state p.now).rest }
-    ensures here { result ≡ true → next (state p.now) ≡ BANG }
-{
-    p.at(T![!]) && !p.at(T![!=])
 }
 
 /// A macro call behind its path, as the `!()` of `a!()`. The marker before the path is open.

@@ -78,6 +78,14 @@ pub(super) fn token_tree(p: &mut Parser<'_>) -> Result<(), NoMemory>
     Ok(())
 }
 
+/// Whether the `!` of a macro call comes next, and no `!=`.
+pub(super) fn starts_macro_call(p: &Parser<'_>) -> bool
+    ensures starts { result ≡ script.starts_macro_call (state p.now).rest }
+    ensures here { result ≡ true → next (state p.now) ≡ BANG }
+{
+    p.at(T![!]) && !p.at(T![!=])
+}
+
 /// A macro call behind its path, as `!(a)` in `f!(a)`. With braces it reads like a block.
 pub(super) fn macro_call_after_excl(p: &mut Parser<'_>) -> Result<BlockLike, NoMemory>
     requires here { next (state p.old) ≡ BANG }

@@ -7,7 +7,7 @@ ghost use Rattle.rap_events.specs.State.{state, next, At, NthAt, ReadsAs, IsLast
 ghost use Rattle.rap_grammar.specs.Called as called;
 ghost use Rattle.rap_grammar.specs.First.{one_of, is_pattern_first, is_pat_top_first, is_range_pat_end_first, starts_path};
 ghost use Rattle.rap_grammar.specs.Patterns as script;
-ghost use Rattle.rap_grammar.specs.Patterns.{starts_builtin, starts_field, starts_ident_pat, starts_literal_pat, starts_rest_pat, ends_range_pat};
+ghost use Rattle.rap_grammar.specs.Patterns.{starts_field, starts_ident_pat, starts_literal_pat, starts_rest_pat, ends_range_pat};
 ghost use Rattle.rap_grammar.specs.Grew.{Within, Behind, Grew, Took, Made, Makes};
 ghost use Rattle.rap_grammar.specs.Knot.{Follows};
 ghost use Rattle.rap_grammar.specs.Recovery.{is_pattern_recovery};
@@ -21,7 +21,7 @@ use super::expressions::{block_expr, is_literal_first, literal};
 use super::items::macro_call_after_excl;
 use super::knot::{Grammar, Rule};
 use super::paths::{expr_path, is_path_first, is_path_start};
-use super::{error_block, name_r, name_ref_or_index};
+use super::{error_block, name_r, name_ref_or_index, starts_builtin};
 use crate::token_kind::T;
 use rap_base::no_memory::NoMemory;
 use rap_base::syntax_kind::SyntaxKind;
@@ -256,7 +256,7 @@ fn atom_pat<G: Grammar>(p: &mut Parser<'_>, g: &G) -> Result<Option<CompletedMar
     ensures atom { IfOk result (IsAtomPattern (state p.old) (state p.new)) }
     ensures script { IfOk result (λ o. Follows script.atom_pat (of_option o) (state p.old) (state p.new)) }
 {
-    if is_builtin_start(p) {
+    if starts_builtin(p) {
         let cm = builtin_pat(p, g)?;
         return Ok(cm);
     }
@@ -312,15 +312,6 @@ fn missing_pat(p: &mut Parser<'_>) -> Result<(), NoMemory>
 {
     p.err_recover("expected pattern", pat_recovery_set())?;
     Ok(())
-}
-
-/// Whether `builtin#` comes next.
-fn is_builtin_start(p: &Parser<'_>) -> bool
-    ensures here { result ≡ starts_builtin (state p.now).rest }
-    ensures bears { IsTrue result → ReadsAs (state p.now) BUILTIN_KW }
-    ensures pound { IsTrue result → NthAt (state p.now) 1 POUND }
-{
-    p.at_contextual_kw(T![builtin]) && p.nth_at(1, T![#])
 }
 
 /// What the compiler alone reads, as `builtin#deref(a)` and `builtin#cfg(unix)`. An unknown name is not taken.

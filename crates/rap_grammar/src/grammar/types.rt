@@ -14,17 +14,17 @@ ghost use Rattle.rap_grammar.specs.Rules.{IsType};
 ghost use Rattle.rap_grammar.specs.Script.{something};
 ghost use Rattle.rap_grammar.specs.TypeParts as parts;
 ghost use Rattle.rap_grammar.specs.Types as script;
-ghost use Rattle.rap_grammar.specs.Types.{starts_bare_dyn, starts_for_target, starts_macro_call, starts_builtin};
+ghost use Rattle.rap_grammar.specs.Types.{starts_bare_dyn, starts_for_target};
 ghost use Rattle.rap_grammar.specs.Words.{of_bool};
 
 use super::expressions::expr;
 use super::generic_params::{bounds_without_colon, bounds_without_colon_m};
-use super::items::macro_call_after_excl;
+use super::items::{macro_call_after_excl, starts_macro_call};
 use super::knot::{Grammar, Rule};
 use super::params::param_list_fn_ptr;
 use super::paths::{is_path_first, is_path_start, is_use_path_start, type_path};
 use super::patterns::pattern;
-use super::{abi, lifetime, opt_ret_type};
+use super::{abi, lifetime, opt_ret_type, starts_builtin};
 use crate::token_kind::T;
 use rap_base::no_memory::NoMemory;
 use rap_base::syntax_kind::SyntaxKind;
@@ -543,15 +543,6 @@ fn path_or_macro_type<G: Grammar>(
     Ok(())
 }
 
-/// Whether `builtin#` comes next.
-fn starts_builtin(p: &Parser<'_>) -> bool
-    ensures here { result ≡ starts_builtin (state p.now).rest }
-    ensures bears { IsTrue result → ReadsAs (state p.now) BUILTIN_KW }
-    ensures pound { IsTrue result → NthAt (state p.now) 1 POUND }
-{
-    p.at_contextual_kw(T![builtin]) && p.nth_at(1, T![#])
-}
-
 /// A path as a type, as `a::b`, or a macro call, as `a!()`.
 #[inline(never)]
 fn path_or_macro<G: Grammar>(p: &mut Parser<'_>, g: &G, allow_bounds: bool) -> Result<(), NoMemory>
@@ -576,13 +567,6 @@ fn path_or_macro<G: Grammar>(p: &mut Parser<'_>, g: &G, allow_bounds: bool) -> R
         return Ok(());
     }
     Ok(())
-}
-
-/// Whether the `!` of a macro call comes next, and no `!=`.
-fn starts_macro_call(p: &Parser<'_>) -> bool
-    ensures { result ≡ starts_macro_call (state p.now).rest }
-{
-    p.at(T![!]) && !p.at(T![!=])
 }
 
 /// A path as a type, as `a::b`.

@@ -4,17 +4,17 @@ use Rattle.rap_grammar.specs.Script.{passes, fails}
 use Rattle.rap_grammar.proofs.Steps.{to_end, then_by, else_by}
 use Rattle.rap_grammar.proofs.grammar.patterns.atom_pat.Goals as goal
 
-pub returns-then-is_builtin_start-clause-script : goal.returns-then-is_builtin_start-clause-script
+pub returns-then-starts_builtin-clause-script : goal.returns-then-starts_builtin-clause-script
 unfolding atom_pat
-returns-then-is_builtin_start-clause-script g c = record {
-  run = then_by c.is_builtin_start.ensures.here c.if-is_builtin_start.true
+returns-then-starts_builtin-clause-script g c = record {
+  run = then_by c.starts_builtin.ensures.here c.if-starts_builtin.true
       (to_end c.in_ok-cm.ensures.script);
 }
 
 pub returns-in_ok-box_pat-in-BOX_KW-clause-script : goal.returns-in_ok-box_pat-in-BOX_KW-clause-script
 unfolding atom_pat
 returns-in_ok-box_pat-in-BOX_KW-clause-script g c = record {
-  run = else_by c.is_builtin_start.ensures.here c.if-is_builtin_start.false
+  run = else_by c.starts_builtin.ensures.here c.if-starts_builtin.false
       (passes (search rules)
       (to_end c.in_ok-box_pat-in-BOX_KW.ensures.script));
 }
@@ -22,7 +22,7 @@ returns-in_ok-box_pat-in-BOX_KW-clause-script g c = record {
 pub returns-in_ok-ident_pat-in-REF_KW-clause-script : goal.returns-in_ok-ident_pat-in-REF_KW-clause-script
 unfolding atom_pat
 returns-in_ok-ident_pat-in-REF_KW-clause-script g c = record {
-  run = else_by c.is_builtin_start.ensures.here c.if-is_builtin_start.false
+  run = else_by c.starts_builtin.ensures.here c.if-starts_builtin.false
       (fails (search rules)
       (passes (search rules)
       (to_end c.in_ok-ident_pat-in-REF_KW.ensures.script)));
@@ -32,7 +32,7 @@ pub returns-in_ok-const_block_pat-in-CONST_KW-clause-script :
     goal.returns-in_ok-const_block_pat-in-CONST_KW-clause-script
 unfolding atom_pat
 returns-in_ok-const_block_pat-in-CONST_KW-clause-script g c = record {
-  run = else_by c.is_builtin_start.ensures.here c.if-is_builtin_start.false
+  run = else_by c.starts_builtin.ensures.here c.if-starts_builtin.false
       (fails (search rules)
       (fails (search rules)
       (passes (search rules)
@@ -42,7 +42,7 @@ returns-in_ok-const_block_pat-in-CONST_KW-clause-script g c = record {
 pub returns-in_ok-ident_pat-in_default-clause-script : goal.returns-in_ok-ident_pat-in_default-clause-script
 unfolding atom_pat
 returns-in_ok-ident_pat-in_default-clause-script g c = record {
-  run = else_by c.is_builtin_start.ensures.here c.if-is_builtin_start.false
+  run = else_by c.starts_builtin.ensures.here c.if-starts_builtin.false
       (fails (search rules)
       (fails (search rules)
       (fails (search rules)
@@ -54,7 +54,7 @@ pub returns-in_ok-path_or_macro_pat-in_default-2-clause-script :
     goal.returns-in_ok-path_or_macro_pat-in_default-2-clause-script
 unfolding atom_pat
 returns-in_ok-path_or_macro_pat-in_default-2-clause-script g c = record {
-  run = else_by c.is_builtin_start.ensures.here c.if-is_builtin_start.false
+  run = else_by c.starts_builtin.ensures.here c.if-starts_builtin.false
       (fails (search rules)
       (fails (search rules)
       (fails (search rules)
@@ -66,7 +66,7 @@ returns-in_ok-path_or_macro_pat-in_default-2-clause-script g c = record {
 pub returns-in_ok-cm-in_default-3-clause-script : goal.returns-in_ok-cm-in_default-3-clause-script
 unfolding atom_pat
 returns-in_ok-cm-in_default-3-clause-script g c = record {
-  run = else_by c.is_builtin_start.ensures.here c.if-is_builtin_start.false
+  run = else_by c.starts_builtin.ensures.here c.if-starts_builtin.false
       (fails (search rules)
       (fails (search rules)
       (fails (search rules)

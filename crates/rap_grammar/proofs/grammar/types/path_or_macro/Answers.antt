@@ -9,7 +9,7 @@ returns-then-starts_macro_call-clause-script g c = record {
   run = by_start c.in_ok-r.ensures.state
       (by_start c.in_ok-m.ensures.state
       (by_rule c.in_ok-type_path.ensures.script
-      (then_by c.starts_macro_call.ensures c.if-starts_macro_call.true
+      (then_by c.starts_macro_call.ensures.starts c.if-starts_macro_call.true
       (by_rule c.in_ok-macro_call_after_excl.ensures.script
       (by_complete c.in_ok-complete.ensures.state.0
       (by_complete c.in_ok-complete-2.ensures.state.0 gives))))));
@@ -21,7 +21,7 @@ returns-then-allow_bounds-clause-script g c = record {
   run = by_start c.in_ok-r.ensures.state
       (by_start c.in_ok-m.ensures.state
       (by_rule c.in_ok-type_path.ensures.script
-      (else_by c.starts_macro_call.ensures c.if-starts_macro_call.false
+      (else_by c.starts_macro_call.ensures.starts c.if-starts_macro_call.false
       (by_abandon c.in_ok-abandon.ensures.state
       (by_complete c.in_ok-path.ensures.state.0 (rw c.if-allow_bounds.true
       (to_end (rw c.in_ok-path.ensures.state.1.kind at c.in_ok-opt_type_bounds_as_dyn_trait_type.ensures.script))))))));
@@ -33,7 +33,7 @@ returns-clause-script g c = record {
   run = by_start c.in_ok-r.ensures.state
       (by_start c.in_ok-m.ensures.state
       (by_rule c.in_ok-type_path.ensures.script
-      (else_by c.starts_macro_call.ensures c.if-starts_macro_call.false
+      (else_by c.starts_macro_call.ensures.starts c.if-starts_macro_call.false
       (by_abandon c.in_ok-abandon.ensures.state
       (by_complete c.in_ok-path.ensures.state.0 (rw c.if-allow_bounds.false gives))))));
 }
