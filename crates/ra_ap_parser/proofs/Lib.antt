@@ -4,6 +4,7 @@ pub mod Covered
 pub mod Cuts
 pub mod Eating
 pub mod Emitted
+pub mod EntryTrees
 pub mod Examples
 pub mod FloatTexts
 pub mod Handed

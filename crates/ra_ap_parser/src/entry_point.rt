@@ -1,7 +1,6 @@
 //! Where a parse begins.
 ghost use Rattle.std.specs.Prelude.{◌≡◌, ◌<◌, ◌≤◌, ◌↔◌, length, IfOk, Some};
 ghost use Rattle.rap_events.specs.Forest.{Forest, message_count};
-ghost use Rattle.rap_grammar.specs.Derives.{Derives, Expression};
 ghost use Rattle.rap_grammar.specs.Top.{IsTreeOver, IsTopOf};
 
 use rap_base::no_memory::NoMemory;
@@ -53,7 +52,7 @@ pub enum TopEntryPoint {
 }
 
 impl TopEntryPoint {
-    ghost use Rattle.ra_ap_parser.specs.EntryScript.{entry_script};
+    ghost use Rattle.ra_ap_parser.specs.EntryScript.{entry_script, IsCore};
 
     /// Reads the input as one tree.
     fn run(&self, alloc: Global, input: &Input) -> Result<Output, NoMemory>
@@ -72,14 +71,14 @@ impl TopEntryPoint {
     /// Reads the whole input as one tree, whatever its tokens are.
     ///
     /// The error is `TooManyTokens` exactly for an input of more than [`MAX_TOKENS`] tokens, which is decided
-    /// first, and else `NoMemory` where a growth was refused. The tree is that of the entry's script, and no other;
-    /// under `Expr` an input that the core grammar derives as an expression gives its derivation's tree, without a
-    /// message.
+    /// first, and else `NoMemory` where a growth was refused. The tree is that of the entry's script, and no other. An
+    /// input that the core grammar derives, under `Expr` as an expression and under `Ty` as a type, gives its
+    /// derivation's tree, without a message.
     pub fn parse(&self, alloc: Global, input: &Input) -> Result<Output, ParseFault>
         ensures tree { IfOk result (IsTreeOver input.now) }
         ensures script { IfOk result (IsTopOf (entry_script self.now) input.now) }
         ensures only { IfOk result (λ output. (other : Forest) → IsTopOf (entry_script self.now) input.now other → other ≡ output) }
-        ensures expression { IfOk result (λ output. self.now ≡ TopEntryPoint.Expr → (tree : Forest) → Derives Expression input.now tree → (output ≡ tree) × (message_count output ≡ 0)) }
+        ensures core { IfOk result (λ output. (tree : Forest) → IsCore self.now input.now tree → (output ≡ tree) × (message_count output ≡ 0)) }
         ensures too_many { (result ≡ Err ParseFault.TooManyTokens) ↔ (MAX_TOKENS < length input.now) }
     {
         if input.len() > MAX_TOKENS {

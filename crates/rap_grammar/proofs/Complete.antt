@@ -382,7 +382,6 @@ claim (expression_assign {op = op} {ks = ks} {os = os} {js = js} {t = t} {u = u}
     let x : LeadsOut (attributed (operand_of r) (right_of op)) (f ∷ b) (js ++ l) (leaf t op (width op)) l (leaf t op (width op) ⧺ u) = rw i (claim e (operand_of r) (f ∷ b) (leaf t op (width op)) l c) in
     rw (three_lists ks os js l) (claim d r 1 b f (os ++ (js ++ l)) (f ⧺ node none BIN_EXPR (leaf t op (width op) ⧺ u)) l (omega arith) q.calm (omega (arith, ap power q.is))
     (climb_on r (single d) q.is (omega arith) (λ z. omega arith) (no_cast op 1 i (omega arith)) q.first q.past x (climb_end r c.power_is)))
-
 claim (type_path {t = t} d) = λ bounds b f l e.
     let n = path_named d in
     let colons : is_at COLON2 l ≡ false = no_colon l (differ ends_type (next_kind l) COLON e.next refl) in

@@ -20,23 +20,29 @@ pub past_lifetime : {s t : State} → Follows lifetime something s t → t.rest 
 past_lifetime h = lifetime_rest h.run
 
 -- a token that was there was taken, and one that was not was passed over
-pub past_taken : (rs : List Record) (n k : ℕ) {s t : List Record} → s ≡ drop n rs → is_at k s ≡ true → t ≡ drop 1 s → t ≡ drop (past k n rs) rs
+pub past_taken : (rs : List Record) (n k : ℕ) {s t : List Record} →
+    s ≡ drop n rs → is_at k s ≡ true → t ≡ drop 1 s → t ≡ drop (past k n rs) rs
 past_taken rs n k e h f =
     let a : is_at k (drop n rs) ≡ true = ap (λ (x : List Record). is_at k x) (sym e) ∙ h in
     rw a (f ∙ ap (λ (x : List Record). drop 1 x) e ∙ drop-drop 1 n rs)
 
-pub past_none : (rs : List Record) (n k : ℕ) {s t : List Record} → s ≡ drop n rs → is_at k s ≡ false → t ≡ s → t ≡ drop (past k n rs) rs
+pub past_none : (rs : List Record) (n k : ℕ) {s t : List Record} →
+    s ≡ drop n rs → is_at k s ≡ false → t ≡ s → t ≡ drop (past k n rs) rs
 past_none rs n k e h f =
     let a : is_at k (drop n rs) ≡ false = ap (λ (x : List Record). is_at k x) (sym e) ∙ h in
     rw a (f ∙ e)
 
-pub past_ate : (rs : List Record) (n k : ℕ) {s t : State} {b : Bool} → width k ≡ 1 → s.rest ≡ drop n rs → Ate s t k b → t.rest ≡ drop (past k n rs) rs
-past_ate rs n k {s = s} {b = true} w e a = past_taken rs n k e (sym a.decided) ((a.token refl).rest ∙ ap (λ (x : ℕ). drop x s.rest) w)
+pub past_ate : (rs : List Record) (n k : ℕ) {s t : State} {b : Bool} →
+    width k ≡ 1 → s.rest ≡ drop n rs → Ate s t k b → t.rest ≡ drop (past k n rs) rs
+past_ate rs n k {s = s} {b = true} w e a =
+    past_taken rs n k e (sym a.decided) ((a.token refl).rest ∙ ap (λ (x : ℕ). drop x s.rest) w)
 past_ate rs n k {b = false} w e a = past_none rs n k e (sym a.decided) (ap (λ (x : State). x.rest) (a.not_token refl))
 
 -- behind what a `self` by reference begins with comes the `self`
-pub self_of_ref : (rs : List Record) {s : List Record} → is_self_ref rs ≡ true → s ≡ drop (past MUT_KW (past LIFETIME_IDENT 1 rs) rs) rs → next_kind s ≡ SELF_KW
+pub self_of_ref : (rs : List Record) {s : List Record} →
+    is_self_ref rs ≡ true → s ≡ drop (past MUT_KW (past LIFETIME_IDENT 1 rs) rs) rs → next_kind s ≡ SELF_KW
 self_of_ref rs {s = s} h e =
-    let t : is_at SELF_KW (drop (past MUT_KW (past LIFETIME_IDENT 1 rs) rs) rs) ≡ true = and_left _ _ (and_right _ _ h) in
+    let n = past MUT_KW (past LIFETIME_IDENT 1 rs) rs in
+    let t : is_at SELF_KW (drop n rs) ≡ true = and_left _ _ (and_right _ _ h) in
     let u : is_at SELF_KW s ≡ true = ap (λ (x : List Record). is_at SELF_KW x) e ∙ t in
     search rules

@@ -29,12 +29,21 @@ no_end : (k : ℕ) → stops_pattern k ≡ false → k ≢ EOF
 no_end k s e = clash (rw e refl) s
 
 -- a message, and the next token along with it unless that is kept
-pub missing : {s t : State} {bytes : List ℕ} {set : TokenSet} {kept : Bool} → ((k : ℕ) → member set k ≡ is_pattern_recovery k) → (next s ≡ EOF → s.rest ≡ []) → next s ≢ AMP → Recovered s t bytes set kept → PatternIn 3 atom_pattern_room s t
+pub missing : {s t : State} {bytes : List ℕ} {set : TokenSet} {kept : Bool} →
+    ((k : ℕ) → member set k ≡ is_pattern_recovery k) → (next s ≡ EOF → s.rest ≡ []) → next s ≢ AMP →
+    Recovered s t bytes set kept → PatternIn 3 atom_pattern_room s t
 missing {s = s} {t = t} {kept = true} first end no_amp r =
     let d = r.reported refl in
     let k : keeps (next s) ≡ true = rw (← (first (next s))) (sym r.decided) in
     record {
-      grew = record { input = d.input; left = omega arith; count = omega arith; messages = omega arith; marker = d.marker; below = d.below };
+      grew = record {
+        input = d.input;
+        left = omega arith;
+        count = omega arith;
+        messages = omega arith;
+        marker = d.marker;
+        below = d.below;
+      };
       took = λ h. absurd (clash k (not_kept (next s) h no_amp));
       stays = λ h. ap next_kind d.rest;
     }
@@ -42,9 +51,26 @@ missing {s = s} {t = t} {kept = false} first end no_amp r =
     let d = r.skipped refl in
     let k : keeps (next s) ≡ false = rw (← (first (next s))) (sym r.decided) in
     record {
-      grew = record { input = d.input; left = d.left; count = omega arith; messages = omega arith; marker = d.marker; below = d.below };
-      took = λ h. let l = d.less (no_end (next s) h) in record { input = d.input; left = omega arith; count = omega arith; messages = omega arith; marker = d.marker; below = d.below };
-      stays = λ h. let e : s.rest ≡ [] = end (end_or_kept (next s) h k) in let n : drop 1 s.rest ≡ s.rest = rw e refl in ap next_kind (d.rest ∙ n);
+      grew = record {
+        input = d.input;
+        left = d.left;
+        count = omega arith;
+        messages = omega arith;
+        marker = d.marker;
+        below = d.below;
+      };
+      took = λ h. let l = d.less (no_end (next s) h) in record {
+        input = d.input;
+        left = omega arith;
+        count = omega arith;
+        messages = omega arith;
+        marker = d.marker;
+        below = d.below;
+      };
+      stays = λ h.
+          let e : s.rest ≡ [] = end (end_or_kept (next s) h k) in
+          let n : drop 1 s.rest ≡ s.rest = rw e refl in
+          ap next_kind (d.rest ∙ n);
     }
 
 by_test : {A : Type 0} (b : Bool) → (b ≡ true → A) → (b ≡ false → A) → A
@@ -55,10 +81,13 @@ no_stop : (k : ℕ) → is_pat_top_first k ≡ true → stops_pattern k ≡ fals
 no_stop k e = grind (arith, nat_tests)
 
 -- where another pattern begins behind a pattern, with no comma between them, that one took a token
-pub took_before : {s t u : State} {b : Bool} {k room : ℕ} → PatternIn k room s t → Ate t u COMMA b → b ≡ false → is_pat_top_first (next u) ≡ true → Took s t room
+pub took_before : {s t u : State} {b : Bool} {k room : ℕ} →
+    PatternIn k room s t → Ate t u COMMA b → b ≡ false → is_pat_top_first (next u) ≡ true → Took s t room
 took_before {s = s} {t = t} {u = u} d a e first =
     by_test (stops_pattern (next s))
-    (λ stop. let n : next u ≡ next s = ap next (a.not_token e) ∙ d.stays stop in absurd (clash stop (ap stops_pattern (sym n) ∙ no_stop (next u) first)))
+    (λ stop.
+    let n : next u ≡ next s = ap next (a.not_token e) ∙ d.stays stop in
+    absurd (clash stop (ap stops_pattern (sym n) ∙ no_stop (next u) first)))
     d.took
 
 next_is_second : (rs : List Record) → next_kind (drop 1 rs) ≡ kind_at rs 1
@@ -67,8 +96,10 @@ next_is_second (r ∷ []) = refl
 next_is_second (r ∷ s ∷ rs) = refl
 
 -- behind a field's name its separator comes next
-pub separator_next : (separator : ℕ) (rs : List Record) {qs : List Record} → starts_field separator rs ≡ true → qs ≡ drop 1 rs → (next_kind qs == separator) ≡ true
-separator_next separator rs h e = ap (λ (k : ℕ). k == separator) (ap next_kind e ∙ next_is_second rs) ∙ and_right _ _ h
+pub separator_next : (separator : ℕ) (rs : List Record) {qs : List Record} →
+    starts_field separator rs ≡ true → qs ≡ drop 1 rs → (next_kind qs == separator) ≡ true
+separator_next separator rs h e =
+    ap (λ (k : ℕ). k == separator) (ap next_kind e ∙ next_is_second rs) ∙ and_right _ _ h
 
 -- `builtin` begins a pattern
 pub builtin_no_stop : (rs : List Record) → first_may_bear rs BUILTIN_KW ≡ true → stops_pattern (next_kind rs) ≡ false

@@ -29,7 +29,7 @@ is_path_first kind = one_of (IDENT ∷ SELF_KW ∷ SUPER_KW ∷ CRATE_KW ∷ SEL
 abbrev pub is_atom_expr_first : ℕ → Bool
 is_atom_expr_first kind = (is_literal_first kind || is_path_first kind) || one_of (L_PAREN ∷ L_BRACK ∷ []) kind
 
--- an expression, by its first token alone: a `.` may be the first of `..`, a `#` begins an attribute
+-- an expression, by its first token alone: a `.` may be the first of `..`, and a `#` that of an attribute
 abbrev pub is_expr_first : ℕ → Bool
 is_expr_first kind = is_atom_expr_first kind || one_of (AMP ∷ STAR ∷ BANG ∷ DOT ∷ MINUS ∷ POUND ∷ []) kind
 

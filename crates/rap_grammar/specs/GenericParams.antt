@@ -19,12 +19,14 @@ use Rattle.rap_grammar.specs.Words.{done, if_some, next_is, eat, expect}
 unfoldable pub use_bound_arg : Script Phrase
 use_bound_arg = test (is_at LIFETIME_IDENT) lifetime name_ref_or_upper_self
 
+-- names and lifetimes in their brackets
+unfoldable pub use_bound_args : Script Phrase
+use_bound_args =
+    delimited use_bound_arg L_ANGLE R_ANGLE COMMA (codes "expected identifier or lifetime") is_use_bound_arg_first
+
 -- what a type captures
 unfoldable pub use_bound : Script Phrase
-use_bound =
-    token USE_KW (start
-    (after (delimited use_bound_arg L_ANGLE R_ANGLE COMMA (codes "expected identifier or lifetime") is_use_bound_arg_first) (λ v.
-    finish USE_BOUND_GENERIC_ARGS done)))
+use_bound = token USE_KW (start (after use_bound_args (λ v. finish USE_BOUND_GENERIC_ARGS done)))
 
 -- the `const` before a trait, in either of its forms, if there is one
 unfoldable pub bound_constness : Script Phrase
@@ -60,7 +62,8 @@ bare_bound =
 unfoldable pub type_bound : Script Phrase
 type_bound =
     start (test (is_at L_PAREN)
-    (token L_PAREN (after bare_bound (λ v. if_some v (expect R_PAREN (finish TYPE_BOUND done)) (abandon (give nothing)))))
+    (token L_PAREN
+    (after bare_bound (λ v. if_some v (expect R_PAREN (finish TYPE_BOUND done)) (abandon (give nothing)))))
     (after bare_bound (λ v. if_some v (finish TYPE_BOUND done) (abandon (give nothing)))))
 
 -- on to the next bound
@@ -138,10 +141,14 @@ generic_param =
 unfoldable pub attributed_param : Script Phrase
 attributed_param = start (after outer_attrs (λ v. generic_param))
 
+-- parameters in their brackets
+unfoldable pub generic_params : Script Phrase
+generic_params =
+    delimited attributed_param L_ANGLE R_ANGLE COMMA (codes "expected generic parameter")
+    is_attributed_generic_param_first
+
 unfoldable pub generic_param_list : Script Phrase
-generic_param_list =
-    start (after (delimited attributed_param L_ANGLE R_ANGLE COMMA (codes "expected generic parameter") is_attributed_generic_param_first) (λ v.
-    finish GENERIC_PARAM_LIST done))
+generic_param_list = start (after generic_params (λ v. finish GENERIC_PARAM_LIST done))
 
 unfoldable pub opt_generic_param_list : Script Phrase
 opt_generic_param_list = test (is_at L_ANGLE) generic_param_list done
@@ -183,4 +190,5 @@ unfoldable pub where_predicates : Script Phrase
 where_predicates = loop where_turn false false
 
 unfoldable pub opt_where_clause : Script Phrase
-opt_where_clause = test (is_at WHERE_KW) (start (token WHERE_KW (after where_predicates (λ v. finish WHERE_CLAUSE done)))) done
+opt_where_clause =
+    test (is_at WHERE_KW) (start (token WHERE_KW (after where_predicates (λ v. finish WHERE_CLAUSE done)))) done

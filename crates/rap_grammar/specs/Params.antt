@@ -73,7 +73,8 @@ fn_def_param = test (is_at DOT3) (token DOT3 done) (after pattern (λ v. param_t
 
 -- a name and a colon come next
 abbrev pub is_named_param : List Record → Bool
-is_named_param rs = (is_at IDENT rs || is_at UNDERSCORE rs) && ((kind_at rs 1 == COLON) && not (is_at COLON2 (drop 1 rs)))
+is_named_param rs =
+    (is_at IDENT rs || is_at UNDERSCORE rs) && ((kind_at rs 1 == COLON) && not (is_at COLON2 (drop 1 rs)))
 
 unfoldable pub fn_ptr_param : Script Phrase
 fn_ptr_param =

@@ -36,7 +36,8 @@ const_block_pat = start (token CONST_KW (after block_expr (λ v. finish CONST_BL
 
 -- a literal comes next, be it with a minus
 abbrev pub starts_literal_pat : List Record → Bool
-starts_literal_pat rs = (is_at MINUS rs && one_of (INT_NUMBER ∷ FLOAT_NUMBER ∷ []) (kind_at rs 1)) || is_literal_first (next_kind rs)
+starts_literal_pat rs =
+    (is_at MINUS rs && one_of (INT_NUMBER ∷ FLOAT_NUMBER ∷ []) (kind_at rs 1)) || is_literal_first (next_kind rs)
 
 unfoldable pub literal_pat : Script Phrase
 literal_pat = start (eat MINUS (after literal (λ v. finish LITERAL_PAT done)))
@@ -81,7 +82,7 @@ tuple_pat_turn tuple seen =
     (test (is_at R_PAREN) (give (of_bool (seen && not tuple)))
     (test (λ rs. is_pat_top_first (next_kind rs))
     (look (λ rs. after pattern (λ v.
-        test (is_at R_PAREN) (give (again (tuple || starts_rest_pat rs) true)) (expect COMMA (give (again true true))))))
+    test (is_at R_PAREN) (give (again (tuple || starts_rest_pat rs) true)) (expect COMMA (give (again true true))))))
     (report (codes "expected a pattern") (give (of_bool (not tuple))))))
 
 -- what stands in parentheses: something where it is one pattern, no comma and no `..`
@@ -103,7 +104,7 @@ tuple_pat_kind (again a b) = PAREN_PAT
 unfoldable pub tuple_pat : Script Phrase
 tuple_pat =
     start (token L_PAREN (after leading_comma (λ v. after (tuple_patterns (is_something v)) (λ w.
-        expect R_PAREN (finish (tuple_pat_kind w) done)))))
+    expect R_PAREN (finish (tuple_pat_kind w) done)))))
 
 -- a field's name or number and this separator come next
 abbrev pub starts_field : ℕ → List Record → Bool
@@ -135,7 +136,8 @@ unfoldable pub record_pat_fields : Script Phrase
 record_pat_fields = loop record_pat_turn false false
 
 unfoldable pub record_pat_field_list : Script Phrase
-record_pat_field_list = start (token L_CURLY (after record_pat_fields (λ v. expect R_CURLY (finish RECORD_PAT_FIELD_LIST done))))
+record_pat_field_list =
+    start (token L_CURLY (after record_pat_fields (λ v. expect R_CURLY (finish RECORD_PAT_FIELD_LIST done))))
 
 unfoldable pub tuple_pat_fields : Script Phrase
 tuple_pat_fields = token L_PAREN (after (pat_list R_PAREN) (λ v. expect R_PAREN done))
@@ -165,7 +167,8 @@ builtin_pat =
 
 -- an identifier comes next that begins no path of several names, no path with fields, and no macro call
 abbrev pub starts_ident_pat : List Record → Bool
-starts_ident_pat rs = is_at IDENT rs && (not (one_of (L_PAREN ∷ L_CURLY ∷ BANG ∷ []) (kind_at rs 1)) && not (is_at COLON2 (drop 1 rs)))
+starts_ident_pat rs =
+    is_at IDENT rs && (not (one_of (L_PAREN ∷ L_CURLY ∷ BANG ∷ []) (kind_at rs 1)) && not (is_at COLON2 (drop 1 rs)))
 
 -- no pattern begins
 unfoldable pub missing_pat : Script Phrase
@@ -196,7 +199,10 @@ ends_range_pat kind = one_of (EQ ∷ COMMA ∷ COLON ∷ R_PAREN ∷ R_CURLY ∷
 
 -- a range from the pattern before it on
 unfoldable pub range_from_pat : ℕ → Script Phrase
-range_from_pat op = precede (token op (test (λ rs. ends_range_pat (next_kind rs)) (finish RANGE_PAT done) (after atom_pat (λ v. finish RANGE_PAT done))))
+range_from_pat op =
+    precede (token op (test (λ rs. ends_range_pat (next_kind rs))
+    (finish RANGE_PAT done)
+    (after atom_pat (λ v. finish RANGE_PAT done))))
 
 unfoldable pub range_op : Script Phrase
 range_op =

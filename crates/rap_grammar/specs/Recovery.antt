@@ -20,7 +20,8 @@ is_type_recovery kind = one_of (R_PAREN ∷ R_BRACK ∷ R_CURLY ∷ R_ANGLE ∷ 
 
 -- where a type that does not begin takes no token along
 abbrev pub stops_type : ℕ → Bool
-stops_type kind = one_of (EOF ∷ L_CURLY ∷ R_CURLY ∷ R_PAREN ∷ R_BRACK ∷ R_ANGLE ∷ COMMA ∷ PUB_KW ∷ []) kind
+stops_type kind =
+    one_of (EOF ∷ L_CURLY ∷ R_CURLY ∷ R_PAREN ∷ R_BRACK ∷ R_ANGLE ∷ COMMA ∷ PUB_KW ∷ []) kind
 
 -- the search for an argument of something generic
 abbrev pub is_generic_arg_recovery : ℕ → Bool

@@ -129,7 +129,8 @@ fn missing_expr(p: &mut Parser<'_>, m: Marker) -> Result<(), NoMemory>
     Ok(())
 }
 
-/// Whether an expression may begin with a token of this kind: a `.` may be the first of `..`.
+/// Whether an expression may begin with a token of this kind: a `.` may be the first of `..`, and a `#` that of an
+/// attribute.
 pub(super) fn is_expr_first(kind: SyntaxKind) -> bool
     ensures first { result ≡ is_expr_first kind }
     ensures more { IsTrue result → kind ≢ EOF }

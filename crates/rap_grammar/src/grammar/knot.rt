@@ -46,7 +46,9 @@ pub enum Rule {
         bp: u8,
     },
     /// A type, with bounds after it where they are allowed.
-    Ty { allow_bounds: bool },
+    Ty {
+        allow_bounds: bool,
+    },
     /// A path as a type, and bounds after it.
     TraitPath,
     GenericArg,

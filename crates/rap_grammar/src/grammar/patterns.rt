@@ -246,23 +246,12 @@ fn ends_range_pat(kind: SyntaxKind) -> bool
 {
     matches!(
         kind,
-        T![=]
-            | T![,]
-            | T![:]
-            | T![')']
-            | T!['}']
-            | T![']']
-            | T![if]
-            | T![|]
-            | SyntaxKind::EOF
+        T![=] | T![,] | T![:] | T![')'] | T!['}'] | T![']'] | T![if] | T![|] | SyntaxKind::EOF
     )
 }
 
 /// A pattern that is no range, as `a`, `S { x, .. }` and `&1`.
-fn atom_pat<G: Grammar>(
-    p: &mut Parser<'_>,
-    g: &G,
-) -> Result<Option<CompletedMarker>, NoMemory>
+fn atom_pat<G: Grammar>(p: &mut Parser<'_>, g: &G) -> Result<Option<CompletedMarker>, NoMemory>
     requires within { Within G.valid G.left g.now (state p.old) }
     ensures atom { IfOk result (IsAtomPattern (state p.old) (state p.new)) }
     ensures script { IfOk result (λ o. Follows script.atom_pat (of_option o) (state p.old) (state p.new)) }
@@ -292,10 +281,7 @@ fn is_ident_pat_start(p: &Parser<'_>) -> bool
 }
 
 /// A pattern that begins with no keyword and no path, as `1`, `_` and `(a, b)`.
-fn symbol_pat<G: Grammar>(
-    p: &mut Parser<'_>,
-    g: &G,
-) -> Result<Option<CompletedMarker>, NoMemory>
+fn symbol_pat<G: Grammar>(p: &mut Parser<'_>, g: &G) -> Result<Option<CompletedMarker>, NoMemory>
     requires within { Within G.valid G.left g.now (state p.old) }
     ensures atom { IfOk result (IsAtomPattern (state p.old) (state p.new)) }
     ensures script { IfOk result (λ o. Follows script.symbol_pat (of_option o) (state p.old) (state p.new)) }
@@ -338,10 +324,7 @@ fn is_builtin_start(p: &Parser<'_>) -> bool
 }
 
 /// What the compiler alone reads, as `builtin#deref(a)` and `builtin#cfg(unix)`. An unknown name is not taken.
-fn builtin_pat<G: Grammar>(
-    p: &mut Parser<'_>,
-    g: &G,
-) -> Result<Option<CompletedMarker>, NoMemory>
+fn builtin_pat<G: Grammar>(p: &mut Parser<'_>, g: &G) -> Result<Option<CompletedMarker>, NoMemory>
     requires within { Within G.valid G.left g.now (state p.old) }
     requires here { ReadsAs (state p.old) BUILTIN_KW }
     requires pound { NthAt (state p.old) 1 POUND }

@@ -226,7 +226,7 @@ fn paren_or_tuple_type<G: Grammar>(p: &mut Parser<'_>, g: &G) -> Result<(), NoMe
     Ok(())
 }
 
-/// What stands in parentheses. Reports whether it is one type and no comma.
+/// What stands in parentheses. Answers whether it is one type and no comma.
 fn tuple_types<G: Grammar>(p: &mut Parser<'_>, g: &G) -> Result<bool, NoMemory>
     requires behind { Behind G.valid G.left g.now (state p.old) }
     ensures grew { OnOk result (Grew (state p.old) (state p.new) 8) }

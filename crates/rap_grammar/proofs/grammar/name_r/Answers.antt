@@ -1,4 +1,4 @@
-use Rattle.std.proofs.Common.{rules, true, false}
+use Rattle.std.proofs.Common.{rules}
 use Rattle.rap_grammar.specs.Grammar.{name_r}
 use Rattle.rap_grammar.specs.Script.{gives}
 use Rattle.rap_grammar.proofs.Steps.{by_bump, by_start, by_complete, by_recover, then_by, else_by}
@@ -16,5 +16,6 @@ returns-then-at-clause-script c = λ kept e. record {
 pub returns-clause-script : goal.returns-clause-script
 unfolding name_r
 returns-clause-script c = λ kept e. record {
-  run = else_by c.at.ensures c.if-at.false (by_recover kept e c.in_ok-err_recover.ensures.state (λ k. gives) (λ k. gives));
+  run = else_by c.at.ensures c.if-at.false
+      (by_recover kept e c.in_ok-err_recover.ensures.state (λ k. gives) (λ k. gives));
 }

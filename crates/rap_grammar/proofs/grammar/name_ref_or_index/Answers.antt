@@ -6,4 +6,8 @@ use Rattle.rap_grammar.proofs.grammar.name_ref_or_index.Goals as goal
 
 pub returns-clause-script : goal.returns-clause-script
 unfolding name_ref_or_index
-returns-clause-script c = record { run = by_start c.in_ok-m.ensures.state (by_any (search rules) c.in_ok-bump_any.ensures.state (by_complete c.in_ok-complete.ensures.state.0 gives)) }
+returns-clause-script c = record {
+  run = by_start c.in_ok-m.ensures.state
+      (by_any (search rules) c.in_ok-bump_any.ensures.state
+      (by_complete c.in_ok-complete.ensures.state.0 gives));
+}

@@ -45,9 +45,7 @@ pub(in crate::grammar) fn is_literal_first(kind: SyntaxKind) -> bool
 
 /// A literal, as `1` and `true`, if one comes next.
 #[inline(never)]
-pub(in crate::grammar) fn literal(
-    p: &mut Parser<'_>,
-) -> Result<Option<CompletedMarker>, NoMemory>
+pub(in crate::grammar) fn literal(p: &mut Parser<'_>) -> Result<Option<CompletedMarker>, NoMemory>
     ensures made { IfOk result (Optional LITERAL atom_room (state p.old) (state p.new)) }
     ensures grew { OnOk result (Grew (state p.old) (state p.new) 0) }
     ensures took { OnOk result (is_literal_first (next (state p.old)) ≡ true → Took (state p.old) (state p.new) atom_room) }

@@ -1,6 +1,5 @@
 use Rattle.std.proofs.Common.{rules, sym, ◌∙◌}
 use Rattle.rap_grammar.specs.GenericArgs.{macro_arg}
-use Rattle.rap_grammar.specs.Script.{gives}
 use Rattle.rap_grammar.proofs.Growth.{gone_after}
 use Rattle.rap_grammar.proofs.Steps.{by_rule, by_precede, by_complete, to_end}
 use Rattle.rap_grammar.proofs.grammar.generic_args.macro_arg.Goals as goal

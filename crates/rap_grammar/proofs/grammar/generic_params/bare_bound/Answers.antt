@@ -24,7 +24,10 @@ returns-in_ok-found-in-FOR_KW-clause-script g c = record {
 pub returns-in_ok-use_bound-in-USE_KW-clause-script : goal.returns-in_ok-use_bound-in-USE_KW-clause-script
 unfolding bare_bound
 returns-in_ok-use_bound-in-USE_KW-clause-script g c = record {
-  run = fails (search rules) (fails (search rules) (passes (both (search rules) (sym c.nth_at.ensures ∙ c.if-nth_at.true)) (to_end c.in_ok-use_bound-in-USE_KW.ensures.script)));
+  run = fails (search rules)
+      (fails (search rules)
+      (passes (both (search rules) (sym c.nth_at.ensures ∙ c.if-nth_at.true))
+      (to_end c.in_ok-use_bound-in-USE_KW.ensures.script)));
 }
 
 pub returns-in_ok-found-in_default-clause-script : goal.returns-in_ok-found-in_default-clause-script

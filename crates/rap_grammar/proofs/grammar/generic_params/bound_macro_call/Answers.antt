@@ -12,7 +12,10 @@ returns-clause-script c = record {
       (by_bump (search rules) c.in_ok-bump.ensures.state
       (by_report c.in_ok-error.ensures.state
       (elim c.if-matches.branch [
-        | then-matches+in_ok-token_tree w ↦ passes (search rules) (by_rule w.in_ok-token_tree.ensures.script (by_complete (rw w.p-is at c.in_ok-complete.ensures.state.0) gives))
+        | then-matches+in_ok-token_tree w ↦
+            passes (search rules)
+            (by_rule w.in_ok-token_tree.ensures.script
+            (by_complete (rw w.p-is at c.in_ok-complete.ensures.state.0) gives))
         | else-matches w ↦ fails (search rules) (by_complete (rw w.p-is at c.in_ok-complete.ensures.state.0) gives)
       ])));
 }

@@ -5,4 +5,6 @@ use Rattle.rap_grammar.proofs.grammar.generic_params.bounds_without_colon_m.Goal
 
 pub returns-clause-script : goal.returns-clause-script
 unfolding bounds_without_colon_m
-returns-clause-script g c = record { run = by_rule c.in_ok-type_bounds.ensures.script (by_complete c.in_ok-cm.ensures.state.0 gives) }
+returns-clause-script g c = record {
+  run = by_rule c.in_ok-type_bounds.ensures.script (by_complete c.in_ok-cm.ensures.state.0 gives);
+}

@@ -9,7 +9,11 @@ pub returns-clause-script : goal.returns-clause-script
 unfolding lifetime_bound
 returns-clause-script g c = record {
   run = elim c.if-not-matches.branch [
-    | then-not-matches+in_ok-error w ↦ fails (search rules) (by_report w.in_ok-error.ensures.state (to_end (rw w.p-is at c.in_ok-found.ensures.script)))
+    | then-not-matches+in_ok-error w ↦
+        fails (search rules)
+        (by_report w.in_ok-error.ensures.state
+        (to_end
+        (rw w.p-is at c.in_ok-found.ensures.script)))
     | else-not-matches w ↦ passes (search rules) (to_end (rw w.p-is at c.in_ok-found.ensures.script))
   ];
 }

@@ -23,5 +23,6 @@ returns-then-not-branch-clause-script g c = record {
 pub returns-clause-script : goal.returns-clause-script
 unfolding lifetime_bound_list
 returns-clause-script g c = record {
-  run = last_turn c.bounds.invariant.script (by_rule (answers_no c.if-branch.false c.in_ok-lifetime_bound.ensures.script) gives) refl;
+  run = last_turn c.bounds.invariant.script
+      (by_rule (answers_no c.if-branch.false c.in_ok-lifetime_bound.ensures.script) gives) refl;
 }

@@ -5,7 +5,9 @@ use Rattle.rap_grammar.proofs.grammar.generic_params.opt_generic_param_list.Goal
 
 pub returns-in_ok-generic_param_list-clause-script : goal.returns-in_ok-generic_param_list-clause-script
 unfolding opt_generic_param_list
-returns-in_ok-generic_param_list-clause-script g c = record { run = then_by c.at.ensures c.if-at.true (to_end c.in_ok-generic_param_list.ensures.script) }
+returns-in_ok-generic_param_list-clause-script g c = record {
+  run = then_by c.at.ensures c.if-at.true (to_end c.in_ok-generic_param_list.ensures.script);
+}
 
 pub returns-else-at-clause-script : goal.returns-else-at-clause-script
 unfolding opt_generic_param_list

@@ -5,8 +5,12 @@ use Rattle.rap_grammar.proofs.grammar.generic_params.predicate_bounds.Goals as g
 
 pub returns-then-at-clause-script : goal.returns-then-at-clause-script
 unfolding predicate_bounds
-returns-then-at-clause-script g c = record { run = then_by c.at.ensures c.if-at.true (to_end c.in_ok-bounds.ensures.script) }
+returns-then-at-clause-script g c = record {
+  run = then_by c.at.ensures c.if-at.true (to_end c.in_ok-bounds.ensures.script);
+}
 
 pub returns-clause-script : goal.returns-clause-script
 unfolding predicate_bounds
-returns-clause-script g c = record { run = else_by c.at.ensures c.if-at.false (by_report c.in_ok-error.ensures.state gives) }
+returns-clause-script g c = record {
+  run = else_by c.at.ensures c.if-at.false (by_report c.in_ok-error.ensures.state gives);
+}

@@ -9,8 +9,10 @@ unfolding type_bound
 returns-then-not-branch-clause-script g c = record {
   run = by_start c.in_ok-m.ensures.state
       (by_eat_or c.in_ok-has_paren.ensures.state
-      (λ _. by_rule (answers_no c.if-not-branch.true c.in_ok-bare_bound.ensures.script) (by_abandon c.in_ok-abandon.ensures.state gives))
-      (λ _. by_rule (answers_no c.if-not-branch.true c.in_ok-bare_bound.ensures.script) (by_abandon c.in_ok-abandon.ensures.state gives)));
+      (λ _. by_rule (answers_no c.if-not-branch.true c.in_ok-bare_bound.ensures.script)
+          (by_abandon c.in_ok-abandon.ensures.state gives))
+      (λ _. by_rule (answers_no c.if-not-branch.true c.in_ok-bare_bound.ensures.script)
+          (by_abandon c.in_ok-abandon.ensures.state gives)));
 }
 
 pub returns-clause-script : goal.returns-clause-script
@@ -19,7 +21,8 @@ returns-clause-script g c = record {
   run = by_start c.in_ok-m.ensures.state
       (by_eat_or c.in_ok-has_paren.ensures.state
       (λ e. by_rule (answers_yes c.if-not-branch.false c.in_ok-bare_bound.ensures.script) (elim c.if-has_paren.branch [
-        | then-has_paren+in_ok-expect w ↦ by_expect w.in_ok-expect.ensures.state (by_complete (rw w.p-is at c.in_ok-complete.ensures.state.0) gives)
+        | then-has_paren+in_ok-expect w ↦
+            by_expect w.in_ok-expect.ensures.state (by_complete (rw w.p-is at c.in_ok-complete.ensures.state.0) gives)
         | else-has_paren w ↦ absurd (clash e w.if-has_paren.false)
       ]))
       (λ e. by_rule (answers_yes c.if-not-branch.false c.in_ok-bare_bound.ensures.script) (elim c.if-has_paren.branch [

@@ -10,7 +10,10 @@ pub bounds-preserved : goal.bounds-preserved
 bounds-preserved g c = record {
   grew = search rules;
   begun = λ e. elim (c.bounds.invariant.begun e) [
-    | inl h ↦ inr (let k : next (state c.bounds.p) ≡ LIFETIME_IDENT = rw h e in let t = c.in_ok-type_bound.ensures.lifetime k in search rules)
+    | inl h ↦
+        let k : next (state c.bounds.p) ≡ LIFETIME_IDENT = rw h e in
+        let t = c.in_ok-type_bound.ensures.lifetime k in
+        inr (search rules)
     | inr t ↦ inr (search rules)
   ];
   script = turn c.bounds.invariant.script
@@ -28,12 +31,16 @@ returns-then-not-branch-clause-script g c = record {
 
 pub returns-clause-took : goal.returns-clause-took
 returns-clause-took g c = λ e. elim (c.bounds.invariant.begun e) [
-  | inl h ↦ let k : next (state c.bounds.p) ≡ LIFETIME_IDENT = rw h e in let t = c.in_ok-type_bound.ensures.lifetime k in search rules
+  | inl h ↦
+      let k : next (state c.bounds.p) ≡ LIFETIME_IDENT = rw h e in
+      let t = c.in_ok-type_bound.ensures.lifetime k in
+      search rules
   | inr t ↦ search rules
 ]
 
 pub returns-clause-script : goal.returns-clause-script
 unfolding type_bounds
 returns-clause-script g c = record {
-  run = last_turn c.bounds.invariant.script (by_rule (answers_no c.if-branch.false c.in_ok-type_bound.ensures.script) gives) refl;
+  run = last_turn c.bounds.invariant.script
+      (by_rule (answers_no c.if-branch.false c.in_ok-type_bound.ensures.script) gives) refl;
 }

@@ -10,7 +10,8 @@ use Rattle.rap_grammar.proofs.grammar.generic_params.type_bounds.Given as goal
 abbrev pub invariant-bounds : goal.invariant-bounds
 invariant-bounds g l = record {
   grew : Grew (state l.initial.p) (state l.p) 0;
-  begun : next (state l.initial.p) ≡ LIFETIME_IDENT → (state l.p ≡ state l.initial.p) ⊎ Took (state l.initial.p) (state l.p) name_end_room;
+  begun : next (state l.initial.p) ≡ LIFETIME_IDENT →
+      (state l.p ≡ state l.initial.p) ⊎ Took (state l.initial.p) (state l.p) name_end_room;
   script : Turns bound_turn false false false false (state l.initial.p) (state l.p);
 }
 

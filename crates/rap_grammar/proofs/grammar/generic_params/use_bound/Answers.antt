@@ -1,11 +1,11 @@
 use Rattle.std.proofs.Common.{rules}
-use Rattle.rap_grammar.specs.GenericParams.{use_bound}
+use Rattle.rap_grammar.specs.GenericParams.{use_bound, use_bound_args}
 use Rattle.rap_grammar.specs.Script.{gives}
 use Rattle.rap_grammar.proofs.Steps.{by_start, by_bump, by_rule, by_complete}
 use Rattle.rap_grammar.proofs.grammar.generic_params.use_bound.Goals as goal
 
 pub returns-clause-script : goal.returns-clause-script
-unfolding use_bound
+unfolding use_bound use_bound_args
 returns-clause-script g c = record {
   run = by_bump (search rules) c.in_ok-bump.ensures.state
       (by_start c.in_ok-m.ensures.state

@@ -9,13 +9,16 @@ pub returns-clause-script : goal.returns-clause-script
 unfolding where_predicate
 returns-clause-script g c = record {
   run = by_start c.in_ok-m.ensures.state (elim c.match-current.branch [
-    | in-LIFETIME_IDENT+in_ok-lifetime-in-LIFETIME_IDENT+in_ok-predicate_bounds-in-LIFETIME_IDENT w ↦ passes (search rules)
+    | in-LIFETIME_IDENT+in_ok-lifetime-in-LIFETIME_IDENT+in_ok-predicate_bounds-in-LIFETIME_IDENT w ↦
+        passes (search rules)
         (by_rule w.in_ok-lifetime-in-LIFETIME_IDENT.ensures.script
         (by_rule w.in_ok-predicate_bounds-in-LIFETIME_IDENT.ensures.script
         (by_complete (rw w.p-is at c.in_ok-complete.ensures.state.0) gives)))
     | in-IMPL_KW+in_ok-error-in-IMPL_KW w ↦ fails (search rules) (passes (search rules)
-        (by_report w.in_ok-error-in-IMPL_KW.ensures.state (by_complete (rw w.p-is at c.in_ok-complete.ensures.state.0) gives)))
+        (by_report w.in_ok-error-in-IMPL_KW.ensures.state
+        (by_complete (rw w.p-is at c.in_ok-complete.ensures.state.0) gives)))
     | in_default+in_ok-type_predicate-in_default w ↦ fails (search rules) (fails (search rules)
-        (by_rule w.in_ok-type_predicate-in_default.ensures.script (by_complete (rw w.p-is at c.in_ok-complete.ensures.state.0) gives)))
+        (by_rule w.in_ok-type_predicate-in_default.ensures.script
+        (by_complete (rw w.p-is at c.in_ok-complete.ensures.state.0) gives)))
   ]);
 }

@@ -10,8 +10,14 @@ returns-then-branch-clause-script c = record { run = ate c.in_ok-eat.ensures.sta
 
 pub returns-then-not-is_param_first-clause-script : goal.returns-then-not-is_param_first-clause-script
 unfolding after_param
-returns-then-not-is_param_first-clause-script c = record { run = not_ate c.in_ok-eat.ensures.state c.if-branch.false (fails (search rules) gives) }
+returns-then-not-is_param_first-clause-script c = record {
+  run = not_ate c.in_ok-eat.ensures.state c.if-branch.false (fails (search rules) gives);
+}
 
 pub returns-clause-script : goal.returns-clause-script
 unfolding after_param
-returns-clause-script c = record { run = not_ate c.in_ok-eat.ensures.state c.if-branch.false (passes (search rules) (by_report c.in_ok-error.ensures.state gives)) }
+returns-clause-script c = record {
+  run = not_ate c.in_ok-eat.ensures.state c.if-branch.false
+      (passes (search rules)
+      (by_report c.in_ok-error.ensures.state gives));
+}

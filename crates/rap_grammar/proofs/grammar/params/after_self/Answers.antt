@@ -5,7 +5,9 @@ use Rattle.rap_grammar.proofs.grammar.params.after_self.Goals as goal
 
 pub returns-in_ok-expect-clause-script : goal.returns-in_ok-expect-clause-script
 unfolding after_self
-returns-in_ok-expect-clause-script c = record { run = else_by c.at.ensures c.if-not-at.true (by_expect c.in_ok-expect.ensures.state gives) }
+returns-in_ok-expect-clause-script c = record {
+  run = else_by c.at.ensures c.if-not-at.true (by_expect c.in_ok-expect.ensures.state gives);
+}
 
 pub returns-else-not-at-clause-script : goal.returns-else-not-at-clause-script
 unfolding after_self

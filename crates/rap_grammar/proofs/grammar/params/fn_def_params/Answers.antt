@@ -5,8 +5,13 @@ use Rattle.rap_grammar.proofs.grammar.params.fn_def_params.Goals as goal
 
 pub returns-then-not-branch-clause-script : goal.returns-then-not-branch-clause-script
 unfolding fn_def_params
-returns-then-not-branch-clause-script g c = record { run = by_rule (answers_no c.if-not-branch.true c.in_ok-first_param.ensures.script) gives }
+returns-then-not-branch-clause-script g c = record {
+  run = by_rule (answers_no c.if-not-branch.true c.in_ok-first_param.ensures.script) gives;
+}
 
 pub returns-clause-script : goal.returns-clause-script
 unfolding fn_def_params
-returns-clause-script g c = record { run = by_rule (answers_yes c.if-not-branch.false c.in_ok-first_param.ensures.script) (to_end c.in_ok-params.ensures.script) }
+returns-clause-script g c = record {
+  run = by_rule (answers_yes c.if-not-branch.false c.in_ok-first_param.ensures.script)
+      (to_end c.in_ok-params.ensures.script);
+}

@@ -17,4 +17,8 @@ returns-then-is_named_param-clause-script g c = record {
 
 pub returns-clause-script : goal.returns-clause-script
 unfolding fn_ptr_param
-returns-clause-script g c = record { run = not_ate c.in_ok-eat.ensures.state c.if-branch.false (else_by c.is_named_param.ensures c.if-is_named_param.false (to_end c.in_ok-type_.ensures.script)) }
+returns-clause-script g c = record {
+  run = not_ate c.in_ok-eat.ensures.state c.if-branch.false
+      (else_by c.is_named_param.ensures c.if-is_named_param.false
+      (to_end c.in_ok-type_.ensures.script));
+}

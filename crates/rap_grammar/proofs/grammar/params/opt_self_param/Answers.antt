@@ -5,12 +5,21 @@ use Rattle.rap_grammar.proofs.grammar.params.opt_self_param.Goals as goal
 
 pub returns-then-is_self_value-clause-script : goal.returns-then-is_self_value-clause-script
 unfolding opt_self_param
-returns-then-is_self_value-clause-script g c = record { run = then_by c.is_self_value.ensures c.if-is_self_value.true (to_end c.in_ok-self_value.ensures.script) }
+returns-then-is_self_value-clause-script g c = record {
+  run = then_by c.is_self_value.ensures c.if-is_self_value.true (to_end c.in_ok-self_value.ensures.script);
+}
 
 pub returns-then-is_self_ref-clause-script : goal.returns-then-is_self_ref-clause-script
 unfolding opt_self_param
-returns-then-is_self_ref-clause-script g c = record { run = else_by c.is_self_value.ensures c.if-is_self_value.false (then_by c.is_self_ref.ensures c.if-is_self_ref.true (to_end c.in_ok-self_ref.ensures.script)) }
+returns-then-is_self_ref-clause-script g c = record {
+  run = else_by c.is_self_value.ensures c.if-is_self_value.false
+      (then_by c.is_self_ref.ensures c.if-is_self_ref.true
+      (to_end c.in_ok-self_ref.ensures.script));
+}
 
 pub returns-clause-script : goal.returns-clause-script
 unfolding opt_self_param
-returns-clause-script g c = record { run = else_by c.is_self_value.ensures c.if-is_self_value.false (else_by c.is_self_ref.ensures c.if-is_self_ref.false gives) }
+returns-clause-script g c = record {
+  run = else_by c.is_self_value.ensures c.if-is_self_value.false
+      (else_by c.is_self_ref.ensures c.if-is_self_ref.false gives);
+}

@@ -11,8 +11,13 @@ pub self_as_name-requires : goal.self_as_name-requires
 self_as_name-requires c =
     let rs = (state c.args.p.now).rest in
     let l : (state c.if-at.p).rest ≡ drop (past LIFETIME_IDENT 1 rs) rs = elim c.if-at.branch [
-      | then-at+in_ok-lifetime w ↦ rw w.p-is (past_taken rs 1 LIFETIME_IDENT c.in_ok-bump.ensures.state.rest (sym c.at.ensures ∙ w.if-at.true) (past_lifetime w.in_ok-lifetime.ensures.script))
-      | else-at w ↦ rw w.p-is (past_none rs 1 LIFETIME_IDENT c.in_ok-bump.ensures.state.rest (sym c.at.ensures ∙ w.if-at.false) refl)
+      | then-at+in_ok-lifetime w ↦
+          rw w.p-is
+          (past_taken rs 1 LIFETIME_IDENT c.in_ok-bump.ensures.state.rest (sym c.at.ensures ∙ w.if-at.true)
+          (past_lifetime w.in_ok-lifetime.ensures.script))
+      | else-at w ↦
+          rw w.p-is
+          (past_none rs 1 LIFETIME_IDENT c.in_ok-bump.ensures.state.rest (sym c.at.ensures ∙ w.if-at.false) refl)
     ] in
     self_of_ref rs c.requires.here (past_ate rs (past LIFETIME_IDENT 1 rs) MUT_KW refl l c.in_ok-eat.ensures.state)
 

@@ -9,7 +9,11 @@ pub returns-then-nth_at-clause-script : goal.returns-then-nth_at-clause-script
 unfolding variadic_param
 returns-then-nth_at-clause-script c = let a = sym c.at.ensures ∙ c.if-at.true in
     let n = sym c.nth_at.ensures ∙ c.if-nth_at.true in
-    record { run = passes (both a n) (by_bump a c.in_ok-bump.ensures.state (by_bump (search rules) c.in_ok-bump-2.ensures.state gives)) }
+    record {
+      run = passes (both a n)
+          (by_bump a c.in_ok-bump.ensures.state
+          (by_bump (search rules) c.in_ok-bump-2.ensures.state gives));
+    }
 
 pub returns-clause-script : goal.returns-clause-script
 unfolding variadic_param

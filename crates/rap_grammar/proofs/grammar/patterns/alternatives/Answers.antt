@@ -1,4 +1,4 @@
-use Rattle.std.proofs.Common.{rules, refl, true, false}
+use Rattle.std.proofs.Common.{rules, refl}
 use Rattle.rap_grammar.specs.Patterns.{alternatives}
 use Rattle.rap_grammar.specs.Script.{gives}
 use Rattle.rap_grammar.proofs.Steps.{by_bump, by_rule, turn, last_turn, then_by, else_by}
@@ -14,4 +14,7 @@ alternatives-preserved g c = record {
 
 pub returns-clause-script : goal.returns-clause-script
 unfolding alternatives
-returns-clause-script g c = record { run = last_turn c.alternatives.invariant.script (else_by c.at.ensures c.alternatives-test.false gives) refl }
+returns-clause-script g c = record {
+  run = last_turn c.alternatives.invariant.script
+      (else_by c.at.ensures c.alternatives-test.false gives) refl;
+}

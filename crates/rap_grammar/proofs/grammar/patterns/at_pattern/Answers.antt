@@ -1,4 +1,4 @@
-use Rattle.std.proofs.Common.{rules, sym, ◌∙◌, true, false}
+use Rattle.std.proofs.Common.{rules, sym, ◌∙◌}
 use Rattle.rap_base.specs.TokenKind.{AT}
 use Rattle.rap_events.specs.Composite.{is_at}
 use Rattle.rap_events.specs.State.{state}
@@ -21,6 +21,7 @@ unfolding at_pattern
 returns-else-with_at-clause-script g c = record {
   run = fails (elim c.else-with_at.branch [
     | else-with_at-via-then-with_at+else-at w ↦ not_both (λ _. sym w.at.ensures ∙ w.if-at.false)
-    | else-with_at-via-else-with_at w ↦ not_both {b = is_at AT (state c.args.p.now).rest} (λ e. absurd (clash e w.if-with_at.false))
+    | else-with_at-via-else-with_at w ↦
+        not_both {b = is_at AT (state c.args.p.now).rest} (λ e. absurd (clash e w.if-with_at.false))
   ]) gives;
 }

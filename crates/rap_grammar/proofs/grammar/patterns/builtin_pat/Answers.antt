@@ -1,4 +1,4 @@
-use Rattle.std.proofs.Common.{rules, true, false}
+use Rattle.std.proofs.Common.{rules}
 use Rattle.rap_events.specs.State.{state}
 use Rattle.rap_grammar.specs.Patterns.{builtin_pat}
 use Rattle.rap_grammar.proofs.Patterning.{builtin_no_stop}
@@ -13,7 +13,11 @@ pub returns-then-branch-2-clause-atom : goal.returns-then-branch-2-clause-atom
 returns-then-branch-2-clause-atom g c = (search rules, builtin_no_stop (state c.args.p.now).rest c.requires.here)
 
 pub returns-clause-atom : goal.returns-clause-atom
-returns-clause-atom g c = record { grew = search rules; took = λ n. search rules; stays = λ s. absurd (clash s (builtin_no_stop (state c.args.p.now).rest c.requires.here)) }
+returns-clause-atom g c = record {
+  grew = search rules;
+  took = λ n. search rules;
+  stays = λ s. absurd (clash s (builtin_no_stop (state c.args.p.now).rest c.requires.here));
+}
 
 pub returns-then-branch-clause-script : goal.returns-then-branch-clause-script
 unfolding builtin_pat

@@ -5,4 +5,9 @@ use Rattle.rap_grammar.proofs.grammar.patterns.ident_pat.Goals as goal
 
 pub returns-clause-script : goal.returns-clause-script
 unfolding ident_pat
-returns-clause-script g c = record { run = by_start c.in_ok-m.ensures.state (by_rule c.in_ok-binding.ensures.script (by_rule c.in_ok-at_pattern.ensures.script (by_complete c.in_ok-cm.ensures.state.0 gives))) }
+returns-clause-script g c = record {
+  run = by_start c.in_ok-m.ensures.state
+      (by_rule c.in_ok-binding.ensures.script
+      (by_rule c.in_ok-at_pattern.ensures.script
+      (by_complete c.in_ok-cm.ensures.state.0 gives)));
+}

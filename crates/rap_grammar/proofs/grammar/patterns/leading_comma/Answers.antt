@@ -1,4 +1,3 @@
-use Rattle.std.proofs.Common.{true, false}
 use Rattle.rap_grammar.specs.Patterns.{leading_comma}
 use Rattle.rap_grammar.specs.Script.{gives}
 use Rattle.rap_grammar.proofs.Steps.{by_report, ate, not_ate}
@@ -6,7 +5,10 @@ use Rattle.rap_grammar.proofs.grammar.patterns.leading_comma.Goals as goal
 
 pub returns-then-branch-clause-script : goal.returns-then-branch-clause-script
 unfolding leading_comma
-returns-then-branch-clause-script c = record { run = ate c.in_ok-eat.ensures.state c.if-branch.true (by_report c.in_ok-error.ensures.state gives) }
+returns-then-branch-clause-script c = record {
+  run = ate c.in_ok-eat.ensures.state c.if-branch.true
+      (by_report c.in_ok-error.ensures.state gives);
+}
 
 pub returns-clause-script : goal.returns-clause-script
 unfolding leading_comma

@@ -7,7 +7,8 @@ use Rattle.rap_grammar.proofs.Steps.{by_recover}
 use Rattle.rap_grammar.proofs.grammar.patterns.missing_pat.Goals as goal
 
 pub returns-clause-reads : goal.returns-clause-reads
-returns-clause-reads c = missing c.pat_recovery_set.ensures c.requires.end c.requires.no_reference c.in_ok-err_recover.ensures.state
+returns-clause-reads c =
+    missing c.pat_recovery_set.ensures c.requires.end c.requires.no_reference c.in_ok-err_recover.ensures.state
 
 pub returns-clause-script : goal.returns-clause-script
 unfolding missing_pat

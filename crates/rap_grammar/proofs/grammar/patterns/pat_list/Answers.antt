@@ -1,4 +1,4 @@
-use Rattle.std.proofs.Common.{rules, refl, true, false, not}
+use Rattle.std.proofs.Common.{rules, refl, not}
 use Rattle.rap_grammar.specs.Patterns.{pat_list}
 use Rattle.rap_grammar.proofs.Patterning.{took_before}
 use Rattle.rap_grammar.specs.Script.{gives, passes, fails, looks}
@@ -55,4 +55,7 @@ returns-else-not-at-clause-script g c = record {
 
 pub returns-after-patterns-clause-script : goal.returns-after-patterns-clause-script
 unfolding pat_list
-returns-after-patterns-clause-script g c = record { run = last_turn c.patterns.invariant.script (then_by c.at.ensures c.patterns-test.false gives) refl }
+returns-after-patterns-clause-script g c = record {
+  run = last_turn c.patterns.invariant.script
+      (then_by c.at.ensures c.patterns-test.false gives) refl;
+}

@@ -1,4 +1,3 @@
-use Rattle.std.proofs.Common.{true, false}
 use Rattle.rap_grammar.specs.Patterns.{pattern_single_r}
 use Rattle.rap_grammar.specs.Script.{gives}
 use Rattle.rap_grammar.proofs.Steps.{by_rule, to_end, then_by, else_by}
@@ -6,7 +5,10 @@ use Rattle.rap_grammar.proofs.grammar.patterns.pattern_single_r.Goals as goal
 
 pub returns-then-at-clause-script : goal.returns-then-at-clause-script
 unfolding pattern_single_r
-returns-then-at-clause-script g c = record { run = then_by c.at.ensures c.if-at.true (to_end c.in_ok-range_to_pat.ensures.script) }
+returns-then-at-clause-script g c = record {
+  run = then_by c.at.ensures c.if-at.true
+      (to_end c.in_ok-range_to_pat.ensures.script);
+}
 
 pub returns-then-at-2-clause-script : goal.returns-then-at-2-clause-script
 unfolding pattern_single_r

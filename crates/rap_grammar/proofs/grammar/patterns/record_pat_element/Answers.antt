@@ -1,4 +1,4 @@
-use Rattle.std.proofs.Common.{rules, true, false}
+use Rattle.std.proofs.Common.{rules}
 use Rattle.rap_grammar.specs.Patterns.{record_pat_element}
 use Rattle.rap_grammar.specs.Script.{gives}
 use Rattle.rap_grammar.proofs.Steps.{by_bump, by_start, by_complete, by_abandon, by_rule, then_by, else_by}

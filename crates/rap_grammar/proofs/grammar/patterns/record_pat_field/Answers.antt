@@ -1,4 +1,4 @@
-use Rattle.std.proofs.Common.{rules, sym, ◌∙◌, true, false}
+use Rattle.std.proofs.Common.{rules, sym, ◌∙◌}
 use Rattle.rap_base.specs.TokenKind.{COLON}
 use Rattle.rap_events.specs.State.{state}
 use Rattle.rap_grammar.specs.Patterns.{record_pat_field}
@@ -8,14 +8,19 @@ use Rattle.rap_grammar.proofs.Steps.{by_bump, by_skip, by_rule, then_by, else_by
 use Rattle.rap_grammar.proofs.grammar.patterns.record_pat_field.Goals as goal
 
 pub bump-requires-clause-here : goal.bump-requires-clause-here
-bump-requires-clause-here g c = separator_next COLON (state c.args.p.now).rest (sym c.at_field.ensures ∙ c.if-at_field.true) c.in_ok-name_ref_or_index.ensures.rest
+bump-requires-clause-here g c =
+    separator_next COLON (state c.args.p.now).rest (sym c.at_field.ensures ∙ c.if-at_field.true)
+    c.in_ok-name_ref_or_index.ensures.rest
 
 pub returns-then-at_field-clause-script : goal.returns-then-at_field-clause-script
 unfolding record_pat_field
 returns-then-at_field-clause-script g c = record {
-  run = then_by c.at_field.ensures c.if-at_field.true
+  run =
+      let field = sym c.at_field.ensures ∙ c.if-at_field.true in
+      let here = separator_next COLON (state c.args.p.now).rest field c.in_ok-name_ref_or_index.ensures.rest in
+      then_by c.at_field.ensures c.if-at_field.true
       (by_rule c.in_ok-name_ref_or_index.ensures.script
-      (by_bump (separator_next COLON (state c.args.p.now).rest (sym c.at_field.ensures ∙ c.if-at_field.true) c.in_ok-name_ref_or_index.ensures.rest) c.in_ok-bump.ensures.state
+      (by_bump here c.in_ok-bump.ensures.state
       (by_rule c.in_ok-pattern.ensures.script gives)));
 }
 

@@ -1,4 +1,4 @@
-use Rattle.std.proofs.Common.{rules, refl, true, false, not}
+use Rattle.std.proofs.Common.{rules, refl, not}
 use Rattle.rap_grammar.specs.Patterns.{record_pat_fields}
 use Rattle.rap_grammar.specs.Script.{gives}
 use Rattle.rap_grammar.proofs.Steps.{by_rule, by_expect, turn, last_turn, then_by, else_by}
@@ -35,4 +35,7 @@ returns-else-not-at-clause-script g c = record {
 
 pub returns-after-fields-clause-script : goal.returns-after-fields-clause-script
 unfolding record_pat_fields
-returns-after-fields-clause-script g c = record { run = last_turn c.fields.invariant.script (then_by c.at.ensures c.fields-test.false gives) refl }
+returns-after-fields-clause-script g c = record {
+  run = last_turn c.fields.invariant.script
+      (then_by c.at.ensures c.fields-test.false gives) refl;
+}

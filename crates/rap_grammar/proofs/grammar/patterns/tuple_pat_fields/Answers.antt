@@ -6,4 +6,8 @@ use Rattle.rap_grammar.proofs.grammar.patterns.tuple_pat_fields.Goals as goal
 
 pub returns-clause-script : goal.returns-clause-script
 unfolding tuple_pat_fields
-returns-clause-script g c = record { run = by_bump (search rules) c.in_ok-bump.ensures.state (by_rule c.in_ok-pat_list.ensures.script (by_expect c.in_ok-expect.ensures.state gives)) }
+returns-clause-script g c = record {
+  run = by_bump (search rules) c.in_ok-bump.ensures.state
+      (by_rule c.in_ok-pat_list.ensures.script
+      (by_expect c.in_ok-expect.ensures.state gives));
+}

@@ -1,4 +1,4 @@
-use Rattle.std.proofs.Common.{rules, true, false, not}
+use Rattle.std.proofs.Common.{rules, not}
 use Rattle.rap_grammar.specs.Patterns.{tuple_patterns}
 use Rattle.rap_grammar.specs.Script.{gives, passes, fails, looks}
 use Rattle.rap_grammar.proofs.Steps.{by_report, by_rule, by_expect, turn, last_turn, then_by, else_by, not_on}
@@ -43,8 +43,15 @@ pub returns-then-has_pat-clause-script : goal.returns-then-has_pat-clause-script
 unfolding tuple_patterns
 returns-then-has_pat-clause-script g c = record {
   run = elim c.patterns-test.branch [
-    | then-patterns-test+else-not-at w ↦ last_turn c.patterns.invariant.script (else_by c.at.ensures w.patterns-test.true (then_by w.at-in-patterns.ensures w.if-not-at.false (rw c.if-has_pat.true gives))) (not_on _)
-    | else-patterns-test w ↦ last_turn c.patterns.invariant.script (then_by c.at.ensures w.patterns-test.false (rw c.if-has_pat.true gives)) (not_on _)
+    | then-patterns-test+else-not-at w ↦
+        last_turn c.patterns.invariant.script
+        (else_by c.at.ensures w.patterns-test.true
+        (then_by w.at-in-patterns.ensures w.if-not-at.false
+        (rw c.if-has_pat.true gives))) (not_on _)
+    | else-patterns-test w ↦
+        last_turn c.patterns.invariant.script
+        (then_by c.at.ensures w.patterns-test.false
+        (rw c.if-has_pat.true gives)) (not_on _)
   ];
 }
 
@@ -52,7 +59,14 @@ pub returns-else-has_pat-clause-script : goal.returns-else-has_pat-clause-script
 unfolding tuple_patterns
 returns-else-has_pat-clause-script g c = record {
   run = elim c.patterns-test.branch [
-    | then-patterns-test+else-not-at w ↦ last_turn c.patterns.invariant.script (else_by c.at.ensures w.patterns-test.true (then_by w.at-in-patterns.ensures w.if-not-at.false (rw c.if-has_pat.false gives))) (not_on _)
-    | else-patterns-test w ↦ last_turn c.patterns.invariant.script (then_by c.at.ensures w.patterns-test.false (rw c.if-has_pat.false gives)) (not_on _)
+    | then-patterns-test+else-not-at w ↦
+        last_turn c.patterns.invariant.script
+        (else_by c.at.ensures w.patterns-test.true
+        (then_by w.at-in-patterns.ensures w.if-not-at.false
+        (rw c.if-has_pat.false gives))) (not_on _)
+    | else-patterns-test w ↦
+        last_turn c.patterns.invariant.script
+        (then_by c.at.ensures w.patterns-test.false
+        (rw c.if-has_pat.false gives)) (not_on _)
   ];
 }

@@ -6,4 +6,8 @@ use Rattle.rap_grammar.proofs.grammar.patterns.wildcard_pat.Goals as goal
 
 pub returns-clause-script : goal.returns-clause-script
 unfolding wildcard_pat
-returns-clause-script c = record { run = by_start c.in_ok-m.ensures.state (by_bump (search rules) c.in_ok-bump.ensures.state (by_complete c.in_ok-cm.ensures.state.0 gives)) }
+returns-clause-script c = record {
+  run = by_start c.in_ok-m.ensures.state
+      (by_bump (search rules) c.in_ok-bump.ensures.state
+      (by_complete c.in_ok-cm.ensures.state.0 gives));
+}

@@ -5,5 +5,7 @@ use Rattle.rap_grammar.proofs.grammar.generic_params.GenericParamElement.parse.G
 pub returns-clause-script : goal.returns-clause-script
 unfolding attributed_param
 returns-clause-script g c = record {
-  run = by_start c.in_ok-m.ensures.state (by_rule c.in_ok-outer_attrs.ensures.script (to_end c.in_ok-found.ensures.script));
+  run = by_start c.in_ok-m.ensures.state
+      (by_rule c.in_ok-outer_attrs.ensures.script
+      (to_end c.in_ok-found.ensures.script));
 }
