@@ -2,8 +2,10 @@ pub mod Balance
 pub mod Binary
 pub mod Complete
 pub mod Example
+pub mod Forests
 pub mod Growth
 pub mod Lookahead
+pub mod OneEnd
 pub mod OneTree
 pub mod Operating
 pub mod Operators

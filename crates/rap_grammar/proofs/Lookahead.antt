@@ -1,14 +1,14 @@
 -- Tokens that were looked at before are taken one by one.
-use Rattle.std.proofs.Common.{rules, ◌≡◌, ℕ, ◌+◌, List, Bool, true, false, ◌==◌, ◌&&◌, refl, sym, ap, ◌∙◌, drop}
+use Rattle.std.proofs.Common.{rules, ◌≡◌, ℕ, List, Bool, true, false, refl, sym, ap, ◌∙◌, drop}
 use Rattle.std.proofs.lemmas.List.{drop-drop}
-use Rattle.rap_base.specs.TokenKind.{SELF_KW, AMP, MUT_KW, LIFETIME_IDENT}
+use Rattle.rap_base.specs.TokenKind.{SELF_KW, MUT_KW, LIFETIME_IDENT}
 use Rattle.rap_events.specs.Record.{Record, next_kind}
 use Rattle.rap_events.specs.Composite.{is_at, width}
 use Rattle.rap_events.specs.State.{State, Ate}
 use Rattle.rap_events.proofs.Truth.{and_left, and_right}
 use Rattle.rap_grammar.specs.Grammar.{lifetime}
 use Rattle.rap_grammar.specs.Knot.{script_of, Follows}
-use Rattle.rap_grammar.specs.Params.{isolated_self, past, is_self_ref}
+use Rattle.rap_grammar.specs.Params.{past, is_self_ref}
 use Rattle.rap_grammar.specs.Script.{Spot, Outcome, something, Runs, starts, takes, finishes, gives}
 
 lifetime_rest : {p q : Spot} {v : Outcome} → Runs script_of lifetime p q v → q.rest ≡ drop 1 p.rest

@@ -12,7 +12,8 @@ use Rattle.rap_grammar.specs.Phrase.{Phrase}
 use Rattle.rap_grammar.specs.Script.{Script, forests, Spot, Outcome, something, Runs}
 use Rattle.rap_grammar.specs.Top.{IsTopOf, top_tree}
 use Rattle.rap_grammar.proofs.Complete.{expression_whole, type_whole, expression_at_beginning}
-use Rattle.rap_grammar.proofs.Unique.{Same, one_end, unmarked, one_expression, one_type}
+use Rattle.rap_grammar.proofs.OneEnd.{Same, one_end}
+use Rattle.rap_grammar.proofs.Unique.{unmarked, one_expression, one_type}
 
 -- one tree is kept as it is
 top_tree-whole : (t : Forest) → one_tree t ≡ true → top_tree t [] ≡ t

@@ -7,7 +7,7 @@ use Rattle.rap_base.specs.declared.token_set.TokenSet.{TokenSet}
 use Rattle.rap_events.specs.Record.{Record, next_kind, kind_at}
 use Rattle.rap_events.specs.Cover.{first_may_bear}
 use Rattle.rap_events.specs.State.{State, next, Ate, Recovered}
-use Rattle.rap_grammar.specs.Grew.{Grew, Took}
+use Rattle.rap_grammar.specs.Grew.{Took}
 use Rattle.rap_events.proofs.Truth.{and_right}
 use Rattle.rap_grammar.specs.First.{is_pat_top_first}
 use Rattle.rap_grammar.specs.Patterns.{starts_field}

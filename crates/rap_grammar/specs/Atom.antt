@@ -8,10 +8,9 @@ use Rattle.rap_events.specs.State.{expected}
 unfoldable pub use Rattle.rap_grammar.specs.Called.{unrestricted, expr}
 use Rattle.rap_grammar.specs.First.{is_literal_first, starts_path}
 use Rattle.rap_grammar.specs.Paths.{expr_path}
-use Rattle.rap_grammar.specs.Phrase.{Phrase, expression}
-use Rattle.rap_grammar.specs.Script.{Script, Outcome, nothing, something, block, give, test, token, any, report, skip, start, finish, after, rule, loop, again}
+use Rattle.rap_grammar.specs.Phrase.{Phrase}
+use Rattle.rap_grammar.specs.Script.{Script, Outcome, nothing, something, block, give, test, token, any, report, skip, start, finish, after, loop, again}
 use Rattle.rap_grammar.specs.Words.{done, if_some, next_is, expect, of_bool}
-use Rattle.rap_grammar.specs.declared.grammar.expressions.Restrictions.{Restrictions}
 
 unfoldable pub literal : Script Phrase
 literal = test (λ rs. is_literal_first (next_kind rs)) (start (any (finish LITERAL done))) (give nothing)

@@ -33,7 +33,8 @@ cfg_value = test (is_at IDENT) (skip (codes "expected a string literal") done) (
 
 -- the conditions in the brackets of another
 abbrev pub cfg_operands : Script Phrase
-cfg_operands = delimited cfg_predicate_element L_PAREN R_PAREN COMMA (codes "expected a cfg predicate") is_cfg_predicate_first
+cfg_operands =
+    delimited cfg_predicate_element L_PAREN R_PAREN COMMA (codes "expected a cfg predicate") is_cfg_predicate_first
 
 -- a condition
 unfoldable pub cfg_predicate : Script Phrase
@@ -46,7 +47,9 @@ cfg_predicate =
 
 -- an attribute that holds if a condition does
 unfoldable pub cfg_meta : Script Phrase
-cfg_meta = start (bear CFG_KW (token L_PAREN (after cfg_predicate (λ v. eat COMMA (expect R_PAREN (finish CFG_META done))))))
+cfg_meta =
+    start (bear CFG_KW (token L_PAREN (after cfg_predicate (λ v. eat COMMA (expect R_PAREN
+    (finish CFG_META done))))))
 
 abbrev pub metas_turn : Bool → Bool → Script Phrase
 metas_turn a b =
@@ -99,7 +102,9 @@ unfoldable pub attr_mark : Bool → Script Phrase
 attr_mark inner = token POUND (if inner then token BANG done else done)
 
 unfoldable pub attr_brackets : Script Phrase
-attr_brackets = test (is_at L_BRACK) (token L_BRACK (after meta (λ v. expect R_BRACK done))) (report (expected L_BRACK) done)
+attr_brackets =
+    test (is_at L_BRACK) (token L_BRACK (after meta (λ v. expect R_BRACK done)))
+    (report (expected L_BRACK) done)
 
 -- an attribute, an inner one or not
 unfoldable pub attr : Bool → Script Phrase

@@ -25,10 +25,14 @@ in_brackets a t c = node none TOKEN_TREE (leaf (leaf none a.kind 1 ⧺ t) c.kind
 -- A token that is no bracket is a leaf of its own kind. Two brackets with balanced tokens between them are one node.
 pub data Balanced : List Record → Forest → Type 0 where
   nothing_more : Balanced [] none
-  token_first : {r : Record} {ks : List Record} {t : Forest} → IsNoBracket r → Balanced ks t → Balanced (r ∷ ks) (leaf none r.kind 1 ⧺ t)
-  list_first : {a c : Record} {js ks : List Record} {t u : Forest} → ArePartners a c → Balanced js t → Balanced ks u → Balanced (a ∷ (js ++ c ∷ ks)) (in_brackets a t c ⧺ u)
+  token_first : {r : Record} {ks : List Record} {t : Forest} → IsNoBracket r → Balanced ks t →
+      Balanced (r ∷ ks) (leaf none r.kind 1 ⧺ t)
+  list_first : {a c : Record} {js ks : List Record} {t u : Forest} → ArePartners a c → Balanced js t → Balanced ks u →
+      Balanced (a ∷ (js ++ c ∷ ks)) (in_brackets a t c ⧺ u)
 
 -- Where two brackets come next with balanced tokens between them, these became one node, with no message in it, and
 -- what follows is left.
 pub record NestsAsBrackets (old new : State) : Type 0 where
-  pub nests : (a c : Record) (ks rs : List Record) (t : Forest) → ArePartners a c → Balanced ks t → old.rest ≡ a ∷ (ks ++ c ∷ rs) → (new.rest ≡ rs) × (new.forest ≡ old.forest ⧺ in_brackets a t c) × (message_count (in_brackets a t c) ≡ 0)
+  pub nests : (a c : Record) (ks rs : List Record) (t : Forest) → ArePartners a c → Balanced ks t →
+      old.rest ≡ a ∷ (ks ++ c ∷ rs) →
+      (new.rest ≡ rs) × (new.forest ≡ old.forest ⧺ in_brackets a t c) × (message_count (in_brackets a t c) ≡ 0)

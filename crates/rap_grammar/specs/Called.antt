@@ -1,8 +1,8 @@
 -- Rules that are come back to, as a part of another rule.
-use Rattle.std.specs.Prelude.{Bool, true, false}
+use Rattle.std.specs.Prelude.{true, false}
 use Rattle.rap_events.specs.Record.{next_kind}
 use Rattle.rap_grammar.specs.First.{is_generic_arg_first, is_cfg_predicate_first}
-use Rattle.rap_grammar.specs.Phrase.{Phrase, expression, any_type, trait_path, generic_argument, generic_parameters, any_pattern, single_pattern, meta_item, condition, bracketed}
+use Rattle.rap_grammar.specs.Phrase.{Phrase, expression, any_type, trait_path, generic_argument, generic_parameters, any_pattern, single_pattern, meta_item, condition}
 use Rattle.rap_grammar.specs.Script.{Script, nothing, give, test, rule}
 use Rattle.rap_grammar.specs.Words.{done, if_some}
 use Rattle.rap_grammar.specs.declared.grammar.expressions.Restrictions.{Restrictions}
@@ -47,7 +47,3 @@ inner_meta = rule meta_item (λ v. done)
 -- a condition inside another, as an element of a list
 unfoldable pub cfg_predicate_element : Script Phrase
 cfg_predicate_element = test (λ rs. is_cfg_predicate_first (next_kind rs)) (rule condition (λ v. done)) (give nothing)
-
--- a list of tokens in brackets
-unfoldable pub token_tree : Script Phrase
-token_tree = rule bracketed (λ v. done)

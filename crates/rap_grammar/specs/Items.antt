@@ -26,7 +26,10 @@ tokens_to ket = loop (tokens_turn ket) false false
 
 -- a list of tokens in its brackets, the second of them this one
 abbrev pub tokens_in : ℕ → Script Phrase
-tokens_in ket = start (any (after (tokens_to ket) (λ v. if_some v (expect ket (finish TOKEN_TREE done)) (finish TOKEN_TREE done))))
+tokens_in ket =
+    start (any (after (tokens_to ket) (λ v. if_some v
+    (expect ket (finish TOKEN_TREE done))
+    (finish TOKEN_TREE done))))
 
 unfoldable pub bracketed_tokens : Script Phrase
 bracketed_tokens = look (λ rs. tokens_in (partner (next_kind rs)))

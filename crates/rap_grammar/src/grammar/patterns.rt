@@ -1,5 +1,5 @@
 //! Patterns.
-ghost use Rattle.std.specs.Prelude.{◌≡◌, ◌≢◌, ℕ, ◌<◌, ◌≤◌, IfOk, OnOk, IsTrue, true, false, [], ◌∷◌, drop};
+ghost use Rattle.std.specs.Prelude.{◌≡◌, ◌≢◌, ℕ, ◌<◌, ◌≤◌, IfOk, OnOk, IsTrue, true, false, [], ◌∷◌};
 ghost use Rattle.rap_base.specs.TokenKind.{EOF, IDENT, AMP, BANG, POUND, UNDERSCORE, DOT2, DOT2EQ, L_PAREN, L_BRACK, L_CURLY, BOX_KW, BUILTIN_KW, CONST_KW, MUT_KW, REF_KW};
 ghost use Rattle.rap_base.specs.NodeKind.{IDENT_PAT, BOX_PAT, CONST_BLOCK_PAT, LITERAL_PAT, WILDCARD_PAT, REF_PAT, NOT_NULL, SLICE_PAT};
 ghost use Rattle.rap_base.specs.TokenSet.{member};

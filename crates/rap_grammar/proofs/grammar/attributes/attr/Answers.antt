@@ -1,4 +1,4 @@
-use Rattle.std.proofs.Common.{rules, ap, ◌∙◌}
+use Rattle.std.proofs.Common.{rules}
 use Rattle.rap_events.specs.Composite.{is_at}
 use Rattle.rap_events.specs.State.{state}
 use Rattle.rap_grammar.specs.Attributes.{attr}

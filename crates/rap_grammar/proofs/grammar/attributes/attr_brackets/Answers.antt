@@ -5,7 +5,9 @@ use Rattle.rap_grammar.proofs.grammar.attributes.attr_brackets.Goals as goal
 
 pub returns-then-not-branch-clause-script : goal.returns-then-not-branch-clause-script
 unfolding attr_brackets
-returns-then-not-branch-clause-script g c = record { run = lacking_expected c.in_ok-expect.ensures.state c.if-not-branch.true gives }
+returns-then-not-branch-clause-script g c = record {
+  run = lacking_expected c.in_ok-expect.ensures.state c.if-not-branch.true gives;
+}
 
 pub returns-clause-script : goal.returns-clause-script
 unfolding attr_brackets

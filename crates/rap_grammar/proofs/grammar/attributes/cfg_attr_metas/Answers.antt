@@ -34,4 +34,6 @@ returns-else-not-at-clause-script g c = record {
 
 pub returns-after-metas-clause-script : goal.returns-after-metas-clause-script
 unfolding cfg_attr_metas
-returns-after-metas-clause-script g c = record { run = last_turn c.metas.invariant.script (then_by c.at.ensures c.metas-test.false gives) refl }
+returns-after-metas-clause-script g c = record {
+  run = last_turn c.metas.invariant.script (then_by c.at.ensures c.metas-test.false gives) refl;
+}

@@ -7,8 +7,10 @@ use Rattle.rap_grammar.proofs.grammar.attributes.inner_attrs.Goals as goal
 pub attrs-preserved : goal.attrs-preserved
 attrs-preserved g c = record {
   grew = search rules;
-  stays = λ e. absurd (clash (sym c.is_inner_attr_start.ensures ∙ c.attrs-test.true) (rw (c.attrs.invariant.stays e) e));
-  script = turn c.attrs.invariant.script (then_by c.is_inner_attr_start.ensures c.attrs-test.true (by_rule c.in_ok-attr.ensures.script gives));
+  stays = λ e. absurd
+      (clash (sym c.is_inner_attr_start.ensures ∙ c.attrs-test.true) (rw (c.attrs.invariant.stays e) e));
+  script = turn c.attrs.invariant.script
+      (then_by c.is_inner_attr_start.ensures c.attrs-test.true (by_rule c.in_ok-attr.ensures.script gives));
 }
 
 pub returns-clause-script : goal.returns-clause-script

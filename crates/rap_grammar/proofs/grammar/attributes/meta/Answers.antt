@@ -4,7 +4,9 @@ use Rattle.rap_grammar.proofs.grammar.attributes.meta.Goals as goal
 
 pub returns-then-at-clause-script : goal.returns-then-at-clause-script
 unfolding meta
-returns-then-at-clause-script g c = record { run = then_by c.at.ensures c.if-at.true (to_end c.in_ok-unsafe_meta.ensures.script) }
+returns-then-at-clause-script g c = record {
+  run = then_by c.at.ensures c.if-at.true (to_end c.in_ok-unsafe_meta.ensures.script);
+}
 
 pub returns-then-at_called_kw-clause-script : goal.returns-then-at_called_kw-clause-script
 unfolding meta

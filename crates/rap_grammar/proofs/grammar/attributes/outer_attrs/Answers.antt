@@ -12,7 +12,8 @@ attrs-preserved g c =
       grew = search rules;
       began = inr (search rules);
       stays = λ e. absurd (clash (sym first ∙ c.attrs-test.true) (rw (c.attrs.invariant.stays e) e));
-      script = turn c.attrs.invariant.script (then_by first c.attrs-test.true (by_rule c.in_ok-attr.ensures.script gives));
+      script = turn c.attrs.invariant.script
+          (then_by first c.attrs-test.true (by_rule c.in_ok-attr.ensures.script gives));
     }
 
 pub returns-clause-took : goal.returns-clause-took
@@ -25,7 +26,6 @@ returns-clause-took g c = λ first. elim c.attrs.invariant.began [
 
 pub returns-clause-script : goal.returns-clause-script
 unfolding outer_attrs
-returns-clause-script g c = record {
-  run = last_turn c.attrs.invariant.script
-      (else_by (by_kind is_outer_attr_first c.is_outer_attr_first.ensures c.current.ensures.kind) c.attrs-test.false gives) refl;
-}
+returns-clause-script g c =
+    let first = by_kind is_outer_attr_first c.is_outer_attr_first.ensures c.current.ensures.kind in
+    record { run = last_turn c.attrs.invariant.script (else_by first c.attrs-test.false gives) refl }

@@ -2,7 +2,7 @@ use Rattle.std.proofs.Common.{rules, sym, ◌∙◌}
 use Rattle.rap_base.specs.TokenKind.{USE_KW}
 use Rattle.rap_events.specs.State.{state}
 use Rattle.rap_grammar.specs.GenericParams.{bare_bound}
-use Rattle.rap_grammar.specs.Script.{gives, passes, fails}
+use Rattle.rap_grammar.specs.Script.{passes, fails}
 use Rattle.rap_grammar.specs.Words.{next_is}
 use Rattle.rap_grammar.proofs.Steps.{by_rule, to_end, both, not_both, not_left}
 use Rattle.rap_grammar.proofs.grammar.generic_params.bare_bound.Goals.{in_default-via-in-USE_KW+else-nth_at, in_default-via-in_default-1}

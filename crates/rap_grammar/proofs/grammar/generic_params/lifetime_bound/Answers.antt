@@ -1,7 +1,7 @@
 use Rattle.std.proofs.Common.{rules}
 use Rattle.rap_grammar.specs.GenericParams.{lifetime_bound}
 use Rattle.rap_grammar.specs.Script.{passes, fails}
-use Rattle.rap_grammar.proofs.Steps.{by_report, to_end, at_same}
+use Rattle.rap_grammar.proofs.Steps.{by_report, to_end}
 use Rattle.rap_grammar.proofs.grammar.generic_params.lifetime_bound.Goals.{then-not-matches+in_ok-error, else-not-matches}
 use Rattle.rap_grammar.proofs.grammar.generic_params.lifetime_bound.Goals as goal
 

@@ -10,9 +10,9 @@ returns-then-not-branch-clause-script g c = record {
   run = by_start c.in_ok-m.ensures.state
       (by_eat_or c.in_ok-has_paren.ensures.state
       (λ _. by_rule (answers_no c.if-not-branch.true c.in_ok-bare_bound.ensures.script)
-          (by_abandon c.in_ok-abandon.ensures.state gives))
+      (by_abandon c.in_ok-abandon.ensures.state gives))
       (λ _. by_rule (answers_no c.if-not-branch.true c.in_ok-bare_bound.ensures.script)
-          (by_abandon c.in_ok-abandon.ensures.state gives)));
+      (by_abandon c.in_ok-abandon.ensures.state gives)));
 }
 
 pub returns-clause-script : goal.returns-clause-script

@@ -13,7 +13,7 @@ pub returns-clause-script : goal.returns-clause-script
 unfolding type_param type_default
 returns-clause-script g c =
     let b : On (test (is_at COLON) bounds done) (spot (state c.name.new.p)) (spot (state c.if-at.p)) something =
-        elim c.if-at.branch [
+    elim c.if-at.branch [
       | then-at+in_ok-bounds w ↦ rw w.p-is (then_by c.at.ensures w.if-at.true (to_end w.in_ok-bounds.ensures.script))
       | else-at w ↦ rw w.p-is (else_by c.at.ensures w.if-at.false gives)
     ] in

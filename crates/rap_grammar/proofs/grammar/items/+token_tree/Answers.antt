@@ -23,7 +23,8 @@ pub tokens-preserved-then-is_bracket : goal.tokens-preserved-then-is_bracket
 unfolding script_of
 tokens-preserved-then-is_bracket t c = record {
   grew = search rules;
-  opens = λ z. more_tree c.in_ok-token_tree.ensures.one (c.tokens.invariant.opens (omega (arith, c.in_ok-token_tree.ensures.took.messages)));
+  opens = λ z. more_tree c.in_ok-token_tree.ensures.one
+      (c.tokens.invariant.opens (omega (arith, c.in_ok-token_tree.ensures.took.messages)));
   script = turn c.tokens.invariant.script
       (else_by c.at.ensures c.tokens-test.true
       (else_by c.at-in-tokens.ensures c.if-not-at.true
@@ -40,7 +41,8 @@ tokens-preserved-then-is_unmatched t c = record {
       (else_by c.at-in-tokens.ensures c.if-not-at.true
       (else_by (by_kind is_bracket c.is_bracket.ensures c.current-kind.ensures.kind) c.if-is_bracket.false
       (fails (search rules)
-      (then_by (by_kind (one_of (R_PAREN ∷ R_BRACK ∷ [])) c.is_unmatched.ensures c.current-kind.ensures.kind) c.if-is_unmatched.true
+      (then_by (by_kind (one_of (R_PAREN ∷ R_BRACK ∷ [])) c.is_unmatched.ensures c.current-kind.ensures.kind)
+      c.if-is_unmatched.true
       (by_skip c.in_ok-err_and_bump.ensures.state gives))))));
 }
 
@@ -50,7 +52,9 @@ tokens-preserved t c =
     let u = by_kind (one_of (R_PAREN ∷ R_BRACK ∷ [])) c.is_unmatched.ensures c.current-kind.ensures.kind in
     record {
       grew = search rules;
-      opens = λ z. more_token c.in_ok-bump_any-2.ensures.state (sym b ∙ c.if-is_bracket.false) (search rules) (sym u ∙ c.if-is_unmatched.false) (c.tokens.invariant.opens (omega (arith, c.in_ok-bump_any-2.ensures.state.messages)));
+      opens = λ z. more_token c.in_ok-bump_any-2.ensures.state (sym b ∙ c.if-is_bracket.false) (search rules)
+          (sym u ∙ c.if-is_unmatched.false)
+          (c.tokens.invariant.opens (omega (arith, c.in_ok-bump_any-2.ensures.state.messages)));
       script = turn c.tokens.invariant.script
           (else_by c.at.ensures c.tokens-test.true
           (else_by c.at-in-tokens.ensures c.if-not-at.true
@@ -61,7 +65,9 @@ tokens-preserved t c =
     }
 
 pub complete_fit-requires-2-clause-fit : goal.complete_fit-requires-2-clause-fit
-complete_fit-requires-2-clause-fit t c = closed c.in_ok-expect.ensures.state (c.closing_bracket-ket.ensures ∙ ap partner c.current.ensures.kind) c.tokens.invariant.opens
+complete_fit-requires-2-clause-fit t c =
+    let ket = c.closing_bracket-ket.ensures ∙ ap partner c.current.ensures.kind in
+    closed c.in_ok-expect.ensures.state ket c.tokens.invariant.opens
 
 pub returns-then-eq-clause-script : goal.returns-then-eq-clause-script
 unfolding tokens_to

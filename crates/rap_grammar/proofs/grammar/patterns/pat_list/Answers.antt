@@ -1,4 +1,4 @@
-use Rattle.std.proofs.Common.{rules, refl, not}
+use Rattle.std.proofs.Common.{rules, refl}
 use Rattle.rap_grammar.specs.Patterns.{pat_list}
 use Rattle.rap_grammar.proofs.Patterning.{took_before}
 use Rattle.rap_grammar.specs.Script.{gives, passes, fails, looks}

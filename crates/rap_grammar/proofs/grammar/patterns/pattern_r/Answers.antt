@@ -1,4 +1,3 @@
-use Rattle.std.proofs.Common.{not}
 use Rattle.rap_grammar.specs.Patterns.{pattern_r}
 use Rattle.rap_grammar.specs.Script.{gives}
 use Rattle.rap_grammar.proofs.Steps.{by_start, by_complete, by_abandon, by_rule, then_by, else_by, ate, not_ate}

@@ -1,4 +1,4 @@
-use Rattle.std.proofs.Common.{rules, refl, not}
+use Rattle.std.proofs.Common.{rules, refl}
 use Rattle.rap_grammar.specs.Patterns.{record_pat_fields}
 use Rattle.rap_grammar.specs.Script.{gives}
 use Rattle.rap_grammar.proofs.Steps.{by_rule, by_expect, turn, last_turn, then_by, else_by}

@@ -1,4 +1,4 @@
-use Rattle.std.proofs.Common.{rules, not}
+use Rattle.std.proofs.Common.{rules}
 use Rattle.rap_grammar.specs.Patterns.{tuple_patterns}
 use Rattle.rap_grammar.specs.Script.{gives, passes, fails, looks}
 use Rattle.rap_grammar.proofs.Steps.{by_report, by_rule, by_expect, turn, last_turn, then_by, else_by, not_on}

@@ -9,12 +9,14 @@ use Rattle.rap_grammar.proofs.grammar.attributes.CfgOperandElement.parse.Goals a
 pub returns-then-not-is_cfg_predicate_first-clause-script : goal.returns-then-not-is_cfg_predicate_first-clause-script
 unfolding cfg_predicate_element
 returns-then-not-is_cfg_predicate_first-clause-script g c = record {
-  run = else_by (by_kind is_cfg_predicate_first c.is_cfg_predicate_first.ensures c.current.ensures.kind) c.if-not-is_cfg_predicate_first.true gives;
+  run = else_by (by_kind is_cfg_predicate_first c.is_cfg_predicate_first.ensures c.current.ensures.kind)
+      c.if-not-is_cfg_predicate_first.true gives;
 }
 
 pub returns-clause-script : goal.returns-clause-script
 unfolding cfg_predicate_element script_of
 returns-clause-script g c = record {
-  run = then_by (by_kind is_cfg_predicate_first c.is_cfg_predicate_first.ensures c.current.ensures.kind) c.if-not-is_cfg_predicate_first.false
+  run = then_by (by_kind is_cfg_predicate_first c.is_cfg_predicate_first.ensures c.current.ensures.kind)
+      c.if-not-is_cfg_predicate_first.false
       (by_part condition c.in_ok-run.ensures.1 gives);
 }
