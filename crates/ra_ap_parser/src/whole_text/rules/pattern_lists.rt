@@ -165,6 +165,9 @@ fn fields_that_go_wrong(rt: HostRuntime) -> Result<(), Fail> {
         «A { b = c }» RECORD_PAT(P:A _ RECORD_PAT_FIELD_LIST(L_CURLY"{" _ RECORD_PAT_FIELD(NAME_REF(IDENT"b") _
             ERROR(EQ"=") _ IDENT_PAT(NAME(IDENT"c"))) _ R_CURLY"}"))
             |6 expected `:`
+        «A { 0 = c }» RECORD_PAT(P:A _ RECORD_PAT_FIELD_LIST(L_CURLY"{" _ RECORD_PAT_FIELD(NAME_REF(INT_NUMBER"0") _
+            ERROR(EQ"=") _ IDENT_PAT(NAME(IDENT"c"))) _ R_CURLY"}"))
+            |6 expected `:`
         «A { b = }» RECORD_PAT(P:A _ RECORD_PAT_FIELD_LIST(L_CURLY"{" _ RECORD_PAT_FIELD(NAME_REF(IDENT"b") _
             ERROR(EQ"=")) _ R_CURLY"}"))
             |6 expected `:`

@@ -532,6 +532,7 @@ fn types_with_a_pattern_that_go_wrong(rt: HostRuntime) -> Result<(), Fail> {
             |9 expected R_PAREN
         «builtin#pattern_type(A is b) + C» ERROR(PATTERN_TYPE(BUILTIN_KW"builtin" POUND"#" PATTERN_TYPE_KW"pattern_type"
             L_PAREN"(" T:A _ IS_KW"is" _ IDENT_PAT(NAME(IDENT"b")) R_PAREN")") _ PLUS"+" _ IDENT"C")
+        «r#builtin#x» ERROR(PATH_TYPE(PATH(PATH_SEGMENT(NAME_REF(IDENT"r#builtin")))) POUND"#" IDENT"x")
         "##,
     )
 }
