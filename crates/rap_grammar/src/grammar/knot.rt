@@ -77,12 +77,15 @@ impl<F: Fn(&mut Parser<'_>, Rule) -> Result<Answer, NoMemory>> Grammar for Rules
 
     ghost valid = { λ rules. ((q : _) (c : _) → Pre c (state q.now) → (state q.now).left < rules.left → F.pre rules.run q c) × ((q : _) (c : _) (a : _) (s : _) → F.post rules.run q c a s → IfOk a (Post c (state q.now) (state s.now))) };
 
+    #[inline(always)]
     fn run(&self, p: &mut Parser<'_>, rule: Rule) -> Result<Answer, NoMemory> {
         (self.run)(p, rule)
     }
 }
 
-/// Runs a rule.
+/// Runs a rule. It is inlined where a rule is come back to, so that each call goes to its rule directly: that halves
+/// what a level of nesting keeps on the stack.
+#[inline(always)]
 #[cycle(run)]
 pub fn run(p: &mut Parser<'_>, rule: Rule) -> Result<Answer, NoMemory>
     requires { Pre rule (state p.old) }
