@@ -2,11 +2,11 @@
 use Rattle.std.specs.Prelude.{List}
 use Rattle.rap_events.specs.Record.{Record}
 use Rattle.rap_events.specs.Forest.{Forest}
-use Rattle.rap_grammar.specs.Atom.{expr}
-use Rattle.rap_grammar.specs.Called.{pattern, type_, inner_meta}
+use Rattle.rap_rules.specs.Atom.{expr}
+use Rattle.rap_rules.specs.Called.{pattern, type_, inner_meta}
 use Rattle.rap_grammar.specs.Derives.{Derives, Expression, Ty}
-use Rattle.rap_grammar.specs.Phrase.{Phrase}
-use Rattle.rap_grammar.specs.Script.{Script}
+use Rattle.rap_rules.specs.Phrase.{Phrase}
+use Rattle.rap_rules.specs.Script.{Script}
 use Rattle.ra_ap_parser.specs.declared.entry_point.TopEntryPoint.{TopEntryPoint}
 use Rattle.ra_ap_parser.specs.declared.entry_point.TopEntryPoint.TheVariants as entry
 

@@ -8,18 +8,19 @@ use Rattle.rap_events.specs.Record.{Record, next_kind, kind_at}
 use Rattle.rap_events.specs.Composite.{width, is_at}
 use Rattle.rap_events.specs.Forest.{Forest, none, node, leaf, ◌⧺◌}
 use Rattle.rap_events.specs.Power.{power, power_in, powers}
-use Rattle.rap_grammar.specs.Atom.{unrestricted, expr, atom_expr}
-use Rattle.rap_grammar.specs.Called.{type_}
+use Rattle.rap_rules.specs.Atom.{unrestricted, expr, atom_expr}
+use Rattle.rap_rules.specs.Called.{type_}
 use Rattle.rap_grammar.specs.Derives.{IsName, Is, Writes, IsOneOf, IsLiteral, Category, Expression, Binary, Unary, Postfix, Arguments, Elements, Atom, Path, Segment, Reference, IsNamedField, Derives, EndsExpression, reference, segment, path_one, path_more, atom_literal, atom_path, atom_paren, postfix_atom, postfix_call, postfix_index, postfix_try, postfix_field, postfix_number, postfix_method, arguments_none, arguments_some, element_last, element_comma, element_more, unary_prefix, unary_ref, unary_ref_mut, unary_postfix, binary_unary, binary_tighter, binary_operator, expression_binary, expression_assign, Ty, EndsType, type_path, type_ref, type_ref_mut, type_slice}
-use Rattle.rap_grammar.specs.Expressions.{operand_of, right_of, climb, arg_list, postfix_expr, lhs}
-use Rattle.rap_grammar.specs.First.{is_operand, is_atom, is_literal_first, one_of}
-use Rattle.rap_grammar.specs.Operator.{operator_at}
-use Rattle.rap_grammar.specs.Paths.{path_segment, path_for_qualifier, path}
-use Rattle.rap_grammar.specs.Words.{reads_as}
-use Rattle.rap_grammar.specs.declared.grammar.expressions.Restrictions.{Restrictions}
-use Rattle.rap_grammar.proofs.Forests.{⧺-assoc}
-use Rattle.rap_grammar.proofs.Operators.{written_lead, differ, differ_back, is_calm, Calm, operator_seen, written_first, written_past, and_false}
-use Rattle.rap_grammar.specs.Types.{type_with_bounds_cond}
+use Rattle.rap_rules.specs.Expressions.{operand_of, right_of, climb, arg_list, postfix_expr, lhs}
+use Rattle.rap_rules.specs.First.{is_operand, is_atom, is_literal_first, one_of}
+use Rattle.rap_rules.specs.Operator.{operator_at}
+use Rattle.rap_rules.specs.Paths.{path_segment, path_for_qualifier, path}
+use Rattle.rap_rules.specs.Words.{reads_as}
+use Rattle.rap_rules.specs.declared.arguments.Restrictions.{Restrictions}
+use Rattle.rap_rules.proofs.Forests.{⧺-assoc}
+use Rattle.rap_grammar.proofs.Operators.{written_lead, differ, differ_back, is_calm, Calm, operator_seen, written_first, written_past}
+use Rattle.rap_rules.proofs.Steps.{and_false}
+use Rattle.rap_rules.specs.Types.{type_with_bounds_cond}
 use Rattle.rap_grammar.proofs.TypeWays.{ends_type, type_has_no_arguments, no_bounds_way, with_bounds_way, ref_type_way, ref_mut_type_way, slice_type_way, path_type_way}
 use Rattle.rap_grammar.proofs.Ways.{mode_of, NoArguments, kind_at-drop, Leads, LeadsOut, attributed, Single, none-⧺, segment_way, path_end, path_goes_on, path_way, literal_way, path_expr_way, paren_way, expr_way, from_way, climb_end, climb_on, operand_way, prefix_way, ref_way, ref_mut_way, postfix_end, call_way, index_way, try_way, name_field_way, number_field_way, method_way, arguments, arg_list_way, arguments_end, arguments_on, arguments_last}
 

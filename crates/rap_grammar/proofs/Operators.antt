@@ -1,12 +1,13 @@
 -- Each operator is seen where its tokens stand before an operand.
+use Rattle.rap_rules.proofs.Steps.{and_false}
 use Rattle.std.proofs.Common.{◌≡◌, ◌≢◌, ℕ, ◌<◌, List, [], ◌∷◌, ◌++◌, drop, length, Bool, true, false, not, refl, ap, sym, ◌∙◌, arith, ◌==◌, ◌&&◌}
 use Rattle.std.proofs.lemmas.Bool.{eqb-true, eq-eqb, ne_eqb}
 use Rattle.rap_base.specs.TokenKind.{EOF, EQ, PLUSEQ, MINUSEQ, STAREQ, SLASHEQ, PERCENTEQ, CARETEQ, AMPEQ, PIPEEQ, SHLEQ, SHREQ, DOT, DOT2, DOT2EQ, PIPE2, AMP2, EQ2, NEQ, L_ANGLE, R_ANGLE, LTEQ, GTEQ, PIPE, CARET, AMP, SHL, SHR, PLUS, MINUS, STAR, SLASH, PERCENT, BANG, AS_KW, L_PAREN, L_BRACK, QUESTION, COLON}
 use Rattle.rap_events.specs.Record.{Record, next_kind}
 use Rattle.rap_events.specs.Composite.{parts, width, width_of, is_at, is_first, begins_with}
 use Rattle.rap_events.specs.Power.{power, power_in, powers}
-use Rattle.rap_grammar.specs.First.{is_operand, one_of}
-use Rattle.rap_grammar.specs.Operator.{operator_at}
+use Rattle.rap_rules.specs.First.{is_operand, one_of}
+use Rattle.rap_rules.specs.Operator.{operator_at}
 use Rattle.rap_grammar.specs.Derives.{Touching, tokens_of, Writes, IsOperator}
 
 -- two kinds that a test distinguishes
@@ -16,10 +17,6 @@ differ test a b h k = ne_eqb a b (λ e. let x : true ≡ false = sym h ∙ ap te
 -- the same the other way round
 pub differ_back : (test : ℕ → Bool) (a b : ℕ) → test a ≡ true → test b ≡ false → (b == a) ≡ false
 differ_back test a b h k = ne_eqb b a (λ e. let x : true ≡ false = sym h ∙ ap test (sym e) ∙ k in cc)
-
-pub and_false : (b : Bool) → b && false ≡ false
-and_false true = refl
-and_false false = refl
 
 -- an operand's first token is no part of an operator but `&`, `*`, `!` and `-`
 no_more : (k : ℕ) (ks : List ℕ) (rs : List Record) → is_operand (next_kind rs) ≡ true → is_operand k ≡ false → begins_with (k ∷ ks) rs ≡ false

@@ -4,15 +4,15 @@ use Rattle.std.proofs.Common.{◌≡◌, List, [], ◌∷◌, ◌++◌, true, re
 use Rattle.rap_events.specs.Record.{Record}
 use Rattle.rap_events.specs.Forest.{Forest, none, ◌⧺◌, message_count, one_tree}
 use Rattle.rap_events.specs.State.{State}
-use Rattle.rap_grammar.specs.Atom.{expr}
-use Rattle.rap_grammar.specs.Called.{type_}
+use Rattle.rap_rules.specs.Atom.{expr}
+use Rattle.rap_rules.specs.Called.{type_}
 use Rattle.rap_grammar.specs.Derives.{Derives, Expression, Ty, EndsExpression}
-use Rattle.rap_grammar.specs.Knot.{script_of, Follows}
-use Rattle.rap_grammar.specs.Phrase.{Phrase}
-use Rattle.rap_grammar.specs.Script.{Script, forests, Spot, Outcome, something, Runs}
+use Rattle.rap_rules.specs.Knot.{script_of, Follows}
+use Rattle.rap_rules.specs.Phrase.{Phrase}
+use Rattle.rap_rules.specs.Script.{Script, forests, Spot, Outcome, something, Runs}
 use Rattle.rap_grammar.specs.Top.{IsTopOf, top_tree}
 use Rattle.rap_grammar.proofs.Complete.{expression_whole, type_whole, expression_at_beginning}
-use Rattle.rap_grammar.proofs.OneEnd.{Same, one_end}
+use Rattle.rap_rules.proofs.OneEnd.{Same, one_end}
 use Rattle.rap_grammar.proofs.Unique.{unmarked, one_expression, one_type}
 
 -- one tree is kept as it is

@@ -5,15 +5,16 @@ use Rattle.rap_base.specs.NodeKind.{PATH_TYPE, REF_TYPE, SLICE_TYPE}
 use Rattle.rap_events.specs.Record.{Record, next_kind}
 use Rattle.rap_events.specs.Composite.{is_at}
 use Rattle.rap_events.specs.Forest.{Forest, none, node, leaf}
-use Rattle.rap_grammar.specs.Called.{type_, type_no_bounds}
+use Rattle.rap_rules.specs.Called.{type_, type_no_bounds}
 use Rattle.rap_grammar.specs.Derives.{IsName, EndsType}
-use Rattle.rap_grammar.specs.First.{one_of}
-use Rattle.rap_grammar.specs.Knot.{script_of}
-use Rattle.rap_grammar.specs.Paths.{path, type_path}
-use Rattle.rap_grammar.specs.Script.{gives, passes, fails, takes, starts, finishes, abandons, follows, obeys}
-use Rattle.rap_grammar.specs.Types.{type_with_bounds_cond, ref_type, array_or_slice_type, named_type, path_or_macro, path_or_macro_type, bounds_if, opt_type_bounds_as_dyn_trait_type}
-use Rattle.rap_grammar.specs.declared.grammar.paths.Mode.TheVariants as mode
-use Rattle.rap_grammar.proofs.Operators.{differ, and_false}
+use Rattle.rap_rules.specs.First.{one_of}
+use Rattle.rap_rules.specs.Knot.{script_of}
+use Rattle.rap_rules.specs.Paths.{path, type_path}
+use Rattle.rap_rules.specs.Script.{gives, passes, fails, takes, starts, finishes, abandons, follows, obeys}
+use Rattle.rap_rules.specs.Types.{type_with_bounds_cond, ref_type, array_or_slice_type, named_type, path_or_macro, path_or_macro_type, bounds_if, opt_type_bounds_as_dyn_trait_type}
+use Rattle.rap_rules.specs.declared.arguments.Mode.TheVariants as mode
+use Rattle.rap_grammar.proofs.Operators.{differ}
+use Rattle.rap_rules.proofs.Steps.{and_false}
 use Rattle.rap_grammar.proofs.Ways.{Leads, none-⧺, NoArguments}
 
 -- what can follow a type

@@ -5,9 +5,9 @@ use Rattle.rap_events.specs.Record.{Record}
 use Rattle.rap_events.specs.Composite.{parts, width, width_of}
 use Rattle.rap_events.specs.Forest.{Forest, none, node, leaf, message, split, ◌⧺◌, message_count, used, ends_in_dot, one_tree}
 use Rattle.rap_grammar.specs.Derives.{Touching, tokens_of, Writes, Derives, Category, Expression, reference, segment, path_one, path_more, atom_literal, atom_path, atom_paren, postfix_atom, postfix_call, postfix_index, postfix_try, postfix_field, postfix_number, postfix_method, arguments_none, arguments_some, element_last, element_comma, element_more, unary_prefix, unary_ref, unary_ref_mut, unary_postfix, binary_unary, binary_tighter, binary_operator, expression_binary, expression_assign, Ty, type_path, type_ref, type_ref_mut, type_slice}
-use Rattle.rap_grammar.specs.Script.{Spot}
+use Rattle.rap_rules.specs.Script.{Spot}
 use Rattle.rap_grammar.proofs.Complete.{expression_whole, expression_single, type_whole, type_single}
-use Rattle.rap_grammar.proofs.OneEnd.{one_end}
+use Rattle.rap_rules.proofs.OneEnd.{one_end}
 use Rattle.rap_grammar.proofs.Ways.{Single}
 
 -- how many messages and floats taken apart a forest has

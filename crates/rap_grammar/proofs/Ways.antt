@@ -8,21 +8,22 @@ use Rattle.rap_events.specs.Composite.{width, is_at, begins_with}
 use Rattle.rap_events.specs.Forest.{Forest, none, node, leaf, message, split, ◌⧺◌}
 use Rattle.rap_events.specs.Power.{power}
 use Rattle.rap_events.specs.State.{but_last, last_children}
-use Rattle.rap_grammar.specs.Atom.{unrestricted, expr, literal, path_expr, tuple_elements, tuple_expr, atom_expr}
-use Rattle.rap_grammar.specs.Attributes.{outer_attrs}
-use Rattle.rap_grammar.specs.Expressions.{operand_of, right_of, bin_expr, climb, ref_qualifier, ref_expr, prefix_expr, arg_list, call_expr, index_expr, try_expr, calls_method, method_arguments, method_call_expr, field_expr, postfix_dot_expr, is_access, postfix_expr, lhs, expr_from, expr_bp}
-use Rattle.rap_grammar.specs.First.{is_outer_attr_first, is_operand, is_atom, is_literal_first, is_path_name_or_index, is_expr_first, one_of, starts_expr_args}
-use Rattle.rap_grammar.specs.Grammar.{name_ref_mod_path, name_ref_mod_path_or_index, elements, delimited}
-use Rattle.rap_grammar.specs.Knot.{script_of}
-use Rattle.rap_grammar.specs.Operator.{operator_at}
-use Rattle.rap_grammar.specs.Paths.{opt_generic_arg_list_expr, has_args_behind, has_args, opt_path_type_args, segment_name, path_segment, path_for_qualifier, path, expr_path, opt_path_args}
-use Rattle.rap_grammar.specs.Phrase.{Phrase}
-use Rattle.rap_grammar.specs.Script.{Script, Outcome, Spot, nothing, something, precede, after, Runs, gives, looks, passes, fails, takes, takes_any, starts, precedes, finishes, extends, follows, obeys, turns, stops, last_kind}
-use Rattle.rap_grammar.specs.Words.{reads_as}
-use Rattle.rap_grammar.specs.declared.grammar.expressions.Restrictions.{Restrictions}
-use Rattle.rap_grammar.specs.declared.grammar.paths.Mode.{Mode}
-use Rattle.rap_grammar.specs.declared.grammar.paths.Mode.TheVariants as mode
-use Rattle.rap_grammar.proofs.Operators.{differ, differ_back, and_false}
+use Rattle.rap_rules.specs.Atom.{unrestricted, expr, literal, path_expr, tuple_elements, tuple_expr, atom_expr}
+use Rattle.rap_rules.specs.Attributes.{outer_attrs}
+use Rattle.rap_rules.specs.Expressions.{operand_of, right_of, bin_expr, climb, ref_qualifier, ref_expr, prefix_expr, arg_list, call_expr, index_expr, try_expr, calls_method, method_arguments, method_call_expr, field_expr, postfix_dot_expr, is_access, postfix_expr, lhs, expr_from, expr_bp}
+use Rattle.rap_rules.specs.First.{is_outer_attr_first, is_operand, is_atom, is_literal_first, is_path_name_or_index, is_expr_first, one_of, starts_expr_args}
+use Rattle.rap_rules.specs.Grammar.{name_ref_mod_path, name_ref_mod_path_or_index, elements, delimited}
+use Rattle.rap_rules.specs.Knot.{script_of}
+use Rattle.rap_rules.specs.Operator.{operator_at}
+use Rattle.rap_rules.specs.Paths.{opt_generic_arg_list_expr, has_args_behind, has_args, opt_path_type_args, segment_name, path_segment, path_for_qualifier, path, expr_path, opt_path_args}
+use Rattle.rap_rules.specs.Phrase.{Phrase}
+use Rattle.rap_rules.specs.Script.{Script, Outcome, Spot, nothing, something, precede, after, Runs, gives, looks, passes, fails, takes, takes_any, starts, precedes, finishes, extends, follows, obeys, turns, stops, last_kind}
+use Rattle.rap_rules.specs.Words.{reads_as}
+use Rattle.rap_rules.specs.declared.arguments.Restrictions.{Restrictions}
+use Rattle.rap_rules.specs.declared.arguments.Mode.{Mode}
+use Rattle.rap_rules.specs.declared.arguments.Mode.TheVariants as mode
+use Rattle.rap_grammar.proofs.Operators.{differ, differ_back}
+use Rattle.rap_rules.proofs.Steps.{and_false}
 
 -- from these tokens and this forest a script leads to those tokens and that forest, and the older forests stay
 abbrev pub Leads : Script Phrase → List Forest → List Record → Forest → List Record → Forest → Type 0

@@ -7,7 +7,7 @@ use Rattle.rap_events.specs.Record.{Record, next_kind}
 use Rattle.rap_events.specs.Composite.{parts, width}
 use Rattle.rap_events.specs.Forest.{Forest, none, node, leaf, ◌⧺◌}
 use Rattle.rap_events.specs.Power.{power}
-use Rattle.rap_grammar.specs.First.{one_of}
+use Rattle.rap_rules.specs.First.{one_of}
 
 -- an identifier that is read as nothing else
 pub record IsName (r : Record) : Type 0 where

@@ -5,7 +5,5 @@
 //! follows its script, which says for every input what it makes.
 #![tactic(auto)]
 
-mod grammar;
-mod token_kind;
-
-pub use grammar::entry;
+pub mod entry;
+mod knot;

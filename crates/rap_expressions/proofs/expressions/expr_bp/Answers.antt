@@ -1,0 +1,15 @@
+use Rattle.rap_rules.specs.Expressions.{expr_bp}
+use Rattle.rap_rules.proofs.Steps.{by_start, by_rule, to_end}
+use Rattle.rap_expressions.proofs.expressions.expr_bp.Goals as goal
+
+pub returns-in_ok-expr-in-Some-clause-script : goal.returns-in_ok-expr-in-Some-clause-script
+unfolding expr_bp
+returns-in_ok-expr-in-Some-clause-script g c = rw c.in-Some.is (record { run = to_end c.in_ok-expr-in-Some.ensures.script })
+
+pub returns-in_ok-expr-in-None-clause-script : goal.returns-in_ok-expr-in-None-clause-script
+unfolding expr_bp
+returns-in_ok-expr-in-None-clause-script g c = rw c.in-None.is (record {
+  run = by_start c.in_ok-m-in-None.ensures.state
+      (by_rule c.in_ok-outer_attrs-in-None.ensures.script
+      (to_end c.in_ok-expr-in-None.ensures.script));
+})

@@ -1,0 +1,10 @@
+use Rattle.std.proofs.Common.{rules}
+use Rattle.rap_rules.specs.Expressions.{missing_expr}
+use Rattle.rap_rules.specs.Recovery.{is_expr_recovery}
+use Rattle.rap_rules.specs.Script.{gives}
+use Rattle.rap_rules.proofs.Steps.{by_recover, by_abandon}
+use Rattle.rap_expressions.proofs.expressions.missing_expr.Goals as goal
+
+pub returns-clause-script : goal.returns-clause-script
+unfolding missing_expr
+returns-clause-script c = record { run = by_recover is_expr_recovery (search rules) c.in_ok-err_recover.ensures.state (λ k. by_abandon c.in_ok-abandon.ensures.state gives) (λ k. by_abandon c.in_ok-abandon.ensures.state gives) }

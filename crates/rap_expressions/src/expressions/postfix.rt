@@ -1,0 +1,256 @@
+//! What follows an operand: calls, indexes, fields and methods, `?`.
+ghost use Rattle.std.specs.Prelude.{◌≡◌, ◌<◌, ◌≤◌, IfOk, OnOk, true, Some};
+ghost use Rattle.rap_base.specs.TokenKind.{DOT, L_PAREN, L_BRACK, AWAIT_KW, QUESTION};
+ghost use Rattle.rap_base.specs.NodeKind.{CALL_EXPR, INDEX_EXPR, METHOD_CALL_EXPR, AWAIT_EXPR, FIELD_EXPR, TRY_EXPR};
+ghost use Rattle.rap_events.specs.Fit.{is_plain};
+ghost use Rattle.rap_events.specs.State.{state, IsLast, but_last, next};
+ghost use Rattle.rap_rules.specs.Expressions as script;
+ghost use Rattle.rap_rules.specs.Expressions.{of_like, is_block, calls_method};
+ghost use Rattle.rap_rules.specs.Grew.{Within, Grew, Wraps, Behind, Closes, Took};
+ghost use Rattle.rap_rules.specs.Knot.{Follows};
+ghost use Rattle.rap_rules.specs.Room.{operand_room, arguments_room};
+ghost use Rattle.rap_rules.specs.Script.{something};
+
+use rap_base::no_memory::NoMemory;
+use rap_base::syntax_kind::SyntaxKind;
+use rap_events::parser::{CompletedMarker, Marker, Parser};
+use rap_paths::generic_args::opt_generic_arg_list_expr;
+use rap_rules::T;
+use rap_rules::arguments::BlockLike;
+use rap_rules::called::expr;
+use rap_rules::first::is_expr_first;
+use rap_rules::knot::Grammar;
+use rap_rules::lists::{Element, delimited};
+use rap_rules::names::{is_path_name, is_path_name_or_index, name_ref_mod_path, name_ref_mod_path_or_index};
+
+/// What follows an operand directly, as `(a)`, `[0]`, `.b`, `.c()` and `?`.
+#[inline(never)]
+pub(crate) fn postfix_expr<G: Grammar>(
+    p: &mut Parser<'_>,
+    g: &G,
+    mut lhs: CompletedMarker,
+    mut block_like: BlockLike,
+    mut allow_calls: bool,
+) -> Result<(CompletedMarker, BlockLike), NoMemory>
+    requires within { Within G.valid G.left g.now (state p.old) }
+    requires last { IsLast (state p.old) lhs lhs.kind }
+    requires plain { is_plain lhs.kind ≡ true }
+    ensures grew { OnOk result (Grew (state p.old) (state p.new) 0) }
+    ensures last { IfOk result (λ e. IsLast (state p.new) e.0 e.0.kind) }
+    ensures plain { IfOk result (λ e. is_plain e.0.kind ≡ true) }
+    ensures one { OnOk result (but_last (state p.new).forest ≡ but_last (state p.old).forest) }
+    ensures script { IfOk result (λ e. Follows (script.postfix_expr allow_calls (is_block (of_like block_like))) (of_like e.1) (state p.old) (state p.new)) }
+{
+    'postfixes: loop {
+        lhs = match p.current() {
+            T!['('] if allow_calls => call_expr(p, g, lhs)?,
+            T!['['] if allow_calls => index_expr(p, g, lhs)?,
+            T![.] if !p.at(T![..=]) && !p.at(T![..]) => postfix_dot_expr(p, g, lhs)?,
+            T![?] => try_expr(p, lhs)?,
+            _ => return Ok((lhs, block_like)),
+        };
+        allow_calls = true;
+        block_like = BlockLike::NotBlock;
+    }
+}
+
+/// A dot and what follows it, as `.b`, `.0`, `.c()` and `.await`.
+fn postfix_dot_expr<G: Grammar>(
+    p: &mut Parser<'_>,
+    g: &G,
+    lhs: CompletedMarker,
+) -> Result<CompletedMarker, NoMemory>
+    requires within { Within G.valid G.left g.now (state p.old) }
+    requires last { IsLast (state p.old) lhs lhs.kind }
+    requires here { next (state p.old) ≡ DOT }
+    ensures wraps { IfOk result (λ cm. Wraps cm.kind operand_room (state p.old) (state p.new) cm × (is_plain cm.kind ≡ true)) }
+    ensures script { OnOk result (Follows script.postfix_dot_expr something (state p.old) (state p.new)) }
+{
+    let is_call = is_method_call(p, 1);
+    let is_await = p.nth(1) == T![await];
+    let m = lhs.precede(p)?;
+    p.bump(T![.])?;
+    if is_call {
+        let cm = method_call_expr(p, g, m)?;
+        return Ok(cm);
+    }
+    if is_await {
+        let cm = await_expr(p, m)?;
+        return Ok(cm);
+    }
+    let cm = field_expr(p, m)?;
+    Ok(cm)
+}
+
+/// Whether what stands `n` tokens on, behind a dot, is called: a name before `(` or `::`, or a `(` without a name.
+#[tactic(auto, unfolding(rap_rules::specs::Expressions::calls_method))]
+fn is_method_call(p: &Parser<'_>, n: usize) -> bool
+    requires { n < 3 }
+    ensures { result ≡ calls_method n (state p.now).rest }
+{
+    if p.nth(n) == T!['('] {
+        return true;
+    }
+    is_path_name(p.nth(n)) && (p.nth(n + 1) == T!['('] || p.nth_at(n + 1, T![::]))
+}
+
+/// A call, as `(1)` after `f`.
+fn call_expr<G: Grammar>(
+    p: &mut Parser<'_>,
+    g: &G,
+    lhs: CompletedMarker,
+) -> Result<CompletedMarker, NoMemory>
+    requires within { Within G.valid G.left g.now (state p.old) }
+    requires last { IsLast (state p.old) lhs lhs.kind }
+    requires here { next (state p.old) ≡ L_PAREN }
+    ensures wraps { IfOk result (Wraps CALL_EXPR operand_room (state p.old) (state p.new)) }
+    ensures script { OnOk result (Follows script.call_expr something (state p.old) (state p.new)) }
+{
+    let m = lhs.precede(p)?;
+    arg_list(p, g)?;
+    let cm = m.complete(p, SyntaxKind::CALL_EXPR)?;
+    Ok(cm)
+}
+
+/// An index, as `[0]` after `a`.
+fn index_expr<G: Grammar>(
+    p: &mut Parser<'_>,
+    g: &G,
+    lhs: CompletedMarker,
+) -> Result<CompletedMarker, NoMemory>
+    requires within { Within G.valid G.left g.now (state p.old) }
+    requires last { IsLast (state p.old) lhs lhs.kind }
+    requires here { next (state p.old) ≡ L_BRACK }
+    ensures wraps { IfOk result (Wraps INDEX_EXPR operand_room (state p.old) (state p.new)) }
+    ensures script { OnOk result (Follows script.index_expr something (state p.old) (state p.new)) }
+{
+    let m = lhs.precede(p)?;
+    p.bump(T!['['])?;
+    expr(p, g)?;
+    p.expect(T![']'])?;
+    let cm = m.complete(p, SyntaxKind::INDEX_EXPR)?;
+    Ok(cm)
+}
+
+/// The name and the arguments of a method behind the dot, as `f(1)` after `a.`.
+fn method_call_expr<G: Grammar>(
+    p: &mut Parser<'_>,
+    g: &G,
+    m: Marker,
+) -> Result<CompletedMarker, NoMemory>
+    requires behind { Behind G.valid G.left g.now (state p.old) }
+    requires newest { (state p.old).marker ≡ Some m.pos }
+    ensures closes { IfOk result (Closes METHOD_CALL_EXPR 3 (state p.old) (state p.new)) }
+    ensures script { OnOk result (Follows script.method_call_expr something (state p.old) (state p.new)) }
+{
+    if is_path_name(p.current()) {
+        name_ref_mod_path(p)?;
+    } else {
+        p.error("expected method name, field name or number")?;
+    }
+    let cm = method_arguments(p, g, m)?;
+    Ok(cm)
+}
+
+/// The arguments of a method behind its name, as `(1)` and `::<T>(1)`.
+fn method_arguments<G: Grammar>(
+    p: &mut Parser<'_>,
+    g: &G,
+    m: Marker,
+) -> Result<CompletedMarker, NoMemory>
+    requires behind { Behind G.valid G.left g.now (state p.old) }
+    requires newest { (state p.old).marker ≡ Some m.pos }
+    ensures closes { IfOk result (Closes METHOD_CALL_EXPR 2 (state p.old) (state p.new)) }
+    ensures script { OnOk result (Follows script.method_arguments something (state p.old) (state p.new)) }
+{
+    opt_generic_arg_list_expr(p, g)?;
+    if p.at(T!['(']) {
+        arg_list(p, g)?;
+    } else {
+        p.error("expected argument list")?;
+    }
+    let cm = m.complete(p, SyntaxKind::METHOD_CALL_EXPR)?;
+    Ok(cm)
+}
+
+/// The wait for a future behind the dot, `await` after `a.`.
+fn await_expr(p: &mut Parser<'_>, m: Marker) -> Result<CompletedMarker, NoMemory>
+    requires newest { (state p.old).marker ≡ Some m.pos }
+    requires here { next (state p.old) ≡ AWAIT_KW }
+    ensures closes { IfOk result (Closes AWAIT_EXPR 3 (state p.old) (state p.new)) }
+    ensures script { OnOk result (Follows script.await_expr something (state p.old) (state p.new)) }
+{
+    p.bump(T![await])?;
+    let cm = m.complete(p, SyntaxKind::AWAIT_EXPR)?;
+    Ok(cm)
+}
+
+/// A field behind the dot, as `b` and `0` after `a.`.
+fn field_expr(p: &mut Parser<'_>, m: Marker) -> Result<CompletedMarker, NoMemory>
+    requires newest { (state p.old).marker ≡ Some m.pos }
+    ensures closes { IfOk result (Closes FIELD_EXPR 3 (state p.old) (state p.new)) }
+    ensures script { OnOk result (Follows script.field_expr something (state p.old) (state p.new)) }
+{
+    if is_path_name_or_index(p.current()) {
+        name_ref_mod_path_or_index(p)?;
+    } else {
+        p.error("expected field name or number")?;
+    }
+    let cm = m.complete(p, SyntaxKind::FIELD_EXPR)?;
+    Ok(cm)
+}
+
+/// A question mark, as `?` after `a`.
+fn try_expr(p: &mut Parser<'_>, lhs: CompletedMarker) -> Result<CompletedMarker, NoMemory>
+    requires last { IsLast (state p.old) lhs lhs.kind }
+    requires here { next (state p.old) ≡ QUESTION }
+    ensures wraps { IfOk result (Wraps TRY_EXPR operand_room (state p.old) (state p.new)) }
+    ensures script { OnOk result (Follows script.try_expr something (state p.old) (state p.new)) }
+{
+    let m = lhs.precede(p)?;
+    p.bump(T![?])?;
+    let cm = m.complete(p, SyntaxKind::TRY_EXPR)?;
+    Ok(cm)
+}
+
+/// An argument of a call.
+struct Argument;
+
+impl Element for Argument {
+    ghost use Rattle.rap_rules.specs.Atom as atom_script;
+    ghost use Rattle.rap_rules.specs.First as set;
+
+    ghost element = { λ _. atom_script.expr };
+
+    ghost first = { λ _. set.is_expr_first };
+
+    fn parse<G: Grammar>(&self, p: &mut Parser<'_>, g: &G) -> Result<bool, NoMemory> {
+        let expr = expr(p, g)?;
+        Ok(expr.is_some())
+    }
+
+    fn is_first(&self, kind: SyntaxKind) -> bool {
+        is_expr_first(kind)
+    }
+}
+
+/// The arguments of a call, as `(a, b)`.
+fn arg_list<G: Grammar>(p: &mut Parser<'_>, g: &G) -> Result<(), NoMemory>
+    requires within { Within G.valid G.left g.now (state p.old) }
+    requires here { next (state p.old) ≡ L_PAREN }
+    ensures took { OnOk result (Took (state p.old) (state p.new) arguments_room) }
+    ensures script { OnOk result (Follows script.arg_list something (state p.old) (state p.new)) }
+{
+    let m = p.start()?;
+    delimited(
+        p,
+        g,
+        T!['('],
+        T![')'],
+        T![,],
+        "expected expression",
+        &Argument,
+    )?;
+    m.complete(p, SyntaxKind::ARG_LIST)?;
+    Ok(())
+}

@@ -1,0 +1,4 @@
+//! Expressions.
+#![tactic(auto)]
+
+pub mod expressions;

@@ -1,9 +1,0 @@
-use Rattle.std.proofs.Common.{◌+◌, ◌*◌}
-use Rattle.rap_events.specs.State.{state}
-use Rattle.rap_grammar.proofs.grammar.knot.+run.Given as goal
-
-abbrev pub decreases-run : goal.decreases-run
-decreases-run l = (state l.p.now).left * 2
-
-abbrev pub decreases-call : goal.decreases-call
-decreases-call l = (state l.q.now).left * 2 + 1

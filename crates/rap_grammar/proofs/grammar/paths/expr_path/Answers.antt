@@ -1,8 +1,0 @@
-use Rattle.rap_grammar.specs.Paths.{expr_path}
-use Rattle.rap_grammar.specs.Script.{gives}
-use Rattle.rap_grammar.proofs.Steps.{by_rule}
-use Rattle.rap_grammar.proofs.grammar.paths.expr_path.Goals as goal
-
-pub returns-clause-script : goal.returns-clause-script
-unfolding expr_path
-returns-clause-script g c = record { run = by_rule c.in_ok-path.ensures.script gives }

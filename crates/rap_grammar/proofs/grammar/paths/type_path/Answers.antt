@@ -1,8 +1,0 @@
-use Rattle.rap_grammar.specs.Paths.{type_path}
-use Rattle.rap_grammar.specs.Script.{gives}
-use Rattle.rap_grammar.proofs.Steps.{by_rule}
-use Rattle.rap_grammar.proofs.grammar.paths.type_path.Goals as goal
-
-pub returns-clause-script : goal.returns-clause-script
-unfolding type_path
-returns-clause-script g c = record { run = by_rule c.in_ok-path.ensures.script gives }

@@ -1,0 +1,156 @@
+//! Where a parse begins, and what is made of its end.
+ghost use Rattle.std.specs.Prelude.{◌≡◌, ◌≢◌, ◌^◌, ℕ, ◌+◌, ◌*◌, ◌<◌, ◌≤◌, ◌↔◌, length, [], IfOk, IfSome, OnOk, IsTrue, Some, None, true, false};
+ghost use Rattle.rap_events.specs.Cover.{covers};
+ghost use Rattle.rap_events.specs.Fit.{AllFitIn};
+ghost use Rattle.rap_events.specs.Forest.{Forest, node, none, flat, message_count, one_tree, used};
+ghost use Rattle.rap_events.specs.Machine.{floor, push};
+ghost use Rattle.rap_events.specs.State.{state};
+ghost use Rattle.rap_base.specs.TokenKind.{ERROR};
+ghost use Rattle.rap_rules.specs.Atom as atom_script;
+ghost use Rattle.rap_rules.specs.Called as called;
+ghost use Rattle.rap_rules.specs.Grew.{Grew, Reads};
+ghost use Rattle.rap_rules.specs.Knot.{Follows};
+ghost use Rattle.rap_rules.specs.Room.{expression_room};
+ghost use Rattle.rap_rules.specs.Rules.{IsPattern, IsType};
+ghost use Rattle.rap_rules.specs.Script.{something};
+ghost use Rattle.rap_grammar.specs.Top.{top_tree, with_leaves};
+ghost use Rattle.rap_rules.specs.Words.{of_option};
+
+use crate::knot::run;
+use rap_base::no_memory::NoMemory;
+use rap_base::syntax_kind::SyntaxKind;
+use rap_events::output::{Output, Step, wrap_in_node};
+use rap_events::parser::{CompletedMarker, Marker, Parser};
+use rap_rules::arguments::Restrictions;
+use rap_rules::knot::Rule;
+use std::alloc::Global;
+
+pub mod top;
+
+/// Whether the output is exactly one node, with nothing beside it.
+fn is_one_tree(output: &Output) -> bool
+    ensures { result ≡ one_tree output.now }
+{
+    let mut steps = output.iter();
+    let mut depth = 0usize;
+    let mut nodes = 0u8;
+    'steps: while let Some(step) = steps.next() {
+        match step {
+            Step::Enter { .. } => {
+                if depth == 0 {
+                    if nodes == 1 {
+                        return false;
+                    }
+                    nodes = 1;
+                }
+                depth += 1;
+            }
+            Step::Exit => depth = depth.saturating_sub(1),
+            Step::FloatSplit { ends_in_dot: true } => {
+                if depth < 2 {
+                    return false;
+                }
+                depth -= 1;
+            }
+            Step::FloatSplit { ends_in_dot: false } => {
+                if depth == 0 {
+                    return false;
+                }
+                depth = depth.saturating_sub(2);
+            }
+            Step::Token { .. } | Step::Error { .. } => {
+                if depth == 0 {
+                    return false;
+                }
+            }
+        }
+    }
+    nodes == 1
+}
+
+/// Reads an expression.
+fn expr(p: &mut Parser<'_>) -> Result<Option<CompletedMarker>, NoMemory>
+    ensures reads { IfOk result (Reads expression_room 8 (state p.old) (state p.new)) }
+    ensures script { IfOk result (λ o. Follows atom_script.expr (of_option o) (state p.old) (state p.new)) }
+{
+    let r = Restrictions {
+        forbid_structs: false,
+        prefer_stmt: false,
+    };
+    match run(p, Rule::Expr { m: None, r, bp: 1 })? {
+        Some((cm, _)) => Ok(Some(cm)),
+        None => Ok(None),
+    }
+}
+
+/// Reads a pattern.
+fn pattern(p: &mut Parser<'_>) -> Result<(), NoMemory>
+    ensures reads { OnOk result (IsPattern (state p.old) (state p.new)) }
+    ensures script { OnOk result (Follows called.pattern something (state p.old) (state p.new)) }
+{
+    run(p, Rule::Pattern)?;
+    Ok(())
+}
+
+/// Reads a type.
+fn type_(p: &mut Parser<'_>) -> Result<(), NoMemory>
+    ensures reads { OnOk result (IsType (state p.old) (state p.new)) }
+    ensures script { OnOk result (Follows called.type_ something (state p.old) (state p.new)) }
+{
+    run(p, Rule::Ty { allow_bounds: true })?;
+    Ok(())
+}
+
+/// Reads what stands in the brackets of an attribute.
+fn meta_item(p: &mut Parser<'_>) -> Result<(), NoMemory>
+    ensures grew { OnOk result (Grew (state p.old) (state p.new) 16) }
+    ensures script { OnOk result (Follows called.inner_meta something (state p.old) (state p.new)) }
+{
+    run(p, Rule::Meta)?;
+    Ok(())
+}
+
+/// Takes each token that is left, one by one.
+fn take_rest(p: &mut Parser<'_>) -> Result<(), NoMemory>
+    ensures forest { OnOk result ((state p.new).forest ≡ with_leaves (state p.old).forest (state p.old).rest) }
+    ensures rest { OnOk result ((state p.new).rest ≡ []) }
+    ensures left { OnOk result ((state p.new).left ≡ 0) }
+    ensures count { OnOk result ((state p.new).count ≡ (state p.old).count + (state p.old).left) }
+    ensures input { OnOk result ((state p.new).input ≡ (state p.old).input) }
+    ensures messages { OnOk result ((state p.new).messages ≡ (state p.old).messages) }
+    ensures marker { OnOk result ((state p.new).marker ≡ (state p.old).marker) }
+    ensures below { OnOk result ((state p.new).below ≡ (state p.old).below) }
+{
+    'tokens: while p.current() != SyntaxKind::EOF {
+        p.bump_any()?;
+    }
+    Ok(())
+}
+
+/// Ends the parse of a top entry that made what stands under the marker `m`, the only open one.
+///
+/// What was made is kept as it is if no token is left and it is one tree: exactly one node, with no token and no message
+/// beside it. Otherwise the tokens that are left are taken one by one, and all of it stands in one `ERROR`.
+pub fn close_top(alloc: Global, mut p: Parser<'_>, m: Marker) -> Result<Output, NoMemory>
+    requires newest { (state p).marker ≡ Some m.pos }
+    requires below { (state p).below ≡ push floor None none }
+    ensures top { IfOk result (λ output. output ≡ top_tree (state p.entry).forest (state p.entry).rest) }
+    ensures covers { IfOk result (λ output. covers (state p.entry).input output ≡ true) }
+    ensures used { IfOk result (λ output. used output ≡ length (state p.entry).input) }
+    ensures few { IfOk result (λ output. length (flat output) ≤ (state p.entry).count + (state p.entry).left + 3) }
+    ensures fit { IfOk result (λ output. message_count output ≡ 0 → ∥ AllFitIn output ∥₁) }
+{
+    if p.current() != SyntaxKind::EOF {
+        take_rest(&mut p)?;
+        m.complete(&mut p, SyntaxKind::ERROR)?;
+        let output = p.process(alloc)?;
+        return Ok(output);
+    }
+    m.abandon(&mut p)?;
+    let output = p.process(alloc)?;
+    if is_one_tree(&output) {
+        return Ok(output);
+    }
+    let output = wrap_in_node(alloc, output, SyntaxKind::ERROR)?;
+    Ok(output)
+}

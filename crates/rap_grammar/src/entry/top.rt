@@ -1,0 +1,65 @@
+//! Entries that read a whole input as one tree.
+ghost use Rattle.std.specs.Prelude.{◌≡◌, ◌≤◌, length, IfOk};
+ghost use Rattle.rap_rules.specs.Atom as script;
+ghost use Rattle.rap_rules.specs.Called as called;
+ghost use Rattle.rap_grammar.specs.Top.{IsTreeOver, IsTopOf};
+
+use super::close_top;
+use rap_base::no_memory::NoMemory;
+use rap_events::input::Input;
+use rap_events::output::Output;
+use rap_events::parser::Parser;
+use std::alloc::Global;
+
+/// A pattern, with its alternatives. Where the input is no pattern, or not only one, the tree is an `ERROR`.
+pub fn pattern(alloc: Global, input: &Input) -> Result<Output, NoMemory>
+    requires { length input.now ≤ 8388607 }
+    ensures tree { IfOk result (IsTreeOver input.now) }
+    ensures script { IfOk result (IsTopOf called.pattern input.now) }
+{
+    let mut p = Parser::new(alloc, input);
+    let m = p.start()?;
+    super::pattern(&mut p)?;
+    let output = close_top(alloc, p, m)?;
+    Ok(output)
+}
+
+/// A type. Where the input is no type, or not only one, the tree is an `ERROR`.
+pub fn type_(alloc: Global, input: &Input) -> Result<Output, NoMemory>
+    requires { length input.now ≤ 8388607 }
+    ensures tree { IfOk result (IsTreeOver input.now) }
+    ensures script { IfOk result (IsTopOf called.type_ input.now) }
+{
+    let mut p = Parser::new(alloc, input);
+    let m = p.start()?;
+    super::type_(&mut p)?;
+    let output = close_top(alloc, p, m)?;
+    Ok(output)
+}
+
+/// An expression. Where the input is no expression, or not only one, the tree is an `ERROR`.
+pub fn expr(alloc: Global, input: &Input) -> Result<Output, NoMemory>
+    requires { length input.now ≤ 8388607 }
+    ensures tree { IfOk result (IsTreeOver input.now) }
+    ensures script { IfOk result (IsTopOf script.expr input.now) }
+{
+    let mut p = Parser::new(alloc, input);
+    let m = p.start()?;
+    super::expr(&mut p)?;
+    let output = close_top(alloc, p, m)?;
+    Ok(output)
+}
+
+/// What stands in the brackets of an attribute, as `cfg(a)` in `#[cfg(a)]`. Where more stands behind it, the tree is an
+/// `ERROR`.
+pub fn meta_item(alloc: Global, input: &Input) -> Result<Output, NoMemory>
+    requires { length input.now ≤ 8388607 }
+    ensures tree { IfOk result (IsTreeOver input.now) }
+    ensures script { IfOk result (IsTopOf called.inner_meta input.now) }
+{
+    let mut p = Parser::new(alloc, input);
+    let m = p.start()?;
+    super::meta_item(&mut p)?;
+    let output = close_top(alloc, p, m)?;
+    Ok(output)
+}

@@ -1,0 +1,90 @@
+//! The knot of the grammar: each rule with all the others behind it.
+ghost use Rattle.std.specs.Prelude.{◌≡◌, ◌<◌, ◌≤◌, IfOk};
+ghost use Rattle.rap_events.specs.State.{state};
+ghost use Rattle.rap_rules.specs.Rules.{Pre, Post};
+
+use rap_base::no_memory::NoMemory;
+use rap_events::parser::Parser;
+use rap_expressions::expressions::expr_bp;
+use rap_paths::attributes::{cfg_predicate, meta};
+use rap_patterns::patterns::{pattern_r, pattern_single_r};
+use rap_rules::knot::{Answer, Grammar, Rule};
+use rap_types::generic_args::generic_arg;
+use rap_types::generic_params::generic_param_list;
+use rap_types::types::{path_type_bounds, type_with_bounds_cond};
+
+/// The grammar, by a call that runs any rule.
+#[derive(Drop)]
+struct Rules<F: Fn(&mut Parser<'_>, Rule) -> Result<Answer, NoMemory>> {
+    run: F,
+    left: usize,
+}
+
+impl<F: Fn(&mut Parser<'_>, Rule) -> Result<Answer, NoMemory>> Grammar for Rules<F> {
+    ghost left = { λ rules. rules.left };
+
+    ghost valid = { λ rules. ((q : _) (c : _) → Pre c (state q.now) → (state q.now).left < rules.left → F.pre rules.run q c) × ((q : _) (c : _) (a : _) (s : _) → F.post rules.run q c a s → IfOk a (Post c (state q.now) (state s.now))) };
+
+    #[inline(always)]
+    fn run(&self, p: &mut Parser<'_>, rule: Rule) -> Result<Answer, NoMemory> {
+        (self.run)(p, rule)
+    }
+}
+
+/// Runs a rule. It is inlined where a rule is come back to, so that each call goes to its rule directly: that halves
+/// what a level of nesting keeps on the stack.
+#[inline(always)]
+#[cycle(run)]
+pub fn run(p: &mut Parser<'_>, rule: Rule) -> Result<Answer, NoMemory>
+    requires { Pre rule (state p.old) }
+    ensures { IfOk result (Post rule (state p.old) (state p.new)) }
+{
+    let left = p.left();
+    let call = |q: &mut Parser<'_>, c: Rule| -> Result<Answer, NoMemory>
+        requires pre { Pre c (state q.old) }
+        requires left { (state q.old).left < left }
+        ensures { IfOk result (Post c (state q.old) (state q.new)) }
+    {
+        let _ = &left;
+        run(q, c)
+    };
+    let g = Rules { run: call, left };
+    match rule {
+        Rule::Expr { m, r, bp } => {
+            let expr = expr_bp(p, &g, m, r, bp)?;
+            Ok(expr)
+        }
+        Rule::Ty { allow_bounds } => {
+            type_with_bounds_cond(p, &g, allow_bounds)?;
+            Ok(None)
+        }
+        Rule::TraitPath => {
+            path_type_bounds(p, &g, true)?;
+            Ok(None)
+        }
+        Rule::GenericArg => {
+            generic_arg(p, &g)?;
+            Ok(None)
+        }
+        Rule::GenericParamList => {
+            generic_param_list(p, &g)?;
+            Ok(None)
+        }
+        Rule::Pattern => {
+            pattern_r(p, &g)?;
+            Ok(None)
+        }
+        Rule::PatternSingle => {
+            pattern_single_r(p, &g)?;
+            Ok(None)
+        }
+        Rule::Meta => {
+            meta(p, &g)?;
+            Ok(None)
+        }
+        Rule::CfgPredicate => {
+            cfg_predicate(p, &g)?;
+            Ok(None)
+        }
+    }
+}

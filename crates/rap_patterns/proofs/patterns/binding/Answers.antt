@@ -1,0 +1,13 @@
+use Rattle.std.proofs.Common.{rules}
+use Rattle.rap_rules.specs.Patterns.{binding}
+use Rattle.rap_rules.specs.Recovery.{is_pattern_recovery}
+use Rattle.rap_rules.proofs.Steps.{by_eat, to_end}
+use Rattle.rap_patterns.proofs.patterns.binding.Goals as goal
+
+pub returns-clause-script : goal.returns-clause-script
+unfolding binding
+returns-clause-script c = record {
+  run = by_eat c.in_ok-eat.ensures.state
+      (by_eat c.in_ok-eat-2.ensures.state
+      (to_end (c.in_ok-name_r.ensures.script is_pattern_recovery (search rules))));
+}

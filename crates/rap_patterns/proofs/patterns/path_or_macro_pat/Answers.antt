@@ -1,0 +1,51 @@
+use Rattle.std.proofs.Common.{rules}
+use Rattle.rap_rules.specs.Patterns.{path_or_macro_pat}
+use Rattle.rap_rules.specs.Script.{gives, passes, fails}
+use Rattle.rap_rules.proofs.Steps.{by_start, by_complete, by_precede, by_rule}
+use Rattle.rap_patterns.proofs.patterns.path_or_macro_pat.Goals as goal
+
+pub returns-in_ok-cm-in-L_PAREN-clause-script : goal.returns-in_ok-cm-in-L_PAREN-clause-script
+unfolding path_or_macro_pat
+returns-in_ok-cm-in-L_PAREN-clause-script g c = record {
+  run = by_start c.in_ok-m.ensures.state
+      (by_rule c.in_ok-expr_path.ensures.script
+      (passes (search rules)
+      (by_rule c.in_ok-tuple_pat_fields-in-L_PAREN.ensures.script
+      (by_complete c.in_ok-cm-in-L_PAREN.ensures.state.0 gives))));
+}
+
+pub returns-in_ok-cm-in-L_CURLY-clause-script : goal.returns-in_ok-cm-in-L_CURLY-clause-script
+unfolding path_or_macro_pat
+returns-in_ok-cm-in-L_CURLY-clause-script g c = record {
+  run = by_start c.in_ok-m.ensures.state
+      (by_rule c.in_ok-expr_path.ensures.script
+      (fails (search rules)
+      (passes (search rules)
+      (by_rule c.in_ok-record_pat_field_list-in-L_CURLY.ensures.script
+      (by_complete c.in_ok-cm-in-L_CURLY.ensures.state.0 gives)))));
+}
+
+pub returns-in_ok-cm-in-BANG-clause-script : goal.returns-in_ok-cm-in-BANG-clause-script
+unfolding path_or_macro_pat
+returns-in_ok-cm-in-BANG-clause-script g c = record {
+  run = by_start c.in_ok-m.ensures.state
+      (by_rule c.in_ok-expr_path.ensures.script
+      (fails (search rules)
+      (fails (search rules)
+      (passes (search rules)
+      (by_rule c.in_ok-macro_call_after_excl-in-BANG.ensures.script
+      (by_complete c.in_ok-call-in-BANG.ensures.state.0
+      (by_precede c.in_ok-call-in-BANG.ensures.state.1 c.in_ok-m-in-BANG.ensures.state
+      (by_complete c.in_ok-cm-in-BANG.ensures.state.0 gives))))))));
+}
+
+pub returns-in_ok-cm-in_default-clause-script : goal.returns-in_ok-cm-in_default-clause-script
+unfolding path_or_macro_pat
+returns-in_ok-cm-in_default-clause-script g c = record {
+  run = by_start c.in_ok-m.ensures.state
+      (by_rule c.in_ok-expr_path.ensures.script
+      (fails (search rules)
+      (fails (search rules)
+      (fails (search rules)
+      (by_complete c.in_ok-cm-in_default.ensures.state.0 gives)))));
+}

@@ -1,0 +1,4 @@
+//! Patterns.
+#![tactic(auto)]
+
+pub mod patterns;

@@ -1,0 +1,10 @@
+pub mod Balance
+pub mod Binary
+pub mod Forests
+pub mod Growth
+pub mod Lookahead
+pub mod OneEnd
+pub mod Operating
+pub mod Patterning
+pub mod Steps
+pub mod TokenTrees

@@ -1,0 +1,11 @@
+use Rattle.std.proofs.Common.{false}
+use Rattle.rap_rules.specs.Called.{type_no_bounds}
+use Rattle.rap_rules.specs.Knot.{script_of}
+use Rattle.rap_rules.specs.Phrase.{any_type}
+use Rattle.rap_rules.specs.Script.{gives}
+use Rattle.rap_rules.proofs.Steps.{by_part}
+use Rattle.rap_rules.proofs.called.type_no_bounds.Goals as goal
+
+pub returns-clause-script : goal.returns-clause-script
+unfolding type_no_bounds script_of
+returns-clause-script g c = record { run = by_part (any_type false) c.in_ok-run.ensures.1 gives }

@@ -1,0 +1,28 @@
+-- The script of each rule that others come back to.
+use Rattle.rap_events.specs.State.{State}
+use Rattle.rap_rules.specs.Attributes.{meta, cfg_predicate}
+use Rattle.rap_rules.specs.Expressions.{expr_bp}
+use Rattle.rap_rules.specs.GenericArgs.{generic_arg}
+use Rattle.rap_rules.specs.GenericParams.{generic_param_list}
+use Rattle.rap_rules.specs.Items.{bracketed_tokens}
+use Rattle.rap_rules.specs.Patterns.{pattern_r, pattern_single_r}
+use Rattle.rap_rules.specs.Phrase.{Phrase, expression, any_type, trait_path, generic_argument, generic_parameters, any_pattern, single_pattern, meta_item, condition, bracketed}
+use Rattle.rap_rules.specs.Script.{Script, Outcome, Runs, spot}
+use Rattle.rap_rules.specs.Types.{type_with_bounds_cond, path_type_bounds}
+use Rattle.std.specs.Prelude.{true}
+
+unfoldable pub script_of : Phrase → Script Phrase
+script_of (expression from r bp) = expr_bp from r bp
+script_of (any_type allow_bounds) = type_with_bounds_cond allow_bounds
+script_of trait_path = path_type_bounds true
+script_of generic_argument = generic_arg
+script_of generic_parameters = generic_param_list
+script_of any_pattern = pattern_r
+script_of single_pattern = pattern_single_r
+script_of meta_item = meta
+script_of condition = cfg_predicate
+script_of bracketed = bracketed_tokens
+
+-- a parser went along a script, with this outcome
+pub record Follows (s : Script Phrase) (v : Outcome) (old new : State) : Type 0 where
+  pub run : Runs script_of s (spot old) (spot new) v

@@ -1,0 +1,46 @@
+-- Where the search for a rule's beginning ends: tokens that are not taken into an `ERROR`.
+use Rattle.std.specs.Prelude.{ℕ, Bool, [], ◌∷◌, ◌||◌}
+use Rattle.rap_base.specs.TokenKind.{EOF, L_PAREN, L_CURLY, R_CURLY, R_PAREN, R_BRACK, R_ANGLE, COMMA, SEMICOLON, EQ, AMP, POUND, IF_KW, WHILE_KW, LOOP_KW, MATCH_KW, FN_KW, STRUCT_KW, ENUM_KW, IMPL_KW, TRAIT_KW, CONST_KW, ASYNC_KW, UNSAFE_KW, EXTERN_KW, STATIC_KW, LET_KW, MOD_KW, PUB_KW, CRATE_KW, USE_KW, MACRO_KW}
+use Rattle.rap_rules.specs.First.{one_of}
+use Rattle.rap_rules.specs.declared.arguments.Mode.{Mode}
+use Rattle.rap_rules.specs.declared.arguments.Mode.TheVariants as mode
+
+-- the search for an expression
+abbrev pub is_expr_recovery : ℕ → Bool
+is_expr_recovery kind = one_of (L_PAREN ∷ R_CURLY ∷ R_PAREN ∷ R_BRACK ∷ COMMA ∷ []) kind
+
+-- the search for an item: what items begin with, and the semicolon after them
+abbrev pub is_item_recovery : ℕ → Bool
+is_item_recovery kind =
+    one_of (FN_KW ∷ STRUCT_KW ∷ ENUM_KW ∷ IMPL_KW ∷ TRAIT_KW ∷ CONST_KW ∷ ASYNC_KW ∷ UNSAFE_KW ∷ EXTERN_KW ∷ STATIC_KW ∷ LET_KW ∷ MOD_KW ∷ PUB_KW ∷ CRATE_KW ∷ USE_KW ∷ MACRO_KW ∷ SEMICOLON ∷ []) kind
+
+-- the search for a type
+abbrev pub is_type_recovery : ℕ → Bool
+is_type_recovery kind = one_of (R_PAREN ∷ R_BRACK ∷ R_CURLY ∷ R_ANGLE ∷ COMMA ∷ PUB_KW ∷ []) kind
+
+-- where a type that does not begin takes no token along
+abbrev pub stops_type : ℕ → Bool
+stops_type kind =
+    one_of (EOF ∷ L_CURLY ∷ R_CURLY ∷ R_PAREN ∷ R_BRACK ∷ R_ANGLE ∷ COMMA ∷ PUB_KW ∷ []) kind
+
+-- the search for an argument of something generic
+abbrev pub is_generic_arg_recovery : ℕ → Bool
+is_generic_arg_recovery kind = one_of (R_ANGLE ∷ COMMA ∷ []) kind
+
+-- the search for a pattern
+abbrev pub is_pattern_recovery : ℕ → Bool
+is_pattern_recovery kind =
+    one_of (LET_KW ∷ IF_KW ∷ WHILE_KW ∷ LOOP_KW ∷ MATCH_KW ∷ R_PAREN ∷ R_BRACK ∷ R_CURLY ∷ COMMA ∷ EQ ∷ AMP ∷ []) kind
+
+-- where a pattern that does not begin takes no token along
+abbrev pub stops_pattern : ℕ → Bool
+stops_pattern kind =
+    one_of (EOF ∷ LET_KW ∷ IF_KW ∷ WHILE_KW ∷ LOOP_KW ∷ MATCH_KW ∷ R_PAREN ∷ R_BRACK ∷ L_CURLY ∷ R_CURLY ∷ COMMA ∷ EQ ∷ []) kind
+
+-- the search for a segment's name of a path
+abbrev pub is_segment_recovery : Mode → ℕ → Bool
+is_segment_recovery mode.Use kind = is_item_recovery kind
+is_segment_recovery mode.Attr kind = is_item_recovery kind || one_of (R_BRACK ∷ EQ ∷ POUND ∷ []) kind
+is_segment_recovery mode.Type kind = is_type_recovery kind
+is_segment_recovery mode.Expr kind = is_expr_recovery kind || is_item_recovery kind
+is_segment_recovery mode.Vis kind = is_item_recovery kind || one_of (R_PAREN ∷ []) kind

@@ -1,0 +1,100 @@
+-- What the rules that are come back to ask and give.
+-- (What calls promise one another; no promise of the library rests on it.)
+use Rattle.std.specs.Prelude.{◌≡◌, ℕ, ◌≤◌, ◌<◌, Option, Some, None, is_some, Bool, true, false}
+use Rattle.rap_base.specs.TokenKind.{L_ANGLE}
+use Rattle.rap_events.specs.Fit.{is_plain}
+use Rattle.rap_events.specs.State.{State, next}
+use Rattle.rap_events.specs.declared.parser.CompletedMarker.{CompletedMarker}
+use Rattle.rap_events.specs.declared.parser.Marker.{Marker}
+use Rattle.rap_rules.specs.Attributes.{meta, cfg_predicate}
+use Rattle.rap_rules.specs.Climb.{Climbed}
+use Rattle.rap_rules.specs.Expressions.{expr_bp, of_expr}
+use Rattle.rap_rules.specs.First.{is_type_first, is_generic_arg_first, is_cfg_predicate_first, starts_use_path}
+use Rattle.rap_rules.specs.GenericArgs.{generic_arg}
+use Rattle.rap_rules.specs.GenericParams.{generic_param_list}
+use Rattle.rap_rules.specs.Grew.{Grew, Took, Made, Closed, Dropped}
+use Rattle.rap_rules.specs.Knot.{Follows}
+use Rattle.rap_rules.specs.Patterns.{pattern_r, pattern_single_r}
+use Rattle.rap_rules.specs.Recovery.{stops_pattern, stops_type}
+use Rattle.rap_rules.specs.Room.{expression_room, marked_room, element_room, list_room, type_room, pattern_room, single_pattern_room, atom_pattern_room}
+use Rattle.rap_rules.specs.Script.{something}
+use Rattle.rap_rules.specs.Types.{type_with_bounds_cond, path_type_bounds}
+use Rattle.rap_rules.specs.declared.arguments.BlockLike.{BlockLike}
+use Rattle.rap_rules.specs.declared.knot.Rule.{Rule}
+use Rattle.rap_rules.specs.declared.knot.Rule.TheVariants as rule
+
+-- a marker that is handed over is the newest one
+abbrev pub IsNewest : State → Option Marker → Type 0
+IsNewest s None = Unit {0}
+IsNewest s (Some m) = s.marker ≡ Some m.pos
+
+-- an expression of its own, or one from the marker on that was handed over; or a message and no expression
+abbrev pub Answered : State → State → Option Marker → Bool → ℕ → Option (CompletedMarker × BlockLike) → Type 0
+Answered old new None stmt bp (Some e) = Made old new e.0 expression_room × Climbed new e.0.kind bp stmt
+Answered old new None stmt bp None = Grew old new 8 × (old.messages < new.messages)
+Answered old new (Some m) stmt bp (Some e) = Closed old new e.0 expression_room × Climbed new e.0.kind bp stmt
+Answered old new (Some m) stmt bp None = Dropped old new 8
+
+-- an operand: a node of which nothing more is asked; or a message, with a token in an `ERROR` at least, and no node
+abbrev pub Operand : ℕ → State → State → Option (CompletedMarker × BlockLike) → Type 0
+Operand room old new (Some e) = Made old new e.0 room × (is_plain e.0.kind ≡ true)
+Operand room old new None = Took old new room × (old.messages < new.messages)
+
+-- an expression from the newest marker on, or a message, and the marker is gone
+abbrev pub AnsweredFrom : State → State → Bool → ℕ → Option (CompletedMarker × BlockLike) → Type 0
+AnsweredFrom old new stmt bp (Some e) = Closed old new e.0 marked_room × Climbed new e.0.kind bp stmt
+AnsweredFrom old new stmt bp None = Dropped old new 5
+
+-- A rule that gives no node: where it begins with one of these tokens, it takes one at least, and else it records at
+-- most so many events more than its tokens pay for.
+pub record Parsed (first : ℕ → Bool) (k room : ℕ) (old new : State) : Type 0 where
+  pub grew : Grew old new k
+  pub took : first (next old) ≡ true → Took old new room
+
+-- a type: a token at least is taken where one begins, and also where the next one does not end the search for it
+pub record IsType (old new : State) : Type 0 where
+  pub grew : Grew old new 8
+  pub took : is_type_first (next old) ≡ true → Took old new type_room
+  pub skips : stops_type (next old) ≡ false → Took old new type_room
+
+-- a pattern, by its costs: where it takes no token, the next one is as before
+pub record PatternIn (k room : ℕ) (old new : State) : Type 0 where
+  pub grew : Grew old new k
+  pub took : stops_pattern (next old) ≡ false → Took old new room
+  pub stays : stops_pattern (next old) ≡ true → next new ≡ next old
+
+abbrev pub IsPattern : State → State → Type 0
+IsPattern old new = PatternIn 8 pattern_room old new
+
+-- a pattern without alternatives
+abbrev pub IsSinglePattern : State → State → Type 0
+IsSinglePattern old new = PatternIn 3 single_pattern_room old new
+
+-- a pattern that is no range: a node, or none
+abbrev pub IsAtomPattern : State → State → Option CompletedMarker → Type 0
+IsAtomPattern old new (Some cm) = Made old new cm atom_pattern_room × (stops_pattern (next old) ≡ false)
+IsAtomPattern old new None = PatternIn 3 atom_pattern_room old new
+
+-- what each rule asks
+abbrev pub Pre : Rule → State → Type 0
+Pre (rule.Expr m r bp) s = IsNewest s m × (1 ≤ bp)
+Pre (rule.Ty allow_bounds) s = Unit {0}
+Pre rule.TraitPath s = starts_use_path s.rest ≡ true
+Pre rule.GenericArg s = is_generic_arg_first (next s) ≡ true
+Pre rule.GenericParamList s = next s ≡ L_ANGLE
+Pre rule.Pattern s = Unit {0}
+Pre rule.PatternSingle s = Unit {0}
+Pre rule.Meta s = Unit {0}
+Pre rule.CfgPredicate s = Unit {0}
+
+-- what each rule gives
+abbrev pub Post : Rule → State → State → Option (CompletedMarker × BlockLike) → Type 0
+Post (rule.Expr m r bp) old new e = Answered old new m r.prefer_stmt bp e × Follows (expr_bp (is_some m) r bp) (of_expr e) old new
+Post (rule.Ty allow_bounds) old new e = IsType old new × Follows (type_with_bounds_cond allow_bounds) something old new
+Post rule.TraitPath old new e = Took old new type_room × Follows (path_type_bounds true) something old new
+Post rule.GenericArg old new e = Took old new element_room × Follows generic_arg something old new
+Post rule.GenericParamList old new e = Took old new list_room × Follows generic_param_list something old new
+Post rule.Pattern old new e = IsPattern old new × Follows pattern_r something old new
+Post rule.PatternSingle old new e = IsSinglePattern old new × Follows pattern_single_r something old new
+Post rule.Meta old new e = Grew old new 16 × Follows meta something old new
+Post rule.CfgPredicate old new e = Parsed is_cfg_predicate_first 8 element_room old new × Follows cfg_predicate something old new

@@ -1,0 +1,21 @@
+//! What ends the search for a phrase.
+ghost use Rattle.std.specs.Prelude.{◌≡◌, ◌≢◌, ℕ, ◌<◌, ◌≤◌, ◌⊎◌};
+ghost use Rattle.rap_base.specs.TokenSet.{member};
+ghost use Rattle.rap_rules.specs.Recovery.{is_type_recovery, is_expr_recovery};
+
+use crate::T;
+use rap_base::token_set::TokenSet;
+
+/// What ends the search for a type.
+pub fn type_recovery_set() -> TokenSet
+    ensures { (kind : ℕ) → member result kind ≡ is_type_recovery kind }
+{
+    TokenSet::new(&[T![')'], T![']'], T!['}'], T![>], T![,], T![pub]])
+}
+
+/// What ends the search for an expression.
+pub fn expr_recovery_set() -> TokenSet
+    ensures { (kind : ℕ) → member result kind ≡ is_expr_recovery kind }
+{
+    TokenSet::new(&[T!['('], T!['}'], T![')'], T![']'], T![,]])
+}
