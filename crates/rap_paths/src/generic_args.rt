@@ -75,10 +75,7 @@ fn starts_expr_args(p: &Parser<'_>) -> bool
 }
 
 /// The arguments behind a name in an expression, as `::<a>`, if there are.
-pub fn opt_generic_arg_list_expr<G: Grammar>(
-    p: &mut Parser<'_>,
-    g: &G,
-) -> Result<(), NoMemory>
+pub fn opt_generic_arg_list_expr<G: Grammar>(p: &mut Parser<'_>, g: &G) -> Result<(), NoMemory>
     requires within { Within G.valid G.left g.now (state p.old) }
     ensures grew { OnOk result (Grew (state p.old) (state p.new) 0) }
     ensures stays { OnOk result (is_at COLON2 (state p.old).rest ≡ false → state p.new ≡ state p.old) }

@@ -418,10 +418,7 @@ impl Element for TypeArg {
 
 /// A path as an expression, as `a::b`.
 #[inline(never)]
-pub fn path_expr<G: Grammar>(
-    p: &mut Parser<'_>,
-    g: &G,
-) -> Result<CompletedMarker, NoMemory>
+pub fn path_expr<G: Grammar>(p: &mut Parser<'_>, g: &G) -> Result<CompletedMarker, NoMemory>
     requires within { Within G.valid G.left g.now (state p.old) }
     requires path { starts_path (state p.old).rest ≡ true }
     ensures made { IfOk result (Makes PATH_EXPR atom_room (state p.old) (state p.new)) }

@@ -21,7 +21,9 @@ use rap_rules::called::expr;
 use rap_rules::first::is_expr_first;
 use rap_rules::knot::Grammar;
 use rap_rules::lists::{Element, delimited};
-use rap_rules::names::{is_path_name, is_path_name_or_index, name_ref_mod_path, name_ref_mod_path_or_index};
+use rap_rules::names::{
+    is_path_name, is_path_name_or_index, name_ref_mod_path, name_ref_mod_path_or_index,
+};
 
 /// What follows an operand directly, as `(a)`, `[0]`, `.b`, `.c()` and `?`.
 #[inline(never)]
