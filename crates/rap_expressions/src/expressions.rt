@@ -17,7 +17,7 @@ use crate::expressions::postfix::postfix_expr;
 use crate::expressions::ranges::prefix_range;
 use rap_base::no_memory::NoMemory;
 use rap_events::parser::{CompletedMarker, Marker, Parser};
-use rap_paths::attributes::outer_attrs;
+use rap_parts::attributes::outer_attrs;
 use rap_rules::T;
 use rap_rules::arguments::{BlockLike, Restrictions};
 use rap_rules::first::is_expr_first;

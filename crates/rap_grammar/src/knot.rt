@@ -6,7 +6,7 @@ ghost use Rattle.rap_rules.specs.Rules.{Pre, Post};
 use rap_base::no_memory::NoMemory;
 use rap_events::parser::Parser;
 use rap_expressions::expressions::expr_bp;
-use rap_paths::attributes::{cfg_predicate, meta};
+use rap_parts::attributes::{cfg_predicate, meta};
 use rap_patterns::patterns::{pattern_r, pattern_single_r};
 use rap_rules::knot::{Answer, Grammar, Rule};
 use rap_types::generic_args::generic_arg;

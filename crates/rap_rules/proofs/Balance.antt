@@ -10,7 +10,7 @@ use Rattle.rap_events.specs.Forest.{Forest, none, leaf, ◌⧺◌, message_count
 use Rattle.rap_events.specs.State.{State}
 use Rattle.rap_rules.specs.Balanced.{ArePartners, Balanced, nothing_more, token_first, list_first, in_brackets, NestsAsBrackets}
 use Rattle.rap_rules.specs.First.{one_of, is_bracket}
-use Rattle.rap_rules.specs.Items.{tokens_to, bracketed_tokens}
+use Rattle.rap_rules.specs.TokenTree.{tokens_to, bracketed_tokens}
 use Rattle.rap_rules.specs.Knot.{script_of, Follows}
 use Rattle.rap_rules.specs.Phrase.{Phrase}
 use Rattle.rap_rules.specs.Script.{Script, Outcome, something, Spot, Runs, forests, gives, looks, passes, fails, takes, takes_any, starts, finishes, follows, obeys, turns, stops}

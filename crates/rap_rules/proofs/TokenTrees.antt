@@ -10,7 +10,7 @@ use Rattle.rap_events.specs.Fit.{Fit, Opens, begin, token, tree, partner}
 use Rattle.rap_events.specs.Forest.{Forest, none, node, leaf}
 use Rattle.rap_events.specs.State.{State, next, Opened, Bumped, Expected}
 use Rattle.rap_rules.specs.First.{one_of, is_bracket}
-use Rattle.rap_rules.specs.Items.{tokens_turn, tokens_in, tokens_to, bracketed_tokens}
+use Rattle.rap_rules.specs.TokenTree.{tokens_turn, tokens_in, tokens_to, bracketed_tokens}
 use Rattle.rap_rules.specs.Script.{Outcome, something, Spot, spot, gives, looks, passes, fails}
 use Rattle.rap_rules.proofs.Steps.{On, Turns, last_turn}
 

@@ -8,7 +8,7 @@ use Rattle.rap_events.specs.State.{expected}
 use Rattle.rap_rules.specs.Called.{expr, cfg_predicate_element}
 use Rattle.rap_rules.specs.First.{one_of, is_bracket, is_outer_attr_first, is_cfg_predicate_first}
 use Rattle.rap_rules.specs.Grammar.{delimited}
-use Rattle.rap_rules.specs.Items.{bracketed_tokens}
+use Rattle.rap_rules.specs.TokenTree.{bracketed_tokens}
 use Rattle.rap_rules.specs.Paths.{attr_path}
 use Rattle.rap_rules.specs.Phrase.{Phrase, meta_item}
 use Rattle.rap_rules.specs.Script.{Script, give, test, token, any, bear, report, skip, start, finish, after, rule, loop, again}

@@ -9,7 +9,7 @@ use Rattle.rap_rules.specs.ConstArgs.{const_arg}
 use Rattle.rap_rules.specs.First.{is_path_name, is_type_first, is_const_arg_first, starts_weak_dyn}
 use Rattle.rap_rules.specs.GenericParams.{bounds}
 use Rattle.rap_rules.specs.Grammar.{name_ref_mod_path, lifetime}
-use Rattle.rap_rules.specs.Items.{macro_call_after_excl, starts_macro_call}
+use Rattle.rap_rules.specs.TokenTree.{macro_call_after_excl, starts_macro_call}
 use Rattle.rap_rules.specs.Paths.{opt_path_type_args, type_path_for_qualifier}
 use Rattle.rap_rules.specs.Phrase.{Phrase}
 use Rattle.rap_rules.specs.Recovery.{is_generic_arg_recovery}

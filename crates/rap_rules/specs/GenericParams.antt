@@ -9,7 +9,7 @@ use Rattle.rap_rules.specs.Called.{type_}
 use Rattle.rap_rules.specs.ConstArgs.{const_arg}
 use Rattle.rap_rules.specs.First.{one_of, is_bracket, is_attributed_generic_param_first, is_use_bound_arg_first, is_where_predicate_first, starts_use_path}
 use Rattle.rap_rules.specs.Grammar.{delimited, lifetime, name, name_ref_or_upper_self}
-use Rattle.rap_rules.specs.Items.{bracketed_tokens}
+use Rattle.rap_rules.specs.TokenTree.{bracketed_tokens}
 use Rattle.rap_rules.specs.Phrase.{Phrase}
 use Rattle.rap_rules.specs.Script.{Script, nothing, give, test, token, report, skip, start, finish, abandon, after, loop, again}
 use Rattle.rap_rules.specs.TypeParts.{ascription, for_binder, path_type}

@@ -4,7 +4,7 @@ use Rattle.rap_rules.specs.Attributes.{meta, cfg_predicate}
 use Rattle.rap_rules.specs.Expressions.{expr_bp}
 use Rattle.rap_rules.specs.GenericArgs.{generic_arg}
 use Rattle.rap_rules.specs.GenericParams.{generic_param_list}
-use Rattle.rap_rules.specs.Items.{bracketed_tokens}
+use Rattle.rap_rules.specs.TokenTree.{bracketed_tokens}
 use Rattle.rap_rules.specs.Patterns.{pattern_r, pattern_single_r}
 use Rattle.rap_rules.specs.Phrase.{Phrase, expression, any_type, trait_path, generic_argument, generic_parameters, any_pattern, single_pattern, meta_item, condition, bracketed}
 use Rattle.rap_rules.specs.Script.{Script, Outcome, Runs, spot}

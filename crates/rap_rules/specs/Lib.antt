@@ -10,7 +10,6 @@ pub mod GenericArgs
 pub mod GenericParams
 pub mod Grammar
 pub mod Grew
-pub mod Items
 pub mod Knot
 pub mod Operator
 pub mod Params
@@ -21,6 +20,7 @@ pub mod Recovery
 pub mod Room
 pub mod Rules
 pub mod Script
+pub mod TokenTree
 pub mod TypeParts
 pub mod Types
 pub mod Words

@@ -10,7 +10,7 @@ use Rattle.rap_rules.specs.Attributes.{outer_attrs, cfg_predicate}
 use Rattle.rap_rules.specs.Called.{pattern, pattern_single}
 use Rattle.rap_rules.specs.First.{one_of, is_literal_first, is_pat_top_first, is_range_pat_end_first, starts_path}
 use Rattle.rap_rules.specs.Grammar.{name_r, name_ref_or_index, error_block}
-use Rattle.rap_rules.specs.Items.{macro_call_after_excl}
+use Rattle.rap_rules.specs.TokenTree.{macro_call_after_excl}
 use Rattle.rap_rules.specs.Paths.{expr_path}
 use Rattle.rap_rules.specs.Phrase.{Phrase}
 use Rattle.rap_rules.specs.Recovery.{is_pattern_recovery}

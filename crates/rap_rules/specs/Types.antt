@@ -9,7 +9,7 @@ use Rattle.rap_rules.specs.Called.{type_, type_no_bounds, pattern}
 use Rattle.rap_rules.specs.First.{one_of, is_fn_ptr_first, starts_weak_dyn, starts_use_path, starts_path}
 use Rattle.rap_rules.specs.GenericParams.{bounds_without_colon, bounds_without_colon_m}
 use Rattle.rap_rules.specs.Grammar.{lifetime, abi, opt_ret_type}
-use Rattle.rap_rules.specs.Items.{macro_call_after_excl, starts_macro_call}
+use Rattle.rap_rules.specs.TokenTree.{macro_call_after_excl, starts_macro_call}
 use Rattle.rap_rules.specs.Params.{param_list_fn_ptr}
 use Rattle.rap_rules.specs.Paths.{type_path}
 use Rattle.rap_rules.specs.Phrase.{Phrase}

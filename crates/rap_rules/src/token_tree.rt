@@ -9,7 +9,7 @@ ghost use Rattle.rap_rules.specs.Balanced.{NestsAsBrackets};
 ghost use Rattle.rap_rules.specs.Expressions.{of_like};
 ghost use Rattle.rap_rules.specs.First.{is_bracket, one_of};
 ghost use Rattle.rap_rules.specs.Grew.{Took};
-ghost use Rattle.rap_rules.specs.Items as script;
+ghost use Rattle.rap_rules.specs.TokenTree as script;
 ghost use Rattle.rap_rules.specs.Knot.{Follows};
 ghost use Rattle.rap_rules.specs.Room.{list_room};
 ghost use Rattle.rap_rules.specs.Script.{something};

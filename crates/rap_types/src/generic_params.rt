@@ -16,7 +16,7 @@ use crate::types::{for_binder, path_type};
 use rap_base::no_memory::NoMemory;
 use rap_base::syntax_kind::SyntaxKind;
 use rap_events::parser::{CompletedMarker, Marker, Parser};
-use rap_paths::attributes::outer_attrs;
+use rap_parts::attributes::outer_attrs;
 use rap_rules::T;
 use rap_rules::called::{ascription, type_};
 use rap_rules::first::{is_outer_attr_first, is_type_first, is_use_path_start};

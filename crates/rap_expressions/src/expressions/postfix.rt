@@ -14,7 +14,7 @@ ghost use Rattle.rap_rules.specs.Script.{something};
 use rap_base::no_memory::NoMemory;
 use rap_base::syntax_kind::SyntaxKind;
 use rap_events::parser::{CompletedMarker, Marker, Parser};
-use rap_paths::generic_args::opt_generic_arg_list_expr;
+use rap_parts::generic_args::opt_generic_arg_list_expr;
 use rap_rules::T;
 use rap_rules::arguments::BlockLike;
 use rap_rules::called::expr;

@@ -2,7 +2,7 @@ use Rattle.std.proofs.Common.{rules, arith, sym, ap, ◌∙◌, refl, [], ◌∷
 use Rattle.rap_base.specs.TokenKind.{R_PAREN, R_BRACK}
 use Rattle.rap_events.specs.Fit.{partner}
 use Rattle.rap_rules.specs.First.{one_of, is_bracket}
-use Rattle.rap_rules.specs.Items.{tokens_to}
+use Rattle.rap_rules.specs.TokenTree.{tokens_to}
 use Rattle.rap_rules.specs.Knot.{script_of}
 use Rattle.rap_rules.specs.Phrase.{bracketed}
 use Rattle.rap_rules.specs.Script.{gives, passes, fails, follows}

@@ -2,7 +2,7 @@ use Rattle.std.proofs.Common.{◌≡◌, false}
 use Rattle.rap_events.specs.Fit.{Opens}
 use Rattle.rap_events.specs.State.{state, next}
 use Rattle.rap_rules.specs.Grew.{Grew}
-use Rattle.rap_rules.specs.Items.{tokens_turn}
+use Rattle.rap_rules.specs.TokenTree.{tokens_turn}
 use Rattle.rap_rules.proofs.Steps.{Turns}
 use Rattle.rap_rules.proofs.token_tree.+token_tree.Given as goal
 

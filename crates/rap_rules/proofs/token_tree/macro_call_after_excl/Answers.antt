@@ -1,6 +1,6 @@
 use Rattle.std.proofs.Common.{rules}
 use Rattle.rap_rules.specs.First.{is_bracket}
-use Rattle.rap_rules.specs.Items.{macro_call_after_excl}
+use Rattle.rap_rules.specs.TokenTree.{macro_call_after_excl}
 use Rattle.rap_rules.specs.Script.{gives, passes, fails}
 use Rattle.rap_rules.proofs.Steps.{then_by, else_by, by_kind, by_bump, by_report, by_rule}
 use Rattle.rap_rules.proofs.token_tree.macro_call_after_excl.Goals as goal

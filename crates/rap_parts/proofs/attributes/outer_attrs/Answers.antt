@@ -1,0 +1,31 @@
+use Rattle.std.proofs.Common.{rules, refl, sym, ◌∙◌, inl, inr}
+use Rattle.rap_rules.specs.Attributes.{outer_attrs}
+use Rattle.rap_rules.specs.First.{is_outer_attr_first}
+use Rattle.rap_rules.specs.Script.{gives}
+use Rattle.rap_rules.proofs.Steps.{then_by, else_by, by_kind, by_rule, turn, last_turn, clash}
+use Rattle.rap_parts.proofs.attributes.outer_attrs.Goals as goal
+
+pub attrs-preserved : goal.attrs-preserved
+attrs-preserved g c =
+    let first = by_kind is_outer_attr_first c.is_outer_attr_first.ensures c.current.ensures.kind in
+    record {
+      grew = search rules;
+      began = inr (search rules);
+      stays = λ e. absurd (clash (sym first ∙ c.attrs-test.true) (rw (c.attrs.invariant.stays e) e));
+      script = turn c.attrs.invariant.script
+          (then_by first c.attrs-test.true (by_rule c.in_ok-attr.ensures.script gives));
+    }
+
+pub returns-clause-took : goal.returns-clause-took
+returns-clause-took g c = λ first. elim c.attrs.invariant.began [
+  | inl e ↦
+      let n = by_kind is_outer_attr_first c.is_outer_attr_first.ensures c.current.ensures.kind in
+      absurd (clash first (rw (← e) (sym n ∙ c.attrs-test.false)))
+  | inr t ↦ t
+]
+
+pub returns-clause-script : goal.returns-clause-script
+unfolding outer_attrs
+returns-clause-script g c =
+    let first = by_kind is_outer_attr_first c.is_outer_attr_first.ensures c.current.ensures.kind in
+    record { run = last_turn c.attrs.invariant.script (else_by first c.attrs-test.false gives) refl }
