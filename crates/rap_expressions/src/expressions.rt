@@ -25,9 +25,14 @@ use rap_rules::knot::Grammar;
 use rap_rules::recovery::expr_recovery_set;
 
 mod atom;
+mod builtin;
+mod closures;
+pub mod control;
+pub mod matches;
 mod operators;
 mod postfix;
 mod ranges;
+pub mod records;
 
 /// An expression of at least the power `bp`, from the marker on if there is one.
 pub fn expr_bp<G: Grammar>(

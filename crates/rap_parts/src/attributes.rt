@@ -31,7 +31,7 @@ fn is_inner_attr_start(p: &Parser<'_>) -> bool
 }
 
 /// The attributes of what they stand in, as `#![a]` at the head of a block.
-fn inner_attrs<G: Grammar>(p: &mut Parser<'_>, g: &G) -> Result<(), NoMemory>
+pub fn inner_attrs<G: Grammar>(p: &mut Parser<'_>, g: &G) -> Result<(), NoMemory>
     requires within { Within G.valid G.left g.now (state p.old) }
     ensures grew { OnOk result (Grew (state p.old) (state p.new) 0) }
     ensures stays { OnOk result (starts_inner_attr (state p.old).rest ≡ false → state p.new ≡ state p.old) }

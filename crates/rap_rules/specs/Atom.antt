@@ -1,6 +1,6 @@
 -- Expressions that begin with no operator.
 use Rattle.std.specs.Prelude.{ℕ, Bool, true, false, ◌&&◌, not, if◌then◌else◌, Option, Some, None, codes}
-use Rattle.rap_base.specs.TokenKind.{EOF, COMMA, SEMICOLON, L_PAREN, R_PAREN, L_BRACK, R_BRACK, L_CURLY}
+use Rattle.rap_base.specs.TokenKind.{EOF, COMMA, SEMICOLON, L_PAREN, R_PAREN, L_BRACK, R_BRACK}
 use Rattle.rap_base.specs.NodeKind.{LITERAL, PATH_EXPR, PAREN_EXPR, TUPLE_EXPR, ARRAY_EXPR}
 use Rattle.rap_events.specs.Record.{next_kind}
 use Rattle.rap_events.specs.Composite.{is_at}
@@ -72,9 +72,3 @@ atom_expr = after literal (λ v. if_some v done
     (test (next_is L_PAREN) tuple_expr
     (test (next_is L_BRACK) array_expr
     (skip (codes "expected expression") (give nothing))))))
-
--- a block, so far by its first token alone
-unfoldable pub block_expr : Script Phrase
-block_expr =
-    test (is_at L_CURLY) (skip (codes "expected a block") done)
-    (report (codes "expected a block") done)

@@ -1,7 +1,7 @@
 -- What the rules begin with.
 use Rattle.std.specs.Prelude.{ℕ, List, [], ◌∷◌, drop, Bool, ◌==◌, ◌&&◌, ◌||◌, not}
 use Rattle.std.specs.List.{list_any}
-use Rattle.rap_base.specs.TokenKind.{IDENT, SELF_KW, SUPER_KW, CRATE_KW, SELF_TYPE_KW, TRUE_KW, FALSE_KW, INT_NUMBER, FLOAT_NUMBER, BYTE, CHAR, STRING, BYTE_STRING, C_STRING, COLON, COLON2, L_ANGLE, L_PAREN, L_BRACK, L_CURLY, AMP, PIPE, STAR, BANG, DOT, MINUS, UNDERSCORE, POUND, OUTER_DOC_COMMENT, LIFETIME_IDENT, FN_KW, UNSAFE_KW, EXTERN_KW, FOR_KW, IMPL_KW, DYN_KW, CONST_KW, BOX_KW, REF_KW, MUT_KW, QUESTION}
+use Rattle.rap_base.specs.TokenKind.{IDENT, SELF_KW, SUPER_KW, CRATE_KW, SELF_TYPE_KW, TRUE_KW, FALSE_KW, INT_NUMBER, FLOAT_NUMBER, BYTE, CHAR, STRING, BYTE_STRING, C_STRING, COLON, COLON2, L_ANGLE, L_PAREN, L_BRACK, L_CURLY, AMP, PIPE, STAR, BANG, DOT, MINUS, UNDERSCORE, POUND, OUTER_DOC_COMMENT, LIFETIME_IDENT, FN_KW, UNSAFE_KW, EXTERN_KW, FOR_KW, IMPL_KW, DYN_KW, CONST_KW, BOX_KW, REF_KW, MUT_KW, QUESTION, ASYNC_KW, BREAK_KW, CONTINUE_KW, DO_KW, GEN_KW, IF_KW, LET_KW, LOOP_KW, MATCH_KW, MOVE_KW, RETURN_KW, BECOME_KW, STATIC_KW, TRY_KW, WHILE_KW, YIELD_KW}
 use Rattle.rap_base.specs.Edition.{at_least_2018}
 use Rattle.rap_events.specs.Record.{Record, next_kind, kind_at, contextual_at, edition_at}
 use Rattle.rap_events.specs.Composite.{parts, begins_with, is_at}
@@ -27,11 +27,12 @@ is_path_first kind = one_of (IDENT ∷ SELF_KW ∷ SUPER_KW ∷ CRATE_KW ∷ SEL
 
 -- an expression without an operator before it, by its first token alone
 abbrev pub is_atom_expr_first : ℕ → Bool
-is_atom_expr_first kind = (is_literal_first kind || is_path_first kind) || one_of (L_PAREN ∷ L_BRACK ∷ []) kind
+is_atom_expr_first kind =
+    (is_literal_first kind || is_path_first kind) || one_of (L_PAREN ∷ L_CURLY ∷ L_BRACK ∷ PIPE ∷ ASYNC_KW ∷ BREAK_KW ∷ CONST_KW ∷ CONTINUE_KW ∷ DO_KW ∷ GEN_KW ∷ FOR_KW ∷ IF_KW ∷ LET_KW ∷ LOOP_KW ∷ MATCH_KW ∷ MOVE_KW ∷ RETURN_KW ∷ BECOME_KW ∷ STATIC_KW ∷ TRY_KW ∷ UNSAFE_KW ∷ WHILE_KW ∷ YIELD_KW ∷ LIFETIME_IDENT ∷ []) kind
 
 -- an expression, by its first token alone: a `.` may be the first of `..`, and a `#` that of an attribute
 abbrev pub is_expr_first : ℕ → Bool
-is_expr_first kind = is_atom_expr_first kind || one_of (AMP ∷ STAR ∷ BANG ∷ DOT ∷ MINUS ∷ POUND ∷ []) kind
+is_expr_first kind = is_atom_expr_first kind || one_of (AMP ∷ STAR ∷ BANG ∷ DOT ∷ MINUS ∷ UNDERSCORE ∷ POUND ∷ []) kind
 
 -- a literal, a name, or a bracket: an expression without an operator before it begins
 abbrev pub is_atom : ℕ → Bool
@@ -90,6 +91,11 @@ starts_path rs = (is_path_name (next_kind rs) || begins_with (parts COLON2) rs) 
 -- the arguments of something generic in an expression, as `::<a>`
 abbrev pub starts_expr_args : List Record → Bool
 starts_expr_args rs = is_at COLON2 rs && is_at L_ANGLE (drop 2 rs)
+
+-- a closure comes next
+abbrev pub starts_closure : List Record → Bool
+starts_closure rs =
+    one_of (CONST_KW ∷ STATIC_KW ∷ ASYNC_KW ∷ MOVE_KW ∷ PIPE ∷ []) (next_kind rs) || ((next_kind rs == FOR_KW) && (kind_at rs 1 == L_ANGLE))
 
 -- a bracket that opens
 abbrev pub is_bracket : ℕ → Bool

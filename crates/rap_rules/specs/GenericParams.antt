@@ -150,9 +150,6 @@ generic_params =
 unfoldable pub generic_param_list : Script Phrase
 generic_param_list = start (after generic_params (λ v. finish GENERIC_PARAM_LIST done))
 
-unfoldable pub opt_generic_param_list : Script Phrase
-opt_generic_param_list = test (is_at L_ANGLE) generic_param_list done
-
 -- the bounds of what a predicate is about
 unfoldable pub predicate_bounds : Script Phrase
 predicate_bounds = test (is_at COLON) bounds (report (codes "expected colon") done)
@@ -189,6 +186,5 @@ where_turn a b =
 unfoldable pub where_predicates : Script Phrase
 where_predicates = loop where_turn false false
 
-unfoldable pub opt_where_clause : Script Phrase
-opt_where_clause =
-    test (is_at WHERE_KW) (start (token WHERE_KW (after where_predicates (λ v. finish WHERE_CLAUSE done)))) done
+unfoldable pub where_clause : Script Phrase
+where_clause = start (token WHERE_KW (after where_predicates (λ v. finish WHERE_CLAUSE done)))

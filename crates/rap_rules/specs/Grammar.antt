@@ -52,10 +52,6 @@ name_r kept = test (is_at IDENT) (start (token IDENT (finish NAME done))) (recov
 unfoldable pub name : Script Phrase
 name = name_r (λ kind. false)
 
--- a block where none may be
-unfoldable pub error_block : List ℕ → Script Phrase
-error_block message = start (report message (token L_CURLY (eat R_CURLY (finish ERROR done))))
-
 unfoldable pub name_ref_or_index : Script Phrase
 name_ref_or_index = start (any (finish NAME_REF done))
 
@@ -70,3 +66,18 @@ abi = start (token EXTERN_KW (eat STRING (finish ABI done)))
 -- the type that something gives back
 unfoldable pub opt_ret_type : Script Phrase
 opt_ret_type = test (is_at THIN_ARROW) (start (token THIN_ARROW (after type_no_bounds (λ v. finish RET_TYPE done)))) (give nothing)
+
+-- the same without the arrow, which is reported
+unfoldable pub opt_no_arrow_ret_type : Script Phrase
+opt_no_arrow_ret_type = done
+
+unfoldable pub name_ref_or_self : Script Phrase
+name_ref_or_self = done
+
+-- a name that may be a keyword
+unfoldable pub name_any_identifier : Script Phrase
+name_any_identifier = done
+
+-- a name after `as`
+unfoldable pub opt_rename : Script Phrase
+opt_rename = done

@@ -1,15 +1,19 @@
 -- The script of each rule that others come back to.
 use Rattle.rap_events.specs.State.{State}
 use Rattle.rap_rules.specs.Attributes.{meta, cfg_predicate}
+use Rattle.rap_rules.specs.Control.{if_expr}
 use Rattle.rap_rules.specs.Expressions.{expr_bp}
 use Rattle.rap_rules.specs.GenericArgs.{generic_arg}
-use Rattle.rap_rules.specs.GenericParams.{generic_param_list}
+use Rattle.rap_rules.specs.GenericParams.{generic_param_list, bounds_without_colon, where_clause}
+use Rattle.rap_rules.specs.Items.{item_or_macro}
+use Rattle.rap_rules.specs.Statements.{stmt}
+use Rattle.rap_rules.specs.UseItem.{use_tree}
 use Rattle.rap_rules.specs.TokenTree.{bracketed_tokens}
 use Rattle.rap_rules.specs.Patterns.{pattern_r, pattern_single_r}
-use Rattle.rap_rules.specs.Phrase.{Phrase, expression, any_type, trait_path, generic_argument, generic_parameters, any_pattern, single_pattern, meta_item, condition, bracketed}
+use Rattle.rap_rules.specs.Phrase.{Phrase, expression, any_type, trait_path, generic_argument, generic_parameters, bound_list, where_part, any_pattern, single_pattern, pattern_of_arm, statement, if_behind_else, any_item, tree_of_use, meta_item, condition, bracketed}
 use Rattle.rap_rules.specs.Script.{Script, Outcome, Runs, spot}
 use Rattle.rap_rules.specs.Types.{type_with_bounds_cond, path_type_bounds}
-use Rattle.std.specs.Prelude.{true}
+use Rattle.std.specs.Prelude.{true, false}
 
 unfoldable pub script_of : Phrase → Script Phrase
 script_of (expression from r bp) = expr_bp from r bp
@@ -17,8 +21,15 @@ script_of (any_type allow_bounds) = type_with_bounds_cond allow_bounds
 script_of trait_path = path_type_bounds true
 script_of generic_argument = generic_arg
 script_of generic_parameters = generic_param_list
-script_of any_pattern = pattern_r
-script_of single_pattern = pattern_single_r
+script_of bound_list = bounds_without_colon
+script_of where_part = where_clause
+script_of any_pattern = pattern_r false
+script_of single_pattern = pattern_single_r false
+script_of pattern_of_arm = pattern_r true
+script_of (statement semicolon) = stmt semicolon
+script_of if_behind_else = if_expr
+script_of (any_item stop_on_r_curly is_in_extern) = item_or_macro stop_on_r_curly is_in_extern
+script_of tree_of_use = use_tree
 script_of meta_item = meta
 script_of condition = cfg_predicate
 script_of bracketed = bracketed_tokens

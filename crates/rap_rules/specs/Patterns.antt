@@ -5,15 +5,16 @@ use Rattle.rap_base.specs.NodeKind.{OR_PAT, RANGE_PAT, REST_PAT, DEREF_PAT, CFG_
 use Rattle.rap_events.specs.Record.{Record, next_kind, kind_at}
 use Rattle.rap_events.specs.Composite.{is_at}
 use Rattle.rap_events.specs.State.{with_kind}
-use Rattle.rap_rules.specs.Atom.{literal, block_expr}
+use Rattle.rap_rules.specs.Atom.{literal}
+use Rattle.rap_rules.specs.Blocks.{block_expr, error_block}
 use Rattle.rap_rules.specs.Attributes.{outer_attrs, cfg_predicate}
 use Rattle.rap_rules.specs.Called.{pattern, pattern_single}
 use Rattle.rap_rules.specs.First.{one_of, is_literal_first, is_pat_top_first, is_range_pat_end_first, starts_path}
-use Rattle.rap_rules.specs.Grammar.{name_r, name_ref_or_index, error_block}
+use Rattle.rap_rules.specs.Grammar.{name_r, name_ref_or_index}
 use Rattle.rap_rules.specs.TokenTree.{macro_call_after_excl}
 use Rattle.rap_rules.specs.Paths.{expr_path}
 use Rattle.rap_rules.specs.Phrase.{Phrase}
-use Rattle.rap_rules.specs.Recovery.{is_pattern_recovery}
+use Rattle.rap_rules.specs.Recovery.{is_pattern_recovery, is_arm_recovery}
 use Rattle.rap_rules.specs.Script.{Script, Outcome, nothing, something, block, again, give, look, test, token, bear, report, skip, start, precede, finish, abandon, after, loop}
 use Rattle.rap_rules.specs.Words.{done, if_some, next_is, reads_as, eat, expect, recover, of_bool, starts_builtin}
 
@@ -166,71 +167,76 @@ abbrev pub starts_ident_pat : List Record → Bool
 starts_ident_pat rs =
     is_at IDENT rs && (not (one_of (L_PAREN ∷ L_CURLY ∷ BANG ∷ []) (kind_at rs 1)) && not (is_at COLON2 (drop 1 rs)))
 
+-- what ends the search for a pattern, in an arm or elsewhere
+abbrev pub ends_search : Bool → ℕ → Bool
+ends_search false kind = is_pattern_recovery kind
+ends_search true kind = is_arm_recovery kind
+
 -- no pattern begins
-unfoldable pub missing_pat : Script Phrase
-missing_pat = recover (codes "expected pattern") is_pattern_recovery (give nothing) (give nothing)
+unfoldable pub missing_pat : Bool → Script Phrase
+missing_pat in_arm = recover (codes "expected pattern") (ends_search in_arm) (give nothing) (give nothing)
 
 -- a pattern that begins with no keyword and no path
-unfoldable pub symbol_pat : Script Phrase
-symbol_pat =
+unfoldable pub symbol_pat : Bool → Script Phrase
+symbol_pat in_arm =
     test starts_literal_pat literal_pat
     (test (next_is UNDERSCORE) wildcard_pat
     (test (next_is AMP) ref_pat
     (test (next_is L_PAREN) tuple_pat
     (test (next_is L_BRACK) slice_pat
-    (test (next_is BANG) not_null_pat missing_pat)))))
+    (test (next_is BANG) not_null_pat (missing_pat in_arm))))))
 
-unfoldable pub atom_pat : Script Phrase
-atom_pat =
+unfoldable pub atom_pat : Bool → Script Phrase
+atom_pat in_arm =
     test starts_builtin builtin_pat
     (test (next_is BOX_KW) box_pat
     (test (λ rs. one_of (REF_KW ∷ MUT_KW ∷ []) (next_kind rs)) (ident_pat true)
     (test (next_is CONST_KW) const_block_pat
     (test starts_ident_pat (ident_pat true)
-    (test starts_path path_or_macro_pat symbol_pat)))))
+    (test starts_path path_or_macro_pat (symbol_pat in_arm))))))
 
 -- where a range that has begun ends
 abbrev pub ends_range_pat : ℕ → Bool
 ends_range_pat kind = one_of (EQ ∷ COMMA ∷ COLON ∷ R_PAREN ∷ R_CURLY ∷ R_BRACK ∷ IF_KW ∷ PIPE ∷ EOF ∷ []) kind
 
 -- a range from the pattern before it on
-unfoldable pub range_from_pat : ℕ → Script Phrase
-range_from_pat op =
+unfoldable pub range_from_pat : Bool → ℕ → Script Phrase
+range_from_pat in_arm op =
     precede (token op (test (λ rs. ends_range_pat (next_kind rs))
     (finish RANGE_PAT done)
-    (after atom_pat (λ v. finish RANGE_PAT done))))
+    (after (atom_pat in_arm) (λ v. finish RANGE_PAT done))))
 
-unfoldable pub range_op : Script Phrase
-range_op =
-    test (is_at DOT3) (range_from_pat DOT3)
-    (test (is_at DOT2EQ) (range_from_pat DOT2EQ)
-    (test (is_at DOT2) (range_from_pat DOT2) done))
+unfoldable pub range_op : Bool → Script Phrase
+range_op in_arm =
+    test (is_at DOT3) (range_from_pat in_arm DOT3)
+    (test (is_at DOT2EQ) (range_from_pat in_arm DOT2EQ)
+    (test (is_at DOT2) (range_from_pat in_arm DOT2) done))
 
 -- a range without a start, and `..` alone
-unfoldable pub range_to_pat : Script Phrase
-range_to_pat = start (token DOT2EQ (after atom_pat (λ v. finish RANGE_PAT done)))
+unfoldable pub range_to_pat : Bool → Script Phrase
+range_to_pat in_arm = start (token DOT2EQ (after (atom_pat in_arm) (λ v. finish RANGE_PAT done)))
 
-unfoldable pub rest_pat : Script Phrase
-rest_pat =
+unfoldable pub rest_pat : Bool → Script Phrase
+rest_pat in_arm =
     start (token DOT2 (test (λ rs. is_range_pat_end_first (next_kind rs))
-    (after atom_pat (λ v. finish RANGE_PAT done))
+    (after (atom_pat in_arm) (λ v. finish RANGE_PAT done))
     (finish REST_PAT done)))
 
-unfoldable pub pattern_single_r : Script Phrase
-pattern_single_r =
-    test (is_at DOT2EQ) range_to_pat
-    (test (is_at DOT2) rest_pat
-    (after atom_pat (λ v. if_some v range_op done)))
+unfoldable pub pattern_single_r : Bool → Script Phrase
+pattern_single_r in_arm =
+    test (is_at DOT2EQ) (range_to_pat in_arm)
+    (test (is_at DOT2) (rest_pat in_arm)
+    (after (atom_pat in_arm) (λ v. if_some v (range_op in_arm) done)))
 
-abbrev pub alternative_turn : Bool → Bool → Script Phrase
-alternative_turn a b = test (is_at PIPE) (token PIPE (after pattern_single_r (λ v. give (again a b)))) done
+abbrev pub alternative_turn : Bool → Bool → Bool → Script Phrase
+alternative_turn in_arm a b = test (is_at PIPE) (token PIPE (after (pattern_single_r in_arm) (λ v. give (again a b)))) done
 
 -- the alternatives after a first one
-unfoldable pub alternatives : Script Phrase
-alternatives = loop alternative_turn false false
+unfoldable pub alternatives : Bool → Script Phrase
+alternatives in_arm = loop (alternative_turn in_arm) false false
 
-unfoldable pub pattern_r : Script Phrase
-pattern_r =
+unfoldable pub pattern_r : Bool → Script Phrase
+pattern_r in_arm =
     start (test (is_at PIPE)
-    (token PIPE (after pattern_single_r (λ v. after alternatives (λ w. finish OR_PAT done))))
-    (after pattern_single_r (λ v. test (is_at PIPE) (after alternatives (λ w. finish OR_PAT done)) (abandon done))))
+    (token PIPE (after (pattern_single_r in_arm) (λ v. after (alternatives in_arm) (λ w. finish OR_PAT done))))
+    (after (pattern_single_r in_arm) (λ v. test (is_at PIPE) (after (alternatives in_arm) (λ w. finish OR_PAT done)) (abandon done))))

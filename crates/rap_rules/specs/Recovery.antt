@@ -9,6 +9,10 @@ use Rattle.rap_rules.specs.declared.arguments.Mode.TheVariants as mode
 abbrev pub is_expr_recovery : ℕ → Bool
 is_expr_recovery kind = one_of (L_PAREN ∷ R_CURLY ∷ R_PAREN ∷ R_BRACK ∷ COMMA ∷ []) kind
 
+-- where an expression that does not begin takes no token along
+abbrev pub stops_expr : ℕ → Bool
+stops_expr kind = one_of (EOF ∷ L_CURLY ∷ L_PAREN ∷ R_CURLY ∷ R_PAREN ∷ R_BRACK ∷ COMMA ∷ []) kind
+
 -- the search for an item: what items begin with, and the semicolon after them
 abbrev pub is_item_recovery : ℕ → Bool
 is_item_recovery kind =
@@ -36,6 +40,14 @@ is_pattern_recovery kind =
 abbrev pub stops_pattern : ℕ → Bool
 stops_pattern kind =
     one_of (EOF ∷ LET_KW ∷ IF_KW ∷ WHILE_KW ∷ LOOP_KW ∷ MATCH_KW ∷ R_PAREN ∷ R_BRACK ∷ L_CURLY ∷ R_CURLY ∷ COMMA ∷ EQ ∷ []) kind
+
+-- the search for the pattern of an arm
+abbrev pub is_arm_recovery : ℕ → Bool
+is_arm_recovery kind = one_of (EQ ∷ IF_KW ∷ []) kind
+
+-- where the pattern of an arm takes no token along
+abbrev pub stops_arm : ℕ → Bool
+stops_arm kind = one_of (EOF ∷ L_CURLY ∷ R_CURLY ∷ EQ ∷ IF_KW ∷ []) kind
 
 -- the search for a segment's name of a path
 abbrev pub is_segment_recovery : Mode → ℕ → Bool

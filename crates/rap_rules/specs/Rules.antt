@@ -1,24 +1,28 @@
 -- What the rules that are come back to ask and give.
 -- (What calls promise one another; no promise of the library rests on it.)
-use Rattle.std.specs.Prelude.{◌≡◌, ℕ, ◌≤◌, ◌<◌, Option, Some, None, is_some, Bool, true, false}
-use Rattle.rap_base.specs.TokenKind.{L_ANGLE}
+use Rattle.std.specs.Prelude.{◌≡◌, ℕ, ◌≤◌, ◌<◌, ◌≢◌, Option, Some, None, is_some, Bool, true, false}
+use Rattle.rap_base.specs.TokenKind.{EOF, L_ANGLE, R_CURLY, IF_KW, WHERE_KW}
 use Rattle.rap_events.specs.Fit.{is_plain}
 use Rattle.rap_events.specs.State.{State, next}
 use Rattle.rap_events.specs.declared.parser.CompletedMarker.{CompletedMarker}
 use Rattle.rap_events.specs.declared.parser.Marker.{Marker}
 use Rattle.rap_rules.specs.Attributes.{meta, cfg_predicate}
 use Rattle.rap_rules.specs.Climb.{Climbed}
+use Rattle.rap_rules.specs.Control.{if_expr}
 use Rattle.rap_rules.specs.Expressions.{expr_bp, of_expr}
 use Rattle.rap_rules.specs.First.{is_type_first, is_generic_arg_first, is_cfg_predicate_first, starts_use_path}
 use Rattle.rap_rules.specs.GenericArgs.{generic_arg}
-use Rattle.rap_rules.specs.GenericParams.{generic_param_list}
+use Rattle.rap_rules.specs.GenericParams.{generic_param_list, bounds_without_colon, where_clause}
 use Rattle.rap_rules.specs.Grew.{Grew, Took, Made, Closed, Dropped}
+use Rattle.rap_rules.specs.Items.{item_or_macro}
 use Rattle.rap_rules.specs.Knot.{Follows}
 use Rattle.rap_rules.specs.Patterns.{pattern_r, pattern_single_r}
-use Rattle.rap_rules.specs.Recovery.{stops_pattern, stops_type}
-use Rattle.rap_rules.specs.Room.{expression_room, marked_room, element_room, list_room, type_room, pattern_room, single_pattern_room, atom_pattern_room}
+use Rattle.rap_rules.specs.Recovery.{stops_expr, stops_pattern, stops_arm, stops_type}
+use Rattle.rap_rules.specs.Room.{expression_room, atom_room, statement_room, item_room, marked_room, element_room, list_room, type_room, pattern_room, single_pattern_room, atom_pattern_room}
 use Rattle.rap_rules.specs.Script.{something}
+use Rattle.rap_rules.specs.Statements.{stmt}
 use Rattle.rap_rules.specs.Types.{type_with_bounds_cond, path_type_bounds}
+use Rattle.rap_rules.specs.UseItem.{starts_use_tree, use_tree}
 use Rattle.rap_rules.specs.declared.arguments.BlockLike.{BlockLike}
 use Rattle.rap_rules.specs.declared.knot.Rule.{Rule}
 use Rattle.rap_rules.specs.declared.knot.Rule.TheVariants as rule
@@ -28,10 +32,11 @@ abbrev pub IsNewest : State → Option Marker → Type 0
 IsNewest s None = Unit {0}
 IsNewest s (Some m) = s.marker ≡ Some m.pos
 
--- an expression of its own, or one from the marker on that was handed over; or a message and no expression
+-- an expression of its own, or one from the marker on that was handed over; or a message and no expression, and then a
+-- token is taken unless it ends the search for an expression
 abbrev pub Answered : State → State → Option Marker → Bool → ℕ → Option (CompletedMarker × BlockLike) → Type 0
 Answered old new None stmt bp (Some e) = Made old new e.0 expression_room × Climbed new e.0.kind bp stmt
-Answered old new None stmt bp None = Grew old new 8 × (old.messages < new.messages)
+Answered old new None stmt bp None = Grew old new 8 × (old.messages < new.messages) × (stops_expr (next old) ≡ false → Took old new expression_room)
 Answered old new (Some m) stmt bp (Some e) = Closed old new e.0 expression_room × Climbed new e.0.kind bp stmt
 Answered old new (Some m) stmt bp None = Dropped old new 8
 
@@ -57,11 +62,14 @@ pub record IsType (old new : State) : Type 0 where
   pub took : is_type_first (next old) ≡ true → Took old new type_room
   pub skips : stops_type (next old) ≡ false → Took old new type_room
 
--- a pattern, by its costs: where it takes no token, the next one is as before
-pub record PatternIn (k room : ℕ) (old new : State) : Type 0 where
+-- a pattern, by what ends the search for it and by its costs: where it takes no token, the next one is as before
+pub record PatternUntil (stops : ℕ → Bool) (k room : ℕ) (old new : State) : Type 0 where
   pub grew : Grew old new k
-  pub took : stops_pattern (next old) ≡ false → Took old new room
-  pub stays : stops_pattern (next old) ≡ true → next new ≡ next old
+  pub took : stops (next old) ≡ false → Took old new room
+  pub stays : stops (next old) ≡ true → next new ≡ next old
+
+abbrev pub PatternIn : ℕ → ℕ → State → State → Type 0
+PatternIn k room old new = PatternUntil stops_pattern k room old new
 
 abbrev pub IsPattern : State → State → Type 0
 IsPattern old new = PatternIn 8 pattern_room old new
@@ -75,6 +83,20 @@ abbrev pub IsAtomPattern : State → State → Option CompletedMarker → Type 0
 IsAtomPattern old new (Some cm) = Made old new cm atom_pattern_room × (stops_pattern (next old) ≡ false)
 IsAtomPattern old new None = PatternIn 3 atom_pattern_room old new
 
+-- the pattern of an arm
+abbrev pub IsArmPattern : State → State → Type 0
+IsArmPattern old new = PatternUntil stops_arm 8 pattern_room old new
+
+-- a statement: a token is taken unless none is left
+pub record IsStatement (old new : State) : Type 0 where
+  pub grew : Grew old new 8
+  pub took : next old ≢ EOF → Took old new statement_room
+
+-- an item: a token is taken unless none is left, or a brace ends the list of items
+pub record IsItem (stop_on_r_curly : Bool) (old new : State) : Type 0 where
+  pub grew : Grew old new 8
+  pub took : next old ≢ EOF → (stop_on_r_curly ≡ true → next old ≢ R_CURLY) → Took old new item_room
+
 -- what each rule asks
 abbrev pub Pre : Rule → State → Type 0
 Pre (rule.Expr m r bp) s = IsNewest s m × (1 ≤ bp)
@@ -82,8 +104,15 @@ Pre (rule.Ty allow_bounds) s = Unit {0}
 Pre rule.TraitPath s = starts_use_path s.rest ≡ true
 Pre rule.GenericArg s = is_generic_arg_first (next s) ≡ true
 Pre rule.GenericParamList s = next s ≡ L_ANGLE
+Pre rule.Bounds s = Unit {0}
+Pre rule.WhereClause s = next s ≡ WHERE_KW
 Pre rule.Pattern s = Unit {0}
 Pre rule.PatternSingle s = Unit {0}
+Pre rule.ArmPattern s = Unit {0}
+Pre (rule.Stmt semicolon) s = Unit {0}
+Pre rule.IfExpr s = next s ≡ IF_KW
+Pre (rule.Item stop_on_r_curly is_in_extern) s = Unit {0}
+Pre rule.UseTree s = starts_use_tree s.rest ≡ true
 Pre rule.Meta s = Unit {0}
 Pre rule.CfgPredicate s = Unit {0}
 
@@ -94,7 +123,14 @@ Post (rule.Ty allow_bounds) old new e = IsType old new × Follows (type_with_bou
 Post rule.TraitPath old new e = Took old new type_room × Follows (path_type_bounds true) something old new
 Post rule.GenericArg old new e = Took old new element_room × Follows generic_arg something old new
 Post rule.GenericParamList old new e = Took old new list_room × Follows generic_param_list something old new
-Post rule.Pattern old new e = IsPattern old new × Follows pattern_r something old new
-Post rule.PatternSingle old new e = IsSinglePattern old new × Follows pattern_single_r something old new
+Post rule.Bounds old new e = Grew old new 16 × Follows bounds_without_colon something old new
+Post rule.WhereClause old new e = Took old new list_room × Follows where_clause something old new
+Post rule.Pattern old new e = IsPattern old new × Follows (pattern_r false) something old new
+Post rule.PatternSingle old new e = IsSinglePattern old new × Follows (pattern_single_r false) something old new
+Post rule.ArmPattern old new e = IsArmPattern old new × Follows (pattern_r true) something old new
+Post (rule.Stmt semicolon) old new e = IsStatement old new × Follows (stmt semicolon) something old new
+Post rule.IfExpr old new e = Took old new atom_room × Follows if_expr something old new
+Post (rule.Item stop_on_r_curly is_in_extern) old new e = IsItem stop_on_r_curly old new × Follows (item_or_macro stop_on_r_curly is_in_extern) something old new
+Post rule.UseTree old new e = Took old new list_room × Follows use_tree something old new
 Post rule.Meta old new e = Grew old new 16 × Follows meta something old new
 Post rule.CfgPredicate old new e = Parsed is_cfg_predicate_first 8 element_room old new × Follows cfg_predicate something old new

@@ -31,6 +31,15 @@ pub struct Restrictions {
     pub prefer_stmt: bool,
 }
 
+/// Whether a statement ends with a semicolon: as the last one of a macro it may do without, and read alone it takes
+/// none.
+#[derive(Clone, Copy, PartialEq, Eq)]
+pub enum Semicolon {
+    Required,
+    Optional,
+    Forbidden,
+}
+
 /// Whose parameters these are.
 #[derive(Clone, Copy, PartialEq, Eq)]
 pub enum Flavor {

@@ -1,21 +1,22 @@
 //! Rules that are come back to, as parts of others.
-ghost use Rattle.std.specs.Prelude.{◌≡◌, ◌≢◌, ◌<◌, ◌≤◌, OnOk, IfOk, true, false, Some, ◌∷◌};
-ghost use Rattle.rap_base.specs.TokenKind.{COLON};
+ghost use Rattle.std.specs.Prelude.{◌≡◌, ◌≢◌, ◌<◌, ◌≤◌, OnOk, IfOk, true, false, Some, None, ◌∷◌};
+ghost use Rattle.rap_base.specs.TokenKind.{COLON, FOR_KW, IF_KW};
 ghost use Rattle.rap_events.specs.State.{state, next};
 ghost use Rattle.rap_rules.specs.Atom as atom_script;
 ghost use Rattle.rap_rules.specs.Called as called;
+ghost use Rattle.rap_rules.specs.Expressions.{of_expr};
 ghost use Rattle.rap_rules.specs.Grammar as grammar_script;
 ghost use Rattle.rap_rules.specs.Grew.{Within, Grew, Behind, Reads, Took};
 ghost use Rattle.rap_rules.specs.Knot.{Follows};
-ghost use Rattle.rap_rules.specs.Room.{expression_room, list_room};
-ghost use Rattle.rap_rules.specs.Rules.{IsPattern, IsSinglePattern, IsType};
+ghost use Rattle.rap_rules.specs.Room.{atom_room, expression_room, list_room};
+ghost use Rattle.rap_rules.specs.Rules.{Answered, IsArmPattern, IsPattern, IsSinglePattern, IsType};
 ghost use Rattle.rap_rules.specs.Script.{something};
 ghost use Rattle.rap_rules.specs.TypeParts as parts;
 ghost use Rattle.rap_rules.specs.Words.{of_bool, of_option};
 
 use crate::T;
 use crate::arguments::Restrictions;
-use crate::knot::{Grammar, Rule};
+use crate::knot::{Answer, Grammar, Rule};
 use rap_base::no_memory::NoMemory;
 use rap_base::syntax_kind::SyntaxKind;
 use rap_events::parser::{CompletedMarker, Parser};
@@ -50,6 +51,103 @@ pub fn expr<G: Grammar>(p: &mut Parser<'_>, g: &G) -> Result<Option<CompletedMar
         Some((cm, _)) => Ok(Some(cm)),
         None => Ok(None),
     }
+}
+
+/// An expression in which no record literal may stand, as before the block of an `if`.
+pub fn expr_no_struct<G: Grammar>(p: &mut Parser<'_>, g: &G) -> Result<(), NoMemory>
+    requires behind { Behind G.valid G.left g.now (state p.old) }
+    ensures grew { OnOk result (Grew (state p.old) (state p.new) 8) }
+    ensures script { OnOk result (Follows called.expr_no_struct something (state p.old) (state p.new)) }
+{
+    let r = Restrictions {
+        forbid_structs: true,
+        prefer_stmt: false,
+    };
+    g.run(p, Rule::Expr { m: None, r, bp: 1 })?;
+    Ok(())
+}
+
+/// An expression that ends after a block, as a statement does.
+pub fn expr_stmt<G: Grammar>(p: &mut Parser<'_>, g: &G) -> Result<Answer, NoMemory>
+    requires behind { Behind G.valid G.left g.now (state p.old) }
+    ensures answered { IfOk result (Answered (state p.old) (state p.new) None true 1) }
+    ensures script { IfOk result (λ e. Follows called.expr_stmt (of_expr e) (state p.old) (state p.new)) }
+{
+    let r = Restrictions {
+        forbid_structs: false,
+        prefer_stmt: true,
+    };
+    let expr = g.run(p, Rule::Expr { m: None, r, bp: 1 })?;
+    Ok(expr)
+}
+
+/// The parameters of something generic, as `<T, 'a>`, if there are.
+pub fn opt_generic_param_list<G: Grammar>(p: &mut Parser<'_>, g: &G) -> Result<(), NoMemory>
+    requires behind { Behind G.valid G.left g.now (state p.old) }
+    ensures grew { OnOk result (Grew (state p.old) (state p.new) 0) }
+    ensures script { OnOk result (Follows called.opt_generic_param_list something (state p.old) (state p.new)) }
+{
+    if !p.at(T![<]) {
+        return Ok(());
+    }
+    g.run(p, Rule::GenericParamList)?;
+    Ok(())
+}
+
+/// Bounds behind their colon, as `: A + B`.
+pub fn bounds<G: Grammar>(p: &mut Parser<'_>, g: &G) -> Result<(), NoMemory>
+    requires within { Within G.valid G.left g.now (state p.old) }
+    requires here { next (state p.old) ≡ COLON }
+    ensures took { OnOk result (Took (state p.old) (state p.new) list_room) }
+    ensures script { OnOk result (Follows called.bounds something (state p.old) (state p.new)) }
+{
+    p.bump(T![:])?;
+    g.run(p, Rule::Bounds)?;
+    Ok(())
+}
+
+/// Bounds, as `A + B`.
+pub fn bounds_without_colon<G: Grammar>(p: &mut Parser<'_>, g: &G) -> Result<(), NoMemory>
+    requires behind { Behind G.valid G.left g.now (state p.old) }
+    ensures grew { OnOk result (Grew (state p.old) (state p.new) 16) }
+    ensures script { OnOk result (Follows called.bounds_without_colon something (state p.old) (state p.new)) }
+{
+    g.run(p, Rule::Bounds)?;
+    Ok(())
+}
+
+/// A `where` clause, as `where T: A`, if there is one.
+pub fn opt_where_clause<G: Grammar>(p: &mut Parser<'_>, g: &G) -> Result<(), NoMemory>
+    requires behind { Behind G.valid G.left g.now (state p.old) }
+    ensures grew { OnOk result (Grew (state p.old) (state p.new) 0) }
+    ensures script { OnOk result (Follows called.opt_where_clause something (state p.old) (state p.new)) }
+{
+    if !p.at(T![where]) {
+        return Ok(());
+    }
+    g.run(p, Rule::WhereClause)?;
+    Ok(())
+}
+
+/// The pattern of an arm of a `match`.
+pub fn arm_pattern<G: Grammar>(p: &mut Parser<'_>, g: &G) -> Result<(), NoMemory>
+    requires behind { Behind G.valid G.left g.now (state p.old) }
+    ensures reads { OnOk result (IsArmPattern (state p.old) (state p.new)) }
+    ensures script { OnOk result (Follows called.arm_pattern something (state p.old) (state p.new)) }
+{
+    g.run(p, Rule::ArmPattern)?;
+    Ok(())
+}
+
+/// An `if` behind an `else`.
+pub fn else_if<G: Grammar>(p: &mut Parser<'_>, g: &G) -> Result<(), NoMemory>
+    requires behind { Behind G.valid G.left g.now (state p.old) }
+    requires here { next (state p.old) ≡ IF_KW }
+    ensures took { OnOk result (Took (state p.old) (state p.new) atom_room) }
+    ensures script { OnOk result (Follows called.else_if something (state p.old) (state p.new)) }
+{
+    g.run(p, Rule::IfExpr)?;
+    Ok(())
 }
 
 /// A pattern, after a token of the rule around it.
@@ -94,6 +192,25 @@ pub fn type_no_bounds<G: Grammar>(p: &mut Parser<'_>, g: &G) -> Result<(), NoMem
             allow_bounds: false,
         },
     )?;
+    Ok(())
+}
+
+/// The parameters behind `for`, as `for<'a>`.
+pub fn for_binder<G: Grammar>(p: &mut Parser<'_>, g: &G) -> Result<(), NoMemory>
+    requires within { Within G.valid G.left g.now (state p.old) }
+    requires here { next (state p.old) ≡ FOR_KW }
+    ensures took { OnOk result (Took (state p.old) (state p.new) list_room) }
+    ensures script { OnOk result (Follows parts.for_binder something (state p.old) (state p.new)) }
+{
+    let m = p.start()?;
+    p.bump(T![for])?;
+    if p.at(T![<]) {
+        g.run(p, Rule::GenericParamList)?;
+        m.complete(p, SyntaxKind::FOR_BINDER)?;
+        return Ok(());
+    }
+    p.error("expected `<`")?;
+    m.complete(p, SyntaxKind::FOR_BINDER)?;
     Ok(())
 }
 

@@ -22,7 +22,8 @@ pub fn is_expr_first(kind: SyntaxKind) -> bool
     ensures first { result ≡ is_expr_first kind }
     ensures more { IsTrue result → kind ≢ EOF }
 {
-    is_atom_expr_first(kind) || matches!(kind, T![&] | T![*] | T![!] | T![.] | T![-] | T![#])
+    is_atom_expr_first(kind)
+        || matches!(kind, T![&] | T![*] | T![!] | T![.] | T![-] | T![_] | T![#])
 }
 
 /// Whether a constant as an argument begins with a token of this kind, if it is no name.
@@ -141,5 +142,33 @@ pub fn is_literal_first(kind: SyntaxKind) -> bool
 fn is_atom_expr_first(kind: SyntaxKind) -> bool
     ensures { result ≡ is_atom_expr_first kind }
 {
-    is_literal_first(kind) || is_path_first(kind) || matches!(kind, T!['('] | T!['['])
+    is_literal_first(kind)
+        || is_path_first(kind)
+        || matches!(
+            kind,
+            T!['(']
+                | T!['{']
+                | T!['[']
+                | T![|]
+                | T![async]
+                | T![break]
+                | T![const]
+                | T![continue]
+                | T![do]
+                | T![gen]
+                | T![for]
+                | T![if]
+                | T![let]
+                | T![loop]
+                | T![match]
+                | T![move]
+                | T![return]
+                | T![become]
+                | T![static]
+                | T![try]
+                | T![unsafe]
+                | T![while]
+                | T![yield]
+                | T![lifetime_ident]
+        )
 }

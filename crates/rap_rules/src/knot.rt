@@ -13,7 +13,7 @@ ghost use Rattle.std.specs.Prelude.{◌≡◌, ℕ, ◌<◌, ◌≤◌, IfOk};
 ghost use Rattle.rap_events.specs.State.{state};
 ghost use Rattle.rap_rules.specs.Rules.{Pre, Post};
 
-use crate::arguments::{BlockLike, Restrictions};
+use crate::arguments::{BlockLike, Restrictions, Semicolon};
 use rap_base::no_memory::NoMemory;
 use rap_events::parser::{CompletedMarker, Marker, Parser};
 
@@ -48,9 +48,27 @@ pub enum Rule {
     TraitPath,
     GenericArg,
     GenericParamList,
+    /// The bounds of a type, without the colon before them.
+    Bounds,
+    WhereClause,
     /// A pattern, with its alternatives.
     Pattern,
     PatternSingle,
+    /// The pattern of an arm of a `match`.
+    ArmPattern,
+    /// A statement.
+    Stmt {
+        semicolon: Semicolon,
+    },
+    /// An `if`, as it stands behind an `else`.
+    IfExpr,
+    /// An item, or a macro call in its place.
+    Item {
+        stop_on_r_curly: bool,
+        is_in_extern: bool,
+    },
+    /// A tree of names in the braces of a `use`.
+    UseTree,
     /// What stands in the brackets of an attribute.
     Meta,
     CfgPredicate,

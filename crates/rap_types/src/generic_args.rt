@@ -18,7 +18,7 @@ use rap_base::syntax_kind::SyntaxKind;
 use rap_base::token_set::TokenSet;
 use rap_events::parser::{CompletedMarker, Marker, Parser};
 use rap_parts::blocks::block_expr;
-use rap_parts::paths::{opt_path_type_args, path_expr, type_path_for_qualifier};
+use rap_parts::paths::{expr_path, opt_path_type_args, type_path_for_qualifier};
 use rap_rules::T;
 use rap_rules::called::type_;
 use rap_rules::first::{is_const_arg_first, is_literal_first, is_path_start, is_type_first};
@@ -220,7 +220,7 @@ fn const_arg_expr<G: Grammar>(p: &mut Parser<'_>, g: &G) -> Result<(), NoMemory>
     ensures script { OnOk result (Follows const_script.const_arg_expr something (state p.old) (state p.new)) }
 {
     if p.current() == T!['{'] {
-        block_expr(p)?;
+        block_expr(p, g)?;
         return Ok(());
     }
     if is_literal_first(p.current()) {
@@ -232,11 +232,24 @@ fn const_arg_expr<G: Grammar>(p: &mut Parser<'_>, g: &G) -> Result<(), NoMemory>
         return Ok(());
     }
     if is_path_start(p) {
-        path_expr(p, g)?;
+        const_path(p, g)?;
         return Ok(());
     }
     missing_const(p)?;
     Ok(())
+}
+
+/// A path as a constant, as `a::b`.
+fn const_path<G: Grammar>(p: &mut Parser<'_>, g: &G) -> Result<CompletedMarker, NoMemory>
+    requires within { Within G.valid G.left g.now (state p.old) }
+    requires path { starts_path (state p.old).rest ≡ true }
+    ensures made { IfOk result (Makes PATH_EXPR atom_room (state p.old) (state p.new)) }
+    ensures script { OnOk result (Follows const_script.const_path something (state p.old) (state p.new)) }
+{
+    let m = p.start()?;
+    expr_path(p, g)?;
+    let cm = m.complete(p, SyntaxKind::PATH_EXPR)?;
+    Ok(cm)
 }
 
 /// A negative number, as `-1`.

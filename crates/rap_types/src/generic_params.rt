@@ -1,6 +1,6 @@
 //! Parameters of something generic, bounds, and `where`.
 ghost use Rattle.std.specs.Prelude.{◌≡◌, ◌≢◌, ◌<◌, ◌≤◌, OnOk, IfOk, Some, true, false};
-ghost use Rattle.rap_base.specs.TokenKind.{L_ANGLE, LIFETIME_IDENT, IDENT, CONST_KW, COLON, USE_KW, BANG};
+ghost use Rattle.rap_base.specs.TokenKind.{L_ANGLE, LIFETIME_IDENT, IDENT, CONST_KW, COLON, USE_KW, BANG, WHERE_KW};
 ghost use Rattle.rap_base.specs.NodeKind.{TYPE_BOUND_LIST};
 ghost use Rattle.rap_events.specs.State.{state, next, NthAt};
 ghost use Rattle.rap_rules.specs.First.{is_type_first, is_where_predicate_first};
@@ -24,18 +24,6 @@ use rap_rules::knot::Grammar;
 use rap_rules::lists::{Element, delimited};
 use rap_rules::names::{lifetime, name, name_ref_or_upper_self};
 use rap_rules::token_tree::token_tree;
-
-/// The parameters of something generic, as `<'a, T: A, const N: b>`, if there are.
-fn opt_generic_param_list<G: Grammar>(p: &mut Parser<'_>, g: &G) -> Result<(), NoMemory>
-    requires within { Within G.valid G.left g.now (state p.old) }
-    ensures grew { OnOk result (Grew (state p.old) (state p.new) 0) }
-    ensures script { OnOk result (Follows script.opt_generic_param_list something (state p.old) (state p.new)) }
-{
-    if p.at(T![<]) {
-        generic_param_list(p, g)?;
-    }
-    Ok(())
-}
 
 /// The parameters of something generic, as `<'a, T: A, const N: b>`.
 pub fn generic_param_list<G: Grammar>(p: &mut Parser<'_>, g: &G) -> Result<(), NoMemory>
@@ -223,7 +211,7 @@ pub(crate) fn bounds<G: Grammar>(p: &mut Parser<'_>, g: &G) -> Result<(), NoMemo
 }
 
 /// Bounds, as `'a + ?A + for<'b> B`.
-pub(crate) fn bounds_without_colon<G: Grammar>(p: &mut Parser<'_>, g: &G) -> Result<(), NoMemory>
+pub fn bounds_without_colon<G: Grammar>(p: &mut Parser<'_>, g: &G) -> Result<(), NoMemory>
     requires within { Within G.valid G.left g.now (state p.old) }
     ensures grew { OnOk result (Grew (state p.old) (state p.new) 16) }
     ensures took { OnOk result (next (state p.old) ≡ LIFETIME_IDENT → Took (state p.old) (state p.new) list_room) }
@@ -418,15 +406,13 @@ fn bound_macro_call(p: &mut Parser<'_>) -> Result<(), NoMemory>
     Ok(())
 }
 
-/// A `where` clause, as `where 'a: 'b, T: A`, if there is one.
-fn opt_where_clause<G: Grammar>(p: &mut Parser<'_>, g: &G) -> Result<(), NoMemory>
+/// A `where` clause, as `where 'a: 'b, T: A`.
+pub fn where_clause<G: Grammar>(p: &mut Parser<'_>, g: &G) -> Result<(), NoMemory>
     requires within { Within G.valid G.left g.now (state p.old) }
-    ensures grew { OnOk result (Grew (state p.old) (state p.new) 0) }
-    ensures script { OnOk result (Follows script.opt_where_clause something (state p.old) (state p.new)) }
+    requires here { next (state p.old) ≡ WHERE_KW }
+    ensures took { OnOk result (Took (state p.old) (state p.new) list_room) }
+    ensures script { OnOk result (Follows script.where_clause something (state p.old) (state p.new)) }
 {
-    if !p.at(T![where]) {
-        return Ok(());
-    }
     let m = p.start()?;
     p.bump(T![where])?;
     where_predicates(p, g)?;

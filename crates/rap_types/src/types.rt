@@ -336,25 +336,6 @@ fn fn_ptr_params<G: Grammar>(p: &mut Parser<'_>, g: &G) -> Result<(), NoMemory>
     Ok(())
 }
 
-/// The parameters behind `for`, as `for<'a>`.
-pub(crate) fn for_binder<G: Grammar>(p: &mut Parser<'_>, g: &G) -> Result<(), NoMemory>
-    requires within { Within G.valid G.left g.now (state p.old) }
-    requires here { next (state p.old) ≡ FOR_KW }
-    ensures took { OnOk result (Took (state p.old) (state p.new) list_room) }
-    ensures script { OnOk result (Follows parts.for_binder something (state p.old) (state p.new)) }
-{
-    let m = p.start()?;
-    p.bump(T![for])?;
-    if p.at(T![<]) {
-        g.run(p, Rule::GenericParamList)?;
-        m.complete(p, SyntaxKind::FOR_BINDER)?;
-        return Ok(());
-    }
-    p.error("expected `<`")?;
-    m.complete(p, SyntaxKind::FOR_BINDER)?;
-    Ok(())
-}
-
 /// A type over any lifetimes, as `for<'a> fn(&'a b)` and `for<'a> b<'a> + c`.
 #[inline(never)]
 fn for_type<G: Grammar>(p: &mut Parser<'_>, g: &G, allow_bounds: bool) -> Result<(), NoMemory>

@@ -15,7 +15,7 @@ ghost use Rattle.rap_rules.specs.Words.{of_bool};
 use rap_base::no_memory::NoMemory;
 use rap_base::syntax_kind::SyntaxKind;
 use rap_events::parser::{CompletedMarker, Parser};
-use rap_parts::paths::path_expr;
+
 use rap_rules::T;
 use rap_rules::arguments::BlockLike;
 use rap_rules::called::expr;

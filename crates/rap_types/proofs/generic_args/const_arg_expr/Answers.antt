@@ -20,7 +20,7 @@ pub returns-then-is_path_start-clause-script : goal.returns-then-is_path_start-c
 unfolding const_arg_expr
 returns-then-is_path_start-clause-script g c = record {
   run = fails (search rules) (fails (search rules) (fails (search rules)
-      (then_by c.is_path_start.ensures c.if-is_path_start.true (to_end c.in_ok-path_expr.ensures.script))));
+      (then_by c.is_path_start.ensures c.if-is_path_start.true (to_end c.in_ok-const_path.ensures.script))));
 }
 
 pub returns-clause-script : goal.returns-clause-script

@@ -5,7 +5,7 @@ use Rattle.rap_rules.specs.Knot.{script_of}
 use Rattle.rap_rules.specs.Phrase.{generic_parameters}
 use Rattle.rap_rules.specs.Script.{gives, follows}
 use Rattle.rap_rules.proofs.Steps.{by_bump, by_report, by_start, by_complete, then_by, else_by, by_part}
-use Rattle.rap_types.proofs.types.for_binder.Goals as goal
+use Rattle.rap_rules.proofs.called.for_binder.Goals as goal
 
 pub returns-then-at-clause-script : goal.returns-then-at-clause-script
 unfolding for_binder for_parameters script_of

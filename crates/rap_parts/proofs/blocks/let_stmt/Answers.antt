@@ -1,0 +1,13 @@
+use Rattle.std.proofs.Common.{rules}
+use Rattle.rap_rules.specs.Blocks.{let_stmt}
+use Rattle.rap_rules.specs.Script.{gives}
+use Rattle.rap_rules.proofs.Steps.{by_bump, by_rule, by_eat}
+use Rattle.rap_parts.proofs.blocks.let_stmt.Goals as goal
+
+pub returns-clause-script : goal.returns-clause-script
+unfolding let_stmt
+returns-clause-script g c = record {
+  run = by_eat c.in_ok-eat.ensures.state
+      (by_bump (search rules) c.in_ok-bump.ensures.state
+      (by_rule c.in_ok-pattern.ensures.script gives));
+}

@@ -1,0 +1,31 @@
+use Rattle.std.proofs.Common.{refl, rules}
+use Rattle.rap_rules.specs.Knot.{script_of}
+use Rattle.rap_rules.specs.Blocks.{statements}
+use Rattle.rap_rules.specs.Phrase.{statement}
+use Rattle.rap_rules.specs.declared.arguments.Semicolon.TheVariants as semicolon
+use Rattle.rap_rules.specs.Script.{gives}
+use Rattle.rap_rules.proofs.Steps.{then_by, else_by, by_part, turn, last_turn}
+use Rattle.rap_parts.proofs.blocks.statements.Goals as goal
+
+pub statements-preserved : goal.statements-preserved
+unfolding script_of
+statements-preserved g c = record {
+  grew = search rules;
+  script = turn c.statements.invariant.script
+      (else_by c.at.ensures c.statements-test.true
+      (else_by c.at-in-statements.ensures c.if-not-at.true
+      (by_part (statement semicolon.Required) c.in_ok-run.ensures.1 gives)));
+}
+
+pub returns-else-not-at-clause-script : goal.returns-else-not-at-clause-script
+unfolding statements
+returns-else-not-at-clause-script g c = record {
+  run = last_turn c.statements.invariant.script
+      (else_by c.at.ensures c.statements-test.true (then_by c.at-in-statements.ensures c.if-not-at.false gives)) refl;
+}
+
+pub returns-after-statements-clause-script : goal.returns-after-statements-clause-script
+unfolding statements
+returns-after-statements-clause-script g c = record {
+  run = last_turn c.statements.invariant.script (then_by c.at.ensures c.statements-test.false gives) refl;
+}

@@ -1,0 +1,52 @@
+-- Blocks, and the `let` statements in them.
+use Rattle.std.specs.Prelude.{List, ℕ, Bool, false, ◌||◌, ◌&&◌, drop, codes}
+use Rattle.rap_base.specs.TokenKind.{EOF, ERROR, L_CURLY, R_CURLY, LET_KW, SUPER_KW}
+use Rattle.rap_base.specs.NodeKind.{STMT_LIST, BLOCK_EXPR}
+use Rattle.rap_events.specs.Record.{Record}
+use Rattle.rap_events.specs.Composite.{is_at}
+use Rattle.rap_rules.specs.Attributes.{inner_attrs}
+use Rattle.rap_rules.specs.Called.{pattern}
+use Rattle.rap_rules.specs.Phrase.{Phrase, statement}
+use Rattle.rap_rules.specs.Script.{Script, give, test, token, report, start, finish, after, rule, loop, again}
+use Rattle.rap_rules.specs.Words.{done, eat, expect}
+use Rattle.rap_rules.specs.declared.arguments.Semicolon.{Semicolon}
+use Rattle.rap_rules.specs.declared.arguments.Semicolon.TheVariants as semicolon
+
+abbrev pub contents_turn : Bool → Bool → Script Phrase
+contents_turn a b =
+    test (is_at EOF) done
+    (test (is_at R_CURLY) done
+    (rule (statement semicolon.Required) (λ v. give (again a b))))
+
+-- the statements of a block
+unfoldable pub statements : Script Phrase
+statements = loop contents_turn false false
+
+-- what stands in the braces of a block
+unfoldable pub expr_block_contents : Script Phrase
+expr_block_contents = after inner_attrs (λ v. statements)
+
+-- the braces with it
+unfoldable pub stmt_list : Script Phrase
+stmt_list = start (token L_CURLY (after expr_block_contents (λ v. expect R_CURLY (finish STMT_LIST done))))
+
+unfoldable pub block_expr : Script Phrase
+block_expr =
+    test (is_at L_CURLY) (start (after stmt_list (λ v. finish BLOCK_EXPR done)))
+    (report (codes "expected a block") done)
+
+-- a block where none may be
+unfoldable pub error_block : List ℕ → Script Phrase
+error_block message = start (report message (token L_CURLY (after expr_block_contents (λ v. eat R_CURLY (finish ERROR done)))))
+
+-- a `let` comes next, or a `super let`
+abbrev pub starts_let : List Record → Bool
+starts_let rs = is_at LET_KW rs || (is_at SUPER_KW rs && is_at LET_KW (drop 1 rs))
+
+-- a `let` statement under the newest node
+unfoldable pub let_stmt : Semicolon → Script Phrase
+let_stmt with_semi = eat SUPER_KW (token LET_KW (after pattern (λ v. done)))
+
+-- the same where none may be
+unfoldable pub error_let_stmt : List ℕ → Script Phrase
+error_let_stmt message = start (report message (after (let_stmt semicolon.Optional) (λ v. finish ERROR done)))
