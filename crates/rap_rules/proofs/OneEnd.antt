@@ -1,6 +1,6 @@
 -- From one spot a script leads to one spot with one outcome.
 use Rattle.std.proofs.Common.{◌≡◌, Bool, true, false, refl, ap, sym, ◌∙◌}
-use Rattle.rap_rules.specs.Script.{Script, Spot, Outcome, nothing, something, block, again, goes_on, Runs, gives, looks, passes, fails, takes, takes_any, bears, reports, skips, starts, precedes, finishes, extends, abandons, follows, obeys, turns, stops}
+use Rattle.rap_rules.specs.Script.{Script, Spot, Outcome, nothing, something, block, again, goes_on, Runs, gives, looks, passes, fails, ends_so, ends_else, takes, takes_any, bears, reports, skips, starts, precedes, finishes, extends, abandons, follows, obeys, turns, stops}
 
 -- the same end
 pub record Same (p q : Spot) (v w : Outcome) : Type 0 where
@@ -31,6 +31,10 @@ one_end (passes e x) (passes f y) = one_end x y
 one_end (passes e x) (fails f y) = absurd (clash e f)
 one_end (fails e x) (passes f y) = absurd (clash f e)
 one_end (fails e x) (fails f y) = one_end x y
+one_end (ends_so e x) (ends_so f y) = one_end x y
+one_end (ends_so e x) (ends_else f y) = absurd (clash e f)
+one_end (ends_else e x) (ends_so f y) = absurd (clash f e)
+one_end (ends_else e x) (ends_else f y) = one_end x y
 one_end (takes e x) (takes f y) = one_end x y
 one_end (takes_any e x) (takes_any f y) = one_end x y
 one_end (bears e x) (bears f y) = one_end x y

@@ -1,10 +1,11 @@
 -- How a rule goes over the tokens, as a script: the parser's calls in their order, and the tests between them.
-use Rattle.std.specs.Prelude.{◌≡◌, ◌≢◌, ℕ, Bool, true, false, List, [], ◌∷◌, drop}
+use Rattle.std.specs.Prelude.{◌≡◌, ◌≢◌, ◌==◌, ℕ, Bool, true, false, List, [], ◌∷◌, drop}
 use Rattle.rap_base.specs.TokenKind.{EOF, ERROR}
 use Rattle.rap_events.specs.Record.{Record, next_kind}
 use Rattle.rap_events.specs.Composite.{is_at, width}
 use Rattle.rap_events.specs.Cover.{first_may_bear}
 use Rattle.rap_events.specs.Forest.{Forest, none, node, leaf, message, split, ◌⧺◌}
+use Rattle.rap_events.specs.LastToken.{last_token}
 use Rattle.rap_events.specs.Machine.{Stack, floor, push}
 use Rattle.rap_events.specs.State.{State, but_last, last_children, skipped}
 
@@ -17,7 +18,7 @@ pub data Outcome : Type 0 where
   again : Bool → Bool → Outcome
 
 -- A script over rules with these names. It ends with an outcome. It goes on as the tokens that come next say, or by a
--- test of them. It takes a token: of a kind, under its own kind, or under another kind that it may bear. It reports a
+-- test of them, or as the last token taken was of a kind or not. It takes a token: of a kind, under its own kind, or under another kind that it may bear. It reports a
 -- message, or reports one and takes the next token into an `ERROR`. It starts a node, starts one around the last node,
 -- finishes the newest one under a kind, lets the last node begin where the newest one does, or abandons the newest one.
 -- It goes on after another script, or after a rule, as their outcome says. It takes turns, as long as they answer so.
@@ -25,6 +26,7 @@ pub data Script (P : Type 0) : Type 0 where
   give : Outcome → Script P
   look : (List Record → Script P) → Script P
   test : (List Record → Bool) → Script P → Script P → Script P
+  ends_with : ℕ → Script P → Script P → Script P
   token : ℕ → Script P → Script P
   any : Script P → Script P
   bear : ℕ → Script P → Script P
@@ -114,6 +116,8 @@ pub data Runs {P : Type 0} (script_of : P → Script P) : Script P → Spot → 
   looks : {h : List Record → Script P} {p q : Spot} {v : Outcome} → Runs script_of (h p.rest) p q v → Runs script_of (look h) p q v
   passes : {h : List Record → Bool} {s t : Script P} {p q : Spot} {v : Outcome} → h p.rest ≡ true → Runs script_of s p q v → Runs script_of (test h s t) p q v
   fails : {h : List Record → Bool} {s t : Script P} {p q : Spot} {v : Outcome} → h p.rest ≡ false → Runs script_of t p q v → Runs script_of (test h s t) p q v
+  ends_so : {k : ℕ} {s t : Script P} {p q : Spot} {v : Outcome} → (last_token p.forest == k) ≡ true → Runs script_of s p q v → Runs script_of (ends_with k s t) p q v
+  ends_else : {k : ℕ} {s t : Script P} {p q : Spot} {v : Outcome} → (last_token p.forest == k) ≡ false → Runs script_of t p q v → Runs script_of (ends_with k s t) p q v
   takes : {k : ℕ} {s : Script P} {p q : Spot} {v : Outcome} → is_at k p.rest ≡ true → Runs script_of s (taken k (width k) p) q v → Runs script_of (token k s) p q v
   takes_any : {s : Script P} {p q : Spot} {v : Outcome} → next_kind p.rest ≢ EOF → Runs script_of s (taken (next_kind p.rest) 1 p) q v → Runs script_of (any s) p q v
   bears : {k : ℕ} {s : Script P} {p q : Spot} {v : Outcome} → first_may_bear p.rest k ≡ true → Runs script_of s (taken k 1 p) q v → Runs script_of (bear k s) p q v
