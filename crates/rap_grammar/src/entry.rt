@@ -1,7 +1,7 @@
 //! Where a parse begins, and what is made of its end.
 ghost use Rattle.std.specs.Prelude.{◌≡◌, ◌≢◌, ◌^◌, ℕ, ◌+◌, ◌*◌, ◌<◌, ◌≤◌, ◌↔◌, length, [], IfOk, IfSome, OnOk, IsTrue, Some, None, true, false};
 ghost use Rattle.rap_events.specs.Cover.{covers};
-ghost use Rattle.rap_events.specs.Fit.{AllFitIn};
+ghost use Rattle.rap_events.specs.Fit.{AllFitIn, is_plain};
 ghost use Rattle.rap_events.specs.Forest.{Forest, node, none, flat, message_count, one_tree, used};
 ghost use Rattle.rap_events.specs.Machine.{floor, push};
 ghost use Rattle.rap_events.specs.State.{state};
@@ -14,6 +14,7 @@ ghost use Rattle.rap_rules.specs.Room.{expression_room};
 ghost use Rattle.rap_rules.specs.Rules.{IsPattern, IsType};
 ghost use Rattle.rap_rules.specs.Script.{something};
 ghost use Rattle.rap_grammar.specs.Top.{top_tree, with_leaves};
+ghost use Rattle.rap_rules.specs.Statements as statement_script;
 ghost use Rattle.rap_rules.specs.Words.{of_option};
 
 use crate::knot::run;
@@ -21,7 +22,7 @@ use rap_base::no_memory::NoMemory;
 use rap_base::syntax_kind::SyntaxKind;
 use rap_events::output::{Output, Step, wrap_in_node};
 use rap_events::parser::{CompletedMarker, Marker, Parser};
-use rap_rules::arguments::Restrictions;
+use rap_rules::arguments::{Restrictions, Semicolon};
 use rap_rules::knot::Rule;
 use std::alloc::Global;
 
@@ -110,6 +111,19 @@ fn meta_item(p: &mut Parser<'_>) -> Result<(), NoMemory>
     Ok(())
 }
 
+/// Reads what a macro gives as statements, to the end of the input.
+fn macro_stmts(p: &mut Parser<'_>) -> Result<(), NoMemory>
+    ensures grew { OnOk result (Grew (state p.old) (state p.new) 0) }
+    ensures rest { OnOk result ((state p.new).rest ≡ []) }
+    ensures script { OnOk result (Follows statement_script.macro_stmts something (state p.old) (state p.new)) }
+{
+    'statements: while !p.at(SyntaxKind::EOF) {
+        let semicolon = Semicolon::Optional;
+        run(p, Rule::Stmt { semicolon })?;
+    }
+    Ok(())
+}
+
 /// Takes each token that is left, one by one.
 fn take_rest(p: &mut Parser<'_>) -> Result<(), NoMemory>
     ensures forest { OnOk result ((state p.new).forest ≡ with_leaves (state p.old).forest (state p.old).rest) }
@@ -152,5 +166,27 @@ pub fn close_top(alloc: Global, mut p: Parser<'_>, m: Marker) -> Result<Output, 
         return Ok(output);
     }
     let output = wrap_in_node(alloc, output, SyntaxKind::ERROR)?;
+    Ok(output)
+}
+
+/// Ends the parse of a top entry whose node is started by the marker `m`, the only open one, where no token is left.
+pub fn close_root(
+    alloc: Global,
+    mut p: Parser<'_>,
+    m: Marker,
+    kind: SyntaxKind,
+) -> Result<Output, NoMemory>
+    requires newest { (state p).marker ≡ Some m.pos }
+    requires below { (state p).below ≡ push floor None none }
+    requires end { (state p).rest ≡ [] }
+    requires plain { is_plain kind ≡ true }
+    ensures root { IfOk result (λ output. output ≡ node none kind (state p.entry).forest) }
+    ensures covers { IfOk result (λ output. covers (state p.entry).input output ≡ true) }
+    ensures used { IfOk result (λ output. used output ≡ length (state p.entry).input) }
+    ensures few { IfOk result (λ output. length (flat output) ≤ (state p.entry).count + 1) }
+    ensures fit { IfOk result (λ output. message_count output ≡ 0 → ∥ AllFitIn output ∥₁) }
+{
+    m.complete(&mut p, kind)?;
+    let output = p.process(alloc)?;
     Ok(output)
 }

@@ -5,12 +5,16 @@ ghost use Rattle.rap_rules.specs.Rules.{Pre, Post};
 
 use rap_base::no_memory::NoMemory;
 use rap_events::parser::Parser;
+use crate::statements::stmt;
+use rap_expressions::expressions::control::if_expr;
 use rap_expressions::expressions::expr_bp;
+use rap_items::items::item_or_macro;
+use rap_items::use_item::use_tree;
 use rap_parts::attributes::{cfg_predicate, meta};
 use rap_patterns::patterns::{pattern_r, pattern_single_r};
 use rap_rules::knot::{Answer, Grammar, Rule};
 use rap_types::generic_args::generic_arg;
-use rap_types::generic_params::generic_param_list;
+use rap_types::generic_params::{bounds_without_colon, generic_param_list, where_clause};
 use rap_types::types::{path_type_bounds, type_with_bounds_cond};
 
 /// The grammar, by a call that runs any rule.
@@ -71,11 +75,42 @@ pub fn run(p: &mut Parser<'_>, rule: Rule) -> Result<Answer, NoMemory>
             Ok(None)
         }
         Rule::Pattern => {
-            pattern_r(p, &g)?;
+            pattern_r(p, &g, false)?;
             Ok(None)
         }
         Rule::PatternSingle => {
-            pattern_single_r(p, &g)?;
+            pattern_single_r(p, &g, false)?;
+            Ok(None)
+        }
+        Rule::Bounds => {
+            bounds_without_colon(p, &g)?;
+            Ok(None)
+        }
+        Rule::WhereClause => {
+            where_clause(p, &g)?;
+            Ok(None)
+        }
+        Rule::ArmPattern => {
+            pattern_r(p, &g, true)?;
+            Ok(None)
+        }
+        Rule::Stmt { semicolon } => {
+            stmt(p, &g, semicolon)?;
+            Ok(None)
+        }
+        Rule::IfExpr => {
+            if_expr(p, &g)?;
+            Ok(None)
+        }
+        Rule::Item {
+            stop_on_r_curly,
+            is_in_extern,
+        } => {
+            item_or_macro(p, &g, stop_on_r_curly, is_in_extern)?;
+            Ok(None)
+        }
+        Rule::UseTree => {
+            use_tree(p, &g)?;
             Ok(None)
         }
         Rule::Meta => {

@@ -7,3 +7,4 @@
 
 pub mod entry;
 mod knot;
+mod statements;

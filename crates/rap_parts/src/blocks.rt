@@ -90,6 +90,13 @@ pub fn error_block<G: Grammar>(p: &mut Parser<'_>, g: &G, message: &str) -> Resu
     Ok(())
 }
 
+/// Whether a `let` comes next, or a `super let`.
+pub fn starts_let(p: &Parser<'_>) -> bool
+    ensures { result ≡ starts_let (state p.now).rest }
+{
+    p.at(T![let]) || (p.at(T![super]) && p.nth_at(1, T![let]))
+}
+
 /// A `let` statement without the node around it, as `let a: b = c else { d };`.
 pub fn let_stmt<G: Grammar>(p: &mut Parser<'_>, g: &G, with_semi: Semicolon) -> Result<(), NoMemory>
     requires within { Within G.valid G.left g.now (state p.old) }

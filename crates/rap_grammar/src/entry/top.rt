@@ -1,11 +1,14 @@
 //! Entries that read a whole input as one tree.
 ghost use Rattle.std.specs.Prelude.{◌≡◌, ◌≤◌, length, IfOk};
+ghost use Rattle.rap_base.specs.NodeKind.{MACRO_STMTS};
 ghost use Rattle.rap_rules.specs.Atom as script;
 ghost use Rattle.rap_rules.specs.Called as called;
-ghost use Rattle.rap_grammar.specs.Top.{IsTreeOver, IsTopOf};
+ghost use Rattle.rap_rules.specs.Statements as statement_script;
+ghost use Rattle.rap_grammar.specs.Top.{IsTreeOver, IsTopOf, IsRootOf};
 
-use super::close_top;
+use super::{close_root, close_top};
 use rap_base::no_memory::NoMemory;
+use rap_base::syntax_kind::SyntaxKind;
 use rap_events::input::Input;
 use rap_events::output::Output;
 use rap_events::parser::Parser;
@@ -61,5 +64,18 @@ pub fn meta_item(alloc: Global, input: &Input) -> Result<Output, NoMemory>
     let m = p.start()?;
     super::meta_item(&mut p)?;
     let output = close_top(alloc, p, m)?;
+    Ok(output)
+}
+
+/// What a macro gives as statements: `MACRO_STMTS` over the whole input.
+pub fn macro_stmts(alloc: Global, input: &Input) -> Result<Output, NoMemory>
+    requires { length input.now ≤ 8388607 }
+    ensures tree { IfOk result (IsTreeOver input.now) }
+    ensures script { IfOk result (IsRootOf MACRO_STMTS statement_script.macro_stmts input.now) }
+{
+    let mut p = Parser::new(alloc, input);
+    let m = p.start()?;
+    super::macro_stmts(&mut p)?;
+    let output = close_root(alloc, p, m, SyntaxKind::MACRO_STMTS)?;
     Ok(output)
 }

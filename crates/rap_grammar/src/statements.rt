@@ -1,0 +1,137 @@
+//! Statements.
+ghost use Rattle.std.specs.Prelude.{◌≡◌, ◌≢◌, ◌<◌, ◌≤◌, IfOk, OnOk, Some, None, true};
+ghost use Rattle.rap_base.specs.TokenKind.{EOF};
+ghost use Rattle.rap_events.specs.State.{state, next, IsLast};
+ghost use Rattle.rap_rules.specs.Blocks.{starts_let};
+ghost use Rattle.rap_rules.specs.Expressions.{of_like, is_block};
+ghost use Rattle.rap_rules.specs.Grew.{Within, Grew, Gone, Spent};
+ghost use Rattle.rap_rules.specs.Knot.{Follows};
+ghost use Rattle.rap_rules.specs.Room.{item_room};
+ghost use Rattle.rap_rules.specs.Rules.{IsStatement};
+ghost use Rattle.rap_rules.specs.Script.{something};
+ghost use Rattle.rap_rules.specs.Statements as script;
+ghost use Rattle.rap_rules.specs.Statements.{ends_block};
+
+use rap_base::no_memory::NoMemory;
+use rap_base::syntax_kind::SyntaxKind;
+use rap_events::parser::{CompletedMarker, Marker, Parser};
+use rap_expressions::expressions::expr_bp;
+use rap_items::items::opt_item;
+use rap_parts::attributes::outer_attrs;
+use rap_parts::blocks::{let_stmt, starts_let};
+use rap_rules::T;
+use rap_rules::arguments::{BlockLike, Restrictions, Semicolon};
+use rap_rules::first::is_expr_first;
+use rap_rules::knot::Grammar;
+
+/// A statement: `;`, a `let`, an item, or an expression, which at the end of its block is its value.
+pub fn stmt<G: Grammar>(
+    p: &mut Parser<'_>,
+    g: &G,
+    semicolon: Semicolon,
+) -> Result<(), NoMemory>
+    requires within { Within G.valid G.left g.now (state p.old) }
+    ensures statement { OnOk result (IsStatement (state p.old) (state p.new)) }
+    ensures script { OnOk result (Follows (script.stmt semicolon) something (state p.old) (state p.new)) }
+{
+    if p.eat(T![;])? {
+        return Ok(());
+    }
+    let m = p.start()?;
+    outer_attrs(p, g)?;
+    if starts_let(p) {
+        let_stmt(p, g, semicolon)?;
+        m.complete(p, SyntaxKind::LET_STMT)?;
+        return Ok(());
+    }
+    let Some(m) = opt_item(p, g, m, false)? else {
+        return Ok(());
+    };
+    expr_as_stmt(p, g, m, semicolon)?;
+    Ok(())
+}
+
+/// An expression from the newest marker on, as a statement, or as the value of the block that ends behind it.
+fn expr_as_stmt<G: Grammar>(
+    p: &mut Parser<'_>,
+    g: &G,
+    m: Marker,
+    semicolon: Semicolon,
+) -> Result<(), NoMemory>
+    requires within { Within G.valid G.left g.now (state p.old) }
+    requires newest { (state p.old).marker ≡ Some m.pos }
+    ensures gone { OnOk result (Gone (state p.old) (state p.new) 4) }
+    ensures spent { OnOk result (next (state p.old) ≢ EOF → Spent (state p.old) (state p.new) item_room) }
+    ensures script { OnOk result (Follows (script.expr_as_stmt semicolon) something (state p.old) (state p.new)) }
+{
+    if !is_expr_first(p.current()) {
+        p.err_and_bump("expected expression, item or let statement")?;
+        m.abandon(p)?;
+        return Ok(());
+    }
+    let r = Restrictions {
+        forbid_structs: false,
+        prefer_stmt: true,
+    };
+    let Some((cm, block_like)) = expr_bp(p, g, Some(m), r, 1)? else {
+        return Ok(());
+    };
+    expr_stmt_end(p, cm, block_like, semicolon)?;
+    Ok(())
+}
+
+/// The end of an expression as a statement: a node around it and its semicolon, unless it is the value of its block.
+fn expr_stmt_end(
+    p: &mut Parser<'_>,
+    cm: CompletedMarker,
+    block_like: BlockLike,
+    semicolon: Semicolon,
+) -> Result<(), NoMemory>
+    requires last { IsLast (state p.old) cm cm.kind }
+    ensures grew { OnOk result (Grew (state p.old) (state p.new) 3) }
+    ensures script { OnOk result (Follows (script.expr_stmt_end semicolon (is_block (of_like block_like))) something (state p.old) (state p.new)) }
+{
+    if ends_block(p, semicolon) {
+        return Ok(());
+    }
+    let m = cm.precede(p)?;
+    expr_semicolon(p, semicolon, block_like)?;
+    m.complete(p, SyntaxKind::EXPR_STMT)?;
+    Ok(())
+}
+
+/// Whether an expression ends its block here, and is its value.
+fn ends_block(p: &Parser<'_>, semicolon: Semicolon) -> bool
+    ensures { result ≡ ends_block semicolon (state p.now).rest }
+{
+    match semicolon {
+        Semicolon::Required => p.at(T!['}']),
+        Semicolon::Optional | Semicolon::Forbidden => p.at(T!['}']) || p.at(SyntaxKind::EOF),
+    }
+}
+
+/// The semicolon behind an expression, which one that reads like a block may do without.
+fn expr_semicolon(
+    p: &mut Parser<'_>,
+    semicolon: Semicolon,
+    block_like: BlockLike,
+) -> Result<(), NoMemory>
+    ensures grew { OnOk result (Grew (state p.old) (state p.new) 1) }
+    ensures script { OnOk result (Follows (script.expr_semicolon semicolon (is_block (of_like block_like))) something (state p.old) (state p.new)) }
+{
+    match semicolon {
+        Semicolon::Required => {
+            if block_like.is_block() {
+                p.eat(T![;])?;
+                return Ok(());
+            }
+            p.expect(T![;])?;
+            Ok(())
+        }
+        Semicolon::Optional => {
+            p.eat(T![;])?;
+            Ok(())
+        }
+        Semicolon::Forbidden => Ok(()),
+    }
+}
