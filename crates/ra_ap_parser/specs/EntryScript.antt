@@ -1,23 +1,28 @@
--- What a top entry reads its input as.
+-- What a top entry makes of its input.
 use Rattle.std.specs.Prelude.{List}
+use Rattle.rap_base.specs.NodeKind.{MACRO_STMTS}
 use Rattle.rap_events.specs.Record.{Record}
 use Rattle.rap_events.specs.Forest.{Forest}
 use Rattle.rap_rules.specs.Atom.{expr}
 use Rattle.rap_rules.specs.Called.{pattern, type_, inner_meta}
 use Rattle.rap_grammar.specs.Derives.{Derives, Expression, Ty}
-use Rattle.rap_rules.specs.Phrase.{Phrase}
-use Rattle.rap_rules.specs.Script.{Script}
+use Rattle.rap_grammar.specs.Top.{IsTopOf, IsRootOf}
+use Rattle.rap_rules.specs.Statements.{macro_stmts}
 use Rattle.ra_ap_parser.specs.declared.entry_point.TopEntryPoint.{TopEntryPoint}
 use Rattle.ra_ap_parser.specs.declared.entry_point.TopEntryPoint.TheVariants as entry
 
-abbrev pub entry_script : TopEntryPoint → Script Phrase
-entry_script entry.Pattern = pattern
-entry_script entry.Ty = type_
-entry_script entry.Expr = expr
-entry_script entry.MetaItem = inner_meta
+-- What an entry gives of an input. `MacroStmts` makes its node of the whole input. The others read one thing, and make
+-- an `ERROR` of it and of what is left where it is not the whole input, or not one tree.
+abbrev pub IsOutputOf : TopEntryPoint → List Record → Forest → Type 0
+IsOutputOf entry.MacroStmts input output = IsRootOf MACRO_STMTS macro_stmts input output
+IsOutputOf entry.Pattern input output = IsTopOf pattern input output
+IsOutputOf entry.Ty input output = IsTopOf type_ input output
+IsOutputOf entry.Expr input output = IsTopOf expr input output
+IsOutputOf entry.MetaItem input output = IsTopOf inner_meta input output
 
 -- the whole input is derived by the core grammar, with this tree
 abbrev pub IsCore : TopEntryPoint → List Record → Forest → Type 0
+IsCore entry.MacroStmts input tree = ⊥
 IsCore entry.Pattern input tree = ⊥
 IsCore entry.Ty input tree = Derives Ty input tree
 IsCore entry.Expr input tree = Derives Expression input tree

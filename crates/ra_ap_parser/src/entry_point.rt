@@ -1,7 +1,7 @@
 //! Where a parse begins.
 ghost use Rattle.std.specs.Prelude.{◌≡◌, ◌<◌, ◌≤◌, ◌↔◌, length, IfOk, Some};
 ghost use Rattle.rap_events.specs.Forest.{Forest, message_count};
-ghost use Rattle.rap_grammar.specs.Top.{IsTreeOver, IsTopOf};
+ghost use Rattle.rap_grammar.specs.Top.{IsTreeOver};
 
 use rap_base::no_memory::NoMemory;
 use rap_events::input::Input;
@@ -41,6 +41,8 @@ impl Error for ParseFault {}
 /// What a whole input is read as.
 #[derive(Clone, Copy, Debug, PartialEq, Eq)]
 pub enum TopEntryPoint {
+    /// What a macro gives as statements.
+    MacroStmts,
     /// A pattern, with its alternatives.
     Pattern,
     /// A type.
@@ -52,15 +54,16 @@ pub enum TopEntryPoint {
 }
 
 impl TopEntryPoint {
-    ghost use Rattle.ra_ap_parser.specs.EntryScript.{entry_script, IsCore};
+    ghost use Rattle.ra_ap_parser.specs.EntryScript.{IsOutputOf, IsCore};
 
     /// Reads the input as one tree.
     fn run(&self, alloc: Global, input: &Input) -> Result<Output, NoMemory>
         requires { length input.now ≤ MAX_TOKENS }
         ensures tree { IfOk result (IsTreeOver input.now) }
-        ensures script { IfOk result (IsTopOf (entry_script self.now) input.now) }
+        ensures script { IfOk result (IsOutputOf self.now input.now) }
     {
         match self {
+            TopEntryPoint::MacroStmts => top::macro_stmts(alloc, input),
             TopEntryPoint::Pattern => top::pattern(alloc, input),
             TopEntryPoint::Ty => top::type_(alloc, input),
             TopEntryPoint::Expr => top::expr(alloc, input),
@@ -76,8 +79,8 @@ impl TopEntryPoint {
     /// derivation's tree, without a message.
     pub fn parse(&self, alloc: Global, input: &Input) -> Result<Output, ParseFault>
         ensures tree { IfOk result (IsTreeOver input.now) }
-        ensures script { IfOk result (IsTopOf (entry_script self.now) input.now) }
-        ensures only { IfOk result (λ output. (other : Forest) → IsTopOf (entry_script self.now) input.now other → other ≡ output) }
+        ensures script { IfOk result (IsOutputOf self.now input.now) }
+        ensures only { IfOk result (λ output. (other : Forest) → IsOutputOf self.now input.now other → other ≡ output) }
         ensures core { IfOk result (λ output. (tree : Forest) → IsCore self.now input.now tree → (output ≡ tree) × (message_count output ≡ 0)) }
         ensures too_many { (result ≡ Err ParseFault.TooManyTokens) ↔ (MAX_TOKENS < length input.now) }
     {

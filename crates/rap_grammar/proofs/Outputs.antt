@@ -1,6 +1,6 @@
 -- What a parse of a whole input, or of its beginning, makes of what is derived; and that equal inputs give equal
 -- outputs.
-use Rattle.std.proofs.Common.{◌≡◌, List, [], ◌∷◌, ◌++◌, true, refl, ap, sym, ◌∙◌}
+use Rattle.std.proofs.Common.{◌≡◌, ℕ, List, [], ◌∷◌, ◌++◌, true, refl, ap, sym, ◌∙◌}
 use Rattle.rap_events.specs.Record.{Record}
 use Rattle.rap_events.specs.Forest.{Forest, none, ◌⧺◌, message_count, one_tree}
 use Rattle.rap_events.specs.State.{State}
@@ -10,7 +10,7 @@ use Rattle.rap_grammar.specs.Derives.{Derives, Expression, Ty, EndsExpression}
 use Rattle.rap_rules.specs.Knot.{script_of, Follows}
 use Rattle.rap_rules.specs.Phrase.{Phrase}
 use Rattle.rap_rules.specs.Script.{Script, forests, Spot, Outcome, something, Runs}
-use Rattle.rap_grammar.specs.Top.{IsTopOf, top_tree}
+use Rattle.rap_grammar.specs.Top.{IsTopOf, IsRootOf, top_tree}
 use Rattle.rap_grammar.proofs.Complete.{expression_whole, type_whole, expression_at_beginning}
 use Rattle.rap_rules.proofs.OneEnd.{Same, one_end}
 use Rattle.rap_grammar.proofs.Unique.{unmarked, one_expression, one_type}
@@ -43,6 +43,12 @@ pub one_output : {s : Script Phrase} {input : List Record} {a b : Forest} → Is
 one_output i j =
     let e = one_end i.run j.run in
     i.tree ∙ rw (ap (λ (p : Spot). p.forest) e.spot, ap (λ (p : Spot). p.rest) e.spot) (sym j.tree)
+
+-- the same of an entry that makes a node of its own
+pub one_root : {kind : ℕ} {s : Script Phrase} {input : List Record} {a b : Forest} → IsRootOf kind s input a → IsRootOf kind s input b → a ≡ b
+one_root {kind = kind} i j =
+    let e = one_end i.run j.run in
+    i.tree ∙ rw (ap (λ (p : Spot). p.forest) e.spot) (sym j.tree)
 
 -- a beginning that is derived, before what can follow an expression, is read to its end and becomes its tree
 pub beginning_derived : {ks : List Record} {t : Forest} {q : Spot} {v : Outcome} (b : List Forest) (f : Forest) (l : List Record) → Derives Expression ks t → EndsExpression l →

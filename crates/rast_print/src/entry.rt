@@ -20,6 +20,7 @@ impl FromStr for Entry {
 
     fn from_str(s: &str) -> Result<Entry, InvalidEntry> {
         match s {
+            "MacroStmts" => Ok(Entry(TopEntryPoint::MacroStmts)),
             "Pattern" => Ok(Entry(TopEntryPoint::Pattern)),
             "Type" => Ok(Entry(TopEntryPoint::Ty)),
             "Expr" => Ok(Entry(TopEntryPoint::Expr)),
@@ -36,7 +37,7 @@ mod tests {
 
     #[test]
     fn knows_the_entry_points(rt: HostRuntime) -> Result<(), Fail> {
-        for name in ["Pattern", "Type", "Expr", "MetaItem"] {
+        for name in ["MacroStmts", "Pattern", "Type", "Expr", "MetaItem"] {
             assert!(rt; name.parse::<Entry>().is_ok(), "{name}");
         }
         assert!(rt; "Ty".parse::<Entry>().is_err());
