@@ -2,10 +2,11 @@
 use Rattle.std.proofs.Common.{rules, ◌≡◌, ◌≢◌, inl, inr, ℕ, suc, ◌<◌, ◌≤◌, List, [], ◌∷◌, ◌++◌, Bool, true, false, not, refl, ap, sym, ◌∙◌, arith, ◌==◌, ◌&&◌, nat_lt, if◌then◌else◌, append_assoc, append-nil}
 use Rattle.std.proofs.lemmas.Bool.{eqb-true, ne_eqb}
 use Rattle.std.proofs.lemmas.Bool.Decides.{nat_tests}
-use Rattle.rap_base.specs.TokenKind.{LIFETIME_IDENT, EOF, SEMICOLON, IDENT, AMP, STAR, BANG, MINUS, DOT, COLON, COLON2, COMMA, QUESTION, L_PAREN, R_PAREN, L_BRACK, R_BRACK, L_CURLY, R_CURLY, PIPE, R_ANGLE, EQ, L_ANGLE, PLUS, CARET, PERCENT, SLASH, MUT_KW, RAW_KW, AS_KW}
+use Rattle.rap_base.specs.TokenKind.{LIFETIME_IDENT, EOF, SEMICOLON, IDENT, AMP, STAR, BANG, MINUS, DOT, COLON, COLON2, COMMA, QUESTION, L_PAREN, R_PAREN, L_BRACK, R_BRACK, L_CURLY, R_CURLY, PIPE, R_ANGLE, EQ, L_ANGLE, PLUS, CARET, PERCENT, SLASH, MUT_KW, BUILTIN_KW, RAW_KW, AS_KW}
 use Rattle.rap_base.specs.NodeKind.{BIN_EXPR, NAME_REF}
 use Rattle.rap_events.specs.Record.{Record, next_kind, kind_at}
 use Rattle.rap_events.specs.Composite.{width, is_at}
+use Rattle.rap_events.specs.Cover.{first_may_bear}
 use Rattle.rap_events.specs.Forest.{Forest, none, node, leaf, ◌⧺◌}
 use Rattle.rap_events.specs.Power.{power, power_in, powers}
 use Rattle.rap_rules.specs.Atom.{unrestricted, expr, atom_expr}
@@ -15,11 +16,12 @@ use Rattle.rap_rules.specs.Expressions.{operand_of, right_of, climb, arg_list, p
 use Rattle.rap_rules.specs.First.{is_operand, is_atom, is_literal_first, one_of}
 use Rattle.rap_rules.specs.Operator.{operator_at}
 use Rattle.rap_rules.specs.Paths.{path_segment, path_for_qualifier, path}
-use Rattle.rap_rules.specs.Words.{reads_as}
+use Rattle.rap_rules.specs.Words.{reads_as, starts_builtin}
 use Rattle.rap_rules.specs.declared.arguments.Restrictions.{Restrictions}
 use Rattle.rap_rules.proofs.Forests.{⧺-assoc}
 use Rattle.rap_grammar.proofs.Operators.{written_lead, differ, differ_back, is_calm, Calm, operator_seen, written_first, written_past}
 use Rattle.rap_rules.proofs.Steps.{and_false}
+use Rattle.rap_rules.specs.TokenTree.{starts_macro_call}
 use Rattle.rap_rules.specs.Types.{type_with_bounds_cond}
 use Rattle.rap_grammar.proofs.TypeWays.{ends_type, type_has_no_arguments, no_bounds_way, with_bounds_way, ref_type_way, ref_mut_type_way, slice_type_way, path_type_way}
 use Rattle.rap_grammar.proofs.Ways.{mode_of, NoArguments, kind_at-drop, Leads, LeadsOut, attributed, Single, none-⧺, segment_way, path_end, path_goes_on, path_way, literal_way, path_expr_way, paren_way, expr_way, from_way, climb_end, climb_on, operand_way, prefix_way, ref_way, ref_mut_way, postfix_end, call_way, index_way, try_way, name_field_way, number_field_way, method_way, arguments, arg_list_way, arguments_end, arguments_on, arguments_last}
@@ -135,6 +137,10 @@ path_named : {ks : List Record} {t : Forest} → Derives Path ks t → Named ks
 path_named (path_one (segment (reference {r = r} n))) = record { r = r; rs = []; is = refl; name = n }
 path_named (path_more {os = os} {js = js} d w e) = let n = path_named d in record { r = n.r; rs = n.rs ++ (os ++ js); is = ap (λ (x : List Record). x ++ (os ++ js)) n.is; name = n.name }
 
+-- no `builtin#` comes next where a name does
+no_builtin : {ks : List Record} (l : List Record) → Named ks → starts_builtin (ks ++ l) ≡ false
+no_builtin l n = rw (n.is, n.name.contextual, and_false (first_may_bear (n.r ∷ (n.rs ++ l)) BUILTIN_KW)) refl
+
 next_is : {c : Category} {ks : List Record} (l : List Record) (f : First c ks) → next_kind (ks ++ l) ≡ f.r.kind
 next_is l f = rw f.is refl
 
@@ -223,14 +229,17 @@ pub record Quiet (rs : List Record) : Type 0 where
   pub power_is : power (operator_at rs) < 1
 
 abbrev pub ends_quietly : ℕ → Bool
-ends_quietly k = one_of (EOF ∷ SEMICOLON ∷ COMMA ∷ R_PAREN ∷ R_BRACK ∷ L_CURLY ∷ R_CURLY ∷ []) k
+ends_quietly k = one_of (EOF ∷ SEMICOLON ∷ COMMA ∷ R_PAREN ∷ R_BRACK ∷ R_CURLY ∷ []) k
+
+no_bang : (rs : List Record) → (next_kind rs == BANG) ≡ false → starts_macro_call rs ≡ false
+no_bang rs h = rw h refl
 
 pub quiet : (rs : List Record) → ends_quietly (next_kind rs) ≡ true → Quiet rs
 unfolding operator_at
 quiet rs h =
     let k = next_kind rs in
     record {
-      calm = record { kind = search rules };
+      calm = record { kind = search rules; macro = no_bang rs (differ_back ends_quietly k BANG h refl) };
       power_is =
           rw (
             differ_back ends_quietly k PIPE h refl,
@@ -263,6 +272,18 @@ no_colon (r ∷ rs) h = rw h refl
 calm_colon : (rs : List Record) → Calm rs → is_at COLON2 rs ≡ false
 calm_colon rs c = no_colon rs (differ is_calm (next_kind rs) COLON c.kind refl)
 
+-- What goes on with no atom: no path, no macro call, no fields of a record.
+record Apart (l : List Record) : Type 0 where
+  colons : is_at COLON2 l ≡ false
+  macro : starts_macro_call l ≡ false
+  brace : (next_kind l == L_CURLY) ≡ false
+
+apart_by : (l : List Record) (k : ℕ) → next_kind l ≡ k → (k == COLON) ≡ false → (k == BANG) ≡ false → (k == L_CURLY) ≡ false → Apart l
+apart_by l k e h i j = record { colons = no_colon l (rw e h); macro = no_bang l (rw e i); brace = rw e j }
+
+calm_apart : (l : List Record) → Calm l → Apart l
+calm_apart l c = record { colons = calm_colon l c; macro = c.macro; brace = differ is_calm (next_kind l) L_CURLY c.kind refl }
+
 not_end : (test : ℕ → Bool) (k : ℕ) → test k ≡ true → test EOF ≡ false → k ≢ EOF
 not_end test k h i e = let x : true ≡ false = sym h ∙ ap test e ∙ i in cc
 
@@ -282,10 +303,10 @@ Claim : Category → List Record → Forest → Type 0
 Claim Expression ks t = (r : Restrictions) (b : List Forest) (f : Forest) (l : List Record) → Quiet l → LeadsOut (attributed r 1) b (ks ++ l) f l (f ⧺ t)
 Claim (Binary p) ks t = (r : Restrictions) (bp : ℕ) (b : List Forest) (f : Forest) (l : List Record) (g : Forest) (m : List Record) → bp ≤ p → Calm l → power (operator_at l) ≤ p → Leads (climb r bp) b l (f ⧺ t) m g → LeadsOut (attributed r bp) b (ks ++ l) f m g
 Claim Unary ks t = (r : Restrictions) (b : List Forest) (f : Forest) (l : List Record) → Calm l → Leads (lhs r) b (ks ++ l) f l (f ⧺ t)
-Claim Postfix ks t = (r : Restrictions) (b : List Forest) (f : Forest) (l : List Record) (g : Forest) (m : List Record) → (IsNamedField t → next_kind l ≢ L_PAREN) → is_at COLON2 l ≡ false → Leads (postfix_expr true false) b l (f ⧺ t) m g → Leads (lhs r) b (ks ++ l) f m g
+Claim Postfix ks t = (r : Restrictions) (b : List Forest) (f : Forest) (l : List Record) (g : Forest) (m : List Record) → (IsNamedField t → next_kind l ≢ L_PAREN) → Apart l → Leads (postfix_expr true false) b l (f ⧺ t) m g → Leads (lhs r) b (ks ++ l) f m g
 Claim Arguments ks t = (b : List Forest) (f : Forest) (l : List Record) → Leads arg_list b (ks ++ l) f l (f ⧺ t)
 Claim Elements ks t = (b : List Forest) (f : Forest) (c : Record) (l : List Record) → Is c R_PAREN → Leads arguments b (ks ++ c ∷ l) f (c ∷ l) (f ⧺ t)
-Claim Atom ks t = (b : List Forest) (f : Forest) (l : List Record) → is_at COLON2 l ≡ false → Leads atom_expr b (ks ++ l) f l (f ⧺ t)
+Claim Atom ks t = (r : Restrictions) (b : List Forest) (f : Forest) (l : List Record) → Apart l → Leads (atom_expr r) b (ks ++ l) f l (f ⧺ t)
 Claim Path ks t = (ty : Bool) (b : List Forest) (f : Forest) (l : List Record) (g : Forest) (m : List Record) → NoArguments ty l → Leads (path_for_qualifier (mode_of ty)) b l (f ⧺ t) m g → Leads (path (mode_of ty)) b (ks ++ l) f m g
 Claim Segment ks t = (ty first : Bool) (b : List Forest) (f : Forest) (l : List Record) → NoArguments ty l → Leads (path_segment (mode_of ty) first) b (ks ++ l) f l (f ⧺ t)
 Claim Reference ks t = Unit {0}
@@ -312,30 +333,30 @@ claim (path_one d) = λ ty b f l g m a y. path_way (mode_of ty) (rw none-⧺ at 
 claim (path_more {ks = ks} {os = os} {js = js} {t = t} d w e) = λ ty b f l g m a y.
     let k : next_kind (js ++ l) ≡ IDENT = eqb-true (next_kind (js ++ l)) IDENT (next_begins l (first e)) in
     rw (three_lists ks os js l) (claim d ty b f (os ++ (js ++ l)) g m (colons_alone ty (js ++ l) w k) (path_goes_on ty (single d) (written_first (js ++ l) w) (written_past (js ++ l) w) (claim e ty false (f ∷ b) (leaf t COLON2 2) l a) y))
-claim (atom_literal {r = r} h) = λ b f l c. let k = literal_kind r h in literal_way (not_end is_literal_first r.kind k refl) k
-claim (atom_path {ks = ks} {t = t} d) = λ b f l c.
+claim (atom_literal {r = r} h) = λ q b f l c. let k = literal_kind r h in literal_way q (not_end is_literal_first r.kind k refl) k
+claim (atom_path {ks = ks} {t = t} d) = λ r b f l c.
     let e : next_kind (ks ++ l) ≡ IDENT = eqb-true (next_kind (ks ++ l)) IDENT (next_begins l (first d)) in
-    path_expr_way e (rw none-⧺ at (claim d false (f ∷ b) none l (none ⧺ t) l (rw c refl) (path_end false c)))
-claim (atom_paren {b = c} o d e) = λ b f l n.
-    rw append_assoc (paren_way o.kind_is (next_begins (c ∷ l) (first d)) (expr_way (claim d unrestricted (f ∷ b) (leaf none L_PAREN 1) (c ∷ l) (quiet_is c l R_PAREN e refl))) e.kind_is)
-claim (postfix_atom d) = λ r b f l g m h c y. operand_way r (next_begins l (first d)) (claim d b f l c) y
+    path_expr_way r e (no_builtin l (path_named d)) (rw none-⧺ at (claim d false (f ∷ b) none l (none ⧺ t) l (rw c.colons refl) (path_end false c.colons))) c.macro c.brace
+claim (atom_paren {b = c} o d e) = λ r b f l n.
+    rw append_assoc (paren_way r o.kind_is (next_begins (c ∷ l) (first d)) (expr_way (claim d unrestricted (f ∷ b) (leaf none L_PAREN 1) (c ∷ l) (quiet_is c l R_PAREN e refl))) e.kind_is)
+claim (postfix_atom d) = λ r b f l g m h c y. operand_way r (next_begins l (first d)) (claim d r b f l c) y
 claim (postfix_call {ks = ks} {js = js} {t = t} d n e) = λ r b f l g m h c y.
     let i : next_kind (js ++ l) ≡ L_PAREN = eqb-true (next_kind (js ++ l)) L_PAREN (next_begins l (first e)) in
-    rw append_assoc (claim d r b f (js ++ l) g m (λ z. absurd (n z)) (no_colon (js ++ l) (rw i refl)) (call_way (single d) i (claim e (f ∷ b) t l) y))
+    rw append_assoc (claim d r b f (js ++ l) g m (λ z. absurd (n z)) (apart_by (js ++ l) L_PAREN i refl refl refl) (call_way (single d) i (claim e (f ∷ b) t l) y))
 claim (postfix_index {a = a} {b = z} {ks = ks} {js = js} {t = t} d o e i) = λ r b f l g m h c y.
-    rw (in_brackets ks js l a z) (claim d r b f (a ∷ (js ++ z ∷ l)) g m (λ n. rw o.kind_is (λ k. absurd (omega arith))) (no_colon (a ∷ (js ++ z ∷ l)) (rw o.kind_is refl))
+    rw (in_brackets ks js l a z) (claim d r b f (a ∷ (js ++ z ∷ l)) g m (λ n. rw o.kind_is (λ k. absurd (omega arith))) (apart_by (a ∷ (js ++ z ∷ l)) L_BRACK o.kind_is refl refl refl)
     (index_way (single d) o.kind_is (expr_way (claim e unrestricted (f ∷ b) (leaf t L_BRACK 1) (z ∷ l) (quiet_is z l R_BRACK i refl))) i.kind_is y))
 claim (postfix_try {a = a} d o) = λ r b f l g m h c y.
-    rw append_assoc (claim d r b f (a ∷ l) g m (λ n. rw o.kind_is (λ k. absurd (omega arith))) (no_colon (a ∷ l) (rw o.kind_is refl)) (try_way (single d) o.kind_is y))
+    rw append_assoc (claim d r b f (a ∷ l) g m (λ n. rw o.kind_is (λ k. absurd (omega arith))) (apart_by (a ∷ l) QUESTION o.kind_is refl refl refl) (try_way (single d) o.kind_is y))
 claim (postfix_field {a = a} {t = t} d o (reference {r = z} n)) = λ r b f l g m h c y.
-    rw append_assoc (claim d r b f (a ∷ z ∷ l) g m (λ j. rw o.kind_is (λ k. absurd (omega arith))) (no_colon (a ∷ z ∷ l) (rw o.kind_is refl))
-    (name_field_way (single d) o.kind_is n.kind (h (leaf t DOT 1, refl)) c y))
+    rw append_assoc (claim d r b f (a ∷ z ∷ l) g m (λ j. rw o.kind_is (λ k. absurd (omega arith))) (apart_by (a ∷ z ∷ l) DOT o.kind_is refl refl refl)
+    (name_field_way (single d) o.kind_is n.kind (h (leaf t DOT 1, refl)) c.colons y))
 claim (postfix_number {a = a} {b = z} d o i) = λ r b f l g m h c y.
-    rw append_assoc (claim d r b f (a ∷ z ∷ l) g m (λ j. rw o.kind_is (λ k. absurd (omega arith))) (no_colon (a ∷ z ∷ l) (rw o.kind_is refl))
+    rw append_assoc (claim d r b f (a ∷ z ∷ l) g m (λ j. rw o.kind_is (λ k. absurd (omega arith))) (apart_by (a ∷ z ∷ l) DOT o.kind_is refl refl refl)
     (number_field_way (single d) o.kind_is i.kind_is y))
 claim (postfix_method {a = a} {is = is} {t = t} d o (reference {r = z} n) e) = λ r b f l g m h c y.
     let i : next_kind (is ++ l) ≡ L_PAREN = eqb-true (next_kind (is ++ l)) L_PAREN (next_begins l (first e)) in
-    rw append_assoc (claim d r b f (a ∷ z ∷ (is ++ l)) g m (λ j. rw o.kind_is (λ k. absurd (omega arith))) (no_colon (a ∷ z ∷ (is ++ l)) (rw o.kind_is refl))
+    rw append_assoc (claim d r b f (a ∷ z ∷ (is ++ l)) g m (λ j. rw o.kind_is (λ k. absurd (omega arith))) (apart_by (a ∷ z ∷ (is ++ l)) DOT o.kind_is refl refl refl)
     (method_way (single d) o.kind_is n.kind i (claim e (f ∷ b) (node (leaf t DOT 1) NAME_REF (leaf none IDENT 1)) l) y))
 claim (arguments_none o c) = λ b f l. arg_list_way o.kind_is (arguments_end c.kind_is) c.kind_is
 claim (arguments_some {b = z} o d c) = λ b f l. rw append_assoc (arg_list_way o.kind_is (claim d (f ∷ b) (leaf none L_PAREN 1) z l c) c.kind_is)
@@ -356,7 +377,7 @@ claim (unary_ref_mut {b = z} o n d) = λ r b f l c.
 claim (unary_postfix {t = t} d) = λ r b f l c.
     let k = next_kind l in
     let e = c.kind in
-    claim d r b f l (f ⧺ t) l (λ n. not_paren l c) (calm_colon l c)
+    claim d r b f l (f ⧺ t) l (λ n. not_paren l c) (calm_apart l c)
     (postfix_end (differ is_calm k L_PAREN e refl) (differ is_calm k L_BRACK e refl) (differ is_calm k DOT e refl) (differ is_calm k QUESTION e refl))
 claim (binary_unary d) = λ r bp b f l g m h c p y. from_way r bp (next_begins l (first d)) (single d) (rw none-⧺ at (claim d r (f ∷ b) none l c)) y
 claim (binary_tighter lo hi d) = λ r bp b f l g m h c p y. claim d r bp b f l g m (omega arith) c (omega arith) y

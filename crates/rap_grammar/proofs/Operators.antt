@@ -1,13 +1,14 @@
 -- Each operator is seen where its tokens stand before an operand.
 use Rattle.rap_rules.proofs.Steps.{and_false}
-use Rattle.std.proofs.Common.{◌≡◌, ◌≢◌, ℕ, ◌<◌, List, [], ◌∷◌, ◌++◌, drop, length, Bool, true, false, not, refl, ap, sym, ◌∙◌, arith, ◌==◌, ◌&&◌}
+use Rattle.std.proofs.Common.{◌≡◌, ◌≢◌, ℕ, ◌<◌, List, [], ◌∷◌, ◌++◌, drop, length, Bool, true, false, not, refl, ap, sym, ◌∙◌, arith, ◌==◌, ◌&&◌, ◌⊎◌, inl, inr}
 use Rattle.std.proofs.lemmas.Bool.{eqb-true, eq-eqb, ne_eqb}
-use Rattle.rap_base.specs.TokenKind.{EOF, EQ, PLUSEQ, MINUSEQ, STAREQ, SLASHEQ, PERCENTEQ, CARETEQ, AMPEQ, PIPEEQ, SHLEQ, SHREQ, DOT, DOT2, DOT2EQ, PIPE2, AMP2, EQ2, NEQ, L_ANGLE, R_ANGLE, LTEQ, GTEQ, PIPE, CARET, AMP, SHL, SHR, PLUS, MINUS, STAR, SLASH, PERCENT, BANG, AS_KW, L_PAREN, L_BRACK, QUESTION, COLON}
+use Rattle.rap_base.specs.TokenKind.{EOF, EQ, PLUSEQ, MINUSEQ, STAREQ, SLASHEQ, PERCENTEQ, CARETEQ, AMPEQ, PIPEEQ, SHLEQ, SHREQ, DOT, DOT2, DOT2EQ, PIPE2, AMP2, EQ2, NEQ, L_ANGLE, R_ANGLE, LTEQ, GTEQ, PIPE, CARET, AMP, SHL, SHR, PLUS, MINUS, STAR, SLASH, PERCENT, BANG, AS_KW, L_PAREN, L_CURLY, L_BRACK, QUESTION, COLON}
 use Rattle.rap_events.specs.Record.{Record, next_kind}
 use Rattle.rap_events.specs.Composite.{parts, width, width_of, is_at, is_first, begins_with}
 use Rattle.rap_events.specs.Power.{power, power_in, powers}
 use Rattle.rap_rules.specs.First.{is_operand, one_of}
 use Rattle.rap_rules.specs.Operator.{operator_at}
+use Rattle.rap_rules.specs.TokenTree.{starts_macro_call}
 use Rattle.rap_grammar.specs.Derives.{Touching, tokens_of, Writes, IsOperator}
 
 -- two kinds that a test distinguishes
@@ -78,17 +79,20 @@ lead_is (k ∷ []) (r ∷ []) rest h = h
 lead_is (k ∷ []) (r ∷ s ∷ os) rest h = absurd h
 lead_is (k ∷ j ∷ ks) (r ∷ os) rest h = h.0
 
--- a token that goes on with no operand directly: neither a call, an index, a `?`, a `.` nor a `::`
+-- a token that goes on with no operand directly: neither a call, an index, the fields of a record, a `?`, a `.` nor a
+-- `::`; and no macro call
 abbrev pub is_calm : ℕ → Bool
-is_calm k = not (one_of (L_PAREN ∷ L_BRACK ∷ QUESTION ∷ DOT ∷ COLON ∷ []) k)
+is_calm k = not (one_of (L_PAREN ∷ L_CURLY ∷ L_BRACK ∷ QUESTION ∷ DOT ∷ COLON ∷ []) k)
 
 pub record Calm (rs : List Record) : Type 0 where
   pub kind : is_calm (next_kind rs) ≡ true
+  pub macro : starts_macro_call rs ≡ false
 
 -- This operator is seen before an operand, unless it begins a range or a cast.
 record Seen (op : ℕ) : Type 0 where
   at : power op ≢ 2 → power op < 12 → (os rest : List Record) → Touching (tokens_of (parts op) op) os → is_operand (next_kind rest) ≡ true → (op ≡ AMP → next_kind rest ≡ AMP → (r : Record) → os ≡ r ∷ [] → r.joint ≢ true) → operator_at (os ++ rest) ≡ op
   calm : power op ≢ 2 → power op < 12 → is_calm (lead (tokens_of (parts op) op)) ≡ true
+  bang : ((lead (tokens_of (parts op) op) == BANG) ≡ false) ⊎ (op ≡ NEQ)
 
 is_eq : (r : Record) (rest : List Record) → r.kind ≡ EQ → is_operand (next_kind rest) ≡ true → operator_at (r ∷ rest) ≡ EQ
 unfolding operator_at
@@ -145,131 +149,131 @@ is_amp r rest e h a = rw (e, no_more EQ [] rest h refl, and_false r.joint, amp_a
 
 seen_eq : Seen EQ
 unfolding operator_at
-seen_eq = record { at = λ n m os rest w h a. let t = one EQ os w in rw t.is (is_eq t.r rest t.kind h); calm = λ n m. refl }
+seen_eq = record { at = λ n m os rest w h a. let t = one EQ os w in rw t.is (is_eq t.r rest t.kind h); calm = λ n m. refl; bang = inl refl }
 
 seen_pluseq : Seen PLUSEQ
 unfolding operator_at
-seen_pluseq = record { at = λ n m os rest w h a. let t = two PLUS EQ os w in rw (t.is, t.kind, t.joint, t.second) refl; calm = λ n m. refl }
+seen_pluseq = record { at = λ n m os rest w h a. let t = two PLUS EQ os w in rw (t.is, t.kind, t.joint, t.second) refl; calm = λ n m. refl; bang = inl refl }
 
 seen_minuseq : Seen MINUSEQ
 unfolding operator_at
-seen_minuseq = record { at = λ n m os rest w h a. let t = two MINUS EQ os w in rw (t.is, t.kind, t.joint, t.second) refl; calm = λ n m. refl }
+seen_minuseq = record { at = λ n m os rest w h a. let t = two MINUS EQ os w in rw (t.is, t.kind, t.joint, t.second) refl; calm = λ n m. refl; bang = inl refl }
 
 seen_stareq : Seen STAREQ
 unfolding operator_at
-seen_stareq = record { at = λ n m os rest w h a. let t = two STAR EQ os w in rw (t.is, t.kind, t.joint, t.second) refl; calm = λ n m. refl }
+seen_stareq = record { at = λ n m os rest w h a. let t = two STAR EQ os w in rw (t.is, t.kind, t.joint, t.second) refl; calm = λ n m. refl; bang = inl refl }
 
 seen_slasheq : Seen SLASHEQ
 unfolding operator_at
-seen_slasheq = record { at = λ n m os rest w h a. let t = two SLASH EQ os w in rw (t.is, t.kind, t.joint, t.second) refl; calm = λ n m. refl }
+seen_slasheq = record { at = λ n m os rest w h a. let t = two SLASH EQ os w in rw (t.is, t.kind, t.joint, t.second) refl; calm = λ n m. refl; bang = inl refl }
 
 seen_percenteq : Seen PERCENTEQ
 unfolding operator_at
-seen_percenteq = record { at = λ n m os rest w h a. let t = two PERCENT EQ os w in rw (t.is, t.kind, t.joint, t.second) refl; calm = λ n m. refl }
+seen_percenteq = record { at = λ n m os rest w h a. let t = two PERCENT EQ os w in rw (t.is, t.kind, t.joint, t.second) refl; calm = λ n m. refl; bang = inl refl }
 
 seen_careteq : Seen CARETEQ
 unfolding operator_at
-seen_careteq = record { at = λ n m os rest w h a. let t = two CARET EQ os w in rw (t.is, t.kind, t.joint, t.second) refl; calm = λ n m. refl }
+seen_careteq = record { at = λ n m os rest w h a. let t = two CARET EQ os w in rw (t.is, t.kind, t.joint, t.second) refl; calm = λ n m. refl; bang = inl refl }
 
 seen_ampeq : Seen AMPEQ
 unfolding operator_at
-seen_ampeq = record { at = λ n m os rest w h a. let t = two AMP EQ os w in rw (t.is, t.kind, t.joint, t.second) refl; calm = λ n m. refl }
+seen_ampeq = record { at = λ n m os rest w h a. let t = two AMP EQ os w in rw (t.is, t.kind, t.joint, t.second) refl; calm = λ n m. refl; bang = inl refl }
 
 seen_pipeeq : Seen PIPEEQ
 unfolding operator_at
-seen_pipeeq = record { at = λ n m os rest w h a. let t = two PIPE EQ os w in rw (t.is, t.kind, t.joint, t.second) refl; calm = λ n m. refl }
+seen_pipeeq = record { at = λ n m os rest w h a. let t = two PIPE EQ os w in rw (t.is, t.kind, t.joint, t.second) refl; calm = λ n m. refl; bang = inl refl }
 
 seen_shleq : Seen SHLEQ
 unfolding operator_at
-seen_shleq = record { at = λ n m os rest w h a. let t = three L_ANGLE L_ANGLE EQ os w in rw (t.is, t.kind, t.joint, t.second, t.second_joint, t.third) refl; calm = λ n m. refl }
+seen_shleq = record { at = λ n m os rest w h a. let t = three L_ANGLE L_ANGLE EQ os w in rw (t.is, t.kind, t.joint, t.second, t.second_joint, t.third) refl; calm = λ n m. refl; bang = inl refl }
 
 seen_shreq : Seen SHREQ
 unfolding operator_at
-seen_shreq = record { at = λ n m os rest w h a. let t = three R_ANGLE R_ANGLE EQ os w in rw (t.is, t.kind, t.joint, t.second, t.second_joint, t.third) refl; calm = λ n m. refl }
+seen_shreq = record { at = λ n m os rest w h a. let t = three R_ANGLE R_ANGLE EQ os w in rw (t.is, t.kind, t.joint, t.second, t.second_joint, t.third) refl; calm = λ n m. refl; bang = inl refl }
 
 seen_dot2 : Seen DOT2
 unfolding operator_at
-seen_dot2 = record { at = λ n m. absurd (n refl); calm = λ n m. absurd (n refl) }
+seen_dot2 = record { at = λ n m. absurd (n refl); calm = λ n m. absurd (n refl); bang = inl refl }
 
 seen_dot2eq : Seen DOT2EQ
 unfolding operator_at
-seen_dot2eq = record { at = λ n m. absurd (n refl); calm = λ n m. absurd (n refl) }
+seen_dot2eq = record { at = λ n m. absurd (n refl); calm = λ n m. absurd (n refl); bang = inl refl }
 
 seen_pipe2 : Seen PIPE2
 unfolding operator_at
-seen_pipe2 = record { at = λ n m os rest w h a. let t = two PIPE PIPE os w in rw (t.is, t.kind, t.joint, t.second) refl; calm = λ n m. refl }
+seen_pipe2 = record { at = λ n m os rest w h a. let t = two PIPE PIPE os w in rw (t.is, t.kind, t.joint, t.second) refl; calm = λ n m. refl; bang = inl refl }
 
 seen_amp2 : Seen AMP2
 unfolding operator_at
-seen_amp2 = record { at = λ n m os rest w h a. let t = two AMP AMP os w in rw (t.is, t.kind, t.joint, t.second) refl; calm = λ n m. refl }
+seen_amp2 = record { at = λ n m os rest w h a. let t = two AMP AMP os w in rw (t.is, t.kind, t.joint, t.second) refl; calm = λ n m. refl; bang = inl refl }
 
 seen_eq2 : Seen EQ2
 unfolding operator_at
-seen_eq2 = record { at = λ n m os rest w h a. let t = two EQ EQ os w in rw (t.is, t.kind, t.joint, t.second) refl; calm = λ n m. refl }
+seen_eq2 = record { at = λ n m os rest w h a. let t = two EQ EQ os w in rw (t.is, t.kind, t.joint, t.second) refl; calm = λ n m. refl; bang = inl refl }
 
 seen_neq : Seen NEQ
 unfolding operator_at
-seen_neq = record { at = λ n m os rest w h a. let t = two BANG EQ os w in rw (t.is, t.kind, t.joint, t.second) refl; calm = λ n m. refl }
+seen_neq = record { at = λ n m os rest w h a. let t = two BANG EQ os w in rw (t.is, t.kind, t.joint, t.second) refl; calm = λ n m. refl; bang = inr refl }
 
 seen_l_angle : Seen L_ANGLE
 unfolding operator_at
-seen_l_angle = record { at = λ n m os rest w h a. let t = one L_ANGLE os w in rw t.is (is_l_angle t.r rest t.kind h); calm = λ n m. refl }
+seen_l_angle = record { at = λ n m os rest w h a. let t = one L_ANGLE os w in rw t.is (is_l_angle t.r rest t.kind h); calm = λ n m. refl; bang = inl refl }
 
 seen_r_angle : Seen R_ANGLE
 unfolding operator_at
-seen_r_angle = record { at = λ n m os rest w h a. let t = one R_ANGLE os w in rw t.is (is_r_angle t.r rest t.kind h); calm = λ n m. refl }
+seen_r_angle = record { at = λ n m os rest w h a. let t = one R_ANGLE os w in rw t.is (is_r_angle t.r rest t.kind h); calm = λ n m. refl; bang = inl refl }
 
 seen_lteq : Seen LTEQ
 unfolding operator_at
-seen_lteq = record { at = λ n m os rest w h a. let t = two L_ANGLE EQ os w in rw (t.is, t.kind, t.joint, t.second) refl; calm = λ n m. refl }
+seen_lteq = record { at = λ n m os rest w h a. let t = two L_ANGLE EQ os w in rw (t.is, t.kind, t.joint, t.second) refl; calm = λ n m. refl; bang = inl refl }
 
 seen_gteq : Seen GTEQ
 unfolding operator_at
-seen_gteq = record { at = λ n m os rest w h a. let t = two R_ANGLE EQ os w in rw (t.is, t.kind, t.joint, t.second) refl; calm = λ n m. refl }
+seen_gteq = record { at = λ n m os rest w h a. let t = two R_ANGLE EQ os w in rw (t.is, t.kind, t.joint, t.second) refl; calm = λ n m. refl; bang = inl refl }
 
 seen_pipe : Seen PIPE
 unfolding operator_at
-seen_pipe = record { at = λ n m os rest w h a. let t = one PIPE os w in rw t.is (is_pipe t.r rest t.kind h); calm = λ n m. refl }
+seen_pipe = record { at = λ n m os rest w h a. let t = one PIPE os w in rw t.is (is_pipe t.r rest t.kind h); calm = λ n m. refl; bang = inl refl }
 
 seen_caret : Seen CARET
 unfolding operator_at
-seen_caret = record { at = λ n m os rest w h a. let t = one CARET os w in rw t.is (is_caret t.r rest t.kind h); calm = λ n m. refl }
+seen_caret = record { at = λ n m os rest w h a. let t = one CARET os w in rw t.is (is_caret t.r rest t.kind h); calm = λ n m. refl; bang = inl refl }
 
 seen_amp : Seen AMP
 unfolding operator_at
-seen_amp = record { at = λ n m os rest w h a. let t = one AMP os w in rw t.is (is_amp t.r rest t.kind h (λ i. a refl i t.r t.is)); calm = λ n m. refl }
+seen_amp = record { at = λ n m os rest w h a. let t = one AMP os w in rw t.is (is_amp t.r rest t.kind h (λ i. a refl i t.r t.is)); calm = λ n m. refl; bang = inl refl }
 
 seen_shl : Seen SHL
 unfolding operator_at
-seen_shl = record { at = λ n m os rest w h a. let t = two L_ANGLE L_ANGLE os w in rw (t.is, t.kind, t.joint, t.second, no_more EQ [] rest h refl, and_false t.s.joint) refl; calm = λ n m. refl }
+seen_shl = record { at = λ n m os rest w h a. let t = two L_ANGLE L_ANGLE os w in rw (t.is, t.kind, t.joint, t.second, no_more EQ [] rest h refl, and_false t.s.joint) refl; calm = λ n m. refl; bang = inl refl }
 
 seen_shr : Seen SHR
 unfolding operator_at
-seen_shr = record { at = λ n m os rest w h a. let t = two R_ANGLE R_ANGLE os w in rw (t.is, t.kind, t.joint, t.second, no_more EQ [] rest h refl, and_false t.s.joint) refl; calm = λ n m. refl }
+seen_shr = record { at = λ n m os rest w h a. let t = two R_ANGLE R_ANGLE os w in rw (t.is, t.kind, t.joint, t.second, no_more EQ [] rest h refl, and_false t.s.joint) refl; calm = λ n m. refl; bang = inl refl }
 
 seen_plus : Seen PLUS
 unfolding operator_at
-seen_plus = record { at = λ n m os rest w h a. let t = one PLUS os w in rw t.is (is_plus t.r rest t.kind h); calm = λ n m. refl }
+seen_plus = record { at = λ n m os rest w h a. let t = one PLUS os w in rw t.is (is_plus t.r rest t.kind h); calm = λ n m. refl; bang = inl refl }
 
 seen_minus : Seen MINUS
 unfolding operator_at
-seen_minus = record { at = λ n m os rest w h a. let t = one MINUS os w in rw t.is (is_minus t.r rest t.kind h); calm = λ n m. refl }
+seen_minus = record { at = λ n m os rest w h a. let t = one MINUS os w in rw t.is (is_minus t.r rest t.kind h); calm = λ n m. refl; bang = inl refl }
 
 seen_star : Seen STAR
 unfolding operator_at
-seen_star = record { at = λ n m os rest w h a. let t = one STAR os w in rw t.is (is_star t.r rest t.kind h); calm = λ n m. refl }
+seen_star = record { at = λ n m os rest w h a. let t = one STAR os w in rw t.is (is_star t.r rest t.kind h); calm = λ n m. refl; bang = inl refl }
 
 seen_slash : Seen SLASH
 unfolding operator_at
-seen_slash = record { at = λ n m os rest w h a. let t = one SLASH os w in rw t.is (is_slash t.r rest t.kind h); calm = λ n m. refl }
+seen_slash = record { at = λ n m os rest w h a. let t = one SLASH os w in rw t.is (is_slash t.r rest t.kind h); calm = λ n m. refl; bang = inl refl }
 
 seen_percent : Seen PERCENT
 unfolding operator_at
-seen_percent = record { at = λ n m os rest w h a. let t = one PERCENT os w in rw t.is (is_percent t.r rest t.kind h); calm = λ n m. refl }
+seen_percent = record { at = λ n m os rest w h a. let t = one PERCENT os w in rw t.is (is_percent t.r rest t.kind h); calm = λ n m. refl; bang = inl refl }
 
 seen_as_kw : Seen AS_KW
 unfolding operator_at
-seen_as_kw = record { at = λ n m. absurd (omega arith); calm = λ n m. absurd (omega arith) }
+seen_as_kw = record { at = λ n m. absurd (omega arith); calm = λ n m. absurd (omega arith); bang = inl refl }
 
 abbrev AllSeen : List (ℕ × ℕ) → Type 0
 AllSeen [] = Unit {0}
@@ -317,6 +321,11 @@ written_past {kind = kind} {os = os} rest w = past_parts (parts kind) kind os re
 pub written_lead : {kind : ℕ} {os : List Record} (rest : List Record) → Writes os kind → next_kind (os ++ rest) ≡ lead (tokens_of (parts kind) kind)
 written_lead {kind = kind} {os = os} rest w = lead_is (tokens_of (parts kind) kind) os rest w.touching
 
+-- an operator's tokens begin no macro call
+no_macro : {op : ℕ} {os : List Record} (rest : List Record) → Writes os op → ((lead (tokens_of (parts op) op) == BANG) ≡ false) ⊎ (op ≡ NEQ) → starts_macro_call (os ++ rest) ≡ false
+no_macro rest w (inl h) = rw (written_lead rest w, h) refl
+no_macro {os = os} rest w (inr e) = let n : is_at NEQ (os ++ rest) ≡ true = rw e at (written_first rest w) in rw n (and_false (is_at BANG (os ++ rest)))
+
 -- an operator where its tokens stand
 pub record OperatorAt (os : List Record) (op p : ℕ) (rest : List Record) : Type 0 where
   pub is : operator_at (os ++ rest) ≡ op
@@ -338,5 +347,5 @@ operator_seen {p = p} {op = op} {os = os} rest same h lo mid hi o =
       power_is = e;
       first = written_first rest o.writes;
       past = written_past rest o.writes;
-      calm = record { kind = rw (lead_is (tokens_of (parts op) op) os rest w) (s.calm no_range no_cast) };
+      calm = record { kind = rw (lead_is (tokens_of (parts op) op) os rest w) (s.calm no_range no_cast); macro = no_macro rest o.writes s.bang };
     }

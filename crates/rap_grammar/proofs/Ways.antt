@@ -1,14 +1,14 @@
 -- How scripts run over tokens that are known.
-use Rattle.std.proofs.Common.{rules, zero, suc, ◌≡◌, ◌≢◌, ℕ, ◌<◌, ◌≤◌, List, [], ◌∷◌, drop, Bool, true, false, refl, ap, arith, ◌==◌, nat_lt, codes}
+use Rattle.std.proofs.Common.{rules, zero, suc, ◌≡◌, ◌≢◌, ℕ, ◌<◌, ◌≤◌, List, [], ◌∷◌, drop, Bool, true, false, not, refl, ap, arith, ◌==◌, nat_lt, codes}
 use Rattle.std.proofs.lemmas.Bool.Decides.{nat_tests}
-use Rattle.rap_base.specs.TokenKind.{EOF, EQ, IDENT, AMP, STAR, BANG, MINUS, DOT, COLON, COLON2, COMMA, QUESTION, INT_NUMBER, L_PAREN, R_PAREN, L_BRACK, R_BRACK, MUT_KW, RAW_KW, AWAIT_KW, AS_KW, POUND, OUTER_DOC_COMMENT}
+use Rattle.rap_base.specs.TokenKind.{EOF, EQ, IDENT, AMP, STAR, BANG, MINUS, DOT, COLON, COLON2, COMMA, QUESTION, INT_NUMBER, L_PAREN, R_PAREN, L_BRACK, R_BRACK, L_CURLY, MUT_KW, RAW_KW, AWAIT_KW, AS_KW, POUND, OUTER_DOC_COMMENT}
 use Rattle.rap_base.specs.NodeKind.{BIN_EXPR, REF_EXPR, PREFIX_EXPR, LITERAL, PAREN_EXPR, PATH_EXPR, PATH, PATH_SEGMENT, NAME_REF, CALL_EXPR, INDEX_EXPR, TRY_EXPR, METHOD_CALL_EXPR, FIELD_EXPR, ARG_LIST}
 use Rattle.rap_events.specs.Record.{Record, next_kind, kind_at}
 use Rattle.rap_events.specs.Composite.{width, is_at, begins_with}
 use Rattle.rap_events.specs.Forest.{Forest, none, node, leaf, message, split, ◌⧺◌}
 use Rattle.rap_events.specs.Power.{power}
 use Rattle.rap_events.specs.State.{but_last, last_children}
-use Rattle.rap_rules.specs.Atom.{unrestricted, expr, literal, path_expr, tuple_elements, tuple_expr, atom_expr}
+use Rattle.rap_rules.specs.Atom.{unrestricted, expr, literal, path_expr, tuple_elements, tuple_expr, atom_expr, bracketed_expr}
 use Rattle.rap_rules.specs.Attributes.{outer_attrs}
 use Rattle.rap_rules.specs.Expressions.{operand_of, right_of, bin_expr, climb, ref_qualifier, ref_expr, prefix_expr, arg_list, call_expr, index_expr, try_expr, calls_method, method_arguments, method_call_expr, field_expr, postfix_dot_expr, is_access, postfix_expr, lhs, expr_from, expr_bp}
 use Rattle.rap_rules.specs.First.{is_outer_attr_first, is_operand, is_atom, is_literal_first, is_path_name_or_index, is_expr_first, one_of, starts_expr_args}
@@ -18,7 +18,8 @@ use Rattle.rap_rules.specs.Operator.{operator_at}
 use Rattle.rap_rules.specs.Paths.{opt_generic_arg_list_expr, has_args_behind, has_args, opt_path_type_args, segment_name, path_segment, path_for_qualifier, path, expr_path, opt_path_args}
 use Rattle.rap_rules.specs.Phrase.{Phrase}
 use Rattle.rap_rules.specs.Script.{Script, Outcome, Spot, nothing, something, precede, after, Runs, gives, looks, passes, fails, takes, takes_any, starts, precedes, finishes, extends, follows, obeys, turns, stops, last_kind}
-use Rattle.rap_rules.specs.Words.{reads_as}
+use Rattle.rap_rules.specs.TokenTree.{starts_macro_call}
+use Rattle.rap_rules.specs.Words.{reads_as, starts_builtin}
 use Rattle.rap_rules.specs.declared.arguments.Restrictions.{Restrictions}
 use Rattle.rap_rules.specs.declared.arguments.Mode.{Mode}
 use Rattle.rap_rules.specs.declared.arguments.Mode.TheVariants as mode
@@ -116,13 +117,16 @@ no_literal : {rs : List Record} → is_literal_first (next_kind rs) ≡ false �
 unfolding literal
 no_literal e b f = fails e gives
 
-pub literal_way : {b : List Forest} {r : Record} {l : List Record} {f : Forest} → r.kind ≢ EOF → is_literal_first r.kind ≡ true → Leads atom_expr b (r ∷ l) f l (node f LITERAL (leaf none r.kind 1))
+pub literal_way : (q : Restrictions) {b : List Forest} {r : Record} {l : List Record} {f : Forest} → r.kind ≢ EOF → is_literal_first r.kind ≡ true → Leads (atom_expr q) b (r ∷ l) f l (node f LITERAL (leaf none r.kind 1))
 unfolding atom_expr literal
-literal_way ne e = follows (passes e (starts (takes_any ne (finishes gives)))) gives
+literal_way q ne e = follows (passes e (starts (takes_any ne (finishes gives)))) gives
 
-pub path_expr_way : {b : List Forest} {rs m : List Record} {f x : Forest} → next_kind rs ≡ IDENT → Leads (path mode.Expr) (f ∷ b) rs none m x → Leads atom_expr b rs f m (node f PATH_EXPR x)
+-- a path with neither the fields of a record nor a macro call behind it
+pub path_expr_way : (r : Restrictions) {b : List Forest} {rs m : List Record} {f x : Forest} → next_kind rs ≡ IDENT → starts_builtin rs ≡ false → Leads (path mode.Expr) (f ∷ b) rs none m x → starts_macro_call m ≡ false → (next_kind m == L_CURLY) ≡ false →
+    Leads (atom_expr r) b rs f m (node f PATH_EXPR x)
 unfolding atom_expr path_expr expr_path
-path_expr_way {b = b} {f = f} e x = follows (no_literal (rw e refl) b f) (passes (rw e refl) (starts (follows (follows x gives) (finishes gives))))
+path_expr_way r {b = b} {f = f} e i x macro brace =
+    follows (no_literal (rw e refl) b f) (fails i (passes (rw e refl) (starts (follows (follows x gives) (fails (rw brace (and_false (not r.forbid_structs))) (fails macro (finishes gives)))))))
 
 elements_way : {b : List Forest} {rs l : List Record} {c : Record} {f x : Forest} → is_operand (next_kind rs) ≡ true → Leads expr b rs f (c ∷ l) x → c.kind ≡ R_PAREN → Leads tuple_elements b rs f (c ∷ l) x
 unfolding tuple_elements
@@ -131,11 +135,11 @@ elements_way {rs = rs} o x c =
     turns (fails (differ is_operand k EOF o refl) (fails (differ is_operand k R_PAREN o refl) (fails (differ is_operand k COMMA o refl) (follows x (passes (rw c refl) gives)))))
     (stops (fails (rw c refl) (passes (rw c refl) gives)) refl)
 
-pub paren_way : {b : List Forest} {a c : Record} {rs l : List Record} {f x : Forest} → a.kind ≡ L_PAREN → is_operand (next_kind rs) ≡ true → Leads expr (f ∷ b) rs (leaf none L_PAREN 1) (c ∷ l) x → c.kind ≡ R_PAREN →
-    Leads atom_expr b (a ∷ rs) f l (node f PAREN_EXPR (leaf x R_PAREN 1))
-unfolding atom_expr tuple_expr
-paren_way {b = b} {f = f} e o x c =
-    follows (no_literal (rw e refl) b f) (fails (rw e refl) (passes (rw e refl) (starts (takes (rw e refl) (follows (elements_way o x c) (passes (rw c refl) (takes (rw c refl) (finishes gives))))))))
+pub paren_way : (r : Restrictions) {b : List Forest} {a c : Record} {rs l : List Record} {f x : Forest} → a.kind ≡ L_PAREN → is_operand (next_kind rs) ≡ true → Leads expr (f ∷ b) rs (leaf none L_PAREN 1) (c ∷ l) x → c.kind ≡ R_PAREN →
+    Leads (atom_expr r) b (a ∷ rs) f l (node f PAREN_EXPR (leaf x R_PAREN 1))
+unfolding atom_expr bracketed_expr tuple_expr
+paren_way r {b = b} {f = f} e o x c =
+    follows (no_literal (rw e refl) b f) (fails (rw e refl) (fails (rw e refl) (passes (rw e refl) (starts (takes (rw e refl) (follows (elements_way o x c) (passes (rw c refl) (takes (rw c refl) (finishes gives)))))))))
 
 -- no attribute comes next
 no_attributes : {b : List Forest} {rs : List Record} {f : Forest} → is_outer_attr_first (next_kind rs) ≡ false → Leads outer_attrs b rs f rs f
@@ -181,7 +185,7 @@ climb_on r {bp = bp} {op = op} h e least n a first past x y =
     turns (looks (rw (e, not_below _ _ least, apart _ _ a, apart _ _ n) (follows (bin_way r h first past x) gives))) y
 
 -- operands
-pub operand_way : (r : Restrictions) {b : List Forest} {rs m l : List Record} {f x g : Forest} → is_atom (next_kind rs) ≡ true → Leads atom_expr b rs f m x → Leads (postfix_expr true false) b m x l g → Leads (lhs r) b rs f l g
+pub operand_way : (r : Restrictions) {b : List Forest} {rs m l : List Record} {f x g : Forest} → is_atom (next_kind rs) ≡ true → Leads (atom_expr r) b rs f m x → Leads (postfix_expr true false) b m x l g → Leads (lhs r) b rs f l g
 unfolding lhs
 operand_way r {rs = rs} k x y =
     let n = next_kind rs in
