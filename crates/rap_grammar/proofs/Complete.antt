@@ -139,7 +139,7 @@ path_named (path_more {os = os} {js = js} d w e) = let n = path_named d in recor
 
 -- no `builtin#` comes next where a name does
 no_builtin : {ks : List Record} (l : List Record) → Named ks → starts_builtin (ks ++ l) ≡ false
-no_builtin l n = rw (n.is, n.name.contextual, and_false (first_may_bear (n.r ∷ (n.rs ++ l)) BUILTIN_KW)) refl
+no_builtin l n = rw (n.is, n.name.kind, n.name.contextual) refl
 
 next_is : {c : Category} {ks : List Record} (l : List Record) (f : First c ks) → next_kind (ks ++ l) ≡ f.r.kind
 next_is l f = rw f.is refl
@@ -239,7 +239,7 @@ unfolding operator_at
 quiet rs h =
     let k = next_kind rs in
     record {
-      calm = record { kind = search rules; macro = no_bang rs (differ_back ends_quietly k BANG h refl) };
+      calm = record { kind = search rules; macro = no_bang rs (differ ends_quietly k BANG h refl) };
       power_is =
           rw (
             differ_back ends_quietly k PIPE h refl,
