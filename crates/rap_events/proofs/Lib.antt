@@ -6,6 +6,7 @@ pub mod Finished
 pub mod FloatSplits
 pub mod HistoryLemmas
 pub mod Intervals
+pub mod LastTokens
 pub mod MachineLemmas
 pub mod MessageCount
 pub mod Nesting

@@ -1,12 +1,24 @@
--- The last token of a forest.
-use Rattle.std.specs.Prelude.{ℕ, ◌==◌, if◌then◌else◌}
+-- The last token that was taken.
+-- (What calls promise one another; no promise of the library rests on it.)
+use Rattle.std.specs.Prelude.{ℕ}
 use Rattle.rap_base.specs.TokenKind.{EOF}
 use Rattle.rap_events.specs.Forest.{Forest, none, node, leaf, message, split}
+use Rattle.rap_events.specs.Machine.{Stack, floor, push}
+use Rattle.rap_events.specs.State.{State}
 
--- under which kind it was taken, or the end where there is none; the halves of a float are none
-pub last_token : Forest → ℕ
-last_token none = EOF
-last_token (leaf before kind width) = kind
-last_token (message before bytes) = last_token before
-last_token (split before dot) = last_token before
-last_token (node before kind children) = if last_token children == EOF then last_token before else last_token children
+-- under which kind the last token of a forest was taken, or this kind where it has none; the halves of a float are none
+abbrev pub last_after : ℕ → Forest → ℕ
+last_after k none = k
+last_after k (node before kind children) = last_after (last_after k before) children
+last_after k (leaf before kind width) = kind
+last_after k (message before bytes) = last_after k before
+last_after k (split before ends_in_dot) = last_after k before
+
+-- the same of what stands under the older markers, or the end where there is none
+abbrev pub last_below : Stack → ℕ
+last_below floor = EOF
+last_below (push below marker forest) = last_after (last_below below) forest
+
+-- the same of all that a parser took
+abbrev pub last_taken : State → ℕ
+last_taken s = last_after (last_below s.below) s.forest

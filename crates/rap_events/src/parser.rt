@@ -66,6 +66,7 @@ impl<'t> Parser<'t> {
     ghost use Rattle.rap_events.specs.Fit.{AllFitIn};
     ghost use Rattle.rap_events.specs.Forest.{flat, used, message_count, splits_placed};
     ghost use Rattle.rap_events.specs.Interval.{tree_steps, nodes_of, Nested};
+    ghost use Rattle.rap_events.specs.LastToken.{last_taken};
     ghost use Rattle.rap_events.specs.Machine.{floor};
     ghost use Rattle.rap_events.specs.Composite.{is_at, width};
     ghost use Rattle.rap_events.specs.Record.{kind_at, contextual_at, edition_at};
@@ -169,6 +170,20 @@ impl<'t> Parser<'t> {
         ensures { result ≡ (contextual_at (state self.now).rest n == kw) }
     {
         self.input.contextual_kind(self.ahead(n)) == kw
+    }
+
+    /// The kind under which the last token was taken, or `EOF` where none was. The halves of a float are no tokens.
+    pub fn last_token(&self) -> SyntaxKind
+        ensures { result ≡ last_taken (state self.now) }
+    {
+        let mut i = self.events.len();
+        while i > 0 {
+            i -= 1;
+            if let Event::Token { kind, .. } = self.events[i] {
+                return kind;
+            }
+        }
+        SyntaxKind::EOF
     }
 
     /// Takes a token of this kind if one comes next, and answers whether it did.

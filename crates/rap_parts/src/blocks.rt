@@ -1,6 +1,6 @@
 //! Blocks, and the `let` statements in them.
-ghost use Rattle.std.specs.Prelude.{◌≡◌, ◌≢◌, ◌<◌, ◌≤◌, OnOk, true, ◌⊎◌};
-ghost use Rattle.rap_base.specs.TokenKind.{L_CURLY, LET_KW};
+ghost use Rattle.std.specs.Prelude.{◌≡◌, ◌≢◌, ◌<◌, ◌≤◌, OnOk, IfOk, true, ◌⊎◌};
+ghost use Rattle.rap_base.specs.TokenKind.{L_CURLY, ELSE_KW, LET_KW};
 ghost use Rattle.rap_events.specs.State.{state, next};
 ghost use Rattle.rap_rules.specs.Blocks as script;
 ghost use Rattle.rap_rules.specs.Blocks.{starts_let};
@@ -8,14 +8,15 @@ ghost use Rattle.rap_rules.specs.Grew.{Within, Behind, Took, Grew};
 ghost use Rattle.rap_rules.specs.Knot.{Follows};
 ghost use Rattle.rap_rules.specs.Room.{brackets_room, list_room};
 ghost use Rattle.rap_rules.specs.Script.{something};
+ghost use Rattle.rap_rules.specs.Words.{of_option};
 
 use rap_base::no_memory::NoMemory;
 use rap_base::syntax_kind::SyntaxKind;
 use crate::attributes::inner_attrs;
-use rap_events::parser::Parser;
+use rap_events::parser::{CompletedMarker, Parser};
 use rap_rules::T;
 use rap_rules::arguments::Semicolon;
-use rap_rules::called::pattern;
+use rap_rules::called::{ascription, expr, pattern};
 use rap_rules::knot::{Grammar, Rule};
 
 /// A block, as `{ a; b }`. Where none begins, that is reported.
@@ -104,11 +105,108 @@ pub fn let_stmt<G: Grammar>(p: &mut Parser<'_>, g: &G, with_semi: Semicolon) -> 
     ensures took { OnOk result (Took (state p.old) (state p.new) brackets_room) }
     ensures script { OnOk result (Follows (script.let_stmt with_semi) something (state p.old) (state p.new)) }
 {
-    let _ = with_semi;
     p.eat(T![super])?;
     p.bump(T![let])?;
     pattern(p, g)?;
+    let_type(p, g)?;
+    let value = let_value(p, g)?;
+    let_else(p, g, value)?;
+    let_end(p, with_semi)?;
     Ok(())
+}
+
+/// The type of a `let` statement, as the `: b` of `let a: b;`, if it has one.
+fn let_type<G: Grammar>(p: &mut Parser<'_>, g: &G) -> Result<(), NoMemory>
+    requires within { Within G.valid G.left g.now (state p.old) }
+    ensures grew { OnOk result (Grew (state p.old) (state p.new) 0) }
+    ensures script { OnOk result (Follows script.let_type something (state p.old) (state p.new)) }
+{
+    if p.at(T![:]) {
+        ascription(p, g)?;
+    }
+    Ok(())
+}
+
+/// The value of a `let` statement, as the `= b` of `let a = b;`, if it has one.
+fn let_value<G: Grammar>(
+    p: &mut Parser<'_>,
+    g: &G,
+) -> Result<Option<CompletedMarker>, NoMemory>
+    requires within { Within G.valid G.left g.now (state p.old) }
+    ensures grew { OnOk result (Grew (state p.old) (state p.new) 0) }
+    ensures script { IfOk result (λ value. Follows script.let_value (of_option value) (state p.old) (state p.new)) }
+{
+    if !p.eat(T![=])? {
+        return Ok(None);
+    }
+    let value = expr(p, g)?;
+    Ok(value)
+}
+
+/// The `else { b }` of `let a = c else { b };`, if there is one.
+fn let_else<G: Grammar>(
+    p: &mut Parser<'_>,
+    g: &G,
+    value: Option<CompletedMarker>,
+) -> Result<(), NoMemory>
+    requires within { Within G.valid G.left g.now (state p.old) }
+    ensures grew { OnOk result (Grew (state p.old) (state p.new) 0) }
+    ensures script { OnOk result (Follows (script.let_else (of_option value)) something (state p.old) (state p.new)) }
+{
+    if !p.at(T![else]) {
+        return Ok(());
+    }
+    value_before_else(p, value)?;
+    else_block(p, g)?;
+    Ok(())
+}
+
+/// Reports a value before an `else` that ends with a brace.
+fn value_before_else(p: &mut Parser<'_>, value: Option<CompletedMarker>) -> Result<(), NoMemory>
+    ensures grew { OnOk result (Grew (state p.old) (state p.new) 1) }
+    ensures rest { OnOk result ((state p.new).rest ≡ (state p.old).rest) }
+    ensures script { OnOk result (Follows (script.value_before_else (of_option value)) something (state p.old) (state p.new)) }
+{
+    let Some(_) = value else {
+        return Ok(());
+    };
+    if p.last_token() == T!['}'] {
+        p.error("right curly brace `}` before `else` in a `let...else` statement not allowed")?;
+        return Ok(());
+    }
+    Ok(())
+}
+
+/// The `else` of a `let` statement, with its block.
+fn else_block<G: Grammar>(p: &mut Parser<'_>, g: &G) -> Result<(), NoMemory>
+    requires within { Within G.valid G.left g.now (state p.old) }
+    requires here { next (state p.old) ≡ ELSE_KW }
+    ensures took { OnOk result (Took (state p.old) (state p.new) list_room) }
+    ensures script { OnOk result (Follows script.else_block something (state p.old) (state p.new)) }
+{
+    let m = p.start()?;
+    p.bump(T![else])?;
+    block_expr(p, g)?;
+    m.complete(p, SyntaxKind::LET_ELSE)?;
+    Ok(())
+}
+
+/// The semicolon of a `let` statement, which may or must be there, or is left to others.
+fn let_end(p: &mut Parser<'_>, with_semi: Semicolon) -> Result<(), NoMemory>
+    ensures grew { OnOk result (Grew (state p.old) (state p.new) 1) }
+    ensures script { OnOk result (Follows (script.let_end with_semi) something (state p.old) (state p.new)) }
+{
+    match with_semi {
+        Semicolon::Required => {
+            p.expect(T![;])?;
+            Ok(())
+        }
+        Semicolon::Optional => {
+            p.eat(T![;])?;
+            Ok(())
+        }
+        Semicolon::Forbidden => Ok(()),
+    }
 }
 
 /// A `let` statement where none may be.

@@ -1,5 +1,5 @@
 //! Patterns.
-ghost use Rattle.std.specs.Prelude.{◌≡◌, ◌≢◌, ◌<◌, ◌≤◌, ◌∷◌, ℕ, OnOk, IfOk, true, [], false};
+ghost use Rattle.std.specs.Prelude.{Bool, ◌≡◌, ◌≢◌, ◌<◌, ◌≤◌, ◌∷◌, ℕ, OnOk, IfOk, true, [], false};
 ghost use Rattle.rap_base.specs.TokenSet.{member};
 ghost use Rattle.rap_base.specs.TokenKind.{DOT2EQ, DOT2, EOF, AMP, POUND, BUILTIN_KW, L_PAREN, L_CURLY, UNDERSCORE, BANG, L_BRACK, IDENT, MUT_KW, REF_KW, BOX_KW, CONST_KW};
 ghost use Rattle.rap_base.specs.NodeKind.{LITERAL_PAT, WILDCARD_PAT, REF_PAT, NOT_NULL, SLICE_PAT, IDENT_PAT, BOX_PAT, CONST_BLOCK_PAT};
@@ -8,10 +8,10 @@ ghost use Rattle.rap_rules.specs.First.{is_range_pat_end_first, starts_path, is_
 ghost use Rattle.rap_rules.specs.Grew.{Within, Grew, Took, Makes, Made, Behind};
 ghost use Rattle.rap_rules.specs.Knot.{Follows};
 ghost use Rattle.rap_rules.specs.Patterns as script;
-ghost use Rattle.rap_rules.specs.Patterns.{ends_range_pat, starts_ident_pat, starts_literal_pat, starts_field, starts_rest_pat};
-ghost use Rattle.rap_rules.specs.Recovery.{is_pattern_recovery};
-ghost use Rattle.rap_rules.specs.Room.{single_pattern_room, atom_pattern_room, list_room, name_room};
-ghost use Rattle.rap_rules.specs.Rules.{IsPattern, IsSinglePattern, IsAtomPattern, PatternIn};
+ghost use Rattle.rap_rules.specs.Patterns.{ends_range_pat, starts_ident_pat, starts_literal_pat, starts_field, starts_rest_pat, ends_search};
+ghost use Rattle.rap_rules.specs.Recovery.{is_pattern_recovery, stops_of};
+ghost use Rattle.rap_rules.specs.Room.{pattern_room, single_pattern_room, atom_pattern_room, list_room, name_room};
+ghost use Rattle.rap_rules.specs.Rules.{IsAtomPattern, PatternUntil};
 ghost use Rattle.rap_rules.specs.Script.{something, nothing};
 ghost use Rattle.rap_rules.specs.Words.{of_option, of_bool};
 
@@ -56,88 +56,98 @@ fn pat_recovery_set() -> TokenSet
     ])
 }
 
+/// What ends the search for a pattern, in an arm of a `match` or elsewhere.
+fn recovery_set(in_arm: bool) -> TokenSet
+    ensures { (kind : ℕ) → member result kind ≡ ends_search in_arm kind }
+{
+    if in_arm {
+        return TokenSet::new(&[T![=], T![if]]);
+    }
+    pat_recovery_set()
+}
+
 /// A pattern with its alternatives, as `a`, `1 | 2` and `| 1 | 2`.
-pub fn pattern_r<G: Grammar>(p: &mut Parser<'_>, g: &G) -> Result<(), NoMemory>
+pub fn pattern_r<G: Grammar>(p: &mut Parser<'_>, g: &G, in_arm: bool) -> Result<(), NoMemory>
     requires within { Within G.valid G.left g.now (state p.old) }
-    ensures reads { OnOk result (IsPattern (state p.old) (state p.new)) }
-    ensures script { OnOk result (Follows script.pattern_r something (state p.old) (state p.new)) }
+    ensures reads { OnOk result (PatternUntil (stops_of in_arm) 8 pattern_room (state p.old) (state p.new)) }
+    ensures script { OnOk result (Follows (script.pattern_r in_arm) something (state p.old) (state p.new)) }
 {
     let m = p.start()?;
     if p.eat(T![|])? {
-        pattern_single_r(p, g)?;
-        alternatives(p, g)?;
+        pattern_single_r(p, g, in_arm)?;
+        alternatives(p, g, in_arm)?;
         m.complete(p, SyntaxKind::OR_PAT)?;
         return Ok(());
     }
-    pattern_single_r(p, g)?;
+    pattern_single_r(p, g, in_arm)?;
     if !p.at(T![|]) {
         m.abandon(p)?;
         return Ok(());
     }
-    alternatives(p, g)?;
+    alternatives(p, g, in_arm)?;
     m.complete(p, SyntaxKind::OR_PAT)?;
     Ok(())
 }
 
 /// The alternatives after a first one, as the `| 2 | 3` of `1 | 2 | 3`.
-fn alternatives<G: Grammar>(p: &mut Parser<'_>, g: &G) -> Result<(), NoMemory>
+fn alternatives<G: Grammar>(p: &mut Parser<'_>, g: &G, in_arm: bool) -> Result<(), NoMemory>
     requires within { Within G.valid G.left g.now (state p.old) }
     ensures grew { OnOk result (Grew (state p.old) (state p.new) 0) }
-    ensures script { OnOk result (Follows script.alternatives something (state p.old) (state p.new)) }
+    ensures script { OnOk result (Follows (script.alternatives in_arm) something (state p.old) (state p.new)) }
 {
     'alternatives: while p.at(T![|]) {
         p.bump(T![|])?;
-        pattern_single_r(p, g)?;
+        pattern_single_r(p, g, in_arm)?;
     }
     Ok(())
 }
 
 /// A pattern without alternatives, as `a`, `0..=9`, `..9` and `..`.
-pub fn pattern_single_r<G: Grammar>(p: &mut Parser<'_>, g: &G) -> Result<(), NoMemory>
+pub fn pattern_single_r<G: Grammar>(p: &mut Parser<'_>, g: &G, in_arm: bool) -> Result<(), NoMemory>
     requires within { Within G.valid G.left g.now (state p.old) }
-    ensures reads { OnOk result (IsSinglePattern (state p.old) (state p.new)) }
-    ensures script { OnOk result (Follows script.pattern_single_r something (state p.old) (state p.new)) }
+    ensures reads { OnOk result (PatternUntil (stops_of in_arm) 3 single_pattern_room (state p.old) (state p.new)) }
+    ensures script { OnOk result (Follows (script.pattern_single_r in_arm) something (state p.old) (state p.new)) }
 {
     if p.at(T![..=]) {
-        range_to_pat(p, g)?;
+        range_to_pat(p, g, in_arm)?;
         return Ok(());
     }
     if p.at(T![..]) {
-        rest_pat(p, g)?;
+        rest_pat(p, g, in_arm)?;
         return Ok(());
     }
-    let Some(lhs) = atom_pat(p, g)? else {
+    let Some(lhs) = atom_pat(p, g, in_arm)? else {
         return Ok(());
     };
-    range_op(p, g, lhs)?;
+    range_op(p, g, lhs, in_arm)?;
     Ok(())
 }
 
 /// A range without a start, as `..=9`.
-fn range_to_pat<G: Grammar>(p: &mut Parser<'_>, g: &G) -> Result<(), NoMemory>
+fn range_to_pat<G: Grammar>(p: &mut Parser<'_>, g: &G, in_arm: bool) -> Result<(), NoMemory>
     requires within { Within G.valid G.left g.now (state p.old) }
     requires here { At (state p.old) DOT2EQ }
     ensures took { OnOk result (Took (state p.old) (state p.new) single_pattern_room) }
-    ensures script { OnOk result (Follows script.range_to_pat something (state p.old) (state p.new)) }
+    ensures script { OnOk result (Follows (script.range_to_pat in_arm) something (state p.old) (state p.new)) }
 {
     let m = p.start()?;
     p.bump(T![..=])?;
-    atom_pat(p, g)?;
+    atom_pat(p, g, in_arm)?;
     m.complete(p, SyntaxKind::RANGE_PAT)?;
     Ok(())
 }
 
 /// The rest of a list, as the `..` of `[a, ..]`, and a range without a start, as `..9`.
-fn rest_pat<G: Grammar>(p: &mut Parser<'_>, g: &G) -> Result<(), NoMemory>
+fn rest_pat<G: Grammar>(p: &mut Parser<'_>, g: &G, in_arm: bool) -> Result<(), NoMemory>
     requires within { Within G.valid G.left g.now (state p.old) }
     requires here { At (state p.old) DOT2 }
     ensures took { OnOk result (Took (state p.old) (state p.new) single_pattern_room) }
-    ensures script { OnOk result (Follows script.rest_pat something (state p.old) (state p.new)) }
+    ensures script { OnOk result (Follows (script.rest_pat in_arm) something (state p.old) (state p.new)) }
 {
     let m = p.start()?;
     p.bump(T![..])?;
     if is_range_pat_end_first(p.current()) {
-        atom_pat(p, g)?;
+        atom_pat(p, g, in_arm)?;
         m.complete(p, SyntaxKind::RANGE_PAT)?;
         return Ok(());
     }
@@ -146,22 +156,22 @@ fn rest_pat<G: Grammar>(p: &mut Parser<'_>, g: &G) -> Result<(), NoMemory>
 }
 
 /// What makes a range of a pattern, as the `..=9` after `0`.
-fn range_op<G: Grammar>(p: &mut Parser<'_>, g: &G, lhs: CompletedMarker) -> Result<(), NoMemory>
+fn range_op<G: Grammar>(p: &mut Parser<'_>, g: &G, lhs: CompletedMarker, in_arm: bool) -> Result<(), NoMemory>
     requires within { Within G.valid G.left g.now (state p.old) }
     requires last { IsLast (state p.old) lhs lhs.kind }
     ensures grew { OnOk result (Grew (state p.old) (state p.new) 0) }
-    ensures script { OnOk result (Follows script.range_op something (state p.old) (state p.new)) }
+    ensures script { OnOk result (Follows (script.range_op in_arm) something (state p.old) (state p.new)) }
 {
     if p.at(T![...]) {
-        range_from_pat(p, g, lhs, T![...])?;
+        range_from_pat(p, g, lhs, T![...], in_arm)?;
         return Ok(());
     }
     if p.at(T![..=]) {
-        range_from_pat(p, g, lhs, T![..=])?;
+        range_from_pat(p, g, lhs, T![..=], in_arm)?;
         return Ok(());
     }
     if p.at(T![..]) {
-        range_from_pat(p, g, lhs, T![..])?;
+        range_from_pat(p, g, lhs, T![..], in_arm)?;
         return Ok(());
     }
     Ok(())
@@ -174,13 +184,14 @@ fn range_from_pat<G: Grammar>(
     g: &G,
     lhs: CompletedMarker,
     op: SyntaxKind,
+    in_arm: bool,
 ) -> Result<(), NoMemory>
     requires within { Within G.valid G.left g.now (state p.old) }
     requires last { IsLast (state p.old) lhs lhs.kind }
     requires here { At (state p.old) op }
     requires op { op ≢ EOF }
     ensures grew { OnOk result (Grew (state p.old) (state p.new) 0) }
-    ensures script { OnOk result (Follows (script.range_from_pat op) something (state p.old) (state p.new)) }
+    ensures script { OnOk result (Follows (script.range_from_pat in_arm op) something (state p.old) (state p.new)) }
 {
     let m = lhs.precede(p)?;
     p.bump(op)?;
@@ -188,7 +199,7 @@ fn range_from_pat<G: Grammar>(
         m.complete(p, SyntaxKind::RANGE_PAT)?;
         return Ok(());
     }
-    atom_pat(p, g)?;
+    atom_pat(p, g, in_arm)?;
     m.complete(p, SyntaxKind::RANGE_PAT)?;
     Ok(())
 }
@@ -204,10 +215,10 @@ fn ends_range_pat(kind: SyntaxKind) -> bool
 }
 
 /// A pattern that is no range, as `a`, `S { x, .. }` and `&1`.
-fn atom_pat<G: Grammar>(p: &mut Parser<'_>, g: &G) -> Result<Option<CompletedMarker>, NoMemory>
+fn atom_pat<G: Grammar>(p: &mut Parser<'_>, g: &G, in_arm: bool) -> Result<Option<CompletedMarker>, NoMemory>
     requires within { Within G.valid G.left g.now (state p.old) }
-    ensures atom { IfOk result (IsAtomPattern (state p.old) (state p.new)) }
-    ensures script { IfOk result (λ o. Follows script.atom_pat (of_option o) (state p.old) (state p.new)) }
+    ensures atom { IfOk result (IsAtomPattern in_arm (state p.old) (state p.new)) }
+    ensures script { IfOk result (λ o. Follows (script.atom_pat in_arm) (of_option o) (state p.old) (state p.new)) }
 {
     if starts_builtin(p) {
         let cm = builtin_pat(p, g)?;
@@ -216,11 +227,11 @@ fn atom_pat<G: Grammar>(p: &mut Parser<'_>, g: &G) -> Result<Option<CompletedMar
     match p.current() {
         T![box] => Ok(Some(box_pat(p, g)?)),
         T![ref] | T![mut] => Ok(Some(ident_pat(p, g, true)?)),
-        T![const] => Ok(Some(const_block_pat(p)?)),
+        T![const] => Ok(Some(const_block_pat(p, g)?)),
         _ if is_ident_pat_start(p) => Ok(Some(ident_pat(p, g, true)?)),
         _ if is_path_start(p) => Ok(Some(path_or_macro_pat(p, g)?)),
         _ => {
-            let cm = symbol_pat(p, g)?;
+            let cm = symbol_pat(p, g, in_arm)?;
             Ok(cm)
         }
     }
@@ -234,10 +245,10 @@ fn is_ident_pat_start(p: &Parser<'_>) -> bool
 }
 
 /// A pattern that begins with no keyword and no path, as `1`, `_` and `(a, b)`.
-fn symbol_pat<G: Grammar>(p: &mut Parser<'_>, g: &G) -> Result<Option<CompletedMarker>, NoMemory>
+fn symbol_pat<G: Grammar>(p: &mut Parser<'_>, g: &G, in_arm: bool) -> Result<Option<CompletedMarker>, NoMemory>
     requires within { Within G.valid G.left g.now (state p.old) }
-    ensures atom { IfOk result (IsAtomPattern (state p.old) (state p.new)) }
-    ensures script { IfOk result (λ o. Follows script.symbol_pat (of_option o) (state p.old) (state p.new)) }
+    ensures atom { IfOk result (IsAtomPattern in_arm (state p.old) (state p.new)) }
+    ensures script { IfOk result (λ o. Follows (script.symbol_pat in_arm) (of_option o) (state p.old) (state p.new)) }
 {
     if is_literal_pat_start(p) {
         return Ok(Some(literal_pat(p)?));
@@ -249,7 +260,7 @@ fn symbol_pat<G: Grammar>(p: &mut Parser<'_>, g: &G) -> Result<Option<CompletedM
         T!['['] => Ok(Some(slice_pat(p, g)?)),
         T![!] => Ok(Some(not_null_pat(p, g)?)),
         _ => {
-            missing_pat(p)?;
+            missing_pat(p, in_arm)?;
             Ok(None)
         }
     }
@@ -257,13 +268,13 @@ fn symbol_pat<G: Grammar>(p: &mut Parser<'_>, g: &G) -> Result<Option<CompletedM
 
 /// No pattern begins: the next token is taken along, unless it is a brace or ends the search.
 #[inline(never)]
-fn missing_pat(p: &mut Parser<'_>) -> Result<(), NoMemory>
+fn missing_pat(p: &mut Parser<'_>, in_arm: bool) -> Result<(), NoMemory>
     requires no_reference { next (state p.old) ≢ AMP }
     requires end { next (state p.old) ≡ EOF → (state p.old).rest ≡ [] }
-    ensures reads { OnOk result (PatternIn 3 atom_pattern_room (state p.old) (state p.new)) }
-    ensures script { OnOk result (Follows script.missing_pat nothing (state p.old) (state p.new)) }
+    ensures reads { OnOk result (PatternUntil (stops_of in_arm) 3 atom_pattern_room (state p.old) (state p.new)) }
+    ensures script { OnOk result (Follows (script.missing_pat in_arm) nothing (state p.old) (state p.new)) }
 {
-    p.err_recover("expected pattern", pat_recovery_set())?;
+    p.err_recover("expected pattern", recovery_set(in_arm))?;
     Ok(())
 }
 
@@ -272,7 +283,7 @@ fn builtin_pat<G: Grammar>(p: &mut Parser<'_>, g: &G) -> Result<Option<Completed
     requires within { Within G.valid G.left g.now (state p.old) }
     requires here { ReadsAs (state p.old) BUILTIN_KW }
     requires pound { NthAt (state p.old) 1 POUND }
-    ensures atom { IfOk result (IsAtomPattern (state p.old) (state p.new)) }
+    ensures atom { IfOk result (λ o. (in_arm : Bool) → IsAtomPattern in_arm (state p.old) (state p.new) o) }
     ensures script { IfOk result (λ o. Follows script.builtin_pat (of_option o) (state p.old) (state p.new)) }
 {
     let m = p.start()?;
@@ -455,7 +466,7 @@ fn record_pat_element<G: Grammar>(p: &mut Parser<'_>, g: &G) -> Result<(), NoMem
         return Ok(());
     }
     if p.at(T!['{']) {
-        error_block(p, "expected ident")?;
+        error_block(p, g, "expected ident")?;
         m.abandon(p)?;
         return Ok(());
     }
@@ -667,14 +678,15 @@ fn box_pat<G: Grammar>(p: &mut Parser<'_>, g: &G) -> Result<CompletedMarker, NoM
 }
 
 /// What a block computes, as `const { 1 }`.
-fn const_block_pat(p: &mut Parser<'_>) -> Result<CompletedMarker, NoMemory>
+fn const_block_pat<G: Grammar>(p: &mut Parser<'_>, g: &G) -> Result<CompletedMarker, NoMemory>
+    requires within { Within G.valid G.left g.now (state p.old) }
     requires here { next (state p.old) ≡ CONST_KW }
     ensures made { IfOk result (Makes CONST_BLOCK_PAT atom_pattern_room (state p.old) (state p.new)) }
     ensures script { OnOk result (Follows script.const_block_pat something (state p.old) (state p.new)) }
 {
     let m = p.start()?;
     p.bump(T![const])?;
-    block_expr(p)?;
+    block_expr(p, g)?;
     let cm = m.complete(p, SyntaxKind::CONST_BLOCK_PAT)?;
     Ok(cm)
 }

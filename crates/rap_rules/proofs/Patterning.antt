@@ -10,31 +10,39 @@ use Rattle.rap_events.specs.State.{State, next, Ate, Recovered}
 use Rattle.rap_rules.specs.Grew.{Took}
 use Rattle.rap_events.proofs.Truth.{and_right}
 use Rattle.rap_rules.specs.First.{is_pat_top_first}
-use Rattle.rap_rules.specs.Patterns.{starts_field}
-use Rattle.rap_rules.specs.Recovery.{is_pattern_recovery, stops_pattern}
+use Rattle.rap_rules.specs.Patterns.{starts_field, ends_search}
+use Rattle.rap_rules.specs.Recovery.{stops_pattern, stops_of}
 use Rattle.rap_rules.specs.Room.{atom_pattern_room}
-use Rattle.rap_rules.specs.Rules.{PatternIn}
+use Rattle.rap_rules.specs.Rules.{PatternIn, PatternUntil}
 use Rattle.rap_rules.proofs.Steps.{clash}
 
-abbrev keeps : ℕ → Bool
-keeps k = (k == L_CURLY) || ((k == R_CURLY) || is_pattern_recovery k)
+abbrev keeps : Bool → ℕ → Bool
+keeps in_arm k = (k == L_CURLY) || ((k == R_CURLY) || ends_search in_arm k)
 
-end_or_kept : (k : ℕ) → stops_pattern k ≡ true → keeps k ≡ false → k ≡ EOF
-end_or_kept k s e = grind (arith, nat_tests)
+end_or_kept : (in_arm : Bool) (k : ℕ) → stops_of in_arm k ≡ true → keeps in_arm k ≡ false → k ≡ EOF
+end_or_kept false k s e = grind (arith, nat_tests)
+end_or_kept true k s e = grind (arith, nat_tests)
 
-not_kept : (k : ℕ) → stops_pattern k ≡ false → k ≢ AMP → keeps k ≡ false
-not_kept k s e = grind (arith, nat_tests)
+not_kept : (in_arm : Bool) (k : ℕ) → stops_of in_arm k ≡ false → k ≢ AMP → keeps in_arm k ≡ false
+not_kept false k s e = grind (arith, nat_tests)
+not_kept true k s e = grind (arith, nat_tests)
 
-no_end : (k : ℕ) → stops_pattern k ≡ false → k ≢ EOF
-no_end k s e = clash (rw e refl) s
+no_end : (in_arm : Bool) (k : ℕ) → stops_of in_arm k ≡ false → k ≢ EOF
+no_end false k s e = clash (rw e refl) s
+no_end true k s e = clash (rw e refl) s
+
+-- what begins a pattern begins one in an arm too
+pub no_stop_there : (in_arm : Bool) (k : ℕ) → stops_pattern k ≡ false → stops_of in_arm k ≡ false
+no_stop_there false k s = s
+no_stop_there true k s = grind (arith, nat_tests)
 
 -- a message, and the next token along with it unless that is kept
-pub missing : {s t : State} {bytes : List ℕ} {set : TokenSet} {kept : Bool} →
-    ((k : ℕ) → member set k ≡ is_pattern_recovery k) → (next s ≡ EOF → s.rest ≡ []) → next s ≢ AMP →
-    Recovered s t bytes set kept → PatternIn 3 atom_pattern_room s t
-missing {s = s} {t = t} {kept = true} first end no_amp r =
+pub missing : {s t : State} {bytes : List ℕ} {set : TokenSet} {kept : Bool} (in_arm : Bool) →
+    ((k : ℕ) → member set k ≡ ends_search in_arm k) → (next s ≡ EOF → s.rest ≡ []) → next s ≢ AMP →
+    Recovered s t bytes set kept → PatternUntil (stops_of in_arm) 3 atom_pattern_room s t
+missing {s = s} {t = t} {kept = true} in_arm first end no_amp r =
     let d = r.reported refl in
-    let k : keeps (next s) ≡ true = rw (← (first (next s))) (sym r.decided) in
+    let k : keeps in_arm (next s) ≡ true = rw (← (first (next s))) (sym r.decided) in
     record {
       grew = record {
         input = d.input;
@@ -44,12 +52,12 @@ missing {s = s} {t = t} {kept = true} first end no_amp r =
         marker = d.marker;
         below = d.below;
       };
-      took = λ h. absurd (clash k (not_kept (next s) h no_amp));
+      took = λ h. absurd (clash k (not_kept in_arm (next s) h no_amp));
       stays = λ h. ap next_kind d.rest;
     }
-missing {s = s} {t = t} {kept = false} first end no_amp r =
+missing {s = s} {t = t} {kept = false} in_arm first end no_amp r =
     let d = r.skipped refl in
-    let k : keeps (next s) ≡ false = rw (← (first (next s))) (sym r.decided) in
+    let k : keeps in_arm (next s) ≡ false = rw (← (first (next s))) (sym r.decided) in
     record {
       grew = record {
         input = d.input;
@@ -59,7 +67,7 @@ missing {s = s} {t = t} {kept = false} first end no_amp r =
         marker = d.marker;
         below = d.below;
       };
-      took = λ h. let l = d.less (no_end (next s) h) in record {
+      took = λ h. let l = d.less (no_end in_arm (next s) h) in record {
         input = d.input;
         left = omega arith;
         count = omega arith;
@@ -68,7 +76,7 @@ missing {s = s} {t = t} {kept = false} first end no_amp r =
         below = d.below;
       };
       stays = λ h.
-          let e : s.rest ≡ [] = end (end_or_kept (next s) h k) in
+          let e : s.rest ≡ [] = end (end_or_kept in_arm (next s) h k) in
           let n : drop 1 s.rest ≡ s.rest = rw e refl in
           ap next_kind (d.rest ∙ n);
     }

@@ -7,7 +7,8 @@ use Rattle.rap_events.specs.Record.{Record}
 use Rattle.rap_events.specs.Composite.{is_at, width}
 use Rattle.rap_events.specs.Cover.{first_may_bear}
 use Rattle.rap_events.specs.Forest.{Forest, none, node, ◌⧺◌}
-use Rattle.rap_events.specs.Machine.{Stack}
+use Rattle.rap_events.specs.LastToken.{last_after, last_below, last_taken}
+use Rattle.rap_events.specs.Machine.{Stack, floor, push}
 use Rattle.rap_events.specs.State.{State, next, Opened, IsLast, Completed, Abandoned, Preceded, Extended, Bumped, Reported, Ate, AteAs, Expected, Skipped, Recovered, but_last, last_children, expected}
 use Rattle.rap_events.specs.declared.parser.CompletedMarker.{CompletedMarker}
 use Rattle.rap_rules.specs.First.{is_path_name, starts_path}
@@ -17,7 +18,7 @@ use Rattle.rap_rules.specs.Phrase.{Phrase, expression}
 use Rattle.rap_rules.specs.declared.arguments.BlockLike.{BlockLike}
 use Rattle.rap_rules.specs.declared.arguments.BlockLike.TheVariants as like
 use Rattle.rap_rules.specs.declared.arguments.Restrictions.{Restrictions}
-use Rattle.rap_rules.specs.Script.{Script, Outcome, nothing, something, again, goes_on, Spot, spot, forests, taken, last_tree, last_kind, newest, give, test, token, any, bear, report, skip, start, precede, finish, extend, abandon, after, rule, loop, Runs, gives, passes, fails, takes, takes_any, bears, reports, skips, starts, precedes, finishes, extends, abandons, follows, obeys, turns, stops}
+use Rattle.rap_rules.specs.Script.{Script, Outcome, nothing, something, again, goes_on, Spot, spot, forests, taken, last_tree, last_kind, last_under, last_taken_at, newest, give, test, ends_with, token, any, bear, report, skip, start, precede, finish, extend, abandon, after, rule, loop, Runs, gives, passes, fails, ends_so, ends_else, takes, takes_any, bears, reports, skips, starts, precedes, finishes, extends, abandons, follows, obeys, turns, stops}
 use Rattle.rap_rules.specs.Words.{done, if_some, reads_as, eat, eat_as, expect, recover, of_option, of_bool}
 
 -- from a spot by a script of the grammar
@@ -229,3 +230,18 @@ by_eat_as {b = false} e d = not_ate_as e refl d
 pub and_false : (b : Bool) → b && false ≡ false
 and_false true = refl
 and_false false = refl
+
+-- the last token taken is what a parser says of itself
+last_of_forests : (s : Stack) → last_under (forests s) ≡ last_below s
+last_of_forests floor = refl
+last_of_forests (push r m f) = ap (λ (k : ℕ). last_after k f) (last_of_forests r)
+
+taken_at : {s : State} {k l : ℕ} → l ≡ last_taken s → (last_taken_at (spot s) == k) ≡ (l == k)
+taken_at {s = s} {k = k} e = ap (λ (n : ℕ). last_after n s.forest == k) (last_of_forests s.below) ∙ ap (λ (n : ℕ). n == k) (sym e)
+
+-- the last token taken is of a kind, or not
+pub ended_so : {s : State} {k l : ℕ} {a b : Script Phrase} {q : Spot} {v : Outcome} → l ≡ last_taken s → (l == k) ≡ true → On a (spot s) q v → On (ends_with k a b) (spot s) q v
+ended_so {s = s} {k = k} e h d = ends_so (taken_at {s = s} {k = k} e ∙ h) d
+
+pub ended_else : {s : State} {k l : ℕ} {a b : Script Phrase} {q : Spot} {v : Outcome} → l ≡ last_taken s → (l == k) ≡ false → On b (spot s) q v → On (ends_with k a b) (spot s) q v
+ended_else {s = s} {k = k} e h d = ends_else (taken_at {s = s} {k = k} e ∙ h) d

@@ -1,5 +1,5 @@
 -- Where the search for a rule's beginning ends: tokens that are not taken into an `ERROR`.
-use Rattle.std.specs.Prelude.{ℕ, Bool, [], ◌∷◌, ◌||◌}
+use Rattle.std.specs.Prelude.{ℕ, Bool, true, false, [], ◌∷◌, ◌||◌}
 use Rattle.rap_base.specs.TokenKind.{EOF, L_PAREN, L_CURLY, R_CURLY, R_PAREN, R_BRACK, R_ANGLE, COMMA, SEMICOLON, EQ, AMP, POUND, IF_KW, WHILE_KW, LOOP_KW, MATCH_KW, FN_KW, STRUCT_KW, ENUM_KW, IMPL_KW, TRAIT_KW, CONST_KW, ASYNC_KW, UNSAFE_KW, EXTERN_KW, STATIC_KW, LET_KW, MOD_KW, PUB_KW, CRATE_KW, USE_KW, MACRO_KW}
 use Rattle.rap_rules.specs.First.{one_of}
 use Rattle.rap_rules.specs.declared.arguments.Mode.{Mode}
@@ -48,6 +48,11 @@ is_arm_recovery kind = one_of (EQ ∷ IF_KW ∷ []) kind
 -- where the pattern of an arm takes no token along
 abbrev pub stops_arm : ℕ → Bool
 stops_arm kind = one_of (EOF ∷ L_CURLY ∷ R_CURLY ∷ EQ ∷ IF_KW ∷ []) kind
+
+-- where a pattern that does not begin takes no token along, in an arm or elsewhere
+abbrev pub stops_of : Bool → ℕ → Bool
+stops_of false kind = stops_pattern kind
+stops_of true kind = stops_arm kind
 
 -- the search for a segment's name of a path
 abbrev pub is_segment_recovery : Mode → ℕ → Bool

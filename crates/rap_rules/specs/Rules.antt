@@ -17,7 +17,7 @@ use Rattle.rap_rules.specs.Grew.{Grew, Took, Made, Closed, Dropped}
 use Rattle.rap_rules.specs.Items.{item_or_macro}
 use Rattle.rap_rules.specs.Knot.{Follows}
 use Rattle.rap_rules.specs.Patterns.{pattern_r, pattern_single_r}
-use Rattle.rap_rules.specs.Recovery.{stops_expr, stops_pattern, stops_arm, stops_type}
+use Rattle.rap_rules.specs.Recovery.{stops_expr, stops_pattern, stops_arm, stops_of, stops_type}
 use Rattle.rap_rules.specs.Room.{expression_room, atom_room, statement_room, item_room, marked_room, element_room, list_room, type_room, pattern_room, single_pattern_room, atom_pattern_room}
 use Rattle.rap_rules.specs.Script.{something}
 use Rattle.rap_rules.specs.Statements.{stmt}
@@ -79,9 +79,9 @@ abbrev pub IsSinglePattern : State → State → Type 0
 IsSinglePattern old new = PatternIn 3 single_pattern_room old new
 
 -- a pattern that is no range: a node, or none
-abbrev pub IsAtomPattern : State → State → Option CompletedMarker → Type 0
-IsAtomPattern old new (Some cm) = Made old new cm atom_pattern_room × (stops_pattern (next old) ≡ false)
-IsAtomPattern old new None = PatternIn 3 atom_pattern_room old new
+abbrev pub IsAtomPattern : Bool → State → State → Option CompletedMarker → Type 0
+IsAtomPattern in_arm old new (Some cm) = Made old new cm atom_pattern_room × (stops_pattern (next old) ≡ false)
+IsAtomPattern in_arm old new None = PatternUntil (stops_of in_arm) 3 atom_pattern_room old new
 
 -- the pattern of an arm
 abbrev pub IsArmPattern : State → State → Type 0

@@ -5,7 +5,7 @@ use Rattle.rap_events.specs.Record.{Record, next_kind}
 use Rattle.rap_events.specs.Composite.{is_at, width}
 use Rattle.rap_events.specs.Cover.{first_may_bear}
 use Rattle.rap_events.specs.Forest.{Forest, none, node, leaf, message, split, ◌⧺◌}
-use Rattle.rap_events.specs.LastToken.{last_token}
+use Rattle.rap_events.specs.LastToken.{last_after}
 use Rattle.rap_events.specs.Machine.{Stack, floor, push}
 use Rattle.rap_events.specs.State.{State, but_last, last_children, skipped}
 
@@ -60,6 +60,15 @@ spot s = record { rest = s.rest; forest = s.forest; below = forests s.below }
 abbrev pub newest : List Forest → Forest
 newest [] = none
 newest (f ∷ fs) = f
+
+-- under which kind the last token was taken that stands under these nodes, or the end where none was
+abbrev pub last_under : List Forest → ℕ
+last_under [] = EOF
+last_under (f ∷ fs) = last_after (last_under fs) f
+
+-- the same of a spot
+abbrev pub last_taken_at : Spot → ℕ
+last_taken_at p = last_under (p.forest ∷ p.below)
 
 -- the last tree alone
 abbrev pub last_tree : Forest → Forest
@@ -116,8 +125,8 @@ pub data Runs {P : Type 0} (script_of : P → Script P) : Script P → Spot → 
   looks : {h : List Record → Script P} {p q : Spot} {v : Outcome} → Runs script_of (h p.rest) p q v → Runs script_of (look h) p q v
   passes : {h : List Record → Bool} {s t : Script P} {p q : Spot} {v : Outcome} → h p.rest ≡ true → Runs script_of s p q v → Runs script_of (test h s t) p q v
   fails : {h : List Record → Bool} {s t : Script P} {p q : Spot} {v : Outcome} → h p.rest ≡ false → Runs script_of t p q v → Runs script_of (test h s t) p q v
-  ends_so : {k : ℕ} {s t : Script P} {p q : Spot} {v : Outcome} → (last_token p.forest == k) ≡ true → Runs script_of s p q v → Runs script_of (ends_with k s t) p q v
-  ends_else : {k : ℕ} {s t : Script P} {p q : Spot} {v : Outcome} → (last_token p.forest == k) ≡ false → Runs script_of t p q v → Runs script_of (ends_with k s t) p q v
+  ends_so : {k : ℕ} {s t : Script P} {p q : Spot} {v : Outcome} → (last_taken_at p == k) ≡ true → Runs script_of s p q v → Runs script_of (ends_with k s t) p q v
+  ends_else : {k : ℕ} {s t : Script P} {p q : Spot} {v : Outcome} → (last_taken_at p == k) ≡ false → Runs script_of t p q v → Runs script_of (ends_with k s t) p q v
   takes : {k : ℕ} {s : Script P} {p q : Spot} {v : Outcome} → is_at k p.rest ≡ true → Runs script_of s (taken k (width k) p) q v → Runs script_of (token k s) p q v
   takes_any : {s : Script P} {p q : Spot} {v : Outcome} → next_kind p.rest ≢ EOF → Runs script_of s (taken (next_kind p.rest) 1 p) q v → Runs script_of (any s) p q v
   bears : {k : ℕ} {s : Script P} {p q : Spot} {v : Outcome} → first_may_bear p.rest k ≡ true → Runs script_of s (taken k 1 p) q v → Runs script_of (bear k s) p q v

@@ -12,13 +12,13 @@ ghost use Rattle.rap_rules.specs.Script.{something};
 ghost use Rattle.rap_rules.specs.Words.{of_bool};
 
 use crate::generic_args::const_arg;
-use crate::types::{for_binder, path_type};
+use crate::types::path_type;
 use rap_base::no_memory::NoMemory;
 use rap_base::syntax_kind::SyntaxKind;
 use rap_events::parser::{CompletedMarker, Marker, Parser};
 use rap_parts::attributes::outer_attrs;
 use rap_rules::T;
-use rap_rules::called::{ascription, type_};
+use rap_rules::called::{ascription, for_binder, type_};
 use rap_rules::first::{is_outer_attr_first, is_type_first, is_use_path_start};
 use rap_rules::knot::Grammar;
 use rap_rules::lists::{Element, delimited};

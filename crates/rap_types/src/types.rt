@@ -21,7 +21,7 @@ use rap_events::parser::{CompletedMarker, Parser};
 use rap_parts::params::param_list_fn_ptr;
 use rap_parts::paths::type_path;
 use rap_rules::T;
-use rap_rules::called::{expr, opt_ret_type, pattern, type_, type_no_bounds};
+use rap_rules::called::{expr, for_binder, opt_ret_type, pattern, type_, type_no_bounds};
 use rap_rules::first::{is_fn_ptr_first, is_path_start, is_use_path_start};
 use rap_rules::knot::{Grammar, Rule};
 use rap_rules::names::{abi, lifetime, starts_builtin};

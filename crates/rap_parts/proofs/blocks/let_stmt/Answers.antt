@@ -1,7 +1,6 @@
 use Rattle.std.proofs.Common.{rules}
 use Rattle.rap_rules.specs.Blocks.{let_stmt}
-use Rattle.rap_rules.specs.Script.{gives}
-use Rattle.rap_rules.proofs.Steps.{by_bump, by_rule, by_eat}
+use Rattle.rap_rules.proofs.Steps.{by_bump, by_rule, by_eat, to_end}
 use Rattle.rap_parts.proofs.blocks.let_stmt.Goals as goal
 
 pub returns-clause-script : goal.returns-clause-script
@@ -9,5 +8,9 @@ unfolding let_stmt
 returns-clause-script g c = record {
   run = by_eat c.in_ok-eat.ensures.state
       (by_bump (search rules) c.in_ok-bump.ensures.state
-      (by_rule c.in_ok-pattern.ensures.script gives));
+      (by_rule c.in_ok-pattern.ensures.script
+      (by_rule c.in_ok-let_type.ensures.script
+      (by_rule c.in_ok-value.ensures.script
+      (by_rule c.in_ok-let_else.ensures.script
+      (to_end c.in_ok-let_end.ensures.script))))));
 }
