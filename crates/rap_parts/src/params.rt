@@ -44,7 +44,7 @@ pub fn param_list_fn_ptr<G: Grammar>(p: &mut Parser<'_>, g: &G) -> Result<(), No
 }
 
 /// The parameters of a closure, as `|a, b: c|`.
-fn param_list_closure<G: Grammar>(p: &mut Parser<'_>, g: &G) -> Result<(), NoMemory>
+pub fn param_list_closure<G: Grammar>(p: &mut Parser<'_>, g: &G) -> Result<(), NoMemory>
     requires within { Within G.valid G.left g.now (state p.old) }
     requires here { next (state p.old) ≡ PIPE }
     ensures took { OnOk result (Took (state p.old) (state p.new) list_room) }

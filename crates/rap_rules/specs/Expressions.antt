@@ -16,6 +16,7 @@ use Rattle.rap_rules.specs.Paths.{opt_generic_arg_list_expr}
 use Rattle.rap_rules.specs.Phrase.{Phrase, expression}
 use Rattle.rap_rules.specs.Recovery.{is_expr_recovery}
 use Rattle.rap_rules.specs.Script.{Script, Outcome, nothing, something, block, give, look, test, token, any, bear, report, start, precede, finish, extend, abandon, after, rule, loop, again}
+unfoldable pub use Rattle.rap_rules.specs.Words.{is_block}
 use Rattle.rap_rules.specs.Words.{done, if_some, next_is, reads_as, eat, expect, recover}
 use Rattle.rap_rules.specs.declared.arguments.BlockLike.{BlockLike}
 use Rattle.rap_rules.specs.declared.arguments.BlockLike.TheVariants as like
@@ -29,12 +30,6 @@ of_like like.NotBlock = something
 abbrev pub of_expr : Option (CompletedMarker × BlockLike) → Outcome
 of_expr None = nothing
 of_expr (Some e) = of_like e.1
-
-abbrev pub is_block : Outcome → Bool
-is_block nothing = false
-is_block something = false
-is_block block = true
-is_block (again a b) = false
 
 -- the same restrictions, but for the end of a statement
 abbrev pub operand_of : Restrictions → Restrictions

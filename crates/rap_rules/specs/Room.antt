@@ -75,3 +75,7 @@ statement_room = 96
 
 abbrev pub item_room : ℕ
 item_room = 96
+
+-- an arm of a `match`
+abbrev pub arm_room : ℕ
+arm_room = 80

@@ -13,7 +13,7 @@ use Rattle.rap_rules.specs.Expressions.{expr_bp, of_expr}
 use Rattle.rap_rules.specs.First.{is_type_first, is_generic_arg_first, is_cfg_predicate_first, starts_use_path}
 use Rattle.rap_rules.specs.GenericArgs.{generic_arg}
 use Rattle.rap_rules.specs.GenericParams.{generic_param_list, bounds_without_colon, where_clause}
-use Rattle.rap_rules.specs.Grew.{Grew, Took, Made, Closed, Dropped}
+use Rattle.rap_rules.specs.Grew.{Grew, Took, Made, Closed, Closes, Dropped}
 use Rattle.rap_rules.specs.Items.{item_or_macro}
 use Rattle.rap_rules.specs.Knot.{Follows}
 use Rattle.rap_rules.specs.Patterns.{pattern_r, pattern_single_r}
@@ -44,6 +44,11 @@ Answered old new (Some m) stmt bp None = Dropped old new 8
 abbrev pub Operand : ℕ → State → State → Option (CompletedMarker × BlockLike) → Type 0
 Operand room old new (Some e) = Made old new e.0 room × (is_plain e.0.kind ≡ true)
 Operand room old new None = Took old new room × (old.messages < new.messages)
+
+-- the same from the newest marker on, with at most `k` events more than the tokens pay for, and the marker is gone
+abbrev pub OperandFrom : ℕ → State → State → Option (CompletedMarker × BlockLike) → Type 0
+OperandFrom k old new (Some e) = Closes e.0.kind k old new e.0 × (is_plain e.0.kind ≡ true)
+OperandFrom k old new None = Dropped old new k
 
 -- an expression from the newest marker on, or a message, and the marker is gone
 abbrev pub AnsweredFrom : State → State → Bool → ℕ → Option (CompletedMarker × BlockLike) → Type 0

@@ -18,6 +18,13 @@ if_some something s t = s
 if_some block s t = s
 if_some (again a b) s t = s
 
+-- whether it is a node that reads like a block
+abbrev pub is_block : Outcome → Bool
+is_block nothing = false
+is_block something = false
+is_block block = true
+is_block (again a b) = false
+
 -- whether the next token is of this kind
 abbrev pub next_is : ℕ → List Record → Bool
 next_is kind rs = next_kind rs == kind

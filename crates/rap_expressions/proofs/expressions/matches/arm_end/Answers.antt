@@ -1,0 +1,17 @@
+use Rattle.std.proofs.Common.{rules}
+use Rattle.rap_rules.specs.Control.{arm_end}
+use Rattle.rap_rules.specs.Script.{gives}
+use Rattle.rap_rules.proofs.Steps.{ate, not_ate, by_report, then_by, else_by}
+use Rattle.rap_expressions.proofs.expressions.matches.arm_end.Goals as goal
+
+pub returns-then-branch-clause-script : goal.returns-then-branch-clause-script
+unfolding arm_end
+returns-then-branch-clause-script c = record { run = ate c.in_ok-eat.ensures.state c.if-branch.true gives }
+
+pub returns-then-is_block-clause-script : goal.returns-then-is_block-clause-script
+unfolding arm_end
+returns-then-is_block-clause-script c = record { run = not_ate c.in_ok-eat.ensures.state c.if-branch.false (rw (← c.is_block.ensures, c.if-is_block.true) gives) }
+
+pub returns-clause-script : goal.returns-clause-script
+unfolding arm_end
+returns-clause-script c = ?

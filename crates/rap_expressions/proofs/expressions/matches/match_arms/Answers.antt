@@ -1,0 +1,21 @@
+use Rattle.std.proofs.Common.{rules, refl}
+use Rattle.rap_rules.specs.Control.{match_arms}
+use Rattle.rap_rules.specs.Script.{gives}
+use Rattle.rap_rules.proofs.Steps.{then_by, else_by, by_rule, by_skip, turn, last_turn}
+use Rattle.rap_expressions.proofs.expressions.matches.match_arms.Goals as goal
+
+pub arms-preserved : goal.arms-preserved
+arms-preserved g c = ?
+
+pub returns-else-not-at-clause-script : goal.returns-else-not-at-clause-script
+unfolding match_arms
+returns-else-not-at-clause-script g c = record {
+  run = last_turn c.arms.invariant.script
+      (else_by c.at.ensures c.arms-test.true (then_by c.at-in-arms.ensures c.if-not-at.false gives)) refl;
+}
+
+pub returns-after-arms-clause-script : goal.returns-after-arms-clause-script
+unfolding match_arms
+returns-after-arms-clause-script g c = record {
+  run = last_turn c.arms.invariant.script (then_by c.at.ensures c.arms-test.false gives) refl;
+}
