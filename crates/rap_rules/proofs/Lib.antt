@@ -2,6 +2,7 @@ pub mod Balance
 pub mod Binary
 pub mod Forests
 pub mod Growth
+pub mod Left
 pub mod Lookahead
 pub mod OneEnd
 pub mod Operating

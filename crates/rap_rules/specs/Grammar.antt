@@ -7,7 +7,7 @@ use Rattle.rap_events.specs.Composite.{is_at}
 use Rattle.rap_rules.specs.Called.{type_no_bounds}
 use Rattle.rap_rules.specs.First.{one_of, is_path_name, is_path_name_or_index}
 use Rattle.rap_rules.specs.Phrase.{Phrase}
-use Rattle.rap_rules.specs.Script.{Script, nothing, give, test, token, any, report, skip, start, finish, after, loop, again}
+use Rattle.rap_rules.specs.Script.{Script, nothing, give, test, token, any, bear, report, skip, start, finish, after, loop, again}
 use Rattle.rap_rules.specs.Words.{done, if_some, eat, expect, recover}
 
 -- a name in a path
@@ -76,7 +76,7 @@ name_ref_or_self = done
 
 -- a name that may be a keyword
 unfoldable pub name_any_identifier : Script Phrase
-name_any_identifier = done
+name_any_identifier = start (bear IDENT (finish NAME done))
 
 -- a name after `as`
 unfoldable pub opt_rename : Script Phrase

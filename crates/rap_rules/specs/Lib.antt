@@ -1,4 +1,5 @@
 pub mod Adt
+pub mod Asm
 pub mod Atom
 pub mod Attributes
 pub mod Balanced

@@ -11,7 +11,7 @@ is_expr_recovery kind = one_of (L_PAREN ∷ R_CURLY ∷ R_PAREN ∷ R_BRACK ∷ 
 
 -- where an expression that does not begin takes no token along
 abbrev pub stops_expr : ℕ → Bool
-stops_expr kind = one_of (EOF ∷ L_CURLY ∷ L_PAREN ∷ R_CURLY ∷ R_PAREN ∷ R_BRACK ∷ COMMA ∷ []) kind
+stops_expr kind = one_of (EOF ∷ R_CURLY ∷ R_PAREN ∷ R_BRACK ∷ COMMA ∷ []) kind
 
 -- the search for an item: what items begin with, and the semicolon after them
 abbrev pub is_item_recovery : ℕ → Bool

@@ -32,11 +32,15 @@ abbrev pub IsNewest : State → Option Marker → Type 0
 IsNewest s None = Unit {0}
 IsNewest s (Some m) = s.marker ≡ Some m.pos
 
--- an expression of its own, or one from the marker on that was handed over; or a message and no expression, and then a
--- token is taken unless it ends the search for an expression
+-- no expression: a token is taken unless the next one ends the search for an expression, and then none is
+pub record Missed (old new : State) : Type 0 where
+  pub took : stops_expr (next old) ≡ false → Took old new expression_room
+  pub stays : stops_expr (next old) ≡ true → new.left ≡ old.left
+
+-- an expression of its own, or one from the marker on that was handed over; or a message and no expression
 abbrev pub Answered : State → State → Option Marker → Bool → ℕ → Option (CompletedMarker × BlockLike) → Type 0
 Answered old new None stmt bp (Some e) = Made old new e.0 expression_room × Climbed new e.0.kind bp stmt
-Answered old new None stmt bp None = Grew old new 8 × (old.messages < new.messages) × (stops_expr (next old) ≡ false → Took old new expression_room)
+Answered old new None stmt bp None = Grew old new 8 × (old.messages < new.messages) × Missed old new
 Answered old new (Some m) stmt bp (Some e) = Closed old new e.0 expression_room × Climbed new e.0.kind bp stmt
 Answered old new (Some m) stmt bp None = Dropped old new 8
 

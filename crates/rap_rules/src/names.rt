@@ -1,6 +1,7 @@
 //! Names, and what stands as one.
-ghost use Rattle.std.specs.Prelude.{◌≡◌, ◌≢◌, ◌<◌, ◌≤◌, IsTrue, OnOk, ℕ, Bool, drop};
+ghost use Rattle.std.specs.Prelude.{◌≡◌, ◌≢◌, ◌<◌, ◌≤◌, IsTrue, true, OnOk, ℕ, Bool, drop};
 ghost use Rattle.rap_base.specs.TokenKind.{POUND, BUILTIN_KW, EOF, LIFETIME_IDENT, IDENT, EXTERN_KW};
+ghost use Rattle.rap_base.specs.Keyword.{is_any_identifier};
 ghost use Rattle.rap_base.specs.TokenSet.{member};
 ghost use Rattle.rap_events.specs.State.{state, next, NthAt, ReadsAs};
 ghost use Rattle.rap_rules.specs.First.{is_path_name, is_path_name_or_index};
@@ -124,6 +125,19 @@ pub fn name_ref_or_index(p: &mut Parser<'_>) -> Result<(), NoMemory>
     let m = p.start()?;
     p.bump_any()?;
     m.complete(p, SyntaxKind::NAME_REF)?;
+    Ok(())
+}
+
+/// A name that may be a keyword, as the `type` of `type = 1`.
+pub fn name_any_identifier(p: &mut Parser<'_>) -> Result<(), NoMemory>
+    requires here { is_any_identifier (next (state p.old)) ≡ true }
+    ensures took { OnOk result (Took (state p.old) (state p.new) name_room) }
+    ensures rest { OnOk result ((state p.new).rest ≡ drop 1 (state p.old).rest) }
+    ensures script { OnOk result (Follows script.name_any_identifier something (state p.old) (state p.new)) }
+{
+    let m = p.start()?;
+    p.bump_remap_any_ident()?;
+    m.complete(p, SyntaxKind::NAME)?;
     Ok(())
 }
 
