@@ -69,9 +69,9 @@ single_pattern_room = 120
 abbrev pub atom_pattern_room : ℕ
 atom_pattern_room = 124
 
--- a statement, and an item with the node around it
+-- an item under its marker, and a statement, which may be an item
+abbrev pub item_room : ℕ
+item_room = 100
+
 abbrev pub statement_room : ℕ
 statement_room = 96
-
-abbrev pub item_room : ℕ
-item_room = 96
