@@ -16,12 +16,12 @@ use Rattle.rap_rules.specs.Consts.{konst, static_}
 use Rattle.rap_rules.specs.First.{one_of, starts_use_path}
 use Rattle.rap_rules.specs.Functions.{fn_}
 use Rattle.rap_rules.specs.Grammar.{name, name_ref_or_self, opt_rename}
-use Rattle.rap_rules.specs.Grew.{Ended, Dropped}
+use Rattle.rap_rules.specs.Grew.{Grew, Took, Ended, Dropped}
 use Rattle.rap_rules.specs.Macros.{macro_rules, macro_def, macro_call}
 use Rattle.rap_rules.specs.Modifiers.{found, modifiers}
 use Rattle.rap_rules.specs.Paths.{use_path}
 use Rattle.rap_rules.specs.Phrase.{Phrase, any_item}
-use Rattle.rap_rules.specs.Room.{item_room}
+use Rattle.rap_rules.specs.Room.{item_room, list_room}
 use Rattle.rap_rules.specs.Script.{Script, Outcome, nothing, something, block, again, give, test, token, bear, report, skip, start, finish, abandon, after, rule, loop}
 use Rattle.rap_rules.specs.Traits.{trait_, impl_}
 use Rattle.rap_rules.specs.UseItem.{use_}
@@ -43,7 +43,22 @@ abbrev pub Refused : Bool → State → State → Option Marker → Type 0
 Refused seen old new None = (seen ≡ true) × Dropped old new 2
 Refused seen old new (Some m) = (seen ≡ false) × ((new ≡ old) × (new.marker ≡ Some m.pos))
 
--- Whether there were modifiers, and whether `extern` was one.
+-- What an item or what stands in its place leaves, under a marker that is gone then: a token is taken unless none is
+-- left, or a brace ends the list of items.
+pub record EndsItem (stop_on_r_curly : Bool) (old new : State) (k room : ℕ) : Type 0 where
+  pub input : new.input ≡ old.input
+  pub left : new.left ≤ old.left
+  pub count : new.count + 256 * new.left ≤ old.count + 256 * old.left + k
+  pub messages : old.messages ≤ new.messages
+  pub below : old.below ≡ push new.below new.marker (top old.below)
+  pub took : next old ≢ EOF → (stop_on_r_curly ≡ true → next old ≢ R_CURLY) → Ended old new room
+
+-- the same without a marker
+pub record SkipsItem (stop_on_r_curly : Bool) (old new : State) : Type 0 where
+  pub grew : Grew old new 1
+  pub took : next old ≢ EOF → (stop_on_r_curly ≡ true → next old ≢ R_CURLY) → Took old new list_room
+
+-- whether there were modifiers, and whether `extern` was one
 abbrev pub has_mods : Outcome → Bool
 has_mods nothing = false
 has_mods something = false

@@ -1,12 +1,15 @@
 -- What may stand before the keyword of an item.
-use Rattle.std.specs.Prelude.{ℕ, Bool, true, false, List, [], ◌∷◌, drop, ◌==◌, ◌&&◌, ◌||◌, not, codes}
+use Rattle.std.specs.Prelude.{◌≡◌, ℕ, Bool, true, false, List, [], ◌∷◌, drop, ◌==◌, ◌&&◌, ◌||◌, not, codes}
 use Rattle.rap_base.specs.TokenKind.{L_PAREN, R_PAREN, L_CURLY, PIPE, CRATE_KW, SUPER_KW, SELF_KW, IN_KW, IMPL_KW, CONST_KW, ASYNC_KW, GEN_KW, MOVE_KW, FN_KW, UNSAFE_KW, SAFE_KW, EXTERN_KW, AUTO_KW, TRAIT_KW, DEFAULT_KW, TYPE_KW}
 use Rattle.rap_base.specs.NodeKind.{IMPL_RESTRICTION}
 use Rattle.rap_events.specs.Record.{Record, kind_at}
 use Rattle.rap_events.specs.Composite.{is_at}
+use Rattle.rap_events.specs.State.{State}
 use Rattle.rap_rules.specs.First.{one_of}
 use Rattle.rap_rules.specs.Grammar.{abi}
+use Rattle.rap_rules.specs.Grew.{Grew, Took}
 use Rattle.rap_rules.specs.Phrase.{Phrase}
+use Rattle.rap_rules.specs.Room.{list_room}
 use Rattle.rap_rules.specs.Script.{Script, Outcome, nothing, something, block, again, give, test, token, bear, report, start, finish, after}
 use Rattle.rap_rules.specs.Visibility.{opt_visibility_inner}
 use Rattle.rap_rules.specs.Words.{done, if_some, reads_as, eat}
@@ -23,6 +26,12 @@ either_of nothing w = w
 either_of something w = something
 either_of block w = something
 either_of (again a b) w = something
+
+-- what stands before an item was read: a token at least was taken if there was something, and else nothing was done
+pub record Seen (old new : State) (some : Bool) : Type 0 where
+  pub grew : Grew old new 0
+  pub took : some ≡ true → Took old new list_room
+  pub stays : some ≡ false → new ≡ old
 
 -- who may implement a trait
 abbrev pub is_impl_restriction : List Record → Bool

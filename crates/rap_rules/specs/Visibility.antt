@@ -20,16 +20,16 @@ starts_restriction in_tuple_field rs =
 abbrev pub starts_in_restriction : List Record → Bool
 starts_in_restriction rs = is_at L_PAREN rs && is_at IN_KW (drop 1 rs)
 
--- the path of a restriction, and its bracket
-abbrev pub restricted_to : Script Phrase
-restricted_to = after vis_path (λ v. expect R_PAREN (finish VISIBILITY_INNER done))
+-- a restriction in its parentheses
+unfoldable pub restriction : Script Phrase
+restriction = start (token L_PAREN (after vis_path (λ v. expect R_PAREN (finish VISIBILITY_INNER done))))
 
--- the restriction in its parentheses
+unfoldable pub in_restriction : Script Phrase
+in_restriction = start (token L_PAREN (token IN_KW (after vis_path (λ v. expect R_PAREN (finish VISIBILITY_INNER done)))))
+
 unfoldable pub opt_visibility_inner : Bool → Script Phrase
 opt_visibility_inner in_tuple_field =
-    test (starts_restriction in_tuple_field) (start (token L_PAREN restricted_to))
-    (test starts_in_restriction (start (token L_PAREN (token IN_KW restricted_to)))
-    (give nothing))
+    test (starts_restriction in_tuple_field) restriction (test starts_in_restriction in_restriction (give nothing))
 
 -- `pub`, and what it is restricted to; in a tuple's field, parentheses may be the field's type
 unfoldable pub opt_visibility : Bool → Script Phrase

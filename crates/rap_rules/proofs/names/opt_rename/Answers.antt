@@ -26,5 +26,5 @@ returns-clause-script c = record {
       (by_bump (search rules) c.in_ok-bump.ensures.state
       (not_ate c.in_ok-eat.ensures.state c.if-branch.false
       (by_rule c.in_ok-name.ensures.script
-      (by_complete c.in_ok-complete.ensures.state.0 gives)))));
+      (by_complete c.in_ok-complete-2.ensures.state.0 gives)))));
 }
