@@ -6,7 +6,7 @@ ghost use Rattle.rap_rules.specs.Blocks.{starts_let};
 ghost use Rattle.rap_rules.specs.Expressions.{of_like, is_block};
 ghost use Rattle.rap_rules.specs.Grew.{Within, Grew, Gone, Spent};
 ghost use Rattle.rap_rules.specs.Knot.{Follows};
-ghost use Rattle.rap_rules.specs.Room.{item_room};
+ghost use Rattle.rap_rules.specs.Room.{expr_stmt_room};
 ghost use Rattle.rap_rules.specs.Rules.{IsStatement};
 ghost use Rattle.rap_rules.specs.Script.{something};
 ghost use Rattle.rap_rules.specs.Statements as script;
@@ -61,7 +61,7 @@ fn expr_as_stmt<G: Grammar>(
     requires within { Within G.valid G.left g.now (state p.old) }
     requires newest { (state p.old).marker ≡ Some m.pos }
     ensures gone { OnOk result (Gone (state p.old) (state p.new) 4) }
-    ensures spent { OnOk result (next (state p.old) ≢ EOF → Spent (state p.old) (state p.new) item_room) }
+    ensures spent { OnOk result (next (state p.old) ≢ EOF → Spent (state p.old) (state p.new) expr_stmt_room) }
     ensures script { OnOk result (Follows (script.expr_as_stmt semicolon) something (state p.old) (state p.new)) }
 {
     if !is_expr_first(p.current()) {

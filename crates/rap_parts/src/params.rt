@@ -22,7 +22,7 @@ use rap_rules::knot::Grammar;
 use rap_rules::names::lifetime;
 
 /// The parameters of a function, as `(&self, a: b)`.
-fn param_list_fn_def<G: Grammar>(p: &mut Parser<'_>, g: &G) -> Result<(), NoMemory>
+pub fn param_list_fn_def<G: Grammar>(p: &mut Parser<'_>, g: &G) -> Result<(), NoMemory>
     requires within { Within G.valid G.left g.now (state p.old) }
     requires here { next (state p.old) ≡ L_PAREN }
     ensures took { OnOk result (Took (state p.old) (state p.new) list_room) }

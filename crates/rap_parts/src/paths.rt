@@ -10,7 +10,7 @@ ghost use Rattle.rap_rules.specs.First.{starts_path, is_path_name};
 ghost use Rattle.rap_rules.specs.Grew.{Within, Grew, Took, Behind, Spent, Closes, Dropped, Ended, Makes};
 ghost use Rattle.rap_rules.specs.Knot.{Follows};
 ghost use Rattle.rap_rules.specs.Paths as paths_script;
-ghost use Rattle.rap_rules.specs.Recovery.{is_segment_recovery, is_item_recovery};
+ghost use Rattle.rap_rules.specs.Recovery.{is_segment_recovery};
 ghost use Rattle.rap_rules.specs.Room.{path_room, segment_room, name_room, name_end_room, element_room, atom_room};
 ghost use Rattle.rap_rules.specs.Script.{something};
 ghost use Rattle.rap_rules.specs.Words.{of_option};
@@ -27,7 +27,28 @@ use rap_rules::first::{is_type_first, is_use_path_start};
 use rap_rules::knot::{Grammar, Rule};
 use rap_rules::lists::{Element, delimited};
 use rap_rules::names::{is_path_name, name_ref_mod_path};
-use rap_rules::recovery::{expr_recovery_set, type_recovery_set};
+use rap_rules::recovery::{expr_recovery_set, item_recovery_set, type_recovery_set};
+
+/// A path in an import, as `a::b`, and where an item may be a macro call.
+pub fn use_path<G: Grammar>(p: &mut Parser<'_>, g: &G) -> Result<(), NoMemory>
+    requires within { Within G.valid G.left g.now (state p.old) }
+    ensures grew { OnOk result (Grew (state p.old) (state p.new) 8) }
+    ensures took { OnOk result (starts_path (state p.old).rest ≡ true → Took (state p.old) (state p.new) path_room) }
+    ensures script { OnOk result (Follows paths_script.use_path something (state p.old) (state p.new)) }
+{
+    path(p, g, Mode::Use)?;
+    Ok(())
+}
+
+/// A path in a restriction, as the `a::b` of `pub(in a::b)`.
+pub fn vis_path<G: Grammar>(p: &mut Parser<'_>, g: &G) -> Result<(), NoMemory>
+    requires within { Within G.valid G.left g.now (state p.old) }
+    ensures grew { OnOk result (Grew (state p.old) (state p.new) 8) }
+    ensures script { OnOk result (Follows paths_script.vis_path something (state p.old) (state p.new)) }
+{
+    path(p, g, Mode::Vis)?;
+    Ok(())
+}
 
 /// A path in an attribute, as the `a::b` of `#[a::b]`.
 pub(crate) fn attr_path<G: Grammar>(p: &mut Parser<'_>, g: &G) -> Result<(), NoMemory>
@@ -265,31 +286,6 @@ fn segment_recovery_set(mode: Mode) -> TokenSet
         Mode::Expr => expr_recovery_set().union(item_recovery_set()),
         Mode::Vis => item_recovery_set().union(TokenSet::new(&[T![')']])),
     }
-}
-
-/// What items begin with, and the semicolon after them.
-fn item_recovery_set() -> TokenSet
-    ensures { (kind : ℕ) → member result kind ≡ is_item_recovery kind }
-{
-    TokenSet::new(&[
-        T![fn],
-        T![struct],
-        T![enum],
-        T![impl],
-        T![trait],
-        T![const],
-        T![async],
-        T![unsafe],
-        T![extern],
-        T![static],
-        T![let],
-        T![mod],
-        T![pub],
-        T![crate],
-        T![use],
-        T![macro],
-        T![;],
-    ])
 }
 
 /// The arguments behind a name, as they may be where the path stands.

@@ -1,7 +1,7 @@
 -- The rules that the others share.
 use Rattle.std.specs.Prelude.{ℕ, Bool, false, ◌||◌, List, [], ◌∷◌, codes}
-use Rattle.rap_base.specs.TokenKind.{EOF, ERROR, IDENT, L_CURLY, R_CURLY, LIFETIME_IDENT, SELF_TYPE_KW, EXTERN_KW, STRING, THIN_ARROW}
-use Rattle.rap_base.specs.NodeKind.{NAME, NAME_REF, LIFETIME, ABI, RET_TYPE}
+use Rattle.rap_base.specs.TokenKind.{EOF, ERROR, IDENT, L_CURLY, R_CURLY, LIFETIME_IDENT, SELF_KW, SELF_TYPE_KW, EXTERN_KW, AS_KW, UNDERSCORE, STRING, THIN_ARROW}
+use Rattle.rap_base.specs.NodeKind.{NAME, NAME_REF, LIFETIME, ABI, RET_TYPE, RENAME}
 use Rattle.rap_events.specs.Record.{next_kind}
 use Rattle.rap_events.specs.Composite.{is_at}
 use Rattle.rap_rules.specs.Called.{type_no_bounds}
@@ -69,10 +69,15 @@ opt_ret_type = test (is_at THIN_ARROW) (start (token THIN_ARROW (after type_no_b
 
 -- the same without the arrow, which is reported
 unfoldable pub opt_no_arrow_ret_type : Script Phrase
-opt_no_arrow_ret_type = done
+opt_no_arrow_ret_type =
+    test (λ rs. is_path_name (next_kind rs))
+    (start (report (codes "missing thin-arrow `->`") (after type_no_bounds (λ v. finish RET_TYPE done))))
+    (give nothing)
 
 unfoldable pub name_ref_or_self : Script Phrase
-name_ref_or_self = done
+name_ref_or_self =
+    test (λ rs. one_of (IDENT ∷ SELF_KW ∷ []) (next_kind rs)) (start (any (finish NAME_REF done)))
+    (skip (codes "expected identifier or `self`") done)
 
 -- a name that may be a keyword
 unfoldable pub name_any_identifier : Script Phrase
@@ -80,4 +85,8 @@ name_any_identifier = start (bear IDENT (finish NAME done))
 
 -- a name after `as`
 unfoldable pub opt_rename : Script Phrase
-opt_rename = done
+opt_rename =
+    test (is_at AS_KW)
+    (start (token AS_KW (test (is_at UNDERSCORE) (token UNDERSCORE (finish RENAME done))
+    (after name (λ v. finish RENAME done)))))
+    done

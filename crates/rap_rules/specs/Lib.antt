@@ -12,12 +12,15 @@ pub mod Consts
 pub mod Control
 pub mod Expressions
 pub mod First
+pub mod Functions
 pub mod GenericArgs
 pub mod GenericParams
 pub mod Grammar
 pub mod Grew
 pub mod Items
 pub mod Knot
+pub mod Macros
+pub mod Modifiers
 pub mod Operator
 pub mod Params
 pub mod Paths

@@ -118,7 +118,10 @@ path_for_qualifier m = loop (segment_turn m) false false
 unfoldable pub path : Mode → Script Phrase
 path m = start (after (path_segment m true) (λ v. if_some v (finish PATH (path_for_qualifier m)) (abandon (give nothing))))
 
--- a path in an attribute, in a type and in an expression
+-- a path in an import, in an attribute, in a type, in an expression and in a restriction
+unfoldable pub use_path : Script Phrase
+use_path = after (path mode.Use) (λ v. done)
+
 unfoldable pub attr_path : Script Phrase
 attr_path = after (path mode.Attr) (λ v. done)
 
@@ -127,6 +130,9 @@ type_path = after (path mode.Type) (λ v. done)
 
 unfoldable pub expr_path : Script Phrase
 expr_path = after (path mode.Expr) (λ v. done)
+
+unfoldable pub vis_path : Script Phrase
+vis_path = after (path mode.Vis) (λ v. done)
 
 unfoldable pub type_path_for_qualifier : Script Phrase
 type_path_for_qualifier = path_for_qualifier mode.Type

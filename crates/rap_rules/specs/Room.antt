@@ -69,12 +69,16 @@ single_pattern_room = 120
 abbrev pub atom_pattern_room : ℕ
 atom_pattern_room = 124
 
--- a statement, and an item with the node around it
+-- an item under its marker, and a statement, which may be an item
+abbrev pub item_room : ℕ
+item_room = 100
+
 abbrev pub statement_room : ℕ
 statement_room = 96
 
-abbrev pub item_room : ℕ
-item_room = 96
+-- an expression as a statement, under its marker
+abbrev pub expr_stmt_room : ℕ
+expr_stmt_room = 97
 
 -- an arm of a `match`
 abbrev pub arm_room : ℕ

@@ -18,7 +18,7 @@ use Rattle.rap_rules.specs.Items.{item_or_macro}
 use Rattle.rap_rules.specs.Knot.{Follows}
 use Rattle.rap_rules.specs.Patterns.{pattern_r, pattern_single_r}
 use Rattle.rap_rules.specs.Recovery.{stops_expr, stops_pattern, stops_arm, stops_of, stops_type}
-use Rattle.rap_rules.specs.Room.{expression_room, atom_room, statement_room, item_room, marked_room, element_room, list_room, type_room, pattern_room, single_pattern_room, atom_pattern_room}
+use Rattle.rap_rules.specs.Room.{expression_room, atom_room, statement_room, marked_room, element_room, list_room, type_room, pattern_room, single_pattern_room, atom_pattern_room}
 use Rattle.rap_rules.specs.Script.{something}
 use Rattle.rap_rules.specs.Statements.{stmt}
 use Rattle.rap_rules.specs.Types.{type_with_bounds_cond, path_type_bounds}
@@ -104,7 +104,7 @@ pub record IsStatement (old new : State) : Type 0 where
 -- an item: a token is taken unless none is left, or a brace ends the list of items
 pub record IsItem (stop_on_r_curly : Bool) (old new : State) : Type 0 where
   pub grew : Grew old new 8
-  pub took : next old ≢ EOF → (stop_on_r_curly ≡ true → next old ≢ R_CURLY) → Took old new item_room
+  pub took : next old ≢ EOF → (stop_on_r_curly ≡ true → next old ≢ R_CURLY) → Took old new statement_room
 
 -- what each rule asks
 abbrev pub Pre : Rule → State → Type 0

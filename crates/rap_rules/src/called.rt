@@ -17,6 +17,7 @@ ghost use Rattle.rap_rules.specs.Words.{of_bool, of_option};
 use crate::T;
 use crate::arguments::Restrictions;
 use crate::knot::{Answer, Grammar, Rule};
+use crate::names::is_path_name;
 use rap_base::no_memory::NoMemory;
 use rap_base::syntax_kind::SyntaxKind;
 use rap_events::parser::{CompletedMarker, Parser};
@@ -32,6 +33,22 @@ pub fn opt_ret_type<G: Grammar>(p: &mut Parser<'_>, g: &G) -> Result<bool, NoMem
     }
     let m = p.start()?;
     p.bump(T![->])?;
+    type_no_bounds(p, g)?;
+    m.complete(p, SyntaxKind::RET_TYPE)?;
+    Ok(true)
+}
+
+/// The same without the arrow, which is reported: a type where a name of a path comes next.
+pub fn opt_no_arrow_ret_type<G: Grammar>(p: &mut Parser<'_>, g: &G) -> Result<bool, NoMemory>
+    requires behind { Behind G.valid G.left g.now (state p.old) }
+    ensures grew { OnOk result (Grew (state p.old) (state p.new) 0) }
+    ensures script { IfOk result (λ found. Follows grammar_script.opt_no_arrow_ret_type (of_bool found) (state p.old) (state p.new)) }
+{
+    if !is_path_name(p.current()) {
+        return Ok(false);
+    }
+    let m = p.start()?;
+    p.error("missing thin-arrow `->`")?;
     type_no_bounds(p, g)?;
     m.complete(p, SyntaxKind::RET_TYPE)?;
     Ok(true)

@@ -157,6 +157,41 @@ pub fn name_ref_or_upper_self(p: &mut Parser<'_>) -> Result<(), NoMemory>
     Ok(())
 }
 
+/// A name or `self`.
+pub fn name_ref_or_self(p: &mut Parser<'_>) -> Result<(), NoMemory>
+    ensures grew { OnOk result (Grew (state p.old) (state p.new) 3) }
+    ensures took { OnOk result (next (state p.old) ≢ EOF → Took (state p.old) (state p.new) name_room) }
+    ensures script { OnOk result (Follows script.name_ref_or_self something (state p.old) (state p.new)) }
+{
+    if matches!(p.current(), T![ident] | T![self]) {
+        let m = p.start()?;
+        p.bump_any()?;
+        m.complete(p, SyntaxKind::NAME_REF)?;
+    } else {
+        p.err_and_bump("expected identifier or `self`")?;
+    }
+    Ok(())
+}
+
+/// Another name for what is imported, as `as a`, if there is one.
+pub fn opt_rename(p: &mut Parser<'_>) -> Result<(), NoMemory>
+    ensures grew { OnOk result (Grew (state p.old) (state p.new) 0) }
+    ensures script { OnOk result (Follows script.opt_rename something (state p.old) (state p.new)) }
+{
+    if !p.at(T![as]) {
+        return Ok(());
+    }
+    let m = p.start()?;
+    p.bump(T![as])?;
+    if p.eat(T![_])? {
+        m.complete(p, SyntaxKind::RENAME)?;
+        return Ok(());
+    }
+    name(p)?;
+    m.complete(p, SyntaxKind::RENAME)?;
+    Ok(())
+}
+
 /// An ABI, as `extern "C"`.
 pub fn abi(p: &mut Parser<'_>) -> Result<(), NoMemory>
     requires here { next (state p.old) ≡ EXTERN_KW }
