@@ -29,6 +29,17 @@ use rap_rules::lists::{Element, delimited};
 use rap_rules::names::{is_path_name, name_ref_mod_path};
 use rap_rules::recovery::{expr_recovery_set, type_recovery_set};
 
+/// A path in an import, as the `a::b` of `use a::b`.
+pub fn use_path<G: Grammar>(p: &mut Parser<'_>, g: &G) -> Result<(), NoMemory>
+    requires within { Within G.valid G.left g.now (state p.old) }
+    ensures grew { OnOk result (Grew (state p.old) (state p.new) 8) }
+    ensures took { OnOk result (starts_path (state p.old).rest ≡ true → Took (state p.old) (state p.new) path_room) }
+    ensures script { OnOk result (Follows paths_script.use_path something (state p.old) (state p.new)) }
+{
+    path(p, g, Mode::Use)?;
+    Ok(())
+}
+
 /// A path in an attribute, as the `a::b` of `#[a::b]`.
 pub(crate) fn attr_path<G: Grammar>(p: &mut Parser<'_>, g: &G) -> Result<(), NoMemory>
     requires within { Within G.valid G.left g.now (state p.old) }
@@ -268,7 +279,7 @@ fn segment_recovery_set(mode: Mode) -> TokenSet
 }
 
 /// What items begin with, and the semicolon after them.
-fn item_recovery_set() -> TokenSet
+pub fn item_recovery_set() -> TokenSet
     ensures { (kind : ℕ) → member result kind ≡ is_item_recovery kind }
 {
     TokenSet::new(&[
