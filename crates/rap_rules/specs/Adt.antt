@@ -11,7 +11,7 @@ use Rattle.rap_rules.specs.First.{is_type_first, is_outer_attr_first}
 use Rattle.rap_rules.specs.Grammar.{name, name_r, delimited}
 use Rattle.rap_rules.specs.Phrase.{Phrase}
 use Rattle.rap_rules.specs.Recovery.{is_item_recovery}
-use Rattle.rap_rules.specs.Script.{Script, nothing, give, test, token, bear, report, skip, start, finish, abandon, after, loop, again}
+use Rattle.rap_rules.specs.Script.{Script, Outcome, nothing, give, test, token, bear, report, skip, start, finish, abandon, after, loop, again}
 use Rattle.rap_rules.specs.Visibility.{opt_visibility, opt_visibility_inner}
 use Rattle.rap_rules.specs.Words.{done, if_some, expect}
 
@@ -84,18 +84,16 @@ abbrev pub is_tuple_field_first : ℕ → Bool
 is_tuple_field_first kind = (is_type_first kind || is_outer_attr_first kind) || (kind == PUB_KW)
 
 -- a field without a name, from its type on; its node is open, and is kept where no type begins but `pub` was taken
-unfoldable pub typed_field : Bool → Script Phrase
+unfoldable pub typed_field : Outcome → Script Phrase
 typed_field has_vis =
     test (λ rs. is_type_first (next_kind rs)) (after type_ (λ v. finish TUPLE_FIELD done))
-    (report (codes "expected a type") (if has_vis then finish ERROR (give nothing) else abandon (give nothing)))
+    (report (codes "expected a type") (if_some has_vis (finish ERROR (give nothing)) (abandon (give nothing))))
 
-unfoldable pub restricted_tuple_field : Bool → Script Phrase
+unfoldable pub restricted_tuple_field : Outcome → Script Phrase
 restricted_tuple_field has_vis = after opt_mut_restriction (λ v. typed_field has_vis)
 
 unfoldable pub tuple_field : Script Phrase
-tuple_field =
-    start (after outer_attrs (λ v. after (opt_visibility true) (λ w.
-    if_some w (restricted_tuple_field true) (restricted_tuple_field false))))
+tuple_field = start (after outer_attrs (λ v. after (opt_visibility true) (λ has_vis. restricted_tuple_field has_vis)))
 
 unfoldable pub tuple_field_list : Script Phrase
 tuple_field_list =

@@ -118,11 +118,10 @@ path_for_qualifier m = loop (segment_turn m) false false
 unfoldable pub path : Mode → Script Phrase
 path m = start (after (path_segment m true) (λ v. if_some v (finish PATH (path_for_qualifier m)) (abandon (give nothing))))
 
--- a path in an import
+-- a path in an import, in an attribute, in a type and in an expression
 unfoldable pub use_path : Script Phrase
 use_path = after (path mode.Use) (λ v. done)
 
--- a path in an attribute, in a type and in an expression
 unfoldable pub attr_path : Script Phrase
 attr_path = after (path mode.Attr) (λ v. done)
 
