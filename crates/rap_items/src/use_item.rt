@@ -1,19 +1,26 @@
 //! Imports.
-ghost use Rattle.std.specs.Prelude.{◌≡◌, ◌≢◌, ◌<◌, ◌≤◌, IfOk, OnOk, Some, None, true, ◌⊎◌};
-ghost use Rattle.rap_base.specs.TokenKind.{USE_KW};
-ghost use Rattle.rap_events.specs.State.{state, next, ReadsAs, NthAt};
-ghost use Rattle.rap_rules.specs.UseItem as script;
+ghost use Rattle.std.specs.Prelude.{◌≡◌, ◌≢◌, ◌<◌, ◌≤◌, OnOk, Some, true, ℕ};
+ghost use Rattle.rap_base.specs.TokenKind.{USE_KW, L_CURLY, COLON2};
+ghost use Rattle.rap_base.specs.TokenSet.{member};
+ghost use Rattle.rap_events.specs.Composite.{is_at};
+ghost use Rattle.rap_events.specs.State.{state, next};
 ghost use Rattle.rap_rules.specs.Grew.{Within, Behind, Took, Grew, Ended};
 ghost use Rattle.rap_rules.specs.Knot.{Follows};
-ghost use Rattle.rap_rules.specs.Room.{item_room, list_room};
+ghost use Rattle.rap_rules.specs.Room.{item_room, list_room, brackets_room, path_room, name_room};
 ghost use Rattle.rap_rules.specs.Script.{something};
-ghost use Rattle.rap_rules.specs.UseItem.{starts_use_tree};
+ghost use Rattle.rap_rules.specs.UseItem as script;
+ghost use Rattle.rap_rules.specs.UseItem.{is_group_first, starts_global_group, starts_use_tree};
 
 use rap_base::no_memory::NoMemory;
 use rap_base::syntax_kind::SyntaxKind;
+use rap_base::token_set::TokenSet;
 use rap_events::parser::{Marker, Parser};
+use rap_parts::paths::{item_recovery_set, use_path};
 use rap_rules::T;
-use rap_rules::knot::Grammar;
+use rap_rules::first::is_use_path_start;
+use rap_rules::knot::{Grammar, Rule};
+use rap_rules::lists::{Element, delimited};
+use rap_rules::names::opt_rename;
 
 /// An import from its keyword on, as `use a::b;`.
 pub fn use_<G: Grammar>(p: &mut Parser<'_>, g: &G, m: Marker) -> Result<(), NoMemory>
@@ -23,10 +30,51 @@ pub fn use_<G: Grammar>(p: &mut Parser<'_>, g: &G, m: Marker) -> Result<(), NoMe
     ensures ended { OnOk result (Ended (state p.old) (state p.new) item_room) }
     ensures script { OnOk result (Follows script.use_ something (state p.old) (state p.new)) }
 {
-    let _ = g;
-    p.bump_any()?;
+    p.bump(T![use])?;
+    expect_use_tree(p, g)?;
+    p.expect(T![;])?;
     m.complete(p, SyntaxKind::USE)?;
     Ok(())
+}
+
+/// The tree of an import. Where none begins, that is reported, and the next token is taken along unless an item may
+/// begin there.
+fn expect_use_tree<G: Grammar>(p: &mut Parser<'_>, g: &G) -> Result<(), NoMemory>
+    requires within { Within G.valid G.left g.now (state p.old) }
+    ensures grew { OnOk result (Grew (state p.old) (state p.new) 3) }
+    ensures script { OnOk result (Follows script.expect_use_tree something (state p.old) (state p.new)) }
+{
+    if is_use_tree_start(p) {
+        use_tree(p, g)?;
+        return Ok(());
+    }
+    p.err_recover(
+        "expected one of `*`, `::`, `{`, `self`, `super` or an identifier",
+        item_recovery_set(),
+    )?;
+    Ok(())
+}
+
+/// Whether a tree of names comes next.
+fn is_use_tree_start(p: &Parser<'_>) -> bool
+    ensures { result ≡ starts_use_tree (state p.now).rest }
+{
+    is_group_first(p.current()) || is_use_path_start(p)
+}
+
+/// Whether a star, or a list in its braces, begins with a token of this kind.
+fn is_group_first(kind: SyntaxKind) -> bool
+    ensures { result ≡ is_group_first kind }
+{
+    matches!(kind, T![*] | T!['{'])
+}
+
+/// Whether a star, or a list in its braces, comes next behind `::`.
+fn is_global_group_start(p: &Parser<'_>) -> bool
+    ensures starts { result ≡ starts_global_group (state p.now).rest }
+    ensures here { result ≡ true → is_at COLON2 (state p.now).rest ≡ true }
+{
+    p.at(T![::]) && is_group_first(p.nth(2))
 }
 
 /// A tree of names, as `a::{b, c as d}`, of which one begins.
@@ -36,7 +84,119 @@ pub fn use_tree<G: Grammar>(p: &mut Parser<'_>, g: &G) -> Result<(), NoMemory>
     ensures took { OnOk result (Took (state p.old) (state p.new) list_room) }
     ensures script { OnOk result (Follows script.use_tree something (state p.old) (state p.new)) }
 {
-    let _ = g;
-    p.bump_any()?;
+    let m = p.start()?;
+    if is_group_first(p.current()) {
+        group(p, g)?;
+        m.complete(p, SyntaxKind::USE_TREE)?;
+        return Ok(());
+    }
+    if is_global_group_start(p) {
+        p.bump(T![::])?;
+        group(p, g)?;
+        m.complete(p, SyntaxKind::USE_TREE)?;
+        return Ok(());
+    }
+    use_path(p, g)?;
+    after_use_path(p, g)?;
+    m.complete(p, SyntaxKind::USE_TREE)?;
     Ok(())
+}
+
+/// A star, or a list in its braces.
+fn group<G: Grammar>(p: &mut Parser<'_>, g: &G) -> Result<(), NoMemory>
+    requires within { Within G.valid G.left g.now (state p.old) }
+    requires first { is_group_first (next (state p.old)) ≡ true }
+    ensures took { OnOk result (Took (state p.old) (state p.new) list_room) }
+    ensures script { OnOk result (Follows script.group something (state p.old) (state p.new)) }
+{
+    if p.eat(T![*])? {
+        return Ok(());
+    }
+    use_tree_list(p, g)?;
+    Ok(())
+}
+
+/// What stands behind a path: a name for it, as `as a`, or names in it, as `::{a, b}`.
+fn after_use_path<G: Grammar>(p: &mut Parser<'_>, g: &G) -> Result<(), NoMemory>
+    requires within { Within G.valid G.left g.now (state p.old) }
+    ensures grew { OnOk result (Grew (state p.old) (state p.new) 0) }
+    ensures script { OnOk result (Follows script.after_use_path something (state p.old) (state p.new)) }
+{
+    if p.at(T![as]) {
+        opt_rename(p)?;
+        return Ok(());
+    }
+    if p.at(T![::]) {
+        group_behind(p, g)?;
+    }
+    Ok(())
+}
+
+/// A star, or a list in its braces, behind a path and `::`.
+fn group_behind<G: Grammar>(p: &mut Parser<'_>, g: &G) -> Result<(), NoMemory>
+    requires within { Within G.valid G.left g.now (state p.old) }
+    requires here { is_at COLON2 (state p.old).rest ≡ true }
+    ensures grew { OnOk result (Grew (state p.old) (state p.new) 0) }
+    ensures script { OnOk result (Follows script.group_behind something (state p.old) (state p.new)) }
+{
+    p.bump(T![::])?;
+    if is_group_first(p.current()) {
+        group(p, g)?;
+        return Ok(());
+    }
+    p.error("expected `{` or `*`")?;
+    Ok(())
+}
+
+/// Trees in their braces, as `{a, b::c}`.
+pub fn use_tree_list<G: Grammar>(p: &mut Parser<'_>, g: &G) -> Result<(), NoMemory>
+    requires within { Within G.valid G.left g.now (state p.old) }
+    requires here { next (state p.old) ≡ L_CURLY }
+    ensures took { OnOk result (Took (state p.old) (state p.new) list_room) }
+    ensures script { OnOk result (Follows script.use_tree_list something (state p.old) (state p.new)) }
+{
+    let m = p.start()?;
+    delimited(
+        p,
+        g,
+        T!['{'],
+        T!['}'],
+        T![,],
+        "expected use tree",
+        &NestedUseTree,
+    )?;
+    m.complete(p, SyntaxKind::USE_TREE_LIST)?;
+    Ok(())
+}
+
+/// A tree of names in the braces of another one. Where none begins, a token is taken along, so that the braces stay
+/// balanced.
+struct NestedUseTree;
+
+impl Element for NestedUseTree {
+    ghost use Rattle.rap_rules.specs.UseItem as set;
+
+    ghost element = { λ _. script.nested_use_tree };
+
+    ghost first = { λ _. set.is_use_tree_list_first };
+
+    fn parse<G: Grammar>(&self, p: &mut Parser<'_>, g: &G) -> Result<bool, NoMemory> {
+        if is_use_tree_start(p) {
+            g.run(p, Rule::UseTree)?;
+            return Ok(true);
+        }
+        p.err_and_bump("expected one of `*`, `::`, `{`, `self`, `super` or an identifier")?;
+        Ok(p.at_ts(use_tree_list_recovery_set()))
+    }
+
+    fn is_first(&self, kind: SyntaxKind) -> bool {
+        matches!(kind, T!['{'] | T![ident])
+    }
+}
+
+/// Where the list of trees goes on although a tree is missing.
+fn use_tree_list_recovery_set() -> TokenSet
+    ensures { (kind : ℕ) → member result kind ≡ script.is_use_tree_list_recovery kind }
+{
+    TokenSet::new(&[T![;], T![,], T![.], T![ident]]).union(item_recovery_set())
 }
