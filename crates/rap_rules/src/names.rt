@@ -204,12 +204,3 @@ pub fn abi(p: &mut Parser<'_>) -> Result<(), NoMemory>
     m.complete(p, SyntaxKind::ABI)?;
     Ok(())
 }
-
-/// A name after `as`, as in `a as b`, if there is one.
-pub fn opt_rename(p: &mut Parser<'_>) -> Result<(), NoMemory>
-    ensures grew { OnOk result (Grew (state p.old) (state p.new) 0) }
-    ensures script { OnOk result (Follows script.opt_rename something (state p.old) (state p.new)) }
-{
-    let _ = p;
-    Ok(())
-}
