@@ -121,9 +121,10 @@ fn let_type<G: Grammar>(p: &mut Parser<'_>, g: &G) -> Result<(), NoMemory>
     ensures grew { OnOk result (Grew (state p.old) (state p.new) 0) }
     ensures script { OnOk result (Follows script.let_type something (state p.old) (state p.new)) }
 {
-    if p.at(T![:]) {
-        ascription(p, g)?;
+    if !p.at(T![:]) {
+        return Ok(());
     }
+    ascription(p, g)?;
     Ok(())
 }
 

@@ -236,12 +236,12 @@ last_of_forests : (s : Stack) → last_under (forests s) ≡ last_below s
 last_of_forests floor = refl
 last_of_forests (push r m f) = ap (λ (k : ℕ). last_after k f) (last_of_forests r)
 
-taken_at : {s : State} {k l : ℕ} → l ≡ last_taken s → (last_taken_at (spot s) == k) ≡ (l == k)
-taken_at {s = s} {k = k} e = ap (λ (n : ℕ). last_after n s.forest == k) (last_of_forests s.below) ∙ ap (λ (n : ℕ). n == k) (sym e)
+taken_at : (s : State) (k : ℕ) {l : ℕ} → l ≡ last_taken s → (last_taken_at (spot s) == k) ≡ (l == k)
+taken_at s k e = ap (λ (n : ℕ). last_after n s.forest == k) (last_of_forests s.below) ∙ ap (λ (n : ℕ). n == k) (sym e)
 
 -- the last token taken is of a kind, or not
-pub ended_so : {s : State} {k l : ℕ} {a b : Script Phrase} {q : Spot} {v : Outcome} → l ≡ last_taken s → (l == k) ≡ true → On a (spot s) q v → On (ends_with k a b) (spot s) q v
-ended_so {s = s} {k = k} e h d = ends_so (taken_at {s = s} {k = k} e ∙ h) d
+pub ended_so : (s : State) {k l : ℕ} {a b : Script Phrase} {q : Spot} {v : Outcome} → l ≡ last_taken s → (l == k) ≡ true → On a (spot s) q v → On (ends_with k a b) (spot s) q v
+ended_so s {k = k} e h d = ends_so (taken_at s k e ∙ h) d
 
-pub ended_else : {s : State} {k l : ℕ} {a b : Script Phrase} {q : Spot} {v : Outcome} → l ≡ last_taken s → (l == k) ≡ false → On b (spot s) q v → On (ends_with k a b) (spot s) q v
-ended_else {s = s} {k = k} e h d = ends_else (taken_at {s = s} {k = k} e ∙ h) d
+pub ended_else : (s : State) {k l : ℕ} {a b : Script Phrase} {q : Spot} {v : Outcome} → l ≡ last_taken s → (l == k) ≡ false → On b (spot s) q v → On (ends_with k a b) (spot s) q v
+ended_else s {k = k} e h d = ends_else (taken_at s k e ∙ h) d

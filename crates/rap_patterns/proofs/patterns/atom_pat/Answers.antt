@@ -4,6 +4,9 @@ use Rattle.rap_rules.specs.Script.{passes, fails}
 use Rattle.rap_rules.proofs.Steps.{to_end, then_by, else_by}
 use Rattle.rap_patterns.proofs.patterns.atom_pat.Goals as goal
 
+pub returns-then-starts_builtin-clause-atom : goal.returns-then-starts_builtin-clause-atom
+returns-then-starts_builtin-clause-atom g c = c.in_ok-cm.ensures.atom c.args.in_arm
+
 pub returns-then-starts_builtin-clause-script : goal.returns-then-starts_builtin-clause-script
 unfolding atom_pat
 returns-then-starts_builtin-clause-script g c = record {

@@ -1,22 +1,22 @@
 use Rattle.std.proofs.Common.{rules}
-use Rattle.rap_events.specs.State.{state}
+use Rattle.rap_events.specs.State.{state, next}
 use Rattle.rap_rules.specs.Patterns.{builtin_pat}
-use Rattle.rap_rules.proofs.Patterning.{builtin_no_stop}
+use Rattle.rap_rules.proofs.Patterning.{builtin_no_stop, no_stop_there}
 use Rattle.rap_rules.specs.Script.{gives}
 use Rattle.rap_rules.proofs.Steps.{by_bump, by_bear, by_report, by_start, by_complete, by_rule, by_expect, by_eat, clash, ate_as, not_ate_as}
 use Rattle.rap_patterns.proofs.patterns.builtin_pat.Goals as goal
 
 pub returns-then-branch-clause-atom : goal.returns-then-branch-clause-atom
-returns-then-branch-clause-atom g c = (search rules, builtin_no_stop (state c.args.p.now).rest c.requires.here)
+returns-then-branch-clause-atom g c = λ in_arm. (search rules, builtin_no_stop (state c.args.p.now).rest c.requires.here)
 
 pub returns-then-branch-2-clause-atom : goal.returns-then-branch-2-clause-atom
-returns-then-branch-2-clause-atom g c = (search rules, builtin_no_stop (state c.args.p.now).rest c.requires.here)
+returns-then-branch-2-clause-atom g c = λ in_arm. (search rules, builtin_no_stop (state c.args.p.now).rest c.requires.here)
 
 pub returns-clause-atom : goal.returns-clause-atom
-returns-clause-atom g c = record {
+returns-clause-atom g c = λ in_arm. record {
   grew = search rules;
   took = λ n. search rules;
-  stays = λ s. absurd (clash s (builtin_no_stop (state c.args.p.now).rest c.requires.here));
+  stays = λ s. absurd (clash s (no_stop_there in_arm (next (state c.args.p.now)) (builtin_no_stop (state c.args.p.now).rest c.requires.here)));
 }
 
 pub returns-then-branch-clause-script : goal.returns-then-branch-clause-script

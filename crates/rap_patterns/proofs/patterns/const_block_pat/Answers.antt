@@ -6,7 +6,7 @@ use Rattle.rap_patterns.proofs.patterns.const_block_pat.Goals as goal
 
 pub returns-clause-script : goal.returns-clause-script
 unfolding const_block_pat
-returns-clause-script c = record {
+returns-clause-script g c = record {
   run = by_start c.in_ok-m.ensures.state
       (by_bump (search rules) c.in_ok-bump.ensures.state
       (by_rule c.in_ok-block_expr.ensures.script

@@ -1,6 +1,4 @@
-use Rattle.std.proofs.Common.{rules}
-use Rattle.rap_rules.specs.Patterns.{missing_pat}
-use Rattle.rap_rules.specs.Recovery.{is_pattern_recovery}
+use Rattle.rap_rules.specs.Patterns.{missing_pat, ends_search}
 use Rattle.rap_rules.specs.Script.{gives}
 use Rattle.rap_rules.proofs.Patterning.{missing}
 use Rattle.rap_rules.proofs.Steps.{by_recover}
@@ -8,10 +6,10 @@ use Rattle.rap_patterns.proofs.patterns.missing_pat.Goals as goal
 
 pub returns-clause-reads : goal.returns-clause-reads
 returns-clause-reads c =
-    missing c.pat_recovery_set.ensures c.requires.end c.requires.no_reference c.in_ok-err_recover.ensures.state
+    missing c.args.in_arm c.recovery_set.ensures c.requires.end c.requires.no_reference c.in_ok-err_recover.ensures.state
 
 pub returns-clause-script : goal.returns-clause-script
 unfolding missing_pat
 returns-clause-script c = record {
-  run = by_recover is_pattern_recovery (search rules) c.in_ok-err_recover.ensures.state (λ k. gives) (λ k. gives);
+  run = by_recover (ends_search c.args.in_arm) c.recovery_set.ensures c.in_ok-err_recover.ensures.state (λ k. gives) (λ k. gives);
 }
