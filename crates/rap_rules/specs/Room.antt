@@ -75,3 +75,10 @@ statement_room = 96
 
 abbrev pub item_room : ℕ
 item_room = 96
+
+-- a field of a record literal, and what it begins with under its marker
+abbrev pub field_room : ℕ
+field_room = 90
+
+abbrev pub marked_field_room : ℕ
+marked_field_room = 94
