@@ -25,9 +25,11 @@ use rap_rules::knot::Grammar;
 use rap_rules::recovery::expr_recovery_set;
 
 mod atom;
+mod blocks;
 mod builtin;
 mod closures;
 pub mod control;
+mod jumps;
 pub mod matches;
 mod operators;
 mod postfix;
@@ -121,7 +123,7 @@ fn lhs<G: Grammar>(
         T![.] if p.at(T![..=]) => Ok(Some((prefix_range(p, g, r, T![..=])?, BlockLike::NotBlock))),
         T![.] if p.at(T![..]) => Ok(Some((prefix_range(p, g, r, T![..])?, BlockLike::NotBlock))),
         _ => {
-            let Some((atom, block_like)) = atom_expr(p, g)? else {
+            let Some((atom, block_like)) = atom_expr(p, g, r)? else {
                 return Ok(None);
             };
             let allow_calls = !(r.prefer_stmt && block_like.is_block());

@@ -79,6 +79,6 @@ no_first [] j k ks n = refl
 no_first (r ∷ rs) j k ks n = rw (ne_eqb r.kind j n) refl
 
 -- an operand without an operator before it, and on
-pub from_atom : (x : BlockLike) (r : Restrictions) {s t : State} {q : Spot} {v : Outcome} → Follows atom_expr (of_like x) s t → On (postfix_expr (not (r.prefer_stmt && is_block (of_like x))) (is_block (of_like x))) (spot t) q v → On (after atom_expr (λ w. if_some w (postfix_expr (not (r.prefer_stmt && is_block w)) (is_block w)) (give nothing))) (spot s) q v
+pub from_atom : (x : BlockLike) (r : Restrictions) {s t : State} {q : Spot} {v : Outcome} → Follows (atom_expr r) (of_like x) s t → On (postfix_expr (not (r.prefer_stmt && is_block (of_like x))) (is_block (of_like x))) (spot t) q v → On (after (atom_expr r) (λ w. if_some w (postfix_expr (not (r.prefer_stmt && is_block w)) (is_block w)) (give nothing))) (spot s) q v
 from_atom like.Block r h d = by_rule h d
 from_atom like.NotBlock r h d = by_rule h d

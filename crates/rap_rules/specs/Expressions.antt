@@ -161,7 +161,7 @@ lhs r =
     (test (λ rs. one_of (STAR ∷ BANG ∷ MINUS ∷ []) (next_kind rs)) (prefix_expr r)
     (test (is_at DOT2EQ) (prefix_range r DOT2EQ)
     (test (is_at DOT2) (prefix_range r DOT2)
-    (after atom_expr (λ v. if_some v
+    (after (atom_expr r) (λ v. if_some v
     (postfix_expr (not (r.prefer_stmt && is_block v)) (is_block v))
     (give nothing))))))
 

@@ -83,3 +83,10 @@ expr_stmt_room = 97
 -- an arm of a `match`
 abbrev pub arm_room : ℕ
 arm_room = 80
+
+-- a field of a record literal, and what it begins with under its marker
+abbrev pub field_room : ℕ
+field_room = 90
+
+abbrev pub marked_field_room : ℕ
+marked_field_room = 94

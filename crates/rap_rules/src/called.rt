@@ -8,6 +8,7 @@ ghost use Rattle.rap_rules.specs.Expressions.{of_expr};
 ghost use Rattle.rap_rules.specs.Grammar as grammar_script;
 ghost use Rattle.rap_rules.specs.Grew.{Within, Grew, Behind, Reads, Took};
 ghost use Rattle.rap_rules.specs.Knot.{Follows};
+ghost use Rattle.rap_rules.specs.Recovery.{stops_expr};
 ghost use Rattle.rap_rules.specs.Room.{atom_room, expression_room, list_room};
 ghost use Rattle.rap_rules.specs.Rules.{Answered, IsArmPattern, IsPattern, IsSinglePattern, IsType};
 ghost use Rattle.rap_rules.specs.Script.{something};
@@ -58,6 +59,7 @@ pub fn opt_no_arrow_ret_type<G: Grammar>(p: &mut Parser<'_>, g: &G) -> Result<bo
 pub fn expr<G: Grammar>(p: &mut Parser<'_>, g: &G) -> Result<Option<CompletedMarker>, NoMemory>
     requires behind { Behind G.valid G.left g.now (state p.old) }
     ensures reads { IfOk result (Reads expression_room 8 (state p.old) (state p.new)) }
+    ensures took { OnOk result (stops_expr (next (state p.old)) ≡ false → Took (state p.old) (state p.new) expression_room) }
     ensures script { IfOk result (λ o. Follows atom_script.expr (of_option o) (state p.old) (state p.new)) }
 {
     let r = Restrictions {

@@ -1,10 +1,11 @@
 //! Expressions that begin with no operator.
 ghost use Rattle.std.specs.Prelude.{◌≡◌, ◌≢◌, ◌<◌, ◌≤◌, IfOk, ◌⊎◌, OnOk, true, IfSome};
-ghost use Rattle.rap_base.specs.TokenKind.{EOF, L_PAREN, L_BRACK};
-ghost use Rattle.rap_base.specs.NodeKind.{PATH_EXPR, PAREN_EXPR, TUPLE_EXPR, ARRAY_EXPR};
-ghost use Rattle.rap_events.specs.State.{state, next};
+ghost use Rattle.rap_base.specs.TokenKind.{EOF, L_PAREN, L_BRACK, L_CURLY, UNDERSCORE, LIFETIME_IDENT, COLON};
+ghost use Rattle.rap_base.specs.NodeKind.{PAREN_EXPR, TUPLE_EXPR, ARRAY_EXPR, UNDERSCORE_EXPR};
+ghost use Rattle.rap_events.specs.Fit.{is_plain};
+ghost use Rattle.rap_events.specs.State.{state, next, NthAt};
 ghost use Rattle.rap_rules.specs.Atom as script;
-ghost use Rattle.rap_rules.specs.Expressions.{of_expr};
+ghost use Rattle.rap_rules.specs.Expressions.{of_expr, of_like};
 ghost use Rattle.rap_rules.specs.First.{starts_path};
 ghost use Rattle.rap_rules.specs.Grew.{Within, Made, Behind, Grew, Makes};
 ghost use Rattle.rap_rules.specs.Knot.{Follows};
@@ -13,42 +14,188 @@ ghost use Rattle.rap_rules.specs.Rules.{Operand};
 ghost use Rattle.rap_rules.specs.Script.{something};
 ghost use Rattle.rap_rules.specs.Words.{of_bool};
 
+use crate::expressions::blocks::{effect_expr, plain_block};
+use crate::expressions::builtin::builtin_expr;
+use crate::expressions::control::{
+    if_expr, labelled_expr, let_expr, loop_expr, while_expr,
+};
+use crate::expressions::jumps::{
+    become_expr, break_expr, continue_expr, return_expr, starts_yeet, yeet_expr, yield_expr,
+};
+use crate::expressions::matches::match_expr;
+use crate::expressions::records::record_expr_field_list;
 use rap_base::no_memory::NoMemory;
 use rap_base::syntax_kind::SyntaxKind;
 use rap_events::parser::{CompletedMarker, Parser};
-
+use rap_parts::paths::expr_path;
 use rap_rules::T;
-use rap_rules::arguments::BlockLike;
+use rap_rules::arguments::{BlockLike, Restrictions};
 use rap_rules::called::expr;
 use rap_rules::first::is_path_start;
-use rap_rules::knot::Grammar;
+use rap_rules::knot::{Answer, Grammar};
 use rap_rules::literals::literal;
+use rap_rules::names::starts_builtin;
+use rap_rules::token_tree::{macro_call_after_excl, starts_macro_call};
 
 /// An expression that begins with no operator, as `1`, `a::b` and `(a)`. Where none begins, the next token stands in an
 /// `ERROR`.
 pub(crate) fn atom_expr<G: Grammar>(
     p: &mut Parser<'_>,
     g: &G,
-) -> Result<Option<(CompletedMarker, BlockLike)>, NoMemory>
+    r: Restrictions,
+) -> Result<Answer, NoMemory>
     requires within { Within G.valid G.left g.now (state p.old) }
     requires more { next (state p.old) ≢ EOF }
     ensures operand { IfOk result (Operand atom_room (state p.old) (state p.new)) }
-    ensures script { IfOk result (λ o. Follows script.atom_expr (of_expr o) (state p.old) (state p.new)) }
+    ensures script { IfOk result (λ o. Follows (script.atom_expr r) (of_expr o) (state p.old) (state p.new)) }
 {
     if let Some(cm) = literal(p)? {
         return Ok(Some((cm, BlockLike::NotBlock)));
     }
-    if is_path_start(p) {
-        return Ok(Some((path_expr(p, g)?, BlockLike::NotBlock)));
+    if starts_builtin(p) {
+        let form = builtin_expr(p, g)?;
+        return Ok(form);
     }
+    if is_path_start(p) {
+        let path = path_expr(p, g, r)?;
+        return Ok(Some(path));
+    }
+    let other = bracketed_expr(p, g, r)?;
+    Ok(other)
+}
+
+/// An expression in brackets, `_` or a `let`, or one of those that [`control_expr`] reads.
+fn bracketed_expr<G: Grammar>(
+    p: &mut Parser<'_>,
+    g: &G,
+    r: Restrictions,
+) -> Result<Answer, NoMemory>
+    requires within { Within G.valid G.left g.now (state p.old) }
+    requires more { next (state p.old) ≢ EOF }
+    ensures operand { IfOk result (Operand atom_room (state p.old) (state p.new)) }
+    ensures script { IfOk result (λ o. Follows (script.bracketed_expr r) (of_expr o) (state p.old) (state p.new)) }
+{
     match p.current() {
         T!['('] => Ok(Some((tuple_expr(p, g)?, BlockLike::NotBlock))),
         T!['['] => Ok(Some((array_expr(p, g)?, BlockLike::NotBlock))),
+        T!['{'] => Ok(Some((plain_block(p, g)?, BlockLike::Block))),
+        T![_] => Ok(Some((underscore_expr(p)?, BlockLike::NotBlock))),
+        T![let] => Ok(Some((let_expr(p, g, r)?, BlockLike::NotBlock))),
         _ => {
-            p.err_and_bump("expected expression")?;
-            Ok(None)
+            let other = control_expr(p, g, r)?;
+            Ok(other)
         }
     }
+}
+
+/// Whether a label comes next, as `'a:`.
+fn starts_label(p: &Parser<'_>) -> bool
+    ensures starts { result ≡ script.starts_label (state p.now).rest }
+    ensures here { result ≡ true → next (state p.now) ≡ LIFETIME_IDENT }
+    ensures colon { result ≡ true → NthAt (state p.now) 1 COLON }
+{
+    p.current() == T![lifetime_ident] && p.nth_at(1, T![:])
+}
+
+/// A condition, a loop or a `match`, or one of those that [`jump_expr`] reads.
+fn control_expr<G: Grammar>(
+    p: &mut Parser<'_>,
+    g: &G,
+    r: Restrictions,
+) -> Result<Answer, NoMemory>
+    requires within { Within G.valid G.left g.now (state p.old) }
+    requires more { next (state p.old) ≢ EOF }
+    ensures operand { IfOk result (Operand atom_room (state p.old) (state p.new)) }
+    ensures script { IfOk result (λ o. Follows (script.control_expr r) (of_expr o) (state p.old) (state p.new)) }
+{
+    if starts_label(p) {
+        let labelled = labelled_expr(p, g)?;
+        return Ok(labelled);
+    }
+    match p.current() {
+        T![if] => Ok(Some((if_expr(p, g)?, BlockLike::Block))),
+        T![loop] => Ok(Some((loop_expr(p, g)?, BlockLike::Block))),
+        T![while] => Ok(Some((while_expr(p, g)?, BlockLike::Block))),
+        T![match] => Ok(Some((match_expr(p, g)?, BlockLike::Block))),
+        _ => {
+            let other = jump_expr(p, g, r)?;
+            Ok(other)
+        }
+    }
+}
+
+/// A jump, or one of those that [`effect_expr`] reads.
+fn jump_expr<G: Grammar>(p: &mut Parser<'_>, g: &G, r: Restrictions) -> Result<Answer, NoMemory>
+    requires within { Within G.valid G.left g.now (state p.old) }
+    requires more { next (state p.old) ≢ EOF }
+    ensures operand { IfOk result (Operand atom_room (state p.old) (state p.new)) }
+    ensures script { IfOk result (λ o. Follows (script.jump_expr r) (of_expr o) (state p.old) (state p.new)) }
+{
+    if starts_yeet(p) {
+        let yeet = yeet_expr(p, g)?;
+        return Ok(Some((yeet, BlockLike::NotBlock)));
+    }
+    match p.current() {
+        T![return] => Ok(Some((return_expr(p, g)?, BlockLike::NotBlock))),
+        T![become] => Ok(Some((become_expr(p, g)?, BlockLike::NotBlock))),
+        T![yield] => Ok(Some((yield_expr(p, g)?, BlockLike::NotBlock))),
+        T![continue] => Ok(Some((continue_expr(p)?, BlockLike::NotBlock))),
+        T![break] => Ok(Some((break_expr(p, g, r)?, BlockLike::NotBlock))),
+        _ => {
+            let other = effect_expr(p, g)?;
+            Ok(other)
+        }
+    }
+}
+
+/// A `_`, as on the left of `_ = a`.
+fn underscore_expr(p: &mut Parser<'_>) -> Result<CompletedMarker, NoMemory>
+    requires here { next (state p.old) ≡ UNDERSCORE }
+    ensures made { IfOk result (Makes UNDERSCORE_EXPR atom_room (state p.old) (state p.new)) }
+    ensures script { OnOk result (Follows script.underscore_expr something (state p.old) (state p.new)) }
+{
+    let m = p.start()?;
+    p.bump(T![_])?;
+    let cm = m.complete(p, SyntaxKind::UNDERSCORE_EXPR)?;
+    Ok(cm)
+}
+
+/// Whether the fields of a record come next, where a record literal may stand.
+fn starts_record(p: &Parser<'_>, r: Restrictions) -> bool
+    ensures starts { result ≡ script.starts_record r.forbid_structs (state p.now).rest }
+    ensures here { result ≡ true → next (state p.now) ≡ L_CURLY }
+{
+    !r.forbid_structs && p.at(T!['{'])
+}
+
+/// A path, as `a::b`, a record literal, as `a { b: c }`, or a macro call, as `a!(b)`.
+#[inline(never)]
+fn path_expr<G: Grammar>(
+    p: &mut Parser<'_>,
+    g: &G,
+    r: Restrictions,
+) -> Result<(CompletedMarker, BlockLike), NoMemory>
+    requires within { Within G.valid G.left g.now (state p.old) }
+    requires path { starts_path (state p.old).rest ≡ true }
+    ensures made { IfOk result (λ e. Made (state p.old) (state p.new) e.0 atom_room × (is_plain e.0.kind ≡ true)) }
+    ensures script { IfOk result (λ e. Follows (script.path_expr r) (of_like e.1) (state p.old) (state p.new)) }
+{
+    let m = p.start()?;
+    expr_path(p, g)?;
+    if starts_record(p, r) {
+        record_expr_field_list(p, g)?;
+        let cm = m.complete(p, SyntaxKind::RECORD_EXPR)?;
+        return Ok((cm, BlockLike::NotBlock));
+    }
+    if starts_macro_call(p) {
+        let block_like = macro_call_after_excl(p)?;
+        let call = m.complete(p, SyntaxKind::MACRO_CALL)?;
+        let m = call.precede(p)?;
+        let cm = m.complete(p, SyntaxKind::MACRO_EXPR)?;
+        return Ok((cm, block_like));
+    }
+    let cm = m.complete(p, SyntaxKind::PATH_EXPR)?;
+    Ok((cm, BlockLike::NotBlock))
 }
 
 /// An expression in parentheses, as `(a)`, or a tuple, as `()`, `(a,)` and `(a, b)`.

@@ -1,0 +1,43 @@
+use Rattle.std.proofs.Common.{rules, refl, ◌≡◌}
+use Rattle.rap_base.specs.TokenKind.{L_PAREN, L_BRACK, L_CURLY, UNDERSCORE, LET_KW}
+use Rattle.rap_events.specs.State.{state, next}
+use Rattle.rap_rules.specs.Atom.{bracketed_expr}
+use Rattle.rap_rules.specs.Script.{gives, passes, fails}
+use Rattle.rap_rules.proofs.Steps.{by_rule, to_end}
+use Rattle.rap_expressions.proofs.expressions.atom.bracketed_expr.Goals as goal
+
+pub returns-in_ok-tuple_expr-in-L_PAREN-clause-script : goal.returns-in_ok-tuple_expr-in-L_PAREN-clause-script
+unfolding bracketed_expr
+returns-in_ok-tuple_expr-in-L_PAREN-clause-script g c =
+    let e : next (state c.args.p.now) ≡ L_PAREN = search rules in
+    record { run = (passes (rw e refl) (to_end c.in_ok-tuple_expr-in-L_PAREN.ensures.script)) }
+
+pub returns-in_ok-array_expr-in-L_BRACK-clause-script : goal.returns-in_ok-array_expr-in-L_BRACK-clause-script
+unfolding bracketed_expr
+returns-in_ok-array_expr-in-L_BRACK-clause-script g c =
+    let e : next (state c.args.p.now) ≡ L_BRACK = search rules in
+    record { run = (fails (rw e refl) (passes (rw e refl) (to_end c.in_ok-array_expr-in-L_BRACK.ensures.script))) }
+
+pub returns-in_ok-plain_block-in-L_CURLY-clause-script : goal.returns-in_ok-plain_block-in-L_CURLY-clause-script
+unfolding bracketed_expr
+returns-in_ok-plain_block-in-L_CURLY-clause-script g c =
+    let e : next (state c.args.p.now) ≡ L_CURLY = search rules in
+    record { run = (fails (rw e refl) (fails (rw e refl) (passes (rw e refl) (by_rule c.in_ok-plain_block-in-L_CURLY.ensures.script gives)))) }
+
+pub returns-in_ok-underscore_expr-in-UNDERSCORE-clause-script : goal.returns-in_ok-underscore_expr-in-UNDERSCORE-clause-script
+unfolding bracketed_expr
+returns-in_ok-underscore_expr-in-UNDERSCORE-clause-script g c =
+    let e : next (state c.args.p.now) ≡ UNDERSCORE = search rules in
+    record { run = (fails (rw e refl) (fails (rw e refl) (fails (rw e refl) (passes (rw e refl) (to_end c.in_ok-underscore_expr-in-UNDERSCORE.ensures.script))))) }
+
+pub returns-in_ok-let_expr-in-LET_KW-clause-script : goal.returns-in_ok-let_expr-in-LET_KW-clause-script
+unfolding bracketed_expr
+returns-in_ok-let_expr-in-LET_KW-clause-script g c =
+    let e : next (state c.args.p.now) ≡ LET_KW = search rules in
+    record { run = (fails (rw e refl) (fails (rw e refl) (fails (rw e refl) (fails (rw e refl) (passes (rw e refl) (to_end c.in_ok-let_expr-in-LET_KW.ensures.script)))))) }
+
+pub returns-in_ok-other-in_default-clause-script : goal.returns-in_ok-other-in_default-clause-script
+unfolding bracketed_expr
+returns-in_ok-other-in_default-clause-script g c = record {
+  run = (fails (search rules) (fails (search rules) (fails (search rules) (fails (search rules) (fails (search rules) (to_end c.in_ok-other-in_default.ensures.script))))));
+}

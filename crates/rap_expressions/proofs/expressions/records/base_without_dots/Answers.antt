@@ -1,0 +1,12 @@
+use Rattle.rap_rules.specs.Records.{base_without_dots}
+use Rattle.rap_rules.specs.Script.{gives}
+use Rattle.rap_rules.proofs.Steps.{by_abandon, by_expect, by_rule}
+use Rattle.rap_expressions.proofs.expressions.records.base_without_dots.Goals as goal
+
+pub returns-clause-script : goal.returns-clause-script
+unfolding base_without_dots
+returns-clause-script g c = record {
+  run = by_abandon c.in_ok-abandon.ensures.state
+      (by_expect c.in_ok-expect.ensures.state
+      (by_rule c.in_ok-expr.ensures.script gives));
+}

@@ -1,0 +1,36 @@
+use Rattle.std.proofs.Common.{rules, refl}
+use Rattle.rap_rules.specs.Records.{record_fields}
+use Rattle.rap_rules.specs.Script.{gives}
+use Rattle.rap_rules.proofs.Steps.{then_by, else_by, by_rule, by_expect, turn, last_turn}
+use Rattle.rap_expressions.proofs.expressions.records.record_fields.Goals.{then-fields-test+else-not-at, else-fields-test}
+use Rattle.rap_expressions.proofs.expressions.records.record_fields.Goals as goal
+
+pub fields-preserved-in_ok-expect : goal.fields-preserved-in_ok-expect
+fields-preserved-in_ok-expect g c = record {
+  grew = search rules;
+  script = turn c.fields.invariant.script
+      (else_by c.at.ensures c.fields-test.true
+      (else_by c.at-in-fields.ensures c.if-not-at.true
+      (by_rule c.in_ok-record_field.ensures.script
+      (else_by c.at-in-fields-2.ensures c.if-not-at-2.true
+      (by_expect c.in_ok-expect.ensures.state gives)))));
+}
+
+pub fields-preserved : goal.fields-preserved
+fields-preserved g c = record {
+  grew = search rules;
+  script = turn c.fields.invariant.script
+      (else_by c.at.ensures c.fields-test.true
+      (else_by c.at-in-fields.ensures c.if-not-at.true
+      (by_rule c.in_ok-record_field.ensures.script
+      (then_by c.at-in-fields-2.ensures c.if-not-at-2.false gives))));
+}
+
+pub returns-clause-script : goal.returns-clause-script
+unfolding record_fields
+returns-clause-script g c = record {
+  run = elim c.fields-test.branch [
+    | then-fields-test+else-not-at w ↦ last_turn c.fields.invariant.script (else_by c.at.ensures w.fields-test.true (then_by w.at-in-fields.ensures w.if-not-at.false gives)) refl
+    | else-fields-test w ↦ last_turn c.fields.invariant.script (then_by c.at.ensures w.fields-test.false gives) refl
+  ];
+}
