@@ -48,6 +48,13 @@ expression_room = 100
 abbrev pub element_room : ℕ
 element_room = 100
 
+-- a part of inline assembly, and what stands where no operand does
+abbrev pub asm_room : ℕ
+asm_room = 80
+
+abbrev pub asm_end_room : ℕ
+asm_end_room = 96
+
 -- a parameter without its marker, and under it
 abbrev pub bare_param_room : ℕ
 bare_param_room = 108
