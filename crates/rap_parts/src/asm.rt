@@ -273,11 +273,7 @@ fn dir_spec(p: &mut Parser<'_>) -> Result<Option<bool>, NoMemory>
 
 /// A register and what is in it, as `(reg) x`. Where the value goes both ways, another place may be named for the way
 /// out, as in `(reg) x => y`.
-fn reg_operand<G: Grammar>(
-    p: &mut Parser<'_>,
-    g: &G,
-    goes_both_ways: bool,
-) -> Result<(), NoMemory>
+fn reg_operand<G: Grammar>(p: &mut Parser<'_>, g: &G, goes_both_ways: bool) -> Result<(), NoMemory>
     requires behind { Behind G.valid G.left g.now (state p.old) }
     ensures grew { OnOk result (Grew (state p.old) (state p.new) 15) }
     ensures script { OnOk result (Follows (script.reg_operand goes_both_ways) something (state p.old) (state p.new)) }

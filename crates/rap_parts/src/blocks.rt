@@ -10,9 +10,9 @@ ghost use Rattle.rap_rules.specs.Room.{brackets_room, list_room};
 ghost use Rattle.rap_rules.specs.Script.{something};
 ghost use Rattle.rap_rules.specs.Words.{of_option};
 
+use crate::attributes::inner_attrs;
 use rap_base::no_memory::NoMemory;
 use rap_base::syntax_kind::SyntaxKind;
-use crate::attributes::inner_attrs;
 use rap_events::parser::{CompletedMarker, Parser};
 use rap_rules::T;
 use rap_rules::arguments::Semicolon;
@@ -129,10 +129,7 @@ fn let_type<G: Grammar>(p: &mut Parser<'_>, g: &G) -> Result<(), NoMemory>
 }
 
 /// The value of a `let` statement, as the `= b` of `let a = b;`, if it has one.
-fn let_value<G: Grammar>(
-    p: &mut Parser<'_>,
-    g: &G,
-) -> Result<Option<CompletedMarker>, NoMemory>
+fn let_value<G: Grammar>(p: &mut Parser<'_>, g: &G) -> Result<Option<CompletedMarker>, NoMemory>
     requires within { Within G.valid G.left g.now (state p.old) }
     ensures grew { OnOk result (Grew (state p.old) (state p.new) 0) }
     ensures script { IfOk result (λ value. Follows script.let_value (of_option value) (state p.old) (state p.new)) }
