@@ -41,8 +41,12 @@ impl Error for ParseFault {}
 /// What a whole input is read as.
 #[derive(Clone, Copy, Debug, PartialEq, Eq)]
 pub enum TopEntryPoint {
+    /// A file.
+    SourceFile,
     /// What a macro gives as statements.
     MacroStmts,
+    /// What a macro gives as items.
+    MacroItems,
     /// A pattern, with its alternatives.
     Pattern,
     /// A type.
@@ -63,7 +67,9 @@ impl TopEntryPoint {
         ensures script { IfOk result (IsOutputOf self.now input.now) }
     {
         match self {
+            TopEntryPoint::SourceFile => top::source_file(alloc, input),
             TopEntryPoint::MacroStmts => top::macro_stmts(alloc, input),
+            TopEntryPoint::MacroItems => top::macro_items(alloc, input),
             TopEntryPoint::Pattern => top::pattern(alloc, input),
             TopEntryPoint::Ty => top::type_(alloc, input),
             TopEntryPoint::Expr => top::expr(alloc, input),

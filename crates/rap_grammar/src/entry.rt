@@ -9,6 +9,7 @@ ghost use Rattle.rap_base.specs.TokenKind.{ERROR};
 ghost use Rattle.rap_rules.specs.Atom as atom_script;
 ghost use Rattle.rap_rules.specs.Called as called;
 ghost use Rattle.rap_rules.specs.Grew.{Grew, Reads};
+ghost use Rattle.rap_rules.specs.Items as item_script;
 ghost use Rattle.rap_rules.specs.Knot.{Follows};
 ghost use Rattle.rap_rules.specs.Room.{expression_room};
 ghost use Rattle.rap_rules.specs.Rules.{IsPattern, IsType};
@@ -22,6 +23,7 @@ use rap_base::no_memory::NoMemory;
 use rap_base::syntax_kind::SyntaxKind;
 use rap_events::output::{Output, Step, wrap_in_node};
 use rap_events::parser::{CompletedMarker, Marker, Parser};
+use rap_rules::T;
 use rap_rules::arguments::{Restrictions, Semicolon};
 use rap_rules::knot::Rule;
 use std::alloc::Global;
@@ -121,6 +123,46 @@ fn macro_stmts(p: &mut Parser<'_>) -> Result<(), NoMemory>
         let semicolon = Semicolon::Optional;
         run(p, Rule::Stmt { semicolon })?;
     }
+    Ok(())
+}
+
+/// Reads items, to the end of the input.
+fn items(p: &mut Parser<'_>) -> Result<(), NoMemory>
+    ensures grew { OnOk result (Grew (state p.old) (state p.new) 0) }
+    ensures rest { OnOk result ((state p.new).rest ≡ []) }
+    ensures script { OnOk result (Follows (item_script.items false) something (state p.old) (state p.new)) }
+{
+    'items: while !p.at(SyntaxKind::EOF) {
+        // Only `safe fn` is more than elsewhere in a foreign block, and there is no other reading of it.
+        let item = Rule::Item {
+            stop_on_r_curly: false,
+            is_in_extern: true,
+        };
+        run(p, item)?;
+    }
+    Ok(())
+}
+
+/// Reads what a macro gives as items, to the end of the input.
+fn macro_items(p: &mut Parser<'_>) -> Result<(), NoMemory>
+    ensures grew { OnOk result (Grew (state p.old) (state p.new) 0) }
+    ensures rest { OnOk result ((state p.new).rest ≡ []) }
+    ensures script { OnOk result (Follows (item_script.mod_contents false) something (state p.old) (state p.new)) }
+{
+    run(p, Rule::InnerAttrs)?;
+    items(p)?;
+    Ok(())
+}
+
+/// Reads a file, to the end of the input.
+fn source_file(p: &mut Parser<'_>) -> Result<(), NoMemory>
+    ensures grew { OnOk result (Grew (state p.old) (state p.new) 0) }
+    ensures rest { OnOk result ((state p.new).rest ≡ []) }
+    ensures script { OnOk result (Follows item_script.source_file something (state p.old) (state p.new)) }
+{
+    p.eat(T![shebang])?;
+    p.eat(T![frontmatter])?;
+    macro_items(p)?;
     Ok(())
 }
 

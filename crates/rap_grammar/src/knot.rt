@@ -10,7 +10,7 @@ use rap_expressions::expressions::control::if_expr;
 use rap_expressions::expressions::expr_bp;
 use rap_items::items::item_or_macro;
 use rap_items::use_item::use_tree;
-use rap_parts::attributes::{cfg_predicate, meta};
+use rap_parts::attributes::{cfg_predicate, inner_attrs, meta};
 use rap_patterns::patterns::{pattern_r, pattern_single_r};
 use rap_rules::knot::{Answer, Grammar, Rule};
 use rap_types::generic_args::generic_arg;
@@ -107,6 +107,10 @@ pub fn run(p: &mut Parser<'_>, rule: Rule) -> Result<Answer, NoMemory>
             is_in_extern,
         } => {
             item_or_macro(p, &g, stop_on_r_curly, is_in_extern)?;
+            Ok(None)
+        }
+        Rule::InnerAttrs => {
+            inner_attrs(p, &g)?;
             Ok(None)
         }
         Rule::UseTree => {

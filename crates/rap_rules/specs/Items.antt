@@ -1,6 +1,6 @@
 -- Items.
 use Rattle.std.specs.Prelude.{◌≡◌, ◌≢◌, ℕ, ◌+◌, ◌*◌, ◌≤◌, Bool, true, false, Option, Some, None, List, [], ◌∷◌, drop, ◌==◌, ◌&&◌, not, if◌then◌else◌, codes}
-use Rattle.rap_base.specs.TokenKind.{EOF, ERROR, L_CURLY, R_CURLY, SEMICOLON, COLON, EQ, BANG, POUND, UNDERSCORE, IDENT, MUT_KW, EXTERN_KW, CRATE_KW, USE_KW, MOD_KW, TYPE_KW, CONST_KW, STATIC_KW, STRUCT_KW, ENUM_KW, UNION_KW, MACRO_KW, MACRO_RULES_KW, BUILTIN_KW, GLOBAL_ASM_KW, FN_KW, TRAIT_KW, IMPL_KW, LET_KW}
+use Rattle.rap_base.specs.TokenKind.{EOF, ERROR, L_CURLY, R_CURLY, SEMICOLON, COLON, EQ, BANG, POUND, UNDERSCORE, IDENT, MUT_KW, EXTERN_KW, CRATE_KW, USE_KW, MOD_KW, TYPE_KW, CONST_KW, STATIC_KW, STRUCT_KW, ENUM_KW, UNION_KW, MACRO_KW, MACRO_RULES_KW, BUILTIN_KW, GLOBAL_ASM_KW, FN_KW, TRAIT_KW, IMPL_KW, LET_KW, SHEBANG, FRONTMATTER}
 use Rattle.rap_base.specs.NodeKind.{EXTERN_CRATE, MODULE, TYPE_ALIAS, ITEM_LIST, EXTERN_ITEM_LIST, EXTERN_BLOCK}
 use Rattle.rap_events.specs.Machine.{push, top}
 use Rattle.rap_events.specs.Record.{Record, next_kind, kind_at, contextual_at}
@@ -26,7 +26,7 @@ use Rattle.rap_rules.specs.Script.{Script, Outcome, nothing, something, block, a
 use Rattle.rap_rules.specs.Traits.{trait_, impl_}
 use Rattle.rap_rules.specs.UseItem.{use_}
 use Rattle.rap_rules.specs.Visibility.{opt_visibility}
-use Rattle.rap_rules.specs.Words.{done, if_some, next_is, reads_as, expect, starts_builtin}
+use Rattle.rap_rules.specs.Words.{done, if_some, next_is, reads_as, eat, expect, starts_builtin}
 
 -- an item was read, or the marker is handed back
 abbrev pub of_marker : Option Marker → Outcome
@@ -238,3 +238,7 @@ unfoldable pub item_or_macro : Bool → Bool → Script Phrase
 item_or_macro stop_on_r_curly is_in_extern =
     start (after outer_attrs (λ v. after (opt_item is_in_extern) (λ w. if_some w after_item
     (macro_or_error stop_on_r_curly))))
+
+-- what a file holds, behind its shebang and its frontmatter
+unfoldable pub source_file : Script Phrase
+source_file = eat SHEBANG (eat FRONTMATTER (mod_contents false))

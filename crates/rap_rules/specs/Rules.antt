@@ -6,7 +6,7 @@ use Rattle.rap_events.specs.Fit.{is_plain}
 use Rattle.rap_events.specs.State.{State, next}
 use Rattle.rap_events.specs.declared.parser.CompletedMarker.{CompletedMarker}
 use Rattle.rap_events.specs.declared.parser.Marker.{Marker}
-use Rattle.rap_rules.specs.Attributes.{meta, cfg_predicate}
+use Rattle.rap_rules.specs.Attributes.{inner_attrs, meta, cfg_predicate}
 use Rattle.rap_rules.specs.Climb.{Climbed}
 use Rattle.rap_rules.specs.Control.{if_expr}
 use Rattle.rap_rules.specs.Expressions.{expr_bp, of_expr}
@@ -121,6 +121,7 @@ Pre rule.ArmPattern s = Unit {0}
 Pre (rule.Stmt semicolon) s = Unit {0}
 Pre rule.IfExpr s = next s ≡ IF_KW
 Pre (rule.Item stop_on_r_curly is_in_extern) s = Unit {0}
+Pre rule.InnerAttrs s = Unit {0}
 Pre rule.UseTree s = starts_use_tree s.rest ≡ true
 Pre rule.Meta s = Unit {0}
 Pre rule.CfgPredicate s = Unit {0}
@@ -140,6 +141,7 @@ Post rule.ArmPattern old new e = IsArmPattern old new × Follows (pattern_r true
 Post (rule.Stmt semicolon) old new e = IsStatement old new × Follows (stmt semicolon) something old new
 Post rule.IfExpr old new e = Took old new atom_room × Follows if_expr something old new
 Post (rule.Item stop_on_r_curly is_in_extern) old new e = IsItem stop_on_r_curly old new × Follows (item_or_macro stop_on_r_curly is_in_extern) something old new
+Post rule.InnerAttrs old new e = Grew old new 0 × Follows inner_attrs something old new
 Post rule.UseTree old new e = Took old new list_room × Follows use_tree something old new
 Post rule.Meta old new e = Grew old new 16 × Follows meta something old new
 Post rule.CfgPredicate old new e = Parsed is_cfg_predicate_first 8 element_room old new × Follows cfg_predicate something old new

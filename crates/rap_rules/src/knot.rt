@@ -67,6 +67,8 @@ pub enum Rule {
         stop_on_r_curly: bool,
         is_in_extern: bool,
     },
+    /// The inner attributes of what they stand in.
+    InnerAttrs,
     /// A tree of names in the braces of a `use`.
     UseTree,
     /// What stands in the brackets of an attribute.

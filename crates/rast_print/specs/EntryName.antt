@@ -1,12 +1,14 @@
 -- The names of entry points.
 use Rattle.std.specs.Prelude.{◌≡◌, ◌≢◌, List, ℕ, Result, MatchResult, codes}
 use Rattle.ra_ap_parser.specs.declared.entry_point.TopEntryPoint.{TopEntryPoint}
-use Rattle.ra_ap_parser.specs.declared.entry_point.TopEntryPoint.TheVariants.{MacroStmts, Pattern, Ty, Expr, MetaItem}
+use Rattle.ra_ap_parser.specs.declared.entry_point.TopEntryPoint.TheVariants.{SourceFile, MacroStmts, MacroItems, Pattern, Ty, Expr, MetaItem}
 use Rattle.rast_print.specs.declared.entry.Entry.{Entry}
 
 -- an entry point's name
 abbrev pub name_of_entry : TopEntryPoint → List ℕ
 name_of_entry MacroStmts = codes "MacroStmts"
+name_of_entry SourceFile = codes "SourceFile"
+name_of_entry MacroItems = codes "MacroItems"
 name_of_entry Pattern = codes "Pattern"
 name_of_entry Ty = codes "Type"
 name_of_entry Expr = codes "Expr"

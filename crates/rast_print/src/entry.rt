@@ -20,7 +20,9 @@ impl FromStr for Entry {
 
     fn from_str(s: &str) -> Result<Entry, InvalidEntry> {
         match s {
+            "SourceFile" => Ok(Entry(TopEntryPoint::SourceFile)),
             "MacroStmts" => Ok(Entry(TopEntryPoint::MacroStmts)),
+            "MacroItems" => Ok(Entry(TopEntryPoint::MacroItems)),
             "Pattern" => Ok(Entry(TopEntryPoint::Pattern)),
             "Type" => Ok(Entry(TopEntryPoint::Ty)),
             "Expr" => Ok(Entry(TopEntryPoint::Expr)),
@@ -37,7 +39,7 @@ mod tests {
 
     #[test]
     fn knows_the_entry_points(rt: HostRuntime) -> Result<(), Fail> {
-        for name in ["MacroStmts", "Pattern", "Type", "Expr", "MetaItem"] {
+        for name in ["SourceFile", "MacroStmts", "MacroItems", "Pattern", "Type", "Expr", "MetaItem"] {
             assert!(rt; name.parse::<Entry>().is_ok(), "{name}");
         }
         assert!(rt; "Ty".parse::<Entry>().is_err());

@@ -1,8 +1,9 @@
 //! Entries that read a whole input as one tree.
 ghost use Rattle.std.specs.Prelude.{◌≡◌, ◌≤◌, length, IfOk};
-ghost use Rattle.rap_base.specs.NodeKind.{MACRO_STMTS};
+ghost use Rattle.rap_base.specs.NodeKind.{SOURCE_FILE, MACRO_STMTS, MACRO_ITEMS};
 ghost use Rattle.rap_rules.specs.Atom as script;
 ghost use Rattle.rap_rules.specs.Called as called;
+ghost use Rattle.rap_rules.specs.Items as item_script;
 ghost use Rattle.rap_rules.specs.Statements as statement_script;
 ghost use Rattle.rap_grammar.specs.Top.{IsTreeOver, IsTopOf, IsRootOf};
 
@@ -13,6 +14,19 @@ use rap_events::input::Input;
 use rap_events::output::Output;
 use rap_events::parser::Parser;
 use std::alloc::Global;
+
+/// A file: `SOURCE_FILE` over the whole input.
+pub fn source_file(alloc: Global, input: &Input) -> Result<Output, NoMemory>
+    requires { length input.now ≤ 8388607 }
+    ensures tree { IfOk result (IsTreeOver input.now) }
+    ensures script { IfOk result (IsRootOf SOURCE_FILE item_script.source_file input.now) }
+{
+    let mut p = Parser::new(alloc, input);
+    let m = p.start()?;
+    super::source_file(&mut p)?;
+    let output = close_root(alloc, p, m, SyntaxKind::SOURCE_FILE)?;
+    Ok(output)
+}
 
 /// A pattern, with its alternatives. Where the input is no pattern, or not only one, the tree is an `ERROR`.
 pub fn pattern(alloc: Global, input: &Input) -> Result<Output, NoMemory>
@@ -77,5 +91,18 @@ pub fn macro_stmts(alloc: Global, input: &Input) -> Result<Output, NoMemory>
     let m = p.start()?;
     super::macro_stmts(&mut p)?;
     let output = close_root(alloc, p, m, SyntaxKind::MACRO_STMTS)?;
+    Ok(output)
+}
+
+/// What a macro gives as items: `MACRO_ITEMS` over the whole input.
+pub fn macro_items(alloc: Global, input: &Input) -> Result<Output, NoMemory>
+    requires { length input.now ≤ 8388607 }
+    ensures tree { IfOk result (IsTreeOver input.now) }
+    ensures script { IfOk result (IsRootOf MACRO_ITEMS (item_script.mod_contents false) input.now) }
+{
+    let mut p = Parser::new(alloc, input);
+    let m = p.start()?;
+    super::macro_items(&mut p)?;
+    let output = close_root(alloc, p, m, SyntaxKind::MACRO_ITEMS)?;
     Ok(output)
 }
