@@ -29,7 +29,7 @@ pub fn opt_item<G: Grammar>(
     ensures handed { IfOk result (Handed (state p.old) (state p.new)) }
     ensures script { IfOk result (λ back. Follows (script.opt_item is_in_extern) (of_marker back) (state p.old) (state p.new)) }
 {
-    let _ = (p, g, is_in_extern);
+    let _ = (p.current(), g, is_in_extern);
     Ok(Some(m))
 }
 
