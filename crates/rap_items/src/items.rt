@@ -29,7 +29,9 @@ pub fn opt_item<G: Grammar>(
     ensures handed { IfOk result (Handed (state p.old) (state p.new)) }
     ensures script { IfOk result (λ back. Follows (script.opt_item is_in_extern) (of_marker back) (state p.old) (state p.new)) }
 {
-    let _ = (p.current(), g, is_in_extern);
+    let _ = p;
+    let _ = g;
+    let _ = is_in_extern;
     Ok(Some(m))
 }
 
@@ -45,7 +47,9 @@ pub fn item_or_macro<G: Grammar>(
     ensures item { OnOk result (IsItem stop_on_r_curly (state p.old) (state p.new)) }
     ensures script { OnOk result (Follows (script.item_or_macro stop_on_r_curly is_in_extern) something (state p.old) (state p.new)) }
 {
-    let _ = (g, stop_on_r_curly, is_in_extern);
+    let _ = g;
+    let _ = stop_on_r_curly;
+    let _ = is_in_extern;
     p.bump_any()?;
     Ok(())
 }

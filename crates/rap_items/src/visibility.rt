@@ -24,7 +24,9 @@ pub fn opt_visibility<G: Grammar>(
     ensures stays { IfOk result (λ found. found ≡ false → state p.new ≡ state p.old) }
     ensures script { IfOk result (λ found. Follows (script.opt_visibility in_tuple_field) (of_bool found) (state p.old) (state p.new)) }
 {
-    let _ = (p.current(), g, in_tuple_field);
+    let _ = p;
+    let _ = g;
+    let _ = in_tuple_field;
     Ok(false)
 }
 
@@ -39,6 +41,8 @@ pub fn opt_visibility_inner<G: Grammar>(
     ensures stays { IfOk result (λ found. found ≡ false → state p.new ≡ state p.old) }
     ensures script { IfOk result (λ found. Follows (script.opt_visibility_inner in_tuple_field) (of_bool found) (state p.old) (state p.new)) }
 {
-    let _ = (p.current(), g, in_tuple_field);
+    let _ = p;
+    let _ = g;
+    let _ = in_tuple_field;
     Ok(false)
 }
