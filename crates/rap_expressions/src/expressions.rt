@@ -1,13 +1,14 @@
 //! Expressions.
-ghost use Rattle.std.specs.Prelude.{◌≡◌, ◌≢◌, ◌<◌, ◌≤◌, IfOk, Some, is_some, OnOk};
+ghost use Rattle.std.specs.Prelude.{◌≡◌, ◌≢◌, ◌<◌, ◌≤◌, IfOk, Some, None, is_some, OnOk, false};
 ghost use Rattle.rap_base.specs.TokenKind.{EOF};
 ghost use Rattle.rap_events.specs.State.{state, next};
 ghost use Rattle.rap_rules.specs.Expressions as script;
 ghost use Rattle.rap_rules.specs.Expressions.{of_expr};
 ghost use Rattle.rap_rules.specs.First.{is_expr_first};
-ghost use Rattle.rap_rules.specs.Grew.{Within, Dropped};
+ghost use Rattle.rap_rules.specs.Grew.{Within, Dropped, Spent};
 ghost use Rattle.rap_rules.specs.Knot.{Follows};
-ghost use Rattle.rap_rules.specs.Room.{operand_room};
+ghost use Rattle.rap_rules.specs.Recovery.{stops_expr};
+ghost use Rattle.rap_rules.specs.Room.{operand_room, marked_room};
 ghost use Rattle.rap_rules.specs.Rules.{Answered, IsNewest, AnsweredFrom, Operand};
 ghost use Rattle.rap_rules.specs.Script.{nothing};
 
@@ -76,6 +77,7 @@ fn expr_from<G: Grammar>(
     requires newest { (state p.old).marker ≡ Some m.pos }
     requires power { 1 ≤ bp }
     ensures answered { IfOk result (AnsweredFrom (state p.old) (state p.new) r.prefer_stmt bp) }
+    ensures spent { IfOk result (λ e. e ≡ None → stops_expr (next (state p.old)) ≡ false → Spent (state p.old) (state p.new) marked_room) }
     ensures script { IfOk result (λ e. Follows (script.expr_from r bp) (of_expr e) (state p.old) (state p.new)) }
 {
     if !is_expr_first(p.current()) {
@@ -99,6 +101,7 @@ fn expr_from<G: Grammar>(
 fn missing_expr(p: &mut Parser<'_>, m: Marker) -> Result<(), NoMemory>
     requires newest { (state p.old).marker ≡ Some m.pos }
     ensures dropped { OnOk result (Dropped (state p.old) (state p.new) 5) }
+    ensures spent { OnOk result (stops_expr (next (state p.old)) ≡ false → Spent (state p.old) (state p.new) marked_room) }
     ensures script { OnOk result (Follows script.missing_expr nothing (state p.old) (state p.new)) }
 {
     p.err_recover("expected expression", expr_recovery_set())?;

@@ -491,11 +491,9 @@ fn tuple_field_list<G: Grammar>(p: &mut Parser<'_>, g: &G) -> Result<(), NoMemor
 struct TupleField;
 
 impl Element for TupleField {
-    ghost use Rattle.rap_rules.specs.Adt as set;
-
     ghost element = { λ _. script.tuple_field };
 
-    ghost first = { λ _. set.is_tuple_field_first };
+    ghost first = { λ _. script.is_tuple_field_first };
 
     fn parse<G: Grammar>(&self, p: &mut Parser<'_>, g: &G) -> Result<bool, NoMemory> {
         let m = p.start()?;

@@ -21,7 +21,7 @@ use rap_rules::names::abi;
 
 /// Whether there were modifiers, and whether `extern` was one.
 #[derive(Clone, Copy)]
-pub struct Modifiers {
+pub struct ItemModifiers {
     pub has_mods: bool,
     pub has_extern: bool,
 }
@@ -31,7 +31,7 @@ pub fn modifiers<G: Grammar>(
     p: &mut Parser<'_>,
     g: &G,
     is_in_extern: bool,
-) -> Result<Modifiers, NoMemory>
+) -> Result<ItemModifiers, NoMemory>
     requires within { Within G.valid G.left g.now (state p.old) }
     ensures seen { IfOk result (λ found. Seen (state p.old) (state p.new) found.has_mods) }
     ensures script { IfOk result (λ found. Follows (script.modifiers is_in_extern) (again found.has_mods found.has_extern) (state p.old) (state p.new)) }
@@ -45,7 +45,7 @@ pub fn modifiers<G: Grammar>(
         restricted,
         either(qualified, either(safe, either(has_extern, marked))),
     );
-    Ok(Modifiers {
+    Ok(ItemModifiers {
         has_mods,
         has_extern,
     })

@@ -174,11 +174,9 @@ pub fn use_tree_list<G: Grammar>(p: &mut Parser<'_>, g: &G) -> Result<(), NoMemo
 struct NestedUseTree;
 
 impl Element for NestedUseTree {
-    ghost use Rattle.rap_rules.specs.UseItem as set;
-
     ghost element = { λ _. script.nested_use_tree };
 
-    ghost first = { λ _. set.is_use_tree_list_first };
+    ghost first = { λ _. script.is_use_tree_list_first };
 
     fn parse<G: Grammar>(&self, p: &mut Parser<'_>, g: &G) -> Result<bool, NoMemory> {
         if is_use_tree_start(p) {
@@ -186,7 +184,8 @@ impl Element for NestedUseTree {
             return Ok(true);
         }
         p.err_and_bump("expected one of `*`, `::`, `{`, `self`, `super` or an identifier")?;
-        Ok(p.at_ts(use_tree_list_recovery_set()))
+        let going_on = p.at_ts(use_tree_list_recovery_set());
+        Ok(going_on)
     }
 
     fn is_first(&self, kind: SyntaxKind) -> bool {

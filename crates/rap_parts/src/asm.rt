@@ -110,8 +110,15 @@ fn named_operand<G: Grammar>(
         return Ok(Some(false));
     }
     op_n.abandon(p)?;
-    let allow = no_operand(p, g, allow_templates && !is_named)?;
+    let allow = no_operand(p, g, templates_after(allow_templates, is_named))?;
     Ok(allow)
+}
+
+/// Whether a template may still follow: none does behind a name.
+fn templates_after(allow_templates: bool, is_named: bool) -> bool
+    ensures { result ≡ script.templates_after allow_templates (of_bool is_named) }
+{
+    if is_named { false } else { allow_templates }
 }
 
 /// What stands where no operand does: a template, where one may still follow. Answers as `asm_piece` does.
@@ -281,8 +288,11 @@ fn reg_operand<G: Grammar>(p: &mut Parser<'_>, g: &G, goes_both_ways: bool) -> R
     parse_reg(p)?;
     let op_expr = p.start()?;
     expr(p, g)?;
-    if goes_both_ways && p.at(T![=>]) {
-        p.bump(T![=>])?;
+    if !goes_both_ways {
+        op_expr.complete(p, SyntaxKind::ASM_OPERAND_EXPR)?;
+        return Ok(());
+    }
+    if p.eat(T![=>])? {
         expr(p, g)?;
         op_expr.complete(p, SyntaxKind::ASM_OPERAND_EXPR)?;
         return Ok(());
@@ -354,7 +364,10 @@ fn clobber_abis(p: &mut Parser<'_>) -> Result<(), NoMemory>
     ensures grew { OnOk result (Grew (state p.old) (state p.new) 1) }
     ensures script { OnOk result (Follows script.clobber_abis something (state p.old) (state p.new)) }
 {
-    'abis: while !p.eat(T![')'])? && !p.at(SyntaxKind::EOF) {
+    'abis: while !p.at(SyntaxKind::EOF) {
+        if p.eat(T![')'])? {
+            return Ok(());
+        }
         if !p.expect(T![string])? {
             return Ok(());
         }
@@ -382,7 +395,10 @@ fn asm_options(p: &mut Parser<'_>) -> Result<(), NoMemory>
     ensures grew { OnOk result (Grew (state p.old) (state p.new) 0) }
     ensures script { OnOk result (Follows script.asm_options something (state p.old) (state p.new)) }
 {
-    'options: while !p.eat(T![')'])? && !p.at(SyntaxKind::EOF) {
+    'options: while !p.at(SyntaxKind::EOF) {
+        if p.eat(T![')'])? {
+            return Ok(());
+        }
         let m = p.start()?;
         if !option_name(p)? {
             p.err_and_bump("expected asm option")?;

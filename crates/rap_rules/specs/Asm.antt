@@ -33,8 +33,8 @@ parse_reg = expect L_PAREN (after reg_spec (λ v. expect R_PAREN done))
 -- the names of ABIs; the list ends where none follows
 abbrev pub clobber_turn : Bool → Bool → Script Phrase
 clobber_turn a b =
-    test (is_at R_PAREN) (token R_PAREN done)
-    (test (is_at EOF) done
+    test (is_at EOF) done
+    (test (is_at R_PAREN) (token R_PAREN done)
     (test (is_at STRING)
     (token STRING (test (is_at R_PAREN) (token R_PAREN done) (expect COMMA (give (again a b)))))
     (report (expected STRING) done)))
@@ -64,8 +64,8 @@ option_name =
 -- options; what is none is passed over
 abbrev pub options_turn : Bool → Bool → Script Phrase
 options_turn a b =
-    test (is_at R_PAREN) (token R_PAREN done)
-    (test (is_at EOF) done
+    test (is_at EOF) done
+    (test (is_at R_PAREN) (token R_PAREN done)
     (start (after option_name (λ v. if_some v
     (finish ASM_OPTION (test (is_at R_PAREN) (token R_PAREN done) (expect COMMA (give (again a b)))))
     (skip (codes "expected asm option") (abandon (give (again a b))))))))

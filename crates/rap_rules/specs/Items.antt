@@ -1,5 +1,5 @@
 -- Items.
-use Rattle.std.specs.Prelude.{◌≡◌, ◌≢◌, ℕ, ◌+◌, ◌*◌, ◌≤◌, Bool, true, false, Option, Some, None, List, [], ◌∷◌, drop, ◌==◌, ◌&&◌, not, if◌then◌else◌, codes}
+use Rattle.std.specs.Prelude.{◌≡◌, ◌≢◌, ℕ, ◌+◌, ◌*◌, ◌≤◌, Bool, true, false, Option, Some, None, List, [], ◌∷◌, drop, ◌==◌, ◌&&◌, ◌||◌, not, if◌then◌else◌, codes}
 use Rattle.rap_base.specs.TokenKind.{EOF, ERROR, L_CURLY, R_CURLY, SEMICOLON, COLON, EQ, BANG, POUND, UNDERSCORE, IDENT, MUT_KW, EXTERN_KW, CRATE_KW, USE_KW, MOD_KW, TYPE_KW, CONST_KW, STATIC_KW, STRUCT_KW, ENUM_KW, UNION_KW, MACRO_KW, MACRO_RULES_KW, BUILTIN_KW, GLOBAL_ASM_KW, FN_KW, TRAIT_KW, IMPL_KW, LET_KW, SHEBANG, FRONTMATTER}
 use Rattle.rap_base.specs.NodeKind.{EXTERN_CRATE, MODULE, TYPE_ALIAS, ITEM_LIST, EXTERN_ITEM_LIST, EXTERN_BLOCK}
 use Rattle.rap_events.specs.Machine.{push, top}
@@ -39,19 +39,33 @@ Handed old new None = Ended old new item_room
 Handed old new (Some m) = (new ≡ old) × (new.marker ≡ Some m.pos)
 
 -- where no item follows: what stood before it is reported, or nothing did
-abbrev pub Refused : Bool → State → State → Option Marker → Type 0
-Refused seen old new None = (seen ≡ true) × Dropped old new 2
-Refused seen old new (Some m) = (seen ≡ false) × ((new ≡ old) × (new.marker ≡ Some m.pos))
+abbrev pub Refused : Bool → Bool → State → State → Option Marker → Type 0
+Refused has_visibility has_mods old new None = (has_visibility || has_mods ≡ true) × Dropped old new 2
+Refused has_visibility has_mods old new (Some m) =
+    ((has_visibility ≡ false) × (has_mods ≡ false)) × ((new ≡ old) × (new.marker ≡ Some m.pos))
+
+-- what an item leaves from its modifiers on, by whether a visibility stood before them
+pub record Parted (has_visibility : Bool) (old new : State) : Type 0 where
+  pub input : new.input ≡ old.input
+  pub left : new.left ≤ old.left
+  pub count : new.count + 256 * new.left ≤ old.count + 256 * old.left + 2
+  pub messages : old.messages ≤ new.messages
+  pub below : old.below ≡ push new.below new.marker (top old.below)
+  pub ended : has_visibility ≡ false → Ended old new item_room
+
+abbrev pub Modified : Bool → State → State → Option Marker → Type 0
+Modified has_visibility old new None = Parted has_visibility old new
+Modified has_visibility old new (Some m) = (has_visibility ≡ false) × ((new ≡ old) × (new.marker ≡ Some m.pos))
 
 -- What an item or what stands in its place leaves, under a marker that is gone then: a token is taken unless none is
 -- left, or a brace ends the list of items.
-pub record EndsItem (stop_on_r_curly : Bool) (old new : State) (k room : ℕ) : Type 0 where
+pub record EndsItem (stop_on_r_curly : Bool) (old new : State) : Type 0 where
   pub input : new.input ≡ old.input
   pub left : new.left ≤ old.left
-  pub count : new.count + 256 * new.left ≤ old.count + 256 * old.left + k
+  pub count : new.count + 256 * new.left ≤ old.count + 256 * old.left + 2
   pub messages : old.messages ≤ new.messages
   pub below : old.below ≡ push new.below new.marker (top old.below)
-  pub took : next old ≢ EOF → (stop_on_r_curly ≡ true → next old ≢ R_CURLY) → Ended old new room
+  pub took : next old ≢ EOF → (stop_on_r_curly ≡ true → next old ≢ R_CURLY) → Ended old new item_room
 
 -- the same without a marker
 pub record SkipsItem (stop_on_r_curly : Bool) (old new : State) : Type 0 where
@@ -198,14 +212,18 @@ refuse has_visibility has_mods =
     else if has_visibility then report (codes "expected an item") (finish ERROR done)
     else give nothing
 
+unfoldable pub opt_modified_item : Bool → Bool → Script Phrase
+opt_modified_item has_visibility is_in_extern =
+    after (modifiers is_in_extern) (λ v.
+    after (opt_item_with_modifiers (has_extern v)) (λ w. if_some w done
+    (refuse has_visibility (has_mods v))))
+
 -- an item from the newest node on, if one comes next; nothing if none does
 unfoldable pub opt_item : Bool → Script Phrase
 opt_item is_in_extern =
     after (opt_visibility false) (λ v.
     after opt_item_without_modifiers (λ w. if_some w done
-    (after (modifiers is_in_extern) (λ x.
-    after (opt_item_with_modifiers (has_extern x)) (λ y. if_some y done
-    (refuse (found v) (has_mods x)))))))
+    (opt_modified_item (found v) is_in_extern)))
 
 -- a semicolon behind an item
 unfoldable pub after_item : Script Phrase
@@ -219,12 +237,15 @@ unfoldable pub path_item : Script Phrase
 path_item =
     after use_path (λ v. test (is_at BANG) macro_call (finish ERROR (report (codes "expected an item") done)))
 
+-- a brace that closes nothing
+unfoldable pub unmatched_brace : Script Phrase
+unmatched_brace = start (report (codes "unmatched `}`") (token R_CURLY (finish ERROR done)))
+
 -- where no item begins and no path
 unfoldable pub missing_item : Bool → Script Phrase
 missing_item stop_on_r_curly =
     test (next_is L_CURLY) (error_block (codes "expected an item"))
-    (test (λ rs. next_is R_CURLY rs && not stop_on_r_curly)
-    (start (report (codes "unmatched `}`") (token R_CURLY (finish ERROR done))))
+    (test (λ rs. next_is R_CURLY rs && not stop_on_r_curly) unmatched_brace
     (test (λ rs. one_of (EOF ∷ R_CURLY ∷ []) (next_kind rs)) (report (codes "expected an item") done)
     (test (next_is LET_KW) (error_let_stmt (codes "expected an item"))
     (skip (codes "expected an item") done))))
@@ -233,11 +254,15 @@ unfoldable pub macro_or_error : Bool → Script Phrase
 macro_or_error stop_on_r_curly =
     test starts_use_path path_item (abandon (missing_item stop_on_r_curly))
 
+-- an item behind its attributes, or what stands in its place
+unfoldable pub marked_item : Bool → Bool → Script Phrase
+marked_item stop_on_r_curly is_in_extern =
+    after (opt_item is_in_extern) (λ v. if_some v after_item (macro_or_error stop_on_r_curly))
+
 -- an item, or a macro call in its place
 unfoldable pub item_or_macro : Bool → Bool → Script Phrase
 item_or_macro stop_on_r_curly is_in_extern =
-    start (after outer_attrs (λ v. after (opt_item is_in_extern) (λ w. if_some w after_item
-    (macro_or_error stop_on_r_curly))))
+    start (after outer_attrs (λ v. marked_item stop_on_r_curly is_in_extern))
 
 -- what a file holds, behind its shebang and its frontmatter
 unfoldable pub source_file : Script Phrase

@@ -179,7 +179,27 @@ pub fn patterns(rt: &impl Abort, alloc: Global, table: &str) -> Result<(), Fail>
 
 /// The same as an expression.
 pub fn expressions(rt: &impl Abort, alloc: Global, table: &str) -> Result<(), Fail> {
-    compare_table(rt, alloc, (Edition::LATEST, TopEntryPoint::Expr), table)
+    expressions_in(rt, alloc, Edition::LATEST, table)
+}
+
+/// The same, in an edition.
+pub fn expressions_in(
+    rt: &impl Abort,
+    alloc: Global,
+    edition: Edition,
+    table: &str,
+) -> Result<(), Fail> {
+    compare_table(rt, alloc, (edition, TopEntryPoint::Expr), table)
+}
+
+/// The same as the statements of a macro, in the newest edition.
+pub fn statements(rt: &impl Abort, alloc: Global, table: &str) -> Result<(), Fail> {
+    compare_table(
+        rt,
+        alloc,
+        (Edition::LATEST, TopEntryPoint::MacroStmts),
+        table,
+    )
 }
 
 /// The same as what stands in the brackets of an attribute.

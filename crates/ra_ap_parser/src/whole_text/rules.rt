@@ -1,11 +1,25 @@
 //! Texts for each rule, with their trees and messages as the Rust crate gives them.
+mod assembly;
 mod attributes;
+mod blocks;
+mod braces;
+mod builtins;
+mod closures;
+mod conditions;
 mod expressions;
+mod float_fields;
 mod generic_args;
 mod generic_params;
+mod jumps;
+mod macro_calls;
+mod matches;
+mod operands;
 mod params;
 mod paths;
 mod pattern_lists;
 mod patterns;
+mod records;
+mod statement_items;
+mod statements;
 mod token_trees;
 mod types;

@@ -22,7 +22,10 @@ use rap_rules::knot::Grammar;
 
 /// A closure, as `|a| b`.
 #[inline(never)]
-pub(super) fn closure_expr<G: Grammar>(p: &mut Parser<'_>, g: &G) -> Result<CompletedMarker, NoMemory>
+pub(super) fn closure_expr<G: Grammar>(
+    p: &mut Parser<'_>,
+    g: &G,
+) -> Result<CompletedMarker, NoMemory>
     requires within { Within G.valid G.left g.now (state p.old) }
     requires here { starts_closure (state p.old).rest ≡ true }
     ensures made { IfOk result (Makes CLOSURE_EXPR atom_room (state p.old) (state p.new)) }

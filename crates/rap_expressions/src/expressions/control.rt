@@ -1,5 +1,5 @@
 //! Conditions, loops and labels.
-ghost use Rattle.std.specs.Prelude.{◌≡◌, ◌≢◌, ◌<◌, ◌≤◌, IfOk, OnOk, Some, None, true, ◌⊎◌};
+ghost use Rattle.std.specs.Prelude.{◌≡◌, ◌≢◌, ◌<◌, ◌≤◌, IfOk, OnOk, Some};
 ghost use Rattle.rap_base.specs.TokenKind.{IF_KW, LET_KW, LOOP_KW, WHILE_KW, FOR_KW, LIFETIME_IDENT, COLON};
 ghost use Rattle.rap_base.specs.NodeKind.{IF_EXPR, LET_EXPR, LOOP_EXPR, WHILE_EXPR, FOR_EXPR};
 ghost use Rattle.rap_events.specs.State.{state, next, NthAt};
@@ -57,7 +57,11 @@ fn else_branch<G: Grammar>(p: &mut Parser<'_>, g: &G) -> Result<(), NoMemory>
 
 /// A pattern as a condition, as `let a = b`.
 #[inline(never)]
-pub(super) fn let_expr<G: Grammar>(p: &mut Parser<'_>, g: &G, r: Restrictions) -> Result<CompletedMarker, NoMemory>
+pub(super) fn let_expr<G: Grammar>(
+    p: &mut Parser<'_>,
+    g: &G,
+    r: Restrictions,
+) -> Result<CompletedMarker, NoMemory>
     requires within { Within G.valid G.left g.now (state p.old) }
     requires here { next (state p.old) ≡ LET_KW }
     ensures made { IfOk result (Makes LET_EXPR atom_room (state p.old) (state p.new)) }

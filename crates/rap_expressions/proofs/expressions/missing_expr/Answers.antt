@@ -3,7 +3,11 @@ use Rattle.rap_rules.specs.Expressions.{missing_expr}
 use Rattle.rap_rules.specs.Recovery.{is_expr_recovery}
 use Rattle.rap_rules.specs.Script.{gives}
 use Rattle.rap_rules.proofs.Steps.{by_recover, by_abandon}
+use Rattle.rap_expressions.proofs.Missing.{spent_missing}
 use Rattle.rap_expressions.proofs.expressions.missing_expr.Goals as goal
+
+pub returns-clause-spent : goal.returns-clause-spent
+returns-clause-spent c = spent_missing (search rules) c.in_ok-err_recover.ensures.state c.in_ok-abandon.ensures.state
 
 pub returns-clause-script : goal.returns-clause-script
 unfolding missing_expr

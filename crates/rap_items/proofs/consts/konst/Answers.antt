@@ -1,0 +1,14 @@
+use Rattle.std.proofs.Common.{rules}
+use Rattle.rap_rules.specs.Consts.{konst}
+use Rattle.rap_rules.specs.Script.{gives}
+use Rattle.rap_rules.proofs.Steps.{by_bump, by_complete, by_eat, by_rule}
+use Rattle.rap_items.proofs.consts.konst.Goals as goal
+
+pub returns-clause-script : goal.returns-clause-script
+unfolding konst
+returns-clause-script g c = record {
+  run = by_eat c.in_ok-eat.ensures.state
+      (by_bump (search rules) c.in_ok-bump.ensures.state
+      (by_rule c.in_ok-const_or_static.ensures.script
+      (by_complete c.in_ok-complete.ensures.state.0 gives)));
+}

@@ -1,0 +1,16 @@
+use Rattle.rap_rules.specs.Items.{macro_or_error}
+use Rattle.rap_rules.proofs.Steps.{then_by, else_by, by_abandon, to_end}
+use Rattle.rap_items.proofs.items.macro_or_error.Goals as goal
+
+pub returns-then-is_use_path_start-clause-script : goal.returns-then-is_use_path_start-clause-script
+unfolding macro_or_error
+returns-then-is_use_path_start-clause-script g c = record {
+  run = then_by c.is_use_path_start.ensures c.if-is_use_path_start.true (to_end c.in_ok-path_item.ensures.script);
+}
+
+pub returns-clause-script : goal.returns-clause-script
+unfolding macro_or_error
+returns-clause-script g c = record {
+  run = else_by c.is_use_path_start.ensures c.if-is_use_path_start.false
+      (by_abandon c.in_ok-abandon.ensures.state (to_end c.in_ok-missing_item.ensures.script));
+}

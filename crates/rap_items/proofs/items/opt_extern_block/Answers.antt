@@ -1,0 +1,16 @@
+use Rattle.rap_rules.specs.Items.{opt_extern_block}
+use Rattle.rap_rules.specs.Script.{gives}
+use Rattle.rap_rules.proofs.Steps.{by_rule, by_complete}
+use Rattle.rap_items.proofs.items.opt_extern_block.Goals as goal
+
+pub returns-then-not-has_extern-clause-script : goal.returns-then-not-has_extern-clause-script
+unfolding opt_extern_block
+returns-then-not-has_extern-clause-script g c = record {
+  run = rw c.if-not-has_extern.true gives;
+}
+
+pub returns-clause-script : goal.returns-clause-script
+unfolding opt_extern_block
+returns-clause-script g c = record {
+  run = rw c.if-not-has_extern.false (by_rule c.in_ok-extern_item_list.ensures.script (by_complete c.in_ok-complete.ensures.state.0 gives));
+}

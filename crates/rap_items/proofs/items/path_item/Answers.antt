@@ -1,0 +1,20 @@
+use Rattle.rap_rules.specs.Items.{path_item}
+use Rattle.rap_rules.specs.Script.{gives}
+use Rattle.rap_rules.proofs.Steps.{then_by, else_by, by_rule, by_complete, by_report, to_end}
+use Rattle.rap_items.proofs.items.path_item.Goals as goal
+
+pub returns-then-at-clause-script : goal.returns-then-at-clause-script
+unfolding path_item
+returns-then-at-clause-script g c = record {
+  run = by_rule c.in_ok-use_path.ensures.script
+      (then_by c.at.ensures c.if-at.true (to_end c.in_ok-macro_call.ensures.script));
+}
+
+pub returns-clause-script : goal.returns-clause-script
+unfolding path_item
+returns-clause-script g c = record {
+  run = by_rule c.in_ok-use_path.ensures.script
+      (else_by c.at.ensures c.if-at.false
+      (by_complete c.in_ok-complete.ensures.state.0
+      (by_report c.in_ok-error.ensures.state gives)));
+}

@@ -1,0 +1,14 @@
+use Rattle.rap_rules.specs.Macros.{macro_rules}
+use Rattle.rap_rules.specs.Script.{gives}
+use Rattle.rap_rules.proofs.Steps.{by_bear, by_expect, by_rule, by_complete}
+use Rattle.rap_items.proofs.macros.macro_rules.Goals as goal
+
+pub returns-clause-script : goal.returns-clause-script
+unfolding macro_rules
+returns-clause-script c = record {
+  run = by_bear c.requires.here c.in_ok-bump_remap.ensures.state
+      (by_expect c.in_ok-expect.ensures.state
+      (by_rule c.in_ok-name.ensures.script
+      (by_rule c.in_ok-rules_in_brackets.ensures.script
+      (by_complete c.in_ok-complete.ensures.state.0 gives))));
+}

@@ -1,0 +1,23 @@
+use Rattle.std.proofs.Common.{◌∙◌}
+use Rattle.rap_rules.specs.Called.{use_tree}
+use Rattle.rap_rules.specs.Knot.{script_of}
+use Rattle.rap_rules.specs.Phrase.{tree_of_use}
+use Rattle.rap_rules.specs.Script.{gives}
+use Rattle.rap_rules.specs.UseItem.{nested_use_tree}
+use Rattle.rap_rules.proofs.Steps.{by_part, by_skip, decided, else_by, then_by}
+use Rattle.rap_items.proofs.use_item.NestedUseTreeElement.parse.Goals as goal
+
+pub returns-then-is_use_tree_start-clause-script : goal.returns-then-is_use_tree_start-clause-script
+unfolding nested_use_tree use_tree script_of
+returns-then-is_use_tree_start-clause-script g c = record {
+  run = then_by c.is_use_tree_start.ensures c.if-is_use_tree_start.true
+      (by_part tree_of_use c.in_ok-run.ensures.1 gives);
+}
+
+pub returns-clause-script : goal.returns-clause-script
+unfolding nested_use_tree use_tree script_of
+returns-clause-script g c = record {
+  run = else_by c.is_use_tree_start.ensures c.if-is_use_tree_start.false
+      (by_skip c.in_ok-err_and_bump.ensures.state
+      (decided c.at_ts-going_on.result (c.at_ts-going_on.ensures ∙ c.use_tree_list_recovery_set.ensures _) (λ y. rw y gives) (λ n. rw n gives)));
+}
