@@ -3,7 +3,7 @@
 //! `K(..)` is a node with its children and `K"t"` a leaf; `_` is a leaf of one space, `P:a` the path that is the name `a`,
 //! and `E:a` and `T:a` are the expression and the type that are that path. Each message stands behind a bar, with its
 //! place. In a table each text stands between `«` and `»`, and its tree and messages behind it, each message in a line of
-//! its own.
+//! its own; a further line of a message stands behind two bars.
 use super::{TextFault, parse_text};
 use crate::entry_point::TopEntryPoint;
 use crate::shortcuts::{StrSink, StrStep};
@@ -127,13 +127,34 @@ pub fn compare(rt: &impl Abort, alloc: Global, rows: &[Row]) -> Result<(), Fail>
     Ok(())
 }
 
+/// Compares each text, as a source file in the newest edition, with its row.
+pub fn compare_source_files(rt: &impl Abort, alloc: Global, rows: &[Row]) -> Result<(), Fail> {
+    let read = (Edition::LATEST, TopEntryPoint::SourceFile);
+    for (text, tree, messages) in rows {
+        compare_text(rt, alloc, read, (text, tree, messages))?;
+    }
+    Ok(())
+}
+
+/// The same as the items of a macro.
+pub fn compare_macro_items(rt: &impl Abort, alloc: Global, rows: &[Row]) -> Result<(), Fail> {
+    let read = (Edition::LATEST, TopEntryPoint::MacroItems);
+    for (text, tree, messages) in rows {
+        compare_text(rt, alloc, read, (text, tree, messages))?;
+    }
+    Ok(())
+}
+
 /// The tree and the messages out of their lines.
 fn tree_and_messages(alloc: Global, lines: &str) -> Result<(String, String), AllocError> {
     let mut tree = String::new(alloc);
     let mut messages = String::new(alloc);
     for line in lines.lines() {
         let line = line.trim();
-        if line.starts_with('|') {
+        if let Some(rest) = line.strip_prefix("||") {
+            messages.push_str("\n")?;
+            messages.push_str(rest)?;
+        } else if line.starts_with('|') {
             messages.push_str(line)?;
         } else if !line.is_empty() {
             if !tree.is_empty() {
@@ -198,6 +219,31 @@ pub fn statements(rt: &impl Abort, alloc: Global, table: &str) -> Result<(), Fai
         rt,
         alloc,
         (Edition::LATEST, TopEntryPoint::MacroStmts),
+        table,
+    )
+}
+
+/// The same as a source file.
+pub fn source_files(rt: &impl Abort, alloc: Global, table: &str) -> Result<(), Fail> {
+    source_files_in(rt, alloc, Edition::LATEST, table)
+}
+
+/// The same, in an edition.
+pub fn source_files_in(
+    rt: &impl Abort,
+    alloc: Global,
+    edition: Edition,
+    table: &str,
+) -> Result<(), Fail> {
+    compare_table(rt, alloc, (edition, TopEntryPoint::SourceFile), table)
+}
+
+/// The same as the items of a macro, in the newest edition.
+pub fn macro_items(rt: &impl Abort, alloc: Global, table: &str) -> Result<(), Fail> {
+    compare_table(
+        rt,
+        alloc,
+        (Edition::LATEST, TopEntryPoint::MacroItems),
         table,
     )
 }
