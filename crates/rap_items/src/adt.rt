@@ -16,7 +16,7 @@ use rap_base::syntax_kind::SyntaxKind;
 use rap_events::parser::{Marker, Parser};
 use rap_parts::attributes::outer_attrs;
 use rap_parts::blocks::error_block;
-use rap_parts::paths::item_recovery_set;
+use rap_rules::recovery::item_recovery_set;
 use rap_rules::T;
 use rap_rules::called::{expr, opt_generic_param_list, opt_where_clause, type_};
 use rap_rules::first::{is_outer_attr_first, is_type_first};

@@ -15,11 +15,12 @@ use rap_base::no_memory::NoMemory;
 use rap_base::syntax_kind::SyntaxKind;
 use rap_base::token_set::TokenSet;
 use rap_events::parser::{Marker, Parser};
-use rap_parts::paths::{item_recovery_set, use_path};
+use rap_parts::paths::use_path;
 use rap_rules::T;
 use rap_rules::first::is_use_path_start;
 use rap_rules::knot::{Grammar, Rule};
 use rap_rules::lists::{Element, delimited};
+use rap_rules::recovery::item_recovery_set;
 use rap_rules::names::opt_rename;
 
 /// An import from its keyword on, as `use a::b;`.
