@@ -81,26 +81,31 @@ pub answered : (stmt : Bool) (bp : ℕ) (o : Option (CompletedMarker × BlockLik
     Answered s0 t None stmt bp o
 answered stmt bp (Some e) {s0 = s0} {t = t} p a took stays d spent =
     let c = d.0 in
-    let below : push s0.below s0.marker s0.forest ≡ push t.below t.marker (but_last t.forest) = sym p.below ∙ sym a.below ∙ c.below in
-    (record {
-      took = record {
-        input = c.input ∙ a.input ∙ p.recorded.input;
-        left = omega (arith, p.recorded.left, a.left, c.left);
-        count = omega (arith, p.recorded.left, p.recorded.count, a.left, a.count, c.count);
-        messages = omega (arith, p.recorded.messages, a.messages, c.messages);
+    let below : push s0.below s0.marker s0.forest ≡ push t.below t.marker (but_last t.forest) = sym p.below ∙ sym a.below ∙ c.below in (
+      record {
+        took = record {
+          input = c.input ∙ a.input ∙ p.recorded.input;
+          left = omega (arith, p.recorded.left, a.left, c.left);
+          count = omega (arith, p.recorded.left, p.recorded.count, a.left, a.count, c.count);
+          messages = omega (arith, p.recorded.messages, a.messages, c.messages);
+          marker = cc;
+          below = cc;
+        };
+        last = c.last;
+        one = cc;
+      },
+      d.1,
+    )
+answered stmt bp None {s0 = s0} {s2 = s2} {t = t} p a took stays d spent =
+    let below : push s0.below s0.marker s0.forest ≡ push t.below t.marker (top s2.below) = sym p.below ∙ sym a.below ∙ d.below in (
+      record {
+        input = d.input ∙ a.input ∙ p.recorded.input;
+        left = omega (arith, p.recorded.left, a.left, d.left);
+        count = omega (arith, p.recorded.left, p.recorded.count, a.left, a.count, d.left, d.count);
+        messages = omega (arith, p.recorded.messages, a.messages, d.messages);
         marker = cc;
         below = cc;
-      };
-      last = c.last;
-      one = cc;
-    }, d.1)
-answered stmt bp None {s0 = s0} {s2 = s2} {t = t} p a took stays d spent =
-    let below : push s0.below s0.marker s0.forest ≡ push t.below t.marker (top s2.below) = sym p.below ∙ sym a.below ∙ d.below in
-    (record {
-      input = d.input ∙ a.input ∙ p.recorded.input;
-      left = omega (arith, p.recorded.left, a.left, d.left);
-      count = omega (arith, p.recorded.left, p.recorded.count, a.left, a.count, d.left, d.count);
-      messages = omega (arith, p.recorded.messages, a.messages, d.messages);
-      marker = cc;
-      below = cc;
-    }, omega (arith, p.recorded.messages, a.messages, d.messages), took_missing p a took stays d (spent refl))
+      },
+      omega (arith, p.recorded.messages, a.messages, d.messages),
+      took_missing p a took stays d (spent refl),
+    )
