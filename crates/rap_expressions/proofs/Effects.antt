@@ -1,7 +1,7 @@
 -- What stands before the brace of a block with an effect.
-use Rattle.std.proofs.Common.{◌≡◌, ℕ, Bool, true, false, ◌==◌, ◌&&◌, ◌||◌, List, [], ◌∷◌, drop, zero, suc, refl, sym, ap, ◌∙◌, arith}
+use Rattle.std.proofs.Common.{◌≡◌, ◌≢◌, ℕ, Bool, true, false, ◌==◌, ◌&&◌, ◌||◌, List, [], ◌∷◌, drop, zero, suc, refl, sym, ap, ◌∙◌, arith}
 use Rattle.std.proofs.lemmas.Bool.Decides.{nat_tests}
-use Rattle.rap_base.specs.TokenKind.{L_CURLY, CONST_KW, UNSAFE_KW, ASYNC_KW, GEN_KW, MOVE_KW}
+use Rattle.rap_base.specs.TokenKind.{EOF, L_CURLY, CONST_KW, UNSAFE_KW, ASYNC_KW, GEN_KW, MOVE_KW}
 use Rattle.rap_events.specs.Record.{Record, next_kind, kind_at}
 use Rattle.rap_events.specs.State.{State, next, Bumped, Ate}
 use Rattle.rap_rules.specs.Atom.{starts_effect_block}
@@ -20,7 +20,7 @@ next_at (suc n) [] = refl
 next_at (suc n) (r ∷ rs) = next_at n rs
 
 -- the kinds of the first four tokens of such a block
-Starts : ℕ → ℕ → ℕ → ℕ → Type 0
+abbrev Starts : ℕ → ℕ → ℕ → ℕ → Type 0
 Starts a b c d =
     (((one_of (CONST_KW ∷ UNSAFE_KW ∷ ASYNC_KW ∷ GEN_KW ∷ []) a && (b == L_CURLY))
     || (((a == ASYNC_KW) && ((b == GEN_KW) && (c == L_CURLY)))
@@ -38,6 +38,14 @@ after_move a b c d h e f = grind (arith, nat_tests)
 
 after_none : (a b c d : ℕ) → Starts a b c d → (b == GEN_KW) ≡ false → (b == MOVE_KW) ≡ false → b ≡ L_CURLY
 after_none a b c d h e f = grind (arith, nat_tests)
+
+some_kind : (a b c d : ℕ) → Starts a b c d → a ≢ EOF
+some_kind a b c d h e = grind (arith, nat_tests)
+
+-- such a block begins with a token
+pub some_first : (rs : List Record) → starts_effect_block rs ≡ true → next_kind rs ≢ EOF
+unfolding starts_effect_block
+some_first rs h = some_kind (next_kind rs) (kind_at rs 1) (kind_at rs 2) (kind_at rs 3) h
 
 brace : (rs : List Record) → starts_effect_block rs ≡ true → next_kind (drop (past MOVE_KW (past GEN_KW 1 rs) rs) rs) ≡ L_CURLY
 unfolding starts_effect_block

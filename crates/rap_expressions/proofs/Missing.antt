@@ -75,32 +75,37 @@ took_missing {s0 = s0} {s1 = s1} {s2 = s2} {t = t} p a took stays d spent h =
     })
 
 -- an expression behind its attributes
-pub answered : (o : Option (CompletedMarker × BlockLike)) {s0 s1 s2 t : State} {m bp : ℕ} {stmt : Bool} → Opened s0 s1 m → Grew s1 s2 0 →
+pub answered : (stmt : Bool) (bp : ℕ) (o : Option (CompletedMarker × BlockLike)) {s0 s1 s2 t : State} {m : ℕ} → Opened s0 s1 m → Grew s1 s2 0 →
     (is_outer_attr_first (next s1) ≡ true → Took s1 s2 list_room) → (is_outer_attr_first (next s1) ≡ false → s2 ≡ s1) →
     AnsweredFrom s2 t stmt bp o → (o ≡ None → stops_expr (next s2) ≡ false → Spent s2 t marked_room) →
     Answered s0 t None stmt bp o
-answered (Some e) {s0 = s0} {t = t} p a took stays d spent =
+answered stmt bp (Some e) {s0 = s0} {t = t} p a took stays d spent =
     let c = d.0 in
-    let below : push s0.below s0.marker s0.forest ≡ push t.below t.marker (but_last t.forest) = sym p.below ∙ sym a.below ∙ c.below in
-    (record {
-      took = record {
-        input = c.input ∙ a.input ∙ p.recorded.input;
-        left = omega (arith, p.recorded.left, a.left, c.left);
-        count = omega (arith, p.recorded.left, p.recorded.count, a.left, a.count, c.count);
-        messages = omega (arith, p.recorded.messages, a.messages, c.messages);
+    let below : push s0.below s0.marker s0.forest ≡ push t.below t.marker (but_last t.forest) = sym p.below ∙ sym a.below ∙ c.below in (
+      record {
+        took = record {
+          input = c.input ∙ a.input ∙ p.recorded.input;
+          left = omega (arith, p.recorded.left, a.left, c.left);
+          count = omega (arith, p.recorded.left, p.recorded.count, a.left, a.count, c.count);
+          messages = omega (arith, p.recorded.messages, a.messages, c.messages);
+          marker = cc;
+          below = cc;
+        };
+        last = c.last;
+        one = cc;
+      },
+      d.1,
+    )
+answered stmt bp None {s0 = s0} {s2 = s2} {t = t} p a took stays d spent =
+    let below : push s0.below s0.marker s0.forest ≡ push t.below t.marker (top s2.below) = sym p.below ∙ sym a.below ∙ d.below in (
+      record {
+        input = d.input ∙ a.input ∙ p.recorded.input;
+        left = omega (arith, p.recorded.left, a.left, d.left);
+        count = omega (arith, p.recorded.left, p.recorded.count, a.left, a.count, d.left, d.count);
+        messages = omega (arith, p.recorded.messages, a.messages, d.messages);
         marker = cc;
         below = cc;
-      };
-      last = c.last;
-      one = cc;
-    }, d.1)
-answered None {s0 = s0} {s2 = s2} {t = t} p a took stays d spent =
-    let below : push s0.below s0.marker s0.forest ≡ push t.below t.marker (top s2.below) = sym p.below ∙ sym a.below ∙ d.below in
-    (record {
-      input = d.input ∙ a.input ∙ p.recorded.input;
-      left = omega (arith, p.recorded.left, a.left, d.left);
-      count = omega (arith, p.recorded.left, p.recorded.count, a.left, a.count, d.left, d.count);
-      messages = omega (arith, p.recorded.messages, a.messages, d.messages);
-      marker = cc;
-      below = cc;
-    }, omega (arith, p.recorded.messages, a.messages, d.messages), took_missing p a took stays d (spent refl))
+      },
+      omega (arith, p.recorded.messages, a.messages, d.messages),
+      took_missing p a took stays d (spent refl),
+    )

@@ -16,9 +16,7 @@ ghost use Rattle.rap_rules.specs.Words.{of_bool};
 
 use crate::expressions::blocks::{effect_expr, plain_block};
 use crate::expressions::builtin::builtin_expr;
-use crate::expressions::control::{
-    if_expr, labelled_expr, let_expr, loop_expr, while_expr,
-};
+use crate::expressions::control::{if_expr, labelled_expr, let_expr, loop_expr, while_expr};
 use crate::expressions::jumps::{
     become_expr, break_expr, continue_expr, return_expr, starts_yeet, yeet_expr, yield_expr,
 };
@@ -98,11 +96,7 @@ fn starts_label(p: &Parser<'_>) -> bool
 }
 
 /// A condition, a loop or a `match`, or one of those that [`jump_expr`] reads.
-fn control_expr<G: Grammar>(
-    p: &mut Parser<'_>,
-    g: &G,
-    r: Restrictions,
-) -> Result<Answer, NoMemory>
+fn control_expr<G: Grammar>(p: &mut Parser<'_>, g: &G, r: Restrictions) -> Result<Answer, NoMemory>
     requires within { Within G.valid G.left g.now (state p.old) }
     requires more { next (state p.old) ≢ EOF }
     ensures operand { IfOk result (Operand atom_room (state p.old) (state p.new)) }

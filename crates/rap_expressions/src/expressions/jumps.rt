@@ -90,10 +90,7 @@ pub(super) fn become_expr<G: Grammar>(
 
 /// A value that is given before going on, as `yield` and `yield a`.
 #[inline(never)]
-pub(super) fn yield_expr<G: Grammar>(
-    p: &mut Parser<'_>,
-    g: &G,
-) -> Result<CompletedMarker, NoMemory>
+pub(super) fn yield_expr<G: Grammar>(p: &mut Parser<'_>, g: &G) -> Result<CompletedMarker, NoMemory>
     requires within { Within G.valid G.left g.now (state p.old) }
     requires here { next (state p.old) ≡ YIELD_KW }
     ensures made { IfOk result (Makes YIELD_EXPR atom_room (state p.old) (state p.new)) }
@@ -116,10 +113,7 @@ pub(super) fn starts_yeet(p: &Parser<'_>) -> bool
 
 /// A failure that is handed on, as `do yeet` and `do yeet a`.
 #[inline(never)]
-pub(super) fn yeet_expr<G: Grammar>(
-    p: &mut Parser<'_>,
-    g: &G,
-) -> Result<CompletedMarker, NoMemory>
+pub(super) fn yeet_expr<G: Grammar>(p: &mut Parser<'_>, g: &G) -> Result<CompletedMarker, NoMemory>
     requires within { Within G.valid G.left g.now (state p.old) }
     requires here { next (state p.old) ≡ DO_KW }
     ensures made { IfOk result (Makes YEET_EXPR atom_room (state p.old) (state p.new)) }

@@ -7,7 +7,7 @@ pub returns-in_ok-expr-in-None-clause-answered : goal.returns-in_ok-expr-in-None
 returns-in_ok-expr-in-None-clause-answered g c =
     let a = c.in_ok-outer_attrs-in-None.ensures in
     let e = c.in_ok-expr-in-None.ensures in
-    rw c.in-None.is (answered _ c.in_ok-m-in-None.ensures.state a.grew a.took a.stays e.answered e.spent)
+    rw c.in-None.is (answered _ _ _ c.in_ok-m-in-None.ensures.state a.grew a.took a.stays e.answered e.spent)
 
 pub returns-in_ok-expr-in-Some-clause-script : goal.returns-in_ok-expr-in-Some-clause-script
 unfolding expr_bp

@@ -6,35 +6,35 @@ use Rattle.rap_rules.specs.Script.{gives, passes, fails}
 use Rattle.rap_rules.proofs.Steps.{by_rule, to_end}
 use Rattle.rap_expressions.proofs.expressions.atom.bracketed_expr.Goals as goal
 
-pub returns-in_ok-tuple_expr-in-L_PAREN-clause-script : goal.returns-in_ok-tuple_expr-in-L_PAREN-clause-script
+pub returns-in_ok-tuple_expr-clause-script : goal.returns-in_ok-tuple_expr-clause-script
 unfolding bracketed_expr
-returns-in_ok-tuple_expr-in-L_PAREN-clause-script g c =
+returns-in_ok-tuple_expr-clause-script g c =
     let e : next (state c.args.p.now) ≡ L_PAREN = search rules in
-    record { run = (passes (rw e refl) (to_end c.in_ok-tuple_expr-in-L_PAREN.ensures.script)) }
+    record { run = (passes (rw e refl) (to_end c.in_ok-tuple_expr.ensures.script)) }
 
-pub returns-in_ok-array_expr-in-L_BRACK-clause-script : goal.returns-in_ok-array_expr-in-L_BRACK-clause-script
+pub returns-in_ok-array_expr-clause-script : goal.returns-in_ok-array_expr-clause-script
 unfolding bracketed_expr
-returns-in_ok-array_expr-in-L_BRACK-clause-script g c =
+returns-in_ok-array_expr-clause-script g c =
     let e : next (state c.args.p.now) ≡ L_BRACK = search rules in
-    record { run = (fails (rw e refl) (passes (rw e refl) (to_end c.in_ok-array_expr-in-L_BRACK.ensures.script))) }
+    record { run = (fails (rw e refl) (passes (rw e refl) (to_end c.in_ok-array_expr.ensures.script))) }
 
-pub returns-in_ok-plain_block-in-L_CURLY-clause-script : goal.returns-in_ok-plain_block-in-L_CURLY-clause-script
+pub returns-in_ok-plain_block-clause-script : goal.returns-in_ok-plain_block-clause-script
 unfolding bracketed_expr
-returns-in_ok-plain_block-in-L_CURLY-clause-script g c =
+returns-in_ok-plain_block-clause-script g c =
     let e : next (state c.args.p.now) ≡ L_CURLY = search rules in
-    record { run = (fails (rw e refl) (fails (rw e refl) (passes (rw e refl) (by_rule c.in_ok-plain_block-in-L_CURLY.ensures.script gives)))) }
+    record { run = (fails (rw e refl) (fails (rw e refl) (passes (rw e refl) (by_rule c.in_ok-plain_block.ensures.script gives)))) }
 
-pub returns-in_ok-underscore_expr-in-UNDERSCORE-clause-script : goal.returns-in_ok-underscore_expr-in-UNDERSCORE-clause-script
+pub returns-in_ok-underscore_expr-clause-script : goal.returns-in_ok-underscore_expr-clause-script
 unfolding bracketed_expr
-returns-in_ok-underscore_expr-in-UNDERSCORE-clause-script g c =
+returns-in_ok-underscore_expr-clause-script g c =
     let e : next (state c.args.p.now) ≡ UNDERSCORE = search rules in
-    record { run = (fails (rw e refl) (fails (rw e refl) (fails (rw e refl) (passes (rw e refl) (to_end c.in_ok-underscore_expr-in-UNDERSCORE.ensures.script))))) }
+    record { run = (fails (rw e refl) (fails (rw e refl) (fails (rw e refl) (passes (rw e refl) (to_end c.in_ok-underscore_expr.ensures.script))))) }
 
-pub returns-in_ok-let_expr-in-LET_KW-clause-script : goal.returns-in_ok-let_expr-in-LET_KW-clause-script
+pub returns-in_ok-let_expr-clause-script : goal.returns-in_ok-let_expr-clause-script
 unfolding bracketed_expr
-returns-in_ok-let_expr-in-LET_KW-clause-script g c =
+returns-in_ok-let_expr-clause-script g c =
     let e : next (state c.args.p.now) ≡ LET_KW = search rules in
-    record { run = (fails (rw e refl) (fails (rw e refl) (fails (rw e refl) (fails (rw e refl) (passes (rw e refl) (to_end c.in_ok-let_expr-in-LET_KW.ensures.script)))))) }
+    record { run = (fails (rw e refl) (fails (rw e refl) (fails (rw e refl) (fails (rw e refl) (passes (rw e refl) (to_end c.in_ok-let_expr.ensures.script)))))) }
 
 pub returns-in_ok-other-in_default-clause-script : goal.returns-in_ok-other-in_default-clause-script
 unfolding bracketed_expr

@@ -12,29 +12,29 @@ returns-then-starts_label-clause-script g c = record {
   run = (then_by c.starts_label.ensures.starts c.if-starts_label.true (to_end c.in_ok-labelled.ensures.script));
 }
 
-pub returns-in_ok-if_expr-in-IF_KW-clause-script : goal.returns-in_ok-if_expr-in-IF_KW-clause-script
+pub returns-in_ok-if_expr-clause-script : goal.returns-in_ok-if_expr-clause-script
 unfolding control_expr
-returns-in_ok-if_expr-in-IF_KW-clause-script g c =
+returns-in_ok-if_expr-clause-script g c =
     let e : next (state c.args.p.now) ≡ IF_KW = search rules in
-    record { run = (else_by c.starts_label.ensures.starts c.if-starts_label.false (passes (rw e refl) (by_rule c.in_ok-if_expr-in-IF_KW.ensures.script gives))) }
+    record { run = (else_by c.starts_label.ensures.starts c.if-starts_label.false (passes (rw e refl) (by_rule c.in_ok-if_expr.ensures.script gives))) }
 
-pub returns-in_ok-loop_expr-in-LOOP_KW-clause-script : goal.returns-in_ok-loop_expr-in-LOOP_KW-clause-script
+pub returns-in_ok-loop_expr-clause-script : goal.returns-in_ok-loop_expr-clause-script
 unfolding control_expr
-returns-in_ok-loop_expr-in-LOOP_KW-clause-script g c =
+returns-in_ok-loop_expr-clause-script g c =
     let e : next (state c.args.p.now) ≡ LOOP_KW = search rules in
-    record { run = (else_by c.starts_label.ensures.starts c.if-starts_label.false (fails (rw e refl) (passes (rw e refl) (by_rule c.in_ok-loop_expr-in-LOOP_KW.ensures.script gives)))) }
+    record { run = (else_by c.starts_label.ensures.starts c.if-starts_label.false (fails (rw e refl) (passes (rw e refl) (by_rule c.in_ok-loop_expr.ensures.script gives)))) }
 
-pub returns-in_ok-while_expr-in-WHILE_KW-clause-script : goal.returns-in_ok-while_expr-in-WHILE_KW-clause-script
+pub returns-in_ok-while_expr-clause-script : goal.returns-in_ok-while_expr-clause-script
 unfolding control_expr
-returns-in_ok-while_expr-in-WHILE_KW-clause-script g c =
+returns-in_ok-while_expr-clause-script g c =
     let e : next (state c.args.p.now) ≡ WHILE_KW = search rules in
-    record { run = (else_by c.starts_label.ensures.starts c.if-starts_label.false (fails (rw e refl) (fails (rw e refl) (passes (rw e refl) (by_rule c.in_ok-while_expr-in-WHILE_KW.ensures.script gives))))) }
+    record { run = (else_by c.starts_label.ensures.starts c.if-starts_label.false (fails (rw e refl) (fails (rw e refl) (passes (rw e refl) (by_rule c.in_ok-while_expr.ensures.script gives))))) }
 
-pub returns-in_ok-match_expr-in-MATCH_KW-clause-script : goal.returns-in_ok-match_expr-in-MATCH_KW-clause-script
+pub returns-in_ok-match_expr-clause-script : goal.returns-in_ok-match_expr-clause-script
 unfolding control_expr
-returns-in_ok-match_expr-in-MATCH_KW-clause-script g c =
+returns-in_ok-match_expr-clause-script g c =
     let e : next (state c.args.p.now) ≡ MATCH_KW = search rules in
-    record { run = (else_by c.starts_label.ensures.starts c.if-starts_label.false (fails (rw e refl) (fails (rw e refl) (fails (rw e refl) (passes (rw e refl) (by_rule c.in_ok-match_expr-in-MATCH_KW.ensures.script gives)))))) }
+    record { run = (else_by c.starts_label.ensures.starts c.if-starts_label.false (fails (rw e refl) (fails (rw e refl) (fails (rw e refl) (passes (rw e refl) (by_rule c.in_ok-match_expr.ensures.script gives)))))) }
 
 pub returns-in_ok-other-in_default-clause-script : goal.returns-in_ok-other-in_default-clause-script
 unfolding control_expr

@@ -5,40 +5,40 @@ use Rattle.rap_rules.specs.Expressions.{postfix_expr}
 use Rattle.rap_rules.specs.Script.{gives, passes, fails}
 use Rattle.rap_rules.proofs.Operating.{like_is, like_ends}
 use Rattle.rap_rules.proofs.Steps.{by_rule, turn, last_turn}
-use Rattle.rap_expressions.proofs.expressions.postfix.postfix_expr.Goals.{in_default-via-in-L_PAREN+else-allow_calls, in_default-via-in-L_BRACK+else-allow_calls-2, in_default-via-in-DOT+then-not-at+else-not-at-2, in_default-via-in-DOT+else-not-at, in_default-via-in_default-1}
+use Rattle.rap_expressions.proofs.expressions.postfix.postfix_expr.Goals.{in_default-via-in-L_PAREN-T+else-allow_calls, in_default-via-in-L_BRACK-T+else-allow_calls-2, in_default-via-in-DOT-T+then-not-at+else-not-at-2, in_default-via-in-DOT-T+else-not-at, in_default-via-in_default-1}
 use Rattle.rap_expressions.proofs.expressions.postfix.postfix_expr.Goals as goal
 
-pub postfixes-preserved-in_ok-lhs-in-L_PAREN : goal.postfixes-preserved-in_ok-lhs-in-L_PAREN
-postfixes-preserved-in_ok-lhs-in-L_PAREN g c =
+pub postfixes-preserved-in_ok-lhs : goal.postfixes-preserved-in_ok-lhs
+postfixes-preserved-in_ok-lhs g c =
     let e : next (state c.postfixes.p) ≡ L_PAREN = search rules in
     record {
       grew = search rules;
       last = search rules;
       plain = search rules;
       one = search rules;
-      script = turn c.postfixes.invariant.script (passes (rw (e, c.if-allow_calls.true) refl) (by_rule c.in_ok-lhs-in-L_PAREN.ensures.script gives));
+      script = turn c.postfixes.invariant.script (passes (rw (e, c.if-allow_calls.true) refl) (by_rule c.in_ok-lhs.ensures.script gives));
     }
 
-pub postfixes-preserved-in_ok-lhs-in-L_BRACK : goal.postfixes-preserved-in_ok-lhs-in-L_BRACK
-postfixes-preserved-in_ok-lhs-in-L_BRACK g c =
+pub postfixes-preserved-in_ok-lhs-2 : goal.postfixes-preserved-in_ok-lhs-2
+postfixes-preserved-in_ok-lhs-2 g c =
     let e : next (state c.postfixes.p) ≡ L_BRACK = search rules in
     record {
       grew = search rules;
       last = search rules;
       plain = search rules;
       one = search rules;
-      script = turn c.postfixes.invariant.script (fails (rw e refl) (passes (rw (e, c.if-allow_calls-2.true) refl) (by_rule c.in_ok-lhs-in-L_BRACK.ensures.script gives)));
+      script = turn c.postfixes.invariant.script (fails (rw e refl) (passes (rw (e, c.if-allow_calls-2.true) refl) (by_rule c.in_ok-lhs-2.ensures.script gives)));
     }
 
-pub postfixes-preserved-in_ok-lhs-in-DOT : goal.postfixes-preserved-in_ok-lhs-in-DOT
-postfixes-preserved-in_ok-lhs-in-DOT g c =
+pub postfixes-preserved-in_ok-lhs-3 : goal.postfixes-preserved-in_ok-lhs-3
+postfixes-preserved-in_ok-lhs-3 g c =
     let e : next (state c.postfixes.p) ≡ DOT = search rules in
     record {
       grew = search rules;
       last = search rules;
       plain = search rules;
       one = search rules;
-      script = turn c.postfixes.invariant.script (fails (rw e refl) (fails (rw e refl) (passes (rw (e, ← c.at.ensures, ← c.at-then-not-at.ensures, c.if-not-at.true, c.if-not-at-2.true) refl) (by_rule c.in_ok-lhs-in-DOT.ensures.script gives))));
+      script = turn c.postfixes.invariant.script (fails (rw e refl) (fails (rw e refl) (passes (rw (e, ← c.at.ensures, ← c.at-then-not-at.ensures, c.if-not-at.true, c.if-not-at-2.true) refl) (by_rule c.in_ok-lhs-3.ensures.script gives))));
     }
 
 pub postfixes-preserved : goal.postfixes-preserved
@@ -49,7 +49,7 @@ postfixes-preserved g c =
       last = search rules;
       plain = search rules;
       one = search rules;
-      script = turn c.postfixes.invariant.script (fails (rw e refl) (fails (rw e refl) (fails (rw e refl) (passes (rw e refl) (by_rule c.in_ok-lhs-in-QUESTION.ensures.script gives)))));
+      script = turn c.postfixes.invariant.script (fails (rw e refl) (fails (rw e refl) (fails (rw e refl) (passes (rw e refl) (by_rule c.in_ok-lhs-4.ensures.script gives)))));
     }
 
 pub returns-in_default-clause-script : goal.returns-in_default-clause-script
@@ -59,16 +59,16 @@ returns-in_default-clause-script g c = record {
       let inv = c.postfixes.invariant.script in
       let b = c.postfixes.block_like in
       elim c.in_default.branch [
-        | in_default-via-in-L_PAREN+else-allow_calls w ↦
+        | in_default-via-in-L_PAREN-T+else-allow_calls w ↦
             let e : next (state c.postfixes.p) ≡ L_PAREN = search rules in
             last_turn inv (fails (rw (e, w.if-allow_calls.false) refl) (fails (rw e refl) (fails (rw e refl) (fails (rw e refl) (rw (like_is b) gives))))) (like_ends b)
-        | in_default-via-in-L_BRACK+else-allow_calls-2 w ↦
+        | in_default-via-in-L_BRACK-T+else-allow_calls-2 w ↦
             let e : next (state c.postfixes.p) ≡ L_BRACK = search rules in
             last_turn inv (fails (rw e refl) (fails (rw (e, w.if-allow_calls-2.false) refl) (fails (rw e refl) (fails (rw e refl) (rw (like_is b) gives))))) (like_ends b)
-        | in_default-via-in-DOT+then-not-at+else-not-at-2 w ↦
+        | in_default-via-in-DOT-T+then-not-at+else-not-at-2 w ↦
             let e : next (state c.postfixes.p) ≡ DOT = search rules in
             last_turn inv (fails (rw e refl) (fails (rw e refl) (fails (rw (e, ← w.at.ensures, ← w.at-then-not-at.ensures, w.if-not-at.true, w.if-not-at-2.false) refl) (fails (rw e refl) (rw (like_is b) gives))))) (like_ends b)
-        | in_default-via-in-DOT+else-not-at w ↦
+        | in_default-via-in-DOT-T+else-not-at w ↦
             let e : next (state c.postfixes.p) ≡ DOT = search rules in
             last_turn inv (fails (rw e refl) (fails (rw e refl) (fails (rw (e, ← w.at.ensures, w.if-not-at.false) refl) (fails (rw e refl) (rw (like_is b) gives))))) (like_ends b)
         | in_default-via-in_default-1 w ↦

@@ -2,7 +2,6 @@ use Rattle.std.proofs.Common.{rules, refl}
 use Rattle.rap_rules.specs.Records.{record_fields}
 use Rattle.rap_rules.specs.Script.{gives}
 use Rattle.rap_rules.proofs.Steps.{then_by, else_by, by_rule, by_expect, turn, last_turn}
-use Rattle.rap_expressions.proofs.expressions.records.record_fields.Goals.{then-fields-test+else-not-at, else-fields-test}
 use Rattle.rap_expressions.proofs.expressions.records.record_fields.Goals as goal
 
 pub fields-preserved-in_ok-expect : goal.fields-preserved-in_ok-expect
@@ -26,11 +25,14 @@ fields-preserved g c = record {
       (then_by c.at-in-fields-2.ensures c.if-not-at-2.false gives))));
 }
 
-pub returns-clause-script : goal.returns-clause-script
+pub returns-else-not-at-clause-script : goal.returns-else-not-at-clause-script
 unfolding record_fields
-returns-clause-script g c = record {
-  run = elim c.fields-test.branch [
-    | then-fields-test+else-not-at w ↦ last_turn c.fields.invariant.script (else_by c.at.ensures w.fields-test.true (then_by w.at-in-fields.ensures w.if-not-at.false gives)) refl
-    | else-fields-test w ↦ last_turn c.fields.invariant.script (then_by c.at.ensures w.fields-test.false gives) refl
-  ];
+returns-else-not-at-clause-script g c = record {
+  run = last_turn c.fields.invariant.script
+      (else_by c.at.ensures c.fields-test.true
+      (then_by c.at-in-fields.ensures c.if-not-at.false gives)) refl;
 }
+
+pub returns-after-fields-clause-script : goal.returns-after-fields-clause-script
+unfolding record_fields
+returns-after-fields-clause-script g c = record { run = last_turn c.fields.invariant.script (then_by c.at.ensures c.fields-test.false gives) refl }
