@@ -14,12 +14,12 @@ returns-then-starts_builtin-clause-script g c = record {
       (to_end c.in_ok-cm.ensures.script);
 }
 
-pub returns-in_ok-box_pat-in-BOX_KW-clause-script : goal.returns-in_ok-box_pat-in-BOX_KW-clause-script
+pub returns-in_ok-box_pat-clause-script : goal.returns-in_ok-box_pat-clause-script
 unfolding atom_pat
-returns-in_ok-box_pat-in-BOX_KW-clause-script g c = record {
+returns-in_ok-box_pat-clause-script g c = record {
   run = else_by c.starts_builtin.ensures.here c.if-starts_builtin.false
       (passes (search rules)
-      (to_end c.in_ok-box_pat-in-BOX_KW.ensures.script));
+      (to_end c.in_ok-box_pat.ensures.script));
 }
 
 pub returns-in_ok-ident_pat-in-REF_KW-clause-script : goal.returns-in_ok-ident_pat-in-REF_KW-clause-script
@@ -31,15 +31,15 @@ returns-in_ok-ident_pat-in-REF_KW-clause-script g c = record {
       (to_end c.in_ok-ident_pat-in-REF_KW.ensures.script)));
 }
 
-pub returns-in_ok-const_block_pat-in-CONST_KW-clause-script :
-    goal.returns-in_ok-const_block_pat-in-CONST_KW-clause-script
+pub returns-in_ok-const_block_pat-clause-script :
+    goal.returns-in_ok-const_block_pat-clause-script
 unfolding atom_pat
-returns-in_ok-const_block_pat-in-CONST_KW-clause-script g c = record {
+returns-in_ok-const_block_pat-clause-script g c = record {
   run = else_by c.starts_builtin.ensures.here c.if-starts_builtin.false
       (fails (search rules)
       (fails (search rules)
       (passes (search rules)
-      (to_end c.in_ok-const_block_pat-in-CONST_KW.ensures.script))));
+      (to_end c.in_ok-const_block_pat.ensures.script))));
 }
 
 pub returns-in_ok-ident_pat-in_default-clause-script : goal.returns-in_ok-ident_pat-in_default-clause-script

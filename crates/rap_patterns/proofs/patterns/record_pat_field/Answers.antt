@@ -34,12 +34,12 @@ returns-then-at_field-2-clause-script g c = record {
       (by_rule c.in_ok-pattern-2.ensures.script gives))));
 }
 
-pub returns-in_ok-box_pat-in-BOX_KW-clause-script : goal.returns-in_ok-box_pat-in-BOX_KW-clause-script
+pub returns-in_ok-box_pat-clause-script : goal.returns-in_ok-box_pat-clause-script
 unfolding record_pat_field
-returns-in_ok-box_pat-in-BOX_KW-clause-script g c = record {
+returns-in_ok-box_pat-clause-script g c = record {
   run = else_by c.at_field.ensures c.if-at_field.false
       (else_by c.at_field-2.ensures c.if-at_field-2.false
-      (passes (search rules) (by_rule c.in_ok-box_pat-in-BOX_KW.ensures.script gives)));
+      (passes (search rules) (by_rule c.in_ok-box_pat.ensures.script gives)));
 }
 
 pub returns-in_ok-ident_pat-in-REF_KW-clause-script : goal.returns-in_ok-ident_pat-in-REF_KW-clause-script

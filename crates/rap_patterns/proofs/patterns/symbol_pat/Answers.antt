@@ -11,54 +11,54 @@ returns-then-is_literal_pat_start-clause-script g c = record {
       (to_end c.in_ok-literal_pat.ensures.script);
 }
 
-pub returns-in_ok-wildcard_pat-in-UNDERSCORE-clause-script : goal.returns-in_ok-wildcard_pat-in-UNDERSCORE-clause-script
+pub returns-in_ok-wildcard_pat-clause-script : goal.returns-in_ok-wildcard_pat-clause-script
 unfolding symbol_pat
-returns-in_ok-wildcard_pat-in-UNDERSCORE-clause-script g c = record {
+returns-in_ok-wildcard_pat-clause-script g c = record {
   run = else_by c.is_literal_pat_start.ensures c.if-is_literal_pat_start.false
       (passes (search rules)
-      (to_end c.in_ok-wildcard_pat-in-UNDERSCORE.ensures.script));
+      (to_end c.in_ok-wildcard_pat.ensures.script));
 }
 
-pub returns-in_ok-ref_pat-in-AMP-clause-script : goal.returns-in_ok-ref_pat-in-AMP-clause-script
+pub returns-in_ok-ref_pat-clause-script : goal.returns-in_ok-ref_pat-clause-script
 unfolding symbol_pat
-returns-in_ok-ref_pat-in-AMP-clause-script g c = record {
+returns-in_ok-ref_pat-clause-script g c = record {
   run = else_by c.is_literal_pat_start.ensures c.if-is_literal_pat_start.false
       (fails (search rules)
       (passes (search rules)
-      (to_end c.in_ok-ref_pat-in-AMP.ensures.script)));
+      (to_end c.in_ok-ref_pat.ensures.script)));
 }
 
-pub returns-in_ok-tuple_pat-in-L_PAREN-clause-script : goal.returns-in_ok-tuple_pat-in-L_PAREN-clause-script
+pub returns-in_ok-tuple_pat-clause-script : goal.returns-in_ok-tuple_pat-clause-script
 unfolding symbol_pat
-returns-in_ok-tuple_pat-in-L_PAREN-clause-script g c = record {
+returns-in_ok-tuple_pat-clause-script g c = record {
   run = else_by c.is_literal_pat_start.ensures c.if-is_literal_pat_start.false
       (fails (search rules)
       (fails (search rules)
       (passes (search rules)
-      (to_end c.in_ok-tuple_pat-in-L_PAREN.ensures.script))));
+      (to_end c.in_ok-tuple_pat.ensures.script))));
 }
 
-pub returns-in_ok-slice_pat-in-L_BRACK-clause-script : goal.returns-in_ok-slice_pat-in-L_BRACK-clause-script
+pub returns-in_ok-slice_pat-clause-script : goal.returns-in_ok-slice_pat-clause-script
 unfolding symbol_pat
-returns-in_ok-slice_pat-in-L_BRACK-clause-script g c = record {
+returns-in_ok-slice_pat-clause-script g c = record {
   run = else_by c.is_literal_pat_start.ensures c.if-is_literal_pat_start.false
       (fails (search rules)
       (fails (search rules)
       (fails (search rules)
       (passes (search rules)
-      (to_end c.in_ok-slice_pat-in-L_BRACK.ensures.script)))));
+      (to_end c.in_ok-slice_pat.ensures.script)))));
 }
 
-pub returns-in_ok-not_null_pat-in-BANG-clause-script : goal.returns-in_ok-not_null_pat-in-BANG-clause-script
+pub returns-in_ok-not_null_pat-clause-script : goal.returns-in_ok-not_null_pat-clause-script
 unfolding symbol_pat
-returns-in_ok-not_null_pat-in-BANG-clause-script g c = record {
+returns-in_ok-not_null_pat-clause-script g c = record {
   run = else_by c.is_literal_pat_start.ensures c.if-is_literal_pat_start.false
       (fails (search rules)
       (fails (search rules)
       (fails (search rules)
       (fails (search rules)
       (passes (search rules)
-      (to_end c.in_ok-not_null_pat-in-BANG.ensures.script))))));
+      (to_end c.in_ok-not_null_pat.ensures.script))))));
 }
 
 pub returns-in_ok-missing_pat-in_default-clause-script : goal.returns-in_ok-missing_pat-in_default-clause-script
