@@ -2,17 +2,18 @@
 use Rattle.std.proofs.Common.{◌≡◌, ◌≢◌, ℕ, zero, suc, ◌<◌, ◌≤◌, ◌+◌, ◌*◌, List, Bool, true, false, Option, Some, refl, sym, ap, ◌∙◌, arith}
 use Rattle.rap_base.specs.NodeKind.{ASM_REG_OPERAND}
 use Rattle.rap_events.specs.Machine.{push}
-use Rattle.rap_events.specs.State.{State, next, Opened, AteAs, Skipped, Expected}
+use Rattle.rap_events.specs.State.{State, next, Opened, Completed, AteAs, Skipped, Expected}
 use Rattle.rap_rules.specs.Asm.{reg_operand, by_way, of_way}
 use Rattle.rap_rules.specs.First.{is_outer_attr_first}
 use Rattle.rap_rules.specs.Grew.{Grew, Took, Gone, Ended, top_marker, rest}
 use Rattle.rap_rules.specs.Recovery.{stops_expr}
-use Rattle.rap_rules.specs.Room.{asm_room, list_room, asm_end_room, expression_room}
+use Rattle.rap_rules.specs.Room.{asm_room, operand_room, list_room, asm_end_room, expression_room}
 use Rattle.rap_rules.specs.Knot.{Follows}
 use Rattle.rap_rules.specs.Phrase.{Phrase}
 use Rattle.rap_rules.specs.Rules.{Missed}
 use Rattle.rap_rules.specs.Script.{Script, Outcome, something, Spot, spot, finish}
 use Rattle.rap_rules.specs.Words.{done}
+use Rattle.rap_rules.proofs.Growth.{gone}
 use Rattle.rap_rules.proofs.Steps.{On, by_rule}
 
 after_stop : (b : Bool) {s t u : State} {bytes : List ℕ} → stops_expr (next s) ≡ b → Missed s t → Grew s t 8 → Skipped t u bytes → (0 < t.left → u.left < t.left) → 0 < s.left → Took s u asm_end_room
@@ -120,3 +121,14 @@ pub operand_took : {s t u w x y : State} {m i j : ℕ} {a b : Bool} → Opened s
 operand_took {t = t} {a = false} {b = false} o g took stays c d e f gone ended some = behind_attrs (is_outer_attr_first (next t)) refl o g took stays c d gone ended some
 operand_took {a = true} o g took stays c d e f gone ended some = absurd cc
 operand_took {a = false} {b = true} o g took stays c d e f gone ended some = absurd cc
+
+-- an operand behind its name, if it has one
+pub named_ended : {s t u v : State} {kind : ℕ} → Grew s t 0 → Took t u operand_room → Completed u v kind → Ended s v asm_room
+named_ended g t d =
+    record {
+      input = d.recorded.input ∙ t.input ∙ g.input;
+      left = omega (arith, g.left, t.left, d.recorded.left);
+      count = omega (arith, g.count, t.count, d.recorded.left, d.recorded.count);
+      messages = omega (arith, g.messages, t.messages, d.recorded.messages);
+      below = gone (sym (t.below ∙ g.below) ∙ d.below);
+    }
