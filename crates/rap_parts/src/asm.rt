@@ -1,7 +1,9 @@
 //! Inline assembly.
-ghost use Rattle.std.specs.Prelude.{◌≡◌, ◌≢◌, ◌<◌, ◌≤◌, IfOk, OnOk, IfSome, Some, None, true, false};
+ghost use Rattle.std.specs.Prelude.{◌≡◌, ◌≢◌, ◌<◌, ◌≤◌, IfOk, OnOk, IfSome, IsTrue, Some, None, true, false};
+ghost use Rattle.rap_base.specs.Keyword.{is_any_identifier};
+ghost use Rattle.rap_base.specs.TokenKind.{EQ};
 ghost use Rattle.rap_base.specs.NodeKind.{ASM_EXPR};
-ghost use Rattle.rap_events.specs.State.{state, next};
+ghost use Rattle.rap_events.specs.State.{state, next, NthAt};
 ghost use Rattle.rap_rules.specs.Asm as script;
 ghost use Rattle.rap_rules.specs.Called as called;
 ghost use Rattle.rap_rules.specs.Grew.{Behind, Closes, Grew, Took, Gone, Ended};
@@ -71,7 +73,7 @@ fn asm_piece<G: Grammar>(
 ) -> Result<Option<bool>, NoMemory>
     requires behind { Behind G.valid G.left g.now (state p.old) }
     ensures grew { OnOk result (Grew (state p.old) (state p.new) 20) }
-    ensures took { OnOk result (0 < (state p.old).left → Took (state p.old) (state p.new) asm_room) }
+    ensures took { OnOk result (0 < (state p.old).left → Took (state p.old) (state p.new) 64) }
     ensures script { IfOk result (λ o. Follows (script.asm_piece allow_templates) (script.of_allow o) (state p.old) (state p.new)) }
 {
     let op_n = p.start()?;
@@ -193,6 +195,7 @@ fn some_expr<G: Grammar>(p: &mut Parser<'_>, g: &G) -> Result<bool, NoMemory>
 
 /// An operand's name and its `=`, as `x =`, if they come next. Answers whether they do.
 fn operand_name(p: &mut Parser<'_>) -> Result<bool, NoMemory>
+    ensures grew { OnOk result (Grew (state p.old) (state p.new) 0) }
     ensures took { IfOk result (λ found. found ≡ true → Took (state p.old) (state p.new) name_room) }
     ensures stays { IfOk result (λ found. found ≡ false → state p.new ≡ state p.old) }
     ensures script { IfOk result (λ found. Follows script.operand_name (of_bool found) (state p.old) (state p.new)) }
@@ -207,7 +210,9 @@ fn operand_name(p: &mut Parser<'_>) -> Result<bool, NoMemory>
 
 /// Whether an operand's name and its `=` come next.
 fn starts_operand_name(p: &Parser<'_>) -> bool
-    ensures { result ≡ script.starts_operand_name (state p.now).rest }
+    ensures here { result ≡ script.starts_operand_name (state p.now).rest }
+    ensures name { IsTrue result → is_any_identifier (next (state p.now)) ≡ true }
+    ensures eq { IsTrue result → NthAt (state p.now) 1 EQ }
 {
     p.current().is_any_identifier() && p.nth_at(1, T![=])
 }

@@ -1,7 +1,9 @@
 //! The forms behind `builtin#`.
-ghost use Rattle.std.specs.Prelude.{◌≡◌, ◌≢◌, ◌<◌, ◌≤◌, IfOk, OnOk, IfSome, Some, None, true, false, ◌⊎◌};
+ghost use Rattle.std.specs.Prelude.{◌≡◌, ◌≢◌, ◌<◌, ◌≤◌, IfOk, OnOk, IfSome, IsTrue, Some, None, true, false, ◌⊎◌};
+ghost use Rattle.rap_base.specs.Keyword.{is_any_identifier};
+ghost use Rattle.rap_base.specs.TokenKind.{EQ};
 ghost use Rattle.rap_events.specs.Fit.{is_plain};
-ghost use Rattle.rap_events.specs.State.{state, next};
+ghost use Rattle.rap_events.specs.State.{state, next, NthAt};
 ghost use Rattle.rap_rules.specs.Builtins as script;
 ghost use Rattle.rap_rules.specs.Expressions.{of_expr};
 ghost use Rattle.rap_rules.specs.Grew.{Within, Behind, Took, Grew, Gone, Closes};
@@ -187,7 +189,9 @@ fn opt_arg_name(p: &mut Parser<'_>) -> Result<(), NoMemory>
 
 /// Whether a name and an `=` that begins no `==` come next.
 fn starts_arg_name(p: &Parser<'_>) -> bool
-    ensures { result ≡ script.starts_arg_name (state p.now).rest }
+    ensures here { result ≡ script.starts_arg_name (state p.now).rest }
+    ensures name { IsTrue result → is_any_identifier (next (state p.now)) ≡ true }
+    ensures eq { IsTrue result → NthAt (state p.now) 1 EQ }
 {
     p.current().is_any_identifier() && p.nth_at(1, T![=]) && !p.nth_at(2, T![=])
 }

@@ -10,7 +10,7 @@ unfolding asm_operand
 returns-in-Some-clause-script g c = record {
   run = by_start c.in_ok-op.ensures.state
       (by_rule (rw c.in-Some.is at c.in_ok-goes_both_ways.ensures.script)
-      (by_dir c.in-Some.goes_both_ways c.in_ok-reg_operand.ensures.script
+      (by_dir c.in-Some.goes_both_ways _ c.in_ok-reg_operand.ensures.script
       (by_complete c.in_ok-complete.ensures.state.0 gives)));
 }
 

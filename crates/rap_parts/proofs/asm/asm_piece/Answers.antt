@@ -2,6 +2,7 @@ use Rattle.std.proofs.Common.{rules}
 use Rattle.rap_rules.specs.Asm.{asm_piece}
 use Rattle.rap_rules.specs.Script.{gives}
 use Rattle.rap_rules.proofs.Steps.{then_by, else_by, by_start, by_bump, by_bear, by_rule, by_expect, by_eat, by_complete, by_abandon, by_report, by_skip, ate, not_ate, ate_as, not_ate_as, turn, last_turn, to_end, by_kind}
+use Rattle.rap_parts.proofs.Taken.{operand_took}
 use Rattle.rap_parts.proofs.asm.asm_piece.Goals as goal
 
 pub returns-then-branch-clause-script : goal.returns-then-branch-clause-script
@@ -34,3 +35,10 @@ returns-clause-script g c = record {
       (not_ate_as c.in_ok-eat_contextual_kw-2.ensures.state c.if-branch-2.false
       (to_end c.in_ok-allow.ensures.script))));
 }
+
+pub returns-clause-took : goal.returns-clause-took
+returns-clause-took g c =
+    let a = c.in_ok-outer_attrs.ensures in
+    let n = c.in_ok-allow.ensures in
+    operand_took c.in_ok-op_n.ensures.state a.grew a.took a.stays c.in_ok-eat_contextual_kw.ensures.state
+        c.in_ok-eat_contextual_kw-2.ensures.state c.if-branch.false c.if-branch-2.false n.gone n.ended

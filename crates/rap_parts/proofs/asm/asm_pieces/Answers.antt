@@ -53,3 +53,15 @@ unfolding asm_pieces
 returns-after-pieces-clause-script g c = record {
   run = last_turn c.pieces.invariant.script (then_by c.at.ensures c.pieces-test.false gives) refl;
 }
+
+pub pieces-smaller : goal.pieces-smaller
+pieces-smaller g c =
+    let e = c.in_ok-allow.ensures in
+    let t = piece_took c.in_ok-expect.ensures.state e.grew e.took (left_of_next _ (search rules)) in
+    t.left
+
+pub returns-in-None-clause-grew : goal.returns-in-None-clause-grew
+returns-in-None-clause-grew g c =
+    let e = c.in_ok-allow.ensures in
+    let t = piece_took c.in_ok-expect.ensures.state e.grew e.took (left_of_next _ (search rules)) in
+    search rules

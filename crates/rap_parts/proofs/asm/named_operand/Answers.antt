@@ -2,6 +2,7 @@ use Rattle.std.proofs.Common.{rules, refl}
 use Rattle.rap_rules.specs.Asm.{named_operand}
 use Rattle.rap_rules.specs.Script.{gives}
 use Rattle.rap_rules.proofs.Steps.{by_rule, by_complete, by_abandon, to_end, answers_yes, answers_no}
+use Rattle.rap_parts.proofs.Taken.{named_ended}
 use Rattle.rap_parts.proofs.asm.named_operand.Goals as goal
 
 pub returns-then-branch-clause-script : goal.returns-then-branch-clause-script
@@ -20,3 +21,8 @@ returns-clause-script g c = record {
       (by_abandon c.in_ok-abandon.ensures.state
       (to_end (rw c.templates_after.ensures at c.in_ok-allow.ensures.script))));
 }
+
+pub returns-then-branch-clause-ended : goal.returns-then-branch-clause-ended
+returns-then-branch-clause-ended g c = λ some.
+    named_ended c.in_ok-is_named.ensures.grew (c.in_ok-asm_operand.ensures.took c.if-branch.true)
+        c.in_ok-complete.ensures.state.0

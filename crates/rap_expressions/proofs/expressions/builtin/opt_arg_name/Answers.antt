@@ -7,13 +7,13 @@ use Rattle.rap_expressions.proofs.expressions.builtin.opt_arg_name.Goals as goal
 pub returns-then-not-starts_arg_name-clause-script : goal.returns-then-not-starts_arg_name-clause-script
 unfolding opt_arg_name
 returns-then-not-starts_arg_name-clause-script c = record {
-  run = else_by c.starts_arg_name.ensures c.if-not-starts_arg_name.true gives;
+  run = else_by c.starts_arg_name.ensures.here c.if-not-starts_arg_name.true gives;
 }
 
 pub returns-clause-script : goal.returns-clause-script
 unfolding opt_arg_name
 returns-clause-script c = record {
-  run = then_by c.starts_arg_name.ensures c.if-not-starts_arg_name.false
+  run = then_by c.starts_arg_name.ensures.here c.if-not-starts_arg_name.false
       (by_rule c.in_ok-name_any_identifier.ensures.script
       (by_bump (search rules) c.in_ok-bump.ensures.state gives));
 }
