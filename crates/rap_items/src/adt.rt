@@ -416,6 +416,7 @@ fn named_field<G: Grammar>(p: &mut Parser<'_>, g: &G, m: Marker) -> Result<(), N
 /// An `unsafe` before a field, and who may change it, if it is there.
 fn opt_unsafe<G: Grammar>(p: &mut Parser<'_>, g: &G) -> Result<(), NoMemory>
     requires within { Within G.valid G.left g.now (state p.old) }
+    ensures grew { OnOk result (Grew (state p.old) (state p.new) 0) }
     ensures took { OnOk result (next (state p.old) ≡ UNSAFE_KW → Took (state p.old) (state p.new) list_room) }
     ensures stays { OnOk result (next (state p.old) ≢ UNSAFE_KW → state p.new ≡ state p.old) }
     ensures script { OnOk result (Follows script.opt_unsafe something (state p.old) (state p.new)) }
@@ -438,6 +439,7 @@ fn is_mut_restriction_start(p: &Parser<'_>) -> bool
 /// Who may change a field, as `mut(crate)`, if it is said.
 fn opt_mut_restriction<G: Grammar>(p: &mut Parser<'_>, g: &G) -> Result<(), NoMemory>
     requires within { Within G.valid G.left g.now (state p.old) }
+    ensures grew { OnOk result (Grew (state p.old) (state p.new) 0) }
     ensures took { OnOk result (starts_mut_restriction (state p.old).rest ≡ true → Took (state p.old) (state p.new) brackets_room) }
     ensures stays { OnOk result (starts_mut_restriction (state p.old).rest ≡ false → state p.new ≡ state p.old) }
     ensures script { OnOk result (Follows script.opt_mut_restriction something (state p.old) (state p.new)) }

@@ -1,5 +1,5 @@
 //! Imports.
-ghost use Rattle.std.specs.Prelude.{◌≡◌, ◌≢◌, ◌<◌, ◌≤◌, OnOk, Some, true, ℕ};
+ghost use Rattle.std.specs.Prelude.{◌≡◌, ◌≢◌, ◌<◌, ◌≤◌, ◌+◌, OnOk, Some, true, ℕ};
 ghost use Rattle.rap_base.specs.TokenKind.{USE_KW, L_CURLY, COLON2};
 ghost use Rattle.rap_base.specs.TokenSet.{member};
 ghost use Rattle.rap_events.specs.Composite.{is_at};
@@ -106,7 +106,7 @@ pub fn use_tree<G: Grammar>(p: &mut Parser<'_>, g: &G) -> Result<(), NoMemory>
 fn group<G: Grammar>(p: &mut Parser<'_>, g: &G) -> Result<(), NoMemory>
     requires within { Within G.valid G.left g.now (state p.old) }
     requires first { is_group_first (next (state p.old)) ≡ true }
-    ensures took { OnOk result (Took (state p.old) (state p.new) list_room) }
+    ensures took { OnOk result (Took (state p.old) (state p.new) (list_room + 4)) }
     ensures script { OnOk result (Follows script.group something (state p.old) (state p.new)) }
 {
     if p.eat(T![*])? {
@@ -152,7 +152,7 @@ fn group_behind<G: Grammar>(p: &mut Parser<'_>, g: &G) -> Result<(), NoMemory>
 pub fn use_tree_list<G: Grammar>(p: &mut Parser<'_>, g: &G) -> Result<(), NoMemory>
     requires within { Within G.valid G.left g.now (state p.old) }
     requires here { next (state p.old) ≡ L_CURLY }
-    ensures took { OnOk result (Took (state p.old) (state p.new) list_room) }
+    ensures took { OnOk result (Took (state p.old) (state p.new) (list_room + 4)) }
     ensures script { OnOk result (Follows script.use_tree_list something (state p.old) (state p.new)) }
 {
     let m = p.start()?;
