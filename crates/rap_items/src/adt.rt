@@ -1,12 +1,12 @@
 //! Structs, unions and enums.
 ghost use Rattle.std.specs.Prelude.{◌≡◌, ◌≢◌, ◌<◌, ◌≤◌, IfOk, OnOk, Some, true, false, ℕ};
-ghost use Rattle.rap_base.specs.TokenKind.{EOF, UNSAFE_KW, STRUCT_KW, ENUM_KW, UNION_KW, WHERE_KW, MUT_KW, L_CURLY, R_CURLY, L_PAREN};
+ghost use Rattle.rap_base.specs.TokenKind.{EOF, UNSAFE_KW, STRUCT_KW, ENUM_KW, UNION_KW, MUT_KW, L_CURLY, R_CURLY, L_PAREN};
 ghost use Rattle.rap_events.specs.State.{state, next, ReadsAs};
 ghost use Rattle.rap_rules.specs.Adt as script;
 ghost use Rattle.rap_rules.specs.Adt.{starts_mut_restriction};
 ghost use Rattle.rap_rules.specs.Grew.{Within, Behind, Took, Grew, Ended, Gone, Spent};
 ghost use Rattle.rap_rules.specs.Knot.{Follows};
-ghost use Rattle.rap_rules.specs.Room.{brackets_room, item_room, list_room, name_room, element_room, param_room, statement_room, type_room, expression_room};
+ghost use Rattle.rap_rules.specs.Room.{brackets_room, item_room, list_room, name_room, element_room, param_room, type_room};
 ghost use Rattle.rap_rules.specs.Script.{something};
 ghost use Rattle.rap_rules.specs.Words.{of_bool};
 
