@@ -1,1 +1,1 @@
-mod Lookahead
+mod Ending

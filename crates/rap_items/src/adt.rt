@@ -1,12 +1,12 @@
 //! Structs, unions and enums.
 ghost use Rattle.std.specs.Prelude.{◌≡◌, ◌≢◌, ◌<◌, ◌≤◌, IfOk, OnOk, Some, true, false, ℕ};
-ghost use Rattle.rap_base.specs.TokenKind.{EOF, UNSAFE_KW, STRUCT_KW, ENUM_KW, UNION_KW, WHERE_KW, MUT_KW, L_CURLY, R_CURLY, L_PAREN};
+ghost use Rattle.rap_base.specs.TokenKind.{EOF, UNSAFE_KW, STRUCT_KW, ENUM_KW, UNION_KW, MUT_KW, L_CURLY, R_CURLY, L_PAREN};
 ghost use Rattle.rap_events.specs.State.{state, next, ReadsAs};
 ghost use Rattle.rap_rules.specs.Adt as script;
 ghost use Rattle.rap_rules.specs.Adt.{starts_mut_restriction};
 ghost use Rattle.rap_rules.specs.Grew.{Within, Behind, Took, Grew, Ended, Gone, Spent};
 ghost use Rattle.rap_rules.specs.Knot.{Follows};
-ghost use Rattle.rap_rules.specs.Room.{brackets_room, item_room, list_room, name_room, element_room, param_room, statement_room, type_room, expression_room};
+ghost use Rattle.rap_rules.specs.Room.{brackets_room, item_room, list_room, name_room, element_room, param_room, type_room};
 ghost use Rattle.rap_rules.specs.Script.{something};
 ghost use Rattle.rap_rules.specs.Words.{of_bool};
 
@@ -416,6 +416,7 @@ fn named_field<G: Grammar>(p: &mut Parser<'_>, g: &G, m: Marker) -> Result<(), N
 /// An `unsafe` before a field, and who may change it, if it is there.
 fn opt_unsafe<G: Grammar>(p: &mut Parser<'_>, g: &G) -> Result<(), NoMemory>
     requires within { Within G.valid G.left g.now (state p.old) }
+    ensures grew { OnOk result (Grew (state p.old) (state p.new) 0) }
     ensures took { OnOk result (next (state p.old) ≡ UNSAFE_KW → Took (state p.old) (state p.new) list_room) }
     ensures stays { OnOk result (next (state p.old) ≢ UNSAFE_KW → state p.new ≡ state p.old) }
     ensures script { OnOk result (Follows script.opt_unsafe something (state p.old) (state p.new)) }
@@ -438,6 +439,7 @@ fn is_mut_restriction_start(p: &Parser<'_>) -> bool
 /// Who may change a field, as `mut(crate)`, if it is said.
 fn opt_mut_restriction<G: Grammar>(p: &mut Parser<'_>, g: &G) -> Result<(), NoMemory>
     requires within { Within G.valid G.left g.now (state p.old) }
+    ensures grew { OnOk result (Grew (state p.old) (state p.new) 0) }
     ensures took { OnOk result (starts_mut_restriction (state p.old).rest ≡ true → Took (state p.old) (state p.new) brackets_room) }
     ensures stays { OnOk result (starts_mut_restriction (state p.old).rest ≡ false → state p.new ≡ state p.old) }
     ensures script { OnOk result (Follows script.opt_mut_restriction something (state p.old) (state p.new)) }

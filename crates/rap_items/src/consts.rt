@@ -1,6 +1,6 @@
 //! Constants and statics.
 ghost use Rattle.std.specs.Prelude.{◌≡◌, ◌≢◌, ◌<◌, ◌≤◌, OnOk, Some, true, ◌⊎◌};
-ghost use Rattle.rap_base.specs.TokenKind.{CONST_KW, TYPE_KW, STATIC_KW};
+ghost use Rattle.rap_base.specs.TokenKind.{STATIC_KW};
 ghost use Rattle.rap_events.specs.State.{state, next};
 ghost use Rattle.rap_rules.specs.Consts as script;
 ghost use Rattle.rap_rules.specs.Consts.{starts_const};

@@ -1,12 +1,12 @@
 //! Imports.
-ghost use Rattle.std.specs.Prelude.{◌≡◌, ◌≢◌, ◌<◌, ◌≤◌, OnOk, Some, true, ℕ};
+ghost use Rattle.std.specs.Prelude.{◌≡◌, ◌≢◌, ◌<◌, ◌≤◌, ◌+◌, OnOk, Some, true, ℕ};
 ghost use Rattle.rap_base.specs.TokenKind.{USE_KW, L_CURLY, COLON2};
 ghost use Rattle.rap_base.specs.TokenSet.{member};
 ghost use Rattle.rap_events.specs.Composite.{is_at};
 ghost use Rattle.rap_events.specs.State.{state, next};
-ghost use Rattle.rap_rules.specs.Grew.{Within, Behind, Took, Grew, Ended};
+ghost use Rattle.rap_rules.specs.Grew.{Within, Took, Grew, Ended};
 ghost use Rattle.rap_rules.specs.Knot.{Follows};
-ghost use Rattle.rap_rules.specs.Room.{item_room, list_room, brackets_room, path_room, name_room};
+ghost use Rattle.rap_rules.specs.Room.{item_room, list_room};
 ghost use Rattle.rap_rules.specs.Script.{something};
 ghost use Rattle.rap_rules.specs.UseItem as script;
 ghost use Rattle.rap_rules.specs.UseItem.{is_group_first, starts_global_group, starts_use_tree};
@@ -107,7 +107,7 @@ pub fn use_tree<G: Grammar>(p: &mut Parser<'_>, g: &G) -> Result<(), NoMemory>
 fn group<G: Grammar>(p: &mut Parser<'_>, g: &G) -> Result<(), NoMemory>
     requires within { Within G.valid G.left g.now (state p.old) }
     requires first { is_group_first (next (state p.old)) ≡ true }
-    ensures took { OnOk result (Took (state p.old) (state p.new) list_room) }
+    ensures took { OnOk result (Took (state p.old) (state p.new) (list_room + 4)) }
     ensures script { OnOk result (Follows script.group something (state p.old) (state p.new)) }
 {
     if p.eat(T![*])? {
@@ -153,7 +153,7 @@ fn group_behind<G: Grammar>(p: &mut Parser<'_>, g: &G) -> Result<(), NoMemory>
 pub fn use_tree_list<G: Grammar>(p: &mut Parser<'_>, g: &G) -> Result<(), NoMemory>
     requires within { Within G.valid G.left g.now (state p.old) }
     requires here { next (state p.old) ≡ L_CURLY }
-    ensures took { OnOk result (Took (state p.old) (state p.new) list_room) }
+    ensures took { OnOk result (Took (state p.old) (state p.new) (list_room + 4)) }
     ensures script { OnOk result (Follows script.use_tree_list something (state p.old) (state p.new)) }
 {
     let m = p.start()?;

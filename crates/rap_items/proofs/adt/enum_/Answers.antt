@@ -3,6 +3,7 @@ use Rattle.rap_rules.specs.Adt.{enum_}
 use Rattle.rap_rules.specs.Recovery.{is_item_recovery}
 use Rattle.rap_rules.specs.Script.{gives}
 use Rattle.rap_rules.proofs.Steps.{by_bump, by_complete, by_report, by_rule, else_by, then_by}
+use Rattle.rap_items.proofs.Ending.{ended}
 use Rattle.rap_items.proofs.adt.enum_.Goals as goal
 
 pub returns-then-at-clause-script : goal.returns-then-at-clause-script
@@ -28,3 +29,9 @@ returns-clause-script g c = record {
       (by_report c.in_ok-error.ensures.state
       (by_complete c.in_ok-complete-2.ensures.state.0 gives))))));
 }
+
+pub returns-then-at-clause-ended : goal.returns-then-at-clause-ended
+returns-then-at-clause-ended g c = ended (search rules) c.in_ok-complete.ensures.state.0
+
+pub returns-clause-ended : goal.returns-clause-ended
+returns-clause-ended g c = ended (search rules) c.in_ok-complete-2.ensures.state.0

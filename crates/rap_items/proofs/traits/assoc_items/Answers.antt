@@ -1,4 +1,4 @@
-use Rattle.std.proofs.Common.{refl}
+use Rattle.std.proofs.Common.{rules, refl}
 use Rattle.rap_rules.specs.Script.{gives}
 use Rattle.rap_rules.specs.Traits.{assoc_items}
 use Rattle.rap_rules.proofs.Steps.{by_rule, else_by, last_turn, then_by, turn}

@@ -2,6 +2,7 @@ use Rattle.std.proofs.Common.{rules}
 use Rattle.rap_rules.specs.Script.{gives}
 use Rattle.rap_rules.specs.Traits.{impl_}
 use Rattle.rap_rules.proofs.Steps.{by_bump, by_complete, by_eat, by_rule}
+use Rattle.rap_items.proofs.Ending.{ended}
 use Rattle.rap_items.proofs.traits.impl_.Goals as goal
 
 pub returns-clause-script : goal.returns-clause-script
@@ -16,3 +17,6 @@ returns-clause-script g c = record {
       (by_rule c.in_ok-expect_assoc_item_list.ensures.script
       (by_complete c.in_ok-complete.ensures.state.0 gives)))))));
 }
+
+pub returns-clause-ended : goal.returns-clause-ended
+returns-clause-ended g c = ended (search rules) c.in_ok-complete.ensures.state.0

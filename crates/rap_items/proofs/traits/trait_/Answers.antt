@@ -3,6 +3,7 @@ use Rattle.rap_rules.specs.Recovery.{is_item_recovery}
 use Rattle.rap_rules.specs.Script.{gives}
 use Rattle.rap_rules.specs.Traits.{trait_}
 use Rattle.rap_rules.proofs.Steps.{by_bump, by_complete, by_rule}
+use Rattle.rap_items.proofs.Ending.{ended}
 use Rattle.rap_items.proofs.traits.trait_.Goals as goal
 
 pub returns-clause-script : goal.returns-clause-script
@@ -14,3 +15,6 @@ returns-clause-script g c = record {
       (by_rule c.in_ok-trait_body.ensures.script
       (by_complete c.in_ok-complete.ensures.state.0 gives))));
 }
+
+pub returns-clause-ended : goal.returns-clause-ended
+returns-clause-ended g c = ended (search rules) c.in_ok-complete.ensures.state.0

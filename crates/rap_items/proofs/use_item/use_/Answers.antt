@@ -2,6 +2,7 @@ use Rattle.std.proofs.Common.{rules}
 use Rattle.rap_rules.specs.Script.{gives}
 use Rattle.rap_rules.specs.UseItem.{use_}
 use Rattle.rap_rules.proofs.Steps.{by_bump, by_complete, by_expect, by_rule}
+use Rattle.rap_items.proofs.Ending.{ended}
 use Rattle.rap_items.proofs.use_item.use_.Goals as goal
 
 pub returns-clause-script : goal.returns-clause-script
@@ -12,3 +13,6 @@ returns-clause-script g c = record {
       (by_expect c.in_ok-expect.ensures.state
       (by_complete c.in_ok-complete.ensures.state.0 gives)));
 }
+
+pub returns-clause-ended : goal.returns-clause-ended
+returns-clause-ended g c = ended (search rules) c.in_ok-complete.ensures.state.0
