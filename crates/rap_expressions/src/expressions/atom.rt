@@ -304,15 +304,3 @@ fn after_element(
     }
     Ok(None)
 }
-
-fn path_expr<G: Grammar>(p: &mut Parser<'_>, g: &G) -> Result<CompletedMarker, NoMemory>
-    requires within { Within G.valid G.left g.now (state p.old) }
-    requires path { starts_path (state p.old).rest ≡ true }
-    ensures made { IfOk result (Makes PATH_EXPR atom_room (state p.old) (state p.new)) }
-    ensures script { OnOk result (Follows script.path_expr something (state p.old) (state p.new)) }
-{
-    let m = p.start()?;
-    expr_path(p, g)?;
-    let cm = m.complete(p, SyntaxKind::PATH_EXPR)?;
-    Ok(cm)
-}
