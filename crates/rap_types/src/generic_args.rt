@@ -1,14 +1,15 @@
 //! Arguments of something generic.
-ghost use Rattle.std.specs.Prelude.{◌≡◌, ◌<◌, ◌≤◌, OnOk, true, Some};
+ghost use Rattle.std.specs.Prelude.{◌≡◌, ◌<◌, ◌≤◌, OnOk, true, Some, IfOk};
 ghost use Rattle.rap_base.specs.TokenKind.{LIFETIME_IDENT, COLON, BANG, MINUS};
+ghost use Rattle.rap_base.specs.NodeKind.{PATH_EXPR};
 ghost use Rattle.rap_events.specs.State.{state, next, IsLast};
 ghost use Rattle.rap_rules.specs.ConstArgs as const_script;
-ghost use Rattle.rap_rules.specs.First.{is_const_arg_first, is_generic_arg_first, is_type_first, is_path_name};
+ghost use Rattle.rap_rules.specs.First.{is_const_arg_first, is_generic_arg_first, is_type_first, is_path_name, starts_path};
 ghost use Rattle.rap_rules.specs.GenericArgs as script;
-ghost use Rattle.rap_rules.specs.Grew.{Within, Took, Behind, Grew, Ended};
+ghost use Rattle.rap_rules.specs.Grew.{Within, Took, Behind, Grew, Ended, Makes};
 ghost use Rattle.rap_rules.specs.Knot.{Follows};
 ghost use Rattle.rap_rules.specs.Recovery.{is_generic_arg_recovery};
-ghost use Rattle.rap_rules.specs.Room.{element_room, operand_room};
+ghost use Rattle.rap_rules.specs.Room.{element_room, operand_room, atom_room};
 ghost use Rattle.rap_rules.specs.Script.{something};
 
 use crate::generic_params::bounds;
