@@ -1,11 +1,10 @@
 //! Expressions that begin with no operator.
 ghost use Rattle.std.specs.Prelude.{◌≡◌, ◌≢◌, ◌<◌, ◌≤◌, IfOk, ◌⊎◌, OnOk, true, IfSome};
 ghost use Rattle.rap_base.specs.TokenKind.{EOF, L_PAREN, L_BRACK};
-ghost use Rattle.rap_base.specs.NodeKind.{PATH_EXPR, PAREN_EXPR, TUPLE_EXPR, ARRAY_EXPR};
+ghost use Rattle.rap_base.specs.NodeKind.{PAREN_EXPR, TUPLE_EXPR, ARRAY_EXPR};
 ghost use Rattle.rap_events.specs.State.{state, next};
 ghost use Rattle.rap_rules.specs.Atom as script;
 ghost use Rattle.rap_rules.specs.Expressions.{of_expr};
-ghost use Rattle.rap_rules.specs.First.{starts_path};
 ghost use Rattle.rap_rules.specs.Grew.{Within, Made, Behind, Grew, Makes};
 ghost use Rattle.rap_rules.specs.Knot.{Follows};
 ghost use Rattle.rap_rules.specs.Room.{atom_room};
@@ -21,7 +20,6 @@ use rap_rules::T;
 use rap_rules::arguments::BlockLike;
 use rap_rules::called::expr;
 use rap_rules::first::is_path_start;
-use rap_parts::paths::expr_path;
 use rap_rules::knot::Grammar;
 use rap_rules::literals::literal;
 
@@ -163,16 +161,4 @@ fn after_element(
         return Ok(Some(false));
     }
     Ok(None)
-}
-
-fn path_expr<G: Grammar>(p: &mut Parser<'_>, g: &G) -> Result<CompletedMarker, NoMemory>
-    requires within { Within G.valid G.left g.now (state p.old) }
-    requires path { starts_path (state p.old).rest ≡ true }
-    ensures made { IfOk result (Makes PATH_EXPR atom_room (state p.old) (state p.new)) }
-    ensures script { OnOk result (Follows script.path_expr something (state p.old) (state p.new)) }
-{
-    let m = p.start()?;
-    expr_path(p, g)?;
-    let cm = m.complete(p, SyntaxKind::PATH_EXPR)?;
-    Ok(cm)
 }
