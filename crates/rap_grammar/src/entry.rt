@@ -119,7 +119,7 @@ fn macro_stmts(p: &mut Parser<'_>) -> Result<(), NoMemory>
     ensures rest { OnOk result ((state p.new).rest ≡ []) }
     ensures script { OnOk result (Follows statement_script.macro_stmts something (state p.old) (state p.new)) }
 {
-    'statements: while !p.at(SyntaxKind::EOF) {
+    'statements: while p.current() != SyntaxKind::EOF {
         let semicolon = Semicolon::Optional;
         run(p, Rule::Stmt { semicolon })?;
     }
@@ -132,7 +132,7 @@ fn items(p: &mut Parser<'_>) -> Result<(), NoMemory>
     ensures rest { OnOk result ((state p.new).rest ≡ []) }
     ensures script { OnOk result (Follows (item_script.items false) something (state p.old) (state p.new)) }
 {
-    'items: while !p.at(SyntaxKind::EOF) {
+    'items: while p.current() != SyntaxKind::EOF {
         // Only `safe fn` is more than elsewhere in a foreign block, and there is no other reading of it.
         let item = Rule::Item {
             stop_on_r_curly: false,

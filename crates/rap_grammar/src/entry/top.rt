@@ -1,5 +1,5 @@
 //! Entries that read a whole input as one tree.
-ghost use Rattle.std.specs.Prelude.{◌≡◌, ◌≤◌, length, IfOk};
+ghost use Rattle.std.specs.Prelude.{◌≡◌, ◌≤◌, length, IfOk, false};
 ghost use Rattle.rap_base.specs.NodeKind.{SOURCE_FILE, MACRO_STMTS, MACRO_ITEMS};
 ghost use Rattle.rap_rules.specs.Atom as script;
 ghost use Rattle.rap_rules.specs.Called as called;

@@ -1,0 +1,21 @@
+use Rattle.std.proofs.Common.{refl, rules, true, false}
+use Rattle.rap_rules.specs.Knot.{script_of}
+use Rattle.rap_rules.specs.Phrase.{any_item}
+use Rattle.rap_rules.specs.Script.{gives, passes, fails}
+use Rattle.rap_rules.specs.Items.{items}
+use Rattle.rap_rules.proofs.Steps.{by_part, turn, last_turn, and_false}
+use Rattle.rap_grammar.proofs.entry.items.Goals as goal
+
+pub items-preserved : goal.items-preserved
+unfolding script_of
+items-preserved c = record {
+  grew = search rules;
+  script = turn c.items.invariant.script (fails (search rules) (fails (and_false _) (by_part (any_item false true) c.in_ok-run.ensures.1 gives)));
+}
+
+pub returns-clause-rest : goal.returns-clause-rest
+returns-clause-rest c = c.current.ensures.end (search rules)
+
+pub returns-clause-script : goal.returns-clause-script
+unfolding items
+returns-clause-script c = record { run = last_turn c.items.invariant.script (passes (search rules) gives) refl }

@@ -1,0 +1,15 @@
+use Rattle.std.proofs.Common.{false}
+use Rattle.rap_events.specs.State.{state}
+use Rattle.rap_rules.specs.Grew.{Grew}
+use Rattle.rap_rules.specs.Items.{item_turn}
+use Rattle.rap_rules.proofs.Steps.{Turns}
+use Rattle.rap_grammar.proofs.entry.items.Given as goal
+
+abbrev pub invariant-items : goal.invariant-items
+invariant-items l = record {
+  grew : Grew (state l.initial.p) (state l.p) 0;
+  script : Turns (item_turn false) false false false false (state l.initial.p) (state l.p);
+}
+
+abbrev pub decreases-items : goal.decreases-items
+decreases-items l = (state l.p).left

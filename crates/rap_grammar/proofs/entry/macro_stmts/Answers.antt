@@ -1,0 +1,22 @@
+use Rattle.std.proofs.Common.{refl, rules}
+use Rattle.rap_rules.specs.Knot.{script_of}
+use Rattle.rap_rules.specs.Phrase.{statement}
+use Rattle.rap_rules.specs.Script.{gives, passes, fails}
+use Rattle.rap_rules.specs.Statements.{macro_stmts}
+use Rattle.rap_rules.specs.declared.arguments.Semicolon.TheVariants as semicolon
+use Rattle.rap_rules.proofs.Steps.{by_part, turn, last_turn}
+use Rattle.rap_grammar.proofs.entry.macro_stmts.Goals as goal
+
+pub statements-preserved : goal.statements-preserved
+unfolding script_of
+statements-preserved c = record {
+  grew = search rules;
+  script = turn c.statements.invariant.script (fails (search rules) (by_part (statement semicolon.Optional) c.in_ok-run.ensures.1 gives));
+}
+
+pub returns-clause-rest : goal.returns-clause-rest
+returns-clause-rest c = c.current.ensures.end (search rules)
+
+pub returns-clause-script : goal.returns-clause-script
+unfolding macro_stmts
+returns-clause-script c = record { run = last_turn c.statements.invariant.script (passes (search rules) gives) refl }

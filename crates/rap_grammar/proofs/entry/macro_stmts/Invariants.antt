@@ -1,0 +1,15 @@
+use Rattle.std.proofs.Common.{false}
+use Rattle.rap_events.specs.State.{state}
+use Rattle.rap_rules.specs.Grew.{Grew}
+use Rattle.rap_rules.specs.Statements.{macro_turn}
+use Rattle.rap_rules.proofs.Steps.{Turns}
+use Rattle.rap_grammar.proofs.entry.macro_stmts.Given as goal
+
+abbrev pub invariant-statements : goal.invariant-statements
+invariant-statements l = record {
+  grew : Grew (state l.initial.p) (state l.p) 0;
+  script : Turns macro_turn false false false false (state l.initial.p) (state l.p);
+}
+
+abbrev pub decreases-statements : goal.decreases-statements
+decreases-statements l = (state l.p).left

@@ -1,0 +1,39 @@
+use Rattle.rap_rules.specs.Statements.{stmt}
+use Rattle.rap_rules.specs.Script.{gives}
+use Rattle.rap_rules.proofs.Steps.{ate, not_ate, then_by, else_by, by_start, by_rule, by_complete, to_end}
+use Rattle.rap_grammar.proofs.statements.stmt.Goals as goal
+
+pub returns-then-branch-clause-script : goal.returns-then-branch-clause-script
+unfolding stmt
+returns-then-branch-clause-script g c = record { run = ate c.in_ok-eat.ensures.state c.if-branch.true gives }
+
+pub returns-then-starts_let-clause-script : goal.returns-then-starts_let-clause-script
+unfolding stmt
+returns-then-starts_let-clause-script g c = record {
+  run = not_ate c.in_ok-eat.ensures.state c.if-branch.false
+      (by_start c.in_ok-m.ensures.state
+      (by_rule c.in_ok-outer_attrs.ensures.script
+      (then_by c.starts_let.ensures c.if-starts_let.true
+      (by_rule c.in_ok-let_stmt.ensures.script
+      (by_complete c.in_ok-complete.ensures.state.0 gives)))));
+}
+
+pub returns-in_default-clause-script : goal.returns-in_default-clause-script
+unfolding stmt
+returns-in_default-clause-script g c = record {
+  run = not_ate c.in_ok-eat.ensures.state c.if-branch.false
+      (by_start c.in_ok-m.ensures.state
+      (by_rule c.in_ok-outer_attrs.ensures.script
+      (else_by c.starts_let.ensures c.if-starts_let.false
+      (by_rule (rw c.in_default.is at c.in_ok-m-2.ensures.script) gives))));
+}
+
+pub returns-clause-script : goal.returns-clause-script
+unfolding stmt
+returns-clause-script g c = record {
+  run = not_ate c.in_ok-eat.ensures.state c.if-branch.false
+      (by_start c.in_ok-m.ensures.state
+      (by_rule c.in_ok-outer_attrs.ensures.script
+      (else_by c.starts_let.ensures c.if-starts_let.false
+      (by_rule (rw c.in-Some.is at c.in_ok-m-2.ensures.script) (to_end c.in_ok-expr_as_stmt.ensures.script)))));
+}
