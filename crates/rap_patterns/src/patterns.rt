@@ -156,7 +156,12 @@ fn rest_pat<G: Grammar>(p: &mut Parser<'_>, g: &G, in_arm: bool) -> Result<(), N
 }
 
 /// What makes a range of a pattern, as the `..=9` after `0`.
-fn range_op<G: Grammar>(p: &mut Parser<'_>, g: &G, lhs: CompletedMarker, in_arm: bool) -> Result<(), NoMemory>
+fn range_op<G: Grammar>(
+    p: &mut Parser<'_>,
+    g: &G,
+    lhs: CompletedMarker,
+    in_arm: bool,
+) -> Result<(), NoMemory>
     requires within { Within G.valid G.left g.now (state p.old) }
     requires last { IsLast (state p.old) lhs lhs.kind }
     ensures grew { OnOk result (Grew (state p.old) (state p.new) 0) }
@@ -215,7 +220,11 @@ fn ends_range_pat(kind: SyntaxKind) -> bool
 }
 
 /// A pattern that is no range, as `a`, `S { x, .. }` and `&1`.
-fn atom_pat<G: Grammar>(p: &mut Parser<'_>, g: &G, in_arm: bool) -> Result<Option<CompletedMarker>, NoMemory>
+fn atom_pat<G: Grammar>(
+    p: &mut Parser<'_>,
+    g: &G,
+    in_arm: bool,
+) -> Result<Option<CompletedMarker>, NoMemory>
     requires within { Within G.valid G.left g.now (state p.old) }
     ensures atom { IfOk result (IsAtomPattern in_arm (state p.old) (state p.new)) }
     ensures script { IfOk result (λ o. Follows (script.atom_pat in_arm) (of_option o) (state p.old) (state p.new)) }
@@ -245,7 +254,11 @@ fn is_ident_pat_start(p: &Parser<'_>) -> bool
 }
 
 /// A pattern that begins with no keyword and no path, as `1`, `_` and `(a, b)`.
-fn symbol_pat<G: Grammar>(p: &mut Parser<'_>, g: &G, in_arm: bool) -> Result<Option<CompletedMarker>, NoMemory>
+fn symbol_pat<G: Grammar>(
+    p: &mut Parser<'_>,
+    g: &G,
+    in_arm: bool,
+) -> Result<Option<CompletedMarker>, NoMemory>
     requires within { Within G.valid G.left g.now (state p.old) }
     ensures atom { IfOk result (IsAtomPattern in_arm (state p.old) (state p.new)) }
     ensures script { IfOk result (λ o. Follows (script.symbol_pat in_arm) (of_option o) (state p.old) (state p.new)) }
