@@ -105,9 +105,9 @@ took_missing {s0 = s0} {s1 = s1} {s2 = s2} {t = t} p a took stays d spent h =
     })
 
 -- no attribute stands where the search ends, and nothing was taken there
-nothing_taken : {s0 s1 s2 t : State} {m : ℕ} → Opened s0 s1 m → (is_outer_attr_first (next s1) ≡ false → s2 ≡ s1) →
+nothing_taken : (t : State) {s0 s1 s2 : State} {m : ℕ} → Opened s0 s1 m → (is_outer_attr_first (next s1) ≡ false → s2 ≡ s1) →
     (stops_expr (next s2) ≡ true → t.left ≡ s2.left) → stops_expr (next s0) ≡ true → t.left ≡ s0.left
-nothing_taken {s0 = s0} {s1 = s1} p stays same h =
+nothing_taken t {s0 = s0} {s1 = s1} p stays same h =
     let n : next s1 ≡ next s0 = ap next_kind p.recorded.rest in
     let h1 : stops_expr (next s1) ≡ true = ap stops_expr n ∙ h in
     let e = stays (no_attr (next s1) h1) in
@@ -176,6 +176,6 @@ answered stmt bp None {s0 = s0} {s2 = s2} {t = t} p a took stays d spent same =
       omega (arith, p.recorded.messages, a.messages, d.messages),
       record {
         took = took_missing p a took stays d (spent refl);
-        stays = nothing_taken p stays (same refl);
+        stays = nothing_taken t p stays (same refl);
       },
     )

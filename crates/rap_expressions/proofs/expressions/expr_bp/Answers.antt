@@ -12,7 +12,7 @@ returns-in_ok-expr-in-None-clause-answered g c =
 pub returns-in_ok-expr-in-Some-clause-answered : goal.returns-in_ok-expr-in-Some-clause-answered
 returns-in_ok-expr-in-Some-clause-answered g c =
     let e = c.in_ok-expr-in-Some.ensures in
-    rw c.in-Some.is (answered_from _ _ _ _ e.answered e.spent)
+    rw c.in-Some.is (answered_from _ _ _ c.in-Some.m e.answered e.spent)
 
 pub returns-in_ok-expr-in-Some-clause-script : goal.returns-in_ok-expr-in-Some-clause-script
 unfolding expr_bp
