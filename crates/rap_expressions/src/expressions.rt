@@ -1,5 +1,5 @@
 //! Expressions.
-ghost use Rattle.std.specs.Prelude.{◌≡◌, ◌≢◌, ◌<◌, ◌≤◌, IfOk, Some, None, is_some, OnOk, false};
+ghost use Rattle.std.specs.Prelude.{◌≡◌, ◌≢◌, ◌<◌, ◌≤◌, IfOk, Some, None, is_some, OnOk, true, false};
 ghost use Rattle.rap_base.specs.TokenKind.{EOF};
 ghost use Rattle.rap_events.specs.State.{state, next};
 ghost use Rattle.rap_rules.specs.Expressions as script;
@@ -78,6 +78,7 @@ fn expr_from<G: Grammar>(
     requires power { 1 ≤ bp }
     ensures answered { IfOk result (AnsweredFrom (state p.old) (state p.new) r.prefer_stmt bp) }
     ensures spent { IfOk result (λ e. e ≡ None → stops_expr (next (state p.old)) ≡ false → Spent (state p.old) (state p.new) marked_room) }
+    ensures stays { IfOk result (λ e. e ≡ None → stops_expr (next (state p.old)) ≡ true → (state p.new).left ≡ (state p.old).left) }
     ensures script { IfOk result (λ e. Follows (script.expr_from r bp) (of_expr e) (state p.old) (state p.new)) }
 {
     if !is_expr_first(p.current()) {
@@ -100,8 +101,10 @@ fn expr_from<G: Grammar>(
 #[inline(never)]
 fn missing_expr(p: &mut Parser<'_>, m: Marker) -> Result<(), NoMemory>
     requires newest { (state p.old).marker ≡ Some m.pos }
+    requires missing { is_expr_first (next (state p.old)) ≡ false }
     ensures dropped { OnOk result (Dropped (state p.old) (state p.new) 5) }
     ensures spent { OnOk result (stops_expr (next (state p.old)) ≡ false → Spent (state p.old) (state p.new) marked_room) }
+    ensures stays { OnOk result (stops_expr (next (state p.old)) ≡ true → (state p.new).left ≡ (state p.old).left) }
     ensures script { OnOk result (Follows script.missing_expr nothing (state p.old) (state p.new)) }
 {
     p.err_recover("expected expression", expr_recovery_set())?;

@@ -13,7 +13,7 @@ use Rattle.rap_rules.specs.Expressions.{expr_bp, of_expr}
 use Rattle.rap_rules.specs.First.{is_type_first, is_generic_arg_first, is_cfg_predicate_first, starts_use_path}
 use Rattle.rap_rules.specs.GenericArgs.{generic_arg}
 use Rattle.rap_rules.specs.GenericParams.{generic_param_list, bounds_without_colon, where_clause}
-use Rattle.rap_rules.specs.Grew.{Grew, Took, Made, Closed, Closes, Dropped}
+use Rattle.rap_rules.specs.Grew.{Grew, Took, Spent, Made, Closed, Closes, Dropped}
 use Rattle.rap_rules.specs.Items.{item_or_macro}
 use Rattle.rap_rules.specs.Knot.{Follows}
 use Rattle.rap_rules.specs.Patterns.{pattern_r, pattern_single_r}
@@ -42,7 +42,7 @@ abbrev pub Answered : State → State → Option Marker → Bool → ℕ → Opt
 Answered old new None stmt bp (Some e) = Made old new e.0 expression_room × Climbed new e.0.kind bp stmt
 Answered old new None stmt bp None = Grew old new 8 × (old.messages < new.messages) × Missed old new
 Answered old new (Some m) stmt bp (Some e) = Closed old new e.0 expression_room × Climbed new e.0.kind bp stmt
-Answered old new (Some m) stmt bp None = Dropped old new 8
+Answered old new (Some m) stmt bp None = Dropped old new 8 × (stops_expr (next old) ≡ false → Spent old new expression_room)
 
 -- an operand: a node of which nothing more is asked; or a message, with a token in an `ERROR` at least, and no node
 abbrev pub Operand : ℕ → State → State → Option (CompletedMarker × BlockLike) → Type 0

@@ -1,17 +1,21 @@
 use Rattle.std.proofs.Common.{rules, sym, ◌∙◌, ◌≡◌, ◌&&◌, false}
-use Rattle.rap_events.specs.State.{state}
+use Rattle.rap_events.specs.State.{state, next}
 use Rattle.rap_rules.specs.Expressions.{expr_from, is_block, of_like}
 use Rattle.rap_rules.specs.Grew.{Made}
 use Rattle.rap_rules.specs.Room.{operand_room}
 use Rattle.rap_rules.specs.Script.{gives, passes, fails}
 use Rattle.rap_rules.proofs.Operating.{from_lhs}
 use Rattle.rap_rules.proofs.Steps.{by_rule, by_abandon, by_extend, to_end, not_both, clash}
+use Rattle.rap_expressions.proofs.Missing.{begins_none}
 use Rattle.rap_expressions.proofs.expressions.expr_from.Goals.{else-r-via-then-r+else-is_block, else-r-via-else-r}
 use Rattle.rap_expressions.proofs.expressions.expr_from.Goals as goal
 
 pub returns-then-not-is_expr_first-clause-script : goal.returns-then-not-is_expr_first-clause-script
 unfolding expr_from
 returns-then-not-is_expr_first-clause-script g c = record { run = fails (search rules) (to_end c.in_ok-missing_expr.ensures.script) }
+
+pub returns-in_default-clause-stays : goal.returns-in_default-clause-stays
+returns-in_default-clause-stays g c = λ e s. absurd (clash s (begins_none (next (state c.args.p.now)) (search rules)))
 
 pub returns-in_default-clause-script : goal.returns-in_default-clause-script
 unfolding expr_from
