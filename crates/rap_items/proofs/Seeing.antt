@@ -1,7 +1,7 @@
 -- What was read before an item, one part after another.
 use Rattle.std.proofs.Common.{◌≡◌, ℕ, Bool, true, false, ◌||◌, Option, Some, None, refl, sym, ap, subst, ◌∙◌, arith}
 use Rattle.rap_events.specs.Machine.{Stack, push, top}
-use Rattle.rap_events.specs.State.{State, Completed}
+use Rattle.rap_events.specs.State.{State, Completed, Expected}
 use Rattle.rap_events.specs.declared.parser.CompletedMarker.{CompletedMarker}
 use Rattle.rap_events.specs.declared.parser.Marker.{Marker}
 use Rattle.rap_rules.specs.Grew.{Grew, Took, Ended, Dropped, Closes}
@@ -62,9 +62,9 @@ seen_both {a = false} e x y = record {
 }
 
 -- the outcome of both parts
-pub outcome_both : {a b r : Bool} {w : Outcome} → r ≡ a || b → w ≡ of_bool b → either_of (of_bool a) w ≡ of_bool r
-outcome_both {a = true} e h = ap of_bool (sym e)
-outcome_both {a = false} e h = h ∙ ap of_bool (sym e)
+pub outcome_both : (a b : Bool) {r : Bool} {w : Outcome} → r ≡ a || b → w ≡ of_bool b → either_of (of_bool a) w ≡ of_bool r
+outcome_both true b e h = ap of_bool (sym e)
+outcome_both false b e h = h ∙ ap of_bool (sym e)
 
 pub found_is : (b : Bool) → found (of_bool b) ≡ b
 found_is true = refl
@@ -104,11 +104,11 @@ parted x y =
     }
 
 -- where no item follows, what stood before it is reported
-pub refused : {s t u : State} {v b : Bool} (back : Option Marker) → Seen s t b → Refused v b t u back → Modified v s u back
-refused {s = s} {v = v} {b = true} None x y =
+pub refused : (u : State) (v : Bool) {s t : State} {b : Bool} (back : Option Marker) → Seen s t b → Refused v b t u back → Modified v s u back
+refused u v {s = s} {b = true} None x y =
     let t = x.took refl in
     let d = y.1 in
-    let e : Ended s _ item_room = record {
+    let e : Ended s u item_room = record {
       input = d.input ∙ t.input;
       left = omega (arith, t.left, d.left);
       count = omega (arith, t.left, t.count, d.left, d.count);
@@ -123,7 +123,7 @@ refused {s = s} {v = v} {b = true} None x y =
       below = e.below;
       ended = λ h. e;
     }
-refused {v = true} {b = false} None x y =
+refused u true {b = false} None x y =
     rw (← (x.stays refl)) (record {
       input = y.1.input;
       left = y.1.left;
@@ -132,13 +132,13 @@ refused {v = true} {b = false} None x y =
       below = y.1.below;
       ended = λ h. absurd (clash refl h);
     })
-refused {v = false} {b = false} None x y = absurd (clash y.0 refl)
-refused (Some m) x y = (y.0.0, (y.1.0 ∙ x.stays y.0.1, y.1.1))
+refused u false {b = false} None x y = absurd (clash y.0 refl)
+refused u v (Some m) x y = (y.0.0, (y.1.0 ∙ x.stays y.0.1, y.1.1))
 
 -- an item behind a visibility or without one
-pub handed : {s t u : State} {v : Bool} (back : Option Marker) →
+pub handed : (u : State) {s t : State} {v : Bool} (back : Option Marker) →
     (v ≡ true → Took s t list_room) → (v ≡ false → t ≡ s) → Modified v t u back → Handed s u back
-handed {s = s} {u = u} {v = true} None x y z =
+handed u {s = s} {v = true} None x y z =
     let t = x refl in
     record {
       input = z.input ∙ t.input;
@@ -147,17 +147,17 @@ handed {s = s} {u = u} {v = true} None x y z =
       messages = omega (arith, t.messages, z.messages);
       below = rw (← t.below) z.below;
     }
-handed {u = u} {v = false} None x y z = subst (λ (a : State). Ended a u item_room) (y refl) (z.ended refl)
-handed (Some m) x y z = (z.1.0 ∙ y z.0, z.1.1)
+handed u {v = false} None x y z = subst (λ (a : State). Ended a u item_room) (y refl) (z.ended refl)
+handed u (Some m) x y z = (z.1.0 ∙ y z.0, z.1.1)
 
 -- whether a macro call reads like a block
-pub like_block : {e : BlockLike} {c : Script Phrase} {s t : State} {b : Bool} → b ≡ is_block (of_like e) → b ≡ true → Follows c (of_like e) s t → Follows c block s t
-like_block {e = like.Block} i h f = f
-like_block {e = like.NotBlock} i h f = absurd (clash h i)
+pub like_block : (e : BlockLike) {c : Script Phrase} {s t : State} {b : Bool} → b ≡ is_block (of_like e) → b ≡ true → Follows c (of_like e) s t → Follows c block s t
+like_block like.Block i h f = f
+like_block like.NotBlock i h f = absurd (clash h i)
 
-pub like_other : {e : BlockLike} {c : Script Phrase} {s t : State} {b : Bool} → b ≡ is_block (of_like e) → b ≡ false → Follows c (of_like e) s t → Follows c something s t
-like_other {e = like.Block} i h f = absurd (clash i h)
-like_other {e = like.NotBlock} i h f = f
+pub like_other : (e : BlockLike) {c : Script Phrase} {s t : State} {b : Bool} → b ≡ is_block (of_like e) → b ≡ false → Follows c (of_like e) s t → Follows c something s t
+like_other like.Block i h f = absurd (clash i h)
+like_other like.NotBlock i h f = f
 
 -- an item that ends with its node
 pub ended_by : {s t u : State} {k : ℕ} → Completed t u k → Took s t list_room → Ended s u item_room
@@ -176,4 +176,14 @@ ended_closed y x = record {
   count = omega (arith, x.left, x.count, y.left, y.count);
   messages = omega (arith, x.messages, y.messages);
   below = gone (sym x.below ∙ y.below);
+}
+
+-- the same with a token before the end that may be missing
+pub ended_behind : {s t u v : State} {j k : ℕ} {b : Bool} → Completed u v k → Expected t u j b → Took s t list_room → Ended s v item_room
+ended_behind z y x = record {
+  input = z.recorded.input ∙ y.input ∙ x.input;
+  left = omega (arith, x.left, y.left, z.recorded.left);
+  count = omega (arith, x.left, x.count, y.left, y.count, z.recorded.left, z.recorded.count);
+  messages = omega (arith, x.messages, y.messages, z.recorded.messages);
+  below = gone (sym x.below ∙ sym y.below ∙ z.below);
 }

@@ -12,5 +12,5 @@ unfolding auto_or_default
 returns-clause-script c = record {
   run = by_rule (c.in_ok-auto.ensures.script is_auto_modifier c.is_auto_modifier-is_auto.ensures.here)
       (by_rule c.in_ok-default.ensures.script
-      (gives_as (outcome_both c.either.ensures refl)));
+      (gives_as (outcome_both _ _ c.either.ensures refl)));
 }

@@ -21,6 +21,6 @@ returns-clause-script g c = record {
       (by_rule c.in_ok-has_extern.ensures.script
       (by_rule c.in_ok-marked.ensures.script
       (gives_as (outcome_of
-      (outcome_both c.either-has_mods.ensures (outcome_both c.either-3.ensures
-      (outcome_both c.either-2.ensures (outcome_both c.either.ensures refl))))))))));
+      (outcome_both _ _ c.either-has_mods.ensures (outcome_both _ _ c.either-3.ensures
+      (outcome_both _ _ c.either-2.ensures (outcome_both _ _ c.either.ensures refl))))))))));
 }
