@@ -1,11 +1,14 @@
 -- What was read before an item, one part after another.
-use Rattle.std.proofs.Common.{◌≡◌, ℕ, Bool, true, false, ◌||◌, Option, Some, None, refl, sym, ap, subst, ◌∙◌, arith}
+use Rattle.std.proofs.Common.{◌≡◌, ◌≢◌, ℕ, suc, Bool, true, false, ◌||◌, ◌==◌, List, [], ◌∷◌, drop, Option, Some, None, Result, IfOk, refl, sym, ap, subst, ◌∙◌, arith}
+use Rattle.std.specs.declared.result.Result.TheVariants.{Ok, Err}
+use Rattle.rap_base.specs.TokenKind.{EOF, R_CURLY, GLOBAL_ASM_KW}
+use Rattle.rap_events.specs.Record.{Record, next_kind, contextual_at}
 use Rattle.rap_events.specs.Machine.{Stack, push, top}
-use Rattle.rap_events.specs.State.{State, Completed, Expected}
+use Rattle.rap_events.specs.State.{State, next, Completed, Expected, Abandoned, Reported, Bumped, AteAs, Skipped}
 use Rattle.rap_events.specs.declared.parser.CompletedMarker.{CompletedMarker}
 use Rattle.rap_events.specs.declared.parser.Marker.{Marker}
 use Rattle.rap_rules.specs.Grew.{Grew, Took, Ended, Dropped, Closes}
-use Rattle.rap_rules.specs.Items.{Refused, Parted, Modified, Handed}
+use Rattle.rap_rules.specs.Items.{Refused, Parted, Modified, Handed, EndsItem, SkipsItem}
 use Rattle.rap_rules.specs.Modifiers.{Seen, found, either_of}
 use Rattle.rap_rules.specs.Room.{list_room, item_room}
 use Rattle.rap_rules.specs.Script.{Script, Outcome, something, block, Spot, again, give, gives}
@@ -187,3 +190,139 @@ ended_behind z y x = record {
   messages = omega (arith, x.messages, y.messages, z.recorded.messages);
   below = gone (sym x.below ∙ sym y.below ∙ z.below);
 }
+
+-- an item, or what stands in its place
+pub ends_at : {b : Bool} {s t : State} → Ended s t item_room → EndsItem b s t
+ends_at x = record {
+  input = x.input;
+  left = omega (arith, x.left);
+  count = omega (arith, x.count);
+  messages = x.messages;
+  below = x.below;
+  took = λ h i. x;
+}
+
+pub ends_behind : {b : Bool} {s t u : State} → Ended s t item_room → Grew t u 0 → EndsItem b s u
+ends_behind x y = ends_at (record {
+  input = y.input ∙ x.input;
+  left = omega (arith, x.left, y.left);
+  count = omega (arith, x.left, x.count, y.left, y.count);
+  messages = omega (arith, x.messages, y.messages);
+  below = rw (y.below, y.marker) x.below;
+})
+
+pub ends_kept : {b : Bool} {s t u : State} → t ≡ s → EndsItem b t u → EndsItem b s u
+ends_kept {b = b} {u = u} e x = subst (λ (a : State). EndsItem b a u) e x
+
+-- without its marker
+pub ends_without : {b : Bool} {s t u : State} → Abandoned s t → SkipsItem b t u → EndsItem b s u
+ends_without {b = b} {s = s} {t = t} {u = u} x y =
+    let g = y.grew in
+    let same : next t ≡ next s = ap next_kind x.recorded.rest in
+    record {
+      input = g.input ∙ x.recorded.input;
+      left = omega (arith, x.recorded.left, g.left);
+      count = omega (arith, x.recorded.left, x.recorded.count, g.left, g.count);
+      messages = omega (arith, x.recorded.messages, g.messages);
+      below = rw (g.below, g.marker) x.below;
+      took = λ h i.
+          let k = y.took (λ e. h (sym same ∙ e)) (λ f e. i f (sym same ∙ e)) in
+          record {
+            input = k.input ∙ x.recorded.input;
+            left = omega (arith, x.recorded.left, k.left);
+            count = omega (arith, x.recorded.left, x.recorded.count, k.left, k.count);
+            messages = omega (arith, x.recorded.messages, k.messages);
+            below = rw (k.below, k.marker) x.below;
+          };
+    }
+
+pub skips_took : {b : Bool} {s t : State} → Took s t list_room → SkipsItem b s t
+skips_took x = record {
+  grew = record {
+    input = x.input;
+    left = omega (arith, x.left);
+    count = omega (arith, x.count);
+    messages = x.messages;
+    marker = x.marker;
+    below = x.below;
+  };
+  took = λ h i. x;
+}
+
+-- where no token is left, or a brace ends the list of items, that is all
+pub skips_reported : {b : Bool} {s t : State} {bytes : List ℕ} → Reported s t bytes → (next s ≢ EOF → (b ≡ true → next s ≢ R_CURLY) → ⊥) → SkipsItem b s t
+skips_reported x n = record {
+  grew = record {
+    input = x.input;
+    left = omega (arith, x.left);
+    count = omega (arith, x.left, x.count);
+    messages = omega (arith, x.messages);
+    marker = x.marker;
+    below = x.below;
+  };
+  took = λ h i. absurd (n h i);
+}
+
+-- an item behind a visibility or without one, at once or behind modifiers
+pub ended_visible : {s t u : State} {v : Bool} → (v ≡ true → Took s t list_room) → (v ≡ false → t ≡ s) → Ended t u item_room → Ended s u item_room
+ended_visible {s = s} {v = true} x y z =
+    let t = x refl in
+    record {
+      input = z.input ∙ t.input;
+      left = omega (arith, t.left, z.left);
+      count = omega (arith, t.left, t.count, z.left, z.count);
+      messages = omega (arith, t.messages, z.messages);
+      below = rw (← t.below) z.below;
+    }
+ended_visible {u = u} {v = false} x y z = subst (λ (a : State). Ended a u item_room) (y refl) z
+
+pub handed_kept : (u : State) {s t r : State} {v : Bool} (back : Option Marker) →
+    (v ≡ true → Took s t list_room) → (v ≡ false → t ≡ s) → r ≡ t → Modified v r u back → Handed s u back
+handed_kept u {v = v} back x y e z = handed u back x y (subst (λ (a : State). Modified v a u back) e z)
+
+pub refused_kept : (u : State) (v : Bool) {s t r : State} {b : Bool} (back : Option Marker) → Seen s t b → r ≡ t → Refused v b r u back → Modified v s u back
+refused_kept u v {b = b} back x e y = refused u v back x (subst (λ (a : State). Refused v b a u back) e y)
+
+-- a rule that asks for what was found
+pub on_found : (f : Bool → Script Phrase) (b : Bool) {p q : Spot} {w : Outcome} → On (f b) p q w → On (f (found (of_bool b))) p q w
+on_found f true d = d
+on_found f false d = d
+
+-- what is known of a result, where it is handed on
+pub handed_if : {T E : Type 0} (r : Result T E) {P Q : T → Type 0} → IfOk r P → ((x : T) → P x → Q x) → IfOk r Q
+handed_if (Ok x) h f = f x h
+handed_if (Err e) h f = tt
+
+-- two tokens on
+later : (rs : List Record) (n : ℕ) → contextual_at (drop 1 rs) n ≡ contextual_at rs (suc n)
+later [] n = refl
+later (r ∷ rs) n = refl
+
+pub asm_taken : {s t u w : State} {j k : ℕ} {b : Bool} → Bumped s t j 1 → Bumped t u k 1 → AteAs u w GLOBAL_ASM_KW b → contextual_at s.rest 2 ≡ GLOBAL_ASM_KW → b ≡ true
+asm_taken {s = s} {t = t} {u = u} x y a h =
+    let e : contextual_at u.rest 0 ≡ GLOBAL_ASM_KW =
+        ap (λ (rs : List Record). contextual_at rs 0) y.rest ∙ later t.rest 0
+        ∙ ap (λ (rs : List Record). contextual_at rs 1) x.rest ∙ later s.rest 1 ∙ h in
+    a.decided ∙ ap (λ (k : ℕ). k == GLOBAL_ASM_KW) e
+
+-- an item that ends with its node, and a message
+pub ended_reported : {s t u v : State} {k : ℕ} {bytes : List ℕ} → Reported u v bytes → Completed t u k → Took s t list_room → Ended s v item_room
+ended_reported z y x = record {
+  input = z.input ∙ y.recorded.input ∙ x.input;
+  left = omega (arith, x.left, y.recorded.left, z.left);
+  count = omega (arith, x.left, x.count, y.recorded.left, y.recorded.count, z.left, z.count);
+  messages = omega (arith, x.messages, y.recorded.messages, z.messages);
+  below = rw (z.below, z.marker) (gone (sym x.below ∙ y.below));
+}
+
+pub skips_bumped : {b : Bool} {s t : State} {bytes : List ℕ} → Skipped s t bytes → next s ≢ EOF → SkipsItem b s t
+skips_bumped x h =
+    let l = x.less h in
+    skips_took (record {
+      input = x.input;
+      left = omega (arith, l);
+      count = omega (arith, l, x.count);
+      messages = omega (arith, x.messages);
+      marker = x.marker;
+      below = x.below;
+    })
