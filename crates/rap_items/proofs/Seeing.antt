@@ -326,3 +326,21 @@ skips_bumped x h =
       marker = x.marker;
       below = x.below;
     })
+
+-- a message under a marker that became a node
+pub dropped : {s t u : State} {k : ℕ} {bytes : List ℕ} → Reported s t bytes → Completed t u k → Dropped s u 2
+dropped x y = record {
+  input = y.recorded.input ∙ x.input;
+  left = omega (arith, x.left, y.recorded.left);
+  count = omega (arith, x.left, x.count, y.recorded.left, y.recorded.count);
+  messages = omega (arith, x.messages, y.recorded.messages);
+  below = gone (sym x.below ∙ y.below);
+}
+
+pub or_last : {a b : Bool} → b ≡ true → a || b ≡ true
+or_last {a = true} h = refl
+or_last {a = false} h = h
+
+pub or_first : {a b : Bool} → a ≡ true → a || b ≡ true
+or_first {a = true} h = refl
+or_first {a = false} h = absurd (clash h refl)
