@@ -337,10 +337,10 @@ dropped x y = record {
   below = gone (sym x.below ∙ y.below);
 }
 
-pub or_last : {a b : Bool} → b ≡ true → a || b ≡ true
-or_last {a = true} h = refl
-or_last {a = false} h = h
+pub or_last : (a : Bool) {b : Bool} → b ≡ true → a || b ≡ true
+or_last true h = refl
+or_last false h = h
 
-pub or_first : {a b : Bool} → a ≡ true → a || b ≡ true
-or_first {a = true} h = refl
-or_first {a = false} h = absurd (clash h refl)
+pub or_first : {a : Bool} (b : Bool) → a ≡ true → a || b ≡ true
+or_first {a = true} b h = refl
+or_first {a = false} b h = absurd (clash h refl)

@@ -23,8 +23,8 @@ returns-clause-script c = record { run = rw (c.if-has_mods.false, c.if-has_visib
 
 pub returns-then-has_mods-clause-refused : goal.returns-then-has_mods-clause-refused
 returns-then-has_mods-clause-refused c =
-    (or_last c.if-has_mods.true, dropped c.in_ok-error.ensures.state c.in_ok-complete.ensures.state.0)
+    (or_last _ c.if-has_mods.true, dropped c.in_ok-error.ensures.state c.in_ok-complete.ensures.state.0)
 
 pub returns-then-has_visibility-clause-refused : goal.returns-then-has_visibility-clause-refused
 returns-then-has_visibility-clause-refused c =
-    (or_first c.if-has_visibility.true, dropped c.in_ok-error-2.ensures.state c.in_ok-complete-2.ensures.state.0)
+    (or_first _ c.if-has_visibility.true, dropped c.in_ok-error-2.ensures.state c.in_ok-complete-2.ensures.state.0)
