@@ -5,9 +5,9 @@ use Rattle.rap_rules.proofs.Steps.{to_end}
 use Rattle.rap_items.proofs.Seeing.{handed_if}
 use Rattle.rap_items.proofs.items.opt_item_with_modifiers.Goals as goal
 
-pub returns-in-FN_KW-clause-script : goal.returns-in-FN_KW-clause-script
+pub returns-in_ok-fn_-clause-script : goal.returns-in_ok-fn_-clause-script
 unfolding opt_item_with_modifiers
-returns-in-FN_KW-clause-script g c = record {
+returns-in_ok-fn_-clause-script g c = record {
   run = passes (search rules) (to_end c.in_ok-fn_.ensures.script);
 }
 
@@ -25,22 +25,22 @@ returns-in-STATIC_KW-T-clause-script g c =
       run = fails (search rules) (fails (search rules) (passes (search rules) (to_end h)));
     })
 
-pub returns-in-TRAIT_KW-clause-script : goal.returns-in-TRAIT_KW-clause-script
+pub returns-in_ok-trait_-clause-script : goal.returns-in_ok-trait_-clause-script
 unfolding opt_item_with_modifiers
-returns-in-TRAIT_KW-clause-script g c = record {
+returns-in_ok-trait_-clause-script g c = record {
   run = fails (search rules) (fails (search rules) (fails (search rules) (passes (search rules) (to_end c.in_ok-trait_.ensures.script))));
 }
 
-pub returns-in-IMPL_KW-clause-script : goal.returns-in-IMPL_KW-clause-script
+pub returns-in_ok-impl_-clause-script : goal.returns-in_ok-impl_-clause-script
 unfolding opt_item_with_modifiers
-returns-in-IMPL_KW-clause-script g c = record {
+returns-in_ok-impl_-clause-script g c = record {
   run = fails (search rules) (fails (search rules) (fails (search rules) (fails (search rules)
           (passes (search rules) (to_end c.in_ok-impl_.ensures.script)))));
 }
 
-pub returns-in-TYPE_KW-clause-script : goal.returns-in-TYPE_KW-clause-script
+pub returns-in_ok-type_item-clause-script : goal.returns-in_ok-type_item-clause-script
 unfolding opt_item_with_modifiers
-returns-in-TYPE_KW-clause-script g c = record {
+returns-in_ok-type_item-clause-script g c = record {
   run = fails (search rules) (fails (search rules) (fails (search rules) (fails (search rules)
           (fails (search rules) (passes (search rules) (to_end c.in_ok-type_item.ensures.script))))));
 }

@@ -12,41 +12,41 @@ returns-in-EXTERN_KW-T-clause-script g c =
       run = passes (search rules) (to_end h);
     })
 
-pub returns-in-USE_KW-clause-script : goal.returns-in-USE_KW-clause-script
+pub returns-in_ok-use_-clause-script : goal.returns-in_ok-use_-clause-script
 unfolding opt_item_without_modifiers
-returns-in-USE_KW-clause-script g c = record {
+returns-in_ok-use_-clause-script g c = record {
   run = fails (search rules) (passes (search rules) (to_end c.in_ok-use_.ensures.script));
 }
 
-pub returns-in-MOD_KW-clause-script : goal.returns-in-MOD_KW-clause-script
+pub returns-in_ok-mod_item-clause-script : goal.returns-in_ok-mod_item-clause-script
 unfolding opt_item_without_modifiers
-returns-in-MOD_KW-clause-script g c = record {
+returns-in_ok-mod_item-clause-script g c = record {
   run = fails (search rules) (fails (search rules) (passes (search rules) (to_end c.in_ok-mod_item.ensures.script)));
 }
 
-pub returns-in-TYPE_KW-clause-script : goal.returns-in-TYPE_KW-clause-script
+pub returns-in_ok-type_item-clause-script : goal.returns-in_ok-type_item-clause-script
 unfolding opt_item_without_modifiers
-returns-in-TYPE_KW-clause-script g c = record {
+returns-in_ok-type_item-clause-script g c = record {
   run = fails (search rules) (fails (search rules) (fails (search rules) (passes (search rules) (to_end c.in_ok-type_item.ensures.script))));
 }
 
-pub returns-in-STRUCT_KW-clause-script : goal.returns-in-STRUCT_KW-clause-script
+pub returns-in_ok-strukt-clause-script : goal.returns-in_ok-strukt-clause-script
 unfolding opt_item_without_modifiers
-returns-in-STRUCT_KW-clause-script g c = record {
+returns-in_ok-strukt-clause-script g c = record {
   run = fails (search rules) (fails (search rules) (fails (search rules) (fails (search rules)
           (passes (search rules) (to_end c.in_ok-strukt.ensures.script)))));
 }
 
-pub returns-in-ENUM_KW-clause-script : goal.returns-in-ENUM_KW-clause-script
+pub returns-in_ok-enum_-clause-script : goal.returns-in_ok-enum_-clause-script
 unfolding opt_item_without_modifiers
-returns-in-ENUM_KW-clause-script g c = record {
+returns-in_ok-enum_-clause-script g c = record {
   run = fails (search rules) (fails (search rules) (fails (search rules) (fails (search rules)
           (fails (search rules) (passes (search rules) (to_end c.in_ok-enum_.ensures.script))))));
 }
 
-pub returns-in-MACRO_KW-clause-script : goal.returns-in-MACRO_KW-clause-script
+pub returns-in_ok-macro_def-clause-script : goal.returns-in_ok-macro_def-clause-script
 unfolding opt_item_without_modifiers
-returns-in-MACRO_KW-clause-script g c = record {
+returns-in_ok-macro_def-clause-script g c = record {
   run = fails (search rules) (fails (search rules) (fails (search rules) (fails (search rules)
           (fails (search rules) (fails (search rules) (passes (search rules) (to_end c.in_ok-macro_def.ensures.script)))))));
 }
