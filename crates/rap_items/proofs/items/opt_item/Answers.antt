@@ -17,15 +17,15 @@ returns-in-None-clause-script g c = record {
       (by_rule (rw c.in-None.is at c.in_ok-opt_item_without_modifiers.ensures.script) gives);
 }
 
-pub returns-in-Some-clause-handed : goal.returns-in-Some-clause-handed
-returns-in-Some-clause-handed g c =
+pub returns-in_ok-back-in-Some-clause-handed : goal.returns-in_ok-back-in-Some-clause-handed
+returns-in_ok-back-in-Some-clause-handed g c =
     handed_kept _ _ c.in_ok-has_visibility.ensures.took c.in_ok-has_visibility.ensures.stays
-        (rw c.in-Some.is at c.in_ok-opt_item_without_modifiers.ensures.handed).0 c.in_ok-back.ensures.handed
+        (rw c.in-Some.is at c.in_ok-opt_item_without_modifiers.ensures.handed).0 c.in_ok-back-in-Some.ensures.handed
 
-pub returns-in-Some-clause-script : goal.returns-in-Some-clause-script
+pub returns-in_ok-back-in-Some-clause-script : goal.returns-in_ok-back-in-Some-clause-script
 unfolding opt_item
-returns-in-Some-clause-script g c = record {
+returns-in_ok-back-in-Some-clause-script g c = record {
   run = by_rule c.in_ok-has_visibility.ensures.script
       (by_rule (rw c.in-Some.is at c.in_ok-opt_item_without_modifiers.ensures.script)
-      (on_found (λ b. opt_modified_item b _) _ (to_end c.in_ok-back.ensures.script)));
+      (on_found (λ b. opt_modified_item b _) _ (to_end c.in_ok-back-in-Some.ensures.script)));
 }

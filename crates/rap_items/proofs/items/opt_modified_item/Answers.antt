@@ -15,15 +15,15 @@ returns-in-None-clause-script g c = record {
       (by_rule (rw c.in-None.is at c.in_ok-opt_item_with_modifiers.ensures.script) gives);
 }
 
-pub returns-in-Some-clause-handed : goal.returns-in-Some-clause-handed
-returns-in-Some-clause-handed g c =
+pub returns-in_ok-back-in-Some-clause-handed : goal.returns-in_ok-back-in-Some-clause-handed
+returns-in_ok-back-in-Some-clause-handed g c =
     refused_kept _ _ _ c.in_ok-found.ensures.seen
-        (rw c.in-Some.is at c.in_ok-opt_item_with_modifiers.ensures.handed).0 c.in_ok-back.ensures.refused
+        (rw c.in-Some.is at c.in_ok-opt_item_with_modifiers.ensures.handed).0 c.in_ok-back-in-Some.ensures.refused
 
-pub returns-in-Some-clause-script : goal.returns-in-Some-clause-script
+pub returns-in_ok-back-in-Some-clause-script : goal.returns-in_ok-back-in-Some-clause-script
 unfolding opt_modified_item
-returns-in-Some-clause-script g c = record {
+returns-in_ok-back-in-Some-clause-script g c = record {
   run = by_rule c.in_ok-found.ensures.script
       (by_rule (rw c.in-Some.is at c.in_ok-opt_item_with_modifiers.ensures.script)
-      (to_end c.in_ok-back.ensures.script));
+      (to_end c.in_ok-back-in-Some.ensures.script));
 }
