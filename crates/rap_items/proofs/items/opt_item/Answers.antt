@@ -27,5 +27,5 @@ unfolding opt_item
 returns-in_ok-back-in-Some-clause-script g c = record {
   run = by_rule c.in_ok-has_visibility.ensures.script
       (by_rule (rw c.in-Some.is at c.in_ok-opt_item_without_modifiers.ensures.script)
-      (on_found (λ b. opt_modified_item b _) _ (to_end c.in_ok-back-in-Some.ensures.script)));
+      (on_found (λ b. opt_modified_item b c.args.is_in_extern) _ (to_end c.in_ok-back-in-Some.ensures.script)));
 }
