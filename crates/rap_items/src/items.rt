@@ -1,9 +1,9 @@
 //! Items.
-ghost use Rattle.std.specs.Prelude.{◌≡◌, ◌≢◌, ◌<◌, ◌≤◌, IfOk, OnOk, Some, None, true, false, ◌⊎◌, Option};
+ghost use Rattle.std.specs.Prelude.{◌≡◌, ◌≢◌, ◌<◌, ◌≤◌, IfOk, OnOk, Some, None, true, false, ◌⊎◌, ◌&&◌, not, List, [], ◌∷◌, Option};
 ghost use Rattle.rap_base.specs.TokenKind.{EOF, L_CURLY, R_CURLY, BANG, POUND, CRATE_KW, EXTERN_KW, MOD_KW, TYPE_KW, CONST_KW, STATIC_KW, IDENT, UNION_KW, MACRO_RULES_KW, BUILTIN_KW, GLOBAL_ASM_KW};
 ghost use Rattle.rap_events.specs.Record.{contextual_at};
 ghost use Rattle.rap_events.specs.State.{state, next, ReadsAs, NthAt};
-ghost use Rattle.rap_rules.specs.First.{starts_use_path};
+ghost use Rattle.rap_rules.specs.First.{starts_use_path, one_of};
 ghost use Rattle.rap_rules.specs.Grew.{Within, Behind, Took, Grew, Ended};
 ghost use Rattle.rap_rules.specs.Items as script;
 ghost use Rattle.rap_rules.specs.Items.{of_marker, Handed, Refused, Modified, EndsItem, SkipsItem};
@@ -11,6 +11,7 @@ ghost use Rattle.rap_rules.specs.Knot.{Follows};
 ghost use Rattle.rap_rules.specs.Room.{item_room, list_room};
 ghost use Rattle.rap_rules.specs.Rules.{IsItem};
 ghost use Rattle.rap_rules.specs.Script.{something};
+ghost use Rattle.rap_rules.specs.Words.{next_is};
 
 use crate::adt::{enum_, strukt, union};
 use crate::consts::{konst, static_};
@@ -454,25 +455,42 @@ fn missing_item<G: Grammar>(
     ensures item { OnOk result (SkipsItem stop_on_r_curly (state p.old) (state p.new)) }
     ensures script { OnOk result (Follows (script.missing_item stop_on_r_curly) something (state p.old) (state p.new)) }
 {
-    let kind = p.current();
-    if kind == T!['{'] {
+    if p.current() == T!['{'] {
         error_block(p, g, "expected an item")?;
         return Ok(());
     }
-    if kind == T!['}'] && !stop_on_r_curly {
+    if is_unmatched(p, stop_on_r_curly) {
         unmatched_brace(p)?;
         return Ok(());
     }
-    if matches!(kind, SyntaxKind::EOF | T!['}']) {
+    if is_at_end(p) {
         p.error("expected an item")?;
         return Ok(());
     }
-    if kind == T![let] {
+    if p.current() == T![let] {
         error_let_stmt(p, g, "expected an item")?;
         return Ok(());
     }
     p.err_and_bump("expected an item")?;
     Ok(())
+}
+
+/// Whether a brace comes next that closes nothing.
+fn is_unmatched(p: &Parser<'_>, stop_on_r_curly: bool) -> bool
+    ensures here { result ≡ next_is R_CURLY (state p.now).rest && not stop_on_r_curly }
+    ensures more { result ≡ true → next (state p.now) ≡ R_CURLY }
+    ensures kept { result ≡ false → next (state p.now) ≡ R_CURLY → stop_on_r_curly ≡ true }
+{
+    p.current() == T!['}'] && !stop_on_r_curly
+}
+
+/// Whether no token is left, or a brace comes next.
+fn is_at_end(p: &Parser<'_>) -> bool
+    ensures here { result ≡ one_of (EOF ∷ R_CURLY ∷ []) (next (state p.now)) }
+    ensures more { result ≡ true → next (state p.now) ≢ EOF → next (state p.now) ≡ R_CURLY }
+    ensures some { result ≡ false → next (state p.now) ≢ EOF }
+{
+    matches!(p.current(), SyntaxKind::EOF | T!['}'])
 }
 
 /// A brace that closes nothing, in an `ERROR`.

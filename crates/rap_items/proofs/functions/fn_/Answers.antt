@@ -3,6 +3,7 @@ use Rattle.rap_rules.specs.Functions.{is_item_paren_recovery}
 use Rattle.rap_rules.specs.Functions.{fn_}
 use Rattle.rap_rules.specs.Script.{gives}
 use Rattle.rap_rules.proofs.Steps.{by_bump, by_rule, by_complete}
+use Rattle.rap_items.proofs.Seeing.{ended_by}
 use Rattle.rap_items.proofs.functions.fn_.Goals as goal
 
 pub returns-clause-script : goal.returns-clause-script
@@ -15,3 +16,6 @@ returns-clause-script g c = record {
       (by_rule c.in_ok-fn_body.ensures.script
       (by_complete c.in_ok-complete.ensures.state.0 gives)))));
 }
+
+pub returns-clause-ended : goal.returns-clause-ended
+returns-clause-ended g c = ended_by c.in_ok-complete.ensures.state.0 (search rules)

@@ -1,6 +1,8 @@
 use Rattle.rap_rules.specs.Items.{path_item}
 use Rattle.rap_rules.specs.Script.{gives}
 use Rattle.rap_rules.proofs.Steps.{then_by, else_by, by_rule, by_complete, by_report, to_end}
+use Rattle.std.proofs.Common.{rules}
+use Rattle.rap_items.proofs.Seeing.{ended_reported}
 use Rattle.rap_items.proofs.items.path_item.Goals as goal
 
 pub returns-then-at-clause-script : goal.returns-then-at-clause-script
@@ -18,3 +20,6 @@ returns-clause-script g c = record {
       (by_complete c.in_ok-complete.ensures.state.0
       (by_report c.in_ok-error.ensures.state gives)));
 }
+
+pub returns-clause-ended : goal.returns-clause-ended
+returns-clause-ended g c = ended_reported c.in_ok-error.ensures.state c.in_ok-complete.ensures.state.0 (search rules)

@@ -3,6 +3,7 @@ use Rattle.rap_rules.specs.Recovery.{is_item_recovery}
 use Rattle.rap_rules.specs.Macros.{macro_def}
 use Rattle.rap_rules.specs.Script.{gives}
 use Rattle.rap_rules.proofs.Steps.{by_bump, by_rule, by_complete}
+use Rattle.rap_items.proofs.Seeing.{ended_by}
 use Rattle.rap_items.proofs.macros.macro_def.Goals as goal
 
 pub returns-clause-script : goal.returns-clause-script
@@ -13,3 +14,6 @@ returns-clause-script c = record {
       (by_rule c.in_ok-macro_def_tokens.ensures.script
       (by_complete c.in_ok-complete.ensures.state.0 gives)));
 }
+
+pub returns-clause-ended : goal.returns-clause-ended
+returns-clause-ended c = ended_by c.in_ok-complete.ensures.state.0 (search rules)

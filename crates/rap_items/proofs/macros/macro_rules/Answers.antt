@@ -1,6 +1,8 @@
+use Rattle.std.proofs.Common.{rules}
 use Rattle.rap_rules.specs.Macros.{macro_rules}
 use Rattle.rap_rules.specs.Script.{gives}
 use Rattle.rap_rules.proofs.Steps.{by_bear, by_expect, by_rule, by_complete}
+use Rattle.rap_items.proofs.Seeing.{ended_by}
 use Rattle.rap_items.proofs.macros.macro_rules.Goals as goal
 
 pub returns-clause-script : goal.returns-clause-script
@@ -12,3 +14,6 @@ returns-clause-script c = record {
       (by_rule c.in_ok-rules_in_brackets.ensures.script
       (by_complete c.in_ok-complete.ensures.state.0 gives))));
 }
+
+pub returns-clause-ended : goal.returns-clause-ended
+returns-clause-ended c = ended_by c.in_ok-complete.ensures.state.0 (search rules)

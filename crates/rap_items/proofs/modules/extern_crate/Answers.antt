@@ -2,6 +2,7 @@ use Rattle.std.proofs.Common.{rules}
 use Rattle.rap_rules.specs.Items.{extern_crate}
 use Rattle.rap_rules.specs.Script.{gives}
 use Rattle.rap_rules.proofs.Steps.{by_bump, by_rule, by_expect, by_complete}
+use Rattle.rap_items.proofs.Seeing.{ended_by}
 use Rattle.rap_items.proofs.modules.extern_crate.Goals as goal
 
 pub returns-clause-script : goal.returns-clause-script
@@ -14,3 +15,6 @@ returns-clause-script c = record {
       (by_expect c.in_ok-expect.ensures.state
       (by_complete c.in_ok-complete.ensures.state.0 gives)))));
 }
+
+pub returns-clause-ended : goal.returns-clause-ended
+returns-clause-ended c = ended_by c.in_ok-complete.ensures.state.0 (search rules)

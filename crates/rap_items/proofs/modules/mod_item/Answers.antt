@@ -2,6 +2,7 @@ use Rattle.std.proofs.Common.{rules}
 use Rattle.rap_rules.specs.Items.{mod_item}
 use Rattle.rap_rules.specs.Script.{gives}
 use Rattle.rap_rules.proofs.Steps.{by_bump, by_rule, by_complete}
+use Rattle.rap_items.proofs.Seeing.{ended_by}
 use Rattle.rap_items.proofs.modules.mod_item.Goals as goal
 
 pub returns-clause-script : goal.returns-clause-script
@@ -12,3 +13,6 @@ returns-clause-script g c = record {
       (by_rule c.in_ok-mod_body.ensures.script
       (by_complete c.in_ok-complete.ensures.state.0 gives)));
 }
+
+pub returns-clause-ended : goal.returns-clause-ended
+returns-clause-ended g c = ended_by c.in_ok-complete.ensures.state.0 (search rules)
