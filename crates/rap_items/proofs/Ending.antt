@@ -1,5 +1,5 @@
 -- What an item leaves whose marker became a node.
-use Rattle.std.proofs.Common.{◌≡◌, ℕ, ◌+◌, sym, ◌∙◌, arith}
+use Rattle.std.proofs.Common.{ℕ, ◌+◌, sym, ◌∙◌, arith}
 use Rattle.rap_events.specs.State.{State, Completed}
 use Rattle.rap_rules.proofs.Growth.{gone}
 use Rattle.rap_rules.specs.Grew.{Took, Ended}

@@ -3,7 +3,6 @@ use Rattle.std.proofs.Common.{◌≡◌, ◌≢◌, ℕ, suc, Bool, true, false,
 use Rattle.std.specs.declared.result.Result.TheVariants.{Ok, Err}
 use Rattle.rap_base.specs.TokenKind.{EOF, R_CURLY, GLOBAL_ASM_KW}
 use Rattle.rap_events.specs.Record.{Record, next_kind, contextual_at}
-use Rattle.rap_events.specs.Machine.{Stack, push, top}
 use Rattle.rap_events.specs.State.{State, next, Completed, Expected, Abandoned, Reported, Bumped, AteAs, Skipped}
 use Rattle.rap_events.specs.declared.parser.CompletedMarker.{CompletedMarker}
 use Rattle.rap_events.specs.declared.parser.Marker.{Marker}
@@ -301,8 +300,8 @@ later (r ∷ rs) n = refl
 pub asm_taken : {s t u w : State} {j k : ℕ} {b : Bool} → Bumped s t j 1 → Bumped t u k 1 → AteAs u w GLOBAL_ASM_KW b → contextual_at s.rest 2 ≡ GLOBAL_ASM_KW → b ≡ true
 asm_taken {s = s} {t = t} {u = u} x y a h =
     let e : contextual_at u.rest 0 ≡ GLOBAL_ASM_KW =
-        ap (λ (rs : List Record). contextual_at rs 0) y.rest ∙ later t.rest 0
-        ∙ ap (λ (rs : List Record). contextual_at rs 1) x.rest ∙ later s.rest 1 ∙ h in
+    ap (λ (rs : List Record). contextual_at rs 0) y.rest ∙ later t.rest 0
+    ∙ ap (λ (rs : List Record). contextual_at rs 1) x.rest ∙ later s.rest 1 ∙ h in
     a.decided ∙ ap (λ (k : ℕ). k == GLOBAL_ASM_KW) e
 
 -- an item that ends with its node, and a message

@@ -16,13 +16,13 @@ use rap_base::syntax_kind::SyntaxKind;
 use rap_events::parser::{Marker, Parser};
 use rap_parts::attributes::outer_attrs;
 use rap_parts::blocks::error_block;
-use rap_rules::recovery::item_recovery_set;
 use rap_rules::T;
 use rap_rules::called::{expr, opt_generic_param_list, opt_where_clause, type_};
 use rap_rules::first::{is_outer_attr_first, is_type_first};
 use rap_rules::knot::Grammar;
 use rap_rules::lists::{Element, delimited};
 use rap_rules::names::{name, name_r};
+use rap_rules::recovery::item_recovery_set;
 
 /// A struct from its keyword on, as `struct S;`.
 pub fn strukt<G: Grammar>(p: &mut Parser<'_>, g: &G, m: Marker) -> Result<(), NoMemory>

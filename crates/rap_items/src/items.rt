@@ -188,11 +188,7 @@ fn opt_named_const<G: Grammar>(
 }
 
 /// A constant behind modifiers, if its `const` begins no block.
-fn opt_const<G: Grammar>(
-    p: &mut Parser<'_>,
-    g: &G,
-    m: Marker,
-) -> Result<Option<Marker>, NoMemory>
+fn opt_const<G: Grammar>(p: &mut Parser<'_>, g: &G, m: Marker) -> Result<Option<Marker>, NoMemory>
     requires within { Within G.valid G.left g.now (state p.old) }
     requires newest { (state p.old).marker ≡ Some m.pos }
     requires here { next (state p.old) ≡ CONST_KW }
@@ -207,11 +203,7 @@ fn opt_const<G: Grammar>(
 }
 
 /// A static, if its name follows.
-fn opt_static<G: Grammar>(
-    p: &mut Parser<'_>,
-    g: &G,
-    m: Marker,
-) -> Result<Option<Marker>, NoMemory>
+fn opt_static<G: Grammar>(p: &mut Parser<'_>, g: &G, m: Marker) -> Result<Option<Marker>, NoMemory>
     requires within { Within G.valid G.left g.now (state p.old) }
     requires newest { (state p.old).marker ≡ Some m.pos }
     requires here { next (state p.old) ≡ STATIC_KW }

@@ -231,8 +231,7 @@ fn is_default(p: &Parser<'_>) -> bool
     ensures here { result ≡ script.is_default (state p.now).rest }
     ensures bears { result ≡ true → ReadsAs (state p.now) DEFAULT_KW }
 {
-    p.at_contextual_kw(T![default])
-        && matches!(p.nth(1), T![fn] | T![type] | T![const] | T![impl])
+    p.at_contextual_kw(T![default]) && matches!(p.nth(1), T![fn] | T![type] | T![const] | T![impl])
 }
 
 /// The same with an `unsafe` between.

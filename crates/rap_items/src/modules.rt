@@ -59,11 +59,7 @@ fn ends_items(p: &Parser<'_>, stop_on_r_curly: bool) -> bool
 }
 
 /// Items one after another.
-fn items<G: Grammar>(
-    p: &mut Parser<'_>,
-    g: &G,
-    stop_on_r_curly: bool,
-) -> Result<(), NoMemory>
+fn items<G: Grammar>(p: &mut Parser<'_>, g: &G, stop_on_r_curly: bool) -> Result<(), NoMemory>
     requires behind { Behind G.valid G.left g.now (state p.old) }
     ensures grew { OnOk result (Grew (state p.old) (state p.new) 0) }
     ensures script { OnOk result (Follows (script.items stop_on_r_curly) something (state p.old) (state p.new)) }

@@ -13,13 +13,13 @@ use rap_base::syntax_kind::SyntaxKind;
 use rap_events::parser::{Marker, Parser};
 use rap_parts::attributes::inner_attrs;
 use rap_parts::blocks::error_block;
-use rap_rules::recovery::item_recovery_set;
 use rap_rules::T;
 use rap_rules::called::{
     bounds, bounds_without_colon, opt_generic_param_list, opt_where_clause, type_,
 };
 use rap_rules::knot::{Grammar, Rule};
 use rap_rules::names::name_r;
+use rap_rules::recovery::item_recovery_set;
 
 /// A trait from its keyword on, as `trait A {}`.
 pub fn trait_<G: Grammar>(p: &mut Parser<'_>, g: &G, m: Marker) -> Result<(), NoMemory>

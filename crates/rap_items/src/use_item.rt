@@ -20,8 +20,8 @@ use rap_rules::T;
 use rap_rules::first::is_use_path_start;
 use rap_rules::knot::{Grammar, Rule};
 use rap_rules::lists::{Element, delimited};
-use rap_rules::recovery::item_recovery_set;
 use rap_rules::names::opt_rename;
+use rap_rules::recovery::item_recovery_set;
 
 /// An import from its keyword on, as `use a::b;`.
 pub fn use_<G: Grammar>(p: &mut Parser<'_>, g: &G, m: Marker) -> Result<(), NoMemory>

@@ -25,8 +25,8 @@ returns-then-is_unmatched-clause-script g c = record {
 pub returns-then-is_at_end-clause-item : goal.returns-then-is_at_end-clause-item
 returns-then-is_at_end-clause-item g c =
     skips_reported c.in_ok-error.ensures.state (λ h i.
-        let e = c.is_at_end.ensures.more c.if-is_at_end.true h in
-        i (c.is_unmatched.ensures.kept c.if-is_unmatched.false e) e)
+    let e = c.is_at_end.ensures.more c.if-is_at_end.true h in
+    i (c.is_unmatched.ensures.kept c.if-is_unmatched.false e) e)
 
 pub returns-then-is_at_end-clause-script : goal.returns-then-is_at_end-clause-script
 unfolding missing_item

@@ -1,4 +1,3 @@
-use Rattle.std.proofs.Common.{rules}
 use Rattle.rap_rules.specs.Items.{opt_item, opt_modified_item}
 use Rattle.rap_rules.specs.Script.{gives}
 use Rattle.rap_rules.proofs.Steps.{by_rule, to_end}
@@ -8,7 +7,7 @@ use Rattle.rap_items.proofs.items.opt_item.Goals as goal
 pub returns-in-None-clause-handed : goal.returns-in-None-clause-handed
 returns-in-None-clause-handed g c =
     ended_visible c.in_ok-has_visibility.ensures.took c.in_ok-has_visibility.ensures.stays
-        (rw c.in-None.is at c.in_ok-opt_item_without_modifiers.ensures.handed)
+    (rw c.in-None.is at c.in_ok-opt_item_without_modifiers.ensures.handed)
 
 pub returns-in-None-clause-script : goal.returns-in-None-clause-script
 unfolding opt_item
@@ -20,7 +19,7 @@ returns-in-None-clause-script g c = record {
 pub returns-in_ok-back-in-Some-clause-handed : goal.returns-in_ok-back-in-Some-clause-handed
 returns-in_ok-back-in-Some-clause-handed g c =
     handed_kept _ _ c.in_ok-has_visibility.ensures.took c.in_ok-has_visibility.ensures.stays
-        (rw c.in-Some.is at c.in_ok-opt_item_without_modifiers.ensures.handed).0 c.in_ok-back-in-Some.ensures.handed
+    (rw c.in-Some.is at c.in_ok-opt_item_without_modifiers.ensures.handed).0 c.in_ok-back-in-Some.ensures.handed
 
 pub returns-in_ok-back-in-Some-clause-script : goal.returns-in_ok-back-in-Some-clause-script
 unfolding opt_item

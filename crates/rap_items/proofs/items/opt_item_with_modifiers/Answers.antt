@@ -35,14 +35,14 @@ pub returns-in_ok-impl_-clause-script : goal.returns-in_ok-impl_-clause-script
 unfolding opt_item_with_modifiers
 returns-in_ok-impl_-clause-script g c = record {
   run = fails (search rules) (fails (search rules) (fails (search rules) (fails (search rules)
-          (passes (search rules) (to_end c.in_ok-impl_.ensures.script)))));
+      (passes (search rules) (to_end c.in_ok-impl_.ensures.script)))));
 }
 
 pub returns-in_ok-type_item-clause-script : goal.returns-in_ok-type_item-clause-script
 unfolding opt_item_with_modifiers
 returns-in_ok-type_item-clause-script g c = record {
   run = fails (search rules) (fails (search rules) (fails (search rules) (fails (search rules)
-          (fails (search rules) (passes (search rules) (to_end c.in_ok-type_item.ensures.script))))));
+      (fails (search rules) (passes (search rules) (to_end c.in_ok-type_item.ensures.script))))));
 }
 
 pub returns-in-L_CURLY-T-clause-script : goal.returns-in-L_CURLY-T-clause-script
@@ -57,5 +57,5 @@ pub returns-in_default-clause-script : goal.returns-in_default-clause-script
 unfolding opt_item_with_modifiers
 returns-in_default-clause-script g c = record {
   run = fails (search rules) (fails (search rules) (fails (search rules) (fails (search rules)
-          (fails (search rules) (fails (search rules) (fails (search rules) gives))))));
+      (fails (search rules) (fails (search rules) (fails (search rules) gives))))));
 }

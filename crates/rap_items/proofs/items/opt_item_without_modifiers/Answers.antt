@@ -34,21 +34,21 @@ pub returns-in_ok-strukt-clause-script : goal.returns-in_ok-strukt-clause-script
 unfolding opt_item_without_modifiers
 returns-in_ok-strukt-clause-script g c = record {
   run = fails (search rules) (fails (search rules) (fails (search rules) (fails (search rules)
-          (passes (search rules) (to_end c.in_ok-strukt.ensures.script)))));
+      (passes (search rules) (to_end c.in_ok-strukt.ensures.script)))));
 }
 
 pub returns-in_ok-enum_-clause-script : goal.returns-in_ok-enum_-clause-script
 unfolding opt_item_without_modifiers
 returns-in_ok-enum_-clause-script g c = record {
   run = fails (search rules) (fails (search rules) (fails (search rules) (fails (search rules)
-          (fails (search rules) (passes (search rules) (to_end c.in_ok-enum_.ensures.script))))));
+      (fails (search rules) (passes (search rules) (to_end c.in_ok-enum_.ensures.script))))));
 }
 
 pub returns-in_ok-macro_def-clause-script : goal.returns-in_ok-macro_def-clause-script
 unfolding opt_item_without_modifiers
 returns-in_ok-macro_def-clause-script g c = record {
   run = fails (search rules) (fails (search rules) (fails (search rules) (fails (search rules)
-          (fails (search rules) (fails (search rules) (passes (search rules) (to_end c.in_ok-macro_def.ensures.script)))))));
+      (fails (search rules) (fails (search rules) (passes (search rules) (to_end c.in_ok-macro_def.ensures.script)))))));
 }
 
 pub returns-in-CONST_KW-T-clause-script : goal.returns-in-CONST_KW-T-clause-script
@@ -81,6 +81,6 @@ pub returns-in_default-clause-script : goal.returns-in_default-clause-script
 unfolding opt_item_without_modifiers
 returns-in_default-clause-script g c = record {
   run = fails (search rules) (fails (search rules) (fails (search rules) (fails (search rules)
-          (fails (search rules) (fails (search rules) (fails (search rules) (fails (search rules)
-          (fails (search rules) (fails (search rules) gives)))))))));
+      (fails (search rules) (fails (search rules) (fails (search rules) (fails (search rules)
+      (fails (search rules) (fails (search rules) gives)))))))));
 }

@@ -18,7 +18,7 @@ returns-in-None-clause-script g c = record {
 pub returns-in_ok-back-in-Some-clause-handed : goal.returns-in_ok-back-in-Some-clause-handed
 returns-in_ok-back-in-Some-clause-handed g c =
     refused_kept _ _ _ c.in_ok-found.ensures.seen
-        (rw c.in-Some.is at c.in_ok-opt_item_with_modifiers.ensures.handed).0 c.in_ok-back-in-Some.ensures.refused
+    (rw c.in-Some.is at c.in_ok-opt_item_with_modifiers.ensures.handed).0 c.in_ok-back-in-Some.ensures.refused
 
 pub returns-in_ok-back-in-Some-clause-script : goal.returns-in_ok-back-in-Some-clause-script
 unfolding opt_modified_item

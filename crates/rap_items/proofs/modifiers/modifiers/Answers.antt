@@ -1,6 +1,5 @@
-use Rattle.std.proofs.Common.{◌≡◌, refl, ap, ◌∙◌}
-use Rattle.rap_rules.specs.Modifiers.{modifiers, found}
-use Rattle.rap_rules.specs.Script.{again}
+use Rattle.std.proofs.Common.{refl}
+use Rattle.rap_rules.specs.Modifiers.{modifiers}
 use Rattle.rap_rules.proofs.Steps.{by_rule}
 use Rattle.rap_items.proofs.Seeing.{seen_both, outcome_both, outcome_of, gives_as}
 use Rattle.rap_items.proofs.modifiers.modifiers.Goals as goal

@@ -1,6 +1,6 @@
 use Rattle.rap_rules.specs.Modifiers.{opt_impl_restriction}
 use Rattle.rap_rules.specs.Script.{gives}
-use Rattle.rap_rules.proofs.Steps.{then_by, else_by, by_rule, to_end}
+use Rattle.rap_rules.proofs.Steps.{then_by, else_by, to_end}
 use Rattle.rap_items.proofs.modifiers.opt_impl_restriction.Goals as goal
 
 pub returns-then-not-is_impl_restriction-clause-script : goal.returns-then-not-is_impl_restriction-clause-script

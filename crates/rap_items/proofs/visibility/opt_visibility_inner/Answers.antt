@@ -1,6 +1,6 @@
 use Rattle.rap_rules.specs.Visibility.{opt_visibility_inner}
 use Rattle.rap_rules.specs.Script.{gives}
-use Rattle.rap_rules.proofs.Steps.{then_by, else_by, to_end, by_rule}
+use Rattle.rap_rules.proofs.Steps.{then_by, else_by, to_end}
 use Rattle.rap_items.proofs.visibility.opt_visibility_inner.Goals as goal
 
 pub returns-then-starts_restriction-clause-script : goal.returns-then-starts_restriction-clause-script
