@@ -7,21 +7,21 @@ use Rattle.ra_ap_parser.specs.EntryScript.{IsOutputOf, IsCore}
 use Rattle.ra_ap_parser.specs.declared.entry_point.TopEntryPoint.{TopEntryPoint}
 use Rattle.ra_ap_parser.specs.declared.entry_point.TopEntryPoint.TheVariants as entry
 
-pub core_tree : (e : TopEntryPoint) {input : List Record} {tree output : Forest} → IsOutputOf e input output → IsCore e input tree → (output ≡ tree) × (message_count output ≡ 0)
-core_tree entry.SourceFile i d = absurd d
-core_tree entry.MacroStmts i d = absurd d
-core_tree entry.MacroItems i d = absurd d
-core_tree entry.Pattern i d = absurd d
-core_tree entry.Ty i d = (derived_type i d, derived_type_clean i d)
-core_tree entry.Expr i d = (derived i d, derived_clean i d)
-core_tree entry.MetaItem i d = absurd d
+pub core_tree : (e : TopEntryPoint) (input : List Record) {tree output : Forest} → IsOutputOf e input output → IsCore e input tree → (output ≡ tree) × (message_count output ≡ 0)
+core_tree entry.SourceFile input i d = absurd d
+core_tree entry.MacroStmts input i d = absurd d
+core_tree entry.MacroItems input i d = absurd d
+core_tree entry.Pattern input i d = absurd d
+core_tree entry.Ty input i d = (derived_type i d, derived_type_clean i d)
+core_tree entry.Expr input i d = (derived i d, derived_clean i d)
+core_tree entry.MetaItem input i d = absurd d
 
 -- an entry gives one output of an input
-pub one_entry_output : (e : TopEntryPoint) {input : List Record} {a b : Forest} → IsOutputOf e input a → IsOutputOf e input b → a ≡ b
-one_entry_output entry.SourceFile i j = one_root i j
-one_entry_output entry.MacroStmts i j = one_root i j
-one_entry_output entry.MacroItems i j = one_root i j
-one_entry_output entry.Pattern i j = one_output i j
-one_entry_output entry.Ty i j = one_output i j
-one_entry_output entry.Expr i j = one_output i j
-one_entry_output entry.MetaItem i j = one_output i j
+pub one_entry_output : (e : TopEntryPoint) (input : List Record) {a b : Forest} → IsOutputOf e input a → IsOutputOf e input b → a ≡ b
+one_entry_output entry.SourceFile input i j = one_root i j
+one_entry_output entry.MacroStmts input i j = one_root i j
+one_entry_output entry.MacroItems input i j = one_root i j
+one_entry_output entry.Pattern input i j = one_output i j
+one_entry_output entry.Ty input i j = one_output i j
+one_entry_output entry.Expr input i j = one_output i j
+one_entry_output entry.MetaItem input i j = one_output i j

@@ -129,17 +129,17 @@ answered_from stmt bp (Some e) m d spent =
       d.1,
     )
 answered_from stmt bp None m d spent = (
-    record {
-      input = d.input;
-      left = d.left;
-      count = omega (arith, d.count);
-      messages = d.messages;
-      below = d.below;
-    },
-    λ h.
-    let l = spent refl h in
-    record { left = l.left; count = omega (arith, l.count) },
-  )
+  record {
+    input = d.input;
+    left = d.left;
+    count = omega (arith, d.count);
+    messages = d.messages;
+    below = d.below;
+  },
+  λ h.
+      let l = spent refl h in
+      record { left = l.left; count = omega (arith, l.count) },
+)
 
 -- an expression behind its attributes
 pub answered : (stmt : Bool) (bp : ℕ) (o : Option (CompletedMarker × BlockLike)) {s0 s1 s2 t : State} {m : ℕ} → Opened s0 s1 m → Grew s1 s2 0 →

@@ -3,9 +3,9 @@ ghost use Rattle.std.specs.Prelude.{◌≡◌, ◌<◌, ◌≤◌, IfOk};
 ghost use Rattle.rap_events.specs.State.{state};
 ghost use Rattle.rap_rules.specs.Rules.{Pre, Post};
 
+use crate::statements::stmt;
 use rap_base::no_memory::NoMemory;
 use rap_events::parser::Parser;
-use crate::statements::stmt;
 use rap_expressions::expressions::control::if_expr;
 use rap_expressions::expressions::expr_bp;
 use rap_items::items::item_or_macro;

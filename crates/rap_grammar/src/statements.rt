@@ -25,11 +25,7 @@ use rap_rules::first::is_expr_first;
 use rap_rules::knot::Grammar;
 
 /// A statement: `;`, a `let`, an item, or an expression, which at the end of its block is its value.
-pub fn stmt<G: Grammar>(
-    p: &mut Parser<'_>,
-    g: &G,
-    semicolon: Semicolon,
-) -> Result<(), NoMemory>
+pub fn stmt<G: Grammar>(p: &mut Parser<'_>, g: &G, semicolon: Semicolon) -> Result<(), NoMemory>
     requires within { Within G.valid G.left g.now (state p.old) }
     ensures statement { OnOk result (IsStatement (state p.old) (state p.new)) }
     ensures script { OnOk result (Follows (script.stmt semicolon) something (state p.old) (state p.new)) }

@@ -39,7 +39,15 @@ mod tests {
 
     #[test]
     fn knows_the_entry_points(rt: HostRuntime) -> Result<(), Fail> {
-        for name in ["SourceFile", "MacroStmts", "MacroItems", "Pattern", "Type", "Expr", "MetaItem"] {
+        for name in [
+            "SourceFile",
+            "MacroStmts",
+            "MacroItems",
+            "Pattern",
+            "Type",
+            "Expr",
+            "MetaItem",
+        ] {
             assert!(rt; name.parse::<Entry>().is_ok(), "{name}");
         }
         assert!(rt; "Ty".parse::<Entry>().is_err());

@@ -25,4 +25,4 @@ returns-clause-script g c = record {
 pub returns-then-branch-clause-ended : goal.returns-then-branch-clause-ended
 returns-then-branch-clause-ended g c = λ some.
     named_ended c.in_ok-is_named.ensures.grew (c.in_ok-asm_operand.ensures.took c.if-branch.true)
-        c.in_ok-complete.ensures.state.0
+    c.in_ok-complete.ensures.state.0

@@ -2,7 +2,7 @@ use Rattle.ra_ap_parser.proofs.EntryTrees.{core_tree, one_entry_output}
 use Rattle.ra_ap_parser.proofs.entry_point.TopEntryPoint.parse.Goals as goal
 
 pub returns-in-Ok-clause-only : goal.returns-in-Ok-clause-only
-returns-in-Ok-clause-only c = λ other i. one_entry_output c.args.self.now i c.in-Ok.ensures.script
+returns-in-Ok-clause-only c = λ other i. one_entry_output c.args.self.now _ i c.in-Ok.ensures.script
 
 pub returns-in-Ok-clause-core : goal.returns-in-Ok-clause-core
-returns-in-Ok-clause-core c = λ tree d. core_tree c.args.self.now c.in-Ok.ensures.script d
+returns-in-Ok-clause-core c = λ tree d. core_tree c.args.self.now _ c.in-Ok.ensures.script d
