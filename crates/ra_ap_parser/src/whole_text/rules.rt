@@ -9,7 +9,6 @@ mod conditions;
 mod constants;
 mod enums;
 mod expressions;
-mod float_fields;
 mod function_params;
 mod functions;
 mod generic_args;
