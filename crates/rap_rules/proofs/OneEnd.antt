@@ -1,6 +1,6 @@
 -- From one spot a script leads to one spot with one outcome.
 use Rattle.std.proofs.Common.{◌≡◌, Bool, true, false, refl, ap, sym, ◌∙◌}
-use Rattle.rap_rules.specs.Script.{Script, Spot, Outcome, nothing, something, block, again, goes_on, Runs, gives, looks, passes, fails, ends_so, ends_else, takes, takes_any, bears, reports, skips, starts, precedes, finishes, extends, abandons, follows, obeys, turns, stops}
+use Rattle.rap_rules.specs.Script.{Script, Spot, Outcome, nothing, something, block, again, goes_on, Runs, gives, looks, passes, fails, ends_so, ends_else, takes, takes_any, bears, reports, skips, starts, precedes, finishes, extends, abandons, splits_dotted, splits_whole, follows, obeys, turns, stops}
 
 -- the same end
 pub record Same (p q : Spot) (v w : Outcome) : Type 0 where
@@ -45,6 +45,10 @@ one_end (precedes x) (precedes y) = one_end x y
 one_end (finishes x) (finishes y) = one_end x y
 one_end (extends x) (extends y) = one_end x y
 one_end (abandons x) (abandons y) = one_end x y
+one_end (splits_dotted e j x) (splits_dotted f k y) = one_end x y
+one_end (splits_dotted e j x) (splits_whole f k y) = absurd (clash k j)
+one_end (splits_whole e j x) (splits_dotted f k y) = absurd (clash j k)
+one_end (splits_whole e j x) (splits_whole f k y) = one_end x y
 one_end (follows x x') (follows y y') = let a = one_end x y in one_end x' (rw (a.spot, a.outcome) y')
 one_end (obeys x x') (obeys y y') = let a = one_end x y in one_end x' (rw (a.spot, a.outcome) y')
 one_end (turns x x') (turns y y') =

@@ -1,15 +1,17 @@
 -- What each call of the parser does of a script.
 use Rattle.std.proofs.Common.{◌≡◌, ◌≢◌, ℕ, List, Bool, true, false, ◌&&◌, ◌||◌, Option, Some, None, drop, ◌==◌, refl, sym, ap, subst, ◌∙◌}
-use Rattle.rap_base.specs.TokenKind.{EOF, COLON2, L_ANGLE}
+use Rattle.rap_base.specs.NodeKind.{FIELD_EXPR}
+use Rattle.rap_base.specs.TokenKind.{EOF, COLON2, L_ANGLE, FLOAT_NUMBER}
 use Rattle.rap_base.specs.TokenSet.{member}
 use Rattle.rap_base.specs.declared.token_set.TokenSet.{TokenSet}
+use Rattle.rap_events.specs.FloatSplit.{split_children}
 use Rattle.rap_events.specs.Record.{Record}
 use Rattle.rap_events.specs.Composite.{is_at, width}
 use Rattle.rap_events.specs.Cover.{first_may_bear}
 use Rattle.rap_events.specs.Forest.{Forest, none, node, ◌⧺◌}
 use Rattle.rap_events.specs.LastToken.{last_after, last_below, last_taken}
 use Rattle.rap_events.specs.Machine.{Stack, floor, push}
-use Rattle.rap_events.specs.State.{State, next, Opened, IsLast, Completed, Abandoned, Preceded, Extended, Bumped, Reported, Ate, AteAs, Expected, Skipped, Recovered, but_last, last_children, expected}
+use Rattle.rap_events.specs.State.{State, next, Opened, IsLast, Completed, Abandoned, Preceded, Extended, Bumped, Reported, SplitFloat, Ate, AteAs, Expected, Skipped, Recovered, but_last, last_children, expected}
 use Rattle.rap_events.specs.declared.parser.CompletedMarker.{CompletedMarker}
 use Rattle.rap_rules.specs.First.{is_path_name, starts_path}
 use Rattle.rap_rules.specs.Knot.{script_of, Follows}
@@ -18,7 +20,7 @@ use Rattle.rap_rules.specs.Phrase.{Phrase, expression}
 use Rattle.rap_rules.specs.declared.arguments.BlockLike.{BlockLike}
 use Rattle.rap_rules.specs.declared.arguments.BlockLike.TheVariants as like
 use Rattle.rap_rules.specs.declared.arguments.Restrictions.{Restrictions}
-use Rattle.rap_rules.specs.Script.{Script, Outcome, nothing, something, again, goes_on, Spot, spot, forests, taken, last_tree, last_kind, last_under, last_taken_at, newest, give, test, ends_with, token, any, bear, report, skip, start, precede, finish, extend, abandon, after, rule, loop, Runs, gives, passes, fails, ends_so, ends_else, takes, takes_any, bears, reports, skips, starts, precedes, finishes, extends, abandons, follows, obeys, turns, stops}
+use Rattle.rap_rules.specs.Script.{Script, Outcome, nothing, something, again, goes_on, Spot, spot, forests, taken, last_tree, last_kind, last_under, last_taken_at, newest, give, test, ends_with, token, any, bear, report, skip, start, precede, finish, extend, abandon, split_float, split_apart, after, rule, loop, Runs, gives, passes, fails, ends_so, ends_else, takes, takes_any, bears, reports, skips, starts, precedes, finishes, extends, abandons, splits_dotted, splits_whole, follows, obeys, turns, stops}
 use Rattle.rap_rules.specs.Words.{done, if_some, reads_as, eat, eat_as, expect, recover, of_option, of_bool}
 
 -- from a spot by a script of the grammar
@@ -73,6 +75,20 @@ by_extend {s = s} {t = t} {cm = cm} h b d = extends (from_there (same_spot (sym 
     (ap (λ (x : Stack). node (newest (forests x)) (last_kind s.forest) (but_last s.forest ⧺ last_children s.forest)) b.below
     ∙ ap (λ (x : ℕ). node (but_last t.forest) x (but_last s.forest ⧺ last_children s.forest)) (ap last_kind h.forest) ∙ sym b.forest)
     (ap (λ (x : Stack). drop 1 (forests x)) b.below)) d)
+
+split_to : {s t : State} {dot : Bool} → SplitFloat s t dot → split_apart dot (spot s) ≡ spot t
+split_to {s = s} {dot = dot} b = same_spot (sym b.rest)
+    (ap (λ (x : Stack). node (newest (forests x)) FIELD_EXPR (split_children s.forest dot)) b.below ∙ sym b.forest)
+    (ap (λ (x : Stack). drop 1 (forests x)) b.below)
+
+-- a float taken apart, which ends in a dot or not
+pub by_split_dotted : {s t : State} {dot : Bool} {n m : Script Phrase} {q : Spot} {v : Outcome} → next s ≡ FLOAT_NUMBER → SplitFloat s t dot → dot ≡ true → On n (spot t) q v → On (split_float n m) (spot s) q v
+by_split_dotted {dot = true} e b h d = splits_dotted e b.decided (from_there (split_to b) d)
+by_split_dotted {dot = false} e b h d = absurd cc
+
+pub by_split_whole : {s t : State} {dot : Bool} {n m : Script Phrase} {q : Spot} {v : Outcome} → next s ≡ FLOAT_NUMBER → SplitFloat s t dot → dot ≡ false → On m (spot t) q v → On (split_float n m) (spot s) q v
+by_split_whole {dot = true} e b h d = absurd cc
+by_split_whole {dot = false} e b h d = splits_whole e b.decided (from_there (split_to b) d)
 
 -- a rule, and on as its outcome says
 pub by_rule : {c : Script Phrase} {s t : State} {n : Outcome → Script Phrase} {q : Spot} {w v : Outcome} → Follows c w s t → On (n w) (spot t) q v → On (after c n) (spot s) q v

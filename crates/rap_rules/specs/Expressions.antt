@@ -1,6 +1,6 @@
 -- Expressions with operators.
 use Rattle.std.specs.Prelude.{ℕ, ◌+◌, Bool, true, false, ◌==◌, ◌&&◌, ◌||◌, not, nat_lt, if◌then◌else◌, List, [], ◌∷◌, Option, Some, None, drop, codes}
-use Rattle.rap_base.specs.TokenKind.{COMMA, L_PAREN, R_PAREN, L_BRACK, R_BRACK, L_CURLY, IDENT, AMP, STAR, BANG, MINUS, DOT, DOT2, DOT2EQ, COLON2, QUESTION, MUT_KW, CONST_KW, RAW_KW, AWAIT_KW, AS_KW}
+use Rattle.rap_base.specs.TokenKind.{COMMA, L_PAREN, R_PAREN, L_BRACK, R_BRACK, L_CURLY, IDENT, AMP, STAR, BANG, MINUS, DOT, DOT2, DOT2EQ, COLON2, QUESTION, FLOAT_NUMBER, MUT_KW, CONST_KW, RAW_KW, AWAIT_KW, AS_KW}
 use Rattle.rap_base.specs.NodeKind.{BIN_EXPR, REF_EXPR, PREFIX_EXPR, RANGE_EXPR, CALL_EXPR, INDEX_EXPR, METHOD_CALL_EXPR, FIELD_EXPR, AWAIT_EXPR, TRY_EXPR, ARG_LIST, CAST_EXPR}
 use Rattle.rap_events.specs.Record.{Record, next_kind, kind_at}
 use Rattle.rap_events.specs.Composite.{is_at}
@@ -15,7 +15,7 @@ use Rattle.rap_rules.specs.Operator.{operator_at}
 use Rattle.rap_rules.specs.Paths.{opt_generic_arg_list_expr}
 use Rattle.rap_rules.specs.Phrase.{Phrase, expression}
 use Rattle.rap_rules.specs.Recovery.{is_expr_recovery}
-use Rattle.rap_rules.specs.Script.{Script, Outcome, nothing, something, block, give, look, test, token, any, bear, report, start, precede, finish, extend, abandon, after, rule, loop, again}
+use Rattle.rap_rules.specs.Script.{Script, Outcome, nothing, something, block, give, look, test, token, any, bear, report, start, precede, finish, extend, abandon, split_float, after, rule, loop, again}
 unfoldable pub use Rattle.rap_rules.specs.Words.{is_block}
 use Rattle.rap_rules.specs.Words.{done, if_some, next_is, reads_as, eat, expect, recover}
 use Rattle.rap_rules.specs.declared.arguments.BlockLike.{BlockLike}
@@ -105,10 +105,10 @@ index_expr = precede (token L_BRACK (after expr (λ v. expect R_BRACK (finish IN
 unfoldable pub try_expr : Script Phrase
 try_expr = precede (token QUESTION (finish TRY_EXPR done))
 
--- What stands so many tokens on, behind a dot, is called: a name before a `(` or `::`, or a `(` without a name.
-unfoldable pub calls_method : ℕ → List Record → Bool
-calls_method n rs =
-    (kind_at rs n == L_PAREN) || (is_path_name (kind_at rs n) && ((kind_at rs (n + 1) == L_PAREN) || is_at COLON2 (drop (n + 1) rs)))
+-- What stands behind a dot is called: a name before a `(` or `::`, or a `(` without a name.
+unfoldable pub calls_method : List Record → Bool
+calls_method rs =
+    (next_kind rs == L_PAREN) || (is_path_name (next_kind rs) && ((kind_at rs 1 == L_PAREN) || is_at COLON2 (drop 1 rs)))
 
 unfoldable pub method_arguments : Script Phrase
 method_arguments =
@@ -131,11 +131,27 @@ field_expr =
     test (λ rs. is_path_name_or_index (next_kind rs)) (after name_ref_mod_path_or_index (λ v. finish FIELD_EXPR done))
     (report (codes "expected field name or number") (finish FIELD_EXPR done))
 
+-- a method, `await` or a field behind the dot
+unfoldable pub name_after_dot : Script Phrase
+name_after_dot = test calls_method method_call_expr (test (next_is AWAIT_KW) await_expr field_expr)
+
+-- the dots of a range
+abbrev pub is_range : List Record → Bool
+is_range rs = is_at DOT2EQ rs || is_at DOT2 rs
+
+-- What follows a dot. A float is one field, or two where it has digits behind its own dot. Where it ends in that dot,
+-- what follows it follows a dot once more; but the dots of a range are none of an access, and end all postfixes.
+abbrev pub after_dot_turn : Bool → Bool → Script Phrase
+after_dot_turn a b =
+    test (next_is FLOAT_NUMBER) (split_float (test is_range (give nothing) (precede (give (again false false)))) done)
+    name_after_dot
+
+unfoldable pub after_dot : Script Phrase
+after_dot = loop after_dot_turn false false
+
 -- a dot and what follows it
 unfoldable pub postfix_dot_expr : Script Phrase
-postfix_dot_expr =
-    test (calls_method 1) (precede (token DOT method_call_expr))
-    (test (λ rs. kind_at rs 1 == AWAIT_KW) (precede (token DOT await_expr)) (precede (token DOT field_expr)))
+postfix_dot_expr = precede (token DOT after_dot)
 
 -- a dot that begins no range
 abbrev pub is_access : List Record → Bool
@@ -147,7 +163,7 @@ abbrev pub postfix_turn : Bool → Bool → Script Phrase
 postfix_turn calls blocky =
     test (λ rs. (next_kind rs == L_PAREN) && calls) (after call_expr (λ v. give (again true false)))
     (test (λ rs. (next_kind rs == L_BRACK) && calls) (after index_expr (λ v. give (again true false)))
-    (test is_access (after postfix_dot_expr (λ v. give (again true false)))
+    (test is_access (after postfix_dot_expr (λ v. if_some v (give (again true false)) (give (if blocky then block else something))))
     (test (next_is QUESTION) (after try_expr (λ v. give (again true false)))
     (give (if blocky then block else something)))))
 

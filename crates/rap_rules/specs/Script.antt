@@ -1,7 +1,9 @@
 -- How a rule goes over the tokens, as a script: the parser's calls in their order, and the tests between them.
 use Rattle.std.specs.Prelude.{◌≡◌, ◌≢◌, ◌==◌, ℕ, Bool, true, false, List, [], ◌∷◌, drop}
-use Rattle.rap_base.specs.TokenKind.{EOF, ERROR}
-use Rattle.rap_events.specs.Record.{Record, next_kind}
+use Rattle.rap_base.specs.NodeKind.{FIELD_EXPR}
+use Rattle.rap_base.specs.TokenKind.{EOF, ERROR, FLOAT_NUMBER}
+use Rattle.rap_events.specs.FloatSplit.{split_children}
+use Rattle.rap_events.specs.Record.{Record, next_kind, joint_at}
 use Rattle.rap_events.specs.Composite.{is_at, width}
 use Rattle.rap_events.specs.Cover.{first_may_bear}
 use Rattle.rap_events.specs.Forest.{Forest, none, node, leaf, message, split, ◌⧺◌}
@@ -21,6 +23,8 @@ pub data Outcome : Type 0 where
 -- test of them, or as the last token taken was of a kind or not. It takes a token: of a kind, under its own kind, or under another kind that it may bear. It reports a
 -- message, or reports one and takes the next token into an `ERROR`. It starts a node, starts one around the last node,
 -- finishes the newest one under a kind, lets the last node begin where the newest one does, or abandons the newest one.
+-- It takes a float apart, which finishes the field access that is the newest node, and where the float does not end in
+-- a dot another one around it; and goes on as the float ends in a dot or not.
 -- It goes on after another script, or after a rule, as their outcome says. It takes turns, as long as they answer so.
 pub data Script (P : Type 0) : Type 0 where
   give : Outcome → Script P
@@ -37,6 +41,7 @@ pub data Script (P : Type 0) : Type 0 where
   finish : ℕ → Script P → Script P
   extend : Script P → Script P
   abandon : Script P → Script P
+  split_float : Script P → Script P → Script P
   after : Script P → (Outcome → Script P) → Script P
   rule : P → (Outcome → Script P) → Script P
   loop : (Bool → Bool → Script P) → Bool → Bool → Script P
@@ -112,6 +117,10 @@ extended p =
 abbrev pub abandoned : Spot → Spot
 abandoned p = record { rest = p.rest; forest = newest p.below ⧺ p.forest; below = drop 1 p.below }
 
+abbrev pub split_apart : Bool → Spot → Spot
+split_apart ends_in_dot p =
+    record { rest = drop 1 p.rest; forest = node (newest p.below) FIELD_EXPR (split_children p.forest ends_in_dot); below = drop 1 p.below }
+
 -- whether a loop goes on
 abbrev pub goes_on : Outcome → Bool
 goes_on nothing = false
@@ -137,6 +146,8 @@ pub data Runs {P : Type 0} (script_of : P → Script P) : Script P → Spot → 
   finishes : {k : ℕ} {s : Script P} {p q : Spot} {v : Outcome} → Runs script_of s (finished k p) q v → Runs script_of (finish k s) p q v
   extends : {s : Script P} {p q : Spot} {v : Outcome} → Runs script_of s (extended p) q v → Runs script_of (extend s) p q v
   abandons : {s : Script P} {p q : Spot} {v : Outcome} → Runs script_of s (abandoned p) q v → Runs script_of (abandon s) p q v
+  splits_dotted : {s t : Script P} {p q : Spot} {v : Outcome} → next_kind p.rest ≡ FLOAT_NUMBER → joint_at p.rest 0 ≡ false → Runs script_of s (split_apart true p) q v → Runs script_of (split_float s t) p q v
+  splits_whole : {s t : Script P} {p q : Spot} {v : Outcome} → next_kind p.rest ≡ FLOAT_NUMBER → joint_at p.rest 0 ≡ true → Runs script_of t (split_apart false p) q v → Runs script_of (split_float s t) p q v
   follows : {s : Script P} {n : Outcome → Script P} {p r q : Spot} {w v : Outcome} → Runs script_of s p r w → Runs script_of (n w) r q v → Runs script_of (after s n) p q v
   obeys : {c : P} {n : Outcome → Script P} {p r q : Spot} {w v : Outcome} → Runs script_of (script_of c) p r w → Runs script_of (n w) r q v → Runs script_of (rule c n) p q v
   turns : {h : Bool → Bool → Script P} {a b c d : Bool} {p r q : Spot} {v : Outcome} → Runs script_of (h a b) p r (again c d) → Runs script_of (loop h c d) r q v → Runs script_of (loop h a b) p q v

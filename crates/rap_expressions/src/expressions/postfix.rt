@@ -10,6 +10,7 @@ ghost use Rattle.rap_rules.specs.Grew.{Within, Grew, Wraps, Behind, Closes, Took
 ghost use Rattle.rap_rules.specs.Knot.{Follows};
 ghost use Rattle.rap_rules.specs.Room.{operand_room, arguments_room};
 ghost use Rattle.rap_rules.specs.Script.{something};
+ghost use Rattle.rap_rules.specs.Words.{of_bool};
 
 use rap_base::no_memory::NoMemory;
 use rap_base::syntax_kind::SyntaxKind;
@@ -47,7 +48,13 @@ pub(crate) fn postfix_expr<G: Grammar>(
         lhs = match p.current() {
             T!['('] if allow_calls => call_expr(p, g, lhs)?,
             T!['['] if allow_calls => index_expr(p, g, lhs)?,
-            T![.] if !p.at(T![..=]) && !p.at(T![..]) => postfix_dot_expr(p, g, lhs)?,
+            T![.] if !p.at(T![..=]) && !p.at(T![..]) => {
+                let (access, goes_on) = postfix_dot_expr(p, g, lhs)?;
+                if !goes_on {
+                    return Ok((access, block_like));
+                }
+                access
+            }
             T![?] => try_expr(p, lhs)?,
             _ => return Ok((lhs, block_like)),
         };
@@ -56,27 +63,70 @@ pub(crate) fn postfix_expr<G: Grammar>(
     }
 }
 
-/// A dot and what follows it, as `.b`, `.0`, `.c()` and `.await`.
+/// A dot and what follows it, as `.b`, `.0`, `.c()` and `.await`, and whether more may follow that.
 fn postfix_dot_expr<G: Grammar>(
     p: &mut Parser<'_>,
     g: &G,
     lhs: CompletedMarker,
-) -> Result<CompletedMarker, NoMemory>
+) -> Result<(CompletedMarker, bool), NoMemory>
     requires within { Within G.valid G.left g.now (state p.old) }
     requires last { IsLast (state p.old) lhs lhs.kind }
     requires here { next (state p.old) ≡ DOT }
-    ensures wraps { IfOk result (λ cm. Wraps cm.kind operand_room (state p.old) (state p.new) cm × (is_plain cm.kind ≡ true)) }
-    ensures script { OnOk result (Follows script.postfix_dot_expr something (state p.old) (state p.new)) }
+    ensures wraps { IfOk result (λ e. Wraps e.0.kind operand_room (state p.old) (state p.new) e.0 × (is_plain e.0.kind ≡ true)) }
+    ensures script { IfOk result (λ e. Follows script.postfix_dot_expr (of_bool e.1) (state p.old) (state p.new)) }
 {
-    let is_call = is_method_call(p, 1);
-    let is_await = p.nth(1) == T![await];
     let m = lhs.precede(p)?;
     p.bump(T![.])?;
-    if is_call {
+    let access = after_dot(p, g, m)?;
+    Ok(access)
+}
+
+/// What follows a dot, and whether more may follow that: behind the dot of a float stands no range.
+///
+/// A float is one field, as `0.` in `a.0. b`, or two, as `0.1` in `a.0.1`. Its own dot may end it, and is then followed as
+/// any other.
+fn after_dot<G: Grammar>(
+    p: &mut Parser<'_>,
+    g: &G,
+    mut m: Marker,
+) -> Result<(CompletedMarker, bool), NoMemory>
+    requires behind { Behind G.valid G.left g.now (state p.old) }
+    requires newest { (state p.old).marker ≡ Some m.pos }
+    ensures closes { IfOk result (λ e. Closes e.0.kind 3 (state p.old) (state p.new) e.0 × (is_plain e.0.kind ≡ true)) }
+    ensures script { IfOk result (λ e. Follows script.after_dot (of_bool e.1) (state p.old) (state p.new)) }
+{
+    'fields: loop {
+        if p.current() != SyntaxKind::FLOAT_NUMBER {
+            let cm = name_after_dot(p, g, m)?;
+            return Ok((cm, true));
+        }
+        let (ends_in_dot, field) = p.split_float(m)?;
+        if !ends_in_dot {
+            return Ok((field, true));
+        }
+        if p.at(T![..=]) || p.at(T![..]) {
+            return Ok((field, false));
+        }
+        m = field.precede(p)?;
+    }
+}
+
+/// A method with its arguments, `await`, or a field's name or number behind a dot.
+fn name_after_dot<G: Grammar>(
+    p: &mut Parser<'_>,
+    g: &G,
+    m: Marker,
+) -> Result<CompletedMarker, NoMemory>
+    requires behind { Behind G.valid G.left g.now (state p.old) }
+    requires newest { (state p.old).marker ≡ Some m.pos }
+    ensures closes { IfOk result (λ cm. Closes cm.kind 3 (state p.old) (state p.new) cm × (is_plain cm.kind ≡ true)) }
+    ensures script { OnOk result (Follows script.name_after_dot something (state p.old) (state p.new)) }
+{
+    if is_method_call(p) {
         let cm = method_call_expr(p, g, m)?;
         return Ok(cm);
     }
-    if is_await {
+    if p.at(T![await]) {
         let cm = await_expr(p, m)?;
         return Ok(cm);
     }
@@ -84,16 +134,15 @@ fn postfix_dot_expr<G: Grammar>(
     Ok(cm)
 }
 
-/// Whether what stands `n` tokens on, behind a dot, is called: a name before `(` or `::`, or a `(` without a name.
+/// Whether what stands behind a dot is called: a name before `(` or `::`, or a `(` without a name.
 #[tactic(auto, unfolding(rap_rules::specs::Expressions::calls_method))]
-fn is_method_call(p: &Parser<'_>, n: usize) -> bool
-    requires { n < 3 }
-    ensures { result ≡ calls_method n (state p.now).rest }
+fn is_method_call(p: &Parser<'_>) -> bool
+    ensures { result ≡ calls_method (state p.now).rest }
 {
-    if p.nth(n) == T!['('] {
+    if p.at(T!['(']) {
         return true;
     }
-    is_path_name(p.nth(n)) && (p.nth(n + 1) == T!['('] || p.nth_at(n + 1, T![::]))
+    is_path_name(p.current()) && (p.nth(1) == T!['('] || p.nth_at(1, T![::]))
 }
 
 /// A call, as `(1)` after `f`.
