@@ -3,7 +3,10 @@ use Rattle.std.proofs.Common.{◌≡◌, List}
 use Rattle.rap_events.specs.Record.{Record}
 use Rattle.rap_events.specs.Forest.{Forest, message_count}
 use Rattle.rap_grammar.proofs.Outputs.{derived, derived_clean, derived_type, derived_type_clean, one_output, one_root}
-use Rattle.ra_ap_parser.specs.EntryScript.{IsOutputOf, IsCore}
+use Rattle.rap_grammar.proofs.Parts.{one_prefix}
+use Rattle.ra_ap_parser.specs.EntryScript.{IsOutputOf, IsCore, IsPrefixOutputOf}
+use Rattle.ra_ap_parser.specs.declared.entry_point.PrefixEntryPoint.{PrefixEntryPoint}
+use Rattle.ra_ap_parser.specs.declared.entry_point.PrefixEntryPoint.TheVariants as prefix
 use Rattle.ra_ap_parser.specs.declared.entry_point.TopEntryPoint.{TopEntryPoint}
 use Rattle.ra_ap_parser.specs.declared.entry_point.TopEntryPoint.TheVariants as entry
 
@@ -25,3 +28,16 @@ one_entry_output entry.Pattern input i j = one_output i j
 one_entry_output entry.Ty input i j = one_output i j
 one_entry_output entry.Expr input i j = one_output i j
 one_entry_output entry.MetaItem input i j = one_output i j
+
+-- the same of what is read from the front of an input
+pub one_prefix_output : (e : PrefixEntryPoint) (input : List Record) {a b : Forest} → IsPrefixOutputOf e input a → IsPrefixOutputOf e input b → a ≡ b
+one_prefix_output prefix.Vis input i j = one_prefix i j
+one_prefix_output prefix.Block input i j = one_prefix i j
+one_prefix_output prefix.Stmt input i j = one_prefix i j
+one_prefix_output prefix.Pat input i j = one_prefix i j
+one_prefix_output prefix.PatTop input i j = one_prefix i j
+one_prefix_output prefix.Ty input i j = one_prefix i j
+one_prefix_output prefix.Expr input i j = one_prefix i j
+one_prefix_output prefix.Path input i j = one_prefix i j
+one_prefix_output prefix.Item input i j = one_prefix i j
+one_prefix_output prefix.MetaItem input i j = one_prefix i j

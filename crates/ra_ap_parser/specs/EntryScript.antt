@@ -1,14 +1,21 @@
 -- What a top entry makes of its input.
-use Rattle.std.specs.Prelude.{List, false}
+use Rattle.std.specs.Prelude.{List, true, false}
 use Rattle.rap_base.specs.NodeKind.{SOURCE_FILE, MACRO_STMTS, MACRO_ITEMS}
 use Rattle.rap_events.specs.Record.{Record}
 use Rattle.rap_events.specs.Forest.{Forest}
 use Rattle.rap_rules.specs.Atom.{expr}
-use Rattle.rap_rules.specs.Called.{pattern, type_, inner_meta}
+use Rattle.rap_rules.specs.Called.{pattern, pattern_single, type_, inner_meta}
 use Rattle.rap_grammar.specs.Derives.{Derives, Expression, Ty}
 use Rattle.rap_grammar.specs.Top.{IsTopOf, IsRootOf}
-use Rattle.rap_rules.specs.Items.{source_file, mod_contents}
-use Rattle.rap_rules.specs.Statements.{macro_stmts}
+use Rattle.rap_rules.specs.Items.{source_file, mod_contents, item_or_macro}
+use Rattle.rap_rules.specs.Statements.{macro_stmts, stmt}
+use Rattle.rap_grammar.specs.Part.{IsPrefixOf}
+use Rattle.rap_rules.specs.Blocks.{block_expr}
+use Rattle.rap_rules.specs.Paths.{type_path}
+use Rattle.rap_rules.specs.Visibility.{opt_visibility}
+use Rattle.rap_rules.specs.declared.arguments.Semicolon.TheVariants as semicolon
+use Rattle.ra_ap_parser.specs.declared.entry_point.PrefixEntryPoint.{PrefixEntryPoint}
+use Rattle.ra_ap_parser.specs.declared.entry_point.PrefixEntryPoint.TheVariants as prefix
 use Rattle.ra_ap_parser.specs.declared.entry_point.TopEntryPoint.{TopEntryPoint}
 use Rattle.ra_ap_parser.specs.declared.entry_point.TopEntryPoint.TheVariants as entry
 
@@ -33,3 +40,16 @@ IsCore entry.Pattern input tree = ⊥
 IsCore entry.Ty input tree = Derives Ty input tree
 IsCore entry.Expr input tree = Derives Expression input tree
 IsCore entry.MetaItem input tree = ⊥
+
+-- What a prefix entry gives of the front of an input.
+abbrev pub IsPrefixOutputOf : PrefixEntryPoint → List Record → Forest → Type 0
+IsPrefixOutputOf prefix.Vis input output = IsPrefixOf (opt_visibility false) input output
+IsPrefixOutputOf prefix.Block input output = IsPrefixOf block_expr input output
+IsPrefixOutputOf prefix.Stmt input output = IsPrefixOf (stmt semicolon.Forbidden) input output
+IsPrefixOutputOf prefix.Pat input output = IsPrefixOf pattern_single input output
+IsPrefixOutputOf prefix.PatTop input output = IsPrefixOf pattern input output
+IsPrefixOutputOf prefix.Ty input output = IsPrefixOf type_ input output
+IsPrefixOutputOf prefix.Expr input output = IsPrefixOf expr input output
+IsPrefixOutputOf prefix.Path input output = IsPrefixOf type_path input output
+IsPrefixOutputOf prefix.Item input output = IsPrefixOf (item_or_macro true true) input output
+IsPrefixOutputOf prefix.MetaItem input output = IsPrefixOf inner_meta input output

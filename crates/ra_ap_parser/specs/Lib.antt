@@ -8,6 +8,7 @@ pub mod Headline
 pub mod Input
 pub mod LexedStr
 pub mod OneLexing
+pub mod Reparsed
 pub mod Reported
 pub mod SingleToken
 pub mod StrForest

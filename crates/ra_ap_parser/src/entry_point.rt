@@ -1,12 +1,14 @@
 //! Where a parse begins.
 ghost use Rattle.std.specs.Prelude.{◌≡◌, ◌<◌, ◌≤◌, ◌↔◌, length, IfOk, Some};
 ghost use Rattle.rap_events.specs.Forest.{Forest, message_count};
+ghost use Rattle.rap_grammar.specs.Part.{IsPrefixOver};
 ghost use Rattle.rap_grammar.specs.Top.{IsTreeOver};
 
 use rap_base::no_memory::NoMemory;
 use rap_events::input::Input;
 use rap_events::output::Output;
-use rap_grammar::entry::top;
+use rap_grammar::entry::{part, top};
+use rap_grammar::entry::part::Part;
 use std::alloc::Global;
 use std::error::Error;
 use std::fmt;
@@ -88,6 +90,76 @@ impl TopEntryPoint {
         ensures script { IfOk result (IsOutputOf self.now input.now) }
         ensures only { IfOk result (λ output. (other : Forest) → IsOutputOf self.now input.now other → other ≡ output) }
         ensures core { IfOk result (λ output. (tree : Forest) → IsCore self.now input.now tree → (output ≡ tree) × (message_count output ≡ 0)) }
+        ensures too_many { (result ≡ Err ParseFault.TooManyTokens) ↔ (MAX_TOKENS < length input.now) }
+    {
+        if input.len() > MAX_TOKENS {
+            return Err(ParseFault::TooManyTokens);
+        }
+        match self.run(alloc, input) {
+            Ok(output) => Ok(output),
+            Err(NoMemory) => Err(ParseFault::NoMemory),
+        }
+    }
+}
+
+/// What is read from the front of an input, as a macro matches it.
+#[derive(Clone, Copy, Debug, PartialEq, Eq)]
+pub enum PrefixEntryPoint {
+    /// A visibility, if there is one.
+    Vis,
+    /// A block.
+    Block,
+    /// A statement, without the semicolon behind it.
+    Stmt,
+    /// A pattern without alternatives.
+    Pat,
+    /// A pattern, with its alternatives.
+    PatTop,
+    /// A type.
+    Ty,
+    /// An expression.
+    Expr,
+    /// A path, as in a type.
+    Path,
+    /// An item, or a macro call in its place.
+    Item,
+    /// What stands in the brackets of an attribute, as `cfg(a)` in `#[cfg(a)]`.
+    MetaItem,
+}
+
+impl PrefixEntryPoint {
+    ghost use Rattle.ra_ap_parser.specs.EntryScript.{IsPrefixOutputOf};
+
+    /// Reads what the entry names.
+    fn run(&self, alloc: Global, input: &Input) -> Result<Output, NoMemory>
+        requires { length input.now ≤ MAX_TOKENS }
+        ensures prefix { IfOk result (IsPrefixOver input.now) }
+        ensures script { IfOk result (IsPrefixOutputOf self.now input.now) }
+    {
+        match self {
+            PrefixEntryPoint::Vis => part::part(alloc, input, Part::Visibility),
+            PrefixEntryPoint::Block => part::part(alloc, input, Part::Block),
+            PrefixEntryPoint::Stmt => part::stmt(alloc, input),
+            PrefixEntryPoint::Pat => part::pattern_single(alloc, input),
+            PrefixEntryPoint::PatTop => part::pattern(alloc, input),
+            PrefixEntryPoint::Ty => part::type_(alloc, input),
+            PrefixEntryPoint::Expr => part::expr(alloc, input),
+            PrefixEntryPoint::Path => part::part(alloc, input, Part::Path),
+            PrefixEntryPoint::Item => part::item(alloc, input),
+            PrefixEntryPoint::MetaItem => part::meta_item(alloc, input),
+        }
+    }
+
+    /// Reads from the front of the input, and leaves what stands behind.
+    ///
+    /// The output may be no tree, or several, and messages beside them. How many tokens it took is the sum of the
+    /// `n_input_tokens` of its steps, and one for each float that it took apart. The error is `TooManyTokens` exactly
+    /// for an input of more than [`MAX_TOKENS`] tokens, which is decided first, and else `NoMemory` where a growth was
+    /// refused. The output is that of the entry's script, and no other.
+    pub fn parse(&self, alloc: Global, input: &Input) -> Result<Output, ParseFault>
+        ensures prefix { IfOk result (IsPrefixOver input.now) }
+        ensures script { IfOk result (IsPrefixOutputOf self.now input.now) }
+        ensures only { IfOk result (λ output. (other : Forest) → IsPrefixOutputOf self.now input.now other → other ≡ output) }
         ensures too_many { (result ≡ Err ParseFault.TooManyTokens) ↔ (MAX_TOKENS < length input.now) }
     {
         if input.len() > MAX_TOKENS {

@@ -8,10 +8,11 @@
 
 mod entry_point;
 mod lexed_str;
+mod reparser;
 mod shortcuts;
 mod whole_text;
 
-pub use entry_point::{MAX_TOKENS, ParseFault, TopEntryPoint};
+pub use entry_point::{MAX_TOKENS, ParseFault, PrefixEntryPoint, TopEntryPoint};
 pub use lexed_str::{Errors, LexFault, LexedStr, MAX_TEXT};
 pub use rap_base::edition::{Edition, InvalidEdition};
 pub use rap_base::no_memory::NoMemory;
@@ -20,5 +21,6 @@ pub use rap_base::whitespace::is_rust_whitespace;
 pub use rap_events::input::Input;
 pub use rap_events::output::{Output, Step, Steps};
 pub use rap_script::frontmatter;
+pub use reparser::Reparser;
 pub use shortcuts::{StrSink, StrStep};
 pub use whole_text::{ParsedText, TextFault, parse_text};

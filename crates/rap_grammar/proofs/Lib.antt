@@ -3,6 +3,7 @@ pub mod Example
 pub mod OneTree
 pub mod Operators
 pub mod Outputs
+pub mod Parts
 pub mod Stating
 pub mod TopTree
 pub mod TypeWays

@@ -1,2 +1,3 @@
 pub mod Derives
+pub mod Part
 pub mod Top

@@ -28,6 +28,7 @@ use rap_rules::arguments::{Restrictions, Semicolon};
 use rap_rules::knot::Rule;
 use std::alloc::Global;
 
+pub mod part;
 pub mod top;
 
 /// Whether the output is exactly one node, with nothing beside it.

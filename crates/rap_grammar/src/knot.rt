@@ -19,9 +19,9 @@ use rap_types::types::{path_type_bounds, type_with_bounds_cond};
 
 /// The grammar, by a call that runs any rule.
 #[derive(Drop)]
-struct Rules<F: Fn(&mut Parser<'_>, Rule) -> Result<Answer, NoMemory>> {
-    run: F,
-    left: usize,
+pub(crate) struct Rules<F: Fn(&mut Parser<'_>, Rule) -> Result<Answer, NoMemory>> {
+    pub(crate) run: F,
+    pub(crate) left: usize,
 }
 
 impl<F: Fn(&mut Parser<'_>, Rule) -> Result<Answer, NoMemory>> Grammar for Rules<F> {

@@ -1,7 +1,9 @@
 //! Structs, unions and enums.
 ghost use Rattle.std.specs.Prelude.{◌≡◌, ◌≢◌, ◌<◌, ◌≤◌, IfOk, OnOk, Some, true, false, ℕ};
+ghost use Rattle.rap_base.specs.NodeKind.{VARIANT_LIST, RECORD_FIELD_LIST};
 ghost use Rattle.rap_base.specs.TokenKind.{EOF, UNSAFE_KW, STRUCT_KW, ENUM_KW, UNION_KW, MUT_KW, L_CURLY, R_CURLY, L_PAREN};
-ghost use Rattle.rap_events.specs.State.{state, next, ReadsAs};
+ghost use Rattle.rap_events.specs.Forest.{node};
+ghost use Rattle.rap_events.specs.State.{state, last_children, next, ReadsAs};
 ghost use Rattle.rap_rules.specs.Adt as script;
 ghost use Rattle.rap_rules.specs.Adt.{starts_mut_restriction};
 ghost use Rattle.rap_rules.specs.Grew.{Within, Behind, Took, Grew, Ended, Gone, Spent};
@@ -161,6 +163,7 @@ pub fn variant_list<G: Grammar>(p: &mut Parser<'_>, g: &G) -> Result<(), NoMemor
     requires within { Within G.valid G.left g.now (state p.old) }
     requires here { next (state p.old) ≡ L_CURLY }
     ensures took { OnOk result (Took (state p.old) (state p.new) list_room) }
+    ensures one { OnOk result ((state p.new).forest ≡ node (state p.old).forest VARIANT_LIST (last_children (state p.new).forest)) }
     ensures script { OnOk result (Follows script.variant_list something (state p.old) (state p.new)) }
 {
     let m = p.start()?;
@@ -312,6 +315,7 @@ pub fn record_field_list<G: Grammar>(p: &mut Parser<'_>, g: &G) -> Result<(), No
     requires within { Within G.valid G.left g.now (state p.old) }
     requires here { next (state p.old) ≡ L_CURLY }
     ensures took { OnOk result (Took (state p.old) (state p.new) list_room) }
+    ensures one { OnOk result ((state p.new).forest ≡ node (state p.old).forest RECORD_FIELD_LIST (last_children (state p.new).forest)) }
     ensures script { OnOk result (Follows script.record_field_list something (state p.old) (state p.new)) }
 {
     let m = p.start()?;

@@ -1,7 +1,9 @@
 //! Modules, lists of items, and what is named in one line: a crate and a type.
 ghost use Rattle.std.specs.Prelude.{◌≡◌, ◌≢◌, ◌<◌, ◌≤◌, IfOk, OnOk, Some, None, true, false, ◌⊎◌};
+ghost use Rattle.rap_base.specs.NodeKind.{ITEM_LIST, EXTERN_ITEM_LIST};
 ghost use Rattle.rap_base.specs.TokenKind.{EOF, L_CURLY, R_CURLY, CRATE_KW, EXTERN_KW, MOD_KW, TYPE_KW};
-ghost use Rattle.rap_events.specs.State.{state, next, NthAt};
+ghost use Rattle.rap_events.specs.Forest.{node};
+ghost use Rattle.rap_events.specs.State.{state, last_children, next, NthAt};
 ghost use Rattle.rap_rules.specs.Grew.{Within, Behind, Took, Grew, Ended};
 ghost use Rattle.rap_rules.specs.Items as script;
 ghost use Rattle.rap_rules.specs.Knot.{Follows};
@@ -83,6 +85,7 @@ pub fn item_list<G: Grammar>(p: &mut Parser<'_>, g: &G) -> Result<(), NoMemory>
     requires within { Within G.valid G.left g.now (state p.old) }
     requires here { next (state p.old) ≡ L_CURLY }
     ensures took { OnOk result (Took (state p.old) (state p.new) list_room) }
+    ensures one { OnOk result ((state p.new).forest ≡ node (state p.old).forest ITEM_LIST (last_children (state p.new).forest)) }
     ensures script { OnOk result (Follows script.item_list something (state p.old) (state p.new)) }
 {
     let m = p.start()?;
@@ -98,6 +101,7 @@ pub fn extern_item_list<G: Grammar>(p: &mut Parser<'_>, g: &G) -> Result<(), NoM
     requires within { Within G.valid G.left g.now (state p.old) }
     requires here { next (state p.old) ≡ L_CURLY }
     ensures took { OnOk result (Took (state p.old) (state p.new) list_room) }
+    ensures one { OnOk result ((state p.new).forest ≡ node (state p.old).forest EXTERN_ITEM_LIST (last_children (state p.new).forest)) }
     ensures script { OnOk result (Follows script.extern_item_list something (state p.old) (state p.new)) }
 {
     let m = p.start()?;

@@ -1,7 +1,9 @@
 //! Traits and implementations.
 ghost use Rattle.std.specs.Prelude.{◌≡◌, ◌≢◌, ◌<◌, ◌≤◌, OnOk, Some, true};
+ghost use Rattle.rap_base.specs.NodeKind.{ASSOC_ITEM_LIST};
 ghost use Rattle.rap_base.specs.TokenKind.{EOF, L_CURLY, R_CURLY, BANG, TRAIT_KW, IMPL_KW};
-ghost use Rattle.rap_events.specs.State.{state, next};
+ghost use Rattle.rap_events.specs.Forest.{node};
+ghost use Rattle.rap_events.specs.State.{state, last_children, next};
 ghost use Rattle.rap_rules.specs.Grew.{Within, Behind, Took, Grew, Ended};
 ghost use Rattle.rap_rules.specs.Knot.{Follows};
 ghost use Rattle.rap_rules.specs.Room.{item_room, list_room, statement_room};
@@ -189,6 +191,7 @@ pub fn assoc_item_list<G: Grammar>(p: &mut Parser<'_>, g: &G) -> Result<(), NoMe
     requires within { Within G.valid G.left g.now (state p.old) }
     requires here { next (state p.old) ≡ L_CURLY }
     ensures took { OnOk result (Took (state p.old) (state p.new) list_room) }
+    ensures one { OnOk result ((state p.new).forest ≡ node (state p.old).forest ASSOC_ITEM_LIST (last_children (state p.new).forest)) }
     ensures script { OnOk result (Follows script.assoc_item_list something (state p.old) (state p.new)) }
 {
     let m = p.start()?;

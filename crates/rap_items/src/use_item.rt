@@ -1,9 +1,11 @@
 //! Imports.
 ghost use Rattle.std.specs.Prelude.{◌≡◌, ◌≢◌, ◌<◌, ◌≤◌, ◌+◌, OnOk, Some, true, ℕ};
+ghost use Rattle.rap_base.specs.NodeKind.{USE_TREE_LIST};
 ghost use Rattle.rap_base.specs.TokenKind.{USE_KW, L_CURLY, COLON2};
 ghost use Rattle.rap_base.specs.TokenSet.{member};
 ghost use Rattle.rap_events.specs.Composite.{is_at};
-ghost use Rattle.rap_events.specs.State.{state, next};
+ghost use Rattle.rap_events.specs.Forest.{node};
+ghost use Rattle.rap_events.specs.State.{state, last_children, next};
 ghost use Rattle.rap_rules.specs.Grew.{Within, Took, Grew, Ended};
 ghost use Rattle.rap_rules.specs.Knot.{Follows};
 ghost use Rattle.rap_rules.specs.Room.{item_room, list_room};
@@ -154,6 +156,7 @@ pub fn use_tree_list<G: Grammar>(p: &mut Parser<'_>, g: &G) -> Result<(), NoMemo
     requires within { Within G.valid G.left g.now (state p.old) }
     requires here { next (state p.old) ≡ L_CURLY }
     ensures took { OnOk result (Took (state p.old) (state p.new) (list_room + 4)) }
+    ensures one { OnOk result ((state p.new).forest ≡ node (state p.old).forest USE_TREE_LIST (last_children (state p.new).forest)) }
     ensures script { OnOk result (Follows script.use_tree_list something (state p.old) (state p.new)) }
 {
     let m = p.start()?;

@@ -1,7 +1,9 @@
 //! Blocks, and the `let` statements in them.
 ghost use Rattle.std.specs.Prelude.{◌≡◌, ◌≢◌, ◌<◌, ◌≤◌, OnOk, IfOk, true, ◌⊎◌};
+ghost use Rattle.rap_base.specs.NodeKind.{BLOCK_EXPR};
 ghost use Rattle.rap_base.specs.TokenKind.{L_CURLY, ELSE_KW, LET_KW};
-ghost use Rattle.rap_events.specs.State.{state, next};
+ghost use Rattle.rap_events.specs.Forest.{node};
+ghost use Rattle.rap_events.specs.State.{state, last_children, next};
 ghost use Rattle.rap_rules.specs.Blocks as script;
 ghost use Rattle.rap_rules.specs.Blocks.{starts_let};
 ghost use Rattle.rap_rules.specs.Grew.{Within, Behind, Took, Grew};
@@ -24,6 +26,7 @@ pub fn block_expr<G: Grammar>(p: &mut Parser<'_>, g: &G) -> Result<(), NoMemory>
     requires within { Within G.valid G.left g.now (state p.old) }
     ensures grew { OnOk result (Grew (state p.old) (state p.new) 3) }
     ensures took { OnOk result (next (state p.old) ≡ L_CURLY → Took (state p.old) (state p.new) list_room) }
+    ensures one { OnOk result (next (state p.old) ≡ L_CURLY → (state p.new).forest ≡ node (state p.old).forest BLOCK_EXPR (last_children (state p.new).forest)) }
     ensures script { OnOk result (Follows script.block_expr something (state p.old) (state p.new)) }
 {
     if !p.at(T!['{']) {

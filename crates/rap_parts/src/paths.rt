@@ -72,8 +72,8 @@ pub fn type_path<G: Grammar>(p: &mut Parser<'_>, g: &G) -> Result<(), NoMemory>
     Ok(())
 }
 
-/// A path in a type, where one may be missing, as behind the `sym` of inline assembly.
-pub(crate) fn sym_path<G: Grammar>(p: &mut Parser<'_>, g: &G) -> Result<(), NoMemory>
+/// A path in a type, where one may be missing, as behind the `sym` of inline assembly or at the front of an input.
+pub fn sym_path<G: Grammar>(p: &mut Parser<'_>, g: &G) -> Result<(), NoMemory>
     requires within { Within G.valid G.left g.now (state p.old) }
     ensures grew { OnOk result (Grew (state p.old) (state p.new) 8) }
     ensures script { OnOk result (Follows paths_script.type_path something (state p.old) (state p.new)) }

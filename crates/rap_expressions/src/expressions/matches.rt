@@ -1,8 +1,9 @@
 //! `match` and its arms.
 ghost use Rattle.std.specs.Prelude.{◌≡◌, ◌≢◌, ◌<◌, ◌≤◌, IfOk, OnOk, false, [], ◌∷◌};
 ghost use Rattle.rap_base.specs.TokenKind.{EOF, IF_KW, MATCH_KW, L_CURLY, R_CURLY, EQ};
-ghost use Rattle.rap_base.specs.NodeKind.{MATCH_EXPR};
-ghost use Rattle.rap_events.specs.State.{state, next};
+ghost use Rattle.rap_base.specs.NodeKind.{MATCH_EXPR, MATCH_ARM_LIST};
+ghost use Rattle.rap_events.specs.Forest.{node};
+ghost use Rattle.rap_events.specs.State.{state, last_children, next};
 ghost use Rattle.rap_rules.specs.Control as script;
 ghost use Rattle.rap_rules.specs.Expressions.{of_like, is_block};
 ghost use Rattle.rap_rules.specs.First.{one_of};
@@ -47,6 +48,7 @@ pub fn match_arm_list<G: Grammar>(p: &mut Parser<'_>, g: &G) -> Result<(), NoMem
     requires within { Within G.valid G.left g.now (state p.old) }
     requires here { next (state p.old) ≡ L_CURLY }
     ensures took { OnOk result (Took (state p.old) (state p.new) list_room) }
+    ensures one { OnOk result ((state p.new).forest ≡ node (state p.old).forest MATCH_ARM_LIST (last_children (state p.new).forest)) }
     ensures script { OnOk result (Follows script.match_arm_list something (state p.old) (state p.new)) }
 {
     let m = p.start()?;

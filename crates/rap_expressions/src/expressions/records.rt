@@ -1,7 +1,9 @@
 //! Record literals.
 ghost use Rattle.std.specs.Prelude.{◌≡◌, ◌≢◌, ◌<◌, ◌≤◌, OnOk, Some, true, ◌⊎◌};
+ghost use Rattle.rap_base.specs.NodeKind.{RECORD_EXPR_FIELD_LIST};
 ghost use Rattle.rap_base.specs.TokenKind.{EOF, L_CURLY};
-ghost use Rattle.rap_events.specs.State.{state, next};
+ghost use Rattle.rap_events.specs.Forest.{node};
+ghost use Rattle.rap_events.specs.State.{state, last_children, next};
 ghost use Rattle.rap_rules.specs.Grew.{Within, Behind, Took, Grew, Gone, Spent};
 ghost use Rattle.rap_rules.specs.Knot.{Follows};
 ghost use Rattle.rap_rules.specs.Records as script;
@@ -24,6 +26,7 @@ pub fn record_expr_field_list<G: Grammar>(p: &mut Parser<'_>, g: &G) -> Result<(
     requires within { Within G.valid G.left g.now (state p.old) }
     requires here { next (state p.old) ≡ L_CURLY }
     ensures took { OnOk result (Took (state p.old) (state p.new) list_room) }
+    ensures one { OnOk result ((state p.new).forest ≡ node (state p.old).forest RECORD_EXPR_FIELD_LIST (last_children (state p.new).forest)) }
     ensures script { OnOk result (Follows script.record_expr_field_list something (state p.old) (state p.new)) }
 {
     let m = p.start()?;

@@ -1,0 +1,28 @@
+-- Which nodes can be parsed again from their own tokens.
+use Rattle.std.specs.Prelude.{ℕ, ◌==◌, ◌&&◌, ◌||◌, if◌then◌else◌, Bool, List, [], ◌∷◌, Option, Some, None}
+use Rattle.rap_base.specs.NodeKind.{BLOCK_EXPR, RECORD_FIELD_LIST, RECORD_EXPR_FIELD_LIST, VARIANT_LIST, MATCH_ARM_LIST, USE_TREE_LIST, EXTERN_ITEM_LIST, TOKEN_TREE, ASSOC_ITEM_LIST, ITEM_LIST, IMPL, TRAIT}
+use Rattle.rap_base.specs.TokenKind.{L_CURLY}
+use Rattle.rap_rules.specs.First.{one_of}
+use Rattle.rap_grammar.specs.Part.{part_kind}
+use Rattle.rap_grammar.specs.declared.entry.part.Part.{Part}
+
+-- whether this kind is there
+abbrev pub is_kind : ℕ → Option ℕ → Bool
+is_kind kind None = false
+is_kind kind (Some k) = k == kind
+
+-- whether a node of this kind, with this first child and in this parent, can be parsed again
+abbrev pub can_reparse : ℕ → Option ℕ → Option ℕ → Bool
+can_reparse node first_child parent =
+    one_of (BLOCK_EXPR ∷ RECORD_FIELD_LIST ∷ RECORD_EXPR_FIELD_LIST ∷ VARIANT_LIST ∷ MATCH_ARM_LIST ∷ USE_TREE_LIST ∷ EXTERN_ITEM_LIST ∷ ITEM_LIST ∷ []) node
+    || (((node == TOKEN_TREE) && is_kind L_CURLY first_child)
+    || ((node == ASSOC_ITEM_LIST) && (is_kind IMPL parent || is_kind TRAIT parent)))
+
+-- the kind of the node that is parsed again, if it can be
+abbrev pub reparsed : ℕ → Option ℕ → Option ℕ → Option ℕ
+reparsed node first_child parent = if can_reparse node first_child parent then Some node else None
+
+-- the kind of the node that is parsed again
+abbrev pub kind_of : Option Part → Option ℕ
+kind_of None = None
+kind_of (Some p) = Some (part_kind p)

@@ -1,0 +1,224 @@
+//! Entries that read one thing from the front of an input, and leave what stands behind it.
+ghost use Rattle.std.specs.Prelude.{◌≡◌, ◌≤◌, length, IfOk, OnOk, true, false};
+ghost use Rattle.rap_base.specs.TokenKind.{L_CURLY};
+ghost use Rattle.rap_events.specs.Forest.{node};
+ghost use Rattle.rap_events.specs.Record.{next_kind};
+ghost use Rattle.rap_events.specs.State.{state, next, last_children};
+ghost use Rattle.rap_grammar.specs.Part.{IsPrefixOver, IsPrefixOf, IsOneNode, Goes, part_script, part_kind, in_braces, asks_brace};
+ghost use Rattle.rap_rules.specs.Called as called;
+ghost use Rattle.rap_rules.specs.Atom as atom_script;
+ghost use Rattle.rap_rules.specs.Grew.{Grew};
+ghost use Rattle.rap_rules.specs.Rules.{Pre, Post};
+ghost use Rattle.rap_rules.specs.Statements as statement_script;
+ghost use Rattle.rap_rules.specs.Items as item_script;
+
+use crate::knot::{Rules, run};
+use rap_base::no_memory::NoMemory;
+use rap_events::input::Input;
+use rap_events::output::Output;
+use rap_events::parser::Parser;
+use rap_expressions::expressions::matches::match_arm_list;
+use rap_expressions::expressions::records::record_expr_field_list;
+use rap_items::adt::{record_field_list, variant_list};
+use rap_items::modules::{extern_item_list, item_list};
+use rap_items::traits::assoc_item_list;
+use rap_items::use_item::use_tree_list;
+use rap_items::visibility::opt_visibility;
+use rap_parts::blocks::block_expr;
+use rap_parts::paths::sym_path;
+use rap_rules::arguments::Semicolon;
+use rap_rules::knot::{Answer, Rule};
+use rap_rules::token_tree::token_tree;
+use std::alloc::Global;
+
+/// What no other rule comes back to, and is read alone.
+#[derive(Clone, Copy, Debug, PartialEq, Eq)]
+pub enum Part {
+    /// A visibility, if there is one.
+    Visibility,
+    /// A path in a type.
+    Path,
+    Block,
+    RecordFieldList,
+    RecordExprFieldList,
+    VariantList,
+    MatchArmList,
+    UseTreeList,
+    ExternItemList,
+    TokenTree,
+    AssocItemList,
+    ItemList,
+}
+
+/// Runs the rule of a part: one call for each.
+fn run_part(p: &mut Parser<'_>, part: Part) -> Result<(), NoMemory>
+    requires brace { asks_brace part ≡ true → next (state p.old) ≡ L_CURLY }
+    ensures grew { OnOk result (Grew (state p.old) (state p.new) 8) }
+    ensures one { OnOk result (in_braces part ≡ true → next (state p.old) ≡ L_CURLY → (state p.new).forest ≡ node (state p.old).forest (part_kind part) (last_children (state p.new).forest)) }
+    ensures script { OnOk result (Goes (part_script part) (state p.old) (state p.new)) }
+{
+    let left = p.left();
+    let call = |q: &mut Parser<'_>, c: Rule| -> Result<Answer, NoMemory>
+        requires pre { Pre c (state q.old) }
+        requires left { (state q.old).left < left }
+        ensures { IfOk result (Post c (state q.old) (state q.new)) }
+    {
+        let _ = &left;
+        run(q, c)
+    };
+    let g = Rules { run: call, left };
+    match part {
+        Part::Visibility => {
+            opt_visibility(p, &g, false)?;
+            Ok(())
+        }
+        Part::Path => {
+            sym_path(p, &g)?;
+            Ok(())
+        }
+        Part::Block => {
+            block_expr(p, &g)?;
+            Ok(())
+        }
+        Part::RecordFieldList => {
+            record_field_list(p, &g)?;
+            Ok(())
+        }
+        Part::RecordExprFieldList => {
+            record_expr_field_list(p, &g)?;
+            Ok(())
+        }
+        Part::VariantList => {
+            variant_list(p, &g)?;
+            Ok(())
+        }
+        Part::MatchArmList => {
+            match_arm_list(p, &g)?;
+            Ok(())
+        }
+        Part::UseTreeList => {
+            use_tree_list(p, &g)?;
+            Ok(())
+        }
+        Part::ExternItemList => {
+            extern_item_list(p, &g)?;
+            Ok(())
+        }
+        Part::TokenTree => {
+            token_tree(p)?;
+            Ok(())
+        }
+        Part::AssocItemList => {
+            assoc_item_list(p, &g)?;
+            Ok(())
+        }
+        Part::ItemList => {
+            item_list(p, &g)?;
+            Ok(())
+        }
+    }
+}
+
+/// A part from the front of the input. Where it stands in braces and one comes first, the output is its node alone.
+pub fn part(alloc: Global, input: &Input, part: Part) -> Result<Output, NoMemory>
+    requires few { length input.now ≤ 8388607 }
+    requires brace { asks_brace part ≡ true → next_kind input.now ≡ L_CURLY }
+    ensures prefix { IfOk result (IsPrefixOver input.now) }
+    ensures script { IfOk result (IsPrefixOf (part_script part) input.now) }
+    ensures one { IfOk result (λ output. in_braces part ≡ true → next_kind input.now ≡ L_CURLY → IsOneNode (part_kind part) output) }
+{
+    let mut p = Parser::new(alloc, input);
+    run_part(&mut p, part)?;
+    let output = p.process(alloc)?;
+    Ok(output)
+}
+
+/// A statement without the semicolon that may stand behind it.
+pub fn stmt(alloc: Global, input: &Input) -> Result<Output, NoMemory>
+    requires { length input.now ≤ 8388607 }
+    ensures prefix { IfOk result (IsPrefixOver input.now) }
+    ensures script { IfOk result (IsPrefixOf (statement_script.stmt Semicolon.Forbidden) input.now) }
+{
+    let mut p = Parser::new(alloc, input);
+    let semicolon = Semicolon::Forbidden;
+    run(&mut p, Rule::Stmt { semicolon })?;
+    let output = p.process(alloc)?;
+    Ok(output)
+}
+
+/// A pattern without alternatives.
+pub fn pattern_single(alloc: Global, input: &Input) -> Result<Output, NoMemory>
+    requires { length input.now ≤ 8388607 }
+    ensures prefix { IfOk result (IsPrefixOver input.now) }
+    ensures script { IfOk result (IsPrefixOf called.pattern_single input.now) }
+{
+    let mut p = Parser::new(alloc, input);
+    run(&mut p, Rule::PatternSingle)?;
+    let output = p.process(alloc)?;
+    Ok(output)
+}
+
+/// A pattern with its alternatives.
+pub fn pattern(alloc: Global, input: &Input) -> Result<Output, NoMemory>
+    requires { length input.now ≤ 8388607 }
+    ensures prefix { IfOk result (IsPrefixOver input.now) }
+    ensures script { IfOk result (IsPrefixOf called.pattern input.now) }
+{
+    let mut p = Parser::new(alloc, input);
+    super::pattern(&mut p)?;
+    let output = p.process(alloc)?;
+    Ok(output)
+}
+
+/// A type.
+pub fn type_(alloc: Global, input: &Input) -> Result<Output, NoMemory>
+    requires { length input.now ≤ 8388607 }
+    ensures prefix { IfOk result (IsPrefixOver input.now) }
+    ensures script { IfOk result (IsPrefixOf called.type_ input.now) }
+{
+    let mut p = Parser::new(alloc, input);
+    super::type_(&mut p)?;
+    let output = p.process(alloc)?;
+    Ok(output)
+}
+
+/// An expression.
+pub fn expr(alloc: Global, input: &Input) -> Result<Output, NoMemory>
+    requires { length input.now ≤ 8388607 }
+    ensures prefix { IfOk result (IsPrefixOver input.now) }
+    ensures script { IfOk result (IsPrefixOf atom_script.expr input.now) }
+{
+    let mut p = Parser::new(alloc, input);
+    super::expr(&mut p)?;
+    let output = p.process(alloc)?;
+    Ok(output)
+}
+
+/// An item, or a macro call in its place.
+pub fn item(alloc: Global, input: &Input) -> Result<Output, NoMemory>
+    requires { length input.now ≤ 8388607 }
+    ensures prefix { IfOk result (IsPrefixOver input.now) }
+    ensures script { IfOk result (IsPrefixOf (item_script.item_or_macro true true) input.now) }
+{
+    let mut p = Parser::new(alloc, input);
+    // Only `safe fn` is more than elsewhere in a foreign block, and there is no other reading of it.
+    let item = Rule::Item {
+        stop_on_r_curly: true,
+        is_in_extern: true,
+    };
+    run(&mut p, item)?;
+    let output = p.process(alloc)?;
+    Ok(output)
+}
+
+/// What stands in the brackets of an attribute.
+pub fn meta_item(alloc: Global, input: &Input) -> Result<Output, NoMemory>
+    requires { length input.now ≤ 8388607 }
+    ensures prefix { IfOk result (IsPrefixOver input.now) }
+    ensures script { IfOk result (IsPrefixOf called.inner_meta input.now) }
+{
+    let mut p = Parser::new(alloc, input);
+    super::meta_item(&mut p)?;
+    let output = p.process(alloc)?;
+    Ok(output)
+}
