@@ -1,5 +1,6 @@
 pub mod Complete
 pub mod Example
+pub mod ItemWays
 pub mod OneTree
 pub mod Operators
 pub mod Outputs

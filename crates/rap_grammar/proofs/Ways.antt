@@ -63,7 +63,7 @@ apart : (a b : ℕ) → a ≢ b → (a == b) ≡ false
 apart a b h = grind (arith, nat_tests)
 
 -- tokens that begin with another one
-not_first : (k : ℕ) (ks : List ℕ) (rs : List Record) → (next_kind rs == k) ≡ false → begins_with (k ∷ ks) rs ≡ false
+pub not_first : (k : ℕ) (ks : List ℕ) (rs : List Record) → (next_kind rs == k) ≡ false → begins_with (k ∷ ks) rs ≡ false
 not_first k ks [] h = refl
 not_first k [] (r ∷ rs) h = h
 not_first k (j ∷ ks) (r ∷ rs) h = rw h refl
@@ -142,7 +142,7 @@ paren_way r {b = b} {f = f} e o x c =
     follows (no_literal (rw e refl) b f) (fails (rw e refl) (fails (rw e refl) (passes (rw e refl) (starts (takes (rw e refl) (follows (elements_way o x c) (passes (rw c refl) (takes (rw c refl) (finishes gives)))))))))
 
 -- no attribute comes next
-no_attributes : {b : List Forest} {rs : List Record} {f : Forest} → is_outer_attr_first (next_kind rs) ≡ false → Leads outer_attrs b rs f rs f
+pub no_attributes : {b : List Forest} {rs : List Record} {f : Forest} → is_outer_attr_first (next_kind rs) ≡ false → Leads outer_attrs b rs f rs f
 unfolding outer_attrs
 no_attributes e = stops (fails e gives) refl
 
