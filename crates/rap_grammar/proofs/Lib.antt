@@ -1,5 +1,7 @@
+pub mod Begins
 pub mod Complete
 pub mod Example
+pub mod Lists
 pub mod OneTree
 pub mod Operators
 pub mod Outputs
