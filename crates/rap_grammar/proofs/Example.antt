@@ -6,7 +6,7 @@ use Rattle.rap_base.specs.NodeKind.{BIN_EXPR, REF_EXPR, LITERAL, PATH_EXPR, PATH
 use Rattle.rap_base.specs.declared.edition.Edition.TheVariants.{Edition2024}
 use Rattle.rap_events.specs.Record.{Record}
 use Rattle.rap_events.specs.Forest.{Forest, none, node, leaf}
-use Rattle.rap_grammar.specs.Derives.{IsOperator, Segment, Postfix, Unary, Binary, Elements, Expression, IsNamedField, Derives, reference, segment, path_one, path_more, atom_literal, atom_path, postfix_atom, postfix_call, postfix_number, postfix_method, arguments_none, arguments_some, element_comma, unary_ref_mut, unary_postfix, binary_unary, binary_tighter, binary_operator, expression_binary, expression_assign}
+use Rattle.rap_grammar.specs.Derives.{IsOperator, Segment, Postfix, Unary, Binary, Elements, Expression, IsNamedField, Derives, reference, segment, path_one, path_more, atom_literal, atom_path, postfix_atom, postfix_call, postfix_number, postfix_method, argument_list, maybe_none, maybe_some, element_comma, unary_ref_mut, unary_postfix, binary_unary, binary_tighter, binary_operator, expression_binary, expression_assign}
 
 -- a token, and one that touches the token after it
 abbrev token : ℕ → Record
@@ -63,12 +63,12 @@ a_sum = expression_binary (three_of_ten (binary_operator (omega arith) (omega ar
 no_field : ¬ IsNamedField (with_name none)
 no_field f = let e = f.1 in absurd cc
 
-one_argument : Derives Elements (token INT_NUMBER ∷ token COMMA ∷ []) (leaf (with_number none) COMMA 1)
+one_argument : Derives (Elements Expression) (token INT_NUMBER ∷ token COMMA ∷ []) (leaf (with_number none) COMMA 1)
 one_argument = element_comma (expression (unary_postfix a_number)) (record { kind_is = refl })
 
 pub a_call : Derives Expression (name ∷ token L_PAREN ∷ token INT_NUMBER ∷ token COMMA ∷ token R_PAREN ∷ [])
     (node none CALL_EXPR (node (with_name none) ARG_LIST (leaf (leaf (with_number (leaf none L_PAREN 1)) COMMA 1) R_PAREN 1)))
-a_call = expression (unary_postfix (postfix_call a_name no_field (arguments_some (record { kind_is = refl }) one_argument (record { kind_is = refl }))))
+a_call = expression (unary_postfix (postfix_call a_name no_field (argument_list (record { kind_is = refl }) (maybe_some one_argument) (record { kind_is = refl }))))
 
 -- `a.0`
 pub a_field : Derives Expression (name ∷ token DOT ∷ token INT_NUMBER ∷ []) (node none FIELD_EXPR (node (leaf (with_name none) DOT 1) NAME_REF (leaf none INT_NUMBER 1)))
@@ -101,4 +101,4 @@ pub a_method_call : Derives Expression (name ∷ touching COLON ∷ token COLON 
     (node none METHOD_CALL_EXPR (node (node (leaf (node none PATH_EXPR (node none PATH (node (leaf (node none PATH (node none PATH_SEGMENT (node none NAME_REF (leaf none IDENT 1)))) COLON2 2) PATH_SEGMENT (node none NAME_REF (leaf none IDENT 1))))) DOT 1)
     NAME_REF (leaf none IDENT 1)) ARG_LIST (leaf (leaf none L_PAREN 1) R_PAREN 1)))
 a_method_call =
-    expression (unary_postfix (postfix_method a_path (record { kind_is = refl }) (reference (record { kind = refl; contextual = refl })) (arguments_none (record { kind_is = refl }) (record { kind_is = refl }))))
+    expression (unary_postfix (postfix_method a_path (record { kind_is = refl }) (reference (record { kind = refl; contextual = refl })) (argument_list (record { kind_is = refl }) maybe_none (record { kind_is = refl }))))

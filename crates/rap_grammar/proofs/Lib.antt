@@ -1,6 +1,8 @@
+pub mod Begins
 pub mod Complete
 pub mod Example
 pub mod ItemWays
+pub mod Lists
 pub mod OneTree
 pub mod Operators
 pub mod Outputs
