@@ -1,7 +1,7 @@
 -- What each category begins with, and which are one node.
-use Rattle.std.proofs.Common.{rules, ◌≡◌, inl, inr, ℕ, List, [], ◌∷◌, ◌++◌, Bool, true, false, refl, ap, ◌∙◌, ◌==◌, ◌||◌}
+use Rattle.std.proofs.Common.{rules, ◌≡◌, ◌⊎◌, inl, inr, ℕ, List, [], ◌∷◌, ◌++◌, Bool, true, false, refl, ap, ◌∙◌, ◌==◌, ◌||◌}
 use Rattle.std.proofs.lemmas.Bool.{eqb-true}
-use Rattle.rap_base.specs.TokenKind.{IDENT, AMP, STAR, BANG, MINUS, COLON, EQ, L_PAREN, L_BRACK, L_CURLY, THIN_ARROW, RAW_KW, PUB_KW, MOD_KW, STRUCT_KW, FN_KW, LET_KW}
+use Rattle.rap_base.specs.TokenKind.{IDENT, AMP, STAR, BANG, MINUS, COLON, EQ, L_PAREN, L_BRACK, L_CURLY, THIN_ARROW, RAW_KW, SUPER_KW, PUB_KW, MOD_KW, STRUCT_KW, FN_KW, LET_KW}
 use Rattle.rap_events.specs.Record.{Record, next_kind}
 use Rattle.rap_events.specs.Composite.{parts}
 use Rattle.rap_events.specs.Forest.{Forest, none, node}
@@ -10,6 +10,7 @@ use Rattle.rap_rules.specs.First.{is_operand, is_atom, is_literal_first, one_of}
 use Rattle.rap_rules.specs.Words.{reads_as, starts_builtin}
 use Rattle.rap_grammar.proofs.Operators.{differ}
 use Rattle.rap_grammar.proofs.Ways.{Single}
+use Rattle.rap_rules.proofs.Steps.{and_false}
 
 abbrev pub begins_type : ℕ → Bool
 begins_type k = one_of (IDENT ∷ AMP ∷ L_BRACK ∷ []) k
@@ -88,32 +89,39 @@ is_some Param = true
 is_some Return = true
 is_some File = false
 
--- the first token: no `raw`, whatever follows it
+-- an identifier, if it is one, that is read as nothing else
+abbrev pub Plain : Record → Type 0
+Plain r = ((r.kind == IDENT) ≡ false) ⊎ (r.contextual ≡ IDENT)
+
+-- such a token is read as no keyword
+pub not_read : (k : ℕ) (r : Record) (rs : List Record) → (r.kind == k) ≡ false → (k == IDENT) ≡ false → (IDENT == k) ≡ false → Plain r → reads_as k (r ∷ rs) ≡ false
+not_read k r rs a b c (inl h) = rw (a, h, b) refl
+not_read k r rs a b c (inr h) = rw (h, c) (and_false _)
+
+-- the first token: one that is read as no keyword, and no `super`
 pub record First (c : Category) (ks : List Record) : Type 0 where
   pub r : Record
   pub rs : List Record
   pub is : ks ≡ r ∷ rs
   pub kind : Begins c r.kind ≡ true
-  pub plain : reads_as RAW_KW (r ∷ []) ≡ false
-
-pub plain_kind : (r : Record) (test : ℕ → Bool) → test r.kind ≡ true → test RAW_KW ≡ false → test IDENT ≡ false → reads_as RAW_KW (r ∷ []) ≡ false
-plain_kind r test h a b = rw (differ test r.kind RAW_KW h a, differ test r.kind IDENT h b) refl
+  pub plain : Plain r
+  pub no_super : (r.kind == SUPER_KW) ≡ false
 
 name_first : {c : Category} (r : Record) (rs : List Record) → IsName r → Begins c IDENT ≡ true → First c (r ∷ rs)
-name_first r rs n h = record { r = r; rs = rs; is = refl; kind = rw n.kind h; plain = rw (n.kind, n.contextual) refl }
+name_first r rs n h = record { r = r; rs = rs; is = refl; kind = rw n.kind h; plain = inr n.contextual; no_super = rw n.kind refl }
 
-kind_first : {c : Category} (r : Record) (rs : List Record) (k : ℕ) → Is r k → Begins c k ≡ true → (k == RAW_KW) ≡ false → (k == IDENT) ≡ false → First c (r ∷ rs)
-kind_first r rs k e h a b = record { r = r; rs = rs; is = refl; kind = rw e.kind_is h; plain = rw (e.kind_is, a, b) refl }
+kind_first : {c : Category} (r : Record) (rs : List Record) (k : ℕ) → Is r k → Begins c k ≡ true → (k == SUPER_KW) ≡ false → (k == IDENT) ≡ false → First c (r ∷ rs)
+kind_first r rs k e h a b = record { r = r; rs = rs; is = refl; kind = rw e.kind_is h; plain = inl (rw e.kind_is b); no_super = rw e.kind_is a }
 
-test_first : {c : Category} (r : Record) (rs : List Record) (test : ℕ → Bool) → test r.kind ≡ true → Begins c r.kind ≡ true → test RAW_KW ≡ false → test IDENT ≡ false → First c (r ∷ rs)
-test_first r rs test e h a b = record { r = r; rs = rs; is = refl; kind = h; plain = plain_kind r test e a b }
+test_first : {c : Category} (r : Record) (rs : List Record) (test : ℕ → Bool) → test r.kind ≡ true → Begins c r.kind ≡ true → test SUPER_KW ≡ false → test IDENT ≡ false → First c (r ∷ rs)
+test_first r rs test e h a b = record { r = r; rs = rs; is = refl; kind = h; plain = inl (differ test r.kind IDENT e b); no_super = differ test r.kind SUPER_KW e a }
 
 -- a category that begins with another one
 also : {c d : Category} {ks : List Record} (js : List Record) (f : First c ks) → Begins d f.r.kind ≡ true → First d (ks ++ js)
-also js f h = record { r = f.r; rs = f.rs ++ js; is = ap (λ (x : List Record). x ++ js) f.is; kind = h; plain = f.plain }
+also js f h = record { r = f.r; rs = f.rs ++ js; is = ap (λ (x : List Record). x ++ js) f.is; kind = h; plain = f.plain; no_super = f.no_super }
 
 alone : {c d : Category} {ks : List Record} (f : First c ks) → Begins d f.r.kind ≡ true → First d ks
-alone f h = record { r = f.r; rs = f.rs; is = f.is; kind = h; plain = f.plain }
+alone f h = record { r = f.r; rs = f.rs; is = f.is; kind = h; plain = f.plain; no_super = f.no_super }
 
 name_atom : (k : ℕ) → (k == IDENT) ≡ true → is_atom k ≡ true
 name_atom k h = rw (eqb-true k IDENT h) refl
@@ -137,7 +145,7 @@ prefix_kind r h = let e = h.among in search rules
 pub prefix_operand : (k : ℕ) → is_prefix k ≡ true → is_operand k ≡ true
 prefix_operand k h = search rules
 
-operand_statement : (k : ℕ) → is_operand k ≡ true → begins_statement k ≡ true
+pub operand_statement : (k : ℕ) → is_operand k ≡ true → begins_statement k ≡ true
 operand_statement k h = search rules
 
 name_field : (k : ℕ) → (k == IDENT) ≡ true → one_of (PUB_KW ∷ IDENT ∷ []) k ≡ true
@@ -155,7 +163,7 @@ arrow_first {os = []} ks w = absurd w.touching
 arrow_first {os = r ∷ os} ks w = kind_first r (os ++ ks) MINUS (record { kind_is = arrow_begins r os w.touching }) refl refl refl
 
 -- a keyword, with the `pub` before it or without
-behind_visibility : {c : Category} {is : List Record} {v : Forest} (a : Record) (ks : List Record) (k : ℕ) → Derives (Maybe Visibility) is v → Is a k → Begins c k ≡ true → (k == RAW_KW) ≡ false → (k == IDENT) ≡ false → Begins c PUB_KW ≡ true → First c (is ++ a ∷ ks)
+behind_visibility : {c : Category} {is : List Record} {v : Forest} (a : Record) (ks : List Record) (k : ℕ) → Derives (Maybe Visibility) is v → Is a k → Begins c k ≡ true → (k == SUPER_KW) ≡ false → (k == IDENT) ≡ false → Begins c PUB_KW ≡ true → First c (is ++ a ∷ ks)
 behind_visibility a ks k maybe_none o e h i p = kind_first a ks k o e h i
 behind_visibility a ks k (maybe_some (visibility_pub {a = z} q)) o e h i p = kind_first z (a ∷ ks) PUB_KW q p refl refl
 
@@ -245,8 +253,9 @@ next_same l f = next_is l f ∙ rw f.is refl
 pub next_begins : {c : Category} {ks : List Record} (l : List Record) → First c ks → Begins c (next_kind (ks ++ l)) ≡ true
 next_begins l f = rw (next_is l f) f.kind
 
-pub next_plain : {c : Category} {ks : List Record} (l : List Record) → First c ks → reads_as RAW_KW (ks ++ l) ≡ false
-next_plain l f = rw f.is f.plain
+-- no `raw` before an operand
+pub next_plain : {ks : List Record} (l : List Record) → First Unary ks → reads_as RAW_KW (ks ++ l) ≡ false
+next_plain l f = rw f.is (not_read RAW_KW f.r (f.rs ++ l) (differ is_operand f.r.kind RAW_KW f.kind refl) refl refl f.plain)
 
 pub is_node : (k : ℕ) (x : Forest) → Single (node none k x)
 is_node k x = record { kind = k; children = x; is = refl }

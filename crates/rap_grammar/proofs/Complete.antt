@@ -1,15 +1,19 @@
 -- What the core grammar derives is what the scripts make, from the left.
-use Rattle.std.proofs.Common.{rules, ◌≡◌, ◌≢◌, ℕ, suc, ◌<◌, ◌≤◌, List, [], ◌∷◌, ◌++◌, Bool, true, false, not, refl, ap, sym, ◌∙◌, arith, ◌==◌, ◌&&◌, nat_lt, if◌then◌else◌, append_assoc, append-nil}
+use Rattle.std.proofs.Common.{rules, ◌≡◌, ◌≢◌, ℕ, suc, ◌<◌, ◌≤◌, List, [], ◌∷◌, ◌++◌, Bool, true, false, not, refl, ap, sym, ◌∙◌, arith, ◌==◌, ◌&&◌, ◌||◌, nat_lt, if◌then◌else◌, append_assoc, append-nil}
 use Rattle.std.proofs.lemmas.Bool.{eqb-true, ne_eqb}
 use Rattle.std.proofs.lemmas.Bool.Decides.{nat_tests}
-use Rattle.rap_base.specs.TokenKind.{LIFETIME_IDENT, EOF, SEMICOLON, IDENT, AMP, STAR, BANG, MINUS, DOT, COLON, COLON2, COMMA, QUESTION, L_PAREN, R_PAREN, L_BRACK, R_BRACK, L_CURLY, R_CURLY, PIPE, R_ANGLE, EQ, L_ANGLE, PLUS, CARET, PERCENT, SLASH, MUT_KW, AS_KW}
+use Rattle.rap_base.specs.TokenKind.{LIFETIME_IDENT, LET_KW, POUND, INNER_DOC_COMMENT, EOF, SEMICOLON, IDENT, AMP, STAR, BANG, MINUS, DOT, COLON, COLON2, COMMA, QUESTION, L_PAREN, R_PAREN, L_BRACK, R_BRACK, L_CURLY, R_CURLY, PIPE, R_ANGLE, EQ, L_ANGLE, PLUS, CARET, PERCENT, SLASH, MUT_KW, AS_KW}
 use Rattle.rap_base.specs.NodeKind.{BIN_EXPR, NAME_REF}
 use Rattle.rap_events.specs.Record.{Record, next_kind, kind_at}
-use Rattle.rap_events.specs.Composite.{width, is_at}
+use Rattle.rap_events.specs.Composite.{width, is_at, begins_with}
 use Rattle.rap_events.specs.Forest.{Forest, none, node, leaf, ◌⧺◌}
 use Rattle.rap_events.specs.Power.{power, power_in, powers}
 use Rattle.rap_rules.specs.Atom.{unrestricted, expr, atom_expr}
-use Rattle.rap_rules.specs.Called.{type_}
+use Rattle.rap_rules.specs.Blocks.{let_type, block_expr}
+use Rattle.rap_rules.specs.Called.{type_, pattern, as_statement}
+use Rattle.rap_rules.specs.Grammar.{name_r}
+use Rattle.rap_rules.specs.Statements.{stmt, macro_stmts}
+use Rattle.rap_rules.specs.TypeParts.{ascription}
 use Rattle.rap_grammar.specs.Derives.{Is, Writes, IsNamedField, Category, Maybe, Many, Elements, Expression, Binary, Unary, Postfix, Arguments, Atom, Path, Segment, Reference, Ty, Name, Bind, Visibility, Annotation, Value, Statement, Contents, Block, Item, Items, Fields, Field, Tuple, TupleField, Params, Param, Return, File, Derives, EndsExpression, EndsType, maybe_none, maybe_some, many_none, many_more, element_last, element_comma, element_more, reference, segment, path_one, path_more, atom_literal, atom_path, atom_paren, postfix_atom, postfix_call, postfix_index, postfix_try, postfix_field, postfix_number, postfix_method, argument_list, unary_prefix, unary_ref, unary_ref_mut, unary_postfix, binary_unary, binary_tighter, binary_operator, expression_binary, expression_assign, type_path, type_ref, type_ref_mut, type_slice, name_given, bind_name, visibility_pub, annotation_type, value_given, statement_let, statement_expression, contents_of, block_of, item_module, item_module_of, item_struct, item_struct_fields, item_struct_tuple, item_function, items_of, fields_of, field_named, tuple_of, tuple_field, params_of, param_typed, return_type, file_of}
 use Rattle.rap_rules.specs.Expressions.{operand_of, right_of, climb, arg_list, postfix_expr, lhs}
 use Rattle.rap_rules.specs.First.{is_operand, is_literal_first, one_of}
@@ -21,10 +25,11 @@ use Rattle.rap_grammar.proofs.Operators.{written_lead, differ, differ_back, is_c
 use Rattle.rap_rules.proofs.Steps.{and_false}
 use Rattle.rap_rules.specs.TokenTree.{starts_macro_call}
 use Rattle.rap_rules.specs.Types.{type_with_bounds_cond}
-use Rattle.rap_grammar.proofs.Begins.{first, literal_kind, is_prefix, prefix_kind, path_named, no_builtin, next_same, next_begins, next_plain, single, begins_type}
+use Rattle.rap_grammar.proofs.Begins.{first, literal_kind, is_prefix, prefix_kind, path_named, no_builtin, next_same, next_begins, next_plain, single, begins_type, begins_statement, operand_statement}
 use Rattle.rap_grammar.proofs.Lists.{Perhaps, missing, there, Repeated, no_more, one_more, Listed, last, last_comma, and_more}
+use Rattle.rap_grammar.proofs.StatementWays.{EndsBind, name_way, bind_way, ascription_way, let_type_way, no_let_type, semicolon_of, let_rest, value_way, no_value_way, let_way, semicolon_way, ends_contents, last_way, contents, contents_on, contents_end, block_way}
 use Rattle.rap_grammar.proofs.TypeWays.{ends_type, type_has_no_arguments, no_bounds_way, with_bounds_way, ref_type_way, ref_mut_type_way, slice_type_way, path_type_way}
-use Rattle.rap_grammar.proofs.Ways.{mode_of, NoArguments, kind_at-drop, Leads, LeadsOut, attributed, Single, none-⧺, segment_way, path_end, path_goes_on, path_way, literal_way, path_expr_way, paren_way, expr_way, from_way, climb_end, climb_on, operand_way, prefix_way, ref_way, ref_mut_way, postfix_end, call_way, index_way, try_way, name_field_way, number_field_way, method_way, arguments, arg_list_way, arguments_end, arguments_on, arguments_last}
+use Rattle.rap_grammar.proofs.Ways.{not_first, mode_of, NoArguments, kind_at-drop, Leads, LeadsOut, attributed, Single, none-⧺, segment_way, path_end, path_goes_on, path_way, literal_way, path_expr_way, paren_way, expr_way, from_way, climb_end, climb_on, operand_way, prefix_way, ref_way, ref_mut_way, postfix_end, call_way, index_way, try_way, name_field_way, number_field_way, method_way, arguments, arg_list_way, arguments_end, arguments_on, arguments_last}
 
 -- no power is above 12
 abbrev none_above : ℕ → List (ℕ × ℕ) → Bool
@@ -135,14 +140,14 @@ Claim Path ks t = (ty : Bool) (b : List Forest) (f : Forest) (l : List Record) (
 Claim Segment ks t = (ty first : Bool) (b : List Forest) (f : Forest) (l : List Record) → NoArguments ty l → Leads (path_segment (mode_of ty) first) b (ks ++ l) f l (f ⧺ t)
 Claim Reference ks t = Unit {0}
 Claim Ty ks t = (bounds : Bool) (b : List Forest) (f : Forest) (l : List Record) → EndsType l → Leads (type_with_bounds_cond bounds) b (ks ++ l) f l (f ⧺ t)
-Claim Name ks t = Unit {0}
-Claim Bind ks t = Unit {0}
+Claim Name ks t = (kept : ℕ → Bool) (b : List Forest) (f : Forest) (l : List Record) → Leads (name_r kept) b (ks ++ l) f l (f ⧺ t)
+Claim Bind ks t = (b : List Forest) (f : Forest) (l : List Record) → EndsBind l → Leads pattern b (ks ++ l) f l (f ⧺ t)
 Claim Visibility ks t = Unit {0}
-Claim Annotation ks t = Unit {0}
-Claim Value ks t = Unit {0}
-Claim Statement ks t = Unit {0}
-Claim Contents ks t = Unit {0}
-Claim Block ks t = Unit {0}
+Claim Annotation ks t = (b : List Forest) (f : Forest) (l : List Record) → EndsType l → Leads ascription b (ks ++ l) f l (f ⧺ t)
+Claim Value ks t = (optional : Bool) (b : List Forest) (f : Forest) (c : Record) (l : List Record) → Is c SEMICOLON → Leads (let_rest (semicolon_of optional)) b (ks ++ c ∷ l) f l (leaf (f ⧺ t) SEMICOLON 1)
+Claim Statement ks t = (optional : Bool) (b : List Forest) (f : Forest) (l : List Record) → Leads (stmt (semicolon_of optional)) b (ks ++ l) f l (f ⧺ t)
+Claim Contents ks t = (optional : Bool) (b : List Forest) (f : Forest) (l : List Record) → next_kind l ≡ ends_contents optional → Leads (contents optional) b (ks ++ l) f l (f ⧺ t)
+Claim Block ks t = (b : List Forest) (f : Forest) (l : List Record) → Leads block_expr b (ks ++ l) f l (f ⧺ t)
 Claim Item ks t = Unit {0}
 Claim Items ks t = Unit {0}
 Claim Fields ks t = Unit {0}
@@ -185,6 +190,74 @@ arguments_way : {ks : List Record} {t : Forest} → Perhaps (λ js u. Derives (E
 unfolding Claim
 arguments_way missing b f c l i = arguments_end i.kind_is
 arguments_way (there (d, x)) b f c l i = arguments_on_way x b f c l i
+
+four_lists : (ks js is : List Record) (z : Record) (l : List Record) → (ks ++ (js ++ (is ++ z ∷ []))) ++ l ≡ ks ++ (js ++ (is ++ z ∷ l))
+four_lists ks js is z l = simp append_assoc
+
+-- what comes next behind the type of a `let`
+abbrev ends_type_of_let : ℕ → Bool
+ends_type_of_let k = one_of (EQ ∷ SEMICOLON ∷ []) k
+
+value_next : {is : List Record} {v : Forest} → Perhaps (Known Value) is v → (c : Record) (l : List Record) → Is c SEMICOLON → ends_type_of_let (next_kind (is ++ c ∷ l)) ≡ true
+value_next missing c l i = rw i.kind_is refl
+value_next (there (value_given o d, x)) c l i = rw o.kind_is refl
+
+-- a colon with a type behind it is no `::`
+pub colon_ends_bind : (a : Record) (rs : List Record) → Is a COLON → begins_type (next_kind rs) ≡ true → EndsBind (a ∷ rs)
+colon_ends_bind a rs o h =
+    let n : begins_with (COLON ∷ []) rs ≡ false = not_first COLON [] rs (differ begins_type (next_kind rs) COLON h refl) in
+    record { next = rw o.kind_is refl; colons = rw (n, and_false a.joint) (and_false _) }
+
+bind_ends : {js : List Record} {u : Forest} → Perhaps (Known Annotation) js u → (l : List Record) → ends_type_of_let (next_kind l) ≡ true → EndsBind (js ++ l)
+bind_ends missing l h = record { next = search rules; colons = no_colon l (differ ends_type_of_let (next_kind l) COLON h refl) }
+bind_ends (there (annotation_type {a = a} {ks = ks} o d, x)) l h = colon_ends_bind a (ks ++ l) o (next_begins l (first d refl))
+
+let_type_before : {js : List Record} {u : Forest} → Perhaps (Known Annotation) js u → (b : List Forest) (f : Forest) (l : List Record) → ends_type_of_let (next_kind l) ≡ true → Leads let_type b (js ++ l) f l (f ⧺ u)
+unfolding Claim
+let_type_before missing b f l h = no_let_type (differ ends_type_of_let (next_kind l) COLON h refl)
+let_type_before (there {ks = js} (d, x)) b f l h =
+    let_type_way (eqb-true (next_kind (js ++ l)) COLON (next_begins l (first d refl))) (x b f l (record { next = search rules }))
+
+let_value_before : {is : List Record} {v : Forest} → Perhaps (Known Value) is v → (optional : Bool) (b : List Forest) (f : Forest) (c : Record) (l : List Record) → Is c SEMICOLON → Leads (let_rest (semicolon_of optional)) b (is ++ c ∷ l) f l (leaf (f ⧺ v) SEMICOLON 1)
+unfolding Claim
+let_value_before missing m b f c l i = no_value_way m i.kind_is
+let_value_before (there (d, x)) m b f c l i = x m b f c l i
+
+-- statements, and on
+statements_before : (optional : Bool) {ks : List Record} {t : Forest} → Repeated (Known Statement) ks t → (b : List Forest) (f : Forest) (l n : List Record) (g : Forest) → Leads (contents optional) b l (f ⧺ t) n g → Leads (contents optional) b (ks ++ l) f n g
+unfolding Claim
+statements_before m no_more b f l n g y = y
+statements_before m (one_more {js = js} {t = t} {u = u} (d, x) e) b f l n g y =
+    rw append_assoc (contents_on m (next_begins (js ++ l) (first d refl)) (x m b f (js ++ l)) (statements_before m e b (f ⧺ t) l n g (rw (⧺-assoc f t u) y)))
+
+quiet_at_end : (optional : Bool) (l : List Record) → next_kind l ≡ ends_contents optional → Quiet l
+quiet_at_end true l h = quiet l (rw h refl)
+quiet_at_end false l h = quiet l (rw h refl)
+
+-- the expression that ends them, if there is one
+value_at_end : (optional : Bool) {ks : List Record} {t : Forest} → Perhaps (Known Expression) ks t → (b : List Forest) (f : Forest) (l : List Record) → next_kind l ≡ ends_contents optional → Leads (contents optional) b (ks ++ l) f l (f ⧺ t)
+unfolding Claim
+value_at_end m missing b f l h = contents_end m h
+value_at_end m (there {ks = js} (d, x)) b f l h =
+    let n = first d refl in
+    let begins = next_begins l n in
+    contents_on m (operand_statement (next_kind (js ++ l)) begins) (rw n.is (last_way m n.kind n.plain n.no_super (rw n.is at (x as_statement b f l (quiet_at_end m l h))) h)) (contents_end m h)
+
+-- what comes next behind the brace of a block
+abbrev begins_contents : ℕ → Bool
+begins_contents k = (k == R_CURLY) || begins_statement k
+
+statement_contents : (k : ℕ) → begins_statement k ≡ true → begins_contents k ≡ true
+statement_contents k h = search rules
+
+contents_next : {ks : List Record} {t : Forest} → Derives Contents ks t → (c : Record) (l : List Record) → Is c R_CURLY → begins_contents (next_kind (ks ++ c ∷ l)) ≡ true
+contents_next (contents_of many_none maybe_none) c l i = rw i.kind_is refl
+contents_next (contents_of many_none (maybe_some {ks = ms} d)) c l i =
+    let k = next_kind (ms ++ c ∷ l) in
+    statement_contents k (operand_statement k (next_begins (c ∷ l) (first d refl)))
+contents_next (contents_of {js = ms} (many_more {ks = ks} {js = js} d e) g) c l i =
+    let all : ((ks ++ js) ++ ms) ++ c ∷ l ≡ ks ++ (js ++ (ms ++ c ∷ l)) = simp append_assoc in
+    rw all (statement_contents (next_kind (ks ++ (js ++ (ms ++ c ∷ l)))) (next_begins (js ++ (ms ++ c ∷ l)) (first d refl)))
 
 claim : {c : Category} {ks : List Record} {t : Forest} → Derives c ks t → Claim c ks t
 unfolding Claim
@@ -269,15 +342,31 @@ claim (type_ref {ks = ks} o d) = λ bounds b f l e.
 claim (type_ref_mut {b = z} o n d) = λ bounds b f l e. ref_mut_type_way bounds o.kind_is n.kind_is (no_bounds_way (claim d false (f ∷ b) (leaf (leaf none AMP 1) MUT_KW 1) l e))
 claim (type_slice {b = z} o d i) = λ bounds b f l e.
     rw append_assoc (slice_type_way bounds o.kind_is (with_bounds_way (claim d true (f ∷ b) (leaf none L_BRACK 1) (z ∷ l) (record { next = rw i.kind_is refl }))) i.kind_is)
-claim (name_given n) = tt
-claim (bind_name d) = tt
+claim (name_given n) = λ kept b f l. name_way kept n.kind
+claim (bind_name (name_given n)) = λ b f l e. bind_way n e
 claim (visibility_pub o) = tt
-claim (annotation_type o d) = tt
-claim (value_given o d) = tt
-claim (statement_let o d e f c) = tt
-claim (statement_expression d o) = tt
-claim (contents_of d e) = tt
-claim (block_of o d c) = tt
+claim (annotation_type {ks = ks} {t = t} o d) = λ b f l e.
+    rw (← (⧺-assoc f (leaf none COLON 1) t)) (ascription_way o.kind_is (differ begins_type (next_kind (ks ++ l)) EQ (next_begins l (first d refl)) refl) (with_bounds_way (claim d true b (leaf f COLON 1) l e)))
+claim (value_given {t = t} o d) = λ m b f c l e.
+    rw (← (⧺-assoc f (leaf none EQ 1) t)) (value_way m o.kind_is (expr_way (claim d unrestricted b (leaf f EQ 1) (c ∷ l) (quiet_is c l SEMICOLON e refl))) e.kind_is)
+claim (statement_let {b = z} {ks = ks} {js = js} {is = is} {t = t} {u = u} o d e g c) = λ m b f l.
+    let y = claim e in
+    let v = claim g in
+    let n = value_next v z l c in
+    let rest = is ++ z ∷ l in
+    rw (four_lists ks js is z l)
+    (let_way m o.kind_is (claim d (f ∷ b) (leaf none LET_KW 1) (js ++ rest) (bind_ends y rest n))
+    (let_type_before y (f ∷ b) (leaf none LET_KW 1 ⧺ t) rest n)
+    (let_value_before v m (f ∷ b) (leaf none LET_KW 1 ⧺ t ⧺ u) z l c))
+claim (statement_expression {a = a} d o) = λ m b f l.
+    let n = first d refl in
+    rw append_assoc (rw n.is (semicolon_way m n.kind n.plain n.no_super (single d) (rw n.is at (claim d as_statement b f (a ∷ l) (quiet_is a l SEMICOLON o refl))) o.kind_is))
+claim (contents_of {js = js} {t = t} {u = u} d e) = λ m b f l h.
+    rw (append_assoc, ← (⧺-assoc f t u)) (statements_before m (claim d) b f (js ++ l) l (f ⧺ t ⧺ u) (value_at_end m (claim e) b (f ⧺ t) l h))
+claim (block_of {b = z} {ks = ks} o d c) = λ b f l.
+    let k = next_kind (ks ++ z ∷ l) in
+    let n = contents_next d z l c in
+    rw append_assoc (block_way o.kind_is (differ begins_contents k INNER_DOC_COMMENT n refl) (differ begins_contents k POUND n refl) (claim d false (none ∷ f ∷ b) (leaf none L_CURLY 1) (z ∷ l) c.kind_is) c.kind_is)
 claim (item_module v o d c) = tt
 claim (item_module_of v o d e) = tt
 claim (item_struct v o d c) = tt
@@ -323,3 +412,22 @@ type_whole d b = with_bounds_way (rw (append-nil, none-⧺) at (claim d true b n
 -- a type is one node
 pub type_single : {ks : List Record} {t : Forest} → Derives Ty ks t → Single t
 type_single d = single d
+
+-- statements that are all there is, with the value at their end or without
+pub contents_whole : {ks : List Record} {t : Forest} → Derives Contents ks t → (b : List Forest) → Leads macro_stmts b ks none [] t
+unfolding Claim
+contents_whole d b = rw (append-nil, none-⧺) at (claim d true b none [] refl)
+
+-- a block that is all there is
+pub block_whole : {ks : List Record} {t : Forest} → Derives Block ks t → (b : List Forest) → Leads block_expr b ks none [] t
+unfolding Claim
+block_whole d b = rw (append-nil, none-⧺) at (claim d b none [])
+
+-- a block, whatever follows it
+pub block_before : {ks : List Record} {t : Forest} → Derives Block ks t → (b : List Forest) (f : Forest) (l : List Record) → Leads block_expr b (ks ++ l) f l (f ⧺ t)
+unfolding Claim
+block_before d b f l = claim d b f l
+
+-- a block is one node
+pub block_single : {ks : List Record} {t : Forest} → Derives Block ks t → Single t
+block_single d = single d

@@ -8,6 +8,7 @@ pub mod Operators
 pub mod Outputs
 pub mod Stating
 pub mod TopTree
+pub mod StatementWays
 pub mod TypeWays
 pub mod Unique
 pub mod Ways

@@ -41,7 +41,7 @@ pub record Single (t : Forest) : Type 0 where
   pub is : t ≡ node none kind children
 
 -- a node around the last node alone
-precedes_one : {s : Script Phrase} {b : List Forest} {rs : List Record} {t : Forest} {q : Spot} {v : Outcome} (f : Forest) → Single t →
+pub precedes_one : {s : Script Phrase} {b : List Forest} {rs : List Record} {t : Forest} {q : Spot} {v : Outcome} (f : Forest) → Single t →
     Runs script_of s (record { rest = rs; forest = t; below = f ∷ b }) q v → Runs script_of (precede s) (record { rest = rs; forest = f ⧺ t; below = b }) q v
 unfolding but_last
 precedes_one f h x = precedes (rw h.is (rw h.is at x))
@@ -159,7 +159,7 @@ extended_one : (f x : Forest) → Single x → node f (last_kind x) (but_last x 
 unfolding but_last last_children
 extended_one f x s = rw s.is (ap (λ (c : Forest). node f s.kind c) (none-⧺ s.children))
 
-differ_attributes : (k : ℕ) → is_operand k ≡ true → is_outer_attr_first k ≡ false
+pub differ_attributes : (k : ℕ) → is_operand k ≡ true → is_outer_attr_first k ≡ false
 differ_attributes k o = rw (differ_back is_operand k POUND o refl, differ_back is_operand k OUTER_DOC_COMMENT o refl) refl
 
 pub from_way : (r : Restrictions) (bp : ℕ) {b : List Forest} {rs m l : List Record} {f x g : Forest} → is_operand (next_kind rs) ≡ true → Single x → Leads (lhs r) (f ∷ b) rs none m x → Leads (climb r bp) b m (f ⧺ x) l g → LeadsOut (attributed r bp) b rs f l g
@@ -255,7 +255,7 @@ kind_at-drop [] (suc n) = refl
 kind_at-drop (r ∷ rs) zero = refl
 kind_at-drop (r ∷ rs) (suc n) = kind_at-drop rs n
 
-kind_at_first : (rs : List Record) → kind_at rs 0 ≡ next_kind rs
+pub kind_at_first : (rs : List Record) → kind_at rs 0 ≡ next_kind rs
 kind_at_first [] = refl
 kind_at_first (r ∷ rs) = refl
 
