@@ -413,6 +413,15 @@ type_whole d b = with_bounds_way (rw (append-nil, none-⧺) at (claim d true b n
 pub type_single : {ks : List Record} {t : Forest} → Derives Ty ks t → Single t
 type_single d = single d
 
+-- a type before what can follow it, with bounds and without
+pub type_before : {ks : List Record} {t : Forest} → Derives Ty ks t → (b : List Forest) (f : Forest) (l : List Record) → EndsType l → Leads type_ b (ks ++ l) f l (f ⧺ t)
+unfolding Claim
+type_before d b f l e = with_bounds_way (claim d true b f l e)
+
+pub type_before_no_bounds : {ks : List Record} {t : Forest} → Derives Ty ks t → (b : List Forest) (f : Forest) (l : List Record) → EndsType l → Leads type_no_bounds b (ks ++ l) f l (f ⧺ t)
+unfolding Claim
+type_before_no_bounds d b f l e = no_bounds_way (claim d false b f l e)
+
 -- statements that are all there is, with the value at their end or without
 pub contents_whole : {ks : List Record} {t : Forest} → Derives Contents ks t → (b : List Forest) → Leads macro_stmts b ks none [] t
 unfolding Claim

@@ -1,9 +1,9 @@
 -- How the scripts of items run over tokens that are known.
 use Rattle.std.proofs.Common.{◌≡◌, ℕ, List, [], ◌∷◌, Bool, true, false, refl, ◌==◌, ◌&&◌, rules, codes, drop}
-use Rattle.rap_base.specs.TokenKind.{EOF, IDENT, L_CURLY, R_CURLY, L_PAREN, L_ANGLE, SEMICOLON, COLON, COMMA, EQ, POUND, BANG, PUB_KW, MOD_KW, STRUCT_KW, FN_KW, WHERE_KW, INNER_DOC_COMMENT, R_PAREN, AMP, THIN_ARROW, L_BRACK, OUTER_DOC_COMMENT, MUT_KW, MINUS, R_ANGLE, DOT}
-use Rattle.rap_base.specs.NodeKind.{MODULE, STRUCT, FN, NAME, VISIBILITY, ITEM_LIST, RECORD_FIELD_LIST, RECORD_FIELD, TUPLE_FIELD_LIST, TUPLE_FIELD, PARAM_LIST, PARAM, RET_TYPE}
+use Rattle.rap_base.specs.TokenKind.{EOF, IDENT, L_CURLY, R_CURLY, L_PAREN, L_ANGLE, SEMICOLON, COLON, COMMA, EQ, POUND, BANG, PUB_KW, MOD_KW, STRUCT_KW, FN_KW, WHERE_KW, INNER_DOC_COMMENT, R_PAREN, AMP, THIN_ARROW, L_BRACK, OUTER_DOC_COMMENT, MUT_KW, MINUS, R_ANGLE, DOT, COLON2}
+use Rattle.rap_base.specs.NodeKind.{MODULE, STRUCT, FN, NAME, VISIBILITY, ITEM_LIST, RECORD_FIELD_LIST, RECORD_FIELD, TUPLE_FIELD_LIST, TUPLE_FIELD, PARAM_LIST, PARAM, RET_TYPE, IDENT_PAT}
 use Rattle.rap_events.specs.Record.{Record, next_kind}
-use Rattle.rap_events.specs.Composite.{is_at}
+use Rattle.rap_events.specs.Composite.{is_at, begins_with}
 use Rattle.rap_events.specs.Forest.{Forest, none, node, leaf}
 use Rattle.rap_rules.specs.Adt.{strukt, struct_or_union, fields, struct_fields, tuple_fields, tuple_field, record_field, tuple_field_list, record_fields, record_field_list, restricted_tuple_field, field_or_block, visible_field, comma_in_braces, restricted_field, opt_mut_restriction, is_tuple_field_first, opt_unsafe, typed_field, named_field, opt_value}
 use Rattle.rap_rules.specs.Attributes.{inner_attrs, outer_attrs}
@@ -15,7 +15,8 @@ use Rattle.rap_rules.specs.Grammar.{name, name_r, opt_ret_type, elements, opt_no
 use Rattle.rap_rules.specs.Items.{items, mod_contents, item_list, mod_body, mod_item, opt_item_without_modifiers, opt_item_with_modifiers, opt_modified_item, opt_item, after_item, marked_item, item_or_macro, ends_items}
 use Rattle.rap_rules.specs.Knot.{script_of}
 use Rattle.rap_rules.specs.Modifiers.{modifiers, opt_impl_restriction, qualifiers, safety, opt_abi, auto_or_default, opt_default, modifier, modifier_as}
-use Rattle.rap_rules.specs.Params.{param_list_fn_def, fn_def_params, marked_param, first_param, list_, opt_self_param, fn_def_param, param_type, variadic_param, after_param, params, attributed_param}
+use Rattle.rap_rules.specs.Patterns.{pattern_r, pattern_single_r, atom_pat, ident_pat, binding, at_pattern, range_op}
+use Rattle.rap_rules.specs.Params.{param_list_fn_def, fn_def_params, marked_param, first_param, list_, opt_self_param, fn_def_param, param_type, variadic_param, after_param, params, attributed_param, is_self_value}
 use Rattle.rap_rules.specs.Phrase.{Phrase}
 use Rattle.rap_rules.specs.Script.{Script, Outcome, Spot, nothing, something, again, Runs, gives, passes, fails, takes, starts, finishes, abandons, follows, obeys, turns, stops}
 use Rattle.rap_rules.specs.TypeParts.{ascription}
@@ -23,8 +24,9 @@ use Rattle.rap_rules.specs.declared.arguments.Flavor.TheVariants as flavor
 use Rattle.rap_rules.specs.Visibility.{opt_visibility, opt_visibility_inner}
 use Rattle.rap_rules.specs.Words.{if_some}
 use Rattle.rap_rules.proofs.Steps.{and_false}
+use Rattle.rap_grammar.specs.Derives.{IsName}
 use Rattle.rap_grammar.proofs.Operators.{differ, differ_back}
-use Rattle.rap_grammar.proofs.Ways.{Leads, no_attributes, not_first}
+use Rattle.rap_grammar.proofs.Ways.{Leads, no_attributes, not_first, kind_at_first}
 
 -- the same with any outcome
 abbrev pub Goes : Outcome → Script Phrase → List Forest → List Record → Forest → List Record → Forest → Type 0
@@ -40,6 +42,10 @@ Ends s b f rs x l g =
 pub no_attribute : (test : ℕ → Bool) (k : ℕ) → test k ≡ true → test POUND ≡ false → test OUTER_DOC_COMMENT ≡ false →
     is_outer_attr_first k ≡ false
 no_attribute test k h p d = rw (differ_back test k POUND h p, differ_back test k OUTER_DOC_COMMENT h d) refl
+
+abbrev pub EndsNothing : Script Phrase → List Forest → Forest → List Record → Forest → List Record → Forest → Type 0
+EndsNothing s b f rs x l g =
+    Runs script_of s (record { rest = rs; forest = x; below = f ∷ b }) (record { rest = l; forest = g; below = b }) nothing
 
 -- a name that is given
 pub given_name_way : (kept : ℕ → Bool) {b : List Forest} {r : Record} {l : List Record} {f : Forest} → r.kind ≡ IDENT →
@@ -64,13 +70,19 @@ no_pub_way t e = fails e gives
 abbrev pub no_semicolon : List Record → Type 0
 no_semicolon l = (next_kind l == SEMICOLON) ≡ false
 
+-- an item alone, where no semicolon follows it
+pub item_way : (stop ext : Bool) {b : List Forest} {rs l : List Record} {f g : Forest} →
+    is_outer_attr_first (next_kind rs) ≡ false → Ends (opt_item ext) b f rs none l g → no_semicolon l →
+    Leads (item_or_macro stop ext) b rs f l g
+unfolding item_or_macro marked_item after_item
+item_way stop ext n x s = starts (follows (no_attributes n) (follows x (fails s gives)))
+
 -- an item whose keyword comes behind its visibility alone
-pub unmodified_way : (stop ext : Bool) (v : Outcome) {b : List Forest} {rs m l : List Record} {f x g : Forest} →
-    is_outer_attr_first (next_kind rs) ≡ false → Goes v (opt_visibility false) (f ∷ b) rs none m x →
-    Ends opt_item_without_modifiers b f m x l g → no_semicolon l → Leads (item_or_macro stop ext) b rs f l g
-unfolding item_or_macro marked_item opt_item after_item
-unmodified_way stop ext v n x y s =
-    starts (follows (no_attributes n) (follows (follows x (follows y gives)) (fails s gives)))
+pub unmodified_way : (ext : Bool) (v : Outcome) {b : List Forest} {rs m l : List Record} {f x g : Forest} →
+    Goes v (opt_visibility false) (f ∷ b) rs none m x → Ends opt_item_without_modifiers b f m x l g →
+    Ends (opt_item ext) b f rs none l g
+unfolding opt_item
+unmodified_way ext v x y = follows x (follows y gives)
 
 pub mod_way : {b : List Forest} {a n : Record} {rs l : List Record} {f x y : Forest} → a.kind ≡ MOD_KW → n.kind ≡ IDENT →
     Leads mod_body (f ∷ b) rs (node (leaf x MOD_KW 1) NAME (leaf none IDENT 1)) l y →
@@ -198,14 +210,13 @@ record_fields_last {rs = rs} n x c =
     (record_fields_end c)
 
 pub record_field_way : (v : Outcome) {b : List Forest} {rs m l : List Record} {n c : Record} {f x y : Forest} →
-    begins_field (next_kind rs) ≡ true → Goes v (opt_visibility false) (f ∷ b) rs none (n ∷ c ∷ m) x →
+    is_outer_attr_first (next_kind rs) ≡ false → Goes v (opt_visibility false) (f ∷ b) rs none (n ∷ c ∷ m) x →
     n.kind ≡ IDENT → c.kind ≡ COLON →
     Leads type_ (f ∷ b) m (leaf (node x NAME (leaf none IDENT 1)) COLON 1) l y → (next_kind l == EQ) ≡ false →
     Leads record_field b rs f l (node f RECORD_FIELD y)
 unfolding record_field visible_field restricted_field opt_mut_restriction opt_unsafe named_field opt_value name
-record_field_way v {rs = rs} h x n c y e =
-    let k = next_kind rs in
-    starts (follows (no_attributes (no_attribute begins_field k h refl refl))
+record_field_way v h x n c y e =
+    starts (follows (no_attributes h)
     (follows x (follows (fails (rw n refl) gives) (follows (fails (rw n refl) gives)
     (passes (rw n refl) (follows (given_name_way _ n) (passes (rw c refl) (takes (rw c refl)
     (follows y (follows (fails e gives) (finishes gives)))))))))))
@@ -281,18 +292,15 @@ no_unmodified e =
     fails (rw e refl) (fails (rw e refl) (fails (rw e refl) (fails (rw e refl) (fails (rw e refl)
     (fails (rw e refl) (fails (rw e refl) (fails (rw e refl) (fails (rw e refl) (fails (rw e refl) gives)))))))))
 
-pub fn_way : (stop ext : Bool) (v : Outcome) {b : List Forest} {rs m l : List Record} {a n : Record} {f x y z : Forest} →
-    is_outer_attr_first (next_kind rs) ≡ false → Goes v (opt_visibility false) (f ∷ b) rs none (a ∷ n ∷ m) x →
-    a.kind ≡ FN_KW → n.kind ≡ IDENT → (next_kind m == L_ANGLE) ≡ false →
-    {k : List Record} → Leads signature (f ∷ b) m (node (leaf x FN_KW 1) NAME (leaf none IDENT 1)) k y →
-    Leads block_expr (f ∷ b) k y l z → next_kind k ≡ L_CURLY → no_semicolon l →
-    Leads (item_or_macro stop ext) b rs f l (node f FN z)
-unfolding item_or_macro marked_item opt_item after_item opt_modified_item opt_item_with_modifiers fn_ fn_body
-fn_way stop ext v h x e n g y z c s =
-    starts (follows (no_attributes h) (follows (follows x (follows (no_unmodified e)
-    (follows (no_modifiers ext e) (follows (passes (rw e refl) (takes (rw e refl)
+pub fn_way : (ext : Bool) (v : Outcome) {b : List Forest} {rs m k l : List Record} {a n : Record} {f x y z : Forest} →
+    Goes v (opt_visibility false) (f ∷ b) rs none (a ∷ n ∷ m) x → a.kind ≡ FN_KW → n.kind ≡ IDENT →
+    (next_kind m == L_ANGLE) ≡ false → Leads signature (f ∷ b) m (node (leaf x FN_KW 1) NAME (leaf none IDENT 1)) k y →
+    next_kind k ≡ L_CURLY → Leads block_expr (f ∷ b) k y l z → Ends (opt_item ext) b f rs none l (node f FN z)
+unfolding opt_item opt_modified_item opt_item_with_modifiers fn_ fn_body
+fn_way ext v x e n g y c z =
+    follows x (follows (no_unmodified e) (follows (no_modifiers ext e) (follows (passes (rw e refl) (takes (rw e refl)
     (follows (given_name_way _ n) (follows (no_generics g) (follows y (follows (fails (rw c refl) z) (finishes gives)))))))
-    gives)))) (fails s gives)))
+    gives)))
 
 -- the parameters and what a function gives back
 pub signature_way : {b : List Forest} {rs m l : List Record} {f x g : Forest} → next_kind rs ≡ L_PAREN →
@@ -343,7 +351,7 @@ param_way {rs = rs} {m = m} e x c t y d =
 pub param_last_way : {b : List Forest} {rs m k : List Record} {c d : Record} {f x y : Forest} → next_kind rs ≡ IDENT →
     Leads pattern (f ∷ b) rs none (c ∷ m) x → c.kind ≡ COLON → begins_type (next_kind m) ≡ true →
     Leads type_ (f ∷ b) m (leaf x COLON 1) (d ∷ k) y → d.kind ≡ R_PAREN →
-    Runs script_of (marked_param flavor.FnDef) (record { rest = rs; forest = none; below = f ∷ b }) (record { rest = d ∷ k; forest = node f PARAM y; below = b }) nothing
+    EndsNothing (marked_param flavor.FnDef) b f rs none (d ∷ k) (node f PARAM y)
 unfolding marked_param fn_def_param param_type variadic_param ascription after_param
 param_last_way {rs = rs} {m = m} e x c t y d =
     let k = next_kind m in
@@ -353,12 +361,16 @@ param_last_way {rs = rs} {m = m} e x c t y d =
     (finishes (fails (rw d refl) (fails (rw d refl) gives))))
 
 -- a first parameter, and a later one
-pub first_param_way : {v : Outcome} {b : List Forest} {r : Record} {rs l : List Record} {f g : Forest} → r.kind ≡ IDENT →
-    Runs script_of (marked_param flavor.FnDef) (record { rest = r ∷ rs; forest = none; below = f ∷ b }) (record { rest = l; forest = g; below = b }) v →
-    Goes v first_param b (r ∷ rs) f l g
+no_self : (rs : List Record) → next_kind rs ≡ IDENT → is_self_value rs ≡ false
+no_self [] e = refl
+no_self (r ∷ rs) e = rw e refl
+
+pub first_param_way : {v : Outcome} {b : List Forest} {rs l : List Record} {f g : Forest} → next_kind rs ≡ IDENT →
+    Runs script_of (marked_param flavor.FnDef) (record { rest = rs; forest = none; below = f ∷ b }) (record { rest = l; forest = g; below = b }) v →
+    Goes v first_param b rs f l g
 unfolding first_param opt_self_param
-first_param_way e x =
-    starts (follows (no_attributes (rw e refl)) (follows (fails (rw e refl) (fails (rw e refl) gives))
+first_param_way {rs = rs} e x =
+    starts (follows (no_attributes (rw e refl)) (follows (fails (no_self rs e) (fails (rw e refl) gives))
     (fails (rw e refl) (fails (rw e refl) x))))
 
 pub params_end : {b : List Forest} {c : Record} {l : List Record} {f : Forest} → c.kind ≡ R_PAREN →
@@ -374,7 +386,7 @@ params_on e x y =
     turns (fails (rw e refl) (fails (rw e refl) (follows (starts (follows (no_attributes (rw e refl)) x)) gives))) y
 
 pub params_last : {b : List Forest} {rs l : List Record} {f g : Forest} → next_kind rs ≡ IDENT →
-    Runs script_of (marked_param flavor.FnDef) (record { rest = rs; forest = none; below = f ∷ b }) (record { rest = l; forest = g; below = b }) nothing →
+    EndsNothing (marked_param flavor.FnDef) b f rs none l g →
     Leads (params flavor.FnDef) b rs f l g
 unfolding params attributed_param
 params_last e x =
