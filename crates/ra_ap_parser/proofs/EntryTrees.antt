@@ -1,15 +1,15 @@
 -- What the core grammar derives comes out of its entry as it was derived.
-use Rattle.std.proofs.Common.{◌≡◌, List}
+use Rattle.std.proofs.Common.{◌≡◌, List, sym, ◌∙◌}
 use Rattle.rap_events.specs.Record.{Record}
 use Rattle.rap_events.specs.Forest.{Forest, message_count}
-use Rattle.rap_grammar.proofs.Outputs.{derived, derived_clean, derived_type, derived_type_clean, one_output, one_root}
+use Rattle.rap_grammar.proofs.Outputs.{derived, derived_clean, derived_type, derived_type_clean, derived_statements, derived_statements_clean, one_output, one_root}
 use Rattle.ra_ap_parser.specs.EntryScript.{IsOutputOf, IsCore}
 use Rattle.ra_ap_parser.specs.declared.entry_point.TopEntryPoint.{TopEntryPoint}
 use Rattle.ra_ap_parser.specs.declared.entry_point.TopEntryPoint.TheVariants as entry
 
 pub core_tree : (e : TopEntryPoint) (input : List Record) {tree output : Forest} → IsOutputOf e input output → IsCore e input tree → (output ≡ tree) × (message_count output ≡ 0)
 core_tree entry.SourceFile input i d = absurd d
-core_tree entry.MacroStmts input i d = absurd d
+core_tree entry.MacroStmts input i d = (derived_statements i d.1 ∙ sym d.2, derived_statements_clean i d.1)
 core_tree entry.MacroItems input i d = absurd d
 core_tree entry.Pattern input i d = absurd d
 core_tree entry.Ty input i d = (derived_type i d, derived_type_clean i d)

@@ -18,5 +18,7 @@ pub data Repeated (Known : List Record → Forest → Type 0) : List Record → 
 -- elements with commas between them, of each of which this is known
 pub data Listed (Known : List Record → Forest → Type 0) : List Record → Forest → Type 0 where
   last : {ks : List Record} {t : Forest} → Known ks t → Listed Known ks t
-  last_comma : {a : Record} {ks : List Record} {t : Forest} → Known ks t → Is a COMMA → Listed Known (ks ++ a ∷ []) (leaf t COMMA 1)
-  and_more : {a : Record} {ks js : List Record} {t u : Forest} → Known ks t → Is a COMMA → Listed Known js u → Listed Known (ks ++ a ∷ js) (leaf t COMMA 1 ⧺ u)
+  last_comma : {a : Record} {ks : List Record} {t : Forest} → Known ks t → Is a COMMA →
+      Listed Known (ks ++ a ∷ []) (leaf t COMMA 1)
+  and_more : {a : Record} {ks js : List Record} {t u : Forest} → Known ks t → Is a COMMA → Listed Known js u →
+      Listed Known (ks ++ a ∷ js) (leaf t COMMA 1 ⧺ u)
