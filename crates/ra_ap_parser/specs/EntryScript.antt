@@ -5,7 +5,7 @@ use Rattle.rap_events.specs.Record.{Record}
 use Rattle.rap_events.specs.Forest.{Forest, none, node}
 use Rattle.rap_rules.specs.Atom.{expr}
 use Rattle.rap_rules.specs.Called.{pattern, type_, inner_meta}
-use Rattle.rap_grammar.specs.Derives.{Derives, Expression, Ty, Contents}
+use Rattle.rap_grammar.specs.Derives.{Derives, Expression, Ty, Contents, Many, Item, File}
 use Rattle.rap_grammar.specs.Top.{IsTopOf, IsRootOf}
 use Rattle.rap_rules.specs.Items.{source_file, mod_contents}
 use Rattle.rap_rules.specs.Statements.{macro_stmts}
@@ -25,11 +25,11 @@ IsOutputOf entry.Expr input output = IsTopOf expr input output
 IsOutputOf entry.MetaItem input output = IsTopOf inner_meta input output
 
 -- The whole input is derived by the core grammar, with this tree. Under `MacroStmts` it is what may stand in the braces of
--- a block, in the node of the entry.
+-- a block, and under `MacroItems` any number of items, in the node of the entry.
 abbrev pub IsCore : TopEntryPoint → List Record → Forest → Type 0
-IsCore entry.SourceFile input tree = ⊥
+IsCore entry.SourceFile input tree = Derives File input tree
 IsCore entry.MacroStmts input tree = (contents : Forest) × Derives Contents input contents × (tree ≡ node none MACRO_STMTS contents)
-IsCore entry.MacroItems input tree = ⊥
+IsCore entry.MacroItems input tree = (items : Forest) × Derives (Many Item) input items × (tree ≡ node none MACRO_ITEMS items)
 IsCore entry.Pattern input tree = ⊥
 IsCore entry.Ty input tree = Derives Ty input tree
 IsCore entry.Expr input tree = Derives Expression input tree

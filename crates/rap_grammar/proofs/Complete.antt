@@ -10,7 +10,7 @@ use Rattle.rap_events.specs.Forest.{Forest, none, node, leaf, ◌⧺◌}
 use Rattle.rap_events.specs.Power.{power, power_in, powers}
 use Rattle.rap_rules.specs.Atom.{unrestricted, expr, atom_expr}
 use Rattle.rap_rules.specs.Blocks.{let_type, block_expr}
-use Rattle.rap_rules.specs.Called.{type_, pattern, as_statement}
+use Rattle.rap_rules.specs.Called.{type_, type_no_bounds, pattern, as_statement}
 use Rattle.rap_rules.specs.Grammar.{name_r}
 use Rattle.rap_rules.specs.Statements.{stmt, macro_stmts}
 use Rattle.rap_rules.specs.TypeParts.{ascription}

@@ -4,9 +4,10 @@ use Rattle.rap_base.specs.TokenKind.{AMP, EQ, COLON, COLON2, COMMA, DOT, THIN_AR
 use Rattle.rap_events.specs.Record.{Record}
 use Rattle.rap_events.specs.Composite.{parts, width, width_of}
 use Rattle.rap_events.specs.Forest.{Forest, none, node, leaf, message, split, ◌⧺◌, message_count, used, ends_in_dot, one_tree}
-use Rattle.rap_grammar.specs.Derives.{Touching, tokens_of, Writes, Derives, Category, Expression, Ty, Contents, Block, maybe_none, maybe_some, many_none, many_more, element_last, element_comma, element_more, reference, segment, path_one, path_more, atom_literal, atom_path, atom_paren, postfix_atom, postfix_call, postfix_index, postfix_try, postfix_field, postfix_number, postfix_method, argument_list, unary_prefix, unary_ref, unary_ref_mut, unary_postfix, binary_unary, binary_tighter, binary_operator, expression_binary, expression_assign, type_path, type_ref, type_ref_mut, type_slice, name_given, bind_name, visibility_pub, annotation_type, value_given, statement_let, statement_expression, contents_of, block_of, item_module, item_module_of, item_struct, item_struct_fields, item_struct_tuple, item_function, items_of, fields_of, field_named, tuple_of, tuple_field, params_of, param_typed, return_type, file_of}
+use Rattle.rap_grammar.specs.Derives.{Touching, tokens_of, Writes, Derives, Category, Expression, Ty, Contents, Block, maybe_none, maybe_some, many_none, many_more, element_last, element_comma, element_more, reference, segment, path_one, path_more, atom_literal, atom_path, atom_paren, postfix_atom, postfix_call, postfix_index, postfix_try, postfix_field, postfix_number, postfix_method, argument_list, unary_prefix, unary_ref, unary_ref_mut, unary_postfix, binary_unary, binary_tighter, binary_operator, expression_binary, expression_assign, type_path, type_ref, type_ref_mut, type_slice, name_given, bind_name, visibility_pub, annotation_type, value_given, statement_let, statement_expression, contents_of, block_of, Many, Item, item_module, item_module_of, item_struct, item_struct_fields, item_struct_tuple, item_function, items_of, fields_of, field_named, tuple_of, tuple_field, params_of, param_typed, return_type, file_of}
 use Rattle.rap_rules.specs.Script.{Spot}
 use Rattle.rap_grammar.proofs.Complete.{expression_whole, expression_single, type_whole, type_single, contents_whole, block_whole, block_single}
+use Rattle.rap_grammar.proofs.Items.{items_whole}
 use Rattle.rap_rules.proofs.OneEnd.{one_end}
 use Rattle.rap_grammar.proofs.Ways.{Single}
 
@@ -136,6 +137,9 @@ at_most_one_type d e = let s = one_end (type_whole d []) (type_whole e []) in ap
 
 pub at_most_one_contents : {ks : List Record} {t u : Forest} → Derives Contents ks t → Derives Contents ks u → t ≡ u
 at_most_one_contents d e = let s = one_end (contents_whole d []) (contents_whole e []) in ap (λ (p : Spot). p.forest) s.spot
+
+pub at_most_one_items : {ks : List Record} {t u : Forest} → Derives (Many Item) ks t → Derives (Many Item) ks u → t ≡ u
+at_most_one_items d e = let s = one_end (items_whole d []) (items_whole e []) in ap (λ (p : Spot). p.forest) s.spot
 
 pub at_most_one_block : {ks : List Record} {t u : Forest} → Derives Block ks t → Derives Block ks u → t ≡ u
 at_most_one_block d e = let s = one_end (block_whole d []) (block_whole e []) in ap (λ (p : Spot). p.forest) s.spot
