@@ -1,8 +1,8 @@
 -- What the core grammar derives comes out of its entry as it was derived.
-use Rattle.std.proofs.Common.{◌≡◌, List}
+use Rattle.std.proofs.Common.{◌≡◌, List, sym, ◌∙◌}
 use Rattle.rap_events.specs.Record.{Record}
 use Rattle.rap_events.specs.Forest.{Forest, message_count}
-use Rattle.rap_grammar.proofs.Outputs.{derived, derived_clean, derived_type, derived_type_clean, one_output, one_root}
+use Rattle.rap_grammar.proofs.Outputs.{derived, derived_clean, derived_type, derived_type_clean, derived_statements, derived_statements_clean, derived_file, derived_file_clean, derived_items, derived_items_clean, one_output, one_root}
 use Rattle.rap_grammar.proofs.Parts.{one_prefix}
 use Rattle.ra_ap_parser.specs.EntryScript.{IsOutputOf, IsCore, IsPrefixOutputOf}
 use Rattle.ra_ap_parser.specs.declared.entry_point.PrefixEntryPoint.{PrefixEntryPoint}
@@ -11,9 +11,9 @@ use Rattle.ra_ap_parser.specs.declared.entry_point.TopEntryPoint.{TopEntryPoint}
 use Rattle.ra_ap_parser.specs.declared.entry_point.TopEntryPoint.TheVariants as entry
 
 pub core_tree : (e : TopEntryPoint) (input : List Record) {tree output : Forest} → IsOutputOf e input output → IsCore e input tree → (output ≡ tree) × (message_count output ≡ 0)
-core_tree entry.SourceFile input i d = absurd d
-core_tree entry.MacroStmts input i d = absurd d
-core_tree entry.MacroItems input i d = absurd d
+core_tree entry.SourceFile input i d = (derived_file i d, derived_file_clean i d)
+core_tree entry.MacroStmts input i d = (derived_statements i d.1 ∙ sym d.2, derived_statements_clean i d.1)
+core_tree entry.MacroItems input i d = (derived_items i d.1 ∙ sym d.2, derived_items_clean i d.1)
 core_tree entry.Pattern input i d = absurd d
 core_tree entry.Ty input i d = (derived_type i d, derived_type_clean i d)
 core_tree entry.Expr input i d = (derived i d, derived_clean i d)

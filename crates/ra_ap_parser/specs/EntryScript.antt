@@ -1,11 +1,11 @@
 -- What a top entry makes of its input.
-use Rattle.std.specs.Prelude.{List, true, false}
+use Rattle.std.specs.Prelude.{◌≡◌, List, true, false}
 use Rattle.rap_base.specs.NodeKind.{SOURCE_FILE, MACRO_STMTS, MACRO_ITEMS}
 use Rattle.rap_events.specs.Record.{Record}
-use Rattle.rap_events.specs.Forest.{Forest}
+use Rattle.rap_events.specs.Forest.{Forest, none, node}
 use Rattle.rap_rules.specs.Atom.{expr}
 use Rattle.rap_rules.specs.Called.{pattern, pattern_single, type_, inner_meta}
-use Rattle.rap_grammar.specs.Derives.{Derives, Expression, Ty}
+use Rattle.rap_grammar.specs.Derives.{Derives, Expression, Ty, Contents, Many, Item, File}
 use Rattle.rap_grammar.specs.Top.{IsTopOf, IsRootOf}
 use Rattle.rap_rules.specs.Items.{source_file, mod_contents, item_or_macro}
 use Rattle.rap_rules.specs.Statements.{macro_stmts, stmt}
@@ -31,11 +31,12 @@ IsOutputOf entry.Ty input output = IsTopOf type_ input output
 IsOutputOf entry.Expr input output = IsTopOf expr input output
 IsOutputOf entry.MetaItem input output = IsTopOf inner_meta input output
 
--- the whole input is derived by the core grammar, with this tree
+-- The whole input is derived by the core grammar, with this tree. Under `MacroStmts` it is what may stand in the braces of
+-- a block, and under `MacroItems` any number of items, in the node of the entry.
 abbrev pub IsCore : TopEntryPoint → List Record → Forest → Type 0
-IsCore entry.SourceFile input tree = ⊥
-IsCore entry.MacroStmts input tree = ⊥
-IsCore entry.MacroItems input tree = ⊥
+IsCore entry.SourceFile input tree = Derives File input tree
+IsCore entry.MacroStmts input tree = (contents : Forest) × Derives Contents input contents × (tree ≡ node none MACRO_STMTS contents)
+IsCore entry.MacroItems input tree = (items : Forest) × Derives (Many Item) input items × (tree ≡ node none MACRO_ITEMS items)
 IsCore entry.Pattern input tree = ⊥
 IsCore entry.Ty input tree = Derives Ty input tree
 IsCore entry.Expr input tree = Derives Expression input tree

@@ -83,8 +83,10 @@ impl TopEntryPoint {
     ///
     /// The error is `TooManyTokens` exactly for an input of more than [`MAX_TOKENS`] tokens, which is decided
     /// first, and else `NoMemory` where a growth was refused. The tree is that of the entry's script, and no other. An
-    /// input that the core grammar derives, under `Expr` as an expression and under `Ty` as a type, gives its
-    /// derivation's tree, without a message.
+    /// input that the core grammar derives, under `SourceFile` as a file, under `Expr` as an expression and under `Ty` as
+    /// a type, gives its derivation's tree, without a message. So does one that it derives as any number of items, under
+    /// `MacroItems`, where the tree is a `MACRO_ITEMS` of them; and as what stands in the braces of a block, under
+    /// `MacroStmts`, where it is a `MACRO_STMTS` of the statements, and of the value behind them if there is one.
     pub fn parse(&self, alloc: Global, input: &Input) -> Result<Output, ParseFault>
         ensures tree { IfOk result (IsTreeOver input.now) }
         ensures script { IfOk result (IsOutputOf self.now input.now) }

@@ -1,208 +1,35 @@
 -- What the core grammar derives is what the scripts make, from the left.
-use Rattle.std.proofs.Common.{rules, ◌≡◌, ◌≢◌, inl, inr, ℕ, suc, ◌<◌, ◌≤◌, List, [], ◌∷◌, ◌++◌, Bool, true, false, not, refl, ap, sym, ◌∙◌, arith, ◌==◌, ◌&&◌, nat_lt, if◌then◌else◌, append_assoc, append-nil}
+use Rattle.std.proofs.Common.{rules, ◌≡◌, ◌≢◌, ℕ, suc, ◌<◌, ◌≤◌, List, [], ◌∷◌, ◌++◌, Bool, true, false, not, refl, ap, sym, ◌∙◌, arith, ◌==◌, ◌&&◌, ◌||◌, nat_lt, if◌then◌else◌, append_assoc, append-nil}
 use Rattle.std.proofs.lemmas.Bool.{eqb-true, ne_eqb}
 use Rattle.std.proofs.lemmas.Bool.Decides.{nat_tests}
-use Rattle.rap_base.specs.TokenKind.{LIFETIME_IDENT, EOF, SEMICOLON, IDENT, AMP, STAR, BANG, MINUS, DOT, COLON, COLON2, COMMA, QUESTION, L_PAREN, R_PAREN, L_BRACK, R_BRACK, L_CURLY, R_CURLY, PIPE, R_ANGLE, EQ, L_ANGLE, PLUS, CARET, PERCENT, SLASH, MUT_KW, BUILTIN_KW, RAW_KW, AS_KW}
+use Rattle.rap_base.specs.TokenKind.{LIFETIME_IDENT, LET_KW, POUND, INNER_DOC_COMMENT, EOF, SEMICOLON, IDENT, AMP, STAR, BANG, MINUS, DOT, COLON, COLON2, COMMA, QUESTION, L_PAREN, R_PAREN, L_BRACK, R_BRACK, L_CURLY, R_CURLY, PIPE, R_ANGLE, EQ, L_ANGLE, PLUS, CARET, PERCENT, SLASH, MUT_KW, AS_KW}
 use Rattle.rap_base.specs.NodeKind.{BIN_EXPR, NAME_REF}
 use Rattle.rap_events.specs.Record.{Record, next_kind, kind_at}
-use Rattle.rap_events.specs.Composite.{width, is_at}
-use Rattle.rap_events.specs.Cover.{first_may_bear}
+use Rattle.rap_events.specs.Composite.{width, is_at, begins_with}
 use Rattle.rap_events.specs.Forest.{Forest, none, node, leaf, ◌⧺◌}
 use Rattle.rap_events.specs.Power.{power, power_in, powers}
 use Rattle.rap_rules.specs.Atom.{unrestricted, expr, atom_expr}
-use Rattle.rap_rules.specs.Called.{type_}
-use Rattle.rap_grammar.specs.Derives.{IsName, Is, Writes, IsOneOf, IsLiteral, Category, Expression, Binary, Unary, Postfix, Arguments, Elements, Atom, Path, Segment, Reference, IsNamedField, Derives, EndsExpression, reference, segment, path_one, path_more, atom_literal, atom_path, atom_paren, postfix_atom, postfix_call, postfix_index, postfix_try, postfix_field, postfix_number, postfix_method, arguments_none, arguments_some, element_last, element_comma, element_more, unary_prefix, unary_ref, unary_ref_mut, unary_postfix, binary_unary, binary_tighter, binary_operator, expression_binary, expression_assign, Ty, EndsType, type_path, type_ref, type_ref_mut, type_slice}
+use Rattle.rap_rules.specs.Blocks.{let_type, block_expr}
+use Rattle.rap_rules.specs.Called.{type_, type_no_bounds, pattern, as_statement}
+use Rattle.rap_rules.specs.Grammar.{name_r}
+use Rattle.rap_rules.specs.Statements.{stmt, macro_stmts}
+use Rattle.rap_rules.specs.TypeParts.{ascription}
+use Rattle.rap_grammar.specs.Derives.{Is, Writes, IsNamedField, Category, Maybe, Many, Elements, Expression, Binary, Unary, Postfix, Arguments, Atom, Path, Segment, Reference, Ty, Name, Bind, Visibility, Annotation, Value, Statement, Contents, Block, Item, Items, Fields, Field, Tuple, TupleField, Params, Param, Return, File, Derives, EndsExpression, EndsType, maybe_none, maybe_some, many_none, many_more, element_last, element_comma, element_more, reference, segment, path_one, path_more, atom_literal, atom_path, atom_paren, postfix_atom, postfix_call, postfix_index, postfix_try, postfix_field, postfix_number, postfix_method, argument_list, unary_prefix, unary_ref, unary_ref_mut, unary_postfix, binary_unary, binary_tighter, binary_operator, expression_binary, expression_assign, type_path, type_ref, type_ref_mut, type_slice, name_given, bind_name, visibility_pub, annotation_type, value_given, statement_let, statement_expression, contents_of, block_of, item_module, item_module_of, item_struct, item_struct_fields, item_struct_tuple, item_function, items_of, fields_of, field_named, tuple_of, tuple_field, params_of, param_typed, return_type, file_of}
 use Rattle.rap_rules.specs.Expressions.{operand_of, right_of, climb, arg_list, postfix_expr, lhs}
-use Rattle.rap_rules.specs.First.{is_operand, is_atom, is_literal_first, one_of}
+use Rattle.rap_rules.specs.First.{is_operand, is_literal_first, one_of}
 use Rattle.rap_rules.specs.Operator.{operator_at}
 use Rattle.rap_rules.specs.Paths.{path_segment, path_for_qualifier, path}
-use Rattle.rap_rules.specs.Words.{reads_as, starts_builtin}
 use Rattle.rap_rules.specs.declared.arguments.Restrictions.{Restrictions}
 use Rattle.rap_rules.proofs.Forests.{⧺-assoc}
 use Rattle.rap_grammar.proofs.Operators.{written_lead, differ, differ_back, is_calm, Calm, operator_seen, written_first, written_past}
 use Rattle.rap_rules.proofs.Steps.{and_false}
 use Rattle.rap_rules.specs.TokenTree.{starts_macro_call}
 use Rattle.rap_rules.specs.Types.{type_with_bounds_cond}
+use Rattle.rap_grammar.proofs.Begins.{first, literal_kind, is_prefix, prefix_kind, path_named, no_builtin, next_same, next_begins, next_plain, single, begins_type, begins_statement, operand_statement}
+use Rattle.rap_grammar.proofs.Lists.{Perhaps, missing, there, Repeated, no_more, one_more, Listed, last, last_comma, and_more}
+use Rattle.rap_grammar.proofs.StatementWays.{EndsBind, name_way, bind_way, ascription_way, let_type_way, no_let_type, semicolon_of, let_rest, value_way, no_value_way, let_way, semicolon_way, ends_contents, last_way, contents, contents_on, contents_end, block_way}
 use Rattle.rap_grammar.proofs.TypeWays.{ends_type, type_has_no_arguments, no_bounds_way, with_bounds_way, ref_type_way, ref_mut_type_way, slice_type_way, path_type_way}
-use Rattle.rap_grammar.proofs.Ways.{mode_of, NoArguments, kind_at-drop, Leads, LeadsOut, attributed, Single, none-⧺, segment_way, path_end, path_goes_on, path_way, literal_way, path_expr_way, paren_way, expr_way, from_way, climb_end, climb_on, operand_way, prefix_way, ref_way, ref_mut_way, postfix_end, call_way, index_way, try_way, name_field_way, number_field_way, method_way, arguments, arg_list_way, arguments_end, arguments_on, arguments_last}
-
-abbrev begins_type : ℕ → Bool
-begins_type k = one_of (IDENT ∷ AMP ∷ L_BRACK ∷ []) k
-
--- what a category begins with
-abbrev Begins : Category → ℕ → Bool
-Begins Reference k = k == IDENT
-Begins Segment k = k == IDENT
-Begins Path k = k == IDENT
-Begins Atom k = is_atom k
-Begins Postfix k = is_atom k
-Begins Arguments k = k == L_PAREN
-Begins Elements k = is_operand k
-Begins Unary k = is_operand k
-Begins (Binary p) k = is_operand k
-Begins Expression k = is_operand k
-Begins Ty k = begins_type k
-
--- the first token: no `raw`, whatever follows it
-record First (c : Category) (ks : List Record) : Type 0 where
-  r : Record
-  rs : List Record
-  is : ks ≡ r ∷ rs
-  kind : Begins c r.kind ≡ true
-  plain : reads_as RAW_KW (r ∷ []) ≡ false
-
-plain_kind : (r : Record) (test : ℕ → Bool) → test r.kind ≡ true → test RAW_KW ≡ false → test IDENT ≡ false → reads_as RAW_KW (r ∷ []) ≡ false
-plain_kind r test h a b = rw (differ test r.kind RAW_KW h a, differ test r.kind IDENT h b) refl
-
-name_first : {c : Category} (r : Record) (rs : List Record) → IsName r → Begins c IDENT ≡ true → First c (r ∷ rs)
-name_first r rs n h = record { r = r; rs = rs; is = refl; kind = rw n.kind h; plain = rw (n.kind, n.contextual) refl }
-
-kind_first : {c : Category} (r : Record) (rs : List Record) (k : ℕ) → Is r k → Begins c k ≡ true → (k == RAW_KW) ≡ false → (k == IDENT) ≡ false → First c (r ∷ rs)
-kind_first r rs k e h a b = record { r = r; rs = rs; is = refl; kind = rw e.kind_is h; plain = rw (e.kind_is, a, b) refl }
-
-test_first : {c : Category} (r : Record) (rs : List Record) (test : ℕ → Bool) → test r.kind ≡ true → Begins c r.kind ≡ true → test RAW_KW ≡ false → test IDENT ≡ false → First c (r ∷ rs)
-test_first r rs test e h a b = record { r = r; rs = rs; is = refl; kind = h; plain = plain_kind r test e a b }
-
--- a category that begins with another one
-also : {c d : Category} {ks : List Record} (js : List Record) (f : First c ks) → Begins d f.r.kind ≡ true → First d (ks ++ js)
-also js f h = record { r = f.r; rs = f.rs ++ js; is = ap (λ (x : List Record). x ++ js) f.is; kind = h; plain = f.plain }
-
-alone : {c d : Category} {ks : List Record} (f : First c ks) → Begins d f.r.kind ≡ true → First d ks
-alone f h = record { r = f.r; rs = f.rs; is = f.is; kind = h; plain = f.plain }
-
-name_atom : (k : ℕ) → (k == IDENT) ≡ true → is_atom k ≡ true
-name_atom k h = rw (eqb-true k IDENT h) refl
-
-atom_operand : (k : ℕ) → is_atom k ≡ true → is_operand k ≡ true
-atom_operand k h = rw h refl
-
-literal_kind : (r : Record) → IsLiteral r → is_literal_first r.kind ≡ true
-literal_kind r (inl h) = search rules
-literal_kind r (inr h) = let e = h.among in search rules
-
-literal_atom : (k : ℕ) → is_literal_first k ≡ true → is_atom k ≡ true
-literal_atom k h = rw h refl
-
-abbrev is_prefix : ℕ → Bool
-is_prefix k = one_of (STAR ∷ BANG ∷ MINUS ∷ []) k
-
-prefix_kind : (r : Record) → IsOneOf r (MINUS ∷ BANG ∷ STAR ∷ []) → is_prefix r.kind ≡ true
-prefix_kind r h = let e = h.among in search rules
-
-prefix_operand : (k : ℕ) → is_prefix k ≡ true → is_operand k ≡ true
-prefix_operand k h = search rules
-
-first : {c : Category} {ks : List Record} {t : Forest} → Derives c ks t → First c ks
-first (reference {r = r} n) = name_first r [] n refl
-first (segment d) = let f = first d in alone f f.kind
-first (path_one d) = let f = first d in alone f f.kind
-first (path_more {os = os} {js = js} d w e) = let f = first d in also (os ++ js) f f.kind
-first (atom_literal {r = r} h) = let k = literal_kind r h in test_first r [] is_literal_first k (literal_atom r.kind k) refl refl
-first (atom_path d) = let f = first d in alone f (name_atom f.r.kind f.kind)
-first (atom_paren {a = a} {b = b} {ks = ks} o d c) = kind_first a (ks ++ b ∷ []) L_PAREN o refl refl refl
-first (postfix_atom d) = let f = first d in alone f f.kind
-first (postfix_call {js = js} d n e) = let f = first d in also js f f.kind
-first (postfix_index {a = a} {b = b} {js = js} d o e c) = let f = first d in also (a ∷ (js ++ b ∷ [])) f f.kind
-first (postfix_try {a = a} d o) = let f = first d in also (a ∷ []) f f.kind
-first (postfix_field {a = a} {js = js} d o e) = let f = first d in also (a ∷ js) f f.kind
-first (postfix_number {a = a} {b = b} d o e) = let f = first d in also (a ∷ b ∷ []) f f.kind
-first (postfix_method {a = a} {js = js} {is = is} d o e g) = let f = first d in also (a ∷ (js ++ is)) f f.kind
-first (arguments_none {a = a} {b = b} o c) = kind_first a (b ∷ []) L_PAREN o refl refl refl
-first (arguments_some {a = a} {b = b} {ks = ks} o d c) = kind_first a (ks ++ b ∷ []) L_PAREN o refl refl refl
-first (element_last d) = let f = first d in alone f f.kind
-first (element_comma {a = a} d o) = let f = first d in also (a ∷ []) f f.kind
-first (element_more {a = a} {js = js} d o e) = let f = first d in also (a ∷ js) f f.kind
-first (unary_prefix {a = a} {ks = ks} h d) = let k = prefix_kind a h in test_first a ks is_prefix k (prefix_operand a.kind k) refl refl
-first (unary_ref {a = a} {ks = ks} o d) = kind_first a ks AMP o refl refl refl
-first (unary_ref_mut {a = a} {b = b} {ks = ks} o m d) = kind_first a (b ∷ ks) AMP o refl refl refl
-first (unary_postfix d) = let f = first d in alone f (atom_operand f.r.kind f.kind)
-first (binary_unary d) = let f = first d in alone f f.kind
-first (binary_tighter h i d) = let f = first d in alone f f.kind
-first (binary_operator {os = os} {js = js} h i d o e) = let f = first d in also (os ++ js) f f.kind
-first (expression_binary d) = let f = first d in alone f f.kind
-first (expression_assign {os = os} {js = js} d o e) = let f = first d in also (os ++ js) f f.kind
-first (type_path d) = let f = first d in alone f (rw (eqb-true f.r.kind IDENT f.kind) refl)
-first (type_ref {a = a} {ks = ks} o d) = kind_first a ks AMP o refl refl refl
-first (type_ref_mut {a = a} {b = b} {ks = ks} o n d) = kind_first a (b ∷ ks) AMP o refl refl refl
-first (type_slice {a = a} {b = b} {ks = ks} o d c) = kind_first a (ks ++ b ∷ []) L_BRACK o refl refl refl
-
--- the name that a path begins with
-record Named (ks : List Record) : Type 0 where
-  r : Record
-  rs : List Record
-  is : ks ≡ r ∷ rs
-  name : IsName r
-
-path_named : {ks : List Record} {t : Forest} → Derives Path ks t → Named ks
-path_named (path_one (segment (reference {r = r} n))) = record { r = r; rs = []; is = refl; name = n }
-path_named (path_more {os = os} {js = js} d w e) = let n = path_named d in record { r = n.r; rs = n.rs ++ (os ++ js); is = ap (λ (x : List Record). x ++ (os ++ js)) n.is; name = n.name }
-
--- no `builtin#` comes next where a name does
-no_builtin : {ks : List Record} (l : List Record) → Named ks → starts_builtin (ks ++ l) ≡ false
-no_builtin l n = rw (n.is, n.name.kind, n.name.contextual) refl
-
-next_is : {c : Category} {ks : List Record} (l : List Record) (f : First c ks) → next_kind (ks ++ l) ≡ f.r.kind
-next_is l f = rw f.is refl
-
-next_same : {c : Category} {ks : List Record} (l : List Record) → First c ks → next_kind (ks ++ l) ≡ next_kind ks
-next_same l f = next_is l f ∙ rw f.is refl
-
-next_begins : {c : Category} {ks : List Record} (l : List Record) → First c ks → Begins c (next_kind (ks ++ l)) ≡ true
-next_begins l f = rw (next_is l f) f.kind
-
-next_plain : {c : Category} {ks : List Record} (l : List Record) → First c ks → reads_as RAW_KW (ks ++ l) ≡ false
-next_plain l f = rw f.is f.plain
-
-is_node : (k : ℕ) (x : Forest) → Single (node none k x)
-is_node k x = record { kind = k; children = x; is = refl }
-
-abbrev SingleIn : Category → Forest → Type 0
-SingleIn Elements t = Unit {0}
-SingleIn Expression t = Single t
-SingleIn (Binary p) t = Single t
-SingleIn Unary t = Single t
-SingleIn Postfix t = Single t
-SingleIn Arguments t = Single t
-SingleIn Atom t = Single t
-SingleIn Path t = Single t
-SingleIn Segment t = Single t
-SingleIn Reference t = Single t
-SingleIn Ty t = Single t
-
--- all but the elements of a list are one node
-single : {c : Category} {ks : List Record} {t : Forest} → Derives c ks t → SingleIn c t
-single (reference n) = is_node _ _
-single (segment d) = is_node _ _
-single (path_one d) = is_node _ _
-single (path_more d w e) = is_node _ _
-single (atom_literal h) = is_node _ _
-single (atom_path d) = is_node _ _
-single (atom_paren o d c) = is_node _ _
-single (postfix_atom d) = single d
-single (postfix_call d n e) = is_node _ _
-single (postfix_index d o e c) = is_node _ _
-single (postfix_try d o) = is_node _ _
-single (postfix_field d o e) = is_node _ _
-single (postfix_number d o e) = is_node _ _
-single (postfix_method d o e g) = is_node _ _
-single (arguments_none o c) = is_node _ _
-single (arguments_some o d c) = is_node _ _
-single (element_last d) = tt
-single (element_comma d o) = tt
-single (element_more d o e) = tt
-single (unary_prefix h d) = is_node _ _
-single (unary_ref o d) = is_node _ _
-single (unary_ref_mut o m d) = is_node _ _
-single (unary_postfix d) = single d
-single (binary_unary d) = single d
-single (binary_tighter h i d) = single d
-single (binary_operator h i d o e) = is_node _ _
-single (expression_binary d) = single d
-single (expression_assign d o e) = is_node _ _
-single (type_path d) = is_node _ _
-single (type_ref o d) = is_node _ _
-single (type_ref_mut o n d) = is_node _ _
-single (type_slice o d c) = is_node _ _
+use Rattle.rap_grammar.proofs.Ways.{not_first, mode_of, NoArguments, kind_at-drop, Leads, LeadsOut, attributed, Single, none-⧺, segment_way, path_end, path_goes_on, path_way, literal_way, path_expr_way, paren_way, expr_way, from_way, climb_end, climb_on, operand_way, prefix_way, ref_way, ref_mut_way, postfix_end, call_way, index_way, try_way, name_field_way, number_field_way, method_way, arguments, arg_list_way, arguments_end, arguments_on, arguments_last}
 
 -- no power is above 12
 abbrev none_above : ℕ → List (ℕ × ℕ) → Bool
@@ -300,17 +127,37 @@ operand_alone r {l = l} o s x = from_way r 255 o s (rw none-⧺ at x) (climb_end
 -- What is shown of each category. Where the grammar goes to the left, any way on from the tree so far is a way on from
 -- the tokens.
 Claim : Category → List Record → Forest → Type 0
+Claim (Maybe c) ks t = Perhaps (λ js u. Derives c js u × Claim c js u) ks t
+Claim (Many c) ks t = Repeated (λ js u. Derives c js u × Claim c js u) ks t
+Claim (Elements c) ks t = Listed (λ js u. Derives c js u × Claim c js u) ks t
 Claim Expression ks t = (r : Restrictions) (b : List Forest) (f : Forest) (l : List Record) → Quiet l → LeadsOut (attributed r 1) b (ks ++ l) f l (f ⧺ t)
 Claim (Binary p) ks t = (r : Restrictions) (bp : ℕ) (b : List Forest) (f : Forest) (l : List Record) (g : Forest) (m : List Record) → bp ≤ p → Calm l → power (operator_at l) ≤ p → Leads (climb r bp) b l (f ⧺ t) m g → LeadsOut (attributed r bp) b (ks ++ l) f m g
 Claim Unary ks t = (r : Restrictions) (b : List Forest) (f : Forest) (l : List Record) → Calm l → Leads (lhs r) b (ks ++ l) f l (f ⧺ t)
 Claim Postfix ks t = (r : Restrictions) (b : List Forest) (f : Forest) (l : List Record) (g : Forest) (m : List Record) → (IsNamedField t → next_kind l ≢ L_PAREN) → Apart l → Leads (postfix_expr true false) b l (f ⧺ t) m g → Leads (lhs r) b (ks ++ l) f m g
 Claim Arguments ks t = (b : List Forest) (f : Forest) (l : List Record) → Leads arg_list b (ks ++ l) f l (f ⧺ t)
-Claim Elements ks t = (b : List Forest) (f : Forest) (c : Record) (l : List Record) → Is c R_PAREN → Leads arguments b (ks ++ c ∷ l) f (c ∷ l) (f ⧺ t)
 Claim Atom ks t = (r : Restrictions) (b : List Forest) (f : Forest) (l : List Record) → Apart l → Leads (atom_expr r) b (ks ++ l) f l (f ⧺ t)
 Claim Path ks t = (ty : Bool) (b : List Forest) (f : Forest) (l : List Record) (g : Forest) (m : List Record) → NoArguments ty l → Leads (path_for_qualifier (mode_of ty)) b l (f ⧺ t) m g → Leads (path (mode_of ty)) b (ks ++ l) f m g
 Claim Segment ks t = (ty first : Bool) (b : List Forest) (f : Forest) (l : List Record) → NoArguments ty l → Leads (path_segment (mode_of ty) first) b (ks ++ l) f l (f ⧺ t)
 Claim Reference ks t = Unit {0}
 Claim Ty ks t = (bounds : Bool) (b : List Forest) (f : Forest) (l : List Record) → EndsType l → Leads (type_with_bounds_cond bounds) b (ks ++ l) f l (f ⧺ t)
+Claim Name ks t = (kept : ℕ → Bool) (b : List Forest) (f : Forest) (l : List Record) → Leads (name_r kept) b (ks ++ l) f l (f ⧺ t)
+Claim Bind ks t = (b : List Forest) (f : Forest) (l : List Record) → EndsBind l → Leads pattern b (ks ++ l) f l (f ⧺ t)
+Claim Visibility ks t = Unit {0}
+Claim Annotation ks t = (b : List Forest) (f : Forest) (l : List Record) → EndsType l → Leads ascription b (ks ++ l) f l (f ⧺ t)
+Claim Value ks t = (optional : Bool) (b : List Forest) (f : Forest) (c : Record) (l : List Record) → Is c SEMICOLON → Leads (let_rest (semicolon_of optional)) b (ks ++ c ∷ l) f l (leaf (f ⧺ t) SEMICOLON 1)
+Claim Statement ks t = (optional : Bool) (b : List Forest) (f : Forest) (l : List Record) → Leads (stmt (semicolon_of optional)) b (ks ++ l) f l (f ⧺ t)
+Claim Contents ks t = (optional : Bool) (b : List Forest) (f : Forest) (l : List Record) → next_kind l ≡ ends_contents optional → Leads (contents optional) b (ks ++ l) f l (f ⧺ t)
+Claim Block ks t = (b : List Forest) (f : Forest) (l : List Record) → Leads block_expr b (ks ++ l) f l (f ⧺ t)
+Claim Item ks t = Unit {0}
+Claim Items ks t = Unit {0}
+Claim Fields ks t = Unit {0}
+Claim Field ks t = Unit {0}
+Claim Tuple ks t = Unit {0}
+Claim TupleField ks t = Unit {0}
+Claim Params ks t = Unit {0}
+Claim Param ks t = Unit {0}
+Claim Return ks t = Unit {0}
+Claim File ks t = Unit {0}
 
 three_lists : (ks os js l : List Record) → (ks ++ (os ++ js)) ++ l ≡ ks ++ (os ++ (js ++ l))
 three_lists ks os js l = simp append_assoc
@@ -325,23 +172,117 @@ colons_alone true {os = os} rest w k =
     (rw n (and_false (is_at COLON2 (os ++ rest))), rw (written_lead rest w) refl)
 colons_alone false {os = os} rest w k = rw (written_past rest w, k) (and_false (is_at COLON2 (os ++ rest)))
 
+-- what is derived, and what is shown of it
+abbrev Known : Category → List Record → Forest → Type 0
+Known c ks t = Derives c ks t × Claim c ks t
+
+-- the arguments of a call up to the parenthesis that closes them
+arguments_on_way : {ks : List Record} {t : Forest} → Listed (Known Expression) ks t → (b : List Forest) (f : Forest) (c : Record) (l : List Record) → Is c R_PAREN → Leads arguments b (ks ++ c ∷ l) f (c ∷ l) (f ⧺ t)
+unfolding Claim
+arguments_on_way (last (d, x)) b f c l i = arguments_last (next_begins (c ∷ l) (first d refl)) (expr_way (x unrestricted b f (c ∷ l) (quiet_is c l R_PAREN i refl))) i.kind_is
+arguments_on_way (last_comma {a = a} (d, x) o) b f c l i =
+    rw append_assoc (arguments_on (next_begins (a ∷ c ∷ l) (first d refl)) (expr_way (x unrestricted b f (a ∷ c ∷ l) (quiet_is a (c ∷ l) COMMA o refl))) o.kind_is (arguments_end i.kind_is))
+arguments_on_way (and_more {a = a} {js = js} {t = t} {u = u} (d, x) o e) b f c l i =
+    let n = js ++ c ∷ l in
+    rw (append_assoc, ← (⧺-assoc f (leaf t COMMA 1) u)) (arguments_on (next_begins (a ∷ n) (first d refl)) (expr_way (x unrestricted b f (a ∷ n) (quiet_is a n COMMA o refl))) o.kind_is (arguments_on_way e b (leaf (f ⧺ t) COMMA 1) c l i))
+
+arguments_way : {ks : List Record} {t : Forest} → Perhaps (λ js u. Derives (Elements Expression) js u × Listed (Known Expression) js u) ks t → (b : List Forest) (f : Forest) (c : Record) (l : List Record) → Is c R_PAREN → Leads arguments b (ks ++ c ∷ l) f (c ∷ l) (f ⧺ t)
+unfolding Claim
+arguments_way missing b f c l i = arguments_end i.kind_is
+arguments_way (there (d, x)) b f c l i = arguments_on_way x b f c l i
+
+four_lists : (ks js is : List Record) (z : Record) (l : List Record) → (ks ++ (js ++ (is ++ z ∷ []))) ++ l ≡ ks ++ (js ++ (is ++ z ∷ l))
+four_lists ks js is z l = simp append_assoc
+
+-- what comes next behind the type of a `let`
+abbrev ends_type_of_let : ℕ → Bool
+ends_type_of_let k = one_of (EQ ∷ SEMICOLON ∷ []) k
+
+value_next : {is : List Record} {v : Forest} → Perhaps (Known Value) is v → (c : Record) (l : List Record) → Is c SEMICOLON → ends_type_of_let (next_kind (is ++ c ∷ l)) ≡ true
+value_next missing c l i = rw i.kind_is refl
+value_next (there (value_given o d, x)) c l i = rw o.kind_is refl
+
+-- a colon with a type behind it is no `::`
+pub colon_ends_bind : (a : Record) (rs : List Record) → Is a COLON → begins_type (next_kind rs) ≡ true → EndsBind (a ∷ rs)
+colon_ends_bind a rs o h =
+    let n : begins_with (COLON ∷ []) rs ≡ false = not_first COLON [] rs (differ begins_type (next_kind rs) COLON h refl) in
+    record { next = rw o.kind_is refl; colons = rw (n, and_false a.joint) (and_false _) }
+
+bind_ends : {js : List Record} {u : Forest} → Perhaps (Known Annotation) js u → (l : List Record) → ends_type_of_let (next_kind l) ≡ true → EndsBind (js ++ l)
+bind_ends missing l h = record { next = search rules; colons = no_colon l (differ ends_type_of_let (next_kind l) COLON h refl) }
+bind_ends (there (annotation_type {a = a} {ks = ks} o d, x)) l h = colon_ends_bind a (ks ++ l) o (next_begins l (first d refl))
+
+let_type_before : {js : List Record} {u : Forest} → Perhaps (Known Annotation) js u → (b : List Forest) (f : Forest) (l : List Record) → ends_type_of_let (next_kind l) ≡ true → Leads let_type b (js ++ l) f l (f ⧺ u)
+unfolding Claim
+let_type_before missing b f l h = no_let_type (differ ends_type_of_let (next_kind l) COLON h refl)
+let_type_before (there {ks = js} (d, x)) b f l h =
+    let_type_way (eqb-true (next_kind (js ++ l)) COLON (next_begins l (first d refl))) (x b f l (record { next = search rules }))
+
+let_value_before : {is : List Record} {v : Forest} → Perhaps (Known Value) is v → (optional : Bool) (b : List Forest) (f : Forest) (c : Record) (l : List Record) → Is c SEMICOLON → Leads (let_rest (semicolon_of optional)) b (is ++ c ∷ l) f l (leaf (f ⧺ v) SEMICOLON 1)
+unfolding Claim
+let_value_before missing m b f c l i = no_value_way m i.kind_is
+let_value_before (there (d, x)) m b f c l i = x m b f c l i
+
+-- statements, and on
+statements_before : (optional : Bool) {ks : List Record} {t : Forest} → Repeated (Known Statement) ks t → (b : List Forest) (f : Forest) (l n : List Record) (g : Forest) → Leads (contents optional) b l (f ⧺ t) n g → Leads (contents optional) b (ks ++ l) f n g
+unfolding Claim
+statements_before m no_more b f l n g y = y
+statements_before m (one_more {js = js} {t = t} {u = u} (d, x) e) b f l n g y =
+    rw append_assoc (contents_on m (next_begins (js ++ l) (first d refl)) (x m b f (js ++ l)) (statements_before m e b (f ⧺ t) l n g (rw (⧺-assoc f t u) y)))
+
+quiet_at_end : (optional : Bool) (l : List Record) → next_kind l ≡ ends_contents optional → Quiet l
+quiet_at_end true l h = quiet l (rw h refl)
+quiet_at_end false l h = quiet l (rw h refl)
+
+-- the expression that ends them, if there is one
+value_at_end : (optional : Bool) {ks : List Record} {t : Forest} → Perhaps (Known Expression) ks t → (b : List Forest) (f : Forest) (l : List Record) → next_kind l ≡ ends_contents optional → Leads (contents optional) b (ks ++ l) f l (f ⧺ t)
+unfolding Claim
+value_at_end m missing b f l h = contents_end m h
+value_at_end m (there {ks = js} (d, x)) b f l h =
+    let n = first d refl in
+    let begins = next_begins l n in
+    contents_on m (operand_statement (next_kind (js ++ l)) begins) (rw n.is (last_way m n.kind n.plain n.no_super (rw n.is at (x as_statement b f l (quiet_at_end m l h))) h)) (contents_end m h)
+
+-- what comes next behind the brace of a block
+abbrev begins_contents : ℕ → Bool
+begins_contents k = (k == R_CURLY) || begins_statement k
+
+statement_contents : (k : ℕ) → begins_statement k ≡ true → begins_contents k ≡ true
+statement_contents k h = search rules
+
+contents_next : {ks : List Record} {t : Forest} → Derives Contents ks t → (c : Record) (l : List Record) → Is c R_CURLY → begins_contents (next_kind (ks ++ c ∷ l)) ≡ true
+contents_next (contents_of many_none maybe_none) c l i = rw i.kind_is refl
+contents_next (contents_of many_none (maybe_some {ks = ms} d)) c l i =
+    let k = next_kind (ms ++ c ∷ l) in
+    statement_contents k (operand_statement k (next_begins (c ∷ l) (first d refl)))
+contents_next (contents_of {js = ms} (many_more {ks = ks} {js = js} d e) g) c l i =
+    let all : ((ks ++ js) ++ ms) ++ c ∷ l ≡ ks ++ (js ++ (ms ++ c ∷ l)) = simp append_assoc in
+    rw all (statement_contents (next_kind (ks ++ (js ++ (ms ++ c ∷ l)))) (next_begins (js ++ (ms ++ c ∷ l)) (first d refl)))
+
 claim : {c : Category} {ks : List Record} {t : Forest} → Derives c ks t → Claim c ks t
 unfolding Claim
+claim maybe_none = missing
+claim (maybe_some d) = there (d, claim d)
+claim many_none = no_more
+claim (many_more d e) = one_more (d, claim d) (claim e)
+claim (element_last d) = last (d, claim d)
+claim (element_comma d o) = last_comma (d, claim d) o
+claim (element_more d o e) = and_more (d, claim d) o (claim e)
 claim (reference n) = tt
 claim (segment (reference n)) = λ ty first b f l a. segment_way ty first n.kind a
 claim (path_one d) = λ ty b f l g m a y. path_way (mode_of ty) (rw none-⧺ at (claim d ty true (f ∷ b) none l a)) y
 claim (path_more {ks = ks} {os = os} {js = js} {t = t} d w e) = λ ty b f l g m a y.
-    let k : next_kind (js ++ l) ≡ IDENT = eqb-true (next_kind (js ++ l)) IDENT (next_begins l (first e)) in
+    let k : next_kind (js ++ l) ≡ IDENT = eqb-true (next_kind (js ++ l)) IDENT (next_begins l (first e refl)) in
     rw (three_lists ks os js l) (claim d ty b f (os ++ (js ++ l)) g m (colons_alone ty (js ++ l) w k) (path_goes_on ty (single d) (written_first (js ++ l) w) (written_past (js ++ l) w) (claim e ty false (f ∷ b) (leaf t COLON2 2) l a) y))
 claim (atom_literal {r = r} h) = λ q b f l c. let k = literal_kind r h in literal_way q (not_end is_literal_first r.kind k refl) k
 claim (atom_path {ks = ks} {t = t} d) = λ r b f l c.
-    let e : next_kind (ks ++ l) ≡ IDENT = eqb-true (next_kind (ks ++ l)) IDENT (next_begins l (first d)) in
+    let e : next_kind (ks ++ l) ≡ IDENT = eqb-true (next_kind (ks ++ l)) IDENT (next_begins l (first d refl)) in
     path_expr_way r e (no_builtin l (path_named d)) (rw none-⧺ at (claim d false (f ∷ b) none l (none ⧺ t) l (rw c.colons refl) (path_end false c.colons))) c.macro c.brace
 claim (atom_paren {b = c} o d e) = λ r b f l n.
-    rw append_assoc (paren_way r o.kind_is (next_begins (c ∷ l) (first d)) (expr_way (claim d unrestricted (f ∷ b) (leaf none L_PAREN 1) (c ∷ l) (quiet_is c l R_PAREN e refl))) e.kind_is)
-claim (postfix_atom d) = λ r b f l g m h c y. operand_way r (next_begins l (first d)) (claim d r b f l c) y
+    rw append_assoc (paren_way r o.kind_is (next_begins (c ∷ l) (first d refl)) (expr_way (claim d unrestricted (f ∷ b) (leaf none L_PAREN 1) (c ∷ l) (quiet_is c l R_PAREN e refl))) e.kind_is)
+claim (postfix_atom d) = λ r b f l g m h c y. operand_way r (next_begins l (first d refl)) (claim d r b f l c) y
 claim (postfix_call {ks = ks} {js = js} {t = t} d n e) = λ r b f l g m h c y.
-    let i : next_kind (js ++ l) ≡ L_PAREN = eqb-true (next_kind (js ++ l)) L_PAREN (next_begins l (first e)) in
+    let i : next_kind (js ++ l) ≡ L_PAREN = eqb-true (next_kind (js ++ l)) L_PAREN (next_begins l (first e refl)) in
     rw append_assoc (claim d r b f (js ++ l) g m (λ z. absurd (n z)) (apart_by (js ++ l) L_PAREN i refl refl refl) (call_way (single d) i (claim e (f ∷ b) t l) y))
 claim (postfix_index {a = a} {b = z} {ks = ks} {js = js} {t = t} d o e i) = λ r b f l g m h c y.
     rw (in_brackets ks js l a z) (claim d r b f (a ∷ (js ++ z ∷ l)) g m (λ n. rw o.kind_is (λ k. absurd (omega arith))) (apart_by (a ∷ (js ++ z ∷ l)) L_BRACK o.kind_is refl refl refl)
@@ -355,34 +296,27 @@ claim (postfix_number {a = a} {b = z} d o i) = λ r b f l g m h c y.
     rw append_assoc (claim d r b f (a ∷ z ∷ l) g m (λ j. rw o.kind_is (λ k. absurd (omega arith))) (apart_by (a ∷ z ∷ l) DOT o.kind_is refl refl refl)
     (number_field_way (single d) o.kind_is i.kind_is y))
 claim (postfix_method {a = a} {is = is} {t = t} d o (reference {r = z} n) e) = λ r b f l g m h c y.
-    let i : next_kind (is ++ l) ≡ L_PAREN = eqb-true (next_kind (is ++ l)) L_PAREN (next_begins l (first e)) in
+    let i : next_kind (is ++ l) ≡ L_PAREN = eqb-true (next_kind (is ++ l)) L_PAREN (next_begins l (first e refl)) in
     rw append_assoc (claim d r b f (a ∷ z ∷ (is ++ l)) g m (λ j. rw o.kind_is (λ k. absurd (omega arith))) (apart_by (a ∷ z ∷ (is ++ l)) DOT o.kind_is refl refl refl)
     (method_way (single d) o.kind_is n.kind i (claim e (f ∷ b) (node (leaf t DOT 1) NAME_REF (leaf none IDENT 1)) l) y))
-claim (arguments_none o c) = λ b f l. arg_list_way o.kind_is (arguments_end c.kind_is) c.kind_is
-claim (arguments_some {b = z} o d c) = λ b f l. rw append_assoc (arg_list_way o.kind_is (claim d (f ∷ b) (leaf none L_PAREN 1) z l c) c.kind_is)
-claim (element_last d) = λ b f c l i. arguments_last (next_begins (c ∷ l) (first d)) (expr_way (claim d unrestricted b f (c ∷ l) (quiet_is c l R_PAREN i refl))) i.kind_is
-claim (element_comma {a = a} d o) = λ b f c l i.
-    rw append_assoc (arguments_on (next_begins (a ∷ c ∷ l) (first d)) (expr_way (claim d unrestricted b f (a ∷ c ∷ l) (quiet_is a (c ∷ l) COMMA o refl))) o.kind_is (arguments_end i.kind_is))
-claim (element_more {a = a} {js = js} {t = t} {u = u} d o e) = λ b f c l i.
-    let n = js ++ c ∷ l in
-    rw (append_assoc, ← (⧺-assoc f (leaf t COMMA 1) u)) (arguments_on (next_begins (a ∷ n) (first d)) (expr_way (claim d unrestricted b f (a ∷ n) (quiet_is a n COMMA o refl))) o.kind_is (claim e b (leaf (f ⧺ t) COMMA 1) c l i))
+claim (argument_list {b = z} o d c) = λ b f l. rw append_assoc (arg_list_way o.kind_is (arguments_way (claim d) (f ∷ b) (leaf none L_PAREN 1) z l c) c.kind_is)
 claim (unary_prefix {a = a} d e) = λ r b f l c.
     let k = prefix_kind a d in
-    prefix_way r k (differ is_prefix a.kind AMP k refl) (not_end is_prefix a.kind k refl) (operand_alone r (next_begins l (first e)) (single e) (claim e r (leaf none a.kind 1 ∷ f ∷ b) none l c))
+    prefix_way r k (differ is_prefix a.kind AMP k refl) (not_end is_prefix a.kind k refl) (operand_alone r (next_begins l (first e refl)) (single e) (claim e r (leaf none a.kind 1 ∷ f ∷ b) none l c))
 claim (unary_ref {ks = ks} o d) = λ r b f l c.
-    let k = next_begins l (first d) in
-    ref_way r o.kind_is (next_plain l (first d)) (differ is_operand (next_kind (ks ++ l)) MUT_KW k refl) (operand_alone r k (single d) (claim d r (leaf none AMP 1 ∷ f ∷ b) none l c))
+    let k = next_begins l (first d refl) in
+    ref_way r o.kind_is (next_plain l (first d refl)) (differ is_operand (next_kind (ks ++ l)) MUT_KW k refl) (operand_alone r k (single d) (claim d r (leaf none AMP 1 ∷ f ∷ b) none l c))
 claim (unary_ref_mut {b = z} o n d) = λ r b f l c.
-    ref_mut_way r o.kind_is (rw n.kind_is refl) n.kind_is (operand_alone r (next_begins l (first d)) (single d) (claim d r (leaf (leaf none AMP 1) MUT_KW 1 ∷ f ∷ b) none l c))
+    ref_mut_way r o.kind_is (rw n.kind_is refl) n.kind_is (operand_alone r (next_begins l (first d refl)) (single d) (claim d r (leaf (leaf none AMP 1) MUT_KW 1 ∷ f ∷ b) none l c))
 claim (unary_postfix {t = t} d) = λ r b f l c.
     let k = next_kind l in
     let e = c.kind in
     claim d r b f l (f ⧺ t) l (λ n. not_paren l c) (calm_apart l c)
     (postfix_end (differ is_calm k L_PAREN e refl) (differ is_calm k L_BRACK e refl) (differ is_calm k DOT e refl) (differ is_calm k QUESTION e refl))
-claim (binary_unary d) = λ r bp b f l g m h c p y. from_way r bp (next_begins l (first d)) (single d) (rw none-⧺ at (claim d r (f ∷ b) none l c)) y
+claim (binary_unary d) = λ r bp b f l g m h c p y. from_way r bp (next_begins l (first d refl)) (single d) (rw none-⧺ at (claim d r (f ∷ b) none l c)) y
 claim (binary_tighter lo hi d) = λ r bp b f l g m h c p y. claim d r bp b f l g m (omega arith) c (omega arith) y
 claim (binary_operator {p = p} {op = op} {ks = ks} {os = os} {js = js} {t = t} {u = u} lo hi d o e) = λ r bp b f l g m h c k y.
-    let n = first e in
+    let n = first e refl in
     let q = operator_seen (js ++ l) (next_same l n) (next_begins l n) (omega arith) (λ z. omega arith) (omega arith) o in
     let i = q.power_is in
     let x : LeadsOut (attributed (operand_of r) (right_of op)) (f ∷ b) (js ++ l) (leaf t op (width op)) l (leaf t op (width op) ⧺ u) =
@@ -391,7 +325,7 @@ claim (binary_operator {p = p} {op = op} {ks = ks} {os = os} {js = js} {t = t} {
     (climb_on r (single d) q.is (omega arith) (λ z. omega arith) (no_cast op p i (omega arith)) q.first q.past x y))
 claim (expression_binary {t = t} d) = λ r b f l q. claim d r 1 b f l (f ⧺ t) l (omega arith) q.calm (omega (arith, q.power_is)) (climb_end r q.power_is)
 claim (expression_assign {op = op} {ks = ks} {os = os} {js = js} {t = t} {u = u} d o e) = λ r b f l c.
-    let n = first e in
+    let n = first e refl in
     let q = operator_seen (js ++ l) (next_same l n) (next_begins l n) (omega arith) (λ z. omega arith) (omega arith) o in
     let i = q.power_is in
     let x : LeadsOut (attributed (operand_of r) (right_of op)) (f ∷ b) (js ++ l) (leaf t op (width op)) l (leaf t op (width op) ⧺ u) = rw i (claim e (operand_of r) (f ∷ b) (leaf t op (width op)) l c) in
@@ -403,11 +337,51 @@ claim (type_path {t = t} d) = λ bounds b f l e.
     let x = rw none-⧺ at (claim d true (none ∷ f ∷ b) none l (none ⧺ t) l (type_has_no_arguments l colons e) (path_end true colons)) in
     rw n.is (path_type_way bounds n.name (rw n.is at x) e)
 claim (type_ref {ks = ks} o d) = λ bounds b f l e.
-    let k = next_begins l (first d) in
+    let k = next_begins l (first d refl) in
     ref_type_way bounds o.kind_is (differ begins_type (next_kind (ks ++ l)) LIFETIME_IDENT k refl) (differ begins_type (next_kind (ks ++ l)) MUT_KW k refl) (no_bounds_way (claim d false (f ∷ b) (leaf none AMP 1) l e))
 claim (type_ref_mut {b = z} o n d) = λ bounds b f l e. ref_mut_type_way bounds o.kind_is n.kind_is (no_bounds_way (claim d false (f ∷ b) (leaf (leaf none AMP 1) MUT_KW 1) l e))
 claim (type_slice {b = z} o d i) = λ bounds b f l e.
     rw append_assoc (slice_type_way bounds o.kind_is (with_bounds_way (claim d true (f ∷ b) (leaf none L_BRACK 1) (z ∷ l) (record { next = rw i.kind_is refl }))) i.kind_is)
+claim (name_given n) = λ kept b f l. name_way kept n.kind
+claim (bind_name (name_given n)) = λ b f l e. bind_way n e
+claim (visibility_pub o) = tt
+claim (annotation_type {ks = ks} {t = t} o d) = λ b f l e.
+    rw (← (⧺-assoc f (leaf none COLON 1) t)) (ascription_way o.kind_is (differ begins_type (next_kind (ks ++ l)) EQ (next_begins l (first d refl)) refl) (with_bounds_way (claim d true b (leaf f COLON 1) l e)))
+claim (value_given {t = t} o d) = λ m b f c l e.
+    rw (← (⧺-assoc f (leaf none EQ 1) t)) (value_way m o.kind_is (expr_way (claim d unrestricted b (leaf f EQ 1) (c ∷ l) (quiet_is c l SEMICOLON e refl))) e.kind_is)
+claim (statement_let {b = z} {ks = ks} {js = js} {is = is} {t = t} {u = u} o d e g c) = λ m b f l.
+    let y = claim e in
+    let v = claim g in
+    let n = value_next v z l c in
+    let rest = is ++ z ∷ l in
+    rw (four_lists ks js is z l)
+    (let_way m o.kind_is (claim d (f ∷ b) (leaf none LET_KW 1) (js ++ rest) (bind_ends y rest n))
+    (let_type_before y (f ∷ b) (leaf none LET_KW 1 ⧺ t) rest n)
+    (let_value_before v m (f ∷ b) (leaf none LET_KW 1 ⧺ t ⧺ u) z l c))
+claim (statement_expression {a = a} d o) = λ m b f l.
+    let n = first d refl in
+    rw append_assoc (rw n.is (semicolon_way m n.kind n.plain n.no_super (single d) (rw n.is at (claim d as_statement b f (a ∷ l) (quiet_is a l SEMICOLON o refl))) o.kind_is))
+claim (contents_of {js = js} {t = t} {u = u} d e) = λ m b f l h.
+    rw (append_assoc, ← (⧺-assoc f t u)) (statements_before m (claim d) b f (js ++ l) l (f ⧺ t ⧺ u) (value_at_end m (claim e) b (f ⧺ t) l h))
+claim (block_of {b = z} {ks = ks} o d c) = λ b f l.
+    let k = next_kind (ks ++ z ∷ l) in
+    let n = contents_next d z l c in
+    rw append_assoc (block_way o.kind_is (differ begins_contents k INNER_DOC_COMMENT n refl) (differ begins_contents k POUND n refl) (claim d false (none ∷ f ∷ b) (leaf none L_CURLY 1) (z ∷ l) c.kind_is) c.kind_is)
+claim (item_module v o d c) = tt
+claim (item_module_of v o d e) = tt
+claim (item_struct v o d c) = tt
+claim (item_struct_fields v o d e) = tt
+claim (item_struct_tuple v o d e c) = tt
+claim (item_function v o d e f g) = tt
+claim (items_of o d c) = tt
+claim (fields_of o d c) = tt
+claim (field_named v d o e) = tt
+claim (tuple_of o d c) = tt
+claim (tuple_field d) = tt
+claim (params_of o d c) = tt
+claim (param_typed d o e) = tt
+claim (return_type w d) = tt
+claim (file_of d) = tt
 
 -- an expression from the newest open node on, before what goes on with none
 pub expression_from : (r : Restrictions) {ks : List Record} {t : Forest} → Derives Expression ks t → (b : List Forest) (f : Forest) (l : List Record) → Quiet l → LeadsOut (attributed r 1) b (ks ++ l) f l (f ⧺ t)
@@ -438,3 +412,31 @@ type_whole d b = with_bounds_way (rw (append-nil, none-⧺) at (claim d true b n
 -- a type is one node
 pub type_single : {ks : List Record} {t : Forest} → Derives Ty ks t → Single t
 type_single d = single d
+
+-- a type before what can follow it, with bounds and without
+pub type_before : {ks : List Record} {t : Forest} → Derives Ty ks t → (b : List Forest) (f : Forest) (l : List Record) → EndsType l → Leads type_ b (ks ++ l) f l (f ⧺ t)
+unfolding Claim
+type_before d b f l e = with_bounds_way (claim d true b f l e)
+
+pub type_before_no_bounds : {ks : List Record} {t : Forest} → Derives Ty ks t → (b : List Forest) (f : Forest) (l : List Record) → EndsType l → Leads type_no_bounds b (ks ++ l) f l (f ⧺ t)
+unfolding Claim
+type_before_no_bounds d b f l e = no_bounds_way (claim d false b f l e)
+
+-- statements that are all there is, with the value at their end or without
+pub contents_whole : {ks : List Record} {t : Forest} → Derives Contents ks t → (b : List Forest) → Leads macro_stmts b ks none [] t
+unfolding Claim
+contents_whole d b = rw (append-nil, none-⧺) at (claim d true b none [] refl)
+
+-- a block that is all there is
+pub block_whole : {ks : List Record} {t : Forest} → Derives Block ks t → (b : List Forest) → Leads block_expr b ks none [] t
+unfolding Claim
+block_whole d b = rw (append-nil, none-⧺) at (claim d b none [])
+
+-- a block, whatever follows it
+pub block_before : {ks : List Record} {t : Forest} → Derives Block ks t → (b : List Forest) (f : Forest) (l : List Record) → Leads block_expr b (ks ++ l) f l (f ⧺ t)
+unfolding Claim
+block_before d b f l = claim d b f l
+
+-- a block is one node
+pub block_single : {ks : List Record} {t : Forest} → Derives Block ks t → Single t
+block_single d = single d

@@ -1,9 +1,14 @@
+pub mod Begins
 pub mod Complete
 pub mod Example
+pub mod ItemWays
+pub mod Items
+pub mod Lists
 pub mod OneTree
 pub mod Operators
 pub mod Outputs
 pub mod Parts
+pub mod StatementWays
 pub mod Stating
 pub mod TopTree
 pub mod TypeWays

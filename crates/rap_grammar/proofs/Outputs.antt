@@ -1,19 +1,23 @@
 -- What a parse of a whole input, or of its beginning, makes of what is derived; and that equal inputs give equal
 -- outputs.
-use Rattle.std.proofs.Common.{◌≡◌, ℕ, List, [], ◌∷◌, ◌++◌, true, refl, ap, sym, ◌∙◌}
+use Rattle.std.proofs.Common.{◌≡◌, ℕ, List, [], ◌∷◌, ◌++◌, true, refl, ap, sym, ◌∙◌, false}
+use Rattle.rap_base.specs.NodeKind.{MACRO_STMTS, SOURCE_FILE, MACRO_ITEMS}
 use Rattle.rap_events.specs.Record.{Record}
-use Rattle.rap_events.specs.Forest.{Forest, none, ◌⧺◌, message_count, one_tree}
+use Rattle.rap_events.specs.Forest.{Forest, none, node, ◌⧺◌, message_count, one_tree}
 use Rattle.rap_events.specs.State.{State}
 use Rattle.rap_rules.specs.Atom.{expr}
 use Rattle.rap_rules.specs.Called.{type_}
-use Rattle.rap_grammar.specs.Derives.{Derives, Expression, Ty, EndsExpression}
+use Rattle.rap_grammar.specs.Derives.{Derives, Expression, Ty, Contents, EndsExpression, File, Many, file_of, Item}
 use Rattle.rap_rules.specs.Knot.{script_of, Follows}
 use Rattle.rap_rules.specs.Phrase.{Phrase}
 use Rattle.rap_rules.specs.Script.{Script, forests, Spot, Outcome, something, Runs}
+use Rattle.rap_rules.specs.Statements.{macro_stmts}
 use Rattle.rap_grammar.specs.Top.{IsTopOf, IsRootOf, top_tree}
-use Rattle.rap_grammar.proofs.Complete.{expression_whole, type_whole, expression_at_beginning}
+use Rattle.rap_grammar.proofs.Complete.{expression_whole, type_whole, contents_whole, expression_at_beginning}
 use Rattle.rap_rules.proofs.OneEnd.{Same, one_end}
-use Rattle.rap_grammar.proofs.Unique.{unmarked, one_expression, one_type}
+use Rattle.rap_grammar.proofs.Unique.{over, unmarked, one_expression, one_type}
+use Rattle.rap_rules.specs.Items.{mod_contents, source_file}
+use Rattle.rap_grammar.proofs.Items.{file_whole, items_whole}
 
 -- one tree is kept as it is
 top_tree-whole : (t : Forest) → one_tree t ≡ true → top_tree t [] ≡ t
@@ -37,6 +41,33 @@ derived_type {t = t} i d =
 
 pub derived_type_clean : {input : List Record} {t output : Forest} → IsTopOf type_ input output → Derives Ty input t → message_count output ≡ 0
 derived_type_clean i d = ap message_count (derived_type i d) ∙ unmarked d
+
+-- statements of a macro that are derived stand under its node
+pub derived_statements : {input : List Record} {t output : Forest} → IsRootOf MACRO_STMTS macro_stmts input output → Derives Contents input t → output ≡ node none MACRO_STMTS t
+derived_statements {t = t} i d =
+    let e = one_end i.run (contents_whole d (none ∷ [])) in
+    i.tree ∙ ap (λ (p : Spot). node none MACRO_STMTS p.forest) e.spot
+
+pub derived_statements_clean : {input : List Record} {t output : Forest} → IsRootOf MACRO_STMTS macro_stmts input output → Derives Contents input t → message_count output ≡ 0
+derived_statements_clean {t = t} i d = ap message_count (derived_statements i d) ∙ over (unmarked d)
+
+-- a file that is derived
+pub derived_file : {input : List Record} {t output : Forest} → IsRootOf SOURCE_FILE source_file input output → Derives File input t → output ≡ t
+derived_file i (file_of d) =
+    let e = one_end i.run (file_whole d (none ∷ [])) in
+    i.tree ∙ ap (λ (p : Spot). node none SOURCE_FILE p.forest) e.spot
+
+pub derived_file_clean : {input : List Record} {t output : Forest} → IsRootOf SOURCE_FILE source_file input output → Derives File input t → message_count output ≡ 0
+derived_file_clean i d = ap message_count (derived_file i d) ∙ unmarked d
+
+-- items of a macro that are derived stand under its node
+pub derived_items : {input : List Record} {t output : Forest} → IsRootOf MACRO_ITEMS (mod_contents false) input output → Derives (Many Item) input t → output ≡ node none MACRO_ITEMS t
+derived_items i d =
+    let e = one_end i.run (items_whole d (none ∷ [])) in
+    i.tree ∙ ap (λ (p : Spot). node none MACRO_ITEMS p.forest) e.spot
+
+pub derived_items_clean : {input : List Record} {t output : Forest} → IsRootOf MACRO_ITEMS (mod_contents false) input output → Derives (Many Item) input t → message_count output ≡ 0
+derived_items_clean i d = ap message_count (derived_items i d) ∙ over (unmarked d)
 
 -- the same input gives the same output
 pub one_output : {s : Script Phrase} {input : List Record} {a b : Forest} → IsTopOf s input a → IsTopOf s input b → a ≡ b

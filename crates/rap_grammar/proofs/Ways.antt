@@ -1,7 +1,7 @@
 -- How scripts run over tokens that are known.
 use Rattle.std.proofs.Common.{rules, zero, suc, ◌≡◌, ◌≢◌, ℕ, ◌<◌, ◌≤◌, List, [], ◌∷◌, drop, Bool, true, false, not, refl, ap, arith, ◌==◌, nat_lt, codes}
 use Rattle.std.proofs.lemmas.Bool.Decides.{nat_tests}
-use Rattle.rap_base.specs.TokenKind.{EOF, EQ, IDENT, AMP, STAR, BANG, MINUS, DOT, COLON, COLON2, COMMA, QUESTION, INT_NUMBER, L_PAREN, R_PAREN, L_BRACK, R_BRACK, L_CURLY, MUT_KW, RAW_KW, AWAIT_KW, AS_KW, POUND, OUTER_DOC_COMMENT}
+use Rattle.rap_base.specs.TokenKind.{EOF, EQ, IDENT, AMP, STAR, BANG, MINUS, DOT, COLON, COLON2, COMMA, QUESTION, INT_NUMBER, FLOAT_NUMBER, L_PAREN, R_PAREN, L_BRACK, R_BRACK, L_CURLY, MUT_KW, RAW_KW, AWAIT_KW, AS_KW, POUND, OUTER_DOC_COMMENT}
 use Rattle.rap_base.specs.NodeKind.{BIN_EXPR, REF_EXPR, PREFIX_EXPR, LITERAL, PAREN_EXPR, PATH_EXPR, PATH, PATH_SEGMENT, NAME_REF, CALL_EXPR, INDEX_EXPR, TRY_EXPR, METHOD_CALL_EXPR, FIELD_EXPR, ARG_LIST}
 use Rattle.rap_events.specs.Record.{Record, next_kind, kind_at}
 use Rattle.rap_events.specs.Composite.{width, is_at, begins_with}
@@ -10,7 +10,7 @@ use Rattle.rap_events.specs.Power.{power}
 use Rattle.rap_events.specs.State.{but_last, last_children}
 use Rattle.rap_rules.specs.Atom.{unrestricted, expr, literal, path_expr, tuple_elements, tuple_expr, atom_expr, bracketed_expr}
 use Rattle.rap_rules.specs.Attributes.{outer_attrs}
-use Rattle.rap_rules.specs.Expressions.{operand_of, right_of, bin_expr, climb, ref_qualifier, ref_expr, prefix_expr, arg_list, call_expr, index_expr, try_expr, calls_method, method_arguments, method_call_expr, field_expr, postfix_dot_expr, is_access, postfix_expr, lhs, expr_from, expr_bp}
+use Rattle.rap_rules.specs.Expressions.{operand_of, right_of, bin_expr, climb, ref_qualifier, ref_expr, prefix_expr, arg_list, call_expr, index_expr, try_expr, calls_method, method_arguments, method_call_expr, field_expr, after_dot, name_after_dot, postfix_dot_expr, is_access, postfix_expr, lhs, expr_from, expr_bp}
 use Rattle.rap_rules.specs.First.{is_outer_attr_first, is_operand, is_atom, is_literal_first, is_path_name_or_index, is_expr_first, one_of, starts_expr_args}
 use Rattle.rap_rules.specs.Grammar.{name_ref_mod_path, name_ref_mod_path_or_index, elements, delimited}
 use Rattle.rap_rules.specs.Knot.{script_of}
@@ -41,7 +41,7 @@ pub record Single (t : Forest) : Type 0 where
   pub is : t ≡ node none kind children
 
 -- a node around the last node alone
-precedes_one : {s : Script Phrase} {b : List Forest} {rs : List Record} {t : Forest} {q : Spot} {v : Outcome} (f : Forest) → Single t →
+pub precedes_one : {s : Script Phrase} {b : List Forest} {rs : List Record} {t : Forest} {q : Spot} {v : Outcome} (f : Forest) → Single t →
     Runs script_of s (record { rest = rs; forest = t; below = f ∷ b }) q v → Runs script_of (precede s) (record { rest = rs; forest = f ⧺ t; below = b }) q v
 unfolding but_last
 precedes_one f h x = precedes (rw h.is (rw h.is at x))
@@ -63,7 +63,7 @@ apart : (a b : ℕ) → a ≢ b → (a == b) ≡ false
 apart a b h = grind (arith, nat_tests)
 
 -- tokens that begin with another one
-not_first : (k : ℕ) (ks : List ℕ) (rs : List Record) → (next_kind rs == k) ≡ false → begins_with (k ∷ ks) rs ≡ false
+pub not_first : (k : ℕ) (ks : List ℕ) (rs : List Record) → (next_kind rs == k) ≡ false → begins_with (k ∷ ks) rs ≡ false
 not_first k ks [] h = refl
 not_first k [] (r ∷ rs) h = h
 not_first k (j ∷ ks) (r ∷ rs) h = rw h refl
@@ -142,7 +142,7 @@ paren_way r {b = b} {f = f} e o x c =
     follows (no_literal (rw e refl) b f) (fails (rw e refl) (fails (rw e refl) (passes (rw e refl) (starts (takes (rw e refl) (follows (elements_way o x c) (passes (rw c refl) (takes (rw c refl) (finishes gives)))))))))
 
 -- no attribute comes next
-no_attributes : {b : List Forest} {rs : List Record} {f : Forest} → is_outer_attr_first (next_kind rs) ≡ false → Leads outer_attrs b rs f rs f
+pub no_attributes : {b : List Forest} {rs : List Record} {f : Forest} → is_outer_attr_first (next_kind rs) ≡ false → Leads outer_attrs b rs f rs f
 unfolding outer_attrs
 no_attributes e = stops (fails e gives) refl
 
@@ -159,7 +159,7 @@ extended_one : (f x : Forest) → Single x → node f (last_kind x) (but_last x 
 unfolding but_last last_children
 extended_one f x s = rw s.is (ap (λ (c : Forest). node f s.kind c) (none-⧺ s.children))
 
-differ_attributes : (k : ℕ) → is_operand k ≡ true → is_outer_attr_first k ≡ false
+pub differ_attributes : (k : ℕ) → is_operand k ≡ true → is_outer_attr_first k ≡ false
 differ_attributes k o = rw (differ_back is_operand k POUND o refl, differ_back is_operand k OUTER_DOC_COMMENT o refl) refl
 
 pub from_way : (r : Restrictions) (bp : ℕ) {b : List Forest} {rs m l : List Record} {f x g : Forest} → is_operand (next_kind rs) ≡ true → Single x → Leads (lhs r) (f ∷ b) rs none m x → Leads (climb r bp) b m (f ⧺ x) l g → LeadsOut (attributed r bp) b rs f l g
@@ -239,14 +239,15 @@ unfolding postfix_expr
 dot_way {a = a} {c = c} {rs = rs} e d x y = turns (fails (rw e refl) (fails (rw e refl) (passes (access a c rs e d) (follows x gives)))) y
 
 -- a field's name or number, where no call follows
-field_way : {b : List Forest} {a c : Record} {m l : List Record} {f t g : Forest} → Single t → a.kind ≡ DOT → is_path_name_or_index c.kind ≡ true → calls_method 1 (a ∷ c ∷ m) ≡ false →
+field_way : {b : List Forest} {a c : Record} {m l : List Record} {f t g : Forest} → Single t → a.kind ≡ DOT → is_path_name_or_index c.kind ≡ true → calls_method (c ∷ m) ≡ false →
     Leads (postfix_expr true false) b m (node f FIELD_EXPR (node (leaf t DOT 1) NAME_REF (leaf none c.kind 1))) l g → Leads (postfix_expr true false) b (a ∷ c ∷ m) (f ⧺ t) l g
-unfolding postfix_dot_expr field_expr name_ref_mod_path_or_index
+unfolding postfix_dot_expr after_dot name_after_dot field_expr name_ref_mod_path_or_index
 field_way {c = c} {f = f} h e i call y =
     let k = c.kind in
     let some : k ≢ EOF = λ z. let x : is_path_name_or_index EOF ≡ true = rw z at i in absurd cc in
     dot_way e (differ is_path_name_or_index k DOT i refl)
-    (fails call (fails (differ is_path_name_or_index k AWAIT_KW i refl) (precedes_one f h (takes (rw e refl) (passes i (follows (passes i (starts (takes_any some (finishes gives)))) (finishes gives))))))) y
+    (precedes_one f h (takes (rw e refl) (stops (fails (differ is_path_name_or_index k FLOAT_NUMBER i refl) (fails call (fails (differ is_path_name_or_index k AWAIT_KW i refl)
+    (passes i (follows (passes i (starts (takes_any some (finishes gives)))) (finishes gives)))))) refl))) y
 
 pub kind_at-drop : (rs : List Record) (n : ℕ) → kind_at rs n ≡ next_kind (drop n rs)
 kind_at-drop [] zero = refl
@@ -254,7 +255,7 @@ kind_at-drop [] (suc n) = refl
 kind_at-drop (r ∷ rs) zero = refl
 kind_at-drop (r ∷ rs) (suc n) = kind_at-drop rs n
 
-kind_at_first : (rs : List Record) → kind_at rs 0 ≡ next_kind rs
+pub kind_at_first : (rs : List Record) → kind_at rs 0 ≡ next_kind rs
 kind_at_first [] = refl
 kind_at_first (r ∷ rs) = refl
 
@@ -277,11 +278,13 @@ no_arguments e = fails (rw e refl) gives
 
 pub method_way : {b : List Forest} {a c : Record} {rs m l : List Record} {f t x g : Forest} → Single t → a.kind ≡ DOT → c.kind ≡ IDENT → next_kind rs ≡ L_PAREN → Leads arg_list (f ∷ b) rs (node (leaf t DOT 1) NAME_REF (leaf none IDENT 1)) m x →
     Leads (postfix_expr true false) b m (node f METHOD_CALL_EXPR x) l g → Leads (postfix_expr true false) b (a ∷ c ∷ rs) (f ⧺ t) l g
-unfolding postfix_dot_expr method_call_expr method_arguments calls_method
+unfolding postfix_dot_expr after_dot name_after_dot method_call_expr method_arguments calls_method
 method_way {rs = rs} {f = f} h e n p x y =
     let there : (kind_at rs 0 == L_PAREN) ≡ true = rw (kind_at_first rs, p) refl in
     let colons : is_at COLON2 rs ≡ false = not_first COLON (COLON ∷ []) rs (rw p refl) in
-    dot_way e (rw n refl) (passes (rw (n, there) refl) (precedes_one f h (takes (rw e refl) (passes (rw n refl) (follows (name_way n) (follows (no_arguments colons) (passes (rw p refl) (follows x (finishes gives))))))))) y
+    dot_way e (rw n refl)
+    (precedes_one f h (takes (rw e refl) (stops (fails (rw n refl) (passes (rw (n, there) refl)
+    (passes (rw n refl) (follows (name_way n) (follows (no_arguments colons) (passes (rw p refl) (follows x (finishes gives)))))))) refl))) y
 
 -- arguments
 abbrev pub arguments : Script Phrase
