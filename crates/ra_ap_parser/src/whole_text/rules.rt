@@ -9,6 +9,7 @@ mod conditions;
 mod constants;
 mod enums;
 mod expressions;
+mod floats;
 mod function_params;
 mod functions;
 mod generic_args;

@@ -139,7 +139,7 @@ fn name_after_dot<G: Grammar>(
 fn is_method_call(p: &Parser<'_>) -> bool
     ensures { result ≡ calls_method (state p.now).rest }
 {
-    if p.at(T!['(']) {
+    if p.current() == T!['('] {
         return true;
     }
     is_path_name(p.current()) && (p.nth(1) == T!['('] || p.nth_at(1, T![::]))

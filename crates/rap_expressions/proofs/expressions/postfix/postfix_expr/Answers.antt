@@ -1,4 +1,4 @@
-use Rattle.std.proofs.Common.{rules, refl, ◌≡◌, false, ◌==◌}
+use Rattle.std.proofs.Common.{rules, refl, ◌≡◌, true, false, ◌==◌}
 use Rattle.rap_base.specs.TokenKind.{L_PAREN, L_BRACK, DOT, QUESTION}
 use Rattle.rap_events.specs.State.{state, next}
 use Rattle.rap_rules.specs.Expressions.{postfix_expr}
@@ -30,16 +30,27 @@ postfixes-preserved-in_ok-lhs-2 g c =
       script = turn c.postfixes.invariant.script (fails (rw e refl) (passes (rw (e, c.if-allow_calls-2.true) refl) (by_rule c.in_ok-lhs-2.ensures.script gives)));
     }
 
-pub postfixes-preserved-in_ok-lhs-3 : goal.postfixes-preserved-in_ok-lhs-3
-postfixes-preserved-in_ok-lhs-3 g c =
+pub postfixes-preserved-else-not-goes_on : goal.postfixes-preserved-else-not-goes_on
+postfixes-preserved-else-not-goes_on g c =
     let e : next (state c.postfixes.p) ≡ DOT = search rules in
+    let on : c.in_ok-access.goes_on ≡ true = search rules in
     record {
       grew = search rules;
       last = search rules;
       plain = search rules;
       one = search rules;
-      script = turn c.postfixes.invariant.script (fails (rw e refl) (fails (rw e refl) (passes (rw (e, ← c.at.ensures, ← c.at-then-not-at.ensures, c.if-not-at.true, c.if-not-at-2.true) refl) (by_rule c.in_ok-lhs-3.ensures.script gives))));
+      script = turn c.postfixes.invariant.script (fails (rw e refl) (fails (rw e refl) (passes (rw (e, ← c.at.ensures, ← c.at-then-not-at.ensures, c.if-not-at.true, c.if-not-at-2.true) refl) (by_rule c.in_ok-access.ensures.script (rw on gives)))));
     }
+
+pub returns-then-not-goes_on-clause-script : goal.returns-then-not-goes_on-clause-script
+unfolding postfix_expr
+returns-then-not-goes_on-clause-script g c = record {
+  run =
+      let e : next (state c.postfixes.p) ≡ DOT = search rules in
+      let b = c.postfixes.block_like in
+      let on : c.in_ok-access.goes_on ≡ false = search rules in
+      last_turn c.postfixes.invariant.script (fails (rw e refl) (fails (rw e refl) (passes (rw (e, ← c.at.ensures, ← c.at-then-not-at.ensures, c.if-not-at.true, c.if-not-at-2.true) refl) (by_rule c.in_ok-access.ensures.script (rw (on, like_is b) gives))))) (like_ends b);
+}
 
 pub postfixes-preserved : goal.postfixes-preserved
 postfixes-preserved g c =
@@ -49,7 +60,7 @@ postfixes-preserved g c =
       last = search rules;
       plain = search rules;
       one = search rules;
-      script = turn c.postfixes.invariant.script (fails (rw e refl) (fails (rw e refl) (fails (rw e refl) (passes (rw e refl) (by_rule c.in_ok-lhs-4.ensures.script gives)))));
+      script = turn c.postfixes.invariant.script (fails (rw e refl) (fails (rw e refl) (fails (rw e refl) (passes (rw e refl) (by_rule c.in_ok-lhs-3.ensures.script gives)))));
     }
 
 pub returns-in_default-clause-script : goal.returns-in_default-clause-script
