@@ -139,14 +139,14 @@ impl PrefixEntryPoint {
         ensures script { IfOk result (IsPrefixOutputOf self.now input.now) }
     {
         match self {
-            PrefixEntryPoint::Vis => part::part(alloc, input, Part::Visibility),
-            PrefixEntryPoint::Block => part::part(alloc, input, Part::Block),
+            PrefixEntryPoint::Vis => part::parse_part(alloc, input, Part::Visibility),
+            PrefixEntryPoint::Block => part::parse_part(alloc, input, Part::Block),
             PrefixEntryPoint::Stmt => part::stmt(alloc, input),
             PrefixEntryPoint::Pat => part::pattern_single(alloc, input),
             PrefixEntryPoint::PatTop => part::pattern(alloc, input),
             PrefixEntryPoint::Ty => part::type_(alloc, input),
             PrefixEntryPoint::Expr => part::expr(alloc, input),
-            PrefixEntryPoint::Path => part::part(alloc, input, Part::Path),
+            PrefixEntryPoint::Path => part::parse_part(alloc, input, Part::Path),
             PrefixEntryPoint::Item => part::item(alloc, input),
             PrefixEntryPoint::MetaItem => part::meta_item(alloc, input),
         }

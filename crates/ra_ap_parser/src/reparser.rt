@@ -10,7 +10,7 @@ use rap_base::no_memory::NoMemory;
 use rap_base::syntax_kind::SyntaxKind;
 use rap_events::input::Input;
 use rap_events::output::Output;
-use rap_grammar::entry::part::{Part, part};
+use rap_grammar::entry::part::{Part, parse_part};
 use std::alloc::Global;
 use std::marker::Model;
 
@@ -90,7 +90,7 @@ impl Reparser {
         if input.len() > MAX_TOKENS {
             return Err(ParseFault::TooManyTokens);
         }
-        match part(alloc, input, self.part) {
+        match parse_part(alloc, input, self.part) {
             Ok(output) => Ok(output),
             Err(NoMemory) => Err(ParseFault::NoMemory),
         }

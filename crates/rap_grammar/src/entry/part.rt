@@ -120,7 +120,7 @@ fn run_part(p: &mut Parser<'_>, part: Part) -> Result<(), NoMemory>
 }
 
 /// A part from the front of the input. Where it stands in braces and one comes first, the output is its node alone.
-pub fn part(alloc: Global, input: &Input, part: Part) -> Result<Output, NoMemory>
+pub fn parse_part(alloc: Global, input: &Input, part: Part) -> Result<Output, NoMemory>
     requires few { length input.now ≤ 8388607 }
     requires brace { asks_brace part ≡ true → next_kind input.now ≡ L_CURLY }
     ensures prefix { IfOk result (IsPrefixOver input.now) }
