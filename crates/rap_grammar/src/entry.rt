@@ -96,6 +96,15 @@ fn pattern(p: &mut Parser<'_>) -> Result<(), NoMemory>
     Ok(())
 }
 
+/// Reads a pattern without alternatives.
+fn pattern_single(p: &mut Parser<'_>) -> Result<(), NoMemory>
+    ensures grew { OnOk result (Grew (state p.old) (state p.new) 8) }
+    ensures script { OnOk result (Follows called.pattern_single something (state p.old) (state p.new)) }
+{
+    run(p, Rule::PatternSingle)?;
+    Ok(())
+}
+
 /// Reads a type.
 fn type_(p: &mut Parser<'_>) -> Result<(), NoMemory>
     ensures reads { OnOk result (IsType (state p.old) (state p.new)) }

@@ -1,5 +1,5 @@
 //! Entries that read one thing from the front of an input, and leave what stands behind it.
-ghost use Rattle.std.specs.Prelude.{◌≡◌, ◌≤◌, length, IfOk, OnOk, true, false};
+ghost use Rattle.std.specs.Prelude.{◌≡◌, ◌<◌, ◌≤◌, length, IfOk, OnOk, true, false};
 ghost use Rattle.rap_base.specs.TokenKind.{L_CURLY};
 ghost use Rattle.rap_events.specs.Forest.{node};
 ghost use Rattle.rap_events.specs.Record.{next_kind};
@@ -153,7 +153,7 @@ pub fn pattern_single(alloc: Global, input: &Input) -> Result<Output, NoMemory>
     ensures script { IfOk result (IsPrefixOf called.pattern_single input.now) }
 {
     let mut p = Parser::new(alloc, input);
-    run(&mut p, Rule::PatternSingle)?;
+    super::pattern_single(&mut p)?;
     let output = p.process(alloc)?;
     Ok(output)
 }

@@ -1,0 +1,10 @@
+use Rattle.rap_rules.specs.Called.{pattern_single}
+use Rattle.rap_rules.specs.Knot.{script_of}
+use Rattle.rap_rules.specs.Phrase.{single_pattern}
+use Rattle.rap_rules.specs.Script.{gives}
+use Rattle.rap_rules.proofs.Steps.{by_part}
+use Rattle.rap_grammar.proofs.entry.pattern_single.Goals as goal
+
+pub returns-clause-script : goal.returns-clause-script
+unfolding pattern_single script_of
+returns-clause-script c = record { run = by_part single_pattern c.in_ok-run.ensures.1 gives }
