@@ -19,6 +19,7 @@ use rap_events::input::Input;
 use rap_events::output::Output;
 use std::alloc::Global;
 
+mod attached;
 mod builder;
 mod contextual;
 #[cfg(test)]
