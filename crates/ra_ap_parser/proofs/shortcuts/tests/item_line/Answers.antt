@@ -6,8 +6,8 @@ use Rattle.rap_events.specs.State.{state}
 use Rattle.ra_ap_parser.specs.Input.{records}
 use Rattle.ra_ap_parser.proofs.shortcuts.tests.item_line.Goals as goal
 
-pub intersperse_trivia-requires-clause-prefix : goal.intersperse_trivia-requires-clause-prefix
-intersperse_trivia-requires-clause-prefix c =
-    let same : (state c.error.new.self).input ≡ records c.in_ok-lexed.lexed.tokens Edition2024 = search rules in
+pub intersperse_trivia-answer-requires-clause-prefix : goal.intersperse_trivia-answer-requires-clause-prefix
+intersperse_trivia-answer-requires-clause-prefix c =
+    let same : (state c.complete.new.p).input ≡ records c.in_ok-lexed.lexed.tokens Edition2024 = search rules in
     let whole : covers (records c.in_ok-lexed.lexed.tokens Edition2024) c.in_ok-output.output ≡ true = sym (ap (λ (rs : List Record). covers rs c.in_ok-output.output) same) ∙ c.in_ok-output.ensures.covers in
     (Edition2024, rw c.in_ok-tree.ensures whole)
