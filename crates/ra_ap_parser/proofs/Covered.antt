@@ -14,6 +14,7 @@ use Rattle.ra_ap_parser.specs.LexedStr.{Token, start_of}
 use Rattle.ra_ap_parser.specs.StrForest.{StrForest, str_none, str_node, with_leaves}
 use Rattle.ra_ap_parser.specs.Input.{ends_with_dot, records}
 use Rattle.ra_ap_parser.specs.Builder.{after_float}
+use Rattle.ra_ap_parser.specs.Attached.{attached_tail, before_tail}
 use Rattle.ra_ap_parser.specs.Trivia.{is_trivial, is_significant, significant, trivia_at, past_trivia, text_of, end_of, placed, LeavesTouch, TreeTouches}
 use Rattle.ra_ap_parser.proofs.Joined.{tree_end, after_node-plain}
 use Rattle.rap_events.proofs.Trees.{Tree, nothing, a_node, a_leaf, a_message, dotted, apart}
@@ -156,7 +157,8 @@ module _ (ts : List Token) (edition : Edition) where
   fits-flat at start (node b kind x) ls xs (a_node t u z) i h k =
       let inside : ℕ = past_trivia ts (end_of ts at b) in
       let s : Inside at b (leaves x ++ ls) = inside-of at b (leaves x) ls h in
-      let same = after_node-plain ts inside x (str_node (with_leaves (placed ts at start b) (trivia_at ts (end_of ts at b))) kind (placed ts inside str_none x)) z in
+      let trivia : List Token = trivia_at ts (end_of ts at b) in
+      let same = after_node-plain ts inside x (str_node (with_leaves (placed ts at start b) (before_tail kind trivia)) kind (placed ts inside (with_leaves str_none (attached_tail kind trivia)) x)) z in
       let last : Fits ts PendingExit (end_of ts inside x) xs = subst (λ (w : StrForest). Fits ts (state_of w) (end_of ts inside x) xs) same k in
       subst (λ (l : List StepValue). Fits ts (state_of start) at l) (sym (flat-node b kind x xs z))
       (fits-flat at start b (leaves x ++ ls) (enter kind ∷ (flat x ++ (exit ∷ xs))) t i s.before

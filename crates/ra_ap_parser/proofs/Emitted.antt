@@ -12,10 +12,11 @@ use Rattle.ra_ap_parser.specs.declared.shortcuts.builder.State.TheVariants.{Pend
 use Rattle.ra_ap_parser.specs.LexedStr.{Token, start_of}
 use Rattle.ra_ap_parser.specs.StrStep.{StrStepValue, str_enter, str_exit, str_token, str_error}
 use Rattle.ra_ap_parser.specs.StrForest.{StrForest, str_none, str_node, str_leaf, str_message, str_flat, with_leaves, with_message}
+use Rattle.ra_ap_parser.specs.Attached.{attached_tail, before_tail}
 use Rattle.ra_ap_parser.specs.Trivia.{trivia_at, past_trivia, text_of, end_of, float_text, placed, with_trivia}
 use Rattle.ra_ap_parser.specs.FloatParts.{is_dot, has_dot, without_dot, illegal, with_number}
 use Rattle.ra_ap_parser.proofs.Joined.{tree_end, after_node-plain}
-use Rattle.ra_ap_parser.specs.Builder.{held, leaves_of, before_next, number_steps, dotted_steps, illegal_steps, float_steps, made_of, state_after, place_after, CanMake}
+use Rattle.ra_ap_parser.specs.Builder.{held, leaves_of, before_next, enter_steps, number_steps, dotted_steps, illegal_steps, float_steps, made_of, state_after, place_after, CanMake}
 
 -- what remains to be handed out before the steps that are left, from a place on
 abbrev pub emitted : List Token → State → ℕ → List StepValue → List StrStepValue
@@ -68,8 +69,8 @@ str_flat-with_leaves : (ts : List Token) (g : StrForest) → str_flat (with_leav
 str_flat-with_leaves [] g = sym (append-nil (str_flat g))
 str_flat-with_leaves (t ∷ ts) g = str_flat-with_leaves ts (str_leaf g t.kind t.text) ∙ append_assoc (str_flat g) (str_token t.kind t.text ∷ []) (leaves_of ts)
 
--- past the root's beginning a node's beginning comes after what waits and the trivia
-pub made-next : (ts : List Token) (state : State) (at kind : ℕ) → (state ≡ PendingEnter → ⊥) → made_of ts state at (enter kind) ≡ before_next ts state at ++ str_enter kind ∷ []
+-- past the root's beginning a node begins after what waits, between the trivia
+pub made-next : (ts : List Token) (state : State) (at kind : ℕ) → (state ≡ PendingEnter → ⊥) → made_of ts state at (enter kind) ≡ enter_steps ts state at kind
 made-next ts PendingEnter at kind h = absurd (h refl)
 made-next ts Normal at kind h = refl
 made-next ts PendingExit at kind h = refl
@@ -79,8 +80,8 @@ place-next ts PendingEnter at kind h = absurd (h refl)
 place-next ts Normal at kind h = refl
 place-next ts PendingExit at kind h = refl
 
--- past the root's beginning a node's beginning is handed out after what waits and the trivia
-made-enter : (ts : List Token) (g : StrForest) (at kind : ℕ) → made_of ts (state_of g) at (enter kind) ≡ before_next ts (state_of g) at ++ str_enter kind ∷ []
+-- so it does after a forest
+made-enter : (ts : List Token) (g : StrForest) (at kind : ℕ) → made_of ts (state_of g) at (enter kind) ≡ enter_steps ts (state_of g) at kind
 made-enter ts str_none at kind = refl
 made-enter ts (str_node before k children) at kind = refl
 made-enter ts (str_leaf before k text) at kind = refl
@@ -91,6 +92,32 @@ place-enter ts str_none at kind = refl
 place-enter ts (str_node before k children) at kind = refl
 place-enter ts (str_leaf before k text) at kind = refl
 place-enter ts (str_message before m p) at kind = refl
+
+-- leaves alone
+state_of-with_leaves : (ls : List Token) (g : StrForest) → state_of g ≡ Normal → state_of (with_leaves g ls) ≡ Normal
+state_of-with_leaves [] g h = h
+state_of-with_leaves (t ∷ ls) g h = state_of-with_leaves ls (str_leaf g t.kind t.text) refl
+
+open_flat-leaves : (ls : List Token) → open_flat (with_leaves str_none ls) ≡ leaves_of ls
+open_flat-leaves ls =
+    let g : StrForest = with_leaves str_none ls in
+    sym (append-nil (open_flat g))
+    ∙ ap (λ s. open_flat g ++ held s) (sym (state_of-with_leaves ls str_none refl))
+    ∙ open_flat-held g
+    ∙ str_flat-with_leaves ls str_none
+
+-- after a forest: what waits, a node's beginning with the trivia around it, and more steps
+around : (first waiting before tail rest : List StrStepValue) (kind : ℕ) → first ++ ((waiting ++ (before ++ str_enter kind ∷ tail)) ++ rest) ≡ (((first ++ waiting) ++ before) ++ str_enter kind ∷ []) ++ (tail ++ rest)
+around first waiting before tail rest kind = simp append_assoc
+
+enter-steps : (ts : List Token) (at : ℕ) (g : StrForest) (kind : ℕ) (rest : List StrStepValue) →
+    open_flat g ++ (enter_steps ts (state_of g) at kind ++ rest)
+    ≡ (str_flat (with_leaves g (before_tail kind (trivia_at ts at))) ++ str_enter kind ∷ []) ++ (leaves_of (attached_tail kind (trivia_at ts at)) ++ rest)
+enter-steps ts at g kind rest =
+    let before : List Token = before_tail kind (trivia_at ts at) in
+    let tail : List StrStepValue = leaves_of (attached_tail kind (trivia_at ts at)) in
+    around (open_flat g) (held (state_of g)) (leaves_of before) tail rest kind
+    ∙ ap (λ l. (l ++ str_enter kind ∷ []) ++ (tail ++ rest)) (ap (λ l. l ++ leaves_of before) (open_flat-held g) ∙ sym (str_flat-with_leaves before g))
 
 -- after a forest: what waits, the trivia, and more steps
 next-steps : (ts : List Token) (at : ℕ) (g : StrForest) (ys rest : List StrStepValue) → open_flat g ++ ((before_next ts (state_of g) at ++ ys) ++ rest) ≡ (str_flat (with_leaves g (trivia_at ts at)) ++ ys) ++ rest
@@ -147,13 +174,20 @@ module _ (ts : List Token) where
   -- a node begins
   begun : (at : ℕ) (start : StrForest) (b : Forest) (k : ℕ) (more : List StepValue) →
       open_flat (placed ts at start b) ++ emitted ts (state_of (placed ts at start b)) (end_of ts at b) (enter k ∷ more)
-      ≡ (str_flat (with_leaves (placed ts at start b) (trivia_at ts (end_of ts at b))) ++ str_enter k ∷ []) ++ emitted ts Normal (past_trivia ts (end_of ts at b)) more
+      ≡ (str_flat (with_leaves (placed ts at start b) (before_tail k (trivia_at ts (end_of ts at b)))) ++ str_enter k ∷ [])
+      ++ (open_flat (with_leaves str_none (attached_tail k (trivia_at ts (end_of ts at b))))
+      ++ emitted ts (state_of (with_leaves str_none (attached_tail k (trivia_at ts (end_of ts at b))))) (past_trivia ts (end_of ts at b)) more)
   begun at start b k more =
       let g : StrForest = placed ts at start b in
       let e : ℕ = end_of ts at b in
+      let p : ℕ = past_trivia ts e in
+      let ls : List Token = attached_tail k (trivia_at ts e) in
       ap (λ l. open_flat g ++ (l ++ emitted ts Normal (place_after ts (state_of g) e (enter k)) more)) (made-enter ts g e k)
-      ∙ ap (λ p. open_flat g ++ ((before_next ts (state_of g) e ++ str_enter k ∷ []) ++ emitted ts Normal p more)) (place-enter ts g e k)
-      ∙ next-steps ts e g (str_enter k ∷ []) (emitted ts Normal (past_trivia ts e) more)
+      ∙ ap (λ q. open_flat g ++ (enter_steps ts (state_of g) e k ++ emitted ts Normal q more)) (place-enter ts g e k)
+      ∙ enter-steps ts e g k (emitted ts Normal p more)
+      ∙ ap (λ l. (str_flat (with_leaves g (before_tail k (trivia_at ts e))) ++ str_enter k ∷ []) ++ l)
+      (ap (λ l. l ++ emitted ts Normal p more) (sym (open_flat-leaves ls))
+      ∙ ap (λ s. open_flat (with_leaves str_none ls) ++ emitted ts s p more) (sym (state_of-with_leaves ls str_none refl)))
 
   -- a forest's steps are handed out but for the end of a last node
   pub emitted-flat : (at : ℕ) (start : StrForest) (f : Forest) (xs : List StepValue) → Tree f →
@@ -163,35 +197,39 @@ module _ (ts : List Token) where
   emitted-flat at start (node b k x) xs (a_node t u h) =
       let e : ℕ = end_of ts at b in
       let inside : ℕ = past_trivia ts e in
-      let prefix : StrForest = with_leaves (placed ts at start b) (trivia_at ts e) in
-      let g : StrForest = placed ts inside str_none x in
+      let prefix : StrForest = with_leaves (placed ts at start b) (before_tail k (trivia_at ts e)) in
+      let tail : StrForest = with_leaves str_none (attached_tail k (trivia_at ts e)) in
+      let g : StrForest = placed ts inside tail x in
       ap (λ l. open_flat start ++ emitted ts (state_of start) at l) (flat-node b k x xs h)
       ∙ emitted-flat at start b (enter k ∷ (flat x ++ (exit ∷ xs))) t
       ∙ begun at start b k (flat x ++ (exit ∷ xs))
-      ∙ ap (λ l. (str_flat prefix ++ str_enter k ∷ []) ++ l) (emitted-flat inside str_none x (exit ∷ xs) u)
+      ∙ ap (λ l. (str_flat prefix ++ str_enter k ∷ []) ++ l) (emitted-flat inside tail x (exit ∷ xs) u)
       ∙ node-steps (str_flat prefix) k g (emitted ts PendingExit (end_of ts inside x) xs)
       ∙ ap (λ w. open_flat w ++ emitted ts (state_of w) (end_of ts inside x) xs) (sym (after_node-plain ts inside x (str_node prefix k g) h))
   emitted-flat at start (node b k (split y true)) xs (dotted t u) =
       let e : ℕ = end_of ts at b in
       let inside : ℕ = past_trivia ts e in
-      let prefix : StrForest = with_leaves (placed ts at start b) (trivia_at ts e) in
-      let g : StrForest = placed ts inside str_none y in
+      let prefix : StrForest = with_leaves (placed ts at start b) (before_tail k (trivia_at ts e)) in
+      let tail : StrForest = with_leaves str_none (attached_tail k (trivia_at ts e)) in
+      let g : StrForest = placed ts inside tail y in
       let d : ℕ = end_of ts inside y in
       let text : List ℕ = float_text ts inside y in
       let rest : List StrStepValue = emitted ts Normal (past_trivia ts d + 1) xs in
       ap (λ l. open_flat start ++ emitted ts (state_of start) at l) (flat-dotted b k y xs)
       ∙ emitted-flat at start b (enter k ∷ (flat y ++ (float_split true ∷ xs))) t
       ∙ begun at start b k (flat y ++ (float_split true ∷ xs))
-      ∙ ap (λ l. (str_flat prefix ++ str_enter k ∷ []) ++ l) (emitted-flat inside str_none y (float_split true ∷ xs) u ∙ next-steps ts d g (dotted_steps (without_dot text)) rest)
+      ∙ ap (λ l. (str_flat prefix ++ str_enter k ∷ []) ++ l) (emitted-flat inside tail y (float_split true ∷ xs) u ∙ next-steps ts d g (dotted_steps (without_dot text)) rest)
       ∙ dotted-steps (str_flat prefix) (str_flat (with_leaves g (trivia_at ts d))) k (without_dot text) rest
   emitted-flat at start (node b k (node c j (split y false))) xs (apart t u v) =
       let e : ℕ = end_of ts at b in
       let inside : ℕ = past_trivia ts e in
-      let prefix : StrForest = with_leaves (placed ts at start b) (trivia_at ts e) in
+      let prefix : StrForest = with_leaves (placed ts at start b) (before_tail k (trivia_at ts e)) in
+      let tail : StrForest = with_leaves str_none (attached_tail k (trivia_at ts e)) in
       let e2 : ℕ = end_of ts inside c in
       let inside2 : ℕ = past_trivia ts e2 in
-      let prefix2 : StrForest = with_leaves (placed ts inside str_none c) (trivia_at ts e2) in
-      let g : StrForest = placed ts inside2 str_none y in
+      let prefix2 : StrForest = with_leaves (placed ts inside tail c) (before_tail j (trivia_at ts e2)) in
+      let tail2 : StrForest = with_leaves str_none (attached_tail j (trivia_at ts e2)) in
+      let g : StrForest = placed ts inside2 tail2 y in
       let d : ℕ = end_of ts inside2 y in
       let text : List ℕ = float_text ts inside2 y in
       let pos : ℕ = start_of ts (past_trivia ts d) in
@@ -200,11 +238,11 @@ module _ (ts : List Token) where
       ∙ emitted-flat at start b (enter k ∷ (flat c ++ (enter j ∷ (flat y ++ (float_split false ∷ xs))))) t
       ∙ begun at start b k (flat c ++ (enter j ∷ (flat y ++ (float_split false ∷ xs))))
       ∙ ap (λ l. (str_flat prefix ++ str_enter k ∷ []) ++ l)
-      (emitted-flat inside str_none c (enter j ∷ (flat y ++ (float_split false ∷ xs))) u
-      ∙ begun inside str_none c j (flat y ++ (float_split false ∷ xs))
-      ∙ ap (λ l. (str_flat prefix2 ++ str_enter j ∷ []) ++ l) (emitted-flat inside2 str_none y (float_split false ∷ xs) v ∙ next-steps ts d g (float_steps false text pos) rest)
+      (emitted-flat inside tail c (enter j ∷ (flat y ++ (float_split false ∷ xs))) u
+      ∙ begun inside tail c j (flat y ++ (float_split false ∷ xs))
+      ∙ ap (λ l. (str_flat prefix2 ++ str_enter j ∷ []) ++ l) (emitted-flat inside2 tail2 y (float_split false ∷ xs) v ∙ next-steps ts d g (float_steps false text pos) rest)
       ∙ apart-steps (has_dot text) j prefix2 (with_leaves g (trivia_at ts d)) text (before_first is_dot text) (after_first is_dot text) pos rest)
-      ∙ open-node (str_flat prefix) (str_flat (placed ts inside str_none (node c j (split y false)))) k rest
+      ∙ open-node (str_flat prefix) (str_flat (placed ts inside tail (node c j (split y false)))) k rest
   emitted-flat at start (leaf b k w) xs (a_leaf t) =
       let e : ℕ = end_of ts at b in
       ap (λ l. open_flat start ++ emitted ts (state_of start) at l) (append_assoc (flat b) (token k w ∷ []) xs)
@@ -226,8 +264,9 @@ module _ (ts : List Token) where
   emitted-half at c j y xs u v =
       let e : ℕ = end_of ts at c in
       let inside : ℕ = past_trivia ts e in
-      let prefix : StrForest = with_leaves (placed ts at str_none c) (trivia_at ts e) in
-      let g : StrForest = placed ts inside str_none y in
+      let prefix : StrForest = with_leaves (placed ts at str_none c) (before_tail j (trivia_at ts e)) in
+      let tail : StrForest = with_leaves str_none (attached_tail j (trivia_at ts e)) in
+      let g : StrForest = placed ts inside tail y in
       let d : ℕ = end_of ts inside y in
       let text : List ℕ = float_text ts inside y in
       let pos : ℕ = start_of ts (past_trivia ts d) in
@@ -235,7 +274,7 @@ module _ (ts : List Token) where
       ap (emitted ts Normal at) (flat-half c j y xs)
       ∙ emitted-flat at str_none c (enter j ∷ (flat y ++ (float_split false ∷ xs))) u
       ∙ begun at str_none c j (flat y ++ (float_split false ∷ xs))
-      ∙ ap (λ l. (str_flat prefix ++ str_enter j ∷ []) ++ l) (emitted-flat inside str_none y (float_split false ∷ xs) v ∙ next-steps ts d g (float_steps false text pos) rest)
+      ∙ ap (λ l. (str_flat prefix ++ str_enter j ∷ []) ++ l) (emitted-flat inside tail y (float_split false ∷ xs) v ∙ next-steps ts d g (float_steps false text pos) rest)
       ∙ apart-steps (has_dot text) j prefix (with_leaves g (trivia_at ts d)) text (before_first is_dot text) (after_first is_dot text) pos rest
 
   -- what is left at the root's end
@@ -278,12 +317,13 @@ module _ (ts : List Token) where
   ending-flat at start (node b k x) xs (a_node t u h) =
       let e : ℕ = end_of ts at b in
       let inside : ℕ = past_trivia ts e in
-      let prefix : StrForest = with_leaves (placed ts at start b) (trivia_at ts e) in
+      let prefix : StrForest = with_leaves (placed ts at start b) (before_tail k (trivia_at ts e)) in
+      let tail : StrForest = with_leaves str_none (attached_tail k (trivia_at ts e)) in
       ap (ending ts (state_of start) at) (flat-node b k x xs h)
       ∙ ending-flat at start b (enter k ∷ (flat x ++ (exit ∷ xs))) t
       ∙ ap (λ p. ending ts Normal p (flat x ++ (exit ∷ xs))) (place-enter ts (placed ts at start b) e k)
       ∙ ending-flat inside str_none x (exit ∷ xs) u
-      ∙ ap (λ w. ending ts (state_of w) (end_of ts inside x) xs) (sym (after_node-plain ts inside x (str_node prefix k (placed ts inside str_none x)) h))
+      ∙ ap (λ w. ending ts (state_of w) (end_of ts inside x) xs) (sym (after_node-plain ts inside x (str_node prefix k (placed ts inside tail x)) h))
   ending-flat at start (node b k (split y true)) xs (dotted t u) =
       let e : ℕ = end_of ts at b in
       let inside : ℕ = past_trivia ts e in

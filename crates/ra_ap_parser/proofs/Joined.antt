@@ -5,7 +5,7 @@ use Rattle.std.specs.Str.{byte}
 use Rattle.std.proofs.Common.{◌≡◌, refl, sym, ◌∙◌, ap, List, [], ◌∷◌, ◌++◌, ℕ, ◌+◌, ◌-◌, ◌<◌, Bool, true, false, append_assoc, append-nil, take, drop, length, get_or, arith}
 use Rattle.std.proofs.Math.Seq.{take-add}
 use Rattle.std.proofs.lemmas.Bool.{eqb-true, ltb-true}
-use Rattle.std.proofs.lemmas.List.{take_all, take_more}
+use Rattle.std.proofs.lemmas.List.{take-append-drop, take_all, take_more}
 use Rattle.std.proofs.lemmas.List.Sums.{split_at_first, passes_at_first}
 use Rattle.rap_base.specs.TokenKind.{DOT, ERROR, FLOAT_NUMBER}
 use Rattle.rap_events.specs.Forest.{Forest, none, node, leaf, message, split, split_ends, one_tree}
@@ -15,6 +15,7 @@ use Rattle.ra_ap_parser.specs.Input.{ends_with_dot}
 use Rattle.ra_ap_parser.specs.LexedStr.{Token, joined, start_of}
 use Rattle.ra_ap_parser.specs.StrForest.{StrForest, str_none, str_node, str_leaf, str_message, str_joined, str_one_tree, with_leaves, with_message}
 use Rattle.ra_ap_parser.proofs.Tokens.{joined-append}
+use Rattle.ra_ap_parser.specs.Attached.{attached_tail, before_tail}
 use Rattle.ra_ap_parser.specs.Trivia.{is_trivial, trivia_at, past_trivia, text_of, end_of, float_text, after_node, placed, with_trivia, LeavesTouch, TreeTouches}
 
 -- one prefix of the tokens, and the tokens after it
@@ -38,6 +39,19 @@ joined-trivia ts pre e g h =
     ∙ sym (append_assoc pre (str_joined g) (joined (trivia_at ts e)))
     ∙ ap (λ l. l ++ joined (trivia_at ts e)) h
     ∙ joined-more ts e (prefix_len is_trivial (drop e ts))
+
+-- a forest with the trivia around the beginning of a node after it
+joined-around : (ts : List Token) (pre : List ℕ) (e k : ℕ) (g : StrForest) → pre ++ str_joined g ≡ joined (take e ts) →
+    (pre ++ str_joined (with_leaves g (before_tail k (trivia_at ts e)))) ++ str_joined (with_leaves str_none (attached_tail k (trivia_at ts e))) ≡ joined (take (past_trivia ts e) ts)
+joined-around ts pre e k g h =
+    let b : List Token = before_tail k (trivia_at ts e) in
+    let a : List Token = attached_tail k (trivia_at ts e) in
+    let both : b ++ a ≡ trivia_at ts e = take-append-drop _ (trivia_at ts e) in
+    ap (λ l. (pre ++ str_joined (with_leaves g b)) ++ l) (str_joined-with_leaves a str_none)
+    ∙ ap (λ l. (pre ++ l) ++ joined a) (str_joined-with_leaves b g)
+    ∙ append_assoc pre (str_joined g ++ joined b) (joined a)
+    ∙ ap (λ l. pre ++ l) (append_assoc (str_joined g) (joined b) (joined a) ∙ ap (λ l. str_joined g ++ l) (sym (joined-append b a) ∙ ap joined both) ∙ sym (str_joined-with_leaves (trivia_at ts e) g))
+    ∙ joined-trivia ts pre e g h
 
 -- nothing stands after a node over children without a float at their end
 pub after_node-plain : (ts : List Token) (at : ℕ) (x : Forest) (f : StrForest) → split_ends x ≡ 0 → after_node ts at x f ≡ f
@@ -79,10 +93,6 @@ apart_text true j f g text left right pos h = rw (← h refl) (simp append_assoc
 apart_text false j f g text left right pos h = simp append_assoc
 
 module _ (ts : List Token) where
-  -- a node begins, after a prefix of the tokens
-  joined-open : (pre : List ℕ) (prefix : StrForest) (p : ℕ) → pre ++ str_joined prefix ≡ joined (take p ts) → (pre ++ str_joined prefix) ++ str_joined str_none ≡ joined (take p ts)
-  joined-open pre prefix p h = append-nil (pre ++ str_joined prefix) ∙ h
-
   -- a forest's leaves are the tokens up to its end
   pub joined-placed : (pre : List ℕ) (at : ℕ) (start : StrForest) (f : Forest) → Tree f → LeavesTouch ts at f → pre ++ str_joined start ≡ joined (take at ts) →
       pre ++ str_joined (placed ts at start f) ≡ joined (take (end_of ts at f) ts)
@@ -91,38 +101,42 @@ module _ (ts : List Token) where
   joined-placed pre at start (node b k x) (a_node t u z) l h =
       let e : ℕ = end_of ts at b in
       let inside : ℕ = past_trivia ts e in
-      let prefix : StrForest = with_leaves (placed ts at start b) (trivia_at ts e) in
-      let inner : StrForest = placed ts inside str_none x in
-      let begun : pre ++ str_joined prefix ≡ joined (take inside ts) = joined-trivia ts pre e (placed ts at start b) (joined-placed pre at start b t l.0 h) in
+      let prefix : StrForest = with_leaves (placed ts at start b) (before_tail k (trivia_at ts e)) in
+      let tail : StrForest = with_leaves str_none (attached_tail k (trivia_at ts e)) in
+      let inner : StrForest = placed ts inside tail x in
+      let begun : (pre ++ str_joined prefix) ++ str_joined tail ≡ joined (take inside ts) = joined-around ts pre e k (placed ts at start b) (joined-placed pre at start b t l.0 h) in
       ap (λ g. pre ++ str_joined g) (after_node-plain ts inside x (str_node prefix k inner) z)
       ∙ sym (append_assoc pre (str_joined prefix) (str_joined inner))
-      ∙ joined-placed (pre ++ str_joined prefix) inside str_none x u l.1 (joined-open pre prefix inside begun)
+      ∙ joined-placed (pre ++ str_joined prefix) inside tail x u l.1 begun
   joined-placed pre at start (node b k (split y true)) (dotted t u) l h =
       let e : ℕ = end_of ts at b in
       let inside : ℕ = past_trivia ts e in
-      let prefix : StrForest = with_leaves (placed ts at start b) (trivia_at ts e) in
-      let begun : pre ++ str_joined prefix ≡ joined (take inside ts) = joined-trivia ts pre e (placed ts at start b) (joined-placed pre at start b t l.0 h) in
+      let prefix : StrForest = with_leaves (placed ts at start b) (before_tail k (trivia_at ts e)) in
+      let tail : StrForest = with_leaves str_none (attached_tail k (trivia_at ts e)) in
+      let begun : (pre ++ str_joined prefix) ++ str_joined tail ≡ joined (take inside ts) = joined-around ts pre e k (placed ts at start b) (joined-placed pre at start b t l.0 h) in
       let d : ℕ = end_of ts inside y in
-      let g : StrForest = with_leaves (placed ts inside str_none y) (trivia_at ts d) in
+      let g : StrForest = with_leaves (placed ts inside tail y) (trivia_at ts d) in
       let more : (pre ++ str_joined prefix) ++ str_joined g ≡ joined (take (past_trivia ts d) ts) =
-      joined-trivia ts (pre ++ str_joined prefix) d (placed ts inside str_none y) (joined-placed (pre ++ str_joined prefix) inside str_none y u l.1.0 (joined-open pre prefix inside begun)) in
+      joined-trivia ts (pre ++ str_joined prefix) d (placed ts inside tail y) (joined-placed (pre ++ str_joined prefix) inside tail y u l.1.0 begun) in
       let text : List ℕ = float_text ts inside y in
       let parts : pre ++ ((str_joined prefix ++ (str_joined g ++ ([] ++ without_dot text))) ++ codes ".") ≡ ((pre ++ str_joined prefix) ++ str_joined g) ++ (without_dot text ++ codes ".") = simp append_assoc in
       parts ∙ one-more ts ((pre ++ str_joined prefix) ++ str_joined g) (without_dot text ++ codes ".") (past_trivia ts d) more (dot_text text l.1.2)
   joined-placed pre at start (node b k (node c j (split y false))) (apart t u v) l h =
       let e : ℕ = end_of ts at b in
       let inside : ℕ = past_trivia ts e in
-      let prefix : StrForest = with_leaves (placed ts at start b) (trivia_at ts e) in
-      let begun : pre ++ str_joined prefix ≡ joined (take inside ts) = joined-trivia ts pre e (placed ts at start b) (joined-placed pre at start b t l.0 h) in
+      let prefix : StrForest = with_leaves (placed ts at start b) (before_tail k (trivia_at ts e)) in
+      let tail : StrForest = with_leaves str_none (attached_tail k (trivia_at ts e)) in
+      let begun : (pre ++ str_joined prefix) ++ str_joined tail ≡ joined (take inside ts) = joined-around ts pre e k (placed ts at start b) (joined-placed pre at start b t l.0 h) in
       let pre2 : List ℕ = pre ++ str_joined prefix in
       let e2 : ℕ = end_of ts inside c in
       let inside2 : ℕ = past_trivia ts e2 in
-      let prefix2 : StrForest = with_leaves (placed ts inside str_none c) (trivia_at ts e2) in
-      let begun2 : pre2 ++ str_joined prefix2 ≡ joined (take inside2 ts) = joined-trivia ts pre2 e2 (placed ts inside str_none c) (joined-placed pre2 inside str_none c u l.1.0 (joined-open pre prefix inside begun)) in
+      let prefix2 : StrForest = with_leaves (placed ts inside tail c) (before_tail j (trivia_at ts e2)) in
+      let tail2 : StrForest = with_leaves str_none (attached_tail j (trivia_at ts e2)) in
+      let begun2 : (pre2 ++ str_joined prefix2) ++ str_joined tail2 ≡ joined (take inside2 ts) = joined-around ts pre2 e2 j (placed ts inside tail c) (joined-placed pre2 inside tail c u l.1.0 begun) in
       let d : ℕ = end_of ts inside2 y in
-      let g : StrForest = with_leaves (placed ts inside2 str_none y) (trivia_at ts d) in
+      let g : StrForest = with_leaves (placed ts inside2 tail2 y) (trivia_at ts d) in
       let more : (pre2 ++ str_joined prefix2) ++ str_joined g ≡ joined (take (past_trivia ts d) ts) =
-      joined-trivia ts (pre2 ++ str_joined prefix2) d (placed ts inside2 str_none y) (joined-placed (pre2 ++ str_joined prefix2) inside2 str_none y v l.1.1.0 (joined-open pre2 prefix2 inside2 begun2)) in
+      joined-trivia ts (pre2 ++ str_joined prefix2) d (placed ts inside2 tail2 y) (joined-placed (pre2 ++ str_joined prefix2) inside2 tail2 y v l.1.1.0 begun2) in
       let text : List ℕ = float_text ts inside2 y in
       let pos : ℕ = start_of ts (past_trivia ts d) in
       let parts : pre ++ (str_joined prefix ++ ((str_joined prefix2 ++ str_joined g) ++ text)) ≡ (((pre ++ str_joined prefix) ++ str_joined prefix2) ++ str_joined g) ++ text = simp append_assoc in
@@ -144,12 +158,13 @@ module _ (ts : List Token) where
   joined-half c j y u v l =
       let e : ℕ = end_of ts 0 c in
       let inside : ℕ = past_trivia ts e in
-      let prefix : StrForest = with_leaves (placed ts 0 str_none c) (trivia_at ts e) in
-      let begun : [] ++ str_joined prefix ≡ joined (take inside ts) = joined-trivia ts [] e (placed ts 0 str_none c) (joined-placed [] 0 str_none c u l.0 refl) in
+      let prefix : StrForest = with_leaves (placed ts 0 str_none c) (before_tail j (trivia_at ts e)) in
+      let tail : StrForest = with_leaves str_none (attached_tail j (trivia_at ts e)) in
+      let begun : str_joined prefix ++ str_joined tail ≡ joined (take inside ts) = joined-around ts [] e j (placed ts 0 str_none c) (joined-placed [] 0 str_none c u l.0 refl) in
       let d : ℕ = end_of ts inside y in
-      let g : StrForest = with_leaves (placed ts inside str_none y) (trivia_at ts d) in
+      let g : StrForest = with_leaves (placed ts inside tail y) (trivia_at ts d) in
       let more : str_joined prefix ++ str_joined g ≡ joined (take (past_trivia ts d) ts) =
-      joined-trivia ts (str_joined prefix) d (placed ts inside str_none y) (joined-placed (str_joined prefix) inside str_none y v l.1.0 (joined-open [] prefix inside begun)) in
+      joined-trivia ts (str_joined prefix) d (placed ts inside tail y) (joined-placed (str_joined prefix) inside tail y v l.1.0 begun) in
       let text : List ℕ = float_text ts inside y in
       apart_text (has_dot text) j prefix g text (before_first is_dot text) (after_first is_dot text) (start_of ts (past_trivia ts d)) (first_dot text)
       ∙ one-more ts (str_joined prefix ++ str_joined g) text (past_trivia ts d) more refl

@@ -1,5 +1,5 @@
 -- Runs of trivia in a text, and the texts of tokens as slices of it.
-use Rattle.std.proofs.Common.{◌≡◌, refl, sym, ◌∙◌, ap, List, [], ◌∷◌, ◌++◌, ℕ, ◌+◌, ◌-◌, ◌<◌, true, append-nil, length, take, drop, arith}
+use Rattle.std.proofs.Common.{◌≡◌, refl, sym, ◌∙◌, ap, List, [], ◌∷◌, ◌++◌, ℕ, zero, suc, ◌+◌, ◌-◌, ◌<◌, true, append-nil, length, take, drop, arith}
 use Rattle.std.specs.Prelude.{slice_range}
 use Rattle.std.specs.List.{take_while}
 use Rattle.std.proofs.lemmas.Bool.{cond-true}
@@ -38,6 +38,17 @@ trivia-more ts i h e =
     ap (λ l. leaves_of (take_while is_trivial l)) (drop_more ts i (record { kind = EOF; text = [] }) h)
     ∙ ap leaves_of (take_while-cons is_trivial (token_at ts i) (drop (i + 1) ts) ∙ cond-true (is_trivial (token_at ts i)) (token_at ts i ∷ trivia_at ts (i + 1)) [] e)
     ∙ ap (λ t. str_token (token_at ts i).kind t ∷ leaves_of (trivia_at ts (i + 1))) (sym (text-one ts i h))
+
+take-cons : {X : Type 0} (n : ℕ) (x : X) (xs : List X) → 0 < n → take n (x ∷ xs) ≡ x ∷ take (n - 1) xs
+take-cons zero x xs h = absurd (omega arith)
+take-cons (suc n) x xs h = ap (λ m. x ∷ take m xs) (omega arith)
+
+-- the first of some tokens from a place on
+pub leaves-more : (ts : List Token) (i n : ℕ) → i < length ts → 0 < n → leaves_of (take n (drop i ts)) ≡ str_token (token_at ts i).kind (text_of ts i 1) ∷ leaves_of (take (n - 1) (drop (i + 1) ts))
+leaves-more ts i n h some =
+    ap (λ l. leaves_of (take n l)) (drop_more ts i (record { kind = EOF; text = [] }) h)
+    ∙ ap leaves_of (take-cons n (token_at ts i) (drop (i + 1) ts) some)
+    ∙ ap (λ t. str_token (token_at ts i).kind t ∷ leaves_of (take (n - 1) (drop (i + 1) ts))) (sym (text-one ts i h))
 
 pub past-more : (ts : List Token) (i : ℕ) → i < length ts → is_trivial (token_at ts i) ≡ true → past_trivia ts (i + 1) ≡ past_trivia ts i
 past-more ts i h e = omega (arith, prefix_len-drop_yes is_trivial ts i (record { kind = EOF; text = [] }) h e)

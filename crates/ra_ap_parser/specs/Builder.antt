@@ -8,6 +8,7 @@ use Rattle.ra_ap_parser.specs.declared.shortcuts.builder.Builder.{Builder}
 use Rattle.std.specs.List.{before_first, after_first}
 use Rattle.rap_base.specs.TokenKind.{DOT, ERROR, FLOAT_NUMBER, INT_NUMBER}
 use Rattle.rap_base.specs.NodeKind.{NAME_REF}
+use Rattle.ra_ap_parser.specs.Attached.{attached_tail, before_tail}
 use Rattle.ra_ap_parser.specs.FloatParts.{is_dot, has_dot, without_dot, illegal}
 use Rattle.ra_ap_parser.specs.Input.{ends_with_dot}
 use Rattle.ra_ap_parser.specs.LexedStr.{Token, start_of}
@@ -25,9 +26,14 @@ abbrev pub leaves_of : List Token → List StrStepValue
 leaves_of [] = []
 leaves_of (t ∷ ts) = str_token t.kind t.text ∷ leaves_of ts
 
--- what is handed out right before a token or a node
+-- what is handed out right before a token
 abbrev pub before_next : List Token → State → ℕ → List StrStepValue
 before_next ts state at = held state ++ leaves_of (trivia_at ts at)
+
+-- what is handed out at the beginning of a node that is not the root
+abbrev pub enter_steps : List Token → State → ℕ → ℕ → List StrStepValue
+enter_steps ts state at kind =
+    held state ++ (leaves_of (before_tail kind (trivia_at ts at)) ++ str_enter kind ∷ leaves_of (attached_tail kind (trivia_at ts at)))
 
 -- a number as the name of a field
 abbrev pub number_steps : List ℕ → List StrStepValue
@@ -57,8 +63,8 @@ after_float false = PendingExit
 -- what is handed out at a step, from a place on
 abbrev pub made_of : List Token → State → ℕ → StepValue → List StrStepValue
 made_of ts PendingEnter at (enter kind) = str_enter kind ∷ []
-made_of ts Normal at (enter kind) = before_next ts Normal at ++ str_enter kind ∷ []
-made_of ts PendingExit at (enter kind) = before_next ts PendingExit at ++ str_enter kind ∷ []
+made_of ts Normal at (enter kind) = enter_steps ts Normal at kind
+made_of ts PendingExit at (enter kind) = enter_steps ts PendingExit at kind
 made_of ts state at exit = held state
 made_of ts state at (token kind width) =
     before_next ts state at ++ str_token kind (text_of ts (past_trivia ts at) width) ∷ []

@@ -1,4 +1,5 @@
 pub mod About
+pub mod Attached
 pub mod Builder
 pub mod EntryScript
 pub mod Fault

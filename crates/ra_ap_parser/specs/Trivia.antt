@@ -3,6 +3,7 @@ use Rattle.std.specs.Prelude.{◌≡◌, ℕ, ◌+◌, ◌≤◌, Bool, not, Lis
 use Rattle.std.specs.List.{prefix_len, take_while}
 use Rattle.rap_base.specs.TokenTests.{is_trivia}
 use Rattle.rap_events.specs.Forest.{Forest, none, node, leaf, message, split}
+use Rattle.ra_ap_parser.specs.Attached.{attached_tail, before_tail}
 use Rattle.ra_ap_parser.specs.FloatParts.{float_in, float_out}
 use Rattle.ra_ap_parser.specs.Input.{ends_with_dot}
 use Rattle.ra_ap_parser.specs.LexedStr.{Token, joined, start_of}
@@ -33,7 +34,8 @@ abbrev pub text_of : List Token → ℕ → ℕ → List ℕ
 text_of ts at width = joined (take width (drop at ts))
 
 -- The place after the last token of a forest that begins at a place. A leaf stands for so many tokens, and a float that
--- is taken apart for one. Trivia stand right before the node, the leaf or the float that comes next.
+-- is taken apart for one. The trivia of a gap stand around the beginning of the node, or right before the leaf or the
+-- float, that comes next.
 abbrev pub end_of : List Token → ℕ → Forest → ℕ
 end_of ts at none = at
 end_of ts at (node before kind children) = end_of ts (past_trivia ts (end_of ts at before)) children
@@ -54,14 +56,16 @@ after_node ts at (message before bytes) f = f
 after_node ts at (split before ends_in_dot) f = float_out ends_in_dot (float_text ts at before) f
 
 -- The forest over the tokens from a place on, after one that stands there already: trivia are leaves before the node,
--- the leaf or the float that comes next, a leaf has the text of its tokens, a float is taken apart, and a message stands
--- where the first token begins that does not stand before it.
+-- the leaf or the float that comes next, but for the attached tail of a node, which stands at its beginning; a leaf has
+-- the text of its tokens, a float is taken apart, and a message stands where the first token begins that does not stand
+-- before it.
 abbrev pub placed : List Token → ℕ → StrForest → Forest → StrForest
 placed ts at start none = start
 placed ts at start (node before kind children) =
     after_node ts (past_trivia ts (end_of ts at before)) children
-    (str_node (with_leaves (placed ts at start before) (trivia_at ts (end_of ts at before))) kind
-    (placed ts (past_trivia ts (end_of ts at before)) str_none children))
+    (str_node (with_leaves (placed ts at start before) (before_tail kind (trivia_at ts (end_of ts at before)))) kind
+    (placed ts (past_trivia ts (end_of ts at before))
+    (with_leaves str_none (attached_tail kind (trivia_at ts (end_of ts at before)))) children))
 placed ts at start (leaf before kind width) =
     str_leaf (with_leaves (placed ts at start before) (trivia_at ts (end_of ts at before))) kind
     (text_of ts (past_trivia ts (end_of ts at before)) width)

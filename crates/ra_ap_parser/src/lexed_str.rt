@@ -15,6 +15,7 @@ use rap_base::edition::Edition;
 use rap_base::no_memory::NoMemory;
 use rap_base::syntax_kind::SyntaxKind;
 use rap_lexer::lexer::first_token;
+pub(crate) use reported::holds_pair;
 use reported::{LexError, last_message, looks_open, report};
 
 mod count;

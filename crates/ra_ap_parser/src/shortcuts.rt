@@ -19,6 +19,7 @@ use rap_events::input::Input;
 use rap_events::output::Output;
 use std::alloc::Global;
 
+mod attached;
 mod builder;
 mod contextual;
 #[cfg(test)]
@@ -80,11 +81,13 @@ impl LexedStr<'_> {
     /// Hands the tree of an output to a sink, with the texts of its leaves and with the trivia that the parser left
     /// out. The answer says whether all tokens of the text were handed out.
     ///
-    /// The output is one tree over a prefix of this text's tokens. Trivia stand right before the node or the leaf
-    /// that comes next; those at the text's beginning stand inside the root, and so do those with nothing after them.
-    /// A message that follows a node stands at that node's end, and where the first token begins that was not yet
-    /// handed out. No memory is taken, but by the sink. An error is the sink's refusal of a step; it has taken those
-    /// before it.
+    /// The output is one tree over a prefix of this text's tokens. Trivia stand right before the node or the leaf that
+    /// comes next; those at the text's beginning stand inside the root, and so do those with nothing after them. Of the
+    /// trivia right before the node of an item, a field, a variant or a macro call the last ones stand inside, at its
+    /// beginning: those from the farthest comment on that a walk back from the node reaches. The walk stops at white
+    /// space that holds two line feeds in a row, but not where that stands right after a `/**/`. A message that follows
+    /// a node stands at that node's end, and where the first token begins that was not yet handed out. No memory is
+    /// taken, but by the sink. An error is the sink's refusal of a step; it has taken those before it.
     pub fn intersperse_trivia<S: StrSink>(
         &self,
         output: &Output,

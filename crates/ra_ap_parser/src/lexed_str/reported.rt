@@ -262,7 +262,7 @@ fn holds(byte: u8, text: &[u8]) -> bool
 }
 
 /// Whether the bytes stand in the text, one directly after the other.
-fn holds_pair(first: u8, second: u8, text: &[u8]) -> bool
+pub fn holds_pair(first: u8, second: u8, text: &[u8]) -> bool
     ensures { result ≡ holds_pair first second text.now }
 {
     let mut after_first = false;

@@ -1,13 +1,15 @@
 //! Trivia put between the steps of an output.
-ghost use Rattle.std.specs.Prelude.{◌≡◌, ◌+◌, ◌<◌, ◌≤◌, ◌↔◌, ◌∷◌, [], ◌++◌, length, map, IsTrue, IfOk, OnOk};
+ghost use Rattle.std.specs.Prelude.{◌≡◌, ◌+◌, ◌<◌, ◌≤◌, ◌↔◌, ◌∷◌, [], ◌++◌, length, take, drop, map, IsTrue, IfOk, OnOk};
 ghost use Rattle.rap_events.specs.StepValue.{enter, exit, token, float_split};
 ghost use Rattle.rap_events.specs.Step.{step_value};
 ghost use Rattle.ra_ap_parser.specs.StrSink.{HandsOut};
+ghost use Rattle.ra_ap_parser.specs.Attached.{attached_tail, before_tail};
 ghost use Rattle.ra_ap_parser.specs.Builder.{number_steps, dotted_steps, illegal_steps, float_steps, after_float};
 ghost use Rattle.ra_ap_parser.specs.Input.{ends_with_dot};
-ghost use Rattle.ra_ap_parser.specs.StrStep.{str_token, str_step_value};
+ghost use Rattle.ra_ap_parser.specs.StrStep.{str_enter, str_token, str_step_value};
 ghost use Rattle.ra_ap_parser.specs.Trivia.{trivia_at, past_trivia, text_of};
 
+use super::attached::{tail_begin, takes_tail};
 use super::{StrSink, StrStep};
 use crate::lexed_str::LexedStr;
 use rap_base::syntax_kind::SyntaxKind;
@@ -134,8 +136,23 @@ impl<'a, 'text> Builder<'a, 'text> {
             self.state = State::Normal;
             return sink.step(StrStep::Enter { kind });
         }
-        self.settle(sink)?;
-        sink.step(StrStep::Enter { kind })
+        self.close(sink)?;
+        self.enter_between_trivias(kind, sink)
+    }
+
+    /// Hands out the beginning of a node, and the trivia that stand here: its attached tail after it, and the others before.
+    fn enter_between_trivias<S: StrSink>(
+        &mut self,
+        kind: SyntaxKind,
+        sink: &mut S,
+    ) -> Result<(), S::Refusal>
+        requires { self.old.pos ≤ length self.old.lexed.now.tokens }
+        ensures steps { HandsOut S.takes S.refuses sink.old (leaves_of (before_tail kind (trivia_at self.old.lexed.now.tokens self.old.pos)) ++ str_enter kind ∷ leaves_of (attached_tail kind (trivia_at self.old.lexed.now.tokens self.old.pos))) result sink.new }
+        ensures after { OnOk result (self.new ≡ record self.old { pos = past_trivia self.old.lexed.now.tokens self.old.pos }) }
+    {
+        self.eat_before_tail(kind, sink)?;
+        sink.step(StrStep::Enter { kind })?;
+        self.eat_trivias(sink)
     }
 
     fn exit<S: StrSink>(&mut self, sink: &mut S) -> Result<(), S::Refusal>
@@ -180,6 +197,35 @@ impl<'a, 'text> Builder<'a, 'text> {
                 break;
             }
             self.do_token(kind, 1, sink)?;
+        }
+        Ok(())
+    }
+
+    /// Hands out the trivia that stand here, but for the attached tail of a node of this kind.
+    fn eat_before_tail<S: StrSink>(
+        &mut self,
+        kind: SyntaxKind,
+        sink: &mut S,
+    ) -> Result<(), S::Refusal>
+        requires { self.old.pos ≤ length self.old.lexed.now.tokens }
+        ensures steps { HandsOut S.takes S.refuses sink.old (leaves_of (before_tail kind (trivia_at self.old.lexed.now.tokens self.old.pos))) result sink.new }
+        ensures after { OnOk result (self.new ≡ record self.old { pos = self.old.pos + length (before_tail kind (trivia_at self.old.lexed.now.tokens self.old.pos)) }) }
+    {
+        if !takes_tail(kind) {
+            return self.eat_trivias(sink);
+        }
+        let begin = tail_begin(self.lexed, self.pos);
+        self.eat_n_trivias(begin - self.pos, sink)
+    }
+
+    fn eat_n_trivias<S: StrSink>(&mut self, n: usize, sink: &mut S) -> Result<(), S::Refusal>
+        requires { self.old.pos + n ≤ length self.old.lexed.now.tokens }
+        ensures steps { HandsOut S.takes S.refuses sink.old (leaves_of (take n (drop self.old.pos self.old.lexed.now.tokens))) result sink.new }
+        ensures after { OnOk result (self.new ≡ record self.old { pos = self.old.pos + n }) }
+    {
+        for i in 0..n {
+            let trivia = self.lexed.kind(self.pos);
+            self.do_token(trivia, 1, sink)?;
         }
         Ok(())
     }

@@ -208,3 +208,61 @@ fn takes_a_float_apart(rt: HostRuntime) -> Result<(), Fail> {
     }
     Ok(())
 }
+
+/// What a sink that takes so many steps answers and keeps of a `use` that is a name and a semicolon, inside an `ERROR`.
+fn item_line(
+    alloc: Global,
+    text: &str,
+    left: usize,
+) -> Result<(Result<bool, Refusal>, String), Fail> {
+    let lexed = LexedStr::new(alloc, Edition::Edition2024, text)?;
+    let input = lexed.to_input(alloc, Edition::Edition2024)?;
+    let mut p = Parser::new(alloc, &input);
+    let m = p.start()?;
+    p.expect(SyntaxKind::IDENT)?;
+    p.expect(SyntaxKind::SEMICOLON)?;
+    m.complete(&mut p, SyntaxKind::USE)?;
+    let output = p.process(alloc)?;
+    let tree = wrap_in_node(alloc, output, SyntaxKind::ERROR)?;
+    let mut sink = Keeper {
+        alloc,
+        kept: Vec::new(alloc),
+        left,
+    };
+    let answer = lexed.intersperse_trivia(&tree, &mut sink);
+    let line = line(alloc, &sink.kept)?;
+    Ok((answer, line))
+}
+
+#[test]
+fn hands_out_an_attached_tail_until_a_step_is_refused(rt: HostRuntime) -> Result<(), Fail> {
+    let alloc = rt.alloc();
+    let steps = [
+        "ERROR( ",
+        "COMMENT\"// a\" ",
+        "WHITESPACE\"\\n\\n\" ",
+        "USE( ",
+        "COMMENT\"/* b */\" ",
+        "WHITESPACE\" \" ",
+        "COMMENT\"// c\" ",
+        "WHITESPACE\"\\n \" ",
+        "IDENT\"x\" ",
+        "SEMICOLON\";\" ",
+        ") ",
+        ") ",
+    ];
+    for left in 0..13 {
+        let (answer, line) = item_line(alloc, "// a\n\n/* b */ // c\n x;", left)?;
+        let mut want = String::new(alloc);
+        for step in steps.iter().take(left) {
+            want.push_str(step)?;
+        }
+        assert_eq!(rt; line.as_str(), want.as_str(), "with {left} left");
+        if left < 12 {
+            assert_eq!(rt; answer, Err(Refusal::Full), "with {left} left");
+        } else {
+            assert_eq!(rt; answer, Ok(true));
+        }
+    }
+    Ok(())
+}

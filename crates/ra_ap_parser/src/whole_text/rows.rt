@@ -3,7 +3,7 @@
 //! `K(..)` is a node with its children and `K"t"` a leaf; `_` is a leaf of one space, `P:a` the path that is the name `a`,
 //! and `E:a` and `T:a` are the expression and the type that are that path. Each message stands behind a bar, with its
 //! place. In a table each text stands between `«` and `»`, and its tree and messages behind it, each message in a line of
-//! its own; a further line of a message stands behind two bars.
+//! its own; a further line of a message stands behind two bars. In the text and in the tree `¶` is a line feed.
 use super::{TextFault, parse_text};
 use crate::entry_point::TopEntryPoint;
 use crate::shortcuts::{StrSink, StrStep};
@@ -166,6 +166,15 @@ fn tree_and_messages(alloc: Global, lines: &str) -> Result<(String, String), All
     Ok((tree, messages))
 }
 
+/// The text with a line feed in the place of each `¶`.
+fn with_line_feeds(alloc: Global, text: &str) -> Result<String, AllocError> {
+    let mut out = String::new(alloc);
+    for c in text.chars() {
+        out.push(if c == '¶' { '\n' } else { c })?;
+    }
+    Ok(out)
+}
+
 /// Compares each text of a table with what stands behind it.
 fn compare_table(
     rt: &impl Abort,
@@ -178,7 +187,10 @@ fn compare_table(
             return Err(Fail::from("a text without an end"));
         };
         let (tree, messages) = tree_and_messages(alloc, lines)?;
-        compare_text(rt, alloc, read, (text, tree.as_str(), messages.as_str()))?;
+        let text = with_line_feeds(alloc, text)?;
+        let tree = with_line_feeds(alloc, tree.as_str())?;
+        let row = (text.as_str(), tree.as_str(), messages.as_str());
+        compare_text(rt, alloc, read, row)?;
     }
     Ok(())
 }

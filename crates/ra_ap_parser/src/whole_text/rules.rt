@@ -1,5 +1,6 @@
 //! Texts for each rule, with their trees and messages as the Rust crate gives them.
 mod assembly;
+mod attached_comments;
 mod attributes;
 mod blocks;
 mod braces;
