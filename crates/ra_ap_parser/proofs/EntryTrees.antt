@@ -1,10 +1,13 @@
 -- What the core grammar derives comes out of its entry as it was derived.
-use Rattle.std.proofs.Common.{◌≡◌, List, sym, ◌∙◌}
+use Rattle.std.proofs.Common.{◌≡◌, List, ◌++◌, length, sym, ◌∙◌}
 use Rattle.rap_events.specs.Record.{Record}
 use Rattle.rap_events.specs.Forest.{Forest, message_count}
 use Rattle.rap_grammar.proofs.Outputs.{derived, derived_clean, derived_type, derived_type_clean, derived_statements, derived_statements_clean, derived_file, derived_file_clean, derived_items, derived_items_clean, one_output, one_root}
+use Rattle.rap_grammar.specs.Part.{IsPrefixOf, IsPartCore, IsWhole, part_script}
+use Rattle.rap_grammar.specs.declared.entry.part.Part.{Part}
 use Rattle.rap_grammar.proofs.Parts.{one_prefix}
-use Rattle.ra_ap_parser.specs.EntryScript.{IsOutputOf, IsCore, IsPrefixOutputOf}
+use Rattle.rap_grammar.proofs.Prefixes.{front_expression, front_type, front_block, front_item, front_part}
+use Rattle.ra_ap_parser.specs.EntryScript.{IsOutputOf, IsCore, IsPrefixOutputOf, IsPrefixCore}
 use Rattle.ra_ap_parser.specs.declared.entry_point.PrefixEntryPoint.{PrefixEntryPoint}
 use Rattle.ra_ap_parser.specs.declared.entry_point.PrefixEntryPoint.TheVariants as prefix
 use Rattle.ra_ap_parser.specs.declared.entry_point.TopEntryPoint.{TopEntryPoint}
@@ -41,3 +44,24 @@ one_prefix_output prefix.Expr input i j = one_prefix i j
 one_prefix_output prefix.Path input i j = one_prefix i j
 one_prefix_output prefix.Item input i j = one_prefix i j
 one_prefix_output prefix.MetaItem input i j = one_prefix i j
+
+-- a front of an input that is derived comes out as it was derived
+pub prefix_core : (e : PrefixEntryPoint) (input : List Record) {output : Forest} → IsPrefixOutputOf e input output →
+    (front rest : List Record) (tree : Forest) → input ≡ front ++ rest → IsPrefixCore e front rest tree →
+    IsWhole tree (length front) output
+prefix_core prefix.Vis input i ks l t e d = absurd d
+prefix_core prefix.Block input i ks l t e d = front_block ks l (rw e at i) d
+prefix_core prefix.Stmt input i ks l t e d = absurd d
+prefix_core prefix.Pat input i ks l t e d = absurd d
+prefix_core prefix.PatTop input i ks l t e d = absurd d
+prefix_core prefix.Ty input i ks l t e d = front_type ks l (rw e at i) d.0 d.1
+prefix_core prefix.Expr input i ks l t e d = front_expression ks l (rw e at i) d.0 d.1
+prefix_core prefix.Path input i ks l t e d = absurd d
+prefix_core prefix.Item input i ks l t e d = front_item ks l (rw e at i) d.0 d.1
+prefix_core prefix.MetaItem input i ks l t e d = absurd d
+
+-- the same of a part
+pub part_core : (p : Part) (input : List Record) {output : Forest} → IsPrefixOf (part_script p) input output →
+    (front rest : List Record) (tree : Forest) → input ≡ front ++ rest → IsPartCore p front tree →
+    IsWhole tree (length front) output
+part_core p input i ks l t e d = front_part p ks l (rw e at i) d

@@ -1,11 +1,12 @@
 -- What a top entry makes of its input.
-use Rattle.std.specs.Prelude.{◌≡◌, List, true, false}
+use Rattle.std.specs.Prelude.{◌≡◌, ◌≢◌, List, true, false}
 use Rattle.rap_base.specs.NodeKind.{SOURCE_FILE, MACRO_STMTS, MACRO_ITEMS}
-use Rattle.rap_events.specs.Record.{Record}
+use Rattle.rap_base.specs.TokenKind.{SEMICOLON}
+use Rattle.rap_events.specs.Record.{Record, next_kind}
 use Rattle.rap_events.specs.Forest.{Forest, none, node}
 use Rattle.rap_rules.specs.Atom.{expr}
 use Rattle.rap_rules.specs.Called.{pattern, pattern_single, type_, inner_meta}
-use Rattle.rap_grammar.specs.Derives.{Derives, Expression, Ty, Contents, Many, Item, File}
+use Rattle.rap_grammar.specs.Derives.{Derives, Expression, Ty, Block, Contents, Many, Item, File, EndsExpression, EndsType}
 use Rattle.rap_grammar.specs.Top.{IsTopOf, IsRootOf}
 use Rattle.rap_rules.specs.Items.{source_file, mod_contents, item_or_macro}
 use Rattle.rap_rules.specs.Statements.{macro_stmts, stmt}
@@ -54,3 +55,17 @@ IsPrefixOutputOf prefix.Expr input output = IsPrefixOf expr input output
 IsPrefixOutputOf prefix.Path input output = IsPrefixOf type_path input output
 IsPrefixOutputOf prefix.Item input output = IsPrefixOf (item_or_macro true true) input output
 IsPrefixOutputOf prefix.MetaItem input output = IsPrefixOf inner_meta input output
+
+-- The front of an input is derived by the core grammar, with this tree, before what can follow it: an expression before
+-- the end, `;`, `,` or `)`; a type before what can follow a type; an item before no semicolon; a block before anything.
+abbrev pub IsPrefixCore : PrefixEntryPoint → List Record → List Record → Forest → Type 0
+IsPrefixCore prefix.Vis front rest tree = ⊥
+IsPrefixCore prefix.Block front rest tree = Derives Block front tree
+IsPrefixCore prefix.Stmt front rest tree = ⊥
+IsPrefixCore prefix.Pat front rest tree = ⊥
+IsPrefixCore prefix.PatTop front rest tree = ⊥
+IsPrefixCore prefix.Ty front rest tree = Derives Ty front tree × EndsType rest
+IsPrefixCore prefix.Expr front rest tree = Derives Expression front tree × EndsExpression rest
+IsPrefixCore prefix.Path front rest tree = ⊥
+IsPrefixCore prefix.Item front rest tree = Derives Item front tree × (next_kind rest ≢ SEMICOLON)
+IsPrefixCore prefix.MetaItem front rest tree = ⊥

@@ -1,7 +1,8 @@
 //! Where a parse begins.
-ghost use Rattle.std.specs.Prelude.{◌≡◌, ◌<◌, ◌≤◌, ◌↔◌, length, IfOk, Some};
+ghost use Rattle.std.specs.Prelude.{◌≡◌, ◌<◌, ◌≤◌, ◌↔◌, List, ◌++◌, length, IfOk, Some};
 ghost use Rattle.rap_events.specs.Forest.{Forest, message_count};
-ghost use Rattle.rap_grammar.specs.Part.{IsPrefixOver};
+ghost use Rattle.rap_events.specs.Record.{Record};
+ghost use Rattle.rap_grammar.specs.Part.{IsPrefixOver, IsWhole};
 ghost use Rattle.rap_grammar.specs.Top.{IsTreeOver};
 
 use rap_base::no_memory::NoMemory;
@@ -130,7 +131,7 @@ pub enum PrefixEntryPoint {
 }
 
 impl PrefixEntryPoint {
-    ghost use Rattle.ra_ap_parser.specs.EntryScript.{IsPrefixOutputOf};
+    ghost use Rattle.ra_ap_parser.specs.EntryScript.{IsPrefixOutputOf, IsPrefixCore};
 
     /// Reads what the entry names.
     fn run(&self, alloc: Global, input: &Input) -> Result<Output, NoMemory>
@@ -157,11 +158,14 @@ impl PrefixEntryPoint {
     /// The output may be no tree, or several, and messages beside them. How many tokens it took is the sum of the
     /// `n_input_tokens` of its steps, and one for each float that it took apart. The error is `TooManyTokens` exactly
     /// for an input of more than [`MAX_TOKENS`] tokens, which is decided first, and else `NoMemory` where a growth was
-    /// refused. The output is that of the entry's script, and no other.
+    /// refused. The output is that of the entry's script, and no other. Where the front of the input is derived by the
+    /// core grammar, as a block, a type, an expression or an item, and what stands behind can follow it, the output is
+    /// its derivation's tree, without a message, and takes that front.
     pub fn parse(&self, alloc: Global, input: &Input) -> Result<Output, ParseFault>
         ensures prefix { IfOk result (IsPrefixOver input.now) }
         ensures script { IfOk result (IsPrefixOutputOf self.now input.now) }
         ensures only { IfOk result (λ output. (other : Forest) → IsPrefixOutputOf self.now input.now other → other ≡ output) }
+        ensures core { IfOk result (λ output. (front rest : List Record) (tree : Forest) → input.now ≡ front ++ rest → IsPrefixCore self.now front rest tree → IsWhole tree (length front) output) }
         ensures too_many { (result ≡ Err ParseFault.TooManyTokens) ↔ (MAX_TOKENS < length input.now) }
     {
         if input.len() > MAX_TOKENS {

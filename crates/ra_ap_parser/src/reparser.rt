@@ -1,9 +1,9 @@
 //! A node in braces that is parsed again from its own tokens.
-ghost use Rattle.std.specs.Prelude.{◌≡◌, ◌<◌, ◌≤◌, ◌↔◌, length, IfOk, IfSome, Some, true};
+ghost use Rattle.std.specs.Prelude.{◌≡◌, ◌<◌, ◌≤◌, ◌↔◌, List, ◌++◌, length, IfOk, IfSome, Some, true};
 ghost use Rattle.rap_base.specs.TokenKind.{L_CURLY};
 ghost use Rattle.rap_events.specs.Forest.{Forest};
-ghost use Rattle.rap_events.specs.Record.{next_kind};
-ghost use Rattle.rap_grammar.specs.Part.{IsPrefixOver, IsPrefixOf, IsOneNode, part_script, part_kind, asks_brace, in_braces};
+ghost use Rattle.rap_events.specs.Record.{Record, next_kind};
+ghost use Rattle.rap_grammar.specs.Part.{IsPrefixOver, IsPrefixOf, IsPartCore, IsWhole, IsOneNode, part_script, part_kind, asks_brace, in_braces};
 
 use crate::entry_point::{MAX_TOKENS, ParseFault};
 use rap_base::no_memory::NoMemory;
@@ -21,6 +21,8 @@ pub struct Reparser {
 }
 
 impl Model for Reparser {
+    ghost use Rattle.std.specs.Prelude.{◌≡◌, true};
+    ghost use Rattle.rap_grammar.specs.Part.{in_braces};
     ghost use Rattle.rap_grammar.specs.declared.entry.part.Part.{Part};
 
     ghost Value = { Part };
@@ -77,13 +79,15 @@ impl Reparser {
     /// Parses the node again from its own tokens.
     ///
     /// Where the input begins with `{` the output is exactly one node, of the kind that was asked for. Tokens behind the
-    /// brace that closes it are left. The error is `TooManyTokens` exactly for an input of more than [`MAX_TOKENS`]
+    /// brace that closes it are left. A block, and a list of items or of a struct's fields, that the core grammar derives
+    /// is its derivation's tree again, without a message. The error is `TooManyTokens` exactly for an input of more than [`MAX_TOKENS`]
     /// tokens, which is decided first, and else `NoMemory` where a growth was refused.
     pub fn parse(self, alloc: Global, input: &Input) -> Result<Output, ParseFault>
         requires brace { asks_brace self ≡ true → next_kind input.now ≡ L_CURLY }
         ensures prefix { IfOk result (IsPrefixOver input.now) }
         ensures script { IfOk result (IsPrefixOf (part_script self) input.now) }
         ensures only { IfOk result (λ output. (other : Forest) → IsPrefixOf (part_script self) input.now other → other ≡ output) }
+        ensures core { IfOk result (λ output. (front rest : List Record) (tree : Forest) → input.now ≡ front ++ rest → IsPartCore self front tree → IsWhole tree (length front) output) }
         ensures one { IfOk result (λ output. next_kind input.now ≡ L_CURLY → IsOneNode (part_kind self) output) }
         ensures too_many { (result ≡ Err ParseFault.TooManyTokens) ↔ (MAX_TOKENS < length input.now) }
     {

@@ -1,12 +1,12 @@
 -- How the scripts of items run over tokens that are known.
-use Rattle.std.proofs.Common.{◌≡◌, ℕ, List, [], ◌∷◌, Bool, true, false, refl, ◌==◌, ◌&&◌, rules, codes, drop}
-use Rattle.rap_base.specs.TokenKind.{EOF, IDENT, L_CURLY, R_CURLY, L_PAREN, L_ANGLE, SEMICOLON, COLON, COMMA, EQ, POUND, BANG, PUB_KW, MOD_KW, STRUCT_KW, FN_KW, WHERE_KW, INNER_DOC_COMMENT, R_PAREN, AMP, THIN_ARROW, L_BRACK, OUTER_DOC_COMMENT, MUT_KW, MINUS, R_ANGLE, DOT, COLON2}
-use Rattle.rap_base.specs.NodeKind.{MODULE, STRUCT, FN, NAME, VISIBILITY, ITEM_LIST, RECORD_FIELD_LIST, RECORD_FIELD, TUPLE_FIELD_LIST, TUPLE_FIELD, PARAM_LIST, PARAM, RET_TYPE, IDENT_PAT}
+use Rattle.std.proofs.Common.{◌≡◌, ℕ, List, [], ◌∷◌, Bool, true, false, refl, ◌==◌, rules, codes, drop}
+use Rattle.rap_base.specs.TokenKind.{EOF, IDENT, L_CURLY, R_CURLY, L_PAREN, L_ANGLE, SEMICOLON, COLON, COMMA, EQ, POUND, PUB_KW, MOD_KW, STRUCT_KW, FN_KW, WHERE_KW, INNER_DOC_COMMENT, R_PAREN, AMP, THIN_ARROW, L_BRACK, OUTER_DOC_COMMENT, MUT_KW, MINUS, R_ANGLE, DOT}
+use Rattle.rap_base.specs.NodeKind.{MODULE, STRUCT, FN, NAME, VISIBILITY, ITEM_LIST, RECORD_FIELD_LIST, RECORD_FIELD, TUPLE_FIELD_LIST, TUPLE_FIELD, PARAM_LIST, PARAM, RET_TYPE}
 use Rattle.rap_events.specs.Record.{Record, next_kind}
-use Rattle.rap_events.specs.Composite.{is_at, begins_with}
+use Rattle.rap_events.specs.Composite.{is_at}
 use Rattle.rap_events.specs.Forest.{Forest, none, node, leaf}
 use Rattle.rap_rules.specs.Adt.{strukt, struct_or_union, fields, struct_fields, tuple_fields, tuple_field, record_field, tuple_field_list, record_fields, record_field_list, restricted_tuple_field, field_or_block, visible_field, comma_in_braces, restricted_field, opt_mut_restriction, is_tuple_field_first, opt_unsafe, typed_field, named_field, opt_value}
-use Rattle.rap_rules.specs.Attributes.{inner_attrs, outer_attrs}
+use Rattle.rap_rules.specs.Attributes.{inner_attrs}
 use Rattle.rap_rules.specs.Blocks.{block_expr}
 use Rattle.rap_rules.specs.Called.{opt_generic_param_list, opt_where_clause, type_no_bounds, type_, pattern}
 use Rattle.rap_rules.specs.First.{one_of, is_outer_attr_first, is_type_first}
@@ -15,18 +15,15 @@ use Rattle.rap_rules.specs.Grammar.{name, name_r, opt_ret_type, elements, opt_no
 use Rattle.rap_rules.specs.Items.{items, mod_contents, item_list, mod_body, mod_item, opt_item_without_modifiers, opt_item_with_modifiers, opt_modified_item, opt_item, after_item, marked_item, item_or_macro, ends_items}
 use Rattle.rap_rules.specs.Knot.{script_of}
 use Rattle.rap_rules.specs.Modifiers.{modifiers, opt_impl_restriction, qualifiers, safety, opt_abi, auto_or_default, opt_default, modifier, modifier_as}
-use Rattle.rap_rules.specs.Patterns.{pattern_r, pattern_single_r, atom_pat, ident_pat, binding, at_pattern, range_op}
 use Rattle.rap_rules.specs.Params.{param_list_fn_def, fn_def_params, marked_param, first_param, list_, opt_self_param, fn_def_param, param_type, variadic_param, after_param, params, attributed_param, is_self_value}
 use Rattle.rap_rules.specs.Phrase.{Phrase}
-use Rattle.rap_rules.specs.Script.{Script, Outcome, Spot, nothing, something, again, Runs, gives, passes, fails, takes, starts, finishes, abandons, follows, obeys, turns, stops}
+use Rattle.rap_rules.specs.Script.{Script, Outcome, nothing, something, again, Runs, gives, passes, fails, takes, starts, finishes, abandons, follows, obeys, turns, stops}
 use Rattle.rap_rules.specs.TypeParts.{ascription}
 use Rattle.rap_rules.specs.declared.arguments.Flavor.TheVariants as flavor
 use Rattle.rap_rules.specs.Visibility.{opt_visibility, opt_visibility_inner}
-use Rattle.rap_rules.specs.Words.{if_some}
 use Rattle.rap_rules.proofs.Steps.{and_false}
-use Rattle.rap_grammar.specs.Derives.{IsName}
 use Rattle.rap_grammar.proofs.Operators.{differ, differ_back}
-use Rattle.rap_grammar.proofs.Ways.{Leads, no_attributes, not_first, kind_at_first}
+use Rattle.rap_grammar.proofs.Ways.{Leads, no_attributes, not_first}
 
 -- the same with any outcome
 abbrev pub Goes : Outcome → Script Phrase → List Forest → List Record → Forest → List Record → Forest → Type 0

@@ -1,29 +1,26 @@
 -- Items of the core grammar are what their scripts make.
 use Rattle.std.proofs.Common.{◌≡◌, ℕ, List, [], ◌∷◌, ◌++◌, Bool, true, false, refl, ◌==◌, append_assoc, append-nil, rules}
 use Rattle.std.proofs.lemmas.Bool.{eqb-true}
-use Rattle.rap_base.specs.TokenKind.{EOF, IDENT, R_PAREN, R_CURLY, COMMA, L_CURLY, EQ, PUB_KW, L_PAREN, COLON2, COLON, THIN_ARROW, MOD_KW, SEMICOLON, STRUCT_KW, FN_KW, POUND, INNER_DOC_COMMENT, SHEBANG, FRONTMATTER}
+use Rattle.rap_base.specs.TokenKind.{EOF, IDENT, R_PAREN, R_CURLY, COMMA, L_CURLY, EQ, PUB_KW, L_PAREN, THIN_ARROW, MOD_KW, SEMICOLON, STRUCT_KW, FN_KW, POUND, INNER_DOC_COMMENT, SHEBANG, FRONTMATTER}
 use Rattle.rap_events.specs.Record.{Record, next_kind}
-use Rattle.rap_events.specs.Forest.{Forest, none, node, leaf, ◌⧺◌}
-use Rattle.rap_grammar.specs.Derives.{maybe_none, many_none, many_more, params_of, item_module, item_module_of, item_struct, item_struct_fields, item_struct_tuple, item_function, items_of, Many, Item, Items, Name, file_of, File, IsName, Is, Derives, Params, Tuple, Maybe, TupleField, Param, Block, Field, Elements, Fields, Return, Visibility, EndsType, tuple_field, element_last, maybe_some, field_named, tuple_of, param_typed, visibility_pub, fields_of, element_comma, name_given, bind_name, return_type, element_more, Category}
+use Rattle.rap_events.specs.Forest.{Forest, none, leaf, ◌⧺◌}
+use Rattle.rap_grammar.specs.Derives.{maybe_none, many_none, many_more, params_of, item_module, item_module_of, item_struct, item_struct_fields, item_struct_tuple, item_function, items_of, Many, Item, Items, Is, Derives, Params, Tuple, Maybe, TupleField, Param, Field, Elements, Fields, Return, Visibility, EndsType, tuple_field, element_last, maybe_some, field_named, tuple_of, param_typed, visibility_pub, fields_of, element_comma, name_given, bind_name, return_type, element_more, Category}
 use Rattle.rap_rules.specs.Adt as adt
 use Rattle.rap_rules.specs.declared.arguments.Flavor.TheVariants as flavor
 use Rattle.rap_rules.specs.Script.{Outcome, nothing, something, fails}
 use Rattle.rap_rules.proofs.Forests.{⧺-assoc}
-use Rattle.rap_grammar.proofs.Begins.{first, next_begins, begins_type, begins_item}
+use Rattle.rap_grammar.proofs.Begins.{first, next_begins, begins_item}
 use Rattle.rap_grammar.proofs.Complete.{type_before, type_before_no_bounds, colon_ends_bind, block_before}
 use Rattle.rap_grammar.proofs.Operators.{differ, written_first, written_past}
-use Rattle.rap_grammar.proofs.Ways.{Leads, none-⧺, not_first}
+use Rattle.rap_grammar.proofs.Ways.{Leads, none-⧺}
 use Rattle.rap_grammar.proofs.StatementWays.{bind_way}
 use Rattle.rap_grammar.proofs.ItemWays.{Goes, Ends, no_semicolon, item_way, unmodified_way, mod_way, EndsNothing, tuple_contents, tuple_end, tuple_field_way, no_pub_way, no_return_way, tuple_last, record_fields_end, first_last_way, params_last, no_params_way, record_fields_last, first_param_way, pub_way, tuple_list_way, record_list_way, first_on_way, tuple_on, params_on, record_fields_on, return_way, param_last_way, param_way, no_attribute, params_end, begins_field, record_field_way, params_way, items_on, mod_semicolon_way, mod_list_way, struct_way, struct_semicolon_way, struct_record_way, struct_tuple_way, fn_way, signature_way, item_list_way, contents_way, items_brace, items_end}
 use Rattle.rap_rules.specs.Adt.{tuple_field_list, record_field, record_fields, record_field_list}
 use Rattle.rap_rules.specs.Visibility.{opt_visibility}
-use Rattle.rap_events.specs.Composite.{is_at}
-use Rattle.rap_rules.specs.Blocks.{block_expr}
 use Rattle.rap_rules.specs.Params.{marked_param, param_list_fn_def, fn_def_params, params}
 use Rattle.rap_rules.specs.Functions.{fn_ret_type}
 use Rattle.rap_rules.specs.First.{one_of, is_outer_attr_first}
-use Rattle.rap_rules.proofs.Steps.{and_false}
-use Rattle.rap_rules.specs.Items.{item_list, opt_item, items, mod_contents, source_file}
+use Rattle.rap_rules.specs.Items.{item_list, item_or_macro, opt_item, items, mod_contents, source_file}
 use Rattle.rap_grammar.proofs.Lists.{Repeated, one_more, no_more}
 
 -- who may use an item or a field
@@ -205,3 +202,15 @@ unfolding ItemClaim source_file
 file_whole d b =
     let x = item_claim d in
     fails (rw append-nil at (many_apart x [] SHEBANG refl refl)) (fails (rw append-nil at (many_apart x [] FRONTMATTER refl refl)) (items_whole d b))
+
+-- an item alone, where no semicolon follows it
+pub item_before : {ks : List Record} {t : Forest} → Derives Item ks t → (stop ext : Bool) (b : List Forest) (f : Forest)
+    (l : List Record) → (next_kind l == SEMICOLON) ≡ false → Leads (item_or_macro stop ext) b (ks ++ l) f l (f ⧺ t)
+unfolding ItemClaim
+item_before d stop ext b f l s = item_way stop ext (item_no_attribute d l) (item_claim d ext b f l) s
+
+-- items in their braces, whatever follows them
+pub items_of_before : {ks : List Record} {t : Forest} → Derives Items ks t →
+    (b : List Forest) (f : Forest) (l : List Record) → Leads item_list b (ks ++ l) f l (f ⧺ t)
+unfolding ItemClaim
+items_of_before d b f l = item_claim d b f l

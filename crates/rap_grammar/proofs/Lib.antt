@@ -8,6 +8,7 @@ pub mod OneTree
 pub mod Operators
 pub mod Outputs
 pub mod Parts
+pub mod Prefixes
 pub mod StatementWays
 pub mod Stating
 pub mod TopTree

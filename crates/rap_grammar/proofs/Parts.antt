@@ -2,11 +2,10 @@
 use Rattle.std.proofs.Common.{◌≡◌, ◌==◌, ◌&&◌, ℕ, Bool, true, false, not, refl, sym, ap, ◌∙◌, List}
 use Rattle.rap_base.specs.NodeKind.{FIELD_EXPR}
 use Rattle.rap_events.specs.Record.{Record}
-use Rattle.rap_events.specs.Forest.{Forest, none, node, leaf, message, split, splits_placed, splits_last, is_ended, ends_in_dot, one_tree}
+use Rattle.rap_events.specs.Forest.{Forest, none, node, leaf, message, split, splits_placed, splits_last, is_ended, ends_in_dot}
 use Rattle.rap_rules.specs.Phrase.{Phrase}
 use Rattle.rap_rules.specs.Script.{Script, Spot}
 use Rattle.rap_rules.proofs.OneEnd.{one_end}
-use Rattle.rap_rules.proofs.Steps.{and_false}
 use Rattle.rap_grammar.specs.Part.{IsPrefixOf, IsOneNode, part_kind}
 use Rattle.rap_grammar.specs.declared.entry.part.Part.{Part}
 use Rattle.rap_grammar.specs.declared.entry.part.Part.TheVariants as part
@@ -15,13 +14,13 @@ use Rattle.rap_grammar.specs.declared.entry.part.Part.TheVariants as part
 pub one_prefix : {s : Script Phrase} {input : List Record} {a b : Forest} → IsPrefixOf s input a → IsPrefixOf s input b → a ≡ b
 one_prefix i j = ap (λ (p : Spot). p.forest) (one_end i.run j.run).spot
 
-both_left : {a b : Bool} → a && b ≡ true → a ≡ true
-both_left {a = true} h = refl
-both_left {a = false} h = h
+both_left : (a b : Bool) → a && b ≡ true → a ≡ true
+both_left true b h = refl
+both_left false b h = h
 
-both_right : {a b : Bool} → a && b ≡ true → b ≡ true
-both_right {a = true} h = h
-both_right {a = false} h = absurd cc
+both_right : (a b : Bool) → a && b ≡ true → b ≡ true
+both_right true b h = h
+both_right false b h = absurd cc
 
 -- a node that is no field access does not end with the dot of a float
 no_dot : (k : ℕ) (c : Forest) → splits_placed (node none k c) ≡ true → (k == FIELD_EXPR) ≡ false → not (ends_in_dot c) ≡ true
@@ -31,7 +30,7 @@ no_dot k (leaf b j w) h e = refl
 no_dot k (message b m) h e = refl
 no_dot k (split b false) h e = refl
 no_dot k (split b true) h e =
-    let x : (k == FIELD_EXPR) ≡ true = both_right {a = splits_last b && is_ended b} (both_left h) in
+    let x : (k == FIELD_EXPR) ≡ true = both_right (splits_last b && is_ended b) (k == FIELD_EXPR) (both_left _ _ h) in
     absurd (let y : true ≡ false = sym x ∙ e in cc)
 
 -- no part is a field access

@@ -2,7 +2,7 @@
 use Rattle.std.specs.Prelude.{◌≡◌, ℕ, ◌≤◌, Bool, true, false, List, [], drop, length}
 use Rattle.rap_base.specs.NodeKind.{VISIBILITY, PATH, BLOCK_EXPR, RECORD_FIELD_LIST, RECORD_EXPR_FIELD_LIST, VARIANT_LIST, MATCH_ARM_LIST, USE_TREE_LIST, EXTERN_ITEM_LIST, TOKEN_TREE, ASSOC_ITEM_LIST, ITEM_LIST}
 use Rattle.rap_events.specs.Record.{Record}
-use Rattle.rap_events.specs.Forest.{Forest, none, node, used, one_tree}
+use Rattle.rap_events.specs.Forest.{Forest, none, node, used, message_count, one_tree}
 use Rattle.rap_events.specs.State.{State}
 use Rattle.rap_rules.specs.Adt.{record_field_list, variant_list}
 use Rattle.rap_rules.specs.Blocks.{block_expr}
@@ -17,6 +17,7 @@ use Rattle.rap_rules.specs.TokenTree.{bracketed_tokens}
 use Rattle.rap_rules.specs.Traits.{assoc_item_list}
 use Rattle.rap_rules.specs.UseItem.{use_tree_list}
 use Rattle.rap_rules.specs.Visibility.{opt_visibility}
+use Rattle.rap_grammar.specs.Derives.{Derives, Block, Fields, Items}
 use Rattle.rap_grammar.specs.Top.{IsForestOver}
 use Rattle.rap_grammar.specs.declared.entry.part.Part.{Part}
 use Rattle.rap_grammar.specs.declared.entry.part.Part.TheVariants as part
@@ -90,6 +91,27 @@ asks_brace part.ExternItemList = true
 asks_brace part.TokenTree = true
 asks_brace part.AssocItemList = true
 asks_brace part.ItemList = true
+
+-- These tokens are derived by the core grammar as this part, with this tree.
+abbrev pub IsPartCore : Part → List Record → Forest → Type 0
+IsPartCore part.Visibility tokens tree = ⊥
+IsPartCore part.Path tokens tree = ⊥
+IsPartCore part.Block tokens tree = Derives Block tokens tree
+IsPartCore part.RecordFieldList tokens tree = Derives Fields tokens tree
+IsPartCore part.RecordExprFieldList tokens tree = ⊥
+IsPartCore part.VariantList tokens tree = ⊥
+IsPartCore part.MatchArmList tokens tree = ⊥
+IsPartCore part.UseTreeList tokens tree = ⊥
+IsPartCore part.ExternItemList tokens tree = ⊥
+IsPartCore part.TokenTree tokens tree = ⊥
+IsPartCore part.AssocItemList tokens tree = ⊥
+IsPartCore part.ItemList tokens tree = Derives Items tokens tree
+
+-- An output that is this tree, without a message, over this many tokens at the front of the input.
+pub record IsWhole (tree : Forest) (tokens : ℕ) (output : Forest) : Type 0 where
+  pub same : output ≡ tree
+  pub clean : message_count output ≡ 0
+  pub used_is : used output ≡ tokens
 
 -- exactly one node of this kind
 pub record IsOneNode (kind : ℕ) (output : Forest) : Type 0 where

@@ -1,0 +1,11 @@
+use Rattle.std.proofs.Common.{sym}
+use Rattle.rap_grammar.proofs.Parts.{one_prefix}
+use Rattle.ra_ap_parser.proofs.EntryTrees.{part_core}
+use Rattle.ra_ap_parser.proofs.reparser.Reparser.parse.Goals as goal
+
+pub returns-in-Ok-clause-only : goal.returns-in-Ok-clause-only
+returns-in-Ok-clause-only c = rw (sym c.self.view_is) (λ other i. one_prefix i c.in-Ok.ensures.script)
+
+pub returns-in-Ok-clause-core : goal.returns-in-Ok-clause-core
+returns-in-Ok-clause-core c =
+    rw (sym c.self.view_is) (λ front rest tree e d. part_core _ _ c.in-Ok.ensures.script front rest tree e d)

@@ -1,0 +1,65 @@
+-- What is derived at the front of an input is read as it was derived, up to its end.
+use Rattle.std.proofs.Common.{◌≢◌, true, ap, ◌∙◌, List, [], ◌++◌, length}
+use Rattle.std.proofs.lemmas.Bool.{ne_eqb}
+use Rattle.rap_base.specs.TokenKind.{SEMICOLON}
+use Rattle.rap_events.specs.Record.{Record, next_kind}
+use Rattle.rap_events.specs.Forest.{Forest, none, message_count, used}
+use Rattle.rap_rules.specs.Atom.{expr}
+use Rattle.rap_rules.specs.Called.{type_}
+use Rattle.rap_rules.specs.Blocks.{block_expr}
+use Rattle.rap_rules.specs.Items.{item_or_macro}
+use Rattle.rap_rules.specs.Phrase.{Phrase}
+use Rattle.rap_rules.specs.Script.{Script, Spot}
+use Rattle.rap_rules.proofs.OneEnd.{one_end}
+use Rattle.rap_grammar.specs.Derives.{Category, Derives, Expression, Ty, Block, Item, EndsExpression, EndsType}
+use Rattle.rap_grammar.specs.Part.{IsPrefixOf, IsPartCore, IsWhole, part_script}
+use Rattle.rap_grammar.specs.declared.entry.part.Part.{Part}
+use Rattle.rap_grammar.specs.declared.entry.part.Part.TheVariants as part
+use Rattle.rap_grammar.proofs.Complete.{expression_at_beginning, type_before, block_before}
+use Rattle.rap_grammar.proofs.Items.{item_before, items_of_before, fields_of_before}
+use Rattle.rap_grammar.proofs.Unique.{unmarked, used-derived}
+use Rattle.rap_grammar.proofs.Ways.{Leads, none-⧺}
+
+-- the output is what the script makes of a front that is derived
+front : {s : Script Phrase} {c : Category} (ks l : List Record) {t output : Forest} → IsPrefixOf s (ks ++ l) output →
+    Derives c ks t → Leads s [] (ks ++ l) none l t → IsWhole t (length ks) output
+front ks l i d x =
+    let e = ap (λ (p : Spot). p.forest) (one_end i.run x).spot in
+    record { same = e; clean = ap message_count e ∙ unmarked d; used_is = ap used e ∙ used-derived d }
+
+-- an expression, before what can follow one that is read alone
+pub front_expression : (ks l : List Record) {t output : Forest} → IsPrefixOf expr (ks ++ l) output →
+    Derives Expression ks t → EndsExpression l → IsWhole t (length ks) output
+front_expression ks l i d e = front ks l i d (rw none-⧺ at (expression_at_beginning d [] none l e))
+
+-- a type, before what can follow one
+pub front_type : (ks l : List Record) {t output : Forest} → IsPrefixOf type_ (ks ++ l) output →
+    Derives Ty ks t → EndsType l → IsWhole t (length ks) output
+front_type ks l i d e = front ks l i d (rw none-⧺ at (type_before d [] none l e))
+
+-- a block, whatever follows it
+pub front_block : (ks l : List Record) {t output : Forest} → IsPrefixOf block_expr (ks ++ l) output →
+    Derives Block ks t → IsWhole t (length ks) output
+front_block ks l i d = front ks l i d (rw none-⧺ at (block_before d [] none l))
+
+-- an item, where no semicolon follows it
+pub front_item : (ks l : List Record) {t output : Forest} → IsPrefixOf (item_or_macro true true) (ks ++ l) output →
+    Derives Item ks t → next_kind l ≢ SEMICOLON → IsWhole t (length ks) output
+front_item ks l i d n =
+    front ks l i d (rw none-⧺ at (item_before d true true [] none l (ne_eqb (next_kind l) SEMICOLON n)))
+
+-- a part, whatever follows it
+pub front_part : (p : Part) (ks l : List Record) {t output : Forest} → IsPrefixOf (part_script p) (ks ++ l) output →
+    IsPartCore p ks t → IsWhole t (length ks) output
+front_part part.Visibility ks l i d = absurd d
+front_part part.Path ks l i d = absurd d
+front_part part.Block ks l i d = front_block ks l i d
+front_part part.RecordFieldList ks l i d = front ks l i d (rw none-⧺ at (fields_of_before d [] none l))
+front_part part.RecordExprFieldList ks l i d = absurd d
+front_part part.VariantList ks l i d = absurd d
+front_part part.MatchArmList ks l i d = absurd d
+front_part part.UseTreeList ks l i d = absurd d
+front_part part.ExternItemList ks l i d = absurd d
+front_part part.TokenTree ks l i d = absurd d
+front_part part.AssocItemList ks l i d = absurd d
+front_part part.ItemList ks l i d = front ks l i d (rw none-⧺ at (items_of_before d [] none l))
