@@ -94,7 +94,8 @@ abbrev pub Plain : Record → Type 0
 Plain r = ((r.kind == IDENT) ≡ false) ⊎ (r.contextual ≡ IDENT)
 
 -- such a token is read as no keyword
-pub not_read : (k : ℕ) (r : Record) (rs : List Record) → (r.kind == k) ≡ false → (k == IDENT) ≡ false → (IDENT == k) ≡ false → Plain r → reads_as k (r ∷ rs) ≡ false
+pub not_read : (k : ℕ) (r : Record) (rs : List Record) → (r.kind == k) ≡ false → (k == IDENT) ≡ false →
+    (IDENT == k) ≡ false → Plain r → reads_as k (r ∷ rs) ≡ false
 not_read k r rs a b c (inl h) = rw (a, h, b) refl
 not_read k r rs a b c (inr h) = rw (h, c) (and_false _)
 
@@ -108,17 +109,26 @@ pub record First (c : Category) (ks : List Record) : Type 0 where
   pub no_super : (r.kind == SUPER_KW) ≡ false
 
 name_first : {c : Category} (r : Record) (rs : List Record) → IsName r → Begins c IDENT ≡ true → First c (r ∷ rs)
-name_first r rs n h = record { r = r; rs = rs; is = refl; kind = rw n.kind h; plain = inr n.contextual; no_super = rw n.kind refl }
+name_first r rs n h =
+    record { r = r; rs = rs; is = refl; kind = rw n.kind h; plain = inr n.contextual; no_super = rw n.kind refl }
 
-kind_first : {c : Category} (r : Record) (rs : List Record) (k : ℕ) → Is r k → Begins c k ≡ true → (k == SUPER_KW) ≡ false → (k == IDENT) ≡ false → First c (r ∷ rs)
-kind_first r rs k e h a b = record { r = r; rs = rs; is = refl; kind = rw e.kind_is h; plain = inl (rw e.kind_is b); no_super = rw e.kind_is a }
+kind_first : {c : Category} (r : Record) (rs : List Record) (k : ℕ) → Is r k → Begins c k ≡ true →
+    (k == SUPER_KW) ≡ false → (k == IDENT) ≡ false → First c (r ∷ rs)
+kind_first r rs k e h a b =
+    record { r = r; rs = rs; is = refl; kind = rw e.kind_is h; plain = inl (rw e.kind_is b); no_super = rw e.kind_is a }
 
-test_first : {c : Category} (r : Record) (rs : List Record) (test : ℕ → Bool) → test r.kind ≡ true → Begins c r.kind ≡ true → test SUPER_KW ≡ false → test IDENT ≡ false → First c (r ∷ rs)
-test_first r rs test e h a b = record { r = r; rs = rs; is = refl; kind = h; plain = inl (differ test r.kind IDENT e b); no_super = differ test r.kind SUPER_KW e a }
+test_first : {c : Category} (r : Record) (rs : List Record) (test : ℕ → Bool) → test r.kind ≡ true →
+    Begins c r.kind ≡ true → test SUPER_KW ≡ false → test IDENT ≡ false → First c (r ∷ rs)
+test_first r rs test e h a b =
+    let plain = inl (differ test r.kind IDENT e b) in
+    record { r = r; rs = rs; is = refl; kind = h; plain = plain; no_super = differ test r.kind SUPER_KW e a }
 
 -- a category that begins with another one
-also : {c d : Category} {ks : List Record} (js : List Record) (f : First c ks) → Begins d f.r.kind ≡ true → First d (ks ++ js)
-also js f h = record { r = f.r; rs = f.rs ++ js; is = ap (λ (x : List Record). x ++ js) f.is; kind = h; plain = f.plain; no_super = f.no_super }
+also : {c d : Category} {ks : List Record} (js : List Record) (f : First c ks) → Begins d f.r.kind ≡ true →
+    First d (ks ++ js)
+also js f h =
+    let is = ap (λ (x : List Record). x ++ js) f.is in
+    record { r = f.r; rs = f.rs ++ js; is = is; kind = h; plain = f.plain; no_super = f.no_super }
 
 alone : {c d : Category} {ks : List Record} (f : First c ks) → Begins d f.r.kind ≡ true → First d ks
 alone f h = record { r = f.r; rs = f.rs; is = f.is; kind = h; plain = f.plain; no_super = f.no_super }
@@ -154,16 +164,20 @@ name_field k h = rw (eqb-true k IDENT h) refl
 no : false ≡ true → ⊥
 no e = cc
 
-arrow_begins : (r : Record) (os : List Record) → Touching (tokens_of (parts THIN_ARROW) THIN_ARROW) (r ∷ os) → r.kind ≡ MINUS
+arrow_begins : (r : Record) (os : List Record) → Touching (tokens_of (parts THIN_ARROW) THIN_ARROW) (r ∷ os) →
+    r.kind ≡ MINUS
 arrow_begins r os h = h.0
 
 -- an arrow begins with a `-`
 arrow_first : {os : List Record} (ks : List Record) → Writes os THIN_ARROW → First Return (os ++ ks)
 arrow_first {os = []} ks w = absurd w.touching
-arrow_first {os = r ∷ os} ks w = kind_first r (os ++ ks) MINUS (record { kind_is = arrow_begins r os w.touching }) refl refl refl
+arrow_first {os = r ∷ os} ks w =
+    kind_first r (os ++ ks) MINUS (record { kind_is = arrow_begins r os w.touching }) refl refl refl
 
 -- a keyword, with the `pub` before it or without
-behind_visibility : {c : Category} {is : List Record} {v : Forest} (a : Record) (ks : List Record) (k : ℕ) → Derives (Maybe Visibility) is v → Is a k → Begins c k ≡ true → (k == SUPER_KW) ≡ false → (k == IDENT) ≡ false → Begins c PUB_KW ≡ true → First c (is ++ a ∷ ks)
+behind_visibility : {c : Category} {is : List Record} {v : Forest} (a : Record) (ks : List Record) (k : ℕ) →
+    Derives (Maybe Visibility) is v → Is a k → Begins c k ≡ true → (k == SUPER_KW) ≡ false → (k == IDENT) ≡ false →
+    Begins c PUB_KW ≡ true → First c (is ++ a ∷ ks)
 behind_visibility a ks k maybe_none o e h i p = kind_first a ks k o e h i
 behind_visibility a ks k (maybe_some (visibility_pub {a = z} q)) o e h i p = kind_first z (a ∷ ks) PUB_KW q p refl refl
 
@@ -172,7 +186,8 @@ first (reference {r = r} n) z = name_first r [] n refl
 first (segment d) z = let f = first d refl in alone f f.kind
 first (path_one d) z = let f = first d refl in alone f f.kind
 first (path_more {os = os} {js = js} d w e) z = let f = first d refl in also (os ++ js) f f.kind
-first (atom_literal {r = r} h) z = let k = literal_kind r h in test_first r [] is_literal_first k (literal_atom r.kind k) refl refl
+first (atom_literal {r = r} h) z =
+    let k = literal_kind r h in test_first r [] is_literal_first k (literal_atom r.kind k) refl refl
 first (atom_path d) z = let f = first d refl in alone f (name_atom f.r.kind f.kind)
 first (atom_paren {a = a} {b = b} {ks = ks} o d c) z = kind_first a (ks ++ b ∷ []) L_PAREN o refl refl refl
 first (postfix_atom d) z = let f = first d refl in alone f f.kind
@@ -189,7 +204,8 @@ first (many_more d e) h = absurd (no h)
 first (element_last d) h = let f = first d h in alone f f.kind
 first (element_comma {a = a} d o) h = let f = first d h in also (a ∷ []) f f.kind
 first (element_more {a = a} {js = js} d o e) h = let f = first d h in also (a ∷ js) f f.kind
-first (unary_prefix {a = a} {ks = ks} h d) z = let k = prefix_kind a h in test_first a ks is_prefix k (prefix_operand a.kind k) refl refl
+first (unary_prefix {a = a} {ks = ks} h d) z =
+    let k = prefix_kind a h in test_first a ks is_prefix k (prefix_operand a.kind k) refl refl
 first (unary_ref {a = a} {ks = ks} o d) z = kind_first a ks AMP o refl refl refl
 first (unary_ref_mut {a = a} {b = b} {ks = ks} o m d) z = kind_first a (b ∷ ks) AMP o refl refl refl
 first (unary_postfix d) z = let f = first d refl in alone f (atom_operand f.r.kind f.kind)
@@ -208,20 +224,29 @@ first (bind_name d) z = let f = first d refl in alone f f.kind
 first (visibility_pub {a = a} o) z = kind_first a [] PUB_KW o refl refl refl
 first (annotation_type {a = a} {ks = ks} o d) z = kind_first a ks COLON o refl refl refl
 first (value_given {a = a} {ks = ks} o d) z = kind_first a ks EQ o refl refl refl
-first (statement_let {a = a} {b = b} {ks = ks} {js = js} {is = is} o d e f c) z = kind_first a (ks ++ (js ++ (is ++ b ∷ []))) LET_KW o refl refl refl
+first (statement_let {a = a} {b = b} {ks = ks} {js = js} {is = is} o d e f c) z =
+    kind_first a (ks ++ (js ++ (is ++ b ∷ []))) LET_KW o refl refl refl
 first (statement_expression {a = a} d o) z = let f = first d refl in also (a ∷ []) f (operand_statement f.r.kind f.kind)
 first (contents_of d e) h = absurd (no h)
 first (block_of {a = a} {b = b} {ks = ks} o d c) z = kind_first a (ks ++ b ∷ []) L_CURLY o refl refl refl
-first (item_module {a = a} {b = b} {ks = ks} v o d c) z = behind_visibility a (ks ++ b ∷ []) MOD_KW v o refl refl refl refl
-first (item_module_of {a = a} {ks = ks} {js = js} v o d e) z = behind_visibility a (ks ++ js) MOD_KW v o refl refl refl refl
-first (item_struct {a = a} {b = b} {ks = ks} v o d c) z = behind_visibility a (ks ++ b ∷ []) STRUCT_KW v o refl refl refl refl
-first (item_struct_fields {a = a} {ks = ks} {js = js} v o d e) z = behind_visibility a (ks ++ js) STRUCT_KW v o refl refl refl refl
-first (item_struct_tuple {a = a} {b = b} {ks = ks} {js = js} v o d e c) z = behind_visibility a (ks ++ (js ++ b ∷ [])) STRUCT_KW v o refl refl refl refl
-first (item_function {a = a} {ks = ks} {js = js} {ms = ms} {ns = ns} v o d e f g) z = behind_visibility a (ks ++ (js ++ (ms ++ ns))) FN_KW v o refl refl refl refl
+first (item_module {a = a} {b = b} {ks = ks} v o d c) z =
+    behind_visibility a (ks ++ b ∷ []) MOD_KW v o refl refl refl refl
+first (item_module_of {a = a} {ks = ks} {js = js} v o d e) z =
+    behind_visibility a (ks ++ js) MOD_KW v o refl refl refl refl
+first (item_struct {a = a} {b = b} {ks = ks} v o d c) z =
+    behind_visibility a (ks ++ b ∷ []) STRUCT_KW v o refl refl refl refl
+first (item_struct_fields {a = a} {ks = ks} {js = js} v o d e) z =
+    behind_visibility a (ks ++ js) STRUCT_KW v o refl refl refl refl
+first (item_struct_tuple {a = a} {b = b} {ks = ks} {js = js} v o d e c) z =
+    behind_visibility a (ks ++ (js ++ b ∷ [])) STRUCT_KW v o refl refl refl refl
+first (item_function {a = a} {ks = ks} {js = js} {ms = ms} {ns = ns} v o d e f g) z =
+    behind_visibility a (ks ++ (js ++ (ms ++ ns))) FN_KW v o refl refl refl refl
 first (items_of {a = a} {b = b} {ks = ks} o d c) z = kind_first a (ks ++ b ∷ []) L_CURLY o refl refl refl
 first (fields_of {a = a} {b = b} {ks = ks} o d c) z = kind_first a (ks ++ b ∷ []) L_CURLY o refl refl refl
-first (field_named {a = a} {js = js} maybe_none d o e) z = let f = first d refl in also (a ∷ js) f (name_field f.r.kind f.kind)
-first (field_named {a = a} {ks = ks} {js = js} (maybe_some (visibility_pub {a = b} q)) d o e) z = kind_first b (ks ++ a ∷ js) PUB_KW q refl refl refl
+first (field_named {a = a} {js = js} maybe_none d o e) z =
+    let f = first d refl in also (a ∷ js) f (name_field f.r.kind f.kind)
+first (field_named {a = a} {ks = ks} {js = js} (maybe_some (visibility_pub {a = b} q)) d o e) z =
+    kind_first b (ks ++ a ∷ js) PUB_KW q refl refl refl
 first (tuple_of {a = a} {b = b} {ks = ks} o d c) z = kind_first a (ks ++ b ∷ []) L_PAREN o refl refl refl
 first (tuple_field d) z = let f = first d refl in alone f f.kind
 first (params_of {a = a} {b = b} {ks = ks} o d c) z = kind_first a (ks ++ b ∷ []) L_PAREN o refl refl refl
@@ -238,7 +263,9 @@ pub record Named (ks : List Record) : Type 0 where
 
 pub path_named : {ks : List Record} {t : Forest} → Derives Path ks t → Named ks
 path_named (path_one (segment (reference {r = r} n))) = record { r = r; rs = []; is = refl; name = n }
-path_named (path_more {os = os} {js = js} d w e) = let n = path_named d in record { r = n.r; rs = n.rs ++ (os ++ js); is = ap (λ (x : List Record). x ++ (os ++ js)) n.is; name = n.name }
+path_named (path_more {os = os} {js = js} d w e) =
+    let n = path_named d in
+    record { r = n.r; rs = n.rs ++ (os ++ js); is = ap (λ (x : List Record). x ++ (os ++ js)) n.is; name = n.name }
 
 -- no `builtin#` comes next where a name does
 pub no_builtin : {ks : List Record} (l : List Record) → Named ks → starts_builtin (ks ++ l) ≡ false
@@ -250,12 +277,14 @@ next_is l f = rw f.is refl
 pub next_same : {c : Category} {ks : List Record} (l : List Record) → First c ks → next_kind (ks ++ l) ≡ next_kind ks
 next_same l f = next_is l f ∙ rw f.is refl
 
-pub next_begins : {c : Category} {ks : List Record} (l : List Record) → First c ks → Begins c (next_kind (ks ++ l)) ≡ true
+pub next_begins : {c : Category} {ks : List Record} (l : List Record) → First c ks →
+    Begins c (next_kind (ks ++ l)) ≡ true
 next_begins l f = rw (next_is l f) f.kind
 
 -- no `raw` before an operand
 pub next_plain : {ks : List Record} (l : List Record) → First Unary ks → reads_as RAW_KW (ks ++ l) ≡ false
-next_plain l f = rw f.is (not_read RAW_KW f.r (f.rs ++ l) (differ is_operand f.r.kind RAW_KW f.kind refl) refl refl f.plain)
+next_plain l f =
+    rw f.is (not_read RAW_KW f.r (f.rs ++ l) (differ is_operand f.r.kind RAW_KW f.kind refl) refl refl f.plain)
 
 pub is_node : (k : ℕ) (x : Forest) → Single (node none k x)
 is_node k x = record { kind = k; children = x; is = refl }
