@@ -7,6 +7,7 @@ use Rattle.rap_events.specs.Forest.{Forest, none, node}
 use Rattle.rap_rules.specs.Atom.{expr}
 use Rattle.rap_rules.specs.Called.{pattern, pattern_single, type_, inner_meta}
 use Rattle.rap_grammar.specs.Derives.{Derives, Expression, Ty, Block, Contents, Many, Item, File, EndsExpression, EndsType}
+use Rattle.rap_grammar.specs.MacroCall.{IsMacroCall}
 use Rattle.rap_grammar.specs.Top.{IsTopOf, IsRootOf}
 use Rattle.rap_rules.specs.Items.{source_file, mod_contents, item_or_macro}
 use Rattle.rap_rules.specs.Statements.{macro_stmts, stmt}
@@ -42,6 +43,16 @@ IsCore entry.Pattern input tree = ⊥
 IsCore entry.Ty input tree = Derives Ty input tree
 IsCore entry.Expr input tree = Derives Expression input tree
 IsCore entry.MetaItem input tree = ⊥
+
+-- The whole input is a macro call in the place of an item, and this tree is the entry's node over it.
+abbrev pub IsCall : TopEntryPoint → List Record → Forest → Type 0
+IsCall entry.SourceFile input tree = (call : Forest) × IsMacroCall input call × (tree ≡ node none SOURCE_FILE call)
+IsCall entry.MacroStmts input tree = ⊥
+IsCall entry.MacroItems input tree = (call : Forest) × IsMacroCall input call × (tree ≡ node none MACRO_ITEMS call)
+IsCall entry.Pattern input tree = ⊥
+IsCall entry.Ty input tree = ⊥
+IsCall entry.Expr input tree = ⊥
+IsCall entry.MetaItem input tree = ⊥
 
 -- What a prefix entry gives of the front of an input.
 abbrev pub IsPrefixOutputOf : PrefixEntryPoint → List Record → Forest → Type 0

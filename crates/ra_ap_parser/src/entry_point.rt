@@ -61,7 +61,7 @@ pub enum TopEntryPoint {
 }
 
 impl TopEntryPoint {
-    ghost use Rattle.ra_ap_parser.specs.EntryScript.{IsOutputOf, IsCore};
+    ghost use Rattle.ra_ap_parser.specs.EntryScript.{IsOutputOf, IsCore, IsCall};
 
     /// Reads the input as one tree.
     fn run(&self, alloc: Global, input: &Input) -> Result<Output, NoMemory>
@@ -87,12 +87,15 @@ impl TopEntryPoint {
     /// input that the core grammar derives, under `SourceFile` as a file, under `Expr` as an expression and under `Ty` as
     /// a type, gives its derivation's tree, without a message. So does one that it derives as any number of items, under
     /// `MacroItems`, where the tree is a `MACRO_ITEMS` of them; and as what stands in the braces of a block, under
-    /// `MacroStmts`, where it is a `MACRO_STMTS` of the statements, and of the value behind them if there is one.
+    /// `MacroStmts`, where it is a `MACRO_STMTS` of the statements, and of the value behind them if there is one. A macro
+    /// call, of a name and balanced tokens in braces, gives under `SourceFile` and `MacroItems` the entry's node over one
+    /// `MACRO_CALL`, whose `TOKEN_TREE` nests as the brackets do, without a message.
     pub fn parse(&self, alloc: Global, input: &Input) -> Result<Output, ParseFault>
         ensures tree { IfOk result (IsTreeOver input.now) }
         ensures script { IfOk result (IsOutputOf self.now input.now) }
         ensures only { IfOk result (λ output. (other : Forest) → IsOutputOf self.now input.now other → other ≡ output) }
         ensures core { IfOk result (λ output. (tree : Forest) → IsCore self.now input.now tree → (output ≡ tree) × (message_count output ≡ 0)) }
+        ensures macro_call { IfOk result (λ output. (tree : Forest) → IsCall self.now input.now tree → (output ≡ tree) × (message_count output ≡ 0)) }
         ensures too_many { (result ≡ Err ParseFault.TooManyTokens) ↔ (MAX_TOKENS < length input.now) }
     {
         if input.len() > MAX_TOKENS {

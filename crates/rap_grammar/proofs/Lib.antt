@@ -4,6 +4,7 @@ pub mod Example
 pub mod ItemWays
 pub mod Items
 pub mod Lists
+pub mod MacroCalls
 pub mod OneTree
 pub mod Operators
 pub mod Outputs

@@ -18,6 +18,9 @@ use Rattle.rap_rules.proofs.OneEnd.{Same, one_end}
 use Rattle.rap_grammar.proofs.Unique.{over, unmarked, one_expression, one_type}
 use Rattle.rap_rules.specs.Items.{mod_contents, source_file}
 use Rattle.rap_grammar.proofs.Items.{file_whole, items_whole}
+use Rattle.rap_grammar.specs.MacroCall.{IsMacroCall}
+use Rattle.rap_grammar.proofs.Ways.{Leads}
+use Rattle.rap_grammar.proofs.MacroCalls.{call_file, call_whole, call_clean}
 
 -- one tree is kept as it is
 top_tree-whole : (t : Forest) → one_tree t ≡ true → top_tree t [] ≡ t
@@ -51,23 +54,37 @@ derived_statements {t = t} i d =
 pub derived_statements_clean : {input : List Record} {t output : Forest} → IsRootOf MACRO_STMTS macro_stmts input output → Derives Contents input t → message_count output ≡ 0
 derived_statements_clean {t = t} i d = ap message_count (derived_statements i d) ∙ over (unmarked d)
 
+-- what a script makes of a whole input stands under the node of its entry
+pub root_of : {kind : ℕ} {s : Script Phrase} {input : List Record} {t output : Forest} → IsRootOf kind s input output →
+    Leads s (none ∷ []) input none [] t → output ≡ node none kind t
+root_of {kind = kind} i x =
+    let e = one_end i.run x in
+    i.tree ∙ ap (λ (p : Spot). node none kind p.forest) e.spot
+
 -- a file that is derived
-pub derived_file : {input : List Record} {t output : Forest} → IsRootOf SOURCE_FILE source_file input output → Derives File input t → output ≡ t
-derived_file i (file_of d) =
-    let e = one_end i.run (file_whole d (none ∷ [])) in
-    i.tree ∙ ap (λ (p : Spot). node none SOURCE_FILE p.forest) e.spot
+pub derived_file : {input : List Record} {t output : Forest} → IsRootOf SOURCE_FILE source_file input output →
+    Derives File input t → output ≡ t
+derived_file i (file_of d) = root_of i (file_whole d (none ∷ []))
 
 pub derived_file_clean : {input : List Record} {t output : Forest} → IsRootOf SOURCE_FILE source_file input output → Derives File input t → message_count output ≡ 0
 derived_file_clean i d = ap message_count (derived_file i d) ∙ unmarked d
 
 -- items of a macro that are derived stand under its node
-pub derived_items : {input : List Record} {t output : Forest} → IsRootOf MACRO_ITEMS (mod_contents false) input output → Derives (Many Item) input t → output ≡ node none MACRO_ITEMS t
-derived_items i d =
-    let e = one_end i.run (items_whole d (none ∷ [])) in
-    i.tree ∙ ap (λ (p : Spot). node none MACRO_ITEMS p.forest) e.spot
+pub derived_items : {input : List Record} {t output : Forest} → IsRootOf MACRO_ITEMS (mod_contents false) input output →
+    Derives (Many Item) input t → output ≡ node none MACRO_ITEMS t
+derived_items i d = root_of i (items_whole d (none ∷ []))
 
 pub derived_items_clean : {input : List Record} {t output : Forest} → IsRootOf MACRO_ITEMS (mod_contents false) input output → Derives (Many Item) input t → message_count output ≡ 0
 derived_items_clean i d = ap message_count (derived_items i d) ∙ over (unmarked d)
+
+-- a macro call alone stands under the node of its entry
+pub called_file : {input : List Record} {t output : Forest} → IsRootOf SOURCE_FILE source_file input output →
+    IsMacroCall input t → (output ≡ node none SOURCE_FILE t) × (message_count output ≡ 0)
+called_file i d = let e = root_of i (call_file d (none ∷ [])) in (e, ap message_count e ∙ over (call_clean d))
+
+pub called_items : {input : List Record} {t output : Forest} → IsRootOf MACRO_ITEMS (mod_contents false) input output →
+    IsMacroCall input t → (output ≡ node none MACRO_ITEMS t) × (message_count output ≡ 0)
+called_items i d = let e = root_of i (call_whole d (none ∷ [])) in (e, ap message_count e ∙ over (call_clean d))
 
 -- the same input gives the same output
 pub one_output : {s : Script Phrase} {input : List Record} {a b : Forest} → IsTopOf s input a → IsTopOf s input b → a ≡ b

@@ -69,7 +69,7 @@ not_first k [] (r ∷ rs) h = h
 not_first k (j ∷ ks) (r ∷ rs) h = rw h refl
 
 -- paths
-name_way : {b : List Forest} {r : Record} {l : List Record} {f : Forest} → r.kind ≡ IDENT → Leads name_ref_mod_path b (r ∷ l) f l (node f NAME_REF (leaf none IDENT 1))
+pub name_way : {b : List Forest} {r : Record} {l : List Record} {f : Forest} → r.kind ≡ IDENT → Leads name_ref_mod_path b (r ∷ l) f l (node f NAME_REF (leaf none IDENT 1))
 unfolding name_ref_mod_path
 name_way e = passes (rw e refl) (starts (takes_any (rw e (λ h. absurd cc)) (finishes (rw e gives))))
 

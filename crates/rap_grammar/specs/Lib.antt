@@ -1,3 +1,4 @@
 pub mod Derives
+pub mod MacroCall
 pub mod Part
 pub mod Top

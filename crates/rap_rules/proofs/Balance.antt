@@ -19,7 +19,7 @@ use Rattle.rap_rules.proofs.OneEnd.{one_end}
 use Rattle.rap_rules.proofs.TokenTrees.{one_wide}
 
 -- from these tokens and this forest a script leads to those tokens and that forest, and the older forests stay
-abbrev Leads : Script Phrase → List Forest → List Record → Forest → List Record → Forest → Type 0
+abbrev pub Leads : Script Phrase → List Forest → List Record → Forest → List Record → Forest → Type 0
 Leads s b rs f l g =
     Runs script_of s (record { rest = rs; forest = f; below = b }) (record { rest = l; forest = g; below = b }) something
 
@@ -111,14 +111,21 @@ no_message (token_first {r = r} {t = t} n d) = omega (arith, message_count-⧺ (
 no_message (list_first {a = a} {c = c} {t = t} {u = u} p d x) =
     omega (arith, message_count-⧺ (in_brackets a t c) u, message_count-⧺ (leaf none a.kind 1) t, no_message d, no_message x)
 
--- so a list of balanced tokens nests as its brackets do
+-- so a list of balanced tokens in brackets becomes the node that nests as they do
+pub balanced_way : {a c : Record} {ks : List Record} {t : Forest} → ArePartners a c → Balanced ks t →
+    (b : List Forest) (f : Forest) (l : List Record) →
+    Leads bracketed_tokens b (a ∷ (ks ++ c ∷ l)) f l (f ⧺ in_brackets a t c)
+balanced_way {a = a} {c = c} {ks = ks} {t = t} p d b f l = list_way ks t p (between d a.kind c p.closes) b f l
+
+-- without a message
+pub balanced_clean : {ks : List Record} {t : Forest} (a c : Record) → Balanced ks t → message_count (in_brackets a t c) ≡ 0
+balanced_clean {t = t} a c d = omega (arith, message_count-⧺ (leaf none a.kind 1) t, no_message d)
+
 pub nests_as_brackets : {old new : State} {v : Outcome} → Follows bracketed_tokens v old new → NestsAsBrackets old new
 nests_as_brackets {old = old} {new = new} h = record {
   nests = λ a c ks rs t p d e.
       let w : Leads bracketed_tokens (forests old.below) old.rest old.forest rs (old.forest ⧺ in_brackets a t c) =
-      rw e (list_way ks t p (between d a.kind c p.closes) (forests old.below) old.forest rs) in
+      rw e (balanced_way p d (forests old.below) old.forest rs) in
       let s = one_end h.run w in
-      let calm : message_count (in_brackets a t c) ≡ 0 =
-      omega (arith, message_count-⧺ (leaf none a.kind 1) t, no_message d) in
-      (ap (λ (q : Spot). q.rest) s.spot, ap (λ (q : Spot). q.forest) s.spot, calm);
+      (ap (λ (q : Spot). q.rest) s.spot, ap (λ (q : Spot). q.forest) s.spot, balanced_clean a c d);
 }

@@ -1,4 +1,4 @@
-use Rattle.ra_ap_parser.proofs.EntryTrees.{core_tree, one_entry_output}
+use Rattle.ra_ap_parser.proofs.EntryTrees.{core_tree, call_tree, one_entry_output}
 use Rattle.ra_ap_parser.proofs.entry_point.TopEntryPoint.parse.Goals as goal
 
 pub returns-in-Ok-clause-only : goal.returns-in-Ok-clause-only
@@ -6,3 +6,6 @@ returns-in-Ok-clause-only c = λ other i. one_entry_output c.args.self.now _ i c
 
 pub returns-in-Ok-clause-core : goal.returns-in-Ok-clause-core
 returns-in-Ok-clause-core c = λ tree d. core_tree c.args.self.now _ c.in-Ok.ensures.script d
+
+pub returns-in-Ok-clause-macro_call : goal.returns-in-Ok-clause-macro_call
+returns-in-Ok-clause-macro_call c = λ tree d. call_tree c.args.self.now _ c.in-Ok.ensures.script d
