@@ -17,6 +17,7 @@ pub mod OpenStrings
 pub mod Parsed
 pub mod Records
 pub mod Reports
+pub mod TailExamples
 pub mod Tails
 pub mod Tokens
 pub mod TriviaRuns

@@ -43,14 +43,14 @@ pub(super) fn tail_begin(lexed: &LexedStr<'_>, start: usize) -> usize
     requires { start ≤ length lexed.now.tokens }
     ensures { result + item_tail_len (trivia_at lexed.now.tokens start) ≡ past_trivia lexed.now.tokens start }
 {
-    let mut begin = start;
+    let mut first = start;
     for i in start..lexed.len() {
         if !lexed.kind(i).is_trivia() {
-            return begin;
+            return first;
         }
-        begin = begin_after(lexed, start, begin, i);
+        first = begin_after(lexed, start, first, i);
     }
-    begin
+    first
 }
 
 /// Where the tail begins with one trivia more; without a tail, after it.

@@ -218,12 +218,13 @@ impl<'a, 'text> Builder<'a, 'text> {
         self.eat_n_trivias(begin - self.pos, sink)
     }
 
+    /// Hands out so many tokens as they are.
     fn eat_n_trivias<S: StrSink>(&mut self, n: usize, sink: &mut S) -> Result<(), S::Refusal>
         requires { self.old.pos + n ≤ length self.old.lexed.now.tokens }
         ensures steps { HandsOut S.takes S.refuses sink.old (leaves_of (take n (drop self.old.pos self.old.lexed.now.tokens))) result sink.new }
         ensures after { OnOk result (self.new ≡ record self.old { pos = self.old.pos + n }) }
     {
-        for i in 0..n {
+        'tokens: for _ in 0..n {
             let trivia = self.lexed.kind(self.pos);
             self.do_token(trivia, 1, sink)?;
         }

@@ -5,6 +5,6 @@ use Rattle.ra_ap_parser.proofs.shortcuts.attached.tail_begin.Given as goal
 
 abbrev pub invariant-loop-i : goal.invariant-loop-i
 invariant-loop-i l = record {
-  begun : l.begin + item_tail_len (take (l.i - l.start) (drop l.start l.lexed.tokens)) ≡ l.i;
+  begun : l.first + item_tail_len (take (l.i - l.start) (drop l.start l.lexed.tokens)) ≡ l.i;
   past : past_trivia l.lexed.tokens l.i ≡ past_trivia l.lexed.tokens l.start;
 }
