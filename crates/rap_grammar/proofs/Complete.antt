@@ -252,7 +252,7 @@ pub colon_ends_bind : (a : Record) (rs : List Record) → Is a COLON → begins_
     EndsBind (a ∷ rs)
 colon_ends_bind a rs o h =
     let n : begins_with (COLON ∷ []) rs ≡ false =
-        not_first COLON [] rs (differ begins_type (next_kind rs) COLON h refl) in
+    not_first COLON [] rs (differ begins_type (next_kind rs) COLON h refl) in
     record { next = rw o.kind_is refl; colons = rw (n, and_false a.joint) (and_false _) }
 
 bind_ends : {js : List Record} {u : Forest} → Perhaps (Known Annotation) js u → (l : List Record) →
@@ -419,7 +419,7 @@ claim (expression_assign {op = op} {ks = ks} {os = os} {js = js} {t = t} {u = u}
     let i = q.power_is in
     let o = leaf t op (width op) in
     let x : LeadsOut (attributed (operand_of r) (right_of op)) (f ∷ b) (js ++ l) o l (o ⧺ u) =
-        rw i (claim e (operand_of r) (f ∷ b) (leaf t op (width op)) l c) in
+    rw i (claim e (operand_of r) (f ∷ b) (leaf t op (width op)) l c) in
     rw (three_lists ks os js l) (claim d r 1 b f (os ++ (js ++ l)) (f ⧺ node none BIN_EXPR (leaf t op (width op) ⧺ u)) l
     (omega arith) q.calm (omega (arith, ap power q.is))
     (climb_on r (single d) q.is (omega arith) (λ z. omega arith) (no_cast op 1 i (omega arith)) q.first q.past x

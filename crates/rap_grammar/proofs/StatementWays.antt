@@ -46,7 +46,7 @@ no_item_by_name : {b : List Forest} {r : Record} {rs : List Record} {f : Forest}
 unfolding opt_item_by_name
 no_item_by_name {r = r} {rs = rs} o p =
     let n : (k : ℕ) → is_operand k ≡ false → (k == IDENT) ≡ false → (IDENT == k) ≡ false →
-        reads_as k (r ∷ rs) ≡ false = λ k h i j. not_read k r rs (differ is_operand r.kind k o h) i j p in
+    reads_as k (r ∷ rs) ≡ false = λ k h i j. not_read k r rs (differ is_operand r.kind k o h) i j p in
     fails (rw (n UNION_KW refl refl refl) refl) (fails (rw (n MACRO_RULES_KW refl refl refl) refl)
     (fails (rw (n BUILTIN_KW refl refl refl) refl) gives))
 
@@ -84,7 +84,7 @@ no_auto_or_default : {b : List Forest} {r : Record} {rs : List Record} {f : Fore
 unfolding auto_or_default modifier_as opt_default
 no_auto_or_default {r = r} {rs = rs} o p =
     let n : (k : ℕ) → is_operand k ≡ false → (k == IDENT) ≡ false → (IDENT == k) ≡ false →
-        reads_as k (r ∷ rs) ≡ false = λ k h i j. not_read k r rs (differ is_operand r.kind k o h) i j p in
+    reads_as k (r ∷ rs) ≡ false = λ k h i j. not_read k r rs (differ is_operand r.kind k o h) i j p in
     let d = n DEFAULT_KW refl refl refl in
     follows (fails (rw (n AUTO_KW refl refl refl) refl) gives)
     (follows (fails (rw d refl) (fails (rw d refl) (fails (rw d refl) gives))) gives)
