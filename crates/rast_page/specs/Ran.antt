@@ -1,0 +1,59 @@
+-- What the program shows of a text.
+use Rattle.std.specs.Prelude.{◌≡◌, ◌≢◌, ◌⊎◌, ℕ, Option, List, [], ◌++◌, chars, string_bytes}
+use Rattle.std.specs.Io.KnownBytes.{Appends}
+use Rattle.rap_base.specs.declared.edition.Edition.{Edition}
+use Rattle.rap_base.specs.declared.no_memory.NoMemory.{NoMemory as Memory}
+use Rattle.rap_events.specs.Forest.{Forest}
+use Rattle.ra_ap_parser.specs.LexedStr.{Lexed}
+use Rattle.ra_ap_parser.specs.StrForest.{str_flat}
+use Rattle.ra_ap_parser.specs.Trivia.{with_trivia}
+use Rattle.ra_ap_parser.specs.Headline.{IsParsed}
+use Rattle.ra_ap_parser.specs.declared.whole_text.TextFault.{TextFault}
+use Rattle.rast_print.specs.Shown.{Comes, all_reported}
+use Rattle.rast_page.specs.Json.{json_text}
+use Rattle.rast_page.specs.Page.{page}
+use Rattle.rast_page.specs.Rows.{step_rows, message_rows, lexer_message_rows}
+use Rattle.rast_page.specs.Words.{cannot_write, fault_line}
+use Rattle.rast_page.specs.declared.rows.Rows.{Rows}
+use Rattle.rast_page.specs.declared.run.Frame.{Frame}
+
+-- the items of all messages: those of the tree, and after them those of the lexer
+abbrev pub all_message_rows : Lexed → Forest → List ℕ
+all_message_rows lexed forest =
+    message_rows (str_flat (with_trivia lexed.tokens forest)) ++ lexer_message_rows lexed.tokens lexed.errors
+
+-- The items of the text's one tree, and those of its messages.
+pub record AreRows (text : List ℕ) (edition : Edition) (rows : Rows) : Type 0 where
+  pub lexed : Lexed
+  pub forest : Forest
+  pub parsed : IsParsed text edition lexed forest
+  pub steps : string_bytes rows.steps ≡ step_rows (str_flat (with_trivia lexed.tokens forest))
+  pub messages : string_bytes rows.messages ≡ all_message_rows lexed forest
+
+-- A fault came before the first write: the output is as it was, and the line reports the fault.
+pub record StopsBefore {W : Type 0} (text : List ℕ) (edition : Edition) (before after : W) (line : List ℕ) : Type 0 where
+  pub fault : TextFault Memory
+  pub comes : Comes text edition fault
+  pub untouched : after ≡ before
+  pub is : line ≡ fault_line fault
+
+-- The whole page was there, and the output refused a write.
+pub record StopsWriting (text : List ℕ) (edition : Edition) (line : List ℕ) : Type 0 where
+  pub rows : Rows
+  pub shown : AreRows text edition rows
+  pub is : line ≡ cannot_write
+
+-- a fault stopped the program, and what is asked holds of the line that reports it
+abbrev pub IfStops : {W : Type 0} → List ℕ → Edition → W → W → (List ℕ → Type 0) → Type 0
+IfStops text edition before after Asked =
+    (line : List ℕ) × (StopsBefore text edition before after line ⊎ StopsWriting text edition line) × Asked line
+
+-- The page of the text's one tree and of its messages was written; the status is 0 where there is no message, and else 1.
+pub record Shows (frame : Frame) (file text : List ℕ) (edition : Edition) (status : ℕ) (before after : Option (List ℕ)) : Type 0 where
+  pub lexed : Lexed
+  pub forest : Forest
+  pub parsed : IsParsed text edition lexed forest
+  pub written : Appends before after
+      (page frame.head.now (json_text (chars file)) (step_rows (str_flat (with_trivia lexed.tokens forest))) (all_message_rows lexed forest) frame.tail.now)
+  pub quiet : status ≡ 0 → all_message_rows lexed forest ≡ []
+  pub loud : status ≡ 1 → all_message_rows lexed forest ≢ []

@@ -1,0 +1,118 @@
+//! All that the program does once its file is read.
+ghost use Rattle.std.specs.Prelude.{◌≡◌, ◌≤◌, ◌<◌, ◌++◌, IfErr, IfOk, OnOk, chars, string_bytes};
+ghost use Rattle.std.specs.Io.KnownBytes.{Appends};
+ghost use Rattle.rast_print.specs.Shown.{Comes};
+ghost use Rattle.rast_page.specs.Json.{json_text};
+ghost use Rattle.rast_page.specs.Ran.{AreRows, IfStops, Shows};
+ghost use Rattle.rast_page.specs.Page.{page};
+ghost use Rattle.rast_page.specs.Words.{fault_line};
+
+use crate::json::push_json;
+use crate::rows::Rows;
+use ra_ap_parser::{Edition, NoMemory, TextFault, TopEntryPoint, parse_text};
+use rast_common::fault::report;
+use std::alloc::{AllocError, Global};
+use std::io;
+
+#[cfg(test)]
+mod tests;
+
+/// The parts of a page that are the same for all files: what stands before the data, and what stands after it.
+#[derive(Clone, Copy, Debug)]
+pub struct Frame {
+    pub head: &'static str,
+    pub tail: &'static str,
+}
+
+/// The items of the text's tree and of its messages, the tree's messages before the lexer's.
+fn rows_of(
+    alloc: Global,
+    edition: Edition,
+    entry: TopEntryPoint,
+    text: &str,
+) -> Result<Rows, TextFault<NoMemory>>
+    ensures rows { IfOk result (AreRows text.now edition) }
+    ensures fault { IfErr result (Comes text.now edition) }
+{
+    let mut rows = Rows::new(alloc);
+    let parsed = parse_text(alloc, edition, entry, text, &mut rows)?;
+    let Ok(()) = rows.add_errors_of(&parsed.lexed) else {
+        return Err(TextFault::NoMemory);
+    };
+    Ok(rows)
+}
+
+/// The file's name as a JSON string.
+fn name_of_file(alloc: Global, file: &str) -> Result<String, AllocError>
+    ensures { IfOk result (λ name. string_bytes name ≡ json_text (chars file.now)) }
+{
+    let mut name = String::new(alloc);
+    push_json(&mut name, file)?;
+    Ok(name)
+}
+
+/// What a fault is called on the error stream.
+fn fault_message<R>(fault: &TextFault<R>) -> &'static str
+    ensures { result.now ≡ fault_line fault.now }
+{
+    match fault {
+        TextFault::TextTooLong => "rast_page: text too long\n",
+        TextFault::TooManyTokens => "rast_page: too many tokens\n",
+        TextFault::NoMemory | TextFault::Refused(_) => "rast_page: no memory\n",
+    }
+}
+
+/// Writes the page.
+fn write_page<W: io::Write>(out: &mut W, frame: &Frame, name: &str, rows: &Rows) -> io::Result<()>
+    ensures { OnOk result (Appends (W.contents out.old) (W.contents out.new)
+        (page frame.now.head.now name.now (string_bytes rows.now.steps) (string_bytes rows.now.messages) frame.now.tail.now)) }
+{
+    out.write_all(frame.head.as_bytes())?;
+    out.write_all(b"{\"file\":")?;
+    out.write_all(name.as_bytes())?;
+    out.write_all(b",\"steps\":[0")?;
+    out.write_all(rows.steps.as_bytes())?;
+    out.write_all(b"],\"messages\":[0")?;
+    out.write_all(rows.messages.as_bytes())?;
+    out.write_all(b"]}")?;
+    out.write_all(frame.tail.as_bytes())?;
+    out.flush()
+}
+
+/// Parses the text, and writes the page that shows it: the frame's head, the file's name, the tree's steps and the
+/// messages as one JSON object, and the frame's tail.
+///
+/// Gives the program's status: 0 where there is no message, 1 where there is one, and 2 at a fault, which
+/// is reported on `err`. At a fault nothing is written to `out`, unless `out` itself refused a write. The error is that
+/// of `err`, where it refused the report.
+pub fn run<W: io::Write, V: io::Write>(
+    alloc: Global,
+    edition: Edition,
+    entry: TopEntryPoint,
+    frame: &Frame,
+    file: &str,
+    text: &str,
+    out: &mut W,
+    err: &mut V,
+) -> io::Result<u8>
+    ensures status { IfOk result (λ status. status ≤ 2) }
+    ensures shown { IfOk result (λ status. status < 2 → Shows frame.now file.now text.now edition status (W.contents out.old) (W.contents out.new) × (err.new ≡ err.old)) }
+    ensures reported { IfOk result (λ status. status ≡ 2 → IfStops text.now edition out.old out.new (Appends (V.contents err.old) (V.contents err.new))) }
+    ensures unreported { IfErr result (λ _. IfStops text.now edition out.old out.new (λ _. Unit {0})) }
+{
+    let rows = match rows_of(alloc, edition, entry, text) {
+        Ok(rows) => rows,
+        Err(fault) => return report(err, fault_message(&fault)),
+    };
+    let Ok(name) = name_of_file(alloc, file) else {
+        return report(err, "rast_page: no memory\n");
+    };
+    if write_page(out, frame, name.as_str(), &rows).is_err() {
+        return report(err, "rast_page: cannot write\n");
+    }
+    if rows.messages.is_empty() {
+        Ok(0)
+    } else {
+        Ok(1)
+    }
+}
