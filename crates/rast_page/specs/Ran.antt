@@ -11,7 +11,7 @@ use Rattle.ra_ap_parser.specs.Headline.{IsParsed}
 use Rattle.ra_ap_parser.specs.declared.whole_text.TextFault.{TextFault}
 use Rattle.rast_print.specs.Shown.{Comes, all_reported}
 use Rattle.rast_page.specs.Json.{json_text}
-use Rattle.rast_page.specs.Page.{page}
+use Rattle.rast_page.specs.Page.{page, page_data}
 use Rattle.rast_page.specs.Rows.{step_rows, message_rows, lexer_message_rows}
 use Rattle.rast_page.specs.Words.{cannot_write, fault_line}
 use Rattle.rast_page.specs.declared.rows.Rows.{Rows}
@@ -54,6 +54,6 @@ pub record Shows (frame : Frame) (file text : List ℕ) (edition : Edition) (sta
   pub forest : Forest
   pub parsed : IsParsed text edition lexed forest
   pub written : Appends before after
-      (page frame.head.now (json_text (chars file)) (step_rows (str_flat (with_trivia lexed.tokens forest))) (all_message_rows lexed forest) frame.tail.now)
+      (page frame (page_data (json_text (chars file)) (step_rows (str_flat (with_trivia lexed.tokens forest))) (all_message_rows lexed forest)))
   pub quiet : status ≡ 0 → all_message_rows lexed forest ≡ []
   pub loud : status ≡ 1 → all_message_rows lexed forest ≢ []

@@ -4,7 +4,7 @@ ghost use Rattle.std.specs.Io.KnownBytes.{Appends};
 ghost use Rattle.rast_print.specs.Shown.{Comes};
 ghost use Rattle.rast_page.specs.Json.{json_text};
 ghost use Rattle.rast_page.specs.Ran.{AreRows, IfStops, Shows};
-ghost use Rattle.rast_page.specs.Page.{page};
+ghost use Rattle.rast_page.specs.Page.{page, page_data};
 ghost use Rattle.rast_page.specs.Words.{fault_line};
 
 use crate::json::push_json;
@@ -62,19 +62,32 @@ fn fault_message<R>(fault: &TextFault<R>) -> &'static str
     }
 }
 
+/// Writes two texts, one after the other.
+fn write_both<W: io::Write>(out: &mut W, first: &str, second: &str) -> io::Result<()>
+    ensures { OnOk result (Appends (W.contents out.old) (W.contents out.new) (first.now ++ second.now)) }
+{
+    out.write_all(first.as_bytes())?;
+    out.write_all(second.as_bytes())
+}
+
+/// Writes the page's data.
+fn write_data<W: io::Write>(out: &mut W, name: &str, rows: &Rows) -> io::Result<()>
+    ensures { OnOk result (Appends (W.contents out.old) (W.contents out.new)
+        (page_data name.now (string_bytes rows.now.steps) (string_bytes rows.now.messages))) }
+{
+    write_both(out, "{\"file\":", name)?;
+    write_both(out, ",\"steps\":[0", rows.steps.as_str())?;
+    write_both(out, "],\"messages\":[0", rows.messages.as_str())?;
+    out.write_all("]}".as_bytes())
+}
+
 /// Writes the page.
 fn write_page<W: io::Write>(out: &mut W, frame: &Frame, name: &str, rows: &Rows) -> io::Result<()>
     ensures { OnOk result (Appends (W.contents out.old) (W.contents out.new)
-        (page frame.now.head.now name.now (string_bytes rows.now.steps) (string_bytes rows.now.messages) frame.now.tail.now)) }
+        (page frame.now (page_data name.now (string_bytes rows.now.steps) (string_bytes rows.now.messages)))) }
 {
     out.write_all(frame.head.as_bytes())?;
-    out.write_all(b"{\"file\":")?;
-    out.write_all(name.as_bytes())?;
-    out.write_all(b",\"steps\":[0")?;
-    out.write_all(rows.steps.as_bytes())?;
-    out.write_all(b"],\"messages\":[0")?;
-    out.write_all(rows.messages.as_bytes())?;
-    out.write_all(b"]}")?;
+    write_data(out, name, rows)?;
     out.write_all(frame.tail.as_bytes())?;
     out.flush()
 }
