@@ -3,8 +3,8 @@ ghost use Rattle.std.specs.Prelude.{◌≡◌, ◌≤◌, ◌<◌, ◌++◌, IfE
 ghost use Rattle.std.specs.Io.KnownBytes.{Appends};
 ghost use Rattle.rast_print.specs.Shown.{Comes};
 ghost use Rattle.rast_page.specs.Json.{json_text};
-ghost use Rattle.rast_page.specs.Ran.{AreRows, IfStops, Shows};
-ghost use Rattle.rast_page.specs.Page.{page, page_data};
+ghost use Rattle.rast_page.specs.Page.{data_of, framed};
+ghost use Rattle.rast_page.specs.Ran.{IfStops, IsPage, Shows};
 ghost use Rattle.rast_page.specs.Words.{fault_line};
 
 use crate::json::push_json;
@@ -24,22 +24,11 @@ pub struct Frame {
     pub tail: &'static str,
 }
 
-/// The items of the text's tree and of its messages, the tree's messages before the lexer's.
-fn rows_of(
-    alloc: Global,
-    edition: Edition,
-    entry: TopEntryPoint,
-    text: &str,
-) -> Result<Rows, TextFault<NoMemory>>
-    ensures rows { IfOk result (AreRows text.now edition) }
-    ensures fault { IfErr result (Comes text.now edition) }
-{
-    let mut rows = Rows::new(alloc);
-    let parsed = parse_text(alloc, edition, entry, text, &mut rows)?;
-    let Ok(()) = rows.add_errors_of(&parsed.lexed) else {
-        return Err(TextFault::NoMemory);
-    };
-    Ok(rows)
+/// What a page holds of a file: its name as a JSON string, and its rows.
+#[derive(Drop)]
+struct Page {
+    name: String,
+    rows: Rows,
 }
 
 /// The file's name as a JSON string.
@@ -49,6 +38,28 @@ fn name_of_file(alloc: Global, file: &str) -> Result<String, AllocError>
     let mut name = String::new(alloc);
     push_json(&mut name, file)?;
     Ok(name)
+}
+
+/// The file's name, and the rows of the text's tree and of its messages, the tree's messages before the lexer's.
+fn page_of(
+    alloc: Global,
+    edition: Edition,
+    entry: TopEntryPoint,
+    file: &str,
+    text: &str,
+) -> Result<Page, TextFault<NoMemory>>
+    ensures page { IfOk result (IsPage file.now text.now edition) }
+    ensures fault { IfErr result (Comes text.now edition) }
+{
+    let mut rows = Rows::new(alloc);
+    let parsed = parse_text(alloc, edition, entry, text, &mut rows)?;
+    let Ok(()) = rows.add_errors_of(&parsed.lexed) else {
+        return Err(TextFault::NoMemory);
+    };
+    let Ok(name) = name_of_file(alloc, file) else {
+        return Err(TextFault::NoMemory);
+    };
+    Ok(Page { name, rows })
 }
 
 /// What a fault is called on the error stream.
@@ -71,23 +82,22 @@ fn write_both<W: io::Write>(out: &mut W, first: &str, second: &str) -> io::Resul
 }
 
 /// Writes the page's data.
-fn write_data<W: io::Write>(out: &mut W, name: &str, rows: &Rows) -> io::Result<()>
-    ensures { OnOk result (Appends (W.contents out.old) (W.contents out.new)
-        (page_data name.now (string_bytes rows.now.steps) (string_bytes rows.now.messages))) }
+fn write_data<W: io::Write>(out: &mut W, page: &Page) -> io::Result<()>
+    ensures { OnOk result (Appends (W.contents out.old) (W.contents out.new) (data_of page.now)) }
 {
-    write_both(out, "{\"file\":", name)?;
-    write_both(out, ",\"steps\":[0", rows.steps.as_str())?;
-    write_both(out, "],\"messages\":[0", rows.messages.as_str())?;
-    out.write_all("]}".as_bytes())
+    write_both(out, "{\"file\":", page.name.as_str())?;
+    write_both(out, ",\"steps\":[0", page.rows.steps.as_str())?;
+    write_both(out, "],\"messages\":[0", page.rows.messages.as_str())?;
+    out.write_all(b"]}")?;
+    Ok(())
 }
 
 /// Writes the page.
-fn write_page<W: io::Write>(out: &mut W, frame: &Frame, name: &str, rows: &Rows) -> io::Result<()>
-    ensures { OnOk result (Appends (W.contents out.old) (W.contents out.new)
-        (page frame.now (page_data name.now (string_bytes rows.now.steps) (string_bytes rows.now.messages)))) }
+fn write_page<W: io::Write>(out: &mut W, frame: &Frame, page: &Page) -> io::Result<()>
+    ensures { OnOk result (Appends (W.contents out.old) (W.contents out.new) (framed frame.now (data_of page.now))) }
 {
     out.write_all(frame.head.as_bytes())?;
-    write_data(out, name, rows)?;
+    write_data(out, page)?;
     out.write_all(frame.tail.as_bytes())?;
     out.flush()
 }
@@ -109,21 +119,20 @@ pub fn run<W: io::Write, V: io::Write>(
     err: &mut V,
 ) -> io::Result<u8>
     ensures status { IfOk result (λ status. status ≤ 2) }
-    ensures shown { IfOk result (λ status. status < 2 → Shows frame.now file.now text.now edition status (W.contents out.old) (W.contents out.new) × (err.new ≡ err.old)) }
-    ensures reported { IfOk result (λ status. status ≡ 2 → IfStops text.now edition out.old out.new (Appends (V.contents err.old) (V.contents err.new))) }
-    ensures unreported { IfErr result (λ _. IfStops text.now edition out.old out.new (λ _. Unit {0})) }
+    ensures shown { IfOk result (λ status. status < 2
+        → Shows frame.now file.now text.now edition status (W.contents out.old) (W.contents out.new) × (err.new ≡ err.old)) }
+    ensures reported { IfOk result (λ status. status ≡ 2
+        → IfStops file.now text.now edition out.old out.new (Appends (V.contents err.old) (V.contents err.new))) }
+    ensures unreported { IfErr result (λ _. IfStops file.now text.now edition out.old out.new (λ _. Unit {0})) }
 {
-    let rows = match rows_of(alloc, edition, entry, text) {
-        Ok(rows) => rows,
+    let page = match page_of(alloc, edition, entry, file, text) {
+        Ok(page) => page,
         Err(fault) => return report(err, fault_message(&fault)),
     };
-    let Ok(name) = name_of_file(alloc, file) else {
-        return report(err, "rast_page: no memory\n");
-    };
-    if write_page(out, frame, name.as_str(), &rows).is_err() {
+    let Ok(()) = write_page(out, frame, &page) else {
         return report(err, "rast_page: cannot write\n");
-    }
-    if rows.messages.is_empty() {
+    };
+    if page.rows.messages.is_empty() {
         Ok(0)
     } else {
         Ok(1)
