@@ -1,3 +1,4 @@
+pub mod Inert
 pub mod Json
 pub mod Page
 pub mod Ran

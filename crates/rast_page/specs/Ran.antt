@@ -10,6 +10,7 @@ use Rattle.ra_ap_parser.specs.Trivia.{with_trivia}
 use Rattle.ra_ap_parser.specs.Headline.{IsParsed}
 use Rattle.ra_ap_parser.specs.declared.whole_text.TextFault.{TextFault}
 use Rattle.rast_print.specs.Shown.{Comes, all_reported}
+use Rattle.rast_page.specs.Inert.{IsInert}
 use Rattle.rast_page.specs.Json.{json_text}
 use Rattle.rast_page.specs.Page.{object, framed}
 use Rattle.rast_page.specs.Rows.{step_rows, message_rows, lexer_message_rows}
@@ -54,12 +55,18 @@ abbrev pub IfStops : {W : Type 0} → List ℕ → List ℕ → Edition → W �
 IfStops file text edition before after Asked =
     (line : List ℕ) × (StopsBefore text edition before after line ⊎ StopsWriting file text edition line) × Asked line
 
--- The page of the text's one tree and of its messages was written; the status is 0 where there is no message, and else 1.
+-- the data of the text's one tree and of its messages
+abbrev pub data_for : List ℕ → Lexed → Forest → List ℕ
+data_for file lexed forest =
+    object (json_text (chars file)) (step_rows (str_flat (with_trivia lexed.tokens forest))) (all_message_rows lexed forest)
+
+-- The page of the text's one tree and of its messages was written, between the frame's parts nothing but text; the status
+-- is 0 where there is no message, and else 1.
 pub record Shows (frame : Frame) (file text : List ℕ) (edition : Edition) (status : ℕ) (before after : Option (List ℕ)) : Type 0 where
   pub lexed : Lexed
   pub forest : Forest
   pub parsed : IsParsed text edition lexed forest
-  pub written : Appends before after
-      (framed frame (object (json_text (chars file)) (step_rows (str_flat (with_trivia lexed.tokens forest))) (all_message_rows lexed forest)))
+  pub written : Appends before after (framed frame (data_for file lexed forest))
+  pub inert : IsInert (data_for file lexed forest)
   pub quiet : status ≡ 0 → all_message_rows lexed forest ≡ []
   pub loud : status ≡ 1 → all_message_rows lexed forest ≢ []

@@ -1,7 +1,7 @@
 use Rattle.std.proofs.Common.{◌≡◌, ℕ, List, [], inl, inr, refl, sym, ◌∙◌, string_bytes, arith}
 use Rattle.std.proofs.lemmas.Grind.{common_steps}
 use Rattle.rast_common.proofs.Reported.{reported, unreported}
-use Rattle.rast_page.proofs.Shown.{written_page}
+use Rattle.rast_page.proofs.Shown.{written_page, inert_page}
 use Rattle.rast_page.specs.Words.{cannot_write, fault_line}
 use Rattle.rast_page.proofs.run.run.Goals as goal
 
@@ -26,6 +26,7 @@ returns-then-is_empty-clause-shown g c =
         forest = c.in-Ok.ensures.page.rows.forest;
         parsed = c.in-Ok.ensures.page.rows.parsed;
         written = written_page c.args.frame.now _ _ _ c.in-Ok.page _ _ c.in-Ok.ensures.page c.in-Ok-write_page.ensures;
+        inert = inert_page _ c.in-Ok.ensures.page.rows.lexed c.in-Ok.ensures.page.rows.forest;
         quiet = λ _. sym c.in-Ok.ensures.page.rows.messages ∙ none;
         loud = λ e. cc e;
       },
@@ -41,6 +42,7 @@ returns-clause-shown g c =
         forest = c.in-Ok.ensures.page.rows.forest;
         parsed = c.in-Ok.ensures.page.rows.parsed;
         written = written_page c.args.frame.now _ _ _ c.in-Ok.page _ _ c.in-Ok.ensures.page c.in-Ok-write_page.ensures;
+        inert = inert_page _ c.in-Ok.ensures.page.rows.lexed c.in-Ok.ensures.page.rows.forest;
         quiet = λ e. cc e;
         loud = λ _ e. some (c.in-Ok.ensures.page.rows.messages ∙ e);
       },
