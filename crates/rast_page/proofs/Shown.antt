@@ -1,5 +1,5 @@
 -- A page that was written is that of its file.
-use Rattle.std.proofs.Common.{◌≡◌, ℕ, Option, List, subst}
+use Rattle.std.proofs.Common.{ℕ, Option, List, subst}
 use Rattle.std.specs.Prelude.{chars, string_bytes}
 use Rattle.std.specs.Io.KnownBytes.{Appends}
 use Rattle.rap_base.specs.declared.edition.Edition.{Edition}

@@ -9,7 +9,7 @@ use Rattle.ra_ap_parser.specs.StrForest.{str_flat}
 use Rattle.ra_ap_parser.specs.Trivia.{with_trivia}
 use Rattle.ra_ap_parser.specs.Headline.{IsParsed}
 use Rattle.ra_ap_parser.specs.declared.whole_text.TextFault.{TextFault}
-use Rattle.rast_print.specs.Shown.{Comes, all_reported}
+use Rattle.rast_print.specs.Shown.{Comes}
 use Rattle.rast_page.specs.Inert.{IsInert}
 use Rattle.rast_page.specs.Json.{json_text}
 use Rattle.rast_page.specs.Page.{object, framed}
