@@ -143,6 +143,16 @@ const numbers = [1];
 const lineAt = (place) => lastUpTo(lineStarts.length, (k) => lineStarts[k], place);
 const lineStop = (line) => (line + 1 < lineStarts.length ? lineStarts[line + 1] : text.length);
 
+// How many columns a part of the text takes at most: a tab has four, and what may be wide two.
+function columnsOf(start, stop) {
+  let columns = stop - start;
+  for (let i = start; i < stop; i += 1) {
+    const unit = text.charCodeAt(i);
+    if (unit === 9) columns += 3;
+    else if (unit >= 0x1100) columns += 1;
+  }
+  return columns;
+}
 function counted(n, what) {
   return n.toLocaleString('en') + ' ' + what + (n === 1 ? '' : 's');
 }
@@ -263,8 +273,10 @@ function layText() {
     for (let line = first; line < block.last; line += 1) {
       const notes = notesOf.get(line) || [];
       rows += 1 + notes.length;
-      widest = Math.max(widest, lineStop(line) - lineStarts[line]);
-      for (const note of notes) widest = Math.max(widest, note.place - lineStarts[line] + note.said.length + 4);
+      widest = Math.max(widest, columnsOf(lineStarts[line], lineStop(line)));
+      for (const note of notes) {
+        widest = Math.max(widest, columnsOf(lineStarts[line], note.place) + note.said.length + 4);
+      }
     }
     block.style.height = rows * ROW + 'px';
     blockTops.push(top);
