@@ -6,7 +6,10 @@ use Rattle.rast_page.specs.declared.run.Page.{Page}
 -- an object of the file's name, the tree's steps and the messages, both lists behind a zero that nothing reads
 abbrev pub object : List ℕ → List ℕ → List ℕ → List ℕ
 object name steps messages =
-    (codes "{\"file\":" ++ name) ++ ((codes ",\"steps\":[0" ++ steps) ++ ((codes "],\"messages\":[0" ++ messages) ++ codes "]}"))
+    (codes "{\"file\":" ++ name)
+    ++ ((codes ",\"steps\":[0" ++ steps)
+    ++ ((codes "],\"messages\":[0" ++ messages)
+    ++ codes "]}"))
 
 -- the data of a page
 abbrev pub data_of : Page → List ℕ

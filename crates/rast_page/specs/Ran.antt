@@ -58,10 +58,13 @@ IfStops file text edition before after Asked =
 -- the data of the text's one tree and of its messages
 abbrev pub data_for : List ℕ → Lexed → Forest → List ℕ
 data_for file lexed forest =
-    object (json_text (chars file)) (step_rows (str_flat (with_trivia lexed.tokens forest))) (all_message_rows lexed forest)
+    object
+    (json_text (chars file))
+    (step_rows (str_flat (with_trivia lexed.tokens forest)))
+    (all_message_rows lexed forest)
 
--- The page of the text's one tree and of its messages was written, between the frame's parts nothing but text; the status
--- is 0 where there is no message, and else 1.
+-- The page of the text's one tree and of its messages was written, with no `<` between the frame's parts; the status is
+-- 0 where there is no message, and else 1.
 pub record Shows (frame : Frame) (file text : List ℕ) (edition : Edition) (status : ℕ) (before after : Option (List ℕ)) : Type 0 where
   pub lexed : Lexed
   pub forest : Forest

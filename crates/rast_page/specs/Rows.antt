@@ -9,7 +9,8 @@ use Rattle.rast_page.specs.Json.{json_text}
 -- the items of a step
 abbrev pub step_row : StrStepValue → List ℕ
 step_row (str_enter kind) = codes ",1," ++ json_text (chars (name_of kind))
-step_row (str_token kind text) = codes ",2," ++ (json_text (chars (name_of kind)) ++ (codes "," ++ json_text (chars text)))
+step_row (str_token kind text) =
+    codes ",2," ++ (json_text (chars (name_of kind)) ++ (codes "," ++ json_text (chars text)))
 step_row str_exit = codes ",0"
 step_row (str_error text pos) = []
 

@@ -120,7 +120,8 @@ pub fn run<W: io::Write, V: io::Write>(
 ) -> io::Result<u8>
     ensures status { IfOk result (λ status. status ≤ 2) }
     ensures shown { IfOk result (λ status. status < 2
-        → Shows frame.now file.now text.now edition status (W.contents out.old) (W.contents out.new) × (err.new ≡ err.old)) }
+        → Shows frame.now file.now text.now edition status (W.contents out.old) (W.contents out.new)
+        × (err.new ≡ err.old)) }
     ensures reported { IfOk result (λ status. status ≡ 2
         → IfStops file.now text.now edition out.old out.new (Appends (V.contents err.old) (V.contents err.new))) }
     ensures unreported { IfErr result (λ _. IfStops file.now text.now edition out.old out.new (λ _. Unit {0})) }

@@ -7,15 +7,18 @@ use Rattle.rast_page.proofs.run.run.Goals as goal
 
 pub returns-in-Err-clause-unreported : goal.returns-in-Err-clause-unreported
 returns-in-Err-clause-unreported g c =
-    unreported c.report.result (fault_line c.in-Err.fault, inl (record { fault = c.in-Err.fault; comes = c.in-Err.ensures.fault; untouched = refl; is = refl }), tt)
+    unreported c.report.result
+    (fault_line c.in-Err.fault, inl (record { fault = c.in-Err.fault; comes = c.in-Err.ensures.fault; untouched = refl; is = refl }), tt)
 
 pub returns-in_default-clause-reported : goal.returns-in_default-clause-reported
 returns-in_default-clause-reported g c =
-    reported c.report-in_default.result c.report-in_default.ensures.reported (λ a. (cannot_write, inr (record { page = c.in-Ok.page; made = c.in-Ok.ensures.page; is = refl }), a))
+    reported c.report-in_default.result c.report-in_default.ensures.reported
+    (λ a. (cannot_write, inr (record { page = c.in-Ok.page; made = c.in-Ok.ensures.page; is = refl }), a))
 
 pub returns-in_default-clause-unreported : goal.returns-in_default-clause-unreported
 returns-in_default-clause-unreported g c =
-    unreported c.report-in_default.result (cannot_write, inr (record { page = c.in-Ok.page; made = c.in-Ok.ensures.page; is = refl }), tt)
+    unreported c.report-in_default.result
+    (cannot_write, inr (record { page = c.in-Ok.page; made = c.in-Ok.ensures.page; is = refl }), tt)
 
 pub returns-then-is_empty-clause-shown : goal.returns-then-is_empty-clause-shown
 returns-then-is_empty-clause-shown g c =
