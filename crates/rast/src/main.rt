@@ -6,8 +6,8 @@ mod run;
 use rast_common::fault::{FAULT, fail};
 use rast_print::request::read_request;
 use run::run;
-use std::process::ExitCode;
 use std::fs;
+use std::process::ExitCode;
 
 const USAGE: &str = "usage: rast EDITION ENTRY FILE\n";
 
