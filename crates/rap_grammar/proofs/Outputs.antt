@@ -15,6 +15,8 @@ use Rattle.rap_rules.specs.Statements.{macro_stmts}
 use Rattle.rap_grammar.specs.Top.{IsTopOf, IsRootOf, top_tree}
 use Rattle.rap_grammar.proofs.Complete.{expression_whole, type_whole, contents_whole, expression_at_beginning}
 use Rattle.rap_rules.proofs.OneEnd.{Same, one_end}
+use Rattle.rap_grammar.proofs.Recovery.{file_begins, contents_begin}
+use Rattle.rap_grammar.specs.Mixed.{IsFront}
 use Rattle.rap_grammar.proofs.Unique.{over, unmarked, one_expression, one_type}
 use Rattle.rap_rules.specs.Items.{mod_contents, source_file}
 use Rattle.rap_grammar.proofs.Items.{file_whole, items_whole}
@@ -85,6 +87,19 @@ called_file i d = let e = root_of i (call_file d (none ∷ [])) in (e, ap messag
 pub called_items : {input : List Record} {t output : Forest} → IsRootOf MACRO_ITEMS (mod_contents false) input output →
     IsMacroCall input t → (output ≡ node none MACRO_ITEMS t) × (message_count output ≡ 0)
 called_items i d = let e = root_of i (call_whole d (none ∷ [])) in (e, ap message_count e ∙ over (call_clean d))
+
+-- what begins with items and tokens that begin none stands first under the node of its entry
+pub begun_file : {front rest : List Record} {t output : Forest} → IsRootOf SOURCE_FILE source_file (front ++ rest) output →
+    IsFront front rest t → (more : Forest) × (output ≡ node none SOURCE_FILE (t ⧺ more))
+begun_file i d =
+    let x = file_begins d (none ∷ []) i.run in
+    (x.0, i.tree ∙ ap (λ (f : Forest). node none SOURCE_FILE f) x.1)
+
+pub begun_items : {front rest : List Record} {t output : Forest} → IsRootOf MACRO_ITEMS (mod_contents false) (front ++ rest) output →
+    IsFront front rest t → (more : Forest) × (output ≡ node none MACRO_ITEMS (t ⧺ more))
+begun_items i d =
+    let x = contents_begin d (none ∷ []) i.run in
+    (x.0, i.tree ∙ ap (λ (f : Forest). node none MACRO_ITEMS f) x.1)
 
 -- the same input gives the same output
 pub one_output : {s : Script Phrase} {input : List Record} {a b : Forest} → IsTopOf s input a → IsTopOf s input b → a ≡ b
