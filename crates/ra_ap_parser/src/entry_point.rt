@@ -1,5 +1,5 @@
 //! Where a parse begins.
-ghost use Rattle.std.specs.Prelude.{◌≡◌, ◌<◌, ◌≤◌, ◌↔◌, List, ◌++◌, length, IfOk, Some};
+ghost use Rattle.std.specs.Prelude.{◌≡◌, ◌<◌, ◌≤◌, ◌↔◌, List, ◌++◌, length, IfOk, IsTrue, Some};
 ghost use Rattle.rap_events.specs.Forest.{Forest, message_count};
 ghost use Rattle.rap_events.specs.Record.{Record};
 ghost use Rattle.rap_grammar.specs.Part.{IsPrefixOver, IsWhole};
@@ -40,6 +40,13 @@ impl fmt::Display for ParseFault {
 }
 
 impl Error for ParseFault {}
+
+/// Whether the input has more than [`MAX_TOKENS`] tokens.
+pub(crate) fn has_too_many_tokens(input: &Input) -> bool
+    ensures { IsTrue result ↔ (MAX_TOKENS < length input.now) }
+{
+    input.len() > MAX_TOKENS
+}
 
 /// What a whole input is read as.
 #[derive(Clone, Copy, Debug, PartialEq, Eq)]
@@ -101,7 +108,7 @@ impl TopEntryPoint {
         ensures front { IfOk result (KeepsFront self.now input.now) }
         ensures too_many { (result ≡ Err ParseFault.TooManyTokens) ↔ (MAX_TOKENS < length input.now) }
     {
-        if input.len() > MAX_TOKENS {
+        if has_too_many_tokens(input) {
             return Err(ParseFault::TooManyTokens);
         }
         match self.run(alloc, input) {
@@ -174,7 +181,7 @@ impl PrefixEntryPoint {
         ensures core { IfOk result (λ output. (front rest : List Record) (tree : Forest) → input.now ≡ front ++ rest → IsPrefixCore self.now front rest tree → IsWhole tree (length front) output) }
         ensures too_many { (result ≡ Err ParseFault.TooManyTokens) ↔ (MAX_TOKENS < length input.now) }
     {
-        if input.len() > MAX_TOKENS {
+        if has_too_many_tokens(input) {
             return Err(ParseFault::TooManyTokens);
         }
         match self.run(alloc, input) {

@@ -5,7 +5,7 @@ ghost use Rattle.rap_events.specs.Forest.{Forest};
 ghost use Rattle.rap_events.specs.Record.{Record, next_kind};
 ghost use Rattle.rap_grammar.specs.Part.{IsPrefixOver, IsPrefixOf, IsPartCore, IsWhole, IsOneNode, part_script, part_kind, asks_brace, in_braces};
 
-use crate::entry_point::{MAX_TOKENS, ParseFault};
+use crate::entry_point::{MAX_TOKENS, ParseFault, has_too_many_tokens};
 use rap_base::no_memory::NoMemory;
 use rap_base::syntax_kind::SyntaxKind;
 use rap_events::input::Input;
@@ -91,7 +91,7 @@ impl Reparser {
         ensures one { IfOk result (λ output. next_kind input.now ≡ L_CURLY → IsOneNode (part_kind self) output) }
         ensures too_many { (result ≡ Err ParseFault.TooManyTokens) ↔ (MAX_TOKENS < length input.now) }
     {
-        if input.len() > MAX_TOKENS {
+        if has_too_many_tokens(input) {
             return Err(ParseFault::TooManyTokens);
         }
         match parse_part(alloc, input, self.part) {
