@@ -1,13 +1,12 @@
 -- A macro call in the place of an item is what the script makes.
-use Rattle.std.proofs.Common.{arith, subst, ◌≡◌, ℕ, List, [], ◌∷◌, ◌++◌, Bool, true, false, refl, ◌==◌}
+use Rattle.std.proofs.Common.{arith, subst, ◌≡◌, List, [], ◌∷◌, ◌++◌, Bool, true, false, refl}
 use Rattle.rap_base.specs.TokenKind.{IDENT, BANG, L_CURLY, R_CURLY}
-use Rattle.rap_events.specs.Record.{Record, next_kind}
+use Rattle.rap_events.specs.Record.{Record}
 use Rattle.rap_events.specs.Forest.{Forest, none, node, leaf, ◌⧺◌, message_count}
-use Rattle.rap_rules.specs.Script.{Outcome, nothing, something, block, fails, passes, gives, follows, takes, finishes, again, starts, stops}
-use Rattle.rap_rules.specs.declared.arguments.Mode.TheVariants as mode
+use Rattle.rap_rules.specs.Script.{nothing, fails, passes, gives, follows, takes, finishes, again, starts, stops}
 use Rattle.rap_rules.proofs.Balance.{balanced_way, balanced_clean}
 use Rattle.rap_grammar.specs.Derives.{IsName, Is}
-use Rattle.rap_grammar.proofs.Ways.{Leads, none-⧺, name_way, no_attributes}
+use Rattle.rap_grammar.proofs.Ways.{Leads, name_way, no_attributes}
 use Rattle.rap_grammar.proofs.ItemWays.{Goes, Ends, no_pub_way, contents_way, items_on, items_end}
 use Rattle.rap_rules.specs.Items.{opt_item, opt_item_without_modifiers, path_item, opt_item_by_name, opt_modified_item, opt_item_with_modifiers, opt_extern_block, refuse, source_file, item_or_macro, items, mod_contents, marked_item, macro_or_error}
 use Rattle.rap_rules.specs.Modifiers.{modifiers, opt_impl_restriction, qualifiers, safety, opt_abi, auto_or_default, opt_default, modifier, modifier_as}

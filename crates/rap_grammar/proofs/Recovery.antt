@@ -1,18 +1,17 @@
 -- What begins with items and tokens that begin none is read as that, whatever follows.
-use Rattle.std.proofs.Common.{◌≡◌, ℕ, List, [], ◌∷◌, ◌++◌, Bool, true, false, refl, ap, sym, ◌∙◌, subst, ◌==◌, append_assoc, append-nil}
+use Rattle.std.proofs.Common.{◌≡◌, ℕ, List, [], ◌∷◌, ◌++◌, Bool, true, false, refl, ap, sym, ◌∙◌, subst, ◌==◌, append_assoc}
 use Rattle.rap_base.specs.TokenKind.{EOF, IDENT, AT, COMMA, INT_NUMBER, R_CURLY, SEMICOLON, POUND, EXTERN_KW, SHEBANG, INNER_DOC_COMMENT, FRONTMATTER, USE_KW, MOD_KW, TYPE_KW, PUB_KW, OUTER_DOC_COMMENT, STRUCT_KW, FN_KW, SELF_KW, CONST_KW, SUPER_KW, ENUM_KW, MACRO_KW, CRATE_KW, STATIC_KW, DEFAULT_KW, TRAIT_KW, COLON, IMPL_KW, ASYNC_KW, L_CURLY, GEN_KW, LET_KW, UNSAFE_KW, SAFE_KW, AUTO_KW}
 use Rattle.rap_events.specs.Record.{Record, next_kind}
-use Rattle.rap_events.specs.Forest.{Forest, none, node, leaf, ◌⧺◌}
-use Rattle.rap_grammar.specs.Derives.{Derives, Item, IsOneOf}
+use Rattle.rap_events.specs.Forest.{Forest, none, ◌⧺◌}
 use Rattle.rap_grammar.specs.Mixed.{IsStray, stray_tree, Mixed, no_more, an_item, a_stray, IsFront, whole, before}
 use Rattle.rap_rules.proofs.Forests.{⧺-assoc}
-use Rattle.rap_rules.proofs.OneEnd.{one_end, Same}
+use Rattle.rap_rules.proofs.OneEnd.{one_end}
 use Rattle.rap_rules.proofs.Steps.{and_false}
 use Rattle.rap_rules.specs.Script.{Outcome, nothing, something, block, again, Spot, Runs, Script, follows, fails, passes, obeys, loop, gives, turns, starts, stops, goes_on, abandons, skips}
 use Rattle.rap_grammar.proofs.Begins.{first, next_begins, begins_item}
 use Rattle.rap_grammar.proofs.Operators.{differ, differ_back}
 use Rattle.rap_grammar.proofs.Ways.{Leads, none-⧺, no_attributes}
-use Rattle.rap_grammar.proofs.ItemWays.{Goes, Ends, no_semicolon, no_pub_way, no_inner_attributes}
+use Rattle.rap_grammar.proofs.ItemWays.{Goes, no_semicolon, no_pub_way, no_inner_attributes}
 use Rattle.rap_grammar.proofs.Items.{item_before}
 use Rattle.rap_grammar.proofs.TameKnot.{items_add}
 use Rattle.rap_rules.specs.Items.{items, item_or_macro, opt_item_without_modifiers, opt_item, source_file, mod_contents, marked_item, opt_modified_item, opt_item_with_modifiers, macro_or_error, opt_extern_block, missing_item, refuse}

@@ -1,5 +1,5 @@
 -- Scripts that leave what stands below them as it is: a run of one only adds to it.
-use Rattle.std.proofs.Common.{◌≡◌, ℕ, zero, suc, List, [], ◌∷◌, Bool, true, false, refl, ap, sym, ◌∙◌, subst, drop, if◌then◌else◌}
+use Rattle.std.proofs.Common.{◌≡◌, ℕ, zero, suc, List, [], ◌∷◌, Bool, true, false, refl, ap, ◌∙◌, subst, drop, if◌then◌else◌}
 use Rattle.rap_events.specs.Record.{Record, next_kind}
 use Rattle.rap_events.specs.Forest.{Forest, none, node, leaf, message, ◌⧺◌}
 use Rattle.rap_events.specs.State.{but_last, skipped, last_children}
@@ -7,12 +7,11 @@ use Rattle.rap_rules.proofs.Forests.{⧺-assoc}
 use Rattle.rap_rules.specs.Knot.{script_of}
 use Rattle.rap_rules.specs.Phrase.{Phrase, expression, any_item}
 use Rattle.rap_rules.specs.Script.{Script, Outcome, nothing, something, block, again, Spot, goes_on, give, look, test, ends_with, token, any, bear, report, skip, start, precede, finish, extend, abandon, split_float, after, rule, loop, Runs, gives, looks, passes, fails, ends_so, ends_else, takes, takes_any, bears, reports, skips, starts, precedes, finishes, extends, abandons, splits_dotted, splits_whole, follows, obeys, turns, stops, newest, last_kind}
-use Rattle.rap_rules.specs.declared.arguments.Restrictions.{Restrictions}
 use Rattle.rap_events.specs.Composite.{width}
 use Rattle.rap_base.specs.TokenKind.{ERROR}
 use Rattle.rap_base.specs.NodeKind.{FIELD_EXPR}
 use Rattle.rap_events.specs.FloatSplit.{split_children}
-use Rattle.rap_rules.specs.Words.{recover, expect, eat, eat_as, if_some}
+use Rattle.rap_rules.specs.Words.{expect, eat, eat_as, if_some}
 
 -- whether a rule has a node of its own, or begins none
 abbrev pub is_whole : Phrase → Bool

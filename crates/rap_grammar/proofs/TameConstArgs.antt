@@ -1,5 +1,5 @@
 -- The scripts of `ConstArgs` are tame.
-use Rattle.std.proofs.Common.{refl, ℕ}
+use Rattle.std.proofs.Common.{ℕ}
 use Rattle.rap_rules.specs.ConstArgs.{negative_const, const_path, missing_const, const_arg_expr, const_arg}
 use Rattle.rap_grammar.proofs.Tame.{Tame, staying, testing, taking, reporting, skipping, starting, finishing, following}
 use Rattle.rap_grammar.proofs.TameAtom.{literal_tame}

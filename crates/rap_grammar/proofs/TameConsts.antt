@@ -1,5 +1,5 @@
 -- The scripts of `Consts` are tame.
-use Rattle.std.proofs.Common.{refl, ◌≡◌, ℕ, suc, Bool, true, false}
+use Rattle.std.proofs.Common.{◌≡◌, ℕ, suc, Bool, true, false}
 use Rattle.rap_base.specs.TokenKind.{TYPE_KW, MUT_KW, SEMICOLON}
 use Rattle.rap_rules.specs.Script.{Outcome, something}
 use Rattle.rap_rules.specs.Consts.{const_name, const_params, missing_const_type, const_type, const_value, const_where, const_or_static, konst, static_}

@@ -27,7 +27,7 @@ unfolding cast_expr
 cast_expr_tame = preceding (taking (following type_no_bounds_tame (λ v. finishing staying)))
 
 pub operation_tame : {n : ℕ} (r : Restrictions) (bp : ℕ) (op : ℕ) → Tame (suc n) (operation r bp op) (λ v. suc n)
-operation_tame r bp op = by_if (nat_lt ( power op ) bp) staying (by_if (op == AS_KW) (following cast_expr_tame (λ v. staying)) (by_if (power op == 2) (following (range_expr_tame _ _) (λ v. by_some v staying staying)) (following (bin_expr_tame _ _) (λ v. staying))))
+operation_tame r bp op = by_if (nat_lt (power op) bp) staying (by_if (op == AS_KW) (following cast_expr_tame (λ v. staying)) (by_if (power op == 2) (following (range_expr_tame _ _) (λ v. by_some v staying staying)) (following (bin_expr_tame _ _) (λ v. staying))))
 
 pub climb_turn_tame : {n : ℕ} (r : Restrictions) (bp : ℕ) (a : Bool) (b : Bool) → Tame (suc n) (climb_turn r bp a b) (λ v. suc n)
 climb_turn_tame r bp a b = looking (λ rs. operation_tame r bp (operator_at rs))

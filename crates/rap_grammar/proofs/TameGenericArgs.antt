@@ -1,5 +1,5 @@
 -- The scripts of `GenericArgs` are tame.
-use Rattle.std.proofs.Common.{refl, ℕ, suc}
+use Rattle.std.proofs.Common.{ℕ, suc}
 use Rattle.rap_rules.specs.GenericArgs.{lifetime_arg, type_arg, assoc_value, bounded_arg, macro_arg, path_arg, named_arg, generic_arg}
 use Rattle.rap_grammar.proofs.Tame.{Tame, staying, testing, taking_any, reporting, starting, preceding, finishing, following}
 use Rattle.rap_grammar.proofs.TameCalled.{type__tame}

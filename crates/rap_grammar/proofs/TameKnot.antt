@@ -1,11 +1,11 @@
 -- All rules are tame: so a loop over items keeps what it has made.
-use Rattle.std.proofs.Common.{◌≡◌, ℕ, suc, List, Bool, true, false, refl, sym}
+use Rattle.std.proofs.Common.{◌≡◌, Bool, true, false, refl}
 use Rattle.rap_events.specs.Forest.{Forest, none, ◌⧺◌}
 use Rattle.rap_rules.specs.Knot.{script_of}
-use Rattle.rap_rules.specs.Phrase.{Phrase, expression, any_type, trait_path, generic_argument, generic_parameters, bound_list, where_part, any_pattern, single_pattern, pattern_of_arm, statement, if_behind_else, any_item, tree_of_use, meta_item, condition, bracketed}
+use Rattle.rap_rules.specs.Phrase.{expression, any_type, trait_path, generic_argument, generic_parameters, bound_list, where_part, any_pattern, single_pattern, pattern_of_arm, statement, if_behind_else, any_item, tree_of_use, meta_item, condition, bracketed}
 use Rattle.rap_rules.specs.Script.{Outcome, Spot, Runs}
 use Rattle.rap_rules.specs.Items.{items}
-use Rattle.rap_grammar.proofs.Tame.{Tame, TameKnot, TameItems, is_whole, keeps, Keeps}
+use Rattle.rap_grammar.proofs.Tame.{TameKnot, TameItems, keeps}
 use Rattle.rap_grammar.proofs.TameAttributes.{meta_tame, cfg_predicate_tame}
 use Rattle.rap_grammar.proofs.TameControl.{if_expr_tame}
 use Rattle.rap_grammar.proofs.TameExpressions.{expr_bp_false_tame}

@@ -1,5 +1,5 @@
 -- The scripts of `Macros` are tame.
-use Rattle.std.proofs.Common.{refl, ◌≡◌, ℕ, suc}
+use Rattle.std.proofs.Common.{◌≡◌, ℕ, suc}
 use Rattle.rap_base.specs.TokenKind.{SEMICOLON, BANG}
 use Rattle.rap_rules.specs.Script.{Script, Outcome, nothing, something, block, again}
 use Rattle.rap_rules.specs.Phrase.{Phrase}

@@ -1,5 +1,5 @@
 -- The scripts of `Modifiers` are tame.
-use Rattle.std.proofs.Common.{refl, ℕ, List, Bool}
+use Rattle.std.proofs.Common.{ℕ, List, Bool}
 use Rattle.rap_base.specs.TokenKind.{UNSAFE_KW}
 use Rattle.rap_events.specs.Record.{Record}
 use Rattle.rap_rules.specs.Modifiers.{impl_restriction, opt_impl_restriction, modifier, modifier_as, qualifiers, safety, opt_abi, opt_default, auto_or_default, modifiers}

@@ -17,7 +17,7 @@ tokens_in_tame ket = starting (taking_any (following (tokens_to_tame _) (λ v. b
 
 pub bracketed_tokens_tame : {n : ℕ} → Tame n bracketed_tokens (λ v. n)
 unfolding bracketed_tokens
-bracketed_tokens_tame = looking (λ rs. tokens_in_tame (partner ( next_kind rs )))
+bracketed_tokens_tame = looking (λ rs. tokens_in_tame (partner (next_kind rs)))
 
 pub macro_call_after_excl_tame : {n : ℕ} → Tame n macro_call_after_excl (λ v. n)
 unfolding macro_call_after_excl

@@ -1,5 +1,5 @@
 -- The scripts of `TypeParts` are tame.
-use Rattle.std.proofs.Common.{refl, ℕ, suc}
+use Rattle.std.proofs.Common.{ℕ, suc}
 use Rattle.rap_rules.specs.TypeParts.{ascription, for_binder, path_type}
 use Rattle.rap_grammar.proofs.Tame.{Tame, staying, testing, taking, reporting, starting, finishing, following}
 use Rattle.rap_grammar.proofs.TameCalled.{for_parameters_tame, type__tame}

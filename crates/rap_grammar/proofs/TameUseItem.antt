@@ -1,5 +1,5 @@
 -- The scripts of `UseItem` are tame.
-use Rattle.std.proofs.Common.{refl, ◌≡◌, ℕ, suc}
+use Rattle.std.proofs.Common.{◌≡◌, ℕ, suc}
 use Rattle.rap_base.specs.TokenKind.{SEMICOLON}
 use Rattle.rap_rules.specs.Script.{Outcome, something}
 use Rattle.rap_rules.specs.UseItem.{nested_use_tree, use_tree_list, group, group_behind, after_use_path, use_tree, expect_use_tree, use_}

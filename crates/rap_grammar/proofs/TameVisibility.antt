@@ -1,5 +1,5 @@
 -- The scripts of `Visibility` are tame.
-use Rattle.std.proofs.Common.{refl, ℕ, Bool}
+use Rattle.std.proofs.Common.{ℕ, Bool}
 use Rattle.rap_base.specs.TokenKind.{R_PAREN}
 use Rattle.rap_rules.specs.Visibility.{restriction, in_restriction, opt_visibility_inner, opt_visibility}
 use Rattle.rap_grammar.proofs.Tame.{Tame, staying, testing, taking, starting, finishing, following, expecting}

@@ -1,5 +1,5 @@
 -- Items among tokens that begin none.
-use Rattle.std.specs.Prelude.{ℕ, List, [], ◌∷◌, ◌++◌, codes}
+use Rattle.std.specs.Prelude.{List, [], ◌∷◌, ◌++◌, codes}
 use Rattle.rap_base.specs.TokenKind.{ERROR, AT, COMMA, INT_NUMBER}
 use Rattle.rap_events.specs.Record.{Record}
 use Rattle.rap_events.specs.Forest.{Forest, none, node, leaf, message, ◌⧺◌}
