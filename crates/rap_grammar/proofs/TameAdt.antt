@@ -24,7 +24,8 @@ opt_value_tame = testing (taking (starting (following expr_tame (λ v. finishing
 
 pub mut_restriction_tame : {n : ℕ} → Tame n mut_restriction (λ v. n)
 unfolding mut_restriction
-mut_restriction_tame = starting (taking (following (opt_visibility_inner_tame _) (λ v. by_some v (finishing staying) (reporting (finishing staying)))))
+mut_restriction_tame = starting (taking (following (opt_visibility_inner_tame _) (λ v. by_some v (finishing staying)
+    (reporting (finishing staying)))))
 
 pub opt_mut_restriction_tame : {n : ℕ} → Tame n opt_mut_restriction (λ v. n)
 unfolding opt_mut_restriction
@@ -36,7 +37,8 @@ opt_unsafe_tame = testing (taking opt_mut_restriction_tame) staying
 
 pub named_field_tame : {n : ℕ} → Tame (suc n) named_field (λ v. n)
 unfolding named_field
-named_field_tame = testing (following name_tame (λ v. expecting COLON (following type__tame (λ w. following opt_value_tame (λ x. finishing staying))))) (abandoning (missing_in_list_tame _))
+named_field_tame = testing (following name_tame (λ v. expecting COLON (following type__tame
+    (λ w. following opt_value_tame (λ x. finishing staying))))) (abandoning (missing_in_list_tame _))
 
 pub restricted_field_tame : {n : ℕ} → Tame (suc n) restricted_field (λ v. n)
 unfolding restricted_field
@@ -67,7 +69,8 @@ record_field_list_tame = starting (taking (following record_fields_tame (λ v. e
 
 pub typed_field_tame : {n : ℕ} (has_vis : Outcome) → Tame (suc n) (typed_field has_vis) (λ v. n)
 unfolding typed_field
-typed_field_tame has_vis = testing (following type__tame (λ v. finishing staying)) (reporting (by_some has_vis (finishing staying) (abandoning staying)))
+typed_field_tame has_vis = testing (following type__tame (λ v. finishing staying)) (reporting (by_some has_vis
+    (finishing staying) (abandoning staying)))
 
 pub restricted_tuple_field_tame : {n : ℕ} (has_vis : Outcome) → Tame (suc n) (restricted_tuple_field has_vis) (λ v. n)
 unfolding restricted_tuple_field
@@ -75,7 +78,8 @@ restricted_tuple_field_tame has_vis = following opt_mut_restriction_tame (λ v. 
 
 pub tuple_field_tame : {n : ℕ} → Tame n tuple_field (λ v. n)
 unfolding tuple_field
-tuple_field_tame = starting (following outer_attrs_tame (λ v. following (opt_visibility_tame _) (λ has_vis. restricted_tuple_field_tame _)))
+tuple_field_tame = starting (following outer_attrs_tame (λ v. following (opt_visibility_tame _)
+    (λ has_vis. restricted_tuple_field_tame _)))
 
 pub tuple_field_list_tame : {n : ℕ} → Tame n tuple_field_list (λ v. n)
 unfolding tuple_field_list
@@ -91,7 +95,8 @@ after_variant_name_tame = following variant_fields_tame (λ v. following opt_val
 
 pub named_variant_tame : {n : ℕ} → Tame (suc n) named_variant (λ v. n)
 unfolding named_variant
-named_variant_tame = testing (following name_tame (λ v. after_variant_name_tame)) (testing (taking after_variant_name_tame) (abandoning (missing_in_list_tame _)))
+named_variant_tame = testing (following name_tame (λ v. after_variant_name_tame)) (testing
+    (taking after_variant_name_tame) (abandoning (missing_in_list_tame _)))
 
 pub variant_tame : {n : ℕ} → Tame n variant (λ v. n)
 unfolding variant
@@ -114,19 +119,25 @@ variant_list_tame = starting (taking (following variants_tame (λ v. expecting R
 
 pub enum__tame : {n : ℕ} → Tame (suc n) enum_ (λ v. n)
 unfolding enum_
-enum__tame = taking (following (name_r_tame _) (λ v. following opt_generic_param_list_tame (λ w. following opt_where_clause_tame (λ x. testing (following variant_list_tame (λ y. finishing staying)) (reporting (finishing staying))))))
+enum__tame = taking (following (name_r_tame _) (λ v. following opt_generic_param_list_tame
+    (λ w. following opt_where_clause_tame (λ x. testing (following variant_list_tame (λ y. finishing staying))
+    (reporting (finishing staying))))))
 
 pub enum__ends : {n : ℕ} {e : Outcome → ℕ} → n ≡ e something → Tame (suc n) enum_ e
 unfolding enum_
-enum__ends i = taking (following (name_r_tame _) (λ v. following opt_generic_param_list_tame (λ w. following opt_where_clause_tame (λ x. testing (following variant_list_tame (λ y. finishing (giving i))) (reporting (finishing (giving i)))))))
+enum__ends i = taking (following (name_r_tame _) (λ v. following opt_generic_param_list_tame
+    (λ w. following opt_where_clause_tame (λ x. testing (following variant_list_tame (λ y. finishing (giving i)))
+    (reporting (finishing (giving i)))))))
 
 pub fields_behind_where_tame : {n : ℕ} → Tame (suc n) fields_behind_where (λ v. suc n)
 unfolding fields_behind_where
-fields_behind_where_tame = following opt_where_clause_tame (λ v. testing (taking staying) (testing record_field_list_tame (reporting staying)))
+fields_behind_where_tame = following opt_where_clause_tame (λ v. testing (taking staying)
+    (testing record_field_list_tame (reporting staying)))
 
 pub tuple_fields_tame : {n : ℕ} → Tame (suc n) tuple_fields (λ v. suc n)
 unfolding tuple_fields
-tuple_fields_tame = following tuple_field_list_tame (λ v. following opt_where_clause_tame (λ w. expecting SEMICOLON staying))
+tuple_fields_tame = following tuple_field_list_tame (λ v. following opt_where_clause_tame
+    (λ w. expecting SEMICOLON staying))
 
 pub struct_fields_tame : {n : ℕ} → Tame (suc n) struct_fields (λ v. suc n)
 unfolding struct_fields
@@ -134,11 +145,13 @@ struct_fields_tame = testing (taking staying) (testing tuple_fields_tame (report
 
 pub fields_tame : {n : ℕ} (is_struct : Bool) → Tame (suc n) (fields is_struct) (λ v. suc n)
 unfolding fields
-fields_tame is_struct = testing fields_behind_where_tame (testing record_field_list_tame (by_if is_struct struct_fields_tame (reporting staying)))
+fields_tame is_struct = testing fields_behind_where_tame (testing record_field_list_tame
+    (by_if is_struct struct_fields_tame (reporting staying)))
 
 pub struct_or_union_tame : {n : ℕ} (is_struct : Bool) → Tame (suc n) (struct_or_union is_struct) (λ v. suc n)
 unfolding struct_or_union
-struct_or_union_tame is_struct = following (name_r_tame _) (λ v. following opt_generic_param_list_tame (λ w. fields_tame _))
+struct_or_union_tame is_struct = following (name_r_tame _) (λ v. following opt_generic_param_list_tame
+    (λ w. fields_tame _))
 
 pub strukt_tame : {n : ℕ} → Tame (suc n) strukt (λ v. n)
 unfolding strukt

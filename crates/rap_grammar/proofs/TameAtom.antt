@@ -19,10 +19,13 @@ literal_tame = testing (starting (taking_any (finishing staying))) staying
 
 pub path_expr_tame : {n : ℕ} (r : Restrictions) → Tame (suc n) (path_expr r) (λ v. suc n)
 unfolding path_expr
-path_expr_tame r = starting (following expr_path_tame (λ v. testing (following record_expr_field_list_tame (λ w. finishing staying)) (testing (following macro_call_after_excl_tame (λ w. finishing (preceding (finishing staying)))) (finishing staying))))
+path_expr_tame r = starting (following expr_path_tame (λ v. testing (following record_expr_field_list_tame
+    (λ w. finishing staying)) (testing (following macro_call_after_excl_tame (λ w. finishing (preceding
+    (finishing staying)))) (finishing staying))))
 
 pub tuple_turn_tame : {n : ℕ} (comma : Bool) (seen : Bool) → Tame (suc n) (tuple_turn comma seen) (λ v. suc n)
-tuple_turn_tame comma seen = testing staying (testing staying (testing (reporting (taking staying)) (following expr_tame (λ v. by_some v (testing staying (expecting COMMA staying)) staying))))
+tuple_turn_tame comma seen = testing staying (testing staying (testing (reporting (taking staying))
+    (following expr_tame (λ v. by_some v (testing staying (expecting COMMA staying)) staying))))
 
 pub tuple_elements_tame : {n : ℕ} → Tame (suc n) tuple_elements (λ v. suc n)
 unfolding tuple_elements
@@ -34,10 +37,12 @@ tuple_expr_tame = starting (taking (following tuple_elements_tame (λ v. expecti
 
 pub after_element_tame : {n : ℕ} (first : Bool) (semi : Bool) → Tame n (after_element first semi) (λ v. n)
 unfolding after_element
-after_element_tame first semi = testing (taking staying) (by_if semi staying (testing staying (testing (taking staying) (reporting staying))))
+after_element_tame first semi = testing (taking staying) (by_if semi staying (testing staying (testing (taking staying)
+    (reporting staying))))
 
 pub array_turn_tame : {n : ℕ} (first : Bool) (semi : Bool) → Tame (suc n) (array_turn first semi) (λ v. suc n)
-array_turn_tame first semi = testing staying (testing staying (following expr_tame (λ v. by_some v (after_element_tame _ _) staying)))
+array_turn_tame first semi = testing staying (testing staying (following expr_tame (λ v. by_some v
+    (after_element_tame _ _) staying)))
 
 pub array_elements_tame : {n : ℕ} → Tame (suc n) array_elements (λ v. suc n)
 unfolding array_elements
@@ -85,15 +90,18 @@ continue_expr_tame = starting (taking (following opt_lifetime_tame (λ v. finish
 
 pub break_expr_tame : {n : ℕ} (r : Restrictions) → Tame n (break_expr r) (λ v. n)
 unfolding break_expr
-break_expr_tame r = starting (taking (following opt_lifetime_tame (λ v. following (opt_expr_tame _) (λ w. finishing staying))))
+break_expr_tame r = starting (taking (following opt_lifetime_tame (λ v. following (opt_expr_tame _)
+    (λ w. finishing staying))))
 
 pub try_modifier_tame : {n : ℕ} → Tame n try_modifier (λ v. n)
 unfolding try_modifier
-try_modifier_tame = starting (taking (testing (bearing (following type__tame (λ v. finishing staying))) (finishing staying)))
+try_modifier_tame = starting (taking (testing (bearing (following type__tame (λ v. finishing staying)))
+    (finishing staying)))
 
 pub try_block_expr_tame : {n : ℕ} → Tame n try_block_expr (λ v. n)
 unfolding try_block_expr
-try_block_expr_tame = starting (following try_modifier_tame (λ v. testing (following stmt_list_tame (λ w. finishing staying)) (reporting (finishing staying))))
+try_block_expr_tame = starting (following try_modifier_tame (λ v. testing (following stmt_list_tame
+    (λ w. finishing staying)) (reporting (finishing staying))))
 
 pub effects_tame : {n : ℕ} → Tame n effects (λ v. n)
 unfolding effects
@@ -105,20 +113,27 @@ effect_block_tame = starting (following effects_tame (λ v. following stmt_list_
 
 pub effect_expr_tame : {n : ℕ} → Tame n effect_expr (λ v. n)
 unfolding effect_expr
-effect_expr_tame = testing (following effect_block_tame (λ v. staying)) (testing closure_expr_tame (testing (following try_block_expr_tame (λ v. staying)) (testing (following for_expr_tame (λ v. staying)) (skipping staying))))
+effect_expr_tame = testing (following effect_block_tame (λ v. staying)) (testing closure_expr_tame (testing
+    (following try_block_expr_tame (λ v. staying)) (testing (following for_expr_tame (λ v. staying))
+    (skipping staying))))
 
 pub jump_expr_tame : {n : ℕ} (r : Restrictions) → Tame n (jump_expr r) (λ v. n)
 unfolding jump_expr
-jump_expr_tame r = testing yeet_expr_tame (testing return_expr_tame (testing become_expr_tame (testing yield_expr_tame (testing continue_expr_tame (testing (break_expr_tame _) effect_expr_tame)))))
+jump_expr_tame r = testing yeet_expr_tame (testing return_expr_tame (testing become_expr_tame (testing yield_expr_tame
+    (testing continue_expr_tame (testing (break_expr_tame _) effect_expr_tame)))))
 
 pub control_expr_tame : {n : ℕ} (r : Restrictions) → Tame n (control_expr r) (λ v. n)
 unfolding control_expr
-control_expr_tame r = testing labelled_expr_tame (testing (following if_expr_tame (λ v. staying)) (testing (following loop_expr_tame (λ v. staying)) (testing (following while_expr_tame (λ v. staying)) (testing (following match_expr_tame (λ v. staying)) (jump_expr_tame _)))))
+control_expr_tame r = testing labelled_expr_tame (testing (following if_expr_tame (λ v. staying)) (testing
+    (following loop_expr_tame (λ v. staying)) (testing (following while_expr_tame (λ v. staying)) (testing
+    (following match_expr_tame (λ v. staying)) (jump_expr_tame _)))))
 
 pub bracketed_expr_tame : {n : ℕ} (r : Restrictions) → Tame n (bracketed_expr r) (λ v. n)
 unfolding bracketed_expr
-bracketed_expr_tame r = testing tuple_expr_tame (testing array_expr_tame (testing (following plain_block_tame (λ v. staying)) (testing underscore_expr_tame (testing (let_expr_tame _) (control_expr_tame _)))))
+bracketed_expr_tame r = testing tuple_expr_tame (testing array_expr_tame (testing (following plain_block_tame
+    (λ v. staying)) (testing underscore_expr_tame (testing (let_expr_tame _) (control_expr_tame _)))))
 
 pub atom_expr_tame : {n : ℕ} (r : Restrictions) → Tame (suc n) (atom_expr r) (λ v. suc n)
 unfolding atom_expr
-atom_expr_tame r = following literal_tame (λ v. by_some v staying (testing builtin_expr_tame (testing (path_expr_tame _) (bracketed_expr_tame _))))
+atom_expr_tame r = following literal_tame (λ v. by_some v staying (testing builtin_expr_tame (testing
+    (path_expr_tame _) (bracketed_expr_tame _))))

@@ -17,11 +17,14 @@ cfg_operands_tame = delimited_tame _ _ _ _ _ cfg_predicate_element_tame
 
 pub cfg_predicate_tame : {n : ℕ} → Tame n cfg_predicate (λ v. n)
 unfolding cfg_predicate
-cfg_predicate_tame = starting (testing (taking_any (finishing staying)) (expecting IDENT (testing (taking (following cfg_value_tame (λ v. finishing staying))) (testing (following cfg_operands_tame (λ v. finishing staying)) (finishing staying)))))
+cfg_predicate_tame = starting (testing (taking_any (finishing staying)) (expecting IDENT (testing (taking
+    (following cfg_value_tame (λ v. finishing staying))) (testing (following cfg_operands_tame
+    (λ v. finishing staying)) (finishing staying)))))
 
 pub cfg_meta_tame : {n : ℕ} → Tame n cfg_meta (λ v. n)
 unfolding cfg_meta
-cfg_meta_tame = starting (bearing (taking (following cfg_predicate_tame (λ v. eating COMMA (expecting R_PAREN (finishing staying))))))
+cfg_meta_tame = starting (bearing (taking (following cfg_predicate_tame (λ v. eating COMMA (expecting R_PAREN
+    (finishing staying))))))
 
 pub metas_turn_tame : {n : ℕ} (a : Bool) (b : Bool) → Tame (suc n) (metas_turn a b) (λ v. suc n)
 metas_turn_tame a b = testing staying (testing staying (obeying refl (λ v. testing (taking staying) staying)))
@@ -32,7 +35,8 @@ cfg_attr_metas_tame = looping (λ c d. metas_turn_tame c d) (λ c d. refl) (λ v
 
 pub cfg_attr_meta_tame : {n : ℕ} → Tame n cfg_attr_meta (λ v. n)
 unfolding cfg_attr_meta
-cfg_attr_meta_tame = starting (bearing (taking (following cfg_predicate_tame (λ v. expecting COMMA (following cfg_attr_metas_tame (λ w. expecting R_PAREN (finishing staying)))))))
+cfg_attr_meta_tame = starting (bearing (taking (following cfg_predicate_tame (λ v. expecting COMMA
+    (following cfg_attr_metas_tame (λ w. expecting R_PAREN (finishing staying)))))))
 
 pub unsafe_meta_tame : {n : ℕ} → Tame n unsafe_meta (λ v. n)
 unfolding unsafe_meta
@@ -44,7 +48,8 @@ attr_value_tame = taking (following expr_tame (λ v. by_some v staying (reportin
 
 pub path_meta_tame : {n : ℕ} → Tame n path_meta (λ v. n)
 unfolding path_meta
-path_meta_tame = starting (following attr_path_tame (λ v. testing (following attr_value_tame (λ w. finishing staying)) (testing (following bracketed_tokens_tame (λ w. finishing staying)) (finishing staying))))
+path_meta_tame = starting (following attr_path_tame (λ v. testing (following attr_value_tame (λ w. finishing staying))
+    (testing (following bracketed_tokens_tame (λ w. finishing staying)) (finishing staying))))
 
 pub meta_tame : {n : ℕ} → Tame n meta (λ v. n)
 unfolding meta
@@ -60,7 +65,8 @@ attr_brackets_tame = testing (taking (following meta_tame (λ v. expecting R_BRA
 
 pub attr_tame : {n : ℕ} (inner : Bool) → Tame n (attr inner) (λ v. n)
 unfolding attr
-attr_tame inner = testing (starting (taking_any (finishing staying))) (starting (following (attr_mark_tame _) (λ v. following attr_brackets_tame (λ w. finishing staying))))
+attr_tame inner = testing (starting (taking_any (finishing staying))) (starting (following (attr_mark_tame _)
+    (λ v. following attr_brackets_tame (λ w. finishing staying))))
 
 pub outer_turn_tame : {n : ℕ} (a : Bool) (b : Bool) → Tame n (outer_turn a b) (λ v. n)
 outer_turn_tame a b = testing (following (attr_tame _) (λ v. staying)) staying

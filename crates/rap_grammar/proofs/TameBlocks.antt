@@ -31,7 +31,8 @@ block_expr_tame = testing (starting (following stmt_list_tame (λ v. finishing s
 
 pub error_block_tame : {n : ℕ} (message : List ℕ) → Tame n (error_block message) (λ v. n)
 unfolding error_block
-error_block_tame message = starting (reporting (taking (following expr_block_contents_tame (λ v. eating R_CURLY (finishing staying)))))
+error_block_tame message = starting (reporting (taking (following expr_block_contents_tame (λ v. eating R_CURLY
+    (finishing staying)))))
 
 pub let_type_tame : {n : ℕ} → Tame (suc n) let_type (λ v. suc n)
 unfolding let_type
@@ -61,7 +62,8 @@ let_end_tame semicolon.Forbidden = staying
 
 pub let_stmt_tame : {n : ℕ} (with_semi : Semicolon) → Tame (suc n) (let_stmt with_semi) (λ v. suc n)
 unfolding let_stmt
-let_stmt_tame with_semi = eating SUPER_KW (taking (following pattern_tame (λ v. following let_type_tame (λ w. following let_value_tame (λ value. following (let_else_tame _) (λ x. let_end_tame _))))))
+let_stmt_tame with_semi = eating SUPER_KW (taking (following pattern_tame (λ v. following let_type_tame
+    (λ w. following let_value_tame (λ value. following (let_else_tame _) (λ x. let_end_tame _))))))
 
 pub error_let_stmt_tame : {n : ℕ} (message : List ℕ) → Tame n (error_let_stmt message) (λ v. n)
 unfolding error_let_stmt

@@ -75,7 +75,8 @@ pub else_if_tame : {n : ℕ} → Tame (suc n) else_if (λ v. suc n)
 unfolding else_if
 else_if_tame = obeying refl (λ v. staying)
 
-pub item_tame : {n : ℕ} (stop_on_r_curly : Bool) (is_in_extern : Bool) → Tame n (item stop_on_r_curly is_in_extern) (λ v. n)
+pub item_tame : {n : ℕ} (stop_on_r_curly : Bool) (is_in_extern : Bool) →
+    Tame n (item stop_on_r_curly is_in_extern) (λ v. n)
 unfolding item
 item_tame stop_on_r_curly is_in_extern = obeying_item (λ v. staying)
 

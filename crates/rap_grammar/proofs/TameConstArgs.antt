@@ -20,7 +20,8 @@ missing_const_tame = testing (reporting staying) (skipping staying)
 
 pub const_arg_expr_tame : {n : ℕ} → Tame n const_arg_expr (λ v. n)
 unfolding const_arg_expr
-const_arg_expr_tame = testing block_expr_tame (testing (following literal_tame (λ v. staying)) (testing negative_const_tame (testing const_path_tame missing_const_tame)))
+const_arg_expr_tame = testing block_expr_tame (testing (following literal_tame (λ v. staying))
+    (testing negative_const_tame (testing const_path_tame missing_const_tame)))
 
 pub const_arg_tame : {n : ℕ} → Tame n const_arg (λ v. n)
 unfolding const_arg

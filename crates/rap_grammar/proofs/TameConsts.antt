@@ -38,7 +38,9 @@ const_where_tame false = staying
 
 pub const_or_static_tame : {n : ℕ} (is_const : Bool) → Tame (suc n) (const_or_static is_const) (λ v. suc n)
 unfolding const_or_static
-const_or_static_tame is_const = eating MUT_KW (following (const_name_tame _) (λ v. following (const_params_tame _) (λ w. following (const_type_tame _) (λ x. following const_value_tame (λ y. following (const_where_tame _) (λ z. expecting SEMICOLON staying))))))
+const_or_static_tame is_const = eating MUT_KW (following (const_name_tame _) (λ v. following (const_params_tame _)
+    (λ w. following (const_type_tame _) (λ x. following const_value_tame (λ y. following (const_where_tame _)
+    (λ z. expecting SEMICOLON staying))))))
 
 pub konst_tame : {n : ℕ} → Tame (suc n) konst (λ v. n)
 unfolding konst

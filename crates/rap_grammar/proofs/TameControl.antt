@@ -18,7 +18,8 @@ else_branch_tame = testing (taking (testing else_if_tame block_expr_tame)) stayi
 
 pub if_expr_tame : {n : ℕ} → Tame n if_expr (λ v. n)
 unfolding if_expr
-if_expr_tame = starting (taking (following expr_no_struct_tame (λ v. following block_expr_tame (λ w. following else_branch_tame (λ x. finishing staying)))))
+if_expr_tame = starting (taking (following expr_no_struct_tame (λ v. following block_expr_tame
+    (λ w. following else_branch_tame (λ x. finishing staying)))))
 
 pub let_expr_tame : {n : ℕ} (r : Restrictions) → Tame n (let_expr r) (λ v. n)
 unfolding let_expr
@@ -34,7 +35,8 @@ while_from_tame = taking (following expr_no_struct_tame (λ v. following block_e
 
 pub for_from_tame : {n : ℕ} → Tame (suc n) for_from (λ v. n)
 unfolding for_from
-for_from_tame = taking (following pattern_tame (λ v. expecting IN_KW (following expr_no_struct_tame (λ w. following block_expr_tame (λ x. finishing staying)))))
+for_from_tame = taking (following pattern_tame (λ v. expecting IN_KW (following expr_no_struct_tame
+    (λ w. following block_expr_tame (λ x. finishing staying)))))
 
 pub loop_expr_tame : {n : ℕ} → Tame n loop_expr (λ v. n)
 unfolding loop_expr
@@ -54,7 +56,9 @@ label_tame = starting (following lifetime_tame (λ v. taking (finishing staying)
 
 pub labelled_from_tame : {n : ℕ} → Tame (suc n) labelled_from (λ v. n)
 unfolding labelled_from
-labelled_from_tame = testing (following loop_from_tame (λ v. staying)) (testing (following for_from_tame (λ v. staying)) (testing (following while_from_tame (λ v. staying)) (testing (following stmt_list_tame (λ v. finishing staying)) (reporting (finishing staying)))))
+labelled_from_tame = testing (following loop_from_tame (λ v. staying)) (testing (following for_from_tame
+    (λ v. staying)) (testing (following while_from_tame (λ v. staying)) (testing (following stmt_list_tame
+    (λ v. finishing staying)) (reporting (finishing staying)))))
 
 pub labelled_expr_tame : {n : ℕ} → Tame n labelled_expr (λ v. n)
 unfolding labelled_expr
@@ -62,7 +66,8 @@ labelled_expr_tame = starting (following label_tame (λ v. labelled_from_tame))
 
 pub match_guard_tame : {n : ℕ} → Tame n match_guard (λ v. n)
 unfolding match_guard
-match_guard_tame = starting (taking (testing (reporting (finishing staying)) (following expr_tame (λ v. finishing staying))))
+match_guard_tame = starting (taking (testing (reporting (finishing staying)) (following expr_tame
+    (λ v. finishing staying))))
 
 pub arm_head_tame : {n : ℕ} → Tame (suc n) arm_head (λ v. suc n)
 unfolding arm_head
@@ -78,10 +83,12 @@ arm_body_tame = testing (taking (reporting staying)) (following expr_stmt_tame (
 
 pub match_arm_tame : {n : ℕ} → Tame n match_arm (λ v. n)
 unfolding match_arm
-match_arm_tame = starting (following outer_attrs_tame (λ v. following arm_head_tame (λ w. expecting FAT_ARROW (following arm_body_tame (λ x. finishing staying)))))
+match_arm_tame = starting (following outer_attrs_tame (λ v. following arm_head_tame (λ w. expecting FAT_ARROW
+    (following arm_body_tame (λ x. finishing staying)))))
 
 pub arms_turn_tame : {n : ℕ} (a : Bool) (b : Bool) → Tame n (arms_turn a b) (λ v. n)
-arms_turn_tame a b = testing staying (testing staying (testing (following (error_block_tame _) (λ v. staying)) (testing (skipping staying) (following match_arm_tame (λ v. staying)))))
+arms_turn_tame a b = testing staying (testing staying (testing (following (error_block_tame _) (λ v. staying)) (testing
+    (skipping staying) (following match_arm_tame (λ v. staying)))))
 
 pub match_arms_tame : {n : ℕ} → Tame n match_arms (λ v. n)
 unfolding match_arms
@@ -89,11 +96,13 @@ match_arms_tame = looping (λ c d. arms_turn_tame c d) (λ c d. refl) (λ v h. r
 
 pub match_arm_list_tame : {n : ℕ} → Tame n match_arm_list (λ v. n)
 unfolding match_arm_list
-match_arm_list_tame = starting (taking (following inner_attrs_tame (λ v. following match_arms_tame (λ w. expecting R_CURLY (finishing staying)))))
+match_arm_list_tame = starting (taking (following inner_attrs_tame (λ v. following match_arms_tame
+    (λ w. expecting R_CURLY (finishing staying)))))
 
 pub match_expr_tame : {n : ℕ} → Tame n match_expr (λ v. n)
 unfolding match_expr
-match_expr_tame = starting (taking (following expr_no_struct_tame (λ v. testing (following match_arm_list_tame (λ w. finishing staying)) (reporting (finishing staying)))))
+match_expr_tame = starting (taking (following expr_no_struct_tame (λ v. testing (following match_arm_list_tame
+    (λ w. finishing staying)) (reporting (finishing staying)))))
 
 pub closure_binder_tame : {n : ℕ} → Tame n closure_binder (λ v. n)
 unfolding closure_binder
@@ -112,8 +121,11 @@ closing_angles_tame = looping (λ c d. angles_turn_tame c d) (λ c d. refl) (λ 
 
 pub closure_body_tame : {n : ℕ} → Tame (suc n) closure_body (λ v. suc n)
 unfolding closure_body
-closure_body_tame = following opt_ret_type_tame (λ v. by_some v (following closing_angles_tame (λ w. block_expr_tame)) (testing (following expr_tame (λ w. staying)) (reporting staying)))
+closure_body_tame = following opt_ret_type_tame (λ v. by_some v (following closing_angles_tame (λ w. block_expr_tame))
+    (testing (following expr_tame (λ w. staying)) (reporting staying)))
 
 pub closure_expr_tame : {n : ℕ} → Tame n closure_expr (λ v. n)
 unfolding closure_expr
-closure_expr_tame = starting (following closure_binder_tame (λ v. following closure_keywords_tame (λ w. testing (following param_list_closure_tame (λ x. following closure_body_tame (λ y. finishing staying))) (reporting (finishing staying)))))
+closure_expr_tame = starting (following closure_binder_tame (λ v. following closure_keywords_tame (λ w. testing
+    (following param_list_closure_tame (λ x. following closure_body_tame (λ y. finishing staying))) (reporting
+    (finishing staying)))))

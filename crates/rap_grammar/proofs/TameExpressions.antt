@@ -27,9 +27,12 @@ unfolding cast_expr
 cast_expr_tame = preceding (taking (following type_no_bounds_tame (λ v. finishing staying)))
 
 pub operation_tame : {n : ℕ} (r : Restrictions) (bp : ℕ) (op : ℕ) → Tame (suc n) (operation r bp op) (λ v. suc n)
-operation_tame r bp op = by_if (nat_lt (power op) bp) staying (by_if (op == AS_KW) (following cast_expr_tame (λ v. staying)) (by_if (power op == 2) (following (range_expr_tame _ _) (λ v. by_some v staying staying)) (following (bin_expr_tame _ _) (λ v. staying))))
+operation_tame r bp op = by_if (nat_lt (power op) bp) staying (by_if (op == AS_KW) (following cast_expr_tame
+    (λ v. staying)) (by_if (power op == 2) (following (range_expr_tame _ _) (λ v. by_some v staying staying))
+    (following (bin_expr_tame _ _) (λ v. staying))))
 
-pub climb_turn_tame : {n : ℕ} (r : Restrictions) (bp : ℕ) (a : Bool) (b : Bool) → Tame (suc n) (climb_turn r bp a b) (λ v. suc n)
+pub climb_turn_tame : {n : ℕ} (r : Restrictions) (bp : ℕ) (a : Bool) (b : Bool) →
+    Tame (suc n) (climb_turn r bp a b) (λ v. suc n)
 climb_turn_tame r bp a b = looking (λ rs. operation_tame r bp (operator_at rs))
 
 pub climb_tame : {n : ℕ} (r : Restrictions) (bp : ℕ) → Tame (suc n) (climb r bp) (λ v. suc n)
@@ -70,19 +73,23 @@ try_expr_tame = preceding (taking (finishing staying))
 
 pub method_arguments_tame : {n : ℕ} → Tame (suc n) method_arguments (λ v. n)
 unfolding method_arguments
-method_arguments_tame = following opt_generic_arg_list_expr_tame (λ v. testing (following arg_list_tame (λ w. finishing staying)) (reporting (finishing staying)))
+method_arguments_tame = following opt_generic_arg_list_expr_tame (λ v. testing (following arg_list_tame
+    (λ w. finishing staying)) (reporting (finishing staying)))
 
 pub method_arguments_ends : {n : ℕ} {e : Outcome → ℕ} → n ≡ e something → Tame (suc n) method_arguments e
 unfolding method_arguments
-method_arguments_ends i = following opt_generic_arg_list_expr_tame (λ v. testing (following arg_list_tame (λ w. finishing (giving i))) (reporting (finishing (giving i))))
+method_arguments_ends i = following opt_generic_arg_list_expr_tame (λ v. testing (following arg_list_tame
+    (λ w. finishing (giving i))) (reporting (finishing (giving i))))
 
 pub method_call_expr_tame : {n : ℕ} → Tame (suc n) method_call_expr (λ v. n)
 unfolding method_call_expr
-method_call_expr_tame = testing (following name_ref_mod_path_tame (λ v. method_arguments_tame)) (reporting method_arguments_tame)
+method_call_expr_tame = testing (following name_ref_mod_path_tame (λ v. method_arguments_tame))
+    (reporting method_arguments_tame)
 
 pub method_call_expr_ends : {n : ℕ} {e : Outcome → ℕ} → n ≡ e something → Tame (suc n) method_call_expr e
 unfolding method_call_expr
-method_call_expr_ends i = testing (following name_ref_mod_path_tame (λ v. (method_arguments_ends i))) (reporting (method_arguments_ends i))
+method_call_expr_ends i = testing (following name_ref_mod_path_tame (λ v. (method_arguments_ends i))) (reporting
+    (method_arguments_ends i))
 
 pub await_expr_tame : {n : ℕ} → Tame (suc n) await_expr (λ v. n)
 unfolding await_expr
@@ -94,11 +101,13 @@ await_expr_ends i = taking (finishing (giving i))
 
 pub field_expr_tame : {n : ℕ} → Tame (suc n) field_expr (λ v. n)
 unfolding field_expr
-field_expr_tame = testing (following name_ref_mod_path_or_index_tame (λ v. finishing staying)) (reporting (finishing staying))
+field_expr_tame = testing (following name_ref_mod_path_or_index_tame (λ v. finishing staying)) (reporting
+    (finishing staying))
 
 pub field_expr_ends : {n : ℕ} {e : Outcome → ℕ} → n ≡ e something → Tame (suc n) field_expr e
 unfolding field_expr
-field_expr_ends i = testing (following name_ref_mod_path_or_index_tame (λ v. finishing (giving i))) (reporting (finishing (giving i)))
+field_expr_ends i = testing (following name_ref_mod_path_or_index_tame (λ v. finishing (giving i))) (reporting
+    (finishing (giving i)))
 
 pub name_after_dot_tame : {n : ℕ} → Tame (suc n) name_after_dot (λ v. n)
 unfolding name_after_dot
@@ -108,8 +117,10 @@ pub name_after_dot_ends : {n : ℕ} {e : Outcome → ℕ} → n ≡ e something 
 unfolding name_after_dot
 name_after_dot_ends i = testing (method_call_expr_ends i) (testing (await_expr_ends i) (field_expr_ends i))
 
-pub after_dot_turn_tame : {n : ℕ} (a : Bool) (b : Bool) → Tame (suc (suc n)) (after_dot_turn a b) (at_end (suc n) (suc n) (suc (suc n)))
-after_dot_turn_tame a b = testing (splitting (testing (giving refl) (preceding (giving refl))) (giving refl)) (name_after_dot_ends refl)
+pub after_dot_turn_tame : {n : ℕ} (a : Bool) (b : Bool) →
+    Tame (suc (suc n)) (after_dot_turn a b) (at_end (suc n) (suc n) (suc (suc n)))
+after_dot_turn_tame a b = testing (splitting (testing (giving refl) (preceding (giving refl))) (giving refl))
+    (name_after_dot_ends refl)
 
 pub after_dot_tame : {n : ℕ} → Tame (suc (suc n)) after_dot (λ v. suc n)
 unfolding after_dot
@@ -120,15 +131,19 @@ unfolding postfix_dot_expr
 postfix_dot_expr_tame = preceding (taking after_dot_tame)
 
 pub postfix_turn_tame : {n : ℕ} (calls : Bool) (blocky : Bool) → Tame (suc n) (postfix_turn calls blocky) (λ v. suc n)
-postfix_turn_tame calls blocky = testing (following call_expr_tame (λ v. staying)) (testing (following index_expr_tame (λ v. staying)) (testing (following postfix_dot_expr_tame (λ v. by_some v staying staying)) (testing (following try_expr_tame (λ v. staying)) staying)))
+postfix_turn_tame calls blocky = testing (following call_expr_tame (λ v. staying)) (testing (following index_expr_tame
+    (λ v. staying)) (testing (following postfix_dot_expr_tame (λ v. by_some v staying staying)) (testing
+    (following try_expr_tame (λ v. staying)) staying)))
 
-pub postfix_expr_tame : {n : ℕ} (allow_calls : Bool) (is_block : Bool) → Tame (suc n) (postfix_expr allow_calls is_block) (λ v. suc n)
+pub postfix_expr_tame : {n : ℕ} (allow_calls : Bool) (is_block : Bool) →
+    Tame (suc n) (postfix_expr allow_calls is_block) (λ v. suc n)
 unfolding postfix_expr
 postfix_expr_tame allow_calls is_block = looping (λ c d. postfix_turn_tame c d) (λ c d. refl) (λ v h. refl)
 
 pub lhs_tame : {n : ℕ} (r : Restrictions) → Tame (suc n) (lhs r) (λ v. suc n)
 unfolding lhs
-lhs_tame r = testing (ref_expr_tame _) (testing (prefix_expr_tame _) (testing (prefix_range_tame _ _) (testing (prefix_range_tame _ _) (following (atom_expr_tame _) (λ v. by_some v (postfix_expr_tame _ _) staying)))))
+lhs_tame r = testing (ref_expr_tame _) (testing (prefix_expr_tame _) (testing (prefix_range_tame _ _) (testing
+    (prefix_range_tame _ _) (following (atom_expr_tame _) (λ v. by_some v (postfix_expr_tame _ _) staying)))))
 
 pub missing_expr_tame : {n : ℕ} → Tame (suc n) missing_expr (λ v. n)
 unfolding missing_expr
@@ -136,7 +151,9 @@ missing_expr_tame = testing (reporting (abandoning staying)) (skipping (abandoni
 
 pub expr_from_tame : {n : ℕ} (r : Restrictions) (bp : ℕ) → Tame (suc (suc n)) (expr_from r bp) (λ v. suc n)
 unfolding expr_from
-expr_from_tame r bp = testing (following (lhs_tame _) (λ v. by_some v (extending (by_if (r.prefer_stmt && is_block v) staying (following (climb_tame _ _) (λ w. staying)))) (abandoning staying))) missing_expr_tame
+expr_from_tame r bp = testing (following (lhs_tame _) (λ v. by_some v (extending (by_if
+    (r.prefer_stmt && is_block v) staying (following (climb_tame _ _) (λ w. staying))))
+    (abandoning staying))) missing_expr_tame
 
 pub expr_bp_true_tame : {n : ℕ} (r : Restrictions) (bp : ℕ) → Tame (suc (suc n)) (expr_bp true r bp) (λ v. suc n)
 unfolding expr_bp

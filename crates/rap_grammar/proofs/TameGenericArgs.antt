@@ -32,11 +32,14 @@ macro_arg_tame = following macro_call_after_excl_tame (λ v. finishing (precedin
 
 pub path_arg_tame : {n : ℕ} → Tame (suc n) path_arg (λ v. suc n)
 unfolding path_arg
-path_arg_tame = preceding (finishing (following type_path_for_qualifier_tame (λ v. preceding (testing macro_arg_tame (finishing (bounded_arg_tame _))))))
+path_arg_tame = preceding (finishing (following type_path_for_qualifier_tame (λ v. preceding (testing macro_arg_tame
+    (finishing (bounded_arg_tame _))))))
 
 pub named_arg_tame : {n : ℕ} → Tame (suc n) named_arg (λ v. suc n)
 unfolding named_arg
-named_arg_tame = starting (following name_ref_mod_path_tame (λ v. following opt_path_type_args_tame (λ w. testing (taking_any (following assoc_value_tame (λ x. finishing staying))) (testing (following bounds_tame (λ x. finishing staying)) (finishing path_arg_tame)))))
+named_arg_tame = starting (following name_ref_mod_path_tame (λ v. following opt_path_type_args_tame (λ w. testing
+    (taking_any (following assoc_value_tame (λ x. finishing staying))) (testing (following bounds_tame
+    (λ x. finishing staying)) (finishing path_arg_tame)))))
 
 pub generic_arg_tame : {n : ℕ} → Tame (suc n) generic_arg (λ v. suc n)
 unfolding generic_arg

@@ -24,23 +24,29 @@ use_bound_tame = taking (starting (following use_bound_args_tame (λ v. finishin
 
 pub bound_constness_tame : {n : ℕ} → Tame n bound_constness (λ v. n)
 unfolding bound_constness
-bound_constness_tame = testing (taking (expecting CONST_KW staying)) (testing (taking (expecting CONST_KW (expecting R_BRACK staying))) (eating CONST_KW staying))
+bound_constness_tame = testing (taking (expecting CONST_KW staying)) (testing (taking (expecting CONST_KW
+    (expecting R_BRACK staying))) (eating CONST_KW staying))
 
 pub bound_macro_call_tame : {n : ℕ} → Tame n bound_macro_call (λ v. n)
 unfolding bound_macro_call
-bound_macro_call_tame = starting (taking (reporting (testing (following bracketed_tokens_tame (λ v. finishing staying)) (finishing staying))))
+bound_macro_call_tame = starting (taking (reporting (testing (following bracketed_tokens_tame (λ v. finishing staying))
+    (finishing staying))))
 
 pub path_type_bound_tame : {n : ℕ} → Tame n path_type_bound (λ v. n)
 unfolding path_type_bound
-path_type_bound_tame = following bound_constness_tame (λ v. eating ASYNC_KW (eating QUESTION (testing (following path_type_tame (λ w. testing bound_macro_call_tame staying)) staying)))
+path_type_bound_tame = following bound_constness_tame (λ v. eating ASYNC_KW (eating QUESTION (testing
+    (following path_type_tame (λ w. testing bound_macro_call_tame staying)) staying)))
 
 pub bare_bound_tame : {n : ℕ} → Tame n bare_bound (λ v. n)
 unfolding bare_bound
-bare_bound_tame = testing lifetime_tame (testing (following for_binder_tame (λ v. path_type_bound_tame)) (testing use_bound_tame path_type_bound_tame))
+bare_bound_tame = testing lifetime_tame (testing (following for_binder_tame (λ v. path_type_bound_tame))
+    (testing use_bound_tame path_type_bound_tame))
 
 pub type_bound_tame : {n : ℕ} → Tame n type_bound (λ v. n)
 unfolding type_bound
-type_bound_tame = starting (testing (taking (following bare_bound_tame (λ v. by_some v (expecting R_PAREN (finishing staying)) (abandoning staying)))) (following bare_bound_tame (λ v. by_some v (finishing staying) (abandoning staying))))
+type_bound_tame = starting (testing (taking (following bare_bound_tame (λ v. by_some v (expecting R_PAREN
+    (finishing staying)) (abandoning staying)))) (following bare_bound_tame (λ v. by_some v (finishing staying)
+    (abandoning staying))))
 
 pub next_bound_tame : {n : ℕ} (a : Bool) (b : Bool) → Tame n (next_bound a b) (λ v. n)
 next_bound_tame a b = testing (taking staying) staying
@@ -81,7 +87,8 @@ lifetime_bounds_tame = starting (following lifetime_bound_list_tame (λ v. finis
 
 pub lifetime_param_tame : {n : ℕ} → Tame (suc n) lifetime_param (λ v. n)
 unfolding lifetime_param
-lifetime_param_tame = following lifetime_tame (λ v. testing (taking (following lifetime_bounds_tame (λ w. finishing staying))) (finishing staying))
+lifetime_param_tame = following lifetime_tame (λ v. testing (taking (following lifetime_bounds_tame
+    (λ w. finishing staying))) (finishing staying))
 
 pub type_default_tame : {n : ℕ} → Tame (suc n) type_default (λ v. suc n)
 unfolding type_default
@@ -89,7 +96,8 @@ type_default_tame = testing (taking type__tame) staying
 
 pub type_param_tame : {n : ℕ} → Tame (suc n) type_param (λ v. n)
 unfolding type_param
-type_param_tame = following name_tame (λ v. following (testing bounds_tame (staying)) (λ w. following type_default_tame (λ x. finishing staying)))
+type_param_tame = following name_tame (λ v. following (testing bounds_tame (staying)) (λ w. following type_default_tame
+    (λ x. finishing staying)))
 
 pub const_type_tame : {n : ℕ} → Tame (suc n) const_type (λ v. suc n)
 unfolding const_type
@@ -101,11 +109,13 @@ const_default_tame = testing (taking const_arg_tame) staying
 
 pub const_param_tame : {n : ℕ} → Tame (suc n) const_param (λ v. n)
 unfolding const_param
-const_param_tame = taking (following name_tame (λ v. following const_type_tame (λ w. following const_default_tame (λ x. finishing staying))))
+const_param_tame = taking (following name_tame (λ v. following const_type_tame (λ w. following const_default_tame
+    (λ x. finishing staying))))
 
 pub generic_param_tame : {n : ℕ} → Tame (suc n) generic_param (λ v. n)
 unfolding generic_param
-generic_param_tame = testing lifetime_param_tame (testing type_param_tame (testing const_param_tame (abandoning (skipping staying))))
+generic_param_tame = testing lifetime_param_tame (testing type_param_tame (testing const_param_tame (abandoning
+    (skipping staying))))
 
 pub attributed_param_tame : {n : ℕ} → Tame n attributed_param (λ v. n)
 unfolding attributed_param
@@ -125,18 +135,22 @@ predicate_bounds_tame = testing bounds_tame (reporting staying)
 
 pub type_predicate_tame : {n : ℕ} → Tame (suc n) type_predicate (λ v. suc n)
 unfolding type_predicate
-type_predicate_tame = testing (following for_binder_tame (λ v. following type__tame (λ w. predicate_bounds_tame))) (following type__tame (λ v. predicate_bounds_tame))
+type_predicate_tame = testing (following for_binder_tame (λ v. following type__tame (λ w. predicate_bounds_tame)))
+    (following type__tame (λ v. predicate_bounds_tame))
 
 pub where_predicate_tame : {n : ℕ} → Tame n where_predicate (λ v. n)
 unfolding where_predicate
-where_predicate_tame = starting (testing (following lifetime_tame (λ v. following predicate_bounds_tame (λ w. finishing staying))) (testing (reporting (finishing staying)) (following type_predicate_tame (λ v. finishing staying))))
+where_predicate_tame = starting (testing (following lifetime_tame (λ v. following predicate_bounds_tame
+    (λ w. finishing staying))) (testing (reporting (finishing staying)) (following type_predicate_tame
+    (λ v. finishing staying))))
 
 pub after_predicate_tame : {n : ℕ} → Tame n after_predicate (λ v. n)
 unfolding after_predicate
 after_predicate_tame = testing (taking (testing staying staying)) (testing staying (reporting staying))
 
 pub where_turn_tame : {n : ℕ} (a : Bool) (b : Bool) → Tame n (where_turn a b) (λ v. n)
-where_turn_tame a b = testing (following where_predicate_tame (λ v. following after_predicate_tame (λ w. by_some w staying staying))) staying
+where_turn_tame a b = testing (following where_predicate_tame (λ v. following after_predicate_tame
+    (λ w. by_some w staying staying))) staying
 
 pub where_predicates_tame : {n : ℕ} → Tame n where_predicates (λ v. n)
 unfolding where_predicates

@@ -15,21 +15,26 @@ pub name_ref_mod_path_or_index_tame : {n : ℕ} → Tame n name_ref_mod_path_or_
 unfolding name_ref_mod_path_or_index
 name_ref_mod_path_or_index_tame = testing (starting (taking_any (finishing staying))) (skipping staying)
 
-pub element_turn_tame : {n : ℕ} {element : Script Phrase} (ket delim : ℕ) (missing : List ℕ) (first : ℕ → Bool) (a b : Bool) → Tame (suc n) element (λ v. suc n) →
+pub element_turn_tame : {n : ℕ} {element : Script Phrase} (ket delim : ℕ) (missing : List ℕ) (first : ℕ →
+    Bool) (a b : Bool) → Tame (suc n) element (λ v. suc n) →
     Tame (suc n) (element_turn element ket delim missing first a b) (λ v. suc n)
 element_turn_tame ket delim missing first a b t =
     testing staying (testing staying (testing (starting (reporting (taking (finishing staying))))
     (following t (λ v. by_some v (testing (expecting delim staying) staying) staying))))
 
-pub elements_tame : {n : ℕ} {element : Script Phrase} (ket delim : ℕ) (missing : List ℕ) (first : ℕ → Bool) → Tame (suc n) element (λ v. suc n) →
+pub elements_tame : {n : ℕ} {element : Script Phrase} (ket delim : ℕ) (missing : List ℕ) (first : ℕ → Bool) →
+    Tame (suc n) element (λ v. suc n) →
     Tame (suc n) (elements element ket delim missing first) (λ v. suc n)
 unfolding elements
-elements_tame ket delim missing first t = looping (λ c d. element_turn_tame ket delim missing first c d t) (λ c d. refl) (λ v h. refl)
+elements_tame ket delim missing first t =
+    looping (λ c d. element_turn_tame ket delim missing first c d t) (λ c d. refl) (λ v h. refl)
 
-pub delimited_tame : {n : ℕ} {element : Script Phrase} (bra ket delim : ℕ) (missing : List ℕ) (first : ℕ → Bool) → Tame (suc n) element (λ v. suc n) →
+pub delimited_tame : {n : ℕ} {element : Script Phrase} (bra ket delim : ℕ) (missing : List ℕ) (first : ℕ → Bool) →
+    Tame (suc n) element (λ v. suc n) →
     Tame (suc n) (delimited element bra ket delim missing first) (λ v. suc n)
 unfolding delimited
-delimited_tame bra ket delim missing first t = taking (following (elements_tame ket delim missing first t) (λ v. expecting ket staying))
+delimited_tame bra ket delim missing first t =
+    taking (following (elements_tame ket delim missing first t) (λ v. expecting ket staying))
 
 pub lifetime_tame : {n : ℕ} → Tame n lifetime (λ v. n)
 unfolding lifetime
@@ -61,7 +66,8 @@ opt_ret_type_tame = testing (starting (taking (following type_no_bounds_tame (λ
 
 pub opt_no_arrow_ret_type_tame : {n : ℕ} → Tame n opt_no_arrow_ret_type (λ v. n)
 unfolding opt_no_arrow_ret_type
-opt_no_arrow_ret_type_tame = testing (starting (reporting (following type_no_bounds_tame (λ v. finishing staying)))) staying
+opt_no_arrow_ret_type_tame = testing (starting (reporting (following type_no_bounds_tame
+    (λ v. finishing staying)))) staying
 
 pub name_ref_or_self_tame : {n : ℕ} → Tame n name_ref_or_self (λ v. n)
 unfolding name_ref_or_self
@@ -73,4 +79,5 @@ name_any_identifier_tame = starting (bearing (finishing staying))
 
 pub opt_rename_tame : {n : ℕ} → Tame n opt_rename (λ v. n)
 unfolding opt_rename
-opt_rename_tame = testing (starting (taking (testing (taking (finishing staying)) (following name_tame (λ v. finishing staying))))) staying
+opt_rename_tame = testing (starting (taking (testing (taking (finishing staying)) (following name_tame
+    (λ v. finishing staying))))) staying

@@ -21,13 +21,16 @@ use Rattle.rap_grammar.proofs.TameVisibility.{opt_visibility_tame}
 
 pub extern_crate_tame : {n : ℕ} → Tame (suc n) extern_crate (λ v. n)
 unfolding extern_crate
-extern_crate_tame = taking (taking (following name_ref_or_self_tame (λ v. following opt_rename_tame (λ w. expecting SEMICOLON (finishing staying)))))
+extern_crate_tame = taking (taking (following name_ref_or_self_tame (λ v. following opt_rename_tame
+    (λ w. expecting SEMICOLON (finishing staying)))))
 
 pub extern_crate_ends : {n : ℕ} {e : Outcome → ℕ} → n ≡ e something → Tame (suc n) extern_crate e
 unfolding extern_crate
-extern_crate_ends i = taking (taking (following name_ref_or_self_tame (λ v. following opt_rename_tame (λ w. expecting SEMICOLON (finishing (giving i))))))
+extern_crate_ends i = taking (taking (following name_ref_or_self_tame (λ v. following opt_rename_tame
+    (λ w. expecting SEMICOLON (finishing (giving i))))))
 
-pub item_turn_tame : {n : ℕ} (stop_on_r_curly : Bool) (a : Bool) (b : Bool) → Tame n (item_turn stop_on_r_curly a b) (λ v. n)
+pub item_turn_tame : {n : ℕ} (stop_on_r_curly : Bool) (a : Bool) (b : Bool) →
+    Tame n (item_turn stop_on_r_curly a b) (λ v. n)
 item_turn_tame stop_on_r_curly a b = testing staying (testing staying (obeying_item (λ v. staying)))
 
 pub items_tame : {n : ℕ} (stop_on_r_curly : Bool) → Tame n (items stop_on_r_curly) (λ v. n)
@@ -68,11 +71,15 @@ aliased_type_tame = testing (taking type__tame) staying
 
 pub type_alias_tame : {n : ℕ} → Tame (suc n) type_alias (λ v. n)
 unfolding type_alias
-type_alias_tame = taking (following name_tame (λ v. following opt_generic_param_list_tame (λ w. following alias_bounds_tame (λ x. following opt_where_clause_tame (λ y. following aliased_type_tame (λ z. following opt_where_clause_tame (λ u. expecting SEMICOLON (finishing staying))))))))
+type_alias_tame = taking (following name_tame (λ v. following opt_generic_param_list_tame
+    (λ w. following alias_bounds_tame (λ x. following opt_where_clause_tame (λ y. following aliased_type_tame
+    (λ z. following opt_where_clause_tame (λ u. expecting SEMICOLON (finishing staying))))))))
 
 pub type_alias_ends : {n : ℕ} {e : Outcome → ℕ} → n ≡ e something → Tame (suc n) type_alias e
 unfolding type_alias
-type_alias_ends i = taking (following name_tame (λ v. following opt_generic_param_list_tame (λ w. following alias_bounds_tame (λ x. following opt_where_clause_tame (λ y. following aliased_type_tame (λ z. following opt_where_clause_tame (λ u. expecting SEMICOLON (finishing (giving i)))))))))
+type_alias_ends i = taking (following name_tame (λ v. following opt_generic_param_list_tame
+    (λ w. following alias_bounds_tame (λ x. following opt_where_clause_tame (λ y. following aliased_type_tame
+    (λ z. following opt_where_clause_tame (λ u. expecting SEMICOLON (finishing (giving i)))))))))
 
 pub type_item_tame : {n : ℕ} → Tame (suc n) type_item (λ v. n)
 unfolding type_item
@@ -104,35 +111,55 @@ global_asm_ends i = bearing (taking (bearing (following parse_asm_expr_tame (λ 
 
 pub opt_item_by_name_tame : {n : ℕ} → Tame (suc n) opt_item_by_name (at_end (suc n) n n)
 unfolding opt_item_by_name
-opt_item_by_name_tame = testing (union_ends refl) (testing (macro_rules_ends refl) (testing (global_asm_ends refl) (giving refl)))
+opt_item_by_name_tame = testing (union_ends refl) (testing (macro_rules_ends refl) (testing (global_asm_ends refl)
+    (giving refl)))
 
 pub opt_item_without_modifiers_tame : {n : ℕ} → Tame (suc n) opt_item_without_modifiers (at_end (suc n) n n)
 unfolding opt_item_without_modifiers
-opt_item_without_modifiers_tame {n = n} = testing opt_extern_crate_tame (testing {e = at_end (suc n) n n} (use__ends refl) (testing {e = at_end (suc n) n n} (mod_item_ends refl) (testing {e = at_end (suc n) n n} (type_item_ends refl) (testing {e = at_end (suc n) n n} (strukt_ends refl) (testing {e = at_end (suc n) n n} (enum__ends refl) (testing {e = at_end (suc n) n n} (macro_def_ends refl) (testing opt_named_const_tame (testing opt_static_tame (testing opt_item_by_name_tame (giving refl))))))))))
+opt_item_without_modifiers_tame {n = n} = testing opt_extern_crate_tame (testing {e =
+    at_end (suc n) n n} (use__ends refl) (testing {e = at_end (suc n) n n} (mod_item_ends refl) (testing {e =
+    at_end (suc n) n n} (type_item_ends refl) (testing {e = at_end (suc n) n n} (strukt_ends refl) (testing {e =
+    at_end (suc n) n n} (enum__ends refl) (testing {e =
+    at_end (suc n) n n} (macro_def_ends refl) (testing opt_named_const_tame (testing opt_static_tame
+    (testing opt_item_by_name_tame (giving refl))))))))))
 
 pub opt_const_tame : {n : ℕ} → Tame (suc n) opt_const (at_end (suc n) n n)
 unfolding opt_const
 opt_const_tame = testing (konst_ends refl) (giving refl)
 
-pub opt_extern_block_tame : {n : ℕ} (has_extern : Bool) → Tame (suc n) (opt_extern_block has_extern) (at_end (suc n) n n)
+pub opt_extern_block_tame : {n : ℕ} (has_extern : Bool) →
+    Tame (suc n) (opt_extern_block has_extern) (at_end (suc n) n n)
 unfolding opt_extern_block
-opt_extern_block_tame has_extern = by_if has_extern (following extern_item_list_tame (λ v. finishing (giving refl))) (giving refl)
+opt_extern_block_tame has_extern = by_if has_extern (following extern_item_list_tame (λ v. finishing (giving refl)))
+    (giving refl)
 
-pub opt_item_with_modifiers_tame : {n : ℕ} (has_extern : Bool) → Tame (suc n) (opt_item_with_modifiers has_extern) (at_end (suc n) n n)
+pub opt_item_with_modifiers_tame : {n : ℕ} (has_extern : Bool) →
+    Tame (suc n) (opt_item_with_modifiers has_extern) (at_end (suc n) n n)
 unfolding opt_item_with_modifiers
-opt_item_with_modifiers_tame {n = n} has_extern = testing {e = at_end (suc n) n n} (fn__ends refl) (testing opt_const_tame (testing opt_static_tame (testing {e = at_end (suc n) n n} (trait__ends refl) (testing {e = at_end (suc n) n n} (impl__ends refl) (testing {e = at_end (suc n) n n} (type_item_ends refl) (testing {e = at_end (suc n) n n} (opt_extern_block_tame _) (giving refl)))))))
+opt_item_with_modifiers_tame {n = n} has_extern = testing {e =
+    at_end (suc n) n n} (fn__ends refl) (testing opt_const_tame (testing opt_static_tame (testing {e =
+    at_end (suc n) n n} (trait__ends refl) (testing {e = at_end (suc n) n n} (impl__ends refl) (testing {e =
+    at_end (suc n) n n} (type_item_ends refl) (testing {e =
+    at_end (suc n) n n} (opt_extern_block_tame _) (giving refl)))))))
 
-pub refuse_tame : {n : ℕ} (has_visibility : Bool) (has_mods : Bool) → Tame (suc n) (refuse has_visibility has_mods) (at_end (suc n) n n)
+pub refuse_tame : {n : ℕ} (has_visibility : Bool) (has_mods : Bool) →
+    Tame (suc n) (refuse has_visibility has_mods) (at_end (suc n) n n)
 unfolding refuse
-refuse_tame has_visibility has_mods = by_if has_mods (reporting (finishing (giving refl))) (by_if has_visibility (reporting (finishing (giving refl))) (giving refl))
+refuse_tame has_visibility has_mods = by_if has_mods (reporting (finishing (giving refl))) (by_if has_visibility
+    (reporting (finishing (giving refl))) (giving refl))
 
-pub opt_modified_item_tame : {n : ℕ} (has_visibility : Bool) (is_in_extern : Bool) → Tame (suc n) (opt_modified_item has_visibility is_in_extern) (at_end (suc n) n n)
+pub opt_modified_item_tame : {n : ℕ} (has_visibility : Bool) (is_in_extern : Bool) →
+    Tame (suc n) (opt_modified_item has_visibility is_in_extern) (at_end (suc n) n n)
 unfolding opt_modified_item
-opt_modified_item_tame {n = n} has_visibility is_in_extern = following (modifiers_tame _) (λ v. following_each {e = at_end (suc n) n n} (opt_item_with_modifiers_tame _) (refuse_tame _ _) (giving refl) (giving refl) (λ x y. giving refl))
+opt_modified_item_tame {n = n} has_visibility is_in_extern = following (modifiers_tame _) (λ v. following_each {e =
+    at_end (suc n) n n} (opt_item_with_modifiers_tame _) (refuse_tame _ _) (giving refl) (giving refl)
+    (λ x y. giving refl))
 
 pub opt_item_tame : {n : ℕ} (is_in_extern : Bool) → Tame (suc n) (opt_item is_in_extern) (at_end (suc n) n n)
 unfolding opt_item
-opt_item_tame {n = n} is_in_extern = following (opt_visibility_tame _) (λ v. following_each {e = at_end (suc n) n n} opt_item_without_modifiers_tame (opt_modified_item_tame _ _) (giving refl) (giving refl) (λ x y. giving refl))
+opt_item_tame {n = n} is_in_extern = following (opt_visibility_tame _) (λ v. following_each {e =
+    at_end (suc n) n n} opt_item_without_modifiers_tame (opt_modified_item_tame _ _) (giving refl) (giving refl)
+    (λ x y. giving refl))
 
 pub after_item_tame : {n : ℕ} → Tame n after_item (λ v. n)
 unfolding after_item
@@ -148,17 +175,21 @@ unmatched_brace_tame = starting (reporting (taking (finishing staying)))
 
 pub missing_item_tame : {n : ℕ} (stop_on_r_curly : Bool) → Tame n (missing_item stop_on_r_curly) (λ v. n)
 unfolding missing_item
-missing_item_tame stop_on_r_curly = testing (error_block_tame _) (testing unmatched_brace_tame (testing (reporting staying) (testing (error_let_stmt_tame _) (skipping staying))))
+missing_item_tame stop_on_r_curly = testing (error_block_tame _) (testing unmatched_brace_tame (testing
+    (reporting staying) (testing (error_let_stmt_tame _) (skipping staying))))
 
 pub macro_or_error_tame : {n : ℕ} (stop_on_r_curly : Bool) → Tame (suc n) (macro_or_error stop_on_r_curly) (λ v. n)
 unfolding macro_or_error
 macro_or_error_tame stop_on_r_curly = testing path_item_tame (abandoning (missing_item_tame _))
 
-pub marked_item_tame : {n : ℕ} (stop_on_r_curly : Bool) (is_in_extern : Bool) → Tame (suc n) (marked_item stop_on_r_curly is_in_extern) (λ v. n)
+pub marked_item_tame : {n : ℕ} (stop_on_r_curly : Bool) (is_in_extern : Bool) →
+    Tame (suc n) (marked_item stop_on_r_curly is_in_extern) (λ v. n)
 unfolding marked_item
-marked_item_tame stop_on_r_curly is_in_extern = following_each (opt_item_tame _) (macro_or_error_tame _) after_item_tame after_item_tame (λ x y. after_item_tame)
+marked_item_tame stop_on_r_curly is_in_extern =
+    following_each (opt_item_tame _) (macro_or_error_tame _) after_item_tame after_item_tame (λ x y. after_item_tame)
 
-pub item_or_macro_tame : {n : ℕ} (stop_on_r_curly : Bool) (is_in_extern : Bool) → Tame n (item_or_macro stop_on_r_curly is_in_extern) (λ v. n)
+pub item_or_macro_tame : {n : ℕ} (stop_on_r_curly : Bool) (is_in_extern : Bool) →
+    Tame n (item_or_macro stop_on_r_curly is_in_extern) (λ v. n)
 unfolding item_or_macro
 item_or_macro_tame stop_on_r_curly is_in_extern = starting (following outer_attrs_tame (λ v. marked_item_tame _ _))
 

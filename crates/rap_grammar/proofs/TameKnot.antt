@@ -47,7 +47,8 @@ tame_knot condition n h = cfg_predicate_tame
 tame_knot bracketed n h = bracketed_tokens_tame
 
 -- a list of items adds to the forest that it began with
-pub items_add : (stop : Bool) {p q : Spot} {v : Outcome} → Runs script_of (items stop) p q v → (x : Forest) × (q.forest ≡ p.forest ⧺ x)
+pub items_add : (stop : Bool) {p q : Spot} {v : Outcome} → Runs script_of (items stop) p q v →
+    (x : Forest) × (q.forest ≡ p.forest ⧺ x)
 items_add stop {p = p} r =
     let k = keeps tame_knot tame_items {n = 0} p.forest p.below r (items_tame stop) (none, refl, refl) in
     (k.0, k.1)

@@ -9,7 +9,8 @@ use Rattle.rap_grammar.proofs.TameVisibility.{opt_visibility_inner_tame}
 
 pub impl_restriction_tame : {n : ℕ} → Tame n impl_restriction (λ v. n)
 unfolding impl_restriction
-impl_restriction_tame = starting (taking (following (opt_visibility_inner_tame _) (λ v. by_some v (finishing staying) (reporting (finishing staying)))))
+impl_restriction_tame = starting (taking (following (opt_visibility_inner_tame _) (λ v. by_some v (finishing staying)
+    (reporting (finishing staying)))))
 
 pub opt_impl_restriction_tame : {n : ℕ} → Tame n opt_impl_restriction (λ v. n)
 unfolding opt_impl_restriction
@@ -25,7 +26,8 @@ modifier_as_tame h kind = testing (bearing staying) staying
 
 pub qualifiers_tame : {n : ℕ} → Tame n qualifiers (λ v. n)
 unfolding qualifiers
-qualifiers_tame = following (modifier_tame _ _) (λ a. following (modifier_tame _ _) (λ b. following (modifier_tame _ _) (λ c. staying)))
+qualifiers_tame = following (modifier_tame _ _) (λ a. following (modifier_tame _ _) (λ b. following (modifier_tame _ _)
+    (λ c. staying)))
 
 pub safety_tame : {n : ℕ} (is_in_extern : Bool) → Tame n (safety is_in_extern) (λ v. n)
 unfolding safety
@@ -37,7 +39,8 @@ opt_abi_tame = testing abi_tame staying
 
 pub opt_default_tame : {n : ℕ} → Tame n opt_default (λ v. n)
 unfolding opt_default
-opt_default_tame = testing (bearing staying) (testing (bearing (taking staying)) (testing (bearing (taking (eating UNSAFE_KW staying))) staying))
+opt_default_tame = testing (bearing staying) (testing (bearing (taking staying)) (testing (bearing (taking
+    (eating UNSAFE_KW staying))) staying))
 
 pub auto_or_default_tame : {n : ℕ} → Tame n auto_or_default (λ v. n)
 unfolding auto_or_default
@@ -45,4 +48,5 @@ auto_or_default_tame = following (modifier_as_tame _ _) (λ a. following opt_def
 
 pub modifiers_tame : {n : ℕ} (is_in_extern : Bool) → Tame n (modifiers is_in_extern) (λ v. n)
 unfolding modifiers
-modifiers_tame is_in_extern = following opt_impl_restriction_tame (λ a. following qualifiers_tame (λ b. following (safety_tame _) (λ c. following opt_abi_tame (λ d. following auto_or_default_tame (λ e. staying)))))
+modifiers_tame is_in_extern = following opt_impl_restriction_tame (λ a. following qualifiers_tame (λ b. following
+    (safety_tame _) (λ c. following opt_abi_tame (λ d. following auto_or_default_tame (λ e. staying)))))

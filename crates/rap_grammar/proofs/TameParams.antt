@@ -61,14 +61,16 @@ after_param_tame = testing (taking staying) (testing (reporting staying) staying
 
 pub marked_param_tame : {n : ℕ} (f : Flavor) → Tame (suc n) (marked_param f) (λ v. n)
 unfolding marked_param
-marked_param_tame f = testing (following (param_tame f) (λ v. finishing after_param_tame)) (reporting (abandoning (testing (taking staying) staying)))
+marked_param_tame f = testing (following (param_tame f) (λ v. finishing after_param_tame)) (reporting (abandoning
+    (testing (taking staying) staying)))
 
 pub attributed_param_tame : {n : ℕ} (f : Flavor) → Tame n (attributed_param f) (λ v. n)
 unfolding attributed_param
 attributed_param_tame f = starting (following outer_attrs_tame (λ v. marked_param_tame _))
 
 pub param_turn_tame : {n : ℕ} (f : Flavor) (a : Bool) (b : Bool) → Tame n (param_turn f a b) (λ v. n)
-param_turn_tame f a b = testing staying (testing staying (following (attributed_param_tame _) (λ v. by_some v staying staying)))
+param_turn_tame f a b = testing staying (testing staying (following (attributed_param_tame _)
+    (λ v. by_some v staying staying)))
 
 pub params_tame : {n : ℕ} (f : Flavor) → Tame n (params f) (λ v. n)
 unfolding params
@@ -80,7 +82,8 @@ after_self_tame = testing staying (expecting COMMA staying)
 
 pub first_param_tame : {n : ℕ} → Tame n first_param (λ v. n)
 unfolding first_param
-first_param_tame = starting (following outer_attrs_tame (λ v. following opt_self_param_tame (λ w. by_some w (finishing after_self_tame) (testing (abandoning staying) (testing (abandoning staying) (marked_param_tame _))))))
+first_param_tame = starting (following outer_attrs_tame (λ v. following opt_self_param_tame (λ w. by_some w
+    (finishing after_self_tame) (testing (abandoning staying) (testing (abandoning staying) (marked_param_tame _))))))
 
 pub fn_def_params_tame : {n : ℕ} → Tame n fn_def_params (λ v. n)
 unfolding fn_def_params

@@ -48,7 +48,8 @@ unfolding not_null_pat
 not_null_pat_tame = starting (taking (following pattern_single_tame (λ v. finishing staying)))
 
 pub pat_turn_tame : {n : ℕ} (ket : ℕ) (a : Bool) (b : Bool) → Tame (suc n) (pat_turn ket a b) (λ v. suc n)
-pat_turn_tame ket a b = testing staying (testing staying (following pattern_tame (λ v. testing (taking staying) (testing (looking (λ rs. reporting staying)) staying))))
+pat_turn_tame ket a b = testing staying (testing staying (following pattern_tame (λ v. testing (taking staying)
+    (testing (looking (λ rs. reporting staying)) staying))))
 
 pub pat_list_tame : {n : ℕ} (ket : ℕ) → Tame (suc n) (pat_list ket) (λ v. suc n)
 unfolding pat_list
@@ -63,7 +64,8 @@ unfolding leading_comma
 leading_comma_tame = testing (taking (reporting staying)) staying
 
 pub tuple_pat_turn_tame : {n : ℕ} (tuple : Bool) (seen : Bool) → Tame (suc n) (tuple_pat_turn tuple seen) (λ v. suc n)
-tuple_pat_turn_tame tuple seen = testing staying (testing staying (testing (looking (λ rs. following pattern_tame (λ v. testing staying (expecting COMMA staying)))) (reporting staying)))
+tuple_pat_turn_tame tuple seen = testing staying (testing staying (testing (looking (λ rs. following pattern_tame
+    (λ v. testing staying (expecting COMMA staying)))) (reporting staying)))
 
 pub tuple_patterns_tame : {n : ℕ} (comma : Bool) → Tame (suc n) (tuple_patterns comma) (λ v. suc n)
 unfolding tuple_patterns
@@ -71,18 +73,25 @@ tuple_patterns_tame comma = looping (λ c d. tuple_pat_turn_tame c d) (λ c d. r
 
 pub tuple_pat_tame : {n : ℕ} → Tame n tuple_pat (λ v. n)
 unfolding tuple_pat
-tuple_pat_tame = starting (taking (following leading_comma_tame (λ v. following (tuple_patterns_tame _) (λ w. expecting R_PAREN (finishing staying)))))
+tuple_pat_tame = starting (taking (following leading_comma_tame (λ v. following (tuple_patterns_tame _)
+    (λ w. expecting R_PAREN (finishing staying)))))
 
 pub record_pat_field_tame : {n : ℕ} → Tame (suc n) record_pat_field (λ v. suc n)
 unfolding record_pat_field
-record_pat_field_tame = testing (following name_ref_or_index_tame (λ v. taking (following pattern_tame (λ w. staying)))) (testing (following name_ref_or_index_tame (λ v. skipping (following pattern_tame (λ w. staying)))) (testing (following box_pat_tame (λ v. staying)) (testing (following (ident_pat_tame _) (λ v. staying)) (skipping staying))))
+record_pat_field_tame = testing (following name_ref_or_index_tame (λ v. taking (following pattern_tame
+    (λ w. staying)))) (testing (following name_ref_or_index_tame (λ v. skipping (following pattern_tame
+    (λ w. staying)))) (testing (following box_pat_tame (λ v. staying)) (testing (following (ident_pat_tame _)
+    (λ v. staying)) (skipping staying))))
 
 pub record_pat_element_tame : {n : ℕ} → Tame n record_pat_element (λ v. n)
 unfolding record_pat_element
-record_pat_element_tame = starting (following outer_attrs_tame (λ v. testing (taking (finishing staying)) (testing (following (error_block_tame _) (λ w. abandoning staying)) (following record_pat_field_tame (λ w. finishing staying)))))
+record_pat_element_tame = starting (following outer_attrs_tame (λ v. testing (taking (finishing staying)) (testing
+    (following (error_block_tame _) (λ w. abandoning staying)) (following record_pat_field_tame
+    (λ w. finishing staying)))))
 
 pub record_pat_turn_tame : {n : ℕ} (a : Bool) (b : Bool) → Tame n (record_pat_turn a b) (λ v. n)
-record_pat_turn_tame a b = testing staying (testing staying (following record_pat_element_tame (λ v. testing staying (expecting COMMA staying))))
+record_pat_turn_tame a b = testing staying (testing staying (following record_pat_element_tame (λ v. testing staying
+    (expecting COMMA staying))))
 
 pub record_pat_fields_tame : {n : ℕ} → Tame n record_pat_fields (λ v. n)
 unfolding record_pat_fields
@@ -90,7 +99,8 @@ record_pat_fields_tame = looping (λ c d. record_pat_turn_tame c d) (λ c d. ref
 
 pub record_pat_field_list_tame : {n : ℕ} → Tame n record_pat_field_list (λ v. n)
 unfolding record_pat_field_list
-record_pat_field_list_tame = starting (taking (following record_pat_fields_tame (λ v. expecting R_CURLY (finishing staying))))
+record_pat_field_list_tame = starting (taking (following record_pat_fields_tame (λ v. expecting R_CURLY
+    (finishing staying))))
 
 pub tuple_pat_fields_tame : {n : ℕ} → Tame (suc n) tuple_pat_fields (λ v. suc n)
 unfolding tuple_pat_fields
@@ -98,11 +108,15 @@ tuple_pat_fields_tame = taking (following (pat_list_tame _) (λ v. expecting R_P
 
 pub path_or_macro_pat_tame : {n : ℕ} → Tame (suc n) path_or_macro_pat (λ v. suc n)
 unfolding path_or_macro_pat
-path_or_macro_pat_tame = starting (following expr_path_tame (λ v. testing (following tuple_pat_fields_tame (λ w. finishing staying)) (testing (following record_pat_field_list_tame (λ w. finishing staying)) (testing (following macro_call_after_excl_tame (λ w. finishing (preceding (finishing staying)))) (finishing staying)))))
+path_or_macro_pat_tame = starting (following expr_path_tame (λ v. testing (following tuple_pat_fields_tame
+    (λ w. finishing staying)) (testing (following record_pat_field_list_tame (λ w. finishing staying)) (testing
+    (following macro_call_after_excl_tame (λ w. finishing (preceding (finishing staying)))) (finishing staying)))))
 
 pub builtin_pat_tame : {n : ℕ} → Tame n builtin_pat (λ v. n)
 unfolding builtin_pat
-builtin_pat_tame = starting (bearing (taking (testing (bearing (expecting L_PAREN (following pattern_tame (λ v. expecting R_PAREN (finishing staying))))) (testing (bearing (expecting L_PAREN (following cfg_predicate_tame (λ v. eating COMMA (expecting R_PAREN (finishing staying)))))) (reporting (finishing staying))))))
+builtin_pat_tame = starting (bearing (taking (testing (bearing (expecting L_PAREN (following pattern_tame
+    (λ v. expecting R_PAREN (finishing staying))))) (testing (bearing (expecting L_PAREN (following cfg_predicate_tame
+    (λ v. eating COMMA (expecting R_PAREN (finishing staying)))))) (reporting (finishing staying))))))
 
 pub missing_pat_tame : {n : ℕ} (in_arm : Bool) → Tame n (missing_pat in_arm) (λ v. n)
 unfolding missing_pat
@@ -110,19 +124,23 @@ missing_pat_tame in_arm = testing (reporting staying) (skipping staying)
 
 pub symbol_pat_tame : {n : ℕ} (in_arm : Bool) → Tame n (symbol_pat in_arm) (λ v. n)
 unfolding symbol_pat
-symbol_pat_tame in_arm = testing literal_pat_tame (testing wildcard_pat_tame (testing ref_pat_tame (testing tuple_pat_tame (testing slice_pat_tame (testing not_null_pat_tame (missing_pat_tame _))))))
+symbol_pat_tame in_arm = testing literal_pat_tame (testing wildcard_pat_tame (testing ref_pat_tame
+    (testing tuple_pat_tame (testing slice_pat_tame (testing not_null_pat_tame (missing_pat_tame _))))))
 
 pub atom_pat_tame : {n : ℕ} (in_arm : Bool) → Tame (suc n) (atom_pat in_arm) (λ v. suc n)
 unfolding atom_pat
-atom_pat_tame in_arm = testing builtin_pat_tame (testing box_pat_tame (testing (ident_pat_tame _) (testing const_block_pat_tame (testing (ident_pat_tame _) (testing path_or_macro_pat_tame (symbol_pat_tame _))))))
+atom_pat_tame in_arm = testing builtin_pat_tame (testing box_pat_tame (testing (ident_pat_tame _)
+    (testing const_block_pat_tame (testing (ident_pat_tame _) (testing path_or_macro_pat_tame (symbol_pat_tame _))))))
 
 pub range_from_pat_tame : {n : ℕ} (in_arm : Bool) (op : ℕ) → Tame (suc n) (range_from_pat in_arm op) (λ v. suc n)
 unfolding range_from_pat
-range_from_pat_tame in_arm op = preceding (taking (testing (finishing staying) (following (atom_pat_tame _) (λ v. finishing staying))))
+range_from_pat_tame in_arm op = preceding (taking (testing (finishing staying) (following (atom_pat_tame _)
+    (λ v. finishing staying))))
 
 pub range_op_tame : {n : ℕ} (in_arm : Bool) → Tame (suc n) (range_op in_arm) (λ v. suc n)
 unfolding range_op
-range_op_tame in_arm = testing (range_from_pat_tame _ _) (testing (range_from_pat_tame _ _) (testing (range_from_pat_tame _ _) staying))
+range_op_tame in_arm = testing (range_from_pat_tame _ _) (testing (range_from_pat_tame _ _) (testing
+    (range_from_pat_tame _ _) staying))
 
 pub range_to_pat_tame : {n : ℕ} (in_arm : Bool) → Tame n (range_to_pat in_arm) (λ v. n)
 unfolding range_to_pat
@@ -130,13 +148,16 @@ range_to_pat_tame in_arm = starting (taking (following (atom_pat_tame _) (λ v. 
 
 pub rest_pat_tame : {n : ℕ} (in_arm : Bool) → Tame n (rest_pat in_arm) (λ v. n)
 unfolding rest_pat
-rest_pat_tame in_arm = starting (taking (testing (following (atom_pat_tame _) (λ v. finishing staying)) (finishing staying)))
+rest_pat_tame in_arm = starting (taking (testing (following (atom_pat_tame _) (λ v. finishing staying))
+    (finishing staying)))
 
 pub pattern_single_r_tame : {n : ℕ} (in_arm : Bool) → Tame (suc n) (pattern_single_r in_arm) (λ v. suc n)
 unfolding pattern_single_r
-pattern_single_r_tame in_arm = testing (range_to_pat_tame _) (testing (rest_pat_tame _) (following (atom_pat_tame _) (λ v. by_some v (range_op_tame _) staying)))
+pattern_single_r_tame in_arm = testing (range_to_pat_tame _) (testing (rest_pat_tame _) (following (atom_pat_tame _)
+    (λ v. by_some v (range_op_tame _) staying)))
 
-pub alternative_turn_tame : {n : ℕ} (in_arm : Bool) (a : Bool) (b : Bool) → Tame (suc n) (alternative_turn in_arm a b) (λ v. suc n)
+pub alternative_turn_tame : {n : ℕ} (in_arm : Bool) (a : Bool) (b : Bool) →
+    Tame (suc n) (alternative_turn in_arm a b) (λ v. suc n)
 alternative_turn_tame in_arm a b = testing (taking (following (pattern_single_r_tame _) (λ v. staying))) staying
 
 pub alternatives_tame : {n : ℕ} (in_arm : Bool) → Tame (suc n) (alternatives in_arm) (λ v. suc n)
@@ -145,4 +166,6 @@ alternatives_tame in_arm = looping (λ c d. alternative_turn_tame in_arm c d) (�
 
 pub pattern_r_tame : {n : ℕ} (in_arm : Bool) → Tame n (pattern_r in_arm) (λ v. n)
 unfolding pattern_r
-pattern_r_tame in_arm = starting (testing (taking (following (pattern_single_r_tame _) (λ v. following (alternatives_tame _) (λ w. finishing staying)))) (following (pattern_single_r_tame _) (λ v. testing (following (alternatives_tame _) (λ w. finishing staying)) (abandoning staying))))
+pattern_r_tame in_arm = starting (testing (taking (following (pattern_single_r_tame _) (λ v. following
+    (alternatives_tame _) (λ w. finishing staying)))) (following (pattern_single_r_tame _) (λ v. testing (following
+    (alternatives_tame _) (λ w. finishing staying)) (abandoning staying))))

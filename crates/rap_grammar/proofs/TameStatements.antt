@@ -18,17 +18,22 @@ expr_semicolon_tame semicolon.Required false = expecting SEMICOLON staying
 expr_semicolon_tame semicolon.Optional is_block = eating SEMICOLON staying
 expr_semicolon_tame semicolon.Forbidden is_block = staying
 
-pub expr_stmt_end_tame : {n : ℕ} (semi : Semicolon) (is_block : Bool) → Tame (suc n) (expr_stmt_end semi is_block) (λ v. suc n)
+pub expr_stmt_end_tame : {n : ℕ} (semi : Semicolon) (is_block : Bool) →
+    Tame (suc n) (expr_stmt_end semi is_block) (λ v. suc n)
 unfolding expr_stmt_end
-expr_stmt_end_tame semi is_block = testing staying (preceding (following (expr_semicolon_tame _ _) (λ v. finishing staying)))
+expr_stmt_end_tame semi is_block = testing staying (preceding (following (expr_semicolon_tame _ _)
+    (λ v. finishing staying)))
 
 pub expr_as_stmt_tame : {n : ℕ} (semi : Semicolon) → Tame (suc (suc n)) (expr_as_stmt semi) (λ v. suc n)
 unfolding expr_as_stmt
-expr_as_stmt_tame semi = testing (following (expr_bp_true_tame _ _) (λ v. by_some v (expr_stmt_end_tame _ _) staying)) (skipping (abandoning staying))
+expr_as_stmt_tame semi = testing (following (expr_bp_true_tame _ _) (λ v. by_some v (expr_stmt_end_tame _ _) staying))
+    (skipping (abandoning staying))
 
 pub stmt_tame : {n : ℕ} (semi : Semicolon) → Tame (suc n) (stmt semi) (λ v. suc n)
 unfolding stmt
-stmt_tame semi = testing (taking staying) (starting (following outer_attrs_tame (λ v. testing (following (let_stmt_tame _) (λ w. finishing staying)) (following_each (opt_item_tame _) (expr_as_stmt_tame _) staying staying (λ x y. staying)))))
+stmt_tame semi = testing (taking staying) (starting (following outer_attrs_tame (λ v. testing (following
+    (let_stmt_tame _) (λ w. finishing staying)) (following_each (opt_item_tame _) (expr_as_stmt_tame _) staying staying
+    (λ x y. staying)))))
 
 pub macro_turn_tame : {n : ℕ} (a : Bool) (b : Bool) → Tame (suc n) (macro_turn a b) (λ v. suc n)
 macro_turn_tame a b = testing staying (obeying refl (λ v. staying))

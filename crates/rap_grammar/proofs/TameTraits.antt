@@ -22,7 +22,8 @@ assoc_items_tame = looping (λ c d. assoc_turn_tame c d) (λ c d. refl) (λ v h.
 
 pub assoc_item_list_tame : {n : ℕ} → Tame n assoc_item_list (λ v. n)
 unfolding assoc_item_list
-assoc_item_list_tame = starting (taking (following inner_attrs_tame (λ v. following assoc_items_tame (λ w. expecting R_CURLY (finishing staying)))))
+assoc_item_list_tame = starting (taking (following inner_attrs_tame (λ v. following assoc_items_tame
+    (λ w. expecting R_CURLY (finishing staying)))))
 
 pub expect_assoc_item_list_tame : {n : ℕ} → Tame n expect_assoc_item_list (λ v. n)
 unfolding expect_assoc_item_list
@@ -30,7 +31,8 @@ expect_assoc_item_list_tame = testing assoc_item_list_tame (reporting staying)
 
 pub trait_alias_tame : {n : ℕ} → Tame (suc n) trait_alias (λ v. suc n)
 unfolding trait_alias
-trait_alias_tame = following bounds_without_colon_tame (λ v. following opt_where_clause_tame (λ w. expecting SEMICOLON staying))
+trait_alias_tame = following bounds_without_colon_tame (λ v. following opt_where_clause_tame
+    (λ w. expecting SEMICOLON staying))
 
 pub opt_bounds_tame : {n : ℕ} → Tame (suc n) opt_bounds (λ v. suc n)
 unfolding opt_bounds
@@ -38,15 +40,18 @@ opt_bounds_tame = testing bounds_tame staying
 
 pub trait_body_tame : {n : ℕ} → Tame (suc n) trait_body (λ v. suc n)
 unfolding trait_body
-trait_body_tame = testing (taking trait_alias_tame) (following opt_bounds_tame (λ v. following opt_where_clause_tame (λ w. expect_assoc_item_list_tame)))
+trait_body_tame = testing (taking trait_alias_tame) (following opt_bounds_tame (λ v. following opt_where_clause_tame
+    (λ w. expect_assoc_item_list_tame)))
 
 pub trait__tame : {n : ℕ} → Tame (suc n) trait_ (λ v. n)
 unfolding trait_
-trait__tame = taking (following (name_r_tame _) (λ v. following opt_generic_param_list_tame (λ w. following trait_body_tame (λ x. finishing staying))))
+trait__tame = taking (following (name_r_tame _) (λ v. following opt_generic_param_list_tame
+    (λ w. following trait_body_tame (λ x. finishing staying))))
 
 pub trait__ends : {n : ℕ} {e : Outcome → ℕ} → n ≡ e something → Tame (suc n) trait_ e
 unfolding trait_
-trait__ends i = taking (following (name_r_tame _) (λ v. following opt_generic_param_list_tame (λ w. following trait_body_tame (λ x. finishing (giving i)))))
+trait__ends i = taking (following (name_r_tame _) (λ v. following opt_generic_param_list_tame
+    (λ w. following trait_body_tame (λ x. finishing (giving i)))))
 
 pub impl_params_tame : {n : ℕ} → Tame (suc n) impl_params (λ v. suc n)
 unfolding impl_params
@@ -66,8 +71,12 @@ impl_types_tame = following impl_type_tame (λ v. testing (taking impl_type_tame
 
 pub impl__tame : {n : ℕ} → Tame (suc n) impl_ (λ v. n)
 unfolding impl_
-impl__tame = taking (following impl_params_tame (λ v. eating CONST_KW (following opt_negative_tame (λ w. following impl_types_tame (λ x. following opt_where_clause_tame (λ y. following expect_assoc_item_list_tame (λ z. finishing staying)))))))
+impl__tame = taking (following impl_params_tame (λ v. eating CONST_KW (following opt_negative_tame
+    (λ w. following impl_types_tame (λ x. following opt_where_clause_tame (λ y. following expect_assoc_item_list_tame
+    (λ z. finishing staying)))))))
 
 pub impl__ends : {n : ℕ} {e : Outcome → ℕ} → n ≡ e something → Tame (suc n) impl_ e
 unfolding impl_
-impl__ends i = taking (following impl_params_tame (λ v. eating CONST_KW (following opt_negative_tame (λ w. following impl_types_tame (λ x. following opt_where_clause_tame (λ y. following expect_assoc_item_list_tame (λ z. finishing (giving i))))))))
+impl__ends i = taking (following impl_params_tame (λ v. eating CONST_KW (following opt_negative_tame
+    (λ w. following impl_types_tame (λ x. following opt_where_clause_tame (λ y. following expect_assoc_item_list_tame
+    (λ z. finishing (giving i))))))))

@@ -11,7 +11,8 @@ ascription_tame = taking (testing (reporting staying) (following type__tame (λ 
 
 pub for_binder_tame : {n : ℕ} → Tame n for_binder (λ v. n)
 unfolding for_binder
-for_binder_tame = starting (taking (testing (following for_parameters_tame (λ v. finishing staying)) (reporting (finishing staying))))
+for_binder_tame = starting (taking (testing (following for_parameters_tame (λ v. finishing staying)) (reporting
+    (finishing staying))))
 
 pub path_type_tame : {n : ℕ} → Tame n path_type (λ v. n)
 unfolding path_type

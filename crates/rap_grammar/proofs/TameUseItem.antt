@@ -30,7 +30,9 @@ after_use_path_tame = testing opt_rename_tame (testing group_behind_tame staying
 
 pub use_tree_tame : {n : ℕ} → Tame n use_tree (λ v. n)
 unfolding use_tree
-use_tree_tame = starting (testing (following group_tame (λ v. finishing staying)) (testing (taking (following group_tame (λ v. finishing staying))) (following use_path_tame (λ v. following after_use_path_tame (λ w. finishing staying)))))
+use_tree_tame = starting (testing (following group_tame (λ v. finishing staying)) (testing (taking
+    (following group_tame (λ v. finishing staying))) (following use_path_tame (λ v. following after_use_path_tame
+    (λ w. finishing staying)))))
 
 pub expect_use_tree_tame : {n : ℕ} → Tame n expect_use_tree (λ v. n)
 unfolding expect_use_tree

@@ -19,4 +19,5 @@ opt_visibility_inner_tame in_tuple_field = testing restriction_tame (testing in_
 
 pub opt_visibility_tame : {n : ℕ} (in_tuple_field : Bool) → Tame n (opt_visibility in_tuple_field) (λ v. n)
 unfolding opt_visibility
-opt_visibility_tame in_tuple_field = testing (starting (taking (following (opt_visibility_inner_tame _) (λ v. finishing staying)))) staying
+opt_visibility_tame in_tuple_field = testing (starting (taking (following (opt_visibility_inner_tame _)
+    (λ v. finishing staying)))) staying

@@ -22,4 +22,5 @@ pub data Mixed : List Record → Forest → Type 0 where
 -- the same before these tokens, where it ends with such a token, or none are left
 pub data IsFront : List Record → List Record → Forest → Type 0 where
   whole : {ks : List Record} {t : Forest} → Mixed ks t → IsFront ks [] t
-  before : {ks rest : List Record} {r : Record} {t : Forest} → Mixed ks t → IsStray r → IsFront (ks ++ r ∷ []) rest (t ⧺ stray_tree r)
+  before : {ks rest : List Record} {r : Record} {t : Forest} → Mixed ks t → IsStray r →
+      IsFront (ks ++ r ∷ []) rest (t ⧺ stray_tree r)
