@@ -1,8 +1,10 @@
 //! How a program reports a fault.
 ghost use Rattle.std.specs.Prelude.{◌≡◌, IfOk};
 ghost use Rattle.std.specs.Io.KnownBytes.{Appends};
+ghost use Rattle.std.specs.Process.{exit_status};
 
 use std::io;
+use std::process::ExitCode;
 
 /// The status of a fault.
 pub const FAULT: u8 = 2;
@@ -14,4 +16,11 @@ pub fn report<V: io::Write>(err: &mut V, message: &str) -> io::Result<u8>
 {
     err.write_all(message.as_bytes())?;
     Ok(FAULT)
+}
+
+/// Reports a fault, and gives its status.
+pub fn fail<V: io::Write>(err: &mut V, message: &str) -> ExitCode
+    ensures { exit_status result ≡ 2 }
+{
+    ExitCode::from(report(err, message).unwrap_or(FAULT))
 }

@@ -5,7 +5,7 @@ ghost use Rattle.rast_common.specs.Quote.{hex_digit, hex_digits, escaped, quoted
 use std::alloc::AllocError;
 
 /// A hexadecimal digit, in lower case.
-fn hex_digit(n: u8) -> char
+pub fn hex_digit(n: u8) -> char
     requires { n < 16 }
     ensures { result ≡ hex_digit n }
 {

@@ -2,28 +2,18 @@
 //! token that it is, or the parts of a script.
 #![tactic(auto)]
 
-ghost use Rattle.std.specs.Prelude.{◌≡◌};
-ghost use Rattle.std.specs.Process.{exit_status};
-
 mod listing;
 mod run;
 
 use ra_ap_parser::Edition;
-use rast_common::fault::{FAULT, report};
+use rast_common::fault::{FAULT, fail};
 use run::{Listing, run};
 use std::process::ExitCode;
-use std::{env, fs, io};
+use std::{env, fs};
 
 const USAGE: &str = "usage: rast_lex EDITION FILE [input|single|script]\n";
 
 const UNREADABLE: &str = "rast_lex: cannot read the file\n";
-
-/// Reports a fault, and gives its status.
-fn fail<V: io::Write>(err: &mut V, message: &str) -> ExitCode
-    ensures { exit_status result ≡ 2 }
-{
-    ExitCode::from(report(err, message).unwrap_or(FAULT))
-}
 
 fn main(rt: HostRuntime) -> ExitCode {
     let mut err = rt.stderr();

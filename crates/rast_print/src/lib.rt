@@ -4,3 +4,4 @@
 pub mod entry;
 pub mod print_text;
 pub mod printer;
+pub mod request;

@@ -2,25 +2,15 @@
 //! which this one prints something else.
 #![tactic(auto)]
 
-ghost use Rattle.std.specs.Prelude.{◌≡◌};
-ghost use Rattle.std.specs.Process.{exit_status};
-
 mod hash;
 mod replay;
 mod row;
 mod unquote;
 
-use rast_common::fault::{FAULT, report};
+use rast_common::fault::{FAULT, fail};
 use replay::run;
 use std::process::ExitCode;
-use std::{env, fs, io};
-
-/// Reports a fault, and gives its status.
-fn fail<V: io::Write>(err: &mut V, message: &str) -> ExitCode
-    ensures { exit_status result ≡ 2 }
-{
-    ExitCode::from(report(err, message).unwrap_or(FAULT))
-}
+use std::{env, fs};
 
 fn main(rt: HostRuntime) -> ExitCode {
     let mut err = rt.stderr();

@@ -1,18 +1,15 @@
 //! `rast_speed EDITION ENTRY FILE` prints how long each part of a parse of the file takes.
 #![tactic(auto)]
 
-ghost use Rattle.std.specs.Prelude.{◌≡◌};
-ghost use Rattle.std.specs.Process.{exit_status};
-
 mod times;
 
 use ra_ap_parser::{Edition, LexFault, ParseFault, TopEntryPoint};
-use rast_common::fault::{FAULT, report};
-use rast_print::entry::Entry;
+use rast_common::fault::fail;
+use rast_print::request::read_request;
 use std::alloc::{AllocError, Global};
 use std::process::ExitCode;
 use std::rt::Clock;
-use std::{env, fs, io};
+use std::{fs, io};
 use times::{Failure, Times, measure};
 
 /// How often each part is measured; the shortest time counts.
@@ -23,13 +20,6 @@ const USAGE: &str = "usage: rast_speed EDITION ENTRY FILE\n";
 const UNREADABLE: &str = "rast_speed: cannot read the file\n";
 
 const NO_MEMORY: &str = "rast_speed: no memory\n";
-
-/// Reports a fault, and gives its status.
-fn fail<V: io::Write>(err: &mut V, message: &str) -> ExitCode
-    ensures { exit_status result ≡ 2 }
-{
-    ExitCode::from(report(err, message).unwrap_or(FAULT))
-}
 
 /// What is reported where nothing was measured.
 fn failure_message(failure: &Failure) -> &'static str {
@@ -73,27 +63,14 @@ fn write<W: io::Write>(out: &mut W, lines: &str) -> io::Result<()> {
 
 fn main(rt: HostRuntime) -> ExitCode {
     let mut err = rt.stderr();
-    let Ok(mut args) = env::args(&rt) else {
+    let Some(request) = read_request(&rt) else {
         return fail(&mut err, USAGE);
     };
-    let _program = args.next();
-    let (Some(edition), Some(entry), Some(file)) = (args.next(), args.next(), args.next()) else {
-        return fail(&mut err, USAGE);
-    };
-    if args.next().is_some() {
-        return fail(&mut err, USAGE);
-    }
-    let Ok(edition) = edition.as_str().parse::<Edition>() else {
-        return fail(&mut err, USAGE);
-    };
-    let Ok(Entry(entry)) = entry.as_str().parse::<Entry>() else {
-        return fail(&mut err, USAGE);
-    };
-    let Ok(text) = fs::read_to_string(&rt, file.as_str()) else {
+    let Ok(text) = fs::read_to_string(&rt, request.file.as_str()) else {
         return fail(&mut err, UNREADABLE);
     };
     let alloc = rt.alloc();
-    let times = match measure_rounds(&rt, alloc, edition, entry, text.as_str()) {
+    let times = match measure_rounds(&rt, alloc, request.edition, request.entry, text.as_str()) {
         Ok(times) => times,
         Err(failure) => return fail(&mut err, failure_message(&failure)),
     };

@@ -1,0 +1,4 @@
+pub mod Appended
+pub mod Inert
+pub mod RowsAlong
+pub mod Shown

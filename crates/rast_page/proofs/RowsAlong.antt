@@ -1,0 +1,45 @@
+-- What the sink has written along the steps of a tree.
+use Rattle.std.proofs.Common.{◌≡◌, ℕ, List, [], ◌∷◌, ◌++◌, ap, sym, ◌∙◌, Bool, string_bytes, append_assoc, append-nil}
+use Rattle.rap_base.specs.declared.edition.Edition.{Edition}
+use Rattle.ra_ap_parser.specs.LexedStr.{Lexed}
+use Rattle.ra_ap_parser.specs.StrForest.{str_flat}
+use Rattle.ra_ap_parser.specs.StrSink.{Takes}
+use Rattle.ra_ap_parser.specs.StrStep.{StrStepValue}
+use Rattle.ra_ap_parser.specs.Trivia.{with_trivia}
+use Rattle.ra_ap_parser.specs.Headline.{Headline}
+use Rattle.rast_page.specs.Ran.{AreRows}
+use Rattle.rast_page.specs.Rows.{step_row, step_rows, step_message_row, message_rows, lexer_message_rows}
+use Rattle.rast_page.specs.Takes.{Records}
+use Rattle.rast_page.specs.declared.rows.Rows.{Rows}
+
+pub steps_along : (steps : List StrStepValue) (s t : Rows) → Takes Records s steps t → string_bytes t.steps ≡ string_bytes s.steps ++ step_rows steps
+steps_along [] s t h = ap (λ (r : Rows). string_bytes r.steps) (sym h) ∙ sym (append-nil (string_bytes s.steps))
+steps_along (x ∷ xs) s t h =
+    let m = h.0 in
+    steps_along xs m t h.2
+    ∙ (ap (λ l. l ++ step_rows xs) h.1.steps
+    ∙ append_assoc (string_bytes s.steps) (step_row x) (step_rows xs))
+
+pub messages_along : (steps : List StrStepValue) (s t : Rows) → Takes Records s steps t → string_bytes t.messages ≡ string_bytes s.messages ++ message_rows steps
+messages_along [] s t h = ap (λ (r : Rows). string_bytes r.messages) (sym h) ∙ sym (append-nil (string_bytes s.messages))
+messages_along (x ∷ xs) s t h =
+    let m = h.0 in
+    messages_along xs m t h.2
+    ∙ (ap (λ l. l ++ message_rows xs) h.1.messages
+    ∙ append_assoc (string_bytes s.messages) (step_message_row x) (message_rows xs))
+
+-- the rows of a tree and of all messages, from a sink that had written nothing
+pub rows_whole : (text : List ℕ) (edition : Edition) (lexed : Lexed) (all : Bool) (s t u : Rows)
+    → string_bytes s.steps ≡ [] → string_bytes s.messages ≡ []
+    → Headline Records text edition lexed all s t
+    → u.steps ≡ t.steps → string_bytes u.messages ≡ string_bytes t.messages ++ lexer_message_rows lexed.tokens lexed.errors
+    → AreRows text edition u
+rows_whole text edition lexed all s t u no_steps no_messages h same more =
+    let steps = str_flat (with_trivia lexed.tokens h.forest) in
+    record {
+      lexed = lexed;
+      forest = h.forest;
+      parsed = h.parsed;
+      steps = ap string_bytes same ∙ (steps_along steps s t h.taken ∙ ap (λ l. l ++ step_rows steps) no_steps);
+      messages = more ∙ ap (λ l. l ++ lexer_message_rows lexed.tokens lexed.errors) (messages_along steps s t h.taken ∙ ap (λ l. l ++ message_rows steps) no_messages);
+    }

@@ -1,0 +1,20 @@
+-- The whole page.
+use Rattle.std.specs.Prelude.{ℕ, List, ◌++◌, codes, string_bytes}
+use Rattle.rast_page.specs.declared.run.Frame.{Frame}
+use Rattle.rast_page.specs.declared.run.Page.{Page}
+
+-- an object of the file's name, the tree's steps and the messages, both lists behind a zero that nothing reads
+abbrev pub object : List ℕ → List ℕ → List ℕ → List ℕ
+object name steps messages =
+    (codes "{\"file\":" ++ name)
+    ++ ((codes ",\"steps\":[0" ++ steps)
+    ++ ((codes "],\"messages\":[0" ++ messages)
+    ++ codes "]}"))
+
+-- the data of a page
+abbrev pub data_of : Page → List ℕ
+data_of page = object (string_bytes page.name) (string_bytes page.rows.steps) (string_bytes page.rows.messages)
+
+-- the data between the parts that are the same for all files
+abbrev pub framed : Frame → List ℕ → List ℕ
+framed frame json = frame.head.now ++ (json ++ frame.tail.now)

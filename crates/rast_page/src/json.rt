@@ -1,0 +1,80 @@
+//! Texts as JSON, in a form that no page reads as anything but text.
+ghost use Rattle.std.specs.Prelude.{◌≡◌, ◌<◌, ◌++◌, OnOk, string_bytes, chars, codes};
+ghost use Rattle.rast_common.specs.Quote.{hex_digit};
+ghost use Rattle.rast_page.specs.Json.{number_escape, json_escaped, json_text};
+
+use rast_common::quote::hex_digit;
+use std::alloc::AllocError;
+
+/// Adds the character's number as JSON's escape.
+fn push_number_escape(out: &mut String, n: u8) -> Result<(), AllocError>
+    ensures { OnOk result (string_bytes out.new ≡ string_bytes out.old ++ number_escape n) }
+{
+    out.push_str("\\u00")?;
+    out.push(hex_digit(n / 16))?;
+    out.push(hex_digit(n % 16))?;
+    Ok(())
+}
+
+/// Adds the character as it stands in a JSON string.
+fn push_json_escaped(out: &mut String, c: char) -> Result<(), AllocError>
+    ensures { OnOk result (string_bytes out.new ≡ string_bytes out.old ++ json_escaped c) }
+{
+    match c {
+        '"' => out.push_str("\\\"")?,
+        '\\' => out.push_str("\\\\")?,
+        '\n' => out.push_str("\\n")?,
+        '\r' => out.push_str("\\r")?,
+        '\t' => out.push_str("\\t")?,
+        '\0'..='\u{1f}' | '\u{7f}' | '<' | '>' | '&' => push_number_escape(out, c as u8)?,
+        '\u{2028}' => out.push_str("\\u2028")?,
+        '\u{2029}' => out.push_str("\\u2029")?,
+        _ => out.push(c)?,
+    }
+    Ok(())
+}
+
+/// Adds the text as a JSON string.
+///
+/// A quote and a backslash stand behind a backslash; a line feed, a carriage return and a tab are letters behind a
+/// backslash; any other ASCII control character, `<`, `>`, `&` and the separators of lines and paragraphs (U+2028,
+/// U+2029) are `\uhhhh`; all else stands as it is. The string's grammar is that of RFC 8259, section 7. Without `<` it
+/// ends no `script` element and opens no comment (the HTML standard, "Restrictions for contents of script elements").
+pub fn push_json(out: &mut String, text: &str) -> Result<(), AllocError>
+    ensures { OnOk result (string_bytes out.new ≡ string_bytes out.old ++ json_text (chars text.now)) }
+{
+    out.push_str("\"")?;
+    for c in text.chars() {
+        push_json_escaped(out, c)?;
+    }
+    out.push_str("\"")?;
+    Ok(())
+}
+
+#[cfg(test)]
+mod tests {
+    use super::*;
+    use std::test::Fail;
+
+    #[test]
+    fn writes_markup_as_text(rt: HostRuntime) -> Result<(), Fail> {
+        let mut out = String::new(rt.alloc());
+        push_json(&mut out, "</script><!-- ]]> &amp; 'it' \"q\" \\")?;
+        let want = "\"\\u003c/script\\u003e\\u003c!-- ]]\\u003e \\u0026amp; 'it' \\\"q\\\" \\\\\"";
+        assert_eq!(rt; out.as_str(), want);
+        Ok(())
+    }
+
+    #[test]
+    fn writes_controls_and_wide_characters(rt: HostRuntime) -> Result<(), Fail> {
+        let mut out = String::new(rt.alloc());
+        push_json(
+            &mut out,
+            "\n\r\t\0\u{1}\u{1f}\u{20}\u{7f}\u{80}\u{e9}\u{2027}\u{2028}\u{2029}\u{202a}\u{1f980}",
+        )?;
+        let want =
+            "\"\\n\\r\\t\\u0000\\u0001\\u001f \\u007f\u{80}\u{e9}\u{2027}\\u2028\\u2029\u{202a}\u{1f980}\"";
+        assert_eq!(rt; out.as_str(), want);
+        Ok(())
+    }
+}
