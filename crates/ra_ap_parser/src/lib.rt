@@ -20,6 +20,7 @@ pub use rap_base::syntax_kind::SyntaxKind;
 pub use rap_base::whitespace::is_rust_whitespace;
 pub use rap_events::input::Input;
 pub use rap_events::output::{Output, Step, Steps};
+pub use rap_grammar::entry::is_one_tree;
 pub use rap_script::frontmatter;
 pub use reparser::Reparser;
 pub use shortcuts::{StrSink, StrStep};
