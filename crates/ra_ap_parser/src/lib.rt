@@ -7,6 +7,8 @@
 #![tactic(auto)]
 
 mod entry_point;
+#[cfg(test)]
+mod fronts;
 mod lexed_str;
 mod reparser;
 mod shortcuts;

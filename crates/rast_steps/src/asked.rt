@@ -1,5 +1,7 @@
 //! What a command line asks for.
 
+ghost use Rattle.rast_steps.specs.Words.{IsKindOf, IsReadAs, IsNamed};
+
 use ra_ap_parser::{Edition, PrefixEntryPoint, SyntaxKind, TopEntryPoint};
 use rast_print::entry::Entry;
 use std::env::{self, Args};
@@ -44,7 +46,7 @@ pub struct InvalidPrefix;
 impl FromStr for Prefix {
     type Err = InvalidPrefix;
 
-
+    ghost from_str_gives = { IsNamed };
 
     fn from_str(s: &str) -> Result<Prefix, InvalidPrefix> {
         match s {
@@ -65,6 +67,7 @@ impl FromStr for Prefix {
 
 /// The kind with this name.
 fn kind_named(name: &str) -> Option<SyntaxKind>
+    ensures { IsKindOf name.now result }
 {
     'kinds: for number in 0..KINDS {
         let kind = SyntaxKind::from_u16(number);
@@ -77,6 +80,7 @@ fn kind_named(name: &str) -> Option<SyntaxKind>
 
 /// The kind with this name, or that there is none, which a dash says. Nothing where the word is no kind's name.
 fn read_kind(word: &str) -> Option<Option<SyntaxKind>>
+    ensures { IsReadAs word.now result }
 {
     if word == "-" {
         return Some(None);

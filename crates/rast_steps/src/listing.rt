@@ -1,9 +1,19 @@
 //! What is listed of a text.
+ghost use Rattle.std.specs.Prelude.{◌≡◌, ◌⊎◌, ◌≤◌, ◌<◌, ◌↔◌, ◌++◌, Some, true, IfErr, IfOk, IsTrue, OnOk, length, string_bytes};
+ghost use Rattle.rap_events.specs.Cover.{covers};
+ghost use Rattle.rap_events.specs.Forest.{flat, one_tree, used};
+ghost use Rattle.rap_events.specs.Step.{step_value};
+ghost use Rattle.rap_grammar.specs.Part.{part_kind};
+ghost use Rattle.ra_ap_parser.specs.Input.{records};
+ghost use Rattle.ra_ap_parser.specs.LexedStr.{IsLexing};
+ghost use Rattle.ra_ap_parser.specs.Trivia.{significant};
+ghost use Rattle.rast_steps.specs.Listed.{step_line, step_lines, end_after, used_line, tree_lines};
+ghost use Rattle.rast_steps.specs.Page.{Comes, ComesOfNode, Lists, ListsNode, ListsPrefix, ListsSteps};
 
 use crate::asked::Asked;
 use ra_ap_parser::{
     Edition, Input, LexFault, LexedStr, NoMemory, Output, ParseFault, PrefixEntryPoint, Reparser,
-    Step, SyntaxKind, TopEntryPoint, is_one_tree,
+    Step, TopEntryPoint, is_one_tree,
 };
 use rast_print::printer::Printer;
 use std::alloc::{AllocError, Global};
@@ -23,6 +33,11 @@ pub enum ListFault {
 }
 
 impl From<LexFault> for ListFault {
+    ghost use Rattle.ra_ap_parser.specs.declared.lexed_str.LexFault.TheVariants as lex;
+    ghost use Rattle.rast_steps.specs.declared.listing.ListFault.TheVariants.{TextTooLong, NoMemory};
+
+    ghost from_gives = { λ from fault. ((from ≡ lex.TextTooLong) ↔ (fault ≡ TextTooLong)) × ((from ≡ lex.NoMemory) ↔ (fault ≡ NoMemory)) };
+
     fn from(fault: LexFault) -> ListFault {
         match fault {
             LexFault::TextTooLong => ListFault::TextTooLong,
@@ -32,6 +47,11 @@ impl From<LexFault> for ListFault {
 }
 
 impl From<ParseFault> for ListFault {
+    ghost use Rattle.ra_ap_parser.specs.declared.entry_point.ParseFault.TheVariants as parse;
+    ghost use Rattle.rast_steps.specs.declared.listing.ListFault.TheVariants.{TooManyTokens, NoMemory};
+
+    ghost from_gives = { λ from fault. ((from ≡ parse.TooManyTokens) ↔ (fault ≡ TooManyTokens)) × ((from ≡ parse.NoMemory) ↔ (fault ≡ NoMemory)) };
+
     fn from(fault: ParseFault) -> ListFault {
         match fault {
             ParseFault::TooManyTokens => ListFault::TooManyTokens,
@@ -41,19 +61,29 @@ impl From<ParseFault> for ListFault {
 }
 
 impl From<NoMemory> for ListFault {
+    ghost use Rattle.rast_steps.specs.declared.listing.ListFault.TheVariants.{NoMemory};
+
+    ghost from_gives = { λ _ fault. fault ≡ NoMemory };
+
     fn from(_fault: NoMemory) -> ListFault {
         ListFault::NoMemory
     }
 }
 
 impl From<AllocError> for ListFault {
+    ghost use Rattle.rast_steps.specs.declared.listing.ListFault.TheVariants.{NoMemory};
+
+    ghost from_gives = { λ _ fault. fault ≡ NoMemory };
+
     fn from(_fault: AllocError) -> ListFault {
         ListFault::NoMemory
     }
 }
 
 /// Adds the line of a step.
-fn push_step(lines: &mut String, step: Step<'_>) -> Result<(), AllocError> {
+fn push_step(lines: &mut String, step: Step<'_>) -> Result<(), AllocError>
+    ensures { OnOk result (string_bytes lines.new ≡ string_bytes lines.old ++ step_line (step_value step)) }
+{
     match step {
         Step::Enter { kind } => writeln!(lines, "enter {}", kind.name())?,
         Step::Exit => lines.push_str("exit\n")?,
@@ -72,7 +102,9 @@ fn push_step(lines: &mut String, step: Step<'_>) -> Result<(), AllocError> {
 }
 
 /// Adds the lines of an output's steps.
-fn push_steps(lines: &mut String, output: &Output) -> Result<(), AllocError> {
+fn push_steps(lines: &mut String, output: &Output) -> Result<(), AllocError>
+    ensures { OnOk result (string_bytes lines.new ≡ string_bytes lines.old ++ step_lines (flat output.now)) }
+{
     'steps: for step in output.iter() {
         push_step(lines, step)?;
     }
@@ -80,7 +112,10 @@ fn push_steps(lines: &mut String, output: &Output) -> Result<(), AllocError> {
 }
 
 /// How many tokens an output took.
-fn used_tokens(output: &Output) -> usize {
+fn used_tokens(output: &Output) -> usize
+    requires { used output.now ≤ 8388607 }
+    ensures { result ≡ used output.now }
+{
     let mut count = 0usize;
     'steps: for step in output.iter() {
         count += match step {
@@ -93,7 +128,9 @@ fn used_tokens(output: &Output) -> usize {
 }
 
 /// Where the last of so many tokens that are no trivia ends, in bytes.
-fn end_after(lexed: &LexedStr<'_>, count: usize) -> usize {
+fn end_after(lexed: &LexedStr<'_>, count: usize) -> usize
+    ensures { result ≡ end_after count lexed.now.tokens }
+{
     let mut left = count;
     'tokens: for i in 0..lexed.len() {
         if left == 0 {
@@ -107,11 +144,10 @@ fn end_after(lexed: &LexedStr<'_>, count: usize) -> usize {
 }
 
 /// Adds the line that says where what an output took ends.
-fn push_used(
-    lines: &mut String,
-    lexed: &LexedStr<'_>,
-    output: &Output,
-) -> Result<(), AllocError> {
+fn push_used(lines: &mut String, lexed: &LexedStr<'_>, output: &Output) -> Result<(), AllocError>
+    requires { used output.now ≤ 8388607 }
+    ensures { OnOk result (string_bytes lines.new ≡ string_bytes lines.old ++ used_line lexed.now.tokens output.now) }
+{
     let end = end_after(lexed, used_tokens(output));
     writeln!(lines, "used {end}")?;
     Ok(())
@@ -123,7 +159,11 @@ fn push_tree(
     lines: &mut String,
     lexed: &LexedStr<'_>,
     output: &Output,
-) -> Result<(), NoMemory> {
+) -> Result<(), NoMemory>
+    requires tree { one_tree output.now ≡ true }
+    requires prefix { (edition : Edition) × (covers (records lexed.now.tokens edition) output.now ≡ true) }
+    ensures { OnOk result (string_bytes lines.new ≡ string_bytes lines.old ++ tree_lines lexed.now.tokens output.now) }
+{
     let mut printer = Printer::new(alloc);
     lexed.intersperse_trivia(output, &mut printer)?;
     lines.push_str(printer.tree.as_str())?;
@@ -139,7 +179,11 @@ struct Reading<'t> {
 }
 
 /// Cuts the text into tokens, and leaves the trivia out.
-fn read(alloc: Global, edition: Edition, text: &str) -> Result<Reading<'_>, ListFault> {
+fn read(alloc: Global, edition: Edition, text: &str) -> Result<Reading<'_>, ListFault>
+    ensures lexing { IfOk result (λ r. IsLexing text.now edition r.lexed) }
+    ensures input { IfOk result (λ r. (r.input ≡ records r.lexed.tokens edition) × (length r.input ≡ significant r.lexed.tokens)) }
+    ensures fault { IfErr result (λ fault. ((fault ≡ ListFault.TextTooLong) × (4294967295 < length text.now)) ⊎ ((fault ≡ ListFault.NoMemory) × (length text.now ≤ 4294967295))) }
+{
     let lexed = LexedStr::new(alloc, edition, text)?;
     let input = lexed.to_input(alloc, edition)?;
     Ok(Reading { lexed, input })
@@ -151,7 +195,10 @@ fn list_steps(
     edition: Edition,
     entry: TopEntryPoint,
     text: &str,
-) -> Result<String, ListFault> {
+) -> Result<String, ListFault>
+    ensures lists { IfOk result (λ lines. ListsSteps text.now edition entry (string_bytes lines)) }
+    ensures fault { IfErr result (Comes text.now edition (Asked.Steps entry)) }
+{
     let reading = read(alloc, edition, text)?;
     let output = entry.parse(alloc, &reading.input)?;
     let mut lines = String::new(alloc);
@@ -165,7 +212,10 @@ fn list_prefix(
     edition: Edition,
     entry: PrefixEntryPoint,
     text: &str,
-) -> Result<String, ListFault> {
+) -> Result<String, ListFault>
+    ensures lists { IfOk result (λ lines. ListsPrefix text.now edition entry (string_bytes lines)) }
+    ensures fault { IfErr result (Comes text.now edition (Asked.Prefix entry)) }
+{
     let reading = read(alloc, edition, text)?;
     let output = entry.parse(alloc, &reading.input)?;
     let mut lines = String::new(alloc);
@@ -178,20 +228,18 @@ fn list_prefix(
     Ok(lines)
 }
 
-/// Whether the input begins with a `{`.
-fn begins_with_brace(input: &Input) -> bool {
-    input.kind(0) == SyntaxKind::L_CURLY
-}
-
 /// Lists the tree of a node that is parsed again, or its steps where it is no tree, and where it ends.
 fn list_node(
     alloc: Global,
     edition: Edition,
     reparser: Reparser,
     text: &str,
-) -> Result<String, ListFault> {
+) -> Result<String, ListFault>
+    ensures lists { IfOk result (λ lines. ListsNode text.now edition reparser (string_bytes lines)) }
+    ensures fault { IfErr result (ComesOfNode text.now edition (Some (part_kind reparser))) }
+{
     let reading = read(alloc, edition, text)?;
-    if reparser.needs_curly() && !begins_with_brace(&reading.input) {
+    if !reparser.can_parse(&reading.input) {
         return Err(ListFault::NoBrace);
     }
     let output = reparser.parse(alloc, &reading.input)?;
@@ -207,12 +255,10 @@ fn list_node(
 }
 
 /// Lists what is asked of the text.
-pub fn list(
-    alloc: Global,
-    edition: Edition,
-    asked: Asked,
-    text: &str,
-) -> Result<String, ListFault> {
+pub fn list(alloc: Global, edition: Edition, asked: Asked, text: &str) -> Result<String, ListFault>
+    ensures lists { IfOk result (λ lines. Lists text.now edition asked (string_bytes lines)) }
+    ensures fault { IfErr result (Comes text.now edition asked) }
+{
     match asked {
         Asked::Steps(entry) => list_steps(alloc, edition, entry, text),
         Asked::Prefix(entry) => list_prefix(alloc, edition, entry, text),

@@ -12,7 +12,8 @@ use run::run;
 use std::fs;
 use std::process::ExitCode;
 
-const USAGE: &str = "usage: rast_steps --steps|--prefix ENTRY EDITION FILE\n       rast_steps --reparse NODE FIRST PARENT EDITION FILE\n";
+const USAGE: &str =
+    "usage: rast_steps --steps|--prefix ENTRY EDITION FILE\n       rast_steps --reparse NODE FIRST PARENT EDITION FILE\n";
 
 const UNREADABLE: &str = "rast_steps: cannot read the file\n";
 

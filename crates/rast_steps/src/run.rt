@@ -1,4 +1,8 @@
 //! All that the program does once its file is read.
+ghost use Rattle.std.specs.Prelude.{◌≡◌, ◌⊎◌, IfErr, IfOk, OnOk, string_bytes};
+ghost use Rattle.std.specs.Io.KnownBytes.{Appends};
+ghost use Rattle.rast_steps.specs.Page.{Comes, IfStops, Lists, Shows};
+ghost use Rattle.rast_steps.specs.Words.{fault_line};
 
 use crate::asked::Asked;
 use crate::listing::{ListFault, list};
@@ -8,7 +12,9 @@ use std::alloc::Global;
 use std::io;
 
 /// What a fault is called on the error stream.
-fn fault_message(fault: ListFault) -> &'static str {
+fn fault_message(fault: ListFault) -> &'static str
+    ensures { result.now ≡ fault_line fault }
+{
     match fault {
         ListFault::TextTooLong => "rast_steps: text too long\n",
         ListFault::TooManyTokens => "rast_steps: too many tokens\n",
@@ -18,7 +24,9 @@ fn fault_message(fault: ListFault) -> &'static str {
 }
 
 /// Writes the lines.
-fn write_lines<W: io::Write>(out: &mut W, lines: &str) -> io::Result<()> {
+fn write_lines<W: io::Write>(out: &mut W, lines: &str) -> io::Result<()>
+    ensures { OnOk result (Appends (W.contents out.old) (W.contents out.new) lines.now) }
+{
     out.write_all(lines.as_bytes())?;
     out.flush()
 }
@@ -34,7 +42,12 @@ pub fn run<W: io::Write, V: io::Write>(
     text: &str,
     out: &mut W,
     err: &mut V,
-) -> io::Result<u8> {
+) -> io::Result<u8>
+    ensures status { IfOk result (λ status. (status ≡ 0) ⊎ (status ≡ 2)) }
+    ensures shown { IfOk result (λ status. status ≡ 0 → Shows text.now edition asked (W.contents out.old) (W.contents out.new) × (err.new ≡ err.old)) }
+    ensures reported { IfOk result (λ status. status ≡ 2 → IfStops text.now edition asked out.old out.new (Appends (V.contents err.old) (V.contents err.new))) }
+    ensures unreported { IfErr result (λ _. IfStops text.now edition asked out.old out.new (λ _. Unit {0})) }
+{
     let lines = match list(alloc, edition, asked, text) {
         Ok(lines) => lines,
         Err(fault) => return report(err, fault_message(fault)),
