@@ -138,3 +138,34 @@ pub fn read_request<R: Env + AllocGlobal>(rt: &R) -> Option<Request> {
         file,
     })
 }
+
+#[cfg(test)]
+mod tests {
+    use super::*;
+    use std::test::Fail;
+
+    #[test]
+    fn knows_the_prefix_entries(rt: HostRuntime) -> Result<(), Fail> {
+        for name in [
+            "Vis", "Block", "Stmt", "Pat", "PatTop", "Ty", "Expr", "Path", "Item", "MetaItem",
+        ] {
+            assert!(rt; name.parse::<Prefix>().is_ok(), "{name}");
+        }
+        assert!(rt; "Type".parse::<Prefix>().is_err());
+        assert!(rt; "vis".parse::<Prefix>().is_err());
+        Ok(())
+    }
+
+    #[test]
+    fn knows_the_kinds(rt: HostRuntime) {
+        assert_eq!(rt; read_kind("-"), Some(None));
+        assert_eq!(rt; read_kind("EOF"), Some(Some(SyntaxKind::EOF)));
+        assert_eq!(rt; read_kind("PATH_META"), Some(Some(SyntaxKind::PATH_META)));
+        assert_eq!(rt;
+            read_kind("ASSOC_ITEM_LIST"),
+            Some(Some(SyntaxKind::ASSOC_ITEM_LIST))
+        );
+        assert_eq!(rt; read_kind("{"), None);
+        assert_eq!(rt; read_kind(""), None);
+    }
+}
