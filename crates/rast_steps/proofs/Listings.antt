@@ -2,6 +2,13 @@
 use Rattle.std.proofs.Common.{◌≡◌, ◌≢◌, ℕ, zero, suc, ◌+◌, ◌≤◌, ◌<◌, List, [], ◌∷◌, ◌++◌, Bool, true, false, refl, ap, sym, ◌∙◌, arith, append_assoc, append-nil, length, drop}
 use Rattle.rap_events.specs.StepValue.{StepValue, enter, exit, token, float_split, error}
 use Rattle.rap_events.specs.Forest.{Forest, none, node, leaf, message, split, flat, split_ends, exit_of, used}
+use Rattle.std.proofs.Common.{string_bytes}
+use Rattle.ra_ap_parser.specs.StrSink.{Takes}
+use Rattle.ra_ap_parser.specs.StrStep.{StrStepValue}
+use Rattle.rast_print.specs.Printed.{printed, reported}
+use Rattle.rast_print.specs.Prints.{Prints}
+use Rattle.rast_print.specs.declared.printer.Printer.{Printer}
+use Rattle.rast_print.proofs.Lines.{tree_along, messages_along}
 
 -- how many tokens these steps stand for
 abbrev pub tokens_in : List StepValue → ℕ
@@ -29,3 +36,10 @@ along (split b e) ss = rw (append_assoc (flat b) (float_split e ∷ []) ss) (ome
 -- an output's steps stand for the tokens that it took
 pub tokens_in-flat : (f : Forest) → tokens_in (flat f) ≡ used f
 tokens_in-flat f = ap tokens_in (sym (append-nil (flat f))) ∙ (along f [] ∙ omega arith)
+
+-- the lines of a tree from a printer that had written nothing
+pub tree_from : (steps : List StrStepValue) (s t : Printer) → string_bytes s.tree ≡ [] → s.depth ≡ 0 → Takes Prints s steps t → string_bytes t.tree ≡ printed 0 steps
+tree_from steps s t no_tree no_depth h = tree_along steps s t h ∙ (ap (λ l. l ++ printed s.depth steps) no_tree ∙ ap (λ d. printed d steps) no_depth)
+
+pub messages_from : (steps : List StrStepValue) (s t : Printer) → string_bytes s.messages ≡ [] → Takes Prints s steps t → string_bytes t.messages ≡ reported steps
+messages_from steps s t none_yet h = messages_along steps s t h ∙ ap (λ l. l ++ reported steps) none_yet

@@ -1,12 +1,14 @@
 //! What is listed of a text.
-ghost use Rattle.std.specs.Prelude.{◌≡◌, ◌⊎◌, ◌≤◌, ◌<◌, ◌↔◌, ◌++◌, Some, true, IfErr, IfOk, IsTrue, OnOk, length, string_bytes};
+ghost use Rattle.std.specs.Prelude.{◌≡◌, ◌⊎◌, ◌≤◌, ◌<◌, ◌↔◌, ◌++◌, Some, true, IfErr, IfOk, OnOk, length, string_bytes};
 ghost use Rattle.rap_events.specs.Cover.{covers};
 ghost use Rattle.rap_events.specs.Forest.{flat, one_tree, used};
 ghost use Rattle.rap_events.specs.Step.{step_value};
 ghost use Rattle.rap_grammar.specs.Part.{part_kind};
 ghost use Rattle.ra_ap_parser.specs.Input.{records};
 ghost use Rattle.ra_ap_parser.specs.LexedStr.{IsLexing};
-ghost use Rattle.ra_ap_parser.specs.Trivia.{significant};
+ghost use Rattle.ra_ap_parser.specs.StrForest.{str_flat};
+ghost use Rattle.ra_ap_parser.specs.Trivia.{significant, with_trivia};
+ghost use Rattle.rast_print.specs.Printed.{printed, reported};
 ghost use Rattle.rast_steps.specs.Listed.{step_line, step_lines, end_after, used_line, tree_lines};
 ghost use Rattle.rast_steps.specs.Page.{Comes, ComesOfNode, Lists, ListsNode, ListsPrefix, ListsSteps};
 
@@ -82,7 +84,7 @@ impl From<AllocError> for ListFault {
 
 /// Adds the line of a step.
 fn push_step(lines: &mut String, step: Step<'_>) -> Result<(), AllocError>
-    ensures { OnOk result (string_bytes lines.new ≡ string_bytes lines.old ++ step_line (step_value step)) }
+    ensures { OnOk result (string_bytes lines.new ≡ string_bytes lines.old ++ step_line (step_value step.entry)) }
 {
     match step {
         Step::Enter { kind } => writeln!(lines, "enter {}", kind.name())?,
@@ -153,6 +155,23 @@ fn push_used(lines: &mut String, lexed: &LexedStr<'_>, output: &Output) -> Resul
     Ok(())
 }
 
+/// The lines of a tree, trivia put back, and those of its messages.
+#[tactic(auto, using(crate::proofs::Listings::tree_from, crate::proofs::Listings::messages_from))]
+fn print_tree(
+    alloc: Global,
+    lexed: &LexedStr<'_>,
+    output: &Output,
+) -> Result<Printer, NoMemory>
+    requires tree { one_tree output.now ≡ true }
+    requires prefix { (edition : Edition) × (covers (records lexed.now.tokens edition) output.now ≡ true) }
+    ensures tree { IfOk result (λ p. string_bytes p.tree ≡ printed 0 (str_flat (with_trivia lexed.now.tokens output.now))) }
+    ensures messages { IfOk result (λ p. string_bytes p.messages ≡ reported (str_flat (with_trivia lexed.now.tokens output.now))) }
+{
+    let mut printer = Printer::new(alloc);
+    lexed.intersperse_trivia(output, &mut printer)?;
+    Ok(printer)
+}
+
 /// Adds the lines of a tree, trivia put back, and those of its messages.
 fn push_tree(
     alloc: Global,
@@ -164,8 +183,7 @@ fn push_tree(
     requires prefix { (edition : Edition) × (covers (records lexed.now.tokens edition) output.now ≡ true) }
     ensures { OnOk result (string_bytes lines.new ≡ string_bytes lines.old ++ tree_lines lexed.now.tokens output.now) }
 {
-    let mut printer = Printer::new(alloc);
-    lexed.intersperse_trivia(output, &mut printer)?;
+    let printer = print_tree(alloc, lexed, output)?;
     lines.push_str(printer.tree.as_str())?;
     lines.push_str(printer.messages.as_str())?;
     Ok(())
