@@ -157,11 +157,7 @@ fn push_used(lines: &mut String, lexed: &LexedStr<'_>, output: &Output) -> Resul
 
 /// The lines of a tree, trivia put back, and those of its messages.
 #[tactic(auto, using(crate::proofs::Listings::tree_from, crate::proofs::Listings::messages_from))]
-fn print_tree(
-    alloc: Global,
-    lexed: &LexedStr<'_>,
-    output: &Output,
-) -> Result<Printer, NoMemory>
+fn print_tree(alloc: Global, lexed: &LexedStr<'_>, output: &Output) -> Result<Printer, NoMemory>
     requires tree { one_tree output.now ≡ true }
     requires prefix { (edition : Edition) × (covers (records lexed.now.tokens edition) output.now ≡ true) }
     ensures tree { IfOk result (λ p. string_bytes p.tree ≡ printed 0 (str_flat (with_trivia lexed.now.tokens output.now))) }
