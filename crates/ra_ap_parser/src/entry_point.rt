@@ -8,11 +8,14 @@ ghost use Rattle.rap_grammar.specs.Top.{IsTreeOver};
 use rap_base::no_memory::NoMemory;
 use rap_events::input::Input;
 use rap_events::output::Output;
-use rap_grammar::entry::{part, top};
 use rap_grammar::entry::part::Part;
+use rap_grammar::entry::{part, top};
 use std::alloc::Global;
 use std::error::Error;
 use std::fmt;
+
+#[cfg(test)]
+mod tests;
 
 /// The most tokens that an input may have, so that each event's place fits 32 bits.
 pub const MAX_TOKENS: usize = 8_388_607;

@@ -7,6 +7,8 @@
 #![tactic(auto)]
 
 mod entry_point;
+#[cfg(test)]
+mod fronts;
 mod lexed_str;
 mod reparser;
 mod shortcuts;
@@ -20,6 +22,7 @@ pub use rap_base::syntax_kind::SyntaxKind;
 pub use rap_base::whitespace::is_rust_whitespace;
 pub use rap_events::input::Input;
 pub use rap_events::output::{Output, Step, Steps};
+pub use rap_grammar::entry::is_one_tree;
 pub use rap_script::frontmatter;
 pub use reparser::Reparser;
 pub use shortcuts::{StrSink, StrStep};

@@ -1,5 +1,5 @@
 //! A node in braces that is parsed again from its own tokens.
-ghost use Rattle.std.specs.Prelude.{◌≡◌, ◌<◌, ◌≤◌, ◌↔◌, List, ◌++◌, length, IfOk, IfSome, Some, true};
+ghost use Rattle.std.specs.Prelude.{◌≡◌, ◌≢◌, ◌<◌, ◌≤◌, ◌↔◌, List, ◌++◌, length, IfOk, IfSome, IsFalse, IsTrue, Some, true};
 ghost use Rattle.rap_base.specs.TokenKind.{L_CURLY};
 ghost use Rattle.rap_events.specs.Forest.{Forest};
 ghost use Rattle.rap_events.specs.Record.{Record, next_kind};
@@ -13,6 +13,9 @@ use rap_events::output::Output;
 use rap_grammar::entry::part::{Part, parse_part};
 use std::alloc::Global;
 use std::marker::Model;
+
+#[cfg(test)]
+mod tests;
 
 /// How a node is parsed again, alone, after an edit inside its braces.
 #[derive(Clone, Copy, Debug, PartialEq, Eq)]
@@ -59,8 +62,7 @@ impl Reparser {
             SyntaxKind::EXTERN_ITEM_LIST => Part::ExternItemList,
             SyntaxKind::TOKEN_TREE if first_child == Some(SyntaxKind::L_CURLY) => Part::TokenTree,
             SyntaxKind::ASSOC_ITEM_LIST
-                if parent == Some(SyntaxKind::IMPL) || parent == Some(SyntaxKind::TRAIT) =>
-            {
+                if parent == Some(SyntaxKind::IMPL) || parent == Some(SyntaxKind::TRAIT) => {
                 Part::AssocItemList
             }
             SyntaxKind::ITEM_LIST => Part::ItemList,
@@ -74,6 +76,14 @@ impl Reparser {
         ensures { result ≡ asks_brace self.now }
     {
         self.part != Part::Block
+    }
+
+    /// Whether the input begins as the node must.
+    pub fn can_parse(&self, input: &Input) -> bool
+        ensures can { IsTrue result → asks_brace self.now ≡ true → next_kind input.now ≡ L_CURLY }
+        ensures cannot { IsFalse result → (asks_brace self.now ≡ true) × (next_kind input.now ≢ L_CURLY) }
+    {
+        !self.needs_curly() || input.kind(0) == SyntaxKind::L_CURLY
     }
 
     /// Parses the node again from its own tokens.

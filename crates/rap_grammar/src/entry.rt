@@ -32,7 +32,7 @@ pub mod part;
 pub mod top;
 
 /// Whether the output is exactly one node, with nothing beside it.
-fn is_one_tree(output: &Output) -> bool
+pub fn is_one_tree(output: &Output) -> bool
     ensures { result ≡ one_tree output.now }
 {
     let mut steps = output.iter();

@@ -1,0 +1,57 @@
+-- The lines that the program prints.
+use Rattle.std.specs.Prelude.{ℕ, zero, suc, ◌+◌, Bool, true, false, if◌then◌else◌, List, [], ◌∷◌, ◌++◌, length, codes}
+use Rattle.std.specs.Fmt.{decimal}
+use Rattle.rap_base.specs.Names.{name_of}
+use Rattle.rap_events.specs.Forest.{Forest, flat, one_tree, used}
+use Rattle.rap_events.specs.StepValue.{StepValue, enter, exit, token, float_split, error}
+use Rattle.ra_ap_parser.specs.LexedStr.{Token}
+use Rattle.ra_ap_parser.specs.StrForest.{str_flat}
+use Rattle.ra_ap_parser.specs.Trivia.{is_trivial, with_trivia}
+use Rattle.rast_print.specs.Printed.{printed, reported}
+
+abbrev pub split_line : Bool → List ℕ
+split_line true = codes "split true\n"
+split_line false = codes "split false\n"
+
+-- the line of a step: a token with the number of tokens that it stands for, and a float with whether it ends in a dot
+abbrev pub step_line : StepValue → List ℕ
+step_line (enter kind) = codes "enter " ++ (name_of kind ++ codes "\n")
+step_line exit = codes "exit\n"
+step_line (token kind width) = codes "token " ++ (name_of kind ++ (codes " " ++ (decimal width ++ codes "\n")))
+step_line (float_split ends_in_dot) = split_line ends_in_dot
+step_line (error bytes) = codes "error " ++ (bytes ++ codes "\n")
+
+-- the lines of steps
+abbrev pub step_lines : List StepValue → List ℕ
+step_lines [] = []
+step_lines (step ∷ steps) = step_line step ++ step_lines steps
+
+-- how many bytes there are up to the end of the last of so many tokens that are no trivia
+abbrev pub end_after : ℕ → List Token → ℕ
+end_after zero ts = 0
+end_after (suc n) [] = 0
+end_after (suc n) (t ∷ ts) = length t.text + (if is_trivial t then end_after (suc n) ts else end_after n ts)
+
+-- where the last token that an output took ends
+abbrev pub used_line : List Token → Forest → List ℕ
+used_line ts output = codes "used " ++ (decimal (end_after (used output) ts) ++ codes "\n")
+
+-- a tree with its trivia put back, and its messages
+abbrev pub tree_lines : List Token → Forest → List ℕ
+tree_lines ts output = printed 0 (str_flat (with_trivia ts output)) ++ reported (str_flat (with_trivia ts output))
+
+-- the tree of an output, where it is one
+abbrev pub tree_part : List Token → Forest → List ℕ
+tree_part ts output = if one_tree output then codes "tree\n" ++ tree_lines ts output else []
+
+-- what stands at the front: its steps, where it ends, and its tree
+abbrev pub prefix_lines : List Token → Forest → List ℕ
+prefix_lines ts output = step_lines (flat output) ++ (used_line ts output ++ tree_part ts output)
+
+-- a node's tree, or the steps where they make no tree
+abbrev pub node_part : List Token → Forest → List ℕ
+node_part ts output = if one_tree output then tree_lines ts output else codes "not one tree\n" ++ step_lines (flat output)
+
+-- a node that is parsed again, and where it ends
+abbrev pub node_lines : List Token → Forest → List ℕ
+node_lines ts output = node_part ts output ++ used_line ts output

@@ -1,0 +1,38 @@
+//! `rast_steps --steps ENTRY EDITION FILE`, `--prefix ENTRY EDITION FILE` and
+//! `--reparse NODE FIRST PARENT EDITION FILE` print what the parser gives before the trivia are put back.
+#![tactic(auto)]
+
+mod asked;
+mod listing;
+mod run;
+
+use asked::read_request;
+use rast_common::fault::{FAULT, fail};
+use run::run;
+use std::fs;
+use std::process::ExitCode;
+
+const USAGE: &str =
+    "usage: rast_steps --steps|--prefix ENTRY EDITION FILE\n       rast_steps --reparse NODE FIRST PARENT EDITION FILE\n";
+
+const UNREADABLE: &str = "rast_steps: cannot read the file\n";
+
+fn main(rt: HostRuntime) -> ExitCode {
+    let mut err = rt.stderr();
+    let Some(request) = read_request(&rt) else {
+        return fail(&mut err, USAGE);
+    };
+    let Ok(text) = fs::read_to_string(&rt, request.file.as_str()) else {
+        return fail(&mut err, UNREADABLE);
+    };
+    let mut out = rt.stdout();
+    let status = run(
+        rt.alloc(),
+        request.edition,
+        request.asked,
+        text.as_str(),
+        &mut out,
+        &mut err,
+    );
+    ExitCode::from(status.unwrap_or(FAULT))
+}
