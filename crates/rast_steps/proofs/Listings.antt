@@ -24,7 +24,7 @@ past_exit zero ss = refl
 past_exit (suc n) ss = refl
 
 along : (f : Forest) (ss : List StepValue) → tokens_in (flat f ++ ss) ≡ used f + tokens_in ss
-along none ss = refl
+along none ss = omega arith
 along (node b k x) ss =
     let n : ℕ = split_ends x in
     rw (append_assoc (flat b) (enter k ∷ (flat x ++ exit_of n)) ss, append_assoc (flat x) (exit_of n) ss)

@@ -194,6 +194,7 @@ struct Reading<'t> {
 
 /// Cuts the text into tokens, and leaves the trivia out.
 fn read(alloc: Global, edition: Edition, text: &str) -> Result<Reading<'_>, ListFault>
+    ensures small { IfOk result (λ _. length text.now ≤ 4294967295) }
     ensures lexing { IfOk result (λ r. IsLexing text.now edition r.lexed) }
     ensures input { IfOk result (λ r. (r.input ≡ records r.lexed.tokens edition) × (length r.input ≡ significant r.lexed.tokens)) }
     ensures fault { IfErr result (λ fault. ((fault ≡ ListFault.TextTooLong) × (4294967295 < length text.now)) ⊎ ((fault ≡ ListFault.NoMemory) × (length text.now ≤ 4294967295))) }
