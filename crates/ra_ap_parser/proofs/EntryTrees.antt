@@ -2,12 +2,12 @@
 use Rattle.std.proofs.Common.{◌≡◌, List, ◌++◌, length, sym, ◌∙◌}
 use Rattle.rap_events.specs.Record.{Record}
 use Rattle.rap_events.specs.Forest.{Forest, message_count}
-use Rattle.rap_grammar.proofs.Outputs.{derived, derived_clean, derived_type, derived_type_clean, derived_statements, derived_statements_clean, derived_file, derived_file_clean, derived_items, derived_items_clean, called_file, called_items, one_output, one_root}
+use Rattle.rap_grammar.proofs.Outputs.{derived, derived_clean, derived_type, derived_type_clean, derived_statements, derived_statements_clean, derived_file, derived_file_clean, derived_items, derived_items_clean, called_file, called_items, begun_file, begun_items, one_output, one_root}
 use Rattle.rap_grammar.specs.Part.{IsPrefixOf, IsPartCore, IsWhole, part_script}
 use Rattle.rap_grammar.specs.declared.entry.part.Part.{Part}
 use Rattle.rap_grammar.proofs.Parts.{one_prefix}
 use Rattle.rap_grammar.proofs.Prefixes.{front_expression, front_type, front_block, front_item, front_part}
-use Rattle.ra_ap_parser.specs.EntryScript.{IsOutputOf, IsCore, IsCall, IsPrefixOutputOf, IsPrefixCore}
+use Rattle.ra_ap_parser.specs.EntryScript.{IsOutputOf, IsCore, IsCall, KeepsFront, IsPrefixOutputOf, IsPrefixCore}
 use Rattle.ra_ap_parser.specs.declared.entry_point.PrefixEntryPoint.{PrefixEntryPoint}
 use Rattle.ra_ap_parser.specs.declared.entry_point.PrefixEntryPoint.TheVariants as prefix
 use Rattle.ra_ap_parser.specs.declared.entry_point.TopEntryPoint.{TopEntryPoint}
@@ -31,6 +31,16 @@ call_tree entry.Pattern input i d = absurd d
 call_tree entry.Ty input i d = absurd d
 call_tree entry.Expr input i d = absurd d
 call_tree entry.MetaItem input i d = absurd d
+
+-- what begins with items and tokens that begin none keeps their trees
+pub front_kept : (e : TopEntryPoint) (input : List Record) (output : Forest) → IsOutputOf e input output → KeepsFront e input output
+front_kept entry.SourceFile input output i = λ front rest trees same d. begun_file (rw same at i) d
+front_kept entry.MacroStmts input output i = tt
+front_kept entry.MacroItems input output i = λ front rest trees same d. begun_items (rw same at i) d
+front_kept entry.Pattern input output i = tt
+front_kept entry.Ty input output i = tt
+front_kept entry.Expr input output i = tt
+front_kept entry.MetaItem input output i = tt
 
 -- an entry gives one output of an input
 pub one_entry_output : (e : TopEntryPoint) (input : List Record) {a b : Forest} → IsOutputOf e input a → IsOutputOf e input b → a ≡ b

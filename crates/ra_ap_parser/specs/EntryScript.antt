@@ -1,13 +1,14 @@
 -- What a top entry makes of its input.
-use Rattle.std.specs.Prelude.{◌≡◌, ◌≢◌, List, true, false}
+use Rattle.std.specs.Prelude.{◌≡◌, ◌≢◌, List, true, false, ◌++◌}
 use Rattle.rap_base.specs.NodeKind.{SOURCE_FILE, MACRO_STMTS, MACRO_ITEMS}
 use Rattle.rap_base.specs.TokenKind.{SEMICOLON}
 use Rattle.rap_events.specs.Record.{Record, next_kind}
-use Rattle.rap_events.specs.Forest.{Forest, none, node}
+use Rattle.rap_events.specs.Forest.{Forest, none, node, ◌⧺◌}
 use Rattle.rap_rules.specs.Atom.{expr}
 use Rattle.rap_rules.specs.Called.{pattern, pattern_single, type_, inner_meta}
 use Rattle.rap_grammar.specs.Derives.{Derives, Expression, Ty, Block, Contents, Many, Item, File, EndsExpression, EndsType}
 use Rattle.rap_grammar.specs.MacroCall.{IsMacroCall}
+use Rattle.rap_grammar.specs.Mixed.{IsFront}
 use Rattle.rap_grammar.specs.Top.{IsTopOf, IsRootOf}
 use Rattle.rap_rules.specs.Items.{source_file, mod_contents, item_or_macro}
 use Rattle.rap_rules.specs.Statements.{macro_stmts, stmt}
@@ -53,6 +54,21 @@ IsCall entry.Pattern input tree = ⊥
 IsCall entry.Ty input tree = ⊥
 IsCall entry.Expr input tree = ⊥
 IsCall entry.MetaItem input tree = ⊥
+
+-- Where an input begins with items of the core grammar and with `@`, `,` and integers, in any order, the entry's node
+-- begins with the tree of each, whatever follows the last such token.
+abbrev pub KeepsFront : TopEntryPoint → List Record → Forest → Type 0
+KeepsFront entry.SourceFile input output =
+    (front rest : List Record) (trees : Forest) → input ≡ front ++ rest → IsFront front rest trees →
+    (more : Forest) × (output ≡ node none SOURCE_FILE (trees ⧺ more))
+KeepsFront entry.MacroStmts input output = Unit {0}
+KeepsFront entry.MacroItems input output =
+    (front rest : List Record) (trees : Forest) → input ≡ front ++ rest → IsFront front rest trees →
+    (more : Forest) × (output ≡ node none MACRO_ITEMS (trees ⧺ more))
+KeepsFront entry.Pattern input output = Unit {0}
+KeepsFront entry.Ty input output = Unit {0}
+KeepsFront entry.Expr input output = Unit {0}
+KeepsFront entry.MetaItem input output = Unit {0}
 
 -- What a prefix entry gives of the front of an input.
 abbrev pub IsPrefixOutputOf : PrefixEntryPoint → List Record → Forest → Type 0

@@ -71,7 +71,7 @@ pub enum TopEntryPoint {
 }
 
 impl TopEntryPoint {
-    ghost use Rattle.ra_ap_parser.specs.EntryScript.{IsOutputOf, IsCore, IsCall};
+    ghost use Rattle.ra_ap_parser.specs.EntryScript.{IsOutputOf, IsCore, IsCall, KeepsFront};
 
     /// Reads the input as one tree.
     fn run(&self, alloc: Global, input: &Input) -> Result<Output, NoMemory>
@@ -99,13 +99,16 @@ impl TopEntryPoint {
     /// `MacroItems`, where the tree is a `MACRO_ITEMS` of them; and as what stands in the braces of a block, under
     /// `MacroStmts`, where it is a `MACRO_STMTS` of the statements, and of the value behind them if there is one. A macro
     /// call, of a name and balanced tokens in braces, gives under `SourceFile` and `MacroItems` the entry's node over one
-    /// `MACRO_CALL`, whose `TOKEN_TREE` nests as the brackets do, without a message.
+    /// `MACRO_CALL`, whose `TOKEN_TREE` nests as the brackets do, without a message. Where an input begins with items of
+    /// the core grammar and with `@`, `,` and integers, in any order, the entry's node begins under these two with the
+    /// tree of each item and an `ERROR` of a message and one leaf for each such token, whatever follows the last one.
     pub fn parse(&self, alloc: Global, input: &Input) -> Result<Output, ParseFault>
         ensures tree { IfOk result (IsTreeOver input.now) }
         ensures script { IfOk result (IsOutputOf self.now input.now) }
         ensures only { IfOk result (λ output. (other : Forest) → IsOutputOf self.now input.now other → other ≡ output) }
         ensures core { IfOk result (λ output. (tree : Forest) → IsCore self.now input.now tree → (output ≡ tree) × (message_count output ≡ 0)) }
         ensures macro_call { IfOk result (λ output. (tree : Forest) → IsCall self.now input.now tree → (output ≡ tree) × (message_count output ≡ 0)) }
+        ensures front { IfOk result (KeepsFront self.now input.now) }
         ensures too_many { (result ≡ Err ParseFault.TooManyTokens) ↔ (MAX_TOKENS < length input.now) }
     {
         if has_too_many_tokens(input) {

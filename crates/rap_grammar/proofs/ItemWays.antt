@@ -33,7 +33,12 @@ Goes v s b rs f l g =
 -- a script that ends the newest open node, which has a forest already
 abbrev pub Ends : Script Phrase → List Forest → Forest → List Record → Forest → List Record → Forest → Type 0
 Ends s b f rs x l g =
-    Runs script_of s (record { rest = rs; forest = x; below = f ∷ b }) (record { rest = l; forest = g; below = b }) something
+    Runs script_of s (record { rest = rs; forest = x; below = f ∷ b }) (record {
+      rest = l;
+      forest = g;
+      below =
+          b;
+    }) something
 
 -- what begins with no attribute
 pub no_attribute : (test : ℕ → Bool) (k : ℕ) → test k ≡ true → test POUND ≡ false → test OUTER_DOC_COMMENT ≡ false →
@@ -42,7 +47,12 @@ no_attribute test k h p d = rw (differ_back test k POUND h p, differ_back test k
 
 abbrev pub EndsNothing : Script Phrase → List Forest → Forest → List Record → Forest → List Record → Forest → Type 0
 EndsNothing s b f rs x l g =
-    Runs script_of s (record { rest = rs; forest = x; below = f ∷ b }) (record { rest = l; forest = g; below = b }) nothing
+    Runs script_of s (record { rest = rs; forest = x; below = f ∷ b }) (record {
+      rest = l;
+      forest = g;
+      below =
+          b;
+    }) nothing
 
 -- a name that is given
 pub given_name_way : (kept : ℕ → Bool) {b : List Forest} {r : Record} {l : List Record} {f : Forest} → r.kind ≡ IDENT →
@@ -56,7 +66,8 @@ pub pub_way : (t : Bool) {b : List Forest} {a : Record} {rs : List Record} {f : 
     Leads (opt_visibility t) b (a ∷ rs) f rs (node f VISIBILITY (leaf none PUB_KW 1))
 unfolding opt_visibility opt_visibility_inner
 pub_way t e n =
-    passes (rw e refl) (starts (takes (rw e refl) (follows (fails (rw n refl) (fails (rw n refl) gives)) (finishes gives))))
+    passes (rw e refl) (starts (takes (rw e refl) (follows (fails (rw n refl) (fails (rw n refl) gives))
+    (finishes gives))))
 
 pub no_pub_way : (t : Bool) {b : List Forest} {rs : List Record} {f : Forest} → (next_kind rs == PUB_KW) ≡ false →
     Goes nothing (opt_visibility t) b rs f rs f
@@ -81,7 +92,8 @@ pub unmodified_way : (ext : Bool) (v : Outcome) {b : List Forest} {rs m l : List
 unfolding opt_item
 unmodified_way ext v x y = follows x (follows y gives)
 
-pub mod_way : {b : List Forest} {a n : Record} {rs l : List Record} {f x y : Forest} → a.kind ≡ MOD_KW → n.kind ≡ IDENT →
+pub mod_way : {b : List Forest} {a n : Record} {rs l : List Record} {f x y : Forest} → a.kind ≡ MOD_KW →
+    n.kind ≡ IDENT →
     Leads mod_body (f ∷ b) rs (node (leaf x MOD_KW 1) NAME (leaf none IDENT 1)) l y →
     Ends opt_item_without_modifiers b f (a ∷ n ∷ rs) x l (node f MODULE y)
 unfolding opt_item_without_modifiers mod_item name
@@ -120,7 +132,8 @@ pub items_on : (stop : Bool) {b : List Forest} {rs m l : List Record} {f x g : F
 unfolding items script_of
 items_on stop e r x y = turns (fails e (fails r (obeys x gives))) y
 
-pub contents_way : (stop : Bool) {b : List Forest} {rs l : List Record} {f g : Forest} → (next_kind rs == POUND) ≡ false →
+pub contents_way : (stop : Bool) {b : List Forest} {rs l : List Record} {f g : Forest} →
+    (next_kind rs == POUND) ≡ false →
     (next_kind rs == INNER_DOC_COMMENT) ≡ false → Leads (items stop) b rs f l g → Leads (mod_contents stop) b rs f l g
 unfolding mod_contents
 contents_way stop p d x = follows (no_inner_attributes p d) x
@@ -276,10 +289,12 @@ no_modifiers : (ext : Bool) {b : List Forest} {a : Record} {rs : List Record} {f
 unfolding modifiers opt_impl_restriction qualifiers safety opt_abi auto_or_default opt_default modifier modifier_as
 no_modifiers ext e =
     follows (fails (rw e refl) gives)
-    (follows (follows (fails (rw e refl) gives) (follows (fails (rw e refl) gives) (follows (fails (rw e refl) gives) gives)))
+    (follows (follows (fails (rw e refl) gives) (follows (fails (rw e refl) gives) (follows (fails
+    (rw e refl) gives) gives)))
     (follows (follows (fails (rw e refl) gives) (follows (fails (rw (e, and_false ext) refl) gives) gives))
     (follows (fails (rw e refl) gives)
-    (follows (follows (fails (rw e refl) gives) (follows (fails (rw e refl) (fails (rw e refl) (fails (rw e refl) gives))) gives))
+    (follows (follows (fails (rw e refl) gives) (follows (fails (rw e refl) (fails (rw e refl) (fails
+    (rw e refl) gives))) gives))
     gives))))
 
 no_unmodified : {b : List Forest} {a : Record} {rs : List Record} {f : Forest} → a.kind ≡ FN_KW →
@@ -296,12 +311,14 @@ pub fn_way : (ext : Bool) (v : Outcome) {b : List Forest} {rs m k l : List Recor
 unfolding opt_item opt_modified_item opt_item_with_modifiers fn_ fn_body
 fn_way ext v x e n g y c z =
     follows x (follows (no_unmodified e) (follows (no_modifiers ext e) (follows (passes (rw e refl) (takes (rw e refl)
-    (follows (given_name_way _ n) (follows (no_generics g) (follows y (follows (fails (rw c refl) z) (finishes gives)))))))
+    (follows (given_name_way _ n) (follows (no_generics g) (follows y (follows (fails (rw c refl) z)
+    (finishes gives)))))))
     gives)))
 
 -- the parameters and what a function gives back
 pub signature_way : {b : List Forest} {rs m l : List Record} {f x g : Forest} → next_kind rs ≡ L_PAREN →
-    Leads param_list_fn_def b rs f m x → Leads fn_ret_type b m x l g → next_kind l ≡ L_CURLY → Leads signature b rs f l g
+    Leads param_list_fn_def b rs f m x → Leads fn_ret_type b m x l g → next_kind l ≡ L_CURLY →
+    Leads signature b rs f l g
 unfolding signature fn_params unbalanced_brackets
 signature_way e x y c =
     follows (passes (rw e refl) x) (follows y (follows (stops (fails (rw c refl) gives) refl) (no_where (rw c refl))))
@@ -341,7 +358,11 @@ unfolding marked_param fn_def_param param_type variadic_param ascription after_p
 param_way {rs = rs} {m = m} e x c t y d =
     let k = next_kind m in
     passes (rw e refl) (follows (fails (not_first DOT (DOT ∷ DOT ∷ []) rs (rw e refl))
-    (follows x (follows (fails (rw (not_first DOT (DOT ∷ DOT ∷ []) m (differ begins_type k DOT t refl), and_false _) refl) gives)
+    (follows x (follows (fails (rw (
+      not_first DOT (DOT ∷ DOT ∷ []) m
+          (differ begins_type k DOT t refl),
+      and_false _,
+    ) refl) gives)
     (passes (rw c refl) (takes (rw c refl) (fails (differ begins_type k EQ t refl) (follows y gives)))))))
     (finishes (passes (rw d refl) (takes (rw d refl) gives))))
 
@@ -353,7 +374,11 @@ unfolding marked_param fn_def_param param_type variadic_param ascription after_p
 param_last_way {rs = rs} {m = m} e x c t y d =
     let k = next_kind m in
     passes (rw e refl) (follows (fails (not_first DOT (DOT ∷ DOT ∷ []) rs (rw e refl))
-    (follows x (follows (fails (rw (not_first DOT (DOT ∷ DOT ∷ []) m (differ begins_type k DOT t refl), and_false _) refl) gives)
+    (follows x (follows (fails (rw (
+      not_first DOT (DOT ∷ DOT ∷ []) m
+          (differ begins_type k DOT t refl),
+      and_false _,
+    ) refl) gives)
     (passes (rw c refl) (takes (rw c refl) (fails (differ begins_type k EQ t refl) (follows y gives)))))))
     (finishes (fails (rw d refl) (fails (rw d refl) gives))))
 
@@ -363,7 +388,12 @@ no_self [] e = refl
 no_self (r ∷ rs) e = rw e refl
 
 pub first_param_way : {v : Outcome} {b : List Forest} {rs l : List Record} {f g : Forest} → next_kind rs ≡ IDENT →
-    Runs script_of (marked_param flavor.FnDef) (record { rest = rs; forest = none; below = f ∷ b }) (record { rest = l; forest = g; below = b }) v →
+    Runs script_of (marked_param flavor.FnDef) (record { rest = rs; forest = none; below = f ∷ b }) (record {
+      rest =
+          l;
+      forest = g;
+      below = b;
+    }) v →
     Goes v first_param b rs f l g
 unfolding first_param opt_self_param
 first_param_way {rs = rs} e x =

@@ -24,9 +24,11 @@ no_named_item : {b : List Forest} {r : Record} {rs : List Record} {f : Forest} �
 unfolding opt_item_without_modifiers opt_item_by_name
 no_named_item n =
     let e = n.kind in
-    fails (rw e refl) (fails (rw e refl) (fails (rw e refl) (fails (rw e refl) (fails (rw e refl) (fails (rw e refl) (fails (rw e refl)
+    fails (rw e refl) (fails (rw e refl) (fails (rw e refl) (fails (rw e refl) (fails (rw e refl) (fails (rw e refl)
+    (fails (rw e refl)
     (fails (rw e refl) (fails (rw e refl) (passes (rw e refl)
-    (fails (rw (e, n.contextual) refl) (fails (rw (e, n.contextual) refl) (fails (rw (e, n.contextual) refl) gives))))))))))))
+    (fails (rw (e, n.contextual) refl) (fails (rw (e, n.contextual) refl) (fails (rw
+    (e, n.contextual) refl) gives))))))))))))
 
 no_modifiers_of_name : (ext : Bool) {b : List Forest} {r : Record} {rs : List Record} {f : Forest} → IsName r →
     Goes (again false false) (modifiers ext) b (r ∷ rs) f (r ∷ rs) f
@@ -35,7 +37,8 @@ no_modifiers_of_name ext n =
     let e = n.kind in
     let c = n.contextual in
     follows (fails (rw e refl) gives)
-    (follows (follows (fails (rw e refl) gives) (follows (fails (rw e refl) gives) (follows (fails (rw e refl) gives) gives)))
+    (follows (follows (fails (rw e refl) gives) (follows (fails (rw e refl) gives) (follows (fails
+    (rw e refl) gives) gives)))
     (follows (follows (fails (rw e refl) gives) (follows (fails (rw (e, c, and_false ext) refl) gives) gives))
     (follows (fails (rw e refl) gives)
     (follows (follows (fails (rw (e, c) refl) gives)
@@ -53,7 +56,8 @@ no_item_of_name ext n =
 
 -- a path that is one name, before a `!`
 call_path_way : {b : List Forest} {r e : Record} {l : List Record} {f : Forest} → IsName r → Is e BANG →
-    Leads use_path b (r ∷ e ∷ l) f (e ∷ l) (node f PATH (node none PATH_SEGMENT (node none NAME_REF (leaf none IDENT 1))))
+    Leads use_path b (r ∷ e ∷ l) f (e ∷ l) (node f PATH (node none PATH_SEGMENT (node none NAME_REF
+    (leaf none IDENT 1))))
 unfolding use_path path path_segment segment_name opt_path_args path_for_qualifier
 call_path_way n e =
     let k = n.kind in
@@ -62,16 +66,20 @@ call_path_way n e =
     (finishes (stops (fails (rw e.kind_is refl) gives) refl)))) gives
 
 -- a macro call from the newest node on
-call_way : {b : List Forest} {r e a c : Record} {ks l : List Record} {f t : Forest} → IsName r → Is e BANG → Is a L_CURLY →
+call_way : {b : List Forest} {r e a c : Record} {ks l : List Record} {f t : Forest} → IsName r → Is e BANG →
+    Is a L_CURLY →
     Balanced ks t → Is c R_CURLY →
     Ends path_item b f (r ∷ e ∷ a ∷ (ks ++ c ∷ l)) none l (f ⧺ call_tree t)
 unfolding path_item macro_call macro_call_after_excl
 call_way {b = b} {a = a} {c = c} {ks = ks} {l = l} {f = f} {t = t} n e o d i =
     let p : ArePartners a c = record { opens = rw o.kind_is refl; closes = rw (o.kind_is, i.kind_is) refl } in
     let g = leaf (node none PATH (node none PATH_SEGMENT (node none NAME_REF (leaf none IDENT 1)))) BANG 1 in
-    let same : in_brackets a t c ≡ node none TOKEN_TREE (leaf (leaf none L_CURLY 1 ⧺ t) R_CURLY 1) = rw (o.kind_is, i.kind_is) refl in
-    let tree = subst (λ (x : Forest). Leads bracketed_tokens (f ∷ b) (a ∷ (ks ++ c ∷ l)) g l (g ⧺ x)) same (balanced_way p d (f ∷ b) g l) in
-    follows (call_path_way n e) (passes (rw e.kind_is refl) (follows (takes (rw e.kind_is refl) (passes (rw o.kind_is refl)
+    let same : in_brackets a t c ≡ node none TOKEN_TREE (leaf (leaf none L_CURLY 1 ⧺ t) R_CURLY 1) =
+    rw (o.kind_is, i.kind_is) refl in
+    let tree = subst (λ (x : Forest). Leads bracketed_tokens (f ∷ b) (a ∷ (ks ++ c ∷ l)) g l (g ⧺ x)) same
+    (balanced_way p d (f ∷ b) g l) in
+    follows (call_path_way n e) (passes (rw e.kind_is refl) (follows (takes (rw e.kind_is refl) (passes
+    (rw o.kind_is refl)
     (follows tree gives))) (finishes gives)))
 
 -- what begins no attribute of what it stands in, and no file's beginning
@@ -80,15 +88,18 @@ named_contents : {b : List Forest} {r : Record} {rs l : List Record} {g : Forest
 named_contents n x = contents_way false (rw n.kind refl) (rw n.kind refl) x
 
 -- a macro call that is all there is, and the same as a file
-pub call_whole : {ks : List Record} {t : Forest} → IsMacroCall ks t → (b : List Forest) → Leads (mod_contents false) b ks none [] t
+pub call_whole : {ks : List Record} {t : Forest} → IsMacroCall ks t → (b : List Forest) →
+    Leads (mod_contents false) b ks none [] t
 unfolding item_or_macro marked_item macro_or_error
 call_whole (called n e o d i) b =
     let k = n.kind in
     named_contents n (items_on false (rw k refl) (rw k refl)
-    (starts (follows (no_attributes (rw k refl)) (follows (no_item_of_name true n) (passes (rw k refl) (call_way n e o d i)))))
+    (starts (follows (no_attributes (rw k refl)) (follows (no_item_of_name true n) (passes (rw k refl)
+    (call_way n e o d i)))))
     (items_end false))
 
-pub call_file : {ks : List Record} {t : Forest} → IsMacroCall ks t → (b : List Forest) → Leads source_file b ks none [] t
+pub call_file : {ks : List Record} {t : Forest} → IsMacroCall ks t → (b : List Forest) →
+    Leads source_file b ks none [] t
 unfolding source_file
 call_file (called n e o d i) b =
     let k = n.kind in

@@ -1,5 +1,5 @@
 -- Statements by their expressions.
-use Rattle.std.proofs.Common.{Bool, true, false}
+use Rattle.std.proofs.Common.{true}
 use Rattle.rap_events.specs.State.{State}
 use Rattle.rap_rules.specs.Called.{as_statement}
 use Rattle.rap_rules.specs.Expressions.{expr_bp, of_like, is_block}

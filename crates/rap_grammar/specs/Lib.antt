@@ -1,4 +1,5 @@
 pub mod Derives
 pub mod MacroCall
+pub mod Mixed
 pub mod Part
 pub mod Top

@@ -10,7 +10,8 @@ use Rattle.rap_grammar.specs.Derives.{IsName, Is}
 -- the tree of a call: the path of its name, the `!`, and what stands in its braces
 abbrev pub call_tree : Forest → Forest
 call_tree t =
-    node none MACRO_CALL (node (leaf (node none PATH (node none PATH_SEGMENT (node none NAME_REF (leaf none IDENT 1)))) BANG 1)
+    node none MACRO_CALL (node (leaf (node none PATH (node none PATH_SEGMENT (node none NAME_REF
+    (leaf none IDENT 1)))) BANG 1)
     TOKEN_TREE (leaf (leaf none L_CURLY 1 ⧺ t) R_CURLY 1))
 
 -- A name that is read as nothing else, `!`, and any tokens whose brackets are balanced, in braces: a `MACRO_CALL`, whose

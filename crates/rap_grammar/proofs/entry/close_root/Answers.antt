@@ -1,6 +1,4 @@
-use Rattle.std.proofs.Common.{◌≡◌, ap, arith, length}
-use Rattle.rap_events.specs.Forest.{used}
-use Rattle.rap_events.specs.State.{state}
+use Rattle.std.proofs.Common.{ap, arith, length}
 use Rattle.rap_grammar.proofs.TopTree.{left-none}
 use Rattle.rap_grammar.proofs.entry.close_root.Goals as goal
 

@@ -1,4 +1,4 @@
-use Rattle.ra_ap_parser.proofs.EntryTrees.{core_tree, call_tree, one_entry_output}
+use Rattle.ra_ap_parser.proofs.EntryTrees.{core_tree, call_tree, front_kept, one_entry_output}
 use Rattle.ra_ap_parser.proofs.entry_point.TopEntryPoint.parse.Goals as goal
 
 pub returns-in-Ok-clause-only : goal.returns-in-Ok-clause-only
@@ -9,3 +9,6 @@ returns-in-Ok-clause-core c = λ tree d. core_tree c.args.self.now _ c.in-Ok.ens
 
 pub returns-in-Ok-clause-macro_call : goal.returns-in-Ok-clause-macro_call
 returns-in-Ok-clause-macro_call c = λ tree d. call_tree c.args.self.now _ c.in-Ok.ensures.script d
+
+pub returns-in-Ok-clause-front : goal.returns-in-Ok-clause-front
+returns-in-Ok-clause-front c = front_kept c.args.self.now _ _ c.in-Ok.ensures.script
