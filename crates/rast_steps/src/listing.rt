@@ -9,7 +9,7 @@ ghost use Rattle.ra_ap_parser.specs.LexedStr.{IsLexing};
 ghost use Rattle.ra_ap_parser.specs.StrForest.{str_flat};
 ghost use Rattle.ra_ap_parser.specs.Trivia.{significant, with_trivia};
 ghost use Rattle.rast_print.specs.Printed.{printed, reported};
-ghost use Rattle.rast_steps.specs.Listed.{step_line, step_lines, end_after, used_line, tree_lines};
+ghost use Rattle.rast_steps.specs.Listed.{step_line, step_lines, end_after, used_line, tree_lines, tree_part};
 ghost use Rattle.rast_steps.specs.Page.{Comes, ComesOfNode, Lists, ListsNode, ListsPrefix, ListsSteps};
 
 use crate::asked::Asked;
@@ -44,20 +44,6 @@ impl From<LexFault> for ListFault {
         match fault {
             LexFault::TextTooLong => ListFault::TextTooLong,
             LexFault::NoMemory => ListFault::NoMemory,
-        }
-    }
-}
-
-impl From<ParseFault> for ListFault {
-    ghost use Rattle.ra_ap_parser.specs.declared.entry_point.ParseFault.TheVariants as parse;
-    ghost use Rattle.rast_steps.specs.declared.listing.ListFault.TheVariants.{TooManyTokens, NoMemory};
-
-    ghost from_gives = { λ from fault. ((from ≡ parse.TooManyTokens) ↔ (fault ≡ TooManyTokens)) × ((from ≡ parse.NoMemory) ↔ (fault ≡ NoMemory)) };
-
-    fn from(fault: ParseFault) -> ListFault {
-        match fault {
-            ParseFault::TooManyTokens => ListFault::TooManyTokens,
-            ParseFault::NoMemory => ListFault::NoMemory,
         }
     }
 }
@@ -114,6 +100,7 @@ fn push_steps(lines: &mut String, output: &Output) -> Result<(), AllocError>
 }
 
 /// How many tokens an output took.
+#[tactic(auto, using(crate::proofs::Listings::tokens_in_flat))]
 fn used_tokens(output: &Output) -> usize
     requires { used output.now ≤ 8388607 }
     ensures { result ≡ used output.now }
@@ -185,6 +172,25 @@ fn push_tree(
     Ok(())
 }
 
+/// Adds the lines of the tree behind a line that says so, where the output is one tree.
+#[tactic(auto, using(crate::proofs::Listings::no_tree, crate::proofs::Listings::a_tree))]
+fn push_tree_part(
+    alloc: Global,
+    lines: &mut String,
+    lexed: &LexedStr<'_>,
+    output: &Output,
+) -> Result<(), NoMemory>
+    requires prefix { (edition : Edition) × (covers (records lexed.now.tokens edition) output.now ≡ true) }
+    ensures { OnOk result (string_bytes lines.new ≡ string_bytes lines.old ++ tree_part lexed.now.tokens output.now) }
+{
+    if !is_one_tree(output) {
+        return Ok(());
+    }
+    lines.push_str("tree\n")?;
+    push_tree(alloc, lines, lexed, output)?;
+    Ok(())
+}
+
 /// A text as the parser reads it.
 #[derive(Drop)]
 struct Reading<'t> {
@@ -205,6 +211,7 @@ fn read(alloc: Global, edition: Edition, text: &str) -> Result<Reading<'_>, List
 }
 
 /// Lists the steps of the whole text.
+#[tactic(auto, using(crate::proofs::Listings::too_many))]
 fn list_steps(
     alloc: Global,
     edition: Edition,
@@ -215,13 +222,18 @@ fn list_steps(
     ensures fault { IfErr result (Comes text.now edition (Asked.Steps entry)) }
 {
     let reading = read(alloc, edition, text)?;
-    let output = entry.parse(alloc, &reading.input)?;
+    let output = match entry.parse(alloc, &reading.input) {
+        Ok(output) => output,
+        Err(ParseFault::TooManyTokens) => return Err(ListFault::TooManyTokens),
+        Err(ParseFault::NoMemory) => return Err(ListFault::NoMemory),
+    };
     let mut lines = String::new(alloc);
     push_steps(&mut lines, &output)?;
     Ok(lines)
 }
 
 /// Lists the steps of what stands at the front of the text and where it ends, and where it is one tree that tree.
+#[tactic(auto, using(crate::proofs::Listings::too_many))]
 fn list_prefix(
     alloc: Global,
     edition: Edition,
@@ -232,18 +244,20 @@ fn list_prefix(
     ensures fault { IfErr result (Comes text.now edition (Asked.Prefix entry)) }
 {
     let reading = read(alloc, edition, text)?;
-    let output = entry.parse(alloc, &reading.input)?;
+    let output = match entry.parse(alloc, &reading.input) {
+        Ok(output) => output,
+        Err(ParseFault::TooManyTokens) => return Err(ListFault::TooManyTokens),
+        Err(ParseFault::NoMemory) => return Err(ListFault::NoMemory),
+    };
     let mut lines = String::new(alloc);
     push_steps(&mut lines, &output)?;
     push_used(&mut lines, &reading.lexed, &output)?;
-    if is_one_tree(&output) {
-        lines.push_str("tree\n")?;
-        push_tree(alloc, &mut lines, &reading.lexed, &output)?;
-    }
+    push_tree_part(alloc, &mut lines, &reading.lexed, &output)?;
     Ok(lines)
 }
 
 /// Lists the tree of a node that is parsed again, or its steps where it is no tree, and where it ends.
+#[tactic(auto, using(crate::proofs::Listings::too_many))]
 fn list_node(
     alloc: Global,
     edition: Edition,
@@ -257,7 +271,11 @@ fn list_node(
     if !reparser.can_parse(&reading.input) {
         return Err(ListFault::NoBrace);
     }
-    let output = reparser.parse(alloc, &reading.input)?;
+    let output = match reparser.parse(alloc, &reading.input) {
+        Ok(output) => output,
+        Err(ParseFault::TooManyTokens) => return Err(ListFault::TooManyTokens),
+        Err(ParseFault::NoMemory) => return Err(ListFault::NoMemory),
+    };
     let mut lines = String::new(alloc);
     if is_one_tree(&output) {
         push_tree(alloc, &mut lines, &reading.lexed, &output)?;
