@@ -7,6 +7,7 @@ use crate::entry_point::PrefixEntryPoint;
 use crate::lexed_str::LexedStr;
 use crate::reparser::Reparser;
 use rap_base::edition::Edition;
+use rap_base::syntax_kind::SyntaxKind;
 use rap_events::input::Input;
 use rap_events::output::{Output, Step};
 use std::alloc::{AllocError, Global};
@@ -31,23 +32,28 @@ fn push_message(steps: &mut String, message: &str) -> Result<(), AllocError> {
     Ok(())
 }
 
-/// Adds a step that ends nothing.
+/// Adds a token that stands for so many.
+fn push_token(steps: &mut String, kind: SyntaxKind, count: u8) -> Result<(), AllocError> {
+    steps.push_str(kind.name())?;
+    if count > 1 {
+        write!(steps, "*{count}")?;
+    }
+    Ok(())
+}
+
+/// Adds a step.
 fn push_step(steps: &mut String, step: Step<'_>) -> Result<(), AllocError> {
     match step {
         Step::Enter { kind } => write!(steps, "{}(", kind.name())?,
-        Step::Token {
-            kind,
-            n_input_tokens: 1,
-        } => steps.push_str(kind.name())?,
+        Step::Exit => steps.push_str(")")?,
         Step::Token {
             kind,
             n_input_tokens,
-        } => write!(steps, "{}*{n_input_tokens}", kind.name())?,
+        } => push_token(steps, kind, n_input_tokens)?,
         Step::FloatSplit { ends_in_dot } => {
-            steps.push_str(if ends_in_dot { "float." } else { "float" })?;
+            steps.push_str(if ends_in_dot { "float." } else { "float" })?
         }
         Step::Error { msg } => push_message(steps, msg)?,
-        Step::Exit => steps.push_str(")")?,
     }
     Ok(())
 }
@@ -136,16 +142,27 @@ fn compare_text(
     Ok(())
 }
 
+/// Compares a text with what stands behind it.
+fn compare_rest(
+    rt: &impl Abort,
+    alloc: Global,
+    read: Read,
+    text: &str,
+    rest: &str,
+) -> Result<(), Fail> {
+    let Some((used, lines)) = rest.split_once('»') else {
+        return Err(Fail::from("what is used has no end"));
+    };
+    compare_text(rt, alloc, read, (text, used, lines))
+}
+
 /// Compares each text of a table with what stands behind it.
 fn compare_table(rt: &impl Abort, alloc: Global, read: Read, table: &str) -> Result<(), Fail> {
     for row in table.split('«').skip(1) {
         let Some((text, rest)) = row.split_once('»') else {
             return Err(Fail::from("a text without an end"));
         };
-        let Some((used, lines)) = rest.split_once('»') else {
-            return Err(Fail::from("what is used has no end"));
-        };
-        compare_text(rt, alloc, read, (text, used, lines))?;
+        compare_rest(rt, alloc, read, text, rest)?;
     }
     Ok(())
 }

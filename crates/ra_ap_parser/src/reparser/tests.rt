@@ -274,14 +274,13 @@ fn item_lists(rt: HostRuntime) -> Result<(), Fail> {
 fn other_nodes_are_not_parsed_again(rt: HostRuntime) -> Result<(), Fail> {
     let tree = SyntaxKind::TOKEN_TREE;
     let items = SyntaxKind::ASSOC_ITEM_LIST;
-    let curly = Some(SyntaxKind::L_CURLY);
     assert!(rt; Reparser::for_node(tree, Some(SyntaxKind::L_PAREN), None).is_none());
     assert!(rt; Reparser::for_node(tree, None, None).is_none());
-    assert!(rt; Reparser::for_node(tree, None, curly).is_none());
+    assert!(rt; Reparser::for_node(tree, None, Some(SyntaxKind::L_CURLY)).is_none());
     assert!(rt; Reparser::for_node(items, None, Some(SyntaxKind::FN)).is_none());
     assert!(rt; Reparser::for_node(items, None, None).is_none());
     assert!(rt; Reparser::for_node(items, Some(SyntaxKind::IMPL), None).is_none());
-    assert!(rt; Reparser::for_node(SyntaxKind::FN, curly, None).is_none());
+    assert!(rt; Reparser::for_node(SyntaxKind::FN, Some(SyntaxKind::L_CURLY), None).is_none());
     Ok(())
 }
 
