@@ -99,7 +99,7 @@ fn used_text<'t>(lexed: &LexedStr<'t>, count: usize) -> &'t str {
 }
 
 /// Reads the input.
-fn parse(alloc: Global, read: Read, input: &Input) -> Result<Output, Fail> {
+fn parse(alloc: Global, read: &Read, input: &Input) -> Result<Output, Fail> {
     match read {
         Read::Front(entry) => Ok(entry.parse(alloc, input)?),
         Read::Node(reparser) => {
@@ -128,7 +128,7 @@ fn joined(alloc: Global, lines: &str) -> Result<String, AllocError> {
 fn compare_text(
     rt: &impl Abort,
     alloc: Global,
-    read: Read,
+    read: &Read,
     (text, used, lines): (&str, &str, &str),
 ) -> Result<(), Fail> {
     let edition = Edition::LATEST;
@@ -142,27 +142,20 @@ fn compare_text(
     Ok(())
 }
 
-/// Compares a text with what stands behind it.
-fn compare_rest(
-    rt: &impl Abort,
-    alloc: Global,
-    read: Read,
-    text: &str,
-    rest: &str,
-) -> Result<(), Fail> {
-    let Some((used, lines)) = rest.split_once('»') else {
-        return Err(Fail::from("what is used has no end"));
-    };
-    compare_text(rt, alloc, read, (text, used, lines))
+/// The text of a row, what is used of it, and the steps.
+fn parts_of(row: &str) -> Option<(&str, &str, &str)> {
+    let (text, rest) = row.split_once('»')?;
+    let (used, lines) = rest.split_once('»')?;
+    Some((text, used, lines))
 }
 
 /// Compares each text of a table with what stands behind it.
-fn compare_table(rt: &impl Abort, alloc: Global, read: Read, table: &str) -> Result<(), Fail> {
+fn compare_table(rt: &impl Abort, alloc: Global, read: &Read, table: &str) -> Result<(), Fail> {
     for row in table.split('«').skip(1) {
-        let Some((text, rest)) = row.split_once('»') else {
-            return Err(Fail::from("a text without an end"));
+        let Some(parts) = parts_of(row) else {
+            return Err(Fail::from("a row without its parts"));
         };
-        compare_rest(rt, alloc, read, text, rest)?;
+        compare_text(rt, alloc, read, parts)?;
     }
     Ok(())
 }
@@ -174,7 +167,7 @@ pub fn fronts(
     entry: PrefixEntryPoint,
     table: &str,
 ) -> Result<(), Fail> {
-    compare_table(rt, alloc, Read::Front(entry), table)
+    compare_table(rt, alloc, &Read::Front(entry), table)
 }
 
 /// The same as a node that is parsed again.
@@ -187,5 +180,5 @@ pub fn nodes(
     let Some(reparser) = reparser else {
         return Err(Fail::from("the node cannot be parsed again"));
     };
-    compare_table(rt, alloc, Read::Node(reparser), table)
+    compare_table(rt, alloc, &Read::Node(reparser), table)
 }

@@ -168,6 +168,7 @@ fn reports_that_it_cannot_write(rt: HostRuntime) -> Result<(), Fail> {
     let status = run(rt.alloc(), edition, asked, "", &mut Closed, &mut err)?;
     assert_eq!(rt; status, 2);
     assert_eq!(rt; err.as_slice(), "rast_steps: cannot write\n".as_bytes());
+    let asked = Asked::Prefix(PrefixEntryPoint::Vis);
     let got = run(rt.alloc(), edition, asked, "", &mut Closed, &mut Closed);
     assert!(rt; got.is_err());
     Ok(())
