@@ -20,9 +20,10 @@ pub data Outcome : Type 0 where
   again : Bool → Bool → Outcome
 
 -- A script over rules with these names. It ends with an outcome. It goes on as the tokens that come next say, or by a
--- test of them, or as the last token taken was of a kind or not. It takes a token: of a kind, under its own kind, or under another kind that it may bear. It reports a
--- message, or reports one and takes the next token into an `ERROR`. It starts a node, starts one around the last node,
--- finishes the newest one under a kind, lets the last node begin where the newest one does, or abandons the newest one.
+-- test of them, or as the last token taken was of a kind or not. It takes a token: of a kind, under its own kind, or
+-- under another kind that it may bear. It reports a message, or reports one and takes the next token into an `ERROR`. It
+-- starts a node, starts one around the last node, finishes the newest one under a kind, lets the last node begin where
+-- the newest one does, or abandons the newest one.
 -- It takes a float apart, which finishes the field access that is the newest node, and where the float does not end in
 -- a dot another one around it; and goes on as the float ends in a dot or not.
 -- It goes on after another script, or after a rule, as their outcome says. It takes turns, as long as they answer so.

@@ -81,7 +81,7 @@ fn postfix_dot_expr<G: Grammar>(
     Ok(access)
 }
 
-/// What follows a dot, and whether more may follow that: behind the dot of a float stands no range.
+/// What follows a dot, and whether more may follow that: a range behind the dot of a float ends all postfixes.
 ///
 /// A float is one field, as `0.` in `a.0. b`, or two, as `0.1` in `a.0.1`. Its own dot may end it, and is then followed as
 /// any other.
