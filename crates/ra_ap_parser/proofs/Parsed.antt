@@ -5,18 +5,21 @@ use Rattle.rap_events.specs.Cover.{covers}
 use Rattle.rap_events.specs.Forest.{Forest, flat}
 use Rattle.rap_events.specs.Record.{Record}
 use Rattle.rap_grammar.specs.Top.{IsTreeOver}
+use Rattle.ra_ap_parser.specs.EntryScript.{IsOutputOf}
 use Rattle.ra_ap_parser.specs.Input.{records}
 use Rattle.ra_ap_parser.specs.LexedStr.{Lexed, IsLexing}
 use Rattle.ra_ap_parser.specs.OneLexing.{IsOnlyLexing}
 use Rattle.ra_ap_parser.specs.StrForest.{str_one_tree}
 use Rattle.ra_ap_parser.specs.Trivia.{significant, with_trivia}
 use Rattle.ra_ap_parser.specs.Headline.{HasTooManyTokens, IsParsed}
+use Rattle.ra_ap_parser.specs.declared.entry_point.TopEntryPoint.{TopEntryPoint}
+use Rattle.ra_ap_parser.proofs.EntryTrees.{core_tree}
 
 at_most : (m n : ℕ) → (m < n → ⊥) → n ≤ m
 at_most m n h = omega (arith, h)
 
-pub parsed : (text : List ℕ) (edition : Edition) (lexed : Lexed) (input : List Record) (f : Forest) → (4294967295 < length text → ⊥) → IsLexing text edition lexed → input ≡ records lexed.tokens edition → (8388607 < length input → ⊥) → IsTreeOver input f → str_one_tree (with_trivia lexed.tokens f) ≡ true → IsParsed text edition lexed f
-parsed text edition lexed input f small lexing e few tree one = record {
+pub parsed : (text : List ℕ) (edition : Edition) (entry : TopEntryPoint) (lexed : Lexed) (input : List Record) (f : Forest) → (4294967295 < length text → ⊥) → IsLexing text edition lexed → input ≡ records lexed.tokens edition → (8388607 < length input → ⊥) → IsTreeOver input f → IsOutputOf entry input f → str_one_tree (with_trivia lexed.tokens f) ≡ true → IsParsed text edition entry lexed f
+parsed text edition entry lexed input f small lexing e few tree made one = record {
   small = at_most 4294967295 (length text) small;
   lexing = lexing;
   few_tokens = subst (λ (rs : List Record). length rs ≤ 8388607) e (at_most 8388607 (length input) few);
@@ -24,6 +27,8 @@ parsed text edition lexed input f small lexing e few tree one = record {
   covering = subst (λ (rs : List Record). covers rs f ≡ true) e tree.forest.covers;
   all_used = tree.forest.used ∙ ap length e;
   few_steps = subst (λ (rs : List Record). length (flat f) ≤ 256 * (length rs + 1)) e tree.forest.few;
+  made = subst (λ (rs : List Record). IsOutputOf entry rs f) e made;
+  core = λ t h. core_tree entry (records lexed.tokens edition) (subst (λ (rs : List Record). IsOutputOf entry rs f) e made) h;
   str_one = one;
 }
 

@@ -2,19 +2,22 @@
 use Rattle.std.specs.Prelude.{◌≡◌, ℕ, ◌+◌, ◌*◌, ◌≤◌, ◌<◌, List, Bool, true, length}
 use Rattle.rap_base.specs.declared.edition.Edition.{Edition}
 use Rattle.rap_events.specs.Cover.{covers}
-use Rattle.rap_events.specs.Forest.{Forest, flat, one_tree, used}
+use Rattle.rap_events.specs.Forest.{Forest, flat, one_tree, used, message_count}
+use Rattle.ra_ap_parser.specs.EntryScript.{IsOutputOf, IsCore}
 use Rattle.ra_ap_parser.specs.Input.{records}
 use Rattle.ra_ap_parser.specs.LexedStr.{Lexed, IsLexing}
 use Rattle.ra_ap_parser.specs.StrForest.{str_flat, str_joined, str_one_tree}
 use Rattle.ra_ap_parser.specs.StrSink.{Takes, Stops}
 use Rattle.ra_ap_parser.specs.StrStep.{StrStepValue}
 use Rattle.ra_ap_parser.specs.Trivia.{significant, with_trivia}
+use Rattle.ra_ap_parser.specs.declared.entry_point.TopEntryPoint.{TopEntryPoint}
 use Rattle.ra_ap_parser.specs.declared.whole_text.TextFault.{TextFault}
 use Rattle.ra_ap_parser.specs.declared.whole_text.TextFault.TheVariants.{TextTooLong, TooManyTokens, NoMemory, Refused}
 
--- The text's tokens; one tree over all those that are no trivia, in at most 256 steps for each and 256 more; and the
--- same tree with the trivia put back, which is one tree too.
-pub record IsParsed (text : List ℕ) (edition : Edition) (lexed : Lexed) (forest : Forest) : Type 0 where
+-- The text's tokens; one tree over all those that are no trivia, in at most 256 steps for each and 256 more; that it is
+-- the entry's, and where the core grammar derives the tokens, their derivation's, without a message; and the same tree
+-- with the trivia put back, which is one tree too.
+pub record IsParsed (text : List ℕ) (edition : Edition) (entry : TopEntryPoint) (lexed : Lexed) (forest : Forest) : Type 0 where
   pub small : length text ≤ 4294967295
   pub lexing : IsLexing text edition lexed
   pub few_tokens : length (records lexed.tokens edition) ≤ 8388607
@@ -22,22 +25,24 @@ pub record IsParsed (text : List ℕ) (edition : Edition) (lexed : Lexed) (fores
   pub covering : covers (records lexed.tokens edition) forest ≡ true
   pub all_used : used forest ≡ length (records lexed.tokens edition)
   pub few_steps : length (flat forest) ≤ 256 * (length (records lexed.tokens edition) + 1)
+  pub made : IsOutputOf entry (records lexed.tokens edition) forest
+  pub core : (tree : Forest) → IsCore entry (records lexed.tokens edition) tree → (forest ≡ tree) × (message_count forest ≡ 0)
   pub str_one : str_one_tree (with_trivia lexed.tokens forest) ≡ true
 
 -- The sink has taken the steps of that tree, one after another; its token texts joined are the text, byte for byte;
 -- and the answer says so.
-pub record Headline {S : Type 0} (takes : S → StrStepValue → S → Type 0) (text : List ℕ) (edition : Edition) (lexed : Lexed) (answer : Bool) (before after : S) : Type 0 where
+pub record Headline {S : Type 0} (takes : S → StrStepValue → S → Type 0) (text : List ℕ) (edition : Edition) (entry : TopEntryPoint) (lexed : Lexed) (answer : Bool) (before after : S) : Type 0 where
   pub forest : Forest
-  pub parsed : IsParsed text edition lexed forest
+  pub parsed : IsParsed text edition entry lexed forest
   pub taken : Takes takes before (str_flat (with_trivia lexed.tokens forest)) after
   pub whole : str_joined (with_trivia lexed.tokens forest) ≡ text
   pub all : answer ≡ true
 
 -- The sink has taken a prefix of the steps of that tree, and refused the next one.
-pub record CutShort {S R : Type 0} (takes : S → StrStepValue → S → Type 0) (refuses : S → StrStepValue → R → S → Type 0) (text : List ℕ) (edition : Edition) (refusal : R) (before after : S) : Type 0 where
+pub record CutShort {S R : Type 0} (takes : S → StrStepValue → S → Type 0) (refuses : S → StrStepValue → R → S → Type 0) (text : List ℕ) (edition : Edition) (entry : TopEntryPoint) (refusal : R) (before after : S) : Type 0 where
   pub lexed : Lexed
   pub forest : Forest
-  pub parsed : IsParsed text edition lexed forest
+  pub parsed : IsParsed text edition entry lexed forest
   pub stopped : Stops takes refuses before (str_flat (with_trivia lexed.tokens forest)) refusal after
 
 -- The text has more tokens that are no trivia than a parse takes.
@@ -48,8 +53,8 @@ pub record HasTooManyTokens (text : List ℕ) (edition : Edition) : Type 0 where
   pub many : 8388607 < significant lexed.tokens
 
 -- What a fault leaves the sink at: where it was, unless it has refused a step.
-abbrev pub Leaves : {S R : Type 0} → (S → StrStepValue → S → Type 0) → (S → StrStepValue → R → S → Type 0) → List ℕ → Edition → TextFault R → S → S → Type 0
-Leaves takes refuses text edition TextTooLong before after = after ≡ before
-Leaves takes refuses text edition TooManyTokens before after = after ≡ before
-Leaves takes refuses text edition NoMemory before after = after ≡ before
-Leaves takes refuses text edition (Refused e) before after = CutShort takes refuses text edition e before after
+abbrev pub Leaves : {S R : Type 0} → (S → StrStepValue → S → Type 0) → (S → StrStepValue → R → S → Type 0) → List ℕ → Edition → TopEntryPoint → TextFault R → S → S → Type 0
+Leaves takes refuses text edition entry TextTooLong before after = after ≡ before
+Leaves takes refuses text edition entry TooManyTokens before after = after ≡ before
+Leaves takes refuses text edition entry NoMemory before after = after ≡ before
+Leaves takes refuses text edition entry (Refused e) before after = CutShort takes refuses text edition entry e before after

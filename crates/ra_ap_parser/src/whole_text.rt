@@ -78,10 +78,10 @@ pub fn parse_text<'t, S: StrSink>(
     text: &'t str,
     sink: &mut S,
 ) -> Result<ParsedText<'t>, TextFault<S::Refusal>>
-    ensures parsed { IfOk result (λ r. Headline S.takes text.now edition r.lexed r.whole sink.old sink.new) }
+    ensures parsed { IfOk result (λ r. Headline S.takes text.now edition entry r.lexed r.whole sink.old sink.new) }
     ensures too_long { (result ≡ Err TextFault.TextTooLong) ↔ (MAX_TEXT < length text.now) }
     ensures too_many { (result ≡ Err TextFault.TooManyTokens) ↔ HasTooManyTokens text.now edition }
-    ensures left { IfErr result (λ fault. Leaves S.takes S.refuses text.now edition fault sink.old sink.new) }
+    ensures left { IfErr result (λ fault. Leaves S.takes S.refuses text.now edition entry fault sink.old sink.new) }
 {
     let lexed = match LexedStr::new(alloc, edition, text) {
         Ok(lexed) => lexed,

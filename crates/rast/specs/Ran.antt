@@ -7,6 +7,7 @@ use Rattle.ra_ap_parser.specs.LexedStr.{Lexed}
 use Rattle.ra_ap_parser.specs.StrForest.{str_flat}
 use Rattle.ra_ap_parser.specs.Trivia.{with_trivia}
 use Rattle.ra_ap_parser.specs.Headline.{IsParsed}
+use Rattle.ra_ap_parser.specs.declared.entry_point.TopEntryPoint.{TopEntryPoint}
 use Rattle.ra_ap_parser.specs.declared.whole_text.TextFault.{TextFault}
 use Rattle.rap_base.specs.declared.no_memory.NoMemory.{NoMemory as Memory}
 use Rattle.rast.specs.Words.{cannot_write, fault_line}
@@ -22,22 +23,22 @@ pub record StopsBefore {W : Type 0} (text : List ℕ) (edition : Edition) (befor
   pub is : line ≡ fault_line fault
 
 -- All lines were there, and the output refused a write.
-pub record StopsWriting (text : List ℕ) (edition : Edition) (line : List ℕ) : Type 0 where
+pub record StopsWriting (text : List ℕ) (edition : Edition) (entry : TopEntryPoint) (line : List ℕ) : Type 0 where
   pub printer : Printer
-  pub printed : IsPrinted text edition printer
+  pub printed : IsPrinted text edition entry printer
   pub is : line ≡ cannot_write
 
 -- a fault stopped the program, and what is asked holds of the line that reports it
-abbrev pub IfStops : {W : Type 0} → List ℕ → Edition → W → W → (List ℕ → Type 0) → Type 0
-IfStops text edition before after Asked =
-    (line : List ℕ) × (StopsBefore text edition before after line ⊎ StopsWriting text edition line) × Asked line
+abbrev pub IfStops : {W : Type 0} → List ℕ → Edition → TopEntryPoint → W → W → (List ℕ → Type 0) → Type 0
+IfStops text edition entry before after Asked =
+    (line : List ℕ) × (StopsBefore text edition before after line ⊎ StopsWriting text edition entry line) × Asked line
 
 -- The lines of the text's one tree were written, and after them those of its messages; the status is 0 where there is no
 -- message, and else 1.
-pub record Shows (text : List ℕ) (edition : Edition) (status : ℕ) (before after : Option (List ℕ)) : Type 0 where
+pub record Shows (text : List ℕ) (edition : Edition) (entry : TopEntryPoint) (status : ℕ) (before after : Option (List ℕ)) : Type 0 where
   pub lexed : Lexed
   pub forest : Forest
-  pub parsed : IsParsed text edition lexed forest
+  pub parsed : IsParsed text edition entry lexed forest
   pub written : Appends before after (printed 0 (str_flat (with_trivia lexed.tokens forest)) ++ all_reported lexed forest)
   pub quiet : status ≡ 0 → all_reported lexed forest ≡ []
   pub loud : status ≡ 1 → all_reported lexed forest ≢ []

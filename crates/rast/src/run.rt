@@ -48,9 +48,9 @@ pub fn run<W: io::Write, V: io::Write>(
     err: &mut V,
 ) -> io::Result<u8>
     ensures status { IfOk result (λ status. status ≤ 2) }
-    ensures shown { IfOk result (λ status. status < 2 → Shows text.now edition status (W.contents out.old) (W.contents out.new) × (err.new ≡ err.old)) }
-    ensures reported { IfOk result (λ status. status ≡ 2 → IfStops text.now edition out.old out.new (Appends (V.contents err.old) (V.contents err.new))) }
-    ensures unreported { IfErr result (λ _. IfStops text.now edition out.old out.new (λ _. Unit {0})) }
+    ensures shown { IfOk result (λ status. status < 2 → Shows text.now edition entry status (W.contents out.old) (W.contents out.new) × (err.new ≡ err.old)) }
+    ensures reported { IfOk result (λ status. status ≡ 2 → IfStops text.now edition entry out.old out.new (Appends (V.contents err.old) (V.contents err.new))) }
+    ensures unreported { IfErr result (λ _. IfStops text.now edition entry out.old out.new (λ _. Unit {0})) }
 {
     let printer = match print_text(alloc, edition, entry, text) {
         Ok(printer) => printer,

@@ -7,6 +7,7 @@ use Rattle.ra_ap_parser.specs.StrSink.{Takes}
 use Rattle.ra_ap_parser.specs.StrStep.{StrStepValue}
 use Rattle.ra_ap_parser.specs.Trivia.{with_trivia}
 use Rattle.ra_ap_parser.specs.Headline.{Headline}
+use Rattle.ra_ap_parser.specs.declared.entry_point.TopEntryPoint.{TopEntryPoint}
 use Rattle.rast_page.specs.Ran.{AreRows}
 use Rattle.rast_page.specs.Rows.{step_row, step_rows, step_message_row, message_rows, lexer_message_rows}
 use Rattle.rast_page.specs.Takes.{Records}
@@ -29,12 +30,12 @@ messages_along (x ∷ xs) s t h =
     ∙ append_assoc (string_bytes s.messages) (step_message_row x) (message_rows xs))
 
 -- the rows of a tree and of all messages, from a sink that had written nothing
-pub rows_whole : (text : List ℕ) (edition : Edition) (lexed : Lexed) (all : Bool) (s t u : Rows)
+pub rows_whole : (text : List ℕ) (edition : Edition) (entry : TopEntryPoint) (lexed : Lexed) (all : Bool) (s t u : Rows)
     → string_bytes s.steps ≡ [] → string_bytes s.messages ≡ []
-    → Headline Records text edition lexed all s t
+    → Headline Records text edition entry lexed all s t
     → u.steps ≡ t.steps → string_bytes u.messages ≡ string_bytes t.messages ++ lexer_message_rows lexed.tokens lexed.errors
-    → AreRows text edition u
-rows_whole text edition lexed all s t u no_steps no_messages h same more =
+    → AreRows text edition entry u
+rows_whole text edition entry lexed all s t u no_steps no_messages h same more =
     let steps = str_flat (with_trivia lexed.tokens h.forest) in
     record {
       lexed = lexed;

@@ -4,6 +4,7 @@ use Rattle.std.specs.Prelude.{chars, string_bytes}
 use Rattle.std.specs.Io.KnownBytes.{Appends}
 use Rattle.rap_base.specs.declared.edition.Edition.{Edition}
 use Rattle.ra_ap_parser.specs.StrForest.{str_flat}
+use Rattle.ra_ap_parser.specs.declared.entry_point.TopEntryPoint.{TopEntryPoint}
 use Rattle.ra_ap_parser.specs.Trivia.{with_trivia}
 use Rattle.rast_page.specs.Json.{json_text}
 use Rattle.rast_page.specs.Page.{object, data_of, framed}
@@ -16,10 +17,10 @@ use Rattle.rap_events.specs.Forest.{Forest}
 use Rattle.rast_page.specs.declared.run.Frame.{Frame}
 use Rattle.rast_page.specs.declared.run.Page.{Page}
 
-pub written_page : (frame : Frame) (file text : List ℕ) (edition : Edition) (page : Page) (before after : Option (List ℕ))
-    → (made : IsPage file text edition page) → Appends before after (framed frame (data_of page))
+pub written_page : (frame : Frame) (file text : List ℕ) (edition : Edition) (entry : TopEntryPoint) (page : Page) (before after : Option (List ℕ))
+    → (made : IsPage file text edition entry page) → Appends before after (framed frame (data_of page))
     → Appends before after (framed frame (data_for file made.rows.lexed made.rows.forest))
-written_page frame file text edition page before after made h =
+written_page frame file text edition entry page before after made h =
     let P : List ℕ → Type 0 = λ t. Appends before after (framed frame (object t (string_bytes page.rows.steps) (string_bytes page.rows.messages))) in
     let Q : List ℕ → Type 0 = λ t. Appends before after (framed frame (object (json_text (chars file)) t (string_bytes page.rows.messages))) in
     let R : List ℕ → Type 0 = λ t. Appends before after (framed frame (object (json_text (chars file)) (step_rows (str_flat (with_trivia made.rows.lexed.tokens made.rows.forest))) t)) in

@@ -8,6 +8,7 @@ use Rattle.ra_ap_parser.specs.LexedStr.{Lexed}
 use Rattle.ra_ap_parser.specs.StrForest.{str_flat}
 use Rattle.ra_ap_parser.specs.Trivia.{with_trivia}
 use Rattle.ra_ap_parser.specs.Headline.{IsParsed}
+use Rattle.ra_ap_parser.specs.declared.entry_point.TopEntryPoint.{TopEntryPoint}
 use Rattle.ra_ap_parser.specs.declared.whole_text.TextFault.{TextFault}
 use Rattle.rast_print.specs.Shown.{Comes}
 use Rattle.rast_page.specs.Inert.{IsInert}
@@ -25,17 +26,17 @@ all_message_rows lexed forest =
     message_rows (str_flat (with_trivia lexed.tokens forest)) ++ lexer_message_rows lexed.tokens lexed.errors
 
 -- The items of the text's one tree, and those of its messages.
-pub record AreRows (text : List ℕ) (edition : Edition) (rows : Rows) : Type 0 where
+pub record AreRows (text : List ℕ) (edition : Edition) (entry : TopEntryPoint) (rows : Rows) : Type 0 where
   pub lexed : Lexed
   pub forest : Forest
-  pub parsed : IsParsed text edition lexed forest
+  pub parsed : IsParsed text edition entry lexed forest
   pub steps : string_bytes rows.steps ≡ step_rows (str_flat (with_trivia lexed.tokens forest))
   pub messages : string_bytes rows.messages ≡ all_message_rows lexed forest
 
 -- The file's name, and the items of its text.
-pub record IsPage (file text : List ℕ) (edition : Edition) (page : Page) : Type 0 where
+pub record IsPage (file text : List ℕ) (edition : Edition) (entry : TopEntryPoint) (page : Page) : Type 0 where
   pub name : string_bytes page.name ≡ json_text (chars file)
-  pub rows : AreRows text edition page.rows
+  pub rows : AreRows text edition entry page.rows
 
 -- A fault came before the first write: the output is as it was, and the line reports the fault.
 pub record StopsBefore {W : Type 0} (text : List ℕ) (edition : Edition) (before after : W) (line : List ℕ) : Type 0 where
@@ -45,15 +46,15 @@ pub record StopsBefore {W : Type 0} (text : List ℕ) (edition : Edition) (befor
   pub is : line ≡ fault_line fault
 
 -- The whole page was there, and the output refused a write.
-pub record StopsWriting (file text : List ℕ) (edition : Edition) (line : List ℕ) : Type 0 where
+pub record StopsWriting (file text : List ℕ) (edition : Edition) (entry : TopEntryPoint) (line : List ℕ) : Type 0 where
   pub page : Page
-  pub made : IsPage file text edition page
+  pub made : IsPage file text edition entry page
   pub is : line ≡ cannot_write
 
 -- a fault stopped the program, and what is asked holds of the line that reports it
-abbrev pub IfStops : {W : Type 0} → List ℕ → List ℕ → Edition → W → W → (List ℕ → Type 0) → Type 0
-IfStops file text edition before after Asked =
-    (line : List ℕ) × (StopsBefore text edition before after line ⊎ StopsWriting file text edition line) × Asked line
+abbrev pub IfStops : {W : Type 0} → List ℕ → List ℕ → Edition → TopEntryPoint → W → W → (List ℕ → Type 0) → Type 0
+IfStops file text edition entry before after Asked =
+    (line : List ℕ) × (StopsBefore text edition before after line ⊎ StopsWriting file text edition entry line) × Asked line
 
 -- the data of the text's one tree and of its messages
 abbrev pub data_for : List ℕ → Lexed → Forest → List ℕ
@@ -65,10 +66,10 @@ data_for file lexed forest =
 
 -- The page of the text's one tree and of its messages was written, with no `<` between the frame's parts; the status is
 -- 0 where there is no message, and else 1.
-pub record Shows (frame : Frame) (file text : List ℕ) (edition : Edition) (status : ℕ) (before after : Option (List ℕ)) : Type 0 where
+pub record Shows (frame : Frame) (file text : List ℕ) (edition : Edition) (entry : TopEntryPoint) (status : ℕ) (before after : Option (List ℕ)) : Type 0 where
   pub lexed : Lexed
   pub forest : Forest
-  pub parsed : IsParsed text edition lexed forest
+  pub parsed : IsParsed text edition entry lexed forest
   pub written : Appends before after (framed frame (data_for file lexed forest))
   pub inert : IsInert (data_for file lexed forest)
   pub quiet : status ≡ 0 → all_message_rows lexed forest ≡ []

@@ -48,7 +48,7 @@ fn page_of(
     file: &str,
     text: &str,
 ) -> Result<Page, TextFault<NoMemory>>
-    ensures page { IfOk result (IsPage file.now text.now edition) }
+    ensures page { IfOk result (IsPage file.now text.now edition entry) }
     ensures fault { IfErr result (Comes text.now edition) }
 {
     let mut rows = Rows::new(alloc);
@@ -120,11 +120,11 @@ pub fn run<W: io::Write, V: io::Write>(
 ) -> io::Result<u8>
     ensures status { IfOk result (λ status. status ≤ 2) }
     ensures shown { IfOk result (λ status. status < 2
-        → Shows frame.now file.now text.now edition status (W.contents out.old) (W.contents out.new)
+        → Shows frame.now file.now text.now edition entry status (W.contents out.old) (W.contents out.new)
         × (err.new ≡ err.old)) }
     ensures reported { IfOk result (λ status. status ≡ 2
-        → IfStops file.now text.now edition out.old out.new (Appends (V.contents err.old) (V.contents err.new))) }
-    ensures unreported { IfErr result (λ _. IfStops file.now text.now edition out.old out.new (λ _. Unit {0})) }
+        → IfStops file.now text.now edition entry out.old out.new (Appends (V.contents err.old) (V.contents err.new))) }
+    ensures unreported { IfErr result (λ _. IfStops file.now text.now edition entry out.old out.new (λ _. Unit {0})) }
 {
     let page = match page_of(alloc, edition, entry, file, text) {
         Ok(page) => page,

@@ -7,6 +7,7 @@ use Rattle.ra_ap_parser.specs.StrSink.{Takes}
 use Rattle.ra_ap_parser.specs.StrStep.{StrStepValue}
 use Rattle.ra_ap_parser.specs.Trivia.{with_trivia}
 use Rattle.ra_ap_parser.specs.Headline.{Headline}
+use Rattle.ra_ap_parser.specs.declared.entry_point.TopEntryPoint.{TopEntryPoint}
 use Rattle.rast_print.specs.Printed.{indent, line, printed, reported_line, reported, lexer_reported}
 use Rattle.rast_print.specs.Prints.{Prints}
 use Rattle.rast_print.specs.Shown.{IsPrinted}
@@ -35,12 +36,12 @@ messages_along (x ∷ xs) s t h =
     ∙ append_assoc (string_bytes s.messages) (reported_line x) (reported xs))
 
 -- the lines of a tree and of all messages, from a printer that had written nothing
-pub printed_whole : (text : List ℕ) (edition : Edition) (lexed : Lexed) (all : Bool) (s t u : Printer)
+pub printed_whole : (text : List ℕ) (edition : Edition) (entry : TopEntryPoint) (lexed : Lexed) (all : Bool) (s t u : Printer)
     → string_bytes s.tree ≡ [] → string_bytes s.messages ≡ [] → s.depth ≡ 0
-    → Headline Prints text edition lexed all s t
+    → Headline Prints text edition entry lexed all s t
     → u.tree ≡ t.tree → string_bytes u.messages ≡ string_bytes t.messages ++ lexer_reported lexed.tokens lexed.errors
-    → IsPrinted text edition u
-printed_whole text edition lexed all s t u no_tree no_messages no_depth h same more =
+    → IsPrinted text edition entry u
+printed_whole text edition entry lexed all s t u no_tree no_messages no_depth h same more =
     let steps = str_flat (with_trivia lexed.tokens h.forest) in
     record {
       lexed = lexed;

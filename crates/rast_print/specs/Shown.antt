@@ -6,6 +6,7 @@ use Rattle.ra_ap_parser.specs.Headline.{HasTooManyTokens, IsParsed}
 use Rattle.ra_ap_parser.specs.LexedStr.{Lexed}
 use Rattle.ra_ap_parser.specs.StrForest.{str_flat}
 use Rattle.ra_ap_parser.specs.Trivia.{with_trivia}
+use Rattle.ra_ap_parser.specs.declared.entry_point.TopEntryPoint.{TopEntryPoint}
 use Rattle.ra_ap_parser.specs.declared.whole_text.TextFault.{TextFault}
 use Rattle.ra_ap_parser.specs.declared.whole_text.TextFault.TheVariants.{TextTooLong, TooManyTokens, NoMemory, Refused}
 use Rattle.rast_print.specs.Printed.{printed, reported, lexer_reported}
@@ -16,10 +17,10 @@ abbrev pub all_reported : Lexed → Forest → List ℕ
 all_reported lexed forest = reported (str_flat (with_trivia lexed.tokens forest)) ++ lexer_reported lexed.tokens lexed.errors
 
 -- The lines of the text's one tree, and those of its messages.
-pub record IsPrinted (text : List ℕ) (edition : Edition) (printer : Printer) : Type 0 where
+pub record IsPrinted (text : List ℕ) (edition : Edition) (entry : TopEntryPoint) (printer : Printer) : Type 0 where
   pub lexed : Lexed
   pub forest : Forest
-  pub parsed : IsParsed text edition lexed forest
+  pub parsed : IsParsed text edition entry lexed forest
   pub tree : string_bytes printer.tree ≡ printed 0 (str_flat (with_trivia lexed.tokens forest))
   pub messages : string_bytes printer.messages ≡ all_reported lexed forest
 

@@ -13,7 +13,7 @@ pub fn print_text(
     entry: TopEntryPoint,
     text: &str,
 ) -> Result<Printer, TextFault<NoMemory>>
-    ensures printed { IfOk result (IsPrinted text.now edition) }
+    ensures printed { IfOk result (IsPrinted text.now edition entry) }
     ensures fault { IfErr result (Comes text.now edition) }
 {
     let mut printer = Printer::new(alloc);

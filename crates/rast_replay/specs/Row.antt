@@ -30,5 +30,5 @@ pub record IsRow (line : List ℕ) : Type 0 where
   pub text : List ℕ
   pub lexed : Lexed
   pub forest : Forest
-  pub parsed : IsParsed text edition lexed forest
+  pub parsed : IsParsed text edition entry lexed forest
   pub is : line ≡ row_line (year_text edition) (name_of_entry entry) (fnv1a_of (printed 0 (str_flat (with_trivia lexed.tokens forest)) ++ all_reported lexed forest)) text
