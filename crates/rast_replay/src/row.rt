@@ -17,6 +17,7 @@ use std::alloc::{AllocError, Global};
 use std::fmt::Write as _;
 
 /// The hash of the lines of the text's tree and messages.
+#[tactic(auto, using(crate::proofs::Hashes::tree_hashed))]
 fn tree_hash(
     alloc: Global,
     edition: Edition,
@@ -91,18 +92,19 @@ pub fn row_of(alloc: Global, line: &str) -> Result<Option<String>, TextFault<NoM
     let Some(text) = text else {
         return Ok(None);
     };
-    let Some(hash) = hash_of(alloc, edition, way, text.as_str())? else {
+    let hash = hash_of(alloc, edition, way, text.as_str())?;
+    let Some(hash) = hash else {
         return Ok(None);
     };
-    match written(alloc, year, way, hash, text.as_str()) {
+    match written(alloc, year, &way, hash, text.as_str()) {
         Ok(row) => Ok(Some(row)),
         Err(_) => Err(TextFault::NoMemory),
     }
 }
 
 /// The row in writing.
-fn written(alloc: Global, year: &str, way: Way, hash: u64, text: &str) -> Result<String, AllocError>
-    ensures { IfOk result (λ row. string_bytes row ≡ row_line year.now (name_of_way way) hash text.now) }
+fn written(alloc: Global, year: &str, way: &Way, hash: u64, text: &str) -> Result<String, AllocError>
+    ensures { IfOk result (λ row. string_bytes row ≡ row_line year.now (name_of_way way.now) hash text.now) }
 {
     let mut row = String::new(alloc);
     write!(row, "{year} ")?;

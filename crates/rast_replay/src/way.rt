@@ -81,12 +81,12 @@ fn push_asked(row: &mut String, asked: Asked) -> Result<(), AllocError>
 }
 
 /// Adds the name of a way.
-pub fn push_way(row: &mut String, way: Way) -> Result<(), AllocError>
-    ensures { OnOk result (string_bytes row.new ≡ string_bytes row.old ++ name_of_way way) }
+pub fn push_way(row: &mut String, way: &Way) -> Result<(), AllocError>
+    ensures { OnOk result (string_bytes row.new ≡ string_bytes row.old ++ name_of_way way.now) }
 {
     match way {
-        Way::Tree(entry) => row.push_str(entry_name(entry))?,
-        Way::List(asked) => push_asked(row, asked)?,
+        Way::Tree(entry) => row.push_str(entry_name(*entry))?,
+        Way::List(asked) => push_asked(row, *asked)?,
     }
     Ok(())
 }
@@ -111,7 +111,7 @@ mod tests {
                 return Err(Fail::from("a name that is not read"));
             };
             let mut row = String::new(rt.alloc());
-            push_way(&mut row, way)?;
+            push_way(&mut row, &way)?;
             assert_eq!(rt; row.as_str(), name);
         }
         Ok(())
