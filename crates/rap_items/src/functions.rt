@@ -27,7 +27,7 @@ use rap_rules::recovery::item_recovery_set;
 /// A function from its keyword on, as `fn f(a: b) -> c {}`.
 pub(crate) fn fn_<G: Grammar>(p: &mut Parser<'_>, g: &G, m: Marker) -> Result<(), NoMemory>
     requires within { Within G.valid G.left g.now (state p.old) }
-    requires newest { (state p.old).marker ≡ Some m.pos }
+    requires newest { (state p.old).marker ≡ Some m.pos.value }
     requires here { next (state p.old) ≡ FN_KW }
     ensures ended { OnOk result (Ended (state p.old) (state p.new) item_room) }
     ensures script { OnOk result (Follows script.fn_ something (state p.old) (state p.new)) }

@@ -26,7 +26,7 @@ use rap_rules::recovery::item_recovery_set;
 /// A trait from its keyword on, as `trait A {}`.
 pub fn trait_<G: Grammar>(p: &mut Parser<'_>, g: &G, m: Marker) -> Result<(), NoMemory>
     requires within { Within G.valid G.left g.now (state p.old) }
-    requires newest { (state p.old).marker ≡ Some m.pos }
+    requires newest { (state p.old).marker ≡ Some m.pos.value }
     requires here { next (state p.old) ≡ TRAIT_KW }
     ensures ended { OnOk result (Ended (state p.old) (state p.new) item_room) }
     ensures script { OnOk result (Follows script.trait_ something (state p.old) (state p.new)) }
@@ -82,7 +82,7 @@ fn opt_bounds<G: Grammar>(p: &mut Parser<'_>, g: &G) -> Result<(), NoMemory>
 /// An implementation from its keyword on, as `impl A for b {}`.
 pub fn impl_<G: Grammar>(p: &mut Parser<'_>, g: &G, m: Marker) -> Result<(), NoMemory>
     requires within { Within G.valid G.left g.now (state p.old) }
-    requires newest { (state p.old).marker ≡ Some m.pos }
+    requires newest { (state p.old).marker ≡ Some m.pos.value }
     requires here { next (state p.old) ≡ IMPL_KW }
     ensures ended { OnOk result (Ended (state p.old) (state p.new) item_room) }
     ensures script { OnOk result (Follows script.impl_ something (state p.old) (state p.new)) }

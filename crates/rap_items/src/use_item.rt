@@ -28,7 +28,7 @@ use rap_rules::recovery::item_recovery_set;
 /// An import from its keyword on, as `use a::b;`.
 pub fn use_<G: Grammar>(p: &mut Parser<'_>, g: &G, m: Marker) -> Result<(), NoMemory>
     requires within { Within G.valid G.left g.now (state p.old) }
-    requires newest { (state p.old).marker ≡ Some m.pos }
+    requires newest { (state p.old).marker ≡ Some m.pos.value }
     requires here { next (state p.old) ≡ USE_KW }
     ensures ended { OnOk result (Ended (state p.old) (state p.new) item_room) }
     ensures script { OnOk result (Follows script.use_ something (state p.old) (state p.new)) }

@@ -163,7 +163,7 @@ fn range_op<G: Grammar>(
     in_arm: bool,
 ) -> Result<(), NoMemory>
     requires within { Within G.valid G.left g.now (state p.old) }
-    requires last { IsLast (state p.old) lhs lhs.kind }
+    requires last { IsLast (state p.old) lhs lhs.kind.value }
     ensures grew { OnOk result (Grew (state p.old) (state p.new) 0) }
     ensures script { OnOk result (Follows (script.range_op in_arm) something (state p.old) (state p.new)) }
 {
@@ -192,7 +192,7 @@ fn range_from_pat<G: Grammar>(
     in_arm: bool,
 ) -> Result<(), NoMemory>
     requires within { Within G.valid G.left g.now (state p.old) }
-    requires last { IsLast (state p.old) lhs lhs.kind }
+    requires last { IsLast (state p.old) lhs lhs.kind.value }
     requires here { At (state p.old) op }
     requires op { op ≢ EOF }
     ensures grew { OnOk result (Grew (state p.old) (state p.new) 0) }
