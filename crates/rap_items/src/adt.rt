@@ -13,6 +13,7 @@ ghost use Rattle.rap_rules.specs.Script.{something};
 ghost use Rattle.rap_rules.specs.Words.{of_bool};
 
 use crate::visibility::{opt_visibility, opt_visibility_inner};
+use crate::names::item_name;
 use rap_base::no_memory::NoMemory;
 use rap_base::syntax_kind::SyntaxKind;
 use rap_events::parser::{Marker, Parser};
@@ -23,8 +24,7 @@ use rap_rules::called::{expr, opt_generic_param_list, opt_where_clause, type_};
 use rap_rules::first::{is_outer_attr_first, is_type_first};
 use rap_rules::knot::Grammar;
 use rap_rules::lists::{Element, delimited};
-use rap_rules::names::{name, name_r};
-use rap_rules::recovery::item_recovery_set;
+use rap_rules::names::name;
 
 /// A struct from its keyword on, as `struct S;`.
 pub fn strukt<G: Grammar>(p: &mut Parser<'_>, g: &G, m: Marker) -> Result<(), NoMemory>
@@ -60,7 +60,7 @@ fn struct_or_union<G: Grammar>(p: &mut Parser<'_>, g: &G, is_struct: bool) -> Re
     ensures grew { OnOk result (Grew (state p.old) (state p.new) 4) }
     ensures script { OnOk result (Follows (script.struct_or_union is_struct) something (state p.old) (state p.new)) }
 {
-    name_r(p, item_recovery_set())?;
+    item_name(p)?;
     opt_generic_param_list(p, g)?;
     fields(p, g, is_struct)?;
     Ok(())
@@ -145,7 +145,7 @@ pub fn enum_<G: Grammar>(p: &mut Parser<'_>, g: &G, m: Marker) -> Result<(), NoM
     ensures script { OnOk result (Follows script.enum_ something (state p.old) (state p.new)) }
 {
     p.bump(T![enum])?;
-    name_r(p, item_recovery_set())?;
+    item_name(p)?;
     opt_generic_param_list(p, g)?;
     opt_where_clause(p, g)?;
     if p.at(T!['{']) {

@@ -8,12 +8,12 @@ ghost use Rattle.rap_rules.specs.Macros as script;
 ghost use Rattle.rap_rules.specs.Room.{item_room};
 ghost use Rattle.rap_rules.specs.Script.{something};
 
+use crate::names::item_name;
 use rap_base::no_memory::NoMemory;
 use rap_base::syntax_kind::SyntaxKind;
 use rap_events::parser::{Marker, Parser};
 use rap_rules::T;
-use rap_rules::names::{name, name_r};
-use rap_rules::recovery::item_recovery_set;
+use rap_rules::names::name;
 use rap_rules::token_tree::{is_bracket, macro_call_after_excl, token_tree};
 
 /// A macro by its rules, as `macro_rules! a { () => {} }`.
@@ -58,7 +58,7 @@ pub(crate) fn macro_def(p: &mut Parser<'_>, m: Marker) -> Result<(), NoMemory>
     ensures script { OnOk result (Follows script.macro_def something (state p.old) (state p.new)) }
 {
     p.bump(T![macro])?;
-    name_r(p, item_recovery_set())?;
+    item_name(p)?;
     macro_def_tokens(p)?;
     m.complete(p, SyntaxKind::MACRO_DEF)?;
     Ok(())

@@ -10,6 +10,7 @@ ghost use Rattle.rap_rules.specs.Room.{item_room, list_room, statement_room};
 ghost use Rattle.rap_rules.specs.Script.{something};
 ghost use Rattle.rap_rules.specs.Traits as script;
 
+use crate::names::item_name;
 use rap_base::no_memory::NoMemory;
 use rap_base::syntax_kind::SyntaxKind;
 use rap_events::parser::{Marker, Parser};
@@ -20,8 +21,6 @@ use rap_rules::called::{
     bounds, bounds_without_colon, opt_generic_param_list, opt_where_clause, type_,
 };
 use rap_rules::knot::{Grammar, Rule};
-use rap_rules::names::name_r;
-use rap_rules::recovery::item_recovery_set;
 
 /// A trait from its keyword on, as `trait A {}`.
 pub fn trait_<G: Grammar>(p: &mut Parser<'_>, g: &G, m: Marker) -> Result<(), NoMemory>
@@ -32,7 +31,7 @@ pub fn trait_<G: Grammar>(p: &mut Parser<'_>, g: &G, m: Marker) -> Result<(), No
     ensures script { OnOk result (Follows script.trait_ something (state p.old) (state p.new)) }
 {
     p.bump(T![trait])?;
-    name_r(p, item_recovery_set())?;
+    item_name(p)?;
     opt_generic_param_list(p, g)?;
     trait_body(p, g)?;
     m.complete(p, SyntaxKind::TRAIT)?;
