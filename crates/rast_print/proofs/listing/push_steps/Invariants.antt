@@ -1,7 +1,7 @@
 use Rattle.std.proofs.Common.{◌≡◌, ◌++◌, string_bytes}
 use Rattle.rap_events.specs.Forest.{flat}
-use Rattle.rast_steps.specs.Listed.{step_lines}
-use Rattle.rast_steps.proofs.listing.push_steps.Given as goal
+use Rattle.rast_print.specs.Listed.{step_lines}
+use Rattle.rast_print.proofs.listing.push_steps.Given as goal
 
 abbrev pub invariant-steps : goal.invariant-steps
 invariant-steps l =

@@ -1,9 +1,9 @@
 use Rattle.std.proofs.Common.{rules, ◌≡◌, ◌<◌, ◌≤◌, ◌+◌, length, arith}
 use Rattle.ra_ap_parser.specs.LexedStr.{start_of}
-use Rattle.rast_steps.specs.Listed.{end_after}
-use Rattle.rast_steps.proofs.Listings.{walk_trivial, walk_significant, walked}
-use Rattle.rast_steps.proofs.listing.end_after.Goals as goal
-use Rattle.rast_steps.proofs.listing.end_after.Goals.{then-not-is_trivia, else-not-is_trivia}
+use Rattle.rast_print.specs.Listed.{end_after}
+use Rattle.rast_print.proofs.Listings.{walk_trivial, walk_significant, walked}
+use Rattle.rast_print.proofs.listing.end_after.Goals as goal
+use Rattle.rast_print.proofs.listing.end_after.Goals.{then-not-is_trivia, else-not-is_trivia}
 
 pub tokens-preserved : goal.tokens-preserved
 tokens-preserved c =

@@ -17,7 +17,7 @@ use Rattle.rast_print.specs.Printed.{printed, reported}
 use Rattle.rast_print.specs.Prints.{Prints}
 use Rattle.rast_print.specs.declared.printer.Printer.{Printer}
 use Rattle.rast_print.proofs.Lines.{tree_along, messages_along}
-use Rattle.rast_steps.specs.Listed.{end_after, tree_lines, tree_part}
+use Rattle.rast_print.specs.Listed.{end_after, tree_lines, tree_part}
 
 -- how many tokens these steps stand for
 abbrev pub tokens_in : List StepValue → ℕ

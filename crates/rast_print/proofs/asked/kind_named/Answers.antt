@@ -1,7 +1,7 @@
 use Rattle.std.proofs.Common.{rules, ◌≡◌, ◌≢◌, ◌≤◌}
 use Rattle.rap_base.specs.Names.{name_of}
-use Rattle.rast_steps.proofs.Named.{unnamed_more, unnamed_all}
-use Rattle.rast_steps.proofs.asked.kind_named.Goals as goal
+use Rattle.rast_print.proofs.Named.{unnamed_more, unnamed_all}
+use Rattle.rast_print.proofs.asked.kind_named.Goals as goal
 
 pub kinds-preserved : goal.kinds-preserved
 kinds-preserved c =

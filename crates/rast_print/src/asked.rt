@@ -1,11 +1,8 @@
-//! What a command line asks for.
+//! What is asked of a text beside its tree, by the names of what is asked for.
+ghost use Rattle.std.specs.Prelude.{◌≡◌};
+ghost use Rattle.rast_print.specs.AskedName.{IsKindOf, IsReadAs, IsNamed, name_of_prefix, name_of_kind};
 
-ghost use Rattle.rast_steps.specs.Words.{IsKindOf, IsReadAs, IsNamed};
-
-use ra_ap_parser::{Edition, PrefixEntryPoint, SyntaxKind, TopEntryPoint};
-use rast_print::entry::Entry;
-use std::env::{self, Args};
-use std::rt::Env;
+use ra_ap_parser::{PrefixEntryPoint, SyntaxKind, TopEntryPoint};
 use std::str::FromStr;
 
 /// How many kinds there are.
@@ -24,14 +21,6 @@ pub enum Asked {
         first_child: Option<SyntaxKind>,
         parent: Option<SyntaxKind>,
     },
-}
-
-/// A file, and what is to be listed of it.
-#[derive(Drop)]
-pub struct Request {
-    pub asked: Asked,
-    pub edition: Edition,
-    pub file: String,
 }
 
 /// A prefix entry point as a command line names it.
@@ -65,6 +54,24 @@ impl FromStr for Prefix {
     }
 }
 
+/// A prefix entry point's name.
+pub fn prefix_name(entry: PrefixEntryPoint) -> &'static str
+    ensures { result.now ≡ name_of_prefix entry }
+{
+    match entry {
+        PrefixEntryPoint::Vis => "Vis",
+        PrefixEntryPoint::Block => "Block",
+        PrefixEntryPoint::Stmt => "Stmt",
+        PrefixEntryPoint::Pat => "Pat",
+        PrefixEntryPoint::PatTop => "PatTop",
+        PrefixEntryPoint::Ty => "Ty",
+        PrefixEntryPoint::Expr => "Expr",
+        PrefixEntryPoint::Path => "Path",
+        PrefixEntryPoint::Item => "Item",
+        PrefixEntryPoint::MetaItem => "MetaItem",
+    }
+}
+
 /// The kind with this name.
 fn kind_named(name: &str) -> Option<SyntaxKind>
     ensures { IsKindOf name.now result }
@@ -79,7 +86,7 @@ fn kind_named(name: &str) -> Option<SyntaxKind>
 }
 
 /// The kind with this name, or that there is none, which a dash says. Nothing where the word is no kind's name.
-fn read_kind(word: &str) -> Option<Option<SyntaxKind>>
+pub fn read_kind(word: &str) -> Option<Option<SyntaxKind>>
     ensures { IsReadAs word.now result }
 {
     if word == "-" {
@@ -91,52 +98,14 @@ fn read_kind(word: &str) -> Option<Option<SyntaxKind>>
     }
 }
 
-/// Reads the words of what is to be listed. Nothing where they are others.
-fn read_asked(args: &mut Args) -> Option<Asked> {
-    let word = args.next()?;
-    match word.as_str() {
-        "--steps" => {
-            let entry = args.next()?;
-            let Entry(entry) = entry.as_str().parse::<Entry>().ok()?;
-            Some(Asked::Steps(entry))
-        }
-        "--prefix" => {
-            let entry = args.next()?;
-            let Prefix(entry) = entry.as_str().parse::<Prefix>().ok()?;
-            Some(Asked::Prefix(entry))
-        }
-        "--reparse" => {
-            let (Some(node), Some(first), Some(parent)) = (args.next(), args.next(), args.next())
-            else {
-                return None;
-            };
-            Some(Asked::Reparse {
-                node: read_kind(node.as_str())??,
-                first_child: read_kind(first.as_str())?,
-                parent: read_kind(parent.as_str())?,
-            })
-        }
-        _ => None,
+/// A kind's name, or a dash where there is none.
+pub fn kind_name(kind: Option<SyntaxKind>) -> &'static str
+    ensures { result.now ≡ name_of_kind kind }
+{
+    match kind {
+        Some(kind) => kind.name(),
+        None => "-",
     }
-}
-
-/// Reads the program's words. Nothing where they are others, or more or fewer.
-pub fn read_request<R: Env + AllocGlobal>(rt: &R) -> Option<Request> {
-    let mut args = env::args(rt).ok()?;
-    let _program = args.next();
-    let asked = read_asked(&mut args)?;
-    let (Some(edition), Some(file)) = (args.next(), args.next()) else {
-        return None;
-    };
-    if args.next().is_some() {
-        return None;
-    }
-    let edition = edition.as_str().parse::<Edition>().ok()?;
-    Some(Request {
-        asked,
-        edition,
-        file,
-    })
 }
 
 #[cfg(test)]
@@ -149,7 +118,8 @@ mod tests {
         for name in [
             "Vis", "Block", "Stmt", "Pat", "PatTop", "Ty", "Expr", "Path", "Item", "MetaItem",
         ] {
-            assert!(rt; name.parse::<Prefix>().is_ok(), "{name}");
+            let Prefix(entry) = name.parse::<Prefix>()?;
+            assert_eq!(rt; prefix_name(entry), name);
         }
         assert!(rt; "Type".parse::<Prefix>().is_err());
         assert!(rt; "vis".parse::<Prefix>().is_err());
@@ -165,6 +135,8 @@ mod tests {
             read_kind("ASSOC_ITEM_LIST"),
             Some(Some(SyntaxKind::ASSOC_ITEM_LIST))
         );
+        assert_eq!(rt; kind_name(Some(SyntaxKind::PATH_META)), "PATH_META");
+        assert_eq!(rt; kind_name(None), "-");
         assert_eq!(rt; read_kind("{"), None);
         assert_eq!(rt; read_kind(""), None);
     }

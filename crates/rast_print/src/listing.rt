@@ -9,15 +9,15 @@ ghost use Rattle.ra_ap_parser.specs.LexedStr.{IsLexing};
 ghost use Rattle.ra_ap_parser.specs.StrForest.{str_flat};
 ghost use Rattle.ra_ap_parser.specs.Trivia.{significant, with_trivia};
 ghost use Rattle.rast_print.specs.Printed.{printed, reported};
-ghost use Rattle.rast_steps.specs.Listed.{step_line, step_lines, end_after, used_line, tree_lines, tree_part};
-ghost use Rattle.rast_steps.specs.Page.{Comes, ComesOfNode, Lists, ListsNode, ListsPrefix, ListsSteps};
+ghost use Rattle.rast_print.specs.Listed.{step_line, step_lines, end_after, used_line, tree_lines, tree_part};
+ghost use Rattle.rast_print.specs.Lists.{Comes, ComesOfNode, Lists, ListsNode, ListsPrefix, ListsSteps};
 
 use crate::asked::Asked;
+use crate::printer::Printer;
 use ra_ap_parser::{
     Edition, Input, LexFault, LexedStr, NoMemory, Output, ParseFault, PrefixEntryPoint, Reparser,
     Step, TopEntryPoint, is_one_tree,
 };
-use rast_print::printer::Printer;
 use std::alloc::{AllocError, Global};
 use std::fmt::Write as _;
 
@@ -36,7 +36,7 @@ pub enum ListFault {
 
 impl From<LexFault> for ListFault {
     ghost use Rattle.ra_ap_parser.specs.declared.lexed_str.LexFault.TheVariants as lex;
-    ghost use Rattle.rast_steps.specs.declared.listing.ListFault.TheVariants.{TextTooLong, NoMemory};
+    ghost use Rattle.rast_print.specs.declared.listing.ListFault.TheVariants.{TextTooLong, NoMemory};
 
     ghost from_gives = { λ from fault. ((from ≡ lex.TextTooLong) ↔ (fault ≡ TextTooLong)) × ((from ≡ lex.NoMemory) ↔ (fault ≡ NoMemory)) };
 
@@ -49,7 +49,7 @@ impl From<LexFault> for ListFault {
 }
 
 impl From<NoMemory> for ListFault {
-    ghost use Rattle.rast_steps.specs.declared.listing.ListFault.TheVariants.{NoMemory};
+    ghost use Rattle.rast_print.specs.declared.listing.ListFault.TheVariants.{NoMemory};
 
     ghost from_gives = { λ _ fault. fault ≡ NoMemory };
 
@@ -59,7 +59,7 @@ impl From<NoMemory> for ListFault {
 }
 
 impl From<AllocError> for ListFault {
-    ghost use Rattle.rast_steps.specs.declared.listing.ListFault.TheVariants.{NoMemory};
+    ghost use Rattle.rast_print.specs.declared.listing.ListFault.TheVariants.{NoMemory};
 
     ghost from_gives = { λ _ fault. fault ≡ NoMemory };
 

@@ -1,7 +1,7 @@
 use Rattle.std.proofs.Common.{◌≡◌, ◌+◌}
 use Rattle.rap_events.specs.Forest.{used}
-use Rattle.rast_steps.proofs.Listings.{tokens_in}
-use Rattle.rast_steps.proofs.listing.used_tokens.Given as goal
+use Rattle.rast_print.proofs.Listings.{tokens_in}
+use Rattle.rast_print.proofs.listing.used_tokens.Given as goal
 
 abbrev pub invariant-steps : goal.invariant-steps
 invariant-steps l =
