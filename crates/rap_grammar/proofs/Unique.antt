@@ -1,6 +1,6 @@
 -- The same tokens have at most one tree, without a message, and it stands for each of them; and balanced tokens stand in
 -- theirs.
-use Rattle.std.proofs.Common.{◌++◌, ◌≡◌, ◌+◌, ◌≤◌, ℕ, List, [], ◌∷◌, length, length-append, true, false, refl, ap, arith}
+use Rattle.std.proofs.Common.{◌≡◌, ◌+◌, ◌≤◌, ℕ, List, [], ◌∷◌, ◌++◌, length, length-append, true, false, refl, ap, arith}
 use Rattle.rap_base.specs.TokenKind.{AMP, EQ, COLON, COLON2, COMMA, DOT, THIN_ARROW, L_PAREN, L_BRACK, L_CURLY, MUT_KW, MOD_KW, STRUCT_KW, FN_KW, LET_KW}
 use Rattle.rap_events.specs.Record.{Record}
 use Rattle.rap_events.specs.Composite.{parts, width, width_of}
