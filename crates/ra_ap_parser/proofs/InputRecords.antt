@@ -1,6 +1,6 @@
 -- The records of a text, appended one by one.
 use Rattle.std.proofs.Common.{◌≡◌, refl, sym, ◌∙◌, ap, List, [], ◌∷◌, ◌++◌, ℕ, ◌+◌, ◌<◌, inl, inr, true, false, append_assoc, append-nil, ◌≤◌, length, drop, Some}
-use Rattle.std.specs.Prelude.{◌==◌, unwrap_or, bytes_eq}
+use Rattle.std.specs.Prelude.{Bool, ◌==◌, unwrap_or, bytes_eq}
 use Rattle.std.specs.List.{list_all}
 use Rattle.std.proofs.lemmas.Bool.{and_parts, cases_Bool, cond-true, cond-false}
 use Rattle.std.proofs.lemmas.List.{drop_more, drop_all}
@@ -9,7 +9,7 @@ use Rattle.rap_base.specs.TokenTests.{is_token, is_trivia}
 use Rattle.rap_base.specs.Keyword.{contextual, kind_of_word, from_contextual_keyword}
 use Rattle.rap_base.specs.declared.edition.Edition.{Edition}
 use Rattle.rap_base.specs.declared.edition.Edition.TheVariants.{Edition2015, Edition2018, Edition2021, Edition2024}
-use Rattle.rap_events.specs.Record.{Record, with_last_joint}
+use Rattle.rap_events.specs.Record.{Record}
 use Rattle.ra_ap_parser.specs.LexedStr.{Token, token_at}
 use Rattle.ra_ap_parser.specs.Input.{contextual_of, joint_of, records, records_at}
 use Rattle.ra_ap_parser.specs.Trivia.{is_trivial}
@@ -30,11 +30,6 @@ contextual-token text Edition2015 = word-token (contextual Edition2015) text ref
 contextual-token text Edition2018 = word-token (contextual Edition2018) text refl
 contextual-token text Edition2021 = word-token (contextual Edition2021) text refl
 contextual-token text Edition2024 = word-token (contextual Edition2024) text refl
-
-pub with_last_joint-push : (rs : List Record) (r : Record) → with_last_joint (rs ++ r ∷ []) ≡ rs ++ (record r { joint = true }) ∷ []
-with_last_joint-push [] r = refl
-with_last_joint-push (s ∷ []) r = refl
-with_last_joint-push (s ∷ t ∷ rs) r = ap (λ l. s ∷ l) (with_last_joint-push (t ∷ rs) r)
 
 -- a token that is no identifier may be read as nothing else
 pub contextual_of-other : (t : Token) (edition : Edition) → (t.kind == IDENT) ≡ false → contextual_of t edition ≡ EOF
@@ -59,9 +54,9 @@ records-step done next ts i edition h all e =
     ∙ ap (λ l. done ++ l) (sym (records-more ts i edition h))
     ∙ all
 
--- the record of a token that is joint
-pub records_at-joint : (ts : List Token) (i : ℕ) (edition : Edition) (kind : ℕ) → kind ≡ (token_at ts i).kind → is_trivia kind ≡ false → (kind == IDENT) ≡ false → joint_of (token_at ts i) (drop (i + 1) ts) ≡ true → records_at ts i edition ≡ record { kind = kind; contextual = EOF; edition = edition; joint = true } ∷ []
-records_at-joint ts i edition kind same significant other joint =
+-- the record of a token that is no identifier
+pub records_at-joint : (ts : List Token) (i : ℕ) (edition : Edition) (kind : ℕ) (is : Bool) → kind ≡ (token_at ts i).kind → is_trivia kind ≡ false → (kind == IDENT) ≡ false → joint_of (token_at ts i) (drop (i + 1) ts) ≡ is → records_at ts i edition ≡ record { kind = kind; contextual = EOF; edition = edition; joint = is } ∷ []
+records_at-joint ts i edition kind is same significant other joint =
     let t = token_at ts i in
     cond-false (is_trivial t) [] (record_of t (drop (i + 1) ts) edition ∷ []) (sym (ap is_trivia same) ∙ significant)
     ∙ ap {B = List Record} (λ k. record { kind = k; contextual = contextual_of t edition; edition = edition; joint = joint_of t (drop (i + 1) ts) } ∷ []) (sym same)

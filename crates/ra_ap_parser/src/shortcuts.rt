@@ -130,10 +130,7 @@ fn push_record(
         let keyword = contextual_keyword(lexed.text(i), edition);
         return input.push_ident(keyword.unwrap_or(SyntaxKind::IDENT), edition);
     }
-    input.push(kind, edition)?;
-    if is_joint(lexed, i) {
-        input.was_joint();
-    }
+    input.push_joint(kind, edition, is_joint(lexed, i))?;
     Ok(())
 }
 

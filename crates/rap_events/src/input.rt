@@ -56,11 +56,27 @@ impl Input {
         ensures ok { OnOk result (self.new ≡ self.old ++ record { kind = kind; contextual = EOF; edition = edition; joint = false } ∷ []) }
         ensures err { OnErr result (self.new ≡ self.old) }
     {
+        self.push_joint(kind, edition, false)
+    }
+
+    /// The same, of a token that touches the next one or not. It saves [`Input::was_joint`] a branch that processors often
+    /// guess wrong.
+    pub fn push_joint(
+        &mut self,
+        kind: SyntaxKind,
+        edition: Edition,
+        joint: bool,
+    ) -> Result<(), NoMemory>
+        requires token { is_token kind ≡ true }
+        requires some { kind ≢ EOF }
+        ensures ok { OnOk result (self.new ≡ self.old ++ record { kind = kind; contextual = EOF; edition = edition; joint = joint } ∷ []) }
+        ensures err { OnErr result (self.new ≡ self.old) }
+    {
         self.tokens.push(InputToken {
             kind,
             contextual_kind: SyntaxKind::EOF,
             edition,
-            joint: false,
+            joint,
         })?;
         Ok(())
     }
