@@ -31,10 +31,6 @@ contextual-token text Edition2018 = word-token (contextual Edition2018) text ref
 contextual-token text Edition2021 = word-token (contextual Edition2021) text refl
 contextual-token text Edition2024 = word-token (contextual Edition2024) text refl
 
--- a token that is no identifier may be read as nothing else
-pub contextual_of-other : (t : Token) (edition : Edition) → (t.kind == IDENT) ≡ false → contextual_of t edition ≡ EOF
-contextual_of-other t edition h = cond-false (t.kind == IDENT) (unwrap_or (from_contextual_keyword t.text edition) IDENT) EOF h
-
 -- the records from a place on begin with that of the token there
 pub records-more : (ts : List Token) (i : ℕ) (edition : Edition) → i < length ts → records (drop i ts) edition ≡ records_at ts i edition ++ records (drop (i + 1) ts) edition
 records-more ts i edition h =
@@ -53,15 +49,6 @@ records-step done next ts i edition h all e =
     ∙ append_assoc done (records_at ts i edition) (records (drop (i + 1) ts) edition)
     ∙ ap (λ l. done ++ l) (sym (records-more ts i edition h))
     ∙ all
-
--- the record of a token that is no identifier
-pub records_at-joint : (ts : List Token) (i : ℕ) (edition : Edition) (kind : ℕ) (is : Bool) → kind ≡ (token_at ts i).kind → is_trivia kind ≡ false → (kind == IDENT) ≡ false → joint_of (token_at ts i) (drop (i + 1) ts) ≡ is → records_at ts i edition ≡ record { kind = kind; contextual = EOF; edition = edition; joint = is } ∷ []
-records_at-joint ts i edition kind is same significant other joint =
-    let t = token_at ts i in
-    cond-false (is_trivial t) [] (record_of t (drop (i + 1) ts) edition ∷ []) (sym (ap is_trivia same) ∙ significant)
-    ∙ ap {B = List Record} (λ k. record { kind = k; contextual = contextual_of t edition; edition = edition; joint = joint_of t (drop (i + 1) ts) } ∷ []) (sym same)
-    ∙ ap {B = List Record} (λ k. record { kind = kind; contextual = k; edition = edition; joint = joint_of t (drop (i + 1) ts) } ∷ []) (contextual_of-other t edition (sym (ap (λ k. k == IDENT) same) ∙ other))
-    ∙ ap {B = List Record} (λ b. record { kind = kind; contextual = EOF; edition = edition; joint = b } ∷ []) joint
 
 -- all tokens are done
 pub records-all : (done : List Record) (ts : List Token) (i : ℕ) (edition : Edition) → length ts ≤ i → done ++ records (drop i ts) edition ≡ records ts edition → done ≡ records ts edition
