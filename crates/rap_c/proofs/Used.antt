@@ -1,23 +1,13 @@
 -- What walks through steps and tokens count.
-use Rattle.std.proofs.Common.{◌≡◌, ℕ, zero, suc, ◌+◌, ◌≤◌, ◌<◌, List, [], ◌∷◌, ◌++◌, Bool, not, true, false, codes, refl, ap, subst, sym, ◌∙◌, arith, append_assoc, append-nil, length, drop}
+use Rattle.std.proofs.Common.{◌≡◌, ℕ, zero, suc, ◌+◌, ◌≤◌, ◌<◌, List, [], ◌∷◌, ◌++◌, Bool, not, true, false, refl, ap, sym, ◌∙◌, arith, append_assoc, append-nil, length, drop}
 use Rattle.std.proofs.lemmas.Bool.{cond-true, cond-false}
 use Rattle.std.proofs.lemmas.List.{drop_all, drop_more, take_all}
-use Rattle.rap_base.specs.declared.edition.Edition.{Edition}
-use Rattle.rap_events.specs.Record.{Record}
 use Rattle.rap_events.specs.StepValue.{StepValue, enter, exit, token, float_split, error}
-use Rattle.rap_events.specs.Forest.{Forest, none, node, leaf, message, split, flat, one_tree, split_ends, exit_of, used}
-use Rattle.std.proofs.Common.{string_bytes}
-use Rattle.ra_ap_parser.specs.Headline.{HasTooManyTokens}
-use Rattle.ra_ap_parser.specs.LexedStr.{Lexed, IsLexing, Token, joined, start_of, token_at}
-use Rattle.ra_ap_parser.specs.StrSink.{Takes}
-use Rattle.ra_ap_parser.specs.StrStep.{StrStepValue}
-use Rattle.ra_ap_parser.specs.Trivia.{is_trivial, significant}
+use Rattle.rap_events.specs.Forest.{Forest, none, node, leaf, message, split, flat, split_ends, exit_of, used}
+use Rattle.ra_ap_parser.specs.LexedStr.{Token, joined, start_of, token_at}
+use Rattle.ra_ap_parser.specs.Trivia.{is_trivial}
 use Rattle.ra_ap_parser.proofs.Tokens.{start_of_next}
-use Rattle.rast_print.specs.Printed.{printed, reported}
-use Rattle.rast_print.specs.Prints.{Prints}
-use Rattle.rast_print.specs.declared.printer.Printer.{Printer}
-use Rattle.rast_print.proofs.Lines.{tree_along, messages_along}
-use Rattle.rast_steps.specs.Listed.{end_after, tree_lines, tree_part}
+use Rattle.rap_c.specs.Used.{end_after}
 
 -- how many tokens these steps stand for
 abbrev pub tokens_in : List StepValue → ℕ
@@ -45,31 +35,6 @@ along (split b e) ss = rw (append_assoc (flat b) (float_split e ∷ []) ss) (ome
 -- an output's steps stand for the tokens that it took
 pub tokens_in_flat : (f : Forest) → tokens_in (flat f) ≡ used f
 tokens_in_flat f = ap tokens_in (sym (append-nil (flat f))) ∙ (along f [] ∙ omega arith)
-
--- the lines of a tree from a printer that had written nothing
-pub tree_from : (steps : List StrStepValue) (s t : Printer) → string_bytes s.tree ≡ [] → s.depth ≡ 0 → Takes Prints s steps t → string_bytes t.tree ≡ printed 0 steps
-tree_from steps s t no_tree no_depth h = tree_along steps s t h ∙ (ap (λ l. l ++ printed s.depth steps) no_tree ∙ ap (λ d. printed d steps) no_depth)
-
-pub messages_from : (steps : List StrStepValue) (s t : Printer) → string_bytes s.messages ≡ [] → Takes Prints s steps t → string_bytes t.messages ≡ reported steps
-messages_from steps s t none_yet h = messages_along steps s t h ∙ ap (λ l. l ++ reported steps) none_yet
-
--- the lines of an output that is no tree, and of one that is
-pub no_tree : (l : List ℕ) (ts : List Token) (output : Forest) → one_tree output ≡ false → l ≡ l ++ tree_part ts output
-no_tree l ts output h = sym (ap (λ part. l ++ part) (cond-false (one_tree output) (codes "tree\n" ++ tree_lines ts output) [] h) ∙ append-nil l)
-
-pub a_tree : (l : List ℕ) (ts : List Token) (output : Forest) → one_tree output ≡ true → (l ++ codes "tree\n") ++ tree_lines ts output ≡ l ++ tree_part ts output
-a_tree l ts output h =
-    append_assoc l (codes "tree\n") (tree_lines ts output) ∙
-    sym (ap (λ part. l ++ part) (cond-true (one_tree output) (codes "tree\n" ++ tree_lines ts output) [] h))
-
--- a text with so many records
-pub too_many : (text : List ℕ) (edition : Edition) (lexed : Lexed) (input : List Record) → length text ≤ 4294967295 → IsLexing text edition lexed → length input ≡ significant lexed.tokens → 8388607 < length input → HasTooManyTokens text edition
-too_many text edition lexed input small lexing e many = record {
-  small = small;
-  lexed = lexed;
-  lexing = lexing;
-  many = subst (λ n. 8388607 < n) e many;
-}
 
 is_true : (b : Bool) → not b ≡ false → b ≡ true
 is_true true h = refl

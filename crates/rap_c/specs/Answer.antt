@@ -1,5 +1,5 @@
 -- Answers by their numbers.
-use Rattle.std.specs.Prelude.{◌≡◌, ℕ}
+use Rattle.std.specs.Prelude.{ℕ}
 use Rattle.rap_c.specs.declared.answer.Fault.{Fault}
 use Rattle.rap_c.specs.declared.answer.Fault.TheVariants.{NoEdition, NoEntry, NotUtf8, TextTooLong, TooManyTokens, NoMemory, NoNode, NoBrace}
 use Rattle.rap_c.specs.declared.answer.RapAnswer.{RapAnswer}

@@ -1,5 +1,5 @@
 -- What is handed to a caller, one thing after another, and the numbers of each.
-use Rattle.std.specs.Prelude.{ℕ, ◌+◌, ◌-◌, ◌^◌, Bool, true, false, List, [], ◌∷◌, ◌++◌, length, map, min, if◌then◌else◌}
+use Rattle.std.specs.Prelude.{ℕ, ◌+◌, ◌-◌, ◌^◌, Bool, List, [], ◌∷◌, ◌++◌, length, map, min, if◌then◌else◌}
 use Rattle.rap_events.specs.StepValue as raw
 use Rattle.ra_ap_parser.specs.LexedStr.{Token, Message, start_of}
 use Rattle.ra_ap_parser.specs.StrStep.{StrStepValue, str_enter, str_exit, str_token, str_error}

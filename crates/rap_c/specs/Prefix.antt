@@ -1,5 +1,5 @@
 -- What is given of the front of a text.
-use Rattle.std.specs.Prelude.{◌≡◌, ℕ, ◌≤◌, ◌<◌, List, length, IsUtf8}
+use Rattle.std.specs.Prelude.{ℕ, ◌≤◌, ◌<◌, List, length, IsUtf8}
 use Rattle.rap_base.specs.declared.edition.Edition.{Edition}
 use Rattle.rap_events.specs.Forest.{Forest}
 use Rattle.ra_ap_parser.specs.EntryScript.{IsPrefixOutputOf}
