@@ -26,6 +26,9 @@ pub const EXIT: u32 = 1;
 pub const TOKEN: u32 = 2;
 pub const MESSAGE: u32 = 3;
 
+/// A number that is no kind's, as `RAP_NO_KIND`.
+pub const NO_KIND: u32 = 330;
+
 unsafe extern "C" {
     pub fn rap_tree(
         text: *const u8,
@@ -42,6 +45,30 @@ unsafe extern "C" {
         text: *const u8,
         text_length: usize,
         edition: u32,
+        steps: *mut Step,
+        step_room: usize,
+        messages: *mut u8,
+        message_room: usize,
+    ) -> Answer;
+
+    pub fn rap_prefix(
+        text: *const u8,
+        text_length: usize,
+        edition: u32,
+        entry: u32,
+        steps: *mut Step,
+        step_room: usize,
+        messages: *mut u8,
+        message_room: usize,
+    ) -> Answer;
+
+    pub fn rap_reparse(
+        text: *const u8,
+        text_length: usize,
+        edition: u32,
+        node: u32,
+        first_child: u32,
+        parent: u32,
         steps: *mut Step,
         step_room: usize,
         messages: *mut u8,

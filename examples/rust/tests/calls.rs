@@ -1,4 +1,5 @@
 //! Calls through the safe wrapper, with expected values by hand.
+use rap::sys::{self, Answer, Step as RawStep};
 use rap::{print::lines_of, tokens, Edition, Entry, Kind, Step, Tree};
 
 fn tree(text: &str, entry: Entry) -> Tree<'_> {
@@ -54,4 +55,47 @@ fn names_kinds() {
     assert_eq!(Kind::named("EOF").map(|kind| kind.to_string()).as_deref(), Some("EOF"));
     assert_eq!(Kind::named("PATH_META").map(|kind| kind.to_string()).as_deref(), Some("PATH_META"));
     assert_eq!(Kind::named(""), None);
+}
+
+/// Calls with room for eight steps and eight bytes of messages, and gives the answer and what was written.
+fn with_room(call: impl Fn(*mut RawStep, *mut u8) -> Answer) -> (Answer, [RawStep; 8], [u8; 8]) {
+    let mut steps = [RawStep { what: 99, ..RawStep::default() }; 8];
+    let mut messages = [b'.'; 8];
+    let answer = call(steps.as_mut_ptr(), messages.as_mut_ptr());
+    (answer, steps, messages)
+}
+
+#[test]
+fn calls_with_many_words_and_no_wrapper() {
+    let text = " ; x";
+    // SAFETY: each pointer stands with a length that is its own, and no two of them overlap.
+    let (answer, steps, messages) = with_room(|steps, messages| unsafe {
+        sys::rap_prefix(text.as_ptr(), text.len(), 2024, 1, steps, 8, messages, 8)
+    });
+    assert_eq!(answer, Answer { status: 1, steps: 1, message_bytes: 16, used: 0 });
+    assert_eq!(steps[0], RawStep { what: sys::MESSAGE, kind: 0, at: 0, start: 0, end: 16 });
+    assert_eq!((steps[1].what, &messages), (99, b"expected"));
+
+    let text = "{a}";
+    let kind = |name: &str| (0..330).find(|kind| name_of(*kind) == name).expect("there is such a kind");
+    let call = |first_child: u32, room: usize| {
+        // SAFETY: as above, with room for no more than there is.
+        with_room(|steps, messages| unsafe {
+            let node = kind("TOKEN_TREE");
+            sys::rap_reparse(text.as_ptr(), 3, 2021, node, first_child, sys::NO_KIND, steps, room, messages, 8)
+        })
+    };
+    assert_eq!(call(sys::NO_KIND, 8).0, Answer { status: 8, ..Answer::default() });
+    let (answer, steps, messages) = call(kind("L_CURLY"), 4);
+    assert_eq!(answer, Answer { status: 0, steps: 5, message_bytes: 0, used: 3 });
+    let want = [sys::ENTER, sys::TOKEN, sys::TOKEN, sys::TOKEN, 99, 99, 99, 99];
+    assert_eq!(steps.map(|step| step.what), want);
+    assert_eq!((steps[2].start, steps[2].end, &messages), (1, 2, b"........"));
+}
+
+fn name_of(kind: u32) -> String {
+    let mut name = [0; 32];
+    // SAFETY: the pointer and the length are those of `name`.
+    let length = unsafe { sys::rap_kind_name(kind, name.as_mut_ptr(), name.len()) };
+    String::from_utf8(name[..length].to_vec()).expect("names are ASCII")
 }
