@@ -5,9 +5,10 @@ use Rattle.rap_events.specs.Forest.{Forest, message_count}
 use Rattle.rap_grammar.proofs.Outputs.{derived, derived_clean, derived_type, derived_type_clean, derived_statements, derived_statements_clean, derived_file, derived_file_clean, derived_items, derived_items_clean, called_file, called_items, begun_file, begun_items, one_output, one_root}
 use Rattle.rap_grammar.specs.Part.{IsPrefixOf, IsPartCore, IsWhole, part_script}
 use Rattle.rap_grammar.specs.declared.entry.part.Part.{Part}
+use Rattle.rap_grammar.proofs.Padded.{top_of_prefix}
 use Rattle.rap_grammar.proofs.Parts.{one_prefix}
 use Rattle.rap_grammar.proofs.Prefixes.{front_expression, front_type, front_block, front_item, front_part}
-use Rattle.ra_ap_parser.specs.EntryScript.{IsOutputOf, IsCore, IsCall, KeepsFront, IsPrefixOutputOf, IsPrefixCore}
+use Rattle.ra_ap_parser.specs.EntryScript.{IsOutputOf, IsCore, IsCall, KeepsFront, IsPrefixOutputOf, IsPrefixCore, WrapsPrefix}
 use Rattle.ra_ap_parser.specs.declared.entry_point.PrefixEntryPoint.{PrefixEntryPoint}
 use Rattle.ra_ap_parser.specs.declared.entry_point.PrefixEntryPoint.TheVariants as prefix
 use Rattle.ra_ap_parser.specs.declared.entry_point.TopEntryPoint.{TopEntryPoint}
@@ -41,6 +42,16 @@ front_kept entry.Pattern input output i = tt
 front_kept entry.Ty input output i = tt
 front_kept entry.Expr input output i = tt
 front_kept entry.MetaItem input output i = tt
+
+-- what reads one thing makes its tree of what the prefix entry reads
+pub prefix_wrapped : (e : TopEntryPoint) (input : List Record) (output : Forest) → IsOutputOf e input output → WrapsPrefix e input output
+prefix_wrapped entry.SourceFile input output i = tt
+prefix_wrapped entry.MacroStmts input output i = tt
+prefix_wrapped entry.MacroItems input output i = tt
+prefix_wrapped entry.Pattern input output i = λ front j. top_of_prefix j i
+prefix_wrapped entry.Ty input output i = λ front j. top_of_prefix j i
+prefix_wrapped entry.Expr input output i = λ front j. top_of_prefix j i
+prefix_wrapped entry.MetaItem input output i = λ front j. top_of_prefix j i
 
 -- an entry gives one output of an input
 pub one_entry_output : (e : TopEntryPoint) (input : List Record) {a b : Forest} → IsOutputOf e input a → IsOutputOf e input b → a ≡ b

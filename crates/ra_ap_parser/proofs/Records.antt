@@ -8,7 +8,8 @@ use Rattle.rap_base.specs.TokenKind.{IDENT, FLOAT_NUMBER}
 use Rattle.rap_base.specs.TokenTests.{is_trivia}
 use Rattle.rap_base.specs.declared.edition.Edition.{Edition}
 use Rattle.rap_events.specs.Record.{Record}
-use Rattle.rap_events.specs.Composite.{composites, row_of, parts, begins_with}
+use Rattle.rap_events.specs.OperatorTable.{composites}
+use Rattle.rap_events.specs.Composite.{row_of, parts, begins_with}
 use Rattle.rap_events.specs.Cover.{of_tokens, of_float, first_may_bear, first_splits, stands}
 use Rattle.ra_ap_parser.specs.LexedStr.{Token, joined}
 use Rattle.ra_ap_parser.specs.Input.{contextual_of, ends_with_dot, begins_touching, joint_of, records}

@@ -1,15 +1,15 @@
 -- What a top entry makes of its input.
-use Rattle.std.specs.Prelude.{◌≡◌, ◌≢◌, List, true, false, ◌++◌}
+use Rattle.std.specs.Prelude.{◌≡◌, ◌≢◌, List, true, false, ◌++◌, drop}
 use Rattle.rap_base.specs.NodeKind.{SOURCE_FILE, MACRO_STMTS, MACRO_ITEMS}
 use Rattle.rap_base.specs.TokenKind.{SEMICOLON}
 use Rattle.rap_events.specs.Record.{Record, next_kind}
-use Rattle.rap_events.specs.Forest.{Forest, none, node, ◌⧺◌}
+use Rattle.rap_events.specs.Forest.{Forest, none, node, ◌⧺◌, used}
 use Rattle.rap_rules.specs.Atom.{expr}
 use Rattle.rap_rules.specs.Called.{pattern, pattern_single, type_, inner_meta}
 use Rattle.rap_grammar.specs.Derives.{Derives, Expression, Ty, Block, Contents, Many, Item, File, EndsExpression, EndsType}
 use Rattle.rap_grammar.specs.MacroCall.{IsMacroCall}
 use Rattle.rap_grammar.specs.Mixed.{IsFront}
-use Rattle.rap_grammar.specs.Top.{IsTopOf, IsRootOf}
+use Rattle.rap_grammar.specs.Top.{IsTopOf, IsRootOf, top_tree}
 use Rattle.rap_rules.specs.Items.{source_file, mod_contents, item_or_macro}
 use Rattle.rap_rules.specs.Statements.{macro_stmts, stmt}
 use Rattle.rap_grammar.specs.Part.{IsPrefixOf}
@@ -82,6 +82,22 @@ IsPrefixOutputOf prefix.Expr input output = IsPrefixOf expr input output
 IsPrefixOutputOf prefix.Path input output = IsPrefixOf type_path input output
 IsPrefixOutputOf prefix.Item input output = IsPrefixOf (item_or_macro true true) input output
 IsPrefixOutputOf prefix.MetaItem input output = IsPrefixOf inner_meta input output
+
+-- This is made of whatever the prefix entry reads: the same, where it is one tree over the whole input, and else an
+-- `ERROR` over it and what is left.
+abbrev pub IsTopOfPrefix : PrefixEntryPoint → List Record → Forest → Type 0
+IsTopOfPrefix entry input output =
+    (front : Forest) → IsPrefixOutputOf entry input front → output ≡ top_tree front (drop (used front) input)
+
+-- A top entry that reads one thing makes its tree of what its prefix entry reads.
+abbrev pub WrapsPrefix : TopEntryPoint → List Record → Forest → Type 0
+WrapsPrefix entry.SourceFile input output = Unit {0}
+WrapsPrefix entry.MacroStmts input output = Unit {0}
+WrapsPrefix entry.MacroItems input output = Unit {0}
+WrapsPrefix entry.Pattern input output = IsTopOfPrefix prefix.PatTop input output
+WrapsPrefix entry.Ty input output = IsTopOfPrefix prefix.Ty input output
+WrapsPrefix entry.Expr input output = IsTopOfPrefix prefix.Expr input output
+WrapsPrefix entry.MetaItem input output = IsTopOfPrefix prefix.MetaItem input output
 
 -- The front of an input is derived by the core grammar, with this tree, before what can follow it: an expression before
 -- the end, `;`, `,` or `)`; a type before what can follow a type; an item before no semicolon; a block before anything.

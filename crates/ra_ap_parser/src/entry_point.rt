@@ -71,7 +71,7 @@ pub enum TopEntryPoint {
 }
 
 impl TopEntryPoint {
-    ghost use Rattle.ra_ap_parser.specs.EntryScript.{IsOutputOf, IsCore, IsCall, KeepsFront};
+    ghost use Rattle.ra_ap_parser.specs.EntryScript.{IsOutputOf, IsCore, IsCall, KeepsFront, WrapsPrefix};
 
     /// Reads the input as one tree.
     fn run(&self, alloc: Global, input: &Input) -> Result<Output, NoMemory>
@@ -102,6 +102,8 @@ impl TopEntryPoint {
     /// `MACRO_CALL`, whose `TOKEN_TREE` nests as the brackets do, without a message. Where an input begins with items of
     /// the core grammar and with `@`, `,` and integers, in any order, the entry's node begins under these two with the
     /// tree of each item and an `ERROR` of a message and one leaf for each such token, whatever follows the last one.
+    /// `Pattern`, `Ty`, `Expr` and `MetaItem` give what `PatTop`, `Ty`, `Expr` and `MetaItem` of [`PrefixEntryPoint`] read,
+    /// where that is one tree over the whole input, and else an `ERROR` over it and a leaf for each token that is left.
     pub fn parse(&self, alloc: Global, input: &Input) -> Result<Output, ParseFault>
         ensures tree { IfOk result (IsTreeOver input.now) }
         ensures script { IfOk result (IsOutputOf self.now input.now) }
@@ -109,6 +111,7 @@ impl TopEntryPoint {
         ensures core { IfOk result (λ output. (tree : Forest) → IsCore self.now input.now tree → (output ≡ tree) × (message_count output ≡ 0)) }
         ensures macro_call { IfOk result (λ output. (tree : Forest) → IsCall self.now input.now tree → (output ≡ tree) × (message_count output ≡ 0)) }
         ensures front { IfOk result (KeepsFront self.now input.now) }
+        ensures wraps { IfOk result (WrapsPrefix self.now input.now) }
         ensures too_many { (result ≡ Err ParseFault.TooManyTokens) ↔ (MAX_TOKENS < length input.now) }
     {
         if has_too_many_tokens(input) {

@@ -3,13 +3,14 @@
 //! Each text stands between `«` and `»`, what is used of it behind that up to another `»`, and then the steps: `K(` begins a
 //! node that `)` ends; `K` is a token, and `K*2` two of them; `float` a float that is taken apart, and `float.` one that
 //! ends in a dot; a message stands between `<` and `>`, with a bar where a further line of it begins.
-use crate::entry_point::PrefixEntryPoint;
+use crate::entry_point::{PrefixEntryPoint, TopEntryPoint};
 use crate::lexed_str::LexedStr;
 use crate::reparser::Reparser;
 use rap_base::edition::Edition;
 use rap_base::syntax_kind::SyntaxKind;
 use rap_events::input::Input;
 use rap_events::output::{Output, Step};
+use rap_grammar::entry::is_one_tree;
 use std::alloc::{AllocError, Global};
 use std::fmt::Write as _;
 use std::process::Abort;
@@ -168,6 +169,66 @@ pub fn fronts(
     table: &str,
 ) -> Result<(), Fail> {
     compare_table(rt, alloc, &Read::Front(entry), table)
+}
+
+/// The steps of the tree of a whole input from what stands at its front: that, where it is one tree over all of it, and else
+/// an `ERROR` over it and each token that is left.
+fn top_steps(alloc: Global, input: &Input, front: &Output) -> Result<String, AllocError> {
+    let steps = steps_of(alloc, front)?;
+    let used = used_tokens(front);
+    if used == input.len() && is_one_tree(front) {
+        return Ok(steps);
+    }
+    let mut all = String::new(alloc);
+    write!(all, "ERROR({steps}")?;
+    for i in used..input.len() {
+        if !all.ends_with('(') {
+            all.push(' ')?;
+        }
+        all.push_str(input.kind(i).name())?;
+    }
+    all.push(')')?;
+    Ok(all)
+}
+
+/// Compares a text's steps under a top entry with what stands at its front under a prefix entry, and the kind of its tree.
+fn compare_top(
+    rt: &impl Abort,
+    alloc: Global,
+    (top, prefix): (TopEntryPoint, PrefixEntryPoint),
+    text: &str,
+    kind: &str,
+) -> Result<(), Fail> {
+    let edition = Edition::LATEST;
+    let lexed = LexedStr::new(alloc, edition, text)?;
+    let input = lexed.to_input(alloc, edition)?;
+    let front = prefix.parse(alloc, &input)?;
+    let output = top.parse(alloc, &input)?;
+    let steps = steps_of(alloc, &output)?;
+    let want = top_steps(alloc, &input, &front)?;
+    assert_eq!(rt; steps.as_str(), want.as_str(), "{text}");
+    let Some((root, _)) = steps.split_once('(') else {
+        return Err(Fail::from("there is no tree"));
+    };
+    assert_eq!(rt; root, kind, "{text}");
+    Ok(())
+}
+
+/// Compares each text of a table, where the kind of its tree stands behind it, under a top entry and a prefix entry.
+pub fn tops(
+    rt: &impl Abort,
+    alloc: Global,
+    top: TopEntryPoint,
+    prefix: PrefixEntryPoint,
+    table: &str,
+) -> Result<(), Fail> {
+    for row in table.split('«').skip(1) {
+        let Some((text, kind)) = row.split_once('»') else {
+            return Err(Fail::from("a row without its parts"));
+        };
+        compare_top(rt, alloc, (top, prefix), text, kind.trim())?;
+    }
+    Ok(())
 }
 
 /// The same as a node that is parsed again.

@@ -90,8 +90,9 @@ impl Reparser {
     ///
     /// Where the input begins with `{` the output is exactly one node, of the kind that was asked for. Tokens behind the
     /// brace that closes it are left. A block, and a list of items or of a struct's fields, that the core grammar derives
-    /// is its derivation's tree again, without a message. The error is `TooManyTokens` exactly for an input of more than [`MAX_TOKENS`]
-    /// tokens, which is decided first, and else `NoMemory` where a growth was refused.
+    /// is its derivation's tree again, without a message; and a token tree, whatever its tokens are as long as their
+    /// brackets are balanced, is the `TOKEN_TREE` that nests as they do. The error is `TooManyTokens` exactly for an input
+    /// of more than [`MAX_TOKENS`] tokens, which is decided first, and else `NoMemory` where a growth was refused.
     pub fn parse(self, alloc: Global, input: &Input) -> Result<Output, ParseFault>
         requires brace { asks_brace self ≡ true → next_kind input.now ≡ L_CURLY }
         ensures prefix { IfOk result (IsPrefixOver input.now) }

@@ -10,11 +10,6 @@ use std::alloc::Global;
 use std::error::Error;
 use std::fmt;
 
-#[cfg(test)]
-mod rows;
-#[cfg(test)]
-mod rules;
-
 /// Why a text was not handed out whole.
 #[derive(Clone, Debug, Drop, PartialEq, Eq)]
 pub enum TextFault<R> {

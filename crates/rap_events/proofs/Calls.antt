@@ -51,20 +51,20 @@ bumped input pos xs k w h = rw (run-push initial xs (call.token k w)) (record {
   below = refl;
 })
 
-completed-at : (input rest : List Record) (k : ℕ) (c : Config) (s : Stack) (n : ℕ) (end : ℕ) → s ≡ c.below → Rooted s c.marker → c.marker ≡ Some n → end ≡ c.count + 1 →
-    Completed (view input rest c) (view input rest (close k c s)) k × IsLast (view input rest (close k c s)) (record { end = end; kind = k }) k
+completed-at : (input rest : List Record) (k : ℕ) (c : Config) (s : Stack) (n : ℕ) (cm : CompletedMarker) → s ≡ c.below → Rooted s c.marker → c.marker ≡ Some n → cm.end.value ≡ c.count + 1 → cm.kind.value ≡ k →
+    Completed (view input rest c) (view input rest (close k c s)) k × IsLast (view input rest (close k c s)) cm k
 unfolding but_last last_children
-completed-at input rest k c floor n end e h m d = absurd cc
-completed-at input rest k c (push r m' b) n end e h m d = (
+completed-at input rest k c floor n cm e h m d i = absurd cc
+completed-at input rest k c (push r m' b) n cm e h m d i = (
   record { recorded = record { input = refl; rest = refl; left = refl; count = refl; messages = refl }; below = sym e; forest = refl; children = refl },
-  record { kind = refl; end = d; closed = refl; forest = refl },
+  record { kind = i; end = d; closed = refl; forest = refl },
 )
 
-pub completed : (input rest : List Record) (xs : List Call) (k : ℕ) (n : ℕ) (end : ℕ) → (run initial xs).marker ≡ Some n → end ≡ length xs + 1 →
+pub completed : (input rest : List Record) (xs : List Call) (k : ℕ) (n : ℕ) (cm : CompletedMarker) → (run initial xs).marker ≡ Some n → cm.end.value ≡ length xs + 1 → cm.kind.value ≡ k →
     Completed (view input rest (run initial xs)) (view input rest (run initial (xs ++ call.finish k ∷ []))) k
-    × IsLast (view input rest (run initial (xs ++ call.finish k ∷ []))) (record { end = end; kind = k }) k
-completed input rest xs k n end m d =
-    rw (run-push initial xs (call.finish k)) (completed-at input rest k (run initial xs) (run initial xs).below n end refl (rooted xs) m (omega (arith, count_of xs)))
+    × IsLast (view input rest (run initial (xs ++ call.finish k ∷ []))) cm k
+completed input rest xs k n cm m d i =
+    rw (run-push initial xs (call.finish k)) (completed-at input rest k (run initial xs) (run initial xs).below n cm refl (rooted xs) m (omega (arith, d, count_of xs)) i)
 
 abandoned-at : (input rest : List Record) (c : Config) (s : Stack) (n : ℕ) → s ≡ c.below → Rooted s c.marker → c.marker ≡ Some n → Abandoned (view input rest c) (view input rest (merge c s))
 unfolding top
@@ -96,27 +96,27 @@ pub preceded : (input rest : List Record) (xs : List Call) (cm : CompletedMarker
 preceded input rest xs cm k n e h =
     rw (run-push initial xs call.precede) (preceded-at input rest (run initial xs) (run initial xs).closed (run initial xs).forest n k h.closed h.forest refl (e ∙ sym (count_of xs)))
 
-extended-at : (input rest : List Record) (c : Config) (x : Forest) (s : Stack) (n end : ℕ) (k : ℕ) → x ≡ node (but_last x) k (last_children x) → x ≡ c.forest → s ≡ c.below → Rooted s c.marker → c.marker ≡ Some n → c.closed ≡ true → end ≡ c.count + 1 →
-    Extended (view input rest c) (view input rest (stretch c x s)) k × IsLast (view input rest (stretch c x s)) (record { end = end; kind = k }) k
+extended-at : (input rest : List Record) (c : Config) (x : Forest) (s : Stack) (n : ℕ) (cm : CompletedMarker) (k : ℕ) → x ≡ node (but_last x) k (last_children x) → x ≡ c.forest → s ≡ c.below → Rooted s c.marker → c.marker ≡ Some n → c.closed ≡ true → cm.end.value ≡ c.count + 1 → cm.kind.value ≡ k →
+    Extended (view input rest c) (view input rest (stretch c x s)) k × IsLast (view input rest (stretch c x s)) cm k
 unfolding but_last last_children
-extended-at input rest c x floor n end k e g p h m t d = absurd cc
-extended-at input rest c none (push r m' b) n end k e g p h m t d = absurd cc
-extended-at input rest c (leaf z l w) (push r m' b) n end k e g p h m t d = absurd cc
-extended-at input rest c (message z y) (push r m' b) n end k e g p h m t d = absurd cc
-extended-at input rest c (split z y) (push r m' b) n end k e g p h m t d = absurd cc
-extended-at input rest c (node z l w) (push r m' b) n end k e g p h m t d =
+extended-at input rest c x floor n cm k e g p h m t d i = absurd cc
+extended-at input rest c none (push r m' b) n cm k e g p h m t d i = absurd cc
+extended-at input rest c (leaf z l w) (push r m' b) n cm k e g p h m t d i = absurd cc
+extended-at input rest c (message z y) (push r m' b) n cm k e g p h m t d i = absurd cc
+extended-at input rest c (split z y) (push r m' b) n cm k e g p h m t d i = absurd cc
+extended-at input rest c (node z l w) (push r m' b) n cm k e g p h m t d i =
     let l-is : l ≡ k = cc in
     let c-is : last_children c.forest ≡ w = ap last_children (sym g) in
     let b-is : but_last c.forest ≡ z = ap but_last (sym g) in (
       record { recorded = record { input = refl; rest = refl; left = refl; count = refl; messages = refl }; forest = cc; below = sym p },
-      record { kind = refl; end = d; closed = t; forest = cc },
+      record { kind = i; end = d; closed = t; forest = cc },
     )
 
-pub extended : (input rest : List Record) (xs : List Call) (cm : CompletedMarker) (k : ℕ) (n end : ℕ) → IsLast (view input rest (run initial xs)) cm k → (run initial xs).marker ≡ Some n → end ≡ length xs + 1 →
+pub extended : (input rest : List Record) (xs : List Call) (old new : CompletedMarker) (k : ℕ) (n : ℕ) → IsLast (view input rest (run initial xs)) old k → (run initial xs).marker ≡ Some n → new.end.value ≡ length xs + 1 → new.kind.value ≡ k →
     Extended (view input rest (run initial xs)) (view input rest (run initial (xs ++ call.extend ∷ []))) k
-    × IsLast (view input rest (run initial (xs ++ call.extend ∷ []))) (record { end = end; kind = k }) k
-extended input rest xs cm k n end h m d =
-    rw (run-push initial xs call.extend) (extended-at input rest (run initial xs) (run initial xs).forest (run initial xs).below n end k h.forest refl refl (rooted xs) m h.closed (omega (arith, count_of xs)))
+    × IsLast (view input rest (run initial (xs ++ call.extend ∷ []))) new k
+extended input rest xs old new k n h m d i =
+    rw (run-push initial xs call.extend) (extended-at input rest (run initial xs) (run initial xs).forest (run initial xs).below n new k h.forest refl refl (rooted xs) m h.closed (omega (arith, d, count_of xs)) i)
 
 -- what holds of every parser: its calls fitted, its leaves stand at the first tokens, and the nodes of an output without messages are fit
 pub record Kept (c : Config) (input : List Record) (pos : ℕ) : Type 0 where

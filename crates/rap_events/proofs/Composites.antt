@@ -6,7 +6,8 @@ use Rattle.rap_base.specs.TokenKind.{EOF, IDENT}
 use Rattle.rap_base.specs.Keyword.{is_keyword, is_any_identifier}
 use Rattle.rap_base.specs.declared.edition.Edition.TheVariants.{Edition2024}
 use Rattle.rap_events.specs.Record.{Record, next_kind, kind_at, joint_at, contextual_at}
-use Rattle.rap_events.specs.Composite.{composites, row_of, parts, begins_with, touches_next, is_first, is_at, width_of, width}
+use Rattle.rap_events.specs.OperatorTable.{composites}
+use Rattle.rap_events.specs.Composite.{row_of, parts, begins_with, touches_next, is_first, is_at, width_of, width}
 use Rattle.rap_events.specs.Cover.{of_tokens, first_may_bear, stands}
 use Rattle.rap_events.proofs.Truth.{and_left, and_right, and_both, or_left, or_right}
 

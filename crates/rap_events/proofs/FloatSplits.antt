@@ -15,6 +15,7 @@ use Rattle.rap_events.specs.Fit.{AllFitIn, StackFit, AllFit}
 use Rattle.rap_events.specs.State.{view, but_last, last_children, IsLast, SplitFloat}
 use Rattle.rap_events.specs.FloatSplit.{split_children, split_calls}
 use Rattle.rap_events.specs.declared.event.Event.{Event}
+use Rattle.rap_events.specs.declared.parser.CompletedMarker.{CompletedMarker}
 use Rattle.rap_events.specs.declared.event.Event.TheVariants as event
 use Rattle.rap_events.proofs.Calls.{Kept, Held, stand-push, widths-append, drop-plus, fit_of_plain}
 use Rattle.rap_events.proofs.HistoryLemmas.{history-push, errors-push}
@@ -129,11 +130,11 @@ module _ (input : List Record) (pos : ℕ) (xs : List Call) (d : Bool) (n : ℕ)
   many : counted d c.count ≡ c.count + length (split_calls d)
   many = elim d as (λ v. counted v c.count ≡ c.count + length (split_calls v)) [ true ↦ omega arith | false ↦ omega arith ]
 
-  pub split_state : (end : ℕ) → next_kind (drop pos input) ≡ FLOAT_NUMBER → joint_at (drop pos input) 0 ≡ not d → end ≡ length xs + length (split_calls d) →
+  pub split_state : (cm : CompletedMarker) → next_kind (drop pos input) ≡ FLOAT_NUMBER → joint_at (drop pos input) 0 ≡ not d → cm.end.value ≡ length xs + length (split_calls d) → cm.kind.value ≡ FIELD_EXPR →
       SplitFloat (view input (drop pos input) c) (view input (drop (pos + 1) input) (run initial (xs ++ split_calls d))) d
-      × IsLast (view input (drop (pos + 1) input) (run initial (xs ++ split_calls d))) (record { end = end; kind = FIELD_EXPR }) FIELD_EXPR
+      × IsLast (view input (drop (pos + 1) input) (run initial (xs ++ split_calls d))) cm FIELD_EXPR
   unfolding but_last last_children
-  split_state end k j e = rw done (
+  split_state cm k j e i = rw done (
     record {
       decided = j;
       input = refl;
@@ -145,7 +146,7 @@ module _ (input : List Record) (pos : ℕ) (xs : List Call) (d : Bool) (n : ℕ)
       forest = refl;
       children = refl;
     },
-    record { kind = refl; end = omega (arith, e, many, count_of xs); closed = refl; forest = refl },
+    record { kind = i; end = omega (arith, e, many, count_of xs); closed = refl; forest = refl },
   )
 
 -- the events that show it

@@ -1,35 +1,7 @@
 -- Operators that are written with two or three tokens.
 use Rattle.std.specs.Prelude.{ℕ, List, [], ◌∷◌, Bool, true, false, ◌&&◌, ◌==◌, length, if◌then◌else◌}
-use Rattle.rap_base.specs.TokenKind.{AMP, PIPE, PLUS, STAR, SLASH, CARET, PERCENT, DOT, COLON, EQ, BANG, MINUS, L_ANGLE, R_ANGLE, DOT2, DOT3, DOT2EQ, COLON2, EQ2, FAT_ARROW, NEQ, THIN_ARROW, LTEQ, GTEQ, PLUSEQ, MINUSEQ, PIPEEQ, AMPEQ, CARETEQ, SLASHEQ, STAREQ, PERCENTEQ, AMP2, PIPE2, SHL, SHR, SHLEQ, SHREQ}
+use Rattle.rap_events.specs.OperatorTable.{composites}
 use Rattle.rap_events.specs.Record.{Record, next_kind}
-
--- each such operator, and its tokens
-abbrev pub composites : List (ℕ × List ℕ)
-composites =
-    (DOT2, DOT ∷ DOT ∷ []) ∷
-    (DOT3, DOT ∷ DOT ∷ DOT ∷ []) ∷
-    (DOT2EQ, DOT ∷ DOT ∷ EQ ∷ []) ∷
-    (COLON2, COLON ∷ COLON ∷ []) ∷
-    (EQ2, EQ ∷ EQ ∷ []) ∷
-    (FAT_ARROW, EQ ∷ R_ANGLE ∷ []) ∷
-    (NEQ, BANG ∷ EQ ∷ []) ∷
-    (THIN_ARROW, MINUS ∷ R_ANGLE ∷ []) ∷
-    (LTEQ, L_ANGLE ∷ EQ ∷ []) ∷
-    (GTEQ, R_ANGLE ∷ EQ ∷ []) ∷
-    (PLUSEQ, PLUS ∷ EQ ∷ []) ∷
-    (MINUSEQ, MINUS ∷ EQ ∷ []) ∷
-    (PIPEEQ, PIPE ∷ EQ ∷ []) ∷
-    (AMPEQ, AMP ∷ EQ ∷ []) ∷
-    (CARETEQ, CARET ∷ EQ ∷ []) ∷
-    (SLASHEQ, SLASH ∷ EQ ∷ []) ∷
-    (STAREQ, STAR ∷ EQ ∷ []) ∷
-    (PERCENTEQ, PERCENT ∷ EQ ∷ []) ∷
-    (AMP2, AMP ∷ AMP ∷ []) ∷
-    (PIPE2, PIPE ∷ PIPE ∷ []) ∷
-    (SHL, L_ANGLE ∷ L_ANGLE ∷ []) ∷
-    (SHR, R_ANGLE ∷ R_ANGLE ∷ []) ∷
-    (SHLEQ, L_ANGLE ∷ L_ANGLE ∷ EQ ∷ []) ∷
-    (SHREQ, R_ANGLE ∷ R_ANGLE ∷ EQ ∷ []) ∷ []
 
 abbrev pub row_of : List (ℕ × List ℕ) → ℕ → List ℕ
 row_of [] kind = []

@@ -8,6 +8,7 @@ pub mod Input
 pub mod Interval
 pub mod LastToken
 pub mod Machine
+pub mod OperatorTable
 pub mod Output
 pub mod Power
 pub mod Reading

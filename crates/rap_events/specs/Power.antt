@@ -1,23 +1,8 @@
 -- How tightly operators bind.
 use Rattle.std.specs.Prelude.{ℕ, Bool, false, ◌==◌, ◌||◌, if◌then◌else◌, List, [], ◌∷◌, Option, Some, None}
-use Rattle.rap_base.specs.TokenKind.{EOF, EQ, PLUSEQ, MINUSEQ, STAREQ, SLASHEQ, PERCENTEQ, CARETEQ, AMPEQ, PIPEEQ, SHLEQ, SHREQ, DOT2, DOT2EQ, PIPE2, AMP2, EQ2, NEQ, L_ANGLE, R_ANGLE, LTEQ, GTEQ, PIPE, CARET, AMP, SHL, SHR, PLUS, MINUS, STAR, SLASH, PERCENT, AS_KW, FLOAT_NUMBER}
+use Rattle.rap_base.specs.TokenKind.{EOF, DOT2, DOT2EQ, FLOAT_NUMBER}
+use Rattle.rap_events.specs.OperatorTable.{powers}
 use Rattle.rap_events.specs.Forest.{Forest, none, node, leaf, message, split}
-
--- the operators between two expressions, each with its power
-abbrev pub powers : List (ℕ × ℕ)
-powers =
-    (EQ, 1) ∷ (PLUSEQ, 1) ∷ (MINUSEQ, 1) ∷ (STAREQ, 1) ∷ (SLASHEQ, 1) ∷ (PERCENTEQ, 1) ∷ (CARETEQ, 1) ∷ (AMPEQ, 1) ∷ (PIPEEQ, 1) ∷ (SHLEQ, 1) ∷ (SHREQ, 1) ∷
-    (DOT2, 2) ∷ (DOT2EQ, 2) ∷
-    (PIPE2, 3) ∷
-    (AMP2, 4) ∷
-    (EQ2, 5) ∷ (NEQ, 5) ∷ (L_ANGLE, 5) ∷ (R_ANGLE, 5) ∷ (LTEQ, 5) ∷ (GTEQ, 5) ∷
-    (PIPE, 6) ∷
-    (CARET, 7) ∷
-    (AMP, 8) ∷
-    (SHL, 9) ∷ (SHR, 9) ∷
-    (PLUS, 10) ∷ (MINUS, 10) ∷
-    (STAR, 11) ∷ (SLASH, 11) ∷ (PERCENT, 11) ∷
-    (AS_KW, 12) ∷ []
 
 abbrev pub power_in : List (ℕ × ℕ) → ℕ → ℕ
 power_in [] kind = 0

@@ -107,8 +107,8 @@ pub record Opened (old new : State) (m : ℕ) : Type 0 where
 
 -- the last thing under the newest marker is a node of this kind, just finished
 pub record IsLast (s : State) (cm : CompletedMarker) (k : ℕ) : Type 0 where
-  pub kind : cm.kind ≡ k
-  pub end : cm.end ≡ s.count
+  pub kind : cm.kind.value ≡ k
+  pub end : cm.end.value ≡ s.count
   pub closed : s.closed ≡ true
   pub forest : s.forest ≡ node (but_last s.forest) k (last_children s.forest)
 

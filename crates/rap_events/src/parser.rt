@@ -20,6 +20,7 @@ use rap_base::no_memory::NoMemory;
 use rap_base::syntax_kind::SyntaxKind;
 use rap_base::token_set::TokenSet;
 use std::alloc::Global;
+use std::snapshot::Snapshot;
 
 mod composite;
 
@@ -47,17 +48,17 @@ pub struct Parser<'t> {
     ghost fit: { (run initial (history events.items (map string_bytes messages.items))).messages ≡ 0 → ∥ AllFit (run initial (history events.items (map string_bytes messages.items))) ∥₁ },
 }
 
-/// A node that was started and not finished: the number of the call that started it.
+/// A node that was started and not finished: the number of the call that started it, which only the contracts tell.
 #[derive(Drop)]
 pub struct Marker {
-    pos: usize,
+    pos: Snapshot<usize>,
 }
 
-/// A node that was finished: how many calls there were then, and its kind.
+/// A node that was finished: how many calls there were then, and its kind, which only the contracts tell.
 #[derive(Drop)]
 pub struct CompletedMarker {
-    end: usize,
-    kind: SyntaxKind,
+    end: Snapshot<usize>,
+    kind: Snapshot<SyntaxKind>,
 }
 
 impl<'t> Parser<'t> {
@@ -339,7 +340,7 @@ impl<'t> Parser<'t> {
     /// It ends that access, and where it does not end in a dot, another one around it: `x.0.1` is a field of a field.
     /// Answers whether it ends in a dot, with the field access that was finished last.
     pub fn split_float(&mut self, marker: Marker) -> Result<(bool, CompletedMarker), NoMemory>
-        requires newest { (state self.old).marker ≡ Some marker.pos }
+        requires newest { (state self.old).marker ≡ Some marker.pos.value }
         requires float { next (state self.old) ≡ FLOAT_NUMBER }
         ensures state { IfOk result (λ r. SplitFloat (state self.old) (state self.new) r.0 × IsLast (state self.new) r.1 FIELD_EXPR) }
         ensures recorded { IfOk result (λ r. calls self.new ≡ calls self.old ++ split_calls r.0) }
@@ -355,8 +356,11 @@ impl<'t> Parser<'t> {
         ];
         self.events.extend_from_slice(&events[..count])?;
         self.pos += 1;
-        let end = self.events.len();
-        Ok((ends_in_dot, CompletedMarker { end, kind }))
+        let completed = CompletedMarker {
+            end: Snapshot::of(&self.events.len()),
+            kind: Snapshot::of(&kind),
+        };
+        Ok((ends_in_dot, completed))
     }
 
     fn take(&mut self, kind: SyntaxKind, n_input_tokens: u8) -> Result<(), NoMemory>
@@ -404,10 +408,10 @@ impl<'t> Parser<'t> {
 
     /// Starts a node.
     pub fn start(&mut self) -> Result<Marker, NoMemory>
-        ensures state { IfOk result (λ m. Opened (state self.old) (state self.new) m.pos) }
+        ensures state { IfOk result (λ m. Opened (state self.old) (state self.new) m.pos.value) }
         ensures recorded { OnOk result (calls self.new ≡ calls self.old ++ call.start ∷ []) }
     {
-        let pos = self.events.len();
+        let pos = Snapshot::of(&self.events.len());
         self.events.push(Event::Start)?;
         Ok(Marker { pos })
     }
@@ -429,7 +433,7 @@ impl Marker {
     /// Finishes the node, which has the newest marker. Of a `BIN_EXPR` and a `TOKEN_TREE` more is asked:
     /// see [`Marker::complete_fit`].
     pub fn complete(self, p: &mut Parser<'_>, kind: SyntaxKind) -> Result<CompletedMarker, NoMemory>
-        requires newest { (state p.old).marker ≡ Some self.pos }
+        requires newest { (state p.old).marker ≡ Some self.pos.value }
         requires plain { is_plain kind ≡ true }
         ensures state { IfOk result (λ cm. Completed (state p.old) (state p.new) kind × IsLast (state p.new) cm kind) }
         ensures recorded { OnOk result (calls p.new ≡ calls p.old ++ call.finish kind ∷ []) }
@@ -444,21 +448,21 @@ impl Marker {
         p: &mut Parser<'_>,
         kind: SyntaxKind,
     ) -> Result<CompletedMarker, NoMemory>
-        requires newest { (state p.old).marker ≡ Some self.pos }
+        requires newest { (state p.old).marker ≡ Some self.pos.value }
         requires fit { (state p.old).messages ≡ 0 → Fit kind (state p.old).forest }
         ensures state { IfOk result (λ cm. Completed (state p.old) (state p.new) kind × IsLast (state p.new) cm kind) }
         ensures recorded { OnOk result (calls p.new ≡ calls p.old ++ call.finish kind ∷ []) }
     {
         p.events.push(Event::Finish { kind })?;
         Ok(CompletedMarker {
-            end: p.events.len(),
-            kind,
+            end: Snapshot::of(&p.events.len()),
+            kind: Snapshot::of(&kind),
         })
     }
 
     /// Forgets the node, which has the newest marker: what was recorded under it stays.
     pub fn abandon(self, p: &mut Parser<'_>) -> Result<(), NoMemory>
-        requires { (state p.old).marker ≡ Some self.pos }
+        requires { (state p.old).marker ≡ Some self.pos.value }
         ensures state { OnOk result (Abandoned (state p.old) (state p.new)) }
         ensures recorded { OnOk result (calls p.new ≡ calls p.old ++ call.abandon ∷ []) }
     {
@@ -472,35 +476,28 @@ impl CompletedMarker {
     ghost use Rattle.rap_events.specs.Fit.{is_plain};
     ghost use Rattle.rap_events.specs.State.{state, calls, IsLast, Preceded, Extended};
 
-    /// The node's kind.
-    pub fn kind(&self) -> SyntaxKind
-        ensures { result ≡ self.now.kind }
-    {
-        self.kind
-    }
-
     /// Starts a node around this one, which was just finished.
     pub fn precede(self, p: &mut Parser<'_>) -> Result<Marker, NoMemory>
-        requires { IsLast (state p.old) self self.kind }
-        ensures state { IfOk result (λ m. Preceded (state p.old) (state p.new) m.pos self.kind) }
+        requires { IsLast (state p.old) self self.kind.value }
+        ensures state { IfOk result (λ m. Preceded (state p.old) (state p.new) m.pos.value self.kind.value) }
         ensures recorded { OnOk result (calls p.new ≡ calls p.old ++ call.precede ∷ []) }
     {
-        let pos = p.events.len();
+        let pos = Snapshot::of(&p.events.len());
         p.events.push(Event::Precede)?;
         Ok(Marker { pos })
     }
 
     /// Lets this node, which was just finished, begin where the newest marker does. The marker is gone.
     pub fn extend_to(self, p: &mut Parser<'_>, m: Marker) -> Result<CompletedMarker, NoMemory>
-        requires last { IsLast (state p.old) self self.kind }
-        requires newest { (state p.old).marker ≡ Some m.pos }
-        requires plain { is_plain self.kind ≡ true }
-        ensures state { IfOk result (λ cm. Extended (state p.old) (state p.new) self.kind × IsLast (state p.new) cm self.kind) }
+        requires last { IsLast (state p.old) self self.kind.value }
+        requires newest { (state p.old).marker ≡ Some m.pos.value }
+        requires plain { is_plain self.kind.value ≡ true }
+        ensures state { IfOk result (λ cm. Extended (state p.old) (state p.new) self.kind.value × IsLast (state p.new) cm self.kind.value) }
         ensures recorded { OnOk result (calls p.new ≡ calls p.old ++ call.extend ∷ []) }
     {
         p.events.push(Event::Extend)?;
         Ok(CompletedMarker {
-            end: p.events.len(),
+            end: Snapshot::of(&p.events.len()),
             kind: self.kind,
         })
     }

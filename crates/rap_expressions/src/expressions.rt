@@ -74,7 +74,7 @@ fn expr_from<G: Grammar>(
     bp: u8,
 ) -> Result<Option<(CompletedMarker, BlockLike)>, NoMemory>
     requires within { Within G.valid G.left g.now (state p.old) }
-    requires newest { (state p.old).marker ≡ Some m.pos }
+    requires newest { (state p.old).marker ≡ Some m.pos.value }
     requires power { 1 ≤ bp }
     ensures answered { IfOk result (AnsweredFrom (state p.old) (state p.new) r.prefer_stmt bp) }
     ensures spent { IfOk result (λ e. e ≡ None → stops_expr (next (state p.old)) ≡ false → Spent (state p.old) (state p.new) marked_room) }
@@ -100,7 +100,7 @@ fn expr_from<G: Grammar>(
 /// An expression is missing: the marker goes. It keeps the table of the set off the stack of those that go deeper.
 #[inline(never)]
 fn missing_expr(p: &mut Parser<'_>, m: Marker) -> Result<(), NoMemory>
-    requires newest { (state p.old).marker ≡ Some m.pos }
+    requires newest { (state p.old).marker ≡ Some m.pos.value }
     requires missing { is_expr_first (next (state p.old)) ≡ false }
     ensures dropped { OnOk result (Dropped (state p.old) (state p.new) 5) }
     ensures spent { OnOk result (stops_expr (next (state p.old)) ≡ false → Spent (state p.old) (state p.new) marked_room) }

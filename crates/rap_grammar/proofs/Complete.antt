@@ -7,7 +7,8 @@ use Rattle.rap_base.specs.NodeKind.{BIN_EXPR, NAME_REF}
 use Rattle.rap_events.specs.Record.{Record, next_kind, kind_at}
 use Rattle.rap_events.specs.Composite.{width, is_at, begins_with}
 use Rattle.rap_events.specs.Forest.{Forest, none, node, leaf, ◌⧺◌}
-use Rattle.rap_events.specs.Power.{power, power_in, powers}
+use Rattle.rap_events.specs.OperatorTable.{powers}
+use Rattle.rap_events.specs.Power.{power, power_in}
 use Rattle.rap_rules.specs.Atom.{unrestricted, expr, atom_expr}
 use Rattle.rap_rules.specs.Blocks.{let_type, block_expr}
 use Rattle.rap_rules.specs.Called.{type_, type_no_bounds, pattern, as_statement}

@@ -8,6 +8,7 @@ pub mod MacroCalls
 pub mod OneTree
 pub mod Operators
 pub mod Outputs
+pub mod Padded
 pub mod Parts
 pub mod Prefixes
 pub mod Recovery

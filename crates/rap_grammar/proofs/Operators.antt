@@ -5,7 +5,8 @@ use Rattle.std.proofs.lemmas.Bool.{eqb-true, eq-eqb, ne_eqb}
 use Rattle.rap_base.specs.TokenKind.{EOF, EQ, PLUSEQ, MINUSEQ, STAREQ, SLASHEQ, PERCENTEQ, CARETEQ, AMPEQ, PIPEEQ, SHLEQ, SHREQ, DOT, DOT2, DOT2EQ, PIPE2, AMP2, EQ2, NEQ, L_ANGLE, R_ANGLE, LTEQ, GTEQ, PIPE, CARET, AMP, SHL, SHR, PLUS, MINUS, STAR, SLASH, PERCENT, BANG, AS_KW, L_PAREN, L_CURLY, L_BRACK, QUESTION, COLON}
 use Rattle.rap_events.specs.Record.{Record, next_kind}
 use Rattle.rap_events.specs.Composite.{parts, width, width_of, is_at, is_first, begins_with}
-use Rattle.rap_events.specs.Power.{power, power_in, powers}
+use Rattle.rap_events.specs.OperatorTable.{powers}
+use Rattle.rap_events.specs.Power.{power, power_in}
 use Rattle.rap_rules.specs.First.{is_operand, one_of}
 use Rattle.rap_rules.specs.Operator.{operator_at}
 use Rattle.rap_rules.specs.TokenTree.{starts_macro_call}
@@ -288,7 +289,7 @@ among [] op g p = absurd (omega arith)
 among (row ∷ rows) op g p = by_row row rows op (row.0 == op) refl g.0 (among rows op g.1) p
 
 seen : (op : ℕ) → 0 < power op → Seen op
-seen op p = among powers op (seen_eq, (seen_pluseq, (seen_minuseq, (seen_stareq, (seen_slasheq, (seen_percenteq, (seen_careteq, (seen_ampeq, (seen_pipeeq, (seen_shleq, (seen_shreq, (seen_dot2, (seen_dot2eq, (seen_pipe2, (seen_amp2, (seen_eq2, (seen_neq, (seen_l_angle, (seen_r_angle, (seen_lteq, (seen_gteq, (seen_pipe, (seen_caret, (seen_amp, (seen_shl, (seen_shr, (seen_plus, (seen_minus, (seen_star, (seen_slash, (seen_percent, (seen_as_kw, tt)))))))))))))))))))))))))))))))) p
+seen op p = among powers op (seen_pipe2, (seen_pipeeq, (seen_pipe, (seen_shreq, (seen_shr, (seen_gteq, (seen_r_angle, (seen_eq2, (seen_eq, (seen_lteq, (seen_shleq, (seen_shl, (seen_l_angle, (seen_pluseq, (seen_plus, (seen_careteq, (seen_caret, (seen_percenteq, (seen_percent, (seen_ampeq, (seen_amp2, (seen_amp, (seen_slasheq, (seen_slash, (seen_stareq, (seen_star, (seen_dot2eq, (seen_dot2, (seen_neq, (seen_minuseq, (seen_minus, (seen_as_kw, tt)))))))))))))))))))))))))))))))) p
 
 first_touching : (k : ℕ) (ks : List ℕ) (os rest : List Record) → Touching (k ∷ ks) os → begins_with (k ∷ ks) (os ++ rest) ≡ true
 first_touching k ks [] rest h = absurd h

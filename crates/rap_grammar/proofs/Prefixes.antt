@@ -1,5 +1,5 @@
 -- What is derived at the front of an input is read as it was derived, up to its end.
-use Rattle.std.proofs.Common.{◌≢◌, true, ap, ◌∙◌, List, [], ◌++◌, length}
+use Rattle.std.proofs.Common.{◌≡◌, ◌≢◌, true, ap, ◌∙◌, append_assoc, List, [], ◌∷◌, ◌++◌, length}
 use Rattle.std.proofs.lemmas.Bool.{ne_eqb}
 use Rattle.rap_base.specs.TokenKind.{SEMICOLON}
 use Rattle.rap_events.specs.Record.{Record, next_kind}
@@ -10,22 +10,29 @@ use Rattle.rap_rules.specs.Blocks.{block_expr}
 use Rattle.rap_rules.specs.Items.{item_or_macro}
 use Rattle.rap_rules.specs.Phrase.{Phrase}
 use Rattle.rap_rules.specs.Script.{Script, Spot}
+use Rattle.rap_rules.specs.TokenTree.{bracketed_tokens}
+use Rattle.rap_rules.proofs.Balance.{balanced_way, balanced_clean}
 use Rattle.rap_rules.proofs.OneEnd.{one_end}
 use Rattle.rap_grammar.specs.Derives.{Category, Derives, Expression, Ty, Block, Item, EndsExpression, EndsType}
-use Rattle.rap_grammar.specs.Part.{IsPrefixOf, IsPartCore, IsWhole, part_script}
+use Rattle.rap_grammar.specs.Part.{IsPrefixOf, IsPartCore, IsWhole, IsBracketed, brackets_around, part_script}
 use Rattle.rap_grammar.specs.declared.entry.part.Part.{Part}
 use Rattle.rap_grammar.specs.declared.entry.part.Part.TheVariants as part
 use Rattle.rap_grammar.proofs.Complete.{expression_at_beginning, type_before, block_before}
 use Rattle.rap_grammar.proofs.Items.{item_before, items_of_before, fields_of_before}
-use Rattle.rap_grammar.proofs.Unique.{unmarked, used-derived}
+use Rattle.rap_grammar.proofs.Unique.{unmarked, used-derived, used-brackets}
 use Rattle.rap_grammar.proofs.Ways.{Leads, none-⧺}
 
--- the output is what the script makes of a front that is derived
+-- the output is what the script makes of a front
+made : {s : Script Phrase} (ks l : List Record) {t output : Forest} → IsPrefixOf s (ks ++ l) output →
+    Leads s [] (ks ++ l) none l t → message_count t ≡ 0 → used t ≡ length ks → IsWhole t (length ks) output
+made ks l i x clean all =
+    let e = ap (λ (p : Spot). p.forest) (one_end i.run x).spot in
+    record { same = e; clean = ap message_count e ∙ clean; used_is = ap used e ∙ all }
+
+-- the same of a front that is derived
 front : {s : Script Phrase} {c : Category} (ks l : List Record) {t output : Forest} → IsPrefixOf s (ks ++ l) output →
     Derives c ks t → Leads s [] (ks ++ l) none l t → IsWhole t (length ks) output
-front ks l i d x =
-    let e = ap (λ (p : Spot). p.forest) (one_end i.run x).spot in
-    record { same = e; clean = ap message_count e ∙ unmarked d; used_is = ap used e ∙ used-derived d }
+front ks l i d x = made ks l i x (unmarked d) (used-derived d)
 
 -- an expression, before what can follow one that is read alone
 pub front_expression : (ks l : List Record) {t output : Forest} → IsPrefixOf expr (ks ++ l) output →
@@ -48,6 +55,13 @@ pub front_item : (ks l : List Record) {t output : Forest} → IsPrefixOf (item_o
 front_item ks l i d n =
     front ks l i d (rw none-⧺ at (item_before d true true [] none l (ne_eqb (next_kind l) SEMICOLON n)))
 
+-- balanced tokens in brackets, whatever follows them
+pub front_bracketed : (ks l : List Record) {t output : Forest} → IsPrefixOf bracketed_tokens (ks ++ l) output →
+    IsBracketed ks t → IsWhole t (length ks) output
+front_bracketed ks l i (brackets_around {a = a} {c = c} {ks = js} {t = t} p d) =
+    made (a ∷ (js ++ c ∷ [])) l i (rw append_assoc (balanced_way p d [] none l)) (balanced_clean a c d)
+    (used-brackets a c d)
+
 -- a part, whatever follows it
 pub front_part : (p : Part) (ks l : List Record) {t output : Forest} → IsPrefixOf (part_script p) (ks ++ l) output →
     IsPartCore p ks t → IsWhole t (length ks) output
@@ -60,6 +74,6 @@ front_part part.VariantList ks l i d = absurd d
 front_part part.MatchArmList ks l i d = absurd d
 front_part part.UseTreeList ks l i d = absurd d
 front_part part.ExternItemList ks l i d = absurd d
-front_part part.TokenTree ks l i d = absurd d
+front_part part.TokenTree ks l i d = front_bracketed ks l i d
 front_part part.AssocItemList ks l i d = absurd d
 front_part part.ItemList ks l i d = front ks l i d (rw none-⧺ at (items_of_before d [] none l))

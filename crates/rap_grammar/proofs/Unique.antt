@@ -1,10 +1,12 @@
--- The same tokens have at most one tree, without a message, and it stands for each of them.
-use Rattle.std.proofs.Common.{◌≡◌, ◌+◌, ◌≤◌, ℕ, List, [], ◌∷◌, length, length-append, true, false, refl, ap, arith}
+-- The same tokens have at most one tree, without a message, and it stands for each of them; and balanced tokens stand in
+-- theirs.
+use Rattle.std.proofs.Common.{◌≡◌, ◌+◌, ◌≤◌, ℕ, List, [], ◌∷◌, ◌++◌, length, length-append, true, false, refl, ap, arith}
 use Rattle.rap_base.specs.TokenKind.{AMP, EQ, COLON, COLON2, COMMA, DOT, THIN_ARROW, L_PAREN, L_BRACK, L_CURLY, MUT_KW, MOD_KW, STRUCT_KW, FN_KW, LET_KW}
 use Rattle.rap_events.specs.Record.{Record}
 use Rattle.rap_events.specs.Composite.{parts, width, width_of}
 use Rattle.rap_events.specs.Forest.{Forest, none, node, leaf, message, split, ◌⧺◌, message_count, used, ends_in_dot, one_tree}
 use Rattle.rap_grammar.specs.Derives.{Touching, tokens_of, Writes, Derives, Category, Expression, Ty, Contents, Block, maybe_none, maybe_some, many_none, many_more, element_last, element_comma, element_more, reference, segment, path_one, path_more, atom_literal, atom_path, atom_paren, postfix_atom, postfix_call, postfix_index, postfix_try, postfix_field, postfix_number, postfix_method, argument_list, unary_prefix, unary_ref, unary_ref_mut, unary_postfix, binary_unary, binary_tighter, binary_operator, expression_binary, expression_assign, type_path, type_ref, type_ref_mut, type_slice, name_given, bind_name, visibility_pub, annotation_type, value_given, statement_let, statement_expression, contents_of, block_of, Many, Item, item_module, item_module_of, item_struct, item_struct_fields, item_struct_tuple, item_function, items_of, fields_of, field_named, tuple_of, tuple_field, params_of, param_typed, return_type, file_of}
+use Rattle.rap_rules.specs.Balanced.{Balanced, nothing_more, token_first, list_first, in_brackets}
 use Rattle.rap_rules.specs.Script.{Spot}
 use Rattle.rap_grammar.proofs.Complete.{expression_whole, expression_single, type_whole, type_single, contents_whole, block_whole, block_single}
 use Rattle.rap_grammar.proofs.Items.{items_whole}
@@ -225,3 +227,14 @@ used-derived (params_of o d c) = simp (used-⧺, length-append) (omega (arith, u
 used-derived (param_typed d o e) = simp (used-⧺, length-append) (omega (arith, used-derived d, used-derived e))
 used-derived (return_type w d) = simp (used-⧺, length-append) (omega (arith, used-derived d, length-written w))
 used-derived (file_of d) = omega (arith, used-derived d)
+
+-- what is balanced stands for its tokens
+used-balanced : {ks : List Record} {t : Forest} → Balanced ks t → used t ≡ length ks
+used-balanced nothing_more = refl
+used-balanced (token_first n d) = simp used-⧺ (omega (arith, used-balanced d))
+used-balanced (list_first p d e) = simp (used-⧺, length-append) (omega (arith, used-balanced d, used-balanced e))
+
+-- and so does it in its brackets
+pub used-brackets : {ks : List Record} {t : Forest} (a c : Record) → Balanced ks t →
+    used (in_brackets a t c) ≡ length (a ∷ (ks ++ c ∷ []))
+used-brackets a c d = simp (used-⧺, length-append) (omega (arith, used-balanced d))

@@ -1,10 +1,11 @@
 -- What is read alone from the front of an input.
-use Rattle.std.specs.Prelude.{◌≡◌, ℕ, ◌≤◌, Bool, true, false, List, [], drop, length}
+use Rattle.std.specs.Prelude.{◌≡◌, ℕ, ◌≤◌, Bool, true, false, List, [], ◌∷◌, ◌++◌, drop, length}
 use Rattle.rap_base.specs.NodeKind.{VISIBILITY, PATH, BLOCK_EXPR, RECORD_FIELD_LIST, RECORD_EXPR_FIELD_LIST, VARIANT_LIST, MATCH_ARM_LIST, USE_TREE_LIST, EXTERN_ITEM_LIST, TOKEN_TREE, ASSOC_ITEM_LIST, ITEM_LIST}
 use Rattle.rap_events.specs.Record.{Record}
 use Rattle.rap_events.specs.Forest.{Forest, none, node, used, message_count, one_tree}
 use Rattle.rap_events.specs.State.{State}
 use Rattle.rap_rules.specs.Adt.{record_field_list, variant_list}
+use Rattle.rap_rules.specs.Balanced.{Balanced, ArePartners, in_brackets}
 use Rattle.rap_rules.specs.Blocks.{block_expr}
 use Rattle.rap_rules.specs.Control.{match_arm_list}
 use Rattle.rap_rules.specs.Items.{item_list, extern_item_list}
@@ -92,7 +93,14 @@ asks_brace part.TokenTree = true
 asks_brace part.AssocItemList = true
 asks_brace part.ItemList = true
 
--- These tokens are derived by the core grammar as this part, with this tree.
+-- Two brackets that belong together, with tokens between them whose brackets are balanced, and the node that nests as
+-- they do.
+pub data IsBracketed : List Record → Forest → Type 0 where
+  brackets_around : {a c : Record} {ks : List Record} {t : Forest} → ArePartners a c → Balanced ks t →
+      IsBracketed (a ∷ (ks ++ c ∷ [])) (in_brackets a t c)
+
+-- These tokens are derived by the core grammar as this part, with this tree. A token tree's are balanced tokens in
+-- brackets, and its tree nests as these do.
 abbrev pub IsPartCore : Part → List Record → Forest → Type 0
 IsPartCore part.Visibility tokens tree = ⊥
 IsPartCore part.Path tokens tree = ⊥
@@ -103,7 +111,7 @@ IsPartCore part.VariantList tokens tree = ⊥
 IsPartCore part.MatchArmList tokens tree = ⊥
 IsPartCore part.UseTreeList tokens tree = ⊥
 IsPartCore part.ExternItemList tokens tree = ⊥
-IsPartCore part.TokenTree tokens tree = ⊥
+IsPartCore part.TokenTree tokens tree = IsBracketed tokens tree
 IsPartCore part.AssocItemList tokens tree = ⊥
 IsPartCore part.ItemList tokens tree = Derives Items tokens tree
 

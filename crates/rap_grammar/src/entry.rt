@@ -198,7 +198,7 @@ fn take_rest(p: &mut Parser<'_>) -> Result<(), NoMemory>
 /// What was made is kept as it is if no token is left and it is one tree: exactly one node, with no token and no message
 /// beside it. Otherwise the tokens that are left are taken one by one, and all of it stands in one `ERROR`.
 pub fn close_top(alloc: Global, mut p: Parser<'_>, m: Marker) -> Result<Output, NoMemory>
-    requires newest { (state p).marker ≡ Some m.pos }
+    requires newest { (state p).marker ≡ Some m.pos.value }
     requires below { (state p).below ≡ push floor None none }
     ensures top { IfOk result (λ output. output ≡ top_tree (state p.entry).forest (state p.entry).rest) }
     ensures covers { IfOk result (λ output. covers (state p.entry).input output ≡ true) }
@@ -228,7 +228,7 @@ pub fn close_root(
     m: Marker,
     kind: SyntaxKind,
 ) -> Result<Output, NoMemory>
-    requires newest { (state p).marker ≡ Some m.pos }
+    requires newest { (state p).marker ≡ Some m.pos.value }
     requires below { (state p).below ≡ push floor None none }
     requires end { (state p).rest ≡ [] }
     requires plain { is_plain kind ≡ true }

@@ -55,7 +55,7 @@ fn expr_as_stmt<G: Grammar>(
     semicolon: Semicolon,
 ) -> Result<(), NoMemory>
     requires within { Within G.valid G.left g.now (state p.old) }
-    requires newest { (state p.old).marker ≡ Some m.pos }
+    requires newest { (state p.old).marker ≡ Some m.pos.value }
     ensures gone { OnOk result (Gone (state p.old) (state p.new) 4) }
     ensures spent { OnOk result (next (state p.old) ≢ EOF → Spent (state p.old) (state p.new) expr_stmt_room) }
     ensures script { OnOk result (Follows (script.expr_as_stmt semicolon) something (state p.old) (state p.new)) }
@@ -83,7 +83,7 @@ fn expr_stmt_end(
     block_like: BlockLike,
     semicolon: Semicolon,
 ) -> Result<(), NoMemory>
-    requires last { IsLast (state p.old) cm cm.kind }
+    requires last { IsLast (state p.old) cm cm.kind.value }
     ensures grew { OnOk result (Grew (state p.old) (state p.new) 3) }
     ensures script { OnOk result (Follows (script.expr_stmt_end semicolon (is_block (of_like block_like))) something (state p.old) (state p.new)) }
 {

@@ -13,6 +13,7 @@ ghost use Rattle.rap_rules.specs.Script.{something};
 ghost use Rattle.rap_rules.specs.Words.{of_bool};
 
 use crate::visibility::{opt_visibility, opt_visibility_inner};
+use crate::names::item_name;
 use rap_base::no_memory::NoMemory;
 use rap_base::syntax_kind::SyntaxKind;
 use rap_events::parser::{Marker, Parser};
@@ -23,13 +24,12 @@ use rap_rules::called::{expr, opt_generic_param_list, opt_where_clause, type_};
 use rap_rules::first::{is_outer_attr_first, is_type_first};
 use rap_rules::knot::Grammar;
 use rap_rules::lists::{Element, delimited};
-use rap_rules::names::{name, name_r};
-use rap_rules::recovery::item_recovery_set;
+use rap_rules::names::name;
 
 /// A struct from its keyword on, as `struct S;`.
 pub fn strukt<G: Grammar>(p: &mut Parser<'_>, g: &G, m: Marker) -> Result<(), NoMemory>
     requires within { Within G.valid G.left g.now (state p.old) }
-    requires newest { (state p.old).marker ≡ Some m.pos }
+    requires newest { (state p.old).marker ≡ Some m.pos.value }
     requires here { next (state p.old) ≡ STRUCT_KW }
     ensures ended { OnOk result (Ended (state p.old) (state p.new) item_room) }
     ensures script { OnOk result (Follows script.strukt something (state p.old) (state p.new)) }
@@ -43,7 +43,7 @@ pub fn strukt<G: Grammar>(p: &mut Parser<'_>, g: &G, m: Marker) -> Result<(), No
 /// A union from its keyword on, as `union U { a: b }`.
 pub fn union<G: Grammar>(p: &mut Parser<'_>, g: &G, m: Marker) -> Result<(), NoMemory>
     requires within { Within G.valid G.left g.now (state p.old) }
-    requires newest { (state p.old).marker ≡ Some m.pos }
+    requires newest { (state p.old).marker ≡ Some m.pos.value }
     requires here { ReadsAs (state p.old) UNION_KW }
     ensures ended { OnOk result (Ended (state p.old) (state p.new) item_room) }
     ensures script { OnOk result (Follows script.union something (state p.old) (state p.new)) }
@@ -60,7 +60,7 @@ fn struct_or_union<G: Grammar>(p: &mut Parser<'_>, g: &G, is_struct: bool) -> Re
     ensures grew { OnOk result (Grew (state p.old) (state p.new) 4) }
     ensures script { OnOk result (Follows (script.struct_or_union is_struct) something (state p.old) (state p.new)) }
 {
-    name_r(p, item_recovery_set())?;
+    item_name(p)?;
     opt_generic_param_list(p, g)?;
     fields(p, g, is_struct)?;
     Ok(())
@@ -139,13 +139,13 @@ fn tuple_fields<G: Grammar>(p: &mut Parser<'_>, g: &G) -> Result<(), NoMemory>
 /// An enum from its keyword on, as `enum E { A }`.
 pub fn enum_<G: Grammar>(p: &mut Parser<'_>, g: &G, m: Marker) -> Result<(), NoMemory>
     requires within { Within G.valid G.left g.now (state p.old) }
-    requires newest { (state p.old).marker ≡ Some m.pos }
+    requires newest { (state p.old).marker ≡ Some m.pos.value }
     requires here { next (state p.old) ≡ ENUM_KW }
     ensures ended { OnOk result (Ended (state p.old) (state p.new) item_room) }
     ensures script { OnOk result (Follows script.enum_ something (state p.old) (state p.new)) }
 {
     p.bump(T![enum])?;
-    name_r(p, item_recovery_set())?;
+    item_name(p)?;
     opt_generic_param_list(p, g)?;
     opt_where_clause(p, g)?;
     if p.at(T!['{']) {
@@ -232,7 +232,7 @@ fn variant<G: Grammar>(p: &mut Parser<'_>, g: &G) -> Result<(), NoMemory>
 /// A variant from its name on, with the marker that was opened before.
 fn named_variant<G: Grammar>(p: &mut Parser<'_>, g: &G, m: Marker) -> Result<(), NoMemory>
     requires behind { Behind G.valid G.left g.now (state p.old) }
-    requires newest { (state p.old).marker ≡ Some m.pos }
+    requires newest { (state p.old).marker ≡ Some m.pos.value }
     ensures gone { OnOk result (Gone (state p.old) (state p.new) 4) }
     ensures spent { OnOk result (next (state p.old) ≢ EOF → next (state p.old) ≢ R_CURLY → Spent (state p.old) (state p.new) type_room) }
     ensures script { OnOk result (Follows script.named_variant something (state p.old) (state p.new)) }
@@ -268,7 +268,7 @@ fn missing_in_list(p: &mut Parser<'_>, message: &str) -> Result<(), NoMemory>
 /// What stands behind a variant's name: its fields and its value.
 fn after_variant_name<G: Grammar>(p: &mut Parser<'_>, g: &G, m: Marker) -> Result<(), NoMemory>
     requires behind { Behind G.valid G.left g.now (state p.old) }
-    requires newest { (state p.old).marker ≡ Some m.pos }
+    requires newest { (state p.old).marker ≡ Some m.pos.value }
     ensures gone { OnOk result (Gone (state p.old) (state p.new) 1) }
     ensures script { OnOk result (Follows script.after_variant_name something (state p.old) (state p.new)) }
 {
@@ -372,7 +372,7 @@ fn record_field<G: Grammar>(p: &mut Parser<'_>, g: &G) -> Result<(), NoMemory>
 /// A field from its visibility on, with the marker that was opened before.
 fn visible_field<G: Grammar>(p: &mut Parser<'_>, g: &G, m: Marker) -> Result<(), NoMemory>
     requires behind { Behind G.valid G.left g.now (state p.old) }
-    requires newest { (state p.old).marker ≡ Some m.pos }
+    requires newest { (state p.old).marker ≡ Some m.pos.value }
     ensures gone { OnOk result (Gone (state p.old) (state p.new) 4) }
     ensures spent { OnOk result (next (state p.old) ≢ EOF → next (state p.old) ≢ R_CURLY → Spent (state p.old) (state p.new) type_room) }
     ensures script { OnOk result (Follows script.visible_field something (state p.old) (state p.new)) }
@@ -385,7 +385,7 @@ fn visible_field<G: Grammar>(p: &mut Parser<'_>, g: &G, m: Marker) -> Result<(),
 /// A field from what says who may change it on. That may stand before `unsafe` and behind it.
 fn restricted_field<G: Grammar>(p: &mut Parser<'_>, g: &G, m: Marker) -> Result<(), NoMemory>
     requires behind { Behind G.valid G.left g.now (state p.old) }
-    requires newest { (state p.old).marker ≡ Some m.pos }
+    requires newest { (state p.old).marker ≡ Some m.pos.value }
     ensures gone { OnOk result (Gone (state p.old) (state p.new) 4) }
     ensures spent { OnOk result (next (state p.old) ≢ EOF → next (state p.old) ≢ R_CURLY → Spent (state p.old) (state p.new) type_room) }
     ensures script { OnOk result (Follows script.restricted_field something (state p.old) (state p.new)) }
@@ -399,7 +399,7 @@ fn restricted_field<G: Grammar>(p: &mut Parser<'_>, g: &G, m: Marker) -> Result<
 /// A field from its name on.
 fn named_field<G: Grammar>(p: &mut Parser<'_>, g: &G, m: Marker) -> Result<(), NoMemory>
     requires behind { Behind G.valid G.left g.now (state p.old) }
-    requires newest { (state p.old).marker ≡ Some m.pos }
+    requires newest { (state p.old).marker ≡ Some m.pos.value }
     ensures gone { OnOk result (Gone (state p.old) (state p.new) 4) }
     ensures spent { OnOk result (next (state p.old) ≢ EOF → next (state p.old) ≢ R_CURLY → Spent (state p.old) (state p.new) type_room) }
     ensures script { OnOk result (Follows script.named_field something (state p.old) (state p.new)) }
@@ -522,7 +522,7 @@ fn restricted_tuple_field<G: Grammar>(
     has_vis: bool,
 ) -> Result<bool, NoMemory>
     requires behind { Behind G.valid G.left g.now (state p.old) }
-    requires newest { (state p.old).marker ≡ Some m.pos }
+    requires newest { (state p.old).marker ≡ Some m.pos.value }
     ensures gone { OnOk result (Gone (state p.old) (state p.new) 2) }
     ensures spent { IfOk result (λ found. found ≡ true → Spent (state p.old) (state p.new) param_room) }
     ensures script { IfOk result (λ found. Follows (script.restricted_tuple_field (of_bool has_vis)) (of_bool found) (state p.old) (state p.new)) }
@@ -541,7 +541,7 @@ fn typed_field<G: Grammar>(
     has_vis: bool,
 ) -> Result<bool, NoMemory>
     requires behind { Behind G.valid G.left g.now (state p.old) }
-    requires newest { (state p.old).marker ≡ Some m.pos }
+    requires newest { (state p.old).marker ≡ Some m.pos.value }
     ensures gone { OnOk result (Gone (state p.old) (state p.new) 2) }
     ensures spent { IfOk result (λ found. found ≡ true → Spent (state p.old) (state p.new) param_room) }
     ensures script { IfOk result (λ found. Follows (script.typed_field (of_bool has_vis)) (of_bool found) (state p.old) (state p.new)) }

@@ -1,18 +1,16 @@
 //! Functions.
-ghost use Rattle.std.specs.Prelude.{◌≡◌, ◌≢◌, ◌<◌, ◌≤◌, IfOk, OnOk, Some, None, true, ◌⊎◌, ℕ, ◌||◌};
+ghost use Rattle.std.specs.Prelude.{◌≡◌, ◌≢◌, ◌<◌, ◌≤◌, IfOk, OnOk, Some, None, true, ◌⊎◌};
 ghost use Rattle.rap_base.specs.TokenKind.{FN_KW, EOF};
-ghost use Rattle.rap_base.specs.TokenSet.{member};
 ghost use Rattle.rap_events.specs.State.{state, next};
 ghost use Rattle.rap_rules.specs.Functions as script;
-ghost use Rattle.rap_rules.specs.Functions.{is_item_paren_recovery};
 ghost use Rattle.rap_rules.specs.Grew.{Within, Behind, Took, Grew, Ended};
 ghost use Rattle.rap_rules.specs.Knot.{Follows};
 ghost use Rattle.rap_rules.specs.Room.{item_room};
 ghost use Rattle.rap_rules.specs.Script.{something};
 
+use crate::names::fn_name;
 use rap_base::no_memory::NoMemory;
 use rap_base::syntax_kind::SyntaxKind;
-use rap_base::token_set::TokenSet;
 use rap_events::parser::{Marker, Parser};
 use rap_parts::blocks::block_expr;
 use rap_parts::params::param_list_fn_def;
@@ -21,31 +19,22 @@ use rap_rules::called::{
     opt_generic_param_list, opt_no_arrow_ret_type, opt_ret_type, opt_where_clause,
 };
 use rap_rules::knot::Grammar;
-use rap_rules::names::name_r;
-use rap_rules::recovery::item_recovery_set;
 
 /// A function from its keyword on, as `fn f(a: b) -> c {}`.
 pub(crate) fn fn_<G: Grammar>(p: &mut Parser<'_>, g: &G, m: Marker) -> Result<(), NoMemory>
     requires within { Within G.valid G.left g.now (state p.old) }
-    requires newest { (state p.old).marker ≡ Some m.pos }
+    requires newest { (state p.old).marker ≡ Some m.pos.value }
     requires here { next (state p.old) ≡ FN_KW }
     ensures ended { OnOk result (Ended (state p.old) (state p.new) item_room) }
     ensures script { OnOk result (Follows script.fn_ something (state p.old) (state p.new)) }
 {
     p.bump(T![fn])?;
-    name_r(p, item_paren_recovery_set())?;
+    fn_name(p)?;
     opt_generic_param_list(p, g)?;
     signature(p, g)?;
     fn_body(p, g)?;
     m.complete(p, SyntaxKind::FN)?;
     Ok(())
-}
-
-/// Where the search for a function's name ends.
-fn item_paren_recovery_set() -> TokenSet
-    ensures { (kind : ℕ) → member result kind ≡ is_item_paren_recovery kind }
-{
-    item_recovery_set().union(TokenSet::new(&[T!['(']]))
 }
 
 /// What a function takes and gives back, and its `where`, as `(a: b) -> c where d: E`.

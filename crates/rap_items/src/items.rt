@@ -42,7 +42,7 @@ pub fn opt_item<G: Grammar>(
     is_in_extern: bool,
 ) -> Result<Option<Marker>, NoMemory>
     requires within { Within G.valid G.left g.now (state p.old) }
-    requires newest { (state p.old).marker ≡ Some m.pos }
+    requires newest { (state p.old).marker ≡ Some m.pos.value }
     ensures handed { IfOk result (Handed (state p.old) (state p.new)) }
     ensures script { IfOk result (λ back. Follows (script.opt_item is_in_extern) (of_marker back) (state p.old) (state p.new)) }
 {
@@ -65,7 +65,7 @@ fn opt_modified_item<G: Grammar>(
     is_in_extern: bool,
 ) -> Result<Option<Marker>, NoMemory>
     requires within { Within G.valid G.left g.now (state p.old) }
-    requires newest { (state p.old).marker ≡ Some m.pos }
+    requires newest { (state p.old).marker ≡ Some m.pos.value }
     ensures handed { IfOk result (Modified has_visibility (state p.old) (state p.new)) }
     ensures script { IfOk result (λ back. Follows (script.opt_modified_item has_visibility is_in_extern) (of_marker back) (state p.old) (state p.new)) }
 {
@@ -86,7 +86,7 @@ fn refuse(
     has_visibility: bool,
     has_mods: bool,
 ) -> Result<Option<Marker>, NoMemory>
-    requires newest { (state p.old).marker ≡ Some m.pos }
+    requires newest { (state p.old).marker ≡ Some m.pos.value }
     ensures refused { IfOk result (Refused has_visibility has_mods (state p.old) (state p.new)) }
     ensures script { IfOk result (λ back. Follows (script.refuse has_visibility has_mods) (of_marker back) (state p.old) (state p.new)) }
 {
@@ -110,7 +110,7 @@ fn opt_item_without_modifiers<G: Grammar>(
     m: Marker,
 ) -> Result<Option<Marker>, NoMemory>
     requires within { Within G.valid G.left g.now (state p.old) }
-    requires newest { (state p.old).marker ≡ Some m.pos }
+    requires newest { (state p.old).marker ≡ Some m.pos.value }
     ensures handed { IfOk result (Handed (state p.old) (state p.new)) }
     ensures script { IfOk result (λ back. Follows script.opt_item_without_modifiers (of_marker back) (state p.old) (state p.new)) }
 {
@@ -149,7 +149,7 @@ fn opt_item_without_modifiers<G: Grammar>(
 
 /// A crate's name, as `extern crate a;`, if `crate` follows.
 fn opt_extern_crate(p: &mut Parser<'_>, m: Marker) -> Result<Option<Marker>, NoMemory>
-    requires newest { (state p.old).marker ≡ Some m.pos }
+    requires newest { (state p.old).marker ≡ Some m.pos.value }
     requires here { next (state p.old) ≡ EXTERN_KW }
     ensures handed { IfOk result (Handed (state p.old) (state p.new)) }
     ensures script { IfOk result (λ back. Follows script.opt_extern_crate (of_marker back) (state p.old) (state p.new)) }
@@ -175,7 +175,7 @@ fn opt_named_const<G: Grammar>(
     m: Marker,
 ) -> Result<Option<Marker>, NoMemory>
     requires within { Within G.valid G.left g.now (state p.old) }
-    requires newest { (state p.old).marker ≡ Some m.pos }
+    requires newest { (state p.old).marker ≡ Some m.pos.value }
     requires here { next (state p.old) ≡ CONST_KW }
     ensures handed { IfOk result (Handed (state p.old) (state p.new)) }
     ensures script { IfOk result (λ back. Follows script.opt_named_const (of_marker back) (state p.old) (state p.new)) }
@@ -190,7 +190,7 @@ fn opt_named_const<G: Grammar>(
 /// A constant behind modifiers, if its `const` begins no block.
 fn opt_const<G: Grammar>(p: &mut Parser<'_>, g: &G, m: Marker) -> Result<Option<Marker>, NoMemory>
     requires within { Within G.valid G.left g.now (state p.old) }
-    requires newest { (state p.old).marker ≡ Some m.pos }
+    requires newest { (state p.old).marker ≡ Some m.pos.value }
     requires here { next (state p.old) ≡ CONST_KW }
     ensures handed { IfOk result (Handed (state p.old) (state p.new)) }
     ensures script { IfOk result (λ back. Follows script.opt_const (of_marker back) (state p.old) (state p.new)) }
@@ -205,7 +205,7 @@ fn opt_const<G: Grammar>(p: &mut Parser<'_>, g: &G, m: Marker) -> Result<Option<
 /// A static, if its name follows.
 fn opt_static<G: Grammar>(p: &mut Parser<'_>, g: &G, m: Marker) -> Result<Option<Marker>, NoMemory>
     requires within { Within G.valid G.left g.now (state p.old) }
-    requires newest { (state p.old).marker ≡ Some m.pos }
+    requires newest { (state p.old).marker ≡ Some m.pos.value }
     requires here { next (state p.old) ≡ STATIC_KW }
     ensures handed { IfOk result (Handed (state p.old) (state p.new)) }
     ensures script { IfOk result (λ back. Follows script.opt_static (of_marker back) (state p.old) (state p.new)) }
@@ -250,7 +250,7 @@ fn opt_item_by_name<G: Grammar>(
     m: Marker,
 ) -> Result<Option<Marker>, NoMemory>
     requires within { Within G.valid G.left g.now (state p.old) }
-    requires newest { (state p.old).marker ≡ Some m.pos }
+    requires newest { (state p.old).marker ≡ Some m.pos.value }
     ensures handed { IfOk result (Handed (state p.old) (state p.new)) }
     ensures script { IfOk result (λ back. Follows script.opt_item_by_name (of_marker back) (state p.old) (state p.new)) }
 {
@@ -272,7 +272,7 @@ fn opt_item_by_name<G: Grammar>(
 /// Assembly in the place of an item, as `builtin#global_asm("")`.
 fn global_asm<G: Grammar>(p: &mut Parser<'_>, g: &G, m: Marker) -> Result<(), NoMemory>
     requires within { Within G.valid G.left g.now (state p.old) }
-    requires newest { (state p.old).marker ≡ Some m.pos }
+    requires newest { (state p.old).marker ≡ Some m.pos.value }
     requires bears { ReadsAs (state p.old) BUILTIN_KW }
     requires pound { NthAt (state p.old) 1 POUND }
     requires more { contextual_at (state p.old).rest 2 ≡ GLOBAL_ASM_KW }
@@ -294,7 +294,7 @@ fn opt_item_with_modifiers<G: Grammar>(
     has_extern: bool,
 ) -> Result<Option<Marker>, NoMemory>
     requires within { Within G.valid G.left g.now (state p.old) }
-    requires newest { (state p.old).marker ≡ Some m.pos }
+    requires newest { (state p.old).marker ≡ Some m.pos.value }
     ensures handed { IfOk result (Handed (state p.old) (state p.new)) }
     ensures script { IfOk result (λ back. Follows (script.opt_item_with_modifiers has_extern) (of_marker back) (state p.old) (state p.new)) }
 {
@@ -330,7 +330,7 @@ fn opt_extern_block<G: Grammar>(
     has_extern: bool,
 ) -> Result<Option<Marker>, NoMemory>
     requires within { Within G.valid G.left g.now (state p.old) }
-    requires newest { (state p.old).marker ≡ Some m.pos }
+    requires newest { (state p.old).marker ≡ Some m.pos.value }
     requires here { next (state p.old) ≡ L_CURLY }
     ensures handed { IfOk result (Handed (state p.old) (state p.new)) }
     ensures script { IfOk result (λ back. Follows (script.opt_extern_block has_extern) (of_marker back) (state p.old) (state p.new)) }
@@ -370,7 +370,7 @@ fn marked_item<G: Grammar>(
     is_in_extern: bool,
 ) -> Result<(), NoMemory>
     requires within { Within G.valid G.left g.now (state p.old) }
-    requires newest { (state p.old).marker ≡ Some m.pos }
+    requires newest { (state p.old).marker ≡ Some m.pos.value }
     ensures item { OnOk result (EndsItem stop_on_r_curly (state p.old) (state p.new)) }
     ensures script { OnOk result (Follows (script.marked_item stop_on_r_curly is_in_extern) something (state p.old) (state p.new)) }
 {
@@ -406,7 +406,7 @@ fn macro_or_error<G: Grammar>(
     stop_on_r_curly: bool,
 ) -> Result<(), NoMemory>
     requires within { Within G.valid G.left g.now (state p.old) }
-    requires newest { (state p.old).marker ≡ Some m.pos }
+    requires newest { (state p.old).marker ≡ Some m.pos.value }
     ensures item { OnOk result (EndsItem stop_on_r_curly (state p.old) (state p.new)) }
     ensures script { OnOk result (Follows (script.macro_or_error stop_on_r_curly) something (state p.old) (state p.new)) }
 {
@@ -422,7 +422,7 @@ fn macro_or_error<G: Grammar>(
 /// A macro call from its path on, or a path alone, which is no item.
 fn path_item<G: Grammar>(p: &mut Parser<'_>, g: &G, m: Marker) -> Result<(), NoMemory>
     requires within { Within G.valid G.left g.now (state p.old) }
-    requires newest { (state p.old).marker ≡ Some m.pos }
+    requires newest { (state p.old).marker ≡ Some m.pos.value }
     requires path { starts_use_path (state p.old).rest ≡ true }
     ensures ended { OnOk result (Ended (state p.old) (state p.new) item_room) }
     ensures script { OnOk result (Follows script.path_item something (state p.old) (state p.new)) }

@@ -8,6 +8,7 @@ pub mod items;
 pub mod macros;
 pub mod modifiers;
 pub mod modules;
+mod names;
 pub mod traits;
 pub mod use_item;
 pub mod visibility;

@@ -8,17 +8,17 @@ ghost use Rattle.rap_rules.specs.Macros as script;
 ghost use Rattle.rap_rules.specs.Room.{item_room};
 ghost use Rattle.rap_rules.specs.Script.{something};
 
+use crate::names::item_name;
 use rap_base::no_memory::NoMemory;
 use rap_base::syntax_kind::SyntaxKind;
 use rap_events::parser::{Marker, Parser};
 use rap_rules::T;
-use rap_rules::names::{name, name_r};
-use rap_rules::recovery::item_recovery_set;
+use rap_rules::names::name;
 use rap_rules::token_tree::{is_bracket, macro_call_after_excl, token_tree};
 
 /// A macro by its rules, as `macro_rules! a { () => {} }`.
 pub(crate) fn macro_rules(p: &mut Parser<'_>, m: Marker) -> Result<(), NoMemory>
-    requires newest { (state p.old).marker ≡ Some m.pos }
+    requires newest { (state p.old).marker ≡ Some m.pos.value }
     requires here { ReadsAs (state p.old) MACRO_RULES_KW }
     ensures ended { OnOk result (Ended (state p.old) (state p.new) item_room) }
     ensures script { OnOk result (Follows script.macro_rules something (state p.old) (state p.new)) }
@@ -52,13 +52,13 @@ fn rules_in_brackets(p: &mut Parser<'_>) -> Result<(), NoMemory>
 
 /// A macro from its keyword on, as `macro a($b:ident) {}`.
 pub(crate) fn macro_def(p: &mut Parser<'_>, m: Marker) -> Result<(), NoMemory>
-    requires newest { (state p.old).marker ≡ Some m.pos }
+    requires newest { (state p.old).marker ≡ Some m.pos.value }
     requires here { next (state p.old) ≡ MACRO_KW }
     ensures ended { OnOk result (Ended (state p.old) (state p.new) item_room) }
     ensures script { OnOk result (Follows script.macro_def something (state p.old) (state p.new)) }
 {
     p.bump(T![macro])?;
-    name_r(p, item_recovery_set())?;
+    item_name(p)?;
     macro_def_tokens(p)?;
     m.complete(p, SyntaxKind::MACRO_DEF)?;
     Ok(())
@@ -97,7 +97,7 @@ fn macro_def_body(p: &mut Parser<'_>) -> Result<(), NoMemory>
 
 /// A macro call behind its path in the place of an item, as `!{}` and `!();`.
 pub(crate) fn macro_call(p: &mut Parser<'_>, m: Marker) -> Result<(), NoMemory>
-    requires newest { (state p.old).marker ≡ Some m.pos }
+    requires newest { (state p.old).marker ≡ Some m.pos.value }
     requires here { next (state p.old) ≡ BANG }
     ensures ended { OnOk result (Ended (state p.old) (state p.new) item_room) }
     ensures script { OnOk result (Follows script.macro_call something (state p.old) (state p.new)) }

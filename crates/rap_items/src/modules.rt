@@ -22,7 +22,7 @@ use rap_rules::names::{name, name_ref_or_self, opt_rename};
 
 /// A crate's name, as `extern crate a as b;`.
 pub(crate) fn extern_crate(p: &mut Parser<'_>, m: Marker) -> Result<(), NoMemory>
-    requires newest { (state p.old).marker ≡ Some m.pos }
+    requires newest { (state p.old).marker ≡ Some m.pos.value }
     requires here { next (state p.old) ≡ EXTERN_KW }
     requires more { NthAt (state p.old) 1 CRATE_KW }
     ensures ended { OnOk result (Ended (state p.old) (state p.new) item_room) }
@@ -115,7 +115,7 @@ pub fn extern_item_list<G: Grammar>(p: &mut Parser<'_>, g: &G) -> Result<(), NoM
 /// A module from its keyword on, as `mod a;` and `mod a {}`.
 pub(crate) fn mod_item<G: Grammar>(p: &mut Parser<'_>, g: &G, m: Marker) -> Result<(), NoMemory>
     requires within { Within G.valid G.left g.now (state p.old) }
-    requires newest { (state p.old).marker ≡ Some m.pos }
+    requires newest { (state p.old).marker ≡ Some m.pos.value }
     requires here { next (state p.old) ≡ MOD_KW }
     ensures ended { OnOk result (Ended (state p.old) (state p.new) item_room) }
     ensures script { OnOk result (Follows script.mod_item something (state p.old) (state p.new)) }
@@ -147,7 +147,7 @@ fn mod_body<G: Grammar>(p: &mut Parser<'_>, g: &G) -> Result<(), NoMemory>
 /// What begins with `type`: another name of a type, or a constant behind `type const`.
 pub(crate) fn type_item<G: Grammar>(p: &mut Parser<'_>, g: &G, m: Marker) -> Result<(), NoMemory>
     requires within { Within G.valid G.left g.now (state p.old) }
-    requires newest { (state p.old).marker ≡ Some m.pos }
+    requires newest { (state p.old).marker ≡ Some m.pos.value }
     requires here { next (state p.old) ≡ TYPE_KW }
     ensures ended { OnOk result (Ended (state p.old) (state p.new) item_room) }
     ensures script { OnOk result (Follows script.type_item something (state p.old) (state p.new)) }
@@ -163,7 +163,7 @@ pub(crate) fn type_item<G: Grammar>(p: &mut Parser<'_>, g: &G, m: Marker) -> Res
 /// Another name of a type, as `type A<T>: B = c where T: D;`.
 fn type_alias<G: Grammar>(p: &mut Parser<'_>, g: &G, m: Marker) -> Result<(), NoMemory>
     requires within { Within G.valid G.left g.now (state p.old) }
-    requires newest { (state p.old).marker ≡ Some m.pos }
+    requires newest { (state p.old).marker ≡ Some m.pos.value }
     requires here { next (state p.old) ≡ TYPE_KW }
     ensures ended { OnOk result (Ended (state p.old) (state p.new) item_room) }
     ensures script { OnOk result (Follows script.type_alias something (state p.old) (state p.new)) }

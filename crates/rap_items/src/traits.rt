@@ -10,6 +10,7 @@ ghost use Rattle.rap_rules.specs.Room.{item_room, list_room, statement_room};
 ghost use Rattle.rap_rules.specs.Script.{something};
 ghost use Rattle.rap_rules.specs.Traits as script;
 
+use crate::names::item_name;
 use rap_base::no_memory::NoMemory;
 use rap_base::syntax_kind::SyntaxKind;
 use rap_events::parser::{Marker, Parser};
@@ -20,19 +21,17 @@ use rap_rules::called::{
     bounds, bounds_without_colon, opt_generic_param_list, opt_where_clause, type_,
 };
 use rap_rules::knot::{Grammar, Rule};
-use rap_rules::names::name_r;
-use rap_rules::recovery::item_recovery_set;
 
 /// A trait from its keyword on, as `trait A {}`.
 pub fn trait_<G: Grammar>(p: &mut Parser<'_>, g: &G, m: Marker) -> Result<(), NoMemory>
     requires within { Within G.valid G.left g.now (state p.old) }
-    requires newest { (state p.old).marker ≡ Some m.pos }
+    requires newest { (state p.old).marker ≡ Some m.pos.value }
     requires here { next (state p.old) ≡ TRAIT_KW }
     ensures ended { OnOk result (Ended (state p.old) (state p.new) item_room) }
     ensures script { OnOk result (Follows script.trait_ something (state p.old) (state p.new)) }
 {
     p.bump(T![trait])?;
-    name_r(p, item_recovery_set())?;
+    item_name(p)?;
     opt_generic_param_list(p, g)?;
     trait_body(p, g)?;
     m.complete(p, SyntaxKind::TRAIT)?;
@@ -82,7 +81,7 @@ fn opt_bounds<G: Grammar>(p: &mut Parser<'_>, g: &G) -> Result<(), NoMemory>
 /// An implementation from its keyword on, as `impl A for b {}`.
 pub fn impl_<G: Grammar>(p: &mut Parser<'_>, g: &G, m: Marker) -> Result<(), NoMemory>
     requires within { Within G.valid G.left g.now (state p.old) }
-    requires newest { (state p.old).marker ≡ Some m.pos }
+    requires newest { (state p.old).marker ≡ Some m.pos.value }
     requires here { next (state p.old) ≡ IMPL_KW }
     ensures ended { OnOk result (Ended (state p.old) (state p.new) item_room) }
     ensures script { OnOk result (Follows script.impl_ something (state p.old) (state p.new)) }

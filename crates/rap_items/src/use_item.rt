@@ -28,7 +28,7 @@ use rap_rules::recovery::item_recovery_set;
 /// An import from its keyword on, as `use a::b;`.
 pub fn use_<G: Grammar>(p: &mut Parser<'_>, g: &G, m: Marker) -> Result<(), NoMemory>
     requires within { Within G.valid G.left g.now (state p.old) }
-    requires newest { (state p.old).marker ≡ Some m.pos }
+    requires newest { (state p.old).marker ≡ Some m.pos.value }
     requires here { next (state p.old) ≡ USE_KW }
     ensures ended { OnOk result (Ended (state p.old) (state p.new) item_room) }
     ensures script { OnOk result (Follows script.use_ something (state p.old) (state p.new)) }
@@ -42,6 +42,7 @@ pub fn use_<G: Grammar>(p: &mut Parser<'_>, g: &G, m: Marker) -> Result<(), NoMe
 
 /// The tree of an import. Where none begins, that is reported, and the next token is taken along unless an item may
 /// begin there.
+#[inline(never)]
 fn expect_use_tree<G: Grammar>(p: &mut Parser<'_>, g: &G) -> Result<(), NoMemory>
     requires within { Within G.valid G.left g.now (state p.old) }
     ensures grew { OnOk result (Grew (state p.old) (state p.new) 3) }
@@ -188,13 +189,21 @@ impl Element for NestedUseTree {
             return Ok(true);
         }
         p.err_and_bump("expected one of `*`, `::`, `{`, `self`, `super` or an identifier")?;
-        let going_on = p.at_ts(use_tree_list_recovery_set());
-        Ok(going_on)
+        Ok(use_tree_list_goes_on(p))
     }
 
     fn is_first(&self, kind: SyntaxKind) -> bool {
         matches!(kind, T!['{'] | T![ident])
     }
+}
+
+/// Whether the list of trees goes on where a tree is missing. It keeps the table of the set off the stack of those that go
+/// deeper.
+#[inline(never)]
+fn use_tree_list_goes_on(p: &Parser<'_>) -> bool
+    ensures here { result ≡ script.is_use_tree_list_recovery (next (state p.now)) }
+{
+    p.at_ts(use_tree_list_recovery_set())
 }
 
 /// Where the list of trees goes on although a tree is missing.

@@ -32,7 +32,7 @@ pub fn parse_asm_expr<G: Grammar>(
     m: Marker,
 ) -> Result<CompletedMarker, NoMemory>
     requires behind { Behind G.valid G.left g.now (state p.old) }
-    requires newest { (state p.old).marker ≡ Some m.pos }
+    requires newest { (state p.old).marker ≡ Some m.pos.value }
     ensures closes { IfOk result (Closes ASM_EXPR 16 (state p.old) (state p.new)) }
     ensures script { OnOk result (Follows script.parse_asm_expr something (state p.old) (state p.new)) }
 {
@@ -101,7 +101,7 @@ fn named_operand<G: Grammar>(
     allow_templates: bool,
 ) -> Result<Option<bool>, NoMemory>
     requires behind { Behind G.valid G.left g.now (state p.old) }
-    requires newest { (state p.old).marker ≡ Some op_n.pos }
+    requires newest { (state p.old).marker ≡ Some op_n.pos.value }
     ensures gone { OnOk result (Gone (state p.old) (state p.new) 19) }
     ensures ended { OnOk result (0 < (state p.old).left → Ended (state p.old) (state p.new) asm_room) }
     ensures script { IfOk result (λ o. Follows (script.named_operand allow_templates) (script.of_allow o) (state p.old) (state p.new)) }

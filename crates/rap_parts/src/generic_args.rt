@@ -49,7 +49,7 @@ pub(crate) fn generic_arg_list<G: Grammar>(
     m: Marker,
 ) -> Result<(), NoMemory>
     requires within { Within G.valid G.left g.now (state p.old) }
-    requires newest { (state p.old).marker ≡ Some m.pos }
+    requires newest { (state p.old).marker ≡ Some m.pos.value }
     requires here { next (state p.old) ≡ L_ANGLE }
     ensures ended { OnOk result (Ended (state p.old) (state p.new) element_room) }
     ensures script { OnOk result (Follows path_script.generic_arg_list something (state p.old) (state p.new)) }

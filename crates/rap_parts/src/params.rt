@@ -164,7 +164,7 @@ fn marked_param<G: Grammar>(
     flavor: Flavor,
 ) -> Result<bool, NoMemory>
     requires behind { Behind G.valid G.left g.now (state p.old) }
-    requires newest { (state p.old).marker ≡ Some m.pos }
+    requires newest { (state p.old).marker ≡ Some m.pos.value }
     ensures gone { OnOk result (Gone (state p.old) (state p.new) 2) }
     ensures spent { IfOk result (λ on. on ≡ true → Spent (state p.old) (state p.new) param_room) }
     ensures script { IfOk result (λ on. Follows (script.marked_param flavor) (of_bool on) (state p.old) (state p.new)) }

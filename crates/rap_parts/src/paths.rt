@@ -244,7 +244,7 @@ fn segment_name<G: Grammar>(
     empty: bool,
 ) -> Result<Option<CompletedMarker>, NoMemory>
     requires within { Within G.valid G.left g.now (state p.old) }
-    requires newest { (state p.old).marker ≡ Some m.pos }
+    requires newest { (state p.old).marker ≡ Some m.pos.value }
     ensures some { IfOk result (λ o. IfSome o (λ cm. Closes PATH_SEGMENT 4 (state p.old) (state p.new) cm)) }
     ensures none { IfOk result (λ o. o ≡ None → Dropped (state p.old) (state p.new) 5) }
     ensures took { OnOk result (is_path_name (next (state p.old)) ≡ true → Spent (state p.old) (state p.new) name_end_room) }
@@ -268,7 +268,7 @@ fn missing_segment_name(
     mode: Mode,
     empty: bool,
 ) -> Result<Option<CompletedMarker>, NoMemory>
-    requires newest { (state p.old).marker ≡ Some m.pos }
+    requires newest { (state p.old).marker ≡ Some m.pos.value }
     ensures some { IfOk result (λ o. IfSome o (λ cm. Closes PATH_SEGMENT 4 (state p.old) (state p.new) cm)) }
     ensures none { IfOk result (λ o. o ≡ None → Dropped (state p.old) (state p.new) 5) }
     ensures script { IfOk result (λ o. Follows (paths_script.missing_segment_name mode empty) (of_option o) (state p.old) (state p.new)) }
@@ -353,7 +353,7 @@ pub fn opt_path_type_args<G: Grammar>(p: &mut Parser<'_>, g: &G) -> Result<(), N
 /// Arguments in a type from their bracket on, as `<a>`, `(a) -> b` and `(..)`, whose marker is open.
 fn path_type_args<G: Grammar>(p: &mut Parser<'_>, g: &G, m: Marker) -> Result<(), NoMemory>
     requires within { Within G.valid G.left g.now (state p.old) }
-    requires newest { (state p.old).marker ≡ Some m.pos }
+    requires newest { (state p.old).marker ≡ Some m.pos.value }
     requires here { (next (state p.old) ≡ L_PAREN) ⊎ (next (state p.old) ≡ L_ANGLE) }
     ensures ended { OnOk result (Ended (state p.old) (state p.new) element_room) }
     ensures script { OnOk result (Follows paths_script.path_type_args something (state p.old) (state p.new)) }
@@ -372,7 +372,7 @@ fn path_type_args<G: Grammar>(p: &mut Parser<'_>, g: &G, m: Marker) -> Result<()
 
 /// Two dots in parentheses, for whatever a function gives back, as `(..)` after `a::b`. The marker is open.
 fn return_type_syntax(p: &mut Parser<'_>, m: Marker) -> Result<(), NoMemory>
-    requires newest { (state p.old).marker ≡ Some m.pos }
+    requires newest { (state p.old).marker ≡ Some m.pos.value }
     requires here { next (state p.old) ≡ L_PAREN }
     requires dots { is_at DOT2 (drop 1 (state p.old).rest) ≡ true }
     ensures ended { OnOk result (Ended (state p.old) (state p.new) element_room) }
@@ -388,7 +388,7 @@ fn return_type_syntax(p: &mut Parser<'_>, m: Marker) -> Result<(), NoMemory>
 /// The types that a function takes and the one that it gives back, as `(a, b) -> c` after `Fn`. The marker is open.
 fn parenthesized_args<G: Grammar>(p: &mut Parser<'_>, g: &G, m: Marker) -> Result<(), NoMemory>
     requires within { Within G.valid G.left g.now (state p.old) }
-    requires newest { (state p.old).marker ≡ Some m.pos }
+    requires newest { (state p.old).marker ≡ Some m.pos.value }
     requires here { next (state p.old) ≡ L_PAREN }
     ensures ended { OnOk result (Ended (state p.old) (state p.new) element_room) }
     ensures script { OnOk result (Follows paths_script.parenthesized_args something (state p.old) (state p.new)) }

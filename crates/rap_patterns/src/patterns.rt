@@ -27,7 +27,7 @@ use rap_rules::called::{pattern, pattern_single};
 use rap_rules::first::{is_literal_first, is_pat_top_first, is_path_first, is_path_start};
 use rap_rules::knot::Grammar;
 use rap_rules::literals::literal;
-use rap_rules::names::{name_r, name_ref_or_index, starts_builtin};
+use rap_rules::names::{given_name, name_r, name_ref_or_index, starts_builtin};
 use rap_rules::token_tree::macro_call_after_excl;
 
 /// Whether the end of a range may begin with a token of this kind.
@@ -163,7 +163,7 @@ fn range_op<G: Grammar>(
     in_arm: bool,
 ) -> Result<(), NoMemory>
     requires within { Within G.valid G.left g.now (state p.old) }
-    requires last { IsLast (state p.old) lhs lhs.kind }
+    requires last { IsLast (state p.old) lhs lhs.kind.value }
     ensures grew { OnOk result (Grew (state p.old) (state p.new) 0) }
     ensures script { OnOk result (Follows (script.range_op in_arm) something (state p.old) (state p.new)) }
 {
@@ -192,7 +192,7 @@ fn range_from_pat<G: Grammar>(
     in_arm: bool,
 ) -> Result<(), NoMemory>
     requires within { Within G.valid G.left g.now (state p.old) }
-    requires last { IsLast (state p.old) lhs lhs.kind }
+    requires last { IsLast (state p.old) lhs lhs.kind.value }
     requires here { At (state p.old) op }
     requires op { op ≢ EOF }
     ensures grew { OnOk result (Grew (state p.old) (state p.new) 0) }
@@ -659,6 +659,10 @@ fn binding(p: &mut Parser<'_>) -> Result<(), NoMemory>
 {
     p.eat(T![ref])?;
     p.eat(T![mut])?;
+    if p.at(T![ident]) {
+        given_name(p)?;
+        return Ok(());
+    }
     name_r(p, pat_recovery_set())?;
     Ok(())
 }

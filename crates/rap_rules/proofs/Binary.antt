@@ -37,9 +37,9 @@ operands s0 s1 s2 s3 m least kind op w (Some e) a b t z =
     let f : s2.forest ≡ leaf (node none kind (last_children s0.forest)) op w = b.forest ∙ ap (λ (x : Forest). leaf x op w) a.forest in
     record {
       clean = omega arith;
-      right_kind = e.0.kind;
+      right_kind = e.0.kind.value;
       right = last_children s3.forest;
-      shape = t.0.last.forest ∙ ap (λ (x : Forest). node x e.0.kind (last_children s3.forest)) (t.0.one ∙ f);
+      shape = t.0.last.forest ∙ ap (λ (x : Forest). node x e.0.kind.value (last_children s3.forest)) (t.0.one ∙ f);
       least_power = t.1.least z;
       follows = t.1.follows z refl;
     }

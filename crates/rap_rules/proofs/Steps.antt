@@ -65,12 +65,12 @@ by_abandon {s = s} {t = t} b d = abandons (from_there (same_spot (sym b.recorded
     (ap (λ (x : Stack). newest (forests x) ⧺ s.forest) b.below ∙ sym b.forest)
     (ap (λ (x : Stack). drop 1 (forests x)) b.below)) d)
 
-pub by_precede : {s t : State} {m k : ℕ} {cm : CompletedMarker} {n : Script Phrase} {q : Spot} {v : Outcome} → IsLast s cm k → Preceded s t m cm.kind → On n (spot t) q v → On (precede n) (spot s) q v
+pub by_precede : {s t : State} {m k : ℕ} {cm : CompletedMarker} {n : Script Phrase} {q : Spot} {v : Outcome} → IsLast s cm k → Preceded s t m cm.kind.value → On n (spot t) q v → On (precede n) (spot s) q v
 by_precede {s = s} h b d = precedes (from_there (same_spot (sym b.recorded.rest)
     (ap last_tree h.forest ∙ ap (λ (x : ℕ). node none x (last_children s.forest)) (sym h.kind) ∙ sym b.forest)
     (ap forests (sym b.below))) d)
 
-pub by_extend : {s t : State} {cm : CompletedMarker} {n : Script Phrase} {q : Spot} {v : Outcome} → IsLast s cm cm.kind → Extended s t cm.kind → On n (spot t) q v → On (extend n) (spot s) q v
+pub by_extend : {s t : State} {cm : CompletedMarker} {n : Script Phrase} {q : Spot} {v : Outcome} → IsLast s cm cm.kind.value → Extended s t cm.kind.value → On n (spot t) q v → On (extend n) (spot s) q v
 by_extend {s = s} {t = t} {cm = cm} h b d = extends (from_there (same_spot (sym b.recorded.rest)
     (ap (λ (x : Stack). node (newest (forests x)) (last_kind s.forest) (but_last s.forest ⧺ last_children s.forest)) b.below
     ∙ ap (λ (x : ℕ). node (but_last t.forest) x (but_last s.forest ⧺ last_children s.forest)) (ap last_kind h.forest) ∙ sym b.forest)

@@ -48,20 +48,20 @@ pub record Spent (old new : State) (room : ℕ) : Type 0 where
 -- tokens were taken, and exactly this node was made
 pub record Made (old new : State) (cm : CompletedMarker) (room : ℕ) : Type 0 where
   pub took : Took old new room
-  pub last : IsLast new cm cm.kind
+  pub last : IsLast new cm cm.kind.value
   pub one : but_last new.forest ≡ old.forest
 
 -- the same, of a kind
 pub record Makes (node_kind room : ℕ) (old new : State) (cm : CompletedMarker) : Type 0 where
   pub made : Made old new cm room
-  pub kind : cm.kind ≡ node_kind
+  pub kind : cm.kind.value ≡ node_kind
 
 -- tokens were taken, and the last node became a part of a node of this kind, which is now the last
 pub record Wraps (node_kind room : ℕ) (old new : State) (cm : CompletedMarker) : Type 0 where
   pub took : Took old new room
-  pub last : IsLast new cm cm.kind
+  pub last : IsLast new cm cm.kind.value
   pub one : but_last new.forest ≡ but_last old.forest
-  pub kind : cm.kind ≡ node_kind
+  pub kind : cm.kind.value ≡ node_kind
 
 -- tokens were taken, and the newest open marker became this node
 pub record Closed (old new : State) (cm : CompletedMarker) (room : ℕ) : Type 0 where
@@ -69,7 +69,7 @@ pub record Closed (old new : State) (cm : CompletedMarker) (room : ℕ) : Type 0
   pub left : new.left < old.left
   pub count : new.count + 256 * new.left + room ≤ old.count + 256 * old.left
   pub messages : old.messages ≤ new.messages
-  pub last : IsLast new cm cm.kind
+  pub last : IsLast new cm cm.kind.value
   pub below : old.below ≡ push new.below new.marker (but_last new.forest)
 
 -- the newest open marker became a node of this kind, with at most `k` events more than the tokens pay for
@@ -78,9 +78,9 @@ pub record Closes (node_kind k : ℕ) (old new : State) (cm : CompletedMarker) :
   pub left : new.left ≤ old.left
   pub count : new.count + 256 * new.left ≤ old.count + 256 * old.left + k
   pub messages : old.messages ≤ new.messages
-  pub last : IsLast new cm cm.kind
+  pub last : IsLast new cm cm.kind.value
   pub below : old.below ≡ push new.below new.marker (but_last new.forest)
-  pub kind : cm.kind ≡ node_kind
+  pub kind : cm.kind.value ≡ node_kind
 
 -- tokens were taken, and the newest open marker is gone
 pub record Ended (old new : State) (room : ℕ) : Type 0 where

@@ -36,13 +36,13 @@ of_marker (Some m) = nothing
 -- what an item leaves: the newest marker is gone, or all is as before and the marker is handed back
 abbrev pub Handed : State → State → Option Marker → Type 0
 Handed old new None = Ended old new item_room
-Handed old new (Some m) = (new ≡ old) × (new.marker ≡ Some m.pos)
+Handed old new (Some m) = (new ≡ old) × (new.marker ≡ Some m.pos.value)
 
 -- where no item follows: what stood before it is reported, or nothing did
 abbrev pub Refused : Bool → Bool → State → State → Option Marker → Type 0
 Refused has_visibility has_mods old new None = (has_visibility || has_mods ≡ true) × Dropped old new 2
 Refused has_visibility has_mods old new (Some m) =
-    ((has_visibility ≡ false) × (has_mods ≡ false)) × ((new ≡ old) × (new.marker ≡ Some m.pos))
+    ((has_visibility ≡ false) × (has_mods ≡ false)) × ((new ≡ old) × (new.marker ≡ Some m.pos.value))
 
 -- what an item leaves from its modifiers on, by whether a visibility stood before them
 pub record Parted (has_visibility : Bool) (old new : State) : Type 0 where
@@ -55,7 +55,7 @@ pub record Parted (has_visibility : Bool) (old new : State) : Type 0 where
 
 abbrev pub Modified : Bool → State → State → Option Marker → Type 0
 Modified has_visibility old new None = Parted has_visibility old new
-Modified has_visibility old new (Some m) = (has_visibility ≡ false) × ((new ≡ old) × (new.marker ≡ Some m.pos))
+Modified has_visibility old new (Some m) = (has_visibility ≡ false) × ((new ≡ old) × (new.marker ≡ Some m.pos.value))
 
 -- What an item or what stands in its place leaves, under a marker that is gone then: a token is taken unless none is
 -- left, or a brace ends the list of items.

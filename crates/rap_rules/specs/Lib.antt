@@ -21,6 +21,7 @@ pub mod Items
 pub mod Knot
 pub mod Macros
 pub mod Modifiers
+pub mod Name
 pub mod Operator
 pub mod Params
 pub mod Paths

@@ -30,7 +30,7 @@ use Rattle.rap_rules.specs.declared.knot.Rule.TheVariants as rule
 -- a marker that is handed over is the newest one
 abbrev pub IsNewest : State → Option Marker → Type 0
 IsNewest s None = Unit {0}
-IsNewest s (Some m) = s.marker ≡ Some m.pos
+IsNewest s (Some m) = s.marker ≡ Some m.pos.value
 
 -- no expression: a token is taken unless the next one ends the search for an expression, and then none is
 pub record Missed (old new : State) : Type 0 where
@@ -39,24 +39,24 @@ pub record Missed (old new : State) : Type 0 where
 
 -- an expression of its own, or one from the marker on that was handed over; or a message and no expression
 abbrev pub Answered : State → State → Option Marker → Bool → ℕ → Option (CompletedMarker × BlockLike) → Type 0
-Answered old new None stmt bp (Some e) = Made old new e.0 expression_room × Climbed new e.0.kind bp stmt
+Answered old new None stmt bp (Some e) = Made old new e.0 expression_room × Climbed new e.0.kind.value bp stmt
 Answered old new None stmt bp None = Grew old new 8 × (old.messages < new.messages) × Missed old new
-Answered old new (Some m) stmt bp (Some e) = Closed old new e.0 expression_room × Climbed new e.0.kind bp stmt
+Answered old new (Some m) stmt bp (Some e) = Closed old new e.0 expression_room × Climbed new e.0.kind.value bp stmt
 Answered old new (Some m) stmt bp None = Dropped old new 8 × (stops_expr (next old) ≡ false → Spent old new expression_room)
 
 -- an operand: a node of which nothing more is asked; or a message, with a token in an `ERROR` at least, and no node
 abbrev pub Operand : ℕ → State → State → Option (CompletedMarker × BlockLike) → Type 0
-Operand room old new (Some e) = Made old new e.0 room × (is_plain e.0.kind ≡ true)
+Operand room old new (Some e) = Made old new e.0 room × (is_plain e.0.kind.value ≡ true)
 Operand room old new None = Took old new room × (old.messages < new.messages)
 
 -- the same from the newest marker on, with at most `k` events more than the tokens pay for, and the marker is gone
 abbrev pub OperandFrom : ℕ → State → State → Option (CompletedMarker × BlockLike) → Type 0
-OperandFrom k old new (Some e) = Closes e.0.kind k old new e.0 × (is_plain e.0.kind ≡ true)
+OperandFrom k old new (Some e) = Closes e.0.kind.value k old new e.0 × (is_plain e.0.kind.value ≡ true)
 OperandFrom k old new None = Dropped old new k
 
 -- an expression from the newest marker on, or a message, and the marker is gone
 abbrev pub AnsweredFrom : State → State → Bool → ℕ → Option (CompletedMarker × BlockLike) → Type 0
-AnsweredFrom old new stmt bp (Some e) = Closed old new e.0 marked_room × Climbed new e.0.kind bp stmt
+AnsweredFrom old new stmt bp (Some e) = Closed old new e.0 marked_room × Climbed new e.0.kind.value bp stmt
 AnsweredFrom old new stmt bp None = Dropped old new 5
 
 -- A rule that gives no node: where it begins with one of these tokens, it takes one at least, and else it records at

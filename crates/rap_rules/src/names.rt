@@ -8,6 +8,7 @@ ghost use Rattle.rap_rules.specs.First.{is_path_name, is_path_name_or_index};
 ghost use Rattle.rap_rules.specs.Grammar as script;
 ghost use Rattle.rap_rules.specs.Grew.{Grew, Took};
 ghost use Rattle.rap_rules.specs.Knot.{Follows};
+ghost use Rattle.rap_rules.specs.Name.{given_name};
 ghost use Rattle.rap_rules.specs.Room.{name_room};
 ghost use Rattle.rap_rules.specs.Script.{something};
 ghost use Rattle.rap_rules.specs.Words.{starts_builtin};
@@ -88,6 +89,18 @@ pub fn lifetime(p: &mut Parser<'_>) -> Result<(), NoMemory>
     Ok(())
 }
 
+/// A name that is there, as the `a` of `let a`.
+pub fn given_name(p: &mut Parser<'_>) -> Result<(), NoMemory>
+    requires here { next (state p.old) ≡ IDENT }
+    ensures took { OnOk result (Took (state p.old) (state p.new) name_room) }
+    ensures script { OnOk result (Follows given_name something (state p.old) (state p.new)) }
+{
+    let m = p.start()?;
+    p.bump(T![ident])?;
+    m.complete(p, SyntaxKind::NAME)?;
+    Ok(())
+}
+
 /// A name that is given, as the `a` of `let a`. Where it is missing, the next token is taken along, unless it is a brace
 /// or in the set.
 pub fn name_r(p: &mut Parser<'_>, recovery: TokenSet) -> Result<(), NoMemory>
@@ -96,9 +109,7 @@ pub fn name_r(p: &mut Parser<'_>, recovery: TokenSet) -> Result<(), NoMemory>
     ensures script { OnOk result ((kept : ℕ → Bool) → ((kind : ℕ) → member recovery kind ≡ kept kind) → Follows (script.name_r kept) something (state p.old) (state p.new)) }
 {
     if p.at(T![ident]) {
-        let m = p.start()?;
-        p.bump(T![ident])?;
-        m.complete(p, SyntaxKind::NAME)?;
+        given_name(p)?;
         return Ok(());
     }
     p.err_recover("expected a name", recovery)?;

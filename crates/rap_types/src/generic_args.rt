@@ -154,7 +154,7 @@ fn is_generic_arg_recovery(kind: SyntaxKind) -> bool
 /// A path from its first segment on, as a type, as `a::b`, or a macro call, as `a!()`.
 fn path_arg<G: Grammar>(p: &mut Parser<'_>, g: &G, segment: CompletedMarker) -> Result<(), NoMemory>
     requires behind { Behind G.valid G.left g.now (state p.old) }
-    requires last { IsLast (state p.old) segment segment.kind }
+    requires last { IsLast (state p.old) segment segment.kind.value }
     ensures grew { OnOk result (Grew (state p.old) (state p.new) 24) }
     ensures script { OnOk result (Follows script.path_arg something (state p.old) (state p.new)) }
 {
@@ -167,14 +167,14 @@ fn path_arg<G: Grammar>(p: &mut Parser<'_>, g: &G, segment: CompletedMarker) -> 
         return Ok(());
     }
     let ty = m.complete(p, SyntaxKind::PATH_TYPE)?;
-    bounded_arg(p, g, ty)?;
+    bounded_arg(p, g, ty, SyntaxKind::PATH_TYPE)?;
     Ok(())
 }
 
 /// A macro call behind its path, as the `!()` of `a!()`. The marker before the path is open.
 fn macro_arg<G: Grammar>(p: &mut Parser<'_>, g: &G, m: Marker) -> Result<(), NoMemory>
     requires behind { Behind G.valid G.left g.now (state p.old) }
-    requires newest { (state p.old).marker ≡ Some m.pos }
+    requires newest { (state p.old).marker ≡ Some m.pos.value }
     requires here { next (state p.old) ≡ BANG }
     ensures ended { OnOk result (Ended (state p.old) (state p.new) element_room) }
     ensures script { OnOk result (Follows script.macro_arg something (state p.old) (state p.new)) }
@@ -183,18 +183,23 @@ fn macro_arg<G: Grammar>(p: &mut Parser<'_>, g: &G, m: Marker) -> Result<(), NoM
     let call = m.complete(p, SyntaxKind::MACRO_CALL)?;
     let m = call.precede(p)?;
     let ty = m.complete(p, SyntaxKind::MACRO_TYPE)?;
-    bounded_arg(p, g, ty)?;
+    bounded_arg(p, g, ty, SyntaxKind::MACRO_TYPE)?;
     Ok(())
 }
 
-/// The bounds after a type, as `+ b` after `a`, if there are; and what comes of it is an argument.
-fn bounded_arg<G: Grammar>(p: &mut Parser<'_>, g: &G, ty: CompletedMarker) -> Result<(), NoMemory>
+/// The bounds after a type of this kind, as `+ b` after `a`, if there are; and what comes of it is an argument.
+fn bounded_arg<G: Grammar>(
+    p: &mut Parser<'_>,
+    g: &G,
+    ty: CompletedMarker,
+    kind: SyntaxKind,
+) -> Result<(), NoMemory>
     requires behind { Behind G.valid G.left g.now (state p.old) }
-    requires last { IsLast (state p.old) ty ty.kind }
+    requires last { IsLast (state p.old) ty kind }
     ensures grew { OnOk result (Grew (state p.old) (state p.new) 18) }
-    ensures script { OnOk result (Follows (script.bounded_arg ty.kind) something (state p.old) (state p.new)) }
+    ensures script { OnOk result (Follows (script.bounded_arg kind) something (state p.old) (state p.new)) }
 {
-    let ty = opt_type_bounds_as_dyn_trait_type(p, g, ty)?;
+    let ty = opt_type_bounds_as_dyn_trait_type(p, g, ty, kind)?;
     let m = ty.precede(p)?;
     m.complete(p, SyntaxKind::TYPE_ARG)?;
     Ok(())

@@ -71,7 +71,7 @@ impl Element for GenericParam {
 /// A parameter from its marker on. Answers whether there is one.
 fn generic_param<G: Grammar>(p: &mut Parser<'_>, g: &G, m: Marker) -> Result<bool, NoMemory>
     requires behind { Behind G.valid G.left g.now (state p.old) }
-    requires newest { (state p.old).marker ≡ Some m.pos }
+    requires newest { (state p.old).marker ≡ Some m.pos.value }
     ensures gone { OnOk result (Gone (state p.old) (state p.new) 4) }
     ensures spent { IfOk result (λ found. found ≡ true → Spent (state p.old) (state p.new) param_room) }
     ensures script { IfOk result (λ found. Follows script.generic_param (of_bool found) (state p.old) (state p.new)) }
@@ -100,7 +100,7 @@ fn generic_param<G: Grammar>(p: &mut Parser<'_>, g: &G, m: Marker) -> Result<boo
 /// A lifetime as a parameter, as `'a: 'b`.
 fn lifetime_param<G: Grammar>(p: &mut Parser<'_>, g: &G, m: Marker) -> Result<(), NoMemory>
     requires behind { Behind G.valid G.left g.now (state p.old) }
-    requires newest { (state p.old).marker ≡ Some m.pos }
+    requires newest { (state p.old).marker ≡ Some m.pos.value }
     requires here { next (state p.old) ≡ LIFETIME_IDENT }
     ensures gone { OnOk result (Gone (state p.old) (state p.new) 0) }
     ensures spent { OnOk result (Spent (state p.old) (state p.new) param_room) }
@@ -117,7 +117,7 @@ fn lifetime_param<G: Grammar>(p: &mut Parser<'_>, g: &G, m: Marker) -> Result<()
 /// A type as a parameter, as `T: A = b`.
 fn type_param<G: Grammar>(p: &mut Parser<'_>, g: &G, m: Marker) -> Result<(), NoMemory>
     requires behind { Behind G.valid G.left g.now (state p.old) }
-    requires newest { (state p.old).marker ≡ Some m.pos }
+    requires newest { (state p.old).marker ≡ Some m.pos.value }
     requires here { next (state p.old) ≡ IDENT }
     ensures gone { OnOk result (Gone (state p.old) (state p.new) 0) }
     ensures spent { OnOk result (Spent (state p.old) (state p.new) param_room) }
@@ -138,7 +138,7 @@ fn type_param<G: Grammar>(p: &mut Parser<'_>, g: &G, m: Marker) -> Result<(), No
 /// A constant as a parameter, as `const N: a = 1`.
 fn const_param<G: Grammar>(p: &mut Parser<'_>, g: &G, m: Marker) -> Result<(), NoMemory>
     requires behind { Behind G.valid G.left g.now (state p.old) }
-    requires newest { (state p.old).marker ≡ Some m.pos }
+    requires newest { (state p.old).marker ≡ Some m.pos.value }
     requires here { next (state p.old) ≡ CONST_KW }
     ensures gone { OnOk result (Gone (state p.old) (state p.new) 0) }
     ensures spent { OnOk result (Spent (state p.old) (state p.new) param_room) }
@@ -229,7 +229,7 @@ pub(crate) fn bounds_without_colon_m<G: Grammar>(
     m: Marker,
 ) -> Result<CompletedMarker, NoMemory>
     requires within { Within G.valid G.left g.now (state p.old) }
-    requires newest { (state p.old).marker ≡ Some m.pos }
+    requires newest { (state p.old).marker ≡ Some m.pos.value }
     ensures closes { IfOk result (Closes TYPE_BOUND_LIST 8 (state p.old) (state p.new)) }
     ensures spent { OnOk result (next (state p.old) ≡ LIFETIME_IDENT → Spent (state p.old) (state p.new) path_room) }
     ensures script { OnOk result (Follows script.bounds_without_colon_m something (state p.old) (state p.new)) }

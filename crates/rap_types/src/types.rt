@@ -352,7 +352,7 @@ fn for_type<G: Grammar>(p: &mut Parser<'_>, g: &G, allow_bounds: bool) -> Result
     type_no_bounds(p, g)?;
     let cm = m.complete(p, SyntaxKind::FOR_TYPE)?;
     if allow_bounds {
-        opt_type_bounds_as_dyn_trait_type(p, g, cm)?;
+        opt_type_bounds_as_dyn_trait_type(p, g, cm, SyntaxKind::FOR_TYPE)?;
         return Ok(());
     }
     Ok(())
@@ -463,7 +463,7 @@ fn path_or_macro<G: Grammar>(p: &mut Parser<'_>, g: &G, allow_bounds: bool) -> R
     m.abandon(p)?;
     let path = r.complete(p, SyntaxKind::PATH_TYPE)?;
     if allow_bounds {
-        opt_type_bounds_as_dyn_trait_type(p, g, path)?;
+        opt_type_bounds_as_dyn_trait_type(p, g, path, SyntaxKind::PATH_TYPE)?;
         return Ok(());
     }
     Ok(())
@@ -495,28 +495,29 @@ pub fn path_type_bounds<G: Grammar>(
 {
     let path = path_type(p, g)?;
     if allow_bounds {
-        opt_type_bounds_as_dyn_trait_type(p, g, path)?;
+        opt_type_bounds_as_dyn_trait_type(p, g, path, SyntaxKind::PATH_TYPE)?;
         return Ok(());
     }
     Ok(())
 }
 
-/// The bounds after a type, as `+ b` after `a`, if there are: all is one type of trait objects, and the type before them
-/// its first bound. A macro call has no bounds after it.
+/// The bounds after a type of this kind, as `+ b` after `a`, if there are: all is one type of trait objects, and the type
+/// before them its first bound. A macro call has no bounds after it.
 #[inline(never)]
 pub(crate) fn opt_type_bounds_as_dyn_trait_type<G: Grammar>(
     p: &mut Parser<'_>,
     g: &G,
     lhs: CompletedMarker,
+    kind: SyntaxKind,
 ) -> Result<CompletedMarker, NoMemory>
     requires behind { Behind G.valid G.left g.now (state p.old) }
-    requires last { IsLast (state p.old) lhs lhs.kind }
+    requires last { IsLast (state p.old) lhs kind }
     ensures grew { OnOk result (Grew (state p.old) (state p.new) 16) }
-    ensures last { IfOk result (λ cm. IsLast (state p.new) cm cm.kind) }
+    ensures last { IfOk result (λ cm. IsLast (state p.new) cm cm.kind.value) }
     ensures one { OnOk result (but_last (state p.new).forest ≡ but_last (state p.old).forest) }
-    ensures script { OnOk result (Follows (script.opt_type_bounds_as_dyn_trait_type lhs.kind) something (state p.old) (state p.new)) }
+    ensures script { OnOk result (Follows (script.opt_type_bounds_as_dyn_trait_type kind) something (state p.old) (state p.new)) }
 {
-    if lhs.kind() == SyntaxKind::MACRO_TYPE || !p.at(T![+]) {
+    if kind == SyntaxKind::MACRO_TYPE || !p.at(T![+]) {
         return Ok(lhs);
     }
     let m = lhs.precede(p)?;

@@ -1,5 +1,6 @@
 //! Entry points by their names.
-ghost use Rattle.rast_print.specs.EntryName.{IsNamed};
+ghost use Rattle.std.specs.Prelude.{◌≡◌};
+ghost use Rattle.rast_print.specs.EntryName.{IsNamed, name_of_entry};
 
 use ra_ap_parser::TopEntryPoint;
 use std::str::FromStr;
@@ -32,6 +33,21 @@ impl FromStr for Entry {
     }
 }
 
+/// An entry point's name.
+pub fn entry_name(entry: TopEntryPoint) -> &'static str
+    ensures { result.now ≡ name_of_entry entry }
+{
+    match entry {
+        TopEntryPoint::SourceFile => "SourceFile",
+        TopEntryPoint::MacroStmts => "MacroStmts",
+        TopEntryPoint::MacroItems => "MacroItems",
+        TopEntryPoint::Pattern => "Pattern",
+        TopEntryPoint::Ty => "Type",
+        TopEntryPoint::Expr => "Expr",
+        TopEntryPoint::MetaItem => "MetaItem",
+    }
+}
+
 #[cfg(test)]
 mod tests {
     use super::*;
@@ -48,7 +64,8 @@ mod tests {
             "Expr",
             "MetaItem",
         ] {
-            assert!(rt; name.parse::<Entry>().is_ok(), "{name}");
+            let Entry(entry) = name.parse::<Entry>()?;
+            assert_eq!(rt; entry_name(entry), name);
         }
         assert!(rt; "Ty".parse::<Entry>().is_err());
         assert!(rt; "expr".parse::<Entry>().is_err());

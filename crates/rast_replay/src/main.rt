@@ -6,6 +6,7 @@ mod hash;
 mod replay;
 mod row;
 mod unquote;
+mod way;
 
 use rast_common::fault::{FAULT, fail};
 use replay::run;

@@ -1,18 +1,70 @@
 //! Rows: a text with the hash of what is printed of it, a line each.
 //!
-//! `EDITION ENTRY HASH TEXT`: the year, the name of the entry point, the hash in sixteen hexadecimal digits, and the text
-//! in quotes.
+//! `EDITION WAY HASH TEXT`: the year, how the text is read, the hash in sixteen hexadecimal digits, and the text in quotes.
 ghost use Rattle.std.specs.Prelude.{◌≡◌, IfOk, IfSome, string_bytes};
 ghost use Rattle.rast_replay.specs.Row.{IsRow, row_line};
+ghost use Rattle.rast_replay.specs.Way.{IsHash, name_of_way};
 
 use crate::hash::{BASIS, fnv1a};
 use crate::unquote::unquoted;
-use ra_ap_parser::{Edition, NoMemory, TextFault};
+use crate::way::{Way, push_way, read_way};
+use ra_ap_parser::{Edition, NoMemory, TextFault, TopEntryPoint};
 use rast_common::quote::push_quoted;
-use rast_print::entry::Entry;
+use rast_print::asked::Asked;
+use rast_print::listing::{ListFault, list};
 use rast_print::print_text::print_text;
 use std::alloc::{AllocError, Global};
 use std::fmt::Write as _;
+
+/// The hash of the lines of the text's tree and messages.
+fn tree_hash(
+    alloc: Global,
+    edition: Edition,
+    entry: TopEntryPoint,
+    text: &str,
+) -> Result<u64, TextFault<NoMemory>>
+    ensures { IfOk result (IsHash text.now edition (Way.Tree entry)) }
+{
+    let printer = print_text(alloc, edition, entry, text)?;
+    let tree = fnv1a(BASIS, printer.tree.as_bytes());
+    Ok(fnv1a(tree, printer.messages.as_bytes()))
+}
+
+/// The hash of what is listed of the text. None where nothing is, since a brace is missing.
+fn list_hash(
+    alloc: Global,
+    edition: Edition,
+    asked: Asked,
+    text: &str,
+) -> Result<Option<u64>, TextFault<NoMemory>>
+    ensures { IfOk result (λ o. IfSome o (IsHash text.now edition (Way.List asked))) }
+{
+    match list(alloc, edition, asked, text) {
+        Ok(lines) => Ok(Some(fnv1a(BASIS, lines.as_bytes()))),
+        Err(ListFault::NoBrace) => Ok(None),
+        Err(ListFault::TextTooLong) => Err(TextFault::TextTooLong),
+        Err(ListFault::TooManyTokens) => Err(TextFault::TooManyTokens),
+        Err(ListFault::NoMemory) => Err(TextFault::NoMemory),
+    }
+}
+
+/// The hash of what is printed of the text that is read so. None where nothing is.
+fn hash_of(
+    alloc: Global,
+    edition: Edition,
+    way: Way,
+    text: &str,
+) -> Result<Option<u64>, TextFault<NoMemory>>
+    ensures { IfOk result (λ o. IfSome o (IsHash text.now edition way)) }
+{
+    match way {
+        Way::Tree(entry) => {
+            let hash = tree_hash(alloc, edition, entry, text)?;
+            Ok(Some(hash))
+        }
+        Way::List(asked) => list_hash(alloc, edition, asked, text),
+    }
+}
 
 /// The row of the line's text as this library reads it. None where the line is no row.
 pub fn row_of(alloc: Global, line: &str) -> Result<Option<String>, TextFault<NoMemory>>
@@ -30,7 +82,7 @@ pub fn row_of(alloc: Global, line: &str) -> Result<Option<String>, TextFault<NoM
     let Ok(edition) = year.parse::<Edition>() else {
         return Ok(None);
     };
-    let Ok(Entry(entry)) = name.parse::<Entry>() else {
+    let Some(way) = read_way(name) else {
         return Ok(None);
     };
     let Ok(text) = unquoted(alloc, quoted) else {
@@ -39,29 +91,23 @@ pub fn row_of(alloc: Global, line: &str) -> Result<Option<String>, TextFault<NoM
     let Some(text) = text else {
         return Ok(None);
     };
-    let printer = print_text(alloc, edition, entry, text.as_str())?;
-    let hash = fnv1a(
-        fnv1a(BASIS, printer.tree.as_bytes()),
-        printer.messages.as_bytes(),
-    );
-    match written(alloc, year, name, hash, text.as_str()) {
+    let Some(hash) = hash_of(alloc, edition, way, text.as_str())? else {
+        return Ok(None);
+    };
+    match written(alloc, year, way, hash, text.as_str()) {
         Ok(row) => Ok(Some(row)),
         Err(_) => Err(TextFault::NoMemory),
     }
 }
 
 /// The row in writing.
-fn written(
-    alloc: Global,
-    year: &str,
-    name: &str,
-    hash: u64,
-    text: &str,
-) -> Result<String, AllocError>
-    ensures { IfOk result (λ row. string_bytes row ≡ row_line year.now name.now hash text.now) }
+fn written(alloc: Global, year: &str, way: Way, hash: u64, text: &str) -> Result<String, AllocError>
+    ensures { IfOk result (λ row. string_bytes row ≡ row_line year.now (name_of_way way) hash text.now) }
 {
     let mut row = String::new(alloc);
-    write!(row, "{year} {name} {hash:016x} ")?;
+    write!(row, "{year} ")?;
+    push_way(&mut row, way)?;
+    write!(row, " {hash:016x} ")?;
     push_quoted(&mut row, text)?;
     Ok(row)
 }

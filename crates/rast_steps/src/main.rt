@@ -2,12 +2,11 @@
 //! `--reparse NODE FIRST PARENT EDITION FILE` print what the parser gives before the trivia are put back.
 #![tactic(auto)]
 
-mod asked;
-mod listing;
+mod request;
 mod run;
 
-use asked::read_request;
 use rast_common::fault::{FAULT, fail};
+use request::read_request;
 use run::run;
 use std::fs;
 use std::process::ExitCode;

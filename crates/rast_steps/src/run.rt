@@ -1,13 +1,13 @@
 //! All that the program does once its file is read.
 ghost use Rattle.std.specs.Prelude.{◌≡◌, ◌⊎◌, IfErr, IfOk, OnOk, string_bytes};
 ghost use Rattle.std.specs.Io.KnownBytes.{Appends};
-ghost use Rattle.rast_steps.specs.Page.{Comes, IfStops, Lists, Shows};
+ghost use Rattle.rast_steps.specs.Page.{IfStops, Shows};
 ghost use Rattle.rast_steps.specs.Words.{fault_line};
 
-use crate::asked::Asked;
-use crate::listing::{ListFault, list};
 use ra_ap_parser::Edition;
 use rast_common::fault::report;
+use rast_print::asked::Asked;
+use rast_print::listing::{ListFault, list};
 use std::alloc::Global;
 use std::io;
 

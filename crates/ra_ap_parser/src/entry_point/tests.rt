@@ -1,6 +1,7 @@
-//! What stands at the front of texts, with its steps as the Rust crate gives them.
-use super::PrefixEntryPoint;
-use crate::fronts::fronts;
+//! What stands at the front of texts, with its steps as the Rust crate gives them, and what is made of it where the whole
+//! text is read.
+use super::{PrefixEntryPoint, TopEntryPoint};
+use crate::fronts::{fronts, tops};
 use rap_base::edition::Edition;
 use rap_base::syntax_kind::SyntaxKind;
 use rap_events::input::Input;
@@ -379,6 +380,97 @@ fn meta_items(rt: HostRuntime) -> Result<(), Fail> {
             KEY_VALUE_META(<expected identifier, `self`, `super`, `crate`, or `Self`> EQ LITERAL(INT_NUMBER))
         «»»
             PATH_META(PATH(PATH_SEGMENT(ERROR(<expected identifier, `self`, `super`, `crate`, or `Self`>))))
+"#,
+    )
+}
+
+#[test]
+fn top_patterns(rt: HostRuntime) -> Result<(), Fail> {
+    tops(
+        &rt,
+        rt.alloc(),
+        TopEntryPoint::Pattern,
+        PrefixEntryPoint::PatTop,
+        r#"
+        «a | b»OR_PAT
+        «| a | 1»OR_PAT
+        «Some(ref x @ 1..=2)»TUPLE_STRUCT_PAT
+        «[a, .., b]»SLICE_PAT
+        «S { a: 1, .. }»RECORD_PAT
+        «m!(a)»MACRO_PAT
+        «a, b»ERROR
+        «x if y»ERROR
+        «1.. ..»ERROR
+        «)»ERROR
+        «»ERROR
+"#,
+    )
+}
+
+#[test]
+fn top_types(rt: HostRuntime) -> Result<(), Fail> {
+    tops(
+        &rt,
+        rt.alloc(),
+        TopEntryPoint::Ty,
+        PrefixEntryPoint::Ty,
+        r#"
+        «&'a mut [u8; 4]»REF_TYPE
+        «a::b<c>::d»PATH_TYPE
+        «fn(u8) -> u8»FN_PTR_TYPE
+        «dyn A + B»DYN_TRAIT_TYPE
+        «impl Fn(u8)»IMPL_TRAIT_TYPE
+        «for<'a> fn(&'a u8)»FOR_TYPE
+        «unsafe»ERROR
+        «u8 u16»ERROR
+        «(u8,) = 1»ERROR
+        «»ERROR
+"#,
+    )
+}
+
+#[test]
+fn top_expressions(rt: HostRuntime) -> Result<(), Fail> {
+    tops(
+        &rt,
+        rt.alloc(),
+        TopEntryPoint::Expr,
+        PrefixEntryPoint::Expr,
+        r#"
+        «a + b * c»BIN_EXPR
+        «x.0.1»FIELD_EXPR
+        «#[a] b»PATH_EXPR
+        «1 +»BIN_EXPR
+        «|x| x»CLOSURE_EXPR
+        «..»RANGE_EXPR
+        «x.1. y»FIELD_EXPR
+        «#[a]»ERROR
+        «a; b»ERROR
+        «{} {}»ERROR
+        «)»ERROR
+        «»ERROR
+"#,
+    )
+}
+
+#[test]
+fn top_meta_items(rt: HostRuntime) -> Result<(), Fail> {
+    tops(
+        &rt,
+        rt.alloc(),
+        TopEntryPoint::MetaItem,
+        PrefixEntryPoint::MetaItem,
+        r#"
+        «doc = "x"»KEY_VALUE_META
+        «a::b(c [d] e)»TOKEN_TREE_META
+        «unsafe(a)»UNSAFE_META
+        «cfg(any(a, b = "c"))»CFG_META
+        «unsafe(a»UNSAFE_META
+        «= 1»KEY_VALUE_META
+        «a, b»ERROR
+        «a(b) c»ERROR
+        «a = 1; b»ERROR
+        «»PATH_META
 "#,
     )
 }

@@ -171,7 +171,7 @@ fn path_expr<G: Grammar>(
 ) -> Result<(CompletedMarker, BlockLike), NoMemory>
     requires within { Within G.valid G.left g.now (state p.old) }
     requires path { starts_path (state p.old).rest ≡ true }
-    ensures made { IfOk result (λ e. Made (state p.old) (state p.new) e.0 atom_room × (is_plain e.0.kind ≡ true)) }
+    ensures made { IfOk result (λ e. Made (state p.old) (state p.new) e.0 atom_room × (is_plain e.0.kind.value ≡ true)) }
     ensures script { IfOk result (λ e. Follows (script.path_expr r) (of_like e.1) (state p.old) (state p.new)) }
 {
     let m = p.start()?;
@@ -197,7 +197,7 @@ fn path_expr<G: Grammar>(
 fn tuple_expr<G: Grammar>(p: &mut Parser<'_>, g: &G) -> Result<CompletedMarker, NoMemory>
     requires within { Within G.valid G.left g.now (state p.old) }
     requires here { next (state p.old) ≡ L_PAREN }
-    ensures made { IfOk result (λ cm. Made (state p.old) (state p.new) cm atom_room × ((cm.kind ≡ PAREN_EXPR) ⊎ (cm.kind ≡ TUPLE_EXPR))) }
+    ensures made { IfOk result (λ cm. Made (state p.old) (state p.new) cm atom_room × ((cm.kind.value ≡ PAREN_EXPR) ⊎ (cm.kind.value ≡ TUPLE_EXPR))) }
     ensures script { OnOk result (Follows script.tuple_expr something (state p.old) (state p.new)) }
 {
     let m = p.start()?;

@@ -58,9 +58,9 @@ fn other_builtin<G: Grammar>(
     m: Marker,
 ) -> Result<Option<CompletedMarker>, NoMemory>
     requires behind { Behind G.valid G.left g.now (state p.old) }
-    requires newest { (state p.old).marker ≡ Some m.pos }
-    ensures closes { IfOk result (λ o. IfSome o (λ cm. Closes cm.kind 16 (state p.old) (state p.new) cm)) }
-    ensures plain { IfOk result (λ o. IfSome o (λ cm. is_plain cm.kind ≡ true)) }
+    requires newest { (state p.old).marker ≡ Some m.pos.value }
+    ensures closes { IfOk result (λ o. IfSome o (λ cm. Closes cm.kind.value 16 (state p.old) (state p.new) cm)) }
+    ensures plain { IfOk result (λ o. IfSome o (λ cm. is_plain cm.kind.value ≡ true)) }
     ensures gone { IfOk result (λ o. o ≡ None → Gone (state p.old) (state p.new) 2) }
     ensures reported { IfOk result (λ o. o ≡ None → (state p.old).messages < (state p.new).messages) }
     ensures script { IfOk result (λ o. Follows script.other_builtin (of_option o) (state p.old) (state p.new)) }

@@ -92,9 +92,9 @@ pub(super) fn loop_expr<G: Grammar>(p: &mut Parser<'_>, g: &G) -> Result<Complet
 /// The same from the newest marker on.
 fn loop_from<G: Grammar>(p: &mut Parser<'_>, g: &G, m: Marker) -> Result<CompletedMarker, NoMemory>
     requires within { Within G.valid G.left g.now (state p.old) }
-    requires newest { (state p.old).marker ≡ Some m.pos }
+    requires newest { (state p.old).marker ≡ Some m.pos.value }
     requires here { next (state p.old) ≡ LOOP_KW }
-    ensures closed { IfOk result (λ cm. Closed (state p.old) (state p.new) cm list_room × (cm.kind ≡ LOOP_EXPR)) }
+    ensures closed { IfOk result (λ cm. Closed (state p.old) (state p.new) cm list_room × (cm.kind.value ≡ LOOP_EXPR)) }
     ensures script { OnOk result (Follows script.loop_from something (state p.old) (state p.new)) }
 {
     p.bump(T![loop])?;
@@ -119,9 +119,9 @@ pub(super) fn while_expr<G: Grammar>(p: &mut Parser<'_>, g: &G) -> Result<Comple
 /// The same from the newest marker on.
 fn while_from<G: Grammar>(p: &mut Parser<'_>, g: &G, m: Marker) -> Result<CompletedMarker, NoMemory>
     requires within { Within G.valid G.left g.now (state p.old) }
-    requires newest { (state p.old).marker ≡ Some m.pos }
+    requires newest { (state p.old).marker ≡ Some m.pos.value }
     requires here { next (state p.old) ≡ WHILE_KW }
-    ensures closed { IfOk result (λ cm. Closed (state p.old) (state p.new) cm list_room × (cm.kind ≡ WHILE_EXPR)) }
+    ensures closed { IfOk result (λ cm. Closed (state p.old) (state p.new) cm list_room × (cm.kind.value ≡ WHILE_EXPR)) }
     ensures script { OnOk result (Follows script.while_from something (state p.old) (state p.new)) }
 {
     p.bump(T![while])?;
@@ -147,9 +147,9 @@ pub(super) fn for_expr<G: Grammar>(p: &mut Parser<'_>, g: &G) -> Result<Complete
 /// The same from the newest marker on.
 fn for_from<G: Grammar>(p: &mut Parser<'_>, g: &G, m: Marker) -> Result<CompletedMarker, NoMemory>
     requires within { Within G.valid G.left g.now (state p.old) }
-    requires newest { (state p.old).marker ≡ Some m.pos }
+    requires newest { (state p.old).marker ≡ Some m.pos.value }
     requires here { next (state p.old) ≡ FOR_KW }
-    ensures closed { IfOk result (λ cm. Closed (state p.old) (state p.new) cm list_room × (cm.kind ≡ FOR_EXPR)) }
+    ensures closed { IfOk result (λ cm. Closed (state p.old) (state p.new) cm list_room × (cm.kind.value ≡ FOR_EXPR)) }
     ensures script { OnOk result (Follows script.for_from something (state p.old) (state p.new)) }
 {
     p.bump(T![for])?;
@@ -193,7 +193,7 @@ fn label(p: &mut Parser<'_>) -> Result<(), NoMemory>
 /// What the label is of, from the newest marker on.
 fn labelled_from<G: Grammar>(p: &mut Parser<'_>, g: &G, m: Marker) -> Result<Answer, NoMemory>
     requires within { Within G.valid G.left g.now (state p.old) }
-    requires newest { (state p.old).marker ≡ Some m.pos }
+    requires newest { (state p.old).marker ≡ Some m.pos.value }
     ensures operand { IfOk result (OperandFrom 2 (state p.old) (state p.new)) }
     ensures script { IfOk result (λ e. Follows script.labelled_from (of_expr e) (state p.old) (state p.new)) }
 {

@@ -88,13 +88,13 @@ pub(crate) fn climb<G: Grammar>(
     bp: u8,
 ) -> Result<CompletedMarker, NoMemory>
     requires within { Within G.valid G.left g.now (state p.old) }
-    requires last { IsLast (state p.old) lhs lhs.kind }
-    requires plain { is_plain lhs.kind ≡ true }
+    requires last { IsLast (state p.old) lhs lhs.kind.value }
+    requires plain { is_plain lhs.kind.value ≡ true }
     requires power { 1 ≤ bp }
     ensures grew { OnOk result (Grew (state p.old) (state p.new) 0) }
-    ensures last { IfOk result (λ cm. IsLast (state p.new) cm cm.kind) }
+    ensures last { IfOk result (λ cm. IsLast (state p.new) cm cm.kind.value) }
     ensures one { OnOk result (but_last (state p.new).forest ≡ but_last (state p.old).forest) }
-    ensures climbed { IfOk result (λ cm. Climbed (state p.new) cm.kind bp false) }
+    ensures climbed { IfOk result (λ cm. Climbed (state p.new) cm.kind.value bp false) }
     ensures script { OnOk result (Follows (script.climb r bp) something (state p.old) (state p.new)) }
 {
     'operators: loop {
@@ -130,14 +130,14 @@ fn bin_expr<G: Grammar>(
     associativity: Associativity,
 ) -> Result<CompletedMarker, NoMemory>
     requires within { Within G.valid G.left g.now (state p.old) }
-    requires last { IsLast (state p.old) lhs lhs.kind }
+    requires last { IsLast (state p.old) lhs lhs.kind.value }
     requires here { At (state p.old) op }
     requires power { bp ≡ power op }
     requires positive { 0 < bp }
     requires no_range { bp ≢ 2 }
     requires no_cast { bp < 12 }
     requires right { (associativity ≡ Associativity.Right) ↔ (bp ≡ 1) }
-    requires left_side { (state p.old).messages ≡ 0 → LeftFits lhs.kind (last_children (state p.old).forest) bp }
+    requires left_side { (state p.old).messages ≡ 0 → LeftFits lhs.kind.value (last_children (state p.old).forest) bp }
     ensures wraps { IfOk result (Wraps BIN_EXPR operand_room (state p.old) (state p.new)) }
     ensures bound { OnOk result ((state p.new).messages ≡ 0 → Bound (state p.new) bp) }
     ensures script { OnOk result (Follows (script.bin_expr r op) something (state p.old) (state p.new)) }
@@ -161,7 +161,7 @@ fn cast_expr<G: Grammar>(
     lhs: CompletedMarker,
 ) -> Result<CompletedMarker, NoMemory>
     requires within { Within G.valid G.left g.now (state p.old) }
-    requires last { IsLast (state p.old) lhs lhs.kind }
+    requires last { IsLast (state p.old) lhs lhs.kind.value }
     requires here { At (state p.old) AS_KW }
     ensures wraps { IfOk result (Wraps CAST_EXPR operand_room (state p.old) (state p.new)) }
     ensures script { OnOk result (Follows script.cast_expr something (state p.old) (state p.new)) }

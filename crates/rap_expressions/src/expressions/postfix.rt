@@ -36,11 +36,11 @@ pub(crate) fn postfix_expr<G: Grammar>(
     mut allow_calls: bool,
 ) -> Result<(CompletedMarker, BlockLike), NoMemory>
     requires within { Within G.valid G.left g.now (state p.old) }
-    requires last { IsLast (state p.old) lhs lhs.kind }
-    requires plain { is_plain lhs.kind ≡ true }
+    requires last { IsLast (state p.old) lhs lhs.kind.value }
+    requires plain { is_plain lhs.kind.value ≡ true }
     ensures grew { OnOk result (Grew (state p.old) (state p.new) 0) }
-    ensures last { IfOk result (λ e. IsLast (state p.new) e.0 e.0.kind) }
-    ensures plain { IfOk result (λ e. is_plain e.0.kind ≡ true) }
+    ensures last { IfOk result (λ e. IsLast (state p.new) e.0 e.0.kind.value) }
+    ensures plain { IfOk result (λ e. is_plain e.0.kind.value ≡ true) }
     ensures one { OnOk result (but_last (state p.new).forest ≡ but_last (state p.old).forest) }
     ensures script { IfOk result (λ e. Follows (script.postfix_expr allow_calls (is_block (of_like block_like))) (of_like e.1) (state p.old) (state p.new)) }
 {
@@ -70,9 +70,9 @@ fn postfix_dot_expr<G: Grammar>(
     lhs: CompletedMarker,
 ) -> Result<(CompletedMarker, bool), NoMemory>
     requires within { Within G.valid G.left g.now (state p.old) }
-    requires last { IsLast (state p.old) lhs lhs.kind }
+    requires last { IsLast (state p.old) lhs lhs.kind.value }
     requires here { next (state p.old) ≡ DOT }
-    ensures wraps { IfOk result (λ e. Wraps e.0.kind operand_room (state p.old) (state p.new) e.0 × (is_plain e.0.kind ≡ true)) }
+    ensures wraps { IfOk result (λ e. Wraps e.0.kind.value operand_room (state p.old) (state p.new) e.0 × (is_plain e.0.kind.value ≡ true)) }
     ensures script { IfOk result (λ e. Follows script.postfix_dot_expr (of_bool e.1) (state p.old) (state p.new)) }
 {
     let m = lhs.precede(p)?;
@@ -91,8 +91,8 @@ fn after_dot<G: Grammar>(
     mut m: Marker,
 ) -> Result<(CompletedMarker, bool), NoMemory>
     requires behind { Behind G.valid G.left g.now (state p.old) }
-    requires newest { (state p.old).marker ≡ Some m.pos }
-    ensures closes { IfOk result (λ e. Closes e.0.kind 3 (state p.old) (state p.new) e.0 × (is_plain e.0.kind ≡ true)) }
+    requires newest { (state p.old).marker ≡ Some m.pos.value }
+    ensures closes { IfOk result (λ e. Closes e.0.kind.value 3 (state p.old) (state p.new) e.0 × (is_plain e.0.kind.value ≡ true)) }
     ensures script { IfOk result (λ e. Follows script.after_dot (of_bool e.1) (state p.old) (state p.new)) }
 {
     'fields: loop {
@@ -118,8 +118,8 @@ fn name_after_dot<G: Grammar>(
     m: Marker,
 ) -> Result<CompletedMarker, NoMemory>
     requires behind { Behind G.valid G.left g.now (state p.old) }
-    requires newest { (state p.old).marker ≡ Some m.pos }
-    ensures closes { IfOk result (λ cm. Closes cm.kind 3 (state p.old) (state p.new) cm × (is_plain cm.kind ≡ true)) }
+    requires newest { (state p.old).marker ≡ Some m.pos.value }
+    ensures closes { IfOk result (λ cm. Closes cm.kind.value 3 (state p.old) (state p.new) cm × (is_plain cm.kind.value ≡ true)) }
     ensures script { OnOk result (Follows script.name_after_dot something (state p.old) (state p.new)) }
 {
     if is_method_call(p) {
@@ -152,7 +152,7 @@ fn call_expr<G: Grammar>(
     lhs: CompletedMarker,
 ) -> Result<CompletedMarker, NoMemory>
     requires within { Within G.valid G.left g.now (state p.old) }
-    requires last { IsLast (state p.old) lhs lhs.kind }
+    requires last { IsLast (state p.old) lhs lhs.kind.value }
     requires here { next (state p.old) ≡ L_PAREN }
     ensures wraps { IfOk result (Wraps CALL_EXPR operand_room (state p.old) (state p.new)) }
     ensures script { OnOk result (Follows script.call_expr something (state p.old) (state p.new)) }
@@ -170,7 +170,7 @@ fn index_expr<G: Grammar>(
     lhs: CompletedMarker,
 ) -> Result<CompletedMarker, NoMemory>
     requires within { Within G.valid G.left g.now (state p.old) }
-    requires last { IsLast (state p.old) lhs lhs.kind }
+    requires last { IsLast (state p.old) lhs lhs.kind.value }
     requires here { next (state p.old) ≡ L_BRACK }
     ensures wraps { IfOk result (Wraps INDEX_EXPR operand_room (state p.old) (state p.new)) }
     ensures script { OnOk result (Follows script.index_expr something (state p.old) (state p.new)) }
@@ -190,7 +190,7 @@ fn method_call_expr<G: Grammar>(
     m: Marker,
 ) -> Result<CompletedMarker, NoMemory>
     requires behind { Behind G.valid G.left g.now (state p.old) }
-    requires newest { (state p.old).marker ≡ Some m.pos }
+    requires newest { (state p.old).marker ≡ Some m.pos.value }
     ensures closes { IfOk result (Closes METHOD_CALL_EXPR 3 (state p.old) (state p.new)) }
     ensures script { OnOk result (Follows script.method_call_expr something (state p.old) (state p.new)) }
 {
@@ -210,7 +210,7 @@ fn method_arguments<G: Grammar>(
     m: Marker,
 ) -> Result<CompletedMarker, NoMemory>
     requires behind { Behind G.valid G.left g.now (state p.old) }
-    requires newest { (state p.old).marker ≡ Some m.pos }
+    requires newest { (state p.old).marker ≡ Some m.pos.value }
     ensures closes { IfOk result (Closes METHOD_CALL_EXPR 2 (state p.old) (state p.new)) }
     ensures script { OnOk result (Follows script.method_arguments something (state p.old) (state p.new)) }
 {
@@ -226,7 +226,7 @@ fn method_arguments<G: Grammar>(
 
 /// The wait for a future behind the dot, `await` after `a.`.
 fn await_expr(p: &mut Parser<'_>, m: Marker) -> Result<CompletedMarker, NoMemory>
-    requires newest { (state p.old).marker ≡ Some m.pos }
+    requires newest { (state p.old).marker ≡ Some m.pos.value }
     requires here { next (state p.old) ≡ AWAIT_KW }
     ensures closes { IfOk result (Closes AWAIT_EXPR 3 (state p.old) (state p.new)) }
     ensures script { OnOk result (Follows script.await_expr something (state p.old) (state p.new)) }
@@ -238,7 +238,7 @@ fn await_expr(p: &mut Parser<'_>, m: Marker) -> Result<CompletedMarker, NoMemory
 
 /// A field behind the dot, as `b` and `0` after `a.`.
 fn field_expr(p: &mut Parser<'_>, m: Marker) -> Result<CompletedMarker, NoMemory>
-    requires newest { (state p.old).marker ≡ Some m.pos }
+    requires newest { (state p.old).marker ≡ Some m.pos.value }
     ensures closes { IfOk result (Closes FIELD_EXPR 3 (state p.old) (state p.new)) }
     ensures script { OnOk result (Follows script.field_expr something (state p.old) (state p.new)) }
 {
@@ -253,7 +253,7 @@ fn field_expr(p: &mut Parser<'_>, m: Marker) -> Result<CompletedMarker, NoMemory
 
 /// A question mark, as `?` after `a`.
 fn try_expr(p: &mut Parser<'_>, lhs: CompletedMarker) -> Result<CompletedMarker, NoMemory>
-    requires last { IsLast (state p.old) lhs lhs.kind }
+    requires last { IsLast (state p.old) lhs lhs.kind.value }
     requires here { next (state p.old) ≡ QUESTION }
     ensures wraps { IfOk result (Wraps TRY_EXPR operand_room (state p.old) (state p.new)) }
     ensures script { OnOk result (Follows script.try_expr something (state p.old) (state p.new)) }

@@ -41,7 +41,7 @@ pub(crate) fn range_expr<G: Grammar>(
     op: SyntaxKind,
 ) -> Result<(CompletedMarker, bool), NoMemory>
     requires within { Within G.valid G.left g.now (state p.old) }
-    requires last { IsLast (state p.old) lhs lhs.kind }
+    requires last { IsLast (state p.old) lhs lhs.kind.value }
     requires here { At (state p.old) op }
     requires power { power op ≡ 2 }
     ensures wraps { IfOk result (λ range. Wraps RANGE_EXPR operand_room (state p.old) (state p.new) range.0) }

@@ -75,7 +75,7 @@ fn is_field_name(kind: SyntaxKind) -> bool
 /// A field from its marker on, or the base of a record, as `..c`.
 fn marked_field<G: Grammar>(p: &mut Parser<'_>, g: &G, m: Marker) -> Result<(), NoMemory>
     requires behind { Behind G.valid G.left g.now (state p.old) }
-    requires newest { (state p.old).marker ≡ Some m.pos }
+    requires newest { (state p.old).marker ≡ Some m.pos.value }
     ensures gone { OnOk result (Gone (state p.old) (state p.new) 4) }
     ensures spent { OnOk result (next (state p.old) ≢ EOF → Spent (state p.old) (state p.new) marked_field_room) }
     ensures script { OnOk result (Follows script.marked_field something (state p.old) (state p.new)) }
@@ -103,7 +103,7 @@ fn marked_field<G: Grammar>(p: &mut Parser<'_>, g: &G, m: Marker) -> Result<(), 
 /// A field that begins with a name, from its marker on, as `a: b`, `a` and `0: b`.
 fn named_field<G: Grammar>(p: &mut Parser<'_>, g: &G, m: Marker) -> Result<(), NoMemory>
     requires behind { Behind G.valid G.left g.now (state p.old) }
-    requires newest { (state p.old).marker ≡ Some m.pos }
+    requires newest { (state p.old).marker ≡ Some m.pos.value }
     requires name { is_field_name (next (state p.old)) ≡ true }
     ensures gone { OnOk result (Gone (state p.old) (state p.new) 0) }
     ensures spent { OnOk result (Spent (state p.old) (state p.new) marked_field_room) }
@@ -128,7 +128,7 @@ fn named_field<G: Grammar>(p: &mut Parser<'_>, g: &G, m: Marker) -> Result<(), N
 /// The base of a record whose dots are missing, as `a::b()`.
 fn base_without_dots<G: Grammar>(p: &mut Parser<'_>, g: &G, m: Marker) -> Result<(), NoMemory>
     requires behind { Behind G.valid G.left g.now (state p.old) }
-    requires newest { (state p.old).marker ≡ Some m.pos }
+    requires newest { (state p.old).marker ≡ Some m.pos.value }
     requires name { is_field_name (next (state p.old)) ≡ true }
     ensures gone { OnOk result (Gone (state p.old) (state p.new) 0) }
     ensures spent { OnOk result (Spent (state p.old) (state p.new) marked_field_room) }

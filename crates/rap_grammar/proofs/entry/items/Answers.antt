@@ -13,6 +13,13 @@ items-preserved c = record {
   script = turn c.items.invariant.script (fails (search rules) (fails (and_false _) (by_part (any_item false true) c.in_ok-run.ensures.1 gives)));
 }
 
+pub items-preserved-in_ok-run : goal.items-preserved-in_ok-run
+unfolding script_of
+items-preserved-in_ok-run c = record {
+  grew = search rules;
+  script = turn c.items.invariant.script (fails (search rules) (fails (and_false _) (by_part (any_item false true) c.in_ok-run.ensures.1 gives)));
+}
+
 pub returns-clause-rest : goal.returns-clause-rest
 returns-clause-rest c = c.current.ensures.end (search rules)
 

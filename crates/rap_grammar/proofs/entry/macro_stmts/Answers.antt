@@ -14,6 +14,13 @@ statements-preserved c = record {
   script = turn c.statements.invariant.script (fails (search rules) (by_part (statement semicolon.Optional) c.in_ok-run.ensures.1 gives));
 }
 
+pub statements-preserved-in_ok-run : goal.statements-preserved-in_ok-run
+unfolding script_of
+statements-preserved-in_ok-run c = record {
+  grew = search rules;
+  script = turn c.statements.invariant.script (fails (search rules) (by_part (statement semicolon.Optional) c.in_ok-run.ensures.1 gives));
+}
+
 pub returns-clause-rest : goal.returns-clause-rest
 returns-clause-rest c = c.current.ensures.end (search rules)
 

@@ -1,6 +1,5 @@
 use Rattle.std.proofs.Common.{rules}
 use Rattle.rap_rules.specs.Adt.{enum_}
-use Rattle.rap_rules.specs.Recovery.{is_item_recovery}
 use Rattle.rap_rules.specs.Script.{gives}
 use Rattle.rap_rules.proofs.Steps.{by_bump, by_complete, by_report, by_rule, else_by, then_by}
 use Rattle.rap_items.proofs.Ending.{ended}
@@ -10,7 +9,7 @@ pub returns-then-at-clause-script : goal.returns-then-at-clause-script
 unfolding enum_
 returns-then-at-clause-script g c = record {
   run = by_bump (search rules) c.in_ok-bump.ensures.state
-      (by_rule (c.in_ok-name_r.ensures.script is_item_recovery (search rules))
+      (by_rule c.in_ok-item_name.ensures.script
       (by_rule c.in_ok-opt_generic_param_list.ensures.script
       (by_rule c.in_ok-opt_where_clause.ensures.script
       (then_by c.at.ensures c.if-at.true
@@ -22,7 +21,7 @@ pub returns-clause-script : goal.returns-clause-script
 unfolding enum_
 returns-clause-script g c = record {
   run = by_bump (search rules) c.in_ok-bump.ensures.state
-      (by_rule (c.in_ok-name_r.ensures.script is_item_recovery (search rules))
+      (by_rule c.in_ok-item_name.ensures.script
       (by_rule c.in_ok-opt_generic_param_list.ensures.script
       (by_rule c.in_ok-opt_where_clause.ensures.script
       (else_by c.at.ensures c.if-at.false

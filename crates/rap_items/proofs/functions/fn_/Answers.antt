@@ -1,5 +1,4 @@
 use Rattle.std.proofs.Common.{rules}
-use Rattle.rap_rules.specs.Functions.{is_item_paren_recovery}
 use Rattle.rap_rules.specs.Functions.{fn_}
 use Rattle.rap_rules.specs.Script.{gives}
 use Rattle.rap_rules.proofs.Steps.{by_bump, by_rule, by_complete}
@@ -10,7 +9,7 @@ pub returns-clause-script : goal.returns-clause-script
 unfolding fn_
 returns-clause-script g c = record {
   run = by_bump (search rules) c.in_ok-bump.ensures.state
-      (by_rule (c.in_ok-name_r.ensures.script is_item_paren_recovery (search rules))
+      (by_rule c.in_ok-fn_name.ensures.script
       (by_rule c.in_ok-opt_generic_param_list.ensures.script
       (by_rule c.in_ok-signature.ensures.script
       (by_rule c.in_ok-fn_body.ensures.script

@@ -1,5 +1,4 @@
 use Rattle.std.proofs.Common.{rules}
-use Rattle.rap_rules.specs.Recovery.{is_item_recovery}
 use Rattle.rap_rules.specs.Macros.{macro_def}
 use Rattle.rap_rules.specs.Script.{gives}
 use Rattle.rap_rules.proofs.Steps.{by_bump, by_rule, by_complete}
@@ -10,7 +9,7 @@ pub returns-clause-script : goal.returns-clause-script
 unfolding macro_def
 returns-clause-script c = record {
   run = by_bump (search rules) c.in_ok-bump.ensures.state
-      (by_rule (c.in_ok-name_r.ensures.script is_item_recovery (search rules))
+      (by_rule c.in_ok-item_name.ensures.script
       (by_rule c.in_ok-macro_def_tokens.ensures.script
       (by_complete c.in_ok-complete.ensures.state.0 gives)));
 }

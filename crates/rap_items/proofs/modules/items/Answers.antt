@@ -16,6 +16,16 @@ items-preserved g c = record {
       (by_part (any_item c.args.stop_on_r_curly true) c.in_ok-run.ensures.1 gives)));
 }
 
+pub items-preserved-in_ok-run : goal.items-preserved-in_ok-run
+unfolding script_of
+items-preserved-in_ok-run g c = record {
+  grew = search rules;
+  script = turn c.items.invariant.script
+      (else_by c.at.ensures c.items-test.true
+      (else_by c.ends_items.ensures.here c.if-not-ends_items.true
+      (by_part (any_item c.args.stop_on_r_curly true) c.in_ok-run.ensures.1 gives)));
+}
+
 pub returns-else-not-ends_items-clause-script : goal.returns-else-not-ends_items-clause-script
 unfolding items
 returns-else-not-ends_items-clause-script g c = record {

@@ -17,6 +17,16 @@ statements-preserved g c = record {
       (by_part (statement semicolon.Required) c.in_ok-run.ensures.1 gives)));
 }
 
+pub statements-preserved-in_ok-run : goal.statements-preserved-in_ok-run
+unfolding script_of
+statements-preserved-in_ok-run g c = record {
+  grew = search rules;
+  script = turn c.statements.invariant.script
+      (else_by c.at.ensures c.statements-test.true
+      (else_by c.at-in-statements.ensures c.if-not-at.true
+      (by_part (statement semicolon.Required) c.in_ok-run.ensures.1 gives)));
+}
+
 pub returns-else-not-at-clause-script : goal.returns-else-not-at-clause-script
 unfolding statements
 returns-else-not-at-clause-script g c = record {

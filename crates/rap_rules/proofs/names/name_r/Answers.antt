@@ -1,16 +1,13 @@
-use Rattle.std.proofs.Common.{rules}
 use Rattle.rap_rules.specs.Grammar.{name_r}
 use Rattle.rap_rules.specs.Script.{gives}
-use Rattle.rap_rules.proofs.Steps.{by_bump, by_start, by_complete, by_recover, then_by, else_by}
+use Rattle.rap_rules.proofs.Steps.{by_recover, then_by, else_by, to_end}
 use Rattle.rap_rules.proofs.names.name_r.Goals as goal
 
 pub returns-then-at-clause-script : goal.returns-then-at-clause-script
 unfolding name_r
 returns-then-at-clause-script c = λ kept e. record {
   run = then_by c.at.ensures c.if-at.true
-      (by_start c.in_ok-m.ensures.state
-      (by_bump (search rules) c.in_ok-bump.ensures.state
-      (by_complete c.in_ok-complete.ensures.state.0 gives)));
+      (to_end c.in_ok-given_name.ensures.script);
 }
 
 pub returns-clause-script : goal.returns-clause-script

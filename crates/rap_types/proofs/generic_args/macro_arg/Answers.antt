@@ -23,5 +23,5 @@ returns-clause-script g c = record {
       (by_complete c.in_ok-call.ensures.state.0
       (by_precede c.in_ok-call.ensures.state.1 c.in_ok-m.ensures.state
       (by_complete c.in_ok-ty.ensures.state.0
-      (to_end (rw c.in_ok-ty.ensures.state.1.kind at c.in_ok-bounded_arg.ensures.script)))));
+      (to_end c.in_ok-bounded_arg.ensures.script))));
 }

@@ -22,5 +22,5 @@ returns-clause-script g c = record {
       (by_precede c.in_ok-path.ensures.last c.in_ok-m-2.ensures.state
       (else_by c.starts_macro_call.ensures.starts c.if-starts_macro_call.false
       (by_complete c.in_ok-ty.ensures.state.0
-      (to_end (rw c.in_ok-ty.ensures.state.1.kind at c.in_ok-bounded_arg.ensures.script)))))));
+      (to_end c.in_ok-bounded_arg.ensures.script))))));
 }

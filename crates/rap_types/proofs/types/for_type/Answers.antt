@@ -7,7 +7,7 @@ use Rattle.rap_types.proofs.types.for_type.Goals as goal
 pub returns-then-allow_bounds-clause-script : goal.returns-then-allow_bounds-clause-script
 unfolding for_type
 returns-then-allow_bounds-clause-script g c =
-    let bounds = rw c.in_ok-cm.ensures.state.1.kind at c.in_ok-opt_type_bounds_as_dyn_trait_type.ensures.script in
+    let bounds = c.in_ok-opt_type_bounds_as_dyn_trait_type.ensures.script in
     record {
       run = by_start c.in_ok-m.ensures.state
           (by_rule c.in_ok-for_binder.ensures.script

@@ -11,7 +11,7 @@ unfolding opt_type_bounds_as_dyn_trait_type
 returns-then-eq-clause-script g c = record {
   run = elim c.then-eq.branch [
     | then-eq-via-then-eq w ↦
-        let e : (c.args.lhs.kind == MACRO_TYPE) ≡ true = rw (← c.kind.ensures) (sym c.eq.ensures ∙ w.if-eq.true) in
+        let e : (c.args.kind == MACRO_TYPE) ≡ true = sym c.eq.ensures ∙ w.if-eq.true in
         fails (rw e refl) gives
     | then-eq-via-else-eq+then-not-at w ↦ fails (not_both (λ _. sym w.at.ensures ∙ w.if-not-at.true)) gives
   ];
@@ -20,7 +20,7 @@ returns-then-eq-clause-script g c = record {
 pub returns-clause-script : goal.returns-clause-script
 unfolding opt_type_bounds_as_dyn_trait_type
 returns-clause-script g c =
-    let e : (c.args.lhs.kind == MACRO_TYPE) ≡ false = rw (← c.kind.ensures) (sym c.eq.ensures ∙ c.if-eq.false) in
+    let e : (c.args.kind == MACRO_TYPE) ≡ false = sym c.eq.ensures ∙ c.if-eq.false in
     record {
       run = passes (both (rw e refl) (sym c.at.ensures ∙ c.if-not-at.false))
           (by_precede c.requires.last c.in_ok-m.ensures.state

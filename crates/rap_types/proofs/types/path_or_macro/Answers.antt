@@ -24,7 +24,7 @@ returns-then-allow_bounds-clause-script g c = record {
       (else_by c.starts_macro_call.ensures.starts c.if-starts_macro_call.false
       (by_abandon c.in_ok-abandon.ensures.state
       (by_complete c.in_ok-path.ensures.state.0 (rw c.if-allow_bounds.true
-      (to_end (rw c.in_ok-path.ensures.state.1.kind at c.in_ok-opt_type_bounds_as_dyn_trait_type.ensures.script))))))));
+      (to_end c.in_ok-opt_type_bounds_as_dyn_trait_type.ensures.script)))))));
 }
 
 pub returns-clause-script : goal.returns-clause-script

@@ -7,7 +7,7 @@ pub returns-then-allow_bounds-clause-script : goal.returns-then-allow_bounds-cla
 unfolding path_type_bounds
 returns-then-allow_bounds-clause-script g c = record {
   run = by_rule c.in_ok-path.ensures.script (rw c.if-allow_bounds.true
-      (to_end (rw c.in_ok-path.ensures.made.kind at c.in_ok-opt_type_bounds_as_dyn_trait_type.ensures.script)));
+      (to_end c.in_ok-opt_type_bounds_as_dyn_trait_type.ensures.script));
 }
 
 pub returns-clause-script : goal.returns-clause-script

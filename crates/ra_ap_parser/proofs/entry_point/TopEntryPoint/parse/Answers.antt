@@ -1,4 +1,4 @@
-use Rattle.ra_ap_parser.proofs.EntryTrees.{core_tree, call_tree, front_kept, one_entry_output}
+use Rattle.ra_ap_parser.proofs.EntryTrees.{core_tree, call_tree, front_kept, one_entry_output, prefix_wrapped}
 use Rattle.ra_ap_parser.proofs.entry_point.TopEntryPoint.parse.Goals as goal
 
 pub returns-in-Ok-clause-only : goal.returns-in-Ok-clause-only
@@ -12,3 +12,6 @@ returns-in-Ok-clause-macro_call c = λ tree d. call_tree c.args.self.now _ c.in-
 
 pub returns-in-Ok-clause-front : goal.returns-in-Ok-clause-front
 returns-in-Ok-clause-front c = front_kept c.args.self.now _ _ c.in-Ok.ensures.script
+
+pub returns-in-Ok-clause-wraps : goal.returns-in-Ok-clause-wraps
+returns-in-Ok-clause-wraps c = prefix_wrapped c.args.self.now _ _ c.in-Ok.ensures.script

@@ -1,4 +1,4 @@
-use Rattle.std.proofs.Common.{◌≡◌, ◌+◌, List, [], ◌∷◌, ◌++◌, length, length-append, map, ap, ℕ, arith}
+use Rattle.std.proofs.Common.{◌≡◌, ◌+◌, List, [], ◌∷◌, ◌++◌, length, length-append, map, refl, ap, ◌∙◌, ℕ, arith}
 use Rattle.std.specs.Prelude.{string_bytes}
 use Rattle.rap_events.specs.History.{Call, history}
 use Rattle.rap_events.specs.History as call
@@ -18,7 +18,7 @@ invariant_of-p c =
     let before : Held s.events.items ms (length s.messages.items) s.input.now s.pos =
     record { reported = s.reported; kept = record { sound = s.sound; covers = s.covers; place = s.place; splits = s.splits; fit = s.fit } } in
     let after : Held (s.events.items ++ event.Extend ∷ []) ms (length s.messages.items) s.input.now s.pos =
-    held-push s.events.items ms _ s.input.now s.pos s.pos event.Extend call.extend shows.extend before (kept-extend xs s.input.now _ s.pos c.args.self c.args.self.kind c.args.m.pos c.requires.last c.requires.newest c.requires.plain before.kept) in
+    held-push s.events.items ms _ s.input.now s.pos s.pos event.Extend call.extend shows.extend before (kept-extend xs s.input.now _ s.pos c.args.self c.args.self.kind.value c.args.m.pos.value c.requires.last c.requires.newest c.requires.plain before.kept) in
     let h = held_either _ s.events.items (s.events.items ++ event.Extend ∷ []) _ ms _ s.input.now s.pos c.push.ensures.items before after in
     record { tokens = s.tokens; ends = s.ends; in_input = s.in_input; reported = h.reported; sound = h.kept.sound; covers = h.kept.covers; place = h.kept.place; splits = h.kept.splits; fit = h.kept.fit }
 
@@ -29,7 +29,7 @@ returns-clause-state c =
     let ms : List (List ℕ) = map string_bytes s.messages.items in
     let xs : List Call = history s.events.items ms in
     let e : c.len.result ≡ length xs + 1 = omega (arith, c.push.new.self.ok.0, length-append s.events.items, ap length c.in_ok-push.ensures.items, length-history s.events.items ms) in
-    rw (c.in_ok-push.ensures.items, history-push s.events.items ms event.Extend call.extend shows.extend) (extended s.input.now _ xs c.args.self c.args.self.kind c.args.m.pos c.len.result c.requires.last c.requires.newest e)
+    rw (c.in_ok-push.ensures.items, history-push s.events.items ms event.Extend call.extend shows.extend) (extended s.input.now _ xs c.args.self _ c.args.self.kind.value c.args.m.pos.value c.requires.last c.requires.newest (c.of.ensures ∙ e) refl)
 
 pub returns-clause-recorded : goal.returns-clause-recorded
 unfolding calls

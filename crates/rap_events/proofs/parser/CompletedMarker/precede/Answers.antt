@@ -18,7 +18,7 @@ invariant_of-p c =
     let before : Held s.events.items ms (length s.messages.items) s.input.now s.pos =
     record { reported = s.reported; kept = record { sound = s.sound; covers = s.covers; place = s.place; splits = s.splits; fit = s.fit } } in
     let after : Held (s.events.items ++ event.Precede ∷ []) ms (length s.messages.items) s.input.now s.pos =
-    held-push s.events.items ms _ s.input.now s.pos s.pos event.Precede call.precede shows.precede before (kept-precede xs s.input.now _ s.pos c.args.self c.args.self.kind c.requires before.kept) in
+    held-push s.events.items ms _ s.input.now s.pos s.pos event.Precede call.precede shows.precede before (kept-precede xs s.input.now _ s.pos c.args.self c.args.self.kind.value c.requires before.kept) in
     let h = held_either _ s.events.items (s.events.items ++ event.Precede ∷ []) _ ms _ s.input.now s.pos c.push.ensures.items before after in
     record { tokens = s.tokens; ends = s.ends; in_input = s.in_input; reported = h.reported; sound = h.kept.sound; covers = h.kept.covers; place = h.kept.place; splits = h.kept.splits; fit = h.kept.fit }
 
@@ -28,8 +28,8 @@ returns-clause-state c =
     let s = c.args.p.now in
     let ms : List (List ℕ) = map string_bytes s.messages.items in
     let xs : List Call = history s.events.items ms in
-    let e : c.len-pos.result ≡ length xs = c.len-pos.ensures ∙ s.events.ok.0 ∙ sym (length-history s.events.items ms) in
-    rw (c.in_ok-push.ensures.items, history-push s.events.items ms event.Precede call.precede shows.precede) (preceded s.input.now _ xs c.args.self c.args.self.kind c.len-pos.result e c.requires)
+    let e : c.len.result ≡ length xs = c.len.ensures ∙ s.events.ok.0 ∙ sym (length-history s.events.items ms) in
+    rw (c.in_ok-push.ensures.items, history-push s.events.items ms event.Precede call.precede shows.precede) (preceded s.input.now _ xs c.args.self c.args.self.kind.value _ (c.of-pos.ensures ∙ e) c.requires)
 
 pub returns-clause-recorded : goal.returns-clause-recorded
 unfolding calls

@@ -17,8 +17,8 @@ returns-clause-state c =
       | then-ne+in_ok-bump_any w ↦
           let some : next s2 ≢ EOF = λ e. eqb-false c.current.result EOF (not-true _ (sym c.ne.ensures ∙ w.if-ne.true)) (c.current.ensures.kind ∙ e) in
           let s3 = state w.bump_any.new.self in
-          skipped_whole s0 _ _ bytes (inside_some s0 s1 s2 s3 c.in_ok-marker.marker.pos bytes c.in_ok-marker.ensures.state c.in_ok-error.ensures.state some w.in_ok-bump_any.ensures.state) (rw (← w.self-is) done)
+          skipped_whole s0 _ _ bytes (inside_some s0 s1 s2 s3 c.in_ok-marker.marker.pos.value bytes c.in_ok-marker.ensures.state c.in_ok-error.ensures.state some w.in_ok-bump_any.ensures.state) (rw (← w.self-is) done)
       | else-ne w ↦
           let over : next s2 ≡ EOF = sym c.current.ensures.kind ∙ eqb-true c.current.result EOF (not-false _ (sym c.ne.ensures ∙ w.if-ne.false)) in
-          skipped_whole s0 s2 _ bytes (inside_end s0 s1 s2 c.in_ok-marker.marker.pos bytes c.in_ok-marker.ensures.state c.in_ok-error.ensures.state (rest_at_end c.error.new.self over)) (rw (← w.self-is) done)
+          skipped_whole s0 s2 _ bytes (inside_end s0 s1 s2 c.in_ok-marker.marker.pos.value bytes c.in_ok-marker.ensures.state c.in_ok-error.ensures.state (rest_at_end c.error.new.self over)) (rw (← w.self-is) done)
     ]

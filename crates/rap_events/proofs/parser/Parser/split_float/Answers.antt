@@ -41,7 +41,7 @@ invariant_of-self-2 c =
     let ms : List (List ℕ) = map string_bytes s.messages.items in
     let before : Held s.events.items ms (length s.messages.items) s.input.now s.pos =
     record { reported = s.reported; kept = record { sound = s.sound; covers = s.covers; place = s.place; splits = s.splits; fit = s.fit } } in
-    let h = held-split s.events.items ms _ s.input.now s.pos d c.args.marker.pos c.requires.newest c.requires.float (joint_is s.input.now s.pos c.is_joint-ends_in_dot.result c.is_joint-ends_in_dot.ensures) before in
+    let h = held-split s.events.items ms _ s.input.now s.pos d c.args.marker.pos.value c.requires.newest c.requires.float (joint_is s.input.now s.pos c.is_joint-ends_in_dot.result c.is_joint-ends_in_dot.ensures) before in
     let within : s.pos + 1 ≤ s.len = omega (arith, s.ends, s.in_input, float_within (state s).rest c.requires.float, length-drop s.pos s.input.now) in
     let e = (events_are s.events.items _ c.is_joint-ends_in_dot.result _ c.in_ok-extend_from_slice.ensures.items c.split_len-count.ensures.calls) in
     record { tokens = s.tokens; ends = s.ends; in_input = within; reported = rw e h.reported; sound = rw e h.kept.sound; covers = rw e h.kept.covers; place = rw e h.kept.place; splits = rw e h.kept.splits; fit = rw e h.kept.fit }
@@ -53,9 +53,9 @@ returns-clause-state c =
     let d : Bool = not c.is_joint-ends_in_dot.result in
     let ms : List (List ℕ) = map string_bytes s.messages.items in
     let xs : List Call = history s.events.items ms in
-    let e : c.len-end.result ≡ length xs + length (split_calls d) =
-    omega (arith, c.len-end.ensures, c.extend_from_slice.new.self.ok.0, length-append s.events.items (split_events d), ap length (events_are s.events.items _ c.is_joint-ends_in_dot.result _ c.in_ok-extend_from_slice.ensures.items c.split_len-count.ensures.calls), length-history s.events.items ms, split_lengths d) in
-    rw ((events_are s.events.items _ c.is_joint-ends_in_dot.result _ c.in_ok-extend_from_slice.ensures.items c.split_len-count.ensures.calls), split_history s.events.items ms d) (split_state s.input.now s.pos xs d c.args.marker.pos c.requires.newest c.len-end.result c.requires.float (joint_is s.input.now s.pos c.is_joint-ends_in_dot.result c.is_joint-ends_in_dot.ensures) e)
+    let e : c.len.result ≡ length xs + length (split_calls d) =
+    omega (arith, c.len.ensures, c.extend_from_slice.new.self.ok.0, length-append s.events.items (split_events d), ap length (events_are s.events.items _ c.is_joint-ends_in_dot.result _ c.in_ok-extend_from_slice.ensures.items c.split_len-count.ensures.calls), length-history s.events.items ms, split_lengths d) in
+    rw ((events_are s.events.items _ c.is_joint-ends_in_dot.result _ c.in_ok-extend_from_slice.ensures.items c.split_len-count.ensures.calls), split_history s.events.items ms d) (split_state s.input.now s.pos xs d c.args.marker.pos.value c.requires.newest _ c.requires.float (joint_is s.input.now s.pos c.is_joint-ends_in_dot.result c.is_joint-ends_in_dot.ensures) (c.of.ensures ∙ e) c.of-2.ensures)
 
 pub returns-clause-recorded : goal.returns-clause-recorded
 unfolding calls

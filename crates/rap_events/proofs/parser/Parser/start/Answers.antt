@@ -28,8 +28,8 @@ returns-clause-state c =
     let s = c.args.self.now in
     let ms : List (List ℕ) = map string_bytes s.messages.items in
     let xs : List Call = history s.events.items ms in
-    let e : c.len-pos.result ≡ length xs = c.len-pos.ensures ∙ s.events.ok.0 ∙ sym (length-history s.events.items ms) in
-    rw (c.in_ok-push.ensures.items, history-push s.events.items ms event.Start call.start shows.start) (opened s.input.now _ xs c.len-pos.result e)
+    let e : c.len.result ≡ length xs = c.len.ensures ∙ s.events.ok.0 ∙ sym (length-history s.events.items ms) in
+    rw (c.in_ok-push.ensures.items, history-push s.events.items ms event.Start call.start shows.start) (opened s.input.now _ xs _ (c.of-pos.ensures ∙ e))
 
 pub returns-clause-recorded : goal.returns-clause-recorded
 unfolding calls

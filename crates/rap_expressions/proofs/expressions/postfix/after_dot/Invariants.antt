@@ -6,7 +6,7 @@ use Rattle.rap_expressions.proofs.expressions.postfix.after_dot.Given as goal
 
 abbrev pub invariant-fields : goal.invariant-fields
 invariant-fields g l = record {
-  newest : (state l.p).marker ≡ Some l.m.pos;
+  newest : (state l.p).marker ≡ Some l.m.pos.value;
   input : (state l.p).input ≡ (state l.fn.p).input;
   left : (state l.p).left ≤ (state l.fn.p).left;
   count : (state l.p).count + 256 * (state l.p).left ≤ (state l.fn.p).count + 256 * (state l.fn.p).left;

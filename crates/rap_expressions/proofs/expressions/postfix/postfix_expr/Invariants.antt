@@ -9,8 +9,8 @@ use Rattle.rap_expressions.proofs.expressions.postfix.postfix_expr.Given as goal
 abbrev pub invariant-postfixes : goal.invariant-postfixes
 invariant-postfixes g l = record {
   grew : Grew (state l.fn.p) (state l.p) 0;
-  last : IsLast (state l.p) l.lhs l.lhs.kind;
-  plain : is_plain l.lhs.kind ≡ true;
+  last : IsLast (state l.p) l.lhs l.lhs.kind.value;
+  plain : is_plain l.lhs.kind.value ≡ true;
   one : but_last (state l.p).forest ≡ but_last (state l.fn.p).forest;
   script : Turns postfix_turn l.fn.allow_calls (is_block (of_like l.fn.block_like)) l.allow_calls (is_block (of_like l.block_like)) (state l.fn.p) (state l.p);
 }

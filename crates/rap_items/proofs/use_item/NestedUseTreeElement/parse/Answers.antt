@@ -1,4 +1,3 @@
-use Rattle.std.proofs.Common.{◌∙◌}
 use Rattle.rap_rules.specs.Called.{use_tree}
 use Rattle.rap_rules.specs.Knot.{script_of}
 use Rattle.rap_rules.specs.Phrase.{tree_of_use}
@@ -19,5 +18,5 @@ unfolding nested_use_tree use_tree script_of
 returns-clause-script g c = record {
   run = else_by c.is_use_tree_start.ensures c.if-is_use_tree_start.false
       (by_skip c.in_ok-err_and_bump.ensures.state
-      (decided c.at_ts-going_on.result (c.at_ts-going_on.ensures ∙ c.use_tree_list_recovery_set.ensures _) (λ y. rw y gives) (λ n. rw n gives)));
+      (decided c.use_tree_list_goes_on.result c.use_tree_list_goes_on.ensures.here (λ y. rw y gives) (λ n. rw n gives)));
 }

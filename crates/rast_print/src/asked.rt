@@ -1,0 +1,143 @@
+//! What is asked of a text beside its tree, by the names of what is asked for.
+ghost use Rattle.std.specs.Prelude.{◌≡◌};
+ghost use Rattle.rast_print.specs.AskedName.{IsKindOf, IsReadAs, IsNamed, name_of_prefix, name_of_kind};
+
+use ra_ap_parser::{PrefixEntryPoint, SyntaxKind, TopEntryPoint};
+use std::str::FromStr;
+
+/// How many kinds there are.
+const KINDS: u16 = 330;
+
+/// What is to be listed of a text.
+#[derive(Clone, Copy, Debug)]
+pub enum Asked {
+    /// The steps of a whole input.
+    Steps(TopEntryPoint),
+    /// The steps of what stands at the front, and where it ends.
+    Prefix(PrefixEntryPoint),
+    /// A node that is parsed again, by its kind, that of its first child and that of its parent.
+    Reparse {
+        node: SyntaxKind,
+        first_child: Option<SyntaxKind>,
+        parent: Option<SyntaxKind>,
+    },
+}
+
+/// A prefix entry point as a command line names it.
+#[derive(Clone, Copy, Debug)]
+pub struct Prefix(pub PrefixEntryPoint);
+
+/// The word is no prefix entry point's name.
+#[derive(Clone, Copy, PartialEq, Eq, Debug)]
+pub struct InvalidPrefix;
+
+/// Reads a prefix entry point from its name.
+impl FromStr for Prefix {
+    type Err = InvalidPrefix;
+
+    ghost from_str_gives = { IsNamed };
+
+    fn from_str(s: &str) -> Result<Prefix, InvalidPrefix> {
+        match s {
+            "Vis" => Ok(Prefix(PrefixEntryPoint::Vis)),
+            "Block" => Ok(Prefix(PrefixEntryPoint::Block)),
+            "Stmt" => Ok(Prefix(PrefixEntryPoint::Stmt)),
+            "Pat" => Ok(Prefix(PrefixEntryPoint::Pat)),
+            "PatTop" => Ok(Prefix(PrefixEntryPoint::PatTop)),
+            "Ty" => Ok(Prefix(PrefixEntryPoint::Ty)),
+            "Expr" => Ok(Prefix(PrefixEntryPoint::Expr)),
+            "Path" => Ok(Prefix(PrefixEntryPoint::Path)),
+            "Item" => Ok(Prefix(PrefixEntryPoint::Item)),
+            "MetaItem" => Ok(Prefix(PrefixEntryPoint::MetaItem)),
+            _ => Err(InvalidPrefix),
+        }
+    }
+}
+
+/// A prefix entry point's name.
+pub fn prefix_name(entry: PrefixEntryPoint) -> &'static str
+    ensures { result.now ≡ name_of_prefix entry }
+{
+    match entry {
+        PrefixEntryPoint::Vis => "Vis",
+        PrefixEntryPoint::Block => "Block",
+        PrefixEntryPoint::Stmt => "Stmt",
+        PrefixEntryPoint::Pat => "Pat",
+        PrefixEntryPoint::PatTop => "PatTop",
+        PrefixEntryPoint::Ty => "Ty",
+        PrefixEntryPoint::Expr => "Expr",
+        PrefixEntryPoint::Path => "Path",
+        PrefixEntryPoint::Item => "Item",
+        PrefixEntryPoint::MetaItem => "MetaItem",
+    }
+}
+
+/// The kind with this name.
+fn kind_named(name: &str) -> Option<SyntaxKind>
+    ensures { IsKindOf name.now result }
+{
+    'kinds: for number in 0..KINDS {
+        let kind = SyntaxKind::from_u16(number);
+        if kind.name() == name {
+            return Some(kind);
+        }
+    }
+    None
+}
+
+/// The kind with this name, or that there is none, which a dash says. Nothing where the word is no kind's name.
+pub fn read_kind(word: &str) -> Option<Option<SyntaxKind>>
+    ensures { IsReadAs word.now result }
+{
+    if word == "-" {
+        return Some(None);
+    }
+    match kind_named(word) {
+        Some(kind) => Some(Some(kind)),
+        None => None,
+    }
+}
+
+/// A kind's name, or a dash where there is none.
+pub fn kind_name(kind: Option<SyntaxKind>) -> &'static str
+    ensures { result.now ≡ name_of_kind kind }
+{
+    match kind {
+        Some(kind) => kind.name(),
+        None => "-",
+    }
+}
+
+#[cfg(test)]
+mod tests {
+    use super::*;
+    use std::test::Fail;
+
+    #[test]
+    fn knows_the_prefix_entries(rt: HostRuntime) -> Result<(), Fail> {
+        for name in [
+            "Vis", "Block", "Stmt", "Pat", "PatTop", "Ty", "Expr", "Path", "Item", "MetaItem",
+        ] {
+            let Prefix(entry) = name.parse::<Prefix>()?;
+            assert_eq!(rt; prefix_name(entry), name);
+        }
+        assert!(rt; "Type".parse::<Prefix>().is_err());
+        assert!(rt; "vis".parse::<Prefix>().is_err());
+        Ok(())
+    }
+
+    #[test]
+    fn knows_the_kinds(rt: HostRuntime) {
+        assert_eq!(rt; read_kind("-"), Some(None));
+        assert_eq!(rt; read_kind("EOF"), Some(Some(SyntaxKind::EOF)));
+        assert_eq!(rt; read_kind("PATH_META"), Some(Some(SyntaxKind::PATH_META)));
+        assert_eq!(rt;
+            read_kind("ASSOC_ITEM_LIST"),
+            Some(Some(SyntaxKind::ASSOC_ITEM_LIST))
+        );
+        assert_eq!(rt; kind_name(Some(SyntaxKind::PATH_META)), "PATH_META");
+        assert_eq!(rt; kind_name(None), "-");
+        assert_eq!(rt; read_kind("{"), None);
+        assert_eq!(rt; read_kind(""), None);
+    }
+}

@@ -1,0 +1,311 @@
+//! What is listed of a text.
+ghost use Rattle.std.specs.Prelude.{◌≡◌, ◌⊎◌, ◌≤◌, ◌<◌, ◌↔◌, ◌++◌, Some, true, IfErr, IfOk, OnOk, length, string_bytes};
+ghost use Rattle.rap_events.specs.Cover.{covers};
+ghost use Rattle.rap_events.specs.Forest.{flat, one_tree, used};
+ghost use Rattle.rap_events.specs.Step.{step_value};
+ghost use Rattle.rap_grammar.specs.Part.{part_kind};
+ghost use Rattle.ra_ap_parser.specs.Input.{records};
+ghost use Rattle.ra_ap_parser.specs.LexedStr.{IsLexing};
+ghost use Rattle.ra_ap_parser.specs.StrForest.{str_flat};
+ghost use Rattle.ra_ap_parser.specs.Trivia.{significant, with_trivia};
+ghost use Rattle.rast_print.specs.Printed.{printed, reported};
+ghost use Rattle.rast_print.specs.Listed.{step_line, step_lines, end_after, used_line, tree_lines, tree_part};
+ghost use Rattle.rast_print.specs.Lists.{Comes, ComesOfNode, Lists, ListsNode, ListsPrefix, ListsSteps};
+
+use crate::asked::Asked;
+use crate::printer::Printer;
+use ra_ap_parser::{
+    Edition, Input, LexFault, LexedStr, NoMemory, Output, ParseFault, PrefixEntryPoint, Reparser,
+    Step, TopEntryPoint, is_one_tree,
+};
+use std::alloc::{AllocError, Global};
+use std::fmt::Write as _;
+
+/// Why nothing is listed.
+#[derive(Clone, Copy, Debug, PartialEq, Eq)]
+pub enum ListFault {
+    /// The text is longer than the lexer takes.
+    TextTooLong,
+    /// The text has more tokens than the parser takes.
+    TooManyTokens,
+    /// The node is to begin with a `{`, and the text does not.
+    NoBrace,
+    /// A growth was refused for want of memory.
+    NoMemory,
+}
+
+impl From<LexFault> for ListFault {
+    ghost use Rattle.ra_ap_parser.specs.declared.lexed_str.LexFault.TheVariants as lex;
+    ghost use Rattle.rast_print.specs.declared.listing.ListFault.TheVariants.{TextTooLong, NoMemory};
+
+    ghost from_gives = { λ from fault. ((from ≡ lex.TextTooLong) ↔ (fault ≡ TextTooLong)) × ((from ≡ lex.NoMemory) ↔ (fault ≡ NoMemory)) };
+
+    fn from(fault: LexFault) -> ListFault {
+        match fault {
+            LexFault::TextTooLong => ListFault::TextTooLong,
+            LexFault::NoMemory => ListFault::NoMemory,
+        }
+    }
+}
+
+impl From<NoMemory> for ListFault {
+    ghost use Rattle.rast_print.specs.declared.listing.ListFault.TheVariants.{NoMemory};
+
+    ghost from_gives = { λ _ fault. fault ≡ NoMemory };
+
+    fn from(_fault: NoMemory) -> ListFault {
+        ListFault::NoMemory
+    }
+}
+
+impl From<AllocError> for ListFault {
+    ghost use Rattle.rast_print.specs.declared.listing.ListFault.TheVariants.{NoMemory};
+
+    ghost from_gives = { λ _ fault. fault ≡ NoMemory };
+
+    fn from(_fault: AllocError) -> ListFault {
+        ListFault::NoMemory
+    }
+}
+
+/// Adds the line of a step.
+fn push_step(lines: &mut String, step: Step<'_>) -> Result<(), AllocError>
+    ensures { OnOk result (string_bytes lines.new ≡ string_bytes lines.old ++ step_line (step_value step.entry)) }
+{
+    match step {
+        Step::Enter { kind } => writeln!(lines, "enter {}", kind.name())?,
+        Step::Exit => lines.push_str("exit\n")?,
+        Step::Token {
+            kind,
+            n_input_tokens,
+        } => writeln!(lines, "token {} {n_input_tokens}", kind.name())?,
+        Step::FloatSplit { ends_in_dot } => lines.push_str(if ends_in_dot {
+            "split true\n"
+        } else {
+            "split false\n"
+        })?,
+        Step::Error { msg } => writeln!(lines, "error {msg}")?,
+    }
+    Ok(())
+}
+
+/// Adds the lines of an output's steps.
+fn push_steps(lines: &mut String, output: &Output) -> Result<(), AllocError>
+    ensures { OnOk result (string_bytes lines.new ≡ string_bytes lines.old ++ step_lines (flat output.now)) }
+{
+    'steps: for step in output.iter() {
+        push_step(lines, step)?;
+    }
+    Ok(())
+}
+
+/// How many tokens an output took.
+#[tactic(auto, using(crate::proofs::Listings::tokens_in_flat))]
+fn used_tokens(output: &Output) -> usize
+    requires { used output.now ≤ 8388607 }
+    ensures { result ≡ used output.now }
+{
+    let mut count = 0usize;
+    'steps: for step in output.iter() {
+        count += match step {
+            Step::Token { n_input_tokens, .. } => n_input_tokens as usize,
+            Step::FloatSplit { .. } => 1,
+            _ => 0,
+        };
+    }
+    count
+}
+
+/// Where the last of so many tokens that are no trivia ends, in bytes.
+fn end_after(lexed: &LexedStr<'_>, count: usize) -> usize
+    ensures { result ≡ end_after count lexed.now.tokens }
+{
+    let mut left = count;
+    'tokens: for i in 0..lexed.len() {
+        if left == 0 {
+            return lexed.text_start(i);
+        }
+        if !lexed.kind(i).is_trivia() {
+            left -= 1;
+        }
+    }
+    lexed.text_start(lexed.len())
+}
+
+/// Adds the line that says where what an output took ends.
+fn push_used(lines: &mut String, lexed: &LexedStr<'_>, output: &Output) -> Result<(), AllocError>
+    requires { used output.now ≤ 8388607 }
+    ensures { OnOk result (string_bytes lines.new ≡ string_bytes lines.old ++ used_line lexed.now.tokens output.now) }
+{
+    let end = end_after(lexed, used_tokens(output));
+    writeln!(lines, "used {end}")?;
+    Ok(())
+}
+
+/// The lines of a tree, trivia put back, and those of its messages.
+#[tactic(auto, using(crate::proofs::Listings::tree_from, crate::proofs::Listings::messages_from))]
+fn print_tree(alloc: Global, lexed: &LexedStr<'_>, output: &Output) -> Result<Printer, NoMemory>
+    requires tree { one_tree output.now ≡ true }
+    requires prefix { (edition : Edition) × (covers (records lexed.now.tokens edition) output.now ≡ true) }
+    ensures tree { IfOk result (λ p. string_bytes p.tree ≡ printed 0 (str_flat (with_trivia lexed.now.tokens output.now))) }
+    ensures messages { IfOk result (λ p. string_bytes p.messages ≡ reported (str_flat (with_trivia lexed.now.tokens output.now))) }
+{
+    let mut printer = Printer::new(alloc);
+    lexed.intersperse_trivia(output, &mut printer)?;
+    Ok(printer)
+}
+
+/// Adds the lines of a tree, trivia put back, and those of its messages.
+fn push_tree(
+    alloc: Global,
+    lines: &mut String,
+    lexed: &LexedStr<'_>,
+    output: &Output,
+) -> Result<(), NoMemory>
+    requires tree { one_tree output.now ≡ true }
+    requires prefix { (edition : Edition) × (covers (records lexed.now.tokens edition) output.now ≡ true) }
+    ensures { OnOk result (string_bytes lines.new ≡ string_bytes lines.old ++ tree_lines lexed.now.tokens output.now) }
+{
+    let printer = print_tree(alloc, lexed, output)?;
+    lines.push_str(printer.tree.as_str())?;
+    lines.push_str(printer.messages.as_str())?;
+    Ok(())
+}
+
+/// Adds the lines of the tree behind a line that says so, where the output is one tree.
+#[tactic(auto, using(crate::proofs::Listings::no_tree, crate::proofs::Listings::a_tree))]
+fn push_tree_part(
+    alloc: Global,
+    lines: &mut String,
+    lexed: &LexedStr<'_>,
+    output: &Output,
+) -> Result<(), NoMemory>
+    requires prefix { (edition : Edition) × (covers (records lexed.now.tokens edition) output.now ≡ true) }
+    ensures { OnOk result (string_bytes lines.new ≡ string_bytes lines.old ++ tree_part lexed.now.tokens output.now) }
+{
+    if !is_one_tree(output) {
+        return Ok(());
+    }
+    lines.push_str("tree\n")?;
+    push_tree(alloc, lines, lexed, output)?;
+    Ok(())
+}
+
+/// A text as the parser reads it.
+#[derive(Drop)]
+struct Reading<'t> {
+    lexed: LexedStr<'t>,
+    input: Input,
+}
+
+/// Cuts the text into tokens, and leaves the trivia out.
+fn read(alloc: Global, edition: Edition, text: &str) -> Result<Reading<'_>, ListFault>
+    ensures small { IfOk result (λ _. length text.now ≤ 4294967295) }
+    ensures lexing { IfOk result (λ r. IsLexing text.now edition r.lexed) }
+    ensures input { IfOk result (λ r. (r.input ≡ records r.lexed.tokens edition) × (length r.input ≡ significant r.lexed.tokens)) }
+    ensures fault { IfErr result (λ fault. ((fault ≡ ListFault.TextTooLong) × (4294967295 < length text.now)) ⊎ ((fault ≡ ListFault.NoMemory) × (length text.now ≤ 4294967295))) }
+{
+    let lexed = LexedStr::new(alloc, edition, text)?;
+    let input = lexed.to_input(alloc, edition)?;
+    Ok(Reading { lexed, input })
+}
+
+/// Lists the steps of the whole text.
+#[tactic(auto, using(crate::proofs::Listings::too_many))]
+fn list_steps(
+    alloc: Global,
+    edition: Edition,
+    entry: TopEntryPoint,
+    text: &str,
+) -> Result<String, ListFault>
+    ensures lists { IfOk result (λ lines. ListsSteps text.now edition entry (string_bytes lines)) }
+    ensures fault { IfErr result (Comes text.now edition (Asked.Steps entry)) }
+{
+    let reading = read(alloc, edition, text)?;
+    let output = match entry.parse(alloc, &reading.input) {
+        Ok(output) => output,
+        Err(ParseFault::TooManyTokens) => return Err(ListFault::TooManyTokens),
+        Err(ParseFault::NoMemory) => return Err(ListFault::NoMemory),
+    };
+    let mut lines = String::new(alloc);
+    push_steps(&mut lines, &output)?;
+    Ok(lines)
+}
+
+/// Lists the steps of what stands at the front of the text and where it ends, and where it is one tree that tree.
+#[tactic(auto, using(crate::proofs::Listings::too_many))]
+fn list_prefix(
+    alloc: Global,
+    edition: Edition,
+    entry: PrefixEntryPoint,
+    text: &str,
+) -> Result<String, ListFault>
+    ensures lists { IfOk result (λ lines. ListsPrefix text.now edition entry (string_bytes lines)) }
+    ensures fault { IfErr result (Comes text.now edition (Asked.Prefix entry)) }
+{
+    let reading = read(alloc, edition, text)?;
+    let output = match entry.parse(alloc, &reading.input) {
+        Ok(output) => output,
+        Err(ParseFault::TooManyTokens) => return Err(ListFault::TooManyTokens),
+        Err(ParseFault::NoMemory) => return Err(ListFault::NoMemory),
+    };
+    let mut lines = String::new(alloc);
+    push_steps(&mut lines, &output)?;
+    push_used(&mut lines, &reading.lexed, &output)?;
+    push_tree_part(alloc, &mut lines, &reading.lexed, &output)?;
+    Ok(lines)
+}
+
+/// Lists the tree of a node that is parsed again, or its steps where it is no tree, and where it ends.
+#[tactic(auto, using(crate::proofs::Listings::too_many))]
+fn list_node(
+    alloc: Global,
+    edition: Edition,
+    reparser: Reparser,
+    text: &str,
+) -> Result<String, ListFault>
+    ensures lists { IfOk result (λ lines. ListsNode text.now edition reparser (string_bytes lines)) }
+    ensures fault { IfErr result (ComesOfNode text.now edition (Some (part_kind reparser))) }
+{
+    let reading = read(alloc, edition, text)?;
+    if !reparser.can_parse(&reading.input) {
+        return Err(ListFault::NoBrace);
+    }
+    let output = match reparser.parse(alloc, &reading.input) {
+        Ok(output) => output,
+        Err(ParseFault::TooManyTokens) => return Err(ListFault::TooManyTokens),
+        Err(ParseFault::NoMemory) => return Err(ListFault::NoMemory),
+    };
+    let mut lines = String::new(alloc);
+    if is_one_tree(&output) {
+        push_tree(alloc, &mut lines, &reading.lexed, &output)?;
+    } else {
+        lines.push_str("not one tree\n")?;
+        push_steps(&mut lines, &output)?;
+    }
+    push_used(&mut lines, &reading.lexed, &output)?;
+    Ok(lines)
+}
+
+/// Lists what is asked of the text.
+pub fn list(alloc: Global, edition: Edition, asked: Asked, text: &str) -> Result<String, ListFault>
+    ensures lists { IfOk result (λ lines. Lists text.now edition asked (string_bytes lines)) }
+    ensures fault { IfErr result (Comes text.now edition asked) }
+{
+    match asked {
+        Asked::Steps(entry) => list_steps(alloc, edition, entry, text),
+        Asked::Prefix(entry) => list_prefix(alloc, edition, entry, text),
+        Asked::Reparse {
+            node,
+            first_child,
+            parent,
+        } => match Reparser::for_node(node, first_child, parent) {
+            Some(reparser) => list_node(alloc, edition, reparser, text),
+            None => {
+                let mut lines = String::new(alloc);
+                lines.push_str("none\n")?;
+                Ok(lines)
+            }
+        },
+    }
+}
