@@ -1,4 +1,5 @@
 -- What a filler does.
+-- (What calls promise one another; no promise of the library rests on it.)
 use Rattle.std.specs.Prelude.{◌≡◌, ℕ, ◌+◌, ◌<◌, ◌^◌, List, length, slice_set}
 use Rattle.ra_ap_parser.specs.StrStep.{StrStepValue}
 use Rattle.rap_c.specs.Item.{Item, counted, text_item}
