@@ -70,5 +70,9 @@ int main(int count, char **words) {
     answer = rap_tree(text, length, (uint32_t)atoi(words[1]), entry, steps, answer.steps, messages, answer.message_bytes);
     if (answer.status != RAP_OK) return fail(answer.status == RAP_NOT_UTF8 ? "the file is no text" : "the text was not parsed");
     print_tree(text, steps, answer.steps);
-    return print_messages(steps, answer.steps, messages);
+    int some = print_messages(steps, answer.steps, messages);
+    free(messages);
+    free(steps);
+    free(text);
+    return some | fclose(file);
 }
