@@ -12,8 +12,8 @@ ghost use Rattle.rap_rules.specs.Room.{brackets_room, item_room, list_room, name
 ghost use Rattle.rap_rules.specs.Script.{something};
 ghost use Rattle.rap_rules.specs.Words.{of_bool};
 
-use crate::visibility::{opt_visibility, opt_visibility_inner};
 use crate::names::item_name;
+use crate::visibility::{opt_visibility, opt_visibility_inner};
 use rap_base::no_memory::NoMemory;
 use rap_base::syntax_kind::SyntaxKind;
 use rap_events::parser::{Marker, Parser};

@@ -103,7 +103,13 @@ pub fn row_of(alloc: Global, line: &str) -> Result<Option<String>, TextFault<NoM
 }
 
 /// The row in writing.
-fn written(alloc: Global, year: &str, way: &Way, hash: u64, text: &str) -> Result<String, AllocError>
+fn written(
+    alloc: Global,
+    year: &str,
+    way: &Way,
+    hash: u64,
+    text: &str,
+) -> Result<String, AllocError>
     ensures { IfOk result (λ row. string_bytes row ≡ row_line year.now (name_of_way way.now) hash text.now) }
 {
     let mut row = String::new(alloc);

@@ -1,0 +1,7 @@
+pub mod Filled
+pub mod GivenBy
+pub mod NoKind
+pub mod Put
+pub mod Settled
+pub mod Used
+pub mod Written

@@ -1,0 +1,25 @@
+-- Answers of calls that may have met a fault.
+use Rattle.std.proofs.Common.{◌≡◌, ℕ, ◌≤◌, ◌<◌, List, Bool, true, false, Option, Result, Ok, Err, ap, arith}
+use Rattle.std.specs.Prelude.{IfOk, IfErr, MatchResult, if◌then◌else◌}
+use Rattle.rap_events.specs.Forest.{one_tree}
+use Rattle.rap_c.specs.Answer.{refusal}
+use Rattle.rap_c.specs.Given.{IsRefusal, IsUntouched}
+use Rattle.rap_c.specs.Reparse.{ComesOfReparse, IsReparsed}
+use Rattle.rap_c.specs.declared.answer.Fault.{Fault}
+use Rattle.rap_c.specs.declared.answer.RapAnswer.{RapAnswer}
+use Rattle.rap_c.specs.declared.step.RapStep.{RapStep}
+
+low : (b : Bool) (n : ℕ) → n ≡ (if b then 0 else 1) → n ≤ 1
+low true n e = omega (arith, e)
+low false n e = omega (arith, e)
+
+pub node_refused : (text : List ℕ) (year : ℕ) (kind : Option ℕ) (steps steps_after : List RapStep) (messages messages_after : List ℕ) (outcome : Result RapAnswer Fault) (answer : RapAnswer)
+    → MatchResult outcome (λ a. answer ≡ a) (λ fault. answer ≡ refusal fault)
+    → IfOk outcome (IsReparsed text year kind steps steps_after messages messages_after)
+    → IfErr outcome (ComesOfReparse text year kind)
+    → IfErr outcome (λ _. IsUntouched steps steps_after messages messages_after)
+    → 1 < answer.status → IsRefusal (ComesOfReparse text year kind) answer × IsUntouched steps steps_after messages messages_after
+node_refused text year kind steps steps_after messages messages_after (Ok a) answer is filled comes untouched high =
+    absurd (omega (arith, high, ap (λ (b : RapAnswer). b.status) is, low (one_tree filled.filled.output) a.status filled.filled.is.status))
+node_refused text year kind steps steps_after messages messages_after (Err fault) answer is filled comes untouched high =
+    (record { fault = fault; comes = comes; is = is }, untouched)

@@ -1,0 +1,12 @@
+pub mod Answer
+pub mod Filling
+pub mod Fills
+pub mod Given
+pub mod Item
+pub mod Numbers
+pub mod Output
+pub mod Prefix
+pub mod Reparse
+pub mod Tokens
+pub mod Tree
+pub mod Used

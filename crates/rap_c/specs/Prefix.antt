@@ -1,0 +1,70 @@
+-- What is given of the front of a text.
+use Rattle.std.specs.Prelude.{ℕ, ◌≤◌, ◌<◌, List, length, IsUtf8}
+use Rattle.rap_base.specs.declared.edition.Edition.{Edition}
+use Rattle.rap_events.specs.Forest.{Forest}
+use Rattle.ra_ap_parser.specs.EntryScript.{IsPrefixOutputOf}
+use Rattle.ra_ap_parser.specs.Headline.{HasTooManyTokens}
+use Rattle.ra_ap_parser.specs.Input.{records}
+use Rattle.ra_ap_parser.specs.LexedStr.{Lexed, IsLexing}
+use Rattle.ra_ap_parser.specs.declared.entry_point.PrefixEntryPoint.{PrefixEntryPoint}
+use Rattle.rap_c.specs.Numbers.{IsEditionOf, IsNoEdition, IsPrefixOf, IsNoPrefix}
+use Rattle.rap_c.specs.Output.{IsOutput}
+use Rattle.rap_c.specs.declared.answer.Fault.{Fault}
+use Rattle.rap_c.specs.declared.answer.Fault.TheVariants.{NoEdition, NoEntry, NotUtf8, TextTooLong, TooManyTokens, NoMemory, NoNode, NoBrace}
+use Rattle.rap_c.specs.declared.answer.RapAnswer.{RapAnswer}
+use Rattle.rap_c.specs.declared.step.RapStep.{RapStep}
+
+-- The text's tokens, few enough for the parser.
+pub record IsRead (text : List ℕ) (edition : Edition) (lexed : Lexed) : Type 0 where
+  pub small : length text ≤ 4294967295
+  pub lexing : IsLexing text edition lexed
+  pub few : length (records lexed.tokens edition) ≤ 8388607
+
+-- What the entry makes of the front of the text is given.
+pub record IsFilledPrefix (text : List ℕ) (edition : Edition) (entry : PrefixEntryPoint) (steps steps_after : List RapStep) (messages messages_after : List ℕ) (answer : RapAnswer) : Type 0 where
+  pub lexed : Lexed
+  pub output : Forest
+  pub is_read : IsRead text edition lexed
+  pub made : IsPrefixOutputOf entry (records lexed.tokens edition) output
+  pub is : IsOutput lexed.tokens output steps steps_after messages messages_after answer
+
+-- The bytes are text, the numbers are those of an edition and of an entry, and what it makes is given.
+pub record IsPrefix (text : List ℕ) (year entry_number : ℕ) (steps steps_after : List RapStep) (messages messages_after : List ℕ) (answer : RapAnswer) : Type 0 where
+  pub edition : Edition
+  pub is_edition : IsEditionOf year edition
+  pub entry : PrefixEntryPoint
+  pub is_entry : IsPrefixOf entry_number entry
+  pub utf8 : IsUtf8 text
+  pub filled : IsFilledPrefix text edition entry steps steps_after messages messages_after answer
+
+-- when a fault comes of a text
+abbrev pub ComesOfFront : List ℕ → Edition → Fault → Type 0
+ComesOfFront text edition NoEdition = ⊥
+ComesOfFront text edition NoEntry = ⊥
+ComesOfFront text edition NotUtf8 = ⊥
+ComesOfFront text edition TextTooLong = 4294967295 < length text
+ComesOfFront text edition TooManyTokens = HasTooManyTokens text edition
+ComesOfFront text edition NoMemory = length text ≤ 4294967295
+ComesOfFront text edition NoNode = ⊥
+ComesOfFront text edition NoBrace = ⊥
+
+-- The bytes are text, and the numbers those of an edition and of an entry; and this holds of the edition.
+pub record IsAsked (text : List ℕ) (year entry_number : ℕ) (Holds : Edition → Type 0) : Type 0 where
+  pub edition : Edition
+  pub is_edition : IsEditionOf year edition
+  pub entry : PrefixEntryPoint
+  pub is_entry : IsPrefixOf entry_number entry
+  pub utf8 : IsUtf8 text
+  pub holds : Holds edition
+
+-- when a fault comes of numbers and bytes
+abbrev pub ComesOfPrefix : List ℕ → ℕ → ℕ → Fault → Type 0
+ComesOfPrefix text year entry_number NoEdition = IsNoEdition year
+ComesOfPrefix text year entry_number NoEntry = ((edition : Edition) × IsEditionOf year edition) × IsNoPrefix entry_number
+ComesOfPrefix text year entry_number NotUtf8 =
+    ((edition : Edition) × IsEditionOf year edition) × ((entry : PrefixEntryPoint) × IsPrefixOf entry_number entry) × (¬ IsUtf8 text)
+ComesOfPrefix text year entry_number TextTooLong = IsAsked text year entry_number (λ edition. ComesOfFront text edition TextTooLong)
+ComesOfPrefix text year entry_number TooManyTokens = IsAsked text year entry_number (λ edition. ComesOfFront text edition TooManyTokens)
+ComesOfPrefix text year entry_number NoMemory = IsAsked text year entry_number (λ edition. ComesOfFront text edition NoMemory)
+ComesOfPrefix text year entry_number NoNode = ⊥
+ComesOfPrefix text year entry_number NoBrace = ⊥

@@ -1,0 +1,29 @@
+//! A kind's name.
+ghost use Rattle.std.specs.Prelude.{◌≡◌, length};
+ghost use Rattle.rap_base.specs.Names.{name_of};
+ghost use Rattle.rap_c.specs.Filling.{overwritten};
+
+use crate::filler::put_bytes;
+use crate::numbers::kind_of;
+
+/// The bytes of a kind's name, or none where the number is no kind's.
+fn name_bytes(kind: u32) -> &'static [u8]
+    ensures { result.now ≡ name_of kind }
+{
+    match kind_of(kind) {
+        Some(kind) => kind.name().as_bytes(),
+        None => &[],
+    }
+}
+
+/// Writes the name of the kind into the slice, as far as it reaches, and answers how many bytes the name has. It has none
+/// where the number is no kind's.
+#[unsafe(no_mangle)]
+pub extern "C" fn rap_kind_name(kind: u32, name: &mut [u8]) -> usize
+    ensures count { result ≡ length (name_of kind) }
+    ensures written { name.new ≡ overwritten name.old (name_of kind) }
+{
+    let bytes = name_bytes(kind);
+    put_bytes(name, 0, bytes);
+    bytes.len()
+}

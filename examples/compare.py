@@ -1,0 +1,89 @@
+#!/usr/bin/env python3
+"""compare.py C_TREE RUST_TREE RAST ROWS FILE ..
+
+Compares what the examples in C and in Rust print: of each row's text with the row's hash, and of each file with what the
+program `rast` prints, with its status. A row is `EDITION ENTRY HASH TEXT`, the text in quotes, as in
+crates/rast_replay/data/texts.txt. Prints what differs, and how many were the same."""
+import concurrent.futures
+import os
+import re
+import subprocess
+import sys
+import tempfile
+
+ENTRIES = ['SourceFile', 'MacroStmts', 'MacroItems', 'Pattern', 'Type', 'Expr', 'MetaItem']
+LETTERS = {'n': '\n', 'r': '\r', 't': '\t', '0': '\0'}
+
+
+def unquoted(quoted):
+    """The text that stands in these quotes."""
+    def plain(found):
+        code, letter = found.groups()
+        return chr(int(code, 16)) if code else LETTERS.get(letter, letter)
+    return re.sub(r'\\(?:u\{([0-9a-f]+)\}|(.))', plain, quoted[1:-1])
+
+
+def fnv1a(data):
+    """The FNV-1a hash, of 64 bits."""
+    value = 0xcbf29ce484222325
+    for byte in data:
+        value = (value ^ byte) * 0x100000001b3 % 2 ** 64
+    return value
+
+
+def printed(program, edition, entry, file):
+    """What a program prints of a file, and its status."""
+    run = subprocess.run([program, edition, entry, file], stdout=subprocess.PIPE, stderr=subprocess.DEVNULL)
+    return run.stdout, run.returncode
+
+
+def is_row_same(program, folder, number, row):
+    """Whether the program prints of the row's text what the row says."""
+    edition, entry, want, quoted = row.split(' ', 3)
+    file = os.path.join(folder, str(number))
+    with open(file, 'w', encoding='utf-8', newline='') as out:
+        out.write(unquoted(quoted))
+    lines, status = printed(program, edition, entry, file)
+    os.remove(file)
+    return status < 2 and fnv1a(lines) == int(want, 16)
+
+
+def compare_rows(program, rows):
+    """Prints the rows that the program prints otherwise, and answers how many there are."""
+    with tempfile.TemporaryDirectory() as folder, concurrent.futures.ThreadPoolExecutor() as pool:
+        same = list(pool.map(lambda at: is_row_same(program, folder, at, rows[at]), range(len(rows))))
+    for row in [row for row, is_same in zip(rows, same) if not is_same]:
+        print('-', row)
+    return same.count(False)
+
+
+def compare_files(programs, rast, files):
+    """Prints the files of which a program prints something else than `rast`, and answers how many there are."""
+    different = 0
+    for file in files:
+        for edition, entry in [('2024', 'SourceFile'), ('2015', 'Expr'), ('2021', 'MacroStmts')]:
+            want = printed(rast, edition, entry, file)
+            for program in programs:
+                if printed(program, edition, entry, file) != want:
+                    print('-', program, edition, entry, file)
+                    different += 1
+    return different
+
+
+def main():
+    if len(sys.argv) < 6:
+        sys.exit(__doc__)
+    in_c, in_rust, rast, rows_file, *files = sys.argv[1:]
+    with open(rows_file, encoding='utf-8', newline='') as lines:
+        rows = [row for row in lines.read().split('\n') if row and row.split(' ')[1] in ENTRIES]
+    different = 0
+    for program in [in_c, in_rust]:
+        found = compare_rows(program, rows)
+        print(f'{program}: {len(rows) - found} rows same, {found} different')
+        different += found
+    found = compare_files([in_c, in_rust], rast, files)
+    print(f'{len(files)} files as rast prints them, {found} differences')
+    sys.exit(different + found > 0)
+
+
+main()

@@ -1,0 +1,154 @@
+/* The parser of Rust, called from C.
+ *
+ * Each call is given a text as bytes, and the caller's room: an array of steps, and an array of bytes for the messages.
+ * It fills each array from its begin on and as far as it reaches, writes nothing else, and answers how many steps and how
+ * many bytes of messages there are in all. With room for none, it counts. No token's text is copied: a step has the bytes
+ * of the caller's text.
+ *
+ *     struct rap_answer answer = rap_tree(text, length, 2024, RAP_SOURCE_FILE, steps, room, messages, message_room);
+ *     if (answer.status == RAP_OK && answer.steps > room) ...       more room is needed, and the call is made again
+ *
+ * What a caller owes:
+ * - No pointer is NULL, also where its length is 0: then any address of the type will do, as that of a variable.
+ * - An array that is written to overlaps nothing else that the call is given.
+ * - The program is linked with the kit's memory, liblibc_c.a, which calls malloc, realloc and free.
+ * - There is stack: a text that nests takes some 250 to 900 bytes for a level. There is no limit in the code.
+ * Calls may run on several threads at a time. Nothing is kept from one to the next, and all memory that a call took is free
+ * again when it returns.
+ */
+#ifndef RAP_H
+#define RAP_H
+
+#include <stddef.h>
+#include <stdint.h>
+
+#ifdef __cplusplus
+extern "C" {
+#endif
+
+/* What a step is. */
+enum rap_what {
+    RAP_ENTER = 0,   /* a node begins */
+    RAP_EXIT = 1,    /* the newest open node ends */
+    RAP_TOKEN = 2,   /* a token: a leaf of the newest open node */
+    RAP_MESSAGE = 3, /* a message */
+    RAP_SPLIT = 4    /* under RAP_NO_TREE alone: a float that is taken apart, as `0.1` of `x.0.1` */
+};
+
+/* A step. Places are bytes of the text, from 0 on, but under RAP_NO_TREE tokens that are no trivia, from 0 on.
+ * `what`: one of enum rap_what.
+ * `kind`: the number of the node's or the token's kind. 0 at RAP_EXIT and RAP_MESSAGE. At RAP_SPLIT 1 where the float ends
+ *     in a dot, and then it ends one node, and else 0, and then it ends two.
+ * `at`: where the step stands. A node begins there, or ends there, trivia and all.
+ * `start`, `end`: the first place of a token, and the one behind it. At a node's begin and end both are `at`. At
+ *     RAP_MESSAGE these are bytes of the messages' array, and one message begins where the last one ended.
+ */
+struct rap_step {
+    uint32_t what;
+    uint32_t kind;
+    size_t at;
+    size_t start;
+    size_t end;
+};
+
+/* Statuses. */
+enum rap_status {
+    RAP_OK = 0,              /* the steps are those of one tree, or of a text's tokens */
+    RAP_NO_TREE = 1,         /* the steps are those of an output that is no tree, or several */
+    RAP_NO_EDITION = 2,      /* the number is no edition's year */
+    RAP_NO_ENTRY = 3,        /* the number is no entry's */
+    RAP_NOT_UTF8 = 4,        /* the bytes are no UTF-8 */
+    RAP_TEXT_TOO_LONG = 5,   /* the text has more than 4,294,967,295 bytes */
+    RAP_TOO_MANY_TOKENS = 6, /* the text has more than 8,388,607 tokens that are no trivia */
+    RAP_NO_MEMORY = 7,       /* memory was refused */
+    RAP_NO_NODE = 8,         /* such a node is not parsed again alone */
+    RAP_NO_BRACE = 9         /* the node is to begin with a `{`, and the text does not */
+};
+
+/* What a call answers.
+ * `status`: one of enum rap_status. From RAP_NO_EDITION on nothing was written, and the other numbers are 0.
+ * `steps`: how many steps there are; the first of them are in the caller's array, as far as it reaches.
+ * `message_bytes`: the same of the bytes of the messages, which are UTF-8 and have no 0 at their end.
+ * `used`: how many bytes of the text the steps are about: up to the end of the last token that was taken.
+ */
+struct rap_answer {
+    uint32_t status;
+    size_t steps;
+    size_t message_bytes;
+    size_t used;
+};
+
+/* Top entries: what a whole text is read as. */
+enum rap_entry {
+    RAP_SOURCE_FILE = 0, /* a file */
+    RAP_MACRO_STMTS = 1, /* what a macro gives as statements */
+    RAP_MACRO_ITEMS = 2, /* what a macro gives as items */
+    RAP_PATTERN = 3,     /* a pattern, with its alternatives */
+    RAP_TYPE = 4,        /* a type */
+    RAP_EXPR = 5,        /* an expression */
+    RAP_META_ITEM = 6    /* what stands in the brackets of an attribute */
+};
+
+/* Prefix entries: what is read from the front of a text. */
+enum rap_prefix_entry {
+    RAP_PREFIX_VIS = 0,      /* a visibility, if there is one */
+    RAP_PREFIX_BLOCK = 1,    /* a block */
+    RAP_PREFIX_STMT = 2,     /* a statement, without the semicolon behind it */
+    RAP_PREFIX_PAT = 3,      /* a pattern without alternatives */
+    RAP_PREFIX_PAT_TOP = 4,  /* a pattern, with its alternatives */
+    RAP_PREFIX_TYPE = 5,     /* a type */
+    RAP_PREFIX_EXPR = 6,     /* an expression */
+    RAP_PREFIX_PATH = 7,     /* a path, as in a type */
+    RAP_PREFIX_ITEM = 8,     /* an item, or a macro call in its place */
+    RAP_PREFIX_META_ITEM = 9 /* what stands in the brackets of an attribute */
+};
+
+/* Kinds are numbered from 0 to RAP_LAST_KIND; rap_kind_name tells their names. RAP_NO_KIND is no kind's number. */
+enum { RAP_LAST_KIND = 329, RAP_NO_KIND = 330 };
+
+/* The tree of a text, whatever the text is: its steps from left to right, trivia put back, so that the texts of the tokens
+ * joined are the text. Behind the last node's end stand the lexer's messages, each at its token.
+ * `text`, `text_length`: the bytes. `edition`: 2015, 2018, 2021 or 2024. `entry`: one of enum rap_entry.
+ * Status: RAP_OK, RAP_NO_EDITION, RAP_NO_ENTRY, RAP_NOT_UTF8, RAP_TEXT_TOO_LONG, RAP_TOO_MANY_TOKENS, RAP_NO_MEMORY; the
+ * first of them that fits. `used` is the text's length.
+ */
+struct rap_answer rap_tree(const uint8_t *text, size_t text_length, uint32_t edition, uint32_t entry,
+                           struct rap_step *steps, size_t step_room, uint8_t *messages, size_t message_room);
+
+/* The tokens of a text, trivia among them: a RAP_TOKEN step for each, and behind the last one the lexer's messages, each at
+ * its token. Nothing is parsed.
+ * Status: RAP_OK, RAP_NO_EDITION, RAP_NOT_UTF8, RAP_TEXT_TOO_LONG, RAP_NO_MEMORY; the first of them that fits. `used` is
+ * the text's length.
+ */
+struct rap_answer rap_tokens(const uint8_t *text, size_t text_length, uint32_t edition,
+                             struct rap_step *steps, size_t step_room, uint8_t *messages, size_t message_room);
+
+/* What stands at the front of a text, as a macro matches it. `entry`: one of enum rap_prefix_entry.
+ * Where it is one tree the status is RAP_OK, and the steps are that tree's, with the trivia around its tokens. Where it is
+ * none, or several, it is RAP_NO_TREE, and places count the text's tokens that are no trivia: those of rap_tokens, but
+ * WHITESPACE and COMMENT. The lexer's messages are not among the steps.
+ * `used` is where the last token that was taken ends; what stands behind it is left.
+ * Else the status is RAP_NO_EDITION, RAP_NO_ENTRY, RAP_NOT_UTF8, RAP_TEXT_TOO_LONG, RAP_TOO_MANY_TOKENS or RAP_NO_MEMORY.
+ */
+struct rap_answer rap_prefix(const uint8_t *text, size_t text_length, uint32_t edition, uint32_t entry,
+                             struct rap_step *steps, size_t step_room, uint8_t *messages, size_t message_room);
+
+/* A node in braces, parsed again from its own text after an edit inside its braces. `node`: the number of its kind.
+ * `first_child`, `parent`: those of the first thing in it and of the node around it, or RAP_NO_KIND.
+ * The answer is as that of rap_prefix. RAP_NO_NODE comes where such a node is not parsed again alone, and RAP_NO_BRACE
+ * where it is to begin with a `{` and the text does not; a block says itself that its brace is missing.
+ */
+struct rap_answer rap_reparse(const uint8_t *text, size_t text_length, uint32_t edition, uint32_t node,
+                              uint32_t first_child, uint32_t parent,
+                              struct rap_step *steps, size_t step_room, uint8_t *messages, size_t message_room);
+
+/* Writes the name of a kind, ASCII with no 0 at its end, as far as there is room, and answers how many bytes the name has:
+ * 0 where the number is no kind's. No name has more than 32 bytes.
+ */
+size_t rap_kind_name(uint32_t kind, uint8_t *name, size_t name_room);
+
+#ifdef __cplusplus
+}
+#endif
+
+#endif
