@@ -4,7 +4,7 @@ use Rattle.rap_base.specs.declared.edition.Edition.{Edition}
 use Rattle.rap_events.specs.Forest.{Forest}
 use Rattle.ra_ap_parser.specs.Headline.{HasTooManyTokens, IsParsed}
 use Rattle.ra_ap_parser.specs.LexedStr.{Lexed}
-use Rattle.ra_ap_parser.specs.StrForest.{str_flat}
+use Rattle.ra_ap_parser.specs.StrForest.{str_flat, str_joined}
 use Rattle.ra_ap_parser.specs.Trivia.{with_trivia}
 use Rattle.ra_ap_parser.specs.declared.entry_point.TopEntryPoint.{TopEntryPoint}
 use Rattle.rap_c.specs.Given.{IsGiven}
@@ -19,11 +19,12 @@ use Rattle.rap_c.specs.declared.step.RapStep.{RapStep}
 abbrev pub tree_items : Lexed → Forest → List Item
 tree_items lexed forest = text_items (str_flat (with_trivia lexed.tokens forest)) ++ lexer_items lexed.tokens lexed.errors
 
--- The text's one tree is given.
+-- The text's one tree is given; the texts of its tokens joined are the text.
 pub record IsFilledTree (text : List ℕ) (edition : Edition) (entry : TopEntryPoint) (steps steps_after : List RapStep) (messages messages_after : List ℕ) (answer : RapAnswer) : Type 0 where
   pub lexed : Lexed
   pub forest : Forest
   pub parsed : IsParsed text edition entry lexed forest
+  pub whole : str_joined (with_trivia lexed.tokens forest) ≡ text
   pub given : IsGiven (tree_items lexed forest) steps steps_after messages messages_after answer
   pub status : answer.status ≡ 0
   pub used : answer.used ≡ length text

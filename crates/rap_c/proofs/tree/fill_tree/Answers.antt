@@ -11,6 +11,7 @@ returns-in-Ok-clause-filled c =
       lexed = c.in-Ok.parsed.lexed;
       forest = h.forest;
       parsed = h.parsed;
+      whole = h.whole;
       given = given_back _ c.args.steps.now _ c.args.messages.now _ c.new-filler.result c.add_errors_of.new.self 0 _ _ c.new-filler.ensures.start
           added (search (rules, added.same.steps)) (search (rules, added.same.messages)) c.answer.ensures;
       status = ap (λ (a : RapAnswer). a.status) c.answer.ensures;
