@@ -1,17 +1,17 @@
 -- The records of a text, appended one by one.
-use Rattle.std.proofs.Common.{◌≡◌, refl, sym, ◌∙◌, ap, List, [], ◌∷◌, ◌++◌, ℕ, ◌+◌, ◌<◌, inl, inr, true, false, append_assoc, append-nil, ◌≤◌, length, drop, Some}
-use Rattle.std.specs.Prelude.{Bool, ◌==◌, unwrap_or, bytes_eq}
+use Rattle.std.proofs.Common.{◌≡◌, refl, sym, ◌∙◌, ap, List, [], ◌∷◌, ◌++◌, ℕ, ◌+◌, ◌<◌, inl, inr, true, append_assoc, append-nil, ◌≤◌, length, drop, Some}
+use Rattle.std.specs.Prelude.{unwrap_or, bytes_eq}
 use Rattle.std.specs.List.{list_all}
 use Rattle.std.proofs.lemmas.Bool.{and_parts, cases_Bool, cond-true, cond-false}
 use Rattle.std.proofs.lemmas.List.{drop_more, drop_all}
 use Rattle.rap_base.specs.TokenKind.{EOF, IDENT}
-use Rattle.rap_base.specs.TokenTests.{is_token, is_trivia}
+use Rattle.rap_base.specs.TokenTests.{is_token}
 use Rattle.rap_base.specs.Keyword.{contextual, kind_of_word, from_contextual_keyword}
 use Rattle.rap_base.specs.declared.edition.Edition.{Edition}
 use Rattle.rap_base.specs.declared.edition.Edition.TheVariants.{Edition2015, Edition2018, Edition2021, Edition2024}
 use Rattle.rap_events.specs.Record.{Record}
 use Rattle.ra_ap_parser.specs.LexedStr.{Token, token_at}
-use Rattle.ra_ap_parser.specs.Input.{contextual_of, joint_of, records, records_at}
+use Rattle.ra_ap_parser.specs.Input.{records, records_at}
 use Rattle.ra_ap_parser.specs.Trivia.{is_trivial}
 use Rattle.ra_ap_parser.proofs.Records.{record_of, records-trivial, records-significant}
 
