@@ -16,13 +16,11 @@ use Rattle.rap_events.proofs.parser.Parser.process.Goals as goal
 
 pub process-requires-clause-closed : goal.process-requires-clause-closed
 unfolding state calls
-process-requires-clause-closed c = rw c.deref.ensures.value c.requires
+process-requires-clause-closed c = c.requires
 
 pub returns-clause-forest : goal.returns-clause-forest
 unfolding state calls
-returns-clause-forest c =
-    let texts : List (List ℕ) = map string_bytes c.args.self.messages.items in
-    c.in_ok-output.ensures ∙ ap (λ (es : List Event). (run initial (history es texts)).forest) c.deref.ensures.value
+returns-clause-forest c = c.in_ok-output.ensures
 
 pub returns-clause-tree : goal.returns-clause-tree
 unfolding state calls
