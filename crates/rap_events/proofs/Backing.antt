@@ -1,11 +1,10 @@
 -- One event back, on the code's own lists.
-use Rattle.std.proofs.Common.{◌≡◌, ℕ, ◌+◌, ◌<◌, ◌≤◌, List, [], ◌∷◌, ◌++◌, length, length-append, take, map, get_or, refl, sym, ap, ◌∙◌, arith}
-use Rattle.std.specs.Prelude.{String, string_bytes}
-use Rattle.std.specs.declared.alloc.Global.{Global}
+use Rattle.std.proofs.Common.{◌≡◌, ℕ, ◌+◌, ◌<◌, ◌≤◌, List, [], ◌∷◌, ◌++◌, length, take, map, get_or, refl, sym, ap, ◌∙◌, arith}
+use Rattle.std.specs.Prelude.{string_bytes}
 use Rattle.std.proofs.lemmas.List.{take_more, map-append, length-map, length-take-le}
 use Rattle.rap_events.specs.History.{Call, history, errors}
 use Rattle.rap_events.specs.History as call
-use Rattle.rap_events.specs.Unwind.{Walk, back, unwind, walk_of, calls_left, nothing_yet, Taken, Backed, ReportedBack, EventBacked, Same}
+use Rattle.rap_events.specs.Unwind.{back, unwind, walk_of, calls_left, nothing_yet, Taken, Backed, ReportedBack, EventBacked, Same}
 use Rattle.rap_events.specs.declared.event.Event.{Event}
 use Rattle.rap_events.specs.declared.event.Event.TheVariants as event
 use Rattle.rap_events.specs.declared.event.walk.Walk as kept
@@ -32,10 +31,10 @@ backed e x before old new s t h b =
       left = ap (λ (n : ℕ). n + 1) b.kept.left ∙ t.left;
       paired = ap errors es ∙ sym (errors-push (unread old) e x s) ∙ ap errors (sym t.events) ∙ h ∙ sym (b.kept.reports ∙ t.reports);
       unwound =
-      ap (λ (xs : List Call). unwind xs (walk_of new)) (ap (λ (xs : List Event). history xs (texts new)) es ∙ ap (history (unread old)) ms)
-      ∙ ap (unwind (history (unread old) (texts before))) (b.walk ∙ ap (back x) t.walk)
-      ∙ sym (unwind-push (history (unread old) (texts before)) x (walk_of before))
-      ∙ ap (λ (xs : List Call). unwind xs (walk_of before)) (sym (ap (λ (xs : List Event). history xs (texts before)) t.events ∙ history-push (unread old) (texts before) e x s));
+          ap (λ (xs : List Call). unwind xs (walk_of new)) (ap (λ (xs : List Event). history xs (texts new)) es ∙ ap (history (unread old)) ms)
+          ∙ ap (unwind (history (unread old) (texts before))) (b.walk ∙ ap (back x) t.walk)
+          ∙ sym (unwind-push (history (unread old) (texts before)) x (walk_of before))
+          ∙ ap (λ (xs : List Call). unwind xs (walk_of before)) (sym (ap (λ (xs : List Event). history xs (texts before)) t.events ∙ history-push (unread old) (texts before) e x s));
     }
 
 reported_back : (before old new : kept.Walk) → Taken event.Error before old → errors (unread before) ≡ before.reports → before.reports ≤ length before.messages.items → ReportedBack old new → Same before new
@@ -52,10 +51,10 @@ reported_back before old new t h l b =
       left = ap (λ (n : ℕ). n + 1) b.left ∙ t.left;
       paired = ap errors es ∙ paired;
       unwound =
-      ap (λ (xs : List Call). unwind xs (walk_of new)) (ap (λ (xs : List Event). history xs (texts new)) es)
-      ∙ ap (unwind (history (unread old) (texts new))) (b.walk ∙ ap (back (call.error m)) t.walk)
-      ∙ sym (unwind-push (history (unread old) (texts new)) (call.error m) (walk_of before))
-      ∙ ap (λ (xs : List Call). unwind xs (walk_of before)) (sym (ap (λ (xs : List Event). history xs (texts before)) t.events ∙ ap (history (unread old ++ event.Error ∷ [])) met ∙ history-report (unread old) (texts new) m told));
+          ap (λ (xs : List Call). unwind xs (walk_of new)) (ap (λ (xs : List Event). history xs (texts new)) es)
+          ∙ ap (unwind (history (unread old) (texts new))) (b.walk ∙ ap (back (call.error m)) t.walk)
+          ∙ sym (unwind-push (history (unread old) (texts new)) (call.error m) (walk_of before))
+          ∙ ap (λ (xs : List Call). unwind xs (walk_of before)) (sym (ap (λ (xs : List Event). history xs (texts before)) t.events ∙ ap (history (unread old ++ event.Error ∷ [])) met ∙ history-report (unread old) (texts new) m told));
     }
 
 pub event_back : (e : Event) (before old new : kept.Walk) → Taken e before old → errors (unread before) ≡ before.reports → before.reports ≤ length before.messages.items → EventBacked e old new → Same before new

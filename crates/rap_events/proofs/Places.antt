@@ -5,8 +5,8 @@ use Rattle.std.specs.Prelude.{String, string_bytes}
 use Rattle.std.specs.declared.alloc.Global.{Global}
 use Rattle.rap_events.specs.StepValue.{StepValue, enter, error}
 use Rattle.rap_events.specs.Output.{values}
-use Rattle.rap_events.specs.Pending.{inners, glue, others, pasts, slot}
-use Rattle.rap_events.specs.Unwind.{enters, entered, walk_of, Walk}
+use Rattle.rap_events.specs.Pending.{inners, glue, others, pasts}
+use Rattle.rap_events.specs.Unwind.{entered, walk_of}
 use Rattle.rap_events.specs.declared.event.Event.{Event}
 use Rattle.rap_events.specs.declared.event.Event.TheVariants as event
 use Rattle.rap_events.specs.declared.event.walk.Pending.{Pending}

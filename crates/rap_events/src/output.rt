@@ -202,11 +202,8 @@ impl<'a> Iterator for Steps<'a> {
                 Step::Error { msg }
             }
             // No output holds any of these.
-            Event::Start
-            | Event::Precede
-            | Event::Finish { .. }
-            | Event::Extend
-            | Event::Abandon => Step::Error { msg: "" },
+            Event::Start | Event::Precede | Event::Finish { .. } | Event::Extend | Event::Abandon =>
+                Step::Error { msg: "" },
         })
     }
 

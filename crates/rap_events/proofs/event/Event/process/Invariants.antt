@@ -1,4 +1,4 @@
-use Rattle.std.proofs.Common.{◌≡◌, length, take, map}
+use Rattle.std.proofs.Common.{◌≡◌, take, map}
 use Rattle.std.specs.Prelude.{string_bytes}
 use Rattle.rap_events.specs.History.{history, errors}
 use Rattle.rap_events.specs.Unwind.{walk_of, unwind, nothing_yet, calls_left}

@@ -1,11 +1,8 @@
 use mathlib.Core.Logic.{∥∥₁_map}
-use Rattle.std.proofs.Common.{◌≡◌, refl, ℕ, List, length-drop, map, ap, ◌∙◌, arith}
-use Rattle.std.specs.Prelude.{string_bytes}
+use Rattle.std.proofs.Common.{◌≡◌, refl, length-drop, ap, ◌∙◌, arith}
 use Rattle.rap_events.specs.Forest.{used}
-use Rattle.rap_events.specs.History.{history}
 use Rattle.rap_events.specs.Machine.{run, initial}
 use Rattle.rap_events.specs.State.{state, calls}
-use Rattle.rap_events.specs.declared.event.Event.{Event}
 use Rattle.rap_events.proofs.Finished.{covered, used_all}
 use Rattle.rap_events.proofs.Intervals.{forest_is_tree}
 use Rattle.rap_events.proofs.MessageCount.{no_messages}

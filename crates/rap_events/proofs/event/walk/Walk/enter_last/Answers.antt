@@ -1,4 +1,4 @@
-use Rattle.std.proofs.Common.{◌≡◌, ◌+◌, [], ◌∷◌, ◌++◌, length, length-append, refl, ap, ◌∙◌, arith}
+use Rattle.std.proofs.Common.{◌≡◌, ◌+◌, [], ◌∷◌, ◌++◌, length, length-append, ap, ◌∙◌, arith}
 use Rattle.rap_events.specs.Pending.{inners, slot}
 use Rattle.rap_events.specs.declared.event.walk.Pending.{Pending}
 use Rattle.rap_events.specs.declared.event.walk.Pending.TheVariants as pending

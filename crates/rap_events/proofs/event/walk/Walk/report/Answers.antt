@@ -1,9 +1,7 @@
-use Rattle.std.proofs.Common.{◌≡◌, ℕ, List, ◌+◌, ◌-◌, ◌∷◌, ◌++◌, [], reverse, take, drop, refl, ap, sym, ◌∙◌, arith}
-use Rattle.std.specs.Prelude.{String, string_bytes}
-use Rattle.std.specs.declared.alloc.Global.{Global}
-use Rattle.rap_events.specs.StepValue.{StepValue, error}
+use Rattle.std.proofs.Common.{◌≡◌, ℕ, ◌+◌, ◌-◌, ◌∷◌, drop, refl, ap, ◌∙◌, arith}
+use Rattle.std.specs.Prelude.{string_bytes}
+use Rattle.rap_events.specs.StepValue.{error}
 use Rattle.rap_events.specs.Output.{values}
-use Rattle.rap_events.specs.Unwind.{walk_of}
 use Rattle.rap_events.proofs.Places.{at, error_value}
 use Rattle.rap_events.proofs.event.walk.Walk.report.Goals as goal
 
