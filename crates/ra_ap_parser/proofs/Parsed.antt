@@ -6,11 +6,11 @@ use Rattle.rap_events.specs.Forest.{Forest, flat}
 use Rattle.rap_events.specs.Record.{Record}
 use Rattle.rap_grammar.specs.Top.{IsTreeOver}
 use Rattle.ra_ap_parser.specs.EntryScript.{IsOutputOf}
-use Rattle.ra_ap_parser.specs.Input.{records}
-use Rattle.ra_ap_parser.specs.LexedStr.{Lexed, IsLexing}
-use Rattle.ra_ap_parser.specs.OneLexing.{IsOnlyLexing}
-use Rattle.ra_ap_parser.specs.StrForest.{str_one_tree}
-use Rattle.ra_ap_parser.specs.Trivia.{significant, with_trivia}
+use Rattle.rap_lexed.specs.Input.{records}
+use Rattle.rap_lexed.specs.LexedStr.{Lexed, IsLexing}
+use Rattle.rap_lexed.specs.OneLexing.{IsOnlyLexing}
+use Rattle.rap_lexed.specs.StrForest.{str_one_tree}
+use Rattle.rap_lexed.specs.Trivia.{significant, with_trivia}
 use Rattle.ra_ap_parser.specs.Headline.{HasTooManyTokens, IsParsed}
 use Rattle.ra_ap_parser.specs.declared.entry_point.TopEntryPoint.{TopEntryPoint}
 use Rattle.ra_ap_parser.proofs.EntryTrees.{core_tree}

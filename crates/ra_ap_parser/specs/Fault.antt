@@ -1,15 +1,9 @@
 -- The texts of faults.
 use Rattle.std.specs.Prelude.{ℕ, List, codes}
 use Rattle.ra_ap_parser.specs.declared.entry_point.ParseFault.{ParseFault}
-use Rattle.ra_ap_parser.specs.declared.entry_point.ParseFault.TheVariants.{TooManyTokens, NoMemory as ParseNoMemory}
-use Rattle.ra_ap_parser.specs.declared.lexed_str.LexFault.{LexFault}
-use Rattle.ra_ap_parser.specs.declared.lexed_str.LexFault.TheVariants.{TextTooLong, NoMemory}
+use Rattle.ra_ap_parser.specs.declared.entry_point.ParseFault.TheVariants.{TooManyTokens, NoMemory}
 use Rattle.ra_ap_parser.specs.declared.whole_text.TextFault.{TextFault}
 use Rattle.ra_ap_parser.specs.declared.whole_text.TextFault.TheVariants.{TextTooLong as TooLong, TooManyTokens as TooMany, NoMemory as TextNoMemory, Refused}
-
-abbrev pub lex_fault_text : LexFault → List ℕ
-lex_fault_text TextTooLong = codes "text too long"
-lex_fault_text NoMemory = codes "no memory"
 
 abbrev pub text_fault_text : {R : Type 0} → TextFault R → List ℕ
 text_fault_text TooLong = codes "text too long"
@@ -19,4 +13,4 @@ text_fault_text (Refused e) = codes "refused by the sink"
 
 abbrev pub parse_fault_text : ParseFault → List ℕ
 parse_fault_text TooManyTokens = codes "too many tokens"
-parse_fault_text ParseNoMemory = codes "no memory"
+parse_fault_text NoMemory = codes "no memory"

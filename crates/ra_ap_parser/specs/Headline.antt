@@ -4,12 +4,12 @@ use Rattle.rap_base.specs.declared.edition.Edition.{Edition}
 use Rattle.rap_events.specs.Cover.{covers}
 use Rattle.rap_events.specs.Forest.{Forest, flat, one_tree, used, message_count}
 use Rattle.ra_ap_parser.specs.EntryScript.{IsOutputOf, IsCore}
-use Rattle.ra_ap_parser.specs.Input.{records}
-use Rattle.ra_ap_parser.specs.LexedStr.{Lexed, IsLexing}
-use Rattle.ra_ap_parser.specs.StrForest.{str_flat, str_joined, str_one_tree}
-use Rattle.ra_ap_parser.specs.StrSink.{Takes, Stops}
-use Rattle.ra_ap_parser.specs.StrStep.{StrStepValue}
-use Rattle.ra_ap_parser.specs.Trivia.{significant, with_trivia}
+use Rattle.rap_lexed.specs.Input.{records}
+use Rattle.rap_lexed.specs.LexedStr.{Lexed, IsLexing}
+use Rattle.rap_lexed.specs.StrForest.{str_flat, str_joined, str_one_tree}
+use Rattle.rap_lexed.specs.StrSink.{Takes, Stops}
+use Rattle.rap_lexed.specs.StrStep.{StrStepValue}
+use Rattle.rap_lexed.specs.Trivia.{significant, with_trivia}
 use Rattle.ra_ap_parser.specs.declared.entry_point.TopEntryPoint.{TopEntryPoint}
 use Rattle.ra_ap_parser.specs.declared.whole_text.TextFault.{TextFault}
 use Rattle.ra_ap_parser.specs.declared.whole_text.TextFault.TheVariants.{TextTooLong, TooManyTokens, NoMemory, Refused}

@@ -14,9 +14,6 @@ use std::alloc::Global;
 use std::error::Error;
 use std::fmt;
 
-#[cfg(test)]
-mod tests;
-
 /// The most tokens that an input may have, so that each event's place fits 32 bits.
 pub const MAX_TOKENS: usize = 8_388_607;
 

@@ -7,15 +7,10 @@
 #![tactic(auto)]
 
 mod entry_point;
-#[cfg(test)]
-mod fronts;
-mod lexed_str;
 mod reparser;
-mod shortcuts;
 mod whole_text;
 
 pub use entry_point::{MAX_TOKENS, ParseFault, PrefixEntryPoint, TopEntryPoint};
-pub use lexed_str::{Errors, LexFault, LexedStr, MAX_TEXT};
 pub use rap_base::edition::{Edition, InvalidEdition};
 pub use rap_base::no_memory::NoMemory;
 pub use rap_base::syntax_kind::SyntaxKind;
@@ -23,7 +18,8 @@ pub use rap_base::whitespace::is_rust_whitespace;
 pub use rap_events::input::Input;
 pub use rap_events::output::{Output, Step, Steps};
 pub use rap_grammar::entry::is_one_tree;
+pub use rap_lexed::lexed_str::{Errors, LexFault, LexedStr, MAX_TEXT};
+pub use rap_lexed::shortcuts::{StrSink, StrStep};
 pub use rap_script::frontmatter;
 pub use reparser::Reparser;
-pub use shortcuts::{StrSink, StrStep};
 pub use whole_text::{ParsedText, TextFault, parse_text};

@@ -14,9 +14,6 @@ use rap_grammar::entry::part::{Part, parse_part};
 use std::alloc::Global;
 use std::marker::Model;
 
-#[cfg(test)]
-mod tests;
-
 /// How a node is parsed again, alone, after an edit inside its braces.
 #[derive(Clone, Copy, Debug, PartialEq, Eq)]
 pub struct Reparser {

@@ -3,9 +3,9 @@ ghost use Rattle.std.specs.Prelude.{◌≡◌, ◌≤◌, ◌<◌, ◌↔◌, �
 ghost use Rattle.ra_ap_parser.specs.Headline.{HasTooManyTokens, Headline, Leaves};
 
 use crate::entry_point::{MAX_TOKENS, ParseFault, TopEntryPoint};
-use crate::lexed_str::{LexFault, LexedStr, MAX_TEXT, significant_tokens};
-use crate::shortcuts::StrSink;
 use rap_base::edition::Edition;
+use rap_lexed::lexed_str::{LexFault, LexedStr, MAX_TEXT, significant_tokens};
+use rap_lexed::shortcuts::StrSink;
 use std::alloc::Global;
 use std::error::Error;
 use std::fmt;

@@ -2,11 +2,11 @@
 use Rattle.std.proofs.Common.{◌≡◌, ℕ, List, [], ◌∷◌, ◌++◌, true, false, length, refl, ap, subst, sym, ◌∙◌, zero-add}
 use Rattle.std.proofs.lemmas.Bool.{cond-true, cond-false}
 use Rattle.rap_events.specs.Forest.{Forest, flat, one_tree}
-use Rattle.ra_ap_parser.specs.LexedStr.{Token}
-use Rattle.ra_ap_parser.specs.StrForest.{str_flat}
-use Rattle.ra_ap_parser.specs.StrSink.{Takes}
-use Rattle.ra_ap_parser.specs.StrStep.{StrStepValue}
-use Rattle.ra_ap_parser.specs.Trivia.{with_trivia}
+use Rattle.rap_lexed.specs.LexedStr.{Token}
+use Rattle.rap_lexed.specs.StrForest.{str_flat}
+use Rattle.rap_lexed.specs.StrSink.{Takes}
+use Rattle.rap_lexed.specs.StrStep.{StrStepValue}
+use Rattle.rap_lexed.specs.Trivia.{with_trivia}
 use Rattle.rap_c.specs.Item.{Item, counted, all_said, text_items, output_items}
 use Rattle.rap_c.specs.Filling.{Filling, after_all}
 use Rattle.rap_c.specs.Fills.{filling_of, IsStart, IsSame, AddsAll, AddsStep}

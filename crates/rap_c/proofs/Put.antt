@@ -3,7 +3,7 @@ use Rattle.std.proofs.Common.{◌≡◌, ℕ, ◌+◌, ◌^◌, ◌≤◌, ◌<�
 use Rattle.std.proofs.lemmas.List.{drop_more, drop_all}
 use mir.Val.{bool_byte}
 use Rattle.std.specs.Prelude.{slice_set, if◌then◌else◌}
-use Rattle.ra_ap_parser.specs.LexedStr.{Token, token_at}
+use Rattle.rap_lexed.specs.LexedStr.{Token, token_at}
 use Rattle.rap_c.specs.Item.{Item, enter, exit, token, split, message, remark, width_of, said_by, counted, row, token_items}
 use Rattle.rap_c.specs.Filling.{write_at, Filling, after_all}
 use Rattle.rap_c.specs.Fills.{filling_of, IsSame, Adds, Puts}

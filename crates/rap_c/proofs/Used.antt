@@ -4,9 +4,9 @@ use Rattle.std.proofs.lemmas.Bool.{cond-true, cond-false}
 use Rattle.std.proofs.lemmas.List.{drop_all, drop_more, take_all}
 use Rattle.rap_events.specs.StepValue.{StepValue, enter, exit, token, float_split, error}
 use Rattle.rap_events.specs.Forest.{Forest, none, node, leaf, message, split, flat, split_ends, exit_of, used}
-use Rattle.ra_ap_parser.specs.LexedStr.{Token, joined, start_of, token_at}
-use Rattle.ra_ap_parser.specs.Trivia.{is_trivial}
-use Rattle.ra_ap_parser.proofs.Tokens.{start_of_next}
+use Rattle.rap_lexed.specs.LexedStr.{Token, joined, start_of, token_at}
+use Rattle.rap_lexed.specs.Trivia.{is_trivial}
+use Rattle.rap_lexed.proofs.Tokens.{start_of_next}
 use Rattle.rap_c.specs.Used.{end_after}
 
 -- how many tokens these steps stand for

@@ -1,7 +1,7 @@
 -- What a filler does.
 -- (What calls promise one another; no promise of the library rests on it.)
 use Rattle.std.specs.Prelude.{◌≡◌, ℕ, ◌+◌, ◌<◌, ◌^◌, List, length, slice_set}
-use Rattle.ra_ap_parser.specs.StrStep.{StrStepValue}
+use Rattle.rap_lexed.specs.StrStep.{StrStepValue}
 use Rattle.rap_c.specs.Item.{Item, counted, text_item}
 use Rattle.rap_c.specs.Filling.{Filling, after, after_all}
 use Rattle.rap_c.specs.declared.filler.Filler.{Filler}

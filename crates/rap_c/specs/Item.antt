@@ -1,8 +1,8 @@
 -- What is handed to a caller, one thing after another, and the numbers of each.
 use Rattle.std.specs.Prelude.{ℕ, ◌+◌, ◌-◌, ◌^◌, Bool, List, [], ◌∷◌, ◌++◌, length, map, min, if◌then◌else◌}
 use Rattle.rap_events.specs.StepValue as raw
-use Rattle.ra_ap_parser.specs.LexedStr.{Token, Message, start_of}
-use Rattle.ra_ap_parser.specs.StrStep.{StrStepValue, str_enter, str_exit, str_token, str_error}
+use Rattle.rap_lexed.specs.LexedStr.{Token, Message, start_of}
+use Rattle.rap_lexed.specs.StrStep.{StrStepValue, str_enter, str_exit, str_token, str_error}
 use Rattle.rap_c.specs.declared.step.RapStep.{RapStep}
 
 -- A node begins; the newest open node ends; a token of so many bytes of the text, or of so many tokens; a float that is

@@ -1,9 +1,9 @@
 -- What is given of an output.
 use Rattle.std.specs.Prelude.{◌≡◌, ℕ, List, if◌then◌else◌}
 use Rattle.rap_events.specs.Forest.{Forest, flat, one_tree, used}
-use Rattle.ra_ap_parser.specs.LexedStr.{Token}
-use Rattle.ra_ap_parser.specs.StrForest.{str_flat}
-use Rattle.ra_ap_parser.specs.Trivia.{with_trivia}
+use Rattle.rap_lexed.specs.LexedStr.{Token}
+use Rattle.rap_lexed.specs.StrForest.{str_flat}
+use Rattle.rap_lexed.specs.Trivia.{with_trivia}
 use Rattle.rap_c.specs.Given.{IsGiven}
 use Rattle.rap_c.specs.Item.{Item, text_items, output_items}
 use Rattle.rap_c.specs.Used.{end_after}

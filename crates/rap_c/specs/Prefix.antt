@@ -4,8 +4,8 @@ use Rattle.rap_base.specs.declared.edition.Edition.{Edition}
 use Rattle.rap_events.specs.Forest.{Forest}
 use Rattle.ra_ap_parser.specs.EntryScript.{IsPrefixOutputOf}
 use Rattle.ra_ap_parser.specs.Headline.{HasTooManyTokens}
-use Rattle.ra_ap_parser.specs.Input.{records}
-use Rattle.ra_ap_parser.specs.LexedStr.{Lexed, IsLexing}
+use Rattle.rap_lexed.specs.Input.{records}
+use Rattle.rap_lexed.specs.LexedStr.{Lexed, IsLexing}
 use Rattle.ra_ap_parser.specs.declared.entry_point.PrefixEntryPoint.{PrefixEntryPoint}
 use Rattle.rap_c.specs.Numbers.{IsEditionOf, IsNoEdition, IsPrefixOf, IsNoPrefix}
 use Rattle.rap_c.specs.Output.{IsOutput}

@@ -7,8 +7,8 @@ use Rattle.rap_events.specs.Record.{next_kind}
 use Rattle.rap_grammar.specs.Part.{IsPrefixOf, part_script, part_kind, asks_brace}
 use Rattle.rap_grammar.specs.declared.entry.part.Part.{Part}
 use Rattle.ra_ap_parser.specs.Headline.{HasTooManyTokens}
-use Rattle.ra_ap_parser.specs.Input.{records}
-use Rattle.ra_ap_parser.specs.LexedStr.{Lexed, IsLexing}
+use Rattle.rap_lexed.specs.Input.{records}
+use Rattle.rap_lexed.specs.LexedStr.{Lexed, IsLexing}
 use Rattle.ra_ap_parser.specs.Reparsed.{reparsed}
 use Rattle.rap_c.specs.Numbers.{IsEditionOf, IsNoEdition, kind_in}
 use Rattle.rap_c.specs.Output.{IsOutput}

@@ -1,7 +1,7 @@
 -- What is given of a text's tokens.
 use Rattle.std.specs.Prelude.{◌≡◌, ℕ, ◌≤◌, ◌<◌, List, ◌++◌, length, IsUtf8}
 use Rattle.rap_base.specs.declared.edition.Edition.{Edition}
-use Rattle.ra_ap_parser.specs.LexedStr.{Lexed, IsLexing}
+use Rattle.rap_lexed.specs.LexedStr.{Lexed, IsLexing}
 use Rattle.rap_c.specs.Given.{IsGiven}
 use Rattle.rap_c.specs.Item.{Item, token_items, lexer_items}
 use Rattle.rap_c.specs.Numbers.{IsEditionOf, IsNoEdition}

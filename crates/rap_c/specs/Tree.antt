@@ -3,9 +3,9 @@ use Rattle.std.specs.Prelude.{◌≡◌, ℕ, ◌≤◌, ◌<◌, List, ◌++◌
 use Rattle.rap_base.specs.declared.edition.Edition.{Edition}
 use Rattle.rap_events.specs.Forest.{Forest}
 use Rattle.ra_ap_parser.specs.Headline.{HasTooManyTokens, IsParsed}
-use Rattle.ra_ap_parser.specs.LexedStr.{Lexed}
-use Rattle.ra_ap_parser.specs.StrForest.{str_flat, str_joined}
-use Rattle.ra_ap_parser.specs.Trivia.{with_trivia}
+use Rattle.rap_lexed.specs.LexedStr.{Lexed}
+use Rattle.rap_lexed.specs.StrForest.{str_flat, str_joined}
+use Rattle.rap_lexed.specs.Trivia.{with_trivia}
 use Rattle.ra_ap_parser.specs.declared.entry_point.TopEntryPoint.{TopEntryPoint}
 use Rattle.rap_c.specs.Given.{IsGiven}
 use Rattle.rap_c.specs.Item.{Item, text_items, lexer_items}

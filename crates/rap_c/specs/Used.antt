@@ -1,7 +1,7 @@
 -- How much of a text an output is about.
 use Rattle.std.specs.Prelude.{ℕ, zero, suc, ◌+◌, List, [], ◌∷◌, length, if◌then◌else◌}
-use Rattle.ra_ap_parser.specs.LexedStr.{Token}
-use Rattle.ra_ap_parser.specs.Trivia.{is_trivial}
+use Rattle.rap_lexed.specs.LexedStr.{Token}
+use Rattle.rap_lexed.specs.Trivia.{is_trivial}
 
 -- how many bytes there are up to the end of the last of so many tokens that are no trivia
 abbrev pub end_after : ℕ → List Token → ℕ

@@ -2,7 +2,7 @@
 ghost use Rattle.std.specs.Prelude.{◌≡◌, ◌<◌, ◌^◌, length};
 ghost use Rattle.rap_events.specs.Forest.{flat};
 ghost use Rattle.rap_events.specs.Step.{step_value};
-ghost use Rattle.ra_ap_parser.specs.LexedStr.{AreInOrder};
+ghost use Rattle.rap_lexed.specs.LexedStr.{AreInOrder};
 ghost use Rattle.rap_c.specs.Item.{message, output_item, output_items, token_items, lexer_items};
 ghost use Rattle.rap_c.specs.Filling.{write_at};
 

@@ -2,7 +2,7 @@
 ghost use Rattle.std.specs.Prelude.{◌≡◌, ◌≤◌, ◌<◌, IfErr, IfOk, true};
 ghost use Rattle.rap_events.specs.Cover.{covers};
 ghost use Rattle.rap_events.specs.Forest.{used};
-ghost use Rattle.ra_ap_parser.specs.Input.{records};
+ghost use Rattle.rap_lexed.specs.Input.{records};
 ghost use Rattle.rap_c.specs.Output.{IsOutput};
 ghost use Rattle.rap_c.specs.Prefix.{ComesOfFront, ComesOfPrefix, IsFilledPrefix, IsPrefix};
 ghost use Rattle.rap_c.specs.Given.{IsRefusal, IsUntouched};

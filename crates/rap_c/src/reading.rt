@@ -1,9 +1,9 @@
 //! A text as the parser reads it.
 ghost use Rattle.std.specs.Prelude.{◌≡◌, ◌≤◌, ◌<◌, ◌⊎◌, ◌+◌, IfErr, IfOk, IsUtf8, MatchResult, length};
 ghost use Rattle.rap_events.specs.Forest.{used};
-ghost use Rattle.ra_ap_parser.specs.Input.{records};
-ghost use Rattle.ra_ap_parser.specs.LexedStr.{IsLexing};
-ghost use Rattle.ra_ap_parser.specs.Trivia.{significant};
+ghost use Rattle.rap_lexed.specs.Input.{records};
+ghost use Rattle.rap_lexed.specs.LexedStr.{IsLexing};
+ghost use Rattle.rap_lexed.specs.Trivia.{significant};
 ghost use Rattle.rap_c.specs.Used.{end_after};
 
 use crate::answer::Fault;

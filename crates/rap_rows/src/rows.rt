@@ -4,12 +4,10 @@
 //! and `E:a` and `T:a` are the expression and the type that are that path. Each message stands behind a bar, with its
 //! place. In a table each text stands between `«` and `»`, and its tree and messages behind it, each message in a line of
 //! its own; a further line of a message stands behind two bars. In the text and in the tree `¶` is a line feed.
-use ra_ap_parser::{
-    Edition, NoMemory, StrSink, StrStep, SyntaxKind, TextFault, TopEntryPoint, parse_text,
-};
+use crate::same::expect_same;
+use ra_ap_parser::{Edition, NoMemory, StrSink, StrStep, SyntaxKind, TopEntryPoint, parse_text};
 use std::alloc::{AllocError, Global};
 use std::fmt::Write as _;
-use std::process::Abort;
 use std::test::Fail;
 
 /// Writes a tree down in one line, and its messages in another.
@@ -95,7 +93,6 @@ fn spelled_out(alloc: Global, tree: &str) -> Result<String, AllocError> {
 
 /// Compares the text's tree and messages, under an entry, with what they are to be.
 fn compare_text(
-    rt: &impl Abort,
     alloc: Global,
     (edition, entry): (Edition, TopEntryPoint),
     (text, tree, messages): (&str, &str, &str),
@@ -108,36 +105,37 @@ fn compare_text(
     let Ok(parsed) = parse_text(alloc, edition, entry, text, &mut sink) else {
         return Err(Fail::from("not parsed"));
     };
-    assert!(rt; parsed.whole, "{text}");
+    if !parsed.whole {
+        return Err(Fail::from("not whole"));
+    }
     let tree = spelled_out(alloc, tree)?;
-    assert_eq!(rt; sink.tree.as_str(), tree.as_str(), "{text}");
-    assert_eq!(rt; sink.messages.as_str(), messages, "{text}");
-    Ok(())
+    expect_same(text, sink.tree.as_str(), tree.as_str())?;
+    expect_same(text, sink.messages.as_str(), messages)
 }
 
 /// Compares each text, as an expression in the newest edition, with its row.
-pub fn compare(rt: &impl Abort, alloc: Global, rows: &[Row]) -> Result<(), Fail> {
+pub fn compare(alloc: Global, rows: &[Row]) -> Result<(), Fail> {
     let read = (Edition::LATEST, TopEntryPoint::Expr);
     for (text, tree, messages) in rows {
-        compare_text(rt, alloc, read, (text, tree, messages))?;
+        compare_text(alloc, read, (text, tree, messages))?;
     }
     Ok(())
 }
 
 /// Compares each text, as a source file in the newest edition, with its row.
-pub fn compare_source_files(rt: &impl Abort, alloc: Global, rows: &[Row]) -> Result<(), Fail> {
+pub fn compare_source_files(alloc: Global, rows: &[Row]) -> Result<(), Fail> {
     let read = (Edition::LATEST, TopEntryPoint::SourceFile);
     for (text, tree, messages) in rows {
-        compare_text(rt, alloc, read, (text, tree, messages))?;
+        compare_text(alloc, read, (text, tree, messages))?;
     }
     Ok(())
 }
 
 /// The same as the items of a macro.
-pub fn compare_macro_items(rt: &impl Abort, alloc: Global, rows: &[Row]) -> Result<(), Fail> {
+pub fn compare_macro_items(alloc: Global, rows: &[Row]) -> Result<(), Fail> {
     let read = (Edition::LATEST, TopEntryPoint::MacroItems);
     for (text, tree, messages) in rows {
-        compare_text(rt, alloc, read, (text, tree, messages))?;
+        compare_text(alloc, read, (text, tree, messages))?;
     }
     Ok(())
 }
@@ -173,12 +171,7 @@ fn with_line_feeds(alloc: Global, text: &str) -> Result<String, AllocError> {
 }
 
 /// Compares each text of a table with what stands behind it.
-fn compare_table(
-    rt: &impl Abort,
-    alloc: Global,
-    read: (Edition, TopEntryPoint),
-    table: &str,
-) -> Result<(), Fail> {
+fn compare_table(alloc: Global, read: (Edition, TopEntryPoint), table: &str) -> Result<(), Fail> {
     for row in table.split('«').skip(1) {
         let Some((text, lines)) = row.split_once('»') else {
             return Err(Fail::from("a text without an end"));
@@ -187,188 +180,57 @@ fn compare_table(
         let text = with_line_feeds(alloc, text)?;
         let tree = with_line_feeds(alloc, tree.as_str())?;
         let row = (text.as_str(), tree.as_str(), messages.as_str());
-        compare_text(rt, alloc, read, row)?;
+        compare_text(alloc, read, row)?;
     }
     Ok(())
 }
 
 /// Compares each text of a table, as a type in the newest edition.
-pub fn types(rt: &impl Abort, alloc: Global, table: &str) -> Result<(), Fail> {
-    types_in(rt, alloc, Edition::LATEST, table)
+pub fn types(alloc: Global, table: &str) -> Result<(), Fail> {
+    types_in(alloc, Edition::LATEST, table)
 }
 
 /// The same, in an edition.
-pub fn types_in(rt: &impl Abort, alloc: Global, edition: Edition, table: &str) -> Result<(), Fail> {
-    compare_table(rt, alloc, (edition, TopEntryPoint::Ty), table)
+pub fn types_in(alloc: Global, edition: Edition, table: &str) -> Result<(), Fail> {
+    compare_table(alloc, (edition, TopEntryPoint::Ty), table)
 }
 
 /// Compares each text of a table, as a pattern in the newest edition.
-pub fn patterns(rt: &impl Abort, alloc: Global, table: &str) -> Result<(), Fail> {
-    compare_table(rt, alloc, (Edition::LATEST, TopEntryPoint::Pattern), table)
+pub fn patterns(alloc: Global, table: &str) -> Result<(), Fail> {
+    compare_table(alloc, (Edition::LATEST, TopEntryPoint::Pattern), table)
 }
 
 /// The same as an expression.
-pub fn expressions(rt: &impl Abort, alloc: Global, table: &str) -> Result<(), Fail> {
-    expressions_in(rt, alloc, Edition::LATEST, table)
+pub fn expressions(alloc: Global, table: &str) -> Result<(), Fail> {
+    expressions_in(alloc, Edition::LATEST, table)
 }
 
 /// The same, in an edition.
-pub fn expressions_in(
-    rt: &impl Abort,
-    alloc: Global,
-    edition: Edition,
-    table: &str,
-) -> Result<(), Fail> {
-    compare_table(rt, alloc, (edition, TopEntryPoint::Expr), table)
+pub fn expressions_in(alloc: Global, edition: Edition, table: &str) -> Result<(), Fail> {
+    compare_table(alloc, (edition, TopEntryPoint::Expr), table)
 }
 
 /// The same as the statements of a macro, in the newest edition.
-pub fn statements(rt: &impl Abort, alloc: Global, table: &str) -> Result<(), Fail> {
-    compare_table(
-        rt,
-        alloc,
-        (Edition::LATEST, TopEntryPoint::MacroStmts),
-        table,
-    )
+pub fn statements(alloc: Global, table: &str) -> Result<(), Fail> {
+    compare_table(alloc, (Edition::LATEST, TopEntryPoint::MacroStmts), table)
 }
 
 /// The same as a source file.
-pub fn source_files(rt: &impl Abort, alloc: Global, table: &str) -> Result<(), Fail> {
-    source_files_in(rt, alloc, Edition::LATEST, table)
+pub fn source_files(alloc: Global, table: &str) -> Result<(), Fail> {
+    source_files_in(alloc, Edition::LATEST, table)
 }
 
 /// The same, in an edition.
-pub fn source_files_in(
-    rt: &impl Abort,
-    alloc: Global,
-    edition: Edition,
-    table: &str,
-) -> Result<(), Fail> {
-    compare_table(rt, alloc, (edition, TopEntryPoint::SourceFile), table)
+pub fn source_files_in(alloc: Global, edition: Edition, table: &str) -> Result<(), Fail> {
+    compare_table(alloc, (edition, TopEntryPoint::SourceFile), table)
 }
 
 /// The same as the items of a macro, in the newest edition.
-pub fn macro_items(rt: &impl Abort, alloc: Global, table: &str) -> Result<(), Fail> {
-    compare_table(
-        rt,
-        alloc,
-        (Edition::LATEST, TopEntryPoint::MacroItems),
-        table,
-    )
+pub fn macro_items(alloc: Global, table: &str) -> Result<(), Fail> {
+    compare_table(alloc, (Edition::LATEST, TopEntryPoint::MacroItems), table)
 }
 
 /// The same as what stands in the brackets of an attribute.
-pub fn metas(rt: &impl Abort, alloc: Global, table: &str) -> Result<(), Fail> {
-    compare_table(rt, alloc, (Edition::LATEST, TopEntryPoint::MetaItem), table)
-}
-
-#[test]
-fn texts_without_an_operand(rt: HostRuntime) -> Result<(), Fail> {
-    compare(
-        &rt,
-        rt.alloc(),
-        &[
-            ("", "ERROR()", "|0 expected expression"),
-            (
-                "2 3",
-                r#"ERROR(LITERAL(INT_NUMBER"2") _ INT_NUMBER"3")"#,
-                "",
-            ),
-            (
-                "2 +",
-                r#"BIN_EXPR(LITERAL(INT_NUMBER"2") _ PLUS"+" ERROR())"#,
-                "|3 expected expression",
-            ),
-            (
-                "2 + ",
-                r#"BIN_EXPR(LITERAL(INT_NUMBER"2") _ PLUS"+" _ ERROR())"#,
-                "|4 expected expression",
-            ),
-            (
-                "foo(a, , b)",
-                r#"CALL_EXPR(PATH_EXPR(PATH(PATH_SEGMENT(NAME_REF(IDENT"foo")))) ARG_LIST(L_PAREN"(" PATH_EXPR(PATH(PATH_SEGMENT(NAME_REF(IDENT"a")))) COMMA"," _ ERROR(COMMA",") _ PATH_EXPR(PATH(PATH_SEGMENT(NAME_REF(IDENT"b")))) R_PAREN")"))"#,
-                "|7 expected expression",
-            ),
-        ],
-    )
-}
-
-#[test]
-fn operators(rt: HostRuntime) -> Result<(), Fail> {
-    compare(
-        &rt,
-        rt.alloc(),
-        &[
-            (
-                "a & &b",
-                r#"BIN_EXPR(PATH_EXPR(PATH(PATH_SEGMENT(NAME_REF(IDENT"a")))) _ AMP"&" _ REF_EXPR(AMP"&" PATH_EXPR(PATH(PATH_SEGMENT(NAME_REF(IDENT"b"))))))"#,
-                "",
-            ),
-            (
-                "a &&b",
-                r#"BIN_EXPR(PATH_EXPR(PATH(PATH_SEGMENT(NAME_REF(IDENT"a")))) _ AMP2"&&" PATH_EXPR(PATH(PATH_SEGMENT(NAME_REF(IDENT"b")))))"#,
-                "",
-            ),
-            (
-                "a - b - c",
-                r#"BIN_EXPR(BIN_EXPR(PATH_EXPR(PATH(PATH_SEGMENT(NAME_REF(IDENT"a")))) _ MINUS"-" _ PATH_EXPR(PATH(PATH_SEGMENT(NAME_REF(IDENT"b"))))) _ MINUS"-" _ PATH_EXPR(PATH(PATH_SEGMENT(NAME_REF(IDENT"c")))))"#,
-                "",
-            ),
-            (
-                "a = b = c",
-                r#"BIN_EXPR(PATH_EXPR(PATH(PATH_SEGMENT(NAME_REF(IDENT"a")))) _ EQ"=" _ BIN_EXPR(PATH_EXPR(PATH(PATH_SEGMENT(NAME_REF(IDENT"b")))) _ EQ"=" _ PATH_EXPR(PATH(PATH_SEGMENT(NAME_REF(IDENT"c"))))))"#,
-                "",
-            ),
-            (
-                "a = b.. + c",
-                r#"BIN_EXPR(BIN_EXPR(PATH_EXPR(PATH(PATH_SEGMENT(NAME_REF(IDENT"a")))) _ EQ"=" _ RANGE_EXPR(PATH_EXPR(PATH(PATH_SEGMENT(NAME_REF(IDENT"b")))) DOT2"..")) _ PLUS"+" _ PATH_EXPR(PATH(PATH_SEGMENT(NAME_REF(IDENT"c")))))"#,
-                "",
-            ),
-        ],
-    )
-}
-
-#[test]
-fn postfix_forms(rt: HostRuntime) -> Result<(), Fail> {
-    compare(
-        &rt,
-        rt.alloc(),
-        &[
-            (
-                "f(a,b)[0]?",
-                r#"TRY_EXPR(INDEX_EXPR(CALL_EXPR(PATH_EXPR(PATH(PATH_SEGMENT(NAME_REF(IDENT"f")))) ARG_LIST(L_PAREN"(" PATH_EXPR(PATH(PATH_SEGMENT(NAME_REF(IDENT"a")))) COMMA"," PATH_EXPR(PATH(PATH_SEGMENT(NAME_REF(IDENT"b")))) R_PAREN")")) L_BRACK"[" LITERAL(INT_NUMBER"0") R_BRACK"]") QUESTION"?")"#,
-                "",
-            ),
-            (
-                "x.f(1)",
-                r#"METHOD_CALL_EXPR(PATH_EXPR(PATH(PATH_SEGMENT(NAME_REF(IDENT"x")))) DOT"." NAME_REF(IDENT"f") ARG_LIST(L_PAREN"(" LITERAL(INT_NUMBER"1") R_PAREN")"))"#,
-                "",
-            ),
-        ],
-    )
-}
-
-#[test]
-fn trivia_at_both_ends(rt: HostRuntime) -> Result<(), Fail> {
-    compare(
-        &rt,
-        rt.alloc(),
-        &[(
-            " x ",
-            r#"PATH_EXPR(_ PATH(PATH_SEGMENT(NAME_REF(IDENT"x"))) _)"#,
-            "",
-        )],
-    )
-}
-
-#[test]
-fn faults_are_reported_and_compared(rt: HostRuntime) -> Result<(), Fail> {
-    let refused = TextFault::Refused(NoMemory);
-    let long: TextFault<NoMemory> = TextFault::TextTooLong;
-    let shown = format!(in rt.alloc(); "{refused}, {long}")?;
-    assert_eq!(rt; shown.as_str(), "refused by the sink, text too long");
-    let copy = refused.clone()?;
-    assert_eq!(rt; copy, refused);
-    assert_ne!(rt; copy, long);
-    Ok(())
+pub fn metas(alloc: Global, table: &str) -> Result<(), Fail> {
+    compare_table(alloc, (Edition::LATEST, TopEntryPoint::MetaItem), table)
 }

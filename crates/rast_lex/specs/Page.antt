@@ -4,12 +4,12 @@ use Rattle.std.specs.Io.KnownBytes.{Appends}
 use Rattle.rap_base.specs.declared.edition.Edition.{Edition}
 use Rattle.rap_script.specs.Refusal.{Refusal, IsRefused}
 use Rattle.rap_script.specs.Script.{Script, IsScript}
-use Rattle.ra_ap_parser.specs.Input.{records}
-use Rattle.ra_ap_parser.specs.LexedStr.{Lexed, IsLexing}
-use Rattle.ra_ap_parser.specs.SingleToken.{IsOneToken, IsNotOneToken}
+use Rattle.rap_lexed.specs.Input.{records}
+use Rattle.rap_lexed.specs.LexedStr.{Lexed, IsLexing}
+use Rattle.rap_lexed.specs.SingleToken.{IsOneToken, IsNotOneToken}
 use Rattle.rast_lex.specs.Listed.{lines, token_line, message_lines, record_line, single_line, script_lines, refusal_lines}
-use Rattle.ra_ap_parser.specs.declared.lexed_str.LexFault.{LexFault}
-use Rattle.ra_ap_parser.specs.declared.lexed_str.LexFault.TheVariants.{TextTooLong, NoMemory}
+use Rattle.rap_lexed.specs.declared.lexed_str.LexFault.{LexFault}
+use Rattle.rap_lexed.specs.declared.lexed_str.LexFault.TheVariants.{TextTooLong, NoMemory}
 use Rattle.rast_lex.specs.Words.{cannot_write, fault_line}
 use Rattle.rast_lex.specs.declared.listing.Page.{Page}
 use Rattle.rast_lex.specs.declared.run.Listing.{Listing}

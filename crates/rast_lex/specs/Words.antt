@@ -1,7 +1,7 @@
 -- The program's words: what is asked for, and what is reported about a fault.
 use Rattle.std.specs.Prelude.{◌≡◌, ◌≢◌, List, ℕ, Option, None, Some, Result, MatchResult, codes}
-use Rattle.ra_ap_parser.specs.declared.lexed_str.LexFault.{LexFault}
-use Rattle.ra_ap_parser.specs.declared.lexed_str.LexFault.TheVariants.{TextTooLong, NoMemory}
+use Rattle.rap_lexed.specs.declared.lexed_str.LexFault.{LexFault}
+use Rattle.rap_lexed.specs.declared.lexed_str.LexFault.TheVariants.{TextTooLong, NoMemory}
 use Rattle.rast_lex.specs.declared.run.Listing.{Listing}
 use Rattle.rast_lex.specs.declared.run.Listing.TheVariants.{Tokens, Input, Single, Script}
 

@@ -3,7 +3,9 @@ ghost use Rattle.std.specs.Prelude.{◌≡◌, ◌≢◌, ◌<◌, ◌↔◌, �
 ghost use Rattle.rast_lex.specs.Listed.{lines, places, token_line, message_lines, record_line, part_line, script_lines, shown_spans, refusal_lines};
 ghost use Rattle.rast_lex.specs.Page.{ListsTokens, ListsInput, ListsSingle, ListsScript};
 
-use ra_ap_parser::{Edition, Input, LexFault, LexedStr};
+use rap_base::edition::Edition;
+use rap_events::input::Input;
+use rap_lexed::lexed_str::{LexFault, LexedStr};
 use rap_script::frontmatter::{FrontmatterError, ScriptFault, ScriptSource, Span};
 use rast_common::message::push_message;
 use rast_common::quote::push_quoted;

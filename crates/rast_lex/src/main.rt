@@ -5,7 +5,7 @@
 mod listing;
 mod run;
 
-use ra_ap_parser::Edition;
+use rap_base::edition::Edition;
 use rast_common::fault::{FAULT, fail};
 use run::{Listing, run};
 use std::process::ExitCode;

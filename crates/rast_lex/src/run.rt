@@ -5,7 +5,8 @@ ghost use Rattle.rast_lex.specs.Page.{Comes, IfStops, Lists, Shows};
 ghost use Rattle.rast_lex.specs.Words.{IsAsked, fault_line};
 
 use crate::listing::{Page, list_input, list_script, list_single, list_tokens};
-use ra_ap_parser::{Edition, LexFault};
+use rap_base::edition::Edition;
+use rap_lexed::lexed_str::LexFault;
 use rast_common::fault::report;
 use std::alloc::Global;
 use std::io;

@@ -9,8 +9,8 @@ use Rattle.std.specs.List.{flat_map, list_all}
 use Rattle.std.specs.Prelude.{nat_lt, not, encode_utf8}
 use Rattle.rap_base.specs.Names.{name_of}
 use Rattle.rast_common.specs.Quote.{hex_digit}
-use Rattle.ra_ap_parser.specs.LexedStr.{Token, Message, start_of}
-use Rattle.ra_ap_parser.specs.StrStep.{StrStepValue, str_enter, str_exit, str_token, str_error}
+use Rattle.rap_lexed.specs.LexedStr.{Token, Message, start_of}
+use Rattle.rap_lexed.specs.StrStep.{StrStepValue, str_enter, str_exit, str_token, str_error}
 use Rattle.rast_page.specs.Inert.{IsInert}
 use Rattle.rast_page.specs.Json.{number_escape, json_escaped, json_text}
 use Rattle.rast_page.specs.Page.{object}

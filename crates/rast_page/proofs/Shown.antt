@@ -3,16 +3,16 @@ use Rattle.std.proofs.Common.{ℕ, Option, List, subst}
 use Rattle.std.specs.Prelude.{chars, string_bytes}
 use Rattle.std.specs.Io.KnownBytes.{Appends}
 use Rattle.rap_base.specs.declared.edition.Edition.{Edition}
-use Rattle.ra_ap_parser.specs.StrForest.{str_flat}
+use Rattle.rap_lexed.specs.StrForest.{str_flat}
 use Rattle.ra_ap_parser.specs.declared.entry_point.TopEntryPoint.{TopEntryPoint}
-use Rattle.ra_ap_parser.specs.Trivia.{with_trivia}
+use Rattle.rap_lexed.specs.Trivia.{with_trivia}
 use Rattle.rast_page.specs.Json.{json_text}
 use Rattle.rast_page.specs.Page.{object, data_of, framed}
 use Rattle.rast_page.specs.Ran.{IsPage, data_for}
 use Rattle.rast_page.specs.Rows.{step_rows}
 use Rattle.rast_page.specs.Inert.{IsInert}
 use Rattle.rast_page.proofs.Inert.{text_inert, steps_inert, messages_inert, object_inert}
-use Rattle.ra_ap_parser.specs.LexedStr.{Lexed}
+use Rattle.rap_lexed.specs.LexedStr.{Lexed}
 use Rattle.rap_events.specs.Forest.{Forest}
 use Rattle.rast_page.specs.declared.run.Frame.{Frame}
 use Rattle.rast_page.specs.declared.run.Page.{Page}

@@ -2,8 +2,8 @@
 use Rattle.std.specs.Prelude.{ℕ, List, [], ◌∷◌, ◌++◌, codes, chars}
 use Rattle.std.specs.Fmt.{decimal}
 use Rattle.rap_base.specs.Names.{name_of}
-use Rattle.ra_ap_parser.specs.LexedStr.{Token, Message, start_of}
-use Rattle.ra_ap_parser.specs.StrStep.{StrStepValue, str_enter, str_exit, str_token, str_error}
+use Rattle.rap_lexed.specs.LexedStr.{Token, Message, start_of}
+use Rattle.rap_lexed.specs.StrStep.{StrStepValue, str_enter, str_exit, str_token, str_error}
 use Rattle.rast_page.specs.Json.{json_text}
 
 -- the items of a step

@@ -1,6 +1,6 @@
 -- What the page's sink does with a step.
 use Rattle.std.specs.Prelude.{◌≡◌, ◌++◌, string_bytes}
-use Rattle.ra_ap_parser.specs.StrStep.{StrStepValue}
+use Rattle.rap_lexed.specs.StrStep.{StrStepValue}
 use Rattle.rast_page.specs.Rows.{step_row, step_message_row}
 use Rattle.rast_page.specs.declared.rows.Rows.{Rows}
 

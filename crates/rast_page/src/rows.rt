@@ -1,7 +1,7 @@
 //! A sink that writes a tree as the page's script reads it.
 ghost use Rattle.std.specs.Prelude.{◌≡◌, ◌++◌, [], OnOk, length, string_bytes, chars};
 ghost use Rattle.rap_base.specs.Names.{name_of};
-ghost use Rattle.ra_ap_parser.specs.LexedStr.{AreInOrder};
+ghost use Rattle.rap_lexed.specs.LexedStr.{AreInOrder};
 ghost use Rattle.rast_page.specs.Json.{json_text};
 ghost use Rattle.rast_page.specs.Rows.{message_row, lexer_message_rows};
 

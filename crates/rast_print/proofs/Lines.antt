@@ -1,11 +1,11 @@
 -- What a printer has written along the steps of a tree.
 use Rattle.std.proofs.Common.{◌≡◌, ℕ, zero, suc, List, [], ◌∷◌, ◌++◌, ap, sym, ◌∙◌, refl, Bool, codes, string_bytes, append_assoc, append-nil}
 use Rattle.rap_base.specs.declared.edition.Edition.{Edition}
-use Rattle.ra_ap_parser.specs.LexedStr.{Lexed}
-use Rattle.ra_ap_parser.specs.StrForest.{str_flat}
-use Rattle.ra_ap_parser.specs.StrSink.{Takes}
-use Rattle.ra_ap_parser.specs.StrStep.{StrStepValue}
-use Rattle.ra_ap_parser.specs.Trivia.{with_trivia}
+use Rattle.rap_lexed.specs.LexedStr.{Lexed}
+use Rattle.rap_lexed.specs.StrForest.{str_flat}
+use Rattle.rap_lexed.specs.StrSink.{Takes}
+use Rattle.rap_lexed.specs.StrStep.{StrStepValue}
+use Rattle.rap_lexed.specs.Trivia.{with_trivia}
 use Rattle.ra_ap_parser.specs.Headline.{Headline}
 use Rattle.ra_ap_parser.specs.declared.entry_point.TopEntryPoint.{TopEntryPoint}
 use Rattle.rast_print.specs.Printed.{indent, line, printed, reported_line, reported, lexer_reported}

@@ -8,11 +8,11 @@ use Rattle.rap_events.specs.StepValue.{StepValue, enter, exit, token, float_spli
 use Rattle.rap_events.specs.Forest.{Forest, none, node, leaf, message, split, flat, one_tree, split_ends, exit_of, used}
 use Rattle.std.proofs.Common.{string_bytes}
 use Rattle.ra_ap_parser.specs.Headline.{HasTooManyTokens}
-use Rattle.ra_ap_parser.specs.LexedStr.{Lexed, IsLexing, Token, joined, start_of, token_at}
-use Rattle.ra_ap_parser.specs.StrSink.{Takes}
-use Rattle.ra_ap_parser.specs.StrStep.{StrStepValue}
-use Rattle.ra_ap_parser.specs.Trivia.{is_trivial, significant}
-use Rattle.ra_ap_parser.proofs.Tokens.{start_of_next}
+use Rattle.rap_lexed.specs.LexedStr.{Lexed, IsLexing, Token, joined, start_of, token_at}
+use Rattle.rap_lexed.specs.StrSink.{Takes}
+use Rattle.rap_lexed.specs.StrStep.{StrStepValue}
+use Rattle.rap_lexed.specs.Trivia.{is_trivial, significant}
+use Rattle.rap_lexed.proofs.Tokens.{start_of_next}
 use Rattle.rast_print.specs.Printed.{printed, reported}
 use Rattle.rast_print.specs.Prints.{Prints}
 use Rattle.rast_print.specs.declared.printer.Printer.{Printer}

@@ -4,9 +4,9 @@ use Rattle.std.specs.Fmt.{decimal}
 use Rattle.rap_base.specs.Names.{name_of}
 use Rattle.rap_events.specs.Forest.{Forest, flat, one_tree, used}
 use Rattle.rap_events.specs.StepValue.{StepValue, enter, exit, token, float_split, error}
-use Rattle.ra_ap_parser.specs.LexedStr.{Token}
-use Rattle.ra_ap_parser.specs.StrForest.{str_flat}
-use Rattle.ra_ap_parser.specs.Trivia.{is_trivial, with_trivia}
+use Rattle.rap_lexed.specs.LexedStr.{Token}
+use Rattle.rap_lexed.specs.StrForest.{str_flat}
+use Rattle.rap_lexed.specs.Trivia.{is_trivial, with_trivia}
 use Rattle.rast_print.specs.Printed.{printed, reported}
 
 abbrev pub split_line : Bool → List ℕ

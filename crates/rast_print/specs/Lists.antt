@@ -8,8 +8,8 @@ use Rattle.rap_grammar.specs.Part.{IsPrefixOf, part_script, part_kind, asks_brac
 use Rattle.rap_grammar.specs.declared.entry.part.Part.{Part}
 use Rattle.ra_ap_parser.specs.EntryScript.{IsOutputOf, IsPrefixOutputOf}
 use Rattle.ra_ap_parser.specs.Headline.{HasTooManyTokens}
-use Rattle.ra_ap_parser.specs.Input.{records}
-use Rattle.ra_ap_parser.specs.LexedStr.{Lexed, IsLexing}
+use Rattle.rap_lexed.specs.Input.{records}
+use Rattle.rap_lexed.specs.LexedStr.{Lexed, IsLexing}
 use Rattle.ra_ap_parser.specs.Reparsed.{reparsed}
 use Rattle.ra_ap_parser.specs.declared.entry_point.PrefixEntryPoint.{PrefixEntryPoint}
 use Rattle.ra_ap_parser.specs.declared.entry_point.TopEntryPoint.{TopEntryPoint}

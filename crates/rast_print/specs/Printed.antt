@@ -3,8 +3,8 @@ use Rattle.std.specs.Prelude.{ℕ, ◌+◌, ◌-◌, ◌^◌, List, [], ◌∷�
 use Rattle.rap_base.specs.Names.{name_of}
 use Rattle.rast_common.specs.Message.{message_line}
 use Rattle.rast_common.specs.Quote.{quoted}
-use Rattle.ra_ap_parser.specs.LexedStr.{Token, Message, start_of}
-use Rattle.ra_ap_parser.specs.StrStep.{StrStepValue, str_enter, str_exit, str_token, str_error}
+use Rattle.rap_lexed.specs.LexedStr.{Token, Message, start_of}
+use Rattle.rap_lexed.specs.StrStep.{StrStepValue, str_enter, str_exit, str_token, str_error}
 
 -- two spaces for each open node
 abbrev pub indent : ℕ → List ℕ

@@ -1,6 +1,6 @@
 -- What a printer does with a step.
 use Rattle.std.specs.Prelude.{◌≡◌, ◌++◌, string_bytes}
-use Rattle.ra_ap_parser.specs.StrStep.{StrStepValue}
+use Rattle.rap_lexed.specs.StrStep.{StrStepValue}
 use Rattle.rast_print.specs.Printed.{line, depth_after, reported_line}
 use Rattle.rast_print.specs.declared.printer.Printer.{Printer}
 

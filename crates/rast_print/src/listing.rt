@@ -4,10 +4,10 @@ ghost use Rattle.rap_events.specs.Cover.{covers};
 ghost use Rattle.rap_events.specs.Forest.{flat, one_tree, used};
 ghost use Rattle.rap_events.specs.Step.{step_value};
 ghost use Rattle.rap_grammar.specs.Part.{part_kind};
-ghost use Rattle.ra_ap_parser.specs.Input.{records};
-ghost use Rattle.ra_ap_parser.specs.LexedStr.{IsLexing};
-ghost use Rattle.ra_ap_parser.specs.StrForest.{str_flat};
-ghost use Rattle.ra_ap_parser.specs.Trivia.{significant, with_trivia};
+ghost use Rattle.rap_lexed.specs.Input.{records};
+ghost use Rattle.rap_lexed.specs.LexedStr.{IsLexing};
+ghost use Rattle.rap_lexed.specs.StrForest.{str_flat};
+ghost use Rattle.rap_lexed.specs.Trivia.{significant, with_trivia};
 ghost use Rattle.rast_print.specs.Printed.{printed, reported};
 ghost use Rattle.rast_print.specs.Listed.{step_line, step_lines, end_after, used_line, tree_lines, tree_part};
 ghost use Rattle.rast_print.specs.Lists.{Comes, ComesOfNode, Lists, ListsNode, ListsPrefix, ListsSteps};
@@ -35,7 +35,7 @@ pub enum ListFault {
 }
 
 impl From<LexFault> for ListFault {
-    ghost use Rattle.ra_ap_parser.specs.declared.lexed_str.LexFault.TheVariants as lex;
+    ghost use Rattle.rap_lexed.specs.declared.lexed_str.LexFault.TheVariants as lex;
     ghost use Rattle.rast_print.specs.declared.listing.ListFault.TheVariants.{TextTooLong, NoMemory};
 
     ghost from_gives = { λ from fault. ((from ≡ lex.TextTooLong) ↔ (fault ≡ TextTooLong)) × ((from ≡ lex.NoMemory) ↔ (fault ≡ NoMemory)) };

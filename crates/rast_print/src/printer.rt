@@ -2,7 +2,7 @@
 ghost use Rattle.std.specs.Prelude.{◌≡◌, ◌+◌, ◌^◌, ◌-◌, ◌++◌, [], IfOk, OnOk, min, length, string_bytes, codes, chars};
 ghost use Rattle.rap_base.specs.Names.{name_of};
 ghost use Rattle.rast_common.specs.Quote.{quoted};
-ghost use Rattle.ra_ap_parser.specs.LexedStr.{AreInOrder};
+ghost use Rattle.rap_lexed.specs.LexedStr.{AreInOrder};
 ghost use Rattle.rast_print.specs.Printed.{indent, lexer_reported};
 
 use ra_ap_parser::{LexedStr, NoMemory, StrSink, StrStep, SyntaxKind};

@@ -4,9 +4,9 @@ use Rattle.rap_base.specs.Names.{name_of}
 use Rattle.rap_base.specs.declared.edition.Edition.{Edition}
 use Rattle.rap_events.specs.Forest.{Forest}
 use Rattle.ra_ap_parser.specs.Headline.{IsParsed}
-use Rattle.ra_ap_parser.specs.LexedStr.{Lexed}
-use Rattle.ra_ap_parser.specs.StrForest.{str_flat}
-use Rattle.ra_ap_parser.specs.Trivia.{with_trivia}
+use Rattle.rap_lexed.specs.LexedStr.{Lexed}
+use Rattle.rap_lexed.specs.StrForest.{str_flat}
+use Rattle.rap_lexed.specs.Trivia.{with_trivia}
 use Rattle.ra_ap_parser.specs.declared.entry_point.TopEntryPoint.{TopEntryPoint}
 use Rattle.rast_print.specs.AskedName.{name_of_prefix, name_of_kind}
 use Rattle.rast_print.specs.EntryName.{name_of_entry}

@@ -1,6 +1,6 @@
 //! Short texts with their tokens and messages, as a build of the Rust crate's rules lists them.
 use super::{Listing, run};
-use ra_ap_parser::Edition;
+use rap_base::edition::Edition;
 use std::alloc::Global;
 use std::process::Abort;
 use std::test::Fail;

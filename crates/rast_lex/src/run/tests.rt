@@ -1,6 +1,6 @@
 //! What the program lists, and its faults.
 use super::{Listing, run};
-use ra_ap_parser::Edition;
+use rap_base::edition::Edition;
 use std::alloc::Global;
 use std::io;
 use std::process::Abort;

@@ -1,6 +1,6 @@
 use Rattle.std.proofs.Common.{ap, arith}
-use Rattle.ra_ap_parser.specs.Trivia.{significant}
-use Rattle.ra_ap_parser.proofs.OneLexing.{only_lexing}
+use Rattle.rap_lexed.specs.Trivia.{significant}
+use Rattle.rap_lexed.proofs.OneLexing.{only_lexing}
 use Rattle.ra_ap_parser.proofs.whole_text.without_memory.Goals as goal
 
 pub returns-else-significant_tokens-gt-MAX_TOKENS-clause-many : goal.returns-else-significant_tokens-gt-MAX_TOKENS-clause-many

@@ -1,5 +1,5 @@
 use Rattle.std.proofs.Common.{rules, ◌≡◌, ◌<◌, ◌≤◌, ◌+◌, length, arith}
-use Rattle.ra_ap_parser.specs.LexedStr.{start_of}
+use Rattle.rap_lexed.specs.LexedStr.{start_of}
 use Rattle.rap_c.specs.Used.{end_after}
 use Rattle.rap_c.proofs.Used.{walk_trivial, walk_significant, walked}
 use Rattle.rap_c.proofs.reading.end_after.Goals as goal

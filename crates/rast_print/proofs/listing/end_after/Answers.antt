@@ -1,5 +1,5 @@
 use Rattle.std.proofs.Common.{rules, ◌≡◌, ◌<◌, ◌≤◌, ◌+◌, length, arith}
-use Rattle.ra_ap_parser.specs.LexedStr.{start_of}
+use Rattle.rap_lexed.specs.LexedStr.{start_of}
 use Rattle.rast_print.specs.Listed.{end_after}
 use Rattle.rast_print.proofs.Listings.{walk_trivial, walk_significant, walked}
 use Rattle.rast_print.proofs.listing.end_after.Goals as goal

@@ -1,5 +1,5 @@
 use Rattle.std.proofs.Common.{◌≡◌, length}
-use Rattle.ra_ap_parser.specs.LexedStr.{AreInOrder}
+use Rattle.rap_lexed.specs.LexedStr.{AreInOrder}
 use Rattle.rap_c.specs.Filling.{after_all}
 use Rattle.rap_c.specs.Fills.{filling_of, IsSame}
 use Rattle.rap_c.specs.Item.{lexer_items}

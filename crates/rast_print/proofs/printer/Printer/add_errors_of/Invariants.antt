@@ -1,5 +1,5 @@
 use Rattle.std.proofs.Common.{◌≡◌, ◌++◌, length, string_bytes}
-use Rattle.ra_ap_parser.specs.LexedStr.{AreInOrder}
+use Rattle.rap_lexed.specs.LexedStr.{AreInOrder}
 use Rattle.rast_print.specs.Printed.{lexer_reported}
 use Rattle.rast_print.proofs.printer.Printer.add_errors_of.Given as goal
 

@@ -1,7 +1,0 @@
-use Rattle.std.proofs.Common.{ap, sym, ◌∙◌}
-use Rattle.ra_ap_parser.specs.LexedStr.{joined}
-use Rattle.ra_ap_parser.proofs.Cuts.{joined-cut}
-use Rattle.ra_ap_parser.proofs.lexed_str.LexedStr.as_str.Goals as goal
-
-pub returns : goal.returns
-returns c = sym (joined-cut _ _ _ c.self.invariant.0) ∙ ap (λ l. joined l.tokens) c.self.view_is

@@ -1,6 +1,0 @@
-use Rattle.std.proofs.Common.{◌∙◌}
-use Rattle.ra_ap_parser.proofs.Tokens.{text_between}
-use Rattle.ra_ap_parser.proofs.lexed_str.LexedStr.text.Goals as goal
-
-pub returns-clause-token : goal.returns-clause-token
-returns-clause-token c = c.range_text.ensures ∙ text_between _ c.args.i c.requires

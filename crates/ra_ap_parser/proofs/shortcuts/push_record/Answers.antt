@@ -1,5 +1,0 @@
-use Rattle.ra_ap_parser.proofs.InputRecords.{contextual-token}
-use Rattle.ra_ap_parser.proofs.shortcuts.push_record.Goals as goal
-
-pub push_ident-requires : goal.push_ident-requires
-push_ident-requires c = rw (c.unwrap_or.ensures, c.contextual_keyword-keyword.ensures) (contextual-token c.text.result.now c.args.edition)

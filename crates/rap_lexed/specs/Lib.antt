@@ -1,0 +1,16 @@
+pub mod About
+pub mod Attached
+pub mod Builder
+pub mod Fault
+pub mod FloatParts
+pub mod Header
+pub mod Input
+pub mod LexedStr
+pub mod OneLexing
+pub mod Reported
+pub mod SingleToken
+pub mod StrForest
+pub mod StrSink
+pub mod StrStep
+pub mod Token
+pub mod Trivia

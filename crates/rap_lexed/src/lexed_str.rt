@@ -1,0 +1,377 @@
+//! A text cut into tokens, with the lexer's messages.
+ghost use Rattle.std.specs.Prelude.{◌≡◌, ℕ, ◌<◌, ◌≤◌, ◌+◌, ◌^◌, ◌↔◌, ◌&&◌, ◌==◌, Some, IfOk, IfSome, IsFalse, IsTrue, MatchOption, min, string_bytes, length, slice_range};
+ghost use Rattle.std.specs.List.Sorted.{IsNonDecreasingBy, IsPartitionPoint};
+ghost use Rattle.std.specs.Option.{option_copied, option_map};
+ghost use Rattle.rap_base.specs.TokenKind.{STRING};
+ghost use Rattle.rap_base.specs.TokenTests.{IsTokenKind};
+ghost use Rattle.rap_lexed.specs.OneLexing.{IsOnlyLexing};
+ghost use Rattle.rap_lexed.specs.SingleToken.{IsNotOneToken, IsOneToken};
+ghost use Rattle.rap_lexed.specs.Reported.{looks_open};
+ghost use Rattle.rap_lexed.specs.LexedStr.{joined, start_of, token_at, error_of, AreTokens, IsLexing};
+
+pub use count::significant_tokens;
+use header::{find_header, push_header};
+use rap_base::edition::Edition;
+use rap_base::no_memory::NoMemory;
+use rap_base::syntax_kind::SyntaxKind;
+use rap_lexer::lexer::first_token;
+pub(crate) use reported::holds_pair;
+use reported::{LexError, last_message, looks_open, report};
+
+mod count;
+mod header;
+mod reported;
+#[cfg(test)]
+mod tests;
+
+use std::alloc::{AllocError, AllocFailed, Global};
+use std::error::Error;
+use std::fmt;
+use std::marker::Model;
+use std::ops::Range;
+
+/// The most bytes that a text may have, so that every place in it fits 32 bits.
+pub const MAX_TEXT: usize = 4_294_967_295;
+
+/// The most tokens for which there is room from the start: a long text can be few tokens.
+const FIRST_ROOM: usize = 4_194_304;
+
+/// Why a text was not lexed.
+#[derive(Clone, Copy, Debug, PartialEq, Eq)]
+pub enum LexFault {
+    /// The text has more than [`MAX_TEXT`] bytes.
+    TextTooLong,
+    /// A growth was refused for want of memory.
+    NoMemory,
+}
+
+impl fmt::Display for LexFault {
+    ghost use Rattle.rap_lexed.specs.Fault.{lex_fault_text};
+
+    ghost output = { λ fault. Some (lex_fault_text fault) };
+
+    fn fmt<W: fmt::Write>(&self, f: &mut fmt::Formatter<W>) -> fmt::Result {
+        match self {
+            LexFault::TextTooLong => f.write_str("text too long"),
+            LexFault::NoMemory => f.write_str("no memory"),
+        }
+    }
+}
+
+impl Error for LexFault {}
+
+impl From<AllocError> for LexFault {
+    ghost use Rattle.rap_lexed.specs.declared.lexed_str.LexFault.TheVariants.{NoMemory};
+
+    ghost from_gives = { λ _ fault. fault ≡ NoMemory };
+
+    fn from(_error: AllocError) -> LexFault {
+        LexFault::NoMemory
+    }
+}
+
+impl<T: Drop> From<AllocFailed<T>> for LexFault {
+    ghost use Rattle.rap_lexed.specs.declared.lexed_str.LexFault.TheVariants.{NoMemory};
+
+    ghost from_gives = { λ _ fault. fault ≡ NoMemory };
+
+    fn from(_error: AllocFailed<T>) -> LexFault {
+        LexFault::NoMemory
+    }
+}
+
+impl From<NoMemory> for LexFault {
+    ghost use Rattle.rap_lexed.specs.declared.lexed_str.LexFault.TheVariants.{NoMemory};
+
+    ghost from_gives = { λ _ fault. fault ≡ NoMemory };
+
+    fn from(_error: NoMemory) -> LexFault {
+        LexFault::NoMemory
+    }
+}
+
+/// A text cut into tokens that are not empty and that joined are the text. Contracts see the list of the
+/// tokens and the list of the messages.
+///
+/// No accessor takes memory; texts are slices of the caller's text.
+#[derive(Drop)]
+pub struct LexedStr<'a> {
+    text: &'a str,
+    kind: Vec<SyntaxKind>,
+    start: Vec<u32>,
+    error: Vec<LexError>,
+}
+
+impl<'a> Model for LexedStr<'a> {
+    ghost use Rattle.std.specs.Prelude.{length, All};
+    ghost use Rattle.rap_base.specs.TokenTests.{IsTokenKind};
+    ghost use Rattle.rap_lexed.specs.LexedStr.{Lexed, cut, AreStarts, AreInOrder};
+
+    ghost Value = { Lexed };
+
+    ghost view = { λ s. record { tokens = cut s.text.now s.kind.items s.start.items; errors = s.error.items } };
+
+    ghost invariant = { λ s. AreStarts s.text.now (length s.kind.items) s.start.items × All IsTokenKind s.kind.items × AreInOrder (length s.kind.items) s.error.items };
+}
+
+/// How many tokens stand after the last string that looks open, up to 5, with one token more.
+#[inline(always)]
+fn since_open_after(since: usize, kind: SyntaxKind, text: &str) -> usize
+    ensures opens { IsTrue ((kind == STRING) && looks_open text.now) → result ≡ 0 }
+    ensures other { IsFalse ((kind == STRING) && looks_open text.now) → result ≡ min (since + 1) 5 }
+{
+    if kind == SyntaxKind::STRING && looks_open(text) {
+        0
+    } else if since < 5 {
+        since + 1
+    } else {
+        5
+    }
+}
+
+/// Where the messages about the token and the later ones begin.
+fn first_error(errors: &[LexError], token: usize) -> usize
+    requires { IsNonDecreasingBy (λ m. m.token) errors.now }
+    ensures point { IsPartitionPoint (λ m. m.token < token) (λ m. token ≤ m.token) errors.now result }
+    ensures bound { result ≤ length errors.now }
+{
+    errors.partition_point(|error| error.token() < token)
+}
+
+impl<'a> LexedStr<'a> {
+    /// Cuts the text into tokens by the lexical rules of the edition.
+    ///
+    /// A script source's shebang and frontmatter come first, each as one token; of a text that is refused as a script
+    /// source the shebang's line alone. Nothing is reported about them.
+    ///
+    /// The error is `TextTooLong` exactly for a text of more than [`MAX_TEXT`] bytes, which is decided first,
+    /// and else `NoMemory` where a growth was refused.
+    pub fn new(alloc: Global, edition: Edition, text: &'a str) -> Result<LexedStr<'a>, LexFault>
+        ensures lexing { IfOk result (IsLexing text.now edition) }
+        ensures only { IfOk result (IsOnlyLexing text.now edition) }
+        ensures too_long { (result ≡ Err LexFault.TextTooLong) ↔ (MAX_TEXT < length text.now) }
+    {
+        if text.len() > MAX_TEXT {
+            return Err(LexFault::TextTooLong);
+        }
+        let header = find_header(alloc, edition, text);
+        let room = (text.len() / 3).min(FIRST_ROOM);
+        let mut kind = Vec::with_capacity(alloc, room)?;
+        let mut start = Vec::with_capacity(alloc, room + 1)?;
+        start.push(0)?;
+        push_header(&header, &mut kind, &mut start)?;
+        let mut offset = header.end();
+        let mut error = Vec::new(alloc);
+        let mut since_open = 5usize;
+        'tokens: while offset < text.len() {
+            let (token, len) = first_token(edition, &text[offset..]);
+            let next = &text[offset..offset + len];
+            let number = kind.len() as u32;
+            report(
+                alloc,
+                &mut error,
+                number,
+                next,
+                token.remark,
+                since_open < 5,
+            )?;
+            since_open = since_open_after(since_open, token.kind, next);
+            offset += len;
+            kind.push(token.kind)?;
+            start.push(offset as u32)?;
+        }
+        Ok(LexedStr {
+            text,
+            kind,
+            start,
+            error,
+        })
+    }
+
+    /// The kind of a text that is exactly one token, and the last of its messages. No script source is looked for.
+    ///
+    /// It is None for the empty text and where something follows the first token: so before the edition 2024 for
+    /// `##` and `#"`. The errors are those of [`LexedStr::new`].
+    pub fn single_token(
+        alloc: Global,
+        edition: Edition,
+        text: &str,
+    ) -> Result<Option<(SyntaxKind, Option<String>)>, LexFault>
+        ensures single { IfOk result (λ single. MatchOption single (IsNotOneToken edition text.now) (λ token. IsOneToken edition text.now token.0 (option_map string_bytes token.1))) }
+        ensures too_long { (result ≡ Err LexFault.TextTooLong) ↔ (MAX_TEXT < length text.now) }
+    {
+        if MAX_TEXT < text.len() {
+            return Err(LexFault::TextTooLong);
+        }
+        if text.is_empty() {
+            return Ok(None);
+        }
+        let (token, len) = first_token(edition, text);
+        if len < text.len() {
+            return Ok(None);
+        }
+        let message = last_message(alloc, text, token.remark)?;
+        Ok(Some((token.kind, message)))
+    }
+
+    /// The whole text.
+    pub fn as_str(&self) -> &'a str
+        ensures { result.now ≡ joined self.now.tokens }
+    {
+        self.text
+    }
+
+    /// How many tokens there are.
+    pub fn len(&self) -> usize
+        ensures count { result ≡ length self.now.tokens }
+        ensures tokens { AreTokens self.now.tokens }
+    {
+        self.kind.len()
+    }
+
+    /// Whether there is no token, which is so exactly for the empty text.
+    pub fn is_empty(&self) -> bool
+        ensures { IsTrue result ↔ (length self.now.tokens ≡ 0) }
+    {
+        self.kind.is_empty()
+    }
+
+    /// The kind of the token.
+    pub fn kind(&self, i: usize) -> SyntaxKind
+        requires { i < length self.now.tokens }
+        ensures kind { result ≡ (token_at self.now.tokens i).kind }
+        ensures token { IsTokenKind result }
+    {
+        self.kind[i]
+    }
+
+    /// The text of the token.
+    pub fn text(&self, i: usize) -> &'a str
+        requires { i < length self.now.tokens }
+        ensures token { result.now ≡ (token_at self.now.tokens i).text }
+        ensures slice { result.now ≡ slice_range (joined self.now.tokens) (start_of self.now.tokens i) (start_of self.now.tokens (i + 1)) }
+    {
+        let _count = self.len();
+        self.range_text(i..i + 1)
+    }
+
+    /// The text of the tokens from `r.start` up to but not with `r.end`.
+    pub fn range_text(&self, r: Range<usize>) -> &'a str
+        requires rising { r.start < r.end }
+        requires within { r.end ≤ length self.now.tokens }
+        ensures { result.now ≡ slice_range (joined self.now.tokens) (start_of self.now.tokens r.start) (start_of self.now.tokens r.end) }
+    {
+        let low = self.start[r.start] as usize;
+        let high = self.start[r.end] as usize;
+        &self.text[low..high]
+    }
+
+    /// Where the token stands in the text, in bytes.
+    pub fn text_range(&self, i: usize) -> Range<usize>
+        requires { i < length self.now.tokens }
+        ensures start { result.start ≡ start_of self.now.tokens i }
+        ensures end { result.end ≡ start_of self.now.tokens (i + 1) }
+    {
+        let _count = self.len();
+        let start = self.text_start(i);
+        start..self.text_start(i + 1)
+    }
+
+    /// Where the token begins, in bytes; for `i` the number of tokens, the text's length.
+    pub fn text_start(&self, i: usize) -> usize
+        requires { i ≤ length self.now.tokens }
+        ensures { result ≡ start_of self.now.tokens i }
+    {
+        self.start[i] as usize
+    }
+
+    /// The length of the token in bytes.
+    pub fn text_len(&self, i: usize) -> usize
+        requires { i < length self.now.tokens }
+        ensures { result ≡ length (token_at self.now.tokens i).text }
+    {
+        let range = self.text_range(i);
+        range.end - range.start
+    }
+
+    /// The first message about the token, if there is one.
+    pub fn error(&self, i: usize) -> Option<&str>
+        requires { i < length self.now.tokens }
+        ensures { option_copied result ≡ error_of self.now.errors i }
+    {
+        let errors = self.error.as_slice();
+        let place = first_error(errors, i);
+        if place == errors.len() {
+            return None;
+        }
+        let error = &errors[place];
+        if error.token() == i {
+            Some(error.message())
+        } else {
+            None
+        }
+    }
+
+    /// All messages, each with the number of its token, in the order of the tokens.
+    pub fn errors(&self) -> Errors<'_>
+        ensures { result ≡ self.now.errors }
+    {
+        Errors {
+            rest: self.error.as_slice(),
+        }
+    }
+}
+
+/// The messages that are still to come, each with the number of its token. Contracts see their list.
+#[derive(Drop)]
+pub struct Errors<'a> {
+    rest: &'a [LexError],
+}
+
+impl<'a> Model for Errors<'a> {
+    ghost use Rattle.std.specs.Prelude.{List};
+    ghost use Rattle.rap_lexed.specs.LexedStr.{Message};
+
+    ghost Value = { List Message };
+
+    ghost view = { λ s. s.rest.now };
+}
+
+impl<'a> Iterator for Errors<'a> {
+    ghost use Rattle.std.specs.Iterator.{YieldsFirstBy, item_count, UpTo};
+    ghost use Rattle.std.specs.Iterator.SizeHint.{IsWithinCount};
+    ghost use Rattle.rap_lexed.specs.LexedStr.{message_of_item};
+
+    type Item = (usize, &'a str);
+
+    ghost next_gives = { YieldsFirstBy message_of_item (λ errors. errors) };
+
+    ghost remaining = { item_count (λ errors. errors) };
+
+    fn next(&mut self) -> Option<(usize, &'a str)> {
+        match self.rest {
+            [first, rest @ ..] => {
+                self.rest = rest;
+                Some((first.token(), first.message()))
+            }
+            [] => None,
+        }
+    }
+
+    fn size_hint(&self) -> (usize, Option<usize>)
+        ensures lower { IsWithinCount result.0 (item_count (λ errors. errors) self.now) }
+        ensures upper { IfSome result.1 (UpTo (item_count (λ errors. errors) self.now)) }
+        ensures exact { (result.0 ≡ length self.now) × (result.1 ≡ Some (length self.now)) }
+    {
+        let count = self.len();
+        (count, Some(count))
+    }
+}
+
+impl ExactSizeIterator for Errors<'_> {
+    fn len(&self) -> usize
+        ensures { result ≡ length self.now }
+    {
+        self.rest.len()
+    }
+}

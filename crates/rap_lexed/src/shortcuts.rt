@@ -1,0 +1,157 @@
+//! From a lexed text to the parser's input, and from the parser's output back to the text.
+ghost use Rattle.std.specs.Prelude.{◌≡◌, ◌+◌, ◌<◌, ◌↔◌, ◌∷◌, [], ◌++◌, length, drop, true, IsTrue, IfOk, OnOk, not, ◌||◌, ◌==◌};
+ghost use Rattle.rap_base.specs.TokenKind.{IDENT};
+ghost use Rattle.rap_base.specs.TokenTests.{is_trivia};
+ghost use Rattle.rap_base.specs.declared.edition.Edition.{Edition};
+ghost use Rattle.rap_events.specs.Forest.{one_tree, used};
+ghost use Rattle.rap_events.specs.Cover.{covers};
+ghost use Rattle.rap_lexed.specs.Input.{records, records_at, joint_of};
+ghost use Rattle.rap_lexed.specs.LexedStr.{joined, token_at};
+ghost use Rattle.rap_lexed.specs.StrForest.{str_flat, str_joined, str_one_tree};
+ghost use Rattle.rap_lexed.specs.StrSink.{HandsOut};
+ghost use Rattle.rap_lexed.specs.Trivia.{significant, with_trivia, TreeTouches};
+
+use crate::lexed_str::LexedStr;
+use rap_base::edition::Edition;
+use rap_base::no_memory::NoMemory;
+use rap_base::syntax_kind::SyntaxKind;
+use rap_events::input::Input;
+use rap_events::output::Output;
+use std::alloc::Global;
+
+mod attached;
+mod builder;
+mod contextual;
+#[cfg(test)]
+mod tests;
+
+use builder::Builder;
+use contextual::contextual_keyword;
+
+/// A step of the walk through a tree over a text, from left to right.
+#[derive(Clone, Copy, Debug)]
+pub enum StrStep<'a> {
+    /// A leaf of the newest open node: its kind, and its text.
+    Token { kind: SyntaxKind, text: &'a str },
+    /// A node begins inside the newest open one.
+    Enter { kind: SyntaxKind },
+    /// The newest open node ends.
+    Exit,
+    /// A message, and the byte of the text at which it stands.
+    Error { msg: &'a str, pos: usize },
+}
+
+/// What takes the steps of a tree, one after another.
+///
+/// A sink states two relations: `takes`, that a step, taken, takes this value to that value; and `refuses`, that a
+/// step is refused with this refusal, which takes this value to that value.
+pub trait StrSink {
+    ghost use Rattle.std.specs.Prelude.{MatchResult};
+    ghost use Rattle.rap_lexed.specs.StrStep.{StrStepValue, str_step_value};
+
+    /// Why a step is refused.
+    type Refusal;
+
+    ghost takes: { Self → StrStepValue → Self → Type 0 };
+
+    ghost refuses: { Self → StrStepValue → Self.Refusal → Self → Type 0 };
+
+    /// Takes a step, or refuses it.
+    fn step(&mut self, step: StrStep<'_>) -> Result<(), Self::Refusal>
+        ensures { MatchResult result (λ _. takes self.old (str_step_value step.entry) self.new) (λ e. refuses self.old (str_step_value step.entry) e self.new) };
+}
+
+impl LexedStr<'_> {
+    /// What the parser reads: the tokens that are no trivia, in order.
+    ///
+    /// An identifier is handed over with the contextual keyword of its text, if it has one. A float number is marked
+    /// as joint if its text does not end with a dot; any other token but an identifier if the token right after it
+    /// is neither trivia nor an identifier. The error is want of memory.
+    pub fn to_input(&self, alloc: Global, edition: Edition) -> Result<Input, NoMemory>
+        ensures records { IfOk result (λ input. input ≡ records self.now.tokens edition) }
+        ensures count { IfOk result (λ input. length input ≡ significant self.now.tokens) }
+    {
+        let mut input = Input::with_capacity(alloc, self.len())?;
+        for i in 0..self.len() {
+            push_record(self, i, edition, &mut input)?;
+        }
+        Ok(input)
+    }
+
+    /// Hands the tree of an output to a sink, with the texts of its leaves and with the trivia that the parser left
+    /// out. The answer says whether all tokens of the text were handed out.
+    ///
+    /// The output is one tree over a prefix of this text's tokens. Trivia stand right before the node or the leaf that
+    /// comes next; those at the text's beginning stand inside the root, and so do those with nothing after them. Of the
+    /// trivia right before the node of an item, a field, a variant or a macro call the last ones stand inside, at its
+    /// beginning: those from the farthest comment on that a walk back from the node reaches. The walk stops at white
+    /// space that holds two line feeds in a row, but not where that stands right after a `/**/`. A message that follows
+    /// a node stands at that node's end, and where the first token begins that was not yet handed out. No memory is
+    /// taken, but by the sink. An error is the sink's refusal of a step; it has taken those before it.
+    pub fn intersperse_trivia<S: StrSink>(
+        &self,
+        output: &Output,
+        sink: &mut S,
+    ) -> Result<bool, S::Refusal>
+        requires tree { one_tree output.now ≡ true }
+        requires prefix { (edition : Edition) × (covers (records self.now.tokens edition) output.now ≡ true) }
+        ensures steps { HandsOut S.takes S.refuses sink.old (str_flat (with_trivia self.now.tokens output.now)) result sink.new }
+        ensures answer { IfOk result (λ all. IsTrue all ↔ (used output.now ≡ significant self.now.tokens)) }
+
+        // What was handed out is one tree, each leaf stands for tokens that touch, and the texts of all its leaves
+        // are the text, where all were handed out.
+        ensures tree { str_one_tree (with_trivia self.now.tokens output.now) ≡ true }
+        ensures touching { TreeTouches self.now.tokens output.now }
+        ensures whole { IfOk result (λ all. IsTrue all → str_joined (with_trivia self.now.tokens output.now) ≡ joined self.now.tokens) }
+    {
+        let mut builder = Builder::new(self);
+        for step in output.iter() {
+            builder.step(step, sink)?;
+        }
+        builder.finish(sink)
+    }
+}
+
+/// Appends the record of a token, if it is no trivia.
+fn push_record(
+    lexed: &LexedStr<'_>,
+    i: usize,
+    edition: Edition,
+    input: &mut Input,
+) -> Result<(), NoMemory>
+    requires { i < length lexed.now.tokens }
+    ensures { OnOk result (input.new ≡ input.old ++ records_at lexed.now.tokens i edition) }
+{
+    let kind = lexed.kind(i);
+    if kind.is_trivia() {
+        return Ok(());
+    }
+    if kind == SyntaxKind::IDENT {
+        let keyword = contextual_keyword(lexed.text(i), edition);
+        return input.push_ident(keyword.unwrap_or(SyntaxKind::IDENT), edition);
+    }
+    input.push_joint(kind, edition, is_joint(lexed, i))?;
+    Ok(())
+}
+
+/// The joint bit of a token.
+fn is_joint(lexed: &LexedStr<'_>, i: usize) -> bool
+    requires { i < length lexed.now.tokens }
+    ensures { result ≡ joint_of (token_at lexed.now.tokens i) (drop (i + 1) lexed.now.tokens) }
+{
+    match lexed.kind(i) {
+        SyntaxKind::IDENT => false,
+        SyntaxKind::FLOAT_NUMBER => !lexed.text(i).ends_with('.'),
+        _ => {
+            let count = lexed.len();
+            i + 1 < count && touches(lexed.kind(i + 1))
+        }
+    }
+}
+
+/// Whether a token of this kind touches the token before it.
+fn touches(kind: SyntaxKind) -> bool
+    ensures { result ≡ not (is_trivia kind || (kind == IDENT)) }
+{
+    !(kind.is_trivia() || kind == SyntaxKind::IDENT)
+}
