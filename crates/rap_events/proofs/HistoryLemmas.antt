@@ -14,6 +14,8 @@ pub data Shows : Event → Call → Type 0 where
   abandon : Shows event.Abandon call.abandon
   token : (k w : ℕ) → Shows (event.Token w k) (call.token k w)
   float_split : (d : Bool) → Shows (event.FloatSplit d) (call.float_split d)
+  enter : (k : ℕ) → Shows (event.Enter k) call.start
+  exit : Shows event.Exit call.start
 
 history-one : (e : Event) (x : Call) (ms : List (List ℕ)) → Shows e x → history (e ∷ []) ms ≡ x ∷ []
 history-one e x ms start = refl
@@ -23,6 +25,8 @@ history-one e x ms extend = refl
 history-one e x ms abandon = refl
 history-one e x ms (token k w) = refl
 history-one e x ms (float_split d) = refl
+history-one e x ms (enter k) = refl
+history-one e x ms exit = refl
 
 -- one event more that is no message
 pub history-push : (es : List Event) (ms : List (List ℕ)) (e : Event) (x : Call) → Shows e x → history (es ++ e ∷ []) ms ≡ history es ms ++ x ∷ []
@@ -34,6 +38,8 @@ history-push (event.Extend ∷ es) ms e x h = ap (λ (xs : List Call). call.exte
 history-push (event.Abandon ∷ es) ms e x h = ap (λ (xs : List Call). call.abandon ∷ xs) (history-push es ms e x h)
 history-push (event.Token w k ∷ es) ms e x h = ap (λ (xs : List Call). call.token k w ∷ xs) (history-push es ms e x h)
 history-push (event.FloatSplit d ∷ es) ms e x h = ap (λ (xs : List Call). call.float_split d ∷ xs) (history-push es ms e x h)
+history-push (event.Enter k ∷ es) ms e x h = ap (λ (xs : List Call). call.start ∷ xs) (history-push es ms e x h)
+history-push (event.Exit ∷ es) ms e x h = ap (λ (xs : List Call). call.start ∷ xs) (history-push es ms e x h)
 history-push (event.Error ∷ es) [] e x h = ap (λ (xs : List Call). call.error [] ∷ xs) (history-push es [] e x h)
 history-push (event.Error ∷ es) (m ∷ ms) e x h = ap (λ (xs : List Call). call.error m ∷ xs) (history-push es ms e x h)
 
@@ -48,6 +54,8 @@ history-report (event.Extend ∷ es) ms m h = ap (λ (xs : List Call). call.exte
 history-report (event.Abandon ∷ es) ms m h = ap (λ (xs : List Call). call.abandon ∷ xs) (history-report es ms m h)
 history-report (event.Token w k ∷ es) ms m h = ap (λ (xs : List Call). call.token k w ∷ xs) (history-report es ms m h)
 history-report (event.FloatSplit d ∷ es) ms m h = ap (λ (xs : List Call). call.float_split d ∷ xs) (history-report es ms m h)
+history-report (event.Enter k ∷ es) ms m h = ap (λ (xs : List Call). call.start ∷ xs) (history-report es ms m h)
+history-report (event.Exit ∷ es) ms m h = ap (λ (xs : List Call). call.start ∷ xs) (history-report es ms m h)
 history-report (event.Error ∷ es) [] m h = absurd (omega arith)
 history-report (event.Error ∷ es) (n ∷ ms) m h = ap (λ (xs : List Call). call.error n ∷ xs) (history-report es ms m (omega arith))
 
@@ -61,6 +69,8 @@ length-history (event.Extend ∷ es) ms = omega (arith, length-history es ms)
 length-history (event.Abandon ∷ es) ms = omega (arith, length-history es ms)
 length-history (event.Token w k ∷ es) ms = omega (arith, length-history es ms)
 length-history (event.FloatSplit d ∷ es) ms = omega (arith, length-history es ms)
+length-history (event.Enter k ∷ es) ms = omega (arith, length-history es ms)
+length-history (event.Exit ∷ es) ms = omega (arith, length-history es ms)
 length-history (event.Error ∷ es) [] = omega (arith, length-history es [])
 length-history (event.Error ∷ es) (m ∷ ms) = omega (arith, length-history es ms)
 
@@ -72,6 +82,8 @@ errors-one e x extend = refl
 errors-one e x abandon = refl
 errors-one e x (token k w) = refl
 errors-one e x (float_split d) = refl
+errors-one e x (enter k) = refl
+errors-one e x exit = refl
 
 pub errors-append : (es fs : List Event) → errors (es ++ fs) ≡ errors es + errors fs
 errors-append [] fs = omega arith
@@ -82,6 +94,8 @@ errors-append (event.Extend ∷ es) fs = errors-append es fs
 errors-append (event.Abandon ∷ es) fs = errors-append es fs
 errors-append (event.Token w k ∷ es) fs = errors-append es fs
 errors-append (event.FloatSplit d ∷ es) fs = errors-append es fs
+errors-append (event.Enter k ∷ es) fs = errors-append es fs
+errors-append (event.Exit ∷ es) fs = errors-append es fs
 errors-append (event.Error ∷ es) fs = omega (arith, errors-append es fs)
 
 pub errors-push : (es : List Event) (e : Event) (x : Call) → Shows e x → errors (es ++ e ∷ []) ≡ errors es

@@ -1,5 +1,5 @@
 -- The last event that takes a token shows the last token.
-use Rattle.std.proofs.Common.{◌≡◌, ℕ, ◌+◌, ◌<◌, List, [], ◌∷◌, ◌++◌, length, take, get_or, Bool, true, false, refl, sym, ap, ◌∙◌}
+use Rattle.std.proofs.Common.{◌≡◌, ℕ, ◌+◌, ◌<◌, List, [], ◌∷◌, ◌++◌, length, take, get_or, Bool, true, false, refl, ap, ◌∙◌}
 use Rattle.rap_base.specs.TokenKind.{EOF}
 use Rattle.rap_events.specs.Forest.{Forest, none, node, leaf, message, split, ◌⧺◌}
 use Rattle.rap_events.specs.History.{Call, history}
@@ -20,6 +20,8 @@ kind_after k event.Abandon = k
 kind_after k (event.Token width kind) = kind
 kind_after k (event.FloatSplit ends_in_dot) = k
 kind_after k event.Error = k
+kind_after k (event.Enter kind) = k
+kind_after k event.Exit = k
 
 -- the same of events one after another
 abbrev pub kind_of_last : ℕ → List Event → ℕ
@@ -87,6 +89,8 @@ last_of-run c (event.Abandon ∷ es) ms =
     last_of-run (step c call.abandon) es ms ∙ ap (λ (n : ℕ). kind_of_last n es) (last_of-merge c c.below refl)
 last_of-run c (event.Token width kind ∷ es) ms = last_of-run (step c (call.token kind width)) es ms
 last_of-run c (event.FloatSplit ends_in_dot ∷ es) ms = last_of-run (step c (call.float_split ends_in_dot)) es ms
+last_of-run c (event.Enter kind ∷ es) ms = last_of-run (step c call.start) es ms
+last_of-run c (event.Exit ∷ es) ms = last_of-run (step c call.start) es ms
 last_of-run c (event.Error ∷ es) [] = last_of-run (step c (call.error [])) es []
 last_of-run c (event.Error ∷ es) (m ∷ ms) = last_of-run (step c (call.error m)) es ms
 
@@ -104,3 +108,5 @@ no_token k event.Abandon h = refl
 no_token k (event.Token width kind) h = absurd (h width kind refl)
 no_token k (event.FloatSplit ends_in_dot) h = refl
 no_token k event.Error h = refl
+no_token k (event.Enter kind) h = refl
+no_token k event.Exit h = refl

@@ -10,6 +10,7 @@ pub mod LastTokens
 pub mod MachineLemmas
 pub mod MessageCount
 pub mod Nesting
+pub mod Places
 pub mod Records
 pub mod Skips
 pub mod Splits

@@ -1,20 +1,16 @@
 -- Reading the calls from the last one back gives the steps of the forest.
-use Rattle.std.proofs.Common.{◌≡◌, ℕ, suc, ◌+◌, List, [], ◌∷◌, ◌++◌, Bool, true, false, refl, sym, ap, ◌∙◌, append_assoc, append-nil, reverse, length, min, take, drop, ◌≤◌, arith}
-use Rattle.std.proofs.lemmas.List.{reverse-append, take-append-drop, drop_min, take_min}
-use Rattle.std.specs.Prelude.{String}
-use Rattle.std.specs.declared.alloc.Global.{Global}
+use Rattle.std.proofs.Common.{◌≡◌, ℕ, suc, List, [], ◌∷◌, ◌++◌, Bool, true, false, refl, sym, ap, ◌∙◌, append_assoc, append-nil}
 use Rattle.rap_events.specs.StepValue.{StepValue, enter, exit, token, float_split, error}
 use Rattle.rap_events.specs.Forest.{Forest, none, node, leaf, message, split, ◌⧺◌, flat, ended_by, splits_placed}
 use Rattle.rap_events.specs.History.{Call}
 use Rattle.rap_events.specs.History as call
 use Rattle.rap_events.specs.Machine.{Stack, floor, push, Config, close, merge, wrap, stretch, step, run, initial}
 use Rattle.rap_events.specs.Interval.{without_exits, without_ends}
-use Rattle.rap_events.specs.Output.{values}
+use Rattle.rap_events.specs.Pending.{glue, others, begins_node, left_by, node_of, begun}
 use Rattle.rap_events.specs.Reading.{all_steps}
-use Rattle.rap_events.specs.Unwind.{Opening, Walk, enters, glue, others, back, unwind, nothing_yet, openings_of}
-use Rattle.rap_events.specs.declared.event.walk.Opening as kept
-use Rattle.rap_events.specs.declared.output.PlainStep.{PlainStep}
-use Rattle.rap_events.specs.declared.output.PlainStep.TheVariants as plain
+use Rattle.rap_events.specs.Unwind.{Walk, enters, back, unwind, nothing_yet}
+use Rattle.rap_events.specs.declared.event.walk.Pending.{Pending}
+use Rattle.rap_events.specs.declared.event.walk.Pending.TheVariants as pending
 use Rattle.rap_events.proofs.Truth.{and_left}
 use Rattle.rap_events.proofs.MachineLemmas.{sound-run}
 use Rattle.rap_events.proofs.StepLemmas.{all_steps-⧺, without_ends-whole}
@@ -24,19 +20,39 @@ unwind-push [] x w = refl
 unwind-push (y ∷ xs) x w = ap (back y) (unwind-push xs x w)
 
 -- the steps of all that is open, before the steps w
-close_all : Stack → List Opening → List StepValue → List StepValue
+close_all : Stack → List Pending → List StepValue → List StepValue
 close_all floor os w = w
 close_all (push r m b) os w = close_all r (others os) (all_steps b ++ (enters (glue os) ++ w))
 
 -- to go on from here with U gives the steps of what is open at c; the steps w are those of v, whose floats stand for ends
 record Good (c : Config) (U : Walk → List StepValue) : Type 0 where
-  plain : (os : List Opening) (w v : List StepValue) → w ≡ without_ends v → U (record { kinds = []; skips = 0; openings = os; steps = w }) ≡ without_ends (close_all c.below os (all_steps c.forest ++ v))
-  after_node : c.closed ≡ true → (b : Forest) (k : ℕ) (x : Forest) → c.forest ≡ node b k x → (g : List ℕ) (s : ℕ) (os : List Opening) (w v : List StepValue) → w ≡ without_ends v →
-      U (record { kinds = g; skips = s; openings = os; steps = w }) ≡ without_ends (close_all (push c.below c.marker b) (record { kinds = g ++ k ∷ []; skips = s } ∷ os) (all_steps x ++ exit ∷ v))
+  plain : (os : List Pending) (w v : List StepValue) → w ≡ without_ends v → U (record { is_around = false; skips = 0; pending = os; steps = w }) ≡ without_ends (close_all c.below os (all_steps c.forest ++ v))
+  after_node : c.closed ≡ true → (b : Forest) (k : ℕ) (x : Forest) → c.forest ≡ node b k x → (a : Bool) (s : ℕ) (os : List Pending) (w v : List StepValue) → w ≡ without_ends v →
+      U (record { is_around = a; skips = s; pending = os; steps = w }) ≡ without_ends (close_all (push c.below c.marker b) (begun s a k os) (all_steps x ++ exit ∷ v))
 
 pub enters-push : (g : List ℕ) (k : ℕ) (w : List StepValue) → enters (g ++ k ∷ []) ++ w ≡ enters g ++ enter k ∷ w
 enters-push [] k w = refl
 enters-push (j ∷ g) k w = ap (λ (v : List StepValue). enter j ∷ v) (enters-push g k w)
+
+-- what begins where a node does that the last call precedes
+glue-around : (os : List Pending) (k : ℕ) → glue (node_of (begins_node os) k ∷ left_by (begins_node os) os) ≡ glue os ++ k ∷ []
+glue-around [] k = refl
+glue-around (pending.Outermost j ∷ os) k = refl
+glue-around (pending.Inner j ∷ os) k = refl
+glue-around (pending.Nothing ∷ os) k = refl
+glue-around (pending.Past ∷ os) k = refl
+
+others-around : (os : List Pending) (k : ℕ) → others (node_of (begins_node os) k ∷ left_by (begins_node os) os) ≡ others os
+others-around [] k = refl
+others-around (pending.Outermost j ∷ os) k = refl
+others-around (pending.Inner j ∷ os) k = refl
+others-around (pending.Nothing ∷ os) k = refl
+others-around (pending.Past ∷ os) k = refl
+
+around : (os : List Pending) (f : Forest) (k : ℕ) (u : List StepValue) (s : Stack) →
+    without_ends (close_all s (others (node_of (begins_node os) k ∷ left_by (begins_node os) os)) (all_steps f ++ (enters (glue (node_of (begins_node os) k ∷ left_by (begins_node os) os)) ++ u)))
+    ≡ without_ends (close_all s (others os) (all_steps f ++ (enters (glue os ++ k ∷ []) ++ u)))
+around os f k u s = rw (glue-around os k, others-around os k) refl
 
 enters-without : (ks : List ℕ) (w v : List StepValue) → w ≡ without_ends v → enters ks ++ w ≡ without_ends (enters ks ++ v)
 enters-without [] w v e = e
@@ -70,19 +86,19 @@ good-finish : (k : ℕ) (c : Config) (s : Stack) (U : Walk → List StepValue) �
 unfolding close_all
 good-finish k c floor U e t h = absurd cc
 good-finish k c (push r m b) U e t h = record {
-  plain = λ os w v q. h.plain (record { kinds = k ∷ []; skips = 0 } ∷ os) (exit ∷ w) (exit ∷ v) (ap (λ (u : List StepValue). exit ∷ u) q) ∙ rw (← e) (ap (λ (u : List StepValue). without_ends (close_all r os u)) (simp append_assoc));
-  after_node = λ d b' k' x' i g n os w v q.
+  plain = λ os w v q. h.plain (pending.Outermost k ∷ os) (exit ∷ w) (exit ∷ v) (ap (λ (u : List StepValue). exit ∷ u) q) ∙ rw (← e) (ap (λ (u : List StepValue). without_ends (close_all r os u)) (simp append_assoc));
+  after_node = λ d b' k' x' i a n os w v q.
       let eb : b ≡ b' = cc in
       let ek : k ≡ k' = cc in
       let ex : c.forest ≡ x' = cc in
-      rw (← eb, ← ek, ← ex) (h.plain (record { kinds = g ++ k ∷ []; skips = n } ∷ os) (exit ∷ w) (exit ∷ v) (ap (λ (u : List StepValue). exit ∷ u) q) ∙ rw (← e) refl);
+      rw (← eb, ← ek, ← ex) (h.plain (begun n a k os) (exit ∷ w) (exit ∷ v) (ap (λ (u : List StepValue). exit ∷ u) q) ∙ rw (← e) refl);
 }
 
 good-abandon : (c : Config) (s : Stack) (U : Walk → List StepValue) → s ≡ c.below → (merge c s).sound ≡ true → Good c U → Good (merge c s) (λ w. U (back call.abandon w))
 unfolding close_all
 good-abandon c floor U e t h = absurd cc
 good-abandon c (push r m b) U e t h = record {
-  plain = λ os w v q. h.plain (record { kinds = []; skips = 0 } ∷ os) w v q ∙ rw (← e) (ap (λ (u : List StepValue). without_ends (close_all r os u)) (simp (all_steps-⧺ b c.forest, append_assoc)));
+  plain = λ os w v q. h.plain (pending.Nothing ∷ os) w v q ∙ rw (← e) (ap (λ (u : List StepValue). without_ends (close_all r os u)) (simp (all_steps-⧺ b c.forest, append_assoc)));
   after_node = λ d. absurd cc;
 }
 
@@ -94,7 +110,8 @@ good-precede c a (message f m) U d e t h = absurd cc
 good-precede c a (split f m) U d e t h = absurd cc
 good-precede c false (node f k x) U d e t h = absurd cc
 good-precede c true (node f k x) U d e t h = record {
-  plain = λ os w v q. h.after_node (sym d) f k x (sym e) (glue os) 0 (others os) w v q
+  plain = λ os w v q. h.after_node (sym d) f k x (sym e) (begins_node os) 0 (left_by (begins_node os) os) w v q
+      ∙ around os f k (all_steps x ++ exit ∷ v) c.below
       ∙ ap (λ (u : List StepValue). without_ends (close_all c.below (others os) (all_steps f ++ u))) (enters-push (glue os) k (all_steps x ++ exit ∷ v) ∙ simp append_assoc);
   after_node = λ z. absurd cc;
 }
@@ -109,12 +126,12 @@ good-extend c (split f y) (push r m b) U e p t h = absurd cc
 good-extend c (node f k x) (push r m b) U e p t h =
     let d : c.closed ≡ true = and_left c.closed c.sound t in
     record {
-      plain = λ os w v q. h.after_node d f k x (sym e) [] 1 os w v q ∙ rw (← p) (ap (λ (u : List StepValue). without_ends (close_all r os u)) (simp (all_steps-⧺ f x, append_assoc)));
-      after_node = λ z b' k' x' i g n os w v q.
+      plain = λ os w v q. h.after_node d f k x (sym e) false 1 os w v q ∙ rw (← p) (ap (λ (u : List StepValue). without_ends (close_all r os u)) (simp (all_steps-⧺ f x, append_assoc)));
+      after_node = λ z b' k' x' i a n os w v q.
           let eb : b ≡ b' = cc in
           let ek : k ≡ k' = cc in
           let ex : (f ⧺ x) ≡ x' = cc in
-          rw (← eb, ← ek, ← ex) (h.after_node d f k x (sym e) g (suc n) os w v q ∙ rw (← p) (simp (all_steps-⧺ f x, append_assoc)));
+          rw (← eb, ← ek, ← ex) (h.after_node d f k x (sym e) a (suc n) os w v q ∙ rw (← p) (simp (all_steps-⧺ f x, append_assoc)));
     }
 
 good-step : (c : Config) (x : Call) (U : Walk → List StepValue) → (step c x).sound ≡ true → Good c U → Good (step c x) (λ w. U (back x w))
@@ -141,36 +158,3 @@ unfolding close_all
 unwound xs t f p =
     let F : Forest = (run initial xs).forest in
     (good-run initial xs (λ w. w.steps) t good-initial).plain [] [] [] refl ∙ rw f (ap without_ends (append-nil (all_steps F)) ∙ without_ends-whole F p)
-
-pub back-skips : (x : Call) (w : Walk) → (back x w).skips ≤ w.skips + 1
-back-skips call.start w = omega arith
-back-skips call.precede w = omega arith
-back-skips (call.finish k) w = omega arith
-back-skips call.extend w = omega arith
-back-skips call.abandon w = omega arith
-back-skips (call.token k n) w = omega arith
-back-skips (call.float_split d) w = omega arith
-back-skips (call.error m) w = omega arith
-
--- one more node begins
-pub entered : (kinds kinds' : List ℕ) (k : ℕ) (steps steps' : List PlainStep) (ms : List (String Global)) → kinds ≡ kinds' ++ k ∷ [] → steps' ≡ steps ++ plain.Enter k ∷ [] →
-    enters kinds' ++ values (reverse steps') ms ≡ enters kinds ++ values (reverse steps) ms
-entered kinds kinds' k steps steps' ms e f =
-    rw (e, f, enters-push kinds' k (values (reverse steps) ms), reverse-append steps (plain.Enter k ∷ [])) refl
-
--- the topmost opening becomes what is around the node that ends next
-pub preceded_back : (w : Walk) (kinds : List ℕ) (held first held' s t : ℕ) (below os : List kept.Opening) (steps : List StepValue) →
-    os ≡ record { first = first; skips = t } ∷ below → t ≡ 0 →
-    record { kinds = drop held kinds; skips = s; openings = openings_of os (take held kinds); steps = steps } ≡ record w { kinds = []; skips = 0 } →
-    held' ≡ min first (length kinds) →
-    record { kinds = drop held' kinds; skips = s; openings = openings_of below (take held' kinds); steps = steps } ≡ back call.precede w
-preceded_back w kinds held first held' s t below os steps e z f m =
-    let gone : drop held kinds ≡ [] = ap (λ (v : Walk). v.kinds) f in
-    let whole : take held kinds ≡ kinds = sym (append-nil (take held kinds)) ∙ ap (λ (ks : List ℕ). take held kinds ++ ks) (sym gone) ∙ take-append-drop held kinds in
-    let held-drop : drop held' kinds ≡ drop first kinds = ap (λ (n : ℕ). drop n kinds) m ∙ drop_min first kinds in
-    let held-take : take held' kinds ≡ take first kinds = ap (λ (n : ℕ). take n kinds) m ∙ take_min first kinds in
-    let opened : w.openings ≡ record { kinds = drop first kinds; skips = 0 } ∷ openings_of below (take first kinds) =
-    sym (ap (λ (v : Walk). v.openings) f) ∙ ap (openings_of os) whole ∙ ap (λ (x : List kept.Opening). openings_of x kinds) (e ∙ ap (λ (n : ℕ). record { first = first; skips = n } ∷ below) z) in
-    let steps-are : steps ≡ w.steps = ap (λ (v : Walk). v.steps) f in
-    let skips-are : s ≡ 0 = ap (λ (v : Walk). v.skips) f in
-    rw (opened, held-drop, held-take, steps-are, skips-are) refl

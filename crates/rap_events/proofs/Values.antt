@@ -1,43 +1,50 @@
 -- The steps that lists of steps and messages show.
-use Rattle.std.proofs.Common.{◌≡◌, ℕ, List, [], ◌∷◌, ◌++◌, length, reverse, refl, ap, ◌∙◌, arith}
-use Rattle.std.proofs.lemmas.List.{length-reverse, reverse-append}
+use Rattle.std.proofs.Common.{◌≡◌, ◌≤◌, ℕ, List, [], ◌∷◌, ◌++◌, length, length-drop, append_assoc, take, drop, refl, ap, ◌∙◌, arith}
+use Rattle.std.proofs.lemmas.List.{drop_at, length-take-le}
+use Rattle.std.specs.List.{insert}
 use Rattle.std.specs.Prelude.{String, string_bytes}
 use Rattle.std.specs.declared.alloc.Global.{Global}
 use Rattle.rap_events.specs.StepValue.{StepValue, enter, exit, token, float_split, error}
-use Rattle.rap_events.specs.Output.{values, values_back}
-use Rattle.rap_events.specs.declared.output.PlainStep.{PlainStep}
-use Rattle.rap_events.specs.declared.output.PlainStep.TheVariants as plain
+use Rattle.rap_events.specs.Output.{values}
+use Rattle.rap_events.specs.declared.event.Event.{Event}
+use Rattle.rap_events.specs.declared.event.Event.TheVariants as event
 
-pub values_length : (ss : List PlainStep) (ms : List (String Global)) → length (values ss ms) ≡ length ss
+pub values_length : (es : List Event) (ms : List (String Global)) → length (values es ms) ≡ length es
 values_length [] ms = refl
-values_length (plain.Token w k ∷ ss) ms = omega (arith, values_length ss ms)
-values_length (plain.FloatSplit d ∷ ss) ms = omega (arith, values_length ss ms)
-values_length (plain.Enter k ∷ ss) ms = omega (arith, values_length ss ms)
-values_length (plain.Exit ∷ ss) ms = omega (arith, values_length ss ms)
-values_length (plain.Error ∷ ss) [] = omega (arith, values_length ss [])
-values_length (plain.Error ∷ ss) (m ∷ ms) = omega (arith, values_length ss ms)
+values_length (event.Token w k ∷ es) ms = omega (arith, values_length es ms)
+values_length (event.FloatSplit d ∷ es) ms = omega (arith, values_length es ms)
+values_length (event.Enter k ∷ es) ms = omega (arith, values_length es ms)
+values_length (event.Exit ∷ es) ms = omega (arith, values_length es ms)
+values_length (event.Error ∷ es) [] = omega (arith, values_length es [])
+values_length (event.Error ∷ es) (m ∷ ms) = omega (arith, values_length es ms)
+values_length (event.Start ∷ es) ms = omega (arith, values_length es ms)
+values_length (event.Precede ∷ es) ms = omega (arith, values_length es ms)
+values_length (event.Finish k ∷ es) ms = omega (arith, values_length es ms)
+values_length (event.Extend ∷ es) ms = omega (arith, values_length es ms)
+values_length (event.Abandon ∷ es) ms = omega (arith, values_length es ms)
 
 -- one exit more
-pub values_exit : (ss : List PlainStep) (ms : List (String Global)) → values (ss ++ plain.Exit ∷ []) ms ≡ values ss ms ++ exit ∷ []
+pub values_exit : (es : List Event) (ms : List (String Global)) → values (es ++ event.Exit ∷ []) ms ≡ values es ms ++ exit ∷ []
 values_exit [] ms = refl
-values_exit (plain.Token w k ∷ ss) ms = ap (λ (v : List StepValue). token k w ∷ v) (values_exit ss ms)
-values_exit (plain.FloatSplit d ∷ ss) ms = ap (λ (v : List StepValue). float_split d ∷ v) (values_exit ss ms)
-values_exit (plain.Enter k ∷ ss) ms = ap (λ (v : List StepValue). enter k ∷ v) (values_exit ss ms)
-values_exit (plain.Exit ∷ ss) ms = ap (λ (v : List StepValue). exit ∷ v) (values_exit ss ms)
-values_exit (plain.Error ∷ ss) [] = ap (λ (v : List StepValue). error [] ∷ v) (values_exit ss [])
-values_exit (plain.Error ∷ ss) (m ∷ ms) = ap (λ (v : List StepValue). error (string_bytes m) ∷ v) (values_exit ss ms)
+values_exit (event.Token w k ∷ es) ms = ap (λ (v : List StepValue). token k w ∷ v) (values_exit es ms)
+values_exit (event.FloatSplit d ∷ es) ms = ap (λ (v : List StepValue). float_split d ∷ v) (values_exit es ms)
+values_exit (event.Enter k ∷ es) ms = ap (λ (v : List StepValue). enter k ∷ v) (values_exit es ms)
+values_exit (event.Exit ∷ es) ms = ap (λ (v : List StepValue). exit ∷ v) (values_exit es ms)
+values_exit (event.Error ∷ es) [] = ap (λ (v : List StepValue). error [] ∷ v) (values_exit es [])
+values_exit (event.Error ∷ es) (m ∷ ms) = ap (λ (v : List StepValue). error (string_bytes m) ∷ v) (values_exit es ms)
+values_exit (event.Start ∷ es) ms = ap (λ (v : List StepValue). error [] ∷ v) (values_exit es ms)
+values_exit (event.Precede ∷ es) ms = ap (λ (v : List StepValue). error [] ∷ v) (values_exit es ms)
+values_exit (event.Finish k ∷ es) ms = ap (λ (v : List StepValue). error [] ∷ v) (values_exit es ms)
+values_exit (event.Extend ∷ es) ms = ap (λ (v : List StepValue). error [] ∷ v) (values_exit es ms)
+values_exit (event.Abandon ∷ es) ms = ap (λ (v : List StepValue). error [] ∷ v) (values_exit es ms)
 
-pub values_back_length : (ss : List PlainStep) (ms : List (String Global)) → length (values_back ss ms) ≡ length ss
-values_back_length ss ms = values_length (reverse ss) (reverse ms) ∙ length-reverse ss
-
--- one step before the others
-pub values_back_push : (ss : List PlainStep) (s : PlainStep) (ms : List (String Global)) → values_back (ss ++ s ∷ []) ms ≡ values (s ∷ reverse ss) (reverse ms)
-values_back_push ss s ms = ap (λ (ts : List PlainStep). values ts (reverse ms)) (reverse-append ss (s ∷ []))
+-- steps that begin within a list are no more than it has
+pub values_few : (n : ℕ) (es : List Event) (ms : List (String Global)) → length (values (drop n es) ms) ≤ length es
+values_few n es ms = omega (arith, values_length (drop n es) ms, length-drop n es)
 
 -- a node around all steps
-pub values_back_wrap : (k : ℕ) (ss ss' ss2 : List PlainStep) (ms : List (String Global)) → ss' ≡ plain.Exit ∷ ss → ss2 ≡ ss' ++ plain.Enter k ∷ [] → values_back ss2 ms ≡ enter k ∷ (values_back ss ms ++ exit ∷ [])
-values_back_wrap k ss ss' ss2 ms e f =
-    ap (λ (ts : List PlainStep). values_back ts ms) (f ∙ ap (λ (ts : List PlainStep). ts ++ plain.Enter k ∷ []) e)
-    ∙ values_back_push (plain.Exit ∷ ss) (plain.Enter k) ms
-    ∙ ap (λ (ts : List PlainStep). enter k ∷ values ts (reverse ms)) (reverse-append (plain.Exit ∷ []) ss)
-    ∙ ap (λ (v : List StepValue). enter k ∷ v) (values_exit (reverse ss) (reverse ms))
+pub values_wrap : (k n : ℕ) (es es' : List Event) (ms : List (String Global)) → n ≤ length es → es' ≡ insert es n (event.Enter k) ++ event.Exit ∷ [] → values (drop n es') ms ≡ enter k ∷ (values (drop n es) ms ++ exit ∷ [])
+values_wrap k n es es' ms h e =
+    ap (λ (xs : List Event). values (drop n xs) ms) (e ∙ append_assoc (take n es) (event.Enter k ∷ drop n es) (event.Exit ∷ []))
+    ∙ ap (λ (xs : List Event). values xs ms) (drop_at (take n es) (event.Enter k ∷ (drop n es ++ event.Exit ∷ [])) n (length-take-le n es h))
+    ∙ ap (λ (v : List StepValue). enter k ∷ v) (values_exit (drop n es) ms)

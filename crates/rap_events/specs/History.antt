@@ -18,7 +18,8 @@ pub data Call : Type 0 where
   float_split : Bool → Call
   error : List ℕ → Call
 
--- the calls that the events show, each error with the next of the messages
+-- The calls that the events show, each error with the next of the messages. A step that is no call would be a start,
+-- and no parser records one.
 abbrev pub history : List Event → List (List ℕ) → List Call
 history [] ms = []
 history (event.Start ∷ es) ms = start ∷ history es ms
@@ -30,6 +31,8 @@ history (event.Token width kind ∷ es) ms = token kind width ∷ history es ms
 history (event.FloatSplit ends_in_dot ∷ es) ms = float_split ends_in_dot ∷ history es ms
 history (event.Error ∷ es) [] = error [] ∷ history es []
 history (event.Error ∷ es) (m ∷ ms) = error m ∷ history es ms
+history (event.Enter kind ∷ es) ms = start ∷ history es ms
+history (event.Exit ∷ es) ms = start ∷ history es ms
 
 -- how many of the events are errors
 abbrev pub errors : List Event → ℕ
@@ -42,3 +45,5 @@ errors (event.Abandon ∷ es) = errors es
 errors (event.Token width kind ∷ es) = errors es
 errors (event.FloatSplit ends_in_dot ∷ es) = errors es
 errors (event.Error ∷ es) = errors es + 1
+errors (event.Enter kind ∷ es) = errors es
+errors (event.Exit ∷ es) = errors es

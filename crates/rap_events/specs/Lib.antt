@@ -10,6 +10,7 @@ pub mod LastToken
 pub mod Machine
 pub mod OperatorTable
 pub mod Output
+pub mod Pending
 pub mod Power
 pub mod Reading
 pub mod Record

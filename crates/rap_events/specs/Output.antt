@@ -1,27 +1,34 @@
 -- The steps that an output holds.
 -- (What calls promise one another; no promise of the library rests on it.)
-use Rattle.std.specs.Prelude.{List, [], ◌∷◌, Option, Some, None, String, string_bytes, reverse}
+use Rattle.std.specs.Prelude.{◌≤◌, ⊤, List, [], ◌∷◌, Option, Some, None, String, string_bytes, drop, length}
 use Rattle.std.specs.declared.alloc.Global.{Global}
 use Rattle.rap_events.specs.StepValue.{StepValue, enter, exit, token, float_split, error}
-use Rattle.rap_events.specs.declared.output.PlainStep.{PlainStep}
-use Rattle.rap_events.specs.declared.output.PlainStep.TheVariants as plain
+use Rattle.rap_events.specs.declared.event.Event.{Event}
+use Rattle.rap_events.specs.declared.event.Event.TheVariants as event
 use Rattle.rap_events.specs.declared.output.StepList.{StepList}
 
--- what a contract sees of steps, each error with the next of the messages
-abbrev pub values : List PlainStep → List (String Global) → List StepValue
+-- what a contract sees of steps, each error with the next of the messages; an event that is no step would be an empty
+-- message, and no output holds one
+abbrev pub values : List Event → List (String Global) → List StepValue
 values [] ms = []
-values (plain.Token width kind ∷ ss) ms = token kind width ∷ values ss ms
-values (plain.FloatSplit ends_in_dot ∷ ss) ms = float_split ends_in_dot ∷ values ss ms
-values (plain.Enter kind ∷ ss) ms = enter kind ∷ values ss ms
-values (plain.Exit ∷ ss) ms = exit ∷ values ss ms
-values (plain.Error ∷ ss) [] = error [] ∷ values ss []
-values (plain.Error ∷ ss) (m ∷ ms) = error (string_bytes m) ∷ values ss ms
-
--- the same of steps and messages that are kept from the last one back
-abbrev pub values_back : List PlainStep → List (String Global) → List StepValue
-values_back ss ms = values (reverse ss) (reverse ms)
+values (event.Token width kind ∷ es) ms = token kind width ∷ values es ms
+values (event.FloatSplit ends_in_dot ∷ es) ms = float_split ends_in_dot ∷ values es ms
+values (event.Enter kind ∷ es) ms = enter kind ∷ values es ms
+values (event.Exit ∷ es) ms = exit ∷ values es ms
+values (event.Error ∷ es) [] = error [] ∷ values es []
+values (event.Error ∷ es) (m ∷ ms) = error (string_bytes m) ∷ values es ms
+values (event.Start ∷ es) ms = error [] ∷ values es ms
+values (event.Precede ∷ es) ms = error [] ∷ values es ms
+values (event.Finish kind ∷ es) ms = error [] ∷ values es ms
+values (event.Extend ∷ es) ms = error [] ∷ values es ms
+values (event.Abandon ∷ es) ms = error [] ∷ values es ms
 
 -- what a contract sees of steps that may be there
 abbrev pub values_of : Option StepList → List StepValue
 values_of None = []
-values_of (Some list) = values_back list.steps.items list.messages.items
+values_of (Some list) = values (drop list.first list.steps.items) list.messages.items
+
+-- the steps begin within the list
+abbrev pub IsWithin : Option StepList → Type 0
+IsWithin None = ⊤
+IsWithin (Some list) = list.first ≤ length list.steps.items

@@ -1,29 +1,26 @@
 -- Reading a history from its last call back: what is kept on the way, and what each call does to it.
 -- (What calls promise one another; no promise of the library rests on it.)
-use Rattle.std.specs.Prelude.{◌≡◌, ℕ, suc, zero, List, [], ◌∷◌, ◌++◌, reverse, take, drop, String, string_bytes}
+use Rattle.std.specs.Prelude.{◌≡◌, ℕ, suc, ◌+◌, ◌≤◌, ◌<◌, List, [], ◌∷◌, ◌++◌, Bool, true, false, length, map, reverse, take, drop, String, string_bytes}
 use Rattle.std.specs.declared.alloc.Global.{Global}
 use Rattle.rap_events.specs.StepValue.{StepValue, enter, exit, token, float_split, error}
-use Rattle.rap_events.specs.History.{Call}
+use Rattle.rap_events.specs.History.{Call, history, errors}
 use Rattle.rap_events.specs.History as call
 use Rattle.rap_events.specs.Forest.{ended_by}
 use Rattle.rap_events.specs.Interval.{without_exits}
 use Rattle.rap_events.specs.Output.{values}
 use Rattle.rap_events.specs.declared.event.Event.{Event}
 use Rattle.rap_events.specs.declared.event.Event.TheVariants as event
-use Rattle.rap_events.specs.declared.event.walk.Opening as kept_opening
+use Rattle.rap_events.specs.declared.event.walk.Pending.{Pending}
+use Rattle.rap_events.specs.declared.event.walk.Pending.TheVariants as pending
 use Rattle.rap_events.specs.declared.event.walk.Walk as kept
+use Rattle.rap_events.specs.Pending.{glue, others, begins_node, left_by, begun, inners, slot}
 
--- nodes that begin at one place, the outermost first, past so many open markers
-pub record Opening : Type 0 where
-  pub kinds : List ℕ
-  pub skips : ℕ
-
--- The nodes around the one that the next finish ends, and past how many open markers that one begins; the nodes
--- that are still to begin, the nearest first; and the steps so far.
+-- Whether the nodes that come first in the list are around the one that the next finish ends, and past how many open
+-- markers that one begins; what is still to begin, the nearest first; and the steps so far.
 pub record Walk : Type 0 where
-  pub kinds : List ℕ
+  pub is_around : Bool
   pub skips : ℕ
-  pub openings : List Opening
+  pub pending : List Pending
   pub steps : List StepValue
 
 -- nodes of these kinds begin
@@ -31,34 +28,21 @@ abbrev pub enters : List ℕ → List StepValue
 enters [] = []
 enters (k ∷ ks) = enter k ∷ enters ks
 
-abbrev pub glue_past : List ℕ → ℕ → List ℕ
-glue_past ks zero = ks
-glue_past ks (suc n) = []
-
--- the kinds of the nodes that begin where the newest open marker does
-abbrev pub glue : List Opening → List ℕ
-glue [] = []
-glue (o ∷ os) = glue_past o.kinds o.skips
-
-abbrev pub others_past : List ℕ → ℕ → List Opening → List Opening
-others_past ks zero os = os
-others_past ks (suc n) os = record { kinds = ks; skips = n } ∷ os
-
--- what is to begin before that marker
-abbrev pub others : List Opening → List Opening
-others [] = []
-others (o ∷ os) = others_past o.kinds o.skips os
+-- all nodes at the newest open marker begin
+abbrev pub entered : Bool → Walk → Walk
+entered true w = record { is_around = w.is_around; skips = w.skips; pending = others w.pending; steps = enters (glue w.pending) ++ w.steps }
+entered false w = w
 
 -- one call back
 abbrev pub back : Call → Walk → Walk
-back call.start w = record { kinds = []; skips = 0; openings = others w.openings; steps = enters (glue w.openings) ++ w.steps }
-back call.precede w = record { kinds = glue w.openings; skips = 0; openings = others w.openings; steps = w.steps }
-back (call.finish k) w = record { kinds = []; skips = 0; openings = record { kinds = w.kinds ++ k ∷ []; skips = w.skips } ∷ w.openings; steps = exit ∷ w.steps }
-back call.extend w = record { kinds = w.kinds; skips = suc w.skips; openings = w.openings; steps = w.steps }
-back call.abandon w = record { kinds = []; skips = 0; openings = record { kinds = []; skips = 0 } ∷ w.openings; steps = w.steps }
-back (call.token k width) w = record { kinds = []; skips = 0; openings = w.openings; steps = token k width ∷ w.steps }
-back (call.float_split ends_in_dot) w = record { kinds = []; skips = 0; openings = w.openings; steps = float_split ends_in_dot ∷ without_exits (ended_by ends_in_dot) w.steps }
-back (call.error bytes) w = record { kinds = []; skips = 0; openings = w.openings; steps = error bytes ∷ w.steps }
+back call.start w = record { is_around = false; skips = w.skips; pending = others w.pending; steps = enters (glue w.pending) ++ w.steps }
+back call.precede w = record { is_around = begins_node w.pending; skips = w.skips; pending = left_by (begins_node w.pending) w.pending; steps = w.steps }
+back (call.finish k) w = record { is_around = false; skips = 0; pending = begun w.skips w.is_around k w.pending; steps = exit ∷ w.steps }
+back call.extend w = record { is_around = w.is_around; skips = suc w.skips; pending = w.pending; steps = w.steps }
+back call.abandon w = record { is_around = false; skips = w.skips; pending = pending.Nothing ∷ w.pending; steps = w.steps }
+back (call.token k width) w = record { is_around = w.is_around; skips = w.skips; pending = w.pending; steps = token k width ∷ w.steps }
+back (call.float_split ends_in_dot) w = record { is_around = w.is_around; skips = w.skips; pending = w.pending; steps = float_split ends_in_dot ∷ without_exits (ended_by ends_in_dot) w.steps }
+back (call.error bytes) w = record { is_around = w.is_around; skips = w.skips; pending = w.pending; steps = error bytes ∷ w.steps }
 
 -- all calls back, the last one first
 abbrev pub unwind : List Call → Walk → Walk
@@ -67,31 +51,75 @@ unwind (x ∷ xs) w = back x (unwind xs w)
 
 -- before the last call
 abbrev pub nothing_yet : Walk
-nothing_yet = record { kinds = []; skips = 0; openings = []; steps = [] }
+nothing_yet = record { is_around = false; skips = 0; pending = []; steps = [] }
 
--- the code keeps the kinds of all openings in one list, and of each opening where its kinds begin
-abbrev pub openings_of : List kept_opening.Opening → List ℕ → List Opening
-openings_of [] kinds = []
-openings_of (o ∷ os) kinds = record { kinds = drop o.first kinds; skips = o.skips } ∷ openings_of os (take o.first kinds)
-
--- what the code keeps, its steps and openings being kept the other way round
+-- what the code keeps: its list is kept the other way round, and the steps stand where events were
 abbrev pub walk_of : kept.Walk → Walk
 walk_of w = record {
-  kinds = drop w.held w.kinds.items;
+  is_around = w.is_around;
   skips = w.skips;
-  openings = openings_of (reverse w.openings.items) (take w.held w.kinds.items);
-  steps = values (reverse w.steps.items) (reverse w.reported.items);
+  pending = reverse w.pending.items;
+  steps = values (drop w.first w.events.items) (drop w.reports w.messages.items);
 }
 
--- the messages are as before, and this call was taken back
-pub record Backed (x : Call) (old new : kept.Walk) : Type 0 where
+-- an event was read whose place is still free
+abbrev pub HasRoom : kept.Walk → Type 0
+HasRoom w = w.left + (inners w.pending.items + slot w.is_around) < w.first
+
+-- no event was read
+pub record Started (es : List Event) (ms : List (String Global)) (w : kept.Walk) : Type 0 where
+  pub events : w.events.items ≡ es
+  pub left : w.left ≡ length es
+  pub messages : w.messages.items ≡ ms
+  pub reports : w.reports ≡ length ms
+  pub walk : walk_of w ≡ nothing_yet
+
+-- the events that were not yet read, and the messages, are as before
+pub record Kept (old new : kept.Walk) : Type 0 where
+  pub left : new.left ≡ old.left
+  pub events : take old.left new.events.items ≡ take old.left old.events.items
   pub messages : new.messages.items ≡ old.messages.items
+  pub reports : new.reports ≡ old.reports
+
+-- a step stands before the others
+pub record Written (step : Event) (old new : kept.Walk) : Type 0 where
+  pub kept : Kept old new
+  pub first : new.first + 1 ≡ old.first
+  pub steps : drop new.first new.events.items ≡ step ∷ drop old.first old.events.items
+  pub pending : new.pending.items ≡ old.pending.items
+  pub is_around : new.is_around ≡ old.is_around
+  pub skips : new.skips ≡ old.skips
+
+-- an event was read, and nothing done yet
+pub record Taken (e : Event) (old new : kept.Walk) : Type 0 where
+  pub left : new.left + 1 ≡ old.left
+  pub events : take old.left old.events.items ≡ take new.left new.events.items ++ e ∷ []
+  pub messages : new.messages.items ≡ old.messages.items
+  pub reports : new.reports ≡ old.reports
+  pub walk : walk_of new ≡ walk_of old
+  pub room : HasRoom new
+  pub few : new.skips + new.left < length new.events.items
+
+-- the last one of the list was taken, and whether nodes around it are still to begin there
+pub record EnteredLast (is_more : Bool) (old new : kept.Walk) : Type 0 where
+  pub kept : Kept old new
+  pub room : new.left + (inners new.pending.items + slot new.is_around) + slot is_more ≤ new.first
+  pub shorter : length new.pending.items + slot is_more ≤ length old.pending.items
+  pub walk : entered is_more (walk_of new) ≡ entered true (walk_of old)
+
+-- this call was taken back
+pub record Backed (x : Call) (old new : kept.Walk) : Type 0 where
+  pub kept : Kept old new
   pub walk : walk_of new ≡ back x (walk_of old)
 
--- the last of the messages was handed out
+-- the last message that was not yet met was met
 pub record ReportedBack (old new : kept.Walk) : Type 0 where
   pub text : String Global
-  pub messages : old.messages.items ≡ new.messages.items ++ text ∷ []
+  pub left : new.left ≡ old.left
+  pub events : take old.left new.events.items ≡ take old.left old.events.items
+  pub messages : new.messages.items ≡ old.messages.items
+  pub reports : new.reports + 1 ≡ old.reports
+  pub met : take old.reports old.messages.items ≡ take new.reports old.messages.items ++ text ∷ []
   pub walk : walk_of new ≡ back (call.error (string_bytes text)) (walk_of old)
 
 -- an event was taken back
@@ -104,3 +132,15 @@ EventBacked event.Abandon old new = Backed call.abandon old new
 EventBacked (event.Token width kind) old new = Backed (call.token kind width) old new
 EventBacked (event.FloatSplit ends_in_dot) old new = Backed (call.float_split ends_in_dot) old new
 EventBacked event.Error old new = ReportedBack old new
+EventBacked (event.Enter kind) old new = Backed call.start old new
+EventBacked event.Exit old new = Backed call.start old new
+
+-- the calls that were not yet taken back
+abbrev pub calls_left : kept.Walk → List Call
+calls_left w = history (take w.left w.events.items) (map string_bytes (take w.reports w.messages.items))
+
+-- one event fewer is left to take back, and to go on gives the same
+pub record Same (old new : kept.Walk) : Type 0 where
+  pub left : new.left + 1 ≡ old.left
+  pub paired : errors (take new.left new.events.items) ≡ new.reports
+  pub unwound : unwind (calls_left new) (walk_of new) ≡ unwind (calls_left old) (walk_of old)

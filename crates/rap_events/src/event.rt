@@ -12,9 +12,11 @@ mod walk;
 
 use walk::Walk;
 
-/// One call of a parser: a marker's start or end, a token, a float that is taken apart, or a message.
+/// One call of a parser, or a step of an output. The calls are a marker's start or end, a token, a float that is taken
+/// apart, or a message; the last three are steps too, so that an output is written in the place of what was recorded.
 ///
-/// Events are only ever appended: a node that another one precedes or extends is not changed in place.
+/// While a parser records, events are only ever appended: a node that another one precedes or extends is not changed
+/// in place.
 #[derive(Clone, Copy, PartialEq, Eq, Debug)]
 pub(crate) enum Event {
     /// A marker is started.
@@ -41,6 +43,12 @@ pub(crate) enum Event {
     },
     /// A message is reported: the n-th error has the parser's n-th message.
     Error,
+    /// A node begins: a step. A parser records none.
+    Enter {
+        kind: SyntaxKind,
+    },
+    /// The newest open node ends: a step. A parser records none.
+    Exit,
 }
 
 const _: () = prove!(size_of::<Event>() <= 4);
@@ -48,26 +56,24 @@ const _: () = prove!(size_of::<Event>() <= 4);
 impl Event {
     ghost use Rattle.rap_events.specs.History.{history, errors};
 
-    /// The output that the events make: the forest of their history. The messages are moved into it.
+    /// The output that the events make: the forest of their history. The events and messages are moved into it.
     ///
     /// The events are read from the last one back: only then is it known, at the start of a node, which nodes
-    /// that were finished later begin before it.
+    /// that were finished later begin before it. The steps are written in the place of events that were read.
     pub(crate) fn process(
         alloc: Global,
-        events: &[Event],
+        events: Vec<Event>,
         messages: Vec<String>,
     ) -> Result<Output, NoMemory>
-        requires paired { errors events.now ≡ length messages.items }
-        requires sound { (run initial (history events.now (map string_bytes messages.items))).sound ≡ true }
-        requires closed { (run initial (history events.now (map string_bytes messages.items))).below ≡ floor }
-        requires splits { all_splits_placed (run initial (history events.now (map string_bytes messages.items))) ≡ true }
-        ensures { IfOk result (λ output. output ≡ (run initial (history events.now (map string_bytes messages.items))).forest) }
+        requires paired { errors events.items ≡ length messages.items }
+        requires sound { (run initial (history events.items (map string_bytes messages.items))).sound ≡ true }
+        requires closed { (run initial (history events.items (map string_bytes messages.items))).below ≡ floor }
+        requires splits { all_splits_placed (run initial (history events.items (map string_bytes messages.items))) ≡ true }
+        ensures { IfOk result (λ output. output ≡ (run initial (history events.items (map string_bytes messages.items))).forest) }
     {
-        let mut walk = Walk::new(alloc, events.len(), messages)?;
-        let mut i = events.len();
-        while i > 0 {
-            i -= 1;
-            walk.back(events[i])?;
+        let mut walk = Walk::new(alloc, events, messages);
+        while walk.left > 0 {
+            walk.back()?;
         }
         let output = walk.output();
         Ok(output)

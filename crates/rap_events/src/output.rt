@@ -1,40 +1,22 @@
 //! What a parse gives: the steps of its forest.
-ghost use Rattle.std.specs.Prelude.{◌≡◌, ◌≤◌, ◌<◌, ◌^◌, List, ◌∷◌, length, reverse, true, IfOk};
+ghost use Rattle.std.specs.Prelude.{◌≡◌, ◌≤◌, ◌<◌, ◌^◌, List, ◌∷◌, length, drop, true, IfOk};
 ghost use Rattle.rap_events.specs.StepValue.{error};
-ghost use Rattle.rap_events.specs.Output.{values, values_back};
-ghost use Rattle.rap_events.specs.declared.output.PlainStep.TheVariants as plain;
+ghost use Rattle.rap_events.specs.Output.{values};
+ghost use Rattle.rap_events.specs.declared.event.Event.TheVariants as event;
 ghost use Rattle.rap_events.specs.Forest.{none, node, flat, splits_placed};
 ghost use Rattle.rap_events.specs.Reading.{forest_of};
 
+use crate::event::Event;
 use rap_base::no_memory::NoMemory;
 use rap_base::syntax_kind::SyntaxKind;
 use std::alloc::Global;
 use std::marker::Model;
-use std::mem::size_of;
 
-/// A step. The n-th error has the n-th of the messages beside.
-#[derive(Clone, Copy)]
-pub(crate) enum PlainStep {
-    Token {
-        n_input_tokens: u8,
-        kind: SyntaxKind,
-    },
-    FloatSplit {
-        ends_in_dot: bool,
-    },
-    Enter {
-        kind: SyntaxKind,
-    },
-    Exit,
-    Error,
-}
-
-const _: () = prove!(size_of::<PlainStep>() <= 4);
-
-/// Steps with their messages, from the last one back.
+/// The steps of an output: what stands from `first` on. The n-th error among them has the n-th of the messages.
 #[derive(Drop)]
 pub(crate) struct StepList {
-    steps: Vec<PlainStep>,
+    steps: Vec<Event>,
+    first: usize,
     messages: Vec<String>,
 }
 
@@ -54,11 +36,11 @@ impl Model for Output {
 
     ghost coded = { forest_code };
 
-    ghost use Rattle.rap_events.specs.Output.{values_of};
+    ghost use Rattle.rap_events.specs.Output.{values_of, IsWithin};
 
     ghost view = { λ output. forest_of (values_of output.list) };
 
-    ghost invariant = { λ output. (flat (forest_of (values_of output.list)) ≡ values_of output.list) × (splits_placed (forest_of (values_of output.list)) ≡ true) };
+    ghost invariant = { λ output. IsWithin output.list × ((flat (forest_of (values_of output.list)) ≡ values_of output.list) × (splits_placed (forest_of (values_of output.list)) ≡ true)) };
 }
 
 /// No steps.
@@ -74,33 +56,40 @@ impl Default for Output {
 }
 
 impl Output {
-    /// The output that these steps make, each error with the next of the messages, both from the last one back.
-    pub(crate) fn of_steps(steps: Vec<PlainStep>, messages: Vec<String>) -> Output
-        requires steps { flat (forest_of (values_back steps.items messages.items)) ≡ values_back steps.items messages.items }
-        requires splits { splits_placed (forest_of (values_back steps.items messages.items)) ≡ true }
-        ensures { result ≡ forest_of (values_back steps.items messages.items) }
+    /// The output of the steps that stand from `first` on, each error with the next of the messages.
+    pub(crate) fn of_steps(steps: Vec<Event>, first: usize, messages: Vec<String>) -> Output
+        requires within { first ≤ length steps.items }
+        requires steps { flat (forest_of (values (drop first steps.items) messages.items)) ≡ values (drop first steps.items) messages.items }
+        requires splits { splits_placed (forest_of (values (drop first steps.items) messages.items)) ≡ true }
+        ensures { result ≡ forest_of (values (drop first steps.items) messages.items) }
     {
         Output {
-            list: Some(StepList { steps, messages }),
+            list: Some(StepList {
+                steps,
+                first,
+                messages,
+            }),
         }
     }
 
     /// The steps that show this forest.
     fn into_list(self, alloc: Global) -> StepList
-        ensures list { values_back result.steps.items result.messages.items ≡ flat self }
+        ensures within { result.first ≤ length result.steps.items }
+        ensures list { values (drop result.first result.steps.items) result.messages.items ≡ flat self }
         ensures splits { splits_placed self ≡ true }
     {
         match self.list {
             Some(list) => list,
             None => StepList {
                 steps: Vec::new(alloc),
+                first: 0,
                 messages: Vec::new(alloc),
             },
         }
     }
 
     /// The steps of the forest, from left to right. Takes no memory.
-    #[tactic(auto, using(crate::proofs::Values::values_back_length))]
+    #[tactic(auto, using(crate::proofs::Values::values_length, crate::proofs::Values::values_few))]
     pub fn iter(&self) -> Steps<'_>
         ensures steps { result ≡ flat self.now }
         ensures few { length (flat self.now) < 2 ^ 64 }
@@ -108,7 +97,7 @@ impl Output {
     {
         match &self.list {
             Some(list) => Steps {
-                rest: list.steps.as_slice(),
+                rest: &list.steps[list.first..],
                 messages: list.messages.as_slice(),
             },
             None => Steps {
@@ -127,11 +116,12 @@ pub fn wrap_in_node(alloc: Global, output: Output, kind: SyntaxKind) -> Result<O
 {
     let StepList {
         mut steps,
+        first,
         messages,
     } = output.into_list(alloc);
-    steps.insert(0, PlainStep::Exit)?;
-    steps.push(PlainStep::Enter { kind })?;
-    Ok(Output::of_steps(steps, messages))
+    steps.insert(first, Event::Enter { kind })?;
+    steps.push(Event::Exit)?;
+    Ok(Output::of_steps(steps, first, messages))
 }
 
 /// A step of an output: `n_input_tokens` tokens under one kind, a float of a field access that is taken apart, the
@@ -157,11 +147,10 @@ pub enum Step<'a> {
     },
 }
 
-/// The steps that are left, and the messages of their errors, from the last one back. Contracts see the list of the
-/// steps from the first one on.
+/// The steps that are left, and the messages of their errors. Contracts see the list of the steps.
 #[derive(Drop)]
 pub struct Steps<'a> {
-    rest: &'a [PlainStep],
+    rest: &'a [Event],
     messages: &'a [String],
 }
 
@@ -175,12 +164,12 @@ impl<'a> Model for Steps<'a> {
 
     ghost coded = { coded_list step_code };
 
-    ghost use Rattle.rap_events.specs.Output.{values_back};
+    ghost use Rattle.rap_events.specs.Output.{values};
 
-    ghost view = { λ steps. values_back steps.rest.now steps.messages.now };
+    ghost view = { λ steps. values steps.rest.now steps.messages.now };
 }
 
-#[tactic(auto, using(crate::proofs::Values::values_back_length))]
+#[tactic(auto, using(crate::proofs::Values::values_length))]
 impl<'a> Iterator for Steps<'a> {
     type Item = Step<'a>;
 
@@ -194,24 +183,27 @@ impl<'a> Iterator for Steps<'a> {
     ghost remaining = { item_count (λ steps. steps) };
 
     fn next(&mut self) -> Option<Step<'a>> {
-        let (first, rest) = self.rest.split_last()?;
+        let (first, rest) = self.rest.split_first()?;
         self.rest = rest;
         Some(match *first {
-            PlainStep::Token {
+            Event::Token {
                 kind,
                 n_input_tokens,
             } => Step::Token {
                 kind,
                 n_input_tokens,
             },
-            PlainStep::FloatSplit { ends_in_dot } => Step::FloatSplit { ends_in_dot },
-            PlainStep::Enter { kind } => Step::Enter { kind },
-            PlainStep::Exit => Step::Exit,
-            PlainStep::Error => {
-                let (msg, later) = last_message(self.messages);
+            Event::FloatSplit { ends_in_dot } => Step::FloatSplit { ends_in_dot },
+            Event::Enter { kind } => Step::Enter { kind },
+            Event::Exit => Step::Exit,
+            Event::Error => {
+                let (msg, later) = next_message(self.messages);
                 self.messages = later;
                 Step::Error { msg }
             }
+            // No output holds any of these.
+            Event::Start | Event::Precede | Event::Finish { .. } | Event::Extend | Event::Abandon =>
+                Step::Error { msg: "" },
         })
     }
 
@@ -224,18 +216,18 @@ impl<'a> Iterator for Steps<'a> {
     }
 }
 
-#[tactic(auto, using(crate::proofs::Values::values_back_length))]
+#[tactic(auto, using(crate::proofs::Values::values_length))]
 impl<'a> ExactSizeIterator for Steps<'a> {
     fn len(&self) -> usize {
         self.rest.len()
     }
 }
 
-// The last message of the list, which is the next one, or nothing where there is none, and the later ones.
-fn last_message(messages: &[String]) -> (&str, &[String])
-    ensures { (ss : List PlainStep) → values (plain.Error ∷ ss) (reverse messages.now) ≡ error result.0.now ∷ values ss (reverse result.1.now) }
+// The first message of the list, or nothing where there is none, and the later ones.
+fn next_message(messages: &[String]) -> (&str, &[String])
+    ensures { (es : List Event) → values (event.Error ∷ es) messages.now ≡ error result.0.now ∷ values es result.1.now }
 {
-    match messages.split_last() {
+    match messages.split_first() {
         Some((next, later)) => (next.as_str(), later),
         None => ("", messages),
     }

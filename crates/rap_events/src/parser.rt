@@ -402,7 +402,7 @@ impl<'t> Parser<'t> {
         ensures fit { IfOk result (λ output. message_count output ≡ 0 → ∥ AllFitIn output ∥₁) }
     {
         let messages = self.messages;
-        let output = Event::process(alloc, &self.events, messages)?;
+        let output = Event::process(alloc, self.events, messages)?;
         Ok(output)
     }
 

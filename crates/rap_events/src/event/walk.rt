@@ -1,195 +1,234 @@
-//! Reading events from the last one back.
-ghost use Rattle.std.specs.Prelude.{◌≡◌, ◌≤◌, ◌<◌, ◌+◌, ◌^◌, IfOk, OnOk, length, ◌++◌, reverse, true, List, String, [], ◌∷◌};
+//! Reading events from the last one back, and writing the steps in their place.
+ghost use Rattle.std.specs.Prelude.{◌≡◌, ◌≤◌, ◌<◌, ◌+◌, OnOk, length, take, reverse, true, [], ◌∷◌};
 ghost use Rattle.rap_events.specs.Forest.{flat, splits_placed};
 ghost use Rattle.rap_events.specs.Reading.{forest_of};
 ghost use Rattle.rap_events.specs.Interval.{without_exit};
+ghost use Rattle.rap_events.specs.Pending.{inners, slot, pasts};
 
 use super::Event;
-use crate::output::{Output, PlainStep};
+use crate::output::Output;
 use rap_base::no_memory::NoMemory;
 use rap_base::syntax_kind::SyntaxKind;
 use std::alloc::Global;
 
-// Nodes that begin at one place: where their kinds begin in the walk's list, and past how many older markers.
-#[derive(Drop)]
-pub(super) struct Opening {
-    first: usize,
-    skips: usize,
+// What is still to begin. The nodes that begin at one place stand together, the outermost first, and after them
+// stands how many older markers are between that place and the newest open marker.
+#[derive(Clone, Copy)]
+enum Pending {
+    // The outermost of the nodes that begin at one place.
+    Outermost { kind: SyntaxKind },
+    // The next one of them.
+    Inner { kind: SyntaxKind },
+    // No node begins at a marker.
+    Nothing,
+    // What stands before begins one marker further back.
+    Past,
+}
+
+// Puts so many markers between the newest open one and what begins next.
+#[tactic(auto, using(crate::proofs::Places::inners_append))]
+fn push_past(pending: &mut Vec<Pending>, markers: usize) -> Result<(), NoMemory>
+    ensures inners { inners pending.new.items ≡ inners pending.old.items }
+    ensures past { OnOk result (reverse pending.new.items ≡ pasts markers (reverse pending.old.items)) }
+{
+    for _ in 0..markers {
+        pending.push(Pending::Past)?;
+    }
+    Ok(())
 }
 
 // What is known on the way back.
 #[derive(Drop)]
 pub(super) struct Walk {
-    // The messages that were not yet met.
+    // The first `left` of them are events that were not yet read, and from `first` on they are steps.
+    events: Vec<Event>,
+    pub(super) left: usize,
+    first: usize,
+    // The first `reports` of them were not yet met.
     messages: Vec<String>,
-    // The kinds of all nodes that are still to begin. From `held` on, those around the node that ends next.
-    kinds: Vec<SyntaxKind>,
-    held: usize,
+    reports: usize,
+    pending: Vec<Pending>,
+    // Whether the last nodes of the list are around the node that ends next.
+    is_around: bool,
     // Past how many open markers the node that ends next begins.
     skips: usize,
-    openings: Vec<Opening>,
-    // The steps, from the last one back, and the messages of their errors.
-    steps: Vec<PlainStep>,
-    reported: Vec<String>,
-    ghost within: { held ≤ length kinds.items },
+    ghost within: { first ≤ length events.items },
+    ghost room: { left + (inners pending.items + slot is_around) ≤ first },
+    ghost few: { skips + left ≤ length events.items },
+    ghost told: { reports ≤ length messages.items },
 }
 
 impl Walk {
     ghost use Rattle.rap_events.specs.History as call;
     ghost use Rattle.rap_events.specs.History.{errors};
-    ghost use Rattle.rap_events.specs.Output.{values};
-    ghost use Rattle.rap_events.specs.Unwind.{walk_of, glue, others, enters, nothing_yet, Backed, ReportedBack, EventBacked};
+    ghost use Rattle.rap_events.specs.Unwind.{walk_of, nothing_yet, entered, HasRoom, Started, Kept, Written, Taken, Backed, ReportedBack, EventBacked, EnteredLast, Same};
 
-    pub(super) fn new(alloc: Global, events: usize, messages: Vec<String>) -> Result<Walk, NoMemory>
-        ensures walk { IfOk result (λ w. walk_of w ≡ nothing_yet) }
-        ensures messages { IfOk result (λ w. w.messages.items ≡ messages.items) }
+    pub(super) fn new(alloc: Global, events: Vec<Event>, messages: Vec<String>) -> Walk
+        ensures { Started events.items messages.items result }
     {
-        Ok(Walk {
+        Walk {
+            left: events.len(),
+            first: events.len(),
+            events,
+            reports: messages.len(),
             messages,
-            kinds: Vec::new(alloc),
-            held: 0,
+            pending: Vec::new(alloc),
+            is_around: false,
             skips: 0,
-            openings: Vec::new(alloc),
-            steps: Vec::with_capacity(alloc, events)?,
-            reported: Vec::new(alloc),
-        })
+        }
     }
 
-    // Forgets what was known of the node that ends next.
-    fn let_go(&mut self)
-        ensures walk { walk_of self.new ≡ record (walk_of self.old) { kinds = []; skips = 0 } }
-        ensures messages { self.new.messages.items ≡ self.old.messages.items }
+    // Writes a step before the others, in the place of an event that was read.
+    fn write(&mut self, step: Event)
+        requires room { HasRoom self.old }
+        ensures { Written step self.old self.new }
     {
-        self.kinds.truncate(self.held);
-        self.skips = 0;
+        self.first -= 1;
+        self.events[self.first] = step;
     }
 
-    fn token(&mut self, kind: SyntaxKind, n_input_tokens: u8) -> Result<(), NoMemory>
-        ensures { OnOk result (Backed (call.token kind n_input_tokens) self.old self.new) }
+    fn token(&mut self, kind: SyntaxKind, n_input_tokens: u8)
+        requires room { HasRoom self.old }
+        ensures { Backed (call.token kind n_input_tokens) self.old self.new }
     {
-        self.let_go();
-        self.steps.push(PlainStep::Token {
+        self.write(Event::Token {
             kind,
             n_input_tokens,
-        })?;
-        Ok(())
+        });
     }
 
+    // The node is in those around it, if there are any, and else the outermost at its place.
+    #[tactic(auto, using(crate::proofs::Places::inners_append))]
     fn finish(&mut self, kind: SyntaxKind) -> Result<(), NoMemory>
+        requires room { HasRoom self.old }
         ensures { OnOk result (Backed (call.finish kind) self.old self.new) }
     {
-        self.kinds.push(kind)?;
-        self.openings.push(Opening {
-            first: self.held,
-            skips: self.skips,
+        self.pending.push(if self.is_around {
+            Pending::Inner { kind }
+        } else {
+            Pending::Outermost { kind }
         })?;
-        self.held = self.kinds.len();
+        self.is_around = false;
+        push_past(&mut self.pending, self.skips)?;
         self.skips = 0;
-        self.steps.push(PlainStep::Exit)?;
+        self.write(Event::Exit);
         Ok(())
     }
 
+    #[tactic(auto, using(crate::proofs::Places::inners_append))]
     fn abandon(&mut self) -> Result<(), NoMemory>
         ensures { OnOk result (Backed call.abandon self.old self.new) }
     {
-        self.let_go();
-        self.openings.push(Opening {
-            first: self.held,
-            skips: 0,
-        })?;
+        self.is_around = false;
+        self.pending.push(Pending::Nothing)?;
         Ok(())
     }
 
     // The nodes that begin at the newest open marker are those around the node that ends next.
-    fn precede(&mut self) -> Result<(), NoMemory>
-        ensures { OnOk result (Backed call.precede self.old self.new) }
+    #[tactic(auto, using(crate::proofs::Places::inners_append))]
+    fn precede(&mut self)
+        requires room { HasRoom self.old }
+        ensures { Backed call.precede self.old self.new }
     {
-        self.let_go();
-        let Some(opening) = self.openings.pop() else {
-            return Ok(());
+        self.is_around = match self.pending.last() {
+            Some(Pending::Outermost { .. } | Pending::Inner { .. }) => true,
+            Some(Pending::Nothing | Pending::Past) | None => false,
         };
-        let Opening { first, skips } = opening;
-        if skips == 0 {
-            self.held = first.min(self.kinds.len());
-            return Ok(());
+        if !self.is_around {
+            self.pending.pop();
         }
-        self.openings.push(Opening {
-            first,
-            skips: skips - 1,
-        })?;
-        Ok(())
     }
 
-    // Begins nodes of these kinds, the outermost first.
-    fn enter_all(steps: &mut Vec<PlainStep>, kinds: &[SyntaxKind]) -> Result<(), NoMemory>
-        ensures { OnOk result ((ms : List (String Global)) → values (reverse steps.new.items) ms ≡ enters kinds.now ++ values (reverse steps.old.items) ms) }
+    // Takes the last one from the list and begins it, if it is a node. Returns whether it is in another one that begins
+    // there.
+    #[tactic(auto, using(crate::proofs::Places::inners_append))]
+    fn enter_last(&mut self) -> bool
+        requires room { HasRoom self.old }
+        ensures { EnteredLast result self.old self.new }
     {
-        let mut i = kinds.len();
-        while i > 0 {
-            i -= 1;
-            steps.push(PlainStep::Enter { kind: kinds[i] })?;
+        let Some(last) = self.pending.pop() else {
+            return false;
+        };
+        match last {
+            Pending::Inner { kind } => {
+                self.write(Event::Enter { kind });
+                true
+            }
+            Pending::Outermost { kind } => {
+                self.write(Event::Enter { kind });
+                false
+            }
+            Pending::Nothing | Pending::Past => false,
         }
-        Ok(())
     }
 
-    fn start(&mut self) -> Result<(), NoMemory>
-        ensures { OnOk result (Backed call.start self.old self.new) }
+    fn start(&mut self)
+        requires room { HasRoom self.old }
+        ensures { Backed call.start self.old self.new }
     {
-        self.precede()?;
-        Self::enter_all(&mut self.steps, &self.kinds[self.held..])?;
-        self.let_go();
-        Ok(())
+        self.is_around = false;
+        let mut is_more = true;
+        while is_more {
+            is_more = self.enter_last();
+        }
     }
 
-    // Takes the last step away, if it ends a node.
+    // Takes the first step away, if it ends a node.
     fn drop_exit(&mut self)
+        ensures kept { Kept self.old self.new }
+        ensures room { self.old.first ≤ self.new.first }
         ensures walk { walk_of self.new ≡ record (walk_of self.old) { steps = without_exit (walk_of self.old).steps } }
-        ensures messages { self.new.messages.items ≡ self.old.messages.items }
+        ensures pending { self.new.pending.items ≡ self.old.pending.items }
     {
-        if let Some(PlainStep::Exit) = self.steps.last() {
-            self.steps.pop();
+        if self.first < self.events.len() {
+            if let Event::Exit = self.events[self.first] {
+                self.first += 1;
+            }
         }
     }
 
     // The float stands for the ends of the nodes that it ends.
-    fn float_split(&mut self, ends_in_dot: bool) -> Result<(), NoMemory>
-        ensures { OnOk result (Backed (call.float_split ends_in_dot) self.old self.new) }
+    fn float_split(&mut self, ends_in_dot: bool)
+        requires room { HasRoom self.old }
+        ensures { Backed (call.float_split ends_in_dot) self.old self.new }
     {
-        self.let_go();
         self.drop_exit();
         if !ends_in_dot {
             self.drop_exit();
         }
-        self.steps.push(PlainStep::FloatSplit { ends_in_dot })?;
-        Ok(())
+        self.write(Event::FloatSplit { ends_in_dot });
     }
 
-    fn report(&mut self) -> Result<(), NoMemory>
-        requires { 0 < length self.old.messages.items }
-        ensures { OnOk result (ReportedBack self.old self.new) }
+    fn report(&mut self)
+        requires room { HasRoom self.old }
+        requires reports { 0 < self.old.reports }
+        ensures { ReportedBack self.old self.new }
     {
-        self.let_go();
-        let message = self.messages.pop().unwrap();
-        self.reported.push(message)?;
-        self.steps.push(PlainStep::Error)?;
-        Ok(())
+        self.reports -= 1;
+        self.write(Event::Error);
     }
 
-    /// Takes an event back.
-    pub(super) fn back(&mut self, event: Event) -> Result<(), NoMemory>
-        requires few { (walk_of self.old).skips + 1 < 2 ^ 64 }
-        requires reported { errors (event ∷ []) ≤ length self.old.messages.items }
+    // The last event that was not yet read.
+    fn take_event(&mut self) -> Event
+        requires { 0 < self.old.left }
+        ensures { Taken result self.old self.new }
+    {
+        self.left -= 1;
+        self.events[self.left]
+    }
+
+    fn read(&mut self, event: Event) -> Result<(), NoMemory>
+        requires room { HasRoom self.old }
+        requires few { self.old.skips + self.old.left < length self.old.events.items }
+        requires reported { errors (event ∷ []) ≤ self.old.reports }
         ensures { OnOk result (EventBacked event self.old self.new) }
     {
         match event {
-            Event::Start => self.start(),
+            Event::Start | Event::Enter { .. } | Event::Exit => self.start(),
             Event::Precede => self.precede(),
-            Event::Finish { kind } => self.finish(kind),
-            Event::Extend => {
-                self.skips += 1;
-                Ok(())
-            }
-            Event::Abandon => self.abandon(),
+            Event::Finish { kind } => self.finish(kind)?,
+            Event::Extend => self.skips += 1,
+            Event::Abandon => self.abandon()?,
             Event::Token {
                 kind,
                 n_input_tokens,
@@ -197,14 +236,27 @@ impl Walk {
             Event::FloatSplit { ends_in_dot } => self.float_split(ends_in_dot),
             Event::Error => self.report(),
         }
+        Ok(())
+    }
+
+    /// Takes the last event back that was not yet read.
+    pub(super) fn back(&mut self) -> Result<(), NoMemory>
+        requires left { 0 < self.old.left }
+        requires paired { errors (take self.old.left self.old.events.items) ≡ self.old.reports }
+        ensures { OnOk result (Same self.old self.new) }
+    {
+        let event = self.take_event();
+        self.read(event)?;
+        Ok(())
     }
 
     /// The output that the steps make.
     pub(super) fn output(self) -> Output
+        requires reports { self.reports ≡ 0 }
         requires steps { flat (forest_of (walk_of self).steps) ≡ (walk_of self).steps }
         requires splits { splits_placed (forest_of (walk_of self).steps) ≡ true }
         ensures { result ≡ forest_of (walk_of self).steps }
     {
-        Output::of_steps(self.steps, self.reported)
+        Output::of_steps(self.events, self.first, self.messages)
     }
 }

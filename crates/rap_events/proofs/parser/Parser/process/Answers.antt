@@ -1,11 +1,8 @@
 use mathlib.Core.Logic.{∥∥₁_map}
-use Rattle.std.proofs.Common.{◌≡◌, refl, ℕ, List, length-drop, map, ap, ◌∙◌, arith}
-use Rattle.std.specs.Prelude.{string_bytes}
+use Rattle.std.proofs.Common.{◌≡◌, refl, length-drop, ap, ◌∙◌, arith}
 use Rattle.rap_events.specs.Forest.{used}
-use Rattle.rap_events.specs.History.{history}
 use Rattle.rap_events.specs.Machine.{run, initial}
 use Rattle.rap_events.specs.State.{state, calls}
-use Rattle.rap_events.specs.declared.event.Event.{Event}
 use Rattle.rap_events.proofs.Finished.{covered, used_all}
 use Rattle.rap_events.proofs.Intervals.{forest_is_tree}
 use Rattle.rap_events.proofs.MessageCount.{no_messages}
@@ -16,13 +13,11 @@ use Rattle.rap_events.proofs.parser.Parser.process.Goals as goal
 
 pub process-requires-clause-closed : goal.process-requires-clause-closed
 unfolding state calls
-process-requires-clause-closed c = rw c.deref.ensures.value c.requires
+process-requires-clause-closed c = c.requires
 
 pub returns-clause-forest : goal.returns-clause-forest
 unfolding state calls
-returns-clause-forest c =
-    let texts : List (List ℕ) = map string_bytes c.args.self.messages.items in
-    c.in_ok-output.ensures ∙ ap (λ (es : List Event). (run initial (history es texts)).forest) c.deref.ensures.value
+returns-clause-forest c = c.in_ok-output.ensures
 
 pub returns-clause-tree : goal.returns-clause-tree
 unfolding state calls

@@ -1,22 +1,26 @@
-use Rattle.std.proofs.Common.{◌≡◌, refl, List, [], ◌∷◌, ◌++◌, reverse, ap, sym, ◌∙◌, Option}
-use Rattle.std.specs.Prelude.{String, option_to_list, string_bytes}
-use Rattle.std.specs.declared.alloc.Global.{Global}
-use Rattle.std.proofs.lemmas.List.{reverse-append}
-use Rattle.rap_events.specs.StepValue.{StepValue, error}
+use Rattle.std.proofs.Common.{◌≡◌, ℕ, ◌+◌, ◌-◌, ◌∷◌, drop, refl, ap, ◌∙◌, arith}
+use Rattle.std.specs.Prelude.{string_bytes}
+use Rattle.rap_events.specs.StepValue.{error}
 use Rattle.rap_events.specs.Output.{values}
-use Rattle.rap_events.specs.Unwind.{Walk, walk_of}
-use Rattle.rap_events.specs.declared.output.PlainStep.TheVariants as plain
+use Rattle.rap_events.proofs.Places.{at, error_value}
 use Rattle.rap_events.proofs.event.walk.Walk.report.Goals as goal
 
 pub returns : goal.returns
 returns c =
-    let w = c.let_go.new.self in
-    let reported = c.unwrap-message.result in
-    let popped = c.pop.ensures.items ∙ ap (λ (o : Option (String Global)). c.pop.new.self.items ++ option_to_list o) c.unwrap-message.ensures in
-    let steps : values (reverse c.push-2.new.self.items) (reverse c.push.new.self.items) ≡ error (string_bytes reported) ∷ values (reverse w.steps.items) (reverse w.reported.items) =
-    rw (c.in_ok-push-2.ensures.items, c.in_ok-push.ensures.items, reverse-append w.steps.items (plain.Error ∷ []), reverse-append w.reported.items (reported ∷ [])) refl in
+    let old = c.args.self.now in
+    let new = c.write.new.self in
+    let w = c.write.ensures in
+    let n : ℕ = old.reports - 1 in
+    let before : n + 1 ≡ old.reports = omega (arith, c.requires.reports) in
+    let one = at old.messages.items n old.reports (omega (arith, c.requires.reports, old.told)) before in
+    let steps : values (drop new.first new.events.items) (drop new.reports new.messages.items) ≡ error (string_bytes one.text) ∷ values (drop old.first old.events.items) (drop old.reports old.messages.items) =
+    rw (w.steps, w.kept.reports, w.kept.messages) (error_value old.messages.items n old.reports (drop old.first old.events.items) one) in
     record {
-      text = reported;
-      messages = sym c.let_go.ensures.messages ∙ popped;
-      walk = ap (λ (ss : List StepValue). record (walk_of w) { steps = ss }) steps ∙ ap (λ (v : Walk). record v { steps = error (string_bytes reported) ∷ v.steps }) c.let_go.ensures.walk;
+      text = one.text;
+      left = w.kept.left;
+      events = w.kept.events;
+      messages = w.kept.messages;
+      reports = ap (λ (m : ℕ). m + 1) w.kept.reports ∙ before;
+      met = rw w.kept.reports one.upto;
+      walk = rw (steps, w.pending, w.is_around, w.skips) refl;
     }
