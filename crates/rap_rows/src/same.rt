@@ -4,7 +4,7 @@ use std::test::Fail;
 /// Both from the first place on at which they differ.
 fn past_the_same<'t>(came: &'t str, want: &'t str) -> (&'t str, &'t str) {
     let (mut left, mut right) = (came, want);
-    for c in came.chars() {
+    'same: for c in came.chars() {
         match (left.strip_prefix(c), right.strip_prefix(c)) {
             (Some(came), Some(want)) => (left, right) = (came, want),
             _ => return (left, right),
