@@ -1,0 +1,32 @@
+//! `rast_rows FILE..` reads tables of texts with their trees and messages, as the Rust crate gives them, and prints those
+//! that this library reads otherwise.
+#![tactic(auto)]
+
+mod compare;
+mod notation;
+mod table;
+
+use compare::run;
+use rast_common::fault::{FAULT, fail};
+use std::process::ExitCode;
+use std::{env, fs};
+
+fn main(rt: HostRuntime) -> ExitCode {
+    let mut err = rt.stderr();
+    let Ok(mut args) = env::args(&rt) else {
+        return fail(&mut err, "usage: rast_rows FILE..\n");
+    };
+    let _program = args.next();
+    let mut tables = String::new(rt.alloc());
+    for file in args {
+        let Ok(table) = fs::read_to_string(&rt, file.as_str()) else {
+            return fail(&mut err, "rast_rows: cannot read a file\n");
+        };
+        if tables.push_str(table.as_str()).is_err() {
+            return fail(&mut err, "rast_rows: no memory\n");
+        }
+    }
+    let mut out = rt.stdout();
+    let status = run(rt.alloc(), tables.as_str(), &mut out, &mut err);
+    ExitCode::from(status.unwrap_or(FAULT))
+}
