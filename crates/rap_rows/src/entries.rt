@@ -1,9 +1,9 @@
 //! What stands at the front of texts, with its steps as the Rust crate gives them, and what is made of it where the whole
 //! text is read.
+use crate::fronts::{fronts, tops};
 use ra_ap_parser::{
     Edition, Input, NoMemory, PrefixEntryPoint, SyntaxKind, TextFault, TopEntryPoint,
 };
-use crate::fronts::{fronts, tops};
 use std::test::Fail;
 
 #[test]

@@ -1,6 +1,6 @@
 //! Nodes in braces that are parsed again, with their steps as the Rust crate gives them.
-use ra_ap_parser::{Input, Reparser, SyntaxKind};
 use crate::fronts::nodes;
+use ra_ap_parser::{Input, Reparser, SyntaxKind};
 use std::test::Fail;
 
 #[test]
