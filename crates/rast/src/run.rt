@@ -11,9 +11,6 @@ use rast_print::printer::Printer;
 use std::alloc::Global;
 use std::io;
 
-#[cfg(test)]
-mod tests;
-
 /// What a fault is called on the error stream.
 fn fault_message<R>(fault: &TextFault<R>) -> &'static str
     ensures { result.now ≡ fault_line fault.now }

@@ -12,11 +12,6 @@ use std::alloc::Global;
 use std::io;
 use std::str::FromStr;
 
-#[cfg(test)]
-mod sample;
-#[cfg(test)]
-mod tests;
-
 /// What is to be listed.
 #[derive(Clone, Copy, Debug)]
 pub enum Listing {

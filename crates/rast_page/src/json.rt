@@ -50,31 +50,3 @@ pub fn push_json(out: &mut String, text: &str) -> Result<(), AllocError>
     out.push_str("\"")?;
     Ok(())
 }
-
-#[cfg(test)]
-mod tests {
-    use super::*;
-    use std::test::Fail;
-
-    #[test]
-    fn writes_markup_as_text(rt: HostRuntime) -> Result<(), Fail> {
-        let mut out = String::new(rt.alloc());
-        push_json(&mut out, "</script><!-- ]]> &amp; 'it' \"q\" \\")?;
-        let want = "\"\\u003c/script\\u003e\\u003c!-- ]]\\u003e \\u0026amp; 'it' \\\"q\\\" \\\\\"";
-        assert_eq!(rt; out.as_str(), want);
-        Ok(())
-    }
-
-    #[test]
-    fn writes_controls_and_wide_characters(rt: HostRuntime) -> Result<(), Fail> {
-        let mut out = String::new(rt.alloc());
-        push_json(
-            &mut out,
-            "\n\r\t\0\u{1}\u{1f}\u{20}\u{7f}\u{80}\u{e9}\u{2027}\u{2028}\u{2029}\u{202a}\u{1f980}",
-        )?;
-        let want =
-            "\"\\n\\r\\t\\u0000\\u0001\\u001f \\u007f\u{80}\u{e9}\u{2027}\\u2028\\u2029\u{202a}\u{1f980}\"";
-        assert_eq!(rt; out.as_str(), want);
-        Ok(())
-    }
-}

@@ -14,9 +14,6 @@ use rast_common::fault::report;
 use std::alloc::{AllocError, Global};
 use std::io;
 
-#[cfg(test)]
-mod tests;
-
 /// The parts of a page that are the same for all files: what stands before the data, and what stands after it.
 #[derive(Clone, Copy, Debug)]
 pub struct Frame {

@@ -16,15 +16,3 @@ pub fn fnv1a(before: u64, bytes: &[u8]) -> u64
         (hash ^ u64::from(*byte)).wrapping_mul(PRIME)
     })
 }
-
-#[cfg(test)]
-mod tests {
-    use super::*;
-
-    #[test]
-    fn is_that_of_the_published_vectors(rt: HostRuntime) {
-        assert_eq!(rt; fnv1a(BASIS, b""), 0xcbf2_9ce4_8422_2325);
-        assert_eq!(rt; fnv1a(BASIS, b"a"), 0xaf63_dc4c_8601_ec8c);
-        assert_eq!(rt; fnv1a(BASIS, b"foobar"), 0x8594_4171_f739_67e8);
-    }
-}

@@ -11,9 +11,6 @@ use rast_print::listing::{ListFault, list};
 use std::alloc::Global;
 use std::io;
 
-#[cfg(test)]
-mod tests;
-
 /// What a fault is called on the error stream.
 fn fault_message(fault: ListFault) -> &'static str
     ensures { result.now ≡ fault_line fault }
