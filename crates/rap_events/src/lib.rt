@@ -5,5 +5,3 @@ pub mod event;
 pub mod input;
 pub mod output;
 pub mod parser;
-#[cfg(test)]
-mod tests;

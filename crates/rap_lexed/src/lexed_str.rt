@@ -21,8 +21,6 @@ use reported::{LexError, last_message, looks_open, report};
 mod count;
 mod header;
 mod reported;
-#[cfg(test)]
-mod tests;
 
 use std::alloc::{AllocError, AllocFailed, Global};
 use std::error::Error;

@@ -22,8 +22,6 @@ use std::alloc::Global;
 mod attached;
 mod builder;
 mod contextual;
-#[cfg(test)]
-mod tests;
 
 use builder::Builder;
 use contextual::contextual_keyword;

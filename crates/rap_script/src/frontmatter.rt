@@ -9,8 +9,6 @@ mod parse;
 mod report;
 mod script_source;
 mod strip;
-#[cfg(test)]
-mod tests;
 
 pub use error::{FrontmatterError, ScriptFault, Span};
 pub use script_source::ScriptSource;

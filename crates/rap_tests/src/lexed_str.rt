@@ -1,5 +1,9 @@
 //! Texts with the tokens and messages that they give.
-use super::*;
+use rap_base::edition::Edition;
+use rap_base::syntax_kind::SyntaxKind;
+use rap_lexed::lexed_str::{LexFault, LexedStr};
+use std::alloc::Global;
+use std::fmt::Write as _;
 use std::test::Fail;
 
 /// A line for each token, with its place, and then one for each message, with the number of its token.

@@ -1,10 +1,10 @@
 //! A sink for tests, which keeps its steps and refuses one.
-use super::{StrSink, StrStep};
-use crate::lexed_str::LexedStr;
 use rap_base::edition::Edition;
 use rap_base::syntax_kind::SyntaxKind;
 use rap_events::output::wrap_in_node;
 use rap_events::parser::Parser;
+use rap_lexed::lexed_str::LexedStr;
+use rap_lexed::shortcuts::{StrSink, StrStep};
 use std::alloc::{AllocError, Global};
 use std::fmt::Write;
 use std::test::Fail;

@@ -1,5 +1,5 @@
-// What a text gives, as outside sources have it: the Rust crate's answers for the same texts.
-use crate::frontmatter::{ScriptFault, ScriptSource, Span};
+//! What a text gives, as outside sources have it: the Rust crate's answers for the same texts.
+use rap_script::frontmatter::{ScriptFault, ScriptSource, Span};
 use std::alloc::{AllocError, Global};
 use std::fmt::Write as _;
 use std::test::Fail;

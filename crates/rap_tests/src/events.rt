@@ -1,10 +1,11 @@
-use crate::input::Input;
-use crate::output::{Output, Step, wrap_in_node};
-use crate::parser::Parser;
+//! Inputs, parsers and outputs.
 use rap_base::edition::Edition;
 use rap_base::no_memory::NoMemory;
 use rap_base::syntax_kind::SyntaxKind;
 use rap_base::token_set::TokenSet;
+use rap_events::input::Input;
+use rap_events::output::{Output, Step, wrap_in_node};
+use rap_events::parser::Parser;
 use std::alloc::Global;
 use std::test::Fail;
 
