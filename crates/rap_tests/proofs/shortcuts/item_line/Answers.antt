@@ -4,7 +4,7 @@ use Rattle.rap_events.specs.Cover.{covers}
 use Rattle.rap_events.specs.Record.{Record}
 use Rattle.rap_events.specs.State.{state}
 use Rattle.rap_lexed.specs.Input.{records}
-use Rattle.rap_lexed.proofs.shortcuts.tests.item_line.Goals as goal
+use Rattle.rap_tests.proofs.shortcuts.item_line.Goals as goal
 
 pub intersperse_trivia-answer-requires-clause-prefix : goal.intersperse_trivia-answer-requires-clause-prefix
 intersperse_trivia-answer-requires-clause-prefix c =
