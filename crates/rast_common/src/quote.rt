@@ -62,18 +62,3 @@ pub fn push_quoted(out: &mut String, text: &str) -> Result<(), AllocError>
     out.push_str("\"")?;
     Ok(())
 }
-
-#[cfg(test)]
-mod tests {
-    use super::*;
-    use std::test::Fail;
-
-    #[test]
-    fn quotes_controls_and_wide_characters(rt: HostRuntime) -> Result<(), Fail> {
-        let mut out = String::new(rt.alloc());
-        push_quoted(&mut out, "a\"\\\n\r\t\0\u{1}\u{1f}\u{7f}\u{e9}\u{1f980}")?;
-        let want = "\"a\\\"\\\\\\n\\r\\t\\0\\u{1}\\u{1f}\\u{7f}\u{e9}\u{1f980}\"";
-        assert_eq!(rt; out.as_str(), want);
-        Ok(())
-    }
-}

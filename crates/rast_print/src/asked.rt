@@ -107,37 +107,3 @@ pub fn kind_name(kind: Option<SyntaxKind>) -> &'static str
         None => "-",
     }
 }
-
-#[cfg(test)]
-mod tests {
-    use super::*;
-    use std::test::Fail;
-
-    #[test]
-    fn knows_the_prefix_entries(rt: HostRuntime) -> Result<(), Fail> {
-        for name in [
-            "Vis", "Block", "Stmt", "Pat", "PatTop", "Ty", "Expr", "Path", "Item", "MetaItem",
-        ] {
-            let Prefix(entry) = name.parse::<Prefix>()?;
-            assert_eq!(rt; prefix_name(entry), name);
-        }
-        assert!(rt; "Type".parse::<Prefix>().is_err());
-        assert!(rt; "vis".parse::<Prefix>().is_err());
-        Ok(())
-    }
-
-    #[test]
-    fn knows_the_kinds(rt: HostRuntime) {
-        assert_eq!(rt; read_kind("-"), Some(None));
-        assert_eq!(rt; read_kind("EOF"), Some(Some(SyntaxKind::EOF)));
-        assert_eq!(rt; read_kind("PATH_META"), Some(Some(SyntaxKind::PATH_META)));
-        assert_eq!(rt;
-            read_kind("ASSOC_ITEM_LIST"),
-            Some(Some(SyntaxKind::ASSOC_ITEM_LIST))
-        );
-        assert_eq!(rt; kind_name(Some(SyntaxKind::PATH_META)), "PATH_META");
-        assert_eq!(rt; kind_name(None), "-");
-        assert_eq!(rt; read_kind("{"), None);
-        assert_eq!(rt; read_kind(""), None);
-    }
-}

@@ -47,29 +47,3 @@ pub fn entry_name(entry: TopEntryPoint) -> &'static str
         TopEntryPoint::MetaItem => "MetaItem",
     }
 }
-
-#[cfg(test)]
-mod tests {
-    use super::*;
-    use std::test::Fail;
-
-    #[test]
-    fn knows_the_entry_points(rt: HostRuntime) -> Result<(), Fail> {
-        for name in [
-            "SourceFile",
-            "MacroStmts",
-            "MacroItems",
-            "Pattern",
-            "Type",
-            "Expr",
-            "MetaItem",
-        ] {
-            let Entry(entry) = name.parse::<Entry>()?;
-            assert_eq!(rt; entry_name(entry), name);
-        }
-        assert!(rt; "Ty".parse::<Entry>().is_err());
-        assert!(rt; "expr".parse::<Entry>().is_err());
-        assert!(rt; "".parse::<Entry>().is_err());
-        Ok(())
-    }
-}
