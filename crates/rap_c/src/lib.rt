@@ -12,8 +12,6 @@ mod prefix;
 mod reading;
 mod reparse;
 mod step;
-#[cfg(test)]
-mod tests;
 mod tokens;
 mod tree;
 

@@ -1,0 +1,182 @@
+//! The exports as C calls them, with answers worked out by hand.
+use rap::sys::{self, Answer, Step, ENTER, EXIT, MESSAGE, NO_KIND, TOKEN};
+
+/// What stands in room that no call has written to.
+const BLANK: Step = Step { what: 99, kind: 99, at: 99, start: 99, end: 99 };
+
+/// A kind's name, written into room for so many bytes, and how many it has.
+fn kind_name(kind: u32, room: usize) -> (usize, Vec<u8>) {
+    let mut name = vec![b'.'; room];
+    let length = unsafe { sys::rap_kind_name(kind, name.as_mut_ptr(), room) };
+    (length, name)
+}
+
+/// The number of the kind of this name.
+fn number(name: &str) -> u32 {
+    let is_named = |kind: &u32| kind_name(*kind, name.len()) == (name.len(), name.as_bytes().to_vec());
+    (0..NO_KIND).find(is_named).expect("a kind has this name")
+}
+
+fn enter(kind: &str, at: usize) -> Step {
+    Step { what: ENTER, kind: number(kind), at, start: at, end: at }
+}
+
+fn exit(at: usize) -> Step {
+    Step { what: EXIT, kind: 0, at, start: at, end: at }
+}
+
+fn token(kind: &str, start: usize, end: usize) -> Step {
+    Step { what: TOKEN, kind: number(kind), at: start, start, end }
+}
+
+fn message(at: usize, start: usize, end: usize) -> Step {
+    Step { what: MESSAGE, kind: 0, at, start, end }
+}
+
+/// What a call answers, and what it leaves in room for so many steps and bytes of messages.
+type Filled = (Answer, Vec<Step>, String);
+
+/// Calls with room for so many steps and bytes of messages.
+fn filled(room: (usize, usize), call: impl FnOnce(*mut Step, usize, *mut u8, usize) -> Answer) -> Filled {
+    let mut steps = vec![BLANK; room.0];
+    let mut messages = vec![b'.'; room.1];
+    let answer = call(steps.as_mut_ptr(), room.0, messages.as_mut_ptr(), room.1);
+    (answer, steps, String::from_utf8(messages).expect("messages are ASCII here"))
+}
+
+fn tree(text: &[u8], edition: u32, entry: u32, room: (usize, usize)) -> Filled {
+    filled(room, |steps, n, bytes, m| unsafe {
+        sys::rap_tree(text.as_ptr(), text.len(), edition, entry, steps, n, bytes, m)
+    })
+}
+
+fn tokens(text: &[u8], edition: u32, room: (usize, usize)) -> Filled {
+    filled(room, |steps, n, bytes, m| unsafe {
+        sys::rap_tokens(text.as_ptr(), text.len(), edition, steps, n, bytes, m)
+    })
+}
+
+fn prefix(text: &[u8], entry: u32, room: (usize, usize)) -> Filled {
+    filled(room, |steps, n, bytes, m| unsafe {
+        sys::rap_prefix(text.as_ptr(), text.len(), 2024, entry, steps, n, bytes, m)
+    })
+}
+
+/// Reads a node again, by its kind, that of its first child and that of its parent.
+fn reparse(text: &[u8], (node, first, parent): (u32, u32, u32), room: (usize, usize)) -> Filled {
+    filled(room, |steps, n, bytes, m| unsafe {
+        sys::rap_reparse(text.as_ptr(), text.len(), 2018, node, first, parent, steps, n, bytes, m)
+    })
+}
+
+fn answer(status: u32, steps: usize, message_bytes: usize, used: usize) -> Answer {
+    Answer { status, steps, message_bytes, used }
+}
+
+#[test]
+fn hands_out_a_tree_with_its_messages_and_those_of_the_lexer() {
+    let want = vec![
+        enter("BIN_EXPR", 0),
+        enter("LITERAL", 0),
+        token("INT_NUMBER", 0, 2),
+        exit(2),
+        token("WHITESPACE", 2, 3),
+        token("PLUS", 3, 4),
+        enter("ERROR", 4),
+        message(4, 0, 19),
+        exit(4),
+        exit(4),
+        message(0, 19, 63),
+        BLANK,
+    ];
+    let text = "expected expressionMissing digits after the integer base prefix.";
+    assert_eq!(tree(b"0x +", 2024, 5, (12, 64)), (answer(0, 11, 63, 4), want, text.to_string()));
+}
+
+#[test]
+fn counts_where_there_is_no_room_and_fills_no_further() {
+    let counts = answer(0, 12, 19, 3);
+    assert_eq!(tree(b"-1+", 2015, 5, (0, 0)), (counts, vec![], String::new()));
+    let want = vec![enter("BIN_EXPR", 0), enter("PREFIX_EXPR", 0), token("MINUS", 0, 1)];
+    assert_eq!(tree(b"-1+", 2015, 5, (3, 4)), (counts, want, "expe".to_string()));
+}
+
+#[test]
+fn lists_tokens_and_the_messages_of_the_lexer() {
+    let want = vec![
+        token("IDENT", 0, 2),
+        token("WHITESPACE", 2, 3),
+        token("INT_NUMBER", 3, 5),
+        message(3, 0, 44),
+        BLANK,
+    ];
+    let text = "Missing digits after the integer base prefix.";
+    assert_eq!(tokens("é 0b".as_bytes(), 2021, (5, 45)), (answer(0, 4, 44, 5), want, text.to_string()));
+}
+
+#[test]
+fn names_kinds() {
+    assert_eq!(kind_name(0, 9), (3, b"EOF......".to_vec()));
+    assert_eq!(kind_name(329, 9), (9, b"PATH_META".to_vec()));
+    assert_eq!(kind_name(3, 2), (7, b"L_".to_vec()));
+    assert_eq!(kind_name(NO_KIND, 2), (0, b"..".to_vec()));
+}
+
+#[test]
+fn reads_a_tree_from_the_front() {
+    let want = vec![
+        enter("PATH", 0),
+        token("WHITESPACE", 0, 1),
+        enter("PATH_SEGMENT", 1),
+        enter("NAME_REF", 1),
+        token("IDENT", 1, 2),
+        exit(2),
+        exit(2),
+        token("WHITESPACE", 2, 3),
+        exit(3),
+    ];
+    assert_eq!(prefix(b" a , b", 7, (9, 0)), (answer(0, 9, 0, 2), want, String::new()));
+}
+
+#[test]
+fn hands_out_what_is_no_tree_as_it_is() {
+    let want = (answer(1, 1, 16, 0), vec![message(0, 0, 16), BLANK], "expected a block.".to_string());
+    assert_eq!(prefix(b" ;", 1, (2, 17)), want);
+    let want = (answer(1, 1, 0, 2), vec![token("SEMICOLON", 0, 1), BLANK], String::new());
+    assert_eq!(prefix(b" ; ", 2, (2, 0)), want);
+    assert_eq!(prefix(b"a", 0, (0, 0)).0, answer(1, 0, 0, 0));
+}
+
+#[test]
+fn parses_a_node_again() {
+    let list = (number("USE_TREE_LIST"), NO_KIND, NO_KIND);
+    let want = vec![
+        enter("USE_TREE_LIST", 0),
+        token("L_CURLY", 0, 1),
+        token("WHITESPACE", 1, 2),
+        token("R_CURLY", 2, 3),
+        exit(3),
+        BLANK,
+        BLANK,
+    ];
+    assert_eq!(reparse(b"{ }", list, (7, 0)), (answer(0, 5, 0, 3), want, String::new()));
+    let block = (number("BLOCK_EXPR"), NO_KIND, NO_KIND);
+    assert_eq!(reparse(b"a", block, (0, 0)).0, answer(1, 1, 16, 0));
+}
+
+#[test]
+fn tells_faults_apart() {
+    let none = (0, 0);
+    let is = |status| answer(status, 0, 0, 0);
+    let wrong = b"a\xff";
+    assert_eq!(tree(b"a", 2020, 9, none).0, is(2));
+    assert_eq!(tree(wrong, 2024, 7, none).0, is(3));
+    assert_eq!(tree(wrong, 2024, 6, none).0, is(4));
+    assert_eq!(tokens(b"a", 0, none).0, is(2));
+    assert_eq!(tokens(wrong, 2015, none).0, is(4));
+    assert_eq!(prefix(b"a", 10, none).0, is(3));
+    assert_eq!(prefix(wrong, 9, none).0, is(4));
+    let list = number("ASSOC_ITEM_LIST");
+    assert_eq!(reparse(b"a", (list, 0, NO_KIND), none).0, is(8));
+    assert_eq!(reparse(b"a", (list, 0, number("IMPL")), none).0, is(9));
+}
