@@ -69,6 +69,3 @@ impl fmt::Display for InvalidEdition {
 }
 
 impl Error for InvalidEdition {}
-
-#[cfg(test)]
-mod tests;

@@ -8,8 +8,6 @@ use std::marker::Model;
 
 mod keywords;
 mod names;
-#[cfg(test)]
-mod tests;
 mod token_tests;
 
 /// The kind of a token or a node: its place in the table of kinds. Contracts see that number.

@@ -1,5 +1,5 @@
 //! Sets of token kinds.
-ghost use Rattle.std.specs.Prelude.{◌≡◌, ℕ, ◌||◌, ◌==◌, false, IsTrue};
+ghost use Rattle.std.specs.Prelude.{◌≡◌, ℕ, ◌||◌, ◌==◌, IsTrue};
 ghost use Rattle.std.specs.List.{list_all, list_any};
 ghost use Rattle.rap_base.specs.TokenSet.{member};
 ghost use Rattle.rap_base.specs.TokenTests.{is_token};
@@ -52,27 +52,5 @@ impl TokenSet {
         ensures { result ≡ member self.now kind }
     {
         self.has[u16::from(kind) as usize]
-    }
-}
-
-#[cfg(test)]
-mod tests {
-    use super::*;
-
-    // The empty set has no kind.
-    fn empty() -> TokenSet
-        ensures { (kind : ℕ) → member result kind ≡ false }
-    {
-        TokenSet::EMPTY
-    }
-
-    #[test]
-    fn holds_what_it_is_made_of(rt: HostRuntime) {
-        let ends = TokenSet::new(&[SyntaxKind::EOF, SyntaxKind::SHEBANG]);
-        assert!(rt; ends.contains(SyntaxKind::EOF) && ends.contains(SyntaxKind::SHEBANG));
-        assert!(rt; !ends.contains(SyntaxKind::PLUS) && !empty().contains(SyntaxKind::EOF));
-        let more = ends.union(TokenSet::new(&[SyntaxKind::PLUS]));
-        assert!(rt; more.contains(SyntaxKind::EOF) && more.contains(SyntaxKind::PLUS));
-        assert!(rt; !more.contains(SyntaxKind::MINUS));
     }
 }

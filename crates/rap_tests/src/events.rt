@@ -61,6 +61,7 @@ fn reads_tokens_back(rt: HostRuntime) -> Result<(), Fail> {
     assert!(rt; input.contextual_kind(3) == SyntaxKind::UNION_KW);
     assert!(rt; input.edition(3) == Edition::Edition2018);
     assert!(rt; input.kind(4) == SyntaxKind::EOF);
+    assert_eq!(rt; Output::default().iter().len(), 0);
     Ok(())
 }
 
@@ -120,67 +121,5 @@ fn recovers(rt: HostRuntime) -> Result<(), Fail> {
         text.as_str(),
         "ERROR( 'a' IDENT ) 'b' ERROR( 'c' EQ ) ERROR( 'd' EQ ) UNION_KW ERROR( 'e' ) "
     );
-    Ok(())
-}
-
-#[test]
-fn takes_a_keyword_as_an_identifier(rt: HostRuntime) -> Result<(), Fail> {
-    let mut input = Input::with_capacity(rt.alloc(), 0)?;
-    input.push(SyntaxKind::FN_KW, Edition::Edition2024)?;
-    let mut p = Parser::new(rt.alloc(), &input);
-    if p.current().is_any_identifier() {
-        p.bump_remap_any_ident()?;
-    }
-    let output = p.process(rt.alloc())?;
-    let text = line(rt.alloc(), &output)?;
-    assert_eq!(rt; text.as_str(), "IDENT ");
-    assert_eq!(rt; Output::default().iter().len(), 0);
-    Ok(())
-}
-
-// The tokens of `x.0.1`, where the float ends in a dot those of `x.1.`.
-fn field(alloc: Global, ends_in_dot: bool) -> Result<Input, NoMemory> {
-    let mut input = Input::with_capacity(alloc, 3)?;
-    input.push_ident(SyntaxKind::IDENT, Edition::Edition2024)?;
-    input.push(SyntaxKind::DOT, Edition::Edition2024)?;
-    input.was_joint();
-    input.push(SyntaxKind::FLOAT_NUMBER, Edition::Edition2024)?;
-    if !ends_in_dot {
-        input.was_joint();
-    }
-    Ok(input)
-}
-
-// The steps of a field access by a float, inside an `ERROR` with a message at its end.
-fn field_line(alloc: Global, input: &Input) -> Result<String, NoMemory> {
-    let mut p = Parser::new(alloc, input);
-    let whole = p.start()?;
-    let m = p.start()?;
-    p.expect(SyntaxKind::IDENT)?;
-    p.expect(SyntaxKind::DOT)?;
-    if p.current() == SyntaxKind::FLOAT_NUMBER {
-        let (_, access) = p.split_float(m)?;
-        let m = access.precede(&mut p)?;
-        m.abandon(&mut p)?;
-    } else {
-        m.abandon(&mut p)?;
-    }
-    p.error("m")?;
-    whole.complete(&mut p, SyntaxKind::ERROR)?;
-    let output = p.process(alloc)?;
-    line(alloc, &output)
-}
-
-#[test]
-fn takes_a_float_apart(rt: HostRuntime) -> Result<(), Fail> {
-    let whole = field(rt.alloc(), false)?;
-    let text = field_line(rt.alloc(), &whole)?;
-    assert_eq!(rt;
-        text.as_str(),
-        "ERROR( FIELD_EXPR( FIELD_EXPR( IDENT DOT l.r ) ) 'm' ) "
-    );
-    let dotted = field(rt.alloc(), true)?;
-    let text = field_line(rt.alloc(), &dotted)?;
-    assert_eq!(rt; text.as_str(), "ERROR( FIELD_EXPR( IDENT DOT l. ) 'm' ) ");
     Ok(())
 }

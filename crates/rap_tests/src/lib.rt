@@ -1,7 +1,9 @@
-//! Tests of the public calls of the libraries below the grammar, in a crate of their own: in those libraries they would
-//! have each proved a second time.
+//! Tests of the public calls of the libraries below the grammar, as far as no built program shows what they give; in a
+//! crate of their own, since in those libraries they would have each proved a second time.
 #![tactic(auto)]
 
+#[cfg(test)]
+mod edition;
 #[cfg(test)]
 mod escape;
 #[cfg(test)]
@@ -16,3 +18,7 @@ mod lexed_str;
 mod shortcuts;
 #[cfg(test)]
 mod strip;
+#[cfg(test)]
+mod syntax_kind;
+#[cfg(test)]
+mod token_set;

@@ -4,8 +4,8 @@ ghost use Rattle.std.specs.Ordering.{nat_cmp};
 ghost use Rattle.rap_base.specs.Keyword.{keyword_name};
 ghost use Rattle.rap_base.specs.Names.{name_of};
 
-use super::SyntaxKind;
-use crate::edition::Edition;
+use rap_base::edition::Edition;
+use rap_base::syntax_kind::SyntaxKind;
 use std::cmp::Ordering;
 
 // A kind is got back from its number.

@@ -3,7 +3,7 @@ ghost use Rattle.std.specs.Prelude.{◌≡◌, ◌==◌, nat_lt};
 ghost use Rattle.std.specs.Ordering.{nat_cmp};
 ghost use Rattle.rap_base.specs.Edition.{year};
 
-use super::*;
+use rap_base::edition::{Edition, InvalidEdition};
 use std::cmp::Ordering;
 use std::test::Fail;
 

@@ -1,6 +1,6 @@
 use Rattle.rap_base.specs.TokenSet.{member}
 use Rattle.rap_base.proofs.TokenSets.{without_kinds}
-use Rattle.rap_base.proofs.token_set.tests.empty.Goals as goal
+use Rattle.rap_tests.proofs.token_set.empty.Goals as goal
 
 pub returns : goal.returns
 unfolding member
