@@ -1,2 +1,3 @@
 pub mod KeywordLemmas
+pub mod Named
 pub mod TokenSets
