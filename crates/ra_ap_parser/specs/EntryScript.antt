@@ -6,9 +6,9 @@ use Rattle.rap_events.specs.Record.{Record, next_kind}
 use Rattle.rap_events.specs.Forest.{Forest, none, node, ◌⧺◌, used}
 use Rattle.rap_rules.specs.Atom.{expr}
 use Rattle.rap_rules.specs.Called.{pattern, pattern_single, type_, inner_meta}
-use Rattle.rap_grammar.specs.Derives.{Derives, Expression, Ty, Block, Contents, Many, Item, File, EndsExpression, EndsType}
-use Rattle.rap_grammar.specs.MacroCall.{IsMacroCall}
-use Rattle.rap_grammar.specs.Mixed.{IsFront}
+use Rattle.rap_core.specs.Derives.{Derives, Expression, Ty, Block, Contents, Many, Item, File, EndsExpression, EndsType}
+use Rattle.rap_core.specs.MacroCall.{IsMacroCall}
+use Rattle.rap_core.specs.Mixed.{IsFront}
 use Rattle.rap_grammar.specs.Top.{IsTopOf, IsRootOf, top_tree}
 use Rattle.rap_rules.specs.Items.{source_file, mod_contents, item_or_macro}
 use Rattle.rap_rules.specs.Statements.{macro_stmts, stmt}

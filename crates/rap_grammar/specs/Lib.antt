@@ -1,5 +1,2 @@
-pub mod Derives
-pub mod MacroCall
-pub mod Mixed
 pub mod Part
 pub mod Top

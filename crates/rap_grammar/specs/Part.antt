@@ -18,7 +18,7 @@ use Rattle.rap_rules.specs.TokenTree.{bracketed_tokens}
 use Rattle.rap_rules.specs.Traits.{assoc_item_list}
 use Rattle.rap_rules.specs.UseItem.{use_tree_list}
 use Rattle.rap_rules.specs.Visibility.{opt_visibility}
-use Rattle.rap_grammar.specs.Derives.{Derives, Block, Fields, Items}
+use Rattle.rap_core.specs.Derives.{Derives, Block, Fields, Items}
 use Rattle.rap_grammar.specs.Top.{IsForestOver}
 use Rattle.rap_grammar.specs.declared.entry.part.Part.{Part}
 use Rattle.rap_grammar.specs.declared.entry.part.Part.TheVariants as part

@@ -8,12 +8,12 @@ ghost use Rattle.rap_rules.specs.Knot.{Follows};
 ghost use Rattle.rap_rules.specs.Room.{item_room};
 ghost use Rattle.rap_rules.specs.Script.{something};
 
-use crate::names::fn_name;
+use rap_adt::names::fn_name;
 use rap_base::no_memory::NoMemory;
 use rap_base::syntax_kind::SyntaxKind;
 use rap_events::parser::{Marker, Parser};
+use rap_params::params::param_list_fn_def;
 use rap_parts::blocks::block_expr;
-use rap_parts::params::param_list_fn_def;
 use rap_rules::T;
 use rap_rules::called::{
     opt_generic_param_list, opt_no_arrow_ret_type, opt_ret_type, opt_where_clause,

@@ -8,7 +8,7 @@ ghost use Rattle.rap_rules.specs.Macros as script;
 ghost use Rattle.rap_rules.specs.Room.{item_room};
 ghost use Rattle.rap_rules.specs.Script.{something};
 
-use crate::names::item_name;
+use rap_adt::names::item_name;
 use rap_base::no_memory::NoMemory;
 use rap_base::syntax_kind::SyntaxKind;
 use rap_events::parser::{Marker, Parser};

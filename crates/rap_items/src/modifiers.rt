@@ -11,7 +11,7 @@ ghost use Rattle.rap_rules.specs.Room.{list_room};
 ghost use Rattle.rap_rules.specs.Script.{something, again};
 ghost use Rattle.rap_rules.specs.Words.{of_bool};
 
-use crate::visibility::opt_visibility_inner;
+use rap_adt::visibility::opt_visibility_inner;
 use rap_base::no_memory::NoMemory;
 use rap_base::syntax_kind::SyntaxKind;
 use rap_events::parser::Parser;

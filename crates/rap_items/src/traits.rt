@@ -10,7 +10,7 @@ ghost use Rattle.rap_rules.specs.Room.{item_room, list_room, statement_room};
 ghost use Rattle.rap_rules.specs.Script.{something};
 ghost use Rattle.rap_rules.specs.Traits as script;
 
-use crate::names::item_name;
+use rap_adt::names::item_name;
 use rap_base::no_memory::NoMemory;
 use rap_base::syntax_kind::SyntaxKind;
 use rap_events::parser::{Marker, Parser};

@@ -1,10 +1,7 @@
-//! What types, patterns, expressions and items share: paths with the lists of their arguments, attributes, parameters,
-//! blocks, inline assembly.
+//! What types, patterns, expressions and items share: paths with the lists of their arguments, attributes, blocks.
 #![tactic(auto)]
 
-pub mod asm;
 pub mod attributes;
 pub mod blocks;
 pub mod generic_args;
-pub mod params;
 pub mod paths;

@@ -18,7 +18,7 @@ use crate::generic_params::{bounds_without_colon, bounds_without_colon_m};
 use rap_base::no_memory::NoMemory;
 use rap_base::syntax_kind::SyntaxKind;
 use rap_events::parser::{CompletedMarker, Parser};
-use rap_parts::params::param_list_fn_ptr;
+use rap_params::params::param_list_fn_ptr;
 use rap_parts::paths::type_path;
 use rap_rules::T;
 use rap_rules::called::{expr, for_binder, opt_ret_type, pattern, type_, type_no_bounds};

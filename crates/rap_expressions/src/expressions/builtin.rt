@@ -13,10 +13,10 @@ ghost use Rattle.rap_rules.specs.Rules.{Operand};
 ghost use Rattle.rap_rules.specs.Script.{something};
 ghost use Rattle.rap_rules.specs.Words.{of_bool, of_option, starts_builtin};
 
+use rap_asm::asm::parse_asm_expr;
 use rap_base::no_memory::NoMemory;
 use rap_base::syntax_kind::SyntaxKind;
 use rap_events::parser::{CompletedMarker, Marker, Parser};
-use rap_parts::asm::parse_asm_expr;
 use rap_rules::T;
 use rap_rules::arguments::BlockLike;
 use rap_rules::called::{expr, type_};

@@ -2,7 +2,7 @@ use Rattle.std.proofs.Common.{rules}
 use Rattle.rap_rules.specs.Script.{gives}
 use Rattle.rap_rules.specs.Traits.{impl_}
 use Rattle.rap_rules.proofs.Steps.{by_bump, by_complete, by_eat, by_rule}
-use Rattle.rap_items.proofs.Ending.{ended}
+use Rattle.rap_adt.proofs.Ending.{ended}
 use Rattle.rap_items.proofs.traits.impl_.Goals as goal
 
 pub returns-clause-script : goal.returns-clause-script

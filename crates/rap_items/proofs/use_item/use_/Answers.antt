@@ -2,7 +2,7 @@ use Rattle.std.proofs.Common.{rules}
 use Rattle.rap_rules.specs.Script.{gives}
 use Rattle.rap_rules.specs.UseItem.{use_}
 use Rattle.rap_rules.proofs.Steps.{by_bump, by_complete, by_expect, by_rule}
-use Rattle.rap_items.proofs.Ending.{ended}
+use Rattle.rap_adt.proofs.Ending.{ended}
 use Rattle.rap_items.proofs.use_item.use_.Goals as goal
 
 pub returns-clause-script : goal.returns-clause-script

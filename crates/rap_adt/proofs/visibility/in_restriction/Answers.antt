@@ -1,0 +1,16 @@
+use Rattle.std.proofs.Common.{rules}
+use Rattle.rap_rules.specs.Visibility.{in_restriction}
+use Rattle.rap_rules.specs.Script.{gives}
+use Rattle.rap_rules.proofs.Steps.{by_start, by_bump, by_rule, by_expect, by_complete}
+use Rattle.rap_adt.proofs.visibility.in_restriction.Goals as goal
+
+pub returns-clause-script : goal.returns-clause-script
+unfolding in_restriction
+returns-clause-script g c = record {
+  run = by_start c.in_ok-m.ensures.state
+      (by_bump (search rules) c.in_ok-bump.ensures.state
+      (by_bump (search rules) c.in_ok-bump-2.ensures.state
+      (by_rule c.in_ok-vis_path.ensures.script
+      (by_expect c.in_ok-expect.ensures.state
+      (by_complete c.in_ok-complete.ensures.state.0 gives)))));
+}

@@ -1,0 +1,4 @@
+//! Inline assembly.
+#![tactic(auto)]
+
+pub mod asm;

@@ -1,0 +1,556 @@
+-- What the core grammar derives is what the scripts make, from the left.
+use Rattle.std.proofs.Common.{rules, ◌≡◌, ◌≢◌, ℕ, suc, ◌<◌, ◌≤◌, List, [], ◌∷◌, ◌++◌, Bool, true, false, not, refl, ap, sym, ◌∙◌, arith, ◌==◌, ◌&&◌, ◌||◌, nat_lt, if◌then◌else◌, append_assoc, append-nil}
+use Rattle.std.proofs.lemmas.Bool.{eqb-true, ne_eqb}
+use Rattle.std.proofs.lemmas.Bool.Decides.{nat_tests}
+use Rattle.rap_base.specs.TokenKind.{LIFETIME_IDENT, LET_KW, POUND, INNER_DOC_COMMENT, EOF, SEMICOLON, IDENT, AMP, STAR, BANG, MINUS, DOT, COLON, COLON2, COMMA, QUESTION, L_PAREN, R_PAREN, L_BRACK, R_BRACK, L_CURLY, R_CURLY, PIPE, R_ANGLE, EQ, L_ANGLE, PLUS, CARET, PERCENT, SLASH, MUT_KW, AS_KW}
+use Rattle.rap_base.specs.NodeKind.{BIN_EXPR, NAME_REF}
+use Rattle.rap_events.specs.Record.{Record, next_kind, kind_at}
+use Rattle.rap_events.specs.Composite.{width, is_at, begins_with}
+use Rattle.rap_events.specs.Forest.{Forest, none, node, leaf, ◌⧺◌}
+use Rattle.rap_events.specs.OperatorTable.{powers}
+use Rattle.rap_events.specs.Power.{power, power_in}
+use Rattle.rap_rules.specs.Atom.{unrestricted, expr, atom_expr}
+use Rattle.rap_rules.specs.Blocks.{let_type, block_expr}
+use Rattle.rap_rules.specs.Called.{type_, type_no_bounds, pattern, as_statement}
+use Rattle.rap_rules.specs.Grammar.{name_r}
+use Rattle.rap_rules.specs.Statements.{stmt, macro_stmts}
+use Rattle.rap_rules.specs.TypeParts.{ascription}
+use Rattle.rap_core.specs.Derives.{Is, Writes, IsNamedField, Category, Maybe, Many, Elements, Expression, Binary, Unary, Postfix, Arguments, Atom, Path, Segment, Reference, Ty, Name, Bind, Visibility, Annotation, Value, Statement, Contents, Block, Item, Items, Fields, Field, Tuple, TupleField, Params, Param, Return, File, Derives, EndsExpression, EndsType, maybe_none, maybe_some, many_none, many_more, element_last, element_comma, element_more, reference, segment, path_one, path_more, atom_literal, atom_path, atom_paren, postfix_atom, postfix_call, postfix_index, postfix_try, postfix_field, postfix_number, postfix_method, argument_list, unary_prefix, unary_ref, unary_ref_mut, unary_postfix, binary_unary, binary_tighter, binary_operator, expression_binary, expression_assign, type_path, type_ref, type_ref_mut, type_slice, name_given, bind_name, visibility_pub, annotation_type, value_given, statement_let, statement_expression, contents_of, block_of, item_module, item_module_of, item_struct, item_struct_fields, item_struct_tuple, item_function, items_of, fields_of, field_named, tuple_of, tuple_field, params_of, param_typed, return_type, file_of}
+use Rattle.rap_rules.specs.Expressions.{operand_of, right_of, climb, arg_list, postfix_expr, lhs}
+use Rattle.rap_rules.specs.First.{is_operand, is_literal_first, one_of}
+use Rattle.rap_rules.specs.Operator.{operator_at}
+use Rattle.rap_rules.specs.Paths.{path_segment, path_for_qualifier, path}
+use Rattle.rap_rules.specs.declared.arguments.Restrictions.{Restrictions}
+use Rattle.rap_rules.proofs.Forests.{⧺-assoc}
+use Rattle.rap_core.proofs.Operators.{written_lead, differ, differ_back, is_calm, Calm, operator_seen, written_first, written_past}
+use Rattle.rap_rules.proofs.Steps.{and_false}
+use Rattle.rap_rules.specs.TokenTree.{starts_macro_call}
+use Rattle.rap_rules.specs.Types.{type_with_bounds_cond}
+use Rattle.rap_core.proofs.Begins.{first, literal_kind, is_prefix, prefix_kind, path_named, no_builtin, next_same, next_begins, next_plain, single, begins_type, begins_statement, operand_statement}
+use Rattle.rap_core.proofs.Lists.{Perhaps, missing, there, Repeated, no_more, one_more, Listed, last, last_comma, and_more}
+use Rattle.rap_core.proofs.StatementWays.{EndsBind, name_way, bind_way, ascription_way, let_type_way, no_let_type, semicolon_of, let_rest, value_way, no_value_way, let_way, semicolon_way, ends_contents, last_way, contents, contents_on, contents_end, block_way}
+use Rattle.rap_core.proofs.TypeWays.{ends_type, type_has_no_arguments, no_bounds_way, with_bounds_way, ref_type_way, ref_mut_type_way, slice_type_way, path_type_way}
+use Rattle.rap_core.proofs.Ways.{not_first, mode_of, NoArguments, kind_at-drop, Leads, LeadsOut, attributed, Single, none-⧺, segment_way, path_end, path_goes_on, path_way, literal_way, path_expr_way, paren_way, expr_way, from_way, climb_end, climb_on, operand_way, prefix_way, ref_way, ref_mut_way, postfix_end, call_way, index_way, try_way, name_field_way, number_field_way, method_way, arguments, arg_list_way, arguments_end, arguments_on, arguments_last}
+
+-- no power is above 12
+abbrev none_above : ℕ → List (ℕ × ℕ) → Bool
+none_above n [] = true
+none_above n (row ∷ rows) = not (nat_lt n row.1) && none_above n rows
+
+either_small : (b : Bool) (i j n : ℕ) → i ≤ n → j ≤ n → (if b then i else j) ≤ n
+either_small true i j n h k = h
+either_small false i j n h k = k
+
+not_above : (n p : ℕ) (b : Bool) → not (nat_lt n p) && b ≡ true → (p ≤ n) × (b ≡ true)
+not_above n p b h = grind (arith, nat_tests)
+
+power_in-le : (n : ℕ) (rows : List (ℕ × ℕ)) (k : ℕ) → none_above n rows ≡ true → power_in rows k ≤ n
+power_in-le n [] k h = omega arith
+power_in-le n (row ∷ rows) k h =
+    let i = not_above n row.1 (none_above n rows) h in
+    either_small (row.0 == k) row.1 (power_in rows k) n i.0 (power_in-le n rows k i.1)
+
+power-le : (k : ℕ) → power k ≤ 12
+power-le k = power_in-le 12 powers k refl
+
+-- What goes on with no expression: nothing that follows an operand directly, and no operator.
+pub record Quiet (rs : List Record) : Type 0 where
+  pub calm : Calm rs
+  pub power_is : power (operator_at rs) < 1
+
+abbrev pub ends_quietly : ℕ → Bool
+ends_quietly k = one_of (EOF ∷ SEMICOLON ∷ COMMA ∷ R_PAREN ∷ R_BRACK ∷ R_CURLY ∷ []) k
+
+no_bang : (rs : List Record) → (next_kind rs == BANG) ≡ false → starts_macro_call rs ≡ false
+no_bang rs h = rw h refl
+
+pub quiet : (rs : List Record) → ends_quietly (next_kind rs) ≡ true → Quiet rs
+unfolding operator_at
+quiet rs h =
+    let k = next_kind rs in
+    record {
+      calm = record { kind = search rules; macro = no_bang rs (differ ends_quietly k BANG h refl) };
+      power_is =
+          rw (
+            differ_back ends_quietly k PIPE h refl,
+            differ_back ends_quietly k R_ANGLE h refl,
+            differ_back ends_quietly k EQ h refl,
+            differ_back ends_quietly k L_ANGLE h refl,
+            differ_back ends_quietly k PLUS h refl,
+            differ_back ends_quietly k CARET h refl,
+            differ_back ends_quietly k PERCENT h refl,
+            differ_back ends_quietly k AMP h refl,
+            differ_back ends_quietly k SLASH h refl,
+            differ_back ends_quietly k STAR h refl,
+            differ_back ends_quietly k DOT h refl,
+            differ_back ends_quietly k BANG h refl,
+            differ_back ends_quietly k MINUS h refl,
+            differ_back ends_quietly k AS_KW h refl,
+          ) (omega arith);
+    }
+
+quiet_is : (r : Record) (l : List Record) (k : ℕ) → Is r k → ends_quietly k ≡ true → Quiet (r ∷ l)
+quiet_is r l k e h = quiet (r ∷ l) (rw e.kind_is h)
+
+not_paren : (l : List Record) → Calm l → next_kind l ≢ L_PAREN
+not_paren l c e = let h : is_calm L_PAREN ≡ true = rw e at c.kind in absurd cc
+
+no_colon : (rs : List Record) → (next_kind rs == COLON) ≡ false → is_at COLON2 rs ≡ false
+no_colon [] h = refl
+no_colon (r ∷ rs) h = rw h refl
+
+calm_colon : (rs : List Record) → Calm rs → is_at COLON2 rs ≡ false
+calm_colon rs c = no_colon rs (differ is_calm (next_kind rs) COLON c.kind refl)
+
+-- What goes on with no atom: no path, no macro call, no fields of a record.
+record Apart (l : List Record) : Type 0 where
+  colons : is_at COLON2 l ≡ false
+  macro : starts_macro_call l ≡ false
+  brace : (next_kind l == L_CURLY) ≡ false
+
+apart_by : (l : List Record) (k : ℕ) → next_kind l ≡ k → (k == COLON) ≡ false → (k == BANG) ≡ false →
+    (k == L_CURLY) ≡ false → Apart l
+apart_by l k e h i j = record { colons = no_colon l (rw e h); macro = no_bang l (rw e i); brace = rw e j }
+
+calm_apart : (l : List Record) → Calm l → Apart l
+calm_apart l c =
+    record { colons = calm_colon l c; macro = c.macro; brace = differ is_calm (next_kind l) L_CURLY c.kind refl }
+
+not_end : (test : ℕ → Bool) (k : ℕ) → test k ≡ true → test EOF ≡ false → k ≢ EOF
+not_end test k h i e = let x : true ≡ false = sym h ∙ ap test e ∙ i in cc
+
+right_tighter : (op p : ℕ) → power op ≡ p → p ≢ 1 → right_of op ≡ suc p
+right_tighter op p e n = rw (e, ne_eqb p 1 n) (omega arith)
+
+no_cast : (op p : ℕ) → power op ≡ p → p < 12 → op ≢ AS_KW
+no_cast op p e h i = let x : power op ≡ power AS_KW = ap power i in omega arith
+
+-- an operand of an operator before it
+operand_alone : (r : Restrictions) {b : List Forest} {rs l : List Record} {f t : Forest} →
+    is_operand (next_kind rs) ≡ true → Single t → Leads (lhs r) (f ∷ b) rs none l (none ⧺ t) →
+    LeadsOut (attributed r 255) b rs f l (f ⧺ t)
+operand_alone r {l = l} o s x =
+    from_way r 255 o s (rw none-⧺ at x) (climb_end r (omega (arith, power-le (operator_at l))))
+
+-- What is shown of each category. Where the grammar goes to the left, any way on from the tree so far is a way on from
+-- the tokens.
+Claim : Category → List Record → Forest → Type 0
+Claim (Maybe c) ks t = Perhaps (λ js u. Derives c js u × Claim c js u) ks t
+Claim (Many c) ks t = Repeated (λ js u. Derives c js u × Claim c js u) ks t
+Claim (Elements c) ks t = Listed (λ js u. Derives c js u × Claim c js u) ks t
+Claim Expression ks t =
+    (r : Restrictions) (b : List Forest) (f : Forest) (l : List Record) → Quiet l →
+    LeadsOut (attributed r 1) b (ks ++ l) f l (f ⧺ t)
+Claim (Binary p) ks t =
+    (r : Restrictions) (bp : ℕ) (b : List Forest) (f : Forest) (l : List Record) (g : Forest) (m : List Record) →
+    bp ≤ p → Calm l → power (operator_at l) ≤ p → Leads (climb r bp) b l (f ⧺ t) m g →
+    LeadsOut (attributed r bp) b (ks ++ l) f m g
+Claim Unary ks t =
+    (r : Restrictions) (b : List Forest) (f : Forest) (l : List Record) → Calm l → Leads (lhs r) b (ks ++ l) f l (f ⧺ t)
+Claim Postfix ks t =
+    (r : Restrictions) (b : List Forest) (f : Forest) (l : List Record) (g : Forest) (m : List Record) →
+    (IsNamedField t → next_kind l ≢ L_PAREN) → Apart l → Leads (postfix_expr true false) b l (f ⧺ t) m g →
+    Leads (lhs r) b (ks ++ l) f m g
+Claim Arguments ks t = (b : List Forest) (f : Forest) (l : List Record) → Leads arg_list b (ks ++ l) f l (f ⧺ t)
+Claim Atom ks t =
+    (r : Restrictions) (b : List Forest) (f : Forest) (l : List Record) → Apart l →
+    Leads (atom_expr r) b (ks ++ l) f l (f ⧺ t)
+Claim Path ks t =
+    (ty : Bool) (b : List Forest) (f : Forest) (l : List Record) (g : Forest) (m : List Record) → NoArguments ty l →
+    Leads (path_for_qualifier (mode_of ty)) b l (f ⧺ t) m g → Leads (path (mode_of ty)) b (ks ++ l) f m g
+Claim Segment ks t =
+    (ty first : Bool) (b : List Forest) (f : Forest) (l : List Record) → NoArguments ty l →
+    Leads (path_segment (mode_of ty) first) b (ks ++ l) f l (f ⧺ t)
+Claim Reference ks t = Unit {0}
+Claim Ty ks t =
+    (bounds : Bool) (b : List Forest) (f : Forest) (l : List Record) → EndsType l →
+    Leads (type_with_bounds_cond bounds) b (ks ++ l) f l (f ⧺ t)
+Claim Name ks t =
+    (kept : ℕ → Bool) (b : List Forest) (f : Forest) (l : List Record) → Leads (name_r kept) b (ks ++ l) f l (f ⧺ t)
+Claim Bind ks t = (b : List Forest) (f : Forest) (l : List Record) → EndsBind l → Leads pattern b (ks ++ l) f l (f ⧺ t)
+Claim Visibility ks t = Unit {0}
+Claim Annotation ks t =
+    (b : List Forest) (f : Forest) (l : List Record) → EndsType l → Leads ascription b (ks ++ l) f l (f ⧺ t)
+Claim Value ks t =
+    (optional : Bool) (b : List Forest) (f : Forest) (c : Record) (l : List Record) → Is c SEMICOLON →
+    Leads (let_rest (semicolon_of optional)) b (ks ++ c ∷ l) f l (leaf (f ⧺ t) SEMICOLON 1)
+Claim Statement ks t =
+    (optional : Bool) (b : List Forest) (f : Forest) (l : List Record) →
+    Leads (stmt (semicolon_of optional)) b (ks ++ l) f l (f ⧺ t)
+Claim Contents ks t =
+    (optional : Bool) (b : List Forest) (f : Forest) (l : List Record) → next_kind l ≡ ends_contents optional →
+    Leads (contents optional) b (ks ++ l) f l (f ⧺ t)
+Claim Block ks t = (b : List Forest) (f : Forest) (l : List Record) → Leads block_expr b (ks ++ l) f l (f ⧺ t)
+Claim Item ks t = Unit {0}
+Claim Items ks t = Unit {0}
+Claim Fields ks t = Unit {0}
+Claim Field ks t = Unit {0}
+Claim Tuple ks t = Unit {0}
+Claim TupleField ks t = Unit {0}
+Claim Params ks t = Unit {0}
+Claim Param ks t = Unit {0}
+Claim Return ks t = Unit {0}
+Claim File ks t = Unit {0}
+
+three_lists : (ks os js l : List Record) → (ks ++ (os ++ js)) ++ l ≡ ks ++ (os ++ (js ++ l))
+three_lists ks os js l = simp append_assoc
+
+in_brackets : (ks js l : List Record) (a b : Record) → (ks ++ a ∷ (js ++ b ∷ [])) ++ l ≡ ks ++ a ∷ (js ++ b ∷ l)
+in_brackets ks js l a b = simp append_assoc
+
+-- behind a `::` a name is no argument
+colons_alone : (ty : Bool) {os : List Record} (rest : List Record) → Writes os COLON2 → next_kind rest ≡ IDENT →
+    NoArguments ty (os ++ rest)
+colons_alone true {os = os} rest w k =
+    let n : kind_at (os ++ rest) 2 ≡ IDENT = kind_at-drop (os ++ rest) 2 ∙ ap next_kind (written_past rest w) ∙ k in
+    (rw n (and_false (is_at COLON2 (os ++ rest))), rw (written_lead rest w) refl)
+colons_alone false {os = os} rest w k = rw (written_past rest w, k) (and_false (is_at COLON2 (os ++ rest)))
+
+-- what is derived, and what is shown of it
+abbrev Known : Category → List Record → Forest → Type 0
+Known c ks t = Derives c ks t × Claim c ks t
+
+-- the arguments of a call up to the parenthesis that closes them
+arguments_on_way : {ks : List Record} {t : Forest} → Listed (Known Expression) ks t →
+    (b : List Forest) (f : Forest) (c : Record) (l : List Record) → Is c R_PAREN →
+    Leads arguments b (ks ++ c ∷ l) f (c ∷ l) (f ⧺ t)
+unfolding Claim
+arguments_on_way (last (d, x)) b f c l i =
+    arguments_last (next_begins (c ∷ l) (first d refl)) (expr_way (x unrestricted b f (c ∷ l)
+    (quiet_is c l R_PAREN i refl))) i.kind_is
+arguments_on_way (last_comma {a = a} (d, x) o) b f c l i =
+    rw append_assoc (arguments_on (next_begins (a ∷ c ∷ l) (first d refl)) (expr_way (x unrestricted b f (a ∷ c ∷ l)
+    (quiet_is a (c ∷ l) COMMA o refl))) o.kind_is (arguments_end i.kind_is))
+arguments_on_way (and_more {a = a} {js = js} {t = t} {u = u} (d, x) o e) b f c l i =
+    let n = js ++ c ∷ l in
+    rw (append_assoc, ← (⧺-assoc f (leaf t COMMA 1) u)) (arguments_on (next_begins (a ∷ n) (first d refl))
+    (expr_way (x unrestricted b f (a ∷ n) (quiet_is a n COMMA o refl))) o.kind_is
+    (arguments_on_way e b (leaf (f ⧺ t) COMMA 1) c l i))
+
+arguments_way : {ks : List Record} {t : Forest} →
+    Perhaps (λ js u. Derives (Elements Expression) js u × Listed (Known Expression) js u) ks t →
+    (b : List Forest) (f : Forest) (c : Record) (l : List Record) → Is c R_PAREN →
+    Leads arguments b (ks ++ c ∷ l) f (c ∷ l) (f ⧺ t)
+unfolding Claim
+arguments_way missing b f c l i = arguments_end i.kind_is
+arguments_way (there (d, x)) b f c l i = arguments_on_way x b f c l i
+
+four_lists : (ks js is : List Record) (z : Record) (l : List Record) →
+    (ks ++ (js ++ (is ++ z ∷ []))) ++ l ≡ ks ++ (js ++ (is ++ z ∷ l))
+four_lists ks js is z l = simp append_assoc
+
+-- what comes next behind the type of a `let`
+abbrev ends_type_of_let : ℕ → Bool
+ends_type_of_let k = one_of (EQ ∷ SEMICOLON ∷ []) k
+
+value_next : {is : List Record} {v : Forest} → Perhaps (Known Value) is v → (c : Record) (l : List Record) →
+    Is c SEMICOLON → ends_type_of_let (next_kind (is ++ c ∷ l)) ≡ true
+value_next missing c l i = rw i.kind_is refl
+value_next (there (value_given o d, x)) c l i = rw o.kind_is refl
+
+-- a colon with a type behind it is no `::`
+pub colon_ends_bind : (a : Record) (rs : List Record) → Is a COLON → begins_type (next_kind rs) ≡ true →
+    EndsBind (a ∷ rs)
+colon_ends_bind a rs o h =
+    let n : begins_with (COLON ∷ []) rs ≡ false =
+    not_first COLON [] rs (differ begins_type (next_kind rs) COLON h refl) in
+    record { next = rw o.kind_is refl; colons = rw (n, and_false a.joint) (and_false _) }
+
+bind_ends : {js : List Record} {u : Forest} → Perhaps (Known Annotation) js u → (l : List Record) →
+    ends_type_of_let (next_kind l) ≡ true → EndsBind (js ++ l)
+bind_ends missing l h =
+    record { next = search rules; colons = no_colon l (differ ends_type_of_let (next_kind l) COLON h refl) }
+bind_ends (there (annotation_type {a = a} {ks = ks} o d, x)) l h =
+    colon_ends_bind a (ks ++ l) o (next_begins l (first d refl))
+
+let_type_before : {js : List Record} {u : Forest} → Perhaps (Known Annotation) js u →
+    (b : List Forest) (f : Forest) (l : List Record) → ends_type_of_let (next_kind l) ≡ true →
+    Leads let_type b (js ++ l) f l (f ⧺ u)
+unfolding Claim
+let_type_before missing b f l h = no_let_type (differ ends_type_of_let (next_kind l) COLON h refl)
+let_type_before (there {ks = js} (d, x)) b f l h =
+    let_type_way (eqb-true (next_kind (js ++ l)) COLON (next_begins l (first d refl))) (x b f l
+    (record { next = search rules }))
+
+let_value_before : {is : List Record} {v : Forest} → Perhaps (Known Value) is v →
+    (optional : Bool) (b : List Forest) (f : Forest) (c : Record) (l : List Record) → Is c SEMICOLON →
+    Leads (let_rest (semicolon_of optional)) b (is ++ c ∷ l) f l (leaf (f ⧺ v) SEMICOLON 1)
+unfolding Claim
+let_value_before missing m b f c l i = no_value_way m i.kind_is
+let_value_before (there (d, x)) m b f c l i = x m b f c l i
+
+-- statements, and on
+statements_before : (optional : Bool) {ks : List Record} {t : Forest} → Repeated (Known Statement) ks t →
+    (b : List Forest) (f : Forest) (l n : List Record) (g : Forest) → Leads (contents optional) b l (f ⧺ t) n g →
+    Leads (contents optional) b (ks ++ l) f n g
+unfolding Claim
+statements_before m no_more b f l n g y = y
+statements_before m (one_more {js = js} {t = t} {u = u} (d, x) e) b f l n g y =
+    rw append_assoc (contents_on m (next_begins (js ++ l) (first d refl)) (x m b f (js ++ l))
+    (statements_before m e b (f ⧺ t) l n g (rw (⧺-assoc f t u) y)))
+
+quiet_at_end : (optional : Bool) (l : List Record) → next_kind l ≡ ends_contents optional → Quiet l
+quiet_at_end true l h = quiet l (rw h refl)
+quiet_at_end false l h = quiet l (rw h refl)
+
+-- the expression that ends them, if there is one
+value_at_end : (optional : Bool) {ks : List Record} {t : Forest} → Perhaps (Known Expression) ks t →
+    (b : List Forest) (f : Forest) (l : List Record) → next_kind l ≡ ends_contents optional →
+    Leads (contents optional) b (ks ++ l) f l (f ⧺ t)
+unfolding Claim
+value_at_end m missing b f l h = contents_end m h
+value_at_end m (there {ks = js} (d, x)) b f l h =
+    let n = first d refl in
+    let begins = next_begins l n in
+    contents_on m (operand_statement (next_kind (js ++ l)) begins) (rw n.is (last_way m n.kind n.plain n.no_super
+    (rw n.is at (x as_statement b f l (quiet_at_end m l h))) h)) (contents_end m h)
+
+-- what comes next behind the brace of a block
+abbrev begins_contents : ℕ → Bool
+begins_contents k = (k == R_CURLY) || begins_statement k
+
+statement_contents : (k : ℕ) → begins_statement k ≡ true → begins_contents k ≡ true
+statement_contents k h = search rules
+
+contents_next : {ks : List Record} {t : Forest} → Derives Contents ks t → (c : Record) (l : List Record) →
+    Is c R_CURLY → begins_contents (next_kind (ks ++ c ∷ l)) ≡ true
+contents_next (contents_of many_none maybe_none) c l i = rw i.kind_is refl
+contents_next (contents_of many_none (maybe_some {ks = ms} d)) c l i =
+    let k = next_kind (ms ++ c ∷ l) in
+    statement_contents k (operand_statement k (next_begins (c ∷ l) (first d refl)))
+contents_next (contents_of {js = ms} (many_more {ks = ks} {js = js} d e) g) c l i =
+    let all : ((ks ++ js) ++ ms) ++ c ∷ l ≡ ks ++ (js ++ (ms ++ c ∷ l)) = simp append_assoc in
+    let k = next_kind (ks ++ (js ++ (ms ++ c ∷ l))) in
+    rw all (statement_contents k (next_begins (js ++ (ms ++ c ∷ l)) (first d refl)))
+
+claim : {c : Category} {ks : List Record} {t : Forest} → Derives c ks t → Claim c ks t
+unfolding Claim
+claim maybe_none = missing
+claim (maybe_some d) = there (d, claim d)
+claim many_none = no_more
+claim (many_more d e) = one_more (d, claim d) (claim e)
+claim (element_last d) = last (d, claim d)
+claim (element_comma d o) = last_comma (d, claim d) o
+claim (element_more d o e) = and_more (d, claim d) o (claim e)
+claim (reference n) = tt
+claim (segment (reference n)) = λ ty first b f l a. segment_way ty first n.kind a
+claim (path_one d) = λ ty b f l g m a y. path_way (mode_of ty) (rw none-⧺ at (claim d ty true (f ∷ b) none l a)) y
+claim (path_more {ks = ks} {os = os} {js = js} {t = t} d w e) = λ ty b f l g m a y.
+    let k : next_kind (js ++ l) ≡ IDENT = eqb-true (next_kind (js ++ l)) IDENT (next_begins l (first e refl)) in
+    rw (three_lists ks os js l) (claim d ty b f (os ++ (js ++ l)) g m (colons_alone ty (js ++ l) w k)
+    (path_goes_on ty (single d) (written_first (js ++ l) w) (written_past (js ++ l) w)
+    (claim e ty false (f ∷ b) (leaf t COLON2 2) l a) y))
+claim (atom_literal {r = r} h) = λ q b f l c.
+    let k = literal_kind r h in literal_way q (not_end is_literal_first r.kind k refl) k
+claim (atom_path {ks = ks} {t = t} d) = λ r b f l c.
+    let e : next_kind (ks ++ l) ≡ IDENT = eqb-true (next_kind (ks ++ l)) IDENT (next_begins l (first d refl)) in
+    path_expr_way r e (no_builtin l (path_named d)) (rw none-⧺ at (claim d false (f ∷ b) none l (none ⧺ t) l
+    (rw c.colons refl) (path_end false c.colons))) c.macro c.brace
+claim (atom_paren {b = c} o d e) = λ r b f l n.
+    rw append_assoc (paren_way r o.kind_is (next_begins (c ∷ l) (first d refl)) (expr_way
+    (claim d unrestricted (f ∷ b) (leaf none L_PAREN 1) (c ∷ l) (quiet_is c l R_PAREN e refl))) e.kind_is)
+claim (postfix_atom d) = λ r b f l g m h c y. operand_way r (next_begins l (first d refl)) (claim d r b f l c) y
+claim (postfix_call {ks = ks} {js = js} {t = t} d n e) = λ r b f l g m h c y.
+    let i : next_kind (js ++ l) ≡ L_PAREN = eqb-true (next_kind (js ++ l)) L_PAREN (next_begins l (first e refl)) in
+    rw append_assoc (claim d r b f (js ++ l) g m (λ z. absurd (n z)) (apart_by (js ++ l) L_PAREN i refl refl refl)
+    (call_way (single d) i (claim e (f ∷ b) t l) y))
+claim (postfix_index {a = a} {b = z} {ks = ks} {js = js} {t = t} d o e i) = λ r b f l g m h c y.
+    rw (in_brackets ks js l a z) (claim d r b f (a ∷ (js ++ z ∷ l)) g m (λ n. rw o.kind_is (λ k. absurd
+    (omega arith))) (apart_by (a ∷ (js ++ z ∷ l)) L_BRACK o.kind_is refl refl refl)
+    (index_way (single d) o.kind_is (expr_way (claim e unrestricted (f ∷ b) (leaf t L_BRACK 1) (z ∷ l)
+    (quiet_is z l R_BRACK i refl))) i.kind_is y))
+claim (postfix_try {a = a} d o) = λ r b f l g m h c y.
+    rw append_assoc (claim d r b f (a ∷ l) g m (λ n. rw o.kind_is (λ k. absurd
+    (omega arith))) (apart_by (a ∷ l) QUESTION o.kind_is refl refl refl) (try_way (single d) o.kind_is y))
+claim (postfix_field {a = a} {t = t} d o (reference {r = z} n)) = λ r b f l g m h c y.
+    rw append_assoc (claim d r b f (a ∷ z ∷ l) g m (λ j. rw o.kind_is (λ k. absurd
+    (omega arith))) (apart_by (a ∷ z ∷ l) DOT o.kind_is refl refl refl)
+    (name_field_way (single d) o.kind_is n.kind (h (leaf t DOT 1, refl)) c.colons y))
+claim (postfix_number {a = a} {b = z} d o i) = λ r b f l g m h c y.
+    rw append_assoc (claim d r b f (a ∷ z ∷ l) g m (λ j. rw o.kind_is (λ k. absurd
+    (omega arith))) (apart_by (a ∷ z ∷ l) DOT o.kind_is refl refl refl)
+    (number_field_way (single d) o.kind_is i.kind_is y))
+claim (postfix_method {a = a} {is = is} {t = t} d o (reference {r = z} n) e) = λ r b f l g m h c y.
+    let i : next_kind (is ++ l) ≡ L_PAREN = eqb-true (next_kind (is ++ l)) L_PAREN (next_begins l (first e refl)) in
+    rw append_assoc (claim d r b f (a ∷ z ∷ (is ++ l)) g m (λ j. rw o.kind_is (λ k. absurd
+    (omega arith))) (apart_by (a ∷ z ∷ (is ++ l)) DOT o.kind_is refl refl refl)
+    (method_way (single d) o.kind_is n.kind i (claim e (f ∷ b) (node (leaf t DOT 1) NAME_REF (leaf none IDENT 1)) l) y))
+claim (argument_list {b = z} o d c) = λ b f l.
+    rw append_assoc (arg_list_way o.kind_is (arguments_way (claim d) (f ∷ b) (leaf none L_PAREN 1) z l c) c.kind_is)
+claim (unary_prefix {a = a} d e) = λ r b f l c.
+    let k = prefix_kind a d in
+    prefix_way r k (differ is_prefix a.kind AMP k refl)
+    (not_end is_prefix a.kind k refl) (operand_alone r (next_begins l (first e refl)) (single e)
+    (claim e r (leaf none a.kind 1 ∷ f ∷ b) none l c))
+claim (unary_ref {ks = ks} o d) = λ r b f l c.
+    let k = next_begins l (first d refl) in
+    ref_way r o.kind_is (next_plain l (first d refl)) (differ is_operand (next_kind (ks ++ l)) MUT_KW k refl)
+    (operand_alone r k (single d) (claim d r (leaf none AMP 1 ∷ f ∷ b) none l c))
+claim (unary_ref_mut {b = z} o n d) = λ r b f l c.
+    ref_mut_way r o.kind_is (rw n.kind_is refl) n.kind_is (operand_alone r (next_begins l (first d refl)) (single d)
+    (claim d r (leaf (leaf none AMP 1) MUT_KW 1 ∷ f ∷ b) none l c))
+claim (unary_postfix {t = t} d) = λ r b f l c.
+    let k = next_kind l in
+    let e = c.kind in
+    claim d r b f l (f ⧺ t) l (λ n. not_paren l c) (calm_apart l c)
+    (postfix_end (differ is_calm k L_PAREN e refl) (differ is_calm k L_BRACK e refl) (differ is_calm k DOT e refl)
+    (differ is_calm k QUESTION e refl))
+claim (binary_unary d) = λ r bp b f l g m h c p y.
+    from_way r bp (next_begins l (first d refl)) (single d) (rw none-⧺ at (claim d r (f ∷ b) none l c)) y
+claim (binary_tighter lo hi d) = λ r bp b f l g m h c p y. claim d r bp b f l g m (omega arith) c (omega arith) y
+claim (binary_operator {p = p} {op = op} {ks = ks} {os = os} {js = js} {t = t} {u = u} lo hi d o e) =
+    λ r bp b f l g m h c k y.
+    let n = first e refl in
+    let q = operator_seen (js ++ l) (next_same l n) (next_begins l n) (omega arith) (λ z. omega arith)
+    (omega arith) o in
+    let i = q.power_is in
+    let o = leaf t op (width op) in
+    let x : LeadsOut (attributed (operand_of r) (right_of op)) (f ∷ b) (js ++ l) o l (o ⧺ u) =
+    rw (right_tighter op p i (λ z. omega arith))
+    (claim e (operand_of r) (suc p) (f ∷ b) (leaf t op (width op)) l (leaf t op (width op) ⧺ u) l (omega arith) c
+    (omega arith) (climb_end (operand_of r) (omega arith))) in
+    rw (three_lists ks os js l) (claim d r bp b f (os ++ (js ++ l)) g m h q.calm (omega (arith, ap power q.is))
+    (climb_on r (single d) q.is (omega arith) (λ z. omega arith) (no_cast op p i (omega arith)) q.first q.past x y))
+claim (expression_binary {t = t} d) = λ r b f l q.
+    claim d r 1 b f l (f ⧺ t) l (omega arith) q.calm (omega (arith, q.power_is)) (climb_end r q.power_is)
+claim (expression_assign {op = op} {ks = ks} {os = os} {js = js} {t = t} {u = u} d o e) = λ r b f l c.
+    let n = first e refl in
+    let q = operator_seen (js ++ l) (next_same l n) (next_begins l n) (omega arith) (λ z. omega arith)
+    (omega arith) o in
+    let i = q.power_is in
+    let o = leaf t op (width op) in
+    let x : LeadsOut (attributed (operand_of r) (right_of op)) (f ∷ b) (js ++ l) o l (o ⧺ u) =
+    rw i (claim e (operand_of r) (f ∷ b) (leaf t op (width op)) l c) in
+    rw (three_lists ks os js l) (claim d r 1 b f (os ++ (js ++ l)) (f ⧺ node none BIN_EXPR (leaf t op (width op) ⧺ u)) l
+    (omega arith) q.calm (omega (arith, ap power q.is))
+    (climb_on r (single d) q.is (omega arith) (λ z. omega arith) (no_cast op 1 i (omega arith)) q.first q.past x
+    (climb_end r c.power_is)))
+claim (type_path {t = t} d) = λ bounds b f l e.
+    let n = path_named d in
+    let colons : is_at COLON2 l ≡ false = no_colon l (differ ends_type (next_kind l) COLON e.next refl) in
+    let x = rw none-⧺ at (claim d true (none ∷ f ∷ b) none l (none ⧺ t) l (type_has_no_arguments l colons e)
+    (path_end true colons)) in
+    rw n.is (path_type_way bounds n.name (rw n.is at x) e)
+claim (type_ref {ks = ks} o d) = λ bounds b f l e.
+    let k = next_begins l (first d refl) in
+    ref_type_way bounds o.kind_is (differ begins_type (next_kind (ks ++ l)) LIFETIME_IDENT k refl)
+    (differ begins_type (next_kind (ks ++ l)) MUT_KW k refl)
+    (no_bounds_way (claim d false (f ∷ b) (leaf none AMP 1) l e))
+claim (type_ref_mut {b = z} o n d) = λ bounds b f l e.
+    ref_mut_type_way bounds o.kind_is n.kind_is (no_bounds_way
+    (claim d false (f ∷ b) (leaf (leaf none AMP 1) MUT_KW 1) l e))
+claim (type_slice {b = z} o d i) = λ bounds b f l e.
+    rw append_assoc (slice_type_way bounds o.kind_is (with_bounds_way
+    (claim d true (f ∷ b) (leaf none L_BRACK 1) (z ∷ l) (record { next = rw i.kind_is refl }))) i.kind_is)
+claim (name_given n) = λ kept b f l. name_way kept n.kind
+claim (bind_name (name_given n)) = λ b f l e. bind_way n e
+claim (visibility_pub o) = tt
+claim (annotation_type {ks = ks} {t = t} o d) = λ b f l e.
+    rw (← (⧺-assoc f (leaf none COLON 1) t))
+    (ascription_way o.kind_is (differ begins_type (next_kind (ks ++ l)) EQ (next_begins l (first d refl)) refl)
+    (with_bounds_way (claim d true b (leaf f COLON 1) l e)))
+claim (value_given {t = t} o d) = λ m b f c l e.
+    rw (← (⧺-assoc f (leaf none EQ 1) t)) (value_way m o.kind_is (expr_way (claim d unrestricted b (leaf f EQ 1) (c ∷ l)
+    (quiet_is c l SEMICOLON e refl))) e.kind_is)
+claim (statement_let {b = z} {ks = ks} {js = js} {is = is} {t = t} {u = u} o d e g c) = λ m b f l.
+    let y = claim e in
+    let v = claim g in
+    let n = value_next v z l c in
+    let rest = is ++ z ∷ l in
+    rw (four_lists ks js is z l)
+    (let_way m o.kind_is (claim d (f ∷ b) (leaf none LET_KW 1) (js ++ rest) (bind_ends y rest n))
+    (let_type_before y (f ∷ b) (leaf none LET_KW 1 ⧺ t) rest n)
+    (let_value_before v m (f ∷ b) (leaf none LET_KW 1 ⧺ t ⧺ u) z l c))
+claim (statement_expression {a = a} d o) = λ m b f l.
+    let n = first d refl in
+    rw append_assoc (rw n.is (semicolon_way m n.kind n.plain n.no_super (single d) (rw n.is at
+    (claim d as_statement b f (a ∷ l) (quiet_is a l SEMICOLON o refl))) o.kind_is))
+claim (contents_of {js = js} {t = t} {u = u} d e) = λ m b f l h.
+    rw (append_assoc, ← (⧺-assoc f t u)) (statements_before m (claim d) b f (js ++ l) l (f ⧺ t ⧺ u) (value_at_end m
+    (claim e) b (f ⧺ t) l h))
+claim (block_of {b = z} {ks = ks} o d c) = λ b f l.
+    let k = next_kind (ks ++ z ∷ l) in
+    let n = contents_next d z l c in
+    rw append_assoc (block_way o.kind_is (differ begins_contents k INNER_DOC_COMMENT n refl)
+    (differ begins_contents k POUND n refl)
+    (claim d false (none ∷ f ∷ b) (leaf none L_CURLY 1) (z ∷ l) c.kind_is) c.kind_is)
+claim (item_module v o d c) = tt
+claim (item_module_of v o d e) = tt
+claim (item_struct v o d c) = tt
+claim (item_struct_fields v o d e) = tt
+claim (item_struct_tuple v o d e c) = tt
+claim (item_function v o d e f g) = tt
+claim (items_of o d c) = tt
+claim (fields_of o d c) = tt
+claim (field_named v d o e) = tt
+claim (tuple_of o d c) = tt
+claim (tuple_field d) = tt
+claim (params_of o d c) = tt
+claim (param_typed d o e) = tt
+claim (return_type w d) = tt
+claim (file_of d) = tt
+
+-- an expression from the newest open node on, before what goes on with none
+pub expression_from : (r : Restrictions) {ks : List Record} {t : Forest} → Derives Expression ks t →
+    (b : List Forest) (f : Forest) (l : List Record) → Quiet l → LeadsOut (attributed r 1) b (ks ++ l) f l (f ⧺ t)
+unfolding Claim
+expression_from r d b f l q = claim d r b f l q
+
+-- an expression before what goes on with none
+pub expression_before : {ks : List Record} {t : Forest} → Derives Expression ks t →
+    (b : List Forest) (f : Forest) (l : List Record) → Quiet l → Leads expr b (ks ++ l) f l (f ⧺ t)
+expression_before d b f l q = expr_way (expression_from unrestricted d b f l q)
+
+-- an expression before what can follow one that is read alone
+pub expression_at_beginning : {ks : List Record} {t : Forest} → Derives Expression ks t →
+    (b : List Forest) (f : Forest) (l : List Record) → EndsExpression l → Leads expr b (ks ++ l) f l (f ⧺ t)
+expression_at_beginning d b f l e = let n = e.next in expression_before d b f l (quiet l (search rules))
+
+-- an expression that is all there is
+pub expression_whole : {ks : List Record} {t : Forest} → Derives Expression ks t → (b : List Forest) →
+    Leads expr b ks none [] t
+expression_whole d b = rw (append-nil, none-⧺) at (expression_before d b none [] (quiet [] refl))
+
+-- an expression is one node
+pub expression_single : {ks : List Record} {t : Forest} → Derives Expression ks t → Single t
+expression_single d = single d
+
+-- a type that is all there is
+pub type_whole : {ks : List Record} {t : Forest} → Derives Ty ks t → (b : List Forest) → Leads type_ b ks none [] t
+unfolding Claim
+type_whole d b = with_bounds_way (rw (append-nil, none-⧺) at (claim d true b none [] (record { next = refl })))
+
+-- a type is one node
+pub type_single : {ks : List Record} {t : Forest} → Derives Ty ks t → Single t
+type_single d = single d
+
+-- a type before what can follow it, with bounds and without
+pub type_before : {ks : List Record} {t : Forest} → Derives Ty ks t → (b : List Forest) (f : Forest) (l : List Record) → EndsType l → Leads type_ b (ks ++ l) f l (f ⧺ t)
+unfolding Claim
+type_before d b f l e = with_bounds_way (claim d true b f l e)
+
+pub type_before_no_bounds : {ks : List Record} {t : Forest} → Derives Ty ks t → (b : List Forest) (f : Forest) (l : List Record) → EndsType l → Leads type_no_bounds b (ks ++ l) f l (f ⧺ t)
+unfolding Claim
+type_before_no_bounds d b f l e = no_bounds_way (claim d false b f l e)
+
+-- statements that are all there is, with the value at their end or without
+pub contents_whole : {ks : List Record} {t : Forest} → Derives Contents ks t → (b : List Forest) →
+    Leads macro_stmts b ks none [] t
+unfolding Claim
+contents_whole d b = rw (append-nil, none-⧺) at (claim d true b none [] refl)
+
+-- a block that is all there is
+pub block_whole : {ks : List Record} {t : Forest} → Derives Block ks t → (b : List Forest) →
+    Leads block_expr b ks none [] t
+unfolding Claim
+block_whole d b = rw (append-nil, none-⧺) at (claim d b none [])
+
+-- a block, whatever follows it
+pub block_before : {ks : List Record} {t : Forest} → Derives Block ks t →
+    (b : List Forest) (f : Forest) (l : List Record) → Leads block_expr b (ks ++ l) f l (f ⧺ t)
+unfolding Claim
+block_before d b f l = claim d b f l
+
+-- a block is one node
+pub block_single : {ks : List Record} {t : Forest} → Derives Block ks t → Single t
+block_single d = single d

@@ -1,0 +1,3 @@
+pub mod Derives
+pub mod MacroCall
+pub mod Mixed

@@ -1,0 +1,4 @@
+//! Parameters of functions, of closures and of function types.
+#![tactic(auto)]
+
+pub mod params;
