@@ -1,14 +1,14 @@
 -- What each category begins with, and which are one node.
-use Rattle.std.proofs.Common.{rules, ◌≡◌, ◌⊎◌, inl, inr, ℕ, List, [], ◌∷◌, ◌++◌, Bool, true, false, refl, ap, ◌∙◌, ◌==◌, ◌||◌}
+use Rattle.std.proofs.Common.{rules, ◌≡◌, ◌⊎◌, inl, inr, ℕ, List, [], ◌∷◌, ◌++◌, Bool, true, false, refl, ap, ◌∙◌, ◌==◌, ◌||◌, ◌≢◌, append_assoc, sym}
 use Rattle.std.proofs.lemmas.Bool.{eqb-true}
-use Rattle.rap_base.specs.TokenKind.{IDENT, AMP, STAR, BANG, MINUS, COLON, EQ, L_PAREN, L_BRACK, L_CURLY, THIN_ARROW, RAW_KW, SUPER_KW, PUB_KW, MOD_KW, STRUCT_KW, FN_KW, LET_KW}
+use Rattle.rap_base.specs.TokenKind.{IDENT, AMP, STAR, BANG, MINUS, COLON, EQ, L_PAREN, L_BRACK, L_CURLY, THIN_ARROW, RAW_KW, SUPER_KW, PUB_KW, MOD_KW, STRUCT_KW, FN_KW, LET_KW, IF_KW, ELSE_KW, WHILE_KW, LOOP_KW, MUT_KW}
 use Rattle.rap_events.specs.Record.{Record, next_kind}
 use Rattle.rap_events.specs.Composite.{parts}
 use Rattle.rap_events.specs.Forest.{Forest, none, node}
-use Rattle.rap_core.specs.Derives.{IsName, Is, Writes, IsOneOf, IsLiteral, Touching, tokens_of, Category, Maybe, Many, Elements, Expression, Binary, Unary, Postfix, Arguments, Atom, Path, Segment, Reference, Ty, Name, Bind, Visibility, Annotation, Value, Statement, Contents, Block, Item, Items, Fields, Field, Tuple, TupleField, Params, Param, Return, File, Derives, maybe_none, maybe_some, many_none, many_more, element_last, element_comma, element_more, reference, segment, path_one, path_more, atom_literal, atom_path, atom_paren, postfix_atom, postfix_call, postfix_index, postfix_try, postfix_field, postfix_number, postfix_method, argument_list, unary_prefix, unary_ref, unary_ref_mut, unary_postfix, binary_unary, binary_tighter, binary_operator, expression_binary, expression_assign, type_path, type_ref, type_ref_mut, type_slice, name_given, bind_name, visibility_pub, annotation_type, value_given, statement_let, statement_expression, contents_of, block_of, item_module, item_module_of, item_struct, item_struct_fields, item_struct_tuple, item_function, items_of, fields_of, field_named, tuple_of, tuple_field, params_of, param_typed, return_type, file_of}
-use Rattle.rap_rules.specs.First.{is_operand, is_atom, is_literal_first, one_of}
+use Rattle.rap_core.specs.Derives.{IsName, Is, Writes, IsOneOf, IsLiteral, Touching, tokens_of, Category, Maybe, Many, Elements, Expression, Binary, Unary, Postfix, Arguments, Atom, Path, Segment, Reference, Ty, Name, Bind, Visibility, Annotation, Value, Statement, Contents, Block, Item, Items, Fields, Field, Tuple, TupleField, Params, Param, Return, File, Derives, maybe_none, maybe_some, many_none, many_more, element_last, element_comma, element_more, reference, segment, path_one, path_more, atom_literal, atom_path, atom_paren, postfix_atom, postfix_call, postfix_index, postfix_try, postfix_field, postfix_number, postfix_method, argument_list, unary_prefix, unary_ref, unary_ref_mut, unary_postfix, binary_unary, binary_tighter, binary_operator, expression_binary, expression_assign, type_path, type_ref, type_ref_mut, type_slice, name_given, bind_name, visibility_pub, annotation_type, value_given, statement_let, statement_expression, block_of, item_module, item_module_of, item_struct, item_struct_fields, item_struct_tuple, item_function, items_of, fields_of, field_named, tuple_of, tuple_field, params_of, param_typed, return_type, file_of, statement_block, contents_none, contents_value, contents_block, contents_statement, contents_block_before, with_block, with_if, with_while, with_loop, if_of, else_block, else_if, atom_block, WithBlock, If, Else, begins_block, starts_with_block}
+use Rattle.rap_rules.specs.First.{is_literal_first, one_of}
 use Rattle.rap_rules.specs.Words.{reads_as, starts_builtin}
-use Rattle.rap_core.proofs.Operators.{differ}
+use Rattle.rap_core.proofs.Operators.{differ, is_operand, is_atom, differ_back}
 use Rattle.rap_core.proofs.Ways.{Single}
 use Rattle.rap_rules.proofs.Steps.{and_false}
 
@@ -44,6 +44,9 @@ Begins Value k = k == EQ
 Begins Statement k = begins_statement k
 Begins Contents k = begins_statement k
 Begins Block k = k == L_CURLY
+Begins WithBlock k = begins_block k
+Begins If k = k == IF_KW
+Begins Else k = k == ELSE_KW
 Begins Item k = begins_item k
 Begins Items k = k == L_CURLY
 Begins Fields k = k == L_CURLY
@@ -78,6 +81,9 @@ is_some Value = true
 is_some Statement = true
 is_some Contents = false
 is_some Block = true
+is_some WithBlock = true
+is_some If = true
+is_some Else = true
 is_some Item = true
 is_some Items = true
 is_some Fields = true
@@ -158,6 +164,18 @@ prefix_operand k h = search rules
 pub operand_statement : (k : ℕ) → is_operand k ≡ true → begins_statement k ≡ true
 operand_statement k h = search rules
 
+pub block_atom : (k : ℕ) → begins_block k ≡ true → is_atom k ≡ true
+block_atom k h = search rules
+
+pub block_operand : (k : ℕ) → begins_block k ≡ true → is_operand k ≡ true
+block_operand k h = atom_operand k (block_atom k h)
+
+curly_block : (k : ℕ) → (k == L_CURLY) ≡ true → begins_block k ≡ true
+curly_block k h = rw (eqb-true k L_CURLY h) refl
+
+if_block : (k : ℕ) → (k == IF_KW) ≡ true → begins_block k ≡ true
+if_block k h = rw (eqb-true k IF_KW h) refl
+
 name_field : (k : ℕ) → (k == IDENT) ≡ true → one_of (PUB_KW ∷ IDENT ∷ []) k ≡ true
 name_field k h = rw (eqb-true k IDENT h) refl
 
@@ -190,6 +208,7 @@ first (atom_literal {r = r} h) z =
     let k = literal_kind r h in test_first r [] is_literal_first k (literal_atom r.kind k) refl refl
 first (atom_path d) z = let f = first d refl in alone f (name_atom f.r.kind f.kind)
 first (atom_paren {a = a} {b = b} {ks = ks} o d c) z = kind_first a (ks ++ b ∷ []) L_PAREN o refl refl refl
+first (atom_block d) z = let f = first d refl in alone f (block_atom f.r.kind f.kind)
 first (postfix_atom d) z = let f = first d refl in alone f f.kind
 first (postfix_call {js = js} d n e) z = let f = first d refl in also js f f.kind
 first (postfix_index {a = a} {b = b} {js = js} d o e c) z = let f = first d refl in also (a ∷ (js ++ b ∷ [])) f f.kind
@@ -226,8 +245,21 @@ first (annotation_type {a = a} {ks = ks} o d) z = kind_first a ks COLON o refl r
 first (value_given {a = a} {ks = ks} o d) z = kind_first a ks EQ o refl refl refl
 first (statement_let {a = a} {b = b} {ks = ks} {js = js} {is = is} o d e f c) z =
     kind_first a (ks ++ (js ++ (is ++ b ∷ []))) LET_KW o refl refl refl
-first (statement_expression {a = a} d o) z = let f = first d refl in also (a ∷ []) f (operand_statement f.r.kind f.kind)
-first (contents_of d e) h = absurd (no h)
+first (statement_expression {a = a} d p o) z = let f = first d refl in also (a ∷ []) f (operand_statement f.r.kind f.kind)
+first (statement_block {a = a} d o) z =
+    let f = first d refl in also (a ∷ []) f (operand_statement f.r.kind (block_operand f.r.kind f.kind))
+first contents_none h = absurd (no h)
+first (contents_value d p) h = absurd (no h)
+first (contents_block d) h = absurd (no h)
+first (contents_statement d e) h = absurd (no h)
+first (contents_block_before d e n) h = absurd (no h)
+first (with_block d) z = let f = first d refl in alone f (curly_block f.r.kind f.kind)
+first (with_if d) z = let f = first d refl in alone f (if_block f.r.kind f.kind)
+first (with_while {a = a} {ks = ks} {js = js} o d e) z = kind_first a (ks ++ js) WHILE_KW o refl refl refl
+first (with_loop {a = a} {ks = ks} o d) z = kind_first a ks LOOP_KW o refl refl refl
+first (if_of {a = a} {ks = ks} {js = js} {is = is} o d e g) z = kind_first a (ks ++ (js ++ is)) IF_KW o refl refl refl
+first (else_block {a = a} {ks = ks} o d) z = kind_first a ks ELSE_KW o refl refl refl
+first (else_if {a = a} {ks = ks} o d) z = kind_first a ks ELSE_KW o refl refl refl
 first (block_of {a = a} {b = b} {ks = ks} o d c) z = kind_first a (ks ++ b ∷ []) L_CURLY o refl refl refl
 first (item_module {a = a} {b = b} {ks = ks} v o d c) z =
     behind_visibility a (ks ++ b ∷ []) MOD_KW v o refl refl refl refl
@@ -253,6 +285,74 @@ first (params_of {a = a} {b = b} {ks = ks} o d c) z = kind_first a (ks ++ b ∷ 
 first (param_typed {a = a} {js = js} d o e) z = let f = first d refl in also (a ∷ js) f f.kind
 first (return_type {ks = ks} w d) z = arrow_first ks w
 first (file_of d) h = absurd (no h)
+
+-- what stands in a block, where it is something
+pub contents_first : {ks : List Record} {t : Forest} → Derives Contents ks t → ks ≢ [] → First Contents ks
+contents_first contents_none n = absurd (n refl)
+contents_first (contents_value d p) n = let f = first d refl in alone f (operand_statement f.r.kind f.kind)
+contents_first (contents_block d) n =
+    let f = first d refl in alone f (operand_statement f.r.kind (block_operand f.r.kind f.kind))
+contents_first (contents_statement {js = js} d e) n = let f = first d refl in also js f f.kind
+contents_first (contents_block_before {js = js} d e m) n =
+    let f = first d refl in also js f (operand_statement f.r.kind (block_operand f.r.kind f.kind))
+
+abbrev pub before_operand : ℕ → Bool
+before_operand k = one_of (MINUS ∷ BANG ∷ STAR ∷ AMP ∷ MUT_KW ∷ []) k
+
+atom_alone : (k : ℕ) → is_atom k ≡ true → before_operand k ≡ false
+atom_alone k h =
+    rw (
+      differ_back is_atom k MINUS h refl,
+      differ_back is_atom k BANG h refl,
+      differ_back is_atom k STAR h refl,
+      differ_back is_atom k AMP h refl,
+      differ_back is_atom k MUT_KW h refl,
+    ) refl
+
+-- whether an expression begins with a block is seen by its own tokens
+settled : {ks : List Record} (l : List Record) (f : First Postfix ks) →
+    starts_with_block (ks ++ l) ≡ starts_with_block ks
+settled l f = let n = atom_alone f.r.kind f.kind in rw f.is (rw n refl)
+
+past_operator : (r : Record) (rs : List Record) → before_operand r.kind ≡ true →
+    starts_with_block (r ∷ rs) ≡ starts_with_block rs
+past_operator r rs h = rw h refl
+
+pub past_prefix : (r : Record) (rs : List Record) → IsOneOf r (MINUS ∷ BANG ∷ STAR ∷ []) →
+    starts_with_block (r ∷ rs) ≡ starts_with_block rs
+past_prefix r rs h = let e = h.among in past_operator r rs (search rules)
+
+pub past_is : (r : Record) (rs : List Record) (k : ℕ) → Is r k → before_operand k ≡ true →
+    starts_with_block (r ∷ rs) ≡ starts_with_block rs
+past_is r rs k o h = past_operator r rs (rw o.kind_is h)
+
+settled_unary : {ks : List Record} {t : Forest} → Derives Unary ks t → (l : List Record) →
+    starts_with_block (ks ++ l) ≡ starts_with_block ks
+settled_unary (unary_prefix {a = a} {ks = ks} h d) l =
+    past_prefix a (ks ++ l) h ∙ settled_unary d l ∙ sym (past_prefix a ks h)
+settled_unary (unary_ref {a = a} {ks = ks} o d) l =
+    past_is a (ks ++ l) AMP o refl ∙ settled_unary d l ∙ sym (past_is a ks AMP o refl)
+settled_unary (unary_ref_mut {a = a} {b = b} {ks = ks} o m d) l =
+    past_is a (b ∷ (ks ++ l)) AMP o refl ∙ past_is b (ks ++ l) MUT_KW m refl ∙ settled_unary d l
+    ∙ sym (past_is a (b ∷ ks) AMP o refl ∙ past_is b ks MUT_KW m refl)
+settled_unary (unary_postfix d) l = settled l (first d refl)
+
+settled_binary : {p : ℕ} {ks : List Record} {t : Forest} → Derives (Binary p) ks t → (l : List Record) →
+    starts_with_block (ks ++ l) ≡ starts_with_block ks
+settled_binary (binary_unary d) l = settled_unary d l
+settled_binary (binary_tighter h i d) l = settled_binary d l
+settled_binary (binary_operator {os = os} {js = js} h i d o e) l =
+    rw append_assoc (settled_binary d ((os ++ js) ++ l) ∙ sym (settled_binary d (os ++ js)))
+
+pub settled_expression : {ks : List Record} {t : Forest} → Derives Expression ks t → (l : List Record) →
+    starts_with_block (ks ++ l) ≡ starts_with_block ks
+settled_expression (expression_binary d) l = settled_binary d l
+settled_expression (expression_assign {os = os} {js = js} d o e) l =
+    rw append_assoc (settled_binary d ((os ++ js) ++ l) ∙ sym (settled_binary d (os ++ js)))
+
+-- a block begins so, whatever follows it
+pub block_starts : {ks : List Record} (l : List Record) → First WithBlock ks → starts_with_block (ks ++ l) ≡ true
+block_starts l f = let n = atom_alone f.r.kind (block_atom f.r.kind f.kind) in rw (f.is, n) f.kind
 
 -- the name that a path begins with
 pub record Named (ks : List Record) : Type 0 where
@@ -311,6 +411,9 @@ SingleIn Value t = Unit {0}
 SingleIn Statement t = Single t
 SingleIn Contents t = Unit {0}
 SingleIn Block t = Single t
+SingleIn WithBlock t = Single t
+SingleIn If t = Single t
+SingleIn Else t = Unit {0}
 SingleIn Item t = Single t
 SingleIn Items t = Single t
 SingleIn Fields t = Single t
@@ -331,6 +434,7 @@ single (path_more d w e) = is_node _ _
 single (atom_literal h) = is_node _ _
 single (atom_path d) = is_node _ _
 single (atom_paren o d c) = is_node _ _
+single (atom_block d) = single d
 single (postfix_atom d) = single d
 single (postfix_call d n e) = is_node _ _
 single (postfix_index d o e c) = is_node _ _
@@ -365,8 +469,20 @@ single (visibility_pub o) = is_node _ _
 single (annotation_type o d) = tt
 single (value_given o d) = tt
 single (statement_let o d e f c) = is_node _ _
-single (statement_expression d o) = is_node _ _
-single (contents_of d e) = tt
+single (statement_expression d p o) = is_node _ _
+single (statement_block d o) = is_node _ _
+single contents_none = tt
+single (contents_value d p) = tt
+single (contents_block d) = tt
+single (contents_statement d e) = tt
+single (contents_block_before d e n) = tt
+single (with_block d) = single d
+single (with_if d) = single d
+single (with_while o d e) = is_node _ _
+single (with_loop o d) = is_node _ _
+single (if_of o d e g) = is_node _ _
+single (else_block o d) = tt
+single (else_if o d) = tt
 single (block_of o d c) = is_node _ _
 single (item_module v o d c) = is_node _ _
 single (item_module_of v o d e) = is_node _ _

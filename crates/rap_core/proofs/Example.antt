@@ -1,13 +1,13 @@
 -- Expressions derived by hand, as the rows of the grammar say: a sum with a product on its right, a call whose arguments
 -- end with a comma, a field by its number, a reference, assignments, and a method's call on a path; and a block with two
--- statements and a value.
+-- statements and a value; and blocks with conditions and loops.
 use Rattle.std.proofs.Common.{ℕ, List, [], ◌∷◌, true, false, inl, refl, arith}
-use Rattle.rap_base.specs.TokenKind.{EOF, IDENT, INT_NUMBER, PLUS, STAR, EQ, L_ANGLE, SHLEQ, AMP, DOT, COLON, COLON2, COMMA, L_PAREN, R_PAREN, L_CURLY, R_CURLY, SEMICOLON, LET_KW, MUT_KW}
-use Rattle.rap_base.specs.NodeKind.{BIN_EXPR, REF_EXPR, LITERAL, PATH_EXPR, PATH, PATH_SEGMENT, NAME_REF, CALL_EXPR, METHOD_CALL_EXPR, FIELD_EXPR, ARG_LIST, NAME, IDENT_PAT, PATH_TYPE, REF_TYPE, LET_STMT, EXPR_STMT, STMT_LIST, BLOCK_EXPR}
+use Rattle.rap_base.specs.TokenKind.{EOF, IDENT, INT_NUMBER, PLUS, STAR, EQ, L_ANGLE, SHLEQ, AMP, DOT, COLON, COLON2, COMMA, L_PAREN, R_PAREN, L_CURLY, R_CURLY, SEMICOLON, LET_KW, MUT_KW, IF_KW, WHILE_KW, LOOP_KW}
+use Rattle.rap_base.specs.NodeKind.{BIN_EXPR, REF_EXPR, LITERAL, PATH_EXPR, PATH, PATH_SEGMENT, NAME_REF, CALL_EXPR, METHOD_CALL_EXPR, FIELD_EXPR, ARG_LIST, NAME, IDENT_PAT, PATH_TYPE, REF_TYPE, LET_STMT, EXPR_STMT, STMT_LIST, BLOCK_EXPR, IF_EXPR, WHILE_EXPR, LOOP_EXPR}
 use Rattle.rap_base.specs.declared.edition.Edition.TheVariants.{Edition2024}
 use Rattle.rap_events.specs.Record.{Record}
 use Rattle.rap_events.specs.Forest.{Forest, none, node, leaf}
-use Rattle.rap_core.specs.Derives.{IsOperator, Bind, Annotation, Value, Statement, Block, Segment, Postfix, Unary, Binary, Elements, Expression, IsNamedField, Derives, reference, segment, path_one, path_more, atom_literal, atom_path, postfix_atom, postfix_call, postfix_number, postfix_method, argument_list, maybe_none, maybe_some, many_none, many_more, type_path, type_ref, name_given, bind_name, annotation_type, value_given, statement_let, statement_expression, contents_of, block_of, element_comma, unary_ref_mut, unary_postfix, binary_unary, binary_tighter, binary_operator, expression_binary, expression_assign}
+use Rattle.rap_core.specs.Derives.{contents_none, contents_block_before, statement_block, with_block, with_if, with_while, with_loop, if_of, atom_block, contents_statement, contents_value, IsOperator, Bind, Annotation, Value, Statement, Block, Segment, Postfix, Unary, Binary, Elements, Expression, IsNamedField, Derives, reference, segment, path_one, path_more, atom_literal, atom_path, postfix_atom, postfix_call, postfix_number, postfix_method, argument_list, maybe_none, maybe_some, type_path, type_ref, name_given, bind_name, annotation_type, value_given, statement_let, statement_expression, block_of, element_comma, unary_ref_mut, unary_postfix, binary_unary, binary_tighter, binary_operator, expression_binary, expression_assign}
 
 -- a token, and one that touches the token after it
 abbrev token : ℕ → Record
@@ -122,7 +122,8 @@ a_let : Derives Statement (token LET_KW ∷ name ∷ token COLON ∷ token AMP �
 a_let = statement_let (record { kind_is = refl }) a_binding (maybe_some an_annotation) (maybe_some a_value) (record { kind_is = refl })
 
 a_statement : Derives Statement (name ∷ token SEMICOLON ∷ []) (node none EXPR_STMT (leaf (with_name none) SEMICOLON 1))
-a_statement = statement_expression (expression (unary_postfix a_name)) (record { kind_is = refl })
+a_statement =
+    statement_expression (expression (unary_postfix a_name)) (record { starts = refl }) (record { kind_is = refl })
 
 pub a_block : Derives Block (token L_CURLY ∷ token LET_KW ∷ name ∷ token COLON ∷ token AMP ∷ name ∷ token EQ ∷ token INT_NUMBER ∷ token SEMICOLON ∷ name ∷ token SEMICOLON ∷ name ∷ token R_CURLY ∷ [])
     (node none BLOCK_EXPR (node none STMT_LIST (leaf (with_name (node (node (leaf none L_CURLY 1)
@@ -131,5 +132,38 @@ pub a_block : Derives Block (token L_CURLY ∷ token LET_KW ∷ name ∷ token C
     EXPR_STMT (leaf (with_name none) SEMICOLON 1))) R_CURLY 1)))
 a_block =
     block_of (record { kind_is = refl })
-    (contents_of (many_more a_let (many_more a_statement many_none)) (maybe_some (expression (unary_postfix a_name))))
+    (contents_statement a_let (contents_statement a_statement (contents_value (expression (unary_postfix a_name)) (record { starts = refl }))))
     (record { kind_is = refl })
+
+-- an empty block after a forest
+abbrev with_empty : Forest → Forest
+with_empty f = node f BLOCK_EXPR (node none STMT_LIST (leaf (leaf none L_CURLY 1) R_CURLY 1))
+
+empty_block : Derives Block (token L_CURLY ∷ token R_CURLY ∷ []) (with_empty none)
+empty_block = block_of (record { kind_is = refl }) contents_none (record { kind_is = refl })
+
+-- a condition that a block needs no semicolon behind, before the value of that block
+pub a_condition_before : Derives Block (token L_CURLY ∷ token IF_KW ∷ name ∷ token L_CURLY ∷ token R_CURLY ∷ name ∷ token R_CURLY ∷ [])
+    (node none BLOCK_EXPR (node none STMT_LIST (leaf (with_name (node (leaf none L_CURLY 1)
+    EXPR_STMT (node none IF_EXPR (with_empty (with_name (leaf none IF_KW 1)))))) R_CURLY 1)))
+a_condition_before =
+    block_of (record { kind_is = refl })
+    (contents_block_before (with_if (if_of (record { kind_is = refl }) (expression (unary_postfix a_name)) empty_block maybe_none))
+    (contents_value (expression (unary_postfix a_name)) (record { starts = refl })) (λ e. cc))
+    (record { kind_is = refl })
+
+-- a loop with its semicolon
+pub a_loop : Derives Block (token L_CURLY ∷ token LOOP_KW ∷ token L_CURLY ∷ token R_CURLY ∷ token SEMICOLON ∷ token R_CURLY ∷ [])
+    (node none BLOCK_EXPR (node none STMT_LIST (leaf (node (leaf none L_CURLY 1)
+    EXPR_STMT (leaf (node none LOOP_EXPR (with_empty (leaf none LOOP_KW 1))) SEMICOLON 1)) R_CURLY 1)))
+a_loop =
+    block_of (record { kind_is = refl })
+    (contents_statement (statement_block (with_loop (record { kind_is = refl }) empty_block) (record { kind_is = refl })) contents_none)
+    (record { kind_is = refl })
+
+-- a loop as an expression, and a block in the place of its condition
+pub a_while : Derives Expression (token WHILE_KW ∷ token L_CURLY ∷ token R_CURLY ∷ token L_CURLY ∷ token R_CURLY ∷ [])
+    (node none WHILE_EXPR (with_empty (with_empty (leaf none WHILE_KW 1))))
+a_while =
+    expression (unary_postfix (postfix_atom (atom_block (with_while (record { kind_is = refl })
+    (expression (unary_postfix (postfix_atom (atom_block (with_block empty_block))))) empty_block))))

@@ -3,6 +3,7 @@ pub mod Complete
 pub mod Example
 pub mod ItemWays
 pub mod Items
+pub mod Larger
 pub mod Lists
 pub mod MacroCalls
 pub mod Operators

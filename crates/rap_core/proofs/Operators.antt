@@ -1,13 +1,13 @@
 -- Each operator is seen where its tokens stand before an operand.
 use Rattle.rap_rules.proofs.Steps.{and_false}
-use Rattle.std.proofs.Common.{◌≡◌, ◌≢◌, ℕ, ◌<◌, List, [], ◌∷◌, ◌++◌, drop, length, Bool, true, false, not, refl, ap, sym, ◌∙◌, arith, ◌==◌, ◌&&◌, ◌⊎◌, inl, inr}
+use Rattle.std.proofs.Common.{◌≡◌, ◌≢◌, ℕ, ◌<◌, List, [], ◌∷◌, ◌++◌, drop, length, Bool, true, false, not, refl, ap, sym, ◌∙◌, arith, ◌==◌, ◌&&◌, ◌||◌, ◌⊎◌, rules, inl, inr}
 use Rattle.std.proofs.lemmas.Bool.{eqb-true, eq-eqb, ne_eqb}
-use Rattle.rap_base.specs.TokenKind.{EOF, EQ, PLUSEQ, MINUSEQ, STAREQ, SLASHEQ, PERCENTEQ, CARETEQ, AMPEQ, PIPEEQ, SHLEQ, SHREQ, DOT, DOT2, DOT2EQ, PIPE2, AMP2, EQ2, NEQ, L_ANGLE, R_ANGLE, LTEQ, GTEQ, PIPE, CARET, AMP, SHL, SHR, PLUS, MINUS, STAR, SLASH, PERCENT, BANG, AS_KW, L_PAREN, L_CURLY, L_BRACK, QUESTION, COLON}
+use Rattle.rap_base.specs.TokenKind.{EOF, EQ, PLUSEQ, MINUSEQ, STAREQ, SLASHEQ, PERCENTEQ, CARETEQ, AMPEQ, PIPEEQ, SHLEQ, SHREQ, DOT, DOT2, DOT2EQ, PIPE2, AMP2, EQ2, NEQ, L_ANGLE, R_ANGLE, LTEQ, GTEQ, PIPE, CARET, AMP, SHL, SHR, PLUS, MINUS, STAR, SLASH, PERCENT, BANG, AS_KW, L_PAREN, L_CURLY, L_BRACK, QUESTION, COLON, IF_KW, ELSE_KW, WHILE_KW, LOOP_KW}
 use Rattle.rap_events.specs.Record.{Record, next_kind}
 use Rattle.rap_events.specs.Composite.{parts, width, width_of, is_at, is_first, begins_with}
 use Rattle.rap_events.specs.OperatorTable.{powers}
 use Rattle.rap_events.specs.Power.{power, power_in}
-use Rattle.rap_rules.specs.First.{is_operand, one_of}
+use Rattle.rap_rules.specs.First.{is_literal_first, is_path_name, one_of}
 use Rattle.rap_rules.specs.Operator.{operator_at}
 use Rattle.rap_rules.specs.TokenTree.{starts_macro_call}
 use Rattle.rap_core.specs.Derives.{Touching, tokens_of, Writes, IsOperator}
@@ -19,6 +19,16 @@ differ test a b h k = ne_eqb a b (λ e. let x : true ≡ false = sym h ∙ ap te
 -- the same the other way round
 pub differ_back : (test : ℕ → Bool) (a b : ℕ) → test a ≡ true → test b ≡ false → (b == a) ≡ false
 differ_back test a b h k = ne_eqb b a (λ e. let x : true ≡ false = sym h ∙ ap test (sym e) ∙ k in cc)
+
+-- a literal, a name, a parenthesis, or what begins a block, a condition or a loop: an expression without an operator
+-- before it begins
+abbrev pub is_atom : ℕ → Bool
+is_atom k =
+    is_literal_first k || (is_path_name k || one_of (L_PAREN ∷ L_CURLY ∷ IF_KW ∷ WHILE_KW ∷ LOOP_KW ∷ []) k)
+
+-- the same, or an operator before an operand
+abbrev pub is_operand : ℕ → Bool
+is_operand k = is_atom k || one_of (AMP ∷ STAR ∷ BANG ∷ MINUS ∷ []) k
 
 -- an operand's first token is no part of an operator but `&`, `*`, `!` and `-`
 no_more : (k : ℕ) (ks : List ℕ) (rs : List Record) → is_operand (next_kind rs) ≡ true → is_operand k ≡ false → begins_with (k ∷ ks) rs ≡ false
@@ -80,19 +90,26 @@ lead_is (k ∷ []) (r ∷ []) rest h = h
 lead_is (k ∷ []) (r ∷ s ∷ os) rest h = absurd h
 lead_is (k ∷ j ∷ ks) (r ∷ os) rest h = h.0
 
--- a token that goes on with no operand directly: neither a call, an index, the fields of a record, a `?`, a `.` nor a
--- `::`; and no macro call
-abbrev pub is_calm : ℕ → Bool
-is_calm k = not (one_of (L_PAREN ∷ L_CURLY ∷ L_BRACK ∷ QUESTION ∷ DOT ∷ COLON ∷ []) k)
+-- a token that goes on with no operand directly: neither a call, an index, a `?`, a `.`, a `::` nor an `else`, nor,
+-- where a record literal may stand, its fields
+abbrev pub is_calm : Bool → ℕ → Bool
+is_calm forbid k =
+    not (one_of (L_PAREN ∷ L_BRACK ∷ QUESTION ∷ DOT ∷ COLON ∷ ELSE_KW ∷ []) k) && not (not forbid && (k == L_CURLY))
 
-pub record Calm (rs : List Record) : Type 0 where
-  pub kind : is_calm (next_kind rs) ≡ true
+-- such a token, and no macro call
+pub record Calm (forbid : Bool) (rs : List Record) : Type 0 where
+  pub kind : is_calm forbid (next_kind rs) ≡ true
   pub macro : starts_macro_call rs ≡ false
+
+-- where record literals may stand, less goes on with no operand
+pub calm_so : (forbid : Bool) (k : ℕ) → is_calm false k ≡ true → is_calm forbid k ≡ true
+calm_so false k h = h
+calm_so true k h = search rules
 
 -- This operator is seen before an operand, unless it begins a range or a cast.
 record Seen (op : ℕ) : Type 0 where
   at : power op ≢ 2 → power op < 12 → (os rest : List Record) → Touching (tokens_of (parts op) op) os → is_operand (next_kind rest) ≡ true → (op ≡ AMP → next_kind rest ≡ AMP → (r : Record) → os ≡ r ∷ [] → r.joint ≢ true) → operator_at (os ++ rest) ≡ op
-  calm : power op ≢ 2 → power op < 12 → is_calm (lead (tokens_of (parts op) op)) ≡ true
+  calm : power op ≢ 2 → power op < 12 → is_calm false (lead (tokens_of (parts op) op)) ≡ true
   bang : ((lead (tokens_of (parts op) op) == BANG) ≡ false) ⊎ (op ≡ NEQ)
 
 is_eq : (r : Record) (rest : List Record) → r.kind ≡ EQ → is_operand (next_kind rest) ≡ true → operator_at (r ∷ rest) ≡ EQ
@@ -333,7 +350,7 @@ pub record OperatorAt (os : List Record) (op p : ℕ) (rest : List Record) : Typ
   pub power_is : power op ≡ p
   pub first : is_at op (os ++ rest) ≡ true
   pub past : drop (width op) (os ++ rest) ≡ rest
-  pub calm : Calm (os ++ rest)
+  pub calm : (forbid : Bool) → Calm forbid (os ++ rest)
 
 pub operator_seen : {p op : ℕ} {os js : List Record} (rest : List Record) → next_kind rest ≡ next_kind js → is_operand (next_kind rest) ≡ true → 0 < p → p ≢ 2 → p < 12 → IsOperator os op p js → OperatorAt os op p rest
 operator_seen {p = p} {op = op} {os = os} rest same h lo mid hi o =
@@ -348,5 +365,10 @@ operator_seen {p = p} {op = op} {os = os} rest same h lo mid hi o =
       power_is = e;
       first = written_first rest o.writes;
       past = written_past rest o.writes;
-      calm = record { kind = rw (lead_is (tokens_of (parts op) op) os rest w) (s.calm no_range no_cast); macro = no_macro rest o.writes s.bang };
+      calm = λ forbid.
+          let k = lead (tokens_of (parts op) op) in
+          record {
+            kind = rw (lead_is (tokens_of (parts op) op) os rest w) (calm_so forbid k (s.calm no_range no_cast));
+            macro = no_macro rest o.writes s.bang;
+          };
     }

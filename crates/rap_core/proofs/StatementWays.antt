@@ -1,6 +1,6 @@
 -- How the scripts of statements and blocks run over tokens that are known.
-use Rattle.std.proofs.Common.{rules, ◌≡◌, ℕ, List, [], ◌∷◌, Bool, true, false, refl, ◌==◌}
-use Rattle.rap_base.specs.TokenKind.{EOF, IDENT, PUB_KW, EXTERN_KW, USE_KW, MOD_KW, TYPE_KW, STRUCT_KW, ENUM_KW, MACRO_KW, CONST_KW, STATIC_KW, UNION_KW, MACRO_RULES_KW, BUILTIN_KW, IMPL_KW, ASYNC_KW, GEN_KW, UNSAFE_KW, AUTO_KW, DEFAULT_KW, FN_KW, TRAIT_KW, LET_KW, SUPER_KW, L_CURLY, R_CURLY, L_PAREN, COLON, COLON2, EQ, SEMICOLON, AT, PIPE, DOT, BANG, POUND, INNER_DOC_COMMENT}
+use Rattle.std.proofs.Common.{rules, ◌≡◌, ℕ, List, [], ◌∷◌, Bool, true, false, not, refl, ◌==◌}
+use Rattle.rap_base.specs.TokenKind.{EOF, IDENT, PUB_KW, EXTERN_KW, USE_KW, MOD_KW, TYPE_KW, STRUCT_KW, ENUM_KW, MACRO_KW, CONST_KW, STATIC_KW, UNION_KW, MACRO_RULES_KW, BUILTIN_KW, IMPL_KW, ASYNC_KW, GEN_KW, UNSAFE_KW, AUTO_KW, DEFAULT_KW, FN_KW, TRAIT_KW, LET_KW, SUPER_KW, L_CURLY, R_CURLY, ELSE_KW, L_PAREN, COLON, COLON2, EQ, SEMICOLON, AT, PIPE, DOT, BANG, POUND, INNER_DOC_COMMENT, QUESTION, L_BRACK, STAR, AMP, MINUS}
 use Rattle.rap_base.specs.NodeKind.{IDENT_PAT, NAME, LET_STMT, EXPR_STMT, STMT_LIST, BLOCK_EXPR}
 use Rattle.rap_events.specs.Record.{Record, next_kind, kind_at}
 use Rattle.rap_events.specs.Composite.{is_at}
@@ -9,8 +9,8 @@ use Rattle.rap_core.specs.Derives.{IsName}
 use Rattle.rap_rules.specs.Attributes.{inner_attrs}
 use Rattle.rap_rules.specs.Blocks.{let_type, let_value, let_else, let_end, let_stmt, statements, expr_block_contents, stmt_list, block_expr}
 use Rattle.rap_rules.specs.Called.{expr, type_, pattern, as_statement}
-use Rattle.rap_rules.specs.Expressions.{expr_from, expr_bp}
-use Rattle.rap_rules.specs.First.{is_operand, is_expr_first, one_of}
+use Rattle.rap_rules.specs.Expressions.{expr_from, expr_bp, lhs, postfix_expr}
+use Rattle.rap_rules.specs.First.{is_expr_first, one_of}
 use Rattle.rap_rules.specs.Grammar.{name_r}
 use Rattle.rap_rules.specs.Patterns.{binding, at_pattern, ident_pat, atom_pat, range_op, pattern_single_r, pattern_r}
 use Rattle.rap_rules.specs.Recovery.{is_pattern_recovery}
@@ -20,16 +20,18 @@ use Rattle.rap_rules.specs.declared.arguments.Restrictions.{Restrictions}
 use Rattle.rap_rules.specs.declared.arguments.Semicolon.{Semicolon}
 use Rattle.rap_rules.specs.declared.arguments.Semicolon.TheVariants as semicolon
 use Rattle.rap_rules.proofs.OneEnd.{one_end}
-use Rattle.rap_rules.specs.Items.{opt_item, opt_item_without_modifiers, opt_item_by_name, opt_item_with_modifiers, opt_modified_item, refuse}
+use Rattle.rap_rules.specs.Items.{opt_item, opt_item_without_modifiers, opt_item_by_name, opt_item_with_modifiers, opt_modified_item, refuse, opt_extern_block}
 use Rattle.rap_rules.specs.Knot.{script_of}
 use Rattle.rap_rules.specs.Modifiers.{opt_impl_restriction, modifier, modifier_as, qualifiers, safety, opt_abi, opt_default, auto_or_default, modifiers}
 use Rattle.rap_rules.specs.Phrase.{Phrase}
-use Rattle.rap_rules.specs.Script.{Script, Outcome, nothing, something, again, give, test, Runs, after, gives, passes, fails, takes, starts, finishes, abandons, follows, obeys, turns, stops}
+use Rattle.rap_rules.specs.Script.{Script, Outcome, nothing, something, again, give, test, Runs, after, gives, passes, fails, takes, starts, finishes, abandons, follows, obeys, turns, stops, block, extends}
 use Rattle.rap_rules.specs.Visibility.{opt_visibility}
 use Rattle.rap_rules.specs.Words.{next_is, reads_as}
 use Rattle.rap_core.proofs.Begins.{Plain, not_read, begins_statement}
-use Rattle.rap_core.proofs.Operators.{differ, differ_back}
-use Rattle.rap_core.proofs.Ways.{Leads, LeadsOut, Single, attributed, precedes_one, not_first, kind_at_first, no_attributes, differ_attributes}
+use Rattle.rap_rules.specs.Atom.{atom_expr, plain_block}
+use Rattle.rap_rules.proofs.Steps.{and_false}
+use Rattle.rap_core.proofs.Operators.{differ, differ_back, is_atom, is_operand}
+use Rattle.rap_core.proofs.Ways.{Leads, LeadsOut, Single, attributed, precedes_one, not_first, kind_at_first, no_attributes, differ_attributes, extended_one}
 
 -- a script does nothing here, and answers so
 abbrev pub Passes : Script Phrase → List Forest → List Record → Forest → Outcome → Type 0
@@ -97,13 +99,20 @@ no_modifiers {r = r} o p =
     (follows (no_safety o) (follows (fails (differ is_operand r.kind EXTERN_KW o refl) gives)
     (follows (no_auto_or_default o p) gives))))
 
+-- no `extern` stands before a brace
+no_extern_block : (brace : Bool) {b : List Forest} {rs : List Record} {f : Forest} → (next_kind rs == L_CURLY) ≡ brace →
+    Passes (test (next_is L_CURLY) (opt_extern_block false) (give nothing)) b rs f nothing
+unfolding opt_extern_block
+no_extern_block true e = passes e gives
+no_extern_block false e = fails e gives
+
 no_modified_item : {b : List Forest} {r : Record} {rs : List Record} {f : Forest} → is_operand r.kind ≡ true →
     Passes (opt_item_with_modifiers false) b (r ∷ rs) f nothing
 unfolding opt_item_with_modifiers
-no_modified_item {r = r} o =
+no_modified_item {r = r} {rs = rs} o =
     let n : (k : ℕ) → is_operand k ≡ false → (r.kind == k) ≡ false = λ k h. differ is_operand r.kind k o h in
     fails (n FN_KW refl) (fails (n CONST_KW refl) (fails (n STATIC_KW refl) (fails (n TRAIT_KW refl)
-    (fails (n IMPL_KW refl) (fails (n TYPE_KW refl) (fails (n L_CURLY refl) gives))))))
+    (fails (n IMPL_KW refl) (fails (n TYPE_KW refl) (no_extern_block (r.kind == L_CURLY) refl))))))
 
 -- no item begins with an operand's first token
 pub no_item : {b : List Forest} {r : Record} {rs : List Record} {f : Forest} → is_operand r.kind ≡ true → Plain r →
@@ -259,6 +268,94 @@ semicolon_way false {f = f} o p s h x c =
     expr_stmt_way semicolon.Required o p s x (fails (rw c refl)
     (precedes_one f h (follows (passes (rw c refl) (takes (rw c refl) gives)) (finishes gives))))
 
+-- what can follow a block at the beginning of a statement: nothing that makes it an operand
+abbrev pub ends_block_statement : ℕ → Bool
+ends_block_statement k = not (one_of (DOT ∷ QUESTION ∷ ELSE_KW ∷ []) k)
+
+block_ends : {b : List Forest} {rs : List Record} {f : Forest} → ends_block_statement (next_kind rs) ≡ true →
+    Passes (postfix_expr false true) b rs f block
+unfolding postfix_expr
+block_ends {rs = rs} e =
+    let k = next_kind rs in
+    stops (fails (and_false (k == L_PAREN)) (fails (and_false (k == L_BRACK))
+    (fails (rw (differ ends_block_statement k DOT e refl) refl)
+    (fails (differ ends_block_statement k QUESTION e refl) gives)))) refl
+
+block_lhs : {b : List Forest} {rs l : List Record} {f x : Forest} → is_atom (next_kind rs) ≡ true →
+    Runs script_of (atom_expr as_statement) (record { rest = rs; forest = f; below = b })
+    (record { rest = l; forest = x; below = b }) block →
+    ends_block_statement (next_kind l) ≡ true →
+    Runs script_of (lhs as_statement) (record { rest = rs; forest = f; below = b })
+    (record { rest = l; forest = x; below = b }) block
+unfolding lhs
+block_lhs {rs = rs} k x e =
+    let n = next_kind rs in
+    let d = differ is_atom n DOT k refl in
+    fails (differ is_atom n AMP k refl)
+    (fails (rw (differ_back is_atom n STAR k refl, differ_back is_atom n BANG k refl, differ_back is_atom n MINUS k refl)
+    refl)
+    (fails (not_first DOT (DOT ∷ EQ ∷ []) rs d) (fails (not_first DOT (DOT ∷ []) rs d) (follows x (block_ends e)))))
+
+block_from : {b : List Forest} {rs m : List Record} {f t : Forest} → is_atom (next_kind rs) ≡ true → Single t →
+    Runs script_of (atom_expr as_statement) (record { rest = rs; forest = none; below = f ∷ b })
+    (record { rest = m; forest = t; below = f ∷ b }) block →
+    ends_block_statement (next_kind m) ≡ true →
+    Runs script_of (expr_from as_statement 1) (record { rest = rs; forest = none; below = f ∷ b })
+    (record { rest = m; forest = f ⧺ t; below = b }) block
+unfolding expr_from
+block_from {rs = rs} {f = f} {t = t} a h x e =
+    let o : is_operand (next_kind rs) ≡ true = search rules in
+    let first : is_expr_first (next_kind rs) ≡ true = search rules in
+    passes first (follows (block_lhs a x e) (extends (rw (extended_one f t h) gives)))
+
+-- a block, or what has one, as the beginning of a statement
+block_stmt_way : (semi : Semicolon) {b : List Forest} {r : Record} {rs l m : List Record} {f t g : Forest} →
+    is_atom r.kind ≡ true → Plain r → (r.kind == SUPER_KW) ≡ false → Single t →
+    Runs script_of (atom_expr as_statement) (record { rest = r ∷ rs; forest = none; below = f ∷ b })
+    (record { rest = m; forest = t; below = f ∷ b }) block →
+    ends_block_statement (next_kind m) ≡ true → Leads (expr_stmt_end semi true) b m (f ⧺ t) l g →
+    Leads (stmt semi) b (r ∷ rs) f l g
+unfolding stmt expr_as_stmt expr_bp
+block_stmt_way semi {r = r} {rs = rs} a p s h x e y =
+    let k = r.kind in
+    let o : is_operand k ≡ true = search rules in
+    let first : is_expr_first k ≡ true = search rules in
+    fails (differ is_operand k SEMICOLON o refl) (starts (follows (no_attributes (differ_attributes k o))
+    (fails (rw (differ is_operand k LET_KW o refl, s) refl) (follows (no_item o p)
+    (passes first (follows (block_from a h x e) y))))))
+
+-- with its semicolon
+pub block_semicolon_way : (optional : Bool) {b : List Forest} {r c : Record} {rs l : List Record} {f t : Forest} →
+    is_atom r.kind ≡ true → Plain r → (r.kind == SUPER_KW) ≡ false → Single t →
+    Runs script_of (atom_expr as_statement) (record { rest = r ∷ rs; forest = none; below = f ∷ b })
+    (record { rest = c ∷ l; forest = t; below = f ∷ b }) block →
+    c.kind ≡ SEMICOLON → Leads (stmt (semicolon_of optional)) b (r ∷ rs) f l (node f EXPR_STMT (leaf t SEMICOLON 1))
+unfolding expr_stmt_end expr_semicolon
+block_semicolon_way true {f = f} a p s h x c =
+    block_stmt_way semicolon.Optional a p s h x (rw c refl) (fails (rw c refl)
+    (precedes_one f h (follows (passes (rw c refl) (takes (rw c refl) gives)) (finishes gives))))
+block_semicolon_way false {f = f} a p s h x c =
+    block_stmt_way semicolon.Required a p s h x (rw c refl) (fails (rw c refl)
+    (precedes_one f h (follows (passes (rw c refl) (takes (rw c refl) gives)) (finishes gives))))
+
+-- before another statement, or before the value of its block
+pub block_before_way : (optional : Bool) {b : List Forest} {r : Record} {rs l : List Record} {f t : Forest} →
+    is_atom r.kind ≡ true → Plain r → (r.kind == SUPER_KW) ≡ false → Single t →
+    Runs script_of (atom_expr as_statement) (record { rest = r ∷ rs; forest = none; below = f ∷ b })
+    (record { rest = l; forest = t; below = f ∷ b }) block →
+    begins_statement (next_kind l) ≡ true → Leads (stmt (semicolon_of optional)) b (r ∷ rs) f l (node f EXPR_STMT t)
+unfolding expr_stmt_end expr_semicolon
+block_before_way true {l = l} {f = f} a p s h x e =
+    let n : (k : ℕ) → begins_statement k ≡ false → (next_kind l == k) ≡ false = λ k i.
+    differ begins_statement (next_kind l) k e i in
+    block_stmt_way semicolon.Optional a p s h x (search rules) (fails (rw (n R_CURLY refl, n EOF refl) refl)
+    (precedes_one f h (follows (fails (n SEMICOLON refl) gives) (finishes gives))))
+block_before_way false {l = l} {f = f} a p s h x e =
+    let n : (k : ℕ) → begins_statement k ≡ false → (next_kind l == k) ≡ false = λ k i.
+    differ begins_statement (next_kind l) k e i in
+    block_stmt_way semicolon.Required a p s h x (search rules) (fails (n R_CURLY refl)
+    (precedes_one f h (follows (fails (n SEMICOLON refl) gives) (finishes gives))))
+
 -- what ends the statements: the brace of their block, or the end
 abbrev pub ends_contents : Bool → ℕ
 ends_contents true = EOF
@@ -272,6 +369,16 @@ pub last_way : (optional : Bool) {b : List Forest} {r : Record} {rs l : List Rec
 unfolding expr_stmt_end
 last_way true o p s x e = expr_stmt_way semicolon.Optional o p s x (passes (rw e refl) gives)
 last_way false o p s x e = expr_stmt_way semicolon.Required o p s x (passes (rw e refl) gives)
+
+-- a block that is the value of another
+pub block_last_way : (optional : Bool) {b : List Forest} {r : Record} {rs l : List Record} {f t : Forest} →
+    is_atom r.kind ≡ true → Plain r → (r.kind == SUPER_KW) ≡ false → Single t →
+    Runs script_of (atom_expr as_statement) (record { rest = r ∷ rs; forest = none; below = f ∷ b })
+    (record { rest = l; forest = t; below = f ∷ b }) block →
+    next_kind l ≡ ends_contents optional → Leads (stmt (semicolon_of optional)) b (r ∷ rs) f l (f ⧺ t)
+unfolding expr_stmt_end
+block_last_way true a p s h x e = block_stmt_way semicolon.Optional a p s h x (rw e refl) (passes (rw e refl) gives)
+block_last_way false a p s h x e = block_stmt_way semicolon.Required a p s h x (rw e refl) (passes (rw e refl) gives)
 
 -- the statements of a block, and those of a macro
 abbrev pub contents : Bool → Script Phrase
@@ -302,8 +409,14 @@ no_inner_attributes h i = stops (fails (rw (h, i) refl) gives) refl
 pub block_way : {b : List Forest} {a c : Record} {rs l : List Record} {f x : Forest} → a.kind ≡ L_CURLY →
     (next_kind rs == INNER_DOC_COMMENT) ≡ false → (next_kind rs == POUND) ≡ false →
     Leads statements (none ∷ f ∷ b) rs (leaf none L_CURLY 1) (c ∷ l) x → c.kind ≡ R_CURLY →
-    Leads block_expr b (a ∷ rs) f l (node f BLOCK_EXPR (node none STMT_LIST (leaf x R_CURLY 1)))
-unfolding block_expr stmt_list expr_block_contents
+    Leads plain_block b (a ∷ rs) f l (node f BLOCK_EXPR (node none STMT_LIST (leaf x R_CURLY 1)))
+unfolding plain_block stmt_list expr_block_contents
 block_way e h i x c =
-    passes (rw e refl) (starts (follows (starts (takes (rw e refl) (follows (follows (no_inner_attributes h i) x)
-    (passes (rw c refl) (takes (rw c refl) (finishes gives)))))) (finishes gives)))
+    starts (follows (starts (takes (rw e refl) (follows (follows (no_inner_attributes h i) x)
+    (passes (rw c refl) (takes (rw c refl) (finishes gives)))))) (finishes gives))
+
+-- a block where only one may be
+pub block_expr_way : {b : List Forest} {rs l : List Record} {f x : Forest} → next_kind rs ≡ L_CURLY →
+    Leads plain_block b rs f l x → Leads block_expr b rs f l x
+unfolding block_expr plain_block
+block_expr_way e x = passes (rw e refl) x

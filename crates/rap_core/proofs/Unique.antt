@@ -1,11 +1,12 @@
 -- The same tokens have at most one tree, without a message, and it stands for each of them; and balanced tokens stand in
 -- theirs.
 use Rattle.std.proofs.Common.{◌≡◌, ◌+◌, ◌≤◌, ℕ, List, [], ◌∷◌, ◌++◌, length, length-append, true, false, refl, ap, arith}
-use Rattle.rap_base.specs.TokenKind.{AMP, EQ, COLON, COLON2, COMMA, DOT, THIN_ARROW, L_PAREN, L_BRACK, L_CURLY, MUT_KW, MOD_KW, STRUCT_KW, FN_KW, LET_KW}
+use Rattle.rap_base.specs.TokenKind.{AMP, EQ, COLON, COLON2, COMMA, DOT, THIN_ARROW, L_PAREN, L_BRACK, L_CURLY, MUT_KW, MOD_KW, STRUCT_KW, FN_KW, LET_KW, IF_KW, ELSE_KW, WHILE_KW, LOOP_KW}
+use Rattle.rap_base.specs.NodeKind.{EXPR_STMT}
 use Rattle.rap_events.specs.Record.{Record}
 use Rattle.rap_events.specs.Composite.{parts, width, width_of}
 use Rattle.rap_events.specs.Forest.{Forest, none, node, leaf, message, split, ◌⧺◌, message_count, used, ends_in_dot, one_tree}
-use Rattle.rap_core.specs.Derives.{Touching, tokens_of, Writes, Derives, Category, Expression, Ty, Contents, Block, maybe_none, maybe_some, many_none, many_more, element_last, element_comma, element_more, reference, segment, path_one, path_more, atom_literal, atom_path, atom_paren, postfix_atom, postfix_call, postfix_index, postfix_try, postfix_field, postfix_number, postfix_method, argument_list, unary_prefix, unary_ref, unary_ref_mut, unary_postfix, binary_unary, binary_tighter, binary_operator, expression_binary, expression_assign, type_path, type_ref, type_ref_mut, type_slice, name_given, bind_name, visibility_pub, annotation_type, value_given, statement_let, statement_expression, contents_of, block_of, Many, Item, item_module, item_module_of, item_struct, item_struct_fields, item_struct_tuple, item_function, items_of, fields_of, field_named, tuple_of, tuple_field, params_of, param_typed, return_type, file_of}
+use Rattle.rap_core.specs.Derives.{statement_block, contents_none, contents_value, contents_block, contents_statement, contents_block_before, with_block, with_if, with_while, with_loop, if_of, else_block, else_if, atom_block, Touching, tokens_of, Writes, Derives, Category, Expression, Ty, Contents, Block, maybe_none, maybe_some, many_none, many_more, element_last, element_comma, element_more, reference, segment, path_one, path_more, atom_literal, atom_path, atom_paren, postfix_atom, postfix_call, postfix_index, postfix_try, postfix_field, postfix_number, postfix_method, argument_list, unary_prefix, unary_ref, unary_ref_mut, unary_postfix, binary_unary, binary_tighter, binary_operator, expression_binary, expression_assign, type_path, type_ref, type_ref_mut, type_slice, name_given, bind_name, visibility_pub, annotation_type, value_given, statement_let, statement_expression, block_of, Many, Item, item_module, item_module_of, item_struct, item_struct_fields, item_struct_tuple, item_function, items_of, fields_of, field_named, tuple_of, tuple_field, params_of, param_typed, return_type, file_of}
 use Rattle.rap_rules.specs.Balanced.{Balanced, nothing_more, token_first, list_first, in_brackets}
 use Rattle.rap_rules.specs.Script.{Spot}
 use Rattle.rap_core.proofs.Complete.{expression_whole, expression_single, type_whole, type_single, contents_whole, block_whole, block_single}
@@ -44,6 +45,7 @@ no_foreign (path_more {t = t} {u = u} d w e) = over (joined (leaf t COLON2 2) u 
 no_foreign (atom_literal h) = refl
 no_foreign (atom_path {t = t} d) = over (no_foreign d)
 no_foreign (atom_paren {t = t} o d c) = over (joined (leaf none L_PAREN 1) t refl (no_foreign d))
+no_foreign (atom_block d) = no_foreign d
 no_foreign (postfix_atom d) = no_foreign d
 no_foreign (postfix_call {t = t} {u = u} d n e) = over (joined t u (no_foreign d) (no_foreign e))
 no_foreign (postfix_index {t = t} {u = u} d o e c) = over (joined (leaf t L_BRACK 1) u (no_foreign d) (no_foreign e))
@@ -79,8 +81,21 @@ no_foreign (annotation_type {t = t} o d) = joined (leaf none COLON 1) t refl (no
 no_foreign (value_given {t = t} o d) = joined (leaf none EQ 1) t refl (no_foreign d)
 no_foreign (statement_let {t = t} {u = u} {v = v} o d e f c) =
     over (joined (leaf none LET_KW 1 ⧺ t ⧺ u) v (joined (leaf none LET_KW 1 ⧺ t) u (joined (leaf none LET_KW 1) t refl (no_foreign d)) (no_foreign e)) (no_foreign f))
-no_foreign (statement_expression d o) = over (no_foreign d)
-no_foreign (contents_of {t = t} {u = u} d e) = joined t u (no_foreign d) (no_foreign e)
+no_foreign (statement_expression d p o) = over (no_foreign d)
+no_foreign (statement_block d o) = over (no_foreign d)
+no_foreign contents_none = refl
+no_foreign (contents_value d p) = no_foreign d
+no_foreign (contents_block d) = no_foreign d
+no_foreign (contents_statement {t = t} {u = u} d e) = joined t u (no_foreign d) (no_foreign e)
+no_foreign (contents_block_before {t = t} {u = u} d e n) = joined (node none EXPR_STMT t) u (over (no_foreign d)) (no_foreign e)
+no_foreign (with_block d) = no_foreign d
+no_foreign (with_if d) = no_foreign d
+no_foreign (with_while {t = t} {u = u} o d e) = over (joined (leaf none WHILE_KW 1 ⧺ t) u (joined (leaf none WHILE_KW 1) t refl (no_foreign d)) (no_foreign e))
+no_foreign (with_loop {t = t} o d) = over (joined (leaf none LOOP_KW 1) t refl (no_foreign d))
+no_foreign (if_of {t = t} {u = u} {v = v} o d e g) =
+    over (joined (leaf none IF_KW 1 ⧺ t ⧺ u) v (joined (leaf none IF_KW 1 ⧺ t) u (joined (leaf none IF_KW 1) t refl (no_foreign d)) (no_foreign e)) (no_foreign g))
+no_foreign (else_block {t = t} o d) = joined (leaf none ELSE_KW 1) t refl (no_foreign d)
+no_foreign (else_if {t = t} o d) = joined (leaf none ELSE_KW 1) t refl (no_foreign d)
 no_foreign (block_of {t = t} o d c) = over (over (joined (leaf none L_CURLY 1) t refl (no_foreign d)))
 no_foreign (item_module {v = v} {t = t} p o d c) = over (joined (leaf v MOD_KW 1) t (no_foreign p) (no_foreign d))
 no_foreign (item_module_of {v = v} {t = t} {u = u} p o d e) = over (joined (leaf v MOD_KW 1 ⧺ t) u (joined (leaf v MOD_KW 1) t (no_foreign p) (no_foreign d)) (no_foreign e))
@@ -175,6 +190,7 @@ used-derived (path_more {ks = ks} {os = os} {js = js} {t = t} {u = u} d w e) = s
 used-derived (atom_literal h) = refl
 used-derived (atom_path d) = omega (arith, used-derived d)
 used-derived (atom_paren o d c) = simp (used-⧺, length-append) (omega (arith, used-derived d))
+used-derived (atom_block d) = used-derived d
 used-derived (postfix_atom d) = used-derived d
 used-derived (postfix_call d n e) = simp (used-⧺, length-append) (omega (arith, used-derived d, used-derived e))
 used-derived (postfix_index d o e c) = simp (used-⧺, length-append) (omega (arith, used-derived d, used-derived e))
@@ -209,8 +225,20 @@ used-derived (visibility_pub o) = refl
 used-derived (annotation_type o d) = simp used-⧺ (omega (arith, used-derived d))
 used-derived (value_given o d) = simp used-⧺ (omega (arith, used-derived d))
 used-derived (statement_let o d e f c) = simp (used-⧺, length-append) (omega (arith, used-derived d, used-derived e, used-derived f))
-used-derived (statement_expression d o) = simp length-append (omega (arith, used-derived d))
-used-derived (contents_of d e) = simp (used-⧺, length-append) (omega (arith, used-derived d, used-derived e))
+used-derived (statement_expression d p o) = simp length-append (omega (arith, used-derived d))
+used-derived (statement_block d o) = simp length-append (omega (arith, used-derived d))
+used-derived contents_none = refl
+used-derived (contents_value d p) = used-derived d
+used-derived (contents_block d) = used-derived d
+used-derived (contents_statement d e) = simp (used-⧺, length-append) (omega (arith, used-derived d, used-derived e))
+used-derived (contents_block_before d e n) = simp (used-⧺, length-append) (omega (arith, used-derived d, used-derived e))
+used-derived (with_block d) = used-derived d
+used-derived (with_if d) = used-derived d
+used-derived (with_while o d e) = simp (used-⧺, length-append) (omega (arith, used-derived d, used-derived e))
+used-derived (with_loop o d) = simp used-⧺ (omega (arith, used-derived d))
+used-derived (if_of o d e g) = simp (used-⧺, length-append) (omega (arith, used-derived d, used-derived e, used-derived g))
+used-derived (else_block o d) = simp used-⧺ (omega (arith, used-derived d))
+used-derived (else_if o d) = simp used-⧺ (omega (arith, used-derived d))
 used-derived (block_of o d c) = simp (used-⧺, length-append) (omega (arith, used-derived d))
 used-derived (item_module v o d c) = simp (used-⧺, length-append) (omega (arith, used-derived v, used-derived d))
 used-derived (item_module_of v o d e) = simp (used-⧺, length-append) (omega (arith, used-derived v, used-derived d, used-derived e))

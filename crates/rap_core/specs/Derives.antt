@@ -1,8 +1,8 @@
 -- The core grammar: which tokens make which tree.
-use Rattle.std.specs.Prelude.{◌≡◌, ◌≢◌, ◌⊎◌, ℕ, suc, List, [], ◌∷◌, ◌++◌, ◌≤◌, true}
-use Rattle.rap_base.specs.TokenKind.{EOF, EQ, L_CURLY, R_CURLY, SEMICOLON, IDENT, AMP, STAR, BANG, MINUS, DOT, COLON, COLON2, COMMA, QUESTION, THIN_ARROW, L_PAREN, R_PAREN, L_BRACK, R_BRACK, MUT_KW, PUB_KW, MOD_KW, STRUCT_KW, FN_KW, LET_KW, INT_NUMBER, TRUE_KW, FALSE_KW}
+use Rattle.std.specs.Prelude.{◌≡◌, ◌≢◌, ◌⊎◌, ℕ, suc, List, [], ◌∷◌, ◌++◌, ◌≤◌, Bool, true, false, if◌then◌else◌}
+use Rattle.rap_base.specs.TokenKind.{EOF, EQ, L_CURLY, R_CURLY, SEMICOLON, IDENT, AMP, STAR, BANG, MINUS, DOT, COLON, COLON2, COMMA, QUESTION, THIN_ARROW, L_PAREN, R_PAREN, L_BRACK, R_BRACK, MUT_KW, PUB_KW, MOD_KW, STRUCT_KW, FN_KW, LET_KW, IF_KW, ELSE_KW, WHILE_KW, LOOP_KW, INT_NUMBER, TRUE_KW, FALSE_KW}
 use Rattle.rap_base.specs.TokenTests.{is_literal}
-use Rattle.rap_base.specs.NodeKind.{BIN_EXPR, REF_EXPR, PREFIX_EXPR, LITERAL, PAREN_EXPR, PATH_EXPR, PATH, PATH_SEGMENT, NAME_REF, CALL_EXPR, INDEX_EXPR, TRY_EXPR, METHOD_CALL_EXPR, FIELD_EXPR, ARG_LIST, PATH_TYPE, REF_TYPE, SLICE_TYPE, NAME, IDENT_PAT, VISIBILITY, LET_STMT, EXPR_STMT, STMT_LIST, BLOCK_EXPR, MODULE, STRUCT, FN, ITEM_LIST, RECORD_FIELD_LIST, RECORD_FIELD, TUPLE_FIELD_LIST, TUPLE_FIELD, PARAM_LIST, PARAM, RET_TYPE, SOURCE_FILE}
+use Rattle.rap_base.specs.NodeKind.{BIN_EXPR, REF_EXPR, PREFIX_EXPR, LITERAL, PAREN_EXPR, PATH_EXPR, PATH, PATH_SEGMENT, NAME_REF, CALL_EXPR, INDEX_EXPR, TRY_EXPR, METHOD_CALL_EXPR, FIELD_EXPR, ARG_LIST, PATH_TYPE, REF_TYPE, SLICE_TYPE, NAME, IDENT_PAT, VISIBILITY, LET_STMT, EXPR_STMT, STMT_LIST, BLOCK_EXPR, IF_EXPR, WHILE_EXPR, LOOP_EXPR, MODULE, STRUCT, FN, ITEM_LIST, RECORD_FIELD_LIST, RECORD_FIELD, TUPLE_FIELD_LIST, TUPLE_FIELD, PARAM_LIST, PARAM, RET_TYPE, SOURCE_FILE}
 use Rattle.rap_events.specs.Record.{Record, next_kind}
 use Rattle.rap_events.specs.Composite.{parts, width}
 use Rattle.rap_events.specs.Forest.{Forest, none, node, leaf, ◌⧺◌}
@@ -49,12 +49,26 @@ pub record IsOperator (os : List Record) (op p : ℕ) (js : List Record) : Type 
   pub writes : Writes os op
   pub apart : op ≡ AMP → next_kind js ≡ AMP → (r : Record) → os ≡ r ∷ [] → r.joint ≢ true
 
+-- a block, or a condition or loop with blocks, by its first token
+abbrev pub begins_block : ℕ → Bool
+begins_block k = one_of (L_CURLY ∷ IF_KW ∷ WHILE_KW ∷ LOOP_KW ∷ []) k
+
+-- whether one of them begins an expression, past the operators before it
+abbrev pub starts_with_block : List Record → Bool
+starts_with_block [] = false
+starts_with_block (r ∷ rs) =
+    if one_of (MINUS ∷ BANG ∷ STAR ∷ AMP ∷ MUT_KW ∷ []) r.kind then starts_with_block rs else begins_block r.kind
+
+-- an expression that begins with none, as in a statement
+pub record StartsPlainly (ks : List Record) : Type 0 where
+  pub starts : starts_with_block ks ≡ false
+
 -- What is derived: something that may be missing; any number of something; elements with commas between them, at least
 -- one; an expression; one of operators of at least a power, 12 being above them all; one with operators before it
 -- alone; an operand with what follows it directly; the arguments of a call; an operand alone; a path, one of its
 -- segments, and that segment's name; a type; a name that is given, and the pattern that it is; `pub`; a type behind its
--- colon; a value behind its `=`; a statement; what stands in the braces of a block, and a block; an item; items in
--- braces; the fields of a struct in braces, and one of them; those in parentheses, and one of them; the parameters of a
+-- colon; a value behind its `=`; a statement; what stands in the braces of a block, and a block; a block, a condition or
+-- a loop, as an expression; a condition, and what stands behind its `else`; an item; items in braces; the fields of a struct in braces, and one of them; those in parentheses, and one of them; the parameters of a
 -- function, and one of them; the type that it gives back; a file.
 pub data Category : Type 0 where
   Maybe : Category → Category
@@ -78,6 +92,9 @@ pub data Category : Type 0 where
   Statement : Category
   Contents : Category
   Block : Category
+  WithBlock : Category
+  If : Category
+  Else : Category
   Item : Category
   Items : Category
   Fields : Category
@@ -116,6 +133,7 @@ pub data Derives : Category → List Record → Forest → Type 0 where
   atom_path : {ks : List Record} {t : Forest} → Derives Path ks t → Derives Atom ks (node none PATH_EXPR t)
   atom_paren : {a b : Record} {ks : List Record} {t : Forest} → Is a L_PAREN → Derives Expression ks t → Is b R_PAREN →
       Derives Atom (a ∷ (ks ++ b ∷ [])) (node none PAREN_EXPR (leaf (leaf none L_PAREN 1 ⧺ t) R_PAREN 1))
+  atom_block : {ks : List Record} {t : Forest} → Derives WithBlock ks t → Derives Atom ks t
   postfix_atom : {ks : List Record} {t : Forest} → Derives Atom ks t → Derives Postfix ks t
   postfix_call : {ks js : List Record} {t u : Forest} → Derives Postfix ks t → ¬ IsNamedField t →
       Derives Arguments js u →
@@ -172,13 +190,36 @@ pub data Derives : Category → List Record → Forest → Type 0 where
       Derives (Maybe Annotation) js u → Derives (Maybe Value) is v → Is b SEMICOLON →
       Derives Statement (a ∷ (ks ++ (js ++ (is ++ b ∷ []))))
       (node none LET_STMT (leaf (leaf none LET_KW 1 ⧺ t ⧺ u ⧺ v) SEMICOLON 1))
-  statement_expression : {a : Record} {ks : List Record} {t : Forest} → Derives Expression ks t → Is a SEMICOLON →
+  statement_expression : {a : Record} {ks : List Record} {t : Forest} → Derives Expression ks t → StartsPlainly ks →
+      Is a SEMICOLON →
       Derives Statement (ks ++ a ∷ []) (node none EXPR_STMT (leaf t SEMICOLON 1))
-  contents_of : {ks js : List Record} {t u : Forest} → Derives (Many Statement) ks t → Derives (Maybe Expression) js u →
+  statement_block : {a : Record} {ks : List Record} {t : Forest} → Derives WithBlock ks t → Is a SEMICOLON →
+      Derives Statement (ks ++ a ∷ []) (node none EXPR_STMT (leaf t SEMICOLON 1))
+  contents_none : Derives Contents [] none
+  contents_value : {ks : List Record} {t : Forest} → Derives Expression ks t → StartsPlainly ks → Derives Contents ks t
+  contents_block : {ks : List Record} {t : Forest} → Derives WithBlock ks t → Derives Contents ks t
+  contents_statement : {ks js : List Record} {t u : Forest} → Derives Statement ks t → Derives Contents js u →
       Derives Contents (ks ++ js) (t ⧺ u)
+  contents_block_before : {ks js : List Record} {t u : Forest} → Derives WithBlock ks t → Derives Contents js u →
+      js ≢ [] →
+      Derives Contents (ks ++ js) (node none EXPR_STMT t ⧺ u)
   block_of : {a b : Record} {ks : List Record} {t : Forest} → Is a L_CURLY → Derives Contents ks t → Is b R_CURLY →
       Derives Block (a ∷ (ks ++ b ∷ []))
       (node none BLOCK_EXPR (node none STMT_LIST (leaf (leaf none L_CURLY 1 ⧺ t) R_CURLY 1)))
+  with_block : {ks : List Record} {t : Forest} → Derives Block ks t → Derives WithBlock ks t
+  with_if : {ks : List Record} {t : Forest} → Derives If ks t → Derives WithBlock ks t
+  with_while : {a : Record} {ks js : List Record} {t u : Forest} → Is a WHILE_KW → Derives Expression ks t →
+      Derives Block js u →
+      Derives WithBlock (a ∷ (ks ++ js)) (node none WHILE_EXPR (leaf none WHILE_KW 1 ⧺ t ⧺ u))
+  with_loop : {a : Record} {ks : List Record} {t : Forest} → Is a LOOP_KW → Derives Block ks t →
+      Derives WithBlock (a ∷ ks) (node none LOOP_EXPR (leaf none LOOP_KW 1 ⧺ t))
+  if_of : {a : Record} {ks js is : List Record} {t u v : Forest} → Is a IF_KW → Derives Expression ks t →
+      Derives Block js u → Derives (Maybe Else) is v →
+      Derives If (a ∷ (ks ++ (js ++ is))) (node none IF_EXPR (leaf none IF_KW 1 ⧺ t ⧺ u ⧺ v))
+  else_block : {a : Record} {ks : List Record} {t : Forest} → Is a ELSE_KW → Derives Block ks t →
+      Derives Else (a ∷ ks) (leaf none ELSE_KW 1 ⧺ t)
+  else_if : {a : Record} {ks : List Record} {t : Forest} → Is a ELSE_KW → Derives If ks t →
+      Derives Else (a ∷ ks) (leaf none ELSE_KW 1 ⧺ t)
   item_module : {a b : Record} {is ks : List Record} {v t : Forest} → Derives (Maybe Visibility) is v → Is a MOD_KW →
       Derives Name ks t → Is b SEMICOLON →
       Derives Item (is ++ a ∷ (ks ++ b ∷ [])) (node none MODULE (leaf (leaf v MOD_KW 1 ⧺ t) SEMICOLON 1))

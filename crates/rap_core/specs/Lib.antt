@@ -1,3 +1,4 @@
 pub mod Derives
 pub mod MacroCall
 pub mod Mixed
+pub mod WithoutBlocks
