@@ -4,19 +4,19 @@ use Rattle.rap_base.specs.NodeKind.{SOURCE_FILE, MACRO_STMTS, MACRO_ITEMS}
 use Rattle.rap_base.specs.TokenKind.{SEMICOLON}
 use Rattle.rap_events.specs.Record.{Record, next_kind}
 use Rattle.rap_events.specs.Forest.{Forest, none, node, ◌⧺◌, used}
-use Rattle.rap_rules.specs.Atom.{expr}
-use Rattle.rap_rules.specs.Called.{pattern, pattern_single, type_, inner_meta}
-use Rattle.rap_core.specs.Derives.{Derives, Expression, Ty, Block, Contents, Many, Item, File, EndsExpression, EndsType}
-use Rattle.rap_core.specs.MacroCall.{IsMacroCall}
-use Rattle.rap_core.specs.Mixed.{IsFront}
+use Rattle.rap_grammar_scripts.specs.Atom.{expr}
+use Rattle.rap_grammar_scripts.specs.Called.{pattern, pattern_single, type_, inner_meta}
+use Rattle.rap_grammar_core.specs.Derives.{Derives, Expression, Ty, Block, Contents, Many, Item, File, EndsExpression, EndsType}
+use Rattle.rap_grammar_core.specs.MacroCall.{IsMacroCall}
+use Rattle.rap_grammar_core.specs.Mixed.{IsFront}
 use Rattle.rap_grammar.specs.Top.{IsTopOf, IsRootOf, top_tree}
-use Rattle.rap_rules.specs.Items.{source_file, mod_contents, item_or_macro}
-use Rattle.rap_rules.specs.Statements.{macro_stmts, stmt}
+use Rattle.rap_grammar_scripts.specs.Items.{source_file, mod_contents, item_or_macro}
+use Rattle.rap_grammar_scripts.specs.Statements.{macro_stmts, stmt}
 use Rattle.rap_grammar.specs.Part.{IsPrefixOf}
-use Rattle.rap_rules.specs.Blocks.{block_expr}
-use Rattle.rap_rules.specs.Paths.{type_path}
-use Rattle.rap_rules.specs.Visibility.{opt_visibility}
-use Rattle.rap_rules.specs.declared.arguments.Semicolon.TheVariants as semicolon
+use Rattle.rap_grammar_scripts.specs.Blocks.{block_expr}
+use Rattle.rap_grammar_scripts.specs.Paths.{type_path}
+use Rattle.rap_grammar_scripts.specs.Visibility.{opt_visibility}
+use Rattle.rap_grammar_scripts.specs.declared.arguments.Semicolon.TheVariants as semicolon
 use Rattle.ra_ap_parser.specs.declared.entry_point.PrefixEntryPoint.{PrefixEntryPoint}
 use Rattle.ra_ap_parser.specs.declared.entry_point.PrefixEntryPoint.TheVariants as prefix
 use Rattle.ra_ap_parser.specs.declared.entry_point.TopEntryPoint.{TopEntryPoint}

@@ -2,7 +2,7 @@
 use Rattle.std.specs.Prelude.{ℕ, ◌==◌, ◌&&◌, ◌||◌, if◌then◌else◌, Bool, false, [], ◌∷◌, Option, Some, None}
 use Rattle.rap_base.specs.NodeKind.{BLOCK_EXPR, RECORD_FIELD_LIST, RECORD_EXPR_FIELD_LIST, VARIANT_LIST, MATCH_ARM_LIST, USE_TREE_LIST, EXTERN_ITEM_LIST, TOKEN_TREE, ASSOC_ITEM_LIST, ITEM_LIST, IMPL, TRAIT}
 use Rattle.rap_base.specs.TokenKind.{L_CURLY}
-use Rattle.rap_rules.specs.First.{one_of}
+use Rattle.rap_grammar_scripts.specs.First.{one_of}
 use Rattle.rap_grammar.specs.Part.{part_kind}
 use Rattle.rap_grammar.specs.declared.entry.part.Part.{Part}
 

@@ -24,3 +24,7 @@ or_right false b h = h
 pub or_either : (a b : Bool) → (a || b) ≡ true → (a ≡ true) ⊎ (b ≡ true)
 or_either true b h = inl refl
 or_either false b h = inr h
+
+pub and_false : (b : Bool) → b && false ≡ false
+and_false true = refl
+and_false false = refl

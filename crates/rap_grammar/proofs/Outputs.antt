@@ -5,24 +5,24 @@ use Rattle.rap_base.specs.NodeKind.{MACRO_STMTS, SOURCE_FILE, MACRO_ITEMS}
 use Rattle.rap_events.specs.Record.{Record}
 use Rattle.rap_events.specs.Forest.{Forest, none, node, ◌⧺◌, message_count, one_tree}
 use Rattle.rap_events.specs.State.{State}
-use Rattle.rap_rules.specs.Atom.{expr}
-use Rattle.rap_rules.specs.Called.{type_}
-use Rattle.rap_core.specs.Derives.{Derives, Expression, Ty, Contents, EndsExpression, File, Many, file_of, Item}
-use Rattle.rap_rules.specs.Knot.{script_of, Follows}
-use Rattle.rap_rules.specs.Phrase.{Phrase}
-use Rattle.rap_rules.specs.Script.{Script, forests, Spot, Outcome, something, Runs}
-use Rattle.rap_rules.specs.Statements.{macro_stmts}
+use Rattle.rap_grammar_scripts.specs.Atom.{expr}
+use Rattle.rap_grammar_scripts.specs.Called.{type_}
+use Rattle.rap_grammar_core.specs.Derives.{Derives, Expression, Ty, Contents, EndsExpression, File, Many, file_of, Item}
+use Rattle.rap_grammar_scripts.specs.Knot.{script_of, Follows}
+use Rattle.rap_grammar_scripts.specs.Phrase.{Phrase}
+use Rattle.rap_grammar_scripts.specs.Script.{Script, forests, Spot, Outcome, something, Runs}
+use Rattle.rap_grammar_scripts.specs.Statements.{macro_stmts}
 use Rattle.rap_grammar.specs.Top.{IsTopOf, IsRootOf, top_tree}
-use Rattle.rap_core.proofs.Complete.{expression_whole, type_whole, contents_whole, expression_at_beginning}
-use Rattle.rap_rules.proofs.OneEnd.{Same, one_end}
-use Rattle.rap_core.proofs.Recovery.{file_begins, contents_begin}
-use Rattle.rap_core.specs.Mixed.{IsFront}
-use Rattle.rap_core.proofs.Unique.{over, unmarked, one_expression, one_type}
-use Rattle.rap_rules.specs.Items.{mod_contents, source_file}
-use Rattle.rap_core.proofs.Items.{file_whole, items_whole}
-use Rattle.rap_core.specs.MacroCall.{IsMacroCall}
-use Rattle.rap_core.proofs.Ways.{Leads}
-use Rattle.rap_core.proofs.MacroCalls.{call_file, call_whole, call_clean}
+use Rattle.rap_grammar_core.proofs.Complete.{expression_whole, type_whole, contents_whole, expression_at_beginning}
+use Rattle.rap_grammar_scripts.proofs.OneEnd.{Same, one_end}
+use Rattle.rap_grammar_core.proofs.Recovery.{file_begins, contents_begin}
+use Rattle.rap_grammar_core.specs.Mixed.{IsFront}
+use Rattle.rap_grammar_core.proofs.Unique.{over, unmarked, one_expression, one_type}
+use Rattle.rap_grammar_scripts.specs.Items.{mod_contents, source_file}
+use Rattle.rap_grammar_core.proofs.Items.{file_whole, items_whole}
+use Rattle.rap_grammar_core.specs.MacroCall.{IsMacroCall}
+use Rattle.rap_grammar_core.proofs.Ways.{Leads}
+use Rattle.rap_grammar_core.proofs.MacroCalls.{call_file, call_whole, call_clean}
 
 -- one tree is kept as it is
 top_tree-whole : (t : Forest) → one_tree t ≡ true → top_tree t [] ≡ t

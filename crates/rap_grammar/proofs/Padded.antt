@@ -4,9 +4,9 @@ use Rattle.std.proofs.Common.{◌≡◌, ℕ, ◌==◌, List, [], ◌∷◌, dro
 use Rattle.rap_events.specs.Record.{Record}
 use Rattle.rap_events.specs.Forest.{Forest, none, used}
 use Rattle.rap_events.specs.LastToken.{last_after}
-use Rattle.rap_rules.specs.Phrase.{Phrase}
-use Rattle.rap_rules.specs.Script.{Script, Outcome, Spot, Runs, gives, looks, passes, fails, ends_so, ends_else, takes, takes_any, bears, reports, skips, starts, precedes, finishes, extends, abandons, splits_dotted, splits_whole, follows, obeys, turns, stops, newest, last_under}
-use Rattle.rap_rules.proofs.OneEnd.{one_end}
+use Rattle.rap_grammar_scripts.specs.Phrase.{Phrase}
+use Rattle.rap_grammar_scripts.specs.Script.{Script, Outcome, Spot, Runs, gives, looks, passes, fails, ends_so, ends_else, takes, takes_any, bears, reports, skips, starts, precedes, finishes, extends, abandons, splits_dotted, splits_whole, follows, obeys, turns, stops, newest, last_under}
+use Rattle.rap_grammar_scripts.proofs.OneEnd.{one_end}
 use Rattle.rap_grammar.specs.Part.{IsPrefixOf}
 use Rattle.rap_grammar.specs.Top.{IsTopOf, top_tree}
 

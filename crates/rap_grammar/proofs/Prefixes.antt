@@ -4,23 +4,23 @@ use Rattle.std.proofs.lemmas.Bool.{ne_eqb}
 use Rattle.rap_base.specs.TokenKind.{SEMICOLON}
 use Rattle.rap_events.specs.Record.{Record, next_kind}
 use Rattle.rap_events.specs.Forest.{Forest, none, message_count, used}
-use Rattle.rap_rules.specs.Atom.{expr}
-use Rattle.rap_rules.specs.Called.{type_}
-use Rattle.rap_rules.specs.Blocks.{block_expr}
-use Rattle.rap_rules.specs.Items.{item_or_macro}
-use Rattle.rap_rules.specs.Phrase.{Phrase}
-use Rattle.rap_rules.specs.Script.{Script, Spot}
-use Rattle.rap_rules.specs.TokenTree.{bracketed_tokens}
-use Rattle.rap_rules.proofs.Balance.{balanced_way, balanced_clean}
-use Rattle.rap_rules.proofs.OneEnd.{one_end}
-use Rattle.rap_core.specs.Derives.{Category, Derives, Expression, Ty, Block, Item, EndsExpression, EndsType}
+use Rattle.rap_grammar_scripts.specs.Atom.{expr}
+use Rattle.rap_grammar_scripts.specs.Called.{type_}
+use Rattle.rap_grammar_scripts.specs.Blocks.{block_expr}
+use Rattle.rap_grammar_scripts.specs.Items.{item_or_macro}
+use Rattle.rap_grammar_scripts.specs.Phrase.{Phrase}
+use Rattle.rap_grammar_scripts.specs.Script.{Script, Spot}
+use Rattle.rap_grammar_scripts.specs.TokenTree.{bracketed_tokens}
+use Rattle.rap_grammar_scripts.proofs.Balance.{balanced_way, balanced_clean}
+use Rattle.rap_grammar_scripts.proofs.OneEnd.{one_end}
+use Rattle.rap_grammar_core.specs.Derives.{Category, Derives, Expression, Ty, Block, Item, EndsExpression, EndsType}
 use Rattle.rap_grammar.specs.Part.{IsPrefixOf, IsPartCore, IsWhole, IsBracketed, brackets_around, part_script}
 use Rattle.rap_grammar.specs.declared.entry.part.Part.{Part}
 use Rattle.rap_grammar.specs.declared.entry.part.Part.TheVariants as part
-use Rattle.rap_core.proofs.Complete.{expression_at_beginning, type_before, block_before}
-use Rattle.rap_core.proofs.Items.{item_before, items_of_before, fields_of_before}
-use Rattle.rap_core.proofs.Unique.{unmarked, used-derived, used-brackets}
-use Rattle.rap_core.proofs.Ways.{Leads, none-⧺}
+use Rattle.rap_grammar_core.proofs.Complete.{expression_at_beginning, type_before, block_before}
+use Rattle.rap_grammar_core.proofs.Items.{item_before, items_of_before, fields_of_before}
+use Rattle.rap_grammar_core.proofs.Unique.{unmarked, used-derived, used-brackets}
+use Rattle.rap_grammar_core.proofs.Ways.{Leads, none-⧺}
 
 -- the output is what the script makes of a front
 made : {s : Script Phrase} (ks l : List Record) {t output : Forest} → IsPrefixOf s (ks ++ l) output →

@@ -4,21 +4,21 @@ use Rattle.rap_base.specs.NodeKind.{VISIBILITY, PATH, BLOCK_EXPR, RECORD_FIELD_L
 use Rattle.rap_events.specs.Record.{Record}
 use Rattle.rap_events.specs.Forest.{Forest, none, node, used, message_count, one_tree}
 use Rattle.rap_events.specs.State.{State}
-use Rattle.rap_rules.specs.Adt.{record_field_list, variant_list}
-use Rattle.rap_rules.specs.Balanced.{Balanced, ArePartners, in_brackets}
-use Rattle.rap_rules.specs.Blocks.{block_expr}
-use Rattle.rap_rules.specs.Control.{match_arm_list}
-use Rattle.rap_rules.specs.Items.{item_list, extern_item_list}
-use Rattle.rap_rules.specs.Knot.{script_of, Follows}
-use Rattle.rap_rules.specs.Paths.{type_path}
-use Rattle.rap_rules.specs.Phrase.{Phrase}
-use Rattle.rap_rules.specs.Records.{record_expr_field_list}
-use Rattle.rap_rules.specs.Script.{Script, Outcome, Runs}
-use Rattle.rap_rules.specs.TokenTree.{bracketed_tokens}
-use Rattle.rap_rules.specs.Traits.{assoc_item_list}
-use Rattle.rap_rules.specs.UseItem.{use_tree_list}
-use Rattle.rap_rules.specs.Visibility.{opt_visibility}
-use Rattle.rap_core.specs.Derives.{Derives, Block, Fields, Items}
+use Rattle.rap_grammar_scripts.specs.Adt.{record_field_list, variant_list}
+use Rattle.rap_grammar_scripts.specs.Balanced.{Balanced, ArePartners, in_brackets}
+use Rattle.rap_grammar_scripts.specs.Blocks.{block_expr}
+use Rattle.rap_grammar_scripts.specs.Control.{match_arm_list}
+use Rattle.rap_grammar_scripts.specs.Items.{item_list, extern_item_list}
+use Rattle.rap_grammar_scripts.specs.Knot.{script_of, Follows}
+use Rattle.rap_grammar_scripts.specs.Paths.{type_path}
+use Rattle.rap_grammar_scripts.specs.Phrase.{Phrase}
+use Rattle.rap_grammar_scripts.specs.Records.{record_expr_field_list}
+use Rattle.rap_grammar_scripts.specs.Script.{Script, Outcome, Runs}
+use Rattle.rap_grammar_scripts.specs.TokenTree.{bracketed_tokens}
+use Rattle.rap_grammar_scripts.specs.Traits.{assoc_item_list}
+use Rattle.rap_grammar_scripts.specs.UseItem.{use_tree_list}
+use Rattle.rap_grammar_scripts.specs.Visibility.{opt_visibility}
+use Rattle.rap_grammar_core.specs.Derives.{Derives, Block, Fields, Items}
 use Rattle.rap_grammar.specs.Top.{IsForestOver}
 use Rattle.rap_grammar.specs.declared.entry.part.Part.{Part}
 use Rattle.rap_grammar.specs.declared.entry.part.Part.TheVariants as part

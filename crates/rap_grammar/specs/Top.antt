@@ -5,9 +5,9 @@ use Rattle.rap_events.specs.Record.{Record}
 use Rattle.rap_events.specs.Forest.{Forest, none, node, leaf, flat, used, message_count, one_tree}
 use Rattle.rap_events.specs.Cover.{covers}
 use Rattle.rap_events.specs.Fit.{AllFitIn}
-use Rattle.rap_rules.specs.Knot.{script_of}
-use Rattle.rap_rules.specs.Phrase.{Phrase}
-use Rattle.rap_rules.specs.Script.{Script, Outcome, Runs}
+use Rattle.rap_grammar_scripts.specs.Knot.{script_of}
+use Rattle.rap_grammar_scripts.specs.Phrase.{Phrase}
+use Rattle.rap_grammar_scripts.specs.Script.{Script, Outcome, Runs}
 
 -- a forest, and each of these tokens as a leaf of its own kind after it
 abbrev pub with_leaves : Forest → List Record → Forest

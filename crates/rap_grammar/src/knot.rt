@@ -1,21 +1,21 @@
 //! The knot of the grammar: each rule with all the others behind it.
 ghost use Rattle.std.specs.Prelude.{◌≡◌, ◌<◌, ◌≤◌, IfOk};
 ghost use Rattle.rap_events.specs.State.{state};
-ghost use Rattle.rap_rules.specs.Rules.{Pre, Post};
+ghost use Rattle.rap_grammar_frame.specs.Rules.{Pre, Post};
 
 use crate::statements::stmt;
 use rap_base::no_memory::NoMemory;
 use rap_events::parser::Parser;
-use rap_expressions::expressions::control::if_expr;
-use rap_expressions::expressions::expr_bp;
-use rap_items::items::item_or_macro;
-use rap_items::use_item::use_tree;
-use rap_parts::attributes::{cfg_predicate, inner_attrs, meta};
-use rap_patterns::patterns::{pattern_r, pattern_single_r};
-use rap_rules::knot::{Answer, Grammar, Rule};
-use rap_types::generic_args::generic_arg;
-use rap_types::generic_params::{bounds_without_colon, generic_param_list, where_clause};
-use rap_types::types::{path_type_bounds, type_with_bounds_cond};
+use rap_grammar_blocks::attributes::{cfg_predicate, inner_attrs, meta};
+use rap_grammar_control::control::if_expr;
+use rap_grammar_expressions::expressions::expr_bp;
+use rap_grammar_frame::knot::{Answer, Grammar, Rule};
+use rap_grammar_item_kinds::use_item::use_tree;
+use rap_grammar_items::items::item_or_macro;
+use rap_grammar_patterns::patterns::{pattern_r, pattern_single_r};
+use rap_grammar_types::generic_args::generic_arg;
+use rap_grammar_types::generic_params::{bounds_without_colon, generic_param_list, where_clause};
+use rap_grammar_types::types::{path_type_bounds, type_with_bounds_cond};
 
 /// The grammar, by a call that runs any rule.
 #[derive(Drop)]

@@ -2,27 +2,27 @@
 ghost use Rattle.std.specs.Prelude.{◌≡◌, ◌≢◌, ◌<◌, ◌≤◌, IfOk, OnOk, Some, None, true};
 ghost use Rattle.rap_base.specs.TokenKind.{EOF};
 ghost use Rattle.rap_events.specs.State.{state, next, IsLast};
-ghost use Rattle.rap_rules.specs.Blocks.{starts_let};
-ghost use Rattle.rap_rules.specs.Expressions.{of_like, is_block};
-ghost use Rattle.rap_rules.specs.Grew.{Within, Grew, Gone, Spent};
-ghost use Rattle.rap_rules.specs.Knot.{Follows};
-ghost use Rattle.rap_rules.specs.Room.{expr_stmt_room};
-ghost use Rattle.rap_rules.specs.Rules.{IsStatement};
-ghost use Rattle.rap_rules.specs.Script.{something};
-ghost use Rattle.rap_rules.specs.Statements as script;
-ghost use Rattle.rap_rules.specs.Statements.{ends_block};
+ghost use Rattle.rap_grammar_scripts.specs.Blocks.{starts_let};
+ghost use Rattle.rap_grammar_scripts.specs.Expressions.{of_like, is_block};
+ghost use Rattle.rap_grammar_frame.specs.Grew.{Within, Grew, Gone, Spent};
+ghost use Rattle.rap_grammar_scripts.specs.Knot.{Follows};
+ghost use Rattle.rap_grammar_frame.specs.Room.{expr_stmt_room};
+ghost use Rattle.rap_grammar_frame.specs.Rules.{IsStatement};
+ghost use Rattle.rap_grammar_scripts.specs.Script.{something};
+ghost use Rattle.rap_grammar_scripts.specs.Statements as script;
+ghost use Rattle.rap_grammar_scripts.specs.Statements.{ends_block};
 
 use rap_base::no_memory::NoMemory;
 use rap_base::syntax_kind::SyntaxKind;
 use rap_events::parser::{CompletedMarker, Marker, Parser};
-use rap_expressions::expressions::expr_bp;
-use rap_items::items::opt_item;
-use rap_parts::attributes::outer_attrs;
-use rap_parts::blocks::{let_stmt, starts_let};
-use rap_rules::T;
-use rap_rules::arguments::{BlockLike, Restrictions, Semicolon};
-use rap_rules::first::is_expr_first;
-use rap_rules::knot::Grammar;
+use rap_grammar_blocks::attributes::outer_attrs;
+use rap_grammar_blocks::blocks::{let_stmt, starts_let};
+use rap_grammar_expressions::expressions::expr_bp;
+use rap_grammar_frame::first::is_expr_first;
+use rap_grammar_frame::knot::Grammar;
+use rap_grammar_items::items::opt_item;
+use rap_grammar_scripts::T;
+use rap_grammar_scripts::arguments::{BlockLike, Restrictions, Semicolon};
 
 /// A statement: `;`, a `let`, an item, or an expression, which at the end of its block is its value.
 pub fn stmt<G: Grammar>(p: &mut Parser<'_>, g: &G, semicolon: Semicolon) -> Result<(), NoMemory>

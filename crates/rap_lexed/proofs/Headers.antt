@@ -4,9 +4,9 @@ use Rattle.std.specs.Prelude.{IfSome}
 use Rattle.std.specs.Option.{option_map}
 use Rattle.std.specs.declared.ops.Range.{Range}
 use Rattle.std.proofs.lemmas.Str.{IsCharBoundary-end}
-use Rattle.rap_script.specs.Script.{Script, IsScript, AtBorders, IsCut, IsLineEnd, HasLine, EndsShebang, up_to, content_at}
-use Rattle.rap_script.specs.Script.IsLineEnd.{with_return, feed, text_end}
-use Rattle.rap_script.proofs.ScriptBorders.{cut_before}
+use Rattle.rap_frontmatter.specs.Script.{Script, IsScript, AtBorders, IsCut, IsLineEnd, HasLine, EndsShebang, up_to, content_at}
+use Rattle.rap_frontmatter.specs.Script.IsLineEnd.{with_return, feed, text_end}
+use Rattle.rap_frontmatter.proofs.ScriptBorders.{cut_before}
 use Rattle.rap_lexed.specs.Header.{AreEnds}
 
 -- the line of a shebang is not empty

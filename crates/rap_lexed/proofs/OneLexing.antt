@@ -16,10 +16,10 @@ use Rattle.rap_lexer.specs.Lexeme.{with_remark}
 use Rattle.rap_lexer.specs.declared.escape.Mode.{Mode}
 use Rattle.rap_lexer.specs.declared.lexer.lexeme.Lexeme.{Lexeme}
 use Rattle.rap_lexer.specs.declared.lexer.lexeme.Remark.{Remark}
-use Rattle.rap_script.proofs.ScriptAnswers.{only_script}
-use Rattle.rap_script.specs.OneAnswer.{IsOnlyScript}
-use Rattle.rap_script.proofs.ScriptOnce.{line_once}
-use Rattle.rap_script.specs.Script.{Script, IsScript, HasLine}
+use Rattle.rap_frontmatter.proofs.ScriptAnswers.{only_script}
+use Rattle.rap_frontmatter.specs.OneAnswer.{IsOnlyScript}
+use Rattle.rap_frontmatter.proofs.ScriptOnce.{line_once}
+use Rattle.rap_frontmatter.specs.Script.{Script, IsScript, HasLine}
 use Rattle.rap_lexed.proofs.Bodies.{body_once}
 use Rattle.rap_lexed.proofs.Messages.{messages_of-past}
 use Rattle.rap_lexed.proofs.OpenStrings.{same_note}

@@ -5,8 +5,8 @@ use Rattle.rap_base.specs.TokenKind.{WHITESPACE, COMMENT, SHEBANG, FRONTMATTER, 
 use Rattle.rap_base.specs.declared.edition.Edition.{Edition}
 use Rattle.rap_lexer.specs.First.{First}
 use Rattle.rap_lexer.specs.declared.lexer.lexeme.Lexeme.{Lexeme}
-use Rattle.rap_script.specs.Refusal.{Refusal, IsRefused}
-use Rattle.rap_script.specs.Script.{Script, IsScript, HasLine}
+use Rattle.rap_frontmatter.specs.Refusal.{Refusal, IsRefused}
+use Rattle.rap_frontmatter.specs.Script.{Script, IsScript, HasLine}
 use Rattle.rap_lexed.specs.Token.{Token}
 
 -- The pieces that end at these places: a shebang, which begins the text, and a frontmatter, which begins where the

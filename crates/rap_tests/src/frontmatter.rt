@@ -1,5 +1,5 @@
 //! The parts of a script source.
-use rap_script::frontmatter::ScriptSource;
+use rap_frontmatter::frontmatter::ScriptSource;
 use std::test::Fail;
 
 #[test]

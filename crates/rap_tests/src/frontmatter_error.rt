@@ -1,5 +1,5 @@
 //! Refusals of script sources.
-use rap_script::frontmatter::{FrontmatterError, ScriptFault};
+use rap_frontmatter::frontmatter::{FrontmatterError, ScriptFault};
 use std::test::Fail;
 
 #[test]

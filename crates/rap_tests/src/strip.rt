@@ -1,5 +1,5 @@
 //! Texts without their first lines.
-use rap_script::frontmatter::{strip_shebang, strip_ws_lines};
+use rap_frontmatter::frontmatter::{strip_shebang, strip_ws_lines};
 
 #[test]
 fn strips_shebangs(rt: HostRuntime) {

@@ -4,8 +4,8 @@ use Rattle.std.specs.Fmt.{decimal}
 use Rattle.std.specs.declared.ops.Range.{Range}
 use Rattle.rap_base.specs.Names.{name_of}
 use Rattle.rap_events.specs.Record.{Record, kind_at, contextual_at, joint_at}
-use Rattle.rap_script.specs.Refusal.{Refusal}
-use Rattle.rap_script.specs.Script.{Script}
+use Rattle.rap_frontmatter.specs.Refusal.{Refusal}
+use Rattle.rap_frontmatter.specs.Script.{Script}
 use Rattle.rap_lexed.specs.LexedStr.{Token, Message, token_at, start_of}
 use Rattle.rast_common.specs.Message.{message_line}
 use Rattle.rast_common.specs.Quote.{quoted}

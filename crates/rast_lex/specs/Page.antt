@@ -2,8 +2,8 @@
 use Rattle.std.specs.Prelude.{◌≡◌, ◌≢◌, ◌⊎◌, ◌↔◌, ◌<◌, ◌≤◌, IsTrue, IsFalse, ℕ, List, [], ◌++◌, Option, None, length, codes, string_bytes}
 use Rattle.std.specs.Io.KnownBytes.{Appends}
 use Rattle.rap_base.specs.declared.edition.Edition.{Edition}
-use Rattle.rap_script.specs.Refusal.{Refusal, IsRefused}
-use Rattle.rap_script.specs.Script.{Script, IsScript}
+use Rattle.rap_frontmatter.specs.Refusal.{Refusal, IsRefused}
+use Rattle.rap_frontmatter.specs.Script.{Script, IsScript}
 use Rattle.rap_lexed.specs.Input.{records}
 use Rattle.rap_lexed.specs.LexedStr.{Lexed, IsLexing}
 use Rattle.rap_lexed.specs.SingleToken.{IsOneToken, IsNotOneToken}

@@ -5,8 +5,8 @@ ghost use Rattle.rast_lex.specs.Page.{ListsTokens, ListsInput, ListsSingle, List
 
 use rap_base::edition::Edition;
 use rap_events::input::Input;
+use rap_frontmatter::frontmatter::{FrontmatterError, ScriptFault, ScriptSource, Span};
 use rap_lexed::lexed_str::{LexFault, LexedStr};
-use rap_script::frontmatter::{FrontmatterError, ScriptFault, ScriptSource, Span};
 use rast_common::message::push_message;
 use rast_common::quote::push_quoted;
 use std::alloc::{AllocError, Global};

@@ -1,10 +1,10 @@
 //! Entries that read a whole input as one tree.
 ghost use Rattle.std.specs.Prelude.{◌≡◌, ◌≤◌, length, IfOk, false};
 ghost use Rattle.rap_base.specs.NodeKind.{SOURCE_FILE, MACRO_STMTS, MACRO_ITEMS};
-ghost use Rattle.rap_rules.specs.Atom as script;
-ghost use Rattle.rap_rules.specs.Called as called;
-ghost use Rattle.rap_rules.specs.Items as item_script;
-ghost use Rattle.rap_rules.specs.Statements as statement_script;
+ghost use Rattle.rap_grammar_scripts.specs.Atom as script;
+ghost use Rattle.rap_grammar_scripts.specs.Called as called;
+ghost use Rattle.rap_grammar_scripts.specs.Items as item_script;
+ghost use Rattle.rap_grammar_scripts.specs.Statements as statement_script;
 ghost use Rattle.rap_grammar.specs.Top.{IsTreeOver, IsTopOf, IsRootOf};
 
 use super::{close_root, close_top};

@@ -1,14 +1,14 @@
 //! What stands before the first token of a text: the shebang and the frontmatter of a script source.
 ghost use Rattle.std.specs.Prelude.{◌≡◌, ◌<◌, ◌^◌, ◌++◌, ◌==◌, ℕ, length, position, IfSome, OnOk, None, chars, unwrap_or, option_to_list};
 ghost use Rattle.std.specs.Option.{option_map};
-ghost use Rattle.rap_script.specs.Script.{HasLine};
+ghost use Rattle.rap_frontmatter.specs.Script.{HasLine};
 ghost use Rattle.rap_lexed.specs.Header.{header_kinds, pieces, is_passed, Leads, IsShebangLine, IsHeader, AreEnds};
 
 use rap_base::edition::Edition;
 use rap_base::no_memory::NoMemory;
 use rap_base::syntax_kind::SyntaxKind;
+use rap_frontmatter::frontmatter::ScriptSource;
 use rap_lexer::lexer::first_token;
-use rap_script::frontmatter::ScriptSource;
 use std::alloc::Global;
 
 /// Where the pieces end that stand before the first token: a shebang, which begins the text, and a frontmatter, which

@@ -1,6 +1,6 @@
-use Rattle.rap_rules.specs.Atom.{expr}
-use Rattle.rap_rules.specs.Script.{gives}
-use Rattle.rap_rules.proofs.Steps.{by_expression, some_expr}
+use Rattle.rap_grammar_scripts.specs.Atom.{expr}
+use Rattle.rap_grammar_scripts.specs.Script.{gives}
+use Rattle.rap_grammar_frame.proofs.Steps.{by_expression, some_expr}
 use Rattle.rap_grammar.proofs.entry.expr.Goals as goal
 
 pub returns-in-Some-clause-script : goal.returns-in-Some-clause-script

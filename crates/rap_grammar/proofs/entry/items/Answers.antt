@@ -1,9 +1,10 @@
 use Rattle.std.proofs.Common.{refl, rules, true, false}
-use Rattle.rap_rules.specs.Knot.{script_of}
-use Rattle.rap_rules.specs.Phrase.{any_item}
-use Rattle.rap_rules.specs.Script.{gives, passes, fails}
-use Rattle.rap_rules.specs.Items.{items}
-use Rattle.rap_rules.proofs.Steps.{by_part, turn, last_turn, and_false}
+use Rattle.rap_grammar_scripts.specs.Knot.{script_of}
+use Rattle.rap_grammar_scripts.specs.Phrase.{any_item}
+use Rattle.rap_grammar_scripts.specs.Script.{gives, passes, fails}
+use Rattle.rap_grammar_scripts.specs.Items.{items}
+use Rattle.rap_grammar_frame.proofs.Steps.{by_part, turn, last_turn}
+use Rattle.rap_events.proofs.Truth.{and_false}
 use Rattle.rap_grammar.proofs.entry.items.Goals as goal
 
 pub items-preserved : goal.items-preserved

@@ -1,5 +1,5 @@
-use Rattle.rap_rules.specs.Items.{mod_contents}
-use Rattle.rap_rules.proofs.Steps.{by_rule, to_end}
+use Rattle.rap_grammar_scripts.specs.Items.{mod_contents}
+use Rattle.rap_grammar_frame.proofs.Steps.{by_rule, to_end}
 use Rattle.rap_grammar.proofs.entry.macro_items.Goals as goal
 
 pub returns-clause-script : goal.returns-clause-script

@@ -1,10 +1,10 @@
 use Rattle.std.proofs.Common.{refl, rules}
-use Rattle.rap_rules.specs.Knot.{script_of}
-use Rattle.rap_rules.specs.Phrase.{statement}
-use Rattle.rap_rules.specs.Script.{gives, passes, fails}
-use Rattle.rap_rules.specs.Statements.{macro_stmts}
-use Rattle.rap_rules.specs.declared.arguments.Semicolon.TheVariants as semicolon
-use Rattle.rap_rules.proofs.Steps.{by_part, turn, last_turn}
+use Rattle.rap_grammar_scripts.specs.Knot.{script_of}
+use Rattle.rap_grammar_scripts.specs.Phrase.{statement}
+use Rattle.rap_grammar_scripts.specs.Script.{gives, passes, fails}
+use Rattle.rap_grammar_scripts.specs.Statements.{macro_stmts}
+use Rattle.rap_grammar_scripts.specs.declared.arguments.Semicolon.TheVariants as semicolon
+use Rattle.rap_grammar_frame.proofs.Steps.{by_part, turn, last_turn}
 use Rattle.rap_grammar.proofs.entry.macro_stmts.Goals as goal
 
 pub statements-preserved : goal.statements-preserved

@@ -1,8 +1,8 @@
 use Rattle.std.proofs.Common.{false}
 use Rattle.rap_events.specs.State.{state}
-use Rattle.rap_rules.specs.Grew.{Grew}
-use Rattle.rap_rules.specs.Statements.{macro_turn}
-use Rattle.rap_rules.proofs.Steps.{Turns}
+use Rattle.rap_grammar_frame.specs.Grew.{Grew}
+use Rattle.rap_grammar_scripts.specs.Statements.{macro_turn}
+use Rattle.rap_grammar_frame.proofs.Steps.{Turns}
 use Rattle.rap_grammar.proofs.entry.macro_stmts.Given as goal
 
 abbrev pub invariant-statements : goal.invariant-statements

@@ -1,8 +1,8 @@
-use Rattle.rap_rules.specs.Called.{pattern_single}
-use Rattle.rap_rules.specs.Knot.{script_of}
-use Rattle.rap_rules.specs.Phrase.{single_pattern}
-use Rattle.rap_rules.specs.Script.{gives}
-use Rattle.rap_rules.proofs.Steps.{by_part}
+use Rattle.rap_grammar_scripts.specs.Called.{pattern_single}
+use Rattle.rap_grammar_scripts.specs.Knot.{script_of}
+use Rattle.rap_grammar_scripts.specs.Phrase.{single_pattern}
+use Rattle.rap_grammar_scripts.specs.Script.{gives}
+use Rattle.rap_grammar_frame.proofs.Steps.{by_part}
 use Rattle.rap_grammar.proofs.entry.pattern_single.Goals as goal
 
 pub returns-clause-script : goal.returns-clause-script

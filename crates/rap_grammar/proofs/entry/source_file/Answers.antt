@@ -1,5 +1,5 @@
-use Rattle.rap_rules.specs.Items.{source_file}
-use Rattle.rap_rules.proofs.Steps.{by_eat, to_end}
+use Rattle.rap_grammar_scripts.specs.Items.{source_file}
+use Rattle.rap_grammar_frame.proofs.Steps.{by_eat, to_end}
 use Rattle.rap_grammar.proofs.entry.source_file.Goals as goal
 
 pub returns-clause-script : goal.returns-clause-script

@@ -1,9 +1,9 @@
 use Rattle.std.proofs.Common.{true}
-use Rattle.rap_rules.specs.Called.{type_}
-use Rattle.rap_rules.specs.Knot.{script_of}
-use Rattle.rap_rules.specs.Phrase.{any_type}
-use Rattle.rap_rules.specs.Script.{gives}
-use Rattle.rap_rules.proofs.Steps.{by_part}
+use Rattle.rap_grammar_scripts.specs.Called.{type_}
+use Rattle.rap_grammar_scripts.specs.Knot.{script_of}
+use Rattle.rap_grammar_scripts.specs.Phrase.{any_type}
+use Rattle.rap_grammar_scripts.specs.Script.{gives}
+use Rattle.rap_grammar_frame.proofs.Steps.{by_part}
 use Rattle.rap_grammar.proofs.entry.type_.Goals as goal
 
 pub returns-clause-script : goal.returns-clause-script

@@ -1,7 +1,7 @@
 use Rattle.std.proofs.Common.{rules}
-use Rattle.rap_rules.specs.Statements.{expr_as_stmt}
-use Rattle.rap_rules.specs.Script.{gives, passes, fails}
-use Rattle.rap_rules.proofs.Steps.{by_skip, by_abandon, by_rule, to_end}
+use Rattle.rap_grammar_scripts.specs.Statements.{expr_as_stmt}
+use Rattle.rap_grammar_scripts.specs.Script.{gives, passes, fails}
+use Rattle.rap_grammar_frame.proofs.Steps.{by_skip, by_abandon, by_rule, to_end}
 use Rattle.rap_grammar.proofs.Stating.{from_expr}
 use Rattle.rap_grammar.proofs.statements.expr_as_stmt.Goals as goal
 

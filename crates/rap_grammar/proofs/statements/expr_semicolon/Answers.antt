@@ -1,6 +1,6 @@
-use Rattle.rap_rules.specs.Statements.{expr_semicolon}
-use Rattle.rap_rules.specs.Script.{gives}
-use Rattle.rap_rules.proofs.Steps.{by_eat, by_expect}
+use Rattle.rap_grammar_scripts.specs.Statements.{expr_semicolon}
+use Rattle.rap_grammar_scripts.specs.Script.{gives}
+use Rattle.rap_grammar_frame.proofs.Steps.{by_eat, by_expect}
 use Rattle.rap_grammar.proofs.statements.expr_semicolon.Goals as goal
 
 pub returns-then-is_block-clause-script : goal.returns-then-is_block-clause-script

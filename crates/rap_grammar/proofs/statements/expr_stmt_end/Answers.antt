@@ -1,6 +1,6 @@
-use Rattle.rap_rules.specs.Statements.{expr_stmt_end}
-use Rattle.rap_rules.specs.Script.{gives}
-use Rattle.rap_rules.proofs.Steps.{then_by, else_by, by_precede, by_rule, by_complete}
+use Rattle.rap_grammar_scripts.specs.Statements.{expr_stmt_end}
+use Rattle.rap_grammar_scripts.specs.Script.{gives}
+use Rattle.rap_grammar_frame.proofs.Steps.{then_by, else_by, by_precede, by_rule, by_complete}
 use Rattle.rap_grammar.proofs.statements.expr_stmt_end.Goals as goal
 
 pub returns-then-ends_block-clause-script : goal.returns-then-ends_block-clause-script

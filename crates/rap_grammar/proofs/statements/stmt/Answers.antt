@@ -1,6 +1,6 @@
-use Rattle.rap_rules.specs.Statements.{stmt}
-use Rattle.rap_rules.specs.Script.{gives}
-use Rattle.rap_rules.proofs.Steps.{ate, not_ate, then_by, else_by, by_start, by_rule, by_complete, to_end}
+use Rattle.rap_grammar_scripts.specs.Statements.{stmt}
+use Rattle.rap_grammar_scripts.specs.Script.{gives}
+use Rattle.rap_grammar_frame.proofs.Steps.{ate, not_ate, then_by, else_by, by_start, by_rule, by_complete, to_end}
 use Rattle.rap_grammar.proofs.statements.stmt.Goals as goal
 
 pub returns-then-branch-clause-script : goal.returns-then-branch-clause-script

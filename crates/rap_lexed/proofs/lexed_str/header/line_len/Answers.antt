@@ -1,6 +1,6 @@
 use Rattle.std.proofs.Common.{◌≡◌, sym, ◌∙◌, ℕ, List, subst, arith}
-use Rattle.rap_script.specs.Script.{HasLine}
-use Rattle.rap_script.proofs.ScriptLines.{first_feed, no_feed, line_whole, line_before_feed, line_before_return}
+use Rattle.rap_frontmatter.specs.Script.{HasLine}
+use Rattle.rap_frontmatter.proofs.ScriptLines.{first_feed, no_feed, line_whole, line_before_feed, line_before_return}
 use Rattle.rap_lexed.proofs.lexed_str.header.line_len.Goals as goal
 use Rattle.rap_lexed.proofs.lexed_str.header.line_len.Goals.{else-feed-gt0-via-then-feed-gt0+else-bytes-feed-eq13, else-feed-gt0-via-else-feed-gt0}
 

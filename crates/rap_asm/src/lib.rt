@@ -1,4 +1,0 @@
-//! Inline assembly.
-#![tactic(auto)]
-
-pub mod asm;

@@ -1,8 +1,0 @@
-use Rattle.rap_rules.specs.Expressions.{arg_list}
-use Rattle.rap_rules.specs.Script.{gives}
-use Rattle.rap_rules.proofs.Steps.{by_start, by_rule, by_complete}
-use Rattle.rap_expressions.proofs.expressions.postfix.arg_list.Goals as goal
-
-pub returns-clause-script : goal.returns-clause-script
-unfolding arg_list
-returns-clause-script g c = record { run = by_start c.in_ok-m.ensures.state (by_rule c.in_ok-delimited.ensures.script (by_complete c.in_ok-complete.ensures.state.0 gives)) }

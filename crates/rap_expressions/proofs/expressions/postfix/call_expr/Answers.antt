@@ -1,8 +1,0 @@
-use Rattle.rap_rules.specs.Expressions.{call_expr}
-use Rattle.rap_rules.specs.Script.{gives}
-use Rattle.rap_rules.proofs.Steps.{by_precede, by_rule, by_complete}
-use Rattle.rap_expressions.proofs.expressions.postfix.call_expr.Goals as goal
-
-pub returns-clause-script : goal.returns-clause-script
-unfolding call_expr
-returns-clause-script g c = record { run = by_precede c.requires.last c.in_ok-m.ensures.state (by_rule c.in_ok-arg_list.ensures.script (by_complete c.in_ok-cm.ensures.state.0 gives)) }

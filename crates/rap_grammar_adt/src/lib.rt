@@ -1,0 +1,4 @@
+//! Structs, unions and enums.
+#![tactic(auto)]
+
+pub mod adt;

@@ -1,0 +1,15 @@
+use Rattle.std.proofs.Common.{false}
+use Rattle.rap_events.specs.State.{state}
+use Rattle.rap_grammar_scripts.specs.Blocks.{contents_turn}
+use Rattle.rap_grammar_frame.specs.Grew.{Grew}
+use Rattle.rap_grammar_frame.proofs.Steps.{Turns}
+use Rattle.rap_grammar_blocks.proofs.blocks.statements.Given as goal
+
+abbrev pub invariant-statements : goal.invariant-statements
+invariant-statements g l = record {
+  grew : Grew (state l.initial.p) (state l.p) 0;
+  script : Turns contents_turn false false false false (state l.initial.p) (state l.p);
+}
+
+abbrev pub decreases-statements : goal.decreases-statements
+decreases-statements g l = (state l.p).left

@@ -1,0 +1,5 @@
+//! Attributes, and blocks with their `let` statements.
+#![tactic(auto)]
+
+pub mod attributes;
+pub mod blocks;

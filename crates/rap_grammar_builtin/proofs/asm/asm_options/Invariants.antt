@@ -1,0 +1,15 @@
+use Rattle.std.proofs.Common.{false}
+use Rattle.rap_events.specs.State.{state}
+use Rattle.rap_grammar_scripts.specs.Asm.{options_turn}
+use Rattle.rap_grammar_frame.specs.Grew.{Grew}
+use Rattle.rap_grammar_frame.proofs.Steps.{Turns}
+use Rattle.rap_grammar_builtin.proofs.asm.asm_options.Given as goal
+
+abbrev pub invariant-options : goal.invariant-options
+invariant-options l = record {
+  grew : Grew (state l.initial.p) (state l.p) 0;
+  script : Turns options_turn false false false false (state l.initial.p) (state l.p);
+}
+
+abbrev pub decreases-options : goal.decreases-options
+decreases-options l = (state l.p).left

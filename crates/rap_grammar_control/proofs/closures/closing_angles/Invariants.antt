@@ -1,0 +1,15 @@
+use Rattle.std.proofs.Common.{false}
+use Rattle.rap_events.specs.State.{state}
+use Rattle.rap_grammar_scripts.specs.Control.{angles_turn}
+use Rattle.rap_grammar_frame.specs.Grew.{Grew}
+use Rattle.rap_grammar_frame.proofs.Steps.{Turns}
+use Rattle.rap_grammar_control.proofs.closures.closing_angles.Given as goal
+
+abbrev pub invariant-angles : goal.invariant-angles
+invariant-angles l = record {
+  grew : Grew (state l.initial.p) (state l.p) 0;
+  script : Turns angles_turn false false false false (state l.initial.p) (state l.p);
+}
+
+abbrev pub decreases-angles : goal.decreases-angles
+decreases-angles l = (state l.p).left

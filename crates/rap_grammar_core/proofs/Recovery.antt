@@ -1,0 +1,180 @@
+-- What begins with items and tokens that begin none is read as that, whatever follows.
+use Rattle.std.proofs.Common.{◌≡◌, ℕ, List, [], ◌∷◌, ◌++◌, Bool, true, false, refl, ap, sym, ◌∙◌, subst, ◌==◌, append_assoc}
+use Rattle.rap_base.specs.TokenKind.{EOF, IDENT, AT, COMMA, INT_NUMBER, R_CURLY, SEMICOLON, POUND, EXTERN_KW, SHEBANG, INNER_DOC_COMMENT, FRONTMATTER, USE_KW, MOD_KW, TYPE_KW, PUB_KW, OUTER_DOC_COMMENT, STRUCT_KW, FN_KW, SELF_KW, CONST_KW, SUPER_KW, ENUM_KW, MACRO_KW, CRATE_KW, STATIC_KW, DEFAULT_KW, TRAIT_KW, COLON, IMPL_KW, ASYNC_KW, L_CURLY, GEN_KW, LET_KW, UNSAFE_KW, SAFE_KW, AUTO_KW}
+use Rattle.rap_events.specs.Record.{Record, next_kind}
+use Rattle.rap_events.specs.Forest.{Forest, none, ◌⧺◌}
+use Rattle.rap_grammar_core.specs.Mixed.{IsStray, stray_tree, Mixed, no_more, an_item, a_stray, IsFront, whole, before}
+use Rattle.rap_grammar_scripts.proofs.Forests.{⧺-assoc}
+use Rattle.rap_grammar_scripts.proofs.OneEnd.{one_end}
+use Rattle.rap_events.proofs.Truth.{and_false}
+use Rattle.rap_grammar_scripts.specs.Script.{Outcome, nothing, something, block, again, Spot, Runs, Script, follows, fails, passes, obeys, loop, gives, turns, starts, stops, goes_on, abandons, skips}
+use Rattle.rap_grammar_core.proofs.Begins.{first, next_begins, begins_item}
+use Rattle.rap_grammar_core.proofs.Operators.{differ, differ_back}
+use Rattle.rap_grammar_core.proofs.Ways.{Leads, none-⧺, no_attributes}
+use Rattle.rap_grammar_core.proofs.ItemWays.{Goes, no_semicolon, no_pub_way, no_inner_attributes}
+use Rattle.rap_grammar_core.proofs.Items.{item_before}
+use Rattle.rap_grammar_core.proofs.TameKnot.{items_add}
+use Rattle.rap_grammar_scripts.specs.Items.{items, item_or_macro, opt_item_without_modifiers, opt_item, source_file, mod_contents, marked_item, opt_modified_item, opt_item_with_modifiers, macro_or_error, opt_extern_block, missing_item, refuse}
+use Rattle.rap_grammar_scripts.specs.First.{one_of}
+use Rattle.rap_grammar_scripts.specs.Knot.{script_of}
+use Rattle.rap_grammar_scripts.specs.Modifiers.{modifiers, opt_impl_restriction, qualifiers, safety, opt_abi, auto_or_default, opt_default, modifier, modifier_as}
+use Rattle.rap_grammar_scripts.specs.Phrase.{Phrase}
+
+abbrev is_stray : ℕ → Bool
+is_stray k = one_of (AT ∷ COMMA ∷ INT_NUMBER ∷ []) k
+
+-- a stray is no token of another kind
+not_so : {r : Record} → IsStray r → (k : ℕ) → is_stray k ≡ false → (r.kind == k) ≡ false
+not_so {r = r} h k e = differ is_stray r.kind k h.among e
+
+so_not : {r : Record} → IsStray r → (k : ℕ) → is_stray k ≡ false → (k == r.kind) ≡ false
+so_not {r = r} h k e = differ_back is_stray r.kind k h.among e
+
+-- no item begins with it
+no_stray_item : {b : List Forest} {r : Record} {rs : List Record} {f : Forest} → IsStray r →
+    Goes nothing opt_item_without_modifiers b (r ∷ rs) f (r ∷ rs) f
+unfolding opt_item_without_modifiers
+no_stray_item h =
+    fails (not_so h EXTERN_KW refl) (fails (not_so h USE_KW refl) (fails (not_so h MOD_KW refl) (fails
+    (not_so h TYPE_KW refl)
+    (fails (not_so h STRUCT_KW refl) (fails (not_so h ENUM_KW refl) (fails (not_so h MACRO_KW refl) (fails
+    (not_so h CONST_KW refl)
+    (fails (not_so h STATIC_KW refl) (fails (not_so h IDENT refl) gives)))))))))
+
+no_stray_modifiers : (ext : Bool) {b : List Forest} {r : Record} {rs : List Record} {f : Forest} → IsStray r →
+    Goes (again false false) (modifiers ext) b (r ∷ rs) f (r ∷ rs) f
+unfolding modifiers opt_impl_restriction qualifiers safety opt_abi auto_or_default opt_default modifier modifier_as
+no_stray_modifiers ext h =
+    let i = not_so h IDENT refl in
+    let d = not_so h DEFAULT_KW refl in
+    follows (fails (rw (not_so h IMPL_KW refl) refl) gives)
+    (follows (follows (fails (rw (not_so h CONST_KW refl) refl) gives) (follows (fails (rw
+    (not_so h ASYNC_KW refl) refl) gives) (follows (fails (rw (not_so h GEN_KW refl) refl) gives) gives)))
+    (follows (follows (fails (rw (not_so h UNSAFE_KW refl) refl) gives) (follows (fails (rw
+    (not_so h SAFE_KW refl, i, and_false ext) refl) gives) gives))
+    (follows (fails (not_so h EXTERN_KW refl) gives)
+    (follows (follows (fails (rw (not_so h AUTO_KW refl, i) refl) gives)
+    (follows (fails (rw (d, i) refl) (fails (rw (d, i) refl) (fails (rw (d, i) refl) gives))) gives))
+    gives))))
+
+no_item_of_stray : (ext : Bool) {b : List Forest} {r : Record} {rs : List Record} {f : Forest} → IsStray r →
+    Goes nothing (opt_item ext) b (r ∷ rs) f (r ∷ rs) f
+unfolding opt_item opt_modified_item opt_item_with_modifiers opt_extern_block refuse
+no_item_of_stray ext h =
+    follows (no_pub_way false (not_so h PUB_KW refl)) (follows (no_stray_item h) (follows (no_stray_modifiers ext h)
+    (follows (fails (not_so h FN_KW refl) (fails (not_so h CONST_KW refl) (fails (not_so h STATIC_KW refl) (fails
+    (not_so h TRAIT_KW refl)
+    (fails (not_so h IMPL_KW refl) (fails (not_so h TYPE_KW refl) (fails (not_so h L_CURLY refl) gives))))))) gives)))
+
+-- it is taken into an `ERROR`
+stray_way : {b : List Forest} {r : Record} {l : List Record} {f : Forest} → IsStray r →
+    Leads (item_or_macro false true) b (r ∷ l) f l (f ⧺ stray_tree r)
+unfolding item_or_macro marked_item macro_or_error missing_item
+stray_way h =
+    starts (follows (no_attributes (rw (so_not h POUND refl, so_not h OUTER_DOC_COMMENT refl) refl))
+    (follows (no_item_of_stray true h)
+    (fails (rw (
+      so_not h IDENT refl,
+      so_not h SELF_KW refl,
+      so_not h SUPER_KW refl,
+      so_not h CRATE_KW refl,
+      not_so h
+          COLON refl,
+    ) refl)
+    (abandons (fails (not_so h L_CURLY refl) (fails (rw (not_so h R_CURLY refl) refl)
+    (fails (rw (so_not h EOF refl, so_not h R_CURLY refl) refl) (fails (not_so h LET_KW refl) (skips gives)))))))))
+
+-- a run of items goes on behind a first one
+flag_of : Outcome → Bool
+flag_of nothing = false
+flag_of something = false
+flag_of block = false
+flag_of (again a b) = a
+
+other_flag_of : Outcome → Bool
+other_flag_of nothing = false
+other_flag_of something = false
+other_flag_of block = false
+other_flag_of (again a b) = b
+
+behind_turn : {h : Bool → Bool → Script Phrase} {p m q : Spot} {v : Outcome} →
+    Runs script_of (h false false) p m (again false false) → Runs script_of (loop h false false) p q v →
+    Runs script_of (loop h false false) m q v
+unfolding flag_of other_flag_of
+behind_turn {h = h} {m = m} {q = q} {v = v} x (turns {r = r} y z) =
+    let s = one_end y x in
+    let w = subst (λ (o : Outcome). Runs script_of (loop h (flag_of o) (other_flag_of o)) r q v) s.outcome z in
+    subst (λ (o : Spot). Runs script_of (loop h false false) o q v) s.spot w
+behind_turn x (stops y e) =
+    let s = one_end y x in
+    let g : true ≡ false = sym (ap goes_on s.outcome) ∙ e in
+    absurd cc
+
+behind_item : {b : List Forest} {rs l : List Record} {f g : Forest} {q : Spot} {v : Outcome} →
+    Leads (item_or_macro false true) b rs f l g → (next_kind rs == EOF) ≡ false → (next_kind rs == R_CURLY) ≡ false →
+    Runs script_of (items false) (record { rest = rs; forest = f; below = b }) q v →
+    Runs script_of (items false) (record { rest = l; forest = g; below = b }) q v
+unfolding items script_of
+behind_item x e c r = behind_turn (fails e (fails (rw c refl) (obeys x gives))) r
+
+mixed_apart : {ks : List Record} {t : Forest} → Mixed ks t → (l : List Record) (k : ℕ) → begins_item k ≡ false →
+    is_stray k ≡ false → (next_kind l == k) ≡ false → (next_kind (ks ++ l) == k) ≡ false
+mixed_apart no_more l k h i e = e
+mixed_apart (an_item {ks = ks} {js = js} d m) l k h i e =
+    rw append_assoc (differ begins_item (next_kind (ks ++ (js ++ l))) k (next_begins (js ++ l) (first d refl)) h)
+mixed_apart (a_stray s m) l k h i e = not_so s k i
+
+-- a run goes on behind all that is mixed
+behind_mixed : {ks : List Record} {t : Forest} → Mixed ks t →
+    (b : List Forest) (f : Forest) (l : List Record) {q : Spot} {v : Outcome} → no_semicolon l →
+    Runs script_of (items false) (record { rest = ks ++ l; forest = f; below = b }) q v →
+    Runs script_of (items false) (record { rest = l; forest = f ⧺ t; below = b }) q v
+behind_mixed no_more b f l s r = r
+behind_mixed (an_item {ks = ks} {js = js} {t = t} {u = u} d m) b f l s r =
+    let n = js ++ l in
+    let i = next_begins n (first d refl) in
+    let x = item_before d false true b f n (mixed_apart m l SEMICOLON refl refl s) in
+    rw (sym (⧺-assoc f t u)) (behind_mixed m b (f ⧺ t) l s (behind_item x (differ begins_item (next_kind
+    (ks ++ n)) EOF i refl) (differ begins_item (next_kind (ks ++ n)) R_CURLY i refl) (rw append_assoc at r)))
+behind_mixed (a_stray {r = z} {u = u} h m) b f l s r =
+    rw (sym (⧺-assoc f (stray_tree z) u)) (behind_mixed m b (f ⧺ stray_tree z) l s (behind_item (stray_way h)
+    (not_so h EOF refl) (not_so h R_CURLY refl) r))
+
+-- so what is made begins with their trees
+items_begin : {ks rest : List Record} {t : Forest} → IsFront ks rest t → (b : List Forest) {q : Spot} {v : Outcome} →
+    Runs script_of (items false) (record { rest = ks ++ rest; forest = none; below = b }) q v →
+    (x : Forest) × (q.forest ≡ t ⧺ x)
+items_begin (whole {t = t} m) b r =
+    let k = items_add false (behind_mixed m b none [] refl r) in
+    (k.0, k.1 ∙ ap (λ (x : Forest). x ⧺ k.0) (none-⧺ t))
+items_begin (before {rest = rest} {r = z} {t = t} m h) b r =
+    let i = behind_mixed m b none (z ∷ rest) (not_so h SEMICOLON refl) (rw append_assoc at r) in
+    let k = items_add false (behind_item (stray_way h) (not_so h EOF refl) (not_so h R_CURLY refl) i) in
+    (k.0, k.1 ∙ ap (λ (x : Forest). (x ⧺ stray_tree z) ⧺ k.0) (none-⧺ t))
+
+front_apart : {ks rest : List Record} {t : Forest} → IsFront ks rest t → (k : ℕ) → begins_item k ≡ false →
+    is_stray k ≡ false → (EOF == k) ≡ false → (next_kind (ks ++ rest) == k) ≡ false
+front_apart (whole m) k h i e = mixed_apart m [] k h i e
+front_apart (before {rest = rest} {r = z} m s) k h i e = rw append_assoc (mixed_apart m (z ∷ rest) k h i (not_so s k i))
+
+pub contents_begin : {ks rest : List Record} {t : Forest} → IsFront ks rest t →
+    (b : List Forest) {q : Spot} {v : Outcome} →
+    Runs script_of (mod_contents false) (record { rest = ks ++ rest; forest = none; below = b }) q v →
+    (x : Forest) × (q.forest ≡ t ⧺ x)
+unfolding mod_contents
+contents_begin d b {q = q} {v = v} (follows x y) =
+    let s = one_end x (no_inner_attributes (front_apart d POUND refl refl refl)
+    (front_apart d INNER_DOC_COMMENT refl refl refl)) in
+    items_begin d b (subst (λ (o : Spot). Runs script_of (items false) o q v) s.spot y)
+
+clash : {b : Bool} → b ≡ true → b ≡ false → ⊥
+clash h i = let x : true ≡ false = sym h ∙ i in cc
+
+pub file_begins : {ks rest : List Record} {t : Forest} → IsFront ks rest t →
+    (b : List Forest) {q : Spot} {v : Outcome} →
+    Runs script_of source_file (record { rest = ks ++ rest; forest = none; below = b }) q v →
+    (x : Forest) × (q.forest ≡ t ⧺ x)
+unfolding source_file
+file_begins d b (passes h x) = absurd (clash h (front_apart d SHEBANG refl refl refl))
+file_begins d b (fails h (passes i x)) = absurd (clash i (front_apart d FRONTMATTER refl refl refl))
+file_begins d b (fails h (fails i x)) = contents_begin d b x

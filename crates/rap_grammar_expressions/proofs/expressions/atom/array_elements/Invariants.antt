@@ -1,0 +1,15 @@
+use Rattle.std.proofs.Common.{true, false}
+use Rattle.rap_events.specs.State.{state}
+use Rattle.rap_grammar_scripts.specs.Atom.{array_turn}
+use Rattle.rap_grammar_frame.specs.Grew.{Grew}
+use Rattle.rap_grammar_frame.proofs.Steps.{Turns}
+use Rattle.rap_grammar_expressions.proofs.expressions.atom.array_elements.Given as goal
+
+abbrev pub invariant-elements : goal.invariant-elements
+invariant-elements g l = record {
+  grew : Grew (state l.initial.p) (state l.p) 0;
+  script : Turns array_turn true false l.is_first l.has_semi (state l.initial.p) (state l.p);
+}
+
+abbrev pub decreases-elements : goal.decreases-elements
+decreases-elements g l = (state l.p).left

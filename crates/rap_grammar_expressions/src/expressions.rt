@@ -1,0 +1,131 @@
+//! Expressions.
+ghost use Rattle.std.specs.Prelude.{◌≡◌, ◌≢◌, ◌<◌, ◌≤◌, IfOk, Some, None, is_some, OnOk, true, false};
+ghost use Rattle.rap_base.specs.TokenKind.{EOF};
+ghost use Rattle.rap_events.specs.State.{state, next};
+ghost use Rattle.rap_grammar_scripts.specs.Expressions as script;
+ghost use Rattle.rap_grammar_scripts.specs.Expressions.{of_expr};
+ghost use Rattle.rap_grammar_scripts.specs.First.{is_expr_first};
+ghost use Rattle.rap_grammar_frame.specs.Grew.{Within, Dropped, Spent};
+ghost use Rattle.rap_grammar_scripts.specs.Knot.{Follows};
+ghost use Rattle.rap_grammar_scripts.specs.Recovery.{stops_expr};
+ghost use Rattle.rap_grammar_frame.specs.Room.{operand_room, marked_room};
+ghost use Rattle.rap_grammar_frame.specs.Rules.{Answered, IsNewest, AnsweredFrom, Operand};
+ghost use Rattle.rap_grammar_scripts.specs.Script.{nothing};
+
+use crate::expressions::atom::atom_expr;
+use crate::expressions::operators::{climb, prefix_expr, ref_expr};
+use rap_base::no_memory::NoMemory;
+use rap_events::parser::{CompletedMarker, Marker, Parser};
+use rap_grammar_blocks::attributes::outer_attrs;
+use rap_grammar_frame::first::is_expr_first;
+use rap_grammar_frame::knot::Grammar;
+use rap_grammar_frame::recovery::expr_recovery_set;
+use rap_grammar_operands::postfix::postfix_expr;
+use rap_grammar_operands::ranges::prefix_range;
+use rap_grammar_scripts::T;
+use rap_grammar_scripts::arguments::{BlockLike, Restrictions};
+
+mod atom;
+mod operators;
+
+/// An expression of at least the power `bp`, from the marker on if there is one.
+pub fn expr_bp<G: Grammar>(
+    p: &mut Parser<'_>,
+    g: &G,
+    m: Option<Marker>,
+    r: Restrictions,
+    bp: u8,
+) -> Result<Option<(CompletedMarker, BlockLike)>, NoMemory>
+    requires within { Within G.valid G.left g.now (state p.old) }
+    requires newest { IsNewest (state p.old) m }
+    requires power { 1 ≤ bp }
+    ensures answered { IfOk result (Answered (state p.old) (state p.new) m r.prefer_stmt bp) }
+    ensures script { IfOk result (λ e. Follows (script.expr_bp (is_some m) r bp) (of_expr e) (state p.old) (state p.new)) }
+{
+    match m {
+        Some(m) => {
+            let expr = expr_from(p, g, m, r, bp)?;
+            Ok(expr)
+        }
+        None => {
+            let m = p.start()?;
+            outer_attrs(p, g)?;
+            let expr = expr_from(p, g, m, r, bp)?;
+            Ok(expr)
+        }
+    }
+}
+
+/// An expression of at least the power `bp`, from the newest marker on.
+fn expr_from<G: Grammar>(
+    p: &mut Parser<'_>,
+    g: &G,
+    m: Marker,
+    r: Restrictions,
+    bp: u8,
+) -> Result<Option<(CompletedMarker, BlockLike)>, NoMemory>
+    requires within { Within G.valid G.left g.now (state p.old) }
+    requires newest { (state p.old).marker ≡ Some m.pos.value }
+    requires power { 1 ≤ bp }
+    ensures answered { IfOk result (AnsweredFrom (state p.old) (state p.new) r.prefer_stmt bp) }
+    ensures spent { IfOk result (λ e. e ≡ None → stops_expr (next (state p.old)) ≡ false → Spent (state p.old) (state p.new) marked_room) }
+    ensures stays { IfOk result (λ e. e ≡ None → stops_expr (next (state p.old)) ≡ true → (state p.new).left ≡ (state p.old).left) }
+    ensures script { IfOk result (λ e. Follows (script.expr_from r bp) (of_expr e) (state p.old) (state p.new)) }
+{
+    if !is_expr_first(p.current()) {
+        missing_expr(p, m)?;
+        return Ok(None);
+    }
+    let Some((lhs, block_like)) = lhs(p, g, r)? else {
+        m.abandon(p)?;
+        return Ok(None);
+    };
+    let lhs = lhs.extend_to(p, m)?;
+    if r.prefer_stmt && block_like.is_block() {
+        return Ok(Some((lhs, BlockLike::Block)));
+    }
+    let cm = climb(p, g, lhs, r, bp)?;
+    Ok(Some((cm, BlockLike::NotBlock)))
+}
+
+/// An expression is missing: the marker goes. It keeps the table of the set off the stack of those that go deeper.
+#[inline(never)]
+fn missing_expr(p: &mut Parser<'_>, m: Marker) -> Result<(), NoMemory>
+    requires newest { (state p.old).marker ≡ Some m.pos.value }
+    requires missing { is_expr_first (next (state p.old)) ≡ false }
+    ensures dropped { OnOk result (Dropped (state p.old) (state p.new) 5) }
+    ensures spent { OnOk result (stops_expr (next (state p.old)) ≡ false → Spent (state p.old) (state p.new) marked_room) }
+    ensures stays { OnOk result (stops_expr (next (state p.old)) ≡ true → (state p.new).left ≡ (state p.old).left) }
+    ensures script { OnOk result (Follows script.missing_expr nothing (state p.old) (state p.new)) }
+{
+    p.err_recover("expected expression", expr_recovery_set())?;
+    m.abandon(p)?;
+    Ok(())
+}
+
+/// An expression without an operator between two expressions, as `-a` and `a.b()`.
+fn lhs<G: Grammar>(
+    p: &mut Parser<'_>,
+    g: &G,
+    r: Restrictions,
+) -> Result<Option<(CompletedMarker, BlockLike)>, NoMemory>
+    requires within { Within G.valid G.left g.now (state p.old) }
+    requires more { next (state p.old) ≢ EOF }
+    ensures operand { IfOk result (Operand operand_room (state p.old) (state p.new)) }
+    ensures script { IfOk result (λ e. Follows (script.lhs r) (of_expr e) (state p.old) (state p.new)) }
+{
+    match p.current() {
+        T![&] => Ok(Some((ref_expr(p, g, r)?, BlockLike::NotBlock))),
+        T![*] | T![!] | T![-] => Ok(Some((prefix_expr(p, g, r)?, BlockLike::NotBlock))),
+        T![.] if p.at(T![..=]) => Ok(Some((prefix_range(p, g, r, T![..=])?, BlockLike::NotBlock))),
+        T![.] if p.at(T![..]) => Ok(Some((prefix_range(p, g, r, T![..])?, BlockLike::NotBlock))),
+        _ => {
+            let Some((atom, block_like)) = atom_expr(p, g, r)? else {
+                return Ok(None);
+            };
+            let allow_calls = !(r.prefer_stmt && block_like.is_block());
+            let expr = postfix_expr(p, g, atom, block_like, allow_calls)?;
+            Ok(Some(expr))
+        }
+    }
+}

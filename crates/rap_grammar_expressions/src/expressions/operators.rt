@@ -1,0 +1,263 @@
+//! Operators before an operand and between two.
+ghost use Rattle.std.specs.Prelude.{◌≡◌, ◌≢◌, ◌+◌, ◌<◌, ◌≤◌, ◌↔◌, ◌∷◌, IfOk, OnOk, true, false, []};
+ghost use Rattle.rap_base.specs.TokenKind.{EOF, AS_KW, MUT_KW, CONST_KW, IDENT, AMP};
+ghost use Rattle.rap_base.specs.NodeKind.{BIN_EXPR, CAST_EXPR, REF_EXPR, PREFIX_EXPR};
+ghost use Rattle.rap_events.specs.Power.{power};
+ghost use Rattle.rap_events.specs.State.{state, next, At, IsLast, but_last, last_children};
+ghost use Rattle.rap_events.specs.Fit.{is_plain};
+ghost use Rattle.rap_grammar_frame.specs.Climb.{Climbed, LeftFits, Bound};
+ghost use Rattle.rap_grammar_scripts.specs.Expressions as script;
+ghost use Rattle.rap_grammar_scripts.specs.First.{one_of};
+ghost use Rattle.rap_grammar_frame.specs.Grew.{Within, Grew, Wraps, Makes};
+ghost use Rattle.rap_grammar_scripts.specs.Knot.{Follows};
+ghost use Rattle.rap_grammar_scripts.specs.Operator.{operator_at};
+ghost use Rattle.rap_grammar_frame.specs.Room.{operand_room};
+ghost use Rattle.rap_grammar_scripts.specs.Script.{something};
+
+use rap_base::no_memory::NoMemory;
+use rap_base::syntax_kind::SyntaxKind;
+use rap_events::parser::{CompletedMarker, Parser};
+use rap_grammar_frame::called::type_no_bounds;
+use rap_grammar_frame::knot::{Grammar, Rule};
+use rap_grammar_operands::ranges::range_expr;
+use rap_grammar_scripts::T;
+use rap_grammar_scripts::arguments::Restrictions;
+
+#[derive(Clone, Copy)]
+enum Associativity {
+    Left,
+    Right,
+}
+
+/// The operator after an operand that comes next, with its power: 12 for `as`. The power is 0 where none does.
+#[tactic(auto, unfolding(rap_grammar_scripts::specs::Operator::operator_at))]
+fn current_op(p: &Parser<'_>) -> (u8, SyntaxKind, Associativity)
+    ensures power { result.0 ≡ power (operator_at (state p.now).rest) }
+    ensures op { 0 < result.0 → result.1 ≡ operator_at (state p.now).rest }
+    ensures here { 0 < result.0 → At (state p.now) result.1 }
+    ensures most { result.0 ≤ 12 }
+    ensures cast { result.1 ≢ AS_KW → result.0 < 12 }
+    ensures right { (result.2 ≡ Associativity.Right) ↔ (result.0 ≡ 1) }
+{
+    use Associativity::{Left, Right};
+    match p.current() {
+        T![|] if p.at(T![||]) => (3, T![||], Left),
+        T![|] if p.at(T![|=]) => (1, T![|=], Right),
+        T![|] => (6, T![|], Left),
+        T![>] if p.at(T![>>=]) => (1, T![>>=], Right),
+        T![>] if p.at(T![>>]) => (9, T![>>], Left),
+        T![>] if p.at(T![>=]) => (5, T![>=], Left),
+        T![>] => (5, T![>], Left),
+        T![=] if p.at(T![==]) => (5, T![==], Left),
+        T![=] if p.at(T![=>]) => (0, T![=>], Left),
+        T![=] => (1, T![=], Right),
+        T![<] if p.at(T![<=]) => (5, T![<=], Left),
+        T![<] if p.at(T![<<=]) => (1, T![<<=], Right),
+        T![<] if p.at(T![<<]) => (9, T![<<], Left),
+        T![<] => (5, T![<], Left),
+        T![+] if p.at(T![+=]) => (1, T![+=], Right),
+        T![+] => (10, T![+], Left),
+        T![^] if p.at(T![^=]) => (1, T![^=], Right),
+        T![^] => (7, T![^], Left),
+        T![%] if p.at(T![%=]) => (1, T![%=], Right),
+        T![%] => (11, T![%], Left),
+        T![&] if p.at(T![&=]) => (1, T![&=], Right),
+        T![&] if p.at(T![&&]) => (4, T![&&], Left),
+        T![&] => (8, T![&], Left),
+        T![/] if p.at(T![/=]) => (1, T![/=], Right),
+        T![/] => (11, T![/], Left),
+        T![*] if p.at(T![*=]) => (1, T![*=], Right),
+        T![*] => (11, T![*], Left),
+        T![.] if p.at(T![..=]) => (2, T![..=], Left),
+        T![.] if p.at(T![..]) => (2, T![..], Left),
+        T![!] if p.at(T![!=]) => (5, T![!=], Left),
+        T![-] if p.at(T![-=]) => (1, T![-=], Right),
+        T![-] => (10, T![-], Left),
+        T![as] => (12, T![as], Left),
+        _ => (0, SyntaxKind::EOF, Left),
+    }
+}
+
+/// The operators of at least the power `bp` after `lhs`, each with its operand on the right.
+#[inline(never)]
+pub(crate) fn climb<G: Grammar>(
+    p: &mut Parser<'_>,
+    g: &G,
+    mut lhs: CompletedMarker,
+    r: Restrictions,
+    bp: u8,
+) -> Result<CompletedMarker, NoMemory>
+    requires within { Within G.valid G.left g.now (state p.old) }
+    requires last { IsLast (state p.old) lhs lhs.kind.value }
+    requires plain { is_plain lhs.kind.value ≡ true }
+    requires power { 1 ≤ bp }
+    ensures grew { OnOk result (Grew (state p.old) (state p.new) 0) }
+    ensures last { IfOk result (λ cm. IsLast (state p.new) cm cm.kind.value) }
+    ensures one { OnOk result (but_last (state p.new).forest ≡ but_last (state p.old).forest) }
+    ensures climbed { IfOk result (λ cm. Climbed (state p.new) cm.kind.value bp false) }
+    ensures script { OnOk result (Follows (script.climb r bp) something (state p.old) (state p.new)) }
+{
+    'operators: loop {
+        let (op_bp, op, associativity) = current_op(p);
+        if op_bp < bp {
+            return Ok(lhs);
+        }
+        if op == T![as] {
+            lhs = cast_expr(p, g, lhs)?;
+            continue;
+        }
+        if op_bp == 2 {
+            let (range, has_end) = range_expr(p, g, lhs, r, op)?;
+            lhs = range;
+            if !has_end {
+                return Ok(lhs);
+            }
+            continue;
+        }
+        lhs = bin_expr(p, g, lhs, r, op, op_bp, associativity)?;
+    }
+}
+
+/// An operator between two expressions, the left one done, as `+ b` after `a`.
+#[tactic(auto, using(rap_grammar_frame::proofs::Binary::width_positive))]
+fn bin_expr<G: Grammar>(
+    p: &mut Parser<'_>,
+    g: &G,
+    lhs: CompletedMarker,
+    r: Restrictions,
+    op: SyntaxKind,
+    bp: u8,
+    associativity: Associativity,
+) -> Result<CompletedMarker, NoMemory>
+    requires within { Within G.valid G.left g.now (state p.old) }
+    requires last { IsLast (state p.old) lhs lhs.kind.value }
+    requires here { At (state p.old) op }
+    requires power { bp ≡ power op }
+    requires positive { 0 < bp }
+    requires no_range { bp ≢ 2 }
+    requires no_cast { bp < 12 }
+    requires right { (associativity ≡ Associativity.Right) ↔ (bp ≡ 1) }
+    requires left_side { (state p.old).messages ≡ 0 → LeftFits lhs.kind.value (last_children (state p.old).forest) bp }
+    ensures wraps { IfOk result (Wraps BIN_EXPR operand_room (state p.old) (state p.new)) }
+    ensures bound { OnOk result ((state p.new).messages ≡ 0 → Bound (state p.new) bp) }
+    ensures script { OnOk result (Follows (script.bin_expr r op) something (state p.old) (state p.new)) }
+{
+    let m = lhs.precede(p)?;
+    p.bump(op)?;
+    let bp = right_power(bp, associativity);
+    let r = Restrictions {
+        prefer_stmt: false,
+        ..r
+    };
+    g.run(p, Rule::Expr { m: None, r, bp })?;
+    let cm = m.complete_fit(p, SyntaxKind::BIN_EXPR)?;
+    Ok(cm)
+}
+
+/// A cast, as `as b` after `a`.
+fn cast_expr<G: Grammar>(
+    p: &mut Parser<'_>,
+    g: &G,
+    lhs: CompletedMarker,
+) -> Result<CompletedMarker, NoMemory>
+    requires within { Within G.valid G.left g.now (state p.old) }
+    requires last { IsLast (state p.old) lhs lhs.kind.value }
+    requires here { At (state p.old) AS_KW }
+    ensures wraps { IfOk result (Wraps CAST_EXPR operand_room (state p.old) (state p.new)) }
+    ensures script { OnOk result (Follows script.cast_expr something (state p.old) (state p.new)) }
+{
+    let m = lhs.precede(p)?;
+    p.bump(T![as])?;
+    type_no_bounds(p, g)?;
+    let cm = m.complete(p, SyntaxKind::CAST_EXPR)?;
+    Ok(cm)
+}
+
+/// The least power of the operand on the right of an operator of the power `bp`.
+fn right_power(bp: u8, associativity: Associativity) -> u8
+    requires right { (associativity ≡ Associativity.Right) ↔ (bp ≡ 1) }
+    requires small { bp < 12 }
+    requires positive { 0 < bp }
+    ensures left { bp ≢ 1 → result ≡ bp + 1 }
+    ensures right { bp ≡ 1 → result ≡ 1 }
+    ensures most { result ≤ bp + 1 }
+    ensures positive { 1 ≤ result }
+{
+    match associativity {
+        Associativity::Left => bp + 1,
+        Associativity::Right => bp,
+    }
+}
+
+/// What stands between the `&` of a reference and its operand: `mut`, `raw mut`, `raw const`, and `raw` before a name.
+/// Elsewhere `raw` is a name itself, as in `&raw.b`.
+fn ref_qualifier(p: &mut Parser<'_>) -> Result<(), NoMemory>
+    ensures grew { OnOk result (Grew (state p.old) (state p.new) 0) }
+    ensures script { OnOk result (Follows script.ref_qualifier something (state p.old) (state p.new)) }
+{
+    if p.at_contextual_kw(T![raw]) && is_raw_follow(p.nth(1)) {
+        p.bump_remap(T![raw])?;
+        if p.eat(T![const])? {
+            return Ok(());
+        }
+        p.eat(T![mut])?;
+        return Ok(());
+    }
+    p.eat(T![mut])?;
+    Ok(())
+}
+
+/// Whether `raw` before a token of this kind is no name.
+fn is_raw_follow(kind: SyntaxKind) -> bool
+    ensures { result ≡ one_of (MUT_KW ∷ CONST_KW ∷ IDENT ∷ []) kind }
+{
+    matches!(kind, T![mut] | T![const] | T![ident])
+}
+
+/// A reference, as `&a`, `&mut a` and `&raw const a`.
+#[inline(never)]
+pub(crate) fn ref_expr<G: Grammar>(
+    p: &mut Parser<'_>,
+    g: &G,
+    r: Restrictions,
+) -> Result<CompletedMarker, NoMemory>
+    requires within { Within G.valid G.left g.now (state p.old) }
+    requires here { next (state p.old) ≡ AMP }
+    ensures made { IfOk result (Makes REF_EXPR operand_room (state p.old) (state p.new)) }
+    ensures script { OnOk result (Follows (script.ref_expr r) something (state p.old) (state p.new)) }
+{
+    let m = p.start()?;
+    p.bump(T![&])?;
+    ref_qualifier(p)?;
+    g.run(
+        p,
+        Rule::Expr {
+            m: None,
+            r,
+            bp: 255,
+        },
+    )?;
+    let cm = m.complete(p, SyntaxKind::REF_EXPR)?;
+    Ok(cm)
+}
+
+/// An operator before its operand, as `-a`.
+#[inline(never)]
+pub(crate) fn prefix_expr<G: Grammar>(
+    p: &mut Parser<'_>,
+    g: &G,
+    r: Restrictions,
+) -> Result<CompletedMarker, NoMemory>
+    requires within { Within G.valid G.left g.now (state p.old) }
+    requires more { next (state p.old) ≢ EOF }
+    ensures made { IfOk result (Makes PREFIX_EXPR operand_room (state p.old) (state p.new)) }
+    ensures script { OnOk result (Follows (script.prefix_expr r) something (state p.old) (state p.new)) }
+{
+    let m = p.start()?;
+    p.bump_any()?;
+    // It binds tighter than any operator between two operands.
+    let bp = 255;
+    g.run(p, Rule::Expr { m: None, r, bp })?;
+    let cm = m.complete(p, SyntaxKind::PREFIX_EXPR)?;
+    Ok(cm)
+}

@@ -1,0 +1,9 @@
+pub mod Binary
+pub mod Ending
+pub mod Growth
+pub mod Left
+pub mod Lookahead
+pub mod Operating
+pub mod Patterning
+pub mod Steps
+pub mod TokenTrees

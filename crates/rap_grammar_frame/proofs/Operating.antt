@@ -1,0 +1,84 @@
+-- The script of an expression from its operand on.
+use Rattle.std.proofs.Common.{◌≡◌, ◌≢◌, ℕ, ◌<◌, ◌≤◌, List, [], ◌∷◌, Bool, true, false, ◌==◌, ◌&&◌, nat_lt, not, refl, ◌∙◌, arith, if◌then◌else◌}
+use Rattle.std.proofs.lemmas.Bool.{ne_eqb}
+use Rattle.std.proofs.lemmas.Bool.Decides.{nat_tests}
+use Rattle.rap_base.specs.TokenKind.{AS_KW}
+use Rattle.rap_events.specs.Composite.{begins_with}
+use Rattle.rap_events.specs.Power.{power}
+use Rattle.rap_events.specs.Record.{Record, next_kind}
+use Rattle.rap_events.specs.State.{State}
+use Rattle.rap_grammar_scripts.specs.Atom.{atom_expr}
+use Rattle.rap_grammar_scripts.specs.Expressions.{operation, cast_expr, range_expr, bin_expr, climb, lhs, postfix_expr, of_like, is_block}
+use Rattle.rap_grammar_scripts.specs.Knot.{Follows}
+use Rattle.rap_grammar_scripts.specs.Script.{Outcome, nothing, something, block, again, goes_on, Spot, spot, give, extend, abandon, after, gives}
+use Rattle.rap_grammar_scripts.specs.Words.{done, if_some, of_bool}
+use Rattle.rap_grammar_scripts.specs.declared.arguments.BlockLike.{BlockLike}
+use Rattle.rap_grammar_scripts.specs.declared.arguments.BlockLike.TheVariants as like
+use Rattle.rap_grammar_scripts.specs.declared.arguments.Restrictions.{Restrictions}
+use Rattle.rap_grammar_frame.proofs.Steps.{On, by_rule}
+
+below : (a b : ℕ) → a < b → nat_lt a b ≡ true
+below a b h = grind (arith, nat_tests)
+
+not_below : (a b : ℕ) → b ≤ a → nat_lt a b ≡ false
+not_below a b h = grind (arith, nat_tests)
+
+-- an operator of too little power
+pub stops_low : (r : Restrictions) (bp op : ℕ) {n : ℕ} {p : Spot} → n ≡ power op → n < bp → On (operation r bp op) p p something
+stops_low r bp op e h = let lo : nat_lt (power op) bp ≡ true = below _ _ (rw e at h) in rw lo gives
+
+-- a cast
+pub goes_as : (r : Restrictions) (bp op : ℕ) {n : ℕ} {s t : State} → n ≡ power op → bp ≤ n → op ≡ AS_KW → Follows cast_expr something s t → On (operation r bp op) (spot s) (spot t) (again false false)
+goes_as r bp op e h a f =
+    let lo : nat_lt (power op) bp ≡ false = not_below _ _ (rw e at h) in
+    let cast : (op == AS_KW) ≡ true = rw a refl in
+    rw (lo, cast) (by_rule f gives)
+
+-- a range without an end
+pub stops_range : (r : Restrictions) (bp op : ℕ) {n : ℕ} {s t : State} {b : Bool} → n ≡ power op → bp ≤ n → op ≢ AS_KW → n ≡ 2 → Follows (range_expr r op) (of_bool b) s t → b ≡ false → On (operation r bp op) (spot s) (spot t) something
+stops_range r bp op {b = true} e h a two f i = absurd cc
+stops_range r bp op {b = false} e h a two f i =
+    let lo : nat_lt (power op) bp ≡ false = not_below _ _ (rw e at h) in
+    let cast : (op == AS_KW) ≡ false = ne_eqb op AS_KW a in
+    let dots : (power op == 2) ≡ true = rw (← e, two) refl in
+    rw (lo, cast, dots) (by_rule f gives)
+
+-- a range with an end
+pub goes_range : (r : Restrictions) (bp op : ℕ) {n : ℕ} {s t : State} {b : Bool} → n ≡ power op → bp ≤ n → op ≢ AS_KW → n ≡ 2 → Follows (range_expr r op) (of_bool b) s t → b ≡ true → On (operation r bp op) (spot s) (spot t) (again false false)
+goes_range r bp op {b = false} e h a two f i = absurd cc
+goes_range r bp op {b = true} e h a two f i =
+    let lo : nat_lt (power op) bp ≡ false = not_below _ _ (rw e at h) in
+    let cast : (op == AS_KW) ≡ false = ne_eqb op AS_KW a in
+    let dots : (power op == 2) ≡ true = rw (← e, two) refl in
+    rw (lo, cast, dots) (by_rule f gives)
+
+-- an operator with its right operand
+pub goes_binary : (r : Restrictions) (bp op : ℕ) {n : ℕ} {s t : State} → n ≡ power op → bp ≤ n → op ≢ AS_KW → n ≢ 2 → Follows (bin_expr r op) something s t → On (operation r bp op) (spot s) (spot t) (again false false)
+goes_binary r bp op {n = n} e h a ne f =
+    let lo : nat_lt (power op) bp ≡ false = not_below _ _ (rw e at h) in
+    let cast : (op == AS_KW) ≡ false = ne_eqb op AS_KW a in
+    let dots : (power op == 2) ≡ false = ne_eqb (power op) 2 (λ i. ne (e ∙ i)) in
+    rw (lo, cast, dots) (by_rule f gives)
+
+pub like_is : (x : BlockLike) → (if is_block (of_like x) then block else something) ≡ of_like x
+like_is like.Block = refl
+like_is like.NotBlock = refl
+
+pub like_ends : (x : BlockLike) → goes_on (of_like x) ≡ false
+like_ends like.Block = refl
+like_ends like.NotBlock = refl
+
+-- an operand, and on
+pub from_lhs : (x : BlockLike) (r : Restrictions) (bp : ℕ) {s t : State} {q : Spot} {v : Outcome} → Follows (lhs r) (of_like x) s t → On (extend (if r.prefer_stmt && is_block (of_like x) then give block else after (climb r bp) (λ w. done))) (spot t) q v → On (after (lhs r) (λ w. if_some w (extend (if r.prefer_stmt && is_block w then give block else after (climb r bp) (λ u. done))) (abandon (give nothing)))) (spot s) q v
+from_lhs like.Block r bp h d = by_rule h d
+from_lhs like.NotBlock r bp h d = by_rule h d
+
+-- several tokens, the first of which does not come next
+pub no_first : (rs : List Record) (j k : ℕ) (ks : List ℕ) → next_kind rs ≢ j → begins_with (j ∷ k ∷ ks) rs ≡ false
+no_first [] j k ks n = refl
+no_first (r ∷ rs) j k ks n = rw (ne_eqb r.kind j n) refl
+
+-- an operand without an operator before it, and on
+pub from_atom : (x : BlockLike) (r : Restrictions) {s t : State} {q : Spot} {v : Outcome} → Follows (atom_expr r) (of_like x) s t → On (postfix_expr (not (r.prefer_stmt && is_block (of_like x))) (is_block (of_like x))) (spot t) q v → On (after (atom_expr r) (λ w. if_some w (postfix_expr (not (r.prefer_stmt && is_block w)) (is_block w)) (give nothing))) (spot s) q v
+from_atom like.Block r h d = by_rule h d
+from_atom like.NotBlock r h d = by_rule h d

@@ -1,0 +1,4 @@
+pub mod Climb
+pub mod Grew
+pub mod Room
+pub mod Rules

@@ -1,0 +1,147 @@
+-- What the rules that are come back to ask and give.
+-- (What calls promise one another; no promise of the library rests on it.)
+use Rattle.std.specs.Prelude.{◌≡◌, ℕ, ◌≤◌, ◌<◌, ◌≢◌, Option, Some, None, is_some, Bool, true, false}
+use Rattle.rap_base.specs.TokenKind.{EOF, L_ANGLE, R_CURLY, IF_KW, WHERE_KW}
+use Rattle.rap_events.specs.Fit.{is_plain}
+use Rattle.rap_events.specs.State.{State, next}
+use Rattle.rap_events.specs.declared.parser.CompletedMarker.{CompletedMarker}
+use Rattle.rap_events.specs.declared.parser.Marker.{Marker}
+use Rattle.rap_grammar_scripts.specs.Attributes.{inner_attrs, meta, cfg_predicate}
+use Rattle.rap_grammar_frame.specs.Climb.{Climbed}
+use Rattle.rap_grammar_scripts.specs.Control.{if_expr}
+use Rattle.rap_grammar_scripts.specs.Expressions.{expr_bp, of_expr}
+use Rattle.rap_grammar_scripts.specs.First.{is_type_first, is_generic_arg_first, is_cfg_predicate_first, starts_use_path}
+use Rattle.rap_grammar_scripts.specs.GenericArgs.{generic_arg}
+use Rattle.rap_grammar_scripts.specs.GenericParams.{generic_param_list, bounds_without_colon, where_clause}
+use Rattle.rap_grammar_frame.specs.Grew.{Grew, Took, Spent, Made, Closed, Closes, Dropped}
+use Rattle.rap_grammar_scripts.specs.Items.{item_or_macro}
+use Rattle.rap_grammar_scripts.specs.Knot.{Follows}
+use Rattle.rap_grammar_scripts.specs.Patterns.{pattern_r, pattern_single_r}
+use Rattle.rap_grammar_scripts.specs.Recovery.{stops_expr, stops_pattern, stops_arm, stops_of, stops_type}
+use Rattle.rap_grammar_frame.specs.Room.{expression_room, atom_room, statement_room, marked_room, element_room, list_room, type_room, pattern_room, single_pattern_room, atom_pattern_room}
+use Rattle.rap_grammar_scripts.specs.Script.{something}
+use Rattle.rap_grammar_scripts.specs.Statements.{stmt}
+use Rattle.rap_grammar_scripts.specs.Types.{type_with_bounds_cond, path_type_bounds}
+use Rattle.rap_grammar_scripts.specs.UseItem.{starts_use_tree, use_tree}
+use Rattle.rap_grammar_scripts.specs.declared.arguments.BlockLike.{BlockLike}
+use Rattle.rap_grammar_frame.specs.declared.knot.Rule.{Rule}
+use Rattle.rap_grammar_frame.specs.declared.knot.Rule.TheVariants as rule
+
+-- a marker that is handed over is the newest one
+abbrev pub IsNewest : State → Option Marker → Type 0
+IsNewest s None = Unit {0}
+IsNewest s (Some m) = s.marker ≡ Some m.pos.value
+
+-- no expression: a token is taken unless the next one ends the search for an expression, and then none is
+pub record Missed (old new : State) : Type 0 where
+  pub took : stops_expr (next old) ≡ false → Took old new expression_room
+  pub stays : stops_expr (next old) ≡ true → new.left ≡ old.left
+
+-- an expression of its own, or one from the marker on that was handed over; or a message and no expression
+abbrev pub Answered : State → State → Option Marker → Bool → ℕ → Option (CompletedMarker × BlockLike) → Type 0
+Answered old new None stmt bp (Some e) = Made old new e.0 expression_room × Climbed new e.0.kind.value bp stmt
+Answered old new None stmt bp None = Grew old new 8 × (old.messages < new.messages) × Missed old new
+Answered old new (Some m) stmt bp (Some e) = Closed old new e.0 expression_room × Climbed new e.0.kind.value bp stmt
+Answered old new (Some m) stmt bp None = Dropped old new 8 × (stops_expr (next old) ≡ false → Spent old new expression_room)
+
+-- an operand: a node of which nothing more is asked; or a message, with a token in an `ERROR` at least, and no node
+abbrev pub Operand : ℕ → State → State → Option (CompletedMarker × BlockLike) → Type 0
+Operand room old new (Some e) = Made old new e.0 room × (is_plain e.0.kind.value ≡ true)
+Operand room old new None = Took old new room × (old.messages < new.messages)
+
+-- the same from the newest marker on, with at most `k` events more than the tokens pay for, and the marker is gone
+abbrev pub OperandFrom : ℕ → State → State → Option (CompletedMarker × BlockLike) → Type 0
+OperandFrom k old new (Some e) = Closes e.0.kind.value k old new e.0 × (is_plain e.0.kind.value ≡ true)
+OperandFrom k old new None = Dropped old new k
+
+-- an expression from the newest marker on, or a message, and the marker is gone
+abbrev pub AnsweredFrom : State → State → Bool → ℕ → Option (CompletedMarker × BlockLike) → Type 0
+AnsweredFrom old new stmt bp (Some e) = Closed old new e.0 marked_room × Climbed new e.0.kind.value bp stmt
+AnsweredFrom old new stmt bp None = Dropped old new 5
+
+-- A rule that gives no node: where it begins with one of these tokens, it takes one at least, and else it records at
+-- most so many events more than its tokens pay for.
+pub record Parsed (first : ℕ → Bool) (k room : ℕ) (old new : State) : Type 0 where
+  pub grew : Grew old new k
+  pub took : first (next old) ≡ true → Took old new room
+
+-- a type: a token at least is taken where one begins, and also where the next one does not end the search for it
+pub record IsType (old new : State) : Type 0 where
+  pub grew : Grew old new 8
+  pub took : is_type_first (next old) ≡ true → Took old new type_room
+  pub skips : stops_type (next old) ≡ false → Took old new type_room
+
+-- a pattern, by what ends the search for it and by its costs: where it takes no token, the next one is as before
+pub record PatternUntil (stops : ℕ → Bool) (k room : ℕ) (old new : State) : Type 0 where
+  pub grew : Grew old new k
+  pub took : stops (next old) ≡ false → Took old new room
+  pub stays : stops (next old) ≡ true → next new ≡ next old
+
+abbrev pub PatternIn : ℕ → ℕ → State → State → Type 0
+PatternIn k room old new = PatternUntil stops_pattern k room old new
+
+abbrev pub IsPattern : State → State → Type 0
+IsPattern old new = PatternIn 8 pattern_room old new
+
+-- a pattern without alternatives
+abbrev pub IsSinglePattern : State → State → Type 0
+IsSinglePattern old new = PatternIn 3 single_pattern_room old new
+
+-- a pattern that is no range: a node, or none
+abbrev pub IsAtomPattern : Bool → State → State → Option CompletedMarker → Type 0
+IsAtomPattern in_arm old new (Some cm) = Made old new cm atom_pattern_room × (stops_pattern (next old) ≡ false)
+IsAtomPattern in_arm old new None = PatternUntil (stops_of in_arm) 3 atom_pattern_room old new
+
+-- the pattern of an arm
+abbrev pub IsArmPattern : State → State → Type 0
+IsArmPattern old new = PatternUntil stops_arm 8 pattern_room old new
+
+-- a statement: a token is taken unless none is left
+pub record IsStatement (old new : State) : Type 0 where
+  pub grew : Grew old new 8
+  pub took : next old ≢ EOF → Took old new statement_room
+
+-- an item: a token is taken unless none is left, or a brace ends the list of items
+pub record IsItem (stop_on_r_curly : Bool) (old new : State) : Type 0 where
+  pub grew : Grew old new 8
+  pub took : next old ≢ EOF → (stop_on_r_curly ≡ true → next old ≢ R_CURLY) → Took old new statement_room
+
+-- what each rule asks
+abbrev pub Pre : Rule → State → Type 0
+Pre (rule.Expr m r bp) s = IsNewest s m × (1 ≤ bp)
+Pre (rule.Ty allow_bounds) s = Unit {0}
+Pre rule.TraitPath s = starts_use_path s.rest ≡ true
+Pre rule.GenericArg s = is_generic_arg_first (next s) ≡ true
+Pre rule.GenericParamList s = next s ≡ L_ANGLE
+Pre rule.Bounds s = Unit {0}
+Pre rule.WhereClause s = next s ≡ WHERE_KW
+Pre rule.Pattern s = Unit {0}
+Pre rule.PatternSingle s = Unit {0}
+Pre rule.ArmPattern s = Unit {0}
+Pre (rule.Stmt semicolon) s = Unit {0}
+Pre rule.IfExpr s = next s ≡ IF_KW
+Pre (rule.Item stop_on_r_curly is_in_extern) s = Unit {0}
+Pre rule.InnerAttrs s = Unit {0}
+Pre rule.UseTree s = starts_use_tree s.rest ≡ true
+Pre rule.Meta s = Unit {0}
+Pre rule.CfgPredicate s = Unit {0}
+
+-- what each rule gives
+abbrev pub Post : Rule → State → State → Option (CompletedMarker × BlockLike) → Type 0
+Post (rule.Expr m r bp) old new e = Answered old new m r.prefer_stmt bp e × Follows (expr_bp (is_some m) r bp) (of_expr e) old new
+Post (rule.Ty allow_bounds) old new e = IsType old new × Follows (type_with_bounds_cond allow_bounds) something old new
+Post rule.TraitPath old new e = Took old new type_room × Follows (path_type_bounds true) something old new
+Post rule.GenericArg old new e = Took old new element_room × Follows generic_arg something old new
+Post rule.GenericParamList old new e = Took old new list_room × Follows generic_param_list something old new
+Post rule.Bounds old new e = Grew old new 16 × Follows bounds_without_colon something old new
+Post rule.WhereClause old new e = Took old new list_room × Follows where_clause something old new
+Post rule.Pattern old new e = IsPattern old new × Follows (pattern_r false) something old new
+Post rule.PatternSingle old new e = IsSinglePattern old new × Follows (pattern_single_r false) something old new
+Post rule.ArmPattern old new e = IsArmPattern old new × Follows (pattern_r true) something old new
+Post (rule.Stmt semicolon) old new e = IsStatement old new × Follows (stmt semicolon) something old new
+Post rule.IfExpr old new e = Took old new atom_room × Follows if_expr something old new
+Post (rule.Item stop_on_r_curly is_in_extern) old new e = IsItem stop_on_r_curly old new × Follows (item_or_macro stop_on_r_curly is_in_extern) something old new
+Post rule.InnerAttrs old new e = Grew old new 0 × Follows inner_attrs something old new
+Post rule.UseTree old new e = Took old new list_room × Follows use_tree something old new
+Post rule.Meta old new e = Grew old new 16 × Follows meta something old new
+Post rule.CfgPredicate old new e = Parsed is_cfg_predicate_first 8 element_room old new × Follows cfg_predicate something old new

@@ -1,0 +1,250 @@
+//! Rules that are come back to, as parts of others.
+ghost use Rattle.std.specs.Prelude.{◌≡◌, ◌≢◌, ◌<◌, ◌≤◌, OnOk, IfOk, true, false, Some, None, ◌∷◌};
+ghost use Rattle.rap_base.specs.TokenKind.{COLON, FOR_KW, IF_KW};
+ghost use Rattle.rap_events.specs.State.{state, next};
+ghost use Rattle.rap_grammar_scripts.specs.Atom as atom_script;
+ghost use Rattle.rap_grammar_scripts.specs.Called as called;
+ghost use Rattle.rap_grammar_scripts.specs.Expressions.{of_expr};
+ghost use Rattle.rap_grammar_scripts.specs.Grammar as grammar_script;
+ghost use Rattle.rap_grammar_frame.specs.Grew.{Within, Grew, Behind, Reads, Took};
+ghost use Rattle.rap_grammar_scripts.specs.Knot.{Follows};
+ghost use Rattle.rap_grammar_scripts.specs.Recovery.{stops_expr};
+ghost use Rattle.rap_grammar_frame.specs.Room.{atom_room, expression_room, list_room};
+ghost use Rattle.rap_grammar_frame.specs.Rules.{Answered, IsArmPattern, IsPattern, IsSinglePattern, IsType};
+ghost use Rattle.rap_grammar_scripts.specs.Script.{something};
+ghost use Rattle.rap_grammar_scripts.specs.TypeParts as parts;
+ghost use Rattle.rap_grammar_scripts.specs.Words.{of_bool, of_option};
+
+use crate::knot::{Answer, Grammar, Rule};
+use crate::names::is_path_name;
+use rap_base::no_memory::NoMemory;
+use rap_base::syntax_kind::SyntaxKind;
+use rap_events::parser::{CompletedMarker, Parser};
+use rap_grammar_scripts::T;
+use rap_grammar_scripts::arguments::Restrictions;
+
+/// What a function gives back, as `-> a`, if it says so. Answers whether it does.
+pub fn opt_ret_type<G: Grammar>(p: &mut Parser<'_>, g: &G) -> Result<bool, NoMemory>
+    requires within { Within G.valid G.left g.now (state p.old) }
+    ensures grew { OnOk result (Grew (state p.old) (state p.new) 0) }
+    ensures script { IfOk result (λ found. Follows grammar_script.opt_ret_type (of_bool found) (state p.old) (state p.new)) }
+{
+    if !p.at(T![->]) {
+        return Ok(false);
+    }
+    let m = p.start()?;
+    p.bump(T![->])?;
+    type_no_bounds(p, g)?;
+    m.complete(p, SyntaxKind::RET_TYPE)?;
+    Ok(true)
+}
+
+/// The same without the arrow, which is reported: a type where a name of a path comes next.
+pub fn opt_no_arrow_ret_type<G: Grammar>(p: &mut Parser<'_>, g: &G) -> Result<bool, NoMemory>
+    requires behind { Behind G.valid G.left g.now (state p.old) }
+    ensures grew { OnOk result (Grew (state p.old) (state p.new) 0) }
+    ensures script { IfOk result (λ found. Follows grammar_script.opt_no_arrow_ret_type (of_bool found) (state p.old) (state p.new)) }
+{
+    if !is_path_name(p.current()) {
+        return Ok(false);
+    }
+    let m = p.start()?;
+    p.error("missing thin-arrow `->`")?;
+    type_no_bounds(p, g)?;
+    m.complete(p, SyntaxKind::RET_TYPE)?;
+    Ok(true)
+}
+
+/// An expression, after a token of the rule around it.
+pub fn expr<G: Grammar>(p: &mut Parser<'_>, g: &G) -> Result<Option<CompletedMarker>, NoMemory>
+    requires behind { Behind G.valid G.left g.now (state p.old) }
+    ensures reads { IfOk result (Reads expression_room 8 (state p.old) (state p.new)) }
+    ensures took { OnOk result (stops_expr (next (state p.old)) ≡ false → Took (state p.old) (state p.new) expression_room) }
+    ensures script { IfOk result (λ o. Follows atom_script.expr (of_option o) (state p.old) (state p.new)) }
+{
+    let r = Restrictions {
+        forbid_structs: false,
+        prefer_stmt: false,
+    };
+    match g.run(p, Rule::Expr { m: None, r, bp: 1 })? {
+        Some((cm, _)) => Ok(Some(cm)),
+        None => Ok(None),
+    }
+}
+
+/// An expression in which no record literal may stand, as before the block of an `if`.
+pub fn expr_no_struct<G: Grammar>(p: &mut Parser<'_>, g: &G) -> Result<(), NoMemory>
+    requires behind { Behind G.valid G.left g.now (state p.old) }
+    ensures grew { OnOk result (Grew (state p.old) (state p.new) 8) }
+    ensures script { OnOk result (Follows called.expr_no_struct something (state p.old) (state p.new)) }
+{
+    let r = Restrictions {
+        forbid_structs: true,
+        prefer_stmt: false,
+    };
+    g.run(p, Rule::Expr { m: None, r, bp: 1 })?;
+    Ok(())
+}
+
+/// An expression that ends after a block, as a statement does.
+pub fn expr_stmt<G: Grammar>(p: &mut Parser<'_>, g: &G) -> Result<Answer, NoMemory>
+    requires behind { Behind G.valid G.left g.now (state p.old) }
+    ensures answered { IfOk result (Answered (state p.old) (state p.new) None true 1) }
+    ensures script { IfOk result (λ e. Follows called.expr_stmt (of_expr e) (state p.old) (state p.new)) }
+{
+    let r = Restrictions {
+        forbid_structs: false,
+        prefer_stmt: true,
+    };
+    let expr = g.run(p, Rule::Expr { m: None, r, bp: 1 })?;
+    Ok(expr)
+}
+
+/// The parameters of something generic, as `<T, 'a>`, if there are.
+pub fn opt_generic_param_list<G: Grammar>(p: &mut Parser<'_>, g: &G) -> Result<(), NoMemory>
+    requires behind { Behind G.valid G.left g.now (state p.old) }
+    ensures grew { OnOk result (Grew (state p.old) (state p.new) 0) }
+    ensures script { OnOk result (Follows called.opt_generic_param_list something (state p.old) (state p.new)) }
+{
+    if !p.at(T![<]) {
+        return Ok(());
+    }
+    g.run(p, Rule::GenericParamList)?;
+    Ok(())
+}
+
+/// Bounds behind their colon, as `: A + B`.
+pub fn bounds<G: Grammar>(p: &mut Parser<'_>, g: &G) -> Result<(), NoMemory>
+    requires within { Within G.valid G.left g.now (state p.old) }
+    requires here { next (state p.old) ≡ COLON }
+    ensures took { OnOk result (Took (state p.old) (state p.new) list_room) }
+    ensures script { OnOk result (Follows called.bounds something (state p.old) (state p.new)) }
+{
+    p.bump(T![:])?;
+    g.run(p, Rule::Bounds)?;
+    Ok(())
+}
+
+/// Bounds, as `A + B`.
+pub fn bounds_without_colon<G: Grammar>(p: &mut Parser<'_>, g: &G) -> Result<(), NoMemory>
+    requires behind { Behind G.valid G.left g.now (state p.old) }
+    ensures grew { OnOk result (Grew (state p.old) (state p.new) 16) }
+    ensures script { OnOk result (Follows called.bounds_without_colon something (state p.old) (state p.new)) }
+{
+    g.run(p, Rule::Bounds)?;
+    Ok(())
+}
+
+/// A `where` clause, as `where T: A`, if there is one.
+pub fn opt_where_clause<G: Grammar>(p: &mut Parser<'_>, g: &G) -> Result<(), NoMemory>
+    requires behind { Behind G.valid G.left g.now (state p.old) }
+    ensures grew { OnOk result (Grew (state p.old) (state p.new) 0) }
+    ensures script { OnOk result (Follows called.opt_where_clause something (state p.old) (state p.new)) }
+{
+    if !p.at(T![where]) {
+        return Ok(());
+    }
+    g.run(p, Rule::WhereClause)?;
+    Ok(())
+}
+
+/// The pattern of an arm of a `match`.
+pub fn arm_pattern<G: Grammar>(p: &mut Parser<'_>, g: &G) -> Result<(), NoMemory>
+    requires behind { Behind G.valid G.left g.now (state p.old) }
+    ensures reads { OnOk result (IsArmPattern (state p.old) (state p.new)) }
+    ensures script { OnOk result (Follows called.arm_pattern something (state p.old) (state p.new)) }
+{
+    g.run(p, Rule::ArmPattern)?;
+    Ok(())
+}
+
+/// An `if` behind an `else`.
+pub fn else_if<G: Grammar>(p: &mut Parser<'_>, g: &G) -> Result<(), NoMemory>
+    requires behind { Behind G.valid G.left g.now (state p.old) }
+    requires here { next (state p.old) ≡ IF_KW }
+    ensures took { OnOk result (Took (state p.old) (state p.new) atom_room) }
+    ensures script { OnOk result (Follows called.else_if something (state p.old) (state p.new)) }
+{
+    g.run(p, Rule::IfExpr)?;
+    Ok(())
+}
+
+/// A pattern, after a token of the rule around it.
+pub fn pattern<G: Grammar>(p: &mut Parser<'_>, g: &G) -> Result<(), NoMemory>
+    requires behind { Behind G.valid G.left g.now (state p.old) }
+    ensures reads { OnOk result (IsPattern (state p.old) (state p.new)) }
+    ensures script { OnOk result (Follows called.pattern something (state p.old) (state p.new)) }
+{
+    g.run(p, Rule::Pattern)?;
+    Ok(())
+}
+
+/// A pattern without alternatives, after a token of the rule around it.
+pub fn pattern_single<G: Grammar>(p: &mut Parser<'_>, g: &G) -> Result<(), NoMemory>
+    requires behind { Behind G.valid G.left g.now (state p.old) }
+    ensures reads { OnOk result (IsSinglePattern (state p.old) (state p.new)) }
+    ensures script { OnOk result (Follows called.pattern_single something (state p.old) (state p.new)) }
+{
+    g.run(p, Rule::PatternSingle)?;
+    Ok(())
+}
+
+/// A type, after a token of the rule around it.
+pub fn type_<G: Grammar>(p: &mut Parser<'_>, g: &G) -> Result<(), NoMemory>
+    requires behind { Behind G.valid G.left g.now (state p.old) }
+    ensures reads { OnOk result (IsType (state p.old) (state p.new)) }
+    ensures script { OnOk result (Follows called.type_ something (state p.old) (state p.new)) }
+{
+    g.run(p, Rule::Ty { allow_bounds: true })?;
+    Ok(())
+}
+
+/// A type without bounds after it.
+pub fn type_no_bounds<G: Grammar>(p: &mut Parser<'_>, g: &G) -> Result<(), NoMemory>
+    requires behind { Behind G.valid G.left g.now (state p.old) }
+    ensures reads { OnOk result (IsType (state p.old) (state p.new)) }
+    ensures script { OnOk result (Follows called.type_no_bounds something (state p.old) (state p.new)) }
+{
+    g.run(
+        p,
+        Rule::Ty {
+            allow_bounds: false,
+        },
+    )?;
+    Ok(())
+}
+
+/// The parameters behind `for`, as `for<'a>`.
+pub fn for_binder<G: Grammar>(p: &mut Parser<'_>, g: &G) -> Result<(), NoMemory>
+    requires within { Within G.valid G.left g.now (state p.old) }
+    requires here { next (state p.old) ≡ FOR_KW }
+    ensures took { OnOk result (Took (state p.old) (state p.new) list_room) }
+    ensures script { OnOk result (Follows parts.for_binder something (state p.old) (state p.new)) }
+{
+    let m = p.start()?;
+    p.bump(T![for])?;
+    if p.at(T![<]) {
+        g.run(p, Rule::GenericParamList)?;
+        m.complete(p, SyntaxKind::FOR_BINDER)?;
+        return Ok(());
+    }
+    p.error("expected `<`")?;
+    m.complete(p, SyntaxKind::FOR_BINDER)?;
+    Ok(())
+}
+
+/// A type behind its colon, as `: a`.
+pub fn ascription<G: Grammar>(p: &mut Parser<'_>, g: &G) -> Result<(), NoMemory>
+    requires within { Within G.valid G.left g.now (state p.old) }
+    requires here { next (state p.old) ≡ COLON }
+    ensures took { OnOk result (Took (state p.old) (state p.new) list_room) }
+    ensures script { OnOk result (Follows parts.ascription something (state p.old) (state p.new)) }
+{
+    p.bump(T![:])?;
+    if p.at(T![=]) {
+        p.error("missing type")?;
+        return Ok(());
+    }
+    type_(p, g)?;
+    Ok(())
+}

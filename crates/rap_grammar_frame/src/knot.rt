@@ -1,0 +1,81 @@
+//! How the rules of the grammar reach one another.
+//!
+//! Rust's grammar is one recursion: an expression holds types, a type expressions, a block both. Here no function
+//! calls itself, not even through others. Each is generic over [`Grammar`], the rules that it may come back to, and
+//! is proved from what that trait promises. A rule is called directly before a token was taken, and through the
+//! trait afterwards.
+//!
+//! One function, `run` of the crate on top of all rules, ties the knot: it hands each rule a `Grammar` that runs `run`
+//! again. It ends because a rule that is come back to has fewer tokens left than the one that came back: the trait asks
+//! for that, so a rule that came back to itself without taking a token would not be proved. And since a rule knows the
+//! others by this trait alone, the crates of rules stand side by side.
+ghost use Rattle.std.specs.Prelude.{◌≡◌, ℕ, ◌<◌, ◌≤◌, IfOk};
+ghost use Rattle.rap_events.specs.State.{state};
+ghost use Rattle.rap_grammar_frame.specs.Rules.{Pre, Post};
+
+use rap_base::no_memory::NoMemory;
+use rap_events::parser::{CompletedMarker, Marker, Parser};
+use rap_grammar_scripts::arguments::{BlockLike, Restrictions, Semicolon};
+
+/// The rules that are come back to, with fewer than `left` tokens to go.
+pub trait Grammar {
+    ghost left: { Self → ℕ };
+
+    ghost valid: { Self → Type 0 };
+
+    /// Runs a rule.
+    fn run(&self, p: &mut Parser<'_>, rule: Rule) -> Result<Answer, NoMemory>
+        requires valid { valid self.now }
+        requires left { (state p.old).left < left self.now }
+        requires pre { Pre rule (state p.old) }
+        ensures { IfOk result (Post rule (state p.old) (state p.new)) };
+}
+
+/// A rule with its arguments.
+#[derive(Drop)]
+pub enum Rule {
+    /// An expression of at least the power `bp`, from the marker on if there is one.
+    Expr {
+        m: Option<Marker>,
+        r: Restrictions,
+        bp: u8,
+    },
+    /// A type, with bounds after it where they are allowed.
+    Ty {
+        allow_bounds: bool,
+    },
+    /// A path as a type, and bounds after it.
+    TraitPath,
+    GenericArg,
+    GenericParamList,
+    /// The bounds of a type, without the colon before them.
+    Bounds,
+    WhereClause,
+    /// A pattern, with its alternatives.
+    Pattern,
+    PatternSingle,
+    /// The pattern of an arm of a `match`.
+    ArmPattern,
+    /// A statement.
+    Stmt {
+        semicolon: Semicolon,
+    },
+    /// An `if`, as it stands behind an `else`.
+    IfExpr,
+    /// An item, or a macro call in its place.
+    Item {
+        stop_on_r_curly: bool,
+        is_in_extern: bool,
+    },
+    /// The inner attributes of what they stand in.
+    InnerAttrs,
+    /// A tree of names in the braces of a `use`.
+    UseTree,
+    /// What stands in the brackets of an attribute.
+    Meta,
+    CfgPredicate,
+}
+
+/// What a rule gives: an expression's node, if it made one, and whether that reads like a block. The other rules give
+/// none.
+pub type Answer = Option<(CompletedMarker, BlockLike)>;

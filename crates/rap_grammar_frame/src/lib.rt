@@ -1,0 +1,12 @@
+//! The frame of the grammar: how the rules reach one another, and the small rules that many share.
+#![tactic(auto)]
+
+pub mod called;
+pub mod first;
+pub mod item_names;
+pub mod knot;
+pub mod lists;
+pub mod literals;
+pub mod names;
+pub mod recovery;
+pub mod token_tree;

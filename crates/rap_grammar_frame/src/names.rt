@@ -1,0 +1,217 @@
+//! Names, and what stands as one.
+ghost use Rattle.std.specs.Prelude.{◌≡◌, ◌≢◌, ◌<◌, ◌≤◌, IsTrue, true, OnOk, ℕ, Bool, drop};
+ghost use Rattle.rap_base.specs.TokenKind.{POUND, BUILTIN_KW, EOF, LIFETIME_IDENT, IDENT, EXTERN_KW};
+ghost use Rattle.rap_base.specs.Keyword.{is_any_identifier};
+ghost use Rattle.rap_base.specs.TokenSet.{member};
+ghost use Rattle.rap_events.specs.State.{state, next, NthAt, ReadsAs};
+ghost use Rattle.rap_grammar_scripts.specs.First.{is_path_name, is_path_name_or_index};
+ghost use Rattle.rap_grammar_scripts.specs.Grammar as script;
+ghost use Rattle.rap_grammar_frame.specs.Grew.{Grew, Took};
+ghost use Rattle.rap_grammar_scripts.specs.Knot.{Follows};
+ghost use Rattle.rap_grammar_scripts.specs.Name.{given_name};
+ghost use Rattle.rap_grammar_frame.specs.Room.{name_room};
+ghost use Rattle.rap_grammar_scripts.specs.Script.{something};
+ghost use Rattle.rap_grammar_scripts.specs.Words.{starts_builtin};
+
+use rap_base::no_memory::NoMemory;
+use rap_base::syntax_kind::SyntaxKind;
+use rap_base::token_set::TokenSet;
+use rap_events::parser::Parser;
+use rap_grammar_scripts::T;
+
+/// Whether `builtin#` comes next.
+pub fn starts_builtin(p: &Parser<'_>) -> bool
+    ensures here { result ≡ starts_builtin (state p.now).rest }
+    ensures bears { IsTrue result → ReadsAs (state p.now) BUILTIN_KW }
+    ensures pound { IsTrue result → NthAt (state p.now) 1 POUND }
+{
+    p.at_contextual_kw(T![builtin]) && p.nth_at(1, T![#])
+}
+
+/// Whether a kind is a name in a path.
+pub fn is_path_name(kind: SyntaxKind) -> bool
+    ensures { result ≡ is_path_name kind }
+{
+    matches!(
+        kind,
+        T![ident] | T![self] | T![super] | T![crate] | T![Self]
+    )
+}
+
+/// A name in a path, as `a` or `self`.
+pub fn name_ref_mod_path(p: &mut Parser<'_>) -> Result<(), NoMemory>
+    ensures grew { OnOk result (Grew (state p.old) (state p.new) 3) }
+    ensures took { OnOk result (next (state p.old) ≢ EOF → Took (state p.old) (state p.new) name_room) }
+    ensures script { OnOk result (Follows script.name_ref_mod_path something (state p.old) (state p.new)) }
+{
+    if is_path_name(p.current()) {
+        let m = p.start()?;
+        p.bump_any()?;
+        m.complete(p, SyntaxKind::NAME_REF)?;
+    } else {
+        p.err_and_bump("expected identifier, `self`, `super`, `crate`, or `Self`")?;
+    }
+    Ok(())
+}
+
+/// Whether a kind is a name in a path or a field's number.
+pub fn is_path_name_or_index(kind: SyntaxKind) -> bool
+    ensures { result ≡ is_path_name_or_index kind }
+{
+    is_path_name(kind) || kind == T![int_number]
+}
+
+/// A name in a path or a field's number, as `a` or `0`.
+pub fn name_ref_mod_path_or_index(p: &mut Parser<'_>) -> Result<(), NoMemory>
+    ensures grew { OnOk result (Grew (state p.old) (state p.new) 3) }
+    ensures took { OnOk result (next (state p.old) ≢ EOF → Took (state p.old) (state p.new) name_room) }
+    ensures script { OnOk result (Follows script.name_ref_mod_path_or_index something (state p.old) (state p.new)) }
+{
+    if is_path_name_or_index(p.current()) {
+        let m = p.start()?;
+        p.bump_any()?;
+        m.complete(p, SyntaxKind::NAME_REF)?;
+    } else {
+        p.err_and_bump("expected integer, identifier, `self`, `super`, `crate`, or `Self`")?;
+    }
+    Ok(())
+}
+
+/// A lifetime, as `'a`.
+pub fn lifetime(p: &mut Parser<'_>) -> Result<(), NoMemory>
+    requires here { next (state p.old) ≡ LIFETIME_IDENT }
+    ensures took { OnOk result (Took (state p.old) (state p.new) name_room) }
+    ensures script { OnOk result (Follows script.lifetime something (state p.old) (state p.new)) }
+{
+    let m = p.start()?;
+    p.bump(T![lifetime_ident])?;
+    m.complete(p, SyntaxKind::LIFETIME)?;
+    Ok(())
+}
+
+/// A name that is there, as the `a` of `let a`.
+pub fn given_name(p: &mut Parser<'_>) -> Result<(), NoMemory>
+    requires here { next (state p.old) ≡ IDENT }
+    ensures took { OnOk result (Took (state p.old) (state p.new) name_room) }
+    ensures script { OnOk result (Follows given_name something (state p.old) (state p.new)) }
+{
+    let m = p.start()?;
+    p.bump(T![ident])?;
+    m.complete(p, SyntaxKind::NAME)?;
+    Ok(())
+}
+
+/// A name that is given, as the `a` of `let a`. Where it is missing, the next token is taken along, unless it is a brace
+/// or in the set.
+pub fn name_r(p: &mut Parser<'_>, recovery: TokenSet) -> Result<(), NoMemory>
+    ensures grew { OnOk result (Grew (state p.old) (state p.new) 3) }
+    ensures took { OnOk result (next (state p.old) ≡ IDENT → Took (state p.old) (state p.new) name_room) }
+    ensures script { OnOk result ((kept : ℕ → Bool) → ((kind : ℕ) → member recovery kind ≡ kept kind) → Follows (script.name_r kept) something (state p.old) (state p.new)) }
+{
+    if p.at(T![ident]) {
+        given_name(p)?;
+        return Ok(());
+    }
+    p.err_recover("expected a name", recovery)?;
+    Ok(())
+}
+
+/// A name that is given.
+pub fn name(p: &mut Parser<'_>) -> Result<(), NoMemory>
+    ensures grew { OnOk result (Grew (state p.old) (state p.new) 3) }
+    ensures took { OnOk result (next (state p.old) ≡ IDENT → Took (state p.old) (state p.new) name_room) }
+    ensures script { OnOk result (Follows script.name something (state p.old) (state p.new)) }
+{
+    name_r(p, TokenSet::new(&[]))?;
+    Ok(())
+}
+
+/// A field by its name or number, as the `a` of `S { a: 1 }`.
+pub fn name_ref_or_index(p: &mut Parser<'_>) -> Result<(), NoMemory>
+    requires more { next (state p.old) ≢ EOF }
+    ensures took { OnOk result (Took (state p.old) (state p.new) name_room) }
+    ensures rest { OnOk result ((state p.new).rest ≡ drop 1 (state p.old).rest) }
+    ensures script { OnOk result (Follows script.name_ref_or_index something (state p.old) (state p.new)) }
+{
+    let m = p.start()?;
+    p.bump_any()?;
+    m.complete(p, SyntaxKind::NAME_REF)?;
+    Ok(())
+}
+
+/// A name that may be a keyword, as the `type` of `type = 1`.
+pub fn name_any_identifier(p: &mut Parser<'_>) -> Result<(), NoMemory>
+    requires here { is_any_identifier (next (state p.old)) ≡ true }
+    ensures took { OnOk result (Took (state p.old) (state p.new) name_room) }
+    ensures rest { OnOk result ((state p.new).rest ≡ drop 1 (state p.old).rest) }
+    ensures script { OnOk result (Follows script.name_any_identifier something (state p.old) (state p.new)) }
+{
+    let m = p.start()?;
+    p.bump_remap_any_ident()?;
+    m.complete(p, SyntaxKind::NAME)?;
+    Ok(())
+}
+
+/// A name or `Self`.
+pub fn name_ref_or_upper_self(p: &mut Parser<'_>) -> Result<(), NoMemory>
+    ensures grew { OnOk result (Grew (state p.old) (state p.new) 3) }
+    ensures took { OnOk result (next (state p.old) ≢ EOF → Took (state p.old) (state p.new) name_room) }
+    ensures script { OnOk result (Follows script.name_ref_or_upper_self something (state p.old) (state p.new)) }
+{
+    if matches!(p.current(), T![ident] | T![Self]) {
+        let m = p.start()?;
+        p.bump_any()?;
+        m.complete(p, SyntaxKind::NAME_REF)?;
+    } else {
+        p.err_and_bump("expected identifier or `Self`")?;
+    }
+    Ok(())
+}
+
+/// A name or `self`.
+pub fn name_ref_or_self(p: &mut Parser<'_>) -> Result<(), NoMemory>
+    ensures grew { OnOk result (Grew (state p.old) (state p.new) 3) }
+    ensures took { OnOk result (next (state p.old) ≢ EOF → Took (state p.old) (state p.new) name_room) }
+    ensures script { OnOk result (Follows script.name_ref_or_self something (state p.old) (state p.new)) }
+{
+    if matches!(p.current(), T![ident] | T![self]) {
+        let m = p.start()?;
+        p.bump_any()?;
+        m.complete(p, SyntaxKind::NAME_REF)?;
+    } else {
+        p.err_and_bump("expected identifier or `self`")?;
+    }
+    Ok(())
+}
+
+/// Another name for what is imported, as `as a`, if there is one.
+pub fn opt_rename(p: &mut Parser<'_>) -> Result<(), NoMemory>
+    ensures grew { OnOk result (Grew (state p.old) (state p.new) 0) }
+    ensures script { OnOk result (Follows script.opt_rename something (state p.old) (state p.new)) }
+{
+    if !p.at(T![as]) {
+        return Ok(());
+    }
+    let m = p.start()?;
+    p.bump(T![as])?;
+    if p.eat(T![_])? {
+        m.complete(p, SyntaxKind::RENAME)?;
+        return Ok(());
+    }
+    name(p)?;
+    m.complete(p, SyntaxKind::RENAME)?;
+    Ok(())
+}
+
+/// An ABI, as `extern "C"`.
+pub fn abi(p: &mut Parser<'_>) -> Result<(), NoMemory>
+    requires here { next (state p.old) ≡ EXTERN_KW }
+    ensures took { OnOk result (Took (state p.old) (state p.new) name_room) }
+    ensures script { OnOk result (Follows script.abi something (state p.old) (state p.new)) }
+{
+    let m = p.start()?;
+    p.bump(T![extern])?;
+    p.eat(T![string])?;
+    m.complete(p, SyntaxKind::ABI)?;
+    Ok(())
+}

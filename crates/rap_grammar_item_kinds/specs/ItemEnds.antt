@@ -1,0 +1,59 @@
+-- What an item leaves of the marker under which it was read, and what is left where none follows.
+use Rattle.std.specs.Prelude.{◌≡◌, ◌≢◌, ℕ, ◌+◌, ◌*◌, ◌≤◌, Bool, true, false, ◌||◌, Option, Some, None}
+use Rattle.rap_base.specs.TokenKind.{EOF, R_CURLY}
+use Rattle.rap_events.specs.Machine.{push, top}
+use Rattle.rap_events.specs.State.{State, next}
+use Rattle.rap_events.specs.declared.parser.Marker.{Marker}
+use Rattle.rap_grammar_frame.specs.Grew.{Grew, Took, Ended, Dropped}
+use Rattle.rap_grammar_frame.specs.Room.{item_room, list_room}
+use Rattle.rap_grammar_scripts.specs.Script.{Outcome, nothing, something}
+
+-- what stands before an item was read: a token at least was taken if there was something, and else nothing was done
+pub record Seen (old new : State) (some : Bool) : Type 0 where
+  pub grew : Grew old new 0
+  pub took : some ≡ true → Took old new list_room
+  pub stays : some ≡ false → new ≡ old
+
+-- an item was read, or the marker is handed back
+abbrev pub of_marker : Option Marker → Outcome
+of_marker None = something
+of_marker (Some m) = nothing
+
+-- what an item leaves: the newest marker is gone, or all is as before and the marker is handed back
+abbrev pub Handed : State → State → Option Marker → Type 0
+Handed old new None = Ended old new item_room
+Handed old new (Some m) = (new ≡ old) × (new.marker ≡ Some m.pos.value)
+
+-- where no item follows: what stood before it is reported, or nothing did
+abbrev pub Refused : Bool → Bool → State → State → Option Marker → Type 0
+Refused has_visibility has_mods old new None = (has_visibility || has_mods ≡ true) × Dropped old new 2
+Refused has_visibility has_mods old new (Some m) =
+    ((has_visibility ≡ false) × (has_mods ≡ false)) × ((new ≡ old) × (new.marker ≡ Some m.pos.value))
+
+-- what an item leaves from its modifiers on, by whether a visibility stood before them
+pub record Parted (has_visibility : Bool) (old new : State) : Type 0 where
+  pub input : new.input ≡ old.input
+  pub left : new.left ≤ old.left
+  pub count : new.count + 256 * new.left ≤ old.count + 256 * old.left + 2
+  pub messages : old.messages ≤ new.messages
+  pub below : old.below ≡ push new.below new.marker (top old.below)
+  pub ended : has_visibility ≡ false → Ended old new item_room
+
+abbrev pub Modified : Bool → State → State → Option Marker → Type 0
+Modified has_visibility old new None = Parted has_visibility old new
+Modified has_visibility old new (Some m) = (has_visibility ≡ false) × ((new ≡ old) × (new.marker ≡ Some m.pos.value))
+
+-- What an item or what stands in its place leaves, under a marker that is gone then: a token is taken unless none is
+-- left, or a brace ends the list of items.
+pub record EndsItem (stop_on_r_curly : Bool) (old new : State) : Type 0 where
+  pub input : new.input ≡ old.input
+  pub left : new.left ≤ old.left
+  pub count : new.count + 256 * new.left ≤ old.count + 256 * old.left + 2
+  pub messages : old.messages ≤ new.messages
+  pub below : old.below ≡ push new.below new.marker (top old.below)
+  pub took : next old ≢ EOF → (stop_on_r_curly ≡ true → next old ≢ R_CURLY) → Ended old new item_room
+
+-- the same without a marker
+pub record SkipsItem (stop_on_r_curly : Bool) (old new : State) : Type 0 where
+  pub grew : Grew old new 1
+  pub took : next old ≢ EOF → (stop_on_r_curly ≡ true → next old ≢ R_CURLY) → Took old new list_room

@@ -1,0 +1,499 @@
+//! Items.
+ghost use Rattle.std.specs.Prelude.{◌≡◌, ◌≢◌, ◌<◌, ◌≤◌, IfOk, OnOk, Some, None, true, false, ◌⊎◌, ◌&&◌, not, List, [], ◌∷◌, Option};
+ghost use Rattle.rap_base.specs.TokenKind.{EOF, L_CURLY, R_CURLY, BANG, POUND, CRATE_KW, EXTERN_KW, MOD_KW, TYPE_KW, CONST_KW, STATIC_KW, IDENT, UNION_KW, MACRO_RULES_KW, BUILTIN_KW, GLOBAL_ASM_KW};
+ghost use Rattle.rap_events.specs.Record.{contextual_at};
+ghost use Rattle.rap_events.specs.State.{state, next, ReadsAs, NthAt};
+ghost use Rattle.rap_grammar_scripts.specs.First.{starts_use_path, one_of};
+ghost use Rattle.rap_grammar_frame.specs.Grew.{Within, Behind, Took, Grew, Ended};
+ghost use Rattle.rap_grammar_scripts.specs.Items as script;
+ghost use Rattle.rap_grammar_item_kinds.specs.ItemEnds.{of_marker, Handed, Refused, Modified, EndsItem, SkipsItem};
+ghost use Rattle.rap_grammar_scripts.specs.Knot.{Follows};
+ghost use Rattle.rap_grammar_frame.specs.Room.{item_room, list_room};
+ghost use Rattle.rap_grammar_frame.specs.Rules.{IsItem};
+ghost use Rattle.rap_grammar_scripts.specs.Script.{something};
+ghost use Rattle.rap_grammar_scripts.specs.Words.{next_is};
+
+use rap_base::no_memory::NoMemory;
+use rap_base::syntax_kind::SyntaxKind;
+use rap_events::parser::{Marker, Parser};
+use rap_grammar_adt::adt::{enum_, strukt, union};
+use rap_grammar_blocks::attributes::outer_attrs;
+use rap_grammar_blocks::blocks::{error_block, error_let_stmt};
+use rap_grammar_builtin::asm::parse_asm_expr;
+use rap_grammar_frame::first::is_use_path_start;
+use rap_grammar_frame::knot::Grammar;
+use rap_grammar_frame::names::starts_builtin;
+use rap_grammar_item_kinds::consts::{konst, static_};
+use rap_grammar_item_kinds::functions::fn_;
+use rap_grammar_item_kinds::macros::{macro_call, macro_def, macro_rules};
+use rap_grammar_item_kinds::modifiers::modifiers;
+use rap_grammar_item_kinds::modules::{extern_crate, extern_item_list, mod_item, type_item};
+use rap_grammar_item_kinds::traits::{impl_, trait_};
+use rap_grammar_item_kinds::use_item::use_;
+use rap_grammar_paths::paths::use_path;
+use rap_grammar_paths::visibility::opt_visibility;
+use rap_grammar_scripts::T;
+
+/// An item from the newest marker on, if one comes next; else the marker is handed back.
+pub fn opt_item<G: Grammar>(
+    p: &mut Parser<'_>,
+    g: &G,
+    m: Marker,
+    is_in_extern: bool,
+) -> Result<Option<Marker>, NoMemory>
+    requires within { Within G.valid G.left g.now (state p.old) }
+    requires newest { (state p.old).marker ≡ Some m.pos.value }
+    ensures handed { IfOk result (Handed (state p.old) (state p.new)) }
+    ensures script { IfOk result (λ back. Follows (script.opt_item is_in_extern) (of_marker back) (state p.old) (state p.new)) }
+{
+    let has_visibility = opt_visibility(p, g, false)?;
+    match opt_item_without_modifiers(p, g, m)? {
+        None => Ok(None),
+        Some(m) => {
+            let back = opt_modified_item(p, g, m, has_visibility, is_in_extern)?;
+            Ok(back)
+        }
+    }
+}
+
+/// An item from its modifiers on, if one comes next; else the marker is handed back, unless something stood before it.
+fn opt_modified_item<G: Grammar>(
+    p: &mut Parser<'_>,
+    g: &G,
+    m: Marker,
+    has_visibility: bool,
+    is_in_extern: bool,
+) -> Result<Option<Marker>, NoMemory>
+    requires within { Within G.valid G.left g.now (state p.old) }
+    requires newest { (state p.old).marker ≡ Some m.pos.value }
+    ensures handed { IfOk result (Modified has_visibility (state p.old) (state p.new)) }
+    ensures script { IfOk result (λ back. Follows (script.opt_modified_item has_visibility is_in_extern) (of_marker back) (state p.old) (state p.new)) }
+{
+    let found = modifiers(p, g, is_in_extern)?;
+    match opt_item_with_modifiers(p, g, m, found.has_extern)? {
+        None => Ok(None),
+        Some(m) => {
+            let back = refuse(p, m, has_visibility, found.has_mods)?;
+            Ok(back)
+        }
+    }
+}
+
+/// Reports what stands before an item where none follows; else the marker is handed back.
+fn refuse(
+    p: &mut Parser<'_>,
+    m: Marker,
+    has_visibility: bool,
+    has_mods: bool,
+) -> Result<Option<Marker>, NoMemory>
+    requires newest { (state p.old).marker ≡ Some m.pos.value }
+    ensures refused { IfOk result (Refused has_visibility has_mods (state p.old) (state p.new)) }
+    ensures script { IfOk result (λ back. Follows (script.refuse has_visibility has_mods) (of_marker back) (state p.old) (state p.new)) }
+{
+    if has_mods {
+        p.error("expected fn, trait or impl")?;
+        m.complete(p, SyntaxKind::ERROR)?;
+        return Ok(None);
+    }
+    if has_visibility {
+        p.error("expected an item")?;
+        m.complete(p, SyntaxKind::ERROR)?;
+        return Ok(None);
+    }
+    Ok(Some(m))
+}
+
+/// An item that begins with a keyword of its own, or with a name that is read as one.
+fn opt_item_without_modifiers<G: Grammar>(
+    p: &mut Parser<'_>,
+    g: &G,
+    m: Marker,
+) -> Result<Option<Marker>, NoMemory>
+    requires within { Within G.valid G.left g.now (state p.old) }
+    requires newest { (state p.old).marker ≡ Some m.pos.value }
+    ensures handed { IfOk result (Handed (state p.old) (state p.new)) }
+    ensures script { IfOk result (λ back. Follows script.opt_item_without_modifiers (of_marker back) (state p.old) (state p.new)) }
+{
+    match p.current() {
+        T![extern] => opt_extern_crate(p, m),
+        T![use] => {
+            use_(p, g, m)?;
+            Ok(None)
+        }
+        T![mod] => {
+            mod_item(p, g, m)?;
+            Ok(None)
+        }
+        T![type] => {
+            type_item(p, g, m)?;
+            Ok(None)
+        }
+        T![struct] => {
+            strukt(p, g, m)?;
+            Ok(None)
+        }
+        T![enum] => {
+            enum_(p, g, m)?;
+            Ok(None)
+        }
+        T![macro] => {
+            macro_def(p, m)?;
+            Ok(None)
+        }
+        T![const] => opt_named_const(p, g, m),
+        T![static] => opt_static(p, g, m),
+        T![ident] => opt_item_by_name(p, g, m),
+        _ => Ok(Some(m)),
+    }
+}
+
+/// A crate's name, as `extern crate a;`, if `crate` follows.
+fn opt_extern_crate(p: &mut Parser<'_>, m: Marker) -> Result<Option<Marker>, NoMemory>
+    requires newest { (state p.old).marker ≡ Some m.pos.value }
+    requires here { next (state p.old) ≡ EXTERN_KW }
+    ensures handed { IfOk result (Handed (state p.old) (state p.new)) }
+    ensures script { IfOk result (λ back. Follows script.opt_extern_crate (of_marker back) (state p.old) (state p.new)) }
+{
+    if !p.nth_at(1, T![crate]) {
+        return Ok(Some(m));
+    }
+    extern_crate(p, m)?;
+    Ok(None)
+}
+
+/// Whether what may stand behind the keyword of a constant or a static does so.
+fn is_named(p: &Parser<'_>) -> bool
+    ensures { result ≡ script.is_named (state p.now).rest }
+{
+    matches!(p.nth(1), T![ident] | T![_] | T![mut])
+}
+
+/// A constant, if its name follows.
+fn opt_named_const<G: Grammar>(
+    p: &mut Parser<'_>,
+    g: &G,
+    m: Marker,
+) -> Result<Option<Marker>, NoMemory>
+    requires within { Within G.valid G.left g.now (state p.old) }
+    requires newest { (state p.old).marker ≡ Some m.pos.value }
+    requires here { next (state p.old) ≡ CONST_KW }
+    ensures handed { IfOk result (Handed (state p.old) (state p.new)) }
+    ensures script { IfOk result (λ back. Follows script.opt_named_const (of_marker back) (state p.old) (state p.new)) }
+{
+    if !is_named(p) {
+        return Ok(Some(m));
+    }
+    konst(p, g, m)?;
+    Ok(None)
+}
+
+/// A constant behind modifiers, if its `const` begins no block.
+fn opt_const<G: Grammar>(p: &mut Parser<'_>, g: &G, m: Marker) -> Result<Option<Marker>, NoMemory>
+    requires within { Within G.valid G.left g.now (state p.old) }
+    requires newest { (state p.old).marker ≡ Some m.pos.value }
+    requires here { next (state p.old) ≡ CONST_KW }
+    ensures handed { IfOk result (Handed (state p.old) (state p.new)) }
+    ensures script { IfOk result (λ back. Follows script.opt_const (of_marker back) (state p.old) (state p.new)) }
+{
+    if p.nth(1) == T!['{'] {
+        return Ok(Some(m));
+    }
+    konst(p, g, m)?;
+    Ok(None)
+}
+
+/// A static, if its name follows.
+fn opt_static<G: Grammar>(p: &mut Parser<'_>, g: &G, m: Marker) -> Result<Option<Marker>, NoMemory>
+    requires within { Within G.valid G.left g.now (state p.old) }
+    requires newest { (state p.old).marker ≡ Some m.pos.value }
+    requires here { next (state p.old) ≡ STATIC_KW }
+    ensures handed { IfOk result (Handed (state p.old) (state p.new)) }
+    ensures script { IfOk result (λ back. Follows script.opt_static (of_marker back) (state p.old) (state p.new)) }
+{
+    if !is_named(p) {
+        return Ok(Some(m));
+    }
+    static_(p, g, m)?;
+    Ok(None)
+}
+
+/// Whether a `union` comes next that is read as the keyword.
+fn starts_union(p: &Parser<'_>) -> bool
+    ensures here { result ≡ script.starts_union (state p.now).rest }
+    ensures bears { result ≡ true → ReadsAs (state p.now) UNION_KW }
+{
+    p.at_contextual_kw(T![union]) && p.nth(1) == T![ident]
+}
+
+/// Whether a `macro_rules` comes next that is read as the keyword.
+fn starts_macro_rules(p: &Parser<'_>) -> bool
+    ensures here { result ≡ script.starts_macro_rules (state p.now).rest }
+    ensures bears { result ≡ true → ReadsAs (state p.now) MACRO_RULES_KW }
+{
+    p.at_contextual_kw(T![macro_rules]) && p.nth_at(1, T![!]) && p.nth_at(2, T![ident])
+}
+
+/// Whether `builtin#global_asm` comes next.
+fn starts_global_asm(p: &Parser<'_>) -> bool
+    ensures here { result ≡ script.starts_global_asm (state p.now).rest }
+    ensures bears { result ≡ true → ReadsAs (state p.now) BUILTIN_KW }
+    ensures pound { result ≡ true → NthAt (state p.now) 1 POUND }
+    ensures more { result ≡ true → contextual_at (state p.now).rest 2 ≡ GLOBAL_ASM_KW }
+{
+    starts_builtin(p) && p.nth_at_contextual_kw(2, T![global_asm])
+}
+
+/// An item that begins with a name that is read as a keyword, as `union`.
+fn opt_item_by_name<G: Grammar>(
+    p: &mut Parser<'_>,
+    g: &G,
+    m: Marker,
+) -> Result<Option<Marker>, NoMemory>
+    requires within { Within G.valid G.left g.now (state p.old) }
+    requires newest { (state p.old).marker ≡ Some m.pos.value }
+    ensures handed { IfOk result (Handed (state p.old) (state p.new)) }
+    ensures script { IfOk result (λ back. Follows script.opt_item_by_name (of_marker back) (state p.old) (state p.new)) }
+{
+    if starts_union(p) {
+        union(p, g, m)?;
+        return Ok(None);
+    }
+    if starts_macro_rules(p) {
+        macro_rules(p, m)?;
+        return Ok(None);
+    }
+    if starts_global_asm(p) {
+        global_asm(p, g, m)?;
+        return Ok(None);
+    }
+    Ok(Some(m))
+}
+
+/// Assembly in the place of an item, as `builtin#global_asm("")`.
+fn global_asm<G: Grammar>(p: &mut Parser<'_>, g: &G, m: Marker) -> Result<(), NoMemory>
+    requires within { Within G.valid G.left g.now (state p.old) }
+    requires newest { (state p.old).marker ≡ Some m.pos.value }
+    requires bears { ReadsAs (state p.old) BUILTIN_KW }
+    requires pound { NthAt (state p.old) 1 POUND }
+    requires more { contextual_at (state p.old).rest 2 ≡ GLOBAL_ASM_KW }
+    ensures ended { OnOk result (Ended (state p.old) (state p.new) item_room) }
+    ensures script { OnOk result (Follows script.global_asm something (state p.old) (state p.new)) }
+{
+    p.bump_remap(T![builtin])?;
+    p.bump(T![#])?;
+    p.eat_contextual_kw(T![global_asm])?;
+    parse_asm_expr(p, g, m)?;
+    Ok(())
+}
+
+/// An item behind its modifiers, if one comes next; else the marker is handed back.
+fn opt_item_with_modifiers<G: Grammar>(
+    p: &mut Parser<'_>,
+    g: &G,
+    m: Marker,
+    has_extern: bool,
+) -> Result<Option<Marker>, NoMemory>
+    requires within { Within G.valid G.left g.now (state p.old) }
+    requires newest { (state p.old).marker ≡ Some m.pos.value }
+    ensures handed { IfOk result (Handed (state p.old) (state p.new)) }
+    ensures script { IfOk result (λ back. Follows (script.opt_item_with_modifiers has_extern) (of_marker back) (state p.old) (state p.new)) }
+{
+    match p.current() {
+        T![fn] => {
+            fn_(p, g, m)?;
+            Ok(None)
+        }
+        T![const] => opt_const(p, g, m),
+        T![static] => opt_static(p, g, m),
+        T![trait] => {
+            trait_(p, g, m)?;
+            Ok(None)
+        }
+        T![impl] => {
+            impl_(p, g, m)?;
+            Ok(None)
+        }
+        T![type] => {
+            type_item(p, g, m)?;
+            Ok(None)
+        }
+        T!['{'] => opt_extern_block(p, g, m, has_extern),
+        _ => Ok(Some(m)),
+    }
+}
+
+/// A block of foreign items behind its ABI, as the `{}` of `extern {}`.
+fn opt_extern_block<G: Grammar>(
+    p: &mut Parser<'_>,
+    g: &G,
+    m: Marker,
+    has_extern: bool,
+) -> Result<Option<Marker>, NoMemory>
+    requires within { Within G.valid G.left g.now (state p.old) }
+    requires newest { (state p.old).marker ≡ Some m.pos.value }
+    requires here { next (state p.old) ≡ L_CURLY }
+    ensures handed { IfOk result (Handed (state p.old) (state p.new)) }
+    ensures script { IfOk result (λ back. Follows (script.opt_extern_block has_extern) (of_marker back) (state p.old) (state p.new)) }
+{
+    if !has_extern {
+        return Ok(Some(m));
+    }
+    extern_item_list(p, g)?;
+    m.complete(p, SyntaxKind::EXTERN_BLOCK)?;
+    Ok(None)
+}
+
+/// An item, or a macro call in its place. Where neither begins, that is reported, and the next token is taken into an
+/// `ERROR`, unless none is left or a brace ends the list of items.
+pub fn item_or_macro<G: Grammar>(
+    p: &mut Parser<'_>,
+    g: &G,
+    stop_on_r_curly: bool,
+    is_in_extern: bool,
+) -> Result<(), NoMemory>
+    requires within { Within G.valid G.left g.now (state p.old) }
+    ensures item { OnOk result (IsItem stop_on_r_curly (state p.old) (state p.new)) }
+    ensures script { OnOk result (Follows (script.item_or_macro stop_on_r_curly is_in_extern) something (state p.old) (state p.new)) }
+{
+    let m = p.start()?;
+    outer_attrs(p, g)?;
+    marked_item(p, g, m, stop_on_r_curly, is_in_extern)?;
+    Ok(())
+}
+
+/// An item behind its attributes, or what stands in its place.
+fn marked_item<G: Grammar>(
+    p: &mut Parser<'_>,
+    g: &G,
+    m: Marker,
+    stop_on_r_curly: bool,
+    is_in_extern: bool,
+) -> Result<(), NoMemory>
+    requires within { Within G.valid G.left g.now (state p.old) }
+    requires newest { (state p.old).marker ≡ Some m.pos.value }
+    ensures item { OnOk result (EndsItem stop_on_r_curly (state p.old) (state p.new)) }
+    ensures script { OnOk result (Follows (script.marked_item stop_on_r_curly is_in_extern) something (state p.old) (state p.new)) }
+{
+    match opt_item(p, g, m, is_in_extern)? {
+        None => {
+            after_item(p)?;
+            Ok(())
+        }
+        Some(m) => {
+            macro_or_error(p, g, m, stop_on_r_curly)?;
+            Ok(())
+        }
+    }
+}
+
+/// A semicolon behind an item, which is taken into an `ERROR`.
+fn after_item(p: &mut Parser<'_>) -> Result<(), NoMemory>
+    ensures grew { OnOk result (Grew (state p.old) (state p.new) 0) }
+    ensures script { OnOk result (Follows script.after_item something (state p.old) (state p.new)) }
+{
+    if !p.at(T![;]) {
+        return Ok(());
+    }
+    p.err_and_bump("expected item, found `;`\nconsider removing this semicolon")?;
+    Ok(())
+}
+
+/// A macro call in the place of an item; where neither begins, that is reported.
+fn macro_or_error<G: Grammar>(
+    p: &mut Parser<'_>,
+    g: &G,
+    m: Marker,
+    stop_on_r_curly: bool,
+) -> Result<(), NoMemory>
+    requires within { Within G.valid G.left g.now (state p.old) }
+    requires newest { (state p.old).marker ≡ Some m.pos.value }
+    ensures item { OnOk result (EndsItem stop_on_r_curly (state p.old) (state p.new)) }
+    ensures script { OnOk result (Follows (script.macro_or_error stop_on_r_curly) something (state p.old) (state p.new)) }
+{
+    if is_use_path_start(p) {
+        path_item(p, g, m)?;
+        return Ok(());
+    }
+    m.abandon(p)?;
+    missing_item(p, g, stop_on_r_curly)?;
+    Ok(())
+}
+
+/// A macro call from its path on, or a path alone, which is no item.
+fn path_item<G: Grammar>(p: &mut Parser<'_>, g: &G, m: Marker) -> Result<(), NoMemory>
+    requires within { Within G.valid G.left g.now (state p.old) }
+    requires newest { (state p.old).marker ≡ Some m.pos.value }
+    requires path { starts_use_path (state p.old).rest ≡ true }
+    ensures ended { OnOk result (Ended (state p.old) (state p.new) item_room) }
+    ensures script { OnOk result (Follows script.path_item something (state p.old) (state p.new)) }
+{
+    use_path(p, g)?;
+    if p.at(T![!]) {
+        macro_call(p, m)?;
+        return Ok(());
+    }
+    m.complete(p, SyntaxKind::ERROR)?;
+    p.error("expected an item")?;
+    Ok(())
+}
+
+/// Reports that no item begins, with what comes next in an `ERROR`.
+fn missing_item<G: Grammar>(
+    p: &mut Parser<'_>,
+    g: &G,
+    stop_on_r_curly: bool,
+) -> Result<(), NoMemory>
+    requires within { Within G.valid G.left g.now (state p.old) }
+    ensures item { OnOk result (SkipsItem stop_on_r_curly (state p.old) (state p.new)) }
+    ensures script { OnOk result (Follows (script.missing_item stop_on_r_curly) something (state p.old) (state p.new)) }
+{
+    if p.current() == T!['{'] {
+        error_block(p, g, "expected an item")?;
+        return Ok(());
+    }
+    if is_unmatched(p, stop_on_r_curly) {
+        unmatched_brace(p)?;
+        return Ok(());
+    }
+    if is_at_end(p) {
+        p.error("expected an item")?;
+        return Ok(());
+    }
+    if p.current() == T![let] {
+        error_let_stmt(p, g, "expected an item")?;
+        return Ok(());
+    }
+    p.err_and_bump("expected an item")?;
+    Ok(())
+}
+
+/// Whether a brace comes next that closes nothing.
+fn is_unmatched(p: &Parser<'_>, stop_on_r_curly: bool) -> bool
+    ensures here { result ≡ next_is R_CURLY (state p.now).rest && not stop_on_r_curly }
+    ensures more { result ≡ true → next (state p.now) ≡ R_CURLY }
+    ensures kept { result ≡ false → next (state p.now) ≡ R_CURLY → stop_on_r_curly ≡ true }
+{
+    p.current() == T!['}'] && !stop_on_r_curly
+}
+
+/// Whether no token is left, or a brace comes next.
+fn is_at_end(p: &Parser<'_>) -> bool
+    ensures here { result ≡ one_of (EOF ∷ R_CURLY ∷ []) (next (state p.now)) }
+    ensures more { result ≡ true → next (state p.now) ≢ EOF → next (state p.now) ≡ R_CURLY }
+    ensures some { result ≡ false → next (state p.now) ≢ EOF }
+{
+    matches!(p.current(), SyntaxKind::EOF | T!['}'])
+}
+
+/// A brace that closes nothing, in an `ERROR`.
+fn unmatched_brace(p: &mut Parser<'_>) -> Result<(), NoMemory>
+    requires here { next (state p.old) ≡ R_CURLY }
+    ensures took { OnOk result (Took (state p.old) (state p.new) list_room) }
+    ensures script { OnOk result (Follows script.unmatched_brace something (state p.old) (state p.new)) }
+{
+    let m = p.start()?;
+    p.error("unmatched `}`")?;
+    p.bump(T!['}'])?;
+    m.complete(p, SyntaxKind::ERROR)?;
+    Ok(())
+}

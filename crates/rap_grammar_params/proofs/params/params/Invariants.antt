@@ -1,0 +1,15 @@
+use Rattle.std.proofs.Common.{false}
+use Rattle.rap_events.specs.State.{state}
+use Rattle.rap_grammar_frame.specs.Grew.{Grew}
+use Rattle.rap_grammar_scripts.specs.Params.{param_turn}
+use Rattle.rap_grammar_frame.proofs.Steps.{Turns}
+use Rattle.rap_grammar_params.proofs.params.params.Given as goal
+
+abbrev pub invariant-params : goal.invariant-params
+invariant-params g l = record {
+  grew : Grew (state l.initial.p) (state l.p) 0;
+  script : Turns (param_turn l.flavor) false false false false (state l.initial.p) (state l.p);
+}
+
+abbrev pub decreases-params : goal.decreases-params
+decreases-params g l = (state l.p).left

@@ -1,0 +1,403 @@
+//! Parameters of functions and closures.
+ghost use Rattle.std.specs.Prelude.{◌≡◌, ◌≢◌, ◌<◌, ◌≤◌, ◌+◌, OnOk, IfOk, true, false, Some};
+ghost use Rattle.rap_base.specs.TokenKind.{L_PAREN, PIPE, EOF, SELF_KW};
+ghost use Rattle.rap_events.specs.State.{state, next, At};
+ghost use Rattle.rap_grammar_scripts.specs.First.{is_param_first};
+ghost use Rattle.rap_grammar_frame.specs.Grew.{Within, Took, Behind, Grew, Gone, Spent};
+ghost use Rattle.rap_grammar_scripts.specs.Knot.{Follows};
+ghost use Rattle.rap_grammar_scripts.specs.Params as script;
+ghost use Rattle.rap_grammar_frame.specs.Room.{list_room, element_room, param_room, bare_param_room, name_room};
+ghost use Rattle.rap_grammar_scripts.specs.Script.{something};
+ghost use Rattle.rap_grammar_scripts.specs.Words.{of_bool};
+
+use rap_base::no_memory::NoMemory;
+use rap_base::syntax_kind::SyntaxKind;
+use rap_events::parser::{Marker, Parser};
+use rap_grammar_blocks::attributes::outer_attrs;
+use rap_grammar_frame::called::{ascription, pattern, pattern_single, type_};
+use rap_grammar_frame::first::{is_outer_attr_first, is_pattern_first, is_type_first};
+use rap_grammar_frame::knot::Grammar;
+use rap_grammar_frame::names::lifetime;
+use rap_grammar_scripts::T;
+use rap_grammar_scripts::arguments::Flavor;
+
+/// The parameters of a function, as `(&self, a: b)`.
+pub fn param_list_fn_def<G: Grammar>(p: &mut Parser<'_>, g: &G) -> Result<(), NoMemory>
+    requires within { Within G.valid G.left g.now (state p.old) }
+    requires here { next (state p.old) ≡ L_PAREN }
+    ensures took { OnOk result (Took (state p.old) (state p.new) list_room) }
+    ensures script { OnOk result (Follows script.param_list_fn_def something (state p.old) (state p.new)) }
+{
+    list_(p, g, Flavor::FnDef)?;
+    Ok(())
+}
+
+/// The parameters of a function pointer, as `(a, _: b)`.
+pub fn param_list_fn_ptr<G: Grammar>(p: &mut Parser<'_>, g: &G) -> Result<(), NoMemory>
+    requires within { Within G.valid G.left g.now (state p.old) }
+    requires here { next (state p.old) ≡ L_PAREN }
+    ensures took { OnOk result (Took (state p.old) (state p.new) list_room) }
+    ensures script { OnOk result (Follows script.param_list_fn_ptr something (state p.old) (state p.new)) }
+{
+    list_(p, g, Flavor::FnPointer)?;
+    Ok(())
+}
+
+/// The parameters of a closure, as `|a, b: c|`.
+pub fn param_list_closure<G: Grammar>(p: &mut Parser<'_>, g: &G) -> Result<(), NoMemory>
+    requires within { Within G.valid G.left g.now (state p.old) }
+    requires here { next (state p.old) ≡ PIPE }
+    ensures took { OnOk result (Took (state p.old) (state p.new) list_room) }
+    ensures script { OnOk result (Follows script.param_list_closure something (state p.old) (state p.new)) }
+{
+    list_(p, g, Flavor::Closure)?;
+    Ok(())
+}
+
+/// The parameters in their brackets.
+#[tactic(auto, using(rap_grammar_frame::proofs::Binary::width_positive))]
+fn list_<G: Grammar>(p: &mut Parser<'_>, g: &G, flavor: Flavor) -> Result<(), NoMemory>
+    requires within { Within G.valid G.left g.now (state p.old) }
+    requires here { At (state p.old) (script.bra flavor) }
+    ensures took { OnOk result (Took (state p.old) (state p.new) list_room) }
+    ensures script { OnOk result (Follows (script.list_ flavor) something (state p.old) (state p.new)) }
+{
+    let m = p.start()?;
+    p.bump(flavor.bra())?;
+    params_of(p, g, flavor)?;
+    p.expect(flavor.ket())?;
+    m.complete(p, SyntaxKind::PARAM_LIST)?;
+    Ok(())
+}
+
+/// What stands in the brackets.
+fn params_of<G: Grammar>(p: &mut Parser<'_>, g: &G, flavor: Flavor) -> Result<(), NoMemory>
+    requires behind { Behind G.valid G.left g.now (state p.old) }
+    ensures grew { OnOk result (Grew (state p.old) (state p.new) 16) }
+    ensures script { OnOk result (Follows (script.params_of flavor) something (state p.old) (state p.new)) }
+{
+    if flavor == Flavor::FnDef {
+        fn_def_params(p, g)?;
+        return Ok(());
+    }
+    params(p, g, flavor)?;
+    Ok(())
+}
+
+/// The parameters of a function, the first of which may be a `self`.
+fn fn_def_params<G: Grammar>(p: &mut Parser<'_>, g: &G) -> Result<(), NoMemory>
+    requires behind { Behind G.valid G.left g.now (state p.old) }
+    ensures grew { OnOk result (Grew (state p.old) (state p.new) 16) }
+    ensures script { OnOk result (Follows script.fn_def_params something (state p.old) (state p.new)) }
+{
+    if !first_param(p, g)? {
+        return Ok(());
+    }
+    params(p, g, Flavor::FnDef)?;
+    Ok(())
+}
+
+/// The first parameter of a function, as `self` or `a: b`. Answers whether another one may follow.
+fn first_param<G: Grammar>(p: &mut Parser<'_>, g: &G) -> Result<bool, NoMemory>
+    requires behind { Behind G.valid G.left g.now (state p.old) }
+    ensures grew { OnOk result (Grew (state p.old) (state p.new) 8) }
+    ensures script { IfOk result (λ on. Follows script.first_param (of_bool on) (state p.old) (state p.new)) }
+{
+    let m = p.start()?;
+    outer_attrs(p, g)?;
+    if opt_self_param(p, g)? {
+        m.complete(p, SyntaxKind::SELF_PARAM)?;
+        after_self(p)?;
+        return Ok(true);
+    }
+    if p.at(SyntaxKind::EOF) || p.at(T![')']) {
+        m.abandon(p)?;
+        return Ok(false);
+    }
+    let on = marked_param(p, g, m, Flavor::FnDef)?;
+    Ok(on)
+}
+
+/// The comma after a `self`.
+fn after_self(p: &mut Parser<'_>) -> Result<(), NoMemory>
+    ensures grew { OnOk result (Grew (state p.old) (state p.new) 1) }
+    ensures script { OnOk result (Follows script.after_self something (state p.old) (state p.new)) }
+{
+    if !p.at(T![')']) {
+        p.expect(T![,])?;
+    }
+    Ok(())
+}
+
+/// Parameters with commas between them, up to where the list can't go on.
+fn params<G: Grammar>(p: &mut Parser<'_>, g: &G, flavor: Flavor) -> Result<(), NoMemory>
+    requires behind { Behind G.valid G.left g.now (state p.old) }
+    ensures grew { OnOk result (Grew (state p.old) (state p.new) 8) }
+    ensures script { OnOk result (Follows (script.params flavor) something (state p.old) (state p.new)) }
+{
+    'params: while !p.at(SyntaxKind::EOF) && !p.at(flavor.ket()) {
+        if !attributed_param(p, g, flavor)? {
+            return Ok(());
+        }
+    }
+    Ok(())
+}
+
+/// A parameter with its attributes, as `#[a] b: c`. Answers whether another one may follow.
+fn attributed_param<G: Grammar>(p: &mut Parser<'_>, g: &G, flavor: Flavor) -> Result<bool, NoMemory>
+    requires behind { Behind G.valid G.left g.now (state p.old) }
+    ensures grew { OnOk result (Grew (state p.old) (state p.new) 4) }
+    ensures took { IfOk result (λ on. on ≡ true → Took (state p.old) (state p.new) element_room) }
+    ensures script { IfOk result (λ on. Follows (script.attributed_param flavor) (of_bool on) (state p.old) (state p.new)) }
+{
+    let m = p.start()?;
+    outer_attrs(p, g)?;
+    let on = marked_param(p, g, m, flavor)?;
+    Ok(on)
+}
+
+/// A parameter from its marker on, and the comma after it. Answers whether another one may follow.
+fn marked_param<G: Grammar>(
+    p: &mut Parser<'_>,
+    g: &G,
+    m: Marker,
+    flavor: Flavor,
+) -> Result<bool, NoMemory>
+    requires behind { Behind G.valid G.left g.now (state p.old) }
+    requires newest { (state p.old).marker ≡ Some m.pos.value }
+    ensures gone { OnOk result (Gone (state p.old) (state p.new) 2) }
+    ensures spent { IfOk result (λ on. on ≡ true → Spent (state p.old) (state p.new) param_room) }
+    ensures script { IfOk result (λ on. Follows (script.marked_param flavor) (of_bool on) (state p.old) (state p.new)) }
+{
+    if !is_param_first(p.current()) {
+        p.error("expected value parameter")?;
+        m.abandon(p)?;
+        let on = p.eat(T![,])?;
+        return Ok(on);
+    }
+    param(p, g, flavor)?;
+    m.complete(p, SyntaxKind::PARAM)?;
+    let on = after_param(p)?;
+    Ok(on)
+}
+
+/// Whether a parameter, or an attribute before it, may begin with a token of this kind.
+fn is_param_first(kind: SyntaxKind) -> bool
+    ensures { result ≡ is_param_first kind }
+{
+    is_pattern_first(kind) || is_type_first(kind) || is_outer_attr_first(kind)
+}
+
+/// The comma after a parameter. Answers whether another one may follow. Where one begins, a missing comma is reported.
+fn after_param(p: &mut Parser<'_>) -> Result<bool, NoMemory>
+    ensures grew { OnOk result (Grew (state p.old) (state p.new) 1) }
+    ensures script { IfOk result (λ on. Follows script.after_param (of_bool on) (state p.old) (state p.new)) }
+{
+    if p.eat(T![,])? {
+        return Ok(true);
+    }
+    if !is_param_first(p.current()) {
+        return Ok(false);
+    }
+    p.error("expected `,`")?;
+    Ok(true)
+}
+
+/// What a parameter is made of.
+fn param<G: Grammar>(p: &mut Parser<'_>, g: &G, flavor: Flavor) -> Result<(), NoMemory>
+    requires behind { Behind G.valid G.left g.now (state p.old) }
+    requires first { is_param_first (next (state p.old)) ≡ true }
+    ensures took { OnOk result (Took (state p.old) (state p.new) bare_param_room) }
+    ensures script { OnOk result (Follows (script.param flavor) something (state p.old) (state p.new)) }
+{
+    match flavor {
+        Flavor::FnDef => {
+            fn_def_param(p, g)?;
+            Ok(())
+        }
+        Flavor::FnPointer => {
+            fn_ptr_param(p, g)?;
+            Ok(())
+        }
+        Flavor::Closure => {
+            closure_param(p, g)?;
+            Ok(())
+        }
+    }
+}
+
+/// A parameter of a function, as `a: b`, `a: ...` and `...`.
+fn fn_def_param<G: Grammar>(p: &mut Parser<'_>, g: &G) -> Result<(), NoMemory>
+    requires behind { Behind G.valid G.left g.now (state p.old) }
+    requires first { is_param_first (next (state p.old)) ≡ true }
+    ensures took { OnOk result (Took (state p.old) (state p.new) bare_param_room) }
+    ensures script { OnOk result (Follows script.fn_def_param something (state p.old) (state p.new)) }
+{
+    if p.eat(T![...])? {
+        return Ok(());
+    }
+    pattern(p, g)?;
+    param_type(p, g)?;
+    Ok(())
+}
+
+/// A parameter of a function pointer, as `a`, `_: a` and `...`.
+fn fn_ptr_param<G: Grammar>(p: &mut Parser<'_>, g: &G) -> Result<(), NoMemory>
+    requires behind { Behind G.valid G.left g.now (state p.old) }
+    requires first { is_param_first (next (state p.old)) ≡ true }
+    ensures took { OnOk result (Took (state p.old) (state p.new) bare_param_room) }
+    ensures script { OnOk result (Follows script.fn_ptr_param something (state p.old) (state p.new)) }
+{
+    if p.eat(T![...])? {
+        return Ok(());
+    }
+    if is_named_param(p) {
+        pattern_single(p, g)?;
+        param_type(p, g)?;
+        return Ok(());
+    }
+    type_(p, g)?;
+    Ok(())
+}
+
+/// Whether a name and a colon come next, and no path.
+fn is_named_param(p: &Parser<'_>) -> bool
+    ensures { result ≡ script.is_named_param (state p.now).rest }
+{
+    (p.at(T![ident]) || p.at(T![_])) && p.nth(1) == T![:] && !p.nth_at(1, T![::])
+}
+
+/// A parameter of a closure, as `a` and `a: b`.
+fn closure_param<G: Grammar>(p: &mut Parser<'_>, g: &G) -> Result<(), NoMemory>
+    requires behind { Behind G.valid G.left g.now (state p.old) }
+    requires first { is_param_first (next (state p.old)) ≡ true }
+    ensures took { OnOk result (Took (state p.old) (state p.new) bare_param_room) }
+    ensures script { OnOk result (Follows script.closure_param something (state p.old) (state p.new)) }
+{
+    pattern_single(p, g)?;
+    if p.at(T![:]) && !p.at(T![::]) {
+        ascription(p, g)?;
+    }
+    Ok(())
+}
+
+/// What stands behind a parameter's pattern: `: a` or `: ...`.
+fn param_type<G: Grammar>(p: &mut Parser<'_>, g: &G) -> Result<(), NoMemory>
+    requires behind { Behind G.valid G.left g.now (state p.old) }
+    ensures grew { OnOk result (Grew (state p.old) (state p.new) 1) }
+    ensures script { OnOk result (Follows script.param_type something (state p.old) (state p.new)) }
+{
+    if variadic_param(p)? {
+        return Ok(());
+    }
+    if p.at(T![:]) {
+        ascription(p, g)?;
+        return Ok(());
+    }
+    p.error("missing type for function parameter")?;
+    Ok(())
+}
+
+/// `: ...`, if it comes next. Answers whether it did.
+fn variadic_param(p: &mut Parser<'_>) -> Result<bool, NoMemory>
+    ensures grew { OnOk result (Grew (state p.old) (state p.new) 0) }
+    ensures script { IfOk result (λ found. Follows script.variadic_param (of_bool found) (state p.old) (state p.new)) }
+{
+    if p.at(T![:]) && p.nth_at(1, T![...]) {
+        p.bump(T![:])?;
+        p.bump(T![...])?;
+        return Ok(true);
+    }
+    Ok(false)
+}
+
+/// A parameter that is a `self`, as `mut self: a` and `&'a mut self`, if one comes next. Answers whether it did.
+fn opt_self_param<G: Grammar>(p: &mut Parser<'_>, g: &G) -> Result<bool, NoMemory>
+    requires behind { Behind G.valid G.left g.now (state p.old) }
+    ensures grew { OnOk result (Grew (state p.old) (state p.new) 0) }
+    ensures took { IfOk result (λ found. found ≡ true → Took (state p.old) (state p.new) param_room) }
+    ensures script { IfOk result (λ found. Follows script.opt_self_param (of_bool found) (state p.old) (state p.new)) }
+{
+    if is_self_value(p) {
+        self_value(p, g)?;
+        return Ok(true);
+    }
+    if is_self_ref(p) {
+        self_ref(p)?;
+        return Ok(true);
+    }
+    Ok(false)
+}
+
+/// Whether after `n` tokens comes a `self` with which no path begins.
+fn is_isolated_self(p: &Parser<'_>, n: usize) -> bool
+    requires { n < 4 }
+    ensures { result ≡ script.isolated_self n (state p.now).rest }
+{
+    p.nth_at(n, T![self]) && !p.nth_at(n + 1, T![::])
+}
+
+/// Whether `self` or `mut self` comes next.
+fn is_self_value(p: &Parser<'_>) -> bool
+    ensures { result ≡ script.is_self_value (state p.now).rest }
+{
+    is_isolated_self(p, past(p, T![mut], 0))
+}
+
+/// Whether `&self` comes next, with a lifetime and a `mut` or without them.
+fn is_self_ref(p: &Parser<'_>) -> bool
+    ensures { result ≡ script.is_self_ref (state p.now).rest }
+{
+    p.at(T![&]) && is_isolated_self(p, past(p, T![mut], past(p, T![lifetime_ident], 1)))
+}
+
+/// How far a token of this kind after `n` tokens reaches, if it is there.
+fn past(p: &Parser<'_>, kind: SyntaxKind, n: usize) -> usize
+    requires { n < 4 }
+    ensures few { result ≤ n + 1 }
+    ensures past { result ≡ script.past kind n (state p.now).rest }
+{
+    if p.nth_at(n, kind) { n + 1 } else { n }
+}
+
+/// `self` or `mut self`, and its type.
+fn self_value<G: Grammar>(p: &mut Parser<'_>, g: &G) -> Result<(), NoMemory>
+    requires within { Within G.valid G.left g.now (state p.old) }
+    requires here { script.is_self_value (state p.old).rest ≡ true }
+    ensures took { OnOk result (Took (state p.old) (state p.new) param_room) }
+    ensures script { OnOk result (Follows script.self_value something (state p.old) (state p.new)) }
+{
+    p.eat(T![mut])?;
+    self_as_name(p)?;
+    if p.at(T![:]) {
+        ascription(p, g)?;
+    }
+    Ok(())
+}
+
+/// `&self`, with a lifetime and a `mut` or without them.
+fn self_ref(p: &mut Parser<'_>) -> Result<(), NoMemory>
+    requires here { script.is_self_ref (state p.old).rest ≡ true }
+    ensures took { OnOk result (Took (state p.old) (state p.new) param_room) }
+    ensures script { OnOk result (Follows script.self_ref something (state p.old) (state p.new)) }
+{
+    p.bump(T![&])?;
+    if p.at(T![lifetime_ident]) {
+        lifetime(p)?;
+    }
+    p.eat(T![mut])?;
+    self_as_name(p)?;
+    Ok(())
+}
+
+/// The `self` of a parameter.
+fn self_as_name(p: &mut Parser<'_>) -> Result<(), NoMemory>
+    requires { next (state p.old) ≡ SELF_KW }
+    ensures took { OnOk result (Took (state p.old) (state p.new) name_room) }
+    ensures script { OnOk result (Follows script.self_as_name something (state p.old) (state p.new)) }
+{
+    let m = p.start()?;
+    p.bump(T![self])?;
+    m.complete(p, SyntaxKind::NAME)?;
+    Ok(())
+}

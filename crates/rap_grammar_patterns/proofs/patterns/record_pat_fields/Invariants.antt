@@ -1,0 +1,15 @@
+use Rattle.std.proofs.Common.{false}
+use Rattle.rap_events.specs.State.{state}
+use Rattle.rap_grammar_frame.specs.Grew.{Grew}
+use Rattle.rap_grammar_scripts.specs.Patterns.{record_pat_turn}
+use Rattle.rap_grammar_frame.proofs.Steps.{Turns}
+use Rattle.rap_grammar_patterns.proofs.patterns.record_pat_fields.Given as goal
+
+abbrev pub invariant-fields : goal.invariant-fields
+invariant-fields g l = record {
+  grew : Grew (state l.fn.p) (state l.p) 0;
+  script : Turns record_pat_turn false false false false (state l.fn.p) (state l.p);
+}
+
+abbrev pub decreases-fields : goal.decreases-fields
+decreases-fields g l = (state l.p).left

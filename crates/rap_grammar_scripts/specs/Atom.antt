@@ -1,0 +1,203 @@
+-- Expressions that begin with no operator.
+use Rattle.std.specs.Prelude.{ℕ, Bool, true, false, ◌==◌, ◌&&◌, ◌||◌, not, if◌then◌else◌, List, [], ◌∷◌, Option, Some, None, drop, codes}
+use Rattle.rap_base.specs.TokenKind.{EOF, COMMA, SEMICOLON, COLON, L_PAREN, R_PAREN, L_BRACK, R_BRACK, L_CURLY, UNDERSCORE, LIFETIME_IDENT, LET_KW, IF_KW, LOOP_KW, WHILE_KW, FOR_KW, MATCH_KW, TRY_KW, BIKESHED_KW, RETURN_KW, BECOME_KW, YIELD_KW, DO_KW, YEET_KW, CONTINUE_KW, BREAK_KW, CONST_KW, UNSAFE_KW, ASYNC_KW, GEN_KW, MOVE_KW}
+use Rattle.rap_base.specs.NodeKind.{LITERAL, PATH_EXPR, RECORD_EXPR, MACRO_CALL, MACRO_EXPR, PAREN_EXPR, TUPLE_EXPR, ARRAY_EXPR, UNDERSCORE_EXPR, BLOCK_EXPR, TRY_BLOCK_MODIFIER, RETURN_EXPR, BECOME_EXPR, YIELD_EXPR, YEET_EXPR, CONTINUE_EXPR, BREAK_EXPR}
+use Rattle.rap_events.specs.Record.{Record, next_kind, kind_at, contextual_at}
+use Rattle.rap_events.specs.Composite.{is_at}
+use Rattle.rap_events.specs.State.{expected}
+use Rattle.rap_grammar_scripts.specs.Blocks.{stmt_list}
+use Rattle.rap_grammar_scripts.specs.Builtins.{builtin_expr}
+unfoldable pub use Rattle.rap_grammar_scripts.specs.Called.{unrestricted, expr}
+use Rattle.rap_grammar_scripts.specs.Called.{type_}
+use Rattle.rap_grammar_scripts.specs.Control.{if_expr, let_expr, loop_expr, while_expr, for_expr, match_expr, labelled_expr, closure_expr}
+use Rattle.rap_grammar_scripts.specs.First.{one_of, is_expr_first, is_literal_first, starts_path, starts_closure}
+use Rattle.rap_grammar_scripts.specs.Grammar.{lifetime}
+use Rattle.rap_grammar_scripts.specs.Paths.{expr_path}
+use Rattle.rap_grammar_scripts.specs.Phrase.{Phrase}
+use Rattle.rap_grammar_scripts.specs.Records.{record_expr_field_list}
+use Rattle.rap_grammar_scripts.specs.Script.{Script, Outcome, nothing, something, block, give, test, token, any, bear, report, skip, start, precede, finish, after, loop, again}
+use Rattle.rap_grammar_scripts.specs.TokenTree.{starts_macro_call, macro_call_after_excl}
+use Rattle.rap_grammar_scripts.specs.Words.{done, if_some, next_is, reads_as, starts_builtin, eat, eat_as, expect, of_bool}
+use Rattle.rap_grammar_scripts.specs.declared.arguments.Restrictions.{Restrictions}
+
+unfoldable pub literal : Script Phrase
+literal = test (λ rs. is_literal_first (next_kind rs)) (start (any (finish LITERAL done))) (give nothing)
+
+-- the fields of a record come next, where a record literal may stand
+abbrev pub starts_record : Bool → List Record → Bool
+starts_record forbid_structs rs = not forbid_structs && is_at L_CURLY rs
+
+-- a path, a record literal or a macro call; a macro call reads like a block as its brackets say
+unfoldable pub path_expr : Restrictions → Script Phrase
+path_expr r =
+    start (after expr_path (λ v.
+    test (starts_record r.forbid_structs) (after record_expr_field_list (λ w. finish RECORD_EXPR done))
+    (test starts_macro_call (after macro_call_after_excl (λ w. finish MACRO_CALL (precede (finish MACRO_EXPR (give w)))))
+    (finish PATH_EXPR done))))
+
+abbrev pub tuple_turn : Bool → Bool → Script Phrase
+tuple_turn comma seen =
+    test (is_at EOF) (give (of_bool (seen && not comma)))
+    (test (is_at R_PAREN) (give (of_bool (seen && not comma)))
+    (test (is_at COMMA) (report (codes "expected expression") (token COMMA (give (again true seen))))
+    (after expr (λ v. if_some v
+    (test (is_at R_PAREN) (give (again comma true)) (expect COMMA (give (again true true))))
+    (give (of_bool (not comma)))))))
+
+-- what stands in parentheses: something where it is one expression and no comma
+unfoldable pub tuple_elements : Script Phrase
+tuple_elements = loop tuple_turn false false
+
+abbrev pub tuple_kind : Outcome → ℕ
+tuple_kind nothing = TUPLE_EXPR
+tuple_kind something = PAREN_EXPR
+tuple_kind block = PAREN_EXPR
+tuple_kind (again a b) = PAREN_EXPR
+
+unfoldable pub tuple_expr : Script Phrase
+tuple_expr = start (token L_PAREN (after tuple_elements (λ v. expect R_PAREN (finish (tuple_kind v) done))))
+
+-- the next turn, if there was or was no semicolon, or the end
+abbrev pub of_semi : Option Bool → Outcome
+of_semi None = something
+of_semi (Some semi) = again false semi
+
+-- what stands behind an element of an array
+unfoldable pub after_element : Bool → Bool → Script Phrase
+after_element first semi =
+    test (λ rs. first && is_at SEMICOLON rs) (token SEMICOLON (give (again false true)))
+    (if semi then done
+    else test (is_at R_BRACK) (give (again false false))
+    (test (is_at COMMA) (token COMMA (give (again false false))) (report (expected COMMA) done)))
+
+abbrev pub array_turn : Bool → Bool → Script Phrase
+array_turn first semi =
+    test (is_at EOF) done
+    (test (is_at R_BRACK) done
+    (after expr (λ v. if_some v (after_element first semi) done)))
+
+-- what stands in the brackets of an array; a semicolon after the first element ends it after the second
+unfoldable pub array_elements : Script Phrase
+array_elements = loop array_turn true false
+
+unfoldable pub array_expr : Script Phrase
+array_expr = start (token L_BRACK (after array_elements (λ v. expect R_BRACK (finish ARRAY_EXPR done))))
+
+unfoldable pub underscore_expr : Script Phrase
+underscore_expr = start (token UNDERSCORE (finish UNDERSCORE_EXPR done))
+
+unfoldable pub plain_block : Script Phrase
+plain_block = start (after stmt_list (λ v. finish BLOCK_EXPR done))
+
+-- an operand follows: an expression begins and, where a block follows, it is no block
+abbrev pub has_operand : Bool → List Record → Bool
+has_operand before_block rs = is_expr_first (next_kind rs) && not (before_block && (next_kind rs == L_CURLY))
+
+-- an operand that may be missing
+unfoldable pub opt_expr : Bool → Script Phrase
+opt_expr before_block = test (has_operand before_block) (after expr (λ v. done)) done
+
+-- a label that is gone to, if there is one
+unfoldable pub opt_lifetime : Script Phrase
+opt_lifetime = test (is_at LIFETIME_IDENT) lifetime done
+
+unfoldable pub return_expr : Script Phrase
+return_expr = start (token RETURN_KW (after (opt_expr false) (λ v. finish RETURN_EXPR done)))
+
+unfoldable pub become_expr : Script Phrase
+become_expr = start (token BECOME_KW (after expr (λ v. finish BECOME_EXPR done)))
+
+unfoldable pub yield_expr : Script Phrase
+yield_expr = start (token YIELD_KW (after (opt_expr false) (λ v. finish YIELD_EXPR done)))
+
+unfoldable pub yeet_expr : Script Phrase
+yeet_expr = start (token DO_KW (eat_as YEET_KW (after (opt_expr false) (λ v. finish YEET_EXPR done))))
+
+unfoldable pub continue_expr : Script Phrase
+continue_expr = start (token CONTINUE_KW (after opt_lifetime (λ v. finish CONTINUE_EXPR done)))
+
+unfoldable pub break_expr : Restrictions → Script Phrase
+break_expr r = start (token BREAK_KW (after opt_lifetime (λ v. after (opt_expr r.forbid_structs) (λ w. finish BREAK_EXPR done))))
+
+-- `try`, and the type of the block behind it
+unfoldable pub try_modifier : Script Phrase
+try_modifier =
+    start (token TRY_KW
+    (test (reads_as BIKESHED_KW) (bear BIKESHED_KW (after type_ (λ v. finish TRY_BLOCK_MODIFIER done)))
+    (finish TRY_BLOCK_MODIFIER done)))
+
+unfoldable pub try_block_expr : Script Phrase
+try_block_expr =
+    start (after try_modifier (λ v.
+    test (is_at L_CURLY) (after stmt_list (λ w. finish BLOCK_EXPR done))
+    (report (codes "expected a block") (finish BLOCK_EXPR done))))
+
+-- A block comes next, with what it is before its brace: `const`, `unsafe`, `async` or `gen`; and with `move` after
+-- `async`, `gen` and `async gen`.
+unfoldable pub starts_effect_block : List Record → Bool
+starts_effect_block rs =
+    (one_of (CONST_KW ∷ UNSAFE_KW ∷ ASYNC_KW ∷ GEN_KW ∷ []) (next_kind rs) && (kind_at rs 1 == L_CURLY))
+    || (((next_kind rs == ASYNC_KW) && ((kind_at rs 1 == GEN_KW) && (kind_at rs 2 == L_CURLY)))
+    || ((one_of (ASYNC_KW ∷ GEN_KW ∷ []) (next_kind rs) && ((kind_at rs 1 == MOVE_KW) && (kind_at rs 2 == L_CURLY)))
+    || ((next_kind rs == ASYNC_KW) && ((kind_at rs 1 == GEN_KW) && ((kind_at rs 2 == MOVE_KW) && (kind_at rs 3 == L_CURLY))))))
+
+-- what stands before the brace of such a block
+unfoldable pub effects : Script Phrase
+effects = any (eat GEN_KW (eat MOVE_KW done))
+
+unfoldable pub effect_block : Script Phrase
+effect_block = start (after effects (λ v. after stmt_list (λ w. finish BLOCK_EXPR done)))
+
+-- a block with an effect, a closure, a `try` block or a `for` loop
+unfoldable pub effect_expr : Script Phrase
+effect_expr =
+    test starts_effect_block (after effect_block (λ v. give block))
+    (test starts_closure closure_expr
+    (test (next_is TRY_KW) (after try_block_expr (λ v. give block))
+    (test (next_is FOR_KW) (after for_expr (λ v. give block))
+    (skip (codes "expected expression") (give nothing)))))
+
+-- `do yeet` comes next
+abbrev pub starts_yeet : List Record → Bool
+starts_yeet rs = (next_kind rs == DO_KW) && (contextual_at rs 1 == YEET_KW)
+
+-- a jump, or what follows in this list
+unfoldable pub jump_expr : Restrictions → Script Phrase
+jump_expr r =
+    test starts_yeet yeet_expr
+    (test (next_is RETURN_KW) return_expr
+    (test (next_is BECOME_KW) become_expr
+    (test (next_is YIELD_KW) yield_expr
+    (test (next_is CONTINUE_KW) continue_expr
+    (test (next_is BREAK_KW) (break_expr r)
+    effect_expr)))))
+
+-- a label with its colon comes next
+abbrev pub starts_label : List Record → Bool
+starts_label rs = (next_kind rs == LIFETIME_IDENT) && is_at COLON (drop 1 rs)
+
+-- a condition, a loop or a `match`, or what follows in this list
+unfoldable pub control_expr : Restrictions → Script Phrase
+control_expr r =
+    test starts_label labelled_expr
+    (test (next_is IF_KW) (after if_expr (λ v. give block))
+    (test (next_is LOOP_KW) (after loop_expr (λ v. give block))
+    (test (next_is WHILE_KW) (after while_expr (λ v. give block))
+    (test (next_is MATCH_KW) (after match_expr (λ v. give block))
+    (jump_expr r)))))
+
+-- one in brackets, `_` or a `let`, or what follows in this list
+unfoldable pub bracketed_expr : Restrictions → Script Phrase
+bracketed_expr r =
+    test (next_is L_PAREN) tuple_expr
+    (test (next_is L_BRACK) array_expr
+    (test (next_is L_CURLY) (after plain_block (λ v. give block))
+    (test (next_is UNDERSCORE) underscore_expr
+    (test (next_is LET_KW) (let_expr r)
+    (control_expr r)))))
+
+unfoldable pub atom_expr : Restrictions → Script Phrase
+atom_expr r = after literal (λ v. if_some v done
+    (test starts_builtin builtin_expr
+    (test starts_path (path_expr r)
+    (bracketed_expr r))))

@@ -1,0 +1,33 @@
+-- Constants as arguments of something generic.
+use Rattle.std.specs.Prelude.{codes}
+use Rattle.rap_base.specs.TokenKind.{L_CURLY, MINUS}
+use Rattle.rap_base.specs.NodeKind.{PREFIX_EXPR, PATH_EXPR, CONST_ARG}
+use Rattle.rap_events.specs.Record.{next_kind}
+use Rattle.rap_grammar_scripts.specs.Atom.{literal}
+use Rattle.rap_grammar_scripts.specs.Blocks.{block_expr}
+use Rattle.rap_grammar_scripts.specs.First.{is_literal_first, starts_path}
+use Rattle.rap_grammar_scripts.specs.Paths.{expr_path}
+use Rattle.rap_grammar_scripts.specs.Phrase.{Phrase}
+use Rattle.rap_grammar_scripts.specs.Recovery.{is_generic_arg_recovery}
+use Rattle.rap_grammar_scripts.specs.Script.{Script, test, token, start, finish, after}
+use Rattle.rap_grammar_scripts.specs.Words.{done, next_is, recover}
+
+unfoldable pub negative_const : Script Phrase
+negative_const = start (token MINUS (after literal (λ v. finish PREFIX_EXPR done)))
+
+unfoldable pub const_path : Script Phrase
+const_path = start (after expr_path (λ v. finish PATH_EXPR done))
+
+unfoldable pub missing_const : Script Phrase
+missing_const = recover (codes "expected a generic const argument") is_generic_arg_recovery done done
+
+unfoldable pub const_arg_expr : Script Phrase
+const_arg_expr =
+    test (next_is L_CURLY) block_expr
+    (test (λ rs. is_literal_first (next_kind rs)) (after literal (λ v. done))
+    (test (next_is MINUS) negative_const
+    (test starts_path const_path
+    missing_const)))
+
+unfoldable pub const_arg : Script Phrase
+const_arg = start (after const_arg_expr (λ v. finish CONST_ARG done))

@@ -1,0 +1,121 @@
+-- What may stand before the keyword of an item.
+use Rattle.std.specs.Prelude.{◌≡◌, ℕ, Bool, true, false, List, [], ◌∷◌, drop, ◌==◌, ◌&&◌, ◌||◌, not, codes}
+use Rattle.rap_base.specs.TokenKind.{L_PAREN, R_PAREN, L_CURLY, PIPE, CRATE_KW, SUPER_KW, SELF_KW, IN_KW, IMPL_KW, CONST_KW, ASYNC_KW, GEN_KW, MOVE_KW, FN_KW, UNSAFE_KW, SAFE_KW, EXTERN_KW, AUTO_KW, TRAIT_KW, DEFAULT_KW, TYPE_KW}
+use Rattle.rap_base.specs.NodeKind.{IMPL_RESTRICTION}
+use Rattle.rap_events.specs.Record.{Record, kind_at}
+use Rattle.rap_events.specs.Composite.{is_at}
+use Rattle.rap_events.specs.State.{State}
+use Rattle.rap_grammar_scripts.specs.First.{one_of}
+use Rattle.rap_grammar_scripts.specs.Grammar.{abi}
+use Rattle.rap_grammar_frame.specs.Grew.{Grew, Took}
+use Rattle.rap_grammar_scripts.specs.Phrase.{Phrase}
+use Rattle.rap_grammar_frame.specs.Room.{list_room}
+use Rattle.rap_grammar_scripts.specs.Script.{Script, Outcome, nothing, something, block, again, give, test, token, bear, report, start, finish, after}
+use Rattle.rap_grammar_scripts.specs.Visibility.{opt_visibility_inner}
+use Rattle.rap_grammar_scripts.specs.Words.{done, if_some, reads_as, eat}
+
+-- whether a modifier was there, and whether one of two was
+abbrev pub found : Outcome → Bool
+found nothing = false
+found something = true
+found block = true
+found (again a b) = true
+
+abbrev pub either_of : Outcome → Outcome → Outcome
+either_of nothing w = w
+either_of something w = something
+either_of block w = something
+either_of (again a b) w = something
+
+-- who may implement a trait
+abbrev pub is_impl_restriction : List Record → Bool
+is_impl_restriction rs =
+    is_at IMPL_KW rs && ((kind_at rs 1 == L_PAREN)
+    && ((one_of (CRATE_KW ∷ SUPER_KW ∷ SELF_KW ∷ []) (kind_at rs 2) && (kind_at rs 3 == R_PAREN)) || (kind_at rs 2 == IN_KW)))
+
+unfoldable pub impl_restriction : Script Phrase
+impl_restriction =
+    start (token IMPL_KW (after (opt_visibility_inner false) (λ v.
+    if_some v (finish IMPL_RESTRICTION done)
+    (report (codes "expected an impl restriction") (finish IMPL_RESTRICTION done)))))
+
+unfoldable pub opt_impl_restriction : Script Phrase
+opt_impl_restriction = test is_impl_restriction impl_restriction (give nothing)
+
+-- a modifier that is a keyword, or an identifier that is read as one, if the tokens that come next say so
+unfoldable pub modifier : (List Record → Bool) → ℕ → Script Phrase
+modifier h kind = test h (token kind done) (give nothing)
+
+unfoldable pub modifier_as : (List Record → Bool) → ℕ → Script Phrase
+modifier_as h kind = test h (bear kind done) (give nothing)
+
+-- a keyword before an item, and before no block and no closure
+abbrev pub is_const_modifier : List Record → Bool
+is_const_modifier rs = is_at CONST_KW rs && not (kind_at rs 1 == L_CURLY)
+
+abbrev pub is_async_modifier : List Record → Bool
+is_async_modifier rs =
+    is_at ASYNC_KW rs && (not (one_of (L_CURLY ∷ GEN_KW ∷ MOVE_KW ∷ PIPE ∷ []) (kind_at rs 1))
+    || ((kind_at rs 1 == GEN_KW) && (kind_at rs 2 == FN_KW)))
+
+abbrev pub is_gen_modifier : List Record → Bool
+is_gen_modifier rs = is_at GEN_KW rs && (kind_at rs 1 == FN_KW)
+
+abbrev pub is_unsafe_modifier : List Record → Bool
+is_unsafe_modifier rs = is_at UNSAFE_KW rs && not (kind_at rs 1 == L_CURLY)
+
+abbrev pub is_safe_modifier : Bool → List Record → Bool
+is_safe_modifier is_in_extern rs = is_in_extern && reads_as SAFE_KW rs
+
+abbrev pub is_auto_modifier : List Record → Bool
+is_auto_modifier rs = reads_as AUTO_KW rs && (kind_at rs 1 == TRAIT_KW)
+
+unfoldable pub qualifiers : Script Phrase
+qualifiers =
+    after (modifier is_const_modifier CONST_KW) (λ a.
+    after (modifier is_async_modifier ASYNC_KW) (λ b.
+    after (modifier is_gen_modifier GEN_KW) (λ c.
+    give (either_of a (either_of b c)))))
+
+unfoldable pub safety : Bool → Script Phrase
+safety is_in_extern =
+    after (modifier is_unsafe_modifier UNSAFE_KW) (λ a.
+    after (modifier_as (is_safe_modifier is_in_extern) SAFE_KW) (λ b.
+    give (either_of a b)))
+
+unfoldable pub opt_abi : Script Phrase
+opt_abi = test (is_at EXTERN_KW) abi (give nothing)
+
+-- a `default` before an item, and with the modifier behind it
+abbrev pub is_default : List Record → Bool
+is_default rs = reads_as DEFAULT_KW rs && one_of (FN_KW ∷ TYPE_KW ∷ CONST_KW ∷ IMPL_KW ∷ []) (kind_at rs 1)
+
+abbrev pub is_default_unsafe : List Record → Bool
+is_default_unsafe rs =
+    reads_as DEFAULT_KW rs && (is_at UNSAFE_KW (drop 1 rs) && one_of (IMPL_KW ∷ FN_KW ∷ []) (kind_at rs 2))
+
+abbrev pub is_default_async : List Record → Bool
+is_default_async rs =
+    reads_as DEFAULT_KW rs && (is_at ASYNC_KW (drop 1 rs)
+    && (is_at FN_KW (drop 2 rs) || (is_at UNSAFE_KW (drop 2 rs) && is_at FN_KW (drop 3 rs))))
+
+unfoldable pub opt_default : Script Phrase
+opt_default =
+    test is_default (bear DEFAULT_KW done)
+    (test is_default_unsafe (bear DEFAULT_KW (token UNSAFE_KW done))
+    (test is_default_async (bear DEFAULT_KW (token ASYNC_KW (eat UNSAFE_KW done)))
+    (give nothing)))
+
+unfoldable pub auto_or_default : Script Phrase
+auto_or_default =
+    after (modifier_as is_auto_modifier AUTO_KW) (λ a. after opt_default (λ b. give (either_of a b)))
+
+-- all modifiers: whether there were any, and whether `extern` was one
+unfoldable pub modifiers : Bool → Script Phrase
+modifiers is_in_extern =
+    after opt_impl_restriction (λ a.
+    after qualifiers (λ b.
+    after (safety is_in_extern) (λ c.
+    after opt_abi (λ d.
+    after auto_or_default (λ e.
+    give (again (found (either_of a (either_of b (either_of c (either_of d e))))) (found d)))))))

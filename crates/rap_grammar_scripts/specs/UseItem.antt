@@ -1,0 +1,74 @@
+-- Imports.
+use Rattle.std.specs.Prelude.{ℕ, Bool, List, [], ◌∷◌, ◌&&◌, ◌||◌, codes}
+use Rattle.rap_base.specs.TokenKind.{COLON2, COMMA, DOT, SEMICOLON, STAR, L_CURLY, R_CURLY, IDENT, USE_KW, AS_KW}
+use Rattle.rap_base.specs.NodeKind.{USE, USE_TREE, USE_TREE_LIST}
+use Rattle.rap_events.specs.Record.{Record, next_kind, kind_at}
+use Rattle.rap_events.specs.Composite.{is_at}
+use Rattle.rap_grammar_scripts.specs.Called as called
+use Rattle.rap_grammar_scripts.specs.First.{one_of, starts_use_path}
+use Rattle.rap_grammar_scripts.specs.Grammar.{delimited, opt_rename}
+use Rattle.rap_grammar_scripts.specs.Paths.{use_path}
+use Rattle.rap_grammar_scripts.specs.Phrase.{Phrase}
+use Rattle.rap_grammar_scripts.specs.Recovery.{is_item_recovery}
+use Rattle.rap_grammar_scripts.specs.Script.{Script, nothing, give, test, token, report, skip, start, finish, after}
+use Rattle.rap_grammar_scripts.specs.Words.{done, expect, recover}
+
+-- a star, or a list in its braces
+abbrev pub is_group_first : ℕ → Bool
+is_group_first kind = one_of (STAR ∷ L_CURLY ∷ []) kind
+
+-- the same behind `::`
+abbrev pub starts_global_group : List Record → Bool
+starts_global_group rs = is_at COLON2 rs && is_group_first (kind_at rs 2)
+
+-- a tree of names comes next
+abbrev pub starts_use_tree : List Record → Bool
+starts_use_tree rs = is_group_first (next_kind rs) || starts_use_path rs
+
+-- the search for a tree in braces: where it ends, the list goes on
+abbrev pub is_use_tree_list_recovery : ℕ → Bool
+is_use_tree_list_recovery kind = one_of (SEMICOLON ∷ COMMA ∷ DOT ∷ IDENT ∷ []) kind || is_item_recovery kind
+
+-- where a comma between two trees is missed
+abbrev pub is_use_tree_list_first : ℕ → Bool
+is_use_tree_list_first kind = one_of (L_CURLY ∷ IDENT ∷ []) kind
+
+abbrev pub missing_use_tree : List ℕ
+missing_use_tree = codes "expected one of `*`, `::`, `{`, `self`, `super` or an identifier"
+
+-- a tree in braces; where none begins, a token is taken along
+unfoldable pub nested_use_tree : Script Phrase
+nested_use_tree =
+    test starts_use_tree called.use_tree
+    (skip missing_use_tree (test (λ rs. is_use_tree_list_recovery (next_kind rs)) done (give nothing)))
+
+unfoldable pub use_tree_list : Script Phrase
+use_tree_list =
+    start (after (delimited nested_use_tree L_CURLY R_CURLY COMMA (codes "expected use tree") is_use_tree_list_first)
+    (λ v. finish USE_TREE_LIST done))
+
+unfoldable pub group : Script Phrase
+group = test (is_at STAR) (token STAR done) use_tree_list
+
+-- what stands behind a path and its `::`
+unfoldable pub group_behind : Script Phrase
+group_behind =
+    token COLON2 (test (λ rs. is_group_first (next_kind rs)) group (report (codes "expected `{` or `*`") done))
+
+-- what stands behind a path
+unfoldable pub after_use_path : Script Phrase
+after_use_path = test (is_at AS_KW) opt_rename (test (is_at COLON2) group_behind done)
+
+-- a tree of names, of which one begins
+unfoldable pub use_tree : Script Phrase
+use_tree =
+    start (test (λ rs. is_group_first (next_kind rs)) (after group (λ v. finish USE_TREE done))
+    (test starts_global_group (token COLON2 (after group (λ v. finish USE_TREE done)))
+    (after use_path (λ v. after after_use_path (λ w. finish USE_TREE done)))))
+
+-- the tree of an import; where none begins, the next token is taken along, unless an item begins there
+unfoldable pub expect_use_tree : Script Phrase
+expect_use_tree = test starts_use_tree use_tree (recover missing_use_tree is_item_recovery done done)
+
+unfoldable pub use_ : Script Phrase
+use_ = token USE_KW (after expect_use_tree (λ v. expect SEMICOLON (finish USE done)))

@@ -1,0 +1,63 @@
+-- What scripts say often.
+use Rattle.std.specs.Prelude.{ℕ, Bool, true, false, ◌==◌, ◌&&◌, ◌||◌, List, Option, Some, None, drop}
+use Rattle.rap_base.specs.TokenKind.{L_CURLY, R_CURLY, POUND, BUILTIN_KW}
+use Rattle.rap_events.specs.Record.{Record, next_kind, contextual_at}
+use Rattle.rap_events.specs.Composite.{is_at}
+use Rattle.rap_events.specs.Cover.{first_may_bear}
+use Rattle.rap_events.specs.State.{expected}
+use Rattle.rap_grammar_scripts.specs.Script.{Script, Outcome, nothing, something, block, again, give, test, token, bear, report, skip}
+
+-- the end of a rule that has nothing to answer
+abbrev pub done : {P : Type 0} → Script P
+done = give something
+
+-- one of two ways, by whether there is something
+abbrev pub if_some : {P : Type 0} → Outcome → Script P → Script P → Script P
+if_some nothing s t = t
+if_some something s t = s
+if_some block s t = s
+if_some (again a b) s t = s
+
+-- whether it is a node that reads like a block
+abbrev pub is_block : Outcome → Bool
+is_block nothing = false
+is_block something = false
+is_block block = true
+is_block (again a b) = false
+
+-- whether the next token is of this kind
+abbrev pub next_is : ℕ → List Record → Bool
+next_is kind rs = next_kind rs == kind
+
+-- whether the next token is an identifier that is read as this keyword
+abbrev pub reads_as : ℕ → List Record → Bool
+reads_as kind rs = first_may_bear rs kind && (contextual_at rs 0 == kind)
+
+-- `builtin#` comes next
+abbrev pub starts_builtin : List Record → Bool
+starts_builtin rs = reads_as BUILTIN_KW rs && is_at POUND (drop 1 rs)
+
+-- a token of this kind if one comes next, and on
+abbrev pub eat : {P : Type 0} → ℕ → Script P → Script P
+eat kind s = test (is_at kind) (token kind s) s
+
+-- an identifier that is read as this keyword if one comes next, as that keyword, and on
+abbrev pub eat_as : {P : Type 0} → ℕ → Script P → Script P
+eat_as kind s = test (reads_as kind) (bear kind s) s
+
+-- a token of this kind, or the message that it is missing, and on
+abbrev pub expect : {P : Type 0} → ℕ → Script P → Script P
+expect kind s = test (is_at kind) (token kind s) (report (expected kind) s)
+
+-- a message before a brace or a token that is kept, and else with the next token in an `ERROR`; and on, by one way or the other
+abbrev pub recover : {P : Type 0} → List ℕ → (ℕ → Bool) → Script P → Script P → Script P
+recover bytes kept s t = test (λ rs. (next_kind rs == L_CURLY) || ((next_kind rs == R_CURLY) || kept (next_kind rs))) (report bytes s) (skip bytes t)
+
+-- the outcome of an option and of a truth value
+abbrev pub of_option : {A : Type 0} → Option A → Outcome
+of_option None = nothing
+of_option (Some a) = something
+
+abbrev pub of_bool : Bool → Outcome
+of_bool false = nothing
+of_bool true = something

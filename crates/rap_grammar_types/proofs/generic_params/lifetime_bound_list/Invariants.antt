@@ -1,0 +1,15 @@
+use Rattle.std.proofs.Common.{false}
+use Rattle.rap_events.specs.State.{state}
+use Rattle.rap_grammar_scripts.specs.GenericParams.{lifetime_bound_turn}
+use Rattle.rap_grammar_frame.specs.Grew.{Grew}
+use Rattle.rap_grammar_frame.proofs.Steps.{Turns}
+use Rattle.rap_grammar_types.proofs.generic_params.lifetime_bound_list.Given as goal
+
+abbrev pub invariant-bounds : goal.invariant-bounds
+invariant-bounds g l = record {
+  grew : Grew (state l.initial.p) (state l.p) 0;
+  script : Turns lifetime_bound_turn false false false false (state l.initial.p) (state l.p);
+}
+
+abbrev pub decreases-bounds : goal.decreases-bounds
+decreases-bounds g l = (state l.p).left

@@ -1,0 +1,15 @@
+use Rattle.std.proofs.Common.{false}
+use Rattle.rap_events.specs.State.{state}
+use Rattle.rap_grammar_scripts.specs.GenericParams.{where_turn}
+use Rattle.rap_grammar_frame.specs.Grew.{Grew}
+use Rattle.rap_grammar_frame.proofs.Steps.{Turns}
+use Rattle.rap_grammar_types.proofs.generic_params.where_predicates.Given as goal
+
+abbrev pub invariant-predicates : goal.invariant-predicates
+invariant-predicates g l = record {
+  grew : Grew (state l.initial.p) (state l.p) 0;
+  script : Turns where_turn false false false false (state l.initial.p) (state l.p);
+}
+
+abbrev pub decreases-predicates : goal.decreases-predicates
+decreases-predicates g l = (state l.p).left

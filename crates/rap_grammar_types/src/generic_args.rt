@@ -1,0 +1,287 @@
+//! Arguments of something generic.
+ghost use Rattle.std.specs.Prelude.{◌≡◌, ◌<◌, ◌≤◌, OnOk, true, Some, IfOk};
+ghost use Rattle.rap_base.specs.TokenKind.{LIFETIME_IDENT, COLON, BANG, MINUS};
+ghost use Rattle.rap_base.specs.NodeKind.{PATH_EXPR};
+ghost use Rattle.rap_events.specs.State.{state, next, IsLast};
+ghost use Rattle.rap_grammar_scripts.specs.ConstArgs as const_script;
+ghost use Rattle.rap_grammar_scripts.specs.First.{is_const_arg_first, is_generic_arg_first, is_type_first, is_path_name, starts_path};
+ghost use Rattle.rap_grammar_scripts.specs.GenericArgs as script;
+ghost use Rattle.rap_grammar_frame.specs.Grew.{Within, Took, Behind, Grew, Ended, Makes};
+ghost use Rattle.rap_grammar_scripts.specs.Knot.{Follows};
+ghost use Rattle.rap_grammar_scripts.specs.Recovery.{is_generic_arg_recovery};
+ghost use Rattle.rap_grammar_frame.specs.Room.{element_room, operand_room, atom_room};
+ghost use Rattle.rap_grammar_scripts.specs.Script.{something};
+
+use crate::generic_params::bounds;
+use crate::types::{opt_type_bounds_as_dyn_trait_type, starts_weak_dyn, type_with_bounds_cond};
+use rap_base::no_memory::NoMemory;
+use rap_base::syntax_kind::SyntaxKind;
+use rap_base::token_set::TokenSet;
+use rap_events::parser::{CompletedMarker, Marker, Parser};
+use rap_grammar_blocks::blocks::block_expr;
+use rap_grammar_frame::called::type_;
+use rap_grammar_frame::first::{
+    is_const_arg_first, is_literal_first, is_path_start, is_type_first,
+};
+use rap_grammar_frame::knot::Grammar;
+use rap_grammar_frame::literals::literal;
+use rap_grammar_frame::names::{is_path_name, lifetime, name_ref_mod_path};
+use rap_grammar_frame::token_tree::{macro_call_after_excl, starts_macro_call};
+use rap_grammar_paths::paths::{expr_path, opt_path_type_args, type_path_for_qualifier};
+use rap_grammar_scripts::T;
+
+/// An argument, as `'a`, `1`, `a`, `a = b` and `a: b`.
+pub fn generic_arg<G: Grammar>(p: &mut Parser<'_>, g: &G) -> Result<(), NoMemory>
+    requires within { Within G.valid G.left g.now (state p.old) }
+    requires first { is_generic_arg_first (next (state p.old)) ≡ true }
+    ensures took { OnOk result (Took (state p.old) (state p.new) element_room) }
+    ensures script { OnOk result (Follows script.generic_arg something (state p.old) (state p.new)) }
+{
+    if starts_lifetime_arg(p) {
+        lifetime_arg(p)?;
+        return Ok(());
+    }
+    if is_const_arg_first(p.current()) {
+        const_arg(p, g)?;
+        return Ok(());
+    }
+    if starts_named_arg(p) {
+        named_arg(p, g)?;
+        return Ok(());
+    }
+    type_arg(p, g)?;
+    Ok(())
+}
+
+/// Whether a lifetime comes next that is no bound of a type, as in `'a + b`.
+fn starts_lifetime_arg(p: &Parser<'_>) -> bool
+    ensures starts { result ≡ script.starts_lifetime_arg (state p.now).rest }
+    ensures here { result ≡ true → next (state p.now) ≡ LIFETIME_IDENT }
+{
+    p.current() == T![lifetime_ident] && !p.nth_at(1, T![+])
+}
+
+/// A lifetime as an argument, as `'a`.
+fn lifetime_arg(p: &mut Parser<'_>) -> Result<(), NoMemory>
+    requires here { next (state p.old) ≡ LIFETIME_IDENT }
+    ensures took { OnOk result (Took (state p.old) (state p.new) element_room) }
+    ensures script { OnOk result (Follows script.lifetime_arg something (state p.old) (state p.new)) }
+{
+    let m = p.start()?;
+    lifetime(p)?;
+    m.complete(p, SyntaxKind::LIFETIME_ARG)?;
+    Ok(())
+}
+
+/// A type as an argument, as `&a`.
+fn type_arg<G: Grammar>(p: &mut Parser<'_>, g: &G) -> Result<(), NoMemory>
+    requires within { Within G.valid G.left g.now (state p.old) }
+    requires first { is_type_first (next (state p.old)) ≡ true }
+    ensures took { OnOk result (Took (state p.old) (state p.new) element_room) }
+    ensures script { OnOk result (Follows script.type_arg something (state p.old) (state p.new)) }
+{
+    let m = p.start()?;
+    type_with_bounds_cond(p, g, true)?;
+    m.complete(p, SyntaxKind::TYPE_ARG)?;
+    Ok(())
+}
+
+/// Whether a name comes next that is no `dyn` of a type.
+fn starts_named_arg(p: &Parser<'_>) -> bool
+    ensures starts { result ≡ script.starts_named_arg (state p.now).rest }
+    ensures here { result ≡ true → is_path_name (next (state p.now)) ≡ true }
+{
+    is_path_name(p.current()) && !starts_weak_dyn(p)
+}
+
+/// Whether bounds come next, from their colon on.
+fn starts_bounds(p: &Parser<'_>) -> bool
+    ensures starts { result ≡ script.starts_bounds (state p.now).rest }
+    ensures here { result ≡ true → next (state p.now) ≡ COLON }
+{
+    p.current() == T![:] && !p.at(T![::])
+}
+
+/// An argument that begins with a name, as `a::b<c>`, `a = b` and `a<b>: c`.
+fn named_arg<G: Grammar>(p: &mut Parser<'_>, g: &G) -> Result<(), NoMemory>
+    requires within { Within G.valid G.left g.now (state p.old) }
+    requires name { is_path_name (next (state p.old)) ≡ true }
+    ensures took { OnOk result (Took (state p.old) (state p.new) element_room) }
+    ensures script { OnOk result (Follows script.named_arg something (state p.old) (state p.new)) }
+{
+    let m = p.start()?;
+    name_ref_mod_path(p)?;
+    opt_path_type_args(p, g)?;
+    if p.current() == T![=] {
+        p.bump_any()?;
+        assoc_value(p, g)?;
+        m.complete(p, SyntaxKind::ASSOC_TYPE_ARG)?;
+        return Ok(());
+    }
+    if starts_bounds(p) {
+        bounds(p, g)?;
+        m.complete(p, SyntaxKind::ASSOC_TYPE_ARG)?;
+        return Ok(());
+    }
+    let segment = m.complete(p, SyntaxKind::PATH_SEGMENT)?;
+    path_arg(p, g, segment)?;
+    Ok(())
+}
+
+/// What a name is bound to behind the `=`, as the `b` of `a = b`.
+fn assoc_value<G: Grammar>(p: &mut Parser<'_>, g: &G) -> Result<(), NoMemory>
+    requires behind { Behind G.valid G.left g.now (state p.old) }
+    ensures grew { OnOk result (Grew (state p.old) (state p.new) 8) }
+    ensures script { OnOk result (Follows script.assoc_value something (state p.old) (state p.new)) }
+{
+    if is_type_first(p.current()) {
+        type_(p, g)?;
+        return Ok(());
+    }
+    if is_generic_arg_recovery(p.current()) {
+        p.error("missing associated item binding")?;
+        return Ok(());
+    }
+    const_arg(p, g)?;
+    Ok(())
+}
+
+/// What ends the search for an argument.
+fn is_generic_arg_recovery(kind: SyntaxKind) -> bool
+    ensures { result ≡ is_generic_arg_recovery kind }
+{
+    matches!(kind, T![>] | T![,])
+}
+
+/// A path from its first segment on, as a type, as `a::b`, or a macro call, as `a!()`.
+fn path_arg<G: Grammar>(p: &mut Parser<'_>, g: &G, segment: CompletedMarker) -> Result<(), NoMemory>
+    requires behind { Behind G.valid G.left g.now (state p.old) }
+    requires last { IsLast (state p.old) segment segment.kind.value }
+    ensures grew { OnOk result (Grew (state p.old) (state p.new) 24) }
+    ensures script { OnOk result (Follows script.path_arg something (state p.old) (state p.new)) }
+{
+    let m = segment.precede(p)?;
+    let qual = m.complete(p, SyntaxKind::PATH)?;
+    let path = type_path_for_qualifier(p, g, qual)?;
+    let m = path.precede(p)?;
+    if starts_macro_call(p) {
+        macro_arg(p, g, m)?;
+        return Ok(());
+    }
+    let ty = m.complete(p, SyntaxKind::PATH_TYPE)?;
+    bounded_arg(p, g, ty, SyntaxKind::PATH_TYPE)?;
+    Ok(())
+}
+
+/// A macro call behind its path, as the `!()` of `a!()`. The marker before the path is open.
+fn macro_arg<G: Grammar>(p: &mut Parser<'_>, g: &G, m: Marker) -> Result<(), NoMemory>
+    requires behind { Behind G.valid G.left g.now (state p.old) }
+    requires newest { (state p.old).marker ≡ Some m.pos.value }
+    requires here { next (state p.old) ≡ BANG }
+    ensures ended { OnOk result (Ended (state p.old) (state p.new) element_room) }
+    ensures script { OnOk result (Follows script.macro_arg something (state p.old) (state p.new)) }
+{
+    macro_call_after_excl(p)?;
+    let call = m.complete(p, SyntaxKind::MACRO_CALL)?;
+    let m = call.precede(p)?;
+    let ty = m.complete(p, SyntaxKind::MACRO_TYPE)?;
+    bounded_arg(p, g, ty, SyntaxKind::MACRO_TYPE)?;
+    Ok(())
+}
+
+/// The bounds after a type of this kind, as `+ b` after `a`, if there are; and what comes of it is an argument.
+fn bounded_arg<G: Grammar>(
+    p: &mut Parser<'_>,
+    g: &G,
+    ty: CompletedMarker,
+    kind: SyntaxKind,
+) -> Result<(), NoMemory>
+    requires behind { Behind G.valid G.left g.now (state p.old) }
+    requires last { IsLast (state p.old) ty kind }
+    ensures grew { OnOk result (Grew (state p.old) (state p.new) 18) }
+    ensures script { OnOk result (Follows (script.bounded_arg kind) something (state p.old) (state p.new)) }
+{
+    let ty = opt_type_bounds_as_dyn_trait_type(p, g, ty, kind)?;
+    let m = ty.precede(p)?;
+    m.complete(p, SyntaxKind::TYPE_ARG)?;
+    Ok(())
+}
+
+/// A constant as an argument, as `1`, `-1`, `{ a }` and `a::b`.
+pub(crate) fn const_arg<G: Grammar>(p: &mut Parser<'_>, g: &G) -> Result<(), NoMemory>
+    requires within { Within G.valid G.left g.now (state p.old) }
+    ensures grew { OnOk result (Grew (state p.old) (state p.new) 8) }
+    ensures took { OnOk result (is_const_arg_first (next (state p.old)) ≡ true → Took (state p.old) (state p.new) element_room) }
+    ensures script { OnOk result (Follows const_script.const_arg something (state p.old) (state p.new)) }
+{
+    let m = p.start()?;
+    const_arg_expr(p, g)?;
+    m.complete(p, SyntaxKind::CONST_ARG)?;
+    Ok(())
+}
+
+/// The expression of a constant.
+fn const_arg_expr<G: Grammar>(p: &mut Parser<'_>, g: &G) -> Result<(), NoMemory>
+    requires within { Within G.valid G.left g.now (state p.old) }
+    ensures grew { OnOk result (Grew (state p.old) (state p.new) 6) }
+    ensures took { OnOk result (is_const_arg_first (next (state p.old)) ≡ true → Took (state p.old) (state p.new) operand_room) }
+    ensures script { OnOk result (Follows const_script.const_arg_expr something (state p.old) (state p.new)) }
+{
+    if p.current() == T!['{'] {
+        block_expr(p, g)?;
+        return Ok(());
+    }
+    if is_literal_first(p.current()) {
+        literal(p)?;
+        return Ok(());
+    }
+    if p.current() == T![-] {
+        negative_const(p)?;
+        return Ok(());
+    }
+    if is_path_start(p) {
+        const_path(p, g)?;
+        return Ok(());
+    }
+    missing_const(p)?;
+    Ok(())
+}
+
+/// A path as a constant, as `a::b`.
+fn const_path<G: Grammar>(p: &mut Parser<'_>, g: &G) -> Result<CompletedMarker, NoMemory>
+    requires within { Within G.valid G.left g.now (state p.old) }
+    requires path { starts_path (state p.old).rest ≡ true }
+    ensures made { IfOk result (Makes PATH_EXPR atom_room (state p.old) (state p.new)) }
+    ensures script { OnOk result (Follows const_script.const_path something (state p.old) (state p.new)) }
+{
+    let m = p.start()?;
+    expr_path(p, g)?;
+    let cm = m.complete(p, SyntaxKind::PATH_EXPR)?;
+    Ok(cm)
+}
+
+/// A negative number, as `-1`.
+fn negative_const(p: &mut Parser<'_>) -> Result<(), NoMemory>
+    requires here { next (state p.old) ≡ MINUS }
+    ensures took { OnOk result (Took (state p.old) (state p.new) operand_room) }
+    ensures script { OnOk result (Follows const_script.negative_const something (state p.old) (state p.new)) }
+{
+    let m = p.start()?;
+    p.bump(T![-])?;
+    literal(p)?;
+    m.complete(p, SyntaxKind::PREFIX_EXPR)?;
+    Ok(())
+}
+
+/// A constant is missing. It keeps the table of the set off the stack of those that go deeper.
+#[inline(never)]
+fn missing_const(p: &mut Parser<'_>) -> Result<(), NoMemory>
+    ensures grew { OnOk result (Grew (state p.old) (state p.new) 3) }
+    ensures script { OnOk result (Follows const_script.missing_const something (state p.old) (state p.new)) }
+{
+    p.err_recover(
+        "expected a generic const argument",
+        TokenSet::new(&[T![>], T![,]]),
+    )?;
+    Ok(())
+}

@@ -1,9 +1,0 @@
-use Rattle.std.proofs.Common.{rules}
-use Rattle.rap_rules.specs.Blocks.{expr_block_contents}
-use Rattle.rap_rules.specs.Script.{gives}
-use Rattle.rap_rules.proofs.Steps.{by_rule, to_end}
-use Rattle.rap_parts.proofs.blocks.expr_block_contents.Goals as goal
-
-pub returns-clause-script : goal.returns-clause-script
-unfolding expr_block_contents
-returns-clause-script g c = record { run = by_rule c.in_ok-inner_attrs.ensures.script (to_end c.in_ok-statements.ensures.script) }

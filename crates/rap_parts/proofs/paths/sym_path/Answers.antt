@@ -1,8 +1,0 @@
-use Rattle.rap_rules.specs.Paths.{type_path}
-use Rattle.rap_rules.specs.Script.{gives}
-use Rattle.rap_rules.proofs.Steps.{by_rule}
-use Rattle.rap_parts.proofs.paths.sym_path.Goals as goal
-
-pub returns-clause-script : goal.returns-clause-script
-unfolding type_path
-returns-clause-script g c = record { run = by_rule c.in_ok-path.ensures.script gives }

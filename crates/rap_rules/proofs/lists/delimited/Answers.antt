@@ -1,8 +1,0 @@
-use Rattle.rap_rules.specs.Grammar.{delimited}
-use Rattle.rap_rules.specs.Script.{gives}
-use Rattle.rap_rules.proofs.Steps.{by_bump, by_rule, by_expect}
-use Rattle.rap_rules.proofs.lists.delimited.Goals as goal
-
-pub returns-clause-script : goal.returns-clause-script
-unfolding delimited
-returns-clause-script g c = record { run = by_bump c.requires.here c.in_ok-bump.ensures.state (by_rule c.in_ok-elements.ensures.script (by_expect c.in_ok-expect.ensures.state gives)) }

@@ -1,7 +1,0 @@
-use Rattle.std.proofs.Common.{rules, false}
-use Rattle.rap_rules.specs.Grammar.{name}
-use Rattle.rap_rules.proofs.names.name.Goals as goal
-
-pub returns-clause-script : goal.returns-clause-script
-unfolding name
-returns-clause-script c = c.in_ok-name_r.ensures.script (λ kind. false) (search rules)

@@ -1,9 +1,0 @@
-use Rattle.std.proofs.Common.{length, ◌-◌}
-use Rattle.rap_script.proofs.ScriptFences.{Searched}
-use Rattle.rap_script.proofs.frontmatter.close.find_fence.Given as goal
-
-abbrev pub invariant-lines : goal.invariant-lines
-invariant-lines l = Searched l.n l.text l.at l.place l.most
-
-abbrev pub decreases-lines : goal.decreases-lines
-decreases-lines l = length l.text - l.at

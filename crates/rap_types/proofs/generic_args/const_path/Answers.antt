@@ -1,8 +1,0 @@
-use Rattle.rap_rules.specs.ConstArgs.{const_path}
-use Rattle.rap_rules.specs.Script.{gives}
-use Rattle.rap_rules.proofs.Steps.{by_start, by_rule, by_complete}
-use Rattle.rap_types.proofs.generic_args.const_path.Goals as goal
-
-pub returns-clause-script : goal.returns-clause-script
-unfolding const_path
-returns-clause-script g c = record { run = by_start c.in_ok-m.ensures.state (by_rule c.in_ok-expr_path.ensures.script (by_complete c.in_ok-cm.ensures.state.0 gives)) }

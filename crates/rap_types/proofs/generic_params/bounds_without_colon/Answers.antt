@@ -1,9 +1,0 @@
-use Rattle.rap_rules.specs.GenericParams.{bounds_without_colon}
-use Rattle.rap_rules.proofs.Steps.{by_start, to_end}
-use Rattle.rap_types.proofs.generic_params.bounds_without_colon.Goals as goal
-
-pub returns-clause-script : goal.returns-clause-script
-unfolding bounds_without_colon
-returns-clause-script g c = record {
-  run = by_start c.in_ok-m.ensures.state (to_end c.in_ok-bounds_without_colon_m.ensures.script);
-}
