@@ -21,7 +21,7 @@ use rap_grammar_params::params::param_list_fn_def;
 use rap_grammar_scripts::T;
 
 /// A function from its keyword on, as `fn f(a: b) -> c {}`.
-pub(crate) fn fn_<G: Grammar>(p: &mut Parser<'_>, g: &G, m: Marker) -> Result<(), NoMemory>
+pub fn fn_<G: Grammar>(p: &mut Parser<'_>, g: &G, m: Marker) -> Result<(), NoMemory>
     requires within { Within G.valid G.left g.now (state p.old) }
     requires newest { (state p.old).marker ≡ Some m.pos.value }
     requires here { next (state p.old) ≡ FN_KW }

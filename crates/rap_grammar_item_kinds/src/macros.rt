@@ -17,7 +17,7 @@ use rap_grammar_frame::token_tree::{is_bracket, macro_call_after_excl, token_tre
 use rap_grammar_scripts::T;
 
 /// A macro by its rules, as `macro_rules! a { () => {} }`.
-pub(crate) fn macro_rules(p: &mut Parser<'_>, m: Marker) -> Result<(), NoMemory>
+pub fn macro_rules(p: &mut Parser<'_>, m: Marker) -> Result<(), NoMemory>
     requires newest { (state p.old).marker ≡ Some m.pos.value }
     requires here { ReadsAs (state p.old) MACRO_RULES_KW }
     ensures ended { OnOk result (Ended (state p.old) (state p.new) item_room) }
@@ -51,7 +51,7 @@ fn rules_in_brackets(p: &mut Parser<'_>) -> Result<(), NoMemory>
 }
 
 /// A macro from its keyword on, as `macro a($b:ident) {}`.
-pub(crate) fn macro_def(p: &mut Parser<'_>, m: Marker) -> Result<(), NoMemory>
+pub fn macro_def(p: &mut Parser<'_>, m: Marker) -> Result<(), NoMemory>
     requires newest { (state p.old).marker ≡ Some m.pos.value }
     requires here { next (state p.old) ≡ MACRO_KW }
     ensures ended { OnOk result (Ended (state p.old) (state p.new) item_room) }
@@ -96,7 +96,7 @@ fn macro_def_body(p: &mut Parser<'_>) -> Result<(), NoMemory>
 }
 
 /// A macro call behind its path in the place of an item, as `!{}` and `!();`.
-pub(crate) fn macro_call(p: &mut Parser<'_>, m: Marker) -> Result<(), NoMemory>
+pub fn macro_call(p: &mut Parser<'_>, m: Marker) -> Result<(), NoMemory>
     requires newest { (state p.old).marker ≡ Some m.pos.value }
     requires here { next (state p.old) ≡ BANG }
     ensures ended { OnOk result (Ended (state p.old) (state p.new) item_room) }

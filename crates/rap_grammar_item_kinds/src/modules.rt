@@ -21,7 +21,7 @@ use rap_grammar_frame::names::{name, name_ref_or_self, opt_rename};
 use rap_grammar_scripts::T;
 
 /// A crate's name, as `extern crate a as b;`.
-pub(crate) fn extern_crate(p: &mut Parser<'_>, m: Marker) -> Result<(), NoMemory>
+pub fn extern_crate(p: &mut Parser<'_>, m: Marker) -> Result<(), NoMemory>
     requires newest { (state p.old).marker ≡ Some m.pos.value }
     requires here { next (state p.old) ≡ EXTERN_KW }
     requires more { NthAt (state p.old) 1 CRATE_KW }
@@ -113,7 +113,7 @@ pub fn extern_item_list<G: Grammar>(p: &mut Parser<'_>, g: &G) -> Result<(), NoM
 }
 
 /// A module from its keyword on, as `mod a;` and `mod a {}`.
-pub(crate) fn mod_item<G: Grammar>(p: &mut Parser<'_>, g: &G, m: Marker) -> Result<(), NoMemory>
+pub fn mod_item<G: Grammar>(p: &mut Parser<'_>, g: &G, m: Marker) -> Result<(), NoMemory>
     requires within { Within G.valid G.left g.now (state p.old) }
     requires newest { (state p.old).marker ≡ Some m.pos.value }
     requires here { next (state p.old) ≡ MOD_KW }
@@ -145,7 +145,7 @@ fn mod_body<G: Grammar>(p: &mut Parser<'_>, g: &G) -> Result<(), NoMemory>
 }
 
 /// What begins with `type`: another name of a type, or a constant behind `type const`.
-pub(crate) fn type_item<G: Grammar>(p: &mut Parser<'_>, g: &G, m: Marker) -> Result<(), NoMemory>
+pub fn type_item<G: Grammar>(p: &mut Parser<'_>, g: &G, m: Marker) -> Result<(), NoMemory>
     requires within { Within G.valid G.left g.now (state p.old) }
     requires newest { (state p.old).marker ≡ Some m.pos.value }
     requires here { next (state p.old) ≡ TYPE_KW }

@@ -28,7 +28,7 @@ use rap_grammar_scripts::arguments::BlockLike;
 
 /// What follows an operand directly, as `(a)`, `[0]`, `.b`, `.c()` and `?`.
 #[inline(never)]
-pub(crate) fn postfix_expr<G: Grammar>(
+pub fn postfix_expr<G: Grammar>(
     p: &mut Parser<'_>,
     g: &G,
     mut lhs: CompletedMarker,

@@ -33,7 +33,7 @@ fn has_range_end(p: &Parser<'_>, r: Restrictions) -> bool
 /// The dots of a range after its start `lhs`, as `..` and `..=b` after `a`. Answers whether an end followed them.
 #[tactic(auto, using(rap_grammar_frame::proofs::Binary::width_positive))]
 #[inline(never)]
-pub(crate) fn range_expr<G: Grammar>(
+pub fn range_expr<G: Grammar>(
     p: &mut Parser<'_>,
     g: &G,
     lhs: CompletedMarker,
@@ -66,7 +66,7 @@ pub(crate) fn range_expr<G: Grammar>(
 /// A range without a start, as `..` and `..=b`.
 #[tactic(auto, using(rap_grammar_frame::proofs::Binary::width_positive))]
 #[inline(never)]
-pub(crate) fn prefix_range<G: Grammar>(
+pub fn prefix_range<G: Grammar>(
     p: &mut Parser<'_>,
     g: &G,
     r: Restrictions,
