@@ -16,12 +16,10 @@ use Rattle.rap_grammar_scripts.specs.Consts.{konst, static_}
 use Rattle.rap_grammar_scripts.specs.First.{one_of, starts_use_path}
 use Rattle.rap_grammar_scripts.specs.Functions.{fn_}
 use Rattle.rap_grammar_scripts.specs.Grammar.{name, name_ref_or_self, opt_rename}
-use Rattle.rap_grammar_frame.specs.Grew.{Grew, Took, Ended, Dropped}
 use Rattle.rap_grammar_scripts.specs.Macros.{macro_rules, macro_def, macro_call}
 use Rattle.rap_grammar_scripts.specs.Modifiers.{found, modifiers}
 use Rattle.rap_grammar_scripts.specs.Paths.{use_path}
 use Rattle.rap_grammar_scripts.specs.Phrase.{Phrase, any_item}
-use Rattle.rap_grammar_frame.specs.Room.{item_room, list_room}
 use Rattle.rap_grammar_scripts.specs.Script.{Script, Outcome, nothing, something, block, again, give, test, token, bear, report, skip, start, finish, abandon, after, rule, loop}
 use Rattle.rap_grammar_scripts.specs.Traits.{trait_, impl_}
 use Rattle.rap_grammar_scripts.specs.UseItem.{use_}

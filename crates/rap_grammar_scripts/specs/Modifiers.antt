@@ -7,9 +7,7 @@ use Rattle.rap_events.specs.Composite.{is_at}
 use Rattle.rap_events.specs.State.{State}
 use Rattle.rap_grammar_scripts.specs.First.{one_of}
 use Rattle.rap_grammar_scripts.specs.Grammar.{abi}
-use Rattle.rap_grammar_frame.specs.Grew.{Grew, Took}
 use Rattle.rap_grammar_scripts.specs.Phrase.{Phrase}
-use Rattle.rap_grammar_frame.specs.Room.{list_room}
 use Rattle.rap_grammar_scripts.specs.Script.{Script, Outcome, nothing, something, block, again, give, test, token, bear, report, start, finish, after}
 use Rattle.rap_grammar_scripts.specs.Visibility.{opt_visibility_inner}
 use Rattle.rap_grammar_scripts.specs.Words.{done, if_some, reads_as, eat}
