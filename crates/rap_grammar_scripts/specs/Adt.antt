@@ -1,5 +1,5 @@
 -- Structs, unions and enums.
-use Rattle.std.specs.Prelude.{List, ℕ, Bool, true, false, if◌then◌else◌, ◌==◌, ◌&&◌, ◌||◌, codes}
+use Rattle.std.specs.Prelude.{List, ℕ, Bool, true, false, if◌then◌else◌, ◌==◌, ◌&&◌, ◌||◌, codes, [], ◌∷◌}
 use Rattle.rap_base.specs.TokenKind.{EOF, ERROR, L_CURLY, R_CURLY, L_PAREN, R_PAREN, COMMA, COLON, SEMICOLON, EQ, UNDERSCORE, IDENT, STRUCT_KW, UNION_KW, ENUM_KW, WHERE_KW, MUT_KW, UNSAFE_KW, PUB_KW}
 use Rattle.rap_base.specs.NodeKind.{STRUCT, UNION, ENUM, VARIANT_LIST, VARIANT, RECORD_FIELD_LIST, RECORD_FIELD, TUPLE_FIELD_LIST, TUPLE_FIELD, MUT_RESTRICTION, CONST_ARG}
 use Rattle.rap_events.specs.Record.{Record, next_kind, kind_at}
@@ -162,7 +162,7 @@ fields is_struct =
     ( (is_at WHERE_KW, fields_behind_where)
     ∷ (is_at L_CURLY, record_field_list)
     ∷ [] )
-    (if is_struct then struct_fields else report (codes "expected `{`") ▸ done)
+    (if is_struct then struct_fields else (report (codes "expected `{`") ▸ done))
 
 -- a struct or a union from its name on
 unfoldable pub struct_or_union : Bool → Script Phrase

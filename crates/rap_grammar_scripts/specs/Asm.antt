@@ -1,5 +1,5 @@
 -- Inline assembly.
-use Rattle.std.specs.Prelude.{Bool, true, false, ◌&&◌, not, if◌then◌else◌, List, drop, Option, Some, None, codes}
+use Rattle.std.specs.Prelude.{Bool, true, false, ◌&&◌, not, if◌then◌else◌, List, drop, Option, Some, None, codes, [], ◌∷◌}
 use Rattle.rap_base.specs.Keyword.{is_any_identifier}
 use Rattle.rap_base.specs.TokenKind.{EOF, L_PAREN, R_PAREN, L_CURLY, R_CURLY, COMMA, EQ, FAT_ARROW, STRING, CONST_KW, IN_KW, OUT_KW, LATEOUT_KW, INOUT_KW, INLATEOUT_KW, LABEL_KW, SYM_KW, CLOBBER_ABI_KW, OPTIONS_KW, PURE_KW, NOMEM_KW, READONLY_KW, PRESERVES_FLAGS_KW, NORETURN_KW, NOSTACK_KW, MAY_UNWIND_KW, ATT_SYNTAX_KW, RAW_KW}
 use Rattle.rap_base.specs.NodeKind.{ASM_EXPR, ASM_CLOBBER_ABI, ASM_OPTIONS, ASM_OPTION, ASM_DIR_SPEC, ASM_OPERAND_EXPR, ASM_REG_OPERAND, ASM_OPERAND_NAMED, ASM_LABEL, ASM_CONST, ASM_SYM, ASM_REG_SPEC}
@@ -120,7 +120,7 @@ reg_operand both =
     (if both then
             test (is_at FAT_ARROW) (token FAT_ARROW ▸ call expr ▸ finish ASM_OPERAND_EXPR ▸ done)
             (finish ASM_OPERAND_EXPR ▸ done)
-        else finish ASM_OPERAND_EXPR ▸ done)
+        else (finish ASM_OPERAND_EXPR ▸ done))
 
 -- a path, which may stand in parentheses
 unfoldable pub asm_sym : Script Phrase
@@ -152,9 +152,8 @@ missing_operand =
 -- no operand comes next: a template, where one may still follow, and else a message
 unfoldable pub no_operand : Bool → Script Phrase
 no_operand allow_templates =
-    if allow_templates then
-        call asm_template ▸ give (again true false)
-    else call missing_operand ▸ test (is_at R_CURLY) done (give (again false false))
+    if allow_templates then call asm_template ▸ give (again true false)
+    else (call missing_operand ▸ test (is_at R_CURLY) done (give (again false false)))
 
 -- whether templates may follow a name
 abbrev pub templates_after : Bool → Outcome → Bool

@@ -71,8 +71,7 @@ of_semi (Some semi) = again false semi
 unfoldable pub after_element : Bool → Bool → Script Phrase
 after_element first semi =
     test (λ rs. first && is_at SEMICOLON rs) (token SEMICOLON ▸ give (again false true))
-    (if semi then
-            done
+    (if semi then done
         else choose
             ( (is_at R_BRACK, give (again false false))
             ∷ (is_at COMMA, token COMMA ▸ give (again false false))

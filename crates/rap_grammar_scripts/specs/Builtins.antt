@@ -1,5 +1,5 @@
 -- The forms behind `builtin#`.
-use Rattle.std.specs.Prelude.{Bool, false, ◌&&◌, not, List, drop, codes}
+use Rattle.std.specs.Prelude.{Bool, false, ◌&&◌, not, List, drop, codes, [], ◌∷◌}
 use Rattle.rap_base.specs.Keyword.{is_any_identifier}
 use Rattle.rap_base.specs.TokenKind.{EOF, ERROR, POUND, L_PAREN, R_PAREN, COMMA, DOT, EQ, BUILTIN_KW, OFFSET_OF_KW, FORMAT_ARGS_KW, ASM_KW, GLOBAL_ASM_KW, NAKED_ASM_KW, INCLUDE_BYTES_KW, CFG_KW}
 use Rattle.rap_base.specs.NodeKind.{OFFSET_OF_EXPR, FORMAT_ARGS_EXPR, FORMAT_ARGS_ARG, INCLUDE_BYTES_EXPR, CFG_PRED_EXPR}

@@ -1,5 +1,5 @@
 -- Constants as arguments of something generic.
-use Rattle.std.specs.Prelude.{codes}
+use Rattle.std.specs.Prelude.{codes, [], ◌∷◌}
 use Rattle.rap_base.specs.TokenKind.{L_CURLY, MINUS}
 use Rattle.rap_base.specs.NodeKind.{PREFIX_EXPR, PATH_EXPR, CONST_ARG}
 use Rattle.rap_events.specs.Record.{next_kind}

@@ -63,13 +63,10 @@ cast_expr = precede ▸ token AS_KW ▸ call type_no_bounds ▸ finish CAST_EXPR
 -- an operator of at least a power, with its operand; a range without an end goes no further
 abbrev pub operation : Restrictions → ℕ → ℕ → Script Phrase
 operation r bp op =
-    if nat_lt (power op) bp then
-        done
-    else if op == AS_KW then
-            call cast_expr ▸ give (again false false)
-        else if power op == 2 then
-                after (range_expr r op) (λ v. if_some v (give (again false false)) done)
-            else call (bin_expr r op) ▸ give (again false false)
+    if nat_lt (power op) bp then done
+    else if op == AS_KW then call cast_expr ▸ give (again false false)
+    else if power op == 2 then after (range_expr r op) (λ v. if_some v (give (again false false)) done)
+    else (call (bin_expr r op) ▸ give (again false false))
 
 abbrev pub climb_turn : Restrictions → ℕ → Bool → Bool → Script Phrase
 climb_turn r bp a b = look (λ rs. operation r bp (operator_at rs))
@@ -201,7 +198,7 @@ unfoldable pub expr_from : Restrictions → ℕ → Script Phrase
 expr_from r bp =
     test (λ rs. is_expr_first (next_kind rs))
     (after (lhs r) (λ v.
-        if_some v (extend ▸ (if r.prefer_stmt && is_block v then give block else call (climb r bp) ▸ done))
+        if_some v (extend ▸ (if r.prefer_stmt && is_block v then give block else (call (climb r bp) ▸ done)))
         (abandon ▸ give nothing)))
     missing_expr
 

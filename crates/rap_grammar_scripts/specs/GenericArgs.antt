@@ -1,5 +1,5 @@
 -- Arguments of something generic.
-use Rattle.std.specs.Prelude.{ℕ, List, Bool, true, ◌&&◌, not, drop, codes}
+use Rattle.std.specs.Prelude.{ℕ, List, Bool, true, ◌&&◌, not, drop, codes, [], ◌∷◌}
 use Rattle.rap_base.specs.TokenKind.{LIFETIME_IDENT, PLUS, EQ, COLON, COLON2}
 use Rattle.rap_base.specs.NodeKind.{LIFETIME_ARG, TYPE_ARG, ASSOC_TYPE_ARG, PATH_SEGMENT, PATH, MACRO_CALL, MACRO_TYPE, PATH_TYPE}
 use Rattle.rap_events.specs.Record.{Record, next_kind}

@@ -171,9 +171,9 @@ opt_item_with_modifiers has_extern =
 -- where no item follows what stands before one
 unfoldable pub refuse : Bool → Bool → Script Phrase
 refuse has_visibility has_mods =
-    if has_mods then
-        report (codes "expected fn, trait or impl") ▸ finish ERROR ▸ done
-    else if has_visibility then report (codes "expected an item") ▸ finish ERROR ▸ done else give nothing
+    if has_mods then report (codes "expected fn, trait or impl") ▸ finish ERROR ▸ done
+    else if has_visibility then report (codes "expected an item") ▸ finish ERROR ▸ done
+    else give nothing
 
 unfoldable pub opt_modified_item : Bool → Bool → Script Phrase
 opt_modified_item has_visibility is_in_extern =

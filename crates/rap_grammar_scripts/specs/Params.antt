@@ -1,5 +1,5 @@
 -- Parameters of functions and closures.
-use Rattle.std.specs.Prelude.{ℕ, ◌+◌, Bool, false, ◌==◌, ◌&&◌, ◌||◌, not, if◌then◌else◌, List, drop, codes}
+use Rattle.std.specs.Prelude.{ℕ, ◌+◌, Bool, false, ◌==◌, ◌&&◌, ◌||◌, not, if◌then◌else◌, List, drop, codes, [], ◌∷◌}
 use Rattle.rap_base.specs.TokenKind.{EOF, L_PAREN, R_PAREN, PIPE, COMMA, COLON, COLON2, DOT3, AMP, IDENT, UNDERSCORE, LIFETIME_IDENT, MUT_KW, SELF_KW}
 use Rattle.rap_base.specs.NodeKind.{NAME, PARAM, SELF_PARAM, PARAM_LIST}
 use Rattle.rap_events.specs.Record.{Record, next_kind, kind_at}

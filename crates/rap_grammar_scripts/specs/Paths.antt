@@ -73,7 +73,7 @@ opt_path_args mode.Vis = done
 unfoldable pub missing_segment_name : Mode → Bool → Script Phrase
 missing_segment_name m empty =
     recover (codes "expected identifier, `self`, `super`, `crate`, or `Self`") (is_segment_recovery m)
-    (if empty then abandon ▸ give nothing else finish PATH_SEGMENT ▸ done)
+    (if empty then abandon ▸ give nothing else (finish PATH_SEGMENT ▸ done))
     (finish PATH_SEGMENT ▸ done)
 
 -- a segment's name, and the arguments behind it
