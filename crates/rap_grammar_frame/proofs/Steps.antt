@@ -108,9 +108,6 @@ by_eat {b = false} e d = fails (sym e.decided) (from_there (ap spot (sym (e.not_
 pub record Turns (h : Bool → Bool → Script Phrase) (a b c d : Bool) (s t : State) : Type 0 where
   pub on : (q : Spot) (v : Outcome) → On (loop h c d) (spot t) q v → On (loop h a b) (spot s) q v
 
-pub no_turn : {h : Bool → Bool → Script Phrase} {a b : Bool} {s : State} → Turns h a b a b s s
-no_turn = record { on = λ q v d. d }
-
 -- one turn more
 pub turn : {h : Bool → Bool → Script Phrase} {a b c d e f : Bool} {s t u : State} → Turns h a b c d s t → On (h c d) (spot t) (spot u) (again e f) → Turns h a b e f s u
 turn k d = record { on = λ q v r. k.on q v (turns d r) }
@@ -178,10 +175,6 @@ both e f = rw (e, f) refl
 pub not_both : {a b : Bool} → (a ≡ true → b ≡ false) → a && b ≡ false
 not_both {a = true} h = h refl
 not_both {a = false} h = refl
-
--- at the same spot
-pub at_same : {s : Script Phrase} {t u : State} {q : Spot} {v : Outcome} → u ≡ t → On s (spot t) q v → On s (spot u) q v
-at_same e d = from_there (ap spot e) d
 
 -- what a rule answers, by its truth value
 pub answers_no : {c : Script Phrase} {s t : State} {b : Bool} → b ≡ false → Follows c (of_bool b) s t → Follows c nothing s t

@@ -4,7 +4,7 @@ use Rattle.std.proofs.lemmas.Bool.Decides.{nat_tests}
 use Rattle.rap_base.specs.TokenKind.{EOF, L_PAREN, R_PAREN, L_BRACK, R_BRACK, R_CURLY}
 use Rattle.rap_base.specs.TokenTests.{is_l_delimiter, is_delimiter}
 use Rattle.rap_events.specs.Record.{Record, next_kind}
-use Rattle.rap_events.specs.Composite.{is_at}
+use Rattle.rap_events.specs.Composite.{is_at, width}
 use Rattle.rap_events.specs.Fit.{partner}
 use Rattle.rap_events.specs.Forest.{Forest, none, leaf, ◌⧺◌, message_count}
 use Rattle.rap_events.specs.State.{State}

@@ -34,14 +34,6 @@ is_atom_expr_first kind =
 abbrev pub is_expr_first : ℕ → Bool
 is_expr_first kind = is_atom_expr_first kind || one_of (AMP ∷ STAR ∷ BANG ∷ DOT ∷ MINUS ∷ UNDERSCORE ∷ POUND ∷ []) kind
 
--- a literal, a name, or a bracket: an expression without an operator before it begins
-abbrev pub is_atom : ℕ → Bool
-is_atom kind = is_literal_first kind || (is_path_name kind || one_of (L_PAREN ∷ L_BRACK ∷ []) kind)
-
--- the same, or an operator before an operand: an expression begins, whatever follows
-abbrev pub is_operand : ℕ → Bool
-is_operand kind = is_atom kind || one_of (AMP ∷ STAR ∷ BANG ∷ MINUS ∷ []) kind
-
 -- a type, by its first token alone
 abbrev pub is_type_first : ℕ → Bool
 is_type_first kind =
