@@ -1,4 +1,5 @@
 -- Blocks, and the `let` statements in them.
+-- In the Rust crate: `grammar/expressions/atom.rs`, `grammar/expressions.rs` and `grammar.rs`.
 use Rattle.std.specs.Prelude.{List, ℕ, Bool, false, ◌||◌, ◌&&◌, drop, codes, [], ◌∷◌}
 use Rattle.rap_base.specs.TokenKind.{EOF, ERROR, COLON, SEMICOLON, EQ, L_CURLY, R_CURLY, ELSE_KW, LET_KW, SUPER_KW}
 use Rattle.rap_base.specs.NodeKind.{STMT_LIST, BLOCK_EXPR, LET_ELSE}

@@ -1,4 +1,5 @@
 -- The forms behind `builtin#`.
+-- In the Rust crate: `grammar/expressions/atom.rs`.
 use Rattle.std.specs.Prelude.{Bool, false, ◌&&◌, not, List, drop, codes, [], ◌∷◌}
 use Rattle.rap_base.specs.Keyword.{is_any_identifier}
 use Rattle.rap_base.specs.TokenKind.{EOF, ERROR, POUND, L_PAREN, R_PAREN, COMMA, DOT, EQ, BUILTIN_KW, OFFSET_OF_KW, FORMAT_ARGS_KW, ASM_KW, GLOBAL_ASM_KW, NAKED_ASM_KW, INCLUDE_BYTES_KW, CFG_KW}

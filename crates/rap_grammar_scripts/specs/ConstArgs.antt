@@ -1,4 +1,5 @@
 -- Constants as arguments of something generic.
+-- In the Rust crate: `grammar/generic_args.rs`.
 use Rattle.std.specs.Prelude.{codes, [], ◌∷◌}
 use Rattle.rap_base.specs.TokenKind.{L_CURLY, MINUS}
 use Rattle.rap_base.specs.NodeKind.{PREFIX_EXPR, PATH_EXPR, CONST_ARG}

@@ -1,4 +1,5 @@
 -- Functions.
+-- In the Rust crate: `grammar/items.rs`.
 use Rattle.std.specs.Prelude.{ℕ, Bool, false, ◌||◌, [], ◌∷◌, codes}
 use Rattle.rap_base.specs.TokenKind.{L_PAREN, R_PAREN, R_BRACK, R_ANGLE, SEMICOLON, FN_KW}
 use Rattle.rap_base.specs.NodeKind.{FN}

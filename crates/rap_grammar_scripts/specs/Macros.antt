@@ -1,4 +1,5 @@
 -- Macros, and calls of them in the place of an item.
+-- In the Rust crate: `grammar/items.rs`.
 use Rattle.std.specs.Prelude.{[], ◌∷◌, codes}
 use Rattle.rap_base.specs.TokenKind.{L_PAREN, L_BRACK, L_CURLY, SEMICOLON, BANG, MACRO_KW, MACRO_RULES_KW}
 use Rattle.rap_base.specs.NodeKind.{MACRO_RULES, MACRO_DEF, MACRO_CALL}

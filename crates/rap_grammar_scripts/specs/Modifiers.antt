@@ -1,4 +1,5 @@
 -- What may stand before the keyword of an item.
+-- In the Rust crate: `grammar/items.rs`.
 use Rattle.std.specs.Prelude.{◌≡◌, ℕ, Bool, true, false, List, [], ◌∷◌, drop, ◌==◌, ◌&&◌, ◌||◌, not, codes}
 use Rattle.rap_base.specs.TokenKind.{L_PAREN, R_PAREN, L_CURLY, PIPE, CRATE_KW, SUPER_KW, SELF_KW, IN_KW, IMPL_KW, CONST_KW, ASYNC_KW, GEN_KW, MOVE_KW, FN_KW, UNSAFE_KW, SAFE_KW, EXTERN_KW, AUTO_KW, TRAIT_KW, DEFAULT_KW, TYPE_KW}
 use Rattle.rap_base.specs.NodeKind.{IMPL_RESTRICTION}

@@ -1,4 +1,5 @@
 -- Record literals.
+-- In the Rust crate: `grammar/expressions.rs`.
 use Rattle.std.specs.Prelude.{ℕ, Bool, false, [], ◌∷◌, drop, codes}
 use Rattle.rap_base.specs.TokenKind.{EOF, IDENT, INT_NUMBER, L_CURLY, R_CURLY, COMMA, COLON, EQ, COLON2, DOT2}
 use Rattle.rap_base.specs.NodeKind.{RECORD_EXPR_FIELD, RECORD_EXPR_FIELD_LIST}

@@ -1,4 +1,5 @@
 -- Lists of tokens in brackets, and macro calls.
+-- In the Rust crate: `grammar/items.rs`.
 use Rattle.std.specs.Prelude.{ℕ, Bool, false, List, [], ◌∷◌, ◌&&◌, not, codes}
 use Rattle.rap_base.specs.TokenKind.{EOF, R_PAREN, R_BRACK, L_CURLY, R_CURLY, BANG, NEQ}
 use Rattle.rap_base.specs.NodeKind.{TOKEN_TREE}

@@ -1,4 +1,5 @@
 -- Parts of types, which bounds and parameters have too.
+-- In the Rust crate: `grammar/types.rs`.
 use Rattle.std.specs.Prelude.{codes}
 use Rattle.rap_base.specs.TokenKind.{COLON, EQ, L_ANGLE, FOR_KW}
 use Rattle.rap_base.specs.NodeKind.{FOR_BINDER, PATH_TYPE}

@@ -1,4 +1,5 @@
 -- Who may use an item or a field.
+-- In the Rust crate: `grammar.rs`.
 use Rattle.std.specs.Prelude.{Bool, List, [], ◌∷◌, drop, ◌==◌, ◌&&◌, not}
 use Rattle.rap_base.specs.TokenKind.{PUB_KW, L_PAREN, R_PAREN, COLON, IDENT, SELF_KW, SUPER_KW, CRATE_KW, IN_KW}
 use Rattle.rap_base.specs.NodeKind.{VISIBILITY, VISIBILITY_INNER}
