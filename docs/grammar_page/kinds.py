@@ -1,0 +1,61 @@
+"""The kinds of tokens: their texts, the tokens that an operator is written with, and the operators' powers."""
+import re
+
+from grammar_page.antt import Library
+
+CLOSING = {'L_PAREN': 'R_PAREN', 'L_BRACK': 'R_BRACK', 'L_CURLY': 'R_CURLY'}
+
+
+def read(path):
+    with open(path, encoding='utf-8') as file:
+        return file.read()
+
+
+def elements(term):
+    """The elements of a list."""
+    return [] if term == ('name', '[]') else [term[2], *elements(term[3])]
+
+
+class Kinds:
+    """What is known of the kinds of tokens in the crates of a folder."""
+
+    def __init__(self, crates):
+        table = read(f'{crates}/rap_grammar_scripts/src/token_kind.rt')
+        rows = re.findall(r"\[(?:'(.)'|(\S+))\] => \{ rap_base::syntax_kind::SyntaxKind::(\w+) \}", table)
+        self.texts = {kind: quoted or text for quoted, text, kind in rows if (quoted or text).upper() != kind}
+        names = re.findall(r'(?m)^    "(\w+)",$', read(f'{crates}/rap_base/src/syntax_kind/names.rt'))
+        self.order = {it: at for at, it in enumerate(names)}
+        self.tokens = frozenset(names[:names.index('TOMBSTONE')])
+        self.nodes = frozenset(names[names.index('TOMBSTONE'):]) | {'ERROR'}
+        words = Library(f'{crates}/rap_base/specs')
+        (_, weak), = words.clauses_of(words.find_in('Keyword', 'contextual_ever'))
+        self.weak = frozenset(kind[1] for _, (_, kind) in elements(weak))
+        self.parts, self.powers = {}, {}
+        self.read_operators(Library(f'{crates}/rap_events/specs'))
+
+    def read_operators(self, library):
+        """Reads the table of the operators, and of what else is written with more than one token."""
+        clauses = {name: library.clauses_of(library.find_in('OperatorTable', name)) for name in ('operators', 'others')}
+        for _, (first, rows) in [group for group in elements(clauses['operators'][0][1])]:
+            for _, (kind, power, rest) in elements(rows):
+                parts = [first[1], *(it[1] for it in elements(rest))]
+                if len(parts) > 1:
+                    self.parts[kind[1]] = parts
+                if power[1]:
+                    self.powers[kind[1]] = power[1]
+        for _, (kind, parts) in elements(clauses['others'][0][1]):
+            self.parts[kind[1]] = [it[1] for it in elements(parts)]
+
+    def sorted(self, kinds):
+        """Kinds in the order of their numbers, the end of the input last."""
+        return sorted(kinds, key=lambda it: (it == 'EOF', self.order[it]))
+
+    def text(self, kind):
+        """A kind as it stands in a rule: its text in code, or its name where no one text is meant."""
+        if kind == 'EOF':
+            return 'the end of the input'
+        return f'`{self.texts[kind]}`' if kind in self.texts else kind
+
+    def identifiers(self):
+        """Identifiers and keywords, those that are read as one by their place included."""
+        return frozenset(it for it in self.tokens if it == 'IDENT' or it.endswith('_KW'))

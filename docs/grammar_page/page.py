@@ -1,0 +1,348 @@
+"""The page: a section for each family of rules, and below each rule what is said of it."""
+import itertools
+import re
+import textwrap
+from dataclasses import replace
+
+from grammar_page.ebnf import Writer, without_nodes
+from grammar_page.entries import Openings, entries_of, shown, ungiven
+from grammar_page.forms import Either, Mark, Node, Rule, alternatives, flat, sequence
+from grammar_page.railroad import Diagrams
+from grammar_page.reports import Reports
+from grammar_page.values import BLOCK, Case, Fields, Given
+from grammar_page.words import Words, listing
+
+WIDTH = 118
+PICTURE = '(picture)'
+HEAD = '''# The grammar
+
+<!-- Written by docs/grammar from the scripts in crates/rap_grammar_scripts/specs; do not edit. -->
+
+Each rule of the parser as a rule of a grammar, with the node that it makes and with each message that it reports. The
+page is computed from the scripts of the rules (`crates/rap_grammar_scripts/specs`), and each rule of the program is
+proved to follow its script, so the page says what the program does. Rules have the names that rust-analyzer gives
+them; where the Rust Reference has a name for one, it stands beside it.
+
+## How to read a rule
+
+The notation is that of the Reference:
+
+| here | means |
+|---|---|
+| `fn`, `{` | this token; a word like `union` is an identifier that is read as a keyword there |
+| IDENT | a token of this kind, as the lexer gives it |
+| [type_] | another rule, as it is called there |
+| `x`? | it may be missing |
+| `x`\\*, `x`+ | any number of them; one at least |
+| `x` \\| `y` | one of them: the first that fits what comes next |
+| … | the node before it, which becomes a part of this rule's node |
+| ⇒ `NODE` | the node of this alternative |
+
+A rule is written as it reads a text without faults. Where the text has one, the lines below the rule say what is
+reported and where: *behind* a part of the rule and *where* something comes next or does not. What is in quotes is the
+message. A token that is missing is reported, and the rule goes on as if it had been there; a token that fits nowhere
+goes into an `ERROR` node, and the rule goes on behind it. A rule reports only what its own lines say; what the rules
+in it report stands below those.
+
+- **Node**: the node that the rule makes.
+- **Reports**: a message, its place, and what is done then; without such a line the rule itself reports nothing.
+- **Note**: what the form does not say: a look at more tokens than the next one, or what another rule is given.
+'''
+
+
+def escaped(line):
+    """A line with the stars of repeated parts as stars: those that follow a part, outside of code."""
+    pieces = re.split(r'(`[^`]*`)', line)
+    return ''.join(it if at % 2 else re.sub(r'(?<![*\s])\*(?=[ )?,;\\]|$)', r'\\*', it) for at, it in enumerate(pieces))
+
+
+class Page:
+    """The page of a grammar."""
+
+    def __init__(self, grammar, modules, names):
+        self.grammar, self.modules, self.names = grammar, modules, names
+        self.entries = entries_of(grammar)
+        operators = frozenset(it for it, power in grammar.kinds.powers.items() if power != 2 and it != 'AS_KW')
+        self.words = Words(grammar.kinds, {**grammar.evaluator.named_sets(), 'operator': operators})
+        self.write = Writer(grammar.kinds, self.link, self.words.of, self.about)
+        self.words.write = self.write
+        self.reports = Reports(grammar, self.words, self.write, Openings(grammar, self.entries))
+        self.links = {}
+
+    # -- links
+
+    def title(self, entry):
+        """The heading of an entry: its name, with its module where two rules have that name."""
+        same = [it for it in self.ordered() if it.name == entry.name]
+        return entry.name if same[0] is entry else f'{entry.name} ({entry.module})'
+
+    def anchor(self, title):
+        return re.sub(r'[^\w -]', '', title.lower()).replace(' ', '-')
+
+    def link(self, rule):
+        entry = self.entries[rule.module, rule.name]
+        title, label = self.title(entry), rule.label
+        aliases = entry.labels.get((rule.module, rule.name, rule.given), [])
+        if label == rule.name and aliases and not any(isinstance(it, Given) for it in rule.given):
+            label = aliases[0]
+        if title != rule.name and label == rule.name:
+            self.links[title] = self.anchor(title)
+            return f'[{label}][{title}]'
+        self.links[label] = self.anchor(title)
+        return f'[{label}]'
+
+    def about(self, rule):
+        """What a rule is given where that says how it reads, and what it returns where that says how to go on."""
+        entry = self.entries[rule.module, rule.name]
+        words = []
+        aliases = entry.labels.get((rule.module, rule.name, rule.given), [])
+        if rule.given and rule.label == rule.name and len(entry.groups) > 1 and not aliases:
+            group = next(group for group in entry.groups if any(it.key[2] == rule.given for it in group))
+            words.append(self.given(entry, group))
+        if rule.only != rule.every:
+            words.append(self.outcome(rule))
+        return words
+
+    def outcome(self, rule):
+        """With which outcome a rule ends, in words."""
+        forms = self.entries[rule.module, rule.name].with_outcome(next(iter(rule.only)))
+        texts = [self.write.form(shown(it)) for it in forms]
+        if texts and all(re.fullmatch(r'`[^` ]+`', it) for it in texts):
+            return listing(texts)
+        return 'like a block' if BLOCK in rule.only else 'not like a block'
+
+    # -- the order
+
+    def ordered(self):
+        """All entries in the order of the page: by families, and in each from the last script of a module to its first."""
+        order = [it for it in self.grammar.library.modules if it not in self.modules]
+        found = []
+        for module in [*self.modules, *order]:
+            listed = [name for it, name in self.names if it == module]
+            names = [*listed, *reversed(self.grammar.library.modules[module].definitions)]
+            found += [self.entries[module, it] for it in dict.fromkeys(names) if (module, it) in self.entries]
+        return found
+
+    # -- entries
+
+    def entry(self, entry):
+        lines = [f'### {self.title(entry)}', '']
+        names = [it for it in self.names.get((entry.module, entry.name), []) if it[0].isupper()]
+        if names:
+            lines += [f'In the Reference: {listing([f"*{it}*" for it in names], "and")}.', '']
+        if PICTURE in self.names.get((entry.module, entry.name), []):
+            lines += [f'![{entry.name} as a diagram](railroad/{entry.name}.svg)', '']
+        for group in entry.groups:
+            lines += [*self.rule(entry, group), '']
+        below = self.lines(entry)
+        return lines + below + [''] * bool(below)
+
+    def rule(self, entry, group):
+        """A rule with what it reads."""
+        options = self.common(group)
+        if not group[0].is_right:
+            options = [it for it in options if it]
+        label = self.label(entry, group)
+        start = f'**{entry.name}**{f" ({label})" if label else ""} →'
+        shown_nodes = len({self.reports.whole(it) for it in options}) > 1
+        if not shown_nodes and not any(map(self.is_around, options)):
+            options = self.joined(options)
+        texts = [self.option(it, shown_nodes) for it in options]
+        line = ' '.join([start, ' | '.join(texts)])
+        if len(line) <= WIDTH and not shown_nodes:
+            return self.quoted([line])
+        if len(texts) == 1:
+            return self.quoted([f'{start}\\', f'&emsp; {texts[0]}'])
+        lines = [f'&emsp; {"| " if at else "&ensp;"}{it}' for at, it in enumerate(texts)]
+        return self.quoted([f'{start}\\', *(f'{it}\\' for it in lines[:-1]), lines[-1]])
+
+    def common(self, group):
+        """What all instances of a group read: as they say it, or without what they say differently."""
+        for change in (lambda form: form, ungiven):
+            forms = [alternatives([change(it) for it in instance.options]) for instance in group]
+            if all(it == forms[0] for it in forms):
+                return flat(forms[0])
+        return group[0].bare
+
+    def joined(self, options):
+        form = alternatives([without_nodes(it, self.grammar.kinds) for it in options])
+        return list(form[0].forms) if len(form) == 1 and hasattr(form[0], 'forms') else [form]
+
+    def option(self, option, with_node):
+        text = self.write.form(option)
+        node = self.reports.whole(option).split(',')[0] if with_node else ''
+        return ('… ' if self.is_around(option) else '') + text + (f' ⇒ {node}' if node else '')
+
+    def is_around(self, option):
+        """Whether an option's node begins with the node before it."""
+        return isinstance(option[0], Node) and option[0].around and bool(option[0].form)
+
+    def quoted(self, lines):
+        wrapped = []
+        for line in map(escaped, lines):
+            wrapped += textwrap.wrap(line, WIDTH - 2, break_long_words=False, break_on_hyphens=False)
+        return [f'> {it}' for it in wrapped]
+
+    def label(self, entry, group):
+        """Which of the calls of a rule this is: by the names that it has there, or by what it is given."""
+        if len(entry.groups) == 1:
+            return ''
+        labels = [entry.labels.get(it.key, []) for it in group]
+        if all(labels):
+            return ', '.join(f'`{it}`' for them in labels for it in them)
+        return self.given(entry, group)
+
+    def given(self, entry, instances):
+        """What a rule is given at some of its calls, as far as that tells them from the others."""
+        names = self.grammar.parameters(self.grammar.library.modules[entry.module].definitions[entry.name])
+        others = [self.values(names, it.key[2]) for group in entry.groups for it in group if it not in instances]
+        mine = [self.values(names, it.key[2]) for it in instances]
+        same = [name for name in mine[0] if len({it[name] for it in mine}) == 1]
+        same.sort(key=lambda name: mine[0][name] is False)
+        for count in range(1, len(same) + 1):
+            for chosen in itertools.combinations(same, count):
+                if not any(all(it[name] == mine[0][name] for name in chosen) for it in others):
+                    return ', '.join(self.value(name, mine[0][name]) for name in chosen)
+        return ' or '.join(self.given(entry, [it]) for it in instances) if len(instances) > 1 else ''
+
+    def value(self, name, value):
+        return f'`{name}`' if value is True else f'not `{name}`' if value is False else f'`{value}`'
+
+    def values(self, names, arguments):
+        row = {}
+        for name, value in zip(names, arguments):
+            if isinstance(value, Fields):
+                row.update(value.fields)
+            elif not isinstance(value, Given):
+                row[name] = value.name if isinstance(value, Case) else value
+        return row
+
+    # -- lines below a rule
+
+    def lines(self, entry):
+        instances = [it for group in entry.groups for it in group]
+        options = list(dict.fromkeys(it for group in entry.groups for it in group[0].options))
+        nodes = self.reports.nodes(options)
+        lines = [f'- **Node** {nodes}'] if nodes else []
+        if not instances[0].is_right:
+            lines.append('- **Only** behind a message')
+        about = self.reports
+        for word, tell in (('Reports', about.messages), ('Recovery', about.recovery), ('Note', about.notes)):
+            told = {}
+            for it in instances:
+                for text in tell(it.walker):
+                    told.setdefault(text, []).append(it)
+            for text, those in told.items():
+                label = self.given(entry, those) if len(those) < len(instances) else ''
+                lines.append(f'- **{word}** {text}' + (f' ({label})' if label else ''))
+        return [part for it in lines for part in self.bullet(it)]
+
+    def bullet(self, line):
+        return textwrap.wrap(
+            escaped(line), WIDTH, subsequent_indent='  ', break_long_words=False, break_on_hyphens=False)
+
+    # -- the page
+
+    def text(self):
+        lines = [HEAD]
+        module = None
+        for entry in self.ordered():
+            if entry.module != module:
+                module = entry.module
+                lines += self.section(module)
+            lines += self.entry(entry)
+        lines += [*self.operators(), *self.sets(), *self.index()]
+        lines += [f'[{label}]: #{anchor}' for label, anchor in sorted(self.links.items())]
+        return '\n'.join(lines) + '\n'
+
+    def section(self, module):
+        first, *rest = self.grammar.library.modules[module].comment.split('\n')
+        where = [it for it in rest if it.startswith('In the Rust crate:')]
+        return [f'## {first.rstrip(".")}', '', *([*where, ''] if where else [])]
+
+    def operators(self):
+        """The operators with their powers."""
+        kinds, evaluator = self.grammar.kinds, self.grammar.evaluator
+        right_of = self.grammar.library.find_in('Expressions', 'right_of')
+        rows = {}
+        for kind, power in kinds.powers.items():
+            rows.setdefault(power, []).append(kind)
+        lines = ['## Operators', '', '### operator', '', 'The operators between two operands, from the tightest on. An',
+                 'operand on the right of one has no operators but those of at least the power in the last column.', '',
+                 '| power | operators | least power on the right |', '|---|---|---|']
+        for power, operators in sorted(rows.items(), reverse=True):
+            texts = ' '.join(kinds.text(it).replace('|', '\\|') for it in kinds.sorted(operators))
+            right = {evaluator.apply(right_of, [it]) for it in operators if it in self.words.named['operator']}
+            lines.append(f'| {power} | {texts} | {right.pop() if right else self.right_of(operators[0])} |')
+        self.links['operator'] = 'operator'
+        return [*lines, '']
+
+    def right_of(self, kind):
+        rules = {'AS_KW': 'cast_expr'}
+        return self.write.form((Rule('Expressions', rules.get(kind, 'range_expr'), rules.get(kind, 'range_expr')),))
+
+    def sets(self):
+        lines = ['## Sets of tokens', '']
+        for name in sorted(self.words.used - {'operator'}):
+            self.links[name] = self.anchor(name)
+            text = ' '.join(self.grammar.kinds.text(it) for it in self.grammar.kinds.sorted(self.words.named[name]))
+            lines += [f'### {name}', '', *self.paragraph(text), '']
+        return lines
+
+    def paragraph(self, text):
+        return textwrap.wrap(text, WIDTH, break_long_words=False, break_on_hyphens=False)
+
+    def index(self):
+        """The nodes, each with the rules that make it."""
+        made = {}
+        for entry in self.ordered():
+            for kind in kinds_in([it for group in entry.groups for it in group[0].options]):
+                made.setdefault(kind, []).append(self.write.rule(Rule(entry.module, entry.name, entry.name)))
+        missing = self.finished() - set(made)
+        if missing:
+            raise ValueError(f'no rule of the page makes {", ".join(sorted(missing))}')
+        lines = ['## Nodes', '', '| node | made by |', '|---|---|']
+        return [*lines, *(f'| `{kind}` | {", ".join(dict.fromkeys(made[kind]))} |' for kind in sorted(made)), '']
+
+    def finished(self):
+        """The kinds of nodes that the scripts name."""
+        modules = self.grammar.library.modules.values()
+        return {name for module in modules for name, source in module.imports.items() if source == 'NodeKind'}
+
+    # -- pictures
+
+    def pictures(self):
+        """The pictures, by the names of their files."""
+        diagrams = Diagrams(self.grammar.kinds, self.about)
+        drawn = {}
+        for (module, name), words in self.names.items():
+            if PICTURE in words:
+                inside = {it[1:] for it in words if it.startswith('+')}
+                form = self.opened(self.bare_form(self.entries[module, name].groups[0]), inside)
+                drawn[f'{name}.svg'] = diagrams.picture(form, name)
+        return drawn
+
+    def bare_form(self, group):
+        """What a group of instances reads, without its nodes."""
+        return without_nodes(alternatives(self.common(group)), self.grammar.kinds)
+
+    def opened(self, form, inside):
+        """A form in which some rules stand with what they read."""
+        def part_of(part):
+            if isinstance(part, Rule) and part.name in inside:
+                groups = self.entries[part.module, part.name].groups
+                group = next((it for it in groups if any(one.key[2] == part.given for one in it)), groups[0])
+                return self.opened(self.bare_form(group), inside - {part.name})
+            if isinstance(part, Either):
+                return alternatives([self.opened(it, inside) for it in part.forms])
+            return (replace(part, form=self.opened(part.form, inside)),) if hasattr(part, 'form') else (part,)
+        return sequence(it for part in form for it in part_of(part))
+
+
+def kinds_in(forms):
+    """The kinds of the nodes in forms."""
+    found = []
+    for part in (it for form in forms for it in form):
+        found += [part.kind] if isinstance(part, (Node, Mark)) and part.kind else []
+        found += kinds_in(part.forms if isinstance(part, Either) else [part.form] if hasattr(part, 'form') else [])
+    return found

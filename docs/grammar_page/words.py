@@ -1,0 +1,248 @@
+"""Says in words which tests hold, and what is reported where."""
+from grammar_page.entries import shown, ungiven
+from grammar_page.forms import TURN, Mark, Maybe, Node, Rule, Token
+from grammar_page.forms import Either, Listed, Many
+from grammar_page.ebnf import without_nodes
+from grammar_page.tests import And, At, Last, Not, Operator, Or, ReadsAs, Said, There
+from grammar_page.values import NOTHING, Given
+from grammar_page.walk import unstarted
+
+MOST_LISTED = 6
+BRACES = frozenset(['L_CURLY', 'R_CURLY'])
+
+
+def listing(items, last='or'):
+    """Some words with commas between them."""
+    items = list(dict.fromkeys(items))
+    return items[0] if len(items) == 1 else f'{", ".join(items[:-1])} {last} {items[-1]}'
+
+
+class Words:
+    """Says things in words; `write` writes forms, `sets` has the sets of kinds that have a name."""
+
+    def __init__(self, kinds, sets):
+        self.kinds, self.named = kinds, sets
+        self.used = set()
+        self.write = None
+
+    # -- sets of kinds
+
+    def items(self, kinds):
+        """The words for a set of kinds: names of sets that are in it, and the kinds that are left."""
+        if len(kinds) <= MOST_LISTED:
+            return [self.kinds.text(it) for it in self.kinds.sorted(kinds)]
+        if len(kinds) > len(self.kinds.tokens) // 2 + 1:
+            return [f'any token but {listing(self.items(self.kinds.tokens - kinds), "and")}']
+        left, found = kinds, []
+        by_size = sorted(self.named.items(), key=lambda it: (-len(it[1]), it[0]))
+        for name, known in by_size:
+            if len(known) > 3 and known <= kinds and len(known & left) > 3:
+                found.append(f'[{name}]')
+                self.used.add(name)
+                left -= known
+        return found + [self.kinds.text(it) for it in self.kinds.sorted(left)]
+
+    def of(self, kinds):
+        return listing(self.items(kinds))
+
+    # -- tests
+
+    def clauses(self, test):
+        """A test as alternatives of what must hold together: pairs of a test and whether it holds."""
+        if isinstance(test, And):
+            return [(*a, *b) for a in self.clauses(test.left) for b in self.clauses(test.right)]
+        if isinstance(test, Or):
+            return self.clauses(test.left) + self.clauses(test.right)
+        if isinstance(test, Not):
+            return [((test.test, False),)]
+        return [((test, True),)]
+
+    def clause(self, clause):
+        """What must hold together, in the order of the tokens."""
+        tokens = [it for it in clause if isinstance(it[0], (At, Operator, ReadsAs))]
+        texts, behind = [], 0
+        for place in sorted({it.place for it, _ in tokens}):
+            if place > behind:
+                texts.append('any token')
+            text, behind = self.token([it for it in tokens if it[0].place == place], place)
+            texts.append(text)
+        said = [self.said(it, holds) for it, holds in clause if (it, holds) not in tokens]
+        if texts[:1] == ['any token']:
+            texts = ['behind the next token ' + ', then '.join(texts[1:]) + ' comes']
+        elif texts:
+            texts = [', then '.join(texts) + ' comes next']
+        return ', and '.join([*texts, *(it for it in said if not it.startswith('but'))]) \
+            + ''.join(f', {it}' for it in said if it.startswith('but'))
+
+    def token(self, tests, place):
+        """What the token at a place is or is not, and the place behind it."""
+        here, behind = None, place + 1
+        for test, holds in tests:
+            kinds = test.kinds if isinstance(test, At) else frozenset([test.kind])
+            if holds and not (here and here != test and 'IDENT' in kinds):
+                here = kinds if here is None or isinstance(test, ReadsAs) else here & kinds
+                behind = place + (len(self.kinds.parts[test.kind]) if isinstance(test, Operator) else 1)
+        absent = [it.kinds if isinstance(it, At) else frozenset([it.kind]) for it, holds in tests if not holds]
+        others = frozenset().union(*absent)
+        if here is None:
+            return self.none_of(others), behind
+        others = {it for it in others if it in self.kinds.parts and self.kinds.parts[it][0] in here}
+        begins = f' that does not begin {self.of(frozenset(others))}' if others else ''
+        return self.of(here) + begins, behind
+
+    def none_of(self, kinds):
+        items = self.items(kinds)
+        return f'no {items[0]}' if len(items) == 1 and items[0][0] != '[' else f'none of {listing(items)}'
+
+    def said(self, test, holds):
+        """What is no test of a token, in words."""
+        if isinstance(test, Said):
+            return test.text if holds else test.opposite
+        if isinstance(test, Last):
+            return f'the last token is {"" if holds else "not "}{self.kinds.text(test.kind)}'
+        if isinstance(test, There):
+            return f'{self.write.rule(shown((test.rule,))[0])} is {"" if holds else "not "}there'
+        return f'but not where {self.test(test)}'
+
+    def test(self, test):
+        """A test in words."""
+        clauses = self.joined(self.clauses(test))
+        return '; or '.join(dict.fromkeys(self.clause(it) for it in clauses))
+
+    def joined(self, clauses):
+        """Clauses that speak of the next token alone, as one."""
+        alone = [it for it in clauses if self.is_alone(it)]
+        if len(alone) < 2:
+            return clauses
+        others = [it for it in clauses if it not in alone]
+        return [((At(0, self.kinds_of(alone)), True),), *others]
+
+    def is_alone(self, clause):
+        """Whether a clause says of the next token alone what it is."""
+        (test, holds), *others = clause
+        return not others and holds and isinstance(test, (At, Operator, ReadsAs)) and test.place == 0
+
+    def is_next_token(self, test):
+        """Whether a test says of the next token alone what it is."""
+        return all(map(self.is_alone, self.clauses(test)))
+
+    def kinds_of(self, clauses):
+        tests = [it for (it, _), in clauses]
+        return frozenset().union(*(it.kinds if isinstance(it, At) else frozenset([it.kind]) for it in tests))
+
+    def condition(self, tests):
+        """Where these tests hold: what comes next, or what does not."""
+        said = [it for it in tests if isinstance(it.test if isinstance(it, Not) else it, (Last, Said))]
+        there = [it for it in tests if not isinstance(it, Not) and it not in said]
+        absent = [it.test for it in tests if isinstance(it, Not) and it not in said]
+        texts = [self.test(it) for it in said]
+        if there:
+            texts.insert(0, self.present(there[-1], absent))
+        elif absent:
+            texts.insert(0, self.missing(absent))
+        return f'where {" and ".join(texts)}' if texts else ''
+
+    def present(self, test, absent):
+        """What comes next, of which some may be known not to."""
+        kinds = self.kinds_of([it for other in absent for it in self.clauses(other) if self.is_alone(it)])
+        clauses = [it for it in self.clauses(test) if not self.is_covered(it, kinds)]
+        return '; or '.join(dict.fromkeys(self.clause(it) for it in self.joined(clauses or self.clauses(test))))
+
+    def missing(self, tests):
+        """What does not come next."""
+        rules = [self.write.rule(shown((it.rule,))[0]) for it in tests if isinstance(it, There)]
+        clauses = [it for test in tests if not isinstance(test, There) for it in self.clauses(test)]
+        alone = [it for it in clauses if self.is_alone(it)]
+        kinds = self.kinds_of(alone)
+        others = [it for it in clauses if it not in alone and not self.is_covered(it, kinds)]
+        items = rules + (self.items(kinds) if kinds else [])
+        if others or len(items) > MOST_LISTED + 4:
+            return 'none of these comes next'
+        if len(items) == 1:
+            return f'{"none of" if items[0][0] == "[" and not rules else "no"} {items[0]} comes next'
+        return f'neither {listing(items, "nor")} comes next'
+
+    def is_covered(self, clause, kinds):
+        """Whether a clause asks for a next token of one of these kinds."""
+        return any(holds and isinstance(it, At) and it.place == 0 and it.kinds <= kinds for it, holds in clause)
+
+    # -- places
+
+    def place(self, message):
+        """Behind what a message is reported, or in the place of what."""
+        before = unstarted(message.before)
+        if message.late and before and isinstance(before[-1], Rule):
+            return ' '.join(it for it in (self.behind(before[:-1]), f'where {self.write.form(ungiven(shown(before[-1:])))} is missing') if it)
+        if before[-1:] == (TURN,) and message.element:
+            return f'in the place of {self.write.form(shown(message.element))}'
+        if before[-1:] != (TURN,):
+            return self.behind(before)
+        return ('in the list ' if message.in_list else '') + self.behind(unstarted(before[:-1]))
+
+    def behind(self, form):
+        tail = self.tail(form)
+        return f'behind {tail}' if tail else ''
+
+    def tail(self, form):
+        """The last parts of a form, back to one that must be there and is no single token."""
+        parts = []
+        for part in reversed(self.flat(form)):
+            parts.insert(0, part)
+            if isinstance(part, (Rule, Either, Listed)) or len(parts) == 3 or isinstance(part, Token) and len(parts) == 2:
+                break
+        texts = [self.write.written((it,)) for it in parts]
+        return ' '.join(it if len(it) <= 60 else '…' for it in texts)
+
+    def flat(self, form):
+        """The parts of a form from the turn of the newest loop on, those in nodes too."""
+        if TURN in form:
+            form = form[len(form) - form[::-1].index(TURN):]
+        return without_nodes(ungiven(shown(form)), self.kinds)
+
+    # -- messages
+
+    def message(self, message):
+        """What a message is reported for, where, and what is done then."""
+        if message.how == 'missing':
+            kind = message.text.removeprefix('expected ')
+            return f'{self.quoted(message.text)} for a missing {self.kinds.text(kind)}'
+        text = ' '.join(it for it in (self.quoted(message.text), self.place(message)) if it)
+        condition = self.condition(message.tests)
+        then = self.then(message)
+        return text + (f', {condition}' if condition else '') + (f'; {then}' if then else '')
+
+    def quoted(self, text):
+        if isinstance(text, Given):
+            return 'the caller\'s message'
+        return '“' + text.replace('\n', '\\n') + '”'
+
+    def then(self, message):
+        """What is done behind a message."""
+        then = []
+        if message.by:
+            then.append(f'what comes next is read by {self.write.rule(shown((message.by,))[0])}')
+        elif message.how in ('skip', 'recover'):
+            then.append('the next token goes into an `ERROR`' + self.unless(message))
+        elif message.closed == 'ERROR' or Mark('finish', 'ERROR') in message.after:
+            then.append(self.wrapped(message.after))
+        elif len(message.after) == 1 and isinstance(message.after[0], Token):
+            then.append(f'the {self.write.written(message.after)} is taken')
+        if message.goes_on is not None:
+            then.append(f'the list goes on only where then {self.test(message.goes_on)}')
+        if message.outcome == NOTHING and message.how != 'recover':
+            then.append('nothing is returned')
+        return ', and '.join(then)
+
+    def unless(self, message):
+        if message.how == 'skip':
+            return ''
+        if isinstance(message.keeps, Given):
+            return ', unless it is `{`, `}` or one that the caller keeps'
+        kinds = message.keeps.kinds if isinstance(message.keeps, At) else frozenset()
+        return f', unless it is {self.of(kinds | BRACES)}'
+
+    def wrapped(self, after):
+        read = [it for it in after if not isinstance(it, Mark)]
+        if not read:
+            return 'what was read becomes an `ERROR`'
+        return f'{self.write.form(shown(tuple(read)))} goes into an `ERROR`'
