@@ -1,6 +1,6 @@
 """Writes forms as rules in the notation of the Rust Reference, in Markdown."""
-from grammar_page.forms import (
-    Either, Listed, Many, Mark, Maybe, Node, Rule, Token, alternatives, optional, sequence)
+from grammar_page.forms import Either, Listed, Many, Mark, Maybe, Node, Rule, Token
+from grammar_page.shorten import alternatives, optional, sequence
 
 MOST_TOKENS = 10
 
@@ -29,8 +29,8 @@ def without_nodes_part(part, kinds):
 
 
 class Writer:
-    """Writes forms; `link` gives the link to a rule, `sets` the words for a set of kinds, and `about` those for what a
-    rule is given and returns."""
+    """Writes forms. `link` gives the link to a rule, `sets` the words for a set of kinds, and `about` those for what
+    a rule is given and returns."""
 
     def __init__(self, kinds, link, sets, about):
         self.kinds, self.link, self.sets, self.about = kinds, link, sets, about

@@ -1,13 +1,10 @@
 """The entries of the page: each rule with the forms of its instances, and what is said of them."""
 from dataclasses import dataclass, field, replace
 
-from grammar_page.forms import (
-    Either, Listed, Many, Mark, Maybe, Node, Rule, Token, alternatives, flat, is_absent, optional, sequence)
-from grammar_page.tests import And, At, Not, Operator, Or, ReadsAs
+from grammar_page.forms import Either, Listed, Many, Mark, Maybe, Node, Rule, inside, is_absent
+from grammar_page.shorten import alternatives, flat, optional, sequence
+from grammar_page.states import without_end
 from grammar_page.values import BLOCK, SOMETHING
-from grammar_page.walk import without_end
-
-MOST_OPENINGS = 3000
 
 
 @dataclass
@@ -24,16 +21,23 @@ class Instance:
 
 @dataclass
 class Entry:
-    """A rule of the page: its instances, those together that read the same."""
+    """A rule of the page: its instances, those together that read the same; and under which names an instance is
+    called."""
     module: str
     name: str
     groups: list = field(default_factory=list)
     labels: dict = field(default_factory=dict)
 
+    def instances(self):
+        return [it for group in self.groups for it in group]
+
+    def group_of(self, given):
+        """The instances that read what one does with these arguments; all where they do not say which."""
+        return next((it for it in self.groups if any(one.key[2] == given for one in it)), self.instances())
+
     def with_outcome(self, outcome):
         """The forms of the rule where it ends with an outcome."""
-        forms = [form for group in self.groups for it in group for form in it.outcomes.get(outcome, [])]
-        return list(dict.fromkeys(forms))
+        return list(dict.fromkeys(form for it in self.instances() for form in it.outcomes.get(outcome, [])))
 
 
 def entries_of(grammar):
@@ -86,7 +90,7 @@ def changed_part(part, change):
         return alternatives([changed(it, change) for it in part.forms])
     if isinstance(part, Maybe):
         return optional([changed(part.form, change)])
-    return (replace(part, form=changed(part.form, change)),) if hasattr(part, 'form') else (part,)
+    return (replace(part, form=changed(part.form, change)),) if inside(part) else (part,)
 
 
 # -- forms as they are shown
@@ -131,83 +135,3 @@ def shown_part(part, kept):
     if isinstance(part, (Node, Many, Listed)):
         return (replace(part, form=shown(part.form, kept if isinstance(part, Node) else frozenset())),)
     return (part,)
-
-
-# -- with which tokens a form begins
-
-class Openings:
-    """With which tokens forms begin."""
-
-    def __init__(self, grammar, entries):
-        self.kinds, self.weak, self.entries = grammar.kinds, grammar.kinds.weak, entries
-        self.known = {}
-
-    def says(self, test, form):
-        """Whether what a form begins with says that a test holds."""
-        openings = self.of(form, 4)
-        return openings is not None and bool(openings) and all(self.holds(test, it) is True for it in openings)
-
-    def of(self, form, count):
-        """The first tokens of a form, as far as it goes; none where there are too many ways."""
-        found = {()}
-        for part in form:
-            grown = set()
-            for opening in found:
-                more = {()} if len(opening) >= count else self.of_part(part, count - len(opening))
-                if more is None:
-                    return None
-                grown |= {(*opening, *it)[:count] for it in more}
-            found = grown
-            if len(found) > MOST_OPENINGS:
-                return None
-            if all(len(it) >= count for it in found):
-                break
-        return found
-
-    def of_part(self, part, count):
-        if isinstance(part, Token):
-            return {tuple(self.kinds.parts.get(it, (it,)))[:count] for it in part.kinds}
-        if isinstance(part, Mark):
-            return {()}
-        if isinstance(part, Rule):
-            return self.of_rule(part, count)
-        if isinstance(part, Either):
-            ways = [self.of(it, count) for it in part.forms]
-            return None if None in ways else set().union(*ways)
-        inner = self.of(part.form, count)
-        if inner is None or isinstance(part, Node):
-            return inner
-        if isinstance(part, Maybe) or isinstance(part, Many) and not part.least:
-            return inner | {()}
-        return inner
-
-    def of_rule(self, rule, count):
-        """The first tokens of a rule; while it is being looked at, it begins with anything."""
-        place = rule.module, rule.name, rule.given, count
-        if place not in self.known:
-            self.known[place] = None
-            groups = self.entries[place[:2]].groups
-            meant = [it for it in groups if any(instance.key[2] == rule.given for instance in it)] or groups
-            ways = [self.of(it, count) for group in meant for it in group[0].options]
-            self.known[place] = None if None in ways else set().union(*ways)
-        return self.known[place]
-
-    def holds(self, test, opening):
-        """Whether a test holds of the first tokens; none where they do not say."""
-        if isinstance(test, Not):
-            inner = self.holds(test.test, opening)
-            return None if inner is None else not inner
-        if isinstance(test, (And, Or)):
-            ways = {self.holds(test.left, opening), self.holds(test.right, opening)}
-            decides = isinstance(test, Or)
-            return decides if decides in ways else None if None in ways else not decides
-        if not isinstance(test, (At, Operator, ReadsAs)) or test.place >= len(opening):
-            return None
-        token = opening[test.place]
-        if isinstance(test, ReadsAs):
-            return token == test.kind
-        if isinstance(test, At):
-            return token in test.kinds or token in self.weak and 'IDENT' in test.kinds
-        parts = tuple(self.kinds.parts[test.kind])
-        there = opening[test.place:test.place + len(parts)]
-        return there == parts if len(there) == len(parts) or there != parts[:len(there)] else None

@@ -1,12 +1,12 @@
 """The rules that have an entry on the page, each with what it reads, and what it reports."""
-import os
 from dataclasses import dataclass, field
 
 from grammar_page.antt import Library
 from grammar_page.forms import Rule, form_width, is_absent
 from grammar_page.kinds import Kinds, elements
-from grammar_page.values import UNKNOWN, Case, Evaluator, Fields, Given, KindOf, Outcome, Scope, Undecided
-from grammar_page.walk import ENDS, GIVE_NOTHING, STEPS, State, Walker, without_end
+from grammar_page.states import State, without_end
+from grammar_page.values import Case, Evaluator, Fields, Given, KindOf, Outcome, Scope, Undecided
+from grammar_page.walk import ENDS, GIVE_NOTHING, STEPS, Walker
 
 ROOTS = (('Items', 'source_file', ()), ('Items', 'items', (False,)), ('Statements', 'macro_stmts', ()))
 
@@ -30,11 +30,12 @@ class Grammar:
         self.library = Library(f'{crates}/rap_grammar_scripts/specs')
         self.evaluator = Evaluator(self.library, self.kinds)
         self.names = names
-        self.entries = {}
-        self.turns = self.find_turns()
-        self.facts, self.firsts, self.kinds_given, self.labels = {}, {}, {}, {}
-        self.summaries, self.outcomes, self.tests = {}, {}, {}
-        self.users, self.waiting, self.current = {}, {}, [None]
+        self.entries, self.turns = {}, self.find_turns()
+        # Of each rule with its arguments: the kinds that the next token may have, the kinds that it is given, its
+        # other names, and its outcomes; and of a rule with any arguments: the kinds that the next token may have.
+        self.facts, self.kinds_given, self.labels, self.outcomes, self.firsts = {}, {}, {}, {}, {}
+        # How rules can end, and who asked for that; the tests of scripts; what is still to be looked at, and what is.
+        self.summaries, self.users, self.tests, self.waiting, self.current = {}, {}, {}, {}, [None]
 
     # -- which rules have an entry
 
@@ -95,7 +96,8 @@ class Grammar:
             (name,), behind = body[2][1][1:]
             outcome = ('name', name)
             some = ('call', ('name', 'if_some'), (outcome, ('name', 'done'), GIVE_NOTHING))
-            return self.target(body[2][0], True, module) if behind in (('call', ('name', 'give'), (outcome,)), some) else None
+            is_alone = behind in (some, ('call', ('name', 'give'), (outcome,)))
+            return self.target(body[2][0], True, module) if is_alone else None
         if body[0] == 'call' and body[1][1] not in ENDS and body[1][1] not in STEPS:
             return self.target(body, False, module)
         return None
@@ -128,11 +130,13 @@ class Grammar:
 
     def parameters(self, definition):
         """The names of a definition's parameters: those in its clauses, or those where the knot calls it."""
-        rows = [[it[1] if it[0] == 'name' else '' for it in patterns] for patterns, _ in self.library.clauses_of(definition)]
+        clauses = self.library.clauses_of(definition)
+        rows = [[it[1] if it[0] == 'name' else '' for it in patterns] for patterns, _ in clauses]
         for _, body in self.library.clauses_of(self.library.find_in('Knot', 'script_of')):
             if body[0] == 'call' and body[1][1] == definition.name:
                 rows.append([it[1] for it in body[2]])
-        return [next((it for it in column if it not in ('', 'true', 'false') and '.' not in it), '') for column in zip(*rows)]
+        known = [[it for it in column if it not in ('', 'true', 'false') and '.' not in it] for column in zip(*rows)]
+        return [it[0] if it else '' for it in known]
 
     def key_of(self, definition, values):
         """A rule with those of its arguments that are no numbers, kinds, messages and tests."""
@@ -159,9 +163,12 @@ class Grammar:
 
     def arguments(self, key):
         """The arguments of a rule, as far as they are the same at all calls."""
-        kinds = [self.kinds_given.get((key, at)) for at in range(len(key[2]))]
-        known = [next(iter(it)) if it and len(it) == 1 else it for it in kinds]
-        return [KindOf(it, name=kept.name) if isinstance(it, frozenset) else it or kept for it, kept in zip(known, key[2])]
+        arguments = []
+        for at, kept in enumerate(key[2]):
+            kinds = self.kinds_given.get((key, at))
+            one = next(iter(kinds)) if kinds and len(kinds) == 1 else None
+            arguments.append(one or (KindOf(kinds, name=kept.name) if kinds else kept))
+        return arguments
 
     # -- what rules read
 
@@ -206,7 +213,8 @@ class Grammar:
 
     def is_loop(self, definition):
         """Whether a rule is a loop alone, which may have no turn."""
-        return all(body[0] == 'call' and body[1] == ('name', 'loop') for _, body in self.library.clauses_of(definition))
+        bodies = [body for _, body in self.library.clauses_of(definition)]
+        return all(it[0] == 'call' and it[1] == ('name', 'loop') for it in bodies)
 
     def summarize(self, exits):
         present, absent, widths = [], {}, set()
@@ -217,7 +225,8 @@ class Grammar:
                 present.append(it.outcome)
                 widths.add(form_width(it.state.form, self.kinds))
         fault = dict.fromkeys(it.outcome for it in exits if it.state.fault)
-        return Summary(tuple(dict.fromkeys(present)), absent, tuple(fault), widths.pop() if len(widths) == 1 else None)
+        width = widths.pop() if len(widths) == 1 else None
+        return Summary(tuple(dict.fromkeys(present)), absent, tuple(fault), width)
 
     def explore(self):
         """Finds all rules that are called, until nothing new is found."""

@@ -35,15 +35,16 @@ class Kinds:
 
     def read_operators(self, library):
         """Reads the table of the operators, and of what else is written with more than one token."""
-        clauses = {name: library.clauses_of(library.find_in('OperatorTable', name)) for name in ('operators', 'others')}
-        for _, (first, rows) in [group for group in elements(clauses['operators'][0][1])]:
+        (_, operators), = library.clauses_of(library.find_in('OperatorTable', 'operators'))
+        (_, others), = library.clauses_of(library.find_in('OperatorTable', 'others'))
+        for _, (first, rows) in elements(operators):
             for _, (kind, power, rest) in elements(rows):
                 parts = [first[1], *(it[1] for it in elements(rest))]
                 if len(parts) > 1:
                     self.parts[kind[1]] = parts
                 if power[1]:
                     self.powers[kind[1]] = power[1]
-        for _, (kind, parts) in elements(clauses['others'][0][1]):
+        for _, (kind, parts) in elements(others):
             self.parts[kind[1]] = [it[1] for it in elements(parts)]
 
     def sorted(self, kinds):

@@ -10,7 +10,7 @@ def read_names(path):
             if not words or line.startswith('#'):
                 continue
             if line.startswith(' '):
-                names[modules[-1], words[0]] = words[1:]
+                names.setdefault((modules[-1], words[0]), []).extend(words[1:])
             else:
                 modules.append(words[0])
     return modules, names

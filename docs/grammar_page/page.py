@@ -5,10 +5,12 @@ import textwrap
 from dataclasses import replace
 
 from grammar_page.ebnf import Writer, without_nodes
-from grammar_page.entries import Openings, entries_of, shown, ungiven
-from grammar_page.forms import Either, Mark, Node, Rule, alternatives, flat, sequence
+from grammar_page.entries import entries_of, shown, ungiven
+from grammar_page.forms import Either, Mark, Node, Rule, inside, options_of
+from grammar_page.openings import Openings
 from grammar_page.railroad import Diagrams
 from grammar_page.reports import Reports
+from grammar_page.shorten import alternatives, flat, sequence
 from grammar_page.values import BLOCK, Case, Fields, Given
 from grammar_page.words import Words, listing
 
@@ -41,19 +43,41 @@ The notation is that of the Reference:
 A rule is written as it reads a text without faults. Where the text has one, the lines below the rule say what is
 reported and where: *behind* a part of the rule and *where* something comes next or does not. What is in quotes is the
 message. A token that is missing is reported, and the rule goes on as if it had been there; a token that fits nowhere
-goes into an `ERROR` node, and the rule goes on behind it. A rule reports only what its own lines say; what the rules
-in it report stands below those.
+goes into an `ERROR` node, and the rule goes on behind it. What a rule reports *through* another one stands below that
+one: it finds nothing of its own there. Where a message says KIND, it has the name of the next token's kind.
 
 - **Node**: the node that the rule makes.
 - **Reports**: a message, its place, and what is done then; without such a line the rule itself reports nothing.
+- **Recovery**: which tokens are not skipped where a part is missing.
 - **Note**: what the form does not say: a look at more tokens than the next one, or what another rule is given.
+'''
+OPERATORS = '''## Operators
+
+### operator
+
+The operators between two operands, from the tightest on. An operand on the right of one has no operators but those of
+at least the power in the last column.
 '''
 
 
 def escaped(line):
     """A line with the stars of repeated parts as stars: those that follow a part, outside of code."""
     pieces = re.split(r'(`[^`]*`)', line)
-    return ''.join(it if at % 2 else re.sub(r'(?<![*\s])\*(?=[ )?,;\\]|$)', r'\\*', it) for at, it in enumerate(pieces))
+    pieces[::2] = [re.sub(r'(?<![*\s])\*(?=[ )?,;\\]|$)', r'\\*', it) for it in pieces[::2]]
+    return ''.join(pieces)
+
+
+def anchors(lines):
+    """The anchor of each heading of a rule or a set: of headings that are the same, all but the first are numbered."""
+    places, counts = {}, {}
+    for line in lines:
+        if line.startswith('## ') or line.startswith('### '):
+            title = line.lstrip('# ')
+            name = re.sub(r'[^\w -]', '', title.lower()).replace(' ', '-')
+            counts[name] = counts.get(name, -1) + 1
+            if line.startswith('### '):
+                places[title] = name + (f'-{counts[name]}' if counts[name] else '')
+    return places
 
 
 class Page:
@@ -66,18 +90,16 @@ class Page:
         self.words = Words(grammar.kinds, {**grammar.evaluator.named_sets(), 'operator': operators})
         self.write = Writer(grammar.kinds, self.link, self.words.of, self.about)
         self.words.write = self.write
-        self.reports = Reports(grammar, self.words, self.write, Openings(grammar, self.entries))
+        self.reports = Reports(self.entries, self.words, self.write, Openings(grammar, self.entries))
+        self.order = self.ordered()
         self.links = {}
 
     # -- links
 
     def title(self, entry):
         """The heading of an entry: its name, with its module where two rules have that name."""
-        same = [it for it in self.ordered() if it.name == entry.name]
+        same = [it for it in self.order if it.name == entry.name]
         return entry.name if same[0] is entry else f'{entry.name} ({entry.module})'
-
-    def anchor(self, title):
-        return re.sub(r'[^\w -]', '', title.lower()).replace(' ', '-')
 
     def link(self, rule):
         entry = self.entries[rule.module, rule.name]
@@ -86,9 +108,9 @@ class Page:
         if label == rule.name and aliases and not any(isinstance(it, Given) for it in rule.given):
             label = aliases[0]
         if title != rule.name and label == rule.name:
-            self.links[title] = self.anchor(title)
+            self.links[title] = title
             return f'[{label}][{title}]'
-        self.links[label] = self.anchor(title)
+        self.links[label] = title
         return f'[{label}]'
 
     def about(self, rule):
@@ -97,8 +119,7 @@ class Page:
         words = []
         aliases = entry.labels.get((rule.module, rule.name, rule.given), [])
         if rule.given and rule.label == rule.name and len(entry.groups) > 1 and not aliases:
-            group = next(group for group in entry.groups if any(it.key[2] == rule.given for it in group))
-            words.append(self.given(entry, group))
+            words.append(self.given(entry, entry.group_of(rule.given)))
         if rule.only != rule.every:
             words.append(self.outcome(rule))
         return words
@@ -114,7 +135,8 @@ class Page:
     # -- the order
 
     def ordered(self):
-        """All entries in the order of the page: by families, and in each from the last script of a module to its first."""
+        """All entries in the order of the page: by families, in each first the rules that are named, then the others
+        from the last script of a module to its first."""
         order = [it for it in self.grammar.library.modules if it not in self.modules]
         found = []
         for module in [*self.modules, *order]:
@@ -129,7 +151,7 @@ class Page:
         lines = [f'### {self.title(entry)}', '']
         names = [it for it in self.names.get((entry.module, entry.name), []) if it[0].isupper()]
         if names:
-            lines += [f'In the Reference: {listing([f"*{it}*" for it in names], "and")}.', '']
+            lines += [*self.paragraph(f'In the Reference: {listing([f"*{it}*" for it in names], "and")}.'), '']
         if PICTURE in self.names.get((entry.module, entry.name), []):
             lines += [f'![{entry.name} as a diagram](railroad/{entry.name}.svg)', '']
         for group in entry.groups:
@@ -166,7 +188,7 @@ class Page:
 
     def joined(self, options):
         form = alternatives([without_nodes(it, self.grammar.kinds) for it in options])
-        return list(form[0].forms) if len(form) == 1 and hasattr(form[0], 'forms') else [form]
+        return options_of(form)
 
     def option(self, option, with_node):
         text = self.write.form(option)
@@ -220,18 +242,13 @@ class Page:
     # -- lines below a rule
 
     def lines(self, entry):
-        instances = [it for group in entry.groups for it in group]
+        instances = entry.instances()
         options = list(dict.fromkeys(it for group in entry.groups for it in group[0].options))
         nodes = self.reports.nodes(options)
         lines = [f'- **Node** {nodes}'] if nodes else []
         if not instances[0].is_right:
             lines.append('- **Only** behind a message')
-        about = self.reports
-        for word, tell in (('Reports', about.messages), ('Recovery', about.recovery), ('Note', about.notes)):
-            told = {}
-            for it in instances:
-                for text in tell(it.walker):
-                    told.setdefault(text, []).append(it)
+        for word, told in self.reports.told(instances):
             for text, those in told.items():
                 label = self.given(entry, those) if len(those) < len(instances) else ''
                 lines.append(f'- **{word}** {text}' + (f' ({label})' if label else ''))
@@ -246,13 +263,14 @@ class Page:
     def text(self):
         lines = [HEAD]
         module = None
-        for entry in self.ordered():
+        for entry in self.order:
             if entry.module != module:
                 module = entry.module
                 lines += self.section(module)
             lines += self.entry(entry)
         lines += [*self.operators(), *self.sets(), *self.index()]
-        lines += [f'[{label}]: #{anchor}' for label, anchor in sorted(self.links.items())]
+        places = anchors('\n'.join(lines).split('\n'))
+        lines += [f'[{label}]: #{places[title]}' for label, title in sorted(self.links.items())]
         return '\n'.join(lines) + '\n'
 
     def section(self, module):
@@ -267,9 +285,7 @@ class Page:
         rows = {}
         for kind, power in kinds.powers.items():
             rows.setdefault(power, []).append(kind)
-        lines = ['## Operators', '', '### operator', '', 'The operators between two operands, from the tightest on. An',
-                 'operand on the right of one has no operators but those of at least the power in the last column.', '',
-                 '| power | operators | least power on the right |', '|---|---|---|']
+        lines = [OPERATORS, '| power | operators | least power on the right |', '|---|---|---|']
         for power, operators in sorted(rows.items(), reverse=True):
             texts = ' '.join(kinds.text(it).replace('|', '\\|') for it in kinds.sorted(operators))
             right = {evaluator.apply(right_of, [it]) for it in operators if it in self.words.named['operator']}
@@ -278,13 +294,13 @@ class Page:
         return [*lines, '']
 
     def right_of(self, kind):
-        rules = {'AS_KW': 'cast_expr'}
-        return self.write.form((Rule('Expressions', rules.get(kind, 'range_expr'), rules.get(kind, 'range_expr')),))
+        name = 'cast_expr' if kind == 'AS_KW' else 'range_expr'
+        return self.write.form((Rule('Expressions', name, name),))
 
     def sets(self):
         lines = ['## Sets of tokens', '']
         for name in sorted(self.words.used - {'operator'}):
-            self.links[name] = self.anchor(name)
+            self.links[name] = name
             text = ' '.join(self.grammar.kinds.text(it) for it in self.grammar.kinds.sorted(self.words.named[name]))
             lines += [f'### {name}', '', *self.paragraph(text), '']
         return lines
@@ -295,14 +311,15 @@ class Page:
     def index(self):
         """The nodes, each with the rules that make it."""
         made = {}
-        for entry in self.ordered():
+        for entry in self.order:
             for kind in kinds_in([it for group in entry.groups for it in group[0].options]):
                 made.setdefault(kind, []).append(self.write.rule(Rule(entry.module, entry.name, entry.name)))
         missing = self.finished() - set(made)
         if missing:
             raise ValueError(f'no rule of the page makes {", ".join(sorted(missing))}')
-        lines = ['## Nodes', '', '| node | made by |', '|---|---|']
-        return [*lines, *(f'| `{kind}` | {", ".join(dict.fromkeys(made[kind]))} |' for kind in sorted(made)), '']
+        lines = [f'- `{kind}`: {", ".join(dict.fromkeys(made[kind]))}' for kind in sorted(made)]
+        bullets = [part for it in lines for part in self.bullet(it)]
+        return ['## Nodes', '', 'Each node, with the rules that make it.', '', *bullets, '']
 
     def finished(self):
         """The kinds of nodes that the scripts name."""
@@ -317,8 +334,8 @@ class Page:
         drawn = {}
         for (module, name), words in self.names.items():
             if PICTURE in words:
-                inside = {it[1:] for it in words if it.startswith('+')}
-                form = self.opened(self.bare_form(self.entries[module, name].groups[0]), inside)
+                rules = {it[1:] for it in words if it.startswith('+')}
+                form = self.opened(self.bare_form(self.entries[module, name].groups[0]), rules)
                 drawn[f'{name}.svg'] = diagrams.picture(form, name)
         return drawn
 
@@ -326,16 +343,15 @@ class Page:
         """What a group of instances reads, without its nodes."""
         return without_nodes(alternatives(self.common(group)), self.grammar.kinds)
 
-    def opened(self, form, inside):
+    def opened(self, form, rules):
         """A form in which some rules stand with what they read."""
         def part_of(part):
-            if isinstance(part, Rule) and part.name in inside:
-                groups = self.entries[part.module, part.name].groups
-                group = next((it for it in groups if any(one.key[2] == part.given for one in it)), groups[0])
-                return self.opened(self.bare_form(group), inside - {part.name})
+            if isinstance(part, Rule) and part.name in rules:
+                group = self.entries[part.module, part.name].group_of(part.given)
+                return self.opened(self.bare_form(group), rules - {part.name})
             if isinstance(part, Either):
-                return alternatives([self.opened(it, inside) for it in part.forms])
-            return (replace(part, form=self.opened(part.form, inside)),) if hasattr(part, 'form') else (part,)
+                return alternatives([self.opened(it, rules) for it in part.forms])
+            return (replace(part, form=self.opened(part.form, rules)),) if inside(part) else (part,)
         return sequence(it for part in form for it in part_of(part))
 
 
@@ -344,5 +360,5 @@ def kinds_in(forms):
     found = []
     for part in (it for form in forms for it in form):
         found += [part.kind] if isinstance(part, (Node, Mark)) and part.kind else []
-        found += kinds_in(part.forms if isinstance(part, Either) else [part.form] if hasattr(part, 'form') else [])
+        found += kinds_in(inside(part))
     return found

@@ -3,7 +3,7 @@ from dataclasses import dataclass
 from html import escape
 
 from grammar_page.ebnf import without_nodes
-from grammar_page.forms import Either, Listed, Many, Maybe, Rule, Token
+from grammar_page.forms import Either, Many, Maybe, Rule, Token
 
 LETTER = 7.8
 HEIGHT = 26
@@ -42,7 +42,8 @@ def label(text, kind):
 
     def draw(x, y):
         corner = HEIGHT // 2 if kind == 'token' else 3
-        return [f'<rect class="{kind}" x="{x:g}" y="{y - HEIGHT / 2:g}" width="{width}" height="{HEIGHT}" rx="{corner}"/>',
+        size = f'width="{width}" height="{HEIGHT}" rx="{corner}"'
+        return [f'<rect class="{kind}" x="{x:g}" y="{y - HEIGHT / 2:g}" {size}/>',
                 f'<text x="{x + width / 2:g}" y="{y + 4:g}">{escape(text)}</text>']
     return Box(width, HEIGHT / 2, HEIGHT / 2, draw)
 

@@ -2,17 +2,27 @@
 from dataclasses import replace
 
 from grammar_page.entries import shown, ungiven
-from grammar_page.forms import Either, Listed, Many, Mark, Maybe, Node, Rule, Token, is_absent
-from grammar_page.tests import At, Not, Said
-from grammar_page.values import Function
+from grammar_page.forms import Either, Listed, Many, Mark, Maybe, Node, Rule, inside, is_absent, may_be_empty
+from grammar_page.tests import At, Not
+from grammar_page.values import Function, Given
 from grammar_page.words import listing
 
 
 class Reports:
     """Says things of the entries, in the words of `words`."""
 
-    def __init__(self, grammar, words, write, openings):
-        self.grammar, self.words, self.write, self.openings = grammar, words, write, openings
+    def __init__(self, entries, words, write, openings):
+        self.entries, self.words, self.write, self.openings = entries, words, write, openings
+
+    def told(self, instances):
+        """What is said of a rule below its form: a word, and each text with the instances that it is true of."""
+        for word, tell in (('Reports', self.messages), ('Reports', self.through), ('Recovery', self.recovery),
+                           ('Note', self.notes)):
+            told = {}
+            for it in instances:
+                for text in tell(it.walker):
+                    told.setdefault(text, []).append(it)
+            yield word, told
 
     # -- nodes
 
@@ -47,12 +57,11 @@ class Reports:
         outer = outer or form[0] if is_outer and form else None
         for at, part in enumerate(form):
             if isinstance(part, Node) and part is not outer:
-                span = [*(['what stands before it'] if part.around else []), *([self.span(part.form)] if part.form else [])]
+                span = ['what stands before it'] * part.around + [self.span(it) for it in (part.form,) if it]
                 found.append((part.kind, ' and '.join(span)))
             elif isinstance(part, Mark) and not (is_outer and at == len(form) - 1):
                 found.append((part.kind, self.span(form[:at]) if at else ''))
-            forms = part.forms if isinstance(part, Either) else [part.form] if hasattr(part, 'form') else []
-            found += [it for inner in forms for it in self.inner(inner)]
+            found += [it for form_in in inside(part) for it in self.inner(form_in)]
         return found
 
     def span(self, form):
@@ -71,6 +80,39 @@ class Reports:
         missing = list(dict.fromkeys(self.words.message(it) for it in found if it.how == 'missing'))
         others = self.paired([it for it in found if it.how != 'missing'])
         return ([', '.join(missing)] if missing else []) + self.grouped(others)
+
+    def through(self, walker):
+        """What other rules report where they find nothing of their own, a text for all of them."""
+        found = {}
+        for call in walker.calls:
+            texts = self.first_messages(call.rule, 4) if call.is_free else []
+            if texts:
+                found.setdefault(self.name(call.rule), []).extend(texts)
+        texts = [f'{listing(texts, "and")} through {rule}' for rule, texts in found.items()]
+        return [', '.join(texts)] if texts else []
+
+    def first_messages(self, rule, depth):
+        """What a rule reports where it finds nothing of its own: itself, or through the rule that it begins with."""
+        walkers = [it.walker for it in self.entries[rule.module, rule.name].group_of(rule.given)]
+        own = [it for walker in walkers for it in walker.messages if self.is_first(it)]
+        own = [it for it in own if all(isinstance(test, Not) for test in it.tests)] or own
+        if own or not depth:
+            return list(dict.fromkeys(self.words.quoted(it.text) for it in own))
+        calls = [it.rule for walker in walkers for it in walker.calls if it.is_free and self.is_little(it.before)]
+        return list(dict.fromkeys(text for it in calls for text in self.first_messages(it, depth - 1)))
+
+    def is_first(self, message):
+        """Whether a message may be the first thing that its rule does."""
+        return not message.late and not message.by and message.how != 'missing' and self.is_little(message.before)
+
+    def is_little(self, form):
+        """Whether a form may read nothing, as a rule may that is a loop alone."""
+        return all(self.is_loop(it) if isinstance(it, Rule) else may_be_empty((it,)) for it in form)
+
+    def is_loop(self, rule):
+        """Whether a rule is a loop alone, which may have no turn."""
+        options = self.entries[rule.module, rule.name].groups[0][0].options
+        return len(options) == 1 and len(options[0]) == 1 and isinstance(options[0][0], Many)
 
     def is_repeated(self, message, messages):
         """Whether a message comes after another one, and is reported without that one too."""
@@ -107,9 +149,11 @@ class Reports:
             where = {}
             for place, conditions in places.items():
                 conditions = self.shortest(list(dict.fromkeys(conditions)))
-                condition = 'where nothing comes next that may follow' if len(conditions) > 2 else ' or '.join(conditions)
+                if len(conditions) > 2:
+                    conditions = ['where nothing comes next that may follow']
+                condition = ' or '.join(conditions)
                 where.setdefault(condition, []).append(place)
-            spots = [self.spot(found, condition) for condition, found in where.items()]
+            spots = [self.spot(them, condition) for condition, them in where.items()]
             texts.append(text + ' ' * bool(spots[0]) + '; or '.join(spots) + (f'; {then}' if then else ''))
         return texts
 
@@ -132,15 +176,20 @@ class Reports:
         """The tests of more than the next token, each with what is read only where it holds."""
         found = {}
         for limit in walker.limits:
-            if self.words.is_next_token(limit.test) or limit.form is None:
+            if limit.form is None or self.is_given(limit):
                 continue
             if limit.form and limit.form == limit.otherwise:
                 found.setdefault((limit.test, None), []).append(limit.form)
-            elif limit.form and limit.otherwise is not None and not self.openings.says(limit.test, limit.form):
+            elif limit.form and not self.openings.says(limit.test, limit.form):
                 found.setdefault((limit.test, True), []).append(limit.form)
             elif limit.form == () and limit.otherwise:
                 found.setdefault((limit.test, False), []).append(limit.otherwise)
         return [self.limit(test, holds, forms) for (test, holds), forms in found.items()]
+
+    def is_given(self, limit):
+        """Whether a test finds the token that another rule is given."""
+        return self.words.is_next_token(limit.test) and any(
+            isinstance(it, Given) for part in limit.form[:1] if isinstance(part, Rule) for it in part.given)
 
     def limit(self, test, holds, forms):
         heads = list(dict.fromkeys(head for form in forms for head in self.heads(form)))
@@ -173,20 +222,22 @@ class Reports:
     def recovery(self, walker):
         """Which tokens other rules are told to leave where they are."""
         texts = []
-        for rule, values in walker.calls:
-            for value in values.values():
+        for call in walker.calls:
+            for value in call.given:
                 test = walker.kept(value) if isinstance(value, Function) else None
                 if isinstance(test, At):
-                    name = self.write.form(ungiven(shown((rule.plain(),))))
-                    texts.append(f'{name} leaves a token of {self.words.of(test.kinds)} where it is')
+                    texts.append(f'{self.name(call.rule)} leaves a token of {self.words.of(test.kinds)} where it is')
         return list(dict.fromkeys(texts))
 
     def powers(self, walker):
         """The least power of the operators that other rules may have."""
-        found = [(rule, value) for rule, values in walker.calls for value in values.values()]
+        found = [(it.rule, value) for it in walker.calls for value in it.given if isinstance(value, int)]
         return list(dict.fromkeys(
-            f'{self.write.form(ungiven(shown((rule.plain(),))))} with operators of the power {value} and more'
-            for rule, value in found if isinstance(value, int) and not isinstance(value, bool) and value > 1))
+            f'{self.name(rule)} with operators of the power {power} and more'
+            for rule, power in found if not isinstance(power, bool) and power > 1))
+
+    def name(self, rule):
+        return self.write.form(ungiven(shown((rule,))))
 
     def loose(self, walker):
         """What is left without a node and without a message."""

@@ -81,6 +81,17 @@ def either(left, right):
     return Or(left, right)
 
 
+def reach(test, kinds):
+    """How many tokens a test asks for."""
+    if isinstance(test, Not):
+        return reach(test.test, kinds)
+    if isinstance(test, (And, Or)):
+        return max(reach(test.left, kinds), reach(test.right, kinds))
+    if isinstance(test, Operator):
+        return test.place + len(kinds.parts[test.kind])
+    return test.place + 1 if isinstance(test, (At, ReadsAs)) else 0
+
+
 def behind(test, width):
     """What a test says of the tokens behind the first ones, as tests."""
     if isinstance(test, And):

@@ -1,4 +1,5 @@
 """Evaluates the terms of scripts that are no scripts: kinds, truth values, outcomes, tests and messages."""
+import functools
 import re
 from dataclasses import dataclass, replace
 
@@ -25,6 +26,7 @@ class Outcome:
 
 NOTHING, SOMETHING, BLOCK = Outcome('nothing'), Outcome('something'), Outcome('block')
 UNKNOWN = Outcome('unknown')
+CONSTANTS = {'true': True, 'false': False, 'nothing': NOTHING, 'something': SOMETHING, 'block': BLOCK, '[]': ()}
 
 
 @dataclass(frozen=True)
@@ -50,8 +52,8 @@ class Given:
 
 @dataclass(frozen=True)
 class KindOf:
-    """One of these kinds; `power` where its power is meant, `asked` where a script may ask which one, and the name that
-    it has where the caller gives it."""
+    """One of these kinds; `power` where its power is meant, `asked` where a script may ask which one, and the name
+    that it has where the caller gives it."""
     kinds: frozenset
     power: bool = False
     asked: bool = False
@@ -136,9 +138,8 @@ class Evaluator:
         record, _, field = name.partition('.')
         if field and isinstance(scope.names.get(record), Fields):
             return scope.names[record].get(field)
-        constants = {'true': True, 'false': False, 'nothing': NOTHING, 'something': SOMETHING, 'block': BLOCK, '[]': ()}
-        if name in constants:
-            return constants[name]
+        if name in CONSTANTS:
+            return CONSTANTS[name]
         if KIND.fullmatch(name):
             return name
         definition = self.library.find(scope.module, name)
@@ -187,7 +188,8 @@ class Evaluator:
 
     def call(self, term, scope):
         head, arguments = term[1], term[2]
-        native = getattr(self, f'native_{head[1]}', None) if head[0] == 'name' and head[1] not in scope.names else None
+        is_own = head[0] == 'name' and head[1] not in scope.names
+        native = getattr(self, f'native_{head[1]}', None) if is_own else None
         if native:
             return native(*(self.value(it, scope) for it in arguments))
         function = self.value(head, scope)
@@ -214,8 +216,9 @@ class Evaluator:
         """The value of a definition for all its arguments."""
         for at, argument in enumerate(arguments):
             if isinstance(argument, Choice):
-                yes, not_so = ([*arguments[:at], it, *arguments[at + 1:]] for it in (argument.yes, argument.no))
-                return self.choose(argument.test, lambda: self.apply(definition, yes), lambda: self.apply(definition, not_so))
+                ways = [[*arguments[:at], it, *arguments[at + 1:]] for it in (argument.yes, argument.no)]
+                yes, not_so = (functools.partial(self.apply, definition, it) for it in ways)
+                return self.choose(argument.test, yes, not_so)
         seen = next((it for it in arguments if isinstance(it, Tokens) and it.then is not None), None)
         if seen and definition.result == 'Bool':
             return self.decided(definition, arguments, seen)
@@ -248,7 +251,7 @@ class Evaluator:
             return value.name == constructor and all(
                 self.fits(it, flag, names, module) for it, flag in zip(pattern[2], value.flags))
         name = pattern[1]
-        if name in ('true', 'false', 'nothing', 'something', 'block') or '.' in name or name == '[]':
+        if name in CONSTANTS or '.' in name:
             self.known(value)
             return value == self.name(name, Scope(module))
         names[name] = value
@@ -366,5 +369,5 @@ class Evaluator:
         none = frozenset(it for it in left.kinds if it not in self.kinds.powers)
         if none and none != left.kinds:
             raise Undecided('operator', [none, left.kinds - none])
-        return bool(none) or Said(
-            f'the power of the operator is below `{right.name}`', f'the power of the operator is `{right.name}` or more')
+        power = 'the power of the operator is'
+        return bool(none) or Said(f'{power} below `{right.name}`', f'{power} `{right.name}` or more')

@@ -1,11 +1,9 @@
 """Says in words which tests hold, and what is reported where."""
-from grammar_page.entries import shown, ungiven
-from grammar_page.forms import TURN, Mark, Maybe, Node, Rule, Token
-from grammar_page.forms import Either, Listed, Many
 from grammar_page.ebnf import without_nodes
+from grammar_page.entries import shown, ungiven
+from grammar_page.forms import TURN, Either, Listed, Mark, Rule, Token, unstarted
 from grammar_page.tests import And, At, Last, Not, Operator, Or, ReadsAs, Said, There
 from grammar_page.values import NOTHING, Given
-from grammar_page.walk import unstarted
 
 MOST_LISTED = 6
 BRACES = frozenset(['L_CURLY', 'R_CURLY'])
@@ -172,7 +170,8 @@ class Words:
         """Behind what a message is reported, or in the place of what."""
         before = unstarted(message.before)
         if message.late and before and isinstance(before[-1], Rule):
-            return ' '.join(it for it in (self.behind(before[:-1]), f'where {self.write.form(ungiven(shown(before[-1:])))} is missing') if it)
+            missing = f'where {self.write.form(ungiven(shown(before[-1:])))} is missing'
+            return f'{self.behind(before[:-1])} {missing}'.strip()
         if before[-1:] == (TURN,) and message.element:
             return f'in the place of {self.write.form(shown(message.element))}'
         if before[-1:] != (TURN,):
@@ -188,7 +187,7 @@ class Words:
         parts = []
         for part in reversed(self.flat(form)):
             parts.insert(0, part)
-            if isinstance(part, (Rule, Either, Listed)) or len(parts) == 3 or isinstance(part, Token) and len(parts) == 2:
+            if isinstance(part, (Rule, Either, Listed)) or len(parts) == 3 - isinstance(part, Token):
                 break
         texts = [self.write.written((it,)) for it in parts]
         return ' '.join(it if len(it) <= 60 else '…' for it in texts)
@@ -228,7 +227,8 @@ class Words:
         elif len(message.after) == 1 and isinstance(message.after[0], Token):
             then.append(f'the {self.write.written(message.after)} is taken')
         if message.goes_on is not None:
-            then.append(f'the list goes on only where then {self.test(message.goes_on)}')
+            behind = self.test(message.goes_on).replace(' comes next', ' comes behind it')
+            then.append(f'the list goes on only where {behind}')
         if message.outcome == NOTHING and message.how != 'recover':
             then.append('nothing is returned')
         return ', and '.join(then)
