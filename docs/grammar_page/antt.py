@@ -219,5 +219,17 @@ class Library:
             self.bodies[key] = [(patterns, Reader(body).term()) for patterns, body in read]
         return self.bodies[key]
 
+    def texts(self):
+        """The texts in all definitions."""
+        definitions = [it for module in self.modules.values() for it in module.definitions.values()]
+        return {text for it in definitions for _, body in self.clauses_of(it) for text in texts_in(body)}
+
     def scripts(self):
         return [it for module in self.modules.values() for it in module.definitions.values() if it.is_script()]
+
+
+def texts_in(term):
+    """The texts in a term."""
+    if not isinstance(term, tuple):
+        return set()
+    return {term[1]} if term[:1] == ('text',) else set().union(*map(texts_in, term))

@@ -58,6 +58,15 @@ OPERATORS = '''## Operators
 The operators between two operands, from the tightest on. An operand on the right of one has no operators but those of
 at least the power in the last column.
 '''
+UNREPORTED = '''## Messages that are never reported
+
+The scripts have these messages too, but the rules that report them are never called where they would.
+'''
+SETS = '''## Sets of tokens
+
+The sets have the names that they have in the scripts. A token that is written with several stands in them with its
+first one: `:` may be that of `::`, and `.` that of `..`.
+'''
 
 
 def escaped(line):
@@ -150,14 +159,24 @@ class Page:
     def entry(self, entry):
         lines = [f'### {self.title(entry)}', '']
         names = [it for it in self.names.get((entry.module, entry.name), []) if it[0].isupper()]
-        if names:
-            lines += [*self.paragraph(f'In the Reference: {listing([f"*{it}*" for it in names], "and")}.'), '']
+        said = [f'In the Reference: {listing([f"*{it}*" for it in names], "and")}.'] if names else []
+        said += self.other_names(entry)
+        if said:
+            lines += [*self.paragraph(' '.join(said)), '']
         if PICTURE in self.names.get((entry.module, entry.name), []):
             lines += [f'![{entry.name} as a diagram](railroad/{entry.name}.svg)', '']
         for group in entry.groups:
             lines += [*self.rule(entry, group), '']
         below = self.lines(entry)
         return lines + below + [''] * bool(below)
+
+    def other_names(self, entry):
+        """The other names of a rule, where they do not stand before its forms."""
+        if len(entry.groups) > 1:
+            return []
+        found = [(label, self.given(entry, [it])) for it in entry.instances() for label in entry.labels.get(it.key, [])]
+        texts = [f'`{label}`' + (f' ({given})' if given else '') for label, given in found]
+        return [f'Also called {listing(texts, "and")}.'] if texts else []
 
     def rule(self, entry, group):
         """A rule with what it reads."""
@@ -207,12 +226,13 @@ class Page:
 
     def label(self, entry, group):
         """Which of the calls of a rule this is: by the names that it has there, or by what it is given."""
-        if len(entry.groups) == 1:
-            return ''
-        labels = [entry.labels.get(it.key, []) for it in group]
+        return self.called(entry, group) if len(entry.groups) > 1 else ''
+
+    def called(self, entry, instances):
+        labels = [entry.labels.get(it.key, []) for it in instances]
         if all(labels):
             return ', '.join(f'`{it}`' for them in labels for it in them)
-        return self.given(entry, group)
+        return self.given(entry, instances)
 
     def given(self, entry, instances):
         """What a rule is given at some of its calls, as far as that tells them from the others."""
@@ -250,7 +270,7 @@ class Page:
             lines.append('- **Only** behind a message')
         for word, told in self.reports.told(instances):
             for text, those in told.items():
-                label = self.given(entry, those) if len(those) < len(instances) else ''
+                label = self.called(entry, those) if len(those) < len(instances) else ''
                 lines.append(f'- **{word}** {text}' + (f' ({label})' if label else ''))
         return [part for it in lines for part in self.bullet(it)]
 
@@ -268,7 +288,7 @@ class Page:
                 module = entry.module
                 lines += self.section(module)
             lines += self.entry(entry)
-        lines += [*self.operators(), *self.sets(), *self.index()]
+        lines += [*self.operators(), *self.sets(), *self.index(), *self.unreported()]
         places = anchors('\n'.join(lines).split('\n'))
         lines += [f'[{label}]: #{places[title]}' for label, title in sorted(self.links.items())]
         return '\n'.join(lines) + '\n'
@@ -298,7 +318,7 @@ class Page:
         return self.write.form((Rule('Expressions', name, name),))
 
     def sets(self):
-        lines = ['## Sets of tokens', '']
+        lines = [SETS]
         for name in sorted(self.words.used - {'operator'}):
             self.links[name] = name
             text = ' '.join(self.grammar.kinds.text(it) for it in self.grammar.kinds.sorted(self.words.named[name]))
@@ -320,6 +340,14 @@ class Page:
         lines = [f'- `{kind}`: {", ".join(dict.fromkeys(made[kind]))}' for kind in sorted(made)]
         bullets = [part for it in lines for part in self.bullet(it)]
         return ['## Nodes', '', 'Each node, with the rules that make it.', '', *bullets, '']
+
+    def unreported(self):
+        """The messages of the scripts that no rule reports, since it is never called where it would."""
+        walkers = [it.walker for entry in self.order for it in entry.instances()]
+        reported = tuple({it.text for walker in walkers for it in walker.messages if isinstance(it.text, str)})
+        lost = [it for it in self.grammar.library.texts() if not any(text.startswith(it) for text in reported)]
+        lines = [f'- {self.words.quoted(it)}' for it in sorted(lost)]
+        return [UNREPORTED, *lines, ''] if lines else []
 
     def finished(self):
         """The kinds of nodes that the scripts name."""

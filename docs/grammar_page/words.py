@@ -1,7 +1,7 @@
 """Says in words which tests hold, and what is reported where."""
 from grammar_page.ebnf import without_nodes
 from grammar_page.entries import shown, ungiven
-from grammar_page.forms import TURN, Either, Listed, Mark, Rule, Token, unstarted
+from grammar_page.forms import TURN, Either, Listed, Mark, Node, Rule, Token, unstarted
 from grammar_page.tests import And, At, Last, Not, Operator, Or, ReadsAs, Said, There
 from grammar_page.values import NOTHING, Given
 
@@ -29,6 +29,10 @@ class Words:
         """The words for a set of kinds: names of sets that are in it, and the kinds that are left."""
         if len(kinds) <= MOST_LISTED:
             return [self.kinds.text(it) for it in self.kinds.sorted(kinds)]
+        same = min((name for name, known in self.named.items() if known == kinds), default=None)
+        if same:
+            self.used.add(same)
+            return [f'[{same}]']
         if len(kinds) > len(self.kinds.tokens) // 2 + 1:
             return [f'any token but {listing(self.items(self.kinds.tokens - kinds), "and")}']
         left, found = kinds, []
@@ -224,6 +228,8 @@ class Words:
             then.append('the next token goes into an `ERROR`' + self.unless(message))
         elif message.closed == 'ERROR' or Mark('finish', 'ERROR') in message.after:
             then.append(self.wrapped(message.after))
+        elif message.before and isinstance(message.before[-1], Node) and message.before[-1].kind == 'ERROR':
+            then.append('what was read is an `ERROR`')
         elif len(message.after) == 1 and isinstance(message.after[0], Token):
             then.append(f'the {self.write.written(message.after)} is taken')
         if message.goes_on is not None:
