@@ -126,7 +126,7 @@ def shown_part(part, kept):
         first = part.first if part.name in kept else frozenset()
         only = part.only & every
         outcomes = (only, every) if only and only != every else (frozenset(), frozenset())
-        return (Rule(part.module, part.name, part.label, *outcomes, first, part.given),)
+        return (Rule(part.module, part.name, part.label, part.may_lack, *outcomes, first, part.given),)
     if isinstance(part, Either):
         apart = told_apart(part.forms)
         return alternatives([shown(it, apart) for it in part.forms])

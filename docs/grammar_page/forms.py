@@ -10,11 +10,13 @@ class Token:
 
 @dataclass(frozen=True)
 class Rule:
-    """Another rule: its module and name, how the script calls it, with which outcomes it ends here, and with which it
-    may end; where it begins with one of few kinds of tokens, with which of them here; and what it is given."""
+    """Another rule: its module and name, how the script calls it, and whether it may read nothing; with which outcomes
+    it ends here, and with which it may end; where it begins with one of few kinds of tokens, with which of them here;
+    and what it is given."""
     module: str
     name: str
     label: str
+    may_lack: bool = False
     only: frozenset = frozenset()
     every: frozenset = frozenset()
     first: frozenset = frozenset()
@@ -25,14 +27,14 @@ class Rule:
 
     def name_alone(self):
         """The same rule, without what is different from call to call."""
-        return Rule(self.module, self.name, self.label)
+        return Rule(self.module, self.name, self.label, self.may_lack)
 
     def or_as(self, other):
         """The rule with the outcomes of both, and without what they are given differently."""
         only, every = self.only | other.only, self.every | other.every
         outcomes = (only, every) if only != every and self.only and other.only else (frozenset(), frozenset())
         given = self.given if self.given == other.given else ()
-        return Rule(self.module, self.name, self.label, *outcomes, self.first | other.first, given)
+        return Rule(self.module, self.name, self.label, self.may_lack, *outcomes, self.first | other.first, given)
 
 
 @dataclass(frozen=True)
@@ -84,7 +86,9 @@ TURN = Mark('turn')
 def may_be_empty(form):
     """Whether a form may read nothing."""
     for part in form:
-        if isinstance(part, (Token, Rule, Listed)) or isinstance(part, Many) and part.least:
+        if isinstance(part, (Token, Listed)) or isinstance(part, Many) and part.least:
+            return False
+        if isinstance(part, Rule) and not part.may_lack:
             return False
         if isinstance(part, Node) and not may_be_empty(part.form):
             return False

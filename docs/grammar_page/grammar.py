@@ -209,7 +209,8 @@ class Grammar:
         if label != definition.name and label not in labels:
             labels.append(label)
         few = len(self.firsts[key[:2]]) <= 3
-        return Rule(definition.module, definition.name, label, every, every, facts if few else frozenset(), key[2])
+        first = facts if few else frozenset()
+        return Rule(definition.module, definition.name, label, self.is_loop(definition), every, every, first, key[2])
 
     def is_loop(self, definition):
         """Whether a rule is a loop alone, which may have no turn."""

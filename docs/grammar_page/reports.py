@@ -98,21 +98,12 @@ class Reports:
         own = [it for it in own if all(isinstance(test, Not) for test in it.tests)] or own
         if own or not depth:
             return list(dict.fromkeys(self.words.quoted(it.text) for it in own))
-        calls = [it.rule for walker in walkers for it in walker.calls if it.is_free and self.is_little(it.before)]
+        calls = [it.rule for walker in walkers for it in walker.calls if it.is_free and may_be_empty(it.before)]
         return list(dict.fromkeys(text for it in calls for text in self.first_messages(it, depth - 1)))
 
     def is_first(self, message):
         """Whether a message may be the first thing that its rule does."""
-        return not message.late and not message.by and message.how != 'missing' and self.is_little(message.before)
-
-    def is_little(self, form):
-        """Whether a form may read nothing, as a rule may that is a loop alone."""
-        return all(self.is_loop(it) if isinstance(it, Rule) else may_be_empty((it,)) for it in form)
-
-    def is_loop(self, rule):
-        """Whether a rule is a loop alone, which may have no turn."""
-        options = self.entries[rule.module, rule.name].groups[0][0].options
-        return len(options) == 1 and len(options[0]) == 1 and isinstance(options[0][0], Many)
+        return not message.late and not message.by and message.how != 'missing' and may_be_empty(message.before)
 
     def is_repeated(self, message, messages):
         """Whether a message comes after another one, and is reported without that one too."""

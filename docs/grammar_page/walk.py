@@ -391,7 +391,7 @@ class Walker:
         for outcome in summary.present:
             exits.append(Exit(outcome, self.took(state, replace(rule, only=frozenset([outcome])), summary.width)))
         for outcome, facts in summary.absent.items():
-            part = (replace(rule, only=frozenset([outcome])),) if self.grammar.is_loop(definition) else ()
+            part = (replace(rule, only=frozenset([outcome])),) if rule.may_lack else ()
             tests = (*state.tests, Not(There(rule.plain()))) if outcome == NOTHING else state.tests
             exits.append(Exit(outcome, State((*state.form, *part), state.facts & facts, tests, state.fault)))
         known = {it.outcome for it in exits}
