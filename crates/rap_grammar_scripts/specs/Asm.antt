@@ -1,6 +1,6 @@
 -- Inline assembly.
 -- In the Rust crate: `grammar/expressions/atom.rs`.
-use Rattle.std.specs.Prelude.{Bool, true, false, ◌&&◌, not, if◌then◌else◌, List, drop, Option, Some, None, codes, [], ◌∷◌}
+use Rattle.std.specs.Prelude.{Bool, true, false, ◌&&◌, if◌then◌else◌, List, drop, Option, Some, None, codes, [], ◌∷◌}
 use Rattle.rap_base.specs.Keyword.{is_any_identifier}
 use Rattle.rap_base.specs.TokenKind.{EOF, L_PAREN, R_PAREN, L_CURLY, R_CURLY, COMMA, EQ, FAT_ARROW, STRING, CONST_KW, IN_KW, OUT_KW, LATEOUT_KW, INOUT_KW, INLATEOUT_KW, LABEL_KW, SYM_KW, CLOBBER_ABI_KW, OPTIONS_KW, PURE_KW, NOMEM_KW, READONLY_KW, PRESERVES_FLAGS_KW, NORETURN_KW, NOSTACK_KW, MAY_UNWIND_KW, ATT_SYNTAX_KW, RAW_KW}
 use Rattle.rap_base.specs.NodeKind.{ASM_EXPR, ASM_CLOBBER_ABI, ASM_OPTIONS, ASM_OPTION, ASM_DIR_SPEC, ASM_OPERAND_EXPR, ASM_REG_OPERAND, ASM_OPERAND_NAMED, ASM_LABEL, ASM_CONST, ASM_SYM, ASM_REG_SPEC}

@@ -1,9 +1,9 @@
 -- Expressions that begin with a keyword of control flow, or with a label; and closures.
 -- In the Rust crate: `grammar/expressions/atom.rs`.
-use Rattle.std.specs.Prelude.{ℕ, Bool, true, false, List, [], ◌∷◌, ◌==◌, if◌then◌else◌, codes}
+use Rattle.std.specs.Prelude.{Bool, false, [], ◌∷◌, if◌then◌else◌, codes}
 use Rattle.rap_base.specs.TokenKind.{EOF, ERROR, COMMA, COLON, L_CURLY, R_CURLY, R_ANGLE, EQ, FAT_ARROW, PIPE, IF_KW, ELSE_KW, LET_KW, LOOP_KW, WHILE_KW, FOR_KW, IN_KW, MATCH_KW, CONST_KW, STATIC_KW, ASYNC_KW, GEN_KW, MOVE_KW}
 use Rattle.rap_base.specs.NodeKind.{IF_EXPR, LET_EXPR, LOOP_EXPR, WHILE_EXPR, FOR_EXPR, LABEL, BLOCK_EXPR, MATCH_EXPR, MATCH_ARM_LIST, MATCH_ARM, MATCH_GUARD, CLOSURE_EXPR}
-use Rattle.rap_events.specs.Record.{Record, next_kind}
+use Rattle.rap_events.specs.Record.{next_kind}
 use Rattle.rap_events.specs.Composite.{is_at}
 use Rattle.rap_grammar_scripts.specs.Attributes.{inner_attrs, outer_attrs}
 use Rattle.rap_grammar_scripts.specs.Blocks.{block_expr, stmt_list, error_block}

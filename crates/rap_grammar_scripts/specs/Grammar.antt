@@ -1,6 +1,6 @@
 -- The rules that the others share.
 use Rattle.std.specs.Prelude.{ℕ, Bool, false, ◌||◌, List, [], ◌∷◌, codes}
-use Rattle.rap_base.specs.TokenKind.{EOF, ERROR, IDENT, L_CURLY, R_CURLY, LIFETIME_IDENT, SELF_KW, SELF_TYPE_KW, EXTERN_KW, AS_KW, UNDERSCORE, STRING, THIN_ARROW}
+use Rattle.rap_base.specs.TokenKind.{EOF, ERROR, IDENT, LIFETIME_IDENT, SELF_KW, SELF_TYPE_KW, EXTERN_KW, AS_KW, UNDERSCORE, STRING, THIN_ARROW}
 use Rattle.rap_base.specs.NodeKind.{NAME, NAME_REF, LIFETIME, ABI, RET_TYPE, RENAME}
 use Rattle.rap_events.specs.Record.{next_kind}
 use Rattle.rap_events.specs.Composite.{is_at}

@@ -1,12 +1,9 @@
 -- Items.
-use Rattle.std.specs.Prelude.{◌≡◌, ◌≢◌, ℕ, ◌+◌, ◌*◌, ◌≤◌, Bool, true, false, Option, Some, None, List, [], ◌∷◌, drop, ◌==◌, ◌&&◌, ◌||◌, not, if◌then◌else◌, codes}
+use Rattle.std.specs.Prelude.{Bool, true, false, List, [], ◌∷◌, drop, ◌==◌, ◌&&◌, not, if◌then◌else◌, codes}
 use Rattle.rap_base.specs.TokenKind.{EOF, ERROR, L_CURLY, R_CURLY, SEMICOLON, COLON, EQ, BANG, POUND, UNDERSCORE, IDENT, MUT_KW, EXTERN_KW, CRATE_KW, USE_KW, MOD_KW, TYPE_KW, CONST_KW, STATIC_KW, STRUCT_KW, ENUM_KW, UNION_KW, MACRO_KW, MACRO_RULES_KW, BUILTIN_KW, GLOBAL_ASM_KW, FN_KW, TRAIT_KW, IMPL_KW, LET_KW, SHEBANG, FRONTMATTER}
 use Rattle.rap_base.specs.NodeKind.{EXTERN_CRATE, MODULE, TYPE_ALIAS, ITEM_LIST, EXTERN_ITEM_LIST, EXTERN_BLOCK}
-use Rattle.rap_events.specs.Machine.{push, top}
 use Rattle.rap_events.specs.Record.{Record, next_kind, kind_at, contextual_at}
 use Rattle.rap_events.specs.Composite.{is_at}
-use Rattle.rap_events.specs.State.{State, next}
-use Rattle.rap_events.specs.declared.parser.Marker.{Marker}
 use Rattle.rap_grammar_scripts.specs.Adt.{strukt, union, enum_}
 use Rattle.rap_grammar_scripts.specs.Attributes.{inner_attrs, outer_attrs}
 use Rattle.rap_grammar_scripts.specs.Blocks.{error_block, error_let_stmt}

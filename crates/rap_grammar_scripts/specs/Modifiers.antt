@@ -1,11 +1,10 @@
 -- What may stand before the keyword of an item.
 -- In the Rust crate: `grammar/items.rs`.
-use Rattle.std.specs.Prelude.{◌≡◌, ℕ, Bool, true, false, List, [], ◌∷◌, drop, ◌==◌, ◌&&◌, ◌||◌, not, codes}
+use Rattle.std.specs.Prelude.{ℕ, Bool, true, false, List, [], ◌∷◌, drop, ◌==◌, ◌&&◌, ◌||◌, not, codes}
 use Rattle.rap_base.specs.TokenKind.{L_PAREN, R_PAREN, L_CURLY, PIPE, CRATE_KW, SUPER_KW, SELF_KW, IN_KW, IMPL_KW, CONST_KW, ASYNC_KW, GEN_KW, MOVE_KW, FN_KW, UNSAFE_KW, SAFE_KW, EXTERN_KW, AUTO_KW, TRAIT_KW, DEFAULT_KW, TYPE_KW}
 use Rattle.rap_base.specs.NodeKind.{IMPL_RESTRICTION}
 use Rattle.rap_events.specs.Record.{Record, kind_at}
 use Rattle.rap_events.specs.Composite.{is_at}
-use Rattle.rap_events.specs.State.{State}
 use Rattle.rap_grammar_scripts.specs.First.{one_of}
 use Rattle.rap_grammar_scripts.specs.Grammar.{abi}
 use Rattle.rap_grammar_scripts.specs.Phrase.{Phrase}

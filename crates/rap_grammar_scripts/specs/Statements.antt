@@ -1,6 +1,6 @@
 -- Statements.
 -- In the Rust crate: `grammar/expressions.rs`.
-use Rattle.std.specs.Prelude.{List, Bool, true, false, ◌&&◌, ◌||◌, codes}
+use Rattle.std.specs.Prelude.{List, Bool, true, false, ◌||◌, codes}
 use Rattle.rap_base.specs.TokenKind.{EOF, R_CURLY, SEMICOLON}
 use Rattle.rap_base.specs.NodeKind.{LET_STMT, EXPR_STMT}
 use Rattle.rap_events.specs.Record.{Record, next_kind}
