@@ -60,7 +60,7 @@ pub front_bracketed : (ks l : List Record) {t output : Forest} → IsPrefixOf br
     IsBracketed ks t → IsWhole t (length ks) output
 front_bracketed ks l i (brackets_around {a = a} {c = c} {ks = js} {t = t} p d) =
     made (a ∷ (js ++ c ∷ [])) l i (rw append_assoc (balanced_way p d [] none l)) (balanced_clean a c d)
-    (used-brackets a c d)
+    (used-brackets p d)
 
 -- a part, whatever follows it
 pub front_part : (p : Part) (ks l : List Record) {t output : Forest} → IsPrefixOf (part_script p) (ks ++ l) output →

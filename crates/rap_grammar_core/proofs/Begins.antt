@@ -149,7 +149,7 @@ pub literal_kind : (r : Record) → IsLiteral r → is_literal_first r.kind ≡ 
 literal_kind r (inl h) = search rules
 literal_kind r (inr h) = let e = h.among in search rules
 
-literal_atom : (k : ℕ) → is_literal_first k ≡ true → is_atom k ≡ true
+pub literal_atom : (k : ℕ) → is_literal_first k ≡ true → is_atom k ≡ true
 literal_atom k h = rw h refl
 
 abbrev pub is_prefix : ℕ → Bool
@@ -299,7 +299,7 @@ contents_first (contents_block_before {js = js} d e m) n =
 abbrev pub before_operand : ℕ → Bool
 before_operand k = one_of (MINUS ∷ BANG ∷ STAR ∷ AMP ∷ MUT_KW ∷ []) k
 
-atom_alone : (k : ℕ) → is_atom k ≡ true → before_operand k ≡ false
+pub atom_alone : (k : ℕ) → is_atom k ≡ true → before_operand k ≡ false
 atom_alone k h =
     rw (
       differ_back is_atom k MINUS h refl,
