@@ -27,12 +27,12 @@ name_ref_mod_path_or_index =
 abbrev pub element_turn : Script Phrase → ℕ → ℕ → List ℕ → (ℕ → Bool) → Bool → Bool → Script Phrase
 element_turn element ket delim missing first a b =
     choose
-    ( (is_at ket, done)
+    ((is_at ket, done)
     ∷ (is_at EOF, done)
     ∷ (is_at delim, start ▸ report missing ▸ token delim ▸ finish ERROR ▸ give (again a b))
-    ∷ [] )
+    ∷ [])
     (after element (λ v.
-     if_some v (optional (λ rs. is_at delim rs || first (next_kind rs)) (expect delim ▸ give (again a b))) done))
+    if_some v (optional (λ rs. is_at delim rs || first (next_kind rs)) (expect delim ▸ give (again a b))) done))
 
 unfoldable pub elements : Script Phrase → ℕ → ℕ → List ℕ → (ℕ → Bool) → Script Phrase
 elements element ket delim missing first = loop (element_turn element ket delim missing first) false false
@@ -88,4 +88,4 @@ unfoldable pub opt_rename : Script Phrase
 opt_rename =
     optional (is_at AS_KW)
     (start ▸ token AS_KW ▸
-        test (is_at UNDERSCORE) (token UNDERSCORE ▸ finish RENAME ▸ done) (call name ▸ finish RENAME ▸ done))
+    test (is_at UNDERSCORE) (token UNDERSCORE ▸ finish RENAME ▸ done) (call name ▸ finish RENAME ▸ done))

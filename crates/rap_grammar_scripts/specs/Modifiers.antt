@@ -35,8 +35,8 @@ unfoldable pub impl_restriction : Script Phrase
 impl_restriction =
     start ▸ token IMPL_KW ▸
     after (opt_visibility_inner false) (λ v.
-        if_some v (finish IMPL_RESTRICTION ▸ done)
-        (report (codes "expected an impl restriction") ▸ finish IMPL_RESTRICTION ▸ done))
+    if_some v (finish IMPL_RESTRICTION ▸ done)
+    (report (codes "expected an impl restriction") ▸ finish IMPL_RESTRICTION ▸ done))
 
 unfoldable pub opt_impl_restriction : Script Phrase
 opt_impl_restriction = only_if is_impl_restriction impl_restriction
@@ -101,10 +101,10 @@ is_default_async rs =
 unfoldable pub opt_default : Script Phrase
 opt_default =
     choose
-    ( (is_default, bear DEFAULT_KW ▸ done)
+    ((is_default, bear DEFAULT_KW ▸ done)
     ∷ (is_default_unsafe, bear DEFAULT_KW ▸ token UNSAFE_KW ▸ done)
     ∷ (is_default_async, bear DEFAULT_KW ▸ token ASYNC_KW ▸ eat UNSAFE_KW ▸ done)
-    ∷ [] )
+    ∷ [])
     (give nothing)
 
 unfoldable pub auto_or_default : Script Phrase
