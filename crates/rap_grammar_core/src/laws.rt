@@ -15,18 +15,15 @@ pub fn one_tree_each()
     ensures contents { HasOneTree Contents }
     ensures expression { HasOneTree Expression }
     ensures type_ { HasOneTree Ty }
-{
-}
+{}
 
 /// A node that is parsed again alone is made by its own tokens, wherever it stands in the tree of something that is
 /// derived, or of a macro call.
 pub fn nodes_are_made_again()
     ensures { MakesItsNodes }
-{
-}
+{}
 
 /// What is derived where no block is an expression is derived with the same tree where blocks are expressions.
 pub fn holds_plain()
     ensures { HoldsPlain }
-{
-}
+{}
