@@ -3,6 +3,7 @@ pub mod Edition
 pub mod Keyword
 pub mod Names
 pub mod NodeKind
+pub mod Numbered
 pub mod TokenKind
 pub mod TokenSet
 pub mod TokenTests

@@ -8,6 +8,7 @@ use std::marker::Model;
 
 mod keywords;
 mod names;
+mod numbers;
 mod token_tests;
 
 /// The kind of a token or a node: its place in the table of kinds. Contracts see that number.

@@ -1,5 +1,5 @@
 //! Sets of token kinds.
-ghost use Rattle.std.specs.Prelude.{◌≡◌, ℕ, ◌||◌, ◌==◌, IsTrue};
+ghost use Rattle.std.specs.Prelude.{◌≡◌, ℕ, ◌||◌, ◌==◌, IsTrue, false};
 ghost use Rattle.std.specs.List.{list_all, list_any};
 ghost use Rattle.rap_base.specs.TokenSet.{member};
 ghost use Rattle.rap_base.specs.TokenTests.{is_token};
@@ -20,6 +20,11 @@ impl TokenSet {
     pub const EMPTY: TokenSet = TokenSet {
         has: [false; KINDS],
     };
+
+    /// The law of the set without kinds: no kind is in it. It does nothing.
+    pub fn empty_has_no_kind()
+        ensures { (kind : ℕ) → member TokenSet.EMPTY kind ≡ false }
+    {}
 
     /// The set of these kinds, which are kinds of tokens.
     pub fn new(kinds: &[SyntaxKind]) -> TokenSet

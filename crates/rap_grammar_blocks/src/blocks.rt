@@ -1,4 +1,5 @@
 //! Blocks, and the `let` statements in them.
+//! In the Rust crate: `grammar/expressions/atom.rs`, `grammar/expressions.rs` and `grammar.rs`.
 ghost use Rattle.std.specs.Prelude.{◌≡◌, ◌≢◌, ◌<◌, ◌≤◌, OnOk, IfOk, true, ◌⊎◌};
 ghost use Rattle.rap_base.specs.NodeKind.{BLOCK_EXPR};
 ghost use Rattle.rap_base.specs.TokenKind.{L_CURLY, ELSE_KW, LET_KW};

@@ -1,4 +1,5 @@
 //! Blocks as expressions, and what stands before their braces.
+//! In the Rust crate: `grammar/expressions/atom.rs`.
 ghost use Rattle.std.specs.Prelude.{◌≡◌, ◌≢◌, ◌<◌, ◌≤◌, IfOk, OnOk, true, ◌⊎◌};
 ghost use Rattle.rap_base.specs.TokenKind.{EOF, L_CURLY, TRY_KW};
 ghost use Rattle.rap_base.specs.NodeKind.{BLOCK_EXPR};

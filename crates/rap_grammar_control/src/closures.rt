@@ -1,4 +1,5 @@
 //! Closures.
+//! In the Rust crate: `grammar/expressions/atom.rs`.
 ghost use Rattle.std.specs.Prelude.{◌≡◌, ◌≢◌, ◌<◌, ◌≤◌, IfOk, OnOk, true, [], ◌∷◌};
 ghost use Rattle.rap_base.specs.TokenKind.{FOR_KW, CONST_KW, STATIC_KW, ASYNC_KW, MOVE_KW, PIPE};
 ghost use Rattle.rap_base.specs.NodeKind.{CLOSURE_EXPR};

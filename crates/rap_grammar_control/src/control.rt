@@ -1,4 +1,5 @@
 //! Conditions, loops and labels.
+//! In the Rust crate: `grammar/expressions/atom.rs`.
 ghost use Rattle.std.specs.Prelude.{◌≡◌, ◌≢◌, ◌<◌, ◌≤◌, IfOk, OnOk, Some};
 ghost use Rattle.rap_base.specs.TokenKind.{IF_KW, LET_KW, LOOP_KW, WHILE_KW, FOR_KW, LIFETIME_IDENT, COLON};
 ghost use Rattle.rap_base.specs.NodeKind.{IF_EXPR, LET_EXPR, LOOP_EXPR, WHILE_EXPR, FOR_EXPR};

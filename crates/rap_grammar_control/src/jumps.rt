@@ -1,4 +1,5 @@
 //! Expressions that leave what they stand in, with a value or without one.
+//! In the Rust crate: `grammar/expressions/atom.rs`.
 ghost use Rattle.std.specs.Prelude.{◌≡◌, ◌≢◌, ◌<◌, ◌≤◌, IfOk, OnOk, true, IsTrue};
 ghost use Rattle.rap_base.specs.TokenKind.{EOF, RETURN_KW, BECOME_KW, YIELD_KW, DO_KW, CONTINUE_KW, BREAK_KW};
 ghost use Rattle.rap_base.specs.NodeKind.{RETURN_EXPR, BECOME_EXPR, YIELD_EXPR, YEET_EXPR, CONTINUE_EXPR, BREAK_EXPR};

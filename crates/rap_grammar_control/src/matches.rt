@@ -1,4 +1,5 @@
 //! `match` and its arms.
+//! In the Rust crate: `grammar/expressions/atom.rs`.
 ghost use Rattle.std.specs.Prelude.{◌≡◌, ◌≢◌, ◌<◌, ◌≤◌, IfOk, OnOk, false, [], ◌∷◌};
 ghost use Rattle.rap_base.specs.TokenKind.{EOF, IF_KW, MATCH_KW, L_CURLY, R_CURLY, EQ};
 ghost use Rattle.rap_base.specs.NodeKind.{MATCH_EXPR, MATCH_ARM_LIST};

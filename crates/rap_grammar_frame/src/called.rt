@@ -1,4 +1,5 @@
 //! Rules that are come back to, as parts of others.
+//! In the Rust crate: `grammar.rs`, and in `grammar/` `expressions.rs`, `generic_params.rs`, `patterns.rs`, `types.rs`.
 ghost use Rattle.std.specs.Prelude.{◌≡◌, ◌≢◌, ◌<◌, ◌≤◌, OnOk, IfOk, true, false, Some, None, ◌∷◌};
 ghost use Rattle.rap_base.specs.TokenKind.{COLON, FOR_KW, IF_KW};
 ghost use Rattle.rap_events.specs.State.{state, next};

@@ -1,4 +1,5 @@
 //! Names that items are given. The set that is asked where a name is missing is made only then.
+//! In the Rust crate: `grammar/items.rs`.
 ghost use Rattle.std.specs.Prelude.{◌≡◌, ℕ, ◌||◌, OnOk};
 ghost use Rattle.rap_base.specs.TokenKind.{IDENT};
 ghost use Rattle.rap_base.specs.TokenSet.{member};

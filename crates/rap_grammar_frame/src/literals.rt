@@ -1,4 +1,5 @@
 //! Literals.
+//! In the Rust crate: `grammar/expressions/atom.rs`.
 ghost use Rattle.std.specs.Prelude.{◌≡◌, ◌≢◌, ◌<◌, ◌≤◌, IfOk, OnOk, true, ◌⊎◌};
 ghost use Rattle.rap_base.specs.NodeKind.{LITERAL};
 ghost use Rattle.rap_events.specs.State.{state, next};

@@ -1,4 +1,5 @@
 //! Names, and what stands as one.
+//! In the Rust crate: `grammar.rs`.
 ghost use Rattle.std.specs.Prelude.{◌≡◌, ◌≢◌, ◌<◌, ◌≤◌, IsTrue, true, OnOk, ℕ, Bool, drop};
 ghost use Rattle.rap_base.specs.TokenKind.{POUND, BUILTIN_KW, EOF, LIFETIME_IDENT, IDENT, EXTERN_KW};
 ghost use Rattle.rap_base.specs.Keyword.{is_any_identifier};

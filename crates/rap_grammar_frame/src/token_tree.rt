@@ -1,4 +1,5 @@
 //! Token trees, and the macro calls that hold them.
+//! In the Rust crate: `grammar/items.rs`.
 ghost use Rattle.std.specs.Prelude.{◌≡◌, ◌∷◌, [], OnOk, true, IfOk};
 ghost use Rattle.rap_base.specs.TokenKind.{R_PAREN, R_BRACK, BANG};
 ghost use Rattle.rap_base.specs.NodeKind.{TOKEN_TREE};

@@ -1,4 +1,5 @@
 //! Functions.
+//! In the Rust crate: `grammar/items.rs`.
 ghost use Rattle.std.specs.Prelude.{◌≡◌, ◌≢◌, ◌<◌, ◌≤◌, IfOk, OnOk, Some, None, true, ◌⊎◌};
 ghost use Rattle.rap_base.specs.TokenKind.{FN_KW, EOF};
 ghost use Rattle.rap_events.specs.State.{state, next};

@@ -1,4 +1,5 @@
 //! Macros, and calls of them in the place of an item.
+//! In the Rust crate: `grammar/items.rs`.
 ghost use Rattle.std.specs.Prelude.{◌≡◌, ◌≢◌, ◌<◌, ◌≤◌, IfOk, OnOk, Some, None, true, ◌⊎◌};
 ghost use Rattle.rap_base.specs.TokenKind.{BANG, MACRO_KW, MACRO_RULES_KW};
 ghost use Rattle.rap_events.specs.State.{state, next, ReadsAs};

@@ -1,4 +1,5 @@
 //! What may stand before the keyword of an item.
+//! In the Rust crate: `grammar/items.rs`.
 ghost use Rattle.std.specs.Prelude.{◌≡◌, ◌≢◌, ◌<◌, ◌≤◌, IfOk, OnOk, IsTrue, true, false, ◌⊎◌, ◌||◌, List, Bool};
 ghost use Rattle.rap_base.specs.TokenKind.{EOF, IMPL_KW, CONST_KW, ASYNC_KW, GEN_KW, UNSAFE_KW, SAFE_KW, AUTO_KW, DEFAULT_KW};
 ghost use Rattle.rap_events.specs.Record.{Record};

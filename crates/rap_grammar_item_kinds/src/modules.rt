@@ -1,4 +1,5 @@
 //! Modules, lists of items, and what is named in one line: a crate and a type.
+//! In the Rust crate: `grammar/items.rs`.
 ghost use Rattle.std.specs.Prelude.{◌≡◌, ◌≢◌, ◌<◌, ◌≤◌, IfOk, OnOk, Some, None, true, false, ◌⊎◌};
 ghost use Rattle.rap_base.specs.NodeKind.{ITEM_LIST, EXTERN_ITEM_LIST};
 ghost use Rattle.rap_base.specs.TokenKind.{EOF, L_CURLY, R_CURLY, CRATE_KW, EXTERN_KW, MOD_KW, TYPE_KW};

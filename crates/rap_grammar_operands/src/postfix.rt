@@ -1,4 +1,5 @@
 //! What follows an operand: calls, indexes, fields and methods, `?`.
+//! In the Rust crate: `grammar/expressions.rs`.
 ghost use Rattle.std.specs.Prelude.{◌≡◌, ◌<◌, ◌≤◌, IfOk, OnOk, true, Some};
 ghost use Rattle.rap_base.specs.TokenKind.{DOT, L_PAREN, L_BRACK, AWAIT_KW, QUESTION};
 ghost use Rattle.rap_base.specs.NodeKind.{CALL_EXPR, INDEX_EXPR, METHOD_CALL_EXPR, AWAIT_EXPR, FIELD_EXPR, TRY_EXPR};

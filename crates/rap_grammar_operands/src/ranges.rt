@@ -1,4 +1,5 @@
 //! Ranges.
+//! In the Rust crate: `grammar/expressions.rs`.
 ghost use Rattle.std.specs.Prelude.{◌≡◌, ◌≢◌, ◌<◌, ◌≤◌, IfOk, false, true, OnOk};
 ghost use Rattle.rap_base.specs.NodeKind.{RANGE_EXPR};
 ghost use Rattle.rap_base.specs.TokenKind.{EOF};

@@ -1,4 +1,5 @@
 //! Record literals.
+//! In the Rust crate: `grammar/expressions.rs`.
 ghost use Rattle.std.specs.Prelude.{◌≡◌, ◌≢◌, ◌<◌, ◌≤◌, OnOk, Some, true, ◌⊎◌};
 ghost use Rattle.rap_base.specs.NodeKind.{RECORD_EXPR_FIELD_LIST};
 ghost use Rattle.rap_base.specs.TokenKind.{EOF, L_CURLY};

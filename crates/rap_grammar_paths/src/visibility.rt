@@ -1,4 +1,5 @@
 //! Who may use an item or a field.
+//! In the Rust crate: `grammar.rs`.
 ghost use Rattle.std.specs.Prelude.{◌≡◌, ◌≢◌, ◌<◌, ◌≤◌, IfOk, OnOk, true, false, ◌⊎◌};
 ghost use Rattle.rap_base.specs.TokenKind.{PUB_KW, L_PAREN, IN_KW};
 ghost use Rattle.rap_events.specs.State.{state, next, At, NthAt};

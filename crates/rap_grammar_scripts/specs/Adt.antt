@@ -1,5 +1,5 @@
 -- Structs, unions and enums.
-use Rattle.std.specs.Prelude.{List, ℕ, Bool, true, false, if◌then◌else◌, ◌==◌, ◌&&◌, ◌||◌, codes}
+use Rattle.std.specs.Prelude.{List, ℕ, Bool, true, false, if◌then◌else◌, ◌==◌, ◌&&◌, ◌||◌, codes, [], ◌∷◌}
 use Rattle.rap_base.specs.TokenKind.{EOF, ERROR, L_CURLY, R_CURLY, L_PAREN, R_PAREN, COMMA, COLON, SEMICOLON, EQ, UNDERSCORE, IDENT, STRUCT_KW, UNION_KW, ENUM_KW, WHERE_KW, MUT_KW, UNSAFE_KW, PUB_KW}
 use Rattle.rap_base.specs.NodeKind.{STRUCT, UNION, ENUM, VARIANT_LIST, VARIANT, RECORD_FIELD_LIST, RECORD_FIELD, TUPLE_FIELD_LIST, TUPLE_FIELD, MUT_RESTRICTION, CONST_ARG}
 use Rattle.rap_events.specs.Record.{Record, next_kind, kind_at}
@@ -13,71 +13,66 @@ use Rattle.rap_grammar_scripts.specs.Phrase.{Phrase}
 use Rattle.rap_grammar_scripts.specs.Recovery.{is_item_recovery}
 use Rattle.rap_grammar_scripts.specs.Script.{Script, Outcome, nothing, give, test, token, bear, report, skip, start, finish, abandon, after, loop, again}
 use Rattle.rap_grammar_scripts.specs.Visibility.{opt_visibility, opt_visibility_inner}
-use Rattle.rap_grammar_scripts.specs.Words.{done, if_some, expect}
+use Rattle.rap_grammar_scripts.specs.Words.{done, if_some, expect, ◌▸◌, call, choose, optional}
 
 -- where a field or a variant is missing: a message, with the next token in an `ERROR` unless the list ends there
 unfoldable pub missing_in_list : List ℕ → Script Phrase
-missing_in_list message = test (is_at R_CURLY) (report message done) (skip message done)
+missing_in_list message = test (is_at R_CURLY) (report message ▸ done) (skip message ▸ done)
 
 -- on to the next one in braces
 unfoldable pub comma_in_braces : Script Phrase
-comma_in_braces = test (is_at R_CURLY) done (expect COMMA done)
+comma_in_braces = test (is_at R_CURLY) done (expect COMMA ▸ done)
 
 -- the value of a field or a variant, if it has one
 unfoldable pub opt_value : Script Phrase
-opt_value = test (is_at EQ) (token EQ (start (after expr (λ v. finish CONST_ARG done)))) done
+opt_value = optional (is_at EQ) (token EQ ▸ start ▸ call expr ▸ finish CONST_ARG ▸ done)
 
 -- who may change a field
 unfoldable pub mut_restriction : Script Phrase
 mut_restriction =
-    start (token MUT_KW (after (opt_visibility_inner false) (λ v. if_some v (finish MUT_RESTRICTION done)
-    (report (codes "expected a mut restriction") (finish MUT_RESTRICTION done)))))
+    start ▸ token MUT_KW ▸
+    after (opt_visibility_inner false) (λ v.
+    if_some v (finish MUT_RESTRICTION ▸ done)
+    (report (codes "expected a mut restriction") ▸ finish MUT_RESTRICTION ▸ done))
 
 abbrev pub starts_mut_restriction : List Record → Bool
 starts_mut_restriction rs = is_at MUT_KW rs && (kind_at rs 1 == L_PAREN)
 
 unfoldable pub opt_mut_restriction : Script Phrase
-opt_mut_restriction = test starts_mut_restriction mut_restriction done
+opt_mut_restriction = optional starts_mut_restriction mut_restriction
 
 -- an `unsafe`, and then it may be said who may change the field
 unfoldable pub opt_unsafe : Script Phrase
-opt_unsafe = test (is_at UNSAFE_KW) (token UNSAFE_KW opt_mut_restriction) done
+opt_unsafe = optional (is_at UNSAFE_KW) (token UNSAFE_KW ▸ opt_mut_restriction)
 
 -- a field from its name on; its node is open
 unfoldable pub named_field : Script Phrase
 named_field =
-    test (is_at IDENT)
-    (after name (λ v. expect COLON (after type_ (λ w. after opt_value (λ x. finish RECORD_FIELD done)))))
-    (abandon (missing_in_list (codes "expected field declaration")))
+    test (is_at IDENT) (call name ▸ expect COLON ▸ call type_ ▸ call opt_value ▸ finish RECORD_FIELD ▸ done)
+    (abandon ▸ missing_in_list (codes "expected field declaration"))
 
 -- the same from what stands before its name on
 unfoldable pub restricted_field : Script Phrase
-restricted_field = after opt_mut_restriction (λ v. after opt_unsafe (λ w. named_field))
+restricted_field = call opt_mut_restriction ▸ call opt_unsafe ▸ named_field
 
 unfoldable pub visible_field : Script Phrase
-visible_field = after (opt_visibility false) (λ v. restricted_field)
+visible_field = call (opt_visibility false) ▸ restricted_field
 
 unfoldable pub record_field : Script Phrase
-record_field = start (after outer_attrs (λ v. visible_field))
+record_field = start ▸ call outer_attrs ▸ visible_field
 
 -- a field, with the comma behind it; or a block in its place
 unfoldable pub field_or_block : Script Phrase
-field_or_block =
-    test (is_at L_CURLY) (error_block (codes "expected field"))
-    (after record_field (λ v. comma_in_braces))
+field_or_block = test (is_at L_CURLY) (error_block (codes "expected field")) (call record_field ▸ comma_in_braces)
 
 abbrev pub field_turn : Bool → Bool → Script Phrase
-field_turn a b =
-    test (is_at R_CURLY) done
-    (test (is_at EOF) done
-    (after field_or_block (λ v. give (again a b))))
+field_turn a b = choose ((is_at R_CURLY, done) ∷ (is_at EOF, done) ∷ []) (call field_or_block ▸ give (again a b))
 
 unfoldable pub record_fields : Script Phrase
 record_fields = loop field_turn false false
 
 unfoldable pub record_field_list : Script Phrase
-record_field_list =
-    start (token L_CURLY (after record_fields (λ v. expect R_CURLY (finish RECORD_FIELD_LIST done))))
+record_field_list = start ▸ token L_CURLY ▸ call record_fields ▸ expect R_CURLY ▸ finish RECORD_FIELD_LIST ▸ done
 
 -- a field without a name, or what stands before it
 abbrev pub is_tuple_field_first : ℕ → Bool
@@ -86,96 +81,95 @@ is_tuple_field_first kind = (is_type_first kind || is_outer_attr_first kind) || 
 -- a field without a name, from its type on; its node is open, and is kept where no type begins but `pub` was taken
 unfoldable pub typed_field : Outcome → Script Phrase
 typed_field has_vis =
-    test (λ rs. is_type_first (next_kind rs)) (after type_ (λ v. finish TUPLE_FIELD done))
-    (report (codes "expected a type") (if_some has_vis (finish ERROR (give nothing)) (abandon (give nothing))))
+    test (λ rs. is_type_first (next_kind rs)) (call type_ ▸ finish TUPLE_FIELD ▸ done)
+    (report (codes "expected a type") ▸ if_some has_vis (finish ERROR ▸ give nothing) (abandon ▸ give nothing))
 
 unfoldable pub restricted_tuple_field : Outcome → Script Phrase
-restricted_tuple_field has_vis = after opt_mut_restriction (λ v. typed_field has_vis)
+restricted_tuple_field has_vis = call opt_mut_restriction ▸ typed_field has_vis
 
 unfoldable pub tuple_field : Script Phrase
-tuple_field = start (after outer_attrs (λ v. after (opt_visibility true) (λ has_vis. restricted_tuple_field has_vis)))
+tuple_field = start ▸ call outer_attrs ▸ after (opt_visibility true) (λ has_vis. restricted_tuple_field has_vis)
 
 unfoldable pub tuple_field_list : Script Phrase
 tuple_field_list =
-    start (after (delimited tuple_field L_PAREN R_PAREN COMMA (codes "expected tuple field") is_tuple_field_first)
-    (λ v. finish TUPLE_FIELD_LIST done))
+    start ▸ call (delimited tuple_field L_PAREN R_PAREN COMMA (codes "expected tuple field") is_tuple_field_first) ▸
+    finish TUPLE_FIELD_LIST ▸ done
 
 -- the fields of a variant
 unfoldable pub variant_fields : Script Phrase
-variant_fields = test (is_at L_CURLY) record_field_list (test (is_at L_PAREN) tuple_field_list done)
+variant_fields = choose ((is_at L_CURLY, record_field_list) ∷ (is_at L_PAREN, tuple_field_list) ∷ []) done
 
 -- what stands behind a variant's name; its node is open
 unfoldable pub after_variant_name : Script Phrase
-after_variant_name = after variant_fields (λ v. after opt_value (λ w. finish VARIANT done))
+after_variant_name = call variant_fields ▸ call opt_value ▸ finish VARIANT ▸ done
 
 -- a variant from its name on; its node is open
 unfoldable pub named_variant : Script Phrase
 named_variant =
-    test (is_at IDENT) (after name (λ v. after_variant_name))
-    (test (is_at UNDERSCORE) (token UNDERSCORE after_variant_name)
-    (abandon (missing_in_list (codes "expected enum variant"))))
+    choose
+    ((is_at IDENT, call name ▸ after_variant_name)
+    ∷ (is_at UNDERSCORE, token UNDERSCORE ▸ after_variant_name)
+    ∷ [])
+    (abandon ▸ missing_in_list (codes "expected enum variant"))
 
 unfoldable pub variant : Script Phrase
-variant = start (after outer_attrs (λ v. named_variant))
+variant = start ▸ call outer_attrs ▸ named_variant
 
 -- a variant, with the comma behind it; or a block in its place
 unfoldable pub variant_or_block : Script Phrase
-variant_or_block =
-    test (is_at L_CURLY) (error_block (codes "expected enum variant"))
-    (after variant (λ v. comma_in_braces))
+variant_or_block = test (is_at L_CURLY) (error_block (codes "expected enum variant")) (call variant ▸ comma_in_braces)
 
 abbrev pub variant_turn : Bool → Bool → Script Phrase
-variant_turn a b =
-    test (is_at EOF) done
-    (test (is_at R_CURLY) done
-    (after variant_or_block (λ v. give (again a b))))
+variant_turn a b = choose ((is_at EOF, done) ∷ (is_at R_CURLY, done) ∷ []) (call variant_or_block ▸ give (again a b))
 
 unfoldable pub variants : Script Phrase
 variants = loop variant_turn false false
 
 unfoldable pub variant_list : Script Phrase
-variant_list = start (token L_CURLY (after variants (λ v. expect R_CURLY (finish VARIANT_LIST done))))
+variant_list = start ▸ token L_CURLY ▸ call variants ▸ expect R_CURLY ▸ finish VARIANT_LIST ▸ done
 
 unfoldable pub enum_ : Script Phrase
 enum_ =
-    token ENUM_KW (after (name_r is_item_recovery) (λ v.
-    after opt_generic_param_list (λ w.
-    after opt_where_clause (λ x.
-    test (is_at L_CURLY) (after variant_list (λ y. finish ENUM done))
-    (report (codes "expected `{`") (finish ENUM done))))))
+    token ENUM_KW ▸ call (name_r is_item_recovery) ▸ call opt_generic_param_list ▸ call opt_where_clause ▸
+    test (is_at L_CURLY) (call variant_list ▸ finish ENUM ▸ done) (report (codes "expected `{`") ▸ finish ENUM ▸ done)
 
 -- fields behind a `where`
 unfoldable pub fields_behind_where : Script Phrase
 fields_behind_where =
-    after opt_where_clause (λ v.
-    test (is_at SEMICOLON) (token SEMICOLON done)
-    (test (is_at L_CURLY) record_field_list
-    (report (codes "expected `;` or `{`") done)))
+    call opt_where_clause ▸
+    choose
+    ((is_at SEMICOLON, token SEMICOLON ▸ done)
+    ∷ (is_at L_CURLY, record_field_list)
+    ∷ [])
+    (report (codes "expected `;` or `{`") ▸ done)
 
 -- fields in parentheses, and what stands behind them
 unfoldable pub tuple_fields : Script Phrase
-tuple_fields = after tuple_field_list (λ v. after opt_where_clause (λ w. expect SEMICOLON done))
+tuple_fields = call tuple_field_list ▸ call opt_where_clause ▸ expect SEMICOLON ▸ done
 
 -- what only a struct may have in place of named fields
 unfoldable pub struct_fields : Script Phrase
 struct_fields =
-    test (is_at SEMICOLON) (token SEMICOLON done)
-    (test (is_at L_PAREN) tuple_fields
-    (report (codes "expected `;`, `{`, or `(`") done))
+    choose
+    ((is_at SEMICOLON, token SEMICOLON ▸ done)
+    ∷ (is_at L_PAREN, tuple_fields)
+    ∷ [])
+    (report (codes "expected `;`, `{`, or `(`") ▸ done)
 
 unfoldable pub fields : Bool → Script Phrase
 fields is_struct =
-    test (is_at WHERE_KW) fields_behind_where
-    (test (is_at L_CURLY) record_field_list
-    (if is_struct then struct_fields else report (codes "expected `{`") done))
+    choose
+    ((is_at WHERE_KW, fields_behind_where)
+    ∷ (is_at L_CURLY, record_field_list)
+    ∷ [])
+    (if is_struct then struct_fields else (report (codes "expected `{`") ▸ done))
 
 -- a struct or a union from its name on
 unfoldable pub struct_or_union : Bool → Script Phrase
-struct_or_union is_struct =
-    after (name_r is_item_recovery) (λ v. after opt_generic_param_list (λ w. fields is_struct))
+struct_or_union is_struct = call (name_r is_item_recovery) ▸ call opt_generic_param_list ▸ fields is_struct
 
 unfoldable pub strukt : Script Phrase
-strukt = token STRUCT_KW (after (struct_or_union true) (λ v. finish STRUCT done))
+strukt = token STRUCT_KW ▸ call (struct_or_union true) ▸ finish STRUCT ▸ done
 
 unfoldable pub union : Script Phrase
-union = bear UNION_KW (after (struct_or_union false) (λ v. finish UNION done))
+union = bear UNION_KW ▸ call (struct_or_union false) ▸ finish UNION ▸ done

@@ -1,5 +1,6 @@
 -- Inline assembly.
-use Rattle.std.specs.Prelude.{Bool, true, false, ◌&&◌, not, if◌then◌else◌, List, drop, Option, Some, None, codes}
+-- In the Rust crate: `grammar/expressions/atom.rs`.
+use Rattle.std.specs.Prelude.{Bool, true, false, ◌&&◌, if◌then◌else◌, List, drop, Option, Some, None, codes, [], ◌∷◌}
 use Rattle.rap_base.specs.Keyword.{is_any_identifier}
 use Rattle.rap_base.specs.TokenKind.{EOF, L_PAREN, R_PAREN, L_CURLY, R_CURLY, COMMA, EQ, FAT_ARROW, STRING, CONST_KW, IN_KW, OUT_KW, LATEOUT_KW, INOUT_KW, INLATEOUT_KW, LABEL_KW, SYM_KW, CLOBBER_ABI_KW, OPTIONS_KW, PURE_KW, NOMEM_KW, READONLY_KW, PRESERVES_FLAGS_KW, NORETURN_KW, NOSTACK_KW, MAY_UNWIND_KW, ATT_SYNTAX_KW, RAW_KW}
 use Rattle.rap_base.specs.NodeKind.{ASM_EXPR, ASM_CLOBBER_ABI, ASM_OPTIONS, ASM_OPTION, ASM_DIR_SPEC, ASM_OPERAND_EXPR, ASM_REG_OPERAND, ASM_OPERAND_NAMED, ASM_LABEL, ASM_CONST, ASM_SYM, ASM_REG_SPEC}
@@ -13,75 +14,87 @@ use Rattle.rap_grammar_scripts.specs.First.{is_path_name}
 use Rattle.rap_grammar_scripts.specs.Grammar.{name_any_identifier, name_ref_mod_path}
 use Rattle.rap_grammar_scripts.specs.Paths.{type_path}
 use Rattle.rap_grammar_scripts.specs.Phrase.{Phrase}
-use Rattle.rap_grammar_scripts.specs.Script.{Script, Outcome, nothing, something, block, give, test, token, any, bear, report, skip, start, finish, abandon, after, loop, again}
-use Rattle.rap_grammar_scripts.specs.Words.{done, if_some, reads_as, eat, expect}
+use Rattle.rap_grammar_scripts.specs.Script.{Script, Outcome, nothing, something, block, give, test, token, bear, report, skip, start, finish, abandon, after, loop, again}
+use Rattle.rap_grammar_scripts.specs.Words.{done, if_some, reads_as, expect, ◌▸◌, call, choose, only_if}
 
 -- a line of the assembly
 unfoldable pub asm_template : Script Phrase
-asm_template = after expr (λ v. if_some v done (skip (codes "expected asm template") done))
+asm_template = after expr (λ v. if_some v done (skip (codes "expected asm template") ▸ done))
 
 -- where an operand lies: a register's name or its class, or a string
 unfoldable pub reg_spec : Script Phrase
 reg_spec =
-    test (λ rs. is_path_name (next_kind rs))
-    (start (after name_ref_mod_path (λ v. finish ASM_REG_SPEC done)))
-    (test (is_at STRING) (start (token STRING (finish ASM_REG_SPEC done))) (skip (codes "expected register name") done))
+    choose
+    ((λ rs. is_path_name (next_kind rs), start ▸ call name_ref_mod_path ▸ finish ASM_REG_SPEC ▸ done)
+    ∷ (is_at STRING, start ▸ token STRING ▸ finish ASM_REG_SPEC ▸ done)
+    ∷ [])
+    (skip (codes "expected register name") ▸ done)
 
 unfoldable pub parse_reg : Script Phrase
-parse_reg = expect L_PAREN (after reg_spec (λ v. expect R_PAREN done))
+parse_reg = expect L_PAREN ▸ call reg_spec ▸ expect R_PAREN ▸ done
 
 -- the names of ABIs; the list ends where none follows
 abbrev pub clobber_turn : Bool → Bool → Script Phrase
 clobber_turn a b =
-    test (is_at EOF) done
-    (test (is_at R_PAREN) (token R_PAREN done)
-    (test (is_at STRING)
-    (token STRING (test (is_at R_PAREN) (token R_PAREN done) (expect COMMA (give (again a b)))))
-    (report (expected STRING) done)))
+    choose
+    ((is_at EOF, done)
+    ∷ (is_at R_PAREN, token R_PAREN ▸ done)
+    ∷ (is_at STRING, token STRING ▸ test (is_at R_PAREN) (token R_PAREN ▸ done) (expect COMMA ▸ give (again a b)))
+    ∷ [])
+    (report (expected STRING) ▸ done)
 
 unfoldable pub clobber_abis : Script Phrase
 clobber_abis = loop clobber_turn false false
 
 unfoldable pub parse_clobber_abi : Script Phrase
-parse_clobber_abi = expect L_PAREN clobber_abis
+parse_clobber_abi = expect L_PAREN ▸ clobber_abis
 
 -- the name of an option
 unfoldable pub flow_option : Script Phrase
 flow_option =
-    test (reads_as NORETURN_KW) (bear NORETURN_KW done)
-    (test (reads_as NOSTACK_KW) (bear NOSTACK_KW done)
-    (test (reads_as MAY_UNWIND_KW) (bear MAY_UNWIND_KW done)
-    (test (reads_as ATT_SYNTAX_KW) (bear ATT_SYNTAX_KW done)
-    (test (reads_as RAW_KW) (bear RAW_KW done) (give nothing)))))
+    choose
+    ((reads_as NORETURN_KW, bear NORETURN_KW ▸ done)
+    ∷ (reads_as NOSTACK_KW, bear NOSTACK_KW ▸ done)
+    ∷ (reads_as MAY_UNWIND_KW, bear MAY_UNWIND_KW ▸ done)
+    ∷ (reads_as ATT_SYNTAX_KW, bear ATT_SYNTAX_KW ▸ done)
+    ∷ (reads_as RAW_KW, bear RAW_KW ▸ done)
+    ∷ [])
+    (give nothing)
 
 unfoldable pub option_name : Script Phrase
 option_name =
-    test (reads_as PURE_KW) (bear PURE_KW done)
-    (test (reads_as NOMEM_KW) (bear NOMEM_KW done)
-    (test (reads_as READONLY_KW) (bear READONLY_KW done)
-    (test (reads_as PRESERVES_FLAGS_KW) (bear PRESERVES_FLAGS_KW done) flow_option)))
+    choose
+    ((reads_as PURE_KW, bear PURE_KW ▸ done)
+    ∷ (reads_as NOMEM_KW, bear NOMEM_KW ▸ done)
+    ∷ (reads_as READONLY_KW, bear READONLY_KW ▸ done)
+    ∷ (reads_as PRESERVES_FLAGS_KW, bear PRESERVES_FLAGS_KW ▸ done)
+    ∷ [])
+    flow_option
 
 -- options; what is none is passed over
 abbrev pub options_turn : Bool → Bool → Script Phrase
 options_turn a b =
-    test (is_at EOF) done
-    (test (is_at R_PAREN) (token R_PAREN done)
-    (start (after option_name (λ v. if_some v
-    (finish ASM_OPTION (test (is_at R_PAREN) (token R_PAREN done) (expect COMMA (give (again a b)))))
-    (skip (codes "expected asm option") (abandon (give (again a b))))))))
+    choose
+    ((is_at EOF, done)
+    ∷ (is_at R_PAREN, token R_PAREN ▸ done)
+    ∷ [])
+    (start ▸
+    after option_name (λ v.
+    if_some v (finish ASM_OPTION ▸ test (is_at R_PAREN) (token R_PAREN ▸ done) (expect COMMA ▸ give (again a b)))
+    (skip (codes "expected asm option") ▸ abandon ▸ give (again a b))))
 
 unfoldable pub asm_options : Script Phrase
 asm_options = loop options_turn false false
 
 unfoldable pub parse_options : Script Phrase
-parse_options = expect L_PAREN asm_options
+parse_options = expect L_PAREN ▸ asm_options
 
 -- the name of an operand and its `=` come next; the name may be a keyword
 abbrev pub starts_operand_name : List Record → Bool
 starts_operand_name rs = is_any_identifier (next_kind rs) && is_at EQ (drop 1 rs)
 
 unfoldable pub operand_name : Script Phrase
-operand_name = test starts_operand_name (after name_any_identifier (λ v. token EQ done)) (give nothing)
+operand_name = only_if starts_operand_name (call name_any_identifier ▸ token EQ ▸ done)
 
 -- which way a register's value goes: in or out, or both
 abbrev pub of_way : Option Bool → Outcome
@@ -91,51 +104,57 @@ of_way (Some false) = something
 
 unfoldable pub dir_spec : Script Phrase
 dir_spec =
-    start (test (is_at IN_KW) (token IN_KW (finish ASM_DIR_SPEC (give something)))
-    (test (reads_as OUT_KW) (bear OUT_KW (finish ASM_DIR_SPEC (give something)))
-    (test (reads_as LATEOUT_KW) (bear LATEOUT_KW (finish ASM_DIR_SPEC (give something)))
-    (test (reads_as INOUT_KW) (bear INOUT_KW (finish ASM_DIR_SPEC (give block)))
-    (test (reads_as INLATEOUT_KW) (bear INLATEOUT_KW (finish ASM_DIR_SPEC (give block)))
-    (abandon (give nothing)))))))
+    start ▸
+    choose
+    ((is_at IN_KW, token IN_KW ▸ finish ASM_DIR_SPEC ▸ give something)
+    ∷ (reads_as OUT_KW, bear OUT_KW ▸ finish ASM_DIR_SPEC ▸ give something)
+    ∷ (reads_as LATEOUT_KW, bear LATEOUT_KW ▸ finish ASM_DIR_SPEC ▸ give something)
+    ∷ (reads_as INOUT_KW, bear INOUT_KW ▸ finish ASM_DIR_SPEC ▸ give block)
+    ∷ (reads_as INLATEOUT_KW, bear INLATEOUT_KW ▸ finish ASM_DIR_SPEC ▸ give block)
+    ∷ [])
+    (abandon ▸ give nothing)
 
 -- a register and what is in it; where the value goes both ways, another place may be named for the way out
 unfoldable pub reg_operand : Bool → Script Phrase
 reg_operand both =
-    after parse_reg (λ v. start (after expr (λ w.
-    if both then test (is_at FAT_ARROW) (token FAT_ARROW (after expr (λ x. finish ASM_OPERAND_EXPR done))) (finish ASM_OPERAND_EXPR done)
-    else finish ASM_OPERAND_EXPR done)))
+    call parse_reg ▸ start ▸ call expr ▸
+    (if both then
+    test (is_at FAT_ARROW) (token FAT_ARROW ▸ call expr ▸ finish ASM_OPERAND_EXPR ▸ done)
+    (finish ASM_OPERAND_EXPR ▸ done)
+    else (finish ASM_OPERAND_EXPR ▸ done))
 
 -- a path, which may stand in parentheses
 unfoldable pub asm_sym : Script Phrase
-asm_sym =
-    test (is_at L_PAREN) (token L_PAREN (after type_path (λ v. expect R_PAREN done))) (after type_path (λ v. done))
+asm_sym = test (is_at L_PAREN) (token L_PAREN ▸ call type_path ▸ expect R_PAREN ▸ done) (call type_path ▸ done)
 
 abbrev pub by_way : Outcome → Script Phrase → Script Phrase
 by_way nothing s = s
-by_way something s = after (reg_operand false) (λ v. finish ASM_REG_OPERAND done)
-by_way block s = after (reg_operand true) (λ v. finish ASM_REG_OPERAND done)
+by_way something s = call (reg_operand false) ▸ finish ASM_REG_OPERAND ▸ done
+by_way block s = call (reg_operand true) ▸ finish ASM_REG_OPERAND ▸ done
 by_way (again a b) s = s
 
 -- an operand without its name, if one comes next
 unfoldable pub asm_operand : Script Phrase
 asm_operand =
-    start (after dir_spec (λ way. by_way way
+    start ▸
+    after dir_spec (λ way.
+    by_way way
     (test (reads_as LABEL_KW) (bear LABEL_KW (after block_expr (λ v. finish ASM_LABEL done)))
     (test (is_at CONST_KW) (token CONST_KW (after expr (λ v. finish ASM_CONST done)))
     (test (reads_as SYM_KW) (bear SYM_KW (after asm_sym (λ v. finish ASM_SYM done)))
-    (abandon (give nothing)))))))
+    (abandon (give nothing))))))
 
 -- what stands in the place of an operand
 unfoldable pub missing_operand : Script Phrase
 missing_operand =
-    test (is_at L_CURLY) (report (codes "expected asm operand") (after expr (λ v. done)))
-    (skip (codes "expected asm operand") done)
+    test (is_at L_CURLY) (report (codes "expected asm operand") ▸ call expr ▸ done)
+    (skip (codes "expected asm operand") ▸ done)
 
 -- no operand comes next: a template, where one may still follow, and else a message
 unfoldable pub no_operand : Bool → Script Phrase
 no_operand allow_templates =
-    if allow_templates then after asm_template (λ v. give (again true false))
-    else after missing_operand (λ v. test (is_at R_CURLY) done (give (again false false)))
+    if allow_templates then call asm_template ▸ give (again true false)
+    else (call missing_operand ▸ test (is_at R_CURLY) done (give (again false false)))
 
 -- whether templates may follow a name
 abbrev pub templates_after : Bool → Outcome → Bool
@@ -147,17 +166,23 @@ templates_after allow_templates (again a b) = false
 -- an operand with its name, or what stands in its place, from its node on
 unfoldable pub named_operand : Bool → Script Phrase
 named_operand allow_templates =
-    after operand_name (λ named. after asm_operand (λ v. if_some v
-    (finish ASM_OPERAND_NAMED (give (again false false)))
-    (abandon (no_operand (templates_after allow_templates named)))))
+    after operand_name (λ named.
+    after asm_operand (λ v.
+    if_some v (finish ASM_OPERAND_NAMED ▸ give (again false false))
+    (abandon ▸ no_operand (templates_after allow_templates named))))
 
 -- what stands behind a comma: the ABIs whose registers are lost, options, an operand, or a template
 unfoldable pub asm_piece : Bool → Script Phrase
 asm_piece allow_templates =
-    start (after outer_attrs (λ v.
-    test (reads_as CLOBBER_ABI_KW) (bear CLOBBER_ABI_KW (after parse_clobber_abi (λ w. finish ASM_CLOBBER_ABI (give (again false false)))))
-    (test (reads_as OPTIONS_KW) (bear OPTIONS_KW (after parse_options (λ w. finish ASM_OPTIONS (give (again false false)))))
-    (named_operand allow_templates))))
+    start ▸ call outer_attrs ▸
+    choose
+    ((
+      reads_as CLOBBER_ABI_KW,
+      bear CLOBBER_ABI_KW ▸ call parse_clobber_abi ▸ finish ASM_CLOBBER_ABI ▸ give (again false false),
+    )
+    ∷ (reads_as OPTIONS_KW, bear OPTIONS_KW ▸ call parse_options ▸ finish ASM_OPTIONS ▸ give (again false false))
+    ∷ [])
+    (named_operand allow_templates)
 
 -- the next turn, if templates may follow or not, or the end
 abbrev pub of_allow : Option Bool → Outcome
@@ -166,13 +191,15 @@ of_allow (Some allow_templates) = again allow_templates false
 
 abbrev pub pieces_turn : Bool → Bool → Script Phrase
 pieces_turn allow_templates b =
-    test (is_at EOF) done
-    (test (is_at R_PAREN) done
-    (expect COMMA (test (is_at R_PAREN) done (asm_piece allow_templates))))
+    choose
+    ((is_at EOF, done)
+    ∷ (is_at R_PAREN, done)
+    ∷ [])
+    (expect COMMA ▸ test (is_at R_PAREN) done (asm_piece allow_templates))
 
 unfoldable pub asm_pieces : Script Phrase
 asm_pieces = loop pieces_turn true false
 
 -- inline assembly, behind its name
 unfoldable pub parse_asm_expr : Script Phrase
-parse_asm_expr = expect L_PAREN (after asm_template (λ v. after asm_pieces (λ w. expect R_PAREN (finish ASM_EXPR done))))
+parse_asm_expr = expect L_PAREN ▸ call asm_template ▸ call asm_pieces ▸ expect R_PAREN ▸ finish ASM_EXPR ▸ done

@@ -17,11 +17,11 @@ use Rattle.rap_grammar_scripts.specs.Phrase.{Phrase}
 use Rattle.rap_grammar_scripts.specs.Records.{record_expr_field_list}
 use Rattle.rap_grammar_scripts.specs.Script.{Script, Outcome, nothing, something, block, give, test, token, any, bear, report, skip, start, precede, finish, after, loop, again}
 use Rattle.rap_grammar_scripts.specs.TokenTree.{starts_macro_call, macro_call_after_excl}
-use Rattle.rap_grammar_scripts.specs.Words.{done, if_some, next_is, reads_as, starts_builtin, eat, eat_as, expect, of_bool}
+use Rattle.rap_grammar_scripts.specs.Words.{done, if_some, next_is, reads_as, starts_builtin, eat, eat_as, expect, of_bool, ◌▸◌, call, choose, optional, only_if}
 use Rattle.rap_grammar_scripts.specs.declared.arguments.Restrictions.{Restrictions}
 
 unfoldable pub literal : Script Phrase
-literal = test (λ rs. is_literal_first (next_kind rs)) (start (any (finish LITERAL done))) (give nothing)
+literal = only_if (λ rs. is_literal_first (next_kind rs)) (start ▸ any ▸ finish LITERAL ▸ done)
 
 -- the fields of a record come next, where a record literal may stand
 abbrev pub starts_record : Bool → List Record → Bool
@@ -30,19 +30,26 @@ starts_record forbid_structs rs = not forbid_structs && is_at L_CURLY rs
 -- a path, a record literal or a macro call; a macro call reads like a block as its brackets say
 unfoldable pub path_expr : Restrictions → Script Phrase
 path_expr r =
-    start (after expr_path (λ v.
-    test (starts_record r.forbid_structs) (after record_expr_field_list (λ w. finish RECORD_EXPR done))
-    (test starts_macro_call (after macro_call_after_excl (λ w. finish MACRO_CALL (precede (finish MACRO_EXPR (give w)))))
-    (finish PATH_EXPR done))))
+    start ▸ call expr_path ▸
+    choose
+    ((starts_record r.forbid_structs, call record_expr_field_list ▸ finish RECORD_EXPR ▸ done)
+    ∷ (
+      starts_macro_call,
+      after macro_call_after_excl (λ w. finish MACRO_CALL ▸ precede ▸ finish MACRO_EXPR ▸ give w),
+    )
+    ∷ [])
+    (finish PATH_EXPR ▸ done)
 
 abbrev pub tuple_turn : Bool → Bool → Script Phrase
 tuple_turn comma seen =
-    test (is_at EOF) (give (of_bool (seen && not comma)))
-    (test (is_at R_PAREN) (give (of_bool (seen && not comma)))
-    (test (is_at COMMA) (report (codes "expected expression") (token COMMA (give (again true seen))))
-    (after expr (λ v. if_some v
-    (test (is_at R_PAREN) (give (again comma true)) (expect COMMA (give (again true true))))
-    (give (of_bool (not comma)))))))
+    choose
+    ((is_at EOF, give (of_bool (seen && not comma)))
+    ∷ (is_at R_PAREN, give (of_bool (seen && not comma)))
+    ∷ (is_at COMMA, report (codes "expected expression") ▸ token COMMA ▸ give (again true seen))
+    ∷ [])
+    (after expr (λ v.
+    if_some v (test (is_at R_PAREN) (give (again comma true)) (expect COMMA ▸ give (again true true)))
+    (give (of_bool (not comma)))))
 
 -- what stands in parentheses: something where it is one expression and no comma
 unfoldable pub tuple_elements : Script Phrase
@@ -55,7 +62,7 @@ tuple_kind block = PAREN_EXPR
 tuple_kind (again a b) = PAREN_EXPR
 
 unfoldable pub tuple_expr : Script Phrase
-tuple_expr = start (token L_PAREN (after tuple_elements (λ v. expect R_PAREN (finish (tuple_kind v) done))))
+tuple_expr = start ▸ token L_PAREN ▸ after tuple_elements (λ v. expect R_PAREN ▸ finish (tuple_kind v) ▸ done)
 
 -- the next turn, if there was or was no semicolon, or the end
 abbrev pub of_semi : Option Bool → Outcome
@@ -65,29 +72,34 @@ of_semi (Some semi) = again false semi
 -- what stands behind an element of an array
 unfoldable pub after_element : Bool → Bool → Script Phrase
 after_element first semi =
-    test (λ rs. first && is_at SEMICOLON rs) (token SEMICOLON (give (again false true)))
+    test (λ rs. first && is_at SEMICOLON rs) (token SEMICOLON ▸ give (again false true))
     (if semi then done
-    else test (is_at R_BRACK) (give (again false false))
-    (test (is_at COMMA) (token COMMA (give (again false false))) (report (expected COMMA) done)))
+    else choose
+    ((is_at R_BRACK, give (again false false))
+    ∷ (is_at COMMA, token COMMA ▸ give (again false false))
+    ∷ [])
+    (report (expected COMMA) ▸ done))
 
 abbrev pub array_turn : Bool → Bool → Script Phrase
 array_turn first semi =
-    test (is_at EOF) done
-    (test (is_at R_BRACK) done
-    (after expr (λ v. if_some v (after_element first semi) done)))
+    choose
+    ((is_at EOF, done)
+    ∷ (is_at R_BRACK, done)
+    ∷ [])
+    (after expr (λ v. if_some v (after_element first semi) done))
 
 -- what stands in the brackets of an array; a semicolon after the first element ends it after the second
 unfoldable pub array_elements : Script Phrase
 array_elements = loop array_turn true false
 
 unfoldable pub array_expr : Script Phrase
-array_expr = start (token L_BRACK (after array_elements (λ v. expect R_BRACK (finish ARRAY_EXPR done))))
+array_expr = start ▸ token L_BRACK ▸ call array_elements ▸ expect R_BRACK ▸ finish ARRAY_EXPR ▸ done
 
 unfoldable pub underscore_expr : Script Phrase
-underscore_expr = start (token UNDERSCORE (finish UNDERSCORE_EXPR done))
+underscore_expr = start ▸ token UNDERSCORE ▸ finish UNDERSCORE_EXPR ▸ done
 
 unfoldable pub plain_block : Script Phrase
-plain_block = start (after stmt_list (λ v. finish BLOCK_EXPR done))
+plain_block = start ▸ call stmt_list ▸ finish BLOCK_EXPR ▸ done
 
 -- an operand follows: an expression begins and, where a block follows, it is no block
 abbrev pub has_operand : Bool → List Record → Bool
@@ -95,42 +107,42 @@ has_operand before_block rs = is_expr_first (next_kind rs) && not (before_block 
 
 -- an operand that may be missing
 unfoldable pub opt_expr : Bool → Script Phrase
-opt_expr before_block = test (has_operand before_block) (after expr (λ v. done)) done
+opt_expr before_block = optional (has_operand before_block) (call expr ▸ done)
 
 -- a label that is gone to, if there is one
 unfoldable pub opt_lifetime : Script Phrase
-opt_lifetime = test (is_at LIFETIME_IDENT) lifetime done
+opt_lifetime = optional (is_at LIFETIME_IDENT) lifetime
 
 unfoldable pub return_expr : Script Phrase
-return_expr = start (token RETURN_KW (after (opt_expr false) (λ v. finish RETURN_EXPR done)))
+return_expr = start ▸ token RETURN_KW ▸ call (opt_expr false) ▸ finish RETURN_EXPR ▸ done
 
 unfoldable pub become_expr : Script Phrase
-become_expr = start (token BECOME_KW (after expr (λ v. finish BECOME_EXPR done)))
+become_expr = start ▸ token BECOME_KW ▸ call expr ▸ finish BECOME_EXPR ▸ done
 
 unfoldable pub yield_expr : Script Phrase
-yield_expr = start (token YIELD_KW (after (opt_expr false) (λ v. finish YIELD_EXPR done)))
+yield_expr = start ▸ token YIELD_KW ▸ call (opt_expr false) ▸ finish YIELD_EXPR ▸ done
 
 unfoldable pub yeet_expr : Script Phrase
-yeet_expr = start (token DO_KW (eat_as YEET_KW (after (opt_expr false) (λ v. finish YEET_EXPR done))))
+yeet_expr = start ▸ token DO_KW ▸ eat_as YEET_KW ▸ call (opt_expr false) ▸ finish YEET_EXPR ▸ done
 
 unfoldable pub continue_expr : Script Phrase
-continue_expr = start (token CONTINUE_KW (after opt_lifetime (λ v. finish CONTINUE_EXPR done)))
+continue_expr = start ▸ token CONTINUE_KW ▸ call opt_lifetime ▸ finish CONTINUE_EXPR ▸ done
 
 unfoldable pub break_expr : Restrictions → Script Phrase
-break_expr r = start (token BREAK_KW (after opt_lifetime (λ v. after (opt_expr r.forbid_structs) (λ w. finish BREAK_EXPR done))))
+break_expr r = start ▸ token BREAK_KW ▸ call opt_lifetime ▸ call (opt_expr r.forbid_structs) ▸ finish BREAK_EXPR ▸ done
 
 -- `try`, and the type of the block behind it
 unfoldable pub try_modifier : Script Phrase
 try_modifier =
-    start (token TRY_KW
-    (test (reads_as BIKESHED_KW) (bear BIKESHED_KW (after type_ (λ v. finish TRY_BLOCK_MODIFIER done)))
-    (finish TRY_BLOCK_MODIFIER done)))
+    start ▸ token TRY_KW ▸
+    test (reads_as BIKESHED_KW) (bear BIKESHED_KW ▸ call type_ ▸ finish TRY_BLOCK_MODIFIER ▸ done)
+    (finish TRY_BLOCK_MODIFIER ▸ done)
 
 unfoldable pub try_block_expr : Script Phrase
 try_block_expr =
-    start (after try_modifier (λ v.
-    test (is_at L_CURLY) (after stmt_list (λ w. finish BLOCK_EXPR done))
-    (report (codes "expected a block") (finish BLOCK_EXPR done))))
+    start ▸ call try_modifier ▸
+    test (is_at L_CURLY) (call stmt_list ▸ finish BLOCK_EXPR ▸ done)
+    (report (codes "expected a block") ▸ finish BLOCK_EXPR ▸ done)
 
 -- A block comes next, with what it is before its brace: `const`, `unsafe`, `async` or `gen`; and with `move` after
 -- `async`, `gen` and `async gen`.
@@ -143,19 +155,21 @@ starts_effect_block rs =
 
 -- what stands before the brace of such a block
 unfoldable pub effects : Script Phrase
-effects = any (eat GEN_KW (eat MOVE_KW done))
+effects = any ▸ eat GEN_KW ▸ eat MOVE_KW ▸ done
 
 unfoldable pub effect_block : Script Phrase
-effect_block = start (after effects (λ v. after stmt_list (λ w. finish BLOCK_EXPR done)))
+effect_block = start ▸ call effects ▸ call stmt_list ▸ finish BLOCK_EXPR ▸ done
 
 -- a block with an effect, a closure, a `try` block or a `for` loop
 unfoldable pub effect_expr : Script Phrase
 effect_expr =
-    test starts_effect_block (after effect_block (λ v. give block))
-    (test starts_closure closure_expr
-    (test (next_is TRY_KW) (after try_block_expr (λ v. give block))
-    (test (next_is FOR_KW) (after for_expr (λ v. give block))
-    (skip (codes "expected expression") (give nothing)))))
+    choose
+    ((starts_effect_block, call effect_block ▸ give block)
+    ∷ (starts_closure, closure_expr)
+    ∷ (next_is TRY_KW, call try_block_expr ▸ give block)
+    ∷ (next_is FOR_KW, call for_expr ▸ give block)
+    ∷ [])
+    (skip (codes "expected expression") ▸ give nothing)
 
 -- `do yeet` comes next
 abbrev pub starts_yeet : List Record → Bool
@@ -164,13 +178,15 @@ starts_yeet rs = (next_kind rs == DO_KW) && (contextual_at rs 1 == YEET_KW)
 -- a jump, or what follows in this list
 unfoldable pub jump_expr : Restrictions → Script Phrase
 jump_expr r =
-    test starts_yeet yeet_expr
-    (test (next_is RETURN_KW) return_expr
-    (test (next_is BECOME_KW) become_expr
-    (test (next_is YIELD_KW) yield_expr
-    (test (next_is CONTINUE_KW) continue_expr
-    (test (next_is BREAK_KW) (break_expr r)
-    effect_expr)))))
+    choose
+    ((starts_yeet, yeet_expr)
+    ∷ (next_is RETURN_KW, return_expr)
+    ∷ (next_is BECOME_KW, become_expr)
+    ∷ (next_is YIELD_KW, yield_expr)
+    ∷ (next_is CONTINUE_KW, continue_expr)
+    ∷ (next_is BREAK_KW, break_expr r)
+    ∷ [])
+    effect_expr
 
 -- a label with its colon comes next
 abbrev pub starts_label : List Record → Bool
@@ -179,25 +195,28 @@ starts_label rs = (next_kind rs == LIFETIME_IDENT) && is_at COLON (drop 1 rs)
 -- a condition, a loop or a `match`, or what follows in this list
 unfoldable pub control_expr : Restrictions → Script Phrase
 control_expr r =
-    test starts_label labelled_expr
-    (test (next_is IF_KW) (after if_expr (λ v. give block))
-    (test (next_is LOOP_KW) (after loop_expr (λ v. give block))
-    (test (next_is WHILE_KW) (after while_expr (λ v. give block))
-    (test (next_is MATCH_KW) (after match_expr (λ v. give block))
-    (jump_expr r)))))
+    choose
+    ((starts_label, labelled_expr)
+    ∷ (next_is IF_KW, call if_expr ▸ give block)
+    ∷ (next_is LOOP_KW, call loop_expr ▸ give block)
+    ∷ (next_is WHILE_KW, call while_expr ▸ give block)
+    ∷ (next_is MATCH_KW, call match_expr ▸ give block)
+    ∷ [])
+    (jump_expr r)
 
 -- one in brackets, `_` or a `let`, or what follows in this list
 unfoldable pub bracketed_expr : Restrictions → Script Phrase
 bracketed_expr r =
-    test (next_is L_PAREN) tuple_expr
-    (test (next_is L_BRACK) array_expr
-    (test (next_is L_CURLY) (after plain_block (λ v. give block))
-    (test (next_is UNDERSCORE) underscore_expr
-    (test (next_is LET_KW) (let_expr r)
-    (control_expr r)))))
+    choose
+    ((next_is L_PAREN, tuple_expr)
+    ∷ (next_is L_BRACK, array_expr)
+    ∷ (next_is L_CURLY, call plain_block ▸ give block)
+    ∷ (next_is UNDERSCORE, underscore_expr)
+    ∷ (next_is LET_KW, let_expr r)
+    ∷ [])
+    (control_expr r)
 
 unfoldable pub atom_expr : Restrictions → Script Phrase
-atom_expr r = after literal (λ v. if_some v done
-    (test starts_builtin builtin_expr
-    (test starts_path (path_expr r)
-    (bracketed_expr r))))
+atom_expr r =
+    after literal (λ v.
+    if_some v done (choose ((starts_builtin, builtin_expr) ∷ (starts_path, path_expr r) ∷ []) (bracketed_expr r)))

@@ -11,8 +11,8 @@ use Rattle.rap_grammar_scripts.specs.Grammar.{delimited}
 use Rattle.rap_grammar_scripts.specs.TokenTree.{bracketed_tokens}
 use Rattle.rap_grammar_scripts.specs.Paths.{attr_path}
 use Rattle.rap_grammar_scripts.specs.Phrase.{Phrase, meta_item}
-use Rattle.rap_grammar_scripts.specs.Script.{Script, give, test, token, any, bear, report, skip, start, finish, after, rule, loop, again}
-use Rattle.rap_grammar_scripts.specs.Words.{done, if_some, reads_as, eat, expect}
+use Rattle.rap_grammar_scripts.specs.Script.{Script, give, test, token, any, bear, report, skip, start, finish, after, loop, again}
+use Rattle.rap_grammar_scripts.specs.Words.{done, if_some, reads_as, eat, expect, ◌▸◌, call, recur, choose, optional}
 
 -- an attribute of what it stands in comes next
 abbrev pub starts_inner_attr : List Record → Bool
@@ -29,7 +29,7 @@ starts_value rs = is_at EQ rs && (not (is_at FAT_ARROW rs) && not (is_at EQ2 rs)
 
 -- what stands behind the `=` of a condition
 unfoldable pub cfg_value : Script Phrase
-cfg_value = test (is_at IDENT) (skip (codes "expected a string literal") done) (expect STRING done)
+cfg_value = test (is_at IDENT) (skip (codes "expected a string literal") ▸ done) (expect STRING ▸ done)
 
 -- the conditions in the brackets of another
 abbrev pub cfg_operands : Script Phrase
@@ -39,23 +39,27 @@ cfg_operands =
 -- a condition
 unfoldable pub cfg_predicate : Script Phrase
 cfg_predicate =
-    start (test (λ rs. one_of (TRUE_KW ∷ FALSE_KW ∷ []) (next_kind rs)) (any (finish CFG_ATOM done))
-    (expect IDENT
-    (test (is_at EQ) (token EQ (after cfg_value (λ v. finish CFG_ATOM done)))
-    (test (is_at L_PAREN) (after cfg_operands (λ v. finish CFG_COMPOSITE done))
-    (finish CFG_ATOM done)))))
+    start ▸
+    test (λ rs. one_of (TRUE_KW ∷ FALSE_KW ∷ []) (next_kind rs)) (any ▸ finish CFG_ATOM ▸ done)
+    (expect IDENT ▸
+    choose
+    ((is_at EQ, token EQ ▸ call cfg_value ▸ finish CFG_ATOM ▸ done)
+    ∷ (is_at L_PAREN, call cfg_operands ▸ finish CFG_COMPOSITE ▸ done)
+    ∷ [])
+    (finish CFG_ATOM ▸ done))
 
 -- an attribute that holds if a condition does
 unfoldable pub cfg_meta : Script Phrase
 cfg_meta =
-    start (bear CFG_KW (token L_PAREN (after cfg_predicate (λ v. eat COMMA (expect R_PAREN
-    (finish CFG_META done))))))
+    start ▸ bear CFG_KW ▸ token L_PAREN ▸ call cfg_predicate ▸ eat COMMA ▸ expect R_PAREN ▸ finish CFG_META ▸ done
 
 abbrev pub metas_turn : Bool → Bool → Script Phrase
 metas_turn a b =
-    test (is_at R_PAREN) done
-    (test (is_at EOF) done
-    (rule meta_item (λ v. test (is_at COMMA) (token COMMA (give (again a b))) done)))
+    choose
+    ((is_at R_PAREN, done)
+    ∷ (is_at EOF, done)
+    ∷ [])
+    (recur meta_item ▸ optional (is_at COMMA) (token COMMA ▸ give (again a b)))
 
 -- the attributes behind their condition
 unfoldable pub cfg_attr_metas : Script Phrase
@@ -64,23 +68,25 @@ cfg_attr_metas = loop metas_turn false false
 -- attributes under a condition
 unfoldable pub cfg_attr_meta : Script Phrase
 cfg_attr_meta =
-    start (bear CFG_ATTR_KW (token L_PAREN (after cfg_predicate (λ v. expect COMMA
-    (after cfg_attr_metas (λ w. expect R_PAREN (finish CFG_ATTR_META done)))))))
+    start ▸ bear CFG_ATTR_KW ▸ token L_PAREN ▸ call cfg_predicate ▸ expect COMMA ▸ call cfg_attr_metas ▸
+    expect R_PAREN ▸ finish CFG_ATTR_META ▸ done
 
 unfoldable pub unsafe_meta : Script Phrase
-unsafe_meta = start (token UNSAFE_KW (expect L_PAREN (rule meta_item (λ v. expect R_PAREN (finish UNSAFE_META done)))))
+unsafe_meta = start ▸ token UNSAFE_KW ▸ expect L_PAREN ▸ recur meta_item ▸ expect R_PAREN ▸ finish UNSAFE_META ▸ done
 
 -- an attribute's value behind the path
 unfoldable pub attr_value : Script Phrase
-attr_value = token EQ (after expr (λ v. if_some v done (report (codes "expected expression") done)))
+attr_value = token EQ ▸ after expr (λ v. if_some v done (report (codes "expected expression") ▸ done))
 
 -- an attribute by its path, with a value or a list of tokens behind it
 unfoldable pub path_meta : Script Phrase
 path_meta =
-    start (after attr_path (λ v.
-    test starts_value (after attr_value (λ w. finish KEY_VALUE_META done))
-    (test (λ rs. is_bracket (next_kind rs)) (after bracketed_tokens (λ w. finish TOKEN_TREE_META done))
-    (finish PATH_META done))))
+    start ▸ call attr_path ▸
+    choose
+    ((starts_value, call attr_value ▸ finish KEY_VALUE_META ▸ done)
+    ∷ (λ rs. is_bracket (next_kind rs), call bracketed_tokens ▸ finish TOKEN_TREE_META ▸ done)
+    ∷ [])
+    (finish PATH_META ▸ done)
 
 -- an identifier that is read as this keyword comes next, and a `(`
 abbrev pub calls_keyword : ℕ → List Record → Bool
@@ -89,38 +95,39 @@ calls_keyword kind rs = reads_as kind rs && is_at L_PAREN (drop 1 rs)
 -- what stands in the brackets of an attribute
 unfoldable pub meta : Script Phrase
 meta =
-    test (is_at UNSAFE_KW) unsafe_meta
-    (test (calls_keyword CFG_ATTR_KW) cfg_attr_meta
-    (test (calls_keyword CFG_KW) cfg_meta
-    path_meta))
+    choose
+    ((is_at UNSAFE_KW, unsafe_meta)
+    ∷ (calls_keyword CFG_ATTR_KW, cfg_attr_meta)
+    ∷ (calls_keyword CFG_KW, cfg_meta)
+    ∷ [])
+    path_meta
 
 abbrev pub doc_comment : Bool → ℕ
 doc_comment inner = if inner then INNER_DOC_COMMENT else OUTER_DOC_COMMENT
 
 -- the `#` of an attribute, with a `!` where it is an inner one
 unfoldable pub attr_mark : Bool → Script Phrase
-attr_mark inner = token POUND (if inner then token BANG done else done)
+attr_mark inner = token POUND ▸ (if inner then token BANG ▸ done else done)
 
 unfoldable pub attr_brackets : Script Phrase
 attr_brackets =
-    test (is_at L_BRACK) (token L_BRACK (after meta (λ v. expect R_BRACK done)))
-    (report (expected L_BRACK) done)
+    test (is_at L_BRACK) (token L_BRACK ▸ call meta ▸ expect R_BRACK ▸ done) (report (expected L_BRACK) ▸ done)
 
 -- an attribute, an inner one or not
 unfoldable pub attr : Bool → Script Phrase
 attr inner =
-    test (is_at (doc_comment inner)) (start (any (finish DOC_COMMENT done)))
-    (start (after (attr_mark inner) (λ v. after attr_brackets (λ w. finish ATTR done))))
+    test (is_at (doc_comment inner)) (start ▸ any ▸ finish DOC_COMMENT ▸ done)
+    (start ▸ call (attr_mark inner) ▸ call attr_brackets ▸ finish ATTR ▸ done)
 
 abbrev pub outer_turn : Bool → Bool → Script Phrase
-outer_turn a b = test (λ rs. is_outer_attr_first (next_kind rs)) (after (attr false) (λ v. give (again a b))) done
+outer_turn a b = optional (λ rs. is_outer_attr_first (next_kind rs)) (call (attr false) ▸ give (again a b))
 
 -- the attributes before what they are of
 unfoldable pub outer_attrs : Script Phrase
 outer_attrs = loop outer_turn false false
 
 abbrev pub inner_turn : Bool → Bool → Script Phrase
-inner_turn a b = test starts_inner_attr (after (attr true) (λ v. give (again a b))) done
+inner_turn a b = optional starts_inner_attr (call (attr true) ▸ give (again a b))
 
 -- the attributes of what they stand in
 unfoldable pub inner_attrs : Script Phrase

@@ -1,5 +1,6 @@
 -- Blocks, and the `let` statements in them.
-use Rattle.std.specs.Prelude.{List, ℕ, Bool, false, ◌||◌, ◌&&◌, drop, codes}
+-- In the Rust crate: `grammar/expressions/atom.rs`, `grammar/expressions.rs` and `grammar.rs`.
+use Rattle.std.specs.Prelude.{List, ℕ, Bool, false, ◌||◌, ◌&&◌, drop, codes, [], ◌∷◌}
 use Rattle.rap_base.specs.TokenKind.{EOF, ERROR, COLON, SEMICOLON, EQ, L_CURLY, R_CURLY, ELSE_KW, LET_KW, SUPER_KW}
 use Rattle.rap_base.specs.NodeKind.{STMT_LIST, BLOCK_EXPR, LET_ELSE}
 use Rattle.rap_events.specs.Record.{Record}
@@ -7,17 +8,15 @@ use Rattle.rap_events.specs.Composite.{is_at}
 use Rattle.rap_grammar_scripts.specs.Attributes.{inner_attrs}
 use Rattle.rap_grammar_scripts.specs.Called.{expr, pattern}
 use Rattle.rap_grammar_scripts.specs.Phrase.{Phrase, statement}
-use Rattle.rap_grammar_scripts.specs.Script.{Script, Outcome, nothing, give, test, ends_with, token, report, start, finish, after, rule, loop, again}
+use Rattle.rap_grammar_scripts.specs.Script.{Script, Outcome, give, test, ends_with, token, report, start, finish, after, loop, again}
 use Rattle.rap_grammar_scripts.specs.TypeParts.{ascription}
-use Rattle.rap_grammar_scripts.specs.Words.{done, if_some, eat, expect}
+use Rattle.rap_grammar_scripts.specs.Words.{done, if_some, eat, expect, ◌▸◌, call, recur, choose, optional, only_if}
 use Rattle.rap_grammar_scripts.specs.declared.arguments.Semicolon.{Semicolon}
 use Rattle.rap_grammar_scripts.specs.declared.arguments.Semicolon.TheVariants as semicolon
 
 abbrev pub contents_turn : Bool → Bool → Script Phrase
 contents_turn a b =
-    test (is_at EOF) done
-    (test (is_at R_CURLY) done
-    (rule (statement semicolon.Required) (λ v. give (again a b))))
+    choose ((is_at EOF, done) ∷ (is_at R_CURLY, done) ∷ []) (recur (statement semicolon.Required) ▸ give (again a b))
 
 -- the statements of a block
 unfoldable pub statements : Script Phrase
@@ -25,20 +24,20 @@ statements = loop contents_turn false false
 
 -- what stands in the braces of a block
 unfoldable pub expr_block_contents : Script Phrase
-expr_block_contents = after inner_attrs (λ v. statements)
+expr_block_contents = call inner_attrs ▸ statements
 
 -- the braces with it
 unfoldable pub stmt_list : Script Phrase
-stmt_list = start (token L_CURLY (after expr_block_contents (λ v. expect R_CURLY (finish STMT_LIST done))))
+stmt_list = start ▸ token L_CURLY ▸ call expr_block_contents ▸ expect R_CURLY ▸ finish STMT_LIST ▸ done
 
 unfoldable pub block_expr : Script Phrase
 block_expr =
-    test (is_at L_CURLY) (start (after stmt_list (λ v. finish BLOCK_EXPR done)))
-    (report (codes "expected a block") done)
+    test (is_at L_CURLY) (start ▸ call stmt_list ▸ finish BLOCK_EXPR ▸ done) (report (codes "expected a block") ▸ done)
 
 -- a block where none may be
 unfoldable pub error_block : List ℕ → Script Phrase
-error_block message = start (report message (token L_CURLY (after expr_block_contents (λ v. eat R_CURLY (finish ERROR done)))))
+error_block message =
+    start ▸ report message ▸ token L_CURLY ▸ call expr_block_contents ▸ eat R_CURLY ▸ finish ERROR ▸ done
 
 -- a `let` comes next, or a `super let`
 abbrev pub starts_let : List Record → Bool
@@ -46,26 +45,28 @@ starts_let rs = is_at LET_KW rs || (is_at SUPER_KW rs && is_at LET_KW (drop 1 rs
 
 -- its type, if it has one
 unfoldable pub let_type : Script Phrase
-let_type = test (is_at COLON) (after ascription (λ v. done)) done
+let_type = optional (is_at COLON) (call ascription ▸ done)
 
 -- its value, if it has one: something where an expression is there
 unfoldable pub let_value : Script Phrase
-let_value = test (is_at EQ) (token EQ (after expr (λ v. give v))) (give nothing)
+let_value = only_if (is_at EQ) (token EQ ▸ after expr (λ v. give v))
 
 -- a value before an `else` must not end with a brace
 unfoldable pub value_before_else : Outcome → Script Phrase
 value_before_else value =
     if_some value
-    (ends_with R_CURLY (report (codes "right curly brace `}` before `else` in a `let...else` statement not allowed") done) done)
+    (ends_with R_CURLY
+    (report (codes "right curly brace `}` before `else` in a `let...else` statement not allowed") ▸ done)
+    done)
     done
 
 -- the block behind an `else`
 unfoldable pub else_block : Script Phrase
-else_block = start (token ELSE_KW (after block_expr (λ v. finish LET_ELSE done)))
+else_block = start ▸ token ELSE_KW ▸ call block_expr ▸ finish LET_ELSE ▸ done
 
 -- an `else` behind this value, if there is one
 unfoldable pub let_else : Outcome → Script Phrase
-let_else value = test (is_at ELSE_KW) (after (value_before_else value) (λ v. else_block)) done
+let_else value = optional (is_at ELSE_KW) (call (value_before_else value) ▸ else_block)
 
 -- the semicolon of a `let` statement
 unfoldable pub let_end : Semicolon → Script Phrase
@@ -76,9 +77,9 @@ let_end semicolon.Forbidden = done
 -- a `let` statement under the newest node
 unfoldable pub let_stmt : Semicolon → Script Phrase
 let_stmt with_semi =
-    eat SUPER_KW (token LET_KW (after pattern (λ v. after let_type (λ w. after let_value (λ value.
-    after (let_else value) (λ x. let_end with_semi))))))
+    eat SUPER_KW ▸ token LET_KW ▸ call pattern ▸ call let_type ▸
+    after let_value (λ value. call (let_else value) ▸ let_end with_semi)
 
 -- the same where none may be
 unfoldable pub error_let_stmt : List ℕ → Script Phrase
-error_let_stmt message = start (report message (after (let_stmt semicolon.Optional) (λ v. finish ERROR done)))
+error_let_stmt message = start ▸ report message ▸ call (let_stmt semicolon.Optional) ▸ finish ERROR ▸ done

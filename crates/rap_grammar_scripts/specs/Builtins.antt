@@ -1,5 +1,6 @@
 -- The forms behind `builtin#`.
-use Rattle.std.specs.Prelude.{Bool, false, ◌&&◌, not, List, drop, codes}
+-- In the Rust crate: `grammar/expressions/atom.rs`.
+use Rattle.std.specs.Prelude.{Bool, false, ◌&&◌, not, List, drop, codes, [], ◌∷◌}
 use Rattle.rap_base.specs.Keyword.{is_any_identifier}
 use Rattle.rap_base.specs.TokenKind.{EOF, ERROR, POUND, L_PAREN, R_PAREN, COMMA, DOT, EQ, BUILTIN_KW, OFFSET_OF_KW, FORMAT_ARGS_KW, ASM_KW, GLOBAL_ASM_KW, NAKED_ASM_KW, INCLUDE_BYTES_KW, CFG_KW}
 use Rattle.rap_base.specs.NodeKind.{OFFSET_OF_EXPR, FORMAT_ARGS_EXPR, FORMAT_ARGS_ARG, INCLUDE_BYTES_EXPR, CFG_PRED_EXPR}
@@ -9,16 +10,17 @@ unfoldable pub use Rattle.rap_grammar_scripts.specs.Asm.{parse_asm_expr}
 use Rattle.rap_grammar_scripts.specs.Called.{expr, type_}
 use Rattle.rap_grammar_scripts.specs.Grammar.{name_any_identifier, name_ref_mod_path_or_index}
 use Rattle.rap_grammar_scripts.specs.Phrase.{Phrase, condition}
-use Rattle.rap_grammar_scripts.specs.Script.{Script, nothing, give, test, token, bear, report, start, finish, abandon, after, rule, loop, again}
-use Rattle.rap_grammar_scripts.specs.Words.{done, if_some, reads_as, eat, expect}
+use Rattle.rap_grammar_scripts.specs.Script.{Script, nothing, give, test, token, bear, report, start, finish, abandon, after, loop, again}
+use Rattle.rap_grammar_scripts.specs.Words.{done, if_some, reads_as, eat, expect, ◌▸◌, call, recur, choose, optional}
 
 -- the fields on the way to the one whose place is asked for
 abbrev pub fields_turn : Bool → Bool → Script Phrase
 fields_turn a b =
-    test (is_at EOF) done
-    (test (is_at R_PAREN) done
-    (after name_ref_mod_path_or_index (λ v.
-    test (is_at R_PAREN) (give (again a b)) (expect DOT (give (again a b))))))
+    choose
+    ((is_at EOF, done)
+    ∷ (is_at R_PAREN, done)
+    ∷ [])
+    (call name_ref_mod_path_or_index ▸ test (is_at R_PAREN) (give (again a b)) (expect DOT ▸ give (again a b)))
 
 unfoldable pub offset_of_fields : Script Phrase
 offset_of_fields = loop fields_turn false false
@@ -26,59 +28,67 @@ offset_of_fields = loop fields_turn false false
 -- a type and fields in it, which may stand in parentheses of their own
 unfoldable pub offset_of : Script Phrase
 offset_of =
-    expect L_PAREN (after type_ (λ v. expect COMMA
-    (test (is_at L_PAREN)
-    (token L_PAREN (after offset_of_fields (λ w. expect R_PAREN (expect R_PAREN done))))
-    (after offset_of_fields (λ w. expect R_PAREN done)))))
+    expect L_PAREN ▸ call type_ ▸ expect COMMA ▸
+    test (is_at L_PAREN) (token L_PAREN ▸ call offset_of_fields ▸ expect R_PAREN ▸ expect R_PAREN ▸ done)
+    (call offset_of_fields ▸ expect R_PAREN ▸ done)
 
 -- a name and an `=` that begins no `==` come next; the name may be a keyword
 abbrev pub starts_arg_name : List Record → Bool
 starts_arg_name rs = is_any_identifier (next_kind rs) && (is_at EQ (drop 1 rs) && not (is_at EQ (drop 2 rs)))
 
 unfoldable pub opt_arg_name : Script Phrase
-opt_arg_name = test starts_arg_name (after name_any_identifier (λ v. token EQ done)) done
+opt_arg_name = optional starts_arg_name (call name_any_identifier ▸ token EQ ▸ done)
 
 -- arguments behind the text; the list ends where no expression follows
 abbrev pub arguments_turn : Bool → Bool → Script Phrase
 arguments_turn a b =
-    test (is_at EOF) done
-    (test (is_at R_PAREN) done
-    (start (after opt_arg_name (λ v. after expr (λ w. if_some w
-    (finish FORMAT_ARGS_ARG (test (is_at R_PAREN) (give (again a b)) (expect COMMA (give (again a b)))))
-    (abandon done))))))
+    choose
+    ((is_at EOF, done)
+    ∷ (is_at R_PAREN, done)
+    ∷ [])
+    (start ▸ call opt_arg_name ▸
+    after expr (λ w.
+    if_some w (finish FORMAT_ARGS_ARG ▸ test (is_at R_PAREN) (give (again a b)) (expect COMMA ▸ give (again a b)))
+    (abandon ▸ done)))
 
 unfoldable pub format_arguments : Script Phrase
 format_arguments = loop arguments_turn false false
 
 unfoldable pub format_args : Script Phrase
 format_args =
-    expect L_PAREN (after expr (λ v.
-    test (is_at COMMA)
-    (token COMMA (after format_arguments (λ w. expect R_PAREN done)))
-    (expect R_PAREN done)))
+    expect L_PAREN ▸ call expr ▸
+    test (is_at COMMA) (token COMMA ▸ call format_arguments ▸ expect R_PAREN ▸ done) (expect R_PAREN ▸ done)
 
 -- a condition
 unfoldable pub cfg : Script Phrase
-cfg = expect L_PAREN (rule condition (λ v. eat COMMA (expect R_PAREN done)))
+cfg = expect L_PAREN ▸ recur condition ▸ eat COMMA ▸ expect R_PAREN ▸ done
 
 -- the name of one of the kinds of inline assembly
 unfoldable pub asm_name : Script Phrase
 asm_name =
-    test (reads_as ASM_KW) (bear ASM_KW done)
-    (test (reads_as GLOBAL_ASM_KW) (bear GLOBAL_ASM_KW done)
-    (test (reads_as NAKED_ASM_KW) (bear NAKED_ASM_KW done) (give nothing)))
+    choose
+    ((reads_as ASM_KW, bear ASM_KW ▸ done)
+    ∷ (reads_as GLOBAL_ASM_KW, bear GLOBAL_ASM_KW ▸ done)
+    ∷ (reads_as NAKED_ASM_KW, bear NAKED_ASM_KW ▸ done)
+    ∷ [])
+    (give nothing)
 
 -- the forms behind those that name fields and arguments, from their node on
 unfoldable pub other_builtin : Script Phrase
 other_builtin =
-    after asm_name (λ v. if_some v parse_asm_expr
-    (test (reads_as INCLUDE_BYTES_KW) (bear INCLUDE_BYTES_KW (finish INCLUDE_BYTES_EXPR done))
-    (test (reads_as CFG_KW) (bear CFG_KW (after cfg (λ w. finish CFG_PRED_EXPR done)))
-    (report (codes "unknown name after `builtin#`") (finish ERROR (give nothing))))))
+    after asm_name (λ v.
+    if_some v parse_asm_expr
+    (choose
+    ((reads_as INCLUDE_BYTES_KW, bear INCLUDE_BYTES_KW ▸ finish INCLUDE_BYTES_EXPR ▸ done)
+    ∷ (reads_as CFG_KW, bear CFG_KW ▸ call cfg ▸ finish CFG_PRED_EXPR ▸ done)
+    ∷ [])
+    (report (codes "unknown name after `builtin#`") ▸ finish ERROR ▸ give nothing)))
 
 unfoldable pub builtin_expr : Script Phrase
 builtin_expr =
-    start (bear BUILTIN_KW (token POUND
-    (test (reads_as OFFSET_OF_KW) (bear OFFSET_OF_KW (after offset_of (λ v. finish OFFSET_OF_EXPR done)))
-    (test (reads_as FORMAT_ARGS_KW) (bear FORMAT_ARGS_KW (after format_args (λ v. finish FORMAT_ARGS_EXPR done)))
-    other_builtin))))
+    start ▸ bear BUILTIN_KW ▸ token POUND ▸
+    choose
+    ((reads_as OFFSET_OF_KW, bear OFFSET_OF_KW ▸ call offset_of ▸ finish OFFSET_OF_EXPR ▸ done)
+    ∷ (reads_as FORMAT_ARGS_KW, bear FORMAT_ARGS_KW ▸ call format_args ▸ finish FORMAT_ARGS_EXPR ▸ done)
+    ∷ [])
+    other_builtin

@@ -5,8 +5,8 @@ use Rattle.rap_events.specs.Record.{next_kind}
 use Rattle.rap_events.specs.Composite.{is_at}
 use Rattle.rap_grammar_scripts.specs.First.{is_generic_arg_first, is_cfg_predicate_first}
 use Rattle.rap_grammar_scripts.specs.Phrase.{Phrase, expression, any_type, trait_path, generic_argument, generic_parameters, bound_list, where_part, any_pattern, single_pattern, pattern_of_arm, if_behind_else, any_item, tree_of_use, meta_item, condition}
-use Rattle.rap_grammar_scripts.specs.Script.{Script, nothing, give, test, token, rule}
-use Rattle.rap_grammar_scripts.specs.Words.{done, if_some}
+use Rattle.rap_grammar_scripts.specs.Script.{Script, nothing, give, token, rule}
+use Rattle.rap_grammar_scripts.specs.Words.{done, if_some, ◌▸◌, recur, optional, only_if}
 use Rattle.rap_grammar_scripts.specs.declared.arguments.Restrictions.{Restrictions}
 
 -- an expression may be anything, and ends as far on as it can
@@ -22,7 +22,7 @@ abbrev pub without_structs : Restrictions
 without_structs = record { forbid_structs = true; prefer_stmt = false }
 
 unfoldable pub expr_no_struct : Script Phrase
-expr_no_struct = rule (expression false without_structs 1) (λ v. done)
+expr_no_struct = recur (expression false without_structs 1) ▸ done
 
 -- an expression that ends after a block, as a statement does
 abbrev pub as_statement : Restrictions
@@ -33,62 +33,62 @@ expr_stmt = rule (expression false as_statement 1) (λ v. give v)
 
 -- a type, with bounds after it, and without
 unfoldable pub type_ : Script Phrase
-type_ = rule (any_type true) (λ v. done)
+type_ = recur (any_type true) ▸ done
 
 unfoldable pub type_no_bounds : Script Phrase
-type_no_bounds = rule (any_type false) (λ v. done)
+type_no_bounds = recur (any_type false) ▸ done
 
 -- the trait behind the `as` of `<A as B>`
 unfoldable pub as_trait : Script Phrase
-as_trait = rule trait_path (λ v. done)
+as_trait = recur trait_path ▸ done
 
 -- an argument of something generic, as an element of a list
 unfoldable pub generic_arg_element : Script Phrase
-generic_arg_element = test (λ rs. is_generic_arg_first (next_kind rs)) (rule generic_argument (λ v. done)) (give nothing)
+generic_arg_element = only_if (λ rs. is_generic_arg_first (next_kind rs)) (recur generic_argument ▸ done)
 
 -- the parameters behind a `for`
 unfoldable pub for_parameters : Script Phrase
-for_parameters = rule generic_parameters (λ v. done)
+for_parameters = recur generic_parameters ▸ done
 
 unfoldable pub pattern : Script Phrase
-pattern = rule any_pattern (λ v. done)
+pattern = recur any_pattern ▸ done
 
 unfoldable pub pattern_single : Script Phrase
-pattern_single = rule single_pattern (λ v. done)
+pattern_single = recur single_pattern ▸ done
 
 -- what stands in an attribute, inside another
 unfoldable pub inner_meta : Script Phrase
-inner_meta = rule meta_item (λ v. done)
+inner_meta = recur meta_item ▸ done
 
 -- a condition inside another, as an element of a list
 unfoldable pub cfg_predicate_element : Script Phrase
-cfg_predicate_element = test (λ rs. is_cfg_predicate_first (next_kind rs)) (rule condition (λ v. done)) (give nothing)
+cfg_predicate_element = only_if (λ rs. is_cfg_predicate_first (next_kind rs)) (recur condition ▸ done)
 
 -- the parameters of something generic, its bounds behind their colon and without it, and its `where`
 unfoldable pub opt_generic_param_list : Script Phrase
-opt_generic_param_list = test (is_at L_ANGLE) (rule generic_parameters (λ v. done)) done
+opt_generic_param_list = optional (is_at L_ANGLE) (recur generic_parameters ▸ done)
 
 unfoldable pub bounds : Script Phrase
-bounds = token COLON (rule bound_list (λ v. done))
+bounds = token COLON ▸ recur bound_list ▸ done
 
 unfoldable pub bounds_without_colon : Script Phrase
-bounds_without_colon = rule bound_list (λ v. done)
+bounds_without_colon = recur bound_list ▸ done
 
 unfoldable pub opt_where_clause : Script Phrase
-opt_where_clause = test (is_at WHERE_KW) (rule where_part (λ v. done)) done
+opt_where_clause = optional (is_at WHERE_KW) (recur where_part ▸ done)
 
 -- the pattern of an arm
 unfoldable pub arm_pattern : Script Phrase
-arm_pattern = rule pattern_of_arm (λ v. done)
+arm_pattern = recur pattern_of_arm ▸ done
 
 -- an `if` behind an `else`
 unfoldable pub else_if : Script Phrase
-else_if = rule if_behind_else (λ v. done)
+else_if = recur if_behind_else ▸ done
 
 -- an item in a list of items
 unfoldable pub item : Bool → Bool → Script Phrase
-item stop_on_r_curly is_in_extern = rule (any_item stop_on_r_curly is_in_extern) (λ v. done)
+item stop_on_r_curly is_in_extern = recur (any_item stop_on_r_curly is_in_extern) ▸ done
 
 -- a tree in the braces of a `use`
 unfoldable pub use_tree : Script Phrase
-use_tree = rule tree_of_use (λ v. done)
+use_tree = recur tree_of_use ▸ done

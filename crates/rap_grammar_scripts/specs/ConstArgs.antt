@@ -1,5 +1,6 @@
 -- Constants as arguments of something generic.
-use Rattle.std.specs.Prelude.{codes}
+-- In the Rust crate: `grammar/generic_args.rs`.
+use Rattle.std.specs.Prelude.{codes, [], ◌∷◌}
 use Rattle.rap_base.specs.TokenKind.{L_CURLY, MINUS}
 use Rattle.rap_base.specs.NodeKind.{PREFIX_EXPR, PATH_EXPR, CONST_ARG}
 use Rattle.rap_events.specs.Record.{next_kind}
@@ -9,25 +10,27 @@ use Rattle.rap_grammar_scripts.specs.First.{is_literal_first, starts_path}
 use Rattle.rap_grammar_scripts.specs.Paths.{expr_path}
 use Rattle.rap_grammar_scripts.specs.Phrase.{Phrase}
 use Rattle.rap_grammar_scripts.specs.Recovery.{is_generic_arg_recovery}
-use Rattle.rap_grammar_scripts.specs.Script.{Script, test, token, start, finish, after}
-use Rattle.rap_grammar_scripts.specs.Words.{done, next_is, recover}
+use Rattle.rap_grammar_scripts.specs.Script.{Script, token, start, finish}
+use Rattle.rap_grammar_scripts.specs.Words.{done, next_is, recover, ◌▸◌, call, choose}
 
 unfoldable pub negative_const : Script Phrase
-negative_const = start (token MINUS (after literal (λ v. finish PREFIX_EXPR done)))
+negative_const = start ▸ token MINUS ▸ call literal ▸ finish PREFIX_EXPR ▸ done
 
 unfoldable pub const_path : Script Phrase
-const_path = start (after expr_path (λ v. finish PATH_EXPR done))
+const_path = start ▸ call expr_path ▸ finish PATH_EXPR ▸ done
 
 unfoldable pub missing_const : Script Phrase
 missing_const = recover (codes "expected a generic const argument") is_generic_arg_recovery done done
 
 unfoldable pub const_arg_expr : Script Phrase
 const_arg_expr =
-    test (next_is L_CURLY) block_expr
-    (test (λ rs. is_literal_first (next_kind rs)) (after literal (λ v. done))
-    (test (next_is MINUS) negative_const
-    (test starts_path const_path
-    missing_const)))
+    choose
+    ((next_is L_CURLY, block_expr)
+    ∷ (λ rs. is_literal_first (next_kind rs), call literal ▸ done)
+    ∷ (next_is MINUS, negative_const)
+    ∷ (starts_path, const_path)
+    ∷ [])
+    missing_const
 
 unfoldable pub const_arg : Script Phrase
-const_arg = start (after const_arg_expr (λ v. finish CONST_ARG done))
+const_arg = start ▸ call const_arg_expr ▸ finish CONST_ARG ▸ done

@@ -7,9 +7,9 @@ use Rattle.rap_events.specs.Composite.{is_at}
 use Rattle.rap_grammar_scripts.specs.Called.{expr, opt_generic_param_list, opt_where_clause}
 use Rattle.rap_grammar_scripts.specs.Grammar.{name}
 use Rattle.rap_grammar_scripts.specs.Phrase.{Phrase}
-use Rattle.rap_grammar_scripts.specs.Script.{Script, test, token, report, finish, after}
+use Rattle.rap_grammar_scripts.specs.Script.{Script, test, token, report, finish}
 use Rattle.rap_grammar_scripts.specs.TypeParts.{ascription}
-use Rattle.rap_grammar_scripts.specs.Words.{done, eat, expect}
+use Rattle.rap_grammar_scripts.specs.Words.{done, eat, expect, ◌▸◌, call, optional}
 
 -- `const`, or `type const`, comes next
 abbrev pub starts_const : List Record → Bool
@@ -17,26 +17,25 @@ starts_const rs = is_at CONST_KW rs || (is_at TYPE_KW rs && is_at CONST_KW (drop
 
 -- the name; a constant may do without
 unfoldable pub const_name : Bool → Script Phrase
-const_name true = test (is_at UNDERSCORE) (token UNDERSCORE done) name
+const_name true = test (is_at UNDERSCORE) (token UNDERSCORE ▸ done) name
 const_name false = name
 
 -- the parameters of something generic, which a static may not have
 unfoldable pub const_params : Bool → Script Phrase
 const_params true = opt_generic_param_list
 const_params false =
-    test (is_at L_ANGLE)
-    (report (codes "`static` may not have generic parameters") opt_generic_param_list)
+    test (is_at L_ANGLE) (report (codes "`static` may not have generic parameters") ▸ opt_generic_param_list)
     opt_generic_param_list
 
 unfoldable pub missing_const_type : Bool → Script Phrase
-missing_const_type true = report (codes "missing type for `const`") done
-missing_const_type false = report (codes "missing type for `static`") done
+missing_const_type true = report (codes "missing type for `const`") ▸ done
+missing_const_type false = report (codes "missing type for `static`") ▸ done
 
 unfoldable pub const_type : Bool → Script Phrase
 const_type is_const = test (is_at COLON) ascription (missing_const_type is_const)
 
 unfoldable pub const_value : Script Phrase
-const_value = test (is_at EQ) (token EQ (after expr (λ v. done))) done
+const_value = optional (is_at EQ) (token EQ ▸ call expr ▸ done)
 
 -- the `where` of a constant
 unfoldable pub const_where : Bool → Script Phrase
@@ -46,14 +45,11 @@ const_where false = done
 -- a constant or a static, behind its keyword
 unfoldable pub const_or_static : Bool → Script Phrase
 const_or_static is_const =
-    eat MUT_KW (after (const_name is_const) (λ v.
-    after (const_params is_const) (λ w.
-    after (const_type is_const) (λ x.
-    after const_value (λ y.
-    after (const_where is_const) (λ z. expect SEMICOLON done))))))
+    eat MUT_KW ▸ call (const_name is_const) ▸ call (const_params is_const) ▸ call (const_type is_const) ▸
+    call const_value ▸ call (const_where is_const) ▸ expect SEMICOLON ▸ done
 
 unfoldable pub konst : Script Phrase
-konst = eat TYPE_KW (token CONST_KW (after (const_or_static true) (λ v. finish CONST done)))
+konst = eat TYPE_KW ▸ token CONST_KW ▸ call (const_or_static true) ▸ finish CONST ▸ done
 
 unfoldable pub static_ : Script Phrase
-static_ = token STATIC_KW (after (const_or_static false) (λ v. finish STATIC done))
+static_ = token STATIC_KW ▸ call (const_or_static false) ▸ finish STATIC ▸ done

@@ -15,9 +15,9 @@ use Rattle.rap_grammar_scripts.specs.Operator.{operator_at}
 use Rattle.rap_grammar_scripts.specs.Paths.{opt_generic_arg_list_expr}
 use Rattle.rap_grammar_scripts.specs.Phrase.{Phrase, expression}
 use Rattle.rap_grammar_scripts.specs.Recovery.{is_expr_recovery}
-use Rattle.rap_grammar_scripts.specs.Script.{Script, Outcome, nothing, something, block, give, look, test, token, any, bear, report, start, precede, finish, extend, abandon, split_float, after, rule, loop, again}
+use Rattle.rap_grammar_scripts.specs.Script.{Script, Outcome, nothing, something, block, give, look, test, token, any, bear, report, start, precede, finish, extend, abandon, split_float, after, loop, again}
 unfoldable pub use Rattle.rap_grammar_scripts.specs.Words.{is_block}
-use Rattle.rap_grammar_scripts.specs.Words.{done, if_some, next_is, reads_as, eat, expect, recover}
+use Rattle.rap_grammar_scripts.specs.Words.{done, if_some, next_is, reads_as, eat, expect, recover, ◌▸◌, call, recur, choose}
 use Rattle.rap_grammar_scripts.specs.declared.arguments.BlockLike.{BlockLike}
 use Rattle.rap_grammar_scripts.specs.declared.arguments.BlockLike.TheVariants as like
 use Rattle.rap_grammar_scripts.specs.declared.arguments.Restrictions.{Restrictions}
@@ -41,7 +41,7 @@ right_of op = if power op == 1 then 1 else power op + 1
 
 -- an operator and its right operand, after the left one
 unfoldable pub bin_expr : Restrictions → ℕ → Script Phrase
-bin_expr r op = precede (token op (rule (expression false (operand_of r) (right_of op)) (λ v. finish BIN_EXPR done)))
+bin_expr r op = precede ▸ token op ▸ recur (expression false (operand_of r) (right_of op)) ▸ finish BIN_EXPR ▸ done
 
 -- An end follows the dots of a range: an expression begins, and it is no access to a field or a method of the range,
 -- nor, where no record literal may stand, a `{`.
@@ -51,21 +51,22 @@ has_end forbid_structs rs =
 
 -- the dots of a range after its start, and whether an end followed
 unfoldable pub range_expr : Restrictions → ℕ → Script Phrase
-range_expr r op = precede (token op (test (has_end r.forbid_structs)
-    (rule (expression false (operand_of r) 3) (λ v. finish RANGE_EXPR done))
-    (finish RANGE_EXPR (give nothing))))
+range_expr r op =
+    precede ▸ token op ▸
+    test (has_end r.forbid_structs) (recur (expression false (operand_of r) 3) ▸ finish RANGE_EXPR ▸ done)
+    (finish RANGE_EXPR ▸ give nothing)
 
 -- a type behind `as`, after an operand
 unfoldable pub cast_expr : Script Phrase
-cast_expr = precede (token AS_KW (after type_no_bounds (λ v. finish CAST_EXPR done)))
+cast_expr = precede ▸ token AS_KW ▸ call type_no_bounds ▸ finish CAST_EXPR ▸ done
 
 -- an operator of at least a power, with its operand; a range without an end goes no further
 abbrev pub operation : Restrictions → ℕ → ℕ → Script Phrase
 operation r bp op =
     if nat_lt (power op) bp then done
-    else (if op == AS_KW then after cast_expr (λ v. give (again false false))
-    else (if power op == 2 then after (range_expr r op) (λ v. if_some v (give (again false false)) done)
-    else after (bin_expr r op) (λ v. give (again false false))))
+    else if op == AS_KW then call cast_expr ▸ give (again false false)
+    else if power op == 2 then after (range_expr r op) (λ v. if_some v (give (again false false)) done)
+    else (call (bin_expr r op) ▸ give (again false false))
 
 abbrev pub climb_turn : Restrictions → ℕ → Bool → Bool → Script Phrase
 climb_turn r bp a b = look (λ rs. operation r bp (operator_at rs))
@@ -78,32 +79,34 @@ climb r bp = loop (climb_turn r bp) false false
 unfoldable pub ref_qualifier : Script Phrase
 ref_qualifier =
     test (λ rs. reads_as RAW_KW rs && one_of (MUT_KW ∷ CONST_KW ∷ IDENT ∷ []) (kind_at rs 1))
-    (bear RAW_KW (test (is_at CONST_KW) (token CONST_KW done) (eat MUT_KW done)))
-    (eat MUT_KW done)
+    (bear RAW_KW ▸ test (is_at CONST_KW) (token CONST_KW ▸ done) (eat MUT_KW ▸ done))
+    (eat MUT_KW ▸ done)
 
 unfoldable pub ref_expr : Restrictions → Script Phrase
-ref_expr r = start (token AMP (after ref_qualifier (λ v. rule (expression false r 255) (λ w. finish REF_EXPR done))))
+ref_expr r = start ▸ token AMP ▸ call ref_qualifier ▸ recur (expression false r 255) ▸ finish REF_EXPR ▸ done
 
 unfoldable pub prefix_expr : Restrictions → Script Phrase
-prefix_expr r = start (any (rule (expression false r 255) (λ v. finish PREFIX_EXPR done)))
+prefix_expr r = start ▸ any ▸ recur (expression false r 255) ▸ finish PREFIX_EXPR ▸ done
 
 -- a range without a start
 unfoldable pub prefix_range : Restrictions → ℕ → Script Phrase
-prefix_range r op = start (token op (test (has_end r.forbid_structs)
-    (rule (expression false r 2) (λ v. finish RANGE_EXPR done))
-    (finish RANGE_EXPR done)))
+prefix_range r op =
+    start ▸ token op ▸
+    test (has_end r.forbid_structs) (recur (expression false r 2) ▸ finish RANGE_EXPR ▸ done) (finish RANGE_EXPR ▸ done)
 
 unfoldable pub arg_list : Script Phrase
-arg_list = start (after (delimited expr L_PAREN R_PAREN COMMA (codes "expected expression") is_expr_first) (λ v. finish ARG_LIST done))
+arg_list =
+    start ▸ call (delimited expr L_PAREN R_PAREN COMMA (codes "expected expression") is_expr_first) ▸ finish ARG_LIST ▸
+    done
 
 unfoldable pub call_expr : Script Phrase
-call_expr = precede (after arg_list (λ v. finish CALL_EXPR done))
+call_expr = precede ▸ call arg_list ▸ finish CALL_EXPR ▸ done
 
 unfoldable pub index_expr : Script Phrase
-index_expr = precede (token L_BRACK (after expr (λ v. expect R_BRACK (finish INDEX_EXPR done))))
+index_expr = precede ▸ token L_BRACK ▸ call expr ▸ expect R_BRACK ▸ finish INDEX_EXPR ▸ done
 
 unfoldable pub try_expr : Script Phrase
-try_expr = precede (token QUESTION (finish TRY_EXPR done))
+try_expr = precede ▸ token QUESTION ▸ finish TRY_EXPR ▸ done
 
 -- What stands behind a dot is called: a name before a `(` or `::`, or a `(` without a name.
 unfoldable pub calls_method : List Record → Bool
@@ -112,28 +115,28 @@ calls_method rs =
 
 unfoldable pub method_arguments : Script Phrase
 method_arguments =
-    after opt_generic_arg_list_expr (λ v.
-    test (is_at L_PAREN) (after arg_list (λ w. finish METHOD_CALL_EXPR done))
-    (report (codes "expected argument list") (finish METHOD_CALL_EXPR done)))
+    call opt_generic_arg_list_expr ▸
+    test (is_at L_PAREN) (call arg_list ▸ finish METHOD_CALL_EXPR ▸ done)
+    (report (codes "expected argument list") ▸ finish METHOD_CALL_EXPR ▸ done)
 
 -- a method behind the dot
 unfoldable pub method_call_expr : Script Phrase
 method_call_expr =
-    test (λ rs. is_path_name (next_kind rs)) (after name_ref_mod_path (λ v. method_arguments))
-    (report (codes "expected method name, field name or number") method_arguments)
+    test (λ rs. is_path_name (next_kind rs)) (call name_ref_mod_path ▸ method_arguments)
+    (report (codes "expected method name, field name or number") ▸ method_arguments)
 
 unfoldable pub await_expr : Script Phrase
-await_expr = token AWAIT_KW (finish AWAIT_EXPR done)
+await_expr = token AWAIT_KW ▸ finish AWAIT_EXPR ▸ done
 
 -- a field behind the dot
 unfoldable pub field_expr : Script Phrase
 field_expr =
-    test (λ rs. is_path_name_or_index (next_kind rs)) (after name_ref_mod_path_or_index (λ v. finish FIELD_EXPR done))
-    (report (codes "expected field name or number") (finish FIELD_EXPR done))
+    test (λ rs. is_path_name_or_index (next_kind rs)) (call name_ref_mod_path_or_index ▸ finish FIELD_EXPR ▸ done)
+    (report (codes "expected field name or number") ▸ finish FIELD_EXPR ▸ done)
 
 -- a method, `await` or a field behind the dot
 unfoldable pub name_after_dot : Script Phrase
-name_after_dot = test calls_method method_call_expr (test (next_is AWAIT_KW) await_expr field_expr)
+name_after_dot = choose ((calls_method, method_call_expr) ∷ (next_is AWAIT_KW, await_expr) ∷ []) field_expr
 
 -- the dots of a range
 abbrev pub is_range : List Record → Bool
@@ -143,7 +146,7 @@ is_range rs = is_at DOT2EQ rs || is_at DOT2 rs
 -- what follows it follows a dot once more; but the dots of a range are none of an access, and end all postfixes.
 abbrev pub after_dot_turn : Bool → Bool → Script Phrase
 after_dot_turn a b =
-    test (next_is FLOAT_NUMBER) (split_float (test is_range (give nothing) (precede (give (again false false)))) done)
+    test (next_is FLOAT_NUMBER) (split_float (test is_range (give nothing) (precede ▸ give (again false false))) done)
     name_after_dot
 
 unfoldable pub after_dot : Script Phrase
@@ -151,7 +154,7 @@ after_dot = loop after_dot_turn false false
 
 -- a dot and what follows it
 unfoldable pub postfix_dot_expr : Script Phrase
-postfix_dot_expr = precede (token DOT after_dot)
+postfix_dot_expr = precede ▸ token DOT ▸ after_dot
 
 -- a dot that begins no range
 abbrev pub is_access : List Record → Bool
@@ -161,11 +164,17 @@ is_access rs = (next_kind rs == DOT) && (not (is_at DOT2EQ rs) && not (is_at DOT
 -- none any more.
 abbrev pub postfix_turn : Bool → Bool → Script Phrase
 postfix_turn calls blocky =
-    test (λ rs. (next_kind rs == L_PAREN) && calls) (after call_expr (λ v. give (again true false)))
-    (test (λ rs. (next_kind rs == L_BRACK) && calls) (after index_expr (λ v. give (again true false)))
-    (test is_access (after postfix_dot_expr (λ v. if_some v (give (again true false)) (give (if blocky then block else something))))
-    (test (next_is QUESTION) (after try_expr (λ v. give (again true false)))
-    (give (if blocky then block else something)))))
+    choose
+    ((λ rs. (next_kind rs == L_PAREN) && calls, call call_expr ▸ give (again true false))
+    ∷ (λ rs. (next_kind rs == L_BRACK) && calls, call index_expr ▸ give (again true false))
+    ∷ (
+      is_access,
+      after postfix_dot_expr (λ v.
+          if_some v (give (again true false)) (give (if blocky then block else something))),
+    )
+    ∷ (next_is QUESTION, call try_expr ▸ give (again true false))
+    ∷ [])
+    (give (if blocky then block else something))
 
 unfoldable pub postfix_expr : Bool → Bool → Script Phrase
 postfix_expr allow_calls is_block = loop postfix_turn allow_calls is_block
@@ -173,27 +182,28 @@ postfix_expr allow_calls is_block = loop postfix_turn allow_calls is_block
 -- an operand with what follows it
 unfoldable pub lhs : Restrictions → Script Phrase
 lhs r =
-    test (next_is AMP) (ref_expr r)
-    (test (λ rs. one_of (STAR ∷ BANG ∷ MINUS ∷ []) (next_kind rs)) (prefix_expr r)
-    (test (is_at DOT2EQ) (prefix_range r DOT2EQ)
-    (test (is_at DOT2) (prefix_range r DOT2)
-    (after (atom_expr r) (λ v. if_some v
-    (postfix_expr (not (r.prefer_stmt && is_block v)) (is_block v))
-    (give nothing))))))
+    choose
+    ((next_is AMP, ref_expr r)
+    ∷ (λ rs. one_of (STAR ∷ BANG ∷ MINUS ∷ []) (next_kind rs), prefix_expr r)
+    ∷ (is_at DOT2EQ, prefix_range r DOT2EQ)
+    ∷ (is_at DOT2, prefix_range r DOT2)
+    ∷ [])
+    (after (atom_expr r) (λ v.
+    if_some v (postfix_expr (not (r.prefer_stmt && is_block v)) (is_block v)) (give nothing)))
 
 -- where no expression begins
 unfoldable pub missing_expr : Script Phrase
-missing_expr = recover (codes "expected expression") is_expr_recovery (abandon (give nothing)) (abandon (give nothing))
+missing_expr = recover (codes "expected expression") is_expr_recovery (abandon ▸ give nothing) (abandon ▸ give nothing)
 
 -- an expression from the newest node on
 unfoldable pub expr_from : Restrictions → ℕ → Script Phrase
 expr_from r bp =
     test (λ rs. is_expr_first (next_kind rs))
-    (after (lhs r) (λ v. if_some v
-    (extend (if r.prefer_stmt && is_block v then give block else after (climb r bp) (λ w. done)))
-    (abandon (give nothing))))
+    (after (lhs r) (λ v.
+    if_some v (extend ▸ (if r.prefer_stmt && is_block v then give block else (call (climb r bp) ▸ done)))
+    (abandon ▸ give nothing)))
     missing_expr
 
 unfoldable pub expr_bp : Bool → Restrictions → ℕ → Script Phrase
-expr_bp false r bp = start (after outer_attrs (λ v. expr_from r bp))
+expr_bp false r bp = start ▸ call outer_attrs ▸ expr_from r bp
 expr_bp true r bp = expr_from r bp

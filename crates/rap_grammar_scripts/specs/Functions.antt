@@ -1,4 +1,5 @@
 -- Functions.
+-- In the Rust crate: `grammar/items.rs`.
 use Rattle.std.specs.Prelude.{ℕ, Bool, false, ◌||◌, [], ◌∷◌, codes}
 use Rattle.rap_base.specs.TokenKind.{L_PAREN, R_PAREN, R_BRACK, R_ANGLE, SEMICOLON, FN_KW}
 use Rattle.rap_base.specs.NodeKind.{FN}
@@ -12,38 +13,38 @@ use Rattle.rap_grammar_scripts.specs.Params.{param_list_fn_def}
 use Rattle.rap_grammar_scripts.specs.Phrase.{Phrase}
 use Rattle.rap_grammar_scripts.specs.Recovery.{is_item_recovery}
 use Rattle.rap_grammar_scripts.specs.Script.{Script, give, test, token, report, skip, finish, after, loop, again}
-use Rattle.rap_grammar_scripts.specs.Words.{done, if_some}
+use Rattle.rap_grammar_scripts.specs.Words.{done, if_some, ◌▸◌, call, optional}
 
 -- the search for a function's name
 abbrev pub is_item_paren_recovery : ℕ → Bool
 is_item_paren_recovery kind = is_item_recovery kind || one_of (L_PAREN ∷ []) kind
 
 unfoldable pub fn_params : Script Phrase
-fn_params = test (is_at L_PAREN) param_list_fn_def (report (codes "expected function arguments") done)
+fn_params = test (is_at L_PAREN) param_list_fn_def (report (codes "expected function arguments") ▸ done)
 
 -- what a function gives back, if it says so: without the arrow that is reported
 unfoldable pub fn_ret_type : Script Phrase
-fn_ret_type = after opt_ret_type (λ v. if_some v done (after opt_no_arrow_ret_type (λ w. done)))
+fn_ret_type = after opt_ret_type (λ v. if_some v done (call opt_no_arrow_ret_type ▸ done))
 
 abbrev pub is_unbalanced : ℕ → Bool
 is_unbalanced kind = one_of (R_PAREN ∷ R_BRACK ∷ R_ANGLE ∷ []) kind
 
 abbrev pub bracket_turn : Bool → Bool → Script Phrase
-bracket_turn a b = test (λ rs. is_unbalanced (next_kind rs)) (skip (codes "expected a curly brace") (give (again a b))) done
+bracket_turn a b =
+    optional (λ rs. is_unbalanced (next_kind rs)) (skip (codes "expected a curly brace") ▸ give (again a b))
 
 -- brackets that close nothing
 unfoldable pub unbalanced_brackets : Script Phrase
 unbalanced_brackets = loop bracket_turn false false
 
 unfoldable pub fn_body : Script Phrase
-fn_body = test (is_at SEMICOLON) (token SEMICOLON done) block_expr
+fn_body = test (is_at SEMICOLON) (token SEMICOLON ▸ done) block_expr
 
 -- what stands behind a function's name and its generic parameters
 unfoldable pub signature : Script Phrase
-signature =
-    after fn_params (λ v. after fn_ret_type (λ w. after unbalanced_brackets (λ x. opt_where_clause)))
+signature = call fn_params ▸ call fn_ret_type ▸ call unbalanced_brackets ▸ opt_where_clause
 
 unfoldable pub fn_ : Script Phrase
 fn_ =
-    token FN_KW (after (name_r is_item_paren_recovery) (λ v. after opt_generic_param_list (λ w.
-    after signature (λ x. after fn_body (λ y. finish FN done)))))
+    token FN_KW ▸ call (name_r is_item_paren_recovery) ▸ call opt_generic_param_list ▸ call signature ▸ call fn_body ▸
+    finish FN ▸ done

@@ -1,5 +1,5 @@
 -- Arguments of something generic.
-use Rattle.std.specs.Prelude.{ℕ, List, Bool, true, ◌&&◌, not, drop, codes}
+use Rattle.std.specs.Prelude.{ℕ, List, Bool, true, ◌&&◌, not, drop, codes, [], ◌∷◌}
 use Rattle.rap_base.specs.TokenKind.{LIFETIME_IDENT, PLUS, EQ, COLON, COLON2}
 use Rattle.rap_base.specs.NodeKind.{LIFETIME_ARG, TYPE_ARG, ASSOC_TYPE_ARG, PATH_SEGMENT, PATH, MACRO_CALL, MACRO_TYPE, PATH_TYPE}
 use Rattle.rap_events.specs.Record.{Record, next_kind}
@@ -13,9 +13,9 @@ use Rattle.rap_grammar_scripts.specs.TokenTree.{macro_call_after_excl, starts_ma
 use Rattle.rap_grammar_scripts.specs.Paths.{opt_path_type_args, type_path_for_qualifier}
 use Rattle.rap_grammar_scripts.specs.Phrase.{Phrase}
 use Rattle.rap_grammar_scripts.specs.Recovery.{is_generic_arg_recovery}
-use Rattle.rap_grammar_scripts.specs.Script.{Script, test, any, report, start, precede, finish, after}
+use Rattle.rap_grammar_scripts.specs.Script.{Script, test, any, report, start, precede, finish}
 use Rattle.rap_grammar_scripts.specs.Types.{type_with_bounds_cond, opt_type_bounds_as_dyn_trait_type}
-use Rattle.rap_grammar_scripts.specs.Words.{done, next_is}
+use Rattle.rap_grammar_scripts.specs.Words.{done, next_is, ◌▸◌, call, choose}
 
 -- a lifetime that is no bound of a type
 abbrev pub starts_lifetime_arg : List Record → Bool
@@ -30,43 +30,48 @@ abbrev pub starts_bounds : List Record → Bool
 starts_bounds rs = next_is COLON rs && not (is_at COLON2 rs)
 
 unfoldable pub lifetime_arg : Script Phrase
-lifetime_arg = start (after lifetime (λ v. finish LIFETIME_ARG done))
+lifetime_arg = start ▸ call lifetime ▸ finish LIFETIME_ARG ▸ done
 
 unfoldable pub type_arg : Script Phrase
-type_arg = start (after (type_with_bounds_cond true) (λ v. finish TYPE_ARG done))
+type_arg = start ▸ call (type_with_bounds_cond true) ▸ finish TYPE_ARG ▸ done
 
 -- what a name is bound to: a type or a constant, behind the `=`
 unfoldable pub assoc_value : Script Phrase
 assoc_value =
-    test (λ rs. is_type_first (next_kind rs)) type_
-    (test (λ rs. is_generic_arg_recovery (next_kind rs)) (report (codes "missing associated item binding") done)
-    const_arg)
+    choose
+    ((λ rs. is_type_first (next_kind rs), type_)
+    ∷ (λ rs. is_generic_arg_recovery (next_kind rs), report (codes "missing associated item binding") ▸ done)
+    ∷ [])
+    const_arg
 
 -- bounds after a type of this kind, which is then an argument
 unfoldable pub bounded_arg : ℕ → Script Phrase
-bounded_arg kind = after (opt_type_bounds_as_dyn_trait_type kind) (λ v. precede (finish TYPE_ARG done))
+bounded_arg kind = call (opt_type_bounds_as_dyn_trait_type kind) ▸ precede ▸ finish TYPE_ARG ▸ done
 
 unfoldable pub macro_arg : Script Phrase
-macro_arg = after macro_call_after_excl (λ v. finish MACRO_CALL (precede (finish MACRO_TYPE (bounded_arg MACRO_TYPE))))
+macro_arg = call macro_call_after_excl ▸ finish MACRO_CALL ▸ precede ▸ finish MACRO_TYPE ▸ bounded_arg MACRO_TYPE
 
 -- a path from its first segment on, as a type, or a macro call
 unfoldable pub path_arg : Script Phrase
 path_arg =
-    precede (finish PATH (after type_path_for_qualifier (λ v. precede
-    (test starts_macro_call macro_arg
-    (finish PATH_TYPE (bounded_arg PATH_TYPE))))))
+    precede ▸ finish PATH ▸ call type_path_for_qualifier ▸ precede ▸
+    test starts_macro_call macro_arg (finish PATH_TYPE ▸ bounded_arg PATH_TYPE)
 
 -- a name with its own arguments: bound to something by `=`, with bounds, or a path's first segment
 unfoldable pub named_arg : Script Phrase
 named_arg =
-    start (after name_ref_mod_path (λ v. after opt_path_type_args (λ w.
-    test (next_is EQ) (any (after assoc_value (λ x. finish ASSOC_TYPE_ARG done)))
-    (test starts_bounds (after bounds (λ x. finish ASSOC_TYPE_ARG done))
-    (finish PATH_SEGMENT path_arg)))))
+    start ▸ call name_ref_mod_path ▸ call opt_path_type_args ▸
+    choose
+    ((next_is EQ, any ▸ call assoc_value ▸ finish ASSOC_TYPE_ARG ▸ done)
+    ∷ (starts_bounds, call bounds ▸ finish ASSOC_TYPE_ARG ▸ done)
+    ∷ [])
+    (finish PATH_SEGMENT ▸ path_arg)
 
 unfoldable pub generic_arg : Script Phrase
 generic_arg =
-    test starts_lifetime_arg lifetime_arg
-    (test (λ rs. is_const_arg_first (next_kind rs)) const_arg
-    (test starts_named_arg named_arg
-    type_arg))
+    choose
+    ((starts_lifetime_arg, lifetime_arg)
+    ∷ (λ rs. is_const_arg_first (next_kind rs), const_arg)
+    ∷ (starts_named_arg, named_arg)
+    ∷ [])
+    type_arg

@@ -13,7 +13,7 @@ use Rattle.rap_grammar_scripts.specs.TokenTree.{bracketed_tokens}
 use Rattle.rap_grammar_scripts.specs.Phrase.{Phrase}
 use Rattle.rap_grammar_scripts.specs.Script.{Script, nothing, give, test, token, report, skip, start, finish, abandon, after, loop, again}
 use Rattle.rap_grammar_scripts.specs.TypeParts.{ascription, for_binder, path_type}
-use Rattle.rap_grammar_scripts.specs.Words.{done, if_some, next_is, eat, expect}
+use Rattle.rap_grammar_scripts.specs.Words.{done, if_some, next_is, eat, expect, ◌▸◌, call, choose, optional, only_if}
 
 -- a name or a lifetime in a `use<..>`
 unfoldable pub use_bound_arg : Script Phrase
@@ -26,49 +26,50 @@ use_bound_args =
 
 -- what a type captures
 unfoldable pub use_bound : Script Phrase
-use_bound = token USE_KW (start (after use_bound_args (λ v. finish USE_BOUND_GENERIC_ARGS done)))
+use_bound = token USE_KW ▸ start ▸ call use_bound_args ▸ finish USE_BOUND_GENERIC_ARGS ▸ done
 
 -- the `const` before a trait, in either of its forms, if there is one
 unfoldable pub bound_constness : Script Phrase
 bound_constness =
-    test (is_at TILDE) (token TILDE (expect CONST_KW done))
-    (test (is_at L_BRACK) (token L_BRACK (expect CONST_KW (expect R_BRACK done)))
-    (eat CONST_KW done))
+    choose
+    ((is_at TILDE, token TILDE ▸ expect CONST_KW ▸ done)
+    ∷ (is_at L_BRACK, token L_BRACK ▸ expect CONST_KW ▸ expect R_BRACK ▸ done)
+    ∷ [])
+    (eat CONST_KW ▸ done)
 
 -- the rest of a macro call in place of a trait
 unfoldable pub bound_macro_call : Script Phrase
 bound_macro_call =
-    start (token BANG (report (codes "unexpected `!` in type path, macro calls are not allowed here")
-    (test (λ rs. is_bracket (next_kind rs))
-    (after bracketed_tokens (λ v. finish ERROR done))
-    (finish ERROR done))))
+    start ▸ token BANG ▸ report (codes "unexpected `!` in type path, macro calls are not allowed here") ▸
+    test (λ rs. is_bracket (next_kind rs)) (call bracketed_tokens ▸ finish ERROR ▸ done) (finish ERROR ▸ done)
 
 -- a trait with what stands before it
 unfoldable pub path_type_bound : Script Phrase
 path_type_bound =
-    after bound_constness (λ v. eat ASYNC_KW (eat QUESTION
-    (test starts_use_path
-    (after path_type (λ w. test (is_at BANG) bound_macro_call done))
-    (give nothing))))
+    call bound_constness ▸ eat ASYNC_KW ▸ eat QUESTION ▸
+    only_if starts_use_path (call path_type ▸ optional (is_at BANG) bound_macro_call)
 
 -- a bound without its parentheses
 unfoldable pub bare_bound : Script Phrase
 bare_bound =
-    test (next_is LIFETIME_IDENT) lifetime
-    (test (next_is FOR_KW) (after for_binder (λ v. path_type_bound))
-    (test (λ rs. next_is USE_KW rs && is_at L_ANGLE (drop 1 rs)) use_bound
-    path_type_bound))
+    choose
+    ((next_is LIFETIME_IDENT, lifetime)
+    ∷ (next_is FOR_KW, call for_binder ▸ path_type_bound)
+    ∷ (λ rs. next_is USE_KW rs && is_at L_ANGLE (drop 1 rs), use_bound)
+    ∷ [])
+    path_type_bound
 
 unfoldable pub type_bound : Script Phrase
 type_bound =
-    start (test (is_at L_PAREN)
-    (token L_PAREN
-    (after bare_bound (λ v. if_some v (expect R_PAREN (finish TYPE_BOUND done)) (abandon (give nothing)))))
-    (after bare_bound (λ v. if_some v (finish TYPE_BOUND done) (abandon (give nothing)))))
+    start ▸
+    test (is_at L_PAREN)
+    (token L_PAREN ▸
+    after bare_bound (λ v. if_some v (expect R_PAREN ▸ finish TYPE_BOUND ▸ done) (abandon ▸ give nothing)))
+    (after bare_bound (λ v. if_some v (finish TYPE_BOUND ▸ done) (abandon ▸ give nothing)))
 
 -- on to the next bound
 abbrev pub next_bound : Bool → Bool → Script Phrase
-next_bound a b = test (is_at PLUS) (token PLUS (give (again a b))) done
+next_bound a b = optional (is_at PLUS) (token PLUS ▸ give (again a b))
 
 abbrev pub bound_turn : Bool → Bool → Script Phrase
 bound_turn a b = after type_bound (λ v. if_some v (next_bound a b) done)
@@ -78,19 +79,19 @@ unfoldable pub type_bounds : Script Phrase
 type_bounds = loop bound_turn false false
 
 unfoldable pub bounds_without_colon_m : Script Phrase
-bounds_without_colon_m = after type_bounds (λ v. finish TYPE_BOUND_LIST done)
+bounds_without_colon_m = call type_bounds ▸ finish TYPE_BOUND_LIST ▸ done
 
 unfoldable pub bounds_without_colon : Script Phrase
-bounds_without_colon = start bounds_without_colon_m
+bounds_without_colon = start ▸ bounds_without_colon_m
 
 unfoldable pub bounds : Script Phrase
-bounds = token COLON bounds_without_colon
+bounds = token COLON ▸ bounds_without_colon
 
 -- a bound of a lifetime: another one is reported and read
 unfoldable pub lifetime_bound : Script Phrase
 lifetime_bound =
     test (λ rs. one_of (LIFETIME_IDENT ∷ R_ANGLE ∷ COMMA ∷ []) (next_kind rs)) type_bound
-    (report (codes "expected lifetime") type_bound)
+    (report (codes "expected lifetime") ▸ type_bound)
 
 abbrev pub lifetime_bound_turn : Bool → Bool → Script Phrase
 lifetime_bound_turn a b = after lifetime_bound (λ v. if_some v (next_bound a b) done)
@@ -99,47 +100,46 @@ unfoldable pub lifetime_bound_list : Script Phrase
 lifetime_bound_list = loop lifetime_bound_turn false false
 
 unfoldable pub lifetime_bounds : Script Phrase
-lifetime_bounds = start (after lifetime_bound_list (λ v. finish TYPE_BOUND_LIST done))
+lifetime_bounds = start ▸ call lifetime_bound_list ▸ finish TYPE_BOUND_LIST ▸ done
 
 -- a lifetime as a parameter
 unfoldable pub lifetime_param : Script Phrase
 lifetime_param =
-    after lifetime (λ v.
-    test (is_at COLON)
-    (token COLON (after lifetime_bounds (λ w. finish LIFETIME_PARAM done)))
-    (finish LIFETIME_PARAM done))
+    call lifetime ▸
+    test (is_at COLON) (token COLON ▸ call lifetime_bounds ▸ finish LIFETIME_PARAM ▸ done)
+    (finish LIFETIME_PARAM ▸ done)
 
 -- what stands after a parameter's name and bounds
 unfoldable pub type_default : Script Phrase
-type_default = test (is_at EQ) (token EQ type_) done
+type_default = optional (is_at EQ) (token EQ ▸ type_)
 
 -- a type as a parameter
 unfoldable pub type_param : Script Phrase
-type_param =
-    after name (λ v. after (test (is_at COLON) bounds done) (λ w. after type_default (λ x. finish TYPE_PARAM done)))
+type_param = call name ▸ call (optional (is_at COLON) bounds) ▸ call type_default ▸ finish TYPE_PARAM ▸ done
 
 -- the type behind a constant's name
 unfoldable pub const_type : Script Phrase
-const_type = test (is_at COLON) ascription (report (codes "missing type for const parameter") done)
+const_type = test (is_at COLON) ascription (report (codes "missing type for const parameter") ▸ done)
 
 unfoldable pub const_default : Script Phrase
-const_default = test (is_at EQ) (token EQ const_arg) done
+const_default = optional (is_at EQ) (token EQ ▸ const_arg)
 
 -- a constant as a parameter
 unfoldable pub const_param : Script Phrase
-const_param =
-    token CONST_KW (after name (λ v. after const_type (λ w. after const_default (λ x. finish CONST_PARAM done))))
+const_param = token CONST_KW ▸ call name ▸ call const_type ▸ call const_default ▸ finish CONST_PARAM ▸ done
 
 -- a parameter from its marker on
 unfoldable pub generic_param : Script Phrase
 generic_param =
-    test (next_is LIFETIME_IDENT) lifetime_param
-    (test (next_is IDENT) type_param
-    (test (next_is CONST_KW) const_param
-    (abandon (skip (codes "expected generic parameter") (give nothing)))))
+    choose
+    ((next_is LIFETIME_IDENT, lifetime_param)
+    ∷ (next_is IDENT, type_param)
+    ∷ (next_is CONST_KW, const_param)
+    ∷ [])
+    (abandon ▸ skip (codes "expected generic parameter") ▸ give nothing)
 
 unfoldable pub attributed_param : Script Phrase
-attributed_param = start (after outer_attrs (λ v. generic_param))
+attributed_param = start ▸ call outer_attrs ▸ generic_param
 
 -- parameters in their brackets
 unfoldable pub generic_params : Script Phrase
@@ -148,24 +148,24 @@ generic_params =
     is_attributed_generic_param_first
 
 unfoldable pub generic_param_list : Script Phrase
-generic_param_list = start (after generic_params (λ v. finish GENERIC_PARAM_LIST done))
+generic_param_list = start ▸ call generic_params ▸ finish GENERIC_PARAM_LIST ▸ done
 
 -- the bounds of what a predicate is about
 unfoldable pub predicate_bounds : Script Phrase
-predicate_bounds = test (is_at COLON) bounds (report (codes "expected colon") done)
+predicate_bounds = test (is_at COLON) bounds (report (codes "expected colon") ▸ done)
 
 -- a predicate about a type
 unfoldable pub type_predicate : Script Phrase
-type_predicate =
-    test (is_at FOR_KW)
-    (after for_binder (λ v. after type_ (λ w. predicate_bounds)))
-    (after type_ (λ v. predicate_bounds))
+type_predicate = test (is_at FOR_KW) (call for_binder ▸ call type_ ▸ predicate_bounds) (call type_ ▸ predicate_bounds)
 
 unfoldable pub where_predicate : Script Phrase
 where_predicate =
-    start (test (next_is LIFETIME_IDENT) (after lifetime (λ v. after predicate_bounds (λ w. finish WHERE_PRED done)))
-    (test (next_is IMPL_KW) (report (codes "expected lifetime or type") (finish WHERE_PRED done))
-    (after type_predicate (λ v. finish WHERE_PRED done))))
+    start ▸
+    choose
+    ((next_is LIFETIME_IDENT, call lifetime ▸ call predicate_bounds ▸ finish WHERE_PRED ▸ done)
+    ∷ (next_is IMPL_KW, report (codes "expected lifetime or type") ▸ finish WHERE_PRED ▸ done)
+    ∷ [])
+    (call type_predicate ▸ finish WHERE_PRED ▸ done)
 
 abbrev pub ends_where : ℕ → Bool
 ends_where kind = one_of (L_CURLY ∷ SEMICOLON ∷ EQ ∷ []) kind
@@ -173,18 +173,19 @@ ends_where kind = one_of (L_CURLY ∷ SEMICOLON ∷ EQ ∷ []) kind
 -- what stands behind a predicate: something where another one may follow
 unfoldable pub after_predicate : Script Phrase
 after_predicate =
-    test (is_at COMMA)
-    (token COMMA (test (λ rs. ends_where (next_kind rs)) (give nothing) done))
-    (test (λ rs. ends_where (next_kind rs)) (give nothing) (report (codes "expected comma") done))
+    choose
+    ((is_at COMMA, token COMMA ▸ optional (λ rs. ends_where (next_kind rs)) (give nothing))
+    ∷ (λ rs. ends_where (next_kind rs), give nothing)
+    ∷ [])
+    (report (codes "expected comma") ▸ done)
 
 abbrev pub where_turn : Bool → Bool → Script Phrase
 where_turn a b =
-    test (λ rs. is_where_predicate_first (next_kind rs))
-    (after where_predicate (λ v. after after_predicate (λ w. if_some w (give (again a b)) done)))
-    done
+    optional (λ rs. is_where_predicate_first (next_kind rs))
+    (call where_predicate ▸ after after_predicate (λ w. if_some w (give (again a b)) done))
 
 unfoldable pub where_predicates : Script Phrase
 where_predicates = loop where_turn false false
 
 unfoldable pub where_clause : Script Phrase
-where_clause = start (token WHERE_KW (after where_predicates (λ v. finish WHERE_CLAUSE done)))
+where_clause = start ▸ token WHERE_KW ▸ call where_predicates ▸ finish WHERE_CLAUSE ▸ done

@@ -1,12 +1,9 @@
 -- Items.
-use Rattle.std.specs.Prelude.{◌≡◌, ◌≢◌, ℕ, ◌+◌, ◌*◌, ◌≤◌, Bool, true, false, Option, Some, None, List, [], ◌∷◌, drop, ◌==◌, ◌&&◌, ◌||◌, not, if◌then◌else◌, codes}
+use Rattle.std.specs.Prelude.{Bool, true, false, List, [], ◌∷◌, drop, ◌==◌, ◌&&◌, not, if◌then◌else◌, codes}
 use Rattle.rap_base.specs.TokenKind.{EOF, ERROR, L_CURLY, R_CURLY, SEMICOLON, COLON, EQ, BANG, POUND, UNDERSCORE, IDENT, MUT_KW, EXTERN_KW, CRATE_KW, USE_KW, MOD_KW, TYPE_KW, CONST_KW, STATIC_KW, STRUCT_KW, ENUM_KW, UNION_KW, MACRO_KW, MACRO_RULES_KW, BUILTIN_KW, GLOBAL_ASM_KW, FN_KW, TRAIT_KW, IMPL_KW, LET_KW, SHEBANG, FRONTMATTER}
 use Rattle.rap_base.specs.NodeKind.{EXTERN_CRATE, MODULE, TYPE_ALIAS, ITEM_LIST, EXTERN_ITEM_LIST, EXTERN_BLOCK}
-use Rattle.rap_events.specs.Machine.{push, top}
 use Rattle.rap_events.specs.Record.{Record, next_kind, kind_at, contextual_at}
 use Rattle.rap_events.specs.Composite.{is_at}
-use Rattle.rap_events.specs.State.{State, next}
-use Rattle.rap_events.specs.declared.parser.Marker.{Marker}
 use Rattle.rap_grammar_scripts.specs.Adt.{strukt, union, enum_}
 use Rattle.rap_grammar_scripts.specs.Attributes.{inner_attrs, outer_attrs}
 use Rattle.rap_grammar_scripts.specs.Blocks.{error_block, error_let_stmt}
@@ -20,11 +17,11 @@ use Rattle.rap_grammar_scripts.specs.Macros.{macro_rules, macro_def, macro_call}
 use Rattle.rap_grammar_scripts.specs.Modifiers.{found, modifiers}
 use Rattle.rap_grammar_scripts.specs.Paths.{use_path}
 use Rattle.rap_grammar_scripts.specs.Phrase.{Phrase, any_item}
-use Rattle.rap_grammar_scripts.specs.Script.{Script, Outcome, nothing, something, block, again, give, test, token, bear, report, skip, start, finish, abandon, after, rule, loop}
+use Rattle.rap_grammar_scripts.specs.Script.{Script, Outcome, nothing, something, block, again, give, test, token, bear, report, skip, start, finish, abandon, after, loop}
 use Rattle.rap_grammar_scripts.specs.Traits.{trait_, impl_}
 use Rattle.rap_grammar_scripts.specs.UseItem.{use_}
 use Rattle.rap_grammar_scripts.specs.Visibility.{opt_visibility}
-use Rattle.rap_grammar_scripts.specs.Words.{done, if_some, next_is, reads_as, eat, expect, starts_builtin}
+use Rattle.rap_grammar_scripts.specs.Words.{done, if_some, next_is, reads_as, eat, expect, starts_builtin, ◌▸◌, call, recur, choose, optional, only_if}
 
 -- whether there were modifiers, and whether `extern` was one
 abbrev pub has_mods : Outcome → Bool
@@ -41,8 +38,8 @@ has_extern (again a b) = b
 
 unfoldable pub extern_crate : Script Phrase
 extern_crate =
-    token EXTERN_KW (token CRATE_KW (after name_ref_or_self (λ v. after opt_rename (λ w.
-    expect SEMICOLON (finish EXTERN_CRATE done)))))
+    token EXTERN_KW ▸ token CRATE_KW ▸ call name_ref_or_self ▸ call opt_rename ▸ expect SEMICOLON ▸
+    finish EXTERN_CRATE ▸ done
 
 -- items in a list, up to the end, or up to a brace that closes
 abbrev pub ends_items : Bool → List Record → Bool
@@ -50,43 +47,47 @@ ends_items stop_on_r_curly rs = is_at R_CURLY rs && stop_on_r_curly
 
 abbrev pub item_turn : Bool → Bool → Bool → Script Phrase
 item_turn stop_on_r_curly a b =
-    test (is_at EOF) done
-    (test (ends_items stop_on_r_curly) done
-    (rule (any_item stop_on_r_curly true) (λ v. give (again a b))))
+    choose
+    ((is_at EOF, done)
+    ∷ (ends_items stop_on_r_curly, done)
+    ∷ [])
+    (recur (any_item stop_on_r_curly true) ▸ give (again a b))
 
 unfoldable pub items : Bool → Script Phrase
 items stop_on_r_curly = loop (item_turn stop_on_r_curly) false false
 
 -- the same behind the attributes of what they stand in
 unfoldable pub mod_contents : Bool → Script Phrase
-mod_contents stop_on_r_curly = after inner_attrs (λ v. items stop_on_r_curly)
+mod_contents stop_on_r_curly = call inner_attrs ▸ items stop_on_r_curly
 
 unfoldable pub item_list : Script Phrase
-item_list = start (token L_CURLY (after (mod_contents true) (λ v. expect R_CURLY (finish ITEM_LIST done))))
+item_list = start ▸ token L_CURLY ▸ call (mod_contents true) ▸ expect R_CURLY ▸ finish ITEM_LIST ▸ done
 
 unfoldable pub extern_item_list : Script Phrase
-extern_item_list = start (token L_CURLY (after (mod_contents true) (λ v. expect R_CURLY (finish EXTERN_ITEM_LIST done))))
+extern_item_list = start ▸ token L_CURLY ▸ call (mod_contents true) ▸ expect R_CURLY ▸ finish EXTERN_ITEM_LIST ▸ done
 
 -- what a module holds, or the semicolon in its place
 unfoldable pub mod_body : Script Phrase
 mod_body =
-    test (is_at L_CURLY) item_list
-    (test (is_at SEMICOLON) (token SEMICOLON done) (report (codes "expected `;` or `{`") done))
+    choose
+    ((is_at L_CURLY, item_list)
+    ∷ (is_at SEMICOLON, token SEMICOLON ▸ done)
+    ∷ [])
+    (report (codes "expected `;` or `{`") ▸ done)
 
 unfoldable pub mod_item : Script Phrase
-mod_item = token MOD_KW (after name (λ v. after mod_body (λ w. finish MODULE done)))
+mod_item = token MOD_KW ▸ call name ▸ call mod_body ▸ finish MODULE ▸ done
 
 unfoldable pub alias_bounds : Script Phrase
-alias_bounds = test (is_at COLON) bounds done
+alias_bounds = optional (is_at COLON) bounds
 
 unfoldable pub aliased_type : Script Phrase
-aliased_type = test (is_at EQ) (token EQ type_) done
+aliased_type = optional (is_at EQ) (token EQ ▸ type_)
 
 unfoldable pub type_alias : Script Phrase
 type_alias =
-    token TYPE_KW (after name (λ v. after opt_generic_param_list (λ w. after alias_bounds (λ x.
-    after opt_where_clause (λ y. after aliased_type (λ z. after opt_where_clause (λ u.
-    expect SEMICOLON (finish TYPE_ALIAS done))))))))
+    token TYPE_KW ▸ call name ▸ call opt_generic_param_list ▸ call alias_bounds ▸ call opt_where_clause ▸
+    call aliased_type ▸ call opt_where_clause ▸ expect SEMICOLON ▸ finish TYPE_ALIAS ▸ done
 
 -- what begins with `type`
 unfoldable pub type_item : Script Phrase
@@ -97,13 +98,13 @@ abbrev pub is_named : List Record → Bool
 is_named rs = one_of (IDENT ∷ UNDERSCORE ∷ MUT_KW ∷ []) (kind_at rs 1)
 
 unfoldable pub opt_extern_crate : Script Phrase
-opt_extern_crate = test (λ rs. is_at CRATE_KW (drop 1 rs)) extern_crate (give nothing)
+opt_extern_crate = only_if (λ rs. is_at CRATE_KW (drop 1 rs)) extern_crate
 
 unfoldable pub opt_named_const : Script Phrase
-opt_named_const = test is_named konst (give nothing)
+opt_named_const = only_if is_named konst
 
 unfoldable pub opt_static : Script Phrase
-opt_static = test is_named static_ (give nothing)
+opt_static = only_if is_named static_
 
 -- an item that begins with an identifier
 abbrev pub starts_union : List Record → Bool
@@ -116,54 +117,59 @@ abbrev pub starts_global_asm : List Record → Bool
 starts_global_asm rs = starts_builtin rs && (contextual_at rs 2 == GLOBAL_ASM_KW)
 
 unfoldable pub global_asm : Script Phrase
-global_asm = bear BUILTIN_KW (token POUND (bear GLOBAL_ASM_KW (after parse_asm_expr (λ v. done))))
+global_asm = bear BUILTIN_KW ▸ token POUND ▸ bear GLOBAL_ASM_KW ▸ call parse_asm_expr ▸ done
 
 unfoldable pub opt_item_by_name : Script Phrase
 opt_item_by_name =
-    test starts_union union
-    (test starts_macro_rules macro_rules
-    (test starts_global_asm global_asm
-    (give nothing)))
+    choose
+    ((starts_union, union)
+    ∷ (starts_macro_rules, macro_rules)
+    ∷ (starts_global_asm, global_asm)
+    ∷ [])
+    (give nothing)
 
 unfoldable pub opt_item_without_modifiers : Script Phrase
 opt_item_without_modifiers =
-    test (next_is EXTERN_KW) opt_extern_crate
-    (test (next_is USE_KW) use_
-    (test (next_is MOD_KW) mod_item
-    (test (next_is TYPE_KW) type_item
-    (test (next_is STRUCT_KW) strukt
-    (test (next_is ENUM_KW) enum_
-    (test (next_is MACRO_KW) macro_def
-    (test (next_is CONST_KW) opt_named_const
-    (test (next_is STATIC_KW) opt_static
-    (test (next_is IDENT) opt_item_by_name
-    (give nothing))))))))))
+    choose
+    ((next_is EXTERN_KW, opt_extern_crate)
+    ∷ (next_is USE_KW, use_)
+    ∷ (next_is MOD_KW, mod_item)
+    ∷ (next_is TYPE_KW, type_item)
+    ∷ (next_is STRUCT_KW, strukt)
+    ∷ (next_is ENUM_KW, enum_)
+    ∷ (next_is MACRO_KW, macro_def)
+    ∷ (next_is CONST_KW, opt_named_const)
+    ∷ (next_is STATIC_KW, opt_static)
+    ∷ (next_is IDENT, opt_item_by_name)
+    ∷ [])
+    (give nothing)
 
 -- a constant behind modifiers: no block behind `const`
 unfoldable pub opt_const : Script Phrase
-opt_const = test (λ rs. not (kind_at rs 1 == L_CURLY)) konst (give nothing)
+opt_const = only_if (λ rs. not (kind_at rs 1 == L_CURLY)) konst
 
 unfoldable pub opt_extern_block : Bool → Script Phrase
-opt_extern_block has_extern =
-    if has_extern then after extern_item_list (λ v. finish EXTERN_BLOCK done) else give nothing
+opt_extern_block has_extern = if has_extern then call extern_item_list ▸ finish EXTERN_BLOCK ▸ done else give nothing
 
 -- an item behind its modifiers
 unfoldable pub opt_item_with_modifiers : Bool → Script Phrase
 opt_item_with_modifiers has_extern =
-    test (next_is FN_KW) fn_
-    (test (next_is CONST_KW) opt_const
-    (test (next_is STATIC_KW) opt_static
-    (test (next_is TRAIT_KW) trait_
-    (test (next_is IMPL_KW) impl_
-    (test (next_is TYPE_KW) type_item
-    (test (next_is L_CURLY) (opt_extern_block has_extern)
-    (give nothing)))))))
+    choose
+    ((next_is FN_KW, fn_)
+    ∷ (next_is CONST_KW, opt_const)
+    ∷ (next_is STATIC_KW, opt_static)
+    ∷ (next_is TRAIT_KW, trait_)
+    ∷ (next_is IMPL_KW, impl_)
+    ∷ (next_is TYPE_KW, type_item)
+    ∷ (next_is L_CURLY, opt_extern_block has_extern)
+    ∷ [])
+    (give nothing)
 
 -- where no item follows what stands before one
 unfoldable pub refuse : Bool → Bool → Script Phrase
 refuse has_visibility has_mods =
-    if has_mods then report (codes "expected fn, trait or impl") (finish ERROR done)
-    else if has_visibility then report (codes "expected an item") (finish ERROR done)
+    if has_mods then report (codes "expected fn, trait or impl") ▸ finish ERROR ▸ done
+    else if has_visibility then report (codes "expected an item") ▸ finish ERROR ▸ done
     else give nothing
 
 unfoldable pub opt_modified_item : Bool → Bool → Script Phrase
@@ -182,31 +188,29 @@ opt_item is_in_extern =
 -- a semicolon behind an item
 unfoldable pub after_item : Script Phrase
 after_item =
-    test (is_at SEMICOLON)
-    (skip (codes "expected item, found `;`\nconsider removing this semicolon") done)
-    done
+    optional (is_at SEMICOLON) (skip (codes "expected item, found `;`\nconsider removing this semicolon") ▸ done)
 
 -- a macro call in the place of an item, or a path alone, whose node is open
 unfoldable pub path_item : Script Phrase
-path_item =
-    after use_path (λ v. test (is_at BANG) macro_call (finish ERROR (report (codes "expected an item") done)))
+path_item = call use_path ▸ test (is_at BANG) macro_call (finish ERROR ▸ report (codes "expected an item") ▸ done)
 
 -- a brace that closes nothing
 unfoldable pub unmatched_brace : Script Phrase
-unmatched_brace = start (report (codes "unmatched `}`") (token R_CURLY (finish ERROR done)))
+unmatched_brace = start ▸ report (codes "unmatched `}`") ▸ token R_CURLY ▸ finish ERROR ▸ done
 
 -- where no item begins and no path
 unfoldable pub missing_item : Bool → Script Phrase
 missing_item stop_on_r_curly =
-    test (next_is L_CURLY) (error_block (codes "expected an item"))
-    (test (λ rs. next_is R_CURLY rs && not stop_on_r_curly) unmatched_brace
-    (test (λ rs. one_of (EOF ∷ R_CURLY ∷ []) (next_kind rs)) (report (codes "expected an item") done)
-    (test (next_is LET_KW) (error_let_stmt (codes "expected an item"))
-    (skip (codes "expected an item") done))))
+    choose
+    ((next_is L_CURLY, error_block (codes "expected an item"))
+    ∷ (λ rs. next_is R_CURLY rs && not stop_on_r_curly, unmatched_brace)
+    ∷ (λ rs. one_of (EOF ∷ R_CURLY ∷ []) (next_kind rs), report (codes "expected an item") ▸ done)
+    ∷ (next_is LET_KW, error_let_stmt (codes "expected an item"))
+    ∷ [])
+    (skip (codes "expected an item") ▸ done)
 
 unfoldable pub macro_or_error : Bool → Script Phrase
-macro_or_error stop_on_r_curly =
-    test starts_use_path path_item (abandon (missing_item stop_on_r_curly))
+macro_or_error stop_on_r_curly = test starts_use_path path_item (abandon ▸ missing_item stop_on_r_curly)
 
 -- an item behind its attributes, or what stands in its place
 unfoldable pub marked_item : Bool → Bool → Script Phrase
@@ -215,9 +219,8 @@ marked_item stop_on_r_curly is_in_extern =
 
 -- an item, or a macro call in its place
 unfoldable pub item_or_macro : Bool → Bool → Script Phrase
-item_or_macro stop_on_r_curly is_in_extern =
-    start (after outer_attrs (λ v. marked_item stop_on_r_curly is_in_extern))
+item_or_macro stop_on_r_curly is_in_extern = start ▸ call outer_attrs ▸ marked_item stop_on_r_curly is_in_extern
 
 -- what a file holds, behind its shebang and its frontmatter
 unfoldable pub source_file : Script Phrase
-source_file = eat SHEBANG (eat FRONTMATTER (mod_contents false))
+source_file = eat SHEBANG ▸ eat FRONTMATTER ▸ mod_contents false

@@ -1,4 +1,5 @@
 -- Macros, and calls of them in the place of an item.
+-- In the Rust crate: `grammar/items.rs`.
 use Rattle.std.specs.Prelude.{[], ◌∷◌, codes}
 use Rattle.rap_base.specs.TokenKind.{L_PAREN, L_BRACK, L_CURLY, SEMICOLON, BANG, MACRO_KW, MACRO_RULES_KW}
 use Rattle.rap_base.specs.NodeKind.{MACRO_RULES, MACRO_DEF, MACRO_CALL}
@@ -10,38 +11,40 @@ use Rattle.rap_grammar_scripts.specs.Phrase.{Phrase}
 use Rattle.rap_grammar_scripts.specs.Recovery.{is_item_recovery}
 use Rattle.rap_grammar_scripts.specs.Script.{Script, Outcome, nothing, something, block, again, test, token, bear, report, finish, after}
 use Rattle.rap_grammar_scripts.specs.TokenTree.{bracketed_tokens, macro_call_after_excl}
-use Rattle.rap_grammar_scripts.specs.Words.{done, next_is, expect}
+use Rattle.rap_grammar_scripts.specs.Words.{done, next_is, expect, ◌▸◌, call, choose}
 
 -- the rules of a macro in their brackets; a semicolon stands behind other brackets than braces
 unfoldable pub rules_in_brackets : Script Phrase
 rules_in_brackets =
-    test (λ rs. one_of (L_BRACK ∷ L_PAREN ∷ []) (next_kind rs)) (after bracketed_tokens (λ v. expect SEMICOLON done))
-    (test (next_is L_CURLY) bracketed_tokens
-    (report (codes "expected `{`, `[`, `(`") done))
+    choose
+    ((λ rs. one_of (L_BRACK ∷ L_PAREN ∷ []) (next_kind rs), call bracketed_tokens ▸ expect SEMICOLON ▸ done)
+    ∷ (next_is L_CURLY, bracketed_tokens)
+    ∷ [])
+    (report (codes "expected `{`, `[`, `(`") ▸ done)
 
 unfoldable pub macro_rules : Script Phrase
-macro_rules =
-    bear MACRO_RULES_KW (expect BANG (after name (λ v. after rules_in_brackets (λ w. finish MACRO_RULES done))))
+macro_rules = bear MACRO_RULES_KW ▸ expect BANG ▸ call name ▸ call rules_in_brackets ▸ finish MACRO_RULES ▸ done
 
 -- what a macro is expanded to, behind its parameters
 unfoldable pub macro_def_body : Script Phrase
 macro_def_body =
-    test (λ rs. is_bracket (next_kind rs)) bracketed_tokens (report (codes "expected `{`, `[`, `(`") done)
+    test (λ rs. is_bracket (next_kind rs)) bracketed_tokens (report (codes "expected `{`, `[`, `(`") ▸ done)
 
 unfoldable pub macro_def_tokens : Script Phrase
 macro_def_tokens =
-    test (is_at L_CURLY) bracketed_tokens
-    (test (is_at L_PAREN) (after bracketed_tokens (λ v. macro_def_body))
-    (report (codes "unmatched `(`") done))
+    choose
+    ((is_at L_CURLY, bracketed_tokens)
+    ∷ (is_at L_PAREN, call bracketed_tokens ▸ macro_def_body)
+    ∷ [])
+    (report (codes "unmatched `(`") ▸ done)
 
 unfoldable pub macro_def : Script Phrase
-macro_def =
-    token MACRO_KW (after (name_r is_item_recovery) (λ v. after macro_def_tokens (λ w. finish MACRO_DEF done)))
+macro_def = token MACRO_KW ▸ call (name_r is_item_recovery) ▸ call macro_def_tokens ▸ finish MACRO_DEF ▸ done
 
 -- a semicolon, but not behind braces
 abbrev pub semicolon_after : Outcome → Script Phrase → Script Phrase
-semicolon_after nothing s = expect SEMICOLON s
-semicolon_after something s = expect SEMICOLON s
+semicolon_after nothing s = expect SEMICOLON ▸ s
+semicolon_after something s = expect SEMICOLON ▸ s
 semicolon_after block s = s
 semicolon_after (again a b) s = s
 

@@ -1,16 +1,16 @@
 -- What may stand before the keyword of an item.
-use Rattle.std.specs.Prelude.{◌≡◌, ℕ, Bool, true, false, List, [], ◌∷◌, drop, ◌==◌, ◌&&◌, ◌||◌, not, codes}
+-- In the Rust crate: `grammar/items.rs`.
+use Rattle.std.specs.Prelude.{ℕ, Bool, true, false, List, [], ◌∷◌, drop, ◌==◌, ◌&&◌, ◌||◌, not, codes}
 use Rattle.rap_base.specs.TokenKind.{L_PAREN, R_PAREN, L_CURLY, PIPE, CRATE_KW, SUPER_KW, SELF_KW, IN_KW, IMPL_KW, CONST_KW, ASYNC_KW, GEN_KW, MOVE_KW, FN_KW, UNSAFE_KW, SAFE_KW, EXTERN_KW, AUTO_KW, TRAIT_KW, DEFAULT_KW, TYPE_KW}
 use Rattle.rap_base.specs.NodeKind.{IMPL_RESTRICTION}
 use Rattle.rap_events.specs.Record.{Record, kind_at}
 use Rattle.rap_events.specs.Composite.{is_at}
-use Rattle.rap_events.specs.State.{State}
 use Rattle.rap_grammar_scripts.specs.First.{one_of}
 use Rattle.rap_grammar_scripts.specs.Grammar.{abi}
 use Rattle.rap_grammar_scripts.specs.Phrase.{Phrase}
-use Rattle.rap_grammar_scripts.specs.Script.{Script, Outcome, nothing, something, block, again, give, test, token, bear, report, start, finish, after}
+use Rattle.rap_grammar_scripts.specs.Script.{Script, Outcome, nothing, something, block, again, give, token, bear, report, start, finish, after}
 use Rattle.rap_grammar_scripts.specs.Visibility.{opt_visibility_inner}
-use Rattle.rap_grammar_scripts.specs.Words.{done, if_some, reads_as, eat}
+use Rattle.rap_grammar_scripts.specs.Words.{done, if_some, reads_as, eat, ◌▸◌, choose, only_if}
 
 -- whether a modifier was there, and whether one of two was
 abbrev pub found : Outcome → Bool
@@ -33,19 +33,20 @@ is_impl_restriction rs =
 
 unfoldable pub impl_restriction : Script Phrase
 impl_restriction =
-    start (token IMPL_KW (after (opt_visibility_inner false) (λ v.
-    if_some v (finish IMPL_RESTRICTION done)
-    (report (codes "expected an impl restriction") (finish IMPL_RESTRICTION done)))))
+    start ▸ token IMPL_KW ▸
+    after (opt_visibility_inner false) (λ v.
+    if_some v (finish IMPL_RESTRICTION ▸ done)
+    (report (codes "expected an impl restriction") ▸ finish IMPL_RESTRICTION ▸ done))
 
 unfoldable pub opt_impl_restriction : Script Phrase
-opt_impl_restriction = test is_impl_restriction impl_restriction (give nothing)
+opt_impl_restriction = only_if is_impl_restriction impl_restriction
 
 -- a modifier that is a keyword, or an identifier that is read as one, if the tokens that come next say so
 unfoldable pub modifier : (List Record → Bool) → ℕ → Script Phrase
-modifier h kind = test h (token kind done) (give nothing)
+modifier h kind = only_if h (token kind ▸ done)
 
 unfoldable pub modifier_as : (List Record → Bool) → ℕ → Script Phrase
-modifier_as h kind = test h (bear kind done) (give nothing)
+modifier_as h kind = only_if h (bear kind ▸ done)
 
 -- a keyword before an item, and before no block and no closure
 abbrev pub is_const_modifier : List Record → Bool
@@ -82,7 +83,7 @@ safety is_in_extern =
     give (either_of a b)))
 
 unfoldable pub opt_abi : Script Phrase
-opt_abi = test (is_at EXTERN_KW) abi (give nothing)
+opt_abi = only_if (is_at EXTERN_KW) abi
 
 -- a `default` before an item, and with the modifier behind it
 abbrev pub is_default : List Record → Bool
@@ -99,10 +100,12 @@ is_default_async rs =
 
 unfoldable pub opt_default : Script Phrase
 opt_default =
-    test is_default (bear DEFAULT_KW done)
-    (test is_default_unsafe (bear DEFAULT_KW (token UNSAFE_KW done))
-    (test is_default_async (bear DEFAULT_KW (token ASYNC_KW (eat UNSAFE_KW done)))
-    (give nothing)))
+    choose
+    ((is_default, bear DEFAULT_KW ▸ done)
+    ∷ (is_default_unsafe, bear DEFAULT_KW ▸ token UNSAFE_KW ▸ done)
+    ∷ (is_default_async, bear DEFAULT_KW ▸ token ASYNC_KW ▸ eat UNSAFE_KW ▸ done)
+    ∷ [])
+    (give nothing)
 
 unfoldable pub auto_or_default : Script Phrase
 auto_or_default =

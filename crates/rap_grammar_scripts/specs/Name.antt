@@ -3,7 +3,7 @@ use Rattle.rap_base.specs.TokenKind.{IDENT}
 use Rattle.rap_base.specs.NodeKind.{NAME}
 use Rattle.rap_grammar_scripts.specs.Phrase.{Phrase}
 use Rattle.rap_grammar_scripts.specs.Script.{Script, token, start, finish}
-use Rattle.rap_grammar_scripts.specs.Words.{done}
+use Rattle.rap_grammar_scripts.specs.Words.{done, ◌▸◌}
 
 abbrev pub given_name : Script Phrase
-given_name = start (token IDENT (finish NAME done))
+given_name = start ▸ token IDENT ▸ finish NAME ▸ done

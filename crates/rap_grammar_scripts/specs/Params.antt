@@ -1,5 +1,5 @@
 -- Parameters of functions and closures.
-use Rattle.std.specs.Prelude.{ℕ, ◌+◌, Bool, false, ◌==◌, ◌&&◌, ◌||◌, not, if◌then◌else◌, List, drop, codes}
+use Rattle.std.specs.Prelude.{ℕ, ◌+◌, Bool, false, ◌==◌, ◌&&◌, ◌||◌, not, if◌then◌else◌, List, drop, codes, [], ◌∷◌}
 use Rattle.rap_base.specs.TokenKind.{EOF, L_PAREN, R_PAREN, PIPE, COMMA, COLON, COLON2, DOT3, AMP, IDENT, UNDERSCORE, LIFETIME_IDENT, MUT_KW, SELF_KW}
 use Rattle.rap_base.specs.NodeKind.{NAME, PARAM, SELF_PARAM, PARAM_LIST}
 use Rattle.rap_events.specs.Record.{Record, next_kind, kind_at}
@@ -11,7 +11,7 @@ use Rattle.rap_grammar_scripts.specs.Grammar.{lifetime}
 use Rattle.rap_grammar_scripts.specs.Phrase.{Phrase}
 use Rattle.rap_grammar_scripts.specs.Script.{Script, nothing, give, test, token, report, start, finish, abandon, after, loop, again}
 use Rattle.rap_grammar_scripts.specs.TypeParts.{ascription}
-use Rattle.rap_grammar_scripts.specs.Words.{done, if_some, eat, expect}
+use Rattle.rap_grammar_scripts.specs.Words.{done, if_some, eat, expect, ◌▸◌, call, choose, optional, only_if}
 use Rattle.rap_grammar_scripts.specs.declared.arguments.Flavor.{Flavor}
 use Rattle.rap_grammar_scripts.specs.declared.arguments.Flavor.TheVariants as flavor
 
@@ -43,33 +43,33 @@ abbrev pub is_self_ref : List Record → Bool
 is_self_ref rs = is_at AMP rs && isolated_self (past MUT_KW (past LIFETIME_IDENT 1 rs) rs) rs
 
 unfoldable pub self_as_name : Script Phrase
-self_as_name = start (token SELF_KW (finish NAME done))
+self_as_name = start ▸ token SELF_KW ▸ finish NAME ▸ done
 
 unfoldable pub self_value : Script Phrase
-self_value = eat MUT_KW (after self_as_name (λ v. test (is_at COLON) ascription done))
+self_value = eat MUT_KW ▸ call self_as_name ▸ optional (is_at COLON) ascription
 
 -- a `self` behind a `mut`, if there is one
 unfoldable pub self_mut : Script Phrase
-self_mut = eat MUT_KW self_as_name
+self_mut = eat MUT_KW ▸ self_as_name
 
 unfoldable pub self_ref : Script Phrase
-self_ref = token AMP (test (is_at LIFETIME_IDENT) (after lifetime (λ v. self_mut)) self_mut)
+self_ref = token AMP ▸ test (is_at LIFETIME_IDENT) (call lifetime ▸ self_mut) self_mut
 
 -- a parameter that is a `self`, without its marker, if one comes next
 unfoldable pub opt_self_param : Script Phrase
-opt_self_param = test is_self_value self_value (test is_self_ref self_ref (give nothing))
+opt_self_param = choose ((is_self_value, self_value) ∷ (is_self_ref, self_ref) ∷ []) (give nothing)
 
 unfoldable pub variadic_param : Script Phrase
-variadic_param = test (λ rs. is_at COLON rs && is_at DOT3 (drop 1 rs)) (token COLON (token DOT3 done)) (give nothing)
+variadic_param = only_if (λ rs. is_at COLON rs && is_at DOT3 (drop 1 rs)) (token COLON ▸ token DOT3 ▸ done)
 
 -- what stands behind a parameter's pattern
 unfoldable pub param_type : Script Phrase
 param_type =
-    after variadic_param (λ v. if_some v done
-    (test (is_at COLON) ascription (report (codes "missing type for function parameter") done)))
+    after variadic_param (λ v.
+    if_some v done (test (is_at COLON) ascription (report (codes "missing type for function parameter") ▸ done)))
 
 unfoldable pub fn_def_param : Script Phrase
-fn_def_param = test (is_at DOT3) (token DOT3 done) (after pattern (λ v. param_type))
+fn_def_param = test (is_at DOT3) (token DOT3 ▸ done) (call pattern ▸ param_type)
 
 -- a name and a colon come next
 abbrev pub is_named_param : List Record → Bool
@@ -77,12 +77,10 @@ is_named_param rs =
     (is_at IDENT rs || is_at UNDERSCORE rs) && ((kind_at rs 1 == COLON) && not (is_at COLON2 (drop 1 rs)))
 
 unfoldable pub fn_ptr_param : Script Phrase
-fn_ptr_param =
-    test (is_at DOT3) (token DOT3 done)
-    (test is_named_param (after pattern_single (λ v. param_type)) type_)
+fn_ptr_param = choose ((is_at DOT3, token DOT3 ▸ done) ∷ (is_named_param, call pattern_single ▸ param_type) ∷ []) type_
 
 unfoldable pub closure_param : Script Phrase
-closure_param = after pattern_single (λ v. test (λ rs. is_at COLON rs && not (is_at COLON2 rs)) ascription done)
+closure_param = call pattern_single ▸ optional (λ rs. is_at COLON rs && not (is_at COLON2 rs)) ascription
 
 -- a parameter without its marker
 abbrev pub param : Flavor → Script Phrase
@@ -93,40 +91,47 @@ param flavor.Closure = closure_param
 -- on to the next parameter: something where one may follow
 unfoldable pub after_param : Script Phrase
 after_param =
-    test (is_at COMMA) (token COMMA done)
-    (test (λ rs. is_param_first (next_kind rs)) (report (codes "expected `,`") done) (give nothing))
+    choose
+    ((is_at COMMA, token COMMA ▸ done)
+    ∷ (λ rs. is_param_first (next_kind rs), report (codes "expected `,`") ▸ done)
+    ∷ [])
+    (give nothing)
 
 -- a parameter from its marker on, behind its attributes
 unfoldable pub marked_param : Flavor → Script Phrase
 marked_param f =
-    test (λ rs. is_param_first (next_kind rs))
-    (after (param f) (λ v. finish PARAM after_param))
-    (report (codes "expected value parameter") (abandon (test (is_at COMMA) (token COMMA done) (give nothing))))
+    test (λ rs. is_param_first (next_kind rs)) (call (param f) ▸ finish PARAM ▸ after_param)
+    (report (codes "expected value parameter") ▸ abandon ▸ only_if (is_at COMMA) (token COMMA ▸ done))
 
 unfoldable pub attributed_param : Flavor → Script Phrase
-attributed_param f = start (after outer_attrs (λ v. marked_param f))
+attributed_param f = start ▸ call outer_attrs ▸ marked_param f
 
 abbrev pub param_turn : Flavor → Bool → Bool → Script Phrase
 param_turn f a b =
-    test (is_at EOF) done
-    (test (is_at (ket f)) done
-    (after (attributed_param f) (λ v. if_some v (give (again a b)) done)))
+    choose
+    ((is_at EOF, done)
+    ∷ (is_at (ket f), done)
+    ∷ [])
+    (after (attributed_param f) (λ v. if_some v (give (again a b)) done))
 
 unfoldable pub params : Flavor → Script Phrase
 params f = loop (param_turn f) false false
 
 -- what comes after `self`
 unfoldable pub after_self : Script Phrase
-after_self = test (is_at R_PAREN) done (expect COMMA done)
+after_self = test (is_at R_PAREN) done (expect COMMA ▸ done)
 
 -- the first parameter of a function, which may be a `self`: something where another one may follow
 unfoldable pub first_param : Script Phrase
 first_param =
-    start (after outer_attrs (λ v.
-    after opt_self_param (λ w. if_some w (finish SELF_PARAM after_self)
-    (test (is_at EOF) (abandon (give nothing))
-    (test (is_at R_PAREN) (abandon (give nothing))
-    (marked_param flavor.FnDef))))))
+    start ▸ call outer_attrs ▸
+    after opt_self_param (λ w.
+    if_some w (finish SELF_PARAM ▸ after_self)
+    (choose
+    ((is_at EOF, abandon ▸ give nothing)
+    ∷ (is_at R_PAREN, abandon ▸ give nothing)
+    ∷ [])
+    (marked_param flavor.FnDef)))
 
 unfoldable pub fn_def_params : Script Phrase
 fn_def_params = after first_param (λ v. if_some v (params flavor.FnDef) done)
@@ -137,7 +142,7 @@ params_of flavor.FnPointer = params flavor.FnPointer
 params_of flavor.Closure = params flavor.Closure
 
 unfoldable pub list_ : Flavor → Script Phrase
-list_ f = start (token (bra f) (after (params_of f) (λ v. expect (ket f) (finish PARAM_LIST done))))
+list_ f = start ▸ token (bra f) ▸ call (params_of f) ▸ expect (ket f) ▸ finish PARAM_LIST ▸ done
 
 unfoldable pub param_list_fn_def : Script Phrase
 param_list_fn_def = list_ flavor.FnDef

@@ -10,42 +10,44 @@ use Rattle.rap_grammar_scripts.specs.Grammar.{name_ref_mod_path, delimited, opt_
 use Rattle.rap_grammar_scripts.specs.Phrase.{Phrase}
 use Rattle.rap_grammar_scripts.specs.Recovery.{is_segment_recovery}
 use Rattle.rap_grammar_scripts.specs.Script.{Script, nothing, give, test, token, report, start, precede, finish, abandon, after, loop, again}
-use Rattle.rap_grammar_scripts.specs.Words.{done, if_some, next_is, expect, recover}
+use Rattle.rap_grammar_scripts.specs.Words.{done, if_some, next_is, expect, recover, ◌▸◌, call, choose, optional}
 use Rattle.rap_grammar_scripts.specs.declared.arguments.Mode.{Mode}
 use Rattle.rap_grammar_scripts.specs.declared.arguments.Mode.TheVariants as mode
 
 -- arguments in angle brackets, whose node is open
 unfoldable pub generic_arg_list : Script Phrase
 generic_arg_list =
-    after (delimited generic_arg_element L_ANGLE R_ANGLE COMMA (codes "expected generic argument") is_generic_arg_first)
-    (λ v. finish GENERIC_ARG_LIST done)
+    call (delimited generic_arg_element L_ANGLE R_ANGLE COMMA (codes "expected generic argument") is_generic_arg_first)
+    ▸ finish GENERIC_ARG_LIST ▸ done
 
 -- the arguments behind a name in an expression
 unfoldable pub opt_generic_arg_list_expr : Script Phrase
-opt_generic_arg_list_expr = test starts_expr_args (start (token COLON2 generic_arg_list)) done
+opt_generic_arg_list_expr = optional starts_expr_args (start ▸ token COLON2 ▸ generic_arg_list)
 
 -- A type among those in parentheses. Where none begins, the list ends after its message.
 unfoldable pub type_arg_element : Script Phrase
 type_arg_element =
-    test (λ rs. is_type_first (next_kind rs))
-    (start (after type_ (λ v. finish TYPE_ARG done)))
-    (start (after type_ (λ v. finish TYPE_ARG (give nothing))))
+    test (λ rs. is_type_first (next_kind rs)) (start ▸ call type_ ▸ finish TYPE_ARG ▸ done)
+    (start ▸ call type_ ▸ finish TYPE_ARG ▸ give nothing)
 
 -- types in parentheses, as those of a function that are taken, and the one that it gives back; their node is open
 unfoldable pub parenthesized_args : Script Phrase
 parenthesized_args =
-    after (delimited type_arg_element L_PAREN R_PAREN COMMA (codes "expected type") is_type_first)
-    (λ v. finish PARENTHESIZED_ARG_LIST (after opt_ret_type (λ w. done)))
+    call (delimited type_arg_element L_PAREN R_PAREN COMMA (codes "expected type") is_type_first) ▸
+    finish PARENTHESIZED_ARG_LIST ▸ call opt_ret_type ▸ done
 
 -- two dots in parentheses, for whatever a function gives back; their node is open
 unfoldable pub return_type_syntax : Script Phrase
-return_type_syntax = token L_PAREN (token DOT2 (expect R_PAREN (finish RETURN_TYPE_SYNTAX done)))
+return_type_syntax = token L_PAREN ▸ token DOT2 ▸ expect R_PAREN ▸ finish RETURN_TYPE_SYNTAX ▸ done
 
 -- arguments from their bracket on; their node is open
 unfoldable pub path_type_args : Script Phrase
 path_type_args =
-    test (next_is L_ANGLE) generic_arg_list
-    (test (λ rs. is_at DOT2 (drop 1 rs)) return_type_syntax parenthesized_args)
+    choose
+    ((next_is L_ANGLE, generic_arg_list)
+    ∷ (λ rs. is_at DOT2 (drop 1 rs), return_type_syntax)
+    ∷ [])
+    parenthesized_args
 
 -- arguments in a type, with `::` before their bracket, and without
 abbrev pub has_args_behind : List Record → Bool
@@ -56,7 +58,8 @@ has_args rs = ((next_kind rs == L_ANGLE) && not (kind_at rs 1 == EQ)) || (next_k
 
 -- the arguments behind a name in a type
 unfoldable pub opt_path_type_args : Script Phrase
-opt_path_type_args = test has_args_behind (start (token COLON2 path_type_args)) (test has_args (start path_type_args) done)
+opt_path_type_args =
+    choose ((has_args_behind, start ▸ token COLON2 ▸ path_type_args) ∷ (has_args, start ▸ path_type_args) ∷ []) done
 
 unfoldable pub opt_path_args : Mode → Script Phrase
 opt_path_args mode.Use = done
@@ -70,32 +73,37 @@ opt_path_args mode.Vis = done
 unfoldable pub missing_segment_name : Mode → Bool → Script Phrase
 missing_segment_name m empty =
     recover (codes "expected identifier, `self`, `super`, `crate`, or `Self`") (is_segment_recovery m)
-    (if empty then abandon (give nothing) else finish PATH_SEGMENT done)
-    (finish PATH_SEGMENT done)
+    (if empty then abandon ▸ give nothing else (finish PATH_SEGMENT ▸ done))
+    (finish PATH_SEGMENT ▸ done)
 
 -- a segment's name, and the arguments behind it
 unfoldable pub segment_name : Mode → Bool → Script Phrase
 segment_name m empty =
     test (λ rs. is_path_name (next_kind rs))
-    (after name_ref_mod_path (λ v. after (opt_path_args m) (λ w. finish PATH_SEGMENT done)))
+    (call name_ref_mod_path ▸ call (opt_path_args m) ▸ finish PATH_SEGMENT ▸ done)
     (missing_segment_name m empty)
 
 -- the trait of a type anchor
 unfoldable pub anchor_trait : Script Phrase
-anchor_trait = test (is_at AS_KW) (token AS_KW (test starts_use_path as_trait (report (codes "expected a trait") done))) done
+anchor_trait =
+    optional (is_at AS_KW) (token AS_KW ▸ test starts_use_path as_trait (report (codes "expected a trait") ▸ done))
 
 -- a type, and its trait, in the angle brackets that a path begins with
 unfoldable pub type_anchor : Script Phrase
 type_anchor =
-    start (token L_ANGLE (after type_ (λ v. after anchor_trait (λ w. expect R_ANGLE (finish TYPE_ANCHOR
-    (test (is_at COLON2) done (report (codes "expected `::`") done)))))))
+    start ▸ token L_ANGLE ▸ call type_ ▸ call anchor_trait ▸ expect R_ANGLE ▸ finish TYPE_ANCHOR ▸
+    test (is_at COLON2) done (report (codes "expected `::`") ▸ done)
 
 -- a segment, with `::` before it, or a type anchor, where it is the first
 unfoldable pub path_segment : Mode → Bool → Script Phrase
-path_segment m false = start (segment_name m true)
+path_segment m false = start ▸ segment_name m true
 path_segment m true =
-    start (test (is_at L_ANGLE) (after type_anchor (λ v. finish PATH_SEGMENT done))
-    (test (is_at COLON2) (token COLON2 (segment_name m false)) (segment_name m true)))
+    start ▸
+    choose
+    ((is_at L_ANGLE, call type_anchor ▸ finish PATH_SEGMENT ▸ done)
+    ∷ (is_at COLON2, token COLON2 ▸ segment_name m false)
+    ∷ [])
+    (segment_name m true)
 
 -- another segment comes next: of what is imported, no list and no star behind the `::`
 abbrev pub has_segment : Mode → List Record → Bool
@@ -107,32 +115,31 @@ has_segment mode.Vis rs = is_at COLON2 rs
 
 abbrev pub segment_turn : Mode → Bool → Bool → Script Phrase
 segment_turn m a b =
-    test (has_segment m)
-    (precede (token COLON2 (after (path_segment m false) (λ v. finish PATH (give (again a b))))))
-    done
+    optional (has_segment m) (precede ▸ token COLON2 ▸ call (path_segment m false) ▸ finish PATH ▸ give (again a b))
 
 -- the segments after a path, each with that path in a larger one
 unfoldable pub path_for_qualifier : Mode → Script Phrase
 path_for_qualifier m = loop (segment_turn m) false false
 
 unfoldable pub path : Mode → Script Phrase
-path m = start (after (path_segment m true) (λ v. if_some v (finish PATH (path_for_qualifier m)) (abandon (give nothing))))
+path m =
+    start ▸ after (path_segment m true) (λ v. if_some v (finish PATH ▸ path_for_qualifier m) (abandon ▸ give nothing))
 
 -- a path in an import, in an attribute, in a type, in an expression and in a restriction
 unfoldable pub use_path : Script Phrase
-use_path = after (path mode.Use) (λ v. done)
+use_path = call (path mode.Use) ▸ done
 
 unfoldable pub attr_path : Script Phrase
-attr_path = after (path mode.Attr) (λ v. done)
+attr_path = call (path mode.Attr) ▸ done
 
 unfoldable pub type_path : Script Phrase
-type_path = after (path mode.Type) (λ v. done)
+type_path = call (path mode.Type) ▸ done
 
 unfoldable pub expr_path : Script Phrase
-expr_path = after (path mode.Expr) (λ v. done)
+expr_path = call (path mode.Expr) ▸ done
 
 unfoldable pub vis_path : Script Phrase
-vis_path = after (path mode.Vis) (λ v. done)
+vis_path = call (path mode.Vis) ▸ done
 
 unfoldable pub type_path_for_qualifier : Script Phrase
 type_path_for_qualifier = path_for_qualifier mode.Type

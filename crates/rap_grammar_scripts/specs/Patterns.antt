@@ -16,24 +16,24 @@ use Rattle.rap_grammar_scripts.specs.Paths.{expr_path}
 use Rattle.rap_grammar_scripts.specs.Phrase.{Phrase}
 use Rattle.rap_grammar_scripts.specs.Recovery.{is_pattern_recovery, is_arm_recovery}
 use Rattle.rap_grammar_scripts.specs.Script.{Script, Outcome, nothing, something, block, again, give, look, test, token, bear, report, skip, start, precede, finish, abandon, after, loop}
-use Rattle.rap_grammar_scripts.specs.Words.{done, if_some, next_is, reads_as, eat, expect, recover, of_bool, starts_builtin}
+use Rattle.rap_grammar_scripts.specs.Words.{done, if_some, next_is, reads_as, eat, expect, recover, of_bool, starts_builtin, ◌▸◌, call, choose, optional, only_if}
 
 -- a name that is bound
 unfoldable pub binding : Script Phrase
-binding = eat REF_KW (eat MUT_KW (name_r is_pattern_recovery))
+binding = eat REF_KW ▸ eat MUT_KW ▸ name_r is_pattern_recovery
 
 -- the pattern that a name stands for, behind its `@`
 unfoldable pub at_pattern : Bool → Script Phrase
-at_pattern with_at = test (λ rs. with_at && is_at AT rs) (token AT (after pattern_single (λ v. done))) done
+at_pattern with_at = optional (λ rs. with_at && is_at AT rs) (token AT ▸ call pattern_single ▸ done)
 
 unfoldable pub ident_pat : Bool → Script Phrase
-ident_pat with_at = start (after binding (λ v. after (at_pattern with_at) (λ w. finish IDENT_PAT done)))
+ident_pat with_at = start ▸ call binding ▸ call (at_pattern with_at) ▸ finish IDENT_PAT ▸ done
 
 unfoldable pub box_pat : Script Phrase
-box_pat = start (token BOX_KW (after pattern_single (λ v. finish BOX_PAT done)))
+box_pat = start ▸ token BOX_KW ▸ call pattern_single ▸ finish BOX_PAT ▸ done
 
 unfoldable pub const_block_pat : Script Phrase
-const_block_pat = start (token CONST_KW (after block_expr (λ v. finish CONST_BLOCK_PAT done)))
+const_block_pat = start ▸ token CONST_KW ▸ call block_expr ▸ finish CONST_BLOCK_PAT ▸ done
 
 -- a literal comes next, be it with a minus
 abbrev pub starts_literal_pat : List Record → Bool
@@ -41,32 +41,39 @@ starts_literal_pat rs =
     (is_at MINUS rs && one_of (INT_NUMBER ∷ FLOAT_NUMBER ∷ []) (kind_at rs 1)) || is_literal_first (next_kind rs)
 
 unfoldable pub literal_pat : Script Phrase
-literal_pat = start (eat MINUS (after literal (λ v. finish LITERAL_PAT done)))
+literal_pat = start ▸ eat MINUS ▸ call literal ▸ finish LITERAL_PAT ▸ done
 
 unfoldable pub wildcard_pat : Script Phrase
-wildcard_pat = start (token UNDERSCORE (finish WILDCARD_PAT done))
+wildcard_pat = start ▸ token UNDERSCORE ▸ finish WILDCARD_PAT ▸ done
 
 unfoldable pub ref_pat : Script Phrase
-ref_pat = start (token AMP (eat MUT_KW (after pattern_single (λ v. finish REF_PAT done))))
+ref_pat = start ▸ token AMP ▸ eat MUT_KW ▸ call pattern_single ▸ finish REF_PAT ▸ done
 
 unfoldable pub not_null_pat : Script Phrase
-not_null_pat = start (token BANG (after pattern_single (λ v. finish NOT_NULL done)))
+not_null_pat = start ▸ token BANG ▸ call pattern_single ▸ finish NOT_NULL ▸ done
 
 -- Patterns with commas between them. A comma that is missing before another pattern is reported.
 abbrev pub pat_turn : ℕ → Bool → Bool → Script Phrase
 pat_turn ket a b =
-    test (is_at EOF) done
-    (test (is_at ket) done
-    (after pattern (λ v. test (is_at COMMA) (token COMMA (give (again a b)))
-    (test (λ rs. is_pat_top_first (next_kind rs))
-    (look (λ rs. report (with_kind (codes "expected COMMA, got ") (next_kind rs)) (give (again a b))))
-    done))))
+    choose
+    ((is_at EOF, done)
+    ∷ (is_at ket, done)
+    ∷ [])
+    (call pattern ▸
+    choose
+    ((is_at COMMA, token COMMA ▸ give (again a b))
+    ∷ (
+      λ rs. is_pat_top_first (next_kind rs),
+      look (λ rs. report (with_kind (codes "expected COMMA, got ") (next_kind rs)) ▸ give (again a b)),
+    )
+    ∷ [])
+    done)
 
 unfoldable pub pat_list : ℕ → Script Phrase
 pat_list ket = loop (pat_turn ket) false false
 
 unfoldable pub slice_pat : Script Phrase
-slice_pat = start (token L_BRACK (after (pat_list R_BRACK) (λ v. expect R_BRACK (finish SLICE_PAT done))))
+slice_pat = start ▸ token L_BRACK ▸ call (pat_list R_BRACK) ▸ expect R_BRACK ▸ finish SLICE_PAT ▸ done
 
 -- `..` comes next that is no range's beginning
 abbrev pub starts_rest_pat : List Record → Bool
@@ -74,17 +81,22 @@ starts_rest_pat rs = not (is_at DOT2EQ rs) && (is_at DOT2 rs && not (is_range_pa
 
 -- a comma before the first pattern
 unfoldable pub leading_comma : Script Phrase
-leading_comma = test (is_at COMMA) (token COMMA (report (codes "expected pattern") done)) (give nothing)
+leading_comma = only_if (is_at COMMA) (token COMMA ▸ report (codes "expected pattern") ▸ done)
 
 -- The flags: there is a comma or a `..`, and there is a pattern.
 abbrev pub tuple_pat_turn : Bool → Bool → Script Phrase
 tuple_pat_turn tuple seen =
-    test (is_at EOF) (give (of_bool (seen && not tuple)))
-    (test (is_at R_PAREN) (give (of_bool (seen && not tuple)))
-    (test (λ rs. is_pat_top_first (next_kind rs))
-    (look (λ rs. after pattern (λ v.
-    test (is_at R_PAREN) (give (again (tuple || starts_rest_pat rs) true)) (expect COMMA (give (again true true))))))
-    (report (codes "expected a pattern") (give (of_bool (not tuple))))))
+    choose
+    ((is_at EOF, give (of_bool (seen && not tuple)))
+    ∷ (is_at R_PAREN, give (of_bool (seen && not tuple)))
+    ∷ (
+      λ rs. is_pat_top_first (next_kind rs),
+      look (λ rs. call pattern ▸
+          test (is_at R_PAREN) (give (again (tuple || starts_rest_pat rs) true))
+          (expect COMMA ▸ give (again true true))),
+    )
+    ∷ [])
+    (report (codes "expected a pattern") ▸ give (of_bool (not tuple)))
 
 -- what stands in parentheses: something where it is one pattern, no comma and no `..`
 unfoldable pub tuple_patterns : Bool → Script Phrase
@@ -104,8 +116,9 @@ tuple_pat_kind (again a b) = PAREN_PAT
 
 unfoldable pub tuple_pat : Script Phrase
 tuple_pat =
-    start (token L_PAREN (after leading_comma (λ v. after (tuple_patterns (is_something v)) (λ w.
-    expect R_PAREN (finish (tuple_pat_kind w) done)))))
+    start ▸ token L_PAREN ▸
+    after leading_comma (λ v.
+    after (tuple_patterns (is_something v)) (λ w. expect R_PAREN ▸ finish (tuple_pat_kind w) ▸ done))
 
 -- a field's name or number and this separator come next
 abbrev pub starts_field : ℕ → List Record → Bool
@@ -113,54 +126,66 @@ starts_field separator rs = one_of (IDENT ∷ INT_NUMBER ∷ []) (next_kind rs) 
 
 unfoldable pub record_pat_field : Script Phrase
 record_pat_field =
-    test (starts_field COLON) (after name_ref_or_index (λ v. token COLON (after pattern (λ w. done))))
-    (test (starts_field EQ) (after name_ref_or_index (λ v. skip (codes "expected `:`") (after pattern (λ w. done))))
-    (test (next_is BOX_KW) (after box_pat (λ v. done))
-    (test (λ rs. one_of (REF_KW ∷ MUT_KW ∷ IDENT ∷ []) (next_kind rs)) (after (ident_pat false) (λ v. done))
-    (skip (codes "expected identifier") done))))
+    choose
+    ((starts_field COLON, call name_ref_or_index ▸ token COLON ▸ call pattern ▸ done)
+    ∷ (starts_field EQ, call name_ref_or_index ▸ skip (codes "expected `:`") ▸ call pattern ▸ done)
+    ∷ (next_is BOX_KW, call box_pat ▸ done)
+    ∷ (λ rs. one_of (REF_KW ∷ MUT_KW ∷ IDENT ∷ []) (next_kind rs), call (ident_pat false) ▸ done)
+    ∷ [])
+    (skip (codes "expected identifier") ▸ done)
 
 -- a field with its attributes, or the `..` for the other fields
 unfoldable pub record_pat_element : Script Phrase
 record_pat_element =
-    start (after outer_attrs (λ v.
-    test (is_at DOT2) (token DOT2 (finish REST_PAT done))
-    (test (next_is L_CURLY) (after (error_block (codes "expected ident")) (λ w. abandon done))
-    (after record_pat_field (λ w. finish RECORD_PAT_FIELD done)))))
+    start ▸ call outer_attrs ▸
+    choose
+    ((is_at DOT2, token DOT2 ▸ finish REST_PAT ▸ done)
+    ∷ (next_is L_CURLY, call (error_block (codes "expected ident")) ▸ abandon ▸ done)
+    ∷ [])
+    (call record_pat_field ▸ finish RECORD_PAT_FIELD ▸ done)
 
 abbrev pub record_pat_turn : Bool → Bool → Script Phrase
 record_pat_turn a b =
-    test (is_at EOF) done
-    (test (is_at R_CURLY) done
-    (after record_pat_element (λ v. test (is_at R_CURLY) (give (again a b)) (expect COMMA (give (again a b))))))
+    choose
+    ((is_at EOF, done)
+    ∷ (is_at R_CURLY, done)
+    ∷ [])
+    (call record_pat_element ▸ test (is_at R_CURLY) (give (again a b)) (expect COMMA ▸ give (again a b)))
 
 unfoldable pub record_pat_fields : Script Phrase
 record_pat_fields = loop record_pat_turn false false
 
 unfoldable pub record_pat_field_list : Script Phrase
 record_pat_field_list =
-    start (token L_CURLY (after record_pat_fields (λ v. expect R_CURLY (finish RECORD_PAT_FIELD_LIST done))))
+    start ▸ token L_CURLY ▸ call record_pat_fields ▸ expect R_CURLY ▸ finish RECORD_PAT_FIELD_LIST ▸ done
 
 unfoldable pub tuple_pat_fields : Script Phrase
-tuple_pat_fields = token L_PAREN (after (pat_list R_PAREN) (λ v. expect R_PAREN done))
+tuple_pat_fields = token L_PAREN ▸ call (pat_list R_PAREN) ▸ expect R_PAREN ▸ done
 
 -- a path alone, with its fields, or as the name of a macro
 unfoldable pub path_or_macro_pat : Script Phrase
 path_or_macro_pat =
-    start (after expr_path (λ v.
-    test (next_is L_PAREN) (after tuple_pat_fields (λ w. finish TUPLE_STRUCT_PAT done))
-    (test (next_is L_CURLY) (after record_pat_field_list (λ w. finish RECORD_PAT done))
-    (test (next_is BANG) (after macro_call_after_excl (λ w. finish MACRO_CALL (precede (finish MACRO_PAT done))))
-    (finish PATH_PAT done)))))
+    start ▸ call expr_path ▸
+    choose
+    ((next_is L_PAREN, call tuple_pat_fields ▸ finish TUPLE_STRUCT_PAT ▸ done)
+    ∷ (next_is L_CURLY, call record_pat_field_list ▸ finish RECORD_PAT ▸ done)
+    ∷ (next_is BANG, call macro_call_after_excl ▸ finish MACRO_CALL ▸ precede ▸ finish MACRO_PAT ▸ done)
+    ∷ [])
+    (finish PATH_PAT ▸ done)
 
 -- `builtin#` with a name behind it, which is not taken where it is unknown
 unfoldable pub builtin_pat : Script Phrase
 builtin_pat =
-    start (bear BUILTIN_KW (token POUND
-    (test (reads_as DEREF_KW)
-    (bear DEREF_KW (expect L_PAREN (after pattern (λ v. expect R_PAREN (finish DEREF_PAT done)))))
-    (test (reads_as CFG_KW)
-    (bear CFG_KW (expect L_PAREN (after cfg_predicate (λ v. eat COMMA (expect R_PAREN (finish CFG_PRED_PAT done))))))
-    (report (codes "unknown name after `builtin#`") (finish ERROR (give nothing)))))))
+    start ▸ bear BUILTIN_KW ▸ token POUND ▸
+    choose
+    ((reads_as DEREF_KW, bear DEREF_KW ▸ expect L_PAREN ▸ call pattern ▸ expect R_PAREN ▸ finish DEREF_PAT ▸ done)
+    ∷ (
+      reads_as CFG_KW,
+      bear CFG_KW ▸ expect L_PAREN ▸ call cfg_predicate ▸ eat COMMA ▸ expect R_PAREN ▸ finish CFG_PRED_PAT ▸
+          done,
+    )
+    ∷ [])
+    (report (codes "unknown name after `builtin#`") ▸ finish ERROR ▸ give nothing)
 
 -- an identifier comes next that begins no path of several names, no path with fields, and no macro call
 abbrev pub starts_ident_pat : List Record → Bool
@@ -179,21 +204,27 @@ missing_pat in_arm = recover (codes "expected pattern") (ends_search in_arm) (gi
 -- a pattern that begins with no keyword and no path
 unfoldable pub symbol_pat : Bool → Script Phrase
 symbol_pat in_arm =
-    test starts_literal_pat literal_pat
-    (test (next_is UNDERSCORE) wildcard_pat
-    (test (next_is AMP) ref_pat
-    (test (next_is L_PAREN) tuple_pat
-    (test (next_is L_BRACK) slice_pat
-    (test (next_is BANG) not_null_pat (missing_pat in_arm))))))
+    choose
+    ((starts_literal_pat, literal_pat)
+    ∷ (next_is UNDERSCORE, wildcard_pat)
+    ∷ (next_is AMP, ref_pat)
+    ∷ (next_is L_PAREN, tuple_pat)
+    ∷ (next_is L_BRACK, slice_pat)
+    ∷ (next_is BANG, not_null_pat)
+    ∷ [])
+    (missing_pat in_arm)
 
 unfoldable pub atom_pat : Bool → Script Phrase
 atom_pat in_arm =
-    test starts_builtin builtin_pat
-    (test (next_is BOX_KW) box_pat
-    (test (λ rs. one_of (REF_KW ∷ MUT_KW ∷ []) (next_kind rs)) (ident_pat true)
-    (test (next_is CONST_KW) const_block_pat
-    (test starts_ident_pat (ident_pat true)
-    (test starts_path path_or_macro_pat (symbol_pat in_arm))))))
+    choose
+    ((starts_builtin, builtin_pat)
+    ∷ (next_is BOX_KW, box_pat)
+    ∷ (λ rs. one_of (REF_KW ∷ MUT_KW ∷ []) (next_kind rs), ident_pat true)
+    ∷ (next_is CONST_KW, const_block_pat)
+    ∷ (starts_ident_pat, ident_pat true)
+    ∷ (starts_path, path_or_macro_pat)
+    ∷ [])
+    (symbol_pat in_arm)
 
 -- where a range that has begun ends
 abbrev pub ends_range_pat : ℕ → Bool
@@ -202,34 +233,39 @@ ends_range_pat kind = one_of (EQ ∷ COMMA ∷ COLON ∷ R_PAREN ∷ R_CURLY ∷
 -- a range from the pattern before it on
 unfoldable pub range_from_pat : Bool → ℕ → Script Phrase
 range_from_pat in_arm op =
-    precede (token op (test (λ rs. ends_range_pat (next_kind rs))
-    (finish RANGE_PAT done)
-    (after (atom_pat in_arm) (λ v. finish RANGE_PAT done))))
+    precede ▸ token op ▸
+    test (λ rs. ends_range_pat (next_kind rs)) (finish RANGE_PAT ▸ done)
+    (call (atom_pat in_arm) ▸ finish RANGE_PAT ▸ done)
 
 unfoldable pub range_op : Bool → Script Phrase
 range_op in_arm =
-    test (is_at DOT3) (range_from_pat in_arm DOT3)
-    (test (is_at DOT2EQ) (range_from_pat in_arm DOT2EQ)
-    (test (is_at DOT2) (range_from_pat in_arm DOT2) done))
+    choose
+    ((is_at DOT3, range_from_pat in_arm DOT3)
+    ∷ (is_at DOT2EQ, range_from_pat in_arm DOT2EQ)
+    ∷ (is_at DOT2, range_from_pat in_arm DOT2)
+    ∷ [])
+    done
 
 -- a range without a start, and `..` alone
 unfoldable pub range_to_pat : Bool → Script Phrase
-range_to_pat in_arm = start (token DOT2EQ (after (atom_pat in_arm) (λ v. finish RANGE_PAT done)))
+range_to_pat in_arm = start ▸ token DOT2EQ ▸ call (atom_pat in_arm) ▸ finish RANGE_PAT ▸ done
 
 unfoldable pub rest_pat : Bool → Script Phrase
 rest_pat in_arm =
-    start (token DOT2 (test (λ rs. is_range_pat_end_first (next_kind rs))
-    (after (atom_pat in_arm) (λ v. finish RANGE_PAT done))
-    (finish REST_PAT done)))
+    start ▸ token DOT2 ▸
+    test (λ rs. is_range_pat_end_first (next_kind rs)) (call (atom_pat in_arm) ▸ finish RANGE_PAT ▸ done)
+    (finish REST_PAT ▸ done)
 
 unfoldable pub pattern_single_r : Bool → Script Phrase
 pattern_single_r in_arm =
-    test (is_at DOT2EQ) (range_to_pat in_arm)
-    (test (is_at DOT2) (rest_pat in_arm)
-    (after (atom_pat in_arm) (λ v. if_some v (range_op in_arm) done)))
+    choose
+    ((is_at DOT2EQ, range_to_pat in_arm)
+    ∷ (is_at DOT2, rest_pat in_arm)
+    ∷ [])
+    (after (atom_pat in_arm) (λ v. if_some v (range_op in_arm) done))
 
 abbrev pub alternative_turn : Bool → Bool → Bool → Script Phrase
-alternative_turn in_arm a b = test (is_at PIPE) (token PIPE (after (pattern_single_r in_arm) (λ v. give (again a b)))) done
+alternative_turn in_arm a b = optional (is_at PIPE) (token PIPE ▸ call (pattern_single_r in_arm) ▸ give (again a b))
 
 -- the alternatives after a first one
 unfoldable pub alternatives : Bool → Script Phrase
@@ -237,6 +273,7 @@ alternatives in_arm = loop (alternative_turn in_arm) false false
 
 unfoldable pub pattern_r : Bool → Script Phrase
 pattern_r in_arm =
-    start (test (is_at PIPE)
-    (token PIPE (after (pattern_single_r in_arm) (λ v. after (alternatives in_arm) (λ w. finish OR_PAT done))))
-    (after (pattern_single_r in_arm) (λ v. test (is_at PIPE) (after (alternatives in_arm) (λ w. finish OR_PAT done)) (abandon done))))
+    start ▸
+    test (is_at PIPE) (token PIPE ▸ call (pattern_single_r in_arm) ▸ call (alternatives in_arm) ▸ finish OR_PAT ▸ done)
+    (call (pattern_single_r in_arm) ▸
+    test (is_at PIPE) (call (alternatives in_arm) ▸ finish OR_PAT ▸ done) (abandon ▸ done))

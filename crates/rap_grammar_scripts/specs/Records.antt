@@ -1,4 +1,5 @@
 -- Record literals.
+-- In the Rust crate: `grammar/expressions.rs`.
 use Rattle.std.specs.Prelude.{ℕ, Bool, false, [], ◌∷◌, drop, codes}
 use Rattle.rap_base.specs.TokenKind.{EOF, IDENT, INT_NUMBER, L_CURLY, R_CURLY, COMMA, COLON, EQ, COLON2, DOT2}
 use Rattle.rap_base.specs.NodeKind.{RECORD_EXPR_FIELD, RECORD_EXPR_FIELD_LIST}
@@ -11,7 +12,7 @@ use Rattle.rap_grammar_scripts.specs.First.{one_of}
 use Rattle.rap_grammar_scripts.specs.Grammar.{name_ref_or_index}
 use Rattle.rap_grammar_scripts.specs.Phrase.{Phrase}
 use Rattle.rap_grammar_scripts.specs.Script.{Script, give, test, token, report, skip, start, finish, abandon, after, loop, again}
-use Rattle.rap_grammar_scripts.specs.Words.{done, expect}
+use Rattle.rap_grammar_scripts.specs.Words.{done, expect, ◌▸◌, call, choose, optional}
 
 -- a field's name or number
 abbrev pub is_field_name : ℕ → Bool
@@ -20,49 +21,60 @@ is_field_name kind = one_of (IDENT ∷ INT_NUMBER ∷ []) kind
 -- a field's name and the colon behind it, or nothing where the name is the value too
 unfoldable pub field_name : Script Phrase
 field_name =
-    test (λ rs. is_at COLON (drop 1 rs)) (after name_ref_or_index (λ v. token COLON done))
-    (test (λ rs. is_at EQ (drop 1 rs)) (after name_ref_or_index (λ v. skip (codes "expected `:`") done))
-    done)
+    choose
+    ((λ rs. is_at COLON (drop 1 rs), call name_ref_or_index ▸ token COLON ▸ done)
+    ∷ (λ rs. is_at EQ (drop 1 rs), call name_ref_or_index ▸ skip (codes "expected `:`") ▸ done)
+    ∷ [])
+    done
 
 -- the base of a record without its dots, with no node around it
 unfoldable pub base_without_dots : Script Phrase
-base_without_dots = abandon (expect DOT2 (after expr (λ v. done)))
+base_without_dots = abandon ▸ expect DOT2 ▸ call expr ▸ done
 
 -- a field that begins with a name, from the newest node on
 unfoldable pub named_field : Script Phrase
 named_field =
-    test (λ rs. is_at COLON2 (drop 1 rs)) base_without_dots
-    (test (λ rs. is_at DOT2 (drop 1 rs))
-    (after name_ref_or_index (λ v. report (codes "expected `:`") (finish RECORD_EXPR_FIELD done)))
-    (after field_name (λ v. after expr (λ w. finish RECORD_EXPR_FIELD done))))
+    choose
+    ((λ rs. is_at COLON2 (drop 1 rs), base_without_dots)
+    ∷ (
+      λ rs. is_at DOT2 (drop 1 rs),
+      call name_ref_or_index ▸ report (codes "expected `:`") ▸ finish RECORD_EXPR_FIELD ▸ done,
+    )
+    ∷ [])
+    (call field_name ▸ call expr ▸ finish RECORD_EXPR_FIELD ▸ done)
 
 -- what stands behind the dots of the base
 unfoldable pub base_of_record : Script Phrase
 base_of_record =
     test (is_at R_CURLY) done
-    (after expr (λ v. test (is_at COMMA) (report (codes "cannot use a comma after the base struct") done) done))
+    (call expr ▸ optional (is_at COMMA) (report (codes "cannot use a comma after the base struct") ▸ done))
 
 -- a field from the newest node on, or the base
 unfoldable pub marked_field : Script Phrase
 marked_field =
-    test (λ rs. is_field_name (next_kind rs)) named_field
-    (test (is_at DOT2) (abandon (token DOT2 base_of_record))
-    (test (is_at L_CURLY) (after (error_block (codes "expected a field")) (λ v. abandon done))
-    (skip (codes "expected identifier") (abandon done))))
+    choose
+    ((λ rs. is_field_name (next_kind rs), named_field)
+    ∷ (is_at DOT2, abandon ▸ token DOT2 ▸ base_of_record)
+    ∷ (is_at L_CURLY, call (error_block (codes "expected a field")) ▸ abandon ▸ done)
+    ∷ [])
+    (skip (codes "expected identifier") ▸ abandon ▸ done)
 
 -- a field with its attributes
 unfoldable pub record_field : Script Phrase
-record_field = start (after outer_attrs (λ v. marked_field))
+record_field = start ▸ call outer_attrs ▸ marked_field
 
 abbrev pub fields_turn : Bool → Bool → Script Phrase
 fields_turn a b =
-    test (is_at EOF) done
-    (test (is_at R_CURLY) done
-    (after record_field (λ v. test (is_at R_CURLY) (give (again a b)) (expect COMMA (give (again a b))))))
+    choose
+    ((is_at EOF, done)
+    ∷ (is_at R_CURLY, done)
+    ∷ [])
+    (call record_field ▸ test (is_at R_CURLY) (give (again a b)) (expect COMMA ▸ give (again a b)))
 
 unfoldable pub record_fields : Script Phrase
 record_fields = loop fields_turn false false
 
 -- the fields of a record in their braces
 unfoldable pub record_expr_field_list : Script Phrase
-record_expr_field_list = start (token L_CURLY (after record_fields (λ v. expect R_CURLY (finish RECORD_EXPR_FIELD_LIST done))))
+record_expr_field_list =
+    start ▸ token L_CURLY ▸ call record_fields ▸ expect R_CURLY ▸ finish RECORD_EXPR_FIELD_LIST ▸ done

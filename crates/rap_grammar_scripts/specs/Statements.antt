@@ -1,5 +1,6 @@
 -- Statements.
-use Rattle.std.specs.Prelude.{List, Bool, true, false, ◌&&◌, ◌||◌, codes}
+-- In the Rust crate: `grammar/expressions.rs`.
+use Rattle.std.specs.Prelude.{List, Bool, true, false, ◌||◌, codes}
 use Rattle.rap_base.specs.TokenKind.{EOF, R_CURLY, SEMICOLON}
 use Rattle.rap_base.specs.NodeKind.{LET_STMT, EXPR_STMT}
 use Rattle.rap_events.specs.Record.{Record, next_kind}
@@ -11,8 +12,8 @@ use Rattle.rap_grammar_scripts.specs.Expressions.{expr_bp, is_block}
 use Rattle.rap_grammar_scripts.specs.First.{is_expr_first}
 use Rattle.rap_grammar_scripts.specs.Items.{opt_item}
 use Rattle.rap_grammar_scripts.specs.Phrase.{Phrase, statement}
-use Rattle.rap_grammar_scripts.specs.Script.{Script, give, test, token, skip, start, precede, finish, abandon, after, rule, loop, again}
-use Rattle.rap_grammar_scripts.specs.Words.{done, if_some, eat, expect}
+use Rattle.rap_grammar_scripts.specs.Script.{Script, give, test, token, skip, start, precede, finish, abandon, after, loop, again}
+use Rattle.rap_grammar_scripts.specs.Words.{done, if_some, eat, expect, ◌▸◌, call, recur}
 use Rattle.rap_grammar_scripts.specs.declared.arguments.Semicolon.{Semicolon}
 use Rattle.rap_grammar_scripts.specs.declared.arguments.Semicolon.TheVariants as semicolon
 
@@ -32,26 +33,25 @@ ends_block semicolon.Forbidden rs = is_at R_CURLY rs || is_at EOF rs
 -- An expression as a statement, unless it ends its block.
 unfoldable pub expr_stmt_end : Semicolon → Bool → Script Phrase
 expr_stmt_end semi is_block =
-    test (ends_block semi) done
-    (precede (after (expr_semicolon semi is_block) (λ v. finish EXPR_STMT done)))
+    test (ends_block semi) done (precede ▸ call (expr_semicolon semi is_block) ▸ finish EXPR_STMT ▸ done)
 
 -- an expression from the newest node on, as a statement or as the value of the block
 unfoldable pub expr_as_stmt : Semicolon → Script Phrase
 expr_as_stmt semi =
     test (λ rs. is_expr_first (next_kind rs))
     (after (expr_bp true as_statement 1) (λ v. if_some v (expr_stmt_end semi (is_block v)) done))
-    (skip (codes "expected expression, item or let statement") (abandon done))
+    (skip (codes "expected expression, item or let statement") ▸ abandon ▸ done)
 
 -- a statement
 unfoldable pub stmt : Semicolon → Script Phrase
 stmt semi =
-    test (is_at SEMICOLON) (token SEMICOLON done)
-    (start (after outer_attrs (λ v.
-    test starts_let (after (let_stmt semi) (λ w. finish LET_STMT done))
-    (after (opt_item false) (λ w. if_some w done (expr_as_stmt semi))))))
+    test (is_at SEMICOLON) (token SEMICOLON ▸ done)
+    (start ▸ call outer_attrs ▸
+    test starts_let (call (let_stmt semi) ▸ finish LET_STMT ▸ done)
+    (after (opt_item false) (λ w. if_some w done (expr_as_stmt semi))))
 
 abbrev pub macro_turn : Bool → Bool → Script Phrase
-macro_turn a b = test (is_at EOF) done (rule (statement semicolon.Optional) (λ v. give (again a b)))
+macro_turn a b = test (is_at EOF) done (recur (statement semicolon.Optional) ▸ give (again a b))
 
 -- what a macro gives as statements
 unfoldable pub macro_stmts : Script Phrase

@@ -1,4 +1,5 @@
 -- Lists of tokens in brackets, and macro calls.
+-- In the Rust crate: `grammar/items.rs`.
 use Rattle.std.specs.Prelude.{ℕ, Bool, false, List, [], ◌∷◌, ◌&&◌, not, codes}
 use Rattle.rap_base.specs.TokenKind.{EOF, R_PAREN, R_BRACK, L_CURLY, R_CURLY, BANG, NEQ}
 use Rattle.rap_base.specs.NodeKind.{TOKEN_TREE}
@@ -7,18 +8,20 @@ use Rattle.rap_events.specs.Composite.{is_at}
 use Rattle.rap_events.specs.Fit.{partner}
 use Rattle.rap_grammar_scripts.specs.First.{one_of, is_bracket}
 use Rattle.rap_grammar_scripts.specs.Phrase.{Phrase, bracketed}
-use Rattle.rap_grammar_scripts.specs.Script.{Script, nothing, block, give, look, test, token, any, report, skip, start, finish, after, rule, loop, again}
-use Rattle.rap_grammar_scripts.specs.Words.{done, if_some, next_is, expect}
+use Rattle.rap_grammar_scripts.specs.Script.{Script, nothing, block, give, look, token, any, report, skip, start, finish, after, loop, again}
+use Rattle.rap_grammar_scripts.specs.Words.{done, if_some, next_is, expect, ◌▸◌, call, recur, choose}
 
 -- A bracket that closes no list of these goes into an `ERROR`, but a brace ends the list.
 abbrev pub tokens_turn : ℕ → Bool → Bool → Script Phrase
 tokens_turn ket a b =
-    test (is_at EOF) done
-    (test (is_at ket) done
-    (test (λ rs. is_bracket (next_kind rs)) (rule bracketed (λ v. give (again a b)))
-    (test (next_is R_CURLY) (report (codes "unmatched `}`") (give nothing))
-    (test (λ rs. one_of (R_PAREN ∷ R_BRACK ∷ []) (next_kind rs)) (skip (codes "unmatched brace") (give (again a b)))
-    (any (give (again a b)))))))
+    choose
+    ((is_at EOF, done)
+    ∷ (is_at ket, done)
+    ∷ (λ rs. is_bracket (next_kind rs), recur bracketed ▸ give (again a b))
+    ∷ (next_is R_CURLY, report (codes "unmatched `}`") ▸ give nothing)
+    ∷ (λ rs. one_of (R_PAREN ∷ R_BRACK ∷ []) (next_kind rs), skip (codes "unmatched brace") ▸ give (again a b))
+    ∷ [])
+    (any ▸ give (again a b))
 
 -- tokens, and lists of them in brackets, up to the bracket that closes this one; nothing where a brace is in the way
 unfoldable pub tokens_to : ℕ → Script Phrase
@@ -27,9 +30,8 @@ tokens_to ket = loop (tokens_turn ket) false false
 -- a list of tokens in its brackets, the second of them this one
 abbrev pub tokens_in : ℕ → Script Phrase
 tokens_in ket =
-    start (any (after (tokens_to ket) (λ v. if_some v
-    (expect ket (finish TOKEN_TREE done))
-    (finish TOKEN_TREE done))))
+    start ▸ any ▸
+    after (tokens_to ket) (λ v. if_some v (expect ket ▸ finish TOKEN_TREE ▸ done) (finish TOKEN_TREE ▸ done))
 
 unfoldable pub bracketed_tokens : Script Phrase
 bracketed_tokens = look (λ rs. tokens_in (partner (next_kind rs)))
@@ -41,7 +43,9 @@ starts_macro_call rs = is_at BANG rs && not (is_at NEQ rs)
 -- a macro call behind its path; with braces it reads like a block
 unfoldable pub macro_call_after_excl : Script Phrase
 macro_call_after_excl =
-    token BANG
-    (test (next_is L_CURLY) (after bracketed_tokens (λ v. give block))
-    (test (λ rs. is_bracket (next_kind rs)) (after bracketed_tokens (λ v. done))
-    (report (codes "expected `{`, `[`, `(`") done)))
+    token BANG ▸
+    choose
+    ((next_is L_CURLY, call bracketed_tokens ▸ give block)
+    ∷ (λ rs. is_bracket (next_kind rs), call bracketed_tokens ▸ done)
+    ∷ [])
+    (report (codes "expected `{`, `[`, `(`") ▸ done)

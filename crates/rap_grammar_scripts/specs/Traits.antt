@@ -11,49 +11,42 @@ use Rattle.rap_grammar_scripts.specs.First.{one_of}
 use Rattle.rap_grammar_scripts.specs.Grammar.{name_r}
 use Rattle.rap_grammar_scripts.specs.Phrase.{Phrase}
 use Rattle.rap_grammar_scripts.specs.Recovery.{is_item_recovery}
-use Rattle.rap_grammar_scripts.specs.Script.{Script, give, test, token, report, start, finish, after, loop, again}
-use Rattle.rap_grammar_scripts.specs.Words.{done, eat, expect}
+use Rattle.rap_grammar_scripts.specs.Script.{Script, give, test, token, report, start, finish, loop, again}
+use Rattle.rap_grammar_scripts.specs.Words.{done, eat, expect, ◌▸◌, call, choose, optional}
 
 -- an item of a trait or an implementation, or a block in its place
 unfoldable pub assoc_item : Script Phrase
 assoc_item = test (is_at L_CURLY) (error_block (codes "expected an item")) (item true false)
 
 abbrev pub assoc_turn : Bool → Bool → Script Phrase
-assoc_turn a b =
-    test (is_at EOF) done
-    (test (is_at R_CURLY) done
-    (after assoc_item (λ v. give (again a b))))
+assoc_turn a b = choose ((is_at EOF, done) ∷ (is_at R_CURLY, done) ∷ []) (call assoc_item ▸ give (again a b))
 
 unfoldable pub assoc_items : Script Phrase
 assoc_items = loop assoc_turn false false
 
 unfoldable pub assoc_item_list : Script Phrase
 assoc_item_list =
-    start (token L_CURLY (after inner_attrs (λ v.
-    after assoc_items (λ w. expect R_CURLY (finish ASSOC_ITEM_LIST done)))))
+    start ▸ token L_CURLY ▸ call inner_attrs ▸ call assoc_items ▸ expect R_CURLY ▸ finish ASSOC_ITEM_LIST ▸ done
 
 -- the same, whose missing is reported
 unfoldable pub expect_assoc_item_list : Script Phrase
-expect_assoc_item_list = test (is_at L_CURLY) assoc_item_list (report (codes "expected `{`") done)
+expect_assoc_item_list = test (is_at L_CURLY) assoc_item_list (report (codes "expected `{`") ▸ done)
 
 -- what a trait stands for, behind its `=`
 unfoldable pub trait_alias : Script Phrase
-trait_alias = after bounds_without_colon (λ v. after opt_where_clause (λ w. expect SEMICOLON done))
+trait_alias = call bounds_without_colon ▸ call opt_where_clause ▸ expect SEMICOLON ▸ done
 
 unfoldable pub opt_bounds : Script Phrase
-opt_bounds = test (is_at COLON) bounds done
+opt_bounds = optional (is_at COLON) bounds
 
 -- what stands behind a trait's name and parameters
 unfoldable pub trait_body : Script Phrase
-trait_body =
-    test (is_at EQ) (token EQ trait_alias)
-    (after opt_bounds (λ v. after opt_where_clause (λ w. expect_assoc_item_list)))
+trait_body = test (is_at EQ) (token EQ ▸ trait_alias) (call opt_bounds ▸ call opt_where_clause ▸ expect_assoc_item_list)
 
 unfoldable pub trait_ : Script Phrase
 trait_ =
-    token TRAIT_KW (after (name_r is_item_recovery) (λ v.
-    after opt_generic_param_list (λ w.
-    after trait_body (λ x. finish TRAIT done))))
+    token TRAIT_KW ▸ call (name_r is_item_recovery) ▸ call opt_generic_param_list ▸ call trait_body ▸ finish TRAIT ▸
+    done
 
 -- Behind an `impl`, a `<` begins parameters, and no type. Where both may be meant, as in `<T> ::a`, it is parameters.
 abbrev pub not_a_qualified_path : List Record → Bool
@@ -64,27 +57,24 @@ abbrev pub starts_impl_params : List Record → Bool
 starts_impl_params rs = is_at L_ANGLE rs && not_a_qualified_path rs
 
 unfoldable pub impl_params : Script Phrase
-impl_params = test starts_impl_params opt_generic_param_list done
+impl_params = optional starts_impl_params opt_generic_param_list
 
 -- a `!` before a trait, and not before the braces: there it is the type
 abbrev pub starts_negative : List Record → Bool
 starts_negative rs = is_at BANG rs && not (is_at L_CURLY (drop 1 rs))
 
 unfoldable pub opt_negative : Script Phrase
-opt_negative = test starts_negative (token BANG done) done
+opt_negative = optional starts_negative (token BANG ▸ done)
 
 -- a trait or a type
 unfoldable pub impl_type : Script Phrase
-impl_type = test (is_at IMPL_KW) (report (codes "expected trait or type") done) type_
+impl_type = test (is_at IMPL_KW) (report (codes "expected trait or type") ▸ done) type_
 
 -- the type of an implementation, with the trait before it
 unfoldable pub impl_types : Script Phrase
-impl_types = after impl_type (λ v. test (is_at FOR_KW) (token FOR_KW impl_type) done)
+impl_types = call impl_type ▸ optional (is_at FOR_KW) (token FOR_KW ▸ impl_type)
 
 unfoldable pub impl_ : Script Phrase
 impl_ =
-    token IMPL_KW (after impl_params (λ v.
-    eat CONST_KW (after opt_negative (λ w.
-    after impl_types (λ x.
-    after opt_where_clause (λ y.
-    after expect_assoc_item_list (λ z. finish IMPL done)))))))
+    token IMPL_KW ▸ call impl_params ▸ eat CONST_KW ▸ call opt_negative ▸ call impl_types ▸ call opt_where_clause ▸
+    call expect_assoc_item_list ▸ finish IMPL ▸ done

@@ -1,4 +1,5 @@
 -- Parts of types, which bounds and parameters have too.
+-- In the Rust crate: `grammar/types.rs`.
 use Rattle.std.specs.Prelude.{codes}
 use Rattle.rap_base.specs.TokenKind.{COLON, EQ, L_ANGLE, FOR_KW}
 use Rattle.rap_base.specs.NodeKind.{FOR_BINDER, PATH_TYPE}
@@ -6,18 +7,18 @@ use Rattle.rap_events.specs.Composite.{is_at}
 use Rattle.rap_grammar_scripts.specs.Called.{type_, for_parameters}
 use Rattle.rap_grammar_scripts.specs.Paths.{type_path}
 use Rattle.rap_grammar_scripts.specs.Phrase.{Phrase}
-use Rattle.rap_grammar_scripts.specs.Script.{Script, test, token, report, start, finish, after}
-use Rattle.rap_grammar_scripts.specs.Words.{done}
+use Rattle.rap_grammar_scripts.specs.Script.{Script, test, token, report, start, finish}
+use Rattle.rap_grammar_scripts.specs.Words.{done, ◌▸◌, call}
 
 -- a type behind its colon; before a `=` a message stands in its place
 unfoldable pub ascription : Script Phrase
-ascription = token COLON (test (is_at EQ) (report (codes "missing type") done) (after type_ (λ v. done)))
+ascription = token COLON ▸ test (is_at EQ) (report (codes "missing type") ▸ done) (call type_ ▸ done)
 
 unfoldable pub for_binder : Script Phrase
 for_binder =
-    start (token FOR_KW (test (is_at L_ANGLE)
-    (after for_parameters (λ v. finish FOR_BINDER done))
-    (report (codes "expected `<`") (finish FOR_BINDER done))))
+    start ▸ token FOR_KW ▸
+    test (is_at L_ANGLE) (call for_parameters ▸ finish FOR_BINDER ▸ done)
+    (report (codes "expected `<`") ▸ finish FOR_BINDER ▸ done)
 
 unfoldable pub path_type : Script Phrase
-path_type = start (after type_path (λ v. finish PATH_TYPE done))
+path_type = start ▸ call type_path ▸ finish PATH_TYPE ▸ done

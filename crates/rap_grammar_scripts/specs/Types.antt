@@ -16,13 +16,15 @@ use Rattle.rap_grammar_scripts.specs.Phrase.{Phrase}
 use Rattle.rap_grammar_scripts.specs.Recovery.{is_type_recovery}
 use Rattle.rap_grammar_scripts.specs.Script.{Script, Outcome, nothing, something, block, again, give, test, token, any, bear, report, start, precede, finish, abandon, after, loop}
 use Rattle.rap_grammar_scripts.specs.TypeParts.{for_binder, path_type}
-use Rattle.rap_grammar_scripts.specs.Words.{done, next_is, reads_as, eat, expect, recover, of_bool, starts_builtin}
+use Rattle.rap_grammar_scripts.specs.Words.{done, next_is, reads_as, eat, expect, recover, of_bool, starts_builtin, ◌▸◌, call, choose, optional}
 
 abbrev pub types_turn : Bool → Bool → Script Phrase
 types_turn seen b =
-    test (is_at EOF) (give nothing)
-    (test (is_at R_PAREN) (give nothing)
-    (after type_ (λ v. test (is_at COMMA) (token COMMA (give (again true b))) (give (of_bool (not seen))))))
+    choose
+    ((is_at EOF, give nothing)
+    ∷ (is_at R_PAREN, give nothing)
+    ∷ [])
+    (call type_ ▸ test (is_at COMMA) (token COMMA ▸ give (again true b)) (give (of_bool (not seen))))
 
 -- what stands in parentheses: something where it is one type and no comma
 unfoldable pub tuple_types : Script Phrase
@@ -35,60 +37,61 @@ paren_or_tuple block = PAREN_TYPE
 paren_or_tuple (again a b) = PAREN_TYPE
 
 unfoldable pub paren_or_tuple_type : Script Phrase
-paren_or_tuple_type = start (token L_PAREN (after tuple_types (λ v. expect R_PAREN (finish (paren_or_tuple v) done))))
+paren_or_tuple_type = start ▸ token L_PAREN ▸ after tuple_types (λ v. expect R_PAREN ▸ finish (paren_or_tuple v) ▸ done)
 
 unfoldable pub never_type : Script Phrase
-never_type = start (token BANG (finish NEVER_TYPE done))
+never_type = start ▸ token BANG ▸ finish NEVER_TYPE ▸ done
 
 -- what stands behind the star of a pointer
 unfoldable pub ptr_qualifier : Script Phrase
 ptr_qualifier =
-    test (λ rs. one_of (MUT_KW ∷ CONST_KW ∷ []) (next_kind rs)) (any done)
-    (report (codes "expected mut or const in raw pointer type (use `*mut T` or `*const T` as appropriate)") done)
+    test (λ rs. one_of (MUT_KW ∷ CONST_KW ∷ []) (next_kind rs)) (any ▸ done)
+    (report (codes "expected mut or const in raw pointer type (use `*mut T` or `*const T` as appropriate)") ▸ done)
 
 unfoldable pub ptr_type : Script Phrase
-ptr_type = start (token STAR (after ptr_qualifier (λ v. after type_no_bounds (λ w. finish PTR_TYPE done))))
+ptr_type = start ▸ token STAR ▸ call ptr_qualifier ▸ call type_no_bounds ▸ finish PTR_TYPE ▸ done
 
 -- the length of an array, and its bracket
 unfoldable pub array_length : Script Phrase
-array_length = token SEMICOLON (start (after expr (λ v. finish CONST_ARG (expect R_BRACK done))))
+array_length = token SEMICOLON ▸ start ▸ call expr ▸ finish CONST_ARG ▸ expect R_BRACK ▸ done
 
 unfoldable pub array_or_slice_type : Script Phrase
 array_or_slice_type =
-    start (token L_BRACK (after type_ (λ v.
-    test (is_at R_BRACK) (token R_BRACK (finish SLICE_TYPE done))
-    (test (is_at SEMICOLON) (after array_length (λ w. finish ARRAY_TYPE done))
-    (report (codes "expected `;` or `]`") (finish SLICE_TYPE done))))))
+    start ▸ token L_BRACK ▸ call type_ ▸
+    choose
+    ((is_at R_BRACK, token R_BRACK ▸ finish SLICE_TYPE ▸ done)
+    ∷ (is_at SEMICOLON, call array_length ▸ finish ARRAY_TYPE ▸ done)
+    ∷ [])
+    (report (codes "expected `;` or `]`") ▸ finish SLICE_TYPE ▸ done)
 
 abbrev pub ref_target : Script Phrase
-ref_target = eat MUT_KW (after type_no_bounds (λ v. finish REF_TYPE done))
+ref_target = eat MUT_KW ▸ call type_no_bounds ▸ finish REF_TYPE ▸ done
 
 unfoldable pub ref_type : Script Phrase
-ref_type = start (token AMP (test (is_at LIFETIME_IDENT) (after lifetime (λ v. ref_target)) ref_target))
+ref_type = start ▸ token AMP ▸ test (is_at LIFETIME_IDENT) (call lifetime ▸ ref_target) ref_target
 
 unfoldable pub infer_type : Script Phrase
-infer_type = start (token UNDERSCORE (finish INFER_TYPE done))
+infer_type = start ▸ token UNDERSCORE ▸ finish INFER_TYPE ▸ done
 
 -- what stands before the `fn` of a function pointer
 unfoldable pub fn_qualifiers : Script Phrase
-fn_qualifiers = eat UNSAFE_KW (test (is_at EXTERN_KW) abi done)
+fn_qualifiers = eat UNSAFE_KW ▸ optional (is_at EXTERN_KW) abi
 
 unfoldable pub fn_ptr_params : Script Phrase
-fn_ptr_params = test (is_at L_PAREN) param_list_fn_ptr (report (codes "expected parameters") done)
+fn_ptr_params = test (is_at L_PAREN) param_list_fn_ptr (report (codes "expected parameters") ▸ done)
 
 unfoldable pub fn_ptr_type : Script Phrase
 fn_ptr_type =
-    start (after fn_qualifiers (λ v.
-    test (is_at FN_KW)
-    (token FN_KW (after fn_ptr_params (λ w. after opt_ret_type (λ x. finish FN_PTR_TYPE done))))
-    (abandon (report (codes "expected `fn`") done))))
+    start ▸ call fn_qualifiers ▸
+    test (is_at FN_KW) (token FN_KW ▸ call fn_ptr_params ▸ call opt_ret_type ▸ finish FN_PTR_TYPE ▸ done)
+    (abandon ▸ report (codes "expected `fn`") ▸ done)
 
 -- The bounds after a type of this kind, which is then the first of them. A macro call has none.
 unfoldable pub opt_type_bounds_as_dyn_trait_type : ℕ → Script Phrase
 opt_type_bounds_as_dyn_trait_type kind =
-    test (λ rs. not (kind == MACRO_TYPE) && is_at PLUS rs)
-    (precede (finish TYPE_BOUND (precede (token PLUS (after bounds_without_colon_m (λ v. precede (finish DYN_TRAIT_TYPE done)))))))
-    done
+    optional (λ rs. not (kind == MACRO_TYPE) && is_at PLUS rs)
+    (precede ▸ finish TYPE_BOUND ▸ precede ▸ token PLUS ▸ call bounds_without_colon_m ▸ precede ▸
+    finish DYN_TRAIT_TYPE ▸ done)
 
 -- the same where bounds are allowed
 abbrev pub bounds_if : Bool → ℕ → Script Phrase
@@ -99,49 +102,47 @@ abbrev pub starts_for_target : List Record → Bool
 starts_for_target rs = is_fn_ptr_first (next_kind rs) || starts_use_path rs
 
 abbrev pub for_target : Bool → Script Phrase
-for_target allow_bounds = after type_no_bounds (λ v. finish FOR_TYPE (bounds_if allow_bounds FOR_TYPE))
+for_target allow_bounds = call type_no_bounds ▸ finish FOR_TYPE ▸ bounds_if allow_bounds FOR_TYPE
 
 unfoldable pub for_type : Bool → Script Phrase
 for_type allow_bounds =
-    start (after for_binder (λ v.
+    start ▸ call for_binder ▸
     test starts_for_target (for_target allow_bounds)
-    (report (codes "expected a function pointer or path") (for_target allow_bounds))))
+    (report (codes "expected a function pointer or path") ▸ for_target allow_bounds)
 
 unfoldable pub impl_trait_type : Script Phrase
-impl_trait_type = start (token IMPL_KW (after bounds_without_colon (λ v. finish IMPL_TRAIT_TYPE done)))
+impl_trait_type = start ▸ token IMPL_KW ▸ call bounds_without_colon ▸ finish IMPL_TRAIT_TYPE ▸ done
 
 unfoldable pub dyn_trait_type : Script Phrase
-dyn_trait_type = start (token DYN_KW (after bounds_without_colon (λ v. finish DYN_TRAIT_TYPE done)))
+dyn_trait_type = start ▸ token DYN_KW ▸ call bounds_without_colon ▸ finish DYN_TRAIT_TYPE ▸ done
 
 -- the same where `dyn` is an identifier
 unfoldable pub dyn_trait_type_weak : Script Phrase
-dyn_trait_type_weak = start (bear DYN_KW (after bounds_without_colon (λ v. finish DYN_TRAIT_TYPE done)))
+dyn_trait_type_weak = start ▸ bear DYN_KW ▸ call bounds_without_colon ▸ finish DYN_TRAIT_TYPE ▸ done
 
 -- the same without a `dyn`, where it begins with a lifetime
 unfoldable pub bare_dyn_trait_type : Script Phrase
-bare_dyn_trait_type = start (after bounds_without_colon (λ v. finish DYN_TRAIT_TYPE done))
+bare_dyn_trait_type = start ▸ call bounds_without_colon ▸ finish DYN_TRAIT_TYPE ▸ done
 
 -- what stands behind `builtin#pattern_type`: a type and its values
 unfoldable pub pattern_type_parts : Script Phrase
 pattern_type_parts =
-    expect L_PAREN (after type_ (λ v.
-    test (reads_as IS_KW) (bear IS_KW (after pattern (λ w. expect R_PAREN done)))
-    (report (codes "expected `is`") (after pattern (λ w. expect R_PAREN done)))))
+    expect L_PAREN ▸ call type_ ▸
+    test (reads_as IS_KW) (bear IS_KW ▸ call pattern ▸ expect R_PAREN ▸ done)
+    (report (codes "expected `is`") ▸ call pattern ▸ expect R_PAREN ▸ done)
 
 unfoldable pub pattern_type : Script Phrase
 pattern_type =
-    start (bear BUILTIN_KW (token POUND
-    (test (reads_as PATTERN_TYPE_KW)
-    (bear PATTERN_TYPE_KW (after pattern_type_parts (λ v. finish PATTERN_TYPE done)))
-    (report (codes "unknown name after `builtin#`") (finish ERROR done)))))
+    start ▸ bear BUILTIN_KW ▸ token POUND ▸
+    test (reads_as PATTERN_TYPE_KW) (bear PATTERN_TYPE_KW ▸ call pattern_type_parts ▸ finish PATTERN_TYPE ▸ done)
+    (report (codes "unknown name after `builtin#`") ▸ finish ERROR ▸ done)
 
 -- a path as a type, or a macro call
 unfoldable pub path_or_macro : Bool → Script Phrase
 path_or_macro allow_bounds =
-    start (start (after type_path (λ v.
-    test starts_macro_call
-    (after macro_call_after_excl (λ w. finish MACRO_CALL (finish MACRO_TYPE done)))
-    (abandon (finish PATH_TYPE (bounds_if allow_bounds PATH_TYPE))))))
+    start ▸ start ▸ call type_path ▸
+    test starts_macro_call (call macro_call_after_excl ▸ finish MACRO_CALL ▸ finish MACRO_TYPE ▸ done)
+    (abandon ▸ finish PATH_TYPE ▸ bounds_if allow_bounds PATH_TYPE)
 
 unfoldable pub path_or_macro_type : Bool → Script Phrase
 path_or_macro_type allow_bounds =
@@ -149,12 +150,12 @@ path_or_macro_type allow_bounds =
 
 -- a path as a type, and bounds after it
 unfoldable pub path_type_bounds : Bool → Script Phrase
-path_type_bounds allow_bounds = after path_type (λ v. bounds_if allow_bounds PATH_TYPE)
+path_type_bounds allow_bounds = call path_type ▸ bounds_if allow_bounds PATH_TYPE
 
 -- where no type begins
 unfoldable pub missing_type : Script Phrase
 missing_type =
-    test (next_is L_CURLY) (report (codes "expected type, found `{`") done)
+    test (next_is L_CURLY) (report (codes "expected type, found `{`") ▸ done)
     (recover (codes "expected type") is_type_recovery done done)
 
 -- bounds come next that begin with a lifetime
@@ -164,22 +165,26 @@ starts_bare_dyn rs = next_is LIFETIME_IDENT rs && is_at PLUS (drop 1 rs)
 -- a type that begins with no symbol and no keyword of its own
 unfoldable pub named_type : Bool → Script Phrase
 named_type allow_bounds =
-    test starts_weak_dyn dyn_trait_type_weak
-    (test starts_path (path_or_macro_type allow_bounds)
-    (test starts_bare_dyn bare_dyn_trait_type
-    missing_type))
+    choose
+    ((starts_weak_dyn, dyn_trait_type_weak)
+    ∷ (starts_path, path_or_macro_type allow_bounds)
+    ∷ (starts_bare_dyn, bare_dyn_trait_type)
+    ∷ [])
+    missing_type
 
 unfoldable pub type_with_bounds_cond : Bool → Script Phrase
 type_with_bounds_cond allow_bounds =
-    test (next_is L_PAREN) paren_or_tuple_type
-    (test (next_is BANG) never_type
-    (test (next_is STAR) ptr_type
-    (test (next_is L_BRACK) array_or_slice_type
-    (test (next_is AMP) ref_type
-    (test (next_is UNDERSCORE) infer_type
-    (test (λ rs. is_fn_ptr_first (next_kind rs)) fn_ptr_type
-    (test (next_is FOR_KW) (for_type allow_bounds)
-    (test (next_is IMPL_KW) impl_trait_type
-    (test (next_is DYN_KW) dyn_trait_type
-    (test (next_is L_ANGLE) (path_type_bounds allow_bounds)
-    (named_type allow_bounds)))))))))))
+    choose
+    ((next_is L_PAREN, paren_or_tuple_type)
+    ∷ (next_is BANG, never_type)
+    ∷ (next_is STAR, ptr_type)
+    ∷ (next_is L_BRACK, array_or_slice_type)
+    ∷ (next_is AMP, ref_type)
+    ∷ (next_is UNDERSCORE, infer_type)
+    ∷ (λ rs. is_fn_ptr_first (next_kind rs), fn_ptr_type)
+    ∷ (next_is FOR_KW, for_type allow_bounds)
+    ∷ (next_is IMPL_KW, impl_trait_type)
+    ∷ (next_is DYN_KW, dyn_trait_type)
+    ∷ (next_is L_ANGLE, path_type_bounds allow_bounds)
+    ∷ [])
+    (named_type allow_bounds)

@@ -10,8 +10,8 @@ use Rattle.rap_grammar_scripts.specs.Grammar.{delimited, opt_rename}
 use Rattle.rap_grammar_scripts.specs.Paths.{use_path}
 use Rattle.rap_grammar_scripts.specs.Phrase.{Phrase}
 use Rattle.rap_grammar_scripts.specs.Recovery.{is_item_recovery}
-use Rattle.rap_grammar_scripts.specs.Script.{Script, nothing, give, test, token, report, skip, start, finish, after}
-use Rattle.rap_grammar_scripts.specs.Words.{done, expect, recover}
+use Rattle.rap_grammar_scripts.specs.Script.{Script, test, token, report, skip, start, finish}
+use Rattle.rap_grammar_scripts.specs.Words.{done, expect, recover, ◌▸◌, call, choose, only_if}
 
 -- a star, or a list in its braces
 abbrev pub is_group_first : ℕ → Bool
@@ -40,35 +40,38 @@ missing_use_tree = codes "expected one of `*`, `::`, `{`, `self`, `super` or an 
 unfoldable pub nested_use_tree : Script Phrase
 nested_use_tree =
     test starts_use_tree called.use_tree
-    (skip missing_use_tree (test (λ rs. is_use_tree_list_recovery (next_kind rs)) done (give nothing)))
+    (skip missing_use_tree ▸ only_if (λ rs. is_use_tree_list_recovery (next_kind rs)) done)
 
 unfoldable pub use_tree_list : Script Phrase
 use_tree_list =
-    start (after (delimited nested_use_tree L_CURLY R_CURLY COMMA (codes "expected use tree") is_use_tree_list_first)
-    (λ v. finish USE_TREE_LIST done))
+    start ▸ call (delimited nested_use_tree L_CURLY R_CURLY COMMA (codes "expected use tree") is_use_tree_list_first) ▸
+    finish USE_TREE_LIST ▸ done
 
 unfoldable pub group : Script Phrase
-group = test (is_at STAR) (token STAR done) use_tree_list
+group = test (is_at STAR) (token STAR ▸ done) use_tree_list
 
 -- what stands behind a path and its `::`
 unfoldable pub group_behind : Script Phrase
 group_behind =
-    token COLON2 (test (λ rs. is_group_first (next_kind rs)) group (report (codes "expected `{` or `*`") done))
+    token COLON2 ▸ test (λ rs. is_group_first (next_kind rs)) group (report (codes "expected `{` or `*`") ▸ done)
 
 -- what stands behind a path
 unfoldable pub after_use_path : Script Phrase
-after_use_path = test (is_at AS_KW) opt_rename (test (is_at COLON2) group_behind done)
+after_use_path = choose ((is_at AS_KW, opt_rename) ∷ (is_at COLON2, group_behind) ∷ []) done
 
 -- a tree of names, of which one begins
 unfoldable pub use_tree : Script Phrase
 use_tree =
-    start (test (λ rs. is_group_first (next_kind rs)) (after group (λ v. finish USE_TREE done))
-    (test starts_global_group (token COLON2 (after group (λ v. finish USE_TREE done)))
-    (after use_path (λ v. after after_use_path (λ w. finish USE_TREE done)))))
+    start ▸
+    choose
+    ((λ rs. is_group_first (next_kind rs), call group ▸ finish USE_TREE ▸ done)
+    ∷ (starts_global_group, token COLON2 ▸ call group ▸ finish USE_TREE ▸ done)
+    ∷ [])
+    (call use_path ▸ call after_use_path ▸ finish USE_TREE ▸ done)
 
 -- the tree of an import; where none begins, the next token is taken along, unless an item begins there
 unfoldable pub expect_use_tree : Script Phrase
 expect_use_tree = test starts_use_tree use_tree (recover missing_use_tree is_item_recovery done done)
 
 unfoldable pub use_ : Script Phrase
-use_ = token USE_KW (after expect_use_tree (λ v. expect SEMICOLON (finish USE done)))
+use_ = token USE_KW ▸ call expect_use_tree ▸ expect SEMICOLON ▸ finish USE ▸ done

@@ -1,11 +1,35 @@
 -- What scripts say often.
-use Rattle.std.specs.Prelude.{ℕ, Bool, true, false, ◌==◌, ◌&&◌, ◌||◌, List, Option, Some, None, drop}
+use Rattle.std.specs.Prelude.{ℕ, Bool, true, false, ◌==◌, ◌&&◌, ◌||◌, List, [], ◌∷◌, Option, Some, None, drop}
 use Rattle.rap_base.specs.TokenKind.{L_CURLY, R_CURLY, POUND, BUILTIN_KW}
 use Rattle.rap_events.specs.Record.{Record, next_kind, contextual_at}
 use Rattle.rap_events.specs.Composite.{is_at}
 use Rattle.rap_events.specs.Cover.{first_may_bear}
 use Rattle.rap_events.specs.State.{expected}
-use Rattle.rap_grammar_scripts.specs.Script.{Script, Outcome, nothing, something, block, again, give, test, token, bear, report, skip}
+use Rattle.rap_grammar_scripts.specs.Script.{Script, Outcome, nothing, something, block, again, give, test, token, bear, report, skip, after, rule}
+
+-- One word after another: a script reads in the order of its rule, from left to right.
+infixr 3 ◌▸◌
+abbrev pub ◌▸◌ : {P : Type 0} → (Script P → Script P) → Script P → Script P
+w ▸ s = w s
+
+-- another rule, whatever it answers, and on; the same through the knot of all rules
+abbrev pub call : {P : Type 0} → Script P → Script P → Script P
+call r s = after r (λ v. s)
+
+abbrev pub recur : {P : Type 0} → P → Script P → Script P
+recur p s = rule p (λ v. s)
+
+-- the way of the first test that holds, or the last one where none does
+abbrev pub choose : {P : Type 0} → List ((List Record → Bool) × Script P) → Script P → Script P
+choose [] s = s
+choose (w ∷ ws) s = test w.0 w.1 (choose ws s)
+
+-- a way that is gone where its test holds: else there is nothing to do, or nothing is answered
+abbrev pub optional : {P : Type 0} → (List Record → Bool) → Script P → Script P
+optional t s = test t s (give something)
+
+abbrev pub only_if : {P : Type 0} → (List Record → Bool) → Script P → Script P
+only_if t s = test t s (give nothing)
 
 -- the end of a rule that has nothing to answer
 abbrev pub done : {P : Type 0} → Script P

@@ -1,4 +1,5 @@
 //! Entries that read one thing from the front of an input, and leave what stands behind it.
+//! In the Rust crate: `grammar.rs`.
 ghost use Rattle.std.specs.Prelude.{◌≡◌, ◌<◌, ◌≤◌, length, IfOk, OnOk, true, false};
 ghost use Rattle.rap_base.specs.TokenKind.{L_CURLY};
 ghost use Rattle.rap_events.specs.Forest.{node};

@@ -1,4 +1,5 @@
 //! Entries that read a whole input as one tree.
+//! In the Rust crate: `grammar.rs`.
 ghost use Rattle.std.specs.Prelude.{◌≡◌, ◌≤◌, length, IfOk, false};
 ghost use Rattle.rap_base.specs.NodeKind.{SOURCE_FILE, MACRO_STMTS, MACRO_ITEMS};
 ghost use Rattle.rap_grammar_scripts.specs.Atom as script;

@@ -1,4 +1,5 @@
 //! Operators before an operand and between two.
+//! In the Rust crate: `grammar/expressions.rs`.
 ghost use Rattle.std.specs.Prelude.{◌≡◌, ◌≢◌, ◌+◌, ◌<◌, ◌≤◌, ◌↔◌, ◌∷◌, IfOk, OnOk, true, false, []};
 ghost use Rattle.rap_base.specs.TokenKind.{EOF, AS_KW, MUT_KW, CONST_KW, IDENT, AMP};
 ghost use Rattle.rap_base.specs.NodeKind.{BIN_EXPR, CAST_EXPR, REF_EXPR, PREFIX_EXPR};

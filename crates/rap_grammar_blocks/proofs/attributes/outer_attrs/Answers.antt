@@ -1,9 +1,9 @@
 use Rattle.std.proofs.Common.{rules, refl, sym, ◌∙◌, inl, inr}
-use Rattle.rap_rules.specs.Attributes.{outer_attrs}
-use Rattle.rap_rules.specs.First.{is_outer_attr_first}
-use Rattle.rap_rules.specs.Script.{gives}
-use Rattle.rap_rules.proofs.Steps.{then_by, else_by, by_kind, by_rule, turn, last_turn, clash}
-use Rattle.rap_parts.proofs.attributes.outer_attrs.Goals as goal
+use Rattle.rap_grammar_scripts.specs.Attributes.{outer_attrs}
+use Rattle.rap_grammar_scripts.specs.First.{is_outer_attr_first}
+use Rattle.rap_grammar_scripts.specs.Script.{gives}
+use Rattle.rap_grammar_frame.proofs.Steps.{then_by, else_by, by_kind, by_rule, turn, last_turn, clash}
+use Rattle.rap_grammar_blocks.proofs.attributes.outer_attrs.Goals as goal
 
 pub attrs-preserved : goal.attrs-preserved
 attrs-preserved g c =

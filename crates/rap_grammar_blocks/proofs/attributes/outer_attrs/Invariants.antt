@@ -1,11 +1,11 @@
 use Rattle.std.proofs.Common.{◌≡◌, false, ◌⊎◌}
 use Rattle.rap_events.specs.State.{state, next}
-use Rattle.rap_rules.specs.Attributes.{outer_turn}
-use Rattle.rap_rules.specs.First.{is_outer_attr_first}
-use Rattle.rap_rules.specs.Grew.{Grew, Took}
-use Rattle.rap_rules.specs.Room.{list_room}
-use Rattle.rap_rules.proofs.Steps.{Turns}
-use Rattle.rap_parts.proofs.attributes.outer_attrs.Given as goal
+use Rattle.rap_grammar_scripts.specs.Attributes.{outer_turn}
+use Rattle.rap_grammar_scripts.specs.First.{is_outer_attr_first}
+use Rattle.rap_grammar_frame.specs.Grew.{Grew, Took}
+use Rattle.rap_grammar_frame.specs.Room.{list_room}
+use Rattle.rap_grammar_frame.proofs.Steps.{Turns}
+use Rattle.rap_grammar_blocks.proofs.attributes.outer_attrs.Given as goal
 
 abbrev pub invariant-attrs : goal.invariant-attrs
 invariant-attrs g l = record {
