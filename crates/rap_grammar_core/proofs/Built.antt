@@ -107,7 +107,8 @@ built (visibility_pub {a = a} o) = over refl (one a PUB_KW)
 built (annotation_type {a = a} o d) = both (one a COLON) (built d)
 built (value_given {a = a} o d) = both (one a EQ) (built d)
 built (statement_let {a = a} {b = b} o d e f c) =
-    over refl (simp append_assoc at (plus (both (both (both (one a LET_KW) (built d)) (built e)) (built f)) b SEMICOLON))
+    over refl (simp append_assoc at
+    (plus (both (both (both (one a LET_KW) (built d)) (built e)) (built f)) b SEMICOLON))
 built (statement_expression {a = a} d p o) = over refl (plus (built d) a SEMICOLON)
 built (statement_block {a = a} d o) = over refl (plus (built d) a SEMICOLON)
 built contents_none = empty
@@ -136,7 +137,8 @@ built (item_struct_fields {a = a} v o d e) =
 built (item_struct_tuple {a = a} {b = b} v o d e c) =
     over refl (simp append_assoc at (plus (both (both (plus (built v) a STRUCT_KW) (built d)) (built e)) b SEMICOLON))
 built (item_function {a = a} v o d e f g) =
-    over refl (simp append_assoc at (both (both (both (both (plus (built v) a FN_KW) (built d)) (built e)) (built f)) (built g)))
+    over refl (simp append_assoc at
+    (both (both (both (both (plus (built v) a FN_KW) (built d)) (built e)) (built f)) (built g)))
 built (items_of {a = a} {b = b} o d c) =
     with_node empty (plus (both (one a L_CURLY) (built d)) b R_CURLY) (λ i. a_list_of_items (items_of o d c))
 built (fields_of {a = a} {b = b} o d c) =
@@ -153,7 +155,8 @@ built (file_of d) = over refl (built d)
 -- balanced tokens, alone and in brackets
 bracketed : {a c : Record} {ks : List Record} {t : Forest} → ArePartners a c → Balanced ks t → Built ks t →
     Built (a ∷ (ks ++ c ∷ [])) (in_brackets a t c)
-bracketed {a = a} {c = c} p d x = with_node empty (plus (both (one a a.kind) x) c c.kind) (λ i. a_token_tree (brackets_around p d))
+bracketed {a = a} {c = c} p d x =
+    with_node empty (plus (both (one a a.kind) x) c c.kind) (λ i. a_token_tree (brackets_around p d))
 
 balanced : {ks : List Record} {t : Forest} → Balanced ks t → Built ks t
 balanced nothing_more = empty
@@ -170,7 +173,8 @@ call_built (called {r = r} {e = e} {a = a} {c = c} {ks = ks} {t = t} n x o d i) 
     let same : in_brackets a t c ≡ node none TOKEN_TREE (leaf (leaf none L_CURLY 1 ⧺ t) R_CURLY 1) =
     rw (o.kind_is, i.kind_is) refl in
     let tree = subst (λ (f : Forest). Built (a ∷ (ks ++ c ∷ [])) f) same (brackets_built (brackets_around p d)) in
-    over refl (both (plus (over {kind = PATH} refl (over {kind = PATH_SEGMENT} refl (over {kind = NAME_REF} refl (one r IDENT)))) e BANG) tree)
+    over refl (both (plus (over {kind = PATH} refl
+    (over {kind = PATH_SEGMENT} refl (over {kind = NAME_REF} refl (one r IDENT)))) e BANG) tree)
 
 pub core_built : {ks : List Record} {t : Forest} → IsCoreTree ks t → Built ks t
 core_built (derived d) = built d

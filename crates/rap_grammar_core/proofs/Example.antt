@@ -1,6 +1,6 @@
--- Derivations by hand, as the rows of the grammar say: a sum with a product on its right, a call whose arguments end with a
--- comma, a field by its number, a reference, assignments, and a method's call on a path; a block with two statements and
--- a value; and a condition and loops, as statements of a function in a file, and as an expression.
+-- Derivations by hand, as the rows of the grammar say: a sum with a product on its right, a call whose arguments end
+-- with a comma, a field by its number, a reference, assignments, and a method's call on a path; a block with two
+-- statements and a value; and a condition and loops, as statements of a function in a file, and as an expression.
 use Rattle.std.proofs.Common.{ℕ, List, [], ◌∷◌, ◌++◌, append-nil, true, false, inl, refl, arith}
 use Rattle.rap_base.specs.TokenKind.{EOF, IDENT, INT_NUMBER, PLUS, STAR, EQ, L_ANGLE, SHLEQ, AMP, DOT, COLON, COLON2, COMMA, L_PAREN, R_PAREN, L_CURLY, R_CURLY, SEMICOLON, MUT_KW, FN_KW, LET_KW, IF_KW, WHILE_KW, LOOP_KW}
 use Rattle.rap_base.specs.NodeKind.{BIN_EXPR, REF_EXPR, LITERAL, PATH_EXPR, PATH, PATH_SEGMENT, NAME_REF, CALL_EXPR, METHOD_CALL_EXPR, FIELD_EXPR, ARG_LIST, PATH_TYPE, REF_TYPE, NAME, IDENT_PAT, LET_STMT, EXPR_STMT, STMT_LIST, BLOCK_EXPR, IF_EXPR, WHILE_EXPR, LOOP_EXPR, FN, PARAM_LIST, SOURCE_FILE}
@@ -215,7 +215,8 @@ a_condition : Derives WithBlock (token IF_KW ∷ name ∷ token L_CURLY ∷ toke
 a_condition = with_if (if_of its_kind name_expression empty_block maybe_none)
 
 pub condition_in_a_file : Derives File
-    (token FN_KW ∷ name ∷ token L_PAREN ∷ token R_PAREN ∷ token L_CURLY ∷ token IF_KW ∷ name ∷ token L_CURLY ∷ token R_CURLY ∷ name ∷ token R_CURLY ∷ [])
+    (token FN_KW ∷ name ∷ token L_PAREN ∷ token R_PAREN ∷ token L_CURLY ∷ token IF_KW ∷ name ∷ token L_CURLY ∷
+    token R_CURLY ∷ name ∷ token R_CURLY ∷ [])
     (in_function (with_name (node none EXPR_STMT (node none IF_EXPR (with_empty (with_name (leaf none IF_KW 1)))))))
 condition_in_a_file = a_function (contents_block_before a_condition a_last_name (λ e. cc))
 
@@ -225,7 +226,8 @@ a_loop : Derives Statement (token LOOP_KW ∷ token L_CURLY ∷ token R_CURLY �
 a_loop = statement_block (with_loop its_kind empty_block) its_kind
 
 pub loop_in_a_file : Derives File
-    (token FN_KW ∷ name ∷ token L_PAREN ∷ token R_PAREN ∷ token L_CURLY ∷ token LOOP_KW ∷ token L_CURLY ∷ token R_CURLY ∷ token SEMICOLON ∷ token R_CURLY ∷ [])
+    (token FN_KW ∷ name ∷ token L_PAREN ∷ token R_PAREN ∷ token L_CURLY ∷ token LOOP_KW ∷ token L_CURLY ∷
+    token R_CURLY ∷ token SEMICOLON ∷ token R_CURLY ∷ [])
     (in_function (node none EXPR_STMT (leaf (node none LOOP_EXPR (with_empty (leaf none LOOP_KW 1))) SEMICOLON 1)))
 loop_in_a_file = a_function (contents_statement a_loop contents_none)
 

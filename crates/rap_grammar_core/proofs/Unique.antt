@@ -51,7 +51,9 @@ no_dot (message b m) h = refl
 no_dot (split b d) h = absurd (omega (arith, h))
 
 single_whole : (t : Forest) → Single t → foreign t ≡ 0 → one_tree t ≡ true
-single_whole t s h = rw s.is (rw (no_dot s.children (let i : foreign (node none s.kind s.children) ≡ 0 = rw s.is at h in omega arith)) refl)
+single_whole t s h =
+    rw s.is (rw (no_dot s.children (let i : foreign (node none s.kind s.children) ≡ 0 = rw s.is at h in omega arith))
+    refl)
 
 -- an expression is one tree
 pub one_expression : {ks : List Record} {t : Forest} → Derives Expression ks t → one_tree t ≡ true

@@ -11,7 +11,8 @@ use Rattle.rap_grammar_core.specs.MacroCall.{IsMacroCall}
 -- the kinds of all nodes that a reparser is for, whether the core grammar has them or not
 abbrev pub is_parsed_again : ℕ → Bool
 is_parsed_again kind =
-    one_of (BLOCK_EXPR ∷ RECORD_FIELD_LIST ∷ RECORD_EXPR_FIELD_LIST ∷ VARIANT_LIST ∷ MATCH_ARM_LIST ∷ USE_TREE_LIST ∷ EXTERN_ITEM_LIST ∷ TOKEN_TREE ∷ ASSOC_ITEM_LIST ∷ ITEM_LIST ∷ []) kind
+    one_of (BLOCK_EXPR ∷ RECORD_FIELD_LIST ∷ RECORD_EXPR_FIELD_LIST ∷ VARIANT_LIST ∷ MATCH_ARM_LIST ∷ USE_TREE_LIST ∷
+    EXTERN_ITEM_LIST ∷ TOKEN_TREE ∷ ASSOC_ITEM_LIST ∷ ITEM_LIST ∷ []) kind
 
 -- Two brackets that belong together, with tokens between them whose brackets are balanced, and the node that nests as
 -- they do.
