@@ -245,7 +245,8 @@ first (annotation_type {a = a} {ks = ks} o d) z = kind_first a ks COLON o refl r
 first (value_given {a = a} {ks = ks} o d) z = kind_first a ks EQ o refl refl refl
 first (statement_let {a = a} {b = b} {ks = ks} {js = js} {is = is} o d e f c) z =
     kind_first a (ks ++ (js ++ (is ++ b ∷ []))) LET_KW o refl refl refl
-first (statement_expression {a = a} d p o) z = let f = first d refl in also (a ∷ []) f (operand_statement f.r.kind f.kind)
+first (statement_expression {a = a} d p o) z =
+    let f = first d refl in also (a ∷ []) f (operand_statement f.r.kind f.kind)
 first (statement_block {a = a} d o) z =
     let f = first d refl in also (a ∷ []) f (operand_statement f.r.kind (block_operand f.r.kind f.kind))
 first contents_none h = absurd (no h)

@@ -1,6 +1,6 @@
 -- What is derived stands over its tokens, leaf by leaf, and each of its nodes that is parsed again alone is made by its
 -- own tokens.
-use Rattle.std.proofs.Common.{◌≡◌, ◌+◌, ℕ, List, [], ◌∷◌, ◌++◌, length, length-append, append_assoc, append-nil, Bool, true, false, refl, sym, ◌∙◌, subst, arith}
+use Rattle.std.proofs.Common.{◌≡◌, ℕ, List, [], ◌∷◌, ◌++◌, length, length-append, append_assoc, append-nil, Bool, true, false, refl, sym, ◌∙◌, subst, arith}
 use Rattle.rap_base.specs.TokenKind.{EQ, L_CURLY, R_CURLY, SEMICOLON, IDENT, AMP, BANG, DOT, COLON, COMMA, QUESTION, L_PAREN, R_PAREN, L_BRACK, R_BRACK, MUT_KW, PUB_KW, MOD_KW, STRUCT_KW, FN_KW, LET_KW, IF_KW, ELSE_KW, WHILE_KW, LOOP_KW, INT_NUMBER}
 use Rattle.rap_base.specs.NodeKind.{PATH, PATH_SEGMENT, NAME_REF, EXPR_STMT, TOKEN_TREE}
 use Rattle.rap_events.specs.Record.{Record}
@@ -8,7 +8,7 @@ use Rattle.rap_events.specs.Composite.{parts, width, width_of}
 use Rattle.rap_events.specs.Forest.{Forest, none, node, leaf, ◌⧺◌, used}
 use Rattle.rap_grammar_core.specs.Derives.{Touching, tokens_of, Writes, Category, Derives, maybe_none, maybe_some, many_none, many_more, element_last, element_comma, element_more, reference, segment, path_one, path_more, atom_literal, atom_path, atom_paren, atom_block, postfix_atom, postfix_call, postfix_index, postfix_try, postfix_field, postfix_number, postfix_method, argument_list, unary_prefix, unary_ref, unary_ref_mut, unary_postfix, binary_unary, binary_tighter, binary_operator, expression_binary, expression_assign, type_path, type_ref, type_ref_mut, type_slice, name_given, bind_name, visibility_pub, annotation_type, value_given, statement_let, statement_expression, statement_block, contents_none, contents_value, contents_block, contents_statement, contents_block_before, block_of, with_block, with_if, with_while, with_loop, if_of, else_block, else_if, item_module, item_module_of, item_struct, item_struct_fields, item_struct_tuple, item_function, items_of, fields_of, field_named, tuple_of, tuple_field, params_of, param_typed, return_type, file_of}
 use Rattle.rap_grammar_core.specs.MacroCall.{IsMacroCall, called}
-use Rattle.rap_grammar_core.specs.ParsedAgain.{is_parsed_again, MakesNode, a_block, a_list_of_items, a_list_of_fields, a_token_tree, IsCoreTree, derived, a_call}
+use Rattle.rap_grammar_core.specs.ParsedAgain.{is_parsed_again, IsBracketed, brackets_around, MakesNode, a_block, a_list_of_items, a_list_of_fields, a_token_tree, IsCoreTree, derived, a_call}
 use Rattle.rap_grammar_scripts.specs.Balanced.{Balanced, ArePartners, nothing_more, token_first, list_first, in_brackets}
 
 -- a node that is parsed again alone is made by these tokens
@@ -107,7 +107,8 @@ built (visibility_pub {a = a} o) = over refl (one a PUB_KW)
 built (annotation_type {a = a} o d) = both (one a COLON) (built d)
 built (value_given {a = a} o d) = both (one a EQ) (built d)
 built (statement_let {a = a} {b = b} o d e f c) =
-    over refl (simp append_assoc at (plus (both (both (both (one a LET_KW) (built d)) (built e)) (built f)) b SEMICOLON))
+    over refl (simp append_assoc at
+    (plus (both (both (both (one a LET_KW) (built d)) (built e)) (built f)) b SEMICOLON))
 built (statement_expression {a = a} d p o) = over refl (plus (built d) a SEMICOLON)
 built (statement_block {a = a} d o) = over refl (plus (built d) a SEMICOLON)
 built contents_none = empty
@@ -136,7 +137,8 @@ built (item_struct_fields {a = a} v o d e) =
 built (item_struct_tuple {a = a} {b = b} v o d e c) =
     over refl (simp append_assoc at (plus (both (both (plus (built v) a STRUCT_KW) (built d)) (built e)) b SEMICOLON))
 built (item_function {a = a} v o d e f g) =
-    over refl (simp append_assoc at (both (both (both (both (plus (built v) a FN_KW) (built d)) (built e)) (built f)) (built g)))
+    over refl (simp append_assoc at
+    (both (both (both (both (plus (built v) a FN_KW) (built d)) (built e)) (built f)) (built g)))
 built (items_of {a = a} {b = b} o d c) =
     with_node empty (plus (both (one a L_CURLY) (built d)) b R_CURLY) (λ i. a_list_of_items (items_of o d c))
 built (fields_of {a = a} {b = b} o d c) =
@@ -153,16 +155,16 @@ built (file_of d) = over refl (built d)
 -- balanced tokens, alone and in brackets
 bracketed : {a c : Record} {ks : List Record} {t : Forest} → ArePartners a c → Balanced ks t → Built ks t →
     Built (a ∷ (ks ++ c ∷ [])) (in_brackets a t c)
-bracketed {a = a} {c = c} p d x = with_node empty (plus (both (one a a.kind) x) c c.kind) (λ i. a_token_tree p d)
+bracketed {a = a} {c = c} p d x =
+    with_node empty (plus (both (one a a.kind) x) c c.kind) (λ i. a_token_tree (brackets_around p d))
 
 balanced : {ks : List Record} {t : Forest} → Balanced ks t → Built ks t
 balanced nothing_more = empty
 balanced (token_first {r = r} n d) = both (one r r.kind) (balanced d)
 balanced (list_first p d e) = rw append_assoc at (both (bracketed p d (balanced d)) (balanced e))
 
-pub in_brackets_built : {a c : Record} {ks : List Record} {t : Forest} → ArePartners a c → Balanced ks t →
-    Built (a ∷ (ks ++ c ∷ [])) (in_brackets a t c)
-in_brackets_built p d = bracketed p d (balanced d)
+pub brackets_built : {ks : List Record} {t : Forest} → IsBracketed ks t → Built ks t
+brackets_built (brackets_around p d) = bracketed p d (balanced d)
 
 -- a macro call
 call_built : {ks : List Record} {t : Forest} → IsMacroCall ks t → Built ks t
@@ -170,8 +172,9 @@ call_built (called {r = r} {e = e} {a = a} {c = c} {ks = ks} {t = t} n x o d i) 
     let p : ArePartners a c = record { opens = rw o.kind_is refl; closes = rw (o.kind_is, i.kind_is) refl } in
     let same : in_brackets a t c ≡ node none TOKEN_TREE (leaf (leaf none L_CURLY 1 ⧺ t) R_CURLY 1) =
     rw (o.kind_is, i.kind_is) refl in
-    let tree = subst (λ (f : Forest). Built (a ∷ (ks ++ c ∷ [])) f) same (in_brackets_built p d) in
-    over refl (both (plus (over {kind = PATH} refl (over {kind = PATH_SEGMENT} refl (over {kind = NAME_REF} refl (one r IDENT)))) e BANG) tree)
+    let tree = subst (λ (f : Forest). Built (a ∷ (ks ++ c ∷ [])) f) same (brackets_built (brackets_around p d)) in
+    over refl (both (plus (over {kind = PATH} refl
+    (over {kind = PATH_SEGMENT} refl (over {kind = NAME_REF} refl (one r IDENT)))) e BANG) tree)
 
 pub core_built : {ks : List Record} {t : Forest} → IsCoreTree ks t → Built ks t
 core_built (derived d) = built d

@@ -1,14 +1,14 @@
 -- What is derived has no message and stands for each of its tokens, and the same tokens have at most one tree.
-use Rattle.std.proofs.Common.{◌≡◌, ◌+◌, ◌≤◌, ℕ, List, [], ◌∷◌, ◌++◌, length, append-nil, true, false, refl, ap, arith}
+use Rattle.std.proofs.Common.{◌≡◌, ◌+◌, ◌≤◌, ℕ, List, [], ◌++◌, length, append-nil, true, false, refl, ap, arith}
 use Rattle.rap_base.specs.NodeKind.{SOURCE_FILE}
 use Rattle.rap_events.specs.Record.{Record}
 use Rattle.rap_events.specs.Forest.{Forest, none, node, leaf, message, split, ◌⧺◌, message_count, used, ends_in_dot, one_tree}
 use Rattle.rap_grammar_core.specs.Derives.{Derives, Category, Expression, Ty, Contents, Block, Many, Item, Items, Fields, File, file_of}
 use Rattle.rap_grammar_core.specs.Laws.{HasOneTree}
-use Rattle.rap_grammar_scripts.specs.Balanced.{Balanced, ArePartners, in_brackets}
+use Rattle.rap_grammar_core.specs.ParsedAgain.{IsBracketed}
 use Rattle.rap_grammar_scripts.specs.Phrase.{Phrase}
 use Rattle.rap_grammar_scripts.specs.Script.{Script, Spot}
-use Rattle.rap_grammar_core.proofs.Built.{Built, empty, with_leaf, with_node, built, in_brackets_built, used-built}
+use Rattle.rap_grammar_core.proofs.Built.{Built, empty, with_leaf, with_node, built, brackets_built, used-built}
 use Rattle.rap_grammar_core.proofs.Complete.{expression_whole, expression_single, type_whole, type_single, contents_whole, block_whole}
 use Rattle.rap_grammar_core.proofs.Items.{items_whole, item_before, items_of_before, fields_of_before}
 use Rattle.rap_grammar_scripts.proofs.OneEnd.{one_end}
@@ -51,7 +51,9 @@ no_dot (message b m) h = refl
 no_dot (split b d) h = absurd (omega (arith, h))
 
 single_whole : (t : Forest) → Single t → foreign t ≡ 0 → one_tree t ≡ true
-single_whole t s h = rw s.is (rw (no_dot s.children (let i : foreign (node none s.kind s.children) ≡ 0 = rw s.is at h in omega arith)) refl)
+single_whole t s h =
+    rw s.is (rw (no_dot s.children (let i : foreign (node none s.kind s.children) ≡ 0 = rw s.is at h in omega arith))
+    refl)
 
 -- an expression is one tree
 pub one_expression : {ks : List Record} {t : Forest} → Derives Expression ks t → one_tree t ≡ true
@@ -64,10 +66,9 @@ one_type {t = t} d = single_whole t (type_single d) (no_foreign (built d))
 pub used-derived : {c : Category} {ks : List Record} {t : Forest} → Derives c ks t → used t ≡ length ks
 used-derived d = used-built (built d)
 
--- and so does what is balanced, in its brackets
-pub used-brackets : {a c : Record} {ks : List Record} {t : Forest} → ArePartners a c → Balanced ks t →
-    used (in_brackets a t c) ≡ length (a ∷ (ks ++ c ∷ []))
-used-brackets p d = used-built (in_brackets_built p d)
+-- and so do balanced tokens in brackets
+pub used-brackets : {ks : List Record} {t : Forest} → IsBracketed ks t → used t ≡ length ks
+used-brackets d = used-built (brackets_built d)
 
 -- a script that makes a tree of tokens makes no other tree of them
 same_tree : {s : Script Phrase} {ks : List Record} {t u : Forest} → Leads s [] ks none [] t → Leads s [] ks none [] u →

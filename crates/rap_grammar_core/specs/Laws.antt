@@ -9,7 +9,9 @@ use Rattle.rap_grammar_core.specs.WithoutBlocks.{Plain}
 
 -- Any tokens have at most one tree in this category.
 abbrev pub HasOneTree : Category → Type 0
-HasOneTree category = (tokens : List Record) (tree other : Forest) → Derives category tokens tree → Derives category tokens other → tree ≡ other
+HasOneTree category =
+    (tokens : List Record) (tree other : Forest) → Derives category tokens tree → Derives category tokens other →
+    tree ≡ other
 
 -- Each node of a core tree that is parsed again alone is made by its own tokens.
 abbrev pub MakesItsNodes : Type 0
@@ -19,4 +21,6 @@ MakesItsNodes =
 
 -- What the smaller table derives, the core grammar derives too, with the same tree.
 abbrev pub HoldsPlain : Type 0
-HoldsPlain = (category : Category) (tokens : List Record) (tree : Forest) → Plain category tokens tree → Derives category tokens tree
+HoldsPlain =
+    (category : Category) (tokens : List Record) (tree : Forest) → Plain category tokens tree →
+    Derives category tokens tree
