@@ -77,8 +77,18 @@ three : (k j i : ℕ) (os : List Record) → Touching (k ∷ j ∷ i ∷ []) os 
 three k j i [] h = absurd h
 three k j i (r ∷ os) h =
     let t = two j i os h.2 in
-    record { r = r; s = t.r; t = t.s; is = ap (λ (x : List Record). r ∷ x) t.is; kind = h.0; joint = h.1; second =
-    t.kind; second_joint = t.joint; third = t.second }
+    record {
+      r = r;
+      s = t.r;
+      t = t.s;
+      is = ap (λ (x : List Record). r ∷ x) t.is;
+      kind = h.0;
+      joint = h.1;
+      second =
+          t.kind;
+      second_joint = t.joint;
+      third = t.second;
+    }
 
 -- the first of the kinds that an operator is written with
 abbrev pub lead : List ℕ → ℕ
@@ -125,15 +135,25 @@ is_l_angle : (r : Record) (rest : List Record) → r.kind ≡ L_ANGLE → is_ope
     operator_at (r ∷ rest) ≡ L_ANGLE
 unfolding operator_at
 is_l_angle r rest e h =
-    rw (e, no_more EQ [] rest h refl, no_more L_ANGLE (EQ ∷ []) rest h refl, no_more L_ANGLE [] rest h refl,
-    and_false r.joint) refl
+    rw (
+      e,
+      no_more EQ [] rest h refl,
+      no_more L_ANGLE (EQ ∷ []) rest h refl,
+      no_more L_ANGLE [] rest h refl,
+      and_false r.joint,
+    ) refl
 
 is_r_angle : (r : Record) (rest : List Record) → r.kind ≡ R_ANGLE → is_operand (next_kind rest) ≡ true →
     operator_at (r ∷ rest) ≡ R_ANGLE
 unfolding operator_at
 is_r_angle r rest e h =
-    rw (e, no_more R_ANGLE (EQ ∷ []) rest h refl, no_more R_ANGLE [] rest h refl, no_more EQ [] rest h refl,
-    and_false r.joint) refl
+    rw (
+      e,
+      no_more R_ANGLE (EQ ∷ []) rest h refl,
+      no_more R_ANGLE [] rest h refl,
+      no_more EQ [] rest h refl,
+      and_false r.joint,
+    ) refl
 
 is_pipe : (r : Record) (rest : List Record) → r.kind ≡ PIPE → is_operand (next_kind rest) ≡ true →
     operator_at (r ∷ rest) ≡ PIPE
@@ -188,68 +208,111 @@ is_amp r rest e h a = rw (e, no_more EQ [] rest h refl, and_false r.joint, amp_a
 seen_eq : Seen EQ
 unfolding operator_at
 seen_eq =
-    record { at = λ n m os rest w h a. let t = one EQ os w in rw t.is (is_eq t.r rest t.kind h); calm = λ n m. refl;
-    bang = inl refl }
+    record {
+      at = λ n m os rest w h a. let t = one EQ os w in rw t.is (is_eq t.r rest t.kind h);
+      calm = λ n m. refl;
+      bang = inl refl;
+    }
 
 seen_pluseq : Seen PLUSEQ
 unfolding operator_at
 seen_pluseq =
-    record { at = λ n m os rest w h a. let t = two PLUS EQ os w in rw (t.is, t.kind, t.joint, t.second) refl; calm =
-    λ n m. refl; bang = inl refl }
+    record {
+      at = λ n m os rest w h a. let t = two PLUS EQ os w in rw (t.is, t.kind, t.joint, t.second) refl;
+      calm =
+          λ n m. refl;
+      bang = inl refl;
+    }
 
 seen_minuseq : Seen MINUSEQ
 unfolding operator_at
 seen_minuseq =
-    record { at = λ n m os rest w h a. let t = two MINUS EQ os w in rw (t.is, t.kind, t.joint, t.second) refl; calm =
-    λ n m. refl; bang = inl refl }
+    record {
+      at = λ n m os rest w h a. let t = two MINUS EQ os w in rw (t.is, t.kind, t.joint, t.second) refl;
+      calm =
+          λ n m. refl;
+      bang = inl refl;
+    }
 
 seen_stareq : Seen STAREQ
 unfolding operator_at
 seen_stareq =
-    record { at = λ n m os rest w h a. let t = two STAR EQ os w in rw (t.is, t.kind, t.joint, t.second) refl; calm =
-    λ n m. refl; bang = inl refl }
+    record {
+      at = λ n m os rest w h a. let t = two STAR EQ os w in rw (t.is, t.kind, t.joint, t.second) refl;
+      calm =
+          λ n m. refl;
+      bang = inl refl;
+    }
 
 seen_slasheq : Seen SLASHEQ
 unfolding operator_at
 seen_slasheq =
-    record { at = λ n m os rest w h a. let t = two SLASH EQ os w in rw (t.is, t.kind, t.joint, t.second) refl; calm =
-    λ n m. refl; bang = inl refl }
+    record {
+      at = λ n m os rest w h a. let t = two SLASH EQ os w in rw (t.is, t.kind, t.joint, t.second) refl;
+      calm =
+          λ n m. refl;
+      bang = inl refl;
+    }
 
 seen_percenteq : Seen PERCENTEQ
 unfolding operator_at
 seen_percenteq =
-    record { at = λ n m os rest w h a. let t = two PERCENT EQ os w in rw (t.is, t.kind, t.joint, t.second) refl; calm =
-    λ n m. refl; bang = inl refl }
+    record {
+      at = λ n m os rest w h a. let t = two PERCENT EQ os w in rw (t.is, t.kind, t.joint, t.second) refl;
+      calm =
+          λ n m. refl;
+      bang = inl refl;
+    }
 
 seen_careteq : Seen CARETEQ
 unfolding operator_at
 seen_careteq =
-    record { at = λ n m os rest w h a. let t = two CARET EQ os w in rw (t.is, t.kind, t.joint, t.second) refl; calm =
-    λ n m. refl; bang = inl refl }
+    record {
+      at = λ n m os rest w h a. let t = two CARET EQ os w in rw (t.is, t.kind, t.joint, t.second) refl;
+      calm =
+          λ n m. refl;
+      bang = inl refl;
+    }
 
 seen_ampeq : Seen AMPEQ
 unfolding operator_at
 seen_ampeq =
-    record { at = λ n m os rest w h a. let t = two AMP EQ os w in rw (t.is, t.kind, t.joint, t.second) refl; calm =
-    λ n m. refl; bang = inl refl }
+    record {
+      at = λ n m os rest w h a. let t = two AMP EQ os w in rw (t.is, t.kind, t.joint, t.second) refl;
+      calm =
+          λ n m. refl;
+      bang = inl refl;
+    }
 
 seen_pipeeq : Seen PIPEEQ
 unfolding operator_at
 seen_pipeeq =
-    record { at = λ n m os rest w h a. let t = two PIPE EQ os w in rw (t.is, t.kind, t.joint, t.second) refl; calm =
-    λ n m. refl; bang = inl refl }
+    record {
+      at = λ n m os rest w h a. let t = two PIPE EQ os w in rw (t.is, t.kind, t.joint, t.second) refl;
+      calm =
+          λ n m. refl;
+      bang = inl refl;
+    }
 
 seen_shleq : Seen SHLEQ
 unfolding operator_at
 seen_shleq =
-    record { at = λ n m os rest w h a. let t = three L_ANGLE L_ANGLE EQ os w in
-    rw (t.is, t.kind, t.joint, t.second, t.second_joint, t.third) refl; calm = λ n m. refl; bang = inl refl }
+    record {
+      at = λ n m os rest w h a. let t = three L_ANGLE L_ANGLE EQ os w in
+          rw (t.is, t.kind, t.joint, t.second, t.second_joint, t.third) refl;
+      calm = λ n m. refl;
+      bang = inl refl;
+    }
 
 seen_shreq : Seen SHREQ
 unfolding operator_at
 seen_shreq =
-    record { at = λ n m os rest w h a. let t = three R_ANGLE R_ANGLE EQ os w in
-    rw (t.is, t.kind, t.joint, t.second, t.second_joint, t.third) refl; calm = λ n m. refl; bang = inl refl }
+    record {
+      at = λ n m os rest w h a. let t = three R_ANGLE R_ANGLE EQ os w in
+          rw (t.is, t.kind, t.joint, t.second, t.second_joint, t.third) refl;
+      calm = λ n m. refl;
+      bang = inl refl;
+    }
 
 seen_dot2 : Seen DOT2
 unfolding operator_at
@@ -262,112 +325,179 @@ seen_dot2eq = record { at = λ n m. absurd (n refl); calm = λ n m. absurd (n re
 seen_pipe2 : Seen PIPE2
 unfolding operator_at
 seen_pipe2 =
-    record { at = λ n m os rest w h a. let t = two PIPE PIPE os w in rw (t.is, t.kind, t.joint, t.second) refl; calm =
-    λ n m. refl; bang = inl refl }
+    record {
+      at = λ n m os rest w h a. let t = two PIPE PIPE os w in rw (t.is, t.kind, t.joint, t.second) refl;
+      calm =
+          λ n m. refl;
+      bang = inl refl;
+    }
 
 seen_amp2 : Seen AMP2
 unfolding operator_at
 seen_amp2 =
-    record { at = λ n m os rest w h a. let t = two AMP AMP os w in rw (t.is, t.kind, t.joint, t.second) refl; calm =
-    λ n m. refl; bang = inl refl }
+    record {
+      at = λ n m os rest w h a. let t = two AMP AMP os w in rw (t.is, t.kind, t.joint, t.second) refl;
+      calm =
+          λ n m. refl;
+      bang = inl refl;
+    }
 
 seen_eq2 : Seen EQ2
 unfolding operator_at
 seen_eq2 =
-    record { at = λ n m os rest w h a. let t = two EQ EQ os w in rw (t.is, t.kind, t.joint, t.second) refl; calm =
-    λ n m. refl; bang = inl refl }
+    record {
+      at = λ n m os rest w h a. let t = two EQ EQ os w in rw (t.is, t.kind, t.joint, t.second) refl;
+      calm =
+          λ n m. refl;
+      bang = inl refl;
+    }
 
 seen_neq : Seen NEQ
 unfolding operator_at
 seen_neq =
-    record { at = λ n m os rest w h a. let t = two BANG EQ os w in rw (t.is, t.kind, t.joint, t.second) refl; calm =
-    λ n m. refl; bang = inr refl }
+    record {
+      at = λ n m os rest w h a. let t = two BANG EQ os w in rw (t.is, t.kind, t.joint, t.second) refl;
+      calm =
+          λ n m. refl;
+      bang = inr refl;
+    }
 
 seen_l_angle : Seen L_ANGLE
 unfolding operator_at
 seen_l_angle =
-    record { at = λ n m os rest w h a. let t = one L_ANGLE os w in rw t.is (is_l_angle t.r rest t.kind h); calm =
-    λ n m. refl; bang = inl refl }
+    record {
+      at = λ n m os rest w h a. let t = one L_ANGLE os w in rw t.is (is_l_angle t.r rest t.kind h);
+      calm =
+          λ n m. refl;
+      bang = inl refl;
+    }
 
 seen_r_angle : Seen R_ANGLE
 unfolding operator_at
 seen_r_angle =
-    record { at = λ n m os rest w h a. let t = one R_ANGLE os w in rw t.is (is_r_angle t.r rest t.kind h); calm =
-    λ n m. refl; bang = inl refl }
+    record {
+      at = λ n m os rest w h a. let t = one R_ANGLE os w in rw t.is (is_r_angle t.r rest t.kind h);
+      calm =
+          λ n m. refl;
+      bang = inl refl;
+    }
 
 seen_lteq : Seen LTEQ
 unfolding operator_at
 seen_lteq =
-    record { at = λ n m os rest w h a. let t = two L_ANGLE EQ os w in rw (t.is, t.kind, t.joint, t.second) refl; calm =
-    λ n m. refl; bang = inl refl }
+    record {
+      at = λ n m os rest w h a. let t = two L_ANGLE EQ os w in rw (t.is, t.kind, t.joint, t.second) refl;
+      calm =
+          λ n m. refl;
+      bang = inl refl;
+    }
 
 seen_gteq : Seen GTEQ
 unfolding operator_at
 seen_gteq =
-    record { at = λ n m os rest w h a. let t = two R_ANGLE EQ os w in rw (t.is, t.kind, t.joint, t.second) refl; calm =
-    λ n m. refl; bang = inl refl }
+    record {
+      at = λ n m os rest w h a. let t = two R_ANGLE EQ os w in rw (t.is, t.kind, t.joint, t.second) refl;
+      calm =
+          λ n m. refl;
+      bang = inl refl;
+    }
 
 seen_pipe : Seen PIPE
 unfolding operator_at
 seen_pipe =
-    record { at = λ n m os rest w h a. let t = one PIPE os w in rw t.is (is_pipe t.r rest t.kind h); calm = λ n m. refl;
-    bang = inl refl }
+    record {
+      at = λ n m os rest w h a. let t = one PIPE os w in rw t.is (is_pipe t.r rest t.kind h);
+      calm = λ n m. refl;
+      bang = inl refl;
+    }
 
 seen_caret : Seen CARET
 unfolding operator_at
 seen_caret =
-    record { at = λ n m os rest w h a. let t = one CARET os w in rw t.is (is_caret t.r rest t.kind h); calm =
-    λ n m. refl; bang = inl refl }
+    record {
+      at = λ n m os rest w h a. let t = one CARET os w in rw t.is (is_caret t.r rest t.kind h);
+      calm =
+          λ n m. refl;
+      bang = inl refl;
+    }
 
 seen_amp : Seen AMP
 unfolding operator_at
 seen_amp =
-    record { at = λ n m os rest w h a. let t = one AMP os w in rw t.is
-    (is_amp t.r rest t.kind h (λ i. a refl i t.r t.is)); calm = λ n m. refl; bang = inl refl }
+    record {
+      at = λ n m os rest w h a. let t = one AMP os w in rw t.is
+          (is_amp t.r rest t.kind h (λ i. a refl i t.r t.is));
+      calm = λ n m. refl;
+      bang = inl refl;
+    }
 
 seen_shl : Seen SHL
 unfolding operator_at
 seen_shl =
-    record { at = λ n m os rest w h a. let t = two L_ANGLE L_ANGLE os w in
-    rw (t.is, t.kind, t.joint, t.second, no_more EQ [] rest h refl, and_false t.s.joint) refl; calm = λ n m. refl;
-    bang = inl refl }
+    record {
+      at = λ n m os rest w h a. let t = two L_ANGLE L_ANGLE os w in
+          rw (t.is, t.kind, t.joint, t.second, no_more EQ [] rest h refl, and_false t.s.joint) refl;
+      calm = λ n m. refl;
+      bang = inl refl;
+    }
 
 seen_shr : Seen SHR
 unfolding operator_at
 seen_shr =
-    record { at = λ n m os rest w h a. let t = two R_ANGLE R_ANGLE os w in
-    rw (t.is, t.kind, t.joint, t.second, no_more EQ [] rest h refl, and_false t.s.joint) refl; calm = λ n m. refl;
-    bang = inl refl }
+    record {
+      at = λ n m os rest w h a. let t = two R_ANGLE R_ANGLE os w in
+          rw (t.is, t.kind, t.joint, t.second, no_more EQ [] rest h refl, and_false t.s.joint) refl;
+      calm = λ n m. refl;
+      bang = inl refl;
+    }
 
 seen_plus : Seen PLUS
 unfolding operator_at
 seen_plus =
-    record { at = λ n m os rest w h a. let t = one PLUS os w in rw t.is (is_plus t.r rest t.kind h); calm = λ n m. refl;
-    bang = inl refl }
+    record {
+      at = λ n m os rest w h a. let t = one PLUS os w in rw t.is (is_plus t.r rest t.kind h);
+      calm = λ n m. refl;
+      bang = inl refl;
+    }
 
 seen_minus : Seen MINUS
 unfolding operator_at
 seen_minus =
-    record { at = λ n m os rest w h a. let t = one MINUS os w in rw t.is (is_minus t.r rest t.kind h); calm =
-    λ n m. refl; bang = inl refl }
+    record {
+      at = λ n m os rest w h a. let t = one MINUS os w in rw t.is (is_minus t.r rest t.kind h);
+      calm =
+          λ n m. refl;
+      bang = inl refl;
+    }
 
 seen_star : Seen STAR
 unfolding operator_at
 seen_star =
-    record { at = λ n m os rest w h a. let t = one STAR os w in rw t.is (is_star t.r rest t.kind h); calm = λ n m. refl;
-    bang = inl refl }
+    record {
+      at = λ n m os rest w h a. let t = one STAR os w in rw t.is (is_star t.r rest t.kind h);
+      calm = λ n m. refl;
+      bang = inl refl;
+    }
 
 seen_slash : Seen SLASH
 unfolding operator_at
 seen_slash =
-    record { at = λ n m os rest w h a. let t = one SLASH os w in rw t.is (is_slash t.r rest t.kind h); calm =
-    λ n m. refl; bang = inl refl }
+    record {
+      at = λ n m os rest w h a. let t = one SLASH os w in rw t.is (is_slash t.r rest t.kind h);
+      calm =
+          λ n m. refl;
+      bang = inl refl;
+    }
 
 seen_percent : Seen PERCENT
 unfolding operator_at
 seen_percent =
-    record { at = λ n m os rest w h a. let t = one PERCENT os w in rw t.is (is_percent t.r rest t.kind h); calm =
-    λ n m. refl; bang = inl refl }
+    record {
+      at = λ n m os rest w h a. let t = one PERCENT os w in rw t.is (is_percent t.r rest t.kind h);
+      calm =
+          λ n m. refl;
+      bang = inl refl;
+    }
 
 seen_as_kw : Seen AS_KW
 unfolding operator_at
@@ -388,20 +518,88 @@ among (row ∷ rows) op g p = by_row row rows op (row.0 == op) refl g.0 (among r
 
 seen : (op : ℕ) → 0 < power op → Seen op
 seen op p =
-    among powers op (seen_pipe2,
-    (seen_pipeeq, (seen_pipe,
-    (seen_shreq, (seen_shr, (seen_gteq,
-    (seen_r_angle, (seen_eq2,
-    (seen_eq, (seen_lteq, (seen_shleq,
-    (seen_shl, (seen_l_angle,
-    (seen_pluseq, (seen_plus,
-    (seen_careteq, (seen_caret,
-    (seen_percenteq, (seen_percent,
-    (seen_ampeq, (seen_amp2,
-    (seen_amp, (seen_slasheq,
-    (seen_slash, (seen_stareq,
-    (seen_star, (seen_dot2eq,
-    (seen_dot2, (seen_neq, (seen_minuseq, (seen_minus, (seen_as_kw, tt)))))))))))))))))))))))))))))))) p
+    among powers op (
+      seen_pipe2,
+      (
+        seen_pipeeq,
+        (
+          seen_pipe,
+          (
+            seen_shreq,
+            (
+              seen_shr,
+              (
+                seen_gteq,
+                (
+                  seen_r_angle,
+                  (
+                    seen_eq2,
+                    (
+                      seen_eq,
+                      (
+                        seen_lteq,
+                        (
+                          seen_shleq,
+                          (
+                            seen_shl,
+                            (
+                              seen_l_angle,
+                              (
+                                seen_pluseq,
+                                (
+                                  seen_plus,
+                                  (
+                                    seen_careteq,
+                                    (
+                                      seen_caret,
+                                      (
+                                        seen_percenteq,
+                                        (
+                                          seen_percent,
+                                          (
+                                            seen_ampeq,
+                                            (
+                                              seen_amp2,
+                                              (
+                                                seen_amp,
+                                                (
+                                                  seen_slasheq,
+                                                  (
+                                                    seen_slash,
+                                                    (
+                                                      seen_stareq,
+                                                      (
+                                                        seen_star,
+                                                        (
+                                                          seen_dot2eq,
+                                                          (seen_dot2, (seen_neq, (seen_minuseq, (seen_minus, (seen_as_kw, tt))))),
+                                                        ),
+                                                      ),
+                                                    ),
+                                                  ),
+                                                ),
+                                              ),
+                                            ),
+                                          ),
+                                        ),
+                                      ),
+                                    ),
+                                  ),
+                                ),
+                              ),
+                            ),
+                          ),
+                        ),
+                      ),
+                    ),
+                  ),
+                ),
+              ),
+            ),
+          ),
+        ),
+      ),
+    ) p
 
 first_touching : (k : ℕ) (ks : List ℕ) (os rest : List Record) → Touching (k ∷ ks) os →
     begins_with (k ∷ ks) (os ++ rest) ≡ true

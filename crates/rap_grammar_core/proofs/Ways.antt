@@ -290,8 +290,11 @@ operand_way_by true r {rs = rs} k h x y =
       blocky = y.blocky;
       stays = y.stays;
       run = fails (differ is_atom n AMP k refl)
-          (fails (rw (differ_back is_atom n STAR k refl, differ_back is_atom n BANG k refl,
-          differ_back is_atom n MINUS k refl) refl)
+          (fails (rw (
+            differ_back is_atom n STAR k refl,
+            differ_back is_atom n BANG k refl,
+            differ_back is_atom n MINUS k refl,
+          ) refl)
           (fails (not_first DOT (DOT ∷ EQ ∷ []) rs d)
           (fails (not_first DOT (DOT ∷ []) rs d) (follows x (rw h y.run)))));
     }
@@ -302,8 +305,11 @@ operand_way_by false r {rs = rs} k h x y =
       blocky = y.blocky;
       stays = y.stays;
       run = fails (differ is_atom n AMP k refl)
-          (fails (rw (differ_back is_atom n STAR k refl, differ_back is_atom n BANG k refl,
-          differ_back is_atom n MINUS k refl) refl)
+          (fails (rw (
+            differ_back is_atom n STAR k refl,
+            differ_back is_atom n BANG k refl,
+            differ_back is_atom n MINUS k refl,
+          ) refl)
           (fails (not_first DOT (DOT ∷ EQ ∷ []) rs d)
           (fails (not_first DOT (DOT ∷ []) rs d) (follows x (rw h y.run)))));
     }
