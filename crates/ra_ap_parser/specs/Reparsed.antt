@@ -17,14 +17,14 @@ is_kind kind (Some k) = k == kind
 
 -- whether a node of this kind, with this first child and in this parent, can be parsed again
 abbrev pub can_reparse : ℕ → Option ℕ → Option ℕ → Bool
-can_reparse node first_child parent =
-    one_of (BLOCK_EXPR ∷ RECORD_FIELD_LIST ∷ RECORD_EXPR_FIELD_LIST ∷ VARIANT_LIST ∷ MATCH_ARM_LIST ∷ USE_TREE_LIST ∷ EXTERN_ITEM_LIST ∷ ITEM_LIST ∷ []) node
-    || (((node == TOKEN_TREE) && is_kind L_CURLY first_child)
-    || ((node == ASSOC_ITEM_LIST) && (is_kind IMPL parent || is_kind TRAIT parent)))
+can_reparse kind first_child parent =
+    one_of (BLOCK_EXPR ∷ RECORD_FIELD_LIST ∷ RECORD_EXPR_FIELD_LIST ∷ VARIANT_LIST ∷ MATCH_ARM_LIST ∷ USE_TREE_LIST ∷ EXTERN_ITEM_LIST ∷ ITEM_LIST ∷ []) kind
+    || (((kind == TOKEN_TREE) && is_kind L_CURLY first_child)
+    || ((kind == ASSOC_ITEM_LIST) && (is_kind IMPL parent || is_kind TRAIT parent)))
 
 -- the kind of the node that is parsed again, if it can be
 abbrev pub reparsed : ℕ → Option ℕ → Option ℕ → Option ℕ
-reparsed node first_child parent = if can_reparse node first_child parent then Some node else None
+reparsed kind first_child parent = if can_reparse kind first_child parent then Some kind else None
 
 -- the kind of the node that is parsed again
 abbrev pub kind_of : Option Part → Option ℕ
