@@ -1,13 +1,17 @@
 -- What the core grammar derives comes out of its entry as it was derived.
-use Rattle.std.proofs.Common.{◌≡◌, List, ◌++◌, length, sym, ◌∙◌}
+use Rattle.std.proofs.Common.{◌≡◌, List, [], ◌++◌, append-nil, length, true, refl, sym, ◌∙◌}
 use Rattle.rap_events.specs.Record.{Record}
 use Rattle.rap_events.specs.Forest.{Forest, message_count}
 use Rattle.rap_grammar.proofs.Outputs.{derived, derived_clean, derived_type, derived_type_clean, derived_statements, derived_statements_clean, derived_file, derived_file_clean, derived_items, derived_items_clean, called_file, called_items, begun_file, begun_items, one_output, one_root}
-use Rattle.rap_grammar.specs.Part.{IsPrefixOf, IsPartCore, IsWhole, part_script}
+use Rattle.rap_grammar_core.specs.ParsedAgain.{is_parsed_again, MakesNode}
+use Rattle.rap_grammar_core.proofs.Again.{made_again, block_made, items_made, fields_made, token_tree_made, none_made}
+use Rattle.rap_grammar.specs.Part.{IsPrefixOf, IsPartCore, IsWhole, part_script, part_kind, in_braces}
 use Rattle.rap_grammar.specs.declared.entry.part.Part.{Part}
+use Rattle.rap_grammar.specs.declared.entry.part.Part.TheVariants as part
 use Rattle.rap_grammar.proofs.Padded.{top_of_prefix}
 use Rattle.rap_grammar.proofs.Parts.{one_prefix}
 use Rattle.rap_grammar.proofs.Prefixes.{front_expression, front_type, front_block, front_item, front_part}
+use Rattle.ra_ap_parser.specs.Reparsed.{IsAgainItself}
 use Rattle.ra_ap_parser.specs.EntryScript.{IsOutputOf, IsCore, IsCall, KeepsFront, IsPrefixOutputOf, IsPrefixCore, WrapsPrefix}
 use Rattle.ra_ap_parser.specs.declared.entry_point.PrefixEntryPoint.{PrefixEntryPoint}
 use Rattle.ra_ap_parser.specs.declared.entry_point.PrefixEntryPoint.TheVariants as prefix
@@ -96,3 +100,38 @@ pub part_core : (p : Part) (input : List Record) {output : Forest} → IsPrefixO
     (front rest : List Record) (tree : Forest) → input ≡ front ++ rest → IsPartCore p front tree →
     IsWhole tree (length front) output
 part_core p input i ks l t e d = front_part p ks l (rw e at i) d
+
+-- what makes a node of a part's kind derives that part
+part_made : (p : Part) (own : List Record) {t : Forest} → MakesNode (part_kind p) own t → IsPartCore p own t
+part_made part.Visibility own m = none_made m refl
+part_made part.Path own m = none_made m refl
+part_made part.Block own m = block_made m
+part_made part.RecordFieldList own m = fields_made m
+part_made part.RecordExprFieldList own m = none_made m refl
+part_made part.VariantList own m = none_made m refl
+part_made part.MatchArmList own m = none_made m refl
+part_made part.UseTreeList own m = none_made m refl
+part_made part.ExternItemList own m = none_made m refl
+part_made part.TokenTree own m = token_tree_made m
+part_made part.AssocItemList own m = none_made m refl
+part_made part.ItemList own m = items_made m
+
+braces_parsed_again : (p : Part) → in_braces p ≡ true → is_parsed_again (part_kind p) ≡ true
+braces_parsed_again part.Visibility b = absurd cc
+braces_parsed_again part.Path b = absurd cc
+braces_parsed_again part.Block b = refl
+braces_parsed_again part.RecordFieldList b = refl
+braces_parsed_again part.RecordExprFieldList b = refl
+braces_parsed_again part.VariantList b = refl
+braces_parsed_again part.MatchArmList b = refl
+braces_parsed_again part.UseTreeList b = refl
+braces_parsed_again part.ExternItemList b = refl
+braces_parsed_again part.TokenTree b = refl
+braces_parsed_again part.AssocItemList b = refl
+braces_parsed_again part.ItemList b = refl
+
+-- a node of a core tree comes out again of its own tokens
+pub part_again : (p : Part) (own : List Record) {output : Forest} → in_braces p ≡ true →
+    IsPrefixOf (part_script p) own output → IsAgainItself p own output
+part_again p own b i = λ tokens tree children d s.
+    part_core p own i own [] _ (sym (append-nil own)) (part_made p own (made_again d s (braces_parsed_again p b)))

@@ -3,7 +3,7 @@
 //! [`LexedStr::new`] cuts a text into tokens, [`LexedStr::to_input`] leaves the trivia out,
 //! [`TopEntryPoint::parse`] parses what is left, and [`LexedStr::intersperse_trivia`] hands the tree, with the
 //! texts and the trivia put back, to a [`StrSink`]. [`parse_text`] is all of that in one call. [`frontmatter`] cuts a
-//! script source into its parts.
+//! script source into its parts. [`laws`] says what holds of the core grammar, whose trees are promised.
 #![tactic(auto)]
 
 mod entry_point;
@@ -19,6 +19,7 @@ pub use rap_events::input::Input;
 pub use rap_events::output::{Output, Step, Steps};
 pub use rap_frontmatter::frontmatter;
 pub use rap_grammar::entry::is_one_tree;
+pub use rap_grammar_core::laws;
 pub use rap_lexed::lexed_str::{Errors, LexFault, LexedStr, MAX_TEXT};
 pub use rap_lexed::shortcuts::{StrSink, StrStep};
 pub use reparser::Reparser;

@@ -35,7 +35,7 @@ impl Model for Reparser {
 }
 
 impl Reparser {
-    ghost use Rattle.ra_ap_parser.specs.Reparsed.{reparsed, kind_of};
+    ghost use Rattle.ra_ap_parser.specs.Reparsed.{reparsed, kind_of, IsAgainItself};
 
     /// How a node of the kind `node` is parsed again. `first_child` is the kind of the first thing in it, and `parent`
     /// that of the node around it, if there is one.
@@ -88,14 +88,17 @@ impl Reparser {
     /// Where the input begins with `{` the output is exactly one node, of the kind that was asked for. Tokens behind the
     /// brace that closes it are left. A block, and a list of items or of a struct's fields, that the core grammar derives
     /// is its derivation's tree again, without a message; and a token tree, whatever its tokens are as long as their
-    /// brackets are balanced, is the `TOKEN_TREE` that nests as they do. The error is `TooManyTokens` exactly for an input
-    /// of more than [`MAX_TOKENS`] tokens, which is decided first, and else `NoMemory` where a growth was refused.
+    /// brackets are balanced, is the `TOKEN_TREE` that nests as they do. So such a node in the tree of anything that the
+    /// core grammar derives, or of a macro call, is itself again when it is parsed from its own tokens. The error is
+    /// `TooManyTokens` exactly for an input of more than [`MAX_TOKENS`] tokens, which is decided first, and else
+    /// `NoMemory` where a growth was refused.
     pub fn parse(self, alloc: Global, input: &Input) -> Result<Output, ParseFault>
         requires brace { asks_brace self ≡ true → next_kind input.now ≡ L_CURLY }
         ensures prefix { IfOk result (IsPrefixOver input.now) }
         ensures script { IfOk result (IsPrefixOf (part_script self) input.now) }
         ensures only { IfOk result (λ output. (other : Forest) → IsPrefixOf (part_script self) input.now other → other ≡ output) }
         ensures core { IfOk result (λ output. (front rest : List Record) (tree : Forest) → input.now ≡ front ++ rest → IsPartCore self front tree → IsWhole tree (length front) output) }
+        ensures again { IfOk result (IsAgainItself self input.now) }
         ensures one { IfOk result (λ output. next_kind input.now ≡ L_CURLY → IsOneNode (part_kind self) output) }
         ensures too_many { (result ≡ Err ParseFault.TooManyTokens) ↔ (MAX_TOKENS < length input.now) }
     {

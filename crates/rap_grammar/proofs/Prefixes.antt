@@ -14,7 +14,8 @@ use Rattle.rap_grammar_scripts.specs.TokenTree.{bracketed_tokens}
 use Rattle.rap_grammar_scripts.proofs.Balance.{balanced_way, balanced_clean}
 use Rattle.rap_grammar_scripts.proofs.OneEnd.{one_end}
 use Rattle.rap_grammar_core.specs.Derives.{Category, Derives, Expression, Ty, Block, Item, EndsExpression, EndsType}
-use Rattle.rap_grammar.specs.Part.{IsPrefixOf, IsPartCore, IsWhole, IsBracketed, brackets_around, part_script}
+use Rattle.rap_grammar_core.specs.ParsedAgain.{IsBracketed, brackets_around}
+use Rattle.rap_grammar.specs.Part.{IsPrefixOf, IsPartCore, IsWhole, part_script}
 use Rattle.rap_grammar.specs.declared.entry.part.Part.{Part}
 use Rattle.rap_grammar.specs.declared.entry.part.Part.TheVariants as part
 use Rattle.rap_grammar_core.proofs.Complete.{expression_at_beginning, type_before, block_before}
@@ -60,7 +61,7 @@ pub front_bracketed : (ks l : List Record) {t output : Forest} → IsPrefixOf br
     IsBracketed ks t → IsWhole t (length ks) output
 front_bracketed ks l i (brackets_around {a = a} {c = c} {ks = js} {t = t} p d) =
     made (a ∷ (js ++ c ∷ [])) l i (rw append_assoc (balanced_way p d [] none l)) (balanced_clean a c d)
-    (used-brackets a c d)
+    (used-brackets (brackets_around p d))
 
 -- a part, whatever follows it
 pub front_part : (p : Part) (ks l : List Record) {t output : Forest} → IsPrefixOf (part_script p) (ks ++ l) output →

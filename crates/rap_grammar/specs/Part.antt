@@ -5,7 +5,6 @@ use Rattle.rap_events.specs.Record.{Record}
 use Rattle.rap_events.specs.Forest.{Forest, none, node, used, message_count, one_tree}
 use Rattle.rap_events.specs.State.{State}
 use Rattle.rap_grammar_scripts.specs.Adt.{record_field_list, variant_list}
-use Rattle.rap_grammar_scripts.specs.Balanced.{Balanced, ArePartners, in_brackets}
 use Rattle.rap_grammar_scripts.specs.Blocks.{block_expr}
 use Rattle.rap_grammar_scripts.specs.Control.{match_arm_list}
 use Rattle.rap_grammar_scripts.specs.Items.{item_list, extern_item_list}
@@ -19,6 +18,7 @@ use Rattle.rap_grammar_scripts.specs.Traits.{assoc_item_list}
 use Rattle.rap_grammar_scripts.specs.UseItem.{use_tree_list}
 use Rattle.rap_grammar_scripts.specs.Visibility.{opt_visibility}
 use Rattle.rap_grammar_core.specs.Derives.{Derives, Block, Fields, Items}
+use Rattle.rap_grammar_core.specs.ParsedAgain.{IsBracketed}
 use Rattle.rap_grammar.specs.Top.{IsForestOver}
 use Rattle.rap_grammar.specs.declared.entry.part.Part.{Part}
 use Rattle.rap_grammar.specs.declared.entry.part.Part.TheVariants as part
@@ -92,12 +92,6 @@ asks_brace part.ExternItemList = true
 asks_brace part.TokenTree = true
 asks_brace part.AssocItemList = true
 asks_brace part.ItemList = true
-
--- Two brackets that belong together, with tokens between them whose brackets are balanced, and the node that nests as
--- they do.
-pub data IsBracketed : List Record → Forest → Type 0 where
-  brackets_around : {a c : Record} {ks : List Record} {t : Forest} → ArePartners a c → Balanced ks t →
-      IsBracketed (a ∷ (ks ++ c ∷ [])) (in_brackets a t c)
 
 -- These tokens are derived by the core grammar as this part, with this tree. A token tree's are balanced tokens in
 -- brackets, and its tree nests as these do.

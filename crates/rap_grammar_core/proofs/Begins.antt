@@ -149,7 +149,7 @@ pub literal_kind : (r : Record) → IsLiteral r → is_literal_first r.kind ≡ 
 literal_kind r (inl h) = search rules
 literal_kind r (inr h) = let e = h.among in search rules
 
-literal_atom : (k : ℕ) → is_literal_first k ≡ true → is_atom k ≡ true
+pub literal_atom : (k : ℕ) → is_literal_first k ≡ true → is_atom k ≡ true
 literal_atom k h = rw h refl
 
 abbrev pub is_prefix : ℕ → Bool
@@ -245,7 +245,8 @@ first (annotation_type {a = a} {ks = ks} o d) z = kind_first a ks COLON o refl r
 first (value_given {a = a} {ks = ks} o d) z = kind_first a ks EQ o refl refl refl
 first (statement_let {a = a} {b = b} {ks = ks} {js = js} {is = is} o d e f c) z =
     kind_first a (ks ++ (js ++ (is ++ b ∷ []))) LET_KW o refl refl refl
-first (statement_expression {a = a} d p o) z = let f = first d refl in also (a ∷ []) f (operand_statement f.r.kind f.kind)
+first (statement_expression {a = a} d p o) z =
+    let f = first d refl in also (a ∷ []) f (operand_statement f.r.kind f.kind)
 first (statement_block {a = a} d o) z =
     let f = first d refl in also (a ∷ []) f (operand_statement f.r.kind (block_operand f.r.kind f.kind))
 first contents_none h = absurd (no h)
@@ -299,7 +300,7 @@ contents_first (contents_block_before {js = js} d e m) n =
 abbrev pub before_operand : ℕ → Bool
 before_operand k = one_of (MINUS ∷ BANG ∷ STAR ∷ AMP ∷ MUT_KW ∷ []) k
 
-atom_alone : (k : ℕ) → is_atom k ≡ true → before_operand k ≡ false
+pub atom_alone : (k : ℕ) → is_atom k ≡ true → before_operand k ≡ false
 atom_alone k h =
     rw (
       differ_back is_atom k MINUS h refl,

@@ -439,16 +439,19 @@ claim (atom_block d) = λ r b f l c i.
 claim (postfix_atom d) = λ r b f l g m h c w y. operand_way r (next_begins l (first d refl)) (claim d r b f l c w) y
 claim (postfix_call {ks = ks} {js = js} {t = t} d n e) = λ r b f l g m h c w y.
     let i : next_kind (js ++ l) ≡ L_PAREN = eqb-true (next_kind (js ++ l)) L_PAREN (next_begins l (first e refl)) in
-    rw append_assoc (claim d r b f (js ++ l) g m (λ z. absurd (n z)) (apart_by r.forbid_structs (js ++ l) L_PAREN i refl) (rw append_assoc at w)
+    rw append_assoc (claim d r b f (js ++ l) g m (λ z. absurd (n z))
+    (apart_by r.forbid_structs (js ++ l) L_PAREN i refl) (rw append_assoc at w)
     (call_way r (single d) i (claim e (f ∷ b) t l) y))
 claim (postfix_index {a = a} {b = z} {ks = ks} {js = js} {t = t} d o e i) = λ r b f l g m h c w y.
     rw (in_brackets ks js l a z) (claim d r b f (a ∷ (js ++ z ∷ l)) g m (λ n. rw o.kind_is (λ k. absurd
-    (omega arith))) (apart_by r.forbid_structs (a ∷ (js ++ z ∷ l)) L_BRACK o.kind_is refl) (rw (in_brackets ks js l a z) at w)
+    (omega arith))) (apart_by r.forbid_structs (a ∷ (js ++ z ∷ l)) L_BRACK o.kind_is refl)
+    (rw (in_brackets ks js l a z) at w)
     (index_way r (single d) o.kind_is (expr_way (claim e unrestricted (f ∷ b) (leaf t L_BRACK 1) (z ∷ l)
     (quiet_is false z l R_BRACK i refl) refl)) i.kind_is y))
 claim (postfix_try {a = a} d o) = λ r b f l g m h c w y.
     rw append_assoc (claim d r b f (a ∷ l) g m (λ n. rw o.kind_is (λ k. absurd
-    (omega arith))) (apart_by r.forbid_structs (a ∷ l) QUESTION o.kind_is refl) (rw append_assoc at w) (try_way r (single d) o.kind_is y))
+    (omega arith))) (apart_by r.forbid_structs (a ∷ l) QUESTION o.kind_is refl) (rw append_assoc at w)
+    (try_way r (single d) o.kind_is y))
 claim (postfix_field {a = a} {t = t} d o (reference {r = z} n)) = λ r b f l g m h c w y.
     rw append_assoc (claim d r b f (a ∷ z ∷ l) g m (λ j. rw o.kind_is (λ k. absurd
     (omega arith))) (apart_by r.forbid_structs (a ∷ z ∷ l) DOT o.kind_is refl) (rw append_assoc at w)
@@ -461,14 +464,16 @@ claim (postfix_method {a = a} {is = is} {t = t} d o (reference {r = z} n) e) = �
     let i : next_kind (is ++ l) ≡ L_PAREN = eqb-true (next_kind (is ++ l)) L_PAREN (next_begins l (first e refl)) in
     rw append_assoc (claim d r b f (a ∷ z ∷ (is ++ l)) g m (λ j. rw o.kind_is (λ k. absurd
     (omega arith))) (apart_by r.forbid_structs (a ∷ z ∷ (is ++ l)) DOT o.kind_is refl) (rw append_assoc at w)
-    (method_way r (single d) o.kind_is n.kind i (claim e (f ∷ b) (node (leaf t DOT 1) NAME_REF (leaf none IDENT 1)) l) y))
+    (method_way r (single d) o.kind_is n.kind i (claim e (f ∷ b) (node (leaf t DOT 1) NAME_REF (leaf none IDENT 1)) l)
+    y))
 claim (argument_list {b = z} o d c) = λ b f l.
     rw append_assoc (arg_list_way o.kind_is (arguments_way (claim d) (f ∷ b) (leaf none L_PAREN 1) z l c) c.kind_is)
 claim (unary_prefix {a = a} {ks = ks} d e) = λ r b f l c w.
     let k = prefix_kind a d in
     plainly r (prefix_way r k (differ is_prefix a.kind AMP k refl)
     (not_end is_prefix a.kind k refl) (operand_alone r (next_begins l (first e refl)) (single e)
-    (claim e r (leaf none a.kind 1 ∷ f ∷ b) none l c (fits_past r (a ∷ (ks ++ l)) (ks ++ l) (past_prefix a (ks ++ l) d) w))))
+    (claim e r (leaf none a.kind 1 ∷ f ∷ b) none l c
+    (fits_past r (a ∷ (ks ++ l)) (ks ++ l) (past_prefix a (ks ++ l) d) w))))
 claim (unary_ref {a = a} {ks = ks} o d) = λ r b f l c w.
     let k = next_begins l (first d refl) in
     plainly r (ref_way r o.kind_is (next_plain l (first d refl)) (differ is_operand (next_kind (ks ++ l)) MUT_KW k refl)
@@ -477,7 +482,8 @@ claim (unary_ref {a = a} {ks = ks} o d) = λ r b f l c w.
 claim (unary_ref_mut {a = a} {b = z} {ks = ks} o n d) = λ r b f l c w.
     plainly r (ref_mut_way r o.kind_is (rw n.kind_is refl) n.kind_is (operand_alone r (next_begins l (first d refl))
     (single d) (claim d r (leaf (leaf none AMP 1) MUT_KW 1 ∷ f ∷ b) none l c
-    (fits_past r (a ∷ z ∷ (ks ++ l)) (ks ++ l) (past_is a (z ∷ (ks ++ l)) AMP o refl ∙ past_is z (ks ++ l) MUT_KW n refl) w))))
+    (fits_past r (a ∷ z ∷ (ks ++ l)) (ks ++ l)
+    (past_is a (z ∷ (ks ++ l)) AMP o refl ∙ past_is z (ks ++ l) MUT_KW n refl) w))))
 claim (unary_postfix {t = t} d) = λ r b f l c w.
     let k = next_kind l in
     let calm = is_calm r.forbid_structs in
@@ -657,11 +663,13 @@ pub type_single : {ks : List Record} {t : Forest} → Derives Ty ks t → Single
 type_single d = single d
 
 -- a type before what can follow it, with bounds and without
-pub type_before : {ks : List Record} {t : Forest} → Derives Ty ks t → (b : List Forest) (f : Forest) (l : List Record) → EndsType l → Leads type_ b (ks ++ l) f l (f ⧺ t)
+pub type_before : {ks : List Record} {t : Forest} → Derives Ty ks t → (b : List Forest) (f : Forest) (l : List Record) →
+    EndsType l → Leads type_ b (ks ++ l) f l (f ⧺ t)
 unfolding Claim
 type_before d b f l e = with_bounds_way (claim d true b f l e)
 
-pub type_before_no_bounds : {ks : List Record} {t : Forest} → Derives Ty ks t → (b : List Forest) (f : Forest) (l : List Record) → EndsType l → Leads type_no_bounds b (ks ++ l) f l (f ⧺ t)
+pub type_before_no_bounds : {ks : List Record} {t : Forest} → Derives Ty ks t →
+    (b : List Forest) (f : Forest) (l : List Record) → EndsType l → Leads type_no_bounds b (ks ++ l) f l (f ⧺ t)
 unfolding Claim
 type_before_no_bounds d b f l e = no_bounds_way (claim d false b f l e)
 

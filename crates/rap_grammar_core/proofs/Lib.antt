@@ -1,4 +1,6 @@
+pub mod Again
 pub mod Begins
+pub mod Built
 pub mod Complete
 pub mod Example
 pub mod ItemWays

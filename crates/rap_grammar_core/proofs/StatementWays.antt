@@ -292,7 +292,11 @@ block_lhs {rs = rs} k x e =
     let n = next_kind rs in
     let d = differ is_atom n DOT k refl in
     fails (differ is_atom n AMP k refl)
-    (fails (rw (differ_back is_atom n STAR k refl, differ_back is_atom n BANG k refl, differ_back is_atom n MINUS k refl)
+    (fails (rw (
+      differ_back is_atom n STAR k refl,
+      differ_back is_atom n BANG k refl,
+      differ_back is_atom n MINUS k refl,
+    )
     refl)
     (fails (not_first DOT (DOT ∷ EQ ∷ []) rs d) (fails (not_first DOT (DOT ∷ []) rs d) (follows x (block_ends e)))))
 

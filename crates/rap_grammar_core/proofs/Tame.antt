@@ -25,8 +25,8 @@ at_end a b c something = b
 at_end a b c block = b
 at_end a b c (again x y) = c
 
--- From so many open nodes on, a script finishes none of the older ones and begins no node before them, and as many nodes
--- are open at its end as its outcome says.
+-- From so many open nodes on, a script finishes none of the older ones and begins no node before them, and as many
+-- nodes are open at its end as its outcome says.
 pub data Tame : ℕ → Script Phrase → (Outcome → ℕ) → Type 0 where
   giving : {n : ℕ} {v : Outcome} {e : Outcome → ℕ} → n ≡ e v → Tame n (give v) e
   looking : {n : ℕ} {h : List Record → Script Phrase} {e : Outcome → ℕ} → ((rs : List Record) → Tame n (h rs) e) →

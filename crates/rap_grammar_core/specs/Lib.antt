@@ -1,4 +1,7 @@
 pub mod Derives
+pub mod Laws
 pub mod MacroCall
 pub mod Mixed
+pub mod ParsedAgain
+pub mod StandsIn
 pub mod WithoutBlocks

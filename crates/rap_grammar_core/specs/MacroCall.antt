@@ -14,8 +14,8 @@ call_tree t =
     (leaf none IDENT 1)))) BANG 1)
     TOKEN_TREE (leaf (leaf none L_CURLY 1 ⧺ t) R_CURLY 1))
 
--- A name that is read as nothing else, `!`, and any tokens whose brackets are balanced, in braces: a `MACRO_CALL`, whose
--- `TOKEN_TREE` nests as the brackets do.
+-- A name that is read as nothing else, `!`, and any tokens whose brackets are balanced, in braces: a `MACRO_CALL`,
+-- whose `TOKEN_TREE` nests as the brackets do.
 pub data IsMacroCall : List Record → Forest → Type 0 where
   called : {r e a c : Record} {ks : List Record} {t : Forest} → IsName r → Is e BANG → Is a L_CURLY → Balanced ks t →
       Is c R_CURLY → IsMacroCall (r ∷ e ∷ a ∷ (ks ++ c ∷ [])) (call_tree t)

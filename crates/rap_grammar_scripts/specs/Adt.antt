@@ -32,8 +32,8 @@ unfoldable pub mut_restriction : Script Phrase
 mut_restriction =
     start ▸ token MUT_KW ▸
     after (opt_visibility_inner false) (λ v.
-        if_some v (finish MUT_RESTRICTION ▸ done)
-        (report (codes "expected a mut restriction") ▸ finish MUT_RESTRICTION ▸ done))
+    if_some v (finish MUT_RESTRICTION ▸ done)
+    (report (codes "expected a mut restriction") ▸ finish MUT_RESTRICTION ▸ done))
 
 abbrev pub starts_mut_restriction : List Record → Bool
 starts_mut_restriction rs = is_at MUT_KW rs && (kind_at rs 1 == L_PAREN)
@@ -107,9 +107,9 @@ after_variant_name = call variant_fields ▸ call opt_value ▸ finish VARIANT �
 unfoldable pub named_variant : Script Phrase
 named_variant =
     choose
-    ( (is_at IDENT, call name ▸ after_variant_name)
+    ((is_at IDENT, call name ▸ after_variant_name)
     ∷ (is_at UNDERSCORE, token UNDERSCORE ▸ after_variant_name)
-    ∷ [] )
+    ∷ [])
     (abandon ▸ missing_in_list (codes "expected enum variant"))
 
 unfoldable pub variant : Script Phrase
@@ -138,10 +138,10 @@ unfoldable pub fields_behind_where : Script Phrase
 fields_behind_where =
     call opt_where_clause ▸
     choose
-        ( (is_at SEMICOLON, token SEMICOLON ▸ done)
-        ∷ (is_at L_CURLY, record_field_list)
-        ∷ [] )
-        (report (codes "expected `;` or `{`") ▸ done)
+    ((is_at SEMICOLON, token SEMICOLON ▸ done)
+    ∷ (is_at L_CURLY, record_field_list)
+    ∷ [])
+    (report (codes "expected `;` or `{`") ▸ done)
 
 -- fields in parentheses, and what stands behind them
 unfoldable pub tuple_fields : Script Phrase
@@ -151,17 +151,17 @@ tuple_fields = call tuple_field_list ▸ call opt_where_clause ▸ expect SEMICO
 unfoldable pub struct_fields : Script Phrase
 struct_fields =
     choose
-    ( (is_at SEMICOLON, token SEMICOLON ▸ done)
+    ((is_at SEMICOLON, token SEMICOLON ▸ done)
     ∷ (is_at L_PAREN, tuple_fields)
-    ∷ [] )
+    ∷ [])
     (report (codes "expected `;`, `{`, or `(`") ▸ done)
 
 unfoldable pub fields : Bool → Script Phrase
 fields is_struct =
     choose
-    ( (is_at WHERE_KW, fields_behind_where)
+    ((is_at WHERE_KW, fields_behind_where)
     ∷ (is_at L_CURLY, record_field_list)
-    ∷ [] )
+    ∷ [])
     (if is_struct then struct_fields else (report (codes "expected `{`") ▸ done))
 
 -- a struct or a union from its name on

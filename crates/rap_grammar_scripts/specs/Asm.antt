@@ -1,6 +1,6 @@
 -- Inline assembly.
 -- In the Rust crate: `grammar/expressions/atom.rs`.
-use Rattle.std.specs.Prelude.{Bool, true, false, ◌&&◌, not, if◌then◌else◌, List, drop, Option, Some, None, codes, [], ◌∷◌}
+use Rattle.std.specs.Prelude.{Bool, true, false, ◌&&◌, if◌then◌else◌, List, drop, Option, Some, None, codes, [], ◌∷◌}
 use Rattle.rap_base.specs.Keyword.{is_any_identifier}
 use Rattle.rap_base.specs.TokenKind.{EOF, L_PAREN, R_PAREN, L_CURLY, R_CURLY, COMMA, EQ, FAT_ARROW, STRING, CONST_KW, IN_KW, OUT_KW, LATEOUT_KW, INOUT_KW, INLATEOUT_KW, LABEL_KW, SYM_KW, CLOBBER_ABI_KW, OPTIONS_KW, PURE_KW, NOMEM_KW, READONLY_KW, PRESERVES_FLAGS_KW, NORETURN_KW, NOSTACK_KW, MAY_UNWIND_KW, ATT_SYNTAX_KW, RAW_KW}
 use Rattle.rap_base.specs.NodeKind.{ASM_EXPR, ASM_CLOBBER_ABI, ASM_OPTIONS, ASM_OPTION, ASM_DIR_SPEC, ASM_OPERAND_EXPR, ASM_REG_OPERAND, ASM_OPERAND_NAMED, ASM_LABEL, ASM_CONST, ASM_SYM, ASM_REG_SPEC}
@@ -25,9 +25,9 @@ asm_template = after expr (λ v. if_some v done (skip (codes "expected asm templ
 unfoldable pub reg_spec : Script Phrase
 reg_spec =
     choose
-    ( (λ rs. is_path_name (next_kind rs), start ▸ call name_ref_mod_path ▸ finish ASM_REG_SPEC ▸ done)
+    ((λ rs. is_path_name (next_kind rs), start ▸ call name_ref_mod_path ▸ finish ASM_REG_SPEC ▸ done)
     ∷ (is_at STRING, start ▸ token STRING ▸ finish ASM_REG_SPEC ▸ done)
-    ∷ [] )
+    ∷ [])
     (skip (codes "expected register name") ▸ done)
 
 unfoldable pub parse_reg : Script Phrase
@@ -37,10 +37,10 @@ parse_reg = expect L_PAREN ▸ call reg_spec ▸ expect R_PAREN ▸ done
 abbrev pub clobber_turn : Bool → Bool → Script Phrase
 clobber_turn a b =
     choose
-    ( (is_at EOF, done)
+    ((is_at EOF, done)
     ∷ (is_at R_PAREN, token R_PAREN ▸ done)
     ∷ (is_at STRING, token STRING ▸ test (is_at R_PAREN) (token R_PAREN ▸ done) (expect COMMA ▸ give (again a b)))
-    ∷ [] )
+    ∷ [])
     (report (expected STRING) ▸ done)
 
 unfoldable pub clobber_abis : Script Phrase
@@ -53,35 +53,35 @@ parse_clobber_abi = expect L_PAREN ▸ clobber_abis
 unfoldable pub flow_option : Script Phrase
 flow_option =
     choose
-    ( (reads_as NORETURN_KW, bear NORETURN_KW ▸ done)
+    ((reads_as NORETURN_KW, bear NORETURN_KW ▸ done)
     ∷ (reads_as NOSTACK_KW, bear NOSTACK_KW ▸ done)
     ∷ (reads_as MAY_UNWIND_KW, bear MAY_UNWIND_KW ▸ done)
     ∷ (reads_as ATT_SYNTAX_KW, bear ATT_SYNTAX_KW ▸ done)
     ∷ (reads_as RAW_KW, bear RAW_KW ▸ done)
-    ∷ [] )
+    ∷ [])
     (give nothing)
 
 unfoldable pub option_name : Script Phrase
 option_name =
     choose
-    ( (reads_as PURE_KW, bear PURE_KW ▸ done)
+    ((reads_as PURE_KW, bear PURE_KW ▸ done)
     ∷ (reads_as NOMEM_KW, bear NOMEM_KW ▸ done)
     ∷ (reads_as READONLY_KW, bear READONLY_KW ▸ done)
     ∷ (reads_as PRESERVES_FLAGS_KW, bear PRESERVES_FLAGS_KW ▸ done)
-    ∷ [] )
+    ∷ [])
     flow_option
 
 -- options; what is none is passed over
 abbrev pub options_turn : Bool → Bool → Script Phrase
 options_turn a b =
     choose
-    ( (is_at EOF, done)
+    ((is_at EOF, done)
     ∷ (is_at R_PAREN, token R_PAREN ▸ done)
-    ∷ [] )
+    ∷ [])
     (start ▸
-     after option_name (λ v.
-         if_some v (finish ASM_OPTION ▸ test (is_at R_PAREN) (token R_PAREN ▸ done) (expect COMMA ▸ give (again a b)))
-         (skip (codes "expected asm option") ▸ abandon ▸ give (again a b))))
+    after option_name (λ v.
+    if_some v (finish ASM_OPTION ▸ test (is_at R_PAREN) (token R_PAREN ▸ done) (expect COMMA ▸ give (again a b)))
+    (skip (codes "expected asm option") ▸ abandon ▸ give (again a b))))
 
 unfoldable pub asm_options : Script Phrase
 asm_options = loop options_turn false false
@@ -106,22 +106,22 @@ unfoldable pub dir_spec : Script Phrase
 dir_spec =
     start ▸
     choose
-        ( (is_at IN_KW, token IN_KW ▸ finish ASM_DIR_SPEC ▸ give something)
-        ∷ (reads_as OUT_KW, bear OUT_KW ▸ finish ASM_DIR_SPEC ▸ give something)
-        ∷ (reads_as LATEOUT_KW, bear LATEOUT_KW ▸ finish ASM_DIR_SPEC ▸ give something)
-        ∷ (reads_as INOUT_KW, bear INOUT_KW ▸ finish ASM_DIR_SPEC ▸ give block)
-        ∷ (reads_as INLATEOUT_KW, bear INLATEOUT_KW ▸ finish ASM_DIR_SPEC ▸ give block)
-        ∷ [] )
-        (abandon ▸ give nothing)
+    ((is_at IN_KW, token IN_KW ▸ finish ASM_DIR_SPEC ▸ give something)
+    ∷ (reads_as OUT_KW, bear OUT_KW ▸ finish ASM_DIR_SPEC ▸ give something)
+    ∷ (reads_as LATEOUT_KW, bear LATEOUT_KW ▸ finish ASM_DIR_SPEC ▸ give something)
+    ∷ (reads_as INOUT_KW, bear INOUT_KW ▸ finish ASM_DIR_SPEC ▸ give block)
+    ∷ (reads_as INLATEOUT_KW, bear INLATEOUT_KW ▸ finish ASM_DIR_SPEC ▸ give block)
+    ∷ [])
+    (abandon ▸ give nothing)
 
 -- a register and what is in it; where the value goes both ways, another place may be named for the way out
 unfoldable pub reg_operand : Bool → Script Phrase
 reg_operand both =
     call parse_reg ▸ start ▸ call expr ▸
     (if both then
-            test (is_at FAT_ARROW) (token FAT_ARROW ▸ call expr ▸ finish ASM_OPERAND_EXPR ▸ done)
-            (finish ASM_OPERAND_EXPR ▸ done)
-        else (finish ASM_OPERAND_EXPR ▸ done))
+    test (is_at FAT_ARROW) (token FAT_ARROW ▸ call expr ▸ finish ASM_OPERAND_EXPR ▸ done)
+    (finish ASM_OPERAND_EXPR ▸ done)
+    else (finish ASM_OPERAND_EXPR ▸ done))
 
 -- a path, which may stand in parentheses
 unfoldable pub asm_sym : Script Phrase
@@ -138,11 +138,11 @@ unfoldable pub asm_operand : Script Phrase
 asm_operand =
     start ▸
     after dir_spec (λ way.
-        by_way way
-        (test (reads_as LABEL_KW) (bear LABEL_KW (after block_expr (λ v. finish ASM_LABEL done)))
-            (test (is_at CONST_KW) (token CONST_KW (after expr (λ v. finish ASM_CONST done)))
-                (test (reads_as SYM_KW) (bear SYM_KW (after asm_sym (λ v. finish ASM_SYM done)))
-                    (abandon (give nothing))))))
+    by_way way
+    (test (reads_as LABEL_KW) (bear LABEL_KW (after block_expr (λ v. finish ASM_LABEL done)))
+    (test (is_at CONST_KW) (token CONST_KW (after expr (λ v. finish ASM_CONST done)))
+    (test (reads_as SYM_KW) (bear SYM_KW (after asm_sym (λ v. finish ASM_SYM done)))
+    (abandon (give nothing))))))
 
 -- what stands in the place of an operand
 unfoldable pub missing_operand : Script Phrase
@@ -176,11 +176,13 @@ unfoldable pub asm_piece : Bool → Script Phrase
 asm_piece allow_templates =
     start ▸ call outer_attrs ▸
     choose
-        ( (reads_as CLOBBER_ABI_KW,
-              bear CLOBBER_ABI_KW ▸ call parse_clobber_abi ▸ finish ASM_CLOBBER_ABI ▸ give (again false false))
-        ∷ (reads_as OPTIONS_KW, bear OPTIONS_KW ▸ call parse_options ▸ finish ASM_OPTIONS ▸ give (again false false))
-        ∷ [] )
-        (named_operand allow_templates)
+    ((
+      reads_as CLOBBER_ABI_KW,
+      bear CLOBBER_ABI_KW ▸ call parse_clobber_abi ▸ finish ASM_CLOBBER_ABI ▸ give (again false false),
+    )
+    ∷ (reads_as OPTIONS_KW, bear OPTIONS_KW ▸ call parse_options ▸ finish ASM_OPTIONS ▸ give (again false false))
+    ∷ [])
+    (named_operand allow_templates)
 
 -- the next turn, if templates may follow or not, or the end
 abbrev pub of_allow : Option Bool → Outcome
@@ -190,9 +192,9 @@ of_allow (Some allow_templates) = again allow_templates false
 abbrev pub pieces_turn : Bool → Bool → Script Phrase
 pieces_turn allow_templates b =
     choose
-    ( (is_at EOF, done)
+    ((is_at EOF, done)
     ∷ (is_at R_PAREN, done)
-    ∷ [] )
+    ∷ [])
     (expect COMMA ▸ test (is_at R_PAREN) done (asm_piece allow_templates))
 
 unfoldable pub asm_pieces : Script Phrase

@@ -32,22 +32,24 @@ unfoldable pub path_expr : Restrictions → Script Phrase
 path_expr r =
     start ▸ call expr_path ▸
     choose
-        ( (starts_record r.forbid_structs, call record_expr_field_list ▸ finish RECORD_EXPR ▸ done)
-        ∷ (starts_macro_call,
-              after macro_call_after_excl (λ w. finish MACRO_CALL ▸ precede ▸ finish MACRO_EXPR ▸ give w))
-        ∷ [] )
-        (finish PATH_EXPR ▸ done)
+    ((starts_record r.forbid_structs, call record_expr_field_list ▸ finish RECORD_EXPR ▸ done)
+    ∷ (
+      starts_macro_call,
+      after macro_call_after_excl (λ w. finish MACRO_CALL ▸ precede ▸ finish MACRO_EXPR ▸ give w),
+    )
+    ∷ [])
+    (finish PATH_EXPR ▸ done)
 
 abbrev pub tuple_turn : Bool → Bool → Script Phrase
 tuple_turn comma seen =
     choose
-    ( (is_at EOF, give (of_bool (seen && not comma)))
+    ((is_at EOF, give (of_bool (seen && not comma)))
     ∷ (is_at R_PAREN, give (of_bool (seen && not comma)))
     ∷ (is_at COMMA, report (codes "expected expression") ▸ token COMMA ▸ give (again true seen))
-    ∷ [] )
+    ∷ [])
     (after expr (λ v.
-     if_some v (test (is_at R_PAREN) (give (again comma true)) (expect COMMA ▸ give (again true true)))
-     (give (of_bool (not comma)))))
+    if_some v (test (is_at R_PAREN) (give (again comma true)) (expect COMMA ▸ give (again true true)))
+    (give (of_bool (not comma)))))
 
 -- what stands in parentheses: something where it is one expression and no comma
 unfoldable pub tuple_elements : Script Phrase
@@ -72,18 +74,18 @@ unfoldable pub after_element : Bool → Bool → Script Phrase
 after_element first semi =
     test (λ rs. first && is_at SEMICOLON rs) (token SEMICOLON ▸ give (again false true))
     (if semi then done
-        else choose
-            ( (is_at R_BRACK, give (again false false))
-            ∷ (is_at COMMA, token COMMA ▸ give (again false false))
-            ∷ [] )
-            (report (expected COMMA) ▸ done))
+    else choose
+    ((is_at R_BRACK, give (again false false))
+    ∷ (is_at COMMA, token COMMA ▸ give (again false false))
+    ∷ [])
+    (report (expected COMMA) ▸ done))
 
 abbrev pub array_turn : Bool → Bool → Script Phrase
 array_turn first semi =
     choose
-    ( (is_at EOF, done)
+    ((is_at EOF, done)
     ∷ (is_at R_BRACK, done)
-    ∷ [] )
+    ∷ [])
     (after expr (λ v. if_some v (after_element first semi) done))
 
 -- what stands in the brackets of an array; a semicolon after the first element ends it after the second
@@ -134,13 +136,13 @@ unfoldable pub try_modifier : Script Phrase
 try_modifier =
     start ▸ token TRY_KW ▸
     test (reads_as BIKESHED_KW) (bear BIKESHED_KW ▸ call type_ ▸ finish TRY_BLOCK_MODIFIER ▸ done)
-        (finish TRY_BLOCK_MODIFIER ▸ done)
+    (finish TRY_BLOCK_MODIFIER ▸ done)
 
 unfoldable pub try_block_expr : Script Phrase
 try_block_expr =
     start ▸ call try_modifier ▸
     test (is_at L_CURLY) (call stmt_list ▸ finish BLOCK_EXPR ▸ done)
-        (report (codes "expected a block") ▸ finish BLOCK_EXPR ▸ done)
+    (report (codes "expected a block") ▸ finish BLOCK_EXPR ▸ done)
 
 -- A block comes next, with what it is before its brace: `const`, `unsafe`, `async` or `gen`; and with `move` after
 -- `async`, `gen` and `async gen`.
@@ -162,11 +164,11 @@ effect_block = start ▸ call effects ▸ call stmt_list ▸ finish BLOCK_EXPR �
 unfoldable pub effect_expr : Script Phrase
 effect_expr =
     choose
-    ( (starts_effect_block, call effect_block ▸ give block)
+    ((starts_effect_block, call effect_block ▸ give block)
     ∷ (starts_closure, closure_expr)
     ∷ (next_is TRY_KW, call try_block_expr ▸ give block)
     ∷ (next_is FOR_KW, call for_expr ▸ give block)
-    ∷ [] )
+    ∷ [])
     (skip (codes "expected expression") ▸ give nothing)
 
 -- `do yeet` comes next
@@ -177,13 +179,13 @@ starts_yeet rs = (next_kind rs == DO_KW) && (contextual_at rs 1 == YEET_KW)
 unfoldable pub jump_expr : Restrictions → Script Phrase
 jump_expr r =
     choose
-    ( (starts_yeet, yeet_expr)
+    ((starts_yeet, yeet_expr)
     ∷ (next_is RETURN_KW, return_expr)
     ∷ (next_is BECOME_KW, become_expr)
     ∷ (next_is YIELD_KW, yield_expr)
     ∷ (next_is CONTINUE_KW, continue_expr)
     ∷ (next_is BREAK_KW, break_expr r)
-    ∷ [] )
+    ∷ [])
     effect_expr
 
 -- a label with its colon comes next
@@ -194,24 +196,24 @@ starts_label rs = (next_kind rs == LIFETIME_IDENT) && is_at COLON (drop 1 rs)
 unfoldable pub control_expr : Restrictions → Script Phrase
 control_expr r =
     choose
-    ( (starts_label, labelled_expr)
+    ((starts_label, labelled_expr)
     ∷ (next_is IF_KW, call if_expr ▸ give block)
     ∷ (next_is LOOP_KW, call loop_expr ▸ give block)
     ∷ (next_is WHILE_KW, call while_expr ▸ give block)
     ∷ (next_is MATCH_KW, call match_expr ▸ give block)
-    ∷ [] )
+    ∷ [])
     (jump_expr r)
 
 -- one in brackets, `_` or a `let`, or what follows in this list
 unfoldable pub bracketed_expr : Restrictions → Script Phrase
 bracketed_expr r =
     choose
-    ( (next_is L_PAREN, tuple_expr)
+    ((next_is L_PAREN, tuple_expr)
     ∷ (next_is L_BRACK, array_expr)
     ∷ (next_is L_CURLY, call plain_block ▸ give block)
     ∷ (next_is UNDERSCORE, underscore_expr)
     ∷ (next_is LET_KW, let_expr r)
-    ∷ [] )
+    ∷ [])
     (control_expr r)
 
 unfoldable pub atom_expr : Restrictions → Script Phrase

@@ -41,12 +41,12 @@ unfoldable pub cfg_predicate : Script Phrase
 cfg_predicate =
     start ▸
     test (λ rs. one_of (TRUE_KW ∷ FALSE_KW ∷ []) (next_kind rs)) (any ▸ finish CFG_ATOM ▸ done)
-        (expect IDENT ▸
-            choose
-                ( (is_at EQ, token EQ ▸ call cfg_value ▸ finish CFG_ATOM ▸ done)
-                ∷ (is_at L_PAREN, call cfg_operands ▸ finish CFG_COMPOSITE ▸ done)
-                ∷ [] )
-                (finish CFG_ATOM ▸ done))
+    (expect IDENT ▸
+    choose
+    ((is_at EQ, token EQ ▸ call cfg_value ▸ finish CFG_ATOM ▸ done)
+    ∷ (is_at L_PAREN, call cfg_operands ▸ finish CFG_COMPOSITE ▸ done)
+    ∷ [])
+    (finish CFG_ATOM ▸ done))
 
 -- an attribute that holds if a condition does
 unfoldable pub cfg_meta : Script Phrase
@@ -56,9 +56,9 @@ cfg_meta =
 abbrev pub metas_turn : Bool → Bool → Script Phrase
 metas_turn a b =
     choose
-    ( (is_at R_PAREN, done)
+    ((is_at R_PAREN, done)
     ∷ (is_at EOF, done)
-    ∷ [] )
+    ∷ [])
     (recur meta_item ▸ optional (is_at COMMA) (token COMMA ▸ give (again a b)))
 
 -- the attributes behind their condition
@@ -83,10 +83,10 @@ unfoldable pub path_meta : Script Phrase
 path_meta =
     start ▸ call attr_path ▸
     choose
-        ( (starts_value, call attr_value ▸ finish KEY_VALUE_META ▸ done)
-        ∷ (λ rs. is_bracket (next_kind rs), call bracketed_tokens ▸ finish TOKEN_TREE_META ▸ done)
-        ∷ [] )
-        (finish PATH_META ▸ done)
+    ((starts_value, call attr_value ▸ finish KEY_VALUE_META ▸ done)
+    ∷ (λ rs. is_bracket (next_kind rs), call bracketed_tokens ▸ finish TOKEN_TREE_META ▸ done)
+    ∷ [])
+    (finish PATH_META ▸ done)
 
 -- an identifier that is read as this keyword comes next, and a `(`
 abbrev pub calls_keyword : ℕ → List Record → Bool
@@ -96,10 +96,10 @@ calls_keyword kind rs = reads_as kind rs && is_at L_PAREN (drop 1 rs)
 unfoldable pub meta : Script Phrase
 meta =
     choose
-    ( (is_at UNSAFE_KW, unsafe_meta)
+    ((is_at UNSAFE_KW, unsafe_meta)
     ∷ (calls_keyword CFG_ATTR_KW, cfg_attr_meta)
     ∷ (calls_keyword CFG_KW, cfg_meta)
-    ∷ [] )
+    ∷ [])
     path_meta
 
 abbrev pub doc_comment : Bool → ℕ

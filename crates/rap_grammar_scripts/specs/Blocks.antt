@@ -56,8 +56,8 @@ unfoldable pub value_before_else : Outcome → Script Phrase
 value_before_else value =
     if_some value
     (ends_with R_CURLY
-        (report (codes "right curly brace `}` before `else` in a `let...else` statement not allowed") ▸ done)
-        done)
+    (report (codes "right curly brace `}` before `else` in a `let...else` statement not allowed") ▸ done)
+    done)
     done
 
 -- the block behind an `else`

@@ -17,9 +17,9 @@ use Rattle.rap_grammar_scripts.specs.Words.{done, if_some, reads_as, eat, expect
 abbrev pub fields_turn : Bool → Bool → Script Phrase
 fields_turn a b =
     choose
-    ( (is_at EOF, done)
+    ((is_at EOF, done)
     ∷ (is_at R_PAREN, done)
-    ∷ [] )
+    ∷ [])
     (call name_ref_mod_path_or_index ▸ test (is_at R_PAREN) (give (again a b)) (expect DOT ▸ give (again a b)))
 
 unfoldable pub offset_of_fields : Script Phrase
@@ -30,7 +30,7 @@ unfoldable pub offset_of : Script Phrase
 offset_of =
     expect L_PAREN ▸ call type_ ▸ expect COMMA ▸
     test (is_at L_PAREN) (token L_PAREN ▸ call offset_of_fields ▸ expect R_PAREN ▸ expect R_PAREN ▸ done)
-        (call offset_of_fields ▸ expect R_PAREN ▸ done)
+    (call offset_of_fields ▸ expect R_PAREN ▸ done)
 
 -- a name and an `=` that begins no `==` come next; the name may be a keyword
 abbrev pub starts_arg_name : List Record → Bool
@@ -43,13 +43,13 @@ opt_arg_name = optional starts_arg_name (call name_any_identifier ▸ token EQ �
 abbrev pub arguments_turn : Bool → Bool → Script Phrase
 arguments_turn a b =
     choose
-    ( (is_at EOF, done)
+    ((is_at EOF, done)
     ∷ (is_at R_PAREN, done)
-    ∷ [] )
+    ∷ [])
     (start ▸ call opt_arg_name ▸
-     after expr (λ w.
-         if_some w (finish FORMAT_ARGS_ARG ▸ test (is_at R_PAREN) (give (again a b)) (expect COMMA ▸ give (again a b)))
-         (abandon ▸ done)))
+    after expr (λ w.
+    if_some w (finish FORMAT_ARGS_ARG ▸ test (is_at R_PAREN) (give (again a b)) (expect COMMA ▸ give (again a b)))
+    (abandon ▸ done)))
 
 unfoldable pub format_arguments : Script Phrase
 format_arguments = loop arguments_turn false false
@@ -67,10 +67,10 @@ cfg = expect L_PAREN ▸ recur condition ▸ eat COMMA ▸ expect R_PAREN ▸ do
 unfoldable pub asm_name : Script Phrase
 asm_name =
     choose
-    ( (reads_as ASM_KW, bear ASM_KW ▸ done)
+    ((reads_as ASM_KW, bear ASM_KW ▸ done)
     ∷ (reads_as GLOBAL_ASM_KW, bear GLOBAL_ASM_KW ▸ done)
     ∷ (reads_as NAKED_ASM_KW, bear NAKED_ASM_KW ▸ done)
-    ∷ [] )
+    ∷ [])
     (give nothing)
 
 -- the forms behind those that name fields and arguments, from their node on
@@ -79,16 +79,16 @@ other_builtin =
     after asm_name (λ v.
     if_some v parse_asm_expr
     (choose
-        ( (reads_as INCLUDE_BYTES_KW, bear INCLUDE_BYTES_KW ▸ finish INCLUDE_BYTES_EXPR ▸ done)
-        ∷ (reads_as CFG_KW, bear CFG_KW ▸ call cfg ▸ finish CFG_PRED_EXPR ▸ done)
-        ∷ [] )
-        (report (codes "unknown name after `builtin#`") ▸ finish ERROR ▸ give nothing)))
+    ((reads_as INCLUDE_BYTES_KW, bear INCLUDE_BYTES_KW ▸ finish INCLUDE_BYTES_EXPR ▸ done)
+    ∷ (reads_as CFG_KW, bear CFG_KW ▸ call cfg ▸ finish CFG_PRED_EXPR ▸ done)
+    ∷ [])
+    (report (codes "unknown name after `builtin#`") ▸ finish ERROR ▸ give nothing)))
 
 unfoldable pub builtin_expr : Script Phrase
 builtin_expr =
     start ▸ bear BUILTIN_KW ▸ token POUND ▸
     choose
-        ( (reads_as OFFSET_OF_KW, bear OFFSET_OF_KW ▸ call offset_of ▸ finish OFFSET_OF_EXPR ▸ done)
-        ∷ (reads_as FORMAT_ARGS_KW, bear FORMAT_ARGS_KW ▸ call format_args ▸ finish FORMAT_ARGS_EXPR ▸ done)
-        ∷ [] )
-        other_builtin
+    ((reads_as OFFSET_OF_KW, bear OFFSET_OF_KW ▸ call offset_of ▸ finish OFFSET_OF_EXPR ▸ done)
+    ∷ (reads_as FORMAT_ARGS_KW, bear FORMAT_ARGS_KW ▸ call format_args ▸ finish FORMAT_ARGS_EXPR ▸ done)
+    ∷ [])
+    other_builtin

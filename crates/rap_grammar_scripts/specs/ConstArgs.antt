@@ -25,11 +25,11 @@ missing_const = recover (codes "expected a generic const argument") is_generic_a
 unfoldable pub const_arg_expr : Script Phrase
 const_arg_expr =
     choose
-    ( (next_is L_CURLY, block_expr)
+    ((next_is L_CURLY, block_expr)
     ∷ (λ rs. is_literal_first (next_kind rs), call literal ▸ done)
     ∷ (next_is MINUS, negative_const)
     ∷ (starts_path, const_path)
-    ∷ [] )
+    ∷ [])
     missing_const
 
 unfoldable pub const_arg : Script Phrase

@@ -1,9 +1,9 @@
 -- Expressions that begin with a keyword of control flow, or with a label; and closures.
 -- In the Rust crate: `grammar/expressions/atom.rs`.
-use Rattle.std.specs.Prelude.{ℕ, Bool, true, false, List, [], ◌∷◌, ◌==◌, if◌then◌else◌, codes}
+use Rattle.std.specs.Prelude.{Bool, false, [], ◌∷◌, if◌then◌else◌, codes}
 use Rattle.rap_base.specs.TokenKind.{EOF, ERROR, COMMA, COLON, L_CURLY, R_CURLY, R_ANGLE, EQ, FAT_ARROW, PIPE, IF_KW, ELSE_KW, LET_KW, LOOP_KW, WHILE_KW, FOR_KW, IN_KW, MATCH_KW, CONST_KW, STATIC_KW, ASYNC_KW, GEN_KW, MOVE_KW}
 use Rattle.rap_base.specs.NodeKind.{IF_EXPR, LET_EXPR, LOOP_EXPR, WHILE_EXPR, FOR_EXPR, LABEL, BLOCK_EXPR, MATCH_EXPR, MATCH_ARM_LIST, MATCH_ARM, MATCH_GUARD, CLOSURE_EXPR}
-use Rattle.rap_events.specs.Record.{Record, next_kind}
+use Rattle.rap_events.specs.Record.{next_kind}
 use Rattle.rap_events.specs.Composite.{is_at}
 use Rattle.rap_grammar_scripts.specs.Attributes.{inner_attrs, outer_attrs}
 use Rattle.rap_grammar_scripts.specs.Blocks.{block_expr, stmt_list, error_block}
@@ -54,11 +54,11 @@ label = start ▸ call lifetime ▸ token COLON ▸ finish LABEL ▸ done
 unfoldable pub labelled_from : Script Phrase
 labelled_from =
     choose
-    ( (next_is LOOP_KW, call loop_from ▸ give block)
+    ((next_is LOOP_KW, call loop_from ▸ give block)
     ∷ (next_is FOR_KW, call for_from ▸ give block)
     ∷ (next_is WHILE_KW, call while_from ▸ give block)
     ∷ (next_is L_CURLY, call stmt_list ▸ finish BLOCK_EXPR ▸ give block)
-    ∷ [] )
+    ∷ [])
     (report (codes "expected a loop or block") ▸ finish ERROR ▸ give nothing)
 
 -- a loop or a block behind its label
@@ -69,7 +69,7 @@ unfoldable pub match_guard : Script Phrase
 match_guard =
     start ▸ token IF_KW ▸
     test (is_at EQ) (report (codes "expected expression") ▸ finish MATCH_GUARD ▸ done)
-        (call expr ▸ finish MATCH_GUARD ▸ done)
+    (call expr ▸ finish MATCH_GUARD ▸ done)
 
 -- the pattern of an arm, with its guard
 unfoldable pub arm_head : Script Phrase
@@ -93,11 +93,11 @@ match_arm = start ▸ call outer_attrs ▸ call arm_head ▸ expect FAT_ARROW �
 abbrev pub arms_turn : Bool → Bool → Script Phrase
 arms_turn a b =
     choose
-    ( (is_at EOF, done)
+    ((is_at EOF, done)
     ∷ (is_at R_CURLY, done)
     ∷ (is_at L_CURLY, call (error_block (codes "expected match arm")) ▸ give (again a b))
     ∷ (is_at COMMA, skip (codes "expected pattern") ▸ give (again a b))
-    ∷ [] )
+    ∷ [])
     (call match_arm ▸ give (again a b))
 
 -- the arms in the braces of a `match`
@@ -112,7 +112,7 @@ unfoldable pub match_expr : Script Phrase
 match_expr =
     start ▸ token MATCH_KW ▸ call expr_no_struct ▸
     test (is_at L_CURLY) (call match_arm_list ▸ finish MATCH_EXPR ▸ done)
-        (report (codes "expected `{`") ▸ finish MATCH_EXPR ▸ done)
+    (report (codes "expected `{`") ▸ finish MATCH_EXPR ▸ done)
 
 -- what stands before the parameters of a closure: its lifetimes, and its keywords in their order
 unfoldable pub closure_binder : Script Phrase
@@ -139,4 +139,4 @@ unfoldable pub closure_expr : Script Phrase
 closure_expr =
     start ▸ call closure_binder ▸ call closure_keywords ▸
     test (is_at PIPE) (call param_list_closure ▸ call closure_body ▸ finish CLOSURE_EXPR ▸ done)
-        (report (codes "expected `|`") ▸ finish CLOSURE_EXPR ▸ done)
+    (report (codes "expected `|`") ▸ finish CLOSURE_EXPR ▸ done)

@@ -54,7 +54,7 @@ unfoldable pub range_expr : Restrictions → ℕ → Script Phrase
 range_expr r op =
     precede ▸ token op ▸
     test (has_end r.forbid_structs) (recur (expression false (operand_of r) 3) ▸ finish RANGE_EXPR ▸ done)
-        (finish RANGE_EXPR ▸ give nothing)
+    (finish RANGE_EXPR ▸ give nothing)
 
 -- a type behind `as`, after an operand
 unfoldable pub cast_expr : Script Phrase
@@ -117,7 +117,7 @@ unfoldable pub method_arguments : Script Phrase
 method_arguments =
     call opt_generic_arg_list_expr ▸
     test (is_at L_PAREN) (call arg_list ▸ finish METHOD_CALL_EXPR ▸ done)
-        (report (codes "expected argument list") ▸ finish METHOD_CALL_EXPR ▸ done)
+    (report (codes "expected argument list") ▸ finish METHOD_CALL_EXPR ▸ done)
 
 -- a method behind the dot
 unfoldable pub method_call_expr : Script Phrase
@@ -165,13 +165,15 @@ is_access rs = (next_kind rs == DOT) && (not (is_at DOT2EQ rs) && not (is_at DOT
 abbrev pub postfix_turn : Bool → Bool → Script Phrase
 postfix_turn calls blocky =
     choose
-    ( (λ rs. (next_kind rs == L_PAREN) && calls, call call_expr ▸ give (again true false))
+    ((λ rs. (next_kind rs == L_PAREN) && calls, call call_expr ▸ give (again true false))
     ∷ (λ rs. (next_kind rs == L_BRACK) && calls, call index_expr ▸ give (again true false))
-    ∷ (is_access,
-          after postfix_dot_expr (λ v.
-          if_some v (give (again true false)) (give (if blocky then block else something))))
+    ∷ (
+      is_access,
+      after postfix_dot_expr (λ v.
+          if_some v (give (again true false)) (give (if blocky then block else something))),
+    )
     ∷ (next_is QUESTION, call try_expr ▸ give (again true false))
-    ∷ [] )
+    ∷ [])
     (give (if blocky then block else something))
 
 unfoldable pub postfix_expr : Bool → Bool → Script Phrase
@@ -181,13 +183,13 @@ postfix_expr allow_calls is_block = loop postfix_turn allow_calls is_block
 unfoldable pub lhs : Restrictions → Script Phrase
 lhs r =
     choose
-    ( (next_is AMP, ref_expr r)
+    ((next_is AMP, ref_expr r)
     ∷ (λ rs. one_of (STAR ∷ BANG ∷ MINUS ∷ []) (next_kind rs), prefix_expr r)
     ∷ (is_at DOT2EQ, prefix_range r DOT2EQ)
     ∷ (is_at DOT2, prefix_range r DOT2)
-    ∷ [] )
+    ∷ [])
     (after (atom_expr r) (λ v.
-     if_some v (postfix_expr (not (r.prefer_stmt && is_block v)) (is_block v)) (give nothing)))
+    if_some v (postfix_expr (not (r.prefer_stmt && is_block v)) (is_block v)) (give nothing)))
 
 -- where no expression begins
 unfoldable pub missing_expr : Script Phrase
@@ -198,8 +200,8 @@ unfoldable pub expr_from : Restrictions → ℕ → Script Phrase
 expr_from r bp =
     test (λ rs. is_expr_first (next_kind rs))
     (after (lhs r) (λ v.
-        if_some v (extend ▸ (if r.prefer_stmt && is_block v then give block else (call (climb r bp) ▸ done)))
-        (abandon ▸ give nothing)))
+    if_some v (extend ▸ (if r.prefer_stmt && is_block v then give block else (call (climb r bp) ▸ done)))
+    (abandon ▸ give nothing)))
     missing_expr
 
 unfoldable pub expr_bp : Bool → Restrictions → ℕ → Script Phrase

@@ -39,9 +39,9 @@ type_arg = start ▸ call (type_with_bounds_cond true) ▸ finish TYPE_ARG ▸ d
 unfoldable pub assoc_value : Script Phrase
 assoc_value =
     choose
-    ( (λ rs. is_type_first (next_kind rs), type_)
+    ((λ rs. is_type_first (next_kind rs), type_)
     ∷ (λ rs. is_generic_arg_recovery (next_kind rs), report (codes "missing associated item binding") ▸ done)
-    ∷ [] )
+    ∷ [])
     const_arg
 
 -- bounds after a type of this kind, which is then an argument
@@ -62,16 +62,16 @@ unfoldable pub named_arg : Script Phrase
 named_arg =
     start ▸ call name_ref_mod_path ▸ call opt_path_type_args ▸
     choose
-        ( (next_is EQ, any ▸ call assoc_value ▸ finish ASSOC_TYPE_ARG ▸ done)
-        ∷ (starts_bounds, call bounds ▸ finish ASSOC_TYPE_ARG ▸ done)
-        ∷ [] )
-        (finish PATH_SEGMENT ▸ path_arg)
+    ((next_is EQ, any ▸ call assoc_value ▸ finish ASSOC_TYPE_ARG ▸ done)
+    ∷ (starts_bounds, call bounds ▸ finish ASSOC_TYPE_ARG ▸ done)
+    ∷ [])
+    (finish PATH_SEGMENT ▸ path_arg)
 
 unfoldable pub generic_arg : Script Phrase
 generic_arg =
     choose
-    ( (starts_lifetime_arg, lifetime_arg)
+    ((starts_lifetime_arg, lifetime_arg)
     ∷ (λ rs. is_const_arg_first (next_kind rs), const_arg)
     ∷ (starts_named_arg, named_arg)
-    ∷ [] )
+    ∷ [])
     type_arg

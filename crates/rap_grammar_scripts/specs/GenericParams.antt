@@ -32,9 +32,9 @@ use_bound = token USE_KW ▸ start ▸ call use_bound_args ▸ finish USE_BOUND_
 unfoldable pub bound_constness : Script Phrase
 bound_constness =
     choose
-    ( (is_at TILDE, token TILDE ▸ expect CONST_KW ▸ done)
+    ((is_at TILDE, token TILDE ▸ expect CONST_KW ▸ done)
     ∷ (is_at L_BRACK, token L_BRACK ▸ expect CONST_KW ▸ expect R_BRACK ▸ done)
-    ∷ [] )
+    ∷ [])
     (eat CONST_KW ▸ done)
 
 -- the rest of a macro call in place of a trait
@@ -53,19 +53,19 @@ path_type_bound =
 unfoldable pub bare_bound : Script Phrase
 bare_bound =
     choose
-    ( (next_is LIFETIME_IDENT, lifetime)
+    ((next_is LIFETIME_IDENT, lifetime)
     ∷ (next_is FOR_KW, call for_binder ▸ path_type_bound)
     ∷ (λ rs. next_is USE_KW rs && is_at L_ANGLE (drop 1 rs), use_bound)
-    ∷ [] )
+    ∷ [])
     path_type_bound
 
 unfoldable pub type_bound : Script Phrase
 type_bound =
     start ▸
     test (is_at L_PAREN)
-        (token L_PAREN ▸
-            after bare_bound (λ v. if_some v (expect R_PAREN ▸ finish TYPE_BOUND ▸ done) (abandon ▸ give nothing)))
-        (after bare_bound (λ v. if_some v (finish TYPE_BOUND ▸ done) (abandon ▸ give nothing)))
+    (token L_PAREN ▸
+    after bare_bound (λ v. if_some v (expect R_PAREN ▸ finish TYPE_BOUND ▸ done) (abandon ▸ give nothing)))
+    (after bare_bound (λ v. if_some v (finish TYPE_BOUND ▸ done) (abandon ▸ give nothing)))
 
 -- on to the next bound
 abbrev pub next_bound : Bool → Bool → Script Phrase
@@ -107,7 +107,7 @@ unfoldable pub lifetime_param : Script Phrase
 lifetime_param =
     call lifetime ▸
     test (is_at COLON) (token COLON ▸ call lifetime_bounds ▸ finish LIFETIME_PARAM ▸ done)
-        (finish LIFETIME_PARAM ▸ done)
+    (finish LIFETIME_PARAM ▸ done)
 
 -- what stands after a parameter's name and bounds
 unfoldable pub type_default : Script Phrase
@@ -132,10 +132,10 @@ const_param = token CONST_KW ▸ call name ▸ call const_type ▸ call const_de
 unfoldable pub generic_param : Script Phrase
 generic_param =
     choose
-    ( (next_is LIFETIME_IDENT, lifetime_param)
+    ((next_is LIFETIME_IDENT, lifetime_param)
     ∷ (next_is IDENT, type_param)
     ∷ (next_is CONST_KW, const_param)
-    ∷ [] )
+    ∷ [])
     (abandon ▸ skip (codes "expected generic parameter") ▸ give nothing)
 
 unfoldable pub attributed_param : Script Phrase
@@ -162,10 +162,10 @@ unfoldable pub where_predicate : Script Phrase
 where_predicate =
     start ▸
     choose
-        ( (next_is LIFETIME_IDENT, call lifetime ▸ call predicate_bounds ▸ finish WHERE_PRED ▸ done)
-        ∷ (next_is IMPL_KW, report (codes "expected lifetime or type") ▸ finish WHERE_PRED ▸ done)
-        ∷ [] )
-        (call type_predicate ▸ finish WHERE_PRED ▸ done)
+    ((next_is LIFETIME_IDENT, call lifetime ▸ call predicate_bounds ▸ finish WHERE_PRED ▸ done)
+    ∷ (next_is IMPL_KW, report (codes "expected lifetime or type") ▸ finish WHERE_PRED ▸ done)
+    ∷ [])
+    (call type_predicate ▸ finish WHERE_PRED ▸ done)
 
 abbrev pub ends_where : ℕ → Bool
 ends_where kind = one_of (L_CURLY ∷ SEMICOLON ∷ EQ ∷ []) kind
@@ -174,9 +174,9 @@ ends_where kind = one_of (L_CURLY ∷ SEMICOLON ∷ EQ ∷ []) kind
 unfoldable pub after_predicate : Script Phrase
 after_predicate =
     choose
-    ( (is_at COMMA, token COMMA ▸ optional (λ rs. ends_where (next_kind rs)) (give nothing))
+    ((is_at COMMA, token COMMA ▸ optional (λ rs. ends_where (next_kind rs)) (give nothing))
     ∷ (λ rs. ends_where (next_kind rs), give nothing)
-    ∷ [] )
+    ∷ [])
     (report (codes "expected comma") ▸ done)
 
 abbrev pub where_turn : Bool → Bool → Script Phrase

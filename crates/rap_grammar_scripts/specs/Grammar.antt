@@ -1,6 +1,6 @@
 -- The rules that the others share.
 use Rattle.std.specs.Prelude.{ℕ, Bool, false, ◌||◌, List, [], ◌∷◌, codes}
-use Rattle.rap_base.specs.TokenKind.{EOF, ERROR, IDENT, L_CURLY, R_CURLY, LIFETIME_IDENT, SELF_KW, SELF_TYPE_KW, EXTERN_KW, AS_KW, UNDERSCORE, STRING, THIN_ARROW}
+use Rattle.rap_base.specs.TokenKind.{EOF, ERROR, IDENT, LIFETIME_IDENT, SELF_KW, SELF_TYPE_KW, EXTERN_KW, AS_KW, UNDERSCORE, STRING, THIN_ARROW}
 use Rattle.rap_base.specs.NodeKind.{NAME, NAME_REF, LIFETIME, ABI, RET_TYPE, RENAME}
 use Rattle.rap_events.specs.Record.{next_kind}
 use Rattle.rap_events.specs.Composite.{is_at}
@@ -27,12 +27,12 @@ name_ref_mod_path_or_index =
 abbrev pub element_turn : Script Phrase → ℕ → ℕ → List ℕ → (ℕ → Bool) → Bool → Bool → Script Phrase
 element_turn element ket delim missing first a b =
     choose
-    ( (is_at ket, done)
+    ((is_at ket, done)
     ∷ (is_at EOF, done)
     ∷ (is_at delim, start ▸ report missing ▸ token delim ▸ finish ERROR ▸ give (again a b))
-    ∷ [] )
+    ∷ [])
     (after element (λ v.
-     if_some v (optional (λ rs. is_at delim rs || first (next_kind rs)) (expect delim ▸ give (again a b))) done))
+    if_some v (optional (λ rs. is_at delim rs || first (next_kind rs)) (expect delim ▸ give (again a b))) done))
 
 unfoldable pub elements : Script Phrase → ℕ → ℕ → List ℕ → (ℕ → Bool) → Script Phrase
 elements element ket delim missing first = loop (element_turn element ket delim missing first) false false
@@ -88,4 +88,4 @@ unfoldable pub opt_rename : Script Phrase
 opt_rename =
     optional (is_at AS_KW)
     (start ▸ token AS_KW ▸
-        test (is_at UNDERSCORE) (token UNDERSCORE ▸ finish RENAME ▸ done) (call name ▸ finish RENAME ▸ done))
+    test (is_at UNDERSCORE) (token UNDERSCORE ▸ finish RENAME ▸ done) (call name ▸ finish RENAME ▸ done))

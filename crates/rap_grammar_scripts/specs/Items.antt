@@ -1,12 +1,9 @@
 -- Items.
-use Rattle.std.specs.Prelude.{◌≡◌, ◌≢◌, ℕ, ◌+◌, ◌*◌, ◌≤◌, Bool, true, false, Option, Some, None, List, [], ◌∷◌, drop, ◌==◌, ◌&&◌, ◌||◌, not, if◌then◌else◌, codes}
+use Rattle.std.specs.Prelude.{Bool, true, false, List, [], ◌∷◌, drop, ◌==◌, ◌&&◌, not, if◌then◌else◌, codes}
 use Rattle.rap_base.specs.TokenKind.{EOF, ERROR, L_CURLY, R_CURLY, SEMICOLON, COLON, EQ, BANG, POUND, UNDERSCORE, IDENT, MUT_KW, EXTERN_KW, CRATE_KW, USE_KW, MOD_KW, TYPE_KW, CONST_KW, STATIC_KW, STRUCT_KW, ENUM_KW, UNION_KW, MACRO_KW, MACRO_RULES_KW, BUILTIN_KW, GLOBAL_ASM_KW, FN_KW, TRAIT_KW, IMPL_KW, LET_KW, SHEBANG, FRONTMATTER}
 use Rattle.rap_base.specs.NodeKind.{EXTERN_CRATE, MODULE, TYPE_ALIAS, ITEM_LIST, EXTERN_ITEM_LIST, EXTERN_BLOCK}
-use Rattle.rap_events.specs.Machine.{push, top}
 use Rattle.rap_events.specs.Record.{Record, next_kind, kind_at, contextual_at}
 use Rattle.rap_events.specs.Composite.{is_at}
-use Rattle.rap_events.specs.State.{State, next}
-use Rattle.rap_events.specs.declared.parser.Marker.{Marker}
 use Rattle.rap_grammar_scripts.specs.Adt.{strukt, union, enum_}
 use Rattle.rap_grammar_scripts.specs.Attributes.{inner_attrs, outer_attrs}
 use Rattle.rap_grammar_scripts.specs.Blocks.{error_block, error_let_stmt}
@@ -51,9 +48,9 @@ ends_items stop_on_r_curly rs = is_at R_CURLY rs && stop_on_r_curly
 abbrev pub item_turn : Bool → Bool → Bool → Script Phrase
 item_turn stop_on_r_curly a b =
     choose
-    ( (is_at EOF, done)
+    ((is_at EOF, done)
     ∷ (ends_items stop_on_r_curly, done)
-    ∷ [] )
+    ∷ [])
     (recur (any_item stop_on_r_curly true) ▸ give (again a b))
 
 unfoldable pub items : Bool → Script Phrase
@@ -73,9 +70,9 @@ extern_item_list = start ▸ token L_CURLY ▸ call (mod_contents true) ▸ expe
 unfoldable pub mod_body : Script Phrase
 mod_body =
     choose
-    ( (is_at L_CURLY, item_list)
+    ((is_at L_CURLY, item_list)
     ∷ (is_at SEMICOLON, token SEMICOLON ▸ done)
-    ∷ [] )
+    ∷ [])
     (report (codes "expected `;` or `{`") ▸ done)
 
 unfoldable pub mod_item : Script Phrase
@@ -125,16 +122,16 @@ global_asm = bear BUILTIN_KW ▸ token POUND ▸ bear GLOBAL_ASM_KW ▸ call par
 unfoldable pub opt_item_by_name : Script Phrase
 opt_item_by_name =
     choose
-    ( (starts_union, union)
+    ((starts_union, union)
     ∷ (starts_macro_rules, macro_rules)
     ∷ (starts_global_asm, global_asm)
-    ∷ [] )
+    ∷ [])
     (give nothing)
 
 unfoldable pub opt_item_without_modifiers : Script Phrase
 opt_item_without_modifiers =
     choose
-    ( (next_is EXTERN_KW, opt_extern_crate)
+    ((next_is EXTERN_KW, opt_extern_crate)
     ∷ (next_is USE_KW, use_)
     ∷ (next_is MOD_KW, mod_item)
     ∷ (next_is TYPE_KW, type_item)
@@ -144,7 +141,7 @@ opt_item_without_modifiers =
     ∷ (next_is CONST_KW, opt_named_const)
     ∷ (next_is STATIC_KW, opt_static)
     ∷ (next_is IDENT, opt_item_by_name)
-    ∷ [] )
+    ∷ [])
     (give nothing)
 
 -- a constant behind modifiers: no block behind `const`
@@ -158,14 +155,14 @@ opt_extern_block has_extern = if has_extern then call extern_item_list ▸ finis
 unfoldable pub opt_item_with_modifiers : Bool → Script Phrase
 opt_item_with_modifiers has_extern =
     choose
-    ( (next_is FN_KW, fn_)
+    ((next_is FN_KW, fn_)
     ∷ (next_is CONST_KW, opt_const)
     ∷ (next_is STATIC_KW, opt_static)
     ∷ (next_is TRAIT_KW, trait_)
     ∷ (next_is IMPL_KW, impl_)
     ∷ (next_is TYPE_KW, type_item)
     ∷ (next_is L_CURLY, opt_extern_block has_extern)
-    ∷ [] )
+    ∷ [])
     (give nothing)
 
 -- where no item follows what stands before one
@@ -205,11 +202,11 @@ unmatched_brace = start ▸ report (codes "unmatched `}`") ▸ token R_CURLY ▸
 unfoldable pub missing_item : Bool → Script Phrase
 missing_item stop_on_r_curly =
     choose
-    ( (next_is L_CURLY, error_block (codes "expected an item"))
+    ((next_is L_CURLY, error_block (codes "expected an item"))
     ∷ (λ rs. next_is R_CURLY rs && not stop_on_r_curly, unmatched_brace)
     ∷ (λ rs. one_of (EOF ∷ R_CURLY ∷ []) (next_kind rs), report (codes "expected an item") ▸ done)
     ∷ (next_is LET_KW, error_let_stmt (codes "expected an item"))
-    ∷ [] )
+    ∷ [])
     (skip (codes "expected an item") ▸ done)
 
 unfoldable pub macro_or_error : Bool → Script Phrase

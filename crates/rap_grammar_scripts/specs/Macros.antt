@@ -17,9 +17,9 @@ use Rattle.rap_grammar_scripts.specs.Words.{done, next_is, expect, ◌▸◌, ca
 unfoldable pub rules_in_brackets : Script Phrase
 rules_in_brackets =
     choose
-    ( (λ rs. one_of (L_BRACK ∷ L_PAREN ∷ []) (next_kind rs), call bracketed_tokens ▸ expect SEMICOLON ▸ done)
+    ((λ rs. one_of (L_BRACK ∷ L_PAREN ∷ []) (next_kind rs), call bracketed_tokens ▸ expect SEMICOLON ▸ done)
     ∷ (next_is L_CURLY, bracketed_tokens)
-    ∷ [] )
+    ∷ [])
     (report (codes "expected `{`, `[`, `(`") ▸ done)
 
 unfoldable pub macro_rules : Script Phrase
@@ -33,9 +33,9 @@ macro_def_body =
 unfoldable pub macro_def_tokens : Script Phrase
 macro_def_tokens =
     choose
-    ( (is_at L_CURLY, bracketed_tokens)
+    ((is_at L_CURLY, bracketed_tokens)
     ∷ (is_at L_PAREN, call bracketed_tokens ▸ macro_def_body)
-    ∷ [] )
+    ∷ [])
     (report (codes "unmatched `(`") ▸ done)
 
 unfoldable pub macro_def : Script Phrase

@@ -1,11 +1,10 @@
 -- What may stand before the keyword of an item.
 -- In the Rust crate: `grammar/items.rs`.
-use Rattle.std.specs.Prelude.{◌≡◌, ℕ, Bool, true, false, List, [], ◌∷◌, drop, ◌==◌, ◌&&◌, ◌||◌, not, codes}
+use Rattle.std.specs.Prelude.{ℕ, Bool, true, false, List, [], ◌∷◌, drop, ◌==◌, ◌&&◌, ◌||◌, not, codes}
 use Rattle.rap_base.specs.TokenKind.{L_PAREN, R_PAREN, L_CURLY, PIPE, CRATE_KW, SUPER_KW, SELF_KW, IN_KW, IMPL_KW, CONST_KW, ASYNC_KW, GEN_KW, MOVE_KW, FN_KW, UNSAFE_KW, SAFE_KW, EXTERN_KW, AUTO_KW, TRAIT_KW, DEFAULT_KW, TYPE_KW}
 use Rattle.rap_base.specs.NodeKind.{IMPL_RESTRICTION}
 use Rattle.rap_events.specs.Record.{Record, kind_at}
 use Rattle.rap_events.specs.Composite.{is_at}
-use Rattle.rap_events.specs.State.{State}
 use Rattle.rap_grammar_scripts.specs.First.{one_of}
 use Rattle.rap_grammar_scripts.specs.Grammar.{abi}
 use Rattle.rap_grammar_scripts.specs.Phrase.{Phrase}
@@ -36,8 +35,8 @@ unfoldable pub impl_restriction : Script Phrase
 impl_restriction =
     start ▸ token IMPL_KW ▸
     after (opt_visibility_inner false) (λ v.
-        if_some v (finish IMPL_RESTRICTION ▸ done)
-        (report (codes "expected an impl restriction") ▸ finish IMPL_RESTRICTION ▸ done))
+    if_some v (finish IMPL_RESTRICTION ▸ done)
+    (report (codes "expected an impl restriction") ▸ finish IMPL_RESTRICTION ▸ done))
 
 unfoldable pub opt_impl_restriction : Script Phrase
 opt_impl_restriction = only_if is_impl_restriction impl_restriction
@@ -102,10 +101,10 @@ is_default_async rs =
 unfoldable pub opt_default : Script Phrase
 opt_default =
     choose
-    ( (is_default, bear DEFAULT_KW ▸ done)
+    ((is_default, bear DEFAULT_KW ▸ done)
     ∷ (is_default_unsafe, bear DEFAULT_KW ▸ token UNSAFE_KW ▸ done)
     ∷ (is_default_async, bear DEFAULT_KW ▸ token ASYNC_KW ▸ eat UNSAFE_KW ▸ done)
-    ∷ [] )
+    ∷ [])
     (give nothing)
 
 unfoldable pub auto_or_default : Script Phrase

@@ -92,9 +92,9 @@ param flavor.Closure = closure_param
 unfoldable pub after_param : Script Phrase
 after_param =
     choose
-    ( (is_at COMMA, token COMMA ▸ done)
+    ((is_at COMMA, token COMMA ▸ done)
     ∷ (λ rs. is_param_first (next_kind rs), report (codes "expected `,`") ▸ done)
-    ∷ [] )
+    ∷ [])
     (give nothing)
 
 -- a parameter from its marker on, behind its attributes
@@ -109,9 +109,9 @@ attributed_param f = start ▸ call outer_attrs ▸ marked_param f
 abbrev pub param_turn : Flavor → Bool → Bool → Script Phrase
 param_turn f a b =
     choose
-    ( (is_at EOF, done)
+    ((is_at EOF, done)
     ∷ (is_at (ket f), done)
-    ∷ [] )
+    ∷ [])
     (after (attributed_param f) (λ v. if_some v (give (again a b)) done))
 
 unfoldable pub params : Flavor → Script Phrase
@@ -126,12 +126,12 @@ unfoldable pub first_param : Script Phrase
 first_param =
     start ▸ call outer_attrs ▸
     after opt_self_param (λ w.
-        if_some w (finish SELF_PARAM ▸ after_self)
-        (choose
-            ( (is_at EOF, abandon ▸ give nothing)
-            ∷ (is_at R_PAREN, abandon ▸ give nothing)
-            ∷ [] )
-            (marked_param flavor.FnDef)))
+    if_some w (finish SELF_PARAM ▸ after_self)
+    (choose
+    ((is_at EOF, abandon ▸ give nothing)
+    ∷ (is_at R_PAREN, abandon ▸ give nothing)
+    ∷ [])
+    (marked_param flavor.FnDef)))
 
 unfoldable pub fn_def_params : Script Phrase
 fn_def_params = after first_param (λ v. if_some v (params flavor.FnDef) done)

@@ -44,9 +44,9 @@ return_type_syntax = token L_PAREN ▸ token DOT2 ▸ expect R_PAREN ▸ finish 
 unfoldable pub path_type_args : Script Phrase
 path_type_args =
     choose
-    ( (next_is L_ANGLE, generic_arg_list)
+    ((next_is L_ANGLE, generic_arg_list)
     ∷ (λ rs. is_at DOT2 (drop 1 rs), return_type_syntax)
-    ∷ [] )
+    ∷ [])
     parenthesized_args
 
 -- arguments in a type, with `::` before their bracket, and without
@@ -100,10 +100,10 @@ path_segment m false = start ▸ segment_name m true
 path_segment m true =
     start ▸
     choose
-        ( (is_at L_ANGLE, call type_anchor ▸ finish PATH_SEGMENT ▸ done)
-        ∷ (is_at COLON2, token COLON2 ▸ segment_name m false)
-        ∷ [] )
-        (segment_name m true)
+    ((is_at L_ANGLE, call type_anchor ▸ finish PATH_SEGMENT ▸ done)
+    ∷ (is_at COLON2, token COLON2 ▸ segment_name m false)
+    ∷ [])
+    (segment_name m true)
 
 -- another segment comes next: of what is imported, no list and no star behind the `::`
 abbrev pub has_segment : Mode → List Record → Bool

@@ -56,16 +56,18 @@ not_null_pat = start ▸ token BANG ▸ call pattern_single ▸ finish NOT_NULL 
 abbrev pub pat_turn : ℕ → Bool → Bool → Script Phrase
 pat_turn ket a b =
     choose
-    ( (is_at EOF, done)
+    ((is_at EOF, done)
     ∷ (is_at ket, done)
-    ∷ [] )
+    ∷ [])
     (call pattern ▸
-     choose
-         ( (is_at COMMA, token COMMA ▸ give (again a b))
-         ∷ (λ rs. is_pat_top_first (next_kind rs),
-               look (λ rs. report (with_kind (codes "expected COMMA, got ") (next_kind rs)) ▸ give (again a b)))
-         ∷ [] )
-         done)
+    choose
+    ((is_at COMMA, token COMMA ▸ give (again a b))
+    ∷ (
+      λ rs. is_pat_top_first (next_kind rs),
+      look (λ rs. report (with_kind (codes "expected COMMA, got ") (next_kind rs)) ▸ give (again a b)),
+    )
+    ∷ [])
+    done)
 
 unfoldable pub pat_list : ℕ → Script Phrase
 pat_list ket = loop (pat_turn ket) false false
@@ -85,13 +87,15 @@ leading_comma = only_if (is_at COMMA) (token COMMA ▸ report (codes "expected p
 abbrev pub tuple_pat_turn : Bool → Bool → Script Phrase
 tuple_pat_turn tuple seen =
     choose
-    ( (is_at EOF, give (of_bool (seen && not tuple)))
+    ((is_at EOF, give (of_bool (seen && not tuple)))
     ∷ (is_at R_PAREN, give (of_bool (seen && not tuple)))
-    ∷ (λ rs. is_pat_top_first (next_kind rs),
-          look (λ rs. call pattern ▸
+    ∷ (
+      λ rs. is_pat_top_first (next_kind rs),
+      look (λ rs. call pattern ▸
           test (is_at R_PAREN) (give (again (tuple || starts_rest_pat rs) true))
-          (expect COMMA ▸ give (again true true))))
-    ∷ [] )
+          (expect COMMA ▸ give (again true true))),
+    )
+    ∷ [])
     (report (codes "expected a pattern") ▸ give (of_bool (not tuple)))
 
 -- what stands in parentheses: something where it is one pattern, no comma and no `..`
@@ -114,7 +118,7 @@ unfoldable pub tuple_pat : Script Phrase
 tuple_pat =
     start ▸ token L_PAREN ▸
     after leading_comma (λ v.
-        after (tuple_patterns (is_something v)) (λ w. expect R_PAREN ▸ finish (tuple_pat_kind w) ▸ done))
+    after (tuple_patterns (is_something v)) (λ w. expect R_PAREN ▸ finish (tuple_pat_kind w) ▸ done))
 
 -- a field's name or number and this separator come next
 abbrev pub starts_field : ℕ → List Record → Bool
@@ -123,11 +127,11 @@ starts_field separator rs = one_of (IDENT ∷ INT_NUMBER ∷ []) (next_kind rs) 
 unfoldable pub record_pat_field : Script Phrase
 record_pat_field =
     choose
-    ( (starts_field COLON, call name_ref_or_index ▸ token COLON ▸ call pattern ▸ done)
+    ((starts_field COLON, call name_ref_or_index ▸ token COLON ▸ call pattern ▸ done)
     ∷ (starts_field EQ, call name_ref_or_index ▸ skip (codes "expected `:`") ▸ call pattern ▸ done)
     ∷ (next_is BOX_KW, call box_pat ▸ done)
     ∷ (λ rs. one_of (REF_KW ∷ MUT_KW ∷ IDENT ∷ []) (next_kind rs), call (ident_pat false) ▸ done)
-    ∷ [] )
+    ∷ [])
     (skip (codes "expected identifier") ▸ done)
 
 -- a field with its attributes, or the `..` for the other fields
@@ -135,17 +139,17 @@ unfoldable pub record_pat_element : Script Phrase
 record_pat_element =
     start ▸ call outer_attrs ▸
     choose
-        ( (is_at DOT2, token DOT2 ▸ finish REST_PAT ▸ done)
-        ∷ (next_is L_CURLY, call (error_block (codes "expected ident")) ▸ abandon ▸ done)
-        ∷ [] )
-        (call record_pat_field ▸ finish RECORD_PAT_FIELD ▸ done)
+    ((is_at DOT2, token DOT2 ▸ finish REST_PAT ▸ done)
+    ∷ (next_is L_CURLY, call (error_block (codes "expected ident")) ▸ abandon ▸ done)
+    ∷ [])
+    (call record_pat_field ▸ finish RECORD_PAT_FIELD ▸ done)
 
 abbrev pub record_pat_turn : Bool → Bool → Script Phrase
 record_pat_turn a b =
     choose
-    ( (is_at EOF, done)
+    ((is_at EOF, done)
     ∷ (is_at R_CURLY, done)
-    ∷ [] )
+    ∷ [])
     (call record_pat_element ▸ test (is_at R_CURLY) (give (again a b)) (expect COMMA ▸ give (again a b)))
 
 unfoldable pub record_pat_fields : Script Phrase
@@ -163,23 +167,25 @@ unfoldable pub path_or_macro_pat : Script Phrase
 path_or_macro_pat =
     start ▸ call expr_path ▸
     choose
-        ( (next_is L_PAREN, call tuple_pat_fields ▸ finish TUPLE_STRUCT_PAT ▸ done)
-        ∷ (next_is L_CURLY, call record_pat_field_list ▸ finish RECORD_PAT ▸ done)
-        ∷ (next_is BANG, call macro_call_after_excl ▸ finish MACRO_CALL ▸ precede ▸ finish MACRO_PAT ▸ done)
-        ∷ [] )
-        (finish PATH_PAT ▸ done)
+    ((next_is L_PAREN, call tuple_pat_fields ▸ finish TUPLE_STRUCT_PAT ▸ done)
+    ∷ (next_is L_CURLY, call record_pat_field_list ▸ finish RECORD_PAT ▸ done)
+    ∷ (next_is BANG, call macro_call_after_excl ▸ finish MACRO_CALL ▸ precede ▸ finish MACRO_PAT ▸ done)
+    ∷ [])
+    (finish PATH_PAT ▸ done)
 
 -- `builtin#` with a name behind it, which is not taken where it is unknown
 unfoldable pub builtin_pat : Script Phrase
 builtin_pat =
     start ▸ bear BUILTIN_KW ▸ token POUND ▸
     choose
-        ( (reads_as DEREF_KW, bear DEREF_KW ▸ expect L_PAREN ▸ call pattern ▸ expect R_PAREN ▸ finish DEREF_PAT ▸ done)
-        ∷ (reads_as CFG_KW,
-              bear CFG_KW ▸ expect L_PAREN ▸ call cfg_predicate ▸ eat COMMA ▸ expect R_PAREN ▸ finish CFG_PRED_PAT ▸
-              done)
-        ∷ [] )
-        (report (codes "unknown name after `builtin#`") ▸ finish ERROR ▸ give nothing)
+    ((reads_as DEREF_KW, bear DEREF_KW ▸ expect L_PAREN ▸ call pattern ▸ expect R_PAREN ▸ finish DEREF_PAT ▸ done)
+    ∷ (
+      reads_as CFG_KW,
+      bear CFG_KW ▸ expect L_PAREN ▸ call cfg_predicate ▸ eat COMMA ▸ expect R_PAREN ▸ finish CFG_PRED_PAT ▸
+          done,
+    )
+    ∷ [])
+    (report (codes "unknown name after `builtin#`") ▸ finish ERROR ▸ give nothing)
 
 -- an identifier comes next that begins no path of several names, no path with fields, and no macro call
 abbrev pub starts_ident_pat : List Record → Bool
@@ -199,25 +205,25 @@ missing_pat in_arm = recover (codes "expected pattern") (ends_search in_arm) (gi
 unfoldable pub symbol_pat : Bool → Script Phrase
 symbol_pat in_arm =
     choose
-    ( (starts_literal_pat, literal_pat)
+    ((starts_literal_pat, literal_pat)
     ∷ (next_is UNDERSCORE, wildcard_pat)
     ∷ (next_is AMP, ref_pat)
     ∷ (next_is L_PAREN, tuple_pat)
     ∷ (next_is L_BRACK, slice_pat)
     ∷ (next_is BANG, not_null_pat)
-    ∷ [] )
+    ∷ [])
     (missing_pat in_arm)
 
 unfoldable pub atom_pat : Bool → Script Phrase
 atom_pat in_arm =
     choose
-    ( (starts_builtin, builtin_pat)
+    ((starts_builtin, builtin_pat)
     ∷ (next_is BOX_KW, box_pat)
     ∷ (λ rs. one_of (REF_KW ∷ MUT_KW ∷ []) (next_kind rs), ident_pat true)
     ∷ (next_is CONST_KW, const_block_pat)
     ∷ (starts_ident_pat, ident_pat true)
     ∷ (starts_path, path_or_macro_pat)
-    ∷ [] )
+    ∷ [])
     (symbol_pat in_arm)
 
 -- where a range that has begun ends
@@ -229,15 +235,15 @@ unfoldable pub range_from_pat : Bool → ℕ → Script Phrase
 range_from_pat in_arm op =
     precede ▸ token op ▸
     test (λ rs. ends_range_pat (next_kind rs)) (finish RANGE_PAT ▸ done)
-        (call (atom_pat in_arm) ▸ finish RANGE_PAT ▸ done)
+    (call (atom_pat in_arm) ▸ finish RANGE_PAT ▸ done)
 
 unfoldable pub range_op : Bool → Script Phrase
 range_op in_arm =
     choose
-    ( (is_at DOT3, range_from_pat in_arm DOT3)
+    ((is_at DOT3, range_from_pat in_arm DOT3)
     ∷ (is_at DOT2EQ, range_from_pat in_arm DOT2EQ)
     ∷ (is_at DOT2, range_from_pat in_arm DOT2)
-    ∷ [] )
+    ∷ [])
     done
 
 -- a range without a start, and `..` alone
@@ -248,14 +254,14 @@ unfoldable pub rest_pat : Bool → Script Phrase
 rest_pat in_arm =
     start ▸ token DOT2 ▸
     test (λ rs. is_range_pat_end_first (next_kind rs)) (call (atom_pat in_arm) ▸ finish RANGE_PAT ▸ done)
-        (finish REST_PAT ▸ done)
+    (finish REST_PAT ▸ done)
 
 unfoldable pub pattern_single_r : Bool → Script Phrase
 pattern_single_r in_arm =
     choose
-    ( (is_at DOT2EQ, range_to_pat in_arm)
+    ((is_at DOT2EQ, range_to_pat in_arm)
     ∷ (is_at DOT2, rest_pat in_arm)
-    ∷ [] )
+    ∷ [])
     (after (atom_pat in_arm) (λ v. if_some v (range_op in_arm) done))
 
 abbrev pub alternative_turn : Bool → Bool → Bool → Script Phrase
@@ -269,5 +275,5 @@ unfoldable pub pattern_r : Bool → Script Phrase
 pattern_r in_arm =
     start ▸
     test (is_at PIPE) (token PIPE ▸ call (pattern_single_r in_arm) ▸ call (alternatives in_arm) ▸ finish OR_PAT ▸ done)
-        (call (pattern_single_r in_arm) ▸
-            test (is_at PIPE) (call (alternatives in_arm) ▸ finish OR_PAT ▸ done) (abandon ▸ done))
+    (call (pattern_single_r in_arm) ▸
+    test (is_at PIPE) (call (alternatives in_arm) ▸ finish OR_PAT ▸ done) (abandon ▸ done))

@@ -22,9 +22,9 @@ is_field_name kind = one_of (IDENT ∷ INT_NUMBER ∷ []) kind
 unfoldable pub field_name : Script Phrase
 field_name =
     choose
-    ( (λ rs. is_at COLON (drop 1 rs), call name_ref_or_index ▸ token COLON ▸ done)
+    ((λ rs. is_at COLON (drop 1 rs), call name_ref_or_index ▸ token COLON ▸ done)
     ∷ (λ rs. is_at EQ (drop 1 rs), call name_ref_or_index ▸ skip (codes "expected `:`") ▸ done)
-    ∷ [] )
+    ∷ [])
     done
 
 -- the base of a record without its dots, with no node around it
@@ -35,10 +35,12 @@ base_without_dots = abandon ▸ expect DOT2 ▸ call expr ▸ done
 unfoldable pub named_field : Script Phrase
 named_field =
     choose
-    ( (λ rs. is_at COLON2 (drop 1 rs), base_without_dots)
-    ∷ (λ rs. is_at DOT2 (drop 1 rs),
-          call name_ref_or_index ▸ report (codes "expected `:`") ▸ finish RECORD_EXPR_FIELD ▸ done)
-    ∷ [] )
+    ((λ rs. is_at COLON2 (drop 1 rs), base_without_dots)
+    ∷ (
+      λ rs. is_at DOT2 (drop 1 rs),
+      call name_ref_or_index ▸ report (codes "expected `:`") ▸ finish RECORD_EXPR_FIELD ▸ done,
+    )
+    ∷ [])
     (call field_name ▸ call expr ▸ finish RECORD_EXPR_FIELD ▸ done)
 
 -- what stands behind the dots of the base
@@ -51,10 +53,10 @@ base_of_record =
 unfoldable pub marked_field : Script Phrase
 marked_field =
     choose
-    ( (λ rs. is_field_name (next_kind rs), named_field)
+    ((λ rs. is_field_name (next_kind rs), named_field)
     ∷ (is_at DOT2, abandon ▸ token DOT2 ▸ base_of_record)
     ∷ (is_at L_CURLY, call (error_block (codes "expected a field")) ▸ abandon ▸ done)
-    ∷ [] )
+    ∷ [])
     (skip (codes "expected identifier") ▸ abandon ▸ done)
 
 -- a field with its attributes
@@ -64,9 +66,9 @@ record_field = start ▸ call outer_attrs ▸ marked_field
 abbrev pub fields_turn : Bool → Bool → Script Phrase
 fields_turn a b =
     choose
-    ( (is_at EOF, done)
+    ((is_at EOF, done)
     ∷ (is_at R_CURLY, done)
-    ∷ [] )
+    ∷ [])
     (call record_field ▸ test (is_at R_CURLY) (give (again a b)) (expect COMMA ▸ give (again a b)))
 
 unfoldable pub record_fields : Script Phrase

@@ -1,6 +1,6 @@
 -- Statements.
 -- In the Rust crate: `grammar/expressions.rs`.
-use Rattle.std.specs.Prelude.{List, Bool, true, false, ◌&&◌, ◌||◌, codes}
+use Rattle.std.specs.Prelude.{List, Bool, true, false, ◌||◌, codes}
 use Rattle.rap_base.specs.TokenKind.{EOF, R_CURLY, SEMICOLON}
 use Rattle.rap_base.specs.NodeKind.{LET_STMT, EXPR_STMT}
 use Rattle.rap_events.specs.Record.{Record, next_kind}
@@ -47,8 +47,8 @@ unfoldable pub stmt : Semicolon → Script Phrase
 stmt semi =
     test (is_at SEMICOLON) (token SEMICOLON ▸ done)
     (start ▸ call outer_attrs ▸
-        test starts_let (call (let_stmt semi) ▸ finish LET_STMT ▸ done)
-            (after (opt_item false) (λ w. if_some w done (expr_as_stmt semi))))
+    test starts_let (call (let_stmt semi) ▸ finish LET_STMT ▸ done)
+    (after (opt_item false) (λ w. if_some w done (expr_as_stmt semi))))
 
 abbrev pub macro_turn : Bool → Bool → Script Phrase
 macro_turn a b = test (is_at EOF) done (recur (statement semicolon.Optional) ▸ give (again a b))

@@ -15,12 +15,12 @@ use Rattle.rap_grammar_scripts.specs.Words.{done, if_some, next_is, expect, ◌�
 abbrev pub tokens_turn : ℕ → Bool → Bool → Script Phrase
 tokens_turn ket a b =
     choose
-    ( (is_at EOF, done)
+    ((is_at EOF, done)
     ∷ (is_at ket, done)
     ∷ (λ rs. is_bracket (next_kind rs), recur bracketed ▸ give (again a b))
     ∷ (next_is R_CURLY, report (codes "unmatched `}`") ▸ give nothing)
     ∷ (λ rs. one_of (R_PAREN ∷ R_BRACK ∷ []) (next_kind rs), skip (codes "unmatched brace") ▸ give (again a b))
-    ∷ [] )
+    ∷ [])
     (any ▸ give (again a b))
 
 -- tokens, and lists of them in brackets, up to the bracket that closes this one; nothing where a brace is in the way
@@ -45,7 +45,7 @@ unfoldable pub macro_call_after_excl : Script Phrase
 macro_call_after_excl =
     token BANG ▸
     choose
-        ( (next_is L_CURLY, call bracketed_tokens ▸ give block)
-        ∷ (λ rs. is_bracket (next_kind rs), call bracketed_tokens ▸ done)
-        ∷ [] )
-        (report (codes "expected `{`, `[`, `(`") ▸ done)
+    ((next_is L_CURLY, call bracketed_tokens ▸ give block)
+    ∷ (λ rs. is_bracket (next_kind rs), call bracketed_tokens ▸ done)
+    ∷ [])
+    (report (codes "expected `{`, `[`, `(`") ▸ done)

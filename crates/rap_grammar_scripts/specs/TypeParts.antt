@@ -18,7 +18,7 @@ unfoldable pub for_binder : Script Phrase
 for_binder =
     start ▸ token FOR_KW ▸
     test (is_at L_ANGLE) (call for_parameters ▸ finish FOR_BINDER ▸ done)
-        (report (codes "expected `<`") ▸ finish FOR_BINDER ▸ done)
+    (report (codes "expected `<`") ▸ finish FOR_BINDER ▸ done)
 
 unfoldable pub path_type : Script Phrase
 path_type = start ▸ call type_path ▸ finish PATH_TYPE ▸ done

@@ -21,9 +21,9 @@ use Rattle.rap_grammar_scripts.specs.Words.{done, next_is, reads_as, eat, expect
 abbrev pub types_turn : Bool → Bool → Script Phrase
 types_turn seen b =
     choose
-    ( (is_at EOF, give nothing)
+    ((is_at EOF, give nothing)
     ∷ (is_at R_PAREN, give nothing)
-    ∷ [] )
+    ∷ [])
     (call type_ ▸ test (is_at COMMA) (token COMMA ▸ give (again true b)) (give (of_bool (not seen))))
 
 -- what stands in parentheses: something where it is one type and no comma
@@ -59,10 +59,10 @@ unfoldable pub array_or_slice_type : Script Phrase
 array_or_slice_type =
     start ▸ token L_BRACK ▸ call type_ ▸
     choose
-        ( (is_at R_BRACK, token R_BRACK ▸ finish SLICE_TYPE ▸ done)
-        ∷ (is_at SEMICOLON, call array_length ▸ finish ARRAY_TYPE ▸ done)
-        ∷ [] )
-        (report (codes "expected `;` or `]`") ▸ finish SLICE_TYPE ▸ done)
+    ((is_at R_BRACK, token R_BRACK ▸ finish SLICE_TYPE ▸ done)
+    ∷ (is_at SEMICOLON, call array_length ▸ finish ARRAY_TYPE ▸ done)
+    ∷ [])
+    (report (codes "expected `;` or `]`") ▸ finish SLICE_TYPE ▸ done)
 
 abbrev pub ref_target : Script Phrase
 ref_target = eat MUT_KW ▸ call type_no_bounds ▸ finish REF_TYPE ▸ done
@@ -84,14 +84,14 @@ unfoldable pub fn_ptr_type : Script Phrase
 fn_ptr_type =
     start ▸ call fn_qualifiers ▸
     test (is_at FN_KW) (token FN_KW ▸ call fn_ptr_params ▸ call opt_ret_type ▸ finish FN_PTR_TYPE ▸ done)
-        (abandon ▸ report (codes "expected `fn`") ▸ done)
+    (abandon ▸ report (codes "expected `fn`") ▸ done)
 
 -- The bounds after a type of this kind, which is then the first of them. A macro call has none.
 unfoldable pub opt_type_bounds_as_dyn_trait_type : ℕ → Script Phrase
 opt_type_bounds_as_dyn_trait_type kind =
     optional (λ rs. not (kind == MACRO_TYPE) && is_at PLUS rs)
     (precede ▸ finish TYPE_BOUND ▸ precede ▸ token PLUS ▸ call bounds_without_colon_m ▸ precede ▸
-        finish DYN_TRAIT_TYPE ▸ done)
+    finish DYN_TRAIT_TYPE ▸ done)
 
 -- the same where bounds are allowed
 abbrev pub bounds_if : Bool → ℕ → Script Phrase
@@ -108,7 +108,7 @@ unfoldable pub for_type : Bool → Script Phrase
 for_type allow_bounds =
     start ▸ call for_binder ▸
     test starts_for_target (for_target allow_bounds)
-        (report (codes "expected a function pointer or path") ▸ for_target allow_bounds)
+    (report (codes "expected a function pointer or path") ▸ for_target allow_bounds)
 
 unfoldable pub impl_trait_type : Script Phrase
 impl_trait_type = start ▸ token IMPL_KW ▸ call bounds_without_colon ▸ finish IMPL_TRAIT_TYPE ▸ done
@@ -129,20 +129,20 @@ unfoldable pub pattern_type_parts : Script Phrase
 pattern_type_parts =
     expect L_PAREN ▸ call type_ ▸
     test (reads_as IS_KW) (bear IS_KW ▸ call pattern ▸ expect R_PAREN ▸ done)
-        (report (codes "expected `is`") ▸ call pattern ▸ expect R_PAREN ▸ done)
+    (report (codes "expected `is`") ▸ call pattern ▸ expect R_PAREN ▸ done)
 
 unfoldable pub pattern_type : Script Phrase
 pattern_type =
     start ▸ bear BUILTIN_KW ▸ token POUND ▸
     test (reads_as PATTERN_TYPE_KW) (bear PATTERN_TYPE_KW ▸ call pattern_type_parts ▸ finish PATTERN_TYPE ▸ done)
-        (report (codes "unknown name after `builtin#`") ▸ finish ERROR ▸ done)
+    (report (codes "unknown name after `builtin#`") ▸ finish ERROR ▸ done)
 
 -- a path as a type, or a macro call
 unfoldable pub path_or_macro : Bool → Script Phrase
 path_or_macro allow_bounds =
     start ▸ start ▸ call type_path ▸
     test starts_macro_call (call macro_call_after_excl ▸ finish MACRO_CALL ▸ finish MACRO_TYPE ▸ done)
-        (abandon ▸ finish PATH_TYPE ▸ bounds_if allow_bounds PATH_TYPE)
+    (abandon ▸ finish PATH_TYPE ▸ bounds_if allow_bounds PATH_TYPE)
 
 unfoldable pub path_or_macro_type : Bool → Script Phrase
 path_or_macro_type allow_bounds =
@@ -166,16 +166,16 @@ starts_bare_dyn rs = next_is LIFETIME_IDENT rs && is_at PLUS (drop 1 rs)
 unfoldable pub named_type : Bool → Script Phrase
 named_type allow_bounds =
     choose
-    ( (starts_weak_dyn, dyn_trait_type_weak)
+    ((starts_weak_dyn, dyn_trait_type_weak)
     ∷ (starts_path, path_or_macro_type allow_bounds)
     ∷ (starts_bare_dyn, bare_dyn_trait_type)
-    ∷ [] )
+    ∷ [])
     missing_type
 
 unfoldable pub type_with_bounds_cond : Bool → Script Phrase
 type_with_bounds_cond allow_bounds =
     choose
-    ( (next_is L_PAREN, paren_or_tuple_type)
+    ((next_is L_PAREN, paren_or_tuple_type)
     ∷ (next_is BANG, never_type)
     ∷ (next_is STAR, ptr_type)
     ∷ (next_is L_BRACK, array_or_slice_type)
@@ -186,5 +186,5 @@ type_with_bounds_cond allow_bounds =
     ∷ (next_is IMPL_KW, impl_trait_type)
     ∷ (next_is DYN_KW, dyn_trait_type)
     ∷ (next_is L_ANGLE, path_type_bounds allow_bounds)
-    ∷ [] )
+    ∷ [])
     (named_type allow_bounds)

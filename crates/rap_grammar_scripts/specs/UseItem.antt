@@ -64,10 +64,10 @@ unfoldable pub use_tree : Script Phrase
 use_tree =
     start ▸
     choose
-        ( (λ rs. is_group_first (next_kind rs), call group ▸ finish USE_TREE ▸ done)
-        ∷ (starts_global_group, token COLON2 ▸ call group ▸ finish USE_TREE ▸ done)
-        ∷ [] )
-        (call use_path ▸ call after_use_path ▸ finish USE_TREE ▸ done)
+    ((λ rs. is_group_first (next_kind rs), call group ▸ finish USE_TREE ▸ done)
+    ∷ (starts_global_group, token COLON2 ▸ call group ▸ finish USE_TREE ▸ done)
+    ∷ [])
+    (call use_path ▸ call after_use_path ▸ finish USE_TREE ▸ done)
 
 -- the tree of an import; where none begins, the next token is taken along, unless an item begins there
 unfoldable pub expect_use_tree : Script Phrase

@@ -31,9 +31,9 @@ in_restriction = start ▸ token L_PAREN ▸ token IN_KW ▸ call vis_path ▸ e
 unfoldable pub opt_visibility_inner : Bool → Script Phrase
 opt_visibility_inner in_tuple_field =
     choose
-    ( (starts_restriction in_tuple_field, restriction)
+    ((starts_restriction in_tuple_field, restriction)
     ∷ (starts_in_restriction, in_restriction)
-    ∷ [] )
+    ∷ [])
     (give nothing)
 
 -- `pub`, and what it is restricted to; in a tuple's field, parentheses may be the field's type

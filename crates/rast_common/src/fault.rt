@@ -1,5 +1,5 @@
 //! How a program reports a fault.
-ghost use Rattle.std.specs.Prelude.{◌≡◌, IfOk};
+ghost use Rattle.std.specs.Prelude.{◌≡◌, IfOk, MatchResult};
 ghost use Rattle.std.specs.Io.KnownBytes.{Appends};
 ghost use Rattle.std.specs.Process.{exit_status};
 
@@ -7,7 +7,7 @@ use std::io;
 use std::process::ExitCode;
 
 /// The status of a fault.
-pub const FAULT: u8 = 2;
+const FAULT: u8 = 2;
 
 /// Writes the message to the error stream, and gives the status of a fault. An error is that of the stream.
 pub fn report<V: io::Write>(err: &mut V, message: &str) -> io::Result<u8>
@@ -18,9 +18,9 @@ pub fn report<V: io::Write>(err: &mut V, message: &str) -> io::Result<u8>
     Ok(FAULT)
 }
 
-/// Reports a fault, and gives its status.
-pub fn fail<V: io::Write>(err: &mut V, message: &str) -> ExitCode
-    ensures { exit_status result ≡ 2 }
+/// The exit code of a program that answered with this status, or whose error stream refused a report.
+pub fn exit_code(status: io::Result<u8>) -> ExitCode
+    ensures { MatchResult status (λ n. exit_status result ≡ n) (λ _. exit_status result ≡ 2) }
 {
-    ExitCode::from(report(err, message).unwrap_or(FAULT))
+    ExitCode::from(status.unwrap_or(FAULT))
 }

@@ -6,7 +6,7 @@ mod listing;
 mod run;
 
 use rap_base::edition::Edition;
-use rast_common::fault::{FAULT, fail};
+use rast_common::fault::{exit_code, report};
 use run::{Listing, run};
 use std::process::ExitCode;
 use std::{env, fs};
@@ -18,30 +18,30 @@ const UNREADABLE: &str = "rast_lex: cannot read the file\n";
 fn main(rt: HostRuntime) -> ExitCode {
     let mut err = rt.stderr();
     let Ok(mut args) = env::args(&rt) else {
-        return fail(&mut err, USAGE);
+        return exit_code(report(&mut err, USAGE));
     };
     let _program = args.next();
     let Some(edition) = args.next() else {
-        return fail(&mut err, USAGE);
+        return exit_code(report(&mut err, USAGE));
     };
     let Some(file) = args.next() else {
-        return fail(&mut err, USAGE);
+        return exit_code(report(&mut err, USAGE));
     };
     let listing = match args.next() {
         None => Ok(Listing::Tokens),
         Some(word) => word.as_str().parse::<Listing>(),
     };
     let Ok(listing) = listing else {
-        return fail(&mut err, USAGE);
+        return exit_code(report(&mut err, USAGE));
     };
     if args.next().is_some() {
-        return fail(&mut err, USAGE);
+        return exit_code(report(&mut err, USAGE));
     }
     let Ok(edition) = edition.as_str().parse::<Edition>() else {
-        return fail(&mut err, USAGE);
+        return exit_code(report(&mut err, USAGE));
     };
     let Ok(text) = fs::read_to_string(&rt, file.as_str()) else {
-        return fail(&mut err, UNREADABLE);
+        return exit_code(report(&mut err, UNREADABLE));
     };
     let mut out = rt.stdout();
     let status = run(
@@ -52,5 +52,5 @@ fn main(rt: HostRuntime) -> ExitCode {
         &mut out,
         &mut err,
     );
-    ExitCode::from(status.unwrap_or(FAULT))
+    exit_code(status)
 }

@@ -8,7 +8,7 @@ mod run;
 mod tail;
 
 use head::HEAD;
-use rast_common::fault::{FAULT, fail};
+use rast_common::fault::{exit_code, report};
 use rast_print::request::read_request;
 use run::{Frame, run};
 use std::fs;
@@ -22,11 +22,11 @@ const UNREADABLE: &str = "rast_page: cannot read the file\n";
 fn main(rt: HostRuntime) -> ExitCode {
     let mut err = rt.stderr();
     let Some(request) = read_request(&rt) else {
-        return fail(&mut err, USAGE);
+        return exit_code(report(&mut err, USAGE));
     };
     let file = request.file.as_str();
     let Ok(text) = fs::read_to_string(&rt, file) else {
-        return fail(&mut err, UNREADABLE);
+        return exit_code(report(&mut err, UNREADABLE));
     };
     let frame = Frame {
         head: HEAD,
@@ -43,5 +43,5 @@ fn main(rt: HostRuntime) -> ExitCode {
         &mut out,
         &mut err,
     );
-    ExitCode::from(status.unwrap_or(FAULT))
+    exit_code(status)
 }

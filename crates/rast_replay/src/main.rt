@@ -8,27 +8,29 @@ mod row;
 mod unquote;
 mod way;
 
-use rast_common::fault::{FAULT, fail};
+use rast_common::fault::{exit_code, report};
 use replay::run;
 use std::process::ExitCode;
 use std::{env, fs};
 
+const USAGE: &str = "usage: rast_replay FILE\n";
+
 fn main(rt: HostRuntime) -> ExitCode {
     let mut err = rt.stderr();
     let Ok(mut args) = env::args(&rt) else {
-        return fail(&mut err, "usage: rast_replay FILE\n");
+        return exit_code(report(&mut err, USAGE));
     };
     let _program = args.next();
     let Some(file) = args.next() else {
-        return fail(&mut err, "usage: rast_replay FILE\n");
+        return exit_code(report(&mut err, USAGE));
     };
     if args.next().is_some() {
-        return fail(&mut err, "usage: rast_replay FILE\n");
+        return exit_code(report(&mut err, USAGE));
     }
     let Ok(rows) = fs::read_to_string(&rt, file.as_str()) else {
-        return fail(&mut err, "rast_replay: cannot read the file\n");
+        return exit_code(report(&mut err, "rast_replay: cannot read the file\n"));
     };
     let mut out = rt.stdout();
     let status = run(rt.alloc(), rows.as_str(), &mut out, &mut err);
-    ExitCode::from(status.unwrap_or(FAULT))
+    exit_code(status)
 }

@@ -4,7 +4,7 @@
 mod times;
 
 use ra_ap_parser::{Edition, LexFault, ParseFault, TopEntryPoint};
-use rast_common::fault::fail;
+use rast_common::fault::{exit_code, report};
 use rast_print::request::read_request;
 use std::alloc::{AllocError, Global};
 use std::process::ExitCode;
@@ -64,21 +64,21 @@ fn write<W: io::Write>(out: &mut W, lines: &str) -> io::Result<()> {
 fn main(rt: HostRuntime) -> ExitCode {
     let mut err = rt.stderr();
     let Some(request) = read_request(&rt) else {
-        return fail(&mut err, USAGE);
+        return exit_code(report(&mut err, USAGE));
     };
     let Ok(text) = fs::read_to_string(&rt, request.file.as_str()) else {
-        return fail(&mut err, UNREADABLE);
+        return exit_code(report(&mut err, UNREADABLE));
     };
     let alloc = rt.alloc();
     let times = match measure_rounds(&rt, alloc, request.edition, request.entry, text.as_str()) {
         Ok(times) => times,
-        Err(failure) => return fail(&mut err, failure_message(&failure)),
+        Err(failure) => return exit_code(report(&mut err, failure_message(&failure))),
     };
     let Ok(lines) = lines(alloc, text.len(), &times) else {
-        return fail(&mut err, NO_MEMORY);
+        return exit_code(report(&mut err, NO_MEMORY));
     };
     match write(&mut rt.stdout(), lines.as_str()) {
         Ok(()) => ExitCode::from(0),
-        Err(_) => fail(&mut err, "rast_speed: cannot write\n"),
+        Err(_) => exit_code(report(&mut err, "rast_speed: cannot write\n")),
     }
 }

@@ -5,7 +5,7 @@
 mod request;
 mod run;
 
-use rast_common::fault::{FAULT, fail};
+use rast_common::fault::{exit_code, report};
 use request::read_request;
 use run::run;
 use std::fs;
@@ -19,10 +19,10 @@ const UNREADABLE: &str = "rast_steps: cannot read the file\n";
 fn main(rt: HostRuntime) -> ExitCode {
     let mut err = rt.stderr();
     let Some(request) = read_request(&rt) else {
-        return fail(&mut err, USAGE);
+        return exit_code(report(&mut err, USAGE));
     };
     let Ok(text) = fs::read_to_string(&rt, request.file.as_str()) else {
-        return fail(&mut err, UNREADABLE);
+        return exit_code(report(&mut err, UNREADABLE));
     };
     let mut out = rt.stdout();
     let status = run(
@@ -33,5 +33,5 @@ fn main(rt: HostRuntime) -> ExitCode {
         &mut out,
         &mut err,
     );
-    ExitCode::from(status.unwrap_or(FAULT))
+    exit_code(status)
 }
