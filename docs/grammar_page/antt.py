@@ -107,7 +107,8 @@ class Reader:
             parts = [self.term()]
             while self.peek() == ',':
                 self.take()
-                parts.append(self.term())
+                if self.peek() != ')':
+                    parts.append(self.term())
             self.take(')')
             return parts[0] if len(parts) == 1 else ('tuple', tuple(parts))
         if token == '[':
