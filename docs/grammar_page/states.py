@@ -28,11 +28,12 @@ class Exit:
 
 @dataclass(frozen=True)
 class Limit:
-    """A form that is read only where a test holds that asks for more than the kind of the next token, and the form
-    that is read elsewhere."""
+    """A form that is read where a test holds, the form that is read elsewhere, and which kinds the next token may
+    have."""
     test: object
     form: tuple
     otherwise: tuple
+    facts: frozenset
 
 
 @dataclass(frozen=True)

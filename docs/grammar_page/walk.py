@@ -5,7 +5,7 @@ from dataclasses import dataclass, replace
 from grammar_page.forms import Mark, Maybe, Token, abandon, finish, form_width, is_absent, may_be_empty, since_start
 from grammar_page.loops import Loop
 from grammar_page.states import Call, Exit, Limit, Message, State, groups_of, read_by
-from grammar_page.tests import Last, Not, ReadsAs, There, behind, bounds, is_of_next_kind, no
+from grammar_page.tests import Last, Not, ReadsAs, There, behind, bounds, no
 from grammar_page.values import NOTHING, SOMETHING, UNKNOWN, Given, KindOf, Scope, Tokens, Undecided
 
 # The words of scripts that something follows, and how many arguments each has.
@@ -373,8 +373,7 @@ class Walker:
         surely, maybe = bounds(test, self.kinds)
         there = yes(replace(state, facts=state.facts & maybe, tests=(*state.tests, test)))
         elsewhere = otherwise(replace(state, facts=state.facts - surely, tests=(*state.tests, no(test))))
-        if not is_of_next_kind(test, self.kinds):
-            self.limits.append(Limit(test, read_by(state, there), read_by(state, elsewhere)))
+        self.limits.append(Limit(test, read_by(state, there), read_by(state, elsewhere), state.facts))
         return there + elsewhere
 
     # -- other rules
