@@ -73,7 +73,7 @@ class Limits:
         return tuple(tests)
 
     def beginnings_left_out(self, test, limit):
-        """The kinds with which a form may begin, but not where a test holds, and no other form does; if they are few."""
+        """The kinds with which a form may begin but for a test, and no other form does, if they are few."""
         firsts, others = self.openings.firsts(limit.form), self.openings.firsts(limit.otherwise or ())
         if firsts is None or others is None:
             return frozenset()

@@ -62,7 +62,7 @@ class Openings:
         return inner
 
     def of_rule(self, rule, count):
-        """The first tokens of a rule. While it is being looked at, it begins with anything; only a loop reads nothing."""
+        """The first tokens of a rule; none while it is being looked at. Only a loop may read nothing."""
         place = rule.module, rule.name, rule.given, count
         if place not in self.known:
             self.known[place] = None
