@@ -57,8 +57,8 @@ class Reports:
         outer = outer or form[0] if is_outer and form else None
         for at, part in enumerate(form):
             if isinstance(part, Node) and part is not outer:
-                span = ['what stands before it'] * part.around + [self.span(it) for it in (part.form,) if it]
-                found.append((part.kind, ' and '.join(span)))
+                span = self.span(part.form) if part.form else ''
+                found.append((part.kind, 'what stands before it too' if part.around else span))
             elif isinstance(part, Mark) and not (is_outer and at == len(form) - 1):
                 found.append((part.kind, self.span(form[:at]) if at else ''))
             found += [it for form_in in inside(part) for it in self.inner(form_in)]
