@@ -41,13 +41,11 @@ class Writer:
 
     def written(self, form):
         """A form that has no nodes."""
-        if len(form) == 1 and isinstance(form[0], Listed):
-            return self.listed(form[0])
         return ' '.join(self.part(it) for it in form)
 
     def group(self, form):
         """A form as one thing, in parentheses where it has several."""
-        is_one = len(form) == 1 and isinstance(form[0], (Token, Rule, Either, Listed))
+        is_one = len(form) == 1 and isinstance(form[0], (Token, Rule, Either))
         return self.part(form[0]) if is_one else f'( {self.written(form)} )'
 
     def part(self, part):
@@ -61,13 +59,8 @@ class Writer:
             return f'{self.group(part.form)}?'
         if isinstance(part, Many):
             return f'{self.group(part.form)}{"+" if part.least else "*"}'
-        return f'( {self.listed(part)} )'
-
-    def listed(self, part):
-        element, separator = self.group(part.form), self.written(part.separator)
-        inner = self.written(part.form)
-        end = f' {separator}?' if part.is_open else ''
-        return f'{inner} ( {separator} {element if element == inner else inner} )*{end}'
+        element, separator = self.written(part.form), self.written(part.separator)
+        return f'{element} ( {separator} {element} )*' + (f' {separator}?' if part.is_open else '')
 
     def token(self, kinds):
         if len(kinds) == 1:

@@ -8,6 +8,8 @@ from grammar_page.states import State, without_end
 from grammar_page.values import Case, Evaluator, Fields, Given, KindOf, Outcome, Scope, Undecided
 from grammar_page.walk import ENDS, GIVE_NOTHING, STEPS, Walker
 
+# How many rules are followed into one another at once; those that lie deeper wait.
+DEEPEST = 10
 ROOTS = (('Items', 'source_file', ()), ('Items', 'items', (False,)), ('Statements', 'macro_stmts', ()))
 
 
@@ -185,7 +187,10 @@ class Grammar:
         self.users.setdefault(place, {})[self.current[-1]] = None
         if place not in self.summaries:
             self.summaries[place] = Summary()
-            self.look_at(place)
+            if len(self.current) < DEEPEST:
+                self.look_at(place)
+            else:
+                self.waiting[place] = None
         return self.summaries[place]
 
     def look_at(self, place):

@@ -47,7 +47,7 @@ class Loop:
         head, given = (self.turn[1], self.turn[2]) if self.turn[0] == 'call' else (self.turn, ())
         term = ('call', head, (*given, ('name', 'first flag'), ('name', 'second flag')))
         scope = self.scope.bind({'first flag': first, 'second flag': second})
-        return self.walker.walk(term, scope, State((*self.state.form, TURN), facts, (), fault))
+        return self.walker.within(self.walker.walk, term, scope, State((*self.state.form, TURN), facts, (), fault))
 
     def add(self, place, way, places, fault):
         """Adds a way out of a turn: to another turn, or out of the loop."""

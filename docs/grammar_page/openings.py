@@ -17,6 +17,15 @@ class Openings:
         openings = self.of(form, reach(test, self.kinds))
         return openings is not None and bool(openings) and all(self.holds(test, it) is True for it in openings)
 
+    def firsts(self, form):
+        """The kinds of the first tokens of a form."""
+        openings = self.of(form, 1)
+        return None if openings is None else frozenset(self.kind(it) for it in openings if it)
+
+    def kind(self, opening):
+        """The kind of the first of some tokens, as the lexer gives it."""
+        return 'IDENT' if opening[0] in self.weak else opening[0]
+
     def of(self, form, count):
         """The first tokens of a form, as far as it goes; none where there are too many ways."""
         found = {()}
@@ -40,7 +49,8 @@ class Openings:
         if isinstance(part, Mark):
             return {()}
         if isinstance(part, Rule):
-            return self.of_rule(part, count)
+            ways = self.of_rule(part, count)
+            return ways if ways is None or not part.first else {it for it in ways if it and self.kind(it) in part.first}
         if isinstance(part, Either):
             ways = [self.of(it, count) for it in part.forms]
             return None if None in ways else set().union(*ways)
@@ -52,13 +62,13 @@ class Openings:
         return inner
 
     def of_rule(self, rule, count):
-        """The first tokens of a rule; while it is being looked at, it begins with anything."""
+        """The first tokens of a rule; none while it is being looked at. Only a loop may read nothing."""
         place = rule.module, rule.name, rule.given, count
         if place not in self.known:
             self.known[place] = None
             instances = self.entries[place[:2]].group_of(rule.given)
             ways = [self.of(it, count) for instance in instances for it in instance.options]
-            self.known[place] = None if None in ways else set().union(*ways)
+            self.known[place] = None if None in ways else set().union(*ways) - (set() if rule.may_lack else {()})
         return self.known[place]
 
     def holds(self, test, opening):

@@ -7,6 +7,7 @@ from dataclasses import replace
 from grammar_page.ebnf import Writer, without_nodes
 from grammar_page.entries import entries_of, shown, ungiven
 from grammar_page.forms import Either, Mark, Node, Rule, inside, options_of
+from grammar_page.limits import Limits
 from grammar_page.openings import Openings
 from grammar_page.railroad import Diagrams
 from grammar_page.reports import Reports
@@ -99,7 +100,9 @@ class Page:
         self.words = Words(grammar.kinds, {**grammar.evaluator.named_sets(), 'operator': operators})
         self.write = Writer(grammar.kinds, self.link, self.words.of, self.about)
         self.words.write = self.write
-        self.reports = Reports(self.entries, self.words, self.write, Openings(grammar, self.entries))
+        given = {key for key, _ in grammar.kinds_given}
+        limits = Limits(self.words, self.write, Openings(grammar, self.entries), grammar.firsts, given)
+        self.reports = Reports(self.entries, self.words, self.write, limits)
         self.order = self.ordered()
         self.links = {}
 

@@ -2,17 +2,17 @@
 from dataclasses import replace
 
 from grammar_page.entries import shown, ungiven
-from grammar_page.forms import Either, Listed, Many, Mark, Maybe, Node, Rule, inside, is_absent, may_be_empty
+from grammar_page.forms import Mark, Node, inside, is_absent, may_be_empty
 from grammar_page.tests import At, Not
-from grammar_page.values import Function, Given
+from grammar_page.values import Function
 from grammar_page.words import listing
 
 
 class Reports:
     """Says things of the entries, in the words of `words`."""
 
-    def __init__(self, entries, words, write, openings):
-        self.entries, self.words, self.write, self.openings = entries, words, write, openings
+    def __init__(self, entries, words, write, limits):
+        self.entries, self.words, self.write, self.limits = entries, words, write, limits
 
     def told(self, instances):
         """What is said of a rule below its form: a word, and each text with the instances that it is true of."""
@@ -57,8 +57,8 @@ class Reports:
         outer = outer or form[0] if is_outer and form else None
         for at, part in enumerate(form):
             if isinstance(part, Node) and part is not outer:
-                span = ['what stands before it'] * part.around + [self.span(it) for it in (part.form,) if it]
-                found.append((part.kind, ' and '.join(span)))
+                span = self.span(part.form) if part.form else ''
+                found.append((part.kind, 'what stands before it too' if part.around else span))
             elif isinstance(part, Mark) and not (is_outer and at == len(form) - 1):
                 found.append((part.kind, self.span(form[:at]) if at else ''))
             found += [it for form_in in inside(part) for it in self.inner(form_in)]
@@ -161,54 +161,7 @@ class Reports:
 
     def notes(self, walker):
         """What the form of a rule cannot say."""
-        return [*self.limits(walker), *self.powers(walker), *self.loose(walker)]
-
-    def limits(self, walker):
-        """The tests of more than the next token, each with what is read only where it holds."""
-        found = {}
-        for limit in walker.limits:
-            if limit.form is None or self.is_given(limit):
-                continue
-            if limit.form and limit.form == limit.otherwise:
-                found.setdefault((limit.test, None), []).append(limit.form)
-            elif limit.form and not self.openings.says(limit.test, limit.form):
-                found.setdefault((limit.test, True), []).append(limit.form)
-            elif limit.form == () and limit.otherwise:
-                found.setdefault((limit.test, False), []).append(limit.otherwise)
-        return [self.limit(test, holds, forms) for (test, holds), forms in found.items()]
-
-    def is_given(self, limit):
-        """Whether a test finds the token that another rule is given."""
-        return self.words.is_next_token(limit.test) and any(
-            isinstance(it, Given) for part in limit.form[:1] if isinstance(part, Rule) for it in part.given)
-
-    def limit(self, test, holds, forms):
-        heads = list(dict.fromkeys(head for form in forms for head in self.heads(form)))
-        where = self.words.test(test)
-        if holds is None:
-            return f'before {listing(heads)} it counts whether {where}'
-        if len(heads) == 1 and holds:
-            where = '; or '.join(self.behind(it, heads[0]) for it in where.split('; or '))
-        return f'{listing(heads, "and")} {"only" if holds else "not"} where {where}'
-
-    def behind(self, text, head):
-        """A test of the next tokens as one of those behind the first."""
-        start = f'{head}, then '
-        return text.removeprefix(start).replace(' comes next', ' follows') if text.startswith(start) else text
-
-    def heads(self, form):
-        """What a form begins with."""
-        form = ungiven(shown(form))
-        first = form[0] if form else None
-        if isinstance(first, Node):
-            return self.heads(first.form + form[1:])
-        if isinstance(first, Either):
-            return [head for it in first.forms for head in self.heads(it)]
-        if isinstance(first, (Maybe, Many)):
-            return [*self.heads(first.form), *(self.heads(form[1:]) if len(form) > 1 else [])]
-        if isinstance(first, Listed):
-            return self.heads(first.form)
-        return [self.write.form(form[:1])] if form else []
+        return [*self.limits.of(walker), *self.powers(walker), *self.loose(walker)]
 
     def recovery(self, walker):
         """Which tokens other rules are told to leave where they are."""

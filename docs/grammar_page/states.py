@@ -28,11 +28,12 @@ class Exit:
 
 @dataclass(frozen=True)
 class Limit:
-    """A form that is read only where a test holds that asks for more than the kind of the next token, and the form
-    that is read elsewhere."""
+    """A form that is read where a test holds, the form that is read elsewhere, and which kinds the next token may
+    have."""
     test: object
     form: tuple
     otherwise: tuple
+    facts: frozenset
 
 
 @dataclass(frozen=True)
@@ -68,13 +69,13 @@ class Message:
     outcome: object = None
     goes_on: object = None
 
-    def follow(self, state, exits):
-        """Notes what follows the message."""
+    def follow(self, state, exits, is_last):
+        """Notes what follows the message; `is_last` says that the rule ends then."""
         if not exits:
             return
         self.after, self.closed = added(unmarked(state.form), unmarked(exits[0].state.form))
         if len({it.outcome for it in exits}) == 1:
-            self.outcome = exits[0].outcome
+            self.outcome = exits[0].outcome if is_last else None
         elif exits[0].state.tests and exits[0].outcome != NOTHING:
             self.goes_on = exits[0].state.tests[-1]
 

@@ -5,7 +5,7 @@ from dataclasses import dataclass, replace
 from grammar_page.forms import Mark, Maybe, Token, abandon, finish, form_width, is_absent, may_be_empty, since_start
 from grammar_page.loops import Loop
 from grammar_page.states import Call, Exit, Limit, Message, State, groups_of, read_by
-from grammar_page.tests import Last, Not, ReadsAs, There, behind, bounds, is_of_next_kind, no
+from grammar_page.tests import Last, Not, ReadsAs, There, behind, bounds, no
 from grammar_page.values import NOTHING, SOMETHING, UNKNOWN, Given, KindOf, Scope, Tokens, Undecided
 
 # The words of scripts that something follows, and how many arguments each has.
@@ -33,7 +33,7 @@ class Walker:
     def __init__(self, grammar, lazy):
         self.grammar, self.evaluator, self.kinds = grammar, grammar.evaluator, grammar.kinds
         self.lazy = lazy
-        self.label, self.begins = None, [()]
+        self.label, self.begins, self.depth = None, [()], 0
         self.messages, self.limits, self.loose, self.calls = [], [], [], []
 
     # -- scripts
@@ -89,13 +89,22 @@ class Walker:
             return self.unmade(state)
         if name in ('call', 'recur'):
             run = self.walk if name == 'call' else self.phrase
-            return [it for at in groups_of(run(arguments[0], scope, state)) for it in self.rest(rest, scope, at)]
+            states = groups_of(self.within(run, arguments[0], scope, state))
+            return [it for at in states for it in self.rest(rest, scope, at)]
         behind = getattr(self, f'step_{name}')(state, scope, *arguments)
         message = self.messages[-1] if name in ('report', 'skip') else None
         exits = self.rest(rest, scope, behind)
         if message:
-            message.follow(behind, exits)
+            message.follow(behind, exits, not self.depth)
         return exits
+
+    def within(self, run, *arguments):
+        """The exits of a script with which this one does not end."""
+        self.depth += 1
+        try:
+            return run(*arguments)
+        finally:
+            self.depth -= 1
 
     def rest(self, rest, scope, state):
         """The exits of the rest of a script. Where that is another rule, which is not there and returns nothing, what
@@ -253,7 +262,7 @@ class Walker:
         self.report(state, 'recover', self.evaluator.value(text, scope), self.kept(keeps))
         message = self.messages[-1]
         exits = self.walk(reported, scope, replace(state, fault=True))
-        message.follow(state, exits)
+        message.follow(state, exits, not self.depth)
         return exits + self.walk(skipped, scope, State(state.form, self.kinds.tokens, (), True))
 
     def kept(self, function):
@@ -268,10 +277,10 @@ class Walker:
         return self.walk(none if value == NOTHING else some, scope, state)
 
     def end_rule(self, scope, state, phrase, behind):
-        return self.behind(lambda it: it.phrase(phrase, scope, state), behind, scope, state)
+        return self.behind(lambda it: it.within(it.phrase, phrase, scope, state), behind, scope, state)
 
     def end_after(self, scope, state, rule, behind):
-        return self.behind(lambda it: it.walk(rule, scope, state), behind, scope, state)
+        return self.behind(lambda it: it.within(it.walk, rule, scope, state), behind, scope, state)
 
     def behind(self, run, function, scope, state):
         """The exits behind a rule whose outcome a function of it may ask for."""
@@ -373,8 +382,7 @@ class Walker:
         surely, maybe = bounds(test, self.kinds)
         there = yes(replace(state, facts=state.facts & maybe, tests=(*state.tests, test)))
         elsewhere = otherwise(replace(state, facts=state.facts - surely, tests=(*state.tests, no(test))))
-        if not is_of_next_kind(test, self.kinds):
-            self.limits.append(Limit(test, read_by(state, there), read_by(state, elsewhere)))
+        self.limits.append(Limit(test, read_by(state, there), read_by(state, elsewhere), state.facts))
         return there + elsewhere
 
     # -- other rules

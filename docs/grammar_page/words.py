@@ -88,6 +88,7 @@ class Words:
         others = frozenset().union(*absent)
         if here is None:
             return self.none_of(others), behind
+        here -= others
         others = {it for it in others if it in self.kinds.parts and self.kinds.parts[it][0] in here}
         begins = f' that does not begin {self.of(frozenset(others))}' if others else ''
         return self.of(here) + begins, behind
