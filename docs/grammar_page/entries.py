@@ -43,7 +43,7 @@ class Entry:
 def entries_of(grammar):
     """The entries of all rules that are called, by module and name."""
     entries = {}
-    for key in grammar.facts:
+    for key in sorted(grammar.facts, key=grammar.order_of):
         instance = instance_of(grammar, key)
         entry = entries.setdefault(key[:2], Entry(*key[:2]))
         same = next((it for it in entry.groups if it[0].bare == instance.bare), None)

@@ -32,7 +32,7 @@ class Grammar:
         self.library = Library(f'{crates}/rap_grammar_scripts/specs')
         self.evaluator = Evaluator(self.library, self.kinds)
         self.names = names
-        self.entries, self.turns = {}, self.find_turns()
+        self.entries, self.turns, self.cases = {}, self.find_turns(), self.find_cases()
         # Of each rule with its arguments: the kinds that the next token may have, the kinds that it is given, its
         # other names, and its outcomes; and of a rule with any arguments: the kinds that the next token may have.
         self.facts, self.kinds_given, self.labels, self.outcomes, self.firsts = {}, {}, {}, {}, {}
@@ -159,6 +159,25 @@ class Grammar:
             if not kinds <= known:
                 self.kinds_given[key, at] = known | kinds
                 self.waiting[key, None] = None
+                self.waiting.update((it, None) for it in self.summaries if it[0] == key)
+
+    def order_of(self, key):
+        """Where a rule with its arguments stands among the same with others: the cases of an enumeration are in the
+        order in which clauses have them, and what holds stands before what does not, but in a record."""
+        order = []
+        for value in key[2]:
+            if isinstance(value, Fields):
+                order += [holds for _, holds in value.fields]
+            else:
+                order.append(self.cases.get(value.name, 0) if isinstance(value, Case) else value is not True)
+        return (*key[:2], *map(int, order))
+
+    def find_cases(self):
+        """The cases of enumerations, in the order in which clauses have them."""
+        definitions = [it for module in self.library.modules.values() for it in module.definitions.values()]
+        patterns = [it for definition in definitions for row, _ in self.library.clauses_of(definition) for it in row]
+        names = [it[1].partition('.')[2] for it in patterns if it[0] == 'name']
+        return {name: at for at, name in enumerate(dict.fromkeys(it for it in names if it))}
 
     def is_kind(self, value):
         return isinstance(value, str) and (value in self.kinds.tokens or value in self.kinds.nodes)
