@@ -30,7 +30,7 @@ pub record IsParsed (text : List ℕ) (edition : Edition) (entry : TopEntryPoint
   pub str_one : str_one_tree (with_trivia lexed.tokens forest) ≡ true
 
 -- The sink has taken the steps of that tree, one after another; its token texts joined are the text, byte for byte;
--- and the answer says so.
+-- and the result says so.
 pub record Headline {S : Type 0} (takes : S → StrStepValue → S → Type 0) (text : List ℕ) (edition : Edition) (entry : TopEntryPoint) (lexed : Lexed) (answer : Bool) (before after : S) : Type 0 where
   pub forest : Forest
   pub parsed : IsParsed text edition entry lexed forest

@@ -15,6 +15,6 @@ number_of NoMemory = 7
 number_of NoNode = 8
 number_of NoBrace = 9
 
--- a fault's answer
+-- the result at a fault
 abbrev pub refusal : Fault → RapAnswer
 refusal fault = record { status = number_of fault; steps = 0; message_bytes = 0; used = 0 }

@@ -15,8 +15,8 @@ use crate::step::RapStep;
 use ra_ap_parser::{Edition, LexedStr, Output, ParseFault, PrefixEntryPoint, is_one_tree};
 use std::alloc::Global;
 
-/// Fills the room with the steps of the tree that the output is, trivia put back, or with the output's own steps where it
-/// is no tree.
+/// Fills the room with the steps of the tree that the output is, trivia put back, or with the output's own steps where
+/// it is no tree.
 pub fn fill_output(
     lexed: &LexedStr<'_>,
     output: &Output,
@@ -80,9 +80,10 @@ fn prefix(
     fill_prefix(alloc, edition, entry, text, steps, messages)
 }
 
-/// Reads what the prefix entry with the number names from the front of the text, and fills the slices with the steps of its
-/// tree, trivia put back, and with the bytes of its messages. Where it is not one tree the status is 1, and the steps are
-/// those of the output, which count tokens. The answer says how many of each there are, and where what was read ends.
+/// Reads what the prefix entry with the number names from the front of the text, and fills the slices with the steps of
+/// its tree, trivia put back, and with the bytes of its messages. Where it is not one tree the status is 1, and the
+/// steps are those of the output, which count tokens. The result says how many of each there are, and where what was
+/// read ends.
 #[unsafe(no_mangle)]
 pub extern "C" fn rap_prefix(
     alloc: Global,

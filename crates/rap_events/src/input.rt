@@ -41,7 +41,7 @@ impl Input {
     ghost use Rattle.rap_events.specs.Record.{kind_at, contextual_at, edition_at, joint_at, with_last_joint, IsTokenRecord};
 
     /// No tokens yet, with room for `capacity` of them if memory allows. A capacity that no list can have counts as
-    /// want of memory.
+    /// out of memory.
     pub fn with_capacity(alloc: Global, capacity: usize) -> Result<Input, NoMemory>
         ensures { IfOk result (λ input. input ≡ []) }
     {
@@ -59,8 +59,8 @@ impl Input {
         self.push_joint(kind, edition, false)
     }
 
-    /// The same, of a token that touches the next one or not. It saves [`Input::was_joint`] a branch that processors often
-    /// guess wrong.
+    /// The same, of a token that touches the next one or not. It saves [`Input::was_joint`] a branch that processors
+    /// often guess wrong.
     pub fn push_joint(
         &mut self,
         kind: SyntaxKind,

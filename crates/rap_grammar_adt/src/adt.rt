@@ -514,7 +514,7 @@ impl Element for TupleField {
     }
 }
 
-/// A field without a name from what says who may change it on. Answers whether there is one.
+/// A field without a name from what says who may change it on. Returns whether there is one.
 fn restricted_tuple_field<G: Grammar>(
     p: &mut Parser<'_>,
     g: &G,
@@ -533,7 +533,7 @@ fn restricted_tuple_field<G: Grammar>(
 }
 
 /// A field without a name from its type on. Where no type begins, that is reported, and a visibility before it becomes
-/// an `ERROR`. Answers whether there is one.
+/// an `ERROR`. Returns whether there is one.
 fn typed_field<G: Grammar>(
     p: &mut Parser<'_>,
     g: &G,

@@ -66,7 +66,7 @@ fn asm_pieces<G: Grammar>(p: &mut Parser<'_>, g: &G) -> Result<(), NoMemory>
     Ok(())
 }
 
-/// What stands behind a comma. Answers whether templates may follow, or nothing where the list ends.
+/// What stands behind a comma. Returns whether templates may follow, or `None` where the list ends.
 fn asm_piece<G: Grammar>(
     p: &mut Parser<'_>,
     g: &G,
@@ -176,7 +176,7 @@ fn asm_template<G: Grammar>(p: &mut Parser<'_>, g: &G) -> Result<(), NoMemory>
     Ok(())
 }
 
-/// An expression. Answers whether there was one; where there was none, tokens that end the search for one are left.
+/// An expression. Returns whether there was one; where there was none, tokens that end the search for one are left.
 fn some_expr<G: Grammar>(p: &mut Parser<'_>, g: &G) -> Result<bool, NoMemory>
     requires behind { Behind G.valid G.left g.now (state p.old) }
     ensures grew { OnOk result (Grew (state p.old) (state p.new) 8) }
@@ -194,7 +194,7 @@ fn some_expr<G: Grammar>(p: &mut Parser<'_>, g: &G) -> Result<bool, NoMemory>
     }
 }
 
-/// An operand's name and its `=`, as `x =`, if they come next. Answers whether they do.
+/// An operand's name and its `=`, as `x =`, if they come next. Returns whether they do.
 fn operand_name(p: &mut Parser<'_>) -> Result<bool, NoMemory>
     ensures grew { OnOk result (Grew (state p.old) (state p.new) 0) }
     ensures took { IfOk result (λ found. found ≡ true → Took (state p.old) (state p.new) name_room) }
@@ -218,7 +218,7 @@ fn starts_operand_name(p: &Parser<'_>) -> bool
     p.current().is_any_identifier() && p.nth_at(1, T![=])
 }
 
-/// An operand without its name, as `in(reg) x`, if one comes next. Answers whether one does.
+/// An operand without its name, as `in(reg) x`, if one comes next. Returns whether one does.
 fn asm_operand<G: Grammar>(p: &mut Parser<'_>, g: &G) -> Result<bool, NoMemory>
     requires behind { Behind G.valid G.left g.now (state p.old) }
     ensures took { IfOk result (λ found. found ≡ true → Took (state p.old) (state p.new) operand_room) }
@@ -251,7 +251,7 @@ fn asm_operand<G: Grammar>(p: &mut Parser<'_>, g: &G) -> Result<bool, NoMemory>
     Ok(false)
 }
 
-/// Which way a register's value goes, as `in` and `inout`. Answers whether it goes both ways, or nothing where no such
+/// Which way a register's value goes, as `in` and `inout`. Returns whether it goes both ways, or `None` where no such
 /// word comes next.
 fn dir_spec(p: &mut Parser<'_>) -> Result<Option<bool>, NoMemory>
     ensures took { IfOk result (λ o. IfSome o (λ both. Took (state p.old) (state p.new) name_room)) }
@@ -421,7 +421,7 @@ fn asm_options(p: &mut Parser<'_>) -> Result<(), NoMemory>
     Ok(())
 }
 
-/// An option: what the assembly does to memory. Answers whether one comes next.
+/// An option: what the assembly does to memory. Returns whether one comes next.
 fn option_name(p: &mut Parser<'_>) -> Result<bool, NoMemory>
     ensures took { IfOk result (λ found. found ≡ true → Took (state p.old) (state p.new) name_room) }
     ensures stays { IfOk result (λ found. found ≡ false → state p.new ≡ state p.old) }
@@ -443,7 +443,7 @@ fn option_name(p: &mut Parser<'_>) -> Result<bool, NoMemory>
     Ok(found)
 }
 
-/// An option: where the assembly goes on, and how it is written. Answers whether one comes next.
+/// An option: where the assembly goes on, and how it is written. Returns whether one comes next.
 fn flow_option(p: &mut Parser<'_>) -> Result<bool, NoMemory>
     ensures took { IfOk result (λ found. found ≡ true → Took (state p.old) (state p.new) name_room) }
     ensures stays { IfOk result (λ found. found ≡ false → state p.new ≡ state p.old) }

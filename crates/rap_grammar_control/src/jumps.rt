@@ -122,7 +122,7 @@ pub fn yeet_expr<G: Grammar>(p: &mut Parser<'_>, g: &G) -> Result<CompletedMarke
     Ok(cm)
 }
 
-/// The next turn of a loop, as `continue` and `continue 'a`.
+/// A jump to the next turn of a loop, as `continue` and `continue 'a`.
 #[inline(never)]
 pub fn continue_expr(p: &mut Parser<'_>) -> Result<CompletedMarker, NoMemory>
     requires here { next (state p.old) ≡ CONTINUE_KW }

@@ -88,7 +88,8 @@ fn expr_from<G: Grammar>(
     Ok(Some((cm, BlockLike::NotBlock)))
 }
 
-/// An expression is missing: the marker goes. It keeps the table of the set off the stack of those that go deeper.
+/// An expression is missing: the marker goes. It is a function of its own so that the set takes no room on the stack of
+/// the rules that nest.
 #[inline(never)]
 fn missing_expr(p: &mut Parser<'_>, m: Marker) -> Result<(), NoMemory>
     requires newest { (state p.old).marker ≡ Some m.pos.value }

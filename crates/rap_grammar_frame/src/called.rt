@@ -24,7 +24,7 @@ use rap_events::parser::{CompletedMarker, Parser};
 use rap_grammar_scripts::T;
 use rap_grammar_scripts::arguments::Restrictions;
 
-/// What a function gives back, as `-> a`, if it says so. Answers whether it does.
+/// What a function gives back, as `-> a`, if it says so. Returns whether it does.
 pub fn opt_ret_type<G: Grammar>(p: &mut Parser<'_>, g: &G) -> Result<bool, NoMemory>
     requires within { Within G.valid G.left g.now (state p.old) }
     ensures grew { OnOk result (Grew (state p.old) (state p.new) 0) }

@@ -260,7 +260,8 @@ fn segment_name<G: Grammar>(
     Ok(Some(segment))
 }
 
-/// A segment's name is missing. It keeps the table of the set off the stack of those that go deeper.
+/// A segment's name is missing. It is a function of its own so that the set takes no room on the stack of the rules
+/// that nest.
 #[inline(never)]
 fn missing_segment_name(
     p: &mut Parser<'_>,

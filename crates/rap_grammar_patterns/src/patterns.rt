@@ -551,7 +551,7 @@ fn tuple_pat<G: Grammar>(p: &mut Parser<'_>, g: &G) -> Result<CompletedMarker, N
     Ok(cm)
 }
 
-/// A comma before the first pattern, as in `(, a)`, which is reported. Answers whether there is one.
+/// A comma before the first pattern, as in `(, a)`, which is reported. Returns whether there is one.
 fn leading_comma(p: &mut Parser<'_>) -> Result<bool, NoMemory>
     ensures grew { OnOk result (Grew (state p.old) (state p.new) 0) }
     ensures script { IfOk result (λ comma. Follows script.leading_comma (of_bool comma) (state p.old) (state p.new)) }
@@ -563,7 +563,7 @@ fn leading_comma(p: &mut Parser<'_>) -> Result<bool, NoMemory>
     Ok(false)
 }
 
-/// What stands in parentheses. Answers whether it is one pattern, no comma and no `..`.
+/// What stands in parentheses. Returns whether it is one pattern, no comma and no `..`.
 fn tuple_patterns<G: Grammar>(
     p: &mut Parser<'_>,
     g: &G,

@@ -273,7 +273,8 @@ fn negative_const(p: &mut Parser<'_>) -> Result<(), NoMemory>
     Ok(())
 }
 
-/// A constant is missing. It keeps the table of the set off the stack of those that go deeper.
+/// A constant is missing. It is a function of its own so that the set takes no room on the stack of the rules that
+/// nest.
 #[inline(never)]
 fn missing_const(p: &mut Parser<'_>) -> Result<(), NoMemory>
     ensures grew { OnOk result (Grew (state p.old) (state p.new) 3) }

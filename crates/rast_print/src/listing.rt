@@ -30,7 +30,7 @@ pub enum ListFault {
     TooManyTokens,
     /// The node is to begin with a `{`, and the text does not.
     NoBrace,
-    /// A growth was refused for want of memory.
+    /// Out of memory: a growth was refused.
     NoMemory,
 }
 
