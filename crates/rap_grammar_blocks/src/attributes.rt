@@ -147,7 +147,7 @@ pub fn meta<G: Grammar>(p: &mut Parser<'_>, g: &G) -> Result<(), NoMemory>
     Ok(())
 }
 
-/// An attribute that promises what no check sees, as `unsafe(a)`.
+/// An unsafe attribute, as `unsafe(a)`.
 fn unsafe_meta<G: Grammar>(p: &mut Parser<'_>, g: &G) -> Result<(), NoMemory>
     requires within { Within G.valid G.left g.now (state p.old) }
     requires here { At (state p.old) UNSAFE_KW }

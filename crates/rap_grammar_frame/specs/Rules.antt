@@ -1,4 +1,4 @@
--- What the rules that are come back to ask and give.
+-- What the recursive rules require and ensure.
 -- (What calls promise one another; no promise of the library rests on it.)
 use Rattle.std.specs.Prelude.{◌≡◌, ℕ, ◌≤◌, ◌<◌, ◌≢◌, Option, Some, None, is_some, Bool, true, false}
 use Rattle.rap_base.specs.TokenKind.{EOF, L_ANGLE, R_CURLY, IF_KW, WHERE_KW}
@@ -106,7 +106,7 @@ pub record IsItem (stop_on_r_curly : Bool) (old new : State) : Type 0 where
   pub grew : Grew old new 8
   pub took : next old ≢ EOF → (stop_on_r_curly ≡ true → next old ≢ R_CURLY) → Took old new statement_room
 
--- what each rule asks
+-- what each rule requires
 abbrev pub Pre : Rule → State → Type 0
 Pre (rule.Expr m r bp) s = IsNewest s m × (1 ≤ bp)
 Pre (rule.Ty allow_bounds) s = Unit {0}
@@ -126,7 +126,7 @@ Pre rule.UseTree s = starts_use_tree s.rest ≡ true
 Pre rule.Meta s = Unit {0}
 Pre rule.CfgPredicate s = Unit {0}
 
--- what each rule gives
+-- what each rule ensures
 abbrev pub Post : Rule → State → State → Option (CompletedMarker × BlockLike) → Type 0
 Post (rule.Expr m r bp) old new e = Answered old new m r.prefer_stmt bp e × Follows (expr_bp (is_some m) r bp) (of_expr e) old new
 Post (rule.Ty allow_bounds) old new e = IsType old new × Follows (type_with_bounds_cond allow_bounds) something old new

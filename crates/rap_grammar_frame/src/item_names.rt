@@ -50,7 +50,7 @@ pub fn fn_name(p: &mut Parser<'_>) -> Result<(), NoMemory>
     Ok(())
 }
 
-/// Where the search for a function's name ends.
+/// The recovery set of a function's name.
 fn item_paren_recovery_set() -> TokenSet
     ensures { (kind : ℕ) → member result kind ≡ is_item_paren_recovery kind }
 {

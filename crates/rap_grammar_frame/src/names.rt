@@ -90,7 +90,7 @@ pub fn lifetime(p: &mut Parser<'_>) -> Result<(), NoMemory>
     Ok(())
 }
 
-/// A name that is there, as the `a` of `let a`.
+/// A declared name, as the `a` of `let a`.
 pub fn given_name(p: &mut Parser<'_>) -> Result<(), NoMemory>
     requires here { next (state p.old) ≡ IDENT }
     ensures took { OnOk result (Took (state p.old) (state p.new) name_room) }
@@ -102,8 +102,8 @@ pub fn given_name(p: &mut Parser<'_>) -> Result<(), NoMemory>
     Ok(())
 }
 
-/// A name that is given, as the `a` of `let a`. Where it is missing, the next token is taken along, unless it is a brace
-/// or in the set.
+/// A name that is given, as the `a` of `let a`. Where it is missing, the next token is taken along, unless it is a
+/// brace or in the set.
 pub fn name_r(p: &mut Parser<'_>, recovery: TokenSet) -> Result<(), NoMemory>
     ensures grew { OnOk result (Grew (state p.old) (state p.new) 3) }
     ensures took { OnOk result (next (state p.old) ≡ IDENT → Took (state p.old) (state p.new) name_room) }

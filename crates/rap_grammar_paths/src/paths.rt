@@ -286,7 +286,7 @@ fn missing_segment_name(
     Ok(Some(segment))
 }
 
-/// What ends the search for a segment's name.
+/// The recovery set of a segment's name.
 fn segment_recovery_set(mode: Mode) -> TokenSet
     ensures { (kind : ℕ) → member result kind ≡ is_segment_recovery mode kind }
 {
@@ -371,7 +371,7 @@ fn path_type_args<G: Grammar>(p: &mut Parser<'_>, g: &G, m: Marker) -> Result<()
     Ok(())
 }
 
-/// Two dots in parentheses, for whatever a function gives back, as `(..)` after `a::b`. The marker is open.
+/// Two dots in parentheses, for any return type, as `(..)` after `a::b`. The marker is open.
 fn return_type_syntax(p: &mut Parser<'_>, m: Marker) -> Result<(), NoMemory>
     requires newest { (state p.old).marker ≡ Some m.pos.value }
     requires here { next (state p.old) ≡ L_PAREN }
@@ -386,7 +386,7 @@ fn return_type_syntax(p: &mut Parser<'_>, m: Marker) -> Result<(), NoMemory>
     Ok(())
 }
 
-/// The types that a function takes and the one that it gives back, as `(a, b) -> c` after `Fn`. The marker is open.
+/// The types of a function's parameters and its return type, as `(a, b) -> c` after `Fn`. The marker is open.
 fn parenthesized_args<G: Grammar>(p: &mut Parser<'_>, g: &G, m: Marker) -> Result<(), NoMemory>
     requires within { Within G.valid G.left g.now (state p.old) }
     requires newest { (state p.old).marker ≡ Some m.pos.value }
@@ -400,7 +400,7 @@ fn parenthesized_args<G: Grammar>(p: &mut Parser<'_>, g: &G, m: Marker) -> Resul
     Ok(())
 }
 
-/// A type among those that a function takes, as `a` in `Fn(a)`.
+/// The type of a function's parameter, as `a` in `Fn(a)`.
 struct TypeArg;
 
 impl Element for TypeArg {

@@ -1,4 +1,4 @@
-//! Who may use an item or a field.
+//! Visibilities of items and fields.
 //! In the Rust crate: `grammar.rs`.
 ghost use Rattle.std.specs.Prelude.{◌≡◌, ◌≢◌, ◌<◌, ◌≤◌, IfOk, OnOk, true, false, ◌⊎◌};
 ghost use Rattle.rap_base.specs.TokenKind.{PUB_KW, L_PAREN, IN_KW};

@@ -146,7 +146,7 @@ fn assoc_value<G: Grammar>(p: &mut Parser<'_>, g: &G) -> Result<(), NoMemory>
     Ok(())
 }
 
-/// What ends the search for an argument.
+/// The recovery set of arguments.
 fn is_generic_arg_recovery(kind: SyntaxKind) -> bool
     ensures { result ≡ is_generic_arg_recovery kind }
 {

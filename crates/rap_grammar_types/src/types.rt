@@ -169,7 +169,7 @@ fn tuple_types<G: Grammar>(p: &mut Parser<'_>, g: &G) -> Result<bool, NoMemory>
     Ok(false)
 }
 
-/// The type of what never comes, `!`.
+/// The never type, `!`.
 #[inline(never)]
 fn never_type(p: &mut Parser<'_>) -> Result<(), NoMemory>
     requires here { next (state p.old) ≡ BANG }
@@ -273,7 +273,7 @@ fn ref_type<G: Grammar>(p: &mut Parser<'_>, g: &G) -> Result<(), NoMemory>
     Ok(())
 }
 
-/// A type that is found by itself, `_`.
+/// The inferred type, `_`.
 #[inline(never)]
 fn infer_type(p: &mut Parser<'_>) -> Result<(), NoMemory>
     requires here { next (state p.old) ≡ UNDERSCORE }
