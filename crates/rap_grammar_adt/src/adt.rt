@@ -382,7 +382,7 @@ fn visible_field<G: Grammar>(p: &mut Parser<'_>, g: &G, m: Marker) -> Result<(),
     Ok(())
 }
 
-/// A field from what says who may change it on. That may stand before `unsafe` and behind it.
+/// A field from its `mut` restriction on, which may stand before `unsafe` and behind it.
 fn restricted_field<G: Grammar>(p: &mut Parser<'_>, g: &G, m: Marker) -> Result<(), NoMemory>
     requires behind { Behind G.valid G.left g.now (state p.old) }
     requires newest { (state p.old).marker ≡ Some m.pos.value }
@@ -417,7 +417,7 @@ fn named_field<G: Grammar>(p: &mut Parser<'_>, g: &G, m: Marker) -> Result<(), N
     Ok(())
 }
 
-/// An `unsafe` before a field, and who may change it, if it is there.
+/// The `unsafe` and the `mut` restriction before a field, if they are there.
 fn opt_unsafe<G: Grammar>(p: &mut Parser<'_>, g: &G) -> Result<(), NoMemory>
     requires within { Within G.valid G.left g.now (state p.old) }
     ensures grew { OnOk result (Grew (state p.old) (state p.new) 0) }
@@ -432,7 +432,7 @@ fn opt_unsafe<G: Grammar>(p: &mut Parser<'_>, g: &G) -> Result<(), NoMemory>
     Ok(())
 }
 
-/// Whether it is said who may change a field.
+/// Whether a `mut` restriction comes next.
 fn is_mut_restriction_start(p: &Parser<'_>) -> bool
     ensures starts { result ≡ starts_mut_restriction (state p.now).rest }
     ensures here { result ≡ true → next (state p.now) ≡ MUT_KW }
@@ -440,7 +440,7 @@ fn is_mut_restriction_start(p: &Parser<'_>) -> bool
     p.at(T![mut]) && p.nth(1) == T!['(']
 }
 
-/// Who may change a field, as `mut(crate)`, if it is said.
+/// The `mut` restriction of a field, as `mut(crate)`, if there is one.
 fn opt_mut_restriction<G: Grammar>(p: &mut Parser<'_>, g: &G) -> Result<(), NoMemory>
     requires within { Within G.valid G.left g.now (state p.old) }
     ensures grew { OnOk result (Grew (state p.old) (state p.new) 0) }
@@ -454,7 +454,7 @@ fn opt_mut_restriction<G: Grammar>(p: &mut Parser<'_>, g: &G) -> Result<(), NoMe
     Ok(())
 }
 
-/// Who may change a field.
+/// The `mut` restriction of a field.
 fn mut_restriction<G: Grammar>(p: &mut Parser<'_>, g: &G) -> Result<(), NoMemory>
     requires within { Within G.valid G.left g.now (state p.old) }
     requires here { next (state p.old) ≡ MUT_KW }
@@ -514,7 +514,7 @@ impl Element for TupleField {
     }
 }
 
-/// A field without a name from what says who may change it on. Returns whether there is one.
+/// A field without a name from its `mut` restriction on. Returns whether there is one.
 fn restricted_tuple_field<G: Grammar>(
     p: &mut Parser<'_>,
     g: &G,

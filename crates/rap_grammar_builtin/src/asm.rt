@@ -93,7 +93,7 @@ fn asm_piece<G: Grammar>(
     Ok(allow)
 }
 
-/// An operand with its name, as `x = inout(reg) x`, or what stands in its place, from its marker on. Answers as
+/// An operand with its name, as `x = inout(reg) x`, or what stands in its place, from its marker on. Returns what
 /// `asm_piece` does.
 fn named_operand<G: Grammar>(
     p: &mut Parser<'_>,
@@ -124,7 +124,7 @@ fn templates_after(allow_templates: bool, is_named: bool) -> bool
     if is_named { false } else { allow_templates }
 }
 
-/// What stands where no operand does: a template, where one may still follow. Answers as `asm_piece` does.
+/// What stands where no operand does: a template, where one may still follow. Returns what `asm_piece` does.
 fn no_operand<G: Grammar>(
     p: &mut Parser<'_>,
     g: &G,
@@ -162,7 +162,7 @@ fn missing_operand<G: Grammar>(p: &mut Parser<'_>, g: &G) -> Result<(), NoMemory
     Ok(())
 }
 
-/// A line of the assembly. What is none is passed over.
+/// A line of the assembly. Anything else is skipped.
 fn asm_template<G: Grammar>(p: &mut Parser<'_>, g: &G) -> Result<(), NoMemory>
     requires behind { Behind G.valid G.left g.now (state p.old) }
     ensures grew { OnOk result (Grew (state p.old) (state p.new) 11) }
@@ -251,8 +251,8 @@ fn asm_operand<G: Grammar>(p: &mut Parser<'_>, g: &G) -> Result<bool, NoMemory>
     Ok(false)
 }
 
-/// Which way a register's value goes, as `in` and `inout`. Returns whether it goes both ways, or `None` where no such
-/// word comes next.
+/// The direction of a register operand, as `in` and `inout`. Returns whether it is both in and out, or `None` where no
+/// such word comes next.
 fn dir_spec(p: &mut Parser<'_>) -> Result<Option<bool>, NoMemory>
     ensures took { IfOk result (λ o. IfSome o (λ both. Took (state p.old) (state p.new) name_room)) }
     ensures grew { IfOk result (λ o. o ≡ None → Grew (state p.old) (state p.new) 2) }
@@ -284,8 +284,8 @@ fn dir_spec(p: &mut Parser<'_>) -> Result<Option<bool>, NoMemory>
     Ok(None)
 }
 
-/// A register and what is in it, as `(reg) x`. Where the value goes both ways, another place may be named for the way
-/// out, as in `(reg) x => y`.
+/// A register operand behind its direction, as `(reg) x`. If it is in and out, another place may follow for the output,
+/// as in `(reg) x => y`.
 fn reg_operand<G: Grammar>(p: &mut Parser<'_>, g: &G, goes_both_ways: bool) -> Result<(), NoMemory>
     requires behind { Behind G.valid G.left g.now (state p.old) }
     ensures grew { OnOk result (Grew (state p.old) (state p.new) 15) }
@@ -307,7 +307,7 @@ fn reg_operand<G: Grammar>(p: &mut Parser<'_>, g: &G, goes_both_ways: bool) -> R
     Ok(())
 }
 
-/// A path to what the assembly names, as `a::b` and `(a::b)`.
+/// A `sym` operand's path, as `a::b` and `(a::b)`.
 fn asm_sym<G: Grammar>(p: &mut Parser<'_>, g: &G) -> Result<(), NoMemory>
     requires behind { Behind G.valid G.left g.now (state p.old) }
     ensures grew { OnOk result (Grew (state p.old) (state p.new) 8) }
@@ -323,7 +323,7 @@ fn asm_sym<G: Grammar>(p: &mut Parser<'_>, g: &G) -> Result<(), NoMemory>
     Ok(())
 }
 
-/// Where an operand lies, as `(reg)` and `("eax")`.
+/// The register of an operand, as `(reg)` and `("eax")`.
 fn parse_reg(p: &mut Parser<'_>) -> Result<(), NoMemory>
     ensures grew { OnOk result (Grew (state p.old) (state p.new) 5) }
     ensures script { OnOk result (Follows script.parse_reg something (state p.old) (state p.new)) }
@@ -355,7 +355,7 @@ fn reg_spec(p: &mut Parser<'_>) -> Result<(), NoMemory>
     Ok(())
 }
 
-/// The ABIs whose registers are lost, as `("C", "system")`.
+/// The clobbered ABIs, as `("C", "system")`.
 fn parse_clobber_abi(p: &mut Parser<'_>) -> Result<(), NoMemory>
     ensures grew { OnOk result (Grew (state p.old) (state p.new) 2) }
     ensures script { OnOk result (Follows script.parse_clobber_abi something (state p.old) (state p.new)) }
@@ -386,7 +386,7 @@ fn clobber_abis(p: &mut Parser<'_>) -> Result<(), NoMemory>
     Ok(())
 }
 
-/// What is promised of the assembly, as `(nomem, nostack)`.
+/// The options of the assembly, as `(nomem, nostack)`.
 fn parse_options(p: &mut Parser<'_>) -> Result<(), NoMemory>
     ensures grew { OnOk result (Grew (state p.old) (state p.new) 1) }
     ensures script { OnOk result (Follows script.parse_options something (state p.old) (state p.new)) }
@@ -396,7 +396,7 @@ fn parse_options(p: &mut Parser<'_>) -> Result<(), NoMemory>
     Ok(())
 }
 
-/// Options, and the bracket that closes. What is none is passed over.
+/// Options, and the bracket that closes. Anything else is skipped.
 fn asm_options(p: &mut Parser<'_>) -> Result<(), NoMemory>
     ensures grew { OnOk result (Grew (state p.old) (state p.new) 0) }
     ensures script { OnOk result (Follows script.asm_options something (state p.old) (state p.new)) }

@@ -38,7 +38,7 @@ pub fn fn_<G: Grammar>(p: &mut Parser<'_>, g: &G, m: Marker) -> Result<(), NoMem
     Ok(())
 }
 
-/// What a function takes and gives back, and its `where`, as `(a: b) -> c where d: E`.
+/// The parameters of a function, its return type and its `where`, as `(a: b) -> c where d: E`.
 fn signature<G: Grammar>(p: &mut Parser<'_>, g: &G) -> Result<(), NoMemory>
     requires behind { Behind G.valid G.left g.now (state p.old) }
     ensures grew { OnOk result (Grew (state p.old) (state p.new) 1) }
@@ -65,7 +65,7 @@ fn fn_params<G: Grammar>(p: &mut Parser<'_>, g: &G) -> Result<(), NoMemory>
     Ok(())
 }
 
-/// What a function gives back, as `-> a`, and also without the arrow.
+/// The return type of a function, as `-> a`, and also without the arrow.
 fn fn_ret_type<G: Grammar>(p: &mut Parser<'_>, g: &G) -> Result<(), NoMemory>
     requires behind { Behind G.valid G.left g.now (state p.old) }
     ensures grew { OnOk result (Grew (state p.old) (state p.new) 0) }

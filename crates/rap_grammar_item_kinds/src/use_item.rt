@@ -197,8 +197,8 @@ impl Element for NestedUseTree {
     }
 }
 
-/// Whether the list of trees goes on where a tree is missing. It keeps the table of the set off the stack of those that go
-/// deeper.
+/// Whether the list of trees goes on where a tree is missing. It is a function of its own so that the set takes no room
+/// on the stack of the rules that nest.
 #[inline(never)]
 fn use_tree_list_goes_on(p: &Parser<'_>) -> bool
     ensures here { result ≡ script.is_use_tree_list_recovery (next (state p.now)) }

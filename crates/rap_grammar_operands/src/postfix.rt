@@ -84,8 +84,8 @@ fn postfix_dot_expr<G: Grammar>(
 
 /// What follows a dot, and whether more may follow that: a range behind the dot of a float ends all postfixes.
 ///
-/// A float is one field, as `0.` in `a.0. b`, or two, as `0.1` in `a.0.1`. Its own dot may end it, and is then followed as
-/// any other.
+/// A float is one field, as `0.` in `a.0. b`, or two, as `0.1` in `a.0.1`. Its own dot may end it, and is then followed
+/// as any other.
 fn after_dot<G: Grammar>(
     p: &mut Parser<'_>,
     g: &G,
@@ -225,7 +225,7 @@ fn method_arguments<G: Grammar>(
     Ok(cm)
 }
 
-/// The wait for a future behind the dot, `await` after `a.`.
+/// An `await` behind the dot, as `await` after `a.`.
 fn await_expr(p: &mut Parser<'_>, m: Marker) -> Result<CompletedMarker, NoMemory>
     requires newest { (state p.old).marker ≡ Some m.pos.value }
     requires here { next (state p.old) ≡ AWAIT_KW }

@@ -37,7 +37,7 @@ fn is_range_pat_end_first(kind: SyntaxKind) -> bool
     is_literal_first(kind) || is_path_first(kind) || matches!(kind, T![-] | T![const])
 }
 
-/// What ends the search for a pattern.
+/// The recovery set of patterns.
 fn pat_recovery_set() -> TokenSet
     ensures { (kind : ℕ) → member result kind ≡ is_pattern_recovery kind }
 {
@@ -56,7 +56,7 @@ fn pat_recovery_set() -> TokenSet
     ])
 }
 
-/// What ends the search for a pattern, in an arm of a `match` or elsewhere.
+/// The recovery set of patterns, in an arm of a `match` or elsewhere.
 fn recovery_set(in_arm: bool) -> TokenSet
     ensures { (kind : ℕ) → member result kind ≡ ends_search in_arm kind }
 {
@@ -291,7 +291,7 @@ fn missing_pat(p: &mut Parser<'_>, in_arm: bool) -> Result<(), NoMemory>
     Ok(())
 }
 
-/// What the compiler alone reads, as `builtin#deref(a)` and `builtin#cfg(unix)`. An unknown name is not taken.
+/// A pattern behind `builtin#`, as `builtin#deref(a)` and `builtin#cfg(unix)`. An unknown name is not taken.
 fn builtin_pat<G: Grammar>(p: &mut Parser<'_>, g: &G) -> Result<Option<CompletedMarker>, NoMemory>
     requires within { Within G.valid G.left g.now (state p.old) }
     requires here { ReadsAs (state p.old) BUILTIN_KW }
@@ -488,7 +488,7 @@ fn record_pat_element<G: Grammar>(p: &mut Parser<'_>, g: &G) -> Result<(), NoMem
     Ok(())
 }
 
-/// Anything, as `_`.
+/// The wildcard, `_`.
 fn wildcard_pat(p: &mut Parser<'_>) -> Result<CompletedMarker, NoMemory>
     requires here { next (state p.old) ≡ UNDERSCORE }
     ensures made { IfOk result (Makes WILDCARD_PAT atom_pattern_room (state p.old) (state p.new)) }
@@ -632,7 +632,7 @@ fn pat_list<G: Grammar>(p: &mut Parser<'_>, g: &G, ket: SyntaxKind) -> Result<()
     Ok(())
 }
 
-/// A name that is bound, as `a`, `ref mut a` and, where `with_at`, `a @ 1`.
+/// An identifier pattern, as `a`, `ref mut a` and, where `with_at`, `a @ 1`.
 fn ident_pat<G: Grammar>(
     p: &mut Parser<'_>,
     g: &G,
@@ -667,7 +667,7 @@ fn binding(p: &mut Parser<'_>) -> Result<(), NoMemory>
     Ok(())
 }
 
-/// The pattern behind a name, as the `@ 1` of `a @ 1`, if there is one and it may be there.
+/// The subpattern behind a name, as the `@ 1` of `a @ 1`, if there is one and it may be there.
 fn at_pattern<G: Grammar>(p: &mut Parser<'_>, g: &G, with_at: bool) -> Result<(), NoMemory>
     requires within { Within G.valid G.left g.now (state p.old) }
     ensures grew { OnOk result (Grew (state p.old) (state p.new) 0) }
@@ -680,7 +680,7 @@ fn at_pattern<G: Grammar>(p: &mut Parser<'_>, g: &G, with_at: bool) -> Result<()
     Ok(())
 }
 
-/// What is in a box, as `box a`.
+/// A box pattern, as `box a`.
 fn box_pat<G: Grammar>(p: &mut Parser<'_>, g: &G) -> Result<CompletedMarker, NoMemory>
     requires within { Within G.valid G.left g.now (state p.old) }
     requires here { next (state p.old) ≡ BOX_KW }
@@ -694,7 +694,7 @@ fn box_pat<G: Grammar>(p: &mut Parser<'_>, g: &G) -> Result<CompletedMarker, NoM
     Ok(cm)
 }
 
-/// What a block computes, as `const { 1 }`.
+/// A constant block, as `const { 1 }`.
 fn const_block_pat<G: Grammar>(p: &mut Parser<'_>, g: &G) -> Result<CompletedMarker, NoMemory>
     requires within { Within G.valid G.left g.now (state p.old) }
     requires here { next (state p.old) ≡ CONST_KW }
