@@ -1,6 +1,7 @@
 pub mod Char
 pub mod Edition
 pub mod Keyword
+pub mod Limits
 pub mod Names
 pub mod NodeKind
 pub mod Numbered

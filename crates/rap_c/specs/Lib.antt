@@ -9,4 +9,3 @@ pub mod Prefix
 pub mod Reparse
 pub mod Tokens
 pub mod Tree
-pub mod Used

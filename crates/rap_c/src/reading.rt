@@ -1,13 +1,11 @@
 //! A text as the parser reads it.
 ghost use Rattle.std.specs.Prelude.{◌≡◌, ◌≤◌, ◌<◌, ◌⊎◌, ◌+◌, IfErr, IfOk, IsUtf8, MatchResult, length};
-ghost use Rattle.rap_events.specs.Forest.{used};
 ghost use Rattle.rap_lexed.specs.Input.{records};
 ghost use Rattle.rap_lexed.specs.LexedStr.{IsLexing};
 ghost use Rattle.rap_lexed.specs.Trivia.{significant};
-ghost use Rattle.rap_c.specs.Used.{end_after};
 
 use crate::answer::Fault;
-use ra_ap_parser::{Edition, Input, LexFault, LexedStr, Output, Step};
+use ra_ap_parser::{Edition, Input, LexFault, LexedStr};
 use std::alloc::Global;
 use std::str;
 
@@ -52,45 +50,4 @@ pub fn read(alloc: Global, edition: Edition, text: &str) -> Result<Reading<'_>, 
         return Err(Fault::NoMemory);
     };
     Ok(Reading { lexed, input })
-}
-
-/// How many tokens an output took.
-#[tactic(auto, using(crate::proofs::Used::tokens_in_flat))]
-fn used_tokens(output: &Output) -> usize
-    requires { used output.now ≤ 8388607 }
-    ensures { result ≡ used output.now }
-{
-    let mut count = 0usize;
-    'steps: for step in output.iter() {
-        count += match step {
-            Step::Token { n_input_tokens, .. } => usize::from(n_input_tokens),
-            Step::FloatSplit { .. } => 1,
-            _ => 0,
-        };
-    }
-    count
-}
-
-/// Where the last of so many tokens that are no trivia ends, in bytes.
-fn end_after(lexed: &LexedStr<'_>, count: usize) -> usize
-    ensures { result ≡ end_after count lexed.now.tokens }
-{
-    let mut left = count;
-    'tokens: for i in 0..lexed.len() {
-        if left == 0 {
-            return lexed.text_start(i);
-        }
-        if !lexed.kind(i).is_trivia() {
-            left -= 1;
-        }
-    }
-    lexed.text_start(lexed.len())
-}
-
-/// Where the last token that an output took ends, in bytes.
-pub fn used_bytes(lexed: &LexedStr<'_>, output: &Output) -> usize
-    requires { used output.now ≤ 8388607 }
-    ensures { result ≡ end_after (used output.now) lexed.now.tokens }
-{
-    end_after(lexed, used_tokens(output))
 }

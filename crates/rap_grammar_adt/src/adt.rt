@@ -8,7 +8,7 @@ ghost use Rattle.rap_grammar_scripts.specs.Adt as script;
 ghost use Rattle.rap_grammar_scripts.specs.Adt.{starts_mut_restriction};
 ghost use Rattle.rap_grammar_frame.specs.Grew.{Within, Behind, Took, Grew, Ended, Gone, Spent};
 ghost use Rattle.rap_grammar_scripts.specs.Knot.{Follows};
-ghost use Rattle.rap_grammar_frame.specs.Room.{brackets_room, item_room, list_room, name_room, element_room, param_room, type_room};
+ghost use Rattle.rap_grammar_frame.specs.Room.{brackets_room, item_room, list_room, name_room, element_room, param_room, type_room, recovery_events};
 ghost use Rattle.rap_grammar_scripts.specs.Script.{something};
 ghost use Rattle.rap_grammar_scripts.specs.Words.{of_bool};
 
@@ -253,7 +253,7 @@ fn named_variant<G: Grammar>(p: &mut Parser<'_>, g: &G, m: Marker) -> Result<(),
 
 /// A field or a variant is missing. The next token is taken along, unless the list ends there.
 fn missing_in_list(p: &mut Parser<'_>, message: &str) -> Result<(), NoMemory>
-    ensures grew { OnOk result (Grew (state p.old) (state p.new) 3) }
+    ensures grew { OnOk result (Grew (state p.old) (state p.new) recovery_events) }
     ensures took { OnOk result (next (state p.old) ≢ EOF → next (state p.old) ≢ R_CURLY → Took (state p.old) (state p.new) name_room) }
     ensures script { OnOk result (Follows (script.missing_in_list message.now) something (state p.old) (state p.new)) }
 {

@@ -9,7 +9,7 @@ ghost use Rattle.rap_grammar_scripts.specs.Asm as script;
 ghost use Rattle.rap_grammar_scripts.specs.Called as called;
 ghost use Rattle.rap_grammar_frame.specs.Grew.{Behind, Closes, Grew, Took, Gone, Ended};
 ghost use Rattle.rap_grammar_scripts.specs.Knot.{Follows};
-ghost use Rattle.rap_grammar_frame.specs.Room.{asm_room, asm_end_room, operand_room, expression_room, name_room};
+ghost use Rattle.rap_grammar_frame.specs.Room.{asm_room, asm_end_room, operand_room, expression_room, name_room, recovery_events};
 ghost use Rattle.rap_grammar_frame.specs.Rules.{Missed};
 ghost use Rattle.rap_grammar_scripts.specs.Script.{something};
 ghost use Rattle.rap_grammar_scripts.specs.Words.{of_bool};
@@ -336,7 +336,7 @@ fn parse_reg(p: &mut Parser<'_>) -> Result<(), NoMemory>
 
 /// The name of a register or of a class of them.
 fn reg_spec(p: &mut Parser<'_>) -> Result<(), NoMemory>
-    ensures grew { OnOk result (Grew (state p.old) (state p.new) 3) }
+    ensures grew { OnOk result (Grew (state p.old) (state p.new) recovery_events) }
     ensures script { OnOk result (Follows script.reg_spec something (state p.old) (state p.new)) }
 {
     if is_path_name(p.current()) {

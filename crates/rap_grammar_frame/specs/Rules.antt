@@ -18,7 +18,7 @@ use Rattle.rap_grammar_scripts.specs.Items.{item_or_macro}
 use Rattle.rap_grammar_scripts.specs.Knot.{Follows}
 use Rattle.rap_grammar_scripts.specs.Patterns.{pattern_r, pattern_single_r}
 use Rattle.rap_grammar_scripts.specs.Recovery.{stops_expr, stops_pattern, stops_arm, stops_of, stops_type}
-use Rattle.rap_grammar_frame.specs.Room.{expression_room, atom_room, statement_room, marked_room, element_room, list_room, type_room, pattern_room, single_pattern_room, atom_pattern_room}
+use Rattle.rap_grammar_frame.specs.Room.{expression_room, atom_room, statement_room, marked_room, element_room, list_room, type_room, pattern_room, single_pattern_room, atom_pattern_room, recovery_events, dropped_events}
 use Rattle.rap_grammar_scripts.specs.Script.{something}
 use Rattle.rap_grammar_scripts.specs.Statements.{stmt}
 use Rattle.rap_grammar_scripts.specs.Types.{type_with_bounds_cond, path_type_bounds}
@@ -57,7 +57,7 @@ OperandFrom k old new None = Dropped old new k
 -- an expression from the newest marker on, or a message, and the marker is gone
 abbrev pub AnsweredFrom : State → State → Bool → ℕ → Option (CompletedMarker × BlockLike) → Type 0
 AnsweredFrom old new stmt bp (Some e) = Closed old new e.0 marked_room × Climbed new e.0.kind.value bp stmt
-AnsweredFrom old new stmt bp None = Dropped old new 5
+AnsweredFrom old new stmt bp None = Dropped old new dropped_events
 
 -- A rule that gives no node: where it begins with one of these tokens, it takes one at least, and else it records at
 -- most so many events more than its tokens pay for.
@@ -85,12 +85,12 @@ IsPattern old new = PatternIn 8 pattern_room old new
 
 -- a pattern without alternatives
 abbrev pub IsSinglePattern : State → State → Type 0
-IsSinglePattern old new = PatternIn 3 single_pattern_room old new
+IsSinglePattern old new = PatternIn recovery_events single_pattern_room old new
 
 -- a pattern that is no range: a node, or none
 abbrev pub IsAtomPattern : Bool → State → State → Option CompletedMarker → Type 0
 IsAtomPattern in_arm old new (Some cm) = Made old new cm atom_pattern_room × (stops_pattern (next old) ≡ false)
-IsAtomPattern in_arm old new None = PatternUntil (stops_of in_arm) 3 atom_pattern_room old new
+IsAtomPattern in_arm old new None = PatternUntil (stops_of in_arm) recovery_events atom_pattern_room old new
 
 -- the pattern of an arm
 abbrev pub IsArmPattern : State → State → Type 0

@@ -11,7 +11,7 @@ ghost use Rattle.rap_grammar_frame.specs.Grew.{Within, Grew, Took, Behind, Spent
 ghost use Rattle.rap_grammar_scripts.specs.Knot.{Follows};
 ghost use Rattle.rap_grammar_scripts.specs.Paths as paths_script;
 ghost use Rattle.rap_grammar_scripts.specs.Recovery.{is_segment_recovery};
-ghost use Rattle.rap_grammar_frame.specs.Room.{path_room, segment_room, name_room, name_end_room, element_room, atom_room};
+ghost use Rattle.rap_grammar_frame.specs.Room.{path_room, segment_room, name_room, name_end_room, element_room, atom_room, dropped_events};
 ghost use Rattle.rap_grammar_scripts.specs.Script.{something};
 ghost use Rattle.rap_grammar_scripts.specs.Words.{of_option};
 
@@ -246,7 +246,7 @@ fn segment_name<G: Grammar>(
     requires within { Within G.valid G.left g.now (state p.old) }
     requires newest { (state p.old).marker ≡ Some m.pos.value }
     ensures some { IfOk result (λ o. IfSome o (λ cm. Closes PATH_SEGMENT 4 (state p.old) (state p.new) cm)) }
-    ensures none { IfOk result (λ o. o ≡ None → Dropped (state p.old) (state p.new) 5) }
+    ensures none { IfOk result (λ o. o ≡ None → Dropped (state p.old) (state p.new) dropped_events) }
     ensures took { OnOk result (is_path_name (next (state p.old)) ≡ true → Spent (state p.old) (state p.new) name_end_room) }
     ensures script { IfOk result (λ o. Follows (paths_script.segment_name mode empty) (of_option o) (state p.old) (state p.new)) }
 {
@@ -271,7 +271,7 @@ fn missing_segment_name(
 ) -> Result<Option<CompletedMarker>, NoMemory>
     requires newest { (state p.old).marker ≡ Some m.pos.value }
     ensures some { IfOk result (λ o. IfSome o (λ cm. Closes PATH_SEGMENT 4 (state p.old) (state p.new) cm)) }
-    ensures none { IfOk result (λ o. o ≡ None → Dropped (state p.old) (state p.new) 5) }
+    ensures none { IfOk result (λ o. o ≡ None → Dropped (state p.old) (state p.new) dropped_events) }
     ensures script { IfOk result (λ o. Follows (paths_script.missing_segment_name mode empty) (of_option o) (state p.old) (state p.new)) }
 {
     let stopped = p.err_recover(

@@ -10,7 +10,7 @@ ghost use Rattle.rap_grammar_scripts.specs.Knot.{Follows};
 ghost use Rattle.rap_grammar_scripts.specs.Patterns as script;
 ghost use Rattle.rap_grammar_scripts.specs.Patterns.{ends_range_pat, starts_ident_pat, starts_literal_pat, starts_field, starts_rest_pat, ends_search};
 ghost use Rattle.rap_grammar_scripts.specs.Recovery.{is_pattern_recovery, stops_of};
-ghost use Rattle.rap_grammar_frame.specs.Room.{pattern_room, single_pattern_room, atom_pattern_room, list_room, name_room};
+ghost use Rattle.rap_grammar_frame.specs.Room.{pattern_room, single_pattern_room, atom_pattern_room, list_room, name_room, recovery_events};
 ghost use Rattle.rap_grammar_frame.specs.Rules.{IsAtomPattern, PatternUntil};
 ghost use Rattle.rap_grammar_scripts.specs.Script.{something, nothing};
 ghost use Rattle.rap_grammar_scripts.specs.Words.{of_option, of_bool};
@@ -105,7 +105,7 @@ fn alternatives<G: Grammar>(p: &mut Parser<'_>, g: &G, in_arm: bool) -> Result<(
 /// A pattern without alternatives, as `a`, `0..=9`, `..9` and `..`.
 pub fn pattern_single_r<G: Grammar>(p: &mut Parser<'_>, g: &G, in_arm: bool) -> Result<(), NoMemory>
     requires within { Within G.valid G.left g.now (state p.old) }
-    ensures reads { OnOk result (PatternUntil (stops_of in_arm) 3 single_pattern_room (state p.old) (state p.new)) }
+    ensures reads { OnOk result (PatternUntil (stops_of in_arm) recovery_events single_pattern_room (state p.old) (state p.new)) }
     ensures script { OnOk result (Follows (script.pattern_single_r in_arm) something (state p.old) (state p.new)) }
 {
     if p.at(T![..=]) {
@@ -284,7 +284,7 @@ fn symbol_pat<G: Grammar>(
 fn missing_pat(p: &mut Parser<'_>, in_arm: bool) -> Result<(), NoMemory>
     requires no_reference { next (state p.old) ≢ AMP }
     requires end { next (state p.old) ≡ EOF → (state p.old).rest ≡ [] }
-    ensures reads { OnOk result (PatternUntil (stops_of in_arm) 3 atom_pattern_room (state p.old) (state p.new)) }
+    ensures reads { OnOk result (PatternUntil (stops_of in_arm) recovery_events atom_pattern_room (state p.old) (state p.new)) }
     ensures script { OnOk result (Follows (script.missing_pat in_arm) nothing (state p.old) (state p.new)) }
 {
     p.err_recover("expected pattern", recovery_set(in_arm))?;
@@ -402,7 +402,7 @@ fn at_field(p: &Parser<'_>, separator: SyntaxKind) -> bool
 /// A field of a record, as `x: 1`, `ref x` and `box x`.
 fn record_pat_field<G: Grammar>(p: &mut Parser<'_>, g: &G) -> Result<(), NoMemory>
     requires within { Within G.valid G.left g.now (state p.old) }
-    ensures grew { OnOk result (Grew (state p.old) (state p.new) 3) }
+    ensures grew { OnOk result (Grew (state p.old) (state p.new) recovery_events) }
     ensures took { OnOk result (next (state p.old) ≢ EOF → Took (state p.old) (state p.new) atom_pattern_room) }
     ensures script { OnOk result (Follows script.record_pat_field something (state p.old) (state p.new)) }
 {

@@ -9,7 +9,7 @@ ghost use Rattle.rap_grammar_scripts.specs.GenericArgs as script;
 ghost use Rattle.rap_grammar_frame.specs.Grew.{Within, Took, Behind, Grew, Ended, Makes};
 ghost use Rattle.rap_grammar_scripts.specs.Knot.{Follows};
 ghost use Rattle.rap_grammar_scripts.specs.Recovery.{is_generic_arg_recovery};
-ghost use Rattle.rap_grammar_frame.specs.Room.{element_room, operand_room, atom_room};
+ghost use Rattle.rap_grammar_frame.specs.Room.{element_room, operand_room, atom_room, recovery_events};
 ghost use Rattle.rap_grammar_scripts.specs.Script.{something};
 
 use crate::generic_params::bounds;
@@ -277,7 +277,7 @@ fn negative_const(p: &mut Parser<'_>) -> Result<(), NoMemory>
 /// nest.
 #[inline(never)]
 fn missing_const(p: &mut Parser<'_>) -> Result<(), NoMemory>
-    ensures grew { OnOk result (Grew (state p.old) (state p.new) 3) }
+    ensures grew { OnOk result (Grew (state p.old) (state p.new) recovery_events) }
     ensures script { OnOk result (Follows const_script.missing_const something (state p.old) (state p.new)) }
 {
     p.err_recover(

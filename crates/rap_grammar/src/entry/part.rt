@@ -12,6 +12,7 @@ ghost use Rattle.rap_grammar_frame.specs.Grew.{Grew};
 ghost use Rattle.rap_grammar_frame.specs.Rules.{Pre, Post};
 ghost use Rattle.rap_grammar_scripts.specs.Statements as statement_script;
 ghost use Rattle.rap_grammar_scripts.specs.Items as item_script;
+ghost use Rattle.rap_base.specs.Limits.{max_tokens};
 
 use crate::knot::{Rules, run};
 use rap_base::no_memory::NoMemory;
@@ -122,7 +123,7 @@ fn run_part(p: &mut Parser<'_>, part: Part) -> Result<(), NoMemory>
 
 /// A part from the front of the input. Where it stands in braces and one comes first, the output is its node alone.
 pub fn parse_part(alloc: Global, input: &Input, part: Part) -> Result<Output, NoMemory>
-    requires few { length input.now ≤ 8388607 }
+    requires few { length input.now ≤ max_tokens }
     requires brace { asks_brace part ≡ true → next_kind input.now ≡ L_CURLY }
     ensures prefix { IfOk result (IsPrefixOver input.now) }
     ensures script { IfOk result (IsPrefixOf (part_script part) input.now) }
@@ -136,7 +137,7 @@ pub fn parse_part(alloc: Global, input: &Input, part: Part) -> Result<Output, No
 
 /// A statement without the semicolon that may stand behind it.
 pub fn stmt(alloc: Global, input: &Input) -> Result<Output, NoMemory>
-    requires { length input.now ≤ 8388607 }
+    requires { length input.now ≤ max_tokens }
     ensures prefix { IfOk result (IsPrefixOver input.now) }
     ensures script { IfOk result (IsPrefixOf (statement_script.stmt Semicolon.Forbidden) input.now) }
 {
@@ -149,7 +150,7 @@ pub fn stmt(alloc: Global, input: &Input) -> Result<Output, NoMemory>
 
 /// A pattern without alternatives.
 pub fn pattern_single(alloc: Global, input: &Input) -> Result<Output, NoMemory>
-    requires { length input.now ≤ 8388607 }
+    requires { length input.now ≤ max_tokens }
     ensures prefix { IfOk result (IsPrefixOver input.now) }
     ensures script { IfOk result (IsPrefixOf called.pattern_single input.now) }
 {
@@ -161,7 +162,7 @@ pub fn pattern_single(alloc: Global, input: &Input) -> Result<Output, NoMemory>
 
 /// A pattern with its alternatives.
 pub fn pattern(alloc: Global, input: &Input) -> Result<Output, NoMemory>
-    requires { length input.now ≤ 8388607 }
+    requires { length input.now ≤ max_tokens }
     ensures prefix { IfOk result (IsPrefixOver input.now) }
     ensures script { IfOk result (IsPrefixOf called.pattern input.now) }
 {
@@ -173,7 +174,7 @@ pub fn pattern(alloc: Global, input: &Input) -> Result<Output, NoMemory>
 
 /// A type.
 pub fn type_(alloc: Global, input: &Input) -> Result<Output, NoMemory>
-    requires { length input.now ≤ 8388607 }
+    requires { length input.now ≤ max_tokens }
     ensures prefix { IfOk result (IsPrefixOver input.now) }
     ensures script { IfOk result (IsPrefixOf called.type_ input.now) }
 {
@@ -185,7 +186,7 @@ pub fn type_(alloc: Global, input: &Input) -> Result<Output, NoMemory>
 
 /// An expression.
 pub fn expr(alloc: Global, input: &Input) -> Result<Output, NoMemory>
-    requires { length input.now ≤ 8388607 }
+    requires { length input.now ≤ max_tokens }
     ensures prefix { IfOk result (IsPrefixOver input.now) }
     ensures script { IfOk result (IsPrefixOf atom_script.expr input.now) }
 {
@@ -197,7 +198,7 @@ pub fn expr(alloc: Global, input: &Input) -> Result<Output, NoMemory>
 
 /// An item, or a macro call in its place.
 pub fn item(alloc: Global, input: &Input) -> Result<Output, NoMemory>
-    requires { length input.now ≤ 8388607 }
+    requires { length input.now ≤ max_tokens }
     ensures prefix { IfOk result (IsPrefixOver input.now) }
     ensures script { IfOk result (IsPrefixOf (item_script.item_or_macro true true) input.now) }
 {
@@ -214,7 +215,7 @@ pub fn item(alloc: Global, input: &Input) -> Result<Output, NoMemory>
 
 /// What stands in the brackets of an attribute.
 pub fn meta_item(alloc: Global, input: &Input) -> Result<Output, NoMemory>
-    requires { length input.now ≤ 8388607 }
+    requires { length input.now ≤ max_tokens }
     ensures prefix { IfOk result (IsPrefixOver input.now) }
     ensures script { IfOk result (IsPrefixOf called.inner_meta input.now) }
 {

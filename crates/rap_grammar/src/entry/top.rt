@@ -7,6 +7,7 @@ ghost use Rattle.rap_grammar_scripts.specs.Called as called;
 ghost use Rattle.rap_grammar_scripts.specs.Items as item_script;
 ghost use Rattle.rap_grammar_scripts.specs.Statements as statement_script;
 ghost use Rattle.rap_grammar.specs.Top.{IsTreeOver, IsTopOf, IsRootOf};
+ghost use Rattle.rap_base.specs.Limits.{max_tokens};
 
 use super::{close_root, close_top};
 use rap_base::no_memory::NoMemory;
@@ -18,7 +19,7 @@ use std::alloc::Global;
 
 /// A file: `SOURCE_FILE` over the whole input.
 pub fn source_file(alloc: Global, input: &Input) -> Result<Output, NoMemory>
-    requires { length input.now ≤ 8388607 }
+    requires { length input.now ≤ max_tokens }
     ensures tree { IfOk result (IsTreeOver input.now) }
     ensures script { IfOk result (IsRootOf SOURCE_FILE item_script.source_file input.now) }
 {
@@ -31,7 +32,7 @@ pub fn source_file(alloc: Global, input: &Input) -> Result<Output, NoMemory>
 
 /// A pattern, with its alternatives. Where the input is no pattern, or not only one, the tree is an `ERROR`.
 pub fn pattern(alloc: Global, input: &Input) -> Result<Output, NoMemory>
-    requires { length input.now ≤ 8388607 }
+    requires { length input.now ≤ max_tokens }
     ensures tree { IfOk result (IsTreeOver input.now) }
     ensures script { IfOk result (IsTopOf called.pattern input.now) }
 {
@@ -44,7 +45,7 @@ pub fn pattern(alloc: Global, input: &Input) -> Result<Output, NoMemory>
 
 /// A type. Where the input is no type, or not only one, the tree is an `ERROR`.
 pub fn type_(alloc: Global, input: &Input) -> Result<Output, NoMemory>
-    requires { length input.now ≤ 8388607 }
+    requires { length input.now ≤ max_tokens }
     ensures tree { IfOk result (IsTreeOver input.now) }
     ensures script { IfOk result (IsTopOf called.type_ input.now) }
 {
@@ -57,7 +58,7 @@ pub fn type_(alloc: Global, input: &Input) -> Result<Output, NoMemory>
 
 /// An expression. Where the input is no expression, or not only one, the tree is an `ERROR`.
 pub fn expr(alloc: Global, input: &Input) -> Result<Output, NoMemory>
-    requires { length input.now ≤ 8388607 }
+    requires { length input.now ≤ max_tokens }
     ensures tree { IfOk result (IsTreeOver input.now) }
     ensures script { IfOk result (IsTopOf script.expr input.now) }
 {
@@ -71,7 +72,7 @@ pub fn expr(alloc: Global, input: &Input) -> Result<Output, NoMemory>
 /// What stands in the brackets of an attribute, as `cfg(a)` in `#[cfg(a)]`. Where more stands behind it, the tree is an
 /// `ERROR`.
 pub fn meta_item(alloc: Global, input: &Input) -> Result<Output, NoMemory>
-    requires { length input.now ≤ 8388607 }
+    requires { length input.now ≤ max_tokens }
     ensures tree { IfOk result (IsTreeOver input.now) }
     ensures script { IfOk result (IsTopOf called.inner_meta input.now) }
 {
@@ -84,7 +85,7 @@ pub fn meta_item(alloc: Global, input: &Input) -> Result<Output, NoMemory>
 
 /// What a macro gives as statements: `MACRO_STMTS` over the whole input.
 pub fn macro_stmts(alloc: Global, input: &Input) -> Result<Output, NoMemory>
-    requires { length input.now ≤ 8388607 }
+    requires { length input.now ≤ max_tokens }
     ensures tree { IfOk result (IsTreeOver input.now) }
     ensures script { IfOk result (IsRootOf MACRO_STMTS statement_script.macro_stmts input.now) }
 {
@@ -97,7 +98,7 @@ pub fn macro_stmts(alloc: Global, input: &Input) -> Result<Output, NoMemory>
 
 /// What a macro gives as items: `MACRO_ITEMS` over the whole input.
 pub fn macro_items(alloc: Global, input: &Input) -> Result<Output, NoMemory>
-    requires { length input.now ≤ 8388607 }
+    requires { length input.now ≤ max_tokens }
     ensures tree { IfOk result (IsTreeOver input.now) }
     ensures script { IfOk result (IsRootOf MACRO_ITEMS (item_script.mod_contents false) input.now) }
 {

@@ -7,7 +7,7 @@ use Rattle.rap_events.specs.Forest.{Forest, none, node, leaf, message, split, fl
 use Rattle.rap_lexed.specs.LexedStr.{Token, joined, start_of, token_at}
 use Rattle.rap_lexed.specs.Trivia.{is_trivial}
 use Rattle.rap_lexed.proofs.Tokens.{start_of_next}
-use Rattle.rap_c.specs.Used.{end_after}
+use Rattle.rap_lexed.specs.Used.{end_after}
 
 -- how many tokens these steps stand for
 abbrev pub tokens_in : List StepValue → ℕ
