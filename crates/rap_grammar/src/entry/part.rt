@@ -6,7 +6,7 @@ ghost use Rattle.rap_events.specs.Forest.{node};
 ghost use Rattle.rap_events.specs.Record.{next_kind};
 ghost use Rattle.rap_events.specs.State.{state, next, last_children};
 ghost use Rattle.rap_grammar.specs.Part.{IsPrefixOver, IsPrefixOf, IsOneNode, Goes, part_script, part_kind, in_braces, asks_brace};
-ghost use Rattle.rap_grammar_scripts.specs.Called as called;
+ghost use Rattle.rap_grammar_scripts.specs.Called as called_script;
 ghost use Rattle.rap_grammar_scripts.specs.Atom as atom_script;
 ghost use Rattle.rap_grammar_frame.specs.Grew.{Grew};
 ghost use Rattle.rap_grammar_frame.specs.Rules.{Pre, Post};
@@ -14,7 +14,7 @@ ghost use Rattle.rap_grammar_scripts.specs.Statements as statement_script;
 ghost use Rattle.rap_grammar_scripts.specs.Items as item_script;
 ghost use Rattle.rap_base.specs.Limits.{max_tokens};
 
-use crate::knot::{Rules, run};
+use crate::knot::{Rules, all_rules, run};
 use rap_base::no_memory::NoMemory;
 use rap_events::input::Input;
 use rap_events::output::Output;
@@ -22,6 +22,7 @@ use rap_events::parser::Parser;
 use rap_grammar_adt::adt::{record_field_list, variant_list};
 use rap_grammar_blocks::blocks::block_expr;
 use rap_grammar_control::matches::match_arm_list;
+use rap_grammar_frame::called;
 use rap_grammar_frame::knot::{Answer, Rule};
 use rap_grammar_frame::token_tree::token_tree;
 use rap_grammar_item_kinds::modules::{extern_item_list, item_list};
@@ -152,10 +153,11 @@ pub fn stmt(alloc: Global, input: &Input) -> Result<Output, NoMemory>
 pub fn pattern_single(alloc: Global, input: &Input) -> Result<Output, NoMemory>
     requires { length input.now ≤ max_tokens }
     ensures prefix { IfOk result (IsPrefixOver input.now) }
-    ensures script { IfOk result (IsPrefixOf called.pattern_single input.now) }
+    ensures script { IfOk result (IsPrefixOf called_script.pattern_single input.now) }
 {
     let mut p = Parser::new(alloc, input);
-    super::pattern_single(&mut p)?;
+    let g = all_rules(&p);
+    called::pattern_single(&mut p, &g)?;
     let output = p.process(alloc)?;
     Ok(output)
 }
@@ -164,10 +166,11 @@ pub fn pattern_single(alloc: Global, input: &Input) -> Result<Output, NoMemory>
 pub fn pattern(alloc: Global, input: &Input) -> Result<Output, NoMemory>
     requires { length input.now ≤ max_tokens }
     ensures prefix { IfOk result (IsPrefixOver input.now) }
-    ensures script { IfOk result (IsPrefixOf called.pattern input.now) }
+    ensures script { IfOk result (IsPrefixOf called_script.pattern input.now) }
 {
     let mut p = Parser::new(alloc, input);
-    super::pattern(&mut p)?;
+    let g = all_rules(&p);
+    called::pattern(&mut p, &g)?;
     let output = p.process(alloc)?;
     Ok(output)
 }
@@ -176,10 +179,11 @@ pub fn pattern(alloc: Global, input: &Input) -> Result<Output, NoMemory>
 pub fn type_(alloc: Global, input: &Input) -> Result<Output, NoMemory>
     requires { length input.now ≤ max_tokens }
     ensures prefix { IfOk result (IsPrefixOver input.now) }
-    ensures script { IfOk result (IsPrefixOf called.type_ input.now) }
+    ensures script { IfOk result (IsPrefixOf called_script.type_ input.now) }
 {
     let mut p = Parser::new(alloc, input);
-    super::type_(&mut p)?;
+    let g = all_rules(&p);
+    called::type_(&mut p, &g)?;
     let output = p.process(alloc)?;
     Ok(output)
 }
@@ -191,7 +195,8 @@ pub fn expr(alloc: Global, input: &Input) -> Result<Output, NoMemory>
     ensures script { IfOk result (IsPrefixOf atom_script.expr input.now) }
 {
     let mut p = Parser::new(alloc, input);
-    super::expr(&mut p)?;
+    let g = all_rules(&p);
+    called::expr(&mut p, &g)?;
     let output = p.process(alloc)?;
     Ok(output)
 }
@@ -217,7 +222,7 @@ pub fn item(alloc: Global, input: &Input) -> Result<Output, NoMemory>
 pub fn meta_item(alloc: Global, input: &Input) -> Result<Output, NoMemory>
     requires { length input.now ≤ max_tokens }
     ensures prefix { IfOk result (IsPrefixOver input.now) }
-    ensures script { IfOk result (IsPrefixOf called.inner_meta input.now) }
+    ensures script { IfOk result (IsPrefixOf called_script.inner_meta input.now) }
 {
     let mut p = Parser::new(alloc, input);
     super::meta_item(&mut p)?;

@@ -3,18 +3,20 @@
 ghost use Rattle.std.specs.Prelude.{◌≡◌, ◌≤◌, length, IfOk, false};
 ghost use Rattle.rap_base.specs.NodeKind.{SOURCE_FILE, MACRO_STMTS, MACRO_ITEMS};
 ghost use Rattle.rap_grammar_scripts.specs.Atom as script;
-ghost use Rattle.rap_grammar_scripts.specs.Called as called;
+ghost use Rattle.rap_grammar_scripts.specs.Called as called_script;
 ghost use Rattle.rap_grammar_scripts.specs.Items as item_script;
 ghost use Rattle.rap_grammar_scripts.specs.Statements as statement_script;
 ghost use Rattle.rap_grammar.specs.Top.{IsTreeOver, IsTopOf, IsRootOf};
 ghost use Rattle.rap_base.specs.Limits.{max_tokens};
 
 use super::{close_root, close_top};
+use crate::knot::all_rules;
 use rap_base::no_memory::NoMemory;
 use rap_base::syntax_kind::SyntaxKind;
 use rap_events::input::Input;
 use rap_events::output::Output;
 use rap_events::parser::Parser;
+use rap_grammar_frame::called;
 use std::alloc::Global;
 
 /// A file: `SOURCE_FILE` over the whole input.
@@ -34,11 +36,12 @@ pub fn source_file(alloc: Global, input: &Input) -> Result<Output, NoMemory>
 pub fn pattern(alloc: Global, input: &Input) -> Result<Output, NoMemory>
     requires { length input.now ≤ max_tokens }
     ensures tree { IfOk result (IsTreeOver input.now) }
-    ensures script { IfOk result (IsTopOf called.pattern input.now) }
+    ensures script { IfOk result (IsTopOf called_script.pattern input.now) }
 {
     let mut p = Parser::new(alloc, input);
     let m = p.start()?;
-    super::pattern(&mut p)?;
+    let g = all_rules(&p);
+    called::pattern(&mut p, &g)?;
     let output = close_top(alloc, p, m)?;
     Ok(output)
 }
@@ -47,11 +50,12 @@ pub fn pattern(alloc: Global, input: &Input) -> Result<Output, NoMemory>
 pub fn type_(alloc: Global, input: &Input) -> Result<Output, NoMemory>
     requires { length input.now ≤ max_tokens }
     ensures tree { IfOk result (IsTreeOver input.now) }
-    ensures script { IfOk result (IsTopOf called.type_ input.now) }
+    ensures script { IfOk result (IsTopOf called_script.type_ input.now) }
 {
     let mut p = Parser::new(alloc, input);
     let m = p.start()?;
-    super::type_(&mut p)?;
+    let g = all_rules(&p);
+    called::type_(&mut p, &g)?;
     let output = close_top(alloc, p, m)?;
     Ok(output)
 }
@@ -64,7 +68,8 @@ pub fn expr(alloc: Global, input: &Input) -> Result<Output, NoMemory>
 {
     let mut p = Parser::new(alloc, input);
     let m = p.start()?;
-    super::expr(&mut p)?;
+    let g = all_rules(&p);
+    called::expr(&mut p, &g)?;
     let output = close_top(alloc, p, m)?;
     Ok(output)
 }
@@ -74,7 +79,7 @@ pub fn expr(alloc: Global, input: &Input) -> Result<Output, NoMemory>
 pub fn meta_item(alloc: Global, input: &Input) -> Result<Output, NoMemory>
     requires { length input.now ≤ max_tokens }
     ensures tree { IfOk result (IsTreeOver input.now) }
-    ensures script { IfOk result (IsTopOf called.inner_meta input.now) }
+    ensures script { IfOk result (IsTopOf called_script.inner_meta input.now) }
 {
     let mut p = Parser::new(alloc, input);
     let m = p.start()?;
