@@ -1,3 +1,4 @@
+pub mod Bits
 pub mod Char
 pub mod Edition
 pub mod Keyword
