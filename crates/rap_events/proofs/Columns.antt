@@ -3,7 +3,7 @@ use Rattle.std.proofs.Common.{◌≡◌, ◌≢◌, ℕ, zero, suc, ◌<◌, ◌
 use Rattle.std.proofs.lemmas.List.FromFn.{length-map-range_with_len, get_or-map-range_with_len, map-range_with_len_more, fill_by_all}
 use Rattle.std.proofs.Math.Bool.{or-true, or-false}
 use Rattle.std.proofs.lemmas.Bool.Decides.{eqb_tells}
-use Rattle.std.proofs.lemmas.List.{get_or-set_same, get_or-set_other}
+use Rattle.std.proofs.lemmas.List.{get_or-set_same, get_or-set_other, get_or_default, length_push, length-set}
 use Rattle.std.proofs.lemmas.Nat.Bits.{bit_at_or, bit_at-zero}
 use Rattle.std.specs.Int.{bit_at, from_bool}
 use Rattle.std.specs.Int.Bits.{bit_or}
@@ -123,9 +123,120 @@ joint_other words i true k within other =
     ]
 joint_other words i false k within other = no_more words i k within
 
-pub joint_same : (words : List ℕ) (i : ℕ) (joint : Bool) → i / 64 < length words → bit words i ≡ false → bit (with_joint words i joint) i ≡ joint
-joint_same words i true within clear = bit-with words i i within ∙ elim (eqb_tells i i) [
+bit_set : (words : List ℕ) (i : ℕ) → i / 64 < length words → bit (with_joint words i true) i ≡ true
+bit_set words i within = bit-with words i i within ∙ elim (eqb_tells i i) [
       | inl (equal, same) ↦ rw (equal, or-true) refl
       | inr (unequal, differs) ↦ absurd (differs refl)
     ]
+
+pub joint_same : (words : List ℕ) (i : ℕ) (joint : Bool) → i / 64 < length words → bit words i ≡ false → bit (with_joint words i joint) i ≡ joint
+joint_same words i true within clear = bit_set words i within
 joint_same words i false within clear = no_more words i i within ∙ clear
+
+pub no_records : (columns : Columns) → records columns 0 ≡ []
+unfolding records
+no_records columns = refl
+
+-- the lists filled up by 64 places
+pub grew : (old new : Columns) (len room : ℕ) → Holds old len → len ≡ 64 * length old.joints.items → room ≡ len + 64 → length new.kinds.items ≡ room → length new.contextual_kinds.items ≡ room → length new.editions.items ≡ room → new.joints.items ≡ old.joints.items ++ 0 ∷ [] → Holds new len
+grew old new len room holds full up kinds contextual_kinds editions joints =
+    let words : length new.joints.items ≡ length old.joints.items + 1 = ap length joints ∙ length_push old.joints.items 0 in
+    record {
+      room = omega arith;
+      kinds = omega arith;
+      contextual_kinds = omega arith;
+      editions = omega arith;
+      clear = λ i past. ap (λ (words : List ℕ). bit words i) joints ∙ bit-zero_word old.joints.items i ∙ holds.clear i past;
+    }
+
+-- what stands in a place once a record is written there
+pub record Wrote (old new : Columns) (place : ℕ) (r : Record) : Type 0 where
+  pub kinds : new.kinds.items ≡ set old.kinds.items place r.kind
+  pub contextual_kinds : new.contextual_kinds.items ≡ set old.contextual_kinds.items place r.contextual
+  pub editions : new.editions.items ≡ set old.editions.items place r.edition
+  pub joints : new.joints.items ≡ with_joint old.joints.items place r.joint
+
+pub wrote-holds : (old new : Columns) (place : ℕ) (r : Record) → Wrote old new place r → Holds old place → place < 64 * length old.joints.items → Holds new (place + 1)
+wrote-holds old new place r wrote holds room =
+    let kinds : length new.kinds.items ≡ length old.kinds.items = ap length wrote.kinds ∙ length-set old.kinds.items place r.kind in
+    let contextual_kinds : length new.contextual_kinds.items ≡ length old.contextual_kinds.items = ap length wrote.contextual_kinds ∙ length-set old.contextual_kinds.items place r.contextual in
+    let editions : length new.editions.items ≡ length old.editions.items = ap length wrote.editions ∙ length-set old.editions.items place r.edition in
+    let joints : length new.joints.items ≡ length old.joints.items = ap length wrote.joints ∙ length-set old.joints.items (place / 64) _ in
+    let within : place / 64 < length old.joints.items = omega arith in
+    record {
+      room = omega arith;
+      kinds = omega arith;
+      contextual_kinds = omega arith;
+      editions = omega arith;
+      clear = λ i past.
+        let apart : place ≢ i = omega arith in
+        let before : place ≤ i = omega arith in
+        ap (λ (words : List ℕ). bit words i) wrote.joints ∙ joint_other old.joints.items place r.joint i within apart ∙ holds.clear i before;
+    }
+
+pub wrote-records : (old new : Columns) (place : ℕ) (r : Record) → Wrote old new place r → Holds old place → place < 64 * length old.joints.items → records new (place + 1) ≡ records old place ++ r ∷ []
+wrote-records old new place r wrote holds room =
+    let within : place / 64 < length old.joints.items = omega arith in
+    let in_kinds : place < length old.kinds.items = omega (arith, holds.kinds) in
+    let in_contextual_kinds : place < length old.contextual_kinds.items = omega (arith, holds.contextual_kinds) in
+    let in_editions : place < length old.editions.items = omega (arith, holds.editions) in
+    let same : (i : ℕ) → i < place → record_at new i ≡ record_at old i = λ i small.
+        let other : i ≢ place = omega arith in
+        let apart : place ≢ i = omega arith in
+        by_fields _ _ _ _ _ _ _ _
+          (ap (λ (xs : List ℕ). get_or xs i EOF) wrote.kinds ∙ get_or-set_other old.kinds.items place i _ EOF other)
+          (ap (λ (xs : List ℕ). get_or xs i EOF) wrote.contextual_kinds ∙ get_or-set_other old.contextual_kinds.items place i _ EOF other)
+          (ap (λ (xs : List Edition). get_or xs i Edition2024) wrote.editions ∙ get_or-set_other old.editions.items place i _ Edition2024 other)
+          (ap (λ (words : List ℕ). bit words i) wrote.joints ∙ joint_other old.joints.items place r.joint i within apart) in
+    let last : record_at new place ≡ r =
+        by_fields _ _ _ _ _ _ _ _
+          (ap (λ (xs : List ℕ). get_or xs place EOF) wrote.kinds ∙ get_or-set_same old.kinds.items place _ EOF in_kinds)
+          (ap (λ (xs : List ℕ). get_or xs place EOF) wrote.contextual_kinds ∙ get_or-set_same old.contextual_kinds.items place _ EOF in_contextual_kinds)
+          (ap (λ (xs : List Edition). get_or xs place Edition2024) wrote.editions ∙ get_or-set_same old.editions.items place _ Edition2024 in_editions)
+          (ap (λ (words : List ℕ). bit words place) wrote.joints ∙ joint_same old.joints.items place r.joint within (holds.clear place (omega arith))) in
+    written old new place r same last
+
+-- the word that is read and written back
+pub as_with_joint : (words : List ℕ) (i : ℕ) (joint : Bool) (word number : ℕ) → i / 64 < length words → word ≡ get_or words (i / 64) word → number ≡ from_bool joint →
+    set words (i / 64) (bit_or word (number * 2 ^ (i % 64) % 18446744073709551616)) ≡ with_joint words i joint
+as_with_joint words i joint word number within read is =
+    ap (λ w. set words (i / 64) (bit_or w (number * 2 ^ (i % 64) % 18446744073709551616))) (read ∙ get_or_default words (i / 64) word 0 within)
+    ∙ ap (λ n. set words (i / 64) (bit_or (get_or words (i / 64) 0) (n * 2 ^ (i % 64) % 18446744073709551616))) is
+
+-- the last record made joint, in the lists
+pub record Joined (old new : Columns) (last : ℕ) : Type 0 where
+  pub kinds : new.kinds.items ≡ old.kinds.items
+  pub contextual_kinds : new.contextual_kinds.items ≡ old.contextual_kinds.items
+  pub editions : new.editions.items ≡ old.editions.items
+  pub joints : new.joints.items ≡ with_joint old.joints.items last true
+
+pub joined-holds : (old new : Columns) (last : ℕ) → Joined old new last → Holds old (last + 1) → Holds new (last + 1)
+joined-holds old new last joined holds =
+    let kinds : length new.kinds.items ≡ length old.kinds.items = ap length joined.kinds in
+    let contextual_kinds : length new.contextual_kinds.items ≡ length old.contextual_kinds.items = ap length joined.contextual_kinds in
+    let editions : length new.editions.items ≡ length old.editions.items = ap length joined.editions in
+    let joints : length new.joints.items ≡ length old.joints.items = ap length joined.joints ∙ length-set old.joints.items (last / 64) _ in
+    let within : last / 64 < length old.joints.items = omega (arith, holds.room) in
+    record {
+      room = omega arith;
+      kinds = omega arith;
+      contextual_kinds = omega arith;
+      editions = omega arith;
+      clear = λ i past.
+        let apart : last ≢ i = omega arith in
+        ap (λ (words : List ℕ). bit words i) joined.joints ∙ joint_other old.joints.items last true i within apart ∙ holds.clear i past;
+    }
+
+pub joined-records : (old new : Columns) (last : ℕ) → Joined old new last → Holds old (last + 1) → records new (last + 1) ≡ with_last_joint (records old (last + 1))
+joined-records old new last joined holds =
+    let within : last / 64 < length old.joints.items = omega (arith, holds.room) in
+    let kind : (i : ℕ) → get_or new.kinds.items i EOF ≡ get_or old.kinds.items i EOF = λ i. ap (λ (xs : List ℕ). get_or xs i EOF) joined.kinds in
+    let contextual : (i : ℕ) → get_or new.contextual_kinds.items i EOF ≡ get_or old.contextual_kinds.items i EOF = λ i. ap (λ (xs : List ℕ). get_or xs i EOF) joined.contextual_kinds in
+    let edition : (i : ℕ) → get_or new.editions.items i Edition2024 ≡ get_or old.editions.items i Edition2024 = λ i. ap (λ (xs : List Edition). get_or xs i Edition2024) joined.editions in
+    made_joint old new last
+      (λ i small.
+        let apart : last ≢ i = omega arith in
+        by_fields _ _ _ _ _ _ _ _ (kind i) (contextual i) (edition i)
+          (ap (λ (words : List ℕ). bit words i) joined.joints ∙ joint_other old.joints.items last true i within apart))
+      (by_fields _ _ _ _ _ _ _ _ (kind last) (contextual last) (edition last)
+        (ap (λ (words : List ℕ). bit words last) joined.joints ∙ bit_set old.joints.items last within))

@@ -117,7 +117,7 @@ impl Input {
     pub fn is_empty(&self) -> bool
         ensures { IsTrue result ↔ (self.now ≡ []) }
     {
-        self.len == 0
+        self.len() == 0
     }
 
     /// The kind of the token at a place, or `EOF` past the last one.

@@ -1,11 +1,15 @@
-use Rattle.std.proofs.Common.{sym, ◌∙◌}
+use Rattle.std.proofs.Common.{◌<◌, length, sym, ◌∙◌, arith}
+use Rattle.std.proofs.lemmas.List.{get_or_default}
+use Rattle.rap_base.specs.TokenKind.{EOF}
 use Rattle.rap_events.proofs.Columns.{reads, reads_past}
 use Rattle.rap_events.proofs.input.Input.kind.Goals as goal
 
 pub returns-then-index-self : goal.returns-then-index-self
 returns-then-index-self c =
     let columns = c.self.inside.columns in
-    rw (← c.self.view_is) (c.index.ensures ∙ ? ∙ sym (reads columns c.self.inside.len c.args.index c.if-index-self.true).kind)
+    let holds = c.self.invariant.0 in
+    let within : c.args.index < length columns.kinds.items = omega (arith, holds.room, holds.kinds) in
+    rw (← c.self.view_is) (c.index.ensures ∙ get_or_default columns.kinds.items c.args.index _ EOF within ∙ sym (reads columns c.self.inside.len c.args.index c.if-index-self.true).kind)
 
 pub returns-else-index-self : goal.returns-else-index-self
 returns-else-index-self c =
