@@ -29,44 +29,44 @@ apart-steps : (b : Forest) (k : ℕ) (c : Forest) (j : ℕ) (y : Forest) (ss : L
 apart-steps b k c j y ss = simp append_assoc
 
 -- a float ends the newest node, or the two newest
-dot_closes : (k : ℕ) (open : List ℕ) (ss : List StepValue) → (k == FIELD_EXPR) ≡ true → and_then (if k == FIELD_EXPR then Some open else None) (λ next. closes ss next) ≡ closes ss open
-dot_closes k open ss field = ap (λ (b : Bool). and_then (if b then Some open else None) (λ next. closes ss next)) field
+dot_closes : (k : ℕ) (ks : List ℕ) (ss : List StepValue) → (k == FIELD_EXPR) ≡ true → and_then (if k == FIELD_EXPR then Some ks else None) (λ next. closes ss next) ≡ closes ss ks
+dot_closes k ks ss field = ap (λ (b : Bool). and_then (if b then Some ks else None) (λ next. closes ss next)) field
 
-both_close : (j k : ℕ) (open : List ℕ) (ss : List StepValue) → (j == FIELD_EXPR) ≡ true → (k == FIELD_EXPR) ≡ true
-    → and_then (if j == FIELD_EXPR then (if k == FIELD_EXPR then Some open else None) else None) (λ next. closes ss next) ≡ closes ss open
-both_close j k open ss inner outer =
-    ap (λ (b : Bool). and_then (if b then (if k == FIELD_EXPR then Some open else None) else None) (λ next. closes ss next)) inner
-    ∙ dot_closes k open ss outer
+both_close : (j k : ℕ) (ks : List ℕ) (ss : List StepValue) → (j == FIELD_EXPR) ≡ true → (k == FIELD_EXPR) ≡ true
+    → and_then (if j == FIELD_EXPR then (if k == FIELD_EXPR then Some ks else None) else None) (λ next. closes ss next) ≡ closes ss ks
+both_close j k ks ss inner outer =
+    ap (λ (b : Bool). and_then (if b then (if k == FIELD_EXPR then Some ks else None) else None) (λ next. closes ss next)) inner
+    ∙ dot_closes k ks ss outer
 
 -- past a forest in an open node, the same nodes are open
-past : (f : Forest) (j : ℕ) (open : List ℕ) (ss : List StepValue) → Tree f → splits_last f ≡ true → closes (flat f ++ ss) (j ∷ open) ≡ closes ss (j ∷ open)
-past none j open ss nothing h = refl
-past (split b d) j open ss t h = elim t [ ]
-past (node b k x) j open ss (a_node t u e) h =
+past : (f : Forest) (j : ℕ) (ks : List ℕ) (ss : List StepValue) → Tree f → splits_last f ≡ true → closes (flat f ++ ss) (j ∷ ks) ≡ closes ss (j ∷ ks)
+past none j ks ss nothing h = refl
+past (split b d) j ks ss t h = elim t [ ]
+past (node b k x) j ks ss (a_node t u e) h =
     let p : Parts b k x = node_parts b k x h in
-    ap (λ l. closes l (j ∷ open)) (node-steps b k x ss e)
-    ∙ past b j open (enter k ∷ (flat x ++ (exit ∷ ss))) t p.before.last
-    ∙ past x k (j ∷ open) (exit ∷ ss) u p.last
-past (node b k (split y true)) j open ss (dotted t u) h =
+    ap (λ l. closes l (j ∷ ks)) (node-steps b k x ss e)
+    ∙ past b j ks (enter k ∷ (flat x ++ (exit ∷ ss))) t p.before.last
+    ∙ past x k (j ∷ ks) (exit ∷ ss) u p.last
+past (node b k (split y true)) j ks ss (dotted t u) h =
     let p : Parts b k (split y true) = node_parts b k (split y true) h in
     let q : Before y = before y p.last in
-    ap (λ l. closes l (j ∷ open)) (dotted-steps b k y ss)
-    ∙ past b j open (enter k ∷ (flat y ++ (float_split true ∷ ss))) t p.before.last
-    ∙ past y k (j ∷ open) (float_split true ∷ ss) u q.last
-    ∙ dot_closes k (j ∷ open) ss p.kind
-past (node b k (node c i (split y false))) j open ss (apart t u v) h =
+    ap (λ l. closes l (j ∷ ks)) (dotted-steps b k y ss)
+    ∙ past b j ks (enter k ∷ (flat y ++ (float_split true ∷ ss))) t p.before.last
+    ∙ past y k (j ∷ ks) (float_split true ∷ ss) u q.last
+    ∙ dot_closes k (j ∷ ks) ss p.kind
+past (node b k (node c i (split y false))) j ks ss (apart t u v) h =
     let p : Parts b k (node c i (split y false)) = node_parts b k (node c i (split y false)) h in
     let q : Parts c i (split y false) = node_parts c i (split y false) p.last in
     let r : Before y = before y q.last in
-    ap (λ l. closes l (j ∷ open)) (apart-steps b k c i y ss)
-    ∙ past b j open (enter k ∷ (flat c ++ (enter i ∷ (flat y ++ (float_split false ∷ ss))))) t p.before.last
-    ∙ past c k (j ∷ open) (enter i ∷ (flat y ++ (float_split false ∷ ss))) u q.before.last
-    ∙ past y i (k ∷ j ∷ open) (float_split false ∷ ss) v r.last
-    ∙ both_close i k (j ∷ open) ss q.kind p.kind
-past (leaf b k w) j open ss (a_leaf t) h =
-    ap (λ l. closes l (j ∷ open)) (append_assoc (flat b) (token k w ∷ []) ss) ∙ past b j open (token k w ∷ ss) t (before b h).last
-past (message b m) j open ss (a_message t) h =
-    ap (λ l. closes l (j ∷ open)) (append_assoc (flat b) (error m ∷ []) ss) ∙ past b j open (error m ∷ ss) t (before b h).last
+    ap (λ l. closes l (j ∷ ks)) (apart-steps b k c i y ss)
+    ∙ past b j ks (enter k ∷ (flat c ++ (enter i ∷ (flat y ++ (float_split false ∷ ss))))) t p.before.last
+    ∙ past c k (j ∷ ks) (enter i ∷ (flat y ++ (float_split false ∷ ss))) u q.before.last
+    ∙ past y i (k ∷ j ∷ ks) (float_split false ∷ ss) v r.last
+    ∙ both_close i k (j ∷ ks) ss q.kind p.kind
+past (leaf b k w) j ks ss (a_leaf t) h =
+    ap (λ l. closes l (j ∷ ks)) (append_assoc (flat b) (token k w ∷ []) ss) ∙ past b j ks (token k w ∷ ss) t (before b h).last
+past (message b m) j ks ss (a_message t) h =
+    ap (λ l. closes l (j ∷ ks)) (append_assoc (flat b) (error m ∷ []) ss) ∙ past b j ks (error m ∷ ss) t (before b h).last
 
 -- a tree's steps are those of one
 made_by_tree : (f : Forest) → one_tree f ≡ true → Tree f → splits_last f ≡ true → makes_tree (flat f) ≡ true
@@ -139,14 +139,14 @@ no_dot (message b m) e = refl
 no_dot (split b true) e = absurd (omega (arith, e))
 no_dot (split b false) e = refl
 
-if_some : (b : Bool) (open : List ℕ) (ss : List StepValue) → and_then (if b then Some open else None) (λ next. closes ss next) ≡ true → (b ≡ true) × (closes ss open ≡ true)
-if_some true open ss h = (refl, h)
-if_some false open ss h = absurd cc
+if_some : (b : Bool) (ks : List ℕ) (ss : List StepValue) → and_then (if b then Some ks else None) (λ next. closes ss next) ≡ true → (b ≡ true) × (closes ss ks ≡ true)
+if_some true ks ss h = (refl, h)
+if_some false ks ss h = absurd cc
 
-if_both : (a b : Bool) (open : List ℕ) (ss : List StepValue) → and_then (if a then (if b then Some open else None) else None) (λ next. closes ss next) ≡ true
-    → (a ≡ true) × ((b ≡ true) × (closes ss open ≡ true))
-if_both true b open ss h = (refl, if_some b open ss h)
-if_both false b open ss h = absurd cc
+if_both : (a b : Bool) (ks : List ℕ) (ss : List StepValue) → and_then (if a then (if b then Some ks else None) else None) (λ next. closes ss next) ≡ true
+    → (a ≡ true) × ((b ≡ true) × (closes ss ks ≡ true))
+if_both true b ks ss h = (refl, if_some b ks ss h)
+if_both false b ks ss h = absurd cc
 
 -- what steps make that end all nodes that have begun
 sound : (ss : List StepValue) (begun : Begun) (f : Forest) → closes ss (kinds begun) ≡ true → Standing begun f → Made (begun_steps begun ++ (flat f ++ ss)) (read (with_ends ss) begun f)

@@ -9,30 +9,30 @@ use Rattle.rap_events.specs.StepValue.{StepValue, enter, exit, token, float_spli
 abbrev pub after_split : Bool → List ℕ → Option (List ℕ)
 after_split ends_in_dot [] = None
 after_split ends_in_dot (j ∷ []) = None
-after_split true (j ∷ i ∷ open) = if j == FIELD_EXPR then Some (i ∷ open) else None
-after_split false (j ∷ i ∷ open) = if j == FIELD_EXPR then (if i == FIELD_EXPR then Some open else None) else None
+after_split true (j ∷ i ∷ ks) = if j == FIELD_EXPR then Some (i ∷ ks) else None
+after_split false (j ∷ i ∷ ks) = if j == FIELD_EXPR then (if i == FIELD_EXPR then Some ks else None) else None
 
 -- the same after any step
 abbrev pub after_step : StepValue → List ℕ → Option (List ℕ)
 after_step s [] = None
-after_step (enter kind) (j ∷ open) = Some (kind ∷ j ∷ open)
-after_step exit (j ∷ open) = Some open
-after_step (token kind width) (j ∷ open) = Some (j ∷ open)
-after_step (error bytes) (j ∷ open) = Some (j ∷ open)
-after_step (float_split ends_in_dot) (j ∷ open) = after_split ends_in_dot (j ∷ open)
+after_step (enter kind) (j ∷ ks) = Some (kind ∷ j ∷ ks)
+after_step exit (j ∷ ks) = Some ks
+after_step (token kind width) (j ∷ ks) = Some (j ∷ ks)
+after_step (error bytes) (j ∷ ks) = Some (j ∷ ks)
+after_step (float_split ends_in_dot) (j ∷ ks) = after_split ends_in_dot (j ∷ ks)
 
 abbrev pub is_none_open : List ℕ → Bool
 is_none_open [] = true
-is_none_open (j ∷ open) = false
+is_none_open (j ∷ ks) = false
 
 abbrev pub and_then : Option (List ℕ) → (List ℕ → Bool) → Bool
 and_then None test = false
-and_then (Some open) test = test open
+and_then (Some ks) test = test ks
 
 -- the steps end all open nodes, the oldest of them at last
 abbrev pub closes : List StepValue → List ℕ → Bool
-closes [] open = is_none_open open
-closes (s ∷ ss) open = and_then (after_step s open) (λ next. closes ss next)
+closes [] ks = is_none_open ks
+closes (s ∷ ss) ks = and_then (after_step s ks) (λ next. closes ss next)
 
 -- the steps are those of one node
 abbrev pub makes_tree : List StepValue → Bool

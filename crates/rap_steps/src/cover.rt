@@ -1,7 +1,7 @@
 //! Whether a tree's leaves stand over an input.
-ghost use Rattle.std.specs.Prelude.{◌≡◌, ◌+◌, ◌≤◌, length, map, drop, true, false, MatchOption, ◌||◌, ◌&&◌, ◌==◌};
+ghost use Rattle.std.specs.Prelude.{◌≡◌, ◌+◌, ◌≤◌, length, map, drop, true, false, MatchOption, not, ◌||◌, ◌&&◌, ◌==◌, if◌then◌else◌};
 ghost use Rattle.rap_base.specs.Keyword.{is_keyword};
-ghost use Rattle.rap_base.specs.TokenKind.{IDENT};
+ghost use Rattle.rap_base.specs.TokenKind.{FLOAT_NUMBER, IDENT};
 ghost use Rattle.rap_base.specs.declared.edition.Edition.TheVariants.{Edition2024};
 ghost use Rattle.rap_events.specs.Composite.{parts};
 ghost use Rattle.rap_events.specs.Cover.{covers, first_may_bear, first_splits, of_tokens, stand, stands, widths};
@@ -72,7 +72,10 @@ fn token_stands(
     if n_input_tokens == 1 {
         return may_bear(kind, input, place);
     }
-    if n_input_tokens == 0 || n_input_tokens != operator_len(kind) {
+    if n_input_tokens == 0 {
+        return false;
+    }
+    if n_input_tokens != operator_len(kind) {
         return false;
     }
     Parser::new(alloc, input).nth_at(place, kind)
@@ -85,9 +88,15 @@ fn may_bear(kind: SyntaxKind, input: &Input, place: usize) -> bool
     if place >= input.len() {
         return false;
     }
-    let own = input.kind(place);
+    bears(input.kind(place), input.contextual_kind(place), kind)
+}
+
+/// Whether a token of a kind, which may be read as another one if it is an identifier, may bear this kind.
+fn bears(own: SyntaxKind, contextual: SyntaxKind, kind: SyntaxKind) -> bool
+    ensures { result ≡ ((own == kind) || (((own == IDENT) && (contextual == kind)) || ((kind == IDENT) && is_keyword own Edition2024))) }
+{
     own == kind
-        || (own == SyntaxKind::IDENT && input.contextual_kind(place) == kind)
+        || (own == SyntaxKind::IDENT && contextual == kind)
         || (kind == SyntaxKind::IDENT && own.is_keyword(Edition::Edition2024))
 }
 
@@ -95,10 +104,17 @@ fn may_bear(kind: SyntaxKind, input: &Input, place: usize) -> bool
 fn float_stands(ends_in_dot: bool, input: &Input, place: usize) -> bool
     ensures { result ≡ first_splits (drop place input.now) ends_in_dot }
 {
-    if place >= input.len() || input.kind(place) != SyntaxKind::FLOAT_NUMBER {
+    if place >= input.len() {
         return false;
     }
-    input.is_joint(place) != ends_in_dot
+    is_split(input.kind(place), input.is_joint(place), ends_in_dot)
+}
+
+/// Whether a token of this kind is a float that ends in a dot, or does not. Its joint bit says that it does not.
+fn is_split(kind: SyntaxKind, joint: bool, ends_in_dot: bool) -> bool
+    ensures { result ≡ ((kind == FLOAT_NUMBER) && (if joint then not ends_in_dot else ends_in_dot)) }
+{
+    kind == SyntaxKind::FLOAT_NUMBER && joint != ends_in_dot
 }
 
 /// How many tokens an operator is written with; 0 of any other kind.

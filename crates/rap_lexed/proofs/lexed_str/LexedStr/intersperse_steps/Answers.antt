@@ -52,7 +52,7 @@ pub returns-clause-steps : goal.returns-clause-steps
 returns-clause-steps g c =
     let xs = c.args.steps.now in
     let f : Forest = forest_of (map step_value xs) in
-    let done : map step_value (drop c.loop-step.step-index xs) ≡ [] = ap (map step_value) (drop_all xs c.loop-step.step-index (omega (arith, c.loop-step-test.false))) in
+    let done : map step_value (drop c.loop-step.step-index xs) ≡ [] = ap (map step_value) (drop_all c.loop-step.step-index xs (omega (arith, c.loop-step-test.false))) in
     stands-hands g.S.StrSink.takes c.args.self.now.tokens f c.args.sink.now c.loop-step.builder c.loop-step.sink
     (subst (λ (l : List StepValue). Stands g.S.StrSink.takes c.args.self.now.tokens f c.args.sink.now c.loop-step.builder l c.loop-step.sink) done c.loop-step.invariant)
     g.S.StrSink.refuses c.finish.new.sink c.finish.result c.finish.ensures.steps
@@ -61,7 +61,7 @@ pub returns-clause-answer : goal.returns-clause-answer
 returns-clause-answer g c =
     let xs = c.args.steps.now in
     let f : Forest = forest_of (map step_value xs) in
-    let done : map step_value (drop c.loop-step.step-index xs) ≡ [] = ap (map step_value) (drop_all xs c.loop-step.step-index (omega (arith, c.loop-step-test.false))) in
+    let done : map step_value (drop c.loop-step.step-index xs) ≡ [] = ap (map step_value) (drop_all c.loop-step.step-index xs (omega (arith, c.loop-step-test.false))) in
     answer-used c.args.self.now.tokens _ f c.requires.tree (tree f c.requires.splits) _ c.loop-step.invariant.same
     (stands-end g.S.StrSink.takes c.args.self.now.tokens f c.args.sink.now c.loop-step.builder c.loop-step.sink
     (subst (λ (l : List StepValue). Stands g.S.StrSink.takes c.args.self.now.tokens f c.args.sink.now c.loop-step.builder l c.loop-step.sink) done c.loop-step.invariant))
