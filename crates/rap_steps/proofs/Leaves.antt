@@ -154,3 +154,17 @@ pub splits_at : (rs : List Record) (place : ℕ) (d : Bool) → place < length r
 splits_at [] place d h = absurd (omega (arith, h))
 splits_at (r ∷ rs) zero d h = refl
 splits_at (r ∷ rs) (suc n) d h = splits_at rs n d (omega (arith, h))
+
+pub bears_by : (rs : List Record) (place kind k j : ℕ) (r : Bool) → place < length rs → k ≡ kind_at rs place → j ≡ contextual_at rs place
+    → r ≡ ((k == kind) || (((k == IDENT) && (j == kind)) || ((kind == IDENT) && is_keyword k Edition2024))) → r ≡ first_may_bear (drop place rs) kind
+bears_by rs place kind k j r h e f is =
+    is
+    ∙ (ap (λ n. (n == kind) || (((n == IDENT) && (j == kind)) || ((kind == IDENT) && is_keyword n Edition2024))) e
+    ∙ (ap (λ n. (kind_at rs place == kind) || (((kind_at rs place == IDENT) && (n == kind)) || ((kind == IDENT) && is_keyword (kind_at rs place) Edition2024))) f ∙ bears_at rs place kind h))
+
+pub splits_by : (rs : List Record) (place : ℕ) (d : Bool) (k : ℕ) (j r : Bool) → place < length rs → k ≡ kind_at rs place → j ≡ joint_at rs place
+    → r ≡ ((k == FLOAT_NUMBER) && (if j then not d else d)) → r ≡ first_splits (drop place rs) d
+splits_by rs place d k j r h e f is =
+    is
+    ∙ (ap (λ n. (n == FLOAT_NUMBER) && (if j then not d else d)) e
+    ∙ (ap (λ b. (kind_at rs place == FLOAT_NUMBER) && (if b then not d else d)) f ∙ splits_at rs place d h))

@@ -1,6 +1,6 @@
 -- A walk through steps finds whether they are those of one tree.
 use Rattle.std.proofs.Common.{◌≡◌, ℕ, ◌-◌, List, [], ◌∷◌, ◌++◌, Bool, true, false, not, ◌&&◌, ◌||◌, ◌==◌, Option, Some, None, refl, sym, ap, subst, ◌∙◌, append_assoc, append-nil, arith}
-use Rattle.std.specs.Prelude.{if◌then◌else◌}
+use Rattle.std.specs.Prelude.{if◌then◌else◌, ◌↔◌, IsTrue}
 use Rattle.std.proofs.lemmas.Bool.{eq-eqb}
 use Rattle.rap_base.specs.NodeKind.{FIELD_EXPR}
 use Rattle.rap_events.specs.StepValue.{StepValue, enter, exit, token, float_split, error}
@@ -204,3 +204,6 @@ made (error m ∷ ss) h = absurd cc
 made (enter k ∷ ss) h =
     let m = sound ss (reading.inside reading.nothing none k) none h (refl, before_none) in
     record { shown = m.shown; placed = both_placed (forest_of (enter k ∷ ss)) m.placed; one = m.one }
+
+pub decides : (ss : List StepValue) (yes : Bool) → yes ≡ makes_tree ss → IsTrue yes ↔ IsTreeSteps ss
+decides ss yes e = (λ t. made ss (sym e ∙ t), λ h. e ∙ makes ss h)

@@ -23,9 +23,12 @@ pub fn covered(alloc: Global, steps: &[Step<'_>], input: &Input) -> Option<usize
     requires { flat (forest_of (map step_value steps.now)) ≡ map step_value steps.now }
     ensures { MatchOption result (covers input.now (forest_of (map step_value steps.now)) ≡ false) (λ count. (covers input.now (forest_of (map step_value steps.now)) ≡ true) × (count ≡ used (forest_of (map step_value steps.now)))) }
 {
+    let _count = input.len();
     let mut place = 0usize;
     'steps: for step in steps {
-        let width = width_at(alloc, step, input, place)?;
+        let Some(width) = width_at(alloc, step, input, place) else {
+            return None;
+        };
         place += width;
     }
     Some(place)
