@@ -8,6 +8,10 @@
  *     struct rap_answer answer = rap_tree(text, length, 2024, RAP_SOURCE_FILE, steps, room, messages, message_room);
  *     if (answer.status == RAP_OK && answer.steps > room) ...       more room is needed, and the call is made again
  *
+ * A macro expander has tokens that stand in no text. It parses its own records by rap_parse, rap_parse_prefix and
+ * rap_parse_node. Where there is a text, rap_records, rap_parse and rap_weave, each given what the one before it wrote,
+ * are together what rap_tree is in one call, but for the lexer's messages.
+ *
  * What a caller owes:
  * - No pointer is NULL, also where its length is 0: then any address of the type will do, as that of a variable.
  * - An array that is written to overlaps nothing else that the call is given.
@@ -32,10 +36,11 @@ enum rap_what {
     RAP_EXIT = 1,    /* the newest open node ends */
     RAP_TOKEN = 2,   /* a token: a leaf of the newest open node */
     RAP_MESSAGE = 3, /* a message */
-    RAP_SPLIT = 4    /* under RAP_NO_TREE alone: a float that is taken apart, as `0.1` of `x.0.1` */
+    RAP_SPLIT = 4    /* only where places count tokens: a float that is taken apart, as `0.1` of `x.0.1` */
 };
 
-/* A step. Places are bytes of the text, from 0 on, but under RAP_NO_TREE tokens that are no trivia, from 0 on.
+/* A step. Places are bytes of the text, from 0 on, but under RAP_NO_TREE tokens that are no trivia, from 0 on, and so in
+ * every output of records.
  * `what`: one of enum rap_what.
  * `kind`: the number of the node's or the token's kind. 0 at RAP_EXIT and RAP_MESSAGE. At RAP_SPLIT 1 where the float ends
  *     in a dot, and then it ends one node, and else 0, and then it ends two.
@@ -51,6 +56,21 @@ struct rap_step {
     size_t end;
 };
 
+/* A token that a parser reads. Trivia are left out.
+ * `kind`: the number of its kind, which is a token's, from 1 to RAP_LAST_TOKEN.
+ * `contextual_kind`: what an identifier may be read as instead, the number of a token's kind, as that of UNION_KW for
+ *     `union`; RAP_IDENT, or RAP_EOF, for nothing else. RAP_EOF where `kind` is not RAP_IDENT.
+ * `edition`: 2015, 2018, 2021 or 2024.
+ * `joint`: 1 where the token touches the next one, and else 0. `>` `>` `=` are read as one `>>=` where the first two
+ *     touch the next one. Of a float it says that its text does not end in a dot.
+ */
+struct rap_record {
+    uint32_t kind;
+    uint32_t contextual_kind;
+    uint32_t edition;
+    uint32_t joint;
+};
+
 /* Statuses. */
 enum rap_status {
     RAP_OK = 0,              /* the steps are those of one tree, or of a text's tokens */
@@ -59,17 +79,21 @@ enum rap_status {
     RAP_NO_ENTRY = 3,        /* the number is no entry's */
     RAP_NOT_UTF8 = 4,        /* the bytes are no UTF-8 */
     RAP_TEXT_TOO_LONG = 5,   /* the text has more than 4,294,967,295 bytes */
-    RAP_TOO_MANY_TOKENS = 6, /* the text has more than 8,388,607 tokens that are no trivia */
+    RAP_TOO_MANY_TOKENS = 6, /* there are more than 8,388,607 tokens that are no trivia */
     RAP_NO_MEMORY = 7,       /* memory was refused */
     RAP_NO_NODE = 8,         /* such a node is not parsed again alone */
-    RAP_NO_BRACE = 9         /* the node is to begin with a `{`, and the text does not */
+    RAP_NO_BRACE = 9,        /* the node is to begin with a `{`, and the text or the records do not */
+    RAP_NO_RECORD = 10,      /* one of the records is no token's */
+    RAP_NO_STEPS = 11        /* the steps that were given are not those of one tree over the text */
 };
 
 /* What a call answers.
  * `status`: one of enum rap_status. From RAP_NO_EDITION on nothing was written, and the other numbers are 0.
- * `steps`: how many steps there are; the first of them are in the caller's array, as far as it reaches.
+ * `steps`: how many steps there are, or how many records; the first of them are in the caller's array, as far as it
+ *     reaches.
  * `message_bytes`: the same of the bytes of the messages, which are UTF-8 and have no 0 at their end.
- * `used`: how many bytes of the text the steps are about: up to the end of the last token that was taken.
+ * `used`: how many bytes of the text the steps are about: up to the end of the last token that was taken. Where records
+ *     were given, how many of them were taken.
  */
 struct rap_answer {
     uint32_t status;
@@ -106,6 +130,9 @@ enum rap_prefix_entry {
 /* Kinds are numbered from 0 to RAP_LAST_KIND; rap_kind_name tells their names. RAP_NO_KIND is no kind's number. */
 enum { RAP_LAST_KIND = 329, RAP_NO_KIND = 330 };
 
+/* Some kinds: the end of an input, an identifier, and the last of the tokens. */
+enum { RAP_EOF = 0, RAP_IDENT = 148, RAP_LAST_TOKEN = 156 };
+
 /* The tree of a text, whatever the text is: its steps from left to right, trivia put back, so that the texts of the tokens
  * joined are the text. Behind the last node's end stand the lexer's messages, each at its token.
  * `text`, `text_length`: the bytes. `edition`: 2015, 2018, 2021 or 2024. `entry`: one of enum rap_entry.
@@ -141,6 +168,62 @@ struct rap_answer rap_prefix(const uint8_t *text, size_t text_length, uint32_t e
 struct rap_answer rap_reparse(const uint8_t *text, size_t text_length, uint32_t edition, uint32_t node,
                               uint32_t first_child, uint32_t parent,
                               struct rap_step *steps, size_t step_room, uint8_t *messages, size_t message_room);
+
+/* What a parser reads of a text: a record for each token that is no trivia, in order.
+ * `records`, `record_room`: the caller's room. It is filled as far as it reaches.
+ * Status: RAP_OK, RAP_NO_EDITION, RAP_NOT_UTF8, RAP_TEXT_TOO_LONG, RAP_NO_MEMORY; the first of them that fits. `steps`
+ * is the number of records, `message_bytes` is 0, and `used` is the text's length.
+ */
+struct rap_answer rap_records(const uint8_t *text, size_t text_length, uint32_t edition,
+                              struct rap_record *records, size_t record_room);
+
+/* Parses the records as a whole. `records`, `record_count`: the tokens, in order. `entry`: one of enum rap_entry.
+ * The steps are those of the output, one tree over all records, in which places count records, from 0 on, and with no
+ * trivia. A leaf stands for the records from `start` to `end`: two or three of them make one operator. A RAP_SPLIT
+ * stands for one record. A message stands before the record at its place.
+ * Status: RAP_OK, RAP_NO_ENTRY, RAP_NO_RECORD, RAP_TOO_MANY_TOKENS, RAP_NO_MEMORY; the first of them that fits. `used`
+ * is the number of records.
+ */
+struct rap_answer rap_parse(const struct rap_record *records, size_t record_count, uint32_t entry,
+                            struct rap_step *steps, size_t step_room, uint8_t *messages, size_t message_room);
+
+/* Parses what stands at the front of the records. `entry`: one of enum rap_prefix_entry.
+ * The steps are as those of rap_parse. The status is RAP_OK where they are those of one tree, and RAP_NO_TREE where
+ * they are those of none, or of several. `used` is how many of the records were taken; those behind are left. Else the
+ * status is RAP_NO_ENTRY, RAP_NO_RECORD, RAP_TOO_MANY_TOKENS or RAP_NO_MEMORY; the first of them that fits.
+ */
+struct rap_answer rap_parse_prefix(const struct rap_record *records, size_t record_count, uint32_t entry,
+                                   struct rap_step *steps, size_t step_room, uint8_t *messages, size_t message_room);
+
+/* Parses a node in braces again from its own records. `node`, `first_child`, `parent`: as at rap_reparse.
+ * The answer is as that of rap_parse_prefix; but the statuses are, after RAP_OK and RAP_NO_TREE, RAP_NO_NODE,
+ * RAP_NO_RECORD, RAP_NO_BRACE, RAP_TOO_MANY_TOKENS and RAP_NO_MEMORY; the first of them that fits. With no records it
+ * tells whether such a node is parsed again alone: it is not exactly where the status is RAP_NO_NODE.
+ */
+struct rap_answer rap_parse_node(const struct rap_record *records, size_t record_count, uint32_t node,
+                                 uint32_t first_child, uint32_t parent,
+                                 struct rap_step *steps, size_t step_room, uint8_t *messages, size_t message_room);
+
+/* Puts the trivia of a text back into a tree over its tokens, which a parse of its records gave.
+ * `text`, `text_length`, `edition`: as at rap_records. `tree`, `tree_steps`: all steps of the tree. `tree_messages`,
+ * `tree_message_bytes`: all bytes of its messages.
+ * The steps are those of the tree with the trivia around its tokens, as rap_tree gives them, without the lexer's
+ * messages.
+ * Of the given steps these are read: `what`; `kind` at RAP_ENTER, RAP_TOKEN and RAP_SPLIT; `end` minus `start` at
+ * RAP_TOKEN, the number of tokens; and `start` and `end` at RAP_MESSAGE. They must be those of one tree, with nothing
+ * beside it, whose leaves stand for the first tokens of the text that are no trivia, one after another: each token
+ * under its own kind, an identifier as its contextual kind, a keyword as an identifier, or the two or three of an
+ * operator; a RAP_SPLIT at a float, in the last place of as many FIELD_EXPR nodes as it ends, and in another node.
+ * Messages must be UTF-8.
+ * Status: RAP_OK, RAP_NO_EDITION, RAP_NOT_UTF8, RAP_TEXT_TOO_LONG, RAP_NO_STEPS, RAP_NO_MEMORY; the first of them that
+ * fits.
+ * `used` is where the last token that the tree has ends. Trivia behind it are in the tree. The last step's `at` is the
+ * text's length exactly where the tree has all tokens of the text.
+ */
+struct rap_answer rap_weave(const uint8_t *text, size_t text_length, uint32_t edition,
+                            const struct rap_step *tree, size_t tree_steps,
+                            const uint8_t *tree_messages, size_t tree_message_bytes,
+                            struct rap_step *steps, size_t step_room, uint8_t *messages, size_t message_room);
 
 /* Writes the name of a kind, ASCII with no 0 at its end, as far as there is room, and answers how many bytes the name has:
  * 0 where the number is no kind's. No name has more than 32 bytes.

@@ -9,7 +9,7 @@ use rap_events::output::{Output, Step};
 
 /// How many tokens an output took.
 #[tactic(auto, using(crate::proofs::Used::tokens_in_flat))]
-fn used_tokens(output: &Output) -> usize
+pub fn used_tokens(output: &Output) -> usize
     requires { used output.now ≤ max_tokens }
     ensures { result ≡ used output.now }
 {
@@ -25,7 +25,7 @@ fn used_tokens(output: &Output) -> usize
 }
 
 /// Where the last of so many tokens that are no trivia ends, in bytes.
-fn end_after(lexed: &LexedStr<'_>, count: usize) -> usize
+pub fn end_after(lexed: &LexedStr<'_>, count: usize) -> usize
     ensures { result ≡ end_after count lexed.now.tokens }
 {
     let mut left = count;
