@@ -1,5 +1,5 @@
 -- The records of an input's lists: one more, and the last one made joint.
-use Rattle.std.proofs.Common.{◌≡◌, ◌≢◌, ℕ, zero, suc, ◌<◌, ◌≤◌, ◌+◌, ◌*◌, ◌/◌, ◌%◌, ◌^◌, ◌==◌, inl, inr, Bool, true, false, List, [], ◌∷◌, ◌++◌, length, max, get_or, set, map, refl, ap, sym, ◌∙◌, arith, All}
+use Rattle.std.proofs.Common.{◌≡◌, ◌≢◌, ℕ, zero, suc, ◌<◌, ◌≤◌, ◌+◌, ◌*◌, ◌/◌, ◌%◌, ◌^◌, ◌==◌, inl, inr, Bool, true, false, List, [], ◌∷◌, ◌++◌, length, max, get_or, set, map, refl, ap, sym, ◌∙◌, arith}
 use Rattle.std.proofs.lemmas.List.FromFn.{length-map-range_with_len, get_or-map-range_with_len, map-range_with_len_more, fill_by_all}
 use Rattle.std.proofs.Math.Bool.{or-true, or-false}
 use Rattle.std.proofs.lemmas.Bool.Decides.{eqb_tells}
@@ -13,7 +13,7 @@ use Rattle.rap_base.specs.declared.edition.Edition.{Edition}
 use Rattle.rap_base.specs.declared.edition.Edition.TheVariants.{Edition2024}
 use Rattle.rap_base.proofs.Bits.{bit-with}
 use Rattle.rap_base.specs.Bits.{bit}
-use Rattle.rap_events.specs.Record.{Record, with_last_joint, kind_at, contextual_at, edition_at, joint_at, IsTokenRecord}
+use Rattle.rap_events.specs.Record.{Record, with_last_joint}
 use Rattle.rap_events.specs.Input.{record_at, records, Holds}
 use Rattle.rap_events.specs.declared.input.columns.Columns.{Columns}
 use Rattle.rap_events.proofs.Records.{IsAt, IsPast, is_at-get_or, is_past}
@@ -40,7 +40,7 @@ pub same_records : (old new : Columns) (len : ℕ) → ((i : ℕ) → i < len �
 unfolding records
 same_records old new len same =
     fill_by_all (record_at old) (map (record_at new) (range_with_len 0 len)) len (record_at old 0) (length-map-range_with_len (record_at new) 0 len)
-      (λ i small. get_or-map-range_with_len (record_at new) 0 len i i (record_at old 0) small (omega arith) ∙ same i small)
+    (λ i small. get_or-map-range_with_len (record_at new) 0 len i i (record_at old 0) small (omega arith) ∙ same i small)
 
 -- one record more
 pub one_more : (columns : Columns) (len : ℕ) → records columns (len + 1) ≡ records columns len ++ record_at columns len ∷ []
@@ -111,7 +111,7 @@ no_more words i k within =
     elim (eqb_tells (i / 64) (k / 64)) [
       | inl (equal, same) ↦
           rw (← same, get_or-set_same words (i / 64) _ 0 within)
-            (ap (λ n. n == 1) (ap (λ m. bit_at (bit_or word m) (k % 64)) none ∙ bit_at_or word 0 (k % 64) ∙ ap (max (bit_at word (k % 64))) (bit_at-zero (k % 64)) ∙ max_zero (bit_at word (k % 64))))
+          (ap (λ n. n == 1) (ap (λ m. bit_at (bit_or word m) (k % 64)) none ∙ bit_at_or word 0 (k % 64) ∙ ap (max (bit_at word (k % 64))) (bit_at-zero (k % 64)) ∙ max_zero (bit_at word (k % 64))))
       | inr (unequal, apart) ↦ ap (λ n. bit_at n (k % 64) == 1) (get_or-set_other words (i / 64) (k / 64) _ 0 (λ e. apart (sym e)))
     ]
 
@@ -125,9 +125,9 @@ joint_other words i false k within other = no_more words i k within
 
 bit_set : (words : List ℕ) (i : ℕ) → i / 64 < length words → bit (with_joint words i true) i ≡ true
 bit_set words i within = bit-with words i i within ∙ elim (eqb_tells i i) [
-      | inl (equal, same) ↦ rw (equal, or-true) refl
-      | inr (unequal, differs) ↦ absurd (differs refl)
-    ]
+  | inl (equal, same) ↦ rw (equal, or-true) refl
+  | inr (unequal, differs) ↦ absurd (differs refl)
+]
 
 pub joint_same : (words : List ℕ) (i : ℕ) (joint : Bool) → i / 64 < length words → bit words i ≡ false → bit (with_joint words i joint) i ≡ joint
 joint_same words i true within clear = bit_set words i within
@@ -169,9 +169,9 @@ wrote-holds old new place r wrote holds room =
       contextual_kinds = omega arith;
       editions = omega arith;
       clear = λ i past.
-        let apart : place ≢ i = omega arith in
-        let before : place ≤ i = omega arith in
-        ap (λ (words : List ℕ). bit words i) wrote.joints ∙ joint_other old.joints.items place r.joint i within apart ∙ holds.clear i before;
+          let apart : place ≢ i = omega arith in
+          let before : place ≤ i = omega arith in
+          ap (λ (words : List ℕ). bit words i) wrote.joints ∙ joint_other old.joints.items place r.joint i within apart ∙ holds.clear i before;
     }
 
 pub wrote-records : (old new : Columns) (place : ℕ) (r : Record) → Wrote old new place r → Holds old place → place < 64 * length old.joints.items → records new (place + 1) ≡ records old place ++ r ∷ []
@@ -181,19 +181,19 @@ wrote-records old new place r wrote holds room =
     let in_contextual_kinds : place < length old.contextual_kinds.items = omega (arith, holds.contextual_kinds) in
     let in_editions : place < length old.editions.items = omega (arith, holds.editions) in
     let same : (i : ℕ) → i < place → record_at new i ≡ record_at old i = λ i small.
-        let other : i ≢ place = omega arith in
-        let apart : place ≢ i = omega arith in
-        by_fields _ _ _ _ _ _ _ _
-          (ap (λ (xs : List ℕ). get_or xs i EOF) wrote.kinds ∙ get_or-set_other old.kinds.items place i _ EOF other)
-          (ap (λ (xs : List ℕ). get_or xs i EOF) wrote.contextual_kinds ∙ get_or-set_other old.contextual_kinds.items place i _ EOF other)
-          (ap (λ (xs : List Edition). get_or xs i Edition2024) wrote.editions ∙ get_or-set_other old.editions.items place i _ Edition2024 other)
-          (ap (λ (words : List ℕ). bit words i) wrote.joints ∙ joint_other old.joints.items place r.joint i within apart) in
+    let other : i ≢ place = omega arith in
+    let apart : place ≢ i = omega arith in
+    by_fields _ _ _ _ _ _ _ _
+    (ap (λ (xs : List ℕ). get_or xs i EOF) wrote.kinds ∙ get_or-set_other old.kinds.items place i _ EOF other)
+    (ap (λ (xs : List ℕ). get_or xs i EOF) wrote.contextual_kinds ∙ get_or-set_other old.contextual_kinds.items place i _ EOF other)
+    (ap (λ (xs : List Edition). get_or xs i Edition2024) wrote.editions ∙ get_or-set_other old.editions.items place i _ Edition2024 other)
+    (ap (λ (words : List ℕ). bit words i) wrote.joints ∙ joint_other old.joints.items place r.joint i within apart) in
     let last : record_at new place ≡ r =
-        by_fields _ _ _ _ _ _ _ _
-          (ap (λ (xs : List ℕ). get_or xs place EOF) wrote.kinds ∙ get_or-set_same old.kinds.items place _ EOF in_kinds)
-          (ap (λ (xs : List ℕ). get_or xs place EOF) wrote.contextual_kinds ∙ get_or-set_same old.contextual_kinds.items place _ EOF in_contextual_kinds)
-          (ap (λ (xs : List Edition). get_or xs place Edition2024) wrote.editions ∙ get_or-set_same old.editions.items place _ Edition2024 in_editions)
-          (ap (λ (words : List ℕ). bit words place) wrote.joints ∙ joint_same old.joints.items place r.joint within (holds.clear place (omega arith))) in
+    by_fields _ _ _ _ _ _ _ _
+    (ap (λ (xs : List ℕ). get_or xs place EOF) wrote.kinds ∙ get_or-set_same old.kinds.items place _ EOF in_kinds)
+    (ap (λ (xs : List ℕ). get_or xs place EOF) wrote.contextual_kinds ∙ get_or-set_same old.contextual_kinds.items place _ EOF in_contextual_kinds)
+    (ap (λ (xs : List Edition). get_or xs place Edition2024) wrote.editions ∙ get_or-set_same old.editions.items place _ Edition2024 in_editions)
+    (ap (λ (words : List ℕ). bit words place) wrote.joints ∙ joint_same old.joints.items place r.joint within (holds.clear place (omega arith))) in
     written old new place r same last
 
 -- the word that is read and written back
@@ -223,8 +223,8 @@ joined-holds old new last joined holds =
       contextual_kinds = omega arith;
       editions = omega arith;
       clear = λ i past.
-        let apart : last ≢ i = omega arith in
-        ap (λ (words : List ℕ). bit words i) joined.joints ∙ joint_other old.joints.items last true i within apart ∙ holds.clear i past;
+          let apart : last ≢ i = omega arith in
+          ap (λ (words : List ℕ). bit words i) joined.joints ∙ joint_other old.joints.items last true i within apart ∙ holds.clear i past;
     }
 
 pub joined-records : (old new : Columns) (last : ℕ) → Joined old new last → Holds old (last + 1) → records new (last + 1) ≡ with_last_joint (records old (last + 1))
@@ -234,9 +234,9 @@ joined-records old new last joined holds =
     let contextual : (i : ℕ) → get_or new.contextual_kinds.items i EOF ≡ get_or old.contextual_kinds.items i EOF = λ i. ap (λ (xs : List ℕ). get_or xs i EOF) joined.contextual_kinds in
     let edition : (i : ℕ) → get_or new.editions.items i Edition2024 ≡ get_or old.editions.items i Edition2024 = λ i. ap (λ (xs : List Edition). get_or xs i Edition2024) joined.editions in
     made_joint old new last
-      (λ i small.
-        let apart : last ≢ i = omega arith in
-        by_fields _ _ _ _ _ _ _ _ (kind i) (contextual i) (edition i)
-          (ap (λ (words : List ℕ). bit words i) joined.joints ∙ joint_other old.joints.items last true i within apart))
-      (by_fields _ _ _ _ _ _ _ _ (kind last) (contextual last) (edition last)
-        (ap (λ (words : List ℕ). bit words last) joined.joints ∙ bit_set old.joints.items last within))
+    (λ i small.
+    let apart : last ≢ i = omega arith in
+    by_fields _ _ _ _ _ _ _ _ (kind i) (contextual i) (edition i)
+    (ap (λ (words : List ℕ). bit words i) joined.joints ∙ joint_other old.joints.items last true i within apart))
+    (by_fields _ _ _ _ _ _ _ _ (kind last) (contextual last) (edition last)
+    (ap (λ (words : List ℕ). bit words last) joined.joints ∙ bit_set old.joints.items last within))

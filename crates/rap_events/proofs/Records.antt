@@ -1,5 +1,5 @@
 -- Lists of records.
-use Rattle.std.proofs.Common.{◌≡◌, ◌≢◌, ℕ, suc, zero, ◌+◌, ◌<◌, ◌≤◌, List, [], ◌∷◌, length, get_or, map, set, true, false, refl, sym, ap, arith, drop, All}
+use Rattle.std.proofs.Common.{◌≡◌, ◌≢◌, ℕ, suc, zero, ◌<◌, ◌≤◌, List, [], ◌∷◌, length, get_or, true, false, refl, sym, arith, drop, All}
 use Rattle.rap_base.specs.TokenKind.{EOF, IDENT}
 use Rattle.rap_base.specs.TokenTests.{is_token}
 use Rattle.rap_base.specs.declared.edition.Edition.TheVariants.{Edition2024}

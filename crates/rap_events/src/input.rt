@@ -86,13 +86,7 @@ impl Input {
         ensures err { OnErr result (self.new ≡ self.old) }
     {
         self.columns.make_room(self.len)?;
-        self.columns.write(
-            self.len,
-            SyntaxKind::IDENT,
-            contextual_kind,
-            edition,
-            false,
-        );
+        self.columns.write(self.len, SyntaxKind::IDENT, contextual_kind, edition, false);
         self.len += 1;
         Ok(())
     }

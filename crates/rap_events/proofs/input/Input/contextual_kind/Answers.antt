@@ -1,4 +1,4 @@
-use Rattle.std.proofs.Common.{◌≡◌, ◌<◌, length, get_or, sym, ◌∙◌, arith}
+use Rattle.std.proofs.Common.{◌≡◌, ◌<◌, length, sym, ◌∙◌, arith}
 use Rattle.std.proofs.lemmas.List.{get_or_default}
 use Rattle.rap_base.specs.TokenKind.{EOF}
 use Rattle.rap_events.specs.Input.{records}
@@ -20,7 +20,7 @@ returns-then-index-self-clause-identifier c =
     let holds = c.self.invariant.0 in
     let within : c.args.index < length columns.contextual_kinds.items = omega (arith, holds.room, holds.contextual_kinds) in
     let here : contextual_at (records columns c.self.inside.len) c.args.index ≡ c.index.result.now =
-        (reads columns c.self.inside.len c.args.index c.if-index-self.true).contextual ∙ sym (c.index.ensures ∙ get_or_default columns.contextual_kinds.items c.args.index _ EOF within) in
+    (reads columns c.self.inside.len c.args.index c.if-index-self.true).contextual ∙ sym (c.index.ensures ∙ get_or_default columns.contextual_kinds.items c.args.index _ EOF within) in
     rw (← c.self.view_is) (λ e. identifier_at (records columns c.self.inside.len) c.args.index c.self.invariant.1 (rw here e))
 
 pub returns-else-index-self-clause-contextual : goal.returns-else-index-self-clause-contextual

@@ -1,4 +1,4 @@
-use Rattle.std.proofs.Common.{◌≡◌, ℕ, ◌+◌, ◌-◌, ◌<◌, length, All, List, sym, ap, ◌∙◌, subst, arith}
+use Rattle.std.proofs.Common.{◌≡◌, ℕ, ◌+◌, ◌-◌, length, All, List, sym, ap, ◌∙◌, subst, arith}
 use Rattle.rap_events.specs.Record.{Record, IsTokenRecord, with_last_joint}
 use Rattle.rap_events.specs.Input.{records, Holds}
 use Rattle.rap_events.proofs.Columns.{length-records}

@@ -10,56 +10,56 @@ returns-in_err-resize-clause-records c =
     let old = c.args.self.now in
     let holds = c.requires.holds in
     kept old _ c.args.len
-      (λ i small. c.resize.ensures.by_index.0 i EOF (omega (arith, c.in-Some.ensures)) (omega (arith, holds.room, holds.kinds, old.kinds.ok.0)))
-      (λ i small. refl)
-      (λ i small. refl)
-      (λ i small. refl)
+    (λ i small. c.resize.ensures.by_index.0 i EOF (omega (arith, c.in-Some.ensures)) (omega (arith, holds.room, holds.kinds, old.kinds.ok.0)))
+    (λ i small. refl)
+    (λ i small. refl)
+    (λ i small. refl)
 
 pub returns-in_err-resize-2-clause-records : goal.returns-in_err-resize-2-clause-records
 returns-in_err-resize-2-clause-records c =
     let old = c.args.self.now in
     let holds = c.requires.holds in
     kept old _ c.args.len
-      (λ i small. c.resize.ensures.by_index.0 i EOF (omega (arith, c.in-Some.ensures)) (omega (arith, holds.room, holds.kinds, old.kinds.ok.0)))
-      (λ i small. c.resize-2.ensures.by_index.0 i EOF (omega (arith, c.in-Some.ensures)) (omega (arith, holds.room, holds.contextual_kinds, old.contextual_kinds.ok.0)))
-      (λ i small. refl)
-      (λ i small. refl)
+    (λ i small. c.resize.ensures.by_index.0 i EOF (omega (arith, c.in-Some.ensures)) (omega (arith, holds.room, holds.kinds, old.kinds.ok.0)))
+    (λ i small. c.resize-2.ensures.by_index.0 i EOF (omega (arith, c.in-Some.ensures)) (omega (arith, holds.room, holds.contextual_kinds, old.contextual_kinds.ok.0)))
+    (λ i small. refl)
+    (λ i small. refl)
 
 pub returns-in_err-resize-3-clause-records : goal.returns-in_err-resize-3-clause-records
 returns-in_err-resize-3-clause-records c =
     let old = c.args.self.now in
     let holds = c.requires.holds in
     kept old _ c.args.len
-      (λ i small. c.resize.ensures.by_index.0 i EOF (omega (arith, c.in-Some.ensures)) (omega (arith, holds.room, holds.kinds, old.kinds.ok.0)))
-      (λ i small. c.resize-2.ensures.by_index.0 i EOF (omega (arith, c.in-Some.ensures)) (omega (arith, holds.room, holds.contextual_kinds, old.contextual_kinds.ok.0)))
-      (λ i small. c.resize-3.ensures.by_index.0 i Edition2024 (omega (arith, c.in-Some.ensures)) (omega (arith, holds.room, holds.editions, old.editions.ok.0)))
-      (λ i small. refl)
+    (λ i small. c.resize.ensures.by_index.0 i EOF (omega (arith, c.in-Some.ensures)) (omega (arith, holds.room, holds.kinds, old.kinds.ok.0)))
+    (λ i small. c.resize-2.ensures.by_index.0 i EOF (omega (arith, c.in-Some.ensures)) (omega (arith, holds.room, holds.contextual_kinds, old.contextual_kinds.ok.0)))
+    (λ i small. c.resize-3.ensures.by_index.0 i Edition2024 (omega (arith, c.in-Some.ensures)) (omega (arith, holds.room, holds.editions, old.editions.ok.0)))
+    (λ i small. refl)
 
 pub returns-in_err-push-clause-records : goal.returns-in_err-push-clause-records
 returns-in_err-push-clause-records c =
     let old = c.args.self.now in
     let holds = c.requires.holds in
     kept old _ c.args.len
-      (λ i small. c.resize.ensures.by_index.0 i EOF (omega (arith, c.in-Some.ensures)) (omega (arith, holds.room, holds.kinds, old.kinds.ok.0)))
-      (λ i small. c.resize-2.ensures.by_index.0 i EOF (omega (arith, c.in-Some.ensures)) (omega (arith, holds.room, holds.contextual_kinds, old.contextual_kinds.ok.0)))
-      (λ i small. c.resize-3.ensures.by_index.0 i Edition2024 (omega (arith, c.in-Some.ensures)) (omega (arith, holds.room, holds.editions, old.editions.ok.0)))
-      (λ i small. ap (λ (words : List ℕ). bit words i) c.in_err-push.ensures.items)
+    (λ i small. c.resize.ensures.by_index.0 i EOF (omega (arith, c.in-Some.ensures)) (omega (arith, holds.room, holds.kinds, old.kinds.ok.0)))
+    (λ i small. c.resize-2.ensures.by_index.0 i EOF (omega (arith, c.in-Some.ensures)) (omega (arith, holds.room, holds.contextual_kinds, old.contextual_kinds.ok.0)))
+    (λ i small. c.resize-3.ensures.by_index.0 i Edition2024 (omega (arith, c.in-Some.ensures)) (omega (arith, holds.room, holds.editions, old.editions.ok.0)))
+    (λ i small. ap (λ (words : List ℕ). bit words i) c.in_err-push.ensures.items)
 
 pub returns-clause-records : goal.returns-clause-records
 returns-clause-records c =
     let old = c.args.self.now in
     let holds = c.requires.holds in
     kept old _ c.args.len
-      (λ i small. c.resize.ensures.by_index.0 i EOF (omega (arith, c.in-Some.ensures)) (omega (arith, holds.room, holds.kinds, old.kinds.ok.0)))
-      (λ i small. c.resize-2.ensures.by_index.0 i EOF (omega (arith, c.in-Some.ensures)) (omega (arith, holds.room, holds.contextual_kinds, old.contextual_kinds.ok.0)))
-      (λ i small. c.resize-3.ensures.by_index.0 i Edition2024 (omega (arith, c.in-Some.ensures)) (omega (arith, holds.room, holds.editions, old.editions.ok.0)))
-      (λ i small. ap (λ (words : List ℕ). bit words i) c.in_ok-push.ensures.items ∙ bit-zero_word old.joints.items i)
+    (λ i small. c.resize.ensures.by_index.0 i EOF (omega (arith, c.in-Some.ensures)) (omega (arith, holds.room, holds.kinds, old.kinds.ok.0)))
+    (λ i small. c.resize-2.ensures.by_index.0 i EOF (omega (arith, c.in-Some.ensures)) (omega (arith, holds.room, holds.contextual_kinds, old.contextual_kinds.ok.0)))
+    (λ i small. c.resize-3.ensures.by_index.0 i Edition2024 (omega (arith, c.in-Some.ensures)) (omega (arith, holds.room, holds.editions, old.editions.ok.0)))
+    (λ i small. ap (λ (words : List ℕ). bit words i) c.in_ok-push.ensures.items ∙ bit-zero_word old.joints.items i)
 
 pub returns-clause-holds : goal.returns-clause-holds
 returns-clause-holds c =
     let old = c.args.self.now in
     grew old _ c.args.len c.in-Some.room c.requires.holds c.requires.full (omega (arith, c.in-Some.ensures))
-      (omega (arith, c.in_ok-resize.ensures.len, c.resize.new.self.ok.0))
-      (omega (arith, c.in_ok-resize-2.ensures.len, c.resize-2.new.self.ok.0))
-      (omega (arith, c.in_ok-resize-3.ensures.len, c.resize-3.new.self.ok.0))
-      c.in_ok-push.ensures.items
+    (omega (arith, c.in_ok-resize.ensures.len, c.resize.new.self.ok.0))
+    (omega (arith, c.in_ok-resize-2.ensures.len, c.resize-2.new.self.ok.0))
+    (omega (arith, c.in_ok-resize-3.ensures.len, c.resize-3.new.self.ok.0))
+    c.in_ok-push.ensures.items
