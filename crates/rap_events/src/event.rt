@@ -1,5 +1,5 @@
 //! What a parser records, and what it makes of it.
-ghost use Rattle.std.specs.Prelude.{◌≡◌, ◌^◌, ◌<◌, map, length, true, IfOk, string_bytes};
+ghost use Rattle.std.specs.Prelude.{◌≡◌, ◌<◌, map, true, IfOk, string_bytes};
 ghost use Rattle.rap_events.specs.Machine.{run, initial, floor, all_splits_placed};
 
 use crate::output::Output;
@@ -54,7 +54,7 @@ pub(crate) enum Event {
 }
 
 impl Event {
-    ghost use Rattle.rap_events.specs.History.{history, errors};
+    ghost use Rattle.rap_events.specs.History.{history};
 
     /// The output that the events make: the forest of their history. The events and messages are moved into it.
     ///
@@ -65,7 +65,6 @@ impl Event {
         events: Vec<Word>,
         messages: Vec<String>,
     ) -> Result<Output, NoMemory>
-        requires paired { errors events.items ≡ length messages.items }
         requires sound { (run initial (history events.items (map string_bytes messages.items))).sound ≡ true }
         requires closed { (run initial (history events.items (map string_bytes messages.items))).below ≡ floor }
         requires splits { all_splits_placed (run initial (history events.items (map string_bytes messages.items))) ≡ true }
