@@ -1,5 +1,5 @@
 -- Events and steps as words of 32 bits.
-use Rattle.std.specs.Prelude.{◌≡◌, ◌≢◌, ℕ, ◌+◌, ◌*◌, ◌^◌, ◌/◌, ◌%◌, ◌≤◌, ◌<◌, ◌==◌, ⊤, Bool, true, false, if◌then◌else◌}
+use Rattle.std.specs.Prelude.{◌≡◌, ◌≢◌, ℕ, ◌+◌, ◌*◌, ◌^◌, ◌/◌, ◌%◌, ◌≤◌, ◌<◌, ◌==◌, ⊤, [], Bool, true, false, if◌then◌else◌}
 use Rattle.rap_base.specs.NodeKind.{PATH_META}
 use Rattle.rap_events.specs.StepValue.{StepValue, enter, exit, token, float_split, error}
 use Rattle.rap_events.specs.declared.event.Event.{Event}
@@ -23,18 +23,18 @@ word_of exit number = fields 2 0 0
 word_of (float_split ends_in_dot) number = fields 3 (dot ends_in_dot) 0
 word_of (error bytes) number = number * 2
 
--- the word of an event; one that is a step has the word of that step
+-- the word of an event: of a step, or of a call that is none
 abbrev pub word_of_event : Event → ℕ
-word_of_event (event.Token width kind) = fields 0 width kind
-word_of_event (event.Enter kind) = fields 1 0 kind
-word_of_event event.Exit = fields 2 0 0
-word_of_event (event.FloatSplit ends_in_dot) = fields 3 (dot ends_in_dot) 0
+word_of_event (event.Token width kind) = word_of (token kind width) 0
+word_of_event (event.Enter kind) = word_of (enter kind) 0
+word_of_event event.Exit = word_of exit 0
+word_of_event (event.FloatSplit ends_in_dot) = word_of (float_split ends_in_dot) 0
+word_of_event (event.Error message) = word_of (error []) message
 word_of_event event.Start = fields 4 0 0
 word_of_event event.Precede = fields 5 0 0
 word_of_event (event.Finish kind) = fields 6 0 kind
 word_of_event event.Extend = fields 7 0 0
 word_of_event event.Abandon = fields 8 0 0
-word_of_event (event.Error message) = message * 2
 
 -- the event of these fields
 abbrev pub event_of_fields : ℕ → ℕ → ℕ → Event

@@ -30,7 +30,10 @@ impl Model for Word {
 
     ghost inverse = { λ e. record { bits = word_of_event e } };
 
-    ghost inverse_ok = { λ w h. h.word };
+    ghost use Rattle.std.specs.Prelude.{ℕ};
+    ghost use Rattle.std.proofs.Common.{ap};
+
+    ghost inverse_ok = { λ w h. ap (λ (bits : ℕ). record { bits = bits }) h.word };
 }
 
 const _: () = prove!(size_of::<Word>() <= 4);
@@ -118,7 +121,7 @@ fn packed(which: u32, byte: u8, kind: u16) -> u32
     requires { which < 2 ^ 4 }
     ensures { result ≡ fields which byte kind }
 {
-    (u32::from(kind) << 16) | (u32::from(byte) << 8) | (which << 4) | 1
+    (u32::from(kind) << 16) + (u32::from(byte) << 8) + (which << 4) + 1
 }
 
 #[cfg(test)]
