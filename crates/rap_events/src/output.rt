@@ -119,8 +119,8 @@ pub fn wrap_in_node(alloc: Global, output: Output, kind: SyntaxKind) -> Result<O
         first,
         messages,
     } = output.into_list(alloc);
-    steps.insert(first, Word::of(Event::Enter { kind }))?;
-    steps.push(Word::of(Event::Exit))?;
+    steps.insert(first, Word::of_event(Event::Enter { kind }))?;
+    steps.push(Word::of_event(Event::Exit))?;
     Ok(Output::of_steps(steps, first, messages))
 }
 

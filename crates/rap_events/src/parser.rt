@@ -355,10 +355,10 @@ impl<'t> Parser<'t> {
         let ends_in_dot = !self.input.is_joint(self.pos);
         let count = split_len(ends_in_dot);
         let events = [
-            Word::of(Event::FloatSplit { ends_in_dot }),
-            Word::of(Event::Finish { kind }),
-            Word::of(Event::Precede),
-            Word::of(Event::Finish { kind }),
+            Word::of_event(Event::FloatSplit { ends_in_dot }),
+            Word::of_event(Event::Finish { kind }),
+            Word::of_event(Event::Precede),
+            Word::of_event(Event::Finish { kind }),
         ];
         self.events.extend_from_slice(&events[..count])?;
         self.pos += 1;
@@ -375,7 +375,7 @@ impl<'t> Parser<'t> {
         ensures state { OnOk result (Bumped (state self.old) (state self.new) kind n_input_tokens) }
         ensures recorded { OnOk result (calls self.new ≡ calls self.old ++ call.token kind n_input_tokens ∷ []) }
     {
-        self.events.push(Word::of(Event::Token {
+        self.events.push(Word::of_event(Event::Token {
             kind,
             n_input_tokens,
         }))?;
@@ -403,7 +403,7 @@ impl<'t> Parser<'t> {
     {
         let number = self.messages.len();
         if number < MAX_MESSAGES {
-            return Ok(Word::of(Event::Error {
+            return Ok(Word::of_event(Event::Error {
                 message: number as u32,
             }));
         }
@@ -435,7 +435,7 @@ impl<'t> Parser<'t> {
         ensures recorded { OnOk result (calls self.new ≡ calls self.old ++ call.start ∷ []) }
     {
         let pos = Snapshot::of(&self.events.len());
-        self.events.push(Word::of(Event::Start))?;
+        self.events.push(Word::of_event(Event::Start))?;
         Ok(Marker { pos })
     }
 }
@@ -476,7 +476,7 @@ impl Marker {
         ensures state { IfOk result (λ cm. Completed (state p.old) (state p.new) kind × IsLast (state p.new) cm kind) }
         ensures recorded { OnOk result (calls p.new ≡ calls p.old ++ call.finish kind ∷ []) }
     {
-        p.events.push(Word::of(Event::Finish { kind }))?;
+        p.events.push(Word::of_event(Event::Finish { kind }))?;
         Ok(CompletedMarker {
             end: Snapshot::of(&p.events.len()),
             kind: Snapshot::of(&kind),
@@ -489,7 +489,7 @@ impl Marker {
         ensures state { OnOk result (Abandoned (state p.old) (state p.new)) }
         ensures recorded { OnOk result (calls p.new ≡ calls p.old ++ call.abandon ∷ []) }
     {
-        p.events.push(Word::of(Event::Abandon))?;
+        p.events.push(Word::of_event(Event::Abandon))?;
         Ok(())
     }
 }
@@ -506,7 +506,7 @@ impl CompletedMarker {
         ensures recorded { OnOk result (calls p.new ≡ calls p.old ++ call.precede ∷ []) }
     {
         let pos = Snapshot::of(&p.events.len());
-        p.events.push(Word::of(Event::Precede))?;
+        p.events.push(Word::of_event(Event::Precede))?;
         Ok(Marker { pos })
     }
 
@@ -518,7 +518,7 @@ impl CompletedMarker {
         ensures state { IfOk result (λ cm. Extended (state p.old) (state p.new) self.kind.value × IsLast (state p.new) cm self.kind.value) }
         ensures recorded { OnOk result (calls p.new ≡ calls p.old ++ call.extend ∷ []) }
     {
-        p.events.push(Word::of(Event::Extend))?;
+        p.events.push(Word::of_event(Event::Extend))?;
         Ok(CompletedMarker {
             end: Snapshot::of(&p.events.len()),
             kind: self.kind,

@@ -52,7 +52,7 @@ const ABANDON: u32 = 8;
 impl Word {
     /// The word of an event. A message's number is below 2 to the 31.
     #[inline(always)]
-    pub(crate) fn of(event: Event) -> Word
+    pub(crate) fn of_event(event: Event) -> Word
         requires { HasNumber event }
         ensures { result ≡ event }
     {
@@ -131,7 +131,7 @@ mod tests {
     fn bits(event: Event) -> u32
         requires { HasNumber event }
     {
-        Word::of(event).bits
+        Word::of_event(event).bits
     }
 
     #[test]

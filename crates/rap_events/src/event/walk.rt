@@ -98,7 +98,7 @@ impl Walk {
         self.is_around = false;
         push_past(&mut self.pending, self.skips)?;
         self.skips = 0;
-        self.write(Word::of(Event::Exit));
+        self.write(Word::of_event(Event::Exit));
         Ok(())
     }
 
@@ -138,11 +138,11 @@ impl Walk {
         };
         match last {
             Pending::Inner { kind } => {
-                self.write(Word::of(Event::Enter { kind }));
+                self.write(Word::of_event(Event::Enter { kind }));
                 true
             }
             Pending::Outermost { kind } => {
-                self.write(Word::of(Event::Enter { kind }));
+                self.write(Word::of_event(Event::Enter { kind }));
                 false
             }
             Pending::Nothing | Pending::Past => false,
