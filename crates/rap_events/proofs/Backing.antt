@@ -1,5 +1,6 @@
 -- One event back, on the code's own lists.
-use Rattle.std.proofs.Common.{◌≡◌, ℕ, ◌+◌, ◌<◌, List, [], ◌∷◌, ◌++◌, length, take, get_or, refl, sym, ap, ◌∙◌}
+use Rattle.std.proofs.Common.{◌≡◌, ℕ, ◌+◌, ◌<◌, List, [], ◌∷◌, ◌++◌, length, take, map, get_or, sym, ap, ◌∙◌}
+use Rattle.std.specs.Prelude.{string_bytes}
 use Rattle.std.proofs.lemmas.List.{take_more}
 use Rattle.rap_events.specs.History.{Call, call_of, history}
 use Rattle.rap_events.specs.Unwind.{back, unwind, walk_of, texts, calls_left, nothing_yet, Taken, EventBacked, Same}
@@ -20,9 +21,10 @@ unread w = take w.left w.events.items
 pub event_back : (e : Event) (before old new : kept.Walk) → Taken e before old → EventBacked e old new → Same before new
 event_back e before old new t b =
     let es : unread new ≡ unread old = ap (λ (n : ℕ). take n new.events.items) b.kept.left ∙ b.kept.events in
-    let ms : texts new ≡ texts before = rw (b.kept.messages, t.messages) refl in
+    let read : texts old ≡ texts before = ap (map string_bytes) t.messages in
+    let ms : texts new ≡ texts before = ap (map string_bytes) b.kept.messages ∙ read in
     let x : Call = call_of (texts before) e in
-    let same : call_of (texts old) e ≡ x = rw t.messages refl in
+    let same : call_of (texts old) e ≡ x = ap (λ (m : List (List ℕ)). call_of m e) read in
     record {
       left = ap (λ (n : ℕ). n + 1) b.kept.left ∙ t.left;
       unwound =

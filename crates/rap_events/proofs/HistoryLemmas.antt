@@ -1,6 +1,7 @@
 -- Histories of longer lists of events.
-use Rattle.std.proofs.Common.{◌≡◌, ℕ, zero, suc, ◌+◌, ◌<◌, ◌≤◌, List, [], ◌∷◌, ◌++◌, length, Bool, refl, ap, ◌∙◌, arith}
-use Rattle.std.specs.Prelude.{All}
+use Rattle.std.proofs.Common.{◌≡◌, ℕ, zero, suc, ◌+◌, ◌<◌, ◌≤◌, List, [], ◌∷◌, ◌++◌, length, map, get_or, Bool, refl, ap, ◌∙◌, arith}
+use Rattle.std.specs.Prelude.{All, String, string_bytes}
+use Rattle.std.specs.declared.alloc.Global.{Global}
 use Rattle.std.proofs.lemmas.List.{map-append, length-map}
 use Rattle.std.proofs.lemmas.List.Elements.{All-push, All-weaker, All-head, All-tail}
 use Rattle.rap_events.specs.History.{Call, call_of, history, text_at, told_by, IsTold}
@@ -92,6 +93,18 @@ history-report es ms m n e h =
     ∙ ap (λ (i : ℕ). history es (ms ++ m ∷ []) ++ call.error (text_at (ms ++ m ∷ []) i) ∷ []) e
     ∙ ap (λ (b : List ℕ). history es (ms ++ m ∷ []) ++ call.error b ∷ []) (text_at-last ms m)
     ∙ ap (λ (xs : List Call). xs ++ call.error m ∷ []) (history-later es ms m h)
+
+-- a message that a list has
+pub text_found : (ts : List (String Global)) (n : ℕ) (t : String Global) → t ≡ get_or ts n t → n < length ts → string_bytes t ≡ text_at (map string_bytes ts) n
+text_found [] n t e h = absurd (omega arith)
+text_found (s ∷ ts) zero t e h = ap string_bytes e
+text_found (s ∷ ts) (suc n) t e h = text_found ts n t e (omega (arith, h))
+
+-- one that it has not
+pub text_missing : (ts : List (String Global)) (n : ℕ) → length ts ≤ n → [] ≡ text_at (map string_bytes ts) n
+text_missing [] n h = refl
+text_missing (s ∷ ts) zero h = absurd (omega arith)
+text_missing (s ∷ ts) (suc n) h = text_missing ts n (omega (arith, h))
 
 -- how many calls there are
 pub length-history : (es : List Event) (ms : List (List ℕ)) → length (history es ms) ≡ length es

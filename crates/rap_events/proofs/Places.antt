@@ -1,6 +1,7 @@
 -- What is still to begin, on the code's own lists.
-use Rattle.std.proofs.Common.{◌≡◌, ℕ, suc, ◌+◌, List, [], ◌∷◌, ◌++◌, true, drop, reverse, refl, ap, sym, ◌∙◌, arith}
+use Rattle.std.proofs.Common.{◌≡◌, ℕ, suc, ◌+◌, List, [], ◌∷◌, ◌++◌, true, drop, map, reverse, refl, ap, sym, ◌∙◌, arith}
 use Rattle.std.proofs.lemmas.List.{reverse-append}
+use Rattle.std.specs.Prelude.{string_bytes}
 use Rattle.rap_events.specs.StepValue.{StepValue, enter}
 use Rattle.rap_events.specs.Output.{values}
 use Rattle.rap_events.specs.Pending.{inners, glue, others, pasts}
@@ -33,5 +34,7 @@ entered_inner old new ps k p q a s es ms =
     let qs : List Pending = reverse ps in
     let popped : reverse old.pending.items ≡ pending.Inner k ∷ qs = ap reverse p ∙ reverse-append ps (pending.Inner k ∷ []) in
     let before : List StepValue = values (drop old.first old.events.items) (texts old) in
-    let now : values (drop new.first new.events.items) (texts new) ≡ enter k ∷ before = rw (es, ms) refl in
+    let same : texts new ≡ texts old = ap (map string_bytes) ms in
+    let now : values (drop new.first new.events.items) (texts new) ≡ enter k ∷ before =
+    ap (λ (xs : List Event). values xs (texts new)) es ∙ ap (λ (ms : List (List ℕ)). enter k ∷ values (drop old.first old.events.items) ms) same in
     rw (popped, now, q, a, s) (ap (λ (ss : List StepValue). record (walk_of old) { pending = others qs; steps = ss }) (sym (enters-push (glue qs) k before)))

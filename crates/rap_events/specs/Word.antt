@@ -1,4 +1,5 @@
 -- Events and steps as words of 32 bits.
+-- (What calls promise one another; no promise of the library rests on it.)
 use Rattle.std.specs.Prelude.{◌≡◌, ◌≢◌, ℕ, ◌+◌, ◌*◌, ◌^◌, ◌/◌, ◌%◌, ◌≤◌, ◌<◌, ◌==◌, ⊤, [], Bool, true, false, if◌then◌else◌}
 use Rattle.rap_base.specs.NodeKind.{PATH_META}
 use Rattle.rap_events.specs.StepValue.{StepValue, enter, exit, token, float_split, error}

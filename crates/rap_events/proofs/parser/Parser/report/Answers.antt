@@ -13,8 +13,8 @@ invariant_of-self c =
     let e = c.reserve.ensures.items in
     record { tokens = s.tokens; ends = s.ends; in_input = s.in_input; reported = rw e s.reported; sound = rw e s.sound; covers = rw e s.covers; place = rw e s.place; splits = rw e s.splits; fit = rw e s.fit }
 
-pub invariant_of-self-in-Break-branch-2 : goal.invariant_of-self-in-Break-branch-2
-invariant_of-self-in-Break-branch-2 c =
+pub invariant_of-self-in-Break-branch-3 : goal.invariant_of-self-in-Break-branch-3
+invariant_of-self-in-Break-branch-3 c =
     let s = c.args.self.now in
     let e = c.reserve.ensures.items in
     let m : c.push.new.self.items ≡ s.messages.items = rw c.in_err-push.was at c.push.ensures.items in
