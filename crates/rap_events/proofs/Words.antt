@@ -1,5 +1,5 @@
 -- The words of steps, and what is read back of them.
-use Rattle.std.proofs.Common.{◌≡◌, ℕ, ◌+◌, ◌*◌, ◌^◌, ◌/◌, ◌%◌, ◌<◌, List, Bool, true, false, refl, ap, arith}
+use Rattle.std.proofs.Common.{◌≡◌, ℕ, ◌+◌, ◌*◌, ◌^◌, ◌/◌, ◌%◌, ◌<◌, List, true, false, refl, ap, arith}
 use Rattle.std.specs.Prelude.{⊤}
 use Rattle.rap_base.specs.NodeKind.{SOURCE_FILE}
 use Rattle.rap_events.specs.StepValue.{StepValue, enter, exit, token, float_split, error}

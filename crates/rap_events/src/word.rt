@@ -40,13 +40,21 @@ const _: () = prove!(size_of::<Word>() <= 4);
 
 // What stands in bits 4 to 7: first the steps, then the events that are no steps.
 const TOKEN: u32 = 0;
+
 const ENTER: u32 = 1;
+
 const EXIT: u32 = 2;
+
 const FLOAT_SPLIT: u32 = 3;
+
 const START: u32 = 4;
+
 const PRECEDE: u32 = 5;
+
 const FINISH: u32 = 6;
+
 const EXTEND: u32 = 7;
+
 const ABANDON: u32 = 8;
 
 impl Word {
@@ -151,6 +159,11 @@ mod tests {
     fn a_message_is_twice_its_number(rt: HostRuntime) {
         assert_eq!(rt; bits(Event::Error { message: 0 }), 0);
         assert_eq!(rt; bits(Event::Error { message: 5 }), 10);
-        assert_eq!(rt; bits(Event::Error { message: 0x7FFF_FFFF }), 0xFFFF_FFFE);
+        assert_eq!(rt;
+            bits(Event::Error {
+                message: 0x7FFF_FFFF
+            }),
+            0xFFFF_FFFE
+        );
     }
 }
