@@ -9,10 +9,10 @@ ghost use Rattle.rap_base.specs.Limits.{max_tokens};
 use crate::answer::{Fault, NO_TREE, OK, RapAnswer, settle};
 use crate::filler::Filler;
 use crate::numbers::top_entry_of;
-use rap_lexed::used::used_tokens;
 use crate::record::{RapRecord, input_of};
 use crate::step::RapStep;
 use ra_ap_parser::{Output, ParseFault, TopEntryPoint, is_one_tree};
+use rap_lexed::used::used_tokens;
 use std::alloc::Global;
 
 /// The status of an output: whether it is one tree.

@@ -1,6 +1,10 @@
 -- Histories of longer lists of events.
-use Rattle.std.proofs.Common.{◌≡◌, ℕ, ◌+◌, List, [], ◌∷◌, ◌++◌, length, Bool, refl, ap, arith}
-use Rattle.rap_events.specs.History.{Call, history, errors}
+use Rattle.std.proofs.Common.{◌≡◌, ℕ, zero, suc, ◌+◌, ◌<◌, ◌≤◌, List, [], ◌∷◌, ◌++◌, length, map, get_or, Bool, refl, ap, ◌∙◌, arith}
+use Rattle.std.specs.Prelude.{All, String, string_bytes}
+use Rattle.std.specs.declared.alloc.Global.{Global}
+use Rattle.std.proofs.lemmas.List.{map-append, length-map}
+use Rattle.std.proofs.lemmas.List.Elements.{All-push, All-weaker, All-head, All-tail}
+use Rattle.rap_events.specs.History.{Call, call_of, history, text_at, told_by, IsTold}
 use Rattle.rap_events.specs.History as call
 use Rattle.rap_events.specs.declared.event.Event.{Event}
 use Rattle.rap_events.specs.declared.event.Event.TheVariants as event
@@ -17,86 +21,91 @@ pub data Shows : Event → Call → Type 0 where
   enter : (k : ℕ) → Shows (event.Enter k) call.start
   exit : Shows event.Exit call.start
 
-history-one : (e : Event) (x : Call) (ms : List (List ℕ)) → Shows e x → history (e ∷ []) ms ≡ x ∷ []
-history-one e x ms start = refl
-history-one e x ms precede = refl
-history-one e x ms (finish k) = refl
-history-one e x ms extend = refl
-history-one e x ms abandon = refl
-history-one e x ms (token k w) = refl
-history-one e x ms (float_split d) = refl
-history-one e x ms (enter k) = refl
-history-one e x ms exit = refl
+shown : (ms : List (List ℕ)) (e : Event) (x : Call) → Shows e x → call_of ms e ≡ x
+shown ms e x start = refl
+shown ms e x precede = refl
+shown ms e x (finish k) = refl
+shown ms e x extend = refl
+shown ms e x abandon = refl
+shown ms e x (token k w) = refl
+shown ms e x (float_split d) = refl
+shown ms e x (enter k) = refl
+shown ms e x exit = refl
+
+-- it has no message's number
+silent : (e : Event) (x : Call) → Shows e x → told_by e ≡ 0
+silent e x start = refl
+silent e x precede = refl
+silent e x (finish k) = refl
+silent e x extend = refl
+silent e x abandon = refl
+silent e x (token k w) = refl
+silent e x (float_split d) = refl
+silent e x (enter k) = refl
+silent e x exit = refl
+
+-- one event more
+pub history-more : (es : List Event) (ms : List (List ℕ)) (e : Event) → history (es ++ e ∷ []) ms ≡ history es ms ++ call_of ms e ∷ []
+history-more es ms e = map-append (call_of ms) es (e ∷ [])
 
 -- one event more that is no message
 pub history-push : (es : List Event) (ms : List (List ℕ)) (e : Event) (x : Call) → Shows e x → history (es ++ e ∷ []) ms ≡ history es ms ++ x ∷ []
-history-push [] ms e x h = history-one e x ms h
-history-push (event.Start ∷ es) ms e x h = ap (λ (xs : List Call). call.start ∷ xs) (history-push es ms e x h)
-history-push (event.Precede ∷ es) ms e x h = ap (λ (xs : List Call). call.precede ∷ xs) (history-push es ms e x h)
-history-push (event.Finish k ∷ es) ms e x h = ap (λ (xs : List Call). call.finish k ∷ xs) (history-push es ms e x h)
-history-push (event.Extend ∷ es) ms e x h = ap (λ (xs : List Call). call.extend ∷ xs) (history-push es ms e x h)
-history-push (event.Abandon ∷ es) ms e x h = ap (λ (xs : List Call). call.abandon ∷ xs) (history-push es ms e x h)
-history-push (event.Token w k ∷ es) ms e x h = ap (λ (xs : List Call). call.token k w ∷ xs) (history-push es ms e x h)
-history-push (event.FloatSplit d ∷ es) ms e x h = ap (λ (xs : List Call). call.float_split d ∷ xs) (history-push es ms e x h)
-history-push (event.Enter k ∷ es) ms e x h = ap (λ (xs : List Call). call.start ∷ xs) (history-push es ms e x h)
-history-push (event.Exit ∷ es) ms e x h = ap (λ (xs : List Call). call.start ∷ xs) (history-push es ms e x h)
-history-push (event.Error ∷ es) [] e x h = ap (λ (xs : List Call). call.error [] ∷ xs) (history-push es [] e x h)
-history-push (event.Error ∷ es) (m ∷ ms) e x h = ap (λ (xs : List Call). call.error m ∷ xs) (history-push es ms e x h)
+history-push es ms e x h = history-more es ms e ∙ ap (λ (y : Call). history es ms ++ y ∷ []) (shown ms e x h)
+
+pub told-push : (n : ℕ) (es : List Event) (e : Event) (x : Call) → Shows e x → All (IsTold n) es → All (IsTold n) (es ++ e ∷ [])
+told-push n es e x h a = All-push (IsTold n) es e a (omega (arith, silent e x h))
+
+pub told-report : (n : ℕ) (es : List Event) → All (IsTold n) es → All (IsTold (n + 1)) (es ++ event.Error n ∷ [])
+told-report n es a = All-push (IsTold (n + 1)) es (event.Error n) (All-weaker (IsTold n) (IsTold (n + 1)) (λ e h. omega (arith, h)) es a) (omega arith)
+
+text_at-more : (ms : List (List ℕ)) (m : List ℕ) (n : ℕ) → n < length ms → text_at (ms ++ m ∷ []) n ≡ text_at ms n
+text_at-more [] m n h = absurd (omega arith)
+text_at-more (t ∷ ms) m zero h = refl
+text_at-more (t ∷ ms) m (suc n) h = text_at-more ms m n (omega (arith, h))
+
+text_at-last : (ms : List (List ℕ)) (m : List ℕ) → text_at (ms ++ m ∷ []) (length ms) ≡ m
+text_at-last [] m = refl
+text_at-last (t ∷ ms) m = text_at-last ms m
+
+-- a later message changes no call
+call_of-more : (ms : List (List ℕ)) (m : List ℕ) (e : Event) → IsTold (length ms) e → call_of (ms ++ m ∷ []) e ≡ call_of ms e
+call_of-more ms m event.Start h = refl
+call_of-more ms m event.Precede h = refl
+call_of-more ms m (event.Finish k) h = refl
+call_of-more ms m event.Extend h = refl
+call_of-more ms m event.Abandon h = refl
+call_of-more ms m (event.Token w k) h = refl
+call_of-more ms m (event.FloatSplit d) h = refl
+call_of-more ms m (event.Error number) h = ap call.error (text_at-more ms m number (omega (arith, h)))
+call_of-more ms m (event.Enter k) h = refl
+call_of-more ms m event.Exit h = refl
+
+history-later : (es : List Event) (ms : List (List ℕ)) (m : List ℕ) → All (IsTold (length ms)) es → history es (ms ++ m ∷ []) ≡ history es ms
+history-later [] ms m h = refl
+history-later (e ∷ es) ms m h =
+    ap (λ (x : Call). x ∷ history es (ms ++ m ∷ [])) (call_of-more ms m e (All-head (IsTold (length ms)) e es h))
+    ∙ ap (λ (xs : List Call). call_of ms e ∷ xs) (history-later es ms m (All-tail (IsTold (length ms)) e es h))
 
 -- one message more
-pub history-report : (es : List Event) (ms : List (List ℕ)) (m : List ℕ) → errors es ≡ length ms → history (es ++ event.Error ∷ []) (ms ++ m ∷ []) ≡ history es ms ++ call.error m ∷ []
-history-report [] [] m h = refl
-history-report [] (n ∷ ms) m h = absurd (omega arith)
-history-report (event.Start ∷ es) ms m h = ap (λ (xs : List Call). call.start ∷ xs) (history-report es ms m h)
-history-report (event.Precede ∷ es) ms m h = ap (λ (xs : List Call). call.precede ∷ xs) (history-report es ms m h)
-history-report (event.Finish k ∷ es) ms m h = ap (λ (xs : List Call). call.finish k ∷ xs) (history-report es ms m h)
-history-report (event.Extend ∷ es) ms m h = ap (λ (xs : List Call). call.extend ∷ xs) (history-report es ms m h)
-history-report (event.Abandon ∷ es) ms m h = ap (λ (xs : List Call). call.abandon ∷ xs) (history-report es ms m h)
-history-report (event.Token w k ∷ es) ms m h = ap (λ (xs : List Call). call.token k w ∷ xs) (history-report es ms m h)
-history-report (event.FloatSplit d ∷ es) ms m h = ap (λ (xs : List Call). call.float_split d ∷ xs) (history-report es ms m h)
-history-report (event.Enter k ∷ es) ms m h = ap (λ (xs : List Call). call.start ∷ xs) (history-report es ms m h)
-history-report (event.Exit ∷ es) ms m h = ap (λ (xs : List Call). call.start ∷ xs) (history-report es ms m h)
-history-report (event.Error ∷ es) [] m h = absurd (omega arith)
-history-report (event.Error ∷ es) (n ∷ ms) m h = ap (λ (xs : List Call). call.error n ∷ xs) (history-report es ms m (omega arith))
+pub history-report : (es : List Event) (ms : List (List ℕ)) (m : List ℕ) (n : ℕ) → n ≡ length ms → All (IsTold (length ms)) es → history (es ++ event.Error n ∷ []) (ms ++ m ∷ []) ≡ history es ms ++ call.error m ∷ []
+history-report es ms m n e h =
+    history-more es (ms ++ m ∷ []) (event.Error n)
+    ∙ ap (λ (i : ℕ). history es (ms ++ m ∷ []) ++ call.error (text_at (ms ++ m ∷ []) i) ∷ []) e
+    ∙ ap (λ (b : List ℕ). history es (ms ++ m ∷ []) ++ call.error b ∷ []) (text_at-last ms m)
+    ∙ ap (λ (xs : List Call). xs ++ call.error m ∷ []) (history-later es ms m h)
+
+-- a message that a list has
+pub text_found : (ts : List (String Global)) (n : ℕ) (t : String Global) → t ≡ get_or ts n t → n < length ts → string_bytes t ≡ text_at (map string_bytes ts) n
+text_found [] n t e h = absurd (omega arith)
+text_found (s ∷ ts) zero t e h = ap string_bytes e
+text_found (s ∷ ts) (suc n) t e h = text_found ts n t e (omega (arith, h))
+
+-- one that it has not
+pub text_missing : (ts : List (String Global)) (n : ℕ) → length ts ≤ n → [] ≡ text_at (map string_bytes ts) n
+text_missing [] n h = refl
+text_missing (s ∷ ts) zero h = absurd (omega arith)
+text_missing (s ∷ ts) (suc n) h = text_missing ts n (omega (arith, h))
 
 -- how many calls there are
 pub length-history : (es : List Event) (ms : List (List ℕ)) → length (history es ms) ≡ length es
-length-history [] ms = refl
-length-history (event.Start ∷ es) ms = omega (arith, length-history es ms)
-length-history (event.Precede ∷ es) ms = omega (arith, length-history es ms)
-length-history (event.Finish k ∷ es) ms = omega (arith, length-history es ms)
-length-history (event.Extend ∷ es) ms = omega (arith, length-history es ms)
-length-history (event.Abandon ∷ es) ms = omega (arith, length-history es ms)
-length-history (event.Token w k ∷ es) ms = omega (arith, length-history es ms)
-length-history (event.FloatSplit d ∷ es) ms = omega (arith, length-history es ms)
-length-history (event.Enter k ∷ es) ms = omega (arith, length-history es ms)
-length-history (event.Exit ∷ es) ms = omega (arith, length-history es ms)
-length-history (event.Error ∷ es) [] = omega (arith, length-history es [])
-length-history (event.Error ∷ es) (m ∷ ms) = omega (arith, length-history es ms)
-
-errors-one : (e : Event) (x : Call) → Shows e x → errors (e ∷ []) ≡ 0
-errors-one e x start = refl
-errors-one e x precede = refl
-errors-one e x (finish k) = refl
-errors-one e x extend = refl
-errors-one e x abandon = refl
-errors-one e x (token k w) = refl
-errors-one e x (float_split d) = refl
-errors-one e x (enter k) = refl
-errors-one e x exit = refl
-
-pub errors-append : (es fs : List Event) → errors (es ++ fs) ≡ errors es + errors fs
-errors-append [] fs = omega arith
-errors-append (event.Start ∷ es) fs = errors-append es fs
-errors-append (event.Precede ∷ es) fs = errors-append es fs
-errors-append (event.Finish k ∷ es) fs = errors-append es fs
-errors-append (event.Extend ∷ es) fs = errors-append es fs
-errors-append (event.Abandon ∷ es) fs = errors-append es fs
-errors-append (event.Token w k ∷ es) fs = errors-append es fs
-errors-append (event.FloatSplit d ∷ es) fs = errors-append es fs
-errors-append (event.Enter k ∷ es) fs = errors-append es fs
-errors-append (event.Exit ∷ es) fs = errors-append es fs
-errors-append (event.Error ∷ es) fs = omega (arith, errors-append es fs)
-
-pub errors-push : (es : List Event) (e : Event) (x : Call) → Shows e x → errors (es ++ e ∷ []) ≡ errors es
-errors-push es e x h = omega (arith, errors-append es (e ∷ []), errors-one e x h)
+length-history es ms = length-map es (call_of ms)

@@ -22,3 +22,4 @@ pub mod Truth
 pub mod Unwinding
 pub mod Values
 pub mod Weight
+pub mod Words

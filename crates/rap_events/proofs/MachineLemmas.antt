@@ -2,7 +2,7 @@
 use Rattle.std.proofs.Common.{◌≡◌, ℕ, ◌+◌, List, [], ◌∷◌, ◌++◌, length, Option, None, Bool, true, false, refl, sym, ◌∙◌, append_assoc, append-nil, arith, zero-add}
 use Rattle.rap_events.specs.Forest.{Forest, none, node, leaf, message, split, ◌⧺◌}
 use Rattle.rap_events.specs.Cover.{leaves}
-use Rattle.rap_events.specs.History.{Call, history, errors}
+use Rattle.rap_events.specs.History.{Call, history}
 use Rattle.rap_events.specs.History as call
 use Rattle.rap_events.specs.Machine.{Stack, floor, push, Config, close, merge, wrap, stretch, step, run, initial}
 use Rattle.rap_events.proofs.Truth.{and_right}

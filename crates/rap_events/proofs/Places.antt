@@ -1,12 +1,11 @@
--- What is still to begin, and what was met, on the code's own lists.
-use Rattle.std.proofs.Common.{◌≡◌, ℕ, suc, ◌+◌, ◌<◌, List, [], ◌∷◌, ◌++◌, true, length, take, drop, reverse, get_or, refl, ap, sym, ◌∙◌, arith}
-use Rattle.std.proofs.lemmas.List.{reverse-append, drop_more, take_more}
-use Rattle.std.specs.Prelude.{String, string_bytes}
-use Rattle.std.specs.declared.alloc.Global.{Global}
-use Rattle.rap_events.specs.StepValue.{StepValue, enter, error}
+-- What is still to begin, on the code's own lists.
+use Rattle.std.proofs.Common.{◌≡◌, ℕ, suc, ◌+◌, List, [], ◌∷◌, ◌++◌, true, drop, map, reverse, ap, sym, ◌∙◌, arith}
+use Rattle.std.proofs.lemmas.List.{reverse-append}
+use Rattle.std.specs.Prelude.{string_bytes}
+use Rattle.rap_events.specs.StepValue.{StepValue, enter}
 use Rattle.rap_events.specs.Output.{values}
 use Rattle.rap_events.specs.Pending.{inners, glue, others, pasts}
-use Rattle.rap_events.specs.Unwind.{entered, walk_of}
+use Rattle.rap_events.specs.Unwind.{entered, texts, walk_of}
 use Rattle.rap_events.specs.declared.event.Event.{Event}
 use Rattle.rap_events.specs.declared.event.Event.TheVariants as event
 use Rattle.rap_events.specs.declared.event.walk.Pending.{Pending}
@@ -29,29 +28,13 @@ pasts_more n ps =
 
 -- a node that is in another one begins
 pub entered_inner : (old new : kept.Walk) (ps : List Pending) (k : ℕ) → old.pending.items ≡ ps ++ pending.Inner k ∷ [] → new.pending.items ≡ ps → new.is_around ≡ old.is_around → new.skips ≡ old.skips →
-    drop new.first new.events.items ≡ event.Enter k ∷ drop old.first old.events.items → new.reports ≡ old.reports → new.messages.items ≡ old.messages.items →
+    drop new.first new.events.items ≡ event.Enter k ∷ drop old.first old.events.items → new.messages.items ≡ old.messages.items →
     entered true (walk_of new) ≡ entered true (walk_of old)
-entered_inner old new ps k p q a s es r ms =
+entered_inner old new ps k p q a s es ms =
     let qs : List Pending = reverse ps in
     let popped : reverse old.pending.items ≡ pending.Inner k ∷ qs = ap reverse p ∙ reverse-append ps (pending.Inner k ∷ []) in
-    let before : List StepValue = values (drop old.first old.events.items) (drop old.reports old.messages.items) in
-    let now : values (drop new.first new.events.items) (drop new.reports new.messages.items) ≡ enter k ∷ before = rw (es, r, ms) refl in
+    let before : List StepValue = values (drop old.first old.events.items) (texts old) in
+    let same : texts new ≡ texts old = ap (map string_bytes) ms in
+    let now : values (drop new.first new.events.items) (texts new) ≡ enter k ∷ before =
+    ap (λ (xs : List Event). values xs (texts new)) es ∙ ap (λ (ms : List (List ℕ)). enter k ∷ values (drop old.first old.events.items) ms) same in
     rw (popped, now, q, a, s) (ap (λ (ss : List StepValue). record (walk_of old) { pending = others qs; steps = ss }) (sym (enters-push (glue qs) k before)))
-
--- the message at a place, which the next one follows
-pub record At (ms : List (String Global)) (n next : ℕ) : Type 0 where
-  pub text : String Global
-  pub rest : drop n ms ≡ text ∷ drop next ms
-  pub upto : take next ms ≡ take n ms ++ text ∷ []
-
-pub at : (ms : List (String Global)) (n next : ℕ) → n < length ms → n + 1 ≡ next → At ms n next
-at [] n next h e = absurd (omega arith)
-at (m ∷ ms) n next h e = record {
-  text = get_or (m ∷ ms) n m;
-  rest = drop_more (m ∷ ms) n m h ∙ ap (λ (i : ℕ). get_or (m ∷ ms) n m ∷ drop i (m ∷ ms)) e;
-  upto = ap (λ (i : ℕ). take i (m ∷ ms)) (sym e) ∙ take_more (m ∷ ms) n m h;
-}
-
--- the step that reports it
-pub error_value : (ms : List (String Global)) (n next : ℕ) (es : List Event) (m : At ms n next) → values (event.Error ∷ es) (drop n ms) ≡ error (string_bytes m.text) ∷ values es (drop next ms)
-error_value ms n next es m = rw m.rest refl

@@ -1,6 +1,6 @@
 -- The calls that a parser recorded, in order. The number of a call is its place among them.
 -- (What calls promise one another; no promise of the library rests on it.)
-use Rattle.std.specs.Prelude.{ℕ, ◌+◌, List, [], ◌∷◌, Bool}
+use Rattle.std.specs.Prelude.{ℕ, zero, suc, ◌+◌, ◌≤◌, List, [], ◌∷◌, map, Bool}
 use Rattle.rap_events.specs.declared.event.Event.{Event}
 use Rattle.rap_events.specs.declared.event.Event.TheVariants as event
 
@@ -18,32 +18,43 @@ pub data Call : Type 0 where
   float_split : Bool → Call
   error : List ℕ → Call
 
--- The calls that the events show, each error with the next of the messages. A step that is no call would be a start,
--- and no parser records one.
-abbrev pub history : List Event → List (List ℕ) → List Call
-history [] ms = []
-history (event.Start ∷ es) ms = start ∷ history es ms
-history (event.Precede ∷ es) ms = precede ∷ history es ms
-history (event.Finish kind ∷ es) ms = finish kind ∷ history es ms
-history (event.Extend ∷ es) ms = extend ∷ history es ms
-history (event.Abandon ∷ es) ms = abandon ∷ history es ms
-history (event.Token width kind ∷ es) ms = token kind width ∷ history es ms
-history (event.FloatSplit ends_in_dot ∷ es) ms = float_split ends_in_dot ∷ history es ms
-history (event.Error ∷ es) [] = error [] ∷ history es []
-history (event.Error ∷ es) (m ∷ ms) = error m ∷ history es ms
-history (event.Enter kind ∷ es) ms = start ∷ history es ms
-history (event.Exit ∷ es) ms = start ∷ history es ms
+-- the message of a number, by its bytes, or none where there is no such message
+abbrev pub text_at : List (List ℕ) → ℕ → List ℕ
+text_at [] n = []
+text_at (m ∷ ms) zero = m
+text_at (m ∷ ms) (suc n) = text_at ms n
 
--- how many of the events are errors
-abbrev pub errors : List Event → ℕ
-errors [] = 0
-errors (event.Start ∷ es) = errors es
-errors (event.Precede ∷ es) = errors es
-errors (event.Finish kind ∷ es) = errors es
-errors (event.Extend ∷ es) = errors es
-errors (event.Abandon ∷ es) = errors es
-errors (event.Token width kind ∷ es) = errors es
-errors (event.FloatSplit ends_in_dot ∷ es) = errors es
-errors (event.Error ∷ es) = errors es + 1
-errors (event.Enter kind ∷ es) = errors es
-errors (event.Exit ∷ es) = errors es
+-- The call that an event shows, an error with the message of its number. A step that is no call would be a start, and
+-- no parser records one.
+abbrev pub call_of : List (List ℕ) → Event → Call
+call_of ms event.Start = start
+call_of ms event.Precede = precede
+call_of ms (event.Finish kind) = finish kind
+call_of ms event.Extend = extend
+call_of ms event.Abandon = abandon
+call_of ms (event.Token width kind) = token kind width
+call_of ms (event.FloatSplit ends_in_dot) = float_split ends_in_dot
+call_of ms (event.Error message) = error (text_at ms message)
+call_of ms (event.Enter kind) = start
+call_of ms event.Exit = start
+
+-- the calls that the events show
+abbrev pub history : List Event → List (List ℕ) → List Call
+history es ms = map (call_of ms) es
+
+-- how many messages there are at least, since an error has the number of one of them
+abbrev pub told_by : Event → ℕ
+told_by event.Start = 0
+told_by event.Precede = 0
+told_by (event.Finish kind) = 0
+told_by event.Extend = 0
+told_by event.Abandon = 0
+told_by (event.Token width kind) = 0
+told_by (event.FloatSplit ends_in_dot) = 0
+told_by (event.Error message) = message + 1
+told_by (event.Enter kind) = 0
+told_by event.Exit = 0
+
+-- an event with a message has the number of one of so many
+abbrev pub IsTold : ℕ → Event → Type 0
+IsTold n e = told_by e ≤ n

@@ -18,3 +18,4 @@ pub mod State
 pub mod Step
 pub mod StepValue
 pub mod Unwind
+pub mod Word

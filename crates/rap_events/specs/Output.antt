@@ -1,32 +1,34 @@
 -- The steps that an output holds.
 -- (What calls promise one another; no promise of the library rests on it.)
-use Rattle.std.specs.Prelude.{◌≤◌, ⊤, List, [], ◌∷◌, Option, Some, None, String, string_bytes, drop, length}
-use Rattle.std.specs.declared.alloc.Global.{Global}
+use Rattle.std.specs.Prelude.{◌≤◌, ⊤, ℕ, List, [], Option, Some, None, map, string_bytes, drop, length}
+use Rattle.rap_events.specs.History.{text_at}
 use Rattle.rap_events.specs.StepValue.{StepValue, enter, exit, token, float_split, error}
 use Rattle.rap_events.specs.declared.event.Event.{Event}
 use Rattle.rap_events.specs.declared.event.Event.TheVariants as event
 use Rattle.rap_events.specs.declared.output.StepList.{StepList}
 
--- what a contract sees of steps, each error with the next of the messages; an event that is no step would be an empty
+-- what a contract sees of a step, an error with the message of its number; an event that is no step would be an empty
 -- message, and no output holds one
-abbrev pub values : List Event → List (String Global) → List StepValue
-values [] ms = []
-values (event.Token width kind ∷ es) ms = token kind width ∷ values es ms
-values (event.FloatSplit ends_in_dot ∷ es) ms = float_split ends_in_dot ∷ values es ms
-values (event.Enter kind ∷ es) ms = enter kind ∷ values es ms
-values (event.Exit ∷ es) ms = exit ∷ values es ms
-values (event.Error ∷ es) [] = error [] ∷ values es []
-values (event.Error ∷ es) (m ∷ ms) = error (string_bytes m) ∷ values es ms
-values (event.Start ∷ es) ms = error [] ∷ values es ms
-values (event.Precede ∷ es) ms = error [] ∷ values es ms
-values (event.Finish kind ∷ es) ms = error [] ∷ values es ms
-values (event.Extend ∷ es) ms = error [] ∷ values es ms
-values (event.Abandon ∷ es) ms = error [] ∷ values es ms
+abbrev pub value_of : List (List ℕ) → Event → StepValue
+value_of ms (event.Token width kind) = token kind width
+value_of ms (event.FloatSplit ends_in_dot) = float_split ends_in_dot
+value_of ms (event.Enter kind) = enter kind
+value_of ms event.Exit = exit
+value_of ms (event.Error message) = error (text_at ms message)
+value_of ms event.Start = error []
+value_of ms event.Precede = error []
+value_of ms (event.Finish kind) = error []
+value_of ms event.Extend = error []
+value_of ms event.Abandon = error []
+
+-- the same of steps one after another
+abbrev pub values : List Event → List (List ℕ) → List StepValue
+values es ms = map (value_of ms) es
 
 -- what a contract sees of steps that may be there
 abbrev pub values_of : Option StepList → List StepValue
 values_of None = []
-values_of (Some list) = values (drop list.first list.steps.items) list.messages.items
+values_of (Some list) = values (drop list.first list.steps.items) (map string_bytes list.messages.items)
 
 -- the steps begin within the list
 abbrev pub IsWithin : Option StepList → Type 0

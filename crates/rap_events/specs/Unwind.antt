@@ -3,13 +3,12 @@
 use Rattle.std.specs.Prelude.{◌≡◌, ℕ, suc, ◌+◌, ◌≤◌, ◌<◌, List, [], ◌∷◌, ◌++◌, Bool, true, false, length, map, reverse, take, drop, String, string_bytes}
 use Rattle.std.specs.declared.alloc.Global.{Global}
 use Rattle.rap_events.specs.StepValue.{StepValue, enter, exit, token, float_split, error}
-use Rattle.rap_events.specs.History.{Call, history, errors}
+use Rattle.rap_events.specs.History.{Call, call_of, history}
 use Rattle.rap_events.specs.History as call
 use Rattle.rap_events.specs.Forest.{ended_by}
 use Rattle.rap_events.specs.Interval.{without_exits}
 use Rattle.rap_events.specs.Output.{values}
 use Rattle.rap_events.specs.declared.event.Event.{Event}
-use Rattle.rap_events.specs.declared.event.Event.TheVariants as event
 use Rattle.rap_events.specs.declared.event.walk.Pending.{Pending}
 use Rattle.rap_events.specs.declared.event.walk.Pending.TheVariants as pending
 use Rattle.rap_events.specs.declared.event.walk.Walk as kept
@@ -53,13 +52,17 @@ unwind (x ∷ xs) w = back x (unwind xs w)
 abbrev pub nothing_yet : Walk
 nothing_yet = record { is_around = false; skips = 0; pending = []; steps = [] }
 
+-- the messages, by their bytes
+abbrev pub texts : kept.Walk → List (List ℕ)
+texts w = map string_bytes w.messages.items
+
 -- what the code keeps: its list is kept the other way round, and the steps stand where events were
 abbrev pub walk_of : kept.Walk → Walk
 walk_of w = record {
   is_around = w.is_around;
   skips = w.skips;
   pending = reverse w.pending.items;
-  steps = values (drop w.first w.events.items) (drop w.reports w.messages.items);
+  steps = values (drop w.first w.events.items) (texts w);
 }
 
 -- an event was read whose place is still free
@@ -71,7 +74,6 @@ pub record Started (es : List Event) (ms : List (String Global)) (w : kept.Walk)
   pub events : w.events.items ≡ es
   pub left : w.left ≡ length es
   pub messages : w.messages.items ≡ ms
-  pub reports : w.reports ≡ length ms
   pub walk : walk_of w ≡ nothing_yet
 
 -- the events that were not yet read, and the messages, are as before
@@ -79,7 +81,6 @@ pub record Kept (old new : kept.Walk) : Type 0 where
   pub left : new.left ≡ old.left
   pub events : take old.left new.events.items ≡ take old.left old.events.items
   pub messages : new.messages.items ≡ old.messages.items
-  pub reports : new.reports ≡ old.reports
 
 -- a step stands before the others
 pub record Written (step : Event) (old new : kept.Walk) : Type 0 where
@@ -95,7 +96,6 @@ pub record Taken (e : Event) (old new : kept.Walk) : Type 0 where
   pub left : new.left + 1 ≡ old.left
   pub events : take old.left old.events.items ≡ take new.left new.events.items ++ e ∷ []
   pub messages : new.messages.items ≡ old.messages.items
-  pub reports : new.reports ≡ old.reports
   pub walk : walk_of new ≡ walk_of old
   pub room : HasRoom new
   pub few : new.skips + new.left < length new.events.items
@@ -112,35 +112,15 @@ pub record Backed (x : Call) (old new : kept.Walk) : Type 0 where
   pub kept : Kept old new
   pub walk : walk_of new ≡ back x (walk_of old)
 
--- the last message that was not yet met was met
-pub record ReportedBack (old new : kept.Walk) : Type 0 where
-  pub text : String Global
-  pub left : new.left ≡ old.left
-  pub events : take old.left new.events.items ≡ take old.left old.events.items
-  pub messages : new.messages.items ≡ old.messages.items
-  pub reports : new.reports + 1 ≡ old.reports
-  pub met : take old.reports old.messages.items ≡ take new.reports old.messages.items ++ text ∷ []
-  pub walk : walk_of new ≡ back (call.error (string_bytes text)) (walk_of old)
-
 -- an event was taken back
 abbrev pub EventBacked : Event → kept.Walk → kept.Walk → Type 0
-EventBacked event.Start old new = Backed call.start old new
-EventBacked event.Precede old new = Backed call.precede old new
-EventBacked (event.Finish kind) old new = Backed (call.finish kind) old new
-EventBacked event.Extend old new = Backed call.extend old new
-EventBacked event.Abandon old new = Backed call.abandon old new
-EventBacked (event.Token width kind) old new = Backed (call.token kind width) old new
-EventBacked (event.FloatSplit ends_in_dot) old new = Backed (call.float_split ends_in_dot) old new
-EventBacked event.Error old new = ReportedBack old new
-EventBacked (event.Enter kind) old new = Backed call.start old new
-EventBacked event.Exit old new = Backed call.start old new
+EventBacked e old new = Backed (call_of (texts old) e) old new
 
 -- the calls that were not yet taken back
 abbrev pub calls_left : kept.Walk → List Call
-calls_left w = history (take w.left w.events.items) (map string_bytes (take w.reports w.messages.items))
+calls_left w = history (take w.left w.events.items) (texts w)
 
 -- one event fewer is left to take back, and to go on gives the same
 pub record Same (old new : kept.Walk) : Type 0 where
   pub left : new.left + 1 ≡ old.left
-  pub paired : errors (take new.left new.events.items) ≡ new.reports
   pub unwound : unwind (calls_left new) (walk_of new) ≡ unwind (calls_left old) (walk_of old)

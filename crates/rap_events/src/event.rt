@@ -1,12 +1,12 @@
 //! What a parser records, and what it makes of it.
-ghost use Rattle.std.specs.Prelude.{◌≡◌, ◌^◌, ◌<◌, map, length, true, IfOk, string_bytes};
+ghost use Rattle.std.specs.Prelude.{◌≡◌, ◌<◌, map, true, IfOk, string_bytes};
 ghost use Rattle.rap_events.specs.Machine.{run, initial, floor, all_splits_placed};
 
 use crate::output::Output;
+use crate::word::Word;
 use rap_base::no_memory::NoMemory;
 use rap_base::syntax_kind::SyntaxKind;
 use std::alloc::Global;
-use std::mem::size_of;
 
 mod walk;
 
@@ -41,8 +41,10 @@ pub(crate) enum Event {
     FloatSplit {
         ends_in_dot: bool,
     },
-    /// A message is reported: the n-th error has the parser's n-th message.
-    Error,
+    /// The message of this number is reported.
+    Error {
+        message: u32,
+    },
     /// A node begins: a step. A parser records none.
     Enter {
         kind: SyntaxKind,
@@ -51,10 +53,8 @@ pub(crate) enum Event {
     Exit,
 }
 
-const _: () = prove!(size_of::<Event>() <= 4);
-
 impl Event {
-    ghost use Rattle.rap_events.specs.History.{history, errors};
+    ghost use Rattle.rap_events.specs.History.{history};
 
     /// The output that the events make: the forest of their history. The events and messages are moved into it.
     ///
@@ -62,10 +62,9 @@ impl Event {
     /// that were finished later begin before it. The steps are written in the place of events that were read.
     pub(crate) fn process(
         alloc: Global,
-        events: Vec<Event>,
+        events: Vec<Word>,
         messages: Vec<String>,
     ) -> Result<Output, NoMemory>
-        requires paired { errors events.items ≡ length messages.items }
         requires sound { (run initial (history events.items (map string_bytes messages.items))).sound ≡ true }
         requires closed { (run initial (history events.items (map string_bytes messages.items))).below ≡ floor }
         requires splits { all_splits_placed (run initial (history events.items (map string_bytes messages.items))) ≡ true }

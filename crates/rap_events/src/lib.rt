@@ -5,3 +5,4 @@ pub mod event;
 pub mod input;
 pub mod output;
 pub mod parser;
+mod word;

@@ -1,21 +1,21 @@
 //! What a parse gives: the steps of its forest.
-ghost use Rattle.std.specs.Prelude.{◌≡◌, ◌≤◌, ◌<◌, ◌^◌, List, ◌∷◌, length, drop, true, IfOk};
-ghost use Rattle.rap_events.specs.StepValue.{error};
+ghost use Rattle.std.specs.Prelude.{◌≡◌, ◌≤◌, ◌<◌, ◌^◌, length, drop, map, true, IfOk, string_bytes};
 ghost use Rattle.rap_events.specs.Output.{values};
-ghost use Rattle.rap_events.specs.declared.event.Event.TheVariants as event;
+ghost use Rattle.rap_events.specs.History.{text_at};
 ghost use Rattle.rap_events.specs.Forest.{none, node, flat, splits_placed};
 ghost use Rattle.rap_events.specs.Reading.{forest_of};
 
 use crate::event::Event;
+use crate::word::Word;
 use rap_base::no_memory::NoMemory;
 use rap_base::syntax_kind::SyntaxKind;
 use std::alloc::Global;
 use std::marker::Model;
 
-/// The steps of an output: what stands from `first` on. The n-th error among them has the n-th of the messages.
+/// The steps of an output: what stands from `first` on, each error with the number of its message.
 #[derive(Drop)]
 pub(crate) struct StepList {
-    steps: Vec<Event>,
+    steps: Vec<Word>,
     first: usize,
     messages: Vec<String>,
 }
@@ -56,12 +56,12 @@ impl Default for Output {
 }
 
 impl Output {
-    /// The output of the steps that stand from `first` on, each error with the next of the messages.
-    pub(crate) fn of_steps(steps: Vec<Event>, first: usize, messages: Vec<String>) -> Output
+    /// The output of the steps that stand from `first` on, each error with the message of its number.
+    pub(crate) fn of_steps(steps: Vec<Word>, first: usize, messages: Vec<String>) -> Output
         requires within { first ≤ length steps.items }
-        requires steps { flat (forest_of (values (drop first steps.items) messages.items)) ≡ values (drop first steps.items) messages.items }
-        requires splits { splits_placed (forest_of (values (drop first steps.items) messages.items)) ≡ true }
-        ensures { result ≡ forest_of (values (drop first steps.items) messages.items) }
+        requires steps { flat (forest_of (values (drop first steps.items) (map string_bytes messages.items))) ≡ values (drop first steps.items) (map string_bytes messages.items) }
+        requires splits { splits_placed (forest_of (values (drop first steps.items) (map string_bytes messages.items))) ≡ true }
+        ensures { result ≡ forest_of (values (drop first steps.items) (map string_bytes messages.items)) }
     {
         Output {
             list: Some(StepList {
@@ -75,7 +75,7 @@ impl Output {
     /// The steps that show this forest.
     fn into_list(self, alloc: Global) -> StepList
         ensures within { result.first ≤ length result.steps.items }
-        ensures list { values (drop result.first result.steps.items) result.messages.items ≡ flat self }
+        ensures list { values (drop result.first result.steps.items) (map string_bytes result.messages.items) ≡ flat self }
         ensures splits { splits_placed self ≡ true }
     {
         match self.list {
@@ -119,8 +119,8 @@ pub fn wrap_in_node(alloc: Global, output: Output, kind: SyntaxKind) -> Result<O
         first,
         messages,
     } = output.into_list(alloc);
-    steps.insert(first, Event::Enter { kind })?;
-    steps.push(Event::Exit)?;
+    steps.insert(first, Word::of_event(Event::Enter { kind }))?;
+    steps.push(Word::of_event(Event::Exit))?;
     Ok(Output::of_steps(steps, first, messages))
 }
 
@@ -150,12 +150,12 @@ pub enum Step<'a> {
 /// The steps that are left, and the messages of their errors. Contracts see the list of the steps.
 #[derive(Drop)]
 pub struct Steps<'a> {
-    rest: &'a [Event],
+    rest: &'a [Word],
     messages: &'a [String],
 }
 
 impl<'a> Model for Steps<'a> {
-    ghost use Rattle.std.specs.Prelude.{List, map};
+    ghost use Rattle.std.specs.Prelude.{List, map, string_bytes};
     ghost use Rattle.rap_events.specs.StepValue.{StepValue};
     ghost use Rattle.rap_events.specs.Reading.{step_code};
     ghost use Rattle.std.specs.Coded.{coded_list};
@@ -166,7 +166,7 @@ impl<'a> Model for Steps<'a> {
 
     ghost use Rattle.rap_events.specs.Output.{values};
 
-    ghost view = { λ steps. values steps.rest.now steps.messages.now };
+    ghost view = { λ steps. values steps.rest.now (map string_bytes steps.messages.now) };
 }
 
 #[tactic(auto, using(crate::proofs::Values::values_length))]
@@ -185,7 +185,8 @@ impl<'a> Iterator for Steps<'a> {
     fn next(&mut self) -> Option<Step<'a>> {
         let (first, rest) = self.rest.split_first()?;
         self.rest = rest;
-        Some(match *first {
+        let word = *first;
+        Some(match word.event() {
             Event::Token {
                 kind,
                 n_input_tokens,
@@ -196,11 +197,9 @@ impl<'a> Iterator for Steps<'a> {
             Event::FloatSplit { ends_in_dot } => Step::FloatSplit { ends_in_dot },
             Event::Enter { kind } => Step::Enter { kind },
             Event::Exit => Step::Exit,
-            Event::Error => {
-                let (msg, later) = next_message(self.messages);
-                self.messages = later;
-                Step::Error { msg }
-            }
+            Event::Error { message } => Step::Error {
+                msg: message_at(self.messages, message),
+            },
             // No output holds any of these.
             Event::Start | Event::Precede | Event::Finish { .. } | Event::Extend | Event::Abandon =>
                 Step::Error { msg: "" },
@@ -223,12 +222,12 @@ impl<'a> ExactSizeIterator for Steps<'a> {
     }
 }
 
-// The first message of the list, or an empty one if there is none, and the later ones.
-fn next_message(messages: &[String]) -> (&str, &[String])
-    ensures { (es : List Event) → values (event.Error ∷ es) messages.now ≡ error result.0.now ∷ values es result.1.now }
+// The message of that number, or an empty one if there is none.
+fn message_at(messages: &[String], number: u32) -> &str
+    ensures { result.now ≡ text_at (map string_bytes messages.now) number }
 {
-    match messages.split_first() {
-        Some((next, later)) => (next.as_str(), later),
-        None => ("", messages),
+    match messages.get(number as usize) {
+        Some(message) => message.as_str(),
+        None => "",
     }
 }

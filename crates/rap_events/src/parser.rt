@@ -6,15 +6,17 @@ ghost use Rattle.rap_base.specs.TokenSet.{member};
 ghost use Rattle.rap_base.specs.Keyword.{is_any_identifier};
 ghost use Rattle.rap_events.specs.Record.{IsTokenRecord};
 ghost use Rattle.rap_events.specs.Cover.{stand, widths};
-ghost use Rattle.rap_events.specs.History.{history, errors};
+ghost use Rattle.rap_events.specs.History.{history, IsTold};
 ghost use Rattle.rap_events.specs.Machine.{run, initial, all_leaves, all_splits_placed};
 ghost use Rattle.rap_events.specs.Fit.{AllFit};
 ghost use Rattle.rap_events.specs.FloatSplit.{split_calls};
+ghost use Rattle.rap_events.specs.declared.event.Event.TheVariants as event;
 ghost use Rattle.std.proofs.Props.{props};
 
 use crate::event::Event;
 use crate::input::Input;
 use crate::output::Output;
+use crate::word::Word;
 use rap_base::edition::Edition;
 use rap_base::no_memory::NoMemory;
 use rap_base::syntax_kind::SyntaxKind;
@@ -26,6 +28,9 @@ mod composite;
 
 use composite::{at_place, width_of};
 
+/// How many messages a word can number.
+const MAX_MESSAGES: usize = 1 << 31;
+
 /// Reads an input from its beginning and records what it is made of.
 ///
 /// Once a call was out of memory a parser is of no more use: what it recorded is not promised.
@@ -35,12 +40,12 @@ pub struct Parser<'t> {
     input: &'t Input,
     len: usize,
     pos: usize,
-    events: Vec<Event>,
+    events: Vec<Word>,
     messages: Vec<String>,
     ghost tokens: { All IsTokenRecord input.now },
     ghost ends: { len ≡ length input.now },
     ghost in_input: { pos ≤ len },
-    ghost reported: { errors events.items ≡ length messages.items },
+    ghost reported: { All (IsTold (length messages.items)) events.items },
     ghost sound: { (run initial (history events.items (map string_bytes messages.items))).sound ≡ true },
     ghost covers: { stand (all_leaves (run initial (history events.items (map string_bytes messages.items)))) input.now ≡ true },
     ghost place: { widths (all_leaves (run initial (history events.items (map string_bytes messages.items)))) ≡ pos },
@@ -180,7 +185,8 @@ impl<'t> Parser<'t> {
         let mut i = self.events.len();
         while i > 0 {
             i -= 1;
-            if let Event::Token { kind, .. } = self.events[i] {
+            let word = self.events[i];
+            if let Event::Token { kind, .. } = word.event() {
                 return kind;
             }
         }
@@ -349,10 +355,10 @@ impl<'t> Parser<'t> {
         let ends_in_dot = !self.input.is_joint(self.pos);
         let count = split_len(ends_in_dot);
         let events = [
-            Event::FloatSplit { ends_in_dot },
-            Event::Finish { kind },
-            Event::Precede,
-            Event::Finish { kind },
+            Word::of_event(Event::FloatSplit { ends_in_dot }),
+            Word::of_event(Event::Finish { kind }),
+            Word::of_event(Event::Precede),
+            Word::of_event(Event::Finish { kind }),
         ];
         self.events.extend_from_slice(&events[..count])?;
         self.pos += 1;
@@ -369,10 +375,10 @@ impl<'t> Parser<'t> {
         ensures state { OnOk result (Bumped (state self.old) (state self.new) kind n_input_tokens) }
         ensures recorded { OnOk result (calls self.new ≡ calls self.old ++ call.token kind n_input_tokens ∷ []) }
     {
-        self.events.push(Event::Token {
+        self.events.push(Word::of_event(Event::Token {
             kind,
             n_input_tokens,
-        })?;
+        }))?;
         self.pos += usize::from(n_input_tokens);
         Ok(())
     }
@@ -381,10 +387,27 @@ impl<'t> Parser<'t> {
         ensures state { OnOk result (Reported (state self.old) (state self.new) (string_bytes message)) }
         ensures recorded { OnOk result (calls self.new ≡ calls self.old ++ call.error (string_bytes message) ∷ []) }
     {
+        let word = self.next_message()?;
         self.events.reserve(1)?;
         self.messages.push(message)?;
-        self.events.push_reserved(Event::Error);
+        self.events.push_reserved(word);
         Ok(())
+    }
+
+    // The word of the message that is reported next. A word has room for the numbers of 2 to the 31 messages, and a
+    // parse of the grammar records no more events than these: it reads fewer than 2 to the 23 tokens, and records at
+    // most 256 events for each of them and for the end. Where a caller records more messages, that counts as want of
+    // memory.
+    fn next_message(&self) -> Result<Word, NoMemory>
+        ensures { IfOk result (λ word. word ≡ event.Error (length self.now.messages.items)) }
+    {
+        let number = self.messages.len();
+        if number < MAX_MESSAGES {
+            return Ok(Word::of_event(Event::Error {
+                message: number as u32,
+            }));
+        }
+        Err(NoMemory)
     }
 
     /// The output that was recorded: the tree of the history's intervals. Each marker must have been finished or
@@ -412,7 +435,7 @@ impl<'t> Parser<'t> {
         ensures recorded { OnOk result (calls self.new ≡ calls self.old ++ call.start ∷ []) }
     {
         let pos = Snapshot::of(&self.events.len());
-        self.events.push(Event::Start)?;
+        self.events.push(Word::of_event(Event::Start))?;
         Ok(Marker { pos })
     }
 }
@@ -453,7 +476,7 @@ impl Marker {
         ensures state { IfOk result (λ cm. Completed (state p.old) (state p.new) kind × IsLast (state p.new) cm kind) }
         ensures recorded { OnOk result (calls p.new ≡ calls p.old ++ call.finish kind ∷ []) }
     {
-        p.events.push(Event::Finish { kind })?;
+        p.events.push(Word::of_event(Event::Finish { kind }))?;
         Ok(CompletedMarker {
             end: Snapshot::of(&p.events.len()),
             kind: Snapshot::of(&kind),
@@ -466,7 +489,7 @@ impl Marker {
         ensures state { OnOk result (Abandoned (state p.old) (state p.new)) }
         ensures recorded { OnOk result (calls p.new ≡ calls p.old ++ call.abandon ∷ []) }
     {
-        p.events.push(Event::Abandon)?;
+        p.events.push(Word::of_event(Event::Abandon))?;
         Ok(())
     }
 }
@@ -483,7 +506,7 @@ impl CompletedMarker {
         ensures recorded { OnOk result (calls p.new ≡ calls p.old ++ call.precede ∷ []) }
     {
         let pos = Snapshot::of(&p.events.len());
-        p.events.push(Event::Precede)?;
+        p.events.push(Word::of_event(Event::Precede))?;
         Ok(Marker { pos })
     }
 
@@ -495,7 +518,7 @@ impl CompletedMarker {
         ensures state { IfOk result (λ cm. Extended (state p.old) (state p.new) self.kind.value × IsLast (state p.new) cm self.kind.value) }
         ensures recorded { OnOk result (calls p.new ≡ calls p.old ++ call.extend ∷ []) }
     {
-        p.events.push(Event::Extend)?;
+        p.events.push(Word::of_event(Event::Extend))?;
         Ok(CompletedMarker {
             end: Snapshot::of(&p.events.len()),
             kind: self.kind,

@@ -7,6 +7,7 @@ ghost use Rattle.rap_events.specs.Pending.{inners, slot, pasts};
 
 use super::Event;
 use crate::output::Output;
+use crate::word::Word;
 use rap_base::no_memory::NoMemory;
 use rap_base::syntax_kind::SyntaxKind;
 use std::alloc::Global;
@@ -41,12 +42,10 @@ fn push_past(pending: &mut Vec<Pending>, markers: usize) -> Result<(), NoMemory>
 #[derive(Drop)]
 pub(super) struct Walk {
     // The first `left` of them are events that were not yet read, and from `first` on they are steps.
-    events: Vec<Event>,
+    events: Vec<Word>,
     pub(super) left: usize,
     first: usize,
-    // The first `reports` of them were not yet met.
     messages: Vec<String>,
-    reports: usize,
     pending: Vec<Pending>,
     // Whether the last nodes of the list are around the node that ends next.
     is_around: bool,
@@ -55,22 +54,20 @@ pub(super) struct Walk {
     ghost within: { first ≤ length events.items },
     ghost room: { left + (inners pending.items + slot is_around) ≤ first },
     ghost few: { skips + left ≤ length events.items },
-    ghost told: { reports ≤ length messages.items },
 }
 
 impl Walk {
     ghost use Rattle.rap_events.specs.History as call;
-    ghost use Rattle.rap_events.specs.History.{errors};
-    ghost use Rattle.rap_events.specs.Unwind.{walk_of, nothing_yet, entered, HasRoom, Started, Kept, Written, Taken, Backed, ReportedBack, EventBacked, EnteredLast, Same};
+    ghost use Rattle.rap_events.specs.declared.event.Event.TheVariants as event;
+    ghost use Rattle.rap_events.specs.Unwind.{walk_of, nothing_yet, entered, HasRoom, Started, Kept, Written, Taken, Backed, EventBacked, EnteredLast, Same};
 
-    pub(super) fn new(alloc: Global, events: Vec<Event>, messages: Vec<String>) -> Walk
+    pub(super) fn new(alloc: Global, events: Vec<Word>, messages: Vec<String>) -> Walk
         ensures { Started events.items messages.items result }
     {
         Walk {
             left: events.len(),
             first: events.len(),
             events,
-            reports: messages.len(),
             messages,
             pending: Vec::new(alloc),
             is_around: false,
@@ -79,22 +76,12 @@ impl Walk {
     }
 
     // Writes a step before the others, in the place of an event that was read.
-    fn write(&mut self, step: Event)
+    fn write(&mut self, step: Word)
         requires room { HasRoom self.old }
         ensures { Written step self.old self.new }
     {
         self.first -= 1;
         self.events[self.first] = step;
-    }
-
-    fn token(&mut self, kind: SyntaxKind, n_input_tokens: u8)
-        requires room { HasRoom self.old }
-        ensures { Backed (call.token kind n_input_tokens) self.old self.new }
-    {
-        self.write(Event::Token {
-            kind,
-            n_input_tokens,
-        });
     }
 
     // The node is in those around it, if there are any, and else the outermost at its place.
@@ -111,7 +98,7 @@ impl Walk {
         self.is_around = false;
         push_past(&mut self.pending, self.skips)?;
         self.skips = 0;
-        self.write(Event::Exit);
+        self.write(Word::of_event(Event::Exit));
         Ok(())
     }
 
@@ -151,11 +138,11 @@ impl Walk {
         };
         match last {
             Pending::Inner { kind } => {
-                self.write(Event::Enter { kind });
+                self.write(Word::of_event(Event::Enter { kind }));
                 true
             }
             Pending::Outermost { kind } => {
-                self.write(Event::Enter { kind });
+                self.write(Word::of_event(Event::Enter { kind }));
                 false
             }
             Pending::Nothing | Pending::Past => false,
@@ -181,35 +168,28 @@ impl Walk {
         ensures pending { self.new.pending.items ≡ self.old.pending.items }
     {
         if self.first < self.events.len() {
-            if let Event::Exit = self.events[self.first] {
+            let word = self.events[self.first];
+            if let Event::Exit = word.event() {
                 self.first += 1;
             }
         }
     }
 
     // The float stands for the ends of the nodes that it ends.
-    fn float_split(&mut self, ends_in_dot: bool)
+    fn float_split(&mut self, word: Word, ends_in_dot: bool)
         requires room { HasRoom self.old }
+        requires split { word ≡ event.FloatSplit ends_in_dot }
         ensures { Backed (call.float_split ends_in_dot) self.old self.new }
     {
         self.drop_exit();
         if !ends_in_dot {
             self.drop_exit();
         }
-        self.write(Event::FloatSplit { ends_in_dot });
-    }
-
-    fn report(&mut self)
-        requires room { HasRoom self.old }
-        requires reports { 0 < self.old.reports }
-        ensures { ReportedBack self.old self.new }
-    {
-        self.reports -= 1;
-        self.write(Event::Error);
+        self.write(word);
     }
 
     // The last event that was not yet read.
-    fn take_event(&mut self) -> Event
+    fn take_event(&mut self) -> Word
         requires { 0 < self.old.left }
         ensures { Taken result self.old self.new }
     {
@@ -217,24 +197,20 @@ impl Walk {
         self.events[self.left]
     }
 
-    fn read(&mut self, event: Event) -> Result<(), NoMemory>
+    // A token, a message and a float are steps as they are.
+    fn read(&mut self, word: Word) -> Result<(), NoMemory>
         requires room { HasRoom self.old }
         requires few { self.old.skips + self.old.left < length self.old.events.items }
-        requires reported { errors (event ∷ []) ≤ self.old.reports }
-        ensures { OnOk result (EventBacked event self.old self.new) }
+        ensures { OnOk result (EventBacked word self.old self.new) }
     {
-        match event {
+        match word.event() {
             Event::Start | Event::Enter { .. } | Event::Exit => self.start(),
             Event::Precede => self.precede(),
             Event::Finish { kind } => self.finish(kind)?,
             Event::Extend => self.skips += 1,
             Event::Abandon => self.abandon()?,
-            Event::Token {
-                kind,
-                n_input_tokens,
-            } => self.token(kind, n_input_tokens),
-            Event::FloatSplit { ends_in_dot } => self.float_split(ends_in_dot),
-            Event::Error => self.report(),
+            Event::Token { .. } | Event::Error { .. } => self.write(word),
+            Event::FloatSplit { ends_in_dot } => self.float_split(word, ends_in_dot),
         }
         Ok(())
     }
@@ -242,17 +218,15 @@ impl Walk {
     /// Takes the last event back that was not yet read.
     pub(super) fn back(&mut self) -> Result<(), NoMemory>
         requires left { 0 < self.old.left }
-        requires paired { errors (take self.old.left self.old.events.items) ≡ self.old.reports }
         ensures { OnOk result (Same self.old self.new) }
     {
-        let event = self.take_event();
-        self.read(event)?;
+        let word = self.take_event();
+        self.read(word)?;
         Ok(())
     }
 
     /// The output that the steps make.
     pub(super) fn output(self) -> Output
-        requires reports { self.reports ≡ 0 }
         requires steps { flat (forest_of (walk_of self).steps) ≡ (walk_of self).steps }
         requires splits { splits_placed (forest_of (walk_of self).steps) ≡ true }
         ensures { result ≡ forest_of (walk_of self).steps }

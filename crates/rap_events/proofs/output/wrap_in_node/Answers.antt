@@ -1,4 +1,6 @@
-use Rattle.std.proofs.Common.{◌≡◌, List, [], ◌∷◌, ◌++◌, drop, ap, sym, ◌∙◌}
+use Rattle.std.proofs.Common.{◌≡◌, ℕ, List, [], ◌∷◌, ◌++◌, drop, map, refl, ap, sym, ◌∙◌}
+use Rattle.std.specs.Prelude.{string_bytes}
+use Rattle.std.specs.List.{insert}
 use Rattle.rap_events.specs.StepValue.{StepValue, enter, exit}
 use Rattle.rap_events.specs.Forest.{Forest, none, node, flat}
 use Rattle.rap_events.specs.Reading.{forest_of}
@@ -10,13 +12,19 @@ use Rattle.rap_events.proofs.StepLemmas.{forest_of-flat}
 use Rattle.rap_events.proofs.Values.{values_wrap}
 use Rattle.rap_events.proofs.output.wrap_in_node.Goals as goal
 
+-- the words of the node around the others
+around : (k n : ℕ) (es inserted pushed : List Event) (first last : Event) → first ≡ event.Enter k → last ≡ event.Exit → inserted ≡ insert es n first → pushed ≡ inserted ++ last ∷ [] →
+    pushed ≡ insert es n (event.Enter k) ++ event.Exit ∷ []
+around k n es inserted pushed first last a b h e = e ∙ rw (h, a, b) refl
+
 pub of_steps-requires-clause-steps : goal.of_steps-requires-clause-steps
 of_steps-requires-clause-steps c =
     let f : Forest = node none c.args.kind c.args.output in
     let w = wrapped c.args.kind c.args.output c.into_list-steps.ensures.splits in
     let list = c.into_list-steps.result in
-    let after : values (drop list.first c.push.new.self.items) list.messages.items ≡ flat f =
-    values_wrap c.args.kind list.first list.steps.items c.push.new.self.items list.messages.items c.into_list-steps.ensures.within (c.in_ok-push.ensures.items ∙ ap (λ (es : List Event). es ++ event.Exit ∷ []) c.in_ok-insert.ensures.items)
+    let ms : List (List ℕ) = map string_bytes list.messages.items in
+    let after : values (drop list.first c.push.new.self.items) ms ≡ flat f =
+    values_wrap c.args.kind list.first list.steps.items c.push.new.self.items ms c.into_list-steps.ensures.within (around c.args.kind list.first list.steps.items _ _ _ _ c.of_event.ensures c.of_event-2.ensures c.in_ok-insert.ensures.items c.in_ok-push.ensures.items)
     ∙ ap (λ (ss : List StepValue). enter c.args.kind ∷ (ss ++ exit ∷ [])) c.into_list-steps.ensures.list ∙ sym w.steps in
     rw after (ap flat (forest_of-flat f w.placed))
 
@@ -25,8 +33,9 @@ of_steps-requires-clause-splits c =
     let f : Forest = node none c.args.kind c.args.output in
     let w = wrapped c.args.kind c.args.output c.into_list-steps.ensures.splits in
     let list = c.into_list-steps.result in
-    let after : values (drop list.first c.push.new.self.items) list.messages.items ≡ flat f =
-    values_wrap c.args.kind list.first list.steps.items c.push.new.self.items list.messages.items c.into_list-steps.ensures.within (c.in_ok-push.ensures.items ∙ ap (λ (es : List Event). es ++ event.Exit ∷ []) c.in_ok-insert.ensures.items)
+    let ms : List (List ℕ) = map string_bytes list.messages.items in
+    let after : values (drop list.first c.push.new.self.items) ms ≡ flat f =
+    values_wrap c.args.kind list.first list.steps.items c.push.new.self.items ms c.into_list-steps.ensures.within (around c.args.kind list.first list.steps.items _ _ _ _ c.of_event.ensures c.of_event-2.ensures c.in_ok-insert.ensures.items c.in_ok-push.ensures.items)
     ∙ ap (λ (ss : List StepValue). enter c.args.kind ∷ (ss ++ exit ∷ [])) c.into_list-steps.ensures.list ∙ sym w.steps in
     rw after (rw (forest_of-flat f w.placed) w.placed)
 
@@ -35,7 +44,8 @@ returns c =
     let f : Forest = node none c.args.kind c.args.output in
     let w = wrapped c.args.kind c.args.output c.into_list-steps.ensures.splits in
     let list = c.into_list-steps.result in
-    let after : values (drop list.first c.push.new.self.items) list.messages.items ≡ flat f =
-    values_wrap c.args.kind list.first list.steps.items c.push.new.self.items list.messages.items c.into_list-steps.ensures.within (c.in_ok-push.ensures.items ∙ ap (λ (es : List Event). es ++ event.Exit ∷ []) c.in_ok-insert.ensures.items)
+    let ms : List (List ℕ) = map string_bytes list.messages.items in
+    let after : values (drop list.first c.push.new.self.items) ms ≡ flat f =
+    values_wrap c.args.kind list.first list.steps.items c.push.new.self.items ms c.into_list-steps.ensures.within (around c.args.kind list.first list.steps.items _ _ _ _ c.of_event.ensures c.of_event-2.ensures c.in_ok-insert.ensures.items c.in_ok-push.ensures.items)
     ∙ ap (λ (ss : List StepValue). enter c.args.kind ∷ (ss ++ exit ∷ [])) c.into_list-steps.ensures.list ∙ sym w.steps in
     c.of_steps.ensures ∙ (ap forest_of after ∙ forest_of-flat f w.placed)

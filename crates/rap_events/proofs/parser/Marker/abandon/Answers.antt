@@ -3,7 +3,6 @@ use Rattle.std.specs.Prelude.{string_bytes}
 use Rattle.rap_events.specs.History.{Call, history}
 use Rattle.rap_events.specs.History as call
 use Rattle.rap_events.specs.State.{state, calls}
-use Rattle.rap_events.specs.declared.event.Event.TheVariants as event
 use Rattle.rap_events.proofs.HistoryLemmas.{history-push, length-history}
 use Rattle.rap_events.proofs.HistoryLemmas as shows
 use Rattle.rap_events.proofs.Calls.{Held, held-push, held_either, kept-abandon, abandoned}
@@ -17,9 +16,9 @@ invariant_of-p c =
     let xs : List Call = history s.events.items ms in
     let before : Held s.events.items ms (length s.messages.items) s.input.now s.pos =
     record { reported = s.reported; kept = record { sound = s.sound; covers = s.covers; place = s.place; splits = s.splits; fit = s.fit } } in
-    let after : Held (s.events.items ++ event.Abandon ∷ []) ms (length s.messages.items) s.input.now s.pos =
-    held-push s.events.items ms _ s.input.now s.pos s.pos event.Abandon call.abandon shows.abandon before (kept-abandon xs s.input.now s.pos c.args.self.pos.value c.requires before.kept) in
-    let h = held_either _ s.events.items (s.events.items ++ event.Abandon ∷ []) _ ms _ s.input.now s.pos c.push.ensures.items before after in
+    let after : Held (s.events.items ++ c.of_event.result ∷ []) ms (length s.messages.items) s.input.now s.pos =
+    held-push s.events.items ms _ s.input.now s.pos s.pos c.of_event.result call.abandon (rw c.of_event.ensures shows.abandon) before (kept-abandon xs s.input.now s.pos c.args.self.pos.value c.requires before.kept) in
+    let h = held_either _ s.events.items (s.events.items ++ c.of_event.result ∷ []) _ ms _ s.input.now s.pos c.push.ensures.items before after in
     record { tokens = s.tokens; ends = s.ends; in_input = s.in_input; reported = h.reported; sound = h.kept.sound; covers = h.kept.covers; place = h.kept.place; splits = h.kept.splits; fit = h.kept.fit }
 
 pub returns-clause-state : goal.returns-clause-state
@@ -28,10 +27,10 @@ returns-clause-state c =
     let s = c.args.p.now in
     let ms : List (List ℕ) = map string_bytes s.messages.items in
     let xs : List Call = history s.events.items ms in
-    rw (c.in_ok-push.ensures.items, history-push s.events.items ms event.Abandon call.abandon shows.abandon) (abandoned s.input.now _ xs c.args.self.pos.value c.requires)
+    rw (c.in_ok-push.ensures.items, history-push s.events.items ms c.of_event.result call.abandon (rw c.of_event.ensures shows.abandon)) (abandoned s.input.now _ xs c.args.self.pos.value c.requires)
 
 pub returns-clause-recorded : goal.returns-clause-recorded
 unfolding calls
 returns-clause-recorded c =
     let s = c.args.p.now in
-    rw c.in_ok-push.ensures.items (history-push s.events.items (map string_bytes s.messages.items) event.Abandon call.abandon shows.abandon)
+    rw c.in_ok-push.ensures.items (history-push s.events.items (map string_bytes s.messages.items) c.of_event.result call.abandon (rw c.of_event.ensures shows.abandon))

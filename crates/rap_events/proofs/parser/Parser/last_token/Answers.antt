@@ -24,7 +24,7 @@ loop-i-preserved c =
     let more : kind_of_last EOF (take (i + 1) es) ≡ kind_after (kind_of_last EOF (take i es)) c.index.result.now =
     one_more EOF es i c.index.result.now (omega arith) c.index.ensures in
     let same : kind_after (kind_of_last EOF (take i es)) c.index.result.now ≡ kind_of_last EOF (take i es) =
-    no_token (kind_of_last EOF (take i es)) c.index.result.now c.in_default.not-Token in
+    ap (kind_after (kind_of_last EOF (take i es))) (sym c.event.ensures) ∙ no_token (kind_of_last EOF (take i es)) c.event.result c.in_default.not-Token in
     let so_far : kind_of_last EOF (take (i + 1) es) ≡ kind_of_last EOF es = rw next c.loop-i.invariant.so_far in
     record { within = omega arith; so_far = sym same ∙ sym more ∙ so_far }
 
@@ -37,7 +37,7 @@ returns-in-Token c =
     let next : i + 1 ≡ c.loop-i.i = omega arith in
     let more : kind_of_last EOF (take (i + 1) es) ≡ kind_after (kind_of_last EOF (take i es)) c.index.result.now =
     one_more EOF es i c.index.result.now (omega arith) c.index.ensures in
-    let here : kind_after (kind_of_last EOF (take i es)) c.index.result.now ≡ c.in-Token.kind = ap (kind_after (kind_of_last EOF (take i es))) c.in-Token.is in
+    let here : kind_after (kind_of_last EOF (take i es)) c.index.result.now ≡ c.in-Token.kind = ap (kind_after (kind_of_last EOF (take i es))) (sym c.event.ensures ∙ c.in-Token.is) in
     let so_far : kind_of_last EOF (take (i + 1) es) ≡ kind_of_last EOF es = rw next c.loop-i.invariant.so_far in
     sym here ∙ sym more ∙ so_far ∙ sym (last_shown es (map string_bytes s.messages.items))
 

@@ -3,7 +3,6 @@ use Rattle.std.specs.Prelude.{string_bytes}
 use Rattle.rap_events.specs.State.{state, calls}
 use Rattle.rap_events.specs.History.{Call, history}
 use Rattle.rap_events.specs.History as call
-use Rattle.rap_events.specs.declared.event.Event.TheVariants as event
 use Rattle.rap_events.proofs.HistoryLemmas.{history-push}
 use Rattle.rap_events.proofs.HistoryLemmas as shows
 use Rattle.rap_events.proofs.Calls.{Held, held-push, kept-token, bumped}
@@ -31,7 +30,7 @@ invariant_of-self-2 c =
     let before : Held s.events.items (map string_bytes s.messages.items) (length s.messages.items) s.input.now s.pos =
     record { reported = s.reported; kept = record { sound = s.sound; covers = s.covers; place = s.place; splits = s.splits; fit = s.fit } } in
     let kept = kept-token (history s.events.items ms) s.input.now s.pos k w c.requires.stands before.kept in
-    let h = held-push s.events.items ms _ s.input.now s.pos (s.pos + w) (event.Token w k) (call.token k w) (shows.token k w) before kept in
+    let h = held-push s.events.items ms _ s.input.now s.pos (s.pos + w) c.of_event.result (call.token k w) (rw c.of_event.ensures (shows.token k w)) before kept in
     let place : s.pos + c.from.result ≡ s.pos + w = ap (λ (n : ℕ). s.pos + n) c.from.ensures in
     let within : s.pos + w ≤ s.len = omega (arith, s.ends, s.in_input, c.requires.within, length-drop s.pos s.input.now) in
     let e = c.in_ok-push.ensures.items in
@@ -45,7 +44,7 @@ returns-clause-state c =
     let w = c.args.n_input_tokens in
     let ms : List (List ℕ) = map string_bytes s.messages.items in
     let place : s.pos + c.from.result ≡ s.pos + w = ap (λ (n : ℕ). s.pos + n) c.from.ensures in
-    rw (c.in_ok-push.ensures.items, place, history-push s.events.items ms (event.Token w k) (call.token k w) (shows.token k w)) (bumped s.input.now s.pos (history s.events.items ms) k w c.requires.within)
+    rw (c.in_ok-push.ensures.items, place, history-push s.events.items ms c.of_event.result (call.token k w) (rw c.of_event.ensures (shows.token k w))) (bumped s.input.now s.pos (history s.events.items ms) k w c.requires.within)
 
 pub returns-clause-recorded : goal.returns-clause-recorded
 unfolding calls
@@ -53,4 +52,4 @@ returns-clause-recorded c =
     let s = c.args.self.now in
     let k = c.args.kind in
     let w = c.args.n_input_tokens in
-    rw c.in_ok-push.ensures.items (history-push s.events.items (map string_bytes s.messages.items) (event.Token w k) (call.token k w) (shows.token k w))
+    rw c.in_ok-push.ensures.items (history-push s.events.items (map string_bytes s.messages.items) c.of_event.result (call.token k w) (rw c.of_event.ensures (shows.token k w)))

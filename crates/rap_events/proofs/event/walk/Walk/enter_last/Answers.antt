@@ -1,5 +1,6 @@
-use Rattle.std.proofs.Common.{◌≡◌, ◌+◌, [], ◌∷◌, ◌++◌, length, length-append, ap, ◌∙◌, arith}
+use Rattle.std.proofs.Common.{◌≡◌, ◌+◌, [], ◌∷◌, ◌++◌, drop, length, length-append, ap, ◌∙◌, arith}
 use Rattle.rap_events.specs.Pending.{inners, slot}
+use Rattle.rap_events.specs.declared.event.Event.{Event}
 use Rattle.rap_events.specs.declared.event.walk.Pending.{Pending}
 use Rattle.rap_events.specs.declared.event.walk.Pending.TheVariants as pending
 use Rattle.rap_events.proofs.Places.{entered_inner, inners_append}
@@ -15,8 +16,8 @@ returns-in-Inner c =
     let inner : inners old.pending.items ≡ inners ps + 1 = ap inners popped ∙ inners_append ps (pending.Inner c.in-Inner.kind ∷ []) in
     let longer : length old.pending.items ≡ length ps + 1 = ap length popped ∙ length-append ps (pending.Inner c.in-Inner.kind ∷ []) in
     record {
-      kept = record { left = w.kept.left; events = w.kept.events; messages = w.kept.messages; reports = w.kept.reports };
+      kept = record { left = w.kept.left; events = w.kept.events; messages = w.kept.messages };
       room = omega (arith, c.requires.room, w.first, w.kept.left, ap inners w.pending, ap slot w.is_around, inner);
       shorter = omega (arith, ap length w.pending, longer);
-      walk = entered_inner old c.write.new.self ps c.in-Inner.kind popped w.pending w.is_around w.skips w.steps w.kept.reports w.kept.messages;
+      walk = entered_inner old c.write.new.self ps c.in-Inner.kind popped w.pending w.is_around w.skips (w.steps ∙ ap (λ (e : Event). e ∷ drop old.first old.events.items) c.of_event.ensures) w.kept.messages;
     }

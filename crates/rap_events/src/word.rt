@@ -1,0 +1,169 @@
+//! Events as words of 32 bits.
+ghost use Rattle.std.specs.Prelude.{◌≡◌, ◌+◌, ◌*◌, ◌<◌, ◌^◌};
+ghost use Rattle.rap_events.specs.Word.{fields, word_of_event, Fits, HasNumber};
+
+use crate::event::Event;
+use rap_base::syntax_kind::SyntaxKind;
+use std::marker::Model;
+use std::mem::size_of;
+
+/// An event in 32 bits. Contracts see the event.
+///
+/// Bit 0 is 0 for a message, whose number among the messages stands in the bits above. Otherwise bit 0 is 1; bits 4 to 7
+/// say which event it is; bits 8 to 15 hold the number of input tokens of a token, 1 for a float that ends in a dot, else
+/// 0; bits 16 to 31 hold the kind's number, or 0 where the event has no kind.
+#[derive(Clone, Copy)]
+pub(crate) struct Word {
+    bits: u32,
+}
+
+impl Model for Word {
+    ghost use Rattle.rap_events.specs.declared.event.Event.{Event};
+
+    ghost Value = { Event };
+
+    ghost use Rattle.rap_events.specs.Word.{word_of_event, event_of, IsWord};
+
+    ghost view = { λ w. event_of w.bits };
+
+    ghost invariant = { λ w. IsWord w.bits };
+
+    ghost inverse = { λ e. record { bits = word_of_event e } };
+
+    ghost use Rattle.std.specs.Prelude.{ℕ};
+    ghost use Rattle.std.proofs.Common.{ap};
+
+    ghost inverse_ok = { λ w h. ap (λ (bits : ℕ). record { bits = bits }) h.word };
+}
+
+const _: () = prove!(size_of::<Word>() <= 4);
+
+// What stands in bits 4 to 7: first the steps, then the events that are no steps.
+const TOKEN: u32 = 0;
+
+const ENTER: u32 = 1;
+
+const EXIT: u32 = 2;
+
+const FLOAT_SPLIT: u32 = 3;
+
+const START: u32 = 4;
+
+const PRECEDE: u32 = 5;
+
+const FINISH: u32 = 6;
+
+const EXTEND: u32 = 7;
+
+const ABANDON: u32 = 8;
+
+impl Word {
+    /// The word of an event. A message's number is below 2 to the 31.
+    #[inline(always)]
+    pub(crate) fn of_event(event: Event) -> Word
+        requires { HasNumber event }
+        ensures { result ≡ event }
+    {
+        Word {
+            bits: bits_of(event),
+        }
+    }
+
+    /// The event that the word stands for.
+    #[inline(always)]
+    pub(crate) fn event(&self) -> Event
+        ensures { result ≡ self.now }
+    {
+        let bits = self.bits;
+        if bits & 1 == 0 {
+            return Event::Error { message: bits >> 1 };
+        }
+        let kind = SyntaxKind::from_u16((bits >> 16) as u16);
+        let byte = ((bits >> 8) & 0xFF) as u8;
+        match (bits >> 4) & 0xF {
+            TOKEN => Event::Token {
+                n_input_tokens: byte,
+                kind,
+            },
+            ENTER => Event::Enter { kind },
+            EXIT => Event::Exit,
+            FLOAT_SPLIT => Event::FloatSplit {
+                ends_in_dot: byte == 1,
+            },
+            START => Event::Start,
+            PRECEDE => Event::Precede,
+            FINISH => Event::Finish { kind },
+            EXTEND => Event::Extend,
+            _ => Event::Abandon,
+        }
+    }
+}
+
+#[inline(always)]
+fn bits_of(event: Event) -> u32
+    requires { HasNumber event }
+    ensures word { result ≡ word_of_event event }
+    ensures fits { Fits event }
+{
+    match event {
+        Event::Error { message } => message << 1,
+        Event::Token {
+            n_input_tokens,
+            kind,
+        } => packed(TOKEN, n_input_tokens, u16::from(kind)),
+        Event::Enter { kind } => packed(ENTER, 0, u16::from(kind)),
+        Event::Exit => packed(EXIT, 0, 0),
+        Event::FloatSplit { ends_in_dot: false } => packed(FLOAT_SPLIT, 0, 0),
+        Event::FloatSplit { ends_in_dot: true } => packed(FLOAT_SPLIT, 1, 0),
+        Event::Start => packed(START, 0, 0),
+        Event::Precede => packed(PRECEDE, 0, 0),
+        Event::Finish { kind } => packed(FINISH, 0, u16::from(kind)),
+        Event::Extend => packed(EXTEND, 0, 0),
+        Event::Abandon => packed(ABANDON, 0, 0),
+    }
+}
+
+// The word that is no message and holds these.
+#[inline(always)]
+fn packed(which: u32, byte: u8, kind: u16) -> u32
+    requires { which < 2 ^ 4 }
+    ensures { result ≡ fields which byte kind }
+{
+    (u32::from(kind) << 16) + (u32::from(byte) << 8) + (which << 4) + 1
+}
+
+#[cfg(test)]
+mod tests {
+    use super::*;
+
+    fn bits(event: Event) -> u32
+        requires { HasNumber event }
+    {
+        Word::of_event(event).bits
+    }
+
+    #[test]
+    fn words_of_no_tokens(rt: HostRuntime) {
+        let source_file = SyntaxKind::SOURCE_FILE;
+        assert_eq!(rt; bits(Event::Enter { kind: source_file }), 0x009E_0011);
+        assert_eq!(rt; bits(Event::Exit), 0x0000_0021);
+    }
+
+    #[test]
+    fn words_of_splits(rt: HostRuntime) {
+        assert_eq!(rt; bits(Event::FloatSplit { ends_in_dot: false }), 0x0000_0031);
+        assert_eq!(rt; bits(Event::FloatSplit { ends_in_dot: true }), 0x0000_0131);
+    }
+
+    #[test]
+    fn a_message_is_twice_its_number(rt: HostRuntime) {
+        assert_eq!(rt; bits(Event::Error { message: 0 }), 0);
+        assert_eq!(rt; bits(Event::Error { message: 5 }), 10);
+        assert_eq!(rt;
+            bits(Event::Error {
+                message: 0x7FFF_FFFF
+            }),
+            0xFFFF_FFFE
+        );
+    }
+}
