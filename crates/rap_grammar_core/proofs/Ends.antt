@@ -38,7 +38,7 @@ gather h [] = []
 gather h (bad ∷ l) = bad ∷ []
 gather h (at_end v j ∷ l) = join (h v j) (gather h l)
 
--- The ends of a loop, by those of its turns: a turn that goes on must leave as many open nodes as there were.
+-- The ends of a loop, by those of its turns with any flags: a turn that goes on must leave as many open nodes as there were.
 abbrev pub settle : ℕ → List End → List End
 settle n [] = []
 settle n (bad ∷ l) = bad ∷ []
@@ -47,27 +47,9 @@ settle n (at_end something j ∷ l) = at_end something j ∷ settle n l
 settle n (at_end block j ∷ l) = at_end block j ∷ settle n l
 settle n (at_end (again a b) j ∷ l) = if j == n then settle n l else bad ∷ []
 
--- whether no end is bad, and this holds of each
-abbrev pub every : (Outcome → ℕ → Bool) → List End → Bool
-every f [] = true
-every f (bad ∷ l) = false
-every f (at_end v j ∷ l) = f v j && every f l
-
--- a turn that goes on does so with the same flags
-abbrev pub keeps_flags : Bool → Bool → Outcome → ℕ → Bool
-keeps_flags a b nothing j = true
-keeps_flags a b something j = true
-keeps_flags a b block j = true
-keeps_flags a b (again c d) j = same_flag a c && same_flag b d
-
--- by all flags
+-- with any flags
 abbrev pub flagged : (Bool → Bool → List End) → List End
 flagged h = join (join (h true true) (h true false)) (join (h false true) (h false false))
-
--- of a loop by the turns with its first flags alone where they keep these, else by all
-abbrev pub turning : ℕ → List End → (Bool → Bool → List End) → Bool → List End
-turning n l h true = settle n l
-turning n l h false = settle n (flagged h)
 
 -- by which outcomes a rule of the knot ends
 abbrev pub outcomes : Phrase → List Outcome
@@ -126,7 +108,13 @@ ends (split_float s t) zero = bad ∷ []
 ends (split_float s t) (suc n) = join (ends s n) (ends t n)
 ends (after s h) n = gather (λ v j. ends (h v) j) (ends s n)
 ends (rule c h) n = gather (λ v j. ends (h v) j) (rule_ends c n)
-ends (loop h a b) n = turning n (ends (h a b) n) (λ c d. ends (h c d) n) (every (keeps_flags a b) (ends (h a b) n))
+ends (loop h a b) n = settle n (flagged (λ c d. ends (h c d) n))
+
+-- whether no end is bad, and this holds of each
+abbrev pub every : (Outcome → ℕ → Bool) → List End → Bool
+every f [] = true
+every f (bad ∷ l) = false
+every f (at_end v j ∷ l) = f v j && every f l
 
 -- as many nodes are open at the end as at the beginning, and it leaves the older ones alone
 abbrev pub level : ℕ → Script Phrase → Bool

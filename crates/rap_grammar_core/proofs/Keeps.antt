@@ -11,8 +11,8 @@ use Rattle.rap_events.specs.Record.{next_kind}
 use Rattle.rap_events.specs.State.{with_kind, but_last, skipped, last_children}
 use Rattle.rap_grammar_scripts.specs.Knot.{script_of}
 use Rattle.rap_grammar_scripts.specs.Phrase.{Phrase, expression, any_item}
-use Rattle.rap_grammar_scripts.specs.Script.{Script, Outcome, nothing, something, block, again, Spot, goes_on, loop, Runs, gives, passes, fails, ends_so, ends_else, takes, takes_any, bears, reports, reports_next, skips, starts, precedes, finishes, extends, abandons, splits_dotted, splits_whole, follows, obeys, turns, stops, newest, last_kind}
-use Rattle.rap_grammar_core.proofs.Ends.{End, bad, at_end, same, same_flag, has, join, gather, settle, keeps_flags, flagged, turning, outcomes, all_at, rule_ends, ends, every}
+use Rattle.rap_grammar_scripts.specs.Script.{Script, Outcome, nothing, something, block, again, Spot, goes_on, Runs, gives, passes, fails, ends_so, ends_else, takes, takes_any, bears, reports, reports_next, skips, starts, precedes, finishes, extends, abandons, splits_dotted, splits_whole, follows, obeys, turns, stops, newest, last_kind}
+use Rattle.rap_grammar_core.proofs.Ends.{End, bad, at_end, same, same_flag, has, join, gather, settle, flagged, outcomes, all_at, rule_ends, ends, every}
 
 -- so many nodes are open above a place where this holds
 abbrev pub Above : (Forest → List Forest → Type 0) → ℕ → Forest → List Forest → Type 0
@@ -168,58 +168,6 @@ of_flags f h false true e = joined_left f (h false true) (h false false) (joined
 of_flags f h false false e = joined_right f (h false true) (h false false) (joined_right f (join (h true true)
     (h true false)) (join (h false true) (h false false)) e)
 
--- the other way round
-unsettled : (f : Outcome → ℕ → Bool) (n : ℕ) (l : List End) → every (Turned f n) l ≡ true → every f (settle n l) ≡ true
-unsettled f n [] e = refl
-unsettled f n (bad ∷ l) e = absurd cc
-unsettled f n (at_end nothing j ∷ l) e =
-    and_both (f nothing j) _ (and_left _ _ e) (unsettled f n l (and_right (f nothing j) _ e))
-unsettled f n (at_end something j ∷ l) e =
-    and_both (f something j) _ (and_left _ _ e) (unsettled f n l (and_right (f something j) _ e))
-unsettled f n (at_end block j ∷ l) e =
-    and_both (f block j) _ (and_left _ _ e) (unsettled f n l (and_right (f block j) _ e))
-unsettled f n (at_end (again a b) j ∷ l) e =
-    rw (and_left (j == n) (every (Turned f n) l) e) (unsettled f n l (and_right (j == n) _ e))
-
--- both of two things hold of each end
-abbrev And : (Outcome → ℕ → Bool) → (Outcome → ℕ → Bool) → Outcome → ℕ → Bool
-And f g v j = f v j && g v j
-
-every_both : (f g : Outcome → ℕ → Bool) (l : List End) → every f l ≡ true → every g l ≡ true → every (And f g) l ≡ true
-every_both f g [] e h = refl
-every_both f g (bad ∷ l) e h = absurd cc
-every_both f g (at_end v j ∷ l) e h =
-    and_both (And f g v j) _ (and_both (f v j) (g v j) (and_left _ _ e) (and_left _ _ h))
-    (every_both f g l (and_right (f v j) _ e) (and_right (g v j) _ h))
-
-every_first : (f g : Outcome → ℕ → Bool) (l : List End) → every (And f g) l ≡ true → every f l ≡ true
-every_first f g [] e = refl
-every_first f g (bad ∷ l) e = absurd cc
-every_first f g (at_end v j ∷ l) e =
-    and_both (f v j) _ (and_left (f v j) (g v j) (and_left _ _ e)) (every_first f g l (and_right (And f g v j) _ e))
-
--- What is known of the turns of a loop: with any flags they are good, or with these they are, and keep them.
-data Turning (f : Outcome → ℕ → Bool) (n : ℕ) (h : Bool → Bool → List End) (a b : Bool) : Type 0 where
-  by_all : every (Turned f n) (flagged h) ≡ true → Turning f n h a b
-  by_these : every (And (Turned f n) (keeps_flags a b)) (h a b) ≡ true → Turning f n h a b
-
-turning_so : (f : Outcome → ℕ → Bool) (n : ℕ) (h : Bool → Bool → List End) (a b c : Bool) →
-    every (keeps_flags a b) (h a b) ≡ c → every f (turning n (h a b) h c) ≡ true → Turning f n h a b
-turning_so f n h a b true i e =
-    by_these (every_both (Turned f n) (keeps_flags a b) (h a b) (settled f n (h a b) e) i)
-turning_so f n h a b false i e = by_all (settled f n (flagged h) e)
-
-this_turn : (f : Outcome → ℕ → Bool) (n : ℕ) (h : Bool → Bool → List End) (a b : Bool) → Turning f n h a b →
-    every (Turned f n) (h a b) ≡ true
-this_turn f n h a b (by_all e) = of_flags (Turned f n) h a b e
-this_turn f n h a b (by_these e) = every_first (Turned f n) (keeps_flags a b) (h a b) e
-
--- where turns with any flags are good, the loop is, whatever its flags
-from_all : (f : Outcome → ℕ → Bool) (n : ℕ) (h : Bool → Bool → List End) (a b c : Bool) →
-    every (Turned f n) (flagged h) ≡ true → every f (turning n (h a b) h c) ≡ true
-from_all f n h a b true e = unsettled f n (h a b) (of_flags (Turned f n) h a b e)
-from_all f n h a b false e = unsettled f n (flagged h) e
-
 -- the last turn
 of_stop : (f : Outcome → ℕ → Bool) (n j : ℕ) (v : Outcome) → goes_on v ≡ false → Turned f n v j ≡ true → f v j ≡ true
 of_stop f n j nothing h e = e
@@ -363,24 +311,11 @@ keeps x {p = p} (obeys {c = c} {n = h} {r = t} {w = w} r z) b g f n e k =
     keeps x z b g f n (of_one (Then f on) n w (outcomes c) (and_left _ _ y.so)
     (gathered f on (all_at n (outcomes c)) i.on))
     (i.up t.forest t.below (subst (λ (j : ℕ). Above (Above b i.others) j t.forest t.below) d y.above))
-keeps x (turns {h = h} {a = i} {b = j} {c = c} {d = d} {r = u} r z) b g f n e k =
+keeps x (turns {h = h} {a = i} {b = j} {r = u} r z) b g f n e k =
     let on : Bool → Bool → List End = λ c d. ends (h c d) n in
-    let height : (m : ℕ) → (m == n) ≡ true → Above b m u.forest u.below → Above b n u.forest u.below =
-    λ m s k. subst (λ (o : ℕ). Above b o u.forest u.below) (same_number m n s) k in
-    elim (turning_so f n on i j (every (keeps_flags i j) (on i j)) refl e) [
-      | by_all t ↦
-          let y = keeps x r b g (Turned f n) n (of_flags (Turned f n) on i j t) k in
-          keeps x z b g f n (from_all f n on c d (every (keeps_flags c d) (on c d)) t) (height y.depth y.so y.above)
-      | by_these t ↦
-          let y = keeps x r b g (And (Turned f n) (keeps_flags i j)) n t k in
-          let o = and_right (y.depth == n) _ y.so in
-          keeps x z b g f n
-          (subst (λ (o : Bool). every f (ends (loop h o d) n) ≡ true) (same_flags i c (and_left _ _ o))
-          (subst (λ (o : Bool). every f (ends (loop h i o) n) ≡ true) (same_flags j d (and_right (same_flag i c) _ o)) e))
-          (height y.depth (and_left _ _ y.so) y.above)
-    ]
+    let y = keeps x r b g (Turned f n) n (of_flags (Turned f n) on i j (settled f n (flagged on) e)) k in
+    keeps x z b g f n e (subst (λ (m : ℕ). Above b m u.forest u.below) (same_number y.depth n y.so) y.above)
 keeps x {v = v} (stops {h = h} {a = i} {b = j} r o) b g f n e k =
     let on : Bool → Bool → List End = λ c d. ends (h c d) n in
-    let t = turning_so f n on i j (every (keeps_flags i j) (on i j)) refl e in
-    let y = keeps x r b g (Turned f n) n (this_turn f n on i j t) k in
+    let y = keeps x r b g (Turned f n) n (of_flags (Turned f n) on i j (settled f n (flagged on) e)) k in
     record { depth = y.depth; above = y.above; so = of_stop f n y.depth v o y.so }
