@@ -3,7 +3,6 @@ import functools
 import re
 from dataclasses import dataclass, replace
 
-from grammar_page.kinds import CLOSING
 from grammar_page.tests import At, Operator, ReadsAs, Said, both, either, no
 
 KIND = re.compile(r'[A-Z][A-Z0-9]*(_[A-Z0-9]+)*')
@@ -62,9 +61,8 @@ class KindOf:
 
 @dataclass(frozen=True)
 class Tokens:
-    """The tokens that are left behind so many; `then` is the place in a script where a `look` bound them."""
+    """The tokens that are left behind so many."""
     skipped: int
-    then: object = None
 
 
 @dataclass(frozen=True)
@@ -219,21 +217,11 @@ class Evaluator:
                 ways = [[*arguments[:at], it, *arguments[at + 1:]] for it in (argument.yes, argument.no)]
                 yes, not_so = (functools.partial(self.apply, definition, it) for it in ways)
                 return self.choose(argument.test, yes, not_so)
-        seen = next((it for it in arguments if isinstance(it, Tokens) and it.then is not None), None)
-        if seen and definition.result == 'Bool':
-            return self.decided(definition, arguments, seen)
         kind = next((it for it in arguments if isinstance(it, TokenAt)), None)
         if kind and definition.result == 'Bool':
             return self.named(definition, arguments, kind)
         body, scope = self.clause(definition, arguments)
         return self.value(body, scope)
-
-    def decided(self, definition, arguments, seen):
-        """The answer of a test of tokens that came earlier."""
-        if definition.name in seen.then:
-            return seen.then[definition.name]
-        now = [Tokens(it.skipped) if it is seen else it for it in arguments]
-        raise Undecided(definition.name, self.apply(definition, now))
 
     def clause(self, definition, arguments):
         """The body of the clause that fits, and what its names mean."""
@@ -307,22 +295,17 @@ class Evaluator:
     def native_expected(self, kind):
         return f'expected {kind}'
 
-    def native_with_kind(self, text, kind):
-        return f'{text}' + (kind if isinstance(kind, str) else 'KIND')
-
     def native_next_kind(self, tokens):
-        if tokens.then is not None and 'kind' in tokens.then:
-            return tokens.then['kind']
         return TokenAt(tokens, 'kind')
 
     def native_kind_at(self, tokens, place):
-        return TokenAt(Tokens(tokens.skipped + place, tokens.then), 'kind')
+        return TokenAt(Tokens(tokens.skipped + place), 'kind')
 
     def native_contextual_at(self, tokens, place):
-        return TokenAt(Tokens(tokens.skipped + place, tokens.then), 'reading')
+        return TokenAt(Tokens(tokens.skipped + place), 'reading')
 
     def native_edition_at(self, tokens, place):
-        return TokenAt(Tokens(tokens.skipped + place, tokens.then), 'edition')
+        return TokenAt(Tokens(tokens.skipped + place), 'edition')
 
     def native_at_least_2018(self, edition):
         return Said('the edition is 2018 or later', 'the edition is 2015')
@@ -330,7 +313,7 @@ class Evaluator:
     def native_drop(self, count, tokens):
         if isinstance(count, Choice):
             return Choice(count.test, self.native_drop(count.yes, tokens), self.native_drop(count.no, tokens))
-        return Tokens(tokens.skipped + count, tokens.then)
+        return Tokens(tokens.skipped + count)
 
     def native_is_at(self, kind, tokens=None):
         if tokens is None:
@@ -354,20 +337,12 @@ class Evaluator:
     def native_is_any_identifier(self, kind):
         return At(kind.tokens.skipped, self.kinds.identifiers())
 
-    def native_partner(self, kind):
-        if isinstance(kind, str):
-            return CLOSING[kind]
-        raise Undecided('kind', None)
-
     def native_operator_at(self, tokens):
-        return KindOf(tokens.then.get('operator', frozenset(self.kinds.powers) | {'EOF'}), asked=True)
+        return KindOf(frozenset(self.kinds.powers) | {'EOF'})
 
     def native_power(self, kind):
         return replace(kind, power=True) if isinstance(kind, KindOf) else self.kinds.powers.get(kind, 0)
 
     def native_nat_lt(self, left, right):
-        none = frozenset(it for it in left.kinds if it not in self.kinds.powers)
-        if none and none != left.kinds:
-            raise Undecided('operator', [none, left.kinds - none])
         power = 'the power of the operator is'
-        return bool(none) or Said(f'{power} below `{right.name}`', f'{power} `{right.name}` or more')
+        return Said(f'{power} below `{right.name}`', f'{power} `{right.name}` or more')

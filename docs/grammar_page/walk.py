@@ -9,11 +9,11 @@ from grammar_page.tests import Last, Not, ReadsAs, There, behind, bounds, no
 from grammar_page.values import NOTHING, SOMETHING, UNKNOWN, Given, KindOf, Scope, Tokens, Undecided
 
 # The words of scripts that something follows, and how many arguments each has.
-STEPS = {'token': 1, 'any': 0, 'bear': 1, 'report': 1, 'skip': 1, 'start': 0, 'precede': 0, 'finish': 1, 'extend': 0,
+STEPS = {'token': 1, 'any': 0, 'bear': 1, 'report': 1, 'report_next': 1, 'skip': 1, 'start': 0, 'precede': 0, 'finish': 1, 'extend': 0,
          'abandon': 0, 'eat': 1, 'eat_as': 1, 'expect': 1, 'call': 1, 'recur': 1}
 # Those that end a script.
 ENDS = ('give', 'done', 'test', 'choose', 'optional', 'only_if', 'recover', 'ends_with', 'after', 'rule', 'loop',
-        'look', 'split_float', 'if_some')
+        'by_operator', 'split_float', 'if_some')
 GIVE_NOTHING = ('call', ('name', 'give'), (('name', 'nothing'),))
 
 
@@ -92,7 +92,7 @@ class Walker:
             states = groups_of(self.within(run, arguments[0], scope, state))
             return [it for at in states for it in self.rest(rest, scope, at)]
         behind = getattr(self, f'step_{name}')(state, scope, *arguments)
-        message = self.messages[-1] if name in ('report', 'skip') else None
+        message = self.messages[-1] if name in ('report', 'report_next', 'skip') else None
         exits = self.rest(rest, scope, behind)
         if message:
             message.follow(behind, exits, not self.depth)
@@ -175,6 +175,10 @@ class Walker:
 
     def step_report(self, state, scope, text):
         self.report(state, 'report', self.evaluator.value(text, scope))
+        return replace(state, fault=True)
+
+    def step_report_next(self, state, scope, text):
+        self.report(state, 'report', self.evaluator.value(text, scope) + 'KIND')
         return replace(state, fault=True)
 
     def step_skip(self, state, scope, text):
@@ -310,27 +314,21 @@ class Walker:
         walker.label, walker.begins = label, list(self.begins)
         return walker
 
-    def end_look(self, scope, state, function):
-        return self.look(function[1][0], function[2], scope, state, {})
+    def end_by_operator(self, scope, state, function):
+        return self.by_operator(function, frozenset(self.kinds.powers), scope, state)
 
-    def look(self, name, body, scope, state, known):
-        """The exits of a script that asks for the tokens that come next, or came next here."""
+    def by_operator(self, function, operators, scope, state):
+        """The exits of a script for one of these operators, which comes next."""
         count = len(self.messages), len(self.limits)
         try:
-            return self.walk(body, scope.bind({name: Tokens(0, known)}), state)
+            term = ('call', function[1], (*function[2], ('name', 'the operator')))
+            return self.walk(term, scope.bind({'the operator': KindOf(operators, asked=True)}), state)
         except Undecided as undecided:
-            question, answers = undecided.question, undecided.answers
-            if question in ('outcome', 'value'):
+            if undecided.question != 'operator':
                 raise
+            answers = undecided.answers
         del self.messages[count[0]:], self.limits[count[1]:]
-
-        def on(value, at):
-            return self.look(name, body, scope, at, {**known, question: value})
-        if question == 'kind':
-            return [it for kind in sorted(state.facts) for it in on(kind, replace(state, facts=frozenset([kind])))]
-        if question == 'operator':
-            return [it for answer in answers for it in on(answer, state)]
-        return self.branch(answers, lambda it: on(True, it), lambda it: on(False, it), state)
+        return [it for answer in answers for it in self.by_operator(function, answer, scope, state)]
 
     def end_split_float(self, scope, state, dotted, whole):
         taken = self.took(state, Token(frozenset(['FLOAT_NUMBER'])))

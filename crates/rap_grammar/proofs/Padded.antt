@@ -5,7 +5,7 @@ use Rattle.rap_events.specs.Record.{Record}
 use Rattle.rap_events.specs.Forest.{Forest, none, used}
 use Rattle.rap_events.specs.LastToken.{last_after}
 use Rattle.rap_grammar_scripts.specs.Phrase.{Phrase}
-use Rattle.rap_grammar_scripts.specs.Script.{Script, Outcome, Spot, Runs, gives, looks, passes, fails, ends_so, ends_else, takes, takes_any, bears, reports, skips, starts, precedes, finishes, extends, abandons, splits_dotted, splits_whole, follows, obeys, turns, stops, newest, last_under}
+use Rattle.rap_grammar_scripts.specs.Script.{Script, Outcome, Spot, Runs, gives, passes, fails, ends_so, ends_else, takes, takes_any, bears, reports, reports_next, skips, starts, precedes, finishes, extends, abandons, splits_dotted, splits_whole, follows, obeys, turns, stops, newest, last_under}
 use Rattle.rap_grammar_scripts.proofs.OneEnd.{one_end}
 use Rattle.rap_grammar.specs.Part.{IsPrefixOf}
 use Rattle.rap_grammar.specs.Top.{IsTopOf, top_tree}
@@ -51,7 +51,6 @@ on i f = record { under = i.under; padded = i.padded; run = f i.under i.run }
 leads_padded : {P : Type 0} {script_of : P → Script P} {s : Script P} {p q : Spot} {v : Outcome} {c : List Forest} →
     Runs script_of s p q v → Padded p.below c → LeadsPadded script_of s p q v c
 leads_padded {c = c} gives x = record { under = c; padded = x; run = gives }
-leads_padded (looks r) x = on (leads_padded r x) (λ l y. looks y)
 leads_padded (passes h r) x = on (leads_padded r x) (λ l y. passes h y)
 leads_padded (fails h r) x = on (leads_padded r x) (λ l y. fails h y)
 leads_padded {p = p} (ends_so {k = k} h r) x =
@@ -64,6 +63,7 @@ leads_padded (takes h r) x = on (leads_padded r x) (λ l y. takes h y)
 leads_padded (takes_any h r) x = on (leads_padded r x) (λ l y. takes_any h y)
 leads_padded (bears h r) x = on (leads_padded r x) (λ l y. bears h y)
 leads_padded (reports r) x = on (leads_padded r x) (λ l y. reports y)
+leads_padded (reports_next r) x = on (leads_padded r x) (λ l y. reports_next y)
 leads_padded (skips r) x = on (leads_padded r x) (λ l y. skips y)
 leads_padded (starts r) x = on (leads_padded r (same_above x)) (λ l y. starts y)
 leads_padded (precedes r) x = on (leads_padded r (same_above x)) (λ l y. precedes y)

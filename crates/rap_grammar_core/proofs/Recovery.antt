@@ -13,7 +13,7 @@ use Rattle.rap_grammar_core.proofs.Operators.{differ, differ_back}
 use Rattle.rap_grammar_core.proofs.Ways.{Leads, none-⧺, no_attributes}
 use Rattle.rap_grammar_core.proofs.ItemWays.{Goes, no_semicolon, no_pub_way, no_inner_attributes}
 use Rattle.rap_grammar_core.proofs.Items.{item_before}
-use Rattle.rap_grammar_core.proofs.TameKnot.{items_add}
+use Rattle.rap_grammar_core.proofs.Adds.{items_add}
 use Rattle.rap_grammar_scripts.specs.Items.{items, item_or_macro, opt_item_without_modifiers, opt_item, source_file, mod_contents, marked_item, opt_modified_item, opt_item_with_modifiers, macro_or_error, opt_extern_block, missing_item, refuse}
 use Rattle.rap_grammar_scripts.specs.First.{one_of}
 use Rattle.rap_grammar_scripts.specs.Knot.{script_of}

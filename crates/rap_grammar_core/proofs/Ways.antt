@@ -8,16 +8,17 @@ use Rattle.rap_events.specs.Composite.{width, is_at, begins_with}
 use Rattle.rap_events.specs.Forest.{Forest, none, node, leaf, message, split, ◌⧺◌}
 use Rattle.rap_events.specs.Power.{power}
 use Rattle.rap_events.specs.State.{but_last, last_children}
+use Rattle.rap_grammar_scripts.proofs.ByOperator.{operates}
 use Rattle.rap_grammar_scripts.specs.Atom.{unrestricted, expr, literal, path_expr, tuple_elements, tuple_expr, atom_expr, bracketed_expr, starts_record, plain_block, control_expr}
 use Rattle.rap_grammar_scripts.specs.Attributes.{outer_attrs}
-use Rattle.rap_grammar_scripts.specs.Expressions.{operand_of, right_of, bin_expr, climb, ref_qualifier, ref_expr, prefix_expr, arg_list, call_expr, index_expr, try_expr, calls_method, method_arguments, method_call_expr, field_expr, after_dot, name_after_dot, postfix_dot_expr, is_access, postfix_expr, lhs, expr_from, expr_bp, postfix_turn, prefix_power}
+use Rattle.rap_grammar_scripts.specs.Expressions.{operand_of, right_of, operation, bin_expr, climb, ref_qualifier, ref_expr, prefix_expr, arg_list, call_expr, index_expr, try_expr, calls_method, method_arguments, method_call_expr, field_expr, after_dot, name_after_dot, postfix_dot_expr, is_access, postfix_expr, lhs, expr_from, expr_bp, postfix_turn, prefix_power}
 use Rattle.rap_grammar_scripts.specs.First.{is_outer_attr_first, is_literal_first, is_path_name_or_index, is_expr_first, one_of, starts_expr_args}
 use Rattle.rap_grammar_scripts.specs.Grammar.{name_ref_mod_path, name_ref_mod_path_or_index, elements, delimited}
 use Rattle.rap_grammar_scripts.specs.Knot.{script_of}
 use Rattle.rap_grammar_scripts.specs.Operator.{operator_at}
 use Rattle.rap_grammar_scripts.specs.Paths.{opt_generic_arg_list_expr, has_args_behind, has_args, opt_path_type_args, segment_name, path_segment, path_for_qualifier, path, expr_path, opt_path_args}
 use Rattle.rap_grammar_scripts.specs.Phrase.{Phrase}
-use Rattle.rap_grammar_scripts.specs.Script.{Script, Outcome, Spot, nothing, something, precede, after, Runs, gives, looks, passes, fails, takes, takes_any, starts, precedes, finishes, extends, follows, obeys, turns, stops, last_kind, block, again}
+use Rattle.rap_grammar_scripts.specs.Script.{Script, Outcome, Spot, nothing, something, precede, after, Runs, gives, passes, fails, takes, takes_any, starts, precedes, finishes, extends, follows, obeys, turns, stops, last_kind, block, again}
 use Rattle.rap_grammar_scripts.specs.TokenTree.{starts_macro_call}
 use Rattle.rap_grammar_scripts.specs.Words.{reads_as, starts_builtin}
 use Rattle.rap_grammar_scripts.specs.declared.arguments.Restrictions.{Restrictions}
@@ -255,7 +256,7 @@ from_way r bp o s d y = from_way_by d.blocky r bp o s d.stays d.run y
 pub climb_end : (r : Restrictions) {bp : ℕ} {b : List Forest} {rs : List Record} {f : Forest} →
     power (operator_at rs) < bp → Leads (climb r bp) b rs f rs f
 unfolding climb
-climb_end r h = stops (looks (rw (below _ _ h) gives)) refl
+climb_end r h = stops (passes (below _ _ h) gives) refl
 
 bin_way : (r : Restrictions) {op : ℕ} {b : List Forest} {rs s m : List Record} {f t x : Forest} → Single t →
     is_at op rs ≡ true → drop (width op) rs ≡ s → LeadsOut (attributed (operand_of r) (right_of op)) (f ∷ b) s
@@ -265,12 +266,13 @@ unfolding bin_expr script_of expr_bp
 bin_way r {f = f} h first past x = precedes_one f h (takes first (rw past (obeys (starts x) (finishes gives))))
 
 pub climb_on : (r : Restrictions) {bp op : ℕ} {b : List Forest} {rs s m l : List Record} {f t x g : Forest} → Single t →
-    operator_at rs ≡ op → bp ≤ power op → power op ≢ 2 → op ≢ AS_KW → is_at op rs ≡ true → drop (width op) rs ≡ s →
+    operator_at rs ≡ op → 0 < power op → bp ≤ power op → power op ≢ 2 → op ≢ AS_KW → is_at op rs ≡ true → drop (width op) rs ≡ s →
     LeadsOut (attributed (operand_of r) (right_of op)) (f ∷ b) s (leaf t op (width op)) m x →
     Leads (climb r bp) b m (node f BIN_EXPR x) l g → Leads (climb r bp) b rs (f ⧺ t) l g
 unfolding climb
-climb_on r {bp = bp} {op = op} h e least n a first past x y =
-    turns (looks (rw (e, not_below _ _ least, apart _ _ a, apart _ _ n) (follows (bin_way r h first past x) gives))) y
+climb_on r {bp = bp} {op = op} h e some least n a first past x y =
+    turns (fails (rw e (not_below _ _ least)) (operates (operation r) (rw e some)
+    (rw (e, apart _ _ a, apart _ _ n) (follows (bin_way r h first past x) gives)))) y
 
 -- operands
 -- what follows an operand, whether that reads like a block or not

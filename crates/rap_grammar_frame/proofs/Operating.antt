@@ -7,10 +7,12 @@ use Rattle.rap_events.specs.Composite.{begins_with}
 use Rattle.rap_events.specs.Power.{power}
 use Rattle.rap_events.specs.Record.{Record, next_kind}
 use Rattle.rap_events.specs.State.{State}
+use Rattle.rap_grammar_scripts.proofs.ByOperator.{operates}
 use Rattle.rap_grammar_scripts.specs.Atom.{atom_expr}
-use Rattle.rap_grammar_scripts.specs.Expressions.{operation, cast_expr, range_expr, bin_expr, climb, lhs, postfix_expr, of_like, is_block}
+use Rattle.rap_grammar_scripts.specs.Expressions.{operation, climb_turn, cast_expr, range_expr, bin_expr, climb, lhs, postfix_expr, of_like, is_block}
 use Rattle.rap_grammar_scripts.specs.Knot.{Follows}
-use Rattle.rap_grammar_scripts.specs.Script.{Outcome, nothing, something, block, again, goes_on, Spot, spot, give, extend, abandon, after, gives}
+use Rattle.rap_grammar_scripts.specs.Operator.{operator_at}
+use Rattle.rap_grammar_scripts.specs.Script.{Outcome, nothing, something, block, again, goes_on, Spot, spot, give, extend, abandon, after, gives, passes, fails}
 use Rattle.rap_grammar_scripts.specs.Words.{done, if_some, of_bool}
 use Rattle.rap_grammar_scripts.specs.declared.arguments.BlockLike.{BlockLike}
 use Rattle.rap_grammar_scripts.specs.declared.arguments.BlockLike.TheVariants as like
@@ -23,42 +25,56 @@ below a b h = grind (arith, nat_tests)
 not_below : (a b : ℕ) → b ≤ a → nat_lt a b ≡ false
 not_below a b h = grind (arith, nat_tests)
 
+-- a turn that goes on by the operator that comes next, which has power enough
+on_operator : (r : Restrictions) (bp : ℕ) {a b : Bool} {n : ℕ} {p q : Spot} {v : Outcome} →
+    n ≡ power (operator_at p.rest) → 0 < n → bp ≤ n → On (operation r (operator_at p.rest)) p q v →
+    On (climb_turn r bp a b) p q v
+on_operator r bp e some h d =
+    fails (not_below _ _ (rw e at h)) (operates (operation r) (rw e at some) d)
+
 -- an operator of too little power
-pub stops_low : (r : Restrictions) (bp op : ℕ) {n : ℕ} {p : Spot} → n ≡ power op → n < bp → On (operation r bp op) p p something
-stops_low r bp op e h = let lo : nat_lt (power op) bp ≡ true = below _ _ (rw e at h) in rw lo gives
+pub stops_low : (r : Restrictions) (bp : ℕ) {a b : Bool} {n : ℕ} {p : Spot} →
+    n ≡ power (operator_at p.rest) → n < bp → On (climb_turn r bp a b) p p something
+stops_low r bp e h = passes (below _ _ (rw e at h)) gives
 
 -- a cast
-pub goes_as : (r : Restrictions) (bp op : ℕ) {n : ℕ} {s t : State} → n ≡ power op → bp ≤ n → op ≡ AS_KW → Follows cast_expr something s t → On (operation r bp op) (spot s) (spot t) (again false false)
-goes_as r bp op e h a f =
-    let lo : nat_lt (power op) bp ≡ false = not_below _ _ (rw e at h) in
-    let cast : (op == AS_KW) ≡ true = rw a refl in
-    rw (lo, cast) (by_rule f gives)
+pub goes_as : (r : Restrictions) (bp : ℕ) {a b : Bool} {n : ℕ} {s t : State} →
+    n ≡ power (operator_at s.rest) → 0 < n → bp ≤ n → operator_at s.rest ≡ AS_KW → Follows cast_expr something s t →
+    On (climb_turn r bp a b) (spot s) (spot t) (again false false)
+goes_as r bp {s = s} e some h is f =
+    let cast : (operator_at s.rest == AS_KW) ≡ true = rw is refl in
+    on_operator r bp e some h (rw cast (by_rule f gives))
 
 -- a range without an end
-pub stops_range : (r : Restrictions) (bp op : ℕ) {n : ℕ} {s t : State} {b : Bool} → n ≡ power op → bp ≤ n → op ≢ AS_KW → n ≡ 2 → Follows (range_expr r op) (of_bool b) s t → b ≡ false → On (operation r bp op) (spot s) (spot t) something
-stops_range r bp op {b = true} e h a two f i = absurd cc
-stops_range r bp op {b = false} e h a two f i =
-    let lo : nat_lt (power op) bp ≡ false = not_below _ _ (rw e at h) in
-    let cast : (op == AS_KW) ≡ false = ne_eqb op AS_KW a in
-    let dots : (power op == 2) ≡ true = rw (← e, two) refl in
-    rw (lo, cast, dots) (by_rule f gives)
+pub stops_range : (r : Restrictions) (bp : ℕ) {a b : Bool} {n : ℕ} {s t : State} {c : Bool} →
+    n ≡ power (operator_at s.rest) → 0 < n → bp ≤ n → operator_at s.rest ≢ AS_KW → n ≡ 2 →
+    Follows (range_expr r (operator_at s.rest)) (of_bool c) s t → c ≡ false →
+    On (climb_turn r bp a b) (spot s) (spot t) something
+stops_range r bp {c = true} e some h is two f i = absurd cc
+stops_range r bp {s = s} {c = false} e some h is two f i =
+    let cast : (operator_at s.rest == AS_KW) ≡ false = ne_eqb (operator_at s.rest) AS_KW is in
+    let dots : (power (operator_at s.rest) == 2) ≡ true = rw (← e, two) refl in
+    on_operator r bp e some h (rw (cast, dots) (by_rule f gives))
 
 -- a range with an end
-pub goes_range : (r : Restrictions) (bp op : ℕ) {n : ℕ} {s t : State} {b : Bool} → n ≡ power op → bp ≤ n → op ≢ AS_KW → n ≡ 2 → Follows (range_expr r op) (of_bool b) s t → b ≡ true → On (operation r bp op) (spot s) (spot t) (again false false)
-goes_range r bp op {b = false} e h a two f i = absurd cc
-goes_range r bp op {b = true} e h a two f i =
-    let lo : nat_lt (power op) bp ≡ false = not_below _ _ (rw e at h) in
-    let cast : (op == AS_KW) ≡ false = ne_eqb op AS_KW a in
-    let dots : (power op == 2) ≡ true = rw (← e, two) refl in
-    rw (lo, cast, dots) (by_rule f gives)
+pub goes_range : (r : Restrictions) (bp : ℕ) {a b : Bool} {n : ℕ} {s t : State} {c : Bool} →
+    n ≡ power (operator_at s.rest) → 0 < n → bp ≤ n → operator_at s.rest ≢ AS_KW → n ≡ 2 →
+    Follows (range_expr r (operator_at s.rest)) (of_bool c) s t → c ≡ true →
+    On (climb_turn r bp a b) (spot s) (spot t) (again false false)
+goes_range r bp {c = false} e some h is two f i = absurd cc
+goes_range r bp {s = s} {c = true} e some h is two f i =
+    let cast : (operator_at s.rest == AS_KW) ≡ false = ne_eqb (operator_at s.rest) AS_KW is in
+    let dots : (power (operator_at s.rest) == 2) ≡ true = rw (← e, two) refl in
+    on_operator r bp e some h (rw (cast, dots) (by_rule f gives))
 
 -- an operator with its right operand
-pub goes_binary : (r : Restrictions) (bp op : ℕ) {n : ℕ} {s t : State} → n ≡ power op → bp ≤ n → op ≢ AS_KW → n ≢ 2 → Follows (bin_expr r op) something s t → On (operation r bp op) (spot s) (spot t) (again false false)
-goes_binary r bp op {n = n} e h a ne f =
-    let lo : nat_lt (power op) bp ≡ false = not_below _ _ (rw e at h) in
-    let cast : (op == AS_KW) ≡ false = ne_eqb op AS_KW a in
-    let dots : (power op == 2) ≡ false = ne_eqb (power op) 2 (λ i. ne (e ∙ i)) in
-    rw (lo, cast, dots) (by_rule f gives)
+pub goes_binary : (r : Restrictions) (bp : ℕ) {a b : Bool} {n : ℕ} {s t : State} →
+    n ≡ power (operator_at s.rest) → 0 < n → bp ≤ n → operator_at s.rest ≢ AS_KW → n ≢ 2 →
+    Follows (bin_expr r (operator_at s.rest)) something s t → On (climb_turn r bp a b) (spot s) (spot t) (again false false)
+goes_binary r bp {s = s} e some h is two f =
+    let cast : (operator_at s.rest == AS_KW) ≡ false = ne_eqb (operator_at s.rest) AS_KW is in
+    let dots : (power (operator_at s.rest) == 2) ≡ false = ne_eqb (power (operator_at s.rest)) 2 (λ i. two (e ∙ i)) in
+    on_operator r bp e some h (rw (cast, dots) (by_rule f gives))
 
 pub like_is : (x : BlockLike) → (if is_block (of_like x) then block else something) ≡ of_like x
 like_is like.Block = refl

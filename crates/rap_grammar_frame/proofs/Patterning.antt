@@ -10,11 +10,12 @@ use Rattle.rap_events.specs.State.{State, next, Ate, Recovered}
 use Rattle.rap_grammar_frame.specs.Grew.{Took}
 use Rattle.rap_events.proofs.Truth.{and_right}
 use Rattle.rap_grammar_scripts.specs.First.{is_pat_top_first}
-use Rattle.rap_grammar_scripts.specs.Patterns.{starts_field, ends_search}
+use Rattle.rap_grammar_scripts.specs.Patterns.{starts_field, ends_search, starts_rest_pat, tuple_element}
 use Rattle.rap_grammar_scripts.specs.Recovery.{stops_pattern, stops_of}
+use Rattle.rap_grammar_scripts.specs.Script.{Outcome, Spot, test, passes, fails}
 use Rattle.rap_grammar_frame.specs.Room.{atom_pattern_room}
 use Rattle.rap_grammar_frame.specs.Rules.{PatternIn, PatternUntil}
-use Rattle.rap_grammar_frame.proofs.Steps.{clash}
+use Rattle.rap_grammar_frame.proofs.Steps.{On, clash}
 
 abbrev keeps : Bool → ℕ → Bool
 keeps in_arm k = (k == L_CURLY) || ((k == R_CURLY) || ends_search in_arm k)
@@ -113,3 +114,17 @@ separator_next separator rs h e =
 pub builtin_no_stop : (rs : List Record) → first_may_bear rs BUILTIN_KW ≡ true → stops_pattern (next_kind rs) ≡ false
 builtin_no_stop [] h = absurd cc
 builtin_no_stop (r ∷ rs) h = grind (arith, nat_tests)
+
+no_more : (b : Bool) → (b || true) ≡ true
+no_more true = refl
+no_more false = refl
+
+same_flag : (b : Bool) → (b || false) ≡ b
+same_flag true = refl
+same_flag false = refl
+
+-- an element of a tuple of patterns, which a `..` makes one too
+pub by_rest_pat : {tuple b : Bool} {p q : Spot} {v : Outcome} → b ≡ starts_rest_pat p.rest →
+    On (tuple_element (tuple || b)) p q v → On (test starts_rest_pat (tuple_element true) (tuple_element tuple)) p q v
+by_rest_pat {tuple = tuple} {b = true} e d = passes (sym e) (rw (no_more tuple) at d)
+by_rest_pat {tuple = tuple} {b = false} e d = fails (sym e) (rw (same_flag tuple) at d)

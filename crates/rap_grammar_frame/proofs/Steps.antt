@@ -11,7 +11,7 @@ use Rattle.rap_events.specs.Cover.{first_may_bear}
 use Rattle.rap_events.specs.Forest.{Forest, none, node, ◌⧺◌}
 use Rattle.rap_events.specs.LastToken.{last_after, last_below, last_taken}
 use Rattle.rap_events.specs.Machine.{Stack, floor, push}
-use Rattle.rap_events.specs.State.{State, next, Opened, IsLast, Completed, Abandoned, Preceded, Extended, Bumped, Reported, SplitFloat, Ate, AteAs, Expected, Skipped, Recovered, but_last, last_children, expected}
+use Rattle.rap_events.specs.State.{State, next, Opened, IsLast, Completed, Abandoned, Preceded, Extended, Bumped, Reported, SplitFloat, Ate, AteAs, Expected, Skipped, Recovered, but_last, last_children, expected, with_kind}
 use Rattle.rap_events.specs.declared.parser.CompletedMarker.{CompletedMarker}
 use Rattle.rap_grammar_scripts.specs.First.{is_path_name, starts_path}
 use Rattle.rap_grammar_scripts.specs.Knot.{script_of, Follows}
@@ -20,7 +20,7 @@ use Rattle.rap_grammar_scripts.specs.Phrase.{Phrase, expression}
 use Rattle.rap_grammar_scripts.specs.declared.arguments.BlockLike.{BlockLike}
 use Rattle.rap_grammar_scripts.specs.declared.arguments.BlockLike.TheVariants as like
 use Rattle.rap_grammar_scripts.specs.declared.arguments.Restrictions.{Restrictions}
-use Rattle.rap_grammar_scripts.specs.Script.{Script, Outcome, nothing, something, again, goes_on, Spot, spot, forests, taken, last_tree, last_kind, last_under, last_taken_at, newest, give, test, ends_with, token, any, bear, report, skip, start, precede, finish, extend, abandon, split_float, split_apart, after, rule, loop, Runs, gives, passes, fails, ends_so, ends_else, takes, takes_any, bears, reports, skips, starts, precedes, finishes, extends, abandons, splits_dotted, splits_whole, follows, obeys, turns, stops}
+use Rattle.rap_grammar_scripts.specs.Script.{Script, Outcome, nothing, something, again, goes_on, Spot, spot, forests, taken, last_tree, last_kind, last_under, last_taken_at, newest, give, test, ends_with, token, any, bear, report, report_next, skip, start, precede, finish, extend, abandon, split_float, split_apart, after, rule, loop, Runs, gives, passes, fails, ends_so, ends_else, takes, takes_any, bears, reports, reports_next, skips, starts, precedes, finishes, extends, abandons, splits_dotted, splits_whole, follows, obeys, turns, stops}
 use Rattle.rap_grammar_scripts.specs.Words.{done, if_some, reads_as, eat, eat_as, expect, recover, of_option, of_bool}
 
 -- from a spot by a script of the grammar
@@ -48,6 +48,9 @@ by_bear e b d = bears e (from_there (bumped b) d)
 
 pub by_report : {s t : State} {bytes : List ℕ} {n : Script Phrase} {q : Spot} {v : Outcome} → Reported s t bytes → On n (spot t) q v → On (report bytes n) (spot s) q v
 by_report b d = reports (from_there (same_spot (sym b.rest) (sym b.forest) (ap forests (sym b.below))) d)
+
+pub by_report_next : {s t : State} {bytes : List ℕ} {n : Script Phrase} {q : Spot} {v : Outcome} → Reported s t (with_kind bytes (next s)) → On n (spot t) q v → On (report_next bytes n) (spot s) q v
+by_report_next b d = reports_next (from_there (same_spot (sym b.rest) (sym b.forest) (ap forests (sym b.below))) d)
 
 pub by_skip : {s t : State} {bytes : List ℕ} {n : Script Phrase} {q : Spot} {v : Outcome} → Skipped s t bytes → On n (spot t) q v → On (skip bytes n) (spot s) q v
 by_skip b d = skips (from_there (same_spot (sym b.rest) (sym b.forest) (ap forests (sym b.below))) d)

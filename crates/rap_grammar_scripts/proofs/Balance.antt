@@ -10,10 +10,10 @@ use Rattle.rap_events.specs.Forest.{Forest, none, leaf, ◌⧺◌, message_count
 use Rattle.rap_events.specs.State.{State}
 use Rattle.rap_grammar_scripts.specs.Balanced.{ArePartners, Balanced, nothing_more, token_first, list_first, in_brackets, NestsAsBrackets}
 use Rattle.rap_grammar_scripts.specs.First.{one_of, is_bracket}
-use Rattle.rap_grammar_scripts.specs.TokenTree.{tokens_to, bracketed_tokens}
+use Rattle.rap_grammar_scripts.specs.TokenTree.{tokens_to, tokens_in, bracketed_tokens}
 use Rattle.rap_grammar_scripts.specs.Knot.{script_of, Follows}
 use Rattle.rap_grammar_scripts.specs.Phrase.{Phrase}
-use Rattle.rap_grammar_scripts.specs.Script.{Script, Outcome, something, Spot, Runs, forests, gives, looks, passes, fails, takes, takes_any, starts, finishes, follows, obeys, turns, stops}
+use Rattle.rap_grammar_scripts.specs.Script.{Script, Outcome, something, Spot, Runs, forests, gives, passes, fails, takes, takes_any, starts, finishes, follows, obeys, turns, stops}
 use Rattle.rap_grammar_scripts.proofs.Forests.{⧺-assoc, message_count-⧺}
 use Rattle.rap_grammar_scripts.proofs.OneEnd.{one_end}
 
@@ -79,15 +79,27 @@ met k c l e = at_closing k (c ∷ l) ∙ ap (λ (x : ℕ). x == partner k) e ∙
 not_over : (k : ℕ) (c : Record) → c.kind ≡ partner k → (c.kind == EOF) ≡ false
 not_over k c e = ap (λ (x : ℕ). x == EOF) e ∙ closing_some k
 
+by_opening : (a b : Bool) {p q : Spot} {v : Outcome} → (next_kind p.rest == L_PAREN) ≡ a →
+    (next_kind p.rest == L_BRACK) ≡ b → Runs script_of (tokens_in (one_of_three a b)) p q v →
+    Runs script_of bracketed_tokens p q v
+unfolding bracketed_tokens
+by_opening true b e i r = passes e r
+by_opening false true e i r = fails e (passes i r)
+by_opening false false e i r = fails e (fails i r)
+
+-- the bracket that closes a list is the partner of the one that comes next
+pub by_partner : {p q : Spot} {v : Outcome} → Runs script_of (tokens_in (partner (next_kind p.rest))) p q v →
+    Runs script_of bracketed_tokens p q v
+by_partner {p = p} r = by_opening (next_kind p.rest == L_PAREN) (next_kind p.rest == L_BRACK) refl refl r
+
 -- a list in brackets, from what stands between them
 list_way : {a c : Record} (ks : List Record) (t : Forest) → ArePartners a c →
     ((b : List Forest) (f : Forest) (l : List Record) → Leads (tokens_to (partner a.kind)) b (ks ++ c ∷ l) f (c ∷ l) (f ⧺ t)) →
     (b : List Forest) (f : Forest) (l : List Record) →
     Leads bracketed_tokens b (a ∷ (ks ++ c ∷ l)) f l (f ⧺ in_brackets a t c)
-unfolding bracketed_tokens
 list_way {a = a} {c = c} ks t p d b f l =
     let here : is_at (partner a.kind) (c ∷ l) ≡ true = met a.kind c l p.closes in
-    looks (starts (takes_any (opens_some a.kind p.opens)
+    by_partner (starts (takes_any (opens_some a.kind p.opens)
     (follows (d (f ∷ b) (leaf none a.kind 1) l)
     (passes here (takes here (rw (one_wide a.kind, ← p.closes) (finishes gives)))))))
 

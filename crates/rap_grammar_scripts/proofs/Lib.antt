@@ -1,3 +1,4 @@
 pub mod Balance
+pub mod ByOperator
 pub mod Forests
 pub mod OneEnd

@@ -1,6 +1,6 @@
 -- From one spot a script leads to one spot with one outcome.
 use Rattle.std.proofs.Common.{◌≡◌, Bool, true, false, refl, ap, sym, ◌∙◌}
-use Rattle.rap_grammar_scripts.specs.Script.{Script, Spot, Outcome, nothing, something, block, again, goes_on, Runs, gives, looks, passes, fails, ends_so, ends_else, takes, takes_any, bears, reports, skips, starts, precedes, finishes, extends, abandons, splits_dotted, splits_whole, follows, obeys, turns, stops}
+use Rattle.rap_grammar_scripts.specs.Script.{Script, Spot, Outcome, nothing, something, block, again, goes_on, Runs, gives, passes, fails, ends_so, ends_else, takes, takes_any, bears, reports, reports_next, skips, starts, precedes, finishes, extends, abandons, splits_dotted, splits_whole, follows, obeys, turns, stops}
 
 -- the same end
 pub record Same (p q : Spot) (v w : Outcome) : Type 0 where
@@ -26,7 +26,6 @@ other_flag (again a b) = b
 pub one_end : {P : Type 0} {script_of : P → Script P} {s : Script P} {p q r : Spot} {v w : Outcome} →
     Runs script_of s p q v → Runs script_of s p r w → Same q r v w
 one_end gives gives = record { spot = refl; outcome = refl }
-one_end (looks x) (looks y) = one_end x y
 one_end (passes e x) (passes f y) = one_end x y
 one_end (passes e x) (fails f y) = absurd (clash e f)
 one_end (fails e x) (passes f y) = absurd (clash f e)
@@ -39,6 +38,7 @@ one_end (takes e x) (takes f y) = one_end x y
 one_end (takes_any e x) (takes_any f y) = one_end x y
 one_end (bears e x) (bears f y) = one_end x y
 one_end (reports x) (reports y) = one_end x y
+one_end (reports_next x) (reports_next y) = one_end x y
 one_end (skips x) (skips y) = one_end x y
 one_end (starts x) (starts y) = one_end x y
 one_end (precedes x) (precedes y) = one_end x y

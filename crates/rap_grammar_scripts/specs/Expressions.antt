@@ -11,11 +11,11 @@ use Rattle.rap_grammar_scripts.specs.Attributes.{outer_attrs}
 use Rattle.rap_grammar_scripts.specs.Called.{type_no_bounds}
 use Rattle.rap_grammar_scripts.specs.First.{is_expr_first, is_path_name, is_path_name_or_index, one_of}
 use Rattle.rap_grammar_scripts.specs.Grammar.{name_ref_mod_path, name_ref_mod_path_or_index, delimited}
-use Rattle.rap_grammar_scripts.specs.Operator.{operator_at}
+use Rattle.rap_grammar_scripts.specs.Operator.{operator_at, by_operator}
 use Rattle.rap_grammar_scripts.specs.Paths.{opt_generic_arg_list_expr}
 use Rattle.rap_grammar_scripts.specs.Phrase.{Phrase, expression}
 use Rattle.rap_grammar_scripts.specs.Recovery.{is_expr_recovery}
-use Rattle.rap_grammar_scripts.specs.Script.{Script, Outcome, nothing, something, block, give, look, test, token, any, bear, report, start, precede, finish, extend, abandon, split_float, after, loop, again}
+use Rattle.rap_grammar_scripts.specs.Script.{Script, Outcome, nothing, something, block, give, test, token, any, bear, report, start, precede, finish, extend, abandon, split_float, after, loop, again}
 unfoldable pub use Rattle.rap_grammar_scripts.specs.Words.{is_block}
 use Rattle.rap_grammar_scripts.specs.Words.{done, if_some, next_is, reads_as, eat, expect, recover, ◌▸◌, call, recur, choose}
 use Rattle.rap_grammar_scripts.specs.declared.arguments.BlockLike.{BlockLike}
@@ -64,16 +64,16 @@ range_expr r op =
 unfoldable pub cast_expr : Script Phrase
 cast_expr = precede ▸ token AS_KW ▸ call type_no_bounds ▸ finish CAST_EXPR ▸ done
 
--- an operator of at least a power, with its operand; a range without an end goes no further
-abbrev pub operation : Restrictions → ℕ → ℕ → Script Phrase
-operation r bp op =
-    if nat_lt (power op) bp then done
-    else if op == AS_KW then call cast_expr ▸ give (again false false)
+-- an operator with its operand; a range without an end goes no further
+abbrev pub operation : Restrictions → ℕ → Script Phrase
+operation r op =
+    if op == AS_KW then call cast_expr ▸ give (again false false)
     else if power op == 2 then after (range_expr r op) (λ v. if_some v (give (again false false)) done)
     else (call (bin_expr r op) ▸ give (again false false))
 
+-- the operator that comes next, if it has at least a power
 abbrev pub climb_turn : Restrictions → ℕ → Bool → Bool → Script Phrase
-climb_turn r bp a b = look (λ rs. operation r bp (operator_at rs))
+climb_turn r bp a b = test (λ rs. nat_lt (power (operator_at rs)) bp) done (by_operator (operation r))
 
 -- the operators of at least a power after an operand
 unfoldable pub climb : Restrictions → ℕ → Script Phrase

@@ -4,7 +4,6 @@ use Rattle.rap_base.specs.TokenKind.{EOF, ERROR, IDENT, INT_NUMBER, FLOAT_NUMBER
 use Rattle.rap_base.specs.NodeKind.{OR_PAT, RANGE_PAT, REST_PAT, DEREF_PAT, CFG_PRED_PAT, LITERAL_PAT, TUPLE_STRUCT_PAT, RECORD_PAT, RECORD_PAT_FIELD_LIST, RECORD_PAT_FIELD, MACRO_CALL, MACRO_PAT, PATH_PAT, WILDCARD_PAT, REF_PAT, NOT_NULL, PAREN_PAT, TUPLE_PAT, SLICE_PAT, IDENT_PAT, BOX_PAT, CONST_BLOCK_PAT}
 use Rattle.rap_events.specs.Record.{Record, next_kind, kind_at}
 use Rattle.rap_events.specs.Composite.{is_at}
-use Rattle.rap_events.specs.State.{with_kind}
 use Rattle.rap_grammar_scripts.specs.Atom.{literal}
 use Rattle.rap_grammar_scripts.specs.Blocks.{block_expr, error_block}
 use Rattle.rap_grammar_scripts.specs.Attributes.{outer_attrs, cfg_predicate}
@@ -15,7 +14,7 @@ use Rattle.rap_grammar_scripts.specs.TokenTree.{macro_call_after_excl}
 use Rattle.rap_grammar_scripts.specs.Paths.{expr_path}
 use Rattle.rap_grammar_scripts.specs.Phrase.{Phrase}
 use Rattle.rap_grammar_scripts.specs.Recovery.{is_pattern_recovery, is_arm_recovery}
-use Rattle.rap_grammar_scripts.specs.Script.{Script, Outcome, nothing, something, block, again, give, look, test, token, bear, report, skip, start, precede, finish, abandon, after, loop}
+use Rattle.rap_grammar_scripts.specs.Script.{Script, Outcome, nothing, something, block, again, give, test, token, bear, report, report_next, skip, start, precede, finish, abandon, after, loop}
 use Rattle.rap_grammar_scripts.specs.Words.{done, if_some, next_is, reads_as, eat, expect, recover, of_bool, starts_builtin, ◌▸◌, call, choose, optional, only_if}
 
 -- a name that is bound
@@ -62,10 +61,7 @@ pat_turn ket a b =
     (call pattern ▸
     choose
     ((is_at COMMA, token COMMA ▸ give (again a b))
-    ∷ (
-      λ rs. is_pat_top_first (next_kind rs),
-      look (λ rs. report (with_kind (codes "expected COMMA, got ") (next_kind rs)) ▸ give (again a b)),
-    )
+    ∷ (λ rs. is_pat_top_first (next_kind rs), report_next (codes "expected COMMA, got ") ▸ give (again a b))
     ∷ [])
     done)
 
@@ -83,6 +79,11 @@ starts_rest_pat rs = not (is_at DOT2EQ rs) && (is_at DOT2 rs && not (is_range_pa
 unfoldable pub leading_comma : Script Phrase
 leading_comma = only_if (is_at COMMA) (token COMMA ▸ report (codes "expected pattern") ▸ done)
 
+-- A pattern, and a comma unless it is the last. There is a comma or a `..`, or none up to here.
+abbrev pub tuple_element : Bool → Script Phrase
+tuple_element tuple =
+    call pattern ▸ test (is_at R_PAREN) (give (again tuple true)) (expect COMMA ▸ give (again true true))
+
 -- The flags: there is a comma or a `..`, and there is a pattern.
 abbrev pub tuple_pat_turn : Bool → Bool → Script Phrase
 tuple_pat_turn tuple seen =
@@ -91,9 +92,7 @@ tuple_pat_turn tuple seen =
     ∷ (is_at R_PAREN, give (of_bool (seen && not tuple)))
     ∷ (
       λ rs. is_pat_top_first (next_kind rs),
-      look (λ rs. call pattern ▸
-          test (is_at R_PAREN) (give (again (tuple || starts_rest_pat rs) true))
-          (expect COMMA ▸ give (again true true))),
+      test starts_rest_pat (tuple_element true) (tuple_element tuple),
     )
     ∷ [])
     (report (codes "expected a pattern") ▸ give (of_bool (not tuple)))

@@ -11,7 +11,7 @@ use Rattle.rap_grammar_scripts.specs.Called.{expr}
 use Rattle.rap_grammar_scripts.specs.First.{one_of}
 use Rattle.rap_grammar_scripts.specs.Grammar.{name_ref_or_index}
 use Rattle.rap_grammar_scripts.specs.Phrase.{Phrase}
-use Rattle.rap_grammar_scripts.specs.Script.{Script, give, test, token, report, skip, start, finish, abandon, after, loop, again}
+use Rattle.rap_grammar_scripts.specs.Script.{Script, give, test, token, report, skip, start, finish, abandon, loop, again}
 use Rattle.rap_grammar_scripts.specs.Words.{done, expect, ◌▸◌, call, choose, optional}
 
 -- a field's name or number

@@ -9,7 +9,7 @@ use Rattle.rap_events.specs.Cover.{first_may_bear}
 use Rattle.rap_events.specs.Forest.{Forest, none, node, leaf, message, split, ◌⧺◌}
 use Rattle.rap_events.specs.LastToken.{last_after}
 use Rattle.rap_events.specs.Machine.{Stack, floor, push}
-use Rattle.rap_events.specs.State.{State, but_last, last_children, skipped}
+use Rattle.rap_events.specs.State.{State, but_last, last_children, skipped, with_kind}
 
 -- What a rule answers to its caller: nothing (`None`, `false`), something, or a node that reads like a block. A turn of
 -- a loop answers that the loop goes on, with these two flags.
@@ -19,23 +19,23 @@ pub data Outcome : Type 0 where
   block : Outcome
   again : Bool → Bool → Outcome
 
--- A script over rules with these names. It ends with an outcome. It goes on as the tokens that come next say, or by a
--- test of them, or as the last token taken was of a kind or not. It takes a token: of a kind, under its own kind, or
--- under another kind that it may bear. It reports a message, or reports one and takes the next token into an `ERROR`. It
--- starts a node, starts one around the last node, finishes the newest one under a kind, lets the last node begin where
--- the newest one does, or abandons the newest one.
+-- A script over rules with these names. It ends with an outcome. It goes on by a test of the tokens that come next, or as
+-- the last token taken was of a kind or not. It takes a token: of a kind, under its own kind, or under another kind that
+-- it may bear. It reports a message, one that ends in the next token's kind, or one with which it takes the next token
+-- into an `ERROR`. It starts a node, starts one around the last node, finishes the newest one under a kind, lets the last
+-- node begin where the newest one does, or abandons the newest one.
 -- It takes a float apart, which finishes the field access that is the newest node, and where the float does not end in
 -- a dot another one around it; and goes on as the float ends in a dot or not.
 -- It goes on after another script, or after a rule, as their outcome says. It takes turns, as long as they answer so.
 pub data Script (P : Type 0) : Type 0 where
   give : Outcome → Script P
-  look : (List Record → Script P) → Script P
   test : (List Record → Bool) → Script P → Script P → Script P
   ends_with : ℕ → Script P → Script P → Script P
   token : ℕ → Script P → Script P
   any : Script P → Script P
   bear : ℕ → Script P → Script P
   report : List ℕ → Script P → Script P
+  report_next : List ℕ → Script P → Script P
   skip : List ℕ → Script P → Script P
   start : Script P → Script P
   precede : Script P → Script P
@@ -132,7 +132,6 @@ goes_on (again a b) = true
 -- By the scripts of all rules, a script leads from here to there and ends with this outcome.
 pub data Runs {P : Type 0} (script_of : P → Script P) : Script P → Spot → Spot → Outcome → Type 0 where
   gives : {v : Outcome} {p : Spot} → Runs script_of (give v) p p v
-  looks : {h : List Record → Script P} {p q : Spot} {v : Outcome} → Runs script_of (h p.rest) p q v → Runs script_of (look h) p q v
   passes : {h : List Record → Bool} {s t : Script P} {p q : Spot} {v : Outcome} → h p.rest ≡ true → Runs script_of s p q v → Runs script_of (test h s t) p q v
   fails : {h : List Record → Bool} {s t : Script P} {p q : Spot} {v : Outcome} → h p.rest ≡ false → Runs script_of t p q v → Runs script_of (test h s t) p q v
   ends_so : {k : ℕ} {s t : Script P} {p q : Spot} {v : Outcome} → (last_taken_at p == k) ≡ true → Runs script_of s p q v → Runs script_of (ends_with k s t) p q v
@@ -141,6 +140,7 @@ pub data Runs {P : Type 0} (script_of : P → Script P) : Script P → Spot → 
   takes_any : {s : Script P} {p q : Spot} {v : Outcome} → next_kind p.rest ≢ EOF → Runs script_of s (taken (next_kind p.rest) 1 p) q v → Runs script_of (any s) p q v
   bears : {k : ℕ} {s : Script P} {p q : Spot} {v : Outcome} → first_may_bear p.rest k ≡ true → Runs script_of s (taken k 1 p) q v → Runs script_of (bear k s) p q v
   reports : {bytes : List ℕ} {s : Script P} {p q : Spot} {v : Outcome} → Runs script_of s (reported bytes p) q v → Runs script_of (report bytes s) p q v
+  reports_next : {bytes : List ℕ} {s : Script P} {p q : Spot} {v : Outcome} → Runs script_of s (reported (with_kind bytes (next_kind p.rest)) p) q v → Runs script_of (report_next bytes s) p q v
   skips : {bytes : List ℕ} {s : Script P} {p q : Spot} {v : Outcome} → Runs script_of s (skipped_over bytes p) q v → Runs script_of (skip bytes s) p q v
   starts : {s : Script P} {p q : Spot} {v : Outcome} → Runs script_of s (started p) q v → Runs script_of (start s) p q v
   precedes : {s : Script P} {p q : Spot} {v : Outcome} → Runs script_of s (preceded p) q v → Runs script_of (precede s) p q v

@@ -1,14 +1,13 @@
 -- Lists of tokens in brackets, and macro calls.
 -- In the Rust crate: `grammar/items.rs`.
 use Rattle.std.specs.Prelude.{ℕ, Bool, false, List, [], ◌∷◌, ◌&&◌, not, codes}
-use Rattle.rap_base.specs.TokenKind.{EOF, R_PAREN, R_BRACK, L_CURLY, R_CURLY, BANG, NEQ}
+use Rattle.rap_base.specs.TokenKind.{EOF, L_PAREN, R_PAREN, L_BRACK, R_BRACK, L_CURLY, R_CURLY, BANG, NEQ}
 use Rattle.rap_base.specs.NodeKind.{TOKEN_TREE}
 use Rattle.rap_events.specs.Record.{Record, next_kind}
 use Rattle.rap_events.specs.Composite.{is_at}
-use Rattle.rap_events.specs.Fit.{partner}
 use Rattle.rap_grammar_scripts.specs.First.{one_of, is_bracket}
 use Rattle.rap_grammar_scripts.specs.Phrase.{Phrase, bracketed}
-use Rattle.rap_grammar_scripts.specs.Script.{Script, nothing, block, give, look, token, any, report, skip, start, finish, after, loop, again}
+use Rattle.rap_grammar_scripts.specs.Script.{Script, nothing, block, give, token, any, report, skip, start, finish, after, loop, again}
 use Rattle.rap_grammar_scripts.specs.Words.{done, if_some, next_is, expect, ◌▸◌, call, recur, choose}
 
 -- A bracket that closes no list of these goes into an `ERROR`, but a brace ends the list.
@@ -34,7 +33,12 @@ tokens_in ket =
     after (tokens_to ket) (λ v. if_some v (expect ket ▸ finish TOKEN_TREE ▸ done) (finish TOKEN_TREE ▸ done))
 
 unfoldable pub bracketed_tokens : Script Phrase
-bracketed_tokens = look (λ rs. tokens_in (partner (next_kind rs)))
+bracketed_tokens =
+    choose
+    ((next_is L_PAREN, tokens_in R_PAREN)
+    ∷ (next_is L_BRACK, tokens_in R_BRACK)
+    ∷ [])
+    (tokens_in R_CURLY)
 
 -- the `!` of a macro call comes next, and no `!=`
 abbrev pub starts_macro_call : List Record → Bool

@@ -1,8 +1,8 @@
 use Rattle.std.proofs.Common.{rules, refl}
 use Rattle.rap_grammar_scripts.specs.Patterns.{pat_list}
 use Rattle.rap_grammar_frame.proofs.Patterning.{took_before}
-use Rattle.rap_grammar_scripts.specs.Script.{gives, passes, fails, looks}
-use Rattle.rap_grammar_frame.proofs.Steps.{by_report, by_rule, turn, last_turn, then_by, else_by, ate, not_ate}
+use Rattle.rap_grammar_scripts.specs.Script.{gives, passes, fails}
+use Rattle.rap_grammar_frame.proofs.Steps.{by_report_next, by_rule, turn, last_turn, then_by, else_by, ate, not_ate}
 use Rattle.rap_grammar_patterns.proofs.patterns.pat_list.Goals as goal
 
 pub patterns-preserved-then-branch : goal.patterns-preserved-then-branch
@@ -31,7 +31,7 @@ patterns-preserved g c =
           (by_rule c.in_ok-pattern.ensures.script
           (not_ate c.in_ok-eat.ensures.state c.if-branch.false
           (passes (search rules)
-          (looks (by_report c.in_ok-error_with_kind.ensures.state gives)))))));
+          (by_report_next c.in_ok-error_with_kind.ensures.state gives))))));
     }
 
 pub returns-then-not-is_pat_top_first-clause-script : goal.returns-then-not-is_pat_top_first-clause-script

@@ -1,6 +1,7 @@
 use Rattle.std.proofs.Common.{rules}
+use Rattle.rap_grammar_frame.proofs.Patterning.{by_rest_pat}
 use Rattle.rap_grammar_scripts.specs.Patterns.{tuple_patterns}
-use Rattle.rap_grammar_scripts.specs.Script.{gives, passes, fails, looks}
+use Rattle.rap_grammar_scripts.specs.Script.{gives, passes, fails}
 use Rattle.rap_grammar_frame.proofs.Steps.{by_report, by_rule, by_expect, turn, last_turn, then_by, else_by, not_on}
 use Rattle.rap_grammar_patterns.proofs.patterns.tuple_patterns.Goals.{then-patterns-test+else-not-at, else-patterns-test}
 use Rattle.rap_grammar_patterns.proofs.patterns.tuple_patterns.Goals as goal
@@ -12,7 +13,7 @@ patterns-preserved-in_ok-expect g c = record {
       (else_by c.at.ensures c.patterns-test.true
       (else_by c.at-in-patterns.ensures c.if-not-at.true
       (passes (search rules)
-      (looks (by_rule c.in_ok-pattern.ensures.script
+      (by_rest_pat c.is_rest_pat.ensures (by_rule c.in_ok-pattern.ensures.script
       (else_by c.at-in-patterns-2.ensures c.if-not-at-2.true
       (by_expect c.in_ok-expect.ensures.state gives)))))));
 }
@@ -24,9 +25,9 @@ patterns-preserved g c = record {
       (else_by c.at.ensures c.patterns-test.true
       (else_by c.at-in-patterns.ensures c.if-not-at.true
       (passes (search rules)
-      (looks (by_rule c.in_ok-pattern.ensures.script
+      (by_rest_pat c.is_rest_pat.ensures (by_rule c.in_ok-pattern.ensures.script
       (then_by c.at-in-patterns-2.ensures c.if-not-at-2.false
-      (rw (← c.is_rest_pat.ensures) gives)))))));
+      gives))))));
 }
 
 pub returns-then-not-is_pat_top_first-clause-script : goal.returns-then-not-is_pat_top_first-clause-script
