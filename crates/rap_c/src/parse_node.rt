@@ -70,13 +70,5 @@ pub extern "C" fn rap_parse_node(
     ensures parsed { result.status ≤ 1 → IsParseNode rows.now (asked_kind node first_child parent) steps.old steps.new messages.old messages.new result }
     ensures refused { 1 < result.status → IsRefusal (ComesOfParseNode rows.now (asked_kind node first_child parent)) result × IsUntouched steps.old steps.new messages.old messages.new }
 {
-    settle(parse_node(
-        alloc,
-        rows,
-        node,
-        first_child,
-        parent,
-        steps,
-        messages,
-    ))
+    settle(parse_node(alloc, rows, node, first_child, parent, steps, messages))
 }

@@ -67,13 +67,7 @@ fn fill_weave(
     let Some(count) = covered(alloc, tree.as_slice(), &reading.input) else {
         return Err(Fault::NoSteps);
     };
-    Ok(fill_tree_steps(
-        &reading.lexed,
-        tree.as_slice(),
-        count,
-        steps,
-        messages,
-    ))
+    Ok(fill_tree_steps(&reading.lexed, tree.as_slice(), count, steps, messages))
 }
 
 /// Reads the number and the bytes, and fills the room.
@@ -92,15 +86,7 @@ fn weave(
 {
     let edition = edition_of(edition)?;
     let text = text_of(text)?;
-    fill_weave(
-        alloc,
-        edition,
-        text,
-        tree,
-        tree_messages,
-        steps,
-        messages,
-    )
+    fill_weave(alloc, edition, text, tree, tree_messages, steps, messages)
 }
 
 /// Puts the trivia of the text back into a tree over its tokens, whose steps and whose messages' bytes are given, and fills
@@ -119,13 +105,5 @@ pub extern "C" fn rap_weave(
     ensures woven { result.status ≡ 0 → IsWeave text.now edition tree.now tree_messages.now steps.old steps.new messages.old messages.new result }
     ensures refused { result.status ≢ 0 → IsRefusal (ComesOfWeave text.now edition tree.now tree_messages.now) result × IsUntouched steps.old steps.new messages.old messages.new }
 {
-    settle(weave(
-        alloc,
-        text,
-        edition,
-        tree,
-        tree_messages,
-        steps,
-        messages,
-    ))
+    settle(weave(alloc, text, edition, tree, tree_messages, steps, messages))
 }
