@@ -15,7 +15,7 @@ use crate::answer::{Fault, OK, RapAnswer, settle};
 use crate::filler::Filler;
 use crate::given::steps_of;
 use crate::numbers::edition_of;
-use crate::reading::{Reading, read, text_of};
+use crate::reading::{read, text_of};
 use crate::step::RapStep;
 use ra_ap_parser::{Edition, LexedStr, Step};
 use rap_lexed::used::end_after;
@@ -57,7 +57,7 @@ fn fill_weave(
     ensures fault { IfErr result (ComesOfWeaving text.now edition given.now given_messages.now) }
     ensures untouched { IfErr result (λ _. IsUntouched steps.old steps.new messages.old messages.new) }
 {
-    let Reading { lexed, input } = read(alloc, edition, text)?;
+    let reading = read(alloc, edition, text)?;
     let tree = steps_of(alloc, given, given_messages)?;
     let Ok(is_one) = is_tree(alloc, tree.as_slice()) else {
         return Err(Fault::NoMemory);
@@ -65,10 +65,10 @@ fn fill_weave(
     if !is_one {
         return Err(Fault::NoSteps);
     }
-    let Some(count) = covered(alloc, tree.as_slice(), &input) else {
+    let Some(count) = covered(alloc, tree.as_slice(), &reading.input) else {
         return Err(Fault::NoSteps);
     };
-    Ok(fill_tree_steps(&lexed, tree.as_slice(), count, steps, messages))
+    Ok(fill_tree_steps(&reading.lexed, tree.as_slice(), count, steps, messages))
 }
 
 /// Reads the number and the bytes, and fills the room.
