@@ -507,7 +507,8 @@ claim (binary_operator {p = p} {op = op} {ks = ks} {os = os} {js = js} {t = t} {
     (omega arith) refl (climb_end (operand_of r) (omega arith))) in
     rw (three_lists ks os js l) (claim d r bp b f (os ++ (js ++ l)) g m h (q.calm r.forbid_structs)
     (omega (arith, ap power q.is)) (rw (three_lists ks os js l) at w)
-    (climb_on r (single d) q.is (omega arith) (omega arith) (λ z. omega arith) (no_cast op p i (omega arith)) q.first q.past x y))
+    (climb_on r (single d) q.is (omega arith) (omega arith) (λ z. omega arith) (no_cast op p i (omega arith)) q.first
+    q.past x y))
 claim (expression_binary {t = t} d) = λ r b f l q w.
     claim d r 1 b f l (f ⧺ t) l (omega arith) q.calm (omega (arith, q.power_is)) w (climb_end r q.power_is)
 claim (expression_assign {op = op} {ks = ks} {os = os} {js = js} {t = t} {u = u} d o e) = λ r b f l c w.
@@ -520,8 +521,8 @@ claim (expression_assign {op = op} {ks = ks} {os = os} {js = js} {t = t} {u = u}
     rw i (claim e (operand_of r) (f ∷ b) (leaf t op (width op)) l c refl) in
     rw (three_lists ks os js l) (claim d r 1 b f (os ++ (js ++ l)) (f ⧺ node none BIN_EXPR (leaf t op (width op) ⧺ u)) l
     (omega arith) (q.calm r.forbid_structs) (omega (arith, ap power q.is)) (rw (three_lists ks os js l) at w)
-    (climb_on r (single d) q.is (omega arith) (omega arith) (λ z. omega arith) (no_cast op 1 i (omega arith)) q.first q.past x
-    (climb_end r c.power_is)))
+    (climb_on r (single d) q.is (omega arith) (omega arith) (λ z. omega arith) (no_cast op 1 i (omega arith)) q.first
+    q.past x (climb_end r c.power_is)))
 claim (type_path {t = t} d) = λ bounds b f l e.
     let n = path_named d in
     let colons : is_at COLON2 l ≡ false = no_colon l (differ ends_type (next_kind l) COLON e.next refl) in

@@ -1,4 +1,4 @@
--- Where a script ends, computed: by which outcomes, with how many open nodes, and whether it leaves the older ones alone.
+-- Where a script ends, computed: by which outcomes, with how many open nodes, and whether it leaves older ones alone.
 use Rattle.std.specs.Prelude.{ℕ, zero, suc, Bool, true, false, ◌&&◌, ◌||◌, ◌==◌, List, [], ◌∷◌, if◌then◌else◌}
 use Rattle.rap_grammar_scripts.specs.Phrase.{Phrase, expression, any_type, trait_path, generic_argument, generic_parameters, bound_list, where_part, any_pattern, single_pattern, pattern_of_arm, statement, if_behind_else, any_item, tree_of_use, meta_item, condition, bracketed}
 use Rattle.rap_grammar_scripts.specs.Script.{Script, Outcome, nothing, something, block, again, give, test, ends_with, token, any, bear, report, report_next, skip, start, precede, finish, extend, abandon, split_float, after, rule, loop}
@@ -38,7 +38,8 @@ gather h [] = []
 gather h (bad ∷ l) = bad ∷ []
 gather h (at_end v j ∷ l) = join (h v j) (gather h l)
 
--- The ends of a loop, by those of its turns with any flags: a turn that goes on must leave as many open nodes as there were.
+-- The ends of a loop, by those of its turns with any flags: a turn that goes on must leave as many nodes open as there
+-- were.
 abbrev pub settle : ℕ → List End → List End
 settle n [] = []
 settle n (bad ∷ l) = bad ∷ []
@@ -76,8 +77,8 @@ all_at n [] = []
 all_at n (v ∷ vs) = at_end v n ∷ all_at n vs
 
 -- Where a rule of the knot ends that begins with so many open nodes: with as many. An item only adds to the newest
--- forest. Another may begin a node around what stands in it, which a node that is open must hold. An expression that goes
--- on from a node of its caller's finishes that, and no script comes to it through the knot.
+-- forest; another may begin a node around what stands in it, so that forest must be one of an open node. An expression
+-- that goes on from a node of its caller's finishes that, and no script comes to it through the knot.
 abbrev pub rule_ends : Phrase → ℕ → List End
 rule_ends (expression true r bp) n = bad ∷ []
 rule_ends (any_item a b) n = all_at n (outcomes (any_item a b))

@@ -221,7 +221,8 @@ pub record Ended (b : Forest → List Forest → Type 0) (f : Outcome → ℕ �
   pub so : f v depth ≡ true
 
 -- a rule that is called: within so many of the open nodes, above the others
-record Called (b : Forest → List Forest → Type 0) (f : Outcome → ℕ → Bool) (h : Outcome → ℕ → List End) (c : Phrase) (n : ℕ) : Type 0 where
+record Called (b : Forest → List Forest → Type 0) (f : Outcome → ℕ → Bool) (h : Outcome → ℕ → List End) (c : Phrase)
+    (n : ℕ) : Type 0 where
   within : ℕ
   others : ℕ
   down : (x : Forest) (fs : List Forest) → Above b n x fs → Above (Above b others) within x fs
@@ -229,7 +230,8 @@ record Called (b : Forest → List Forest → Type 0) (f : Outcome → ℕ → B
   so : every (as_said c within) (ends (script_of c) within) ≡ true
   on : every f (gather h (all_at n (outcomes c))) ≡ true
 
-within_one : (b : Forest → List Forest → Type 0) (f : Outcome → ℕ → Bool) (h : Outcome → ℕ → List End) (c : Phrase) (n : ℕ) →
+within_one : (b : Forest → List Forest → Type 0) (f : Outcome → ℕ → Bool) (h : Outcome → ℕ → List End) (c : Phrase)
+    (n : ℕ) →
     every (as_said c 1) (ends (script_of c) 1) ≡ true → every f (gather h (all_at (suc n) (outcomes c))) ≡ true →
     Called b f h c (suc n)
 within_one b f h c n s e = record {
@@ -241,7 +243,8 @@ within_one b f h c n s e = record {
   on = e;
 }
 
-called : Sound → (b : Forest → List Forest → Type 0) (f : Outcome → ℕ → Bool) (h : Outcome → ℕ → List End) (c : Phrase) (n : ℕ) →
+called : Sound → (b : Forest → List Forest → Type 0) (f : Outcome → ℕ → Bool) (h : Outcome → ℕ → List End)
+    (c : Phrase) (n : ℕ) →
     every f (gather h (rule_ends c n)) ≡ true → Called b f h c n
 called x b f h (expression true r bp) n e = absurd cc
 called x b f h (any_item i j) n e = record {

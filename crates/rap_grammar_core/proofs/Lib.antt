@@ -14,6 +14,7 @@ pub mod Lists
 pub mod MacroCalls
 pub mod Operators
 pub mod Recovery
+pub mod Scripts
 pub mod StatementWays
 pub mod TypeWays
 pub mod Unique

@@ -266,7 +266,8 @@ unfolding bin_expr script_of expr_bp
 bin_way r {f = f} h first past x = precedes_one f h (takes first (rw past (obeys (starts x) (finishes gives))))
 
 pub climb_on : (r : Restrictions) {bp op : ℕ} {b : List Forest} {rs s m l : List Record} {f t x g : Forest} → Single t →
-    operator_at rs ≡ op → 0 < power op → bp ≤ power op → power op ≢ 2 → op ≢ AS_KW → is_at op rs ≡ true → drop (width op) rs ≡ s →
+    operator_at rs ≡ op → 0 < power op → bp ≤ power op → power op ≢ 2 → op ≢ AS_KW → is_at op rs ≡ true →
+    drop (width op) rs ≡ s →
     LeadsOut (attributed (operand_of r) (right_of op)) (f ∷ b) s (leaf t op (width op)) m x →
     Leads (climb r bp) b m (node f BIN_EXPR x) l g → Leads (climb r bp) b rs (f ⧺ t) l g
 unfolding climb

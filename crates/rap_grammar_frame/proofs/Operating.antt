@@ -26,30 +26,30 @@ not_below : (a b : ℕ) → b ≤ a → nat_lt a b ≡ false
 not_below a b h = grind (arith, nat_tests)
 
 -- a turn that goes on by the operator that comes next, which has power enough
-on_operator : (r : Restrictions) (bp : ℕ) {a b : Bool} {n : ℕ} {p q : Spot} {v : Outcome} →
+on_operator : (r : Restrictions) (bp : ℕ) {n : ℕ} {p q : Spot} {v : Outcome} →
     n ≡ power (operator_at p.rest) → 0 < n → bp ≤ n → On (operation r (operator_at p.rest)) p q v →
-    On (climb_turn r bp a b) p q v
+    On (climb_turn r bp false false) p q v
 on_operator r bp e some h d =
     fails (not_below _ _ (rw e at h)) (operates (operation r) (rw e at some) d)
 
 -- an operator of too little power
-pub stops_low : (r : Restrictions) (bp : ℕ) {a b : Bool} {n : ℕ} {p : Spot} →
-    n ≡ power (operator_at p.rest) → n < bp → On (climb_turn r bp a b) p p something
+pub stops_low : (r : Restrictions) (bp : ℕ) {n : ℕ} {p : Spot} →
+    n ≡ power (operator_at p.rest) → n < bp → On (climb_turn r bp false false) p p something
 stops_low r bp e h = passes (below _ _ (rw e at h)) gives
 
 -- a cast
-pub goes_as : (r : Restrictions) (bp : ℕ) {a b : Bool} {n : ℕ} {s t : State} →
+pub goes_as : (r : Restrictions) (bp : ℕ) {n : ℕ} {s t : State} →
     n ≡ power (operator_at s.rest) → 0 < n → bp ≤ n → operator_at s.rest ≡ AS_KW → Follows cast_expr something s t →
-    On (climb_turn r bp a b) (spot s) (spot t) (again false false)
+    On (climb_turn r bp false false) (spot s) (spot t) (again false false)
 goes_as r bp {s = s} e some h is f =
     let cast : (operator_at s.rest == AS_KW) ≡ true = rw is refl in
     on_operator r bp e some h (rw cast (by_rule f gives))
 
 -- a range without an end
-pub stops_range : (r : Restrictions) (bp : ℕ) {a b : Bool} {n : ℕ} {s t : State} {c : Bool} →
+pub stops_range : (r : Restrictions) (bp : ℕ) {n : ℕ} {s t : State} {c : Bool} →
     n ≡ power (operator_at s.rest) → 0 < n → bp ≤ n → operator_at s.rest ≢ AS_KW → n ≡ 2 →
     Follows (range_expr r (operator_at s.rest)) (of_bool c) s t → c ≡ false →
-    On (climb_turn r bp a b) (spot s) (spot t) something
+    On (climb_turn r bp false false) (spot s) (spot t) something
 stops_range r bp {c = true} e some h is two f i = absurd cc
 stops_range r bp {s = s} {c = false} e some h is two f i =
     let cast : (operator_at s.rest == AS_KW) ≡ false = ne_eqb (operator_at s.rest) AS_KW is in
@@ -57,10 +57,10 @@ stops_range r bp {s = s} {c = false} e some h is two f i =
     on_operator r bp e some h (rw (cast, dots) (by_rule f gives))
 
 -- a range with an end
-pub goes_range : (r : Restrictions) (bp : ℕ) {a b : Bool} {n : ℕ} {s t : State} {c : Bool} →
+pub goes_range : (r : Restrictions) (bp : ℕ) {n : ℕ} {s t : State} {c : Bool} →
     n ≡ power (operator_at s.rest) → 0 < n → bp ≤ n → operator_at s.rest ≢ AS_KW → n ≡ 2 →
     Follows (range_expr r (operator_at s.rest)) (of_bool c) s t → c ≡ true →
-    On (climb_turn r bp a b) (spot s) (spot t) (again false false)
+    On (climb_turn r bp false false) (spot s) (spot t) (again false false)
 goes_range r bp {c = false} e some h is two f i = absurd cc
 goes_range r bp {s = s} {c = true} e some h is two f i =
     let cast : (operator_at s.rest == AS_KW) ≡ false = ne_eqb (operator_at s.rest) AS_KW is in
@@ -68,9 +68,9 @@ goes_range r bp {s = s} {c = true} e some h is two f i =
     on_operator r bp e some h (rw (cast, dots) (by_rule f gives))
 
 -- an operator with its right operand
-pub goes_binary : (r : Restrictions) (bp : ℕ) {a b : Bool} {n : ℕ} {s t : State} →
+pub goes_binary : (r : Restrictions) (bp : ℕ) {n : ℕ} {s t : State} →
     n ≡ power (operator_at s.rest) → 0 < n → bp ≤ n → operator_at s.rest ≢ AS_KW → n ≢ 2 →
-    Follows (bin_expr r (operator_at s.rest)) something s t → On (climb_turn r bp a b) (spot s) (spot t) (again false false)
+    Follows (bin_expr r (operator_at s.rest)) something s t → On (climb_turn r bp false false) (spot s) (spot t) (again false false)
 goes_binary r bp {s = s} e some h is two f =
     let cast : (operator_at s.rest == AS_KW) ≡ false = ne_eqb (operator_at s.rest) AS_KW is in
     let dots : (power (operator_at s.rest) == 2) ≡ false = ne_eqb (power (operator_at s.rest)) 2 (λ i. two (e ∙ i)) in
