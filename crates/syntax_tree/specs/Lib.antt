@@ -1,0 +1,6 @@
+pub mod Building
+pub mod ChildSizes
+pub mod Children
+pub mod Ranged
+pub mod RangedForest
+pub mod Stored
