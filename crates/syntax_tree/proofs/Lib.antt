@@ -1,1 +1,4 @@
+pub mod ChildLists
+pub mod Frames
+pub mod Runs
 pub mod Weights

@@ -1,19 +1,11 @@
 -- What is left to drop.
 use Rattle.std.proofs.Common.{◌≡◌, ℕ, ◌+◌, ◌≤◌, ◌<◌, List, [], ◌∷◌, ◌++◌, refl, ap, ◌∙◌, arith}
-use Rattle.std.specs.declared.ops.range.Range.{Range}
-use Rattle.syntax_tree.specs.Children.{with_child, with_children, children_of}
+use Rattle.std.specs.declared.ops.Range.{Range}
+use Rattle.syntax_tree.specs.Children.{with_child, children_of}
 use Rattle.syntax_tree.specs.RangedForest.{RangedForest, RangedNode, ranged_none, ranged_node, ranged_leaf}
+use Rattle.syntax_tree.proofs.ChildLists.{children-snoc}
 use Rattle.syntax_tree.specs.declared.node.Child.{Child}
 use Rattle.syntax_tree.specs.declared.node.Child.TheVariants.{Node as a_node, Leaf as a_leaf}
-
--- one list of children after another
-pub with_children-append : (cs ds : List Child) (f : RangedForest) → with_children f (cs ++ ds) ≡ with_children (with_children f cs) ds
-with_children-append [] ds f = refl
-with_children-append (c ∷ cs) ds f = with_children-append cs ds (with_child f c)
-
--- one child more
-pub children-snoc : (cs ds : List Child) (c : Child) → ds ≡ cs ++ c ∷ [] → children_of ds ≡ with_child (children_of cs) c
-children-snoc cs ds c e = ap children_of e ∙ with_children-append cs (c ∷ []) ranged_none
 
 -- two for each node and leaf
 abbrev pub weight : RangedForest → ℕ

@@ -1,7 +1,7 @@
 -- The places of nodes and leaves.
 use Rattle.std.specs.Prelude.{◌≡◌, ℕ, ◌+◌, List, length}
 use Rattle.rap_lexed.specs.StrForest.{StrForest, str_none, str_node, str_leaf, str_message, str_joined}
-use Rattle.syntax_tree.specs.RangedForest.{RangedForest, RangedNode, ranged_none, ranged_node, ranged_leaf}
+use Rattle.syntax_tree.specs.RangedForest.{RangedForest, RangedNode, ranged_none, ranged_node, ranged_leaf, alone}
 
 -- where the last leaf of a forest ends that begins at a place
 abbrev pub end_from : ℕ → StrForest → ℕ
@@ -21,4 +21,4 @@ ranged at (str_message before bytes pos) = ranged at before
 
 -- the node is the forest's one tree, with the places of a text from its beginning on
 abbrev pub Ranged : StrForest → RangedNode → Type 0
-Ranged f root = ranged 0 f ≡ ranged_node ranged_none root.kind root.start root.end root.children
+Ranged f root = alone root ≡ ranged 0 f

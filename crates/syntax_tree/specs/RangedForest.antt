@@ -23,3 +23,7 @@ forest_size (ranged_leaf before kind start end) = forest_size before + 1
 
 abbrev pub node_size : RangedNode → ℕ
 node_size n = forest_size n.children + 1
+
+-- one node, with nothing beside it
+abbrev pub alone : RangedNode → RangedForest
+alone n = ranged_node ranged_none n.kind n.start n.end n.children

@@ -1,6 +1,8 @@
 //! The sink that builds a tree.
-ghost use Rattle.std.specs.Prelude.{◌≡◌, ◌+◌, ◌<◌, [], IfOk, length};
-ghost use Rattle.syntax_tree.specs.Building.{building, outermost};
+ghost use Rattle.std.specs.Prelude.{◌≡◌, ◌+◌, IfOk, OnOk, length};
+ghost use Rattle.rap_lexed.specs.StrStep.{str_enter, str_exit, str_token};
+ghost use Rattle.syntax_tree.specs.Building.{Builds, building, outermost};
+ghost use Rattle.syntax_tree.specs.Children.{children_of};
 ghost use Rattle.syntax_tree.specs.RangedForest.{ranged_none};
 
 use crate::node::{Child, Node};
@@ -51,12 +53,17 @@ impl Builder {
         }
     }
 
-    /// What was built.
-    pub(crate) fn into_children(self) -> Vec<Child> {
+    /// What stands in the newest node, or beside the whole tree.
+    pub(crate) fn into_children(self) -> Vec<Child>
+        ensures { children_of result.items ≡ (building self).forest }
+    {
         self.children
     }
 
-    fn enter(&mut self, kind: SyntaxKind) -> Result<(), NoMemory> {
+    /// A node begins.
+    fn enter(&mut self, kind: SyntaxKind) -> Result<(), NoMemory>
+        ensures { OnOk result (Builds self.old (str_enter kind) self.new) }
+    {
         let before = mem::replace(&mut self.children, Vec::new(self.alloc));
         self.open.push(Open {
             kind,
@@ -66,23 +73,24 @@ impl Builder {
         Ok(())
     }
 
-    fn exit(&mut self) -> Result<(), NoMemory> {
-        let Some(Open {
-            kind,
-            start,
-            before,
-        }) = self.open.pop()
-        else {
+    /// The newest node ends, if there is one. Its children move into a list of their number.
+    fn exit(&mut self) -> Result<(), NoMemory>
+        ensures { OnOk result (Builds self.old str_exit self.new) }
+    {
+        let Some(open) = self.open.pop() else {
             return Ok(());
         };
-        let mut children = mem::replace(&mut self.children, before);
+        let mut children = mem::replace(&mut self.children, open.before);
         children.shrink_to_fit();
-        self.children
-            .push(Child::Node(Node::new(kind, start, self.at, children)))?;
+        let node = Node::new(open.kind, open.start, self.at, children);
+        self.children.push(Child::Node(node))?;
         Ok(())
     }
 
-    fn token(&mut self, kind: SyntaxKind, text: &str) -> Result<(), NoMemory> {
+    /// A leaf comes.
+    fn token(&mut self, kind: SyntaxKind, text: &str) -> Result<(), NoMemory>
+        ensures { OnOk result (Builds self.old (str_token kind text.now) self.new) }
+    {
         let end = end_of(self.at, text)?;
         let range = self.at as usize..end as usize;
         self.children.push(Child::Leaf { kind, range })?;

@@ -1,5 +1,14 @@
 //! Trees over a text.
-ghost use Rattle.std.specs.Prelude.{◌≡◌, ◌≤◌, ◌×◌, IfOk, true, length, slice_range, IsCharBoundary};
+ghost use Rattle.std.specs.Prelude.{◌≡◌, ◌≤◌, IfOk, true, length, slice_range, IsCharBoundary};
+ghost use Rattle.rap_base.specs.declared.edition.Edition.{Edition};
+ghost use Rattle.rap_events.specs.Cover.{covers};
+ghost use Rattle.rap_events.specs.Forest.{one_tree, used};
+ghost use Rattle.rap_lexed.specs.Input.{records};
+ghost use Rattle.rap_lexed.specs.LexedStr.{joined};
+ghost use Rattle.rap_lexed.specs.Trivia.{significant, with_trivia};
+ghost use Rattle.syntax_tree.specs.Children.{children_of};
+ghost use Rattle.syntax_tree.specs.Ranged.{Ranged};
+ghost use Rattle.syntax_tree.specs.RangedForest.{RangedNode, alone};
 
 use crate::builder::Builder;
 use crate::node::{Child, Node};
@@ -22,26 +31,49 @@ impl<'t> Tree<'t> {
     /// The first leaf begins at 0, each further one where the leaf before it ends, and each is as long as its text. A
     /// node begins where the leaves before it end, and ends where its own last leaf ends; a node without a leaf is
     /// empty. The output's messages are not kept. The error is want of memory.
-    pub fn build(alloc: Global, lexed: &LexedStr<'t>, output: &Output) -> Result<Tree<'t>, NoMemory> {
+    pub fn build(alloc: Global, lexed: &LexedStr<'t>, output: &Output) -> Result<Tree<'t>, NoMemory>
+        requires tree { one_tree output.now ≡ true }
+        requires prefix { (edition : Edition) × (covers (records lexed.now.tokens edition) output.now ≡ true) }
+        ensures ranged { IfOk result (λ tree. Ranged (with_trivia lexed.now.tokens output.now) tree.root) }
+        ensures text { IfOk result (λ tree. tree.text.now ≡ joined lexed.now.tokens) }
+        ensures whole { IfOk result (λ tree. used output.now ≡ significant lexed.now.tokens
+            → (tree.root.start ≡ 0) × (tree.root.end ≡ length (joined lexed.now.tokens))) }
+    {
         let mut builder = Builder::new(alloc);
         let _whole = lexed.intersperse_trivia(output, &mut builder)?;
-        let Some(Child::Node(root)) = builder.into_children().pop() else {
-            return Err(NoMemory);
-        };
         Ok(Tree {
             text: lexed.as_str(),
-            root,
+            root: only_node(builder.into_children()),
         })
     }
 
     /// The tree's root.
-    pub fn root(&self) -> &Node {
+    pub fn root(&self) -> &Node
+        ensures { result.now ≡ self.now.root }
+    {
         &self.root
     }
 
     /// The text of a node: that of its range. Takes no memory, and copies nothing.
-    pub fn text_of(&self, node: &Node) -> &'t str {
+    pub fn text_of(&self, node: &Node) -> &'t str
+        requires start { IsCharBoundary self.now.text.now node.now.start }
+        requires end { IsCharBoundary self.now.text.now node.now.end }
+        requires rising { node.now.start ≤ node.now.end }
+        ensures { result.now ≡ slice_range self.now.text.now node.now.start node.now.end }
+    {
         let range = node.range();
         &self.text[range.start..range.end]
+    }
+}
+
+/// The node that stands alone in a list.
+fn only_node(mut children: Vec<Child>) -> Node
+    requires { (node : RangedNode) × (children_of children.items ≡ alone node) }
+    ensures { children_of children.items ≡ alone result }
+{
+    match children.pop() {
+        Some(Child::Node(node)) => node,
+        Some(Child::Leaf { .. }) => unreachable!(),
+        None => unreachable!(),
     }
 }

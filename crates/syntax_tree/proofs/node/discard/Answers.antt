@@ -1,4 +1,4 @@
-use Rattle.std.proofs.Common.{ap, refl, arith}
+use Rattle.std.proofs.Common.{ap, refl, ◌∙◌, append-nil, arith}
 use Rattle.syntax_tree.proofs.Weights.{weight, outer_weight, outer_weight-le, weight-leaf, weight-node, outer_weight-leaf, outer_weight-node}
 use Rattle.syntax_tree.specs.Children.{children_of}
 use Rattle.syntax_tree.proofs.node.discard.Goals as goal
@@ -20,7 +20,8 @@ pub loop-node-smaller-in-Some-Leaf-pop : goal.loop-node-smaller-in-Some-Leaf-pop
 loop-node-smaller-in-Some-Leaf-pop c =
     let e = outer_weight-leaf c.pop-in-None.new.self.items c.loop-node.outer.items c.in-Some-Leaf-pop.field-0 c.in-Some-Leaf-pop.field-0-0 c.in-Some-Leaf-pop.field-0-1 c.in-Some-Leaf-pop.ensures.items c.in-Some-Leaf-pop.field-0-is in
     let less = outer_weight-le (children_of c.pop-in-None.new.self.items) in
-    ?
+    let same = ap (λ l. weight (children_of l)) (c.in-None.ensures.items ∙ append-nil c.pop.new.self.items) in
+    omega (arith, e, less, same)
 
 pub loop-node-smaller : goal.loop-node-smaller
 loop-node-smaller c =
