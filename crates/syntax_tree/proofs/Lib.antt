@@ -1,4 +1,5 @@
 pub mod ChildLists
 pub mod Frames
 pub mod Runs
+pub mod Texts
 pub mod Weights

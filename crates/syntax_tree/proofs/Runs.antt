@@ -16,7 +16,7 @@ run b (s ∷ ss) = run (after b s) ss
 
 pub along : (steps : List StrStepValue) (s t : Builder) → Takes Builds s steps t → building t ≡ run (building s) steps
 along [] s t h = ap building (sym h)
-along (x ∷ xs) s t h = along xs h.0 t h.2 ∙ ap (λ b. run b xs) h.1
+along (x ∷ xs) s t h = along xs h.0 t h.2 ∙ ap (λ b. run b xs) h.1.built
 
 -- these frames, a forest in the newest, and the end of its last leaf
 abbrev pub held : Frames → RangedForest → ℕ → Building

@@ -1,6 +1,6 @@
 -- A tree as far as its steps have come.
 -- (What calls promise one another; no promise of the library rests on it.)
-use Rattle.std.specs.Prelude.{◌≡◌, ℕ, ◌+◌, List, [], ◌∷◌, length}
+use Rattle.std.specs.Prelude.{◌≡◌, ℕ, ◌+◌, List, [], ◌∷◌, length, IsUtf8}
 use Rattle.rap_lexed.specs.StrStep.{StrStepValue, str_enter, str_exit, str_token, str_error}
 use Rattle.syntax_tree.specs.Children.{children_of}
 use Rattle.syntax_tree.specs.RangedForest.{RangedForest, ranged_none, ranged_node, ranged_leaf}
@@ -40,6 +40,14 @@ frames_in frames (o ∷ os) = frames_in (within frames (children_of o.before.ite
 abbrev pub building : Builder → Building
 building b = record { frames = frames_in outermost b.open.items; forest = children_of b.children.items; at = b.at }
 
+-- a token's bytes are text
+abbrev pub IsText : StrStepValue → Type 0
+IsText (str_enter kind) = Unit {0}
+IsText str_exit = Unit {0}
+IsText (str_token kind text) = IsUtf8 text
+IsText (str_error bytes pos) = Unit {0}
+
 -- a builder takes a step
-abbrev pub Builds : Builder → StrStepValue → Builder → Type 0
-Builds old step new = building new ≡ after (building old) step
+pub record Builds (old : Builder) (step : StrStepValue) (new : Builder) : Type 0 where
+  pub built : building new ≡ after (building old) step
+  pub text : IsText step

@@ -1,7 +1,7 @@
 //! The sink that builds a tree.
-ghost use Rattle.std.specs.Prelude.{◌≡◌, ◌+◌, IfOk, OnOk, length};
+ghost use Rattle.std.specs.Prelude.{◌≡◌, ◌+◌, IfOk, OnOk, length, IsUtf8};
 ghost use Rattle.rap_lexed.specs.StrStep.{str_enter, str_exit, str_token};
-ghost use Rattle.syntax_tree.specs.Building.{Builds, building, outermost};
+ghost use Rattle.syntax_tree.specs.Building.{after, building, outermost};
 ghost use Rattle.syntax_tree.specs.Children.{children_of};
 ghost use Rattle.syntax_tree.specs.RangedForest.{ranged_none};
 
@@ -62,7 +62,7 @@ impl Builder {
 
     /// A node begins.
     fn enter(&mut self, kind: SyntaxKind) -> Result<(), NoMemory>
-        ensures { OnOk result (Builds self.old (str_enter kind) self.new) }
+        ensures { OnOk result (building self.new ≡ after (building self.old) (str_enter kind)) }
     {
         let before = mem::replace(&mut self.children, Vec::new(self.alloc));
         self.open.push(Open {
@@ -75,7 +75,7 @@ impl Builder {
 
     /// The newest node ends, if there is one. Its children move into a list of their number.
     fn exit(&mut self) -> Result<(), NoMemory>
-        ensures { OnOk result (Builds self.old str_exit self.new) }
+        ensures { OnOk result (building self.new ≡ after (building self.old) str_exit) }
     {
         let Some(open) = self.open.pop() else {
             return Ok(());
@@ -89,7 +89,8 @@ impl Builder {
 
     /// A leaf comes.
     fn token(&mut self, kind: SyntaxKind, text: &str) -> Result<(), NoMemory>
-        ensures { OnOk result (Builds self.old (str_token kind text.now) self.new) }
+        ensures built { OnOk result (building self.new ≡ after (building self.old) (str_token kind text.now)) }
+        ensures text { IsUtf8 text.now }
     {
         let end = end_of(self.at, text)?;
         let range = self.at as usize..end as usize;

@@ -1,5 +1,5 @@
 //! Trees over a text.
-ghost use Rattle.std.specs.Prelude.{◌≡◌, ◌≤◌, IfOk, true, length, slice_range, IsCharBoundary};
+ghost use Rattle.std.specs.Prelude.{◌≡◌, IfOk, true, length, slice_range};
 ghost use Rattle.rap_base.specs.declared.edition.Edition.{Edition};
 ghost use Rattle.rap_events.specs.Cover.{covers};
 ghost use Rattle.rap_events.specs.Forest.{one_tree, used};
@@ -7,6 +7,7 @@ ghost use Rattle.rap_lexed.specs.Input.{records};
 ghost use Rattle.rap_lexed.specs.LexedStr.{joined};
 ghost use Rattle.rap_lexed.specs.Trivia.{significant, with_trivia};
 ghost use Rattle.syntax_tree.specs.Children.{children_of};
+ghost use Rattle.syntax_tree.specs.Places.{HavePlaces, IsPlace};
 ghost use Rattle.syntax_tree.specs.Ranged.{Ranged};
 ghost use Rattle.syntax_tree.specs.RangedForest.{RangedNode, alone};
 
@@ -38,6 +39,8 @@ impl<'t> Tree<'t> {
         ensures text { IfOk result (λ tree. tree.text.now ≡ joined lexed.now.tokens) }
         ensures whole { IfOk result (λ tree. used output.now ≡ significant lexed.now.tokens
             → (tree.root.start ≡ 0) × (tree.root.end ≡ length (joined lexed.now.tokens))) }
+        ensures places { IfOk result (λ tree. used output.now ≡ significant lexed.now.tokens
+            → HavePlaces (joined lexed.now.tokens) (alone tree.root)) }
     {
         let mut builder = Builder::new(alloc);
         let _whole = lexed.intersperse_trivia(output, &mut builder)?;
@@ -56,9 +59,7 @@ impl<'t> Tree<'t> {
 
     /// The text of a node: that of its range. Takes no memory, and copies nothing.
     pub fn text_of(&self, node: &Node) -> &'t str
-        requires start { IsCharBoundary self.now.text.now node.now.start }
-        requires end { IsCharBoundary self.now.text.now node.now.end }
-        requires rising { node.now.start ≤ node.now.end }
+        requires { IsPlace self.now.text.now node.now.start node.now.end }
         ensures { result.now ≡ slice_range self.now.text.now node.now.start node.now.end }
     {
         let range = node.range();
