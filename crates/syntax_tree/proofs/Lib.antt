@@ -1,4 +1,5 @@
 pub mod ChildLists
+pub mod Collected
 pub mod Frames
 pub mod Runs
 pub mod Texts

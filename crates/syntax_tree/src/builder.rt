@@ -61,7 +61,7 @@ impl Builder {
     }
 
     /// A node begins.
-    fn enter(&mut self, kind: SyntaxKind) -> Result<(), NoMemory>
+    pub(crate) fn enter(&mut self, kind: SyntaxKind) -> Result<(), NoMemory>
         ensures { OnOk result (building self.new ≡ after (building self.old) (str_enter kind)) }
     {
         let before = mem::replace(&mut self.children, Vec::new(self.alloc));
@@ -74,7 +74,7 @@ impl Builder {
     }
 
     /// The newest node ends, if there is one. Its children move into a list of their number.
-    fn exit(&mut self) -> Result<(), NoMemory>
+    pub(crate) fn exit(&mut self) -> Result<(), NoMemory>
         ensures { OnOk result (building self.new ≡ after (building self.old) str_exit) }
     {
         let Some(open) = self.open.pop() else {
@@ -88,7 +88,7 @@ impl Builder {
     }
 
     /// A leaf comes.
-    fn token(&mut self, kind: SyntaxKind, text: &str) -> Result<(), NoMemory>
+    pub(crate) fn token(&mut self, kind: SyntaxKind, text: &str) -> Result<(), NoMemory>
         ensures built { OnOk result (building self.new ≡ after (building self.old) (str_token kind text.now)) }
         ensures text { IsUtf8 text.now }
     {

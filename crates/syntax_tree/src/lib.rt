@@ -5,8 +5,11 @@
 #![tactic(auto)]
 
 mod builder;
+mod collector;
+mod message;
 mod node;
 mod tree;
 
+pub use message::Message;
 pub use node::{Child, Node};
 pub use tree::Tree;
