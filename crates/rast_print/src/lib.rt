@@ -6,4 +6,5 @@ pub mod entry;
 pub mod listing;
 pub mod print_text;
 pub mod printer;
+pub mod ranges;
 pub mod request;

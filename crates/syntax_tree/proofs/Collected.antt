@@ -1,0 +1,68 @@
+-- What a collector holds along the steps of a tree.
+use Rattle.std.proofs.Common.{◌≡◌, ℕ, List, [], ◌∷◌, ◌++◌, refl, ap, subst, sym, ◌∙◌, Bool, append_assoc, append-nil, length}
+use Rattle.rap_base.specs.declared.edition.Edition.{Edition}
+use Rattle.rap_lexed.specs.LexedStr.{Lexed}
+use Rattle.rap_lexed.specs.StrForest.{StrForest, str_flat}
+use Rattle.rap_lexed.specs.StrSink.{Takes}
+use Rattle.rap_lexed.specs.StrStep.{StrStepValue}
+use Rattle.rap_lexed.specs.Trivia.{with_trivia}
+use Rattle.ra_ap_parser.specs.Headline.{Headline}
+use Rattle.ra_ap_parser.specs.declared.entry_point.TopEntryPoint.{TopEntryPoint}
+use Rattle.syntax_tree.specs.Building.{Builds, building, outermost}
+use Rattle.syntax_tree.specs.Collects.{Collects}
+use Rattle.syntax_tree.specs.Places.{HavePlaces}
+use Rattle.syntax_tree.specs.Ranged.{Ranged, ranged}
+use Rattle.syntax_tree.specs.RangedForest.{RangedForest, RangedNode, ranged_none, alone}
+use Rattle.syntax_tree.specs.TextTree.{IsTextTree}
+use Rattle.syntax_tree.specs.Told.{Told, told_by, told, lexer_told}
+use Rattle.syntax_tree.specs.declared.collector.Collector.{Collector}
+use Rattle.syntax_tree.proofs.Runs.{held, built, one_node, root_place}
+use Rattle.syntax_tree.proofs.Texts.{places_of}
+
+pub builds_along : (steps : List StrStepValue) (s t : Collector) → Takes Collects s steps t → Takes Builds s.builder steps t.builder
+builds_along [] s t h = ap (λ (c : Collector). c.builder) h
+builds_along (x ∷ xs) s t h = (h.0.builder, h.1.tree, builds_along xs h.0 t h.2)
+
+pub told_along : (steps : List StrStepValue) (s t : Collector) → Takes Collects s steps t → t.messages.items ≡ s.messages.items ++ told steps
+told_along [] s t h = ap (λ (c : Collector). c.messages.items) (sym h) ∙ sym (append-nil s.messages.items)
+told_along (x ∷ xs) s t h =
+    told_along xs h.0 t h.2
+    ∙ (ap (λ l. l ++ told xs) h.1.messages
+    ∙ append_assoc s.messages.items (told_by x) (told xs))
+
+-- what a collector holds that had nothing and has taken the steps of a text's tree
+pub forest_of_text : (text : List ℕ) (edition : Edition) (entry : TopEntryPoint) (lexed : Lexed) (all : Bool) (s t : Collector)
+    → building s.builder ≡ held outermost ranged_none 0 → (h : Headline Collects text edition entry lexed all s t)
+    → (building t.builder).forest ≡ ranged 0 (with_trivia lexed.tokens h.forest)
+forest_of_text text edition entry lexed all s t e h =
+    built (with_trivia lexed.tokens h.forest) s.builder t.builder e (builds_along (str_flat (with_trivia lexed.tokens h.forest)) s t h.taken)
+
+-- so it is one node
+pub node_of_text : (text : List ℕ) (edition : Edition) (entry : TopEntryPoint) (lexed : Lexed) (all : Bool) (s t : Collector)
+    → building s.builder ≡ held outermost ranged_none 0 → Headline Collects text edition entry lexed all s t
+    → (n : RangedNode) × ((building t.builder).forest ≡ alone n)
+node_of_text text edition entry lexed all s t e h =
+    let one = one_node (with_trivia lexed.tokens h.forest) h.parsed.str_one in
+    (one.0, forest_of_text text edition entry lexed all s t e h ∙ one.1)
+
+-- and with the lexer's messages it is the tree of the text
+pub text_tree : (text : List ℕ) (edition : Edition) (entry : TopEntryPoint) (lexed : Lexed) (all : Bool) (s t : Collector) (root : RangedNode) (messages : List Told)
+    → building s.builder ≡ held outermost ranged_none 0 → s.messages.items ≡ [] → Headline Collects text edition entry lexed all s t
+    → (building t.builder).forest ≡ alone root → messages ≡ t.messages.items ++ lexer_told lexed.tokens lexed.errors
+    → IsTextTree text edition entry root messages
+text_tree text edition entry lexed all s t root messages e none h is more =
+    let f = with_trivia lexed.tokens h.forest in
+    let taken = builds_along (str_flat f) s t h.taken in
+    let is_ranged : Ranged f root = sym is ∙ forest_of_text text edition entry lexed all s t e h in
+    let at = root_place f root h.parsed.str_one is_ranged in
+    let P : RangedForest → Type 0 = λ g. HavePlaces text g in
+    record {
+      lexed = lexed;
+      forest = h.forest;
+      parsed = h.parsed;
+      ranged = is_ranged;
+      start = at.0;
+      end = at.1 ∙ ap length h.whole;
+      places = subst P (sym is_ranged) (places_of f s.builder t.builder text taken h.whole);
+      told = more ∙ ap (λ l. l ++ lexer_told lexed.tokens lexed.errors) (told_along (str_flat f) s t h.taken ∙ ap (λ l. l ++ told (str_flat f)) none);
+    }

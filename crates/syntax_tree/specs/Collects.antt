@@ -1,0 +1,12 @@
+-- A tree with its messages, as far as its steps have come.
+-- (What calls promise one another; no promise of the library rests on it.)
+use Rattle.std.specs.Prelude.{◌≡◌, ◌++◌}
+use Rattle.rap_lexed.specs.StrStep.{StrStepValue}
+use Rattle.syntax_tree.specs.Building.{Builds}
+use Rattle.syntax_tree.specs.Told.{told_by}
+use Rattle.syntax_tree.specs.declared.collector.Collector.{Collector}
+
+-- the builder takes the step, and a message is kept
+pub record Collects (old : Collector) (step : StrStepValue) (new : Collector) : Type 0 where
+  pub tree : Builds old.builder step new.builder
+  pub messages : new.messages.items ≡ old.messages.items ++ told_by step

@@ -1,0 +1,10 @@
+pub mod Building
+pub mod ChildSizes
+pub mod Children
+pub mod Collects
+pub mod Places
+pub mod Ranged
+pub mod RangedForest
+pub mod Stored
+pub mod TextTree
+pub mod Told

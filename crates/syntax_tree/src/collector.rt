@@ -1,0 +1,78 @@
+//! The sink that builds a tree and keeps its messages.
+ghost use Rattle.std.specs.Prelude.{◌≡◌, ◌++◌, ◌∷◌, [], OnOk, length};
+ghost use Rattle.rap_lexed.specs.LexedStr.{AreInOrder};
+ghost use Rattle.syntax_tree.specs.Building.{building, outermost};
+ghost use Rattle.syntax_tree.specs.RangedForest.{ranged_none};
+ghost use Rattle.syntax_tree.specs.Told.{lexer_told};
+
+use crate::builder::Builder;
+use crate::message::Message;
+use rap_base::no_memory::NoMemory;
+use rap_lexed::lexed_str::LexedStr;
+use rap_lexed::shortcuts::{StrSink, StrStep};
+use std::alloc::Global;
+
+/// A tree and its messages as far as its steps have come.
+#[derive(Drop)]
+pub(crate) struct Collector {
+    alloc: Global,
+    pub(crate) builder: Builder,
+    pub(crate) messages: Vec<Message>,
+}
+
+impl Collector {
+    /// Nothing yet.
+    pub(crate) fn new(alloc: Global) -> Collector
+        ensures tree { building result.builder ≡ record { frames = outermost; forest = ranged_none; at = 0 } }
+        ensures messages { result.messages.items ≡ [] }
+    {
+        Collector {
+            alloc,
+            builder: Builder::new(alloc),
+            messages: Vec::new(alloc),
+        }
+    }
+
+    /// Keeps a message.
+    fn tell(&mut self, text: &str, at: usize) -> Result<(), NoMemory>
+        ensures messages { OnOk result (self.new.messages.items ≡ self.old.messages.items ++ record { text = text.now; at = at } ∷ []) }
+        ensures tree { self.new.builder ≡ self.old.builder }
+    {
+        let text = String::from_str(self.alloc, text)?;
+        self.messages.push(Message::new(text, at))?;
+        Ok(())
+    }
+
+    /// Keeps the lexer's messages, each at the start of its token.
+    pub(crate) fn tell_errors_of(&mut self, lexed: &LexedStr<'_>) -> Result<(), NoMemory>
+        requires { AreInOrder (length lexed.now.tokens) lexed.now.errors }
+        ensures messages { OnOk result (self.new.messages.items
+            ≡ self.old.messages.items ++ lexer_told lexed.now.tokens lexed.now.errors) }
+        ensures tree { self.new.builder ≡ self.old.builder }
+    {
+        'errors: for (token, message) in lexed.errors() {
+            self.tell(message, lexed.text_start(token))?;
+        }
+        Ok(())
+    }
+}
+
+impl StrSink for Collector {
+    ghost use Rattle.syntax_tree.specs.Collects.{Collects};
+
+    type Refusal = NoMemory;
+
+    ghost takes = { Collects };
+
+    // After want of memory nothing is claimed of what was kept.
+    ghost refuses = { λ _ _ _ _. Unit {0} };
+
+    fn step(&mut self, step: StrStep<'_>) -> Result<(), NoMemory> {
+        match step {
+            StrStep::Error { msg, pos } => self.tell(msg, pos),
+            StrStep::Token { kind, text } => self.builder.token(kind, text),
+            StrStep::Enter { kind } => self.builder.enter(kind),
+            StrStep::Exit => self.builder.exit(),
+        }
+    }
+}

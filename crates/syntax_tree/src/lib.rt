@@ -1,0 +1,15 @@
+//! Syntax trees that own their nodes: each node and each leaf has its kind and its exact place in the text.
+//!
+//! [`Tree::build`] makes the tree of a lexed text and of what a parse gives; [`Tree::root`] is its root, and each
+//! [`Node`] hands out its children.
+#![tactic(auto)]
+
+mod builder;
+mod collector;
+mod message;
+mod node;
+mod tree;
+
+pub use message::Message;
+pub use node::{Child, Node};
+pub use tree::Tree;
