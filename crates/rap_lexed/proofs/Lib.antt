@@ -20,5 +20,5 @@ pub mod Tails
 pub mod Tokens
 pub mod TriviaRuns
 pub mod Upto
-pub mod Used
+pub mod UsedTokens
 pub mod Walk

@@ -8,7 +8,7 @@ use crate::lexed_str::LexedStr;
 use rap_events::output::{Output, Step};
 
 /// How many tokens an output took.
-#[tactic(auto, using(crate::proofs::Used::tokens_in_flat))]
+#[tactic(auto, using(crate::proofs::UsedTokens::tokens_in_flat))]
 pub fn used_tokens(output: &Output) -> usize
     requires { used output.now ≤ max_tokens }
     ensures { result ≡ used output.now }

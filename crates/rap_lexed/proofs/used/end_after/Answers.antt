@@ -1,7 +1,7 @@
 use Rattle.std.proofs.Common.{rules, ◌≡◌, ◌<◌, ◌≤◌, ◌+◌, length, arith}
 use Rattle.rap_lexed.specs.LexedStr.{start_of}
 use Rattle.rap_lexed.specs.Used.{end_after}
-use Rattle.rap_lexed.proofs.Used.{walk_trivial, walk_significant, walked}
+use Rattle.rap_lexed.proofs.UsedTokens.{walk_trivial, walk_significant, walked}
 use Rattle.rap_lexed.proofs.used.end_after.Goals as goal
 use Rattle.rap_lexed.proofs.used.end_after.Goals.{then-not-is_trivia, else-not-is_trivia}
 

@@ -1,6 +1,6 @@
 use Rattle.std.proofs.Common.{◌≡◌, ◌+◌}
 use Rattle.rap_events.specs.Forest.{used}
-use Rattle.rap_lexed.proofs.Used.{tokens_in}
+use Rattle.rap_lexed.proofs.UsedTokens.{tokens_in}
 use Rattle.rap_lexed.proofs.used.used_tokens.Given as goal
 
 abbrev pub invariant-steps : goal.invariant-steps
