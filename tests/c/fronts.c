@@ -1,9 +1,9 @@
-/* fronts reads texts, and parses each front of those that are wrong, from the empty one to the whole text, that ends where a
- * character begins or the text ends, under each top entry. `tests/fronts` calls it.
+/* fronts reads texts, and parses each front of those that are wrong, from the empty one to the whole text, that ends
+ * where a character does, under each top entry. `tests/fronts` calls it.
  *
  * On standard input stands of each text a line `EDITION ENTRIES LENGTH`, and then its bytes. ENTRIES has the bit of each
- * entry by which the text is looked at: it is wrong if one of these gives a message. Of each text there is a line on standard
- * output: `HASH FRONTS TREES` of a wrong one, and else `right`.
+ * entry by which the text is looked at: it is wrong if one of these gives a message. Of each text there is a line on
+ * standard output: `HASH FRONTS TREES` of a wrong one, and else `right`.
  *
  * The hash is that of 64 bits by FNV-1a, in sixteen hexadecimal digits, of the lines of all trees: entry after entry in the
  * order of enum rap_entry, and under each the fronts from the shortest on. A tree has a line for each step, in the order of
@@ -103,19 +103,19 @@ static void hash_step(struct sweep *sweep, const struct rap_step *step) {
 }
 
 /* Parses, with more room where it was too little. */
-static struct rap_answer parse(struct sweep *sweep, const uint8_t *text, size_t length, uint32_t edition, uint32_t entry) {
+static struct rap_answer parse(struct sweep *s, const uint8_t *text, size_t length, uint32_t edition, uint32_t entry) {
     for (;;) {
         struct rap_answer answer =
-            rap_tree(text, length, edition, entry, sweep->steps, sweep->step_room, sweep->messages, sweep->message_room);
+            rap_tree(text, length, edition, entry, s->steps, s->step_room, s->messages, s->message_room);
         if (answer.status != RAP_OK) fail("no tree", text, length, edition, entry);
-        if (answer.steps <= sweep->step_room && answer.message_bytes <= sweep->message_room) return answer;
-        if (answer.steps > sweep->step_room) {
-            sweep->step_room = 2 * answer.steps;
-            sweep->steps = grown(sweep->steps, sweep->step_room * sizeof *sweep->steps);
+        if (answer.steps <= s->step_room && answer.message_bytes <= s->message_room) return answer;
+        if (answer.steps > s->step_room) {
+            s->step_room = 2 * answer.steps;
+            s->steps = grown(s->steps, s->step_room * sizeof *s->steps);
         }
-        if (answer.message_bytes > sweep->message_room) {
-            sweep->message_room = 2 * answer.message_bytes;
-            sweep->messages = grown(sweep->messages, sweep->message_room);
+        if (answer.message_bytes > s->message_room) {
+            s->message_room = 2 * answer.message_bytes;
+            s->messages = grown(s->messages, s->message_room);
         }
     }
 }
@@ -133,7 +133,8 @@ static const char *fault_of(const struct rap_step *steps, struct rap_answer answ
         if (depth == 0 && i > 0) return "a step is outside of the root";
         if (step->what == RAP_ENTER) depth++;
         else if (step->what == RAP_EXIT) depth--;
-        else if (step->what != RAP_TOKEN || step->start != end || step->end <= end || depth == 0) return "a token is not behind the last one";
+        else if (step->what != RAP_TOKEN || depth == 0) return "a step is no step of a tree";
+        else if (step->start != end || step->end <= end) return "a token is not behind the last one";
         else end = step->end;
         if (step->what != RAP_EXIT && step->kind > RAP_LAST_KIND) return "a step has no kind";
     }
@@ -179,7 +180,8 @@ int main(void) {
     size_t length;
     sweep.steps = grown(NULL, sizeof *sweep.steps);
     sweep.messages = grown(NULL, 1);
-    for (uint32_t kind = 0; kind <= RAP_LAST_KIND; kind++) names.lengths[kind] = rap_kind_name(kind, names.bytes[kind], 32);
+    for (uint32_t kind = 0; kind <= RAP_LAST_KIND; kind++)
+        names.lengths[kind] = rap_kind_name(kind, names.bytes[kind], sizeof names.bytes[kind]);
     while (scanf("%u %u %zu", &edition, &entries, &length) == 3) {
         getchar();
         text = grown(text, length + 1);
