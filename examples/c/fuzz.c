@@ -127,7 +127,7 @@ static void check_steps(const struct call *c, const struct tree *tree, int is_tr
     for (size_t i = 0; i < tree->answer.steps; i++) {
         const struct rap_step *step = &tree->steps[i];
         if (step->what == RAP_ENTER) {
-            check(is_tree && step->at == end && step->start == end && step->end == end, "a node begins where the last token ends");
+            check(is_tree && step->start == end && step->end == end, "a node begins where the last token ends");
             count(around[depth % DEEPEST], step->kind, 0);
             around[++depth % DEEPEST] = step->kind;
         } else if (step->what == RAP_EXIT) {
