@@ -87,7 +87,8 @@ static int is_same(struct rap_answer one, struct rap_answer other) {
 
 /* That nothing is written from this byte on. */
 static void check_rest(const void *room, size_t from, size_t size) {
-    for (const uint8_t *bytes = room; from <= size; from++) check(bytes[from] == 0xa5, "nothing is written behind the room");
+    const uint8_t *bytes = room;
+    while (from <= size) check(bytes[from++] == 0xa5, "nothing is written behind the room");
 }
 
 /* Calls with room for none, with enough, and with less. */
@@ -161,7 +162,7 @@ static int same_step(const struct tree *tree, size_t step, const struct tree *no
     return length == two->end - two->start && !memcmp(tree->messages + one->start, node->messages + two->start, length);
 }
 
-/* Parses the node that begins at this step again, if it is one in braces that has an end of its own. Answers whether it is. */
+/* Parses the node that begins at this step again, if it is one in braces that ends with its own. Answers whether it is. */
 static int reparse(const struct call *c, const struct tree *tree, size_t first, uint32_t parent) {
     const struct rap_step *steps = tree->steps;
     size_t last = first, depth = 1;

@@ -5,20 +5,20 @@
  * entry by which the text is looked at: it is wrong if one of these gives a message. Of each text there is a line on
  * standard output: `HASH FRONTS TREES` of a wrong one, and else `right`.
  *
- * The hash is that of 64 bits by FNV-1a, in sixteen hexadecimal digits, of the lines of all trees: entry after entry in the
- * order of enum rap_entry, and under each the fronts from the shortest on. A tree has a line for each step, in the order of
- * its steps, each with a line feed at its end; the lexer's messages are its last ones:
+ * The hash is that of 64 bits by FNV-1a, in sixteen hexadecimal digits, of the lines of all trees: entry after entry in
+ * the order of enum rap_entry, and under each the fronts from the shortest on. A tree has a line for each step, in the
+ * order of its steps, each with a line feed at its end; the lexer's messages are its last ones:
  *
  *     enter KIND            a node begins
  *     token KIND LENGTH     a token, of so many bytes
  *     exit                  the newest open node ends
  *     error AT MESSAGE      a message, with its place
  *
- * KIND is the kind's name, and numbers are decimal. Behind them stands of each tree the line `front ENTRY LENGTH`, with the
- * entry's number and the front's length.
+ * KIND is the kind's name, and numbers are decimal. Behind them stands of each tree the line `front ENTRY LENGTH`, with
+ * the entry's number and the front's length.
  *
- * Of each tree it is checked that its tokens, one behind the other, are the front, that it is one node with all within it,
- * and that messages lie in the front. What is not so ends the program with 1 and a line on standard error. */
+ * Of each tree it is checked that its tokens, one behind the other, are the front, that it is one node with all within
+ * it, and that messages lie in the front. What is not so ends the program with 1 and a line on standard error. */
 #include <inttypes.h>
 #include <stdio.h>
 #include <stdlib.h>
