@@ -162,7 +162,7 @@ static int same_step(const struct tree *tree, size_t step, const struct tree *no
     return length == two->end - two->start && !memcmp(tree->messages + one->start, node->messages + two->start, length);
 }
 
-/* Parses the node that begins at this step again, if it is one in braces that ends with its own. Answers whether it is. */
+/* Parses the node that begins at this step again, if it is one in braces that it ends with. Answers whether it did. */
 static int reparse(const struct call *c, const struct tree *tree, size_t first, uint32_t parent) {
     const struct rap_step *steps = tree->steps;
     size_t last = first, depth = 1;

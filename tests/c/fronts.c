@@ -1,8 +1,8 @@
 /* fronts reads texts, and parses each front of those that are wrong, from the empty one to the whole text, that ends
  * where a character does, under each top entry. `tests/fronts` calls it.
  *
- * On standard input stands of each text a line `EDITION ENTRIES LENGTH`, and then its bytes. ENTRIES has the bit of each
- * entry by which the text is looked at: it is wrong if one of these gives a message. Of each text there is a line on
+ * On standard input stands of each text a line `EDITION ENTRIES LENGTH`, and then its bytes. ENTRIES has the bit of
+ * each entry by which the text is looked at: it is wrong if one of these gives a message. Of each text there is a line on
  * standard output: `HASH FRONTS TREES` of a wrong one, and else `right`.
  *
  * The hash is that of 64 bits by FNV-1a, in sixteen hexadecimal digits, of the lines of all trees: entry after entry in
