@@ -68,7 +68,7 @@ impl Model for Reparser {
 
 impl Reparser {
     ghost use Rattle.ra_ap_parser.specs.Reparsed.{reparsed, kind_of, IsAgainItself};
-    ghost use Rattle.ra_ap_parser.specs.Closed.{brace_depth, is_closed};
+    ghost use Rattle.ra_ap_parser.specs.Closed.{brace_depth, is_closed, ClosesByOwnBrace};
 
     /// How a node of the kind `node` is parsed again. `first_child` is the kind of the first thing in it, and `parent`
     /// that of the node around it, if there is one.
@@ -141,6 +141,11 @@ impl Reparser {
             && has_used(output, count_significant(lexed))
             && ends_in_brace(output, self.brace_depth())
     }
+
+    /// Which brace closes a node, on small outputs. A law: the function does nothing.
+    pub fn closes_by_own_brace()
+        ensures { ClosesByOwnBrace }
+    {}
 
     /// Parses the node again from its own tokens.
     ///

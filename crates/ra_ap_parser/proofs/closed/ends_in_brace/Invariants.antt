@@ -1,4 +1,4 @@
-use Rattle.std.proofs.Common.{◌≡◌, ◌+◌}
+use Rattle.std.proofs.Common.{◌≡◌}
 use Rattle.rap_events.specs.Forest.{flat}
 use Rattle.ra_ap_parser.proofs.Closing.{left_behind}
 use Rattle.ra_ap_parser.proofs.closed.ends_in_brace.Given as goal
