@@ -164,6 +164,24 @@ struct rap_answer rap_prefix(const uint8_t *text, size_t text_length, uint32_t e
  * `first_child`, `parent`: those of the first thing in it and of the node around it, or RAP_NO_KIND.
  * The answer is as that of rap_prefix. RAP_NO_NODE comes where such a node is not parsed again alone, and RAP_NO_BRACE
  * where it is to begin with a `{` and the text does not; a block says itself that its brace is missing.
+*
+ * The new node may stand in the old one's place, and nothing else of the tree changes, where all of this holds:
+ * 1. The status is not RAP_NO_NODE, and the old node's first token was `{`.
+ * 2. The new text's first byte is `{`, `used` is its length and the last byte is `}`, and the last steps are the RAP_TOKEN
+ *    of that R_CURLY and one RAP_EXIT, of a BLOCK_EXPR two.
+ * 3. The old node ended with its own `}` too: its last steps were such ones.
+ * 4. Past a shebang and blank lines the whole text does not begin with `---`, or the old tree has a FRONTMATTER token.
+ * 5. No message `unknown literal prefix` is about one of the first five tokens of rap_tokens of the old text of the node or
+ *    of its new one, nor about one of the five behind the node.
+ * The third spares only a stale `expected R_CURLY`, and the fifth only the words of that message. This is measured, not
+ * proved: over five million random edits of right and wrong texts the trees, the messages and their places were those of
+ * the whole new text wherever all five held. Smallest texts of which one does not hold, and the trees differ:
+ * 1. `{e unsafe{}`, `unsafe` goes: a record expression.
+ * 2. `{{}}`, `#` comes into the inner braces: what is expected behind it takes the `}`. `use{}`, `..` comes into the braces.
+ * 3. `fn f(){`, `}` comes at the end.
+ * 4. `---{{}`, a line `---` comes into the inner braces: a frontmatter.
+ * 5. `a!{}T'`, `"(//"` comes into the braces.
+ * That the braces are balanced, a `{` first and a `}` last, is not enough: of one in forty such edits the trees differ.
  */
 struct rap_answer rap_reparse(const uint8_t *text, size_t text_length, uint32_t edition, uint32_t node,
                               uint32_t first_child, uint32_t parent,

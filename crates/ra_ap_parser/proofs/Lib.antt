@@ -1,2 +1,3 @@
+pub mod Closing
 pub mod EntryTrees
 pub mod Parsed

@@ -6,6 +6,7 @@
 //! script source into its parts. [`laws`] says what holds of the core grammar, whose trees are promised.
 #![tactic(auto)]
 
+mod closed;
 mod entry_point;
 mod reparser;
 mod whole_text;

@@ -5,16 +5,48 @@ ghost use Rattle.rap_events.specs.Forest.{Forest};
 ghost use Rattle.rap_events.specs.Record.{Record, next_kind};
 ghost use Rattle.rap_grammar.specs.Part.{IsPrefixOver, IsPrefixOf, IsPartCore, IsWhole, IsOneNode, part_script, part_kind, asks_brace, in_braces};
 
+use crate::closed::{count_significant, ends_in_brace, has_used};
 use crate::entry_point::{MAX_TOKENS, ParseFault, has_too_many_tokens};
 use rap_base::no_memory::NoMemory;
 use rap_base::syntax_kind::SyntaxKind;
 use rap_events::input::Input;
 use rap_events::output::Output;
 use rap_grammar::entry::part::{Part, parse_part};
+use rap_lexed::lexed_str::LexedStr;
 use std::alloc::Global;
 use std::marker::Model;
 
 /// How a node is parsed again, alone, after an edit inside its braces.
+///
+/// The new node may stand in the old one's place, and nothing else of the tree changes, where all of this holds, `old` being
+/// the node's text before the edit and `new` the one after it:
+///
+/// 1. the node has a reparser, and its first token is `{`;
+/// 2. `new`, lexed alone, begins with `{`, and the new node's own closing brace is the last of all its tokens, as
+///    [`Reparser::is_closed`] says;
+/// 3. the old node was closed by its own brace, which [`Reparser::is_closed`] says of it and `old`;
+/// 4. past a shebang and blank lines the whole text does not begin with `---`, or the old tree has a `FRONTMATTER` token;
+/// 5. the message `unknown literal prefix` is about none of the first five tokens of `old` or `new`, white space and
+///    comments among them, nor about one of the five behind the node.
+///
+/// What must hold of braces, messages and what stands around the node is all in these. The third spares only a stale
+/// `expected R_CURLY`, and the fifth only the words of that message. None of it is proved: over five million random edits of
+/// right and wrong texts the trees, the messages and their places were those of the whole new text, wherever all five held.
+///
+/// Smallest texts of which one does not hold, and the trees differ:
+///
+/// | not | text | edit |
+/// |---|---|---|
+/// | 1 | `{e unsafe{}` | `unsafe` goes: a record expression |
+/// | 2 | `{{}}` | `#` comes into the inner braces: what is expected behind it takes the `}` |
+/// | 2 | `use{}` | `..` comes into the braces |
+/// | 3 | `fn f(){` | `}` comes at the end |
+/// | 4 | `---{{}` | a line `---` comes into the inner braces: a frontmatter |
+/// | 5 | `a!{}T'` | `"(//"` comes into the braces |
+///
+/// That the braces of `new` are balanced, and that it begins and ends with one, is not enough: of one in forty such
+/// edits the trees differ, as the second row's, and where a `.` comes behind `b` in `use a::{b, c};` the new list would
+/// have 2 of its 7 bytes.
 #[derive(Clone, Copy, Debug, PartialEq, Eq)]
 pub struct Reparser {
     part: Part,
@@ -36,6 +68,7 @@ impl Model for Reparser {
 
 impl Reparser {
     ghost use Rattle.ra_ap_parser.specs.Reparsed.{reparsed, kind_of, IsAgainItself};
+    ghost use Rattle.ra_ap_parser.specs.Closed.{brace_depth, is_closed, ClosesByOwnBrace};
 
     /// How a node of the kind `node` is parsed again. `first_child` is the kind of the first thing in it, and `parent`
     /// that of the node around it, if there is one.
@@ -82,6 +115,37 @@ impl Reparser {
     {
         !self.needs_curly() || input.kind(0) == SyntaxKind::L_CURLY
     }
+
+    /// How many nodes stand around the node's own closing brace, itself among them.
+    fn brace_depth(&self) -> u8
+        ensures { result ≡ brace_depth self.now }
+    {
+        if self.part == Part::Block { 2 } else { 1 }
+    }
+
+    /// Whether the node that this reparser made of the text's tokens is all of the text, from a `{`, the first byte, to its
+    /// own `}`, the last one.
+    ///
+    /// The brace is its own if it is the last thing in the node, of a block the last thing in the list of statements that is
+    /// the last thing in it, and stands in no `ERROR`. `lexed` is the text that was parsed, and `output` what
+    /// [`Reparser::parse`] returned. Takes no memory.
+    pub fn is_closed(&self, lexed: &LexedStr<'_>, output: &Output) -> bool
+        ensures { result ≡ is_closed self.now lexed.now.tokens output.now }
+    {
+        if lexed.is_empty() {
+            return false;
+        }
+        let is_in_braces = lexed.kind(0) == SyntaxKind::L_CURLY
+            && lexed.kind(lexed.len() - 1) == SyntaxKind::R_CURLY;
+        is_in_braces
+            && has_used(output, count_significant(lexed))
+            && ends_in_brace(output, self.brace_depth())
+    }
+
+    /// Which brace closes a node, on small outputs. A law: the function does nothing.
+    pub fn closes_by_own_brace()
+        ensures { ClosesByOwnBrace }
+    {}
 
     /// Parses the node again from its own tokens.
     ///

@@ -1,0 +1,109 @@
+//! Whether a node that was parsed again ends with a brace of its own.
+ghost use Rattle.std.specs.Prelude.{◌≡◌, ◌==◌};
+ghost use Rattle.rap_events.specs.Forest.{used};
+ghost use Rattle.rap_lexed.specs.Trivia.{significant};
+ghost use Rattle.ra_ap_parser.specs.Closed.{ends_in_brace};
+
+use rap_base::syntax_kind::SyntaxKind;
+use rap_events::output::{Output, Step};
+use rap_lexed::lexed_str::LexedStr;
+
+/// How many tokens of the text are no trivia.
+pub fn count_significant(lexed: &LexedStr<'_>) -> usize
+    ensures { result ≡ significant lexed.now.tokens }
+{
+    let mut count = 0usize;
+    'tokens: for i in 0..lexed.len() {
+        if !lexed.kind(i).is_trivia() {
+            count += 1;
+        }
+    }
+    count
+}
+
+/// Whether the output stands for so many tokens.
+#[tactic(auto, using(crate::proofs::Closing::tokens_in_flat))]
+pub fn has_used(output: &Output, tokens: usize) -> bool
+    ensures { result ≡ (used output.now == tokens) }
+{
+    let mut left = tokens;
+    'steps: for step in output.iter() {
+        let width = match step {
+            Step::Token { n_input_tokens, .. } => usize::from(n_input_tokens),
+            Step::FloatSplit { .. } => 1,
+            _ => 0,
+        };
+        if left < width {
+            return false;
+        }
+        left -= width;
+    }
+    left == 0
+}
+
+/// Whether the last thing in the output, within so many nodes, each the last one in the one around it, is a `}`.
+#[tactic(auto, using(crate::proofs::Closing::closing_in_flat))]
+pub fn ends_in_brace(output: &Output, depth: u8) -> bool
+    ensures { result ≡ ends_in_brace depth output.now }
+{
+    let at_brace = u16::from(depth) + 1;
+    let mut left = 0u16;
+    'steps: for step in output.iter() {
+        left = match step {
+            Step::Token {
+                kind: SyntaxKind::R_CURLY,
+                ..
+            } => at_brace,
+            Step::Exit => left.saturating_sub(1),
+            _ => 0,
+        };
+    }
+    left == 1
+}
+
+#[cfg(test)]
+mod tests {
+    use crate::{Edition, LexedStr, Reparser, SyntaxKind};
+    use std::alloc::Global;
+    use std::test::Fail;
+
+    // Whether the node of this kind that is made of the text is closed.
+    fn is_closed(alloc: Global, node: SyntaxKind, text: &str) -> Result<bool, Fail> {
+        let Some(reparser) = Reparser::for_node(node, Some(SyntaxKind::L_CURLY), None) else {
+            return Err(Fail::from("no such node"));
+        };
+        let lexed = LexedStr::new(alloc, Edition::LATEST, text)?;
+        let input = lexed.to_input(alloc, Edition::LATEST)?;
+        if !reparser.can_parse(&input) {
+            return Err(Fail::from("no brace"));
+        }
+        let output = reparser.parse(alloc, &input)?;
+        Ok(reparser.is_closed(&lexed, &output))
+    }
+
+    #[test]
+    fn tells_whether_a_node_is_closed(rt: HostRuntime) -> Result<(), Fail> {
+        for (node, text, wanted) in [
+            (SyntaxKind::BLOCK_EXPR, "{}", true),
+            (SyntaxKind::BLOCK_EXPR, "{ a; { b } }", true),
+            (SyntaxKind::BLOCK_EXPR, "{", false),
+            (SyntaxKind::BLOCK_EXPR, "{#}", false),
+            (SyntaxKind::BLOCK_EXPR, "{{}", false),
+            (SyntaxKind::BLOCK_EXPR, "{}}", false),
+            (SyntaxKind::BLOCK_EXPR, "{} ", false),
+            (SyntaxKind::BLOCK_EXPR, " {}", false),
+            (SyntaxKind::BLOCK_EXPR, "{} // }", false),
+            (SyntaxKind::BLOCK_EXPR, "a", false),
+            (SyntaxKind::BLOCK_EXPR, "", false),
+            (SyntaxKind::USE_TREE_LIST, "{b, c}", true),
+            (SyntaxKind::USE_TREE_LIST, "{b., c}", false),
+            (SyntaxKind::USE_TREE_LIST, "{..}", false),
+            (SyntaxKind::USE_TREE_LIST, "{a::{b}", false),
+            (SyntaxKind::TOKEN_TREE, "{\"(//\"}", true),
+            (SyntaxKind::TOKEN_TREE, "{x.0.1}", true),
+        ] {
+            assert_eq!(rt; is_closed(rt.alloc(), node, text)?, wanted, "at {text}");
+        }
+        Ok(())
+    }
+}

@@ -1,0 +1,232 @@
+/* A target for libFuzzer: what holds of each call, whatever the bytes are. `examples/fuzz` builds and runs it.
+ *
+ * The bytes are the text; how many there are says the edition and the entries. It ends the process where
+ * - a tree's tokens, joined, are not the text, or its nodes do not nest, or a message lies outside of the text;
+ * - a call writes behind its room, or writes something else in less room than in enough, or writes where it refuses;
+ * - one call refuses the bytes as no UTF-8, and another takes them;
+ * - what stands at the front of a text is no front of it;
+ * - a node that begins with `{` and ends with its own `}` is another one where it is parsed again from its own text;
+ * - memory is not free again after a call (by clang's address sanitizer).
+ *
+ * The library counts no branches for libFuzzer. So that it learns what is new, the kinds that stand in one another and
+ * beside one another, and the messages, are counted here. */
+#include <stdio.h>
+#include <stdlib.h>
+#include <string.h>
+#include "rap.h"
+
+enum { COUNTERS = 1 << 16, NODES = 16, DEEPEST = 1 << 12 };
+
+__attribute__((section("__libfuzzer_extra_counters"))) static uint8_t counters[COUNTERS];
+
+struct tree {
+    struct rap_answer answer;
+    struct rap_step *steps;
+    uint8_t *messages;
+};
+
+static uint32_t l_curly, r_curly, block_expr, names_read;
+
+static void check(int holds, const char *what) {
+    if (holds) return;
+    fprintf(stderr, "fuzz: not so: %s\n", what);
+    abort();
+}
+
+static void *room_of(size_t size) {
+    void *room = malloc(size + 1);
+    if (!room) exit(2);
+    return memset(room, 0xa5, size + 1);
+}
+
+static void count(uint32_t some, uint32_t other, uint32_t more) {
+    uint32_t place = (some * 331 + other * 7919 + more * 104729) % COUNTERS;
+    if (counters[place] < 255) counters[place]++;
+}
+
+static uint32_t kind_of(const char *wanted) {
+    uint8_t name[32];
+    size_t length = strlen(wanted);
+    for (uint32_t kind = 0; kind <= RAP_LAST_KIND; kind++)
+        if (rap_kind_name(kind, name, sizeof name) == length && !memcmp(name, wanted, length)) return kind;
+    abort();
+}
+
+static void read_names(void) {
+    if (names_read) return;
+    l_curly = kind_of("L_CURLY");
+    r_curly = kind_of("R_CURLY");
+    block_expr = kind_of("BLOCK_EXPR");
+    names_read = 1;
+}
+
+/* A call, by its number: a tree, tokens, a prefix, or a node that is parsed again. */
+struct call {
+    int which;
+    uint32_t edition, entry, first_child, parent;
+    const uint8_t *text;
+    size_t length;
+};
+
+static struct rap_answer made(const struct call *c, struct rap_step *steps, size_t room, uint8_t *bytes, size_t more) {
+    if (c->which == 0) return rap_tree(c->text, c->length, c->edition, c->entry, steps, room, bytes, more);
+    if (c->which == 1) return rap_tokens(c->text, c->length, c->edition, steps, room, bytes, more);
+    if (c->which == 2) return rap_prefix(c->text, c->length, c->edition, c->entry, steps, room, bytes, more);
+    return rap_reparse(c->text, c->length, c->edition, c->entry, c->first_child, c->parent, steps, room, bytes, more);
+}
+
+static void free_tree(struct tree *tree) {
+    free(tree->steps);
+    free(tree->messages);
+}
+
+static int is_same(struct rap_answer one, struct rap_answer other) {
+    return one.status == other.status && one.steps == other.steps && one.message_bytes == other.message_bytes &&
+           one.used == other.used;
+}
+
+/* That nothing is written from this byte on. */
+static void check_rest(const void *room, size_t from, size_t size) {
+    const uint8_t *bytes = room;
+    while (from <= size) check(bytes[from++] == 0xa5, "nothing is written behind the room");
+}
+
+/* Calls with room for none, with enough, and with less. */
+static struct tree call(const struct call *c) {
+    struct rap_step *none = room_of(0);
+    uint8_t *no_byte = room_of(0);
+    struct tree tree;
+    tree.answer = made(c, none, 0, no_byte, 0);
+    size_t steps = tree.answer.steps, size = steps * sizeof *none, bytes = tree.answer.message_bytes;
+    if (tree.answer.status > RAP_NO_TREE)
+        check(steps == 0 && bytes == 0 && tree.answer.used == 0, "a refusal has no numbers");
+    tree.steps = room_of(size);
+    tree.messages = room_of(bytes);
+    check(is_same(made(c, tree.steps, steps, tree.messages, bytes), tree.answer), "the same answer comes again");
+    struct rap_step *few = room_of(size);
+    uint8_t *fewer = room_of(bytes);
+    check(is_same(made(c, few, steps / 2, fewer, bytes / 2), tree.answer), "the answer does not depend on the room");
+    check(!memcmp(few, tree.steps, steps / 2 * sizeof *none), "less room has the same steps at its begin");
+    check(!memcmp(fewer, tree.messages, bytes / 2), "less room has the same messages at its begin");
+    check_rest(none, 0, 0);
+    check_rest(no_byte, 0, 0);
+    check_rest(tree.steps, size, size);
+    check_rest(tree.messages, bytes, bytes);
+    check_rest(few, steps / 2 * sizeof *none, size);
+    check_rest(fewer, bytes / 2, bytes);
+    free(none);
+    free(no_byte);
+    free(few);
+    free(fewer);
+    return tree;
+}
+
+/* That the tokens of a tree, or of none, are a front of the text, that its nodes nest, and where its messages lie. */
+static void check_steps(const struct call *c, const struct tree *tree, int is_tree) {
+    size_t depth = 0, end = 0, said = 0;
+    uint32_t before = 0, around[DEEPEST] = {0};
+    for (size_t i = 0; i < tree->answer.steps; i++) {
+        const struct rap_step *step = &tree->steps[i];
+        if (step->what == RAP_ENTER) {
+            check(is_tree && step->start == end && step->end == end, "a node begins where the last token ends");
+            count(around[depth % DEEPEST], step->kind, 0);
+            around[++depth % DEEPEST] = step->kind;
+        } else if (step->what == RAP_EXIT) {
+            check(depth > 0 && step->at == end && step->kind == 0, "a node ends where its last token does");
+            depth--;
+        } else if (step->what == RAP_TOKEN) {
+            check(step->start == end && step->end > end && step->at == end, "a token is where the last one ends");
+            check((depth > 0) == is_tree, "a token stands in a node");
+            count(around[depth % DEEPEST], step->kind, before);
+            before = step->kind;
+            end = step->end;
+        } else {
+            check(step->what == RAP_MESSAGE && step->start == said && step->end > said, "a step is a message");
+            check(step->at <= c->length, "a message lies in the text");
+            said = step->end;
+            count(around[depth % DEEPEST], 1000, (uint32_t)(step->end - step->start));
+        }
+        check(step->kind <= RAP_LAST_KIND, "a step has a kind");
+    }
+    check(depth == 0 && said == tree->answer.message_bytes, "all nodes are ended");
+    check(end <= c->length && tree->answer.used <= c->length, "the tokens lie in the text");
+    if (c->which < 2) check(end == c->length && tree->answer.used == end, "the tokens are the text");
+}
+
+/* Whether a step of a tree is this one of a node of it whose text begins at this byte. */
+static int same_step(const struct tree *tree, size_t step, const struct tree *node, size_t other, size_t base) {
+    const struct rap_step *one = &tree->steps[step], *two = &node->steps[other];
+    if (one->what != two->what || one->kind != two->kind || one->at != two->at + base) return 0;
+    if (one->what != RAP_MESSAGE) return one->start == two->start + base && one->end == two->end + base;
+    size_t length = one->end - one->start;
+    return length == two->end - two->start && !memcmp(tree->messages + one->start, node->messages + two->start, length);
+}
+
+/* Parses the node that begins at this step again, if it is one in braces that it ends with. Answers whether it did. */
+static int reparse(const struct call *c, const struct tree *tree, size_t first, uint32_t parent) {
+    const struct rap_step *steps = tree->steps;
+    size_t last = first, depth = 1;
+    while (depth > 0) {
+        last++;
+        depth += steps[last].what == RAP_ENTER;
+        depth -= steps[last].what == RAP_EXIT;
+    }
+    size_t ends = steps[first].kind == block_expr ? 2 : 1;
+    const struct rap_step *brace = &steps[last - ends];
+    if (last - first <= 2 * ends || brace->what != RAP_TOKEN || brace->kind != r_curly) return 0;
+    if (ends == 2 && (steps[first + 1].what != RAP_ENTER || steps[last - 1].what != RAP_EXIT)) return 0;
+    const struct rap_step *open = &steps[first + ends];
+    if (open->what != RAP_TOKEN || open->kind != l_curly) return 0;
+    size_t base = steps[first].at, length = steps[last].at - base;
+    uint32_t child = steps[first + 1].kind;
+    struct call again = {3, c->edition, steps[first].kind, child, parent, c->text + base, length};
+    struct tree node = call(&again);
+    if (node.answer.status != RAP_NO_NODE) {
+        check(node.answer.status == RAP_OK && node.answer.used == length, "a node in braces is all of its text again");
+        check(node.answer.steps == last - first + 1, "a node in braces has as many steps again");
+        for (size_t i = 0; i < node.answer.steps; i++)
+            check(same_step(tree, first + i, &node, i, base), "a node in braces has the same steps again");
+    }
+    int is_one = node.answer.status == RAP_OK;
+    free_tree(&node);
+    return is_one;
+}
+
+static void reparse_nodes(const struct call *c, const struct tree *tree) {
+    uint32_t around[DEEPEST] = {0};
+    size_t depth = 0, tried = 0;
+    for (size_t i = 0; i < tree->answer.steps && tried < NODES && depth + 1 < DEEPEST; i++)
+        if (tree->steps[i].what == RAP_ENTER) {
+            tried += (size_t)reparse(c, tree, i, depth ? around[depth] : RAP_NO_KIND);
+            around[++depth] = tree->steps[i].kind;
+        } else if (tree->steps[i].what == RAP_EXIT) {
+            depth--;
+        }
+}
+
+int LLVMFuzzerTestOneInput(const uint8_t *text, size_t length) {
+    static const uint32_t EDITIONS[] = {2024, 2021, 2018, 2015};
+    struct call c = {0, EDITIONS[length / 70 % 4], (uint32_t)(length % 7), RAP_NO_KIND, RAP_NO_KIND, text, length};
+    read_names();
+    struct tree tree = call(&c);
+    c.which = 1;
+    struct tree tokens = call(&c);
+    check(tree.answer.status == tokens.answer.status, "both take the bytes, or none");
+    check(tree.answer.status == RAP_OK || tree.answer.status == RAP_NOT_UTF8, "all text is taken");
+    if (tree.answer.status == RAP_OK) {
+        check_steps(&c, &tokens, 0);
+        c.which = 0;
+        check_steps(&c, &tree, 1);
+        reparse_nodes(&c, &tree);
+        c.which = 2;
+        c.entry = (uint32_t)(length % 10);
+        struct tree prefix = call(&c);
+        check(prefix.answer.status <= RAP_NO_TREE, "all text has a front");
+        if (prefix.answer.status == RAP_OK) check_steps(&c, &prefix, 1);
+        check(prefix.answer.used <= length, "a front is no longer than the text");
+        free_tree(&prefix);
+    }
+    free_tree(&tree);
+    free_tree(&tokens);
+    return 0;
+}
