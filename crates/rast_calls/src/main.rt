@@ -13,7 +13,7 @@ use request::read_request;
 use run::run;
 use std::fs;
 use std::process::ExitCode;
-use std::rt::{Env, Fs};
+use std::rt::Files;
 
 const USAGE: &str = "usage: rast_calls capacity COUNT\n       \
     rast_calls frontmatter MESSAGE START END COUNT\n       \
@@ -23,7 +23,7 @@ const USAGE: &str = "usage: rast_calls capacity COUNT\n       \
 const UNREADABLE: &str = "rast_calls: cannot read the file\n";
 
 /// The text of the file, or an empty one where none is named.
-fn read_text<R: Env + Fs + AllocGlobal>(rt: &R, file: &Option<String>) -> Option<String> {
+fn read_text<R: Files + AllocGlobal>(rt: &R, file: &Option<String>) -> Option<String> {
     match file {
         Some(file) => fs::read_to_string(rt, file.as_str()).ok(),
         None => Some(String::new(rt.alloc())),
