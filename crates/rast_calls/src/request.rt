@@ -100,6 +100,7 @@ fn read_asked(args: &mut Args, word: &str) -> Option<Asked> {
         "push" => Some(Asked::Push(read_way(args)?, read_tokens(args, false)?)),
         "ident" => Some(Asked::Push(read_way(args)?, read_tokens(args, true)?)),
         "kept" => Some(Asked::Kept(read_way(args)?, read_tokens(args, false)?)),
+        "kept-ident" => Some(Asked::Kept(read_way(args)?, read_tokens(args, true)?)),
         "count" => Some(Asked::Count(read_way(args)?, read_tokens(args, false)?)),
         "sink" => read_sink(args),
         _ => None,
