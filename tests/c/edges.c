@@ -1,10 +1,11 @@
 /* Makes calls of the static library at the edges of what C may hand over.
  *
- * Standard input has a call in each line, as exports.h says. Each is made on its text at the end of a page behind which, and
- * at the begin of one before which, memory may not be read; with both arrays at such ends and begins, and with room for all
- * their steps and messages, for one of each and for none. What the call answers and writes is what it answers and writes on
- * its text elsewhere, and the bytes beside an array stay. An array of no length stands at any address: at one that may not
- * be read, at one that no step may have, and at none (NULL); a text of no length too. The same holds of rap_kind_name.
+ * Standard input has a call in each line, as exports.h says. Each is made on its text at the end of a page behind
+ * which, and at the begin of one before which, memory may not be read; with both arrays at such ends and begins, and
+ * with room for all their steps and messages, for one of each and for none. What the call answers and writes is what
+ * it answers and writes on its text elsewhere, and the bytes beside an array stay. An array of no length stands at any
+ * address: at one that may not be read, at one that no step may have, and at none (NULL); a text of no length too. The
+ * same holds of rap_kind_name.
  *
  * Prints what is wrong, how many calls there were, and how many lines passed and failed. */
 #define _GNU_SOURCE
@@ -91,14 +92,16 @@ static void call_at(const struct call *c, const uint8_t *text, const struct want
     check(are_same(answer, w->answer), line, "another answer at an edge");
     check(memcmp(r.steps, w->room.steps, step_count * sizeof *r.steps) == 0, line, "other steps at an edge");
     check(memcmp(r.messages, w->room.messages, byte_count) == 0, line, "other messages at an edge");
-    check(are_blank(s.begin, step_at) && are_blank(step_at + step_count * sizeof *r.steps, s.end), line, "bytes beside steps");
-    check(are_blank(m.begin, message_at) && are_blank(message_at + byte_count, m.end), line, "bytes beside messages");
+    uint8_t *step_end = step_at + step_count * sizeof *r.steps, *message_end = message_at + byte_count;
+    check(are_blank(s.begin, step_at) && are_blank(step_end, s.end), line, "bytes beside steps");
+    check(are_blank(m.begin, message_at) && are_blank(message_end, m.end), line, "bytes beside messages");
     open_fence(s);
     open_fence(m);
 }
 
 /* Makes a call on a text with arrays of no length at this address. */
-static void call_empty(const struct call *c, const uint8_t *text, const struct wanted *w, void *address, unsigned long line)
+static void call_empty(const struct call *c, const uint8_t *text, const struct wanted *w, void *address,
+                       unsigned long line)
 {
     struct room none = {address, 0, address, 0};
     calls++;
@@ -155,9 +158,11 @@ static void name_kinds(void)
             memset(f.begin, 0xa5, (size_t)(f.end - f.begin));
             calls++;
             check(rap_kind_name(kind, at, rooms[i]) == length, kind, "another length of a kind's name");
-            check(memcmp(at, name, count) == 0 && are_blank(f.begin, at) && are_blank(at + count, f.end), kind, "a kind's name");
+            check(memcmp(at, name, count) == 0, kind, "another name of a kind");
+            check(are_blank(f.begin, at) && are_blank(at + count, f.end), kind, "bytes beside a name");
         }
-        check(rap_kind_name(kind, NULL, 0) == length && rap_kind_name(kind, (uint8_t *)1, 0) == length, kind, "a name nowhere");
+        check(rap_kind_name(kind, NULL, 0) == length, kind, "a name at no address");
+        check(rap_kind_name(kind, (uint8_t *)1, 0) == length, kind, "a name at an odd address");
     }
     check(rap_kind_name(UINT32_MAX, NULL, 0) == 0, 0, "a kind with no name");
     open_fence(f);

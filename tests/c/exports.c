@@ -1,10 +1,11 @@
 /* Makes calls of the static library with each growth of memory refused in turn, in one process.
  *
- * Standard input has a call in each line, as exports.h says. Each is made with ample memory, with room for all its steps and
- * messages, for half of them and for none; and then, for each of these, with the N-th growth refused, N from 1 up to the
- * first call that comes to no such growth. A call with a refused growth answers RAP_NO_MEMORY, its other numbers are 0 and
- * both arrays are as they were; or it answers what it answers with ample memory, and leaves the same in both arrays.
- * Whatever a call took is free again when it returns. A call that must take memory and takes none is wrong too.
+ * Standard input has a call in each line, as exports.h says. Each is made with ample memory, with room for all its
+ * steps and messages, for half of them and for none; and then, for each of these, with the N-th growth refused, N from
+ * 1 up to the first call that comes to no such growth. A call with a refused growth answers RAP_NO_MEMORY, its other
+ * numbers are 0 and both arrays are as they were; or it answers what it answers with ample memory, and leaves the same
+ * in both arrays. Whatever a call took is free again when it returns. A call that must take memory and takes none is
+ * wrong too.
  *
  * Prints what is wrong, how many calls there were, and how many lines passed and failed. */
 #define _GNU_SOURCE
@@ -74,7 +75,7 @@ static void blank(struct room r)
     memset(r.messages, 0x5a, r.message_room);
 }
 
-/* Makes a call whose growth of this number is refused, and none where it is 0. Whether its memory is free again is checked. */
+/* Makes a call whose growth of this number is refused, and none where it is 0. Its memory must be free again. */
 static struct rap_answer make(const struct call *c, struct room r, unsigned long line, unsigned long number)
 {
     long before = live;
@@ -147,7 +148,8 @@ int main(void)
         unsigned long count = sweep(&c, size.steps, size.message_bytes, line);
         count += sweep(&c, size.steps / 2, size.message_bytes / 2, line);
         count += sweep(&c, 0, 0, line);
-        check(count > 0 || (size.status > RAP_NO_TREE && size.status != RAP_NO_MEMORY), line, 0, "no growth was refused");
+        int may_take_none = size.status > RAP_NO_TREE && size.status != RAP_NO_MEMORY;
+        check(count > 0 || may_take_none, line, 0, "no growth was refused");
         all += count;
         free(c.text);
         *(wrong == before ? &passed : &failed) += 1;

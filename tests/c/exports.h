@@ -5,8 +5,8 @@
  *     prefix EDITION ENTRY TEXT
  *     reparse EDITION NODE FIRST PARENT TEXT
  *
- * ENTRY is a number; NODE, FIRST and PARENT are names of kinds, or `-` for none; TEXT is in hexadecimal digits behind an
- * `=`, which stands alone for the empty text. */
+ * ENTRY is a number; NODE, FIRST and PARENT are names of kinds, or `-` for none; TEXT is in hexadecimal digits behind
+ * an `=`, which stands alone for the empty text. */
 #ifndef EXPORTS_H
 #define EXPORTS_H
 

@@ -1,8 +1,8 @@
 /* Measures one call of rap_tree on a text that repeats a few bytes: growth ENTRY COUNT ROUNDS TEXT.
  *
- * The call counts its steps and fills no array. It runs on a stack of 2 GB; a text that nests more ends the program by a
- * signal. Prints the bytes of the text, the least processor time of so many calls in nanoseconds, the most bytes of memory
- * that a call had at once, the bytes of stack that it used, and how many steps there are. */
+ * The call counts its steps and fills no array. It runs on a stack of 2 GB; a text that nests more ends the program by
+ * a signal. Prints the bytes of the text, the least processor time of so many calls in nanoseconds, the most bytes of
+ * memory that a call had at once, the bytes of stack that it used, and how many steps there are. */
 #define _GNU_SOURCE
 #include "rap.h"
 #include <malloc.h>

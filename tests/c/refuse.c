@@ -1,17 +1,18 @@
 /* Fails one call of a program. Built as a shared library, and loaded before the C library by LD_PRELOAD.
  *
- * REFUSE_KIND   which calls are counted from the begin of `main` on: growth (malloc, realloc, calloc), write, read or open
+ * REFUSE_KIND   which calls are counted from the begin of `main` on: growth (malloc, realloc, calloc), write, read or
+ *               open
  * REFUSE_AT     the number of the call that fails, from 1 on
- * REFUSE_SWEEP  in place of REFUSE_AT, a file: the program is run for each number from 0 on, each time in a process of its
- *               own, until a run meets no call that fails. The file gets a line for each run:
+ * REFUSE_SWEEP  in place of REFUSE_AT, a file: the program is run for each number from 0 on, each time in a process of
+ *               its own, until a run meets no call that fails. The file gets a line for each run:
  *
  *     NUMBER MET END STATUS OUT LENGTH ERR TEXT
  *
- * MET is 1 where a call failed. END is `exit` or `signal`, with the status or the signal. OUT is how the standard output
- * is to that of run 0: `same`, `front` (it begins that output; nothing does too) or `other`; in run 0 OUT is `first`. LENGTH
- * says how many bytes were written to it. Behind it stand, in hexadecimal digits or `-` for nothing, what was written to
- * the standard error and, where OUT is `first` or `other`, to the standard output. A run that takes ten seconds ends by a
- * signal. */
+ * MET is 1 where a call failed. END is `exit` or `signal`, with the status or the signal. OUT is how the standard
+ * output is to that of run 0: `same`, `front` (it begins that output; nothing does too) or `other`; in run 0 OUT is
+ * `first`. LENGTH says how many bytes were written to it. Behind it stand, in hexadecimal digits or `-` for nothing,
+ * what was written to the standard error and, where OUT is `first` or `other`, to the standard output. A run that
+ * takes ten seconds ends by a signal. */
 #define _GNU_SOURCE
 #include <errno.h>
 #include <fcntl.h>
