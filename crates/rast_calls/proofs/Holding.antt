@@ -63,7 +63,7 @@ pub holds_first : (text : List ℕ) (edition : Edition) (entry : TopEntryPoint) 
 holds_first text edition entry count s t lines none_yet from h is =
     let stop = h.stopped in
     let here : string_bytes t.lines ≡ str_lines stop.prefix =
-      stop.refused.1 ∙ (lines_along stop.prefix s stop.before stop.taken ∙ ap (λ l. l ++ str_lines stop.prefix) none_yet) in
+    stop.refused.1 ∙ (lines_along stop.prefix s stop.before stop.taken ∙ ap (λ l. l ++ str_lines stop.prefix) none_yet) in
     inr (record {
       lexed = h.lexed;
       forest = h.forest;

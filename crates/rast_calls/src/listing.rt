@@ -64,7 +64,13 @@ fn list_refusal(
     let error = refusal_of(alloc, message, start, end, count)?;
     let mut lines = String::new(alloc);
     let primary = error.primary_span();
-    write!(lines, "refused {}\nprimary {}..{}\nvisible", error.message(), primary.start, primary.end)?;
+    write!(
+        lines,
+        "refused {}\nprimary {}..{}\nvisible",
+        error.message(),
+        primary.start,
+        primary.end
+    )?;
     push_spans(&mut lines, &error)?;
     lines.push_str("\n")?;
     Ok(lines)

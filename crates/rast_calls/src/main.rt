@@ -39,5 +39,11 @@ fn main(rt: HostRuntime) -> ExitCode {
         return exit_code(report(&mut err, UNREADABLE));
     };
     let mut out = rt.stdout();
-    exit_code(run(rt.alloc(), &request.asked, text.as_str(), &mut out, &mut err))
+    exit_code(run(
+        rt.alloc(),
+        &request.asked,
+        text.as_str(),
+        &mut out,
+        &mut err,
+    ))
 }

@@ -35,8 +35,11 @@ fn read_way(args: &mut Args) -> Option<Way> {
         }
         "reparse" => {
             let node = read_kind(name.as_str())??;
-            let reparser =
-                Reparser::for_node(node, Some(SyntaxKind::L_CURLY), Some(SyntaxKind::IMPL))?;
+            let reparser = Reparser::for_node(
+                node,
+                Some(SyntaxKind::L_CURLY),
+                Some(SyntaxKind::IMPL),
+            )?;
             Some(Way::Node(reparser))
         }
         _ => None,
