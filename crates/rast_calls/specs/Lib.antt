@@ -1,0 +1,5 @@
+pub mod Held
+pub mod Listed
+pub mod Made
+pub mod Page
+pub mod Words

@@ -1,0 +1,59 @@
+//! What is asked for: which calls, and with what.
+use ra_ap_parser::{Edition, PrefixEntryPoint, Reparser, SyntaxKind, TopEntryPoint};
+
+/// What reads an input.
+#[derive(Clone, Copy, Debug)]
+pub enum Way {
+    /// A top entry point, which reads the whole input.
+    Top(TopEntryPoint),
+    /// A prefix entry point, which reads from the front.
+    Prefix(PrefixEntryPoint),
+    /// A node that is parsed again.
+    Node(Reparser),
+}
+
+/// How a token is pushed.
+#[derive(Clone, Copy, Debug)]
+pub enum Token {
+    /// As a token of this kind.
+    Kind(SyntaxKind),
+    /// As an identifier that may be read as this kind.
+    Ident(SyntaxKind),
+}
+
+/// Tokens that are pushed one after another.
+#[derive(Clone, Copy, Debug)]
+pub struct Tokens {
+    /// What each of them is.
+    pub token: Token,
+    /// How many there are.
+    pub count: usize,
+    /// Every so many-th of them touches the one after it. Where it is 0 none does.
+    pub every: usize,
+}
+
+/// Which calls are made.
+#[derive(Drop)]
+pub enum Asked {
+    /// An input is made with room for so many tokens.
+    Capacity(usize),
+    /// A refusal of a script source is made, with a message, a span, and so many spans beside it.
+    Frontmatter {
+        message: String,
+        start: usize,
+        end: usize,
+        count: usize,
+    },
+    /// The steps of an input of these tokens.
+    Push(Way, Tokens),
+    /// The steps of an input of these tokens, as far as pushes are not refused.
+    Kept(Way, Tokens),
+    /// How many steps and messages an input of these tokens has.
+    Count(Way, Tokens),
+    /// What a sink holds of a text's steps if it takes so many, and refuses the next one.
+    Sink {
+        count: usize,
+        entry: TopEntryPoint,
+        edition: Edition,
+    },
+}

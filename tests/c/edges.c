@@ -1,0 +1,188 @@
+/* Makes calls of the static library at the edges of what C may hand over.
+ *
+ * Standard input has a call in each line, as exports.h says. Each is made on its text at the end of a page behind
+ * which, and at the begin of one before which, memory may not be read; with both arrays at such ends and begins, and
+ * with room for all their steps and messages, for one of each and for none. What the call answers and writes is what
+ * it answers and writes on its text elsewhere, and the bytes beside an array stay. An array of no length stands at any
+ * address: at one that may not be read, at one that no step may have, and at none (NULL); a text of no length too. The
+ * same holds of rap_kind_name.
+ *
+ * Prints what is wrong, how many calls there were, and how many lines passed and failed. */
+#define _GNU_SOURCE
+#include "exports.h"
+#include <sys/mman.h>
+#include <unistd.h>
+
+/* Memory between two pages that may not be read or written. */
+struct fenced {
+    uint8_t *begin, *end;
+};
+
+static unsigned long calls, wrong;
+
+static void check(int holds, unsigned long line, const char *what)
+{
+    if (!holds) {
+        wrong++;
+        printf("line %lu: %s\n", line, what);
+    }
+}
+
+/* At least so many bytes between two such pages. */
+static struct fenced fence(size_t length)
+{
+    size_t page = (size_t)sysconf(_SC_PAGESIZE), inner = (length / page + 1) * page;
+    uint8_t *at = mmap(NULL, inner + 2 * page, PROT_NONE, MAP_PRIVATE | MAP_ANONYMOUS, -1, 0);
+    if (at == MAP_FAILED || mprotect(at + page, inner, PROT_READ | PROT_WRITE))
+        exit(2);
+    struct fenced f = {at + page, at + page + inner};
+    return f;
+}
+
+static void open_fence(struct fenced f)
+{
+    size_t page = (size_t)sysconf(_SC_PAGESIZE);
+    munmap(f.begin - page, (size_t)(f.end - f.begin) + 2 * page);
+}
+
+/* What a call leaves on its text elsewhere: its answer, its steps and its messages, all of them. */
+struct wanted {
+    struct rap_answer answer;
+    struct room room;
+};
+
+static struct wanted plain(const struct call *c)
+{
+    struct rap_step step;
+    uint8_t byte;
+    struct room none = {&step, 0, &byte, 0};
+    struct wanted w;
+    w.answer = answer_at(c, c->text, none);
+    struct room all = {calloc(w.answer.steps + 1, sizeof step), w.answer.steps, calloc(w.answer.message_bytes + 1, 1),
+                       w.answer.message_bytes};
+    w.room = all;
+    struct rap_answer again = answer_at(c, c->text, all);
+    calls += 2;
+    check(are_same(w.answer, again), 0, "another answer with room than without");
+    return w;
+}
+
+/* Whether all these bytes are the one that was there before. */
+static int are_blank(const uint8_t *from, const uint8_t *to)
+{
+    while (from < to && *from == 0xa5)
+        from++;
+    return from >= to;
+}
+
+/* Makes a call with room for so many steps and messages, both arrays at the ends of fenced memory or at its begins. */
+static void call_at(const struct call *c, const uint8_t *text, const struct wanted *w, size_t steps, size_t messages,
+                    int at_end, unsigned long line)
+{
+    size_t step_bytes = steps * sizeof(struct rap_step);
+    struct fenced s = fence(step_bytes), m = fence(messages);
+    uint8_t *step_at = at_end ? s.end - step_bytes : s.begin, *message_at = at_end ? m.end - messages : m.begin;
+    memset(s.begin, 0xa5, (size_t)(s.end - s.begin));
+    memset(m.begin, 0xa5, (size_t)(m.end - m.begin));
+    struct room r = {(struct rap_step *)(void *)step_at, steps, message_at, messages};
+    struct rap_answer answer = answer_at(c, text, r);
+    size_t step_count = steps < w->answer.steps ? steps : w->answer.steps;
+    size_t byte_count = messages < w->answer.message_bytes ? messages : w->answer.message_bytes;
+    calls++;
+    check(are_same(answer, w->answer), line, "another answer at an edge");
+    check(memcmp(r.steps, w->room.steps, step_count * sizeof *r.steps) == 0, line, "other steps at an edge");
+    check(memcmp(r.messages, w->room.messages, byte_count) == 0, line, "other messages at an edge");
+    uint8_t *step_end = step_at + step_count * sizeof *r.steps, *message_end = message_at + byte_count;
+    check(are_blank(s.begin, step_at) && are_blank(step_end, s.end), line, "bytes beside steps");
+    check(are_blank(m.begin, message_at) && are_blank(message_end, m.end), line, "bytes beside messages");
+    open_fence(s);
+    open_fence(m);
+}
+
+/* Makes a call on a text with arrays of no length at this address. */
+static void call_empty(const struct call *c, const uint8_t *text, const struct wanted *w, void *address,
+                       unsigned long line)
+{
+    struct room none = {address, 0, address, 0};
+    calls++;
+    check(are_same(answer_at(c, text, none), w->answer), line, "another answer with arrays of no length");
+}
+
+/* Makes a call on a text that stands here, at all edges of its arrays. */
+static void call_on(const struct call *c, const uint8_t *text, const struct wanted *w, unsigned long line)
+{
+    struct fenced nowhere = fence(1);
+    for (int at_end = 0; at_end < 2; at_end++) {
+        call_at(c, text, w, w->answer.steps, w->answer.message_bytes, at_end, line);
+        call_at(c, text, w, w->answer.steps + 1, w->answer.message_bytes + 1, at_end, line);
+        call_at(c, text, w, 1, 1, at_end, line);
+        call_at(c, text, w, 1, 0, at_end, line);
+        call_at(c, text, w, 0, 1, at_end, line);
+    }
+    call_empty(c, text, w, nowhere.end, line);
+    call_empty(c, text, w, (void *)1, line);
+    call_empty(c, text, w, NULL, line);
+    open_fence(nowhere);
+}
+
+/* Makes a call on its text at both edges, and on a text of no length anywhere. */
+static void call_everywhere(const struct call *c, unsigned long line)
+{
+    struct wanted w = plain(c);
+    struct fenced t = fence(c->length);
+    memcpy(t.end - c->length, c->text, c->length);
+    call_on(c, t.end - c->length, &w, line);
+    memcpy(t.begin, c->text, c->length);
+    call_on(c, t.begin, &w, line);
+    if (c->length == 0) {
+        call_on(c, t.end, &w, line);
+        call_on(c, (const uint8_t *)1, &w, line);
+        call_on(c, NULL, &w, line);
+    }
+    open_fence(t);
+    free(w.room.steps);
+    free(w.room.messages);
+}
+
+/* Writes each kind's name at the edges, with room for all of it, for a byte less, for one and for none. */
+static void name_kinds(void)
+{
+    struct fenced f = fence(64);
+    for (uint32_t kind = 0; kind <= RAP_NO_KIND; kind++) {
+        uint8_t name[64];
+        size_t length = rap_kind_name(kind, name, sizeof name);
+        size_t rooms[] = {length, length ? length - 1 : 0, 1, 0};
+        for (int i = 0; i < 4; i++) {
+            size_t count = rooms[i] < length ? rooms[i] : length;
+            uint8_t *at = f.end - rooms[i];
+            memset(f.begin, 0xa5, (size_t)(f.end - f.begin));
+            calls++;
+            check(rap_kind_name(kind, at, rooms[i]) == length, kind, "another length of a kind's name");
+            check(memcmp(at, name, count) == 0, kind, "another name of a kind");
+            check(are_blank(f.begin, at) && are_blank(at + count, f.end), kind, "bytes beside a name");
+        }
+        check(rap_kind_name(kind, NULL, 0) == length, kind, "a name at no address");
+        check(rap_kind_name(kind, (uint8_t *)1, 0) == length, kind, "a name at an odd address");
+    }
+    check(rap_kind_name(UINT32_MAX, NULL, 0) == 0, 0, "a kind with no name");
+    open_fence(f);
+}
+
+int main(void)
+{
+    char *text = NULL;
+    size_t room = 0;
+    unsigned long line = 0, passed = 0, failed = 0;
+    name_kinds();
+    *(wrong ? &failed : &passed) += 1;
+    while (getline(&text, &room, stdin) > 0) {
+        struct call c = read_call(text);
+        unsigned long before = wrong;
+        call_everywhere(&c, ++line);
+        free(c.text);
+        *(wrong == before ? &passed : &failed) += 1;
+    }
+    free(text);
+    printf("%lu calls\n%lu passed, %lu failed\n", calls, passed, failed + (line == 0));
+    return wrong > 0 || line == 0;
+}
