@@ -1,80 +1,56 @@
-//! Times the port, and beside it the Rust crate and syn where they are linked, in one process and on the same texts.
+//! Times this package, and beside it the Rust crate and syn where they are linked, in one process and on the same texts.
 //!
-//! Each text is read by each parser in turn, several rounds over, and the least time of a text counts. The port and the
-//! Rust crate fill the same steps into memory that is kept; syn builds its syntax tree.
-use rap::sys::{self, Answer, Step};
+//! Each text is read by each parser in turn, several rounds over, and the least time of a text counts. The package and the
+//! Rust crate go from the text to the steps of the tree, by `LexedStr::new`, `to_input`, `parse` and `intersperse_trivia`;
+//! syn builds its own tree. What a step hands out is added up, so that no parser can leave out a step.
 use std::hint::black_box;
 use std::time::{Duration, Instant};
 
-/// Room that is kept from one text to the next.
-#[derive(Default)]
-struct Room {
-    steps: Vec<Step>,
-    messages: Vec<u8>,
+/// What is counted of a text's steps: how many there are, and how many bytes its tokens and its messages have.
+#[derive(Clone, Copy, Debug, Default, PartialEq, Eq)]
+struct Count {
+    steps: usize,
+    bytes: usize,
+    message_bytes: usize,
 }
 
-type Parser = fn(&str, &mut Room) -> Option<Answer>;
+type Parser = fn(&str) -> Option<Count>;
 
-fn by_port(text: &str, room: &mut Room) -> Option<Answer> {
-    // SAFETY: each pointer stands with the length of its slice, and no two slices overlap.
-    let answer = unsafe {
-        sys::rap_tree(
-            text.as_ptr(),
-            text.len(),
-            2024,
-            0,
-            room.steps.as_mut_ptr(),
-            room.steps.len(),
-            room.messages.as_mut_ptr(),
-            room.messages.len(),
-        )
+/// Makes a function that goes the whole way with a crate of these names.
+macro_rules! parser {
+    ($name:ident, $parser:ident) => {
+        fn $name(text: &str) -> Option<Count> {
+            use $parser::{Edition, LexedStr, StrStep, TopEntryPoint};
+            let lexed = LexedStr::new(Edition::LATEST, text);
+            let output = TopEntryPoint::SourceFile.parse(&lexed.to_input(Edition::LATEST));
+            let mut count = Count::default();
+            lexed.intersperse_trivia(&output, &mut |step| {
+                count.steps += 1;
+                match step {
+                    StrStep::Token { text, .. } => count.bytes += text.len(),
+                    StrStep::Error { msg, .. } => count.message_bytes += msg.len(),
+                    StrStep::Enter { .. } | StrStep::Exit => {}
+                }
+            });
+            Some(count)
+        }
     };
-    (answer.status == 0).then_some(answer)
 }
 
+parser!(by_package, package);
 #[cfg(feature = "original")]
-fn by_crate(text: &str, room: &mut Room) -> Option<Answer> {
-    use original::{Edition, LexedStr, StrStep, TopEntryPoint};
-    let lexed = LexedStr::new(Edition::Edition2024, text);
-    let output = TopEntryPoint::SourceFile.parse(&lexed.to_input(Edition::Edition2024));
-    room.steps.clear();
-    room.messages.clear();
-    let (steps, messages) = (&mut room.steps, &mut room.messages);
-    let mut place = 0;
-    let mut put = |what, kind, at, start, end| steps.push(Step { what, kind, at, start, end });
-    let mut put_message = |text: &str| {
-        messages.extend_from_slice(text.as_bytes());
-        (messages.len() - text.len(), messages.len())
-    };
-    lexed.intersperse_trivia(&output, &mut |step| match step {
-        StrStep::Enter { kind } => put(sys::ENTER, kind as u32, place, place, place),
-        StrStep::Exit => put(sys::EXIT, 0, place, place, place),
-        StrStep::Token { kind, text } => {
-            put(sys::TOKEN, kind as u32, place, place, place + text.len());
-            place += text.len();
-        }
-        StrStep::Error { msg, pos } => {
-            let (start, end) = put_message(msg);
-            put(sys::MESSAGE, 0, pos, start, end);
-        }
-    });
-    for (token, text) in lexed.errors() {
-        let (start, end) = put_message(text);
-        put(sys::MESSAGE, 0, lexed.text_start(token), start, end);
-    }
-    Some(Answer { status: 0, steps: steps.len(), message_bytes: messages.len(), used: text.len() })
-}
+parser!(by_crate, original);
 
 #[cfg(feature = "syn")]
-fn by_syn(text: &str, _room: &mut Room) -> Option<Answer> {
+fn by_syn(text: &str) -> Option<Count> {
     let file = syn_crate::parse_file(text).ok()?;
-    Some(Answer { steps: black_box(&file).items.len(), ..Answer::default() })
+    Some(Count { steps: black_box(&file).items.len(), ..Count::default() })
 }
 
-/// The parsers that are linked, the port first.
+/// The parsers that are linked, the package first.
 fn parsers() -> Vec<(&'static str, Parser)> {
     vec![
-        ("port", by_port),
+        ("package", by_package),
         #[cfg(feature = "original")]
         ("Rust crate", by_crate),
         #[cfg(feature = "syn")]
@@ -83,19 +59,16 @@ fn parsers() -> Vec<(&'static str, Parser)> {
 }
 
 /// The least time of each parser, if all of them take the text.
-fn times_of(text: &str, rounds: usize, room: &mut Room, parsers: &[(&str, Parser)]) -> Option<Vec<Duration>> {
-    let answer = by_port(text, room)?;
-    let want = (answer.steps, answer.message_bytes);
+fn times_of(text: &str, rounds: usize, parsers: &[(&str, Parser)]) -> Option<Vec<Duration>> {
+    let want = by_package(text);
     let mut least = vec![Duration::MAX; parsers.len()];
     for _ in 0..rounds {
         for (i, (name, parse)) in parsers.iter().enumerate() {
-            room.steps.resize(want.0.max(room.steps.len()), Step::default());
-            room.messages.resize(want.1.max(room.messages.len()), 0);
             let begin = Instant::now();
-            let answer = black_box(parse(black_box(text), room))?;
+            let count = black_box(parse(black_box(text)));
             least[i] = least[i].min(begin.elapsed());
-            let same = *name == "syn" || (answer.steps, answer.message_bytes) == want;
-            assert!(same, "{name} gives other steps");
+            count?;
+            assert!(*name == "syn" || count == want, "{name} gives other steps");
         }
     }
     Some(least)
@@ -107,19 +80,12 @@ fn run() {
     let parsers = parsers();
     let (mut files, mut bytes, mut left_out) = (0, 0, 0);
     let mut sums = vec![Duration::ZERO; parsers.len()];
-    let mut room = Room::default();
     for file in words {
-        let times = std::fs::read_to_string(&file).ok().and_then(|text| {
-            bytes += text.len();
-            let times = times_of(&text, rounds, &mut room, &parsers);
-            if times.is_none() {
-                bytes -= text.len();
-            }
-            times
-        });
-        match times {
+        let text = std::fs::read_to_string(&file).ok();
+        match text.as_ref().and_then(|text| times_of(text, rounds, &parsers)) {
             Some(times) => {
                 files += 1;
+                bytes += text.map_or(0, |text| text.len());
                 sums.iter_mut().zip(times).for_each(|(sum, time)| *sum += time);
             }
             None => left_out += 1,
@@ -130,7 +96,7 @@ fn run() {
         let seconds = sum.as_secs_f64();
         let speed = bytes as f64 / 1e6 / seconds;
         let ratio = sums[0].as_secs_f64() / seconds;
-        println!("{name}: {:.1} ms, {speed:.1} MB/s; the port takes {ratio:.2} of it", 1e3 * seconds);
+        println!("{name}: {:.1} ms, {speed:.1} MB/s; the package takes {ratio:.2} of it", 1e3 * seconds);
     }
 }
 

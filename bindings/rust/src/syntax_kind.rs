@@ -24,7 +24,6 @@ macro_rules! kinds {
     };
 }
 
-#[rustfmt::skip]
 mod generated;
 
 pub use generated::SyntaxKind;
