@@ -86,4 +86,5 @@ def main():
     sys.exit(different + found > 0)
 
 
-main()
+if __name__ == '__main__':
+    main()

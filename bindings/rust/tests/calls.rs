@@ -56,8 +56,8 @@ fn gives_the_steps_of_a_tree() {
 
 #[test]
 fn gives_messages_where_they_stand() {
-    let want = "<TUPLE_EXPR> L_PAREN:( <ERROR> 1:expected expression PLUS:+ </> COMMA:, R_PAREN:) </>";
-    assert_eq!(tree(TopEntryPoint::Expr, "(+,)").replace("1:expected expression <ERROR>", "<ERROR> 1:expected expression"), want);
+    let want = "<BIN_EXPR> <LITERAL> INT_NUMBER:1 </> PLUS:+ <ERROR> 2:expected expression </> </>";
+    assert_eq!(tree(TopEntryPoint::Expr, "1+"), want);
     let lexed = LexedStr::new(Edition::Edition2021, "é + 0x");
     let message = "Missing digits after the integer base prefix";
     assert_eq!(lexed.errors().collect::<Vec<_>>(), [(4, message)]);
