@@ -1,7 +1,7 @@
 -- Answers by their numbers.
 use Rattle.std.specs.Prelude.{ℕ}
 use Rattle.rap_c.specs.declared.answer.Fault.{Fault}
-use Rattle.rap_c.specs.declared.answer.Fault.TheVariants.{NoEdition, NoEntry, NotUtf8, TextTooLong, TooManyTokens, NoMemory, NoNode, NoBrace}
+use Rattle.rap_c.specs.declared.answer.Fault.TheVariants.{NoEdition, NoEntry, NotUtf8, TextTooLong, TooManyTokens, NoMemory, NoNode, NoBrace, NoRecord, NoSteps}
 use Rattle.rap_c.specs.declared.answer.RapAnswer.{RapAnswer}
 
 -- a fault's status
@@ -14,6 +14,8 @@ number_of TooManyTokens = 6
 number_of NoMemory = 7
 number_of NoNode = 8
 number_of NoBrace = 9
+number_of NoRecord = 10
+number_of NoSteps = 11
 
 -- a fault's answer
 abbrev pub refusal : Fault → RapAnswer

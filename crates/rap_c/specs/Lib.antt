@@ -5,8 +5,14 @@ pub mod Given
 pub mod Item
 pub mod Numbers
 pub mod Output
+pub mod Parsed
 pub mod Prefix
+pub mod Record
+pub mod Records
 pub mod Reparse
+pub mod Shown
+pub mod Token
 pub mod Tokens
 pub mod Tree
 pub mod Used
+pub mod Woven

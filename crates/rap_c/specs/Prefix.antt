@@ -10,7 +10,7 @@ use Rattle.ra_ap_parser.specs.declared.entry_point.PrefixEntryPoint.{PrefixEntry
 use Rattle.rap_c.specs.Numbers.{IsEditionOf, IsNoEdition, IsPrefixOf, IsNoPrefix}
 use Rattle.rap_c.specs.Output.{IsOutput}
 use Rattle.rap_c.specs.declared.answer.Fault.{Fault}
-use Rattle.rap_c.specs.declared.answer.Fault.TheVariants.{NoEdition, NoEntry, NotUtf8, TextTooLong, TooManyTokens, NoMemory, NoNode, NoBrace}
+use Rattle.rap_c.specs.declared.answer.Fault.TheVariants.{NoEdition, NoEntry, NotUtf8, TextTooLong, TooManyTokens, NoMemory, NoNode, NoBrace, NoRecord, NoSteps}
 use Rattle.rap_c.specs.declared.answer.RapAnswer.{RapAnswer}
 use Rattle.rap_c.specs.declared.step.RapStep.{RapStep}
 
@@ -47,6 +47,8 @@ ComesOfFront text edition TooManyTokens = HasTooManyTokens text edition
 ComesOfFront text edition NoMemory = length text ≤ 4294967295
 ComesOfFront text edition NoNode = ⊥
 ComesOfFront text edition NoBrace = ⊥
+ComesOfFront text edition NoRecord = ⊥
+ComesOfFront text edition NoSteps = ⊥
 
 -- The bytes are text, and the numbers those of an edition and of an entry; and this holds of the edition.
 pub record IsAsked (text : List ℕ) (year entry_number : ℕ) (Holds : Edition → Type 0) : Type 0 where
@@ -68,3 +70,5 @@ ComesOfPrefix text year entry_number TooManyTokens = IsAsked text year entry_num
 ComesOfPrefix text year entry_number NoMemory = IsAsked text year entry_number (λ edition. ComesOfFront text edition NoMemory)
 ComesOfPrefix text year entry_number NoNode = ⊥
 ComesOfPrefix text year entry_number NoBrace = ⊥
+ComesOfPrefix text year entry_number NoRecord = ⊥
+ComesOfPrefix text year entry_number NoSteps = ⊥

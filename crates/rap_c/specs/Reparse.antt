@@ -14,7 +14,7 @@ use Rattle.rap_c.specs.Numbers.{IsEditionOf, IsNoEdition, kind_in}
 use Rattle.rap_c.specs.Output.{IsOutput}
 use Rattle.rap_c.specs.Prefix.{IsRead}
 use Rattle.rap_c.specs.declared.answer.Fault.{Fault}
-use Rattle.rap_c.specs.declared.answer.Fault.TheVariants.{NoEdition, NoEntry, NotUtf8, TextTooLong, TooManyTokens, NoMemory, NoNode, NoBrace}
+use Rattle.rap_c.specs.declared.answer.Fault.TheVariants.{NoEdition, NoEntry, NotUtf8, TextTooLong, TooManyTokens, NoMemory, NoNode, NoBrace, NoRecord, NoSteps}
 use Rattle.rap_c.specs.declared.answer.RapAnswer.{RapAnswer}
 use Rattle.rap_c.specs.declared.step.RapStep.{RapStep}
 
@@ -58,6 +58,8 @@ ComesOfNode text edition part TooManyTokens = HasTooManyTokens text edition
 ComesOfNode text edition part NoMemory = length text ≤ 4294967295
 ComesOfNode text edition part NoNode = ⊥
 ComesOfNode text edition part NoBrace = LacksBrace text edition part
+ComesOfNode text edition part NoRecord = ⊥
+ComesOfNode text edition part NoSteps = ⊥
 
 -- The bytes are text, the number is that of an edition and the node can be parsed again; and this holds of them.
 pub record IsAskedNode (text : List ℕ) (year : ℕ) (kind : Option ℕ) (Holds : Edition → Part → Type 0) : Type 0 where
@@ -78,3 +80,5 @@ ComesOfReparse text year kind TooManyTokens = IsAskedNode text year kind (λ edi
 ComesOfReparse text year kind NoMemory = IsAskedNode text year kind (λ edition part. ComesOfNode text edition part NoMemory)
 ComesOfReparse text year kind NoNode = ((edition : Edition) × IsEditionOf year edition) × (kind ≡ None)
 ComesOfReparse text year kind NoBrace = IsAskedNode text year kind (λ edition part. ComesOfNode text edition part NoBrace)
+ComesOfReparse text year kind NoRecord = ⊥
+ComesOfReparse text year kind NoSteps = ⊥

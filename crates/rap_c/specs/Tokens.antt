@@ -6,7 +6,7 @@ use Rattle.rap_c.specs.Given.{IsGiven}
 use Rattle.rap_c.specs.Item.{Item, token_items, lexer_items}
 use Rattle.rap_c.specs.Numbers.{IsEditionOf, IsNoEdition}
 use Rattle.rap_c.specs.declared.answer.Fault.{Fault}
-use Rattle.rap_c.specs.declared.answer.Fault.TheVariants.{NoEdition, NoEntry, NotUtf8, TextTooLong, TooManyTokens, NoMemory, NoNode, NoBrace}
+use Rattle.rap_c.specs.declared.answer.Fault.TheVariants.{NoEdition, NoEntry, NotUtf8, TextTooLong, TooManyTokens, NoMemory, NoNode, NoBrace, NoRecord, NoSteps}
 use Rattle.rap_c.specs.declared.answer.RapAnswer.{RapAnswer}
 use Rattle.rap_c.specs.declared.step.RapStep.{RapStep}
 
@@ -40,6 +40,8 @@ ComesOfLexing text TooManyTokens = ⊥
 ComesOfLexing text NoMemory = length text ≤ 4294967295
 ComesOfLexing text NoNode = ⊥
 ComesOfLexing text NoBrace = ⊥
+ComesOfLexing text NoRecord = ⊥
+ComesOfLexing text NoSteps = ⊥
 
 -- when a fault comes of a number and bytes
 abbrev pub ComesOfTokens : List ℕ → ℕ → Fault → Type 0
@@ -51,3 +53,5 @@ ComesOfTokens text year TooManyTokens = ⊥
 ComesOfTokens text year NoMemory = ((edition : Edition) × IsEditionOf year edition) × IsUtf8 text × (length text ≤ 4294967295)
 ComesOfTokens text year NoNode = ⊥
 ComesOfTokens text year NoBrace = ⊥
+ComesOfTokens text year NoRecord = ⊥
+ComesOfTokens text year NoSteps = ⊥

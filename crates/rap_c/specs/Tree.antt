@@ -11,7 +11,7 @@ use Rattle.rap_c.specs.Given.{IsGiven}
 use Rattle.rap_c.specs.Item.{Item, text_items, lexer_items}
 use Rattle.rap_c.specs.Numbers.{IsEditionOf, IsNoEdition, IsTopOf, IsNoTop}
 use Rattle.rap_c.specs.declared.answer.Fault.{Fault}
-use Rattle.rap_c.specs.declared.answer.Fault.TheVariants.{NoEdition, NoEntry, NotUtf8, TextTooLong, TooManyTokens, NoMemory, NoNode, NoBrace}
+use Rattle.rap_c.specs.declared.answer.Fault.TheVariants.{NoEdition, NoEntry, NotUtf8, TextTooLong, TooManyTokens, NoMemory, NoNode, NoBrace, NoRecord, NoSteps}
 use Rattle.rap_c.specs.declared.answer.RapAnswer.{RapAnswer}
 use Rattle.rap_c.specs.declared.step.RapStep.{RapStep}
 
@@ -48,6 +48,8 @@ ComesOfText text edition TooManyTokens = HasTooManyTokens text edition
 ComesOfText text edition NoMemory = (length text ≤ 4294967295) × ¬ HasTooManyTokens text edition
 ComesOfText text edition NoNode = ⊥
 ComesOfText text edition NoBrace = ⊥
+ComesOfText text edition NoRecord = ⊥
+ComesOfText text edition NoSteps = ⊥
 
 -- The bytes are text, and the numbers those of an edition and of an entry; and this holds of the edition.
 pub record IsAsked (text : List ℕ) (year entry_number : ℕ) (Holds : Edition → Type 0) : Type 0 where
@@ -69,3 +71,5 @@ ComesOfTree text year entry_number TooManyTokens = IsAsked text year entry_numbe
 ComesOfTree text year entry_number NoMemory = IsAsked text year entry_number (λ edition. ComesOfText text edition NoMemory)
 ComesOfTree text year entry_number NoNode = ⊥
 ComesOfTree text year entry_number NoBrace = ⊥
+ComesOfTree text year entry_number NoRecord = ⊥
+ComesOfTree text year entry_number NoSteps = ⊥

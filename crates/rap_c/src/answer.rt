@@ -19,8 +19,12 @@ pub enum Fault {
     NoMemory,
     /// A node of this kind, with this first child and in this parent, is not parsed again alone.
     NoNode,
-    /// The node is to begin with a `{`, and the text does not.
+    /// The node is to begin with a `{`, and the text or the records do not.
     NoBrace,
+    /// A record is no token's.
+    NoRecord,
+    /// The steps that were given are not those of one tree over the text.
+    NoSteps,
 }
 
 impl Fault {
@@ -37,6 +41,8 @@ impl Fault {
             Fault::NoMemory => 7,
             Fault::NoNode => 8,
             Fault::NoBrace => 9,
+            Fault::NoRecord => 10,
+            Fault::NoSteps => 11,
         }
     }
 }

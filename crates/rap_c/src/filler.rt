@@ -33,7 +33,7 @@ pub fn put_bytes(room: &mut [u8], at: usize, bytes: &[u8])
 }
 
 /// The kind's number.
-fn kind_number(kind: SyntaxKind) -> u32
+pub fn kind_number(kind: SyntaxKind) -> u32
     ensures { result ≡ kind }
 {
     u32::from(u16::from(kind))

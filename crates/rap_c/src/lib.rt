@@ -6,19 +6,32 @@
 
 mod answer;
 mod filler;
+mod given;
 mod kind_name;
 mod numbers;
+mod parse;
+mod parse_node;
+mod parse_prefix;
 mod prefix;
 mod reading;
+mod record;
+mod records;
 mod reparse;
 mod step;
 mod tokens;
 mod tree;
+mod weave;
 
 pub use answer::RapAnswer;
 pub use kind_name::rap_kind_name;
+pub use parse::rap_parse;
+pub use parse_node::rap_parse_node;
+pub use parse_prefix::rap_parse_prefix;
 pub use prefix::rap_prefix;
+pub use record::RapRecord;
+pub use records::rap_records;
 pub use reparse::rap_reparse;
 pub use step::RapStep;
 pub use tokens::rap_tokens;
 pub use tree::rap_tree;
+pub use weave::rap_weave;

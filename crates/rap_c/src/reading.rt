@@ -56,7 +56,7 @@ pub fn read(alloc: Global, edition: Edition, text: &str) -> Result<Reading<'_>, 
 
 /// How many tokens an output took.
 #[tactic(auto, using(crate::proofs::Used::tokens_in_flat))]
-fn used_tokens(output: &Output) -> usize
+pub fn used_tokens(output: &Output) -> usize
     requires { used output.now ≤ 8388607 }
     ensures { result ≡ used output.now }
 {
@@ -72,7 +72,7 @@ fn used_tokens(output: &Output) -> usize
 }
 
 /// Where the last of so many tokens that are no trivia ends, in bytes.
-fn end_after(lexed: &LexedStr<'_>, count: usize) -> usize
+pub fn end_after(lexed: &LexedStr<'_>, count: usize) -> usize
     ensures { result ≡ end_after count lexed.now.tokens }
 {
     let mut left = count;

@@ -13,7 +13,7 @@ use ra_ap_parser::{Edition, ParseFault, Reparser};
 use std::alloc::Global;
 
 /// How the node is parsed again, by its kind's number, that of its first child and that of its parent.
-fn reparser_of(node: u32, first_child: u32, parent: u32) -> Result<Reparser, Fault>
+pub fn reparser_of(node: u32, first_child: u32, parent: u32) -> Result<Reparser, Fault>
     ensures { MatchResult result (λ part. asked_kind node first_child parent ≡ Some (part_kind part)) (λ fault. (fault ≡ Fault.NoNode) × (asked_kind node first_child parent ≡ None)) }
 {
     let Some(node) = kind_of(node) else {

@@ -1,10 +1,12 @@
 //! From a lexed text to the parser's input, and from the parser's output back to the text.
-ghost use Rattle.std.specs.Prelude.{◌≡◌, ◌+◌, ◌<◌, ◌↔◌, ◌∷◌, [], ◌++◌, length, drop, true, IsTrue, IfOk, OnOk, not, ◌||◌, ◌==◌};
+ghost use Rattle.std.specs.Prelude.{◌≡◌, ◌+◌, ◌<◌, ◌↔◌, ◌∷◌, [], ◌++◌, length, drop, map, true, IsTrue, IfOk, OnOk, not, ◌||◌, ◌==◌};
 ghost use Rattle.rap_base.specs.TokenKind.{IDENT};
 ghost use Rattle.rap_base.specs.TokenTests.{is_trivia};
 ghost use Rattle.rap_base.specs.declared.edition.Edition.{Edition};
-ghost use Rattle.rap_events.specs.Forest.{one_tree, used};
+ghost use Rattle.rap_events.specs.Forest.{flat, one_tree, splits_placed, used};
 ghost use Rattle.rap_events.specs.Cover.{covers};
+ghost use Rattle.rap_events.specs.Reading.{forest_of};
+ghost use Rattle.rap_events.specs.Step.{step_value};
 ghost use Rattle.rap_lexed.specs.Input.{records, records_at, joint_of};
 ghost use Rattle.rap_lexed.specs.LexedStr.{joined, token_at};
 ghost use Rattle.rap_lexed.specs.StrForest.{str_flat, str_joined, str_one_tree};
@@ -16,7 +18,7 @@ use rap_base::edition::Edition;
 use rap_base::no_memory::NoMemory;
 use rap_base::syntax_kind::SyntaxKind;
 use rap_events::input::Input;
-use rap_events::output::Output;
+use rap_events::output::{Output, Step};
 use std::alloc::Global;
 
 mod attached;
@@ -107,6 +109,49 @@ impl LexedStr<'_> {
             builder.step(step, sink)?;
         }
         builder.finish(sink)
+    }
+
+    /// What [`LexedStr::intersperse_trivia`] does with an output, done with the steps of a tree that stand in a slice.
+    ///
+    /// They are the steps of one tree over a prefix of this text's tokens, in which each float that is taken apart stands
+    /// where it must.
+    pub fn intersperse_steps<S: StrSink>(
+        &self,
+        steps: &[Step<'_>],
+        sink: &mut S,
+    ) -> Result<bool, S::Refusal>
+        requires shown { flat (forest_of (map step_value steps.now)) ≡ map step_value steps.now }
+        requires splits { splits_placed (forest_of (map step_value steps.now)) ≡ true }
+        requires tree { one_tree (forest_of (map step_value steps.now)) ≡ true }
+        requires prefix { (edition : Edition) × (covers (records self.now.tokens edition) (forest_of (map step_value steps.now)) ≡ true) }
+        ensures steps { HandsOut S.takes S.refuses sink.old (str_flat (with_trivia self.now.tokens (forest_of (map step_value steps.now)))) result sink.new }
+        ensures answer { IfOk result (λ all. IsTrue all ↔ (used (forest_of (map step_value steps.now)) ≡ significant self.now.tokens)) }
+    {
+        let mut builder = Builder::new(self);
+        for step in steps {
+            builder.step(copied_step(step), sink)?;
+        }
+        builder.finish(sink)
+    }
+}
+
+fn copied_step<'a>(step: &Step<'a>) -> Step<'a>
+    ensures { step_value result ≡ step_value step.now }
+{
+    match step {
+        Step::Token {
+            kind,
+            n_input_tokens,
+        } => Step::Token {
+            kind: *kind,
+            n_input_tokens: *n_input_tokens,
+        },
+        Step::FloatSplit { ends_in_dot } => Step::FloatSplit {
+            ends_in_dot: *ends_in_dot,
+        },
+        Step::Enter { kind } => Step::Enter { kind: *kind },
+        Step::Exit => Step::Exit,
+        Step::Error { msg } => Step::Error { msg },
     }
 }
 

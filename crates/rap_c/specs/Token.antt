@@ -1,0 +1,8 @@
+-- A token of a parser's input.
+-- (What calls promise one another; no promise of the library rests on it.)
+use Rattle.rap_events.specs.Record.{Record}
+use Rattle.rap_c.specs.declared.record.Token.{Token}
+
+-- its record
+abbrev pub record_in : Token → Record
+record_in t = record { kind = t.kind; contextual = t.contextual_kind; edition = t.edition; joint = t.joint }

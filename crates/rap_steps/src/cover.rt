@@ -1,0 +1,132 @@
+//! Whether a tree's leaves stand over an input.
+ghost use Rattle.std.specs.Prelude.{◌≡◌, ◌+◌, ◌≤◌, length, map, drop, true, false, MatchOption, ◌||◌, ◌&&◌, ◌==◌};
+ghost use Rattle.rap_base.specs.Keyword.{is_keyword};
+ghost use Rattle.rap_base.specs.TokenKind.{IDENT};
+ghost use Rattle.rap_base.specs.declared.edition.Edition.TheVariants.{Edition2024};
+ghost use Rattle.rap_events.specs.Composite.{parts};
+ghost use Rattle.rap_events.specs.Cover.{covers, first_may_bear, first_splits, of_tokens, stand, stands, widths};
+ghost use Rattle.rap_events.specs.Forest.{flat, used};
+ghost use Rattle.rap_events.specs.Reading.{forest_of};
+ghost use Rattle.rap_events.specs.Step.{step_value};
+ghost use Rattle.rap_steps.specs.Walk.{step_leaves};
+
+use rap_base::edition::Edition;
+use rap_base::syntax_kind::SyntaxKind;
+use rap_events::input::Input;
+use rap_events::output::Step;
+use rap_events::parser::Parser;
+use std::alloc::Global;
+
+/// How many tokens the leaves of a forest stand for, where they stand at the first tokens of the input. The steps are those
+/// of the forest. Takes no memory.
+pub fn covered(alloc: Global, steps: &[Step<'_>], input: &Input) -> Option<usize>
+    requires { flat (forest_of (map step_value steps.now)) ≡ map step_value steps.now }
+    ensures { MatchOption result (covers input.now (forest_of (map step_value steps.now)) ≡ false) (λ count. (covers input.now (forest_of (map step_value steps.now)) ≡ true) × (count ≡ used (forest_of (map step_value steps.now)))) }
+{
+    let mut place = 0usize;
+    'steps: for step in steps {
+        let width = width_at(alloc, step, input, place)?;
+        place += width;
+    }
+    Some(place)
+}
+
+/// How many tokens the step stands for, where it stands at the place.
+fn width_at(alloc: Global, step: &Step<'_>, input: &Input, place: usize) -> Option<usize>
+    requires { place ≤ length input.now }
+    ensures stands { MatchOption result (stand (step_leaves (step_value step.now)) (drop place input.now) ≡ false) (λ width. (stand (step_leaves (step_value step.now)) (drop place input.now) ≡ true) × (width ≡ widths (step_leaves (step_value step.now)))) }
+    ensures within { MatchOption result (0 ≤ 0) (λ width. place + width ≤ length input.now) }
+{
+    match step {
+        Step::Token {
+            kind,
+            n_input_tokens,
+        } => {
+            if token_stands(alloc, *kind, *n_input_tokens, input, place) {
+                Some(usize::from(*n_input_tokens))
+            } else {
+                None
+            }
+        }
+        Step::FloatSplit { ends_in_dot } => {
+            if float_stands(*ends_in_dot, input, place) {
+                Some(1)
+            } else {
+                None
+            }
+        }
+        Step::Enter { .. } | Step::Exit | Step::Error { .. } => Some(0),
+    }
+}
+
+/// Whether so many tokens stand at the place that make a leaf of this kind.
+fn token_stands(
+    alloc: Global,
+    kind: SyntaxKind,
+    n_input_tokens: u8,
+    input: &Input,
+    place: usize,
+) -> bool
+    ensures { result ≡ stands (of_tokens kind n_input_tokens) (drop place input.now) }
+{
+    if n_input_tokens == 1 {
+        return may_bear(kind, input, place);
+    }
+    if n_input_tokens == 0 || n_input_tokens != operator_len(kind) {
+        return false;
+    }
+    Parser::new(alloc, input).nth_at(place, kind)
+}
+
+/// Whether the token at the place may bear the kind.
+fn may_bear(kind: SyntaxKind, input: &Input, place: usize) -> bool
+    ensures { result ≡ first_may_bear (drop place input.now) kind }
+{
+    if place >= input.len() {
+        return false;
+    }
+    let own = input.kind(place);
+    own == kind
+        || (own == SyntaxKind::IDENT && input.contextual_kind(place) == kind)
+        || (kind == SyntaxKind::IDENT && own.is_keyword(Edition::Edition2024))
+}
+
+/// Whether a float stands at the place that ends in a dot, or does not.
+fn float_stands(ends_in_dot: bool, input: &Input, place: usize) -> bool
+    ensures { result ≡ first_splits (drop place input.now) ends_in_dot }
+{
+    if place >= input.len() || input.kind(place) != SyntaxKind::FLOAT_NUMBER {
+        return false;
+    }
+    input.is_joint(place) != ends_in_dot
+}
+
+/// How many tokens an operator is written with; 0 of any other kind.
+fn operator_len(kind: SyntaxKind) -> u8
+    ensures { result ≡ length (parts kind) }
+{
+    match kind {
+        SyntaxKind::DOT3 | SyntaxKind::DOT2EQ | SyntaxKind::SHLEQ | SyntaxKind::SHREQ => 3,
+        SyntaxKind::DOT2
+        | SyntaxKind::COLON2
+        | SyntaxKind::EQ2
+        | SyntaxKind::FAT_ARROW
+        | SyntaxKind::NEQ
+        | SyntaxKind::THIN_ARROW
+        | SyntaxKind::LTEQ
+        | SyntaxKind::GTEQ
+        | SyntaxKind::PLUSEQ
+        | SyntaxKind::MINUSEQ
+        | SyntaxKind::PIPEEQ
+        | SyntaxKind::AMPEQ
+        | SyntaxKind::CARETEQ
+        | SyntaxKind::SLASHEQ
+        | SyntaxKind::STAREQ
+        | SyntaxKind::PERCENTEQ
+        | SyntaxKind::AMP2
+        | SyntaxKind::PIPE2
+        | SyntaxKind::SHL
+        | SyntaxKind::SHR => 2,
+        _ => 0,
+    }
+}
