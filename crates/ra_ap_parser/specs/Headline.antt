@@ -13,6 +13,7 @@ use Rattle.rap_lexed.specs.Trivia.{significant, with_trivia}
 use Rattle.ra_ap_parser.specs.declared.entry_point.TopEntryPoint.{TopEntryPoint}
 use Rattle.ra_ap_parser.specs.declared.whole_text.TextFault.{TextFault}
 use Rattle.ra_ap_parser.specs.declared.whole_text.TextFault.TheVariants.{TextTooLong, TooManyTokens, NoMemory, Refused}
+use Rattle.rap_base.specs.Limits.{max_tokens}
 
 -- The text's tokens; one tree over all those that are no trivia, in at most 256 steps for each and 256 more; that it is
 -- the entry's, and where the core grammar derives the tokens, their derivation's, without a message; and the same tree
@@ -20,7 +21,7 @@ use Rattle.ra_ap_parser.specs.declared.whole_text.TextFault.TheVariants.{TextToo
 pub record IsParsed (text : List ℕ) (edition : Edition) (entry : TopEntryPoint) (lexed : Lexed) (forest : Forest) : Type 0 where
   pub small : length text ≤ 4294967295
   pub lexing : IsLexing text edition lexed
-  pub few_tokens : length (records lexed.tokens edition) ≤ 8388607
+  pub few_tokens : length (records lexed.tokens edition) ≤ max_tokens
   pub one : one_tree forest ≡ true
   pub covering : covers (records lexed.tokens edition) forest ≡ true
   pub all_used : used forest ≡ length (records lexed.tokens edition)
@@ -30,7 +31,7 @@ pub record IsParsed (text : List ℕ) (edition : Edition) (entry : TopEntryPoint
   pub str_one : str_one_tree (with_trivia lexed.tokens forest) ≡ true
 
 -- The sink has taken the steps of that tree, one after another; its token texts joined are the text, byte for byte;
--- and the answer says so.
+-- and the result says so.
 pub record Headline {S : Type 0} (takes : S → StrStepValue → S → Type 0) (text : List ℕ) (edition : Edition) (entry : TopEntryPoint) (lexed : Lexed) (answer : Bool) (before after : S) : Type 0 where
   pub forest : Forest
   pub parsed : IsParsed text edition entry lexed forest
@@ -50,7 +51,7 @@ pub record HasTooManyTokens (text : List ℕ) (edition : Edition) : Type 0 where
   pub small : length text ≤ 4294967295
   pub lexed : Lexed
   pub lexing : IsLexing text edition lexed
-  pub many : 8388607 < significant lexed.tokens
+  pub many : max_tokens < significant lexed.tokens
 
 -- What a fault leaves the sink at: where it was, unless it has refused a step.
 abbrev pub Leaves : {S R : Type 0} → (S → StrStepValue → S → Type 0) → (S → StrStepValue → R → S → Type 0) → List ℕ → Edition → TopEntryPoint → TextFault R → S → S → Type 0

@@ -22,7 +22,7 @@ pub const MAX_TOKENS: usize = 8_388_607;
 pub enum ParseFault {
     /// The input has more than [`MAX_TOKENS`] tokens.
     TooManyTokens,
-    /// A growth was refused for want of memory.
+    /// Out of memory: a growth was refused.
     NoMemory,
 }
 
@@ -89,18 +89,19 @@ impl TopEntryPoint {
 
     /// Reads the whole input as one tree, whatever its tokens are.
     ///
-    /// The error is `TooManyTokens` exactly for an input of more than [`MAX_TOKENS`] tokens, which is decided
-    /// first, and else `NoMemory` where a growth was refused. The tree is that of the entry's script, and no other. An
-    /// input that the core grammar derives, under `SourceFile` as a file, under `Expr` as an expression and under `Ty` as
-    /// a type, gives its derivation's tree, without a message. So does one that it derives as any number of items, under
+    /// The error is `TooManyTokens` exactly for an input of more than [`MAX_TOKENS`] tokens, which is decided first,
+    /// and else `NoMemory` where a growth was refused. The tree is that of the entry's script, and no other. An input
+    /// that the core grammar derives, under `SourceFile` as a file, under `Expr` as an expression and under `Ty` as a
+    /// type, gives its derivation's tree, without a message. So does one that it derives as any number of items, under
     /// `MacroItems`, where the tree is a `MACRO_ITEMS` of them; and as what stands in the braces of a block, under
-    /// `MacroStmts`, where it is a `MACRO_STMTS` of the statements, and of the value behind them if there is one. A macro
-    /// call, of a name and balanced tokens in braces, gives under `SourceFile` and `MacroItems` the entry's node over one
-    /// `MACRO_CALL`, whose `TOKEN_TREE` nests as the brackets do, without a message. Where an input begins with items of
-    /// the core grammar and with `@`, `,` and integers, in any order, the entry's node begins under these two with the
-    /// tree of each item and an `ERROR` of a message and one leaf for each such token, whatever follows the last one.
-    /// `Pattern`, `Ty`, `Expr` and `MetaItem` give what `PatTop`, `Ty`, `Expr` and `MetaItem` of [`PrefixEntryPoint`] read,
-    /// where that is one tree over the whole input, and else an `ERROR` over it and a leaf for each token that is left.
+    /// `MacroStmts`, where it is a `MACRO_STMTS` of the statements, and of the value behind them if there is one. A
+    /// macro call, of a name and balanced tokens in braces, gives under `SourceFile` and `MacroItems` the entry's node
+    /// over one `MACRO_CALL`, whose `TOKEN_TREE` nests as the brackets do, without a message. Where an input begins
+    /// with items of the core grammar and with `@`, `,` and integers, in any order, the entry's node begins under these
+    /// two with the tree of each item and an `ERROR` of a message and one leaf for each such token, whatever follows
+    /// the last one. `Pattern`, `Ty`, `Expr` and `MetaItem` give what `PatTop`, `Ty`, `Expr` and `MetaItem` of
+    /// [`PrefixEntryPoint`] read, where that is one tree over the whole input, and else an `ERROR` over it and a leaf
+    /// for each token that is left.
     pub fn parse(&self, alloc: Global, input: &Input) -> Result<Output, ParseFault>
         ensures tree { IfOk result (IsTreeOver input.now) }
         ensures script { IfOk result (IsOutputOf self.now input.now) }

@@ -17,7 +17,7 @@ pub enum TextFault<R> {
     TextTooLong,
     /// The text has more than [`MAX_TOKENS`] tokens that are no trivia.
     TooManyTokens,
-    /// A growth was refused for want of memory.
+    /// Out of memory: a growth was refused.
     NoMemory,
     /// The sink refused a step.
     Refused(R),
@@ -60,12 +60,12 @@ fn without_memory<R>(alloc: Global, edition: Edition, text: &str) -> TextFault<R
     }
 }
 
-/// Cuts the text into tokens, parses them from the entry point, and hands the sink the steps of the one tree
+/// Cuts the text into tokens, parses them from the entry point, and passes the sink the steps of the one tree
 /// over all of the text.
 ///
 /// The error is `TextTooLong` exactly for a text of more than [`MAX_TEXT`] bytes, which is decided first, and else
-/// `TooManyTokens` exactly for one of more than [`MAX_TOKENS`] tokens that are no trivia, wanting memory or not. Then it
-/// is `NoMemory` where a growth was refused, and `Refused` where the sink refused a step.
+/// `TooManyTokens` exactly for one of more than [`MAX_TOKENS`] tokens that are no trivia, wanting memory or not. Then
+/// it is `NoMemory` where a growth was refused, and `Refused` where the sink refused a step.
 pub fn parse_text<'t, S: StrSink>(
     alloc: Global,
     edition: Edition,

@@ -1,3 +1,4 @@
+pub mod Bits
 pub mod KeywordLemmas
 pub mod Named
 pub mod TokenSets

@@ -1,6 +1,8 @@
+pub mod Bits
 pub mod Char
 pub mod Edition
 pub mod Keyword
+pub mod Limits
 pub mod Names
 pub mod NodeKind
 pub mod Numbered

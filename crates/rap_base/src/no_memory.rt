@@ -1,11 +1,11 @@
-//! Want of memory.
+//! Out of memory.
 ghost use Rattle.std.specs.Prelude.{Some, codes};
 
 use std::alloc::{AllocError, AllocFailed};
 use std::error::Error;
 use std::fmt;
 
-/// A growth was refused for want of memory.
+/// Out of memory: a growth was refused.
 #[derive(Clone, Copy, PartialEq, Eq, Debug)]
 pub struct NoMemory;
 

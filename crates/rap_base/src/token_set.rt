@@ -6,20 +6,18 @@ ghost use Rattle.rap_base.specs.TokenTests.{is_token};
 
 use crate::syntax_kind::SyntaxKind;
 
-/// How many kinds of tokens there are.
-const KINDS: usize = 157;
+/// How many words have a bit for each kind of token, which are 157.
+const WORDS: usize = 3;
 
-/// A set of token kinds, as a table that says of each kind whether it is in the set.
+/// A set of token kinds, as bits: the kind with the number n is bit n mod 64 of word n div 64.
 #[derive(Clone, Copy)]
 pub struct TokenSet {
-    has: [bool; KINDS],
+    words: [u64; WORDS],
 }
 
 impl TokenSet {
     /// The set without kinds.
-    pub const EMPTY: TokenSet = TokenSet {
-        has: [false; KINDS],
-    };
+    pub const EMPTY: TokenSet = TokenSet { words: [0; WORDS] };
 
     /// The law of the set without kinds: no kind is in it. It does nothing.
     pub fn empty_has_no_kind()
@@ -33,29 +31,49 @@ impl TokenSet {
     {
         let mut set = TokenSet::EMPTY;
         'kinds: for kind in kinds {
-            set.has[u16::from(*kind) as usize] = true;
+            let number = u16::from(*kind) as usize;
+            set.words[number / 64] |= 1 << (number % 64);
         }
         set
     }
 
     /// The set of the kinds that are in either set.
-    #[tactic(auto, unfolding(crate::specs::TokenSet::member))]
     pub fn union(self, other: TokenSet) -> TokenSet
         ensures { (kind : ℕ) → member result kind ≡ (member self kind || member other kind) }
     {
-        let mut has = self.has;
-        'all: for i in 0..KINDS {
-            has[i] |= other.has[i];
+        TokenSet {
+            words: [
+                self.words[0] | other.words[0],
+                self.words[1] | other.words[1],
+                self.words[2] | other.words[2],
+            ],
         }
-        TokenSet { has }
     }
 
     /// Whether the set has `kind`, which is a kind of tokens.
-    #[tactic(auto, unfolding(crate::specs::TokenSet::member))]
     pub fn contains(&self, kind: SyntaxKind) -> bool
         requires { IsTrue (is_token kind) }
         ensures { result ≡ member self.now kind }
     {
-        self.has[u16::from(kind) as usize]
+        let number = u16::from(kind) as usize;
+        (self.words[number / 64] >> (number % 64)) & 1 == 1
+    }
+}
+
+#[cfg(test)]
+mod tests {
+    use super::TokenSet;
+    use crate::syntax_kind::SyntaxKind;
+
+    #[test]
+    fn keeps_a_bit_for_each_kind(rt: HostRuntime) {
+        let ends = TokenSet::new(&[SyntaxKind::EOF, SyntaxKind::SHEBANG]);
+        assert_eq!(rt; ends.words[0], 1);
+        assert_eq!(rt; ends.words[1], 0);
+        assert!(rt; ends.contains(SyntaxKind::EOF) && ends.contains(SyntaxKind::SHEBANG));
+        assert!(rt; !ends.contains(SyntaxKind::PLUS));
+        let numbers = TokenSet::new(&[SyntaxKind::INT_NUMBER]);
+        assert_eq!(rt; numbers.words[2], 1 << 13);
+        assert_eq!(rt; numbers.words[0] | numbers.words[1], 0);
     }
 }

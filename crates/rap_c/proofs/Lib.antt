@@ -3,5 +3,4 @@ pub mod GivenBy
 pub mod NoKind
 pub mod Put
 pub mod Settled
-pub mod Used
 pub mod Written

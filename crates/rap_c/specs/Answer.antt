@@ -17,6 +17,6 @@ number_of NoBrace = 9
 number_of NoRecord = 10
 number_of NoSteps = 11
 
--- a fault's answer
+-- the result at a fault
 abbrev pub refusal : Fault → RapAnswer
 refusal fault = record { status = number_of fault; steps = 0; message_bytes = 0; used = 0 }

@@ -7,8 +7,8 @@ use Rattle.rap_c.specs.declared.answer.Fault.{Fault}
 use Rattle.rap_c.specs.declared.answer.RapAnswer.{RapAnswer}
 use Rattle.rap_c.specs.declared.step.RapStep.{RapStep}
 
--- The first steps of the room are those of the items, as far as it reaches, and the first bytes those of their messages;
--- what lies behind them stays. The answer says how many there are of each.
+-- The first steps of the room are those of the items, as far as it reaches, and the first bytes those of their
+-- messages; what lies behind them stays. The result says how many there are of each.
 pub record IsGiven (items : List Item) (steps steps_after : List RapStep) (messages messages_after : List ℕ) (answer : RapAnswer) : Type 0 where
   pub steps_are : steps_after ≡ overwritten steps (rows 0 0 items)
   pub messages_are : messages_after ≡ overwritten messages (all_said items)
@@ -20,7 +20,7 @@ pub record IsUntouched (steps steps_after : List RapStep) (messages messages_aft
   pub steps_are : steps_after ≡ steps
   pub messages_are : messages_after ≡ messages
 
--- the answer is that of a fault, which comes
+-- the result is that of a fault, which comes
 pub record IsRefusal (Comes : Fault → Type 0) (answer : RapAnswer) : Type 0 where
   pub fault : Fault
   pub comes : Comes fault

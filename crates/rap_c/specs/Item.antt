@@ -16,7 +16,7 @@ pub data Item : Type 0 where
   message : List ℕ → ℕ → Item
   remark : List ℕ → Item
 
--- how far an item goes on
+-- how many bytes or tokens an item takes
 abbrev pub width_of : Item → ℕ
 width_of (enter kind) = 0
 width_of exit = 0
@@ -34,7 +34,7 @@ said_by (split ends_in_dot) = []
 said_by (message bytes at) = bytes
 said_by (remark bytes) = bytes
 
--- a number, as far as 64 bits count
+-- a number, or 2^64 - 1 where it is larger
 abbrev pub counted : ℕ → ℕ
 counted n = min n (2 ^ 64 - 1)
 

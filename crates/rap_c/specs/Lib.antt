@@ -14,5 +14,8 @@ pub mod Shown
 pub mod Token
 pub mod Tokens
 pub mod Tree
+<<<<<<< HEAD
 pub mod Used
 pub mod Woven
+=======
+>>>>>>> f02916d435961022e2d0f077c715717d9b148f50

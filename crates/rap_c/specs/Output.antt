@@ -6,7 +6,7 @@ use Rattle.rap_lexed.specs.StrForest.{str_flat}
 use Rattle.rap_lexed.specs.Trivia.{with_trivia}
 use Rattle.rap_c.specs.Given.{IsGiven}
 use Rattle.rap_c.specs.Item.{Item, text_items, output_items}
-use Rattle.rap_c.specs.Used.{end_after}
+use Rattle.rap_lexed.specs.Used.{end_after}
 use Rattle.rap_c.specs.declared.answer.RapAnswer.{RapAnswer}
 use Rattle.rap_c.specs.declared.step.RapStep.{RapStep}
 

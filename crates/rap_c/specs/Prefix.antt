@@ -13,12 +13,13 @@ use Rattle.rap_c.specs.declared.answer.Fault.{Fault}
 use Rattle.rap_c.specs.declared.answer.Fault.TheVariants.{NoEdition, NoEntry, NotUtf8, TextTooLong, TooManyTokens, NoMemory, NoNode, NoBrace, NoRecord, NoSteps}
 use Rattle.rap_c.specs.declared.answer.RapAnswer.{RapAnswer}
 use Rattle.rap_c.specs.declared.step.RapStep.{RapStep}
+use Rattle.rap_base.specs.Limits.{max_tokens}
 
 -- The text's tokens, few enough for the parser.
 pub record IsRead (text : List ℕ) (edition : Edition) (lexed : Lexed) : Type 0 where
   pub small : length text ≤ 4294967295
   pub lexing : IsLexing text edition lexed
-  pub few : length (records lexed.tokens edition) ≤ 8388607
+  pub few : length (records lexed.tokens edition) ≤ max_tokens
 
 -- What the entry makes of the front of the text is given.
 pub record IsFilledPrefix (text : List ℕ) (edition : Edition) (entry : PrefixEntryPoint) (steps steps_after : List RapStep) (messages messages_after : List ℕ) (answer : RapAnswer) : Type 0 where

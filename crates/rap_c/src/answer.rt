@@ -1,8 +1,8 @@
-//! What a call answers.
+//! What a call returns.
 ghost use Rattle.std.specs.Prelude.{◌≡◌, MatchResult};
 ghost use Rattle.rap_c.specs.Answer.{number_of, refusal};
 
-/// Why nothing is handed out.
+/// Why a call fails.
 #[derive(Clone, Copy, Debug, PartialEq, Eq)]
 pub enum Fault {
     /// The number is no edition's year.
@@ -15,7 +15,7 @@ pub enum Fault {
     TextTooLong,
     /// The text has more tokens than the parser takes.
     TooManyTokens,
-    /// A growth was refused for want of memory.
+    /// Out of memory: a growth was refused.
     NoMemory,
     /// A node of this kind, with this first child and in this parent, is not parsed again alone.
     NoNode,
@@ -53,8 +53,8 @@ pub const OK: u32 = 0;
 /// The steps make no tree.
 pub const NO_TREE: u32 = 1;
 
-/// What a call answers: its status, how many steps and how many bytes of messages there are, and how many bytes of the text
-/// they are about.
+/// What a call returns: its status, how many steps and how many bytes of messages there are, and how many bytes of the
+/// text they are about.
 ///
 /// Where the status is a fault's, the other numbers are 0.
 #[repr(C)]
@@ -66,7 +66,7 @@ pub struct RapAnswer {
     pub used: usize,
 }
 
-/// The answer of a call that may have met a fault.
+/// The result of a call that may have met a fault.
 pub fn settle(outcome: Result<RapAnswer, Fault>) -> RapAnswer
     ensures { MatchResult outcome (λ answer. result ≡ answer) (λ fault. result ≡ refusal fault) }
 {

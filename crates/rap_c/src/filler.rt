@@ -12,7 +12,7 @@ use ra_ap_parser::{LexedStr, Output, Step, StrSink, StrStep, SyntaxKind};
 use std::convert::Infallible;
 
 /// The caller's room for steps and for the bytes of messages, how many of each there have been, and the place that the
-/// steps have come to. Numbers are counted as far as 64 bits count.
+/// steps have come to. Numbers saturate at 2^64 - 1.
 #[derive(Drop)]
 pub struct Filler<'a> {
     pub steps: &'a mut [RapStep],

@@ -16,8 +16,8 @@ fn name_bytes(kind: u32) -> &'static [u8]
     }
 }
 
-/// Writes the name of the kind into the slice, as far as it reaches, and answers how many bytes the name has. It has none
-/// where the number is no kind's.
+/// Writes the name of the kind into the slice, as far as it reaches, and returns how many bytes the name has. It has
+/// none where the number is no kind's.
 #[unsafe(no_mangle)]
 pub extern "C" fn rap_kind_name(kind: u32, name: &mut [u8]) -> usize
     ensures count { result ≡ length (name_of kind) }

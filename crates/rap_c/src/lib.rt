@@ -1,7 +1,7 @@
 //! The parser for C, and for whatever calls C: functions on numbers, slices and plain structs.
 //!
-//! `include/rap.h` declares them, with their units and their statuses. Each call is given a text and the caller's room for
-//! steps and for the bytes of messages. It fills the room as far as it reaches, and answers how much there is.
+//! `include/rap.h` declares them, with their units and their statuses. Each call is given a text and the caller's room
+//! for steps and for the bytes of messages. It fills the room as far as it reaches, and returns how much there is.
 #![tactic(auto)]
 
 mod answer;

@@ -6,17 +6,19 @@ ghost use Rattle.rap_lexed.specs.Input.{records};
 ghost use Rattle.rap_c.specs.Output.{IsOutput};
 ghost use Rattle.rap_c.specs.Prefix.{ComesOfFront, ComesOfPrefix, IsFilledPrefix, IsPrefix};
 ghost use Rattle.rap_c.specs.Given.{IsRefusal, IsUntouched};
+ghost use Rattle.rap_base.specs.Limits.{max_tokens};
 
 use crate::answer::{Fault, NO_TREE, OK, RapAnswer, settle};
 use crate::filler::Filler;
 use crate::numbers::{edition_of, prefix_entry_of};
-use crate::reading::{read, text_of, used_bytes};
+use crate::reading::{read, text_of};
 use crate::step::RapStep;
 use ra_ap_parser::{Edition, LexedStr, Output, ParseFault, PrefixEntryPoint, is_one_tree};
+use rap_lexed::used::used_bytes;
 use std::alloc::Global;
 
-/// Fills the room with the steps of the tree that the output is, trivia put back, or with the output's own steps where it
-/// is no tree.
+/// Fills the room with the steps of the tree that the output is, trivia put back, or with the output's own steps where
+/// it is no tree.
 pub fn fill_output(
     lexed: &LexedStr<'_>,
     output: &Output,
@@ -24,7 +26,7 @@ pub fn fill_output(
     messages: &mut [u8],
 ) -> RapAnswer
     requires prefix { (edition : Edition) × (covers (records lexed.now.tokens edition) output.now ≡ true) }
-    requires few { used output.now ≤ 8388607 }
+    requires few { used output.now ≤ max_tokens }
     ensures { IsOutput lexed.now.tokens output.now steps.old steps.new messages.old messages.new result }
 {
     let used = used_bytes(lexed, output);
@@ -80,9 +82,10 @@ fn prefix(
     fill_prefix(alloc, edition, entry, text, steps, messages)
 }
 
-/// Reads what the prefix entry with the number names from the front of the text, and fills the slices with the steps of its
-/// tree, trivia put back, and with the bytes of its messages. Where it is not one tree the status is 1, and the steps are
-/// those of the output, which count tokens. The answer says how many of each there are, and where what was read ends.
+/// Reads what the prefix entry with the number names from the front of the text, and fills the slices with the steps of
+/// its tree, trivia put back, and with the bytes of its messages. Where it is not one tree the status is 1, and the
+/// steps are those of the output, which count tokens. The result says how many of each there are, and where what was
+/// read ends.
 #[unsafe(no_mangle)]
 pub extern "C" fn rap_prefix(
     alloc: Global,

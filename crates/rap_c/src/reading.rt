@@ -1,13 +1,11 @@
 //! A text as the parser reads it.
 ghost use Rattle.std.specs.Prelude.{◌≡◌, ◌≤◌, ◌<◌, ◌⊎◌, ◌+◌, IfErr, IfOk, IsUtf8, MatchResult, length};
-ghost use Rattle.rap_events.specs.Forest.{used};
 ghost use Rattle.rap_lexed.specs.Input.{records};
 ghost use Rattle.rap_lexed.specs.LexedStr.{IsLexing};
 ghost use Rattle.rap_lexed.specs.Trivia.{significant};
-ghost use Rattle.rap_c.specs.Used.{end_after};
 
 use crate::answer::Fault;
-use ra_ap_parser::{Edition, Input, LexFault, LexedStr, Output, Step};
+use ra_ap_parser::{Edition, Input, LexFault, LexedStr};
 use std::alloc::Global;
 use std::str;
 
@@ -53,6 +51,7 @@ pub fn read(alloc: Global, edition: Edition, text: &str) -> Result<Reading<'_>, 
     };
     Ok(Reading { lexed, input })
 }
+<<<<<<< HEAD
 
 /// How many tokens an output took.
 #[tactic(auto, using(crate::proofs::Used::tokens_in_flat))]
@@ -94,3 +93,5 @@ pub fn used_bytes(lexed: &LexedStr<'_>, output: &Output) -> usize
 {
     end_after(lexed, used_tokens(output))
 }
+=======
+>>>>>>> f02916d435961022e2d0f077c715717d9b148f50

@@ -47,8 +47,8 @@ fn tokens(
     fill_tokens(alloc, edition, text, steps, messages)
 }
 
-/// Cuts the text into tokens, and fills the slices with a step for each, behind which the lexer's messages stand, and with
-/// the bytes of the messages. The answer says how many of each there are.
+/// Cuts the text into tokens, and fills the slices with a step for each, behind which the lexer's messages stand, and
+/// with the bytes of the messages. The result says how many of each there are.
 #[unsafe(no_mangle)]
 pub extern "C" fn rap_tokens(
     alloc: Global,

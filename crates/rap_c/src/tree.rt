@@ -56,8 +56,8 @@ fn tree(
     fill_tree(alloc, edition, entry, text, steps, messages)
 }
 
-/// Parses the text from the top entry with the number, and fills the slices with the steps of its tree, behind which the
-/// lexer's messages stand, and with the bytes of all messages. The answer says how many of each there are.
+/// Parses the text from the top entry with the number, and fills the slices with the steps of its tree, behind which
+/// the lexer's messages stand, and with the bytes of all messages. The result says how many of each there are.
 #[unsafe(no_mangle)]
 pub extern "C" fn rap_tree(
     alloc: Global,

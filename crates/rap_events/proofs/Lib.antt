@@ -1,5 +1,6 @@
 pub mod Backing
 pub mod Calls
+pub mod Columns
 pub mod Composites
 pub mod Ends
 pub mod Finished

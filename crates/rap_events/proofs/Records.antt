@@ -1,51 +1,37 @@
--- The records of an input's tokens.
+-- Lists of records.
 use Rattle.std.proofs.Common.{◌≡◌, ◌≢◌, ℕ, suc, zero, ◌+◌, ◌<◌, ◌≤◌, List, [], ◌∷◌, length, get_or, map, set, true, false, refl, sym, ap, arith, drop, All}
 use Rattle.rap_base.specs.TokenKind.{EOF, IDENT}
 use Rattle.rap_base.specs.TokenTests.{is_token}
 use Rattle.rap_base.specs.declared.edition.Edition.TheVariants.{Edition2024}
 use Rattle.rap_events.specs.Record.{Record, next_kind, kind_at, contextual_at, edition_at, joint_at, with_last_joint, IsTokenRecord}
-use Rattle.rap_events.specs.Input.{record_of}
-use Rattle.rap_events.specs.declared.input.InputToken.{InputToken}
 
--- what the list of records says of the token at a place
-pub record IsAt (ts : List InputToken) (i : ℕ) (t : InputToken) : Type 0 where
-  pub kind : kind_at (map record_of ts) i ≡ t.kind
-  pub contextual : contextual_at (map record_of ts) i ≡ t.contextual_kind
-  pub edition : edition_at (map record_of ts) i ≡ t.edition
-  pub joint : joint_at (map record_of ts) i ≡ t.joint
+-- what a list of records says of a place that has this one
+pub record IsAt (rs : List Record) (i : ℕ) (r : Record) : Type 0 where
+  pub kind : kind_at rs i ≡ r.kind
+  pub contextual : contextual_at rs i ≡ r.contextual
+  pub edition : edition_at rs i ≡ r.edition
+  pub joint : joint_at rs i ≡ r.joint
 
-is_at-get_or : (ts : List InputToken) (i : ℕ) (d : InputToken) → i < length ts → IsAt ts i (get_or ts i d)
+pub is_at-get_or : (rs : List Record) (i : ℕ) (d : Record) → i < length rs → IsAt rs i (get_or rs i d)
 is_at-get_or [] i d h = absurd (omega arith)
-is_at-get_or (t ∷ ts) zero d h = record { kind = refl; contextual = refl; edition = refl; joint = refl }
-is_at-get_or (t ∷ ts) (suc i) d h =
-    let rest : IsAt ts i (get_or ts i d) = is_at-get_or ts i d (omega arith) in
+is_at-get_or (r ∷ rs) zero d h = record { kind = refl; contextual = refl; edition = refl; joint = refl }
+is_at-get_or (r ∷ rs) (suc i) d h =
+    let rest : IsAt rs i (get_or rs i d) = is_at-get_or rs i d (omega arith) in
     record { kind = rest.kind; contextual = rest.contextual; edition = rest.edition; joint = rest.joint }
 
-pub is_at : (ts : List InputToken) (i : ℕ) (t : InputToken) → i < length ts → t ≡ get_or ts i t → IsAt ts i t
-is_at ts i t h e = rw e (is_at-get_or ts i t h)
+-- what it says past the last record
+pub record IsPast (rs : List Record) (i : ℕ) : Type 0 where
+  pub kind : kind_at rs i ≡ EOF
+  pub contextual : contextual_at rs i ≡ EOF
+  pub edition : edition_at rs i ≡ Edition2024
+  pub joint : joint_at rs i ≡ false
 
--- what it says past the last token
-pub record IsPast (ts : List InputToken) (i : ℕ) : Type 0 where
-  pub kind : kind_at (map record_of ts) i ≡ EOF
-  pub contextual : contextual_at (map record_of ts) i ≡ EOF
-  pub edition : edition_at (map record_of ts) i ≡ Edition2024
-  pub joint : joint_at (map record_of ts) i ≡ false
-
-pub is_past : (ts : List InputToken) (i : ℕ) → length ts ≤ i → IsPast ts i
+pub is_past : (rs : List Record) (i : ℕ) → length rs ≤ i → IsPast rs i
 is_past [] i h = record { kind = refl; contextual = refl; edition = refl; joint = refl }
-is_past (t ∷ ts) zero h = absurd (omega arith)
-is_past (t ∷ ts) (suc i) h =
-    let rest : IsPast ts i = is_past ts i (omega arith) in
+is_past (r ∷ rs) zero h = absurd (omega arith)
+is_past (r ∷ rs) (suc i) h =
+    let rest : IsPast rs i = is_past rs i (omega arith) in
     record { kind = rest.kind; contextual = rest.contextual; edition = rest.edition; joint = rest.joint }
-
--- the last token is made to touch the next one
-pub with_last_joint-set : (ts : List InputToken) (i : ℕ) (t : InputToken) → length ts ≡ i + 1 → t ≡ get_or ts i t →
-    map record_of (set ts i (record t { joint = true })) ≡ with_last_joint (map record_of ts)
-with_last_joint-set [] i t h e = absurd (omega arith)
-with_last_joint-set (u ∷ []) zero t h e = ap (λ (x : InputToken). record_of (record x { joint = true }) ∷ []) e
-with_last_joint-set (u ∷ []) (suc i) t h e = absurd (omega arith)
-with_last_joint-set (u ∷ v ∷ ts) zero t h e = absurd (omega arith)
-with_last_joint-set (u ∷ v ∷ ts) (suc i) t h e = ap (λ (rs : List Record). record_of u ∷ rs) (with_last_joint-set (v ∷ ts) i t (omega arith) e)
 
 pub All-with_last_joint : (rs : List Record) → All IsTokenRecord rs → All IsTokenRecord (with_last_joint rs)
 All-with_last_joint [] h k d lt = h k d lt

@@ -1,4 +1,4 @@
--- A step that is handed out.
+-- A step of an output, as callers see it.
 use Rattle.rap_events.specs.StepValue.{StepValue, enter, exit, token, float_split, error}
 use Rattle.rap_events.specs.declared.output.Step.{Step}
 use Rattle.rap_events.specs.declared.output.Step.TheVariants as step

@@ -9,44 +9,40 @@ use rap_base::syntax_kind::SyntaxKind;
 use std::alloc::Global;
 use std::marker::Model;
 
-/// A token: its kind, what an identifier may be read as instead, its edition, and whether it touches the next one.
-#[derive(Clone, Copy)]
-struct InputToken {
-    kind: SyntaxKind,
-    contextual_kind: SyntaxKind,
-    edition: Edition,
-    joint: bool,
-}
+mod columns;
+
+use columns::Columns;
 
 /// The tokens that a parser reads, without trivia. Contracts see the list of their records.
 #[derive(Drop)]
 pub struct Input {
-    tokens: Vec<InputToken>,
+    len: usize,
+    columns: Columns,
 }
 
 impl Model for Input {
-    ghost use Rattle.std.specs.Prelude.{List, map, All};
+    ghost use Rattle.std.specs.Prelude.{List, All};
     ghost use Rattle.rap_events.specs.Record.{Record, IsTokenRecord};
 
     ghost Value = { List Record };
 
-    ghost use Rattle.rap_events.specs.Input.{record_of};
+    ghost use Rattle.rap_events.specs.Input.{records, Holds};
 
-    ghost view = { λ input. map record_of input.tokens.items };
+    ghost view = { λ input. records input.columns input.len };
 
-    ghost invariant = { λ input. All IsTokenRecord (map record_of input.tokens.items) };
+    ghost invariant = { λ input. Holds input.columns input.len × All IsTokenRecord (records input.columns input.len) };
 }
 
 impl Input {
     ghost use Rattle.rap_events.specs.Record.{kind_at, contextual_at, edition_at, joint_at, with_last_joint, IsTokenRecord};
 
     /// No tokens yet, with room for `capacity` of them if memory allows. A capacity that no list can have counts as
-    /// want of memory.
+    /// out of memory.
     pub fn with_capacity(alloc: Global, capacity: usize) -> Result<Input, NoMemory>
         ensures { IfOk result (λ input. input ≡ []) }
     {
-        let tokens = Vec::with_capacity(alloc, capacity)?;
-        Ok(Input { tokens })
+        let columns = Columns::with_capacity(alloc, capacity)?;
+        Ok(Input { len: 0, columns })
     }
 
     /// Appends a token that is read as nothing else, and that does not touch the next one.
@@ -59,8 +55,8 @@ impl Input {
         self.push_joint(kind, edition, false)
     }
 
-    /// The same, of a token that touches the next one or not. It saves [`Input::was_joint`] a branch that processors often
-    /// guess wrong.
+    /// The same, of a token that touches the next one or not. It saves [`Input::was_joint`] a branch that processors
+    /// often guess wrong.
     pub fn push_joint(
         &mut self,
         kind: SyntaxKind,
@@ -72,12 +68,10 @@ impl Input {
         ensures ok { OnOk result (self.new ≡ self.old ++ record { kind = kind; contextual = EOF; edition = edition; joint = joint } ∷ []) }
         ensures err { OnErr result (self.new ≡ self.old) }
     {
-        self.tokens.push(InputToken {
-            kind,
-            contextual_kind: SyntaxKind::EOF,
-            edition,
-            joint,
-        })?;
+        self.columns.make_room(self.len)?;
+        self.columns
+            .write(self.len, kind, SyntaxKind::EOF, edition, joint);
+        self.len += 1;
         Ok(())
     }
 
@@ -91,12 +85,15 @@ impl Input {
         ensures ok { OnOk result (self.new ≡ self.old ++ record { kind = IDENT; contextual = contextual_kind; edition = edition; joint = false } ∷ []) }
         ensures err { OnErr result (self.new ≡ self.old) }
     {
-        self.tokens.push(InputToken {
-            kind: SyntaxKind::IDENT,
+        self.columns.make_room(self.len)?;
+        self.columns.write(
+            self.len,
+            SyntaxKind::IDENT,
             contextual_kind,
             edition,
-            joint: false,
-        })?;
+            false,
+        );
+        self.len += 1;
         Ok(())
     }
 
@@ -105,8 +102,7 @@ impl Input {
         requires { 0 < length self.old }
         ensures { self.new ≡ with_last_joint self.old }
     {
-        let last = self.tokens.len() - 1;
-        self.tokens[last].joint = true;
+        self.columns.set_joint(self.len - 1);
     }
 
     /// How many tokens there are.
@@ -114,22 +110,22 @@ impl Input {
         ensures len { result ≡ length self.now }
         ensures tokens { All IsTokenRecord self.now }
     {
-        self.tokens.len()
+        self.len
     }
 
     /// Whether there is no token.
     pub fn is_empty(&self) -> bool
         ensures { IsTrue result ↔ (self.now ≡ []) }
     {
-        self.tokens.is_empty()
+        self.len == 0
     }
 
     /// The kind of the token at a place, or `EOF` past the last one.
     pub fn kind(&self, index: usize) -> SyntaxKind
         ensures { result ≡ kind_at self.now index }
     {
-        if index < self.tokens.len() {
-            self.tokens[index].kind
+        if index < self.len {
+            self.columns.kinds[index]
         } else {
             SyntaxKind::EOF
         }
@@ -140,8 +136,8 @@ impl Input {
         ensures contextual { result ≡ contextual_at self.now index }
         ensures identifier { result ≢ EOF → kind_at self.now index ≡ IDENT }
     {
-        if index < self.tokens.len() {
-            self.tokens[index].contextual_kind
+        if index < self.len {
+            self.columns.contextual_kinds[index]
         } else {
             SyntaxKind::EOF
         }
@@ -151,8 +147,8 @@ impl Input {
     pub fn edition(&self, index: usize) -> Edition
         ensures { result ≡ edition_at self.now index }
     {
-        if index < self.tokens.len() {
-            self.tokens[index].edition
+        if index < self.len {
+            self.columns.editions[index]
         } else {
             Edition::Edition2024
         }
@@ -162,6 +158,6 @@ impl Input {
     pub fn is_joint(&self, index: usize) -> bool
         ensures { result ≡ joint_at self.now index }
     {
-        index < self.tokens.len() && self.tokens[index].joint
+        index < self.len && self.columns.is_joint(index)
     }
 }

@@ -110,7 +110,7 @@ impl Output {
 
 /// The output's forest as the children of one node.
 ///
-/// The error is want of memory.
+/// The error means out of memory.
 pub fn wrap_in_node(alloc: Global, output: Output, kind: SyntaxKind) -> Result<Output, NoMemory>
     ensures { IfOk result (λ wrapped. wrapped ≡ node none kind output) }
 {
@@ -223,7 +223,7 @@ impl<'a> ExactSizeIterator for Steps<'a> {
     }
 }
 
-// The first message of the list, or nothing where there is none, and the later ones.
+// The first message of the list, or an empty one if there is none, and the later ones.
 fn next_message(messages: &[String]) -> (&str, &[String])
     ensures { (es : List Event) → values (event.Error ∷ es) messages.now ≡ error result.0.now ∷ values es result.1.now }
 {

@@ -28,7 +28,7 @@ use composite::{at_place, width_of};
 
 /// Reads an input from its beginning and records what it is made of.
 ///
-/// After want of memory a parser is of no use any more: what it recorded is not promised.
+/// Once a call was out of memory a parser is of no more use: what it recorded is not promised.
 #[derive(Drop)]
 pub struct Parser<'t> {
     alloc: Global,
@@ -48,13 +48,13 @@ pub struct Parser<'t> {
     ghost fit: { (run initial (history events.items (map string_bytes messages.items))).messages ≡ 0 → ∥ AllFit (run initial (history events.items (map string_bytes messages.items))) ∥₁ },
 }
 
-/// A node that was started and not finished: the number of the call that started it, which only the contracts tell.
+/// A node that was started and not finished: the number of the call that started it, which only the contracts know.
 #[derive(Drop)]
 pub struct Marker {
     pos: Snapshot<usize>,
 }
 
-/// A node that was finished: how many calls there were then, and its kind, which only the contracts tell.
+/// A node that was finished: how many calls there were then, and its kind, which only the contracts know.
 #[derive(Drop)]
 pub struct CompletedMarker {
     end: Snapshot<usize>,
@@ -187,7 +187,7 @@ impl<'t> Parser<'t> {
         SyntaxKind::EOF
     }
 
-    /// Takes a token of this kind if one comes next, and answers whether it did.
+    /// Takes a token of this kind if one comes next, and returns whether it did.
     pub fn eat(&mut self, kind: SyntaxKind) -> Result<bool, NoMemory>
         requires { kind ≢ EOF }
         ensures state { IfOk result (λ taken. Ate (state self.old) (state self.new) kind taken) }
@@ -201,7 +201,7 @@ impl<'t> Parser<'t> {
         }
     }
 
-    /// Takes the next token as this keyword if it is an identifier that may be read so, and answers whether it did.
+    /// Takes the next token as this keyword if it is an identifier that may be read so, and returns whether it did.
     pub fn eat_contextual_kw(&mut self, kw: SyntaxKind) -> Result<bool, NoMemory>
         requires { kw ≢ EOF }
         ensures state { IfOk result (λ taken. AteAs (state self.old) (state self.new) kw taken) }
@@ -238,8 +238,8 @@ impl<'t> Parser<'t> {
         Ok(())
     }
 
-    /// Takes the next token under another kind that it may bear: an identifier as a contextual keyword, or a keyword
-    /// as an identifier.
+    /// Takes the next token under another kind that it may be read as: an identifier as a contextual keyword, or a
+    /// keyword as an identifier.
     pub fn bump_remap(&mut self, kind: SyntaxKind) -> Result<(), NoMemory>
         requires { ReadsAs (state self.old) kind }
         ensures state { OnOk result (Bumped (state self.old) (state self.new) kind 1) }
@@ -259,7 +259,7 @@ impl<'t> Parser<'t> {
         Ok(())
     }
 
-    /// Takes a token of this kind if one comes next, and else reports that it is missing. Answers whether it took one.
+    /// Takes a token of this kind if one comes next, and else reports that it is missing. Returns whether it took one.
     #[inline(never)]
     pub fn expect(&mut self, kind: SyntaxKind) -> Result<bool, NoMemory>
         requires { kind ≢ EOF }
@@ -314,7 +314,7 @@ impl<'t> Parser<'t> {
     }
 
     /// Reports a message and takes the next token into an `ERROR`, unless that is a brace or a kind of the set: then
-    /// the message is all. Answers whether the token was kept.
+    /// the message is all. Returns whether the token was kept.
     #[inline(never)]
     pub fn err_recover(&mut self, message: &str, recovery: TokenSet) -> Result<bool, NoMemory>
         ensures state { IfOk result (λ kept. Recovered (state self.old) (state self.new) message.now recovery kept) }
@@ -338,7 +338,7 @@ impl<'t> Parser<'t> {
     /// Takes the next token, a float, apart: it is what follows the dot of a field access, which has the newest marker.
     ///
     /// It ends that access, and where it does not end in a dot, another one around it: `x.0.1` is a field of a field.
-    /// Answers whether it ends in a dot, with the field access that was finished last.
+    /// Returns whether it ends in a dot, with the field access that was finished last.
     pub fn split_float(&mut self, marker: Marker) -> Result<(bool, CompletedMarker), NoMemory>
         requires newest { (state self.old).marker ≡ Some marker.pos.value }
         requires float { next (state self.old) ≡ FLOAT_NUMBER }

@@ -9,12 +9,12 @@ abbrev pub IsShownAtBorders : List ℕ → ScriptFault → Type 0
 IsShownAtBorders text (Refused e) = LiesAtBorders text e
 IsShownAtBorders text NoMemory = ⊤
 
--- It says why the text is refused, or that memory is wanted to report why it is.
+-- The value says why the text is refused, or that there is no memory to report why.
 abbrev pub IsFault : List ℕ → ScriptFault → Type 0
 IsFault text (Refused e) = IsRefused text e
 IsFault text NoMemory = (e : Refusal) × IsRefused text e
 
--- what is said of a fault
+-- the message of a fault
 abbrev pub script_fault_text : ScriptFault → List ℕ
 script_fault_text (Refused e) = e.message
 script_fault_text NoMemory = codes "no memory"

@@ -6,26 +6,22 @@ ghost use Rattle.rap_events.specs.Forest.{Forest, node, none, flat, message_coun
 ghost use Rattle.rap_events.specs.Machine.{floor, push};
 ghost use Rattle.rap_events.specs.State.{state};
 ghost use Rattle.rap_base.specs.TokenKind.{ERROR};
-ghost use Rattle.rap_grammar_scripts.specs.Atom as atom_script;
 ghost use Rattle.rap_grammar_scripts.specs.Called as called;
-ghost use Rattle.rap_grammar_frame.specs.Grew.{Grew, Reads};
+ghost use Rattle.rap_grammar_frame.specs.Grew.{Grew};
 ghost use Rattle.rap_grammar_scripts.specs.Items as item_script;
 ghost use Rattle.rap_grammar_scripts.specs.Knot.{Follows};
-ghost use Rattle.rap_grammar_frame.specs.Room.{expression_room};
-ghost use Rattle.rap_grammar_frame.specs.Rules.{IsPattern, IsType};
 ghost use Rattle.rap_grammar_scripts.specs.Script.{something};
 ghost use Rattle.rap_grammar.specs.Top.{top_tree, with_leaves};
 ghost use Rattle.rap_grammar_scripts.specs.Statements as statement_script;
-ghost use Rattle.rap_grammar_scripts.specs.Words.{of_option};
 
 use crate::knot::run;
 use rap_base::no_memory::NoMemory;
 use rap_base::syntax_kind::SyntaxKind;
 use rap_events::output::{Output, Step, wrap_in_node};
-use rap_events::parser::{CompletedMarker, Marker, Parser};
+use rap_events::parser::{Marker, Parser};
 use rap_grammar_frame::knot::Rule;
 use rap_grammar_scripts::T;
-use rap_grammar_scripts::arguments::{Restrictions, Semicolon};
+use rap_grammar_scripts::arguments::Semicolon;
 use std::alloc::Global;
 
 pub mod part;
@@ -70,48 +66,6 @@ pub fn is_one_tree(output: &Output) -> bool
         }
     }
     nodes == 1
-}
-
-/// Reads an expression.
-fn expr(p: &mut Parser<'_>) -> Result<Option<CompletedMarker>, NoMemory>
-    ensures reads { IfOk result (Reads expression_room 8 (state p.old) (state p.new)) }
-    ensures script { IfOk result (λ o. Follows atom_script.expr (of_option o) (state p.old) (state p.new)) }
-{
-    let r = Restrictions {
-        forbid_structs: false,
-        prefer_stmt: false,
-    };
-    match run(p, Rule::Expr { m: None, r, bp: 1 })? {
-        Some((cm, _)) => Ok(Some(cm)),
-        None => Ok(None),
-    }
-}
-
-/// Reads a pattern.
-fn pattern(p: &mut Parser<'_>) -> Result<(), NoMemory>
-    ensures reads { OnOk result (IsPattern (state p.old) (state p.new)) }
-    ensures script { OnOk result (Follows called.pattern something (state p.old) (state p.new)) }
-{
-    run(p, Rule::Pattern)?;
-    Ok(())
-}
-
-/// Reads a pattern without alternatives.
-fn pattern_single(p: &mut Parser<'_>) -> Result<(), NoMemory>
-    ensures grew { OnOk result (Grew (state p.old) (state p.new) 8) }
-    ensures script { OnOk result (Follows called.pattern_single something (state p.old) (state p.new)) }
-{
-    run(p, Rule::PatternSingle)?;
-    Ok(())
-}
-
-/// Reads a type.
-fn type_(p: &mut Parser<'_>) -> Result<(), NoMemory>
-    ensures reads { OnOk result (IsType (state p.old) (state p.new)) }
-    ensures script { OnOk result (Follows called.type_ something (state p.old) (state p.new)) }
-{
-    run(p, Rule::Ty { allow_bounds: true })?;
-    Ok(())
 }
 
 /// Reads what stands in the brackets of an attribute.

@@ -1,5 +1,5 @@
 //! The knot of the grammar: each rule with all the others behind it.
-ghost use Rattle.std.specs.Prelude.{◌≡◌, ◌<◌, ◌≤◌, IfOk};
+ghost use Rattle.std.specs.Prelude.{◌≡◌, ◌+◌, ◌<◌, ◌≤◌, IfOk};
 ghost use Rattle.rap_events.specs.State.{state};
 ghost use Rattle.rap_grammar_frame.specs.Rules.{Pre, Post};
 
@@ -33,6 +33,31 @@ impl<F: Fn(&mut Parser<'_>, Rule) -> Result<Answer, NoMemory>> Grammar for Rules
     fn run(&self, p: &mut Parser<'_>, rule: Rule) -> Result<Answer, NoMemory> {
         (self.run)(p, rule)
     }
+}
+
+/// The grammar with its rules as they are: where no token of a rule was taken yet.
+#[derive(Drop)]
+pub(crate) struct AllRules {
+    /// How many tokens are left.
+    pub(crate) left: usize,
+}
+
+impl Grammar for AllRules {
+    ghost left = { λ rules. rules.left + 1 };
+
+    ghost valid = { λ _. Unit {0} };
+
+    #[inline(always)]
+    fn run(&self, p: &mut Parser<'_>, rule: Rule) -> Result<Answer, NoMemory> {
+        run(p, rule)
+    }
+}
+
+/// All rules, for a parser that may have taken none of its tokens.
+pub(crate) fn all_rules(p: &Parser<'_>) -> AllRules
+    ensures { result.left ≡ (state p.now).left }
+{
+    AllRules { left: p.left() }
 }
 
 /// Runs a rule. It is inlined where a rule is come back to, so that each call goes to its rule directly: that halves

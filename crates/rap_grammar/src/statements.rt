@@ -7,7 +7,7 @@ ghost use Rattle.rap_grammar_scripts.specs.Blocks.{starts_let};
 ghost use Rattle.rap_grammar_scripts.specs.Expressions.{of_like, is_block};
 ghost use Rattle.rap_grammar_frame.specs.Grew.{Within, Grew, Gone, Spent};
 ghost use Rattle.rap_grammar_scripts.specs.Knot.{Follows};
-ghost use Rattle.rap_grammar_frame.specs.Room.{expr_stmt_room};
+ghost use Rattle.rap_grammar_frame.specs.Room.{expr_stmt_room, recovery_events};
 ghost use Rattle.rap_grammar_frame.specs.Rules.{IsStatement};
 ghost use Rattle.rap_grammar_scripts.specs.Script.{something};
 ghost use Rattle.rap_grammar_scripts.specs.Statements as script;
@@ -85,7 +85,7 @@ fn expr_stmt_end(
     semicolon: Semicolon,
 ) -> Result<(), NoMemory>
     requires last { IsLast (state p.old) cm cm.kind.value }
-    ensures grew { OnOk result (Grew (state p.old) (state p.new) 3) }
+    ensures grew { OnOk result (Grew (state p.old) (state p.new) recovery_events) }
     ensures script { OnOk result (Follows (script.expr_stmt_end semicolon (is_block (of_like block_like))) something (state p.old) (state p.new)) }
 {
     if ends_block(p, semicolon) {

@@ -8,7 +8,7 @@ ghost use Rattle.rap_grammar_scripts.specs.Adt as script;
 ghost use Rattle.rap_grammar_scripts.specs.Adt.{starts_mut_restriction};
 ghost use Rattle.rap_grammar_frame.specs.Grew.{Within, Behind, Took, Grew, Ended, Gone, Spent};
 ghost use Rattle.rap_grammar_scripts.specs.Knot.{Follows};
-ghost use Rattle.rap_grammar_frame.specs.Room.{brackets_room, item_room, list_room, name_room, element_room, param_room, type_room};
+ghost use Rattle.rap_grammar_frame.specs.Room.{brackets_room, item_room, list_room, name_room, element_room, param_room, type_room, recovery_events};
 ghost use Rattle.rap_grammar_scripts.specs.Script.{something};
 ghost use Rattle.rap_grammar_scripts.specs.Words.{of_bool};
 
@@ -253,7 +253,7 @@ fn named_variant<G: Grammar>(p: &mut Parser<'_>, g: &G, m: Marker) -> Result<(),
 
 /// A field or a variant is missing. The next token is taken along, unless the list ends there.
 fn missing_in_list(p: &mut Parser<'_>, message: &str) -> Result<(), NoMemory>
-    ensures grew { OnOk result (Grew (state p.old) (state p.new) 3) }
+    ensures grew { OnOk result (Grew (state p.old) (state p.new) recovery_events) }
     ensures took { OnOk result (next (state p.old) ≢ EOF → next (state p.old) ≢ R_CURLY → Took (state p.old) (state p.new) name_room) }
     ensures script { OnOk result (Follows (script.missing_in_list message.now) something (state p.old) (state p.new)) }
 {
@@ -382,7 +382,7 @@ fn visible_field<G: Grammar>(p: &mut Parser<'_>, g: &G, m: Marker) -> Result<(),
     Ok(())
 }
 
-/// A field from what says who may change it on. That may stand before `unsafe` and behind it.
+/// A field from its `mut` restriction on, which may stand before `unsafe` and behind it.
 fn restricted_field<G: Grammar>(p: &mut Parser<'_>, g: &G, m: Marker) -> Result<(), NoMemory>
     requires behind { Behind G.valid G.left g.now (state p.old) }
     requires newest { (state p.old).marker ≡ Some m.pos.value }
@@ -417,7 +417,7 @@ fn named_field<G: Grammar>(p: &mut Parser<'_>, g: &G, m: Marker) -> Result<(), N
     Ok(())
 }
 
-/// An `unsafe` before a field, and who may change it, if it is there.
+/// The `unsafe` and the `mut` restriction before a field, if they are there.
 fn opt_unsafe<G: Grammar>(p: &mut Parser<'_>, g: &G) -> Result<(), NoMemory>
     requires within { Within G.valid G.left g.now (state p.old) }
     ensures grew { OnOk result (Grew (state p.old) (state p.new) 0) }
@@ -432,7 +432,7 @@ fn opt_unsafe<G: Grammar>(p: &mut Parser<'_>, g: &G) -> Result<(), NoMemory>
     Ok(())
 }
 
-/// Whether it is said who may change a field.
+/// Whether a `mut` restriction comes next.
 fn is_mut_restriction_start(p: &Parser<'_>) -> bool
     ensures starts { result ≡ starts_mut_restriction (state p.now).rest }
     ensures here { result ≡ true → next (state p.now) ≡ MUT_KW }
@@ -440,7 +440,7 @@ fn is_mut_restriction_start(p: &Parser<'_>) -> bool
     p.at(T![mut]) && p.nth(1) == T!['(']
 }
 
-/// Who may change a field, as `mut(crate)`, if it is said.
+/// The `mut` restriction of a field, as `mut(crate)`, if there is one.
 fn opt_mut_restriction<G: Grammar>(p: &mut Parser<'_>, g: &G) -> Result<(), NoMemory>
     requires within { Within G.valid G.left g.now (state p.old) }
     ensures grew { OnOk result (Grew (state p.old) (state p.new) 0) }
@@ -454,7 +454,7 @@ fn opt_mut_restriction<G: Grammar>(p: &mut Parser<'_>, g: &G) -> Result<(), NoMe
     Ok(())
 }
 
-/// Who may change a field.
+/// The `mut` restriction of a field.
 fn mut_restriction<G: Grammar>(p: &mut Parser<'_>, g: &G) -> Result<(), NoMemory>
     requires within { Within G.valid G.left g.now (state p.old) }
     requires here { next (state p.old) ≡ MUT_KW }
@@ -514,7 +514,7 @@ impl Element for TupleField {
     }
 }
 
-/// A field without a name from what says who may change it on. Answers whether there is one.
+/// A field without a name from its `mut` restriction on. Returns whether there is one.
 fn restricted_tuple_field<G: Grammar>(
     p: &mut Parser<'_>,
     g: &G,
@@ -533,7 +533,7 @@ fn restricted_tuple_field<G: Grammar>(
 }
 
 /// A field without a name from its type on. Where no type begins, that is reported, and a visibility before it becomes
-/// an `ERROR`. Answers whether there is one.
+/// an `ERROR`. Returns whether there is one.
 fn typed_field<G: Grammar>(
     p: &mut Parser<'_>,
     g: &G,

@@ -8,7 +8,7 @@ ghost use Rattle.rap_grammar_scripts.specs.Attributes.{starts_inner_attr, doc_co
 ghost use Rattle.rap_grammar_scripts.specs.First.{is_outer_attr_first, is_cfg_predicate_first, one_of};
 ghost use Rattle.rap_grammar_frame.specs.Grew.{Within, Grew, Took, Behind};
 ghost use Rattle.rap_grammar_scripts.specs.Knot.{Follows};
-ghost use Rattle.rap_grammar_frame.specs.Room.{list_room, name_room, element_room};
+ghost use Rattle.rap_grammar_frame.specs.Room.{list_room, name_room, element_room, recovery_events};
 ghost use Rattle.rap_grammar_frame.specs.Rules.{Parsed};
 ghost use Rattle.rap_grammar_scripts.specs.Script.{something};
 
@@ -147,7 +147,7 @@ pub fn meta<G: Grammar>(p: &mut Parser<'_>, g: &G) -> Result<(), NoMemory>
     Ok(())
 }
 
-/// An attribute that promises what no check sees, as `unsafe(a)`.
+/// An unsafe attribute, as `unsafe(a)`.
 fn unsafe_meta<G: Grammar>(p: &mut Parser<'_>, g: &G) -> Result<(), NoMemory>
     requires within { Within G.valid G.left g.now (state p.old) }
     requires here { At (state p.old) UNSAFE_KW }
@@ -280,7 +280,7 @@ pub fn cfg_predicate<G: Grammar>(p: &mut Parser<'_>, g: &G) -> Result<(), NoMemo
 
 /// What a condition's name is compared with, as `"b"` in `a = "b"`.
 fn cfg_value(p: &mut Parser<'_>) -> Result<(), NoMemory>
-    ensures grew { OnOk result (Grew (state p.old) (state p.new) 3) }
+    ensures grew { OnOk result (Grew (state p.old) (state p.new) recovery_events) }
     ensures script { OnOk result (Follows script.cfg_value something (state p.old) (state p.new)) }
 {
     if p.at(T![ident]) {

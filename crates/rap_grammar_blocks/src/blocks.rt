@@ -9,7 +9,7 @@ ghost use Rattle.rap_grammar_scripts.specs.Blocks as script;
 ghost use Rattle.rap_grammar_scripts.specs.Blocks.{starts_let};
 ghost use Rattle.rap_grammar_frame.specs.Grew.{Within, Behind, Took, Grew};
 ghost use Rattle.rap_grammar_scripts.specs.Knot.{Follows};
-ghost use Rattle.rap_grammar_frame.specs.Room.{brackets_room, list_room};
+ghost use Rattle.rap_grammar_frame.specs.Room.{brackets_room, list_room, recovery_events};
 ghost use Rattle.rap_grammar_scripts.specs.Script.{something};
 ghost use Rattle.rap_grammar_scripts.specs.Words.{of_option};
 
@@ -25,7 +25,7 @@ use rap_grammar_scripts::arguments::Semicolon;
 /// A block, as `{ a; b }`. Where none begins, that is reported.
 pub fn block_expr<G: Grammar>(p: &mut Parser<'_>, g: &G) -> Result<(), NoMemory>
     requires within { Within G.valid G.left g.now (state p.old) }
-    ensures grew { OnOk result (Grew (state p.old) (state p.new) 3) }
+    ensures grew { OnOk result (Grew (state p.old) (state p.new) recovery_events) }
     ensures took { OnOk result (next (state p.old) ≡ L_CURLY → Took (state p.old) (state p.new) list_room) }
     ensures one { OnOk result (next (state p.old) ≡ L_CURLY → (state p.new).forest ≡ node (state p.old).forest BLOCK_EXPR (last_children (state p.new).forest)) }
     ensures script { OnOk result (Follows script.block_expr something (state p.old) (state p.new)) }

@@ -9,7 +9,7 @@ ghost use Rattle.rap_grammar_scripts.specs.Asm as script;
 ghost use Rattle.rap_grammar_scripts.specs.Called as called;
 ghost use Rattle.rap_grammar_frame.specs.Grew.{Behind, Closes, Grew, Took, Gone, Ended};
 ghost use Rattle.rap_grammar_scripts.specs.Knot.{Follows};
-ghost use Rattle.rap_grammar_frame.specs.Room.{asm_room, asm_end_room, operand_room, expression_room, name_room};
+ghost use Rattle.rap_grammar_frame.specs.Room.{asm_room, asm_end_room, operand_room, expression_room, name_room, recovery_events};
 ghost use Rattle.rap_grammar_frame.specs.Rules.{Missed};
 ghost use Rattle.rap_grammar_scripts.specs.Script.{something};
 ghost use Rattle.rap_grammar_scripts.specs.Words.{of_bool};
@@ -66,7 +66,7 @@ fn asm_pieces<G: Grammar>(p: &mut Parser<'_>, g: &G) -> Result<(), NoMemory>
     Ok(())
 }
 
-/// What stands behind a comma. Answers whether templates may follow, or nothing where the list ends.
+/// What stands behind a comma. Returns whether templates may follow, or `None` where the list ends.
 fn asm_piece<G: Grammar>(
     p: &mut Parser<'_>,
     g: &G,
@@ -93,7 +93,7 @@ fn asm_piece<G: Grammar>(
     Ok(allow)
 }
 
-/// An operand with its name, as `x = inout(reg) x`, or what stands in its place, from its marker on. Answers as
+/// An operand with its name, as `x = inout(reg) x`, or what stands in its place, from its marker on. Returns what
 /// `asm_piece` does.
 fn named_operand<G: Grammar>(
     p: &mut Parser<'_>,
@@ -124,7 +124,7 @@ fn templates_after(allow_templates: bool, is_named: bool) -> bool
     if is_named { false } else { allow_templates }
 }
 
-/// What stands where no operand does: a template, where one may still follow. Answers as `asm_piece` does.
+/// What stands where no operand does: a template, where one may still follow. Returns what `asm_piece` does.
 fn no_operand<G: Grammar>(
     p: &mut Parser<'_>,
     g: &G,
@@ -162,7 +162,7 @@ fn missing_operand<G: Grammar>(p: &mut Parser<'_>, g: &G) -> Result<(), NoMemory
     Ok(())
 }
 
-/// A line of the assembly. What is none is passed over.
+/// A line of the assembly. Anything else is skipped.
 fn asm_template<G: Grammar>(p: &mut Parser<'_>, g: &G) -> Result<(), NoMemory>
     requires behind { Behind G.valid G.left g.now (state p.old) }
     ensures grew { OnOk result (Grew (state p.old) (state p.new) 11) }
@@ -176,7 +176,7 @@ fn asm_template<G: Grammar>(p: &mut Parser<'_>, g: &G) -> Result<(), NoMemory>
     Ok(())
 }
 
-/// An expression. Answers whether there was one; where there was none, tokens that end the search for one are left.
+/// An expression. Returns whether there was one; where there was none, tokens that end the search for one are left.
 fn some_expr<G: Grammar>(p: &mut Parser<'_>, g: &G) -> Result<bool, NoMemory>
     requires behind { Behind G.valid G.left g.now (state p.old) }
     ensures grew { OnOk result (Grew (state p.old) (state p.new) 8) }
@@ -194,7 +194,7 @@ fn some_expr<G: Grammar>(p: &mut Parser<'_>, g: &G) -> Result<bool, NoMemory>
     }
 }
 
-/// An operand's name and its `=`, as `x =`, if they come next. Answers whether they do.
+/// An operand's name and its `=`, as `x =`, if they come next. Returns whether they do.
 fn operand_name(p: &mut Parser<'_>) -> Result<bool, NoMemory>
     ensures grew { OnOk result (Grew (state p.old) (state p.new) 0) }
     ensures took { IfOk result (λ found. found ≡ true → Took (state p.old) (state p.new) name_room) }
@@ -218,7 +218,7 @@ fn starts_operand_name(p: &Parser<'_>) -> bool
     p.current().is_any_identifier() && p.nth_at(1, T![=])
 }
 
-/// An operand without its name, as `in(reg) x`, if one comes next. Answers whether one does.
+/// An operand without its name, as `in(reg) x`, if one comes next. Returns whether one does.
 fn asm_operand<G: Grammar>(p: &mut Parser<'_>, g: &G) -> Result<bool, NoMemory>
     requires behind { Behind G.valid G.left g.now (state p.old) }
     ensures took { IfOk result (λ found. found ≡ true → Took (state p.old) (state p.new) operand_room) }
@@ -251,8 +251,8 @@ fn asm_operand<G: Grammar>(p: &mut Parser<'_>, g: &G) -> Result<bool, NoMemory>
     Ok(false)
 }
 
-/// Which way a register's value goes, as `in` and `inout`. Answers whether it goes both ways, or nothing where no such
-/// word comes next.
+/// The direction of a register operand, as `in` and `inout`. Returns whether it is both in and out, or `None` where no
+/// such word comes next.
 fn dir_spec(p: &mut Parser<'_>) -> Result<Option<bool>, NoMemory>
     ensures took { IfOk result (λ o. IfSome o (λ both. Took (state p.old) (state p.new) name_room)) }
     ensures grew { IfOk result (λ o. o ≡ None → Grew (state p.old) (state p.new) 2) }
@@ -284,8 +284,8 @@ fn dir_spec(p: &mut Parser<'_>) -> Result<Option<bool>, NoMemory>
     Ok(None)
 }
 
-/// A register and what is in it, as `(reg) x`. Where the value goes both ways, another place may be named for the way
-/// out, as in `(reg) x => y`.
+/// A register operand behind its direction, as `(reg) x`. If it is in and out, another place may follow for the output,
+/// as in `(reg) x => y`.
 fn reg_operand<G: Grammar>(p: &mut Parser<'_>, g: &G, goes_both_ways: bool) -> Result<(), NoMemory>
     requires behind { Behind G.valid G.left g.now (state p.old) }
     ensures grew { OnOk result (Grew (state p.old) (state p.new) 15) }
@@ -307,7 +307,7 @@ fn reg_operand<G: Grammar>(p: &mut Parser<'_>, g: &G, goes_both_ways: bool) -> R
     Ok(())
 }
 
-/// A path to what the assembly names, as `a::b` and `(a::b)`.
+/// A `sym` operand's path, as `a::b` and `(a::b)`.
 fn asm_sym<G: Grammar>(p: &mut Parser<'_>, g: &G) -> Result<(), NoMemory>
     requires behind { Behind G.valid G.left g.now (state p.old) }
     ensures grew { OnOk result (Grew (state p.old) (state p.new) 8) }
@@ -323,7 +323,7 @@ fn asm_sym<G: Grammar>(p: &mut Parser<'_>, g: &G) -> Result<(), NoMemory>
     Ok(())
 }
 
-/// Where an operand lies, as `(reg)` and `("eax")`.
+/// The register of an operand, as `(reg)` and `("eax")`.
 fn parse_reg(p: &mut Parser<'_>) -> Result<(), NoMemory>
     ensures grew { OnOk result (Grew (state p.old) (state p.new) 5) }
     ensures script { OnOk result (Follows script.parse_reg something (state p.old) (state p.new)) }
@@ -336,7 +336,7 @@ fn parse_reg(p: &mut Parser<'_>) -> Result<(), NoMemory>
 
 /// The name of a register or of a class of them.
 fn reg_spec(p: &mut Parser<'_>) -> Result<(), NoMemory>
-    ensures grew { OnOk result (Grew (state p.old) (state p.new) 3) }
+    ensures grew { OnOk result (Grew (state p.old) (state p.new) recovery_events) }
     ensures script { OnOk result (Follows script.reg_spec something (state p.old) (state p.new)) }
 {
     if is_path_name(p.current()) {
@@ -355,7 +355,7 @@ fn reg_spec(p: &mut Parser<'_>) -> Result<(), NoMemory>
     Ok(())
 }
 
-/// The ABIs whose registers are lost, as `("C", "system")`.
+/// The clobbered ABIs, as `("C", "system")`.
 fn parse_clobber_abi(p: &mut Parser<'_>) -> Result<(), NoMemory>
     ensures grew { OnOk result (Grew (state p.old) (state p.new) 2) }
     ensures script { OnOk result (Follows script.parse_clobber_abi something (state p.old) (state p.new)) }
@@ -386,7 +386,7 @@ fn clobber_abis(p: &mut Parser<'_>) -> Result<(), NoMemory>
     Ok(())
 }
 
-/// What is promised of the assembly, as `(nomem, nostack)`.
+/// The options of the assembly, as `(nomem, nostack)`.
 fn parse_options(p: &mut Parser<'_>) -> Result<(), NoMemory>
     ensures grew { OnOk result (Grew (state p.old) (state p.new) 1) }
     ensures script { OnOk result (Follows script.parse_options something (state p.old) (state p.new)) }
@@ -396,7 +396,7 @@ fn parse_options(p: &mut Parser<'_>) -> Result<(), NoMemory>
     Ok(())
 }
 
-/// Options, and the bracket that closes. What is none is passed over.
+/// Options, and the bracket that closes. Anything else is skipped.
 fn asm_options(p: &mut Parser<'_>) -> Result<(), NoMemory>
     ensures grew { OnOk result (Grew (state p.old) (state p.new) 0) }
     ensures script { OnOk result (Follows script.asm_options something (state p.old) (state p.new)) }
@@ -421,7 +421,7 @@ fn asm_options(p: &mut Parser<'_>) -> Result<(), NoMemory>
     Ok(())
 }
 
-/// An option: what the assembly does to memory. Answers whether one comes next.
+/// An option: what the assembly does to memory. Returns whether one comes next.
 fn option_name(p: &mut Parser<'_>) -> Result<bool, NoMemory>
     ensures took { IfOk result (λ found. found ≡ true → Took (state p.old) (state p.new) name_room) }
     ensures stays { IfOk result (λ found. found ≡ false → state p.new ≡ state p.old) }
@@ -443,7 +443,7 @@ fn option_name(p: &mut Parser<'_>) -> Result<bool, NoMemory>
     Ok(found)
 }
 
-/// An option: where the assembly goes on, and how it is written. Answers whether one comes next.
+/// An option: where the assembly goes on, and how it is written. Returns whether one comes next.
 fn flow_option(p: &mut Parser<'_>) -> Result<bool, NoMemory>
     ensures took { IfOk result (λ found. found ≡ true → Took (state p.old) (state p.new) name_room) }
     ensures stays { IfOk result (λ found. found ≡ false → state p.new ≡ state p.old) }

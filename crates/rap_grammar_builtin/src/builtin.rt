@@ -84,7 +84,7 @@ fn other_builtin<G: Grammar>(
     Ok(None)
 }
 
-/// The name of one of the kinds of inline assembly. Answers whether one comes next.
+/// The name of one of the kinds of inline assembly. Returns whether one comes next.
 fn asm_name(p: &mut Parser<'_>) -> Result<bool, NoMemory>
     ensures took { IfOk result (λ found. found ≡ true → Took (state p.old) (state p.new) name_room) }
     ensures stays { IfOk result (λ found. found ≡ false → state p.new ≡ state p.old) }

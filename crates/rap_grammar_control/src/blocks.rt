@@ -107,7 +107,7 @@ fn effects(p: &mut Parser<'_>) -> Result<(), NoMemory>
     Ok(())
 }
 
-/// A block with an effect, as `unsafe {}`.
+/// A block with a keyword before it, as `unsafe {}`.
 #[inline(never)]
 fn effect_block<G: Grammar>(p: &mut Parser<'_>, g: &G) -> Result<CompletedMarker, NoMemory>
     requires within { Within G.valid G.left g.now (state p.old) }
@@ -140,7 +140,7 @@ fn try_modifier<G: Grammar>(p: &mut Parser<'_>, g: &G) -> Result<(), NoMemory>
     Ok(())
 }
 
-/// A block whose failures end it, as `try {}` and `try bikeshed a {}`.
+/// A `try` block, as `try {}` and `try bikeshed a {}`.
 #[inline(never)]
 fn try_block_expr<G: Grammar>(p: &mut Parser<'_>, g: &G) -> Result<CompletedMarker, NoMemory>
     requires within { Within G.valid G.left g.now (state p.old) }

@@ -73,7 +73,7 @@ fn closure_keywords(p: &mut Parser<'_>) -> Result<(), NoMemory>
     Ok(())
 }
 
-/// What a closure gives, behind its parameters: an expression, or a block where its type is said.
+/// The body of a closure: an expression, or a block if there is a return type.
 fn closure_body<G: Grammar>(p: &mut Parser<'_>, g: &G) -> Result<(), NoMemory>
     requires behind { Behind G.valid G.left g.now (state p.old) }
     ensures grew { OnOk result (Grew (state p.old) (state p.new) 8) }

@@ -22,7 +22,7 @@ use rap_grammar_frame::names::lifetime;
 use rap_grammar_scripts::T;
 use rap_grammar_scripts::arguments::{BlockLike, Restrictions};
 
-/// A condition, as `if a { b } else { c }`.
+/// An `if`, as `if a { b } else { c }`.
 #[inline(never)]
 pub fn if_expr<G: Grammar>(p: &mut Parser<'_>, g: &G) -> Result<CompletedMarker, NoMemory>
     requires within { Within G.valid G.left g.now (state p.old) }
@@ -39,7 +39,7 @@ pub fn if_expr<G: Grammar>(p: &mut Parser<'_>, g: &G) -> Result<CompletedMarker,
     Ok(cm)
 }
 
-/// The other way of a condition, if there is one: a block, or one more condition.
+/// The `else` of an `if`, if there is one: a block, or another `if`.
 fn else_branch<G: Grammar>(p: &mut Parser<'_>, g: &G) -> Result<(), NoMemory>
     requires behind { Behind G.valid G.left g.now (state p.old) }
     ensures grew { OnOk result (Grew (state p.old) (state p.new) 0) }
@@ -77,7 +77,7 @@ pub fn let_expr<G: Grammar>(
     Ok(cm)
 }
 
-/// A loop without an end of its own, as `loop { a }`.
+/// A `loop`, as `loop { a }`.
 #[inline(never)]
 pub fn loop_expr<G: Grammar>(p: &mut Parser<'_>, g: &G) -> Result<CompletedMarker, NoMemory>
     requires within { Within G.valid G.left g.now (state p.old) }
@@ -104,7 +104,7 @@ fn loop_from<G: Grammar>(p: &mut Parser<'_>, g: &G, m: Marker) -> Result<Complet
     Ok(cm)
 }
 
-/// A loop with a condition, as `while a { b }`.
+/// A `while` loop, as `while a { b }`.
 #[inline(never)]
 pub fn while_expr<G: Grammar>(p: &mut Parser<'_>, g: &G) -> Result<CompletedMarker, NoMemory>
     requires within { Within G.valid G.left g.now (state p.old) }
@@ -132,7 +132,7 @@ fn while_from<G: Grammar>(p: &mut Parser<'_>, g: &G, m: Marker) -> Result<Comple
     Ok(cm)
 }
 
-/// A loop over what an iterator gives, as `for a in b { c }`.
+/// A `for` loop, as `for a in b { c }`.
 #[inline(never)]
 pub fn for_expr<G: Grammar>(p: &mut Parser<'_>, g: &G) -> Result<CompletedMarker, NoMemory>
     requires within { Within G.valid G.left g.now (state p.old) }

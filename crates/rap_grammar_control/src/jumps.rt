@@ -1,4 +1,4 @@
-//! Expressions that leave what they stand in, with a value or without one.
+//! Jump expressions, with a value or without one.
 //! In the Rust crate: `grammar/expressions/atom.rs`.
 ghost use Rattle.std.specs.Prelude.{◌≡◌, ◌≢◌, ◌<◌, ◌≤◌, IfOk, OnOk, true, IsTrue};
 ghost use Rattle.rap_base.specs.TokenKind.{EOF, RETURN_KW, BECOME_KW, YIELD_KW, DO_KW, CONTINUE_KW, BREAK_KW};
@@ -41,7 +41,7 @@ fn opt_expr<G: Grammar>(p: &mut Parser<'_>, g: &G, before_block: bool) -> Result
     Ok(())
 }
 
-/// The label of the loop or block that is gone on with or left, if it is named.
+/// The label of the loop or block, if there is one.
 fn opt_lifetime(p: &mut Parser<'_>) -> Result<(), NoMemory>
     ensures grew { OnOk result (Grew (state p.old) (state p.new) 0) }
     ensures script { OnOk result (Follows script.opt_lifetime something (state p.old) (state p.new)) }
@@ -53,7 +53,7 @@ fn opt_lifetime(p: &mut Parser<'_>) -> Result<(), NoMemory>
     Ok(())
 }
 
-/// A way out of a function, as `return` and `return a`.
+/// A `return`, as `return` and `return a`.
 #[inline(never)]
 pub fn return_expr<G: Grammar>(p: &mut Parser<'_>, g: &G) -> Result<CompletedMarker, NoMemory>
     requires within { Within G.valid G.left g.now (state p.old) }
@@ -68,7 +68,7 @@ pub fn return_expr<G: Grammar>(p: &mut Parser<'_>, g: &G) -> Result<CompletedMar
     Ok(cm)
 }
 
-/// A way out of a function into another one, as `become f()`.
+/// A `become`, as `become f()`.
 #[inline(never)]
 pub fn become_expr<G: Grammar>(p: &mut Parser<'_>, g: &G) -> Result<CompletedMarker, NoMemory>
     requires within { Within G.valid G.left g.now (state p.old) }
@@ -83,7 +83,7 @@ pub fn become_expr<G: Grammar>(p: &mut Parser<'_>, g: &G) -> Result<CompletedMar
     Ok(cm)
 }
 
-/// A value that is given before going on, as `yield` and `yield a`.
+/// A `yield`, as `yield` and `yield a`.
 #[inline(never)]
 pub fn yield_expr<G: Grammar>(p: &mut Parser<'_>, g: &G) -> Result<CompletedMarker, NoMemory>
     requires within { Within G.valid G.left g.now (state p.old) }
@@ -106,7 +106,7 @@ pub fn starts_yeet(p: &Parser<'_>) -> bool
     p.current() == T![do] && p.nth_at_contextual_kw(1, T![yeet])
 }
 
-/// A failure that is handed on, as `do yeet` and `do yeet a`.
+/// A `do yeet`, as `do yeet` and `do yeet a`.
 #[inline(never)]
 pub fn yeet_expr<G: Grammar>(p: &mut Parser<'_>, g: &G) -> Result<CompletedMarker, NoMemory>
     requires within { Within G.valid G.left g.now (state p.old) }
@@ -122,7 +122,7 @@ pub fn yeet_expr<G: Grammar>(p: &mut Parser<'_>, g: &G) -> Result<CompletedMarke
     Ok(cm)
 }
 
-/// The next turn of a loop, as `continue` and `continue 'a`.
+/// A `continue`, as `continue` and `continue 'a`.
 #[inline(never)]
 pub fn continue_expr(p: &mut Parser<'_>) -> Result<CompletedMarker, NoMemory>
     requires here { next (state p.old) ≡ CONTINUE_KW }
@@ -136,7 +136,7 @@ pub fn continue_expr(p: &mut Parser<'_>) -> Result<CompletedMarker, NoMemory>
     Ok(cm)
 }
 
-/// A way out of a loop or a block, as `break`, `break 'a` and `break 'a b`.
+/// A `break`, as `break`, `break 'a` and `break 'a b`.
 #[inline(never)]
 pub fn break_expr<G: Grammar>(
     p: &mut Parser<'_>,

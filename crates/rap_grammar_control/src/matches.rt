@@ -97,7 +97,7 @@ fn match_arm<G: Grammar>(p: &mut Parser<'_>, g: &G) -> Result<(), NoMemory>
     Ok(())
 }
 
-/// What stands before the arrow of an arm. It takes no token where the arrow itself comes next.
+/// The attributes, pattern and guard of an arm. It takes no token where the arrow itself comes next.
 fn arm_head<G: Grammar>(p: &mut Parser<'_>, g: &G) -> Result<(), NoMemory>
     requires behind { Behind G.valid G.left g.now (state p.old) }
     ensures grew { OnOk result (Grew (state p.old) (state p.new) 8) }
@@ -113,7 +113,7 @@ fn arm_head<G: Grammar>(p: &mut Parser<'_>, g: &G) -> Result<(), NoMemory>
     Ok(())
 }
 
-/// What an arm asks besides its pattern, as `if a`.
+/// The guard of an arm, as `if a`.
 fn match_guard<G: Grammar>(p: &mut Parser<'_>, g: &G) -> Result<(), NoMemory>
     requires within { Within G.valid G.left g.now (state p.old) }
     requires here { next (state p.old) ≡ IF_KW }
@@ -132,7 +132,7 @@ fn match_guard<G: Grammar>(p: &mut Parser<'_>, g: &G) -> Result<(), NoMemory>
     Ok(())
 }
 
-/// What an arm gives, and the comma after it.
+/// The body of an arm, and the comma after it.
 fn arm_body<G: Grammar>(p: &mut Parser<'_>, g: &G) -> Result<(), NoMemory>
     requires behind { Behind G.valid G.left g.now (state p.old) }
     ensures grew { OnOk result (Grew (state p.old) (state p.new) 9) }

@@ -16,7 +16,7 @@ use Rattle.rap_grammar_scripts.specs.Grammar.{name_r}
 use Rattle.rap_grammar_scripts.specs.Statements.{stmt, macro_stmts}
 use Rattle.rap_grammar_scripts.specs.TypeParts.{ascription}
 use Rattle.rap_grammar_core.specs.Derives.{Is, Writes, IsNamedField, Category, Maybe, Many, Elements, Expression, Binary, Unary, Postfix, Arguments, Atom, Path, Segment, Reference, Ty, Name, Bind, Visibility, Annotation, Value, Statement, Contents, Block, Item, Items, Fields, Field, Tuple, TupleField, Params, Param, Return, File, Derives, EndsExpression, EndsType, maybe_none, maybe_some, many_none, many_more, element_last, element_comma, element_more, reference, segment, path_one, path_more, atom_literal, atom_path, atom_paren, postfix_atom, postfix_call, postfix_index, postfix_try, postfix_field, postfix_number, postfix_method, argument_list, unary_prefix, unary_ref, unary_ref_mut, unary_postfix, binary_unary, binary_tighter, binary_operator, expression_binary, expression_assign, type_path, type_ref, type_ref_mut, type_slice, name_given, bind_name, visibility_pub, annotation_type, value_given, statement_let, statement_expression, block_of, item_module, item_module_of, item_struct, item_struct_fields, item_struct_tuple, item_function, items_of, fields_of, field_named, tuple_of, tuple_field, params_of, param_typed, return_type, file_of, statement_block, contents_none, contents_value, contents_block, contents_statement, contents_block_before, with_block, with_if, with_while, with_loop, if_of, else_block, else_if, atom_block, WithBlock, If, Else, StartsPlainly, starts_with_block}
-use Rattle.rap_grammar_scripts.specs.Expressions.{operand_of, right_of, climb, arg_list, lhs}
+use Rattle.rap_grammar_scripts.specs.Expressions.{operand_of, right_of, climb, arg_list, lhs, prefix_power}
 use Rattle.rap_grammar_scripts.specs.First.{is_literal_first, one_of}
 use Rattle.rap_grammar_scripts.specs.Operator.{operator_at}
 use Rattle.rap_grammar_scripts.specs.Paths.{path_segment, path_for_qualifier, path}
@@ -169,9 +169,9 @@ no_cast op p e h i = let x : power op ≡ power AS_KW = ap power i in omega arit
 -- an operand of an operator before it
 operand_alone : (r : Restrictions) {b : List Forest} {rs l : List Record} {f t : Forest} →
     is_operand (next_kind rs) ≡ true → Single t → Reads r (lhs r) (f ∷ b) rs none l (none ⧺ t) →
-    LeadsOut (attributed r 255) b rs f l (f ⧺ t)
+    LeadsOut (attributed r prefix_power) b rs f l (f ⧺ t)
 operand_alone r {l = l} o s x =
-    from_way r 255 o s (rw none-⧺ at x) (climb_end r (omega (arith, power-le (operator_at l))))
+    from_way r prefix_power o s (rw none-⧺ at x) (climb_end r (omega (arith, power-le (operator_at l))))
 
 -- What is shown of each category. Where the grammar goes to the left, any way on from the tree so far is a way on from
 -- the tokens.

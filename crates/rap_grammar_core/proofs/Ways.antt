@@ -10,7 +10,7 @@ use Rattle.rap_events.specs.Power.{power}
 use Rattle.rap_events.specs.State.{but_last, last_children}
 use Rattle.rap_grammar_scripts.specs.Atom.{unrestricted, expr, literal, path_expr, tuple_elements, tuple_expr, atom_expr, bracketed_expr, starts_record, plain_block, control_expr}
 use Rattle.rap_grammar_scripts.specs.Attributes.{outer_attrs}
-use Rattle.rap_grammar_scripts.specs.Expressions.{operand_of, right_of, bin_expr, climb, ref_qualifier, ref_expr, prefix_expr, arg_list, call_expr, index_expr, try_expr, calls_method, method_arguments, method_call_expr, field_expr, after_dot, name_after_dot, postfix_dot_expr, is_access, postfix_expr, lhs, expr_from, expr_bp, postfix_turn}
+use Rattle.rap_grammar_scripts.specs.Expressions.{operand_of, right_of, bin_expr, climb, ref_qualifier, ref_expr, prefix_expr, arg_list, call_expr, index_expr, try_expr, calls_method, method_arguments, method_call_expr, field_expr, after_dot, name_after_dot, postfix_dot_expr, is_access, postfix_expr, lhs, expr_from, expr_bp, postfix_turn, prefix_power}
 use Rattle.rap_grammar_scripts.specs.First.{is_outer_attr_first, is_literal_first, is_path_name_or_index, is_expr_first, one_of, starts_expr_args}
 use Rattle.rap_grammar_scripts.specs.Grammar.{name_ref_mod_path, name_ref_mod_path_or_index, elements, delimited}
 use Rattle.rap_grammar_scripts.specs.Knot.{script_of}
@@ -321,14 +321,14 @@ operand_way r k x y = operand_way_by x.blocky r k x.stays x.run (y x.blocky x.st
 
 pub prefix_way : (r : Restrictions) {b : List Forest} {a : Record} {rs l : List Record} {f x : Forest} →
     one_of (STAR ∷ BANG ∷ MINUS ∷ []) a.kind ≡ true → (a.kind == AMP) ≡ false → a.kind ≢ EOF →
-    LeadsOut (attributed r 255) (f ∷ b) rs (leaf none a.kind 1) l x →
+    LeadsOut (attributed r prefix_power) (f ∷ b) rs (leaf none a.kind 1) l x →
     Leads (lhs r) b (a ∷ rs) f l (node f PREFIX_EXPR x)
 unfolding lhs prefix_expr script_of expr_bp
 prefix_way r k n ne x = fails n (passes k (starts (takes_any ne (obeys (starts x) (finishes gives)))))
 
 pub ref_way : (r : Restrictions) {b : List Forest} {a : Record} {rs l : List Record} {f x : Forest} → a.kind ≡ AMP →
     reads_as RAW_KW rs ≡ false → (next_kind rs == MUT_KW) ≡ false →
-    LeadsOut (attributed r 255) (f ∷ b) rs (leaf none AMP 1) l x →
+    LeadsOut (attributed r prefix_power) (f ∷ b) rs (leaf none AMP 1) l x →
     Leads (lhs r) b (a ∷ rs) f l (node f REF_EXPR x)
 unfolding lhs ref_expr ref_qualifier script_of expr_bp
 ref_way r e n m x =
@@ -337,7 +337,7 @@ ref_way r e n m x =
 
 pub ref_mut_way : (r : Restrictions) {b : List Forest} {a c : Record} {rs l : List Record} {f x : Forest} →
     a.kind ≡ AMP → reads_as RAW_KW (c ∷ rs) ≡ false → c.kind ≡ MUT_KW →
-    LeadsOut (attributed r 255) (f ∷ b) rs (leaf (leaf none AMP 1) MUT_KW 1) l x →
+    LeadsOut (attributed r prefix_power) (f ∷ b) rs (leaf (leaf none AMP 1) MUT_KW 1) l x →
     Leads (lhs r) b (a ∷ c ∷ rs) f l (node f REF_EXPR x)
 unfolding lhs ref_expr ref_qualifier script_of expr_bp
 ref_mut_way r e n m x =

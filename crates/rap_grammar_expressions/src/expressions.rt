@@ -8,7 +8,7 @@ ghost use Rattle.rap_grammar_scripts.specs.First.{is_expr_first};
 ghost use Rattle.rap_grammar_frame.specs.Grew.{Within, Dropped, Spent};
 ghost use Rattle.rap_grammar_scripts.specs.Knot.{Follows};
 ghost use Rattle.rap_grammar_scripts.specs.Recovery.{stops_expr};
-ghost use Rattle.rap_grammar_frame.specs.Room.{operand_room, marked_room};
+ghost use Rattle.rap_grammar_frame.specs.Room.{operand_room, marked_room, dropped_events};
 ghost use Rattle.rap_grammar_frame.specs.Rules.{Answered, IsNewest, AnsweredFrom, Operand};
 ghost use Rattle.rap_grammar_scripts.specs.Script.{nothing};
 
@@ -88,12 +88,13 @@ fn expr_from<G: Grammar>(
     Ok(Some((cm, BlockLike::NotBlock)))
 }
 
-/// An expression is missing: the marker goes. It keeps the table of the set off the stack of those that go deeper.
+/// An expression is missing: the marker goes. It is a function of its own so that the set takes no room on the stack of
+/// the rules that nest.
 #[inline(never)]
 fn missing_expr(p: &mut Parser<'_>, m: Marker) -> Result<(), NoMemory>
     requires newest { (state p.old).marker ≡ Some m.pos.value }
     requires missing { is_expr_first (next (state p.old)) ≡ false }
-    ensures dropped { OnOk result (Dropped (state p.old) (state p.new) 5) }
+    ensures dropped { OnOk result (Dropped (state p.old) (state p.new) dropped_events) }
     ensures spent { OnOk result (stops_expr (next (state p.old)) ≡ false → Spent (state p.old) (state p.new) marked_room) }
     ensures stays { OnOk result (stops_expr (next (state p.old)) ≡ true → (state p.new).left ≡ (state p.old).left) }
     ensures script { OnOk result (Follows script.missing_expr nothing (state p.old) (state p.new)) }

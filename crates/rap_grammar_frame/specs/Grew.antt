@@ -5,7 +5,7 @@ use Rattle.rap_events.specs.Machine.{Stack, floor, push, top}
 use Rattle.rap_events.specs.State.{State, IsLast, but_last}
 use Rattle.rap_events.specs.declared.parser.CompletedMarker.{CompletedMarker}
 
--- No more tokens are left than the rules that may be come back to can have.
+-- No more tokens are left than the recursive rules may have.
 abbrev pub Within : {G : Type 0} → (G → Type 0) → (G → ℕ) → G → State → Type 0
 Within valid left g s = valid g × (s.left ≤ left g)
 

@@ -25,6 +25,10 @@ brackets_room = 160
 abbrev pub list_room : ℕ
 list_room = 150
 
+-- the list of the trees of an import
+abbrev pub use_list_room : ℕ
+use_list_room = 154
+
 -- an expression that begins with no operator
 abbrev pub atom_room : ℕ
 atom_room = 130
@@ -97,3 +101,11 @@ field_room = 90
 
 abbrev pub marked_field_room : ℕ
 marked_field_room = 94
+
+-- How many events a rule that may take no token records beyond those that its tokens pay for: a message and an `ERROR`;
+-- the same under a marker that is abandoned.
+abbrev pub recovery_events : ℕ
+recovery_events = 3
+
+abbrev pub dropped_events : ℕ
+dropped_events = 5

@@ -1,4 +1,4 @@
--- What the rules that are come back to ask and give.
+-- What the recursive rules require and ensure.
 -- (What calls promise one another; no promise of the library rests on it.)
 use Rattle.std.specs.Prelude.{◌≡◌, ℕ, ◌≤◌, ◌<◌, ◌≢◌, Option, Some, None, is_some, Bool, true, false}
 use Rattle.rap_base.specs.TokenKind.{EOF, L_ANGLE, R_CURLY, IF_KW, WHERE_KW}
@@ -18,7 +18,7 @@ use Rattle.rap_grammar_scripts.specs.Items.{item_or_macro}
 use Rattle.rap_grammar_scripts.specs.Knot.{Follows}
 use Rattle.rap_grammar_scripts.specs.Patterns.{pattern_r, pattern_single_r}
 use Rattle.rap_grammar_scripts.specs.Recovery.{stops_expr, stops_pattern, stops_arm, stops_of, stops_type}
-use Rattle.rap_grammar_frame.specs.Room.{expression_room, atom_room, statement_room, marked_room, element_room, list_room, type_room, pattern_room, single_pattern_room, atom_pattern_room}
+use Rattle.rap_grammar_frame.specs.Room.{expression_room, atom_room, statement_room, marked_room, element_room, list_room, type_room, pattern_room, single_pattern_room, atom_pattern_room, recovery_events, dropped_events}
 use Rattle.rap_grammar_scripts.specs.Script.{something}
 use Rattle.rap_grammar_scripts.specs.Statements.{stmt}
 use Rattle.rap_grammar_scripts.specs.Types.{type_with_bounds_cond, path_type_bounds}
@@ -57,7 +57,7 @@ OperandFrom k old new None = Dropped old new k
 -- an expression from the newest marker on, or a message, and the marker is gone
 abbrev pub AnsweredFrom : State → State → Bool → ℕ → Option (CompletedMarker × BlockLike) → Type 0
 AnsweredFrom old new stmt bp (Some e) = Closed old new e.0 marked_room × Climbed new e.0.kind.value bp stmt
-AnsweredFrom old new stmt bp None = Dropped old new 5
+AnsweredFrom old new stmt bp None = Dropped old new dropped_events
 
 -- A rule that gives no node: where it begins with one of these tokens, it takes one at least, and else it records at
 -- most so many events more than its tokens pay for.
@@ -85,12 +85,12 @@ IsPattern old new = PatternIn 8 pattern_room old new
 
 -- a pattern without alternatives
 abbrev pub IsSinglePattern : State → State → Type 0
-IsSinglePattern old new = PatternIn 3 single_pattern_room old new
+IsSinglePattern old new = PatternIn recovery_events single_pattern_room old new
 
 -- a pattern that is no range: a node, or none
 abbrev pub IsAtomPattern : Bool → State → State → Option CompletedMarker → Type 0
 IsAtomPattern in_arm old new (Some cm) = Made old new cm atom_pattern_room × (stops_pattern (next old) ≡ false)
-IsAtomPattern in_arm old new None = PatternUntil (stops_of in_arm) 3 atom_pattern_room old new
+IsAtomPattern in_arm old new None = PatternUntil (stops_of in_arm) recovery_events atom_pattern_room old new
 
 -- the pattern of an arm
 abbrev pub IsArmPattern : State → State → Type 0
@@ -106,7 +106,7 @@ pub record IsItem (stop_on_r_curly : Bool) (old new : State) : Type 0 where
   pub grew : Grew old new 8
   pub took : next old ≢ EOF → (stop_on_r_curly ≡ true → next old ≢ R_CURLY) → Took old new statement_room
 
--- what each rule asks
+-- what each rule requires
 abbrev pub Pre : Rule → State → Type 0
 Pre (rule.Expr m r bp) s = IsNewest s m × (1 ≤ bp)
 Pre (rule.Ty allow_bounds) s = Unit {0}
@@ -126,7 +126,7 @@ Pre rule.UseTree s = starts_use_tree s.rest ≡ true
 Pre rule.Meta s = Unit {0}
 Pre rule.CfgPredicate s = Unit {0}
 
--- what each rule gives
+-- what each rule ensures
 abbrev pub Post : Rule → State → State → Option (CompletedMarker × BlockLike) → Type 0
 Post (rule.Expr m r bp) old new e = Answered old new m r.prefer_stmt bp e × Follows (expr_bp (is_some m) r bp) (of_expr e) old new
 Post (rule.Ty allow_bounds) old new e = IsType old new × Follows (type_with_bounds_cond allow_bounds) something old new

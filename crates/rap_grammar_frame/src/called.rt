@@ -1,4 +1,4 @@
-//! Rules that are come back to, as parts of others.
+//! Calls of the recursive rules, as parts of others.
 //! In the Rust crate: `grammar.rs`, and in `grammar/` `expressions.rs`, `generic_params.rs`, `patterns.rs`, `types.rs`.
 ghost use Rattle.std.specs.Prelude.{◌≡◌, ◌≢◌, ◌<◌, ◌≤◌, OnOk, IfOk, true, false, Some, None, ◌∷◌};
 ghost use Rattle.rap_base.specs.TokenKind.{COLON, FOR_KW, IF_KW};
@@ -24,7 +24,7 @@ use rap_events::parser::{CompletedMarker, Parser};
 use rap_grammar_scripts::T;
 use rap_grammar_scripts::arguments::Restrictions;
 
-/// What a function gives back, as `-> a`, if it says so. Answers whether it does.
+/// The return type of a function, as `-> a`, if there is one. Returns whether there is.
 pub fn opt_ret_type<G: Grammar>(p: &mut Parser<'_>, g: &G) -> Result<bool, NoMemory>
     requires within { Within G.valid G.left g.now (state p.old) }
     ensures grew { OnOk result (Grew (state p.old) (state p.new) 0) }

@@ -1,4 +1,4 @@
-//! What each kind of phrase begins with.
+//! First sets: the tokens with which each kind of phrase may begin.
 ghost use Rattle.std.specs.Prelude.{◌≡◌, ◌≢◌, ◌∷◌, ◌<◌, ◌≤◌, IsTrue, ◌⊎◌, true};
 ghost use Rattle.rap_base.specs.TokenKind.{EOF};
 ghost use Rattle.rap_events.specs.State.{state, next};

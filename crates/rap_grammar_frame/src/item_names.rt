@@ -9,7 +9,7 @@ ghost use Rattle.rap_grammar_scripts.specs.Grammar.{name_r};
 ghost use Rattle.rap_grammar_frame.specs.Grew.{Grew, Took};
 ghost use Rattle.rap_grammar_scripts.specs.Knot.{Follows};
 ghost use Rattle.rap_grammar_scripts.specs.Recovery.{is_item_recovery};
-ghost use Rattle.rap_grammar_frame.specs.Room.{name_room};
+ghost use Rattle.rap_grammar_frame.specs.Room.{name_room, recovery_events};
 ghost use Rattle.rap_grammar_scripts.specs.Script.{something};
 
 use crate::names::{given_name, name_r};
@@ -22,7 +22,7 @@ use rap_grammar_scripts::T;
 /// An item's name. Where it is missing, the next token is taken along, unless it is a brace or an item begins with it.
 #[inline(never)]
 pub fn item_name(p: &mut Parser<'_>) -> Result<(), NoMemory>
-    ensures grew { OnOk result (Grew (state p.old) (state p.new) 3) }
+    ensures grew { OnOk result (Grew (state p.old) (state p.new) recovery_events) }
     ensures took { OnOk result (next (state p.old) ≡ IDENT → Took (state p.old) (state p.new) name_room) }
     ensures script { OnOk result (Follows (name_r is_item_recovery) something (state p.old) (state p.new)) }
 {
@@ -38,7 +38,7 @@ pub fn item_name(p: &mut Parser<'_>) -> Result<(), NoMemory>
 /// parameters, or an item begins with it.
 #[inline(never)]
 pub fn fn_name(p: &mut Parser<'_>) -> Result<(), NoMemory>
-    ensures grew { OnOk result (Grew (state p.old) (state p.new) 3) }
+    ensures grew { OnOk result (Grew (state p.old) (state p.new) recovery_events) }
     ensures took { OnOk result (next (state p.old) ≡ IDENT → Took (state p.old) (state p.new) name_room) }
     ensures script { OnOk result (Follows (name_r is_item_paren_recovery) something (state p.old) (state p.new)) }
 {
@@ -50,7 +50,7 @@ pub fn fn_name(p: &mut Parser<'_>) -> Result<(), NoMemory>
     Ok(())
 }
 
-/// Where the search for a function's name ends.
+/// The recovery set of a function's name.
 fn item_paren_recovery_set() -> TokenSet
     ensures { (kind : ℕ) → member result kind ≡ is_item_paren_recovery kind }
 {

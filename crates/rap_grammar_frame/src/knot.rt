@@ -1,13 +1,13 @@
 //! How the rules of the grammar reach one another.
 //!
 //! Rust's grammar is one recursion: an expression holds types, a type expressions, a block both. Here no function
-//! calls itself, not even through others. Each is generic over [`Grammar`], the rules that it may come back to, and
+//! calls itself, not even through others. Each is generic over [`Grammar`], the rules that it may call in a cycle, and
 //! is proved from what that trait promises. A rule is called directly before a token was taken, and through the
 //! trait afterwards.
 //!
 //! One function, `run` of the crate on top of all rules, ties the knot: it hands each rule a `Grammar` that runs `run`
-//! again. It ends because a rule that is come back to has fewer tokens left than the one that came back: the trait asks
-//! for that, so a rule that came back to itself without taking a token would not be proved. And since a rule knows the
+//! again. It ends because a rule that is called through the trait has fewer tokens left than its caller: the trait
+//! requires that, so a rule that called itself without taking a token would not be proved. And since a rule knows the
 //! others by this trait alone, the crates of rules stand side by side.
 ghost use Rattle.std.specs.Prelude.{◌≡◌, ℕ, ◌<◌, ◌≤◌, IfOk};
 ghost use Rattle.rap_events.specs.State.{state};
@@ -17,7 +17,7 @@ use rap_base::no_memory::NoMemory;
 use rap_events::parser::{CompletedMarker, Marker, Parser};
 use rap_grammar_scripts::arguments::{BlockLike, Restrictions, Semicolon};
 
-/// The rules that are come back to, with fewer than `left` tokens to go.
+/// The recursive rules, which may be called where fewer than `left` tokens are left.
 pub trait Grammar {
     ghost left: { Self → ℕ };
 
@@ -31,7 +31,7 @@ pub trait Grammar {
         ensures { IfOk result (Post rule (state p.old) (state p.new)) };
 }
 
-/// A rule with its arguments.
+/// A recursive rule with its arguments.
 #[derive(Drop)]
 pub enum Rule {
     /// An expression of at least the power `bp`, from the marker on if there is one.
@@ -76,6 +76,6 @@ pub enum Rule {
     CfgPredicate,
 }
 
-/// What a rule gives: an expression's node, if it made one, and whether that reads like a block. The other rules give
-/// none.
+/// What a rule returns: an expression's node, if it made one, and whether that reads like a block. The other rules
+/// return none.
 pub type Answer = Option<(CompletedMarker, BlockLike)>;

@@ -24,7 +24,7 @@ pub trait Element {
     /// What elements begin with.
     ghost first: { Self → ℕ → Bool };
 
-    /// One element, if one begins. Answers whether the list can go on after it.
+    /// One element, if one begins. Returns whether the list can go on after it.
     fn parse<G: Grammar>(&self, p: &mut Parser<'_>, g: &G) -> Result<bool, NoMemory>
         requires behind { Behind G.valid G.left g.now (state p.old) }
         requires more { next (state p.old) ≢ EOF }

@@ -10,7 +10,7 @@ ghost use Rattle.rap_grammar_scripts.specs.Grammar as script;
 ghost use Rattle.rap_grammar_frame.specs.Grew.{Grew, Took};
 ghost use Rattle.rap_grammar_scripts.specs.Knot.{Follows};
 ghost use Rattle.rap_grammar_scripts.specs.Name.{given_name};
-ghost use Rattle.rap_grammar_frame.specs.Room.{name_room};
+ghost use Rattle.rap_grammar_frame.specs.Room.{name_room, recovery_events};
 ghost use Rattle.rap_grammar_scripts.specs.Script.{something};
 ghost use Rattle.rap_grammar_scripts.specs.Words.{starts_builtin};
 
@@ -41,7 +41,7 @@ pub fn is_path_name(kind: SyntaxKind) -> bool
 
 /// A name in a path, as `a` or `self`.
 pub fn name_ref_mod_path(p: &mut Parser<'_>) -> Result<(), NoMemory>
-    ensures grew { OnOk result (Grew (state p.old) (state p.new) 3) }
+    ensures grew { OnOk result (Grew (state p.old) (state p.new) recovery_events) }
     ensures took { OnOk result (next (state p.old) ≢ EOF → Took (state p.old) (state p.new) name_room) }
     ensures script { OnOk result (Follows script.name_ref_mod_path something (state p.old) (state p.new)) }
 {
@@ -64,7 +64,7 @@ pub fn is_path_name_or_index(kind: SyntaxKind) -> bool
 
 /// A name in a path or a field's number, as `a` or `0`.
 pub fn name_ref_mod_path_or_index(p: &mut Parser<'_>) -> Result<(), NoMemory>
-    ensures grew { OnOk result (Grew (state p.old) (state p.new) 3) }
+    ensures grew { OnOk result (Grew (state p.old) (state p.new) recovery_events) }
     ensures took { OnOk result (next (state p.old) ≢ EOF → Took (state p.old) (state p.new) name_room) }
     ensures script { OnOk result (Follows script.name_ref_mod_path_or_index something (state p.old) (state p.new)) }
 {
@@ -90,7 +90,7 @@ pub fn lifetime(p: &mut Parser<'_>) -> Result<(), NoMemory>
     Ok(())
 }
 
-/// A name that is there, as the `a` of `let a`.
+/// A declared name, as the `a` of `let a`.
 pub fn given_name(p: &mut Parser<'_>) -> Result<(), NoMemory>
     requires here { next (state p.old) ≡ IDENT }
     ensures took { OnOk result (Took (state p.old) (state p.new) name_room) }
@@ -102,10 +102,10 @@ pub fn given_name(p: &mut Parser<'_>) -> Result<(), NoMemory>
     Ok(())
 }
 
-/// A name that is given, as the `a` of `let a`. Where it is missing, the next token is taken along, unless it is a brace
-/// or in the set.
+/// A name that is given, as the `a` of `let a`. Where it is missing, the next token is taken along, unless it is a
+/// brace or in the set.
 pub fn name_r(p: &mut Parser<'_>, recovery: TokenSet) -> Result<(), NoMemory>
-    ensures grew { OnOk result (Grew (state p.old) (state p.new) 3) }
+    ensures grew { OnOk result (Grew (state p.old) (state p.new) recovery_events) }
     ensures took { OnOk result (next (state p.old) ≡ IDENT → Took (state p.old) (state p.new) name_room) }
     ensures script { OnOk result ((kept : ℕ → Bool) → ((kind : ℕ) → member recovery kind ≡ kept kind) → Follows (script.name_r kept) something (state p.old) (state p.new)) }
 {
@@ -119,7 +119,7 @@ pub fn name_r(p: &mut Parser<'_>, recovery: TokenSet) -> Result<(), NoMemory>
 
 /// A name that is given.
 pub fn name(p: &mut Parser<'_>) -> Result<(), NoMemory>
-    ensures grew { OnOk result (Grew (state p.old) (state p.new) 3) }
+    ensures grew { OnOk result (Grew (state p.old) (state p.new) recovery_events) }
     ensures took { OnOk result (next (state p.old) ≡ IDENT → Took (state p.old) (state p.new) name_room) }
     ensures script { OnOk result (Follows script.name something (state p.old) (state p.new)) }
 {
@@ -155,7 +155,7 @@ pub fn name_any_identifier(p: &mut Parser<'_>) -> Result<(), NoMemory>
 
 /// A name or `Self`.
 pub fn name_ref_or_upper_self(p: &mut Parser<'_>) -> Result<(), NoMemory>
-    ensures grew { OnOk result (Grew (state p.old) (state p.new) 3) }
+    ensures grew { OnOk result (Grew (state p.old) (state p.new) recovery_events) }
     ensures took { OnOk result (next (state p.old) ≢ EOF → Took (state p.old) (state p.new) name_room) }
     ensures script { OnOk result (Follows script.name_ref_or_upper_self something (state p.old) (state p.new)) }
 {
@@ -171,7 +171,7 @@ pub fn name_ref_or_upper_self(p: &mut Parser<'_>) -> Result<(), NoMemory>
 
 /// A name or `self`.
 pub fn name_ref_or_self(p: &mut Parser<'_>) -> Result<(), NoMemory>
-    ensures grew { OnOk result (Grew (state p.old) (state p.new) 3) }
+    ensures grew { OnOk result (Grew (state p.old) (state p.new) recovery_events) }
     ensures took { OnOk result (next (state p.old) ≢ EOF → Took (state p.old) (state p.new) name_room) }
     ensures script { OnOk result (Follows script.name_ref_or_self something (state p.old) (state p.new)) }
 {

@@ -1,4 +1,4 @@
-//! What ends the search for a phrase.
+//! Recovery sets: the tokens before which a missing phrase is reported and nothing is skipped.
 ghost use Rattle.std.specs.Prelude.{◌≡◌, ◌≢◌, ℕ, ◌<◌, ◌≤◌, ◌⊎◌};
 ghost use Rattle.rap_base.specs.TokenSet.{member};
 ghost use Rattle.rap_grammar_scripts.specs.Recovery.{is_type_recovery, is_expr_recovery, is_item_recovery};
@@ -6,14 +6,14 @@ ghost use Rattle.rap_grammar_scripts.specs.Recovery.{is_type_recovery, is_expr_r
 use rap_base::token_set::TokenSet;
 use rap_grammar_scripts::T;
 
-/// What ends the search for a type.
+/// The recovery set of types.
 pub fn type_recovery_set() -> TokenSet
     ensures { (kind : ℕ) → member result kind ≡ is_type_recovery kind }
 {
     TokenSet::new(&[T![')'], T![']'], T!['}'], T![>], T![,], T![pub]])
 }
 
-/// What ends the search for an expression.
+/// The recovery set of expressions.
 pub fn expr_recovery_set() -> TokenSet
     ensures { (kind : ℕ) → member result kind ≡ is_expr_recovery kind }
 {

@@ -6,7 +6,7 @@ ghost use Rattle.rap_grammar_scripts.specs.Consts as script;
 ghost use Rattle.rap_grammar_scripts.specs.Consts.{starts_const};
 ghost use Rattle.rap_grammar_frame.specs.Grew.{Within, Behind, Grew, Ended};
 ghost use Rattle.rap_grammar_scripts.specs.Knot.{Follows};
-ghost use Rattle.rap_grammar_frame.specs.Room.{item_room};
+ghost use Rattle.rap_grammar_frame.specs.Room.{item_room, recovery_events};
 ghost use Rattle.rap_grammar_scripts.specs.Script.{something};
 
 use rap_base::no_memory::NoMemory;
@@ -64,7 +64,7 @@ fn const_or_static<G: Grammar>(p: &mut Parser<'_>, g: &G, is_const: bool) -> Res
 
 /// The name. A constant may have none, as `const _: a = b;`.
 fn const_name(p: &mut Parser<'_>, is_const: bool) -> Result<(), NoMemory>
-    ensures grew { OnOk result (Grew (state p.old) (state p.new) 3) }
+    ensures grew { OnOk result (Grew (state p.old) (state p.new) recovery_events) }
     ensures script { OnOk result (Follows (script.const_name is_const) something (state p.old) (state p.new)) }
 {
     if !is_const {

@@ -6,7 +6,7 @@ ghost use Rattle.rap_events.specs.State.{state, next};
 ghost use Rattle.rap_grammar_scripts.specs.Functions as script;
 ghost use Rattle.rap_grammar_frame.specs.Grew.{Within, Behind, Took, Grew, Ended};
 ghost use Rattle.rap_grammar_scripts.specs.Knot.{Follows};
-ghost use Rattle.rap_grammar_frame.specs.Room.{item_room};
+ghost use Rattle.rap_grammar_frame.specs.Room.{item_room, recovery_events};
 ghost use Rattle.rap_grammar_scripts.specs.Script.{something};
 
 use rap_base::no_memory::NoMemory;
@@ -38,7 +38,7 @@ pub fn fn_<G: Grammar>(p: &mut Parser<'_>, g: &G, m: Marker) -> Result<(), NoMem
     Ok(())
 }
 
-/// What a function takes and gives back, and its `where`, as `(a: b) -> c where d: E`.
+/// The parameters of a function, its return type and its `where`, as `(a: b) -> c where d: E`.
 fn signature<G: Grammar>(p: &mut Parser<'_>, g: &G) -> Result<(), NoMemory>
     requires behind { Behind G.valid G.left g.now (state p.old) }
     ensures grew { OnOk result (Grew (state p.old) (state p.new) 1) }
@@ -65,7 +65,7 @@ fn fn_params<G: Grammar>(p: &mut Parser<'_>, g: &G) -> Result<(), NoMemory>
     Ok(())
 }
 
-/// What a function gives back, as `-> a`, and also without the arrow.
+/// The return type of a function, as `-> a`, and also without the arrow.
 fn fn_ret_type<G: Grammar>(p: &mut Parser<'_>, g: &G) -> Result<(), NoMemory>
     requires behind { Behind G.valid G.left g.now (state p.old) }
     ensures grew { OnOk result (Grew (state p.old) (state p.new) 0) }
@@ -100,7 +100,7 @@ fn unbalanced_brackets(p: &mut Parser<'_>) -> Result<(), NoMemory>
 /// The block of a function, or the semicolon in its place.
 fn fn_body<G: Grammar>(p: &mut Parser<'_>, g: &G) -> Result<(), NoMemory>
     requires within { Within G.valid G.left g.now (state p.old) }
-    ensures grew { OnOk result (Grew (state p.old) (state p.new) 3) }
+    ensures grew { OnOk result (Grew (state p.old) (state p.new) recovery_events) }
     ensures script { OnOk result (Follows script.fn_body something (state p.old) (state p.new)) }
 {
     if p.eat(T![;])? {

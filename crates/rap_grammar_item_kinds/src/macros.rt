@@ -83,7 +83,7 @@ fn macro_def_tokens(p: &mut Parser<'_>) -> Result<(), NoMemory>
     Ok(())
 }
 
-/// What a macro is expanded to, behind its parameters.
+/// The body of a macro, behind its parameters.
 fn macro_def_body(p: &mut Parser<'_>) -> Result<(), NoMemory>
     ensures grew { OnOk result (Grew (state p.old) (state p.new) 1) }
     ensures script { OnOk result (Follows script.macro_def_body something (state p.old) (state p.new)) }

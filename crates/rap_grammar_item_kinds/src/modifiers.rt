@@ -59,7 +59,7 @@ fn either(a: bool, b: bool) -> bool
     a || b
 }
 
-/// Whether a restriction to who may implement a trait comes next, and not the type of an implementation.
+/// Whether an `impl` restriction of a trait comes next, and not the type of an implementation.
 fn is_impl_restriction(p: &Parser<'_>) -> bool
     ensures here { result ≡ script.is_impl_restriction (state p.now).rest }
     ensures kind { result ≡ true → next (state p.now) ≡ IMPL_KW }
@@ -70,7 +70,7 @@ fn is_impl_restriction(p: &Parser<'_>) -> bool
             || p.nth(2) == T![in])
 }
 
-/// A restriction to who may implement a trait, as `impl(crate)`, if it comes next. Answers whether it does.
+/// An `impl` restriction of a trait, as `impl(crate)`, if it comes next. Returns whether it does.
 fn opt_impl_restriction<G: Grammar>(p: &mut Parser<'_>, g: &G) -> Result<bool, NoMemory>
     requires within { Within G.valid G.left g.now (state p.old) }
     ensures seen { IfOk result (λ found. Seen (state p.old) (state p.new) found) }
@@ -83,7 +83,7 @@ fn opt_impl_restriction<G: Grammar>(p: &mut Parser<'_>, g: &G) -> Result<bool, N
     Ok(true)
 }
 
-/// A restriction to who may implement a trait, as `impl(crate)`.
+/// An `impl` restriction of a trait, as `impl(crate)`.
 fn impl_restriction<G: Grammar>(p: &mut Parser<'_>, g: &G) -> Result<(), NoMemory>
     requires within { Within G.valid G.left g.now (state p.old) }
     requires here { next (state p.old) ≡ IMPL_KW }
@@ -178,7 +178,7 @@ fn is_auto_modifier(p: &Parser<'_>) -> bool
     p.at_contextual_kw(T![auto]) && p.nth(1) == T![trait]
 }
 
-/// What a function may be besides safe or not, as `const async`. Answers whether there was some of it.
+/// The `const` and `async` of a function. Returns whether there was one of them.
 fn qualifiers(p: &mut Parser<'_>) -> Result<bool, NoMemory>
     ensures seen { IfOk result (λ found. Seen (state p.old) (state p.new) found) }
     ensures script { IfOk result (λ found. Follows script.qualifiers (of_bool found) (state p.old) (state p.new)) }
@@ -192,7 +192,7 @@ fn qualifiers(p: &mut Parser<'_>) -> Result<bool, NoMemory>
     Ok(either(constant, either(asynchronous, generator)))
 }
 
-/// `unsafe`, and `safe` in an `extern` block. Answers whether there was one.
+/// `unsafe`, and `safe` in an `extern` block. Returns whether there was one.
 fn safety(p: &mut Parser<'_>, is_in_extern: bool) -> Result<bool, NoMemory>
     ensures seen { IfOk result (λ found. Seen (state p.old) (state p.new) found) }
     ensures script { IfOk result (λ found. Follows (script.safety is_in_extern) (of_bool found) (state p.old) (state p.new)) }
@@ -204,7 +204,7 @@ fn safety(p: &mut Parser<'_>, is_in_extern: bool) -> Result<bool, NoMemory>
     Ok(either(no_safety, safe))
 }
 
-/// An ABI, as `extern "C"`, if it comes next. Answers whether it does.
+/// An ABI, as `extern "C"`, if it comes next. Returns whether it does.
 fn opt_abi(p: &mut Parser<'_>) -> Result<bool, NoMemory>
     ensures seen { IfOk result (λ found. Seen (state p.old) (state p.new) found) }
     ensures script { IfOk result (λ found. Follows script.opt_abi (of_bool found) (state p.old) (state p.new)) }
@@ -216,7 +216,7 @@ fn opt_abi(p: &mut Parser<'_>) -> Result<bool, NoMemory>
     Ok(true)
 }
 
-/// `auto` before a trait, and `default` before what may be replaced. Answers whether there was one.
+/// `auto` before a trait, and `default` before what may be replaced. Returns whether there was one.
 fn auto_or_default(p: &mut Parser<'_>) -> Result<bool, NoMemory>
     ensures seen { IfOk result (λ found. Seen (state p.old) (state p.new) found) }
     ensures script { IfOk result (λ found. Follows script.auto_or_default (of_bool found) (state p.old) (state p.new)) }
@@ -257,7 +257,7 @@ fn is_default_async(p: &Parser<'_>) -> bool
         && (p.nth_at(2, T![fn]) || (p.nth_at(2, T![unsafe]) && p.nth_at(3, T![fn])))
 }
 
-/// `default` with the modifier behind it, if it comes next. Answers whether it does.
+/// `default` with the modifier behind it, if it comes next. Returns whether it does.
 fn opt_default(p: &mut Parser<'_>) -> Result<bool, NoMemory>
     ensures seen { IfOk result (λ found. Seen (state p.old) (state p.new) found) }
     ensures script { IfOk result (λ found. Follows script.opt_default (of_bool found) (state p.old) (state p.new)) }

@@ -145,7 +145,7 @@ fn mod_body<G: Grammar>(p: &mut Parser<'_>, g: &G) -> Result<(), NoMemory>
     Ok(())
 }
 
-/// What begins with `type`: another name of a type, or a constant behind `type const`.
+/// What begins with `type`: a type alias, or a constant behind `type const`.
 pub fn type_item<G: Grammar>(p: &mut Parser<'_>, g: &G, m: Marker) -> Result<(), NoMemory>
     requires within { Within G.valid G.left g.now (state p.old) }
     requires newest { (state p.old).marker ≡ Some m.pos.value }
@@ -161,7 +161,7 @@ pub fn type_item<G: Grammar>(p: &mut Parser<'_>, g: &G, m: Marker) -> Result<(),
     Ok(())
 }
 
-/// Another name of a type, as `type A<T>: B = c where T: D;`.
+/// A type alias, as `type A<T>: B = c where T: D;`.
 fn type_alias<G: Grammar>(p: &mut Parser<'_>, g: &G, m: Marker) -> Result<(), NoMemory>
     requires within { Within G.valid G.left g.now (state p.old) }
     requires newest { (state p.old).marker ≡ Some m.pos.value }
@@ -181,7 +181,7 @@ fn type_alias<G: Grammar>(p: &mut Parser<'_>, g: &G, m: Marker) -> Result<(), No
     Ok(())
 }
 
-/// The bounds of a type that is named, as `: A`, if there are.
+/// The bounds of a type alias, as `: A`, if there are.
 fn alias_bounds<G: Grammar>(p: &mut Parser<'_>, g: &G) -> Result<(), NoMemory>
     requires within { Within G.valid G.left g.now (state p.old) }
     ensures grew { OnOk result (Grew (state p.old) (state p.new) 0) }
@@ -194,7 +194,7 @@ fn alias_bounds<G: Grammar>(p: &mut Parser<'_>, g: &G) -> Result<(), NoMemory>
     Ok(())
 }
 
-/// The type that is named, as `= a`, if there is one.
+/// The type of a type alias, as `= a`, if there is one.
 fn aliased_type<G: Grammar>(p: &mut Parser<'_>, g: &G) -> Result<(), NoMemory>
     requires within { Within G.valid G.left g.now (state p.old) }
     ensures grew { OnOk result (Grew (state p.old) (state p.new) 0) }

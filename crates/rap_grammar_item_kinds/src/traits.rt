@@ -54,7 +54,7 @@ fn trait_body<G: Grammar>(p: &mut Parser<'_>, g: &G) -> Result<(), NoMemory>
     Ok(())
 }
 
-/// What a trait stands for, behind its `=`, as the `A + B;` of `trait C = A + B;`.
+/// The bounds of a trait alias, behind its `=`, as the `A + B;` of `trait C = A + B;`.
 fn trait_alias<G: Grammar>(p: &mut Parser<'_>, g: &G) -> Result<(), NoMemory>
     requires behind { Behind G.valid G.left g.now (state p.old) }
     ensures grew { OnOk result (Grew (state p.old) (state p.new) 17) }
@@ -116,7 +116,8 @@ fn is_impl_params_start(p: &Parser<'_>) -> bool
     p.at(T![<]) && not_a_qualified_path(p)
 }
 
-/// Whether the `<` that comes next begins parameters, and no type as in `impl <a>::b {}`. What may be both is parameters.
+/// Whether the `<` that comes next begins parameters, and no type as in `impl <a>::b {}`. What may be both is
+/// parameters.
 fn not_a_qualified_path(p: &Parser<'_>) -> bool
     ensures { result ≡ script.not_a_qualified_path (state p.now).rest }
 {

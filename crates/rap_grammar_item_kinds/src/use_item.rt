@@ -8,7 +8,7 @@ ghost use Rattle.rap_events.specs.Forest.{node};
 ghost use Rattle.rap_events.specs.State.{state, last_children, next};
 ghost use Rattle.rap_grammar_frame.specs.Grew.{Within, Took, Grew, Ended};
 ghost use Rattle.rap_grammar_scripts.specs.Knot.{Follows};
-ghost use Rattle.rap_grammar_frame.specs.Room.{item_room, list_room};
+ghost use Rattle.rap_grammar_frame.specs.Room.{item_room, list_room, recovery_events, use_list_room};
 ghost use Rattle.rap_grammar_scripts.specs.Script.{something};
 ghost use Rattle.rap_grammar_scripts.specs.UseItem as script;
 ghost use Rattle.rap_grammar_scripts.specs.UseItem.{is_group_first, starts_global_group, starts_use_tree};
@@ -45,7 +45,7 @@ pub fn use_<G: Grammar>(p: &mut Parser<'_>, g: &G, m: Marker) -> Result<(), NoMe
 #[inline(never)]
 fn expect_use_tree<G: Grammar>(p: &mut Parser<'_>, g: &G) -> Result<(), NoMemory>
     requires within { Within G.valid G.left g.now (state p.old) }
-    ensures grew { OnOk result (Grew (state p.old) (state p.new) 3) }
+    ensures grew { OnOk result (Grew (state p.old) (state p.new) recovery_events) }
     ensures script { OnOk result (Follows script.expect_use_tree something (state p.old) (state p.new)) }
 {
     if is_use_tree_start(p) {
@@ -110,7 +110,7 @@ pub fn use_tree<G: Grammar>(p: &mut Parser<'_>, g: &G) -> Result<(), NoMemory>
 fn group<G: Grammar>(p: &mut Parser<'_>, g: &G) -> Result<(), NoMemory>
     requires within { Within G.valid G.left g.now (state p.old) }
     requires first { is_group_first (next (state p.old)) ≡ true }
-    ensures took { OnOk result (Took (state p.old) (state p.new) (list_room + 4)) }
+    ensures took { OnOk result (Took (state p.old) (state p.new) use_list_room) }
     ensures script { OnOk result (Follows script.group something (state p.old) (state p.new)) }
 {
     if p.eat(T![*])? {
@@ -156,7 +156,7 @@ fn group_behind<G: Grammar>(p: &mut Parser<'_>, g: &G) -> Result<(), NoMemory>
 pub fn use_tree_list<G: Grammar>(p: &mut Parser<'_>, g: &G) -> Result<(), NoMemory>
     requires within { Within G.valid G.left g.now (state p.old) }
     requires here { next (state p.old) ≡ L_CURLY }
-    ensures took { OnOk result (Took (state p.old) (state p.new) (list_room + 4)) }
+    ensures took { OnOk result (Took (state p.old) (state p.new) use_list_room) }
     ensures one { OnOk result ((state p.new).forest ≡ node (state p.old).forest USE_TREE_LIST (last_children (state p.new).forest)) }
     ensures script { OnOk result (Follows script.use_tree_list something (state p.old) (state p.new)) }
 {
@@ -197,8 +197,8 @@ impl Element for NestedUseTree {
     }
 }
 
-/// Whether the list of trees goes on where a tree is missing. It keeps the table of the set off the stack of those that go
-/// deeper.
+/// Whether the list of trees goes on where a tree is missing. It is a function of its own so that the set takes no room
+/// on the stack of the rules that nest.
 #[inline(never)]
 fn use_tree_list_goes_on(p: &Parser<'_>) -> bool
     ensures here { result ≡ script.is_use_tree_list_recovery (next (state p.now)) }

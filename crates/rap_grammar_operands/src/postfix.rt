@@ -9,7 +9,7 @@ ghost use Rattle.rap_grammar_scripts.specs.Expressions as script;
 ghost use Rattle.rap_grammar_scripts.specs.Expressions.{of_like, is_block, calls_method};
 ghost use Rattle.rap_grammar_frame.specs.Grew.{Within, Grew, Wraps, Behind, Closes, Took};
 ghost use Rattle.rap_grammar_scripts.specs.Knot.{Follows};
-ghost use Rattle.rap_grammar_frame.specs.Room.{operand_room, arguments_room};
+ghost use Rattle.rap_grammar_frame.specs.Room.{operand_room, arguments_room, recovery_events};
 ghost use Rattle.rap_grammar_scripts.specs.Script.{something};
 ghost use Rattle.rap_grammar_scripts.specs.Words.{of_bool};
 
@@ -84,8 +84,8 @@ fn postfix_dot_expr<G: Grammar>(
 
 /// What follows a dot, and whether more may follow that: a range behind the dot of a float ends all postfixes.
 ///
-/// A float is one field, as `0.` in `a.0. b`, or two, as `0.1` in `a.0.1`. Its own dot may end it, and is then followed as
-/// any other.
+/// A float is one field, as `0.` in `a.0. b`, or two, as `0.1` in `a.0.1`. Its own dot may end it, and is then followed
+/// as any other.
 fn after_dot<G: Grammar>(
     p: &mut Parser<'_>,
     g: &G,
@@ -93,7 +93,7 @@ fn after_dot<G: Grammar>(
 ) -> Result<(CompletedMarker, bool), NoMemory>
     requires behind { Behind G.valid G.left g.now (state p.old) }
     requires newest { (state p.old).marker ≡ Some m.pos.value }
-    ensures closes { IfOk result (λ e. Closes e.0.kind.value 3 (state p.old) (state p.new) e.0 × (is_plain e.0.kind.value ≡ true)) }
+    ensures closes { IfOk result (λ e. Closes e.0.kind.value recovery_events (state p.old) (state p.new) e.0 × (is_plain e.0.kind.value ≡ true)) }
     ensures script { IfOk result (λ e. Follows script.after_dot (of_bool e.1) (state p.old) (state p.new)) }
 {
     'fields: loop {
@@ -120,7 +120,7 @@ fn name_after_dot<G: Grammar>(
 ) -> Result<CompletedMarker, NoMemory>
     requires behind { Behind G.valid G.left g.now (state p.old) }
     requires newest { (state p.old).marker ≡ Some m.pos.value }
-    ensures closes { IfOk result (λ cm. Closes cm.kind.value 3 (state p.old) (state p.new) cm × (is_plain cm.kind.value ≡ true)) }
+    ensures closes { IfOk result (λ cm. Closes cm.kind.value recovery_events (state p.old) (state p.new) cm × (is_plain cm.kind.value ≡ true)) }
     ensures script { OnOk result (Follows script.name_after_dot something (state p.old) (state p.new)) }
 {
     if is_method_call(p) {
@@ -192,7 +192,7 @@ fn method_call_expr<G: Grammar>(
 ) -> Result<CompletedMarker, NoMemory>
     requires behind { Behind G.valid G.left g.now (state p.old) }
     requires newest { (state p.old).marker ≡ Some m.pos.value }
-    ensures closes { IfOk result (Closes METHOD_CALL_EXPR 3 (state p.old) (state p.new)) }
+    ensures closes { IfOk result (Closes METHOD_CALL_EXPR recovery_events (state p.old) (state p.new)) }
     ensures script { OnOk result (Follows script.method_call_expr something (state p.old) (state p.new)) }
 {
     if is_path_name(p.current()) {
@@ -225,11 +225,11 @@ fn method_arguments<G: Grammar>(
     Ok(cm)
 }
 
-/// The wait for a future behind the dot, `await` after `a.`.
+/// An `await` behind the dot, as `await` after `a.`.
 fn await_expr(p: &mut Parser<'_>, m: Marker) -> Result<CompletedMarker, NoMemory>
     requires newest { (state p.old).marker ≡ Some m.pos.value }
     requires here { next (state p.old) ≡ AWAIT_KW }
-    ensures closes { IfOk result (Closes AWAIT_EXPR 3 (state p.old) (state p.new)) }
+    ensures closes { IfOk result (Closes AWAIT_EXPR recovery_events (state p.old) (state p.new)) }
     ensures script { OnOk result (Follows script.await_expr something (state p.old) (state p.new)) }
 {
     p.bump(T![await])?;
@@ -240,7 +240,7 @@ fn await_expr(p: &mut Parser<'_>, m: Marker) -> Result<CompletedMarker, NoMemory
 /// A field behind the dot, as `b` and `0` after `a.`.
 fn field_expr(p: &mut Parser<'_>, m: Marker) -> Result<CompletedMarker, NoMemory>
     requires newest { (state p.old).marker ≡ Some m.pos.value }
-    ensures closes { IfOk result (Closes FIELD_EXPR 3 (state p.old) (state p.new)) }
+    ensures closes { IfOk result (Closes FIELD_EXPR recovery_events (state p.old) (state p.new)) }
     ensures script { OnOk result (Follows script.field_expr something (state p.old) (state p.new)) }
 {
     if is_path_name_or_index(p.current()) {

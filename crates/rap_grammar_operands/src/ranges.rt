@@ -31,7 +31,7 @@ fn has_range_end(p: &Parser<'_>, r: Restrictions) -> bool
     is_expr_first(p.current()) && !has_access_after && !struct_forbidden
 }
 
-/// The dots of a range after its start `lhs`, as `..` and `..=b` after `a`. Answers whether an end followed them.
+/// The dots of a range after its start `lhs`, as `..` and `..=b` after `a`. Returns whether an end followed them.
 #[tactic(auto, using(rap_grammar_frame::proofs::Binary::width_positive))]
 #[inline(never)]
 pub fn range_expr<G: Grammar>(

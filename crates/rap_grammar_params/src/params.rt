@@ -97,7 +97,7 @@ fn fn_def_params<G: Grammar>(p: &mut Parser<'_>, g: &G) -> Result<(), NoMemory>
     Ok(())
 }
 
-/// The first parameter of a function, as `self` or `a: b`. Answers whether another one may follow.
+/// The first parameter of a function, as `self` or `a: b`. Returns whether another one may follow.
 fn first_param<G: Grammar>(p: &mut Parser<'_>, g: &G) -> Result<bool, NoMemory>
     requires behind { Behind G.valid G.left g.now (state p.old) }
     ensures grew { OnOk result (Grew (state p.old) (state p.new) 8) }
@@ -143,7 +143,7 @@ fn params<G: Grammar>(p: &mut Parser<'_>, g: &G, flavor: Flavor) -> Result<(), N
     Ok(())
 }
 
-/// A parameter with its attributes, as `#[a] b: c`. Answers whether another one may follow.
+/// A parameter with its attributes, as `#[a] b: c`. Returns whether another one may follow.
 fn attributed_param<G: Grammar>(p: &mut Parser<'_>, g: &G, flavor: Flavor) -> Result<bool, NoMemory>
     requires behind { Behind G.valid G.left g.now (state p.old) }
     ensures grew { OnOk result (Grew (state p.old) (state p.new) 4) }
@@ -156,7 +156,7 @@ fn attributed_param<G: Grammar>(p: &mut Parser<'_>, g: &G, flavor: Flavor) -> Re
     Ok(on)
 }
 
-/// A parameter from its marker on, and the comma after it. Answers whether another one may follow.
+/// A parameter from its marker on, and the comma after it. Returns whether another one may follow.
 fn marked_param<G: Grammar>(
     p: &mut Parser<'_>,
     g: &G,
@@ -188,7 +188,7 @@ fn is_param_first(kind: SyntaxKind) -> bool
     is_pattern_first(kind) || is_type_first(kind) || is_outer_attr_first(kind)
 }
 
-/// The comma after a parameter. Answers whether another one may follow. Where one begins, a missing comma is reported.
+/// The comma after a parameter. Returns whether another one may follow. Where one begins, a missing comma is reported.
 fn after_param(p: &mut Parser<'_>) -> Result<bool, NoMemory>
     ensures grew { OnOk result (Grew (state p.old) (state p.new) 1) }
     ensures script { IfOk result (λ on. Follows script.after_param (of_bool on) (state p.old) (state p.new)) }
@@ -298,7 +298,7 @@ fn param_type<G: Grammar>(p: &mut Parser<'_>, g: &G) -> Result<(), NoMemory>
     Ok(())
 }
 
-/// `: ...`, if it comes next. Answers whether it did.
+/// `: ...`, if it comes next. Returns whether it did.
 fn variadic_param(p: &mut Parser<'_>) -> Result<bool, NoMemory>
     ensures grew { OnOk result (Grew (state p.old) (state p.new) 0) }
     ensures script { IfOk result (λ found. Follows script.variadic_param (of_bool found) (state p.old) (state p.new)) }
@@ -311,7 +311,7 @@ fn variadic_param(p: &mut Parser<'_>) -> Result<bool, NoMemory>
     Ok(false)
 }
 
-/// A parameter that is a `self`, as `mut self: a` and `&'a mut self`, if one comes next. Answers whether it did.
+/// A parameter that is a `self`, as `mut self: a` and `&'a mut self`, if one comes next. Returns whether it did.
 fn opt_self_param<G: Grammar>(p: &mut Parser<'_>, g: &G) -> Result<bool, NoMemory>
     requires behind { Behind G.valid G.left g.now (state p.old) }
     ensures grew { OnOk result (Grew (state p.old) (state p.new) 0) }

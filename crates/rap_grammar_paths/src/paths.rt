@@ -11,7 +11,7 @@ ghost use Rattle.rap_grammar_frame.specs.Grew.{Within, Grew, Took, Behind, Spent
 ghost use Rattle.rap_grammar_scripts.specs.Knot.{Follows};
 ghost use Rattle.rap_grammar_scripts.specs.Paths as paths_script;
 ghost use Rattle.rap_grammar_scripts.specs.Recovery.{is_segment_recovery};
-ghost use Rattle.rap_grammar_frame.specs.Room.{path_room, segment_room, name_room, name_end_room, element_room, atom_room};
+ghost use Rattle.rap_grammar_frame.specs.Room.{path_room, segment_room, name_room, name_end_room, element_room, atom_room, dropped_events};
 ghost use Rattle.rap_grammar_scripts.specs.Script.{something};
 ghost use Rattle.rap_grammar_scripts.specs.Words.{of_option};
 
@@ -246,7 +246,7 @@ fn segment_name<G: Grammar>(
     requires within { Within G.valid G.left g.now (state p.old) }
     requires newest { (state p.old).marker ≡ Some m.pos.value }
     ensures some { IfOk result (λ o. IfSome o (λ cm. Closes PATH_SEGMENT 4 (state p.old) (state p.new) cm)) }
-    ensures none { IfOk result (λ o. o ≡ None → Dropped (state p.old) (state p.new) 5) }
+    ensures none { IfOk result (λ o. o ≡ None → Dropped (state p.old) (state p.new) dropped_events) }
     ensures took { OnOk result (is_path_name (next (state p.old)) ≡ true → Spent (state p.old) (state p.new) name_end_room) }
     ensures script { IfOk result (λ o. Follows (paths_script.segment_name mode empty) (of_option o) (state p.old) (state p.new)) }
 {
@@ -260,7 +260,8 @@ fn segment_name<G: Grammar>(
     Ok(Some(segment))
 }
 
-/// A segment's name is missing. It keeps the table of the set off the stack of those that go deeper.
+/// A segment's name is missing. It is a function of its own so that the set takes no room on the stack of the rules
+/// that nest.
 #[inline(never)]
 fn missing_segment_name(
     p: &mut Parser<'_>,
@@ -270,7 +271,7 @@ fn missing_segment_name(
 ) -> Result<Option<CompletedMarker>, NoMemory>
     requires newest { (state p.old).marker ≡ Some m.pos.value }
     ensures some { IfOk result (λ o. IfSome o (λ cm. Closes PATH_SEGMENT 4 (state p.old) (state p.new) cm)) }
-    ensures none { IfOk result (λ o. o ≡ None → Dropped (state p.old) (state p.new) 5) }
+    ensures none { IfOk result (λ o. o ≡ None → Dropped (state p.old) (state p.new) dropped_events) }
     ensures script { IfOk result (λ o. Follows (paths_script.missing_segment_name mode empty) (of_option o) (state p.old) (state p.new)) }
 {
     let stopped = p.err_recover(
@@ -285,7 +286,7 @@ fn missing_segment_name(
     Ok(Some(segment))
 }
 
-/// What ends the search for a segment's name.
+/// The recovery set of a segment's name.
 fn segment_recovery_set(mode: Mode) -> TokenSet
     ensures { (kind : ℕ) → member result kind ≡ is_segment_recovery mode kind }
 {
@@ -370,7 +371,7 @@ fn path_type_args<G: Grammar>(p: &mut Parser<'_>, g: &G, m: Marker) -> Result<()
     Ok(())
 }
 
-/// Two dots in parentheses, for whatever a function gives back, as `(..)` after `a::b`. The marker is open.
+/// Two dots in parentheses, for any return type, as `(..)` after `a::b`. The marker is open.
 fn return_type_syntax(p: &mut Parser<'_>, m: Marker) -> Result<(), NoMemory>
     requires newest { (state p.old).marker ≡ Some m.pos.value }
     requires here { next (state p.old) ≡ L_PAREN }
@@ -385,7 +386,7 @@ fn return_type_syntax(p: &mut Parser<'_>, m: Marker) -> Result<(), NoMemory>
     Ok(())
 }
 
-/// The types that a function takes and the one that it gives back, as `(a, b) -> c` after `Fn`. The marker is open.
+/// The types of a function's parameters and its return type, as `(a, b) -> c` after `Fn`. The marker is open.
 fn parenthesized_args<G: Grammar>(p: &mut Parser<'_>, g: &G, m: Marker) -> Result<(), NoMemory>
     requires within { Within G.valid G.left g.now (state p.old) }
     requires newest { (state p.old).marker ≡ Some m.pos.value }
@@ -399,7 +400,7 @@ fn parenthesized_args<G: Grammar>(p: &mut Parser<'_>, g: &G, m: Marker) -> Resul
     Ok(())
 }
 
-/// A type among those that a function takes, as `a` in `Fn(a)`.
+/// The type of a function's parameter, as `a` in `Fn(a)`.
 struct TypeArg;
 
 impl Element for TypeArg {

@@ -1,4 +1,4 @@
-//! Who may use an item or a field.
+//! Visibilities of items and fields.
 //! In the Rust crate: `grammar.rs`.
 ghost use Rattle.std.specs.Prelude.{◌≡◌, ◌≢◌, ◌<◌, ◌≤◌, IfOk, OnOk, true, false, ◌⊎◌};
 ghost use Rattle.rap_base.specs.TokenKind.{PUB_KW, L_PAREN, IN_KW};
@@ -18,7 +18,7 @@ use rap_grammar_frame::knot::Grammar;
 use rap_grammar_scripts::T;
 
 /// `pub` with its restriction, as `pub(crate)`, if it comes next. In a tuple's field, parentheses may be the field's
-/// type. Answers whether it does.
+/// type. Returns whether it does.
 pub fn opt_visibility<G: Grammar>(
     p: &mut Parser<'_>,
     g: &G,
@@ -39,8 +39,8 @@ pub fn opt_visibility<G: Grammar>(
     Ok(true)
 }
 
-/// Whether a restriction to a module comes next. In a tuple's field, parentheses around a name or around nothing are its
-/// type.
+/// Whether a restriction to a module comes next. In a tuple's field, parentheses around a name or around nothing are
+/// its type.
 fn starts_restriction(p: &Parser<'_>, in_tuple_field: bool) -> bool
     ensures here { result ≡ script.starts_restriction in_tuple_field (state p.now).rest }
     ensures paren { result ≡ true → next (state p.now) ≡ L_PAREN }
@@ -63,7 +63,7 @@ fn starts_in_restriction(p: &Parser<'_>) -> bool
     p.at(T!['(']) && p.nth_at(1, T![in])
 }
 
-/// A restriction in its parentheses, as `(crate)` and `(in a::b)`, if it comes next. Answers whether it does.
+/// A restriction in its parentheses, as `(crate)` and `(in a::b)`, if it comes next. Returns whether it does.
 pub fn opt_visibility_inner<G: Grammar>(
     p: &mut Parser<'_>,
     g: &G,

@@ -10,7 +10,7 @@ ghost use Rattle.rap_grammar_scripts.specs.Knot.{Follows};
 ghost use Rattle.rap_grammar_scripts.specs.Patterns as script;
 ghost use Rattle.rap_grammar_scripts.specs.Patterns.{ends_range_pat, starts_ident_pat, starts_literal_pat, starts_field, starts_rest_pat, ends_search};
 ghost use Rattle.rap_grammar_scripts.specs.Recovery.{is_pattern_recovery, stops_of};
-ghost use Rattle.rap_grammar_frame.specs.Room.{pattern_room, single_pattern_room, atom_pattern_room, list_room, name_room};
+ghost use Rattle.rap_grammar_frame.specs.Room.{pattern_room, single_pattern_room, atom_pattern_room, list_room, name_room, recovery_events};
 ghost use Rattle.rap_grammar_frame.specs.Rules.{IsAtomPattern, PatternUntil};
 ghost use Rattle.rap_grammar_scripts.specs.Script.{something, nothing};
 ghost use Rattle.rap_grammar_scripts.specs.Words.{of_option, of_bool};
@@ -37,7 +37,7 @@ fn is_range_pat_end_first(kind: SyntaxKind) -> bool
     is_literal_first(kind) || is_path_first(kind) || matches!(kind, T![-] | T![const])
 }
 
-/// What ends the search for a pattern.
+/// The recovery set of patterns.
 fn pat_recovery_set() -> TokenSet
     ensures { (kind : ℕ) → member result kind ≡ is_pattern_recovery kind }
 {
@@ -56,7 +56,7 @@ fn pat_recovery_set() -> TokenSet
     ])
 }
 
-/// What ends the search for a pattern, in an arm of a `match` or elsewhere.
+/// The recovery set of patterns, in an arm of a `match` or elsewhere.
 fn recovery_set(in_arm: bool) -> TokenSet
     ensures { (kind : ℕ) → member result kind ≡ ends_search in_arm kind }
 {
@@ -105,7 +105,7 @@ fn alternatives<G: Grammar>(p: &mut Parser<'_>, g: &G, in_arm: bool) -> Result<(
 /// A pattern without alternatives, as `a`, `0..=9`, `..9` and `..`.
 pub fn pattern_single_r<G: Grammar>(p: &mut Parser<'_>, g: &G, in_arm: bool) -> Result<(), NoMemory>
     requires within { Within G.valid G.left g.now (state p.old) }
-    ensures reads { OnOk result (PatternUntil (stops_of in_arm) 3 single_pattern_room (state p.old) (state p.new)) }
+    ensures reads { OnOk result (PatternUntil (stops_of in_arm) recovery_events single_pattern_room (state p.old) (state p.new)) }
     ensures script { OnOk result (Follows (script.pattern_single_r in_arm) something (state p.old) (state p.new)) }
 {
     if p.at(T![..=]) {
@@ -284,14 +284,14 @@ fn symbol_pat<G: Grammar>(
 fn missing_pat(p: &mut Parser<'_>, in_arm: bool) -> Result<(), NoMemory>
     requires no_reference { next (state p.old) ≢ AMP }
     requires end { next (state p.old) ≡ EOF → (state p.old).rest ≡ [] }
-    ensures reads { OnOk result (PatternUntil (stops_of in_arm) 3 atom_pattern_room (state p.old) (state p.new)) }
+    ensures reads { OnOk result (PatternUntil (stops_of in_arm) recovery_events atom_pattern_room (state p.old) (state p.new)) }
     ensures script { OnOk result (Follows (script.missing_pat in_arm) nothing (state p.old) (state p.new)) }
 {
     p.err_recover("expected pattern", recovery_set(in_arm))?;
     Ok(())
 }
 
-/// What the compiler alone reads, as `builtin#deref(a)` and `builtin#cfg(unix)`. An unknown name is not taken.
+/// A pattern behind `builtin#`, as `builtin#deref(a)` and `builtin#cfg(unix)`. An unknown name is not taken.
 fn builtin_pat<G: Grammar>(p: &mut Parser<'_>, g: &G) -> Result<Option<CompletedMarker>, NoMemory>
     requires within { Within G.valid G.left g.now (state p.old) }
     requires here { ReadsAs (state p.old) BUILTIN_KW }
@@ -402,7 +402,7 @@ fn at_field(p: &Parser<'_>, separator: SyntaxKind) -> bool
 /// A field of a record, as `x: 1`, `ref x` and `box x`.
 fn record_pat_field<G: Grammar>(p: &mut Parser<'_>, g: &G) -> Result<(), NoMemory>
     requires within { Within G.valid G.left g.now (state p.old) }
-    ensures grew { OnOk result (Grew (state p.old) (state p.new) 3) }
+    ensures grew { OnOk result (Grew (state p.old) (state p.new) recovery_events) }
     ensures took { OnOk result (next (state p.old) ≢ EOF → Took (state p.old) (state p.new) atom_pattern_room) }
     ensures script { OnOk result (Follows script.record_pat_field something (state p.old) (state p.new)) }
 {
@@ -488,7 +488,7 @@ fn record_pat_element<G: Grammar>(p: &mut Parser<'_>, g: &G) -> Result<(), NoMem
     Ok(())
 }
 
-/// Anything, as `_`.
+/// The wildcard, `_`.
 fn wildcard_pat(p: &mut Parser<'_>) -> Result<CompletedMarker, NoMemory>
     requires here { next (state p.old) ≡ UNDERSCORE }
     ensures made { IfOk result (Makes WILDCARD_PAT atom_pattern_room (state p.old) (state p.new)) }
@@ -551,7 +551,7 @@ fn tuple_pat<G: Grammar>(p: &mut Parser<'_>, g: &G) -> Result<CompletedMarker, N
     Ok(cm)
 }
 
-/// A comma before the first pattern, as in `(, a)`, which is reported. Answers whether there is one.
+/// A comma before the first pattern, as in `(, a)`, which is reported. Returns whether there is one.
 fn leading_comma(p: &mut Parser<'_>) -> Result<bool, NoMemory>
     ensures grew { OnOk result (Grew (state p.old) (state p.new) 0) }
     ensures script { IfOk result (λ comma. Follows script.leading_comma (of_bool comma) (state p.old) (state p.new)) }
@@ -563,7 +563,7 @@ fn leading_comma(p: &mut Parser<'_>) -> Result<bool, NoMemory>
     Ok(false)
 }
 
-/// What stands in parentheses. Answers whether it is one pattern, no comma and no `..`.
+/// What stands in parentheses. Returns whether it is one pattern, no comma and no `..`.
 fn tuple_patterns<G: Grammar>(
     p: &mut Parser<'_>,
     g: &G,
@@ -632,7 +632,7 @@ fn pat_list<G: Grammar>(p: &mut Parser<'_>, g: &G, ket: SyntaxKind) -> Result<()
     Ok(())
 }
 
-/// A name that is bound, as `a`, `ref mut a` and, where `with_at`, `a @ 1`.
+/// An identifier pattern, as `a`, `ref mut a` and, where `with_at`, `a @ 1`.
 fn ident_pat<G: Grammar>(
     p: &mut Parser<'_>,
     g: &G,
@@ -667,7 +667,7 @@ fn binding(p: &mut Parser<'_>) -> Result<(), NoMemory>
     Ok(())
 }
 
-/// The pattern behind a name, as the `@ 1` of `a @ 1`, if there is one and it may be there.
+/// The subpattern behind a name, as the `@ 1` of `a @ 1`, if there is one and it may be there.
 fn at_pattern<G: Grammar>(p: &mut Parser<'_>, g: &G, with_at: bool) -> Result<(), NoMemory>
     requires within { Within G.valid G.left g.now (state p.old) }
     ensures grew { OnOk result (Grew (state p.old) (state p.new) 0) }
@@ -680,7 +680,7 @@ fn at_pattern<G: Grammar>(p: &mut Parser<'_>, g: &G, with_at: bool) -> Result<()
     Ok(())
 }
 
-/// What is in a box, as `box a`.
+/// A box pattern, as `box a`.
 fn box_pat<G: Grammar>(p: &mut Parser<'_>, g: &G) -> Result<CompletedMarker, NoMemory>
     requires within { Within G.valid G.left g.now (state p.old) }
     requires here { next (state p.old) ≡ BOX_KW }
@@ -694,7 +694,7 @@ fn box_pat<G: Grammar>(p: &mut Parser<'_>, g: &G) -> Result<CompletedMarker, NoM
     Ok(cm)
 }
 
-/// What a block computes, as `const { 1 }`.
+/// A constant block, as `const { 1 }`.
 fn const_block_pat<G: Grammar>(p: &mut Parser<'_>, g: &G) -> Result<CompletedMarker, NoMemory>
     requires within { Within G.valid G.left g.now (state p.old) }
     requires here { next (state p.old) ≡ CONST_KW }

@@ -96,21 +96,27 @@ starts_operand_name rs = is_any_identifier (next_kind rs) && is_at EQ (drop 1 rs
 unfoldable pub operand_name : Script Phrase
 operand_name = only_if starts_operand_name (call name_any_identifier ▸ token EQ ▸ done)
 
--- which way a register's value goes: in or out, or both
+-- The direction of a register operand as an outcome: none, in or out, both. The outcome `block` stands for both here.
+abbrev pub one_way : Outcome
+one_way = something
+
+abbrev pub both_ways : Outcome
+both_ways = block
+
 abbrev pub of_way : Option Bool → Outcome
 of_way None = nothing
-of_way (Some true) = block
-of_way (Some false) = something
+of_way (Some true) = both_ways
+of_way (Some false) = one_way
 
 unfoldable pub dir_spec : Script Phrase
 dir_spec =
     start ▸
     choose
-    ((is_at IN_KW, token IN_KW ▸ finish ASM_DIR_SPEC ▸ give something)
-    ∷ (reads_as OUT_KW, bear OUT_KW ▸ finish ASM_DIR_SPEC ▸ give something)
-    ∷ (reads_as LATEOUT_KW, bear LATEOUT_KW ▸ finish ASM_DIR_SPEC ▸ give something)
-    ∷ (reads_as INOUT_KW, bear INOUT_KW ▸ finish ASM_DIR_SPEC ▸ give block)
-    ∷ (reads_as INLATEOUT_KW, bear INLATEOUT_KW ▸ finish ASM_DIR_SPEC ▸ give block)
+    ((is_at IN_KW, token IN_KW ▸ finish ASM_DIR_SPEC ▸ give one_way)
+    ∷ (reads_as OUT_KW, bear OUT_KW ▸ finish ASM_DIR_SPEC ▸ give one_way)
+    ∷ (reads_as LATEOUT_KW, bear LATEOUT_KW ▸ finish ASM_DIR_SPEC ▸ give one_way)
+    ∷ (reads_as INOUT_KW, bear INOUT_KW ▸ finish ASM_DIR_SPEC ▸ give both_ways)
+    ∷ (reads_as INLATEOUT_KW, bear INLATEOUT_KW ▸ finish ASM_DIR_SPEC ▸ give both_ways)
     ∷ [])
     (abandon ▸ give nothing)
 
@@ -127,6 +133,7 @@ reg_operand both =
 unfoldable pub asm_sym : Script Phrase
 asm_sym = test (is_at L_PAREN) (token L_PAREN ▸ call type_path ▸ expect R_PAREN ▸ done) (call type_path ▸ done)
 
+-- what follows a direction, and this script where there is none
 abbrev pub by_way : Outcome → Script Phrase → Script Phrase
 by_way nothing s = s
 by_way something s = call (reg_operand false) ▸ finish ASM_REG_OPERAND ▸ done
@@ -139,10 +146,12 @@ asm_operand =
     start ▸
     after dir_spec (λ way.
     by_way way
-    (test (reads_as LABEL_KW) (bear LABEL_KW (after block_expr (λ v. finish ASM_LABEL done)))
-    (test (is_at CONST_KW) (token CONST_KW (after expr (λ v. finish ASM_CONST done)))
-    (test (reads_as SYM_KW) (bear SYM_KW (after asm_sym (λ v. finish ASM_SYM done)))
-    (abandon (give nothing))))))
+    (choose
+    ((reads_as LABEL_KW, bear LABEL_KW ▸ call block_expr ▸ finish ASM_LABEL ▸ done)
+    ∷ (is_at CONST_KW, token CONST_KW ▸ call expr ▸ finish ASM_CONST ▸ done)
+    ∷ (reads_as SYM_KW, bear SYM_KW ▸ call asm_sym ▸ finish ASM_SYM ▸ done)
+    ∷ [])
+    (abandon ▸ give nothing)))
 
 -- what stands in the place of an operand
 unfoldable pub missing_operand : Script Phrase

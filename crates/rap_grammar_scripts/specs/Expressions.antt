@@ -35,6 +35,10 @@ of_expr (Some e) = of_like e.1
 abbrev pub operand_of : Restrictions → Restrictions
 operand_of r = record { forbid_structs = r.forbid_structs; prefer_stmt = false }
 
+-- the power at least of the operand of an operator before it: more than that of any operator between two
+abbrev pub prefix_power : ℕ
+prefix_power = 255
+
 -- the least power on the right of an operator: an assignment goes to the right
 abbrev pub right_of : ℕ → ℕ
 right_of op = if power op == 1 then 1 else power op + 1
@@ -83,10 +87,10 @@ ref_qualifier =
     (eat MUT_KW ▸ done)
 
 unfoldable pub ref_expr : Restrictions → Script Phrase
-ref_expr r = start ▸ token AMP ▸ call ref_qualifier ▸ recur (expression false r 255) ▸ finish REF_EXPR ▸ done
+ref_expr r = start ▸ token AMP ▸ call ref_qualifier ▸ recur (expression false r prefix_power) ▸ finish REF_EXPR ▸ done
 
 unfoldable pub prefix_expr : Restrictions → Script Phrase
-prefix_expr r = start ▸ any ▸ recur (expression false r 255) ▸ finish PREFIX_EXPR ▸ done
+prefix_expr r = start ▸ any ▸ recur (expression false r prefix_power) ▸ finish PREFIX_EXPR ▸ done
 
 -- a range without a start
 unfoldable pub prefix_range : Restrictions → ℕ → Script Phrase

@@ -111,7 +111,11 @@ unfoldable pub auto_or_default : Script Phrase
 auto_or_default =
     after (modifier_as is_auto_modifier AUTO_KW) (λ a. after opt_default (λ b. give (either_of a b)))
 
--- all modifiers: whether there were any, and whether `extern` was one
+-- Whether there were modifiers, and whether `extern` was one, as an outcome. `again` stands for a pair here.
+abbrev pub of_modifiers : Bool → Bool → Outcome
+of_modifiers any is_extern = again any is_extern
+
+-- all modifiers
 unfoldable pub modifiers : Bool → Script Phrase
 modifiers is_in_extern =
     after opt_impl_restriction (λ a.
@@ -119,4 +123,4 @@ modifiers is_in_extern =
     after (safety is_in_extern) (λ c.
     after opt_abi (λ d.
     after auto_or_default (λ e.
-    give (again (found (either_of a (either_of b (either_of c (either_of d e))))) (found d)))))))
+    give (of_modifiers (found (either_of a (either_of b (either_of c (either_of d e))))) (found d)))))))

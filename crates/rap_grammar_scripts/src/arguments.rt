@@ -1,4 +1,4 @@
-//! What rules are told by their callers.
+//! What rules get from their callers.
 ghost use Rattle.std.specs.Prelude.{◌≡◌, ◌≢◌, ◌<◌, ◌≤◌, ◌+◌, ◌⊎◌};
 ghost use Rattle.rap_base.specs.TokenKind.{EOF};
 ghost use Rattle.rap_grammar_scripts.specs.Params as params_script;

@@ -9,7 +9,7 @@ ghost use Rattle.rap_grammar_scripts.specs.GenericArgs as script;
 ghost use Rattle.rap_grammar_frame.specs.Grew.{Within, Took, Behind, Grew, Ended, Makes};
 ghost use Rattle.rap_grammar_scripts.specs.Knot.{Follows};
 ghost use Rattle.rap_grammar_scripts.specs.Recovery.{is_generic_arg_recovery};
-ghost use Rattle.rap_grammar_frame.specs.Room.{element_room, operand_room, atom_room};
+ghost use Rattle.rap_grammar_frame.specs.Room.{element_room, operand_room, atom_room, recovery_events};
 ghost use Rattle.rap_grammar_scripts.specs.Script.{something};
 
 use crate::generic_params::bounds;
@@ -146,7 +146,7 @@ fn assoc_value<G: Grammar>(p: &mut Parser<'_>, g: &G) -> Result<(), NoMemory>
     Ok(())
 }
 
-/// What ends the search for an argument.
+/// The recovery set of arguments.
 fn is_generic_arg_recovery(kind: SyntaxKind) -> bool
     ensures { result ≡ is_generic_arg_recovery kind }
 {
@@ -273,10 +273,11 @@ fn negative_const(p: &mut Parser<'_>) -> Result<(), NoMemory>
     Ok(())
 }
 
-/// A constant is missing. It keeps the table of the set off the stack of those that go deeper.
+/// A constant is missing. It is a function of its own so that the set takes no room on the stack of the rules that
+/// nest.
 #[inline(never)]
 fn missing_const(p: &mut Parser<'_>) -> Result<(), NoMemory>
-    ensures grew { OnOk result (Grew (state p.old) (state p.new) 3) }
+    ensures grew { OnOk result (Grew (state p.old) (state p.new) recovery_events) }
     ensures script { OnOk result (Follows const_script.missing_const something (state p.old) (state p.new)) }
 {
     p.err_recover(

@@ -68,7 +68,7 @@ impl Element for GenericParam {
     }
 }
 
-/// A parameter from its marker on. Answers whether there is one.
+/// A parameter from its marker on. Returns whether there is one.
 fn generic_param<G: Grammar>(p: &mut Parser<'_>, g: &G, m: Marker) -> Result<bool, NoMemory>
     requires behind { Behind G.valid G.left g.now (state p.old) }
     requires newest { (state p.old).marker ≡ Some m.pos.value }
@@ -184,7 +184,7 @@ fn lifetime_bound_list<G: Grammar>(p: &mut Parser<'_>, g: &G) -> Result<(), NoMe
     Ok(())
 }
 
-/// A lifetime's bound. One that is no lifetime is reported. Answers whether there is one.
+/// A lifetime's bound. One that is no lifetime is reported. Returns whether there is one.
 fn lifetime_bound<G: Grammar>(p: &mut Parser<'_>, g: &G) -> Result<bool, NoMemory>
     requires within { Within G.valid G.left g.now (state p.old) }
     ensures grew { OnOk result (Grew (state p.old) (state p.new) 4) }
@@ -254,7 +254,7 @@ fn type_bounds<G: Grammar>(p: &mut Parser<'_>, g: &G) -> Result<(), NoMemory>
     Ok(())
 }
 
-/// A bound, as `'a`, `A` and `(?A)`. Answers whether there is one.
+/// A bound, as `'a`, `A` and `(?A)`. Returns whether there is one.
 fn type_bound<G: Grammar>(p: &mut Parser<'_>, g: &G) -> Result<bool, NoMemory>
     requires within { Within G.valid G.left g.now (state p.old) }
     ensures grew { OnOk result (Grew (state p.old) (state p.new) 2) }
@@ -275,7 +275,7 @@ fn type_bound<G: Grammar>(p: &mut Parser<'_>, g: &G) -> Result<bool, NoMemory>
     Ok(true)
 }
 
-/// A bound without its parentheses, as `'a`, `for<'a> A<'a>` and `use<'a, T>`. Answers whether there is one.
+/// A bound without its parentheses, as `'a`, `for<'a> A<'a>` and `use<'a, T>`. Returns whether there is one.
 fn bare_bound<G: Grammar>(p: &mut Parser<'_>, g: &G) -> Result<bool, NoMemory>
     requires within { Within G.valid G.left g.now (state p.old) }
     ensures grew { OnOk result (Grew (state p.old) (state p.new) 0) }
@@ -352,7 +352,7 @@ impl Element for UseBoundArg {
     }
 }
 
-/// A trait as a bound, as `A`, `?A` and `const async A`. Answers whether there is one.
+/// A trait as a bound, as `A`, `?A` and `const async A`. Returns whether there is one.
 fn path_type_bound<G: Grammar>(p: &mut Parser<'_>, g: &G) -> Result<bool, NoMemory>
     requires within { Within G.valid G.left g.now (state p.old) }
     ensures grew { OnOk result (Grew (state p.old) (state p.new) 0) }
@@ -442,7 +442,7 @@ fn is_where_predicate(kind: SyntaxKind) -> bool
     kind != T![impl] && is_type_first(kind)
 }
 
-/// The comma after a predicate. Answers whether another predicate may follow.
+/// The comma after a predicate. Returns whether another predicate may follow.
 fn after_predicate(p: &mut Parser<'_>) -> Result<bool, NoMemory>
     ensures grew { OnOk result (Grew (state p.old) (state p.new) 1) }
     ensures script { IfOk result (λ on. Follows script.after_predicate (of_bool on) (state p.old) (state p.new)) }

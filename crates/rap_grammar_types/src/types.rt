@@ -152,7 +152,7 @@ fn paren_or_tuple_type<G: Grammar>(p: &mut Parser<'_>, g: &G) -> Result<(), NoMe
     Ok(())
 }
 
-/// What stands in parentheses. Answers whether it is one type and no comma.
+/// What stands in parentheses. Returns whether it is one type and no comma.
 fn tuple_types<G: Grammar>(p: &mut Parser<'_>, g: &G) -> Result<bool, NoMemory>
     requires behind { Behind G.valid G.left g.now (state p.old) }
     ensures grew { OnOk result (Grew (state p.old) (state p.new) 8) }
@@ -169,7 +169,7 @@ fn tuple_types<G: Grammar>(p: &mut Parser<'_>, g: &G) -> Result<bool, NoMemory>
     Ok(false)
 }
 
-/// The type of what never comes, `!`.
+/// The never type, `!`.
 #[inline(never)]
 fn never_type(p: &mut Parser<'_>) -> Result<(), NoMemory>
     requires here { next (state p.old) ≡ BANG }
@@ -273,7 +273,7 @@ fn ref_type<G: Grammar>(p: &mut Parser<'_>, g: &G) -> Result<(), NoMemory>
     Ok(())
 }
 
-/// A type that is found by itself, `_`.
+/// The inferred type, `_`.
 #[inline(never)]
 fn infer_type(p: &mut Parser<'_>) -> Result<(), NoMemory>
     requires here { next (state p.old) ≡ UNDERSCORE }
@@ -501,8 +501,8 @@ pub fn path_type_bounds<G: Grammar>(
     Ok(())
 }
 
-/// The bounds after a type of this kind, as `+ b` after `a`, if there are: all is one type of trait objects, and the type
-/// before them its first bound. A macro call has no bounds after it.
+/// The bounds after a type of this kind, as `+ b` after `a`, if there are: all is one type of trait objects, and the
+/// type before them its first bound. A macro call has no bounds after it.
 #[inline(never)]
 pub(crate) fn opt_type_bounds_as_dyn_trait_type<G: Grammar>(
     p: &mut Parser<'_>,

@@ -9,7 +9,7 @@ use Rattle.rap_lexed.specs.Builder.{leaves_of}
 use Rattle.rap_lexed.proofs.Handed.{Reached, reached-more, reached-stops}
 use Rattle.rap_lexed.proofs.TriviaRuns.{trivia-more, leaves-more, past-more}
 
--- trivia were handed out from the first builder's place to the second one's
+-- trivia were passed to the sink from the first builder's place to the second one's
 pub record Eats {S : Type 0} (takes : S → StrStepValue → S → Type 0) (b : Builder) (s : S) (d : Builder) (t : S) : Type 0 where
   pub within : d.pos ≤ length d.lexed.now.tokens
   pub same : d ≡ record b { pos = d.pos }
@@ -35,7 +35,7 @@ module _ {S : Type 0} (takes : S → StrStepValue → S → Type 0) (b : Builder
     pub eats-stops : {R : Type 0} (refuses : S → StrStepValue → R → S → Type 0) (t : S) (e : R) → Stops takes refuses m (str_token kind (text_of d.lexed.now.tokens d.pos 1) ∷ []) e t → Stops takes refuses s (leaves_of (trivia_at b.lexed.now.tokens b.pos)) e t
     eats-stops refuses t e h = reached-stops takes refuses (leaves_of (trivia_at b.lexed.now.tokens b.pos)) (str_token kind (text_of d.lexed.now.tokens d.pos 1) ∷ []) (leaves_of (trivia_at d.lexed.now.tokens (d.pos + 1))) s m t e next h
 
--- i tokens of n were handed out from the first builder's place on
+-- i tokens of n were passed to the sink from the first builder's place on
 pub record EatsSome {S : Type 0} (takes : S → StrStepValue → S → Type 0) (b : Builder) (s : S) (n i : ℕ) (d : Builder) (t : S) : Type 0 where
   pub same : d ≡ record b { pos = b.pos + i }
   pub so : Reached takes (leaves_of (take n (drop b.pos b.lexed.now.tokens))) s (leaves_of (take (n - i) (drop d.pos d.lexed.now.tokens))) t

@@ -20,4 +20,5 @@ pub mod Tails
 pub mod Tokens
 pub mod TriviaRuns
 pub mod Upto
+pub mod Used
 pub mod Walk

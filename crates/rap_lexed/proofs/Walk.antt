@@ -79,7 +79,7 @@ module _ {S : Type 0} (takes : S → StrStepValue → S → Type 0) (ts : List T
     pub stands-end : past_trivia b.lexed.now.tokens b.pos ≡ tree_end ts f
     stands-end = subst (λ (u : List Token). past_trivia u b.pos ≡ tree_end ts f) (sym h.same) h.end
 
--- whether all tokens were handed out, by where the tree ends
+-- whether all tokens were passed to the sink, by where the tree ends
 module _ {R : Type 0} (ts us : List Token) (f : Forest) (tree : one_tree f ≡ true) (shape : Tree f) (p : ℕ) (same : us ≡ ts) (end : p ≡ tree_end ts f) (answers : Answers ts f) (r : Result Bool R) (h : IfOk r (λ all. IsTrue all ↔ (p ≡ length us))) where
   pub answer-used : IfOk r (λ all. IsTrue all ↔ (used f ≡ significant ts))
   answer-used = IfOk-weaker r (λ all. IsTrue all ↔ (p ≡ length us)) (λ all. IsTrue all ↔ (used f ≡ significant ts))

@@ -14,3 +14,4 @@ pub mod StrSink
 pub mod StrStep
 pub mod Token
 pub mod Trivia
+pub mod Used

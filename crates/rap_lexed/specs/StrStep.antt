@@ -11,7 +11,7 @@ pub data StrStepValue : Type 0 where
   str_token : ℕ → List ℕ → StrStepValue
   str_error : List ℕ → ℕ → StrStepValue
 
--- the step that a sink is handed
+-- the step that a sink receives
 abbrev pub str_step_value : StrStep → StrStepValue
 str_step_value (Token kind text) = str_token kind text.now
 str_step_value (Enter kind) = str_enter kind

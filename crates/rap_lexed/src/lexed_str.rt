@@ -39,7 +39,7 @@ const FIRST_ROOM: usize = 4_194_304;
 pub enum LexFault {
     /// The text has more than [`MAX_TEXT`] bytes.
     TextTooLong,
-    /// A growth was refused for want of memory.
+    /// Out of memory: a growth was refused.
     NoMemory,
 }
 

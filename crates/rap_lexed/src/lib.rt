@@ -4,3 +4,4 @@
 
 pub mod lexed_str;
 pub mod shortcuts;
+pub mod used;

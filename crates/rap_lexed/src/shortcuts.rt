@@ -1,5 +1,10 @@
+<<<<<<< HEAD
 //! From a lexed text to the parser's input, and from the parser's output back to the text.
 ghost use Rattle.std.specs.Prelude.{◌≡◌, ◌+◌, ◌<◌, ◌↔◌, ◌∷◌, [], ◌++◌, length, drop, map, true, IsTrue, IfOk, OnOk, not, ◌||◌, ◌==◌};
+=======
+//! From a lexed text to the parser's input, and from the parser's output to the tree over the text.
+ghost use Rattle.std.specs.Prelude.{◌≡◌, ◌+◌, ◌<◌, ◌↔◌, ◌∷◌, [], ◌++◌, length, drop, true, IsTrue, IfOk, OnOk, not, ◌||◌, ◌==◌};
+>>>>>>> f02916d435961022e2d0f077c715717d9b148f50
 ghost use Rattle.rap_base.specs.TokenKind.{IDENT};
 ghost use Rattle.rap_base.specs.TokenTests.{is_trivia};
 ghost use Rattle.rap_base.specs.declared.edition.Edition.{Edition};
@@ -66,7 +71,7 @@ impl LexedStr<'_> {
     ///
     /// An identifier is handed over with the contextual keyword of its text, if it has one. A float number is marked
     /// as joint if its text does not end with a dot; any other token but an identifier if the token right after it
-    /// is neither trivia nor an identifier. The error is want of memory.
+    /// is neither trivia nor an identifier. The error means out of memory.
     pub fn to_input(&self, alloc: Global, edition: Edition) -> Result<Input, NoMemory>
         ensures records { IfOk result (λ input. input ≡ records self.now.tokens edition) }
         ensures count { IfOk result (λ input. length input ≡ significant self.now.tokens) }
@@ -78,16 +83,16 @@ impl LexedStr<'_> {
         Ok(input)
     }
 
-    /// Hands the tree of an output to a sink, with the texts of its leaves and with the trivia that the parser left
-    /// out. The answer says whether all tokens of the text were handed out.
+    /// Passes the steps of an output's tree to a sink, with the texts of its leaves and with the trivia that the parser
+    /// left out. The result says whether all tokens of the text were passed to the sink.
     ///
     /// The output is one tree over a prefix of this text's tokens. Trivia stand right before the node or the leaf that
     /// comes next; those at the text's beginning stand inside the root, and so do those with nothing after them. Of the
     /// trivia right before the node of an item, a field, a variant or a macro call the last ones stand inside, at its
     /// beginning: those from the farthest comment on that a walk back from the node reaches. The walk stops at white
     /// space that holds two line feeds in a row, but not where that stands right after a `/**/`. A message that follows
-    /// a node stands at that node's end, and where the first token begins that was not yet handed out. No memory is
-    /// taken, but by the sink. An error is the sink's refusal of a step; it has taken those before it.
+    /// a node stands at that node's end, and where the first token begins that was not yet passed to the sink. No
+    /// memory is taken, but by the sink. An error is the sink's refusal of a step; it has taken those before it.
     pub fn intersperse_trivia<S: StrSink>(
         &self,
         output: &Output,
@@ -99,7 +104,7 @@ impl LexedStr<'_> {
         ensures answer { IfOk result (λ all. IsTrue all ↔ (used output.now ≡ significant self.now.tokens)) }
 
         // What was handed out is one tree, each leaf stands for tokens that touch, and the texts of all its leaves
-        // are the text, where all were handed out.
+        // are the text, where all were passed to the sink.
         ensures tree { str_one_tree (with_trivia self.now.tokens output.now) ≡ true }
         ensures touching { TreeTouches self.now.tokens output.now }
         ensures whole { IfOk result (λ all. IsTrue all → str_joined (with_trivia self.now.tokens output.now) ≡ joined self.now.tokens) }

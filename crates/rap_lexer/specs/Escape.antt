@@ -110,7 +110,7 @@ pub data Escape (mode : Mode) : List ℕ → Result ℕ Fault → List ℕ → T
       → Escape mode (c ∷ rest) (Ok value) rest
   unknown : (c : ℕ) (rest : List ℕ) → simple_escape c ≡ None → c ≢ byte "x" → c ≢ byte "u"
       → Escape mode (c ∷ rest) (Err InvalidEscape) rest
-  -- the first character after `\x` is judged before the second is asked for
+  -- the first character after `\x` is checked before the second is read
   hex_short_first : Escape mode (codes "x") (Err TooShortHexEscape) []
   hex_wrong_first : (a : ℕ) (rest : List ℕ) → IsNoHexDigit a
       → Escape mode (byte "x" ∷ a ∷ rest) (Err InvalidCharInHexEscape) rest
@@ -194,7 +194,7 @@ Reports Str = StringReports Str
 Reports ByteStr = StringReports ByteStr
 Reports CStr = StringReports CStr
 
--- what is said of a fault
+-- the message of a fault
 abbrev pub message : Fault → Mode → List ℕ
 message ZeroChars mode = codes "empty character literal"
 message MoreThanOneChar mode = codes "character literal may only contain one codepoint"

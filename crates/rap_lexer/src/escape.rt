@@ -93,7 +93,7 @@ impl Mode {
 }
 
 impl Fault {
-    /// What is said of the fault in a literal of this kind.
+    /// The message of the fault in a literal of this kind.
     pub fn message(self, mode: Mode) -> &'static str
         ensures { result.now ≡ message self mode }
     {

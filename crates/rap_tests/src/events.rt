@@ -66,6 +66,32 @@ fn reads_tokens_back(rt: HostRuntime) -> Result<(), Fail> {
 }
 
 #[test]
+fn keeps_joints_over_words(rt: HostRuntime) -> Result<(), Fail> {
+    let mut input = Input::with_capacity(rt.alloc(), 3)?;
+    for i in 0..66 {
+        input.push(SyntaxKind::DOT, Edition::Edition2021)?;
+        if i % 3 == 2 || i == 64 {
+            input.was_joint();
+        }
+    }
+    for i in 66..130 {
+        input.push_joint(SyntaxKind::EQ, Edition::Edition2024, i % 3 == 2)?;
+    }
+    assert_eq!(rt; input.len(), 130);
+    for i in 0..130 {
+        assert_eq!(rt; input.is_joint(i), i % 3 == 2 || i == 64);
+        let first = i < 66;
+        assert_eq!(rt; input.kind(i) == SyntaxKind::DOT, first);
+        assert_eq!(rt; input.edition(i) == Edition::Edition2021, first);
+        assert!(rt; input.contextual_kind(i) == SyntaxKind::EOF);
+    }
+    assert!(rt; !input.is_joint(130) && !input.is_joint(192));
+    assert!(rt; input.kind(130) == SyntaxKind::EOF);
+    assert!(rt; input.edition(130) == Edition::Edition2024);
+    Ok(())
+}
+
+#[test]
 fn precedes_a_node(rt: HostRuntime) -> Result<(), Fail> {
     let input = comparison(rt.alloc())?;
     let mut p = Parser::new(rt.alloc(), &input);

@@ -33,7 +33,7 @@ fn write_lines<W: io::Write>(out: &mut W, printer: &Printer) -> io::Result<()>
 
 /// Parses the text and prints its tree and its messages, the tree's before the lexer's.
 ///
-/// Gives the program's status: 0 where there is no message, 1 where there is one, and 2 at a fault, which
+/// Returns the program's status: 0 where there is no message, 1 where there is one, and 2 at a fault, which
 /// is reported on `err`. At a fault nothing is written to `out`, unless `out` itself refused a write. The error is that
 /// of `err`, where it refused the report.
 pub fn run<W: io::Write, V: io::Write>(

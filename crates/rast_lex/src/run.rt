@@ -78,7 +78,7 @@ fn write_lines<W: io::Write>(out: &mut W, page: &Page) -> io::Result<()>
 
 /// Lists what is asked of the text.
 ///
-/// Gives the program's status: 0 where no message is listed, 1 where there is one, and 2 at a fault, which is
+/// Returns the program's status: 0 where no message is listed, 1 where there is one, and 2 at a fault, which is
 /// reported on `err`. At a fault nothing is written to `out`, unless `out` itself refused a write. The error is that of
 /// `err`, where it refused the report.
 pub fn run<W: io::Write, V: io::Write>(

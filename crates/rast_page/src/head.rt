@@ -1,4 +1,4 @@
-//! What stands in a page before its data: its form and its looks.
+//! What stands in a page before its data: its markup and its style.
 
 /// The head of a page. It asks for nothing over the network, and its policy lets it ask for nothing.
 pub const HEAD: &str = r##"<!doctype html>

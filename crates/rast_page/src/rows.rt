@@ -61,7 +61,7 @@ impl StrSink for Rows {
 
     ghost takes = { Records };
 
-    // After want of memory nothing is claimed of the rows.
+    // Once out of memory, nothing is claimed of the rows.
     ghost refuses = { λ _ _ _ _. Unit {0} };
 
     fn step(&mut self, step: StrStep<'_>) -> Result<(), NoMemory> {

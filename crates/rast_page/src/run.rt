@@ -102,7 +102,7 @@ fn write_page<W: io::Write>(out: &mut W, frame: &Frame, page: &Page) -> io::Resu
 /// Parses the text, and writes the page that shows it: the frame's head, the file's name, the tree's steps and the
 /// messages as one JSON object, and the frame's tail.
 ///
-/// Gives the program's status: 0 where there is no message, 1 where there is one, and 2 at a fault, which
+/// Returns the program's status: 0 where there is no message, 1 where there is one, and 2 at a fault, which
 /// is reported on `err`. At a fault nothing is written to `out`, unless `out` itself refused a write. The error is that
 /// of `err`, where it refused the report.
 pub fn run<W: io::Write, V: io::Write>(

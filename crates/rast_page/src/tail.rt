@@ -1,6 +1,6 @@
 //! What stands in a page after its data: the script that draws it.
 
-/// The tail of a page. What comes of the data is set as text alone, never as markup.
+/// The tail of a page. Data are shown as text alone, never as markup.
 pub const TAIL: &str = r##"</script>
 <script>
 'use strict';

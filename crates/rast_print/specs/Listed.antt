@@ -6,7 +6,8 @@ use Rattle.rap_events.specs.Forest.{Forest, flat, one_tree, used}
 use Rattle.rap_events.specs.StepValue.{StepValue, enter, exit, token, float_split, error}
 use Rattle.rap_lexed.specs.LexedStr.{Token}
 use Rattle.rap_lexed.specs.StrForest.{str_flat}
-use Rattle.rap_lexed.specs.Trivia.{is_trivial, with_trivia}
+use Rattle.rap_lexed.specs.Trivia.{with_trivia}
+use Rattle.rap_lexed.specs.Used.{end_after}
 use Rattle.rast_print.specs.Printed.{printed, reported}
 
 abbrev pub split_line : Bool → List ℕ
@@ -25,12 +26,6 @@ step_line (error bytes) = codes "error " ++ (bytes ++ codes "\n")
 abbrev pub step_lines : List StepValue → List ℕ
 step_lines [] = []
 step_lines (step ∷ steps) = step_line step ++ step_lines steps
-
--- how many bytes there are up to the end of the last of so many tokens that are no trivia
-abbrev pub end_after : ℕ → List Token → ℕ
-end_after zero ts = 0
-end_after (suc n) [] = 0
-end_after (suc n) (t ∷ ts) = length t.text + (if is_trivial t then end_after (suc n) ts else end_after n ts)
 
 -- where the last token that an output took ends
 abbrev pub used_line : List Token → Forest → List ℕ

@@ -18,11 +18,12 @@ use Rattle.rast_print.specs.declared.asked.Asked.{Asked}
 use Rattle.rast_print.specs.declared.asked.Asked.TheVariants.{Steps, Prefix, Reparse}
 use Rattle.rast_print.specs.declared.listing.ListFault.{ListFault}
 use Rattle.rast_print.specs.declared.listing.ListFault.TheVariants.{TextTooLong, TooManyTokens, NoBrace, NoMemory}
+use Rattle.rap_base.specs.Limits.{max_tokens}
 
 -- the text's tokens, few enough for the parser
 pub record IsRead (text : List ℕ) (edition : Edition) (lexed : Lexed) : Type 0 where
   pub lexing : IsLexing text edition lexed
-  pub few : length (records lexed.tokens edition) ≤ 8388607
+  pub few : length (records lexed.tokens edition) ≤ max_tokens
 
 -- the steps of a whole input
 pub record ListsSteps (text : List ℕ) (edition : Edition) (entry : TopEntryPoint) (lines : List ℕ) : Type 0 where

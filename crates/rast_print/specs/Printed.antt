@@ -18,7 +18,7 @@ line depth (str_token kind text) = indent depth ++ (name_of kind ++ (codes " " +
 line depth str_exit = []
 line depth (str_error text pos) = []
 
--- how many nodes are open after a step, as far as the machine counts
+-- how many nodes are open after a step, or the largest machine number where there are more
 abbrev pub depth_after : ℕ → StrStepValue → ℕ
 depth_after depth (str_enter kind) = min (depth + 1) (2 ^ 64 - 1)
 depth_after depth (str_token kind text) = depth

@@ -9,8 +9,9 @@ ghost use Rattle.rap_lexed.specs.LexedStr.{IsLexing};
 ghost use Rattle.rap_lexed.specs.StrForest.{str_flat};
 ghost use Rattle.rap_lexed.specs.Trivia.{significant, with_trivia};
 ghost use Rattle.rast_print.specs.Printed.{printed, reported};
-ghost use Rattle.rast_print.specs.Listed.{step_line, step_lines, end_after, used_line, tree_lines, tree_part};
+ghost use Rattle.rast_print.specs.Listed.{step_line, step_lines, used_line, tree_lines, tree_part};
 ghost use Rattle.rast_print.specs.Lists.{Comes, ComesOfNode, Lists, ListsNode, ListsPrefix, ListsSteps};
+ghost use Rattle.rap_base.specs.Limits.{max_tokens};
 
 use crate::asked::Asked;
 use crate::printer::Printer;
@@ -18,6 +19,7 @@ use ra_ap_parser::{
     Edition, Input, LexFault, LexedStr, NoMemory, Output, ParseFault, PrefixEntryPoint, Reparser,
     Step, TopEntryPoint, is_one_tree,
 };
+use rap_lexed::used::used_bytes;
 use std::alloc::{AllocError, Global};
 use std::fmt::Write as _;
 
@@ -30,7 +32,7 @@ pub enum ListFault {
     TooManyTokens,
     /// The node is to begin with a `{`, and the text does not.
     NoBrace,
-    /// A growth was refused for want of memory.
+    /// Out of memory: a growth was refused.
     NoMemory,
 }
 
@@ -99,45 +101,12 @@ fn push_steps(lines: &mut String, output: &Output) -> Result<(), AllocError>
     Ok(())
 }
 
-/// How many tokens an output took.
-#[tactic(auto, using(crate::proofs::Listings::tokens_in_flat))]
-fn used_tokens(output: &Output) -> usize
-    requires { used output.now ≤ 8388607 }
-    ensures { result ≡ used output.now }
-{
-    let mut count = 0usize;
-    'steps: for step in output.iter() {
-        count += match step {
-            Step::Token { n_input_tokens, .. } => n_input_tokens as usize,
-            Step::FloatSplit { .. } => 1,
-            _ => 0,
-        };
-    }
-    count
-}
-
-/// Where the last of so many tokens that are no trivia ends, in bytes.
-fn end_after(lexed: &LexedStr<'_>, count: usize) -> usize
-    ensures { result ≡ end_after count lexed.now.tokens }
-{
-    let mut left = count;
-    'tokens: for i in 0..lexed.len() {
-        if left == 0 {
-            return lexed.text_start(i);
-        }
-        if !lexed.kind(i).is_trivia() {
-            left -= 1;
-        }
-    }
-    lexed.text_start(lexed.len())
-}
-
 /// Adds the line that says where what an output took ends.
 fn push_used(lines: &mut String, lexed: &LexedStr<'_>, output: &Output) -> Result<(), AllocError>
-    requires { used output.now ≤ 8388607 }
+    requires { used output.now ≤ max_tokens }
     ensures { OnOk result (string_bytes lines.new ≡ string_bytes lines.old ++ used_line lexed.now.tokens output.now) }
 {
-    let end = end_after(lexed, used_tokens(output));
+    let end = used_bytes(lexed, output);
     writeln!(lines, "used {end}")?;
     Ok(())
 }

@@ -80,7 +80,7 @@ impl StrSink for Printer {
 
     ghost takes = { Prints };
 
-    // After want of memory nothing is claimed of the lines.
+    // Once out of memory, nothing is claimed of the lines.
     ghost refuses = { λ _ _ _ _. Unit {0} };
 
     fn step(&mut self, step: StrStep<'_>) -> Result<(), NoMemory> {

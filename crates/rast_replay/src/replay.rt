@@ -38,8 +38,8 @@ struct Count {
     different: usize,
 }
 
-/// Whether the line is as this library reads its text. Where it is not, it is printed behind `- `, and then what it would
-/// be behind `+ `, unless it is no row.
+/// Whether the line is as this library reads its text. Where it is not, it is printed behind `- `, and then what it
+/// would be behind `+ `, unless it is no row.
 fn is_same<W: io::Write>(alloc: Global, line: &str, out: &mut W) -> Result<bool, Fault>
     ensures { IfOk result (λ same. IsTrue same → IsRow line.now) }
 {
@@ -77,7 +77,7 @@ fn replay<W: io::Write>(alloc: Global, rows: &str, out: &mut W) -> Result<Count,
 /// Replays each row, prints those that this library reads otherwise, and then how many were the same and how many
 /// were not.
 ///
-/// Gives the program's status: 0 where none was different, 1 where one was, and 2 at a fault, which is reported on
+/// Returns the program's status: 0 where none was different, 1 where one was, and 2 at a fault, which is reported on
 /// `err`. The error is that of `err`, where it refused the report.
 pub fn run<W: io::Write, V: io::Write>(
     alloc: Global,

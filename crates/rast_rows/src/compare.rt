@@ -38,8 +38,8 @@ struct Count {
     different: usize,
 }
 
-/// Whether the text is read as its row says. Where it is not, it is printed behind `- `, then what it was to be, and then
-/// what it is behind `+ `.
+/// Whether the text is read as its row says. Where it is not, it is printed behind `- `, then what it was to be, and
+/// then what it is behind `+ `.
 fn is_same<W: io::Write>(
     alloc: Global,
     (edition, entry): (Edition, TopEntryPoint),
@@ -97,7 +97,7 @@ fn compare<W: io::Write>(alloc: Global, tables: &str, out: &mut W) -> Result<Cou
 /// Compares each text with its row, prints those that are read otherwise, and then how many were the same and how many
 /// were not.
 ///
-/// Gives the program's status: 0 where none was different, 1 where one was, and 2 at a fault, which is reported on
+/// Returns the program's status: 0 where none was different, 1 where one was, and 2 at a fault, which is reported on
 /// `err`. The error is that of `err`, where it refused the report.
 pub fn run<W: io::Write, V: io::Write>(
     alloc: Global,

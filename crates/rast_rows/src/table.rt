@@ -1,8 +1,8 @@
 //! Tables of texts with their trees and messages.
 //!
-//! A line `@ ENTRY EDITION` says how the texts below it are read. Each text stands between `«` and `»`; behind it stands its
-//! tree, on as many lines as it wants, and each message in a line of its own behind a bar, with its place, a further line of
-//! a message behind two bars. What stands behind `# ` is for the reader.
+//! A line `@ ENTRY EDITION` says how the texts below it are read. Each text stands between `«` and `»`; behind it
+//! stands its tree, on any number of lines, and each message in a line of its own behind a bar, with its place, a
+//! further line of a message behind two bars. What stands behind `# ` is for the reader.
 use crate::notation::{spelled_out, with_line_feeds};
 use ra_ap_parser::{Edition, TopEntryPoint};
 use rast_print::entry::Entry;

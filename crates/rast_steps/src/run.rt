@@ -33,8 +33,8 @@ fn write_lines<W: io::Write>(out: &mut W, lines: &str) -> io::Result<()>
 
 /// Lists what is asked of the text.
 ///
-/// Gives the program's status: 0 where it is listed, and 2 at a fault, which is reported on `err`. At a fault nothing is
-/// written to `out`, unless `out` itself refused a write. The error is that of `err`, where it refused the report.
+/// Returns the program's status: 0 where it is listed, and 2 at a fault, which is reported on `err`. At a fault nothing
+/// is written to `out`, unless `out` itself refused a write. The error is that of `err`, where it refused the report.
 pub fn run<W: io::Write, V: io::Write>(
     alloc: Global,
     edition: Edition,

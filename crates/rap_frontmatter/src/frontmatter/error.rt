@@ -45,7 +45,7 @@ impl FrontmatterError {
         })
     }
 
-    /// Adds a span after the visible ones. Where memory is wanted, the error that it took is dropped.
+    /// Adds a span after the visible ones. Out of memory, the error that it took is dropped.
     pub fn push_visible_span(mut self, span: Span) -> Result<FrontmatterError, NoMemory>
         ensures { IfOk result (λ e. e ≡ record self { visible = self.visible ++ span ∷ [] }) }
     {
@@ -124,7 +124,7 @@ impl fmt::Display for FrontmatterError {
 
 impl Error for FrontmatterError {}
 
-/// Why a text has no script source to give: it is refused, or memory is wanted to report how.
+/// Why a text has no script source to give: it is refused, or out of memory for the report.
 #[derive(Clone, PartialEq, Eq, Debug, Drop)]
 pub enum ScriptFault {
     Refused(FrontmatterError),

@@ -6,14 +6,15 @@ ghost use Rattle.rap_events.specs.Forest.{node};
 ghost use Rattle.rap_events.specs.Record.{next_kind};
 ghost use Rattle.rap_events.specs.State.{state, next, last_children};
 ghost use Rattle.rap_grammar.specs.Part.{IsPrefixOver, IsPrefixOf, IsOneNode, Goes, part_script, part_kind, in_braces, asks_brace};
-ghost use Rattle.rap_grammar_scripts.specs.Called as called;
+ghost use Rattle.rap_grammar_scripts.specs.Called as called_script;
 ghost use Rattle.rap_grammar_scripts.specs.Atom as atom_script;
 ghost use Rattle.rap_grammar_frame.specs.Grew.{Grew};
 ghost use Rattle.rap_grammar_frame.specs.Rules.{Pre, Post};
 ghost use Rattle.rap_grammar_scripts.specs.Statements as statement_script;
 ghost use Rattle.rap_grammar_scripts.specs.Items as item_script;
+ghost use Rattle.rap_base.specs.Limits.{max_tokens};
 
-use crate::knot::{Rules, run};
+use crate::knot::{Rules, all_rules, run};
 use rap_base::no_memory::NoMemory;
 use rap_events::input::Input;
 use rap_events::output::Output;
@@ -21,6 +22,7 @@ use rap_events::parser::Parser;
 use rap_grammar_adt::adt::{record_field_list, variant_list};
 use rap_grammar_blocks::blocks::block_expr;
 use rap_grammar_control::matches::match_arm_list;
+use rap_grammar_frame::called;
 use rap_grammar_frame::knot::{Answer, Rule};
 use rap_grammar_frame::token_tree::token_tree;
 use rap_grammar_item_kinds::modules::{extern_item_list, item_list};
@@ -122,7 +124,7 @@ fn run_part(p: &mut Parser<'_>, part: Part) -> Result<(), NoMemory>
 
 /// A part from the front of the input. Where it stands in braces and one comes first, the output is its node alone.
 pub fn parse_part(alloc: Global, input: &Input, part: Part) -> Result<Output, NoMemory>
-    requires few { length input.now ≤ 8388607 }
+    requires few { length input.now ≤ max_tokens }
     requires brace { asks_brace part ≡ true → next_kind input.now ≡ L_CURLY }
     ensures prefix { IfOk result (IsPrefixOver input.now) }
     ensures script { IfOk result (IsPrefixOf (part_script part) input.now) }
@@ -136,7 +138,7 @@ pub fn parse_part(alloc: Global, input: &Input, part: Part) -> Result<Output, No
 
 /// A statement without the semicolon that may stand behind it.
 pub fn stmt(alloc: Global, input: &Input) -> Result<Output, NoMemory>
-    requires { length input.now ≤ 8388607 }
+    requires { length input.now ≤ max_tokens }
     ensures prefix { IfOk result (IsPrefixOver input.now) }
     ensures script { IfOk result (IsPrefixOf (statement_script.stmt Semicolon.Forbidden) input.now) }
 {
@@ -149,55 +151,59 @@ pub fn stmt(alloc: Global, input: &Input) -> Result<Output, NoMemory>
 
 /// A pattern without alternatives.
 pub fn pattern_single(alloc: Global, input: &Input) -> Result<Output, NoMemory>
-    requires { length input.now ≤ 8388607 }
+    requires { length input.now ≤ max_tokens }
     ensures prefix { IfOk result (IsPrefixOver input.now) }
-    ensures script { IfOk result (IsPrefixOf called.pattern_single input.now) }
+    ensures script { IfOk result (IsPrefixOf called_script.pattern_single input.now) }
 {
     let mut p = Parser::new(alloc, input);
-    super::pattern_single(&mut p)?;
+    let g = all_rules(&p);
+    called::pattern_single(&mut p, &g)?;
     let output = p.process(alloc)?;
     Ok(output)
 }
 
 /// A pattern with its alternatives.
 pub fn pattern(alloc: Global, input: &Input) -> Result<Output, NoMemory>
-    requires { length input.now ≤ 8388607 }
+    requires { length input.now ≤ max_tokens }
     ensures prefix { IfOk result (IsPrefixOver input.now) }
-    ensures script { IfOk result (IsPrefixOf called.pattern input.now) }
+    ensures script { IfOk result (IsPrefixOf called_script.pattern input.now) }
 {
     let mut p = Parser::new(alloc, input);
-    super::pattern(&mut p)?;
+    let g = all_rules(&p);
+    called::pattern(&mut p, &g)?;
     let output = p.process(alloc)?;
     Ok(output)
 }
 
 /// A type.
 pub fn type_(alloc: Global, input: &Input) -> Result<Output, NoMemory>
-    requires { length input.now ≤ 8388607 }
+    requires { length input.now ≤ max_tokens }
     ensures prefix { IfOk result (IsPrefixOver input.now) }
-    ensures script { IfOk result (IsPrefixOf called.type_ input.now) }
+    ensures script { IfOk result (IsPrefixOf called_script.type_ input.now) }
 {
     let mut p = Parser::new(alloc, input);
-    super::type_(&mut p)?;
+    let g = all_rules(&p);
+    called::type_(&mut p, &g)?;
     let output = p.process(alloc)?;
     Ok(output)
 }
 
 /// An expression.
 pub fn expr(alloc: Global, input: &Input) -> Result<Output, NoMemory>
-    requires { length input.now ≤ 8388607 }
+    requires { length input.now ≤ max_tokens }
     ensures prefix { IfOk result (IsPrefixOver input.now) }
     ensures script { IfOk result (IsPrefixOf atom_script.expr input.now) }
 {
     let mut p = Parser::new(alloc, input);
-    super::expr(&mut p)?;
+    let g = all_rules(&p);
+    called::expr(&mut p, &g)?;
     let output = p.process(alloc)?;
     Ok(output)
 }
 
 /// An item, or a macro call in its place.
 pub fn item(alloc: Global, input: &Input) -> Result<Output, NoMemory>
-    requires { length input.now ≤ 8388607 }
+    requires { length input.now ≤ max_tokens }
     ensures prefix { IfOk result (IsPrefixOver input.now) }
     ensures script { IfOk result (IsPrefixOf (item_script.item_or_macro true true) input.now) }
 {
@@ -214,9 +220,9 @@ pub fn item(alloc: Global, input: &Input) -> Result<Output, NoMemory>
 
 /// What stands in the brackets of an attribute.
 pub fn meta_item(alloc: Global, input: &Input) -> Result<Output, NoMemory>
-    requires { length input.now ≤ 8388607 }
+    requires { length input.now ≤ max_tokens }
     ensures prefix { IfOk result (IsPrefixOver input.now) }
-    ensures script { IfOk result (IsPrefixOf called.inner_meta input.now) }
+    ensures script { IfOk result (IsPrefixOf called_script.inner_meta input.now) }
 {
     let mut p = Parser::new(alloc, input);
     super::meta_item(&mut p)?;

@@ -3,22 +3,25 @@
 ghost use Rattle.std.specs.Prelude.{◌≡◌, ◌≤◌, length, IfOk, false};
 ghost use Rattle.rap_base.specs.NodeKind.{SOURCE_FILE, MACRO_STMTS, MACRO_ITEMS};
 ghost use Rattle.rap_grammar_scripts.specs.Atom as script;
-ghost use Rattle.rap_grammar_scripts.specs.Called as called;
+ghost use Rattle.rap_grammar_scripts.specs.Called as called_script;
 ghost use Rattle.rap_grammar_scripts.specs.Items as item_script;
 ghost use Rattle.rap_grammar_scripts.specs.Statements as statement_script;
 ghost use Rattle.rap_grammar.specs.Top.{IsTreeOver, IsTopOf, IsRootOf};
+ghost use Rattle.rap_base.specs.Limits.{max_tokens};
 
 use super::{close_root, close_top};
+use crate::knot::all_rules;
 use rap_base::no_memory::NoMemory;
 use rap_base::syntax_kind::SyntaxKind;
 use rap_events::input::Input;
 use rap_events::output::Output;
 use rap_events::parser::Parser;
+use rap_grammar_frame::called;
 use std::alloc::Global;
 
 /// A file: `SOURCE_FILE` over the whole input.
 pub fn source_file(alloc: Global, input: &Input) -> Result<Output, NoMemory>
-    requires { length input.now ≤ 8388607 }
+    requires { length input.now ≤ max_tokens }
     ensures tree { IfOk result (IsTreeOver input.now) }
     ensures script { IfOk result (IsRootOf SOURCE_FILE item_script.source_file input.now) }
 {
@@ -31,39 +34,42 @@ pub fn source_file(alloc: Global, input: &Input) -> Result<Output, NoMemory>
 
 /// A pattern, with its alternatives. Where the input is no pattern, or not only one, the tree is an `ERROR`.
 pub fn pattern(alloc: Global, input: &Input) -> Result<Output, NoMemory>
-    requires { length input.now ≤ 8388607 }
+    requires { length input.now ≤ max_tokens }
     ensures tree { IfOk result (IsTreeOver input.now) }
-    ensures script { IfOk result (IsTopOf called.pattern input.now) }
+    ensures script { IfOk result (IsTopOf called_script.pattern input.now) }
 {
     let mut p = Parser::new(alloc, input);
     let m = p.start()?;
-    super::pattern(&mut p)?;
+    let g = all_rules(&p);
+    called::pattern(&mut p, &g)?;
     let output = close_top(alloc, p, m)?;
     Ok(output)
 }
 
 /// A type. Where the input is no type, or not only one, the tree is an `ERROR`.
 pub fn type_(alloc: Global, input: &Input) -> Result<Output, NoMemory>
-    requires { length input.now ≤ 8388607 }
+    requires { length input.now ≤ max_tokens }
     ensures tree { IfOk result (IsTreeOver input.now) }
-    ensures script { IfOk result (IsTopOf called.type_ input.now) }
+    ensures script { IfOk result (IsTopOf called_script.type_ input.now) }
 {
     let mut p = Parser::new(alloc, input);
     let m = p.start()?;
-    super::type_(&mut p)?;
+    let g = all_rules(&p);
+    called::type_(&mut p, &g)?;
     let output = close_top(alloc, p, m)?;
     Ok(output)
 }
 
 /// An expression. Where the input is no expression, or not only one, the tree is an `ERROR`.
 pub fn expr(alloc: Global, input: &Input) -> Result<Output, NoMemory>
-    requires { length input.now ≤ 8388607 }
+    requires { length input.now ≤ max_tokens }
     ensures tree { IfOk result (IsTreeOver input.now) }
     ensures script { IfOk result (IsTopOf script.expr input.now) }
 {
     let mut p = Parser::new(alloc, input);
     let m = p.start()?;
-    super::expr(&mut p)?;
+    let g = all_rules(&p);
+    called::expr(&mut p, &g)?;
     let output = close_top(alloc, p, m)?;
     Ok(output)
 }
@@ -71,9 +77,9 @@ pub fn expr(alloc: Global, input: &Input) -> Result<Output, NoMemory>
 /// What stands in the brackets of an attribute, as `cfg(a)` in `#[cfg(a)]`. Where more stands behind it, the tree is an
 /// `ERROR`.
 pub fn meta_item(alloc: Global, input: &Input) -> Result<Output, NoMemory>
-    requires { length input.now ≤ 8388607 }
+    requires { length input.now ≤ max_tokens }
     ensures tree { IfOk result (IsTreeOver input.now) }
-    ensures script { IfOk result (IsTopOf called.inner_meta input.now) }
+    ensures script { IfOk result (IsTopOf called_script.inner_meta input.now) }
 {
     let mut p = Parser::new(alloc, input);
     let m = p.start()?;
@@ -84,7 +90,7 @@ pub fn meta_item(alloc: Global, input: &Input) -> Result<Output, NoMemory>
 
 /// What a macro gives as statements: `MACRO_STMTS` over the whole input.
 pub fn macro_stmts(alloc: Global, input: &Input) -> Result<Output, NoMemory>
-    requires { length input.now ≤ 8388607 }
+    requires { length input.now ≤ max_tokens }
     ensures tree { IfOk result (IsTreeOver input.now) }
     ensures script { IfOk result (IsRootOf MACRO_STMTS statement_script.macro_stmts input.now) }
 {
@@ -97,7 +103,7 @@ pub fn macro_stmts(alloc: Global, input: &Input) -> Result<Output, NoMemory>
 
 /// What a macro gives as items: `MACRO_ITEMS` over the whole input.
 pub fn macro_items(alloc: Global, input: &Input) -> Result<Output, NoMemory>
-    requires { length input.now ≤ 8388607 }
+    requires { length input.now ≤ max_tokens }
     ensures tree { IfOk result (IsTreeOver input.now) }
     ensures script { IfOk result (IsRootOf MACRO_ITEMS (item_script.mod_contents false) input.now) }
 {

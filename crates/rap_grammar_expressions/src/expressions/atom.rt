@@ -213,7 +213,7 @@ fn tuple_expr<G: Grammar>(p: &mut Parser<'_>, g: &G) -> Result<CompletedMarker, 
     Ok(cm)
 }
 
-/// What stands in parentheses. Answers whether it is one expression and no comma.
+/// What stands in parentheses. Returns whether it is one expression and no comma.
 fn tuple_elements<G: Grammar>(p: &mut Parser<'_>, g: &G) -> Result<bool, NoMemory>
     requires behind { Behind G.valid G.left g.now (state p.old) }
     ensures grew { OnOk result (Grew (state p.old) (state p.new) 8) }
@@ -278,8 +278,8 @@ fn array_elements<G: Grammar>(p: &mut Parser<'_>, g: &G) -> Result<(), NoMemory>
     Ok(())
 }
 
-/// What stands behind an element of an array: a semicolon behind the first one, or a comma. Answers whether there was a
-/// semicolon, or nothing where the array ends.
+/// What stands behind an element of an array: a semicolon behind the first one, or a comma. Returns whether there was a
+/// semicolon, or `None` where the array ends.
 fn after_element(
     p: &mut Parser<'_>,
     is_first: bool,

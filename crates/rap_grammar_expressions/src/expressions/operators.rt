@@ -24,6 +24,9 @@ use rap_grammar_operands::ranges::range_expr;
 use rap_grammar_scripts::T;
 use rap_grammar_scripts::arguments::Restrictions;
 
+/// The least power of the operand of a prefix operator: it binds tighter than any operator between two operands.
+const PREFIX_POWER: u8 = 255;
+
 #[derive(Clone, Copy)]
 enum Associativity {
     Left,
@@ -235,7 +238,7 @@ pub(crate) fn ref_expr<G: Grammar>(
         Rule::Expr {
             m: None,
             r,
-            bp: 255,
+            bp: PREFIX_POWER,
         },
     )?;
     let cm = m.complete(p, SyntaxKind::REF_EXPR)?;
@@ -256,8 +259,7 @@ pub(crate) fn prefix_expr<G: Grammar>(
 {
     let m = p.start()?;
     p.bump_any()?;
-    // It binds tighter than any operator between two operands.
-    let bp = 255;
+    let bp = PREFIX_POWER;
     g.run(p, Rule::Expr { m: None, r, bp })?;
     let cm = m.complete(p, SyntaxKind::PREFIX_EXPR)?;
     Ok(cm)

@@ -43,7 +43,7 @@ impl LexError {
 }
 
 impl LexError {
-    /// Gives its text up.
+    /// The text of the message, which is moved out.
     fn into_message(self) -> String
         ensures { string_bytes result ≡ self.text }
     {

@@ -37,8 +37,8 @@ pub(super) fn takes_tail(kind: SyntaxKind) -> bool
 
 /// Where the attached tail of an item begins whose trivia begin at a place; without a tail, where they end.
 ///
-/// The trivia are gone through once, from the first on: a tail begins at a comment where none has begun, and a blank line
-/// ends it.
+/// The trivia are gone through once, from the first on: a tail begins at a comment where none has begun, and a blank
+/// line ends it.
 pub(super) fn tail_begin(lexed: &LexedStr<'_>, start: usize) -> usize
     requires { start ≤ length lexed.now.tokens }
     ensures { result + item_tail_len (trivia_at lexed.now.tokens start) ≡ past_trivia lexed.now.tokens start }
@@ -72,7 +72,7 @@ fn begin_after(lexed: &LexedStr<'_>, start: usize, begin: usize, i: usize) -> us
     }
 }
 
-/// Whether no tail goes on over this token: it is white space with a blank line, and not right after a `/**/`.
+/// Whether a tail ends before this token: it is white space with a blank line, and not right after a `/**/`.
 fn ends_tail(lexed: &LexedStr<'_>, start: usize, i: usize) -> bool
     requires first { start ≤ i }
     requires inside { i < length lexed.now.tokens }

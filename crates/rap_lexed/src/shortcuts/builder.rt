@@ -39,7 +39,7 @@ impl State {
     }
 }
 
-/// Where the walk through an output stands: how many tokens of the text were handed out, and what came last.
+/// Where the walk through an output stands: how many tokens of the text were passed to the sink, and what came last.
 #[derive(Drop)]
 pub(super) struct Builder<'a, 'text> {
     lexed: &'a LexedStr<'text>,
@@ -86,7 +86,7 @@ impl<'a, 'text> Builder<'a, 'text> {
         }
     }
 
-    /// Hands out what is left after the last step: trivia, and the root's end. Answers whether all tokens are out.
+    /// Hands out what is left after the last step: trivia, and the root's end. Returns whether all tokens are out.
     pub(super) fn finish<S: StrSink>(mut self, sink: &mut S) -> Result<bool, S::Refusal>
         requires { self.pos ≤ length self.lexed.now.tokens }
         ensures steps { HandsOut S.takes S.refuses sink.old (leaves_of (trivia_at self.entry.lexed.now.tokens self.entry.pos) ++ held self.entry.state) result sink.new }
@@ -140,7 +140,8 @@ impl<'a, 'text> Builder<'a, 'text> {
         self.enter_between_trivias(kind, sink)
     }
 
-    /// Hands out the beginning of a node, and the trivia that stand here: its attached tail after it, and the others before.
+    /// Hands out the beginning of a node, and the trivia that stand here: its attached tail after it, and the others
+    /// before.
     fn enter_between_trivias<S: StrSink>(
         &mut self,
         kind: SyntaxKind,

@@ -1,4 +1,4 @@
-//! Sixteen bytes at a time.
+//! Scans of sixteen bytes at a time.
 ghost use Rattle.std.specs.Prelude.{◌≡◌, ◌≢◌, ◌<◌, ℕ, not, map, length};
 ghost use Rattle.std.specs.Int.{bit_at};
 ghost use Rattle.std.specs.Simd.Lanes.{mask_l};

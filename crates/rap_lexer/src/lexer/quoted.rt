@@ -146,7 +146,7 @@ fn lifetime(cursor: &mut Cursor<'_>) -> Lexeme
     }
 }
 
-/// Takes a lifetime that is not raw, or the character that it turns out to be.
+/// Takes a lifetime that is not raw; with a quote after it, it is a character.
 fn common_lifetime(cursor: &mut Cursor<'_>) -> Lexeme
     ensures { IsCommonLifetime cursor.old result cursor.new }
 {

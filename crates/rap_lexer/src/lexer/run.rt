@@ -21,13 +21,13 @@ pub enum Class {
     InRawString,
     /// All but `/` and `*`.
     InBlock,
-    /// What an identifier begins with: `_` or XID_Start.
+    /// The first character of an identifier: `_` or XID_Start.
     IdentStart,
-    /// What an identifier goes on with: XID_Continue.
+    /// A later character of an identifier: XID_Continue.
     IdentContinue,
     /// The property Emoji past ASCII.
     Emoji,
-    /// What an identifier with an emoji in it goes on with: XID_Continue, emoji, and the joiner U+200D.
+    /// A later character of an identifier with an emoji in it: XID_Continue, emoji, and the joiner U+200D.
     InvalidContinue,
     /// The digits 0 to 9.
     Digit,

@@ -1,4 +1,4 @@
-use Rattle.std.proofs.Common.{rules, arith, ◌<◌, length, refl}
+use Rattle.std.proofs.Common.{rules, arith, ◌<◌, ◌/◌, length, refl}
 use Rattle.std.proofs.lemmas.Grind.{common_steps}
 use Rattle.rap_base.specs.TokenSet.{member}
 use Rattle.rap_base.proofs.TokenSets.{with_next, without_kinds}
@@ -11,8 +11,8 @@ kinds-init c = record { size = refl; kinds_so_far = without_kinds }
 pub kinds-preserved : goal.kinds-preserved
 unfolding member
 kinds-preserved c =
-    let token : c.from.result < 157 = grind (arith, common_steps) in
-    let within : c.from.result < length c.kinds.set.has = omega (arith, c.kinds.invariant.size) in
+    let token : c.from-number.result < 157 = grind (arith, common_steps) in
+    let within : c.from-number.result / 64 < length c.kinds.set.words = omega (arith, c.kinds.invariant.size) in
     record {
       size = search rules;
       kinds_so_far = λ k. with_next _ _ _ _ k within c.kinds-test.true (search rules) (c.kinds.invariant.kinds_so_far k);

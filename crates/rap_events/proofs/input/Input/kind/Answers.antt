@@ -1,15 +1,12 @@
-use Rattle.std.proofs.Common.{◌<◌, ◌≤◌, length, sym, arith}
-use Rattle.rap_events.proofs.Records.{is_at, is_past}
+use Rattle.std.proofs.Common.{sym, ◌∙◌}
+use Rattle.rap_events.proofs.Columns.{reads, reads_past}
 use Rattle.rap_events.proofs.input.Input.kind.Goals as goal
 
-pub returns-then-index-len : goal.returns-then-index-len
-returns-then-index-len c =
-    let tokens = c.self.inside.tokens in
-    let within : c.args.index < length tokens.items = omega (arith, tokens.ok.0) in
-    rw (← c.self.view_is) (sym (is_at tokens.items c.args.index c.index.result.now within c.index.ensures).kind)
+pub returns-then-index-self : goal.returns-then-index-self
+returns-then-index-self c =
+    let columns = c.self.inside.columns in
+    rw (← c.self.view_is) (c.index.ensures ∙ ? ∙ sym (reads columns c.self.inside.len c.args.index c.if-index-self.true).kind)
 
-pub returns-else-index-len : goal.returns-else-index-len
-returns-else-index-len c =
-    let tokens = c.self.inside.tokens in
-    let past : length tokens.items ≤ c.args.index = omega (arith, tokens.ok.0) in
-    rw (← c.self.view_is) (sym (is_past tokens.items c.args.index past).kind)
+pub returns-else-index-self : goal.returns-else-index-self
+returns-else-index-self c =
+    rw (← c.self.view_is) (sym (reads_past c.self.inside.columns c.self.inside.len c.args.index c.if-index-self.false).kind)

@@ -1,0 +1,116 @@
+//! The lists in which an input keeps its records.
+ghost use Rattle.std.specs.Prelude.{◌≡◌, ℕ, ◌+◌, ◌*◌, ◌<◌, length, [], ◌∷◌, ◌++◌, IfOk, OnOk};
+ghost use Rattle.rap_base.specs.Bits.{bit};
+ghost use Rattle.rap_events.specs.Record.{with_last_joint};
+ghost use Rattle.rap_events.specs.Input.{records, Holds};
+
+use rap_base::edition::Edition;
+use rap_base::no_memory::NoMemory;
+use rap_base::syntax_kind::SyntaxKind;
+use std::alloc::Global;
+
+/// How many records a word of joints has bits for. The lists grow by so many.
+const BLOCK: usize = 64;
+
+/// The fields of the records, a list for each, at the record's place. Whether record i is joint is bit i mod 64 of
+/// word i div 64 of the joints.
+///
+/// The lists are filled up past the last record, to 64 for each word of joints, so that there is room for a record
+/// where its place is below that.
+#[derive(Drop)]
+pub(super) struct Columns {
+    pub(super) kinds: Vec<SyntaxKind>,
+    pub(super) contextual_kinds: Vec<SyntaxKind>,
+    pub(super) editions: Vec<Edition>,
+    pub(super) joints: Vec<u64>,
+}
+
+impl Columns {
+    /// Lists without records, which grow to `capacity` of them without asking for memory again.
+    pub(super) fn with_capacity(alloc: Global, capacity: usize) -> Result<Columns, NoMemory>
+        ensures { IfOk result (λ columns. Holds columns 0) }
+    {
+        let words = capacity.div_ceil(BLOCK);
+        let room = words.saturating_mul(BLOCK);
+        let kinds = Vec::with_capacity(alloc, room)?;
+        let contextual_kinds = Vec::with_capacity(alloc, room)?;
+        let editions = Vec::with_capacity(alloc, room)?;
+        let joints = Vec::with_capacity(alloc, words)?;
+        Ok(Columns {
+            kinds,
+            contextual_kinds,
+            editions,
+            joints,
+        })
+    }
+
+    /// Sees to it that there is room for a record after the first `len`, whatever the result without a change to these.
+    pub(super) fn make_room(&mut self, len: usize) -> Result<(), NoMemory>
+        requires { Holds self.old len }
+        ensures holds { Holds self.new len }
+        ensures room { OnOk result (len < 64 * length self.new.joints.items) }
+        ensures records { records self.new len ≡ records self.old len }
+    {
+        let room = self.joints.len() * BLOCK;
+        if len < room {
+            return Ok(());
+        }
+        self.grow(len)
+    }
+
+    /// Fills the lists up by 64 places. The word of joints comes last, so that its places count only where the other
+    /// lists have grown.
+    fn grow(&mut self, len: usize) -> Result<(), NoMemory>
+        requires holds { Holds self.old len }
+        requires full { len ≡ 64 * length self.old.joints.items }
+        ensures holds { Holds self.new len }
+        ensures room { OnOk result (len < 64 * length self.new.joints.items) }
+        ensures records { records self.new len ≡ records self.old len }
+    {
+        let Some(room) = len.checked_add(BLOCK) else {
+            return Err(NoMemory);
+        };
+        self.kinds.resize(room, SyntaxKind::EOF)?;
+        self.contextual_kinds.resize(room, SyntaxKind::EOF)?;
+        self.editions.resize(room, Edition::Edition2024)?;
+        self.joints.push(0)?;
+        Ok(())
+    }
+
+    /// Writes the record at a place that has room, where the records end.
+    pub(super) fn write(
+        &mut self,
+        place: usize,
+        kind: SyntaxKind,
+        contextual_kind: SyntaxKind,
+        edition: Edition,
+        joint: bool,
+    )
+        requires holds { Holds self.old place }
+        requires room { place < 64 * length self.old.joints.items }
+        ensures holds { Holds self.new (place + 1) }
+        ensures records { records self.new (place + 1) ≡ records self.old place ++ record { kind = kind; contextual = contextual_kind; edition = edition; joint = joint } ∷ [] }
+    {
+        self.kinds[place] = kind;
+        self.contextual_kinds[place] = contextual_kind;
+        self.editions[place] = edition;
+        self.joints[place / BLOCK] |= u64::from(joint) << (place % BLOCK);
+    }
+
+    /// Makes the last record joint.
+    pub(super) fn set_joint(&mut self, last: usize)
+        requires { Holds self.old (last + 1) }
+        ensures holds { Holds self.new (last + 1) }
+        ensures records { records self.new (last + 1) ≡ with_last_joint (records self.old (last + 1)) }
+    {
+        self.joints[last / BLOCK] |= 1 << (last % BLOCK);
+    }
+
+    /// Whether the record at a place is joint.
+    pub(super) fn is_joint(&self, place: usize) -> bool
+        requires { place < 64 * length self.now.joints.items }
+        ensures { result ≡ bit self.now.joints.items place }
+    {
+        (self.joints[place / BLOCK] >> (place % BLOCK)) & 1 == 1
+    }
+}
