@@ -1,38 +1,35 @@
 //! Times this package, and beside it the Rust crate and syn where they are linked, in one process and on the same texts.
 //!
 //! Each text is read by each parser in turn, several rounds over, and the least time of a text counts. The package and the
-//! Rust crate go from the text to the steps of the tree, by `LexedStr::new`, `to_input`, `parse` and `intersperse_trivia`;
-//! syn builds its own tree. What a step hands out is added up, so that no parser can leave out a step.
+//! Rust crate go from the text to the steps of the tree, by `LexedStr::new`, `to_input`, `parse` and `intersperse_trivia`,
+//! and write each step into memory that is kept; syn builds its own tree.
 use std::hint::black_box;
 use std::time::{Duration, Instant};
 
-/// What is counted of a text's steps: how many there are, and how many bytes its tokens and its messages have.
-#[derive(Clone, Copy, Debug, Default, PartialEq, Eq)]
-struct Count {
-    steps: usize,
-    bytes: usize,
-    message_bytes: usize,
-}
+/// A step, as whoever builds a tree takes it: a number for what it is, and the bytes of its text or its message.
+type Taken = (u32, usize, usize);
 
-type Parser = fn(&str) -> Option<Count>;
+type Parser = fn(&str, &mut Vec<Taken>) -> Option<usize>;
 
 /// Makes a function that goes the whole way with a crate of these names.
 macro_rules! parser {
     ($name:ident, $parser:ident) => {
-        fn $name(text: &str) -> Option<Count> {
+        fn $name(text: &str, steps: &mut Vec<Taken>) -> Option<usize> {
             use $parser::{Edition, LexedStr, StrStep, TopEntryPoint};
             let lexed = LexedStr::new(Edition::LATEST, text);
             let output = TopEntryPoint::SourceFile.parse(&lexed.to_input(Edition::LATEST));
-            let mut count = Count::default();
-            lexed.intersperse_trivia(&output, &mut |step| {
-                count.steps += 1;
-                match step {
-                    StrStep::Token { text, .. } => count.bytes += text.len(),
-                    StrStep::Error { msg, .. } => count.message_bytes += msg.len(),
-                    StrStep::Enter { .. } | StrStep::Exit => {}
+            steps.clear();
+            let mut place = 0;
+            lexed.intersperse_trivia(&output, &mut |step| match step {
+                StrStep::Enter { kind } => steps.push((1 + kind as u32, place, place)),
+                StrStep::Exit => steps.push((0, place, place)),
+                StrStep::Token { kind, text } => {
+                    steps.push((1 + kind as u32, place, place + text.len()));
+                    place += text.len();
                 }
+                StrStep::Error { msg, pos } => steps.push((u32::MAX, pos, msg.len())),
             });
-            Some(count)
+            Some(steps.len())
         }
     };
 }
@@ -42,9 +39,9 @@ parser!(by_package, package);
 parser!(by_crate, original);
 
 #[cfg(feature = "syn")]
-fn by_syn(text: &str) -> Option<Count> {
+fn by_syn(text: &str, _steps: &mut Vec<Taken>) -> Option<usize> {
     let file = syn_crate::parse_file(text).ok()?;
-    Some(Count { steps: black_box(&file).items.len(), ..Count::default() })
+    Some(black_box(&file).items.len())
 }
 
 /// The parsers that are linked, the package first.
@@ -59,13 +56,13 @@ fn parsers() -> Vec<(&'static str, Parser)> {
 }
 
 /// The least time of each parser, if all of them take the text.
-fn times_of(text: &str, rounds: usize, parsers: &[(&str, Parser)]) -> Option<Vec<Duration>> {
-    let want = by_package(text);
+fn times_of(text: &str, rounds: usize, steps: &mut Vec<Taken>, parsers: &[(&str, Parser)]) -> Option<Vec<Duration>> {
+    let want = by_package(text, steps);
     let mut least = vec![Duration::MAX; parsers.len()];
     for _ in 0..rounds {
         for (i, (name, parse)) in parsers.iter().enumerate() {
             let begin = Instant::now();
-            let count = black_box(parse(black_box(text)));
+            let count = black_box(parse(black_box(text), steps));
             least[i] = least[i].min(begin.elapsed());
             count?;
             assert!(*name == "syn" || count == want, "{name} gives other steps");
@@ -78,11 +75,11 @@ fn run() {
     let mut words = std::env::args().skip(1);
     let rounds = words.next().and_then(|word| word.parse().ok()).expect("the number of rounds comes first");
     let parsers = parsers();
-    let (mut files, mut bytes, mut left_out) = (0, 0, 0);
+    let (mut files, mut bytes, mut left_out, mut steps) = (0, 0, 0, Vec::new());
     let mut sums = vec![Duration::ZERO; parsers.len()];
     for file in words {
         let text = std::fs::read_to_string(&file).ok();
-        match text.as_ref().and_then(|text| times_of(text, rounds, &parsers)) {
+        match text.as_ref().and_then(|text| times_of(text, rounds, &mut steps, &parsers)) {
             Some(times) => {
                 files += 1;
                 bytes += text.map_or(0, |text| text.len());

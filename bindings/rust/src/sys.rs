@@ -3,6 +3,8 @@
 //! This module is no part of the interface of the Rust crate: it is public for the tests, and for the programs beside it.
 #![allow(unsafe_code, missing_docs)]
 
+use std::cell::Cell;
+
 /// A step, as `struct rap_step`.
 #[repr(C)]
 #[derive(Clone, Copy, Debug, Default, PartialEq, Eq)]
@@ -156,8 +158,17 @@ unsafe extern "C" {
     pub fn rap_kind_name(kind: u32, name: *mut u8, name_room: usize) -> usize;
 }
 
+thread_local! {
+    /// Room for steps that a thread keeps from one text to the next: to get it anew from the system takes a good part of the
+    /// time of a parse.
+    static ROOM: Cell<Vec<Step>> = const { Cell::new(Vec::new()) };
+}
+
+/// For how many steps room is kept at most: 32 MB a thread, for files of up to some 1.5 MB.
+const MOST_KEPT: usize = 1 << 20;
+
 /// What a call filled: its status, all its steps, and all bytes of its messages.
-#[derive(Clone, Debug, Default)]
+#[derive(Debug, Default)]
 pub(crate) struct Filled {
     pub(crate) status: u32,
     pub(crate) steps: Vec<Step>,
@@ -168,6 +179,19 @@ impl Filled {
     /// The message of a step, which a call of the library gave.
     pub(crate) fn message(&self, step: &Step) -> &str {
         std::str::from_utf8(&self.messages[step.start..step.end]).expect("messages are UTF-8")
+    }
+}
+
+impl Drop for Filled {
+    fn drop(&mut self) {
+        let mut steps = std::mem::take(&mut self.steps);
+        // A thread that ends keeps nothing.
+        let _ = ROOM.try_with(|room| {
+            let kept = room.take();
+            steps.clear();
+            let is_larger = steps.capacity() > kept.capacity() && steps.capacity() <= MOST_KEPT;
+            room.set(if is_larger { steps } else { kept });
+        });
     }
 }
 
@@ -183,7 +207,7 @@ const MESSAGE_ROOM: usize = 1024;
 /// The call must be one of the library's: it writes from the pointers' begin on no more than there is room for, and what it
 /// answers is how many steps and bytes there are in all, of which it has written those that there is room for.
 unsafe fn fill(step_room: usize, call: Fill<'_>) -> Filled {
-    let mut steps: Vec<Step> = Vec::new();
+    let mut steps = ROOM.take();
     let mut messages: Vec<u8> = Vec::with_capacity(MESSAGE_ROOM);
     // Where the guess finds no memory the first call counts.
     let _ = steps.try_reserve_exact(step_room);
