@@ -1,5 +1,5 @@
 //! The exports as C calls them, with answers worked out by hand.
-use rap::sys::{self, Answer, Step, ENTER, EXIT, MESSAGE, NO_KIND, TOKEN};
+use ra_ap_parser::sys::{self, Answer, Step, ENTER, EXIT, MESSAGE, NO_KIND, TOKEN};
 
 /// What stands in room that no call has written to.
 const BLANK: Step = Step { what: 99, kind: 99, at: 99, start: 99, end: 99 };

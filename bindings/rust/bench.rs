@@ -1,0 +1,104 @@
+//! Times this package, and beside it the Rust crate and syn where they are linked, in one process and on the same texts.
+//!
+//! Each text is read by each parser in turn, several rounds over, and the least time of a text counts. The package and the
+//! Rust crate go from the text to the steps of the tree, by `LexedStr::new`, `to_input`, `parse` and `intersperse_trivia`,
+//! and write each step into memory that is kept; syn builds its own tree.
+use std::hint::black_box;
+use std::time::{Duration, Instant};
+
+/// A step, as whoever builds a tree takes it: a number for what it is, and the bytes of its text or its message.
+type Taken = (u32, usize, usize);
+
+type Parser = fn(&str, &mut Vec<Taken>) -> Option<usize>;
+
+/// Makes a function that goes the whole way with a crate of these names.
+macro_rules! parser {
+    ($name:ident, $parser:ident) => {
+        fn $name(text: &str, steps: &mut Vec<Taken>) -> Option<usize> {
+            use $parser::{Edition, LexedStr, StrStep, TopEntryPoint};
+            let lexed = LexedStr::new(Edition::LATEST, text);
+            let output = TopEntryPoint::SourceFile.parse(&lexed.to_input(Edition::LATEST));
+            steps.clear();
+            let mut place = 0;
+            lexed.intersperse_trivia(&output, &mut |step| match step {
+                StrStep::Enter { kind } => steps.push((1 + kind as u32, place, place)),
+                StrStep::Exit => steps.push((0, place, place)),
+                StrStep::Token { kind, text } => {
+                    steps.push((1 + kind as u32, place, place + text.len()));
+                    place += text.len();
+                }
+                StrStep::Error { msg, pos } => steps.push((u32::MAX, pos, msg.len())),
+            });
+            Some(steps.len())
+        }
+    };
+}
+
+parser!(by_package, package);
+#[cfg(feature = "original")]
+parser!(by_crate, original);
+
+#[cfg(feature = "syn")]
+fn by_syn(text: &str, _steps: &mut Vec<Taken>) -> Option<usize> {
+    let file = syn_crate::parse_file(text).ok()?;
+    Some(black_box(&file).items.len())
+}
+
+/// The parsers that are linked, the package first.
+fn parsers() -> Vec<(&'static str, Parser)> {
+    vec![
+        ("package", by_package),
+        #[cfg(feature = "original")]
+        ("Rust crate", by_crate),
+        #[cfg(feature = "syn")]
+        ("syn", by_syn),
+    ]
+}
+
+/// The least time of each parser, if all of them take the text.
+fn times_of(text: &str, rounds: usize, steps: &mut Vec<Taken>, parsers: &[(&str, Parser)]) -> Option<Vec<Duration>> {
+    let want = by_package(text, steps);
+    let mut least = vec![Duration::MAX; parsers.len()];
+    for _ in 0..rounds {
+        for (i, (name, parse)) in parsers.iter().enumerate() {
+            let begin = Instant::now();
+            let count = black_box(parse(black_box(text), steps));
+            least[i] = least[i].min(begin.elapsed());
+            count?;
+            assert!(*name == "syn" || count == want, "{name} gives other steps");
+        }
+    }
+    Some(least)
+}
+
+fn run() {
+    let mut words = std::env::args().skip(1);
+    let rounds = words.next().and_then(|word| word.parse().ok()).expect("the number of rounds comes first");
+    let parsers = parsers();
+    let (mut files, mut bytes, mut left_out, mut steps) = (0, 0, 0, Vec::new());
+    let mut sums = vec![Duration::ZERO; parsers.len()];
+    for file in words {
+        let text = std::fs::read_to_string(&file).ok();
+        match text.as_ref().and_then(|text| times_of(text, rounds, &mut steps, &parsers)) {
+            Some(times) => {
+                files += 1;
+                bytes += text.map_or(0, |text| text.len());
+                sums.iter_mut().zip(times).for_each(|(sum, time)| *sum += time);
+            }
+            None => left_out += 1,
+        }
+    }
+    println!("{files} files, {bytes} bytes; {left_out} left out");
+    for ((name, _), sum) in parsers.iter().zip(&sums) {
+        let seconds = sum.as_secs_f64();
+        let speed = bytes as f64 / 1e6 / seconds;
+        let ratio = sums[0].as_secs_f64() / seconds;
+        println!("{name}: {:.1} ms, {speed:.1} MB/s; the package takes {ratio:.2} of it", 1e3 * seconds);
+    }
+}
+
+fn main() {
+    // Texts that nest take stack.
+    let thread = std::thread::Builder::new().stack_size(1 << 30).spawn(run);
+    thread.expect("there is room for a stack").join().expect("the run ends");
+}

@@ -1,0 +1,122 @@
+//! What the page is told of a text: numbers for the steps of its tree, and its messages.
+use ra_ap_parser::{Edition, LexedStr, StrStep, SyntaxKind, TopEntryPoint};
+use std::fmt::Write as _;
+
+/// A text, and how it is to be read.
+pub struct Asked {
+    edition: Edition,
+    entry: TopEntryPoint,
+    text: String,
+}
+
+impl Asked {
+    /// What a query asks of a body: `edition=2024&entry=Expr`.
+    pub fn of(query: &str, body: &[u8]) -> Option<Asked> {
+        let (edition, entry) = query.strip_prefix("edition=")?.split_once("&entry=")?;
+        let text = std::str::from_utf8(body).ok()?.to_owned();
+        Some(Asked { edition: edition.parse().ok()?, entry: entry_named(entry)?, text })
+    }
+}
+
+/// The top entry with this name.
+fn entry_named(name: &str) -> Option<TopEntryPoint> {
+    Some(match name {
+        "SourceFile" => TopEntryPoint::SourceFile,
+        "MacroStmts" => TopEntryPoint::MacroStmts,
+        "MacroItems" => TopEntryPoint::MacroItems,
+        "Pattern" => TopEntryPoint::Pattern,
+        "Type" => TopEntryPoint::Type,
+        "Expr" => TopEntryPoint::Expr,
+        "MetaItem" => TopEntryPoint::MetaItem,
+        _ => return None,
+    })
+}
+
+/// Adds a text as JSON, in quotes. A `<` stands as a number, so that no text ends or begins markup.
+fn push_json(json: &mut String, text: &str) {
+    json.push('"');
+    for c in text.chars() {
+        match c {
+            '"' | '\\' => json.extend(['\\', c]),
+            '\0'..='\u{1f}' | '<' | '\u{2028}' | '\u{2029}' => {
+                let _ = write!(json, "\\u{:04x}", c as u32);
+            }
+            _ => json.push(c),
+        }
+    }
+    json.push('"');
+}
+
+/// The data of the page: the names of all kinds, and the text that it begins with, as JSON.
+pub fn data(text: &str) -> String {
+    let mut json = String::from("{\"kinds\":[");
+    for number in 0..SyntaxKind::__LAST as u16 {
+        if number > 0 {
+            json.push(',');
+        }
+        push_json(&mut json, SyntaxKind::from(number).name());
+    }
+    json.push_str("],\"text\":");
+    push_json(&mut json, text);
+    json.push('}');
+    json
+}
+
+/// How many units of UTF-16 stand before a byte of a text, as a page counts them.
+struct Units(Option<Vec<u32>>);
+
+impl Units {
+    fn of(text: &str) -> Units {
+        if text.is_ascii() {
+            return Units(None);
+        }
+        let mut before = Vec::with_capacity(text.len() + 1);
+        let mut units = 0;
+        for c in text.chars() {
+            before.resize(before.len() + c.len_utf8(), units);
+            units += c.len_utf16() as u32;
+        }
+        before.push(units);
+        Units(Some(before))
+    }
+
+    fn before(&self, byte: usize) -> u32 {
+        self.0.as_ref().map_or(byte as u32, |before| before[byte])
+    }
+}
+
+/// A message, and the unit of the text at which it stands.
+fn push_message(messages: &mut String, at: u32, message: &str) {
+    messages.push_str(if messages.is_empty() { "[" } else { "," });
+    let _ = write!(messages, "{at},");
+    push_json(messages, message);
+}
+
+/// The tree of a text in numbers of 32 bits, the lowest byte first: how many there are, then those of the steps, and
+/// behind them the messages as JSON, each with its place before it.
+///
+/// A node's begin is its kind times four and 1; a token its kind times four and 2, and its length; a node's end is 0.
+pub fn answer_to(asked: &Asked) -> Vec<u8> {
+    let lexed = LexedStr::new(asked.edition, &asked.text);
+    let output = asked.entry.parse(&lexed.to_input(asked.edition));
+    let units = Units::of(&asked.text);
+    let (mut numbers, mut messages, mut byte) = (vec![0], String::new(), 0);
+    lexed.intersperse_trivia(&output, &mut |step| match step {
+        StrStep::Enter { kind } => numbers.push(kind as u32 * 4 + 1),
+        StrStep::Exit => numbers.push(0),
+        StrStep::Token { kind, text } => {
+            let length = units.before(byte + text.len()) - units.before(byte);
+            byte += text.len();
+            numbers.extend([kind as u32 * 4 + 2, length]);
+        }
+        StrStep::Error { msg, pos } => push_message(&mut messages, units.before(pos), msg),
+    });
+    for (token, message) in lexed.errors() {
+        push_message(&mut messages, units.before(lexed.text_start(token)), message);
+    }
+    messages.push_str(if messages.is_empty() { "[]" } else { "]" });
+    numbers[0] = numbers.len() as u32 - 1;
+    let mut bytes: Vec<u8> = numbers.iter().flat_map(|number| number.to_le_bytes()).collect();
+    bytes.extend_from_slice(messages.as_bytes());
+    bytes
+}

@@ -1,0 +1,395 @@
+'use strict';
+const byId = (id) => document.getElementById(id);
+const ROW = 20;
+const LONGEST_LINE = 4000;
+const MOST_LISTED = 500;
+const kinds = JSON.parse(byId('data').textContent).kinds;
+const textPane = byId('text');
+const treePane = byId('tree');
+
+// The tree's items, nodes and tokens, in the order of the text. An item's children are those after it up to `end`.
+// Places are units of UTF-16.
+let tree = noTree();
+let messages = [];
+let folded = new Set();
+let chosen = 0;
+let text = '';
+let lineStarts = [0];
+
+function noTree() {
+  const list = () => new Int32Array(0);
+  return { count: 0, kind: list(), leaf: list(), parent: list(), end: list(), depth: list(), start: list(),
+    stop: list(), leaves: list() };
+}
+
+// Reads the numbers of a tree's steps.
+function treeOf(numbers) {
+  let count = 0;
+  for (let i = 0; i < numbers.length; i += 1) {
+    if (numbers[i] === 0) continue;
+    count += 1;
+    if ((numbers[i] & 3) === 2) i += 1;
+  }
+  const list = () => new Int32Array(count);
+  const made = { count, kind: list(), leaf: list(), parent: list(), end: list(), depth: list(), start: list(),
+    stop: list(), leaves: null };
+  const leaves = [];
+  let item = 0, open = -1, depth = 0, at = 0;
+  for (let i = 0; i < numbers.length; i += 1) {
+    if (numbers[i] === 0) {
+      made.end[open] = item;
+      made.stop[open] = at;
+      open = made.parent[open];
+      depth -= 1;
+      continue;
+    }
+    made.kind[item] = numbers[i] >> 2;
+    made.parent[item] = open;
+    made.depth[item] = depth;
+    made.start[item] = at;
+    if ((numbers[i] & 3) === 1) {
+      open = item;
+      depth += 1;
+    } else {
+      i += 1;
+      at += numbers[i];
+      made.leaf[item] = 1;
+      made.stop[item] = at;
+      made.end[item] = item + 1;
+      leaves.push(item);
+    }
+    item += 1;
+  }
+  made.leaves = Int32Array.from(leaves);
+  return made;
+}
+
+function colourOf(name) {
+  if (name === 'WHITESPACE') return '';
+  if (name.endsWith('COMMENT') || name === 'SHEBANG' || name === 'FRONTMATTER') return 'c';
+  if (name === 'IDENT') return 'i';
+  if (name === 'LIFETIME_IDENT') return 'l';
+  if (name === 'ERROR') return 'e';
+  if (name.endsWith('_KW')) return 'k';
+  if (name.endsWith('_NUMBER')) return 'n';
+  if (name.endsWith('STRING') || name === 'CHAR' || name === 'BYTE') return 's';
+  return 'p';
+}
+const colours = kinds.map(colourOf);
+
+// The last index of a sorted list whose value is at most this one, or 0.
+function lastUpTo(length, valueAt, value) {
+  let low = 0, high = length - 1;
+  while (low < high) {
+    const middle = (low + high + 1) >> 1;
+    if (valueAt(middle) <= value) low = middle;
+    else high = middle - 1;
+  }
+  return low;
+}
+const leafIndexAt = (place) => lastUpTo(tree.leaves.length, (k) => tree.start[tree.leaves[k]], place);
+const lineAt = (place) => lastUpTo(lineStarts.length, (k) => lineStarts[k], place);
+const counted = (n, what) => n.toLocaleString('en') + ' ' + what + (n === 1 ? '' : 's');
+
+// A place as the line and the character in it, from 1.
+function placeName(place) {
+  const line = lineAt(place);
+  return line + 1 + ':' + (Array.from(text.slice(lineStarts[line], place)).length + 1);
+}
+function piece(className, content) {
+  const span = document.createElement('span');
+  span.className = className;
+  span.textContent = content;
+  return span;
+}
+
+// The text: the lines in view are drawn under the field that is typed in, whose own letters are not seen.
+function findLines() {
+  lineStarts = [0];
+  for (let at = text.indexOf('\n'); at >= 0; at = text.indexOf('\n', at + 1)) lineStarts.push(at + 1);
+}
+function lineStop(line) {
+  return line + 1 < lineStarts.length ? lineStarts[line + 1] - 1 : text.length;
+}
+function lineRow(line) {
+  const row = document.createElement('div');
+  row.className = 'line';
+  row.dataset.number = line + 1;
+  row.style.top = line * ROW + 'px';
+  const start = lineStarts[line], whole = lineStop(line);
+  const stop = Math.min(whole, start + LONGEST_LINE);
+  const from = tree.start[chosen], to = tree.stop[chosen];
+  const marks = tree.count > 0 && to - from < text.length;
+  let at = start;
+  for (let k = leafIndexAt(start); at < stop && k < tree.leaves.length; k += 1) {
+    const leaf = tree.leaves[k];
+    const end = Math.min(stop, tree.stop[leaf]);
+    if (end <= at) continue;
+    const span = piece(colours[tree.kind[leaf]], text.slice(at, end));
+    if (marks && tree.start[leaf] >= from && tree.stop[leaf] <= to) span.classList.add('on');
+    if (wrongLeaves.has(leaf)) span.classList.add('wavy');
+    row.append(span);
+    at = end;
+  }
+  if (at < whole) row.append(text.slice(at, whole));
+  const said = notes.get(line);
+  if (said) {
+    if (said.atEnd) row.append(piece('end wavy', ' '));
+    row.append(piece('note', '\u25c2 ' + said.texts.join('; ')));
+  }
+  return row;
+}
+function drawText() {
+  const first = Math.max(0, Math.floor(textPane.scrollTop / ROW) - 2);
+  const last = Math.min(lineStarts.length, Math.ceil((textPane.scrollTop + textPane.clientHeight) / ROW) + 2);
+  const list = [];
+  for (let line = first; line < last; line += 1) list.push(lineRow(line));
+  byId('under').replaceChildren(...list);
+  byId('under').style.transform = 'translate(' + -textPane.scrollLeft + 'px,' + -textPane.scrollTop + 'px)';
+}
+
+// The messages: the item at whose place each stands, and the line at whose end it is shown.
+const notes = new Map();
+const saidAt = new Map();
+const wrongLeaves = new Set();
+function placeMessages(said) {
+  messages = [];
+  notes.clear();
+  saidAt.clear();
+  wrongLeaves.clear();
+  for (let i = 0; i < said.length; i += 2) {
+    const place = said[i];
+    const item = tree.leaves.length > 0 ? tree.leaves[leafIndexAt(place)] : 0;
+    const line = lineAt(place);
+    messages.push({ place, item, said: said[i + 1] });
+    if (!notes.has(line)) notes.set(line, { texts: [], atEnd: false });
+    if (notes.get(line).texts.length < 4) notes.get(line).texts.push(said[i + 1]);
+    if (place === lineStop(line)) notes.get(line).atEnd = true;
+    else wrongLeaves.add(item);
+    if (!saidAt.has(item)) saidAt.set(item, []);
+    saidAt.get(item).push(said[i + 1]);
+  }
+}
+function listMessages() {
+  byId('headline').textContent = messages.length === 0 ? 'No messages' : counted(messages.length, 'message');
+  const list = messages.slice(0, MOST_LISTED).map((message) => {
+    const entry = document.createElement('li');
+    const button = document.createElement('button');
+    button.type = 'button';
+    button.textContent = placeName(message.place) + ' ' + message.said;
+    button.addEventListener('click', () => choose(message.item, null));
+    entry.item = message.item;
+    entry.append(button);
+    return entry;
+  });
+  byId('messages').replaceChildren(...list);
+}
+
+// The tree: only the rows in view are in the document.
+let rows = new Int32Array(0);
+let rowCount = 0;
+function layTree() {
+  if (rows.length < tree.count) rows = new Int32Array(tree.count);
+  rowCount = 0;
+  for (let item = 0; item < tree.count;) {
+    rows[rowCount] = item;
+    rowCount += 1;
+    item = folded.has(item) ? tree.end[item] : item + 1;
+  }
+  byId('rows').style.height = rowCount * ROW + 'px';
+}
+const rowOf = (item) => lastUpTo(rowCount, (k) => rows[k], item);
+function short(item) {
+  const most = tree.leaf[item] ? 60 : 40;
+  const start = tree.start[item], stop = tree.stop[item];
+  const whole = text.slice(start, Math.min(stop, start + most));
+  const more = stop - start > most ? '\u2026' : '';
+  return tree.leaf[item] ? JSON.stringify(whole) + more : whole.replace(/\s+/g, ' ') + more;
+}
+function itemRow(index) {
+  const item = rows[index];
+  const folds = !tree.leaf[item] && tree.end[item] > item + 1;
+  const isOpen = !folded.has(item);
+  const name = kinds[tree.kind[item]];
+  const row = document.createElement('div');
+  row.className = 'item';
+  row.classList.toggle('leaf', tree.leaf[item] === 1);
+  row.classList.toggle('wrong', name === 'ERROR');
+  row.item = item;
+  row.id = 'item-' + item;
+  row.setAttribute('role', 'treeitem');
+  row.setAttribute('aria-level', tree.depth[item] + 1);
+  row.setAttribute('aria-selected', item === chosen ? 'true' : 'false');
+  if (folds) row.setAttribute('aria-expanded', isOpen ? 'true' : 'false');
+  row.style.top = index * ROW + 'px';
+  row.style.paddingLeft = 4 + Math.min(tree.depth[item], 200) * 14 + 'px';
+  const fold = piece('fold', folds ? (isOpen ? '\u25be' : '\u25b8') : '');
+  fold.setAttribute('aria-hidden', 'true');
+  row.append(fold, piece('kind', name));
+  if (tree.leaf[item]) row.append(' ', piece(colours[tree.kind[item]], short(item)));
+  else if (!isOpen) row.append(' ', piece('short', short(item)));
+  if (saidAt.has(item)) row.append(' ', piece('said', '\u25c2 ' + saidAt.get(item).join('; ')));
+  return row;
+}
+function drawTree() {
+  const first = Math.max(0, Math.floor(treePane.scrollTop / ROW) - 2);
+  const last = Math.min(rowCount, Math.ceil((treePane.scrollTop + treePane.clientHeight) / ROW) + 2);
+  const list = [];
+  for (let index = first; index < last; index += 1) list.push(itemRow(index));
+  byId('rows').replaceChildren(...list);
+  if (byId('item-' + chosen)) treePane.setAttribute('aria-activedescendant', 'item-' + chosen);
+  else treePane.removeAttribute('aria-activedescendant');
+}
+function setOpen(item, open) {
+  if (tree.leaf[item] || tree.end[item] === item + 1) return;
+  if (open) folded.delete(item);
+  else folded.add(item);
+  if (!open && chosen > item && chosen < tree.end[item]) choose(item, treePane);
+  layTree();
+  drawTree();
+}
+function bringIntoView(pane, top) {
+  if (top < pane.scrollTop || top + ROW > pane.scrollTop + pane.clientHeight) {
+    pane.scrollTop = Math.max(0, top - pane.clientHeight / 3);
+  }
+}
+
+// Marks an item on both sides. The text moves only where the choice was not made in it.
+function choose(item, from) {
+  if (tree.count === 0) return;
+  chosen = item;
+  let opened = false;
+  for (let up = tree.parent[item]; up >= 0; up = tree.parent[up]) opened = folded.delete(up) || opened;
+  if (opened) layTree();
+  bringIntoView(treePane, rowOf(item) * ROW);
+  if (from !== textPane) bringIntoView(textPane, lineAt(tree.start[item]) * ROW);
+  drawTree();
+  drawText();
+  byId('place').textContent = kinds[tree.kind[item]] + ' at ' + placeName(tree.start[item]) + ': ' + short(item);
+  for (const entry of byId('messages').children) entry.className = entry.item === item ? 'chosen' : '';
+}
+function chooseAtCaret() {
+  if (tree.leaves.length === 0) return;
+  let k = leafIndexAt(textPane.selectionStart);
+  const isBlank = colours[tree.kind[tree.leaves[k]]] === '';
+  // Behind the end of a word the word is meant, not the white space.
+  if (isBlank && k > 0 && tree.start[tree.leaves[k]] === textPane.selectionStart) k -= 1;
+  choose(tree.leaves[k], textPane);
+}
+
+// After an edit the old tree is stretched over the new text until its own comes: what was typed is where it was typed.
+function stretch(old, now) {
+  const most = Math.min(old.length, now.length);
+  let before = 0, after = 0;
+  while (before < most && old.charCodeAt(before) === now.charCodeAt(before)) before += 1;
+  while (after < most - before &&
+    old.charCodeAt(old.length - 1 - after) === now.charCodeAt(now.length - 1 - after)) after += 1;
+  const from = old.length - after, by = now.length - old.length;
+  const move = (list) => {
+    for (let i = 0; i < list.length; i += 1) {
+      if (list[i] >= from && list[i] > before) list[i] += by;
+      else if (list[i] > before) list[i] = before;
+    }
+  };
+  move(tree.start);
+  move(tree.stop);
+}
+// The folded nodes of the new tree: those of a kind and a place where one was folded.
+function keepFolds(old, made) {
+  const keys = new Set();
+  for (const item of folded) if (item < old.count) keys.add(old.start[item] * 512 + old.kind[item]);
+  folded = new Set();
+  if (keys.size === 0) return;
+  for (let item = 0; item < made.count; item += 1) {
+    if (!made.leaf[item] && keys.has(made.start[item] * 512 + made.kind[item])) folded.add(item);
+  }
+}
+
+// One text is asked for at a time; what was typed meanwhile is asked for next.
+let isAsked = false;
+let isStale = false;
+async function ask() {
+  if (isAsked) {
+    isStale = true;
+    return;
+  }
+  isAsked = true;
+  isStale = false;
+  const asked = text, begin = performance.now();
+  try {
+    const query = 'edition=' + byId('edition').value + '&entry=' + byId('entry').value;
+    const response = await fetch('/parse?' + query, { method: 'POST', body: asked });
+    if (response.ok) {
+      const bytes = await response.arrayBuffer();
+      if (text === asked) draw(bytes, begin);
+    } else {
+      byId('state').textContent = (await response.text()).trim();
+    }
+  } catch (error) {
+    byId('state').textContent = 'no answer: ' + error.message;
+  }
+  isAsked = false;
+  if (isStale || text !== asked) ask();
+}
+function draw(bytes, begin) {
+  const count = new Uint32Array(bytes, 0, 1)[0];
+  const made = treeOf(new Uint32Array(bytes, 4, count));
+  keepFolds(tree, made);
+  tree = made;
+  chosen = 0;
+  placeMessages(JSON.parse(new TextDecoder().decode(new Uint8Array(bytes, 4 + 4 * count))));
+  layTree();
+  listMessages();
+  chooseAtCaret();
+  drawTree();
+  drawText();
+  const nodes = tree.count - tree.leaves.length;
+  byId('counts').textContent = counted(tree.leaves.length, 'token') + ', ' + counted(nodes, 'node');
+  byId('state').textContent = Math.round(performance.now() - begin) + ' ms';
+}
+
+textPane.addEventListener('input', () => {
+  const old = text;
+  text = textPane.value;
+  stretch(old, text);
+  findLines();
+  drawText();
+  ask();
+});
+textPane.addEventListener('scroll', drawText, { passive: true });
+textPane.addEventListener('click', chooseAtCaret);
+textPane.addEventListener('keyup', (event) => {
+  if (event.key.startsWith('Arrow') || event.key === 'Home' || event.key === 'End') chooseAtCaret();
+});
+treePane.addEventListener('scroll', () => requestAnimationFrame(drawTree), { passive: true });
+treePane.addEventListener('click', (event) => {
+  const row = event.target.closest('.item');
+  if (!row) return;
+  if (event.target.className === 'fold') setOpen(row.item, folded.has(row.item));
+  else choose(row.item, treePane);
+});
+treePane.addEventListener('dblclick', (event) => {
+  const row = event.target.closest('.item');
+  if (row) setOpen(row.item, folded.has(row.item));
+});
+treePane.addEventListener('keydown', (event) => {
+  if (event.altKey || event.ctrlKey || event.metaKey || tree.count === 0) return;
+  const index = rowOf(chosen);
+  const page = Math.max(1, Math.floor(treePane.clientHeight / ROW) - 1);
+  const by = { ArrowDown: 1, ArrowUp: -1, PageDown: page, PageUp: -page, Home: -rowCount, End: rowCount }[event.key];
+  if (by !== undefined) choose(rows[Math.max(0, Math.min(rowCount - 1, index + by))], treePane);
+  else if (event.key === 'ArrowRight') setOpen(chosen, true);
+  else if (event.key === 'ArrowLeft' && !tree.leaf[chosen] && !folded.has(chosen)) setOpen(chosen, false);
+  else if (event.key === 'ArrowLeft') choose(Math.max(0, tree.parent[chosen]), treePane);
+  else return;
+  event.preventDefault();
+});
+byId('entry').addEventListener('change', ask);
+byId('edition').addEventListener('change', ask);
+new ResizeObserver(() => { drawTree(); drawText(); }).observe(treePane);
+textPane.value = JSON.parse(byId('data').textContent).text;
+text = textPane.value;
+textPane.setSelectionRange(0, 0);
+findLines();
+drawText();
+ask();

@@ -1,0 +1,104 @@
+//! Editions of the language.
+use std::error::Error;
+use std::fmt;
+use std::str::FromStr;
+
+/// An edition of Rust. Editions are ordered by their years.
+///
+/// The Rust crate takes this type from the crate `ra_ap_edition`; here it is this package's own.
+#[allow(missing_docs)]
+#[derive(Clone, Copy, PartialEq, Eq, PartialOrd, Ord, Hash, Debug)]
+#[repr(u8)]
+pub enum Edition {
+    Edition2015 = 0,
+    Edition2018 = 1,
+    Edition2021 = 2,
+    Edition2024 = 3,
+}
+
+impl Edition {
+    /// The edition of a package that names none.
+    pub const DEFAULT: Edition = Edition::Edition2015;
+    /// The latest edition.
+    pub const LATEST: Edition = Edition::Edition2024;
+    /// The edition that new packages are made with.
+    pub const CURRENT: Edition = Edition::Edition2024;
+    /// The same as [`Edition::CURRENT`], where the edition of the text should stand.
+    pub const CURRENT_FIXME: Edition = Edition::Edition2024;
+
+    /// The edition with this number: 0 for 2015, up to 3 for 2024. Panics for another number.
+    pub fn from_u32(number: u32) -> Edition {
+        Edition::iter().nth(number as usize).expect("the number is an edition's")
+    }
+
+    /// Whether this is the edition 2024 or a later one.
+    pub fn at_least_2024(self) -> bool {
+        self >= Edition::Edition2024
+    }
+
+    /// Whether this is the edition 2021 or a later one.
+    pub fn at_least_2021(self) -> bool {
+        self >= Edition::Edition2021
+    }
+
+    /// Whether this is the edition 2018 or a later one.
+    pub fn at_least_2018(self) -> bool {
+        self >= Edition::Edition2018
+    }
+
+    /// The year.
+    pub fn number(&self) -> usize {
+        match self {
+            Edition::Edition2015 => 2015,
+            Edition::Edition2018 => 2018,
+            Edition::Edition2021 => 2021,
+            Edition::Edition2024 => 2024,
+        }
+    }
+
+    /// All editions, by their years.
+    pub fn iter() -> impl Iterator<Item = Edition> {
+        [Edition::Edition2015, Edition::Edition2018, Edition::Edition2021, Edition::Edition2024].into_iter()
+    }
+
+    /// The year, as the calls of the library take it.
+    pub(crate) fn year(self) -> u32 {
+        self.number() as u32
+    }
+}
+
+/// The text is the year of no edition.
+#[derive(Debug)]
+pub struct ParseEditionError {
+    invalid_input: String,
+}
+
+impl Error for ParseEditionError {}
+
+impl fmt::Display for ParseEditionError {
+    fn fmt(&self, f: &mut fmt::Formatter<'_>) -> fmt::Result {
+        write!(f, "invalid edition: {:?}", self.invalid_input)
+    }
+}
+
+/// Reads an edition from the four digits of its year, and nothing else.
+impl FromStr for Edition {
+    type Err = ParseEditionError;
+
+    fn from_str(text: &str) -> Result<Edition, ParseEditionError> {
+        let found = Edition::iter().find(|edition| edition.to_string() == text);
+        found.ok_or_else(|| ParseEditionError { invalid_input: text.to_owned() })
+    }
+}
+
+/// Prints the year.
+impl fmt::Display for Edition {
+    fn fmt(&self, f: &mut fmt::Formatter<'_>) -> fmt::Result {
+        f.write_str(match self {
+            Edition::Edition2015 => "2015",
+            Edition::Edition2018 => "2018",
+            Edition::Edition2021 => "2021",
+            Edition::Edition2024 => "2024",
+        })
+    }
+}

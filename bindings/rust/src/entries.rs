@@ -1,0 +1,140 @@
+//! Where a parse begins.
+use crate::lexed_str::check_status;
+use crate::output::Tree;
+use crate::sys;
+use crate::{Input, Output, SyntaxKind};
+
+/// What a whole text, or the whole expansion of a macro, is read as.
+#[derive(Debug)]
+pub enum TopEntryPoint {
+    /// A file.
+    SourceFile,
+    /// What a macro gives as statements.
+    MacroStmts,
+    /// What a macro gives as items.
+    MacroItems,
+    /// A pattern, with its alternatives.
+    Pattern,
+    /// A type.
+    Type,
+    /// An expression.
+    Expr,
+    /// What stands in the brackets of an attribute.
+    MetaItem,
+}
+
+impl TopEntryPoint {
+    /// Parses the whole input. The output is one tree over all its tokens.
+    ///
+    /// Panics for an input of more than 8,388,607 tokens. Under `Pattern`, `Type` and `Expr` the Rust crate gives no
+    /// tree for some inputs, as `#[a]`.
+    pub fn parse(&self, input: &Input) -> Output {
+        let entry = self.number();
+        let Some(source) = input.source() else {
+            let filled = sys::parse(input.records(), entry);
+            check_status(filled.status);
+            return Output::of_steps(filled);
+        };
+        let mut woven = sys::tree(&source.text, source.edition.year(), entry);
+        check_status(woven.status);
+        // The lexer's messages stand behind the end of the last node.
+        let end = woven.steps.iter().rposition(|step| step.what == sys::EXIT);
+        woven.steps.truncate(end.map_or(0, |end| end + 1));
+        Output::of_tree(Tree { source: source.clone(), entry, woven })
+    }
+
+    fn number(&self) -> u32 {
+        match self {
+            TopEntryPoint::SourceFile => 0,
+            TopEntryPoint::MacroStmts => 1,
+            TopEntryPoint::MacroItems => 2,
+            TopEntryPoint::Pattern => 3,
+            TopEntryPoint::Type => 4,
+            TopEntryPoint::Expr => 5,
+            TopEntryPoint::MetaItem => 6,
+        }
+    }
+}
+
+/// What is read from the front of an input, as a macro matches it.
+#[derive(Debug)]
+pub enum PrefixEntryPoint {
+    /// A visibility, if there is one.
+    Vis,
+    /// A block.
+    Block,
+    /// A statement, without the semicolon behind it.
+    Stmt,
+    /// A pattern without alternatives.
+    Pat,
+    /// A pattern, with its alternatives.
+    PatTop,
+    /// A type.
+    Ty,
+    /// An expression.
+    Expr,
+    /// A path, as in a type.
+    Path,
+    /// An item, or a macro call in its place.
+    Item,
+    /// What stands in the brackets of an attribute.
+    MetaItem,
+}
+
+impl PrefixEntryPoint {
+    /// Parses what stands at the front of the input. The output is one tree, none or several.
+    ///
+    /// Panics for an input of more than 8,388,607 tokens.
+    pub fn parse(&self, input: &Input) -> Output {
+        let filled = sys::parse_prefix(input.records(), self.number());
+        check_status(filled.status);
+        Output::of_steps(filled)
+    }
+
+    fn number(&self) -> u32 {
+        match self {
+            PrefixEntryPoint::Vis => 0,
+            PrefixEntryPoint::Block => 1,
+            PrefixEntryPoint::Stmt => 2,
+            PrefixEntryPoint::Pat => 3,
+            PrefixEntryPoint::PatTop => 4,
+            PrefixEntryPoint::Ty => 5,
+            PrefixEntryPoint::Expr => 6,
+            PrefixEntryPoint::Path => 7,
+            PrefixEntryPoint::Item => 8,
+            PrefixEntryPoint::MetaItem => 9,
+        }
+    }
+}
+
+/// How a node in braces is parsed again from its own tokens, after an edit inside its braces.
+#[derive(Debug)]
+pub struct Reparser {
+    /// The numbers of the node's kind, of its first child's and of its parent's.
+    node: (u32, u32, u32),
+}
+
+impl Reparser {
+    /// The reparser of such a node, by its kind, that of the first thing in it and that of the node around it; `None`
+    /// where it is not parsed again alone.
+    pub fn for_node(
+        node: SyntaxKind,
+        first_child: Option<SyntaxKind>,
+        parent: Option<SyntaxKind>,
+    ) -> Option<Reparser> {
+        let number = |kind: Option<SyntaxKind>| kind.map_or(sys::NO_KIND, |kind| kind as u32);
+        let node = (number(Some(node)), number(first_child), number(parent));
+        (sys::parse_node(&[], node).status != sys::NO_NODE).then_some(Reparser { node })
+    }
+
+    /// Parses the node's tokens.
+    ///
+    /// Panics where the node is to begin with a `{` and the tokens do not, which a block takes; and for an input of more
+    /// than 8,388,607 tokens.
+    pub fn parse(self, tokens: &Input) -> Output {
+        let filled = sys::parse_node(tokens.records(), self.node);
+        check_status(filled.status);
+        assert!(filled.status != sys::NO_BRACE, "the node does not begin with a brace");
+        Output::of_steps(filled)
+    }
+}
