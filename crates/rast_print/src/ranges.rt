@@ -61,24 +61,26 @@ fn push_leaf(
 fn push_child<'a>(
     lines: &mut String,
     open: &mut Vec<&'a [Child]>,
+    depth: usize,
     child: &'a Child,
     text: &str,
 ) -> Result<(), NoMemory>
+    requires deep { depth ≡ length open.old.items }
     requires placed { HavePlaces text.now (with_child ranged_none child.now) }
     requires all_placed { AllPlaced text.now open.old.items }
     ensures lines { OnOk result (string_bytes lines.new ++ pending text.now 1 open.new.items
-        ≡ string_bytes lines.old ++ (child_lines text.now (length open.old.items) child.now ++ pending text.now 1 open.old.items)) }
+        ≡ string_bytes lines.old ++ (child_lines text.now depth child.now ++ pending text.now 1 open.old.items)) }
     ensures placed { OnOk result (AllPlaced text.now open.new.items) }
     ensures smaller { OnOk result (pending_size open.new.items
         < pending_size open.old.items + (2 * forest_size (with_child ranged_none child.now))) }
 {
     match child {
         Child::Leaf { kind, range } => {
-            push_leaf(lines, open.len(), *kind, range, text)?;
+            push_leaf(lines, depth, *kind, range, text)?;
             Ok(())
         }
         Child::Node(node) => {
-            push_node(lines, open.len(), node)?;
+            push_node(lines, depth, node)?;
             open.push(node.children())?;
             Ok(())
         }
@@ -103,7 +105,8 @@ fn push_children(
             continue;
         };
         open.push(later)?;
-        push_child(lines, &mut open, first, text)?;
+        let depth = open.len();
+        push_child(lines, &mut open, depth, first, text)?;
     }
     Ok(())
 }

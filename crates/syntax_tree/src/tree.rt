@@ -75,9 +75,9 @@ impl<'t> Tree<'t> {
     {
         let mut collector = Collector::new(alloc);
         let parsed = parse_text(alloc, edition, entry, text, &mut collector)?;
-        if collector.tell_errors_of(&parsed.lexed).is_err() {
+        let Ok(()) = collector.tell_errors_of(&parsed.lexed) else {
             return Err(TextFault::Refused(NoMemory));
-        }
+        };
         let Collector {
             builder, messages, ..
         } = collector;

@@ -1,0 +1,3 @@
+use Rattle.rast_print.proofs.Walks.{ranges_whole}
+use Rattle.rast_print.proofs.ranges.print_ranges.Goals as goal
+
