@@ -25,9 +25,9 @@ abbrev pub record_of_token : Token → Bool → Record
 record_of_token (Kind kind) joint = record { kind = kind; contextual = EOF; edition = Edition2024; joint = joint }
 record_of_token (Ident kind) joint = record { kind = IDENT; contextual = kind; edition = Edition2024; joint = joint }
 
--- whether the token at a place touches the one after it: every so many-th does, and where it is 0 none
+-- whether the token at a place touches the one after it: the first does and every so many-th after it; at 0 none does
 abbrev pub touches : ℕ → ℕ → Bool
-touches every i = if every == 0 then false else ((i + 1) % every == 0)
+touches every i = if every == 0 then false else (i % every == 0)
 
 -- an input of so many tokens
 abbrev pub pushed : Token → ℕ → ℕ → List Record

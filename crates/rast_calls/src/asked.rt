@@ -28,7 +28,7 @@ pub struct Tokens {
     pub token: Token,
     /// How many there are.
     pub count: usize,
-    /// Every so many-th of them touches the one after it. Where it is 0 none does.
+    /// The first and every so many-th after it touch the next one. At 0 none does.
     pub every: usize,
 }
 

@@ -74,7 +74,7 @@ fn is_joint(every: usize, i: usize) -> bool
     if every == 0 {
         false
     } else {
-        (i + 1) % every == 0
+        i % every == 0
     }
 }
 
