@@ -68,7 +68,6 @@ fn may_be_pushed(token: Token) -> bool
 
 /// Whether the token at a place touches the one after it.
 fn is_joint(every: usize, i: usize) -> bool
-    requires { i < 18446744073709551615 }
     ensures { result ≡ touches every i }
 {
     if every == 0 {
