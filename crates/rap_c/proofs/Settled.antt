@@ -1,5 +1,5 @@
 -- Answers of calls that may have met a fault.
-use Rattle.std.proofs.Common.{◌≡◌, ℕ, ◌≤◌, ◌<◌, List, Bool, true, false, Option, Result, Ok, Err, ap, arith}
+use Rattle.std.proofs.Common.{◌≡◌, ℕ, ◌≤◌, ◌<◌, List, Bool, true, false, Option, Result, Ok, Err, ap, subst, arith}
 use Rattle.std.specs.Prelude.{IfOk, IfErr, MatchResult, if◌then◌else◌}
 use Rattle.rap_events.specs.Forest.{one_tree}
 use Rattle.rap_c.specs.Answer.{refusal}
@@ -23,3 +23,15 @@ node_refused text year kind steps steps_after messages messages_after (Ok a) ans
     absurd (omega (arith, high, ap (λ (b : RapAnswer). b.status) is, low (one_tree filled.filled.output) a.status filled.filled.is.status))
 node_refused text year kind steps steps_after messages messages_after (Err fault) answer is filled comes untouched high =
     (record { fault = fault; comes = comes; is = is }, untouched)
+
+-- the same of any call: what is good has no high status
+pub refused_past : (Good : RapAnswer → Type 0) (Comes : Fault → Type 0) (Same : Type 0) (High : ℕ → Type 0) (outcome : Result RapAnswer Fault) (answer : RapAnswer)
+    → ((a : RapAnswer) → Good a → High a.status → ⊥)
+    → MatchResult outcome (λ a. answer ≡ a) (λ fault. answer ≡ refusal fault)
+    → IfOk outcome Good → IfErr outcome Comes → IfErr outcome (λ _. Same) → High answer.status → IsRefusal Comes answer × Same
+refused_past Good Comes Same High (Ok a) answer low is good comes same high = absurd (low a good (subst High (ap (λ (b : RapAnswer). b.status) is) high))
+refused_past Good Comes Same High (Err fault) answer low is good comes same high = (record { fault = fault; comes = comes; is = is }, same)
+
+-- an output's status is low
+pub low_output : (b : Bool) (n : ℕ) → n ≡ (if b then 0 else 1) → 1 < n → ⊥
+low_output b n e h = absurd (omega (arith, low b n e, h))

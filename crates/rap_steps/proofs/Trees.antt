@@ -205,5 +205,5 @@ made (enter k ∷ ss) h =
     let m = sound ss (reading.inside reading.nothing none k) none h (refl, before_none) in
     record { shown = m.shown; placed = both_placed (forest_of (enter k ∷ ss)) m.placed; one = m.one }
 
-pub decides : (ss : List StepValue) (yes : Bool) → yes ≡ makes_tree ss → IsTrue yes ↔ IsTreeSteps ss
-decides ss yes e = (λ t. made ss (sym e ∙ t), λ h. e ∙ makes ss h)
+pub decides : (ss : List StepValue) (b : Bool) → b ≡ makes_tree ss → IsTrue b ↔ IsTreeSteps ss
+decides ss b e = (λ t. made ss (sym e ∙ t), λ h. e ∙ makes ss h)

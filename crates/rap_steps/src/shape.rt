@@ -14,7 +14,7 @@ use std::alloc::Global;
 ///
 /// The error is want of memory.
 pub fn is_tree(alloc: Global, steps: &[Step<'_>]) -> Result<bool, NoMemory>
-    ensures { IfOk result (λ yes. IsTrue yes ↔ IsTreeSteps (map step_value steps.now)) }
+    ensures { IfOk result (λ b. IsTrue b ↔ IsTreeSteps (map step_value steps.now)) }
 {
     let Some((first, rest)) = steps.split_first() else {
         return Ok(false);
@@ -29,7 +29,7 @@ pub fn is_tree(alloc: Global, steps: &[Step<'_>]) -> Result<bool, NoMemory>
 
 /// Whether the steps end all these open nodes, of which the last one is the newest, and the oldest of them at last.
 fn closes(steps: &[Step<'_>], mut begun: Vec<SyntaxKind>) -> Result<bool, NoMemory>
-    ensures { IfOk result (λ yes. yes ≡ closes (map step_value steps.now) (reverse begun.items)) }
+    ensures { IfOk result (λ b. b ≡ closes (map step_value steps.now) (reverse begun.items)) }
 {
     'steps: for step in steps {
         if !goes_on(step, &mut begun)? {
@@ -41,7 +41,7 @@ fn closes(steps: &[Step<'_>], mut begun: Vec<SyntaxKind>) -> Result<bool, NoMemo
 
 /// Whether the step can stand inside these open nodes, which it changes to those that are open after it.
 fn goes_on(step: &Step<'_>, begun: &mut Vec<SyntaxKind>) -> Result<bool, NoMemory>
-    ensures { IfOk result (λ yes. after_step (step_value step.now) (reverse begun.old.items) ≡ (if yes then Some (reverse begun.new.items) else None)) }
+    ensures { IfOk result (λ b. after_step (step_value step.now) (reverse begun.old.items) ≡ (if b then Some (reverse begun.new.items) else None)) }
 {
     if begun.is_empty() {
         return Ok(false);

@@ -10,6 +10,18 @@ use Rattle.rap_steps.proofs.cover.covered.Goals as goal
 pub overflow_add-place : goal.overflow_add-place
 overflow_add-place c = search (rules, c.in-Some.ensures.within)
 
+pub returns-in_default : goal.returns-in_default
+returns-in_default c =
+    let xs = c.args.steps.now in
+    let rs = c.args.input.now in
+    let i = c.steps.step-index in
+    let rest : List StepValue = map step_value (drop (i + 1) xs) in
+    let s : StepValue = step_value c.step-item.result in
+    let next : map step_value (drop i xs) ≡ s ∷ rest =
+    ap (map step_value) (drop_more xs i c.step-item.result (omega (arith, c.steps-test.true))) ∙ ap (λ x. step_value x ∷ rest) (sym c.step-item.is) in
+    covers_by (map step_value xs) rs c.requires
+    ∙ stops s rest rs c.steps.place (stand (leaves_in (map step_value xs)) rs) c.in_default.ensures.stands (ap (λ l. stand (leaves_in l) (drop c.steps.place rs)) (sym next) ∙ c.steps.invariant.so_far)
+
 pub steps-preserved : goal.steps-preserved
 steps-preserved c =
     let xs = c.args.steps.now in
