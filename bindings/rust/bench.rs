@@ -1,8 +1,9 @@
-//! Times this package, and beside it the Rust crate and syn where they are linked, in one process and on the same texts.
+//! Times this package, and beside it the Rust crate and syn where they are linked, in one process and on the same
+//! texts.
 //!
-//! Each text is read by each parser in turn, several rounds over, and the least time of a text counts. The package and the
-//! Rust crate go from the text to the steps of the tree, by `LexedStr::new`, `to_input`, `parse` and `intersperse_trivia`,
-//! and write each step into memory that is kept; syn builds its own tree.
+//! Each text is read by each parser in turn, several rounds over, and the least time of a text counts. The package and
+//! the Rust crate go from the text to the steps of the tree, by `LexedStr::new`, `to_input`, `parse` and
+//! `intersperse_trivia`, and write each step into memory that is kept; syn builds its own tree.
 use std::hint::black_box;
 use std::time::{Duration, Instant};
 

@@ -5,7 +5,7 @@ use std::str::FromStr;
 
 /// An edition of Rust. Editions are ordered by their years.
 ///
-/// The Rust crate takes this type from the crate `ra_ap_edition`; here it is this package's own.
+/// The Rust crate takes this type from a crate of its own for editions; here it is this package's.
 #[allow(missing_docs)]
 #[derive(Clone, Copy, PartialEq, Eq, PartialOrd, Ord, Hash, Debug)]
 #[repr(u8)]

@@ -117,11 +117,7 @@ pub struct Reparser {
 impl Reparser {
     /// The reparser of such a node, by its kind, that of the first thing in it and that of the node around it; `None`
     /// where it is not parsed again alone.
-    pub fn for_node(
-        node: SyntaxKind,
-        first_child: Option<SyntaxKind>,
-        parent: Option<SyntaxKind>,
-    ) -> Option<Reparser> {
+    pub fn for_node(node: SyntaxKind, first_child: Option<SyntaxKind>, parent: Option<SyntaxKind>) -> Option<Reparser> {
         let number = |kind: Option<SyntaxKind>| kind.map_or(sys::NO_KIND, |kind| kind as u32);
         let node = (number(Some(node)), number(first_child), number(parent));
         (sys::parse_node(&[], node).status != sys::NO_NODE).then_some(Reparser { node })
@@ -129,8 +125,8 @@ impl Reparser {
 
     /// Parses the node's tokens.
     ///
-    /// Panics where the node is to begin with a `{` and the tokens do not, which a block takes; and for an input of more
-    /// than 8,388,607 tokens.
+    /// Panics where the node is to begin with a `{` and the tokens do not, which a block takes; and for an input of
+    /// more than 8,388,607 tokens.
     pub fn parse(self, tokens: &Input) -> Output {
         let filled = sys::parse_node(tokens.records(), self.node);
         check_status(filled.status);

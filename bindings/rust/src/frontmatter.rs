@@ -1,8 +1,8 @@
 //! Script sources: the shebang and the frontmatter that may stand before the code.
 //!
-//! These calls do not go to the static library, which has none for them: they follow `crates/rap_frontmatter`, where the
-//! same calls are proved, and are tested. The cut of a text by [`crate::LexedStr`] is the library's. In the Rust crate this
-//! module is not public.
+//! These calls do not go to the static library, which has none for them: they follow `crates/rap_frontmatter`, where
+//! the same calls are proved, and are tested. The cut of a text by [`crate::LexedStr`] is the library's. In the Rust
+//! crate this module is not public.
 use std::error::Error;
 use std::fmt;
 use std::ops::Range;
@@ -139,7 +139,8 @@ fn count_dashes(text: &str) -> usize {
     text.bytes().take_while(|byte| *byte == b'-').count()
 }
 
-/// The line at this place, without its line feed and a carriage return right before that, and where the next one begins.
+/// The line at this place, without its line feed and a carriage return right before that, and where the next one
+/// begins.
 fn first_line(text: &str, at: usize) -> (Span, usize) {
     match text[at..].find('\n') {
         None => (at..text.len(), text.len()),
@@ -159,8 +160,8 @@ fn word_of(text: &str, line: Span) -> Option<Span> {
     (start < end).then_some(start..end)
 }
 
-/// The dashes that close a frontmatter: the first ones, past the line that opens it, that begin a line, as many as open it.
-/// Where no line begins with as many, it is refused, and the most dashes that begin a line are shown.
+/// The dashes that close a frontmatter: the first ones, past the line that opens it, that begin a line, as many as open
+/// it. Where no line begins with as many, it is refused, and the most dashes that begin a line are shown.
 fn find_close(text: &str, open: &Span) -> Result<Span, FrontmatterError> {
     let mut most = 0..0;
     let mut at = open.end;
@@ -200,8 +201,8 @@ fn close_line(text: &str, open: &Span, close: &Span) -> Result<usize, Frontmatte
     Err(error.push_visible_span(open.clone()))
 }
 
-/// Where the shebang ends, in bytes, its line feed included: the text starts with `#!`, and what follows does not start,
-/// past white space, with `[`, as an inner attribute does.
+/// Where the shebang ends, in bytes, its line feed included: the text starts with `#!`, and what follows does not
+/// start, past white space, with `[`, as an inner attribute does.
 pub fn strip_shebang(input: &str) -> Option<usize> {
     let rest = input.strip_prefix("#!")?;
     let is_attribute = rest.trim_start().starts_with('[');

@@ -6,13 +6,14 @@
 //!
 //! What a user of the Rust crate would notice stands at the items, and in `docs/DIFFERENCES.md` as a whole:
 //!
-//! - A text of more than 4,294,967,295 bytes and an input of more than 8,388,607 tokens are refused by a panic, and so is
+//! - A text of more than 4,294,967,295 bytes and an input of more than 8,388,607 tokens are refused by a panic, and so
+//! is
 //!   want of memory.
 //! - The numbers of kinds are the port's own.
 //! - [`Edition`] is this package's own type.
 //!
-//! Texts are cut only when something of them is asked for: [`LexedStr::new`] and [`LexedStr::to_input`] keep the text, and
-//! [`TopEntryPoint::parse`] goes the whole way from the text to the tree in one call of the library.
+//! Texts are cut only when something of them is asked for: [`LexedStr::new`] and [`LexedStr::to_input`] keep the text,
+//! and [`TopEntryPoint::parse`] goes the whole way from the text to the tree in one call of the library.
 #![deny(unsafe_code, missing_docs)]
 
 mod edition;

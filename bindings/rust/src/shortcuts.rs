@@ -37,9 +37,9 @@ fn hand_out(text: &str, filled: &Filled, sink: &mut dyn FnMut(StrStep<'_>)) {
 impl LexedStr<'_> {
     /// What the parser reads: the tokens that are no trivia, in order.
     ///
-    /// An identifier has the contextual keyword of its text in this edition, if it has one. A token touches the next one
-    /// where that is neither trivia nor an identifier; of a float it is said that its text does not end in a dot, and of
-    /// an identifier never that it touches the next token.
+    /// An identifier has the contextual keyword of its text in this edition, if it has one. A token touches the next
+    /// one where that is neither trivia nor an identifier; of a float it is said that its text does not end in a dot,
+    /// and of an identifier never that it touches the next token.
     pub fn to_input(&self, edition: Edition) -> Input {
         let source = Source { text: self.as_str().into(), edition: self.edition() };
         if edition == self.edition() {
@@ -56,8 +56,8 @@ impl LexedStr<'_> {
         Input::of_records(records)
     }
 
-    /// Hands the tree of an output to a sink, with the texts of its leaves and with the trivia that the parser left out.
-    /// The answer says whether all tokens of the text were handed out.
+    /// Hands the tree of an output to a sink, with the texts of its leaves and with the trivia that the parser left
+    /// out. The answer says whether all tokens of the text were handed out.
     ///
     /// Panics where the output is not exactly one tree over the first tokens of this text, each under its own kind, an
     /// identifier as its contextual keyword or a keyword as an identifier; the Rust crate takes some such outputs.

@@ -1,6 +1,7 @@
 //! The calls of `include/rap.h`, as they are, and a safe call for each. All of this package that is unsafe stands here.
 //!
-//! This module is no part of the interface of the Rust crate: it is public for the tests, and for the programs beside it.
+//! This module is no part of the interface of the Rust crate: it is public for the tests, and for the programs beside
+//! it.
 #![allow(unsafe_code, missing_docs)]
 
 use std::cell::Cell;
@@ -159,8 +160,8 @@ unsafe extern "C" {
 }
 
 thread_local! {
-    /// Room for steps that a thread keeps from one text to the next: to get it anew from the system takes a good part of the
-    /// time of a parse.
+    /// Room for steps that a thread keeps from one text to the next: to get it anew from the system takes a good part
+    /// of the time of a parse.
     static ROOM: Cell<Vec<Step>> = const { Cell::new(Vec::new()) };
 }
 
@@ -203,9 +204,9 @@ const MESSAGE_ROOM: usize = 1024;
 
 /// Calls with room for so many steps, and calls once more where that was too little.
 ///
-/// # Safety
-/// The call must be one of the library's: it writes from the pointers' begin on no more than there is room for, and what it
-/// answers is how many steps and bytes there are in all, of which it has written those that there is room for.
+/// # Safety The call must be one of the library's: it writes from the pointers' begin on no more than there is room
+/// for, and what it answers is how many steps and bytes there are in all, of which it has written those that there is
+/// room for.
 unsafe fn fill(step_room: usize, call: Fill<'_>) -> Filled {
     let mut steps = ROOM.take();
     let mut messages: Vec<u8> = Vec::with_capacity(MESSAGE_ROOM);
@@ -234,8 +235,8 @@ fn guess(text: &str) -> usize {
 
 /// The tree of a text, by `rap_tree`.
 pub(crate) fn tree(text: &str, edition: u32, entry: u32) -> Filled {
-    // SAFETY: the text is valid for its length, the room is what `fill` gives, which overlaps nothing, and `rap_tree` fills
-    // it as the header says.
+    // SAFETY: the text is valid for its length, the room is what `fill` gives, which overlaps nothing, and `rap_tree`
+    // fills it as the header says.
     unsafe {
         fill(guess(text), &|steps, n, bytes, m| rap_tree(text.as_ptr(), text.len(), edition, entry, steps, n, bytes, m))
     }
@@ -287,8 +288,8 @@ pub(crate) fn parse_prefix(records: &[Record], entry: u32) -> Filled {
     }
 }
 
-/// A parse of a node's own records, by `rap_parse_node`. The node is its kind, that of its first child and that of the node
-/// around it.
+/// A parse of a node's own records, by `rap_parse_node`. The node is its kind, that of its first child and that of the
+/// node around it.
 pub(crate) fn parse_node(records: &[Record], node: (u32, u32, u32)) -> Filled {
     // SAFETY: as in `parse`.
     unsafe {

@@ -225,7 +225,10 @@ fn knows_keywords() {
     let strict = |word, edition| SyntaxKind::from_keyword(word, edition);
     let contextual = |word, edition| SyntaxKind::from_contextual_keyword(word, edition);
     let (first, latest) = (Edition::Edition2015, Edition::Edition2024);
-    assert_eq!([strict("fn", first), strict("dyn", first), strict("dyn", Edition::Edition2018)], [Some(FN_KW), None, Some(DYN_KW)]);
+    assert_eq!(
+        [strict("fn", first), strict("dyn", first), strict("dyn", Edition::Edition2018)],
+        [Some(FN_KW), None, Some(DYN_KW)]
+    );
     assert_eq!([strict("gen", Edition::Edition2021), strict("gen", latest)], [None, Some(GEN_KW)]);
     assert_eq!([contextual("dyn", first), contextual("dyn", latest)], [Some(DYN_KW), None]);
     assert_eq!([contextual("union", first), contextual("fn", first)], [Some(UNION_KW), None]);

@@ -1,5 +1,5 @@
 //! The exports as C calls them, with answers worked out by hand.
-use ra_ap_parser::sys::{self, Answer, Step, ENTER, EXIT, MESSAGE, NO_KIND, TOKEN};
+use ra_ap_parser::sys::{self, Answer, ENTER, EXIT, MESSAGE, NO_KIND, Step, TOKEN};
 
 /// What stands in room that no call has written to.
 const BLANK: Step = Step { what: 99, kind: 99, at: 99, start: 99, end: 99 };
@@ -103,13 +103,8 @@ fn counts_where_there_is_no_room_and_fills_no_further() {
 
 #[test]
 fn lists_tokens_and_the_messages_of_the_lexer() {
-    let want = vec![
-        token("IDENT", 0, 2),
-        token("WHITESPACE", 2, 3),
-        token("INT_NUMBER", 3, 5),
-        message(3, 0, 44),
-        BLANK,
-    ];
+    let want =
+        vec![token("IDENT", 0, 2), token("WHITESPACE", 2, 3), token("INT_NUMBER", 3, 5), message(3, 0, 44), BLANK];
     let text = "Missing digits after the integer base prefix.";
     assert_eq!(tokens("é 0b".as_bytes(), 2021, (5, 45)), (answer(0, 4, 44, 5), want, text.to_string()));
 }

@@ -66,7 +66,8 @@ fn serves_the_page_and_nothing_else() {
     assert_eq!(status, 200);
     // The text that it begins with stands in it as data.
     assert!(page.contains(r#""text":"fn main() {\u000a"#) && !page.contains(">DATA<"));
-    for (target, want) in [("/page.css", 200), ("/page.js", 200), ("/x", 404), ("/../Cargo.toml", 404), ("/parse", 404)] {
+    for (target, want) in [("/page.css", 200), ("/page.js", 200), ("/x", 404), ("/../Cargo.toml", 404), ("/parse", 404)]
+    {
         assert_eq!(server.get(target, &host).0, want, "{target}");
     }
     assert_eq!(server.ask(format!("PUT / HTTP/1.1\r\n{host}\r\n").as_bytes()).0, 405);

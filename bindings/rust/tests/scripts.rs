@@ -44,8 +44,14 @@ fn refuses_wrong_fences() {
 
 #[test]
 fn strips() {
-    assert_eq!([strip_shebang("#!x"), strip_shebang("#!x\ny"), strip_shebang("#! [x"), strip_shebang(" #!")], [Some(3), Some(4), None, None]);
-    assert_eq!([strip_ws_lines(" \n \nx"), strip_ws_lines(" x"), strip_ws_lines("\u{85}\n"), strip_ws_lines("")], [Some(4), None, Some(3), None]);
+    assert_eq!(
+        [strip_shebang("#!x"), strip_shebang("#!x\ny"), strip_shebang("#! [x"), strip_shebang(" #!")],
+        [Some(3), Some(4), None, None]
+    );
+    assert_eq!(
+        [strip_ws_lines(" \n \nx"), strip_ws_lines(" x"), strip_ws_lines("\u{85}\n"), strip_ws_lines("")],
+        [Some(4), None, Some(3), None]
+    );
     assert!(is_rust_whitespace('\u{200e}') && !is_rust_whitespace('\u{a0}'));
 }
 

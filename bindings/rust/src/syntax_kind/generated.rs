@@ -1,4 +1,4 @@
-//! The kinds of tokens and nodes, and the texts of tokens. Written by `bindings/kinds` from the port's tables.
+//! The kinds of tokens and nodes, and the texts of tokens. Written by `bindings/kinds`.
 
 kinds! {
     EOF, SEMICOLON, COMMA, L_PAREN, R_PAREN, L_CURLY, R_CURLY, L_BRACK, R_BRACK, L_ANGLE, R_ANGLE, AT, POUND,
@@ -94,7 +94,7 @@ pub(crate) fn reserved_in_2015(text: &str) -> Option<SyntaxKind> {
     })
 }
 
-/// The keyword that is reserved since the edition 2018.
+/// The keyword that is reserved since 2018.
 pub(crate) fn reserved_since_2018(text: &str) -> Option<SyntaxKind> {
     Some(match text {
         "async" => SyntaxKind::ASYNC_KW,
@@ -105,7 +105,7 @@ pub(crate) fn reserved_since_2018(text: &str) -> Option<SyntaxKind> {
     })
 }
 
-/// The keyword that is reserved since the edition 2024.
+/// The keyword that is reserved since 2024.
 pub(crate) fn reserved_since_2024(text: &str) -> Option<SyntaxKind> {
     Some(match text {
         "gen" => SyntaxKind::GEN_KW,

@@ -1,7 +1,8 @@
 //! `playground [--port N] [FILE]` serves a page on 127.0.0.1: a text that one types in, beside its tree at each key.
 //!
-//! It serves the parts of this page, and the tree of a text that is posted to `/parse`, and nothing else. A request that
-//! names another host, or comes from a page of another origin, is refused, and so is a text of more than [`MOST_BYTES`].
+//! It serves the parts of this page, and the tree of a text that is posted to `/parse`, and nothing else. A request
+//! that names another host, or comes from a page of another origin, is refused, and so is a text of more than
+//! [`MOST_BYTES`].
 mod answer;
 mod http;
 
@@ -18,7 +19,8 @@ use std::thread;
 /// How many bytes a text has at most.
 const MOST_BYTES: usize = 2 << 20;
 
-/// The stack of the thread that parses: a text takes at most 1,000 bytes for each of its bytes, where each opens a level.
+/// The stack of the thread that parses: a text takes at most 1,000 bytes for each of its bytes, where each opens a
+/// level.
 const STACK: usize = MOST_BYTES * 1024;
 
 /// How many requests are answered at a time.
