@@ -1,7 +1,7 @@
 //! The lines that are printed of what the calls return.
 ghost use Rattle.std.specs.Prelude.{◌≡◌, ◌++◌, IfErr, IfOk, OnOk, string_bytes, length, MatchResult};
 ghost use Rattle.rap_events.specs.Forest.{flat};
-ghost use Rattle.rast_calls.specs.Listed.{Comes, ComesOfKept, ComesOfTokens, IsCounted, IsKept, IsStepped, Lists, capacity_lines, messages_in, refusal_lines, shown_spans, spans};
+ghost use Rattle.rast_calls.specs.Listed.{Comes, ComesOfKept, ComesOfTokens, IsCounted, IsKept, IsStepped, Lists, capacity_lines, messages_in, refusal_lines, shown_spans, span, spans};
 
 use crate::asked::{Asked, Tokens, Way};
 use crate::pushed::{CallFault, input_of, input_of_first, output_of};
@@ -31,7 +31,7 @@ fn refusal_of(
     end: usize,
     count: usize,
 ) -> Result<FrontmatterError, NoMemory>
-    ensures { IfOk result (λ e. e ≡ record { message = message.now; primary = record { start = start; end = end }; visible = spans count }) }
+    ensures { IfOk result (λ e. e ≡ record { message = message.now; primary = span start end; visible = spans count }) }
 {
     let mut error = FrontmatterError::new(alloc, message, start..end)?;
     'spans: for i in 0..count {
@@ -89,6 +89,7 @@ fn list_steps(alloc: Global, way: Way, tokens: &Tokens) -> Result<String, CallFa
 }
 
 /// Lists how many of the tokens were pushed before a push was refused, how many the input has then, and its steps.
+#[tactic(auto, using(crate::proofs::Pushing::length_pushed))]
 fn list_kept(alloc: Global, way: Way, tokens: &Tokens) -> Result<String, CallFault>
     ensures lists { IfOk result (λ lines. IsKept way tokens.now (string_bytes lines)) }
     ensures fault { IfErr result (ComesOfKept way tokens.now) }
@@ -103,9 +104,11 @@ fn list_kept(alloc: Global, way: Way, tokens: &Tokens) -> Result<String, CallFau
 }
 
 /// How many messages an output has.
+#[tactic(auto, using(crate::proofs::Holding::messages_few))]
 fn count_messages(output: &Output) -> usize
     ensures { result ≡ messages_in (flat output.now) }
 {
+    let _steps = output.iter().len();
     let mut count = 0usize;
     'steps: for step in output.iter() {
         if let Step::Error { msg: _ } = step {
