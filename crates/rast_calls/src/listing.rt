@@ -1,6 +1,8 @@
 //! The lines that are printed of what the calls return.
 ghost use Rattle.std.specs.Prelude.{◌≡◌, ◌++◌, IfErr, IfOk, OnOk, string_bytes, length, MatchResult};
 ghost use Rattle.rap_events.specs.Forest.{flat};
+ghost use Rattle.rap_events.specs.Step.{step_value};
+ghost use Rattle.rast_print.specs.Listed.{step_line, step_lines};
 ghost use Rattle.rast_calls.specs.Listed.{Comes, ComesOfKept, ComesOfTokens, IsCounted, IsKept, IsStepped, Lists, capacity_lines, messages_in, refusal_lines, shown_spans, span, spans};
 
 use crate::asked::{Asked, Tokens, Way};
@@ -8,7 +10,6 @@ use crate::pushed::{CallFault, input_of, input_of_first, output_of};
 use crate::sink::list_held;
 use ra_ap_parser::frontmatter::FrontmatterError;
 use ra_ap_parser::{Input, NoMemory, Output, Step};
-use rast_print::listing::push_steps;
 use std::alloc::{AllocError, Global};
 use std::fmt::Write as _;
 
@@ -74,6 +75,37 @@ fn list_refusal(
     push_spans(&mut lines, &error)?;
     lines.push_str("\n")?;
     Ok(lines)
+}
+
+/// Adds the line of a step.
+fn push_step(lines: &mut String, step: Step<'_>) -> Result<(), AllocError>
+    ensures { OnOk result (string_bytes lines.new ≡ string_bytes lines.old ++ step_line (step_value step.entry)) }
+{
+    match step {
+        Step::Enter { kind } => writeln!(lines, "enter {}", kind.name())?,
+        Step::Exit => lines.push_str("exit\n")?,
+        Step::Token {
+            kind,
+            n_input_tokens,
+        } => writeln!(lines, "token {} {n_input_tokens}", kind.name())?,
+        Step::FloatSplit { ends_in_dot } => lines.push_str(if ends_in_dot {
+            "split true\n"
+        } else {
+            "split false\n"
+        })?,
+        Step::Error { msg } => writeln!(lines, "error {msg}")?,
+    }
+    Ok(())
+}
+
+/// Adds the lines of an output's steps.
+fn push_steps(lines: &mut String, output: &Output) -> Result<(), AllocError>
+    ensures { OnOk result (string_bytes lines.new ≡ string_bytes lines.old ++ step_lines (flat output.now)) }
+{
+    'steps: for step in output.iter() {
+        push_step(lines, step)?;
+    }
+    Ok(())
 }
 
 /// Lists the steps of an input of the tokens.
