@@ -54,7 +54,7 @@ abbrev pub count_lines : List StepValue → List ℕ
 count_lines steps = codes "steps " ++ (decimal (length steps) ++ (codes "\nmessages " ++ (decimal (messages_in steps) ++ codes "\n")))
 
 abbrev pub kept_lines : ℕ → List ℕ
-kept_lines count = codes "pushed " ++ (decimal count ++ (codes "\nlength " ++ (decimal count ++ codes "\n")))
+kept_lines count = codes "pushed " ++ (decimal count ++ (codes "\n" ++ (codes "length " ++ (decimal count ++ codes "\n"))))
 
 -- the steps of an input of all the tokens
 pub record IsStepped (way : Way) (tokens : Tokens) (lines : List ℕ) : Type 0 where

@@ -1,14 +1,15 @@
 //! The lines that are printed of what the calls return.
 ghost use Rattle.std.specs.Prelude.{◌≡◌, ◌++◌, IfErr, IfOk, OnOk, string_bytes, length, MatchResult};
 ghost use Rattle.rap_events.specs.Forest.{flat};
-ghost use Rattle.rast_calls.specs.Listed.{Comes, ComesOfKept, ComesOfTokens, IsCounted, IsKept, IsStepped, Lists, capacity_lines, messages_in, refusal_lines, shown_spans, spans};
+ghost use Rattle.rap_events.specs.Step.{step_value};
+ghost use Rattle.rast_print.specs.Listed.{step_line, step_lines};
+ghost use Rattle.rast_calls.specs.Listed.{Comes, ComesOfKept, ComesOfTokens, IsCounted, IsKept, IsStepped, Lists, capacity_lines, messages_in, refusal_lines, shown_spans, span, spans};
 
 use crate::asked::{Asked, Tokens, Way};
 use crate::pushed::{CallFault, input_of, input_of_first, output_of};
 use crate::sink::list_held;
 use ra_ap_parser::frontmatter::FrontmatterError;
 use ra_ap_parser::{Input, NoMemory, Output, Step};
-use rast_print::listing::push_steps;
 use std::alloc::{AllocError, Global};
 use std::fmt::Write as _;
 
@@ -31,7 +32,7 @@ fn refusal_of(
     end: usize,
     count: usize,
 ) -> Result<FrontmatterError, NoMemory>
-    ensures { IfOk result (λ e. e ≡ record { message = message.now; primary = record { start = start; end = end }; visible = spans count }) }
+    ensures { IfOk result (λ e. e ≡ record { message = message.now; primary = span start end; visible = spans count }) }
 {
     let mut error = FrontmatterError::new(alloc, message, start..end)?;
     'spans: for i in 0..count {
@@ -76,6 +77,37 @@ fn list_refusal(
     Ok(lines)
 }
 
+/// Adds the line of a step.
+fn push_step(lines: &mut String, step: Step<'_>) -> Result<(), AllocError>
+    ensures { OnOk result (string_bytes lines.new ≡ string_bytes lines.old ++ step_line (step_value step.entry)) }
+{
+    match step {
+        Step::Enter { kind } => writeln!(lines, "enter {}", kind.name())?,
+        Step::Exit => lines.push_str("exit\n")?,
+        Step::Token {
+            kind,
+            n_input_tokens,
+        } => writeln!(lines, "token {} {n_input_tokens}", kind.name())?,
+        Step::FloatSplit { ends_in_dot } => lines.push_str(if ends_in_dot {
+            "split true\n"
+        } else {
+            "split false\n"
+        })?,
+        Step::Error { msg } => writeln!(lines, "error {msg}")?,
+    }
+    Ok(())
+}
+
+/// Adds the lines of an output's steps.
+fn push_steps(lines: &mut String, output: &Output) -> Result<(), AllocError>
+    ensures { OnOk result (string_bytes lines.new ≡ string_bytes lines.old ++ step_lines (flat output.now)) }
+{
+    'steps: for step in output.iter() {
+        push_step(lines, step)?;
+    }
+    Ok(())
+}
+
 /// Lists the steps of an input of the tokens.
 fn list_steps(alloc: Global, way: Way, tokens: &Tokens) -> Result<String, CallFault>
     ensures lists { IfOk result (λ lines. IsStepped way tokens.now (string_bytes lines)) }
@@ -89,6 +121,7 @@ fn list_steps(alloc: Global, way: Way, tokens: &Tokens) -> Result<String, CallFa
 }
 
 /// Lists how many of the tokens were pushed before a push was refused, how many the input has then, and its steps.
+#[tactic(auto, using(crate::proofs::Pushing::length_pushed))]
 fn list_kept(alloc: Global, way: Way, tokens: &Tokens) -> Result<String, CallFault>
     ensures lists { IfOk result (λ lines. IsKept way tokens.now (string_bytes lines)) }
     ensures fault { IfErr result (ComesOfKept way tokens.now) }
@@ -103,9 +136,11 @@ fn list_kept(alloc: Global, way: Way, tokens: &Tokens) -> Result<String, CallFau
 }
 
 /// How many messages an output has.
+#[tactic(auto, using(crate::proofs::Holding::messages_few))]
 fn count_messages(output: &Output) -> usize
     ensures { result ≡ messages_in (flat output.now) }
 {
+    let _steps = output.iter().len();
     let mut count = 0usize;
     'steps: for step in output.iter() {
         if let Step::Error { msg: _ } = step {

@@ -78,6 +78,7 @@ fn is_joint(every: usize, i: usize) -> bool
 }
 
 /// Pushes a token. A refused push leaves the input as it was.
+#[tactic(auto, using(crate::proofs::Pushing::last_joint, crate::proofs::Pushing::some_last))]
 fn push_token(input: &mut Input, token: Token, joint: bool) -> Result<(), NoMemory>
     requires { CanPush token }
     ensures ok { OnOk result (input.new ≡ input.old ++ record_of_token token joint ∷ []) }

@@ -92,7 +92,7 @@ fn push_step(lines: &mut String, step: Step<'_>) -> Result<(), AllocError>
 }
 
 /// Adds the lines of an output's steps.
-pub fn push_steps(lines: &mut String, output: &Output) -> Result<(), AllocError>
+fn push_steps(lines: &mut String, output: &Output) -> Result<(), AllocError>
     ensures { OnOk result (string_bytes lines.new ≡ string_bytes lines.old ++ step_lines (flat output.now)) }
 {
     'steps: for step in output.iter() {
