@@ -1,8 +1,8 @@
 -- What a collector holds along the steps of a tree.
-use Rattle.std.proofs.Common.{◌≡◌, ℕ, List, [], ◌∷◌, ◌++◌, refl, ap, subst, sym, ◌∙◌, Bool, append_assoc, append-nil, length}
+use Rattle.std.proofs.Common.{◌≡◌, ℕ, List, [], ◌∷◌, ◌++◌, ap, subst, sym, ◌∙◌, Bool, append_assoc, append-nil, length}
 use Rattle.rap_base.specs.declared.edition.Edition.{Edition}
 use Rattle.rap_lexed.specs.LexedStr.{Lexed}
-use Rattle.rap_lexed.specs.StrForest.{StrForest, str_flat}
+use Rattle.rap_lexed.specs.StrForest.{str_flat}
 use Rattle.rap_lexed.specs.StrSink.{Takes}
 use Rattle.rap_lexed.specs.StrStep.{StrStepValue}
 use Rattle.rap_lexed.specs.Trivia.{with_trivia}

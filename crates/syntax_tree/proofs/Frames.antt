@@ -1,5 +1,5 @@
 -- What a builder holds.
-use Rattle.std.proofs.Common.{◌≡◌, ℕ, ◌+◌, List, [], ◌∷◌, ◌++◌, refl, ap, ◌∙◌}
+use Rattle.std.proofs.Common.{◌≡◌, ℕ, List, [], ◌∷◌, ◌++◌, refl, ap, ◌∙◌}
 use Rattle.syntax_tree.specs.Building.{Frames, Building, outermost, within, frames_in}
 use Rattle.syntax_tree.specs.Children.{children_of}
 use Rattle.syntax_tree.specs.RangedForest.{RangedForest}

@@ -1,10 +1,9 @@
 -- What a builder holds along the steps of a tree.
-use Rattle.std.proofs.Common.{◌≡◌, ℕ, ◌+◌, List, [], ◌∷◌, ◌++◌, Bool, true, false, refl, ap, sym, ◌∙◌, append_assoc, append-nil, length, length-append, add-zero, arith}
+use Rattle.std.proofs.Common.{◌≡◌, ℕ, ◌+◌, List, [], ◌∷◌, ◌++◌, true, refl, ap, sym, ◌∙◌, append_assoc, append-nil, length, length-append, add-zero, arith}
 use Rattle.rap_lexed.specs.StrForest.{StrForest, str_none, str_node, str_leaf, str_message, str_flat, str_joined, str_one_tree}
 use Rattle.rap_lexed.specs.StrSink.{Takes}
 use Rattle.rap_lexed.specs.StrStep.{StrStepValue, str_enter, str_exit, str_token, str_error}
 use Rattle.syntax_tree.specs.Building.{Frames, Building, Builds, outermost, within, after, building}
-use Rattle.syntax_tree.specs.Children.{children_of}
 use Rattle.syntax_tree.specs.Ranged.{Ranged, end_from, ranged}
 use Rattle.syntax_tree.specs.RangedForest.{RangedForest, RangedNode, ranged_none, ranged_node, ranged_leaf, alone}
 use Rattle.syntax_tree.specs.declared.builder.Builder.{Builder}

@@ -1,5 +1,5 @@
 -- The texts of leaves, and the places between them.
-use Rattle.std.proofs.Common.{◌≡◌, ℕ, ◌+◌, ◌≤◌, List, [], ◌∷◌, ◌++◌, refl, ap, subst, sym, ◌∙◌, append_assoc, append-nil, length, length-append, add-zero, arith, IsUtf8, IsCharBoundary}
+use Rattle.std.proofs.Common.{◌≡◌, ℕ, ◌+◌, List, [], ◌∷◌, ◌++◌, refl, ap, subst, sym, ◌∙◌, append_assoc, append-nil, length, length-append, arith, IsUtf8, IsCharBoundary}
 use Rattle.std.proofs.lemmas.Str.{IsUtf8-append, IsUtf8-nil, IsCharBoundary-at_seam}
 use Rattle.rap_lexed.specs.StrForest.{StrForest, str_none, str_node, str_leaf, str_message, str_flat, str_joined}
 use Rattle.rap_lexed.specs.StrSink.{Takes}
@@ -7,7 +7,6 @@ use Rattle.rap_lexed.specs.StrStep.{StrStepValue, str_enter, str_exit, str_token
 use Rattle.syntax_tree.specs.Building.{Builds, IsText}
 use Rattle.syntax_tree.specs.Places.{IsPlace, HavePlaces}
 use Rattle.syntax_tree.specs.Ranged.{end_from, ranged}
-use Rattle.syntax_tree.specs.RangedForest.{RangedForest, RangedNode, alone}
 use Rattle.syntax_tree.specs.declared.builder.Builder.{Builder}
 
 -- the tokens among these steps are text
@@ -70,17 +69,19 @@ places_inside (str_node before kind children) text front back at e parts b h =
     let around : text ≡ front ++ (jb ++ (jc ++ back)) = parts ∙ ap (λ l. front ++ l) (append_assoc jb jc back) in
     let here : end_from at before ≡ length (front ++ jb) = omega (arith, e, length-append front jb) in
     let cut : text ≡ (front ++ jb) ++ (jc ++ back) = around ∙ sym (append_assoc front jb (jc ++ back)) in
-    let utf8 : IsUtf8 jc = text_joined children h.1 in
-    (places_inside before text front (jc ++ back) at e around (IsUtf8-append jc back utf8 b) h.0,
-    place text (front ++ jb) jc back (end_from at before) here cut utf8 b,
-    places_inside children text (front ++ jb) back (end_from at before) here cut b h.1)
+    let utf8 : IsUtf8 jc = text_joined children h.1 in (
+      places_inside before text front (jc ++ back) at e around (IsUtf8-append jc back utf8 b) h.0,
+      place text (front ++ jb) jc back (end_from at before) here cut utf8 b,
+      places_inside children text (front ++ jb) back (end_from at before) here cut b h.1,
+    )
 places_inside (str_leaf before kind part) text front back at e parts b h =
     let jb : List ℕ = str_joined before in
     let around : text ≡ front ++ (jb ++ (part ++ back)) = parts ∙ ap (λ l. front ++ l) (append_assoc jb part back) in
     let here : end_from at before ≡ length (front ++ jb) = omega (arith, e, length-append front jb) in
-    let cut : text ≡ (front ++ jb) ++ (part ++ back) = around ∙ sym (append_assoc front jb (part ++ back)) in
-    (places_inside before text front (part ++ back) at e around (IsUtf8-append part back h.1 b) h.0,
-    place text (front ++ jb) part back (end_from at before) here cut h.1 b)
+    let cut : text ≡ (front ++ jb) ++ (part ++ back) = around ∙ sym (append_assoc front jb (part ++ back)) in (
+      places_inside before text front (part ++ back) at e around (IsUtf8-append part back h.1 b) h.0,
+      place text (front ++ jb) part back (end_from at before) here cut h.1 b,
+    )
 places_inside (str_message before bytes pos) text front back at e parts b h = places_inside before text front back at e parts b h
 
 -- the nodes and leaves of a forest whose leaves joined are the text

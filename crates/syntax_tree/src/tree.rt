@@ -79,7 +79,9 @@ impl<'t> Tree<'t> {
             return Err(TextFault::Refused(NoMemory));
         };
         let Collector {
-            builder, messages, ..
+            builder,
+            messages,
+            ..
         } = collector;
         Ok(Tree {
             text,

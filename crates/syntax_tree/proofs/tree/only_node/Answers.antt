@@ -1,7 +1,6 @@
-use Rattle.std.proofs.Common.{◌≡◌, ap, ◌∙◌, arith}
+use Rattle.std.proofs.Common.{ap}
 use Rattle.syntax_tree.specs.Children.{children_of, with_child}
-use Rattle.syntax_tree.specs.RangedForest.{alone}
-use Rattle.syntax_tree.proofs.ChildLists.{children-snoc, children-none}
+use Rattle.syntax_tree.proofs.ChildLists.{children-snoc}
 use Rattle.syntax_tree.proofs.tree.only_node.Goals as goal
 
 pub unreachable-requires : goal.unreachable-requires

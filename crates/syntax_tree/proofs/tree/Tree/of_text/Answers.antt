@@ -1,4 +1,4 @@
-use Rattle.std.proofs.Common.{◌≡◌, ap, sym, ◌∙◌}
+use Rattle.std.proofs.Common.{ap, sym, ◌∙◌}
 use Rattle.syntax_tree.specs.Building.{building}
 use Rattle.syntax_tree.proofs.Collected.{node_of_text, text_tree}
 use Rattle.syntax_tree.proofs.tree.Tree.of_text.Goals as goal
