@@ -70,11 +70,7 @@ fn may_be_pushed(token: Token) -> bool
 fn is_joint(every: usize, i: usize) -> bool
     ensures { result ≡ touches every i }
 {
-    if every == 0 {
-        false
-    } else {
-        i % every == 0
-    }
+    if every == 0 { false } else { i % every == 0 }
 }
 
 /// Pushes a token. A refused push leaves the input as it was.
