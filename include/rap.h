@@ -175,7 +175,8 @@ struct rap_answer rap_prefix(const uint8_t *text, size_t text_length, uint32_t e
  *    of its new one, nor about one of the five behind the node.
  * The third spares only a stale `expected R_CURLY`, and the fifth only the words of that message. This is measured, not
  * proved: over five million random edits of right and wrong texts the trees, the messages and their places were those of
- * the whole new text wherever all five held. Smallest texts of which one does not hold, and the trees differ:
+ * the whole new text wherever all five held. Smallest texts of which one does not hold, and the trees differ, of the third
+ * and the fifth the messages:
  * 1. `{e unsafe{}`, `unsafe` goes: a record expression.
  * 2. `{{}}`, `#` comes into the inner braces: what is expected behind it takes the `}`. `use{}`, `..` comes into the braces.
  * 3. `fn f(){`, `}` comes at the end.

@@ -33,7 +33,7 @@ use std::marker::Model;
 /// `expected R_CURLY`, and the fifth only the words of that message. None of it is proved: over five million random edits of
 /// right and wrong texts the trees, the messages and their places were those of the whole new text, wherever all five held.
 ///
-/// Smallest texts of which one does not hold, and the trees differ:
+/// Smallest texts of which one does not hold, and the trees differ, of the third and the fifth the messages:
 ///
 /// | not | text | edit |
 /// |---|---|---|
