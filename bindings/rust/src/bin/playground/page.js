@@ -2,7 +2,8 @@
 const byId = (id) => document.getElementById(id);
 const ROW = 20;
 const LONGEST_LINE = 4000;
-const MOST_LISTED = 500;
+const MOST_LISTED = 100;
+const MOST_IN_LINE = 4;
 const kinds = JSON.parse(byId('data').textContent).kinds;
 const textPane = byId('text');
 const treePane = byId('tree');
@@ -163,11 +164,11 @@ function placeMessages(said) {
     const line = lineAt(place);
     messages.push({ place, item, said: said[i + 1] });
     if (!notes.has(line)) notes.set(line, { texts: [], atEnd: false });
-    if (notes.get(line).texts.length < 4) notes.get(line).texts.push(said[i + 1]);
+    if (notes.get(line).texts.length < MOST_IN_LINE) notes.get(line).texts.push(said[i + 1]);
     if (place === lineStop(line)) notes.get(line).atEnd = true;
     else wrongLeaves.add(item);
     if (!saidAt.has(item)) saidAt.set(item, []);
-    saidAt.get(item).push(said[i + 1]);
+    if (saidAt.get(item).length < MOST_IN_LINE) saidAt.get(item).push(said[i + 1]);
   }
 }
 function listMessages() {
@@ -182,6 +183,11 @@ function listMessages() {
     entry.append(button);
     return entry;
   });
+  if (messages.length > MOST_LISTED) {
+    const entry = document.createElement('li');
+    entry.textContent = (messages.length - MOST_LISTED).toLocaleString('en') + ' more stand at their lines';
+    list.push(entry);
+  }
   byId('messages').replaceChildren(...list);
 }
 
@@ -340,9 +346,11 @@ function draw(bytes, begin) {
   placeMessages(JSON.parse(new TextDecoder().decode(new Uint8Array(bytes, 4 + 4 * count))));
   layTree();
   listMessages();
-  chooseAtCaret();
-  drawTree();
-  drawText();
+  if (tree.leaves.length > 0) chooseAtCaret();
+  else {
+    drawTree();
+    drawText();
+  }
   const nodes = tree.count - tree.leaves.length;
   byId('counts').textContent = counted(tree.leaves.length, 'token') + ', ' + counted(nodes, 'node');
   byId('state').textContent = Math.round(performance.now() - begin) + ' ms';
