@@ -1,10 +1,9 @@
 //! A sink that takes so many steps of a text's tree, and refuses the next one.
-ghost use Rattle.std.specs.Prelude.{◌≡◌, ◌++◌, IfErr, IfOk, OnOk, string_bytes};
-ghost use Rattle.rap_lexed.specs.StrStep.{str_step_value};
-ghost use Rattle.rast_calls.specs.Held.{ComesOfSteps, IsHeld, str_line};
+ghost use Rattle.std.specs.Prelude.{◌≡◌, ◌+◌, IfErr, IfOk, OnErr, OnOk, string_bytes};
+ghost use Rattle.rast_calls.specs.Held.{ComesOfSteps, IsHeld};
 
 use crate::pushed::CallFault;
-use ra_ap_parser::{Edition, StrSink, StrStep, TextFault, TopEntryPoint, parse_text};
+use ra_ap_parser::{Edition, StrSink, StrStep, SyntaxKind, TextFault, TopEntryPoint, parse_text};
 use rast_common::message::push_message;
 use rast_common::quote::push_quoted;
 use std::alloc::{AllocError, Global};
@@ -36,21 +35,60 @@ pub struct Holder {
     pub left: usize,
 }
 
-/// Adds the line of a step.
-fn push_step(lines: &mut String, step: StrStep<'_>) -> Result<(), AllocError>
-    ensures { OnOk result (string_bytes lines.new ≡ string_bytes lines.old ++ str_line (str_step_value step.entry)) }
-{
-    match step {
-        StrStep::Enter { kind } => writeln!(lines, "enter {}", kind.name())?,
-        StrStep::Exit => lines.push_str("exit\n")?,
-        StrStep::Token { kind, text } => {
-            write!(lines, "token {} ", kind.name())?;
-            push_quoted(lines, text)?;
-            lines.push_str("\n")?;
+impl Holder {
+    ghost use Rattle.std.specs.Prelude.{MatchResult};
+    ghost use Rattle.rap_lexed.specs.StrStep.{str_enter, str_exit, str_token, str_error};
+    ghost use Rattle.rast_calls.specs.Held.{Holds, Refuses};
+
+    /// Takes one step less from here on, or refuses it.
+    fn take(&mut self) -> Result<(), Refusal>
+        ensures ok { OnOk result ((self.new.left + 1 ≡ self.old.left) × (self.new.lines ≡ self.old.lines)) }
+        ensures err { OnErr result ((self.old.left ≡ 0) × (self.new ≡ self.old)) }
+    {
+        if self.left == 0 {
+            return Err(Refusal::Full);
         }
-        StrStep::Error { msg, pos } => push_message(lines, pos, msg)?,
+        self.left -= 1;
+        Ok(())
     }
-    Ok(())
+
+    /// Adds the line of a node that begins.
+    fn enter(&mut self, kind: SyntaxKind) -> Result<(), Refusal>
+        ensures { MatchResult result (λ _. Holds self.old (str_enter kind) self.new) (λ e. Refuses self.old (str_enter kind) e self.new) }
+    {
+        self.take()?;
+        writeln!(self.lines, "enter {}", kind.name())?;
+        Ok(())
+    }
+
+    /// Adds the line of a node that ends.
+    fn exit(&mut self) -> Result<(), Refusal>
+        ensures { MatchResult result (λ _. Holds self.old str_exit self.new) (λ e. Refuses self.old str_exit e self.new) }
+    {
+        self.take()?;
+        self.lines.push_str("exit\n")?;
+        Ok(())
+    }
+
+    /// Adds the line of a token.
+    fn token(&mut self, kind: SyntaxKind, text: &str) -> Result<(), Refusal>
+        ensures { MatchResult result (λ _. Holds self.old (str_token kind text.now) self.new) (λ e. Refuses self.old (str_token kind text.now) e self.new) }
+    {
+        self.take()?;
+        write!(self.lines, "token {} ", kind.name())?;
+        push_quoted(&mut self.lines, text)?;
+        self.lines.push_str("\n")?;
+        Ok(())
+    }
+
+    /// Adds the line of a message.
+    fn error(&mut self, msg: &str, pos: usize) -> Result<(), Refusal>
+        ensures { MatchResult result (λ _. Holds self.old (str_error msg.now pos) self.new) (λ e. Refuses self.old (str_error msg.now pos) e self.new) }
+    {
+        self.take()?;
+        push_message(&mut self.lines, pos, msg)?;
+        Ok(())
+    }
 }
 
 impl StrSink for Holder {
@@ -63,12 +101,12 @@ impl StrSink for Holder {
     ghost refuses = { Refuses };
 
     fn step(&mut self, step: StrStep<'_>) -> Result<(), Refusal> {
-        if self.left == 0 {
-            return Err(Refusal::Full);
+        match step {
+            StrStep::Enter { kind } => self.enter(kind),
+            StrStep::Exit => self.exit(),
+            StrStep::Token { kind, text } => self.token(kind, text),
+            StrStep::Error { msg, pos } => self.error(msg, pos),
         }
-        push_step(&mut self.lines, step)?;
-        self.left -= 1;
-        Ok(())
     }
 }
 
