@@ -57,22 +57,22 @@ fn push_leaf(
     Ok(())
 }
 
-/// Adds a child's line, and opens its children.
+/// Adds a child's line, and leaves its children.
 fn push_child<'a>(
     lines: &mut String,
-    open: &mut Vec<&'a [Child]>,
+    lists: &mut Vec<&'a [Child]>,
     depth: usize,
     child: &'a Child,
     text: &str,
 ) -> Result<(), NoMemory>
-    requires deep { depth ≡ length open.old.items }
+    requires deep { depth ≡ length lists.old.items }
     requires placed { HavePlaces text.now (with_child ranged_none child.now) }
-    requires all_placed { AllPlaced text.now open.old.items }
-    ensures lines { OnOk result (string_bytes lines.new ++ pending text.now 1 open.new.items
-        ≡ string_bytes lines.old ++ (child_lines text.now depth child.now ++ pending text.now 1 open.old.items)) }
-    ensures placed { OnOk result (AllPlaced text.now open.new.items) }
-    ensures smaller { OnOk result (pending_size open.new.items
-        < pending_size open.old.items + (2 * forest_size (with_child ranged_none child.now))) }
+    requires all_placed { AllPlaced text.now lists.old.items }
+    ensures lines { OnOk result (string_bytes lines.new ++ pending text.now 1 lists.new.items
+        ≡ string_bytes lines.old ++ (child_lines text.now depth child.now ++ pending text.now 1 lists.old.items)) }
+    ensures placed { OnOk result (AllPlaced text.now lists.new.items) }
+    ensures smaller { OnOk result (pending_size lists.new.items
+        < pending_size lists.old.items + (2 * forest_size (with_child ranged_none child.now))) }
 {
     match child {
         Child::Leaf { kind, range } => {
@@ -81,7 +81,7 @@ fn push_child<'a>(
         }
         Child::Node(node) => {
             push_node(lines, depth, node)?;
-            open.push(node.children())?;
+            lists.push(node.children())?;
             Ok(())
         }
     }
@@ -98,15 +98,15 @@ fn push_children(
     ensures { OnOk result (string_bytes lines.new
         ≡ string_bytes lines.old ++ ranged_lines text.now 1 root.now.children) }
 {
-    let mut open = Vec::new(alloc);
-    open.push(root.children())?;
-    'open: while let Some(list) = open.pop() {
+    let mut lists = Vec::new(alloc);
+    lists.push(root.children())?;
+    'lists: while let Some(list) = lists.pop() {
         let [first, later @ ..] = list else {
             continue;
         };
-        open.push(later)?;
-        let depth = open.len();
-        push_child(lines, &mut open, depth, first, text)?;
+        lists.push(later)?;
+        let depth = lists.len();
+        push_child(lines, &mut lists, depth, first, text)?;
     }
     Ok(())
 }

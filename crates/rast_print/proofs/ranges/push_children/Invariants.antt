@@ -3,11 +3,11 @@ use Rattle.rast_print.specs.Pending.{pending, AllPlaced, pending_size}
 use Rattle.rast_print.specs.RangedLines.{ranged_lines}
 use Rattle.rast_print.proofs.ranges.push_children.Given as goal
 
-abbrev pub invariant-open : goal.invariant-open
-invariant-open l = record {
-  lines : string_bytes l.lines ++ pending l.fn.text 1 l.open.items ≡ string_bytes l.fn.lines ++ ranged_lines l.fn.text 1 l.fn.root.children;
-  placed : AllPlaced l.fn.text l.open.items
+abbrev pub invariant-lists : goal.invariant-lists
+invariant-lists l = record {
+  lines : string_bytes l.lines ++ pending l.fn.text 1 l.lists.items ≡ string_bytes l.fn.lines ++ ranged_lines l.fn.text 1 l.fn.root.children;
+  placed : AllPlaced l.fn.text l.lists.items
 }
 
-abbrev pub decreases-open : goal.decreases-open
-decreases-open l = pending_size l.open.items
+abbrev pub decreases-lists : goal.decreases-lists
+decreases-lists l = pending_size l.lists.items
