@@ -1,4 +1,3 @@
 pub mod Lines
 pub mod Listings
 pub mod Named
-pub mod Walks

@@ -2,8 +2,6 @@ pub mod AskedName
 pub mod EntryName
 pub mod Listed
 pub mod Lists
-pub mod Pending
 pub mod Printed
 pub mod Prints
-pub mod RangedLines
 pub mod Shown

@@ -1,5 +1,5 @@
 -- All lines of a text, and when there are none.
-use Rattle.std.specs.Prelude.{◌≡◌, ℕ, ◌<◌, ◌≤◌, List, [], ◌∷◌, ◌++◌, length, string_bytes}
+use Rattle.std.specs.Prelude.{◌≡◌, ℕ, ◌<◌, ◌≤◌, List, ◌++◌, length, string_bytes}
 use Rattle.rap_base.specs.declared.edition.Edition.{Edition}
 use Rattle.rap_events.specs.Forest.{Forest}
 use Rattle.ra_ap_parser.specs.Headline.{HasTooManyTokens, IsParsed}
@@ -10,11 +10,7 @@ use Rattle.ra_ap_parser.specs.declared.entry_point.TopEntryPoint.{TopEntryPoint}
 use Rattle.ra_ap_parser.specs.declared.whole_text.TextFault.{TextFault}
 use Rattle.ra_ap_parser.specs.declared.whole_text.TextFault.TheVariants.{TextTooLong, TooManyTokens, NoMemory, Refused}
 use Rattle.rast_print.specs.Printed.{printed, reported, lexer_reported}
-use Rattle.rast_common.specs.Message.{message_line}
-use Rattle.rast_print.specs.RangedLines.{ranged_lines}
 use Rattle.rast_print.specs.declared.printer.Printer.{Printer}
-use Rattle.syntax_tree.specs.Ranged.{ranged}
-use Rattle.syntax_tree.specs.Told.{Told}
 
 -- the lines of all messages: those of the tree, and after them those of the lexer
 abbrev pub all_reported : Lexed → Forest → List ℕ
@@ -28,6 +24,7 @@ pub record IsPrinted (text : List ℕ) (edition : Edition) (entry : TopEntryPoin
   pub tree : string_bytes printer.tree ≡ printed 0 (str_flat (with_trivia lexed.tokens forest))
   pub messages : string_bytes printer.messages ≡ all_reported lexed forest
 
+<<<<<<< HEAD
 -- the lines of messages that a tree has kept
 abbrev pub told_lines : List Told → List ℕ
 told_lines [] = []
@@ -42,6 +39,9 @@ pub record AreRangesPrinted (text : List ℕ) (edition : Edition) (entry : TopEn
   pub messages : string_bytes printer.messages ≡ all_reported lexed forest
 
 -- when a fault comes; the printer refuses a step only when out of memory
+=======
+-- when a fault comes; the printer refuses a step only for want of memory
+>>>>>>> f7a3ff4331c04a89c3af8163a816247090222844
 abbrev pub Comes : {R : Type 0} → List ℕ → Edition → TextFault R → Type 0
 Comes text edition TextTooLong = 4294967295 < length text
 Comes text edition TooManyTokens = HasTooManyTokens text edition

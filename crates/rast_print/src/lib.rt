@@ -6,5 +6,4 @@ pub mod entry;
 pub mod listing;
 pub mod print_text;
 pub mod printer;
-pub mod ranges;
 pub mod request;
