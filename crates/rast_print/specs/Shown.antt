@@ -24,24 +24,7 @@ pub record IsPrinted (text : List ℕ) (edition : Edition) (entry : TopEntryPoin
   pub tree : string_bytes printer.tree ≡ printed 0 (str_flat (with_trivia lexed.tokens forest))
   pub messages : string_bytes printer.messages ≡ all_reported lexed forest
 
-<<<<<<< HEAD
--- the lines of messages that a tree has kept
-abbrev pub told_lines : List Told → List ℕ
-told_lines [] = []
-told_lines (m ∷ ms) = message_line m.at m.text ++ told_lines ms
-
--- The lines of the text's one tree with the places of its nodes and leaves, and those of its messages.
-pub record AreRangesPrinted (text : List ℕ) (edition : Edition) (entry : TopEntryPoint) (printer : Printer) : Type 0 where
-  pub lexed : Lexed
-  pub forest : Forest
-  pub parsed : IsParsed text edition entry lexed forest
-  pub tree : string_bytes printer.tree ≡ ranged_lines text 0 (ranged 0 (with_trivia lexed.tokens forest))
-  pub messages : string_bytes printer.messages ≡ all_reported lexed forest
-
 -- when a fault comes; the printer refuses a step only when out of memory
-=======
--- when a fault comes; the printer refuses a step only for want of memory
->>>>>>> f7a3ff4331c04a89c3af8163a816247090222844
 abbrev pub Comes : {R : Type 0} → List ℕ → Edition → TextFault R → Type 0
 Comes text edition TextTooLong = 4294967295 < length text
 Comes text edition TooManyTokens = HasTooManyTokens text edition
