@@ -24,13 +24,19 @@ pub enum StrStep<'a> {
 
 /// Hands steps with places in a text to a sink.
 fn hand_out(text: &str, filled: &Filled, sink: &mut dyn FnMut(StrStep<'_>)) {
+    // A tree's tokens follow one another from the text's begin on.
+    let mut rest = text;
     for step in &filled.steps {
-        sink(match step.what {
-            sys::ENTER => StrStep::Enter { kind: kind_of(step.kind) },
-            sys::EXIT => StrStep::Exit,
-            sys::TOKEN => StrStep::Token { kind: kind_of(step.kind), text: &text[step.start..step.end] },
-            _ => StrStep::Error { msg: filled.message(step), pos: step.at },
-        });
+        match step.what {
+            sys::ENTER => sink(StrStep::Enter { kind: kind_of(step.kind) }),
+            sys::EXIT => sink(StrStep::Exit),
+            sys::TOKEN => {
+                let (text, behind) = rest.split_at(step.end - step.start);
+                rest = behind;
+                sink(StrStep::Token { kind: kind_of(step.kind), text });
+            }
+            _ => sink(StrStep::Error { msg: filled.message(step), pos: step.at }),
+        }
     }
 }
 

@@ -160,13 +160,29 @@ unsafe extern "C" {
 }
 
 thread_local! {
-    /// Room for steps that a thread keeps from one text to the next: to get it anew from the system takes a good part
-    /// of the time of a parse.
+    /// Room for steps that a thread keeps from one text to the next: to get it anew from the system takes a good part of
+    /// the time of a parse. It is given back where the next text needs much less.
     static ROOM: Cell<Vec<Step>> = const { Cell::new(Vec::new()) };
 }
 
-/// For how many steps room is kept at most: 32 MB a thread, for files of up to some 1.5 MB.
-const MOST_KEPT: usize = 1 << 20;
+/// For how many steps room is kept at most: 256 MB a thread, where a text of some 8 MB was parsed.
+const MOST_KEPT: usize = 1 << 23;
+
+/// How many times the steps that are asked for a kept room has at most.
+const MOST_SPARE: usize = 16;
+
+/// Room for so many steps, if there is memory for them.
+fn room_for(steps: usize) -> Vec<Step> {
+    let kept = ROOM.take();
+    if kept.capacity() >= steps && kept.capacity() / MOST_SPARE <= steps {
+        return kept;
+    }
+    drop(kept);
+    let mut room = Vec::new();
+    // Where there is no memory for the guess the first call counts.
+    let _ = room.try_reserve_exact(steps);
+    room
+}
 
 /// What a call filled: its status, all its steps, and all bytes of its messages.
 #[derive(Debug, Default)]
@@ -199,19 +215,15 @@ impl Drop for Filled {
 /// A call with the room that it fills: steps and how many there is room for, bytes of messages and how many.
 type Fill<'a> = &'a dyn Fn(*mut Step, usize, *mut u8, usize) -> Answer;
 
-/// How many bytes of messages there is room for at first.
-const MESSAGE_ROOM: usize = 1024;
-
-/// Calls with room for so many steps, and calls once more where that was too little.
+/// Calls with room for so many steps, and for as many bytes of messages, and calls once more where that was too little.
+/// What is not used of the room takes no memory.
 ///
 /// # Safety The call must be one of the library's: it writes from the pointers' begin on no more than there is room
 /// for, and what it answers is how many steps and bytes there are in all, of which it has written those that there is
 /// room for.
 unsafe fn fill(step_room: usize, call: Fill<'_>) -> Filled {
-    let mut steps = ROOM.take();
-    let mut messages: Vec<u8> = Vec::with_capacity(MESSAGE_ROOM);
-    // Where the guess finds no memory the first call counts.
-    let _ = steps.try_reserve_exact(step_room);
+    let mut steps = room_for(step_room);
+    let mut messages: Vec<u8> = Vec::with_capacity(step_room);
     loop {
         let (step_room, message_room) = (steps.capacity(), messages.capacity());
         let answer = call(steps.as_mut_ptr(), step_room, messages.as_mut_ptr(), message_room);
@@ -228,7 +240,7 @@ unsafe fn fill(step_room: usize, call: Fill<'_>) -> Filled {
     }
 }
 
-/// How many steps a text's tree has at most, as a first guess: what is not used of this room takes no memory.
+/// How many steps a text's tree has at most, as a first guess.
 fn guess(text: &str) -> usize {
     text.len() + 64
 }
