@@ -160,8 +160,8 @@ unsafe extern "C" {
 }
 
 thread_local! {
-    /// Room for steps that a thread keeps from one text to the next: to get it anew from the system takes a good part of
-    /// the time of a parse. It is given back where the next text needs much less.
+    /// Room for steps that a thread keeps from one text to the next: to get it anew from the system takes a good part
+    /// of the time of a parse. It is given back where the next text needs much less.
     static ROOM: Cell<Vec<Step>> = const { Cell::new(Vec::new()) };
 }
 
