@@ -122,3 +122,11 @@ is_row row t k c e j b =
     ∙ (ap (λ n. numbers t.kind n row.edition row.joint) (sym c)
     ∙ (ap (λ n. numbers t.kind t.contextual_kind n row.joint) (sym e)
     ∙ ap (λ n. numbers t.kind t.contextual_kind (year t.edition) n) (bit_of row.joint j ∙ ap (λ v. if v then 1 else 0) (sym b))))
+
+-- an identifier that touches the next token
+pub marked : (rs : List Record) (t : Token) → t.kind ≡ IDENT → t.joint ≡ true
+    → with_last_joint (rs ++ record { kind = IDENT; contextual = t.contextual_kind; edition = t.edition; joint = false } ∷ []) ≡ rs ++ record_in t ∷ []
+marked rs t e j =
+    last_joint rs (record { kind = IDENT; contextual = t.contextual_kind; edition = t.edition; joint = false })
+    ∙ (ap (λ k. rs ++ record { kind = k; contextual = t.contextual_kind; edition = t.edition; joint = true } ∷ []) (sym e)
+    ∙ ap (λ b. rs ++ record { kind = t.kind; contextual = t.contextual_kind; edition = t.edition; joint = b } ∷ []) (sym j))

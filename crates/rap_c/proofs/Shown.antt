@@ -1,12 +1,14 @@
 -- Steps that are given in numbers.
 use Rattle.std.proofs.Common.{◌≡◌, ◌≢◌, ◌⊎◌, ℕ, zero, suc, ◌+◌, ◌-◌, ◌<◌, ◌≤◌, List, [], ◌∷◌, ◌++◌, length, take, get_or, Bool, true, false, refl, ap, sym, subst, ◌∙◌, inl, inr, arith}
-use Rattle.std.specs.Prelude.{if◌then◌else◌, slice_range, IsUtf8}
+use Rattle.std.specs.Prelude.{if◌then◌else◌, slice_range, IsUtf8, Option, Some, None, MatchOption}
 use Rattle.std.proofs.lemmas.List.{take_more}
 use Rattle.rap_base.specs.declared.edition.Edition.{Edition}
 use Rattle.rap_events.specs.Cover.{covers}
 use Rattle.rap_events.specs.Forest.{Forest, flat, one_tree, splits_placed}
 use Rattle.rap_events.specs.Reading.{forest_of}
+use Rattle.rap_events.specs.Step.{step_value}
 use Rattle.rap_events.specs.StepValue.{StepValue, enter, exit, token, float_split, error}
+use Rattle.rap_events.specs.declared.output.Step.{Step}
 use Rattle.rap_events.proofs.StepLemmas.{forest_of-flat}
 use Rattle.rap_lexed.specs.Input.{records}
 use Rattle.rap_lexed.specs.LexedStr.{Token}
@@ -134,3 +136,9 @@ no_what ms s high (float_split d) h = absurd (omega (arith, h.0, high))
 
 pub no_text : (ms : List ℕ) (start end : ℕ) → ¬ IsUtf8 (slice_range ms start end) → (bytes : List ℕ) → ¬ IsMessageAt ms start end bytes
 no_text ms start end h bytes m = h (subst IsUtf8 m.bytes_are m.utf8)
+
+-- what holds with any messages holds with these
+pub at_messages : (ms : List ℕ) (s : RapStep) (r : Option Step) → MatchOption r ((m : List ℕ) (v : StepValue) → ¬ IsStepOf m s v) (λ t. (m : List ℕ) → IsStepOf m s (step_value t))
+    → MatchOption r ((v : StepValue) → ¬ IsStepOf ms s v) (λ t. IsStepOf ms s (step_value t))
+at_messages ms s None h = h ms
+at_messages ms s (Some t) h = h ms
