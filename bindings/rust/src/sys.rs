@@ -168,7 +168,7 @@ thread_local! {
 /// For how many steps room is kept at most: 256 MB a thread, where a text of some 8 MB was parsed.
 const MOST_KEPT: usize = 1 << 23;
 
-/// For how many steps a kept room may be, however few are asked for: 32 MB. A larger one has at most so many times more.
+/// For how many steps a kept room may be, however few are asked for: 32 MB. A larger one has at most these times more.
 const ALWAYS_KEPT: usize = 1 << 20;
 const MOST_SPARE: usize = 16;
 
