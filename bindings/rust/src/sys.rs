@@ -168,13 +168,14 @@ thread_local! {
 /// For how many steps room is kept at most: 256 MB a thread, where a text of some 8 MB was parsed.
 const MOST_KEPT: usize = 1 << 23;
 
-/// How many times the steps that are asked for a kept room has at most.
+/// For how many steps a kept room may be, however few are asked for: 32 MB. A larger one has at most these times more.
+const ALWAYS_KEPT: usize = 1 << 20;
 const MOST_SPARE: usize = 16;
 
 /// Room for so many steps, if there is memory for them.
 fn room_for(steps: usize) -> Vec<Step> {
     let kept = ROOM.take();
-    if kept.capacity() >= steps && kept.capacity() / MOST_SPARE <= steps {
+    if kept.capacity() >= steps && kept.capacity() <= ALWAYS_KEPT.max(steps * MOST_SPARE) {
         return kept;
     }
     drop(kept);

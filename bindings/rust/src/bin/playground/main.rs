@@ -3,6 +3,8 @@
 //! It serves the parts of this page, and the tree of a text that is posted to `/parse`, and nothing else. A request
 //! that names another host, or comes from a page of another origin, is refused, and so is a text of more than
 //! [`MOST_BYTES`].
+//!
+//! A browser's field holds line feeds alone: a file's carriage returns before them are not in the text that is read.
 mod answer;
 mod http;
 
