@@ -1,23 +1,20 @@
 -- What is listed of an output.
-use Rattle.std.proofs.Common.{◌≡◌, ℕ, zero, suc, ◌+◌, ◌≤◌, ◌<◌, List, [], ◌∷◌, ◌++◌, Bool, not, true, false, codes, refl, ap, subst, sym, ◌∙◌, arith, append_assoc, append-nil, length, drop}
+use Rattle.std.proofs.Common.{◌≡◌, ℕ, ◌+◌, ◌≤◌, ◌<◌, List, [], ◌++◌, true, false, codes, ap, subst, sym, ◌∙◌, append_assoc, append-nil, length}
 use Rattle.std.proofs.lemmas.Bool.{cond-true, cond-false}
-use Rattle.std.proofs.lemmas.List.{drop_all, drop_more, take_all}
 use Rattle.rap_base.specs.declared.edition.Edition.{Edition}
 use Rattle.rap_events.specs.Record.{Record}
-use Rattle.rap_events.specs.StepValue.{StepValue, enter, exit, token, float_split, error}
-use Rattle.rap_events.specs.Forest.{Forest, none, node, leaf, message, split, flat, one_tree, split_ends, exit_of, used}
+use Rattle.rap_events.specs.Forest.{Forest, one_tree}
 use Rattle.std.proofs.Common.{string_bytes}
 use Rattle.ra_ap_parser.specs.Headline.{HasTooManyTokens}
-use Rattle.rap_lexed.specs.LexedStr.{Lexed, IsLexing, Token, joined, start_of, token_at}
+use Rattle.rap_lexed.specs.LexedStr.{Lexed, IsLexing, Token}
 use Rattle.rap_lexed.specs.StrSink.{Takes}
 use Rattle.rap_lexed.specs.StrStep.{StrStepValue}
-use Rattle.rap_lexed.specs.Trivia.{is_trivial, significant}
-use Rattle.rap_lexed.proofs.Tokens.{start_of_next}
+use Rattle.rap_lexed.specs.Trivia.{significant}
 use Rattle.rast_print.specs.Printed.{printed, reported}
 use Rattle.rast_print.specs.Prints.{Prints}
 use Rattle.rast_print.specs.declared.printer.Printer.{Printer}
 use Rattle.rast_print.proofs.Lines.{tree_along, messages_along}
-use Rattle.rast_print.specs.Listed.{end_after, tree_lines, tree_part}
+use Rattle.rast_print.specs.Listed.{tree_lines, tree_part}
 use Rattle.rap_base.specs.Limits.{max_tokens}
 
 -- the lines of a tree from a printer that had written nothing
