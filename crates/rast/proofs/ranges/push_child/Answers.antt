@@ -26,7 +26,7 @@ returns-in_ok-push-in-Node-clause-placed c =
     let P : List (Bor (List Child)) → Type 0 = λ l. AllPlaced c.args.text.now l in
     let Q : Child → Type 0 = λ k. HavePlaces c.args.text.now (with_child ranged_none k) in
     let here = subst Q c.in-Node.is c.requires.placed in
-    subst P (sym c.in_ok-push-in-Node.ensures.items) (placed-snoc c.args.text.now c.args.lists.now.items c.children.result c.requires.all_placed (children_placed c.args.text.now c.children.result.now c.in-Node.node.children c.children.ensures here.2))
+    subst P (sym {A = List (Bor (List Child))} c.in_ok-push-in-Node.ensures.items) (placed-snoc c.args.text.now c.args.lists.now.items c.children.result c.requires.all_placed (children_placed c.args.text.now c.children.result.now c.in-Node.node.children c.children.ensures here.2))
 
 pub returns-in_ok-push-in-Node-clause-smaller : goal.returns-in_ok-push-in-Node-clause-smaller
 returns-in_ok-push-in-Node-clause-smaller c =
