@@ -68,8 +68,9 @@ lists-preserved c =
     let text : List ℕ = c.args.text.now in
     let old : List ℕ = string_bytes c.lists.lines in
     let is : c.in-Some.list.now ≡ c.first-item.result ∷ take (length c.in-Some.list.now - 1) (drop 1 c.in-Some.list.now) = first-of c.in-Some.list.now c.first-item.result c.in-len1-up.len_at_least c.first-item.is in
+    let deep : c.len-depth.result ≡ length c.push-in-Some.new.self.items = omega (arith, c.len-depth.ensures, c.push-in-Some.new.self.ok.0) in
     record {
       lines = first-step text c.pop.new.self.items c.lists.lists.items c.push-in-Some.new.self.items c.push_child.new.lists.items c.in-Some.list _ c.first-item.result old (string_bytes c.push_child.new.lines) c.in-Some.ensures.items is c.in_ok-push-2.ensures.items
-      (c.in_ok-push_child.ensures.lines ∙ ap (λ d. old ++ (child_lines text d c.first-item.result ++ pending text 1 c.push-in-Some.new.self.items)) c.len-depth.ensures) ∙ c.lists.invariant.lines;
+      (c.in_ok-push_child.ensures.lines ∙ ap (λ d. old ++ (child_lines text d c.first-item.result ++ pending text 1 c.push-in-Some.new.self.items)) deep) ∙ c.lists.invariant.lines;
       placed = c.in_ok-push_child.ensures.placed;
     }
