@@ -89,12 +89,7 @@ fn push_child<'a>(
 }
 
 /// Adds the lines of a node's children, and of all that stands in them.
-fn push_children(
-    alloc: Global,
-    lines: &mut String,
-    root: &Node,
-    text: &str,
-) -> Result<(), NoMemory>
+fn push_children(alloc: Global, lines: &mut String, root: &Node, text: &str) -> Result<(), NoMemory>
     requires { HavePlaces text.now root.now.children }
     ensures { OnOk result (string_bytes lines.new
         ≡ string_bytes lines.old ++ ranged_lines text.now 1 root.now.children) }

@@ -71,6 +71,6 @@ lists-preserved c =
     let deep : c.len-depth.result ≡ length c.push-in-Some.new.self.items = omega (arith, c.len-depth.ensures, c.push-in-Some.new.self.ok.0) in
     record {
       lines = first-step text c.pop.new.self.items c.lists.lists.items c.push-in-Some.new.self.items c.push_child.new.lists.items c.in-Some.list _ c.first-item.result old (string_bytes c.push_child.new.lines) c.in-Some.ensures.items is c.in_ok-push-2.ensures.items
-      (c.in_ok-push_child.ensures.lines ∙ ap (λ d. old ++ (child_lines text d c.first-item.result ++ pending text 1 c.push-in-Some.new.self.items)) deep) ∙ c.lists.invariant.lines;
+          (c.in_ok-push_child.ensures.lines ∙ ap (λ d. old ++ (child_lines text d c.first-item.result ++ pending text 1 c.push-in-Some.new.self.items)) deep) ∙ c.lists.invariant.lines;
       placed = c.in_ok-push_child.ensures.placed;
     }

@@ -6,7 +6,7 @@ use Rattle.rast.proofs.ranges.push_children.Given as goal
 abbrev pub invariant-lists : goal.invariant-lists
 invariant-lists l = record {
   lines : string_bytes l.lines ++ pending l.fn.text 1 l.lists.items ≡ string_bytes l.fn.lines ++ ranged_lines l.fn.text 1 l.fn.root.children;
-  placed : AllPlaced l.fn.text l.lists.items
+  placed : AllPlaced l.fn.text l.lists.items;
 }
 
 abbrev pub decreases-lists : goal.decreases-lists
