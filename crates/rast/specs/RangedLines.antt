@@ -1,5 +1,5 @@
 -- A tree with places, as the program prints it.
-use Rattle.std.specs.Prelude.{ℕ, ◌+◌, List, [], ◌∷◌, ◌++◌, codes, chars, slice_range}
+use Rattle.std.specs.Prelude.{ℕ, ◌+◌, List, [], ◌++◌, codes, chars, slice_range}
 use Rattle.std.specs.Fmt.{decimal}
 use Rattle.rap_base.specs.Names.{name_of}
 use Rattle.rast_common.specs.Quote.{quoted}

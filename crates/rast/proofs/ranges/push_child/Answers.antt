@@ -1,4 +1,4 @@
-use Rattle.std.proofs.Common.{◌≡◌, ◌+◌, ◌*◌, ◌<◌, ◌++◌, ◌∷◌, List, ℕ, [], Bor, ap, sym, subst, ◌∙◌, arith, string_bytes}
+use Rattle.std.proofs.Common.{◌≡◌, ◌+◌, ◌*◌, ◌<◌, ◌++◌, ◌∷◌, List, [], Bor, ap, sym, subst, ◌∙◌, arith, string_bytes}
 use Rattle.rast.specs.Pending.{AllPlaced, pending_size}
 use Rattle.rast.proofs.Walks.{node-step, size-snoc, placed-snoc, children_placed}
 use Rattle.syntax_tree.specs.Children.{with_child, children_of}
