@@ -1,2 +1,4 @@
+pub mod Pending
 pub mod Ran
+pub mod RangedLines
 pub mod Words

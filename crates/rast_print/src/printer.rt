@@ -19,7 +19,7 @@ pub struct Printer {
 }
 
 /// Begins a line with the kind's name, behind two spaces for each open node.
-fn push_kind(lines: &mut String, depth: usize, kind: SyntaxKind) -> Result<(), AllocError>
+pub fn push_kind(lines: &mut String, depth: usize, kind: SyntaxKind) -> Result<(), AllocError>
     ensures { OnOk result (string_bytes lines.new ≡ string_bytes lines.old ++ (indent depth ++ name_of kind)) }
 {
     'indent: for _ in 0..depth {

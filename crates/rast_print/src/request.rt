@@ -23,8 +23,37 @@ pub fn read_request<R: Env + AllocGlobal>(rt: &R) -> Option<Request> {
     if args.next().is_some() {
         return None;
     }
-    let edition = edition.as_str().parse::<Edition>().ok()?;
-    let Entry(entry) = entry.as_str().parse::<Entry>().ok()?;
+    request_of(edition.as_str(), entry.as_str(), file)
+}
+
+/// Reads the program's words `EDITION ENTRY FILE [ranges]`, and whether the last one is there. Nothing where they are
+/// others, or more or fewer.
+pub fn read_tree_request<R: Env + AllocGlobal>(rt: &R) -> Option<(Request, bool)> {
+    let mut args = env::args(rt).ok()?;
+    let _program = args.next();
+    let (Some(edition), Some(entry), Some(file)) = (args.next(), args.next(), args.next()) else {
+        return None;
+    };
+    let ranges = match args.next() {
+        Some(word) => {
+            if word.as_str() != "ranges" {
+                return None;
+            }
+            true
+        }
+        None => false,
+    };
+    if args.next().is_some() {
+        return None;
+    }
+    let request = request_of(edition.as_str(), entry.as_str(), file)?;
+    Some((request, ranges))
+}
+
+/// Reads the words of an edition and of an entry point.
+fn request_of(edition: &str, entry: &str, file: String) -> Option<Request> {
+    let edition = edition.parse::<Edition>().ok()?;
+    let Entry(entry) = entry.parse::<Entry>().ok()?;
     Some(Request {
         edition,
         entry,
