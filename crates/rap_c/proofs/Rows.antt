@@ -1,8 +1,8 @@
 -- Records and their numbers.
-use Rattle.std.proofs.Common.{◌≡◌, ◌≢◌, ℕ, zero, suc, ◌+◌, ◌<◌, ◌≤◌, List, [], ◌∷◌, ◌++◌, length, map, drop, take, get_or, Bool, true, false, ◌==◌, min, refl, ap, sym, ◌∙◌, inl, inr, arith, add-one}
+use Rattle.std.proofs.Common.{◌≡◌, ◌≢◌, ℕ, zero, suc, ◌+◌, ◌<◌, ◌≤◌, List, [], ◌∷◌, ◌++◌, length, map, drop, get_or, Bool, true, false, ◌==◌, min, refl, ap, sym, ◌∙◌, inl, inr, arith, add-one}
 use Rattle.std.specs.Prelude.{if◌then◌else◌, All, slice_set}
 use Rattle.std.proofs.lemmas.Bool.{cases_lt}
-use Rattle.std.proofs.lemmas.List.{drop_all, drop_more, take_more, length-map}
+use Rattle.std.proofs.lemmas.List.{drop_all, drop_more, length-map}
 use Rattle.rap_base.specs.Edition.{year}
 use Rattle.rap_base.specs.TokenKind.{EOF, IDENT}
 use Rattle.rap_base.specs.TokenTests.{is_token}
@@ -10,7 +10,7 @@ use Rattle.rap_base.specs.declared.edition.Edition.{Edition}
 use Rattle.rap_base.specs.declared.edition.Edition.TheVariants.{Edition2024}
 use Rattle.rap_events.specs.Record.{Record, IsTokenRecord, kind_at, contextual_at, edition_at, joint_at, with_last_joint}
 use Rattle.rap_c.specs.Filling.{write_at}
-use Rattle.rap_c.specs.Record.{IsInputOf, IsNoInput, row_of}
+use Rattle.rap_c.specs.Record.{IsNoInput, row_of}
 use Rattle.rap_c.specs.Token.{record_in}
 use Rattle.rap_c.specs.declared.record.RapRecord.{RapRecord}
 use Rattle.rap_c.specs.declared.record.Token.{Token}

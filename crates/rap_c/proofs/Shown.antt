@@ -1,7 +1,7 @@
 -- Steps that are given in numbers.
-use Rattle.std.proofs.Common.{◌≡◌, ◌≢◌, ◌⊎◌, ℕ, zero, suc, ◌+◌, ◌-◌, ◌<◌, ◌≤◌, List, [], ◌∷◌, ◌++◌, length, map, take, get_or, Bool, true, false, refl, ap, sym, subst, ◌∙◌, inl, inr, arith}
+use Rattle.std.proofs.Common.{◌≡◌, ◌≢◌, ◌⊎◌, ℕ, zero, suc, ◌+◌, ◌-◌, ◌<◌, List, [], ◌∷◌, ◌++◌, length, map, take, get_or, Bool, true, false, refl, ap, sym, subst, ◌∙◌, inl, inr, arith}
 use Rattle.std.specs.Prelude.{if◌then◌else◌, slice_range, IsUtf8, Option, Some, None, MatchOption}
-use Rattle.std.proofs.lemmas.List.{take_more}
+use Rattle.std.proofs.lemmas.List.{map-append, take_more}
 use Rattle.rap_base.specs.declared.edition.Edition.{Edition}
 use Rattle.rap_events.specs.Cover.{covers}
 use Rattle.rap_events.specs.Forest.{Forest, flat, one_tree, splits_placed}
@@ -60,15 +60,11 @@ one_more ms [] (w ∷ vs) s v h k = absurd h
 one_more ms (t ∷ ss) [] s v h k = absurd h
 one_more ms (t ∷ ss) (w ∷ vs) s v h k = (h.0, one_more ms ss vs s v h.1 k)
 
-map_last : (ts : List Step) (t : Step) → map step_value (ts ++ t ∷ []) ≡ map step_value ts ++ step_value t ∷ []
-map_last [] t = refl
-map_last (u ∷ ts) t = ap (λ l. step_value u ∷ l) (map_last ts t)
-
 -- one more is read
 pub steps_on : (ms : List ℕ) (ss : List RapStep) (i : ℕ) (d : RapStep) (read read_after : List Step) (next : Step) → i < length ss → IsStepOf ms (get_or ss i d) (step_value next)
     → read_after ≡ read ++ next ∷ [] → AreStepsOf ms (take i ss) (map step_value read) → AreStepsOf ms (take (i + 1) ss) (map step_value read_after)
 steps_on ms ss i d read read_after next within is more h =
-    let e : map step_value read ++ step_value next ∷ [] ≡ map step_value read_after = sym (ap (map step_value) more ∙ map_last read next) in
+    let e : map step_value read ++ step_value next ∷ [] ≡ map step_value read_after = sym (ap (map step_value) more ∙ map-append step_value read (next ∷ [])) in
     let k : AreStepsOf ms (take i ss ++ get_or ss i d ∷ []) (map step_value read ++ step_value next ∷ []) = one_more ms (take i ss) (map step_value read) (get_or ss i d) (step_value next) h is in
     subst (λ (l : List RapStep). AreStepsOf ms l (map step_value read_after)) (sym (take_more ss i d within))
     (subst (λ (l : List StepValue). AreStepsOf ms (take i ss ++ get_or ss i d ∷ []) l) e k)
