@@ -1,6 +1,6 @@
 -- Steps that are given in numbers.
-use Rattle.std.proofs.Common.{◌≡◌, ◌≢◌, ◌⊎◌, ℕ, zero, suc, ◌+◌, ◌-◌, ◌<◌, List, [], ◌∷◌, ◌++◌, length, map, take, get_or, Bool, true, false, refl, ap, sym, subst, ◌∙◌, inl, inr, arith}
-use Rattle.std.specs.Prelude.{if◌then◌else◌, slice_range, IsUtf8, Option, Some, None, MatchOption}
+use Rattle.std.proofs.Common.{◌≡◌, ℕ, zero, suc, ◌+◌, ◌<◌, List, [], ◌∷◌, ◌++◌, length, map, take, get_or, Bool, true, false, refl, ap, sym, subst, ◌∙◌, arith}
+use Rattle.std.specs.Prelude.{if◌then◌else◌, Option, Some, None, MatchOption}
 use Rattle.std.proofs.lemmas.List.{map-append, take_more}
 use Rattle.rap_base.specs.declared.edition.Edition.{Edition}
 use Rattle.rap_events.specs.Cover.{covers}
@@ -13,7 +13,7 @@ use Rattle.rap_events.proofs.StepLemmas.{forest_of-flat}
 use Rattle.rap_lexed.specs.Input.{records}
 use Rattle.rap_lexed.specs.LexedStr.{Token}
 use Rattle.rap_steps.specs.Steps.{IsTreeSteps}
-use Rattle.rap_c.specs.Shown.{IsMessageAt, IsStepOf, AreStepsOf, IsTreeOf}
+use Rattle.rap_c.specs.Shown.{IsStepOf, AreStepsOf, IsTreeOf}
 use Rattle.rap_c.specs.declared.step.RapStep.{RapStep}
 
 -- what a step is, by its number
@@ -107,37 +107,6 @@ is_tree_of ts edition ss ms vs h t c = record {
   placed = t.placed;
   covering = c;
 }
-
--- what numbers show no step
-pub no_kind : (s : RapStep) → (s.what ≡ 0) ⊎ (s.what ≡ 2) → 329 < s.kind → (ms : List ℕ) (v : StepValue) → ¬ IsStepOf ms s v
-no_kind s w big ms (enter kind) h = absurd (omega (arith, h.1, h.2, big))
-no_kind s w big ms (token kind width) h = absurd (omega (arith, h.1, h.2, big))
-no_kind s (inl w) big ms v h = absurd (omega (arith, what_is ms s v h, w))
-no_kind s (inr w) big ms v h = absurd (omega (arith, what_is ms s v h, w))
-
-pub no_width : (s : RapStep) → s.what ≡ 2 → (s.end < s.start) ⊎ (255 < s.end - s.start) → (ms : List ℕ) (v : StepValue) → ¬ IsStepOf ms s v
-no_width s w (inl low) ms (token kind width) h = absurd (omega (arith, h.3, low))
-no_width s w (inr high) ms (token kind width) h = absurd (omega (arith, h.3, h.4, high))
-no_width s w e ms v h = absurd (omega (arith, what_is ms s v h, w))
-
-pub no_bit : (s : RapStep) → s.what ≡ 4 → s.kind ≢ 0 → s.kind ≢ 1 → (ms : List ℕ) (v : StepValue) → ¬ IsStepOf ms s v
-no_bit s w z o ms (float_split true) h = absurd (o h.1)
-no_bit s w z o ms (float_split false) h = absurd (z h.1)
-no_bit s w z o ms v h = absurd (omega (arith, what_is ms s v h, w))
-
-pub no_message : (ms : List ℕ) (s : RapStep) → s.what ≡ 3 → ((bytes : List ℕ) → ¬ IsMessageAt ms s.start s.end bytes) → (v : StepValue) → ¬ IsStepOf ms s v
-no_message ms s w none (error bytes) h = none bytes h.1
-no_message ms s w none v h = absurd (omega (arith, what_is ms s v h, w))
-
-pub no_what : (ms : List ℕ) (s : RapStep) → 4 < s.what → (v : StepValue) → ¬ IsStepOf ms s v
-no_what ms s high (enter kind) h = absurd (omega (arith, h.0, high))
-no_what ms s high exit h = absurd (omega (arith, h, high))
-no_what ms s high (token kind width) h = absurd (omega (arith, h.0, high))
-no_what ms s high (error bytes) h = absurd (omega (arith, h.0, high))
-no_what ms s high (float_split d) h = absurd (omega (arith, h.0, high))
-
-pub no_text : (ms : List ℕ) (start end : ℕ) → ¬ IsUtf8 (slice_range ms start end) → (bytes : List ℕ) → ¬ IsMessageAt ms start end bytes
-no_text ms start end h bytes m = h (subst IsUtf8 m.bytes_are m.utf8)
 
 -- what holds with any messages holds with these
 pub at_messages : (ms : List ℕ) (s : RapStep) (r : Option Step) → MatchOption r ((m : List ℕ) (v : StepValue) → ¬ IsStepOf m s v) (λ t. (m : List ℕ) → IsStepOf m s (step_value t))
