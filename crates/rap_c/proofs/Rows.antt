@@ -65,21 +65,11 @@ found (r ∷ rs) zero d h all = (r, (refl, all zero r (omega arith)))
 found (r ∷ rs) (suc n) d h all = found rs n d (omega (arith, h)) (λ j e below. all (suc j) e (omega arith))
 
 -- where one of the numbers are no record's, they are those of no input
-pub no_input : (rows : List RapRecord) (i : ℕ) (row : RapRecord) → i < length rows → row ≡ get_or rows i row → ((r : Record) → IsTokenRecord r → row ≢ row_of r) → IsNoInput rows
-no_input rows i row h is bad = λ rs input.
+pub no_input : (rows : List RapRecord) (i : ℕ) (d : RapRecord) → i < length rows → ((r : Record) → IsTokenRecord r → get_or rows i d ≢ row_of r) → IsNoInput rows
+no_input rows i d h bad = λ rs input.
     let n : length rows ≡ length rs = ap length input.rows_are ∙ length-map rs row_of in
-    let f = found rs i row (omega (arith, h, n)) input.tokens in
-    bad f.0 f.1.1 (is ∙ (ap (λ l. get_or l i row) input.rows_are ∙ f.1.0))
-
-map_last : (rs : List Record) (r : Record) → map row_of (rs ++ r ∷ []) ≡ map row_of rs ++ row_of r ∷ []
-map_last [] r = refl
-map_last (s ∷ rs) r = ap (λ l. row_of s ∷ l) (map_last rs r)
-
--- one more is read
-pub input_on : (rows : List RapRecord) (i : ℕ) (row : RapRecord) (rs : List Record) (r : Record) → i < length rows → row ≡ get_or rows i row → row ≡ row_of r
-    → take i rows ≡ map row_of rs → take (i + 1) rows ≡ map row_of (rs ++ r ∷ [])
-input_on rows i row rs r h is e t =
-    take_more rows i row h ∙ (ap (λ x. take i rows ++ x ∷ []) (sym is ∙ e) ∙ (ap (λ l. l ++ row_of r ∷ []) t ∙ sym (map_last rs r)))
+    let f = found rs i d (omega (arith, h, n)) input.tokens in
+    bad f.0 f.1.1 (ap (λ l. get_or l i d) input.rows_are ∙ f.1.0)
 
 -- what numbers of a token cannot be
 module _ (row : RapRecord) (r : Record) (t : IsTokenRecord r) (is : row ≡ row_of r) where

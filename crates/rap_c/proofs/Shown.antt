@@ -1,5 +1,5 @@
 -- Steps that are given in numbers.
-use Rattle.std.proofs.Common.{◌≡◌, ◌≢◌, ◌⊎◌, ℕ, zero, suc, ◌+◌, ◌-◌, ◌<◌, ◌≤◌, List, [], ◌∷◌, ◌++◌, length, take, get_or, Bool, true, false, refl, ap, sym, subst, ◌∙◌, inl, inr, arith}
+use Rattle.std.proofs.Common.{◌≡◌, ◌≢◌, ◌⊎◌, ℕ, zero, suc, ◌+◌, ◌-◌, ◌<◌, ◌≤◌, List, [], ◌∷◌, ◌++◌, length, map, take, get_or, Bool, true, false, refl, ap, sym, subst, ◌∙◌, inl, inr, arith}
 use Rattle.std.specs.Prelude.{if◌then◌else◌, slice_range, IsUtf8, Option, Some, None, MatchOption}
 use Rattle.std.proofs.lemmas.List.{take_more}
 use Rattle.rap_base.specs.declared.edition.Edition.{Edition}
@@ -31,7 +31,7 @@ what_is ms s (token kind width) h = h.0
 what_is ms s (error bytes) h = h.0
 what_is ms s (float_split d) h = h.0
 
-same_bit : (a b : Bool) → (if a then 1 else 0) ≡ (if b then 1 else 0) → a ≡ b
+same_bit : (a b : Bool) → ◌≡◌ {A = ℕ} (if a then 1 else 0) (if b then 1 else 0) → a ≡ b
 same_bit true true e = refl
 same_bit true false e = absurd (omega (arith, e))
 same_bit false true e = absurd (omega (arith, e))
@@ -60,12 +60,18 @@ one_more ms [] (w ∷ vs) s v h k = absurd h
 one_more ms (t ∷ ss) [] s v h k = absurd h
 one_more ms (t ∷ ss) (w ∷ vs) s v h k = (h.0, one_more ms ss vs s v h.1 k)
 
+map_last : (ts : List Step) (t : Step) → map step_value (ts ++ t ∷ []) ≡ map step_value ts ++ step_value t ∷ []
+map_last [] t = refl
+map_last (u ∷ ts) t = ap (λ l. step_value u ∷ l) (map_last ts t)
+
 -- one more is read
-pub steps_on : (ms : List ℕ) (ss : List RapStep) (i : ℕ) (s : RapStep) (vs : List StepValue) (v : StepValue) → i < length ss → s ≡ get_or ss i s → IsStepOf ms s v
-    → AreStepsOf ms (take i ss) vs → AreStepsOf ms (take (i + 1) ss) (vs ++ v ∷ [])
-steps_on ms ss i s vs v within is k h =
-    let e : take i ss ++ s ∷ [] ≡ take (i + 1) ss = ap (λ x. take i ss ++ x ∷ []) is ∙ sym (take_more ss i s within) in
-    subst (λ (l : List RapStep). AreStepsOf ms l (vs ++ v ∷ [])) e (one_more ms (take i ss) vs s v h k)
+pub steps_on : (ms : List ℕ) (ss : List RapStep) (i : ℕ) (d : RapStep) (read read_after : List Step) (next : Step) → i < length ss → IsStepOf ms (get_or ss i d) (step_value next)
+    → read_after ≡ read ++ next ∷ [] → AreStepsOf ms (take i ss) (map step_value read) → AreStepsOf ms (take (i + 1) ss) (map step_value read_after)
+steps_on ms ss i d read read_after next within is more h =
+    let e : map step_value read ++ step_value next ∷ [] ≡ map step_value read_after = sym (ap (map step_value) more ∙ map_last read next) in
+    let k : AreStepsOf ms (take i ss ++ get_or ss i d ∷ []) (map step_value read ++ step_value next ∷ []) = one_more ms (take i ss) (map step_value read) (get_or ss i d) (step_value next) h is in
+    subst (λ (l : List RapStep). AreStepsOf ms l (map step_value read_after)) (sym (take_more ss i d within))
+    (subst (λ (l : List StepValue). AreStepsOf ms (take i ss ++ get_or ss i d ∷ []) l) e k)
 
 step_at : (ms : List ℕ) (ss : List RapStep) (vs : List StepValue) (i : ℕ) (d : RapStep) → AreStepsOf ms ss vs → i < length ss → (v : StepValue) × IsStepOf ms (get_or ss i d) v
 step_at ms [] vs i d h within = absurd (omega (arith, within))
@@ -74,10 +80,10 @@ step_at ms (s ∷ ss) (v ∷ vs) zero d h within = (v, h.0)
 step_at ms (s ∷ ss) (v ∷ vs) (suc n) d h within = step_at ms ss vs n d h.1 (omega (arith, within))
 
 -- where one shows no step, they show none
-pub no_steps : (ms : List ℕ) (ss : List RapStep) (i : ℕ) (s : RapStep) → i < length ss → s ≡ get_or ss i s → ((v : StepValue) → ¬ IsStepOf ms s v) → (vs : List StepValue) → ¬ AreStepsOf ms ss vs
-no_steps ms ss i s within is bad vs h =
-    let f = step_at ms ss vs i s h within in
-    bad f.0 (subst (λ (x : RapStep). IsStepOf ms x f.0) (sym is) f.1)
+pub no_steps : (ms : List ℕ) (ss : List RapStep) (i : ℕ) (d : RapStep) → i < length ss → ((v : StepValue) → ¬ IsStepOf ms (get_or ss i d) v) → (vs : List StepValue) → ¬ AreStepsOf ms ss vs
+no_steps ms ss i d within bad vs h =
+    let f = step_at ms ss vs i d h within in
+    bad f.0 f.1
 
 -- a tree that is shown is the one that the steps make
 pub tree_of : (ts : List Token) (edition : Edition) (ss : List RapStep) (ms : List ℕ) (vs : List StepValue) (f : Forest) → AreStepsOf ms ss vs → IsTreeOf ts edition ss ms f → forest_of vs ≡ f
