@@ -1,0 +1,38 @@
+-- What is woven of steps that are given, and when they are those of no tree.
+use Rattle.std.proofs.Common.{◌≡◌, ◌⊎◌, ℕ, ◌≤◌, List, length, Bool, true, false, refl, ap, sym, subst, ◌∙◌, inl, inr}
+use Rattle.std.specs.Prelude.{IsTrue, ◌↔◌}
+use Rattle.rap_base.specs.declared.edition.Edition.{Edition}
+use Rattle.rap_events.specs.Cover.{covers}
+use Rattle.rap_events.specs.Forest.{Forest, flat}
+use Rattle.rap_events.specs.Reading.{forest_of}
+use Rattle.rap_events.specs.StepValue.{StepValue}
+use Rattle.rap_lexed.specs.Input.{records}
+use Rattle.rap_lexed.specs.LexedStr.{Lexed, IsLexing}
+use Rattle.rap_steps.specs.Steps.{IsTreeSteps}
+use Rattle.rap_c.specs.Shown.{AreStepsOf, IsTreeOf}
+use Rattle.rap_c.specs.Woven.{AreNoTree, ComesOfWeaving}
+use Rattle.rap_c.specs.declared.answer.Fault.{Fault}
+use Rattle.rap_c.specs.declared.answer.Fault.TheVariants.{NoMemory, NoSteps}
+use Rattle.rap_c.specs.declared.step.RapStep.{RapStep}
+use Rattle.rap_c.proofs.Shown.{tree_steps, no_cover}
+
+module _ (text : List ℕ) (edition : Edition) (ss : List RapStep) (ms : List ℕ) (lexed : Lexed) (lexing : IsLexing text edition lexed) (small : length text ≤ 4294967295) where
+  -- numbers that show no steps
+  pub none_shown : (fault : Fault) → ((fault ≡ NoSteps) × ((vs : List StepValue) → ¬ AreStepsOf ms ss vs)) ⊎ (fault ≡ NoMemory) → ComesOfWeaving text edition ss ms fault
+  none_shown fault (inl h) =
+      subst (λ (f : Fault). ComesOfWeaving text edition ss ms f) (sym h.0)
+      (record { lexed = lexed; lexing = lexing; small = small; other = λ tree t. h.1 (flat tree) t.steps_are })
+  none_shown fault (inr e) = subst (λ (f : Fault). ComesOfWeaving text edition ss ms f) (sym e) small
+
+  -- steps that are those of no tree
+  pub none_tree : (vs : List StepValue) → AreStepsOf ms ss vs → ¬ IsTreeSteps vs → AreNoTree text edition ss ms
+  none_tree vs h no = record {
+    lexed = lexed;
+    lexing = lexing;
+    small = small;
+    other = λ tree t. no (tree_steps lexed.tokens edition ss ms vs tree h t);
+  }
+
+  -- a tree that does not stand over the text
+  pub none_over : (vs : List StepValue) → AreStepsOf ms ss vs → covers (records lexed.tokens edition) (forest_of vs) ≡ false → AreNoTree text edition ss ms
+  none_over vs h no = record { lexed = lexed; lexing = lexing; small = small; other = no_cover lexed.tokens edition ss ms vs h no }
