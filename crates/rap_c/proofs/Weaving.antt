@@ -1,9 +1,8 @@
 -- What is woven of steps that are given, and when they are those of no tree.
-use Rattle.std.proofs.Common.{◌≡◌, ◌⊎◌, ℕ, ◌≤◌, List, length, map, Bool, true, false, refl, ap, sym, subst, ◌∙◌, inl, inr}
+use Rattle.std.proofs.Common.{◌≡◌, ℕ, ◌≤◌, List, length, map, Bool, true, false, sym, subst, ◌∙◌}
 use Rattle.std.specs.Prelude.{IsTrue, ◌↔◌}
 use Rattle.rap_base.specs.declared.edition.Edition.{Edition}
 use Rattle.rap_events.specs.Cover.{covers}
-use Rattle.rap_events.specs.Forest.{Forest, flat}
 use Rattle.rap_events.specs.Reading.{forest_of}
 use Rattle.rap_events.specs.Record.{Record}
 use Rattle.rap_events.specs.Step.{step_value}
@@ -12,21 +11,12 @@ use Rattle.rap_events.specs.declared.output.Step.{Step}
 use Rattle.rap_lexed.specs.Input.{records}
 use Rattle.rap_lexed.specs.LexedStr.{Lexed, IsLexing}
 use Rattle.rap_steps.specs.Steps.{IsTreeSteps}
-use Rattle.rap_c.specs.Shown.{AreStepsOf, IsTreeOf}
-use Rattle.rap_c.specs.Woven.{AreNoTree, ComesOfWeaving}
-use Rattle.rap_c.specs.declared.answer.Fault.{Fault}
-use Rattle.rap_c.specs.declared.answer.Fault.TheVariants.{NoMemory, NoSteps}
+use Rattle.rap_c.specs.Shown.{AreStepsOf}
+use Rattle.rap_c.specs.Woven.{AreNoTree}
 use Rattle.rap_c.specs.declared.step.RapStep.{RapStep}
 use Rattle.rap_c.proofs.Shown.{tree_steps, no_cover}
 
 module _ (text : List ℕ) (edition : Edition) (ss : List RapStep) (ms : List ℕ) (lexed : Lexed) (lexing : IsLexing text edition lexed) (small : length text ≤ 4294967295) where
-  -- numbers that show no steps
-  pub none_shown : (fault : Fault) → ((fault ≡ NoSteps) × ((vs : List StepValue) → ¬ AreStepsOf ms ss vs)) ⊎ (fault ≡ NoMemory) → ComesOfWeaving text edition ss ms fault
-  none_shown fault (inl h) =
-      subst (λ (f : Fault). ComesOfWeaving text edition ss ms f) (sym h.0)
-      (record { lexed = lexed; lexing = lexing; small = small; other = λ tree t. h.1 (flat tree) t.steps_are })
-  none_shown fault (inr e) = subst (λ (f : Fault). ComesOfWeaving text edition ss ms f) (sym e) small
-
   -- steps that are those of no tree
   pub none_tree : (vs : List StepValue) → AreStepsOf ms ss vs → ¬ IsTreeSteps vs → AreNoTree text edition ss ms
   none_tree vs h bad = record {
@@ -45,9 +35,9 @@ module _ (text : List ℕ) (edition : Edition) (ss : List RapStep) (ms : List �
   not_one read slice b same h test e =
       none_tree (map step_value read) h
       (λ t.
-          let k : b ≡ true = test.1 (subst (λ (l : List Step). IsTreeSteps (map step_value l)) (sym same) t) in
-          let f : false ≡ true = sym e ∙ k in
-          absurd cc)
+      let k : b ≡ true = test.1 (subst (λ (l : List Step). IsTreeSteps (map step_value l)) (sym same) t) in
+      let f : false ≡ true = sym e ∙ k in
+      absurd cc)
 
   -- steps that were read, of which the test says that they do not stand over the input
   pub not_over : (read slice : List Step) (input : List Record) → slice ≡ read → input ≡ records lexed.tokens edition → AreStepsOf ms ss (map step_value read)
