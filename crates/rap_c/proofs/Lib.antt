@@ -5,4 +5,5 @@ pub mod Put
 pub mod Rows
 pub mod Settled
 pub mod Shown
+pub mod Weaving
 pub mod Written

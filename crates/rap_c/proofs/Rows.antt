@@ -1,16 +1,14 @@
 -- Records and their numbers.
-use Rattle.std.proofs.Common.{◌≡◌, ◌≢◌, ℕ, zero, suc, ◌+◌, ◌<◌, ◌≤◌, List, [], ◌∷◌, ◌++◌, length, map, drop, take, get_or, Bool, true, false, ◌==◌, min, refl, ap, sym, ◌∙◌, inl, inr, arith, add-one}
+use Rattle.std.proofs.Common.{◌≡◌, ◌≢◌, ℕ, zero, suc, ◌+◌, ◌<◌, ◌≤◌, List, [], ◌∷◌, ◌++◌, length, map, drop, get_or, true, false, min, refl, ap, sym, ◌∙◌, inl, inr, arith, add-one}
 use Rattle.std.specs.Prelude.{if◌then◌else◌, All, slice_set}
 use Rattle.std.proofs.lemmas.Bool.{cases_lt}
-use Rattle.std.proofs.lemmas.List.{drop_all, drop_more, take_more, length-map}
+use Rattle.std.proofs.lemmas.List.{drop_all, drop_more, length-map}
 use Rattle.rap_base.specs.Edition.{year}
-use Rattle.rap_base.specs.TokenKind.{EOF, IDENT}
-use Rattle.rap_base.specs.TokenTests.{is_token}
-use Rattle.rap_base.specs.declared.edition.Edition.{Edition}
+use Rattle.rap_base.specs.TokenKind.{IDENT}
 use Rattle.rap_base.specs.declared.edition.Edition.TheVariants.{Edition2024}
 use Rattle.rap_events.specs.Record.{Record, IsTokenRecord, kind_at, contextual_at, edition_at, joint_at, with_last_joint}
 use Rattle.rap_c.specs.Filling.{write_at}
-use Rattle.rap_c.specs.Record.{IsInputOf, IsNoInput, row_of}
+use Rattle.rap_c.specs.Record.{IsNoInput, row_of}
 use Rattle.rap_c.specs.Token.{record_in}
 use Rattle.rap_c.specs.declared.record.RapRecord.{RapRecord}
 use Rattle.rap_c.specs.declared.record.Token.{Token}
@@ -65,63 +63,11 @@ found (r ∷ rs) zero d h all = (r, (refl, all zero r (omega arith)))
 found (r ∷ rs) (suc n) d h all = found rs n d (omega (arith, h)) (λ j e below. all (suc j) e (omega arith))
 
 -- where one of the numbers are no record's, they are those of no input
-pub no_input : (rows : List RapRecord) (i : ℕ) (row : RapRecord) → i < length rows → row ≡ get_or rows i row → ((r : Record) → IsTokenRecord r → row ≢ row_of r) → IsNoInput rows
-no_input rows i row h is bad = λ rs input.
+pub no_input : (rows : List RapRecord) (i : ℕ) (d : RapRecord) → i < length rows → ((r : Record) → IsTokenRecord r → get_or rows i d ≢ row_of r) → IsNoInput rows
+no_input rows i d h bad = λ rs input.
     let n : length rows ≡ length rs = ap length input.rows_are ∙ length-map rs row_of in
-    let f = found rs i row (omega (arith, h, n)) input.tokens in
-    bad f.0 f.1.1 (is ∙ (ap (λ l. get_or l i row) input.rows_are ∙ f.1.0))
-
-map_last : (rs : List Record) (r : Record) → map row_of (rs ++ r ∷ []) ≡ map row_of rs ++ row_of r ∷ []
-map_last [] r = refl
-map_last (s ∷ rs) r = ap (λ l. row_of s ∷ l) (map_last rs r)
-
--- one more is read
-pub input_on : (rows : List RapRecord) (i : ℕ) (row : RapRecord) (rs : List Record) (r : Record) → i < length rows → row ≡ get_or rows i row → row ≡ row_of r
-    → take i rows ≡ map row_of rs → take (i + 1) rows ≡ map row_of (rs ++ r ∷ [])
-input_on rows i row rs r h is e t =
-    take_more rows i row h ∙ (ap (λ x. take i rows ++ x ∷ []) (sym is ∙ e) ∙ (ap (λ l. l ++ row_of r ∷ []) t ∙ sym (map_last rs r)))
-
--- what numbers of a token cannot be
-module _ (row : RapRecord) (r : Record) (t : IsTokenRecord r) (is : row ≡ row_of r) where
-  kind_is : row.kind ≡ r.kind
-  kind_is = ap (λ (x : RapRecord). x.kind) is
-
-  contextual_is : row.contextual_kind ≡ r.contextual
-  contextual_is = ap (λ (x : RapRecord). x.contextual_kind) is
-
-  pub not_end : row.kind ≡ 0 → ⊥
-  not_end z = t.some (sym kind_is ∙ z)
-
-  pub not_other : is_token row.kind ≡ false → ⊥
-  not_other z = let e : false ≡ true = sym z ∙ (ap is_token kind_is ∙ t.token) in absurd cc
-
-  pub not_contextual : is_token row.contextual_kind ≡ false → ⊥
-  not_contextual z = let e : false ≡ true = sym z ∙ (ap is_token contextual_is ∙ t.contextual) in absurd cc
-
-  pub not_read : row.contextual_kind ≢ EOF → row.kind ≢ IDENT → ⊥
-  not_read c k = k (kind_is ∙ t.identifier (λ z. c (contextual_is ∙ z)))
-
-  pub not_year : ((edition : Edition) → year edition ≢ row.edition) → ⊥
-  not_year h = h r.edition (sym (ap (λ (x : RapRecord). x.edition) is))
-
-  bit : (b : Bool) → (if b then 1 else 0) ≤ 1
-  bit true = omega arith
-  bit false = omega arith
-
-  pub not_joint : 1 < row.joint → ⊥
-  not_joint h = absurd (omega (arith, h, ap (λ (x : RapRecord). x.joint) is, bit r.joint))
-
-bit_of : (n : ℕ) → n ≤ 1 → n ≡ (if n == 1 then 1 else 0)
-bit_of zero h = refl
-bit_of (suc zero) h = refl
-bit_of (suc (suc n)) h = absurd (omega (arith, h))
-
-pub is_row : (row : RapRecord) (t : Token) → t.kind ≡ row.kind → t.contextual_kind ≡ row.contextual_kind → year t.edition ≡ row.edition → row.joint ≤ 1 → t.joint ≡ (row.joint == 1) → row ≡ row_of (record_in t)
-is_row row t k c e j b =
-    ap (λ n. numbers n row.contextual_kind row.edition row.joint) (sym k)
-    ∙ (ap (λ n. numbers t.kind n row.edition row.joint) (sym c)
-    ∙ (ap (λ n. numbers t.kind t.contextual_kind n row.joint) (sym e)
-    ∙ ap (λ n. numbers t.kind t.contextual_kind (year t.edition) n) (bit_of row.joint j ∙ ap (λ v. if v then 1 else 0) (sym b))))
+    let f = found rs i d (omega (arith, h, n)) input.tokens in
+    bad f.0 f.1.1 (ap (λ l. get_or l i d) input.rows_are ∙ f.1.0)
 
 -- an identifier that touches the next token
 pub marked : (rs : List Record) (t : Token) → t.kind ≡ IDENT → t.joint ≡ true

@@ -1,7 +1,7 @@
 -- Steps that are given in numbers.
-use Rattle.std.proofs.Common.{◌≡◌, ◌≢◌, ◌⊎◌, ℕ, zero, suc, ◌+◌, ◌-◌, ◌<◌, ◌≤◌, List, [], ◌∷◌, ◌++◌, length, take, get_or, Bool, true, false, refl, ap, sym, subst, ◌∙◌, inl, inr, arith}
-use Rattle.std.specs.Prelude.{if◌then◌else◌, slice_range, IsUtf8, Option, Some, None, MatchOption}
-use Rattle.std.proofs.lemmas.List.{take_more}
+use Rattle.std.proofs.Common.{◌≡◌, ℕ, zero, suc, ◌+◌, ◌<◌, List, [], ◌∷◌, ◌++◌, length, map, take, get_or, Bool, true, false, refl, ap, sym, subst, ◌∙◌, arith}
+use Rattle.std.specs.Prelude.{if◌then◌else◌, Option, Some, None, MatchOption}
+use Rattle.std.proofs.lemmas.List.{map-append, take_more}
 use Rattle.rap_base.specs.declared.edition.Edition.{Edition}
 use Rattle.rap_events.specs.Cover.{covers}
 use Rattle.rap_events.specs.Forest.{Forest, flat, one_tree, splits_placed}
@@ -13,7 +13,7 @@ use Rattle.rap_events.proofs.StepLemmas.{forest_of-flat}
 use Rattle.rap_lexed.specs.Input.{records}
 use Rattle.rap_lexed.specs.LexedStr.{Token}
 use Rattle.rap_steps.specs.Steps.{IsTreeSteps}
-use Rattle.rap_c.specs.Shown.{IsMessageAt, IsStepOf, AreStepsOf, IsTreeOf}
+use Rattle.rap_c.specs.Shown.{IsStepOf, AreStepsOf, IsTreeOf}
 use Rattle.rap_c.specs.declared.step.RapStep.{RapStep}
 
 -- what a step is, by its number
@@ -31,7 +31,7 @@ what_is ms s (token kind width) h = h.0
 what_is ms s (error bytes) h = h.0
 what_is ms s (float_split d) h = h.0
 
-same_bit : (a b : Bool) → (if a then 1 else 0) ≡ (if b then 1 else 0) → a ≡ b
+same_bit : (a b : Bool) → ◌≡◌ {A = ℕ} (if a then 1 else 0) (if b then 1 else 0) → a ≡ b
 same_bit true true e = refl
 same_bit true false e = absurd (omega (arith, e))
 same_bit false true e = absurd (omega (arith, e))
@@ -61,11 +61,13 @@ one_more ms (t ∷ ss) [] s v h k = absurd h
 one_more ms (t ∷ ss) (w ∷ vs) s v h k = (h.0, one_more ms ss vs s v h.1 k)
 
 -- one more is read
-pub steps_on : (ms : List ℕ) (ss : List RapStep) (i : ℕ) (s : RapStep) (vs : List StepValue) (v : StepValue) → i < length ss → s ≡ get_or ss i s → IsStepOf ms s v
-    → AreStepsOf ms (take i ss) vs → AreStepsOf ms (take (i + 1) ss) (vs ++ v ∷ [])
-steps_on ms ss i s vs v within is k h =
-    let e : take i ss ++ s ∷ [] ≡ take (i + 1) ss = ap (λ x. take i ss ++ x ∷ []) is ∙ sym (take_more ss i s within) in
-    subst (λ (l : List RapStep). AreStepsOf ms l (vs ++ v ∷ [])) e (one_more ms (take i ss) vs s v h k)
+pub steps_on : (ms : List ℕ) (ss : List RapStep) (i : ℕ) (d : RapStep) (read read_after : List Step) (next : Step) → i < length ss → IsStepOf ms (get_or ss i d) (step_value next)
+    → read_after ≡ read ++ next ∷ [] → AreStepsOf ms (take i ss) (map step_value read) → AreStepsOf ms (take (i + 1) ss) (map step_value read_after)
+steps_on ms ss i d read read_after next within is more h =
+    let e : map step_value read ++ step_value next ∷ [] ≡ map step_value read_after = sym (ap (map step_value) more ∙ map-append step_value read (next ∷ [])) in
+    let k : AreStepsOf ms (take i ss ++ get_or ss i d ∷ []) (map step_value read ++ step_value next ∷ []) = one_more ms (take i ss) (map step_value read) (get_or ss i d) (step_value next) h is in
+    subst (λ (l : List RapStep). AreStepsOf ms l (map step_value read_after)) (sym (take_more ss i d within))
+    (subst (λ (l : List StepValue). AreStepsOf ms (take i ss ++ get_or ss i d ∷ []) l) e k)
 
 step_at : (ms : List ℕ) (ss : List RapStep) (vs : List StepValue) (i : ℕ) (d : RapStep) → AreStepsOf ms ss vs → i < length ss → (v : StepValue) × IsStepOf ms (get_or ss i d) v
 step_at ms [] vs i d h within = absurd (omega (arith, within))
@@ -74,10 +76,10 @@ step_at ms (s ∷ ss) (v ∷ vs) zero d h within = (v, h.0)
 step_at ms (s ∷ ss) (v ∷ vs) (suc n) d h within = step_at ms ss vs n d h.1 (omega (arith, within))
 
 -- where one shows no step, they show none
-pub no_steps : (ms : List ℕ) (ss : List RapStep) (i : ℕ) (s : RapStep) → i < length ss → s ≡ get_or ss i s → ((v : StepValue) → ¬ IsStepOf ms s v) → (vs : List StepValue) → ¬ AreStepsOf ms ss vs
-no_steps ms ss i s within is bad vs h =
-    let f = step_at ms ss vs i s h within in
-    bad f.0 (subst (λ (x : RapStep). IsStepOf ms x f.0) (sym is) f.1)
+pub no_steps : (ms : List ℕ) (ss : List RapStep) (i : ℕ) (d : RapStep) → i < length ss → ((v : StepValue) → ¬ IsStepOf ms (get_or ss i d) v) → (vs : List StepValue) → ¬ AreStepsOf ms ss vs
+no_steps ms ss i d within bad vs h =
+    let f = step_at ms ss vs i d h within in
+    bad f.0 f.1
 
 -- a tree that is shown is the one that the steps make
 pub tree_of : (ts : List Token) (edition : Edition) (ss : List RapStep) (ms : List ℕ) (vs : List StepValue) (f : Forest) → AreStepsOf ms ss vs → IsTreeOf ts edition ss ms f → forest_of vs ≡ f
@@ -105,37 +107,6 @@ is_tree_of ts edition ss ms vs h t c = record {
   placed = t.placed;
   covering = c;
 }
-
--- what numbers show no step
-pub no_kind : (s : RapStep) → (s.what ≡ 0) ⊎ (s.what ≡ 2) → 329 < s.kind → (ms : List ℕ) (v : StepValue) → ¬ IsStepOf ms s v
-no_kind s w big ms (enter kind) h = absurd (omega (arith, h.1, h.2, big))
-no_kind s w big ms (token kind width) h = absurd (omega (arith, h.1, h.2, big))
-no_kind s (inl w) big ms v h = absurd (omega (arith, what_is ms s v h, w))
-no_kind s (inr w) big ms v h = absurd (omega (arith, what_is ms s v h, w))
-
-pub no_width : (s : RapStep) → s.what ≡ 2 → (s.end < s.start) ⊎ (255 < s.end - s.start) → (ms : List ℕ) (v : StepValue) → ¬ IsStepOf ms s v
-no_width s w (inl low) ms (token kind width) h = absurd (omega (arith, h.3, low))
-no_width s w (inr high) ms (token kind width) h = absurd (omega (arith, h.3, h.4, high))
-no_width s w e ms v h = absurd (omega (arith, what_is ms s v h, w))
-
-pub no_bit : (s : RapStep) → s.what ≡ 4 → s.kind ≢ 0 → s.kind ≢ 1 → (ms : List ℕ) (v : StepValue) → ¬ IsStepOf ms s v
-no_bit s w z o ms (float_split true) h = absurd (o h.1)
-no_bit s w z o ms (float_split false) h = absurd (z h.1)
-no_bit s w z o ms v h = absurd (omega (arith, what_is ms s v h, w))
-
-pub no_message : (ms : List ℕ) (s : RapStep) → s.what ≡ 3 → ((bytes : List ℕ) → ¬ IsMessageAt ms s.start s.end bytes) → (v : StepValue) → ¬ IsStepOf ms s v
-no_message ms s w none (error bytes) h = none bytes h.1
-no_message ms s w none v h = absurd (omega (arith, what_is ms s v h, w))
-
-pub no_what : (ms : List ℕ) (s : RapStep) → 4 < s.what → (v : StepValue) → ¬ IsStepOf ms s v
-no_what ms s high (enter kind) h = absurd (omega (arith, h.0, high))
-no_what ms s high exit h = absurd (omega (arith, h, high))
-no_what ms s high (token kind width) h = absurd (omega (arith, h.0, high))
-no_what ms s high (error bytes) h = absurd (omega (arith, h.0, high))
-no_what ms s high (float_split d) h = absurd (omega (arith, h.0, high))
-
-pub no_text : (ms : List ℕ) (start end : ℕ) → ¬ IsUtf8 (slice_range ms start end) → (bytes : List ℕ) → ¬ IsMessageAt ms start end bytes
-no_text ms start end h bytes m = h (subst IsUtf8 m.bytes_are m.utf8)
 
 -- what holds with any messages holds with these
 pub at_messages : (ms : List ℕ) (s : RapStep) (r : Option Step) → MatchOption r ((m : List ℕ) (v : StepValue) → ¬ IsStepOf m s v) (λ t. (m : List ℕ) → IsStepOf m s (step_value t))

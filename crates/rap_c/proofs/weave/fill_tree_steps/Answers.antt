@@ -3,7 +3,7 @@ use Rattle.std.proofs.lemmas.Bool.{cond-true}
 use Rattle.rap_events.specs.Forest.{Forest, one_tree}
 use Rattle.rap_events.specs.Reading.{forest_of}
 use Rattle.rap_events.specs.Step.{step_value}
-use Rattle.rap_c.specs.Used.{end_after}
+use Rattle.rap_lexed.specs.Used.{end_after}
 use Rattle.rap_c.specs.declared.answer.RapAnswer.{RapAnswer}
 use Rattle.rap_c.proofs.GivenBy.{given_back, along, tree_added}
 use Rattle.rap_c.proofs.weave.fill_tree_steps.Goals as goal
