@@ -80,7 +80,7 @@ enum rap_status {
     RAP_NOT_UTF8 = 4,        /* the bytes are no UTF-8 */
     RAP_TEXT_TOO_LONG = 5,   /* the text has more than 4,294,967,295 bytes */
     RAP_TOO_MANY_TOKENS = 6, /* there are more than 8,388,607 tokens that are no trivia */
-    RAP_NO_MEMORY = 7,       /* memory was refused */
+    RAP_NO_MEMORY = 7,       /* memory was refused; but for rap_tree it may come before any status of the text or records */
     RAP_NO_NODE = 8,         /* such a node is not parsed again alone */
     RAP_NO_BRACE = 9,        /* the node is to begin with a `{`, and the text or the records do not */
     RAP_NO_RECORD = 10,      /* one of the records is no token's */
