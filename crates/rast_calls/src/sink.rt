@@ -111,7 +111,6 @@ impl StrSink for Holder {
 }
 
 /// The lines of the steps of a text's tree that such a sink takes, and whether these are all.
-#[tactic(auto, using(crate::proofs::Holding::holds_all, crate::proofs::Holding::holds_first))]
 pub fn list_held(
     alloc: Global,
     count: usize,
