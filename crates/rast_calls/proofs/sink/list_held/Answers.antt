@@ -9,5 +9,5 @@ returns-clause-held c =
       | in-Ok+in_ok-push_str-in-Ok w ↦ rw (w.holder-is)
           (holds_all c.args.text.now c.args.edition c.args.entry c.args.count w.in-Ok.parsed.lexed w.in-Ok.parsed.whole _ c.parse_text.new.sink _ c.new.ensures.bytes refl w.in-Ok.ensures.parsed (search rules))
       | in-Err-Refused-Full+in_ok-push_str-in-Err-Refused-Full w ↦ rw (w.holder-is)
-          (holds_first c.args.text.now c.args.edition c.args.entry c.args.count _ c.parse_text.new.sink _ c.new.ensures.bytes refl w.in-Err-Refused-Full.ensures.left (search rules))
+          (holds_first c.args.text.now c.args.edition c.args.entry c.args.count w.in-Err-Refused-Full.field-0 _ c.parse_text.new.sink _ c.new.ensures.bytes refl (search rules) w.in-Err-Refused-Full.ensures.left (search rules))
     ]
