@@ -114,7 +114,11 @@ impl StrSink for Holder {
 fn answer_of(whole: bool) -> &'static str
     ensures { result.now ≡ answer_line whole }
 {
-    if whole { "answer true\n" } else { "answer false\n" }
+    if whole {
+        "answer true\n"
+    } else {
+        "answer false\n"
+    }
 }
 
 /// The lines of the steps of a text's tree that such a sink takes, and whether these are all.
