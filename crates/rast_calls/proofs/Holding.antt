@@ -7,11 +7,14 @@ use Rattle.rap_lexed.specs.StrForest.{str_flat}
 use Rattle.rap_lexed.specs.StrSink.{Takes}
 use Rattle.rap_lexed.specs.StrStep.{StrStepValue}
 use Rattle.rap_lexed.specs.Trivia.{with_trivia}
-use Rattle.ra_ap_parser.specs.Headline.{CutShort, Headline}
+use Rattle.ra_ap_parser.specs.Headline.{CutShort, Headline, Leaves}
 use Rattle.ra_ap_parser.specs.declared.entry_point.TopEntryPoint.{TopEntryPoint}
-use Rattle.rast_calls.specs.Held.{HoldsAll, HoldsFirst, Holds, IsHeld, Refuses, str_line, str_lines}
+use Rattle.ra_ap_parser.specs.declared.whole_text.TextFault.{TextFault}
+use Rattle.ra_ap_parser.specs.declared.whole_text.TextFault.TheVariants.{Refused}
+use Rattle.rast_calls.specs.Held.{HoldsAll, HoldsFirst, Holds, IsHeld, Refuses, answer_line, str_line, str_lines}
 use Rattle.rast_calls.specs.Listed.{messages_in}
 use Rattle.rast_calls.specs.declared.sink.Holder.{Holder}
+use Rattle.rast_calls.specs.declared.sink.Refusal.{Refusal}
 use Rattle.rast_calls.specs.declared.sink.Refusal.TheVariants.{Full}
 
 -- there are no more messages than steps
@@ -41,7 +44,7 @@ left_along (x ∷ xs) s t h = let m = h.0 in omega (arith, left_along xs m t h.2
 pub holds_all : (text : List ℕ) (edition : Edition) (entry : TopEntryPoint) (count : ℕ) (lexed : Lexed) (whole : Bool) (s t : Holder) (lines : List ℕ)
     → string_bytes s.lines ≡ [] → s.left ≡ count
     → Headline Holds text edition entry lexed whole s t
-    → lines ≡ string_bytes t.lines ++ codes "answer true\n"
+    → lines ≡ string_bytes t.lines ++ answer_line whole
     → IsHeld text edition entry count lines
 holds_all text edition entry count lexed whole s t lines none_yet from h is =
     let steps = str_flat (with_trivia lexed.tokens h.forest) in
@@ -51,16 +54,18 @@ holds_all text edition entry count lexed whole s t lines none_yet from h is =
       forest = h.forest;
       parsed = h.parsed;
       few = omega (arith, left_along steps s t h.taken, from);
-      is = is ∙ ap (λ l. l ++ codes "answer true\n") here;
+      is = is ∙ (ap (λ a. string_bytes t.lines ++ answer_line a) h.all ∙ ap (λ l. l ++ codes "answer true\n") here);
     })
 
 -- the first of the steps, where it refused the next one
-pub holds_first : (text : List ℕ) (edition : Edition) (entry : TopEntryPoint) (count : ℕ) (s t : Holder) (lines : List ℕ)
+pub holds_first : (text : List ℕ) (edition : Edition) (entry : TopEntryPoint) (count : ℕ) (fault : TextFault Refusal) (s t : Holder) (lines : List ℕ)
     → string_bytes s.lines ≡ [] → s.left ≡ count
-    → CutShort Holds Refuses text edition entry Full s t
+    → fault ≡ Refused Full
+    → Leaves Holds Refuses text edition entry fault s t
     → lines ≡ string_bytes t.lines ++ codes "refused\n"
     → IsHeld text edition entry count lines
-holds_first text edition entry count s t lines none_yet from h is =
+holds_first text edition entry count fault s t lines none_yet from full left is =
+    let h : CutShort Holds Refuses text edition entry Full s t = subst (λ (f : TextFault Refusal). Leaves Holds Refuses text edition entry f s t) full left in
     let stop = h.stopped in
     let here : string_bytes t.lines ≡ str_lines stop.prefix =
     stop.refused.1 ∙ (lines_along stop.prefix s stop.before stop.taken ∙ ap (λ l. l ++ str_lines stop.prefix) none_yet) in

@@ -1,5 +1,5 @@
 -- What a sink holds that takes so many steps of a text's tree.
-use Rattle.std.specs.Prelude.{◌≡◌, ◌⊎◌, ◌≤◌, ◌<◌, ◌+◌, ℕ, List, [], ◌∷◌, ◌++◌, length, codes, chars, string_bytes}
+use Rattle.std.specs.Prelude.{◌≡◌, ◌⊎◌, ◌≤◌, ◌<◌, ◌+◌, ℕ, Bool, true, false, List, [], ◌∷◌, ◌++◌, length, codes, chars, string_bytes}
 use Rattle.rap_base.specs.Names.{name_of}
 use Rattle.rap_base.specs.declared.edition.Edition.{Edition}
 use Rattle.rap_events.specs.Forest.{Forest}
@@ -28,6 +28,11 @@ str_line (str_error text pos) = message_line pos text
 abbrev pub str_lines : List StrStepValue → List ℕ
 str_lines [] = []
 str_lines (step ∷ steps) = str_line step ++ str_lines steps
+
+-- the line of whether the sink has been handed all of the text
+abbrev pub answer_line : Bool → List ℕ
+answer_line true = codes "answer true\n"
+answer_line false = codes "answer false\n"
 
 -- a step is taken: its line is added, and one less is taken after it
 pub record Holds (old : Holder) (step : StrStepValue) (new : Holder) : Type 0 where

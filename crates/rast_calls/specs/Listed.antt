@@ -53,8 +53,8 @@ messages_in (error bytes ∷ ss) = messages_in ss + 1
 abbrev pub count_lines : List StepValue → List ℕ
 count_lines steps = codes "steps " ++ (decimal (length steps) ++ (codes "\nmessages " ++ (decimal (messages_in steps) ++ codes "\n")))
 
-abbrev pub kept_lines : ℕ → List ℕ
-kept_lines count = codes "pushed " ++ (decimal count ++ (codes "\n" ++ (codes "length " ++ (decimal count ++ codes "\n"))))
+abbrev pub kept_lines : ℕ → ℕ → List ℕ
+kept_lines count length = codes "pushed " ++ (decimal count ++ (codes "\nlength " ++ (decimal length ++ codes "\n")))
 
 -- the steps of an input of all the tokens
 pub record IsStepped (way : Way) (tokens : Tokens) (lines : List ℕ) : Type 0 where
@@ -74,7 +74,7 @@ pub record IsKept (way : Way) (tokens : Tokens) (lines : List ℕ) : Type 0 wher
   pub few : count ≤ tokens.count
   pub output : Forest
   pub made : IsMade way (pushed tokens.token tokens.every count) output
-  pub is : lines ≡ kept_lines count ++ step_lines (flat output)
+  pub is : lines ≡ kept_lines count count ++ step_lines (flat output)
 
 -- when a fault comes of an input of all the tokens
 abbrev pub ComesOfTokens : Way → Tokens → CallFault → Type 0

@@ -3,7 +3,7 @@ ghost use Rattle.std.specs.Prelude.{◌≡◌, ◌++◌, IfErr, IfOk, OnOk, stri
 ghost use Rattle.rap_events.specs.Forest.{flat};
 ghost use Rattle.rap_events.specs.Step.{step_value};
 ghost use Rattle.rast_print.specs.Listed.{step_line, step_lines};
-ghost use Rattle.rast_calls.specs.Listed.{Comes, ComesOfKept, ComesOfTokens, IsCounted, IsKept, IsStepped, Lists, capacity_lines, messages_in, refusal_lines, shown_spans, span, spans};
+ghost use Rattle.rast_calls.specs.Listed.{Comes, ComesOfKept, ComesOfTokens, IsCounted, IsKept, IsStepped, Lists, capacity_lines, kept_lines, messages_in, refusal_lines, shown_spans, span, spans};
 
 use crate::asked::{Asked, Tokens, Way};
 use crate::pushed::{CallFault, input_of, input_of_first, output_of};
@@ -120,8 +120,15 @@ fn list_steps(alloc: Global, way: Way, tokens: &Tokens) -> Result<String, CallFa
     Ok(lines)
 }
 
+/// Adds the lines of how many tokens were pushed, and how many the input has then.
+fn push_kept(lines: &mut String, count: usize, length: usize) -> Result<(), AllocError>
+    ensures { OnOk result (string_bytes lines.new ≡ string_bytes lines.old ++ kept_lines count length) }
+{
+    write!(lines, "pushed {count}\nlength {length}\n")?;
+    Ok(())
+}
+
 /// Lists how many of the tokens were pushed before a push was refused, how many the input has then, and its steps.
-#[tactic(auto, using(crate::proofs::Pushing::length_pushed))]
 fn list_kept(alloc: Global, way: Way, tokens: &Tokens) -> Result<String, CallFault>
     ensures lists { IfOk result (λ lines. IsKept way tokens.now (string_bytes lines)) }
     ensures fault { IfErr result (ComesOfKept way tokens.now) }
@@ -129,8 +136,7 @@ fn list_kept(alloc: Global, way: Way, tokens: &Tokens) -> Result<String, CallFau
     let pushed = input_of_first(alloc, tokens)?;
     let output = output_of(alloc, way, &pushed.input)?;
     let mut lines = String::new(alloc);
-    writeln!(lines, "pushed {}", pushed.count)?;
-    writeln!(lines, "length {}", pushed.input.len())?;
+    push_kept(&mut lines, pushed.count, pushed.input.len())?;
     push_steps(&mut lines, &output)?;
     Ok(lines)
 }

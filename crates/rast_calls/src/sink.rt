@@ -1,6 +1,6 @@
 //! A sink that takes so many steps of a text's tree, and refuses the next one.
 ghost use Rattle.std.specs.Prelude.{◌≡◌, ◌+◌, IfErr, IfOk, OnErr, OnOk, string_bytes};
-ghost use Rattle.rast_calls.specs.Held.{ComesOfSteps, IsHeld};
+ghost use Rattle.rast_calls.specs.Held.{ComesOfSteps, IsHeld, answer_line};
 
 use crate::pushed::CallFault;
 use ra_ap_parser::{Edition, StrSink, StrStep, SyntaxKind, TextFault, TopEntryPoint, parse_text};
@@ -110,8 +110,18 @@ impl StrSink for Holder {
     }
 }
 
+/// The line of whether the sink has been handed all of the text.
+fn answer_of(whole: bool) -> &'static str
+    ensures { result.now ≡ answer_line whole }
+{
+    if whole {
+        "answer true\n"
+    } else {
+        "answer false\n"
+    }
+}
+
 /// The lines of the steps of a text's tree that such a sink takes, and whether these are all.
-#[tactic(auto, using(crate::proofs::Holding::holds_all, crate::proofs::Holding::holds_first))]
 pub fn list_held(
     alloc: Global,
     count: usize,
@@ -127,11 +137,7 @@ pub fn list_held(
         left: count,
     };
     match parse_text(alloc, edition, entry, text, &mut holder) {
-        Ok(parsed) => holder.lines.push_str(if parsed.whole {
-            "answer true\n"
-        } else {
-            "answer false\n"
-        })?,
+        Ok(parsed) => holder.lines.push_str(answer_of(parsed.whole))?,
         Err(TextFault::TextTooLong) => return Err(CallFault::TextTooLong),
         Err(TextFault::TooManyTokens) => return Err(CallFault::TooManyTokens),
         Err(TextFault::NoMemory) => return Err(CallFault::NoMemory),
