@@ -1,5 +1,5 @@
 -- What a sink holds of steps, and how many messages there are among steps.
-use Rattle.std.proofs.Common.{◌≡◌, ◌⊎◌, ℕ, zero, suc, ◌+◌, ◌≤◌, List, [], ◌∷◌, ◌++◌, Bool, true, length, ap, sym, ◌∙◌, refl, subst, codes, string_bytes, append_assoc, append-nil, arith, inl, inr}
+use Rattle.std.proofs.Common.{◌≡◌, ℕ, ◌+◌, ◌≤◌, List, [], ◌∷◌, ◌++◌, Bool, true, length, ap, sym, ◌∙◌, subst, codes, string_bytes, append_assoc, append-nil, arith, inl, inr}
 use Rattle.rap_base.specs.declared.edition.Edition.{Edition}
 use Rattle.rap_events.specs.StepValue.{StepValue, enter, exit, token, float_split, error}
 use Rattle.rap_lexed.specs.LexedStr.{Lexed}
@@ -11,7 +11,7 @@ use Rattle.ra_ap_parser.specs.Headline.{CutShort, Headline, Leaves}
 use Rattle.ra_ap_parser.specs.declared.entry_point.TopEntryPoint.{TopEntryPoint}
 use Rattle.ra_ap_parser.specs.declared.whole_text.TextFault.{TextFault}
 use Rattle.ra_ap_parser.specs.declared.whole_text.TextFault.TheVariants.{Refused}
-use Rattle.rast_calls.specs.Held.{HoldsAll, HoldsFirst, Holds, IsHeld, Refuses, answer_line, str_line, str_lines}
+use Rattle.rast_calls.specs.Held.{Holds, IsHeld, Refuses, answer_line, str_line, str_lines}
 use Rattle.rast_calls.specs.Listed.{messages_in}
 use Rattle.rast_calls.specs.declared.sink.Holder.{Holder}
 use Rattle.rast_calls.specs.declared.sink.Refusal.{Refusal}
