@@ -3,6 +3,7 @@ pub mod ChildSizes
 pub mod Children
 pub mod Collects
 pub mod Places
+pub mod Queries
 pub mod Ranged
 pub mod RangedForest
 pub mod Stored

@@ -8,6 +8,7 @@ mod builder;
 mod collector;
 mod message;
 mod node;
+mod queries;
 mod tree;
 
 pub use message::Message;
