@@ -1,7 +1,10 @@
 pub mod ChildLists
+pub mod ChildRows
 pub mod Collected
 pub mod Frames
+pub mod InRowLemmas
 pub mod NodeLists
 pub mod Runs
 pub mod Texts
+pub mod TreeRows
 pub mod Weights

@@ -1,7 +1,10 @@
 pub mod Building
+pub mod ChildEnds
 pub mod ChildSizes
 pub mod Children
 pub mod Collects
+pub mod InRow
+pub mod Leaves
 pub mod Places
 pub mod Queries
 pub mod Ranged

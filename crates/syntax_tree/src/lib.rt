@@ -6,11 +6,14 @@
 
 mod builder;
 mod collector;
+mod leaf;
+mod leaf_at;
 mod message;
 mod node;
 mod queries;
 mod tree;
 
+pub use leaf::Leaf;
 pub use message::Message;
 pub use node::{Child, Node};
 pub use tree::Tree;
