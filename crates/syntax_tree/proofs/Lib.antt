@@ -3,6 +3,7 @@ pub mod ChildRows
 pub mod Collected
 pub mod Frames
 pub mod InRowLemmas
+pub mod LeavesInRange
 pub mod NodeLists
 pub mod Runs
 pub mod Texts

@@ -3,6 +3,7 @@ pub mod ChildEnds
 pub mod ChildSizes
 pub mod Children
 pub mod Collects
+pub mod InRange
 pub mod InRow
 pub mod Leaves
 pub mod Places

@@ -6,6 +6,7 @@
 
 mod builder;
 mod collector;
+pub mod laws;
 mod leaf;
 mod leaf_at;
 mod message;
