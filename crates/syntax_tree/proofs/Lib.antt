@@ -1,6 +1,11 @@
 pub mod ChildLists
+pub mod ChildRows
 pub mod Collected
 pub mod Frames
+pub mod InRowLemmas
+pub mod LeavesInRange
+pub mod NodeLists
 pub mod Runs
 pub mod Texts
+pub mod TreeRows
 pub mod Weights

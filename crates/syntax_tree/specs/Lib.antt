@@ -1,8 +1,13 @@
 pub mod Building
+pub mod ChildEnds
 pub mod ChildSizes
 pub mod Children
 pub mod Collects
+pub mod InRange
+pub mod InRow
+pub mod Leaves
 pub mod Places
+pub mod Queries
 pub mod Ranged
 pub mod RangedForest
 pub mod Stored

@@ -6,10 +6,15 @@
 
 mod builder;
 mod collector;
+pub mod laws;
+mod leaf;
+mod leaf_at;
 mod message;
 mod node;
+mod queries;
 mod tree;
 
+pub use leaf::Leaf;
 pub use message::Message;
 pub use node::{Child, Node};
 pub use tree::Tree;

@@ -1,0 +1,13 @@
+-- Where children end.
+-- (What calls promise one another; no promise of the library rests on it.)
+use Rattle.std.specs.Prelude.{Bool, ℕ, nat_lt}
+use Rattle.syntax_tree.specs.declared.node.Child.{Child}
+use Rattle.syntax_tree.specs.declared.node.Child.TheVariants.{Node as a_node, Leaf as a_leaf}
+
+abbrev pub child_end : Child → ℕ
+child_end (a_node n) = n.end
+child_end (a_leaf kind range) = range.end
+
+-- a child ends behind the byte
+abbrev pub ends_behind : ℕ → Child → Bool
+ends_behind offset c = nat_lt offset (child_end c)
