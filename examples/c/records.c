@@ -114,10 +114,10 @@ static void test_pushed(void) {
     struct rap_record tokens[] = {
         record("IDENT", 0), record("R_ANGLE", 1), record("R_ANGLE", 1), record("EQ", 0), record("IDENT", 0)};
     struct filled f = parse(tokens, 5, RAP_EXPR);
-    expect(f.answer.status == RAP_OK && f.answer.steps == 19 && f.answer.used == 5, "an operator's answer");
+    expect(f.answer.status == RAP_OK && f.answer.steps == 21 && f.answer.used == 5, "an operator's answer");
     expect(is_step(f.steps[0], RAP_ENTER, "BIN_EXPR", 0, 0), "an operator's node");
-    expect(is_step(f.steps[9], RAP_TOKEN, "SHREQ", 1, 4), "an operator");
-    expect(is_step(f.steps[18], RAP_EXIT, NULL, 5, 5), "an operator's end");
+    expect(is_step(f.steps[10], RAP_TOKEN, "SHREQ", 1, 4), "an operator");
+    expect(is_step(f.steps[20], RAP_EXIT, NULL, 5, 5), "an operator's end");
     drop(f);
     tokens[2].joint = 0;
     f = parse(tokens, 5, RAP_EXPR);
