@@ -80,7 +80,7 @@ enum rap_status {
     RAP_NOT_UTF8 = 4,        /* the bytes are no UTF-8 */
     RAP_TEXT_TOO_LONG = 5,   /* the text has more than 4,294,967,295 bytes */
     RAP_TOO_MANY_TOKENS = 6, /* there are more than 8,388,607 tokens that are no trivia */
-    RAP_NO_MEMORY = 7,       /* memory was refused; but for rap_tree it may come before any status of the text or records */
+    RAP_NO_MEMORY = 7,       /* memory was refused; of all calls but rap_tree it may hide another fault */
     RAP_NO_NODE = 8,         /* such a node is not parsed again alone */
     RAP_NO_BRACE = 9,        /* the node is to begin with a `{`, and the text or the records do not */
     RAP_NO_RECORD = 10,      /* one of the records is no token's */
@@ -174,8 +174,8 @@ struct rap_answer rap_prefix(const uint8_t *text, size_t text_length, uint32_t e
  * 5. No message `unknown literal prefix` is about one of the first five tokens of rap_tokens of the old text of the node or
  *    of its new one, nor about one of the five behind the node.
  * The third spares only a stale `expected R_CURLY`, and the fifth only the words of that message. This is measured, not
- * proved: over five million random edits of right and wrong texts the trees, the messages and their places were those of
- * the whole new text wherever all five held. Smallest texts of which one does not hold, and the trees differ, of the third
+ * proved: over five million random edits of right and wrong texts, parsed by a build of the Rust crate, the trees, the
+ * messages and their places were those of the whole new text wherever all five held. Smallest texts of which one does not hold, and the trees differ, of the third
  * and the fifth the messages:
  * 1. `{e unsafe{}`, `unsafe` goes: a record expression.
  * 2. `{{}}`, `#` comes into the inner braces: what is expected behind it takes the `}`. `use{}`, `..` comes into the braces.

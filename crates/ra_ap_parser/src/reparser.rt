@@ -31,7 +31,8 @@ use std::marker::Model;
 ///
 /// What must hold of braces, messages and what stands around the node is all in these. The third spares only a stale
 /// `expected R_CURLY`, and the fifth only the words of that message. None of it is proved: over five million random edits of
-/// right and wrong texts the trees, the messages and their places were those of the whole new text, wherever all five held.
+/// right and wrong texts, parsed by a build of the Rust crate, the trees, the messages and their places were those of the
+/// whole new text, wherever all five held.
 ///
 /// Smallest texts of which one does not hold, and the trees differ, of the third and the fifth the messages:
 ///
