@@ -5,7 +5,7 @@ use Rattle.rap_base.specs.TokenKind.{SEMICOLON}
 use Rattle.rap_events.specs.Record.{Record, next_kind}
 use Rattle.rap_events.specs.Forest.{Forest, none, node, ◌⧺◌, used}
 use Rattle.rap_grammar_scripts.specs.Atom.{expr}
-use Rattle.rap_grammar_scripts.specs.Called.{pattern, pattern_single, type_, inner_meta}
+use Rattle.rap_grammar_scripts.specs.Called.{pattern, pattern_single, type_, meta}
 use Rattle.rap_grammar_core.specs.Derives.{Derives, Expression, Ty, Block, Contents, Many, Item, File, EndsExpression, EndsType}
 use Rattle.rap_grammar_core.specs.MacroCall.{IsMacroCall}
 use Rattle.rap_grammar_core.specs.Mixed.{IsFront}
@@ -32,7 +32,7 @@ IsOutputOf entry.MacroItems input output = IsRootOf MACRO_ITEMS (mod_contents fa
 IsOutputOf entry.Pattern input output = IsTopOf pattern input output
 IsOutputOf entry.Ty input output = IsTopOf type_ input output
 IsOutputOf entry.Expr input output = IsTopOf expr input output
-IsOutputOf entry.MetaItem input output = IsTopOf inner_meta input output
+IsOutputOf entry.MetaItem input output = IsTopOf meta input output
 
 -- The whole input is derived by the core grammar, with this tree. Under `MacroStmts` it is what may stand in the braces of
 -- a block, and under `MacroItems` any number of items, in the node of the entry.
@@ -81,7 +81,7 @@ IsPrefixOutputOf prefix.Ty input output = IsPrefixOf type_ input output
 IsPrefixOutputOf prefix.Expr input output = IsPrefixOf expr input output
 IsPrefixOutputOf prefix.Path input output = IsPrefixOf type_path input output
 IsPrefixOutputOf prefix.Item input output = IsPrefixOf (item_or_macro true true) input output
-IsPrefixOutputOf prefix.MetaItem input output = IsPrefixOf inner_meta input output
+IsPrefixOutputOf prefix.MetaItem input output = IsPrefixOf meta input output
 
 -- This is made of whatever the prefix entry reads: the same, where it is one tree over the whole input, and else an
 -- `ERROR` over it and what is left.

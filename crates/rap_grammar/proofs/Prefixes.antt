@@ -10,7 +10,7 @@ use Rattle.rap_grammar_scripts.specs.Blocks.{block_expr}
 use Rattle.rap_grammar_scripts.specs.Items.{item_or_macro}
 use Rattle.rap_grammar_scripts.specs.Phrase.{Phrase}
 use Rattle.rap_grammar_scripts.specs.Script.{Script, Spot}
-use Rattle.rap_grammar_scripts.specs.TokenTree.{bracketed_tokens}
+use Rattle.rap_grammar_scripts.specs.TokenTree.{token_tree}
 use Rattle.rap_grammar_scripts.proofs.Balance.{balanced_way, balanced_clean}
 use Rattle.rap_grammar_scripts.proofs.OneEnd.{one_end}
 use Rattle.rap_grammar_core.specs.Derives.{Category, Derives, Expression, Ty, Block, Item, EndsExpression, EndsType}
@@ -57,7 +57,7 @@ front_item ks l i d n =
     front ks l i d (rw none-⧺ at (item_before d true true [] none l (ne_eqb (next_kind l) SEMICOLON n)))
 
 -- balanced tokens in brackets, whatever follows them
-pub front_bracketed : (ks l : List Record) {t output : Forest} → IsPrefixOf bracketed_tokens (ks ++ l) output →
+pub front_bracketed : (ks l : List Record) {t output : Forest} → IsPrefixOf token_tree (ks ++ l) output →
     IsBracketed ks t → IsWhole t (length ks) output
 front_bracketed ks l i (brackets_around {a = a} {c = c} {ks = js} {t = t} p d) =
     made (a ∷ (js ++ c ∷ [])) l i (rw append_assoc (balanced_way p d [] none l)) (balanced_clean a c d)

@@ -13,7 +13,7 @@ use Rattle.rap_grammar_scripts.specs.Paths.{type_path}
 use Rattle.rap_grammar_scripts.specs.Phrase.{Phrase}
 use Rattle.rap_grammar_scripts.specs.Records.{record_expr_field_list}
 use Rattle.rap_grammar_scripts.specs.Script.{Script, Outcome, Runs}
-use Rattle.rap_grammar_scripts.specs.TokenTree.{bracketed_tokens}
+use Rattle.rap_grammar_scripts.specs.TokenTree.{token_tree}
 use Rattle.rap_grammar_scripts.specs.Traits.{assoc_item_list}
 use Rattle.rap_grammar_scripts.specs.UseItem.{use_tree_list}
 use Rattle.rap_grammar_scripts.specs.Visibility.{opt_visibility}
@@ -44,7 +44,7 @@ part_script part.VariantList = variant_list
 part_script part.MatchArmList = match_arm_list
 part_script part.UseTreeList = use_tree_list
 part_script part.ExternItemList = extern_item_list
-part_script part.TokenTree = bracketed_tokens
+part_script part.TokenTree = token_tree
 part_script part.AssocItemList = assoc_item_list
 part_script part.ItemList = item_list
 

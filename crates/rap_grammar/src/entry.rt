@@ -71,7 +71,7 @@ pub fn is_one_tree(output: &Output) -> bool
 /// Reads what stands in the brackets of an attribute.
 fn meta_item(p: &mut Parser<'_>) -> Result<(), NoMemory>
     ensures grew { OnOk result (Grew (state p.old) (state p.new) 16) }
-    ensures script { OnOk result (Follows called.inner_meta something (state p.old) (state p.new)) }
+    ensures script { OnOk result (Follows called.meta something (state p.old) (state p.new)) }
 {
     run(p, Rule::Meta)?;
     Ok(())
@@ -98,7 +98,7 @@ fn items(p: &mut Parser<'_>) -> Result<(), NoMemory>
 {
     'items: while p.current() != SyntaxKind::EOF {
         // Only `safe fn` is more than elsewhere in a foreign block, and there is no other reading of it.
-        let item = Rule::Item {
+        let item = Rule::ItemOrMacro {
             stop_on_r_curly: false,
             is_in_extern: true,
         };

@@ -79,15 +79,15 @@ pub fn run(p: &mut Parser<'_>, rule: Rule) -> Result<Answer, NoMemory>
     };
     let g = Rules { run: call, left };
     match rule {
-        Rule::Expr { m, r, bp } => {
+        Rule::ExprBp { m, r, bp } => {
             let expr = expr_bp(p, &g, m, r, bp)?;
             Ok(expr)
         }
-        Rule::Ty { allow_bounds } => {
+        Rule::TypeWithBoundsCond { allow_bounds } => {
             type_with_bounds_cond(p, &g, allow_bounds)?;
             Ok(None)
         }
-        Rule::TraitPath => {
+        Rule::PathTypeBounds => {
             path_type_bounds(p, &g, true)?;
             Ok(None)
         }
@@ -107,7 +107,7 @@ pub fn run(p: &mut Parser<'_>, rule: Rule) -> Result<Answer, NoMemory>
             pattern_single_r(p, &g, false)?;
             Ok(None)
         }
-        Rule::Bounds => {
+        Rule::BoundsWithoutColon => {
             bounds_without_colon(p, &g)?;
             Ok(None)
         }
@@ -127,7 +127,7 @@ pub fn run(p: &mut Parser<'_>, rule: Rule) -> Result<Answer, NoMemory>
             if_expr(p, &g)?;
             Ok(None)
         }
-        Rule::Item {
+        Rule::ItemOrMacro {
             stop_on_r_curly,
             is_in_extern,
         } => {

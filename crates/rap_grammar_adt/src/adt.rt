@@ -5,7 +5,7 @@ ghost use Rattle.rap_base.specs.TokenKind.{EOF, UNSAFE_KW, STRUCT_KW, ENUM_KW, U
 ghost use Rattle.rap_events.specs.Forest.{node};
 ghost use Rattle.rap_events.specs.State.{state, last_children, next, ReadsAs};
 ghost use Rattle.rap_grammar_scripts.specs.Adt as script;
-ghost use Rattle.rap_grammar_scripts.specs.Adt.{starts_mut_restriction};
+ghost use Rattle.rap_grammar_scripts.specs.Adt.{is_mut_restriction_start};
 ghost use Rattle.rap_grammar_frame.specs.Grew.{Within, Behind, Took, Grew, Ended, Gone, Spent};
 ghost use Rattle.rap_grammar_scripts.specs.Knot.{Follows};
 ghost use Rattle.rap_grammar_frame.specs.Room.{brackets_room, item_room, list_room, name_room, element_room, param_room, type_room, recovery_events};
@@ -434,7 +434,7 @@ fn opt_unsafe<G: Grammar>(p: &mut Parser<'_>, g: &G) -> Result<(), NoMemory>
 
 /// Whether a `mut` restriction comes next.
 fn is_mut_restriction_start(p: &Parser<'_>) -> bool
-    ensures starts { result ≡ starts_mut_restriction (state p.now).rest }
+    ensures starts { result ≡ is_mut_restriction_start (state p.now).rest }
     ensures here { result ≡ true → next (state p.now) ≡ MUT_KW }
 {
     p.at(T![mut]) && p.nth(1) == T!['(']
@@ -444,8 +444,8 @@ fn is_mut_restriction_start(p: &Parser<'_>) -> bool
 fn opt_mut_restriction<G: Grammar>(p: &mut Parser<'_>, g: &G) -> Result<(), NoMemory>
     requires within { Within G.valid G.left g.now (state p.old) }
     ensures grew { OnOk result (Grew (state p.old) (state p.new) 0) }
-    ensures took { OnOk result (starts_mut_restriction (state p.old).rest ≡ true → Took (state p.old) (state p.new) brackets_room) }
-    ensures stays { OnOk result (starts_mut_restriction (state p.old).rest ≡ false → state p.new ≡ state p.old) }
+    ensures took { OnOk result (is_mut_restriction_start (state p.old).rest ≡ true → Took (state p.old) (state p.new) brackets_room) }
+    ensures stays { OnOk result (is_mut_restriction_start (state p.old).rest ≡ false → state p.new ≡ state p.old) }
     ensures script { OnOk result (Follows script.opt_mut_restriction something (state p.old) (state p.new)) }
 {
     if is_mut_restriction_start(p) {

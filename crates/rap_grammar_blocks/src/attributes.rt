@@ -4,7 +4,7 @@ ghost use Rattle.rap_base.specs.TokenKind.{EOF, UNSAFE_KW, CFG_ATTR_KW, CFG_KW, 
 ghost use Rattle.rap_events.specs.State.{state, next, At};
 ghost use Rattle.rap_events.specs.Composite.{is_at};
 ghost use Rattle.rap_grammar_scripts.specs.Attributes as script;
-ghost use Rattle.rap_grammar_scripts.specs.Attributes.{starts_inner_attr, doc_comment, starts_attr, calls_keyword, starts_value};
+ghost use Rattle.rap_grammar_scripts.specs.Attributes.{is_inner_attr_start, doc_comment, starts_attr, at_called_kw, is_value_start};
 ghost use Rattle.rap_grammar_scripts.specs.First.{is_outer_attr_first, is_cfg_predicate_first, one_of};
 ghost use Rattle.rap_grammar_frame.specs.Grew.{Within, Grew, Took, Behind};
 ghost use Rattle.rap_grammar_scripts.specs.Knot.{Follows};
@@ -25,7 +25,7 @@ use rap_grammar_scripts::T;
 
 /// Whether an attribute of what it stands in comes next.
 fn is_inner_attr_start(p: &Parser<'_>) -> bool
-    ensures { result ≡ starts_inner_attr (state p.now).rest }
+    ensures { result ≡ is_inner_attr_start (state p.now).rest }
 {
     p.at(SyntaxKind::INNER_DOC_COMMENT) || (p.at(T![#]) && p.nth_at(1, T![!]))
 }
@@ -34,7 +34,7 @@ fn is_inner_attr_start(p: &Parser<'_>) -> bool
 pub fn inner_attrs<G: Grammar>(p: &mut Parser<'_>, g: &G) -> Result<(), NoMemory>
     requires within { Within G.valid G.left g.now (state p.old) }
     ensures grew { OnOk result (Grew (state p.old) (state p.new) 0) }
-    ensures stays { OnOk result (starts_inner_attr (state p.old).rest ≡ false → state p.new ≡ state p.old) }
+    ensures stays { OnOk result (is_inner_attr_start (state p.old).rest ≡ false → state p.new ≡ state p.old) }
     ensures script { OnOk result (Follows script.inner_attrs something (state p.old) (state p.new)) }
 {
     'attrs: while is_inner_attr_start(p) {
@@ -120,7 +120,7 @@ fn attr_brackets<G: Grammar>(p: &mut Parser<'_>, g: &G) -> Result<(), NoMemory>
 /// Whether an identifier that may be read as this keyword comes next, and a `(` behind it.
 fn at_called_kw(p: &Parser<'_>, kw: SyntaxKind) -> bool
     requires { kw ≢ EOF }
-    ensures { result ≡ calls_keyword kw (state p.now).rest }
+    ensures { result ≡ at_called_kw kw (state p.now).rest }
 {
     p.at_contextual_kw(kw) && p.nth_at(1, T!['('])
 }
@@ -166,7 +166,7 @@ fn unsafe_meta<G: Grammar>(p: &mut Parser<'_>, g: &G) -> Result<(), NoMemory>
 /// Attributes under a condition, as `cfg_attr(a, b, c = "d")`.
 fn cfg_attr_meta<G: Grammar>(p: &mut Parser<'_>, g: &G) -> Result<(), NoMemory>
     requires within { Within G.valid G.left g.now (state p.old) }
-    requires here { calls_keyword CFG_ATTR_KW (state p.old).rest ≡ true }
+    requires here { at_called_kw CFG_ATTR_KW (state p.old).rest ≡ true }
     ensures took { OnOk result (Took (state p.old) (state p.new) element_room) }
     ensures script { OnOk result (Follows script.cfg_attr_meta something (state p.old) (state p.new)) }
 {
@@ -199,7 +199,7 @@ fn cfg_attr_metas<G: Grammar>(p: &mut Parser<'_>, g: &G) -> Result<(), NoMemory>
 /// An attribute that holds if a condition does, as `cfg(a)`.
 fn cfg_meta<G: Grammar>(p: &mut Parser<'_>, g: &G) -> Result<(), NoMemory>
     requires within { Within G.valid G.left g.now (state p.old) }
-    requires here { calls_keyword CFG_KW (state p.old).rest ≡ true }
+    requires here { at_called_kw CFG_KW (state p.old).rest ≡ true }
     ensures took { OnOk result (Took (state p.old) (state p.new) element_room) }
     ensures script { OnOk result (Follows script.cfg_meta something (state p.old) (state p.new)) }
 {
@@ -312,7 +312,7 @@ fn cfg_operands<G: Grammar>(p: &mut Parser<'_>, g: &G) -> Result<(), NoMemory>
 
 /// Whether an attribute's value comes next: a `=` that begins no other operator.
 fn is_value_start(p: &Parser<'_>) -> bool
-    ensures { result ≡ starts_value (state p.now).rest }
+    ensures { result ≡ is_value_start (state p.now).rest }
 {
     p.at(T![=]) && !p.at(T![=>]) && !p.at(T![==])
 }

@@ -188,7 +188,7 @@ fn some_expr<G: Grammar>(p: &mut Parser<'_>, g: &G) -> Result<bool, NoMemory>
         forbid_structs: false,
         prefer_stmt: false,
     };
-    match g.run(p, Rule::Expr { m: None, r, bp: 1 })? {
+    match g.run(p, Rule::ExprBp { m: None, r, bp: 1 })? {
         Some(_) => Ok(true),
         None => Ok(false),
     }

@@ -4,7 +4,7 @@ use Rattle.std.proofs.lemmas.Bool.Decides.{nat_tests}
 use Rattle.rap_base.specs.TokenKind.{EOF, L_CURLY, CONST_KW, UNSAFE_KW, ASYNC_KW, GEN_KW, MOVE_KW}
 use Rattle.rap_events.specs.Record.{Record, next_kind, kind_at}
 use Rattle.rap_events.specs.State.{State, next, Bumped, Ate}
-use Rattle.rap_grammar_scripts.specs.Atom.{starts_effect_block}
+use Rattle.rap_grammar_scripts.specs.Atom.{is_effect_block}
 use Rattle.rap_grammar_scripts.specs.First.{one_of}
 use Rattle.rap_grammar_scripts.specs.Params.{past}
 use Rattle.rap_grammar_frame.proofs.Lookahead.{past_ate}
@@ -43,12 +43,12 @@ some_kind : (a b c d : ℕ) → Starts a b c d → a ≢ EOF
 some_kind a b c d h e = grind (arith, nat_tests)
 
 -- such a block begins with a token
-pub some_first : (rs : List Record) → starts_effect_block rs ≡ true → next_kind rs ≢ EOF
-unfolding starts_effect_block
+pub some_first : (rs : List Record) → is_effect_block rs ≡ true → next_kind rs ≢ EOF
+unfolding is_effect_block
 some_first rs h = some_kind (next_kind rs) (kind_at rs 1) (kind_at rs 2) (kind_at rs 3) h
 
-brace : (rs : List Record) → starts_effect_block rs ≡ true → next_kind (drop (past MOVE_KW (past GEN_KW 1 rs) rs) rs) ≡ L_CURLY
-unfolding starts_effect_block
+brace : (rs : List Record) → is_effect_block rs ≡ true → next_kind (drop (past MOVE_KW (past GEN_KW 1 rs) rs) rs) ≡ L_CURLY
+unfolding is_effect_block
 brace rs h =
     by_test (next_kind (drop 1 rs) == GEN_KW)
     (λ e.
@@ -63,7 +63,7 @@ brace rs h =
     (λ f. rw (e, f) (next_at 1 rs ∙ after_none (next_kind rs) _ (kind_at rs 2) (kind_at rs 3) h k (rw (← (next_at 1 rs)) f))))
 
 -- behind it the brace comes next
-pub brace_next : {s t u v : State} {k : ℕ} {a b : Bool} → starts_effect_block s.rest ≡ true →
+pub brace_next : {s t u v : State} {k : ℕ} {a b : Bool} → is_effect_block s.rest ≡ true →
     Bumped s t k 1 → Ate t u GEN_KW a → Ate u v MOVE_KW b → next v ≡ L_CURLY
 brace_next {s = s} h d e f =
     let n = past_ate s.rest 1 GEN_KW refl d.rest e in

@@ -5,9 +5,9 @@ ghost use Rattle.rap_base.specs.TokenKind.{EOF, L_CURLY, TRY_KW};
 ghost use Rattle.rap_base.specs.NodeKind.{BLOCK_EXPR};
 ghost use Rattle.rap_events.specs.State.{state, next};
 ghost use Rattle.rap_grammar_scripts.specs.Atom as script;
-ghost use Rattle.rap_grammar_scripts.specs.Atom.{starts_effect_block};
+ghost use Rattle.rap_grammar_scripts.specs.Atom.{is_effect_block};
 ghost use Rattle.rap_grammar_scripts.specs.Expressions.{of_expr};
-ghost use Rattle.rap_grammar_scripts.specs.First.{starts_closure};
+ghost use Rattle.rap_grammar_scripts.specs.First.{is_closure};
 ghost use Rattle.rap_grammar_frame.specs.Grew.{Within, Took, Makes};
 ghost use Rattle.rap_grammar_scripts.specs.Knot.{Follows};
 ghost use Rattle.rap_grammar_frame.specs.Room.{atom_room, list_room};
@@ -67,7 +67,7 @@ pub fn effect_expr<G: Grammar>(p: &mut Parser<'_>, g: &G) -> Result<Answer, NoMe
 
 /// Whether a closure comes next.
 fn is_closure(p: &Parser<'_>) -> bool
-    ensures { result ≡ starts_closure (state p.now).rest }
+    ensures { result ≡ is_closure (state p.now).rest }
 {
     matches!(
         p.current(),
@@ -76,9 +76,9 @@ fn is_closure(p: &Parser<'_>) -> bool
 }
 
 /// Whether a block comes next, with what it is before its brace, as `unsafe {}` and `async move {}`.
-#[tactic(auto, unfolding(rap_grammar_scripts::specs::Atom::starts_effect_block))]
+#[tactic(auto, unfolding(rap_grammar_scripts::specs::Atom::is_effect_block))]
 fn is_effect_block(p: &Parser<'_>) -> bool
-    ensures { result ≡ starts_effect_block (state p.now).rest }
+    ensures { result ≡ is_effect_block (state p.now).rest }
 {
     let la = p.nth(1);
     match p.current() {
@@ -96,7 +96,7 @@ fn is_effect_block(p: &Parser<'_>) -> bool
 
 /// What stands before the brace of a block with an effect, as `async move`.
 fn effects(p: &mut Parser<'_>) -> Result<(), NoMemory>
-    requires starts { starts_effect_block (state p.old).rest ≡ true }
+    requires starts { is_effect_block (state p.old).rest ≡ true }
     ensures took { OnOk result (Took (state p.old) (state p.new) list_room) }
     ensures here { OnOk result (next (state p.new) ≡ L_CURLY) }
     ensures script { OnOk result (Follows script.effects something (state p.old) (state p.new)) }
@@ -111,7 +111,7 @@ fn effects(p: &mut Parser<'_>) -> Result<(), NoMemory>
 #[inline(never)]
 fn effect_block<G: Grammar>(p: &mut Parser<'_>, g: &G) -> Result<CompletedMarker, NoMemory>
     requires within { Within G.valid G.left g.now (state p.old) }
-    requires starts { starts_effect_block (state p.old).rest ≡ true }
+    requires starts { is_effect_block (state p.old).rest ≡ true }
     ensures made { IfOk result (Makes BLOCK_EXPR atom_room (state p.old) (state p.new)) }
     ensures script { OnOk result (Follows script.effect_block something (state p.old) (state p.new)) }
 {

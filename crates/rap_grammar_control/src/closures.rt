@@ -5,7 +5,7 @@ ghost use Rattle.rap_base.specs.TokenKind.{FOR_KW, CONST_KW, STATIC_KW, ASYNC_KW
 ghost use Rattle.rap_base.specs.NodeKind.{CLOSURE_EXPR};
 ghost use Rattle.rap_events.specs.State.{state, next};
 ghost use Rattle.rap_grammar_scripts.specs.Control as script;
-ghost use Rattle.rap_grammar_scripts.specs.First.{one_of, starts_closure};
+ghost use Rattle.rap_grammar_scripts.specs.First.{one_of, is_closure};
 ghost use Rattle.rap_grammar_frame.specs.Grew.{Within, Behind, Took, Grew, Makes};
 ghost use Rattle.rap_grammar_scripts.specs.Knot.{Follows};
 ghost use Rattle.rap_grammar_frame.specs.Room.{atom_room, list_room, name_room};
@@ -25,7 +25,7 @@ use rap_grammar_scripts::T;
 #[inline(never)]
 pub fn closure_expr<G: Grammar>(p: &mut Parser<'_>, g: &G) -> Result<CompletedMarker, NoMemory>
     requires within { Within G.valid G.left g.now (state p.old) }
-    requires here { starts_closure (state p.old).rest ≡ true }
+    requires here { is_closure (state p.old).rest ≡ true }
     ensures made { IfOk result (Makes CLOSURE_EXPR atom_room (state p.old) (state p.new)) }
     ensures script { OnOk result (Follows script.closure_expr something (state p.old) (state p.new)) }
 {

@@ -72,7 +72,7 @@ pub fn let_expr<G: Grammar>(
     p.bump(T![let])?;
     pattern(p, g)?;
     p.expect(T![=])?;
-    g.run(p, Rule::Expr { m: None, r, bp: 5 })?;
+    g.run(p, Rule::ExprBp { m: None, r, bp: 5 })?;
     let cm = m.complete(p, SyntaxKind::LET_EXPR)?;
     Ok(cm)
 }

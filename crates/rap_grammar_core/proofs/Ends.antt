@@ -1,6 +1,7 @@
 -- Where a script ends, computed: by which outcomes, with how many open nodes, and whether it leaves older ones alone.
 use Rattle.std.specs.Prelude.{ℕ, zero, suc, Bool, true, false, ◌&&◌, ◌||◌, ◌==◌, List, [], ◌∷◌, if◌then◌else◌}
-use Rattle.rap_grammar_scripts.specs.Phrase.{Phrase, expression, any_type, trait_path, generic_argument, generic_parameters, bound_list, where_part, any_pattern, single_pattern, pattern_of_arm, statement, if_behind_else, any_item, tree_of_use, meta_item, condition, bracketed}
+use Rattle.rap_grammar_scripts.specs.Phrase.{Phrase}
+use Rattle.rap_grammar_scripts.specs.Phrase as phrase
 use Rattle.rap_grammar_scripts.specs.Script.{Script, Outcome, nothing, something, block, again, give, test, ends_with, token, any, bear, report, report_next, skip, start, precede, finish, extend, abandon, split_float, after, rule, loop}
 
 -- an end by an outcome, with so many open nodes; or an older node is finished, or one begins before it
@@ -54,23 +55,23 @@ flagged h = join (join (h true true) (h true false)) (join (h false true) (h fal
 
 -- by which outcomes a rule of the knot ends
 abbrev pub outcomes : Phrase → List Outcome
-outcomes (expression from r bp) = nothing ∷ something ∷ block ∷ []
-outcomes (any_type allow_bounds) = something ∷ []
-outcomes trait_path = something ∷ []
-outcomes generic_argument = something ∷ []
-outcomes generic_parameters = something ∷ []
-outcomes bound_list = something ∷ []
-outcomes where_part = something ∷ []
-outcomes any_pattern = something ∷ []
-outcomes single_pattern = something ∷ []
-outcomes pattern_of_arm = something ∷ []
-outcomes (statement semicolon) = something ∷ []
-outcomes if_behind_else = something ∷ []
-outcomes (any_item stop_on_r_curly is_in_extern) = something ∷ []
-outcomes tree_of_use = something ∷ []
-outcomes meta_item = something ∷ []
-outcomes condition = something ∷ []
-outcomes bracketed = something ∷ []
+outcomes (phrase.expr_bp from r bp) = nothing ∷ something ∷ block ∷ []
+outcomes (phrase.type_with_bounds_cond allow_bounds) = something ∷ []
+outcomes phrase.path_type_bounds = something ∷ []
+outcomes phrase.generic_arg = something ∷ []
+outcomes phrase.generic_param_list = something ∷ []
+outcomes phrase.bounds_without_colon = something ∷ []
+outcomes phrase.where_clause = something ∷ []
+outcomes phrase.pattern = something ∷ []
+outcomes phrase.pattern_single = something ∷ []
+outcomes phrase.arm_pattern = something ∷ []
+outcomes (phrase.stmt semicolon) = something ∷ []
+outcomes phrase.if_expr = something ∷ []
+outcomes (phrase.item_or_macro stop_on_r_curly is_in_extern) = something ∷ []
+outcomes phrase.use_tree = something ∷ []
+outcomes phrase.meta = something ∷ []
+outcomes phrase.cfg_predicate = something ∷ []
+outcomes phrase.token_tree = something ∷ []
 
 abbrev pub all_at : ℕ → List Outcome → List End
 all_at n [] = []
@@ -80,8 +81,8 @@ all_at n (v ∷ vs) = at_end v n ∷ all_at n vs
 -- forest; another may begin a node around what stands in it, so that forest must be one of an open node. An expression
 -- that goes on from a node of its caller's finishes that, and no script comes to it through the knot.
 abbrev pub rule_ends : Phrase → ℕ → List End
-rule_ends (expression true r bp) n = bad ∷ []
-rule_ends (any_item a b) n = all_at n (outcomes (any_item a b))
+rule_ends (phrase.expr_bp true r bp) n = bad ∷ []
+rule_ends (phrase.item_or_macro a b) n = all_at n (outcomes (phrase.item_or_macro a b))
 rule_ends c zero = bad ∷ []
 rule_ends c (suc n) = all_at (suc n) (outcomes c)
 

@@ -10,7 +10,8 @@ use Rattle.rap_events.specs.Forest.{Forest, none, node, leaf, message, ◌⧺◌
 use Rattle.rap_events.specs.Record.{next_kind}
 use Rattle.rap_events.specs.State.{with_kind, but_last, skipped, last_children}
 use Rattle.rap_grammar_scripts.specs.Knot.{script_of}
-use Rattle.rap_grammar_scripts.specs.Phrase.{Phrase, expression, any_item}
+use Rattle.rap_grammar_scripts.specs.Phrase.{Phrase}
+use Rattle.rap_grammar_scripts.specs.Phrase as phrase
 use Rattle.rap_grammar_scripts.specs.Script.{Script, Outcome, nothing, something, block, again, Spot, goes_on, Runs, gives, passes, fails, ends_so, ends_else, takes, takes_any, bears, reports, reports_next, skips, starts, precedes, finishes, extends, abandons, splits_dotted, splits_whole, follows, obeys, turns, stops, newest, last_kind}
 use Rattle.rap_grammar_core.proofs.Ends.{End, bad, at_end, same, same_flag, has, join, gather, settle, flagged, outcomes, all_at, rule_ends, ends, every}
 
@@ -199,12 +200,12 @@ as_said c n v j = is_of v (outcomes c) && (j == n)
 
 -- whether a rule finishes no node of its caller's
 abbrev pub is_apart : Phrase → Bool
-is_apart (expression true r bp) = false
+is_apart (phrase.expr_bp true r bp) = false
 is_apart c = true
 
 -- within how many open nodes a rule must begin
 abbrev pub own : Phrase → ℕ
-own (any_item a b) = 0
+own (phrase.item_or_macro a b) = 0
 own c = 1
 
 -- the rules of the knot end as their table says
@@ -246,17 +247,17 @@ within_one b f h c n s e = record {
 called : Sound → (b : Forest → List Forest → Type 0) (f : Outcome → ℕ → Bool) (h : Outcome → ℕ → List End)
     (c : Phrase) (n : ℕ) →
     every f (gather h (rule_ends c n)) ≡ true → Called b f h c n
-called x b f h (expression true r bp) n e = absurd cc
-called x b f h (any_item i j) n e = record {
+called x b f h (phrase.expr_bp true r bp) n e = absurd cc
+called x b f h (phrase.item_or_macro i j) n e = record {
   within = 0;
   others = n;
   down = λ y fs k. k;
   up = λ y fs k. k;
-  so = x (any_item i j) refl;
+  so = x (phrase.item_or_macro i j) refl;
   on = e;
 }
-called x b f h (expression false r bp) zero e = absurd cc
-called x b f h (expression false r bp) (suc n) e = within_one b f h _ n (x (expression false r bp) refl) e
+called x b f h (phrase.expr_bp false r bp) zero e = absurd cc
+called x b f h (phrase.expr_bp false r bp) (suc n) e = within_one b f h _ n (x (phrase.expr_bp false r bp) refl) e
 called x b f h c zero e = absurd cc
 called x b f h c (suc n) e = within_one b f h c n (x c refl) e
 

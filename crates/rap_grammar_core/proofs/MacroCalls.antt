@@ -12,7 +12,7 @@ use Rattle.rap_grammar_scripts.specs.Items.{opt_item, opt_item_without_modifiers
 use Rattle.rap_grammar_scripts.specs.Modifiers.{modifiers, opt_impl_restriction, qualifiers, safety, opt_abi, auto_or_default, opt_default, modifier, modifier_as}
 use Rattle.rap_grammar_scripts.specs.Paths.{use_path, path, path_segment, segment_name, opt_path_args, path_for_qualifier}
 use Rattle.rap_grammar_scripts.specs.Macros.{macro_call}
-use Rattle.rap_grammar_scripts.specs.TokenTree.{macro_call_after_excl, bracketed_tokens}
+use Rattle.rap_grammar_scripts.specs.TokenTree.{macro_call_after_excl, token_tree}
 use Rattle.rap_grammar_scripts.specs.Balanced.{Balanced, ArePartners, in_brackets}
 use Rattle.rap_grammar_core.specs.MacroCall.{call_tree, IsMacroCall, called}
 use Rattle.rap_base.specs.NodeKind.{PATH, PATH_SEGMENT, NAME_REF, TOKEN_TREE}
@@ -76,7 +76,7 @@ call_way {b = b} {a = a} {c = c} {ks = ks} {l = l} {f = f} {t = t} n e o d i =
     let g = leaf (node none PATH (node none PATH_SEGMENT (node none NAME_REF (leaf none IDENT 1)))) BANG 1 in
     let same : in_brackets a t c ≡ node none TOKEN_TREE (leaf (leaf none L_CURLY 1 ⧺ t) R_CURLY 1) =
     rw (o.kind_is, i.kind_is) refl in
-    let tree = subst (λ (x : Forest). Leads bracketed_tokens (f ∷ b) (a ∷ (ks ++ c ∷ l)) g l (g ⧺ x)) same
+    let tree = subst (λ (x : Forest). Leads token_tree (f ∷ b) (a ∷ (ks ++ c ∷ l)) g l (g ⧺ x)) same
     (balanced_way p d (f ∷ b) g l) in
     follows (call_path_way n e) (passes (rw e.kind_is refl) (follows (takes (rw e.kind_is refl) (passes
     (rw o.kind_is refl)

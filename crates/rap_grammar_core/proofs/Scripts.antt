@@ -55,10 +55,10 @@ unfolding adt.missing_in_list adt.comma_in_braces adt.opt_value adt.mut_restrict
     blocks.error_let_stmt
     builtins.offset_of_fields builtins.offset_of builtins.opt_arg_name builtins.format_arguments builtins.format_args
     builtins.cfg builtins.asm_name builtins.other_builtin builtins.builtin_expr
-    called.expr called.expr_no_struct called.expr_stmt called.type_ called.type_no_bounds called.as_trait
-    called.generic_arg_element called.for_parameters called.pattern called.pattern_single called.inner_meta
+    called.expr called.expr_no_struct called.expr_stmt called.type_ called.type_no_bounds called.path_type_bounds
+    called.generic_arg_element called.generic_param_list called.pattern called.pattern_single called.meta
     called.cfg_predicate_element called.opt_generic_param_list called.bounds called.bounds_without_colon
-    called.opt_where_clause called.arm_pattern called.else_if called.item called.use_tree
+    called.opt_where_clause called.arm_pattern called.else_if called.item_or_macro called.use_tree
     const_args.negative_const const_args.const_path const_args.missing_const const_args.const_arg_expr
     const_args.const_arg
     consts.const_name consts.const_params consts.missing_const_type consts.const_type consts.const_value
@@ -123,7 +123,7 @@ unfolding adt.missing_in_list adt.comma_in_braces adt.opt_value adt.mut_restrict
     records.field_name records.base_without_dots records.named_field records.base_of_record records.marked_field
     records.record_field records.record_fields records.record_expr_field_list
     statements.expr_semicolon statements.expr_stmt_end statements.expr_as_stmt statements.stmt statements.macro_stmts
-    token_tree.tokens_to token_tree.bracketed_tokens token_tree.macro_call_after_excl
+    token_tree.tokens_to token_tree.token_tree token_tree.macro_call_after_excl
     traits.assoc_item traits.assoc_items traits.assoc_item_list traits.expect_assoc_item_list traits.trait_alias
     traits.opt_bounds traits.trait_body traits.trait_ traits.impl_params traits.opt_negative traits.impl_type
     traits.impl_types traits.impl_

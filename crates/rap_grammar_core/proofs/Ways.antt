@@ -11,7 +11,7 @@ use Rattle.rap_events.specs.State.{but_last, last_children}
 use Rattle.rap_grammar_scripts.proofs.ByOperator.{operates}
 use Rattle.rap_grammar_scripts.specs.Atom.{unrestricted, expr, literal, path_expr, tuple_elements, tuple_expr, atom_expr, bracketed_expr, starts_record, plain_block, control_expr}
 use Rattle.rap_grammar_scripts.specs.Attributes.{outer_attrs}
-use Rattle.rap_grammar_scripts.specs.Expressions.{operand_of, right_of, operation, bin_expr, climb, ref_qualifier, ref_expr, prefix_expr, arg_list, call_expr, index_expr, try_expr, calls_method, method_arguments, method_call_expr, field_expr, after_dot, name_after_dot, postfix_dot_expr, is_access, postfix_expr, lhs, expr_from, expr_bp, postfix_turn, prefix_power}
+use Rattle.rap_grammar_scripts.specs.Expressions.{operand_of, right_of, operation, bin_expr, climb, ref_qualifier, ref_expr, prefix_expr, arg_list, call_expr, index_expr, try_expr, is_method_call, method_arguments, method_call_expr, field_expr, after_dot, name_after_dot, postfix_dot_expr, is_access, postfix_expr, lhs, expr_from, expr_bp, postfix_turn, prefix_power}
 use Rattle.rap_grammar_scripts.specs.First.{is_outer_attr_first, is_literal_first, is_path_name_or_index, is_expr_first, one_of, starts_expr_args}
 use Rattle.rap_grammar_scripts.specs.Grammar.{name_ref_mod_path, name_ref_mod_path_or_index, elements, delimited}
 use Rattle.rap_grammar_scripts.specs.Knot.{script_of}
@@ -407,7 +407,7 @@ dot_way r {a = a} {c = c} {rs = rs} e d x y =
 
 -- a field's name or number, where no call follows
 field_way : (r : Restrictions) {b : List Forest} {a c : Record} {m l : List Record} {f t g : Forest} → Single t →
-    a.kind ≡ DOT → is_path_name_or_index c.kind ≡ true → calls_method (c ∷ m) ≡ false →
+    a.kind ≡ DOT → is_path_name_or_index c.kind ≡ true → is_method_call (c ∷ m) ≡ false →
     Follows_on r b m (node f FIELD_EXPR (node (leaf t DOT 1) NAME_REF (leaf none c.kind 1))) l g →
     Follows_on r b (a ∷ c ∷ m) (f ⧺ t) l g
 unfolding postfix_dot_expr after_dot name_after_dot field_expr name_ref_mod_path_or_index
@@ -434,7 +434,7 @@ pub name_field_way : (r : Restrictions) {b : List Forest} {a c : Record} {m l : 
     Single t → a.kind ≡ DOT → c.kind ≡ IDENT → next_kind m ≢ L_PAREN → is_at COLON2 m ≡ false →
     Follows_on r b m (node f FIELD_EXPR (node (leaf t DOT 1) NAME_REF (leaf none IDENT 1))) l g →
     Follows_on r b (a ∷ c ∷ m) (f ⧺ t) l g
-unfolding calls_method
+unfolding is_method_call
 name_field_way r {m = m} h e i p q y =
     let n : (kind_at m 0 == L_PAREN) ≡ false = rw (kind_at_first m) (apart (next_kind m) L_PAREN p) in
     field_way r h e (rw i refl) (rw (i, n, q) refl) (rw i y)
@@ -443,7 +443,7 @@ pub number_field_way : (r : Restrictions) {b : List Forest} {a c : Record} {m l 
     Single t → a.kind ≡ DOT → c.kind ≡ INT_NUMBER →
     Follows_on r b m (node f FIELD_EXPR (node (leaf t DOT 1) NAME_REF (leaf none INT_NUMBER 1))) l g →
     Follows_on r b (a ∷ c ∷ m) (f ⧺ t) l g
-unfolding calls_method
+unfolding is_method_call
 number_field_way r h e i y = field_way r h e (rw i refl) (rw i refl) (rw i y)
 
 -- no generic arguments come next
@@ -456,7 +456,7 @@ pub method_way : (r : Restrictions) {b : List Forest} {a c : Record} {rs m l : L
     Single t → a.kind ≡ DOT → c.kind ≡ IDENT → next_kind rs ≡ L_PAREN →
     Leads arg_list (f ∷ b) rs (node (leaf t DOT 1) NAME_REF (leaf none IDENT 1)) m x →
     Follows_on r b m (node f METHOD_CALL_EXPR x) l g → Follows_on r b (a ∷ c ∷ rs) (f ⧺ t) l g
-unfolding postfix_dot_expr after_dot name_after_dot method_call_expr method_arguments calls_method
+unfolding postfix_dot_expr after_dot name_after_dot method_call_expr method_arguments is_method_call
 method_way r {rs = rs} {f = f} h e n p x y =
     let there : (kind_at rs 0 == L_PAREN) ≡ true = rw (kind_at_first rs, p) refl in
     let colons : is_at COLON2 rs ≡ false = not_first COLON (COLON ∷ []) rs (rw p refl) in

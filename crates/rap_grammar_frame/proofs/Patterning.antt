@@ -10,7 +10,7 @@ use Rattle.rap_events.specs.State.{State, next, Ate, Recovered}
 use Rattle.rap_grammar_frame.specs.Grew.{Took}
 use Rattle.rap_events.proofs.Truth.{and_right}
 use Rattle.rap_grammar_scripts.specs.First.{is_pat_top_first}
-use Rattle.rap_grammar_scripts.specs.Patterns.{starts_field, ends_search, starts_rest_pat, tuple_element}
+use Rattle.rap_grammar_scripts.specs.Patterns.{at_field, ends_search, is_rest_pat, tuple_element}
 use Rattle.rap_grammar_scripts.specs.Recovery.{stops_pattern, stops_of}
 use Rattle.rap_grammar_scripts.specs.Script.{Outcome, Spot, test, passes, fails}
 use Rattle.rap_grammar_frame.specs.Room.{atom_pattern_room}
@@ -106,7 +106,7 @@ next_is_second (r ∷ s ∷ rs) = refl
 
 -- behind a field's name its separator comes next
 pub separator_next : (separator : ℕ) (rs : List Record) {qs : List Record} →
-    starts_field separator rs ≡ true → qs ≡ drop 1 rs → (next_kind qs == separator) ≡ true
+    at_field separator rs ≡ true → qs ≡ drop 1 rs → (next_kind qs == separator) ≡ true
 separator_next separator rs h e =
     ap (λ (k : ℕ). k == separator) (ap next_kind e ∙ next_is_second rs) ∙ and_right _ _ h
 
@@ -124,7 +124,7 @@ same_flag true = refl
 same_flag false = refl
 
 -- an element of a tuple of patterns, which a `..` makes one too
-pub by_rest_pat : {tuple b : Bool} {p q : Spot} {v : Outcome} → b ≡ starts_rest_pat p.rest →
-    On (tuple_element (tuple || b)) p q v → On (test starts_rest_pat (tuple_element true) (tuple_element tuple)) p q v
+pub by_rest_pat : {tuple b : Bool} {p q : Spot} {v : Outcome} → b ≡ is_rest_pat p.rest →
+    On (tuple_element (tuple || b)) p q v → On (test is_rest_pat (tuple_element true) (tuple_element tuple)) p q v
 by_rest_pat {tuple = tuple} {b = true} e d = passes (sym e) (rw (no_more tuple) at d)
 by_rest_pat {tuple = tuple} {b = false} e d = fails (sym e) (rw (same_flag tuple) at d)

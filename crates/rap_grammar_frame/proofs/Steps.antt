@@ -13,10 +13,11 @@ use Rattle.rap_events.specs.LastToken.{last_after, last_below, last_taken}
 use Rattle.rap_events.specs.Machine.{Stack, floor, push}
 use Rattle.rap_events.specs.State.{State, next, Opened, IsLast, Completed, Abandoned, Preceded, Extended, Bumped, Reported, SplitFloat, Ate, AteAs, Expected, Skipped, Recovered, but_last, last_children, expected, with_kind}
 use Rattle.rap_events.specs.declared.parser.CompletedMarker.{CompletedMarker}
-use Rattle.rap_grammar_scripts.specs.First.{is_path_name, starts_path}
+use Rattle.rap_grammar_scripts.specs.First.{is_path_name, is_path_start}
 use Rattle.rap_grammar_scripts.specs.Knot.{script_of, Follows}
 use Rattle.rap_grammar_scripts.specs.Expressions.{expr_bp, of_like}
-use Rattle.rap_grammar_scripts.specs.Phrase.{Phrase, expression}
+use Rattle.rap_grammar_scripts.specs.Phrase.{Phrase}
+use Rattle.rap_grammar_scripts.specs.Phrase as phrase
 use Rattle.rap_grammar_scripts.specs.declared.arguments.BlockLike.{BlockLike}
 use Rattle.rap_grammar_scripts.specs.declared.arguments.BlockLike.TheVariants as like
 use Rattle.rap_grammar_scripts.specs.declared.arguments.Restrictions.{Restrictions}
@@ -154,7 +155,7 @@ pub clash : {b : Bool} → b ≡ true → b ≡ false → ⊥
 clash e f = let x : true ≡ false = sym e ∙ f in cc
 
 -- an expression through the knot
-pub by_expression : {from : Bool} {r : Restrictions} {bp : ℕ} {s t : State} {n : Outcome → Script Phrase} {q : Spot} {w v : Outcome} → Follows (expr_bp from r bp) w s t → On (n w) (spot t) q v → On (rule (expression from r bp) n) (spot s) q v
+pub by_expression : {from : Bool} {r : Restrictions} {bp : ℕ} {s t : State} {n : Outcome → Script Phrase} {q : Spot} {w v : Outcome} → Follows (expr_bp from r bp) w s t → On (n w) (spot t) q v → On (rule (phrase.expr_bp from r bp) n) (spot s) q v
 unfolding script_of
 by_expression h d = obeys h.run d
 
@@ -195,7 +196,7 @@ pub lacking_expected : {s t : State} {k : ℕ} {b : Bool} {n m : Script Phrase} 
 lacking_expected a e d = fails (sym a.decided ∙ e) (by_report (a.not_token e) d)
 
 -- an expression, whether it reads like a block or not
-pub some_expr : (e : BlockLike) {r : Restrictions} {bp : ℕ} {s t : State} → Follows (expr_bp false r bp) (of_like e) s t → On (rule (expression false r bp) (λ v. if_some v done (give nothing))) (spot s) (spot t) something
+pub some_expr : (e : BlockLike) {r : Restrictions} {bp : ℕ} {s t : State} → Follows (expr_bp false r bp) (of_like e) s t → On (rule (phrase.expr_bp false r bp) (λ v. if_some v done (give nothing))) (spot s) (spot t) something
 some_expr like.Block h = by_expression h gives
 some_expr like.NotBlock h = by_expression h gives
 
@@ -209,7 +210,7 @@ first_of {a = true} e h = refl
 first_of {a = false} e h = absurd (clash h e)
 
 -- where a path begins with no `<` and no `::` was taken, a name comes next
-pub name_left : {s t : State} {b : Bool} → Ate s t COLON2 b → b ≡ false → (next s == L_ANGLE) ≡ false → starts_path s.rest ≡ true → is_path_name (next t) ≡ true
+pub name_left : {s t : State} {b : Bool} → Ate s t COLON2 b → b ≡ false → (next s == L_ANGLE) ≡ false → is_path_start s.rest ≡ true → is_path_name (next t) ≡ true
 name_left {s = s} {t = t} a e l h =
     let n : is_at COLON2 s.rest ≡ false = sym a.decided ∙ e in
     let p : is_path_name (next s) ≡ true = first_of n (first_of l h) in

@@ -10,7 +10,7 @@ use Rattle.rap_events.specs.Fit.{Fit, Opens, begin, token, tree, partner}
 use Rattle.rap_events.specs.Forest.{Forest, none, node, leaf}
 use Rattle.rap_events.specs.State.{State, next, Opened, Bumped, Expected}
 use Rattle.rap_grammar_scripts.specs.First.{one_of, is_bracket}
-use Rattle.rap_grammar_scripts.specs.TokenTree.{tokens_turn, tokens_in, tokens_to, bracketed_tokens}
+use Rattle.rap_grammar_scripts.specs.TokenTree.{tokens_turn, tokens_in, tokens_to, token_tree}
 use Rattle.rap_grammar_scripts.specs.Script.{Outcome, something, Spot, spot, gives, passes, fails}
 use Rattle.rap_grammar_scripts.proofs.Balance.{one_wide, by_partner}
 use Rattle.rap_grammar_frame.proofs.Steps.{On, Turns, last_turn}
@@ -57,7 +57,7 @@ closed {k = k} {ket = ket} {s = s} e i h z = record {
 
 -- the script, by the bracket that comes next
 pub by_bracket : {ket : ℕ} {p q : Spot} {v : Outcome} → ket ≡ partner (next_kind p.rest) → On (tokens_in ket) p q v →
-    On bracketed_tokens p q v
+    On token_tree p q v
 by_bracket e d = by_partner (rw (← e) d)
 
 at_end : (ket : ℕ) (p : Spot) (b : Bool) → is_at EOF p.rest ≡ b → (b ≡ false → is_at ket p.rest ≡ true) →

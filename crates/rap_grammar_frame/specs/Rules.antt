@@ -10,7 +10,7 @@ use Rattle.rap_grammar_scripts.specs.Attributes.{inner_attrs, meta, cfg_predicat
 use Rattle.rap_grammar_frame.specs.Climb.{Climbed}
 use Rattle.rap_grammar_scripts.specs.Control.{if_expr}
 use Rattle.rap_grammar_scripts.specs.Expressions.{expr_bp, of_expr}
-use Rattle.rap_grammar_scripts.specs.First.{is_type_first, is_generic_arg_first, is_cfg_predicate_first, starts_use_path}
+use Rattle.rap_grammar_scripts.specs.First.{is_type_first, is_generic_arg_first, is_cfg_predicate_first, is_use_path_start}
 use Rattle.rap_grammar_scripts.specs.GenericArgs.{generic_arg}
 use Rattle.rap_grammar_scripts.specs.GenericParams.{generic_param_list, bounds_without_colon, where_clause}
 use Rattle.rap_grammar_frame.specs.Grew.{Grew, Took, Spent, Made, Closed, Closes, Dropped}
@@ -22,7 +22,7 @@ use Rattle.rap_grammar_frame.specs.Room.{expression_room, atom_room, statement_r
 use Rattle.rap_grammar_scripts.specs.Script.{something}
 use Rattle.rap_grammar_scripts.specs.Statements.{stmt}
 use Rattle.rap_grammar_scripts.specs.Types.{type_with_bounds_cond, path_type_bounds}
-use Rattle.rap_grammar_scripts.specs.UseItem.{starts_use_tree, use_tree}
+use Rattle.rap_grammar_scripts.specs.UseItem.{is_use_tree_start, use_tree}
 use Rattle.rap_grammar_scripts.specs.declared.arguments.BlockLike.{BlockLike}
 use Rattle.rap_grammar_frame.specs.declared.knot.Rule.{Rule}
 use Rattle.rap_grammar_frame.specs.declared.knot.Rule.TheVariants as rule
@@ -108,39 +108,39 @@ pub record IsItem (stop_on_r_curly : Bool) (old new : State) : Type 0 where
 
 -- what each rule requires
 abbrev pub Pre : Rule → State → Type 0
-Pre (rule.Expr m r bp) s = IsNewest s m × (1 ≤ bp)
-Pre (rule.Ty allow_bounds) s = Unit {0}
-Pre rule.TraitPath s = starts_use_path s.rest ≡ true
+Pre (rule.ExprBp m r bp) s = IsNewest s m × (1 ≤ bp)
+Pre (rule.TypeWithBoundsCond allow_bounds) s = Unit {0}
+Pre rule.PathTypeBounds s = is_use_path_start s.rest ≡ true
 Pre rule.GenericArg s = is_generic_arg_first (next s) ≡ true
 Pre rule.GenericParamList s = next s ≡ L_ANGLE
-Pre rule.Bounds s = Unit {0}
+Pre rule.BoundsWithoutColon s = Unit {0}
 Pre rule.WhereClause s = next s ≡ WHERE_KW
 Pre rule.Pattern s = Unit {0}
 Pre rule.PatternSingle s = Unit {0}
 Pre rule.ArmPattern s = Unit {0}
 Pre (rule.Stmt semicolon) s = Unit {0}
 Pre rule.IfExpr s = next s ≡ IF_KW
-Pre (rule.Item stop_on_r_curly is_in_extern) s = Unit {0}
+Pre (rule.ItemOrMacro stop_on_r_curly is_in_extern) s = Unit {0}
 Pre rule.InnerAttrs s = Unit {0}
-Pre rule.UseTree s = starts_use_tree s.rest ≡ true
+Pre rule.UseTree s = is_use_tree_start s.rest ≡ true
 Pre rule.Meta s = Unit {0}
 Pre rule.CfgPredicate s = Unit {0}
 
 -- what each rule ensures
 abbrev pub Post : Rule → State → State → Option (CompletedMarker × BlockLike) → Type 0
-Post (rule.Expr m r bp) old new e = Answered old new m r.prefer_stmt bp e × Follows (expr_bp (is_some m) r bp) (of_expr e) old new
-Post (rule.Ty allow_bounds) old new e = IsType old new × Follows (type_with_bounds_cond allow_bounds) something old new
-Post rule.TraitPath old new e = Took old new type_room × Follows (path_type_bounds true) something old new
+Post (rule.ExprBp m r bp) old new e = Answered old new m r.prefer_stmt bp e × Follows (expr_bp (is_some m) r bp) (of_expr e) old new
+Post (rule.TypeWithBoundsCond allow_bounds) old new e = IsType old new × Follows (type_with_bounds_cond allow_bounds) something old new
+Post rule.PathTypeBounds old new e = Took old new type_room × Follows (path_type_bounds true) something old new
 Post rule.GenericArg old new e = Took old new element_room × Follows generic_arg something old new
 Post rule.GenericParamList old new e = Took old new list_room × Follows generic_param_list something old new
-Post rule.Bounds old new e = Grew old new 16 × Follows bounds_without_colon something old new
+Post rule.BoundsWithoutColon old new e = Grew old new 16 × Follows bounds_without_colon something old new
 Post rule.WhereClause old new e = Took old new list_room × Follows where_clause something old new
 Post rule.Pattern old new e = IsPattern old new × Follows (pattern_r false) something old new
 Post rule.PatternSingle old new e = IsSinglePattern old new × Follows (pattern_single_r false) something old new
 Post rule.ArmPattern old new e = IsArmPattern old new × Follows (pattern_r true) something old new
 Post (rule.Stmt semicolon) old new e = IsStatement old new × Follows (stmt semicolon) something old new
 Post rule.IfExpr old new e = Took old new atom_room × Follows if_expr something old new
-Post (rule.Item stop_on_r_curly is_in_extern) old new e = IsItem stop_on_r_curly old new × Follows (item_or_macro stop_on_r_curly is_in_extern) something old new
+Post (rule.ItemOrMacro stop_on_r_curly is_in_extern) old new e = IsItem stop_on_r_curly old new × Follows (item_or_macro stop_on_r_curly is_in_extern) something old new
 Post rule.InnerAttrs old new e = Grew old new 0 × Follows inner_attrs something old new
 Post rule.UseTree old new e = Took old new list_room × Follows use_tree something old new
 Post rule.Meta old new e = Grew old new 16 × Follows meta something old new

@@ -67,7 +67,7 @@ pub fn expr<G: Grammar>(p: &mut Parser<'_>, g: &G) -> Result<Option<CompletedMar
         forbid_structs: false,
         prefer_stmt: false,
     };
-    match g.run(p, Rule::Expr { m: None, r, bp: 1 })? {
+    match g.run(p, Rule::ExprBp { m: None, r, bp: 1 })? {
         Some((cm, _)) => Ok(Some(cm)),
         None => Ok(None),
     }
@@ -83,7 +83,7 @@ pub fn expr_no_struct<G: Grammar>(p: &mut Parser<'_>, g: &G) -> Result<(), NoMem
         forbid_structs: true,
         prefer_stmt: false,
     };
-    g.run(p, Rule::Expr { m: None, r, bp: 1 })?;
+    g.run(p, Rule::ExprBp { m: None, r, bp: 1 })?;
     Ok(())
 }
 
@@ -97,7 +97,7 @@ pub fn expr_stmt<G: Grammar>(p: &mut Parser<'_>, g: &G) -> Result<Answer, NoMemo
         forbid_structs: false,
         prefer_stmt: true,
     };
-    let expr = g.run(p, Rule::Expr { m: None, r, bp: 1 })?;
+    let expr = g.run(p, Rule::ExprBp { m: None, r, bp: 1 })?;
     Ok(expr)
 }
 
@@ -122,7 +122,7 @@ pub fn bounds<G: Grammar>(p: &mut Parser<'_>, g: &G) -> Result<(), NoMemory>
     ensures script { OnOk result (Follows called.bounds something (state p.old) (state p.new)) }
 {
     p.bump(T![:])?;
-    g.run(p, Rule::Bounds)?;
+    g.run(p, Rule::BoundsWithoutColon)?;
     Ok(())
 }
 
@@ -132,7 +132,7 @@ pub fn bounds_without_colon<G: Grammar>(p: &mut Parser<'_>, g: &G) -> Result<(),
     ensures grew { OnOk result (Grew (state p.old) (state p.new) 16) }
     ensures script { OnOk result (Follows called.bounds_without_colon something (state p.old) (state p.new)) }
 {
-    g.run(p, Rule::Bounds)?;
+    g.run(p, Rule::BoundsWithoutColon)?;
     Ok(())
 }
 
@@ -196,7 +196,7 @@ pub fn type_<G: Grammar>(p: &mut Parser<'_>, g: &G) -> Result<(), NoMemory>
     ensures reads { OnOk result (IsType (state p.old) (state p.new)) }
     ensures script { OnOk result (Follows called.type_ something (state p.old) (state p.new)) }
 {
-    g.run(p, Rule::Ty { allow_bounds: true })?;
+    g.run(p, Rule::TypeWithBoundsCond { allow_bounds: true })?;
     Ok(())
 }
 
@@ -208,7 +208,7 @@ pub fn type_no_bounds<G: Grammar>(p: &mut Parser<'_>, g: &G) -> Result<(), NoMem
 {
     g.run(
         p,
-        Rule::Ty {
+        Rule::TypeWithBoundsCond {
             allow_bounds: false,
         },
     )?;

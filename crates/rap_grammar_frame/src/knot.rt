@@ -35,21 +35,21 @@ pub trait Grammar {
 #[derive(Drop)]
 pub enum Rule {
     /// An expression of at least the power `bp`, from the marker on if there is one.
-    Expr {
+    ExprBp {
         m: Option<Marker>,
         r: Restrictions,
         bp: u8,
     },
     /// A type, with bounds after it where they are allowed.
-    Ty {
+    TypeWithBoundsCond {
         allow_bounds: bool,
     },
     /// A path as a type, and bounds after it.
-    TraitPath,
+    PathTypeBounds,
     GenericArg,
     GenericParamList,
     /// The bounds of a type, without the colon before them.
-    Bounds,
+    BoundsWithoutColon,
     WhereClause,
     /// A pattern, with its alternatives.
     Pattern,
@@ -63,7 +63,7 @@ pub enum Rule {
     /// An `if`, as it stands behind an `else`.
     IfExpr,
     /// An item, or a macro call in its place.
-    Item {
+    ItemOrMacro {
         stop_on_r_curly: bool,
         is_in_extern: bool,
     },

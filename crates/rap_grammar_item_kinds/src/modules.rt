@@ -72,7 +72,7 @@ fn items<G: Grammar>(p: &mut Parser<'_>, g: &G, stop_on_r_curly: bool) -> Result
     'items: while !p.at(SyntaxKind::EOF) && !ends_items(p, stop_on_r_curly) {
         g.run(
             p,
-            Rule::Item {
+            Rule::ItemOrMacro {
                 stop_on_r_curly,
                 is_in_extern,
             },

@@ -111,7 +111,7 @@ fn impl_params<G: Grammar>(p: &mut Parser<'_>, g: &G) -> Result<(), NoMemory>
 
 /// Whether an implementation has parameters.
 fn is_impl_params_start(p: &Parser<'_>) -> bool
-    ensures { result ≡ script.starts_impl_params (state p.now).rest }
+    ensures { result ≡ script.is_impl_params_start (state p.now).rest }
 {
     p.at(T![<]) && not_a_qualified_path(p)
 }
@@ -139,7 +139,7 @@ fn opt_negative(p: &mut Parser<'_>) -> Result<(), NoMemory>
 
 /// Whether a `!` comes next that is no type: the braces do not follow.
 fn is_negative_start(p: &Parser<'_>) -> bool
-    ensures starts { result ≡ script.starts_negative (state p.now).rest }
+    ensures starts { result ≡ script.is_negative_start (state p.now).rest }
     ensures here { result ≡ true → next (state p.now) ≡ BANG }
 {
     p.at(T![!]) && !p.nth_at(1, T!['{'])
@@ -229,7 +229,7 @@ fn assoc_item<G: Grammar>(p: &mut Parser<'_>, g: &G) -> Result<(), NoMemory>
     }
     g.run(
         p,
-        Rule::Item {
+        Rule::ItemOrMacro {
             stop_on_r_curly: true,
             is_in_extern: false,
         },

@@ -11,7 +11,7 @@ ghost use Rattle.rap_grammar_scripts.specs.Knot.{Follows};
 ghost use Rattle.rap_grammar_frame.specs.Room.{item_room, list_room, recovery_events, use_list_room};
 ghost use Rattle.rap_grammar_scripts.specs.Script.{something};
 ghost use Rattle.rap_grammar_scripts.specs.UseItem as script;
-ghost use Rattle.rap_grammar_scripts.specs.UseItem.{is_group_first, starts_global_group, starts_use_tree};
+ghost use Rattle.rap_grammar_scripts.specs.UseItem.{is_group_first, is_global_group_start, is_use_tree_start};
 
 use rap_base::no_memory::NoMemory;
 use rap_base::syntax_kind::SyntaxKind;
@@ -61,7 +61,7 @@ fn expect_use_tree<G: Grammar>(p: &mut Parser<'_>, g: &G) -> Result<(), NoMemory
 
 /// Whether a tree of names comes next.
 fn is_use_tree_start(p: &Parser<'_>) -> bool
-    ensures { result ≡ starts_use_tree (state p.now).rest }
+    ensures { result ≡ is_use_tree_start (state p.now).rest }
 {
     is_group_first(p.current()) || is_use_path_start(p)
 }
@@ -75,7 +75,7 @@ fn is_group_first(kind: SyntaxKind) -> bool
 
 /// Whether a star, or a list in its braces, comes next behind `::`.
 fn is_global_group_start(p: &Parser<'_>) -> bool
-    ensures starts { result ≡ starts_global_group (state p.now).rest }
+    ensures starts { result ≡ is_global_group_start (state p.now).rest }
     ensures here { result ≡ true → is_at COLON2 (state p.now).rest ≡ true }
 {
     p.at(T![::]) && is_group_first(p.nth(2))
@@ -84,7 +84,7 @@ fn is_global_group_start(p: &Parser<'_>) -> bool
 /// A tree of names, as `a::{b, c as d}`, of which one begins.
 pub fn use_tree<G: Grammar>(p: &mut Parser<'_>, g: &G) -> Result<(), NoMemory>
     requires within { Within G.valid G.left g.now (state p.old) }
-    requires here { starts_use_tree (state p.old).rest ≡ true }
+    requires here { is_use_tree_start (state p.old).rest ≡ true }
     ensures took { OnOk result (Took (state p.old) (state p.new) list_room) }
     ensures script { OnOk result (Follows script.use_tree something (state p.old) (state p.new)) }
 {

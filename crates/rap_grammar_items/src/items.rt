@@ -3,7 +3,7 @@ ghost use Rattle.std.specs.Prelude.{◌≡◌, ◌≢◌, ◌<◌, ◌≤◌, If
 ghost use Rattle.rap_base.specs.TokenKind.{EOF, L_CURLY, R_CURLY, BANG, POUND, CRATE_KW, EXTERN_KW, MOD_KW, TYPE_KW, CONST_KW, STATIC_KW, IDENT, UNION_KW, MACRO_RULES_KW, BUILTIN_KW, GLOBAL_ASM_KW};
 ghost use Rattle.rap_events.specs.Record.{contextual_at};
 ghost use Rattle.rap_events.specs.State.{state, next, ReadsAs, NthAt};
-ghost use Rattle.rap_grammar_scripts.specs.First.{starts_use_path, one_of};
+ghost use Rattle.rap_grammar_scripts.specs.First.{is_use_path_start, one_of};
 ghost use Rattle.rap_grammar_frame.specs.Grew.{Within, Behind, Took, Grew, Ended};
 ghost use Rattle.rap_grammar_scripts.specs.Items as script;
 ghost use Rattle.rap_grammar_item_kinds.specs.ItemEnds.{of_marker, Handed, Refused, Modified, EndsItem, SkipsItem};
@@ -423,7 +423,7 @@ fn macro_or_error<G: Grammar>(
 fn path_item<G: Grammar>(p: &mut Parser<'_>, g: &G, m: Marker) -> Result<(), NoMemory>
     requires within { Within G.valid G.left g.now (state p.old) }
     requires newest { (state p.old).marker ≡ Some m.pos.value }
-    requires path { starts_use_path (state p.old).rest ≡ true }
+    requires path { is_use_path_start (state p.old).rest ≡ true }
     ensures ended { OnOk result (Ended (state p.old) (state p.new) item_room) }
     ensures script { OnOk result (Follows script.path_item something (state p.old) (state p.new)) }
 {

@@ -6,7 +6,7 @@ ghost use Rattle.rap_base.specs.NodeKind.{CALL_EXPR, INDEX_EXPR, METHOD_CALL_EXP
 ghost use Rattle.rap_events.specs.Fit.{is_plain};
 ghost use Rattle.rap_events.specs.State.{state, IsLast, but_last, next};
 ghost use Rattle.rap_grammar_scripts.specs.Expressions as script;
-ghost use Rattle.rap_grammar_scripts.specs.Expressions.{of_like, is_block, calls_method};
+ghost use Rattle.rap_grammar_scripts.specs.Expressions.{of_like, is_block, is_method_call};
 ghost use Rattle.rap_grammar_frame.specs.Grew.{Within, Grew, Wraps, Behind, Closes, Took};
 ghost use Rattle.rap_grammar_scripts.specs.Knot.{Follows};
 ghost use Rattle.rap_grammar_frame.specs.Room.{operand_room, arguments_room, recovery_events};
@@ -136,9 +136,9 @@ fn name_after_dot<G: Grammar>(
 }
 
 /// Whether what stands behind a dot is called: a name before `(` or `::`, or a `(` without a name.
-#[tactic(auto, unfolding(rap_grammar_scripts::specs::Expressions::calls_method))]
+#[tactic(auto, unfolding(rap_grammar_scripts::specs::Expressions::is_method_call))]
 fn is_method_call(p: &Parser<'_>) -> bool
-    ensures { result ≡ calls_method (state p.now).rest }
+    ensures { result ≡ is_method_call (state p.now).rest }
 {
     if p.current() == T!['('] {
         return true;

@@ -6,7 +6,7 @@ ghost use Rattle.rap_base.specs.TokenKind.{EOF};
 ghost use Rattle.rap_events.specs.State.{state, IsLast, At, last_children};
 ghost use Rattle.rap_events.specs.Power.{power, open_ended};
 ghost use Rattle.rap_grammar_scripts.specs.Expressions as script;
-ghost use Rattle.rap_grammar_scripts.specs.Expressions.{has_end};
+ghost use Rattle.rap_grammar_scripts.specs.Expressions.{has_range_end};
 ghost use Rattle.rap_grammar_frame.specs.Grew.{Within, Wraps, Makes};
 ghost use Rattle.rap_grammar_scripts.specs.Knot.{Follows};
 ghost use Rattle.rap_grammar_frame.specs.Room.{operand_room};
@@ -24,7 +24,7 @@ use rap_grammar_scripts::arguments::Restrictions;
 /// Whether the dots of a range have an end after them: not in `(1..).max()`, nor before the block of `for i in 1.. {}`.
 #[tactic(auto, unfolding(rap_grammar_scripts::specs::Expressions::has_end))]
 fn has_range_end(p: &Parser<'_>, r: Restrictions) -> bool
-    ensures { result ≡ has_end r.forbid_structs (state p.now).rest }
+    ensures { result ≡ has_range_end r.forbid_structs (state p.now).rest }
 {
     let has_access_after = p.current() == T![.] && p.nth(1) == T![ident];
     let struct_forbidden = r.forbid_structs && p.current() == T!['{'];
@@ -59,7 +59,7 @@ pub fn range_expr<G: Grammar>(
         prefer_stmt: false,
         ..r
     };
-    g.run(p, Rule::Expr { m: None, r, bp: 3 })?;
+    g.run(p, Rule::ExprBp { m: None, r, bp: 3 })?;
     let cm = m.complete(p, SyntaxKind::RANGE_EXPR)?;
     Ok((cm, true))
 }
@@ -82,7 +82,7 @@ pub fn prefix_range<G: Grammar>(
     let m = p.start()?;
     p.bump(op)?;
     if has_range_end(p, r) {
-        g.run(p, Rule::Expr { m: None, r, bp: 2 })?;
+        g.run(p, Rule::ExprBp { m: None, r, bp: 2 })?;
     }
     let cm = m.complete(p, SyntaxKind::RANGE_EXPR)?;
     Ok(cm)

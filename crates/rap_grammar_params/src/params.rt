@@ -332,7 +332,7 @@ fn opt_self_param<G: Grammar>(p: &mut Parser<'_>, g: &G) -> Result<bool, NoMemor
 /// Whether after `n` tokens comes a `self` with which no path begins.
 fn is_isolated_self(p: &Parser<'_>, n: usize) -> bool
     requires { n < 4 }
-    ensures { result ≡ script.isolated_self n (state p.now).rest }
+    ensures { result ≡ script.is_isolated_self n (state p.now).rest }
 {
     p.nth_at(n, T![self]) && !p.nth_at(n + 1, T![::])
 }

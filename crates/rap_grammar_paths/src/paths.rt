@@ -6,7 +6,7 @@ ghost use Rattle.rap_base.specs.TokenSet.{member};
 ghost use Rattle.rap_events.specs.State.{state, IsLast, but_last, next};
 ghost use Rattle.rap_events.specs.Composite.{is_at};
 ghost use Rattle.rap_grammar_scripts.specs.Atom as atom_script;
-ghost use Rattle.rap_grammar_scripts.specs.First.{starts_path, is_path_name};
+ghost use Rattle.rap_grammar_scripts.specs.First.{is_path_start, is_path_name};
 ghost use Rattle.rap_grammar_frame.specs.Grew.{Within, Grew, Took, Behind, Spent, Closes, Dropped, Ended, Makes};
 ghost use Rattle.rap_grammar_scripts.specs.Knot.{Follows};
 ghost use Rattle.rap_grammar_scripts.specs.Paths as paths_script;
@@ -33,7 +33,7 @@ use rap_grammar_scripts::arguments::Mode;
 pub fn use_path<G: Grammar>(p: &mut Parser<'_>, g: &G) -> Result<(), NoMemory>
     requires within { Within G.valid G.left g.now (state p.old) }
     ensures grew { OnOk result (Grew (state p.old) (state p.new) 8) }
-    ensures took { OnOk result (starts_path (state p.old).rest ≡ true → Took (state p.old) (state p.new) path_room) }
+    ensures took { OnOk result (is_path_start (state p.old).rest ≡ true → Took (state p.old) (state p.new) path_room) }
     ensures script { OnOk result (Follows paths_script.use_path something (state p.old) (state p.new)) }
 {
     path(p, g, Mode::Use)?;
@@ -54,7 +54,7 @@ pub fn vis_path<G: Grammar>(p: &mut Parser<'_>, g: &G) -> Result<(), NoMemory>
 pub fn attr_path<G: Grammar>(p: &mut Parser<'_>, g: &G) -> Result<(), NoMemory>
     requires within { Within G.valid G.left g.now (state p.old) }
     ensures grew { OnOk result (Grew (state p.old) (state p.new) 8) }
-    ensures took { OnOk result (starts_path (state p.old).rest ≡ true → Took (state p.old) (state p.new) path_room) }
+    ensures took { OnOk result (is_path_start (state p.old).rest ≡ true → Took (state p.old) (state p.new) path_room) }
     ensures script { OnOk result (Follows paths_script.attr_path something (state p.old) (state p.new)) }
 {
     path(p, g, Mode::Attr)?;
@@ -64,7 +64,7 @@ pub fn attr_path<G: Grammar>(p: &mut Parser<'_>, g: &G) -> Result<(), NoMemory>
 /// A path in a type, as `a::b<c>`.
 pub fn type_path<G: Grammar>(p: &mut Parser<'_>, g: &G) -> Result<(), NoMemory>
     requires within { Within G.valid G.left g.now (state p.old) }
-    requires path { starts_path (state p.old).rest ≡ true }
+    requires path { is_path_start (state p.old).rest ≡ true }
     ensures took { OnOk result (Took (state p.old) (state p.new) path_room) }
     ensures script { OnOk result (Follows paths_script.type_path something (state p.old) (state p.new)) }
 {
@@ -85,7 +85,7 @@ pub fn sym_path<G: Grammar>(p: &mut Parser<'_>, g: &G) -> Result<(), NoMemory>
 /// A path in an expression, as `a::b::<c>` and `::a`.
 pub fn expr_path<G: Grammar>(p: &mut Parser<'_>, g: &G) -> Result<(), NoMemory>
     requires within { Within G.valid G.left g.now (state p.old) }
-    requires path { starts_path (state p.old).rest ≡ true }
+    requires path { is_path_start (state p.old).rest ≡ true }
     ensures took { OnOk result (Took (state p.old) (state p.new) path_room) }
     ensures script { OnOk result (Follows paths_script.expr_path something (state p.old) (state p.new)) }
 {
@@ -118,7 +118,7 @@ fn path<G: Grammar>(
 ) -> Result<Option<CompletedMarker>, NoMemory>
     requires within { Within G.valid G.left g.now (state p.old) }
     ensures grew { OnOk result (Grew (state p.old) (state p.new) 8) }
-    ensures took { OnOk result (starts_path (state p.old).rest ≡ true → Took (state p.old) (state p.new) path_room) }
+    ensures took { OnOk result (is_path_start (state p.old).rest ≡ true → Took (state p.old) (state p.new) path_room) }
     ensures some { IfOk result (λ o. IfSome o (λ cm. IsLast (state p.new) cm PATH × (but_last (state p.new).forest ≡ (state p.old).forest))) }
     ensures script { IfOk result (λ o. Follows (paths_script.path mode) (of_option o) (state p.old) (state p.new)) }
 {
@@ -177,7 +177,7 @@ fn path_segment<G: Grammar>(
     requires within { Within G.valid G.left g.now (state p.old) }
     ensures grew { OnOk result (Grew (state p.old) (state p.new) 6) }
     ensures some { IfOk result (λ o. IfSome o (λ cm. IsLast (state p.new) cm PATH_SEGMENT × (but_last (state p.new).forest ≡ (state p.old).forest))) }
-    ensures took { OnOk result (first ≡ true → starts_path (state p.old).rest ≡ true → Took (state p.old) (state p.new) segment_room) }
+    ensures took { OnOk result (first ≡ true → is_path_start (state p.old).rest ≡ true → Took (state p.old) (state p.new) segment_room) }
     ensures script { IfOk result (λ o. Follows (paths_script.path_segment mode first) (of_option o) (state p.old) (state p.new)) }
 {
     let m = p.start()?;
@@ -227,7 +227,7 @@ fn anchor_trait<G: Grammar>(p: &mut Parser<'_>, g: &G) -> Result<(), NoMemory>
         return Ok(());
     }
     if is_use_path_start(p) {
-        g.run(p, Rule::TraitPath)?;
+        g.run(p, Rule::PathTypeBounds)?;
         return Ok(());
     }
     p.error("expected a trait")?;

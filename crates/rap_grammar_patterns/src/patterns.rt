@@ -4,11 +4,11 @@ ghost use Rattle.rap_base.specs.TokenSet.{member};
 ghost use Rattle.rap_base.specs.TokenKind.{DOT2EQ, DOT2, EOF, AMP, POUND, BUILTIN_KW, L_PAREN, L_CURLY, UNDERSCORE, BANG, L_BRACK, IDENT, MUT_KW, REF_KW, BOX_KW, CONST_KW};
 ghost use Rattle.rap_base.specs.NodeKind.{LITERAL_PAT, WILDCARD_PAT, REF_PAT, NOT_NULL, SLICE_PAT, IDENT_PAT, BOX_PAT, CONST_BLOCK_PAT};
 ghost use Rattle.rap_events.specs.State.{state, At, IsLast, next, NthAt, ReadsAs};
-ghost use Rattle.rap_grammar_scripts.specs.First.{is_range_pat_end_first, starts_path, is_pat_top_first, one_of};
+ghost use Rattle.rap_grammar_scripts.specs.First.{is_range_pat_end_first, is_path_start, is_pat_top_first, one_of};
 ghost use Rattle.rap_grammar_frame.specs.Grew.{Within, Grew, Took, Makes, Made, Behind};
 ghost use Rattle.rap_grammar_scripts.specs.Knot.{Follows};
 ghost use Rattle.rap_grammar_scripts.specs.Patterns as script;
-ghost use Rattle.rap_grammar_scripts.specs.Patterns.{ends_range_pat, starts_ident_pat, starts_literal_pat, starts_field, starts_rest_pat, ends_search};
+ghost use Rattle.rap_grammar_scripts.specs.Patterns.{ends_range_pat, is_ident_pat_start, is_literal_pat_start, at_field, is_rest_pat, ends_search};
 ghost use Rattle.rap_grammar_scripts.specs.Recovery.{is_pattern_recovery, stops_of};
 ghost use Rattle.rap_grammar_frame.specs.Room.{pattern_room, single_pattern_room, atom_pattern_room, list_room, name_room, recovery_events};
 ghost use Rattle.rap_grammar_frame.specs.Rules.{IsAtomPattern, PatternUntil};
@@ -248,7 +248,7 @@ fn atom_pat<G: Grammar>(
 
 /// Whether an identifier comes next that begins no path of several names, no path with fields, and no macro call.
 fn is_ident_pat_start(p: &Parser<'_>) -> bool
-    ensures { result ≡ starts_ident_pat (state p.now).rest }
+    ensures { result ≡ is_ident_pat_start (state p.now).rest }
 {
     p.at(T![ident]) && !matches!(p.nth(1), T!['('] | T!['{'] | T![!]) && !p.nth_at(1, T![::])
 }
@@ -324,7 +324,7 @@ fn builtin_pat<G: Grammar>(p: &mut Parser<'_>, g: &G) -> Result<Option<Completed
 
 /// Whether a literal comes next, be it with a minus.
 fn is_literal_pat_start(p: &Parser<'_>) -> bool
-    ensures { result ≡ starts_literal_pat (state p.now).rest }
+    ensures { result ≡ is_literal_pat_start (state p.now).rest }
 {
     p.at(T![-]) && matches!(p.nth(1), T![int_number] | SyntaxKind::FLOAT_NUMBER)
         || is_literal_first(p.current())
@@ -333,7 +333,7 @@ fn is_literal_pat_start(p: &Parser<'_>) -> bool
 /// A literal, as `1` and `-1`.
 #[inline(never)]
 fn literal_pat(p: &mut Parser<'_>) -> Result<CompletedMarker, NoMemory>
-    requires here { starts_literal_pat (state p.old).rest ≡ true }
+    requires here { is_literal_pat_start (state p.old).rest ≡ true }
     ensures made { IfOk result (Makes LITERAL_PAT atom_pattern_room (state p.old) (state p.new)) }
     ensures script { OnOk result (Follows script.literal_pat something (state p.old) (state p.new)) }
 {
@@ -348,7 +348,7 @@ fn literal_pat(p: &mut Parser<'_>) -> Result<CompletedMarker, NoMemory>
 #[inline(never)]
 fn path_or_macro_pat<G: Grammar>(p: &mut Parser<'_>, g: &G) -> Result<CompletedMarker, NoMemory>
     requires within { Within G.valid G.left g.now (state p.old) }
-    requires path { starts_path (state p.old).rest ≡ true }
+    requires path { is_path_start (state p.old).rest ≡ true }
     ensures made { IfOk result (λ cm. Made (state p.old) (state p.new) cm atom_pattern_room) }
     ensures script { OnOk result (Follows script.path_or_macro_pat something (state p.old) (state p.new)) }
 {
@@ -394,7 +394,7 @@ fn tuple_pat_fields<G: Grammar>(p: &mut Parser<'_>, g: &G) -> Result<(), NoMemor
 
 /// Whether a field's name or number and this separator come next.
 fn at_field(p: &Parser<'_>, separator: SyntaxKind) -> bool
-    ensures { result ≡ starts_field separator (state p.now).rest }
+    ensures { result ≡ at_field separator (state p.now).rest }
 {
     matches!(p.current(), T![ident] | T![int_number]) && p.nth(1) == separator
 }
@@ -592,7 +592,7 @@ fn tuple_patterns<G: Grammar>(
 
 /// Whether `..` comes next and no range begins with it.
 fn is_rest_pat(p: &Parser<'_>) -> bool
-    ensures { result ≡ starts_rest_pat (state p.now).rest }
+    ensures { result ≡ is_rest_pat (state p.now).rest }
 {
     !p.at(T![..=]) && p.at(T![..]) && !is_range_pat_end_first(p.nth(2))
 }

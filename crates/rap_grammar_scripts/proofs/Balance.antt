@@ -10,7 +10,7 @@ use Rattle.rap_events.specs.Forest.{Forest, none, leaf, ◌⧺◌, message_count
 use Rattle.rap_events.specs.State.{State}
 use Rattle.rap_grammar_scripts.specs.Balanced.{ArePartners, Balanced, nothing_more, token_first, list_first, in_brackets, NestsAsBrackets}
 use Rattle.rap_grammar_scripts.specs.First.{one_of, is_bracket}
-use Rattle.rap_grammar_scripts.specs.TokenTree.{tokens_to, tokens_in, bracketed_tokens}
+use Rattle.rap_grammar_scripts.specs.TokenTree.{tokens_to, tokens_in, token_tree}
 use Rattle.rap_grammar_scripts.specs.Knot.{script_of, Follows}
 use Rattle.rap_grammar_scripts.specs.Phrase.{Phrase}
 use Rattle.rap_grammar_scripts.specs.Script.{Script, Outcome, something, Spot, Runs, forests, gives, passes, fails, takes, takes_any, starts, finishes, follows, obeys, turns, stops}
@@ -81,22 +81,22 @@ not_over k c e = ap (λ (x : ℕ). x == EOF) e ∙ closing_some k
 
 by_opening : (a b : Bool) {p q : Spot} {v : Outcome} → (next_kind p.rest == L_PAREN) ≡ a →
     (next_kind p.rest == L_BRACK) ≡ b → Runs script_of (tokens_in (one_of_three a b)) p q v →
-    Runs script_of bracketed_tokens p q v
-unfolding bracketed_tokens
+    Runs script_of token_tree p q v
+unfolding token_tree
 by_opening true b e i r = passes e r
 by_opening false true e i r = fails e (passes i r)
 by_opening false false e i r = fails e (fails i r)
 
 -- the bracket that closes a list is the partner of the one that comes next
 pub by_partner : {p q : Spot} {v : Outcome} → Runs script_of (tokens_in (partner (next_kind p.rest))) p q v →
-    Runs script_of bracketed_tokens p q v
+    Runs script_of token_tree p q v
 by_partner {p = p} r = by_opening (next_kind p.rest == L_PAREN) (next_kind p.rest == L_BRACK) refl refl r
 
 -- a list in brackets, from what stands between them
 list_way : {a c : Record} (ks : List Record) (t : Forest) → ArePartners a c →
     ((b : List Forest) (f : Forest) (l : List Record) → Leads (tokens_to (partner a.kind)) b (ks ++ c ∷ l) f (c ∷ l) (f ⧺ t)) →
     (b : List Forest) (f : Forest) (l : List Record) →
-    Leads bracketed_tokens b (a ∷ (ks ++ c ∷ l)) f l (f ⧺ in_brackets a t c)
+    Leads token_tree b (a ∷ (ks ++ c ∷ l)) f l (f ⧺ in_brackets a t c)
 list_way {a = a} {c = c} ks t p d b f l =
     let here : is_at (partner a.kind) (c ∷ l) ≡ true = met a.kind c l p.closes in
     by_partner (starts (takes_any (opens_some a.kind p.opens)
@@ -134,17 +134,17 @@ no_message (list_first {a = a} {c = c} {t = t} {u = u} p d x) =
 -- so a list of balanced tokens in brackets becomes the node that nests as they do
 pub balanced_way : {a c : Record} {ks : List Record} {t : Forest} → ArePartners a c → Balanced ks t →
     (b : List Forest) (f : Forest) (l : List Record) →
-    Leads bracketed_tokens b (a ∷ (ks ++ c ∷ l)) f l (f ⧺ in_brackets a t c)
+    Leads token_tree b (a ∷ (ks ++ c ∷ l)) f l (f ⧺ in_brackets a t c)
 balanced_way {a = a} {c = c} {ks = ks} {t = t} p d b f l = list_way ks t p (between d a.kind c p.closes) b f l
 
 -- without a message
 pub balanced_clean : {ks : List Record} {t : Forest} (a c : Record) → Balanced ks t → message_count (in_brackets a t c) ≡ 0
 balanced_clean {t = t} a c d = omega (arith, message_count-⧺ (leaf none a.kind 1) t, no_message d)
 
-pub nests_as_brackets : {old new : State} {v : Outcome} → Follows bracketed_tokens v old new → NestsAsBrackets old new
+pub nests_as_brackets : {old new : State} {v : Outcome} → Follows token_tree v old new → NestsAsBrackets old new
 nests_as_brackets {old = old} {new = new} h = record {
   nests = λ a c ks rs t p d e.
-      let w : Leads bracketed_tokens (forests old.below) old.rest old.forest rs (old.forest ⧺ in_brackets a t c) =
+      let w : Leads token_tree (forests old.below) old.rest old.forest rs (old.forest ⧺ in_brackets a t c) =
       rw e (balanced_way p d (forests old.below) old.forest rs) in
       let s = one_end h.run w in
       (ap (λ (q : Spot). q.rest) s.spot, ap (λ (q : Spot). q.forest) s.spot, balanced_clean a c d);

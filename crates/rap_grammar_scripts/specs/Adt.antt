@@ -35,11 +35,11 @@ mut_restriction =
     if_some v (finish MUT_RESTRICTION ▸ done)
     (report (codes "expected a mut restriction") ▸ finish MUT_RESTRICTION ▸ done))
 
-abbrev pub starts_mut_restriction : List Record → Bool
-starts_mut_restriction rs = is_at MUT_KW rs && (kind_at rs 1 == L_PAREN)
+abbrev pub is_mut_restriction_start : List Record → Bool
+is_mut_restriction_start rs = is_at MUT_KW rs && (kind_at rs 1 == L_PAREN)
 
 unfoldable pub opt_mut_restriction : Script Phrase
-opt_mut_restriction = optional starts_mut_restriction mut_restriction
+opt_mut_restriction = optional is_mut_restriction_start mut_restriction
 
 -- an `unsafe`, and then it may be said who may change the field
 unfoldable pub opt_unsafe : Script Phrase

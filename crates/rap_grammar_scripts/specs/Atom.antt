@@ -10,7 +10,7 @@ use Rattle.rap_grammar_scripts.specs.Builtins.{builtin_expr}
 unfoldable pub use Rattle.rap_grammar_scripts.specs.Called.{unrestricted, expr}
 use Rattle.rap_grammar_scripts.specs.Called.{type_}
 use Rattle.rap_grammar_scripts.specs.Control.{if_expr, let_expr, loop_expr, while_expr, for_expr, match_expr, labelled_expr, closure_expr}
-use Rattle.rap_grammar_scripts.specs.First.{one_of, is_expr_first, is_literal_first, starts_path, starts_closure}
+use Rattle.rap_grammar_scripts.specs.First.{one_of, is_expr_first, is_literal_first, is_path_start, is_closure}
 use Rattle.rap_grammar_scripts.specs.Grammar.{lifetime}
 use Rattle.rap_grammar_scripts.specs.Paths.{expr_path}
 use Rattle.rap_grammar_scripts.specs.Phrase.{Phrase}
@@ -146,8 +146,8 @@ try_block_expr =
 
 -- A block comes next, with what it is before its brace: `const`, `unsafe`, `async` or `gen`; and with `move` after
 -- `async`, `gen` and `async gen`.
-unfoldable pub starts_effect_block : List Record → Bool
-starts_effect_block rs =
+unfoldable pub is_effect_block : List Record → Bool
+is_effect_block rs =
     (one_of (CONST_KW ∷ UNSAFE_KW ∷ ASYNC_KW ∷ GEN_KW ∷ []) (next_kind rs) && (kind_at rs 1 == L_CURLY))
     || (((next_kind rs == ASYNC_KW) && ((kind_at rs 1 == GEN_KW) && (kind_at rs 2 == L_CURLY)))
     || ((one_of (ASYNC_KW ∷ GEN_KW ∷ []) (next_kind rs) && ((kind_at rs 1 == MOVE_KW) && (kind_at rs 2 == L_CURLY)))
@@ -164,8 +164,8 @@ effect_block = start ▸ call effects ▸ call stmt_list ▸ finish BLOCK_EXPR �
 unfoldable pub effect_expr : Script Phrase
 effect_expr =
     choose
-    ((starts_effect_block, call effect_block ▸ give block)
-    ∷ (starts_closure, closure_expr)
+    ((is_effect_block, call effect_block ▸ give block)
+    ∷ (is_closure, closure_expr)
     ∷ (next_is TRY_KW, call try_block_expr ▸ give block)
     ∷ (next_is FOR_KW, call for_expr ▸ give block)
     ∷ [])
@@ -219,4 +219,4 @@ bracketed_expr r =
 unfoldable pub atom_expr : Restrictions → Script Phrase
 atom_expr r =
     after literal (λ v.
-    if_some v done (choose ((starts_builtin, builtin_expr) ∷ (starts_path, path_expr r) ∷ []) (bracketed_expr r)))
+    if_some v done (choose ((starts_builtin, builtin_expr) ∷ (is_path_start, path_expr r) ∷ []) (bracketed_expr r)))

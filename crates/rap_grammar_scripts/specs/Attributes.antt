@@ -8,24 +8,25 @@ use Rattle.rap_events.specs.State.{expected}
 use Rattle.rap_grammar_scripts.specs.Called.{expr, cfg_predicate_element}
 use Rattle.rap_grammar_scripts.specs.First.{one_of, is_bracket, is_outer_attr_first, is_cfg_predicate_first}
 use Rattle.rap_grammar_scripts.specs.Grammar.{delimited}
-use Rattle.rap_grammar_scripts.specs.TokenTree.{bracketed_tokens}
+use Rattle.rap_grammar_scripts.specs.TokenTree.{token_tree}
 use Rattle.rap_grammar_scripts.specs.Paths.{attr_path}
-use Rattle.rap_grammar_scripts.specs.Phrase.{Phrase, meta_item}
+use Rattle.rap_grammar_scripts.specs.Phrase.{Phrase}
+use Rattle.rap_grammar_scripts.specs.Phrase as phrase
 use Rattle.rap_grammar_scripts.specs.Script.{Script, give, test, token, any, bear, report, skip, start, finish, after, loop, again}
 use Rattle.rap_grammar_scripts.specs.Words.{done, if_some, reads_as, eat, expect, ◌▸◌, call, recur, choose, optional}
 
 -- an attribute of what it stands in comes next
-abbrev pub starts_inner_attr : List Record → Bool
-starts_inner_attr rs = is_at INNER_DOC_COMMENT rs || (is_at POUND rs && is_at BANG (drop 1 rs))
+abbrev pub is_inner_attr_start : List Record → Bool
+is_inner_attr_start rs = is_at INNER_DOC_COMMENT rs || (is_at POUND rs && is_at BANG (drop 1 rs))
 
 -- the same, or one before what it is of
 abbrev pub starts_attr : Bool → List Record → Bool
-starts_attr true rs = starts_inner_attr rs
+starts_attr true rs = is_inner_attr_start rs
 starts_attr false rs = is_outer_attr_first (next_kind rs)
 
 -- the value of an attribute comes next: an `=` that begins no other operator
-abbrev pub starts_value : List Record → Bool
-starts_value rs = is_at EQ rs && (not (is_at FAT_ARROW rs) && not (is_at EQ2 rs))
+abbrev pub is_value_start : List Record → Bool
+is_value_start rs = is_at EQ rs && (not (is_at FAT_ARROW rs) && not (is_at EQ2 rs))
 
 -- what stands behind the `=` of a condition
 unfoldable pub cfg_value : Script Phrase
@@ -59,7 +60,7 @@ metas_turn a b =
     ((is_at R_PAREN, done)
     ∷ (is_at EOF, done)
     ∷ [])
-    (recur meta_item ▸ optional (is_at COMMA) (token COMMA ▸ give (again a b)))
+    (recur phrase.meta ▸ optional (is_at COMMA) (token COMMA ▸ give (again a b)))
 
 -- the attributes behind their condition
 unfoldable pub cfg_attr_metas : Script Phrase
@@ -72,7 +73,7 @@ cfg_attr_meta =
     expect R_PAREN ▸ finish CFG_ATTR_META ▸ done
 
 unfoldable pub unsafe_meta : Script Phrase
-unsafe_meta = start ▸ token UNSAFE_KW ▸ expect L_PAREN ▸ recur meta_item ▸ expect R_PAREN ▸ finish UNSAFE_META ▸ done
+unsafe_meta = start ▸ token UNSAFE_KW ▸ expect L_PAREN ▸ recur phrase.meta ▸ expect R_PAREN ▸ finish UNSAFE_META ▸ done
 
 -- an attribute's value behind the path
 unfoldable pub attr_value : Script Phrase
@@ -83,22 +84,22 @@ unfoldable pub path_meta : Script Phrase
 path_meta =
     start ▸ call attr_path ▸
     choose
-    ((starts_value, call attr_value ▸ finish KEY_VALUE_META ▸ done)
-    ∷ (λ rs. is_bracket (next_kind rs), call bracketed_tokens ▸ finish TOKEN_TREE_META ▸ done)
+    ((is_value_start, call attr_value ▸ finish KEY_VALUE_META ▸ done)
+    ∷ (λ rs. is_bracket (next_kind rs), call token_tree ▸ finish TOKEN_TREE_META ▸ done)
     ∷ [])
     (finish PATH_META ▸ done)
 
 -- an identifier that is read as this keyword comes next, and a `(`
-abbrev pub calls_keyword : ℕ → List Record → Bool
-calls_keyword kind rs = reads_as kind rs && is_at L_PAREN (drop 1 rs)
+abbrev pub at_called_kw : ℕ → List Record → Bool
+at_called_kw kind rs = reads_as kind rs && is_at L_PAREN (drop 1 rs)
 
 -- what stands in the brackets of an attribute
 unfoldable pub meta : Script Phrase
 meta =
     choose
     ((is_at UNSAFE_KW, unsafe_meta)
-    ∷ (calls_keyword CFG_ATTR_KW, cfg_attr_meta)
-    ∷ (calls_keyword CFG_KW, cfg_meta)
+    ∷ (at_called_kw CFG_ATTR_KW, cfg_attr_meta)
+    ∷ (at_called_kw CFG_KW, cfg_meta)
     ∷ [])
     path_meta
 
@@ -127,7 +128,7 @@ unfoldable pub outer_attrs : Script Phrase
 outer_attrs = loop outer_turn false false
 
 abbrev pub inner_turn : Bool → Bool → Script Phrase
-inner_turn a b = optional starts_inner_attr (call (attr true) ▸ give (again a b))
+inner_turn a b = optional is_inner_attr_start (call (attr true) ▸ give (again a b))
 
 -- the attributes of what they stand in
 unfoldable pub inner_attrs : Script Phrase

@@ -7,7 +7,8 @@ use Rattle.rap_events.specs.Record.{Record}
 use Rattle.rap_events.specs.Composite.{is_at}
 use Rattle.rap_grammar_scripts.specs.Attributes.{inner_attrs}
 use Rattle.rap_grammar_scripts.specs.Called.{expr, pattern}
-use Rattle.rap_grammar_scripts.specs.Phrase.{Phrase, statement}
+use Rattle.rap_grammar_scripts.specs.Phrase.{Phrase}
+use Rattle.rap_grammar_scripts.specs.Phrase as phrase
 use Rattle.rap_grammar_scripts.specs.Script.{Script, Outcome, give, test, ends_with, token, report, start, finish, after, loop, again}
 use Rattle.rap_grammar_scripts.specs.TypeParts.{ascription}
 use Rattle.rap_grammar_scripts.specs.Words.{done, if_some, eat, expect, ◌▸◌, call, recur, choose, optional, only_if}
@@ -16,7 +17,7 @@ use Rattle.rap_grammar_scripts.specs.declared.arguments.Semicolon.TheVariants as
 
 abbrev pub contents_turn : Bool → Bool → Script Phrase
 contents_turn a b =
-    choose ((is_at EOF, done) ∷ (is_at R_CURLY, done) ∷ []) (recur (statement semicolon.Required) ▸ give (again a b))
+    choose ((is_at EOF, done) ∷ (is_at R_CURLY, done) ∷ []) (recur (phrase.stmt semicolon.Required) ▸ give (again a b))
 
 -- the statements of a block
 unfoldable pub statements : Script Phrase

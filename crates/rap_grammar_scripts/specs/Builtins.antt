@@ -9,7 +9,8 @@ use Rattle.rap_events.specs.Composite.{is_at}
 unfoldable pub use Rattle.rap_grammar_scripts.specs.Asm.{parse_asm_expr}
 use Rattle.rap_grammar_scripts.specs.Called.{expr, type_}
 use Rattle.rap_grammar_scripts.specs.Grammar.{name_any_identifier, name_ref_mod_path_or_index}
-use Rattle.rap_grammar_scripts.specs.Phrase.{Phrase, condition}
+use Rattle.rap_grammar_scripts.specs.Phrase.{Phrase}
+use Rattle.rap_grammar_scripts.specs.Phrase as phrase
 use Rattle.rap_grammar_scripts.specs.Script.{Script, nothing, give, test, token, bear, report, start, finish, abandon, after, loop, again}
 use Rattle.rap_grammar_scripts.specs.Words.{done, if_some, reads_as, eat, expect, ◌▸◌, call, recur, choose, optional}
 
@@ -61,7 +62,7 @@ format_args =
 
 -- a condition
 unfoldable pub cfg : Script Phrase
-cfg = expect L_PAREN ▸ recur condition ▸ eat COMMA ▸ expect R_PAREN ▸ done
+cfg = expect L_PAREN ▸ recur phrase.cfg_predicate ▸ eat COMMA ▸ expect R_PAREN ▸ done
 
 -- the name of one of the kinds of inline assembly
 unfoldable pub asm_name : Script Phrase

@@ -6,7 +6,7 @@ use Rattle.rap_base.specs.NodeKind.{PREFIX_EXPR, PATH_EXPR, CONST_ARG}
 use Rattle.rap_events.specs.Record.{next_kind}
 use Rattle.rap_grammar_scripts.specs.Atom.{literal}
 use Rattle.rap_grammar_scripts.specs.Blocks.{block_expr}
-use Rattle.rap_grammar_scripts.specs.First.{is_literal_first, starts_path}
+use Rattle.rap_grammar_scripts.specs.First.{is_literal_first, is_path_start}
 use Rattle.rap_grammar_scripts.specs.Paths.{expr_path}
 use Rattle.rap_grammar_scripts.specs.Phrase.{Phrase}
 use Rattle.rap_grammar_scripts.specs.Recovery.{is_generic_arg_recovery}
@@ -28,7 +28,7 @@ const_arg_expr =
     ((next_is L_CURLY, block_expr)
     ∷ (λ rs. is_literal_first (next_kind rs), call literal ▸ done)
     ∷ (next_is MINUS, negative_const)
-    ∷ (starts_path, const_path)
+    ∷ (is_path_start, const_path)
     ∷ [])
     missing_const
 

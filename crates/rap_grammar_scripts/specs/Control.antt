@@ -11,7 +11,8 @@ use Rattle.rap_grammar_scripts.specs.Called.{expr, expr_no_struct, expr_stmt, pa
 use Rattle.rap_grammar_scripts.specs.First.{is_expr_first}
 use Rattle.rap_grammar_scripts.specs.Grammar.{lifetime, opt_ret_type}
 use Rattle.rap_grammar_scripts.specs.Params.{param_list_closure}
-use Rattle.rap_grammar_scripts.specs.Phrase.{Phrase, expression}
+use Rattle.rap_grammar_scripts.specs.Phrase.{Phrase}
+use Rattle.rap_grammar_scripts.specs.Phrase as phrase
 use Rattle.rap_grammar_scripts.specs.Script.{Script, nothing, block, give, test, token, report, skip, start, finish, after, loop, again}
 use Rattle.rap_grammar_scripts.specs.TypeParts.{for_binder}
 use Rattle.rap_grammar_scripts.specs.Words.{done, if_some, is_block, next_is, eat, expect, ◌▸◌, call, recur, choose, optional}
@@ -26,7 +27,7 @@ if_expr = start ▸ token IF_KW ▸ call expr_no_struct ▸ call block_expr ▸ 
 
 -- a condition that binds, as `let a = b`
 unfoldable pub let_expr : Restrictions → Script Phrase
-let_expr r = start ▸ token LET_KW ▸ call pattern ▸ expect EQ ▸ recur (expression false r 5) ▸ finish LET_EXPR ▸ done
+let_expr r = start ▸ token LET_KW ▸ call pattern ▸ expect EQ ▸ recur (phrase.expr_bp false r 5) ▸ finish LET_EXPR ▸ done
 
 -- the loops, each from its node on
 unfoldable pub loop_from : Script Phrase

@@ -13,7 +13,8 @@ use Rattle.rap_grammar_scripts.specs.First.{is_expr_first, is_path_name, is_path
 use Rattle.rap_grammar_scripts.specs.Grammar.{name_ref_mod_path, name_ref_mod_path_or_index, delimited}
 use Rattle.rap_grammar_scripts.specs.Operator.{operator_at, by_operator}
 use Rattle.rap_grammar_scripts.specs.Paths.{opt_generic_arg_list_expr}
-use Rattle.rap_grammar_scripts.specs.Phrase.{Phrase, expression}
+use Rattle.rap_grammar_scripts.specs.Phrase.{Phrase}
+use Rattle.rap_grammar_scripts.specs.Phrase as phrase
 use Rattle.rap_grammar_scripts.specs.Recovery.{is_expr_recovery}
 use Rattle.rap_grammar_scripts.specs.Script.{Script, Outcome, nothing, something, block, give, test, token, any, bear, report, start, precede, finish, extend, abandon, split_float, after, loop, again}
 unfoldable pub use Rattle.rap_grammar_scripts.specs.Words.{is_block}
@@ -45,19 +46,19 @@ right_of op = if power op == 1 then 1 else power op + 1
 
 -- an operator and its right operand, after the left one
 unfoldable pub bin_expr : Restrictions → ℕ → Script Phrase
-bin_expr r op = precede ▸ token op ▸ recur (expression false (operand_of r) (right_of op)) ▸ finish BIN_EXPR ▸ done
+bin_expr r op = precede ▸ token op ▸ recur (phrase.expr_bp false (operand_of r) (right_of op)) ▸ finish BIN_EXPR ▸ done
 
 -- An end follows the dots of a range: an expression begins, and it is no access to a field or a method of the range,
 -- nor, where no record literal may stand, a `{`.
-unfoldable pub has_end : Bool → List Record → Bool
-has_end forbid_structs rs =
+unfoldable pub has_range_end : Bool → List Record → Bool
+has_range_end forbid_structs rs =
     is_expr_first (next_kind rs) && (not ((next_kind rs == DOT) && (kind_at rs 1 == IDENT)) && not (forbid_structs && (next_kind rs == L_CURLY)))
 
 -- the dots of a range after its start, and whether an end followed
 unfoldable pub range_expr : Restrictions → ℕ → Script Phrase
 range_expr r op =
     precede ▸ token op ▸
-    test (has_end r.forbid_structs) (recur (expression false (operand_of r) 3) ▸ finish RANGE_EXPR ▸ done)
+    test (has_range_end r.forbid_structs) (recur (phrase.expr_bp false (operand_of r) 3) ▸ finish RANGE_EXPR ▸ done)
     (finish RANGE_EXPR ▸ give nothing)
 
 -- a type behind `as`, after an operand
@@ -87,16 +88,16 @@ ref_qualifier =
     (eat MUT_KW ▸ done)
 
 unfoldable pub ref_expr : Restrictions → Script Phrase
-ref_expr r = start ▸ token AMP ▸ call ref_qualifier ▸ recur (expression false r prefix_power) ▸ finish REF_EXPR ▸ done
+ref_expr r = start ▸ token AMP ▸ call ref_qualifier ▸ recur (phrase.expr_bp false r prefix_power) ▸ finish REF_EXPR ▸ done
 
 unfoldable pub prefix_expr : Restrictions → Script Phrase
-prefix_expr r = start ▸ any ▸ recur (expression false r prefix_power) ▸ finish PREFIX_EXPR ▸ done
+prefix_expr r = start ▸ any ▸ recur (phrase.expr_bp false r prefix_power) ▸ finish PREFIX_EXPR ▸ done
 
 -- a range without a start
 unfoldable pub prefix_range : Restrictions → ℕ → Script Phrase
 prefix_range r op =
     start ▸ token op ▸
-    test (has_end r.forbid_structs) (recur (expression false r 2) ▸ finish RANGE_EXPR ▸ done) (finish RANGE_EXPR ▸ done)
+    test (has_range_end r.forbid_structs) (recur (phrase.expr_bp false r 2) ▸ finish RANGE_EXPR ▸ done) (finish RANGE_EXPR ▸ done)
 
 unfoldable pub arg_list : Script Phrase
 arg_list =
@@ -113,8 +114,8 @@ unfoldable pub try_expr : Script Phrase
 try_expr = precede ▸ token QUESTION ▸ finish TRY_EXPR ▸ done
 
 -- What stands behind a dot is called: a name before a `(` or `::`, or a `(` without a name.
-unfoldable pub calls_method : List Record → Bool
-calls_method rs =
+unfoldable pub is_method_call : List Record → Bool
+is_method_call rs =
     (next_kind rs == L_PAREN) || (is_path_name (next_kind rs) && ((kind_at rs 1 == L_PAREN) || is_at COLON2 (drop 1 rs)))
 
 unfoldable pub method_arguments : Script Phrase
@@ -140,7 +141,7 @@ field_expr =
 
 -- a method, `await` or a field behind the dot
 unfoldable pub name_after_dot : Script Phrase
-name_after_dot = choose ((calls_method, method_call_expr) ∷ (next_is AWAIT_KW, await_expr) ∷ []) field_expr
+name_after_dot = choose ((is_method_call, method_call_expr) ∷ (next_is AWAIT_KW, await_expr) ∷ []) field_expr
 
 -- the dots of a range
 abbrev pub is_range : List Record → Bool

@@ -73,20 +73,20 @@ abbrev pub is_cfg_predicate_first : ℕ → Bool
 is_cfg_predicate_first kind = one_of (TRUE_KW ∷ FALSE_KW ∷ IDENT ∷ []) kind
 
 -- a path comes next that begins with a name or `::`
-abbrev pub starts_use_path : List Record → Bool
-starts_use_path rs = one_of (IDENT ∷ SELF_KW ∷ SUPER_KW ∷ CRATE_KW ∷ []) (next_kind rs) || begins_with (parts COLON2) rs
+abbrev pub is_use_path_start : List Record → Bool
+is_use_path_start rs = one_of (IDENT ∷ SELF_KW ∷ SUPER_KW ∷ CRATE_KW ∷ []) (next_kind rs) || begins_with (parts COLON2) rs
 
 -- a path comes next
-abbrev pub starts_path : List Record → Bool
-starts_path rs = (is_path_name (next_kind rs) || begins_with (parts COLON2) rs) || (next_kind rs == L_ANGLE)
+abbrev pub is_path_start : List Record → Bool
+is_path_start rs = (is_path_name (next_kind rs) || begins_with (parts COLON2) rs) || (next_kind rs == L_ANGLE)
 
 -- the arguments of something generic in an expression, as `::<a>`
 abbrev pub starts_expr_args : List Record → Bool
 starts_expr_args rs = is_at COLON2 rs && is_at L_ANGLE (drop 2 rs)
 
 -- a closure comes next
-abbrev pub starts_closure : List Record → Bool
-starts_closure rs =
+abbrev pub is_closure : List Record → Bool
+is_closure rs =
     one_of (CONST_KW ∷ STATIC_KW ∷ ASYNC_KW ∷ MOVE_KW ∷ PIPE ∷ []) (next_kind rs) || ((next_kind rs == FOR_KW) && (kind_at rs 1 == L_ANGLE))
 
 -- a bracket that opens

@@ -7,9 +7,9 @@ use Rattle.rap_events.specs.Composite.{is_at}
 use Rattle.rap_grammar_scripts.specs.Attributes.{outer_attrs}
 use Rattle.rap_grammar_scripts.specs.Called.{type_}
 use Rattle.rap_grammar_scripts.specs.ConstArgs.{const_arg}
-use Rattle.rap_grammar_scripts.specs.First.{one_of, is_bracket, is_attributed_generic_param_first, is_use_bound_arg_first, is_where_predicate_first, starts_use_path}
+use Rattle.rap_grammar_scripts.specs.First.{one_of, is_bracket, is_attributed_generic_param_first, is_use_bound_arg_first, is_where_predicate_first, is_use_path_start}
 use Rattle.rap_grammar_scripts.specs.Grammar.{delimited, lifetime, name, name_ref_or_upper_self}
-use Rattle.rap_grammar_scripts.specs.TokenTree.{bracketed_tokens}
+use Rattle.rap_grammar_scripts.specs.TokenTree.{token_tree}
 use Rattle.rap_grammar_scripts.specs.Phrase.{Phrase}
 use Rattle.rap_grammar_scripts.specs.Script.{Script, nothing, give, test, token, report, skip, start, finish, abandon, after, loop, again}
 use Rattle.rap_grammar_scripts.specs.TypeParts.{ascription, for_binder, path_type}
@@ -41,13 +41,13 @@ bound_constness =
 unfoldable pub bound_macro_call : Script Phrase
 bound_macro_call =
     start ▸ token BANG ▸ report (codes "unexpected `!` in type path, macro calls are not allowed here") ▸
-    test (λ rs. is_bracket (next_kind rs)) (call bracketed_tokens ▸ finish ERROR ▸ done) (finish ERROR ▸ done)
+    test (λ rs. is_bracket (next_kind rs)) (call token_tree ▸ finish ERROR ▸ done) (finish ERROR ▸ done)
 
 -- a trait with what stands before it
 unfoldable pub path_type_bound : Script Phrase
 path_type_bound =
     call bound_constness ▸ eat ASYNC_KW ▸ eat QUESTION ▸
-    only_if starts_use_path (call path_type ▸ optional (is_at BANG) bound_macro_call)
+    only_if is_use_path_start (call path_type ▸ optional (is_at BANG) bound_macro_call)
 
 -- a bound without its parentheses
 unfoldable pub bare_bound : Script Phrase

@@ -10,13 +10,14 @@ use Rattle.rap_grammar_scripts.specs.Blocks.{error_block, error_let_stmt}
 use Rattle.rap_grammar_scripts.specs.Builtins.{parse_asm_expr}
 use Rattle.rap_grammar_scripts.specs.Called.{type_, opt_generic_param_list, opt_where_clause, bounds}
 use Rattle.rap_grammar_scripts.specs.Consts.{konst, static_}
-use Rattle.rap_grammar_scripts.specs.First.{one_of, starts_use_path}
+use Rattle.rap_grammar_scripts.specs.First.{one_of, is_use_path_start}
 use Rattle.rap_grammar_scripts.specs.Functions.{fn_}
 use Rattle.rap_grammar_scripts.specs.Grammar.{name, name_ref_or_self, opt_rename}
 use Rattle.rap_grammar_scripts.specs.Macros.{macro_rules, macro_def, macro_call}
 use Rattle.rap_grammar_scripts.specs.Modifiers.{found, modifiers}
 use Rattle.rap_grammar_scripts.specs.Paths.{use_path}
-use Rattle.rap_grammar_scripts.specs.Phrase.{Phrase, any_item}
+use Rattle.rap_grammar_scripts.specs.Phrase.{Phrase}
+use Rattle.rap_grammar_scripts.specs.Phrase as phrase
 use Rattle.rap_grammar_scripts.specs.Script.{Script, Outcome, nothing, something, block, again, give, test, token, bear, report, skip, start, finish, abandon, after, loop}
 use Rattle.rap_grammar_scripts.specs.Traits.{trait_, impl_}
 use Rattle.rap_grammar_scripts.specs.UseItem.{use_}
@@ -51,7 +52,7 @@ item_turn stop_on_r_curly a b =
     ((is_at EOF, done)
     ∷ (ends_items stop_on_r_curly, done)
     ∷ [])
-    (recur (any_item stop_on_r_curly true) ▸ give (again a b))
+    (recur (phrase.item_or_macro stop_on_r_curly true) ▸ give (again a b))
 
 unfoldable pub items : Bool → Script Phrase
 items stop_on_r_curly = loop (item_turn stop_on_r_curly) false false
@@ -210,7 +211,7 @@ missing_item stop_on_r_curly =
     (skip (codes "expected an item") ▸ done)
 
 unfoldable pub macro_or_error : Bool → Script Phrase
-macro_or_error stop_on_r_curly = test starts_use_path path_item (abandon ▸ missing_item stop_on_r_curly)
+macro_or_error stop_on_r_curly = test is_use_path_start path_item (abandon ▸ missing_item stop_on_r_curly)
 
 -- an item behind its attributes, or what stands in its place
 unfoldable pub marked_item : Bool → Bool → Script Phrase

@@ -10,15 +10,15 @@ use Rattle.rap_grammar_scripts.specs.Grammar.{name, name_r}
 use Rattle.rap_grammar_scripts.specs.Phrase.{Phrase}
 use Rattle.rap_grammar_scripts.specs.Recovery.{is_item_recovery}
 use Rattle.rap_grammar_scripts.specs.Script.{Script, Outcome, nothing, something, block, again, test, token, bear, report, finish, after}
-use Rattle.rap_grammar_scripts.specs.TokenTree.{bracketed_tokens, macro_call_after_excl}
+use Rattle.rap_grammar_scripts.specs.TokenTree.{token_tree, macro_call_after_excl}
 use Rattle.rap_grammar_scripts.specs.Words.{done, next_is, expect, ◌▸◌, call, choose}
 
 -- the rules of a macro in their brackets; a semicolon stands behind other brackets than braces
 unfoldable pub rules_in_brackets : Script Phrase
 rules_in_brackets =
     choose
-    ((λ rs. one_of (L_BRACK ∷ L_PAREN ∷ []) (next_kind rs), call bracketed_tokens ▸ expect SEMICOLON ▸ done)
-    ∷ (next_is L_CURLY, bracketed_tokens)
+    ((λ rs. one_of (L_BRACK ∷ L_PAREN ∷ []) (next_kind rs), call token_tree ▸ expect SEMICOLON ▸ done)
+    ∷ (next_is L_CURLY, token_tree)
     ∷ [])
     (report (codes "expected `{`, `[`, `(`") ▸ done)
 
@@ -28,13 +28,13 @@ macro_rules = bear MACRO_RULES_KW ▸ expect BANG ▸ call name ▸ call rules_i
 -- what a macro is expanded to, behind its parameters
 unfoldable pub macro_def_body : Script Phrase
 macro_def_body =
-    test (λ rs. is_bracket (next_kind rs)) bracketed_tokens (report (codes "expected `{`, `[`, `(`") ▸ done)
+    test (λ rs. is_bracket (next_kind rs)) token_tree (report (codes "expected `{`, `[`, `(`") ▸ done)
 
 unfoldable pub macro_def_tokens : Script Phrase
 macro_def_tokens =
     choose
-    ((is_at L_CURLY, bracketed_tokens)
-    ∷ (is_at L_PAREN, call bracketed_tokens ▸ macro_def_body)
+    ((is_at L_CURLY, token_tree)
+    ∷ (is_at L_PAREN, call token_tree ▸ macro_def_body)
     ∷ [])
     (report (codes "unmatched `(`") ▸ done)
 

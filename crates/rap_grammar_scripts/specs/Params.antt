@@ -27,8 +27,8 @@ ket flavor.FnPointer = R_PAREN
 ket flavor.Closure = PIPE
 
 -- after so many tokens comes a `self` with which no path begins
-abbrev pub isolated_self : ℕ → List Record → Bool
-isolated_self n rs = is_at SELF_KW (drop n rs) && not (is_at COLON2 (drop (n + 1) rs))
+abbrev pub is_isolated_self : ℕ → List Record → Bool
+is_isolated_self n rs = is_at SELF_KW (drop n rs) && not (is_at COLON2 (drop (n + 1) rs))
 
 -- how far a lifetime or a `mut` after so many tokens reaches
 abbrev pub past : ℕ → ℕ → List Record → ℕ
@@ -36,11 +36,11 @@ past kind n rs = if is_at kind (drop n rs) then n + 1 else n
 
 -- `self` or `mut self` comes next
 abbrev pub is_self_value : List Record → Bool
-is_self_value rs = isolated_self (past MUT_KW 0 rs) rs
+is_self_value rs = is_isolated_self (past MUT_KW 0 rs) rs
 
 -- `&self` comes next, with a lifetime and a `mut` or without them
 abbrev pub is_self_ref : List Record → Bool
-is_self_ref rs = is_at AMP rs && isolated_self (past MUT_KW (past LIFETIME_IDENT 1 rs) rs) rs
+is_self_ref rs = is_at AMP rs && is_isolated_self (past MUT_KW (past LIFETIME_IDENT 1 rs) rs) rs
 
 unfoldable pub self_as_name : Script Phrase
 self_as_name = start ▸ token SELF_KW ▸ finish NAME ▸ done

@@ -4,8 +4,8 @@ use Rattle.rap_base.specs.TokenKind.{COLON2, COMMA, L_ANGLE, R_ANGLE, L_PAREN, R
 use Rattle.rap_base.specs.NodeKind.{PATH, PATH_SEGMENT, TYPE_ANCHOR, TYPE_ARG, GENERIC_ARG_LIST, PARENTHESIZED_ARG_LIST, RETURN_TYPE_SYNTAX}
 use Rattle.rap_events.specs.Record.{Record, next_kind, kind_at}
 use Rattle.rap_events.specs.Composite.{is_at}
-use Rattle.rap_grammar_scripts.specs.Called.{type_, as_trait, generic_arg_element}
-use Rattle.rap_grammar_scripts.specs.First.{one_of, is_path_name, is_type_first, is_generic_arg_first, starts_use_path, starts_expr_args}
+use Rattle.rap_grammar_scripts.specs.Called.{type_, path_type_bounds, generic_arg_element}
+use Rattle.rap_grammar_scripts.specs.First.{one_of, is_path_name, is_type_first, is_generic_arg_first, is_use_path_start, starts_expr_args}
 use Rattle.rap_grammar_scripts.specs.Grammar.{name_ref_mod_path, delimited, opt_ret_type}
 use Rattle.rap_grammar_scripts.specs.Phrase.{Phrase}
 use Rattle.rap_grammar_scripts.specs.Recovery.{is_segment_recovery}
@@ -86,7 +86,7 @@ segment_name m empty =
 -- the trait of a type anchor
 unfoldable pub anchor_trait : Script Phrase
 anchor_trait =
-    optional (is_at AS_KW) (token AS_KW ▸ test starts_use_path as_trait (report (codes "expected a trait") ▸ done))
+    optional (is_at AS_KW) (token AS_KW ▸ test is_use_path_start path_type_bounds (report (codes "expected a trait") ▸ done))
 
 -- a type, and its trait, in the angle brackets that a path begins with
 unfoldable pub type_anchor : Script Phrase

@@ -8,7 +8,7 @@ use Rattle.rap_grammar_scripts.specs.Atom.{literal}
 use Rattle.rap_grammar_scripts.specs.Blocks.{block_expr, error_block}
 use Rattle.rap_grammar_scripts.specs.Attributes.{outer_attrs, cfg_predicate}
 use Rattle.rap_grammar_scripts.specs.Called.{pattern, pattern_single}
-use Rattle.rap_grammar_scripts.specs.First.{one_of, is_literal_first, is_pat_top_first, is_range_pat_end_first, starts_path}
+use Rattle.rap_grammar_scripts.specs.First.{one_of, is_literal_first, is_pat_top_first, is_range_pat_end_first, is_path_start}
 use Rattle.rap_grammar_scripts.specs.Grammar.{name_r, name_ref_or_index}
 use Rattle.rap_grammar_scripts.specs.TokenTree.{macro_call_after_excl}
 use Rattle.rap_grammar_scripts.specs.Paths.{expr_path}
@@ -35,8 +35,8 @@ unfoldable pub const_block_pat : Script Phrase
 const_block_pat = start ▸ token CONST_KW ▸ call block_expr ▸ finish CONST_BLOCK_PAT ▸ done
 
 -- a literal comes next, be it with a minus
-abbrev pub starts_literal_pat : List Record → Bool
-starts_literal_pat rs =
+abbrev pub is_literal_pat_start : List Record → Bool
+is_literal_pat_start rs =
     (is_at MINUS rs && one_of (INT_NUMBER ∷ FLOAT_NUMBER ∷ []) (kind_at rs 1)) || is_literal_first (next_kind rs)
 
 unfoldable pub literal_pat : Script Phrase
@@ -72,8 +72,8 @@ unfoldable pub slice_pat : Script Phrase
 slice_pat = start ▸ token L_BRACK ▸ call (pat_list R_BRACK) ▸ expect R_BRACK ▸ finish SLICE_PAT ▸ done
 
 -- `..` comes next that is no range's beginning
-abbrev pub starts_rest_pat : List Record → Bool
-starts_rest_pat rs = not (is_at DOT2EQ rs) && (is_at DOT2 rs && not (is_range_pat_end_first (kind_at rs 2)))
+abbrev pub is_rest_pat : List Record → Bool
+is_rest_pat rs = not (is_at DOT2EQ rs) && (is_at DOT2 rs && not (is_range_pat_end_first (kind_at rs 2)))
 
 -- a comma before the first pattern
 unfoldable pub leading_comma : Script Phrase
@@ -92,7 +92,7 @@ tuple_pat_turn tuple seen =
     ∷ (is_at R_PAREN, give (of_bool (seen && not tuple)))
     ∷ (
       λ rs. is_pat_top_first (next_kind rs),
-      test starts_rest_pat (tuple_element true) (tuple_element tuple),
+      test is_rest_pat (tuple_element true) (tuple_element tuple),
     )
     ∷ [])
     (report (codes "expected a pattern") ▸ give (of_bool (not tuple)))
@@ -120,14 +120,14 @@ tuple_pat =
     after (tuple_patterns (is_something v)) (λ w. expect R_PAREN ▸ finish (tuple_pat_kind w) ▸ done))
 
 -- a field's name or number and this separator come next
-abbrev pub starts_field : ℕ → List Record → Bool
-starts_field separator rs = one_of (IDENT ∷ INT_NUMBER ∷ []) (next_kind rs) && (kind_at rs 1 == separator)
+abbrev pub at_field : ℕ → List Record → Bool
+at_field separator rs = one_of (IDENT ∷ INT_NUMBER ∷ []) (next_kind rs) && (kind_at rs 1 == separator)
 
 unfoldable pub record_pat_field : Script Phrase
 record_pat_field =
     choose
-    ((starts_field COLON, call name_ref_or_index ▸ token COLON ▸ call pattern ▸ done)
-    ∷ (starts_field EQ, call name_ref_or_index ▸ skip (codes "expected `:`") ▸ call pattern ▸ done)
+    ((at_field COLON, call name_ref_or_index ▸ token COLON ▸ call pattern ▸ done)
+    ∷ (at_field EQ, call name_ref_or_index ▸ skip (codes "expected `:`") ▸ call pattern ▸ done)
     ∷ (next_is BOX_KW, call box_pat ▸ done)
     ∷ (λ rs. one_of (REF_KW ∷ MUT_KW ∷ IDENT ∷ []) (next_kind rs), call (ident_pat false) ▸ done)
     ∷ [])
@@ -187,8 +187,8 @@ builtin_pat =
     (report (codes "unknown name after `builtin#`") ▸ finish ERROR ▸ give nothing)
 
 -- an identifier comes next that begins no path of several names, no path with fields, and no macro call
-abbrev pub starts_ident_pat : List Record → Bool
-starts_ident_pat rs =
+abbrev pub is_ident_pat_start : List Record → Bool
+is_ident_pat_start rs =
     is_at IDENT rs && (not (one_of (L_PAREN ∷ L_CURLY ∷ BANG ∷ []) (kind_at rs 1)) && not (is_at COLON2 (drop 1 rs)))
 
 -- what ends the search for a pattern, in an arm or elsewhere
@@ -204,7 +204,7 @@ missing_pat in_arm = recover (codes "expected pattern") (ends_search in_arm) (gi
 unfoldable pub symbol_pat : Bool → Script Phrase
 symbol_pat in_arm =
     choose
-    ((starts_literal_pat, literal_pat)
+    ((is_literal_pat_start, literal_pat)
     ∷ (next_is UNDERSCORE, wildcard_pat)
     ∷ (next_is AMP, ref_pat)
     ∷ (next_is L_PAREN, tuple_pat)
@@ -220,8 +220,8 @@ atom_pat in_arm =
     ∷ (next_is BOX_KW, box_pat)
     ∷ (λ rs. one_of (REF_KW ∷ MUT_KW ∷ []) (next_kind rs), ident_pat true)
     ∷ (next_is CONST_KW, const_block_pat)
-    ∷ (starts_ident_pat, ident_pat true)
-    ∷ (starts_path, path_or_macro_pat)
+    ∷ (is_ident_pat_start, ident_pat true)
+    ∷ (is_path_start, path_or_macro_pat)
     ∷ [])
     (symbol_pat in_arm)
 

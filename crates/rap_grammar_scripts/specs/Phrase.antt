@@ -10,20 +10,20 @@ use Rattle.rap_grammar_scripts.specs.declared.arguments.Semicolon.{Semicolon}
 -- an `extern` block or not. A tree in the braces of a `use`. What stands in the brackets of an attribute, and a condition
 -- in it. A list of tokens in its brackets.
 pub data Phrase : Type 0 where
-  expression : Bool → Restrictions → ℕ → Phrase
-  any_type : Bool → Phrase
-  trait_path : Phrase
-  generic_argument : Phrase
-  generic_parameters : Phrase
-  bound_list : Phrase
-  where_part : Phrase
-  any_pattern : Phrase
-  single_pattern : Phrase
-  pattern_of_arm : Phrase
-  statement : Semicolon → Phrase
-  if_behind_else : Phrase
-  any_item : Bool → Bool → Phrase
-  tree_of_use : Phrase
-  meta_item : Phrase
-  condition : Phrase
-  bracketed : Phrase
+  expr_bp : Bool → Restrictions → ℕ → Phrase
+  type_with_bounds_cond : Bool → Phrase
+  path_type_bounds : Phrase
+  generic_arg : Phrase
+  generic_param_list : Phrase
+  bounds_without_colon : Phrase
+  where_clause : Phrase
+  pattern : Phrase
+  pattern_single : Phrase
+  arm_pattern : Phrase
+  stmt : Semicolon → Phrase
+  if_expr : Phrase
+  item_or_macro : Bool → Bool → Phrase
+  use_tree : Phrase
+  meta : Phrase
+  cfg_predicate : Phrase
+  token_tree : Phrase

@@ -11,7 +11,8 @@ use Rattle.rap_grammar_scripts.specs.Called.{as_statement}
 use Rattle.rap_grammar_scripts.specs.Expressions.{expr_bp, is_block}
 use Rattle.rap_grammar_scripts.specs.First.{is_expr_first}
 use Rattle.rap_grammar_scripts.specs.Items.{opt_item}
-use Rattle.rap_grammar_scripts.specs.Phrase.{Phrase, statement}
+use Rattle.rap_grammar_scripts.specs.Phrase.{Phrase}
+use Rattle.rap_grammar_scripts.specs.Phrase as phrase
 use Rattle.rap_grammar_scripts.specs.Script.{Script, give, test, token, skip, start, precede, finish, abandon, after, loop, again}
 use Rattle.rap_grammar_scripts.specs.Words.{done, if_some, eat, expect, ◌▸◌, call, recur}
 use Rattle.rap_grammar_scripts.specs.declared.arguments.Semicolon.{Semicolon}
@@ -51,7 +52,7 @@ stmt semi =
     (after (opt_item false) (λ w. if_some w done (expr_as_stmt semi))))
 
 abbrev pub macro_turn : Bool → Bool → Script Phrase
-macro_turn a b = test (is_at EOF) done (recur (statement semicolon.Optional) ▸ give (again a b))
+macro_turn a b = test (is_at EOF) done (recur (phrase.stmt semicolon.Optional) ▸ give (again a b))
 
 -- what a macro gives as statements
 unfoldable pub macro_stmts : Script Phrase

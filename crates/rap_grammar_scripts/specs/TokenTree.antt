@@ -6,7 +6,8 @@ use Rattle.rap_base.specs.NodeKind.{TOKEN_TREE}
 use Rattle.rap_events.specs.Record.{Record, next_kind}
 use Rattle.rap_events.specs.Composite.{is_at}
 use Rattle.rap_grammar_scripts.specs.First.{one_of, is_bracket}
-use Rattle.rap_grammar_scripts.specs.Phrase.{Phrase, bracketed}
+use Rattle.rap_grammar_scripts.specs.Phrase.{Phrase}
+use Rattle.rap_grammar_scripts.specs.Phrase as phrase
 use Rattle.rap_grammar_scripts.specs.Script.{Script, nothing, block, give, token, any, report, skip, start, finish, after, loop, again}
 use Rattle.rap_grammar_scripts.specs.Words.{done, if_some, next_is, expect, ◌▸◌, call, recur, choose}
 
@@ -16,7 +17,7 @@ tokens_turn ket a b =
     choose
     ((is_at EOF, done)
     ∷ (is_at ket, done)
-    ∷ (λ rs. is_bracket (next_kind rs), recur bracketed ▸ give (again a b))
+    ∷ (λ rs. is_bracket (next_kind rs), recur phrase.token_tree ▸ give (again a b))
     ∷ (next_is R_CURLY, report (codes "unmatched `}`") ▸ give nothing)
     ∷ (λ rs. one_of (R_PAREN ∷ R_BRACK ∷ []) (next_kind rs), skip (codes "unmatched brace") ▸ give (again a b))
     ∷ [])
@@ -32,8 +33,8 @@ tokens_in ket =
     start ▸ any ▸
     after (tokens_to ket) (λ v. if_some v (expect ket ▸ finish TOKEN_TREE ▸ done) (finish TOKEN_TREE ▸ done))
 
-unfoldable pub bracketed_tokens : Script Phrase
-bracketed_tokens =
+unfoldable pub token_tree : Script Phrase
+token_tree =
     choose
     ((next_is L_PAREN, tokens_in R_PAREN)
     ∷ (next_is L_BRACK, tokens_in R_BRACK)
@@ -49,7 +50,7 @@ unfoldable pub macro_call_after_excl : Script Phrase
 macro_call_after_excl =
     token BANG ▸
     choose
-    ((next_is L_CURLY, call bracketed_tokens ▸ give block)
-    ∷ (λ rs. is_bracket (next_kind rs), call bracketed_tokens ▸ done)
+    ((next_is L_CURLY, call token_tree ▸ give block)
+    ∷ (λ rs. is_bracket (next_kind rs), call token_tree ▸ done)
     ∷ [])
     (report (codes "expected `{`, `[`, `(`") ▸ done)

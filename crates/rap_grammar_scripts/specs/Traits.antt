@@ -6,7 +6,7 @@ use Rattle.rap_events.specs.Record.{Record, kind_at}
 use Rattle.rap_events.specs.Composite.{is_at}
 use Rattle.rap_grammar_scripts.specs.Attributes.{inner_attrs}
 use Rattle.rap_grammar_scripts.specs.Blocks.{error_block}
-use Rattle.rap_grammar_scripts.specs.Called.{type_, item, bounds, bounds_without_colon, opt_generic_param_list, opt_where_clause}
+use Rattle.rap_grammar_scripts.specs.Called.{type_, item_or_macro, bounds, bounds_without_colon, opt_generic_param_list, opt_where_clause}
 use Rattle.rap_grammar_scripts.specs.First.{one_of}
 use Rattle.rap_grammar_scripts.specs.Grammar.{name_r}
 use Rattle.rap_grammar_scripts.specs.Phrase.{Phrase}
@@ -16,7 +16,7 @@ use Rattle.rap_grammar_scripts.specs.Words.{done, eat, expect, ◌▸◌, call, 
 
 -- an item of a trait or an implementation, or a block in its place
 unfoldable pub assoc_item : Script Phrase
-assoc_item = test (is_at L_CURLY) (error_block (codes "expected an item")) (item true false)
+assoc_item = test (is_at L_CURLY) (error_block (codes "expected an item")) (item_or_macro true false)
 
 abbrev pub assoc_turn : Bool → Bool → Script Phrase
 assoc_turn a b = choose ((is_at EOF, done) ∷ (is_at R_CURLY, done) ∷ []) (call assoc_item ▸ give (again a b))
@@ -53,18 +53,18 @@ abbrev pub not_a_qualified_path : List Record → Bool
 not_a_qualified_path rs =
     one_of (POUND ∷ R_ANGLE ∷ CONST_KW ∷ []) (kind_at rs 1) || (one_of (LIFETIME_IDENT ∷ IDENT ∷ []) (kind_at rs 1) && one_of (R_ANGLE ∷ COMMA ∷ COLON ∷ EQ ∷ []) (kind_at rs 2))
 
-abbrev pub starts_impl_params : List Record → Bool
-starts_impl_params rs = is_at L_ANGLE rs && not_a_qualified_path rs
+abbrev pub is_impl_params_start : List Record → Bool
+is_impl_params_start rs = is_at L_ANGLE rs && not_a_qualified_path rs
 
 unfoldable pub impl_params : Script Phrase
-impl_params = optional starts_impl_params opt_generic_param_list
+impl_params = optional is_impl_params_start opt_generic_param_list
 
 -- a `!` before a trait, and not before the braces: there it is the type
-abbrev pub starts_negative : List Record → Bool
-starts_negative rs = is_at BANG rs && not (is_at L_CURLY (drop 1 rs))
+abbrev pub is_negative_start : List Record → Bool
+is_negative_start rs = is_at BANG rs && not (is_at L_CURLY (drop 1 rs))
 
 unfoldable pub opt_negative : Script Phrase
-opt_negative = optional starts_negative (token BANG ▸ done)
+opt_negative = optional is_negative_start (token BANG ▸ done)
 
 -- a trait or a type
 unfoldable pub impl_type : Script Phrase

@@ -4,7 +4,7 @@ use Rattle.std.specs.Prelude.{codes}
 use Rattle.rap_base.specs.TokenKind.{COLON, EQ, L_ANGLE, FOR_KW}
 use Rattle.rap_base.specs.NodeKind.{FOR_BINDER, PATH_TYPE}
 use Rattle.rap_events.specs.Composite.{is_at}
-use Rattle.rap_grammar_scripts.specs.Called.{type_, for_parameters}
+use Rattle.rap_grammar_scripts.specs.Called.{type_, generic_param_list}
 use Rattle.rap_grammar_scripts.specs.Paths.{type_path}
 use Rattle.rap_grammar_scripts.specs.Phrase.{Phrase}
 use Rattle.rap_grammar_scripts.specs.Script.{Script, test, token, report, start, finish}
@@ -17,7 +17,7 @@ ascription = token COLON ▸ test (is_at EQ) (report (codes "missing type") ▸ 
 unfoldable pub for_binder : Script Phrase
 for_binder =
     start ▸ token FOR_KW ▸
-    test (is_at L_ANGLE) (call for_parameters ▸ finish FOR_BINDER ▸ done)
+    test (is_at L_ANGLE) (call generic_param_list ▸ finish FOR_BINDER ▸ done)
     (report (codes "expected `<`") ▸ finish FOR_BINDER ▸ done)
 
 unfoldable pub path_type : Script Phrase

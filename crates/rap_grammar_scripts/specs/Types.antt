@@ -6,7 +6,7 @@ use Rattle.rap_events.specs.Record.{Record, next_kind}
 use Rattle.rap_events.specs.Composite.{is_at}
 use Rattle.rap_grammar_scripts.specs.Atom.{expr}
 use Rattle.rap_grammar_scripts.specs.Called.{type_, type_no_bounds, pattern}
-use Rattle.rap_grammar_scripts.specs.First.{one_of, is_fn_ptr_first, starts_weak_dyn, starts_use_path, starts_path}
+use Rattle.rap_grammar_scripts.specs.First.{one_of, is_fn_ptr_first, starts_weak_dyn, is_use_path_start, is_path_start}
 use Rattle.rap_grammar_scripts.specs.GenericParams.{bounds_without_colon, bounds_without_colon_m}
 use Rattle.rap_grammar_scripts.specs.Grammar.{lifetime, abi, opt_ret_type}
 use Rattle.rap_grammar_scripts.specs.TokenTree.{macro_call_after_excl, starts_macro_call}
@@ -99,7 +99,7 @@ bounds_if allow_bounds kind = if allow_bounds then opt_type_bounds_as_dyn_trait_
 
 -- a function pointer or a path comes next
 abbrev pub starts_for_target : List Record → Bool
-starts_for_target rs = is_fn_ptr_first (next_kind rs) || starts_use_path rs
+starts_for_target rs = is_fn_ptr_first (next_kind rs) || is_use_path_start rs
 
 abbrev pub for_target : Bool → Script Phrase
 for_target allow_bounds = call type_no_bounds ▸ finish FOR_TYPE ▸ bounds_if allow_bounds FOR_TYPE
@@ -167,7 +167,7 @@ unfoldable pub named_type : Bool → Script Phrase
 named_type allow_bounds =
     choose
     ((starts_weak_dyn, dyn_trait_type_weak)
-    ∷ (starts_path, path_or_macro_type allow_bounds)
+    ∷ (is_path_start, path_or_macro_type allow_bounds)
     ∷ (starts_bare_dyn, bare_dyn_trait_type)
     ∷ [])
     missing_type

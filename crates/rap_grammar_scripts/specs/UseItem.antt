@@ -5,7 +5,7 @@ use Rattle.rap_base.specs.NodeKind.{USE, USE_TREE, USE_TREE_LIST}
 use Rattle.rap_events.specs.Record.{Record, next_kind, kind_at}
 use Rattle.rap_events.specs.Composite.{is_at}
 use Rattle.rap_grammar_scripts.specs.Called as called
-use Rattle.rap_grammar_scripts.specs.First.{one_of, starts_use_path}
+use Rattle.rap_grammar_scripts.specs.First.{one_of, is_use_path_start}
 use Rattle.rap_grammar_scripts.specs.Grammar.{delimited, opt_rename}
 use Rattle.rap_grammar_scripts.specs.Paths.{use_path}
 use Rattle.rap_grammar_scripts.specs.Phrase.{Phrase}
@@ -18,12 +18,12 @@ abbrev pub is_group_first : ℕ → Bool
 is_group_first kind = one_of (STAR ∷ L_CURLY ∷ []) kind
 
 -- the same behind `::`
-abbrev pub starts_global_group : List Record → Bool
-starts_global_group rs = is_at COLON2 rs && is_group_first (kind_at rs 2)
+abbrev pub is_global_group_start : List Record → Bool
+is_global_group_start rs = is_at COLON2 rs && is_group_first (kind_at rs 2)
 
 -- a tree of names comes next
-abbrev pub starts_use_tree : List Record → Bool
-starts_use_tree rs = is_group_first (next_kind rs) || starts_use_path rs
+abbrev pub is_use_tree_start : List Record → Bool
+is_use_tree_start rs = is_group_first (next_kind rs) || is_use_path_start rs
 
 -- the search for a tree in braces: where it ends, the list goes on
 abbrev pub is_use_tree_list_recovery : ℕ → Bool
@@ -39,7 +39,7 @@ missing_use_tree = codes "expected one of `*`, `::`, `{`, `self`, `super` or an 
 -- a tree in braces; where none begins, a token is taken along
 unfoldable pub nested_use_tree : Script Phrase
 nested_use_tree =
-    test starts_use_tree called.use_tree
+    test is_use_tree_start called.use_tree
     (skip missing_use_tree ▸ only_if (λ rs. is_use_tree_list_recovery (next_kind rs)) done)
 
 unfoldable pub use_tree_list : Script Phrase
@@ -65,13 +65,13 @@ use_tree =
     start ▸
     choose
     ((λ rs. is_group_first (next_kind rs), call group ▸ finish USE_TREE ▸ done)
-    ∷ (starts_global_group, token COLON2 ▸ call group ▸ finish USE_TREE ▸ done)
+    ∷ (is_global_group_start, token COLON2 ▸ call group ▸ finish USE_TREE ▸ done)
     ∷ [])
     (call use_path ▸ call after_use_path ▸ finish USE_TREE ▸ done)
 
 -- the tree of an import; where none begins, the next token is taken along, unless an item begins there
 unfoldable pub expect_use_tree : Script Phrase
-expect_use_tree = test starts_use_tree use_tree (recover missing_use_tree is_item_recovery done done)
+expect_use_tree = test is_use_tree_start use_tree (recover missing_use_tree is_item_recovery done done)
 
 unfoldable pub use_ : Script Phrase
 use_ = token USE_KW ▸ call expect_use_tree ▸ expect SEMICOLON ▸ finish USE ▸ done

@@ -4,7 +4,7 @@ ghost use Rattle.rap_base.specs.TokenKind.{LIFETIME_IDENT, COLON, BANG, MINUS};
 ghost use Rattle.rap_base.specs.NodeKind.{PATH_EXPR};
 ghost use Rattle.rap_events.specs.State.{state, next, IsLast};
 ghost use Rattle.rap_grammar_scripts.specs.ConstArgs as const_script;
-ghost use Rattle.rap_grammar_scripts.specs.First.{is_const_arg_first, is_generic_arg_first, is_type_first, is_path_name, starts_path};
+ghost use Rattle.rap_grammar_scripts.specs.First.{is_const_arg_first, is_generic_arg_first, is_type_first, is_path_name, is_path_start};
 ghost use Rattle.rap_grammar_scripts.specs.GenericArgs as script;
 ghost use Rattle.rap_grammar_frame.specs.Grew.{Within, Took, Behind, Grew, Ended, Makes};
 ghost use Rattle.rap_grammar_scripts.specs.Knot.{Follows};
@@ -250,7 +250,7 @@ fn const_arg_expr<G: Grammar>(p: &mut Parser<'_>, g: &G) -> Result<(), NoMemory>
 /// A path as a constant, as `a::b`.
 fn const_path<G: Grammar>(p: &mut Parser<'_>, g: &G) -> Result<CompletedMarker, NoMemory>
     requires within { Within G.valid G.left g.now (state p.old) }
-    requires path { starts_path (state p.old).rest ≡ true }
+    requires path { is_path_start (state p.old).rest ≡ true }
     ensures made { IfOk result (Makes PATH_EXPR atom_room (state p.old) (state p.new)) }
     ensures script { OnOk result (Follows const_script.const_path something (state p.old) (state p.new)) }
 {

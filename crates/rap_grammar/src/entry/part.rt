@@ -209,7 +209,7 @@ pub fn item(alloc: Global, input: &Input) -> Result<Output, NoMemory>
 {
     let mut p = Parser::new(alloc, input);
     // Only `safe fn` is more than elsewhere in a foreign block, and there is no other reading of it.
-    let item = Rule::Item {
+    let item = Rule::ItemOrMacro {
         stop_on_r_curly: true,
         is_in_extern: true,
     };
@@ -222,7 +222,7 @@ pub fn item(alloc: Global, input: &Input) -> Result<Output, NoMemory>
 pub fn meta_item(alloc: Global, input: &Input) -> Result<Output, NoMemory>
     requires { length input.now ≤ max_tokens }
     ensures prefix { IfOk result (IsPrefixOver input.now) }
-    ensures script { IfOk result (IsPrefixOf called_script.inner_meta input.now) }
+    ensures script { IfOk result (IsPrefixOf called_script.meta input.now) }
 {
     let mut p = Parser::new(alloc, input);
     super::meta_item(&mut p)?;

@@ -79,7 +79,7 @@ pub fn expr(alloc: Global, input: &Input) -> Result<Output, NoMemory>
 pub fn meta_item(alloc: Global, input: &Input) -> Result<Output, NoMemory>
     requires { length input.now ≤ max_tokens }
     ensures tree { IfOk result (IsTreeOver input.now) }
-    ensures script { IfOk result (IsTopOf called_script.inner_meta input.now) }
+    ensures script { IfOk result (IsTopOf called_script.meta input.now) }
 {
     let mut p = Parser::new(alloc, input);
     let m = p.start()?;

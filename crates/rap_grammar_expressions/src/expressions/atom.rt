@@ -6,7 +6,7 @@ ghost use Rattle.rap_events.specs.Fit.{is_plain};
 ghost use Rattle.rap_events.specs.State.{state, next, NthAt};
 ghost use Rattle.rap_grammar_scripts.specs.Atom as script;
 ghost use Rattle.rap_grammar_scripts.specs.Expressions.{of_expr, of_like};
-ghost use Rattle.rap_grammar_scripts.specs.First.{starts_path};
+ghost use Rattle.rap_grammar_scripts.specs.First.{is_path_start};
 ghost use Rattle.rap_grammar_frame.specs.Grew.{Within, Made, Behind, Grew, Makes};
 ghost use Rattle.rap_grammar_scripts.specs.Knot.{Follows};
 ghost use Rattle.rap_grammar_frame.specs.Room.{atom_room};
@@ -170,7 +170,7 @@ fn path_expr<G: Grammar>(
     r: Restrictions,
 ) -> Result<(CompletedMarker, BlockLike), NoMemory>
     requires within { Within G.valid G.left g.now (state p.old) }
-    requires path { starts_path (state p.old).rest ≡ true }
+    requires path { is_path_start (state p.old).rest ≡ true }
     ensures made { IfOk result (λ e. Made (state p.old) (state p.new) e.0 atom_room × (is_plain e.0.kind.value ≡ true)) }
     ensures script { IfOk result (λ e. Follows (script.path_expr r) (of_like e.1) (state p.old) (state p.new)) }
 {

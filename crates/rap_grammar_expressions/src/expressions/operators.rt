@@ -153,7 +153,7 @@ fn bin_expr<G: Grammar>(
         prefer_stmt: false,
         ..r
     };
-    g.run(p, Rule::Expr { m: None, r, bp })?;
+    g.run(p, Rule::ExprBp { m: None, r, bp })?;
     let cm = m.complete_fit(p, SyntaxKind::BIN_EXPR)?;
     Ok(cm)
 }
@@ -235,7 +235,7 @@ pub(crate) fn ref_expr<G: Grammar>(
     ref_qualifier(p)?;
     g.run(
         p,
-        Rule::Expr {
+        Rule::ExprBp {
             m: None,
             r,
             bp: PREFIX_POWER,
@@ -260,7 +260,7 @@ pub(crate) fn prefix_expr<G: Grammar>(
     let m = p.start()?;
     p.bump_any()?;
     let bp = PREFIX_POWER;
-    g.run(p, Rule::Expr { m: None, r, bp })?;
+    g.run(p, Rule::ExprBp { m: None, r, bp })?;
     let cm = m.complete(p, SyntaxKind::PREFIX_EXPR)?;
     Ok(cm)
 }

@@ -1,6 +1,6 @@
 use Rattle.std.proofs.Common.{refl, rules, true, false}
 use Rattle.rap_grammar_scripts.specs.Knot.{script_of}
-use Rattle.rap_grammar_scripts.specs.Phrase.{any_item}
+use Rattle.rap_grammar_scripts.specs.Phrase as phrase
 use Rattle.rap_grammar_scripts.specs.Script.{gives, passes, fails}
 use Rattle.rap_grammar_scripts.specs.Items.{items}
 use Rattle.rap_grammar_frame.proofs.Steps.{by_part, turn, last_turn}
@@ -11,14 +11,14 @@ pub items-preserved : goal.items-preserved
 unfolding script_of
 items-preserved c = record {
   grew = search rules;
-  script = turn c.items.invariant.script (fails (search rules) (fails (and_false _) (by_part (any_item false true) c.in_ok-run.ensures.1 gives)));
+  script = turn c.items.invariant.script (fails (search rules) (fails (and_false _) (by_part (phrase.item_or_macro false true) c.in_ok-run.ensures.1 gives)));
 }
 
 pub items-preserved-in_ok-run : goal.items-preserved-in_ok-run
 unfolding script_of
 items-preserved-in_ok-run c = record {
   grew = search rules;
-  script = turn c.items.invariant.script (fails (search rules) (fails (and_false _) (by_part (any_item false true) c.in_ok-run.ensures.1 gives)));
+  script = turn c.items.invariant.script (fails (search rules) (fails (and_false _) (by_part (phrase.item_or_macro false true) c.in_ok-run.ensures.1 gives)));
 }
 
 pub returns-clause-rest : goal.returns-clause-rest

@@ -1,6 +1,6 @@
 use Rattle.std.proofs.Common.{refl, rules}
 use Rattle.rap_grammar_scripts.specs.Knot.{script_of}
-use Rattle.rap_grammar_scripts.specs.Phrase.{statement}
+use Rattle.rap_grammar_scripts.specs.Phrase as phrase
 use Rattle.rap_grammar_scripts.specs.Script.{gives, passes, fails}
 use Rattle.rap_grammar_scripts.specs.Statements.{macro_stmts}
 use Rattle.rap_grammar_scripts.specs.declared.arguments.Semicolon.TheVariants as semicolon
@@ -11,14 +11,14 @@ pub statements-preserved : goal.statements-preserved
 unfolding script_of
 statements-preserved c = record {
   grew = search rules;
-  script = turn c.statements.invariant.script (fails (search rules) (by_part (statement semicolon.Optional) c.in_ok-run.ensures.1 gives));
+  script = turn c.statements.invariant.script (fails (search rules) (by_part (phrase.stmt semicolon.Optional) c.in_ok-run.ensures.1 gives));
 }
 
 pub statements-preserved-in_ok-run : goal.statements-preserved-in_ok-run
 unfolding script_of
 statements-preserved-in_ok-run c = record {
   grew = search rules;
-  script = turn c.statements.invariant.script (fails (search rules) (by_part (statement semicolon.Optional) c.in_ok-run.ensures.1 gives));
+  script = turn c.statements.invariant.script (fails (search rules) (by_part (phrase.stmt semicolon.Optional) c.in_ok-run.ensures.1 gives));
 }
 
 pub returns-clause-rest : goal.returns-clause-rest

@@ -1,6 +1,6 @@
 use Rattle.rap_grammar_scripts.specs.Attributes.{cfg_attr_metas}
 use Rattle.rap_grammar_scripts.specs.Knot.{script_of}
-use Rattle.rap_grammar_scripts.specs.Phrase.{meta_item}
+use Rattle.rap_grammar_scripts.specs.Phrase as phrase
 use Rattle.rap_grammar_scripts.specs.Script.{gives}
 use Rattle.std.proofs.Common.{refl, rules}
 use Rattle.rap_grammar_frame.proofs.Steps.{then_by, else_by, by_part, ate, not_ate, turn, last_turn}
@@ -13,7 +13,7 @@ metas-preserved g c = record {
   script = turn c.metas.invariant.script
       (else_by c.at.ensures c.metas-test.true
       (else_by c.at-in-metas.ensures c.if-not-at.true
-      (by_part meta_item c.in_ok-run.ensures.1 (ate c.in_ok-eat.ensures.state c.if-not-branch.false gives))));
+      (by_part phrase.meta c.in_ok-run.ensures.1 (ate c.in_ok-eat.ensures.state c.if-not-branch.false gives))));
 }
 
 pub returns-then-not-branch-clause-script : goal.returns-then-not-branch-clause-script
@@ -22,7 +22,7 @@ returns-then-not-branch-clause-script g c = record {
   run = last_turn c.metas.invariant.script
       (else_by c.at.ensures c.metas-test.true
       (else_by c.at-in-metas.ensures c.if-not-at.true
-      (by_part meta_item c.in_ok-run.ensures.1 (not_ate c.in_ok-eat.ensures.state c.if-not-branch.true gives)))) refl;
+      (by_part phrase.meta c.in_ok-run.ensures.1 (not_ate c.in_ok-eat.ensures.state c.if-not-branch.true gives)))) refl;
 }
 
 pub returns-else-not-at-clause-script : goal.returns-else-not-at-clause-script

@@ -1,6 +1,6 @@
 use Rattle.rap_grammar_scripts.specs.Called.{opt_generic_param_list}
 use Rattle.rap_grammar_scripts.specs.Knot.{script_of}
-use Rattle.rap_grammar_scripts.specs.Phrase.{generic_parameters}
+use Rattle.rap_grammar_scripts.specs.Phrase as phrase
 use Rattle.rap_grammar_scripts.specs.Script.{gives}
 use Rattle.rap_grammar_frame.proofs.Steps.{by_part, then_by, else_by}
 use Rattle.rap_grammar_frame.proofs.called.opt_generic_param_list.Goals as goal
@@ -11,4 +11,4 @@ returns-then-not-at-clause-script g c = record { run = else_by c.at.ensures c.if
 
 pub returns-clause-script : goal.returns-clause-script
 unfolding opt_generic_param_list script_of
-returns-clause-script g c = record { run = then_by c.at.ensures c.if-not-at.false (by_part generic_parameters c.in_ok-run.ensures.1 gives) }
+returns-clause-script g c = record { run = then_by c.at.ensures c.if-not-at.false (by_part phrase.generic_param_list c.in_ok-run.ensures.1 gives) }

@@ -1,6 +1,6 @@
 use Rattle.rap_grammar_scripts.specs.Called.{opt_where_clause}
 use Rattle.rap_grammar_scripts.specs.Knot.{script_of}
-use Rattle.rap_grammar_scripts.specs.Phrase.{where_part}
+use Rattle.rap_grammar_scripts.specs.Phrase as phrase
 use Rattle.rap_grammar_scripts.specs.Script.{gives}
 use Rattle.rap_grammar_frame.proofs.Steps.{by_part, then_by, else_by}
 use Rattle.rap_grammar_frame.proofs.called.opt_where_clause.Goals as goal
@@ -11,4 +11,4 @@ returns-then-not-at-clause-script g c = record { run = else_by c.at.ensures c.if
 
 pub returns-clause-script : goal.returns-clause-script
 unfolding opt_where_clause script_of
-returns-clause-script g c = record { run = then_by c.at.ensures c.if-not-at.false (by_part where_part c.in_ok-run.ensures.1 gives) }
+returns-clause-script g c = record { run = then_by c.at.ensures c.if-not-at.false (by_part phrase.where_clause c.in_ok-run.ensures.1 gives) }

@@ -1,10 +1,10 @@
 use Rattle.rap_grammar_scripts.specs.Called.{pattern}
 use Rattle.rap_grammar_scripts.specs.Knot.{script_of}
-use Rattle.rap_grammar_scripts.specs.Phrase.{any_pattern}
+use Rattle.rap_grammar_scripts.specs.Phrase as phrase
 use Rattle.rap_grammar_scripts.specs.Script.{gives}
 use Rattle.rap_grammar_frame.proofs.Steps.{by_part}
 use Rattle.rap_grammar_frame.proofs.called.pattern.Goals as goal
 
 pub returns-clause-script : goal.returns-clause-script
 unfolding pattern script_of
-returns-clause-script g c = record { run = by_part any_pattern c.in_ok-run.ensures.1 gives }
+returns-clause-script g c = record { run = by_part phrase.pattern c.in_ok-run.ensures.1 gives }

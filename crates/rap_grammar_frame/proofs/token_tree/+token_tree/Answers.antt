@@ -4,7 +4,7 @@ use Rattle.rap_events.specs.Fit.{partner}
 use Rattle.rap_grammar_scripts.specs.First.{one_of, is_bracket}
 use Rattle.rap_grammar_scripts.specs.TokenTree.{tokens_to}
 use Rattle.rap_grammar_scripts.specs.Knot.{script_of}
-use Rattle.rap_grammar_scripts.specs.Phrase.{bracketed}
+use Rattle.rap_grammar_scripts.specs.Phrase as phrase
 use Rattle.rap_grammar_scripts.specs.Script.{gives, passes, fails, follows}
 use Rattle.rap_grammar_scripts.proofs.Balance.{nests_as_brackets}
 use Rattle.rap_grammar_frame.proofs.Steps.{then_by, else_by, by_kind, by_part, by_start, by_any, by_report, by_skip, by_expect, by_complete, turn, last_turn, clash}
@@ -29,7 +29,7 @@ tokens-preserved-then-is_bracket t c = record {
       (else_by c.at.ensures c.tokens-test.true
       (else_by c.at-in-tokens.ensures c.if-not-at.true
       (then_by (by_kind is_bracket c.is_bracket.ensures c.current-kind.ensures.kind) c.if-is_bracket.true
-      (by_part bracketed c.in_ok-token_tree.ensures.script gives))));
+      (by_part phrase.token_tree c.in_ok-token_tree.ensures.script gives))));
 }
 
 pub tokens-preserved-then-is_unmatched : goal.tokens-preserved-then-is_unmatched

@@ -1,6 +1,6 @@
 use Rattle.rap_grammar_scripts.specs.Called.{use_tree}
 use Rattle.rap_grammar_scripts.specs.Knot.{script_of}
-use Rattle.rap_grammar_scripts.specs.Phrase.{tree_of_use}
+use Rattle.rap_grammar_scripts.specs.Phrase as phrase
 use Rattle.rap_grammar_scripts.specs.Script.{gives}
 use Rattle.rap_grammar_scripts.specs.UseItem.{nested_use_tree}
 use Rattle.rap_grammar_frame.proofs.Steps.{by_part, by_skip, decided, else_by, then_by}
@@ -10,7 +10,7 @@ pub returns-then-is_use_tree_start-clause-script : goal.returns-then-is_use_tree
 unfolding nested_use_tree use_tree script_of
 returns-then-is_use_tree_start-clause-script g c = record {
   run = then_by c.is_use_tree_start.ensures c.if-is_use_tree_start.true
-      (by_part tree_of_use c.in_ok-run.ensures.1 gives);
+      (by_part phrase.use_tree c.in_ok-run.ensures.1 gives);
 }
 
 pub returns-clause-script : goal.returns-clause-script

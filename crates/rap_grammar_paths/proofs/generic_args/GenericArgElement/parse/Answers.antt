@@ -1,7 +1,7 @@
 use Rattle.std.proofs.Common.{rules}
 use Rattle.rap_grammar_scripts.specs.Called.{generic_arg_element}
 use Rattle.rap_grammar_scripts.specs.Knot.{script_of}
-use Rattle.rap_grammar_scripts.specs.Phrase.{generic_argument}
+use Rattle.rap_grammar_scripts.specs.Phrase as phrase
 use Rattle.rap_grammar_scripts.specs.Script.{gives, passes, fails}
 use Rattle.rap_grammar_frame.proofs.Steps.{by_part}
 use Rattle.rap_grammar_paths.proofs.generic_args.GenericArgElement.parse.Goals as goal
@@ -12,4 +12,4 @@ returns-then-not-is_generic_arg_first-clause-script g c = record { run = fails (
 
 pub returns-clause-script : goal.returns-clause-script
 unfolding generic_arg_element script_of
-returns-clause-script g c = record { run = passes (search rules) (by_part generic_argument c.in_ok-run.ensures.1 gives) }
+returns-clause-script g c = record { run = passes (search rules) (by_part phrase.generic_arg c.in_ok-run.ensures.1 gives) }

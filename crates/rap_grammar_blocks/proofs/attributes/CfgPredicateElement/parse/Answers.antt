@@ -1,10 +1,10 @@
 use Rattle.rap_grammar_scripts.specs.Called.{cfg_predicate_element}
 use Rattle.rap_grammar_scripts.specs.First.{is_cfg_predicate_first}
 use Rattle.rap_grammar_scripts.specs.Knot.{script_of}
-use Rattle.rap_grammar_scripts.specs.Phrase.{condition}
+use Rattle.rap_grammar_scripts.specs.Phrase as phrase
 use Rattle.rap_grammar_scripts.specs.Script.{gives}
 use Rattle.rap_grammar_frame.proofs.Steps.{then_by, else_by, by_kind, by_part}
-use Rattle.rap_grammar_blocks.proofs.attributes.CfgOperandElement.parse.Goals as goal
+use Rattle.rap_grammar_blocks.proofs.attributes.CfgPredicateElement.parse.Goals as goal
 
 pub returns-then-not-is_cfg_predicate_first-clause-script : goal.returns-then-not-is_cfg_predicate_first-clause-script
 unfolding cfg_predicate_element
@@ -18,5 +18,5 @@ unfolding cfg_predicate_element script_of
 returns-clause-script g c = record {
   run = then_by (by_kind is_cfg_predicate_first c.is_cfg_predicate_first.ensures c.current.ensures.kind)
       c.if-not-is_cfg_predicate_first.false
-      (by_part condition c.in_ok-run.ensures.1 gives);
+      (by_part phrase.cfg_predicate c.in_ok-run.ensures.1 gives);
 }
