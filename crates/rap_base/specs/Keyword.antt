@@ -72,7 +72,7 @@ reserved_2024 =
     (codes "gen", GEN_KW) ∷
     []
 
--- the words that are keywords only where the grammar asks for them
+-- the words that are keywords only where the grammar expects them
 abbrev pub contextual_ever : List (List ℕ × ℕ)
 contextual_ever =
     (codes "asm", ASM_KW) ∷
@@ -152,7 +152,7 @@ is_keyword kind edition = has_kind (reserved edition) kind || has_kind (contextu
 abbrev pub is_any_identifier : ℕ → Bool
 is_any_identifier kind = kind == IDENT || is_keyword kind Edition2024
 
--- a small letter made a capital one; every other byte stays
+-- the capital of a small letter; any other byte is unchanged
 abbrev pub capital : ℕ → ℕ
 capital letter = if nat_le 97 letter && nat_le letter 122 then letter - 32 else letter
 

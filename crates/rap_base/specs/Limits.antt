@@ -1,6 +1,6 @@
 -- The limits of texts and inputs.
 use Rattle.std.specs.Prelude.{ℕ}
 
--- the most tokens that an input may have for a parse: one less than 2^23
+-- the most tokens of an input that can be parsed: 2^23 - 1
 abbrev pub max_tokens : ℕ
 max_tokens = 8388607

@@ -11,7 +11,7 @@ pub record IsTokenKind (kind : ℕ) : Type 0 where
   pub token : is_token kind ≡ true
   pub some : kind ≢ EOF
 
--- what the grammar never sees
+-- white space, or a comment that is no doc comment: the grammar's input has none
 abbrev pub is_trivia : ℕ → Bool
 is_trivia kind = kind == WHITESPACE || kind == COMMENT
 

@@ -6,7 +6,7 @@ use std::error::Error;
 use std::fmt;
 use std::str::FromStr;
 
-/// An edition of Rust. Editions are ordered by their years.
+/// An edition of Rust. Editions are ordered by year.
 #[derive(Clone, Copy, PartialEq, Eq, PartialOrd, Ord, Hash, Debug)]
 pub enum Edition {
     Edition2015,
@@ -16,7 +16,7 @@ pub enum Edition {
 }
 
 impl Edition {
-    /// The edition that new packages are made with.
+    /// The edition that new packages use by default.
     pub const CURRENT: Edition = Edition::Edition2024;
 
     /// The latest edition.
@@ -39,7 +39,7 @@ impl Edition {
     }
 }
 
-/// Reads an edition from the four digits of its year, and nothing else.
+/// Reads an edition from the four digits of its year. Any other text is an error.
 impl FromStr for Edition {
     type Err = InvalidEdition;
 
@@ -56,7 +56,7 @@ impl FromStr for Edition {
     }
 }
 
-/// The text is the year of no edition.
+/// The error of a text that is not the year of an edition.
 #[derive(Clone, Copy, PartialEq, Eq, Debug)]
 pub struct InvalidEdition;
 

@@ -1,4 +1,4 @@
-//! What every layer of the parser stands on: editions, kinds, sets of kinds and white space.
+//! What every layer of the parser uses: editions, kinds of tokens and nodes, sets of token kinds, and white space.
 #![tactic(auto)]
 
 pub mod edition;

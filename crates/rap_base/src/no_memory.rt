@@ -1,11 +1,11 @@
-//! Out of memory.
+//! The error of a call that was out of memory.
 ghost use Rattle.std.specs.Prelude.{Some, codes};
 
 use std::alloc::{AllocError, AllocFailed};
 use std::error::Error;
 use std::fmt;
 
-/// Out of memory: a growth was refused.
+/// Out of memory: the allocator refused a request.
 #[derive(Clone, Copy, PartialEq, Eq, Debug)]
 pub struct NoMemory;
 

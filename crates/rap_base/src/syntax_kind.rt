@@ -11,7 +11,7 @@ mod names;
 mod numbers;
 mod token_tests;
 
-/// The kind of a token or a node: its place in the table of kinds. Contracts see that number.
+/// The kind of a token or a node, as its number in the table of kinds. Contracts see that number.
 ///
 /// The tokens come first, from `EOF` to `SHEBANG`, then the nodes from `TOMBSTONE` on. `ERROR` is both a
 /// token and a node.
@@ -711,7 +711,7 @@ impl From<SyntaxKind> for u16 {
 }
 
 impl SyntaxKind {
-    /// The kind with the number `d`, the inverse of `u16::from`. The last kind is `PATH_META`.
+    /// Returns the kind with the number `d`: the inverse of `u16::from`. The last kind is `PATH_META`.
     pub fn from_u16(d: u16) -> SyntaxKind
         requires { d ≤ PATH_META }
         ensures { result ≡ d }

@@ -6,7 +6,7 @@ ghost use Rattle.rap_base.specs.TokenTests.{is_token};
 
 use crate::syntax_kind::SyntaxKind;
 
-/// How many words have a bit for each kind of token, which are 157.
+/// The number of 64-bit words of a set: there are 157 kinds of tokens.
 const WORDS: usize = 3;
 
 /// A set of token kinds, as bits: the kind with the number n is bit n mod 64 of word n div 64.
@@ -16,15 +16,15 @@ pub struct TokenSet {
 }
 
 impl TokenSet {
-    /// The set without kinds.
+    /// The empty set.
     pub const EMPTY: TokenSet = TokenSet { words: [0; WORDS] };
 
-    /// The law of the set without kinds: no kind is in it. It does nothing.
+    /// States in its contract that the empty set has no kind. The body does nothing.
     pub fn empty_has_no_kind()
         ensures { (kind : ℕ) → member TokenSet.EMPTY kind ≡ false }
     {}
 
-    /// The set of these kinds, which are kinds of tokens.
+    /// Returns the set of the given kinds. Each must be a token's kind.
     pub fn new(kinds: &[SyntaxKind]) -> TokenSet
         requires { IsTrue (list_all is_token kinds.now) }
         ensures { (kind : ℕ) → member result kind ≡ list_any (λ k. k == kind) kinds.now }
@@ -37,7 +37,7 @@ impl TokenSet {
         set
     }
 
-    /// The set of the kinds that are in either set.
+    /// Returns the set of the kinds that are in one of the two sets.
     pub fn union(self, other: TokenSet) -> TokenSet
         ensures { (kind : ℕ) → member result kind ≡ (member self kind || member other kind) }
     {
@@ -50,7 +50,7 @@ impl TokenSet {
         }
     }
 
-    /// Whether the set has `kind`, which is a kind of tokens.
+    /// Returns whether `kind`, which must be a token's kind, is in the set.
     pub fn contains(&self, kind: SyntaxKind) -> bool
         requires { IsTrue (is_token kind) }
         ensures { result ≡ member self.now kind }

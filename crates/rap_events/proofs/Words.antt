@@ -34,7 +34,8 @@ HasWord ms (float_split ends_in_dot) number = ⊤
 HasWord ms (error bytes) number = text_at ms number ≡ bytes
 
 -- the law of the words of steps: reading a step's word back gives the step
-pub step_back : (ms : List (List ℕ)) (s : StepValue) (number : ℕ) → HasWord ms s number → value_of ms (event_of (word_of s number)) ≡ s
+pub step_back : (ms : List (List ℕ)) (s : StepValue) (number : ℕ) → HasWord ms s number →
+    value_of ms (event_of (word_of s number)) ≡ s
 step_back ms (token kind width) number h = ap (value_of ms) (event_of-fields 0 width kind (omega arith) h)
 step_back ms (enter kind) number h = ap (value_of ms) (event_of-fields 1 0 kind (omega arith) (omega arith))
 step_back ms exit number h = refl

@@ -27,7 +27,9 @@ leaves (split before ends_in_dot) = leaves before ++ of_float ends_in_dot ∷ []
 -- A token may bear its own kind. An identifier may bear the keyword that it is read as, and a keyword may be
 -- read as an identifier.
 abbrev pub may_bear : Record → ℕ → Bool
-may_bear r kind = (r.kind == kind) || (((r.kind == IDENT) && (r.contextual == kind)) || ((kind == IDENT) && is_keyword r.kind Edition2024))
+may_bear r kind =
+    (r.kind == kind) ||
+    (((r.kind == IDENT) && (r.contextual == kind)) || ((kind == IDENT) && is_keyword r.kind Edition2024))
 
 -- the token that comes first may bear the kind
 abbrev pub first_may_bear : List Record → ℕ → Bool
@@ -39,7 +41,8 @@ abbrev pub first_splits : List Record → Bool → Bool
 first_splits [] ends_in_dot = false
 first_splits (r ∷ rs) ends_in_dot = (r.kind == FLOAT_NUMBER) && (if r.joint then not ends_in_dot else ends_in_dot)
 
--- a leaf stands at the first tokens: at one that may bear its kind, at the two or three of its operator, or at its float
+-- a leaf stands at the first tokens: at one that may bear its kind, at the two or three of its operator, or at its
+-- float
 abbrev pub stands : Leaf → List Record → Bool
 stands (of_tokens kind width) rs =
     if width == 1 then first_may_bear rs kind

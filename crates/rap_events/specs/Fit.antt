@@ -21,7 +21,8 @@ pub record Binds (f : Forest) : Type 0 where
   pub is_no_range : power op ≢ 2
   pub is_no_cast : power op < 12
   pub right_side : right_kind ≡ BIN_EXPR → power op ≢ 1 → power op < power (operator right)
-  pub left_side : left_kind ≡ BIN_EXPR → open_ended left ≡ false → (power op ≤ power (operator left)) × (power (operator left) ≢ 1)
+  pub left_side : left_kind ≡ BIN_EXPR → open_ended left ≡ false →
+      (power op ≤ power (operator left)) × (power (operator left) ≢ 1)
 
 -- the bracket that closes an opening one
 abbrev pub partner : ℕ → ℕ

@@ -40,7 +40,12 @@ with_last_from begin (n ∷ ns) = record n { begin = begin } ∷ ns
 abbrev pub marked : ℕ → Call → Marked → Marked
 marked number call.start m = record { markers = number ∷ m.markers; nodes = m.nodes }
 marked number call.precede m = record { markers = begin_of_last m.nodes ∷ m.markers; nodes = m.nodes }
-marked number (call.finish kind) m = record { markers = drop 1 m.markers; nodes = record { kind = kind; begin = newest m.markers; end = number } ∷ m.nodes }
+marked number (call.finish kind) m =
+    record {
+      markers = drop 1 m.markers;
+      nodes = record { kind = kind; begin = newest m.markers; end = number } ∷
+          m.nodes;
+    }
 marked number call.extend m = record { markers = drop 1 m.markers; nodes = with_last_from (newest m.markers) m.nodes }
 marked number call.abandon m = record { markers = drop 1 m.markers; nodes = m.nodes }
 marked number (call.token kind width) m = m
@@ -80,7 +85,8 @@ point (call.token kind width) = token kind width ∷ []
 point (call.float_split ends_in_dot) = float_split ends_in_dot ∷ []
 point (call.error bytes) = error bytes ∷ []
 
--- from a number on, at each number: the nodes that begin there, its leaf, float or message, and the nodes that end there
+-- from a number on, at each number: the nodes that begin there, its leaf, float or message, and the nodes that end
+-- there
 abbrev pub steps_between : List Interval → ℕ → List Call → List StepValue
 steps_between ns number [] = []
 steps_between ns number (x ∷ xs) = begins ns number ++ (point x ++ (ends ns number ++ steps_between ns (number + 1) xs))
@@ -104,7 +110,8 @@ without_ends [] = []
 without_ends (enter kind ∷ ss) = enter kind ∷ without_ends ss
 without_ends (exit ∷ ss) = exit ∷ without_ends ss
 without_ends (token kind width ∷ ss) = token kind width ∷ without_ends ss
-without_ends (float_split ends_in_dot ∷ ss) = float_split ends_in_dot ∷ without_exits (ended_by ends_in_dot) (without_ends ss)
+without_ends (float_split ends_in_dot ∷ ss) =
+    float_split ends_in_dot ∷ without_exits (ended_by ends_in_dot) (without_ends ss)
 without_ends (error bytes ∷ ss) = error bytes ∷ without_ends ss
 
 -- the steps of the tree in which these intervals and points are nested

@@ -29,17 +29,62 @@ pub record Config : Type 0 where
 
 -- the newest marker becomes a node under the marker below it
 abbrev pub close : ℕ → Config → Stack → Config
-close kind c floor = record { count = c.count + 1; messages = c.messages; closed = false; marker = c.marker; forest = c.forest; below = floor; sound = false }
-close kind c (push r m b) = record { count = c.count + 1; messages = c.messages; closed = true; marker = m; forest = node b kind c.forest; below = r; sound = c.sound }
+close kind c floor =
+    record {
+      count = c.count + 1;
+      messages = c.messages;
+      closed = false;
+      marker = c.marker;
+      forest = c.forest;
+      below = floor;
+      sound = false;
+    }
+close kind c (push r m b) =
+    record {
+      count = c.count + 1;
+      messages = c.messages;
+      closed = true;
+      marker = m;
+      forest = node b kind c.forest;
+      below = r;
+      sound = c.sound;
+    }
 
 -- the newest marker is forgotten, and what it had stands under the marker below it
 abbrev pub merge : Config → Stack → Config
-merge c floor = record { count = c.count + 1; messages = c.messages; closed = false; marker = c.marker; forest = c.forest; below = floor; sound = false }
-merge c (push r m b) = record { count = c.count + 1; messages = c.messages; closed = false; marker = m; forest = b ⧺ c.forest; below = r; sound = c.sound }
+merge c floor =
+    record {
+      count = c.count + 1;
+      messages = c.messages;
+      closed = false;
+      marker = c.marker;
+      forest = c.forest;
+      below = floor;
+      sound = false;
+    }
+merge c (push r m b) =
+    record {
+      count = c.count + 1;
+      messages = c.messages;
+      closed = false;
+      marker = m;
+      forest = b ⧺ c.forest;
+      below = r;
+      sound = c.sound;
+    }
 
 -- a call that did not fit
 abbrev pub misfit : Config → Config
-misfit c = record { count = c.count + 1; messages = c.messages; closed = false; marker = c.marker; forest = c.forest; below = c.below; sound = false }
+misfit c =
+    record {
+      count = c.count + 1;
+      messages = c.messages;
+      closed = false;
+      marker = c.marker;
+      forest = c.forest;
+      below = c.below;
+      sound = false;
+    }
 
 -- a new marker takes the last node along
 abbrev pub wrap : Config → Bool → Forest → Config
@@ -48,7 +93,16 @@ wrap c closed (leaf f k w) = misfit c
 wrap c closed (message f m) = misfit c
 wrap c closed (split f d) = misfit c
 wrap c false (node f k x) = misfit c
-wrap c true (node f k x) = record { count = c.count + 1; messages = c.messages; closed = false; marker = Some c.count; forest = node none k x; below = push c.below c.marker f; sound = c.sound }
+wrap c true (node f k x) =
+    record {
+      count = c.count + 1;
+      messages = c.messages;
+      closed = false;
+      marker = Some c.count;
+      forest = node none k x;
+      below = push c.below c.marker f;
+      sound = c.sound;
+    }
 
 -- the last node takes in what stands before it under the newest marker, and that marker is gone
 abbrev pub stretch : Config → Forest → Stack → Config
@@ -57,18 +111,63 @@ stretch c none (push r m t) = misfit c
 stretch c (leaf f k w) (push r m t) = misfit c
 stretch c (message f b) (push r m t) = misfit c
 stretch c (split f d) (push r m t) = misfit c
-stretch c (node f k x) (push r m t) = record { count = c.count + 1; messages = c.messages; closed = c.closed; marker = m; forest = node t k (f ⧺ x); below = r; sound = c.closed && c.sound }
+stretch c (node f k x) (push r m t) =
+    record {
+      count = c.count + 1;
+      messages = c.messages;
+      closed = c.closed;
+      marker = m;
+      forest = node t k (f ⧺ x);
+      below = r;
+      sound = c.closed && c.sound;
+    }
 
 -- one call more
 abbrev pub step : Config → Call → Config
-step c call.start = record { count = c.count + 1; messages = c.messages; closed = false; marker = Some c.count; forest = none; below = push c.below c.marker c.forest; sound = c.sound }
+step c call.start =
+    record {
+      count = c.count + 1;
+      messages = c.messages;
+      closed = false;
+      marker = Some c.count;
+      forest = none;
+      below = push c.below c.marker c.forest;
+      sound = c.sound;
+    }
 step c call.precede = wrap c c.closed c.forest
 step c (call.finish kind) = close kind c c.below
 step c call.extend = stretch c c.forest c.below
 step c call.abandon = merge c c.below
-step c (call.token kind width) = record { count = c.count + 1; messages = c.messages; closed = false; marker = c.marker; forest = leaf c.forest kind width; below = c.below; sound = c.sound }
-step c (call.float_split ends_in_dot) = record { count = c.count + 1; messages = c.messages; closed = false; marker = c.marker; forest = split c.forest ends_in_dot; below = c.below; sound = c.sound }
-step c (call.error bytes) = record { count = c.count + 1; messages = c.messages + 1; closed = false; marker = c.marker; forest = message c.forest bytes; below = c.below; sound = c.sound }
+step c (call.token kind width) =
+    record {
+      count = c.count + 1;
+      messages = c.messages;
+      closed = false;
+      marker = c.marker;
+      forest = leaf c.forest kind width;
+      below = c.below;
+      sound = c.sound;
+    }
+step c (call.float_split ends_in_dot) =
+    record {
+      count = c.count + 1;
+      messages = c.messages;
+      closed = false;
+      marker = c.marker;
+      forest = split c.forest ends_in_dot;
+      below = c.below;
+      sound = c.sound;
+    }
+step c (call.error bytes) =
+    record {
+      count = c.count + 1;
+      messages = c.messages + 1;
+      closed = false;
+      marker = c.marker;
+      forest = message c.forest bytes;
+      below = c.below;
+      sound = c.sound;
+    }
 
 -- all calls, one after another
 abbrev pub run : Config → List Call → Config

@@ -2,9 +2,9 @@
 use Rattle.std.specs.Prelude.{ℕ, suc, zero, List, [], ◌∷◌}
 use Rattle.rap_base.specs.TokenKind.{AMP, PIPE, PLUS, STAR, SLASH, CARET, PERCENT, DOT, COLON, EQ, BANG, MINUS, L_ANGLE, R_ANGLE, DOT2, DOT3, DOT2EQ, COLON2, EQ2, FAT_ARROW, NEQ, THIN_ARROW, LTEQ, GTEQ, PLUSEQ, MINUSEQ, PIPEEQ, AMPEQ, CARETEQ, SLASHEQ, STAREQ, PERCENTEQ, AMP2, PIPE2, SHL, SHR, SHLEQ, SHREQ, AS_KW}
 
--- Each token that an operator between two expressions begins with, and the operators that it begins, in the order in which
--- they are tried: the kind, the power, and the tokens behind the first one. `=>` has the power 0: it is no operator, and
--- hides the `=` that it begins with.
+-- Each token that an operator between two expressions begins with, and the operators that it begins, in the order in
+-- which they are tried: the kind, the power, and the tokens behind the first one. `=>` has the power 0: it is no
+-- operator, and hides the `=` that it begins with.
 abbrev pub operators : List (ℕ × List (ℕ × ℕ × List ℕ))
 operators =
     (PIPE, (PIPE2, 3, PIPE ∷ []) ∷ (PIPEEQ, 1, EQ ∷ []) ∷ (PIPE, 6, []) ∷ []) ∷

@@ -54,17 +54,20 @@ none-⧺ (message before bytes) = ap (λ (f : Forest). message f bytes) (none-�
 none-⧺ (split before ends_in_dot) = ap (λ (f : Forest). split f ends_in_dot) (none-⧺ before)
 
 -- the steps of a forest, read after another forest, make both
-pub read-steps : (f : Forest) (ss : List StepValue) (begun : Begun) (g : Forest) → read (all_steps f ++ ss) begun g ≡ read ss begun (g ⧺ f)
+pub read-steps : (f : Forest) (ss : List StepValue) (begun : Begun) (g : Forest) →
+    read (all_steps f ++ ss) begun g ≡ read ss begun (g ⧺ f)
 read-steps none ss begun g = refl
 read-steps (node before kind children) ss begun g =
-    let regroup : all_steps (node before kind children) ++ ss ≡ all_steps before ++ (enter kind ∷ (all_steps children ++ exit ∷ ss)) = simp append_assoc in
+    let regroup : all_steps (node before kind children) ++ ss ≡ all_steps before ++
+    (enter kind ∷ (all_steps children ++ exit ∷ ss)) = simp append_assoc in
     rw regroup
     (read-steps before (enter kind ∷ (all_steps children ++ exit ∷ ss)) begun g
     ∙ read-steps children (exit ∷ ss) (inside begun (g ⧺ before) kind) none
     ∙ ap (λ (f : Forest). read ss begun (node (g ⧺ before) kind f)) (none-⧺ children))
 read-steps (leaf before kind width) ss begun g = rw append_assoc (read-steps before (token kind width ∷ ss) begun g)
 read-steps (message before bytes) ss begun g = rw append_assoc (read-steps before (error bytes ∷ ss) begun g)
-read-steps (split before ends_in_dot) ss begun g = rw append_assoc (read-steps before (float_split ends_in_dot ∷ ss) begun g)
+read-steps (split before ends_in_dot) ss begun g =
+    rw append_assoc (read-steps before (float_split ends_in_dot ∷ ss) begun g)
 
 abbrev pub read_whole : List StepValue → Forest
 read_whole ss = read ss nothing none
@@ -108,7 +111,9 @@ step_of-parts_of (float_split false) = refl
 step_of-parts_of (error bytes) = refl
 
 abbrev pub step_code : Coded StepValue
-step_code = code_by (ℕ × (ℕ × (ℕ × List ℕ))) (coded× coded_ℕ (coded× coded_ℕ (coded× coded_ℕ (coded_list coded_ℕ)))) parts_of step_of step_of-parts_of
+step_code =
+    code_by (ℕ × (ℕ × (ℕ × List ℕ)))
+    (coded× coded_ℕ (coded× coded_ℕ (coded× coded_ℕ (coded_list coded_ℕ)))) parts_of step_of step_of-parts_of
 
 -- a forest is stored as its steps
 abbrev pub forest_code : Coded Forest

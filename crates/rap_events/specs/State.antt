@@ -33,7 +33,17 @@ pub record State : Type 0 where
 
 abbrev pub view : List Record → List Record → Config → State
 view input rest c =
-    record { input = input; rest = rest; left = length rest; count = c.count; messages = c.messages; closed = c.closed; marker = c.marker; forest = c.forest; below = c.below }
+    record {
+      input = input;
+      rest = rest;
+      left = length rest;
+      count = c.count;
+      messages = c.messages;
+      closed = c.closed;
+      marker = c.marker;
+      forest = c.forest;
+      below = c.below;
+    }
 
 -- the calls that a parser recorded
 unfoldable pub calls : Parser → List Call
@@ -160,8 +170,8 @@ pub record Reported (old new : State) (bytes : List ℕ) : Type 0 where
   pub forest : new.forest ≡ message old.forest bytes
   pub below : new.below ≡ old.below
 
--- A float is taken, which ends in a dot or not, and the newest marker is a field access that ends with it, the last node
--- under the marker below. Where the float does not end in a dot, that node has another one around it.
+-- A float is taken, which ends in a dot or not, and the newest marker is a field access that ends with it, the last
+-- node under the marker below. Where the float does not end in a dot, that node has another one around it.
 pub record SplitFloat (old new : State) (ends_in_dot : Bool) : Type 0 where
   pub decided : joint_at old.rest 0 ≡ not ends_in_dot
   pub input : new.input ≡ old.input

@@ -29,19 +29,48 @@ enters (k ∷ ks) = enter k ∷ enters ks
 
 -- all nodes at the newest open marker begin
 abbrev pub entered : Bool → Walk → Walk
-entered true w = record { is_around = w.is_around; skips = w.skips; pending = others w.pending; steps = enters (glue w.pending) ++ w.steps }
+entered true w =
+    record {
+      is_around = w.is_around;
+      skips = w.skips;
+      pending = others w.pending;
+      steps = enters (glue w.pending) ++ w.steps;
+    }
 entered false w = w
 
 -- one call back
 abbrev pub back : Call → Walk → Walk
-back call.start w = record { is_around = false; skips = w.skips; pending = others w.pending; steps = enters (glue w.pending) ++ w.steps }
-back call.precede w = record { is_around = begins_node w.pending; skips = w.skips; pending = left_by (begins_node w.pending) w.pending; steps = w.steps }
-back (call.finish k) w = record { is_around = false; skips = 0; pending = begun w.skips w.is_around k w.pending; steps = exit ∷ w.steps }
+back call.start w =
+    record {
+      is_around = false;
+      skips = w.skips;
+      pending = others w.pending;
+      steps = enters (glue w.pending) ++ w.steps;
+    }
+back call.precede w =
+    record {
+      is_around = begins_node w.pending;
+      skips = w.skips;
+      pending = left_by (begins_node w.pending) w.pending;
+      steps = w.steps;
+    }
+back (call.finish k) w =
+    record { is_around = false; skips = 0; pending = begun w.skips w.is_around k w.pending; steps = exit ∷ w.steps }
 back call.extend w = record { is_around = w.is_around; skips = suc w.skips; pending = w.pending; steps = w.steps }
-back call.abandon w = record { is_around = false; skips = w.skips; pending = pending.Nothing ∷ w.pending; steps = w.steps }
-back (call.token k width) w = record { is_around = w.is_around; skips = w.skips; pending = w.pending; steps = token k width ∷ w.steps }
-back (call.float_split ends_in_dot) w = record { is_around = w.is_around; skips = w.skips; pending = w.pending; steps = float_split ends_in_dot ∷ without_exits (ended_by ends_in_dot) w.steps }
-back (call.error bytes) w = record { is_around = w.is_around; skips = w.skips; pending = w.pending; steps = error bytes ∷ w.steps }
+back call.abandon w =
+    record { is_around = false; skips = w.skips; pending = pending.Nothing ∷ w.pending; steps = w.steps }
+back (call.token k width) w =
+    record { is_around = w.is_around; skips = w.skips; pending = w.pending; steps = token k width ∷ w.steps }
+back (call.float_split ends_in_dot) w =
+    record {
+      is_around = w.is_around;
+      skips = w.skips;
+      pending = w.pending;
+      steps = float_split ends_in_dot ∷
+          without_exits (ended_by ends_in_dot) w.steps;
+    }
+back (call.error bytes) w =
+    record { is_around = w.is_around; skips = w.skips; pending = w.pending; steps = error bytes ∷ w.steps }
 
 -- all calls back, the last one first
 abbrev pub unwind : List Call → Walk → Walk

@@ -51,7 +51,9 @@ event_of_fields which byte kind =
 
 -- the event of a word
 abbrev pub event_of : ℕ → Event
-event_of bits = if bits % 2 == 0 then event.Error (bits / 2) else event_of_fields (bits / 2 ^ 4 % 2 ^ 4) (bits / 2 ^ 8 % 2 ^ 8) (bits / 2 ^ 16)
+event_of bits =
+    if bits % 2 == 0 then event.Error (bits / 2) else event_of_fields (bits / 2 ^ 4 % 2 ^ 4) (bits / 2 ^ 8 % 2 ^ 8)
+    (bits / 2 ^ 16)
 
 -- the fields of an event are as wide as their bits
 abbrev pub Fits : Event → Type 0

@@ -1,4 +1,4 @@
-//! What a parser records, and what it makes of it.
+//! The events that a parser records, and the output that they make.
 ghost use Rattle.std.specs.Prelude.{◌≡◌, ◌<◌, map, true, IfOk, string_bytes};
 ghost use Rattle.rap_events.specs.Machine.{run, initial, floor, all_splits_placed};
 
@@ -12,11 +12,10 @@ mod walk;
 
 use walk::Walk;
 
-/// One call of a parser, or a step of an output. The calls are a marker's start or end, a token, a float that is taken
-/// apart, or a message; the last three are steps too, so that an output is written in the place of what was recorded.
+/// A call of a parser, or a step of an output. The calls start or end a marker, take a token, split a float, or report
+/// a message; the last three are steps too, so that the output can be written over the recorded events.
 ///
-/// While a parser records, events are only ever appended: a node that another one precedes or extends is not changed
-/// in place.
+/// While a parser records, events are only appended: `precede` and `extend_to` do not change earlier events.
 #[derive(Clone, Copy, PartialEq, Eq, Debug)]
 pub(crate) enum Event {
     /// A marker is started.
@@ -27,21 +26,21 @@ pub(crate) enum Event {
     Finish {
         kind: SyntaxKind,
     },
-    /// The node that was just finished begins where the newest open marker does, and that marker is gone.
+    /// The node that was just finished begins at the newest open marker, and that marker is removed.
     Extend,
-    /// The newest open marker is forgotten.
+    /// The newest open marker is abandoned.
     Abandon,
-    /// So many tokens of the input are taken as one token.
+    /// `n_input_tokens` tokens of the input are taken as one token.
     Token {
         n_input_tokens: u8,
         kind: SyntaxKind,
     },
-    /// A float of a field access is taken apart. It ends the nodes that the next calls finish: one `FIELD_EXPR`, and
-    /// where it does not end in a dot, two.
+    /// A float of a field access is split. It ends the nodes that the next calls finish: one `FIELD_EXPR` if the float
+    /// ends in a dot, otherwise two.
     FloatSplit {
         ends_in_dot: bool,
     },
-    /// The message of this number is reported.
+    /// The message with this number is reported.
     Error {
         message: u32,
     },
@@ -56,10 +55,10 @@ pub(crate) enum Event {
 impl Event {
     ghost use Rattle.rap_events.specs.History.{history};
 
-    /// The output that the events make: the forest of their history. The events and messages are moved into it.
+    /// Makes the output of the events. Events and messages are moved into it.
     ///
-    /// The events are read from the last one back: only then is it known, at the start of a node, which nodes
-    /// that were finished later begin before it. The steps are written in the place of events that were read.
+    /// The events are read backwards, from the last one: at the start of a node it is then known which nodes that were
+    /// finished later begin before it. The steps are written over the events that were read.
     pub(crate) fn process(
         alloc: Global,
         events: Vec<Word>,

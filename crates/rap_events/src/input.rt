@@ -36,8 +36,8 @@ impl Model for Input {
 impl Input {
     ghost use Rattle.rap_events.specs.Record.{kind_at, contextual_at, edition_at, joint_at, with_last_joint, IsTokenRecord};
 
-    /// No tokens yet, with room for `capacity` of them if memory allows. A capacity that no list can have counts as
-    /// out of memory.
+    /// Makes an empty input with room for `capacity` tokens. The error means out of memory, also if `capacity` is more
+    /// than a list can have.
     pub fn with_capacity(alloc: Global, capacity: usize) -> Result<Input, NoMemory>
         ensures { IfOk result (λ input. input ≡ []) }
     {
@@ -45,7 +45,8 @@ impl Input {
         Ok(Input { len: 0, columns })
     }
 
-    /// Appends a token that is read as nothing else, and that does not touch the next one.
+    /// Appends a token of this kind, which must be a token's kind and not `EOF`. It is read as nothing else and does
+    /// not touch the next token. The error means out of memory; the input is then unchanged.
     pub fn push(&mut self, kind: SyntaxKind, edition: Edition) -> Result<(), NoMemory>
         requires token { is_token kind ≡ true }
         requires some { kind ≢ EOF }
@@ -55,8 +56,8 @@ impl Input {
         self.push_joint(kind, edition, false)
     }
 
-    /// The same, of a token that touches the next one or not. It saves [`Input::was_joint`] a branch that processors
-    /// often guess wrong.
+    /// Appends a token as [`Input::push`] does, with its joint bit. This is faster than a call of [`Input::was_joint`]:
+    /// it saves a branch that processors often predict wrongly.
     pub fn push_joint(
         &mut self,
         kind: SyntaxKind,
@@ -75,7 +76,8 @@ impl Input {
         Ok(())
     }
 
-    /// Appends an identifier that may be read as `contextual_kind`, and that does not touch the next token.
+    /// Appends an identifier that may be read as `contextual_kind` and does not touch the next token. The error means
+    /// out of memory; the input is then unchanged.
     pub fn push_ident(
         &mut self,
         contextual_kind: SyntaxKind,
@@ -91,7 +93,7 @@ impl Input {
         Ok(())
     }
 
-    /// Says that the last token touches the next one.
+    /// Marks the last token as touching the next one. There must be a token.
     pub fn was_joint(&mut self)
         requires { 0 < length self.old }
         ensures { self.new ≡ with_last_joint self.old }
@@ -99,7 +101,7 @@ impl Input {
         self.columns.set_joint(self.len - 1);
     }
 
-    /// How many tokens there are.
+    /// Returns the number of tokens.
     pub fn len(&self) -> usize
         ensures len { result ≡ length self.now }
         ensures tokens { All IsTokenRecord self.now }
@@ -107,14 +109,14 @@ impl Input {
         self.len
     }
 
-    /// Whether there is no token.
+    /// Returns whether there is no token.
     pub fn is_empty(&self) -> bool
         ensures { IsTrue result ↔ (self.now ≡ []) }
     {
         self.len() == 0
     }
 
-    /// The kind of the token at a place, or `EOF` past the last one.
+    /// Returns the kind of the token at `index`, or `EOF` past the last token.
     pub fn kind(&self, index: usize) -> SyntaxKind
         ensures { result ≡ kind_at self.now index }
     {
@@ -125,7 +127,7 @@ impl Input {
         }
     }
 
-    /// What the identifier at a place may be read as; `EOF` for any other token, and past the last one.
+    /// Returns the contextual kind of the identifier at `index`; `EOF` for any other token and past the last token.
     pub fn contextual_kind(&self, index: usize) -> SyntaxKind
         ensures contextual { result ≡ contextual_at self.now index }
         ensures identifier { result ≢ EOF → kind_at self.now index ≡ IDENT }
@@ -137,7 +139,7 @@ impl Input {
         }
     }
 
-    /// The edition of the token at a place, or the latest one past the last token.
+    /// Returns the edition of the token at `index`, or the latest edition past the last token.
     pub fn edition(&self, index: usize) -> Edition
         ensures { result ≡ edition_at self.now index }
     {
@@ -148,7 +150,7 @@ impl Input {
         }
     }
 
-    /// Whether the token at a place touches the one after it.
+    /// Returns whether the token at `index` touches the next one.
     pub fn is_joint(&self, index: usize) -> bool
         ensures { result ≡ joint_at self.now index }
     {

@@ -1,4 +1,4 @@
-//! The parser's input, its history of calls, and its output.
+//! The parser's input, the events that it records, and its output.
 #![tactic(auto)]
 
 pub mod event;

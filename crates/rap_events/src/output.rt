@@ -1,4 +1,4 @@
-//! What a parse gives: the steps of its forest.
+//! The output of a parse: the steps of its forest.
 ghost use Rattle.std.specs.Prelude.{◌≡◌, ◌≤◌, ◌<◌, ◌^◌, length, drop, map, true, IfOk, string_bytes};
 ghost use Rattle.rap_events.specs.Output.{values};
 ghost use Rattle.rap_events.specs.History.{text_at};
@@ -12,7 +12,7 @@ use rap_base::syntax_kind::SyntaxKind;
 use std::alloc::Global;
 use std::marker::Model;
 
-/// The steps of an output: what stands from `first` on, each error with the number of its message.
+/// The steps of an output: the words from `first` on. An error holds the number of its message.
 #[derive(Drop)]
 pub(crate) struct StepList {
     steps: Vec<Word>,
@@ -20,7 +20,7 @@ pub(crate) struct StepList {
     messages: Vec<String>,
 }
 
-/// What a parse gives. Contracts see the forest.
+/// The output of a parse. Contracts see its forest.
 #[derive(Drop)]
 pub struct Output {
     list: Option<StepList>,
@@ -43,7 +43,7 @@ impl Model for Output {
     ghost invariant = { λ output. IsWithin output.list × ((flat (forest_of (values_of output.list)) ≡ values_of output.list) × (splits_placed (forest_of (values_of output.list)) ≡ true)) };
 }
 
-/// No steps.
+/// The output without steps.
 impl Default for Output {
     ghost use Rattle.std.specs.Prelude.{◌≡◌};
     ghost use Rattle.rap_events.specs.Forest.{none};
@@ -56,7 +56,7 @@ impl Default for Output {
 }
 
 impl Output {
-    /// The output of the steps that stand from `first` on, each error with the message of its number.
+    /// Makes the output of the steps from `first` on. Each error has the message with its number.
     pub(crate) fn of_steps(steps: Vec<Word>, first: usize, messages: Vec<String>) -> Output
         requires within { first ≤ length steps.items }
         requires steps { flat (forest_of (values (drop first steps.items) (map string_bytes messages.items))) ≡ values (drop first steps.items) (map string_bytes messages.items) }
@@ -88,7 +88,7 @@ impl Output {
         }
     }
 
-    /// The steps of the forest, from left to right. Takes no memory.
+    /// Returns the steps of the forest, from left to right. No memory is allocated.
     #[tactic(auto, using(crate::proofs::Values::values_length, crate::proofs::Values::values_few))]
     pub fn iter(&self) -> Steps<'_>
         ensures steps { result ≡ flat self.now }
@@ -108,7 +108,7 @@ impl Output {
     }
 }
 
-/// The output's forest as the children of one node.
+/// Makes the output of one node of this kind, whose children are the forest of `output`.
 ///
 /// The error means out of memory.
 pub fn wrap_in_node(alloc: Global, output: Output, kind: SyntaxKind) -> Result<Output, NoMemory>
@@ -124,11 +124,10 @@ pub fn wrap_in_node(alloc: Global, output: Output, kind: SyntaxKind) -> Result<O
     Ok(Output::of_steps(steps, first, messages))
 }
 
-/// A step of an output: `n_input_tokens` tokens under one kind, a float of a field access that is taken apart, the
-/// beginning of a node, the end of the newest open one, or a message.
+/// A step of an output: `n_input_tokens` tokens as one leaf of a kind, a float of a field access that is split, the
+/// beginning of a node, the end of the newest open node, or a message.
 ///
-/// A float stands for the end of the newest open node too, and where it does not end in a dot, for that of the two
-/// newest.
+/// A float also ends the newest open node; one that does not end in a dot ends the two newest.
 #[derive(Clone, Copy, Debug)]
 pub enum Step<'a> {
     Token {
@@ -147,7 +146,7 @@ pub enum Step<'a> {
     },
 }
 
-/// The steps that are left, and the messages of their errors. Contracts see the list of the steps.
+/// An iterator over the steps of an output. Contracts see the list of those that are left.
 #[derive(Drop)]
 pub struct Steps<'a> {
     rest: &'a [Word],

@@ -1,4 +1,4 @@
-//! The parser: a place in the input, and what was recorded so far.
+//! The parser: a position in the input, and the events that were recorded so far.
 ghost use Rattle.std.specs.Prelude.{◌≡◌, ◌==◌, ◌^◌, ◌≢◌, ℕ, ◌+◌, ◌-◌, ◌<◌, ◌≤◌, List, [], ◌∷◌, ◌++◌, length, drop, map, true, All, AllPairs, IfOk, OnOk, IsTrue, Some, None, string_bytes, if◌then◌else◌};
 ghost use Rattle.rap_base.specs.TokenKind.{EOF, IDENT, FLOAT_NUMBER};
 ghost use Rattle.rap_base.specs.NodeKind.{FIELD_EXPR};
@@ -28,12 +28,12 @@ mod composite;
 
 use composite::{at_place, width_of};
 
-/// How many messages a word can number.
+/// The number of messages that a word can tell apart.
 const MAX_MESSAGES: usize = 1 << 31;
 
-/// Reads an input from its beginning and records what it is made of.
+/// Reads an input from its beginning and records events.
 ///
-/// Once a call was out of memory a parser is of no more use: what it recorded is not promised.
+/// After a call that was out of memory a parser must not be used any more: what it has recorded is not specified.
 #[derive(Drop)]
 pub struct Parser<'t> {
     alloc: Global,
@@ -53,13 +53,13 @@ pub struct Parser<'t> {
     ghost fit: { (run initial (history events.items (map string_bytes messages.items))).messages ≡ 0 → ∥ AllFit (run initial (history events.items (map string_bytes messages.items))) ∥₁ },
 }
 
-/// A node that was started and not finished: the number of the call that started it, which only the contracts know.
+/// A node that was started and not finished: the number of the call that started it, which only contracts see.
 #[derive(Drop)]
 pub struct Marker {
     pos: Snapshot<usize>,
 }
 
-/// A node that was finished: how many calls there were then, and its kind, which only the contracts know.
+/// A node that was finished: the number of calls up to then, and its kind, which only contracts see.
 #[derive(Drop)]
 pub struct CompletedMarker {
     end: Snapshot<usize>,
@@ -78,7 +78,7 @@ impl<'t> Parser<'t> {
     ghost use Rattle.rap_events.specs.Record.{kind_at, contextual_at, edition_at};
     ghost use Rattle.rap_events.specs.State.{state, calls, start_state, Opened, Bumped, SplitFloat, IsLast, Reported, Ate, AteAs, Expected, Skipped, Recovered, is_kept, expected, with_kind, skip_calls, next, next_contextual, At, ReadsAs};
 
-    /// At the first token, with nothing recorded. Takes no memory.
+    /// Makes a parser at the first token, with nothing recorded. No memory is allocated.
     pub fn new(alloc: Global, input: &'t Input) -> Self
         ensures state { state result ≡ start_state input.now }
         ensures calls { calls result ≡ [] }
@@ -93,7 +93,7 @@ impl<'t> Parser<'t> {
         }
     }
 
-    /// The next token's kind, or `EOF` where none is left.
+    /// Returns the kind of the next token, or `EOF` if none is left.
     pub fn current(&self) -> SyntaxKind
         ensures kind { result ≡ next (state self.now) }
         ensures end { result ≡ EOF → (state self.now).rest ≡ [] }
@@ -101,7 +101,7 @@ impl<'t> Parser<'t> {
         self.input.kind(self.pos)
     }
 
-    /// The kind of the token `n` places after the next one, or `EOF`.
+    /// Returns the kind of the token `n` places after the next one, or `EOF` past the last token.
     pub fn nth(&self, n: usize) -> SyntaxKind
         requires { n < 4 }
         ensures { result ≡ kind_at (state self.now).rest n }
@@ -116,21 +116,21 @@ impl<'t> Parser<'t> {
         self.pos + n.min(self.len - self.pos)
     }
 
-    /// How many tokens are left.
+    /// Returns the number of tokens that are left.
     pub fn left(&self) -> usize
         ensures { result ≡ (state self.now).left }
     {
         self.len - self.pos
     }
 
-    /// The edition of the next token, or the latest one at the end.
+    /// Returns the edition of the next token, or the latest edition if none is left.
     pub fn current_edition(&self) -> Edition
         ensures { result ≡ edition_at (state self.now).rest 0 }
     {
         self.input.edition(self.pos)
     }
 
-    /// Whether a token of this kind comes next. An operator of two or three tokens comes next where its tokens
+    /// Returns whether a token of this kind comes next. An operator of two or three tokens comes next if its tokens
     /// follow one another and each but the last touches the one after it.
     pub fn at(&self, kind: SyntaxKind) -> bool
         ensures { result ≡ is_at kind (state self.now).rest }
@@ -178,7 +178,8 @@ impl<'t> Parser<'t> {
         self.input.contextual_kind(self.ahead(n)) == kw
     }
 
-    /// The kind under which the last token was taken, or `EOF` where none was. The halves of a float are no tokens.
+    /// Returns the kind under which the last token was taken, or `EOF` if none was. The parts of a split float do not
+    /// count.
     pub fn last_token(&self) -> SyntaxKind
         ensures { result ≡ last_taken (state self.now) }
     {
@@ -193,7 +194,7 @@ impl<'t> Parser<'t> {
         SyntaxKind::EOF
     }
 
-    /// Takes a token of this kind if one comes next, and returns whether it did.
+    /// Takes a token of this kind if one comes next. Returns whether it did.
     pub fn eat(&mut self, kind: SyntaxKind) -> Result<bool, NoMemory>
         requires { kind ≢ EOF }
         ensures state { IfOk result (λ taken. Ate (state self.old) (state self.new) kind taken) }
@@ -207,7 +208,7 @@ impl<'t> Parser<'t> {
         }
     }
 
-    /// Takes the next token as this keyword if it is an identifier that may be read so, and returns whether it did.
+    /// Takes the next token as this keyword if it is an identifier that may be read as it. Returns whether it did.
     pub fn eat_contextual_kw(&mut self, kw: SyntaxKind) -> Result<bool, NoMemory>
         requires { kw ≢ EOF }
         ensures state { IfOk result (λ taken. AteAs (state self.old) (state self.new) kw taken) }
@@ -221,7 +222,7 @@ impl<'t> Parser<'t> {
         }
     }
 
-    /// Takes the token of this kind that comes next.
+    /// Takes the next token, which must be of this kind.
     pub fn bump(&mut self, kind: SyntaxKind) -> Result<(), NoMemory>
         requires here { At (state self.old) kind }
         requires some { kind ≢ EOF }
@@ -233,7 +234,7 @@ impl<'t> Parser<'t> {
         Ok(())
     }
 
-    /// Takes the next token under its own kind.
+    /// Takes the next token under its own kind. There must be one.
     pub fn bump_any(&mut self) -> Result<(), NoMemory>
         requires { next (state self.old) ≢ EOF }
         ensures state { OnOk result (Bumped (state self.old) (state self.new) (next (state self.old)) 1) }
@@ -244,8 +245,8 @@ impl<'t> Parser<'t> {
         Ok(())
     }
 
-    /// Takes the next token under another kind that it may be read as: an identifier as a contextual keyword, or a
-    /// keyword as an identifier.
+    /// Takes the next token under another kind, as which it must be readable: an identifier as its contextual keyword,
+    /// or a keyword as an identifier.
     pub fn bump_remap(&mut self, kind: SyntaxKind) -> Result<(), NoMemory>
         requires { ReadsAs (state self.old) kind }
         ensures state { OnOk result (Bumped (state self.old) (state self.new) kind 1) }
@@ -265,7 +266,7 @@ impl<'t> Parser<'t> {
         Ok(())
     }
 
-    /// Takes a token of this kind if one comes next, and else reports that it is missing. Returns whether it took one.
+    /// Takes a token of this kind if one comes next; otherwise reports that it is missing. Returns whether it took one.
     #[inline(never)]
     pub fn expect(&mut self, kind: SyntaxKind) -> Result<bool, NoMemory>
         requires { kind ≢ EOF }
@@ -292,7 +293,7 @@ impl<'t> Parser<'t> {
         Ok(())
     }
 
-    /// Reports a message before the next token, ended by the name of that token's kind.
+    /// Reports a message before the next token. The name of that token's kind is appended to it.
     #[inline(never)]
     pub fn error_with_kind(&mut self, message: &str) -> Result<(), NoMemory>
         ensures state { OnOk result (Reported (state self.old) (state self.new) (with_kind message.now (next (state self.old)))) }
@@ -319,8 +320,8 @@ impl<'t> Parser<'t> {
         Ok(())
     }
 
-    /// Reports a message and takes the next token into an `ERROR`, unless that is a brace or a kind of the set: then
-    /// the message is all. Returns whether the token was kept.
+    /// Reports a message and takes the next token into an `ERROR` node. If the token is a brace or its kind is in the
+    /// set, only the message is reported. Returns whether the token was kept.
     #[inline(never)]
     pub fn err_recover(&mut self, message: &str, recovery: TokenSet) -> Result<bool, NoMemory>
         ensures state { IfOk result (λ kept. Recovered (state self.old) (state self.new) message.now recovery kept) }
@@ -341,10 +342,11 @@ impl<'t> Parser<'t> {
         kind == SyntaxKind::L_CURLY || kind == SyntaxKind::R_CURLY || self.at_ts(recovery)
     }
 
-    /// Takes the next token, a float, apart: it is what follows the dot of a field access, which has the newest marker.
+    /// Splits the next token, which must be a float behind the dot of a field access. `marker`, the newest one, is that
+    /// of the field access.
     ///
-    /// It ends that access, and where it does not end in a dot, another one around it: `x.0.1` is a field of a field.
-    /// Returns whether it ends in a dot, with the field access that was finished last.
+    /// The field access is finished, and if the float does not end in a dot, so is another one around it: `x.0.1` is a
+    /// field of a field. Returns whether the float ends in a dot, and the field access that was finished last.
     pub fn split_float(&mut self, marker: Marker) -> Result<(bool, CompletedMarker), NoMemory>
         requires newest { (state self.old).marker ≡ Some marker.pos.value }
         requires float { next (state self.old) ≡ FLOAT_NUMBER }
@@ -394,10 +396,9 @@ impl<'t> Parser<'t> {
         Ok(())
     }
 
-    // The word of the message that is reported next. A word has room for the numbers of 2 to the 31 messages, and a
-    // parse of the grammar records no more events than these: it reads fewer than 2 to the 23 tokens, and records at
-    // most 256 events for each of them and for the end. Where a caller records more messages, that counts as want of
-    // memory.
+    // The word of the message that is reported next. A word can number 2^31 messages. A parse of the grammar records no
+    // more events than that: it reads fewer than 2^23 tokens and records at most 256 events for each of them and for
+    // the end. If a caller records more messages, the call is out of memory.
     fn next_message(&self) -> Result<Word, NoMemory>
         ensures { IfOk result (λ word. word ≡ event.Error (length self.now.messages.items)) }
     {
@@ -410,8 +411,8 @@ impl<'t> Parser<'t> {
         Err(NoMemory)
     }
 
-    /// The output that was recorded: the tree of the history's intervals. Each marker must have been finished or
-    /// forgotten.
+    /// Makes the output of the recorded events. Each marker must have been completed or abandoned. The error means out
+    /// of memory.
     pub fn process(self, alloc: Global) -> Result<Output, NoMemory>
         requires { (state self).below ≡ floor }
         ensures forest { IfOk result (λ output. output ≡ (state self.entry).forest) }
@@ -440,7 +441,7 @@ impl<'t> Parser<'t> {
     }
 }
 
-/// How many events show a float that is taken apart.
+/// The number of events of a float that is split.
 fn split_len(ends_in_dot: bool) -> usize
     ensures calls { result ≡ length (split_calls ends_in_dot) }
     ensures few { result ≤ 4 }
@@ -453,8 +454,8 @@ impl Marker {
     ghost use Rattle.rap_events.specs.Fit.{Fit, is_plain};
     ghost use Rattle.rap_events.specs.State.{state, calls, IsLast, Completed, Abandoned};
 
-    /// Finishes the node, which has the newest marker. Of a `BIN_EXPR` and a `TOKEN_TREE` more is asked:
-    /// see [`Marker::complete_fit`].
+    /// Finishes the node. The marker must be the newest one, and the kind neither `BIN_EXPR` nor `TOKEN_TREE`: see
+    /// [`Marker::complete_fit`] for these.
     pub fn complete(self, p: &mut Parser<'_>, kind: SyntaxKind) -> Result<CompletedMarker, NoMemory>
         requires newest { (state p.old).marker ≡ Some self.pos.value }
         requires plain { is_plain kind ≡ true }
@@ -465,7 +466,8 @@ impl Marker {
         Ok(completed)
     }
 
-    /// The same for every kind: unless a message was reported, the node's children are what its kind asks for.
+    /// Finishes the node, of any kind. The marker must be the newest one, and unless a message was reported, the
+    /// children must be as the kind requires.
     pub fn complete_fit(
         self,
         p: &mut Parser<'_>,
@@ -483,7 +485,7 @@ impl Marker {
         })
     }
 
-    /// Forgets the node, which has the newest marker: what was recorded under it stays.
+    /// Abandons the node. The marker must be the newest one; what was recorded under it stays.
     pub fn abandon(self, p: &mut Parser<'_>) -> Result<(), NoMemory>
         requires { (state p.old).marker ≡ Some self.pos.value }
         ensures state { OnOk result (Abandoned (state p.old) (state p.new)) }
@@ -499,7 +501,7 @@ impl CompletedMarker {
     ghost use Rattle.rap_events.specs.Fit.{is_plain};
     ghost use Rattle.rap_events.specs.State.{state, calls, IsLast, Preceded, Extended};
 
-    /// Starts a node around this one, which was just finished.
+    /// Starts a node around this one, which must be the one just finished.
     pub fn precede(self, p: &mut Parser<'_>) -> Result<Marker, NoMemory>
         requires { IsLast (state p.old) self self.kind.value }
         ensures state { IfOk result (λ m. Preceded (state p.old) (state p.new) m.pos.value self.kind.value) }
@@ -510,7 +512,8 @@ impl CompletedMarker {
         Ok(Marker { pos })
     }
 
-    /// Lets this node, which was just finished, begin where the newest marker does. The marker is gone.
+    /// Lets this node, which must be the one just finished, begin at `m`, the newest marker. The marker is
+    /// removed. The kind must be neither `BIN_EXPR` nor `TOKEN_TREE`.
     pub fn extend_to(self, p: &mut Parser<'_>, m: Marker) -> Result<CompletedMarker, NoMemory>
         requires last { IsLast (state p.old) self self.kind.value }
         requires newest { (state p.old).marker ≡ Some m.pos.value }

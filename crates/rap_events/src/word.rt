@@ -9,9 +9,9 @@ use std::mem::size_of;
 
 /// An event in 32 bits. Contracts see the event.
 ///
-/// Bit 0 is 0 for a message, whose number among the messages stands in the bits above. Otherwise bit 0 is 1; bits 4 to 7
-/// say which event it is; bits 8 to 15 hold the number of input tokens of a token, 1 for a float that ends in a dot, else
-/// 0; bits 16 to 31 hold the kind's number, or 0 where the event has no kind.
+/// For a message, bit 0 is 0 and bits 1 to 31 hold its number among the messages. Otherwise bit 0 is 1; bits 4 to 7
+/// hold the event's number; bits 8 to 15 hold the number of input tokens of a token, 1 for a float that ends in a dot,
+/// else 0; bits 16 to 31 hold the number of the kind, or 0 for an event without kind.
 #[derive(Clone, Copy)]
 pub(crate) struct Word {
     bits: u32,
@@ -58,7 +58,7 @@ const EXTEND: u32 = 7;
 const ABANDON: u32 = 8;
 
 impl Word {
-    /// The word of an event. A message's number is below 2 to the 31.
+    /// Returns the word of an event. A message's number must be below 2^31.
     #[inline(always)]
     pub(crate) fn of_event(event: Event) -> Word
         requires { HasNumber event }
@@ -69,7 +69,7 @@ impl Word {
         }
     }
 
-    /// The event that the word stands for.
+    /// Returns the event of the word.
     #[inline(always)]
     pub(crate) fn event(&self) -> Event
         ensures { result ≡ self.now }

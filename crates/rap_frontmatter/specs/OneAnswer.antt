@@ -11,5 +11,6 @@ IsOnlyScript text s = ((other : Script) → IsScript text other → other ≡ s)
 
 -- The text is not accepted, and nothing else is reported about it.
 abbrev pub IsOnlyFault : List ℕ → ScriptFault → Type 0
-IsOnlyFault text (Refused e) = ((s : Script) → ¬ IsScript text s) × ((other : Refusal) → IsRefused text other → other ≡ e)
+IsOnlyFault text (Refused e) =
+    ((s : Script) → ¬ IsScript text s) × ((other : Refusal) → IsRefused text other → other ≡ e)
 IsOnlyFault text NoMemory = (s : Script) → ¬ IsScript text s

@@ -1,4 +1,4 @@
--- How a text that is no script source is refused.
+-- The refusal of a text that is not a script source.
 use Rattle.std.specs.Prelude.{◌≡◌, ◌==◌, Bool, ℕ, ◌+◌, ◌-◌, ◌<◌, ◌≤◌, List, [], ◌∷◌, ◌++◌, length, All, unwrap_or, codes}
 use Rattle.std.specs.List.{AllPass}
 use Rattle.std.specs.Fmt.{decimal}
@@ -9,7 +9,7 @@ use Rattle.std.specs.Ordering.{eq_of_both, on}
 use Rattle.std.specs.declared.ops.Range.{Range}
 use Rattle.rap_frontmatter.specs.Script.{dashes, NoDash, NoLineFeed, Fence, Opening, Closing, Ending, HasFence, IsLongestFence, HasWord, IsCut, is_horizontal, span, moved, open_at, open_end, close_at, close_end, content_at}
 
--- a message, the span that it speaks of, and the spans shown beside it, all in bytes
+-- a message, the span of the error, and the further spans shown with it, all in bytes
 pub record Refusal : Type 0 where
   pub message : List ℕ
   pub primary : Range ℕ
@@ -40,12 +40,17 @@ is_same_span = eq_of_both (on (λ r. r.start) ◌==◌) (on (λ r. r.end) ◌==�
 
 -- the messages are equal, and the spans
 abbrev pub is_same : Refusal → Refusal → Bool
-is_same = eq_of_both (on (λ e. e.message) (pointwise ◌==◌)) (eq_of_both (on (λ e. e.primary) is_same_span) (on (λ e. e.visible) (pointwise is_same_span)))
+is_same =
+    eq_of_both (on (λ e. e.message) (pointwise ◌==◌))
+    (eq_of_both (on (λ e. e.primary) is_same_span) (on (λ e. e.visible) (pointwise is_same_span)))
 
 pub same_laws : IsEquivalence is_same
 same_laws =
-    let span : IsEquivalence is_same_span = and_equiv (on_equiv (λ (r : Range ℕ). r.start) nat_eq_equiv) (on_equiv (λ (r : Range ℕ). r.end) nat_eq_equiv) in
-    and_equiv (on_equiv (λ (e : Refusal). e.message) (lists_equiv nat_eq_equiv)) (and_equiv (on_equiv (λ (e : Refusal). e.primary) span) (on_equiv (λ (e : Refusal). e.visible) (lists_equiv span)))
+    let span : IsEquivalence is_same_span =
+    and_equiv (on_equiv (λ (r : Range ℕ). r.start) nat_eq_equiv) (on_equiv (λ (r : Range ℕ). r.end) nat_eq_equiv) in
+    and_equiv (on_equiv (λ (e : Refusal). e.message) (lists_equiv nat_eq_equiv))
+    (and_equiv (on_equiv (λ (e : Refusal). e.primary) span)
+    (on_equiv (λ (e : Refusal). e.visible) (lists_equiv span)))
 
 -- its spans go forward, and the text may be cut at both their ends
 pub record LiesAtBorders (text : List ℕ) (e : Refusal) : Type 0 where

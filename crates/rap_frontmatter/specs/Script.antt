@@ -78,7 +78,8 @@ pub record HasBlankLines (text : List ℕ) (n : ℕ) : Type 0 where
 -- where the longest such prefix ends, if there is one
 abbrev pub EndsBlankLines : List ℕ → Option ℕ → Type 0
 EndsBlankLines text end =
-    MatchOption end ((n : ℕ) → ¬ HasBlankLines text n) (λ n. HasBlankLines text n × ((m : ℕ) → HasBlankLines text m → m ≤ n))
+    MatchOption end ((n : ℕ) → ¬ HasBlankLines text n)
+    (λ n. HasBlankLines text n × ((m : ℕ) → HasBlankLines text m → m ≤ n))
 
 -- Blank lines or none, and then `n` dashes that no dash follows.
 pub record Fence (text : List ℕ) : Type 0 where
@@ -198,8 +199,8 @@ pub record IsPlain (text : List ℕ) (s : Script) : Type 0 where
     content = record { start = unwrap_or opening.shebang 0; end = length text };
   }
 
--- Accepted with one: a shebang or nothing, blank lines or nothing, at least three dashes, the info's line, the frontmatter,
--- as many dashes, spaces and tabs up to the line's end, and the content, which opens no second one.
+-- Accepted with one: a shebang or nothing, blank lines or nothing, at least three dashes, the info's line, the
+-- frontmatter, as many dashes, spaces and tabs up to the line's end, and the content, which opens no second one.
 pub record IsFenced (text : List ℕ) (s : Script) : Type 0 where
   pub opening : Opening text
   pub enough : 3 ≤ opening.fence.n

@@ -1,5 +1,4 @@
-//! Script source: the shebang and the frontmatter that may stand before Rust code (Cargo's scripts, RFC 3502
-//! and RFC 3503).
+//! Script source: a shebang and a frontmatter before Rust code, as in Cargo scripts (RFC 3502 and RFC 3503).
 
 mod close;
 mod error;

@@ -1,4 +1,4 @@
-//! Script source: what may stand before the Rust code of a script that is run by Cargo.
+//! Script source: the shebang and the frontmatter before the Rust code of a Cargo script.
 #![tactic(auto)]
 
 pub mod frontmatter;

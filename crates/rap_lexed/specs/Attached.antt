@@ -37,7 +37,8 @@ holds_blank_line t = t.kind == WHITESPACE && holds_pair 0xa 0xa t.text
 
 -- a plain comment that begins as a doc comment: only `/**/` is one
 abbrev pub looks_like_doc : Token → Bool
-looks_like_doc t = is_comment t && (starts_with nat_eq t.text (codes "/**") && not (starts_with nat_eq t.text (codes "/***")))
+looks_like_doc t =
+    is_comment t && (starts_with nat_eq t.text (codes "/**") && not (starts_with nat_eq t.text (codes "/***")))
 
 -- such a comment stands first
 abbrev pub doc_is_first : List Token → Bool

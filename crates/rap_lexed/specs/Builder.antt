@@ -33,7 +33,9 @@ before_next ts state at = held state ++ leaves_of (trivia_at ts at)
 -- what is handed out at the beginning of a node that is not the root
 abbrev pub enter_steps : List Token → State → ℕ → ℕ → List StrStepValue
 enter_steps ts state at kind =
-    held state ++ (leaves_of (before_tail kind (trivia_at ts at)) ++ str_enter kind ∷ leaves_of (attached_tail kind (trivia_at ts at)))
+    held state ++
+    (leaves_of (before_tail kind (trivia_at ts at)) ++ str_enter kind ∷
+    leaves_of (attached_tail kind (trivia_at ts at)))
 
 -- a number as the name of a field
 abbrev pub number_steps : List ℕ → List StrStepValue
@@ -69,7 +71,8 @@ made_of ts state at exit = held state
 made_of ts state at (token kind width) =
     before_next ts state at ++ str_token kind (text_of ts (past_trivia ts at) width) ∷ []
 made_of ts state at (float_split ends_in_dot) =
-    before_next ts state at ++ float_steps ends_in_dot (text_of ts (past_trivia ts at) 1) (start_of ts (past_trivia ts at))
+    before_next ts state at ++ float_steps ends_in_dot (text_of ts (past_trivia ts at) 1)
+    (start_of ts (past_trivia ts at))
 made_of ts state at (error bytes) = str_error bytes (start_of ts at) ∷ []
 
 -- what was handed out last, after a step
@@ -90,13 +93,14 @@ place_after ts state at (token kind width) = past_trivia ts at + width
 place_after ts state at (float_split ends_in_dot) = past_trivia ts at + 1
 place_after ts state at (error bytes) = at
 
--- a step can be handed out from a place on: the tokens of a leaf are there, and a float with a dot at its end if it must
--- have one
+-- a step can be handed out from a place on: the tokens of a leaf are there, and a float with a dot at its end if it
+-- must have one
 abbrev pub CanMake : List Token → ℕ → StepValue → Type 0
 CanMake ts at (enter kind) = Unit {0}
 CanMake ts at exit = Unit {0}
 CanMake ts at (token kind width) = (0 < width) × (past_trivia ts at + width ≤ length ts)
-CanMake ts at (float_split ends_in_dot) = (past_trivia ts at + 1 ≤ length ts) × (ends_with_dot (text_of ts (past_trivia ts at) 1) ≡ ends_in_dot)
+CanMake ts at (float_split ends_in_dot) =
+    (past_trivia ts at + 1 ≤ length ts) × (ends_with_dot (text_of ts (past_trivia ts at) 1) ≡ ends_in_dot)
 CanMake ts at (error bytes) = Unit {0}
 
 -- what a builder hands out at a step

@@ -14,7 +14,9 @@ use Rattle.rap_lexed.specs.Token.{Token}
 abbrev pub pieces : List ℕ → Option ℕ → Option ℕ → List Token
 pieces text shebang frontmatter =
     option_to_list (option_map (λ end. record { kind = SHEBANG; text = slice_range text 0 end }) shebang)
-    ++ option_to_list (option_map (λ end. record { kind = FRONTMATTER; text = slice_range text (unwrap_or shebang 0) end }) frontmatter)
+    ++ option_to_list
+    (option_map
+    (λ end. record { kind = FRONTMATTER; text = slice_range text (unwrap_or shebang 0) end }) frontmatter)
 
 -- the pieces of a script source: the shebang over its span, and the frontmatter from there up to the content
 abbrev pub script_pieces : Script → List Token
@@ -27,8 +29,10 @@ is_passed kind = (kind == WHITESPACE) || (kind == COMMENT)
 -- The kind of the first token past white space and comments that are no doc comments, if there is one.
 pub data Leads (edition : Edition) : List ℕ → Option ℕ → Type 0 where
   nothing : Leads edition [] None
-  token : (cs rest : List ℕ) (t : Lexeme) → First edition cs t rest → is_passed t.kind ≡ false → Leads edition cs (Some t.kind)
-  past : (cs rest : List ℕ) (t : Lexeme) (kind : Option ℕ) → First edition cs t rest → is_passed t.kind ≡ true → Leads edition rest kind → Leads edition cs kind
+  token : (cs rest : List ℕ) (t : Lexeme) → First edition cs t rest → is_passed t.kind ≡ false →
+      Leads edition cs (Some t.kind)
+  past : (cs rest : List ℕ) (t : Lexeme) (kind : Option ℕ) → First edition cs t rest → is_passed t.kind ≡ true →
+      Leads edition rest kind → Leads edition cs kind
 
 -- The text begins with `#!`, and no `[` leads what follows, as in an inner attribute. The first line takes `len` bytes.
 pub record HasShebangLine (edition : Edition) (text : List ℕ) (len : ℕ) : Type 0 where
@@ -49,7 +53,8 @@ pub record BeginsAttribute (edition : Edition) (text : List ℕ) : Type 0 where
 -- How long the shebang's line is, without its end, if there is one (rustc_lexer, `strip_shebang`).
 abbrev pub IsShebangLine : Edition → List ℕ → Option ℕ → Type 0
 IsShebangLine edition text end =
-    MatchOption end (((after : List ℕ) → text ≢ 35 ∷ 33 ∷ after) ⊎ BeginsAttribute edition text) (HasShebangLine edition text)
+    MatchOption end (((after : List ℕ) → text ≢ 35 ∷ 33 ∷ after) ⊎ BeginsAttribute edition text)
+    (HasShebangLine edition text)
 
 -- The pieces of a text that is refused as a script source: its shebang's line alone, if there is one.
 pub record IsRefusedHeader (edition : Edition) (text : List ℕ) (header : List Token) : Type 0 where
@@ -71,7 +76,8 @@ IsHeader edition text header = IsScriptHeader text header ⊎ IsRefusedHeader ed
 
 -- the kinds of the pieces
 abbrev pub header_kinds : Option ℕ → Option ℕ → List ℕ
-header_kinds shebang frontmatter = option_to_list (option_map (λ _. SHEBANG) shebang) ++ option_to_list (option_map (λ _. FRONTMATTER) frontmatter)
+header_kinds shebang frontmatter =
+    option_to_list (option_map (λ _. SHEBANG) shebang) ++ option_to_list (option_map (λ _. FRONTMATTER) frontmatter)
 
 -- each of the pieces has a byte, and ends at a border of characters
 pub record AreEnds (text : List ℕ) (shebang frontmatter : Option ℕ) : Type 0 where

@@ -33,10 +33,18 @@ abbrev pub records : List Token → Edition → List Record
 records [] edition = []
 records (t ∷ ts) edition =
     if is_trivia t.kind then records ts edition
-    else (record { kind = t.kind; contextual = contextual_of t edition; edition = edition; joint = joint_of t ts } ∷ records ts edition)
+    else
+    (record { kind = t.kind; contextual = contextual_of t edition; edition = edition; joint = joint_of t ts } ∷
+    records ts edition)
 
 -- the record of the token at a place, or nothing where it is trivia
 abbrev pub records_at : List Token → ℕ → Edition → List Record
 records_at ts i edition =
     if is_trivia (token_at ts i).kind then []
-    else (record { kind = (token_at ts i).kind; contextual = contextual_of (token_at ts i) edition; edition = edition; joint = joint_of (token_at ts i) (drop (i + 1) ts) } ∷ [])
+    else
+    (record {
+      kind = (token_at ts i).kind;
+      contextual = contextual_of (token_at ts i) edition;
+      edition = edition;
+      joint = joint_of (token_at ts i) (drop (i + 1) ts);
+    } ∷ [])

@@ -38,7 +38,8 @@ start_of ts i = length (joined (take i ts))
 abbrev pub token_at : List Token → ℕ → Token
 token_at ts i = slice_index_or ts i (record { kind = EOF; text = [] })
 
--- What holds of the tokens of every lexed text: none is empty, each is text, and all of them are at most 4,294,967,295 bytes.
+-- What holds of the tokens of every lexed text: none is empty, each is text, and all of them are at most 4,294,967,295
+-- bytes.
 pub record AreTokens (ts : List Token) : Type 0 where
   pub full : All (λ t. 0 < length t.text) ts
   pub utf8 : All (λ t. IsUtf8 t.text) ts
@@ -46,7 +47,8 @@ pub record AreTokens (ts : List Token) : Type 0 where
 
 -- One of the five tokens before the i-th is a string that looks open.
 abbrev pub FollowsOpen : List Token → ℕ → Type 0
-FollowsOpen ts i = (j : ℕ) × (j < i) × (i ≤ j + 5) × ((token_at ts j).kind ≡ STRING) × IsTrue (looks_open (token_at ts j).text)
+FollowsOpen ts i =
+    (j : ℕ) × (j < i) × (i ≤ j + 5) × ((token_at ts j).kind ≡ STRING) × IsTrue (looks_open (token_at ts j).text)
 
 -- the texts of the messages about the i-th token, in order
 abbrev pub messages_of : List Message → ℕ → List (List ℕ)
@@ -61,7 +63,8 @@ error_of (m ∷ ms) i = if m.token == i then Some m.text else error_of ms i
 -- A token with this kind is the first of the text, `rest` follows it, and the messages are what is reported about it.
 abbrev pub IsFirst : Edition → Bool → List ℕ → Token → List ℕ → List (List ℕ) → Type 0
 IsFirst edition note text token rest messages =
-    (remark : Remark) × First edition (chars text) (with_remark token.kind remark) (chars rest) × ReportsOf note token.text remark messages
+    (remark : Remark) × First edition (chars text) (with_remark token.kind remark) (chars rest) ×
+    ReportsOf note token.text remark messages
 
 -- the messages are about the first `count` tokens, in the order of the tokens
 abbrev pub AreInOrder : ℕ → List Message → Type 0
@@ -79,13 +82,18 @@ pub record IsLexing (text : List ℕ) (edition : Edition) (lexed : Lexed) : Type
   pub rest : List Token
   pub parts : lexed.tokens ≡ header ++ rest
   pub silent : (i : ℕ) → i < length header → messages_of lexed.errors i ≡ []
-  pub each : (i : ℕ) → length header ≤ i → i < length lexed.tokens → (note : Bool) × (IsTrue note ↔ FollowsOpen lexed.tokens i) × IsFirst edition note (drop (start_of lexed.tokens i) text) (token_at lexed.tokens i) (drop (start_of lexed.tokens (i + 1)) text) (messages_of lexed.errors i)
+  pub each : (i : ℕ) → length header ≤ i → i < length lexed.tokens →
+      (note : Bool) × (IsTrue note ↔ FollowsOpen lexed.tokens i) ×
+      IsFirst edition note (drop (start_of lexed.tokens i) text) (token_at lexed.tokens i)
+      (drop (start_of lexed.tokens (i + 1)) text) (messages_of lexed.errors i)
   pub ordered : AreInOrder (length lexed.tokens) lexed.errors
 
 -- The text cut at the starts, its pieces with the kinds.
 abbrev pub cut : List ℕ → List ℕ → List ℕ → List Token
 cut text [] starts = []
-cut text (k ∷ ks) starts = record { kind = k; text = slice_range text (slice_index starts 0) (slice_index starts 1) } ∷ cut text ks (drop 1 starts)
+cut text (k ∷ ks) starts =
+    record { kind = k; text = slice_range text (slice_index starts 0) (slice_index starts 1) } ∷
+    cut text ks (drop 1 starts)
 
 -- The starts rise from 0 to the text's end, each at a border of characters, one more than there are tokens.
 pub record AreStarts (text : List ℕ) (count : ℕ) (starts : List ℕ) : Type 0 where

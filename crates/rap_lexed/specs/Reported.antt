@@ -73,7 +73,8 @@ prefix_note text = codes "unknown literal prefix `" ++ (text ++ codes "` (note: 
 
 -- the faults of a literal's body, each by its message
 abbrev pub ReportsFaults : Mode → List ℕ → List (List ℕ) → Type 0
-ReportsFaults mode body ms = (faults : List Fault) × Reports mode (chars body) faults × (ms ≡ map (λ fault. message fault mode) faults)
+ReportsFaults mode body ms =
+    (faults : List Fault) × Reports mode (chars body) faults × (ms ≡ map (λ fault. message fault mode) faults)
 
 -- what literal a remark asks to be checked
 abbrev pub checked_mode : Remark → Option Mode

@@ -17,9 +17,12 @@ ReportsLast text remark last = (texts : List (List ℕ)) × ReportsOf false text
 
 -- The text is one token of this kind, and this is its last message.
 abbrev pub IsOneToken : Edition → List ℕ → ℕ → Option (List ℕ) → Type 0
-IsOneToken edition text kind last = (remark : Remark) × First edition (chars text) (with_remark kind remark) [] × ReportsLast text remark last
+IsOneToken edition text kind last =
+    (remark : Remark) × First edition (chars text) (with_remark kind remark) [] × ReportsLast text remark last
 
 -- The text is empty, or its first token ends before the text does.
 abbrev pub IsNotOneToken : Edition → List ℕ → Type 0
 IsNotOneToken edition text =
-    (text ≡ []) ⊎ ((token : Lexeme) × (n : ℕ) × IsCharBoundary text n × First edition (chars text) token (chars (drop n text)) × (n < length text))
+    (text ≡ []) ⊎
+    ((token : Lexeme) × (n : ℕ) × IsCharBoundary text n × First edition (chars text) token (chars (drop n text)) ×
+    (n < length text))

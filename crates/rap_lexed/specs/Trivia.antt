@@ -69,7 +69,8 @@ placed ts at start (node before kind children) =
 placed ts at start (leaf before kind width) =
     str_leaf (with_leaves (placed ts at start before) (trivia_at ts (end_of ts at before))) kind
     (text_of ts (past_trivia ts (end_of ts at before)) width)
-placed ts at start (message before bytes) = with_message (placed ts at start before) bytes (start_of ts (end_of ts at before))
+placed ts at start (message before bytes) =
+    with_message (placed ts at start before) bytes (start_of ts (end_of ts at before))
 placed ts at start (split before ends_in_dot) =
     float_in ends_in_dot (float_text ts at before) (start_of ts (past_trivia ts (end_of ts at before)))
     (with_leaves (placed ts at start before) (trivia_at ts (end_of ts at before)))
@@ -93,7 +94,8 @@ LeavesTouch ts at (leaf before kind width) =
     LeavesTouch ts at before × (width ≤ prefix_len is_significant (drop (past_trivia ts (end_of ts at before)) ts))
 LeavesTouch ts at (message before bytes) = LeavesTouch ts at before
 LeavesTouch ts at (split before ends_in_dot) =
-    LeavesTouch ts at before × (1 ≤ prefix_len is_significant (drop (past_trivia ts (end_of ts at before)) ts)) × (ends_with_dot (float_text ts at before) ≡ ends_in_dot)
+    LeavesTouch ts at before × (1 ≤ prefix_len is_significant (drop (past_trivia ts (end_of ts at before)) ts)) ×
+    (ends_with_dot (float_text ts at before) ≡ ends_in_dot)
 
 -- the same of each leaf of one tree over the whole text
 abbrev pub TreeTouches : List Token → Forest → Type 0

@@ -1,4 +1,4 @@
-//! A text cut into tokens, with the lexer's messages.
+//! A text divided into tokens, with the lexer's messages.
 ghost use Rattle.std.specs.Prelude.{◌≡◌, ℕ, ◌<◌, ◌≤◌, ◌+◌, ◌^◌, ◌↔◌, ◌&&◌, ◌==◌, Some, IfOk, IfSome, IsFalse, IsTrue, MatchOption, min, string_bytes, length, slice_range};
 ghost use Rattle.std.specs.List.Sorted.{IsNonDecreasingBy, IsPartitionPoint};
 ghost use Rattle.std.specs.Option.{option_copied, option_map};
@@ -28,10 +28,10 @@ use std::fmt;
 use std::marker::Model;
 use std::ops::Range;
 
-/// The most bytes that a text may have, so that every place in it fits 32 bits.
+/// The most bytes that a text may have: every offset fits in 32 bits.
 pub const MAX_TEXT: usize = 4_294_967_295;
 
-/// The most tokens for which there is room from the start: a long text can be few tokens.
+/// The most tokens for which room is allocated at the start: a long text may have few tokens.
 const FIRST_ROOM: usize = 4_194_304;
 
 /// Why a text was not lexed.
@@ -39,7 +39,7 @@ const FIRST_ROOM: usize = 4_194_304;
 pub enum LexFault {
     /// The text has more than [`MAX_TEXT`] bytes.
     TextTooLong,
-    /// Out of memory: a growth was refused.
+    /// Out of memory: the allocator refused a request.
     NoMemory,
 }
 
@@ -88,10 +88,10 @@ impl From<NoMemory> for LexFault {
     }
 }
 
-/// A text cut into tokens that are not empty and that joined are the text. Contracts see the list of the
-/// tokens and the list of the messages.
+/// A text divided into tokens: none is empty, and joined they are the text. Contracts see the list of the tokens and
+/// the list of the messages.
 ///
-/// No accessor takes memory; texts are slices of the caller's text.
+/// No accessor allocates memory; texts are slices of the caller's text.
 #[derive(Drop)]
 pub struct LexedStr<'a> {
     text: &'a str,
@@ -137,13 +137,13 @@ fn first_error(errors: &[LexError], token: usize) -> usize
 }
 
 impl<'a> LexedStr<'a> {
-    /// Cuts the text into tokens by the lexical rules of the edition.
+    /// Divides the text into tokens by the lexical rules of the edition.
     ///
-    /// A script source's shebang and frontmatter come first, each as one token; of a text that is refused as a script
-    /// source the shebang's line alone. Nothing is reported about them.
+    /// The shebang and the frontmatter of a script source come first, one token each; of a text that is refused as a
+    /// script source only the line of the shebang. No message is reported about them.
     ///
-    /// The error is `TextTooLong` exactly for a text of more than [`MAX_TEXT`] bytes, which is decided first,
-    /// and else `NoMemory` where a growth was refused.
+    /// The error is `TextTooLong` exactly if the text has more than [`MAX_TEXT`] bytes, which is tested first;
+    /// otherwise `NoMemory` if the allocator refused a request.
     pub fn new(alloc: Global, edition: Edition, text: &'a str) -> Result<LexedStr<'a>, LexFault>
         ensures lexing { IfOk result (IsLexing text.now edition) }
         ensures only { IfOk result (IsOnlyLexing text.now edition) }
@@ -186,10 +186,11 @@ impl<'a> LexedStr<'a> {
         })
     }
 
-    /// The kind of a text that is exactly one token, and the last of its messages. No script source is looked for.
+    /// Returns the kind of a text that is exactly one token, and its last message. A shebang or frontmatter is not
+    /// looked for.
     ///
-    /// It is None for the empty text and where something follows the first token: so before the edition 2024 for
-    /// `##` and `#"`. The errors are those of [`LexedStr::new`].
+    /// Returns `None` for the empty text and for a text of two or more tokens; before the edition 2024 `##` and `#"`
+    /// are such texts. The errors are those of [`LexedStr::new`].
     pub fn single_token(
         alloc: Global,
         edition: Edition,
@@ -212,14 +213,14 @@ impl<'a> LexedStr<'a> {
         Ok(Some((token.kind, message)))
     }
 
-    /// The whole text.
+    /// Returns the whole text.
     pub fn as_str(&self) -> &'a str
         ensures { result.now ≡ joined self.now.tokens }
     {
         self.text
     }
 
-    /// How many tokens there are.
+    /// Returns the number of tokens.
     pub fn len(&self) -> usize
         ensures count { result ≡ length self.now.tokens }
         ensures tokens { AreTokens self.now.tokens }
@@ -227,14 +228,14 @@ impl<'a> LexedStr<'a> {
         self.kind.len()
     }
 
-    /// Whether there is no token, which is so exactly for the empty text.
+    /// Returns whether there is no token: exactly for the empty text.
     pub fn is_empty(&self) -> bool
         ensures { IsTrue result ↔ (length self.now.tokens ≡ 0) }
     {
         self.kind.is_empty()
     }
 
-    /// The kind of the token.
+    /// Returns the kind of the token with the number `i`.
     pub fn kind(&self, i: usize) -> SyntaxKind
         requires { i < length self.now.tokens }
         ensures kind { result ≡ (token_at self.now.tokens i).kind }
@@ -243,7 +244,7 @@ impl<'a> LexedStr<'a> {
         self.kind[i]
     }
 
-    /// The text of the token.
+    /// Returns the text of the token with the number `i`.
     pub fn text(&self, i: usize) -> &'a str
         requires { i < length self.now.tokens }
         ensures token { result.now ≡ (token_at self.now.tokens i).text }
@@ -253,7 +254,7 @@ impl<'a> LexedStr<'a> {
         self.range_text(i..i + 1)
     }
 
-    /// The text of the tokens from `r.start` up to but not with `r.end`.
+    /// Returns the text of the tokens from `r.start` to `r.end`, the latter excluded.
     pub fn range_text(&self, r: Range<usize>) -> &'a str
         requires rising { r.start < r.end }
         requires within { r.end ≤ length self.now.tokens }
@@ -264,7 +265,7 @@ impl<'a> LexedStr<'a> {
         &self.text[low..high]
     }
 
-    /// Where the token stands in the text, in bytes.
+    /// Returns the range of the token in the text, in bytes.
     pub fn text_range(&self, i: usize) -> Range<usize>
         requires { i < length self.now.tokens }
         ensures start { result.start ≡ start_of self.now.tokens i }
@@ -275,7 +276,7 @@ impl<'a> LexedStr<'a> {
         start..self.text_start(i + 1)
     }
 
-    /// Where the token begins, in bytes; for `i` the number of tokens, the text's length.
+    /// Returns the offset at which the token begins, in bytes; if `i` is the number of tokens, the length of the text.
     pub fn text_start(&self, i: usize) -> usize
         requires { i ≤ length self.now.tokens }
         ensures { result ≡ start_of self.now.tokens i }
@@ -283,7 +284,7 @@ impl<'a> LexedStr<'a> {
         self.start[i] as usize
     }
 
-    /// The length of the token in bytes.
+    /// Returns the length of the token, in bytes.
     pub fn text_len(&self, i: usize) -> usize
         requires { i < length self.now.tokens }
         ensures { result ≡ length (token_at self.now.tokens i).text }
@@ -292,7 +293,7 @@ impl<'a> LexedStr<'a> {
         range.end - range.start
     }
 
-    /// The first message about the token, if there is one.
+    /// Returns the first message about the token, if there is one.
     pub fn error(&self, i: usize) -> Option<&str>
         requires { i < length self.now.tokens }
         ensures { option_copied result ≡ error_of self.now.errors i }
@@ -310,7 +311,7 @@ impl<'a> LexedStr<'a> {
         }
     }
 
-    /// All messages, each with the number of its token, in the order of the tokens.
+    /// Returns all messages in the order of the tokens, each with the number of its token.
     pub fn errors(&self) -> Errors<'_>
         ensures { result ≡ self.now.errors }
     {
@@ -320,7 +321,7 @@ impl<'a> LexedStr<'a> {
     }
 }
 
-/// The messages that are still to come, each with the number of its token. Contracts see their list.
+/// An iterator over messages, each with the number of its token. Contracts see the list of those that are left.
 #[derive(Drop)]
 pub struct Errors<'a> {
     rest: &'a [LexError],

@@ -1,5 +1,5 @@
-//! A text cut into tokens, what the parser reads of it, and the tree that it gives handed out over the text: all of the
-//! parser's face that needs no grammar.
+//! A text divided into tokens, the parser's input made of it, and the steps of the tree over the text: the part of the
+//! public interface that needs no grammar.
 #![tactic(auto)]
 
 pub mod lexed_str;

@@ -1,4 +1,4 @@
-//! From a lexed text to the parser's input, and from the parser's output to the tree over the text.
+//! From a text's tokens to the parser's input, and from the parser's output to the steps of the tree over the text.
 ghost use Rattle.std.specs.Prelude.{◌≡◌, ◌+◌, ◌<◌, ◌↔◌, ◌∷◌, [], ◌++◌, length, drop, map, true, IsTrue, IfOk, OnOk, not, ◌||◌, ◌==◌};
 ghost use Rattle.rap_base.specs.TokenKind.{IDENT};
 ghost use Rattle.rap_base.specs.TokenTests.{is_trivia};
@@ -28,7 +28,7 @@ mod contextual;
 use builder::Builder;
 use contextual::contextual_keyword;
 
-/// A step of the walk through a tree over a text, from left to right.
+/// A step of a walk through a tree over a text, from left to right.
 #[derive(Clone, Copy, Debug)]
 pub enum StrStep<'a> {
     /// A leaf of the newest open node: its kind, and its text.
@@ -37,14 +37,14 @@ pub enum StrStep<'a> {
     Enter { kind: SyntaxKind },
     /// The newest open node ends.
     Exit,
-    /// A message, and the byte of the text at which it stands.
+    /// A message, and its offset in the text in bytes.
     Error { msg: &'a str, pos: usize },
 }
 
-/// What takes the steps of a tree, one after another.
+/// A receiver of the steps of a tree.
 ///
-/// A sink states two relations: `takes`, that a step, taken, takes this value to that value; and `refuses`, that a
-/// step is refused with this refusal, which takes this value to that value.
+/// A sink states two relations: `takes`, between a step that it accepts and its own value before and after; and
+/// `refuses`, between a step that it refuses, the refusal, and its own value before and after.
 pub trait StrSink {
     ghost use Rattle.std.specs.Prelude.{MatchResult};
     ghost use Rattle.rap_lexed.specs.StrStep.{StrStepValue, str_step_value};
@@ -56,17 +56,17 @@ pub trait StrSink {
 
     ghost refuses: { Self → StrStepValue → Self.Refusal → Self → Type 0 };
 
-    /// Takes a step, or refuses it.
+    /// Accepts a step, or refuses it.
     fn step(&mut self, step: StrStep<'_>) -> Result<(), Self::Refusal>
         ensures { MatchResult result (λ _. takes self.old (str_step_value step.entry) self.new) (λ e. refuses self.old (str_step_value step.entry) e self.new) };
 }
 
 impl LexedStr<'_> {
-    /// What the parser reads: the tokens that are no trivia, in order.
+    /// Makes the parser's input: the tokens that are no trivia, in order.
     ///
-    /// An identifier is handed over with the contextual keyword of its text, if it has one. A float number is marked
-    /// as joint if its text does not end with a dot; any other token but an identifier if the token right after it
-    /// is neither trivia nor an identifier. The error means out of memory.
+    /// An identifier has the contextual keyword of its text, if there is one. A float number is joint if its text does
+    /// not end with a dot. Any other token but an identifier is joint if the token right after it is neither trivia nor
+    /// an identifier. The error means out of memory.
     pub fn to_input(&self, alloc: Global, edition: Edition) -> Result<Input, NoMemory>
         ensures records { IfOk result (λ input. input ≡ records self.now.tokens edition) }
         ensures count { IfOk result (λ input. length input ≡ significant self.now.tokens) }
@@ -78,16 +78,16 @@ impl LexedStr<'_> {
         Ok(input)
     }
 
-    /// Passes the steps of an output's tree to a sink, with the texts of its leaves and with the trivia that the parser
-    /// left out. The result says whether all tokens of the text were passed to the sink.
+    /// Passes the steps of an output's tree to a sink, with the texts of its leaves and with the trivia that the
+    /// parser's input left out. Returns whether all tokens of the text were passed to the sink.
     ///
-    /// The output is one tree over a prefix of this text's tokens. Trivia stand right before the node or the leaf that
-    /// comes next; those at the text's beginning stand inside the root, and so do those with nothing after them. Of the
-    /// trivia right before the node of an item, a field, a variant or a macro call the last ones stand inside, at its
-    /// beginning: those from the farthest comment on that a walk back from the node reaches. The walk stops at white
-    /// space that holds two line feeds in a row, but not where that stands right after a `/**/`. A message that follows
-    /// a node stands at that node's end, and where the first token begins that was not yet passed to the sink. No
-    /// memory is taken, but by the sink. An error is the sink's refusal of a step; it has taken those before it.
+    /// The output must be one tree over a prefix of this text's tokens. Trivia come right before the next node or leaf;
+    /// those at the beginning of the text, and those with nothing after them, are inside the root. Before an item, a
+    /// field, a variant or a macro call, the attached trivia are inside the node, at its beginning. They are found by a
+    /// walk back from the node, which stops at white space with two line feeds in a row, unless that follows a `/**/`;
+    /// they begin at the farthest comment that the walk reaches. A message that follows a node comes before the node's
+    /// end, and its offset is the beginning of the first token that was not yet passed to the sink. No memory is
+    /// allocated, except by the sink. The error is the sink's refusal of a step; it has accepted all steps before.
     pub fn intersperse_trivia<S: StrSink>(
         &self,
         output: &Output,
@@ -111,10 +111,10 @@ impl LexedStr<'_> {
         builder.finish(sink)
     }
 
-    /// What [`LexedStr::intersperse_trivia`] does with an output, done with the steps of a tree that stand in a slice.
+    /// Does for the steps of a tree in a slice what [`LexedStr::intersperse_trivia`] does for an output.
     ///
-    /// They are the steps of one tree over a prefix of this text's tokens, in which each float that is taken apart stands
-    /// where it must.
+    /// They must be the steps of one tree over a prefix of this text's tokens, in which each split float is the last
+    /// child of the nodes that it ends.
     pub fn intersperse_steps<S: StrSink>(
         &self,
         steps: &[Step<'_>],

@@ -1,4 +1,4 @@
-//! How much of a text an output is about.
+//! How much of a text an output covers.
 ghost use Rattle.std.specs.Prelude.{◌≡◌, ◌≤◌};
 ghost use Rattle.rap_base.specs.Limits.{max_tokens};
 ghost use Rattle.rap_events.specs.Forest.{used};
@@ -7,7 +7,7 @@ ghost use Rattle.rap_lexed.specs.Used.{end_after};
 use crate::lexed_str::LexedStr;
 use rap_events::output::{Output, Step};
 
-/// How many tokens an output took.
+/// Returns the number of tokens that an output covers.
 #[tactic(auto, using(crate::proofs::UsedTokens::tokens_in_flat))]
 pub fn used_tokens(output: &Output) -> usize
     requires { used output.now ≤ max_tokens }
@@ -24,7 +24,8 @@ pub fn used_tokens(output: &Output) -> usize
     count
 }
 
-/// Where the last of so many tokens that are no trivia ends, in bytes.
+/// Returns the end, in bytes, of the `count`-th token that is no trivia: 0 if `count` is 0, and the length of the text
+/// if there are fewer tokens.
 pub fn end_after(lexed: &LexedStr<'_>, count: usize) -> usize
     ensures { result ≡ end_after count lexed.now.tokens }
 {
@@ -40,7 +41,7 @@ pub fn end_after(lexed: &LexedStr<'_>, count: usize) -> usize
     lexed.text_start(lexed.len())
 }
 
-/// Where the last token that an output took ends, in bytes.
+/// Returns the end, in bytes, of the last token that an output covers.
 pub fn used_bytes(lexed: &LexedStr<'_>, output: &Output) -> usize
     requires { used output.now ≤ max_tokens }
     ensures { result ≡ end_after (used output.now) lexed.now.tokens }

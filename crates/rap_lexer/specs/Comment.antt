@@ -24,7 +24,9 @@ IsLineComment cs token rest = (token ≡ plain (line_kind cs)) × (rest ≡ afte
 abbrev pub block_kind : List ℕ → ℕ
 block_kind cs =
     if next_is (byte "!") cs then INNER_DOC_COMMENT
-    else (if next_is (byte "*") cs && not (next_is (byte "*") (tail cs)) && not (next_is (byte "/") (tail cs)) then OUTER_DOC_COMMENT
+    else
+    (if next_is (byte "*") cs && not (next_is (byte "*") (tail cs)) &&
+    not (next_is (byte "/") (tail cs)) then OUTER_DOC_COMMENT
     else COMMENT)
 
 -- neither a `/*` nor a `*/` stands first
@@ -34,7 +36,8 @@ IsText cs = ((rest : List ℕ) → cs ≢ byte "/" ∷ byte "*" ∷ rest) × ((r
 -- The body of a block comment stands at the beginning of the text, and `rest` follows it. Comments inside it nest.
 pub data Body : List ℕ → List ℕ → Type 0 where
   empty : (rest : List ℕ) → Body rest rest
-  comment : (cs mid rest : List ℕ) → Body cs (byte "*" ∷ byte "/" ∷ mid) → Body mid rest → Body (byte "/" ∷ byte "*" ∷ cs) rest
+  comment : (cs mid rest : List ℕ) → Body cs (byte "*" ∷ byte "/" ∷ mid) → Body mid rest →
+      Body (byte "/" ∷ byte "*" ∷ cs) rest
   text : (c : ℕ) (cs rest : List ℕ) → IsText (c ∷ cs) → Body cs rest → Body (c ∷ cs) rest
 
 -- the comment ends with the `*/` before `rest`

@@ -199,7 +199,8 @@ abbrev pub message : Fault → Mode → List ℕ
 message ZeroChars mode = codes "empty character literal"
 message MoreThanOneChar mode = codes "character literal may only contain one codepoint"
 message InvalidEscape mode = if is_byte mode then codes "unknown byte escape" else codes "unknown character escape"
-message EscapeOnlyChar mode = if is_byte mode then codes "byte constant must be escaped" else codes "character constant must be escaped"
+message EscapeOnlyChar mode =
+    if is_byte mode then codes "byte constant must be escaped" else codes "character constant must be escaped"
 message TooShortHexEscape mode = codes "numeric character escape is too short"
 message InvalidCharInHexEscape mode = codes "invalid character in numeric character escape"
 message OutOfRangeHexEscape mode = codes "out of range hex escape"
@@ -211,5 +212,7 @@ message InvalidCharInUnicodeEscape mode = codes "invalid character in unicode es
 message OverlongUnicodeEscape mode = codes "overlong unicode escape"
 message UnicodeEscapeInByte mode = codes "unicode escape in byte string"
 message InvalidUnicodeEscape mode = codes "invalid unicode character escape"
-message NonAsciiCharInByte mode = if is_single mode then codes "non-ASCII character in byte literal" else codes "non-ASCII character in byte string literal"
+message NonAsciiCharInByte mode =
+    if is_single mode then codes "non-ASCII character in byte literal" else codes
+    "non-ASCII character in byte string literal"
 message NulInCStr mode = codes "null character in C string literal"

@@ -28,7 +28,8 @@ only_fault (Ok value) (c ∷ cs) = MoreThanOneChar ∷ []
 
 -- what is reported for a character and for what follows it, where `later` is what a string reports for that
 abbrev pub reported_then : Mode → Result ℕ Fault → List ℕ → List Fault → List Fault
-reported_then mode outcome rest later = if is_single mode then only_fault outcome rest else (reported mode outcome ++ later)
+reported_then mode outcome rest later =
+    if is_single mode then only_fault outcome rest else (reported mode outcome ++ later)
 
 -- what is reported from a place of the walk on
 unfoldable pub faults_from : Mode → Place → List ℕ → List Fault
@@ -53,7 +54,8 @@ faults_from mode after_x (a ∷ cs) =
     else reported_then mode (Err InvalidCharInHexEscape) cs (faults_from mode before_character cs)
 faults_from mode (after_x_digit a) [] = TooShortHexEscape ∷ []
 faults_from mode (after_x_digit a) (b ∷ cs) =
-    if nat_lt (digit_value b) 16 then reported_then mode (hex_escape mode (digits_value 16 (a ∷ b ∷ []))) cs (faults_from mode before_character cs)
+    if nat_lt (digit_value b) 16 then reported_then mode (hex_escape mode (digits_value 16 (a ∷ b ∷ []))) cs
+    (faults_from mode before_character cs)
     else reported_then mode (Err InvalidCharInHexEscape) cs (faults_from mode before_character cs)
 faults_from mode after_u [] = NoBraceInUnicodeEscape ∷ []
 faults_from mode after_u (c ∷ cs) =
@@ -62,14 +64,20 @@ faults_from mode after_u (c ∷ cs) =
 faults_from mode after_brace [] = UnclosedUnicodeEscape ∷ []
 faults_from mode after_brace (c ∷ cs) =
     if nat_lt (digit_value c) 16 then faults_from mode (in_digits (c ∷ [])) cs
-    else reported_then mode (Err (if c == byte "_" then LeadingUnderscoreUnicodeEscape else (if c == byte "}" then EmptyUnicodeEscape else InvalidCharInUnicodeEscape))) cs (faults_from mode before_character cs)
+    else reported_then mode
+    (Err
+    (if c == byte "_" then LeadingUnderscoreUnicodeEscape else
+    (if c == byte "}" then EmptyUnicodeEscape else InvalidCharInUnicodeEscape))) cs
+    (faults_from mode before_character cs)
 faults_from mode (in_digits digits) [] = UnclosedUnicodeEscape ∷ []
 faults_from mode (in_digits digits) (c ∷ cs) =
     if nat_lt (digit_value c) 16 then faults_from mode (in_digits (digits ++ c ∷ [])) cs
     else (if c == byte "_" then faults_from mode (in_digits digits) cs
-    else reported_then mode (if c == byte "}" then unicode_escape mode digits else Err InvalidCharInUnicodeEscape) cs (faults_from mode before_character cs))
+    else reported_then mode (if c == byte "}" then unicode_escape mode digits else Err InvalidCharInUnicodeEscape) cs
+    (faults_from mode before_character cs))
 
 -- the faults of a literal's body
 unfoldable pub faults : Mode → List ℕ → List Fault
 faults mode [] = if is_single mode then ZeroChars ∷ [] else []
-faults mode (c ∷ cs) = if is_single mode && (c == carriage_return) then [] else faults_from mode before_character (c ∷ cs)
+faults mode (c ∷ cs) =
+    if is_single mode && (c == carriage_return) then [] else faults_from mode before_character (c ∷ cs)

@@ -24,7 +24,8 @@ after_sign cs = if next_is (byte "+") cs || next_is (byte "-") cs then tail cs e
 -- An exponent past its letter: an optional sign, then digits and `_`; that there is no digit is reported.
 abbrev pub IsExponent : List ℕ → Lexeme → List ℕ → Type 0
 IsExponent cs token rest =
-    (token ≡ with_remark FLOAT_NUMBER (if has_digit DigitOrUnderscore (after_sign cs) then Nothing else NoExponentDigits))
+    (token ≡ with_remark FLOAT_NUMBER
+    (if has_digit DigitOrUnderscore (after_sign cs) then Nothing else NoExponentDigits))
     × (rest ≡ after_suffix (after_run (is_in DigitOrUnderscore) (after_sign cs)))
 
 -- A float past its dot: if a digit follows at once, digits and `_`, and then perhaps an exponent.
@@ -32,7 +33,8 @@ abbrev pub IsFraction : List ℕ → Lexeme → List ℕ → Type 0
 IsFraction cs token rest =
     MatchBool (next_in Digit cs && starts_exponent (after_run (is_in DigitOrUnderscore) cs))
     (IsExponent (tail (after_run (is_in DigitOrUnderscore) cs)) token rest)
-    ((token ≡ plain FLOAT_NUMBER) × (rest ≡ after_suffix (if next_in Digit cs then after_run (is_in DigitOrUnderscore) cs else cs)))
+    ((token ≡ plain FLOAT_NUMBER) ×
+    (rest ≡ after_suffix (if next_in Digit cs then after_run (is_in DigitOrUnderscore) cs else cs)))
 
 -- a dot belongs to the number unless a second dot or an identifier follows it
 abbrev pub takes_dot : List ℕ → Bool

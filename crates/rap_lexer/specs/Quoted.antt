@@ -1,4 +1,5 @@
--- Literals in quotes and lifetimes (the Reference, "Literals" and "Lifetimes and loop labels", and rustc_lexer where one is malformed).
+-- Literals in quotes and lifetimes (the Reference, "Literals" and "Lifetimes and loop labels", and rustc_lexer where
+-- one is malformed).
 use Rattle.std.specs.Prelude.{◌≡◌, ◌≢◌, ◌≤◌, ℕ, Bool, true, false, not, ◌&&◌, ◌||◌, ◌==◌, nat_le, List, [], ◌∷◌, ◌++◌, length, replicate, if◌then◌else◌, MatchBool}
 use Rattle.std.specs.Str.{byte}
 use Rattle.rap_lexer.specs.Class.{is_in}
@@ -19,8 +20,10 @@ takes_next c cs = (c == byte "\\") && (next_is (byte "\\") cs || next_is (byte "
 pub data StringRun : List ℕ → Bool → List ℕ → Type 0 where
   end : StringRun [] false []
   quote : (cs : List ℕ) → StringRun (byte "\"" ∷ cs) true cs
-  escaped : (c : ℕ) (cs : List ℕ) (closed : Bool) (rest : List ℕ) → takes_next c cs ≡ true → StringRun (tail cs) closed rest → StringRun (c ∷ cs) closed rest
-  other : (c : ℕ) (cs : List ℕ) (closed : Bool) (rest : List ℕ) → c ≢ byte "\"" → takes_next c cs ≡ false → StringRun cs closed rest → StringRun (c ∷ cs) closed rest
+  escaped : (c : ℕ) (cs : List ℕ) (closed : Bool) (rest : List ℕ) → takes_next c cs ≡ true →
+      StringRun (tail cs) closed rest → StringRun (c ∷ cs) closed rest
+  other : (c : ℕ) (cs : List ℕ) (closed : Bool) (rest : List ℕ) →
+      c ≢ byte "\"" → takes_next c cs ≡ false → StringRun cs closed rest → StringRun (c ∷ cs) closed rest
 
 -- an unclosed character stops before `/`, and before a line feed that no quote follows
 abbrev pub stops_at : ℕ → List ℕ → Bool
@@ -32,8 +35,10 @@ pub data CharacterRun : List ℕ → Bool → List ℕ → Type 0 where
   end : CharacterRun [] false []
   stop : (c : ℕ) (cs : List ℕ) → stops_at c cs ≡ true → CharacterRun (c ∷ cs) false (c ∷ cs)
   quote : (cs : List ℕ) → CharacterRun (byte "'" ∷ cs) true cs
-  escaped : (cs : List ℕ) (closed : Bool) (rest : List ℕ) → CharacterRun (tail cs) closed rest → CharacterRun (byte "\\" ∷ cs) closed rest
-  other : (c : ℕ) (cs : List ℕ) (closed : Bool) (rest : List ℕ) → c ≢ byte "'" → c ≢ byte "\\" → stops_at c cs ≡ false → CharacterRun cs closed rest → CharacterRun (c ∷ cs) closed rest
+  escaped : (cs : List ℕ) (closed : Bool) (rest : List ℕ) → CharacterRun (tail cs) closed rest →
+      CharacterRun (byte "\\" ∷ cs) closed rest
+  other : (c : ℕ) (cs : List ℕ) (closed : Bool) (rest : List ℕ) → c ≢ byte "'" → c ≢ byte "\\" → stops_at c cs ≡ false →
+      CharacterRun cs closed rest → CharacterRun (c ∷ cs) closed rest
 
 abbrev pub is_one_character : List ℕ → Bool
 is_one_character cs = next_is (byte "'") (tail cs) && not (next_is (byte "\\") cs)
@@ -60,7 +65,9 @@ IsCommonLifetime cs token rest =
     MatchBool (next_is (byte "'") (after_run (is_in IdentContinue) (tail cs)))
     ((token ≡ with_remark CHAR (Escapes Char)) × (rest ≡ tail (after_run (is_in IdentContinue) (tail cs))))
     ((rest ≡ after_run (is_in IdentContinue) (tail cs))
-    × (token ≡ with_remark LIFETIME_IDENT (if next_in Digit cs then LifetimeStartsWithNumber else (if next_is (byte "#") rest then UnknownLifetimePrefix else Nothing))))
+    × (token ≡ with_remark LIFETIME_IDENT
+    (if next_in Digit cs then LifetimeStartsWithNumber else
+    (if next_is (byte "#") rest then UnknownLifetimePrefix else Nothing))))
 
 abbrev pub is_raw_lifetime : List ℕ → Bool
 is_raw_lifetime cs = next_is (byte "r") cs && next_is (byte "#") (tail cs) && next_in IdentStart (tail (tail cs))
@@ -91,7 +98,8 @@ pub record ClosesRaw (n : ℕ) (cs : List ℕ) (place : ℕ) (rest : List ℕ) :
 
 -- A raw string past its opening quote: the first such place closes it; where there is none it runs to the end.
 pub data RawRun (n : ℕ) (cs : List ℕ) : Bool → List ℕ → Type 0 where
-  closes_at : (place : ℕ) (rest : List ℕ) → ClosesRaw n cs place rest → ((other : ℕ) (after : List ℕ) → ClosesRaw n cs other after → place ≤ other) → RawRun n cs true rest
+  closes_at : (place : ℕ) (rest : List ℕ) → ClosesRaw n cs place rest →
+      ((other : ℕ) (after : List ℕ) → ClosesRaw n cs other after → place ≤ other) → RawRun n cs true rest
   runs_on : ((place : ℕ) (after : List ℕ) → ¬ ClosesRaw n cs place after) → RawRun n cs false []
 
 -- closed, and with no more `#` than a raw string may have
@@ -105,6 +113,7 @@ IsRawString kind cs token rest =
     MatchBool (next_is (byte "\"") (after_run (is_in Hash) cs))
     ((closed : Bool) × (after : List ℕ)
     × RawRun (length (run_of (is_in Hash) cs)) (tail (after_run (is_in Hash) cs)) closed after
-    × (token ≡ with_remark kind (if is_well_formed closed (length (run_of (is_in Hash) cs)) then Nothing else InvalidRawString))
+    × (token ≡ with_remark kind
+    (if is_well_formed closed (length (run_of (is_in Hash) cs)) then Nothing else InvalidRawString))
     × (rest ≡ (if is_well_formed closed (length (run_of (is_in Hash) cs)) then after_suffix after else after)))
     ((token ≡ with_remark kind InvalidRawString) × (rest ≡ tail (after_run (is_in Hash) cs)))

@@ -41,7 +41,8 @@ IsWordBefore edition text after token rest =
 -- An identifier past its first character: as many continues as there are.
 abbrev pub IsWord : Edition → ℕ → List ℕ → Lexeme → List ℕ → Type 0
 IsWord edition c cs token rest =
-    IsWordBefore edition (encode_utf8_all (c ∷ run_of (is_in IdentContinue) cs)) (after_run (is_in IdentContinue) cs) token rest
+    IsWordBefore edition (encode_utf8_all (c ∷ run_of (is_in IdentContinue) cs))
+    (after_run (is_in IdentContinue) cs) token rest
 
 -- what a raw string begins with past its `r`
 abbrev pub starts_raw : List ℕ → Bool

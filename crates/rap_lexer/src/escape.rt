@@ -93,7 +93,7 @@ impl Mode {
 }
 
 impl Fault {
-    /// The message of the fault in a literal of this kind.
+    /// Returns the message of the fault in a literal of this kind.
     pub fn message(self, mode: Mode) -> &'static str
         ensures { result.now ≡ message self mode }
     {
@@ -185,7 +185,7 @@ fn next_fault(mode: Mode, rest: &mut Cursor<'_>) -> Option<Fault>
     None
 }
 
-/// The faults of a literal's body that are still to come. Contracts see their list.
+/// An iterator over the faults of a literal's body. Contracts see the list of those that are left.
 #[derive(Drop)]
 pub struct Faults<'a> {
     mode: Mode,
@@ -209,9 +209,8 @@ impl<'a> Model for Faults<'a> {
 }
 
 impl<'a> Faults<'a> {
-    /// The faults in the body of a literal, which is the text between its quotes.
-    ///
-    /// A character or byte reports one fault at most.
+    /// Returns the faults in `body`, the text between the quotes of a literal, in the order in which they are reported.
+    /// A character or byte has at most one.
     pub fn new(mode: Mode, body: &'a str) -> Faults<'a>
         ensures list { result ≡ faults mode (chars body.now) }
         ensures reported { Reports mode (chars body.now) result }

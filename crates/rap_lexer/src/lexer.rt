@@ -26,7 +26,7 @@ mod raw_string;
 mod run;
 mod word;
 
-/// The first token of a text that is not empty, and its length in bytes.
+/// Returns the first token of `text`, which must not be empty, and its length in bytes.
 pub fn first_token(edition: Edition, text: &str) -> (Lexeme, usize)
     requires { 0 < length text.now }
     ensures token { First edition (chars text.now) result.0 (chars (drop result.1 text.now)) }
@@ -107,7 +107,7 @@ fn hash(edition: Edition, cursor: &mut Cursor<'_>) -> Lexeme
     }
 }
 
-/// Whether a `#` before the cursor begins what is reserved for strings.
+/// Whether a `#` before the cursor begins a reserved guarded string.
 fn is_reserved_hash(edition: Edition, cursor: &Cursor<'_>) -> bool
     ensures { result ≡ is_reserved_hash edition cursor.now }
 {

@@ -1,4 +1,4 @@
-//! Whether a tree's leaves stand over an input.
+//! Whether the leaves of a tree match an input.
 ghost use Rattle.std.specs.Prelude.{◌≡◌, ◌+◌, ◌≤◌, length, map, drop, true, false, MatchOption, not, ◌||◌, ◌&&◌, ◌==◌, if◌then◌else◌};
 ghost use Rattle.rap_base.specs.Keyword.{is_keyword};
 ghost use Rattle.rap_base.specs.TokenKind.{FLOAT_NUMBER, IDENT};
@@ -17,8 +17,8 @@ use rap_events::output::Step;
 use rap_events::parser::Parser;
 use std::alloc::Global;
 
-/// How many tokens the leaves of a forest stand for, where they stand at the first tokens of the input. The steps are those
-/// of the forest. Takes no memory.
+/// Returns the number of tokens that the leaves of a forest stand for; `None` if they do not match the first tokens of
+/// the input. The steps must be those of the forest. No memory is allocated.
 pub fn covered(alloc: Global, steps: &[Step<'_>], input: &Input) -> Option<usize>
     requires { flat (forest_of (map step_value steps.now)) ≡ map step_value steps.now }
     ensures { MatchOption result (covers input.now (forest_of (map step_value steps.now)) ≡ false) (λ count. (covers input.now (forest_of (map step_value steps.now)) ≡ true) × (count ≡ used (forest_of (map step_value steps.now)))) }

@@ -1,4 +1,4 @@
-//! Steps that come from outside: whether they are those of one tree, and whether that tree stands over an input.
+//! Checks of steps that a caller hands in: whether they are those of one tree, and whether its leaves match an input.
 #![tactic(auto)]
 
 mod cover;

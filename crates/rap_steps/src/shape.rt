@@ -9,10 +9,10 @@ use rap_base::syntax_kind::SyntaxKind;
 use rap_events::output::Step;
 use std::alloc::Global;
 
-/// Whether the steps are those of one tree, with nothing beside it, in which each float that is taken apart stands last in
-/// as many `FIELD_EXPR` nodes as it ends, with another node around one that ends in a dot.
+/// Returns whether the steps are those of one tree and nothing else, in which each split float is the last child of as
+/// many `FIELD_EXPR` nodes as it ends, with another node around them if it ends in a dot.
 ///
-/// The error is want of memory.
+/// The error means out of memory.
 pub fn is_tree(alloc: Global, steps: &[Step<'_>]) -> Result<bool, NoMemory>
     ensures { IfOk result (λ b. IsTrue b ↔ IsTreeSteps (map step_value steps.now)) }
 {

@@ -6,7 +6,7 @@ use super::SyntaxKind;
 use crate::edition::Edition;
 
 impl SyntaxKind {
-    /// The kind of the word `text`, if the edition reserves it (the Rust Reference, "Keywords").
+    /// Returns the kind of the word `text` if the edition reserves it (the Rust Reference, "Keywords").
     pub fn from_keyword(text: &str, edition: Edition) -> Option<SyntaxKind>
         ensures { result ≡ from_keyword text.now edition }
     {
@@ -17,8 +17,8 @@ impl SyntaxKind {
         }
     }
 
-    /// The kind of the word `text`, if it is a keyword only where the grammar asks for it. Before the
-    /// edition 2018 `dyn` is such a word.
+    /// Returns the kind of the word `text` if it is a contextual keyword: a keyword only where the grammar expects
+    /// it. In the edition 2015 `dyn` is one too.
     pub fn from_contextual_keyword(text: &str, edition: Edition) -> Option<SyntaxKind>
         ensures { result ≡ from_contextual_keyword text.now edition }
     {
@@ -31,7 +31,7 @@ impl SyntaxKind {
         }
     }
 
-    /// Whether this is the kind of a keyword of the edition, contextual ones included.
+    /// Returns whether this is the kind of a keyword of the edition, contextual keywords included.
     pub fn is_keyword(self, edition: Edition) -> bool
         ensures { result ≡ is_keyword self edition }
     {
@@ -65,7 +65,7 @@ fn reserved_in_2018(text: &str) -> Option<SyntaxKind>
     }
 }
 
-// The lexer asks for each identifier, so the length decides first: few words are then compared.
+// The lexer calls this for each identifier, so the length is tested first: then few words are compared.
 
 /// The kind of a word that the latest edition reserves.
 fn reserved_in_2024(text: &str) -> Option<SyntaxKind>

@@ -5,7 +5,7 @@ ghost use Rattle.rap_base.specs.Names.{names, name_of};
 use super::SyntaxKind;
 
 impl SyntaxKind {
-    /// The kind's name, as in `"L_PAREN"`.
+    /// Returns the kind's name, for example `"L_PAREN"`.
     pub fn name(self) -> &'static str
         ensures { result.now ≡ name_of self }
     {

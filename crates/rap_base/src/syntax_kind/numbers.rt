@@ -7,8 +7,8 @@ ghost use Rattle.rap_base.specs.Numbered.{numbered};
 use super::SyntaxKind;
 
 impl SyntaxKind {
-    /// The numbers of the constants of all kinds, in the order of the table of names: each is the place of its kind's name
-    /// there.
+    /// Returns the numbers of all kinds, in the order of the table of names: the number of a kind is the index of its
+    /// name in that table.
     pub fn numbers() -> &'static [u16; 330]
         ensures order { result.now ≡ range_with_len 0 330 }
         ensures named { map (λ number. (name_of number, number)) result.now ≡ numbered }

@@ -7,14 +7,14 @@ use super::SyntaxKind;
 use crate::edition::Edition;
 
 impl SyntaxKind {
-    /// Whether this is the kind of a token: not of a node alone.
+    /// Returns whether tokens can have this kind. `ERROR` is the kind of tokens and of nodes.
     pub fn is_token(self) -> bool
         ensures { result ≡ is_token self }
     {
         self <= SyntaxKind::SHEBANG
     }
 
-    /// Whether tokens of this kind are left out of the grammar's input: white space and plain comments.
+    /// Returns whether this is trivia: white space or a comment that is no doc comment. The parser's input has none.
     pub fn is_trivia(self) -> bool
         ensures { result ≡ is_trivia self }
     {

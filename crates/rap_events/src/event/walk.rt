@@ -1,4 +1,4 @@
-//! Reading events from the last one back, and writing the steps in their place.
+//! Reading events backwards and writing the steps in their place.
 ghost use Rattle.std.specs.Prelude.{◌≡◌, ◌≤◌, ◌<◌, ◌+◌, OnOk, length, take, reverse, true, [], ◌∷◌};
 ghost use Rattle.rap_events.specs.Forest.{flat, splits_placed};
 ghost use Rattle.rap_events.specs.Reading.{forest_of};

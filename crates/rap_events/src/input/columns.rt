@@ -44,7 +44,7 @@ impl Columns {
         })
     }
 
-    /// Sees to it that there is room for a record after the first `len`, whatever the result without a change to these.
+    /// Makes room for a record after the first `len`, which stay as they are, also if this is out of memory.
     pub(super) fn make_room(&mut self, len: usize) -> Result<(), NoMemory>
         requires { Holds self.old len }
         ensures holds { Holds self.new len }

@@ -4,18 +4,20 @@ ghost use Rattle.rap_frontmatter.specs.ScriptPlaces.{IsFoundFence, IsFoundClose}
 
 use crate::frontmatter::line::{count_dashes, find_line_feed, first_line};
 
-/// What a search for a line that begins with so many dashes found. Places are in bytes, and dashes begin there.
+/// The result of a search for a line that begins with at least a given number of dashes. Places are byte offsets of
+/// the dashes.
 #[derive(Clone, Copy)]
 pub(super) enum FoundFence {
     /// The first such line.
     Full { place: usize },
-    /// There is none. The most dashes with which a line begins, and the first place of so many.
+    /// No such line. `len` is the greatest number of dashes at the beginning of a line, `place` the first line with
+    /// that many.
     Shorter { place: usize, len: usize },
     /// No line begins with a dash.
     Missing,
 }
 
-/// Finds the first line, past the first one, that begins with `n` dashes or more.
+/// Finds the first line after the first line of the text that begins with `n` dashes or more.
 pub(super) fn find_fence(text: &[u8], n: usize) -> FoundFence
     requires { 0 < n }
     ensures { IsFoundFence n text.now result }
@@ -42,8 +44,8 @@ pub(super) fn find_fence(text: &[u8], n: usize) -> FoundFence
     }
 }
 
-/// The parts of a frontmatter, in bytes from the opening dashes' end on: how long the info's line is, where the
-/// frontmatter begins, and where the closing dashes do.
+/// The parts of a frontmatter, in bytes from the end of the opening dashes: the length of the info line, the beginning
+/// of the frontmatter, and the beginning of the closing dashes.
 #[derive(Clone, Copy)]
 pub(super) struct Closing {
     pub(super) line: usize,
@@ -51,11 +53,11 @@ pub(super) struct Closing {
     pub(super) close: usize,
 }
 
-/// How the text after the opening dashes goes on.
+/// What follows the opening dashes.
 #[derive(Clone, Copy)]
 pub(super) enum FoundClose {
     At(Closing),
-    /// No line begins with as many dashes. The most are `len`, at `place` first.
+    /// No line begins with as many dashes. The greatest number is `len`, first at `place`.
     TooShort { place: usize, len: usize },
     /// No line begins with a dash.
     NoFence,

@@ -12,7 +12,7 @@ use std::ops::Range;
 /// A range of bytes of a text.
 pub type Span = Range<usize>;
 
-/// Why a text is no script source: a message, the span that it speaks of, and the spans to show beside it.
+/// Why a text is not a script source: a message, the span of the error, and further spans to show with it.
 #[derive(Clone, Debug, Drop)]
 pub struct FrontmatterError {
     message: String,
@@ -34,7 +34,7 @@ impl Model for FrontmatterError {
 }
 
 impl FrontmatterError {
-    /// An error without visible spans. Its message is copied.
+    /// Makes an error without visible spans. The message is copied. The error of this call means out of memory.
     pub fn new(alloc: Global, message: &str, span: Span) -> Result<FrontmatterError, NoMemory>
         ensures { IfOk result (λ e. e ≡ record { message = message.now; primary = span; visible = [] }) }
     {
@@ -45,7 +45,7 @@ impl FrontmatterError {
         })
     }
 
-    /// Adds a span after the visible ones. Out of memory, the error that it took is dropped.
+    /// Appends a visible span. If this is out of memory, `self` is dropped.
     pub fn push_visible_span(mut self, span: Span) -> Result<FrontmatterError, NoMemory>
         ensures { IfOk result (λ e. e ≡ record self { visible = self.visible ++ span ∷ [] }) }
     {
@@ -53,7 +53,7 @@ impl FrontmatterError {
         Ok(self)
     }
 
-    /// An error with one visible span.
+    /// Makes an error with one visible span.
     pub(super) fn shown(
         alloc: Global,
         message: String,
@@ -82,7 +82,7 @@ impl FrontmatterError {
         self.primary_span.start..self.primary_span.end
     }
 
-    /// The spans to show beside the primary one, in the order in which they were pushed.
+    /// Returns the spans to show besides the primary one, in the order in which they were pushed.
     pub fn visible_spans(&self) -> &[Span]
         ensures { result.now ≡ self.now.visible }
     {
@@ -90,7 +90,7 @@ impl FrontmatterError {
     }
 }
 
-/// Errors are equal where their messages and their spans are.
+/// Errors are equal if their messages and all their spans are equal.
 impl PartialEq for FrontmatterError {
     ghost use Rattle.std.specs.Cmp.{partial_equiv_from_equiv};
     ghost use Rattle.rap_frontmatter.specs.Refusal.{is_same, same_laws};
@@ -124,7 +124,7 @@ impl fmt::Display for FrontmatterError {
 
 impl Error for FrontmatterError {}
 
-/// Why a text has no script source to give: it is refused, or out of memory for the report.
+/// Why a text was not read as a script source: it is refused, or the report was out of memory.
 #[derive(Clone, PartialEq, Eq, Debug, Drop)]
 pub enum ScriptFault {
     Refused(FrontmatterError),

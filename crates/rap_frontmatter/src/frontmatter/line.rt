@@ -5,21 +5,21 @@ ghost use Rattle.rap_frontmatter.specs.Script.{HasLine, FindsWord, is_horizontal
 
 use std::ops::Range;
 
-/// The first line of a text: its length, and where the next line begins, both in bytes.
+/// The first line of a text: its length, and the offset of the next line, both in bytes.
 #[derive(Clone, Copy)]
 pub(super) struct Line {
     pub(super) len: usize,
     pub(super) next: usize,
 }
 
-/// Where the first line feed stands.
+/// Returns the byte offset of the first line feed.
 pub(super) fn find_line_feed(text: &[u8]) -> Option<usize>
     ensures { result ≡ position (λ b. b == 10) text.now }
 {
     text.iter().position(|b| *b == b'\n')
 }
 
-/// The first line of the text. A carriage return before its line feed does not belong to it.
+/// Returns the first line of the text, without its line feed and a carriage return before that.
 pub(super) fn first_line(text: &[u8]) -> Line
     ensures { HasLine text.now result.len result.next }
 {
@@ -42,14 +42,14 @@ pub(super) fn first_line(text: &[u8]) -> Line
     }
 }
 
-/// How many dashes the text begins with.
+/// Returns the number of dashes at the beginning of the text.
 pub(super) fn count_dashes(text: &[u8]) -> usize
     ensures { result ≡ prefix_len (λ b. b == 45) text.now }
 {
     text.iter().take_while(|b| **b == b'-').count()
 }
 
-/// Where the line's word stands, which is all of it but spaces and tabs at its ends.
+/// Returns the range of the line without the spaces and tabs at both ends, in bytes; `None` if nothing else is in it.
 pub(super) fn find_word(line: &[u8]) -> Option<Range<usize>>
     ensures { FindsWord line.now result }
 {

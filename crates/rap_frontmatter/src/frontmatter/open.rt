@@ -7,7 +7,7 @@ use crate::frontmatter::error::Span;
 use crate::frontmatter::line::count_dashes;
 use crate::frontmatter::strip::{strip_shebang, strip_ws_lines};
 
-/// The dashes that follow blank lines or nothing: where they begin, and how many there are, in bytes.
+/// Dashes at the beginning of a text or after blank lines: their offset in bytes, and their number.
 #[derive(Clone, Copy)]
 pub(super) struct Dashes {
     pub(super) start: usize,
@@ -15,7 +15,7 @@ pub(super) struct Dashes {
 }
 
 impl Dashes {
-    /// Where the dashes end.
+    /// Returns the offset of the end of the dashes, in bytes.
     pub(super) fn end(&self) -> usize
         requires { self.now.start + self.now.len < 2 ^ 64 }
         ensures { result ≡ self.now.start + self.now.len }
@@ -31,7 +31,7 @@ impl Dashes {
     }
 }
 
-/// Finds the dashes at the beginning of the text, past its blank lines. There may be none.
+/// Finds the dashes after the blank lines at the beginning of the text. Their number may be 0.
 pub(super) fn find_dashes(text: &str) -> Dashes
     ensures { HasDashes text.now result.start result.len }
 {
@@ -40,14 +40,14 @@ pub(super) fn find_dashes(text: &str) -> Dashes
     Dashes { start, len }
 }
 
-/// Where the shebang ends, if there is one, and the dashes after it.
+/// The end of the shebang in bytes, if there is one, and the dashes after it.
 #[derive(Clone, Copy)]
 pub(super) struct Opening {
     pub(super) shebang: Option<usize>,
     pub(super) dashes: Dashes,
 }
 
-/// Finds the dashes at the beginning of the text, past its shebang and blank lines.
+/// Finds the shebang of the text, and the dashes after it and after blank lines.
 pub(super) fn find_opening(text: &str) -> Opening
     ensures { HasOpening text.now result.shebang result.dashes.start result.dashes.len }
 {

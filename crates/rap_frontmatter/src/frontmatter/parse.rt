@@ -1,4 +1,4 @@
-//! Script sources, read from the beginning of a text on.
+//! Reading a script source from the beginning of a text.
 ghost use Rattle.std.specs.Prelude.{◌≡◌, ◌+◌, ◌<◌, ◌≤◌, ◌^◌, [], ◌∷◌, drop, IfOk, IfErr, IfSome};
 ghost use Rattle.std.specs.Option.{option_map};
 ghost use Rattle.rap_frontmatter.specs.Script.{IsScript, AtBorders, dashes, span, up_to, moved};
@@ -16,14 +16,16 @@ use crate::frontmatter::script_source::ScriptSource;
 use rap_base::no_memory::NoMemory;
 use std::alloc::Global;
 
-/// With how many dashes a frontmatter opens at least.
+/// The least number of dashes that open a frontmatter.
 const SHORTEST_FENCE: usize = 3;
 
 impl<'s> ScriptSource<'s> {
-    /// Cuts the text into a shebang, a frontmatter and its content. A text that is accepted takes no memory.
+    /// Divides the text into a shebang, a frontmatter and the content. No memory is allocated for a text that is
+    /// accepted.
     ///
-    /// A frontmatter is refused where fewer than three dashes open it, where no line closes it, where more or
-    /// fewer dashes close it, where something else stands on the closing line, and where a second one follows.
+    /// The text is refused if fewer than three dashes open a frontmatter, if no line closes it, if more or fewer
+    /// dashes close it than open it, if other text is on the closing line, or if a second frontmatter follows. The
+    /// error is that refusal, or out of memory for its report.
     pub fn parse(alloc: Global, raw: &'s str) -> Result<ScriptSource<'s>, ScriptFault>
         ensures accepted { IfOk result (IsScript raw.now) }
         ensures borders { IfOk result AtBorders }
@@ -36,7 +38,7 @@ impl<'s> ScriptSource<'s> {
     }
 }
 
-/// The parts of a text, or why it has none.
+/// The parts of a text, or the refusal.
 fn source_of<'s>(alloc: Global, raw: &'s str) -> Result<ScriptSource<'s>, ScriptFault>
     ensures accepted { IfOk result (IsScript raw.now) }
     ensures borders { IfOk result AtBorders }
@@ -59,7 +61,7 @@ fn source_of<'s>(alloc: Global, raw: &'s str) -> Result<ScriptSource<'s>, Script
     after_opening(alloc, raw, &opening)
 }
 
-/// What follows the shebang is the content.
+/// A script source without frontmatter: the content follows the shebang.
 fn without_frontmatter<'s>(raw: &'s str, opening: &Opening) -> ScriptSource<'s>
     requires opens { Opens raw.now opening.now }
     requires none { opening.now.dashes.len ≡ 0 }
@@ -77,7 +79,7 @@ fn without_frontmatter<'s>(raw: &'s str, opening: &Opening) -> ScriptSource<'s>
     }
 }
 
-/// Goes on after the dashes that open a frontmatter.
+/// Reads the text after the dashes that open a frontmatter.
 fn after_opening<'s>(
     alloc: Global,
     raw: &'s str,
@@ -115,7 +117,7 @@ fn unclosed(alloc: Global, raw: &str, opening: &Opening) -> Result<FrontmatterEr
     report::lacks_close(alloc, fence, len..len, open)
 }
 
-/// Goes on after the dashes that close a frontmatter.
+/// Reads the text after the dashes that close a frontmatter.
 fn after_close<'s>(
     alloc: Global,
     raw: &'s str,
@@ -145,7 +147,7 @@ fn after_close<'s>(
     before_content(alloc, raw, opening, closing, tail.next)
 }
 
-/// Goes on where the line of the closing dashes ends, so many bytes after them.
+/// Reads the text after the line of the closing dashes.
 fn before_content<'s>(
     alloc: Global,
     raw: &'s str,
@@ -202,14 +204,14 @@ fn with_frontmatter<'s>(
     }
 }
 
-/// The span from the text's start on.
+/// The span from the beginning of the text to `end`.
 fn span_to(end: Option<usize>) -> Option<Span>
     ensures { result ≡ option_map up_to end }
 {
     end.map(|end| 0..end)
 }
 
-/// The span, where what it was counted from stands at `by`.
+/// The span moved by `by` bytes.
 fn moved(span: Option<Span>, by: usize) -> Option<Span>
     requires { IfSome span (λ s. (by + s.start < 2 ^ 64) × (by + s.end < 2 ^ 64)) }
     ensures { result ≡ option_map (moved by) span }

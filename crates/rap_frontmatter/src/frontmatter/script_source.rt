@@ -6,8 +6,8 @@ ghost use Rattle.rap_frontmatter.specs.Script.{IsCut, slice_at};
 use crate::frontmatter::error::Span;
 use std::marker::Model;
 
-/// A text that begins with a shebang, a frontmatter, both or neither, cut into its parts. Spans are in bytes,
-/// and lie at borders of characters; the parts are slices of the text.
+/// The parts of a text that begins with a shebang, a frontmatter, both or neither. Spans are in bytes and end at
+/// character boundaries; the parts are slices of the text.
 #[derive(Debug, Drop)]
 pub struct ScriptSource<'s> {
     pub(super) raw: &'s str,
@@ -46,7 +46,7 @@ impl<'s> Model for ScriptSource<'s> {
 }
 
 impl<'s> ScriptSource<'s> {
-    /// The line that starts with `#!`, with its line feed.
+    /// Returns the line that starts with `#!`, with its line feed.
     pub fn shebang(&self) -> Option<&'s str>
         ensures { option_copied result ≡ option_map (slice_at self.now.text) self.now.shebang }
     {
@@ -59,14 +59,15 @@ impl<'s> ScriptSource<'s> {
         same(&self.shebang)
     }
 
-    /// The dashes that open the frontmatter.
+    /// Returns the span of the dashes that open the frontmatter.
     pub fn open_span(&self) -> Option<Span>
         ensures { result ≡ self.now.opening }
     {
         same(&self.open)
     }
 
-    /// What stands after the opening dashes on their line, without the spaces and tabs around it, if anything does.
+    /// Returns the text after the opening dashes on their line, without spaces and tabs at both ends; `None` if it is
+    /// empty.
     pub fn info(&self) -> Option<&'s str>
         ensures { option_copied result ≡ option_map (slice_at self.now.text) self.now.info }
     {
@@ -79,7 +80,7 @@ impl<'s> ScriptSource<'s> {
         same(&self.info)
     }
 
-    /// The lines between the opening and the closing dashes.
+    /// Returns the lines between the opening and the closing dashes.
     pub fn frontmatter(&self) -> Option<&'s str>
         ensures { option_copied result ≡ option_map (slice_at self.now.text) self.now.frontmatter }
     {
@@ -92,14 +93,14 @@ impl<'s> ScriptSource<'s> {
         same(&self.frontmatter)
     }
 
-    /// The dashes that close the frontmatter.
+    /// Returns the span of the dashes that close the frontmatter.
     pub fn close_span(&self) -> Option<Span>
         ensures { result ≡ self.now.close }
     {
         same(&self.close)
     }
 
-    /// The rest of the text: after the line of the closing dashes, or else after the shebang.
+    /// Returns the rest of the text: what follows the line of the closing dashes, or without a frontmatter the shebang.
     pub fn content(&self) -> &'s str
         ensures { result.now ≡ slice_at self.now.text self.now.content }
     {

@@ -4,8 +4,9 @@ ghost use Rattle.rap_frontmatter.specs.Script.{EndsShebang, EndsBlankLines};
 use crate::frontmatter::line::first_line;
 use rap_base::whitespace::is_rust_whitespace;
 
-/// Where the shebang ends, in bytes, its line feed included: the text starts with `#!`, and what follows does
-/// not start, past white space, with `[`, as an inner attribute does (the Rust Reference, "Shebang").
+/// Returns the end of the shebang in bytes, its line feed included. A text has a shebang if it starts with `#!` and the
+/// next character that is not white space is not `[`, which would begin an inner attribute (the Rust Reference,
+/// "Shebang").
 pub fn strip_shebang(input: &str) -> Option<usize>
     ensures { EndsShebang input.now result }
 {
@@ -16,7 +17,7 @@ pub fn strip_shebang(input: &str) -> Option<usize>
     Some(first_line(input.as_bytes()).next)
 }
 
-/// Where the longest run of Rust white space that begins the text and ends with a line feed ends, in bytes.
+/// Returns the end, in bytes, of the longest prefix of Rust white space that ends with a line feed.
 pub fn strip_ws_lines(input: &str) -> Option<usize>
     ensures { EndsBlankLines input.now result }
 {

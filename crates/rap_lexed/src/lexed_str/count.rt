@@ -9,7 +9,7 @@ use rap_base::edition::Edition;
 use rap_lexer::lexer::first_token;
 use std::alloc::Global;
 
-/// How many tokens of the text are no trivia. It is found out even when out of memory.
+/// Returns the number of tokens of the text that are no trivia. The result does not depend on whether memory is left.
 pub fn significant_tokens(alloc: Global, edition: Edition, text: &str) -> usize
     requires { length text.now ≤ MAX_TEXT }
     ensures { (lexed : Lexed) × IsLexing text.now edition lexed × (result ≡ significant lexed.tokens) }

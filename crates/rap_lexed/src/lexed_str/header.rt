@@ -1,4 +1,4 @@
-//! What stands before the first token of a text: the shebang and the frontmatter of a script source.
+//! The header of a text: the shebang and the frontmatter of a script source, which come before the lexer's tokens.
 ghost use Rattle.std.specs.Prelude.{◌≡◌, ◌<◌, ◌^◌, ◌++◌, ◌==◌, ℕ, length, position, IfSome, OnOk, None, chars, unwrap_or, option_to_list};
 ghost use Rattle.std.specs.Option.{option_map};
 ghost use Rattle.rap_frontmatter.specs.Script.{HasLine};
@@ -11,8 +11,8 @@ use rap_frontmatter::frontmatter::ScriptSource;
 use rap_lexer::lexer::first_token;
 use std::alloc::Global;
 
-/// Where the pieces end that stand before the first token: a shebang, which begins the text, and a frontmatter, which
-/// follows it.
+/// The ends of the pieces before the first token, in bytes: a shebang at the beginning of the text, and a frontmatter
+/// after it.
 #[derive(Clone, Copy)]
 pub struct Header {
     shebang: Option<usize>,
@@ -37,7 +37,8 @@ impl Header {
 
 /// Finds the pieces of a script source, or the shebang of a text that is refused as one.
 ///
-/// Memory is taken for the refusal alone, which is not reported: without it the text is refused all the same.
+/// Only the message of a refusal needs memory; it is not used here, so the result does not depend on whether memory is
+/// left.
 pub fn find_header(alloc: Global, edition: Edition, text: &str) -> Header
     ensures header { IsHeader edition text.now (pieces text.now result.shebang result.frontmatter) }
     ensures ends { AreEnds text.now result.shebang result.frontmatter }

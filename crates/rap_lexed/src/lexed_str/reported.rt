@@ -1,4 +1,4 @@
-//! What the lexer reports about a token.
+//! The messages of the lexer about a token.
 ghost use Rattle.std.specs.Prelude.{◌≡◌, ◌++◌, ◌∷◌, [], ℕ, List, IfOk, OnOk, map, length, string_bytes, option_to_list};
 ghost use Rattle.std.specs.Option.{option_copied, option_map};
 ghost use Rattle.rap_lexed.specs.SingleToken.{ReportsLast};
@@ -27,14 +27,14 @@ impl Model for LexError {
 }
 
 impl LexError {
-    /// The number of the token.
+    /// Returns the number of the token.
     pub fn token(&self) -> usize
         ensures { result ≡ self.now.token }
     {
         self.token as usize
     }
 
-    /// The text of the message.
+    /// Returns the text of the message.
     pub fn message(&self) -> &str
         ensures { result.now ≡ self.now.text }
     {
@@ -51,7 +51,7 @@ impl LexError {
     }
 }
 
-/// The last message that is to be reported about a text that is one token.
+/// Returns the last message about a text that is one token, if there is one. The error means out of memory.
 pub fn last_message(alloc: Global, text: &str, remark: Remark) -> Result<Option<String>, AllocError>
     ensures { IfOk result (λ last. ReportsLast text.now remark (option_map string_bytes last)) }
 {

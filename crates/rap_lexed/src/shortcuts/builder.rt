@@ -1,4 +1,4 @@
-//! Trivia put between the steps of an output.
+//! Inserting trivia between the steps of an output.
 ghost use Rattle.std.specs.Prelude.{◌≡◌, ◌+◌, ◌<◌, ◌≤◌, ◌↔◌, ◌∷◌, [], ◌++◌, length, take, drop, map, IsTrue, IfOk, OnOk};
 ghost use Rattle.rap_events.specs.StepValue.{enter, exit, token, float_split};
 ghost use Rattle.rap_events.specs.Step.{step_value};

@@ -1,4 +1,4 @@
-//! Contextual keywords, for many identifiers.
+//! A fast test for contextual keywords.
 ghost use Rattle.std.specs.Prelude.{◌≡◌, None, false};
 ghost use Rattle.rap_base.specs.Keyword.{from_contextual_keyword};
 ghost use Rattle.rap_base.specs.declared.edition.Edition.{Edition};
@@ -6,9 +6,9 @@ ghost use Rattle.rap_base.specs.declared.edition.Edition.{Edition};
 use rap_base::edition::Edition;
 use rap_base::syntax_kind::SyntaxKind;
 
-/// The contextual keyword that the text is in the edition, if it is one.
+/// Returns the kind of the contextual keyword with this text in the edition, if there is one.
 ///
-/// Few identifiers have the length and the first letter of one, so most are compared with none.
+/// Most identifiers do not have the length and the first letter of one, and are compared with none.
 pub fn contextual_keyword(text: &str, edition: Edition) -> Option<SyntaxKind>
     ensures { result ≡ from_contextual_keyword text.now edition }
 {

@@ -8,9 +8,9 @@ ghost use Rattle.rap_lexer.specs.Escape.{unicode_escape, plain_character, simple
 use crate::escape::{Fault, Mode};
 use crate::lexer::cursor::Cursor;
 
-/// Reads a character of which `c` is already taken, and gives its value or its fault.
+/// Reads one character of a body, of which `c` is already taken, and returns its value or its fault.
 ///
-/// An escape takes what belongs to it, a faulty one the characters up to the one that shows the fault.
+/// A faulty escape takes the characters up to the one at which the fault is found.
 pub fn character(mode: Mode, c: char, rest: &mut Cursor<'_>) -> Result<u32, Fault>
     ensures { Character mode (c ∷ rest.old) result rest.new }
 {

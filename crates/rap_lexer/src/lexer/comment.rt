@@ -57,7 +57,7 @@ fn block_kind(cursor: &Cursor<'_>) -> SyntaxKind
     }
 }
 
-/// Takes the body of a block comment and the `*/` that ends it, and says whether it was there.
+/// Takes the body of a block comment and the `*/` that ends it. Returns whether that was there.
 fn eat_body(cursor: &mut Cursor<'_>) -> bool
     ensures { MatchBool result (Ends cursor.old cursor.new) ((cursor.new ≡ []) × ((end : List ℕ) → ¬ Ends cursor.old end)) }
 {

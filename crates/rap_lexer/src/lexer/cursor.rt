@@ -23,14 +23,14 @@ impl<'a> Model for Cursor<'a> {
 }
 
 impl<'a> Cursor<'a> {
-    /// A cursor at the beginning of the text.
+    /// Makes a cursor at the beginning of the text.
     pub fn new(text: &'a str) -> Cursor<'a>
         ensures { result ≡ chars text.now }
     {
         Cursor { rest: text }
     }
 
-    /// What is left of the text.
+    /// Returns the text that is left.
     pub fn as_str(&self) -> &'a str
         ensures text { result.now ≡ encode_utf8_all self.now }
         ensures same { chars result.now ≡ self.now }
@@ -63,7 +63,7 @@ impl<'a> Cursor<'a> {
         let _ = self.bump();
     }
 
-    /// Takes the next `n` bytes, past which a character begins or the text ends.
+    /// Takes the next `n` bytes. They must end at a character boundary.
     #[inline(always)]
     pub fn advance(&mut self, n: usize)
         requires { IsCharBoundary (encode_utf8_all self.old) n }
@@ -91,7 +91,7 @@ impl<'a> Cursor<'a> {
         }
     }
 
-    /// The length of what is left, in bytes.
+    /// Returns the length of the text that is left, in bytes.
     pub fn len(&self) -> usize
         ensures bytes { result ≡ length (encode_utf8_all self.now) }
         ensures room { length self.now < 2 ^ 63 }
