@@ -84,7 +84,8 @@ shown-split (suc d) b e = refl
 same_at : (d e : ℕ) (ss : List StepValue) → d ≡ e → weight_of d ss ≡ weight_of e ss
 same_at d e ss h = ap (λ (n : ℕ). weight_of n ss) h
 
-weight_of-flat : (f : Forest) (d : ℕ) (ss : List StepValue) → splits_last f ≡ true → weight_of d (flat f ++ ss) ≡ shown d f + weight_of (d - split_ends f) ss
+weight_of-flat : (f : Forest) (d : ℕ) (ss : List StepValue) → splits_last f ≡ true →
+    weight_of d (flat f ++ ss) ≡ shown d f + weight_of (d - split_ends f) ss
 unfolding weight shown dot
 weight_of-flat none zero ss h = omega arith
 weight_of-flat none (suc zero) ss h = omega arith
@@ -96,7 +97,8 @@ weight_of-flat (node b k x) zero ss h =
     let first = weight_of-flat b zero rest p.before.last in
     let here = same_at (0 - split_ends b) 0 rest (omega arith) in
     let inner = weight_of-flat x 1 (exit_of n ++ ss) p.last in
-    rw (append_assoc (flat b) (enter k ∷ (flat x ++ exit_of n)) ss, append_assoc (flat x) (exit_of n) ss) (omega (arith, first, here, inner, past_end 0 n ss))
+    rw (append_assoc (flat b) (enter k ∷ (flat x ++ exit_of n)) ss, append_assoc (flat x) (exit_of n) ss)
+    (omega (arith, first, here, inner, past_end 0 n ss))
 weight_of-flat (node b k x) (suc d) ss h =
     let p : Parts b k x = node_parts b k x h in
     let n : ℕ = split_ends x in
@@ -105,36 +107,82 @@ weight_of-flat (node b k x) (suc d) ss h =
     let none_yet = shown-inside d b p.before.ended in
     let here = same_at (suc d - split_ends b) (suc d) rest (omega (arith, p.before.ended)) in
     let inner = weight_of-flat x (suc (suc d)) (exit_of n ++ ss) p.last in
-    rw (append_assoc (flat b) (enter k ∷ (flat x ++ exit_of n)) ss, append_assoc (flat x) (exit_of n) ss) (omega (arith, first, none_yet, here, inner, past_end (suc d) n ss, shown-node d b k x))
+    rw (append_assoc (flat b) (enter k ∷ (flat x ++ exit_of n)) ss, append_assoc (flat x) (exit_of n) ss)
+    (omega (arith, first, none_yet, here, inner, past_end (suc d) n ss, shown-node d b k x))
 weight_of-flat (leaf b k w) zero ss h =
     let p : Before b = before b h in
-    rw (append_assoc (flat b) (token k w ∷ []) ss) (omega (arith, weight_of-flat b zero (token k w ∷ ss) p.last, same_at (0 - split_ends b) 0 (token k w ∷ ss) (omega arith)))
+    rw (append_assoc (flat b) (token k w ∷ []) ss)
+    (omega (
+      arith,
+      weight_of-flat b zero (token k w ∷ ss) p.last,
+      same_at (0 - split_ends b) 0 (token k w ∷ ss) (omega arith),
+    ))
 weight_of-flat (leaf b k w) (suc d) ss h =
     let p : Before b = before b h in
     rw (append_assoc (flat b) (token k w ∷ []) ss)
-    (omega (arith, weight_of-flat b (suc d) (token k w ∷ ss) p.last, shown-inside d b p.ended, same_at (suc d - split_ends b) (suc d) (token k w ∷ ss) (omega (arith, p.ended)), shown-leaf d b k w, same_at (suc d - 0) (suc d) ss (omega arith)))
+    (omega (
+      arith,
+      weight_of-flat b (suc d) (token k w ∷ ss) p.last,
+      shown-inside d b p.ended,
+      same_at (suc d - split_ends b) (suc d) (token k w ∷ ss) (omega (arith, p.ended)),
+      shown-leaf d b k w,
+      same_at (suc d - 0) (suc d) ss (omega arith),
+    ))
 weight_of-flat (message b m) zero ss h =
     let p : Before b = before b h in
-    rw (append_assoc (flat b) (error m ∷ []) ss) (omega (arith, weight_of-flat b zero (error m ∷ ss) p.last, same_at (0 - split_ends b) 0 (error m ∷ ss) (omega arith)))
+    rw (append_assoc (flat b) (error m ∷ []) ss)
+    (omega
+    (arith, weight_of-flat b zero (error m ∷ ss) p.last, same_at (0 - split_ends b) 0 (error m ∷ ss) (omega arith)))
 weight_of-flat (message b m) (suc d) ss h =
     let p : Before b = before b h in
     rw (append_assoc (flat b) (error m ∷ []) ss)
-    (omega (arith, weight_of-flat b (suc d) (error m ∷ ss) p.last, shown-inside d b p.ended, same_at (suc d - split_ends b) (suc d) (error m ∷ ss) (omega (arith, p.ended)), shown-message d b m, same_at (suc d - 0) (suc d) ss (omega arith)))
+    (omega (
+      arith,
+      weight_of-flat b (suc d) (error m ∷ ss) p.last,
+      shown-inside d b p.ended,
+      same_at (suc d - split_ends b) (suc d) (error m ∷ ss) (omega (arith, p.ended)),
+      shown-message d b m,
+      same_at (suc d - 0) (suc d) ss (omega arith),
+    ))
 weight_of-flat (split b true) zero ss h =
     let p : Before b = before b h in
-    rw (append_assoc (flat b) (float_split true ∷ []) ss) (omega (arith, weight_of-flat b zero (float_split true ∷ ss) p.last, same_at (0 - split_ends b) 0 (float_split true ∷ ss) (omega arith)))
+    rw (append_assoc (flat b) (float_split true ∷ []) ss)
+    (omega (
+      arith,
+      weight_of-flat b zero (float_split true ∷ ss) p.last,
+      same_at (0 - split_ends b) 0 (float_split true ∷ ss) (omega arith),
+    ))
 weight_of-flat (split b false) zero ss h =
     let p : Before b = before b h in
-    rw (append_assoc (flat b) (float_split false ∷ []) ss) (omega (arith, weight_of-flat b zero (float_split false ∷ ss) p.last, same_at (0 - split_ends b) 0 (float_split false ∷ ss) (omega arith)))
+    rw (append_assoc (flat b) (float_split false ∷ []) ss)
+    (omega (
+      arith,
+      weight_of-flat b zero (float_split false ∷ ss) p.last,
+      same_at (0 - split_ends b) 0 (float_split false ∷ ss) (omega arith),
+    ))
 weight_of-flat (split b true) (suc d) ss h =
     let p : Before b = before b h in
     let less : suc d - 1 ≡ d = omega arith in
     rw (append_assoc (flat b) (float_split true ∷ []) ss)
-    (omega (arith, weight_of-flat b (suc d) (float_split true ∷ ss) p.last, shown-inside d b p.ended, same_at (suc d - split_ends b) (suc d) (float_split true ∷ ss) (omega (arith, p.ended)), shown-split d b true, ap (λ (n : ℕ). outside n 2) less))
+    (omega (
+      arith,
+      weight_of-flat b (suc d) (float_split true ∷ ss) p.last,
+      shown-inside d b p.ended,
+      same_at (suc d - split_ends b) (suc d) (float_split true ∷ ss) (omega (arith, p.ended)),
+      shown-split d b true,
+      ap (λ (n : ℕ). outside n 2) less,
+    ))
 weight_of-flat (split b false) (suc d) ss h =
     let p : Before b = before b h in
     rw (append_assoc (flat b) (float_split false ∷ []) ss)
-    (omega (arith, weight_of-flat b (suc d) (float_split false ∷ ss) p.last, shown-inside d b p.ended, same_at (suc d - split_ends b) (suc d) (float_split false ∷ ss) (omega (arith, p.ended)), shown-split d b false, outside-zero d))
+    (omega (
+      arith,
+      weight_of-flat b (suc d) (float_split false ∷ ss) p.last,
+      shown-inside d b p.ended,
+      same_at (suc d - split_ends b) (suc d) (float_split false ∷ ss) (omega (arith, p.ended)),
+      shown-split d b false,
+      outside-zero d,
+    ))
 
 weighed : (f : Forest) → splits_placed f ≡ true → weight_of 0 (flat f) ≡ weight f
 unfolding shown
@@ -181,31 +229,40 @@ not_one (split b d) p e = refl
 by_test : (n : ℕ) (b : Bool) → (n ≡ 1 → true ≡ b) → (n ≢ 1 → false ≡ b) → nat_eq n 1 ≡ b
 by_test zero b f g = g (λ e. absurd cc)
 by_test (suc zero) b f g = f refl
-by_test (suc (suc n)) b f g = let h : false ≡ b = g (λ e. absurd (omega arith)) in let t : nat_eq (suc (suc n)) 1 ≡ false = grind (arith, nat_tests) in t ∙ h
+by_test (suc (suc n)) b f g = let h : false ≡ b =
+    g (λ e. absurd (omega arith)) in let t : nat_eq (suc (suc n)) 1 ≡ false = grind (arith, nat_tests) in t ∙ h
 
 -- the weight at the end, as a test
 pub by_weight : (f : Forest) (n : ℕ) → splits_placed f ≡ true → n ≡ weight_of 0 (flat f) → nat_eq n 1 ≡ one_tree f
 by_weight f n p e = by_test n (one_tree f) (λ h. one f p (sym e ∙ h)) (λ h. not_one f p (λ i. h (e ∙ i)))
 
 -- a second node outside of others
-pub second : (f : Forest) (n d kind : ℕ) (ss rest : List StepValue) → splits_placed f ≡ true → n + weight_of d ss ≡ weight_of 0 (flat f) → n ≡ 1 → d ≡ 0 → ss ≡ enter kind ∷ rest → false ≡ one_tree f
+pub second : (f : Forest) (n d kind : ℕ) (ss rest : List StepValue) → splits_placed f ≡ true →
+    n + weight_of d ss ≡ weight_of 0 (flat f) → n ≡ 1 → d ≡ 0 → ss ≡ enter kind ∷ rest → false ≡ one_tree f
 second f n d kind ss rest p e one top first =
-    not_one f p (λ h. let w : weight_of d ss ≡ 1 + weight_of 1 rest = ap (λ (m : ℕ). weight_of m ss) top ∙ ap (weight_of 0) first in omega arith)
+    not_one f p
+    (λ h. let w : weight_of d ss ≡ 1 + weight_of 1 rest = ap (λ (m : ℕ). weight_of m ss) top ∙
+    ap (weight_of 0) first in omega arith)
 
 -- what each of these shows outside of nodes
-pub dot_shows : (d : ℕ) (rest : List StepValue) → d < 2 → weight_of d (float_split true ∷ rest) ≡ 2 + weight_of (d - 1) rest
+pub dot_shows : (d : ℕ) (rest : List StepValue) → d < 2 →
+    weight_of d (float_split true ∷ rest) ≡ 2 + weight_of (d - 1) rest
 dot_shows d rest h = ap (λ (n : ℕ). outside n 2 + weight_of (d - 1) rest) (let e : d - 1 ≡ 0 = omega arith in e)
 
-pub float_shows : (d : ℕ) (rest : List StepValue) → d ≡ 0 → weight_of d (float_split false ∷ rest) ≡ 2 + weight_of (d - 2) rest
+pub float_shows : (d : ℕ) (rest : List StepValue) → d ≡ 0 →
+    weight_of d (float_split false ∷ rest) ≡ 2 + weight_of (d - 2) rest
 float_shows d rest h = ap (λ (n : ℕ). outside n 2 + weight_of (d - 2) rest) h
 
-pub token_shows : (d kind width : ℕ) (rest : List StepValue) → d ≡ 0 → weight_of d (token kind width ∷ rest) ≡ 2 + weight_of d rest
+pub token_shows : (d kind width : ℕ) (rest : List StepValue) → d ≡ 0 →
+    weight_of d (token kind width ∷ rest) ≡ 2 + weight_of d rest
 token_shows d kind width rest h = ap (λ (n : ℕ). outside n 2 + weight_of d rest) h
 
-pub error_shows : (d : ℕ) (bytes : List ℕ) (rest : List StepValue) → d ≡ 0 → weight_of d (error bytes ∷ rest) ≡ 2 + weight_of d rest
+pub error_shows : (d : ℕ) (bytes : List ℕ) (rest : List StepValue) → d ≡ 0 →
+    weight_of d (error bytes ∷ rest) ≡ 2 + weight_of d rest
 error_shows d bytes rest h = ap (λ (n : ℕ). outside n 2 + weight_of d rest) h
 
 -- a token, a float or a message outside of nodes
-pub beside : (f : Forest) (n d : ℕ) (v : StepValue) (ss rest : List StepValue) (w : ℕ) → splits_placed f ≡ true → n + weight_of d ss ≡ weight_of 0 (flat f) → ss ≡ v ∷ rest → weight_of d (v ∷ rest) ≡ 2 + w → false ≡ one_tree f
+pub beside : (f : Forest) (n d : ℕ) (v : StepValue) (ss rest : List StepValue) (w : ℕ) → splits_placed f ≡ true →
+    n + weight_of d ss ≡ weight_of 0 (flat f) → ss ≡ v ∷ rest → weight_of d (v ∷ rest) ≡ 2 + w → false ≡ one_tree f
 beside f n d v ss rest w p e first two =
     not_one f p (λ h. let x : weight_of d ss ≡ 2 + w = ap (weight_of d) first ∙ two in omega arith)

@@ -36,7 +36,8 @@ abbrev over : Spot → List Forest → Spot
 over p c = record { rest = p.rest; forest = p.forest; below = c }
 
 -- from a padded spot a script leads to a padded spot
-record LeadsPadded {P : Type 0} (script_of : P → Script P) (s : Script P) (p q : Spot) (v : Outcome) (c : List Forest) : Type 0 where
+record LeadsPadded {P : Type 0} (script_of : P → Script P) (s : Script P) (p q : Spot) (v : Outcome)
+    (c : List Forest) : Type 0 where
   under : List Forest
   padded : Padded q.below under
   run : Runs script_of s (over p c) (over q under) v

@@ -11,7 +11,8 @@ use Rattle.rap_grammar.specs.declared.entry.part.Part.{Part}
 use Rattle.rap_grammar.specs.declared.entry.part.Part.TheVariants as part
 
 -- the same input gives the same output
-pub one_prefix : {s : Script Phrase} {input : List Record} {a b : Forest} → IsPrefixOf s input a → IsPrefixOf s input b → a ≡ b
+pub one_prefix : {s : Script Phrase} {input : List Record} {a b : Forest} → IsPrefixOf s input a →
+    IsPrefixOf s input b → a ≡ b
 one_prefix i j = ap (λ (p : Spot). p.forest) (one_end i.run j.run).spot
 
 both_left : (a b : Bool) → a && b ≡ true → a ≡ true
@@ -23,7 +24,8 @@ both_right true b h = h
 both_right false b h = absurd cc
 
 -- a node that is no field access does not end with the dot of a float
-no_dot : (k : ℕ) (c : Forest) → splits_placed (node none k c) ≡ true → (k == FIELD_EXPR) ≡ false → not (ends_in_dot c) ≡ true
+no_dot : (k : ℕ) (c : Forest) → splits_placed (node none k c) ≡ true → (k == FIELD_EXPR) ≡ false →
+    not (ends_in_dot c) ≡ true
 no_dot k none h e = refl
 no_dot k (node b j x) h e = refl
 no_dot k (leaf b j w) h e = refl
@@ -49,5 +51,7 @@ no_field part.AssocItemList = refl
 no_field part.ItemList = refl
 
 -- a part that made one node, and nothing else, made one tree
-pub one_node : (p : Part) {f c : Forest} → f ≡ node none (part_kind p) c → splits_placed f ≡ true → IsOneNode (part_kind p) f
-one_node p {c = c} e h = record { children = c; node_is = e; one = rw e (no_dot (part_kind p) c (rw e at h) (no_field p)) }
+pub one_node : (p : Part) {f c : Forest} → f ≡ node none (part_kind p) c → splits_placed f ≡ true →
+    IsOneNode (part_kind p) f
+one_node p {c = c} e h =
+    record { children = c; node_is = e; one = rw e (no_dot (part_kind p) c (rw e at h) (no_field p)) }

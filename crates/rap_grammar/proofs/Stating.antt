@@ -13,6 +13,9 @@ use Rattle.rap_grammar_scripts.specs.declared.arguments.Semicolon.{Semicolon}
 use Rattle.rap_grammar_frame.proofs.Steps.{On, by_rule}
 
 -- an expression as a statement, and on
-pub from_expr : (x : BlockLike) (semi : Semicolon) {s t : State} {q : Spot} {v : Outcome} → Follows (expr_bp true as_statement 1) (of_like x) s t → On (expr_stmt_end semi (is_block (of_like x))) (spot t) q v → On (after (expr_bp true as_statement 1) (λ w. if_some w (expr_stmt_end semi (is_block w)) done)) (spot s) q v
+pub from_expr : (x : BlockLike) (semi : Semicolon) {s t : State} {q : Spot} {v : Outcome} →
+    Follows (expr_bp true as_statement 1) (of_like x) s t →
+    On (expr_stmt_end semi (is_block (of_like x))) (spot t) q v →
+    On (after (expr_bp true as_statement 1) (λ w. if_some w (expr_stmt_end semi (is_block w)) done)) (spot s) q v
 from_expr like.Block semi h d = by_rule h d
 from_expr like.NotBlock semi h d = by_rule h d

@@ -15,12 +15,14 @@ pub left-none : (p : Parser) → (state p).rest ≡ [] → (state p).left ≡ 0
 unfolding state
 left-none p e = ap length e
 
-one_more : (f : Forest) (rs : List Record) → next_kind rs ≢ EOF → with_leaves (leaf f (next_kind rs) 1) (drop 1 rs) ≡ with_leaves f rs
+one_more : (f : Forest) (rs : List Record) → next_kind rs ≢ EOF →
+    with_leaves (leaf f (next_kind rs) 1) (drop 1 rs) ≡ with_leaves f rs
 one_more f [] e = absurd (e refl)
 one_more f (r ∷ rs) e = refl
 
 -- a token that is taken is one leaf more
-pub taken : (s t : State) → Bumped s t (next s) 1 → next s ≢ EOF → with_leaves t.forest t.rest ≡ with_leaves s.forest s.rest
+pub taken : (s t : State) → Bumped s t (next s) 1 → next s ≢ EOF →
+    with_leaves t.forest t.rest ≡ with_leaves s.forest s.rest
 taken s t b e = rw (b.forest, b.rest) (one_more s.forest s.rest e)
 
 none-⧺ : (f : Forest) → none ⧺ f ≡ f
@@ -36,28 +38,36 @@ unfolding top
 alone s t a e = a.forest ∙ rw e (none-⧺ s.forest)
 
 -- the only open marker became a node: it is all there is
-pub enclosed : (s t : State) (kind : ℕ) → Completed s t kind → s.below ≡ push floor None none → t.forest ≡ node none kind s.forest
+pub enclosed : (s t : State) (kind : ℕ) → Completed s t kind → s.below ≡ push floor None none →
+    t.forest ≡ node none kind s.forest
 enclosed s t kind c e = let b : but_last t.forest ≡ none = cc in c.forest ∙ ap (λ (f : Forest). node f kind s.forest) b
 
-some_left : (f g : Forest) (rs : List Record) → next_kind rs ≢ EOF → g ≡ with_leaves f rs → node none ERROR g ≡ top_tree f rs
+some_left : (f g : Forest) (rs : List Record) → next_kind rs ≢ EOF → g ≡ with_leaves f rs →
+    node none ERROR g ≡ top_tree f rs
 some_left f g [] e h = absurd (e refl)
 some_left f g (r ∷ rs) e h = ap (λ (x : Forest). node none ERROR x) h
 
 -- what is left is taken into the `ERROR`
-pub unfinished : (s t u : State) (f : Forest) → next s ≢ EOF → t.forest ≡ with_leaves s.forest s.rest → t.below ≡ push floor None none → Completed t u ERROR → f ≡ u.forest → f ≡ top_tree s.forest s.rest
+pub unfinished : (s t u : State) (f : Forest) → next s ≢ EOF → t.forest ≡ with_leaves s.forest s.rest →
+    t.below ≡ push floor None none → Completed t u ERROR → f ≡ u.forest → f ≡ top_tree s.forest s.rest
 unfinished s t u f ne h b c e = e ∙ enclosed t u ERROR c b ∙ some_left s.forest t.forest s.rest ne h
 
 -- nothing is left, and the forest is one tree
-pub kept_whole : (s : State) (f : Forest) → s.rest ≡ [] → f ≡ s.forest → one_tree f ≡ true → f ≡ top_tree s.forest s.rest
-kept_whole s f e same h = same ∙ ap (λ (b : Bool). kept b s.forest) (sym (ap one_tree (sym same) ∙ h)) ∙ ap (top_tree s.forest) (sym e)
+pub kept_whole : (s : State) (f : Forest) → s.rest ≡ [] → f ≡ s.forest → one_tree f ≡ true →
+    f ≡ top_tree s.forest s.rest
+kept_whole s f e same h =
+    same ∙ ap (λ (b : Bool). kept b s.forest) (sym (ap one_tree (sym same) ∙ h)) ∙ ap (top_tree s.forest) (sym e)
 
 -- nothing is left, and the forest is not one tree
-pub in_error : (s : State) (f g : Forest) → s.rest ≡ [] → f ≡ s.forest → one_tree f ≡ false → g ≡ node none ERROR f → g ≡ top_tree s.forest s.rest
+pub in_error : (s : State) (f g : Forest) → s.rest ≡ [] → f ≡ s.forest → one_tree f ≡ false → g ≡ node none ERROR f →
+    g ≡ top_tree s.forest s.rest
 in_error s f g e same h w =
-    w ∙ ap (λ (x : Forest). node none ERROR x) same ∙ ap (λ (b : Bool). kept b s.forest) (sym (ap one_tree (sym same) ∙ h)) ∙ ap (top_tree s.forest) (sym e)
+    w ∙ ap (λ (x : Forest). node none ERROR x) same ∙
+    ap (λ (b : Bool). kept b s.forest) (sym (ap one_tree (sym same) ∙ h)) ∙ ap (top_tree s.forest) (sym e)
 
 -- where none is left, all tokens were used
-pub all_used : (s t : State) (f : Forest) → used f + t.left ≡ length t.input → Abandoned s t → s.left ≡ 0 → used f ≡ length s.input
+pub all_used : (s t : State) (f : Forest) → used f + t.left ≡ length t.input → Abandoned s t → s.left ≡ 0 →
+    used f ≡ length s.input
 all_used s t f e a z = omega (arith, ap length a.recorded.input, a.recorded.left)
 
 exit_of-length : (n : ℕ) → length (exit_of n) ≤ 1
@@ -72,5 +82,7 @@ fit_error : (f : Forest) → AllFitIn f → AllFitIn (node none ERROR f)
 fit_error f h = (tt, h, record { operation = λ e. absurd (omega arith); tree = λ e. absurd (omega arith) })
 
 -- an `ERROR` around a forest asks nothing more
-pub fit_in_error : (f g : Forest) → g ≡ node none ERROR f → (message_count f ≡ 0 → ∥ AllFitIn f ∥₁) → message_count g ≡ 0 → ∥ AllFitIn g ∥₁
-fit_in_error f g e h z = rw e (let y : message_count f ≡ 0 = omega (arith, ap message_count e) in ∥∥₁_map (h y) (fit_error f))
+pub fit_in_error : (f g : Forest) → g ≡ node none ERROR f → (message_count f ≡ 0 → ∥ AllFitIn f ∥₁) →
+    message_count g ≡ 0 → ∥ AllFitIn g ∥₁
+fit_in_error f g e h z =
+    rw e (let y : message_count f ≡ 0 = omega (arith, ap message_count e) in ∥∥₁_map (h y) (fit_error f))

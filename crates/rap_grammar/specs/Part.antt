@@ -31,7 +31,8 @@ pub record IsPrefixOver (input : List Record) (output : Forest) : Type 0 where
 -- The output of an entry with this script: what the script makes of the front of the input, up to where it stops.
 pub record IsPrefixOf (s : Script Phrase) (input : List Record) (output : Forest) : Type 0 where
   pub outcome : Outcome
-  pub run : Runs script_of s (record { rest = input; forest = none; below = [] }) (record { rest = drop (used output) input; forest = output; below = [] }) outcome
+  pub run : Runs script_of s (record { rest = input; forest = none; below = [] })
+      (record { rest = drop (used output) input; forest = output; below = [] }) outcome
 
 -- the script of a part
 abbrev pub part_script : Part → Script Phrase

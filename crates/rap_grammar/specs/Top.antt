@@ -42,7 +42,8 @@ pub record IsTopOf (s : Script Phrase) (input : List Record) (output : Forest) :
   pub made : Forest
   pub rest : List Record
   pub outcome : Outcome
-  pub run : Runs script_of s (record { rest = input; forest = none; below = none ∷ [] }) (record { rest = rest; forest = made; below = none ∷ [] }) outcome
+  pub run : Runs script_of s (record { rest = input; forest = none; below = none ∷ [] })
+      (record { rest = rest; forest = made; below = none ∷ [] }) outcome
   pub tree : output ≡ top_tree made rest
 
 -- The output of a top entry that makes a node of this kind over the whole input: what its script makes of the input
@@ -50,5 +51,6 @@ pub record IsTopOf (s : Script Phrase) (input : List Record) (output : Forest) :
 pub record IsRootOf (kind : ℕ) (s : Script Phrase) (input : List Record) (output : Forest) : Type 0 where
   pub made : Forest
   pub outcome : Outcome
-  pub run : Runs script_of s (record { rest = input; forest = none; below = none ∷ [] }) (record { rest = []; forest = made; below = none ∷ [] }) outcome
+  pub run : Runs script_of s (record { rest = input; forest = none; below = none ∷ [] })
+      (record { rest = []; forest = made; below = none ∷ [] }) outcome
   pub tree : output ≡ node none kind made

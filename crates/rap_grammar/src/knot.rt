@@ -27,7 +27,8 @@ pub(crate) struct Rules<F: Fn(&mut Parser<'_>, Rule) -> Result<Answer, NoMemory>
 impl<F: Fn(&mut Parser<'_>, Rule) -> Result<Answer, NoMemory>> Grammar for Rules<F> {
     ghost left = { λ rules. rules.left };
 
-    ghost valid = { λ rules. ((q : _) (c : _) → Pre c (state q.now) → (state q.now).left < rules.left → F.pre rules.run q c) × ((q : _) (c : _) (a : _) (s : _) → F.post rules.run q c a s → IfOk a (Post c (state q.now) (state s.now))) };
+    ghost valid = { λ rules. ((q : _) (c : _) → Pre c (state q.now) → (state q.now).left < rules.left → F.pre rules.run q c) ×
+        ((q : _) (c : _) (a : _) (s : _) → F.post rules.run q c a s → IfOk a (Post c (state q.now) (state s.now))) };
 
     #[inline(always)]
     fn run(&self, p: &mut Parser<'_>, rule: Rule) -> Result<Answer, NoMemory> {

@@ -86,7 +86,9 @@ fn expr_stmt_end(
 ) -> Result<(), NoMemory>
     requires last { IsLast (state p.old) cm cm.kind.value }
     ensures grew { OnOk result (Grew (state p.old) (state p.new) recovery_events) }
-    ensures script { OnOk result (Follows (script.expr_stmt_end semicolon (is_block (of_like block_like))) something (state p.old) (state p.new)) }
+    ensures script { OnOk result
+        (Follows (script.expr_stmt_end semicolon (is_block (of_like block_like))) something (state p.old)
+        (state p.new)) }
 {
     if ends_block(p, semicolon) {
         return Ok(());
@@ -114,7 +116,9 @@ fn expr_semicolon(
     block_like: BlockLike,
 ) -> Result<(), NoMemory>
     ensures grew { OnOk result (Grew (state p.old) (state p.new) 1) }
-    ensures script { OnOk result (Follows (script.expr_semicolon semicolon (is_block (of_like block_like))) something (state p.old) (state p.new)) }
+    ensures script { OnOk result
+        (Follows (script.expr_semicolon semicolon (is_block (of_like block_like))) something (state p.old)
+        (state p.new)) }
 {
     match semicolon {
         Semicolon::Required => {

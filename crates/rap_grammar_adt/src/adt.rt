@@ -163,7 +163,8 @@ pub fn variant_list<G: Grammar>(p: &mut Parser<'_>, g: &G) -> Result<(), NoMemor
     requires within { Within G.valid G.left g.now (state p.old) }
     requires here { next (state p.old) ≡ L_CURLY }
     ensures took { OnOk result (Took (state p.old) (state p.new) list_room) }
-    ensures one { OnOk result ((state p.new).forest ≡ node (state p.old).forest VARIANT_LIST (last_children (state p.new).forest)) }
+    ensures one { OnOk result
+        ((state p.new).forest ≡ node (state p.old).forest VARIANT_LIST (last_children (state p.new).forest)) }
     ensures script { OnOk result (Follows script.variant_list something (state p.old) (state p.new)) }
 {
     let m = p.start()?;
@@ -234,7 +235,8 @@ fn named_variant<G: Grammar>(p: &mut Parser<'_>, g: &G, m: Marker) -> Result<(),
     requires behind { Behind G.valid G.left g.now (state p.old) }
     requires newest { (state p.old).marker ≡ Some m.pos.value }
     ensures gone { OnOk result (Gone (state p.old) (state p.new) 4) }
-    ensures spent { OnOk result (next (state p.old) ≢ EOF → next (state p.old) ≢ R_CURLY → Spent (state p.old) (state p.new) type_room) }
+    ensures spent { OnOk result
+        (next (state p.old) ≢ EOF → next (state p.old) ≢ R_CURLY → Spent (state p.old) (state p.new) type_room) }
     ensures script { OnOk result (Follows script.named_variant something (state p.old) (state p.new)) }
 {
     if p.at(T![ident]) {
@@ -254,7 +256,8 @@ fn named_variant<G: Grammar>(p: &mut Parser<'_>, g: &G, m: Marker) -> Result<(),
 /// A field or a variant is missing. The next token is taken along, unless the list ends there.
 fn missing_in_list(p: &mut Parser<'_>, message: &str) -> Result<(), NoMemory>
     ensures grew { OnOk result (Grew (state p.old) (state p.new) recovery_events) }
-    ensures took { OnOk result (next (state p.old) ≢ EOF → next (state p.old) ≢ R_CURLY → Took (state p.old) (state p.new) name_room) }
+    ensures took { OnOk result
+        (next (state p.old) ≢ EOF → next (state p.old) ≢ R_CURLY → Took (state p.old) (state p.new) name_room) }
     ensures script { OnOk result (Follows (script.missing_in_list message.now) something (state p.old) (state p.new)) }
 {
     if p.at(T!['}']) {
@@ -315,7 +318,8 @@ pub fn record_field_list<G: Grammar>(p: &mut Parser<'_>, g: &G) -> Result<(), No
     requires within { Within G.valid G.left g.now (state p.old) }
     requires here { next (state p.old) ≡ L_CURLY }
     ensures took { OnOk result (Took (state p.old) (state p.new) list_room) }
-    ensures one { OnOk result ((state p.new).forest ≡ node (state p.old).forest RECORD_FIELD_LIST (last_children (state p.new).forest)) }
+    ensures one { OnOk result
+        ((state p.new).forest ≡ node (state p.old).forest RECORD_FIELD_LIST (last_children (state p.new).forest)) }
     ensures script { OnOk result (Follows script.record_field_list something (state p.old) (state p.new)) }
 {
     let m = p.start()?;
@@ -374,7 +378,8 @@ fn visible_field<G: Grammar>(p: &mut Parser<'_>, g: &G, m: Marker) -> Result<(),
     requires behind { Behind G.valid G.left g.now (state p.old) }
     requires newest { (state p.old).marker ≡ Some m.pos.value }
     ensures gone { OnOk result (Gone (state p.old) (state p.new) 4) }
-    ensures spent { OnOk result (next (state p.old) ≢ EOF → next (state p.old) ≢ R_CURLY → Spent (state p.old) (state p.new) type_room) }
+    ensures spent { OnOk result
+        (next (state p.old) ≢ EOF → next (state p.old) ≢ R_CURLY → Spent (state p.old) (state p.new) type_room) }
     ensures script { OnOk result (Follows script.visible_field something (state p.old) (state p.new)) }
 {
     opt_visibility(p, g, false)?;
@@ -387,7 +392,8 @@ fn restricted_field<G: Grammar>(p: &mut Parser<'_>, g: &G, m: Marker) -> Result<
     requires behind { Behind G.valid G.left g.now (state p.old) }
     requires newest { (state p.old).marker ≡ Some m.pos.value }
     ensures gone { OnOk result (Gone (state p.old) (state p.new) 4) }
-    ensures spent { OnOk result (next (state p.old) ≢ EOF → next (state p.old) ≢ R_CURLY → Spent (state p.old) (state p.new) type_room) }
+    ensures spent { OnOk result
+        (next (state p.old) ≢ EOF → next (state p.old) ≢ R_CURLY → Spent (state p.old) (state p.new) type_room) }
     ensures script { OnOk result (Follows script.restricted_field something (state p.old) (state p.new)) }
 {
     opt_mut_restriction(p, g)?;
@@ -401,7 +407,8 @@ fn named_field<G: Grammar>(p: &mut Parser<'_>, g: &G, m: Marker) -> Result<(), N
     requires behind { Behind G.valid G.left g.now (state p.old) }
     requires newest { (state p.old).marker ≡ Some m.pos.value }
     ensures gone { OnOk result (Gone (state p.old) (state p.new) 4) }
-    ensures spent { OnOk result (next (state p.old) ≢ EOF → next (state p.old) ≢ R_CURLY → Spent (state p.old) (state p.new) type_room) }
+    ensures spent { OnOk result
+        (next (state p.old) ≢ EOF → next (state p.old) ≢ R_CURLY → Spent (state p.old) (state p.new) type_room) }
     ensures script { OnOk result (Follows script.named_field something (state p.old) (state p.new)) }
 {
     if p.at(T![ident]) {
@@ -444,7 +451,8 @@ fn is_mut_restriction_start(p: &Parser<'_>) -> bool
 fn opt_mut_restriction<G: Grammar>(p: &mut Parser<'_>, g: &G) -> Result<(), NoMemory>
     requires within { Within G.valid G.left g.now (state p.old) }
     ensures grew { OnOk result (Grew (state p.old) (state p.new) 0) }
-    ensures took { OnOk result (is_mut_restriction_start (state p.old).rest ≡ true → Took (state p.old) (state p.new) brackets_room) }
+    ensures took { OnOk result
+        (is_mut_restriction_start (state p.old).rest ≡ true → Took (state p.old) (state p.new) brackets_room) }
     ensures stays { OnOk result (is_mut_restriction_start (state p.old).rest ≡ false → state p.new ≡ state p.old) }
     ensures script { OnOk result (Follows script.opt_mut_restriction something (state p.old) (state p.new)) }
 {
@@ -525,7 +533,9 @@ fn restricted_tuple_field<G: Grammar>(
     requires newest { (state p.old).marker ≡ Some m.pos.value }
     ensures gone { OnOk result (Gone (state p.old) (state p.new) 2) }
     ensures spent { IfOk result (λ found. found ≡ true → Spent (state p.old) (state p.new) param_room) }
-    ensures script { IfOk result (λ found. Follows (script.restricted_tuple_field (of_bool has_vis)) (of_bool found) (state p.old) (state p.new)) }
+    ensures script { IfOk result
+        (λ found. Follows (script.restricted_tuple_field (of_bool has_vis)) (of_bool found) (state p.old)
+        (state p.new)) }
 {
     opt_mut_restriction(p, g)?;
     let found = typed_field(p, g, m, has_vis)?;
@@ -544,7 +554,8 @@ fn typed_field<G: Grammar>(
     requires newest { (state p.old).marker ≡ Some m.pos.value }
     ensures gone { OnOk result (Gone (state p.old) (state p.new) 2) }
     ensures spent { IfOk result (λ found. found ≡ true → Spent (state p.old) (state p.new) param_room) }
-    ensures script { IfOk result (λ found. Follows (script.typed_field (of_bool has_vis)) (of_bool found) (state p.old) (state p.new)) }
+    ensures script { IfOk result
+        (λ found. Follows (script.typed_field (of_bool has_vis)) (of_bool found) (state p.old) (state p.new)) }
 {
     if is_type_first(p.current()) {
         type_(p, g)?;

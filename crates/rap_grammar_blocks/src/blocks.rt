@@ -27,7 +27,9 @@ pub fn block_expr<G: Grammar>(p: &mut Parser<'_>, g: &G) -> Result<(), NoMemory>
     requires within { Within G.valid G.left g.now (state p.old) }
     ensures grew { OnOk result (Grew (state p.old) (state p.new) recovery_events) }
     ensures took { OnOk result (next (state p.old) ≡ L_CURLY → Took (state p.old) (state p.new) list_room) }
-    ensures one { OnOk result (next (state p.old) ≡ L_CURLY → (state p.new).forest ≡ node (state p.old).forest BLOCK_EXPR (last_children (state p.new).forest)) }
+    ensures one { OnOk result
+        (next (state p.old) ≡ L_CURLY →
+        (state p.new).forest ≡ node (state p.old).forest BLOCK_EXPR (last_children (state p.new).forest)) }
     ensures script { OnOk result (Follows script.block_expr something (state p.old) (state p.new)) }
 {
     if !p.at(T!['{']) {

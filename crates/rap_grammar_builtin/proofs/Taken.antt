@@ -16,7 +16,8 @@ use Rattle.rap_grammar_scripts.specs.Words.{done}
 use Rattle.rap_grammar_frame.proofs.Growth.{gone}
 use Rattle.rap_grammar_frame.proofs.Steps.{On, by_rule}
 
-after_stop : (b : Bool) {s t u : State} {bytes : List ℕ} → stops_expr (next s) ≡ b → Missed s t → Grew s t 8 → Skipped t u bytes → (0 < t.left → u.left < t.left) → 0 < s.left → Took s u asm_end_room
+after_stop : (b : Bool) {s t u : State} {bytes : List ℕ} → stops_expr (next s) ≡ b → Missed s t → Grew s t 8 →
+    Skipped t u bytes → (0 < t.left → u.left < t.left) → 0 < s.left → Took s u asm_end_room
 after_stop true e m g k less some =
     let same = m.stays e in
     let l = less (rw same some) in
@@ -40,11 +41,13 @@ after_stop false e m g k less some =
     }
 
 -- where no expression begins, the next token is passed over
-pub missed_took : {s t u : State} {bytes : List ℕ} → Missed s t → Grew s t 8 → Skipped t u bytes → (0 < t.left → u.left < t.left) → 0 < s.left → Took s u asm_end_room
+pub missed_took : {s t u : State} {bytes : List ℕ} → Missed s t → Grew s t 8 → Skipped t u bytes →
+    (0 < t.left → u.left < t.left) → 0 < s.left → Took s u asm_end_room
 missed_took {s = s} m g k less some = after_stop (stops_expr (next s)) refl m g k less some
 
 -- a token was passed over
-pub skip_took : {s t : State} {bytes : List ℕ} → Skipped s t bytes → (0 < s.left → t.left < s.left) → 0 < s.left → Took s t asm_end_room
+pub skip_took : {s t : State} {bytes : List ℕ} → Skipped s t bytes → (0 < s.left → t.left < s.left) → 0 < s.left →
+    Took s t asm_end_room
 skip_took k less some =
     let l = less some in
     record {
@@ -56,7 +59,8 @@ skip_took k less some =
       below = k.below;
     }
 
-by_left : (n : ℕ) {s t u : State} {k : ℕ} {b : Bool} → t.left ≡ n → Expected s t k b → Grew t u 20 → (0 < t.left → Took t u 64) → 0 < s.left → Took s u 8
+by_left : (n : ℕ) {s t u : State} {k : ℕ} {b : Bool} → t.left ≡ n → Expected s t k b → Grew t u 20 →
+    (0 < t.left → Took t u 64) → 0 < s.left → Took s u 8
 by_left zero l e g took some =
     record {
       input = g.input ∙ e.input;
@@ -78,23 +82,40 @@ by_left (suc n) l e g took some =
     }
 
 -- behind a comma, which may be missing
-pub piece_took : {s t u : State} {k : ℕ} {b : Bool} → Expected s t k b → Grew t u 20 → (0 < t.left → Took t u 64) → 0 < s.left → Took s u 8
+pub piece_took : {s t u : State} {k : ℕ} {b : Bool} → Expected s t k b → Grew t u 20 → (0 < t.left → Took t u 64) →
+    0 < s.left → Took s u 8
 piece_took {t = t} e g took some = by_left t.left refl e g took some
 
 -- an operand behind the word that says which way it goes
-pub by_dir : (b : Bool) (n : Script Phrase) {s t : State} {q : Spot} {v : Outcome} → Follows (reg_operand b) something s t → On (finish ASM_REG_OPERAND done) (spot t) q v → On (by_way (of_way (Some b)) n) (spot s) q v
+pub by_dir : (b : Bool) (n : Script Phrase) {s t : State} {q : Spot} {v : Outcome} →
+    Follows (reg_operand b) something s t → On (finish ASM_REG_OPERAND done) (spot t) q v →
+    On (by_way (of_way (Some b)) n) (spot s) q v
 by_dir true n f d = by_rule f d
 by_dir false n f d = by_rule f d
 
 behind_attrs : (b : Bool) {s t u w x y : State} {m i j : ℕ} → is_outer_attr_first (next t) ≡ b → Opened s t m →
-    Grew t u 0 → (is_outer_attr_first (next t) ≡ true → Took t u list_room) → (is_outer_attr_first (next t) ≡ false → u ≡ t) →
+    Grew t u 0 → (is_outer_attr_first (next t) ≡ true → Took t u list_room) →
+    (is_outer_attr_first (next t) ≡ false → u ≡ t) →
     AteAs u w i false → AteAs w x j false → Gone x y 19 → (0 < x.left → Ended x y asm_room) → 0 < s.left → Took s y 64
 behind_attrs true {s = s} {y = y} e o g took stays a b d ended some =
     let t = took e in
     record {
       input = d.input ∙ b.input ∙ a.input ∙ g.input ∙ o.recorded.input;
       left = omega (arith, o.recorded.left, t.left, a.left, b.left, d.left);
-      count = omega (arith, o.recorded.left, o.recorded.count, t.left, t.count, a.left, a.count, b.left, b.count, d.left, d.count);
+      count =
+          omega (
+            arith,
+            o.recorded.left,
+            o.recorded.count,
+            t.left,
+            t.count,
+            a.left,
+            a.count,
+            b.left,
+            b.count,
+            d.left,
+            d.count,
+          );
       messages = omega (arith, o.recorded.messages, g.messages, a.messages, b.messages, d.messages);
       marker = d.marker ∙ ap top_marker (b.below ∙ a.below ∙ g.below ∙ o.below);
       below = d.below ∙ ap rest (b.below ∙ a.below ∙ g.below ∙ o.below);
@@ -108,7 +129,20 @@ behind_attrs false {s = s} {y = y} e o g took stays a b d ended some =
     record {
       input = d.input ∙ b.input ∙ a.input ∙ g.input ∙ o.recorded.input;
       left = omega (arith, o.recorded.left, l, k, n, t.left);
-      count = omega (arith, o.recorded.left, o.recorded.count, g.left, g.count, a.left, a.count, b.left, b.count, t.left, t.count);
+      count =
+          omega (
+            arith,
+            o.recorded.left,
+            o.recorded.count,
+            g.left,
+            g.count,
+            a.left,
+            a.count,
+            b.left,
+            b.count,
+            t.left,
+            t.count,
+          );
       messages = omega (arith, o.recorded.messages, g.messages, a.messages, b.messages, d.messages);
       marker = d.marker ∙ ap top_marker (b.below ∙ a.below ∙ g.below ∙ o.below);
       below = d.below ∙ ap rest (b.below ∙ a.below ∙ g.below ∙ o.below);
@@ -116,14 +150,18 @@ behind_attrs false {s = s} {y = y} e o g took stays a b d ended some =
 
 -- an operand, or what stands in its place, with the attributes before it
 pub operand_took : {s t u w x y : State} {m i j : ℕ} {a b : Bool} → Opened s t m →
-    Grew t u 0 → (is_outer_attr_first (next t) ≡ true → Took t u list_room) → (is_outer_attr_first (next t) ≡ false → u ≡ t) →
-    AteAs u w i a → AteAs w x j b → a ≡ false → b ≡ false → Gone x y 19 → (0 < x.left → Ended x y asm_room) → 0 < s.left → Took s y 64
-operand_took {t = t} {a = false} {b = false} o g took stays c d e f gone ended some = behind_attrs (is_outer_attr_first (next t)) refl o g took stays c d gone ended some
+    Grew t u 0 → (is_outer_attr_first (next t) ≡ true → Took t u list_room) →
+    (is_outer_attr_first (next t) ≡ false → u ≡ t) →
+    AteAs u w i a → AteAs w x j b → a ≡ false → b ≡ false → Gone x y 19 → (0 < x.left → Ended x y asm_room) →
+    0 < s.left → Took s y 64
+operand_took {t = t} {a = false} {b = false} o g took stays c d e f gone ended some =
+    behind_attrs (is_outer_attr_first (next t)) refl o g took stays c d gone ended some
 operand_took {a = true} o g took stays c d e f gone ended some = absurd cc
 operand_took {a = false} {b = true} o g took stays c d e f gone ended some = absurd cc
 
 -- an operand behind its name, if it has one
-pub named_ended : {s t u v : State} {kind : ℕ} → Grew s t 0 → Took t u operand_room → Completed u v kind → Ended s v asm_room
+pub named_ended : {s t u v : State} {kind : ℕ} → Grew s t 0 → Took t u operand_room → Completed u v kind →
+    Ended s v asm_room
 named_ended g t d =
     record {
       input = d.recorded.input ∙ t.input ∙ g.input;

@@ -75,7 +75,8 @@ fn asm_piece<G: Grammar>(
     requires behind { Behind G.valid G.left g.now (state p.old) }
     ensures grew { OnOk result (Grew (state p.old) (state p.new) 20) }
     ensures took { OnOk result (0 < (state p.old).left → Took (state p.old) (state p.new) 64) }
-    ensures script { IfOk result (λ o. Follows (script.asm_piece allow_templates) (script.of_allow o) (state p.old) (state p.new)) }
+    ensures script { IfOk result
+        (λ o. Follows (script.asm_piece allow_templates) (script.of_allow o) (state p.old) (state p.new)) }
 {
     let op_n = p.start()?;
     outer_attrs(p, g)?;
@@ -105,7 +106,8 @@ fn named_operand<G: Grammar>(
     requires newest { (state p.old).marker ≡ Some op_n.pos.value }
     ensures gone { OnOk result (Gone (state p.old) (state p.new) 19) }
     ensures ended { OnOk result (0 < (state p.old).left → Ended (state p.old) (state p.new) asm_room) }
-    ensures script { IfOk result (λ o. Follows (script.named_operand allow_templates) (script.of_allow o) (state p.old) (state p.new)) }
+    ensures script { IfOk result
+        (λ o. Follows (script.named_operand allow_templates) (script.of_allow o) (state p.old) (state p.new)) }
 {
     let is_named = operand_name(p)?;
     if asm_operand(p, g)? {
@@ -133,7 +135,8 @@ fn no_operand<G: Grammar>(
     requires behind { Behind G.valid G.left g.now (state p.old) }
     ensures grew { OnOk result (Grew (state p.old) (state p.new) 11) }
     ensures took { OnOk result (0 < (state p.old).left → Took (state p.old) (state p.new) asm_end_room) }
-    ensures script { IfOk result (λ o. Follows (script.no_operand allow_templates) (script.of_allow o) (state p.old) (state p.new)) }
+    ensures script { IfOk result
+        (λ o. Follows (script.no_operand allow_templates) (script.of_allow o) (state p.old) (state p.new)) }
 {
     if allow_templates {
         asm_template(p, g)?;

@@ -47,7 +47,8 @@ pub some_first : (rs : List Record) → is_effect_block rs ≡ true → next_kin
 unfolding is_effect_block
 some_first rs h = some_kind (next_kind rs) (kind_at rs 1) (kind_at rs 2) (kind_at rs 3) h
 
-brace : (rs : List Record) → is_effect_block rs ≡ true → next_kind (drop (past MOVE_KW (past GEN_KW 1 rs) rs) rs) ≡ L_CURLY
+brace : (rs : List Record) → is_effect_block rs ≡ true →
+    next_kind (drop (past MOVE_KW (past GEN_KW 1 rs) rs) rs) ≡ L_CURLY
 unfolding is_effect_block
 brace rs h =
     by_test (next_kind (drop 1 rs) == GEN_KW)
@@ -60,7 +61,8 @@ brace rs h =
     let k : (kind_at rs 1 == GEN_KW) ≡ false = rw (← (next_at 1 rs)) e in
     by_test (next_kind (drop 1 rs) == MOVE_KW)
     (λ f. rw (e, f) (next_at 2 rs ∙ after_move (next_kind rs) _ _ (kind_at rs 3) h k (rw (← (next_at 1 rs)) f)))
-    (λ f. rw (e, f) (next_at 1 rs ∙ after_none (next_kind rs) _ (kind_at rs 2) (kind_at rs 3) h k (rw (← (next_at 1 rs)) f))))
+    (λ f. rw (e, f)
+    (next_at 1 rs ∙ after_none (next_kind rs) _ (kind_at rs 2) (kind_at rs 3) h k (rw (← (next_at 1 rs)) f))))
 
 -- behind it the brace comes next
 pub brace_next : {s t u v : State} {k : ℕ} {a b : Bool} → is_effect_block s.rest ≡ true →

@@ -61,7 +61,9 @@ fn closure_binder<G: Grammar>(p: &mut Parser<'_>, g: &G) -> Result<(), NoMemory>
 /// The keywords before the parameters of a closure, as `static async move`.
 fn closure_keywords(p: &mut Parser<'_>) -> Result<(), NoMemory>
     ensures grew { OnOk result (Grew (state p.old) (state p.new) 0) }
-    ensures took { OnOk result (one_of (CONST_KW ∷ STATIC_KW ∷ ASYNC_KW ∷ MOVE_KW ∷ []) (next (state p.old)) ≡ true → Took (state p.old) (state p.new) name_room) }
+    ensures took { OnOk result
+        (one_of (CONST_KW ∷ STATIC_KW ∷ ASYNC_KW ∷ MOVE_KW ∷ []) (next (state p.old)) ≡ true →
+        Took (state p.old) (state p.new) name_room) }
     ensures stays { OnOk result (next (state p.old) ≡ PIPE → next (state p.new) ≡ PIPE) }
     ensures script { OnOk result (Follows script.closure_keywords something (state p.old) (state p.new)) }
 {

@@ -49,7 +49,8 @@ pub fn match_arm_list<G: Grammar>(p: &mut Parser<'_>, g: &G) -> Result<(), NoMem
     requires within { Within G.valid G.left g.now (state p.old) }
     requires here { next (state p.old) ≡ L_CURLY }
     ensures took { OnOk result (Took (state p.old) (state p.new) list_room) }
-    ensures one { OnOk result ((state p.new).forest ≡ node (state p.old).forest MATCH_ARM_LIST (last_children (state p.new).forest)) }
+    ensures one { OnOk result
+        ((state p.new).forest ≡ node (state p.old).forest MATCH_ARM_LIST (last_children (state p.new).forest)) }
     ensures script { OnOk result (Follows script.match_arm_list something (state p.old) (state p.new)) }
 {
     let m = p.start()?;
@@ -101,7 +102,9 @@ fn match_arm<G: Grammar>(p: &mut Parser<'_>, g: &G) -> Result<(), NoMemory>
 fn arm_head<G: Grammar>(p: &mut Parser<'_>, g: &G) -> Result<(), NoMemory>
     requires behind { Behind G.valid G.left g.now (state p.old) }
     ensures grew { OnOk result (Grew (state p.old) (state p.new) 8) }
-    ensures took { OnOk result (one_of (EOF ∷ L_CURLY ∷ R_CURLY ∷ EQ ∷ []) (next (state p.old)) ≡ false → Took (state p.old) (state p.new) pattern_room) }
+    ensures took { OnOk result
+        (one_of (EOF ∷ L_CURLY ∷ R_CURLY ∷ EQ ∷ []) (next (state p.old)) ≡ false →
+        Took (state p.old) (state p.new) pattern_room) }
     ensures stays { OnOk result (next (state p.old) ≡ EQ → next (state p.new) ≡ EQ) }
     ensures script { OnOk result (Follows script.arm_head something (state p.old) (state p.new)) }
 {

@@ -572,7 +572,13 @@ seen op p =
                                                         seen_star,
                                                         (
                                                           seen_dot2eq,
-                                                          (seen_dot2, (seen_neq, (seen_minuseq, (seen_minus, (seen_as_kw, tt))))),
+                                                          (
+                                                            seen_dot2,
+                                                            (
+                                                              seen_neq,
+                                                              (seen_minuseq, (seen_minus, (seen_as_kw, tt))),
+                                                            ),
+                                                          ),
                                                         ),
                                                       ),
                                                     ),

@@ -47,7 +47,8 @@ no_end k s e = clash (rw e refl) s
 
 -- a message takes the next token along unless that ends the search
 pub spent_missing : {s t u : State} {bytes : List ℕ} {set : TokenSet} {kept : Bool} →
-    ((k : ℕ) → member set k ≡ is_expr_recovery k) → is_expr_first (next s) ≡ false → Recovered s t bytes set kept → Abandoned t u →
+    ((k : ℕ) → member set k ≡ is_expr_recovery k) → is_expr_first (next s) ≡ false → Recovered s t bytes set kept →
+    Abandoned t u →
     stops_expr (next s) ≡ false → Spent s u marked_room
 spent_missing {s = s} {kept = true} first f r a h =
     let k : keeps (next s) ≡ true = rw (← (first (next s))) (sym r.decided) in
@@ -62,7 +63,8 @@ spent_missing {s = s} {kept = false} first f r a h =
 
 -- and takes nothing where that ends it
 pub stays_missing : {s t u : State} {bytes : List ℕ} {set : TokenSet} {kept : Bool} →
-    ((k : ℕ) → member set k ≡ is_expr_recovery k) → (next s ≡ EOF → s.left ≡ 0) → Recovered s t bytes set kept → Abandoned t u →
+    ((k : ℕ) → member set k ≡ is_expr_recovery k) → (next s ≡ EOF → s.left ≡ 0) → Recovered s t bytes set kept →
+    Abandoned t u →
     stops_expr (next s) ≡ true → u.left ≡ s.left
 stays_missing {kept = true} first end r a h = a.recorded.left ∙ (r.reported refl).left
 stays_missing {s = s} {kept = false} first end r a h =
@@ -80,7 +82,8 @@ took_missing : {s0 s1 s2 t : State} {m : ℕ} → Opened s0 s1 m → Grew s1 s2 
     Dropped s2 t 5 → (stops_expr (next s2) ≡ false → Spent s2 t marked_room) →
     stops_expr (next s0) ≡ false → Took s0 t expression_room
 took_missing {s0 = s0} {s1 = s1} {s2 = s2} {t = t} p a took stays d spent h =
-    let below : push s0.below s0.marker s0.forest ≡ push t.below t.marker (top s2.below) = sym p.below ∙ sym a.below ∙ d.below in
+    let below : push s0.below s0.marker s0.forest ≡ push t.below t.marker (top s2.below) =
+    sym p.below ∙ sym a.below ∙ d.below in
     by_test (is_outer_attr_first (next s1))
     (λ e.
     let l = took e in
@@ -105,7 +108,8 @@ took_missing {s0 = s0} {s1 = s1} {s2 = s2} {t = t} p a took stays d spent h =
     })
 
 -- no attribute stands where the search ends, and nothing was taken there
-nothing_taken : (t : State) {s0 s1 s2 : State} {m : ℕ} → Opened s0 s1 m → (is_outer_attr_first (next s1) ≡ false → s2 ≡ s1) →
+nothing_taken : (t : State) {s0 s1 s2 : State} {m : ℕ} → Opened s0 s1 m →
+    (is_outer_attr_first (next s1) ≡ false → s2 ≡ s1) →
     (stops_expr (next s2) ≡ true → t.left ≡ s2.left) → stops_expr (next s0) ≡ true → t.left ≡ s0.left
 nothing_taken t {s0 = s0} {s1 = s1} p stays same h =
     let n : next s1 ≡ next s0 = ap next_kind p.recorded.rest in
@@ -115,7 +119,8 @@ nothing_taken t {s0 = s0} {s1 = s1} p stays same h =
 
 -- an expression from a marker on that was handed over
 pub answered_from : (stmt : Bool) (bp : ℕ) (o : Option (CompletedMarker × BlockLike)) {s t : State} (m : Marker) →
-    AnsweredFrom s t stmt bp o → (o ≡ None → stops_expr (next s) ≡ false → Spent s t marked_room) → Answered s t (Some m) stmt bp o
+    AnsweredFrom s t stmt bp o → (o ≡ None → stops_expr (next s) ≡ false → Spent s t marked_room) →
+    Answered s t (Some m) stmt bp o
 answered_from stmt bp (Some e) m d spent =
     let c = d.0 in (
       record {
@@ -142,13 +147,15 @@ answered_from stmt bp None m d spent = (
 )
 
 -- an expression behind its attributes
-pub answered : (stmt : Bool) (bp : ℕ) (o : Option (CompletedMarker × BlockLike)) {s0 s1 s2 t : State} {m : ℕ} → Opened s0 s1 m → Grew s1 s2 0 →
+pub answered : (stmt : Bool) (bp : ℕ) (o : Option (CompletedMarker × BlockLike)) {s0 s1 s2 t : State} {m : ℕ} →
+    Opened s0 s1 m → Grew s1 s2 0 →
     (is_outer_attr_first (next s1) ≡ true → Took s1 s2 list_room) → (is_outer_attr_first (next s1) ≡ false → s2 ≡ s1) →
     AnsweredFrom s2 t stmt bp o → (o ≡ None → stops_expr (next s2) ≡ false → Spent s2 t marked_room) →
     (o ≡ None → stops_expr (next s2) ≡ true → t.left ≡ s2.left) → Answered s0 t None stmt bp o
 answered stmt bp (Some e) {s0 = s0} {t = t} p a took stays d spent same =
     let c = d.0 in
-    let below : push s0.below s0.marker s0.forest ≡ push t.below t.marker (but_last t.forest) = sym p.below ∙ sym a.below ∙ c.below in (
+    let below : push s0.below s0.marker s0.forest ≡ push t.below t.marker (but_last t.forest) =
+    sym p.below ∙ sym a.below ∙ c.below in (
       record {
         took = record {
           input = c.input ∙ a.input ∙ p.recorded.input;
@@ -164,7 +171,8 @@ answered stmt bp (Some e) {s0 = s0} {t = t} p a took stays d spent same =
       d.1,
     )
 answered stmt bp None {s0 = s0} {s2 = s2} {t = t} p a took stays d spent same =
-    let below : push s0.below s0.marker s0.forest ≡ push t.below t.marker (top s2.below) = sym p.below ∙ sym a.below ∙ d.below in (
+    let below : push s0.below s0.marker s0.forest ≡ push t.below t.marker (top s2.below) =
+    sym p.below ∙ sym a.below ∙ d.below in (
       record {
         input = d.input ∙ a.input ∙ p.recorded.input;
         left = omega (arith, p.recorded.left, a.left, d.left);

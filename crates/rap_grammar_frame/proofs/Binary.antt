@@ -31,10 +31,13 @@ record Operands (s0 s3 : State) (kind op w least : ℕ) : Type 0 where
   least_power : right_kind ≡ BIN_EXPR → least ≤ power (operator right)
   follows : open_ended right ≡ false → power (operator_at s3.rest) < least
 
-operands : (s0 s1 s2 s3 : State) (m least kind op w : ℕ) (o : Option (CompletedMarker × BlockLike)) → Preceded s0 s1 m kind → Bumped s1 s2 op w → Answered s2 s3 None false least o → s3.messages ≡ 0 → Operands s0 s3 kind op w least
+operands : (s0 s1 s2 s3 : State) (m least kind op w : ℕ) (o : Option (CompletedMarker × BlockLike)) →
+    Preceded s0 s1 m kind → Bumped s1 s2 op w → Answered s2 s3 None false least o → s3.messages ≡ 0 →
+    Operands s0 s3 kind op w least
 operands s0 s1 s2 s3 m least kind op w None a b t z = absurd (omega arith)
 operands s0 s1 s2 s3 m least kind op w (Some e) a b t z =
-    let f : s2.forest ≡ leaf (node none kind (last_children s0.forest)) op w = b.forest ∙ ap (λ (x : Forest). leaf x op w) a.forest in
+    let f : s2.forest ≡ leaf (node none kind (last_children s0.forest)) op w =
+    b.forest ∙ ap (λ (x : Forest). leaf x op w) a.forest in
     record {
       clean = omega arith;
       right_kind = e.0.kind.value;
@@ -44,8 +47,10 @@ operands s0 s1 s2 s3 m least kind op w (Some e) a b t z =
       follows = t.1.follows z refl;
     }
 
-pub fits : (s0 s1 s2 s3 : State) (m least bp kind op w : ℕ) (o : Option (CompletedMarker × BlockLike)) → Preceded s0 s1 m kind → Bumped s1 s2 op w → Answered s2 s3 None false least o →
-    bp ≡ power op → 0 < bp → bp ≢ 2 → bp < 12 → (bp ≢ 1 → least ≡ bp + 1) → (s0.messages ≡ 0 → LeftFits kind (last_children s0.forest) bp) → s3.messages ≡ 0 → Fit BIN_EXPR s3.forest
+pub fits : (s0 s1 s2 s3 : State) (m least bp kind op w : ℕ) (o : Option (CompletedMarker × BlockLike)) →
+    Preceded s0 s1 m kind → Bumped s1 s2 op w → Answered s2 s3 None false least o →
+    bp ≡ power op → 0 < bp → bp ≢ 2 → bp < 12 → (bp ≢ 1 → least ≡ bp + 1) →
+    (s0.messages ≡ 0 → LeftFits kind (last_children s0.forest) bp) → s3.messages ≡ 0 → Fit BIN_EXPR s3.forest
 fits s0 s1 s2 s3 m least bp kind op w o a b t e lo ne hi up left z =
     let d = operands s0 s1 s2 s3 m least kind op w o a b t z in
     record {
@@ -70,13 +75,16 @@ closed_left : (a b : Option ℕ) → is_dots (or_else a b) ≡ false → is_dots
 closed_left (Some k) b h = h
 closed_left None b h = refl
 
-pub bound : (s0 s1 s2 s3 s4 : State) (m least bp kind op w : ℕ) (o : Option (CompletedMarker × BlockLike)) → Preceded s0 s1 m kind → Bumped s1 s2 op w → Answered s2 s3 None false least o → Completed s3 s4 BIN_EXPR →
+pub bound : (s0 s1 s2 s3 s4 : State) (m least bp kind op w : ℕ) (o : Option (CompletedMarker × BlockLike)) →
+    Preceded s0 s1 m kind → Bumped s1 s2 op w → Answered s2 s3 None false least o → Completed s3 s4 BIN_EXPR →
     bp ≡ power op → least ≤ bp + 1 → (bp ≡ 1 → least ≡ 1) → s4.messages ≡ 0 → Bound s4 bp
 bound s0 s1 s2 s3 s4 m least bp kind op w o a b t d e most one z =
     let u = operands s0 s1 s2 s3 m least kind op w o a b t (sym d.recorded.messages ∙ z) in
-    let c : last_children s4.forest ≡ node (leaf (node none kind (last_children s0.forest)) op w) u.right_kind u.right = d.children ∙ u.shape in
+    let c : last_children s4.forest ≡ node (leaf (node none kind (last_children s0.forest)) op w) u.right_kind u.right =
+    d.children ∙ u.shape in
     let n : operator_at s4.rest ≡ operator_at s3.rest = ap operator_at d.recorded.rest in
-    let ends : open_ended (last_children s4.forest) ≡ false → power (operator_at s4.rest) < least = λ h. rw n (u.follows (closed_left (last_leaf u.right) _ (rw c at h))) in
+    let ends : open_ended (last_children s4.forest) ≡ false → power (operator_at s4.rest) < least =
+    λ h. rw n (u.follows (closed_left (last_leaf u.right) _ (rw c at h))) in
     record {
       power_is = rw c (sym e);
       follows = λ h. let l = ends h in omega arith;
@@ -91,5 +99,7 @@ right_at : (n least : ℕ) → (n ≢ 1 → least ≡ n + 1) → (n ≡ 1 → le
 right_at n least f g = by_test (n == 1) (λ h. g (eqb-true n 1 h)) (λ h. f (eqb-false n 1 h))
 
 -- the least power on the right, by the operator
-pub right_is : (op bp least : ℕ) → bp ≡ power op → (bp ≢ 1 → least ≡ bp + 1) → (bp ≡ 1 → least ≡ 1) → least ≡ right_of op
-right_is op bp least e f g = right_at (power op) least (λ n. f (λ h. n (sym e ∙ h)) ∙ ap (λ (x : ℕ). x + 1) e) (λ h. g (e ∙ h))
+pub right_is : (op bp least : ℕ) → bp ≡ power op → (bp ≢ 1 → least ≡ bp + 1) → (bp ≡ 1 → least ≡ 1) →
+    least ≡ right_of op
+right_is op bp least e f g =
+    right_at (power op) least (λ n. f (λ h. n (sym e ∙ h)) ∙ ap (λ (x : ℕ). x + 1) e) (λ h. g (e ∙ h))

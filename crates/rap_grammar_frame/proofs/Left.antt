@@ -20,7 +20,8 @@ unfolding state
 left_of_next p h = some_left _ h
 
 -- a token that was passed over was taken
-pub left_past : (p q : Parser) → (state q).rest ≡ drop 1 (state p).rest → 0 < (state p).left → (state q).left < (state p).left
+pub left_past : (p q : Parser) → (state q).rest ≡ drop 1 (state p).rest → 0 < (state p).left →
+    (state q).left < (state p).left
 unfolding state
 left_past p q e h = one_less _ _ e h
 

@@ -70,7 +70,8 @@ goes_range r bp {s = s} {c = true} e some h is two f i =
 -- an operator with its right operand
 pub goes_binary : (r : Restrictions) (bp : ℕ) {n : ℕ} {s t : State} →
     n ≡ power (operator_at s.rest) → 0 < n → bp ≤ n → operator_at s.rest ≢ AS_KW → n ≢ 2 →
-    Follows (bin_expr r (operator_at s.rest)) something s t → On (climb_turn r bp false false) (spot s) (spot t) (again false false)
+    Follows (bin_expr r (operator_at s.rest)) something s t →
+    On (climb_turn r bp false false) (spot s) (spot t) (again false false)
 goes_binary r bp {s = s} e some h is two f =
     let cast : (operator_at s.rest == AS_KW) ≡ false = ne_eqb (operator_at s.rest) AS_KW is in
     let dots : (power (operator_at s.rest) == 2) ≡ false = ne_eqb (power (operator_at s.rest)) 2 (λ i. two (e ∙ i)) in
@@ -85,7 +86,14 @@ like_ends like.Block = refl
 like_ends like.NotBlock = refl
 
 -- an operand, and on
-pub from_lhs : (x : BlockLike) (r : Restrictions) (bp : ℕ) {s t : State} {q : Spot} {v : Outcome} → Follows (lhs r) (of_like x) s t → On (extend (if r.prefer_stmt && is_block (of_like x) then give block else after (climb r bp) (λ w. done))) (spot t) q v → On (after (lhs r) (λ w. if_some w (extend (if r.prefer_stmt && is_block w then give block else after (climb r bp) (λ u. done))) (abandon (give nothing)))) (spot s) q v
+pub from_lhs : (x : BlockLike) (r : Restrictions) (bp : ℕ) {s t : State} {q : Spot} {v : Outcome} →
+    Follows (lhs r) (of_like x) s t →
+    On (extend (if r.prefer_stmt && is_block (of_like x) then give block else after (climb r bp) (λ w. done)))
+    (spot t) q v →
+    On
+    (after (lhs r)
+    (λ w. if_some w (extend (if r.prefer_stmt && is_block w then give block else after (climb r bp) (λ u. done)))
+    (abandon (give nothing)))) (spot s) q v
 from_lhs like.Block r bp h d = by_rule h d
 from_lhs like.NotBlock r bp h d = by_rule h d
 
@@ -95,6 +103,11 @@ no_first [] j k ks n = refl
 no_first (r ∷ rs) j k ks n = rw (ne_eqb r.kind j n) refl
 
 -- an operand without an operator before it, and on
-pub from_atom : (x : BlockLike) (r : Restrictions) {s t : State} {q : Spot} {v : Outcome} → Follows (atom_expr r) (of_like x) s t → On (postfix_expr (not (r.prefer_stmt && is_block (of_like x))) (is_block (of_like x))) (spot t) q v → On (after (atom_expr r) (λ w. if_some w (postfix_expr (not (r.prefer_stmt && is_block w)) (is_block w)) (give nothing))) (spot s) q v
+pub from_atom : (x : BlockLike) (r : Restrictions) {s t : State} {q : Spot} {v : Outcome} →
+    Follows (atom_expr r) (of_like x) s t →
+    On (postfix_expr (not (r.prefer_stmt && is_block (of_like x))) (is_block (of_like x))) (spot t) q v →
+    On
+    (after (atom_expr r)
+    (λ w. if_some w (postfix_expr (not (r.prefer_stmt && is_block w)) (is_block w)) (give nothing))) (spot s) q v
 from_atom like.Block r h d = by_rule h d
 from_atom like.NotBlock r h d = by_rule h d

@@ -11,11 +11,13 @@ use Rattle.rap_grammar_scripts.specs.Operator.{operator_at}
 -- unless the expression ends in the dots of a range, or may have stopped as a statement's block.
 pub record Climbed (s : State) (kind : ℕ) (bp : ℕ) (prefer_stmt : Bool) : Type 0 where
   pub least : s.messages ≡ 0 → kind ≡ BIN_EXPR → bp ≤ power (operator (last_children s.forest))
-  pub follows : s.messages ≡ 0 → prefer_stmt ≡ false → open_ended (last_children s.forest) ≡ false → power (operator_at s.rest) < bp
+  pub follows : s.messages ≡ 0 → prefer_stmt ≡ false → open_ended (last_children s.forest) ≡ false →
+      power (operator_at s.rest) < bp
 
 -- a node of this kind over these children may stand on the left of an operator of this power
 abbrev pub LeftFits : ℕ → Forest → ℕ → Type 0
-LeftFits kind children bp = kind ≡ BIN_EXPR → open_ended children ≡ false → (bp ≤ power (operator children)) × (power (operator children) ≢ 1)
+LeftFits kind children bp =
+    kind ≡ BIN_EXPR → open_ended children ≡ false → (bp ≤ power (operator children)) × (power (operator children) ≢ 1)
 
 -- The last node is a binary expression of this power. What follows binds no tighter, and after an assignment not at
 -- all, unless the expression ends in the dots of a range.

@@ -42,7 +42,8 @@ abbrev pub Answered : State → State → Option Marker → Bool → ℕ → Opt
 Answered old new None stmt bp (Some e) = Made old new e.0 expression_room × Climbed new e.0.kind.value bp stmt
 Answered old new None stmt bp None = Grew old new 8 × (old.messages < new.messages) × Missed old new
 Answered old new (Some m) stmt bp (Some e) = Closed old new e.0 expression_room × Climbed new e.0.kind.value bp stmt
-Answered old new (Some m) stmt bp None = Dropped old new 8 × (stops_expr (next old) ≡ false → Spent old new expression_room)
+Answered old new (Some m) stmt bp None =
+    Dropped old new 8 × (stops_expr (next old) ≡ false → Spent old new expression_room)
 
 -- an operand: a node of which nothing more is asked; or a message, with a token in an `ERROR` at least, and no node
 abbrev pub Operand : ℕ → State → State → Option (CompletedMarker × BlockLike) → Type 0
@@ -128,8 +129,10 @@ Pre rule.CfgPredicate s = Unit {0}
 
 -- what each rule ensures
 abbrev pub Post : Rule → State → State → Option (CompletedMarker × BlockLike) → Type 0
-Post (rule.ExprBp m r bp) old new e = Answered old new m r.prefer_stmt bp e × Follows (expr_bp (is_some m) r bp) (of_expr e) old new
-Post (rule.TypeWithBoundsCond allow_bounds) old new e = IsType old new × Follows (type_with_bounds_cond allow_bounds) something old new
+Post (rule.ExprBp m r bp) old new e =
+    Answered old new m r.prefer_stmt bp e × Follows (expr_bp (is_some m) r bp) (of_expr e) old new
+Post (rule.TypeWithBoundsCond allow_bounds) old new e =
+    IsType old new × Follows (type_with_bounds_cond allow_bounds) something old new
 Post rule.PathTypeBounds old new e = Took old new type_room × Follows (path_type_bounds true) something old new
 Post rule.GenericArg old new e = Took old new element_room × Follows generic_arg something old new
 Post rule.GenericParamList old new e = Took old new list_room × Follows generic_param_list something old new
@@ -140,8 +143,10 @@ Post rule.PatternSingle old new e = IsSinglePattern old new × Follows (pattern_
 Post rule.ArmPattern old new e = IsArmPattern old new × Follows (pattern_r true) something old new
 Post (rule.Stmt semicolon) old new e = IsStatement old new × Follows (stmt semicolon) something old new
 Post rule.IfExpr old new e = Took old new atom_room × Follows if_expr something old new
-Post (rule.ItemOrMacro stop_on_r_curly is_in_extern) old new e = IsItem stop_on_r_curly old new × Follows (item_or_macro stop_on_r_curly is_in_extern) something old new
+Post (rule.ItemOrMacro stop_on_r_curly is_in_extern) old new e =
+    IsItem stop_on_r_curly old new × Follows (item_or_macro stop_on_r_curly is_in_extern) something old new
 Post rule.InnerAttrs old new e = Grew old new 0 × Follows inner_attrs something old new
 Post rule.UseTree old new e = Took old new list_room × Follows use_tree something old new
 Post rule.Meta old new e = Grew old new 16 × Follows meta something old new
-Post rule.CfgPredicate old new e = Parsed is_cfg_predicate_first 8 element_room old new × Follows cfg_predicate something old new
+Post rule.CfgPredicate old new e =
+    Parsed is_cfg_predicate_first 8 element_room old new × Follows cfg_predicate something old new

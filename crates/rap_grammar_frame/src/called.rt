@@ -44,7 +44,8 @@ pub fn opt_ret_type<G: Grammar>(p: &mut Parser<'_>, g: &G) -> Result<bool, NoMem
 pub fn opt_no_arrow_ret_type<G: Grammar>(p: &mut Parser<'_>, g: &G) -> Result<bool, NoMemory>
     requires behind { Behind G.valid G.left g.now (state p.old) }
     ensures grew { OnOk result (Grew (state p.old) (state p.new) 0) }
-    ensures script { IfOk result (λ found. Follows grammar_script.opt_no_arrow_ret_type (of_bool found) (state p.old) (state p.new)) }
+    ensures script { IfOk result
+        (λ found. Follows grammar_script.opt_no_arrow_ret_type (of_bool found) (state p.old) (state p.new)) }
 {
     if !is_path_name(p.current()) {
         return Ok(false);

@@ -55,7 +55,10 @@ pub fn delimited<G: Grammar, E: Element>(
     requires ket { ket ≢ EOF }
     requires delim { delim ≢ EOF }
     ensures took { OnOk result (Took (state p.old) (state p.new) brackets_room) }
-    ensures script { OnOk result (Follows (script.delimited (E.element element.now) bra ket delim unexpected_delim_message.now (E.first element.now)) something (state p.old) (state p.new)) }
+    ensures script { OnOk result
+        (Follows
+        (script.delimited (E.element element.now) bra ket delim unexpected_delim_message.now (E.first element.now))
+        something (state p.old) (state p.new)) }
 {
     p.bump(bra)?;
     elements(p, g, ket, delim, unexpected_delim_message, element)?;
@@ -75,7 +78,10 @@ fn elements<G: Grammar, E: Element>(
     requires behind { Behind G.valid G.left g.now (state p.old) }
     requires delim { delim ≢ EOF }
     ensures grew { OnOk result (Grew (state p.old) (state p.new) 16) }
-    ensures script { OnOk result (Follows (script.elements (E.element element.now) ket delim unexpected_delim_message.now (E.first element.now)) something (state p.old) (state p.new)) }
+    ensures script { OnOk result
+        (Follows
+        (script.elements (E.element element.now) ket delim unexpected_delim_message.now (E.first element.now)) something
+        (state p.old) (state p.new)) }
 {
     'elements: while !p.at(ket) && !p.at(SyntaxKind::EOF) {
         if p.at(delim) {

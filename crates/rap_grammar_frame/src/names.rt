@@ -107,7 +107,9 @@ pub fn given_name(p: &mut Parser<'_>) -> Result<(), NoMemory>
 pub fn name_r(p: &mut Parser<'_>, recovery: TokenSet) -> Result<(), NoMemory>
     ensures grew { OnOk result (Grew (state p.old) (state p.new) recovery_events) }
     ensures took { OnOk result (next (state p.old) ≡ IDENT → Took (state p.old) (state p.new) name_room) }
-    ensures script { OnOk result ((kept : ℕ → Bool) → ((kind : ℕ) → member recovery kind ≡ kept kind) → Follows (script.name_r kept) something (state p.old) (state p.new)) }
+    ensures script { OnOk result
+        ((kept : ℕ → Bool) → ((kind : ℕ) → member recovery kind ≡ kept kind) →
+        Follows (script.name_r kept) something (state p.old) (state p.new)) }
 {
     if p.at(T![ident]) {
         given_name(p)?;

@@ -50,7 +50,8 @@ fn is_unmatched(kind: SyntaxKind) -> bool
 pub fn token_tree(p: &mut Parser<'_>) -> Result<(), NoMemory>
     requires bracket { is_bracket (next (state p.old)) ≡ true }
     ensures took { OnOk result (Took (state p.old) (state p.new) list_room) }
-    ensures one { OnOk result ((state p.new).forest ≡ node (state p.old).forest TOKEN_TREE (last_children (state p.new).forest)) }
+    ensures one { OnOk result
+        ((state p.new).forest ≡ node (state p.old).forest TOKEN_TREE (last_children (state p.new).forest)) }
     ensures script { OnOk result (Follows script.token_tree something (state p.old) (state p.new)) }
     ensures balanced { OnOk result (NestsAsBrackets (state p.old) (state p.new)) }
 {

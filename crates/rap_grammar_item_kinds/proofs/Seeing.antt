@@ -65,7 +65,8 @@ seen_both {a = false} e x y = record {
 }
 
 -- the outcome of both parts
-pub outcome_both : (a b : Bool) {r : Bool} {w : Outcome} → r ≡ a || b → w ≡ of_bool b → either_of (of_bool a) w ≡ of_bool r
+pub outcome_both : (a b : Bool) {r : Bool} {w : Outcome} → r ≡ a || b → w ≡ of_bool b →
+    either_of (of_bool a) w ≡ of_bool r
 outcome_both true b e h = ap of_bool (sym e)
 outcome_both false b e h = h ∙ ap of_bool (sym e)
 
@@ -76,7 +77,8 @@ found_is false = refl
 -- both flags of the modifiers
 pub outcome_of : {a b : Bool} {w : Outcome} → w ≡ of_bool a → again (found w) (found (of_bool b)) ≡ again a b
 outcome_of {a = a} {b = b} e =
-    ap (λ (x : Outcome). again (found x) (found (of_bool b))) e ∙ ap (λ (x : Bool). again x (found (of_bool b))) (found_is a)
+    ap (λ (x : Outcome). again (found x) (found (of_bool b))) e ∙
+    ap (λ (x : Bool). again x (found (of_bool b))) (found_is a)
     ∙ ap (again a) (found_is b)
 
 -- a rule ends with an outcome
@@ -107,7 +109,8 @@ parted x y =
     }
 
 -- where no item follows, what stood before it is reported
-pub refused : (u : State) (v : Bool) {s t : State} {b : Bool} (back : Option Marker) → Seen s t b → Refused v b t u back → Modified v s u back
+pub refused : (u : State) (v : Bool) {s t : State} {b : Bool} (back : Option Marker) → Seen s t b →
+    Refused v b t u back → Modified v s u back
 refused u v {s = s} {b = true} None x y =
     let t = x.took refl in
     let d = y.1 in
@@ -154,11 +157,13 @@ handed u {v = false} None x y z = subst (λ (a : State). Ended a u item_room) (y
 handed u (Some m) x y z = (z.1.0 ∙ y z.0, z.1.1)
 
 -- whether a macro call reads like a block
-pub like_block : (e : BlockLike) {c : Script Phrase} {s t : State} {b : Bool} → b ≡ is_block (of_like e) → b ≡ true → Follows c (of_like e) s t → Follows c block s t
+pub like_block : (e : BlockLike) {c : Script Phrase} {s t : State} {b : Bool} → b ≡ is_block (of_like e) → b ≡ true →
+    Follows c (of_like e) s t → Follows c block s t
 like_block like.Block i h f = f
 like_block like.NotBlock i h f = absurd (clash h i)
 
-pub like_other : (e : BlockLike) {c : Script Phrase} {s t : State} {b : Bool} → b ≡ is_block (of_like e) → b ≡ false → Follows c (of_like e) s t → Follows c something s t
+pub like_other : (e : BlockLike) {c : Script Phrase} {s t : State} {b : Bool} → b ≡ is_block (of_like e) → b ≡ false →
+    Follows c (of_like e) s t → Follows c something s t
 like_other like.Block i h f = absurd (clash i h)
 like_other like.NotBlock i h f = f
 
@@ -172,7 +177,8 @@ ended_by y x = record {
   below = gone (sym x.below ∙ y.below);
 }
 
-pub ended_closed : {s t u : State} {k : ℕ} {cm : CompletedMarker} → Closes k 16 t u cm → Took s t list_room → Ended s u item_room
+pub ended_closed : {s t u : State} {k : ℕ} {cm : CompletedMarker} → Closes k 16 t u cm → Took s t list_room →
+    Ended s u item_room
 ended_closed y x = record {
   input = y.input ∙ x.input;
   left = omega (arith, x.left, y.left);
@@ -182,7 +188,8 @@ ended_closed y x = record {
 }
 
 -- the same with a token before the end that may be missing
-pub ended_behind : {s t u v : State} {j k : ℕ} {b : Bool} → Completed u v k → Expected t u j b → Took s t list_room → Ended s v item_room
+pub ended_behind : {s t u v : State} {j k : ℕ} {b : Bool} → Completed u v k → Expected t u j b → Took s t list_room →
+    Ended s v item_room
 ended_behind z y x = record {
   input = z.recorded.input ∙ y.input ∙ x.input;
   left = omega (arith, x.left, y.left, z.recorded.left);
@@ -250,7 +257,8 @@ skips_took x = record {
 }
 
 -- where no token is left, or a brace ends the list of items, that is all
-pub skips_reported : {b : Bool} {s t : State} {bytes : List ℕ} → Reported s t bytes → (next s ≢ EOF → (b ≡ true → next s ≢ R_CURLY) → ⊥) → SkipsItem b s t
+pub skips_reported : {b : Bool} {s t : State} {bytes : List ℕ} → Reported s t bytes →
+    (next s ≢ EOF → (b ≡ true → next s ≢ R_CURLY) → ⊥) → SkipsItem b s t
 skips_reported x n = record {
   grew = record {
     input = x.input;
@@ -264,7 +272,8 @@ skips_reported x n = record {
 }
 
 -- an item behind a visibility or without one, at once or behind modifiers
-pub ended_visible : {s t u : State} {v : Bool} → (v ≡ true → Took s t list_room) → (v ≡ false → t ≡ s) → Ended t u item_room → Ended s u item_room
+pub ended_visible : {s t u : State} {v : Bool} → (v ≡ true → Took s t list_room) → (v ≡ false → t ≡ s) →
+    Ended t u item_room → Ended s u item_room
 ended_visible {s = s} {v = true} x y z =
     let t = x refl in
     record {
@@ -280,11 +289,13 @@ pub handed_kept : (u : State) {s t r : State} {v : Bool} (back : Option Marker) 
     (v ≡ true → Took s t list_room) → (v ≡ false → t ≡ s) → r ≡ t → Modified v r u back → Handed s u back
 handed_kept u {v = v} back x y e z = handed u back x y (subst (λ (a : State). Modified v a u back) e z)
 
-pub refused_kept : (u : State) (v : Bool) {s t r : State} {b : Bool} (back : Option Marker) → Seen s t b → r ≡ t → Refused v b r u back → Modified v s u back
+pub refused_kept : (u : State) (v : Bool) {s t r : State} {b : Bool} (back : Option Marker) → Seen s t b → r ≡ t →
+    Refused v b r u back → Modified v s u back
 refused_kept u v {b = b} back x e y = refused u v back x (subst (λ (a : State). Refused v b a u back) e y)
 
 -- a rule that asks for what was found
-pub on_found : (f : Bool → Script Phrase) (b : Bool) {p q : Spot} {w : Outcome} → On (f b) p q w → On (f (found (of_bool b))) p q w
+pub on_found : (f : Bool → Script Phrase) (b : Bool) {p q : Spot} {w : Outcome} → On (f b) p q w →
+    On (f (found (of_bool b))) p q w
 on_found f true d = d
 on_found f false d = d
 
@@ -298,7 +309,8 @@ later : (rs : List Record) (n : ℕ) → contextual_at (drop 1 rs) n ≡ context
 later [] n = refl
 later (r ∷ rs) n = refl
 
-pub asm_taken : {s t u w : State} {j k : ℕ} {b : Bool} → Bumped s t j 1 → Bumped t u k 1 → AteAs u w GLOBAL_ASM_KW b → contextual_at s.rest 2 ≡ GLOBAL_ASM_KW → b ≡ true
+pub asm_taken : {s t u w : State} {j k : ℕ} {b : Bool} → Bumped s t j 1 → Bumped t u k 1 → AteAs u w GLOBAL_ASM_KW b →
+    contextual_at s.rest 2 ≡ GLOBAL_ASM_KW → b ≡ true
 asm_taken {s = s} {t = t} {u = u} x y a h =
     let e : contextual_at u.rest 0 ≡ GLOBAL_ASM_KW =
     ap (λ (rs : List Record). contextual_at rs 0) y.rest ∙ later t.rest 0
@@ -306,7 +318,8 @@ asm_taken {s = s} {t = t} {u = u} x y a h =
     a.decided ∙ ap (λ (k : ℕ). k == GLOBAL_ASM_KW) e
 
 -- an item that ends with its node, and a message
-pub ended_reported : {s t u v : State} {k : ℕ} {bytes : List ℕ} → Reported u v bytes → Completed t u k → Took s t list_room → Ended s v item_room
+pub ended_reported : {s t u v : State} {k : ℕ} {bytes : List ℕ} → Reported u v bytes → Completed t u k →
+    Took s t list_room → Ended s v item_room
 ended_reported z y x = record {
   input = z.input ∙ y.recorded.input ∙ x.input;
   left = omega (arith, x.left, y.recorded.left, z.left);

@@ -35,7 +35,9 @@ pub fn modifiers<G: Grammar>(
 ) -> Result<ItemModifiers, NoMemory>
     requires within { Within G.valid G.left g.now (state p.old) }
     ensures seen { IfOk result (λ found. Seen (state p.old) (state p.new) found.has_mods) }
-    ensures script { IfOk result (λ found. Follows (script.modifiers is_in_extern) (again found.has_mods found.has_extern) (state p.old) (state p.new)) }
+    ensures script { IfOk result
+        (λ found. Follows (script.modifiers is_in_extern) (again found.has_mods found.has_extern) (state p.old)
+        (state p.new)) }
 {
     let restricted = opt_impl_restriction(p, g)?;
     let qualified = qualifiers(p)?;
@@ -106,7 +108,9 @@ fn modifier(p: &mut Parser<'_>, found: bool, kind: SyntaxKind) -> Result<bool, N
     requires here { found ≡ true → At (state p.old) kind }
     requires some { kind ≢ EOF }
     ensures seen { IfOk result (λ some. Seen (state p.old) (state p.new) some) }
-    ensures script { IfOk result (λ some. (h : List Record → Bool) → found ≡ h (state p.old).rest → Follows (script.modifier h kind) (of_bool some) (state p.old) (state p.new)) }
+    ensures script { IfOk result
+        (λ some. (h : List Record → Bool) → found ≡ h (state p.old).rest →
+        Follows (script.modifier h kind) (of_bool some) (state p.old) (state p.new)) }
 {
     if !found {
         return Ok(false);
@@ -119,7 +123,9 @@ fn modifier(p: &mut Parser<'_>, found: bool, kind: SyntaxKind) -> Result<bool, N
 fn modifier_as(p: &mut Parser<'_>, found: bool, kind: SyntaxKind) -> Result<bool, NoMemory>
     requires here { found ≡ true → ReadsAs (state p.old) kind }
     ensures seen { IfOk result (λ some. Seen (state p.old) (state p.new) some) }
-    ensures script { IfOk result (λ some. (h : List Record → Bool) → found ≡ h (state p.old).rest → Follows (script.modifier_as h kind) (of_bool some) (state p.old) (state p.new)) }
+    ensures script { IfOk result
+        (λ some. (h : List Record → Bool) → found ≡ h (state p.old).rest →
+        Follows (script.modifier_as h kind) (of_bool some) (state p.old) (state p.new)) }
 {
     if !found {
         return Ok(false);

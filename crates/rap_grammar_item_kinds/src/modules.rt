@@ -86,7 +86,8 @@ pub fn item_list<G: Grammar>(p: &mut Parser<'_>, g: &G) -> Result<(), NoMemory>
     requires within { Within G.valid G.left g.now (state p.old) }
     requires here { next (state p.old) ≡ L_CURLY }
     ensures took { OnOk result (Took (state p.old) (state p.new) list_room) }
-    ensures one { OnOk result ((state p.new).forest ≡ node (state p.old).forest ITEM_LIST (last_children (state p.new).forest)) }
+    ensures one { OnOk result
+        ((state p.new).forest ≡ node (state p.old).forest ITEM_LIST (last_children (state p.new).forest)) }
     ensures script { OnOk result (Follows script.item_list something (state p.old) (state p.new)) }
 {
     let m = p.start()?;
@@ -102,7 +103,8 @@ pub fn extern_item_list<G: Grammar>(p: &mut Parser<'_>, g: &G) -> Result<(), NoM
     requires within { Within G.valid G.left g.now (state p.old) }
     requires here { next (state p.old) ≡ L_CURLY }
     ensures took { OnOk result (Took (state p.old) (state p.new) list_room) }
-    ensures one { OnOk result ((state p.new).forest ≡ node (state p.old).forest EXTERN_ITEM_LIST (last_children (state p.new).forest)) }
+    ensures one { OnOk result
+        ((state p.new).forest ≡ node (state p.old).forest EXTERN_ITEM_LIST (last_children (state p.new).forest)) }
     ensures script { OnOk result (Follows script.extern_item_list something (state p.old) (state p.new)) }
 {
     let m = p.start()?;

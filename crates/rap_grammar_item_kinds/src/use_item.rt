@@ -157,7 +157,8 @@ pub fn use_tree_list<G: Grammar>(p: &mut Parser<'_>, g: &G) -> Result<(), NoMemo
     requires within { Within G.valid G.left g.now (state p.old) }
     requires here { next (state p.old) ≡ L_CURLY }
     ensures took { OnOk result (Took (state p.old) (state p.new) use_list_room) }
-    ensures one { OnOk result ((state p.new).forest ≡ node (state p.old).forest USE_TREE_LIST (last_children (state p.new).forest)) }
+    ensures one { OnOk result
+        ((state p.new).forest ≡ node (state p.old).forest USE_TREE_LIST (last_children (state p.new).forest)) }
     ensures script { OnOk result (Follows script.use_tree_list something (state p.old) (state p.new)) }
 {
     let m = p.start()?;

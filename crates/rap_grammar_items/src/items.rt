@@ -67,7 +67,9 @@ fn opt_modified_item<G: Grammar>(
     requires within { Within G.valid G.left g.now (state p.old) }
     requires newest { (state p.old).marker ≡ Some m.pos.value }
     ensures handed { IfOk result (Modified has_visibility (state p.old) (state p.new)) }
-    ensures script { IfOk result (λ back. Follows (script.opt_modified_item has_visibility is_in_extern) (of_marker back) (state p.old) (state p.new)) }
+    ensures script { IfOk result
+        (λ back. Follows (script.opt_modified_item has_visibility is_in_extern) (of_marker back) (state p.old)
+        (state p.new)) }
 {
     let found = modifiers(p, g, is_in_extern)?;
     match opt_item_with_modifiers(p, g, m, found.has_extern)? {
@@ -88,7 +90,8 @@ fn refuse(
 ) -> Result<Option<Marker>, NoMemory>
     requires newest { (state p.old).marker ≡ Some m.pos.value }
     ensures refused { IfOk result (Refused has_visibility has_mods (state p.old) (state p.new)) }
-    ensures script { IfOk result (λ back. Follows (script.refuse has_visibility has_mods) (of_marker back) (state p.old) (state p.new)) }
+    ensures script { IfOk result
+        (λ back. Follows (script.refuse has_visibility has_mods) (of_marker back) (state p.old) (state p.new)) }
 {
     if has_mods {
         p.error("expected fn, trait or impl")?;
@@ -296,7 +299,8 @@ fn opt_item_with_modifiers<G: Grammar>(
     requires within { Within G.valid G.left g.now (state p.old) }
     requires newest { (state p.old).marker ≡ Some m.pos.value }
     ensures handed { IfOk result (Handed (state p.old) (state p.new)) }
-    ensures script { IfOk result (λ back. Follows (script.opt_item_with_modifiers has_extern) (of_marker back) (state p.old) (state p.new)) }
+    ensures script { IfOk result
+        (λ back. Follows (script.opt_item_with_modifiers has_extern) (of_marker back) (state p.old) (state p.new)) }
 {
     match p.current() {
         T![fn] => {
@@ -333,7 +337,8 @@ fn opt_extern_block<G: Grammar>(
     requires newest { (state p.old).marker ≡ Some m.pos.value }
     requires here { next (state p.old) ≡ L_CURLY }
     ensures handed { IfOk result (Handed (state p.old) (state p.new)) }
-    ensures script { IfOk result (λ back. Follows (script.opt_extern_block has_extern) (of_marker back) (state p.old) (state p.new)) }
+    ensures script { IfOk result
+        (λ back. Follows (script.opt_extern_block has_extern) (of_marker back) (state p.old) (state p.new)) }
 {
     if !has_extern {
         return Ok(Some(m));
@@ -353,7 +358,8 @@ pub fn item_or_macro<G: Grammar>(
 ) -> Result<(), NoMemory>
     requires within { Within G.valid G.left g.now (state p.old) }
     ensures item { OnOk result (IsItem stop_on_r_curly (state p.old) (state p.new)) }
-    ensures script { OnOk result (Follows (script.item_or_macro stop_on_r_curly is_in_extern) something (state p.old) (state p.new)) }
+    ensures script { OnOk result
+        (Follows (script.item_or_macro stop_on_r_curly is_in_extern) something (state p.old) (state p.new)) }
 {
     let m = p.start()?;
     outer_attrs(p, g)?;
@@ -372,7 +378,8 @@ fn marked_item<G: Grammar>(
     requires within { Within G.valid G.left g.now (state p.old) }
     requires newest { (state p.old).marker ≡ Some m.pos.value }
     ensures item { OnOk result (EndsItem stop_on_r_curly (state p.old) (state p.new)) }
-    ensures script { OnOk result (Follows (script.marked_item stop_on_r_curly is_in_extern) something (state p.old) (state p.new)) }
+    ensures script { OnOk result
+        (Follows (script.marked_item stop_on_r_curly is_in_extern) something (state p.old) (state p.new)) }
 {
     match opt_item(p, g, m, is_in_extern)? {
         None => {

@@ -43,7 +43,9 @@ pub fn postfix_expr<G: Grammar>(
     ensures last { IfOk result (λ e. IsLast (state p.new) e.0 e.0.kind.value) }
     ensures plain { IfOk result (λ e. is_plain e.0.kind.value ≡ true) }
     ensures one { OnOk result (but_last (state p.new).forest ≡ but_last (state p.old).forest) }
-    ensures script { IfOk result (λ e. Follows (script.postfix_expr allow_calls (is_block (of_like block_like))) (of_like e.1) (state p.old) (state p.new)) }
+    ensures script { IfOk result
+        (λ e. Follows (script.postfix_expr allow_calls (is_block (of_like block_like))) (of_like e.1) (state p.old)
+        (state p.new)) }
 {
     'postfixes: loop {
         lhs = match p.current() {
@@ -73,7 +75,8 @@ fn postfix_dot_expr<G: Grammar>(
     requires within { Within G.valid G.left g.now (state p.old) }
     requires last { IsLast (state p.old) lhs lhs.kind.value }
     requires here { next (state p.old) ≡ DOT }
-    ensures wraps { IfOk result (λ e. Wraps e.0.kind.value operand_room (state p.old) (state p.new) e.0 × (is_plain e.0.kind.value ≡ true)) }
+    ensures wraps { IfOk result
+        (λ e. Wraps e.0.kind.value operand_room (state p.old) (state p.new) e.0 × (is_plain e.0.kind.value ≡ true)) }
     ensures script { IfOk result (λ e. Follows script.postfix_dot_expr (of_bool e.1) (state p.old) (state p.new)) }
 {
     let m = lhs.precede(p)?;
@@ -93,7 +96,9 @@ fn after_dot<G: Grammar>(
 ) -> Result<(CompletedMarker, bool), NoMemory>
     requires behind { Behind G.valid G.left g.now (state p.old) }
     requires newest { (state p.old).marker ≡ Some m.pos.value }
-    ensures closes { IfOk result (λ e. Closes e.0.kind.value recovery_events (state p.old) (state p.new) e.0 × (is_plain e.0.kind.value ≡ true)) }
+    ensures closes { IfOk result
+        (λ e. Closes e.0.kind.value recovery_events (state p.old) (state p.new) e.0 ×
+        (is_plain e.0.kind.value ≡ true)) }
     ensures script { IfOk result (λ e. Follows script.after_dot (of_bool e.1) (state p.old) (state p.new)) }
 {
     'fields: loop {
@@ -120,7 +125,8 @@ fn name_after_dot<G: Grammar>(
 ) -> Result<CompletedMarker, NoMemory>
     requires behind { Behind G.valid G.left g.now (state p.old) }
     requires newest { (state p.old).marker ≡ Some m.pos.value }
-    ensures closes { IfOk result (λ cm. Closes cm.kind.value recovery_events (state p.old) (state p.new) cm × (is_plain cm.kind.value ≡ true)) }
+    ensures closes { IfOk result
+        (λ cm. Closes cm.kind.value recovery_events (state p.old) (state p.new) cm × (is_plain cm.kind.value ≡ true)) }
     ensures script { OnOk result (Follows script.name_after_dot something (state p.old) (state p.new)) }
 {
     if is_method_call(p) {

@@ -27,7 +27,8 @@ pub fn record_expr_field_list<G: Grammar>(p: &mut Parser<'_>, g: &G) -> Result<(
     requires within { Within G.valid G.left g.now (state p.old) }
     requires here { next (state p.old) ≡ L_CURLY }
     ensures took { OnOk result (Took (state p.old) (state p.new) list_room) }
-    ensures one { OnOk result ((state p.new).forest ≡ node (state p.old).forest RECORD_EXPR_FIELD_LIST (last_children (state p.new).forest)) }
+    ensures one { OnOk result
+        ((state p.new).forest ≡ node (state p.old).forest RECORD_EXPR_FIELD_LIST (last_children (state p.new).forest)) }
     ensures script { OnOk result (Follows script.record_expr_field_list something (state p.old) (state p.new)) }
 {
     let m = p.start()?;

@@ -119,7 +119,8 @@ fn path<G: Grammar>(
     requires within { Within G.valid G.left g.now (state p.old) }
     ensures grew { OnOk result (Grew (state p.old) (state p.new) 8) }
     ensures took { OnOk result (is_path_start (state p.old).rest ≡ true → Took (state p.old) (state p.new) path_room) }
-    ensures some { IfOk result (λ o. IfSome o (λ cm. IsLast (state p.new) cm PATH × (but_last (state p.new).forest ≡ (state p.old).forest))) }
+    ensures some { IfOk result
+        (λ o. IfSome o (λ cm. IsLast (state p.new) cm PATH × (but_last (state p.new).forest ≡ (state p.old).forest))) }
     ensures script { IfOk result (λ o. Follows (paths_script.path mode) (of_option o) (state p.old) (state p.new)) }
 {
     let path = p.start()?;
@@ -176,8 +177,11 @@ fn path_segment<G: Grammar>(
 ) -> Result<Option<CompletedMarker>, NoMemory>
     requires within { Within G.valid G.left g.now (state p.old) }
     ensures grew { OnOk result (Grew (state p.old) (state p.new) 6) }
-    ensures some { IfOk result (λ o. IfSome o (λ cm. IsLast (state p.new) cm PATH_SEGMENT × (but_last (state p.new).forest ≡ (state p.old).forest))) }
-    ensures took { OnOk result (first ≡ true → is_path_start (state p.old).rest ≡ true → Took (state p.old) (state p.new) segment_room) }
+    ensures some { IfOk result
+        (λ o. IfSome o
+        (λ cm. IsLast (state p.new) cm PATH_SEGMENT × (but_last (state p.new).forest ≡ (state p.old).forest))) }
+    ensures took { OnOk result
+        (first ≡ true → is_path_start (state p.old).rest ≡ true → Took (state p.old) (state p.new) segment_room) }
     ensures script { IfOk result (λ o. Follows (paths_script.path_segment mode first) (of_option o) (state p.old) (state p.new)) }
 {
     let m = p.start()?;
@@ -272,7 +276,8 @@ fn missing_segment_name(
     requires newest { (state p.old).marker ≡ Some m.pos.value }
     ensures some { IfOk result (λ o. IfSome o (λ cm. Closes PATH_SEGMENT 4 (state p.old) (state p.new) cm)) }
     ensures none { IfOk result (λ o. o ≡ None → Dropped (state p.old) (state p.new) dropped_events) }
-    ensures script { IfOk result (λ o. Follows (paths_script.missing_segment_name mode empty) (of_option o) (state p.old) (state p.new)) }
+    ensures script { IfOk result
+        (λ o. Follows (paths_script.missing_segment_name mode empty) (of_option o) (state p.old) (state p.new)) }
 {
     let stopped = p.err_recover(
         "expected identifier, `self`, `super`, `crate`, or `Self`",

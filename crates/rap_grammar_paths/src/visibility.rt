@@ -27,7 +27,8 @@ pub fn opt_visibility<G: Grammar>(
     requires within { Within G.valid G.left g.now (state p.old) }
     ensures took { IfOk result (λ found. found ≡ true → Took (state p.old) (state p.new) list_room) }
     ensures stays { IfOk result (λ found. found ≡ false → state p.new ≡ state p.old) }
-    ensures script { IfOk result (λ found. Follows (script.opt_visibility in_tuple_field) (of_bool found) (state p.old) (state p.new)) }
+    ensures script { IfOk result
+        (λ found. Follows (script.opt_visibility in_tuple_field) (of_bool found) (state p.old) (state p.new)) }
 {
     if !p.at(T![pub]) {
         return Ok(false);
@@ -72,7 +73,8 @@ pub fn opt_visibility_inner<G: Grammar>(
     requires within { Within G.valid G.left g.now (state p.old) }
     ensures took { IfOk result (λ found. found ≡ true → Took (state p.old) (state p.new) list_room) }
     ensures stays { IfOk result (λ found. found ≡ false → state p.new ≡ state p.old) }
-    ensures script { IfOk result (λ found. Follows (script.opt_visibility_inner in_tuple_field) (of_bool found) (state p.old) (state p.new)) }
+    ensures script { IfOk result
+        (λ found. Follows (script.opt_visibility_inner in_tuple_field) (of_bool found) (state p.old) (state p.new)) }
 {
     if starts_restriction(p, in_tuple_field) {
         restriction(p, g)?;

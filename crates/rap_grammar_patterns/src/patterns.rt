@@ -571,7 +571,8 @@ fn tuple_patterns<G: Grammar>(
 ) -> Result<bool, NoMemory>
     requires behind { Behind G.valid G.left g.now (state p.old) }
     ensures grew { OnOk result (Grew (state p.old) (state p.new) 1) }
-    ensures script { IfOk result (λ parens. Follows (script.tuple_patterns is_tuple) (of_bool parens) (state p.old) (state p.new)) }
+    ensures script { IfOk result
+        (λ parens. Follows (script.tuple_patterns is_tuple) (of_bool parens) (state p.old) (state p.new)) }
 {
     let mut has_pat = false;
     'patterns: while !p.at(SyntaxKind::EOF) && !p.at(T![')']) {

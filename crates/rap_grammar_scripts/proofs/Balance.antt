@@ -29,7 +29,8 @@ one_wide k = wide (k == L_PAREN) (k == L_BRACK)
 -- from these tokens and this forest a script leads to those tokens and that forest, and the older forests stay
 abbrev pub Leads : Script Phrase → List Forest → List Record → Forest → List Record → Forest → Type 0
 Leads s b rs f l g =
-    Runs script_of s (record { rest = rs; forest = f; below = b }) (record { rest = l; forest = g; below = b }) something
+    Runs script_of s (record { rest = rs; forest = f; below = b })
+    (record { rest = l; forest = g; below = b }) something
 
 -- the tests of a turn: a closing bracket is one token, and no other token is one
 abbrev one_of_three : Bool → Bool → ℕ
@@ -94,7 +95,8 @@ by_partner {p = p} r = by_opening (next_kind p.rest == L_PAREN) (next_kind p.res
 
 -- a list in brackets, from what stands between them
 list_way : {a c : Record} (ks : List Record) (t : Forest) → ArePartners a c →
-    ((b : List Forest) (f : Forest) (l : List Record) → Leads (tokens_to (partner a.kind)) b (ks ++ c ∷ l) f (c ∷ l) (f ⧺ t)) →
+    ((b : List Forest) (f : Forest) (l : List Record) →
+    Leads (tokens_to (partner a.kind)) b (ks ++ c ∷ l) f (c ∷ l) (f ⧺ t)) →
     (b : List Forest) (f : Forest) (l : List Record) →
     Leads token_tree b (a ∷ (ks ++ c ∷ l)) f l (f ⧺ in_brackets a t c)
 list_way {a = a} {c = c} ks t p d b f l =
@@ -129,7 +131,13 @@ no_message : {ks : List Record} {t : Forest} → Balanced ks t → message_count
 no_message nothing_more = refl
 no_message (token_first {r = r} {t = t} n d) = omega (arith, message_count-⧺ (leaf none r.kind 1) t, no_message d)
 no_message (list_first {a = a} {c = c} {t = t} {u = u} p d x) =
-    omega (arith, message_count-⧺ (in_brackets a t c) u, message_count-⧺ (leaf none a.kind 1) t, no_message d, no_message x)
+    omega (
+      arith,
+      message_count-⧺ (in_brackets a t c) u,
+      message_count-⧺ (leaf none a.kind 1) t,
+      no_message d,
+      no_message x,
+    )
 
 -- so a list of balanced tokens in brackets becomes the node that nests as they do
 pub balanced_way : {a c : Record} {ks : List Record} {t : Forest} → ArePartners a c → Balanced ks t →
@@ -138,7 +146,8 @@ pub balanced_way : {a c : Record} {ks : List Record} {t : Forest} → ArePartner
 balanced_way {a = a} {c = c} {ks = ks} {t = t} p d b f l = list_way ks t p (between d a.kind c p.closes) b f l
 
 -- without a message
-pub balanced_clean : {ks : List Record} {t : Forest} (a c : Record) → Balanced ks t → message_count (in_brackets a t c) ≡ 0
+pub balanced_clean : {ks : List Record} {t : Forest} (a c : Record) → Balanced ks t →
+    message_count (in_brackets a t c) ≡ 0
 balanced_clean {t = t} a c d = omega (arith, message_count-⧺ (leaf none a.kind 1) t, no_message d)
 
 pub nests_as_brackets : {old new : State} {v : Outcome} → Follows token_tree v old new → NestsAsBrackets old new

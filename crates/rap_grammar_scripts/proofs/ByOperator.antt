@@ -28,6 +28,7 @@ by_one_of (op ∷ ops) h {p = p} some r =
 
 -- where it has a power, it is in the table
 pub operates : {P : Type 0} {script_of : P → Script P} (h : ℕ → Script P) {p q : Spot} {v : Outcome} →
-    0 < power (operator_at p.rest) → Runs script_of (h (operator_at p.rest)) p q v → Runs script_of (by_operator h) p q v
+    0 < power (operator_at p.rest) → Runs script_of (h (operator_at p.rest)) p q v →
+    Runs script_of (by_operator h) p q v
 unfolding by_operator
 operates h some r = by_one_of powers h some r

@@ -151,7 +151,9 @@ is_effect_block rs =
     (one_of (CONST_KW ∷ UNSAFE_KW ∷ ASYNC_KW ∷ GEN_KW ∷ []) (next_kind rs) && (kind_at rs 1 == L_CURLY))
     || (((next_kind rs == ASYNC_KW) && ((kind_at rs 1 == GEN_KW) && (kind_at rs 2 == L_CURLY)))
     || ((one_of (ASYNC_KW ∷ GEN_KW ∷ []) (next_kind rs) && ((kind_at rs 1 == MOVE_KW) && (kind_at rs 2 == L_CURLY)))
-    || ((next_kind rs == ASYNC_KW) && ((kind_at rs 1 == GEN_KW) && ((kind_at rs 2 == MOVE_KW) && (kind_at rs 3 == L_CURLY))))))
+    ||
+    ((next_kind rs == ASYNC_KW) &&
+    ((kind_at rs 1 == GEN_KW) && ((kind_at rs 2 == MOVE_KW) && (kind_at rs 3 == L_CURLY))))))
 
 -- what stands before the brace of such a block
 unfoldable pub effects : Script Phrase

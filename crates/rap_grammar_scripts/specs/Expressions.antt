@@ -52,7 +52,8 @@ bin_expr r op = precede ▸ token op ▸ recur (phrase.expr_bp false (operand_of
 -- nor, where no record literal may stand, a `{`.
 unfoldable pub has_range_end : Bool → List Record → Bool
 has_range_end forbid_structs rs =
-    is_expr_first (next_kind rs) && (not ((next_kind rs == DOT) && (kind_at rs 1 == IDENT)) && not (forbid_structs && (next_kind rs == L_CURLY)))
+    is_expr_first (next_kind rs) &&
+    (not ((next_kind rs == DOT) && (kind_at rs 1 == IDENT)) && not (forbid_structs && (next_kind rs == L_CURLY)))
 
 -- the dots of a range after its start, and whether an end followed
 unfoldable pub range_expr : Restrictions → ℕ → Script Phrase
@@ -88,7 +89,8 @@ ref_qualifier =
     (eat MUT_KW ▸ done)
 
 unfoldable pub ref_expr : Restrictions → Script Phrase
-ref_expr r = start ▸ token AMP ▸ call ref_qualifier ▸ recur (phrase.expr_bp false r prefix_power) ▸ finish REF_EXPR ▸ done
+ref_expr r =
+    start ▸ token AMP ▸ call ref_qualifier ▸ recur (phrase.expr_bp false r prefix_power) ▸ finish REF_EXPR ▸ done
 
 unfoldable pub prefix_expr : Restrictions → Script Phrase
 prefix_expr r = start ▸ any ▸ recur (phrase.expr_bp false r prefix_power) ▸ finish PREFIX_EXPR ▸ done
@@ -97,7 +99,8 @@ prefix_expr r = start ▸ any ▸ recur (phrase.expr_bp false r prefix_power) �
 unfoldable pub prefix_range : Restrictions → ℕ → Script Phrase
 prefix_range r op =
     start ▸ token op ▸
-    test (has_range_end r.forbid_structs) (recur (phrase.expr_bp false r 2) ▸ finish RANGE_EXPR ▸ done) (finish RANGE_EXPR ▸ done)
+    test (has_range_end r.forbid_structs) (recur (phrase.expr_bp false r 2) ▸ finish RANGE_EXPR ▸ done)
+    (finish RANGE_EXPR ▸ done)
 
 unfoldable pub arg_list : Script Phrase
 arg_list =
@@ -116,7 +119,8 @@ try_expr = precede ▸ token QUESTION ▸ finish TRY_EXPR ▸ done
 -- What stands behind a dot is called: a name before a `(` or `::`, or a `(` without a name.
 unfoldable pub is_method_call : List Record → Bool
 is_method_call rs =
-    (next_kind rs == L_PAREN) || (is_path_name (next_kind rs) && ((kind_at rs 1 == L_PAREN) || is_at COLON2 (drop 1 rs)))
+    (next_kind rs == L_PAREN) ||
+    (is_path_name (next_kind rs) && ((kind_at rs 1 == L_PAREN) || is_at COLON2 (drop 1 rs)))
 
 unfoldable pub method_arguments : Script Phrase
 method_arguments =

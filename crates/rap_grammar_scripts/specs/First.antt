@@ -19,7 +19,8 @@ is_path_name_or_index kind = is_path_name kind || one_of (INT_NUMBER ∷ []) kin
 
 -- a literal
 abbrev pub is_literal_first : ℕ → Bool
-is_literal_first kind = one_of (TRUE_KW ∷ FALSE_KW ∷ INT_NUMBER ∷ FLOAT_NUMBER ∷ BYTE ∷ CHAR ∷ STRING ∷ BYTE_STRING ∷ C_STRING ∷ []) kind
+is_literal_first kind =
+    one_of (TRUE_KW ∷ FALSE_KW ∷ INT_NUMBER ∷ FLOAT_NUMBER ∷ BYTE ∷ CHAR ∷ STRING ∷ BYTE_STRING ∷ C_STRING ∷ []) kind
 
 -- a path, by its first token alone: a `:` may be the first of `::`
 abbrev pub is_path_first : ℕ → Bool
@@ -28,7 +29,11 @@ is_path_first kind = one_of (IDENT ∷ SELF_KW ∷ SUPER_KW ∷ CRATE_KW ∷ SEL
 -- an expression without an operator before it, by its first token alone
 abbrev pub is_atom_expr_first : ℕ → Bool
 is_atom_expr_first kind =
-    (is_literal_first kind || is_path_first kind) || one_of (L_PAREN ∷ L_CURLY ∷ L_BRACK ∷ PIPE ∷ ASYNC_KW ∷ BREAK_KW ∷ CONST_KW ∷ CONTINUE_KW ∷ DO_KW ∷ GEN_KW ∷ FOR_KW ∷ IF_KW ∷ LET_KW ∷ LOOP_KW ∷ MATCH_KW ∷ MOVE_KW ∷ RETURN_KW ∷ BECOME_KW ∷ STATIC_KW ∷ TRY_KW ∷ UNSAFE_KW ∷ WHILE_KW ∷ YIELD_KW ∷ LIFETIME_IDENT ∷ []) kind
+    (is_literal_first kind || is_path_first kind) ||
+    one_of
+    (L_PAREN ∷ L_CURLY ∷ L_BRACK ∷ PIPE ∷ ASYNC_KW ∷ BREAK_KW ∷ CONST_KW ∷ CONTINUE_KW ∷ DO_KW ∷ GEN_KW ∷ FOR_KW ∷
+    IF_KW ∷ LET_KW ∷ LOOP_KW ∷ MATCH_KW ∷ MOVE_KW ∷ RETURN_KW ∷ BECOME_KW ∷ STATIC_KW ∷ TRY_KW ∷ UNSAFE_KW ∷
+    WHILE_KW ∷ YIELD_KW ∷ LIFETIME_IDENT ∷ []) kind
 
 -- an expression, by its first token alone: a `.` may be the first of `..`, and a `#` that of an attribute
 abbrev pub is_expr_first : ℕ → Bool
@@ -37,7 +42,10 @@ is_expr_first kind = is_atom_expr_first kind || one_of (AMP ∷ STAR ∷ BANG �
 -- a type, by its first token alone
 abbrev pub is_type_first : ℕ → Bool
 is_type_first kind =
-    is_path_first kind || one_of (L_PAREN ∷ L_BRACK ∷ BANG ∷ STAR ∷ AMP ∷ UNDERSCORE ∷ FN_KW ∷ UNSAFE_KW ∷ EXTERN_KW ∷ FOR_KW ∷ IMPL_KW ∷ DYN_KW ∷ LIFETIME_IDENT ∷ []) kind
+    is_path_first kind ||
+    one_of
+    (L_PAREN ∷ L_BRACK ∷ BANG ∷ STAR ∷ AMP ∷ UNDERSCORE ∷ FN_KW ∷ UNSAFE_KW ∷ EXTERN_KW ∷ FOR_KW ∷ IMPL_KW ∷
+    DYN_KW ∷ LIFETIME_IDENT ∷ []) kind
 
 -- a constant as an argument of something generic, by its first token: no name
 abbrev pub is_const_arg_first : ℕ → Bool
@@ -58,7 +66,9 @@ is_outer_attr_first kind = one_of (POUND ∷ OUTER_DOC_COMMENT ∷ []) kind
 -- a pattern without alternatives, by its first token alone
 abbrev pub is_pattern_first : ℕ → Bool
 is_pattern_first kind =
-    is_literal_first kind || is_path_first kind || one_of (BOX_KW ∷ REF_KW ∷ MUT_KW ∷ CONST_KW ∷ L_PAREN ∷ L_BRACK ∷ AMP ∷ UNDERSCORE ∷ MINUS ∷ DOT ∷ BANG ∷ []) kind
+    is_literal_first kind || is_path_first kind ||
+    one_of
+    (BOX_KW ∷ REF_KW ∷ MUT_KW ∷ CONST_KW ∷ L_PAREN ∷ L_BRACK ∷ AMP ∷ UNDERSCORE ∷ MINUS ∷ DOT ∷ BANG ∷ []) kind
 
 -- a pattern
 abbrev pub is_pat_top_first : ℕ → Bool
@@ -74,7 +84,8 @@ is_cfg_predicate_first kind = one_of (TRUE_KW ∷ FALSE_KW ∷ IDENT ∷ []) kin
 
 -- a path comes next that begins with a name or `::`
 abbrev pub is_use_path_start : List Record → Bool
-is_use_path_start rs = one_of (IDENT ∷ SELF_KW ∷ SUPER_KW ∷ CRATE_KW ∷ []) (next_kind rs) || begins_with (parts COLON2) rs
+is_use_path_start rs =
+    one_of (IDENT ∷ SELF_KW ∷ SUPER_KW ∷ CRATE_KW ∷ []) (next_kind rs) || begins_with (parts COLON2) rs
 
 -- a path comes next
 abbrev pub is_path_start : List Record → Bool
@@ -87,7 +98,8 @@ starts_expr_args rs = is_at COLON2 rs && is_at L_ANGLE (drop 2 rs)
 -- a closure comes next
 abbrev pub is_closure : List Record → Bool
 is_closure rs =
-    one_of (CONST_KW ∷ STATIC_KW ∷ ASYNC_KW ∷ MOVE_KW ∷ PIPE ∷ []) (next_kind rs) || ((next_kind rs == FOR_KW) && (kind_at rs 1 == L_ANGLE))
+    one_of (CONST_KW ∷ STATIC_KW ∷ ASYNC_KW ∷ MOVE_KW ∷ PIPE ∷ []) (next_kind rs) ||
+    ((next_kind rs == FOR_KW) && (kind_at rs 1 == L_ANGLE))
 
 -- a bracket that opens
 abbrev pub is_bracket : ℕ → Bool
@@ -100,7 +112,8 @@ is_fn_ptr_first kind = one_of (FN_KW ∷ UNSAFE_KW ∷ EXTERN_KW ∷ []) kind
 -- what may follow an identifier `dyn` that is read as the keyword
 abbrev pub is_weak_dyn_path_first : ℕ → Bool
 is_weak_dyn_path_first kind =
-    one_of (IDENT ∷ SELF_KW ∷ SUPER_KW ∷ CRATE_KW ∷ SELF_TYPE_KW ∷ LIFETIME_IDENT ∷ QUESTION ∷ FOR_KW ∷ L_PAREN ∷ []) kind
+    one_of
+    (IDENT ∷ SELF_KW ∷ SUPER_KW ∷ CRATE_KW ∷ SELF_TYPE_KW ∷ LIFETIME_IDENT ∷ QUESTION ∷ FOR_KW ∷ L_PAREN ∷ []) kind
 
 -- an identifier `dyn` before a bound comes next
 abbrev pub is_dyn_weak : List Record → Bool

@@ -29,7 +29,9 @@ either_of (again a b) w = something
 abbrev pub is_impl_restriction : List Record → Bool
 is_impl_restriction rs =
     is_at IMPL_KW rs && ((kind_at rs 1 == L_PAREN)
-    && ((one_of (CRATE_KW ∷ SUPER_KW ∷ SELF_KW ∷ []) (kind_at rs 2) && (kind_at rs 3 == R_PAREN)) || (kind_at rs 2 == IN_KW)))
+    &&
+    ((one_of (CRATE_KW ∷ SUPER_KW ∷ SELF_KW ∷ []) (kind_at rs 2) && (kind_at rs 3 == R_PAREN)) ||
+    (kind_at rs 2 == IN_KW)))
 
 unfoldable pub impl_restriction : Script Phrase
 impl_restriction =

@@ -86,7 +86,8 @@ segment_name m empty =
 -- the trait of a type anchor
 unfoldable pub anchor_trait : Script Phrase
 anchor_trait =
-    optional (is_at AS_KW) (token AS_KW ▸ test is_use_path_start path_type_bounds (report (codes "expected a trait") ▸ done))
+    optional (is_at AS_KW)
+    (token AS_KW ▸ test is_use_path_start path_type_bounds (report (codes "expected a trait") ▸ done))
 
 -- a type, and its trait, in the angle brackets that a path begins with
 unfoldable pub type_anchor : Script Phrase

@@ -16,7 +16,9 @@ stops_expr kind = one_of (EOF ∷ R_CURLY ∷ R_PAREN ∷ R_BRACK ∷ COMMA ∷ 
 -- the search for an item: what items begin with, and the semicolon after them
 abbrev pub is_item_recovery : ℕ → Bool
 is_item_recovery kind =
-    one_of (FN_KW ∷ STRUCT_KW ∷ ENUM_KW ∷ IMPL_KW ∷ TRAIT_KW ∷ CONST_KW ∷ ASYNC_KW ∷ UNSAFE_KW ∷ EXTERN_KW ∷ STATIC_KW ∷ LET_KW ∷ MOD_KW ∷ PUB_KW ∷ CRATE_KW ∷ USE_KW ∷ MACRO_KW ∷ SEMICOLON ∷ []) kind
+    one_of
+    (FN_KW ∷ STRUCT_KW ∷ ENUM_KW ∷ IMPL_KW ∷ TRAIT_KW ∷ CONST_KW ∷ ASYNC_KW ∷ UNSAFE_KW ∷ EXTERN_KW ∷ STATIC_KW ∷
+    LET_KW ∷ MOD_KW ∷ PUB_KW ∷ CRATE_KW ∷ USE_KW ∷ MACRO_KW ∷ SEMICOLON ∷ []) kind
 
 -- the search for a type
 abbrev pub is_type_recovery : ℕ → Bool
@@ -39,7 +41,9 @@ is_pattern_recovery kind =
 -- where a pattern that does not begin takes no token along
 abbrev pub stops_pattern : ℕ → Bool
 stops_pattern kind =
-    one_of (EOF ∷ LET_KW ∷ IF_KW ∷ WHILE_KW ∷ LOOP_KW ∷ MATCH_KW ∷ R_PAREN ∷ R_BRACK ∷ L_CURLY ∷ R_CURLY ∷ COMMA ∷ EQ ∷ []) kind
+    one_of
+    (EOF ∷ LET_KW ∷ IF_KW ∷ WHILE_KW ∷ LOOP_KW ∷ MATCH_KW ∷ R_PAREN ∷ R_BRACK ∷ L_CURLY ∷ R_CURLY ∷ COMMA ∷ EQ ∷ [])
+    kind
 
 -- the search for the pattern of an arm
 abbrev pub is_arm_recovery : ℕ → Bool

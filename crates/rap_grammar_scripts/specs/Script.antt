@@ -100,7 +100,8 @@ abbrev pub reported : List ℕ → Spot → Spot
 reported bytes p = record { rest = p.rest; forest = message p.forest bytes; below = p.below }
 
 abbrev pub skipped_over : List ℕ → Spot → Spot
-skipped_over bytes p = record { rest = drop 1 p.rest; forest = node p.forest ERROR (skipped p.rest bytes); below = p.below }
+skipped_over bytes p =
+    record { rest = drop 1 p.rest; forest = node p.forest ERROR (skipped p.rest bytes); below = p.below }
 
 abbrev pub started : Spot → Spot
 started p = record { rest = p.rest; forest = none; below = p.forest ∷ p.below }
@@ -113,14 +114,23 @@ finished kind p = record { rest = p.rest; forest = node (newest p.below) kind p.
 
 abbrev pub extended : Spot → Spot
 extended p =
-    record { rest = p.rest; forest = node (newest p.below) (last_kind p.forest) (but_last p.forest ⧺ last_children p.forest); below = drop 1 p.below }
+    record {
+      rest = p.rest;
+      forest = node (newest p.below) (last_kind p.forest) (but_last p.forest ⧺ last_children p.forest);
+      below =
+          drop 1 p.below;
+    }
 
 abbrev pub abandoned : Spot → Spot
 abandoned p = record { rest = p.rest; forest = newest p.below ⧺ p.forest; below = drop 1 p.below }
 
 abbrev pub split_apart : Bool → Spot → Spot
 split_apart ends_in_dot p =
-    record { rest = drop 1 p.rest; forest = node (newest p.below) FIELD_EXPR (split_children p.forest ends_in_dot); below = drop 1 p.below }
+    record {
+      rest = drop 1 p.rest;
+      forest = node (newest p.below) FIELD_EXPR (split_children p.forest ends_in_dot);
+      below = drop 1 p.below;
+    }
 
 -- whether a loop goes on
 abbrev pub goes_on : Outcome → Bool
@@ -132,24 +142,45 @@ goes_on (again a b) = true
 -- By the scripts of all rules, a script leads from here to there and ends with this outcome.
 pub data Runs {P : Type 0} (script_of : P → Script P) : Script P → Spot → Spot → Outcome → Type 0 where
   gives : {v : Outcome} {p : Spot} → Runs script_of (give v) p p v
-  passes : {h : List Record → Bool} {s t : Script P} {p q : Spot} {v : Outcome} → h p.rest ≡ true → Runs script_of s p q v → Runs script_of (test h s t) p q v
-  fails : {h : List Record → Bool} {s t : Script P} {p q : Spot} {v : Outcome} → h p.rest ≡ false → Runs script_of t p q v → Runs script_of (test h s t) p q v
-  ends_so : {k : ℕ} {s t : Script P} {p q : Spot} {v : Outcome} → (last_taken_at p == k) ≡ true → Runs script_of s p q v → Runs script_of (ends_with k s t) p q v
-  ends_else : {k : ℕ} {s t : Script P} {p q : Spot} {v : Outcome} → (last_taken_at p == k) ≡ false → Runs script_of t p q v → Runs script_of (ends_with k s t) p q v
-  takes : {k : ℕ} {s : Script P} {p q : Spot} {v : Outcome} → is_at k p.rest ≡ true → Runs script_of s (taken k (width k) p) q v → Runs script_of (token k s) p q v
-  takes_any : {s : Script P} {p q : Spot} {v : Outcome} → next_kind p.rest ≢ EOF → Runs script_of s (taken (next_kind p.rest) 1 p) q v → Runs script_of (any s) p q v
-  bears : {k : ℕ} {s : Script P} {p q : Spot} {v : Outcome} → first_may_bear p.rest k ≡ true → Runs script_of s (taken k 1 p) q v → Runs script_of (bear k s) p q v
-  reports : {bytes : List ℕ} {s : Script P} {p q : Spot} {v : Outcome} → Runs script_of s (reported bytes p) q v → Runs script_of (report bytes s) p q v
-  reports_next : {bytes : List ℕ} {s : Script P} {p q : Spot} {v : Outcome} → Runs script_of s (reported (with_kind bytes (next_kind p.rest)) p) q v → Runs script_of (report_next bytes s) p q v
-  skips : {bytes : List ℕ} {s : Script P} {p q : Spot} {v : Outcome} → Runs script_of s (skipped_over bytes p) q v → Runs script_of (skip bytes s) p q v
+  passes : {h : List Record → Bool} {s t : Script P} {p q : Spot} {v : Outcome} → h p.rest ≡ true →
+      Runs script_of s p q v → Runs script_of (test h s t) p q v
+  fails : {h : List Record → Bool} {s t : Script P} {p q : Spot} {v : Outcome} → h p.rest ≡ false →
+      Runs script_of t p q v → Runs script_of (test h s t) p q v
+  ends_so : {k : ℕ} {s t : Script P} {p q : Spot} {v : Outcome} → (last_taken_at p == k) ≡ true →
+      Runs script_of s p q v → Runs script_of (ends_with k s t) p q v
+  ends_else : {k : ℕ} {s t : Script P} {p q : Spot} {v : Outcome} → (last_taken_at p == k) ≡ false →
+      Runs script_of t p q v → Runs script_of (ends_with k s t) p q v
+  takes : {k : ℕ} {s : Script P} {p q : Spot} {v : Outcome} → is_at k p.rest ≡ true →
+      Runs script_of s (taken k (width k) p) q v → Runs script_of (token k s) p q v
+  takes_any : {s : Script P} {p q : Spot} {v : Outcome} → next_kind p.rest ≢ EOF →
+      Runs script_of s (taken (next_kind p.rest) 1 p) q v → Runs script_of (any s) p q v
+  bears : {k : ℕ} {s : Script P} {p q : Spot} {v : Outcome} → first_may_bear p.rest k ≡ true →
+      Runs script_of s (taken k 1 p) q v → Runs script_of (bear k s) p q v
+  reports : {bytes : List ℕ} {s : Script P} {p q : Spot} {v : Outcome} → Runs script_of s (reported bytes p) q v →
+      Runs script_of (report bytes s) p q v
+  reports_next : {bytes : List ℕ} {s : Script P} {p q : Spot} {v : Outcome} →
+      Runs script_of s (reported (with_kind bytes (next_kind p.rest)) p) q v →
+      Runs script_of (report_next bytes s) p q v
+  skips : {bytes : List ℕ} {s : Script P} {p q : Spot} {v : Outcome} → Runs script_of s (skipped_over bytes p) q v →
+      Runs script_of (skip bytes s) p q v
   starts : {s : Script P} {p q : Spot} {v : Outcome} → Runs script_of s (started p) q v → Runs script_of (start s) p q v
-  precedes : {s : Script P} {p q : Spot} {v : Outcome} → Runs script_of s (preceded p) q v → Runs script_of (precede s) p q v
-  finishes : {k : ℕ} {s : Script P} {p q : Spot} {v : Outcome} → Runs script_of s (finished k p) q v → Runs script_of (finish k s) p q v
-  extends : {s : Script P} {p q : Spot} {v : Outcome} → Runs script_of s (extended p) q v → Runs script_of (extend s) p q v
-  abandons : {s : Script P} {p q : Spot} {v : Outcome} → Runs script_of s (abandoned p) q v → Runs script_of (abandon s) p q v
-  splits_dotted : {s t : Script P} {p q : Spot} {v : Outcome} → next_kind p.rest ≡ FLOAT_NUMBER → joint_at p.rest 0 ≡ false → Runs script_of s (split_apart true p) q v → Runs script_of (split_float s t) p q v
-  splits_whole : {s t : Script P} {p q : Spot} {v : Outcome} → next_kind p.rest ≡ FLOAT_NUMBER → joint_at p.rest 0 ≡ true → Runs script_of t (split_apart false p) q v → Runs script_of (split_float s t) p q v
-  follows : {s : Script P} {n : Outcome → Script P} {p r q : Spot} {w v : Outcome} → Runs script_of s p r w → Runs script_of (n w) r q v → Runs script_of (after s n) p q v
-  obeys : {c : P} {n : Outcome → Script P} {p r q : Spot} {w v : Outcome} → Runs script_of (script_of c) p r w → Runs script_of (n w) r q v → Runs script_of (rule c n) p q v
-  turns : {h : Bool → Bool → Script P} {a b c d : Bool} {p r q : Spot} {v : Outcome} → Runs script_of (h a b) p r (again c d) → Runs script_of (loop h c d) r q v → Runs script_of (loop h a b) p q v
-  stops : {h : Bool → Bool → Script P} {a b : Bool} {p q : Spot} {v : Outcome} → Runs script_of (h a b) p q v → goes_on v ≡ false → Runs script_of (loop h a b) p q v
+  precedes : {s : Script P} {p q : Spot} {v : Outcome} → Runs script_of s (preceded p) q v →
+      Runs script_of (precede s) p q v
+  finishes : {k : ℕ} {s : Script P} {p q : Spot} {v : Outcome} → Runs script_of s (finished k p) q v →
+      Runs script_of (finish k s) p q v
+  extends : {s : Script P} {p q : Spot} {v : Outcome} → Runs script_of s (extended p) q v →
+      Runs script_of (extend s) p q v
+  abandons : {s : Script P} {p q : Spot} {v : Outcome} → Runs script_of s (abandoned p) q v →
+      Runs script_of (abandon s) p q v
+  splits_dotted : {s t : Script P} {p q : Spot} {v : Outcome} → next_kind p.rest ≡ FLOAT_NUMBER →
+      joint_at p.rest 0 ≡ false → Runs script_of s (split_apart true p) q v → Runs script_of (split_float s t) p q v
+  splits_whole : {s t : Script P} {p q : Spot} {v : Outcome} → next_kind p.rest ≡ FLOAT_NUMBER →
+      joint_at p.rest 0 ≡ true → Runs script_of t (split_apart false p) q v → Runs script_of (split_float s t) p q v
+  follows : {s : Script P} {n : Outcome → Script P} {p r q : Spot} {w v : Outcome} → Runs script_of s p r w →
+      Runs script_of (n w) r q v → Runs script_of (after s n) p q v
+  obeys : {c : P} {n : Outcome → Script P} {p r q : Spot} {w v : Outcome} → Runs script_of (script_of c) p r w →
+      Runs script_of (n w) r q v → Runs script_of (rule c n) p q v
+  turns : {h : Bool → Bool → Script P} {a b c d : Bool} {p r q : Spot} {v : Outcome} →
+      Runs script_of (h a b) p r (again c d) → Runs script_of (loop h c d) r q v → Runs script_of (loop h a b) p q v
+  stops : {h : Bool → Bool → Script P} {a b : Bool} {p q : Spot} {v : Outcome} → Runs script_of (h a b) p q v →
+      goes_on v ≡ false → Runs script_of (loop h a b) p q v

@@ -51,7 +51,9 @@ trait_ =
 -- Behind an `impl`, a `<` begins parameters, and no type. Where both may be meant, as in `<T> ::a`, it is parameters.
 abbrev pub not_a_qualified_path : List Record → Bool
 not_a_qualified_path rs =
-    one_of (POUND ∷ R_ANGLE ∷ CONST_KW ∷ []) (kind_at rs 1) || (one_of (LIFETIME_IDENT ∷ IDENT ∷ []) (kind_at rs 1) && one_of (R_ANGLE ∷ COMMA ∷ COLON ∷ EQ ∷ []) (kind_at rs 2))
+    one_of (POUND ∷ R_ANGLE ∷ CONST_KW ∷ []) (kind_at rs 1) ||
+    (one_of (LIFETIME_IDENT ∷ IDENT ∷ []) (kind_at rs 1) &&
+    one_of (R_ANGLE ∷ COMMA ∷ COLON ∷ EQ ∷ []) (kind_at rs 2))
 
 abbrev pub is_impl_params_start : List Record → Bool
 is_impl_params_start rs = is_at L_ANGLE rs && not_a_qualified_path rs

@@ -75,7 +75,9 @@ expect kind s = test (is_at kind) (token kind s) (report (expected kind) s)
 
 -- a message before a brace or a token that is kept, and else with the next token in an `ERROR`; and on, by one way or the other
 abbrev pub recover : {P : Type 0} → List ℕ → (ℕ → Bool) → Script P → Script P → Script P
-recover bytes kept s t = test (λ rs. (next_kind rs == L_CURLY) || ((next_kind rs == R_CURLY) || kept (next_kind rs))) (report bytes s) (skip bytes t)
+recover bytes kept s t =
+    test (λ rs. (next_kind rs == L_CURLY) || ((next_kind rs == R_CURLY) || kept (next_kind rs))) (report bytes s)
+    (skip bytes t)
 
 -- the outcome of an option and of a truth value
 abbrev pub of_option : {A : Type 0} → Option A → Outcome

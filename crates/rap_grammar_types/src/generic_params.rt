@@ -461,7 +461,8 @@ fn after_predicate(p: &mut Parser<'_>) -> Result<bool, NoMemory>
 fn where_predicate<G: Grammar>(p: &mut Parser<'_>, g: &G) -> Result<(), NoMemory>
     requires behind { Behind G.valid G.left g.now (state p.old) }
     ensures grew { OnOk result (Grew (state p.old) (state p.new) 16) }
-    ensures took { OnOk result (is_where_predicate_first (next (state p.old)) ≡ true → Took (state p.old) (state p.new) element_room) }
+    ensures took { OnOk result
+        (is_where_predicate_first (next (state p.old)) ≡ true → Took (state p.old) (state p.new) element_room) }
     ensures script { OnOk result (Follows script.where_predicate something (state p.old) (state p.new)) }
 {
     let m = p.start()?;

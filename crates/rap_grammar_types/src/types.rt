@@ -311,7 +311,9 @@ fn fn_ptr_type<G: Grammar>(p: &mut Parser<'_>, g: &G) -> Result<(), NoMemory>
 /// What stands before the `fn` of a function pointer, as `unsafe extern "C"`.
 fn fn_qualifiers(p: &mut Parser<'_>) -> Result<(), NoMemory>
     ensures grew { OnOk result (Grew (state p.old) (state p.new) 0) }
-    ensures took { OnOk result (is_fn_ptr_first (next (state p.old)) ≡ true → next (state p.new) ≢ FN_KW → Took (state p.old) (state p.new) name_room) }
+    ensures took { OnOk result
+        (is_fn_ptr_first (next (state p.old)) ≡ true → next (state p.new) ≢ FN_KW →
+        Took (state p.old) (state p.new) name_room) }
     ensures script { OnOk result (Follows script.fn_qualifiers something (state p.old) (state p.new)) }
 {
     p.eat(T![unsafe])?;

@@ -57,7 +57,9 @@ pub enum Part {
 fn run_part(p: &mut Parser<'_>, part: Part) -> Result<(), NoMemory>
     requires brace { asks_brace part ≡ true → next (state p.old) ≡ L_CURLY }
     ensures grew { OnOk result (Grew (state p.old) (state p.new) 8) }
-    ensures one { OnOk result (in_braces part ≡ true → next (state p.old) ≡ L_CURLY → (state p.new).forest ≡ node (state p.old).forest (part_kind part) (last_children (state p.new).forest)) }
+    ensures one { OnOk result
+        (in_braces part ≡ true → next (state p.old) ≡ L_CURLY →
+        (state p.new).forest ≡ node (state p.old).forest (part_kind part) (last_children (state p.new).forest)) }
     ensures script { OnOk result (Goes (part_script part) (state p.old) (state p.new)) }
 {
     let left = p.left();
@@ -128,7 +130,8 @@ pub fn parse_part(alloc: Global, input: &Input, part: Part) -> Result<Output, No
     requires brace { asks_brace part ≡ true → next_kind input.now ≡ L_CURLY }
     ensures prefix { IfOk result (IsPrefixOver input.now) }
     ensures script { IfOk result (IsPrefixOf (part_script part) input.now) }
-    ensures one { IfOk result (λ output. in_braces part ≡ true → next_kind input.now ≡ L_CURLY → IsOneNode (part_kind part) output) }
+    ensures one { IfOk result
+        (λ output. in_braces part ≡ true → next_kind input.now ≡ L_CURLY → IsOneNode (part_kind part) output) }
 {
     let mut p = Parser::new(alloc, input);
     run_part(&mut p, part)?;

@@ -197,7 +197,9 @@ fn path_expr<G: Grammar>(
 fn tuple_expr<G: Grammar>(p: &mut Parser<'_>, g: &G) -> Result<CompletedMarker, NoMemory>
     requires within { Within G.valid G.left g.now (state p.old) }
     requires here { next (state p.old) ≡ L_PAREN }
-    ensures made { IfOk result (λ cm. Made (state p.old) (state p.new) cm atom_room × ((cm.kind.value ≡ PAREN_EXPR) ⊎ (cm.kind.value ≡ TUPLE_EXPR))) }
+    ensures made { IfOk result
+        (λ cm. Made (state p.old) (state p.new) cm atom_room ×
+        ((cm.kind.value ≡ PAREN_EXPR) ⊎ (cm.kind.value ≡ TUPLE_EXPR))) }
     ensures script { OnOk result (Follows script.tuple_expr something (state p.old) (state p.new)) }
 {
     let m = p.start()?;
@@ -287,7 +289,8 @@ fn after_element(
 ) -> Result<Option<bool>, NoMemory>
     ensures grew { OnOk result (Grew (state p.old) (state p.new) 1) }
     ensures on { IfOk result (λ o. IfSome o (λ semi. Grew (state p.old) (state p.new) 0)) }
-    ensures script { IfOk result (λ o. Follows (script.after_element is_first has_semi) (script.of_semi o) (state p.old) (state p.new)) }
+    ensures script { IfOk result
+        (λ o. Follows (script.after_element is_first has_semi) (script.of_semi o) (state p.old) (state p.new)) }
 {
     if is_first && p.at(T![;]) {
         p.bump(T![;])?;

@@ -14,17 +14,21 @@ returns-clause-top c =
 pub returns-clause-used : goal.returns-clause-used
 returns-clause-used c =
     let all : used c.in_ok-output-2.output ≡ length (state c.args.p).input =
-    all_used (state c.args.p) _ c.in_ok-output-2.output c.in_ok-output-2.ensures.used c.in_ok-abandon.ensures.state (left-none c.args.p (c.current.ensures.end (search rules))) in
+    all_used (state c.args.p) _ c.in_ok-output-2.output c.in_ok-output-2.ensures.used c.in_ok-abandon.ensures.state
+    (left-none c.args.p (c.current.ensures.end (search rules))) in
     omega (arith, ap used c.in_ok-output-3.ensures)
 
 pub returns-clause-few : goal.returns-clause-few
 returns-clause-few c =
     let n = length-flat-node ERROR c.in_ok-output-2.output in
-    rw c.in_ok-output-3.ensures (omega (arith, n, c.in_ok-output-2.ensures.few, c.in_ok-abandon.ensures.state.recorded.count))
+    rw c.in_ok-output-3.ensures
+    (omega (arith, n, c.in_ok-output-2.ensures.few, c.in_ok-abandon.ensures.state.recorded.count))
 
 pub returns-clause-fit : goal.returns-clause-fit
-returns-clause-fit c = fit_in_error c.in_ok-output-2.output c.in_ok-output-3.output c.in_ok-output-3.ensures c.in_ok-output-2.ensures.fit
+returns-clause-fit c =
+    fit_in_error c.in_ok-output-2.output c.in_ok-output-3.output c.in_ok-output-3.ensures c.in_ok-output-2.ensures.fit
 
 pub returns-then-is_one_tree-clause-used : goal.returns-then-is_one_tree-clause-used
 returns-then-is_one_tree-clause-used c =
-    all_used (state c.args.p) _ c.in_ok-output-2.output c.in_ok-output-2.ensures.used c.in_ok-abandon.ensures.state (left-none c.args.p (c.current.ensures.end (search rules)))
+    all_used (state c.args.p) _ c.in_ok-output-2.output c.in_ok-output-2.ensures.used c.in_ok-abandon.ensures.state
+    (left-none c.args.p (c.current.ensures.end (search rules)))

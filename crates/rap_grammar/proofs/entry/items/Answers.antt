@@ -11,14 +11,20 @@ pub items-preserved : goal.items-preserved
 unfolding script_of
 items-preserved c = record {
   grew = search rules;
-  script = turn c.items.invariant.script (fails (search rules) (fails (and_false _) (by_part (phrase.item_or_macro false true) c.in_ok-run.ensures.1 gives)));
+  script =
+      turn c.items.invariant.script
+      (fails (search rules)
+      (fails (and_false _) (by_part (phrase.item_or_macro false true) c.in_ok-run.ensures.1 gives)));
 }
 
 pub items-preserved-in_ok-run : goal.items-preserved-in_ok-run
 unfolding script_of
 items-preserved-in_ok-run c = record {
   grew = search rules;
-  script = turn c.items.invariant.script (fails (search rules) (fails (and_false _) (by_part (phrase.item_or_macro false true) c.in_ok-run.ensures.1 gives)));
+  script =
+      turn c.items.invariant.script
+      (fails (search rules)
+      (fails (and_false _) (by_part (phrase.item_or_macro false true) c.in_ok-run.ensures.1 gives)));
 }
 
 pub returns-clause-rest : goal.returns-clause-rest

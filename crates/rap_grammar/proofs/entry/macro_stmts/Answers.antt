@@ -11,14 +11,18 @@ pub statements-preserved : goal.statements-preserved
 unfolding script_of
 statements-preserved c = record {
   grew = search rules;
-  script = turn c.statements.invariant.script (fails (search rules) (by_part (phrase.stmt semicolon.Optional) c.in_ok-run.ensures.1 gives));
+  script =
+      turn c.statements.invariant.script
+      (fails (search rules) (by_part (phrase.stmt semicolon.Optional) c.in_ok-run.ensures.1 gives));
 }
 
 pub statements-preserved-in_ok-run : goal.statements-preserved-in_ok-run
 unfolding script_of
 statements-preserved-in_ok-run c = record {
   grew = search rules;
-  script = turn c.statements.invariant.script (fails (search rules) (by_part (phrase.stmt semicolon.Optional) c.in_ok-run.ensures.1 gives));
+  script =
+      turn c.statements.invariant.script
+      (fails (search rules) (by_part (phrase.stmt semicolon.Optional) c.in_ok-run.ensures.1 gives));
 }
 
 pub returns-clause-rest : goal.returns-clause-rest

@@ -24,5 +24,6 @@ pub returns-clause-script : goal.returns-clause-script
 unfolding expr_as_stmt
 returns-clause-script g c = record {
   run = passes (search rules)
-      (from_expr c.in-Some.block_like c.args.semicolon (rw c.in-Some.is at c.in_ok-cm.ensures.script) (to_end c.in_ok-expr_stmt_end.ensures.script));
+      (from_expr c.in-Some.block_like c.args.semicolon (rw c.in-Some.is at c.in_ok-cm.ensures.script)
+      (to_end c.in_ok-expr_stmt_end.ensures.script));
 }

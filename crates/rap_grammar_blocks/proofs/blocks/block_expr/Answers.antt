@@ -6,7 +6,8 @@ use Rattle.rap_grammar_blocks.proofs.blocks.block_expr.Goals as goal
 
 pub returns-then-not-at-clause-script : goal.returns-then-not-at-clause-script
 unfolding block_expr
-returns-then-not-at-clause-script g c = record { run = else_by c.at.ensures c.if-not-at.true (by_report c.in_ok-error.ensures.state gives) }
+returns-then-not-at-clause-script g c =
+    record { run = else_by c.at.ensures c.if-not-at.true (by_report c.in_ok-error.ensures.state gives) }
 
 pub returns-clause-script : goal.returns-clause-script
 unfolding block_expr

@@ -6,4 +6,5 @@ use Rattle.rap_grammar_blocks.proofs.blocks.expr_block_contents.Goals as goal
 
 pub returns-clause-script : goal.returns-clause-script
 unfolding expr_block_contents
-returns-clause-script g c = record { run = by_rule c.in_ok-inner_attrs.ensures.script (to_end c.in_ok-statements.ensures.script) }
+returns-clause-script g c =
+    record { run = by_rule c.in_ok-inner_attrs.ensures.script (to_end c.in_ok-statements.ensures.script) }

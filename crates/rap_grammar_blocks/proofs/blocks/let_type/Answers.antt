@@ -9,4 +9,5 @@ returns-then-not-at-clause-script g c = record { run = else_by c.at.ensures c.if
 
 pub returns-clause-script : goal.returns-clause-script
 unfolding let_type
-returns-clause-script g c = record { run = then_by c.at.ensures c.if-not-at.false (by_rule c.in_ok-ascription.ensures.script gives) }
+returns-clause-script g c =
+    record { run = then_by c.at.ensures c.if-not-at.false (by_rule c.in_ok-ascription.ensures.script gives) }

@@ -5,8 +5,10 @@ use Rattle.rap_grammar_blocks.proofs.blocks.let_value.Goals as goal
 
 pub returns-then-not-branch-clause-script : goal.returns-then-not-branch-clause-script
 unfolding let_value
-returns-then-not-branch-clause-script g c = record { run = not_ate c.in_ok-eat.ensures.state c.if-not-branch.true gives }
+returns-then-not-branch-clause-script g c =
+    record { run = not_ate c.in_ok-eat.ensures.state c.if-not-branch.true gives }
 
 pub returns-clause-script : goal.returns-clause-script
 unfolding let_value
-returns-clause-script g c = record { run = ate c.in_ok-eat.ensures.state c.if-not-branch.false (by_rule c.in_ok-value.ensures.script gives) }
+returns-clause-script g c =
+    record { run = ate c.in_ok-eat.ensures.state c.if-not-branch.false (by_rule c.in_ok-value.ensures.script gives) }

@@ -19,7 +19,9 @@ returns-then-branch-clause-script g c = record {
   run = by_rule c.in_ok-parse_reg.ensures.script
       (by_start c.in_ok-op_expr.ensures.state
       (by_rule c.in_ok-expr.ensures.script
-      (rw c.if-not-goes_both_ways.false (ate c.in_ok-eat.ensures.state c.if-branch.true (by_rule c.in_ok-expr-2.ensures.script (by_complete c.in_ok-complete-2.ensures.state.0 gives))))));
+      (rw c.if-not-goes_both_ways.false
+      (ate c.in_ok-eat.ensures.state c.if-branch.true
+      (by_rule c.in_ok-expr-2.ensures.script (by_complete c.in_ok-complete-2.ensures.state.0 gives))))));
 }
 
 pub returns-clause-script : goal.returns-clause-script
@@ -28,5 +30,7 @@ returns-clause-script g c = record {
   run = by_rule c.in_ok-parse_reg.ensures.script
       (by_start c.in_ok-op_expr.ensures.state
       (by_rule c.in_ok-expr.ensures.script
-      (rw c.if-not-goes_both_ways.false (not_ate c.in_ok-eat.ensures.state c.if-branch.false (by_complete c.in_ok-complete-3.ensures.state.0 gives)))));
+      (rw c.if-not-goes_both_ways.false
+      (not_ate c.in_ok-eat.ensures.state c.if-branch.false
+      (by_complete c.in_ok-complete-3.ensures.state.0 gives)))));
 }

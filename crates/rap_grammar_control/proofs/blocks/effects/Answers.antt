@@ -8,7 +8,8 @@ pub bump_any-requires : goal.bump_any-requires
 bump_any-requires c = some_first _ c.requires.starts
 
 pub returns-clause-here : goal.returns-clause-here
-returns-clause-here c = brace_next c.requires.starts c.in_ok-bump_any.ensures.state c.in_ok-eat.ensures.state c.in_ok-eat-2.ensures.state
+returns-clause-here c =
+    brace_next c.requires.starts c.in_ok-bump_any.ensures.state c.in_ok-eat.ensures.state c.in_ok-eat-2.ensures.state
 
 pub returns-clause-script : goal.returns-clause-script
 unfolding effects

@@ -7,9 +7,12 @@ use Rattle.rap_grammar_control.proofs.closures.closing_angles.Goals as goal
 pub angles-preserved : goal.angles-preserved
 angles-preserved c = record {
   grew = search rules;
-  script = turn c.angles.invariant.script (then_by c.at.ensures c.angles-test.true (by_skip c.in_ok-err_and_bump.ensures.state gives));
+  script =
+      turn c.angles.invariant.script
+      (then_by c.at.ensures c.angles-test.true (by_skip c.in_ok-err_and_bump.ensures.state gives));
 }
 
 pub returns-clause-script : goal.returns-clause-script
 unfolding closing_angles
-returns-clause-script c = record { run = last_turn c.angles.invariant.script (else_by c.at.ensures c.angles-test.false gives) refl }
+returns-clause-script c =
+    record { run = last_turn c.angles.invariant.script (else_by c.at.ensures c.angles-test.false gives) refl }

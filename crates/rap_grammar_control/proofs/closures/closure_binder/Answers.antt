@@ -10,4 +10,5 @@ returns-then-not-at-clause-script g c = record { run = else_by c.at.ensures c.if
 
 pub returns-clause-script : goal.returns-clause-script
 unfolding closure_binder
-returns-clause-script g c = record { run = then_by c.at.ensures c.if-not-at.false (to_end c.in_ok-for_binder.ensures.script) }
+returns-clause-script g c =
+    record { run = then_by c.at.ensures c.if-not-at.false (to_end c.in_ok-for_binder.ensures.script) }

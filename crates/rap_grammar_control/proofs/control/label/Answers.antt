@@ -12,8 +12,10 @@ use Rattle.rap_grammar_frame.proofs.Steps.{by_start, by_rule, by_bump, by_comple
 use Rattle.rap_grammar_control.proofs.control.label.Goals as goal
 
 -- behind the lifetime comes the colon that was seen
-colon_left : {s t u : State} {m : ℕ} → Opened s t m → Follows lifetime something t u → NthAt s 1 COLON → is_at COLON u.rest ≡ true
-colon_left o h e = ap (λ (x : List Record). is_at COLON x) (past_lifetime h ∙ ap (λ (x : List Record). drop 1 x) o.recorded.rest) ∙ e
+colon_left : {s t u : State} {m : ℕ} → Opened s t m → Follows lifetime something t u → NthAt s 1 COLON →
+    is_at COLON u.rest ≡ true
+colon_left o h e =
+    ap (λ (x : List Record). is_at COLON x) (past_lifetime h ∙ ap (λ (x : List Record). drop 1 x) o.recorded.rest) ∙ e
 
 pub bump-requires-clause-here : goal.bump-requires-clause-here
 bump-requires-clause-here c = colon_left c.in_ok-m.ensures.state c.in_ok-lifetime.ensures.script c.requires.colon
@@ -23,6 +25,8 @@ unfolding label
 returns-clause-script c = record {
   run = by_start c.in_ok-m.ensures.state
       (by_rule c.in_ok-lifetime.ensures.script
-      (by_bump (colon_left c.in_ok-m.ensures.state c.in_ok-lifetime.ensures.script c.requires.colon) c.in_ok-bump.ensures.state
+      (by_bump
+      (colon_left c.in_ok-m.ensures.state c.in_ok-lifetime.ensures.script c.requires.colon)
+      c.in_ok-bump.ensures.state
       (by_complete c.in_ok-complete.ensures.state.0 gives)));
 }

@@ -19,16 +19,20 @@ dropped r m = record {
 
 pub returns-in_ok-loop_from-clause-script : goal.returns-in_ok-loop_from-clause-script
 unfolding labelled_from
-returns-in_ok-loop_from-clause-script g c = record { run = passes (search rules) (by_rule c.in_ok-loop_from.ensures.script gives) }
+returns-in_ok-loop_from-clause-script g c =
+    record { run = passes (search rules) (by_rule c.in_ok-loop_from.ensures.script gives) }
 
 pub returns-in_ok-for_from-clause-script : goal.returns-in_ok-for_from-clause-script
 unfolding labelled_from
-returns-in_ok-for_from-clause-script g c = record { run = fails (search rules) (passes (search rules) (by_rule c.in_ok-for_from.ensures.script gives)) }
+returns-in_ok-for_from-clause-script g c =
+    record { run = fails (search rules) (passes (search rules) (by_rule c.in_ok-for_from.ensures.script gives)) }
 
 pub returns-in_ok-while_from-clause-script : goal.returns-in_ok-while_from-clause-script
 unfolding labelled_from
 returns-in_ok-while_from-clause-script g c = record {
-  run = fails (search rules) (fails (search rules) (passes (search rules) (by_rule c.in_ok-while_from.ensures.script gives)));
+  run =
+      fails (search rules)
+      (fails (search rules) (passes (search rules) (by_rule c.in_ok-while_from.ensures.script gives)));
 }
 
 pub returns-in_ok-cm-clause-script : goal.returns-in_ok-cm-clause-script
@@ -48,4 +52,5 @@ returns-in_ok-complete-in_default-clause-script g c = record {
 }
 
 pub returns-in_ok-complete-in_default-clause-operand : goal.returns-in_ok-complete-in_default-clause-operand
-returns-in_ok-complete-in_default-clause-operand g c = dropped c.in_ok-error-in_default.ensures.state c.in_ok-complete-in_default.ensures.state.0
+returns-in_ok-complete-in_default-clause-operand g c =
+    dropped c.in_ok-error-in_default.ensures.state c.in_ok-complete-in_default.ensures.state.0

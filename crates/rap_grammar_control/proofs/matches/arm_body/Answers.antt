@@ -6,7 +6,8 @@ use Rattle.rap_grammar_control.proofs.matches.arm_body.Goals as goal
 
 pub returns-then-branch-clause-script : goal.returns-then-branch-clause-script
 unfolding arm_body
-returns-then-branch-clause-script g c = record { run = ate c.in_ok-eat.ensures.state c.if-branch.true (by_report c.in_ok-error.ensures.state gives) }
+returns-then-branch-clause-script g c =
+    record { run = ate c.in_ok-eat.ensures.state c.if-branch.true (by_report c.in_ok-error.ensures.state gives) }
 
 pub returns-in_default-clause-script : goal.returns-in_default-clause-script
 unfolding arm_body

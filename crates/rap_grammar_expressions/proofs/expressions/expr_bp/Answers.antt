@@ -16,7 +16,8 @@ returns-in_ok-expr-in-Some-clause-answered g c =
 
 pub returns-in_ok-expr-in-Some-clause-script : goal.returns-in_ok-expr-in-Some-clause-script
 unfolding expr_bp
-returns-in_ok-expr-in-Some-clause-script g c = rw c.in-Some.is (record { run = to_end c.in_ok-expr-in-Some.ensures.script })
+returns-in_ok-expr-in-Some-clause-script g c =
+    rw c.in-Some.is (record { run = to_end c.in_ok-expr-in-Some.ensures.script })
 
 pub returns-in_ok-expr-in-None-clause-script : goal.returns-in_ok-expr-in-None-clause-script
 unfolding expr_bp

@@ -8,4 +8,8 @@ use Rattle.rap_grammar_frame.proofs.called.bounds.Goals as goal
 
 pub returns-clause-script : goal.returns-clause-script
 unfolding bounds script_of
-returns-clause-script g c = record { run = by_bump (search rules) c.in_ok-bump.ensures.state (by_part phrase.bounds_without_colon c.in_ok-run.ensures.1 gives) }
+returns-clause-script g c =
+    record {
+      run = by_bump (search rules) c.in_ok-bump.ensures.state
+          (by_part phrase.bounds_without_colon c.in_ok-run.ensures.1 gives);
+    }

@@ -11,4 +11,8 @@ returns-then-not-at-clause-script g c = record { run = else_by c.at.ensures c.if
 
 pub returns-clause-script : goal.returns-clause-script
 unfolding opt_generic_param_list script_of
-returns-clause-script g c = record { run = then_by c.at.ensures c.if-not-at.false (by_part phrase.generic_param_list c.in_ok-run.ensures.1 gives) }
+returns-clause-script g c =
+    record {
+      run = then_by c.at.ensures c.if-not-at.false
+          (by_part phrase.generic_param_list c.in_ok-run.ensures.1 gives);
+    }

@@ -27,7 +27,8 @@ elements-preserved g c = record {
       let s = state c.parse.new.p in
       let f : ℕ → Bool = λ k. g.E.Element.first c.args.element.now k in
       let e : is_at c.args.delim s.rest || f (next s) ≡ true = elim c.else-not-at-2.branch [
-        | else-not-at-2-via-then-not-at-2+else-not-is_first w ↦ either (λ _. sym (by_kind f w.is_first.ensures w.current.ensures.kind) ∙ w.if-not-is_first.false)
+        | else-not-at-2-via-then-not-at-2+else-not-is_first w ↦ either
+            (λ _. sym (by_kind f w.is_first.ensures w.current.ensures.kind) ∙ w.if-not-is_first.false)
         | else-not-at-2-via-else-not-at-2 w ↦ rw (sym c.at-in-elements-3.ensures ∙ w.if-not-at-2.false) refl
       ] in
       turn c.elements.invariant.script
@@ -58,7 +59,9 @@ returns-then-not-is_first-clause-script g c = record {
       (else_by c.at-in-elements.ensures c.if-not-at.true
       (else_by c.at-in-elements-2.ensures c.if-at.false
       (by_rule (answers_yes c.if-not-branch.false c.in_ok-parse.ensures.script)
-      (fails (neither (sym c.at-in-elements-3.ensures ∙ c.if-not-at-2.true) (sym (by_kind f c.is_first.ensures c.current.ensures.kind) ∙ c.if-not-is_first.true)) gives))))) refl;
+      (fails
+      (neither (sym c.at-in-elements-3.ensures ∙ c.if-not-at-2.true)
+      (sym (by_kind f c.is_first.ensures c.current.ensures.kind) ∙ c.if-not-is_first.true)) gives))))) refl;
 }
 
 pub returns-else-not-at-clause-script : goal.returns-else-not-at-clause-script
@@ -71,4 +74,5 @@ returns-else-not-at-clause-script g c = record {
 
 pub returns-after-elements-clause-script : goal.returns-after-elements-clause-script
 unfolding elements
-returns-after-elements-clause-script g c = record { run = last_turn c.elements.invariant.script (then_by c.at.ensures c.elements-test.false gives) refl }
+returns-after-elements-clause-script g c =
+    record { run = last_turn c.elements.invariant.script (then_by c.at.ensures c.elements-test.false gives) refl }

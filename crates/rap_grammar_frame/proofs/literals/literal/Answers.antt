@@ -10,4 +10,9 @@ returns-then-not-is_literal_first-clause-script c = record { run = fails (search
 
 pub returns-clause-script : goal.returns-clause-script
 unfolding literal
-returns-clause-script c = record { run = passes (search rules) (by_start c.in_ok-m.ensures.state (by_any (search rules) c.in_ok-bump_any.ensures.state (by_complete c.in_ok-cm.ensures.state.0 gives))) }
+returns-clause-script c =
+    record {
+      run = passes (search rules)
+          (by_start c.in_ok-m.ensures.state
+          (by_any (search rules) c.in_ok-bump_any.ensures.state (by_complete c.in_ok-cm.ensures.state.0 gives)));
+    }

@@ -6,4 +6,8 @@ use Rattle.rap_grammar_frame.proofs.names.lifetime.Goals as goal
 
 pub returns-clause-script : goal.returns-clause-script
 unfolding lifetime
-returns-clause-script c = record { run = by_start c.in_ok-m.ensures.state (by_bump (search rules) c.in_ok-bump.ensures.state (by_complete c.in_ok-complete.ensures.state.0 gives)) }
+returns-clause-script c =
+    record {
+      run = by_start c.in_ok-m.ensures.state
+          (by_bump (search rules) c.in_ok-bump.ensures.state (by_complete c.in_ok-complete.ensures.state.0 gives));
+    }

@@ -10,6 +10,8 @@ pub returns-clause-script : goal.returns-clause-script
 unfolding name_any_identifier
 returns-clause-script c = record {
   run = by_start c.in_ok-m.ensures.state
-      (by_bear (rw c.in_ok-m.ensures.state.recorded.rest (reads_as_ident (state c.args.p.now).rest c.requires.here)) c.in_ok-bump_remap_any_ident.ensures.state
+      (by_bear
+      (rw c.in_ok-m.ensures.state.recorded.rest (reads_as_ident (state c.args.p.now).rest c.requires.here))
+      c.in_ok-bump_remap_any_ident.ensures.state
       (by_complete c.in_ok-complete.ensures.state.0 gives));
 }

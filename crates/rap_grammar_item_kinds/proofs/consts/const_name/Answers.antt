@@ -18,5 +18,7 @@ returns-then-branch-clause-script c = record {
 pub returns-clause-script : goal.returns-clause-script
 unfolding const_name
 returns-clause-script c = record {
-  run = rw c.if-not-is_const.false (not_ate c.in_ok-eat.ensures.state c.if-branch.false (to_end c.in_ok-name-2.ensures.script));
+  run =
+      rw c.if-not-is_const.false
+      (not_ate c.in_ok-eat.ensures.state c.if-branch.false (to_end c.in_ok-name-2.ensures.script));
 }

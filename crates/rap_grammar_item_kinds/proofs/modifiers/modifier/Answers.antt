@@ -10,5 +10,6 @@ returns-then-not-found-clause-script c = λ h e. record { run = else_by e c.if-n
 pub returns-clause-script : goal.returns-clause-script
 unfolding modifier
 returns-clause-script c = λ h e. record {
-  run = then_by e c.if-not-found.false (by_bump (c.requires.here c.if-not-found.false) c.in_ok-bump.ensures.state gives);
+  run =
+      then_by e c.if-not-found.false (by_bump (c.requires.here c.if-not-found.false) c.in_ok-bump.ensures.state gives);
 }

@@ -12,5 +12,7 @@ returns-then-not-is_impl_restriction-clause-script g c = record {
 pub returns-clause-script : goal.returns-clause-script
 unfolding opt_impl_restriction
 returns-clause-script g c = record {
-  run = then_by c.is_impl_restriction.ensures.here c.if-not-is_impl_restriction.false (to_end c.in_ok-impl_restriction.ensures.script);
+  run =
+      then_by c.is_impl_restriction.ensures.here c.if-not-is_impl_restriction.false
+      (to_end c.in_ok-impl_restriction.ensures.script);
 }

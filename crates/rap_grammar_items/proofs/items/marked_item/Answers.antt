@@ -20,5 +20,7 @@ returns-in_ok-macro_or_error-in-Some-clause-item g c =
 pub returns-in_ok-macro_or_error-in-Some-clause-script : goal.returns-in_ok-macro_or_error-in-Some-clause-script
 unfolding marked_item
 returns-in_ok-macro_or_error-in-Some-clause-script g c = record {
-  run = by_rule (rw c.in-Some.is at c.in_ok-opt_item.ensures.script) (to_end c.in_ok-macro_or_error-in-Some.ensures.script);
+  run =
+      by_rule (rw c.in-Some.is at c.in_ok-opt_item.ensures.script)
+      (to_end c.in_ok-macro_or_error-in-Some.ensures.script);
 }

@@ -14,7 +14,9 @@ returns-then-not-has_extern-clause-script g c = record {
 pub returns-clause-script : goal.returns-clause-script
 unfolding opt_extern_block
 returns-clause-script g c = record {
-  run = rw c.if-not-has_extern.false (by_rule c.in_ok-extern_item_list.ensures.script (by_complete c.in_ok-complete.ensures.state.0 gives));
+  run =
+      rw c.if-not-has_extern.false
+      (by_rule c.in_ok-extern_item_list.ensures.script (by_complete c.in_ok-complete.ensures.state.0 gives));
 }
 
 pub returns-clause-handed : goal.returns-clause-handed

@@ -13,7 +13,8 @@ pub returns-then-starts_macro_rules-clause-script : goal.returns-then-starts_mac
 unfolding opt_item_by_name
 returns-then-starts_macro_rules-clause-script g c = record {
   run = else_by c.starts_union.ensures.here c.if-starts_union.false
-      (then_by c.starts_macro_rules.ensures.here c.if-starts_macro_rules.true (to_end c.in_ok-macro_rules.ensures.script));
+      (then_by c.starts_macro_rules.ensures.here c.if-starts_macro_rules.true
+      (to_end c.in_ok-macro_rules.ensures.script));
 }
 
 pub returns-then-starts_global_asm-clause-script : goal.returns-then-starts_global_asm-clause-script
@@ -21,7 +22,8 @@ unfolding opt_item_by_name
 returns-then-starts_global_asm-clause-script g c = record {
   run = else_by c.starts_union.ensures.here c.if-starts_union.false
       (else_by c.starts_macro_rules.ensures.here c.if-starts_macro_rules.false
-      (then_by c.starts_global_asm.ensures.here c.if-starts_global_asm.true (to_end c.in_ok-global_asm.ensures.script)));
+      (then_by c.starts_global_asm.ensures.here c.if-starts_global_asm.true
+      (to_end c.in_ok-global_asm.ensures.script)));
 }
 
 pub returns-clause-script : goal.returns-clause-script

@@ -28,7 +28,9 @@ returns-in-STATIC_KW-T-clause-script g c =
 pub returns-in_ok-trait_-clause-script : goal.returns-in_ok-trait_-clause-script
 unfolding opt_item_with_modifiers
 returns-in_ok-trait_-clause-script g c = record {
-  run = fails (search rules) (fails (search rules) (fails (search rules) (passes (search rules) (to_end c.in_ok-trait_.ensures.script))));
+  run =
+      fails (search rules)
+      (fails (search rules) (fails (search rules) (passes (search rules) (to_end c.in_ok-trait_.ensures.script))));
 }
 
 pub returns-in_ok-impl_-clause-script : goal.returns-in_ok-impl_-clause-script

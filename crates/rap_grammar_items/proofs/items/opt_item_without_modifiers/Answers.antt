@@ -27,7 +27,9 @@ returns-in_ok-mod_item-clause-script g c = record {
 pub returns-in_ok-type_item-clause-script : goal.returns-in_ok-type_item-clause-script
 unfolding opt_item_without_modifiers
 returns-in_ok-type_item-clause-script g c = record {
-  run = fails (search rules) (fails (search rules) (fails (search rules) (passes (search rules) (to_end c.in_ok-type_item.ensures.script))));
+  run =
+      fails (search rules)
+      (fails (search rules) (fails (search rules) (passes (search rules) (to_end c.in_ok-type_item.ensures.script))));
 }
 
 pub returns-in_ok-strukt-clause-script : goal.returns-in_ok-strukt-clause-script
@@ -48,7 +50,8 @@ pub returns-in_ok-macro_def-clause-script : goal.returns-in_ok-macro_def-clause-
 unfolding opt_item_without_modifiers
 returns-in_ok-macro_def-clause-script g c = record {
   run = fails (search rules) (fails (search rules) (fails (search rules) (fails (search rules)
-      (fails (search rules) (fails (search rules) (passes (search rules) (to_end c.in_ok-macro_def.ensures.script)))))));
+      (fails (search rules)
+      (fails (search rules) (passes (search rules) (to_end c.in_ok-macro_def.ensures.script)))))));
 }
 
 pub returns-in-CONST_KW-T-clause-script : goal.returns-in-CONST_KW-T-clause-script

@@ -7,7 +7,9 @@ use Rattle.rap_grammar_items.proofs.items.refuse.Goals as goal
 pub returns-then-has_mods-clause-script : goal.returns-then-has_mods-clause-script
 unfolding refuse
 returns-then-has_mods-clause-script c = record {
-  run = rw c.if-has_mods.true (by_report c.in_ok-error.ensures.state (by_complete c.in_ok-complete.ensures.state.0 gives));
+  run =
+      rw c.if-has_mods.true
+      (by_report c.in_ok-error.ensures.state (by_complete c.in_ok-complete.ensures.state.0 gives));
 }
 
 pub returns-then-has_visibility-clause-script : goal.returns-then-has_visibility-clause-script

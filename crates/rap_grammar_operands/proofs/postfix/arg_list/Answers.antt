@@ -5,4 +5,8 @@ use Rattle.rap_grammar_operands.proofs.postfix.arg_list.Goals as goal
 
 pub returns-clause-script : goal.returns-clause-script
 unfolding arg_list
-returns-clause-script g c = record { run = by_start c.in_ok-m.ensures.state (by_rule c.in_ok-delimited.ensures.script (by_complete c.in_ok-complete.ensures.state.0 gives)) }
+returns-clause-script g c =
+    record {
+      run = by_start c.in_ok-m.ensures.state
+          (by_rule c.in_ok-delimited.ensures.script (by_complete c.in_ok-complete.ensures.state.0 gives));
+    }

@@ -6,4 +6,5 @@ use Rattle.rap_grammar_operands.proofs.postfix.await_expr.Goals as goal
 
 pub returns-clause-script : goal.returns-clause-script
 unfolding await_expr
-returns-clause-script c = record { run = by_bump (search rules) c.in_ok-bump.ensures.state (by_complete c.in_ok-cm.ensures.state.0 gives) }
+returns-clause-script c =
+    record { run = by_bump (search rules) c.in_ok-bump.ensures.state (by_complete c.in_ok-cm.ensures.state.0 gives) }

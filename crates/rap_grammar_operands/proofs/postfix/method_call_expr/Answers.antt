@@ -10,9 +10,12 @@ pub returns-clause-script : goal.returns-clause-script
 unfolding method_call_expr
 returns-clause-script g c = record {
   run =
-      let d : On method_arguments (spot (state c.if-is_path_name.p)) (spot (state c.method_arguments.new.p)) something = to_end c.in_ok-cm.ensures.script in
+      let d : On method_arguments (spot (state c.if-is_path_name.p)) (spot (state c.method_arguments.new.p)) something =
+      to_end c.in_ok-cm.ensures.script in
       elim c.if-is_path_name.branch [
-        | then-is_path_name+in_ok-name_ref_mod_path w ↦ passes (search rules) (by_rule w.in_ok-name_ref_mod_path.ensures.script (rw w.p-is at d))
-        | else-is_path_name+in_ok-error w ↦ fails (search rules) (by_report w.in_ok-error.ensures.state (rw w.p-is at d))
+        | then-is_path_name+in_ok-name_ref_mod_path w ↦ passes (search rules)
+            (by_rule w.in_ok-name_ref_mod_path.ensures.script (rw w.p-is at d))
+        | else-is_path_name+in_ok-error w ↦ fails (search rules)
+            (by_report w.in_ok-error.ensures.state (rw w.p-is at d))
       ];
 }

@@ -16,7 +16,9 @@ postfixes-preserved-in_ok-lhs g c =
       last = search rules;
       plain = search rules;
       one = search rules;
-      script = turn c.postfixes.invariant.script (passes (rw (e, c.if-allow_calls.true) refl) (by_rule c.in_ok-lhs.ensures.script gives));
+      script =
+          turn c.postfixes.invariant.script
+          (passes (rw (e, c.if-allow_calls.true) refl) (by_rule c.in_ok-lhs.ensures.script gives));
     }
 
 pub postfixes-preserved-in_ok-lhs-2 : goal.postfixes-preserved-in_ok-lhs-2
@@ -27,7 +29,10 @@ postfixes-preserved-in_ok-lhs-2 g c =
       last = search rules;
       plain = search rules;
       one = search rules;
-      script = turn c.postfixes.invariant.script (fails (rw e refl) (passes (rw (e, c.if-allow_calls-2.true) refl) (by_rule c.in_ok-lhs-2.ensures.script gives)));
+      script =
+          turn c.postfixes.invariant.script
+          (fails (rw e refl)
+          (passes (rw (e, c.if-allow_calls-2.true) refl) (by_rule c.in_ok-lhs-2.ensures.script gives)));
     }
 
 pub postfixes-preserved-else-not-goes_on : goal.postfixes-preserved-else-not-goes_on
@@ -39,7 +44,12 @@ postfixes-preserved-else-not-goes_on g c =
       last = search rules;
       plain = search rules;
       one = search rules;
-      script = turn c.postfixes.invariant.script (fails (rw e refl) (fails (rw e refl) (passes (rw (e, ← c.at.ensures, ← c.at-then-not-at.ensures, c.if-not-at.true, c.if-not-at-2.true) refl) (by_rule c.in_ok-access.ensures.script (rw on gives)))));
+      script =
+          turn c.postfixes.invariant.script
+          (fails (rw e refl)
+          (fails (rw e refl)
+          (passes (rw (e, ← c.at.ensures, ← c.at-then-not-at.ensures, c.if-not-at.true, c.if-not-at-2.true) refl)
+          (by_rule c.in_ok-access.ensures.script (rw on gives)))));
     }
 
 pub returns-then-not-goes_on-clause-script : goal.returns-then-not-goes_on-clause-script
@@ -49,7 +59,11 @@ returns-then-not-goes_on-clause-script g c = record {
       let e : next (state c.postfixes.p) ≡ DOT = search rules in
       let b = c.postfixes.block_like in
       let on : c.in_ok-access.goes_on ≡ false = search rules in
-      last_turn c.postfixes.invariant.script (fails (rw e refl) (fails (rw e refl) (passes (rw (e, ← c.at.ensures, ← c.at-then-not-at.ensures, c.if-not-at.true, c.if-not-at-2.true) refl) (by_rule c.in_ok-access.ensures.script (rw (on, like_is b) gives))))) (like_ends b);
+      last_turn c.postfixes.invariant.script
+      (fails (rw e refl)
+      (fails (rw e refl)
+      (passes (rw (e, ← c.at.ensures, ← c.at-then-not-at.ensures, c.if-not-at.true, c.if-not-at-2.true) refl)
+      (by_rule c.in_ok-access.ensures.script (rw (on, like_is b) gives))))) (like_ends b);
 }
 
 pub postfixes-preserved : goal.postfixes-preserved
@@ -60,7 +74,10 @@ postfixes-preserved g c =
       last = search rules;
       plain = search rules;
       one = search rules;
-      script = turn c.postfixes.invariant.script (fails (rw e refl) (fails (rw e refl) (fails (rw e refl) (passes (rw e refl) (by_rule c.in_ok-lhs-3.ensures.script gives)))));
+      script =
+          turn c.postfixes.invariant.script
+          (fails (rw e refl)
+          (fails (rw e refl) (fails (rw e refl) (passes (rw e refl) (by_rule c.in_ok-lhs-3.ensures.script gives)))));
     }
 
 pub returns-in_default-clause-script : goal.returns-in_default-clause-script
@@ -72,21 +89,35 @@ returns-in_default-clause-script g c = record {
       elim c.in_default.branch [
         | in_default-via-in-L_PAREN-T+else-allow_calls w ↦
             let e : next (state c.postfixes.p) ≡ L_PAREN = search rules in
-            last_turn inv (fails (rw (e, w.if-allow_calls.false) refl) (fails (rw e refl) (fails (rw e refl) (fails (rw e refl) (rw (like_is b) gives))))) (like_ends b)
+            last_turn inv
+            (fails (rw (e, w.if-allow_calls.false) refl)
+            (fails (rw e refl) (fails (rw e refl) (fails (rw e refl) (rw (like_is b) gives))))) (like_ends b)
         | in_default-via-in-L_BRACK-T+else-allow_calls-2 w ↦
             let e : next (state c.postfixes.p) ≡ L_BRACK = search rules in
-            last_turn inv (fails (rw e refl) (fails (rw (e, w.if-allow_calls-2.false) refl) (fails (rw e refl) (fails (rw e refl) (rw (like_is b) gives))))) (like_ends b)
+            last_turn inv
+            (fails (rw e refl)
+            (fails (rw (e, w.if-allow_calls-2.false) refl)
+            (fails (rw e refl) (fails (rw e refl) (rw (like_is b) gives))))) (like_ends b)
         | in_default-via-in-DOT-T+then-not-at+else-not-at-2 w ↦
             let e : next (state c.postfixes.p) ≡ DOT = search rules in
-            last_turn inv (fails (rw e refl) (fails (rw e refl) (fails (rw (e, ← w.at.ensures, ← w.at-then-not-at.ensures, w.if-not-at.true, w.if-not-at-2.false) refl) (fails (rw e refl) (rw (like_is b) gives))))) (like_ends b)
+            last_turn inv
+            (fails (rw e refl)
+            (fails (rw e refl)
+            (fails (rw (e, ← w.at.ensures, ← w.at-then-not-at.ensures, w.if-not-at.true, w.if-not-at-2.false) refl)
+            (fails (rw e refl) (rw (like_is b) gives))))) (like_ends b)
         | in_default-via-in-DOT-T+else-not-at w ↦
             let e : next (state c.postfixes.p) ≡ DOT = search rules in
-            last_turn inv (fails (rw e refl) (fails (rw e refl) (fails (rw (e, ← w.at.ensures, w.if-not-at.false) refl) (fails (rw e refl) (rw (like_is b) gives))))) (like_ends b)
+            last_turn inv
+            (fails (rw e refl)
+            (fails (rw e refl)
+            (fails (rw (e, ← w.at.ensures, w.if-not-at.false) refl) (fails (rw e refl) (rw (like_is b) gives)))))
+            (like_ends b)
         | in_default-via-in_default-1 w ↦
             let p : (next (state c.postfixes.p) == L_PAREN) ≡ false = search rules in
             let k : (next (state c.postfixes.p) == L_BRACK) ≡ false = search rules in
             let d : (next (state c.postfixes.p) == DOT) ≡ false = search rules in
             let q : (next (state c.postfixes.p) == QUESTION) ≡ false = search rules in
-            last_turn inv (fails (rw p refl) (fails (rw k refl) (fails (rw d refl) (fails q (rw (like_is b) gives))))) (like_ends b)
+            last_turn inv (fails (rw p refl) (fails (rw k refl) (fails (rw d refl) (fails q (rw (like_is b) gives)))))
+            (like_ends b)
       ];
 }

@@ -6,4 +6,8 @@ use Rattle.rap_grammar_operands.proofs.postfix.try_expr.Goals as goal
 
 pub returns-clause-script : goal.returns-clause-script
 unfolding try_expr
-returns-clause-script c = record { run = by_precede c.requires.last c.in_ok-m.ensures.state (by_bump (search rules) c.in_ok-bump.ensures.state (by_complete c.in_ok-cm.ensures.state.0 gives)) }
+returns-clause-script c =
+    record {
+      run = by_precede c.requires.last c.in_ok-m.ensures.state
+          (by_bump (search rules) c.in_ok-bump.ensures.state (by_complete c.in_ok-cm.ensures.state.0 gives));
+    }

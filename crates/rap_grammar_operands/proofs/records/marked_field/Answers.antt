@@ -7,7 +7,9 @@ use Rattle.rap_grammar_operands.proofs.records.marked_field.Goals as goal
 pub returns-then-is_field_name-clause-script : goal.returns-then-is_field_name-clause-script
 unfolding marked_field
 returns-then-is_field_name-clause-script g c = record {
-  run = then_by (by_kind is_field_name c.is_field_name.ensures c.current.ensures.kind) c.if-is_field_name.true (to_end c.in_ok-named_field.ensures.script);
+  run =
+      then_by (by_kind is_field_name c.is_field_name.ensures c.current.ensures.kind) c.if-is_field_name.true
+      (to_end c.in_ok-named_field.ensures.script);
 }
 
 pub returns-then-at-clause-script : goal.returns-then-at-clause-script

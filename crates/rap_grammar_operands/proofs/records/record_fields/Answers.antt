@@ -35,4 +35,5 @@ returns-else-not-at-clause-script g c = record {
 
 pub returns-after-fields-clause-script : goal.returns-after-fields-clause-script
 unfolding record_fields
-returns-after-fields-clause-script g c = record { run = last_turn c.fields.invariant.script (then_by c.at.ensures c.fields-test.false gives) refl }
+returns-after-fields-clause-script g c =
+    record { run = last_turn c.fields.invariant.script (then_by c.at.ensures c.fields-test.false gives) refl }

@@ -16,4 +16,5 @@ returns-clause-ended g c = record {
 
 pub returns-clause-script : goal.returns-clause-script
 unfolding generic_arg_list
-returns-clause-script g c = record { run = by_rule c.in_ok-delimited.ensures.script (by_complete c.in_ok-complete.ensures.state.0 gives) }
+returns-clause-script g c =
+    record { run = by_rule c.in_ok-delimited.ensures.script (by_complete c.in_ok-complete.ensures.state.0 gives) }

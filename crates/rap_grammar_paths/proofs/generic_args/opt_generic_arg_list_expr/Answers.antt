@@ -6,7 +6,8 @@ use Rattle.rap_grammar_paths.proofs.generic_args.opt_generic_arg_list_expr.Goals
 
 pub returns-then-not-starts_expr_args-clause-script : goal.returns-then-not-starts_expr_args-clause-script
 unfolding opt_generic_arg_list_expr
-returns-then-not-starts_expr_args-clause-script g c = record { run = else_by c.starts_expr_args.ensures c.if-not-starts_expr_args.true gives }
+returns-then-not-starts_expr_args-clause-script g c =
+    record { run = else_by c.starts_expr_args.ensures c.if-not-starts_expr_args.true gives }
 
 pub returns-clause-script : goal.returns-clause-script
 unfolding opt_generic_arg_list_expr

@@ -8,7 +8,8 @@ use Rattle.rap_grammar_paths.proofs.paths.anchor_trait.Goals as goal
 
 pub returns-then-not-branch-clause-script : goal.returns-then-not-branch-clause-script
 unfolding anchor_trait
-returns-then-not-branch-clause-script g c = record { run = not_ate c.in_ok-eat.ensures.state c.if-not-branch.true gives }
+returns-then-not-branch-clause-script g c =
+    record { run = not_ate c.in_ok-eat.ensures.state c.if-not-branch.true gives }
 
 pub returns-then-is_use_path_start-clause-script : goal.returns-then-is_use_path_start-clause-script
 unfolding anchor_trait path_type_bounds script_of

@@ -21,8 +21,10 @@ returns-in-Use g c = record {
 
 pub returns-in_ok-opt_path_type_args-in-Type-clause-script : goal.returns-in_ok-opt_path_type_args-in-Type-clause-script
 unfolding opt_path_args
-returns-in_ok-opt_path_type_args-in-Type-clause-script g c = record { run = rw c.in-Type.is (to_end c.in_ok-opt_path_type_args-in-Type.ensures.script) }
+returns-in_ok-opt_path_type_args-in-Type-clause-script g c =
+    record { run = rw c.in-Type.is (to_end c.in_ok-opt_path_type_args-in-Type.ensures.script) }
 
 pub returns-in_ok-opt_generic_arg_list_expr-in-Expr-clause-script : goal.returns-in_ok-opt_generic_arg_list_expr-in-Expr-clause-script
 unfolding opt_path_args
-returns-in_ok-opt_generic_arg_list_expr-in-Expr-clause-script g c = record { run = rw c.in-Expr.is (to_end c.in_ok-opt_generic_arg_list_expr-in-Expr.ensures.script) }
+returns-in_ok-opt_generic_arg_list_expr-in-Expr-clause-script g c =
+    record { run = rw c.in-Expr.is (to_end c.in_ok-opt_generic_arg_list_expr-in-Expr.ensures.script) }

@@ -25,5 +25,7 @@ returns-in_ok-path_type_args-2-clause-script g c = record {
 pub returns-else-has_args-clause-script : goal.returns-else-has_args-clause-script
 unfolding opt_path_type_args
 returns-else-has_args-clause-script g c = record {
-  run = else_by c.has_args_behind.ensures c.if-has_args_behind.false (else_by c.has_args.ensures c.if-has_args.false gives);
+  run =
+      else_by c.has_args_behind.ensures c.if-has_args_behind.false
+      (else_by c.has_args.ensures c.if-has_args.false gives);
 }

@@ -11,7 +11,9 @@ returns-clause-ended g c = record {
   left = search rules;
   count = search rules;
   messages = search rules;
-  below = rw (c.in_ok-opt_ret_type.ensures.grew.below, c.in_ok-opt_ret_type.ensures.grew.marker) (gone (sym c.in_ok-delimited.ensures.took.below ∙ c.in_ok-complete.ensures.state.0.below));
+  below =
+      rw (c.in_ok-opt_ret_type.ensures.grew.below, c.in_ok-opt_ret_type.ensures.grew.marker)
+      (gone (sym c.in_ok-delimited.ensures.took.below ∙ c.in_ok-complete.ensures.state.0.below));
 }
 
 pub returns-clause-script : goal.returns-clause-script

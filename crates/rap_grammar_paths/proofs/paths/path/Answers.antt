@@ -6,8 +6,18 @@ use Rattle.rap_grammar_paths.proofs.paths.path.Goals as goal
 
 pub returns-then-is_none-clause-script : goal.returns-then-is_none-clause-script
 unfolding path
-returns-then-is_none-clause-script g c = record { run = by_start c.in_ok-path.ensures.state (by_rule (answers_nothing (search rules) c.in_ok-path_segment.ensures.script) (by_abandon c.in_ok-abandon.ensures.state gives)) }
+returns-then-is_none-clause-script g c =
+    record {
+      run = by_start c.in_ok-path.ensures.state
+          (by_rule (answers_nothing (search rules) c.in_ok-path_segment.ensures.script)
+          (by_abandon c.in_ok-abandon.ensures.state gives));
+    }
 
 pub returns-clause-script : goal.returns-clause-script
 unfolding path
-returns-clause-script g c = record { run = by_start c.in_ok-path.ensures.state (by_rule (answers_something (search rules) c.in_ok-path_segment.ensures.script) (by_complete c.in_ok-qual.ensures.state.0 (to_end c.in_ok-path-2.ensures.script))) }
+returns-clause-script g c =
+    record {
+      run = by_start c.in_ok-path.ensures.state
+          (by_rule (answers_something (search rules) c.in_ok-path_segment.ensures.script)
+          (by_complete c.in_ok-qual.ensures.state.0 (to_end c.in_ok-path-2.ensures.script)));
+    }

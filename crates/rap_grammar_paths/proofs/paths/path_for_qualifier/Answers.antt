@@ -11,11 +11,17 @@ segments-preserved g c = record {
   one = search rules;
   script = turn c.segments.invariant.script (then_by c.has_segment.ensures.segment c.segments-test.true
       (by_precede c.segments.invariant.last c.in_ok-path.ensures.state
-      (by_bump (rw c.in_ok-path.ensures.state.recorded.rest (c.has_segment.ensures.here c.segments-test.true)) c.in_ok-bump.ensures.state
+      (by_bump
+      (rw c.in_ok-path.ensures.state.recorded.rest (c.has_segment.ensures.here c.segments-test.true))
+      c.in_ok-bump.ensures.state
       (by_rule c.in_ok-path_segment.ensures.script
       (by_complete c.in_ok-qual.ensures.state.0 gives)))));
 }
 
 pub returns-clause-script : goal.returns-clause-script
 unfolding path_for_qualifier
-returns-clause-script g c = record { run = last_turn c.segments.invariant.script (else_by c.has_segment.ensures.segment c.segments-test.false gives) refl }
+returns-clause-script g c =
+    record {
+      run = last_turn c.segments.invariant.script
+          (else_by c.has_segment.ensures.segment c.segments-test.false gives) refl;
+    }

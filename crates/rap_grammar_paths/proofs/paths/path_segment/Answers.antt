@@ -7,7 +7,8 @@ use Rattle.rap_grammar_paths.proofs.paths.path_segment.Goals as goal
 
 pub returns-then-not-first-clause-script : goal.returns-then-not-first-clause-script
 unfolding path_segment
-returns-then-not-first-clause-script g c = record { run = rw c.if-not-first.true (by_start c.in_ok-m.ensures.state (to_end c.in_ok-segment.ensures.script)) }
+returns-then-not-first-clause-script g c =
+    record { run = rw c.if-not-first.true (by_start c.in_ok-m.ensures.state (to_end c.in_ok-segment.ensures.script)) }
 
 pub returns-then-at-clause-script : goal.returns-then-at-clause-script
 unfolding path_segment
@@ -37,5 +38,8 @@ returns-clause-script g c = record {
 pub returns-clause-took : goal.returns-clause-took
 returns-clause-took g c = λ f h.
     let n = c.in_ok-segment-4.ensures in
-    let named = n.took (name_left c.in_ok-eat.ensures.state c.if-branch.false (search rules) (rw c.in_ok-m.ensures.state.recorded.rest h)) in
+    let named =
+    n.took
+    (name_left c.in_ok-eat.ensures.state c.if-branch.false (search rules)
+    (rw c.in_ok-m.ensures.state.recorded.rest h)) in
     segment_took c.in_ok-segment-4.segment c.in_ok-m.ensures.state c.in_ok-eat.ensures.state n.some n.none named

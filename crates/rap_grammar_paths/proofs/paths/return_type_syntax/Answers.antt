@@ -11,7 +11,10 @@ returns-clause-ended c = record {
   left = search rules;
   count = search rules;
   messages = search rules;
-  below = gone (sym c.in_ok-bump.ensures.state.below ∙ sym c.in_ok-bump-2.ensures.state.below ∙ sym c.in_ok-expect.ensures.state.below ∙ c.in_ok-complete.ensures.state.0.below);
+  below =
+      gone
+      (sym c.in_ok-bump.ensures.state.below ∙ sym c.in_ok-bump-2.ensures.state.below ∙
+      sym c.in_ok-expect.ensures.state.below ∙ c.in_ok-complete.ensures.state.0.below);
 }
 
 pub returns-clause-script : goal.returns-clause-script

@@ -6,7 +6,8 @@ use Rattle.rap_grammar_paths.proofs.paths.segment_name.Goals as goal
 
 pub returns-then-not-is_path_name-clause-script : goal.returns-then-not-is_path_name-clause-script
 unfolding segment_name
-returns-then-not-is_path_name-clause-script g c = record { run = fails (search rules) (to_end c.in_ok-segment.ensures.script) }
+returns-then-not-is_path_name-clause-script g c =
+    record { run = fails (search rules) (to_end c.in_ok-segment.ensures.script) }
 
 pub returns-clause-script : goal.returns-clause-script
 unfolding segment_name

@@ -7,16 +7,21 @@ use Rattle.rap_grammar_frame.proofs.Steps.{by_bump, by_bear, by_report, by_start
 use Rattle.rap_grammar_patterns.proofs.patterns.builtin_pat.Goals as goal
 
 pub returns-then-branch-clause-atom : goal.returns-then-branch-clause-atom
-returns-then-branch-clause-atom g c = λ in_arm. (search rules, builtin_no_stop (state c.args.p.now).rest c.requires.here)
+returns-then-branch-clause-atom g c =
+    λ in_arm. (search rules, builtin_no_stop (state c.args.p.now).rest c.requires.here)
 
 pub returns-then-branch-2-clause-atom : goal.returns-then-branch-2-clause-atom
-returns-then-branch-2-clause-atom g c = λ in_arm. (search rules, builtin_no_stop (state c.args.p.now).rest c.requires.here)
+returns-then-branch-2-clause-atom g c =
+    λ in_arm. (search rules, builtin_no_stop (state c.args.p.now).rest c.requires.here)
 
 pub returns-clause-atom : goal.returns-clause-atom
 returns-clause-atom g c = λ in_arm. record {
   grew = search rules;
   took = λ n. search rules;
-  stays = λ s. absurd (clash s (no_stop_there in_arm (next (state c.args.p.now)) (builtin_no_stop (state c.args.p.now).rest c.requires.here)));
+  stays =
+      λ s. absurd
+      (clash s
+      (no_stop_there in_arm (next (state c.args.p.now)) (builtin_no_stop (state c.args.p.now).rest c.requires.here)));
 }
 
 pub returns-then-branch-clause-script : goal.returns-then-branch-clause-script

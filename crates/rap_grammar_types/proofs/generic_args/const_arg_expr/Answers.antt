@@ -10,11 +10,16 @@ returns-then-eq-clause-script g c = record { run = passes (search rules) (to_end
 
 pub returns-then-is_literal_first-clause-script : goal.returns-then-is_literal_first-clause-script
 unfolding const_arg_expr
-returns-then-is_literal_first-clause-script g c = record { run = fails (search rules) (passes (search rules) (by_rule c.in_ok-literal.ensures.script gives)) }
+returns-then-is_literal_first-clause-script g c =
+    record { run = fails (search rules) (passes (search rules) (by_rule c.in_ok-literal.ensures.script gives)) }
 
 pub returns-then-eq-2-clause-script : goal.returns-then-eq-2-clause-script
 unfolding const_arg_expr
-returns-then-eq-2-clause-script g c = record { run = fails (search rules) (fails (search rules) (passes (search rules) (to_end c.in_ok-negative_const.ensures.script))) }
+returns-then-eq-2-clause-script g c =
+    record {
+      run = fails (search rules)
+          (fails (search rules) (passes (search rules) (to_end c.in_ok-negative_const.ensures.script)));
+    }
 
 pub returns-then-is_path_start-clause-script : goal.returns-then-is_path_start-clause-script
 unfolding const_arg_expr

@@ -5,4 +5,8 @@ use Rattle.rap_grammar_types.proofs.generic_args.const_path.Goals as goal
 
 pub returns-clause-script : goal.returns-clause-script
 unfolding const_path
-returns-clause-script g c = record { run = by_start c.in_ok-m.ensures.state (by_rule c.in_ok-expr_path.ensures.script (by_complete c.in_ok-cm.ensures.state.0 gives)) }
+returns-clause-script g c =
+    record {
+      run = by_start c.in_ok-m.ensures.state
+          (by_rule c.in_ok-expr_path.ensures.script (by_complete c.in_ok-cm.ensures.state.0 gives));
+    }

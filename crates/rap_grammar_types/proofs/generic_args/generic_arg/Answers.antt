@@ -6,11 +6,19 @@ use Rattle.rap_grammar_types.proofs.generic_args.generic_arg.Goals as goal
 
 pub returns-then-starts_lifetime_arg-clause-script : goal.returns-then-starts_lifetime_arg-clause-script
 unfolding generic_arg
-returns-then-starts_lifetime_arg-clause-script g c = record { run = then_by c.starts_lifetime_arg.ensures.starts c.if-starts_lifetime_arg.true (to_end c.in_ok-lifetime_arg.ensures.script) }
+returns-then-starts_lifetime_arg-clause-script g c =
+    record {
+      run = then_by c.starts_lifetime_arg.ensures.starts c.if-starts_lifetime_arg.true
+          (to_end c.in_ok-lifetime_arg.ensures.script);
+    }
 
 pub returns-then-is_const_arg_first-clause-script : goal.returns-then-is_const_arg_first-clause-script
 unfolding generic_arg
-returns-then-is_const_arg_first-clause-script g c = record { run = else_by c.starts_lifetime_arg.ensures.starts c.if-starts_lifetime_arg.false (passes (search rules) (to_end c.in_ok-const_arg.ensures.script)) }
+returns-then-is_const_arg_first-clause-script g c =
+    record {
+      run = else_by c.starts_lifetime_arg.ensures.starts c.if-starts_lifetime_arg.false
+          (passes (search rules) (to_end c.in_ok-const_arg.ensures.script));
+    }
 
 pub returns-then-starts_named_arg-clause-script : goal.returns-then-starts_named_arg-clause-script
 unfolding generic_arg

@@ -5,4 +5,8 @@ use Rattle.rap_grammar_types.proofs.generic_args.lifetime_arg.Goals as goal
 
 pub returns-clause-script : goal.returns-clause-script
 unfolding lifetime_arg
-returns-clause-script c = record { run = by_start c.in_ok-m.ensures.state (by_rule c.in_ok-lifetime.ensures.script (by_complete c.in_ok-complete.ensures.state.0 gives)) }
+returns-clause-script c =
+    record {
+      run = by_start c.in_ok-m.ensures.state
+          (by_rule c.in_ok-lifetime.ensures.script (by_complete c.in_ok-complete.ensures.state.0 gives));
+    }

@@ -7,4 +7,8 @@ use Rattle.rap_grammar_types.proofs.generic_args.missing_const.Goals as goal
 
 pub returns-clause-script : goal.returns-clause-script
 unfolding missing_const
-returns-clause-script c = record { run = by_recover is_generic_arg_recovery (search rules) c.in_ok-err_recover.ensures.state (λ k. gives) (λ k. gives) }
+returns-clause-script c =
+    record {
+      run = by_recover is_generic_arg_recovery (search rules) c.in_ok-err_recover.ensures.state (λ k. gives)
+          (λ k. gives);
+    }

@@ -21,7 +21,8 @@ unfolding named_type
 returns-then-starts_bare_dyn-clause-script g c = record {
   run = else_by c.starts_weak_dyn.ensures.here c.if-starts_weak_dyn.false
       (else_by c.is_path_start.ensures c.if-is_path_start.false
-      (then_by c.starts_bare_dyn.ensures c.if-starts_bare_dyn.true (to_end c.in_ok-bare_dyn_trait_type.ensures.script)));
+      (then_by c.starts_bare_dyn.ensures c.if-starts_bare_dyn.true
+      (to_end c.in_ok-bare_dyn_trait_type.ensures.script)));
 }
 
 pub returns-clause-script : goal.returns-clause-script

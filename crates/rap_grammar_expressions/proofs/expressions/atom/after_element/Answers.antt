@@ -19,7 +19,8 @@ unfolding after_element
 returns-then-has_semi-clause-script c =
     let e : (c.args.is_first && is_at SEMICOLON (state c.args.p.now).rest) ≡ false = elim c.else-is_first.branch [
       | else-is_first-via-then-is_first+else-at w ↦ not_both (λ _. sym w.at.ensures ∙ w.if-at.false)
-      | else-is_first-via-else-is_first w ↦ not_both {b = is_at SEMICOLON (state c.args.p.now).rest} (λ e. absurd (clash e w.if-is_first.false))
+      | else-is_first-via-else-is_first w ↦ not_both {b = is_at SEMICOLON (state c.args.p.now).rest}
+          (λ e. absurd (clash e w.if-is_first.false))
     ] in
     record { run = fails e (rw c.if-has_semi.true gives) }
 
@@ -28,7 +29,8 @@ unfolding after_element
 returns-then-at-2-clause-script c =
     let e : (c.args.is_first && is_at SEMICOLON (state c.args.p.now).rest) ≡ false = elim c.else-is_first.branch [
       | else-is_first-via-then-is_first+else-at w ↦ not_both (λ _. sym w.at.ensures ∙ w.if-at.false)
-      | else-is_first-via-else-is_first w ↦ not_both {b = is_at SEMICOLON (state c.args.p.now).rest} (λ e. absurd (clash e w.if-is_first.false))
+      | else-is_first-via-else-is_first w ↦ not_both {b = is_at SEMICOLON (state c.args.p.now).rest}
+          (λ e. absurd (clash e w.if-is_first.false))
     ] in
     record { run = fails e (rw c.if-has_semi.false (then_by c.at-2.ensures c.if-at-2.true gives)) }
 
@@ -37,15 +39,26 @@ unfolding after_element
 returns-then-branch-clause-script c =
     let e : (c.args.is_first && is_at SEMICOLON (state c.args.p.now).rest) ≡ false = elim c.else-is_first.branch [
       | else-is_first-via-then-is_first+else-at w ↦ not_both (λ _. sym w.at.ensures ∙ w.if-at.false)
-      | else-is_first-via-else-is_first w ↦ not_both {b = is_at SEMICOLON (state c.args.p.now).rest} (λ e. absurd (clash e w.if-is_first.false))
+      | else-is_first-via-else-is_first w ↦ not_both {b = is_at SEMICOLON (state c.args.p.now).rest}
+          (λ e. absurd (clash e w.if-is_first.false))
     ] in
-    record { run = fails e (rw c.if-has_semi.false (else_by c.at-2.ensures c.if-at-2.false (taken_expected c.in_ok-expect.ensures.state c.if-branch.true gives))) }
+    record {
+      run = fails e
+          (rw c.if-has_semi.false
+          (else_by c.at-2.ensures c.if-at-2.false (taken_expected c.in_ok-expect.ensures.state c.if-branch.true gives)));
+    }
 
 pub returns-clause-script : goal.returns-clause-script
 unfolding after_element
 returns-clause-script c =
     let e : (c.args.is_first && is_at SEMICOLON (state c.args.p.now).rest) ≡ false = elim c.else-is_first.branch [
       | else-is_first-via-then-is_first+else-at w ↦ not_both (λ _. sym w.at.ensures ∙ w.if-at.false)
-      | else-is_first-via-else-is_first w ↦ not_both {b = is_at SEMICOLON (state c.args.p.now).rest} (λ e. absurd (clash e w.if-is_first.false))
+      | else-is_first-via-else-is_first w ↦ not_both {b = is_at SEMICOLON (state c.args.p.now).rest}
+          (λ e. absurd (clash e w.if-is_first.false))
     ] in
-    record { run = fails e (rw c.if-has_semi.false (else_by c.at-2.ensures c.if-at-2.false (lacking_expected c.in_ok-expect.ensures.state c.if-branch.false gives))) }
+    record {
+      run = fails e
+          (rw c.if-has_semi.false
+          (else_by c.at-2.ensures c.if-at-2.false
+          (lacking_expected c.in_ok-expect.ensures.state c.if-branch.false gives)));
+    }

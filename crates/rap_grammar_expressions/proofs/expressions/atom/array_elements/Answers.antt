@@ -43,4 +43,5 @@ returns-else-not-at-clause-script g c = record {
 
 pub returns-after-elements-clause-script : goal.returns-after-elements-clause-script
 unfolding array_elements
-returns-after-elements-clause-script g c = record { run = last_turn c.elements.invariant.script (then_by c.at.ensures c.elements-test.false gives) refl }
+returns-after-elements-clause-script g c =
+    record { run = last_turn c.elements.invariant.script (then_by c.at.ensures c.elements-test.false gives) refl }

@@ -22,22 +22,39 @@ pub returns-in_ok-plain_block-clause-script : goal.returns-in_ok-plain_block-cla
 unfolding bracketed_expr
 returns-in_ok-plain_block-clause-script g c =
     let e : next (state c.args.p.now) ≡ L_CURLY = search rules in
-    record { run = (fails (rw e refl) (fails (rw e refl) (passes (rw e refl) (by_rule c.in_ok-plain_block.ensures.script gives)))) }
+    record {
+      run =
+          (fails (rw e refl)
+          (fails (rw e refl) (passes (rw e refl) (by_rule c.in_ok-plain_block.ensures.script gives))));
+    }
 
 pub returns-in_ok-underscore_expr-clause-script : goal.returns-in_ok-underscore_expr-clause-script
 unfolding bracketed_expr
 returns-in_ok-underscore_expr-clause-script g c =
     let e : next (state c.args.p.now) ≡ UNDERSCORE = search rules in
-    record { run = (fails (rw e refl) (fails (rw e refl) (fails (rw e refl) (passes (rw e refl) (to_end c.in_ok-underscore_expr.ensures.script))))) }
+    record {
+      run =
+          (fails (rw e refl)
+          (fails (rw e refl) (fails (rw e refl) (passes (rw e refl) (to_end c.in_ok-underscore_expr.ensures.script)))));
+    }
 
 pub returns-in_ok-let_expr-clause-script : goal.returns-in_ok-let_expr-clause-script
 unfolding bracketed_expr
 returns-in_ok-let_expr-clause-script g c =
     let e : next (state c.args.p.now) ≡ LET_KW = search rules in
-    record { run = (fails (rw e refl) (fails (rw e refl) (fails (rw e refl) (fails (rw e refl) (passes (rw e refl) (to_end c.in_ok-let_expr.ensures.script)))))) }
+    record {
+      run =
+          (fails (rw e refl)
+          (fails (rw e refl)
+          (fails (rw e refl) (fails (rw e refl) (passes (rw e refl) (to_end c.in_ok-let_expr.ensures.script))))));
+    }
 
 pub returns-in_ok-other-in_default-clause-script : goal.returns-in_ok-other-in_default-clause-script
 unfolding bracketed_expr
 returns-in_ok-other-in_default-clause-script g c = record {
-  run = (fails (search rules) (fails (search rules) (fails (search rules) (fails (search rules) (fails (search rules) (to_end c.in_ok-other-in_default.ensures.script))))));
+  run =
+      (fails (search rules)
+      (fails (search rules)
+      (fails (search rules)
+      (fails (search rules) (fails (search rules) (to_end c.in_ok-other-in_default.ensures.script))))));
 }

@@ -53,8 +53,11 @@ pub returns-then-saw_expr-clause-script : goal.returns-then-saw_expr-clause-scri
 unfolding tuple_elements
 returns-then-saw_expr-clause-script g c = record {
   run = elim c.elements-test.branch [
-    | then-elements-test+else-not-at w ↦ last_turn c.elements.invariant.script (else_by c.at.ensures w.elements-test.true (then_by w.at-in-elements.ensures w.if-not-at.false (rw c.if-saw_expr.true gives))) (not_on _)
-    | else-elements-test w ↦ last_turn c.elements.invariant.script (then_by c.at.ensures w.elements-test.false (rw c.if-saw_expr.true gives)) (not_on _)
+    | then-elements-test+else-not-at w ↦ last_turn c.elements.invariant.script
+        (else_by c.at.ensures w.elements-test.true
+        (then_by w.at-in-elements.ensures w.if-not-at.false (rw c.if-saw_expr.true gives))) (not_on _)
+    | else-elements-test w ↦ last_turn c.elements.invariant.script
+        (then_by c.at.ensures w.elements-test.false (rw c.if-saw_expr.true gives)) (not_on _)
   ];
 }
 
@@ -62,7 +65,10 @@ pub returns-else-saw_expr-clause-script : goal.returns-else-saw_expr-clause-scri
 unfolding tuple_elements
 returns-else-saw_expr-clause-script g c = record {
   run = elim c.elements-test.branch [
-    | then-elements-test+else-not-at w ↦ last_turn c.elements.invariant.script (else_by c.at.ensures w.elements-test.true (then_by w.at-in-elements.ensures w.if-not-at.false (rw c.if-saw_expr.false gives))) (not_on _)
-    | else-elements-test w ↦ last_turn c.elements.invariant.script (then_by c.at.ensures w.elements-test.false (rw c.if-saw_expr.false gives)) (not_on _)
+    | then-elements-test+else-not-at w ↦ last_turn c.elements.invariant.script
+        (else_by c.at.ensures w.elements-test.true
+        (then_by w.at-in-elements.ensures w.if-not-at.false (rw c.if-saw_expr.false gives))) (not_on _)
+    | else-elements-test w ↦ last_turn c.elements.invariant.script
+        (then_by c.at.ensures w.elements-test.false (rw c.if-saw_expr.false gives)) (not_on _)
   ];
 }

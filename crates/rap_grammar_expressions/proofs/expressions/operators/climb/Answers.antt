@@ -9,7 +9,11 @@ use Rattle.rap_grammar_expressions.proofs.expressions.operators.climb.Goals as g
 
 pub returns-then-op_bp-bp-clause-script : goal.returns-then-op_bp-bp-clause-script
 unfolding climb
-returns-then-op_bp-bp-clause-script g c = record { run = last_turn c.operators.invariant.script (stops_low c.args.r c.args.bp c.current_op-op_bp.ensures.power c.if-op_bp-bp.true) refl }
+returns-then-op_bp-bp-clause-script g c =
+    record {
+      run = last_turn c.operators.invariant.script
+          (stops_low c.args.r c.args.bp c.current_op-op_bp.ensures.power c.if-op_bp-bp.true) refl;
+    }
 
 pub operators-preserved-then-eq : goal.operators-preserved-then-eq
 operators-preserved-then-eq g c =
@@ -22,7 +26,9 @@ operators-preserved-then-eq g c =
       one = search rules;
       least = search rules;
       bound = search rules;
-      script = turn c.operators.invariant.script (goes_as c.args.r c.args.bp e.power some c.if-op_bp-bp.false cast c.in_ok-lhs.ensures.script);
+      script =
+          turn c.operators.invariant.script
+          (goes_as c.args.r c.args.bp e.power some c.if-op_bp-bp.false cast c.in_ok-lhs.ensures.script);
     }
 
 pub returns-then-not-has_end-clause-script : goal.returns-then-not-has_end-clause-script
@@ -31,7 +37,11 @@ returns-then-not-has_end-clause-script g c =
     let e = c.current_op-op_bp.ensures in
     let some : 0 < c.current_op-op_bp.result.0 = omega (arith, c.if-op_bp-bp.false, c.requires.power) in
     let no_cast : operator_at (state c.operators.p).rest ≢ AS_KW = search rules in
-    record { run = last_turn c.operators.invariant.script (stops_range c.args.r c.args.bp e.power some c.if-op_bp-bp.false no_cast c.if-op_bp-eq2.true (rw (e.op some) at c.in_ok-range.ensures.script) c.if-not-has_end.true) refl }
+    record {
+      run = last_turn c.operators.invariant.script
+          (stops_range c.args.r c.args.bp e.power some c.if-op_bp-bp.false no_cast c.if-op_bp-eq2.true
+          (rw (e.op some) at c.in_ok-range.ensures.script) c.if-not-has_end.true) refl;
+    }
 
 pub operators-preserved-then-op_bp-eq2 : goal.operators-preserved-then-op_bp-eq2
 operators-preserved-then-op_bp-eq2 g c =
@@ -44,7 +54,10 @@ operators-preserved-then-op_bp-eq2 g c =
       one = search rules;
       least = search rules;
       bound = search rules;
-      script = turn c.operators.invariant.script (goes_range c.args.r c.args.bp e.power some c.if-op_bp-bp.false no_cast c.if-op_bp-eq2.true (rw (e.op some) at c.in_ok-range.ensures.script) c.if-not-has_end.false);
+      script =
+          turn c.operators.invariant.script
+          (goes_range c.args.r c.args.bp e.power some c.if-op_bp-bp.false no_cast c.if-op_bp-eq2.true
+          (rw (e.op some) at c.in_ok-range.ensures.script) c.if-not-has_end.false);
     }
 
 pub bin_expr-requires-clause-left_side : goal.bin_expr-requires-clause-left_side
@@ -66,5 +79,8 @@ operators-preserved g c =
       one = search rules;
       least = search rules;
       bound = search rules;
-      script = turn c.operators.invariant.script (goes_binary c.args.r c.args.bp e.power some c.if-op_bp-bp.false no_cast c.if-op_bp-eq2.false (rw (e.op some) at c.in_ok-lhs-2.ensures.script));
+      script =
+          turn c.operators.invariant.script
+          (goes_binary c.args.r c.args.bp e.power some c.if-op_bp-bp.false no_cast c.if-op_bp-eq2.false
+          (rw (e.op some) at c.in_ok-lhs-2.ensures.script));
     }

@@ -13,8 +13,10 @@ invariant-operators g l = record {
   grew : Grew (state l.fn.p) (state l.p) 0;
   last : IsLast (state l.p) l.lhs l.lhs.kind.value;
   one : but_last (state l.p).forest ≡ but_last (state l.fn.p).forest;
-  least : (state l.p).messages ≡ 0 → l.lhs.kind.value ≡ BIN_EXPR → l.bp ≤ power (operator (last_children (state l.p).forest));
-  bound : (state l.p).messages ≡ 0 → l.lhs.kind.value ≡ BIN_EXPR → Bound (state l.p) (power (operator (last_children (state l.p).forest)));
+  least : (state l.p).messages ≡ 0 → l.lhs.kind.value ≡ BIN_EXPR →
+      l.bp ≤ power (operator (last_children (state l.p).forest));
+  bound : (state l.p).messages ≡ 0 → l.lhs.kind.value ≡ BIN_EXPR →
+      Bound (state l.p) (power (operator (last_children (state l.p).forest)));
   script : Turns (climb_turn l.r l.bp) false false false false (state l.fn.p) (state l.p);
 }
 

@@ -18,5 +18,6 @@ unfolding nested_use_tree use_tree script_of
 returns-clause-script g c = record {
   run = else_by c.is_use_tree_start.ensures c.if-is_use_tree_start.false
       (by_skip c.in_ok-err_and_bump.ensures.state
-      (decided c.use_tree_list_goes_on.result c.use_tree_list_goes_on.ensures.here (λ y. rw y gives) (λ n. rw n gives)));
+      (decided c.use_tree_list_goes_on.result c.use_tree_list_goes_on.ensures.here (λ y. rw y gives)
+      (λ n. rw n gives)));
 }

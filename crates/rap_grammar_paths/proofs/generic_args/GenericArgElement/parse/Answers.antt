@@ -12,4 +12,5 @@ returns-then-not-is_generic_arg_first-clause-script g c = record { run = fails (
 
 pub returns-clause-script : goal.returns-clause-script
 unfolding generic_arg_element script_of
-returns-clause-script g c = record { run = passes (search rules) (by_part phrase.generic_arg c.in_ok-run.ensures.1 gives) }
+returns-clause-script g c =
+    record { run = passes (search rules) (by_part phrase.generic_arg c.in_ok-run.ensures.1 gives) }
