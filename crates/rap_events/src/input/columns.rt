@@ -45,6 +45,7 @@ impl Columns {
     }
 
     /// Makes room for a record after the first `len`, which stay as they are, also if this is out of memory.
+    #[inline(always)]
     pub(super) fn make_room(&mut self, len: usize) -> Result<(), NoMemory>
         requires { Holds self.old len }
         ensures holds { Holds self.new len }
@@ -60,6 +61,8 @@ impl Columns {
 
     /// Fills the lists up by 64 places. The word of joints comes last, so that its places count only where the other
     /// lists have grown.
+    #[cold]
+    #[inline(never)]
     fn grow(&mut self, len: usize) -> Result<(), NoMemory>
         requires holds { Holds self.old len }
         requires full { len ≡ 64 * length self.old.joints.items }
