@@ -1,5 +1,5 @@
--- Empty forests at the bottom of a spot change nothing of what a script makes; so what an entry reads from the front of an
--- input is what the entry of the whole input reads under its marker.
+-- Empty forests at the bottom of a spot change nothing of what a script makes; so what an entry reads from the front of
+-- an input is what the entry of the whole input reads under its marker.
 use Rattle.std.proofs.Common.{◌≡◌, ℕ, ◌==◌, List, [], ◌∷◌, drop, refl, ap, sym, ◌∙◌}
 use Rattle.rap_events.specs.Record.{Record}
 use Rattle.rap_events.specs.Forest.{Forest, none, used}

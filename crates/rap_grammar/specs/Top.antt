@@ -24,7 +24,7 @@ top_tree f [] = kept (one_tree f) f
 top_tree f (r ∷ rs) = node none ERROR (with_leaves f (r ∷ rs))
 
 -- A forest over the first of the input's tokens, by few steps. In an output without messages all binary expressions and
--- token trees are as their rules ask.
+-- token trees are as their rules require.
 pub record IsForestOver (input : List Record) (tokens : ℕ) (f : Forest) : Type 0 where
   pub covers : covers input f ≡ true
   pub used : used f ≡ tokens

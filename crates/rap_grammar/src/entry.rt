@@ -1,4 +1,4 @@
-//! Where a parse begins, and what is made of its end.
+//! The entries of the grammar, and how a parse ends.
 ghost use Rattle.std.specs.Prelude.{◌≡◌, ◌≢◌, ◌^◌, ℕ, ◌+◌, ◌*◌, ◌<◌, ◌≤◌, ◌↔◌, length, [], IfOk, IfSome, OnOk, IsTrue, Some, None, true, false};
 ghost use Rattle.rap_events.specs.Cover.{covers};
 ghost use Rattle.rap_events.specs.Fit.{AllFitIn, is_plain};
@@ -27,7 +27,7 @@ use std::alloc::Global;
 pub mod part;
 pub mod top;
 
-/// Whether the output is exactly one node, with nothing beside it.
+/// Returns whether the output is exactly one node and nothing else.
 pub fn is_one_tree(output: &Output) -> bool
     ensures { result ≡ one_tree output.now }
 {
@@ -68,7 +68,7 @@ pub fn is_one_tree(output: &Output) -> bool
     nodes == 1
 }
 
-/// Reads what stands in the brackets of an attribute.
+/// Reads the contents of an attribute's brackets.
 fn meta_item(p: &mut Parser<'_>) -> Result<(), NoMemory>
     ensures grew { OnOk result (Grew (state p.old) (state p.new) 16) }
     ensures script { OnOk result (Follows called.meta something (state p.old) (state p.new)) }
@@ -77,7 +77,7 @@ fn meta_item(p: &mut Parser<'_>) -> Result<(), NoMemory>
     Ok(())
 }
 
-/// Reads what a macro gives as statements, to the end of the input.
+/// Reads the statements that a macro expands to, to the end of the input.
 fn macro_stmts(p: &mut Parser<'_>) -> Result<(), NoMemory>
     ensures grew { OnOk result (Grew (state p.old) (state p.new) 0) }
     ensures rest { OnOk result ((state p.new).rest ≡ []) }
@@ -107,7 +107,7 @@ fn items(p: &mut Parser<'_>) -> Result<(), NoMemory>
     Ok(())
 }
 
-/// Reads what a macro gives as items, to the end of the input.
+/// Reads the items that a macro expands to, to the end of the input.
 fn macro_items(p: &mut Parser<'_>) -> Result<(), NoMemory>
     ensures grew { OnOk result (Grew (state p.old) (state p.new) 0) }
     ensures rest { OnOk result ((state p.new).rest ≡ []) }
@@ -147,10 +147,11 @@ fn take_rest(p: &mut Parser<'_>) -> Result<(), NoMemory>
     Ok(())
 }
 
-/// Ends the parse of a top entry that made what stands under the marker `m`, the only open one.
+/// Ends the parse of a top entry. `m`, the only open marker, must be the one started first.
 ///
-/// What was made is kept as it is if no token is left and it is one tree: exactly one node, with no token and no message
-/// beside it. Otherwise the tokens that are left are taken one by one, and all of it stands in one `ERROR`.
+/// If no token is left and the output is one tree, exactly one node and no other token or message, it is returned as it
+/// is. Otherwise the tokens that are left are taken one by one, and the tree is one `ERROR` over everything. The error
+/// means out of memory.
 pub fn close_top(alloc: Global, mut p: Parser<'_>, m: Marker) -> Result<Output, NoMemory>
     requires newest { (state p).marker ≡ Some m.pos.value }
     requires below { (state p).below ≡ push floor None none }
@@ -175,7 +176,8 @@ pub fn close_top(alloc: Global, mut p: Parser<'_>, m: Marker) -> Result<Output, 
     Ok(output)
 }
 
-/// Ends the parse of a top entry whose node is started by the marker `m`, the only open one, where no token is left.
+/// Ends the parse of a top entry whose node has the marker `m`, the only open one. No token must be left. The error
+/// means out of memory.
 pub fn close_root(
     alloc: Global,
     mut p: Parser<'_>,

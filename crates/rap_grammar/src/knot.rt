@@ -1,4 +1,4 @@
-//! The knot of the grammar: each rule with all the others behind it.
+//! The knot of the grammar: the function that runs any recursive rule.
 ghost use Rattle.std.specs.Prelude.{◌≡◌, ◌+◌, ◌<◌, ◌≤◌, IfOk};
 ghost use Rattle.rap_events.specs.State.{state};
 ghost use Rattle.rap_grammar_frame.specs.Rules.{Pre, Post};
@@ -17,7 +17,7 @@ use rap_grammar_types::generic_args::generic_arg;
 use rap_grammar_types::generic_params::{bounds_without_colon, generic_param_list, where_clause};
 use rap_grammar_types::types::{path_type_bounds, type_with_bounds_cond};
 
-/// The grammar, by a call that runs any rule.
+/// The grammar as a function that runs any rule.
 #[derive(Drop)]
 pub(crate) struct Rules<F: Fn(&mut Parser<'_>, Rule) -> Result<Answer, NoMemory>> {
     pub(crate) run: F,
@@ -36,10 +36,10 @@ impl<F: Fn(&mut Parser<'_>, Rule) -> Result<Answer, NoMemory>> Grammar for Rules
     }
 }
 
-/// The grammar with its rules as they are: where no token of a rule was taken yet.
+/// The grammar before the first token: a rule may be called with all tokens left.
 #[derive(Drop)]
 pub(crate) struct AllRules {
-    /// How many tokens are left.
+    /// The number of tokens that are left.
     pub(crate) left: usize,
 }
 
@@ -54,14 +54,14 @@ impl Grammar for AllRules {
     }
 }
 
-/// All rules, for a parser that may have taken none of its tokens.
+/// Returns the rules for a parser that may have taken no token yet.
 pub(crate) fn all_rules(p: &Parser<'_>) -> AllRules
     ensures { result.left ≡ (state p.now).left }
 {
     AllRules { left: p.left() }
 }
 
-/// Runs a rule. It is inlined where a rule is come back to, so that each call goes to its rule directly: that halves
+/// Runs a rule. It is inlined into the recursive calls, so that each call goes to its rule directly: that halves
 /// what a level of nesting keeps on the stack.
 #[inline(always)]
 #[cycle(run)]

@@ -1,8 +1,8 @@
 //! Rust's grammar over the parser's markers, with recovery.
 //!
-//! The modules and functions have the names of rust-analyzer's parser. A contract says what holds whatever the
-//! tokens are: the open markers are as before, at most 256 events are recorded for each token taken, and the rule
-//! follows its script, which says for every input what it makes.
+//! The modules and functions have the names of rust-analyzer's parser. The contract of a rule holds for all tokens: the
+//! open markers are as before, at most 256 events are recorded for each token taken, and the rule follows its script,
+//! which determines the output for every input.
 #![tactic(auto)]
 
 pub mod entry;

@@ -48,7 +48,7 @@ pub fn stmt<G: Grammar>(p: &mut Parser<'_>, g: &G, semicolon: Semicolon) -> Resu
     Ok(())
 }
 
-/// An expression from the newest marker on, as a statement, or as the value of the block that ends behind it.
+/// An expression from the newest marker on, as a statement, or as the value of the block that ends after it.
 fn expr_as_stmt<G: Grammar>(
     p: &mut Parser<'_>,
     g: &G,
@@ -109,7 +109,7 @@ fn ends_block(p: &Parser<'_>, semicolon: Semicolon) -> bool
     }
 }
 
-/// The semicolon behind an expression, which one that reads like a block may do without.
+/// The semicolon after an expression, which one that reads like a block may do without.
 fn expr_semicolon(
     p: &mut Parser<'_>,
     semicolon: Semicolon,

@@ -88,7 +88,7 @@ fn fields<G: Grammar>(p: &mut Parser<'_>, g: &G, is_struct: bool) -> Result<(), 
     Ok(())
 }
 
-/// A `where`, and the fields behind it.
+/// A `where`, and the fields after it.
 fn fields_behind_where<G: Grammar>(p: &mut Parser<'_>, g: &G) -> Result<(), NoMemory>
     requires behind { Behind G.valid G.left g.now (state p.old) }
     ensures grew { OnOk result (Grew (state p.old) (state p.new) 1) }
@@ -123,7 +123,7 @@ fn struct_fields<G: Grammar>(p: &mut Parser<'_>, g: &G) -> Result<(), NoMemory>
     Ok(())
 }
 
-/// Fields in parentheses, and what stands behind them.
+/// Fields in parentheses, and what stands after them.
 fn tuple_fields<G: Grammar>(p: &mut Parser<'_>, g: &G) -> Result<(), NoMemory>
     requires within { Within G.valid G.left g.now (state p.old) }
     requires here { next (state p.old) ≡ L_PAREN }
@@ -187,7 +187,7 @@ fn variants<G: Grammar>(p: &mut Parser<'_>, g: &G) -> Result<(), NoMemory>
     Ok(())
 }
 
-/// A variant, with the comma behind it. A block in its place is reported.
+/// A variant, with the comma after it. A block in its place is reported.
 fn variant_or_block<G: Grammar>(p: &mut Parser<'_>, g: &G) -> Result<(), NoMemory>
     requires behind { Behind G.valid G.left g.now (state p.old) }
     requires more { next (state p.old) ≢ EOF }
@@ -253,7 +253,7 @@ fn named_variant<G: Grammar>(p: &mut Parser<'_>, g: &G, m: Marker) -> Result<(),
     Ok(())
 }
 
-/// A field or a variant is missing. The next token is taken along, unless the list ends there.
+/// A field or a variant is missing. The next token is skipped too, unless the list ends there.
 fn missing_in_list(p: &mut Parser<'_>, message: &str) -> Result<(), NoMemory>
     ensures grew { OnOk result (Grew (state p.old) (state p.new) recovery_events) }
     ensures took { OnOk result
@@ -268,7 +268,7 @@ fn missing_in_list(p: &mut Parser<'_>, message: &str) -> Result<(), NoMemory>
     Ok(())
 }
 
-/// What stands behind a variant's name: its fields and its value.
+/// What stands after a variant's name: its fields and its value.
 fn after_variant_name<G: Grammar>(p: &mut Parser<'_>, g: &G, m: Marker) -> Result<(), NoMemory>
     requires behind { Behind G.valid G.left g.now (state p.old) }
     requires newest { (state p.old).marker ≡ Some m.pos.value }
@@ -342,7 +342,7 @@ fn record_fields<G: Grammar>(p: &mut Parser<'_>, g: &G) -> Result<(), NoMemory>
     Ok(())
 }
 
-/// A named field, with the comma behind it. A block in its place is reported.
+/// A named field, with the comma after it. A block in its place is reported.
 fn field_or_block<G: Grammar>(p: &mut Parser<'_>, g: &G) -> Result<(), NoMemory>
     requires behind { Behind G.valid G.left g.now (state p.old) }
     requires more { next (state p.old) ≢ EOF }
@@ -387,7 +387,7 @@ fn visible_field<G: Grammar>(p: &mut Parser<'_>, g: &G, m: Marker) -> Result<(),
     Ok(())
 }
 
-/// A field from its `mut` restriction on, which may stand before `unsafe` and behind it.
+/// A field from its `mut` restriction on, which may stand before `unsafe` and after it.
 fn restricted_field<G: Grammar>(p: &mut Parser<'_>, g: &G, m: Marker) -> Result<(), NoMemory>
     requires behind { Behind G.valid G.left g.now (state p.old) }
     requires newest { (state p.old).marker ≡ Some m.pos.value }

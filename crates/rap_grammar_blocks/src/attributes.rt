@@ -23,14 +23,14 @@ use rap_grammar_frame::token_tree::{is_bracket, token_tree};
 use rap_grammar_paths::paths::attr_path;
 use rap_grammar_scripts::T;
 
-/// Whether an attribute of what it stands in comes next.
+/// Returns whether an inner attribute comes next.
 fn is_inner_attr_start(p: &Parser<'_>) -> bool
     ensures { result ≡ is_inner_attr_start (state p.now).rest }
 {
     p.at(SyntaxKind::INNER_DOC_COMMENT) || (p.at(T![#]) && p.nth_at(1, T![!]))
 }
 
-/// The attributes of what they stand in, as `#![a]` at the head of a block.
+/// Inner attributes, as `#![a]` at the head of a block.
 pub fn inner_attrs<G: Grammar>(p: &mut Parser<'_>, g: &G) -> Result<(), NoMemory>
     requires within { Within G.valid G.left g.now (state p.old) }
     ensures grew { OnOk result (Grew (state p.old) (state p.new) 0) }
@@ -43,7 +43,7 @@ pub fn inner_attrs<G: Grammar>(p: &mut Parser<'_>, g: &G) -> Result<(), NoMemory
     Ok(())
 }
 
-/// The attributes before what they are of, as `#[a]` before a field.
+/// Outer attributes, as `#[a]` before a field.
 pub fn outer_attrs<G: Grammar>(p: &mut Parser<'_>, g: &G) -> Result<(), NoMemory>
     requires within { Within G.valid G.left g.now (state p.old) }
     ensures grew { OnOk result (Grew (state p.old) (state p.new) 0) }
@@ -103,7 +103,7 @@ fn attr_mark(p: &mut Parser<'_>, inner: bool) -> Result<(), NoMemory>
     Ok(())
 }
 
-/// The brackets of an attribute with what stands in them, as `[a]` behind `#`.
+/// The brackets of an attribute with what stands in them, as `[a]` after `#`.
 fn attr_brackets<G: Grammar>(p: &mut Parser<'_>, g: &G) -> Result<(), NoMemory>
     requires within { Within G.valid G.left g.now (state p.old) }
     ensures grew { OnOk result (Grew (state p.old) (state p.new) 1) }
@@ -117,7 +117,7 @@ fn attr_brackets<G: Grammar>(p: &mut Parser<'_>, g: &G) -> Result<(), NoMemory>
     Ok(())
 }
 
-/// Whether an identifier that may be read as this keyword comes next, and a `(` behind it.
+/// Whether an identifier that may be read as this keyword comes next, and a `(` after it.
 fn at_called_kw(p: &Parser<'_>, kw: SyntaxKind) -> bool
     requires { kw ≢ EOF }
     ensures { result ≡ at_called_kw kw (state p.now).rest }
@@ -181,7 +181,7 @@ fn cfg_attr_meta<G: Grammar>(p: &mut Parser<'_>, g: &G) -> Result<(), NoMemory>
     Ok(())
 }
 
-/// The attributes behind their condition, as `b, c = "d"` in `cfg_attr(a, b, c = "d")`.
+/// The attributes after their condition, as `b, c = "d"` in `cfg_attr(a, b, c = "d")`.
 fn cfg_attr_metas<G: Grammar>(p: &mut Parser<'_>, g: &G) -> Result<(), NoMemory>
     requires behind { Behind G.valid G.left g.now (state p.old) }
     ensures grew { OnOk result (Grew (state p.old) (state p.new) 16) }

@@ -40,7 +40,7 @@ after_stop false e m g k less some =
       below = k.below ∙ t.below;
     }
 
--- where no expression begins, the next token is passed over
+-- no expression begins, the next token is passed over
 pub missed_took : {s t u : State} {bytes : List ℕ} → Missed s t → Grew s t 8 → Skipped t u bytes →
     (0 < t.left → u.left < t.left) → 0 < s.left → Took s u asm_end_room
 missed_took {s = s} m g k less some = after_stop (stops_expr (next s)) refl m g k less some
@@ -81,12 +81,12 @@ by_left (suc n) l e g took some =
       below = t.below ∙ e.below;
     }
 
--- behind a comma, which may be missing
+-- after a comma, which may be missing
 pub piece_took : {s t u : State} {k : ℕ} {b : Bool} → Expected s t k b → Grew t u 20 → (0 < t.left → Took t u 64) →
     0 < s.left → Took s u 8
 piece_took {t = t} e g took some = by_left t.left refl e g took some
 
--- an operand behind the word that says which way it goes
+-- an operand after the word that says which way it goes
 pub by_dir : (b : Bool) (n : Script Phrase) {s t : State} {q : Spot} {v : Outcome} →
     Follows (reg_operand b) something s t → On (finish ASM_REG_OPERAND done) (spot t) q v →
     On (by_way (of_way (Some b)) n) (spot s) q v
@@ -159,7 +159,7 @@ operand_took {t = t} {a = false} {b = false} o g took stays c d e f gone ended s
 operand_took {a = true} o g took stays c d e f gone ended some = absurd cc
 operand_took {a = false} {b = true} o g took stays c d e f gone ended some = absurd cc
 
--- an operand behind its name, if it has one
+-- an operand after its name, if it has one
 pub named_ended : {s t u v : State} {kind : ℕ} → Grew s t 0 → Took t u operand_room → Completed u v kind →
     Ended s v asm_room
 named_ended g t d =

@@ -26,7 +26,7 @@ use rap_grammar_paths::paths::sym_path;
 use rap_grammar_scripts::T;
 use rap_grammar_scripts::arguments::Restrictions;
 
-/// Inline assembly behind its name, as `("nop", in(reg) a)`.
+/// Inline assembly after its name, as `("nop", in(reg) a)`.
 pub fn parse_asm_expr<G: Grammar>(
     p: &mut Parser<'_>,
     g: &G,
@@ -45,7 +45,7 @@ pub fn parse_asm_expr<G: Grammar>(
     Ok(cm)
 }
 
-/// What stands behind the first template, up to the bracket that closes.
+/// What stands after the first template, up to the bracket that closes.
 fn asm_pieces<G: Grammar>(p: &mut Parser<'_>, g: &G) -> Result<(), NoMemory>
     requires behind { Behind G.valid G.left g.now (state p.old) }
     ensures grew { OnOk result (Grew (state p.old) (state p.new) 1) }
@@ -66,7 +66,7 @@ fn asm_pieces<G: Grammar>(p: &mut Parser<'_>, g: &G) -> Result<(), NoMemory>
     Ok(())
 }
 
-/// What stands behind a comma. Returns whether templates may follow, or `None` where the list ends.
+/// What stands after a comma. Returns whether templates may follow, or `None` where the list ends.
 fn asm_piece<G: Grammar>(
     p: &mut Parser<'_>,
     g: &G,
@@ -119,7 +119,7 @@ fn named_operand<G: Grammar>(
     Ok(allow)
 }
 
-/// Whether a template may still follow: none does behind a name.
+/// Whether a template may still follow: none does after a name.
 fn templates_after(allow_templates: bool, is_named: bool) -> bool
     ensures { result ≡ script.templates_after allow_templates (of_bool is_named) }
 {
@@ -287,7 +287,7 @@ fn dir_spec(p: &mut Parser<'_>) -> Result<Option<bool>, NoMemory>
     Ok(None)
 }
 
-/// A register operand behind its direction, as `(reg) x`. If it is in and out, another place may follow for the output,
+/// A register operand after its direction, as `(reg) x`. If it is in and out, another place may follow for the output,
 /// as in `(reg) x => y`.
 fn reg_operand<G: Grammar>(p: &mut Parser<'_>, g: &G, goes_both_ways: bool) -> Result<(), NoMemory>
     requires behind { Behind G.valid G.left g.now (state p.old) }
@@ -337,7 +337,7 @@ fn parse_reg(p: &mut Parser<'_>) -> Result<(), NoMemory>
     Ok(())
 }
 
-/// The name of a register or of a class of them.
+/// The name of a register or of a class of registers.
 fn reg_spec(p: &mut Parser<'_>) -> Result<(), NoMemory>
     ensures grew { OnOk result (Grew (state p.old) (state p.new) recovery_events) }
     ensures script { OnOk result (Follows script.reg_spec something (state p.old) (state p.new)) }

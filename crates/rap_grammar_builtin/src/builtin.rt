@@ -1,4 +1,4 @@
-//! The forms behind `builtin#`.
+//! The forms after `builtin#`.
 //! In the Rust crate: `grammar/expressions/atom.rs`.
 ghost use Rattle.std.specs.Prelude.{◌≡◌, ◌≢◌, ◌<◌, ◌≤◌, IfOk, OnOk, IfSome, IsTrue, Some, None, true, false, ◌⊎◌};
 ghost use Rattle.rap_base.specs.Keyword.{is_any_identifier};
@@ -24,7 +24,7 @@ use rap_grammar_frame::names::{name_any_identifier, name_ref_mod_path_or_index};
 use rap_grammar_scripts::T;
 use rap_grammar_scripts::arguments::BlockLike;
 
-/// An expression behind `builtin#`, as `builtin#offset_of(a, b)`. An unknown name is reported and not taken.
+/// An expression after `builtin#`, as `builtin#offset_of(a, b)`. An unknown name is reported and not taken.
 #[inline(never)]
 pub fn builtin_expr<G: Grammar>(p: &mut Parser<'_>, g: &G) -> Result<Answer, NoMemory>
     requires within { Within G.valid G.left g.now (state p.old) }

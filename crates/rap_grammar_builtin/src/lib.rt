@@ -1,4 +1,4 @@
-//! Inline assembly, and what else stands behind `builtin #`.
+//! Inline assembly, and what else stands after `builtin #`.
 #![tactic(auto)]
 
 pub mod asm;

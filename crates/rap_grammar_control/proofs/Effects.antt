@@ -64,7 +64,7 @@ brace rs h =
     (λ f. rw (e, f)
     (next_at 1 rs ∙ after_none (next_kind rs) _ (kind_at rs 2) (kind_at rs 3) h k (rw (← (next_at 1 rs)) f))))
 
--- behind it the brace comes next
+-- after it the brace comes next
 pub brace_next : {s t u v : State} {k : ℕ} {a b : Bool} → is_effect_block s.rest ≡ true →
     Bumped s t k 1 → Ate t u GEN_KW a → Ate u v MOVE_KW b → next v ≡ L_CURLY
 brace_next {s = s} h d e f =

@@ -122,7 +122,7 @@ fn effect_block<G: Grammar>(p: &mut Parser<'_>, g: &G) -> Result<CompletedMarker
     Ok(cm)
 }
 
-/// A `try`, and the type of the block behind it, as `try bikeshed a`.
+/// A `try`, and the type of the block after it, as `try bikeshed a`.
 fn try_modifier<G: Grammar>(p: &mut Parser<'_>, g: &G) -> Result<(), NoMemory>
     requires within { Within G.valid G.left g.now (state p.old) }
     requires here { next (state p.old) ≡ TRY_KW }

@@ -94,7 +94,7 @@ fn closure_body<G: Grammar>(p: &mut Parser<'_>, g: &G) -> Result<(), NoMemory>
     Ok(())
 }
 
-/// Angle brackets that nothing opened, behind the type of a closure.
+/// Angle brackets that nothing opened, after the type of a closure.
 fn closing_angles(p: &mut Parser<'_>) -> Result<(), NoMemory>
     ensures grew { OnOk result (Grew (state p.old) (state p.new) 0) }
     ensures script { OnOk result (Follows script.closing_angles something (state p.old) (state p.new)) }

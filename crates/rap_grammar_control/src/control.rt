@@ -162,7 +162,7 @@ fn for_from<G: Grammar>(p: &mut Parser<'_>, g: &G, m: Marker) -> Result<Complete
     Ok(cm)
 }
 
-/// A loop or a block behind its label, as `'a: loop {}`. Where neither follows, the label stands in an `ERROR`.
+/// A loop or a block after its label, as `'a: loop {}`. Where neither follows, the label stands in an `ERROR`.
 #[inline(never)]
 pub fn labelled_expr<G: Grammar>(p: &mut Parser<'_>, g: &G) -> Result<Answer, NoMemory>
     requires within { Within G.valid G.left g.now (state p.old) }

@@ -62,7 +62,7 @@ pub fn match_arm_list<G: Grammar>(p: &mut Parser<'_>, g: &G) -> Result<(), NoMem
     Ok(())
 }
 
-/// The arms up to the brace that closes. What can be none is reported and passed over.
+/// The arms up to the brace that closes. What is not an arm is reported and skipped.
 fn match_arms<G: Grammar>(p: &mut Parser<'_>, g: &G) -> Result<(), NoMemory>
     requires behind { Behind G.valid G.left g.now (state p.old) }
     ensures grew { OnOk result (Grew (state p.old) (state p.new) 0) }

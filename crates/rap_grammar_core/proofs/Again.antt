@@ -10,7 +10,7 @@ use Rattle.rap_grammar_core.specs.ParsedAgain.{is_parsed_again, IsBracketed, Mak
 use Rattle.rap_grammar_core.specs.StandsIn.{NodeAt, last_node, in_last_node, before_node, before_leaf, StandsIn}
 use Rattle.rap_grammar_core.proofs.Built.{Built, empty, with_leaf, with_node, used-built, core_built}
 
--- so many tokens, behind so many others
+-- so many tokens, after so many others
 own_tokens : (before own after : List Record) (n m : ℕ) → length before ≡ n → length own ≡ m →
     take m (drop n (before ++ (own ++ after))) ≡ own
 own_tokens before own after n m e f =

@@ -30,7 +30,7 @@ both {ks = ks} x (with_leaf {ks = is} {f = f} {kind = k} {width = w} os y e) =
     rw (append_assoc ks is os) at (with_leaf {kind = k} {width = w} os (both x y) e)
 both {ks = ks} x (with_node {ks = is} {js = js} y z g) = rw (append_assoc ks is js) at (with_node (both x y) z g)
 
--- a leaf of one token behind a forest, and alone
+-- a leaf of one token after a forest, and alone
 plus : {ks : List Record} {f : Forest} → Built ks f → (r : Record) (kind : ℕ) → Built (ks ++ r ∷ []) (leaf f kind 1)
 plus x r kind = with_leaf (r ∷ []) x refl
 
@@ -45,7 +45,7 @@ over : {kind : ℕ} {ks : List Record} {c : Forest} → is_parsed_again kind ≡
     Built ks (node none kind c)
 over h x = with_node empty x (λ i. absurd (no_clash h i))
 
--- the tokens of an operator, as one leaf behind a forest
+-- the tokens of an operator, as one leaf after a forest
 length-touching : (k : ℕ) (ks : List ℕ) (os : List Record) → Touching (k ∷ ks) os → length os ≡ length (k ∷ ks)
 length-touching k ks [] h = absurd h
 length-touching k [] (r ∷ []) h = refl

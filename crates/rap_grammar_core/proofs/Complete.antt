@@ -250,7 +250,7 @@ three_lists ks os js l = simp append_assoc
 in_brackets : (ks js l : List Record) (a b : Record) → (ks ++ a ∷ (js ++ b ∷ [])) ++ l ≡ ks ++ a ∷ (js ++ b ∷ l)
 in_brackets ks js l a b = simp append_assoc
 
--- behind a `::` a name is no argument
+-- after a `::` a name is no argument
 colons_alone : (ty : Bool) {os : List Record} (rest : List Record) → Writes os COLON2 → next_kind rest ≡ IDENT →
     NoArguments ty (os ++ rest)
 colons_alone true {os = os} rest w k =
@@ -291,7 +291,7 @@ four_lists : (ks js is : List Record) (z : Record) (l : List Record) →
     (ks ++ (js ++ (is ++ z ∷ []))) ++ l ≡ ks ++ (js ++ (is ++ z ∷ l))
 four_lists ks js is z l = simp append_assoc
 
--- what comes next behind the type of a `let`
+-- what comes next after the type of a `let`
 abbrev ends_type_of_let : ℕ → Bool
 ends_type_of_let k = one_of (EQ ∷ SEMICOLON ∷ []) k
 
@@ -300,7 +300,7 @@ value_next : {is : List Record} {v : Forest} → Perhaps (Known Value) is v → 
 value_next missing c l i = rw i.kind_is refl
 value_next (there (value_given o d, x)) c l i = rw o.kind_is refl
 
--- a colon with a type behind it is no `::`
+-- a colon with a type after it is no `::`
 pub colon_ends_bind : (a : Record) (rs : List Record) → Is a COLON → begins_type (next_kind rs) ≡ true →
     EndsBind (a ∷ rs)
 colon_ends_bind a rs o h =
@@ -340,7 +340,7 @@ no_else_at_end : (optional : Bool) (l : List Record) → next_kind l ≡ ends_co
 no_else_at_end true l h = rw h refl
 no_else_at_end false l h = rw h refl
 
--- what comes next behind the brace of a block
+-- what comes next after the brace of a block
 abbrev begins_contents : ℕ → Bool
 begins_contents k = (k == R_CURLY) || begins_statement k
 
@@ -379,7 +379,7 @@ unfolding Claim
 body_before {ks = ks} (d, x) b f l =
     block_expr_way (eqb-true (next_kind (ks ++ l)) L_CURLY (next_begins l (first d refl))) (x b f l)
 
--- what stands behind an `else`, if there is one
+-- what stands after an `else`, if there is one
 else_before : {is : List Record} {v : Forest} → Perhaps (Known Else) is v →
     (b : List Forest) (f : Forest) (l : List Record) → (next_kind l == ELSE_KW) ≡ false →
     Leads else_branch b (is ++ l) f l (f ⧺ v)

@@ -209,7 +209,7 @@ a_function d =
     let function = item_function {a = token FN_KW} maybe_none its_kind a_given_name no_params maybe_none body in
     file_of (rw append-nil at (many_more function many_none))
 
--- `fn f() { if a { } b }`: a condition that a block needs no semicolon behind, before the value of that block
+-- `fn f() { if a { } b }`: a condition that a block needs no semicolon after, before the value of that block
 a_condition : Derives WithBlock (token IF_KW ∷ name ∷ token L_CURLY ∷ token R_CURLY ∷ [])
     (node none IF_EXPR (with_empty (with_name (leaf none IF_KW 1))))
 a_condition = with_if (if_of its_kind name_expression empty_block maybe_none)

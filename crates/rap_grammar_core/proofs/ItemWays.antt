@@ -54,7 +54,7 @@ EndsNothing s b f rs x l g =
           b;
     }) nothing
 
--- a name that is given
+-- a declared name
 pub given_name_way : (kept : ℕ → Bool) {b : List Forest} {r : Record} {l : List Record} {f : Forest} → r.kind ≡ IDENT →
     Leads (name_r kept) b (r ∷ l) f l (node f NAME (leaf none IDENT 1))
 unfolding name_r
@@ -85,7 +85,7 @@ pub item_way : (stop ext : Bool) {b : List Forest} {rs l : List Record} {f g : F
 unfolding item_or_macro marked_item after_item
 item_way stop ext n x s = starts (follows (no_attributes n) (follows x (fails s gives)))
 
--- an item whose keyword comes behind its visibility alone
+-- an item whose keyword comes after its visibility alone
 pub unmodified_way : (ext : Bool) (v : Outcome) {b : List Forest} {rs m l : List Record} {f x g : Forest} →
     Goes v (opt_visibility false) (f ∷ b) rs none m x → Ends opt_item_without_modifiers b f m x l g →
     Ends (opt_item ext) b f rs none l g
@@ -349,7 +349,7 @@ no_params_way c =
     follows (starts (follows (no_attributes (rw c refl)) (follows (fails (rw c refl) (fails (rw c refl) gives))
     (fails (rw c refl) (passes (rw c refl) (abandons gives)))))) gives
 
--- a parameter from its marker on, with the comma behind it, or before the parenthesis that closes
+-- a parameter from its marker on, with the comma after it, or before the parenthesis that closes
 pub param_way : {b : List Forest} {rs m k : List Record} {c d : Record} {f x y : Forest} → next_kind rs ≡ IDENT →
     Leads pattern (f ∷ b) rs none (c ∷ m) x → c.kind ≡ COLON → begins_type (next_kind m) ≡ true →
     Leads type_ (f ∷ b) m (leaf x COLON 1) (d ∷ k) y → d.kind ≡ COMMA →

@@ -84,7 +84,7 @@ stray_way h =
     (abandons (fails (not_so h L_CURLY refl) (fails (rw (not_so h R_CURLY refl) refl)
     (fails (rw (so_not h EOF refl, so_not h R_CURLY refl) refl) (fails (not_so h LET_KW refl) (skips gives)))))))))
 
--- a run of items goes on behind a first one
+-- a run of items goes on after a first one
 flag_of : Outcome → Bool
 flag_of nothing = false
 flag_of something = false
@@ -124,7 +124,7 @@ mixed_apart (an_item {ks = ks} {js = js} d m) l k h i e =
     rw append_assoc (differ begins_item (next_kind (ks ++ (js ++ l))) k (next_begins (js ++ l) (first d refl)) h)
 mixed_apart (a_stray s m) l k h i e = not_so s k i
 
--- a run goes on behind all that is mixed
+-- a run goes on after all that is mixed
 behind_mixed : {ks : List Record} {t : Forest} → Mixed ks t →
     (b : List Forest) (f : Forest) (l : List Record) {q : Spot} {v : Outcome} → no_semicolon l →
     Runs script_of (items false) (record { rest = ks ++ l; forest = f; below = b }) q v →

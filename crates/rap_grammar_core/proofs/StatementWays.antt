@@ -122,7 +122,7 @@ no_item o p =
     follows (no_visibility o) (follows (no_plain_item o p) (follows (no_modifiers o p)
     (follows (no_modified_item o) gives)))
 
--- a name that is given
+-- a declared name
 pub name_way : (kept : ℕ → Bool) {b : List Forest} {r : Record} {l : List Record} {f : Forest} → r.kind ≡ IDENT →
     Leads (name_r kept) b (r ∷ l) f l (node f NAME (leaf none IDENT 1))
 unfolding name_r
@@ -176,7 +176,7 @@ bind_way {r = r} {l = l} n e =
     (follows (atom_pat_way n e) (no_range_way (differ ends_bind (next_kind l) DOT e.next refl)))))
     (fails (differ ends_bind (next_kind l) PIPE e.next refl) (abandons gives))))) gives
 
--- a type behind its colon
+-- a type after its colon
 pub ascription_way : {b : List Forest} {a : Record} {rs l : List Record} {f x : Forest} → a.kind ≡ COLON →
     (next_kind rs == EQ) ≡ false → Leads type_ b rs (leaf f COLON 1) l x → Leads ascription b (a ∷ rs) f l x
 unfolding ascription

@@ -167,7 +167,7 @@ pub literal_way : (q : Restrictions) {b : List Forest} {r : Record} {l : List Re
 unfolding atom_expr literal
 literal_way q ne e = follows (passes e (starts (takes_any ne (finishes gives)))) gives
 
--- a path with neither the fields of a record nor a macro call behind it
+-- a path with neither the fields of a record nor a macro call after it
 pub path_expr_way : (r : Restrictions) {b : List Forest} {rs m : List Record} {f x : Forest} → next_kind rs ≡ IDENT →
     starts_builtin rs ≡ false → Leads (path mode.Expr) (f ∷ b) rs none m x → starts_macro_call m ≡ false →
     starts_record r.forbid_structs m ≡ false →
@@ -177,7 +177,7 @@ path_expr_way r {b = b} {f = f} e i x macro brace =
     follows (no_literal (rw e refl) b f)
     (fails i (passes (rw e refl) (starts (follows (follows x gives) (fails brace (fails macro (finishes gives)))))))
 
--- what stands behind the tests of an atom, where neither a literal, a path nor a bracket begins
+-- what stands after the tests of an atom, where neither a literal, a path nor a bracket begins
 block_atom_way : (k : ℕ) (r : Restrictions) {b : List Forest} {rs l : List Record} {f x : Forest} → next_kind rs ≡ k →
     begins_block k ≡ true → Runs script_of (bracketed_expr r) (record { rest = rs; forest = f; below = b })
     (record { rest = l; forest = x; below = b }) block →

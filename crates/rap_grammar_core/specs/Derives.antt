@@ -66,11 +66,11 @@ pub record StartsPlainly (ks : List Record) : Type 0 where
 -- What is derived: something that may be missing; any number of something; elements with commas between them, at least
 -- one; an expression; one of operators of at least a power, 12 being above them all; one with operators before it
 -- alone; an operand with what follows it directly; the arguments of a call; an operand alone; a path, one of its
--- segments, and that segment's name; a type; a name that is given, and the pattern that it is; `pub`; a type behind
--- its colon; a value behind its `=`; a statement; what stands in the braces of a block, and a block; a block, a
--- condition or a loop, as an expression; a condition, and what stands behind its `else`; an item; items in braces; the
+-- segments, and that segment's name; a type; a declared name, and the pattern that it is; `pub`; a type after
+-- its colon; a value after its `=`; a statement; what stands in the braces of a block, and a block; a block, a
+-- condition or a loop, as an expression; a condition, and what stands after its `else`; an item; items in braces; the
 -- fields of a struct in braces, and one of them; those in parentheses, and one of them; the parameters of a function,
--- and one of them; the type that it gives back; a file.
+-- and one of them; its return type; a file.
 pub data Category : Type 0 where
   Maybe : Category → Category
   Many : Category → Category

@@ -3,7 +3,7 @@ use Rattle.std.specs.Prelude.{◌≡◌, ℕ, ◌+◌, List, ◌++◌, length, B
 use Rattle.rap_events.specs.Record.{Record}
 use Rattle.rap_events.specs.Forest.{Forest, node, leaf, message, split, used}
 
--- A node of this kind over this forest stands somewhere in a forest, behind so many of its tokens.
+-- A node of this kind over this forest stands somewhere in a forest, after so many of its tokens.
 pub data NodeAt : Forest → ℕ → ℕ → Forest → Type 0 where
   last_node : {f c : Forest} {kind : ℕ} → NodeAt (node f kind c) (used f) kind c
   in_last_node : {f c children : Forest} {k kind tokens : ℕ} → NodeAt c tokens kind children →
@@ -17,7 +17,7 @@ pub data NodeAt : Forest → ℕ → ℕ → Forest → Type 0 where
   before_split : {f children : Forest} {ends_in_dot : Bool} {kind tokens : ℕ} → NodeAt f tokens kind children →
       NodeAt (split f ends_in_dot) tokens kind children
 
--- The node stands in a tree over these tokens, and its leaves stand for its own among them: those behind the leaves
+-- The node stands in a tree over these tokens, and its leaves stand for its own among them: those after the leaves
 -- before it, as many as its leaves stand for.
 pub record StandsIn (tokens : List Record) (tree : Forest) (own : List Record) (kind : ℕ)
     (children : Forest) : Type 0 where

@@ -1,4 +1,4 @@
-//! Laws of the core grammar. Each is a function that does nothing, whose contract is the law.
+//! Laws of the core grammar. Each is a function that does nothing and whose contract is the law.
 ghost use Rattle.rap_grammar_core.specs.Derives.{Block, Contents, Expression, Fields, File, Item, Items, Many, Ty};
 ghost use Rattle.rap_grammar_core.specs.Laws.{HasOneTree, HoldsPlain, MakesItsNodes};
 

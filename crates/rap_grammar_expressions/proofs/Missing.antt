@@ -146,7 +146,7 @@ answered_from stmt bp None m d spent = (
       record { left = l.left; count = omega (arith, l.count) },
 )
 
--- an expression behind its attributes
+-- an expression after its attributes
 pub answered : (stmt : Bool) (bp : ℕ) (o : Option (CompletedMarker × BlockLike)) {s0 s1 s2 t : State} {m : ℕ} →
     Opened s0 s1 m → Grew s1 s2 0 →
     (is_outer_attr_first (next s1) ≡ true → Took s1 s2 list_room) → (is_outer_attr_first (next s1) ≡ false → s2 ≡ s1) →

@@ -90,8 +90,8 @@ fn expr_from<G: Grammar>(
     Ok(Some((cm, BlockLike::NotBlock)))
 }
 
-/// An expression is missing: the marker goes. It is a function of its own so that the set takes no room on the stack of
-/// the rules that nest.
+/// Reports that an expression is missing, and abandons the marker. It is a function of its own so that the set
+/// takes no room on the stack of the recursive rules.
 #[inline(never)]
 fn missing_expr(p: &mut Parser<'_>, m: Marker) -> Result<(), NoMemory>
     requires newest { (state p.old).marker ≡ Some m.pos.value }

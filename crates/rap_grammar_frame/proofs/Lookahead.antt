@@ -38,7 +38,7 @@ past_ate rs n k {s = s} {b = true} w e a =
     past_taken rs n k e (sym a.decided) ((a.token refl).rest ∙ ap (λ (x : ℕ). drop x s.rest) w)
 past_ate rs n k {b = false} w e a = past_none rs n k e (sym a.decided) (ap (λ (x : State). x.rest) (a.not_token refl))
 
--- behind what a `self` by reference begins with comes the `self`
+-- after what a `self` by reference begins with comes the `self`
 pub self_of_ref : (rs : List Record) {s : List Record} →
     is_self_ref rs ≡ true → s ≡ drop (past MUT_KW (past LIFETIME_IDENT 1 rs) rs) rs → next_kind s ≡ SELF_KW
 self_of_ref rs {s = s} h e =

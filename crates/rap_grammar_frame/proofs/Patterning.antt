@@ -89,7 +89,7 @@ by_test false f h = h refl
 no_stop : (k : ℕ) → is_pat_top_first k ≡ true → stops_pattern k ≡ false
 no_stop k e = grind (arith, nat_tests)
 
--- where another pattern begins behind a pattern, with no comma between them, that one took a token
+-- where another pattern begins after a pattern, with no comma between them, that one took a token
 pub took_before : {s t u : State} {b : Bool} {k room : ℕ} →
     PatternIn k room s t → Ate t u COMMA b → b ≡ false → is_pat_top_first (next u) ≡ true → Took s t room
 took_before {s = s} {t = t} {u = u} d a e first =
@@ -104,7 +104,7 @@ next_is_second [] = refl
 next_is_second (r ∷ []) = refl
 next_is_second (r ∷ s ∷ rs) = refl
 
--- behind a field's name its separator comes next
+-- after a field's name its separator comes next
 pub separator_next : (separator : ℕ) (rs : List Record) {qs : List Record} →
     at_field separator rs ≡ true → qs ≡ drop 1 rs → (next_kind qs == separator) ≡ true
 separator_next separator rs h e =

@@ -45,7 +45,7 @@ Answered old new (Some m) stmt bp (Some e) = Closed old new e.0 expression_room 
 Answered old new (Some m) stmt bp None =
     Dropped old new 8 × (stops_expr (next old) ≡ false → Spent old new expression_room)
 
--- an operand: a node of which nothing more is asked; or a message, with a token in an `ERROR` at least, and no node
+-- an operand: a node of which no more is required; or a message, with a token in an `ERROR` at least, and no node
 abbrev pub Operand : ℕ → State → State → Option (CompletedMarker × BlockLike) → Type 0
 Operand room old new (Some e) = Made old new e.0 room × (is_plain e.0.kind.value ≡ true)
 Operand room old new None = Took old new room × (old.messages < new.messages)
@@ -60,7 +60,7 @@ abbrev pub AnsweredFrom : State → State → Bool → ℕ → Option (Completed
 AnsweredFrom old new stmt bp (Some e) = Closed old new e.0 marked_room × Climbed new e.0.kind.value bp stmt
 AnsweredFrom old new stmt bp None = Dropped old new dropped_events
 
--- A rule that gives no node: where it begins with one of these tokens, it takes one at least, and else it records at
+-- A rule that makes no node: where it begins with one of these tokens, it takes one at least, and else it records at
 -- most so many events more than its tokens pay for.
 pub record Parsed (first : ℕ → Bool) (k room : ℕ) (old new : State) : Type 0 where
   pub grew : Grew old new k

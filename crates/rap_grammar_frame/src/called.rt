@@ -102,7 +102,7 @@ pub fn expr_stmt<G: Grammar>(p: &mut Parser<'_>, g: &G) -> Result<Answer, NoMemo
     Ok(expr)
 }
 
-/// The parameters of something generic, as `<T, 'a>`, if there are.
+/// Generic parameters, as `<T, 'a>`, if there are.
 pub fn opt_generic_param_list<G: Grammar>(p: &mut Parser<'_>, g: &G) -> Result<(), NoMemory>
     requires behind { Behind G.valid G.left g.now (state p.old) }
     ensures grew { OnOk result (Grew (state p.old) (state p.new) 0) }
@@ -115,7 +115,7 @@ pub fn opt_generic_param_list<G: Grammar>(p: &mut Parser<'_>, g: &G) -> Result<(
     Ok(())
 }
 
-/// Bounds behind their colon, as `: A + B`.
+/// Bounds after their colon, as `: A + B`.
 pub fn bounds<G: Grammar>(p: &mut Parser<'_>, g: &G) -> Result<(), NoMemory>
     requires within { Within G.valid G.left g.now (state p.old) }
     requires here { next (state p.old) ≡ COLON }
@@ -160,7 +160,7 @@ pub fn arm_pattern<G: Grammar>(p: &mut Parser<'_>, g: &G) -> Result<(), NoMemory
     Ok(())
 }
 
-/// An `if` behind an `else`.
+/// An `if` after an `else`.
 pub fn else_if<G: Grammar>(p: &mut Parser<'_>, g: &G) -> Result<(), NoMemory>
     requires behind { Behind G.valid G.left g.now (state p.old) }
     requires here { next (state p.old) ≡ IF_KW }
@@ -216,7 +216,7 @@ pub fn type_no_bounds<G: Grammar>(p: &mut Parser<'_>, g: &G) -> Result<(), NoMem
     Ok(())
 }
 
-/// The parameters behind `for`, as `for<'a>`.
+/// The parameters after `for`, as `for<'a>`.
 pub fn for_binder<G: Grammar>(p: &mut Parser<'_>, g: &G) -> Result<(), NoMemory>
     requires within { Within G.valid G.left g.now (state p.old) }
     requires here { next (state p.old) ≡ FOR_KW }
@@ -235,7 +235,7 @@ pub fn for_binder<G: Grammar>(p: &mut Parser<'_>, g: &G) -> Result<(), NoMemory>
     Ok(())
 }
 
-/// A type behind its colon, as `: a`.
+/// A type after its colon, as `: a`.
 pub fn ascription<G: Grammar>(p: &mut Parser<'_>, g: &G) -> Result<(), NoMemory>
     requires within { Within G.valid G.left g.now (state p.old) }
     requires here { next (state p.old) ≡ COLON }

@@ -9,7 +9,7 @@ use rap_base::syntax_kind::SyntaxKind;
 use rap_events::parser::Parser;
 use rap_grammar_scripts::T;
 
-/// Whether an attribute before what it is of begins with a token of this kind.
+/// Whether an outer attribute begins with a token of this kind.
 pub fn is_outer_attr_first(kind: SyntaxKind) -> bool
     ensures { result ≡ is_outer_attr_first kind }
 {

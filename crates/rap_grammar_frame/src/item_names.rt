@@ -19,7 +19,7 @@ use rap_base::token_set::TokenSet;
 use rap_events::parser::Parser;
 use rap_grammar_scripts::T;
 
-/// An item's name. Where it is missing, the next token is taken along, unless it is a brace or an item begins with it.
+/// An item's name. Where it is missing, the next token is skipped too, unless it is a brace or an item begins with it.
 #[inline(never)]
 pub fn item_name(p: &mut Parser<'_>) -> Result<(), NoMemory>
     ensures grew { OnOk result (Grew (state p.old) (state p.new) recovery_events) }
@@ -34,7 +34,7 @@ pub fn item_name(p: &mut Parser<'_>) -> Result<(), NoMemory>
     Ok(())
 }
 
-/// A function's name. Where it is missing, the next token is taken along, unless it is a brace, the parenthesis of its
+/// A function's name. Where it is missing, the next token is skipped too, unless it is a brace, the parenthesis of its
 /// parameters, or an item begins with it.
 #[inline(never)]
 pub fn fn_name(p: &mut Parser<'_>) -> Result<(), NoMemory>

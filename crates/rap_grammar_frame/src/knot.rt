@@ -1,14 +1,14 @@
-//! How the rules of the grammar reach one another.
+//! How the rules of the grammar call one another.
 //!
 //! Rust's grammar is one recursion: an expression holds types, a type expressions, a block both. Here no function
-//! calls itself, not even through others. Each is generic over [`Grammar`], the rules that it may call in a cycle, and
+//! calls itself, not even through others. Each is generic over [`Grammar`], the recursive rules that it may call, and
 //! is proved from what that trait promises. A rule is called directly before a token was taken, and through the
 //! trait afterwards.
 //!
-//! One function, `run` of the crate on top of all rules, ties the knot: it hands each rule a `Grammar` that runs `run`
+//! One function, `run` of the crate above all rules, ties the knot: it hands each rule a `Grammar` that runs `run`
 //! again. It ends because a rule that is called through the trait has fewer tokens left than its caller: the trait
 //! requires that, so a rule that called itself without taking a token would not be proved. And since a rule knows the
-//! others by this trait alone, the crates of rules stand side by side.
+//! others by this trait alone, the crates of rules do not depend on one another.
 ghost use Rattle.std.specs.Prelude.{◌≡◌, ℕ, ◌<◌, ◌≤◌, IfOk};
 ghost use Rattle.rap_events.specs.State.{state};
 ghost use Rattle.rap_grammar_frame.specs.Rules.{Pre, Post};
@@ -23,7 +23,7 @@ pub trait Grammar {
 
     ghost valid: { Self → Type 0 };
 
-    /// Runs a rule.
+    /// Runs a rule. The error means out of memory.
     fn run(&self, p: &mut Parser<'_>, rule: Rule) -> Result<Answer, NoMemory>
         requires valid { valid self.now }
         requires left { (state p.old).left < left self.now }
@@ -46,13 +46,17 @@ pub enum Rule {
     },
     /// A path as a type, and bounds after it.
     PathTypeBounds,
+    /// A generic argument.
     GenericArg,
+    /// Generic parameters in angle brackets.
     GenericParamList,
     /// The bounds of a type, without the colon before them.
     BoundsWithoutColon,
+    /// A `where` clause.
     WhereClause,
     /// A pattern, with its alternatives.
     Pattern,
+    /// A pattern without alternatives.
     PatternSingle,
     /// The pattern of an arm of a `match`.
     ArmPattern,
@@ -60,22 +64,23 @@ pub enum Rule {
     Stmt {
         semicolon: Semicolon,
     },
-    /// An `if`, as it stands behind an `else`.
+    /// An `if`, as it stands after an `else`.
     IfExpr,
     /// An item, or a macro call in its place.
     ItemOrMacro {
         stop_on_r_curly: bool,
         is_in_extern: bool,
     },
-    /// The inner attributes of what they stand in.
+    /// Inner attributes.
     InnerAttrs,
     /// A tree of names in the braces of a `use`.
     UseTree,
-    /// What stands in the brackets of an attribute.
+    /// The contents of an attribute's brackets.
     Meta,
+    /// A condition in `cfg`.
     CfgPredicate,
 }
 
-/// What a rule returns: an expression's node, if it made one, and whether that reads like a block. The other rules
-/// return none.
+/// The result of a rule. `ExprBp` returns the node of the expression, if it made one, and whether it reads like a
+/// block; the other rules return `None`.
 pub type Answer = Option<(CompletedMarker, BlockLike)>;

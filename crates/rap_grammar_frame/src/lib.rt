@@ -1,4 +1,4 @@
-//! The frame of the grammar: how the rules reach one another, and the small rules that many share.
+//! The frame of the grammar: the trait by which recursive rules call one another, and the small rules that many share.
 #![tactic(auto)]
 
 pub mod called;

@@ -37,8 +37,8 @@ pub trait Element {
         ensures { result ≡ first self.now kind };
 }
 
-/// A list from `bra` to `ket`, as `(a, b)`, its elements with `delim` between. A missing element is reported and passed
-/// over; a missing `delim` is reported where the next element begins.
+/// A list from `bra` to `ket`, as `(a, b)`, its elements with `delim` between. A missing element is reported and
+/// skipped; a missing `delim` is reported where the next element begins.
 #[tactic(auto, using(crate::proofs::Binary::width_positive))]
 pub fn delimited<G: Grammar, E: Element>(
     p: &mut Parser<'_>,

@@ -102,7 +102,7 @@ pub fn given_name(p: &mut Parser<'_>) -> Result<(), NoMemory>
     Ok(())
 }
 
-/// A name that is given, as the `a` of `let a`. Where it is missing, the next token is taken along, unless it is a
+/// A declared name, as the `a` of `let a`. Where it is missing, the next token is skipped too, unless it is a
 /// brace or in the set.
 pub fn name_r(p: &mut Parser<'_>, recovery: TokenSet) -> Result<(), NoMemory>
     ensures grew { OnOk result (Grew (state p.old) (state p.new) recovery_events) }
@@ -119,7 +119,7 @@ pub fn name_r(p: &mut Parser<'_>, recovery: TokenSet) -> Result<(), NoMemory>
     Ok(())
 }
 
-/// A name that is given.
+/// A declared name.
 pub fn name(p: &mut Parser<'_>) -> Result<(), NoMemory>
     ensures grew { OnOk result (Grew (state p.old) (state p.new) recovery_events) }
     ensures took { OnOk result (next (state p.old) ≡ IDENT → Took (state p.old) (state p.new) name_room) }

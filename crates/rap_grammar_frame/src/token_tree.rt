@@ -88,7 +88,7 @@ pub fn starts_macro_call(p: &Parser<'_>) -> bool
     p.at(T![!]) && !p.at(T![!=])
 }
 
-/// A macro call behind its path, as `!(a)` in `f!(a)`. With braces it reads like a block.
+/// A macro call after its path, as `!(a)` in `f!(a)`. With braces it reads like a block.
 pub fn macro_call_after_excl(p: &mut Parser<'_>) -> Result<BlockLike, NoMemory>
     requires here { next (state p.old) ≡ BANG }
     ensures took { OnOk result (Took (state p.old) (state p.new) list_room) }

@@ -85,7 +85,7 @@ outcome_of {a = a} {b = b} e =
 pub gives_as : {v w : Outcome} {p : Spot} → v ≡ w → On (give v) p p w
 gives_as {v = v} {p = p} e = subst (λ (x : Outcome). On (give v) p p x) e gives
 
--- an item behind what was read before it
+-- an item after what was read before it
 pub seen_ended : {s t u : State} {b : Bool} → Seen s t b → Ended t u item_room → Ended s u item_room
 seen_ended {s = s} {t = t} {u = u} x y = record {
   input = y.input ∙ x.grew.input;
@@ -141,7 +141,7 @@ refused u true {b = false} None x y =
 refused u false {b = false} None x y = absurd (clash y.0 refl)
 refused u v (Some m) x y = (y.0.0, (y.1.0 ∙ x.stays y.0.1, y.1.1))
 
--- an item behind a visibility or without one
+-- an item after a visibility or without one
 pub handed : (u : State) {s t : State} {v : Bool} (back : Option Marker) →
     (v ≡ true → Took s t list_room) → (v ≡ false → t ≡ s) → Modified v t u back → Handed s u back
 handed u {s = s} {v = true} None x y z =
@@ -271,7 +271,7 @@ skips_reported x n = record {
   took = λ h i. absurd (n h i);
 }
 
--- an item behind a visibility or without one, at once or behind modifiers
+-- an item after a visibility or without one, at once or after modifiers
 pub ended_visible : {s t u : State} {v : Bool} → (v ≡ true → Took s t list_room) → (v ≡ false → t ≡ s) →
     Ended t u item_room → Ended s u item_room
 ended_visible {s = s} {v = true} x y z =

@@ -46,7 +46,7 @@ pub fn static_<G: Grammar>(p: &mut Parser<'_>, g: &G, m: Marker) -> Result<(), N
     Ok(())
 }
 
-/// A constant or a static, behind its keyword.
+/// A constant or a static, after its keyword.
 fn const_or_static<G: Grammar>(p: &mut Parser<'_>, g: &G, is_const: bool) -> Result<(), NoMemory>
     requires behind { Behind G.valid G.left g.now (state p.old) }
     ensures grew { OnOk result (Grew (state p.old) (state p.new) 8) }
@@ -78,7 +78,7 @@ fn const_name(p: &mut Parser<'_>, is_const: bool) -> Result<(), NoMemory>
     Ok(())
 }
 
-/// The parameters of something generic, which are reported at a static.
+/// Generic parameters, which are reported at a static.
 fn const_params<G: Grammar>(p: &mut Parser<'_>, g: &G, is_const: bool) -> Result<(), NoMemory>
     requires behind { Behind G.valid G.left g.now (state p.old) }
     ensures grew { OnOk result (Grew (state p.old) (state p.new) 1) }

@@ -32,7 +32,7 @@ pub fn macro_rules(p: &mut Parser<'_>, m: Marker) -> Result<(), NoMemory>
     Ok(())
 }
 
-/// The rules of a macro in their brackets, with a semicolon behind them if these are no braces.
+/// The rules of a macro in their brackets, with a semicolon after them if these are no braces.
 fn rules_in_brackets(p: &mut Parser<'_>) -> Result<(), NoMemory>
     ensures grew { OnOk result (Grew (state p.old) (state p.new) 1) }
     ensures script { OnOk result (Follows script.rules_in_brackets something (state p.old) (state p.new)) }
@@ -65,7 +65,7 @@ pub fn macro_def(p: &mut Parser<'_>, m: Marker) -> Result<(), NoMemory>
     Ok(())
 }
 
-/// What stands behind a macro's name, as `{ () => {} }` and `($a:ident) {}`.
+/// What stands after a macro's name, as `{ () => {} }` and `($a:ident) {}`.
 fn macro_def_tokens(p: &mut Parser<'_>) -> Result<(), NoMemory>
     ensures grew { OnOk result (Grew (state p.old) (state p.new) 1) }
     ensures script { OnOk result (Follows script.macro_def_tokens something (state p.old) (state p.new)) }
@@ -83,7 +83,7 @@ fn macro_def_tokens(p: &mut Parser<'_>) -> Result<(), NoMemory>
     Ok(())
 }
 
-/// The body of a macro, behind its parameters.
+/// The body of a macro, after its parameters.
 fn macro_def_body(p: &mut Parser<'_>) -> Result<(), NoMemory>
     ensures grew { OnOk result (Grew (state p.old) (state p.new) 1) }
     ensures script { OnOk result (Follows script.macro_def_body something (state p.old) (state p.new)) }
@@ -96,7 +96,7 @@ fn macro_def_body(p: &mut Parser<'_>) -> Result<(), NoMemory>
     Ok(())
 }
 
-/// A macro call behind its path in the place of an item, as `!{}` and `!();`.
+/// A macro call after its path in the place of an item, as `!{}` and `!();`.
 pub fn macro_call(p: &mut Parser<'_>, m: Marker) -> Result<(), NoMemory>
     requires newest { (state p.old).marker ≡ Some m.pos.value }
     requires here { next (state p.old) ≡ BANG }

@@ -263,7 +263,7 @@ fn is_default_async(p: &Parser<'_>) -> bool
         && (p.nth_at(2, T![fn]) || (p.nth_at(2, T![unsafe]) && p.nth_at(3, T![fn])))
 }
 
-/// `default` with the modifier behind it, if it comes next. Returns whether it does.
+/// `default` with the modifier after it, if it comes next. Returns whether it does.
 fn opt_default(p: &mut Parser<'_>) -> Result<bool, NoMemory>
     ensures seen { IfOk result (λ found. Seen (state p.old) (state p.new) found) }
     ensures script { IfOk result (λ found. Follows script.opt_default (of_bool found) (state p.old) (state p.new)) }

@@ -38,7 +38,7 @@ pub fn trait_<G: Grammar>(p: &mut Parser<'_>, g: &G, m: Marker) -> Result<(), No
     Ok(())
 }
 
-/// What stands behind a trait's name and parameters.
+/// What stands after a trait's name and parameters.
 fn trait_body<G: Grammar>(p: &mut Parser<'_>, g: &G) -> Result<(), NoMemory>
     requires behind { Behind G.valid G.left g.now (state p.old) }
     ensures grew { OnOk result (Grew (state p.old) (state p.new) 1) }
@@ -54,7 +54,7 @@ fn trait_body<G: Grammar>(p: &mut Parser<'_>, g: &G) -> Result<(), NoMemory>
     Ok(())
 }
 
-/// The bounds of a trait alias, behind its `=`, as the `A + B;` of `trait C = A + B;`.
+/// The bounds of a trait alias, after its `=`, as the `A + B;` of `trait C = A + B;`.
 fn trait_alias<G: Grammar>(p: &mut Parser<'_>, g: &G) -> Result<(), NoMemory>
     requires behind { Behind G.valid G.left g.now (state p.old) }
     ensures grew { OnOk result (Grew (state p.old) (state p.new) 17) }
@@ -66,7 +66,7 @@ fn trait_alias<G: Grammar>(p: &mut Parser<'_>, g: &G) -> Result<(), NoMemory>
     Ok(())
 }
 
-/// Bounds behind their colon, if there are.
+/// Bounds after their colon, if there are.
 fn opt_bounds<G: Grammar>(p: &mut Parser<'_>, g: &G) -> Result<(), NoMemory>
     requires within { Within G.valid G.left g.now (state p.old) }
     ensures grew { OnOk result (Grew (state p.old) (state p.new) 0) }

@@ -40,7 +40,7 @@ pub fn use_<G: Grammar>(p: &mut Parser<'_>, g: &G, m: Marker) -> Result<(), NoMe
     Ok(())
 }
 
-/// The tree of an import. Where none begins, that is reported, and the next token is taken along unless an item may
+/// The tree of an import. Where none begins, that is reported, and the next token is skipped too unless an item may
 /// begin there.
 #[inline(never)]
 fn expect_use_tree<G: Grammar>(p: &mut Parser<'_>, g: &G) -> Result<(), NoMemory>
@@ -73,7 +73,7 @@ fn is_group_first(kind: SyntaxKind) -> bool
     matches!(kind, T![*] | T!['{'])
 }
 
-/// Whether a star, or a list in its braces, comes next behind `::`.
+/// Whether a star, or a list in its braces, comes next after `::`.
 fn is_global_group_start(p: &Parser<'_>) -> bool
     ensures starts { result ≡ is_global_group_start (state p.now).rest }
     ensures here { result ≡ true → is_at COLON2 (state p.now).rest ≡ true }
@@ -120,7 +120,7 @@ fn group<G: Grammar>(p: &mut Parser<'_>, g: &G) -> Result<(), NoMemory>
     Ok(())
 }
 
-/// What stands behind a path: a name for it, as `as a`, or names in it, as `::{a, b}`.
+/// What stands after a path: a name for it, as `as a`, or names in it, as `::{a, b}`.
 fn after_use_path<G: Grammar>(p: &mut Parser<'_>, g: &G) -> Result<(), NoMemory>
     requires within { Within G.valid G.left g.now (state p.old) }
     ensures grew { OnOk result (Grew (state p.old) (state p.new) 0) }
@@ -136,7 +136,7 @@ fn after_use_path<G: Grammar>(p: &mut Parser<'_>, g: &G) -> Result<(), NoMemory>
     Ok(())
 }
 
-/// A star, or a list in its braces, behind a path and `::`.
+/// A star, or a list in its braces, after a path and `::`.
 fn group_behind<G: Grammar>(p: &mut Parser<'_>, g: &G) -> Result<(), NoMemory>
     requires within { Within G.valid G.left g.now (state p.old) }
     requires here { is_at COLON2 (state p.old).rest ≡ true }
@@ -175,7 +175,7 @@ pub fn use_tree_list<G: Grammar>(p: &mut Parser<'_>, g: &G) -> Result<(), NoMemo
     Ok(())
 }
 
-/// A tree of names in the braces of another one. Where none begins, a token is taken along, so that the braces stay
+/// A tree of names in the braces of another one. Where none begins, a token is skipped too, so that the braces stay
 /// balanced.
 struct NestedUseTree;
 

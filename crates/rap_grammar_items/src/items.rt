@@ -164,7 +164,7 @@ fn opt_extern_crate(p: &mut Parser<'_>, m: Marker) -> Result<Option<Marker>, NoM
     Ok(None)
 }
 
-/// Whether what may stand behind the keyword of a constant or a static does so.
+/// Whether what may stand after the keyword of a constant or a static does so.
 fn is_named(p: &Parser<'_>) -> bool
     ensures { result ≡ script.is_named (state p.now).rest }
 {
@@ -190,7 +190,7 @@ fn opt_named_const<G: Grammar>(
     Ok(None)
 }
 
-/// A constant behind modifiers, if its `const` begins no block.
+/// A constant after modifiers, if its `const` begins no block.
 fn opt_const<G: Grammar>(p: &mut Parser<'_>, g: &G, m: Marker) -> Result<Option<Marker>, NoMemory>
     requires within { Within G.valid G.left g.now (state p.old) }
     requires newest { (state p.old).marker ≡ Some m.pos.value }
@@ -289,7 +289,7 @@ fn global_asm<G: Grammar>(p: &mut Parser<'_>, g: &G, m: Marker) -> Result<(), No
     Ok(())
 }
 
-/// An item behind its modifiers, if one comes next; else the marker is handed back.
+/// An item after its modifiers, if one comes next; else the marker is handed back.
 fn opt_item_with_modifiers<G: Grammar>(
     p: &mut Parser<'_>,
     g: &G,
@@ -326,7 +326,7 @@ fn opt_item_with_modifiers<G: Grammar>(
     }
 }
 
-/// A block of foreign items behind its ABI, as the `{}` of `extern {}`.
+/// A block of foreign items after its ABI, as the `{}` of `extern {}`.
 fn opt_extern_block<G: Grammar>(
     p: &mut Parser<'_>,
     g: &G,
@@ -367,7 +367,7 @@ pub fn item_or_macro<G: Grammar>(
     Ok(())
 }
 
-/// An item behind its attributes, or what stands in its place.
+/// An item after its attributes, or what stands in its place.
 fn marked_item<G: Grammar>(
     p: &mut Parser<'_>,
     g: &G,
@@ -393,7 +393,7 @@ fn marked_item<G: Grammar>(
     }
 }
 
-/// A semicolon behind an item, which is taken into an `ERROR`.
+/// A semicolon after an item, which is taken into an `ERROR`.
 fn after_item(p: &mut Parser<'_>) -> Result<(), NoMemory>
     ensures grew { OnOk result (Grew (state p.old) (state p.new) 0) }
     ensures script { OnOk result (Follows script.after_item something (state p.old) (state p.new)) }

@@ -85,7 +85,7 @@ fn postfix_dot_expr<G: Grammar>(
     Ok(access)
 }
 
-/// What follows a dot, and whether more may follow that: a range behind the dot of a float ends all postfixes.
+/// What follows a dot, and whether more may follow that: a range after the dot of a float ends all postfixes.
 ///
 /// A float is one field, as `0.` in `a.0. b`, or two, as `0.1` in `a.0.1`. Its own dot may end it, and is then followed
 /// as any other.
@@ -117,7 +117,7 @@ fn after_dot<G: Grammar>(
     }
 }
 
-/// A method with its arguments, `await`, or a field's name or number behind a dot.
+/// A method with its arguments, `await`, or a field's name or number after a dot.
 fn name_after_dot<G: Grammar>(
     p: &mut Parser<'_>,
     g: &G,
@@ -141,7 +141,7 @@ fn name_after_dot<G: Grammar>(
     Ok(cm)
 }
 
-/// Whether what stands behind a dot is called: a name before `(` or `::`, or a `(` without a name.
+/// Whether what stands after a dot is called: a name before `(` or `::`, or a `(` without a name.
 #[tactic(auto, unfolding(rap_grammar_scripts::specs::Expressions::is_method_call))]
 fn is_method_call(p: &Parser<'_>) -> bool
     ensures { result ≡ is_method_call (state p.now).rest }
@@ -190,7 +190,7 @@ fn index_expr<G: Grammar>(
     Ok(cm)
 }
 
-/// The name and the arguments of a method behind the dot, as `f(1)` after `a.`.
+/// The name and the arguments of a method after the dot, as `f(1)` after `a.`.
 fn method_call_expr<G: Grammar>(
     p: &mut Parser<'_>,
     g: &G,
@@ -210,7 +210,7 @@ fn method_call_expr<G: Grammar>(
     Ok(cm)
 }
 
-/// The arguments of a method behind its name, as `(1)` and `::<T>(1)`.
+/// The arguments of a method after its name, as `(1)` and `::<T>(1)`.
 fn method_arguments<G: Grammar>(
     p: &mut Parser<'_>,
     g: &G,
@@ -231,7 +231,7 @@ fn method_arguments<G: Grammar>(
     Ok(cm)
 }
 
-/// An `await` behind the dot, as `await` after `a.`.
+/// An `await` after the dot, as `await` after `a.`.
 fn await_expr(p: &mut Parser<'_>, m: Marker) -> Result<CompletedMarker, NoMemory>
     requires newest { (state p.old).marker ≡ Some m.pos.value }
     requires here { next (state p.old) ≡ AWAIT_KW }
@@ -243,7 +243,7 @@ fn await_expr(p: &mut Parser<'_>, m: Marker) -> Result<CompletedMarker, NoMemory
     Ok(cm)
 }
 
-/// A field behind the dot, as `b` and `0` after `a.`.
+/// A field after the dot, as `b` and `0` after `a.`.
 fn field_expr(p: &mut Parser<'_>, m: Marker) -> Result<CompletedMarker, NoMemory>
     requires newest { (state p.old).marker ≡ Some m.pos.value }
     ensures closes { IfOk result (Closes FIELD_EXPR recovery_events (state p.old) (state p.new)) }

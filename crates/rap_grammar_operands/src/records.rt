@@ -142,7 +142,7 @@ fn base_without_dots<G: Grammar>(p: &mut Parser<'_>, g: &G, m: Marker) -> Result
     Ok(())
 }
 
-/// A field's name and the colon behind it, as `a:`. Where no colon follows, the name is the value too.
+/// A field's name and the colon after it, as `a:`. Where no colon follows, the name is the value too.
 fn field_name(p: &mut Parser<'_>) -> Result<(), NoMemory>
     requires more { next (state p.old) ≢ EOF }
     ensures took { OnOk result ((state p.new ≡ state p.old) ⊎ Took (state p.old) (state p.new) name_room) }
@@ -161,7 +161,7 @@ fn field_name(p: &mut Parser<'_>) -> Result<(), NoMemory>
     Ok(())
 }
 
-/// What stands behind the dots of the base: nothing in `S { .. }`.
+/// What stands after the dots of the base: nothing in `S { .. }`.
 fn base_of_record<G: Grammar>(p: &mut Parser<'_>, g: &G) -> Result<(), NoMemory>
     requires behind { Behind G.valid G.left g.now (state p.old) }
     ensures grew { OnOk result (Grew (state p.old) (state p.new) 9) }

@@ -1,4 +1,4 @@
-//! The list of the arguments of something generic.
+//! The list of generic arguments.
 ghost use Rattle.std.specs.Prelude.{◌≡◌, ◌<◌, ◌≤◌, true, false, OnOk, Some};
 ghost use Rattle.rap_base.specs.TokenKind.{L_ANGLE, COLON2};
 ghost use Rattle.rap_events.specs.State.{state, next};
@@ -67,14 +67,14 @@ pub(crate) fn generic_arg_list<G: Grammar>(
     Ok(())
 }
 
-/// Whether the arguments behind a name in an expression come next.
+/// Whether the arguments after a name in an expression come next.
 fn starts_expr_args(p: &Parser<'_>) -> bool
     ensures { result ≡ starts_expr_args (state p.now).rest }
 {
     p.at(T![::]) && p.nth_at(2, T![<])
 }
 
-/// The arguments behind a name in an expression, as `::<a>`, if there are.
+/// The arguments after a name in an expression, as `::<a>`, if there are.
 pub fn opt_generic_arg_list_expr<G: Grammar>(p: &mut Parser<'_>, g: &G) -> Result<(), NoMemory>
     requires within { Within G.valid G.left g.now (state p.old) }
     ensures grew { OnOk result (Grew (state p.old) (state p.new) 0) }

@@ -72,7 +72,7 @@ pub fn type_path<G: Grammar>(p: &mut Parser<'_>, g: &G) -> Result<(), NoMemory>
     Ok(())
 }
 
-/// A path in a type, where one may be missing, as behind the `sym` of inline assembly or at the front of an input.
+/// A path in a type, where one may be missing, as after the `sym` of inline assembly or at the front of an input.
 pub fn sym_path<G: Grammar>(p: &mut Parser<'_>, g: &G) -> Result<(), NoMemory>
     requires within { Within G.valid G.left g.now (state p.old) }
     ensures grew { OnOk result (Grew (state p.old) (state p.new) 8) }
@@ -238,7 +238,7 @@ fn anchor_trait<G: Grammar>(p: &mut Parser<'_>, g: &G) -> Result<(), NoMemory>
     Ok(())
 }
 
-/// The name of a segment whose marker is open, and the arguments behind it, as `a::<b>`. None, and a message, where no
+/// The name of a segment whose marker is open, and the arguments after it, as `a::<b>`. None, and a message, where no
 /// name follows and nothing was taken.
 fn segment_name<G: Grammar>(
     p: &mut Parser<'_>,
@@ -304,7 +304,7 @@ fn segment_recovery_set(mode: Mode) -> TokenSet
     }
 }
 
-/// The arguments behind a name, as they may be where the path stands.
+/// The arguments after a name, as they may be where the path stands.
 fn opt_path_args<G: Grammar>(p: &mut Parser<'_>, g: &G, mode: Mode) -> Result<(), NoMemory>
     requires within { Within G.valid G.left g.now (state p.old) }
     ensures grew { OnOk result (Grew (state p.old) (state p.new) 0) }
@@ -337,7 +337,7 @@ fn has_args(p: &Parser<'_>) -> bool
     (p.current() == T![<] && p.nth(1) != T![=]) || p.current() == T!['(']
 }
 
-/// The arguments behind a name in a type, as `<a>`, `::<a>` and `(a) -> b`, if there are.
+/// The arguments after a name in a type, as `<a>`, `::<a>` and `(a) -> b`, if there are.
 pub fn opt_path_type_args<G: Grammar>(p: &mut Parser<'_>, g: &G) -> Result<(), NoMemory>
     requires within { Within G.valid G.left g.now (state p.old) }
     ensures grew { OnOk result (Grew (state p.old) (state p.new) 0) }

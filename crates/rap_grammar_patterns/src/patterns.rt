@@ -279,7 +279,7 @@ fn symbol_pat<G: Grammar>(
     }
 }
 
-/// No pattern begins: the next token is taken along, unless it is a brace or ends the search.
+/// No pattern begins: the next token is skipped too, unless it is a brace or ends the search.
 #[inline(never)]
 fn missing_pat(p: &mut Parser<'_>, in_arm: bool) -> Result<(), NoMemory>
     requires no_reference { next (state p.old) ≢ AMP }
@@ -291,7 +291,7 @@ fn missing_pat(p: &mut Parser<'_>, in_arm: bool) -> Result<(), NoMemory>
     Ok(())
 }
 
-/// A pattern behind `builtin#`, as `builtin#deref(a)` and `builtin#cfg(unix)`. An unknown name is not taken.
+/// A pattern after `builtin#`, as `builtin#deref(a)` and `builtin#cfg(unix)`. An unknown name is not taken.
 fn builtin_pat<G: Grammar>(p: &mut Parser<'_>, g: &G) -> Result<Option<CompletedMarker>, NoMemory>
     requires within { Within G.valid G.left g.now (state p.old) }
     requires here { ReadsAs (state p.old) BUILTIN_KW }
@@ -668,7 +668,7 @@ fn binding(p: &mut Parser<'_>) -> Result<(), NoMemory>
     Ok(())
 }
 
-/// The subpattern behind a name, as the `@ 1` of `a @ 1`, if there is one and it may be there.
+/// The subpattern after a name, as the `@ 1` of `a @ 1`, if there is one and it may be there.
 fn at_pattern<G: Grammar>(p: &mut Parser<'_>, g: &G, with_at: bool) -> Result<(), NoMemory>
     requires within { Within G.valid G.left g.now (state p.old) }
     ensures grew { OnOk result (Grew (state p.old) (state p.new) 0) }

@@ -9,7 +9,7 @@ use Rattle.rap_grammar_scripts.specs.Script.{Script, Outcome, Spot, Runs, passes
 same_kind : (k op : ℕ) → (k == op) ≡ true → op ≡ k
 same_kind k op h = grind (arith, nat_tests)
 
--- this operator, or one behind it in the table
+-- this operator, or one after it in the table
 this_or_later : {P : Type 0} {script_of : P → Script P} (op : ℕ × ℕ) (ops : List (ℕ × ℕ)) (h : ℕ → Script P) (b : Bool)
     {p q : Spot} {v : Outcome} → (op.0 == operator_at p.rest) ≡ b →
     (0 < power_in ops (operator_at p.rest) → Runs script_of (by_operator_of ops h) p q v) →

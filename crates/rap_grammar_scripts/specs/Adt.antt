@@ -27,7 +27,7 @@ comma_in_braces = test (is_at R_CURLY) done (expect COMMA ▸ done)
 unfoldable pub opt_value : Script Phrase
 opt_value = optional (is_at EQ) (token EQ ▸ start ▸ call expr ▸ finish CONST_ARG ▸ done)
 
--- who may change a field
+-- the `mut` restriction of a field
 unfoldable pub mut_restriction : Script Phrase
 mut_restriction =
     start ▸ token MUT_KW ▸
@@ -61,7 +61,7 @@ visible_field = call (opt_visibility false) ▸ restricted_field
 unfoldable pub record_field : Script Phrase
 record_field = start ▸ call outer_attrs ▸ visible_field
 
--- a field, with the comma behind it; or a block in its place
+-- a field, with the comma after it; or a block in its place
 unfoldable pub field_or_block : Script Phrase
 field_or_block = test (is_at L_CURLY) (error_block (codes "expected field")) (call record_field ▸ comma_in_braces)
 
@@ -99,7 +99,7 @@ tuple_field_list =
 unfoldable pub variant_fields : Script Phrase
 variant_fields = choose ((is_at L_CURLY, record_field_list) ∷ (is_at L_PAREN, tuple_field_list) ∷ []) done
 
--- what stands behind a variant's name; its node is open
+-- what stands after a variant's name; its node is open
 unfoldable pub after_variant_name : Script Phrase
 after_variant_name = call variant_fields ▸ call opt_value ▸ finish VARIANT ▸ done
 
@@ -115,7 +115,7 @@ named_variant =
 unfoldable pub variant : Script Phrase
 variant = start ▸ call outer_attrs ▸ named_variant
 
--- a variant, with the comma behind it; or a block in its place
+-- a variant, with the comma after it; or a block in its place
 unfoldable pub variant_or_block : Script Phrase
 variant_or_block = test (is_at L_CURLY) (error_block (codes "expected enum variant")) (call variant ▸ comma_in_braces)
 
@@ -133,7 +133,7 @@ enum_ =
     token ENUM_KW ▸ call (name_r is_item_recovery) ▸ call opt_generic_param_list ▸ call opt_where_clause ▸
     test (is_at L_CURLY) (call variant_list ▸ finish ENUM ▸ done) (report (codes "expected `{`") ▸ finish ENUM ▸ done)
 
--- fields behind a `where`
+-- fields after a `where`
 unfoldable pub fields_behind_where : Script Phrase
 fields_behind_where =
     call opt_where_clause ▸
@@ -143,7 +143,7 @@ fields_behind_where =
     ∷ [])
     (report (codes "expected `;` or `{`") ▸ done)
 
--- fields in parentheses, and what stands behind them
+-- fields in parentheses, and what stands after them
 unfoldable pub tuple_fields : Script Phrase
 tuple_fields = call tuple_field_list ▸ call opt_where_clause ▸ expect SEMICOLON ▸ done
 

@@ -71,7 +71,7 @@ option_name =
     ∷ [])
     flow_option
 
--- options; what is none is passed over
+-- options; anything else is skipped
 abbrev pub options_turn : Bool → Bool → Script Phrase
 options_turn a b =
     choose
@@ -180,7 +180,7 @@ named_operand allow_templates =
     if_some v (finish ASM_OPERAND_NAMED ▸ give (again false false))
     (abandon ▸ no_operand (templates_after allow_templates named))))
 
--- what stands behind a comma: the ABIs whose registers are lost, options, an operand, or a template
+-- what stands after a comma: the ABIs whose registers are lost, options, an operand, or a template
 unfoldable pub asm_piece : Bool → Script Phrase
 asm_piece allow_templates =
     start ▸ call outer_attrs ▸
@@ -209,6 +209,6 @@ pieces_turn allow_templates b =
 unfoldable pub asm_pieces : Script Phrase
 asm_pieces = loop pieces_turn true false
 
--- inline assembly, behind its name
+-- inline assembly, after its name
 unfoldable pub parse_asm_expr : Script Phrase
 parse_asm_expr = expect L_PAREN ▸ call asm_template ▸ call asm_pieces ▸ expect R_PAREN ▸ finish ASM_EXPR ▸ done

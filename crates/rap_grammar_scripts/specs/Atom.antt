@@ -69,7 +69,7 @@ abbrev pub of_semi : Option Bool → Outcome
 of_semi None = something
 of_semi (Some semi) = again false semi
 
--- what stands behind an element of an array
+-- what stands after an element of an array
 unfoldable pub after_element : Bool → Bool → Script Phrase
 after_element first semi =
     test (λ rs. first && is_at SEMICOLON rs) (token SEMICOLON ▸ give (again false true))
@@ -109,7 +109,7 @@ has_operand before_block rs = is_expr_first (next_kind rs) && not (before_block 
 unfoldable pub opt_expr : Bool → Script Phrase
 opt_expr before_block = optional (has_operand before_block) (call expr ▸ done)
 
--- a label that is gone to, if there is one
+-- the label of a jump, if there is one
 unfoldable pub opt_lifetime : Script Phrase
 opt_lifetime = optional (is_at LIFETIME_IDENT) lifetime
 
@@ -131,7 +131,7 @@ continue_expr = start ▸ token CONTINUE_KW ▸ call opt_lifetime ▸ finish CON
 unfoldable pub break_expr : Restrictions → Script Phrase
 break_expr r = start ▸ token BREAK_KW ▸ call opt_lifetime ▸ call (opt_expr r.forbid_structs) ▸ finish BREAK_EXPR ▸ done
 
--- `try`, and the type of the block behind it
+-- `try`, and the type of the block after it
 unfoldable pub try_modifier : Script Phrase
 try_modifier =
     start ▸ token TRY_KW ▸

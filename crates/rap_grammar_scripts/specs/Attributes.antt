@@ -15,7 +15,7 @@ use Rattle.rap_grammar_scripts.specs.Phrase as phrase
 use Rattle.rap_grammar_scripts.specs.Script.{Script, give, test, token, any, bear, report, skip, start, finish, after, loop, again}
 use Rattle.rap_grammar_scripts.specs.Words.{done, if_some, reads_as, eat, expect, ◌▸◌, call, recur, choose, optional}
 
--- an attribute of what it stands in comes next
+-- an inner attribute comes next
 abbrev pub is_inner_attr_start : List Record → Bool
 is_inner_attr_start rs = is_at INNER_DOC_COMMENT rs || (is_at POUND rs && is_at BANG (drop 1 rs))
 
@@ -28,7 +28,7 @@ starts_attr false rs = is_outer_attr_first (next_kind rs)
 abbrev pub is_value_start : List Record → Bool
 is_value_start rs = is_at EQ rs && (not (is_at FAT_ARROW rs) && not (is_at EQ2 rs))
 
--- what stands behind the `=` of a condition
+-- what stands after the `=` of a condition
 unfoldable pub cfg_value : Script Phrase
 cfg_value = test (is_at IDENT) (skip (codes "expected a string literal") ▸ done) (expect STRING ▸ done)
 
@@ -62,7 +62,7 @@ metas_turn a b =
     ∷ [])
     (recur phrase.meta ▸ optional (is_at COMMA) (token COMMA ▸ give (again a b)))
 
--- the attributes behind their condition
+-- the attributes after their condition
 unfoldable pub cfg_attr_metas : Script Phrase
 cfg_attr_metas = loop metas_turn false false
 
@@ -75,11 +75,11 @@ cfg_attr_meta =
 unfoldable pub unsafe_meta : Script Phrase
 unsafe_meta = start ▸ token UNSAFE_KW ▸ expect L_PAREN ▸ recur phrase.meta ▸ expect R_PAREN ▸ finish UNSAFE_META ▸ done
 
--- an attribute's value behind the path
+-- an attribute's value after the path
 unfoldable pub attr_value : Script Phrase
 attr_value = token EQ ▸ after expr (λ v. if_some v done (report (codes "expected expression") ▸ done))
 
--- an attribute by its path, with a value or a list of tokens behind it
+-- an attribute by its path, with a value or a list of tokens after it
 unfoldable pub path_meta : Script Phrase
 path_meta =
     start ▸ call attr_path ▸
@@ -123,13 +123,13 @@ attr inner =
 abbrev pub outer_turn : Bool → Bool → Script Phrase
 outer_turn a b = optional (λ rs. is_outer_attr_first (next_kind rs)) (call (attr false) ▸ give (again a b))
 
--- the attributes before what they are of
+-- outer attributes
 unfoldable pub outer_attrs : Script Phrase
 outer_attrs = loop outer_turn false false
 
 abbrev pub inner_turn : Bool → Bool → Script Phrase
 inner_turn a b = optional is_inner_attr_start (call (attr true) ▸ give (again a b))
 
--- the attributes of what they stand in
+-- inner attributes
 unfoldable pub inner_attrs : Script Phrase
 inner_attrs = loop inner_turn false false

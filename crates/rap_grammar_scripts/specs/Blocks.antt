@@ -61,11 +61,11 @@ value_before_else value =
     done)
     done
 
--- the block behind an `else`
+-- the block after an `else`
 unfoldable pub else_block : Script Phrase
 else_block = start ▸ token ELSE_KW ▸ call block_expr ▸ finish LET_ELSE ▸ done
 
--- an `else` behind this value, if there is one
+-- an `else` after this value, if there is one
 unfoldable pub let_else : Outcome → Script Phrase
 let_else value = optional (is_at ELSE_KW) (call (value_before_else value) ▸ else_block)
 

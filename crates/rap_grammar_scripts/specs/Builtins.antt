@@ -1,4 +1,4 @@
--- The forms behind `builtin#`.
+-- The forms after `builtin#`.
 -- In the Rust crate: `grammar/expressions/atom.rs`.
 use Rattle.std.specs.Prelude.{Bool, false, ◌&&◌, not, List, drop, codes, [], ◌∷◌}
 use Rattle.rap_base.specs.Keyword.{is_any_identifier}
@@ -40,7 +40,7 @@ starts_arg_name rs = is_any_identifier (next_kind rs) && (is_at EQ (drop 1 rs) &
 unfoldable pub opt_arg_name : Script Phrase
 opt_arg_name = optional starts_arg_name (call name_any_identifier ▸ token EQ ▸ done)
 
--- arguments behind the text; the list ends where no expression follows
+-- arguments after the text; the list ends where no expression follows
 abbrev pub arguments_turn : Bool → Bool → Script Phrase
 arguments_turn a b =
     choose
@@ -74,7 +74,7 @@ asm_name =
     ∷ [])
     (give nothing)
 
--- the forms behind those that name fields and arguments, from their node on
+-- the forms after those that name fields and arguments, from their node on
 unfoldable pub other_builtin : Script Phrase
 other_builtin =
     after asm_name (λ v.

@@ -1,4 +1,4 @@
--- Rules that are come back to, as a part of another rule.
+-- Calls of the recursive rules.
 use Rattle.std.specs.Prelude.{Bool, true, false}
 use Rattle.rap_base.specs.TokenKind.{COLON, L_ANGLE, WHERE_KW}
 use Rattle.rap_events.specs.Record.{next_kind}
@@ -10,7 +10,7 @@ use Rattle.rap_grammar_scripts.specs.Script.{Script, nothing, give, token, rule}
 use Rattle.rap_grammar_scripts.specs.Words.{done, if_some, ◌▸◌, recur, optional, only_if}
 use Rattle.rap_grammar_scripts.specs.declared.arguments.Restrictions.{Restrictions}
 
--- an expression may be anything, and ends as far on as it can
+-- no restriction
 abbrev pub unrestricted : Restrictions
 unrestricted = record { forbid_structs = false; prefer_stmt = false }
 
@@ -39,15 +39,15 @@ type_ = recur (phrase.type_with_bounds_cond true) ▸ done
 unfoldable pub type_no_bounds : Script Phrase
 type_no_bounds = recur (phrase.type_with_bounds_cond false) ▸ done
 
--- the trait behind the `as` of `<A as B>`
+-- the trait after the `as` of `<A as B>`
 unfoldable pub path_type_bounds : Script Phrase
 path_type_bounds = recur phrase.path_type_bounds ▸ done
 
--- an argument of something generic, as an element of a list
+-- a generic argument, as an element of a list
 unfoldable pub generic_arg_element : Script Phrase
 generic_arg_element = only_if (λ rs. is_generic_arg_first (next_kind rs)) (recur phrase.generic_arg ▸ done)
 
--- the parameters behind a `for`
+-- the parameters after a `for`
 unfoldable pub generic_param_list : Script Phrase
 generic_param_list = recur phrase.generic_param_list ▸ done
 
@@ -65,7 +65,7 @@ meta = recur phrase.meta ▸ done
 unfoldable pub cfg_predicate_element : Script Phrase
 cfg_predicate_element = only_if (λ rs. is_cfg_predicate_first (next_kind rs)) (recur phrase.cfg_predicate ▸ done)
 
--- the parameters of something generic, its bounds behind their colon and without it, and its `where`
+-- generic parameters, its bounds after their colon and without it, and its `where`
 unfoldable pub opt_generic_param_list : Script Phrase
 opt_generic_param_list = optional (is_at L_ANGLE) (recur phrase.generic_param_list ▸ done)
 
@@ -82,7 +82,7 @@ opt_where_clause = optional (is_at WHERE_KW) (recur phrase.where_clause ▸ done
 unfoldable pub arm_pattern : Script Phrase
 arm_pattern = recur phrase.arm_pattern ▸ done
 
--- an `if` behind an `else`
+-- an `if` after an `else`
 unfoldable pub else_if : Script Phrase
 else_if = recur phrase.if_expr ▸ done
 

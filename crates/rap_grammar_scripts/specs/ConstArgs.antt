@@ -1,4 +1,4 @@
--- Constants as arguments of something generic.
+-- Constants as generic arguments.
 -- In the Rust crate: `grammar/generic_args.rs`.
 use Rattle.std.specs.Prelude.{codes, [], ◌∷◌}
 use Rattle.rap_base.specs.TokenKind.{L_CURLY, MINUS}

@@ -20,7 +20,7 @@ unfoldable pub const_name : Bool → Script Phrase
 const_name true = test (is_at UNDERSCORE) (token UNDERSCORE ▸ done) name
 const_name false = name
 
--- the parameters of something generic, which a static may not have
+-- generic parameters, which a static may not have
 unfoldable pub const_params : Bool → Script Phrase
 const_params true = opt_generic_param_list
 const_params false =
@@ -42,7 +42,7 @@ unfoldable pub const_where : Bool → Script Phrase
 const_where true = opt_where_clause
 const_where false = done
 
--- a constant or a static, behind its keyword
+-- a constant or a static, after its keyword
 unfoldable pub const_or_static : Bool → Script Phrase
 const_or_static is_const =
     eat MUT_KW ▸ call (const_name is_const) ▸ call (const_params is_const) ▸ call (const_type is_const) ▸

@@ -18,7 +18,7 @@ use Rattle.rap_grammar_scripts.specs.TypeParts.{for_binder}
 use Rattle.rap_grammar_scripts.specs.Words.{done, if_some, is_block, next_is, eat, expect, ◌▸◌, call, recur, choose, optional}
 use Rattle.rap_grammar_scripts.specs.declared.arguments.Restrictions.{Restrictions}
 
--- what stands behind the block of an `if`, if it has an `else`
+-- what stands after the block of an `if`, if it has an `else`
 unfoldable pub else_branch : Script Phrase
 else_branch = optional (is_at ELSE_KW) (token ELSE_KW ▸ test (is_at IF_KW) else_if block_expr)
 
@@ -62,7 +62,7 @@ labelled_from =
     ∷ [])
     (report (codes "expected a loop or block") ▸ finish ERROR ▸ give nothing)
 
--- a loop or a block behind its label
+-- a loop or a block after its label
 unfoldable pub labelled_expr : Script Phrase
 labelled_expr = start ▸ call label ▸ labelled_from
 
@@ -82,7 +82,7 @@ arm_end is_block =
     test (is_at COMMA) (token COMMA ▸ done)
     (if is_block then done else test (is_at R_CURLY) done (report (codes "expected `,`") ▸ done))
 
--- what an arm gives, behind its arrow
+-- the body of an arm, after its arrow
 unfoldable pub arm_body : Script Phrase
 arm_body =
     test (is_at COMMA) (token COMMA ▸ report (codes "expected expression") ▸ done)
@@ -122,14 +122,14 @@ closure_binder = optional (is_at FOR_KW) for_binder
 unfoldable pub closure_keywords : Script Phrase
 closure_keywords = eat CONST_KW ▸ eat STATIC_KW ▸ eat ASYNC_KW ▸ eat GEN_KW ▸ eat MOVE_KW ▸ done
 
--- angle brackets behind a closure's type that nothing opened
+-- angle brackets after a closure's type that nothing opened
 abbrev pub angles_turn : Bool → Bool → Script Phrase
 angles_turn a b = optional (is_at R_ANGLE) (skip (codes "expected a curly brace") ▸ give (again a b))
 
 unfoldable pub closing_angles : Script Phrase
 closing_angles = loop angles_turn false false
 
--- what a closure gives: behind a type it is a block
+-- the body of a closure: a block after a return type
 unfoldable pub closure_body : Script Phrase
 closure_body =
     after opt_ret_type (λ v.

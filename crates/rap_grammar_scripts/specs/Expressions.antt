@@ -62,7 +62,7 @@ range_expr r op =
     test (has_range_end r.forbid_structs) (recur (phrase.expr_bp false (operand_of r) 3) ▸ finish RANGE_EXPR ▸ done)
     (finish RANGE_EXPR ▸ give nothing)
 
--- a type behind `as`, after an operand
+-- a type after `as`, after an operand
 unfoldable pub cast_expr : Script Phrase
 cast_expr = precede ▸ token AS_KW ▸ call type_no_bounds ▸ finish CAST_EXPR ▸ done
 
@@ -116,7 +116,7 @@ index_expr = precede ▸ token L_BRACK ▸ call expr ▸ expect R_BRACK ▸ fini
 unfoldable pub try_expr : Script Phrase
 try_expr = precede ▸ token QUESTION ▸ finish TRY_EXPR ▸ done
 
--- What stands behind a dot is called: a name before a `(` or `::`, or a `(` without a name.
+-- What stands after a dot is called: a name before a `(` or `::`, or a `(` without a name.
 unfoldable pub is_method_call : List Record → Bool
 is_method_call rs =
     (next_kind rs == L_PAREN) ||
@@ -128,7 +128,7 @@ method_arguments =
     test (is_at L_PAREN) (call arg_list ▸ finish METHOD_CALL_EXPR ▸ done)
     (report (codes "expected argument list") ▸ finish METHOD_CALL_EXPR ▸ done)
 
--- a method behind the dot
+-- a method after the dot
 unfoldable pub method_call_expr : Script Phrase
 method_call_expr =
     test (λ rs. is_path_name (next_kind rs)) (call name_ref_mod_path ▸ method_arguments)
@@ -137,13 +137,13 @@ method_call_expr =
 unfoldable pub await_expr : Script Phrase
 await_expr = token AWAIT_KW ▸ finish AWAIT_EXPR ▸ done
 
--- a field behind the dot
+-- a field after the dot
 unfoldable pub field_expr : Script Phrase
 field_expr =
     test (λ rs. is_path_name_or_index (next_kind rs)) (call name_ref_mod_path_or_index ▸ finish FIELD_EXPR ▸ done)
     (report (codes "expected field name or number") ▸ finish FIELD_EXPR ▸ done)
 
--- a method, `await` or a field behind the dot
+-- a method, `await` or a field after the dot
 unfoldable pub name_after_dot : Script Phrase
 name_after_dot = choose ((is_method_call, method_call_expr) ∷ (next_is AWAIT_KW, await_expr) ∷ []) field_expr
 
@@ -151,7 +151,7 @@ name_after_dot = choose ((is_method_call, method_call_expr) ∷ (next_is AWAIT_K
 abbrev pub is_range : List Record → Bool
 is_range rs = is_at DOT2EQ rs || is_at DOT2 rs
 
--- What follows a dot. A float is one field, or two where it has digits behind its own dot. Where it ends in that dot,
+-- What follows a dot. A float is one field, or two where it has digits after its own dot. Where it ends in that dot,
 -- what follows it follows a dot once more; but the dots of a range are none of an access, and end all postfixes.
 abbrev pub after_dot_turn : Bool → Bool → Script Phrase
 after_dot_turn a b =
@@ -200,7 +200,7 @@ lhs r =
     (after (atom_expr r) (λ v.
     if_some v (postfix_expr (not (r.prefer_stmt && is_block v)) (is_block v)) (give nothing)))
 
--- where no expression begins
+-- no expression begins
 unfoldable pub missing_expr : Script Phrase
 missing_expr = recover (codes "expected expression") is_expr_recovery (abandon ▸ give nothing) (abandon ▸ give nothing)
 

@@ -47,19 +47,19 @@ is_type_first kind =
     (L_PAREN ∷ L_BRACK ∷ BANG ∷ STAR ∷ AMP ∷ UNDERSCORE ∷ FN_KW ∷ UNSAFE_KW ∷ EXTERN_KW ∷ FOR_KW ∷ IMPL_KW ∷
     DYN_KW ∷ LIFETIME_IDENT ∷ []) kind
 
--- a constant as an argument of something generic, by its first token: no name
+-- a constant as a generic argument, by its first token: no name
 abbrev pub is_const_arg_first : ℕ → Bool
 is_const_arg_first kind = is_literal_first kind || one_of (L_CURLY ∷ MINUS ∷ []) kind
 
--- an argument of something generic
+-- a generic argument
 abbrev pub is_generic_arg_first : ℕ → Bool
 is_generic_arg_first kind = is_type_first kind || is_const_arg_first kind
 
--- a parameter of something generic, without the attributes before it
+-- a generic parameter, without the attributes before it
 abbrev pub is_generic_param_first : ℕ → Bool
 is_generic_param_first kind = one_of (IDENT ∷ LIFETIME_IDENT ∷ CONST_KW ∷ []) kind
 
--- an attribute before what it is of
+-- an outer attribute
 abbrev pub is_outer_attr_first : ℕ → Bool
 is_outer_attr_first kind = one_of (POUND ∷ OUTER_DOC_COMMENT ∷ []) kind
 
@@ -91,7 +91,7 @@ is_use_path_start rs =
 abbrev pub is_path_start : List Record → Bool
 is_path_start rs = (is_path_name (next_kind rs) || begins_with (parts COLON2) rs) || (next_kind rs == L_ANGLE)
 
--- the arguments of something generic in an expression, as `::<a>`
+-- generic arguments in an expression, as `::<a>`
 abbrev pub starts_expr_args : List Record → Bool
 starts_expr_args rs = is_at COLON2 rs && is_at L_ANGLE (drop 2 rs)
 
@@ -123,11 +123,11 @@ is_dyn_weak rs = (contextual_at rs 0 == DYN_KW) && is_weak_dyn_path_first (kind_
 abbrev pub starts_weak_dyn : List Record → Bool
 starts_weak_dyn rs = (next_kind rs == IDENT) && (not (at_least_2018 (edition_at rs 0)) && is_dyn_weak rs)
 
--- a parameter of something generic, or an attribute before it
+-- a generic parameter, or an attribute before it
 abbrev pub is_attributed_generic_param_first : ℕ → Bool
 is_attributed_generic_param_first kind = is_generic_param_first kind || is_outer_attr_first kind
 
--- what a type captures
+-- the generic arguments that a type captures
 abbrev pub is_use_bound_arg_first : ℕ → Bool
 is_use_bound_arg_first kind = one_of (SELF_TYPE_KW ∷ IDENT ∷ LIFETIME_IDENT ∷ []) kind
 

@@ -22,7 +22,7 @@ is_item_paren_recovery kind = is_item_recovery kind || one_of (L_PAREN ∷ []) k
 unfoldable pub fn_params : Script Phrase
 fn_params = test (is_at L_PAREN) param_list_fn_def (report (codes "expected function arguments") ▸ done)
 
--- what a function gives back, if it says so: without the arrow that is reported
+-- the return type of a function, if there is one; a missing arrow is reported
 unfoldable pub fn_ret_type : Script Phrase
 fn_ret_type = after opt_ret_type (λ v. if_some v done (call opt_no_arrow_ret_type ▸ done))
 
@@ -40,7 +40,7 @@ unbalanced_brackets = loop bracket_turn false false
 unfoldable pub fn_body : Script Phrase
 fn_body = test (is_at SEMICOLON) (token SEMICOLON ▸ done) block_expr
 
--- what stands behind a function's name and its generic parameters
+-- what stands after a function's name and its generic parameters
 unfoldable pub signature : Script Phrase
 signature = call fn_params ▸ call fn_ret_type ▸ call unbalanced_brackets ▸ opt_where_clause
 

@@ -1,4 +1,4 @@
--- Arguments of something generic.
+-- Generic arguments.
 use Rattle.std.specs.Prelude.{ℕ, List, Bool, true, ◌&&◌, not, drop, codes, [], ◌∷◌}
 use Rattle.rap_base.specs.TokenKind.{LIFETIME_IDENT, PLUS, EQ, COLON, COLON2}
 use Rattle.rap_base.specs.NodeKind.{LIFETIME_ARG, TYPE_ARG, ASSOC_TYPE_ARG, PATH_SEGMENT, PATH, MACRO_CALL, MACRO_TYPE, PATH_TYPE}
@@ -35,7 +35,7 @@ lifetime_arg = start ▸ call lifetime ▸ finish LIFETIME_ARG ▸ done
 unfoldable pub type_arg : Script Phrase
 type_arg = start ▸ call (type_with_bounds_cond true) ▸ finish TYPE_ARG ▸ done
 
--- what a name is bound to: a type or a constant, behind the `=`
+-- what a name is bound to: a type or a constant, after the `=`
 unfoldable pub assoc_value : Script Phrase
 assoc_value =
     choose

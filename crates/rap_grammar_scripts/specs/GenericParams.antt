@@ -1,4 +1,4 @@
--- Parameters of something generic, bounds, and `where`.
+-- Generic parameters, bounds, and `where`.
 use Rattle.std.specs.Prelude.{ℕ, Bool, false, ◌&&◌, [], ◌∷◌, drop, codes}
 use Rattle.rap_base.specs.TokenKind.{ERROR, L_ANGLE, R_ANGLE, L_PAREN, R_PAREN, L_BRACK, R_BRACK, L_CURLY, COMMA, COLON, SEMICOLON, EQ, PLUS, TILDE, QUESTION, BANG, IDENT, LIFETIME_IDENT, CONST_KW, ASYNC_KW, FOR_KW, USE_KW, IMPL_KW, WHERE_KW}
 use Rattle.rap_base.specs.NodeKind.{GENERIC_PARAM_LIST, LIFETIME_PARAM, TYPE_PARAM, CONST_PARAM, TYPE_BOUND, TYPE_BOUND_LIST, USE_BOUND_GENERIC_ARGS, WHERE_CLAUSE, WHERE_PRED}
@@ -24,7 +24,7 @@ unfoldable pub use_bound_args : Script Phrase
 use_bound_args =
     delimited use_bound_arg L_ANGLE R_ANGLE COMMA (codes "expected identifier or lifetime") is_use_bound_arg_first
 
--- what a type captures
+-- the generic arguments that a type captures
 unfoldable pub use_bound : Script Phrase
 use_bound = token USE_KW ▸ start ▸ call use_bound_args ▸ finish USE_BOUND_GENERIC_ARGS ▸ done
 
@@ -117,7 +117,7 @@ type_default = optional (is_at EQ) (token EQ ▸ type_)
 unfoldable pub type_param : Script Phrase
 type_param = call name ▸ call (optional (is_at COLON) bounds) ▸ call type_default ▸ finish TYPE_PARAM ▸ done
 
--- the type behind a constant's name
+-- the type after a constant's name
 unfoldable pub const_type : Script Phrase
 const_type = test (is_at COLON) ascription (report (codes "missing type for const parameter") ▸ done)
 
@@ -170,7 +170,7 @@ where_predicate =
 abbrev pub ends_where : ℕ → Bool
 ends_where kind = one_of (L_CURLY ∷ SEMICOLON ∷ EQ ∷ []) kind
 
--- what stands behind a predicate: something where another one may follow
+-- what stands after a predicate: something where another one may follow
 unfoldable pub after_predicate : Script Phrase
 after_predicate =
     choose

@@ -22,8 +22,8 @@ name_ref_mod_path_or_index =
     test (λ rs. is_path_name_or_index (next_kind rs)) (start ▸ any ▸ finish NAME_REF ▸ done)
     (skip (codes "expected integer, identifier, `self`, `super`, `crate`, or `Self`") ▸ done)
 
--- Elements with a delimiter between them. Where an element is missing a message stands in the place of it; the list ends
--- where no element begins, and where neither a delimiter nor another element follows.
+-- Elements with a delimiter between them. Where an element is missing a message stands in the place of it; the list
+-- ends where no element begins, and where neither a delimiter nor another element follows.
 abbrev pub element_turn : Script Phrase → ℕ → ℕ → List ℕ → (ℕ → Bool) → Bool → Bool → Script Phrase
 element_turn element ket delim missing first a b =
     choose
@@ -45,7 +45,7 @@ delimited element bra ket delim missing first =
 unfoldable pub lifetime : Script Phrase
 lifetime = start ▸ token LIFETIME_IDENT ▸ finish LIFETIME ▸ done
 
--- a name that is given; where it is missing, the next token is taken along unless it is kept
+-- a declared name; where it is missing, the next token is skipped too unless it is kept
 unfoldable pub name_r : (ℕ → Bool) → Script Phrase
 name_r kept =
     test (is_at IDENT) (start ▸ token IDENT ▸ finish NAME ▸ done) (recover (codes "expected a name") kept done done)
@@ -64,7 +64,7 @@ name_ref_or_upper_self =
 unfoldable pub abi : Script Phrase
 abi = start ▸ token EXTERN_KW ▸ eat STRING ▸ finish ABI ▸ done
 
--- the type that something gives back
+-- a return type
 unfoldable pub opt_ret_type : Script Phrase
 opt_ret_type = only_if (is_at THIN_ARROW) (start ▸ token THIN_ARROW ▸ call type_no_bounds ▸ finish RET_TYPE ▸ done)
 

@@ -57,7 +57,7 @@ item_turn stop_on_r_curly a b =
 unfoldable pub items : Bool → Script Phrase
 items stop_on_r_curly = loop (item_turn stop_on_r_curly) false false
 
--- the same behind the attributes of what they stand in
+-- the same after inner attributes
 unfoldable pub mod_contents : Bool → Script Phrase
 mod_contents stop_on_r_curly = call inner_attrs ▸ items stop_on_r_curly
 
@@ -145,14 +145,14 @@ opt_item_without_modifiers =
     ∷ [])
     (give nothing)
 
--- a constant behind modifiers: no block behind `const`
+-- a constant after modifiers: no block after `const`
 unfoldable pub opt_const : Script Phrase
 opt_const = only_if (λ rs. not (kind_at rs 1 == L_CURLY)) konst
 
 unfoldable pub opt_extern_block : Bool → Script Phrase
 opt_extern_block has_extern = if has_extern then call extern_item_list ▸ finish EXTERN_BLOCK ▸ done else give nothing
 
--- an item behind its modifiers
+-- an item after its modifiers
 unfoldable pub opt_item_with_modifiers : Bool → Script Phrase
 opt_item_with_modifiers has_extern =
     choose
@@ -186,7 +186,7 @@ opt_item is_in_extern =
     after opt_item_without_modifiers (λ w. if_some w done
     (opt_modified_item (found v) is_in_extern)))
 
--- a semicolon behind an item
+-- a semicolon after an item
 unfoldable pub after_item : Script Phrase
 after_item =
     optional (is_at SEMICOLON) (skip (codes "expected item, found `;`\nconsider removing this semicolon") ▸ done)
@@ -213,7 +213,7 @@ missing_item stop_on_r_curly =
 unfoldable pub macro_or_error : Bool → Script Phrase
 macro_or_error stop_on_r_curly = test is_use_path_start path_item (abandon ▸ missing_item stop_on_r_curly)
 
--- an item behind its attributes, or what stands in its place
+-- an item after its attributes, or what stands in its place
 unfoldable pub marked_item : Bool → Bool → Script Phrase
 marked_item stop_on_r_curly is_in_extern =
     after (opt_item is_in_extern) (λ v. if_some v after_item (macro_or_error stop_on_r_curly))
@@ -222,6 +222,6 @@ marked_item stop_on_r_curly is_in_extern =
 unfoldable pub item_or_macro : Bool → Bool → Script Phrase
 item_or_macro stop_on_r_curly is_in_extern = start ▸ call outer_attrs ▸ marked_item stop_on_r_curly is_in_extern
 
--- what a file holds, behind its shebang and its frontmatter
+-- what a file holds, after its shebang and its frontmatter
 unfoldable pub source_file : Script Phrase
 source_file = eat SHEBANG ▸ eat FRONTMATTER ▸ mod_contents false

@@ -1,4 +1,4 @@
--- The script of each rule that others come back to.
+-- The script of each recursive rule.
 use Rattle.rap_events.specs.State.{State}
 use Rattle.rap_grammar_scripts.specs.Attributes.{meta, cfg_predicate}
 use Rattle.rap_grammar_scripts.specs.Control.{if_expr}
@@ -35,6 +35,6 @@ script_of phrase.meta = meta
 script_of phrase.cfg_predicate = cfg_predicate
 script_of phrase.token_tree = token_tree
 
--- a parser went along a script, with this outcome
+-- the parser's calls between two states are those of the script, with this outcome
 pub record Follows (s : Script Phrase) (v : Outcome) (old new : State) : Type 0 where
   pub run : Runs script_of s (spot old) (spot new) v

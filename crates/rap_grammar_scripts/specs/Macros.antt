@@ -13,7 +13,7 @@ use Rattle.rap_grammar_scripts.specs.Script.{Script, Outcome, nothing, something
 use Rattle.rap_grammar_scripts.specs.TokenTree.{token_tree, macro_call_after_excl}
 use Rattle.rap_grammar_scripts.specs.Words.{done, next_is, expect, ◌▸◌, call, choose}
 
--- the rules of a macro in their brackets; a semicolon stands behind other brackets than braces
+-- the rules of a macro in their brackets; a semicolon stands after other brackets than braces
 unfoldable pub rules_in_brackets : Script Phrase
 rules_in_brackets =
     choose
@@ -25,7 +25,7 @@ rules_in_brackets =
 unfoldable pub macro_rules : Script Phrase
 macro_rules = bear MACRO_RULES_KW ▸ expect BANG ▸ call name ▸ call rules_in_brackets ▸ finish MACRO_RULES ▸ done
 
--- what a macro is expanded to, behind its parameters
+-- what a macro is expanded to, after its parameters
 unfoldable pub macro_def_body : Script Phrase
 macro_def_body =
     test (λ rs. is_bracket (next_kind rs)) token_tree (report (codes "expected `{`, `[`, `(`") ▸ done)
@@ -41,13 +41,13 @@ macro_def_tokens =
 unfoldable pub macro_def : Script Phrase
 macro_def = token MACRO_KW ▸ call (name_r is_item_recovery) ▸ call macro_def_tokens ▸ finish MACRO_DEF ▸ done
 
--- a semicolon, but not behind braces
+-- a semicolon, but not after braces
 abbrev pub semicolon_after : Outcome → Script Phrase → Script Phrase
 semicolon_after nothing s = expect SEMICOLON ▸ s
 semicolon_after something s = expect SEMICOLON ▸ s
 semicolon_after block s = s
 semicolon_after (again a b) s = s
 
--- a macro call behind its path, whose node is open
+-- a macro call after its path, whose node is open
 unfoldable pub macro_call : Script Phrase
 macro_call = after macro_call_after_excl (λ v. semicolon_after v (finish MACRO_CALL done))

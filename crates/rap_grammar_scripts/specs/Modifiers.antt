@@ -25,7 +25,7 @@ either_of something w = something
 either_of block w = something
 either_of (again a b) w = something
 
--- who may implement a trait
+-- the `impl` restriction of a trait
 abbrev pub is_impl_restriction : List Record → Bool
 is_impl_restriction rs =
     is_at IMPL_KW rs && ((kind_at rs 1 == L_PAREN)
@@ -87,7 +87,7 @@ safety is_in_extern =
 unfoldable pub opt_abi : Script Phrase
 opt_abi = only_if (is_at EXTERN_KW) abi
 
--- a `default` before an item, and with the modifier behind it
+-- a `default` before an item, and with the modifier after it
 abbrev pub is_default : List Record → Bool
 is_default rs = reads_as DEFAULT_KW rs && one_of (FN_KW ∷ TYPE_KW ∷ CONST_KW ∷ IMPL_KW ∷ []) (kind_at rs 1)
 

@@ -48,7 +48,7 @@ self_as_name = start ▸ token SELF_KW ▸ finish NAME ▸ done
 unfoldable pub self_value : Script Phrase
 self_value = eat MUT_KW ▸ call self_as_name ▸ optional (is_at COLON) ascription
 
--- a `self` behind a `mut`, if there is one
+-- a `self` after a `mut`, if there is one
 unfoldable pub self_mut : Script Phrase
 self_mut = eat MUT_KW ▸ self_as_name
 
@@ -62,7 +62,7 @@ opt_self_param = choose ((is_self_value, self_value) ∷ (is_self_ref, self_ref)
 unfoldable pub variadic_param : Script Phrase
 variadic_param = only_if (λ rs. is_at COLON rs && is_at DOT3 (drop 1 rs)) (token COLON ▸ token DOT3 ▸ done)
 
--- what stands behind a parameter's pattern
+-- what stands after a parameter's pattern
 unfoldable pub param_type : Script Phrase
 param_type =
     after variadic_param (λ v.
@@ -97,7 +97,7 @@ after_param =
     ∷ [])
     (give nothing)
 
--- a parameter from its marker on, behind its attributes
+-- a parameter from its marker on, after its attributes
 unfoldable pub marked_param : Flavor → Script Phrase
 marked_param f =
     test (λ rs. is_param_first (next_kind rs)) (call (param f) ▸ finish PARAM ▸ after_param)

@@ -20,7 +20,7 @@ generic_arg_list =
     call (delimited generic_arg_element L_ANGLE R_ANGLE COMMA (codes "expected generic argument") is_generic_arg_first)
     ▸ finish GENERIC_ARG_LIST ▸ done
 
--- the arguments behind a name in an expression
+-- the arguments after a name in an expression
 unfoldable pub opt_generic_arg_list_expr : Script Phrase
 opt_generic_arg_list_expr = optional starts_expr_args (start ▸ token COLON2 ▸ generic_arg_list)
 
@@ -30,13 +30,13 @@ type_arg_element =
     test (λ rs. is_type_first (next_kind rs)) (start ▸ call type_ ▸ finish TYPE_ARG ▸ done)
     (start ▸ call type_ ▸ finish TYPE_ARG ▸ give nothing)
 
--- types in parentheses, as those of a function that are taken, and the one that it gives back; their node is open
+-- types in parentheses, as those of a function that are taken, and the return type; their node is open
 unfoldable pub parenthesized_args : Script Phrase
 parenthesized_args =
     call (delimited type_arg_element L_PAREN R_PAREN COMMA (codes "expected type") is_type_first) ▸
     finish PARENTHESIZED_ARG_LIST ▸ call opt_ret_type ▸ done
 
--- two dots in parentheses, for whatever a function gives back; their node is open
+-- two dots in parentheses, as in the return type notation `f(..)`; their node is open
 unfoldable pub return_type_syntax : Script Phrase
 return_type_syntax = token L_PAREN ▸ token DOT2 ▸ expect R_PAREN ▸ finish RETURN_TYPE_SYNTAX ▸ done
 
@@ -56,7 +56,7 @@ has_args_behind rs = is_at COLON2 rs && one_of (L_ANGLE ∷ L_PAREN ∷ []) (kin
 abbrev pub has_args : List Record → Bool
 has_args rs = ((next_kind rs == L_ANGLE) && not (kind_at rs 1 == EQ)) || (next_kind rs == L_PAREN)
 
--- the arguments behind a name in a type
+-- the arguments after a name in a type
 unfoldable pub opt_path_type_args : Script Phrase
 opt_path_type_args =
     choose ((has_args_behind, start ▸ token COLON2 ▸ path_type_args) ∷ (has_args, start ▸ path_type_args) ∷ []) done
@@ -68,15 +68,14 @@ opt_path_args mode.Type = opt_path_type_args
 opt_path_args mode.Expr = opt_generic_arg_list_expr
 opt_path_args mode.Vis = done
 
--- Where a segment's name is missing and nothing of the segment was taken, a message is all, unless it takes a token
--- along.
+-- Where a segment's name is missing and nothing of the segment was taken, a message is all, unless it skips a token.
 unfoldable pub missing_segment_name : Mode → Bool → Script Phrase
 missing_segment_name m empty =
     recover (codes "expected identifier, `self`, `super`, `crate`, or `Self`") (is_segment_recovery m)
     (if empty then abandon ▸ give nothing else (finish PATH_SEGMENT ▸ done))
     (finish PATH_SEGMENT ▸ done)
 
--- a segment's name, and the arguments behind it
+-- a segment's name, and the arguments after it
 unfoldable pub segment_name : Mode → Bool → Script Phrase
 segment_name m empty =
     test (λ rs. is_path_name (next_kind rs))
@@ -106,7 +105,7 @@ path_segment m true =
     ∷ [])
     (segment_name m true)
 
--- another segment comes next: of what is imported, no list and no star behind the `::`
+-- another segment comes next: of what is imported, no list and no star after the `::`
 abbrev pub has_segment : Mode → List Record → Bool
 has_segment mode.Use rs = is_at COLON2 rs && not (one_of (STAR ∷ L_CURLY ∷ []) (kind_at rs 2))
 has_segment mode.Attr rs = is_at COLON2 rs

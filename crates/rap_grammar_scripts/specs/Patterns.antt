@@ -21,7 +21,7 @@ use Rattle.rap_grammar_scripts.specs.Words.{done, if_some, next_is, reads_as, ea
 unfoldable pub binding : Script Phrase
 binding = eat REF_KW ▸ eat MUT_KW ▸ name_r is_pattern_recovery
 
--- the pattern that a name stands for, behind its `@`
+-- the pattern that a name stands for, after its `@`
 unfoldable pub at_pattern : Bool → Script Phrase
 at_pattern with_at = optional (λ rs. with_at && is_at AT rs) (token AT ▸ call pattern_single ▸ done)
 
@@ -172,7 +172,7 @@ path_or_macro_pat =
     ∷ [])
     (finish PATH_PAT ▸ done)
 
--- `builtin#` with a name behind it, which is not taken where it is unknown
+-- `builtin#` with a name after it, which is not taken where it is unknown
 unfoldable pub builtin_pat : Script Phrase
 builtin_pat =
     start ▸ bear BUILTIN_KW ▸ token POUND ▸
@@ -191,7 +191,7 @@ abbrev pub is_ident_pat_start : List Record → Bool
 is_ident_pat_start rs =
     is_at IDENT rs && (not (one_of (L_PAREN ∷ L_CURLY ∷ BANG ∷ []) (kind_at rs 1)) && not (is_at COLON2 (drop 1 rs)))
 
--- what ends the search for a pattern, in an arm or elsewhere
+-- what stops the search for a pattern, in an arm or elsewhere
 abbrev pub ends_search : Bool → ℕ → Bool
 ends_search false kind = is_pattern_recovery kind
 ends_search true kind = is_arm_recovery kind

@@ -1,14 +1,14 @@
--- The rules that others come back to.
+-- The recursive rules.
 use Rattle.std.specs.Prelude.{ℕ, Bool}
 use Rattle.rap_grammar_scripts.specs.declared.arguments.Restrictions.{Restrictions}
 use Rattle.rap_grammar_scripts.specs.declared.arguments.Semicolon.{Semicolon}
 
--- An expression of at least a power, from a node on that was started before, or from one of its own. A type, after which
--- bounds may follow or not, and a path as a type with its bounds. An argument, and the list of the parameters, of
--- something generic; the bounds of a type, and a `where` with what it asks. A pattern, with its alternatives or without
--- them, and that of an arm. A statement, and an `if` behind an `else`. An item: up to a brace that closes or not, and in
--- an `extern` block or not. A tree in the braces of a `use`. What stands in the brackets of an attribute, and a condition
--- in it. A list of tokens in its brackets.
+-- Each has the name of its rule's script. `expr_bp` is an expression of at least a power; the truth value says whether
+-- it begins at a node that was started before. `type_with_bounds_cond` is a type, with bounds after it where they are
+-- allowed; `path_type_bounds` is a path as a type, and bounds after it. `pattern` has alternatives, `pattern_single`
+-- has none, and `arm_pattern` is that of a `match` arm. `if_expr` is an `if` after an `else`. The truth values of
+-- `item_or_macro` say whether a closing brace ends the items, and whether they stand in an `extern` block. `meta` is
+-- the contents of an attribute's brackets, `cfg_predicate` a condition in it.
 pub data Phrase : Type 0 where
   expr_bp : Bool → Restrictions → ℕ → Phrase
   type_with_bounds_cond : Bool → Phrase

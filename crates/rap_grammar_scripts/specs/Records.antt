@@ -18,7 +18,7 @@ use Rattle.rap_grammar_scripts.specs.Words.{done, expect, ◌▸◌, call, choos
 abbrev pub is_field_name : ℕ → Bool
 is_field_name kind = one_of (IDENT ∷ INT_NUMBER ∷ []) kind
 
--- a field's name and the colon behind it, or nothing where the name is the value too
+-- a field's name and the colon after it, or nothing where the name is the value too
 unfoldable pub field_name : Script Phrase
 field_name =
     choose
@@ -43,7 +43,7 @@ named_field =
     ∷ [])
     (call field_name ▸ call expr ▸ finish RECORD_EXPR_FIELD ▸ done)
 
--- what stands behind the dots of the base
+-- what stands after the dots of the base
 unfoldable pub base_of_record : Script Phrase
 base_of_record =
     test (is_at R_CURLY) done

@@ -9,7 +9,7 @@ use Rattle.rap_grammar_scripts.specs.declared.arguments.Mode.TheVariants as mode
 abbrev pub is_expr_recovery : ℕ → Bool
 is_expr_recovery kind = one_of (L_PAREN ∷ R_CURLY ∷ R_PAREN ∷ R_BRACK ∷ COMMA ∷ []) kind
 
--- where an expression that does not begin takes no token along
+-- where an expression that does not begin skips no token
 abbrev pub stops_expr : ℕ → Bool
 stops_expr kind = one_of (EOF ∷ R_CURLY ∷ R_PAREN ∷ R_BRACK ∷ COMMA ∷ []) kind
 
@@ -24,12 +24,12 @@ is_item_recovery kind =
 abbrev pub is_type_recovery : ℕ → Bool
 is_type_recovery kind = one_of (R_PAREN ∷ R_BRACK ∷ R_CURLY ∷ R_ANGLE ∷ COMMA ∷ PUB_KW ∷ []) kind
 
--- where a type that does not begin takes no token along
+-- where a type that does not begin skips no token
 abbrev pub stops_type : ℕ → Bool
 stops_type kind =
     one_of (EOF ∷ L_CURLY ∷ R_CURLY ∷ R_PAREN ∷ R_BRACK ∷ R_ANGLE ∷ COMMA ∷ PUB_KW ∷ []) kind
 
--- the search for an argument of something generic
+-- the search for a generic argument
 abbrev pub is_generic_arg_recovery : ℕ → Bool
 is_generic_arg_recovery kind = one_of (R_ANGLE ∷ COMMA ∷ []) kind
 
@@ -38,7 +38,7 @@ abbrev pub is_pattern_recovery : ℕ → Bool
 is_pattern_recovery kind =
     one_of (LET_KW ∷ IF_KW ∷ WHILE_KW ∷ LOOP_KW ∷ MATCH_KW ∷ R_PAREN ∷ R_BRACK ∷ R_CURLY ∷ COMMA ∷ EQ ∷ AMP ∷ []) kind
 
--- where a pattern that does not begin takes no token along
+-- where a pattern that does not begin skips no token
 abbrev pub stops_pattern : ℕ → Bool
 stops_pattern kind =
     one_of
@@ -49,11 +49,11 @@ stops_pattern kind =
 abbrev pub is_arm_recovery : ℕ → Bool
 is_arm_recovery kind = one_of (EQ ∷ IF_KW ∷ []) kind
 
--- where the pattern of an arm takes no token along
+-- where the pattern of an arm skips no token
 abbrev pub stops_arm : ℕ → Bool
 stops_arm kind = one_of (EOF ∷ L_CURLY ∷ R_CURLY ∷ EQ ∷ IF_KW ∷ []) kind
 
--- where a pattern that does not begin takes no token along, in an arm or elsewhere
+-- where a pattern that does not begin skips no token, in an arm or elsewhere
 abbrev pub stops_of : Bool → ℕ → Bool
 stops_of false kind = stops_pattern kind
 stops_of true kind = stops_arm kind

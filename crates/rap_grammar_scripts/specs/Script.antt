@@ -1,4 +1,4 @@
--- How a rule goes over the tokens, as a script: the parser's calls in their order, and the tests between them.
+-- Scripts: what a rule does to the tokens, as the calls of the parser in their order and the tests between them.
 use Rattle.std.specs.Prelude.{◌≡◌, ◌≢◌, ◌==◌, ℕ, Bool, true, false, List, [], ◌∷◌, drop}
 use Rattle.rap_base.specs.NodeKind.{FIELD_EXPR}
 use Rattle.rap_base.specs.TokenKind.{EOF, ERROR, FLOAT_NUMBER}
@@ -11,22 +11,22 @@ use Rattle.rap_events.specs.LastToken.{last_after}
 use Rattle.rap_events.specs.Machine.{Stack, floor, push}
 use Rattle.rap_events.specs.State.{State, but_last, last_children, skipped, with_kind}
 
--- What a rule answers to its caller: nothing (`None`, `false`), something, or a node that reads like a block. A turn of
--- a loop answers that the loop goes on, with these two flags.
+-- The outcome of a script: nothing (`None`, `false`), something, or a node that reads like a block. A turn of a loop
+-- has the outcome `again`, with two flags, where the loop goes on.
 pub data Outcome : Type 0 where
   nothing : Outcome
   something : Outcome
   block : Outcome
   again : Bool → Bool → Outcome
 
--- A script over rules with these names. It ends with an outcome. It goes on by a test of the tokens that come next, or as
--- the last token taken was of a kind or not. It takes a token: of a kind, under its own kind, or under another kind that
--- it may bear. It reports a message, one that ends in the next token's kind, or one with which it takes the next token
--- into an `ERROR`. It starts a node, starts one around the last node, finishes the newest one under a kind, lets the last
--- node begin where the newest one does, or abandons the newest one.
--- It takes a float apart, which finishes the field access that is the newest node, and where the float does not end in
--- a dot another one around it; and goes on as the float ends in a dot or not.
--- It goes on after another script, or after a rule, as their outcome says. It takes turns, as long as they answer so.
+-- A script over rules with these names. It ends with an outcome. It goes on by a test of the tokens that come next, or
+-- as the last token taken was of a kind or not. It takes a token: of a kind, under its own kind, or as another kind
+-- that it may be read as. It reports a message, one that ends in the next token's kind, or one with which it takes the
+-- next token into an `ERROR`. It starts a node, starts one around the last node, finishes the newest one under a kind,
+-- lets the last node begin where the newest one does, or abandons the newest one. It splits a float, which finishes the
+-- field access that is the newest node, and where the float does not end in a dot another one around it; and goes on as
+-- the float ends in a dot or not. It goes on after another script, or after a rule, as their outcome says. It takes
+-- turns, as long as their outcome says so.
 pub data Script (P : Type 0) : Type 0 where
   give : Outcome → Script P
   test : (List Record → Bool) → Script P → Script P → Script P
@@ -47,7 +47,7 @@ pub data Script (P : Type 0) : Type 0 where
   rule : P → (Outcome → Script P) → Script P
   loop : (Bool → Bool → Script P) → Bool → Bool → Script P
 
--- Where a script stands: the tokens from the next one on, the forest under the newest open node, and those under the
+-- The state of a script: the tokens that are left, the forest under the newest open node, and the forests under the
 -- older ones, the newest first.
 pub record Spot : Type 0 where
   pub rest : List Record
@@ -58,7 +58,7 @@ abbrev pub forests : Stack → List Forest
 forests floor = []
 forests (push below marker forest) = forest ∷ forests below
 
--- where a parser stands
+-- the spot of a parser's state
 abbrev pub spot : State → Spot
 spot s = record { rest = s.rest; forest = s.forest; below = forests s.below }
 
@@ -67,12 +67,12 @@ abbrev pub newest : List Forest → Forest
 newest [] = none
 newest (f ∷ fs) = f
 
--- under which kind the last token was taken that stands under these nodes, or the end where none was
+-- the kind under which the last token under these nodes was taken, or `EOF` where none was
 abbrev pub last_under : List Forest → ℕ
 last_under [] = EOF
 last_under (f ∷ fs) = last_after (last_under fs) f
 
--- the same of a spot
+-- the same for a spot
 abbrev pub last_taken_at : Spot → ℕ
 last_taken_at p = last_under (p.forest ∷ p.below)
 
@@ -139,7 +139,8 @@ goes_on something = false
 goes_on block = false
 goes_on (again a b) = true
 
--- By the scripts of all rules, a script leads from here to there and ends with this outcome.
+-- A script runs from one spot to another and ends with this outcome; `script_of` has the scripts of the recursive
+-- rules.
 pub data Runs {P : Type 0} (script_of : P → Script P) : Script P → Spot → Spot → Outcome → Type 0 where
   gives : {v : Outcome} {p : Spot} → Runs script_of (give v) p p v
   passes : {h : List Record → Bool} {s t : Script P} {p q : Spot} {v : Outcome} → h p.rest ≡ true →

@@ -18,7 +18,7 @@ use Rattle.rap_grammar_scripts.specs.Words.{done, if_some, eat, expect, ◌▸�
 use Rattle.rap_grammar_scripts.specs.declared.arguments.Semicolon.{Semicolon}
 use Rattle.rap_grammar_scripts.specs.declared.arguments.Semicolon.TheVariants as semicolon
 
--- the semicolon behind an expression, which one that reads like a block may do without
+-- the semicolon after an expression, which one that reads like a block may do without
 unfoldable pub expr_semicolon : Semicolon → Bool → Script Phrase
 expr_semicolon semicolon.Required true = eat SEMICOLON done
 expr_semicolon semicolon.Required false = expect SEMICOLON done
@@ -54,6 +54,6 @@ stmt semi =
 abbrev pub macro_turn : Bool → Bool → Script Phrase
 macro_turn a b = test (is_at EOF) done (recur (phrase.stmt semicolon.Optional) ▸ give (again a b))
 
--- what a macro gives as statements
+-- the statements that a macro expands to
 unfoldable pub macro_stmts : Script Phrase
 macro_stmts = loop macro_turn false false

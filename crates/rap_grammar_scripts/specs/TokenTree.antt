@@ -45,7 +45,7 @@ token_tree =
 abbrev pub starts_macro_call : List Record → Bool
 starts_macro_call rs = is_at BANG rs && not (is_at NEQ rs)
 
--- a macro call behind its path; with braces it reads like a block
+-- a macro call after its path; with braces it reads like a block
 unfoldable pub macro_call_after_excl : Script Phrase
 macro_call_after_excl =
     token BANG ▸

@@ -32,14 +32,14 @@ assoc_item_list =
 unfoldable pub expect_assoc_item_list : Script Phrase
 expect_assoc_item_list = test (is_at L_CURLY) assoc_item_list (report (codes "expected `{`") ▸ done)
 
--- what a trait stands for, behind its `=`
+-- what a trait stands for, after its `=`
 unfoldable pub trait_alias : Script Phrase
 trait_alias = call bounds_without_colon ▸ call opt_where_clause ▸ expect SEMICOLON ▸ done
 
 unfoldable pub opt_bounds : Script Phrase
 opt_bounds = optional (is_at COLON) bounds
 
--- what stands behind a trait's name and parameters
+-- what stands after a trait's name and parameters
 unfoldable pub trait_body : Script Phrase
 trait_body = test (is_at EQ) (token EQ ▸ trait_alias) (call opt_bounds ▸ call opt_where_clause ▸ expect_assoc_item_list)
 
@@ -48,7 +48,7 @@ trait_ =
     token TRAIT_KW ▸ call (name_r is_item_recovery) ▸ call opt_generic_param_list ▸ call trait_body ▸ finish TRAIT ▸
     done
 
--- Behind an `impl`, a `<` begins parameters, and no type. Where both may be meant, as in `<T> ::a`, it is parameters.
+-- After an `impl`, a `<` begins parameters, and no type. Where both may be meant, as in `<T> ::a`, it is parameters.
 abbrev pub not_a_qualified_path : List Record → Bool
 not_a_qualified_path rs =
     one_of (POUND ∷ R_ANGLE ∷ CONST_KW ∷ []) (kind_at rs 1) ||

@@ -10,7 +10,7 @@ use Rattle.rap_grammar_scripts.specs.Phrase.{Phrase}
 use Rattle.rap_grammar_scripts.specs.Script.{Script, test, token, report, start, finish}
 use Rattle.rap_grammar_scripts.specs.Words.{done, ◌▸◌, call}
 
--- a type behind its colon; before a `=` a message stands in its place
+-- a type after its colon; before a `=` a message stands in its place
 unfoldable pub ascription : Script Phrase
 ascription = token COLON ▸ test (is_at EQ) (report (codes "missing type") ▸ done) (call type_ ▸ done)
 

@@ -42,7 +42,7 @@ paren_or_tuple_type = start ▸ token L_PAREN ▸ after tuple_types (λ v. expec
 unfoldable pub never_type : Script Phrase
 never_type = start ▸ token BANG ▸ finish NEVER_TYPE ▸ done
 
--- what stands behind the star of a pointer
+-- what stands after the star of a pointer
 unfoldable pub ptr_qualifier : Script Phrase
 ptr_qualifier =
     test (λ rs. one_of (MUT_KW ∷ CONST_KW ∷ []) (next_kind rs)) (any ▸ done)
@@ -124,7 +124,7 @@ dyn_trait_type_weak = start ▸ bear DYN_KW ▸ call bounds_without_colon ▸ fi
 unfoldable pub bare_dyn_trait_type : Script Phrase
 bare_dyn_trait_type = start ▸ call bounds_without_colon ▸ finish DYN_TRAIT_TYPE ▸ done
 
--- what stands behind `builtin#pattern_type`: a type and its values
+-- what stands after `builtin#pattern_type`: a type and its values
 unfoldable pub pattern_type_parts : Script Phrase
 pattern_type_parts =
     expect L_PAREN ▸ call type_ ▸

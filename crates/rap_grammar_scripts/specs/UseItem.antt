@@ -17,7 +17,7 @@ use Rattle.rap_grammar_scripts.specs.Words.{done, expect, recover, ◌▸◌, ca
 abbrev pub is_group_first : ℕ → Bool
 is_group_first kind = one_of (STAR ∷ L_CURLY ∷ []) kind
 
--- the same behind `::`
+-- the same after `::`
 abbrev pub is_global_group_start : List Record → Bool
 is_global_group_start rs = is_at COLON2 rs && is_group_first (kind_at rs 2)
 
@@ -36,7 +36,7 @@ is_use_tree_list_first kind = one_of (L_CURLY ∷ IDENT ∷ []) kind
 abbrev pub missing_use_tree : List ℕ
 missing_use_tree = codes "expected one of `*`, `::`, `{`, `self`, `super` or an identifier"
 
--- a tree in braces; where none begins, a token is taken along
+-- a tree in braces; where none begins, a token is skipped too
 unfoldable pub nested_use_tree : Script Phrase
 nested_use_tree =
     test is_use_tree_start called.use_tree
@@ -50,12 +50,12 @@ use_tree_list =
 unfoldable pub group : Script Phrase
 group = test (is_at STAR) (token STAR ▸ done) use_tree_list
 
--- what stands behind a path and its `::`
+-- what stands after a path and its `::`
 unfoldable pub group_behind : Script Phrase
 group_behind =
     token COLON2 ▸ test (λ rs. is_group_first (next_kind rs)) group (report (codes "expected `{` or `*`") ▸ done)
 
--- what stands behind a path
+-- what stands after a path
 unfoldable pub after_use_path : Script Phrase
 after_use_path = choose ((is_at AS_KW, opt_rename) ∷ (is_at COLON2, group_behind) ∷ []) done
 
@@ -69,7 +69,7 @@ use_tree =
     ∷ [])
     (call use_path ▸ call after_use_path ▸ finish USE_TREE ▸ done)
 
--- the tree of an import; where none begins, the next token is taken along, unless an item begins there
+-- the tree of an import; where none begins, the next token is skipped too, unless an item begins there
 unfoldable pub expect_use_tree : Script Phrase
 expect_use_tree = test is_use_tree_start use_tree (recover missing_use_tree is_item_recovery done done)
 

@@ -1,4 +1,4 @@
--- Who may use an item or a field.
+-- Visibilities.
 -- In the Rust crate: `grammar.rs`.
 use Rattle.std.specs.Prelude.{Bool, List, [], ◌∷◌, drop, ◌==◌, ◌&&◌, not}
 use Rattle.rap_base.specs.TokenKind.{PUB_KW, L_PAREN, R_PAREN, COLON, IDENT, SELF_KW, SUPER_KW, CRATE_KW, IN_KW}

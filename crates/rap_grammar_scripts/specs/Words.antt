@@ -1,4 +1,4 @@
--- What scripts say often.
+-- Words of scripts.
 use Rattle.std.specs.Prelude.{ℕ, Bool, true, false, ◌==◌, ◌&&◌, ◌||◌, List, [], ◌∷◌, Option, Some, None, drop}
 use Rattle.rap_base.specs.TokenKind.{L_CURLY, R_CURLY, POUND, BUILTIN_KW}
 use Rattle.rap_events.specs.Record.{Record, next_kind, contextual_at}
@@ -12,7 +12,7 @@ infixr 3 ◌▸◌
 abbrev pub ◌▸◌ : {P : Type 0} → (Script P → Script P) → Script P → Script P
 w ▸ s = w s
 
--- another rule, whatever it answers, and on; the same through the knot of all rules
+-- another rule, whatever it returns, and on; the same through the knot of all rules
 abbrev pub call : {P : Type 0} → Script P → Script P → Script P
 call r s = after r (λ v. s)
 
@@ -24,14 +24,14 @@ abbrev pub choose : {P : Type 0} → List ((List Record → Bool) × Script P) �
 choose [] s = s
 choose (w ∷ ws) s = test w.0 w.1 (choose ws s)
 
--- a way that is gone where its test holds: else there is nothing to do, or nothing is answered
+-- a script that is run where its test holds: else there is nothing to do, or nothing is returned
 abbrev pub optional : {P : Type 0} → (List Record → Bool) → Script P → Script P
 optional t s = test t s (give something)
 
 abbrev pub only_if : {P : Type 0} → (List Record → Bool) → Script P → Script P
 only_if t s = test t s (give nothing)
 
--- the end of a rule that has nothing to answer
+-- the end of a rule that returns nothing
 abbrev pub done : {P : Type 0} → Script P
 done = give something
 
@@ -42,7 +42,7 @@ if_some something s t = s
 if_some block s t = s
 if_some (again a b) s t = s
 
--- whether it is a node that reads like a block
+-- whether an outcome is a node that reads like a block
 abbrev pub is_block : Outcome → Bool
 is_block nothing = false
 is_block something = false
@@ -73,7 +73,8 @@ eat_as kind s = test (reads_as kind) (bear kind s) s
 abbrev pub expect : {P : Type 0} → ℕ → Script P → Script P
 expect kind s = test (is_at kind) (token kind s) (report (expected kind) s)
 
--- a message before a brace or a token that is kept, and else with the next token in an `ERROR`; and on, by one way or the other
+-- a message before a brace or a token that is kept, and else with the next token in an `ERROR`; and on, by one way or
+-- the other
 abbrev pub recover : {P : Type 0} → List ℕ → (ℕ → Bool) → Script P → Script P → Script P
 recover bytes kept s t =
     test (λ rs. (next_kind rs == L_CURLY) || ((next_kind rs == R_CURLY) || kept (next_kind rs))) (report bytes s)

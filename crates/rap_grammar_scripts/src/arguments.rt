@@ -1,4 +1,4 @@
-//! What rules get from their callers.
+//! The arguments of rules.
 ghost use Rattle.std.specs.Prelude.{◌≡◌, ◌≢◌, ◌<◌, ◌≤◌, ◌+◌, ◌⊎◌};
 ghost use Rattle.rap_base.specs.TokenKind.{EOF};
 ghost use Rattle.rap_grammar_scripts.specs.Params as params_script;
@@ -6,7 +6,7 @@ ghost use Rattle.rap_grammar_scripts.specs.Params as params_script;
 use crate::T;
 use rap_base::syntax_kind::SyntaxKind;
 
-/// Whether an expression reads like a block: as a statement it needs no semicolon, and no operator goes on after it.
+/// Whether an expression reads like a block: as a statement it needs no semicolon, and no operator may follow it.
 #[derive(Clone, Copy, PartialEq, Eq)]
 pub enum BlockLike {
     Block,
@@ -23,16 +23,16 @@ impl BlockLike {
     }
 }
 
-/// What an expression may not be, and where it ends: no record literal, as before the block of an `if`; and as a
-/// statement it ends after a block.
+/// Restrictions of an expression: no record literal may be in it, as before the block of an `if`; as a statement it
+/// ends after a block.
 #[derive(Clone, Copy)]
 pub struct Restrictions {
     pub forbid_structs: bool,
     pub prefer_stmt: bool,
 }
 
-/// Whether a statement ends with a semicolon: as the last one of a macro it may do without, and read alone it takes
-/// none.
+/// Whether a statement ends with a semicolon. It may be missing from the last statement of a macro; a statement that is
+/// parsed alone takes none.
 #[derive(Clone, Copy, PartialEq, Eq)]
 pub enum Semicolon {
     Required,
@@ -40,7 +40,7 @@ pub enum Semicolon {
     Forbidden,
 }
 
-/// Whose parameters these are.
+/// The kind of a list of parameters: those of a function, a function pointer or a closure.
 #[derive(Clone, Copy, PartialEq, Eq)]
 pub enum Flavor {
     FnDef,
@@ -49,7 +49,7 @@ pub enum Flavor {
 }
 
 impl Flavor {
-    /// What the list begins with.
+    /// The token before the list.
     pub fn bra(self) -> SyntaxKind
         ensures kind { result ≡ params_script.bra self }
         ensures some { result ≢ EOF }
@@ -60,7 +60,7 @@ impl Flavor {
         }
     }
 
-    /// What it ends with.
+    /// The token after the list.
     pub fn ket(self) -> SyntaxKind
         ensures kind { result ≡ params_script.ket self }
         ensures some { result ≢ EOF }
@@ -72,7 +72,8 @@ impl Flavor {
     }
 }
 
-/// Where a path stands: it says which arguments its names may have, and where the search for a name ends.
+/// The place of a path: it determines which arguments its names may have, and before which tokens the search for a name
+/// stops.
 #[derive(Clone, Copy)]
 pub enum Mode {
     Use,

@@ -1,4 +1,4 @@
-//! The scripts: what each rule of the grammar does, as data, and the words that they are written in.
+//! The scripts of the grammar's rules, as data, and the words that they are written in.
 #![tactic(auto)]
 
 pub mod arguments;

@@ -1,4 +1,4 @@
-//! Arguments of something generic.
+//! Generic arguments.
 ghost use Rattle.std.specs.Prelude.{◌≡◌, ◌<◌, ◌≤◌, OnOk, true, Some, IfOk};
 ghost use Rattle.rap_base.specs.TokenKind.{LIFETIME_IDENT, COLON, BANG, MINUS};
 ghost use Rattle.rap_base.specs.NodeKind.{PATH_EXPR};
@@ -128,7 +128,7 @@ fn named_arg<G: Grammar>(p: &mut Parser<'_>, g: &G) -> Result<(), NoMemory>
     Ok(())
 }
 
-/// What a name is bound to behind the `=`, as the `b` of `a = b`.
+/// What a name is bound to after the `=`, as the `b` of `a = b`.
 fn assoc_value<G: Grammar>(p: &mut Parser<'_>, g: &G) -> Result<(), NoMemory>
     requires behind { Behind G.valid G.left g.now (state p.old) }
     ensures grew { OnOk result (Grew (state p.old) (state p.new) 8) }
@@ -173,7 +173,7 @@ fn path_arg<G: Grammar>(p: &mut Parser<'_>, g: &G, segment: CompletedMarker) -> 
     Ok(())
 }
 
-/// A macro call behind its path, as the `!()` of `a!()`. The marker before the path is open.
+/// A macro call after its path, as the `!()` of `a!()`. The marker before the path is open.
 fn macro_arg<G: Grammar>(p: &mut Parser<'_>, g: &G, m: Marker) -> Result<(), NoMemory>
     requires behind { Behind G.valid G.left g.now (state p.old) }
     requires newest { (state p.old).marker ≡ Some m.pos.value }

@@ -1,4 +1,4 @@
-//! Parameters of something generic, bounds, and `where`.
+//! Generic parameters, bounds, and `where`.
 ghost use Rattle.std.specs.Prelude.{◌≡◌, ◌≢◌, ◌<◌, ◌≤◌, OnOk, IfOk, Some, true, false};
 ghost use Rattle.rap_base.specs.TokenKind.{L_ANGLE, LIFETIME_IDENT, IDENT, CONST_KW, COLON, USE_KW, BANG, WHERE_KW};
 ghost use Rattle.rap_base.specs.NodeKind.{TYPE_BOUND_LIST};
@@ -25,7 +25,7 @@ use rap_grammar_frame::names::{lifetime, name, name_ref_or_upper_self};
 use rap_grammar_frame::token_tree::token_tree;
 use rap_grammar_scripts::T;
 
-/// The parameters of something generic, as `<'a, T: A, const N: b>`.
+/// Generic parameters, as `<'a, T: A, const N: b>`.
 pub fn generic_param_list<G: Grammar>(p: &mut Parser<'_>, g: &G) -> Result<(), NoMemory>
     requires within { Within G.valid G.left g.now (state p.old) }
     requires here { next (state p.old) ≡ L_ANGLE }

@@ -1,4 +1,4 @@
-//! Types, and what something generic takes and is given.
+//! Types, generic parameters and generic arguments.
 #![tactic(auto)]
 
 pub mod generic_args;

@@ -197,7 +197,7 @@ fn ptr_type<G: Grammar>(p: &mut Parser<'_>, g: &G) -> Result<(), NoMemory>
     Ok(())
 }
 
-/// What stands behind the star of a pointer, as `const` and `mut`.
+/// What stands after the star of a pointer, as `const` and `mut`.
 #[inline(never)]
 fn ptr_qualifier(p: &mut Parser<'_>) -> Result<(), NoMemory>
     ensures grew { OnOk result (Grew (state p.old) (state p.new) 1) }
@@ -555,7 +555,7 @@ fn pattern_type<G: Grammar>(p: &mut Parser<'_>, g: &G) -> Result<(), NoMemory>
     Ok(())
 }
 
-/// What stands behind `builtin#pattern_type`: a type and its values, as `(a is 1..)`.
+/// What stands after `builtin#pattern_type`: a type and its values, as `(a is 1..)`.
 fn pattern_type_parts<G: Grammar>(p: &mut Parser<'_>, g: &G) -> Result<(), NoMemory>
     requires behind { Behind G.valid G.left g.now (state p.old) }
     ensures grew { OnOk result (Grew (state p.old) (state p.new) 32) }

@@ -1,4 +1,4 @@
-//! Entries that read one thing from the front of an input, and leave what stands behind it.
+//! Entries that parse a prefix of an input, and leave the other tokens.
 //! In the Rust crate: `grammar.rs`.
 ghost use Rattle.std.specs.Prelude.{◌≡◌, ◌<◌, ◌≤◌, length, IfOk, OnOk, true, false};
 ghost use Rattle.rap_base.specs.TokenKind.{L_CURLY};
@@ -34,7 +34,7 @@ use rap_grammar_paths::visibility::opt_visibility;
 use rap_grammar_scripts::arguments::Semicolon;
 use std::alloc::Global;
 
-/// What no other rule comes back to, and is read alone.
+/// The parts of a file that are not recursive rules, and can be parsed alone.
 #[derive(Clone, Copy, Debug, PartialEq, Eq)]
 pub enum Part {
     /// A visibility, if there is one.
@@ -53,7 +53,7 @@ pub enum Part {
     ItemList,
 }
 
-/// Runs the rule of a part: one call for each.
+/// Runs the rule of a part.
 fn run_part(p: &mut Parser<'_>, part: Part) -> Result<(), NoMemory>
     requires brace { asks_brace part ≡ true → next (state p.old) ≡ L_CURLY }
     ensures grew { OnOk result (Grew (state p.old) (state p.new) 8) }
@@ -124,7 +124,8 @@ fn run_part(p: &mut Parser<'_>, part: Part) -> Result<(), NoMemory>
     }
 }
 
-/// A part from the front of the input. Where it stands in braces and one comes first, the output is its node alone.
+/// Parses a part at the beginning of the input. If the part has braces and the input begins with one, the output is
+/// exactly one node. The error means out of memory.
 pub fn parse_part(alloc: Global, input: &Input, part: Part) -> Result<Output, NoMemory>
     requires few { length input.now ≤ max_tokens }
     requires brace { asks_brace part ≡ true → next_kind input.now ≡ L_CURLY }
@@ -139,7 +140,7 @@ pub fn parse_part(alloc: Global, input: &Input, part: Part) -> Result<Output, No
     Ok(output)
 }
 
-/// A statement without the semicolon that may stand behind it.
+/// A statement without the semicolon that may stand after it.
 pub fn stmt(alloc: Global, input: &Input) -> Result<Output, NoMemory>
     requires { length input.now ≤ max_tokens }
     ensures prefix { IfOk result (IsPrefixOver input.now) }
@@ -221,7 +222,7 @@ pub fn item(alloc: Global, input: &Input) -> Result<Output, NoMemory>
     Ok(output)
 }
 
-/// What stands in the brackets of an attribute.
+/// The contents of an attribute's brackets.
 pub fn meta_item(alloc: Global, input: &Input) -> Result<Output, NoMemory>
     requires { length input.now ≤ max_tokens }
     ensures prefix { IfOk result (IsPrefixOver input.now) }

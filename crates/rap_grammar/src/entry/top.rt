@@ -1,4 +1,4 @@
-//! Entries that read a whole input as one tree.
+//! Entries that parse a whole input as one tree. The error of each means out of memory.
 //! In the Rust crate: `grammar.rs`.
 ghost use Rattle.std.specs.Prelude.{◌≡◌, ◌≤◌, length, IfOk, false};
 ghost use Rattle.rap_base.specs.NodeKind.{SOURCE_FILE, MACRO_STMTS, MACRO_ITEMS};
@@ -32,7 +32,7 @@ pub fn source_file(alloc: Global, input: &Input) -> Result<Output, NoMemory>
     Ok(output)
 }
 
-/// A pattern, with its alternatives. Where the input is no pattern, or not only one, the tree is an `ERROR`.
+/// A pattern with its alternatives. If the input is not exactly one pattern, the tree is an `ERROR`.
 pub fn pattern(alloc: Global, input: &Input) -> Result<Output, NoMemory>
     requires { length input.now ≤ max_tokens }
     ensures tree { IfOk result (IsTreeOver input.now) }
@@ -46,7 +46,7 @@ pub fn pattern(alloc: Global, input: &Input) -> Result<Output, NoMemory>
     Ok(output)
 }
 
-/// A type. Where the input is no type, or not only one, the tree is an `ERROR`.
+/// A type. If the input is not exactly one type, the tree is an `ERROR`.
 pub fn type_(alloc: Global, input: &Input) -> Result<Output, NoMemory>
     requires { length input.now ≤ max_tokens }
     ensures tree { IfOk result (IsTreeOver input.now) }
@@ -60,7 +60,7 @@ pub fn type_(alloc: Global, input: &Input) -> Result<Output, NoMemory>
     Ok(output)
 }
 
-/// An expression. Where the input is no expression, or not only one, the tree is an `ERROR`.
+/// An expression. If the input is not exactly one expression, the tree is an `ERROR`.
 pub fn expr(alloc: Global, input: &Input) -> Result<Output, NoMemory>
     requires { length input.now ≤ max_tokens }
     ensures tree { IfOk result (IsTreeOver input.now) }
@@ -74,8 +74,7 @@ pub fn expr(alloc: Global, input: &Input) -> Result<Output, NoMemory>
     Ok(output)
 }
 
-/// What stands in the brackets of an attribute, as `cfg(a)` in `#[cfg(a)]`. Where more stands behind it, the tree is an
-/// `ERROR`.
+/// The contents of an attribute's brackets, as `cfg(a)` in `#[cfg(a)]`. If other tokens follow, the tree is an `ERROR`.
 pub fn meta_item(alloc: Global, input: &Input) -> Result<Output, NoMemory>
     requires { length input.now ≤ max_tokens }
     ensures tree { IfOk result (IsTreeOver input.now) }
@@ -88,7 +87,7 @@ pub fn meta_item(alloc: Global, input: &Input) -> Result<Output, NoMemory>
     Ok(output)
 }
 
-/// What a macro gives as statements: `MACRO_STMTS` over the whole input.
+/// The statements that a macro expands to: `MACRO_STMTS` over the whole input.
 pub fn macro_stmts(alloc: Global, input: &Input) -> Result<Output, NoMemory>
     requires { length input.now ≤ max_tokens }
     ensures tree { IfOk result (IsTreeOver input.now) }
@@ -101,7 +100,7 @@ pub fn macro_stmts(alloc: Global, input: &Input) -> Result<Output, NoMemory>
     Ok(output)
 }
 
-/// What a macro gives as items: `MACRO_ITEMS` over the whole input.
+/// The items that a macro expands to: `MACRO_ITEMS` over the whole input.
 pub fn macro_items(alloc: Global, input: &Input) -> Result<Output, NoMemory>
     requires { length input.now ≤ max_tokens }
     ensures tree { IfOk result (IsTreeOver input.now) }

@@ -280,7 +280,7 @@ fn array_elements<G: Grammar>(p: &mut Parser<'_>, g: &G) -> Result<(), NoMemory>
     Ok(())
 }
 
-/// What stands behind an element of an array: a semicolon behind the first one, or a comma. Returns whether there was a
+/// What stands after an element of an array: a semicolon after the first one, or a comma. Returns whether there was a
 /// semicolon, or `None` where the array ends.
 fn after_element(
     p: &mut Parser<'_>,

@@ -11,7 +11,7 @@ use Rattle.rap_grammar_frame.proofs.Lookahead.{past_lifetime}
 use Rattle.rap_grammar_frame.proofs.Steps.{by_start, by_rule, by_bump, by_complete}
 use Rattle.rap_grammar_control.proofs.control.label.Goals as goal
 
--- behind the lifetime comes the colon that was seen
+-- after the lifetime comes the colon that was seen
 colon_left : {s t u : State} {m : ℕ} → Opened s t m → Follows lifetime something t u → NthAt s 1 COLON →
     is_at COLON u.rest ≡ true
 colon_left o h e =
