@@ -4,7 +4,7 @@ use Rattle.rap_grammar_scripts.specs.Knot.{script_of}
 use Rattle.rap_grammar_scripts.specs.Phrase as phrase
 use Rattle.rap_grammar_scripts.specs.Script.{gives}
 use Rattle.rap_grammar_frame.proofs.Steps.{then_by, else_by, by_kind, by_part}
-use Rattle.rap_grammar_blocks.proofs.attributes.CfgPredicateElement.parse.Goals as goal
+use Rattle.rap_grammar_blocks.proofs.attributes.CfgOperandElement.parse.Goals as goal
 
 pub returns-then-not-is_cfg_predicate_first-clause-script : goal.returns-then-not-is_cfg_predicate_first-clause-script
 unfolding cfg_predicate_element
