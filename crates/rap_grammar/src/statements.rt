@@ -41,11 +41,13 @@ pub fn stmt<G: Grammar>(p: &mut Parser<'_>, g: &G, semicolon: Semicolon) -> Resu
         m.complete(p, SyntaxKind::LET_STMT)?;
         return Ok(());
     }
-    let Some(m) = opt_item(p, g, m, false)? else {
-        return Ok(());
-    };
-    expr_as_stmt(p, g, m, semicolon)?;
-    Ok(())
+    match opt_item(p, g, m, false)? {
+        Ok(()) => Ok(()),
+        Err(m) => {
+            expr_as_stmt(p, g, m, semicolon)?;
+            Ok(())
+        }
+    }
 }
 
 /// An expression from the newest marker on, as a statement, or as the value of the block that ends after it.

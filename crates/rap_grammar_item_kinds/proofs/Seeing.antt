@@ -1,5 +1,5 @@
 -- What was read before an item, one part after another.
-use Rattle.std.proofs.Common.{◌≡◌, ◌≢◌, ℕ, suc, Bool, true, false, ◌||◌, ◌==◌, List, [], ◌∷◌, drop, Option, Some, None, Result, IfOk, refl, sym, ap, subst, ◌∙◌, arith}
+use Rattle.std.proofs.Common.{◌≡◌, ◌≢◌, ℕ, suc, Bool, true, false, ◌||◌, ◌==◌, List, [], ◌∷◌, drop, Result, IfOk, refl, sym, ap, subst, ◌∙◌, arith}
 use Rattle.std.specs.declared.result.Result.TheVariants.{Ok, Err}
 use Rattle.rap_base.specs.TokenKind.{EOF, R_CURLY, GLOBAL_ASM_KW}
 use Rattle.rap_events.specs.Record.{Record, next_kind, contextual_at}
@@ -109,9 +109,9 @@ parted x y =
     }
 
 -- where no item follows, what stood before it is reported
-pub refused : (u : State) (v : Bool) {s t : State} {b : Bool} (back : Option Marker) → Seen s t b →
-    Refused v b t u back → Modified v s u back
-refused u v {s = s} {b = true} None x y =
+pub refused : (u : State) (v : Bool) {s t : State} {b : Bool} (item : Result (Unit {0}) Marker) → Seen s t b →
+    Refused v b t u item → Modified v s u item
+refused u v {s = s} {b = true} (Ok _) x y =
     let t = x.took refl in
     let d = y.1 in
     let e : Ended s u item_room = record {
@@ -129,7 +129,7 @@ refused u v {s = s} {b = true} None x y =
       below = e.below;
       ended = λ h. e;
     }
-refused u true {b = false} None x y =
+refused u true {b = false} (Ok _) x y =
     rw (← (x.stays refl)) (record {
       input = y.1.input;
       left = y.1.left;
@@ -138,13 +138,13 @@ refused u true {b = false} None x y =
       below = y.1.below;
       ended = λ h. absurd (clash refl h);
     })
-refused u false {b = false} None x y = absurd (clash y.0 refl)
-refused u v (Some m) x y = (y.0.0, (y.1.0 ∙ x.stays y.0.1, y.1.1))
+refused u false {b = false} (Ok _) x y = absurd (clash y.0 refl)
+refused u v (Err m) x y = (y.0.0, (y.1.0 ∙ x.stays y.0.1, y.1.1))
 
 -- an item after a visibility or without one
-pub handed : (u : State) {s t : State} {v : Bool} (back : Option Marker) →
-    (v ≡ true → Took s t list_room) → (v ≡ false → t ≡ s) → Modified v t u back → Handed s u back
-handed u {s = s} {v = true} None x y z =
+pub handed : (u : State) {s t : State} {v : Bool} (item : Result (Unit {0}) Marker) →
+    (v ≡ true → Took s t list_room) → (v ≡ false → t ≡ s) → Modified v t u item → Handed s u item
+handed u {s = s} {v = true} (Ok _) x y z =
     let t = x refl in
     record {
       input = z.input ∙ t.input;
@@ -153,8 +153,8 @@ handed u {s = s} {v = true} None x y z =
       messages = omega (arith, t.messages, z.messages);
       below = rw (← t.below) z.below;
     }
-handed u {v = false} None x y z = subst (λ (a : State). Ended a u item_room) (y refl) (z.ended refl)
-handed u (Some m) x y z = (z.1.0 ∙ y z.0, z.1.1)
+handed u {v = false} (Ok _) x y z = subst (λ (a : State). Ended a u item_room) (y refl) (z.ended refl)
+handed u (Err m) x y z = (z.1.0 ∙ y z.0, z.1.1)
 
 -- whether a macro call reads like a block
 pub like_block : (e : BlockLike) {c : Script Phrase} {s t : State} {b : Bool} → b ≡ is_block (of_like e) → b ≡ true →
@@ -285,13 +285,13 @@ ended_visible {s = s} {v = true} x y z =
     }
 ended_visible {u = u} {v = false} x y z = subst (λ (a : State). Ended a u item_room) (y refl) z
 
-pub handed_kept : (u : State) {s t r : State} {v : Bool} (back : Option Marker) →
-    (v ≡ true → Took s t list_room) → (v ≡ false → t ≡ s) → r ≡ t → Modified v r u back → Handed s u back
-handed_kept u {v = v} back x y e z = handed u back x y (subst (λ (a : State). Modified v a u back) e z)
+pub handed_kept : (u : State) {s t r : State} {v : Bool} (item : Result (Unit {0}) Marker) →
+    (v ≡ true → Took s t list_room) → (v ≡ false → t ≡ s) → r ≡ t → Modified v r u item → Handed s u item
+handed_kept u {v = v} item x y e z = handed u item x y (subst (λ (a : State). Modified v a u item) e z)
 
-pub refused_kept : (u : State) (v : Bool) {s t r : State} {b : Bool} (back : Option Marker) → Seen s t b → r ≡ t →
-    Refused v b r u back → Modified v s u back
-refused_kept u v {b = b} back x e y = refused u v back x (subst (λ (a : State). Refused v b a u back) e y)
+pub refused_kept : (u : State) (v : Bool) {s t r : State} {b : Bool} (item : Result (Unit {0}) Marker) →
+    Seen s t b → r ≡ t → Refused v b r u item → Modified v s u item
+refused_kept u v {b = b} item x e y = refused u v item x (subst (λ (a : State). Refused v b a u item) e y)
 
 -- a rule that asks for what was found
 pub on_found : (f : Bool → Script Phrase) (b : Bool) {p q : Spot} {w : Outcome} → On (f b) p q w →

@@ -1,5 +1,5 @@
 -- What an item leaves of the marker under which it was read, and what is left where none follows.
-use Rattle.std.specs.Prelude.{◌≡◌, ◌≢◌, ℕ, ◌+◌, ◌*◌, ◌≤◌, Bool, true, false, ◌||◌, Option, Some, None}
+use Rattle.std.specs.Prelude.{◌≡◌, ◌≢◌, ℕ, ◌+◌, ◌*◌, ◌≤◌, Bool, true, false, ◌||◌, Some, Result, Ok, Err}
 use Rattle.rap_base.specs.TokenKind.{EOF, R_CURLY}
 use Rattle.rap_events.specs.Machine.{push, top}
 use Rattle.rap_events.specs.State.{State, next}
@@ -15,19 +15,19 @@ pub record Seen (old new : State) (some : Bool) : Type 0 where
   pub stays : some ≡ false → new ≡ old
 
 -- an item was read, or the marker is handed back
-abbrev pub of_marker : Option Marker → Outcome
-of_marker None = something
-of_marker (Some m) = nothing
+abbrev pub of_item : Result (Unit {0}) Marker → Outcome
+of_item (Ok _) = something
+of_item (Err m) = nothing
 
 -- what an item leaves: the newest marker is gone, or all is as before and the marker is handed back
-abbrev pub Handed : State → State → Option Marker → Type 0
-Handed old new None = Ended old new item_room
-Handed old new (Some m) = (new ≡ old) × (new.marker ≡ Some m.pos.value)
+abbrev pub Handed : State → State → Result (Unit {0}) Marker → Type 0
+Handed old new (Ok _) = Ended old new item_room
+Handed old new (Err m) = (new ≡ old) × (new.marker ≡ Some m.pos.value)
 
 -- where no item follows: what stood before it is reported, or nothing did
-abbrev pub Refused : Bool → Bool → State → State → Option Marker → Type 0
-Refused has_visibility has_mods old new None = (has_visibility || has_mods ≡ true) × Dropped old new 2
-Refused has_visibility has_mods old new (Some m) =
+abbrev pub Refused : Bool → Bool → State → State → Result (Unit {0}) Marker → Type 0
+Refused has_visibility has_mods old new (Ok _) = (has_visibility || has_mods ≡ true) × Dropped old new 2
+Refused has_visibility has_mods old new (Err m) =
     ((has_visibility ≡ false) × (has_mods ≡ false)) × ((new ≡ old) × (new.marker ≡ Some m.pos.value))
 
 -- what an item leaves from its modifiers on, by whether a visibility stood before them
@@ -39,9 +39,9 @@ pub record Parted (has_visibility : Bool) (old new : State) : Type 0 where
   pub below : old.below ≡ push new.below new.marker (top old.below)
   pub ended : has_visibility ≡ false → Ended old new item_room
 
-abbrev pub Modified : Bool → State → State → Option Marker → Type 0
-Modified has_visibility old new None = Parted has_visibility old new
-Modified has_visibility old new (Some m) = (has_visibility ≡ false) × ((new ≡ old) × (new.marker ≡ Some m.pos.value))
+abbrev pub Modified : Bool → State → State → Result (Unit {0}) Marker → Type 0
+Modified has_visibility old new (Ok _) = Parted has_visibility old new
+Modified has_visibility old new (Err m) = (has_visibility ≡ false) × ((new ≡ old) × (new.marker ≡ Some m.pos.value))
 
 -- What an item or what stands in its place leaves, under a marker that is gone then: a token is taken unless none is
 -- left, or a brace ends the list of items.

@@ -1,12 +1,12 @@
 //! Items.
-ghost use Rattle.std.specs.Prelude.{◌≡◌, ◌≢◌, ◌<◌, ◌≤◌, IfOk, OnOk, Some, None, true, false, ◌⊎◌, ◌&&◌, not, List, [], ◌∷◌, Option};
+ghost use Rattle.std.specs.Prelude.{◌≡◌, ◌≢◌, ◌<◌, ◌≤◌, IfOk, OnOk, Some, true, false, ◌⊎◌, ◌&&◌, not, List, [], ◌∷◌, Option};
 ghost use Rattle.rap_base.specs.TokenKind.{EOF, L_CURLY, R_CURLY, BANG, POUND, CRATE_KW, EXTERN_KW, MOD_KW, TYPE_KW, CONST_KW, STATIC_KW, IDENT, UNION_KW, MACRO_RULES_KW, BUILTIN_KW, GLOBAL_ASM_KW};
 ghost use Rattle.rap_events.specs.Record.{contextual_at};
 ghost use Rattle.rap_events.specs.State.{state, next, ReadsAs, NthAt};
 ghost use Rattle.rap_grammar_scripts.specs.First.{is_use_path_start, one_of};
 ghost use Rattle.rap_grammar_frame.specs.Grew.{Within, Behind, Took, Grew, Ended};
 ghost use Rattle.rap_grammar_scripts.specs.Items as script;
-ghost use Rattle.rap_grammar_item_kinds.specs.ItemEnds.{of_marker, Handed, Refused, Modified, EndsItem, SkipsItem};
+ghost use Rattle.rap_grammar_item_kinds.specs.ItemEnds.{of_item, Handed, Refused, Modified, EndsItem, SkipsItem};
 ghost use Rattle.rap_grammar_scripts.specs.Knot.{Follows};
 ghost use Rattle.rap_grammar_frame.specs.Room.{item_room, list_room};
 ghost use Rattle.rap_grammar_frame.specs.Rules.{IsItem};
@@ -40,18 +40,19 @@ pub fn opt_item<G: Grammar>(
     g: &G,
     m: Marker,
     is_in_extern: bool,
-) -> Result<Option<Marker>, NoMemory>
+) -> Result<Result<(), Marker>, NoMemory>
     requires within { Within G.valid G.left g.now (state p.old) }
     requires newest { (state p.old).marker ≡ Some m.pos.value }
     ensures handed { IfOk result (Handed (state p.old) (state p.new)) }
-    ensures script { IfOk result (λ back. Follows (script.opt_item is_in_extern) (of_marker back) (state p.old) (state p.new)) }
+    ensures script { IfOk result
+        (λ item. Follows (script.opt_item is_in_extern) (of_item item) (state p.old) (state p.new)) }
 {
     let has_visibility = opt_visibility(p, g, false)?;
     match opt_item_without_modifiers(p, g, m)? {
-        None => Ok(None),
-        Some(m) => {
-            let back = opt_modified_item(p, g, m, has_visibility, is_in_extern)?;
-            Ok(back)
+        Ok(()) => Ok(Ok(())),
+        Err(m) => {
+            let item = opt_modified_item(p, g, m, has_visibility, is_in_extern)?;
+            Ok(item)
         }
     }
 }
@@ -63,20 +64,20 @@ fn opt_modified_item<G: Grammar>(
     m: Marker,
     has_visibility: bool,
     is_in_extern: bool,
-) -> Result<Option<Marker>, NoMemory>
+) -> Result<Result<(), Marker>, NoMemory>
     requires within { Within G.valid G.left g.now (state p.old) }
     requires newest { (state p.old).marker ≡ Some m.pos.value }
     ensures handed { IfOk result (Modified has_visibility (state p.old) (state p.new)) }
     ensures script { IfOk result
-        (λ back. Follows (script.opt_modified_item has_visibility is_in_extern) (of_marker back) (state p.old)
+        (λ item. Follows (script.opt_modified_item has_visibility is_in_extern) (of_item item) (state p.old)
         (state p.new)) }
 {
     let found = modifiers(p, g, is_in_extern)?;
     match opt_item_with_modifiers(p, g, m, found.has_extern)? {
-        None => Ok(None),
-        Some(m) => {
-            let back = refuse(p, m, has_visibility, found.has_mods)?;
-            Ok(back)
+        Ok(()) => Ok(Ok(())),
+        Err(m) => {
+            let item = refuse(p, m, has_visibility, found.has_mods)?;
+            Ok(item)
         }
     }
 }
@@ -87,23 +88,23 @@ fn refuse(
     m: Marker,
     has_visibility: bool,
     has_mods: bool,
-) -> Result<Option<Marker>, NoMemory>
+) -> Result<Result<(), Marker>, NoMemory>
     requires newest { (state p.old).marker ≡ Some m.pos.value }
     ensures refused { IfOk result (Refused has_visibility has_mods (state p.old) (state p.new)) }
     ensures script { IfOk result
-        (λ back. Follows (script.refuse has_visibility has_mods) (of_marker back) (state p.old) (state p.new)) }
+        (λ item. Follows (script.refuse has_visibility has_mods) (of_item item) (state p.old) (state p.new)) }
 {
     if has_mods {
         p.error("expected fn, trait or impl")?;
         m.complete(p, SyntaxKind::ERROR)?;
-        return Ok(None);
+        return Ok(Ok(()));
     }
     if has_visibility {
         p.error("expected an item")?;
         m.complete(p, SyntaxKind::ERROR)?;
-        return Ok(None);
+        return Ok(Ok(()));
     }
-    Ok(Some(m))
+    Ok(Err(m))
 }
 
 /// An item that begins with a keyword of its own, or with a name that is read as one.
@@ -111,57 +112,58 @@ fn opt_item_without_modifiers<G: Grammar>(
     p: &mut Parser<'_>,
     g: &G,
     m: Marker,
-) -> Result<Option<Marker>, NoMemory>
+) -> Result<Result<(), Marker>, NoMemory>
     requires within { Within G.valid G.left g.now (state p.old) }
     requires newest { (state p.old).marker ≡ Some m.pos.value }
     ensures handed { IfOk result (Handed (state p.old) (state p.new)) }
-    ensures script { IfOk result (λ back. Follows script.opt_item_without_modifiers (of_marker back) (state p.old) (state p.new)) }
+    ensures script { IfOk result
+        (λ item. Follows script.opt_item_without_modifiers (of_item item) (state p.old) (state p.new)) }
 {
     match p.current() {
         T![extern] => opt_extern_crate(p, m),
         T![use] => {
             use_(p, g, m)?;
-            Ok(None)
+            Ok(Ok(()))
         }
         T![mod] => {
             mod_item(p, g, m)?;
-            Ok(None)
+            Ok(Ok(()))
         }
         T![type] => {
             type_item(p, g, m)?;
-            Ok(None)
+            Ok(Ok(()))
         }
         T![struct] => {
             strukt(p, g, m)?;
-            Ok(None)
+            Ok(Ok(()))
         }
         T![enum] => {
             enum_(p, g, m)?;
-            Ok(None)
+            Ok(Ok(()))
         }
         T![macro] => {
             macro_def(p, m)?;
-            Ok(None)
+            Ok(Ok(()))
         }
         T![const] => opt_named_const(p, g, m),
         T![static] => opt_static(p, g, m),
         T![ident] => opt_item_by_name(p, g, m),
-        _ => Ok(Some(m)),
+        _ => Ok(Err(m)),
     }
 }
 
 /// A crate's name, as `extern crate a;`, if `crate` follows.
-fn opt_extern_crate(p: &mut Parser<'_>, m: Marker) -> Result<Option<Marker>, NoMemory>
+fn opt_extern_crate(p: &mut Parser<'_>, m: Marker) -> Result<Result<(), Marker>, NoMemory>
     requires newest { (state p.old).marker ≡ Some m.pos.value }
     requires here { next (state p.old) ≡ EXTERN_KW }
     ensures handed { IfOk result (Handed (state p.old) (state p.new)) }
-    ensures script { IfOk result (λ back. Follows script.opt_extern_crate (of_marker back) (state p.old) (state p.new)) }
+    ensures script { IfOk result (λ item. Follows script.opt_extern_crate (of_item item) (state p.old) (state p.new)) }
 {
     if !p.nth_at(1, T![crate]) {
-        return Ok(Some(m));
+        return Ok(Err(m));
     }
     extern_crate(p, m)?;
-    Ok(None)
+    Ok(Ok(()))
 }
 
 /// Whether what may stand after the keyword of a constant or a static does so.
@@ -176,48 +178,56 @@ fn opt_named_const<G: Grammar>(
     p: &mut Parser<'_>,
     g: &G,
     m: Marker,
-) -> Result<Option<Marker>, NoMemory>
+) -> Result<Result<(), Marker>, NoMemory>
     requires within { Within G.valid G.left g.now (state p.old) }
     requires newest { (state p.old).marker ≡ Some m.pos.value }
     requires here { next (state p.old) ≡ CONST_KW }
     ensures handed { IfOk result (Handed (state p.old) (state p.new)) }
-    ensures script { IfOk result (λ back. Follows script.opt_named_const (of_marker back) (state p.old) (state p.new)) }
+    ensures script { IfOk result (λ item. Follows script.opt_named_const (of_item item) (state p.old) (state p.new)) }
 {
     if !is_named(p) {
-        return Ok(Some(m));
+        return Ok(Err(m));
     }
     konst(p, g, m)?;
-    Ok(None)
+    Ok(Ok(()))
 }
 
 /// A constant after modifiers, if its `const` begins no block.
-fn opt_const<G: Grammar>(p: &mut Parser<'_>, g: &G, m: Marker) -> Result<Option<Marker>, NoMemory>
+fn opt_const<G: Grammar>(
+    p: &mut Parser<'_>,
+    g: &G,
+    m: Marker,
+) -> Result<Result<(), Marker>, NoMemory>
     requires within { Within G.valid G.left g.now (state p.old) }
     requires newest { (state p.old).marker ≡ Some m.pos.value }
     requires here { next (state p.old) ≡ CONST_KW }
     ensures handed { IfOk result (Handed (state p.old) (state p.new)) }
-    ensures script { IfOk result (λ back. Follows script.opt_const (of_marker back) (state p.old) (state p.new)) }
+    ensures script { IfOk result (λ item. Follows script.opt_const (of_item item) (state p.old) (state p.new)) }
 {
     if p.nth(1) == T!['{'] {
-        return Ok(Some(m));
+        return Ok(Err(m));
     }
     konst(p, g, m)?;
-    Ok(None)
+    Ok(Ok(()))
 }
 
 /// A static, if its name follows.
-fn opt_static<G: Grammar>(p: &mut Parser<'_>, g: &G, m: Marker) -> Result<Option<Marker>, NoMemory>
+fn opt_static<G: Grammar>(
+    p: &mut Parser<'_>,
+    g: &G,
+    m: Marker,
+) -> Result<Result<(), Marker>, NoMemory>
     requires within { Within G.valid G.left g.now (state p.old) }
     requires newest { (state p.old).marker ≡ Some m.pos.value }
     requires here { next (state p.old) ≡ STATIC_KW }
     ensures handed { IfOk result (Handed (state p.old) (state p.new)) }
-    ensures script { IfOk result (λ back. Follows script.opt_static (of_marker back) (state p.old) (state p.new)) }
+    ensures script { IfOk result (λ item. Follows script.opt_static (of_item item) (state p.old) (state p.new)) }
 {
     if !is_named(p) {
-        return Ok(Some(m));
+        return Ok(Err(m));
     }
     static_(p, g, m)?;
-    Ok(None)
+    Ok(Ok(()))
 }
 
 /// Whether a `union` comes next that is read as the keyword.
@@ -251,25 +261,25 @@ fn opt_item_by_name<G: Grammar>(
     p: &mut Parser<'_>,
     g: &G,
     m: Marker,
-) -> Result<Option<Marker>, NoMemory>
+) -> Result<Result<(), Marker>, NoMemory>
     requires within { Within G.valid G.left g.now (state p.old) }
     requires newest { (state p.old).marker ≡ Some m.pos.value }
     ensures handed { IfOk result (Handed (state p.old) (state p.new)) }
-    ensures script { IfOk result (λ back. Follows script.opt_item_by_name (of_marker back) (state p.old) (state p.new)) }
+    ensures script { IfOk result (λ item. Follows script.opt_item_by_name (of_item item) (state p.old) (state p.new)) }
 {
     if starts_union(p) {
         union(p, g, m)?;
-        return Ok(None);
+        return Ok(Ok(()));
     }
     if starts_macro_rules(p) {
         macro_rules(p, m)?;
-        return Ok(None);
+        return Ok(Ok(()));
     }
     if starts_global_asm(p) {
         global_asm(p, g, m)?;
-        return Ok(None);
+        return Ok(Ok(()));
     }
-    Ok(Some(m))
+    Ok(Err(m))
 }
 
 /// Assembly in the place of an item, as `builtin#global_asm("")`.
@@ -295,34 +305,34 @@ fn opt_item_with_modifiers<G: Grammar>(
     g: &G,
     m: Marker,
     has_extern: bool,
-) -> Result<Option<Marker>, NoMemory>
+) -> Result<Result<(), Marker>, NoMemory>
     requires within { Within G.valid G.left g.now (state p.old) }
     requires newest { (state p.old).marker ≡ Some m.pos.value }
     ensures handed { IfOk result (Handed (state p.old) (state p.new)) }
     ensures script { IfOk result
-        (λ back. Follows (script.opt_item_with_modifiers has_extern) (of_marker back) (state p.old) (state p.new)) }
+        (λ item. Follows (script.opt_item_with_modifiers has_extern) (of_item item) (state p.old) (state p.new)) }
 {
     match p.current() {
         T![fn] => {
             fn_(p, g, m)?;
-            Ok(None)
+            Ok(Ok(()))
         }
         T![const] => opt_const(p, g, m),
         T![static] => opt_static(p, g, m),
         T![trait] => {
             trait_(p, g, m)?;
-            Ok(None)
+            Ok(Ok(()))
         }
         T![impl] => {
             impl_(p, g, m)?;
-            Ok(None)
+            Ok(Ok(()))
         }
         T![type] => {
             type_item(p, g, m)?;
-            Ok(None)
+            Ok(Ok(()))
         }
         T!['{'] => opt_extern_block(p, g, m, has_extern),
-        _ => Ok(Some(m)),
+        _ => Ok(Err(m)),
     }
 }
 
@@ -332,20 +342,20 @@ fn opt_extern_block<G: Grammar>(
     g: &G,
     m: Marker,
     has_extern: bool,
-) -> Result<Option<Marker>, NoMemory>
+) -> Result<Result<(), Marker>, NoMemory>
     requires within { Within G.valid G.left g.now (state p.old) }
     requires newest { (state p.old).marker ≡ Some m.pos.value }
     requires here { next (state p.old) ≡ L_CURLY }
     ensures handed { IfOk result (Handed (state p.old) (state p.new)) }
     ensures script { IfOk result
-        (λ back. Follows (script.opt_extern_block has_extern) (of_marker back) (state p.old) (state p.new)) }
+        (λ item. Follows (script.opt_extern_block has_extern) (of_item item) (state p.old) (state p.new)) }
 {
     if !has_extern {
-        return Ok(Some(m));
+        return Ok(Err(m));
     }
     extern_item_list(p, g)?;
     m.complete(p, SyntaxKind::EXTERN_BLOCK)?;
-    Ok(None)
+    Ok(Ok(()))
 }
 
 /// An item, or a macro call in its place. Where neither begins, that is reported, and the next token is taken into an
@@ -382,11 +392,11 @@ fn marked_item<G: Grammar>(
         (Follows (script.marked_item stop_on_r_curly is_in_extern) something (state p.old) (state p.new)) }
 {
     match opt_item(p, g, m, is_in_extern)? {
-        None => {
+        Ok(()) => {
             after_item(p)?;
             Ok(())
         }
-        Some(m) => {
+        Err(m) => {
             macro_or_error(p, g, m, stop_on_r_curly)?;
             Ok(())
         }

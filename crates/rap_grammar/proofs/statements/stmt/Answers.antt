@@ -18,22 +18,23 @@ returns-then-starts_let-clause-script g c = record {
       (by_complete c.in_ok-complete.ensures.state.0 gives)))));
 }
 
-pub returns-in_default-clause-script : goal.returns-in_default-clause-script
+pub returns-in-Ok-clause-script : goal.returns-in-Ok-clause-script
 unfolding stmt
-returns-in_default-clause-script g c = record {
+returns-in-Ok-clause-script g c = record {
   run = not_ate c.in_ok-eat.ensures.state c.if-branch.false
       (by_start c.in_ok-m.ensures.state
       (by_rule c.in_ok-outer_attrs.ensures.script
       (else_by c.starts_let.ensures c.if-starts_let.false
-      (by_rule (rw c.in_default.is at c.in_ok-m-2.ensures.script) gives))));
+      (by_rule (rw c.in-Ok.is at c.in_ok-opt_item.ensures.script) gives))));
 }
 
-pub returns-clause-script : goal.returns-clause-script
+pub returns-in_ok-expr_as_stmt-in-Err-clause-script : goal.returns-in_ok-expr_as_stmt-in-Err-clause-script
 unfolding stmt
-returns-clause-script g c = record {
+returns-in_ok-expr_as_stmt-in-Err-clause-script g c = record {
   run = not_ate c.in_ok-eat.ensures.state c.if-branch.false
       (by_start c.in_ok-m.ensures.state
       (by_rule c.in_ok-outer_attrs.ensures.script
       (else_by c.starts_let.ensures c.if-starts_let.false
-      (by_rule (rw c.in-Some.is at c.in_ok-m-2.ensures.script) (to_end c.in_ok-expr_as_stmt.ensures.script)))));
+      (by_rule (rw c.in-Err.is at c.in_ok-opt_item.ensures.script)
+      (to_end c.in_ok-expr_as_stmt-in-Err.ensures.script)))));
 }

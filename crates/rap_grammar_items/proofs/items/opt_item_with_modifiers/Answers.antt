@@ -14,14 +14,14 @@ returns-in_ok-fn_-clause-script g c = record {
 pub returns-in-CONST_KW-T-clause-script : goal.returns-in-CONST_KW-T-clause-script
 unfolding opt_item_with_modifiers
 returns-in-CONST_KW-T-clause-script g c =
-    handed_if c.opt_const.result c.opt_const.ensures.script (λ back h. record {
+    handed_if c.opt_const.result c.opt_const.ensures.script (λ item h. record {
       run = fails (search rules) (passes (search rules) (to_end h));
     })
 
 pub returns-in-STATIC_KW-T-clause-script : goal.returns-in-STATIC_KW-T-clause-script
 unfolding opt_item_with_modifiers
 returns-in-STATIC_KW-T-clause-script g c =
-    handed_if c.opt_static.result c.opt_static.ensures.script (λ back h. record {
+    handed_if c.opt_static.result c.opt_static.ensures.script (λ item h. record {
       run = fails (search rules) (fails (search rules) (passes (search rules) (to_end h)));
     })
 
@@ -50,7 +50,7 @@ returns-in_ok-type_item-clause-script g c = record {
 pub returns-in-L_CURLY-T-clause-script : goal.returns-in-L_CURLY-T-clause-script
 unfolding opt_item_with_modifiers
 returns-in-L_CURLY-T-clause-script g c =
-    handed_if c.opt_extern_block.result c.opt_extern_block.ensures.script (λ back h. record {
+    handed_if c.opt_extern_block.result c.opt_extern_block.ensures.script (λ item h. record {
       run = fails (search rules) (fails (search rules) (fails (search rules) (fails (search rules)
           (fails (search rules) (fails (search rules) (passes (search rules) (to_end h)))))));
     })

@@ -8,7 +8,7 @@ use Rattle.rap_grammar_items.proofs.items.opt_item_without_modifiers.Goals as go
 pub returns-in-EXTERN_KW-T-clause-script : goal.returns-in-EXTERN_KW-T-clause-script
 unfolding opt_item_without_modifiers
 returns-in-EXTERN_KW-T-clause-script g c =
-    handed_if c.opt_extern_crate.result c.opt_extern_crate.ensures.script (λ back h. record {
+    handed_if c.opt_extern_crate.result c.opt_extern_crate.ensures.script (λ item h. record {
       run = passes (search rules) (to_end h);
     })
 
@@ -57,7 +57,7 @@ returns-in_ok-macro_def-clause-script g c = record {
 pub returns-in-CONST_KW-T-clause-script : goal.returns-in-CONST_KW-T-clause-script
 unfolding opt_item_without_modifiers
 returns-in-CONST_KW-T-clause-script g c =
-    handed_if c.opt_named_const.result c.opt_named_const.ensures.script (λ back h. record {
+    handed_if c.opt_named_const.result c.opt_named_const.ensures.script (λ item h. record {
       run = fails (search rules) (fails (search rules) (fails (search rules) (fails (search rules)
           (fails (search rules) (fails (search rules) (fails (search rules) (passes (search rules) (to_end h))))))));
     })
@@ -65,7 +65,7 @@ returns-in-CONST_KW-T-clause-script g c =
 pub returns-in-STATIC_KW-T-clause-script : goal.returns-in-STATIC_KW-T-clause-script
 unfolding opt_item_without_modifiers
 returns-in-STATIC_KW-T-clause-script g c =
-    handed_if c.opt_static.result c.opt_static.ensures.script (λ back h. record {
+    handed_if c.opt_static.result c.opt_static.ensures.script (λ item h. record {
       run = fails (search rules) (fails (search rules) (fails (search rules) (fails (search rules)
           (fails (search rules) (fails (search rules) (fails (search rules) (fails (search rules)
           (passes (search rules) (to_end h)))))))));
@@ -74,7 +74,7 @@ returns-in-STATIC_KW-T-clause-script g c =
 pub returns-in-IDENT-T-clause-script : goal.returns-in-IDENT-T-clause-script
 unfolding opt_item_without_modifiers
 returns-in-IDENT-T-clause-script g c =
-    handed_if c.opt_item_by_name.result c.opt_item_by_name.ensures.script (λ back h. record {
+    handed_if c.opt_item_by_name.result c.opt_item_by_name.ensures.script (λ item h. record {
       run = fails (search rules) (fails (search rules) (fails (search rules) (fails (search rules)
           (fails (search rules) (fails (search rules) (fails (search rules) (fails (search rules)
           (fails (search rules) (passes (search rules) (to_end h))))))))));
