@@ -50,7 +50,7 @@ fn read_asked(word: &str, rest: &str) -> Option<Asked> {
 
 /// Reads how a text is read. `None` if the word names no way.
 ///
-/// Nothing is claimed of it: who reads a name so writes it again, and compares.
+/// The contract promises nothing of the result: the caller prints the way's name and compares it with what it has read.
 pub fn read_way(name: &str) -> Option<Way> {
     let Some((word, rest)) = name.split_once('/') else {
         let Entry(entry) = name.parse::<Entry>().ok()?;
