@@ -1,24 +1,24 @@
 /* The parser of Rust, called from C.
  *
- * Each call is given a text as bytes, and the caller's room: an array of steps, and an array of bytes for the messages.
- * It fills each array from its begin on and as far as it reaches, writes nothing else, and answers how many steps and how
- * many bytes of messages there are in all. With room for none, it counts. No token's text is copied: a step has the bytes
- * of the caller's text.
+ * Each call takes a text as bytes and two arrays of the caller: one for steps, and one for the bytes of messages. It
+ * writes as many of them as fit, from the beginning of each array, writes nothing else, and returns the numbers of all
+ * steps and of all bytes of messages. With a room of 0 it only counts. No token's text is copied: a step holds offsets
+ * in the caller's text, in bytes.
  *
  *     struct rap_answer answer = rap_tree(text, length, 2024, RAP_SOURCE_FILE, steps, room, messages, message_room);
  *     if (answer.status == RAP_OK && answer.steps > room) ...       more room is needed, and the call is made again
  *
- * A macro expander has tokens that stand in no text. It parses its own records by rap_parse, rap_parse_prefix and
- * rap_parse_node. Where there is a text, rap_records, rap_parse and rap_weave, each given what the one before it wrote,
- * are together what rap_tree is in one call, but for the lexer's messages.
+ * The tokens of a macro expander are in no text. They are parsed as records, by rap_parse, rap_parse_prefix and
+ * rap_parse_node. For a text, rap_records, rap_parse and rap_weave, each called with the results of the one before it,
+ * return together what rap_tree returns in one call, except the lexer's messages.
  *
- * What a caller owes:
- * - No pointer is NULL, also where its length is 0: then any address of the type will do, as that of a variable.
- * - An array that is written to overlaps nothing else that the call is given.
- * - The program is linked with the kit's memory, liblibc_c.a, which calls malloc, realloc and free.
- * - There is stack: a text that nests takes some 250 to 900 bytes for a level. There is no limit in the code.
- * Calls may run on several threads at a time. Nothing is kept from one to the next, and all memory that a call took is free
- * again when it returns.
+ * A caller must meet these requirements:
+ * - No pointer may be NULL, not even where its length is 0: any other address of the type is allowed then.
+ * - An array that is written to must not overlap any other argument.
+ * - The program must be linked with the kit's memory functions, liblibc_c.a, which call malloc, realloc and free.
+ * - The stack must be large enough: each level of nesting takes some 250 to 900 bytes. There is no limit in the code.
+ * Calls may run on several threads at a time. Nothing is kept from one call to the next, and a call frees all memory
+ * that it allocates before it returns.
  */
 #ifndef RAP_H
 #define RAP_H
@@ -30,23 +30,23 @@
 extern "C" {
 #endif
 
-/* What a step is. */
+/* The values of `what` in a step. */
 enum rap_what {
     RAP_ENTER = 0,   /* a node begins */
     RAP_EXIT = 1,    /* the newest open node ends */
     RAP_TOKEN = 2,   /* a token: a leaf of the newest open node */
     RAP_MESSAGE = 3, /* a message */
-    RAP_SPLIT = 4    /* only where places count tokens: a float that is taken apart, as `0.1` of `x.0.1` */
+    RAP_SPLIT = 4    /* only where places count tokens: a float that is split, as `0.1` of `x.0.1` */
 };
 
-/* A step. Places are bytes of the text, from 0 on, but under RAP_NO_TREE tokens that are no trivia, from 0 on, and so in
- * every output of records.
+/* A step. Places are byte offsets in the text. Under RAP_NO_TREE they are token numbers, from 0 on and without trivia;
+ * so they are in every output of records.
  * `what`: one of enum rap_what.
- * `kind`: the number of the node's or the token's kind. 0 at RAP_EXIT and RAP_MESSAGE. At RAP_SPLIT 1 where the float ends
- *     in a dot, and then it ends one node, and else 0, and then it ends two.
- * `at`: where the step stands. A node begins there, or ends there, trivia and all.
- * `start`, `end`: the first place of a token, and the one behind it. At a node's begin and end both are `at`. At
- *     RAP_MESSAGE these are bytes of the messages' array, and one message begins where the last one ended.
+ * `kind`: the number of the node's or the token's kind. 0 at RAP_EXIT and RAP_MESSAGE. At RAP_SPLIT 1 where the float
+ *     ends in a dot, and then it ends one node, and else 0, and then it ends two.
+ * `at`: the place of the step: where the node begins or ends, its trivia included.
+ * `start`, `end`: the first place of a token, and the one after it. For a node's begin and end both are `at`. For
+ *     RAP_MESSAGE they are offsets in the array of messages, and each message begins where the one before it ended.
  */
 struct rap_step {
     uint32_t what;
@@ -56,7 +56,7 @@ struct rap_step {
     size_t end;
 };
 
-/* A token that a parser reads. Trivia are left out.
+/* A token of a parser's input, which has no trivia.
  * `kind`: the number of its kind, which is a token's, from 1 to RAP_LAST_TOKEN.
  * `contextual_kind`: what an identifier may be read as instead, the number of a token's kind, as that of UNION_KW for
  *     `union`; RAP_IDENT, or RAP_EOF, for nothing else. RAP_EOF where `kind` is not RAP_IDENT.
@@ -80,20 +80,20 @@ enum rap_status {
     RAP_NOT_UTF8 = 4,        /* the bytes are no UTF-8 */
     RAP_TEXT_TOO_LONG = 5,   /* the text has more than 4,294,967,295 bytes */
     RAP_TOO_MANY_TOKENS = 6, /* there are more than 8,388,607 tokens that are no trivia */
-    RAP_NO_MEMORY = 7,       /* memory was refused; of all calls but rap_tree it may hide another fault */
+    RAP_NO_MEMORY = 7,       /* out of memory; all calls but rap_tree may return it in place of another fault */
     RAP_NO_NODE = 8,         /* such a node is not parsed again alone */
-    RAP_NO_BRACE = 9,        /* the node is to begin with a `{`, and the text or the records do not */
+    RAP_NO_BRACE = 9,        /* the node must begin with a `{`, and the text or the records do not */
     RAP_NO_RECORD = 10,      /* one of the records is no token's */
     RAP_NO_STEPS = 11        /* the steps that were given are not those of one tree over the text */
 };
 
-/* What a call answers.
+/* The result of a call.
  * `status`: one of enum rap_status. From RAP_NO_EDITION on nothing was written, and the other numbers are 0.
- * `steps`: how many steps there are, or how many records; the first of them are in the caller's array, as far as it
- *     reaches.
- * `message_bytes`: the same of the bytes of the messages, which are UTF-8 and have no 0 at their end.
- * `used`: how many bytes of the text the steps are about: up to the end of the last token that was taken. Where records
- *     were given, how many of them were taken.
+ * `steps`: the number of all steps, or of all records; as many as fit are in the caller's array.
+ * `message_bytes`: the number of all bytes of messages; as many as fit are in the caller's array. They are UTF-8 and
+ *     have no 0 at the end.
+ * `used`: the end, in bytes of the text, of the last token that was taken. For an input of records, the number of
+ *     records that were taken.
  */
 struct rap_answer {
     uint32_t status;
@@ -102,83 +102,86 @@ struct rap_answer {
     size_t used;
 };
 
-/* Top entries: what a whole text is read as. */
+/* Top entries: what a whole text is parsed as. */
 enum rap_entry {
     RAP_SOURCE_FILE = 0, /* a file */
-    RAP_MACRO_STMTS = 1, /* what a macro gives as statements */
-    RAP_MACRO_ITEMS = 2, /* what a macro gives as items */
+    RAP_MACRO_STMTS = 1, /* the statements that a macro expands to */
+    RAP_MACRO_ITEMS = 2, /* the items that a macro expands to */
     RAP_PATTERN = 3,     /* a pattern, with its alternatives */
     RAP_TYPE = 4,        /* a type */
     RAP_EXPR = 5,        /* an expression */
-    RAP_META_ITEM = 6    /* what stands in the brackets of an attribute */
+    RAP_META_ITEM = 6    /* the contents of an attribute's brackets */
 };
 
-/* Prefix entries: what is read from the front of a text. */
+/* Prefix entries: what a prefix of a text is parsed as. */
 enum rap_prefix_entry {
     RAP_PREFIX_VIS = 0,      /* a visibility, if there is one */
     RAP_PREFIX_BLOCK = 1,    /* a block */
-    RAP_PREFIX_STMT = 2,     /* a statement, without the semicolon behind it */
+    RAP_PREFIX_STMT = 2,     /* a statement, without the semicolon after it */
     RAP_PREFIX_PAT = 3,      /* a pattern without alternatives */
     RAP_PREFIX_PAT_TOP = 4,  /* a pattern, with its alternatives */
     RAP_PREFIX_TYPE = 5,     /* a type */
     RAP_PREFIX_EXPR = 6,     /* an expression */
     RAP_PREFIX_PATH = 7,     /* a path, as in a type */
     RAP_PREFIX_ITEM = 8,     /* an item, or a macro call in its place */
-    RAP_PREFIX_META_ITEM = 9 /* what stands in the brackets of an attribute */
+    RAP_PREFIX_META_ITEM = 9 /* the contents of an attribute's brackets */
 };
 
-/* Kinds are numbered from 0 to RAP_LAST_KIND; rap_kind_name tells their names. RAP_NO_KIND is no kind's number. */
+/* Kinds are numbered from 0 to RAP_LAST_KIND; rap_kind_name writes their names. RAP_NO_KIND is no kind's number. */
 enum { RAP_LAST_KIND = 329, RAP_NO_KIND = 330 };
 
 /* Some kinds: the end of an input, an identifier, and the last of the tokens. */
 enum { RAP_EOF = 0, RAP_IDENT = 148, RAP_LAST_TOKEN = 156 };
 
-/* The tree of a text, whatever the text is: its steps from left to right, trivia put back, so that the texts of the tokens
- * joined are the text. Behind the last node's end stand the lexer's messages, each at its token.
+/* The tree of any text: its steps from left to right, trivia included, so that the texts of the tokens joined are the
+ * text. The lexer's messages, each at its token, follow the end of the last node.
  * `text`, `text_length`: the bytes. `edition`: 2015, 2018, 2021 or 2024. `entry`: one of enum rap_entry.
- * Status: RAP_OK, RAP_NO_EDITION, RAP_NO_ENTRY, RAP_NOT_UTF8, RAP_TEXT_TOO_LONG, RAP_TOO_MANY_TOKENS, RAP_NO_MEMORY; the
- * first of them that fits. `used` is the text's length.
+ * Status: RAP_OK, RAP_NO_EDITION, RAP_NO_ENTRY, RAP_NOT_UTF8, RAP_TEXT_TOO_LONG, RAP_TOO_MANY_TOKENS, RAP_NO_MEMORY;
+ * the first of them that applies. `used` is the text's length.
  */
 struct rap_answer rap_tree(const uint8_t *text, size_t text_length, uint32_t edition, uint32_t entry,
                            struct rap_step *steps, size_t step_room, uint8_t *messages, size_t message_room);
 
-/* The tokens of a text, trivia among them: a RAP_TOKEN step for each, and behind the last one the lexer's messages, each at
- * its token. Nothing is parsed.
- * Status: RAP_OK, RAP_NO_EDITION, RAP_NOT_UTF8, RAP_TEXT_TOO_LONG, RAP_NO_MEMORY; the first of them that fits. `used` is
- * the text's length.
+/* The tokens of a text, trivia included: a RAP_TOKEN step for each, and after the last one the lexer's messages, each
+ * at its token. Nothing is parsed.
+ * Status: RAP_OK, RAP_NO_EDITION, RAP_NOT_UTF8, RAP_TEXT_TOO_LONG, RAP_NO_MEMORY; the first of them that fits. `used`
+ * is the text's length.
  */
 struct rap_answer rap_tokens(const uint8_t *text, size_t text_length, uint32_t edition,
                              struct rap_step *steps, size_t step_room, uint8_t *messages, size_t message_room);
 
-/* What stands at the front of a text, as a macro matches it. `entry`: one of enum rap_prefix_entry.
- * Where it is one tree the status is RAP_OK, and the steps are that tree's, with the trivia around its tokens. Where it is
- * none, or several, it is RAP_NO_TREE, and places count the text's tokens that are no trivia: those of rap_tokens, but
- * WHITESPACE and COMMENT. The lexer's messages are not among the steps.
- * `used` is where the last token that was taken ends; what stands behind it is left.
- * Else the status is RAP_NO_EDITION, RAP_NO_ENTRY, RAP_NOT_UTF8, RAP_TEXT_TOO_LONG, RAP_TOO_MANY_TOKENS or RAP_NO_MEMORY.
+/* Parses a prefix of a text, as a macro matches it. `entry`: one of enum rap_prefix_entry.
+ * If the output is one tree, the status is RAP_OK, and the steps are those of the tree, with the trivia around its
+ * tokens. Otherwise the status is RAP_NO_TREE, and places count the text's tokens that are no trivia: those of
+ * rap_tokens, except WHITESPACE and COMMENT. The lexer's messages are not among the steps.
+ * `used` is the end of the last token that was taken; the text after it is not parsed.
+ * Else the status is RAP_NO_EDITION, RAP_NO_ENTRY, RAP_NOT_UTF8, RAP_TEXT_TOO_LONG, RAP_TOO_MANY_TOKENS or
+ * RAP_NO_MEMORY.
  */
 struct rap_answer rap_prefix(const uint8_t *text, size_t text_length, uint32_t edition, uint32_t entry,
                              struct rap_step *steps, size_t step_room, uint8_t *messages, size_t message_room);
 
 /* A node in braces, parsed again from its own text after an edit inside its braces. `node`: the number of its kind.
  * `first_child`, `parent`: those of the first thing in it and of the node around it, or RAP_NO_KIND.
- * The answer is as that of rap_prefix. RAP_NO_NODE comes where such a node is not parsed again alone, and RAP_NO_BRACE
- * where it is to begin with a `{` and the text does not; a block says itself that its brace is missing.
-*
- * The new node may stand in the old one's place, and nothing else of the tree changes, where all of this holds:
+ * The result is as that of rap_prefix. The status is RAP_NO_NODE if such a node is not parsed again alone, and
+ * RAP_NO_BRACE if it must begin with a `{` and the text does not; for a block, the missing brace is reported as a
+ * message instead.
+ *
+ * The new node may replace the old one, with no other change of the tree, if all of this holds:
  * 1. The status is not RAP_NO_NODE, and the old node's first token was `{`.
- * 2. The new text's first byte is `{`, `used` is its length and the last byte is `}`, and the last steps are the RAP_TOKEN
- *    of that R_CURLY and one RAP_EXIT, of a BLOCK_EXPR two.
+ * 2. The new text's first byte is `{`, `used` is its length and the last byte is `}`, and the last steps are the
+ *    RAP_TOKEN of that R_CURLY and one RAP_EXIT, of a BLOCK_EXPR two.
  * 3. The old node ended with its own `}` too: its last steps were such ones.
  * 4. Past a shebang and blank lines the whole text does not begin with `---`, or the old tree has a FRONTMATTER token.
- * 5. No message `unknown literal prefix` is about one of the first five tokens of rap_tokens of the old text of the node or
- *    of its new one, nor about one of the five behind the node.
+ * 5. No message `unknown literal prefix` is about one of the first five tokens of rap_tokens of the old text of the
+ *    node or of its new one, nor about one of the five behind the node.
  * The third spares only a stale `expected R_CURLY`, and the fifth only the words of that message. This is measured, not
  * proved: over five million random edits of right and wrong texts, parsed by a build of the Rust crate, the trees, the
- * messages and their places were those of the whole new text wherever all five held. Smallest texts of which one does not hold, and the trees differ, of the third
- * and the fifth the messages:
+ * messages and their places were those of the whole new text wherever all five held. Smallest texts of which one does
+ * not hold, and the trees differ, of the third and the fifth the messages:
  * 1. `{e unsafe{}`, `unsafe` goes: a record expression.
- * 2. `{{}}`, `#` comes into the inner braces: what is expected behind it takes the `}`. `use{}`, `..` comes into the braces.
+ * 2. `{{}}`, `#` comes into the inner braces: what is expected behind it takes the `}`. `use{}`, `..` comes into the
+ *    braces.
  * 3. `fn f(){`, `}` comes at the end.
  * 4. `---{{}`, a line `---` comes into the inner braces: a frontmatter.
  * 5. `a!{}T'`, `"(//"` comes into the braces.
@@ -188,8 +191,8 @@ struct rap_answer rap_reparse(const uint8_t *text, size_t text_length, uint32_t 
                               uint32_t first_child, uint32_t parent,
                               struct rap_step *steps, size_t step_room, uint8_t *messages, size_t message_room);
 
-/* What a parser reads of a text: a record for each token that is no trivia, in order.
- * `records`, `record_room`: the caller's room. It is filled as far as it reaches.
+/* The parser's input of a text: a record for each token that is no trivia, in order.
+ * `records`, `record_room`: the caller's array and its length in records. As many records as fit are written.
  * Status: RAP_OK, RAP_NO_EDITION, RAP_NOT_UTF8, RAP_TEXT_TOO_LONG, RAP_NO_MEMORY; the first of them that fits. `steps`
  * is the number of records, `message_bytes` is 0, and `used` is the text's length.
  */
@@ -206,9 +209,9 @@ struct rap_answer rap_records(const uint8_t *text, size_t text_length, uint32_t 
 struct rap_answer rap_parse(const struct rap_record *records, size_t record_count, uint32_t entry,
                             struct rap_step *steps, size_t step_room, uint8_t *messages, size_t message_room);
 
-/* Parses what stands at the front of the records. `entry`: one of enum rap_prefix_entry.
- * The steps are as those of rap_parse. The status is RAP_OK where they are those of one tree, and RAP_NO_TREE where
- * they are those of none, or of several. `used` is how many of the records were taken; those behind are left. Else the
+/* Parses a prefix of the records. `entry`: one of enum rap_prefix_entry.
+ * The steps are as those of rap_parse. The status is RAP_OK if they are those of one tree, and RAP_NO_TREE otherwise.
+ * `used` is the number of records that were taken; those after them are left. On a fault the
  * status is RAP_NO_ENTRY, RAP_NO_RECORD, RAP_TOO_MANY_TOKENS or RAP_NO_MEMORY; the first of them that fits.
  */
 struct rap_answer rap_parse_prefix(const struct rap_record *records, size_t record_count, uint32_t entry,
@@ -216,14 +219,14 @@ struct rap_answer rap_parse_prefix(const struct rap_record *records, size_t reco
 
 /* Parses a node in braces again from its own records. `node`, `first_child`, `parent`: as at rap_reparse.
  * The answer is as that of rap_parse_prefix; but the statuses are, after RAP_OK and RAP_NO_TREE, RAP_NO_NODE,
- * RAP_NO_RECORD, RAP_NO_BRACE, RAP_TOO_MANY_TOKENS and RAP_NO_MEMORY; the first of them that fits. With no records it
- * tells whether such a node is parsed again alone: it is not exactly where the status is RAP_NO_NODE.
+ * RAP_NO_RECORD, RAP_NO_BRACE, RAP_TOO_MANY_TOKENS and RAP_NO_MEMORY; the first of them that fits. Without
+ * records the call tests whether such a node is parsed again alone: exactly if the status is not RAP_NO_NODE.
  */
 struct rap_answer rap_parse_node(const struct rap_record *records, size_t record_count, uint32_t node,
                                  uint32_t first_child, uint32_t parent,
                                  struct rap_step *steps, size_t step_room, uint8_t *messages, size_t message_room);
 
-/* Puts the trivia of a text back into a tree over its tokens, which a parse of its records gave.
+/* Puts the trivia of a text back into a tree over its tokens, which a parse of its records returned.
  * `text`, `text_length`, `edition`: as at rap_records. `tree`, `tree_steps`: all steps of the tree. `tree_messages`,
  * `tree_message_bytes`: all bytes of its messages.
  * The steps are those of the tree with the trivia around its tokens, as rap_tree gives them, without the lexer's
@@ -236,16 +239,16 @@ struct rap_answer rap_parse_node(const struct rap_record *records, size_t record
  * Messages must be UTF-8.
  * Status: RAP_OK, RAP_NO_EDITION, RAP_NOT_UTF8, RAP_TEXT_TOO_LONG, RAP_NO_STEPS, RAP_NO_MEMORY; the first of them that
  * fits.
- * `used` is where the last token that the tree has ends. Trivia behind it are in the tree. The last step's `at` is the
- * text's length exactly where the tree has all tokens of the text.
+ * `used` is the end of the last token of the tree. Trivia after it are in the tree. The last step's `at` is the length
+ * of the text exactly if the tree has all tokens of the text.
  */
 struct rap_answer rap_weave(const uint8_t *text, size_t text_length, uint32_t edition,
                             const struct rap_step *tree, size_t tree_steps,
                             const uint8_t *tree_messages, size_t tree_message_bytes,
                             struct rap_step *steps, size_t step_room, uint8_t *messages, size_t message_room);
 
-/* Writes the name of a kind, ASCII with no 0 at its end, as far as there is room, and answers how many bytes the name has:
- * 0 where the number is no kind's. No name has more than 32 bytes.
+/* Writes the name of a kind, in ASCII and with no 0 at the end, as many bytes as fit, and returns the length of the
+ * name in bytes: 0 if the number is no kind's. No name has more than 32 bytes.
  */
 size_t rap_kind_name(uint32_t kind, uint8_t *name, size_t name_room);
 

@@ -9,9 +9,9 @@ use crate::{Input, Output, SyntaxKind};
 pub enum TopEntryPoint {
     /// A file.
     SourceFile,
-    /// What a macro gives as statements.
+    /// The statements that a macro expands to.
     MacroStmts,
-    /// What a macro gives as items.
+    /// The items that a macro expands to.
     MacroItems,
     /// A pattern, with its alternatives.
     Pattern,
@@ -19,7 +19,7 @@ pub enum TopEntryPoint {
     Type,
     /// An expression.
     Expr,
-    /// What stands in the brackets of an attribute.
+    /// The contents of an attribute's brackets.
     MetaItem,
 }
 
@@ -37,7 +37,7 @@ impl TopEntryPoint {
         };
         let mut woven = sys::tree(&source.text, source.edition.year(), entry);
         check_status(woven.status);
-        // The lexer's messages stand behind the end of the last node.
+        // The lexer's messages stand after the end of the last node.
         let end = woven.steps.iter().rposition(|step| step.what == sys::EXIT);
         woven.steps.truncate(end.map_or(0, |end| end + 1));
         Output::of_tree(Tree { source: source.clone(), entry, woven })
@@ -56,14 +56,14 @@ impl TopEntryPoint {
     }
 }
 
-/// What is read from the front of an input, as a macro matches it.
+/// What a prefix of an input is parsed as, as a macro matches it.
 #[derive(Debug)]
 pub enum PrefixEntryPoint {
     /// A visibility, if there is one.
     Vis,
     /// A block.
     Block,
-    /// A statement, without the semicolon behind it.
+    /// A statement, without the semicolon after it.
     Stmt,
     /// A pattern without alternatives.
     Pat,
@@ -77,12 +77,12 @@ pub enum PrefixEntryPoint {
     Path,
     /// An item, or a macro call in its place.
     Item,
-    /// What stands in the brackets of an attribute.
+    /// The contents of an attribute's brackets.
     MetaItem,
 }
 
 impl PrefixEntryPoint {
-    /// Parses what stands at the front of the input. The output is one tree, none or several.
+    /// Parses a prefix of the input. The output is one tree, none or several.
     ///
     /// Panics for an input of more than 8,388,607 tokens.
     pub fn parse(&self, input: &Input) -> Output {

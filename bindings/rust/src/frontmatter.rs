@@ -1,7 +1,7 @@
 //! Script sources: the shebang and the frontmatter that may stand before the code.
 //!
 //! These calls do not go to the static library, which has none for them: they follow `crates/rap_frontmatter`, where
-//! the same calls are proved, and are tested. The cut of a text by [`crate::LexedStr`] is the library's. In the Rust
+//! the same calls are proved, and are tested. The lexing of a text by [`crate::LexedStr`] is the library's. In the Rust
 //! crate this module is not public.
 use std::error::Error;
 use std::fmt;
@@ -10,10 +10,10 @@ use std::ops::Range;
 /// A range of bytes of a text.
 pub type Span = Range<usize>;
 
-/// With how many dashes a frontmatter opens at least.
+/// The least number of dashes that open a frontmatter.
 const SHORTEST_FENCE: usize = 3;
 
-/// A text that begins with a shebang, a frontmatter, both or neither, cut into its parts. Spans are in bytes.
+/// A text that begins with a shebang, a frontmatter, both or neither, divided into its parts. Spans are in bytes.
 #[derive(Debug)]
 pub struct ScriptSource<'s> {
     raw: &'s str,
@@ -26,7 +26,7 @@ pub struct ScriptSource<'s> {
 }
 
 impl<'s> ScriptSource<'s> {
-    /// Cuts the text into a shebang, a frontmatter and its content.
+    /// Divides the text into a shebang, a frontmatter and its content.
     ///
     /// A frontmatter is refused where fewer than three dashes open it, where no line closes it, where more or fewer
     /// dashes close it, where something else stands on the closing line, and where a second one follows.
@@ -215,7 +215,7 @@ pub fn strip_ws_lines(input: &str) -> Option<usize> {
     input[..white].rfind('\n').map(|feed| feed + 1)
 }
 
-/// Why a text is no script source: a message, the span that it speaks of, and the spans to show beside it.
+/// Why a text is not a script source: a message, the span of the error, and further spans to show with it.
 #[derive(Debug)]
 pub struct FrontmatterError {
     message: String,
@@ -240,7 +240,7 @@ impl FrontmatterError {
         &self.message
     }
 
-    /// The span that the message speaks of.
+    /// The span of the error.
     pub fn primary_span(&self) -> Span {
         self.primary_span.clone()
     }

@@ -5,7 +5,7 @@ use crate::{Edition, SyntaxKind};
 use std::fmt;
 use std::sync::{Arc, OnceLock};
 
-/// A text and an edition, by whose rules it is cut and read.
+/// A text and an edition, by whose rules it is lexed.
 #[derive(Clone, PartialEq, Eq)]
 pub(crate) struct Source {
     pub(crate) text: Arc<str>,
@@ -23,7 +23,7 @@ impl Source {
 
 /// The tokens that a parser reads, without trivia.
 pub struct Input {
-    /// The text whose records these are, as long as no token was pushed behind them.
+    /// The text whose records these are, as long as no token was pushed after them.
     source: Option<Source>,
     records: OnceLock<Vec<Record>>,
 }
@@ -93,7 +93,7 @@ impl Input {
         Input { source: None, records: OnceLock::from(records) }
     }
 
-    /// The records of a text, which is cut where they are asked for.
+    /// The records of a text, which is lexed when they are first used.
     pub(crate) fn of_source(source: Source) -> Input {
         Input { source: Some(source), records: OnceLock::new() }
     }

@@ -15,7 +15,7 @@ pub struct LexedStr<'a> {
     tokens: OnceLock<Tokens>,
 }
 
-/// The tokens of a text. Behind the last one stands an `EOF`, where the text ends.
+/// The tokens of a text. After the last one stands an `EOF`, where the text ends.
 struct Tokens {
     kind: Vec<SyntaxKind>,
     start: Vec<u32>,
@@ -61,7 +61,7 @@ impl Tokens {
         Tokens { kind, start, error }
     }
 
-    /// The messages behind so many tokens, each with the place of the token that begins where it stands.
+    /// The messages after so many tokens, each with the place of the token that begins where it stands.
     fn errors_of(filled: &Filled, count: usize, start: &[u32]) -> Vec<(u32, String)> {
         let messages = filled.steps[count..].iter();
         let place = |at: usize| start.partition_point(|start| (*start as usize) < at) as u32;
@@ -82,7 +82,7 @@ impl<'a> LexedStr<'a> {
     ///
     /// Before the edition 2024 the answer is `None` for `##` and `#"`; the Rust crate gives a `POUND`.
     pub fn single_token(edition: Edition, text: &'a str) -> Option<(SyntaxKind, Option<String>)> {
-        // Behind a semicolon nothing is a script source, and no token is another one.
+        // After a semicolon nothing is a script source, and no token is another one.
         let behind = format!(";{text}");
         let lexed = LexedStr::new(edition, &behind);
         if lexed.len() != 2 {

@@ -4,15 +4,14 @@
 //! package in its place. What is cut, parsed and put together is done by the static library of `crates/rap_c`, whose
 //! contracts are proved; this package holds what they return.
 //!
-//! What a user of the Rust crate would notice stands at the items, and in `docs/DIFFERENCES.md` as a whole:
+//! The differences from the Rust crate are listed at the items, and all of them in `docs/DIFFERENCES.md`:
 //!
-//! - A text of more than 4,294,967,295 bytes and an input of more than 8,388,607 tokens are refused by a panic, and so
-//! is
-//!   want of memory.
+//! - A call panics for a text of more than 4,294,967,295 bytes, for an input of more than 8,388,607 tokens, and if it
+//!   is out of memory.
 //! - The numbers of kinds are the port's own.
 //! - [`Edition`] is this package's own type.
 //!
-//! Texts are cut only when something of them is asked for: [`LexedStr::new`] and [`LexedStr::to_input`] keep the text,
+//! A text is lexed only when its tokens are first used: [`LexedStr::new`] and [`LexedStr::to_input`] keep the text,
 //! and [`TopEntryPoint::parse`] goes the whole way from the text to the tree in one call of the library.
 //! A thread keeps the room for a text's steps for the next text: 32 bytes for each byte of the text, as far as they
 //! were written, and 256 MB at most.

@@ -19,7 +19,7 @@ pub(crate) struct Tree {
     pub(crate) source: Source,
     /// The number of the top entry.
     pub(crate) entry: u32,
-    /// The steps with trivia, and behind them the lexer's messages.
+    /// The steps with trivia, and after them the lexer's messages.
     pub(crate) woven: Filled,
 }
 

@@ -1,4 +1,4 @@
-//! Whether a node that was parsed again ends with a brace of its own.
+//! Whether a node that was parsed again ends with its own closing brace.
 ghost use Rattle.std.specs.Prelude.{◌≡◌, ◌==◌};
 ghost use Rattle.rap_events.specs.Forest.{used};
 ghost use Rattle.rap_lexed.specs.Trivia.{significant};
@@ -8,7 +8,7 @@ use rap_base::syntax_kind::SyntaxKind;
 use rap_events::output::{Output, Step};
 use rap_lexed::lexed_str::LexedStr;
 
-/// How many tokens of the text are no trivia.
+/// Returns the number of tokens of the text that are no trivia.
 pub fn count_significant(lexed: &LexedStr<'_>) -> usize
     ensures { result ≡ significant lexed.now.tokens }
 {

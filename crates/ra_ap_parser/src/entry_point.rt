@@ -1,4 +1,4 @@
-//! Where a parse begins.
+//! Entry points: what an input is parsed as.
 ghost use Rattle.std.specs.Prelude.{◌≡◌, ◌<◌, ◌≤◌, ◌↔◌, List, ◌++◌, length, IfOk, IsTrue, Some};
 ghost use Rattle.rap_events.specs.Forest.{Forest, message_count};
 ghost use Rattle.rap_events.specs.Record.{Record};
@@ -14,7 +14,7 @@ use std::alloc::Global;
 use std::error::Error;
 use std::fmt;
 
-/// The most tokens that an input may have, so that each event's place fits 32 bits.
+/// The most tokens of an input that can be parsed: each event's place fits in 32 bits.
 pub const MAX_TOKENS: usize = 8_388_607;
 
 /// Why an input was not parsed.
@@ -22,7 +22,7 @@ pub const MAX_TOKENS: usize = 8_388_607;
 pub enum ParseFault {
     /// The input has more than [`MAX_TOKENS`] tokens.
     TooManyTokens,
-    /// Out of memory: a growth was refused.
+    /// Out of memory: the allocator refused a request.
     NoMemory,
 }
 
@@ -48,14 +48,14 @@ pub(crate) fn has_too_many_tokens(input: &Input) -> bool
     input.len() > MAX_TOKENS
 }
 
-/// What a whole input is read as.
+/// What a whole input is parsed as.
 #[derive(Clone, Copy, Debug, PartialEq, Eq)]
 pub enum TopEntryPoint {
     /// A file.
     SourceFile,
-    /// What a macro gives as statements.
+    /// The statements that a macro expands to.
     MacroStmts,
-    /// What a macro gives as items.
+    /// The items that a macro expands to.
     MacroItems,
     /// A pattern, with its alternatives.
     Pattern,
@@ -70,7 +70,7 @@ pub enum TopEntryPoint {
 impl TopEntryPoint {
     ghost use Rattle.ra_ap_parser.specs.EntryScript.{IsOutputOf, IsCore, IsCall, KeepsFront, WrapsPrefix};
 
-    /// Reads the input as one tree.
+    /// Parses the input as one tree.
     fn run(&self, alloc: Global, input: &Input) -> Result<Output, NoMemory>
         requires { length input.now ≤ MAX_TOKENS }
         ensures tree { IfOk result (IsTreeOver input.now) }
@@ -87,14 +87,14 @@ impl TopEntryPoint {
         }
     }
 
-    /// Reads the whole input as one tree, whatever its tokens are.
+    /// Parses the whole input as one tree, for all tokens.
     ///
-    /// The error is `TooManyTokens` exactly for an input of more than [`MAX_TOKENS`] tokens, which is decided first,
-    /// and else `NoMemory` where a growth was refused. The tree is that of the entry's script, and no other. An input
-    /// that the core grammar derives, under `SourceFile` as a file, under `Expr` as an expression and under `Ty` as a
-    /// type, gives its derivation's tree, without a message. So does one that it derives as any number of items, under
-    /// `MacroItems`, where the tree is a `MACRO_ITEMS` of them; and as what stands in the braces of a block, under
-    /// `MacroStmts`, where it is a `MACRO_STMTS` of the statements, and of the value behind them if there is one. A
+    /// The error is `TooManyTokens` exactly for an input of more than [`MAX_TOKENS`] tokens, which is tested first;
+    /// otherwise `NoMemory` if the allocator refused a request. The tree is that of the entry's script, and no other.
+    /// An input that the core grammar derives, under `SourceFile` as a file, under `Expr` as an expression and under
+    /// `Ty` as a type, gives its derivation's tree, without a message. So does one that it derives as any number of
+    /// items, under `MacroItems`, where the tree is a `MACRO_ITEMS` of them; and as the contents of a block, under
+    /// `MacroStmts`, where it is a `MACRO_STMTS` of the statements, and of the value after them if there is one. A
     /// macro call, of a name and balanced tokens in braces, gives under `SourceFile` and `MacroItems` the entry's node
     /// over one `MACRO_CALL`, whose `TOKEN_TREE` nests as the brackets do, without a message. Where an input begins
     /// with items of the core grammar and with `@`, `,` and integers, in any order, the entry's node begins under these
@@ -122,14 +122,14 @@ impl TopEntryPoint {
     }
 }
 
-/// What is read from the front of an input, as a macro matches it.
+/// What a prefix of an input is parsed as, as a macro matches it.
 #[derive(Clone, Copy, Debug, PartialEq, Eq)]
 pub enum PrefixEntryPoint {
     /// A visibility, if there is one.
     Vis,
     /// A block.
     Block,
-    /// A statement, without the semicolon behind it.
+    /// A statement, without the semicolon after it.
     Stmt,
     /// A pattern without alternatives.
     Pat,
@@ -150,7 +150,7 @@ pub enum PrefixEntryPoint {
 impl PrefixEntryPoint {
     ghost use Rattle.ra_ap_parser.specs.EntryScript.{IsPrefixOutputOf, IsPrefixCore};
 
-    /// Reads what the entry names.
+    /// Parses what the entry names.
     fn run(&self, alloc: Global, input: &Input) -> Result<Output, NoMemory>
         requires { length input.now ≤ MAX_TOKENS }
         ensures prefix { IfOk result (IsPrefixOver input.now) }
@@ -170,14 +170,14 @@ impl PrefixEntryPoint {
         }
     }
 
-    /// Reads from the front of the input, and leaves what stands behind.
+    /// Parses a prefix of the input, and leaves the other tokens.
     ///
-    /// The output may be no tree, or several, and messages beside them. How many tokens it took is the sum of the
-    /// `n_input_tokens` of its steps, and one for each float that it took apart. The error is `TooManyTokens` exactly
-    /// for an input of more than [`MAX_TOKENS`] tokens, which is decided first, and else `NoMemory` where a growth was
-    /// refused. The output is that of the entry's script, and no other. Where the front of the input is derived by the
-    /// core grammar, as a block, a type, an expression or an item, and what stands behind can follow it, the output is
-    /// its derivation's tree, without a message, and takes that front.
+    /// The output may be no tree, or several trees, with messages beside them. The number of tokens that it takes is
+    /// the sum of the `n_input_tokens` of its steps, and one for each float that is split. The error is `TooManyTokens`
+    /// exactly for an input of more than [`MAX_TOKENS`] tokens, which is tested first; otherwise `NoMemory` if the
+    /// allocator refused a request. The output is that of the entry's script, and no other. If the core grammar derives
+    /// a prefix of the input, as a block, a type, an expression or an item, and the next tokens can follow it, the
+    /// output is the tree of the derivation, without a message, and takes that prefix.
     pub fn parse(&self, alloc: Global, input: &Input) -> Result<Output, ParseFault>
         ensures prefix { IfOk result (IsPrefixOver input.now) }
         ensures script { IfOk result (IsPrefixOutputOf self.now input.now) }

@@ -1,9 +1,9 @@
-//! A parser of Rust: a text is lexed, parsed, and handed out as the steps of one tree over all its bytes.
+//! A parser of Rust: a text is lexed and parsed, and the result is the steps of one tree over all its bytes.
 //!
-//! [`LexedStr::new`] cuts a text into tokens, [`LexedStr::to_input`] leaves the trivia out,
+//! [`LexedStr::new`] divides a text into tokens, [`LexedStr::to_input`] leaves the trivia out,
 //! [`TopEntryPoint::parse`] parses what is left, and [`LexedStr::intersperse_trivia`] passes the tree, with the
-//! texts and the trivia put back, to a [`StrSink`]. [`parse_text`] is all of that in one call. [`frontmatter`] cuts a
-//! script source into its parts. [`laws`] says what holds of the core grammar, whose trees are promised.
+//! texts and the trivia put back, to a [`StrSink`]. [`parse_text`] is all of that in one call. [`frontmatter`] divides
+//! a script source into its parts. [`laws`] has the laws of the core grammar, for which the tree is proved.
 #![tactic(auto)]
 
 mod closed;

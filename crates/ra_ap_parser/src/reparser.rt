@@ -16,23 +16,23 @@ use rap_lexed::lexed_str::LexedStr;
 use std::alloc::Global;
 use std::marker::Model;
 
-/// How a node is parsed again, alone, after an edit inside its braces.
+/// A rule that parses a node again, alone, after an edit inside its braces.
 ///
-/// The new node may stand in the old one's place, and nothing else of the tree changes, where all of this holds, `old` being
-/// the node's text before the edit and `new` the one after it:
+/// The new node may replace the old one, with no other change of the tree, if all of this holds. `old` is the node's
+/// text before the edit and `new` its text after it:
 ///
 /// 1. the node has a reparser, and its first token is `{`;
 /// 2. `new`, lexed alone, begins with `{`, and the new node's own closing brace is the last of all its tokens, as
 ///    [`Reparser::is_closed`] says;
-/// 3. the old node was closed by its own brace, which [`Reparser::is_closed`] says of it and `old`;
-/// 4. past a shebang and blank lines the whole text does not begin with `---`, or the old tree has a `FRONTMATTER` token;
-/// 5. the message `unknown literal prefix` is about none of the first five tokens of `old` or `new`, white space and
+/// 3. the old node was closed by its own brace, which [`Reparser::is_closed`] says of it and `old`; 4. past a shebang
+/// and blank lines the whole text does not begin with `---`, or the old tree has a `FRONTMATTER` token; 5. the message
+/// `unknown literal prefix` is about none of the first five tokens of `old` or `new`, white space and
 ///    comments among them, nor about one of the five behind the node.
 ///
 /// What must hold of braces, messages and what stands around the node is all in these. The third spares only a stale
-/// `expected R_CURLY`, and the fifth only the words of that message. None of it is proved: over five million random edits of
-/// right and wrong texts, parsed by a build of the Rust crate, the trees, the messages and their places were those of the
-/// whole new text, wherever all five held.
+/// `expected R_CURLY`, and the fifth only the words of that message. None of it is proved: over five million random
+/// edits of right and wrong texts, parsed by a build of the Rust crate, the trees, the messages and their places were
+/// those of the whole new text, wherever all five held.
 ///
 /// Smallest texts of which one does not hold, and the trees differ, of the third and the fifth the messages:
 ///
@@ -71,11 +71,11 @@ impl Reparser {
     ghost use Rattle.ra_ap_parser.specs.Reparsed.{reparsed, kind_of, IsAgainItself};
     ghost use Rattle.ra_ap_parser.specs.Closed.{brace_depth, is_closed, ClosesByOwnBrace};
 
-    /// How a node of the kind `node` is parsed again. `first_child` is the kind of the first thing in it, and `parent`
-    /// that of the node around it, if there is one.
+    /// Returns the reparser of a node of the kind `node`, or `None` if such a node is not parsed again. `first_child`
+    /// is the kind of the first node or token in it, and `parent` that of the node around it, if there is one.
     ///
-    /// Blocks, lists in braces of fields, variants, arms, names and items always are; a token tree where its first
-    /// child is `{`; the items of a trait or an impl where the parent is one of these. No other node is.
+    /// Blocks, and lists in braces of fields, variants, arms, names and items, always have one; a token tree if its
+    /// first child is `{`; the items of a trait or an impl if the parent is one of these. No other node has one.
     pub fn for_node(
         node: SyntaxKind,
         first_child: Option<SyntaxKind>,
@@ -102,14 +102,14 @@ impl Reparser {
         Some(Reparser { part })
     }
 
-    /// Whether the input must begin with a `{`. A block says itself that its brace is missing.
+    /// Returns whether the input must begin with a `{`. For a block a missing brace is reported as a message instead.
     pub fn needs_curly(&self) -> bool
         ensures { result ≡ asks_brace self.now }
     {
         self.part != Part::Block
     }
 
-    /// Whether the input begins as the node must.
+    /// Returns whether the input begins as the node must: whether [`Reparser::parse`] may be called.
     pub fn can_parse(&self, input: &Input) -> bool
         ensures can { IsTrue result → asks_brace self.now ≡ true → next_kind input.now ≡ L_CURLY }
         ensures cannot { IsFalse result → (asks_brace self.now ≡ true) × (next_kind input.now ≢ L_CURLY) }
@@ -124,12 +124,12 @@ impl Reparser {
         if self.part == Part::Block { 2 } else { 1 }
     }
 
-    /// Whether the node that this reparser made of the text's tokens is all of the text, from a `{`, the first byte, to its
-    /// own `}`, the last one.
+    /// Returns whether the node that this reparser made of the text's tokens is all of the text, from a `{`, the first
+    /// byte, to its own `}`, the last one.
     ///
-    /// The brace is its own if it is the last thing in the node, of a block the last thing in the list of statements that is
-    /// the last thing in it, and stands in no `ERROR`. `lexed` is the text that was parsed, and `output` what
-    /// [`Reparser::parse`] returned. Takes no memory.
+    /// The brace is its own if it is the last thing in the node, of a block the last thing in the list of statements
+    /// that is the last thing in it, and stands in no `ERROR`. `lexed` is the text that was parsed, and `output` what
+    /// [`Reparser::parse`] returned. No memory is allocated.
     pub fn is_closed(&self, lexed: &LexedStr<'_>, output: &Output) -> bool
         ensures { result ≡ is_closed self.now lexed.now.tokens output.now }
     {
@@ -150,13 +150,13 @@ impl Reparser {
 
     /// Parses the node again from its own tokens.
     ///
-    /// Where the input begins with `{` the output is exactly one node, of the kind that was asked for. Tokens behind the
-    /// brace that closes it are left. A block, and a list of items or of a struct's fields, that the core grammar derives
-    /// is its derivation's tree again, without a message; and a token tree, whatever its tokens are as long as their
-    /// brackets are balanced, is the `TOKEN_TREE` that nests as they do. So such a node in the tree of anything that the
-    /// core grammar derives, or of a macro call, is itself again when it is parsed from its own tokens. The error is
-    /// `TooManyTokens` exactly for an input of more than [`MAX_TOKENS`] tokens, which is decided first, and else
-    /// `NoMemory` where a growth was refused.
+    /// If the input begins with `{`, the output is exactly one node, of the reparser's kind. Tokens after its closing
+    /// brace are left. A block, and a list of items or of a struct's fields, that the core grammar derives is its
+    /// derivation's tree again, without a message; and a token tree, whatever its tokens are as long as their brackets
+    /// are balanced, is the `TOKEN_TREE` that nests as they do. So such a node in the tree of anything that the core
+    /// grammar derives, or of a macro call, is itself again when it is parsed from its own tokens. The error is
+    /// `TooManyTokens` exactly for an input of more than [`MAX_TOKENS`] tokens, which is tested first; otherwise
+    /// `NoMemory` if the allocator refused a request.
     pub fn parse(self, alloc: Global, input: &Input) -> Result<Output, ParseFault>
         requires brace { asks_brace self ≡ true → next_kind input.now ≡ L_CURLY }
         ensures prefix { IfOk result (IsPrefixOver input.now) }

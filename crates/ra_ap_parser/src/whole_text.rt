@@ -10,14 +10,14 @@ use std::alloc::Global;
 use std::error::Error;
 use std::fmt;
 
-/// Why a text was not handed out whole.
+/// Why the tree of a text was not passed to the sink.
 #[derive(Clone, Debug, Drop, PartialEq, Eq)]
 pub enum TextFault<R> {
     /// The text has more than [`MAX_TEXT`] bytes.
     TextTooLong,
     /// The text has more than [`MAX_TOKENS`] tokens that are no trivia.
     TooManyTokens,
-    /// Out of memory: a growth was refused.
+    /// Out of memory: the allocator refused a request.
     NoMemory,
     /// The sink refused a step.
     Refused(R),
@@ -40,14 +40,14 @@ impl<R> fmt::Display for TextFault<R> {
 
 impl<R: fmt::Debug + Drop> Error for TextFault<R> {}
 
-/// A text's tokens, and whether the sink has been handed all of them.
+/// A text's tokens, and whether all of them were passed to the sink.
 #[derive(Drop)]
 pub struct ParsedText<'t> {
     pub lexed: LexedStr<'t>,
     pub whole: bool,
 }
 
-/// The fault of a text whose tokens wanted memory.
+/// The fault of a text whose tokens are out of memory.
 fn without_memory<R>(alloc: Global, edition: Edition, text: &str) -> TextFault<R>
     requires { length text.now ≤ MAX_TEXT }
     ensures many { (result ≡ TextFault.TooManyTokens) ↔ HasTooManyTokens text.now edition }
@@ -60,12 +60,12 @@ fn without_memory<R>(alloc: Global, edition: Edition, text: &str) -> TextFault<R
     }
 }
 
-/// Cuts the text into tokens, parses them from the entry point, and passes the sink the steps of the one tree
-/// over all of the text.
+/// Divides the text into tokens, parses them from the entry point, and passes the steps of the one tree over all of the
+/// text to the sink.
 ///
-/// The error is `TextTooLong` exactly for a text of more than [`MAX_TEXT`] bytes, which is decided first, and else
-/// `TooManyTokens` exactly for one of more than [`MAX_TOKENS`] tokens that are no trivia, wanting memory or not. Then
-/// it is `NoMemory` where a growth was refused, and `Refused` where the sink refused a step.
+/// The error is `TextTooLong` exactly for a text of more than [`MAX_TEXT`] bytes, which is tested first; then
+/// `TooManyTokens` exactly for a text of more than [`MAX_TOKENS`] tokens that are no trivia, also if memory is out.
+/// Otherwise it is `NoMemory` if the allocator refused a request, or `Refused` if the sink refused a step.
 pub fn parse_text<'t, S: StrSink>(
     alloc: Global,
     edition: Edition,

@@ -8,7 +8,7 @@ use Rattle.rap_c.specs.Filling.{write_at, Filling, after, after_all}
 use Rattle.rap_c.specs.declared.step.RapStep.{RapStep}
 use Rattle.rap_c.proofs.Written.{write_at-nothing, write_at-past, write_at-length, write_at-set, write_at-twice}
 
--- The machine's numbers are these, as far as 64 bits count.
+-- The machine's numbers are these, saturated at 2^64 - 1.
 pub record IsAt (f : Filling) (count said place : ℕ) : Type 0 where
   pub count_is : f.count ≡ counted count
   pub said_is : f.said ≡ counted said

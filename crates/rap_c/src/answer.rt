@@ -15,11 +15,11 @@ pub enum Fault {
     TextTooLong,
     /// The text has more tokens than the parser takes.
     TooManyTokens,
-    /// Out of memory: a growth was refused.
+    /// Out of memory: the allocator refused a request.
     NoMemory,
     /// A node of this kind, with this first child and in this parent, is not parsed again alone.
     NoNode,
-    /// The node is to begin with a `{`, and the text or the records do not.
+    /// The node must begin with a `{`, and the text or the records do not.
     NoBrace,
     /// A record is no token's.
     NoRecord,

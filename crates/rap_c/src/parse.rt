@@ -70,8 +70,8 @@ fn parse(
     fill_parse(alloc, entry, rows, steps, messages)
 }
 
-/// Parses the records as a whole from the top entry with the number, and fills the slices with the steps of the output, which
-/// count records, and with the bytes of its messages. The answer says how many of each there are.
+/// Parses the records as a whole from the top entry with the number, and fills the slices with the steps of the output,
+/// which count records, and with the bytes of its messages. Returns how many of each there are.
 #[unsafe(no_mangle)]
 pub extern "C" fn rap_parse(
     alloc: Global,

@@ -53,10 +53,10 @@ fn parse_node(
     fill_again(alloc, reparser, rows, steps, messages)
 }
 
-/// Parses a node again from its own records, by the kinds' numbers of the node, of the first thing in it and of the node
-/// around it, and fills the slices with the steps of the output, which count records, and with the bytes of its messages. A
-/// number past the last kind's says that there is none. Where the output is not one tree the status is 1. The answer says how
-/// many of each there are, and how many records were taken.
+/// Parses a node again from its own records, by the kinds' numbers of the node, of the first thing in it and of the
+/// node around it, and fills the slices with the steps of the output, which count records, and with the bytes of its
+/// messages. A number past the last kind's says that there is none. Where the output is not one tree the status is 1.
+/// The answer says how many of each there are, and how many records were taken.
 #[unsafe(no_mangle)]
 pub extern "C" fn rap_parse_node(
     alloc: Global,

@@ -1,4 +1,4 @@
-//! What stands at the front of records.
+//! Parsing a prefix of records.
 ghost use Rattle.std.specs.Prelude.{◌≡◌, ◌≤◌, ◌<◌, IfErr, IfOk};
 ghost use Rattle.ra_ap_parser.specs.EntryScript.{IsPrefixOutputOf};
 ghost use Rattle.rap_c.specs.Given.{IsRefusal, IsUntouched};
@@ -12,7 +12,7 @@ use crate::step::RapStep;
 use ra_ap_parser::{ParseFault, PrefixEntryPoint};
 use std::alloc::Global;
 
-/// Parses what stands at the front of the records, and fills the room with the output.
+/// Parses a prefix of the records, and fills the room with the output.
 fn fill_front(
     alloc: Global,
     entry: PrefixEntryPoint,
@@ -48,9 +48,9 @@ fn parse_prefix(
     fill_front(alloc, entry, rows, steps, messages)
 }
 
-/// Reads what the prefix entry with the number names from the front of the records, and fills the slices with the steps of
-/// the output, which count records, and with the bytes of its messages. Where it is not one tree the status is 1. The answer
-/// says how many of each there are, and how many records were taken.
+/// Parses a prefix of the records from the prefix entry with this number, and fills the slices with the steps of the
+/// output, which count records, and with the bytes of its messages. Where it is not one tree the status is 1. The
+/// answer says how many of each there are, and how many records were taken.
 #[unsafe(no_mangle)]
 pub extern "C" fn rap_parse_prefix(
     alloc: Global,

@@ -1,4 +1,4 @@
-//! What stands at the front of a text.
+//! Parsing a prefix of a text.
 ghost use Rattle.std.specs.Prelude.{◌≡◌, ◌≤◌, ◌<◌, IfErr, IfOk, true};
 ghost use Rattle.rap_events.specs.Cover.{covers};
 ghost use Rattle.rap_events.specs.Forest.{used};
@@ -42,7 +42,7 @@ pub fn fill_output(
     }
 }
 
-/// Parses what stands at the front of the text, and fills the room with it.
+/// Parses a prefix of the text, and fills the room with it.
 fn fill_prefix(
     alloc: Global,
     edition: Edition,
@@ -82,9 +82,9 @@ fn prefix(
     fill_prefix(alloc, edition, entry, text, steps, messages)
 }
 
-/// Reads what the prefix entry with the number names from the front of the text, and fills the slices with the steps of
+/// Parses a prefix of the text from the prefix entry with this number, and fills the slices with the steps of
 /// its tree, trivia put back, and with the bytes of its messages. Where it is not one tree the status is 1, and the
-/// steps are those of the output, which count tokens. The result says how many of each there are, and where what was
+/// steps are those of the output, which count tokens. Returns how many of each there are, and where what was
 /// read ends.
 #[unsafe(no_mangle)]
 pub extern "C" fn rap_prefix(

@@ -1,4 +1,4 @@
-//! A text as the parser reads it.
+//! A text and the parser's input of it.
 ghost use Rattle.std.specs.Prelude.{◌≡◌, ◌≤◌, ◌<◌, ◌⊎◌, ◌+◌, IfErr, IfOk, IsUtf8, MatchResult, length};
 ghost use Rattle.rap_lexed.specs.Input.{records};
 ghost use Rattle.rap_lexed.specs.LexedStr.{IsLexing};
@@ -19,7 +19,7 @@ pub fn text_of(bytes: &[u8]) -> Result<&str, Fault>
     }
 }
 
-/// The text cut into tokens.
+/// The text divided into tokens.
 pub fn lex(alloc: Global, edition: Edition, text: &str) -> Result<LexedStr<'_>, Fault>
     ensures lexing { IfOk result (λ lexed. IsLexing text.now edition lexed × (length text.now ≤ 4294967295)) }
     ensures fault { IfErr result (λ fault. ((fault ≡ Fault.TextTooLong) × (4294967295 < length text.now)) ⊎ ((fault ≡ Fault.NoMemory) × (length text.now ≤ 4294967295))) }
@@ -31,14 +31,14 @@ pub fn lex(alloc: Global, edition: Edition, text: &str) -> Result<LexedStr<'_>, 
     }
 }
 
-/// A text as the parser reads it: its tokens, and those of them that are no trivia.
+/// A text for the parser: its tokens, and those of them that are no trivia.
 #[derive(Drop)]
 pub struct Reading<'t> {
     pub lexed: LexedStr<'t>,
     pub input: Input,
 }
 
-/// The text cut into tokens, and the trivia left out.
+/// The text divided into tokens, and the trivia left out.
 pub fn read(alloc: Global, edition: Edition, text: &str) -> Result<Reading<'_>, Fault>
     ensures small { IfOk result (λ _. length text.now ≤ 4294967295) }
     ensures lexing { IfOk result (λ r. IsLexing text.now edition r.lexed) }

@@ -13,8 +13,8 @@ use crate::numbers::edition_of;
 use ra_ap_parser::{Edition, Input, NoMemory, SyntaxKind};
 use std::alloc::Global;
 
-/// A token of a parser's input: the number of its kind, that of the kind that an identifier may be read as instead, the year
-/// of its edition, and 1 where it touches the next token, and else 0.
+/// A token of a parser's input: the number of its kind, that of the kind that an identifier may be read as instead, the
+/// year of its edition, and 1 where it touches the next token, and else 0.
 #[repr(C)]
 #[derive(Clone, Copy, Debug, PartialEq, Eq)]
 pub struct RapRecord {

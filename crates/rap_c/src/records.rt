@@ -1,4 +1,4 @@
-//! What a parser reads of a text.
+//! The parser's input of a text.
 ghost use Rattle.std.specs.Prelude.{◌≡◌, ◌≢◌, IfErr, IfOk};
 ghost use Rattle.rap_c.specs.Given.{IsRefusal};
 ghost use Rattle.rap_c.specs.Records.{IsFilledRecords, IsRecords};
@@ -48,7 +48,7 @@ fn records(
     fill_records(alloc, edition, text, room)
 }
 
-/// Fills the slice with what the parser reads of the text: a record for each token that is no trivia. The answer says how
+/// Fills the slice with the parser's input of the text: a record for each token that is no trivia. The answer says how
 /// many there are.
 #[unsafe(no_mangle)]
 pub extern "C" fn rap_records(

@@ -73,7 +73,7 @@ fn reparse(
 /// Parses a node again from its own text, by the kinds' numbers of the node, of the first thing in it and of the node
 /// around it, and fills the slices with the steps of its tree, trivia put back, and with the bytes of its messages. A
 /// number past the last kind's says that there is none. Where it is not one tree the status is 1, and the steps are
-/// those of the output, which count tokens. The result says how many of each there are, and where the node ends.
+/// those of the output, which count tokens. Returns how many of each there are, and where the node ends.
 #[unsafe(no_mangle)]
 pub extern "C" fn rap_reparse(
     alloc: Global,

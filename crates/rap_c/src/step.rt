@@ -12,13 +12,13 @@ pub const TOKEN: u32 = 2;
 /// A message.
 pub const MESSAGE: u32 = 3;
 
-/// A float of a field access that is taken apart, among steps that make no tree.
+/// A split float of a field access, among steps that make no tree.
 pub const SPLIT: u32 = 4;
 
 /// A step: what it is, the kind of its node or its token, the place at which it stands, and its bytes.
 ///
-/// Places and bytes are those of the text. The bytes of a message are those of the messages' slice. Among steps that make no
-/// tree, places and bytes count the text's tokens that are no trivia.
+/// Places and bytes are those of the text. The bytes of a message are those of the messages' slice. Among steps that
+/// make no tree, places and bytes count the text's tokens that are no trivia.
 #[repr(C)]
 #[derive(Clone, Copy, Debug, PartialEq, Eq)]
 pub struct RapStep {

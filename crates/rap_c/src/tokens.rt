@@ -11,7 +11,7 @@ use crate::step::RapStep;
 use ra_ap_parser::Edition;
 use std::alloc::Global;
 
-/// Fills the room with the text's tokens, and with the lexer's messages behind them.
+/// Fills the room with the text's tokens, and with the lexer's messages after them.
 fn fill_tokens(
     alloc: Global,
     edition: Edition,
@@ -47,8 +47,8 @@ fn tokens(
     fill_tokens(alloc, edition, text, steps, messages)
 }
 
-/// Cuts the text into tokens, and fills the slices with a step for each, behind which the lexer's messages stand, and
-/// with the bytes of the messages. The result says how many of each there are.
+/// Divides the text into tokens, and fills the slices with a step for each, after which the lexer's messages stand, and
+/// with the bytes of the messages. Returns how many of each there are.
 #[unsafe(no_mangle)]
 pub extern "C" fn rap_tokens(
     alloc: Global,

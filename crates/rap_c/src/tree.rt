@@ -11,7 +11,7 @@ use crate::step::RapStep;
 use ra_ap_parser::{Edition, TextFault, TopEntryPoint, parse_text};
 use std::alloc::Global;
 
-/// Fills the room with the steps of the text's tree, and with the lexer's messages behind them.
+/// Fills the room with the steps of the text's tree, and with the lexer's messages after them.
 fn fill_tree(
     alloc: Global,
     edition: Edition,
@@ -56,8 +56,8 @@ fn tree(
     fill_tree(alloc, edition, entry, text, steps, messages)
 }
 
-/// Parses the text from the top entry with the number, and fills the slices with the steps of its tree, behind which
-/// the lexer's messages stand, and with the bytes of all messages. The result says how many of each there are.
+/// Parses the text from the top entry with the number, and fills the slices with the steps of its tree, after which
+/// the lexer's messages stand, and with the bytes of all messages. Returns how many of each there are.
 #[unsafe(no_mangle)]
 pub extern "C" fn rap_tree(
     alloc: Global,

@@ -90,9 +90,9 @@ fn weave(
     fill_weave(alloc, edition, text, tree, tree_messages, steps, messages)
 }
 
-/// Puts the trivia of the text back into a tree over its tokens, whose steps and whose messages' bytes are given, and fills
-/// the slices with its steps and with the bytes of its messages. The answer says how many of each there are, and where the
-/// last token of the tree ends.
+/// Puts the trivia of the text back into a tree over its tokens, whose steps and whose messages' bytes are given, and
+/// fills the slices with its steps and with the bytes of its messages. Returns how many of each there are, and where
+/// the last token of the tree ends.
 #[unsafe(no_mangle)]
 pub extern "C" fn rap_weave(
     alloc: Global,

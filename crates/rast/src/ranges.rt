@@ -130,8 +130,8 @@ fn printed(alloc: Global, tree: &Tree<'_>, text: &str) -> Result<Printer, NoMemo
     Ok(printer)
 }
 
-/// The lines of the text's tree, with the place of each node and leaf, and of its messages, the tree's messages before the
-/// lexer's.
+/// The lines of the text's tree, with the place of each node and leaf, and of its messages, the tree's messages before
+/// the lexer's.
 pub fn print_ranges(
     alloc: Global,
     edition: Edition,

@@ -24,7 +24,7 @@ fn fault_message<R>(fault: &TextFault<R>) -> &'static str
     }
 }
 
-/// The lines of the text's tree, with the places of its nodes and leaves where they are asked for, and of its messages.
+/// The lines of the text's tree, with the places of its nodes and leaves where they are wanted, and of its messages.
 fn print(
     alloc: Global,
     edition: Edition,
@@ -51,8 +51,8 @@ fn write_lines<W: io::Write>(out: &mut W, printer: &Printer) -> io::Result<()>
     out.flush()
 }
 
-/// Parses the text and prints its tree, with the place of each node and leaf where `ranges` says so, and its messages, the
-/// tree's before the lexer's.
+/// Parses the text and prints its tree, with the place of each node and leaf where `ranges` says so, and its messages,
+/// the tree's before the lexer's.
 ///
 /// Returns the program's status: 0 where there is no message, 1 where there is one, and 2 at a fault, which
 /// is reported on `err`. At a fault nothing is written to `out`, unless `out` itself refused a write. The error is that

@@ -39,7 +39,7 @@ pub record Holds (old : Holder) (step : StrStepValue) (new : Holder) : Type 0 wh
   pub lines : string_bytes new.lines ≡ string_bytes old.lines ++ str_line step
   pub left : new.left + 1 ≡ old.left
 
--- a step is refused: none was to be taken, and the lines stay; of want of memory nothing is claimed
+-- a step is refused: none was to be taken, and the lines stay; if it is out of memory, nothing is specified
 abbrev pub Refuses : Holder → StrStepValue → Refusal → Holder → Type 0
 Refuses old step refusal.Full new = (old.left ≡ 0) × (string_bytes new.lines ≡ string_bytes old.lines)
 Refuses old step refusal.NoMemory new = Unit {0}

@@ -1,4 +1,4 @@
-//! What is asked for: which calls, and with what.
+//! The calls to make, and their arguments.
 use ra_ap_parser::{Edition, PrefixEntryPoint, Reparser, SyntaxKind, TopEntryPoint};
 
 /// What reads an input.

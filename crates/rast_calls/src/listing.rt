@@ -41,7 +41,7 @@ fn refusal_of(
     Ok(error)
 }
 
-/// Adds the spans to show, each behind a space.
+/// Adds the spans to show, each after a space.
 fn push_spans(lines: &mut String, error: &FrontmatterError) -> Result<(), AllocError>
     ensures { OnOk result (string_bytes lines.new ≡ string_bytes lines.old ++ shown_spans error.now.visible) }
 {

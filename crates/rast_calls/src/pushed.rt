@@ -13,11 +13,11 @@ pub enum CallFault {
     TextTooLong,
     /// There are more tokens than the parser takes.
     TooManyTokens,
-    /// The node is to begin with a `{`, and the input does not.
+    /// The node must begin with a `{`, and the input does not.
     NoBrace,
     /// The kind is no token's, or the end's.
     NoToken,
-    /// A growth was refused for want of memory.
+    /// Out of memory: the allocator refused a request.
     NoMemory,
 }
 

@@ -1,4 +1,4 @@
-//! What a command line asks for.
+//! The arguments of a command line.
 use crate::asked::{Asked, Token, Tokens, Way};
 use ra_ap_parser::{Edition, Reparser, SyntaxKind};
 use rast_print::asked::{Prefix, read_kind};
@@ -67,7 +67,7 @@ fn read_tokens(args: &mut Args, is_identifier: bool) -> Option<Tokens> {
     })
 }
 
-/// Reads the words behind `frontmatter`.
+/// Reads the words after `frontmatter`.
 fn read_frontmatter(args: &mut Args) -> Option<Asked> {
     let message = args.next()?;
     let (start, end) = (read_number(args)?, read_number(args)?);
@@ -80,7 +80,7 @@ fn read_frontmatter(args: &mut Args) -> Option<Asked> {
     })
 }
 
-/// Reads the words behind `sink`, without the file.
+/// Reads the words after `sink`, without the file.
 fn read_sink(args: &mut Args) -> Option<Asked> {
     let count = read_number(args)?;
     let (Some(entry), Some(edition)) = (args.next(), args.next()) else {
@@ -110,7 +110,7 @@ fn read_asked(args: &mut Args, word: &str) -> Option<Asked> {
     }
 }
 
-/// Reads the program's words. Nothing where they are others, or more or fewer.
+/// Reads the program's arguments. `None` for any other words.
 pub fn read_request<R: Env + AllocGlobal>(rt: &R) -> Option<Request> {
     let mut args = env::args(rt).ok()?;
     let _program = args.next();

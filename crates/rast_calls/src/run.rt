@@ -1,4 +1,4 @@
-//! All that the program does once its words and its file are read.
+//! The work of the program once its arguments and its file are read.
 ghost use Rattle.std.specs.Prelude.{◌≡◌, ◌⊎◌, IfErr, IfOk, OnOk, string_bytes};
 ghost use Rattle.std.specs.Io.KnownBytes.{Appends};
 ghost use Rattle.rast_calls.specs.Page.{IfStops, Shows};
@@ -32,10 +32,10 @@ fn write_lines<W: io::Write>(out: &mut W, lines: &str) -> io::Result<()>
     out.flush()
 }
 
-/// Makes the calls that are asked for, and writes what they return.
+/// Makes the calls that the arguments name, and writes their results.
 ///
-/// Gives the program's status: 0 where it is written, and 2 at a fault, which is reported on `err`. At a fault nothing is
-/// written to `out`, unless `out` itself refused a write. The error is that of `err`, where it refused the report.
+/// Gives the program's status: 0 where it is written, and 2 at a fault, which is reported on `err`. At a fault nothing
+/// is written to `out`, unless `out` itself refused a write. The error is that of `err`, where it refused the report.
 pub fn run<W: io::Write, V: io::Write>(
     alloc: Global,
     asked: &Asked,

@@ -14,7 +14,7 @@ use std::fmt::Write as _;
 pub enum Refusal {
     /// So many steps were taken as were to be.
     Full,
-    /// A growth was refused for want of memory.
+    /// Out of memory: the allocator refused a request.
     NoMemory,
 }
 
@@ -110,7 +110,7 @@ impl StrSink for Holder {
     }
 }
 
-/// The line of whether the sink has been handed all of the text.
+/// The line of whether all of the text was passed to the sink.
 fn answer_of(whole: bool) -> &'static str
     ensures { result.now ≡ answer_line whole }
 {

@@ -101,7 +101,7 @@ fn push_records(page: &mut String, input: &Input) -> Result<(), AllocError>
     Ok(())
 }
 
-/// Lists what the parser reads of the text: for each token that is no trivia its kind, the keyword that an
+/// Lists the parser's input of the text: for each token that is no trivia its kind, the keyword that an
 /// identifier may be read as, and whether it touches the next token.
 pub fn list_input(alloc: Global, edition: Edition, text: &str) -> Result<Page, LexFault>
     ensures lists { IfOk result (ListsInput text.now edition) }
@@ -173,7 +173,7 @@ fn list_parts(alloc: Global, script: &ScriptSource<'_>) -> Result<String, AllocE
     Ok(lines)
 }
 
-/// Adds spans, each behind a space.
+/// Adds spans, each after a space.
 fn push_spans(lines: &mut String, spans: &[Span]) -> Result<(), AllocError>
     ensures { OnOk result (string_bytes lines.new ≡ string_bytes lines.old ++ shown_spans spans.now) }
 {

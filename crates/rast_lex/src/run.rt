@@ -45,7 +45,7 @@ impl FromStr for Listing {
     }
 }
 
-/// Lists what is asked.
+/// Lists what the arguments name.
 fn list(alloc: Global, edition: Edition, listing: Listing, text: &str) -> Result<Page, LexFault>
     ensures lists { IfOk result (Lists text.now edition listing) }
     ensures fault { IfErr result (Comes text.now listing) }
@@ -76,7 +76,7 @@ fn write_lines<W: io::Write>(out: &mut W, page: &Page) -> io::Result<()>
     out.flush()
 }
 
-/// Lists what is asked of the text.
+/// Lists what the arguments name.
 ///
 /// Returns the program's status: 0 where no message is listed, 1 where there is one, and 2 at a fault, which is
 /// reported on `err`. At a fault nothing is written to `out`, unless `out` itself refused a write. The error is that of

@@ -36,7 +36,7 @@ fn push_json_escaped(out: &mut String, c: char) -> Result<(), AllocError>
 
 /// Adds the text as a JSON string.
 ///
-/// A quote and a backslash stand behind a backslash; a line feed, a carriage return and a tab are letters behind a
+/// A quote and a backslash stand after a backslash; a line feed, a carriage return and a tab are letters after a
 /// backslash; any other ASCII control character, `<`, `>`, `&` and the separators of lines and paragraphs (U+2028,
 /// U+2029) are `\uhhhh`; all else stands as it is. The string's grammar is that of RFC 8259, section 7. Without `<` it
 /// ends no `script` element and opens no comment (the HTML standard, "Restrictions for contents of script elements").

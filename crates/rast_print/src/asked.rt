@@ -1,4 +1,4 @@
-//! What is asked of a text beside its tree, by the names of what is asked for.
+//! The lists of a text besides its tree, by their names.
 ghost use Rattle.std.specs.Prelude.{◌≡◌};
 ghost use Rattle.rast_print.specs.AskedName.{IsKindOf, IsReadAs, IsNamed, name_of_prefix, name_of_kind};
 
@@ -13,7 +13,7 @@ const KINDS: u16 = 330;
 pub enum Asked {
     /// The steps of a whole input.
     Steps(TopEntryPoint),
-    /// The steps of what stands at the front, and where it ends.
+    /// The steps of a prefix, and where it ends.
     Prefix(PrefixEntryPoint),
     /// A node that is parsed again, by its kind, that of its first child and that of its parent.
     Reparse {
@@ -85,7 +85,7 @@ fn kind_named(name: &str) -> Option<SyntaxKind>
     None
 }
 
-/// The kind with this name, or that there is none, which a dash says. Nothing where the word is no kind's name.
+/// The kind with this name, or that there is none, which a dash says. `None` if the word is no kind's name.
 pub fn read_kind(word: &str) -> Option<Option<SyntaxKind>>
     ensures { IsReadAs word.now result }
 {

@@ -30,9 +30,9 @@ pub enum ListFault {
     TextTooLong,
     /// The text has more tokens than the parser takes.
     TooManyTokens,
-    /// The node is to begin with a `{`, and the text does not.
+    /// The node must begin with a `{`, and the text does not.
     NoBrace,
-    /// Out of memory: a growth was refused.
+    /// Out of memory: the allocator refused a request.
     NoMemory,
 }
 
@@ -141,7 +141,7 @@ fn push_tree(
     Ok(())
 }
 
-/// Adds the lines of the tree behind a line that says so, where the output is one tree.
+/// Adds the lines of the tree after a line that says so, where the output is one tree.
 #[tactic(auto, using(crate::proofs::Listings::no_tree, crate::proofs::Listings::a_tree))]
 fn push_tree_part(
     alloc: Global,
@@ -160,14 +160,14 @@ fn push_tree_part(
     Ok(())
 }
 
-/// A text as the parser reads it.
+/// A text and the parser's input of it.
 #[derive(Drop)]
 struct Reading<'t> {
     lexed: LexedStr<'t>,
     input: Input,
 }
 
-/// Cuts the text into tokens, and leaves the trivia out.
+/// Divides the text into tokens, and leaves the trivia out.
 fn read(alloc: Global, edition: Edition, text: &str) -> Result<Reading<'_>, ListFault>
     ensures small { IfOk result (λ _. length text.now ≤ 4294967295) }
     ensures lexing { IfOk result (λ r. IsLexing text.now edition r.lexed) }
@@ -201,7 +201,7 @@ fn list_steps(
     Ok(lines)
 }
 
-/// Lists the steps of what stands at the front of the text and where it ends, and where it is one tree that tree.
+/// Lists the steps of a prefix of the text and where it ends, and where it is one tree that tree.
 #[tactic(auto, using(crate::proofs::Listings::too_many))]
 fn list_prefix(
     alloc: Global,
@@ -256,7 +256,7 @@ fn list_node(
     Ok(lines)
 }
 
-/// Lists what is asked of the text.
+/// Lists what the arguments name.
 pub fn list(alloc: Global, edition: Edition, asked: Asked, text: &str) -> Result<String, ListFault>
     ensures lists { IfOk result (λ lines. Lists text.now edition asked (string_bytes lines)) }
     ensures fault { IfErr result (Comes text.now edition asked) }

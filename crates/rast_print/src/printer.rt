@@ -1,4 +1,4 @@
-//! A sink that writes a tree down.
+//! A sink that prints a tree.
 ghost use Rattle.std.specs.Prelude.{◌≡◌, ◌+◌, ◌^◌, ◌-◌, ◌++◌, [], IfOk, OnOk, min, length, string_bytes, codes, chars};
 ghost use Rattle.rap_base.specs.Names.{name_of};
 ghost use Rattle.rast_common.specs.Quote.{quoted};
@@ -18,7 +18,7 @@ pub struct Printer {
     pub depth: usize,
 }
 
-/// Begins a line with the kind's name, behind two spaces for each open node.
+/// Begins a line with the kind's name, after two spaces for each open node.
 pub fn push_kind(lines: &mut String, depth: usize, kind: SyntaxKind) -> Result<(), AllocError>
     ensures { OnOk result (string_bytes lines.new ≡ string_bytes lines.old ++ (indent depth ++ name_of kind)) }
 {
@@ -80,7 +80,7 @@ impl StrSink for Printer {
 
     ghost takes = { Prints };
 
-    // Once out of memory, nothing is claimed of the lines.
+    // After a call that was out of memory, nothing is specified about the lines.
     ghost refuses = { λ _ _ _ _. Unit {0} };
 
     fn step(&mut self, step: StrStep<'_>) -> Result<(), NoMemory> {

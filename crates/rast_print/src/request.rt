@@ -1,4 +1,4 @@
-//! What a command line asks for.
+//! The arguments of a command line.
 
 use crate::entry::Entry;
 use ra_ap_parser::{Edition, TopEntryPoint};
@@ -13,7 +13,7 @@ pub struct Request {
     pub file: String,
 }
 
-/// Reads the program's words `EDITION ENTRY FILE`. Nothing where they are others, or more or fewer.
+/// Reads the program's arguments `EDITION ENTRY FILE`. `None` for any other words.
 pub fn read_request<R: Env + AllocGlobal>(rt: &R) -> Option<Request> {
     let mut args = env::args(rt).ok()?;
     let _program = args.next();
@@ -26,8 +26,8 @@ pub fn read_request<R: Env + AllocGlobal>(rt: &R) -> Option<Request> {
     request_of(edition.as_str(), entry.as_str(), file)
 }
 
-/// Reads the program's words `EDITION ENTRY FILE [ranges]`, and whether the last one is there. Nothing where they are
-/// others, or more or fewer.
+/// Reads the program's arguments `EDITION ENTRY FILE [ranges]`, and whether the last one is there. `None` for any other
+/// words.
 pub fn read_tree_request<R: Env + AllocGlobal>(rt: &R) -> Option<(Request, bool)> {
     let mut args = env::args(rt).ok()?;
     let _program = args.next();

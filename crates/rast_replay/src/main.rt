@@ -1,5 +1,5 @@
-//! `rast_replay FILE` reads a file of texts, each with the hash of what another parser prints of it, and prints those of
-//! which this one prints something else.
+//! `rast_replay FILE` reads a file of texts, each with the hash of what another parser prints of it, and prints those
+//! of which this one prints something else.
 #![tactic(auto)]
 
 mod hash;

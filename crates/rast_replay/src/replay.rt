@@ -13,7 +13,7 @@ use std::io;
 /// Why the rows were not all replayed.
 #[derive(Drop)]
 enum Fault {
-    /// A text was not printed: memory is wanting.
+    /// A text was not printed: out of memory.
     Text(TextFault<NoMemory>),
     /// A line was not written.
     Write(io::Error),
@@ -38,8 +38,8 @@ struct Count {
     different: usize,
 }
 
-/// Whether the line is as this library reads its text. Where it is not, it is printed behind `- `, and then what it
-/// would be behind `+ `, unless it is no row.
+/// Whether the line is as this library reads its text. Where it is not, it is printed after `- `, and then what it
+/// would be after `+ `, unless it is no row.
 fn is_same<W: io::Write>(alloc: Global, line: &str, out: &mut W) -> Result<bool, Fault>
     ensures { IfOk result (λ same. IsTrue same → IsRow line.now) }
 {

@@ -1,6 +1,7 @@
 //! Rows: a text with the hash of what is printed of it, a line each.
 //!
-//! `EDITION WAY HASH TEXT`: the year, how the text is read, the hash in sixteen hexadecimal digits, and the text in quotes.
+//! `EDITION WAY HASH TEXT`: the year, how the text is read, the hash in sixteen hexadecimal digits, and the text in
+//! quotes.
 ghost use Rattle.std.specs.Prelude.{◌≡◌, IfOk, IfSome, string_bytes};
 ghost use Rattle.rast_replay.specs.Row.{IsRow, row_line};
 ghost use Rattle.rast_replay.specs.Way.{IsHash, name_of_way};

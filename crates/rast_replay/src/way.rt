@@ -1,8 +1,8 @@
 //! How the text of a row is read, and what the row calls it.
 //!
-//! `Expr` and the other top entry points: the lines of the text's tree and messages. `steps/Expr`: the steps of the whole
-//! text. `prefix/Expr` and the other prefix entry points: what stands at the front. `reparse/NODE/FIRST/PARENT`: a node
-//! that is parsed again, by its kind, that of its first child and that of its parent, with a dash for none.
+//! `Expr` and the other top entry points: the lines of the text's tree and messages. `steps/Expr`: the steps of the
+//! whole text. `prefix/Expr` and the other prefix entry points: a prefix. `reparse/NODE/FIRST/PARENT`: a node that is
+//! parsed again, by its kind, that of its first child and that of its parent, with a dash for none.
 ghost use Rattle.std.specs.Prelude.{◌≡◌, ◌++◌, OnOk, string_bytes};
 ghost use Rattle.rast_replay.specs.Way.{name_of_way, name_of_asked};
 
@@ -21,7 +21,7 @@ pub enum Way {
     List(Asked),
 }
 
-/// Reads `NODE/FIRST/PARENT`. Nothing where the words are others.
+/// Reads `NODE/FIRST/PARENT`. `None` for any other words.
 fn read_node(words: &str) -> Option<Asked> {
     let (node, rest) = words.split_once('/')?;
     let (first, parent) = rest.split_once('/')?;
@@ -32,7 +32,7 @@ fn read_node(words: &str) -> Option<Asked> {
     })
 }
 
-/// Reads what is listed of a text. Nothing where the words are others.
+/// Reads what is listed of a text. `None` for any other words.
 fn read_asked(word: &str, rest: &str) -> Option<Asked> {
     match word {
         "steps" => {
@@ -48,9 +48,9 @@ fn read_asked(word: &str, rest: &str) -> Option<Asked> {
     }
 }
 
-/// Reads how a text is read. Nothing where it is no name of a way.
+/// Reads how a text is read. `None` if the word names no way.
 ///
-/// Nothing is claimed of it: who reads a name so writes it again, and compares.
+/// The contract promises nothing of the result: the caller prints the way's name and compares it with what it has read.
 pub fn read_way(name: &str) -> Option<Way> {
     let Some((word, rest)) = name.split_once('/') else {
         let Entry(entry) = name.parse::<Entry>().ok()?;

@@ -13,7 +13,7 @@ use std::io;
 enum Fault {
     /// A section does not say how its texts are read, or a text has no end.
     Table,
-    /// A text was not read: memory is wanting.
+    /// A text was not read: out of memory.
     NoMemory,
     /// A line was not written.
     Write(io::Error),
@@ -38,8 +38,8 @@ struct Count {
     different: usize,
 }
 
-/// Whether the text is read as its row says. Where it is not, it is printed behind `- `, then what it was to be, and
-/// then what it is behind `+ `.
+/// Whether the text is read as its row says. Where it is not, it is printed after `- `, then what it was to be, and
+/// then what it is after `+ `.
 fn is_same<W: io::Write>(
     alloc: Global,
     (edition, entry): (Edition, TopEntryPoint),

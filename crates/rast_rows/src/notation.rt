@@ -1,12 +1,13 @@
 //! Trees in one line.
 //!
-//! `K(..)` is a node with its children and `K"t"` a leaf; `_` is a leaf of one space. In what is written by hand `P:a` is
-//! the path that is the name `a`, `E:a` and `T:a` the expression and the type that are that path, and `¶` a line feed.
+//! `K(..)` is a node with its children and `K"t"` a leaf; `_` is a leaf of one space. In what is written by hand `P:a`
+//! is the path that is the name `a`, `E:a` and `T:a` the expression and the type that are that path, and `¶` a line
+//! feed.
 use ra_ap_parser::{NoMemory, StrSink, StrStep, SyntaxKind};
 use std::alloc::{AllocError, Global};
 use std::fmt::Write as _;
 
-/// Writes a tree down in one line, and its messages in another, each behind a bar and its place.
+/// Writes a tree down in one line, and its messages in another, each after a bar and its place.
 #[derive(Drop)]
 pub struct Notation {
     pub tree: String,

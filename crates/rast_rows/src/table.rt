@@ -1,8 +1,8 @@
 //! Tables of texts with their trees and messages.
 //!
-//! A line `@ ENTRY EDITION` says how the texts below it are read. Each text stands between `«` and `»`; behind it
-//! stands its tree, on any number of lines, and each message in a line of its own behind a bar, with its place, a
-//! further line of a message behind two bars. What stands behind `# ` is for the reader.
+//! A line `@ ENTRY EDITION` says how the texts below it are read. Each text stands between `«` and `»`; after it
+//! stands its tree, on any number of lines, and each message in a line of its own after a bar, with its place, a
+//! further line of a message after two bars. What stands after `# ` is for the reader.
 use crate::notation::{spelled_out, with_line_feeds};
 use ra_ap_parser::{Edition, TopEntryPoint};
 use rast_print::entry::Entry;
@@ -16,7 +16,7 @@ pub struct Row {
     pub messages: String,
 }
 
-/// How the texts of a table are read, and the table. Nothing where the first line is another.
+/// How the texts of a table are read, and the table. `None` if the first line is different.
 pub fn read_head(section: &str) -> Option<(Edition, TopEntryPoint, &str)> {
     let (head, table) = section.split_once('\n')?;
     let (entry, year) = head.split_once(' ')?;
@@ -46,7 +46,7 @@ fn tree_and_messages(alloc: Global, lines: &str) -> Result<(String, String), All
     Ok((tree, messages))
 }
 
-/// A row, from its text on. Nothing where the text has no end.
+/// A row, from its text on. `None` if the text has no end.
 pub fn read_row(alloc: Global, row: &str) -> Result<Option<Row>, AllocError> {
     let Some((text, lines)) = row.split_once('»') else {
         return Ok(None);

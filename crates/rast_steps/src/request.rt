@@ -1,4 +1,4 @@
-//! What a command line asks for.
+//! The arguments of a command line.
 use ra_ap_parser::Edition;
 use rast_print::asked::{Asked, Prefix, read_kind};
 use rast_print::entry::Entry;
@@ -13,7 +13,7 @@ pub struct Request {
     pub file: String,
 }
 
-/// Reads the words of what is to be listed. Nothing where they are others.
+/// Reads the words of what is to be listed. `None` for any other words.
 fn read_asked(args: &mut Args) -> Option<Asked> {
     let word = args.next()?;
     match word.as_str() {
@@ -42,7 +42,7 @@ fn read_asked(args: &mut Args) -> Option<Asked> {
     }
 }
 
-/// Reads the program's words. Nothing where they are others, or more or fewer.
+/// Reads the program's arguments. `None` for any other words.
 pub fn read_request<R: Env + AllocGlobal>(rt: &R) -> Option<Request> {
     let mut args = env::args(rt).ok()?;
     let _program = args.next();

@@ -31,7 +31,7 @@ fn write_lines<W: io::Write>(out: &mut W, lines: &str) -> io::Result<()>
     out.flush()
 }
 
-/// Lists what is asked of the text.
+/// Lists what the arguments name.
 ///
 /// Returns the program's status: 0 where it is listed, and 2 at a fault, which is reported on `err`. At a fault nothing
 /// is written to `out`, unless `out` itself refused a write. The error is that of `err`, where it refused the report.

@@ -107,7 +107,7 @@ impl StrSink for Builder {
 
     ghost takes = { Builds };
 
-    // After want of memory nothing is claimed of what was built.
+    // After a call that was out of memory, nothing is specified about what was built.
     ghost refuses = { λ _ _ _ _. Unit {0} };
 
     fn step(&mut self, step: StrStep<'_>) -> Result<(), NoMemory> {

@@ -64,7 +64,7 @@ impl StrSink for Collector {
 
     ghost takes = { Collects };
 
-    // After want of memory nothing is claimed of what was kept.
+    // After a call that was out of memory, nothing is specified about what was kept.
     ghost refuses = { λ _ _ _ _. Unit {0} };
 
     fn step(&mut self, step: StrStep<'_>) -> Result<(), NoMemory> {

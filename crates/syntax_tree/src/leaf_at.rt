@@ -12,10 +12,10 @@ use crate::node::{Child, Node};
 use crate::tree::Tree;
 
 impl Tree<'_> {
-    /// The leaf that holds the byte at this offset in the text: the one that begins there or before, and ends behind it.
-    /// `None` exactly at the end of the text and behind it. The tree must have the places of a text, as [`Tree::build`]
+    /// The leaf that holds the byte at this offset in the text: the one that begins there or before, and ends after it.
+    /// `None` exactly at the end of the text and after it. The tree must have the places of a text, as [`Tree::build`]
     /// and [`Tree::of_text`] return it. On each level it searches the
-    /// children of one node by halves, and it takes no memory.
+    /// children of one node by halves, and it allocates no memory.
     pub fn leaf_at(&self, offset: usize) -> Option<Leaf>
         requires { (forest : StrForest) × Ranged forest self.now.root }
         ensures leaf { result ≡ leaf_of_byte offset self.now.root.children }
@@ -35,7 +35,7 @@ fn end_of(child: &Child) -> usize
     }
 }
 
-/// The first child that ends behind a byte.
+/// The first child that ends after a byte.
 fn child_behind(children: &[Child], offset: usize) -> Option<&Child>
     requires { IsNonDecreasingBy child_end children.now }
     ensures { option_copied result ≡ find (ends_behind offset) children.now }

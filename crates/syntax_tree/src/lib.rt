@@ -1,7 +1,7 @@
 //! Syntax trees that own their nodes: each node and each leaf has its kind and its exact place in the text.
 //!
-//! [`Tree::build`] makes the tree of a lexed text and of what a parse gives; [`Tree::root`] is its root, and each
-//! [`Node`] hands out its children.
+//! [`Tree::build`] makes the tree of a lexed text and the output of its parse; [`Tree::root`] is its root, and each
+//! [`Node`] returns its children.
 #![tactic(auto)]
 
 mod builder;

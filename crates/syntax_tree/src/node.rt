@@ -105,7 +105,8 @@ impl Drop for Node {
     }
 }
 
-/// Drops nodes and leaves with all that stands below them. Takes no memory, and no more stack for a deeper tree.
+/// Drops nodes and leaves with all that stands below them. No memory is allocated, and a deeper tree takes no more
+/// stack.
 ///
 /// The list at which it is holds, as its last node's children, the list that it came from; room for that was made by
 /// the node that it went into.

@@ -1,4 +1,4 @@
-//! Questions about a tree.
+//! Queries on a tree.
 ghost use Rattle.std.specs.Prelude.{◌≡◌, option_copied};
 ghost use Rattle.syntax_tree.specs.Queries.{first_of_kind};
 

@@ -34,10 +34,10 @@ pub struct Tree<'t> {
 impl<'t> Tree<'t> {
     /// The tree of an output over a lexed text, with the trivia that the parser left out put back.
     ///
-    /// It asks what [`LexedStr::intersperse_trivia`] asks, and has the nodes and leaves that that call hands out, in order.
+    /// It requires what [`LexedStr::intersperse_trivia`] requires, and has the nodes and leaves of that call, in order.
     /// The first leaf begins at 0, each further one where the leaf before it ends, and each is as long as its text. A
     /// node begins where the leaves before it end, and ends where its own last leaf ends; a node without a leaf is
-    /// empty. The output's messages are not kept. The error is want of memory.
+    /// empty. The output's messages are not kept. The error means out of memory.
     pub fn build(alloc: Global, lexed: &LexedStr<'t>, output: &Output) -> Result<Tree<'t>, NoMemory>
         requires tree { one_tree output.now ≡ true }
         requires prefix { (edition : Edition) × (covers (records lexed.now.tokens edition) output.now ≡ true) }
@@ -58,10 +58,10 @@ impl<'t> Tree<'t> {
         })
     }
 
-    /// The tree of a text, from its bytes on: the text is cut into tokens, and parsed from the entry point. The tree keeps
-    /// the messages.
+    /// The tree of a text, from its bytes on: the text is divided into tokens, and parsed from the entry point. The
+    /// tree keeps the messages.
     ///
-    /// The errors are those of [`parse_text`]; where the memory for a node or a message is wanting, the error is `Refused`.
+    /// The errors are those of [`parse_text`]; if a node or a message is out of memory, the error is `Refused`.
     pub fn of_text(
         alloc: Global,
         edition: Edition,
@@ -90,8 +90,8 @@ impl<'t> Tree<'t> {
         })
     }
 
-    /// The messages: none after [`Tree::build`]; after [`Tree::of_text`] those of the parser in the order of the tree, and
-    /// after them those of the lexer in the order of their tokens.
+    /// The messages: none after [`Tree::build`]; after [`Tree::of_text`] those of the parser in the order of the tree,
+    /// and after them those of the lexer in the order of their tokens.
     pub fn messages(&self) -> &[Message]
         ensures { result.now ≡ self.now.messages.items }
     {
@@ -105,7 +105,7 @@ impl<'t> Tree<'t> {
         &self.root
     }
 
-    /// The text of a node: that of its range. Takes no memory, and copies nothing.
+    /// The text of a node: that of its range. No memory is allocated, and nothing is copied.
     pub fn text_of(&self, node: &Node) -> &'t str
         requires { IsPlace self.now.text.now node.now.start node.now.end }
         ensures { result.now ≡ slice_range self.now.text.now node.now.start node.now.end }

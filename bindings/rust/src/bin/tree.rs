@@ -3,7 +3,7 @@ use ra_ap_parser::{Edition, LexedStr, StrStep, TopEntryPoint};
 use std::fmt::Write as _;
 use std::process::ExitCode;
 
-/// Adds a text in quotes; a quote, a backslash and a control character stand behind a backslash.
+/// Adds a text in quotes; a quote, a backslash and a control character stand after a backslash.
 fn push_quoted(lines: &mut String, text: &str) {
     lines.push('"');
     for c in text.chars() {

@@ -93,7 +93,7 @@ fn push_message(messages: &mut String, at: u32, message: &str) {
 }
 
 /// The tree of a text in numbers of 32 bits, the lowest byte first: how many there are, then those of the steps, and
-/// behind them the messages as JSON, each with its place before it.
+/// after them the messages as JSON, each with its place before it.
 ///
 /// A node's begin is its kind times four and 1; a token its kind times four and 2, and its length; a node's end is 0.
 pub fn answer_to(asked: &Asked) -> Vec<u8> {

@@ -20,7 +20,7 @@ const POLICY: &str = "Content-Security-Policy: default-src 'none'; script-src 's
 pub struct Request {
     pub method: String,
     pub path: String,
-    /// What stands behind the question mark of the target.
+    /// What stands after the question mark of the target.
     pub query: String,
     pub host: Option<String>,
     pub origin: Option<String>,
