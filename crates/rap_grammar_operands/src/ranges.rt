@@ -22,7 +22,7 @@ use rap_grammar_scripts::T;
 use rap_grammar_scripts::arguments::Restrictions;
 
 /// Whether the dots of a range have an end after them: not in `(1..).max()`, nor before the block of `for i in 1.. {}`.
-#[tactic(auto, unfolding(rap_grammar_scripts::specs::Expressions::has_end))]
+#[tactic(auto, unfolding(rap_grammar_scripts::specs::Expressions::has_range_end))]
 fn has_range_end(p: &Parser<'_>, r: Restrictions) -> bool
     ensures { result ≡ has_range_end r.forbid_structs (state p.now).rest }
 {
