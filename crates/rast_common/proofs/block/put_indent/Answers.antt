@@ -1,5 +1,4 @@
-use Rattle.std.proofs.Common.{rules, ◌≡◌, ◌*◌, ◌≤◌, take, arith, codes}
-use Rattle.rast_common.specs.Indented.{indent}
+use Rattle.std.proofs.Common.{rules, ◌≤◌}
 use Rattle.rast_common.proofs.Spelling.{indent-more, spaces_are}
 use Rattle.rast_common.proofs.block.put_indent.Goals as goal
 
