@@ -1,5 +1,5 @@
 -- What is listed of an output.
-use Rattle.std.proofs.Common.{◌≡◌, ℕ, ◌+◌, ◌≤◌, ◌<◌, List, [], ◌++◌, true, false, codes, ap, subst, sym, ◌∙◌, append_assoc, append-nil, length}
+use Rattle.std.proofs.Common.{◌≡◌, ℕ, ◌≤◌, ◌<◌, List, [], ◌++◌, true, false, codes, ap, subst, sym, ◌∙◌, append_assoc, append-nil, length}
 use Rattle.std.proofs.lemmas.Bool.{cond-true, cond-false}
 use Rattle.rap_base.specs.declared.edition.Edition.{Edition}
 use Rattle.rap_events.specs.Record.{Record}
