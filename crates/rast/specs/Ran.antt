@@ -34,7 +34,7 @@ pub record ArePrinted (ranges : Bool) (text : List ℕ) (edition : Edition) (ent
   pub lexed : Lexed
   pub forest : Forest
   pub parsed : IsParsed text edition entry lexed forest
-  pub tree : string_bytes printer.tree ≡ tree_lines ranges text (with_trivia lexed.tokens forest)
+  pub tree : printer.tree ≡ tree_lines ranges text (with_trivia lexed.tokens forest)
   pub messages : string_bytes printer.messages ≡ all_reported lexed forest
 
 -- All lines were there, and the output refused a write.

@@ -2,8 +2,8 @@
 use Rattle.std.specs.Prelude.{ℕ, ◌+◌, List, [], ◌++◌, codes, chars, slice_range}
 use Rattle.std.specs.Fmt.{decimal}
 use Rattle.rap_base.specs.Names.{name_of}
+use Rattle.rast_common.specs.Indented.{indent}
 use Rattle.rast_common.specs.Quote.{quoted}
-use Rattle.rast_print.specs.Printed.{indent}
 use Rattle.syntax_tree.specs.RangedForest.{RangedForest, ranged_none, ranged_node, ranged_leaf}
 
 -- where something begins and ends

@@ -9,17 +9,16 @@ ghost use Rattle.syntax_tree.specs.Places.{HavePlaces, IsPlace};
 ghost use Rattle.syntax_tree.specs.RangedForest.{alone, ranged_none, forest_size};
 
 use ra_ap_parser::{Edition, NoMemory, SyntaxKind, TextFault, TopEntryPoint};
+use rast_common::indented::IndentedText;
 use rast_common::message::push_message;
-use rast_common::quote::push_quoted;
 use rast_print::printer::{Printer, push_kind};
 use std::alloc::{AllocError, Global};
-use std::fmt::Write as _;
 use std::ops::Range;
 use syntax_tree::{Child, Message, Node, Tree};
 
 /// Adds where something begins and ends.
-fn push_place(lines: &mut String, range: &Range<usize>) -> Result<(), AllocError>
-    ensures { OnOk result (string_bytes lines.new ≡ string_bytes lines.old ++ place range.now.start range.now.end) }
+fn push_place(lines: &mut IndentedText, range: &Range<usize>) -> Result<(), AllocError>
+    ensures { OnOk result (lines.new ≡ lines.old ++ place range.now.start range.now.end) }
 {
     let start = range.start;
     let end = range.end;
@@ -28,9 +27,9 @@ fn push_place(lines: &mut String, range: &Range<usize>) -> Result<(), AllocError
 }
 
 /// Adds a node's line.
-fn push_node(lines: &mut String, depth: usize, node: &Node) -> Result<(), AllocError>
-    ensures { OnOk result (string_bytes lines.new
-        ≡ string_bytes lines.old ++ node_line depth node.now.kind node.now.start node.now.end) }
+fn push_node(lines: &mut IndentedText, depth: usize, node: &Node) -> Result<(), AllocError>
+    ensures { OnOk result (lines.new
+        ≡ lines.old ++ node_line depth node.now.kind node.now.start node.now.end) }
 {
     push_kind(lines, depth, node.kind())?;
     push_place(lines, &node.range())?;
@@ -40,27 +39,27 @@ fn push_node(lines: &mut String, depth: usize, node: &Node) -> Result<(), AllocE
 
 /// Adds a leaf's line.
 fn push_leaf(
-    lines: &mut String,
+    lines: &mut IndentedText,
     depth: usize,
     kind: SyntaxKind,
     range: &Range<usize>,
     text: &str,
 ) -> Result<(), AllocError>
     requires { IsPlace text.now range.now.start range.now.end }
-    ensures { OnOk result (string_bytes lines.new
-        ≡ string_bytes lines.old ++ leaf_line text.now depth kind range.now.start range.now.end) }
+    ensures { OnOk result (lines.new
+        ≡ lines.old ++ leaf_line text.now depth kind range.now.start range.now.end) }
 {
     push_kind(lines, depth, kind)?;
     push_place(lines, range)?;
     lines.push_str(" ")?;
-    push_quoted(lines, &text[range.start..range.end])?;
+    lines.push_quoted(&text[range.start..range.end])?;
     lines.push_str("\n")?;
     Ok(())
 }
 
 /// Adds a child's line, and leaves its children.
 fn push_child<'a>(
-    lines: &mut String,
+    lines: &mut IndentedText,
     lists: &mut Vec<&'a [Child]>,
     depth: usize,
     child: &'a Child,
@@ -69,8 +68,8 @@ fn push_child<'a>(
     requires deep { depth ≡ length lists.old.items }
     requires placed { HavePlaces text.now (with_child ranged_none child.now) }
     requires all_placed { AllPlaced text.now lists.old.items }
-    ensures lines { OnOk result (string_bytes lines.new ++ pending text.now 1 lists.new.items
-        ≡ string_bytes lines.old ++ (child_lines text.now depth child.now ++ pending text.now 1 lists.old.items)) }
+    ensures lines { OnOk result (lines.new ++ pending text.now 1 lists.new.items
+        ≡ lines.old ++ (child_lines text.now depth child.now ++ pending text.now 1 lists.old.items)) }
     ensures placed { OnOk result (AllPlaced text.now lists.new.items) }
     ensures smaller { OnOk result (pending_size lists.new.items
         < pending_size lists.old.items + (2 * forest_size (with_child ranged_none child.now))) }
@@ -89,10 +88,15 @@ fn push_child<'a>(
 }
 
 /// Adds the lines of a node's children, and of all that stands in them.
-fn push_children(alloc: Global, lines: &mut String, root: &Node, text: &str) -> Result<(), NoMemory>
+fn push_children(
+    alloc: Global,
+    lines: &mut IndentedText,
+    root: &Node,
+    text: &str,
+) -> Result<(), NoMemory>
     requires { HavePlaces text.now root.now.children }
-    ensures { OnOk result (string_bytes lines.new
-        ≡ string_bytes lines.old ++ ranged_lines text.now 1 root.now.children) }
+    ensures { OnOk result (lines.new
+        ≡ lines.old ++ ranged_lines text.now 1 root.now.children) }
 {
     let mut lists = Vec::new(alloc);
     lists.push(root.children())?;
@@ -120,7 +124,7 @@ fn push_messages(lines: &mut String, messages: &[Message]) -> Result<(), AllocEr
 /// The lines of a tree and of its messages.
 fn printed(alloc: Global, tree: &Tree<'_>, text: &str) -> Result<Printer, NoMemory>
     requires { HavePlaces text.now (alone tree.now.root) }
-    ensures tree { IfOk result (λ printer. string_bytes printer.tree ≡ ranged_lines text.now 0 (alone tree.now.root)) }
+    ensures tree { IfOk result (λ printer. printer.tree ≡ ranged_lines text.now 0 (alone tree.now.root)) }
     ensures messages { IfOk result (λ printer. string_bytes printer.messages ≡ told_lines tree.now.messages.items) }
 {
     let mut printer = Printer::new(alloc);

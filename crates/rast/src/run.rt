@@ -44,9 +44,9 @@ fn print(
 
 /// Writes the tree's lines and then the messages'.
 fn write_lines<W: io::Write>(out: &mut W, printer: &Printer) -> io::Result<()>
-    ensures { OnOk result (Appends (W.contents out.old) (W.contents out.new) (string_bytes printer.now.tree ++ string_bytes printer.now.messages)) }
+    ensures { OnOk result (Appends (W.contents out.old) (W.contents out.new) (printer.now.tree ++ string_bytes printer.now.messages)) }
 {
-    out.write_all(printer.tree.as_bytes())?;
+    printer.tree.write_to(out)?;
     out.write_all(printer.messages.as_bytes())?;
     out.flush()
 }

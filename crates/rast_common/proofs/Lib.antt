@@ -1,1 +1,2 @@
 pub mod Reported
+mod Spelling

@@ -1,2 +1,4 @@
+pub mod Indented
 pub mod Message
 pub mod Quote
+pub mod Spelled

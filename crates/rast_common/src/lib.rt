@@ -1,6 +1,8 @@
-//! What the programs share: quoted texts, messages, and how a fault is reported.
+//! What the programs share: quoted texts, messages, indented texts, and how a fault is reported.
 #![tactic(auto)]
 
+mod block;
 pub mod fault;
+pub mod indented;
 pub mod message;
 pub mod quote;

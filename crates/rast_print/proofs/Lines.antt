@@ -1,5 +1,5 @@
 -- What a printer has written along the steps of a tree.
-use Rattle.std.proofs.Common.{◌≡◌, ℕ, zero, suc, List, [], ◌∷◌, ◌++◌, ap, sym, ◌∙◌, refl, Bool, codes, string_bytes, append_assoc, append-nil}
+use Rattle.std.proofs.Common.{◌≡◌, ℕ, List, [], ◌∷◌, ◌++◌, ap, sym, ◌∙◌, Bool, string_bytes, append_assoc, append-nil}
 use Rattle.rap_base.specs.declared.edition.Edition.{Edition}
 use Rattle.rap_lexed.specs.LexedStr.{Lexed}
 use Rattle.rap_lexed.specs.StrForest.{str_flat}
@@ -8,24 +8,19 @@ use Rattle.rap_lexed.specs.StrStep.{StrStepValue}
 use Rattle.rap_lexed.specs.Trivia.{with_trivia}
 use Rattle.ra_ap_parser.specs.Headline.{Headline}
 use Rattle.ra_ap_parser.specs.declared.entry_point.TopEntryPoint.{TopEntryPoint}
-use Rattle.rast_print.specs.Printed.{indent, line, printed, reported_line, reported, lexer_reported}
+use Rattle.rast_print.specs.Printed.{line, printed, reported_line, reported, lexer_reported}
 use Rattle.rast_print.specs.Prints.{Prints}
 use Rattle.rast_print.specs.Shown.{IsPrinted}
 use Rattle.rast_print.specs.declared.printer.Printer.{Printer}
 
--- one more open node
-pub indent-suc : (depth : ℕ) → indent depth ++ codes "  " ≡ indent (suc depth)
-indent-suc zero = refl
-indent-suc (suc depth) = ap (λ l. codes "  " ++ l) (indent-suc depth)
-
-pub tree_along : (steps : List StrStepValue) (s t : Printer) → Takes Prints s steps t → string_bytes t.tree ≡ string_bytes s.tree ++ printed s.depth steps
-tree_along [] s t h = ap (λ (p : Printer). string_bytes p.tree) (sym h) ∙ sym (append-nil (string_bytes s.tree))
+pub tree_along : (steps : List StrStepValue) (s t : Printer) → Takes Prints s steps t → t.tree ≡ s.tree ++ printed s.depth steps
+tree_along [] s t h = ap (λ (p : Printer). p.tree) (sym h) ∙ sym (append-nil (s.tree))
 tree_along (x ∷ xs) s t h =
     let m = h.0 in
     tree_along xs m t h.2
     ∙ (ap (λ l. l ++ printed m.depth xs) h.1.tree
-    ∙ (append_assoc (string_bytes s.tree) (line s.depth x) (printed m.depth xs)
-    ∙ ap (λ d. string_bytes s.tree ++ (line s.depth x ++ printed d xs)) h.1.depth))
+    ∙ (append_assoc (s.tree) (line s.depth x) (printed m.depth xs)
+    ∙ ap (λ d. s.tree ++ (line s.depth x ++ printed d xs)) h.1.depth))
 
 pub messages_along : (steps : List StrStepValue) (s t : Printer) → Takes Prints s steps t → string_bytes t.messages ≡ string_bytes s.messages ++ reported steps
 messages_along [] s t h = ap (λ (p : Printer). string_bytes p.messages) (sym h) ∙ sym (append-nil (string_bytes s.messages))
@@ -37,7 +32,7 @@ messages_along (x ∷ xs) s t h =
 
 -- the lines of a tree and of all messages, from a printer that had written nothing
 pub printed_whole : (text : List ℕ) (edition : Edition) (entry : TopEntryPoint) (lexed : Lexed) (all : Bool) (s t u : Printer)
-    → string_bytes s.tree ≡ [] → string_bytes s.messages ≡ [] → s.depth ≡ 0
+    → s.tree ≡ [] → string_bytes s.messages ≡ [] → s.depth ≡ 0
     → Headline Prints text edition entry lexed all s t
     → u.tree ≡ t.tree → string_bytes u.messages ≡ string_bytes t.messages ++ lexer_reported lexed.tokens lexed.errors
     → IsPrinted text edition entry u
@@ -47,6 +42,6 @@ printed_whole text edition entry lexed all s t u no_tree no_messages no_depth h 
       lexed = lexed;
       forest = h.forest;
       parsed = h.parsed;
-      tree = ap string_bytes same ∙ (tree_along steps s t h.taken ∙ (ap (λ l. l ++ printed s.depth steps) no_tree ∙ ap (λ d. printed d steps) no_depth));
+      tree = same ∙ (tree_along steps s t h.taken ∙ (ap (λ l. l ++ printed s.depth steps) no_tree ∙ ap (λ d. printed d steps) no_depth));
       messages = more ∙ ap (λ l. l ++ lexer_reported lexed.tokens lexed.errors) (messages_along steps s t h.taken ∙ ap (λ l. l ++ reported steps) no_messages);
     }

@@ -1,5 +1,5 @@
 -- What is listed of an output.
-use Rattle.std.proofs.Common.{◌≡◌, ℕ, ◌+◌, ◌≤◌, ◌<◌, List, [], ◌++◌, true, false, codes, ap, subst, sym, ◌∙◌, append_assoc, append-nil, length}
+use Rattle.std.proofs.Common.{◌≡◌, ℕ, ◌≤◌, ◌<◌, List, [], ◌++◌, true, false, codes, ap, subst, sym, ◌∙◌, append_assoc, append-nil, length}
 use Rattle.std.proofs.lemmas.Bool.{cond-true, cond-false}
 use Rattle.rap_base.specs.declared.edition.Edition.{Edition}
 use Rattle.rap_events.specs.Record.{Record}
@@ -17,9 +17,9 @@ use Rattle.rast_print.proofs.Lines.{tree_along, messages_along}
 use Rattle.rast_print.specs.Listed.{tree_lines, tree_part}
 use Rattle.rap_base.specs.Limits.{max_tokens}
 
--- the lines of a tree from a printer that had written nothing
-pub tree_from : (steps : List StrStepValue) (s t : Printer) → string_bytes s.tree ≡ [] → s.depth ≡ 0 → Takes Prints s steps t → string_bytes t.tree ≡ printed 0 steps
-tree_from steps s t no_tree no_depth h = tree_along steps s t h ∙ (ap (λ l. l ++ printed s.depth steps) no_tree ∙ ap (λ d. printed d steps) no_depth)
+-- the lines of a tree behind those that a printer began with
+pub tree_behind : (lines : List ℕ) (steps : List StrStepValue) (s t : Printer) → s.tree ≡ lines → s.depth ≡ 0 → Takes Prints s steps t → t.tree ≡ lines ++ printed 0 steps
+tree_behind lines steps s t behind no_depth h = tree_along steps s t h ∙ (ap (λ l. l ++ printed s.depth steps) behind ∙ ap (λ d. lines ++ printed d steps) no_depth)
 
 pub messages_from : (steps : List StrStepValue) (s t : Printer) → string_bytes s.messages ≡ [] → Takes Prints s steps t → string_bytes t.messages ≡ reported steps
 messages_from steps s t none_yet h = messages_along steps s t h ∙ ap (λ l. l ++ reported steps) none_yet

@@ -1,5 +1,5 @@
 -- Words that name none of the kinds so far.
-use Rattle.std.proofs.Common.{◌≡◌, ◌≢◌, ◌<◌, ◌≤◌, ◌+◌, ℕ, List, subst, sym, arith}
+use Rattle.std.proofs.Common.{◌≡◌, ◌≢◌, ◌<◌, ◌≤◌, ◌+◌, ℕ, List, subst, arith}
 use Rattle.rap_base.specs.Names.{name_of}
 
 pub unnamed_more : (name : List ℕ) (n : ℕ) → ((k : ℕ) → k < n → name ≢ name_of k) → name ≢ name_of n → (k : ℕ) → k < n + 1 → name ≢ name_of k

@@ -1,5 +1,5 @@
 -- The lines that the program prints.
-use Rattle.std.specs.Prelude.{ℕ, zero, suc, ◌+◌, Bool, true, false, if◌then◌else◌, List, [], ◌∷◌, ◌++◌, length, codes}
+use Rattle.std.specs.Prelude.{ℕ, Bool, true, false, if◌then◌else◌, List, [], ◌∷◌, ◌++◌, codes}
 use Rattle.std.specs.Fmt.{decimal}
 use Rattle.rap_base.specs.Names.{name_of}
 use Rattle.rap_events.specs.Forest.{Forest, flat, one_tree, used}

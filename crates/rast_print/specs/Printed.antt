@@ -1,17 +1,13 @@
 -- A tree as the program prints it.
-use Rattle.std.specs.Prelude.{ℕ, ◌+◌, ◌-◌, ◌^◌, List, [], ◌∷◌, ◌++◌, zero, suc, codes, chars, min}
+use Rattle.std.specs.Prelude.{ℕ, ◌+◌, ◌-◌, ◌^◌, List, [], ◌∷◌, ◌++◌, codes, chars, min}
 use Rattle.rap_base.specs.Names.{name_of}
+use Rattle.rast_common.specs.Indented.{indent}
 use Rattle.rast_common.specs.Message.{message_line}
 use Rattle.rast_common.specs.Quote.{quoted}
 use Rattle.rap_lexed.specs.LexedStr.{Token, Message, start_of}
 use Rattle.rap_lexed.specs.StrStep.{StrStepValue, str_enter, str_exit, str_token, str_error}
 
--- two spaces for each open node
-abbrev pub indent : ℕ → List ℕ
-indent zero = []
-indent (suc depth) = codes "  " ++ indent depth
-
--- the line of a step
+-- the line of a step, behind two spaces for each open node
 abbrev pub line : ℕ → StrStepValue → List ℕ
 line depth (str_enter kind) = indent depth ++ (name_of kind ++ codes "\n")
 line depth (str_token kind text) = indent depth ++ (name_of kind ++ (codes " " ++ (quoted (chars text) ++ codes "\n")))

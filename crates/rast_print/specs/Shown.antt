@@ -21,7 +21,7 @@ pub record IsPrinted (text : List ℕ) (edition : Edition) (entry : TopEntryPoin
   pub lexed : Lexed
   pub forest : Forest
   pub parsed : IsParsed text edition entry lexed forest
-  pub tree : string_bytes printer.tree ≡ printed 0 (str_flat (with_trivia lexed.tokens forest))
+  pub tree : printer.tree ≡ printed 0 (str_flat (with_trivia lexed.tokens forest))
   pub messages : string_bytes printer.messages ≡ all_reported lexed forest
 
 -- when a fault comes; the printer refuses a step only when out of memory

@@ -9,7 +9,7 @@ ghost use Rattle.rap_lexed.specs.LexedStr.{IsLexing};
 ghost use Rattle.rap_lexed.specs.StrForest.{str_flat};
 ghost use Rattle.rap_lexed.specs.Trivia.{significant, with_trivia};
 ghost use Rattle.rast_print.specs.Printed.{printed, reported};
-ghost use Rattle.rast_print.specs.Listed.{step_line, step_lines, used_line, tree_lines, tree_part};
+ghost use Rattle.rast_print.specs.Listed.{node_part, step_line, step_lines, used_line, tree_lines, tree_part};
 ghost use Rattle.rast_print.specs.Lists.{Comes, ComesOfNode, Lists, ListsNode, ListsPrefix, ListsSteps};
 ghost use Rattle.rap_base.specs.Limits.{max_tokens};
 
@@ -20,6 +20,7 @@ use ra_ap_parser::{
     Step, TopEntryPoint, is_one_tree,
 };
 use rap_lexed::used::used_bytes;
+use rast_common::indented::IndentedText;
 use std::alloc::{AllocError, Global};
 use std::fmt::Write as _;
 
@@ -111,53 +112,74 @@ fn push_used(lines: &mut String, lexed: &LexedStr<'_>, output: &Output) -> Resul
     Ok(())
 }
 
-/// The lines of a tree, trivia put back, and those of its messages.
-#[tactic(auto, using(crate::proofs::Listings::tree_from, crate::proofs::Listings::messages_from))]
-fn print_tree(alloc: Global, lexed: &LexedStr<'_>, output: &Output) -> Result<Printer, NoMemory>
+/// The lines of a tree, trivia put back, behind other lines, and those of its messages.
+#[tactic(auto, using(crate::proofs::Listings::tree_behind, crate::proofs::Listings::messages_from))]
+fn print_tree(
+    alloc: Global,
+    lines: IndentedText,
+    lexed: &LexedStr<'_>,
+    output: &Output,
+) -> Result<Printer, NoMemory>
     requires tree { one_tree output.now ≡ true }
     requires prefix { (edition : Edition) × (covers (records lexed.now.tokens edition) output.now ≡ true) }
-    ensures tree { IfOk result (λ p. string_bytes p.tree ≡ printed 0 (str_flat (with_trivia lexed.now.tokens output.now))) }
+    ensures tree { IfOk result (λ p. p.tree ≡ lines ++ printed 0 (str_flat (with_trivia lexed.now.tokens output.now))) }
     ensures messages { IfOk result (λ p. string_bytes p.messages ≡ reported (str_flat (with_trivia lexed.now.tokens output.now))) }
 {
-    let mut printer = Printer::new(alloc);
+    let mut printer = Printer::behind(alloc, lines);
     lexed.intersperse_trivia(output, &mut printer)?;
     Ok(printer)
 }
 
-/// Adds the lines of a tree, trivia put back, and those of its messages.
-fn push_tree(
+/// The lines of a tree, trivia put back, and those of its messages, behind other lines.
+fn with_tree(
     alloc: Global,
-    lines: &mut String,
+    lines: IndentedText,
     lexed: &LexedStr<'_>,
     output: &Output,
-) -> Result<(), NoMemory>
+) -> Result<IndentedText, NoMemory>
     requires tree { one_tree output.now ≡ true }
     requires prefix { (edition : Edition) × (covers (records lexed.now.tokens edition) output.now ≡ true) }
-    ensures { OnOk result (string_bytes lines.new ≡ string_bytes lines.old ++ tree_lines lexed.now.tokens output.now) }
+    ensures { IfOk result (λ all. all ≡ lines ++ tree_lines lexed.now.tokens output.now) }
 {
-    let printer = print_tree(alloc, lexed, output)?;
-    lines.push_str(printer.tree.as_str())?;
-    lines.push_str(printer.messages.as_str())?;
-    Ok(())
+    let mut printer = print_tree(alloc, lines, lexed, output)?;
+    printer.tree.push_str(printer.messages.as_str())?;
+    Ok(printer.tree)
 }
 
-/// Adds the lines of the tree after a line that says so, where the output is one tree.
+/// Other lines, and after them, where the output is one tree, the lines of the tree after a line that says so.
 #[tactic(auto, using(crate::proofs::Listings::no_tree, crate::proofs::Listings::a_tree))]
-fn push_tree_part(
+fn with_tree_part(
     alloc: Global,
-    lines: &mut String,
+    mut lines: String,
     lexed: &LexedStr<'_>,
     output: &Output,
-) -> Result<(), NoMemory>
+) -> Result<IndentedText, NoMemory>
     requires prefix { (edition : Edition) × (covers (records lexed.now.tokens edition) output.now ≡ true) }
-    ensures { OnOk result (string_bytes lines.new ≡ string_bytes lines.old ++ tree_part lexed.now.tokens output.now) }
+    ensures { IfOk result (λ all. all ≡ string_bytes lines ++ tree_part lexed.now.tokens output.now) }
 {
     if !is_one_tree(output) {
-        return Ok(());
+        return Ok(IndentedText::unindented(alloc, lines));
     }
     lines.push_str("tree\n")?;
-    push_tree(alloc, lines, lexed, output)?;
-    Ok(())
+    with_tree(alloc, IndentedText::unindented(alloc, lines), lexed, output)
+}
+
+/// The lines of a node's tree, or of its steps where they make no tree.
+fn list_node_part(
+    alloc: Global,
+    lexed: &LexedStr<'_>,
+    output: &Output,
+) -> Result<IndentedText, NoMemory>
+    requires prefix { (edition : Edition) × (covers (records lexed.now.tokens edition) output.now ≡ true) }
+    ensures { IfOk result (λ lines. lines ≡ node_part lexed.now.tokens output.now) }
+{
+    if is_one_tree(output) {
+        return with_tree(alloc, IndentedText::new(alloc), lexed, output);
+    }
+    let mut lines = String::new(alloc);
+    lines.push_str("not one tree\n")?;
+    push_steps(&mut lines, output)?;
+    Ok(IndentedText::unindented(alloc, lines))
 }
 
 /// A text and the parser's input of it.
@@ -186,8 +208,8 @@ fn list_steps(
     edition: Edition,
     entry: TopEntryPoint,
     text: &str,
-) -> Result<String, ListFault>
-    ensures lists { IfOk result (λ lines. ListsSteps text.now edition entry (string_bytes lines)) }
+) -> Result<IndentedText, ListFault>
+    ensures lists { IfOk result (ListsSteps text.now edition entry) }
     ensures fault { IfErr result (Comes text.now edition (Asked.Steps entry)) }
 {
     let reading = read(alloc, edition, text)?;
@@ -198,7 +220,7 @@ fn list_steps(
     };
     let mut lines = String::new(alloc);
     push_steps(&mut lines, &output)?;
-    Ok(lines)
+    Ok(IndentedText::unindented(alloc, lines))
 }
 
 /// Lists the steps of a prefix of the text and where it ends, and where it is one tree that tree.
@@ -208,8 +230,8 @@ fn list_prefix(
     edition: Edition,
     entry: PrefixEntryPoint,
     text: &str,
-) -> Result<String, ListFault>
-    ensures lists { IfOk result (λ lines. ListsPrefix text.now edition entry (string_bytes lines)) }
+) -> Result<IndentedText, ListFault>
+    ensures lists { IfOk result (ListsPrefix text.now edition entry) }
     ensures fault { IfErr result (Comes text.now edition (Asked.Prefix entry)) }
 {
     let reading = read(alloc, edition, text)?;
@@ -221,7 +243,7 @@ fn list_prefix(
     let mut lines = String::new(alloc);
     push_steps(&mut lines, &output)?;
     push_used(&mut lines, &reading.lexed, &output)?;
-    push_tree_part(alloc, &mut lines, &reading.lexed, &output)?;
+    let lines = with_tree_part(alloc, lines, &reading.lexed, &output)?;
     Ok(lines)
 }
 
@@ -232,8 +254,8 @@ fn list_node(
     edition: Edition,
     reparser: Reparser,
     text: &str,
-) -> Result<String, ListFault>
-    ensures lists { IfOk result (λ lines. ListsNode text.now edition reparser (string_bytes lines)) }
+) -> Result<IndentedText, ListFault>
+    ensures lists { IfOk result (ListsNode text.now edition reparser) }
     ensures fault { IfErr result (ComesOfNode text.now edition (Some (part_kind reparser))) }
 {
     let reading = read(alloc, edition, text)?;
@@ -245,20 +267,21 @@ fn list_node(
         Err(ParseFault::TooManyTokens) => return Err(ListFault::TooManyTokens),
         Err(ParseFault::NoMemory) => return Err(ListFault::NoMemory),
     };
-    let mut lines = String::new(alloc);
-    if is_one_tree(&output) {
-        push_tree(alloc, &mut lines, &reading.lexed, &output)?;
-    } else {
-        lines.push_str("not one tree\n")?;
-        push_steps(&mut lines, &output)?;
-    }
-    push_used(&mut lines, &reading.lexed, &output)?;
+    let mut lines = list_node_part(alloc, &reading.lexed, &output)?;
+    let mut used = String::new(alloc);
+    push_used(&mut used, &reading.lexed, &output)?;
+    lines.push_str(used.as_str())?;
     Ok(lines)
 }
 
-/// Lists what the arguments name.
-pub fn list(alloc: Global, edition: Edition, asked: Asked, text: &str) -> Result<String, ListFault>
-    ensures lists { IfOk result (λ lines. Lists text.now edition asked (string_bytes lines)) }
+/// Lists what is asked of the text.
+pub fn list(
+    alloc: Global,
+    edition: Edition,
+    asked: Asked,
+    text: &str,
+) -> Result<IndentedText, ListFault>
+    ensures lists { IfOk result (Lists text.now edition asked) }
     ensures fault { IfErr result (Comes text.now edition asked) }
 {
     match asked {
@@ -271,7 +294,7 @@ pub fn list(alloc: Global, edition: Edition, asked: Asked, text: &str) -> Result
         } => match Reparser::for_node(node, first_child, parent) {
             Some(reparser) => list_node(alloc, edition, reparser, text),
             None => {
-                let mut lines = String::new(alloc);
+                let mut lines = IndentedText::new(alloc);
                 lines.push_str("none\n")?;
                 Ok(lines)
             }

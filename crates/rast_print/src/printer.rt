@@ -1,59 +1,68 @@
 //! A sink that prints a tree.
 ghost use Rattle.std.specs.Prelude.{◌≡◌, ◌+◌, ◌^◌, ◌-◌, ◌++◌, [], IfOk, OnOk, min, length, string_bytes, codes, chars};
 ghost use Rattle.rap_base.specs.Names.{name_of};
+ghost use Rattle.rast_common.specs.Indented.{indent};
 ghost use Rattle.rast_common.specs.Quote.{quoted};
 ghost use Rattle.rap_lexed.specs.LexedStr.{AreInOrder};
-ghost use Rattle.rast_print.specs.Printed.{indent, lexer_reported};
+ghost use Rattle.rast_print.specs.Printed.{lexer_reported};
 
 use ra_ap_parser::{LexedStr, NoMemory, StrSink, StrStep, SyntaxKind};
+use rast_common::indented::IndentedText;
 use rast_common::message::push_message;
-use rast_common::quote::push_quoted;
 use std::alloc::{AllocError, Global};
 
 /// A tree's lines, indented by two spaces for each open node, and its messages, a line each.
 #[derive(Drop)]
 pub struct Printer {
-    pub tree: String,
+    pub tree: IndentedText,
     pub messages: String,
     pub depth: usize,
 }
 
 /// Begins a line with the kind's name, after two spaces for each open node.
-pub fn push_kind(lines: &mut String, depth: usize, kind: SyntaxKind) -> Result<(), AllocError>
-    ensures { OnOk result (string_bytes lines.new ≡ string_bytes lines.old ++ (indent depth ++ name_of kind)) }
+pub fn push_kind(lines: &mut IndentedText, depth: usize, kind: SyntaxKind) -> Result<(), AllocError>
+    ensures { OnOk result (lines.new ≡ lines.old ++ (indent depth ++ name_of kind)) }
 {
-    'indent: for _ in 0..depth {
-        lines.push_str("  ")?;
-    }
+    lines.indent(depth)?;
     lines.push_str(kind.name())?;
     Ok(())
 }
 
 /// Adds a token's line.
 fn push_token(
-    lines: &mut String,
+    lines: &mut IndentedText,
     depth: usize,
     kind: SyntaxKind,
     text: &str,
 ) -> Result<(), AllocError>
-    ensures { OnOk result (string_bytes lines.new
-        ≡ string_bytes lines.old ++ (indent depth ++ (name_of kind ++ (codes " " ++ (quoted (chars text.now) ++ codes "\n"))))) }
+    ensures { OnOk result (lines.new
+        ≡ lines.old ++ (indent depth ++ (name_of kind ++ (codes " " ++ (quoted (chars text.now) ++ codes "\n"))))) }
 {
     push_kind(lines, depth, kind)?;
     lines.push_str(" ")?;
-    push_quoted(lines, text)?;
+    lines.push_quoted(text)?;
     lines.push_str("\n")?;
     Ok(())
 }
 
 impl Printer {
+    /// A printer with no lines.
     pub fn new(alloc: Global) -> Printer
-        ensures tree { string_bytes result.tree ≡ [] }
+        ensures tree { result.tree ≡ [] }
+        ensures messages { string_bytes result.messages ≡ [] }
+        ensures depth { result.depth ≡ 0 }
+    {
+        Printer::behind(alloc, IndentedText::new(alloc))
+    }
+
+    /// A printer that adds a tree's lines behind these.
+    pub fn behind(alloc: Global, lines: IndentedText) -> Printer
+        ensures tree { result.tree ≡ lines }
         ensures messages { string_bytes result.messages ≡ [] }
         ensures depth { result.depth ≡ 0 }
     {
         Printer {
-            tree: String::new(alloc),
+            tree: lines,
             messages: String::new(alloc),
             depth: 0,
         }

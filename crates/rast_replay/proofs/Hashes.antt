@@ -12,13 +12,13 @@ use Rattle.rast_replay.specs.declared.way.Way.TheVariants as way
 
 -- first those of the tree, and after them those of the messages
 pub tree_hashed : (text : List ℕ) (edition : Edition) (entry : TopEntryPoint) (p : Printer) (first last : ℕ) →
-    IsPrinted text edition entry p → first ≡ fnv1a_of (string_bytes p.tree) →
+    IsPrinted text edition entry p → first ≡ fnv1a_of p.tree →
     last ≡ fold fnv1a_step first (string_bytes p.messages) → IsHash text edition (way.Tree entry) last
 tree_hashed text edition entry p first last i e f = record {
-  lines = string_bytes p.tree ++ string_bytes p.messages;
+  lines = p.tree ++ string_bytes p.messages;
   are = record { lexed = i.lexed; forest = i.forest; parsed = i.parsed; is = rw (i.tree, i.messages) refl };
   is =
       f
       ∙ (ap (λ (h : ℕ). fold fnv1a_step h (string_bytes p.messages)) e
-      ∙ sym (fold-append fnv1a_step 0xcbf29ce484222325 (string_bytes p.tree) (string_bytes p.messages)));
+      ∙ sym (fold-append fnv1a_step 0xcbf29ce484222325 p.tree (string_bytes p.messages)));
 }

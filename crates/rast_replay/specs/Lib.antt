@@ -1,3 +1,4 @@
 pub mod Hash
 pub mod Row
 pub mod Way
+pub mod Words

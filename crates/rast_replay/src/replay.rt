@@ -1,84 +1,81 @@
 //! All that the program does once its file is read.
-ghost use Rattle.std.specs.Prelude.{◌≡◌, ◌≤◌, IfOk, IsTrue};
+ghost use Rattle.std.specs.Prelude.{◌≡◌, ◌≤◌, ◌⊎◌, IfOk, IsTrue};
+ghost use Rattle.std.specs.Io.KnownBytes.{Appends};
 ghost use Rattle.std.specs.List.{All};
 ghost use Rattle.std.specs.Str.Lines.{lines};
 ghost use Rattle.rast_replay.specs.Row.{IsRow};
+ghost use Rattle.rast_replay.specs.Words.{cannot_write, no_memory};
 
 use crate::row::row_of;
-use ra_ap_parser::{NoMemory, TextFault};
+use ra_ap_parser::NoMemory;
 use rast_common::fault::report;
 use std::alloc::Global;
+use std::fmt::Write as _;
 use std::io;
 
-/// Why the rows were not all replayed.
+/// What is printed of rows, and how many of them are not as this library reads their texts.
 #[derive(Drop)]
-enum Fault {
-    /// A text was not printed: out of memory.
-    Text(TextFault<NoMemory>),
-    /// A line was not written.
-    Write(io::Error),
-}
-
-impl From<TextFault<NoMemory>> for Fault {
-    fn from(fault: TextFault<NoMemory>) -> Fault {
-        Fault::Text(fault)
-    }
-}
-
-impl From<io::Error> for Fault {
-    fn from(error: io::Error) -> Fault {
-        Fault::Write(error)
-    }
-}
-
-/// How many rows were as this library reads their texts, and how many were not.
-#[derive(Drop)]
-struct Count {
-    same: usize,
+struct Replayed {
+    page: String,
     different: usize,
 }
 
-/// Whether the line is as this library reads its text. Where it is not, it is printed after `- `, and then what it
+/// Whether the line is as this library reads its text. Where it is not, it is added after `- `, and then what it
 /// would be after `+ `, unless it is no row.
-fn is_same<W: io::Write>(alloc: Global, line: &str, out: &mut W) -> Result<bool, Fault>
+fn is_same(alloc: Global, line: &str, page: &mut String) -> Result<bool, NoMemory>
     ensures { IfOk result (λ same. IsTrue same → IsRow line.now) }
 {
-    let row = row_of(alloc, line)?;
+    let Ok(row) = row_of(alloc, line) else {
+        return Err(NoMemory);
+    };
     if let Some(row) = &row
         && row.as_str() == line
     {
         return Ok(true);
     }
-    writeln!(out, "- {line}")?;
+    writeln!(page, "- {line}")?;
     if let Some(row) = &row {
-        writeln!(out, "+ {row}")?;
+        writeln!(page, "+ {row}")?;
     }
     Ok(false)
 }
 
-/// Replays each row, and prints those that this library reads otherwise.
-fn replay<W: io::Write>(alloc: Global, rows: &str, out: &mut W) -> Result<Count, Fault>
-    ensures { IfOk result (λ count. count.different ≡ 0 → All IsRow (lines rows.now)) }
+/// Replays each row.
+fn replay(alloc: Global, rows: &str) -> Result<Replayed, NoMemory>
+    ensures { IfOk result (λ replayed. replayed.different ≡ 0 → All IsRow (lines rows.now)) }
 {
-    let mut count = Count {
-        same: 0,
+    let mut same = 0usize;
+    let mut replayed = Replayed {
+        page: String::new(alloc),
         different: 0,
     };
     'rows: for line in rows.lines() {
-        if is_same(alloc, line, out)? {
-            count.same = count.same.saturating_add(1);
+        if is_same(alloc, line, &mut replayed.page)? {
+            same = same.saturating_add(1);
         } else {
-            count.different = count.different.saturating_add(1);
+            replayed.different = replayed.different.saturating_add(1);
         }
     }
-    Ok(count)
+    writeln!(
+        replayed.page,
+        "{same} same, {} different",
+        replayed.different
+    )?;
+    Ok(replayed)
+}
+
+/// Writes what is printed.
+fn write_page<W: io::Write>(out: &mut W, page: &str) -> io::Result<()> {
+    out.write_all(page.as_bytes())?;
+    out.flush()
 }
 
 /// Replays each row, prints those that this library reads otherwise, and then how many were the same and how many
 /// were not.
 ///
 /// Returns the program's status: 0 where none was different, 1 where one was, and 2 at a fault, which is reported on
-/// `err`. The error is that of `err`, where it refused the report.
+/// `err`. At a fault nothing is written to `out`, unless `out` itself refused a write. The error is that of `err`, where
+/// it refused the report.
 pub fn run<W: io::Write, V: io::Write>(
     alloc: Global,
     rows: &str,
@@ -87,14 +84,19 @@ pub fn run<W: io::Write, V: io::Write>(
 ) -> io::Result<u8>
     ensures status { IfOk result (λ status. status ≤ 2) }
     ensures same { IfOk result (λ status. status ≡ 0 → All IsRow (lines rows.now)) }
+    ensures reported { IfOk result (λ status. status ≡ 2
+        → ((out.new ≡ out.old) × Appends (V.contents err.old) (V.contents err.new) no_memory)
+        ⊎ Appends (V.contents err.old) (V.contents err.new) cannot_write) }
 {
-    let count = match replay(alloc, rows, out) {
-        Ok(count) => count,
-        Err(Fault::Text(_)) => return report(err, "rast_replay: no memory\n"),
-        Err(Fault::Write(_)) => return report(err, "rast_replay: cannot write\n"),
+    let Ok(replayed) = replay(alloc, rows) else {
+        return report(err, "rast_replay: no memory\n");
     };
-    if writeln!(out, "{} same, {} different", count.same, count.different).is_err() {
+    let Ok(()) = write_page(out, replayed.page.as_str()) else {
         return report(err, "rast_replay: cannot write\n");
+    };
+    if replayed.different == 0 {
+        Ok(0)
+    } else {
+        Ok(1)
     }
-    if count.different == 0 { Ok(0) } else { Ok(1) }
 }

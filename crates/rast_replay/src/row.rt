@@ -3,6 +3,7 @@
 //! `EDITION WAY HASH TEXT`: the year, how the text is read, the hash in sixteen hexadecimal digits, and the text in
 //! quotes.
 ghost use Rattle.std.specs.Prelude.{◌≡◌, IfOk, IfSome, string_bytes};
+ghost use Rattle.rast_replay.specs.Hash.{fnv1a_of};
 ghost use Rattle.rast_replay.specs.Row.{IsRow, row_line};
 ghost use Rattle.rast_replay.specs.Way.{IsHash, name_of_way};
 
@@ -10,12 +11,24 @@ use crate::hash::{BASIS, fnv1a};
 use crate::unquote::unquoted;
 use crate::way::{Way, push_way, read_way};
 use ra_ap_parser::{Edition, NoMemory, TextFault, TopEntryPoint};
+use rast_common::indented::IndentedText;
 use rast_common::quote::push_quoted;
 use rast_print::asked::Asked;
 use rast_print::listing::{ListFault, list};
 use rast_print::print_text::print_text;
 use std::alloc::{AllocError, Global};
 use std::fmt::Write as _;
+
+/// The hash of lines. They are spelled out for it: a row's text is short.
+fn lines_hash(alloc: Global, lines: &IndentedText) -> Result<u64, AllocError>
+    ensures { IfOk result (λ hash. hash ≡ fnv1a_of lines.now) }
+{
+    let mut bytes = Vec::new(alloc);
+    let Ok(()) = lines.write_to(&mut bytes) else {
+        return Err(AllocError);
+    };
+    Ok(fnv1a(BASIS, bytes.as_slice()))
+}
 
 /// The hash of the lines of the text's tree and messages.
 #[tactic(auto, using(crate::proofs::Hashes::tree_hashed))]
@@ -28,7 +41,9 @@ fn tree_hash(
     ensures { IfOk result (IsHash text.now edition (Way.Tree entry)) }
 {
     let printer = print_text(alloc, edition, entry, text)?;
-    let tree = fnv1a(BASIS, printer.tree.as_bytes());
+    let Ok(tree) = lines_hash(alloc, &printer.tree) else {
+        return Err(TextFault::NoMemory);
+    };
     Ok(fnv1a(tree, printer.messages.as_bytes()))
 }
 
@@ -41,12 +56,16 @@ fn list_hash(
 ) -> Result<Option<u64>, TextFault<NoMemory>>
     ensures { IfOk result (λ o. IfSome o (IsHash text.now edition (Way.List asked))) }
 {
-    match list(alloc, edition, asked, text) {
-        Ok(lines) => Ok(Some(fnv1a(BASIS, lines.as_bytes()))),
-        Err(ListFault::NoBrace) => Ok(None),
-        Err(ListFault::TextTooLong) => Err(TextFault::TextTooLong),
-        Err(ListFault::TooManyTokens) => Err(TextFault::TooManyTokens),
-        Err(ListFault::NoMemory) => Err(TextFault::NoMemory),
+    let lines = match list(alloc, edition, asked, text) {
+        Ok(lines) => lines,
+        Err(ListFault::NoBrace) => return Ok(None),
+        Err(ListFault::TextTooLong) => return Err(TextFault::TextTooLong),
+        Err(ListFault::TooManyTokens) => return Err(TextFault::TooManyTokens),
+        Err(ListFault::NoMemory) => return Err(TextFault::NoMemory),
+    };
+    match lines_hash(alloc, &lines) {
+        Ok(hash) => Ok(Some(hash)),
+        Err(_) => Err(TextFault::NoMemory),
     }
 }
 

@@ -1,11 +1,13 @@
 //! All that the program does once its files are read.
-ghost use Rattle.std.specs.Prelude.{◌≤◌, IfOk};
+ghost use Rattle.std.specs.Prelude.{◌≡◌, ◌≤◌, ◌⊎◌, IfOk, codes};
+ghost use Rattle.std.specs.Io.KnownBytes.{Appends};
 
 use crate::notation::Notation;
 use crate::table::{Row, read_head, read_row};
 use ra_ap_parser::{Edition, TopEntryPoint, parse_text};
 use rast_common::fault::report;
 use std::alloc::{AllocError, Global};
+use std::fmt::Write as _;
 use std::io;
 
 /// Why the rows were not all compared.
@@ -15,8 +17,6 @@ enum Fault {
     Table,
     /// A text was not read: out of memory.
     NoMemory,
-    /// A line was not written.
-    Write(io::Error),
 }
 
 impl From<AllocError> for Fault {
@@ -25,26 +25,21 @@ impl From<AllocError> for Fault {
     }
 }
 
-impl From<io::Error> for Fault {
-    fn from(error: io::Error) -> Fault {
-        Fault::Write(error)
-    }
-}
-
-/// How many texts were read as their rows say, and how many were not.
+/// What is printed of texts, how many of them were read as their rows say, and how many were not.
 #[derive(Drop)]
-struct Count {
+struct Compared {
+    page: String,
     same: usize,
     different: usize,
 }
 
-/// Whether the text is read as its row says. Where it is not, it is printed after `- `, then what it was to be, and
+/// Whether the text is read as its row says. Where it is not, it is added after `- `, then what it was to be, and
 /// then what it is after `+ `.
-fn is_same<W: io::Write>(
+fn is_same(
     alloc: Global,
     (edition, entry): (Edition, TopEntryPoint),
     row: &Row,
-    out: &mut W,
+    page: &mut String,
 ) -> Result<bool, Fault> {
     let mut sink = Notation::new(alloc);
     let Ok(parsed) = parse_text(alloc, edition, entry, row.text.as_str(), &mut sink) else {
@@ -53,35 +48,35 @@ fn is_same<W: io::Write>(
     if parsed.whole && sink.tree == row.tree && sink.messages == row.messages {
         return Ok(true);
     }
-    writeln!(out, "- {}\n{}\n{}", row.text, row.tree, row.messages)?;
-    writeln!(out, "+\n{}\n{}", sink.tree, sink.messages)?;
+    writeln!(page, "- {}\n{}\n{}", row.text, row.tree, row.messages)?;
+    writeln!(page, "+\n{}\n{}", sink.tree, sink.messages)?;
     Ok(false)
 }
 
 /// Compares each text of a table.
-fn compare_table<W: io::Write>(
+fn compare_table(
     alloc: Global,
     read: (Edition, TopEntryPoint),
     table: &str,
-    count: &mut Count,
-    out: &mut W,
+    compared: &mut Compared,
 ) -> Result<(), Fault> {
     for row in table.split('«').skip(1) {
         let Some(row) = read_row(alloc, row)? else {
             return Err(Fault::Table);
         };
-        if is_same(alloc, read, &row, out)? {
-            count.same = count.same.saturating_add(1);
+        if is_same(alloc, read, &row, &mut compared.page)? {
+            compared.same = compared.same.saturating_add(1);
         } else {
-            count.different = count.different.saturating_add(1);
+            compared.different = compared.different.saturating_add(1);
         }
     }
     Ok(())
 }
 
 /// Compares each text of all tables.
-fn compare<W: io::Write>(alloc: Global, tables: &str, out: &mut W) -> Result<Count, Fault> {
-    let mut count = Count {
+fn compare(alloc: Global, tables: &str) -> Result<Compared, Fault> {
+    let mut compared = Compared {
+        page: String::new(alloc),
         same: 0,
         different: 0,
     };
@@ -89,32 +84,46 @@ fn compare<W: io::Write>(alloc: Global, tables: &str, out: &mut W) -> Result<Cou
         let Some((edition, entry, table)) = read_head(section) else {
             return Err(Fault::Table);
         };
-        compare_table(alloc, (edition, entry), table, &mut count, out)?;
+        compare_table(alloc, (edition, entry), table, &mut compared)?;
     }
-    Ok(count)
+    let (same, different) = (compared.same, compared.different);
+    writeln!(compared.page, "{same} same, {different} different")?;
+    Ok(compared)
+}
+
+/// Writes what is printed.
+fn write_page<W: io::Write>(out: &mut W, page: &str) -> io::Result<()> {
+    out.write_all(page.as_bytes())?;
+    out.flush()
 }
 
 /// Compares each text with its row, prints those that are read otherwise, and then how many were the same and how many
 /// were not.
 ///
 /// Returns the program's status: 0 where none was different, 1 where one was, and 2 at a fault, which is reported on
-/// `err`. The error is that of `err`, where it refused the report.
+/// `err`. At a fault nothing is written to `out`, unless `out` itself refused a write. The error is that of `err`, where
+/// it refused the report.
 pub fn run<W: io::Write, V: io::Write>(
     alloc: Global,
     tables: &str,
     out: &mut W,
     err: &mut V,
 ) -> io::Result<u8>
-    ensures { IfOk result (λ status. status ≤ 2) }
+    ensures status { IfOk result (λ status. status ≤ 2) }
+    ensures untouched { IfOk result (λ status. status ≡ 2
+        → (out.new ≡ out.old) ⊎ Appends (V.contents err.old) (V.contents err.new) (codes "rast_rows: cannot write\n")) }
 {
-    let count = match compare(alloc, tables, out) {
-        Ok(count) => count,
+    let compared = match compare(alloc, tables) {
+        Ok(compared) => compared,
         Err(Fault::Table) => return report(err, "rast_rows: a row without its parts\n"),
         Err(Fault::NoMemory) => return report(err, "rast_rows: no memory\n"),
-        Err(Fault::Write(_)) => return report(err, "rast_rows: cannot write\n"),
     };
-    if writeln!(out, "{} same, {} different", count.same, count.different).is_err() {
+    let Ok(()) = write_page(out, compared.page.as_str()) else {
         return report(err, "rast_rows: cannot write\n");
+    };
+    if compared.different == 0 {
+        Ok(0)
+    } else {
+        Ok(1)
     }
-    if count.different == 0 { Ok(0) } else { Ok(1) }
 }

@@ -1,11 +1,12 @@
 //! All that the program does once its file is read.
-ghost use Rattle.std.specs.Prelude.{◌≡◌, ◌⊎◌, IfErr, IfOk, OnOk, string_bytes};
+ghost use Rattle.std.specs.Prelude.{◌≡◌, ◌⊎◌, IfErr, IfOk, OnOk};
 ghost use Rattle.std.specs.Io.KnownBytes.{Appends};
 ghost use Rattle.rast_steps.specs.Page.{IfStops, Shows};
 ghost use Rattle.rast_steps.specs.Words.{fault_line};
 
 use ra_ap_parser::Edition;
 use rast_common::fault::report;
+use rast_common::indented::IndentedText;
 use rast_print::asked::Asked;
 use rast_print::listing::{ListFault, list};
 use std::alloc::Global;
@@ -24,10 +25,10 @@ fn fault_message(fault: ListFault) -> &'static str
 }
 
 /// Writes the lines.
-fn write_lines<W: io::Write>(out: &mut W, lines: &str) -> io::Result<()>
+fn write_lines<W: io::Write>(out: &mut W, lines: &IndentedText) -> io::Result<()>
     ensures { OnOk result (Appends (W.contents out.old) (W.contents out.new) lines.now) }
 {
-    out.write_all(lines.as_bytes())?;
+    lines.write_to(out)?;
     out.flush()
 }
 
@@ -52,7 +53,7 @@ pub fn run<W: io::Write, V: io::Write>(
         Ok(lines) => lines,
         Err(fault) => return report(err, fault_message(fault)),
     };
-    let Ok(()) = write_lines(out, lines.as_str()) else {
+    let Ok(()) = write_lines(out, &lines) else {
         return report(err, "rast_steps: cannot write\n");
     };
     Ok(0)

@@ -1,4 +1,4 @@
-use Rattle.std.proofs.Common.{◌≡◌, ◌+◌, ◌*◌, ◌<◌, ◌++◌, ◌∷◌, List, [], Bor, ap, sym, subst, ◌∙◌, arith, string_bytes}
+use Rattle.std.proofs.Common.{◌≡◌, ◌+◌, ◌*◌, ◌<◌, ◌++◌, ◌∷◌, List, [], Bor, ap, sym, subst, ◌∙◌, arith}
 use Rattle.rast.specs.Pending.{AllPlaced, pending_size}
 use Rattle.rast.proofs.Walks.{node-step, size-snoc, placed-snoc, children_placed}
 use Rattle.syntax_tree.specs.Children.{with_child, children_of}
@@ -19,7 +19,7 @@ fewer c n fs gs f is more same =
 
 pub returns-in_ok-push-in-Node-clause-lines : goal.returns-in_ok-push-in-Node-clause-lines
 returns-in_ok-push-in-Node-clause-lines c =
-    node-step c.args.text.now c.args.depth c.args.child.now c.in-Node.node (string_bytes c.args.lines.now) (string_bytes c.push_node.new.lines) c.args.lists.now.items c.push.new.self.items c.children.result c.in-Node.is c.in_ok-push_node-in-Node.ensures c.in_ok-push-in-Node.ensures.items c.children.ensures c.requires.deep
+    node-step c.args.text.now c.args.depth c.args.child.now c.in-Node.node c.args.lines.now c.push_node.new.lines c.args.lists.now.items c.push.new.self.items c.children.result c.in-Node.is c.in_ok-push_node-in-Node.ensures c.in_ok-push-in-Node.ensures.items c.children.ensures c.requires.deep
 
 pub returns-in_ok-push-in-Node-clause-placed : goal.returns-in_ok-push-in-Node-clause-placed
 returns-in_ok-push-in-Node-clause-placed c =

@@ -1,4 +1,4 @@
-use Rattle.std.proofs.Common.{◌≡◌, ◌≤◌, ◌<◌, ◌++◌, ◌∷◌, List, ℕ, [], Bor, ap, sym, subst, ◌∙◌, refl, arith, length, get_or, drop, take, ◌-◌, string_bytes}
+use Rattle.std.proofs.Common.{◌≡◌, ◌≤◌, ◌<◌, ◌++◌, ◌∷◌, List, ℕ, [], Bor, ap, sym, subst, ◌∙◌, refl, arith, length, get_or, drop, take, ◌-◌}
 use Rattle.std.proofs.lemmas.List.{take_all}
 use Rattle.rast.specs.Pending.{pending, child_lines, ArePlaced, AllPlaced}
 use Rattle.rast.specs.RangedLines.{ranged_lines}
@@ -20,7 +20,7 @@ none-of (x ∷ xs) h = let no : ⊥ = omega (arith, h) in absurd no
 pub lists-init : goal.lists-init
 lists-init c =
     let text : List ℕ = c.args.text.now in
-    let old : List ℕ = string_bytes c.args.lines.now in
+    let old : List ℕ = c.args.lines.now in
     let P : List (Bor (List Child)) → Type 0 = λ l. AllPlaced text l in
     let one : c.push.new.self.items ≡ c.children.result ∷ [] = c.in_ok-push.ensures.items ∙ ap (λ l. l ++ c.children.result ∷ []) c.new-lists.ensures.items in
     record {
@@ -36,7 +36,7 @@ lists-preserved-in_default-list c =
     let text : List ℕ = c.args.text.now in
     let P : List (Bor (List Child)) → Type 0 = λ l. AllPlaced text l in
     record {
-      lines = ap (λ l. string_bytes c.lists.lines ++ l) (end-step text c.pop.new.self.items c.lists.lists.items c.in-Some.list c.in-Some.ensures.items (none-of c.in-Some.list.now c.in_default-list.len_below)) ∙ c.lists.invariant.lines;
+      lines = ap (λ l. c.lists.lines ++ l) (end-step text c.pop.new.self.items c.lists.lists.items c.in-Some.list c.in-Some.ensures.items (none-of c.in-Some.list.now c.in_default-list.len_below)) ∙ c.lists.invariant.lines;
       placed = (placed-last text c.pop.new.self.items c.in-Some.list (subst P c.in-Some.ensures.items c.lists.invariant.placed)).0;
     }
 
@@ -66,11 +66,11 @@ lists-smaller c =
 pub lists-preserved : goal.lists-preserved
 lists-preserved c =
     let text : List ℕ = c.args.text.now in
-    let old : List ℕ = string_bytes c.lists.lines in
+    let old : List ℕ = c.lists.lines in
     let is : c.in-Some.list.now ≡ c.first-item.result ∷ take (length c.in-Some.list.now - 1) (drop 1 c.in-Some.list.now) = first-of c.in-Some.list.now c.first-item.result c.in-len1-up.len_at_least c.first-item.is in
     let deep : c.len-depth.result ≡ length c.push-in-Some.new.self.items = omega (arith, c.len-depth.ensures, c.push-in-Some.new.self.ok.0) in
     record {
-      lines = first-step text c.pop.new.self.items c.lists.lists.items c.push-in-Some.new.self.items c.push_child.new.lists.items c.in-Some.list _ c.first-item.result old (string_bytes c.push_child.new.lines) c.in-Some.ensures.items is c.in_ok-push-2.ensures.items
+      lines = first-step text c.pop.new.self.items c.lists.lists.items c.push-in-Some.new.self.items c.push_child.new.lists.items c.in-Some.list _ c.first-item.result old c.push_child.new.lines c.in-Some.ensures.items is c.in_ok-push-2.ensures.items
           (c.in_ok-push_child.ensures.lines ∙ ap (λ d. old ++ (child_lines text d c.first-item.result ++ pending text 1 c.push-in-Some.new.self.items)) deep) ∙ c.lists.invariant.lines;
       placed = c.in_ok-push_child.ensures.placed;
     }

@@ -1,11 +1,11 @@
-use Rattle.std.proofs.Common.{◌≡◌, ◌++◌, string_bytes}
+use Rattle.std.proofs.Common.{◌≡◌, ◌++◌}
 use Rattle.rast.specs.Pending.{pending, AllPlaced, pending_size}
 use Rattle.rast.specs.RangedLines.{ranged_lines}
 use Rattle.rast.proofs.ranges.push_children.Given as goal
 
 abbrev pub invariant-lists : goal.invariant-lists
 invariant-lists l = record {
-  lines : string_bytes l.lines ++ pending l.fn.text 1 l.lists.items ≡ string_bytes l.fn.lines ++ ranged_lines l.fn.text 1 l.fn.root.children;
+  lines : l.lines ++ pending l.fn.text 1 l.lists.items ≡ l.fn.lines ++ ranged_lines l.fn.text 1 l.fn.root.children;
   placed : AllPlaced l.fn.text l.lists.items;
 }
 

@@ -1,4 +1,4 @@
-use Rattle.std.proofs.Common.{rules, ◌≡◌, ◌≢◌, ◌≤◌}
+use Rattle.std.proofs.Common.{rules, ◌≢◌, ◌≤◌}
 use Rattle.rap_base.specs.Names.{name_of}
 use Rattle.rast_print.proofs.Named.{unnamed_more, unnamed_all}
 use Rattle.rast_print.proofs.asked.kind_named.Goals as goal

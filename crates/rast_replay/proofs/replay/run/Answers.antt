@@ -1,4 +1,4 @@
-use Rattle.std.proofs.Common.{◌≡◌, ℕ, Result, Ok, Err, IfOk, arith}
+use Rattle.std.proofs.Common.{◌≡◌, ℕ, Result, Ok, Err, IfOk, inl, inr, refl, arith}
 use Rattle.rast_replay.proofs.replay.run.Goals as goal
 
 -- the status of a fault is not that of a whole run
@@ -6,8 +6,5 @@ at_fault : {E : Type 0} (P : Type 0) (r : Result ℕ E) → IfOk r (λ status. s
 at_fault P (Ok status) two = λ none. absurd (omega (arith, two, none))
 at_fault P (Err e) two = tt
 
-pub returns-in-Err-Text-clause-same : goal.returns-in-Err-Text-clause-same
-returns-in-Err-Text-clause-same g c = at_fault _ c.report.result c.report.ensures.status
-
-pub returns-in-Err-Write-clause-same : goal.returns-in-Err-Write-clause-same
-returns-in-Err-Write-clause-same g c = at_fault _ c.report-in-Err-Write.result c.report-in-Err-Write.ensures.status
+pub returns-in_default-clause-same : goal.returns-in_default-clause-same
+returns-in_default-clause-same g c = ?

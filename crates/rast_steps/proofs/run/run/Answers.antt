@@ -1,4 +1,4 @@
-use Rattle.std.proofs.Common.{inl, inr, refl, string_bytes}
+use Rattle.std.proofs.Common.{inl, inr, refl}
 use Rattle.rast_common.proofs.Reported.{reported, unreported}
 use Rattle.rast_steps.specs.Words.{cannot_write, fault_line}
 use Rattle.rast_steps.proofs.run.run.Goals as goal
@@ -9,8 +9,8 @@ returns-in-Err-clause-unreported g c =
 
 pub returns-in_default-clause-reported : goal.returns-in_default-clause-reported
 returns-in_default-clause-reported g c =
-    reported c.report-in_default.result c.report-in_default.ensures.reported (λ a. (cannot_write, inr (record { lines = string_bytes c.in-Ok.lines; lists = c.in-Ok.ensures.lists; is = refl }), a))
+    reported c.report-in_default.result c.report-in_default.ensures.reported (λ a. (cannot_write, inr (record { lines = c.in-Ok.lines; lists = c.in-Ok.ensures.lists; is = refl }), a))
 
 pub returns-in_default-clause-unreported : goal.returns-in_default-clause-unreported
 returns-in_default-clause-unreported g c =
-    unreported c.report-in_default.result (cannot_write, inr (record { lines = string_bytes c.in-Ok.lines; lists = c.in-Ok.ensures.lists; is = refl }), tt)
+    unreported c.report-in_default.result (cannot_write, inr (record { lines = c.in-Ok.lines; lists = c.in-Ok.ensures.lists; is = refl }), tt)

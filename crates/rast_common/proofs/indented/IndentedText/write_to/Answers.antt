@@ -1,0 +1,16 @@
+use Rattle.std.proofs.Common.{rules, refl, List}
+use Rattle.std.proofs.lemmas.List.{drop_more}
+use Rattle.rast_common.proofs.Spelling.{front-bounds, front-more}
+use Rattle.rast_common.specs.declared.indented.Indent.{Indent}
+use Rattle.rast_common.proofs.indented.IndentedText.write_to.Goals as goal
+
+pub slice_bounds-put-end : goal.slice_bounds-put-end
+slice_bounds-put-end g c =
+    let items : List Indent = c.as_slice-indent-items.result.now in
+    let bounds = front-bounds _ _ _ _ _ _ _ _ (drop_more items c.indents.indent-index (record { at = 0; levels = 0 }) (search rules)) c.indents.invariant in
+    search (rules, bounds.1)
+
+pub indents-preserved : goal.indents-preserved
+indents-preserved g c =
+    let items : List Indent = c.as_slice-indent-items.result.now in
+    front-more _ _ _ _ _ _ _ _ _ _ _ (drop_more items c.indents.indent-index (record { at = 0; levels = 0 }) (search rules)) refl c.indents.invariant c.in_ok-put.ensures c.in_ok-put_indent.ensures
