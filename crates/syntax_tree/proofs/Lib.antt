@@ -1,6 +1,7 @@
 pub mod ChildLists
 pub mod ChildRows
 pub mod Collected
+pub mod Covers
 pub mod Frames
 pub mod InRowLemmas
 pub mod LeavesInRange
@@ -9,3 +10,4 @@ pub mod Runs
 pub mod Texts
 pub mod TreeRows
 pub mod Weights
+pub mod Walks

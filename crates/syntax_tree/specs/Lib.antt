@@ -3,6 +3,8 @@ pub mod ChildEnds
 pub mod ChildSizes
 pub mod Children
 pub mod Collects
+pub mod Covering
+pub mod Elements
 pub mod InRange
 pub mod InRow
 pub mod Leaves
@@ -13,3 +15,4 @@ pub mod RangedForest
 pub mod Stored
 pub mod TextTree
 pub mod Told
+pub mod Walking
