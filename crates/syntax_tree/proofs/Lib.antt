@@ -4,6 +4,7 @@ pub mod Collected
 pub mod Covers
 pub mod Frames
 pub mod InRowLemmas
+pub mod LeafPlaces
 pub mod LeavesInRange
 pub mod NodeLists
 pub mod Runs

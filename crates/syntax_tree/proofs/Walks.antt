@@ -1,11 +1,14 @@
 -- What a walk has before it, and the room that it needs.
-use Rattle.std.proofs.Common.{◌≡◌, ℕ, ◌+◌, ◌-◌, ◌≤◌, max, List, [], ◌∷◌, ◌++◌, length, length-append, refl, ap, sym, ◌∙◌, append_assoc, append-nil, arith}
+use Rattle.std.proofs.Common.{◌≡◌, ℕ, ◌+◌, ◌-◌, ◌<◌, ◌≤◌, max, List, [], ◌∷◌, ◌++◌, length, length-append, get_or, take, drop, refl, ap, sym, ◌∙◌, append_assoc, append-nil, arith}
 use Rattle.std.proofs.Math.Nat.{le-max_left, le-max_right, max-le, max-zero, max-eq_right}
-use denote.Ref.{Bor}
+use Rattle.std.proofs.lemmas.List.{take_all}
+use Rattle.std.specs.Borrow.{Bor}
+use Rattle.std.specs.declared.ops.Range.{Range}
 use Rattle.syntax_tree.specs.Children.{with_child, with_children, children_of}
-use Rattle.syntax_tree.specs.Elements.{RangedElement, elements_of}
-use Rattle.syntax_tree.specs.RangedForest.{RangedForest, RangedNode, ranged_none}
-use Rattle.syntax_tree.specs.Walking.{ahead, levels, room}
+use Rattle.syntax_tree.specs.Elements.{RangedElement, node_element, leaf_element, descendants_of, elements_of}
+use Rattle.syntax_tree.specs.Leaves.{RangedLeaf, leaves_of}
+use Rattle.syntax_tree.specs.RangedForest.{RangedForest, RangedNode, ranged_none, ranged_node, ranged_leaf}
+use Rattle.syntax_tree.specs.Walking.{element_of, nodes_in, leaves_in, ahead, levels, room}
 use Rattle.syntax_tree.specs.declared.node.Child.{Child}
 use Rattle.syntax_tree.specs.declared.node.Child.TheVariants.{Node as a_node, Leaf as a_leaf}
 use Rattle.syntax_tree.proofs.ChildRows.{only}
@@ -149,3 +152,155 @@ left (s ∷ ss) = (1 + weight (children_of s.now)) + left ss
 pub left-snoc : (ss : List (Bor (List Child))) (s : Bor (List Child)) → left (ss ++ s ∷ []) ≡ left ss + (1 + weight (children_of s.now))
 left-snoc [] s = omega arith
 left-snoc (x ∷ xs) s = omega (arith, left-snoc xs s)
+
+-- a list that is not empty is its first child and the others
+pub first_of : (xs : List Child) (c : Child) → 1 ≤ length xs → c ≡ get_or xs 0 c → xs ≡ c ∷ take (length xs - 1) (drop 1 xs)
+first_of [] c h e = let no : ⊥ = omega (arith, h) in absurd no
+first_of (x ∷ xs) c h e =
+    let rest : take (length (x ∷ xs) - 1) xs ≡ xs = take_all (length (x ∷ xs) - 1) xs (omega arith) in
+    ap (λ y. y ∷ xs) (sym e) ∙ ap (λ ys. c ∷ ys) (sym rest)
+
+pub none_of : (xs : List Child) → length xs < 1 → xs ≡ []
+none_of [] h = refl
+none_of (x ∷ xs) h = let no : ⊥ = omega (arith, h) in absurd no
+
+-- A step of a walk: of the lists `old` the last is `s`, those before it are `before`. Where `s` is empty, they are left.
+-- Else its first child is taken, and `rest` are the others; a node's children are `inner`.
+pub empty_left : (before old : List (Bor (List Child))) (s : Bor (List Child)) → old ≡ before ++ s ∷ [] → left before < left old
+empty_left before old s e = omega (arith, ap left e, left-snoc before s)
+
+weight_only : (c : Child) → 2 ≤ weight (only c)
+weight_only (a_node n) = omega arith
+weight_only (a_leaf kind range) = omega arith
+
+weight_of : (s : Bor (List Child)) (c : Child) (cs : List Child) → s.now ≡ c ∷ cs → weight (children_of s.now) ≡ weight (only c) + weight (children_of cs)
+weight_of s c cs is = ap (λ l. weight (children_of l)) is ∙ weight-first c cs
+
+pub leaf_left : (before old after : List (Bor (List Child))) (s rest : Bor (List Child)) (c : Child) → old ≡ before ++ s ∷ [] → s.now ≡ c ∷ rest.now → after ≡ before ++ rest ∷ [] → left after < left old
+leaf_left before old after s rest c e is a =
+    omega (arith, ap left e, left-snoc before s, ap left a, left-snoc before rest, weight_of s c rest.now is, weight_only c)
+
+pub node_left : (before old mid after : List (Bor (List Child))) (s rest inner : Bor (List Child)) (c : Child) (n : RangedNode)
+    → old ≡ before ++ s ∷ [] → s.now ≡ c ∷ rest.now → c ≡ a_node n → mid ≡ before ++ rest ∷ [] → after ≡ mid ++ inner ∷ [] → children_of inner.now ≡ n.children → left after < left old
+node_left before old mid after s rest inner c n e is node m a same =
+    let own : weight (only c) ≡ 0 + (2 + weight n.children) = ap (λ k. weight (only k)) node in
+    omega (arith, ap left e, left-snoc before s, ap left m, left-snoc before rest, ap left a, left-snoc mid inner, weight_of s c rest.now is, own, ap weight same)
+
+needed_by : (held m : ℕ) (s : Bor (List Child)) (cs : List Child) → s.now ≡ cs → held + 1 + levels (children_of cs) ≤ m → needed held s ≤ m
+needed_by held m s cs is h = omega (arith, h, ap (λ l. levels (children_of l)) is)
+
+pub empty_room : (before old : List (Bor (List Child))) (s : Bor (List Child)) (m : ℕ) → old ≡ before ++ s ∷ [] → s.now ≡ [] → length before + 1 ≤ m → room 0 before ≤ m → room 0 old ≤ m
+empty_room before old s m e is few h =
+    let held : 0 + length before + 1 + 0 ≤ m = omega (arith, few) in
+    omega (arith, ap (room 0) e, room_snoc before s 0 m h (needed_by (0 + length before) m s [] is held))
+
+pub leaf_room : (before old after : List (Bor (List Child))) (s rest : Bor (List Child)) (c : Child) (kind : ℕ) (range : Range ℕ) (m : ℕ)
+    → old ≡ before ++ s ∷ [] → s.now ≡ c ∷ rest.now → c ≡ a_leaf kind range → after ≡ before ++ rest ∷ [] → room 0 after ≤ m → room 0 old ≤ m
+leaf_room before old after s rest c kind range m e is leaf a h =
+    let held : ℕ = 0 + length before in
+    let r = room_of_snoc before rest 0 m (omega (arith, h, ap (room 0) a)) in
+    let here : held + 1 + levels (only c) ≤ m = omega (arith, r.1, ap (λ k. levels (only k)) leaf) in
+    omega (arith, ap (room 0) e, room_snoc before s 0 m r.0 (needed_by held m s (c ∷ rest.now) is (needed_first c rest.now held m here r.1)))
+
+pub node_room : (before old mid after : List (Bor (List Child))) (s rest inner : Bor (List Child)) (c : Child) (n : RangedNode) (m : ℕ)
+    → old ≡ before ++ s ∷ [] → s.now ≡ c ∷ rest.now → c ≡ a_node n → mid ≡ before ++ rest ∷ [] → after ≡ mid ++ inner ∷ [] → children_of inner.now ≡ n.children
+    → room 0 after ≤ m → room 0 old ≤ m
+node_room before old mid after s rest inner c n m e is node d a same h =
+    let held : ℕ = 0 + length before in
+    let q = room_of_snoc mid inner 0 m (omega (arith, h, ap (room 0) a)) in
+    let r = room_of_snoc before rest 0 m (omega (arith, q.0, ap (room 0) d)) in
+    let deep : held + 2 + levels n.children ≤ m = omega (arith, q.1, ap length d, length-append before (rest ∷ []), ap levels same) in
+    let here : held + 1 + levels (only c) ≤ m = omega (arith, needed_only n held m deep, ap (λ k. levels (only k)) node) in
+    omega (arith, ap (room 0) e, room_snoc before s 0 m r.0 (needed_by held m s (c ∷ rest.now) is (needed_first c rest.now held m here r.1)))
+
+-- the same the other way round: what there was room for leaves room for what comes
+pub last_room : (before old : List (Bor (List Child))) (s : Bor (List Child)) (m : ℕ) → old ≡ before ++ s ∷ [] → room 0 old ≤ m → room 0 before ≤ m
+last_room before old s m e h = (room_of_snoc before s 0 m (omega (arith, h, ap (room 0) e))).0
+
+pub rest_room : (before old after : List (Bor (List Child))) (s rest : Bor (List Child)) (c : Child) (m : ℕ)
+    → old ≡ before ++ s ∷ [] → s.now ≡ c ∷ rest.now → after ≡ before ++ rest ∷ [] → room 0 old ≤ m → (room 0 after ≤ m) × (length before < m)
+rest_room before old after s rest c m e is a h =
+    let held : ℕ = 0 + length before in
+    let r = room_of_snoc before s 0 m (omega (arith, h, ap (room 0) e)) in
+    let all : held + 1 + levels (children_of (c ∷ rest.now)) ≤ m = omega (arith, r.1, ap (λ l. levels (children_of l)) is) in
+    let fits : needed held rest ≤ m = needed_rest c rest.now held m all in
+    (omega (arith, ap (room 0) a, room_snoc before rest 0 m r.0 fits), omega (arith, fits))
+
+pub inner_room : (before old mid after : List (Bor (List Child))) (s rest inner : Bor (List Child)) (c : Child) (n : RangedNode) (m : ℕ)
+    → old ≡ before ++ s ∷ [] → s.now ≡ c ∷ rest.now → c ≡ a_node n → mid ≡ before ++ rest ∷ [] → after ≡ mid ++ inner ∷ [] → children_of inner.now ≡ n.children
+    → room 0 old ≤ m → (room 0 after ≤ m) × (length mid < m)
+inner_room before old mid after s rest inner c n m e is node d a same h =
+    let held : ℕ = 0 + length before in
+    let r = room_of_snoc before s 0 m (omega (arith, h, ap (room 0) e)) in
+    let all : held + 1 + levels (children_of (a_node n ∷ rest.now)) ≤ m = omega (arith, r.1, ap (λ l. levels (children_of l)) (is ∙ ap (λ k. k ∷ rest.now) node)) in
+    let deep : held + 2 + levels n.children ≤ m = needed_node n rest.now held m all in
+    let long : length mid ≡ length before + 1 = omega (arith, ap length d, length-append before (rest ∷ [])) in
+    let fits : needed (0 + length mid) inner ≤ m = omega (arith, deep, long, ap levels same) in
+    let more : room 0 mid ≤ m = (rest_room before old mid s rest c m e is d h).0 in
+    (omega (arith, ap (room 0) a, room_snoc mid inner 0 m more fits), omega (arith, fits))
+
+pub empty_ahead : (before old : List (Bor (List Child))) (s : Bor (List Child)) → old ≡ before ++ s ∷ [] → s.now ≡ [] → ahead old ≡ ahead before
+empty_ahead before old s e is = ap ahead e ∙ (ahead-snoc before s ∙ ap (λ l. elements_of (children_of l) ++ ahead before) is)
+
+first_ahead : (before old : List (Bor (List Child))) (s : Bor (List Child)) (c : Child) (cs : List Child) → old ≡ before ++ s ∷ [] → s.now ≡ c ∷ cs
+    → ahead old ≡ elements_of (only c) ++ (elements_of (children_of cs) ++ ahead before)
+first_ahead before old s c cs e is =
+    ap ahead e
+    ∙ (ahead-snoc before s
+    ∙ (ap (λ l. l ++ ahead before) (ap (λ l. elements_of (children_of l)) is ∙ elements-first c cs)
+    ∙ append_assoc (elements_of (only c)) (elements_of (children_of cs)) (ahead before)))
+
+pub leaf_ahead : (before old after : List (Bor (List Child))) (s rest : Bor (List Child)) (c : Child) (kind : ℕ) (range : Range ℕ)
+    → old ≡ before ++ s ∷ [] → s.now ≡ c ∷ rest.now → c ≡ a_leaf kind range → after ≡ before ++ rest ∷ [] → ahead old ≡ element_of c ∷ ahead after
+leaf_ahead before old after s rest c kind range e is leaf a =
+    let then : ahead after ≡ elements_of (children_of rest.now) ++ ahead before = ap ahead a ∙ ahead-snoc before rest in
+    first_ahead before old s c rest.now e is
+    ∙ (ap (λ k. elements_of (only k) ++ (elements_of (children_of rest.now) ++ ahead before)) leaf
+    ∙ (ap (λ k. element_of k ∷ (elements_of (children_of rest.now) ++ ahead before)) (sym leaf)
+    ∙ ap (λ l. element_of c ∷ l) (sym then)))
+
+pub node_ahead : (before old mid after : List (Bor (List Child))) (s rest inner : Bor (List Child)) (c : Child) (n : RangedNode)
+    → old ≡ before ++ s ∷ [] → s.now ≡ c ∷ rest.now → c ≡ a_node n → mid ≡ before ++ rest ∷ [] → after ≡ mid ++ inner ∷ [] → children_of inner.now ≡ n.children
+    → ahead old ≡ element_of c ∷ ahead after
+node_ahead before old mid after s rest inner c n e is node d a same =
+    let behind : List RangedElement = elements_of (children_of rest.now) ++ ahead before in
+    let then : ahead after ≡ elements_of n.children ++ behind =
+    ap ahead a ∙ (ahead-snoc mid inner ∙ (ap (λ f. elements_of f ++ ahead mid) same ∙ ap (λ l. elements_of n.children ++ l) (ap ahead d ∙ ahead-snoc before rest))) in
+    first_ahead before old s c rest.now e is
+    ∙ (ap (λ k. elements_of (only k) ++ behind) node
+    ∙ (ap (λ k. element_of k ∷ (elements_of n.children ++ behind)) (sym node)
+    ∙ ap (λ l. element_of c ∷ l) (sym then)))
+
+-- the nodes and the leaves among the nodes and leaves of a forest
+nodes-append : (xs ys : List RangedElement) → nodes_in (xs ++ ys) ≡ nodes_in xs ++ nodes_in ys
+nodes-append [] ys = refl
+nodes-append (node_element n ∷ xs) ys = ap (λ l. n ∷ l) (nodes-append xs ys)
+nodes-append (leaf_element l ∷ xs) ys = nodes-append xs ys
+
+pub nodes-elements : (f : RangedForest) → nodes_in (elements_of f) ≡ descendants_of f
+nodes-elements ranged_none = refl
+nodes-elements (ranged_node before kind start end children) =
+    let n : RangedNode = record { kind = kind; start = start; end = end; children = children } in
+    nodes-append (elements_of before) (node_element n ∷ elements_of children)
+    ∙ (ap (λ l. l ++ n ∷ nodes_in (elements_of children)) (nodes-elements before)
+    ∙ ap (λ l. descendants_of before ++ n ∷ l) (nodes-elements children))
+nodes-elements (ranged_leaf before kind start end) =
+    nodes-append (elements_of before) (leaf_element (record { kind = kind; start = start; end = end }) ∷ [])
+    ∙ (append-nil (nodes_in (elements_of before)) ∙ nodes-elements before)
+
+leaves-append : (xs ys : List RangedElement) → leaves_in (xs ++ ys) ≡ leaves_in xs ++ leaves_in ys
+leaves-append [] ys = refl
+leaves-append (node_element n ∷ xs) ys = leaves-append xs ys
+leaves-append (leaf_element l ∷ xs) ys = ap (λ ls. l ∷ ls) (leaves-append xs ys)
+
+pub leaves-elements : (f : RangedForest) → leaves_in (elements_of f) ≡ leaves_of f
+leaves-elements ranged_none = refl
+leaves-elements (ranged_node before kind start end children) =
+    let n : RangedNode = record { kind = kind; start = start; end = end; children = children } in
+    leaves-append (elements_of before) (node_element n ∷ elements_of children)
+    ∙ (ap (λ l. l ++ leaves_in (elements_of children)) (leaves-elements before)
+    ∙ ap (λ l. leaves_of before ++ l) (leaves-elements children))
+leaves-elements (ranged_leaf before kind start end) =
+    let l : RangedLeaf = record { kind = kind; start = start; end = end } in
+    leaves-append (elements_of before) (leaf_element l ∷ [])
+    ∙ ap (λ ls. ls ++ l ∷ []) (leaves-elements before)

@@ -9,9 +9,11 @@ pub mod InRange
 pub mod InRow
 pub mod Leaves
 pub mod Places
+pub mod PlainText
 pub mod Queries
 pub mod Ranged
 pub mod RangedForest
+pub mod RangedMessages
 pub mod Stored
 pub mod TextTree
 pub mod Told

@@ -1,7 +1,7 @@
 -- A walk through a forest.
 -- (What calls promise one another; no promise of the library rests on it.)
 use Rattle.std.specs.Prelude.{ℕ, ◌+◌, max, List, [], ◌∷◌, ◌++◌, Option, Some, None}
-use denote.Ref.{Bor}
+use Rattle.std.specs.Borrow.{Bor}
 use Rattle.syntax_tree.specs.Children.{children_of}
 use Rattle.syntax_tree.specs.Elements.{RangedElement, node_element, leaf_element, elements_of}
 use Rattle.syntax_tree.specs.Leaves.{RangedLeaf}

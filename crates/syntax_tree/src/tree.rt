@@ -17,6 +17,7 @@ use crate::builder::Builder;
 use crate::collector::Collector;
 use crate::message::Message;
 use crate::node::{Child, Node};
+use crate::report::all_placed;
 use ra_ap_parser::{Edition, MAX_TEXT, TextFault, TopEntryPoint, parse_text};
 use rap_base::no_memory::NoMemory;
 use rap_events::output::Output;
@@ -79,19 +80,21 @@ impl<'t> Tree<'t> {
             return Err(TextFault::Refused(NoMemory));
         };
         let Collector {
-            builder,
-            messages,
-            ..
+            builder, reports, ..
         } = collector;
-        Ok(Tree {
-            text,
-            root: only_node(builder.into_children()),
-            messages,
-        })
+        let root = only_node(builder.into_children());
+        match all_placed(alloc, reports, &root) {
+            Ok(messages) => Ok(Tree {
+                text,
+                root,
+                messages,
+            }),
+            Err(NoMemory) => Err(TextFault::Refused(NoMemory)),
+        }
     }
 
     /// The messages: none after [`Tree::build`]; after [`Tree::of_text`] those of the parser in the order of the tree, and
-    /// after them those of the lexer in the order of their tokens.
+    /// after them those of the lexer in the order of their tokens, each with the place of the token at which it stands.
     pub fn messages(&self) -> &[Message]
         ensures { result.now ≡ self.now.messages.items }
     {
@@ -103,6 +106,13 @@ impl<'t> Tree<'t> {
         ensures { result.now ≡ self.now.root }
     {
         &self.root
+    }
+
+    /// The text that the tree is over.
+    pub fn text(&self) -> &'t str
+        ensures { result.now ≡ self.now.text.now }
+    {
+        self.text
     }
 
     /// The text of a node: that of its range. Takes no memory, and copies nothing.

@@ -49,8 +49,9 @@ impl<'a> Walk<'a> {
             match self.stack.pop()? {
                 [child, rest @ ..] => {
                     self.stack.push_reserved(rest);
-                    if let Child::Node(node) = child {
-                        self.stack.push_reserved(node.children());
+                    match child {
+                        Child::Node(node) => self.stack.push_reserved(node.children()),
+                        Child::Leaf { .. } => {}
                     }
                     return Some(child);
                 }
@@ -70,8 +71,9 @@ fn with_room<'a>(alloc: Global, children: &'a [Child]) -> Result<Vec<&'a [Child]
     'lists: while let Some(list) = stack.pop() {
         if let [child, rest @ ..] = list {
             stack.push(rest)?;
-            if let Child::Node(node) = child {
-                stack.push(node.children())?;
+            match child {
+                Child::Node(node) => stack.push(node.children())?,
+                Child::Leaf { .. } => {}
             }
         }
     }
