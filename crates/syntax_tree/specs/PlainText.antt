@@ -1,5 +1,5 @@
 -- Text without white space and comments.
-use Rattle.std.specs.Prelude.{ℕ, List, [], ◌∷◌, ◌++◌, slice_range}
+use Rattle.std.specs.Prelude.{ℕ, if◌then◌else◌, List, [], ◌∷◌, ◌++◌, slice_range}
 use Rattle.rap_base.specs.TokenTests.{is_trivia}
 use Rattle.syntax_tree.specs.Leaves.{RangedLeaf}
 

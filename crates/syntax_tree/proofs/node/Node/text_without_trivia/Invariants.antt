@@ -2,7 +2,7 @@ use Rattle.std.proofs.Common.{◌≡◌, ◌++◌, string_bytes}
 use Rattle.syntax_tree.specs.Leaves.{leaves_of}
 use Rattle.syntax_tree.specs.PlainText.{plain_text}
 use Rattle.syntax_tree.proofs.LeafPlaces.{ArePlaced}
-use Rattle.syntax_tree.proofs.plain_text.Node.text_without_trivia.Given as goal
+use Rattle.syntax_tree.proofs.node.Node.text_without_trivia.Given as goal
 
 abbrev pub invariant-leaves : goal.invariant-leaves
 invariant-leaves l =
