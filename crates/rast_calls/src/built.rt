@@ -15,7 +15,13 @@ fn push_node(lines: &mut String, node: &Node) -> Result<(), AllocError>
     ensures { OnOk result (string_bytes lines.new ≡ string_bytes lines.old ++ node_line node.now) }
 {
     let range = node.range();
-    writeln!(lines, "node {} {}..{}", node.kind().name(), range.start, range.end)?;
+    writeln!(
+        lines,
+        "node {} {}..{}",
+        node.kind().name(),
+        range.start,
+        range.end
+    )?;
     Ok(())
 }
 
@@ -24,7 +30,13 @@ fn push_leaf(lines: &mut String, leaf: &Leaf) -> Result<(), AllocError>
     ensures { OnOk result (string_bytes lines.new ≡ string_bytes lines.old ++ leaf_line leaf.now) }
 {
     let range = leaf.range();
-    writeln!(lines, "leaf {} {}..{}", leaf.kind().name(), range.start, range.end)?;
+    writeln!(
+        lines,
+        "leaf {} {}..{}",
+        leaf.kind().name(),
+        range.start,
+        range.end
+    )?;
     Ok(())
 }
 

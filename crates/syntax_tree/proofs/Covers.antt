@@ -185,18 +185,18 @@ reached_from c [] a b s e h p = elim (cases_lt s (child_end c)) [
 ]
 reached_from c (x ∷ xs) a b s e h p = elim (cases_lt s (child_end c)) [
   | inl q ↦ (
-      c,
-      record {
-        is = reach_here c (x ∷ xs) s q;
-        from = a;
-        begins = p;
-        row = h.0;
-        ends = rises (only c) a (child_end c) h.0;
-        same =
-            found-first c (x ∷ xs) s e
-            ∙ ap (λ o. option_or o (smallest_holding s e (only c))) (none_behind_all (x ∷ xs) (child_end c) b s e h.1 q);
-      },
-    )
+    c,
+    record {
+      is = reach_here c (x ∷ xs) s q;
+      from = a;
+      begins = p;
+      row = h.0;
+      ends = rises (only c) a (child_end c) h.0;
+      same =
+          found-first c (x ∷ xs) s e
+          ∙ ap (λ o. option_or o (smallest_holding s e (only c))) (none_behind_all (x ∷ xs) (child_end c) b s e h.1 q);
+    },
+  )
   | inr q ↦
       let r = reached_from x xs (child_end c) b s e h.1 q in (
         r.0,

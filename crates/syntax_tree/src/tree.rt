@@ -80,7 +80,9 @@ impl<'t> Tree<'t> {
             return Err(TextFault::Refused(NoMemory));
         };
         let Collector {
-            builder, reports, ..
+            builder,
+            reports,
+            ..
         } = collector;
         let root = only_node(builder.into_children());
         match all_placed(alloc, reports, &root) {

@@ -8,7 +8,12 @@ use syntax_tree::Tree;
 fn main(rt: HostRuntime) -> anyhow::Result<()> {
     let file = env::args(&rt)?.nth(1).unwrap_or(String::new(rt.alloc()));
     let text = fs::read_to_string(&rt, file.as_str())?;
-    let tree = Tree::of_text(rt.alloc(), Edition::LATEST, TopEntryPoint::SourceFile, text.as_str())?;
+    let tree = Tree::of_text(
+        rt.alloc(),
+        Edition::LATEST,
+        TopEntryPoint::SourceFile,
+        text.as_str(),
+    )?;
     for node in tree.root().descendants(rt.alloc())? {
         if node.kind() == SyntaxKind::FN {
             let range = node.range();
