@@ -1,5 +1,5 @@
 -- What is left to print of a tree.
-use Rattle.std.proofs.Common.{◌≡◌, ℕ, ◌+◌, ◌*◌, ◌<◌, List, [], ◌∷◌, ◌++◌, refl, ap, sym, subst, ◌∙◌, append_assoc, append-nil, length, length-append, string_bytes, true, arith}
+use Rattle.std.proofs.Common.{◌≡◌, ℕ, ◌+◌, ◌*◌, ◌<◌, List, [], ◌∷◌, ◌++◌, refl, ap, sym, subst, ◌∙◌, append_assoc, append-nil, length, length-append, map, Option, Some, None, string_bytes, true, arith}
 use Rattle.std.specs.Borrow.{Bor}
 use Rattle.std.specs.declared.ops.Range.{Range}
 use Rattle.rap_base.specs.declared.edition.Edition.{Edition}
@@ -17,8 +17,10 @@ use Rattle.rast_print.specs.declared.printer.Printer.{Printer}
 use Rattle.rast.specs.Pending.{pending, child_lines, ArePlaced, AllPlaced, pending_size, told_lines}
 use Rattle.rast.specs.RangedLines.{ranged_lines, node_line, leaf_line}
 use Rattle.syntax_tree.specs.Children.{with_child, with_children, children_of}
+use Rattle.syntax_tree.specs.Leaves.{RangedLeaf, leaf_of_byte}
 use Rattle.syntax_tree.specs.Places.{HavePlaces}
 use Rattle.syntax_tree.specs.RangedForest.{RangedForest, RangedNode, ranged_none, forest_size, alone}
+use Rattle.syntax_tree.specs.RangedMessages.{RangedMessage, ranged_message, told_at}
 use Rattle.syntax_tree.specs.TextTree.{IsTextTree}
 use Rattle.syntax_tree.specs.Told.{Told, told_by, told, lexer_told, all_told}
 use Rattle.syntax_tree.specs.declared.node.Child.{Child}
@@ -152,41 +154,54 @@ end-size fs opens list e = let all : pending_size opens ≡ pending_size fs + (1
 pub children_placed : (text : List ℕ) (cs : List Child) (f : RangedForest) → children_of cs ≡ f → HavePlaces text f → ArePlaced text cs
 children_placed text cs f e h = let P : RangedForest → Type 0 = λ g. HavePlaces text g in are_placed text cs ranged_none (subst P (sym e) h)
 
--- the lines of the messages are those of the steps and of the lexer
-told-append : (xs ys : List Told) → told_lines (xs ++ ys) ≡ told_lines xs ++ told_lines ys
-told-append [] ys = refl
-told-append (m ∷ ms) ys = ap (λ l. message_line m.at m.text ++ l) (told-append ms ys) ∙ sym (append_assoc (message_line m.at m.text) (told_lines ms) (told_lines ys))
+-- the lines of messages without their places
+abbrev pub bare_lines : List Told → List ℕ
+bare_lines [] = []
+bare_lines (m ∷ ms) = message_line m.at m.text ++ bare_lines ms
 
-told-step : (s : StrStepValue) → told_lines (told_by s) ≡ reported_line s
+line-at : (m : Told) (leaf : Option RangedLeaf) → message_line (told_at m leaf).at (told_at m leaf).text ≡ message_line m.at m.text
+line-at m None = refl
+line-at m (Some leaf) = refl
+
+told-bare : (f : RangedForest) (ms : List Told) → told_lines (map (ranged_message f) ms) ≡ bare_lines ms
+told-bare f [] = refl
+told-bare f (m ∷ ms) = ap (λ l. l ++ told_lines (map (ranged_message f) ms)) (line-at m (leaf_of_byte m.at f)) ∙ ap (λ l. message_line m.at m.text ++ l) (told-bare f ms)
+
+-- the lines of the messages are those of the steps and of the lexer
+told-append : (xs ys : List Told) → bare_lines (xs ++ ys) ≡ bare_lines xs ++ bare_lines ys
+told-append [] ys = refl
+told-append (m ∷ ms) ys = ap (λ l. message_line m.at m.text ++ l) (told-append ms ys) ∙ sym (append_assoc (message_line m.at m.text) (bare_lines ms) (bare_lines ys))
+
+told-step : (s : StrStepValue) → bare_lines (told_by s) ≡ reported_line s
 told-step (str_enter kind) = refl
 told-step str_exit = refl
 told-step (str_token kind text) = refl
 told-step (str_error bytes pos) = append-nil (message_line pos bytes)
 
-told-steps : (ss : List StrStepValue) → told_lines (told ss) ≡ reported ss
+told-steps : (ss : List StrStepValue) → bare_lines (told ss) ≡ reported ss
 told-steps [] = refl
 told-steps (s ∷ ss) =
-    told-append (told_by s) (told ss) ∙ (ap (λ l. l ++ told_lines (told ss)) (told-step s) ∙ ap (λ l. reported_line s ++ l) (told-steps ss))
+    told-append (told_by s) (told ss) ∙ (ap (λ l. l ++ bare_lines (told ss)) (told-step s) ∙ ap (λ l. reported_line s ++ l) (told-steps ss))
 
-told-lexer : (ts : List Token) (ms : List Message) → told_lines (lexer_told ts ms) ≡ lexer_reported ts ms
+told-lexer : (ts : List Token) (ms : List Message) → bare_lines (lexer_told ts ms) ≡ lexer_reported ts ms
 told-lexer ts [] = refl
 told-lexer ts (m ∷ ms) = ap (λ l. message_line (start_of ts m.token) m.text ++ l) (told-lexer ts ms)
 
-pub told-all : (lexed : Lexed) (forest : Forest) → told_lines (all_told lexed (str_flat (with_trivia lexed.tokens forest))) ≡ all_reported lexed forest
+pub told-all : (lexed : Lexed) (forest : Forest) → bare_lines (all_told lexed (str_flat (with_trivia lexed.tokens forest))) ≡ all_reported lexed forest
 told-all lexed forest =
     let steps : List StrStepValue = str_flat (with_trivia lexed.tokens forest) in
     told-append (told steps) (lexer_told lexed.tokens lexed.errors)
-    ∙ (ap (λ l. l ++ told_lines (lexer_told lexed.tokens lexed.errors)) (told-steps steps)
+    ∙ (ap (λ l. l ++ bare_lines (lexer_told lexed.tokens lexed.errors)) (told-steps steps)
     ∙ ap (λ l. reported steps ++ l) (told-lexer lexed.tokens lexed.errors))
 
 -- what is printed of a text's tree
-pub ranges_whole : (text : List ℕ) (edition : Edition) (entry : TopEntryPoint) (root : RangedNode) (messages : List Told) (p : Printer)
-    → IsTextTree text edition entry root messages → p.tree ≡ ranged_lines text 0 (alone root) → string_bytes p.messages ≡ told_lines messages
+pub ranges_whole : (text : List ℕ) (edition : Edition) (entry : TopEntryPoint) (root : RangedNode) (messages : List RangedMessage) (p : Printer)
+    → IsTextTree text edition entry root messages → string_bytes p.tree ≡ ranged_lines text 0 (alone root) → string_bytes p.messages ≡ told_lines messages
     → ArePrinted true text edition entry p
 ranges_whole text edition entry root messages p t lines told = record {
   lexed = t.lexed;
   forest = t.forest;
   parsed = t.parsed;
   tree = lines ∙ ap (λ f. ranged_lines text 0 f) t.ranged;
-  messages = told ∙ (ap told_lines t.told ∙ told-all t.lexed t.forest);
+  messages = told ∙ (ap told_lines t.told ∙ (told-bare root.children (all_told t.lexed (str_flat (with_trivia t.lexed.tokens t.forest))) ∙ told-all t.lexed t.forest));
 }

@@ -7,7 +7,7 @@ use Rattle.rast.specs.RangedLines.{ranged_lines}
 use Rattle.syntax_tree.specs.Children.{with_child, children_of}
 use Rattle.syntax_tree.specs.Places.{HavePlaces}
 use Rattle.syntax_tree.specs.RangedForest.{ranged_none, forest_size}
-use Rattle.syntax_tree.specs.Told.{Told}
+use Rattle.syntax_tree.specs.RangedMessages.{RangedMessage}
 use Rattle.syntax_tree.specs.declared.node.Child.{Child}
 
 -- the lines that are left, those of the innermost list first
@@ -34,6 +34,6 @@ pending_size [] = 0
 pending_size (f ∷ fs) = (1 + 2 * forest_size (children_of f.now)) + pending_size fs
 
 -- the lines of messages that a tree has kept
-abbrev pub told_lines : List Told → List ℕ
+abbrev pub told_lines : List RangedMessage → List ℕ
 told_lines [] = []
 told_lines (m ∷ ms) = message_line m.at m.text ++ told_lines ms

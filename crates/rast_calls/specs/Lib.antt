@@ -1,3 +1,4 @@
+pub mod Built
 pub mod Held
 pub mod Listed
 pub mod Made

@@ -5,10 +5,11 @@ use Rattle.std.specs.declared.ops.Range.{Range}
 use Rattle.rap_events.specs.Forest.{Forest, flat}
 use Rattle.rap_events.specs.StepValue.{StepValue, enter, exit, token, float_split, error}
 use Rattle.rast_print.specs.Listed.{step_lines}
+use Rattle.rast_calls.specs.Built.{ComesOfBuild, IsBuilt}
 use Rattle.rast_calls.specs.Held.{ComesOfSteps, IsHeld}
 use Rattle.rast_calls.specs.Made.{ComesOfInput, ComesOfOutput, IsMade, pushed}
 use Rattle.rast_calls.specs.declared.asked.Asked.{Asked}
-use Rattle.rast_calls.specs.declared.asked.Asked.TheVariants.{Capacity, Frontmatter, Push, Kept, Count, Sink}
+use Rattle.rast_calls.specs.declared.asked.Asked.TheVariants.{Capacity, Frontmatter, Push, Kept, Count, Sink, Build}
 use Rattle.rast_calls.specs.declared.asked.Tokens.{Tokens}
 use Rattle.rast_calls.specs.declared.asked.Way.{Way}
 use Rattle.rast_calls.specs.declared.pushed.CallFault.{CallFault}
@@ -93,6 +94,7 @@ Lists text (Push way tokens) lines = IsStepped way tokens lines
 Lists text (Kept way tokens) lines = IsKept way tokens lines
 Lists text (Count way tokens) lines = IsCounted way tokens lines
 Lists text (Sink count entry edition) lines = IsHeld text edition entry count lines
+Lists text (Build entry edition) lines = IsBuilt text edition entry lines
 
 -- when a fault comes
 abbrev pub Comes : List ℕ → Asked → CallFault → Type 0
@@ -102,3 +104,4 @@ Comes text (Push way tokens) fault = ComesOfTokens way tokens fault
 Comes text (Kept way tokens) fault = ComesOfKept way tokens fault
 Comes text (Count way tokens) fault = ComesOfTokens way tokens fault
 Comes text (Sink count entry edition) fault = ComesOfSteps text edition fault
+Comes text (Build entry edition) fault = ComesOfBuild text edition fault

@@ -56,4 +56,9 @@ pub enum Asked {
         entry: TopEntryPoint,
         edition: Edition,
     },
+    /// The nodes and leaves of the tree that is built of a text.
+    Build {
+        entry: TopEntryPoint,
+        edition: Edition,
+    },
 }

@@ -6,6 +6,7 @@ ghost use Rattle.rast_print.specs.Listed.{step_line, step_lines};
 ghost use Rattle.rast_calls.specs.Listed.{Comes, ComesOfKept, ComesOfTokens, IsCounted, IsKept, IsStepped, Lists, capacity_lines, kept_lines, messages_in, refusal_lines, shown_spans, span, spans};
 
 use crate::asked::{Asked, Tokens, Way};
+use crate::built::list_built;
 use crate::pushed::{CallFault, input_of, input_of_first, output_of};
 use crate::sink::list_held;
 use ra_ap_parser::frontmatter::FrontmatterError;
@@ -190,5 +191,6 @@ pub fn list(alloc: Global, asked: &Asked, text: &str) -> Result<String, CallFaul
             entry,
             edition,
         } => list_held(alloc, *count, *entry, *edition, text),
+        Asked::Build { entry, edition } => list_built(alloc, *entry, *edition, text),
     }
 }

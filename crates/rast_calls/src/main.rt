@@ -2,6 +2,7 @@
 #![tactic(auto)]
 
 mod asked;
+mod built;
 mod listing;
 mod pushed;
 mod request;
@@ -18,7 +19,8 @@ use std::rt::Files;
 const USAGE: &str = "usage: rast_calls capacity COUNT\n       \
     rast_calls frontmatter MESSAGE START END COUNT\n       \
     rast_calls push|ident|kept|kept-ident|count top|prefix|reparse NAME COUNT KIND [EVERY]\n       \
-    rast_calls sink COUNT ENTRY EDITION FILE\n";
+    rast_calls sink COUNT ENTRY EDITION FILE\n       \
+    rast_calls build ENTRY EDITION FILE\n";
 
 const UNREADABLE: &str = "rast_calls: cannot read the file\n";
 

@@ -3,7 +3,7 @@ ghost use Rattle.std.specs.Prelude.{◌≡◌, ◌⊎◌, ◌≤◌, ◌<◌, �
 ghost use Rattle.rast_calls.specs.Made.{CanPush, ComesOfInput, ComesOfOutput, IsMade, pushed, record_of_token, touches};
 
 use crate::asked::{Token, Tokens, Way};
-use ra_ap_parser::{Edition, Input, NoMemory, Output, ParseFault, SyntaxKind};
+use ra_ap_parser::{Edition, Input, LexFault, NoMemory, Output, ParseFault, SyntaxKind};
 use std::alloc::{AllocError, Global};
 
 /// Why nothing is printed.
@@ -38,6 +38,20 @@ impl From<AllocError> for CallFault {
 
     fn from(_fault: AllocError) -> CallFault {
         CallFault::NoMemory
+    }
+}
+
+impl From<LexFault> for CallFault {
+    ghost use Rattle.rap_lexed.specs.declared.lexed_str.LexFault.TheVariants as lex;
+    ghost use Rattle.rast_calls.specs.declared.pushed.CallFault.TheVariants.{TextTooLong, NoMemory};
+
+    ghost from_gives = { λ from fault. ((from ≡ lex.TextTooLong) × (fault ≡ TextTooLong)) ⊎ ((from ≡ lex.NoMemory) × (fault ≡ NoMemory)) };
+
+    fn from(fault: LexFault) -> CallFault {
+        match fault {
+            LexFault::TextTooLong => CallFault::TextTooLong,
+            LexFault::NoMemory => CallFault::NoMemory,
+        }
     }
 }
 

@@ -1,6 +1,6 @@
 //! The arguments of a command line.
 use crate::asked::{Asked, Token, Tokens, Way};
-use ra_ap_parser::{Edition, Reparser, SyntaxKind};
+use ra_ap_parser::{Edition, Reparser, SyntaxKind, TopEntryPoint};
 use rast_print::asked::{Prefix, read_kind};
 use rast_print::entry::Entry;
 use std::env::{self, Args};
@@ -80,19 +80,31 @@ fn read_frontmatter(args: &mut Args) -> Option<Asked> {
     })
 }
 
-/// Reads the words after `sink`, without the file.
-fn read_sink(args: &mut Args) -> Option<Asked> {
-    let count = read_number(args)?;
+/// Reads `ENTRY EDITION`.
+fn read_entry(args: &mut Args) -> Option<(TopEntryPoint, Edition)> {
     let (Some(entry), Some(edition)) = (args.next(), args.next()) else {
         return None;
     };
     let Entry(entry) = entry.as_str().parse::<Entry>().ok()?;
     let edition = edition.as_str().parse::<Edition>().ok()?;
+    Some((entry, edition))
+}
+
+/// Reads the words behind `sink`, without the file.
+fn read_sink(args: &mut Args) -> Option<Asked> {
+    let count = read_number(args)?;
+    let (entry, edition) = read_entry(args)?;
     Some(Asked::Sink {
         count,
         entry,
         edition,
     })
+}
+
+/// Reads the words behind `build`, without the file.
+fn read_build(args: &mut Args) -> Option<Asked> {
+    let (entry, edition) = read_entry(args)?;
+    Some(Asked::Build { entry, edition })
 }
 
 /// Reads which calls are made.
@@ -106,6 +118,7 @@ fn read_asked(args: &mut Args, word: &str) -> Option<Asked> {
         "kept-ident" => Some(Asked::Kept(read_way(args)?, read_tokens(args, true)?)),
         "count" => Some(Asked::Count(read_way(args)?, read_tokens(args, false)?)),
         "sink" => read_sink(args),
+        "build" => read_build(args),
         _ => None,
     }
 }
@@ -117,7 +130,7 @@ pub fn read_request<R: Env + AllocGlobal>(rt: &R) -> Option<Request> {
     let word = args.next()?;
     let asked = read_asked(&mut args, word.as_str())?;
     let file = match asked {
-        Asked::Sink { .. } => Some(args.next()?),
+        Asked::Sink { .. } | Asked::Build { .. } => Some(args.next()?),
         _ => None,
     };
     if args.next().is_some() {

@@ -50,8 +50,15 @@ fn measure_rounds<R: Clock>(
 /// The lines that show the times.
 fn lines(alloc: Global, bytes: usize, times: &Times) -> Result<String, AllocError> {
     format!(in alloc;
-        "{bytes} bytes, {} input tokens, {} steps, {} ERROR nodes\nlex {} us, to_input {} us, parse {} us, intersperse {} us\n",
-        times.tokens, times.steps, times.errors, times.lex, times.input, times.parse, times.sink
+        "{bytes} bytes, {} input tokens, {} steps, {} ERROR nodes\nlex {} us, to_input {} us, parse {} us, intersperse {} us, build {} us\n",
+        times.tokens,
+        times.steps,
+        times.errors,
+        times.lex,
+        times.input,
+        times.parse,
+        times.sink,
+        times.build
     )
 }
 

@@ -7,6 +7,7 @@ use std::alloc::Global;
 use std::io;
 use std::rt::Clock;
 use std::time::Instant;
+use syntax_tree::Tree;
 
 /// Counts the steps that it takes, and those that begin an `ERROR` node.
 #[derive(Drop)]
@@ -40,6 +41,7 @@ pub struct Times {
     pub input: u128,
     pub parse: u128,
     pub sink: u128,
+    pub build: u128,
     pub tokens: usize,
     pub steps: usize,
     pub errors: usize,
@@ -53,6 +55,7 @@ impl Times {
             input: self.input.min(other.input),
             parse: self.parse.min(other.parse),
             sink: self.sink.min(other.sink),
+            build: self.build.min(other.build),
             tokens: self.tokens,
             steps: self.steps,
             errors: self.errors,
@@ -117,11 +120,15 @@ pub fn measure<R: Clock>(
     let start = Instant::now(rt)?;
     let _whole = lexed.intersperse_trivia(&output, &mut counter)?;
     let sink = start.elapsed(rt)?.as_micros();
+    let start = Instant::now(rt)?;
+    let _tree = Tree::build(alloc, &lexed, &output)?;
+    let build = start.elapsed(rt)?.as_micros();
     Ok(Times {
         lex,
         input,
         parse,
         sink,
+        build,
         tokens: read.len(),
         steps: counter.steps,
         errors: counter.errors,

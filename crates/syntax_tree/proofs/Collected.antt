@@ -1,5 +1,5 @@
 -- What a collector holds along the steps of a tree.
-use Rattle.std.proofs.Common.{◌≡◌, ℕ, List, [], ◌∷◌, ◌++◌, ap, subst, sym, ◌∙◌, Bool, append_assoc, append-nil, length}
+use Rattle.std.proofs.Common.{◌≡◌, ℕ, List, [], ◌∷◌, ◌++◌, ap, subst, sym, ◌∙◌, Bool, append_assoc, append-nil, length, map}
 use Rattle.rap_base.specs.declared.edition.Edition.{Edition}
 use Rattle.rap_lexed.specs.LexedStr.{Lexed}
 use Rattle.rap_lexed.specs.StrForest.{str_flat}
@@ -10,25 +10,28 @@ use Rattle.ra_ap_parser.specs.Headline.{Headline}
 use Rattle.ra_ap_parser.specs.declared.entry_point.TopEntryPoint.{TopEntryPoint}
 use Rattle.syntax_tree.specs.Building.{Builds, building, outermost}
 use Rattle.syntax_tree.specs.Collects.{Collects}
+use Rattle.syntax_tree.specs.InRow.{InRow}
 use Rattle.syntax_tree.specs.Places.{HavePlaces}
 use Rattle.syntax_tree.specs.Ranged.{Ranged, ranged}
 use Rattle.syntax_tree.specs.RangedForest.{RangedForest, RangedNode, ranged_none, alone}
+use Rattle.syntax_tree.specs.RangedMessages.{RangedMessage, ranged_message}
 use Rattle.syntax_tree.specs.TextTree.{IsTextTree}
 use Rattle.syntax_tree.specs.Told.{Told, told_by, told, lexer_told}
 use Rattle.syntax_tree.specs.declared.collector.Collector.{Collector}
 use Rattle.syntax_tree.proofs.Runs.{held, built, one_node, root_place}
 use Rattle.syntax_tree.proofs.Texts.{places_of}
+use Rattle.syntax_tree.proofs.TreeRows.{root_row}
 
 pub builds_along : (steps : List StrStepValue) (s t : Collector) → Takes Collects s steps t → Takes Builds s.builder steps t.builder
 builds_along [] s t h = ap (λ (c : Collector). c.builder) h
 builds_along (x ∷ xs) s t h = (h.0.builder, h.1.tree, builds_along xs h.0 t h.2)
 
-pub told_along : (steps : List StrStepValue) (s t : Collector) → Takes Collects s steps t → t.messages.items ≡ s.messages.items ++ told steps
-told_along [] s t h = ap (λ (c : Collector). c.messages.items) (sym h) ∙ sym (append-nil s.messages.items)
+pub told_along : (steps : List StrStepValue) (s t : Collector) → Takes Collects s steps t → t.reports.items ≡ s.reports.items ++ told steps
+told_along [] s t h = ap (λ (c : Collector). c.reports.items) (sym h) ∙ sym (append-nil s.reports.items)
 told_along (x ∷ xs) s t h =
     told_along xs h.0 t h.2
-    ∙ (ap (λ l. l ++ told xs) h.1.messages
-    ∙ append_assoc s.messages.items (told_by x) (told xs))
+    ∙ (ap (λ l. l ++ told xs) h.1.reports
+    ∙ append_assoc s.reports.items (told_by x) (told xs))
 
 -- what a collector holds that had nothing and has taken the steps of a text's tree
 pub forest_of_text : (text : List ℕ) (edition : Edition) (entry : TopEntryPoint) (lexed : Lexed) (all : Bool) (s t : Collector)
@@ -45,12 +48,18 @@ node_of_text text edition entry lexed all s t e h =
     let one = one_node (with_trivia lexed.tokens h.forest) h.parsed.str_one in
     (one.0, forest_of_text text edition entry lexed all s t e h ∙ one.1)
 
+-- whose places follow one another
+pub row_of_text : (text : List ℕ) (edition : Edition) (entry : TopEntryPoint) (lexed : Lexed) (all : Bool) (s t : Collector) (root : RangedNode)
+    → building s.builder ≡ held outermost ranged_none 0 → Headline Collects text edition entry lexed all s t → (building t.builder).forest ≡ alone root
+    → InRow root.start root.children root.end × (root.start ≡ 0)
+row_of_text text edition entry lexed all s t root e h is = root_row (with_trivia lexed.tokens h.forest) root (sym is ∙ forest_of_text text edition entry lexed all s t e h)
+
 -- and with the lexer's messages it is the tree of the text
-pub text_tree : (text : List ℕ) (edition : Edition) (entry : TopEntryPoint) (lexed : Lexed) (all : Bool) (s t : Collector) (root : RangedNode) (messages : List Told)
-    → building s.builder ≡ held outermost ranged_none 0 → s.messages.items ≡ [] → Headline Collects text edition entry lexed all s t
-    → (building t.builder).forest ≡ alone root → messages ≡ t.messages.items ++ lexer_told lexed.tokens lexed.errors
+pub text_tree : (text : List ℕ) (edition : Edition) (entry : TopEntryPoint) (lexed : Lexed) (all : Bool) (s t : Collector) (root : RangedNode) (reports : List Told) (messages : List RangedMessage)
+    → building s.builder ≡ held outermost ranged_none 0 → s.reports.items ≡ [] → Headline Collects text edition entry lexed all s t
+    → (building t.builder).forest ≡ alone root → reports ≡ t.reports.items ++ lexer_told lexed.tokens lexed.errors → messages ≡ map (ranged_message root.children) reports
     → IsTextTree text edition entry root messages
-text_tree text edition entry lexed all s t root messages e none h is more =
+text_tree text edition entry lexed all s t root reports messages e none h is more placed =
     let f = with_trivia lexed.tokens h.forest in
     let taken = builds_along (str_flat f) s t h.taken in
     let is_ranged : Ranged f root = sym is ∙ forest_of_text text edition entry lexed all s t e h in
@@ -64,5 +73,8 @@ text_tree text edition entry lexed all s t root messages e none h is more =
       start = at.0;
       end = at.1 ∙ ap length h.whole;
       places = subst P (sym is_ranged) (places_of f s.builder t.builder text taken h.whole);
-      told = more ∙ ap (λ l. l ++ lexer_told lexed.tokens lexed.errors) (told_along (str_flat f) s t h.taken ∙ ap (λ l. l ++ told (str_flat f)) none);
+      told =
+          placed
+          ∙ ap (map (ranged_message root.children))
+          (more ∙ ap (λ l. l ++ lexer_told lexed.tokens lexed.errors) (told_along (str_flat f) s t h.taken ∙ ap (λ l. l ++ told (str_flat f)) none));
     }

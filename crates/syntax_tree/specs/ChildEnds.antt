@@ -1,6 +1,8 @@
 -- Where children end.
 -- (What calls promise one another; no promise of the library rests on it.)
-use Rattle.std.specs.Prelude.{Bool, ℕ, nat_lt}
+use Rattle.std.specs.Prelude.{Bool, ℕ, ◌-◌, List, Option, length, nat_lt}
+use Rattle.std.specs.List.{find, slice_get}
+use Rattle.std.specs.Option.{option_or}
 use Rattle.syntax_tree.specs.declared.node.Child.{Child}
 use Rattle.syntax_tree.specs.declared.node.Child.TheVariants.{Node as a_node, Leaf as a_leaf}
 
@@ -11,3 +13,7 @@ child_end (a_leaf kind range) = range.end
 -- a child ends behind the byte
 abbrev pub ends_behind : ℕ → Child → Bool
 ends_behind offset c = nat_lt offset (child_end c)
+
+-- the first child that ends behind the byte, or the last one
+abbrev pub reaching : ℕ → List Child → Option Child
+reaching offset cs = option_or (find (ends_behind offset) cs) (slice_get cs (length cs - 1))

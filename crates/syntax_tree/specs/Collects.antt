@@ -9,4 +9,4 @@ use Rattle.syntax_tree.specs.declared.collector.Collector.{Collector}
 -- the builder takes the step, and a message is kept
 pub record Collects (old : Collector) (step : StrStepValue) (new : Collector) : Type 0 where
   pub tree : Builds old.builder step new.builder
-  pub messages : new.messages.items ≡ old.messages.items ++ told_by step
+  pub reports : new.reports.items ≡ old.reports.items ++ told_by step

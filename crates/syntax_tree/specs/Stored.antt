@@ -3,6 +3,7 @@
 use Rattle.std.specs.Prelude.{◌≡◌, ℕ, zero, suc, List, [], ◌∷◌, ◌++◌, refl}
 use Rattle.std.specs.Coded.{Coded, code_by, coded×, coded_ℕ, coded_list}
 use Rattle.std.proofs.Common.{◌∙◌, ap, sym, append_assoc, append-nil}
+use Rattle.syntax_tree.specs.Elements.{RangedElement, node_element, leaf_element}
 use Rattle.syntax_tree.specs.RangedForest.{RangedForest, RangedNode, ranged_none, ranged_node, ranged_leaf}
 
 -- a leaf, and where a node begins and ends
@@ -79,3 +80,28 @@ node_code =
     (λ n. (n.kind, (n.start, (n.end, n.children))))
     (λ p. record { kind = p.0; start = p.1.0; end = p.1.1.0; children = p.1.1.1 })
     (λ _. refl)
+
+-- a node or a leaf is stored as a number that says which, and a node
+abbrev pub element_parts : RangedElement → ℕ × RangedNode
+element_parts (node_element n) = (0, n)
+element_parts (leaf_element l) = (1, record { kind = l.kind; start = l.start; end = l.end; children = ranged_none })
+
+abbrev pub element_by : ℕ → RangedNode → RangedElement
+element_by zero n = node_element n
+element_by (suc i) n = leaf_element (record { kind = n.kind; start = n.start; end = n.end })
+
+abbrev pub element_with : ℕ × RangedNode → RangedElement
+element_with p = element_by p.0 p.1
+
+pub element_with-parts : (e : RangedElement) → element_with (element_parts e) ≡ e
+element_with-parts (node_element n) = refl
+element_with-parts (leaf_element l) = refl
+
+abbrev pub element_code : Coded RangedElement
+element_code = code_by (ℕ × RangedNode) (coded× coded_ℕ node_code) element_parts element_with element_with-parts
+
+abbrev pub elements_code : Coded (List RangedElement)
+elements_code = coded_list element_code
+
+abbrev pub nodes_code : Coded (List RangedNode)
+nodes_code = coded_list node_code

@@ -1,5 +1,5 @@
 -- The tree of a whole text.
-use Rattle.std.specs.Prelude.{◌≡◌, ℕ, List, length}
+use Rattle.std.specs.Prelude.{◌≡◌, ℕ, List, length, map}
 use Rattle.rap_base.specs.declared.edition.Edition.{Edition}
 use Rattle.rap_events.specs.Forest.{Forest}
 use Rattle.rap_lexed.specs.LexedStr.{Lexed}
@@ -10,12 +10,13 @@ use Rattle.ra_ap_parser.specs.declared.entry_point.TopEntryPoint.{TopEntryPoint}
 use Rattle.syntax_tree.specs.Places.{HavePlaces}
 use Rattle.syntax_tree.specs.Ranged.{Ranged}
 use Rattle.syntax_tree.specs.RangedForest.{RangedNode, alone}
-use Rattle.syntax_tree.specs.Told.{Told, all_told}
+use Rattle.syntax_tree.specs.RangedMessages.{RangedMessage, ranged_message}
+use Rattle.syntax_tree.specs.Told.{all_told}
 
 -- The root is the one tree of the text's tokens, with the place of each node and leaf, and covers the whole text; each
 -- place is from one border of characters to another; and the messages are those of the tree, and after them those of
--- the lexer.
-pub record IsTextTree (text : List ℕ) (edition : Edition) (entry : TopEntryPoint) (root : RangedNode) (messages : List Told) : Type 0 where
+-- the lexer, each with the place of the leaf at which it stands.
+pub record IsTextTree (text : List ℕ) (edition : Edition) (entry : TopEntryPoint) (root : RangedNode) (messages : List RangedMessage) : Type 0 where
   pub lexed : Lexed
   pub forest : Forest
   pub parsed : IsParsed text edition entry lexed forest
@@ -23,4 +24,4 @@ pub record IsTextTree (text : List ℕ) (edition : Edition) (entry : TopEntryPoi
   pub start : root.start ≡ 0
   pub end : root.end ≡ length text
   pub places : HavePlaces text (alone root)
-  pub told : messages ≡ all_told lexed (str_flat (with_trivia lexed.tokens forest))
+  pub told : messages ≡ map (ranged_message root.children) (all_told lexed (str_flat (with_trivia lexed.tokens forest)))

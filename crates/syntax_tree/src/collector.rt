@@ -6,7 +6,7 @@ ghost use Rattle.syntax_tree.specs.RangedForest.{ranged_none};
 ghost use Rattle.syntax_tree.specs.Told.{lexer_told};
 
 use crate::builder::Builder;
-use crate::message::Message;
+use crate::report::Report;
 use rap_base::no_memory::NoMemory;
 use rap_lexed::lexed_str::LexedStr;
 use rap_lexed::shortcuts::{StrSink, StrStep};
@@ -17,37 +17,37 @@ use std::alloc::Global;
 pub(crate) struct Collector {
     alloc: Global,
     pub(crate) builder: Builder,
-    pub(crate) messages: Vec<Message>,
+    pub(crate) reports: Vec<Report>,
 }
 
 impl Collector {
     /// Nothing yet.
     pub(crate) fn new(alloc: Global) -> Collector
         ensures tree { building result.builder ≡ record { frames = outermost; forest = ranged_none; at = 0 } }
-        ensures messages { result.messages.items ≡ [] }
+        ensures reports { result.reports.items ≡ [] }
     {
         Collector {
             alloc,
             builder: Builder::new(alloc),
-            messages: Vec::new(alloc),
+            reports: Vec::new(alloc),
         }
     }
 
     /// Keeps a message.
     fn tell(&mut self, text: &str, at: usize) -> Result<(), NoMemory>
-        ensures messages { OnOk result (self.new.messages.items ≡ self.old.messages.items ++ record { text = text.now; at = at } ∷ []) }
+        ensures reports { OnOk result (self.new.reports.items ≡ self.old.reports.items ++ record { text = text.now; at = at } ∷ []) }
         ensures tree { self.new.builder ≡ self.old.builder }
     {
         let text = String::from_str(self.alloc, text)?;
-        self.messages.push(Message::new(text, at))?;
+        self.reports.push(Report::new(text, at))?;
         Ok(())
     }
 
     /// Keeps the lexer's messages, each at the start of its token.
     pub(crate) fn tell_errors_of(&mut self, lexed: &LexedStr<'_>) -> Result<(), NoMemory>
         requires { AreInOrder (length lexed.now.tokens) lexed.now.errors }
-        ensures messages { OnOk result (self.new.messages.items
-            ≡ self.old.messages.items ++ lexer_told lexed.now.tokens lexed.now.errors) }
+        ensures reports { OnOk result (self.new.reports.items
+            ≡ self.old.reports.items ++ lexer_told lexed.now.tokens lexed.now.errors) }
         ensures tree { self.new.builder ≡ self.old.builder }
     {
         'errors: for (token, message) in lexed.errors() {

@@ -26,7 +26,7 @@ impl Tree<'_> {
 }
 
 /// Where a child ends.
-fn end_of(child: &Child) -> usize
+pub(crate) fn end_of(child: &Child) -> usize
     ensures { result ≡ child_end child.now }
 {
     match child {
@@ -36,7 +36,7 @@ fn end_of(child: &Child) -> usize
 }
 
 /// The first child that ends after a byte.
-fn child_behind(children: &[Child], offset: usize) -> Option<&Child>
+pub(crate) fn child_behind(children: &[Child], offset: usize) -> Option<&Child>
     requires { IsNonDecreasingBy child_end children.now }
     ensures { option_copied result ≡ find (ends_behind offset) children.now }
 {
@@ -49,7 +49,7 @@ fn child_behind(children: &[Child], offset: usize) -> Option<&Child>
 }
 
 /// The leaf below a node that holds a byte.
-fn leaf_below(root: &Node, offset: usize) -> Option<Leaf>
+pub(crate) fn leaf_below(root: &Node, offset: usize) -> Option<Leaf>
     requires row { InRow root.now.start root.now.children root.now.end }
     requires begins { root.now.start ≤ offset }
     ensures { result ≡ leaf_of_byte offset root.now.children }

@@ -6,15 +6,24 @@
 
 mod builder;
 mod collector;
+mod covering;
+mod element;
 pub mod laws;
 mod leaf;
 mod leaf_at;
 mod message;
+mod next;
 mod node;
+mod plain_text;
 mod queries;
+mod report;
+mod traversal;
 mod tree;
+mod walk;
 
+pub use element::Element;
 pub use leaf::Leaf;
 pub use message::Message;
 pub use node::{Child, Node};
+pub use traversal::{Descendants, Leaves};
 pub use tree::Tree;

@@ -2,30 +2,37 @@
 ghost use Rattle.std.specs.Prelude.{◌≡◌, string_bytes};
 
 use std::marker::Model;
+use std::ops::Range;
 
-/// A message about a text: what it says, and the byte of the text at which it stands.
+/// A message about a text: what it says, the byte of the text at which it stands, and the place of the token there.
 #[derive(Debug, Drop)]
 pub struct Message {
     text: String,
     at: usize,
+    start: usize,
+    end: usize,
 }
 
 impl Model for Message {
     ghost use Rattle.std.specs.Prelude.{string_bytes};
-    ghost use Rattle.syntax_tree.specs.Told.{Told};
+    ghost use Rattle.syntax_tree.specs.RangedMessages.{RangedMessage};
 
-    ghost Value = { Told };
+    ghost Value = { RangedMessage };
 
-    ghost view = { λ m. record { text = string_bytes m.text; at = m.at } };
+    ghost view = { λ m. record { text = string_bytes m.text; at = m.at; start = m.start; end = m.end } };
 }
 
 impl Message {
-    /// A message of this text.
-    pub(crate) fn new(text: String, at: usize) -> Message
-        ensures text { result.text ≡ string_bytes text }
-        ensures at { result.at ≡ at }
+    /// A message of this text at this byte, with this place.
+    pub(crate) fn new(text: String, at: usize, range: Range<usize>) -> Message
+        ensures { result ≡ record { text = string_bytes text; at = at; start = range.start; end = range.end } }
     {
-        Message { text, at }
+        Message {
+            text,
+            at,
+            start: range.start,
+            end: range.end,
+        }
     }
 
     /// What it says.
@@ -40,5 +47,13 @@ impl Message {
         ensures { result ≡ self.now.at }
     {
         self.at
+    }
+
+    /// The place of the token at which it stands, in bytes. At the end of the text it is empty.
+    pub fn range(&self) -> Range<usize>
+        ensures start { result.start ≡ self.now.start }
+        ensures end { result.end ≡ self.now.end }
+    {
+        self.start..self.end
     }
 }

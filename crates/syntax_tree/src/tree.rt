@@ -17,6 +17,7 @@ use crate::builder::Builder;
 use crate::collector::Collector;
 use crate::message::Message;
 use crate::node::{Child, Node};
+use crate::report::all_placed;
 use ra_ap_parser::{Edition, MAX_TEXT, TextFault, TopEntryPoint, parse_text};
 use rap_base::no_memory::NoMemory;
 use rap_events::output::Output;
@@ -80,18 +81,22 @@ impl<'t> Tree<'t> {
         };
         let Collector {
             builder,
-            messages,
+            reports,
             ..
         } = collector;
-        Ok(Tree {
-            text,
-            root: only_node(builder.into_children()),
-            messages,
-        })
+        let root = only_node(builder.into_children());
+        match all_placed(alloc, reports, &root) {
+            Ok(messages) => Ok(Tree {
+                text,
+                root,
+                messages,
+            }),
+            Err(NoMemory) => Err(TextFault::Refused(NoMemory)),
+        }
     }
 
     /// The messages: none after [`Tree::build`]; after [`Tree::of_text`] those of the parser in the order of the tree,
-    /// and after them those of the lexer in the order of their tokens.
+    /// and after them those of the lexer in the order of their tokens, each with the range of the token at which it is.
     pub fn messages(&self) -> &[Message]
         ensures { result.now ≡ self.now.messages.items }
     {
@@ -103,6 +108,13 @@ impl<'t> Tree<'t> {
         ensures { result.now ≡ self.now.root }
     {
         &self.root
+    }
+
+    /// The text that the tree is over.
+    pub fn text(&self) -> &'t str
+        ensures { result.now ≡ self.now.text.now }
+    {
+        self.text
     }
 
     /// The text of a node: that of its range. No memory is allocated, and nothing is copied.

@@ -1,20 +1,21 @@
-//! Lists the functions of a text, each with its place.
+//! Lists the functions of a file, each with its place: `syntax_tree_example FILE`.
 #![tactic(auto)]
 
 use ra_ap_parser::{Edition, SyntaxKind, TopEntryPoint};
-use std::io;
-use syntax_tree::{Child, Tree};
+use std::{env, fs};
+use syntax_tree::Tree;
 
-fn main(rt: HostRuntime) -> io::Result<()> {
-    let text = "fn a() {}\n\nconst B: u8 = 1;\n\npub fn c() {\n}\n";
-    let entry = TopEntryPoint::SourceFile;
-    let Ok(tree) = Tree::of_text(rt.alloc(), Edition::LATEST, entry, text) else {
-        return println!(rt; "too long, or no memory");
-    };
-    for child in tree.root().children() {
-        if let Child::Node(node) = child
-            && node.kind() == SyntaxKind::FN
-        {
+fn main(rt: HostRuntime) -> anyhow::Result<()> {
+    let file = env::args(&rt)?.nth(1).unwrap_or(String::new(rt.alloc()));
+    let text = fs::read_to_string(&rt, file.as_str())?;
+    let tree = Tree::of_text(
+        rt.alloc(),
+        Edition::LATEST,
+        TopEntryPoint::SourceFile,
+        text.as_str(),
+    )?;
+    for node in tree.root().descendants(rt.alloc())? {
+        if node.kind() == SyntaxKind::FN {
             let range = node.range();
             println!(rt; "fn at {}..{}", range.start, range.end)?;
         }

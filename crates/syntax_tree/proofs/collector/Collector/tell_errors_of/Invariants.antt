@@ -8,5 +8,5 @@ invariant-errors l =
     (goal.iterator-errors).can_next l.token-iterator ×
     (goal.iterator-errors).is_finite l.token-iterator ×
     AreInOrder (length l.fn.lexed.tokens) l.token-iterator ×
-    (l.self.messages.items ++ lexer_told l.fn.lexed.tokens l.token-iterator ≡ l.fn.self.messages.items ++ lexer_told l.fn.lexed.tokens l.fn.lexed.errors) ×
+    (l.self.reports.items ++ lexer_told l.fn.lexed.tokens l.token-iterator ≡ l.fn.self.reports.items ++ lexer_told l.fn.lexed.tokens l.fn.lexed.errors) ×
     (l.self.builder ≡ l.fn.self.builder)
