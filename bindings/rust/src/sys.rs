@@ -31,7 +31,7 @@ pub struct Record {
 #[repr(C)]
 #[derive(Clone, Copy, Debug, Default, PartialEq, Eq)]
 pub struct Part {
-    pub there: u32,
+    pub there: usize,
     pub start: usize,
     pub end: usize,
 }

@@ -9,7 +9,7 @@ use ra_ap_parser::frontmatter::Span;
 #[repr(C)]
 #[derive(Clone, Copy, Debug, PartialEq, Eq)]
 pub struct RapPart {
-    pub there: u32,
+    pub there: usize,
     pub start: usize,
     pub end: usize,
 }
