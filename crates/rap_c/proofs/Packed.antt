@@ -1,15 +1,16 @@
 -- What a packer's writes come to.
-use Rattle.std.proofs.Common.{◌≡◌, ℕ, suc, ◌+◌, ◌^◌, ◌≤◌, ◌<◌, List, [], ◌∷◌, ◌++◌, length, refl, ap, sym, subst, ◌∙◌, inl, inr, arith, add_assoc, length-append, length-set, add-one}
-use Rattle.std.proofs.lemmas.Bool.{cases_lt}
-use Rattle.std.specs.Prelude.{slice_set}
-use Rattle.rap_lexed.specs.LexedStr.{Token, Message, start_of}
+use Rattle.std.proofs.Common.{◌≡◌, ℕ, suc, ◌+◌, ◌^◌, ◌≤◌, ◌<◌, List, [], ◌∷◌, ◌++◌, length, refl, ap, sym, subst, ◌∙◌, inl, inr, arith, length-append, zero-add}
+use Rattle.std.proofs.lemmas.Bool.{cases_lt, cond-true, cond-false, lt-ltb, le-ltb}
+use Rattle.std.specs.Prelude.{slice_set, nat_lt}
 use Rattle.rap_lexed.specs.StrSink.{Takes}
-use Rattle.rap_lexed.specs.StrStep.{StrStepValue, str_error}
+use Rattle.rap_lexed.specs.StrStep.{StrStepValue}
 use Rattle.rap_c.specs.Filling.{write_at}
 use Rattle.rap_c.specs.Item.{counted}
-use Rattle.rap_c.specs.Packing.{Packing, packed}
-use Rattle.rap_c.specs.Packs.{packing_of, Fits, IsSamePack, PutsWord, Packs, PacksStep, PacksAll}
-use Rattle.rap_c.specs.Words.{words_of, bytes_of, all_words, all_bytes, lexer_steps}
+use Rattle.rap_c.specs.Packing.{Packing, packed, packed_all}
+use Rattle.rap_c.specs.Packs.{packing_of, Fits, IsPackStart, IsSamePack, PutsWord, Packs, PacksStep, PacksAll}
+use Rattle.rap_c.specs.TreeWords.{AreWordsGiven}
+use Rattle.rap_c.specs.Words.{word_of, as_word, token_words, words_of, bytes_of, all_words, all_bytes}
+use Rattle.rap_c.specs.declared.answer.RapAnswer.{RapAnswer}
 use Rattle.rap_c.specs.declared.packer.Packer.{Packer}
 use Rattle.rap_c.proofs.Written.{write_at-nothing, write_at-past, write_at-length, write_at-set, write_at-twice}
 
@@ -115,13 +116,61 @@ pack_message u v w bytes f g h i j a b c words messages count said same =
     } in
     pack_then (u ∷ v ∷ w ∷ []) [] [] bytes f i j a.fits (pack_three u v w f g h i a b c) last
 
+-- a token of so many bytes
+pub short_token : (kind bytes : ℕ) (f g : Packer) → bytes < 8191 → PutsWord (word_of 2 bytes kind) f g → Packs (token_words kind bytes) [] f g
+short_token kind bytes f g low h =
+    subst (λ l. Packs l [] f g) (sym (cond-true (nat_lt bytes 8191) (word_of 2 bytes kind ∷ []) (word_of 2 8191 kind ∷ as_word bytes ∷ []) (lt-ltb bytes 8191 low))) (pack_one (word_of 2 bytes kind) f g h)
+
+pub long_token : (kind bytes : ℕ) (f g h : Packer) → 8191 ≤ bytes → PutsWord (word_of 2 8191 kind) f g → PutsWord (as_word bytes) g h → Packs (token_words kind bytes) [] f h
+long_token kind bytes f g h high a b =
+    subst (λ l. Packs l [] f h) (sym (cond-false (nat_lt bytes 8191) (word_of 2 bytes kind ∷ []) (word_of 2 8191 kind ∷ as_word bytes ∷ []) (le-ltb bytes 8191 high))) (pack_two (word_of 2 8191 kind) (as_word bytes) f g h a b)
+
 -- the steps of a tree, taken one after another
-pub pack_along : (steps : List StrStepValue) (f g : Packer) → FitsIn (packing_of f) → Takes PacksStep f steps g → PacksAll steps f g
-pack_along [] f g fits h = record { is = ap packing_of (sym h) ∙ packed_none (packing_of f) fits; same = subst (λ i. IsSamePack f i) h (pack_refl f) }
-pack_along (x ∷ xs) f g fits h =
-    let fits_next : FitsIn (packing_of h.0) = subst FitsIn (sym h.1.is) (fits_still (packing_of f) (words_of x) (bytes_of x) fits) in
-    let rest : PacksAll xs h.0 g = pack_along xs h.0 g fits_next h.2 in
+pub pack_along : (steps : List StrStepValue) (f g : Packer) → Takes PacksStep f steps g → PacksAll steps f g
+pack_along [] f g h = record { is = ap packing_of (sym h); same = subst (λ i. IsSamePack f i) h (pack_refl f) }
+pack_along (x ∷ xs) f g h =
+    let rest : PacksAll xs h.0 g = pack_along xs h.0 g h.2 in
     record {
-      is = rest.is ∙ (ap (λ p. packed p (all_words xs) (all_bytes xs)) h.1.is ∙ packed_twice (packing_of f) (words_of x) (bytes_of x) (all_words xs) (all_bytes xs) fits);
+      is = rest.is ∙ ap (λ p. packed_all p xs) h.1.is;
       same = pack_trans f h.0 g h.1.same rest.same;
+    }
+
+packed_append : (p : Packing) (xs ys : List StrStepValue) → packed_all p (xs ++ ys) ≡ packed_all (packed_all p xs) ys
+packed_append p [] ys = refl
+packed_append p (x ∷ xs) ys = packed_append (packed p (words_of x) (bytes_of x)) xs ys
+
+-- steps, and others behind them
+pub pack_others : (xs ys : List StrStepValue) (f g h : Packer) → PacksAll xs f g → PacksAll ys g h → PacksAll (xs ++ ys) f h
+pack_others xs ys f g h a b = record {
+  is = b.is ∙ (ap (λ p. packed_all p ys) a.is ∙ sym (packed_append (packing_of f) xs ys));
+  same = pack_trans f g h a.same b.same;
+}
+
+-- steps one after another are all their words at once
+packed_once : (xs : List StrStepValue) (p : Packing) → FitsIn p → packed_all p xs ≡ packed p (all_words xs) (all_bytes xs)
+packed_once [] p h = packed_none p h
+packed_once (x ∷ xs) p h =
+    packed_once xs (packed p (words_of x) (bytes_of x)) (fits_still p (words_of x) (bytes_of x) h)
+    ∙ packed_twice p (words_of x) (bytes_of x) (all_words xs) (all_bytes xs) h
+
+pub packed_is : (xs : List StrStepValue) (f g : Packer) → Fits f → PacksAll xs f g → packing_of g ≡ packed (packing_of f) (all_words xs) (all_bytes xs)
+packed_is xs f g fits h = h.is ∙ packed_once xs (packing_of f) (fits_in f fits)
+
+-- all that was added is in the caller's room, once it is handed back
+pub words_given : (xs ys : List StrStepValue) (words words_after messages messages_after : List ℕ) (f g h : Packer) (answer : RapAnswer)
+    → IsPackStart words messages f → PacksAll xs f g → PacksAll ys g h → words_after ≡ h.words.now → messages_after ≡ h.messages.now
+    → answer ≡ record { status = 0; steps = h.count; message_bytes = h.said; used = g.count } → AreWordsGiven xs ys words words_after messages messages_after answer
+words_given xs ys words words_after messages messages_after f g h answer start a b e d is =
+    let begin : Packing = make words messages 0 0 in
+    let some : packing_of g ≡ packed begin (all_words xs) (all_bytes xs) =
+        packed_is xs f g start.fits a ∙ ap (λ p. packed p (all_words xs) (all_bytes xs)) start.is in
+    let all : packing_of h ≡ packed begin (all_words (xs ++ ys)) (all_bytes (xs ++ ys)) =
+        packed_is (xs ++ ys) f h start.fits (pack_others xs ys f g h a b) ∙ ap (λ p. packed p (all_words (xs ++ ys)) (all_bytes (xs ++ ys))) start.is in
+    record {
+      words_are = e ∙ ap (λ (p : Packing). p.words) all;
+      messages_are = d ∙ ap (λ (p : Packing). p.messages) all;
+      status = ap (λ (r : RapAnswer). r.status) is;
+      count = ap (λ (r : RapAnswer). r.steps) is ∙ (ap (λ (p : Packing). p.count) all ∙ ap counted (zero-add (length (all_words (xs ++ ys)))));
+      bytes = ap (λ (r : RapAnswer). r.message_bytes) is ∙ (ap (λ (p : Packing). p.said) all ∙ ap counted (zero-add (length (all_bytes (xs ++ ys)))));
+      used = ap (λ (r : RapAnswer). r.used) is ∙ (ap (λ (p : Packing). p.count) some ∙ ap counted (zero-add (length (all_words xs))));
     }

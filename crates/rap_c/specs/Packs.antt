@@ -3,8 +3,8 @@
 use Rattle.std.specs.Prelude.{◌≡◌, ℕ, ◌+◌, ◌<◌, ◌^◌, List, length, slice_set}
 use Rattle.rap_lexed.specs.StrStep.{StrStepValue}
 use Rattle.rap_c.specs.Item.{counted}
-use Rattle.rap_c.specs.Packing.{Packing, packed}
-use Rattle.rap_c.specs.Words.{words_of, bytes_of, all_words, all_bytes}
+use Rattle.rap_c.specs.Packing.{Packing, packed, packed_all}
+use Rattle.rap_c.specs.Words.{words_of, bytes_of}
 use Rattle.rap_c.specs.declared.packer.Packer.{Packer}
 
 -- the room, as it is filled so far
@@ -47,5 +47,6 @@ abbrev pub PacksStep : Packer → StrStepValue → Packer → Type 0
 PacksStep old step new = Packs (words_of step) (bytes_of step) old new
 
 -- steps were added, one after another
-abbrev pub PacksAll : List StrStepValue → Packer → Packer → Type 0
-PacksAll steps old new = Packs (all_words steps) (all_bytes steps) old new
+pub record PacksAll (steps : List StrStepValue) (old new : Packer) : Type 0 where
+  pub is : packing_of new ≡ packed_all (packing_of old) steps
+  pub same : IsSamePack old new

@@ -41,7 +41,7 @@ fn narrow(number: usize) -> u32
 }
 
 impl<'a> Packer<'a> {
-    ghost use Rattle.rap_c.specs.Packs.{Fits, IsPackStart, Packs, PacksAll, PutsWord};
+    ghost use Rattle.rap_c.specs.Packs.{IsPackStart, Packs, PacksAll, PutsWord};
 
     /// Nothing is written yet.
     pub fn new(words: &'a mut [u32], messages: &'a mut [u8]) -> Packer<'a>
@@ -101,8 +101,7 @@ impl<'a> Packer<'a> {
 
     /// Adds the lexer's messages, each at the start of its token.
     pub fn add_errors_of(&mut self, lexed: &LexedStr<'_>)
-        requires order { AreInOrder (length lexed.now.tokens) lexed.now.errors }
-        requires fits { Fits self.now }
+        requires { AreInOrder (length lexed.now.tokens) lexed.now.errors }
         ensures { PacksAll (lexer_steps lexed.now.tokens lexed.now.errors) self.old self.new }
     {
         'errors: for (token, message) in lexed.errors() {
