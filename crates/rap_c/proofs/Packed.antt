@@ -163,9 +163,9 @@ pub words_given : (xs ys : List StrStepValue) (words words_after messages messag
 words_given xs ys words words_after messages messages_after f g h answer start a b e d is =
     let begin : Packing = make words messages 0 0 in
     let some : packing_of g ≡ packed begin (all_words xs) (all_bytes xs) =
-        packed_is xs f g start.fits a ∙ ap (λ p. packed p (all_words xs) (all_bytes xs)) start.is in
+    packed_is xs f g start.fits a ∙ ap (λ p. packed p (all_words xs) (all_bytes xs)) start.is in
     let all : packing_of h ≡ packed begin (all_words (xs ++ ys)) (all_bytes (xs ++ ys)) =
-        packed_is (xs ++ ys) f h start.fits (pack_others xs ys f g h a b) ∙ ap (λ p. packed p (all_words (xs ++ ys)) (all_bytes (xs ++ ys))) start.is in
+    packed_is (xs ++ ys) f h start.fits (pack_others xs ys f g h a b) ∙ ap (λ p. packed p (all_words (xs ++ ys)) (all_bytes (xs ++ ys))) start.is in
     record {
       words_are = e ∙ ap (λ (p : Packing). p.words) all;
       messages_are = d ∙ ap (λ (p : Packing). p.messages) all;

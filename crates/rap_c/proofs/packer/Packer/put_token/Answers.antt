@@ -7,4 +7,4 @@ returns-then-bytes-lt-LONG c = short_token c.args.kind c.args.bytes _ _ c.if-byt
 
 pub returns-else-bytes-lt-LONG : goal.returns-else-bytes-lt-LONG
 returns-else-bytes-lt-LONG c =
-    long_token c.args.kind c.args.bytes _ _ _ c.if-bytes-lt-LONG.false (rw c.word-2.ensures at c.put-2.ensures) (rw c.narrow.ensures at c.put-3.ensures)
+    long_token c.args.kind c.args.bytes _ _ _ c.if-bytes-lt-LONG.false (rw c.word-else-bytes-lt-LONG.ensures at c.put-else-bytes-lt-LONG.ensures) (rw c.narrow.ensures at c.put-else-bytes-lt-LONG-2.ensures)
