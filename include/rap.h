@@ -71,6 +71,16 @@ struct rap_record {
     uint32_t joint;
 };
 
+/* A part of a text.
+ * `there`: 1 where the part is there, and else 0.
+ * `start`, `end`: its first byte, and the one behind it. Both are 0 where it is not there.
+ */
+struct rap_part {
+    size_t there;
+    size_t start;
+    size_t end;
+};
+
 /* Statuses. */
 enum rap_status {
     RAP_OK = 0,              /* the steps are those of one tree, or of a text's tokens */
@@ -84,12 +94,14 @@ enum rap_status {
     RAP_NO_NODE = 8,         /* such a node is not parsed again alone */
     RAP_NO_BRACE = 9,        /* the node must begin with a `{`, and the text or the records do not */
     RAP_NO_RECORD = 10,      /* one of the records is no token's */
-    RAP_NO_STEPS = 11        /* the steps that were given are not those of one tree over the text */
+    RAP_NO_STEPS = 11,       /* the steps that were given are not those of one tree over the text */
+    RAP_NO_SCRIPT = 12       /* the text is no script source */
 };
 
 /* The result of a call.
- * `status`: one of enum rap_status. From RAP_NO_EDITION on nothing was written, and the other numbers are 0.
- * `steps`: the number of all steps, or of all records; as many as fit are in the caller's array.
+ * `status`: one of enum rap_status. From RAP_NO_EDITION on, but for RAP_NO_SCRIPT, nothing was written, and the other
+ *     numbers are 0.
+ * `steps`: the number of all steps, or of all records, words or parts; as many as fit are in the caller's array.
  * `message_bytes`: the number of all bytes of messages; as many as fit are in the caller's array. They are UTF-8 and
  *     have no 0 at the end.
  * `used`: the end, in bytes of the text, of the last token that was taken. For an input of records, the number of
@@ -141,6 +153,22 @@ enum { RAP_EOF = 0, RAP_IDENT = 148, RAP_LAST_TOKEN = 156 };
  */
 struct rap_answer rap_tree(const uint8_t *text, size_t text_length, uint32_t edition, uint32_t entry,
                            struct rap_step *steps, size_t step_room, uint8_t *messages, size_t message_room);
+
+/* What a token's word holds in the place of its length where a second word has it. */
+enum { RAP_LONG = 8191 };
+
+/* The tree of a text in words of 32 bits, most of them a step each: the steps of rap_tree in an eighth of the memory.
+ * `words`, `word_room`: the caller's array. As many words as fit are written, which may end in the middle of a step.
+ * In the first word of a step bits 0 to 2 are one of enum rap_what; bits 16 to 31 are the number of its kind, for
+ * RAP_ENTER and RAP_TOKEN; the others are 0, but for RAP_TOKEN bits 3 to 15 are the length of the token in bytes, or
+ * RAP_LONG where that is RAP_LONG or more, and then the next word is the length. Two words follow that of RAP_MESSAGE:
+ * the byte of the text at which the message stands, and the number of its bytes in the array of messages; a message
+ * begins there where the one before it ended. A token begins in the text where the one before it ended. There is no
+ * RAP_SPLIT. After the end of the last node stand the lexer's messages, each at its token.
+ * Status: as for rap_tree. `steps` is the number of words, and `used` the number of those before the lexer's messages.
+ */
+struct rap_answer rap_tree_words(const uint8_t *text, size_t text_length, uint32_t edition, uint32_t entry,
+                                 uint32_t *words, size_t word_room, uint8_t *messages, size_t message_room);
 
 /* The tokens of a text, trivia included: a RAP_TOKEN step for each, and after the last one the lexer's messages, each
  * at its token. Nothing is parsed.
@@ -246,6 +274,31 @@ struct rap_answer rap_weave(const uint8_t *text, size_t text_length, uint32_t ed
                             const struct rap_step *tree, size_t tree_steps,
                             const uint8_t *tree_messages, size_t tree_message_bytes,
                             struct rap_step *steps, size_t step_room, uint8_t *messages, size_t message_room);
+
+/* Divides a text into what may stand before the code of a file, and the code: a shebang, which is a line, and a
+ * frontmatter between two lines of dashes.
+ * `parts`, `part_room`: the caller's array. As many parts as fit are written.
+ * With RAP_OK there are six parts: the shebang with its line feed, the dashes that open the frontmatter, the word after
+ * them on their line, the lines between the dashes, the dashes that close it, and the rest of the text, which is always
+ * there. There is no message.
+ * With RAP_NO_SCRIPT the text is refused: the first part is the range that the message is about, and the others, all of
+ * them there, are to be shown with it, in order.
+ * Else the status is RAP_NOT_UTF8, or RAP_NO_MEMORY, which only a text that is refused can have. `steps` is the number
+ * of parts, and `used` the text's length.
+ */
+struct rap_answer rap_script(const uint8_t *text, size_t text_length,
+                             struct rap_part *parts, size_t part_room, uint8_t *messages, size_t message_room);
+
+/* The end of a text's shebang, with its line feed: the text begins with `#!`, and what follows does not, after white
+ * space, begin with `[`. `used` is the number of its bytes, or 0 where there is none.
+ * Status: RAP_OK or RAP_NOT_UTF8. `steps` and `message_bytes` are 0.
+ */
+struct rap_answer rap_shebang(const uint8_t *text, size_t text_length);
+
+/* The end of the longest run of Rust's white space that begins a text and ends with a line feed. `used` is the number
+ * of its bytes, or 0 where there is none. The rest of the result is as for rap_shebang.
+ */
+struct rap_answer rap_blank_lines(const uint8_t *text, size_t text_length);
 
 /* Writes the name of a kind, in ASCII and with no 0 at the end, as many bytes as fit, and returns the length of the
  * name in bytes: 0 if the number is no kind's. No name has more than 32 bytes.

@@ -58,8 +58,8 @@ static struct wanted plain(const struct call *c)
     struct room none = {&step, 0, &byte, 0};
     struct wanted w;
     w.answer = answer_at(c, c->text, none);
-    struct room all = {calloc(w.answer.steps + 1, sizeof step), w.answer.steps, calloc(w.answer.message_bytes + 1, 1),
-                       w.answer.message_bytes};
+    struct room all = {calloc(w.answer.steps + 1, size_of_step(c)), w.answer.steps,
+                       calloc(w.answer.message_bytes + 1, 1), w.answer.message_bytes};
     w.room = all;
     struct rap_answer again = answer_at(c, c->text, all);
     calls += 2;
@@ -79,20 +79,20 @@ static int are_blank(const uint8_t *from, const uint8_t *to)
 static void call_at(const struct call *c, const uint8_t *text, const struct wanted *w, size_t steps, size_t messages,
                     int at_end, unsigned long line)
 {
-    size_t step_bytes = steps * sizeof(struct rap_step);
+    size_t step_size = size_of_step(c), step_bytes = steps * step_size;
     struct fenced s = fence(step_bytes), m = fence(messages);
     uint8_t *step_at = at_end ? s.end - step_bytes : s.begin, *message_at = at_end ? m.end - messages : m.begin;
     memset(s.begin, 0xa5, (size_t)(s.end - s.begin));
     memset(m.begin, 0xa5, (size_t)(m.end - m.begin));
-    struct room r = {(struct rap_step *)(void *)step_at, steps, message_at, messages};
+    struct room r = {step_at, steps, message_at, messages};
     struct rap_answer answer = answer_at(c, text, r);
     size_t step_count = steps < w->answer.steps ? steps : w->answer.steps;
     size_t byte_count = messages < w->answer.message_bytes ? messages : w->answer.message_bytes;
     calls++;
     check(are_same(answer, w->answer), line, "another answer at an edge");
-    check(memcmp(r.steps, w->room.steps, step_count * sizeof *r.steps) == 0, line, "other steps at an edge");
+    check(memcmp(r.steps, w->room.steps, step_count * step_size) == 0, line, "other steps at an edge");
     check(memcmp(r.messages, w->room.messages, byte_count) == 0, line, "other messages at an edge");
-    uint8_t *step_end = step_at + step_count * sizeof *r.steps, *message_end = message_at + byte_count;
+    uint8_t *step_end = step_at + step_count * step_size, *message_end = message_at + byte_count;
     check(are_blank(s.begin, step_at) && are_blank(step_end, s.end), line, "bytes beside steps");
     check(are_blank(m.begin, message_at) && are_blank(message_end, m.end), line, "bytes beside messages");
     open_fence(s);

@@ -69,9 +69,9 @@ static void check(int holds, unsigned long line, unsigned long number, const cha
 }
 
 /* Fills the arrays with what no call writes. */
-static void blank(struct room r)
+static void blank(const struct call *c, struct room r)
 {
-    memset(r.steps, 0xa5, r.step_room * sizeof *r.steps);
+    memset(r.steps, 0xa5, r.step_room * size_of_step(c));
     memset(r.messages, 0x5a, r.message_room);
 }
 
@@ -79,7 +79,7 @@ static void blank(struct room r)
 static struct rap_answer make(const struct call *c, struct room r, unsigned long line, unsigned long number)
 {
     long before = live;
-    blank(r);
+    blank(c, r);
     met = 0;
     growths = 0;
     refused = number;
@@ -90,15 +90,15 @@ static struct rap_answer make(const struct call *c, struct room r, unsigned long
     return answer;
 }
 
-static int are_alike(struct room a, struct room b)
+static int are_alike(const struct call *c, struct room a, struct room b)
 {
-    return memcmp(a.steps, b.steps, a.step_room * sizeof *a.steps) == 0
+    return memcmp(a.steps, b.steps, a.step_room * size_of_step(c)) == 0
         && memcmp(a.messages, b.messages, a.message_room) == 0;
 }
 
-static struct room room_for(size_t steps, size_t messages)
+static struct room room_for(const struct call *c, size_t steps, size_t messages)
 {
-    struct room r = {malloc((steps + 1) * sizeof *r.steps), steps, malloc(messages + 1), messages};
+    struct room r = {malloc((steps + 1) * size_of_step(c)), steps, malloc(messages + 1), messages};
     return r;
 }
 
@@ -111,20 +111,21 @@ static void give_back(struct room r)
 /* Makes a call with each growth refused in turn, in so much room. Gives how many growths were refused. */
 static unsigned long sweep(const struct call *c, size_t steps, size_t messages, unsigned long line)
 {
-    struct room ample = room_for(steps, messages), other = room_for(steps, messages), none = room_for(steps, messages);
+    struct room ample = room_for(c, steps, messages), other = room_for(c, steps, messages);
+    struct room none = room_for(c, steps, messages);
     const struct rap_answer refusal = {RAP_NO_MEMORY, 0, 0, 0};
     struct rap_answer all = make(c, ample, line, 0);
     unsigned long number = 0;
-    blank(none);
+    blank(c, none);
     do {
         struct rap_answer answer = make(c, other, line, ++number);
         if (answer.status == RAP_NO_MEMORY) {
             check(met, line, number, "there is no memory, and none was refused");
             check(are_same(answer, refusal), line, number, "numbers beside the status of a fault");
-            check(are_alike(other, none), line, number, "an array has changed at a fault");
+            check(are_alike(c, other, none), line, number, "an array has changed at a fault");
         } else {
             check(are_same(answer, all), line, number, "another answer than with ample memory");
-            check(are_alike(other, ample), line, number, "other steps or messages than with ample memory");
+            check(are_alike(c, other, ample), line, number, "other steps or messages than with ample memory");
         }
     } while (met);
     give_back(ample);
@@ -148,8 +149,10 @@ int main(void)
         unsigned long count = sweep(&c, size.steps, size.message_bytes, line);
         count += sweep(&c, size.steps / 2, size.message_bytes / 2, line);
         count += sweep(&c, 0, 0, line);
-        int may_take_none = size.status > RAP_NO_TREE && size.status != RAP_NO_MEMORY;
-        check(count > 0 || may_take_none, line, 0, "no growth was refused");
+        int takes_none = c.which == SHEBANG || c.which == BLANK || (c.which == SCRIPT && size.status == RAP_OK);
+        int may_take_none = size.status > RAP_NO_TREE && size.status < RAP_NO_SCRIPT && size.status != RAP_NO_MEMORY;
+        check(count == 0 || !takes_none, line, 0, "a growth where none is needed");
+        check(count > 0 || takes_none || may_take_none, line, 0, "no growth was refused");
         all += count;
         free(c.text);
         *(wrong == before ? &passed : &failed) += 1;

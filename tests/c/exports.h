@@ -4,6 +4,10 @@
  *     tokens EDITION TEXT
  *     prefix EDITION ENTRY TEXT
  *     reparse EDITION NODE FIRST PARENT TEXT
+ *     words EDITION ENTRY TEXT
+ *     script TEXT
+ *     shebang TEXT
+ *     blank TEXT
  *
  * ENTRY is a number; NODE, FIRST and PARENT are names of kinds, or `-` for none; TEXT is in hexadecimal digits behind
  * an `=`, which stands alone for the empty text. */
@@ -15,7 +19,7 @@
 #include <stdlib.h>
 #include <string.h>
 
-enum which { TREE, TOKENS, PREFIX, REPARSE };
+enum which { TREE, TOKENS, PREFIX, REPARSE, WORDS, SCRIPT, SHEBANG, BLANK, NO_CALL };
 
 /* A call without its arrays. */
 struct call {
@@ -25,13 +29,19 @@ struct call {
     size_t length;
 };
 
-/* The arrays of a call, and how much room they have. */
+/* The arrays of a call, and how much room they have: the first is of steps, of words or of parts, as the call has them. */
 struct room {
-    struct rap_step *steps;
+    void *steps;
     size_t step_room;
     uint8_t *messages;
     size_t message_room;
 };
+
+/* How many bytes one of the first array has. The last two calls have none. */
+static inline size_t size_of_step(const struct call *c)
+{
+    return c->which == WORDS ? sizeof(uint32_t) : c->which == SCRIPT ? sizeof(struct rap_part) : sizeof(struct rap_step);
+}
 
 /* Makes a call on a text that stands at another place. */
 static inline struct rap_answer answer_at(const struct call *c, const uint8_t *text, struct room r)
@@ -43,9 +53,17 @@ static inline struct rap_answer answer_at(const struct call *c, const uint8_t *t
         return rap_tokens(text, c->length, c->edition, r.steps, r.step_room, r.messages, r.message_room);
     case PREFIX:
         return rap_prefix(text, c->length, c->edition, c->entry, r.steps, r.step_room, r.messages, r.message_room);
-    default:
+    case REPARSE:
         return rap_reparse(text, c->length, c->edition, c->node, c->first_child, c->parent, r.steps, r.step_room,
                            r.messages, r.message_room);
+    case WORDS:
+        return rap_tree_words(text, c->length, c->edition, c->entry, r.steps, r.step_room, r.messages, r.message_room);
+    case SCRIPT:
+        return rap_script(text, c->length, r.steps, r.step_room, r.messages, r.message_room);
+    case SHEBANG:
+        return rap_shebang(text, c->length);
+    default:
+        return rap_blank_lines(text, c->length);
     }
 }
 
@@ -93,15 +111,16 @@ static inline void read_text(struct call *c, const char *word)
 /* Reads a line's call. */
 static inline struct call read_call(char *line)
 {
-    static const char *const names[] = {"tree", "tokens", "prefix", "reparse"};
+    static const char *const names[] = {"tree", "tokens", "prefix", "reparse", "words", "script", "shebang", "blank"};
     struct call c = {0};
     const char *word = strtok(line, " \n");
-    while (c.which < 4 && strcmp(word, names[c.which]) != 0)
+    while (c.which < NO_CALL && strcmp(word, names[c.which]) != 0)
         c.which++;
-    if (c.which == 4)
+    if (c.which == NO_CALL)
         exit(2);
-    c.edition = (uint32_t)atoi(next_word());
-    if (c.which == TREE || c.which == PREFIX)
+    if (c.which < SCRIPT)
+        c.edition = (uint32_t)atoi(next_word());
+    if (c.which == TREE || c.which == PREFIX || c.which == WORDS)
         c.entry = (uint32_t)atoi(next_word());
     if (c.which == REPARSE) {
         c.node = kind_named(next_word());

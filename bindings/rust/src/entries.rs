@@ -35,11 +35,8 @@ impl TopEntryPoint {
             check_status(filled.status);
             return Output::of_steps(filled);
         };
-        let mut woven = sys::tree(&source.text, source.edition.year(), entry);
+        let woven = sys::tree(&source.text, source.edition.year(), entry);
         check_status(woven.status);
-        // The lexer's messages stand after the end of the last node.
-        let end = woven.steps.iter().rposition(|step| step.what == sys::EXIT);
-        woven.steps.truncate(end.map_or(0, |end| end + 1));
         Output::of_tree(Tree { source: source.clone(), entry, woven })
     }
 

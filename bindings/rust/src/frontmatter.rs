@@ -1,17 +1,14 @@
 //! Script sources: the shebang and the frontmatter that may stand before the code.
 //!
-//! These calls do not go to the static library, which has none for them: they follow `crates/rap_frontmatter`, where
-//! the same calls are proved, and are tested. The lexing of a text by [`crate::LexedStr`] is the library's. In the Rust
-//! crate this module is not public.
+//! In the Rust crate this module is not public.
+use crate::lexed_str::check_status;
+use crate::sys::{self, Part};
 use std::error::Error;
 use std::fmt;
 use std::ops::Range;
 
 /// A range of bytes of a text.
 pub type Span = Range<usize>;
-
-/// The least number of dashes that open a frontmatter.
-const SHORTEST_FENCE: usize = 3;
 
 /// A text that begins with a shebang, a frontmatter, both or neither, divided into its parts. Spans are in bytes.
 #[derive(Debug)]
@@ -31,46 +28,23 @@ impl<'s> ScriptSource<'s> {
     /// A frontmatter is refused where fewer than three dashes open it, where no line closes it, where more or fewer
     /// dashes close it, where something else stands on the closing line, and where a second one follows.
     pub fn parse(raw: &'s str) -> Result<ScriptSource<'s>, FrontmatterError> {
-        let shebang = strip_shebang(raw);
-        let below = shebang.unwrap_or(0);
-        let source = ScriptSource {
-            raw,
-            shebang: shebang.map(|end| 0..end),
-            open: None,
-            info: None,
-            frontmatter: None,
-            close: None,
-            content: below..raw.len(),
-        };
-        let dashes = dashes_at(raw, below);
-        match dashes.len() {
-            0 => Ok(source),
-            len if len < SHORTEST_FENCE => {
-                let message = format!("found {len} `-` in rust frontmatter, expected at least 3");
-                Err(FrontmatterError::new(message, raw.len()..raw.len()).push_visible_span(dashes))
-            }
-            _ => source.with_frontmatter(dashes),
-        }
-    }
-
-    /// Adds the frontmatter that these dashes open.
-    fn with_frontmatter(self, open: Span) -> Result<ScriptSource<'s>, FrontmatterError> {
-        let raw = self.raw;
-        let (line, matter) = first_line(raw, open.end);
-        let close = find_close(raw, &open)?;
-        let rest = close_line(raw, &open, &close)?;
-        let second = dashes_at(raw, rest);
-        if !second.is_empty() {
-            let error = FrontmatterError::new("only one frontmatter is supported", second);
-            return Err(error.push_visible_span(open).push_visible_span(close));
+        let filled = sys::script(raw);
+        check_status(filled.status);
+        let mut spans = filled.steps.iter().map(span_of);
+        let mut next = || spans.next().flatten();
+        if filled.status == sys::NO_SCRIPT {
+            let message = String::from_utf8(filled.messages).expect("messages are UTF-8");
+            let primary_span = next().expect("a refusal is about a span");
+            return Err(FrontmatterError { message, primary_span, visible_spans: spans.flatten().collect() });
         }
         Ok(ScriptSource {
-            info: word_of(raw, line),
-            open: Some(open),
-            frontmatter: Some(matter..close.start),
-            close: Some(close),
-            content: rest..raw.len(),
-            ..self
+            raw,
+            shebang: next(),
+            open: next(),
+            info: next(),
+            frontmatter: next(),
+            close: next(),
+            content: next().expect("a script source has a content"),
         })
     }
 
@@ -129,90 +103,25 @@ impl<'s> ScriptSource<'s> {
     }
 }
 
-/// The dashes that follow the blank lines at this place, or nothing. There may be none.
-fn dashes_at(text: &str, at: usize) -> Span {
-    let start = at + strip_ws_lines(&text[at..]).unwrap_or(0);
-    start..start + count_dashes(&text[start..])
+/// The bytes of a part, if it is there.
+fn span_of(part: &Part) -> Option<Span> {
+    (part.there == 1).then_some(part.start..part.end)
 }
 
-fn count_dashes(text: &str) -> usize {
-    text.bytes().take_while(|byte| *byte == b'-').count()
-}
-
-/// The line at this place, without its line feed and a carriage return right before that, and where the next one
-/// begins.
-fn first_line(text: &str, at: usize) -> (Span, usize) {
-    match text[at..].find('\n') {
-        None => (at..text.len(), text.len()),
-        Some(feed) => {
-            let line = &text[at..at + feed];
-            (at..at + line.strip_suffix('\r').unwrap_or(line).len(), at + feed + 1)
-        }
-    }
-}
-
-/// Where the line's word stands, which is all of it but spaces and tabs at its ends.
-fn word_of(text: &str, line: Span) -> Option<Span> {
-    let is_horizontal = |c| c == ' ' || c == '\t';
-    let word = text[line.clone()].trim_start_matches(is_horizontal);
-    let start = line.end - word.len();
-    let end = start + word.trim_end_matches(is_horizontal).len();
-    (start < end).then_some(start..end)
-}
-
-/// The dashes that close a frontmatter: the first ones, past the line that opens it, that begin a line, as many as open
-/// it. Where no line begins with as many, it is refused, and the most dashes that begin a line are shown.
-fn find_close(text: &str, open: &Span) -> Result<Span, FrontmatterError> {
-    let mut most = 0..0;
-    let mut at = open.end;
-    while let Some(feed) = text[at..].find('\n') {
-        let start = at + feed + 1;
-        let len = count_dashes(&text[start..]);
-        if len >= open.len() {
-            return Ok(start..start + open.len());
-        }
-        if len > most.len() {
-            most = start..start + len;
-        }
-        at = start + len;
-    }
-    let error = if most.is_empty() {
-        let fence = &text[open.clone()];
-        FrontmatterError::new(format!("unclosed frontmatter; expected `{fence}`"), text.len()..text.len())
-    } else {
-        let missing = open.len() - most.len();
-        FrontmatterError::new(format!("closing code fence has {missing} less `-` than the opening fence"), most)
-    };
-    Err(error.push_visible_span(open.clone()))
-}
-
-/// Where the line of the closing dashes ends, its line feed included. It is refused where something else stands on it.
-fn close_line(text: &str, open: &Span, close: &Span) -> Result<usize, FrontmatterError> {
-    let extra = count_dashes(&text[close.end..]);
-    let (line, next) = first_line(text, close.end);
-    let error = if extra > 0 {
-        let message = format!("closing code fence has {extra} more `-` than the opening fence");
-        FrontmatterError::new(message, close.end..close.end + extra)
-    } else if let Some(word) = word_of(text, line) {
-        FrontmatterError::new("unexpected characters after frontmatter close", word)
-    } else {
-        return Ok(next);
-    };
-    Err(error.push_visible_span(open.clone()))
+/// The number of bytes, if there are any.
+fn some(end: usize) -> Option<usize> {
+    (end > 0).then_some(end)
 }
 
 /// Where the shebang ends, in bytes, its line feed included: the text starts with `#!`, and what follows does not
 /// start, past white space, with `[`, as an inner attribute does.
 pub fn strip_shebang(input: &str) -> Option<usize> {
-    let rest = input.strip_prefix("#!")?;
-    let is_attribute = rest.trim_start().starts_with('[');
-    (!is_attribute).then(|| first_line(input, 0).1)
+    some(sys::shebang(input))
 }
 
 /// Where the longest run of Rust white space that begins the text and ends with a line feed ends, in bytes.
 pub fn strip_ws_lines(input: &str) -> Option<usize> {
-    let white = input.find(|c| !crate::is_rust_whitespace(c)).unwrap_or(input.len());
-    input[..white].rfind('\n').map(|feed| feed + 1)
+    some(sys::blank_lines(input))
 }
 
 /// Why a text is not a script source: a message, the span of the error, and further spans to show with it.

@@ -13,8 +13,8 @@
 //!
 //! A text is lexed only when its tokens are first used: [`LexedStr::new`] and [`LexedStr::to_input`] keep the text,
 //! and [`TopEntryPoint::parse`] goes the whole way from the text to the tree in one call of the library.
-//! A thread keeps the room for a text's steps for the next text: 32 bytes for each byte of the text, as far as they
-//! were written, and 256 MB at most.
+//! A thread keeps the room for a text's tree for the next text: 8 bytes for each byte of the text, as far as they
+//! were written, and 128 MB at most.
 #![deny(unsafe_code, missing_docs)]
 
 mod edition;

@@ -2,7 +2,7 @@
 use crate::SyntaxKind;
 use crate::input::Source;
 use crate::lexed_str::{check_status, kind_of};
-use crate::sys::{self, Filled};
+use crate::sys::{self, Filled, Woven};
 use std::fmt;
 use std::sync::OnceLock;
 
@@ -19,8 +19,8 @@ pub(crate) struct Tree {
     pub(crate) source: Source,
     /// The number of the top entry.
     pub(crate) entry: u32,
-    /// The steps with trivia, and after them the lexer's messages.
-    pub(crate) woven: Filled,
+    /// The steps with trivia, in words.
+    pub(crate) woven: Woven,
 }
 
 impl fmt::Debug for Output {

@@ -27,6 +27,15 @@ pub struct Record {
     pub joint: u32,
 }
 
+/// A part of a script source, as `struct rap_part`.
+#[repr(C)]
+#[derive(Clone, Copy, Debug, Default, PartialEq, Eq)]
+pub struct Part {
+    pub there: usize,
+    pub start: usize,
+    pub end: usize,
+}
+
 /// An answer, as `struct rap_answer`.
 #[repr(C)]
 #[derive(Clone, Copy, Debug, Default, PartialEq, Eq)]
@@ -52,6 +61,10 @@ pub const NO_NODE: u32 = 8;
 pub const NO_BRACE: u32 = 9;
 pub const NO_RECORD: u32 = 10;
 pub const NO_STEPS: u32 = 11;
+pub const NO_SCRIPT: u32 = 12;
+
+/// What a token's word holds in the place of its length where a second word has it, as `RAP_LONG`.
+pub const LONG: u32 = 8191;
 
 /// A number that is no kind's, as `RAP_NO_KIND`.
 pub const NO_KIND: u32 = 330;
@@ -156,41 +169,128 @@ unsafe extern "C" {
         message_room: usize,
     ) -> Answer;
 
+    pub fn rap_tree_words(
+        text: *const u8,
+        text_length: usize,
+        edition: u32,
+        entry: u32,
+        words: *mut u32,
+        word_room: usize,
+        messages: *mut u8,
+        message_room: usize,
+    ) -> Answer;
+
+    pub fn rap_script(
+        text: *const u8,
+        text_length: usize,
+        parts: *mut Part,
+        part_room: usize,
+        messages: *mut u8,
+        message_room: usize,
+    ) -> Answer;
+
+    pub fn rap_shebang(text: *const u8, text_length: usize) -> Answer;
+
+    pub fn rap_blank_lines(text: *const u8, text_length: usize) -> Answer;
+
     pub fn rap_kind_name(kind: u32, name: *mut u8, name_room: usize) -> usize;
 }
 
 thread_local! {
-    /// Room for steps that a thread keeps from one text to the next: to get it anew from the system takes a good part
+    /// Room for words that a thread keeps from one text to the next: to get it anew from the system takes a good part
     /// of the time of a parse. It is given back where the next text needs much less.
-    static ROOM: Cell<Vec<Step>> = const { Cell::new(Vec::new()) };
+    static ROOM: Cell<Vec<u32>> = const { Cell::new(Vec::new()) };
 }
 
-/// For how many steps room is kept at most: 256 MB a thread, where a text of some 8 MB was parsed.
-const MOST_KEPT: usize = 1 << 23;
+/// For how many words room is kept at most: 128 MB a thread, where a text of some 16 MB was parsed.
+const MOST_KEPT: usize = 1 << 25;
 
-/// For how many steps a kept room may be, however few are asked for: 32 MB. A larger one has at most these times more.
+/// For how many words a kept room may be, however few are asked for: 4 MB. A larger one has at most these times more.
 const ALWAYS_KEPT: usize = 1 << 20;
 const MOST_SPARE: usize = 16;
 
-/// Room for so many steps, if there is memory for them.
-fn room_for(steps: usize) -> Vec<Step> {
+/// Room for so many words, if there is memory for them.
+fn room_for(words: usize) -> Vec<u32> {
     let kept = ROOM.take();
-    if kept.capacity() >= steps && kept.capacity() <= ALWAYS_KEPT.max(steps * MOST_SPARE) {
+    if kept.capacity() >= words && kept.capacity() <= ALWAYS_KEPT.max(words * MOST_SPARE) {
         return kept;
     }
     drop(kept);
     let mut room = Vec::new();
     // Where there is no memory for the guess the first call counts.
-    let _ = room.try_reserve_exact(steps);
+    let _ = room.try_reserve_exact(words);
     room
+}
+
+/// A text's tree in words, as `rap_tree_words` gives it: its status, all words, how many of them are the tree's, and
+/// all bytes of the messages.
+#[derive(Debug, Default)]
+pub(crate) struct Woven {
+    pub(crate) status: u32,
+    words: Vec<u32>,
+    tree: usize,
+    messages: Vec<u8>,
+}
+
+/// A step of a tree in words. The place of a message counts bytes of the text.
+pub(crate) enum Word<'a> {
+    Enter { kind: u32 },
+    Exit,
+    Token { kind: u32, text: &'a str },
+    Message { text: &'a str, at: usize },
+}
+
+impl Woven {
+    /// Hands the tree's steps to a function, each token with its text. The text is the one that was parsed.
+    #[inline(always)]
+    pub(crate) fn each<'a>(&'a self, text: &'a str, mut take: impl FnMut(Word<'a>)) {
+        let messages = std::str::from_utf8(&self.messages).expect("messages are UTF-8");
+        let (mut rest, mut said) = (text, 0);
+        let mut words = self.words[..self.tree].iter().copied();
+        let next = |words: &mut dyn Iterator<Item = u32>| words.next().expect("a word follows") as usize;
+        while let Some(word) = words.next() {
+            let kind = word >> 16;
+            match word & 7 {
+                ENTER => take(Word::Enter { kind }),
+                EXIT => take(Word::Exit),
+                TOKEN => {
+                    let short = word >> 3 & LONG;
+                    let length = if short < LONG { short as usize } else { next(&mut words) };
+                    let (text, behind) = rest.split_at(length);
+                    rest = behind;
+                    take(Word::Token { kind, text });
+                }
+                _ => {
+                    let at = next(&mut words);
+                    let end = said + next(&mut words);
+                    take(Word::Message { text: &messages[said..end], at });
+                    said = end;
+                }
+            }
+        }
+    }
+}
+
+impl Drop for Woven {
+    fn drop(&mut self) {
+        let mut words = std::mem::take(&mut self.words);
+        // A thread that ends keeps nothing.
+        let _ = ROOM.try_with(|room| {
+            let kept = room.take();
+            words.clear();
+            let is_larger = words.capacity() > kept.capacity() && words.capacity() <= MOST_KEPT;
+            room.set(if is_larger { words } else { kept });
+        });
+    }
 }
 
 /// What a call filled: its status, all its steps, and all bytes of its messages.
 #[derive(Debug, Default)]
-pub(crate) struct Filled {
+pub(crate) struct Filled<T = Step> {
     pub(crate) status: u32,
-    pub(crate) steps: Vec<Step>,
+    pub(crate) steps: Vec<T>,
     pub(crate) messages: Vec<u8>,
+    pub(crate) used: usize,
 }
 
 impl Filled {
@@ -200,31 +300,17 @@ impl Filled {
     }
 }
 
-impl Drop for Filled {
-    fn drop(&mut self) {
-        let mut steps = std::mem::take(&mut self.steps);
-        // A thread that ends keeps nothing.
-        let _ = ROOM.try_with(|room| {
-            let kept = room.take();
-            steps.clear();
-            let is_larger = steps.capacity() > kept.capacity() && steps.capacity() <= MOST_KEPT;
-            room.set(if is_larger { steps } else { kept });
-        });
-    }
-}
-
 /// A call with the room that it fills: steps and how many there is room for, bytes of messages and how many.
-type Fill<'a> = &'a dyn Fn(*mut Step, usize, *mut u8, usize) -> Answer;
+type Fill<'a, T> = &'a dyn Fn(*mut T, usize, *mut u8, usize) -> Answer;
 
-/// Calls with room for so many steps, and for as many bytes of messages, and calls once more where that was too little.
+/// Calls with this room for steps, and for so many bytes of messages, and calls once more where that was too little.
 /// What is not used of the room takes no memory.
 ///
 /// # Safety The call must be one of the library's: it writes from the pointers' begin on no more than there is room
 /// for, and what it answers is how many steps and bytes there are in all, of which it has written those that there is
 /// room for.
-unsafe fn fill(step_room: usize, call: Fill<'_>) -> Filled {
-    let mut steps = room_for(step_room);
-    let mut messages: Vec<u8> = Vec::with_capacity(step_room);
+unsafe fn fill<T>(mut steps: Vec<T>, message_room: usize, call: Fill<'_, T>) -> Filled<T> {
+    let mut messages: Vec<u8> = Vec::with_capacity(message_room);
     loop {
         let (step_room, message_room) = (steps.capacity(), messages.capacity());
         let answer = call(steps.as_mut_ptr(), step_room, messages.as_mut_ptr(), message_room);
@@ -234,32 +320,58 @@ unsafe fn fill(step_room: usize, call: Fill<'_>) -> Filled {
                 steps.set_len(answer.steps);
                 messages.set_len(answer.message_bytes);
             }
-            return Filled { status: answer.status, steps, messages };
+            return Filled { status: answer.status, steps, messages, used: answer.used };
         }
         steps.reserve_exact(answer.steps);
         messages.reserve_exact(answer.message_bytes);
     }
 }
 
-/// How many steps a text's tree has at most, as a first guess.
-fn guess(text: &str) -> usize {
-    text.len() + 64
+/// How many words a text's tree has at most, and its messages bytes, as a first guess.
+fn guess(text: &str) -> (usize, usize) {
+    (2 * text.len() + 64, text.len() + 64)
 }
 
-/// The tree of a text, by `rap_tree`.
-pub(crate) fn tree(text: &str, edition: u32, entry: u32) -> Filled {
-    // SAFETY: the text is valid for its length, the room is what `fill` gives, which overlaps nothing, and `rap_tree`
-    // fills it as the header says.
+/// The tree of a text, by `rap_tree_words`.
+pub(crate) fn tree(text: &str, edition: u32, entry: u32) -> Woven {
+    // SAFETY: the text is valid for its length, the room is what `fill` gives, which overlaps nothing, and
+    // `rap_tree_words` fills it as the header says.
+    let (word_room, message_room) = guess(text);
+    let filled = unsafe {
+        fill(room_for(word_room), message_room, &|words, n, bytes, m| {
+            rap_tree_words(text.as_ptr(), text.len(), edition, entry, words, n, bytes, m)
+        })
+    };
+    Woven { status: filled.status, words: filled.steps, tree: filled.used, messages: filled.messages }
+}
+
+/// The parts of a script source, or what refuses it, by `rap_script`, with the message.
+pub(crate) fn script(text: &str) -> Filled<Part> {
+    // SAFETY: as in `tree`, by `rap_script`.
     unsafe {
-        fill(guess(text), &|steps, n, bytes, m| rap_tree(text.as_ptr(), text.len(), edition, entry, steps, n, bytes, m))
+        fill(Vec::with_capacity(6), 128, &|parts, n, bytes, m| {
+            rap_script(text.as_ptr(), text.len(), parts, n, bytes, m)
+        })
     }
+}
+
+/// Where the shebang of a text ends, or 0, by `rap_shebang`.
+pub(crate) fn shebang(text: &str) -> usize {
+    // SAFETY: the text is valid for its length.
+    unsafe { rap_shebang(text.as_ptr(), text.len()) }.used
+}
+
+/// Where the blank lines at the begin of a text end, or 0, by `rap_blank_lines`.
+pub(crate) fn blank_lines(text: &str) -> usize {
+    // SAFETY: the text is valid for its length.
+    unsafe { rap_blank_lines(text.as_ptr(), text.len()) }.used
 }
 
 /// The tokens of a text, by `rap_tokens`.
 pub(crate) fn tokens(text: &str, edition: u32) -> Filled {
     // SAFETY: as in `tree`.
     unsafe {
-        fill(text.len() / 2 + 64, &|steps, n, bytes, m| {
+        fill(Vec::with_capacity(text.len() / 2 + 64), text.len() / 2 + 64, &|steps, n, bytes, m| {
             rap_tokens(text.as_ptr(), text.len(), edition, steps, n, bytes, m)
         })
     }
@@ -285,7 +397,7 @@ pub(crate) fn records(text: &str, edition: u32) -> (u32, Vec<Record>) {
 pub(crate) fn parse(records: &[Record], entry: u32) -> Filled {
     // SAFETY: the records are valid for their number, and the rest is as in `tree`.
     unsafe {
-        fill(4 * records.len() + 64, &|steps, n, bytes, m| {
+        fill(Vec::with_capacity(4 * records.len() + 64), 4 * records.len() + 64, &|steps, n, bytes, m| {
             rap_parse(records.as_ptr(), records.len(), entry, steps, n, bytes, m)
         })
     }
@@ -295,7 +407,7 @@ pub(crate) fn parse(records: &[Record], entry: u32) -> Filled {
 pub(crate) fn parse_prefix(records: &[Record], entry: u32) -> Filled {
     // SAFETY: as in `parse`.
     unsafe {
-        fill(4 * records.len() + 64, &|steps, n, bytes, m| {
+        fill(Vec::with_capacity(4 * records.len() + 64), 4 * records.len() + 64, &|steps, n, bytes, m| {
             rap_parse_prefix(records.as_ptr(), records.len(), entry, steps, n, bytes, m)
         })
     }
@@ -306,7 +418,7 @@ pub(crate) fn parse_prefix(records: &[Record], entry: u32) -> Filled {
 pub(crate) fn parse_node(records: &[Record], node: (u32, u32, u32)) -> Filled {
     // SAFETY: as in `parse`.
     unsafe {
-        fill(4 * records.len() + 64, &|steps, n, bytes, m| {
+        fill(Vec::with_capacity(4 * records.len() + 64), 4 * records.len() + 64, &|steps, n, bytes, m| {
             rap_parse_node(records.as_ptr(), records.len(), node.0, node.1, node.2, steps, n, bytes, m)
         })
     }
@@ -316,8 +428,9 @@ pub(crate) fn parse_node(records: &[Record], node: (u32, u32, u32)) -> Filled {
 pub(crate) fn weave(text: &str, edition: u32, tree: &Filled) -> Filled {
     let (given, bytes_given) = (&tree.steps, &tree.messages);
     // SAFETY: the text, the steps and the messages are valid for their lengths, and the rest is as in `tree`.
+    let room = 2 * given.len() + text.len() / 4 + 64;
     unsafe {
-        fill(2 * given.len() + text.len() / 4 + 64, &|steps, n, bytes, m| {
+        fill(Vec::with_capacity(room), room, &|steps, n, bytes, m| {
             rap_weave(
                 text.as_ptr(),
                 text.len(),

@@ -1,5 +1,5 @@
 //! The exports as C calls them, with answers worked out by hand.
-use ra_ap_parser::sys::{self, Answer, ENTER, EXIT, MESSAGE, NO_KIND, Step, TOKEN};
+use ra_ap_parser::sys::{self, Answer, ENTER, EXIT, LONG, MESSAGE, NO_KIND, Part, Step, TOKEN};
 
 /// What stands in room that no call has written to.
 const BLANK: Step = Step { what: 99, kind: 99, at: 99, start: 99, end: 99 };
@@ -101,6 +101,96 @@ fn counts_where_there_is_no_room_and_fills_no_further() {
     assert_eq!(tree(b"-1+", 2015, 5, (3, 4)), (counts, want, "expe".to_string()));
 }
 
+/// Calls with room for so many words and bytes of messages.
+fn tree_words(text: &[u8], edition: u32, entry: u32, room: (usize, usize)) -> (Answer, Vec<u32>, String) {
+    let mut words = vec![99; room.0];
+    let mut messages = vec![b'.'; room.1];
+    let (steps, bytes) = (words.as_mut_ptr(), messages.as_mut_ptr());
+    let answer =
+        unsafe { sys::rap_tree_words(text.as_ptr(), text.len(), edition, entry, steps, room.0, bytes, room.1) };
+    (answer, words, String::from_utf8(messages).expect("messages are ASCII here"))
+}
+
+/// The word of a node's begin, or of a token of so many bytes.
+fn word(what: u32, kind: &str, bytes: u32) -> u32 {
+    number(kind) << 16 | bytes << 3 | what
+}
+
+#[test]
+fn hands_out_a_tree_in_words() {
+    let want = vec![
+        word(ENTER, "BIN_EXPR", 0),
+        word(ENTER, "LITERAL", 0),
+        word(TOKEN, "INT_NUMBER", 2),
+        EXIT,
+        word(TOKEN, "WHITESPACE", 1),
+        word(TOKEN, "PLUS", 1),
+        word(ENTER, "ERROR", 0),
+        MESSAGE,
+        4,
+        19,
+        EXIT,
+        EXIT,
+        MESSAGE,
+        0,
+        44,
+        99,
+    ];
+    let text = "expected expressionMissing digits after the integer base prefix.";
+    assert_eq!(tree_words(b"0x +", 2024, 5, (16, 64)), (answer(0, 15, 63, 12), want.clone(), text.to_string()));
+    let cut = (answer(0, 15, 63, 12), want[..9].to_vec(), "expe".to_string());
+    assert_eq!(tree_words(b"0x +", 2024, 5, (9, 4)), cut);
+}
+
+#[test]
+fn hands_out_long_tokens_in_two_words() {
+    for (bytes, short) in [(8190, 8190), (8191, LONG), (70_000, LONG)] {
+        let text = vec![b'a'; bytes as usize];
+        let (found, words, _) = tree_words(&text, 2024, 5, (10, 0));
+        let count = if short == LONG { 10 } else { 9 };
+        assert_eq!((found, words[4]), (answer(0, count, 0, count), word(TOKEN, "IDENT", short)));
+        assert_eq!(words[5], if short == LONG { bytes } else { EXIT });
+    }
+}
+
+fn script(text: &[u8], room: (usize, usize)) -> (Answer, Vec<Part>, String) {
+    let mut parts = vec![Part { there: 9, start: 9, end: 9 }; room.0];
+    let mut messages = vec![b'.'; room.1];
+    let (at, bytes) = (parts.as_mut_ptr(), messages.as_mut_ptr());
+    let answer = unsafe { sys::rap_script(text.as_ptr(), text.len(), at, room.0, bytes, room.1) };
+    (answer, parts, String::from_utf8(messages).expect("messages are ASCII here"))
+}
+
+#[test]
+fn cuts_script_sources() {
+    let part = |start, end| Part { there: 1, start, end };
+    let none = Part::default();
+    let want = vec![part(0, 4), part(5, 8), part(9, 10), part(12, 14), part(14, 17), part(18, 20)];
+    let text = b"#!x\n\n--- y \nz\n---\nfn";
+    assert_eq!(script(text, (6, 1)), (answer(0, 6, 0, 20), want.clone(), ".".to_string()));
+    assert_eq!(script(text, (2, 0)), (answer(0, 6, 0, 20), want[..2].to_vec(), String::new()));
+    let plain = vec![none, none, none, none, none, part(0, 2)];
+    assert_eq!(script(b"fn", (6, 0)), (answer(0, 6, 0, 2), plain, String::new()));
+    let shown = vec![part(9, 10), part(0, 3), part(4, 7), Part { there: 9, start: 9, end: 9 }];
+    let message = "only one frontmatter is supported.".to_string();
+    assert_eq!(script(b"---\n---\n\n-", (4, 34)), (answer(12, 3, 33, 10), shown, message));
+    assert_eq!(script(b"\xff", (0, 0)).0, answer(4, 0, 0, 0));
+}
+
+#[test]
+fn finds_ends_of_what_may_stand_before_code() {
+    let shebang = |text: &[u8]| unsafe { sys::rap_shebang(text.as_ptr(), text.len()) };
+    let blank = |text: &[u8]| unsafe { sys::rap_blank_lines(text.as_ptr(), text.len()) };
+    assert_eq!(
+        [shebang(b"#!x\ny"), shebang(b"#! [x"), shebang(b"\xff")].map(|it| (it.status, it.used)),
+        [(0, 4), (0, 0), (4, 0)]
+    );
+    assert_eq!(
+        [blank(b" \n \nx"), blank(b" x"), blank(b"\xff")].map(|it| (it.status, it.used)),
+        [(0, 4), (0, 0), (4, 0)]
+    );
+}
+
 #[test]
 fn lists_tokens_and_the_messages_of_the_lexer() {
     let want =
@@ -167,6 +257,9 @@ fn tells_faults_apart() {
     assert_eq!(tree(b"a", 2020, 9, none).0, is(2));
     assert_eq!(tree(wrong, 2024, 7, none).0, is(3));
     assert_eq!(tree(wrong, 2024, 6, none).0, is(4));
+    assert_eq!(tree_words(b"a", 2020, 9, none).0, is(2));
+    assert_eq!(tree_words(wrong, 2024, 7, none).0, is(3));
+    assert_eq!(tree_words(wrong, 2024, 6, none).0, is(4));
     assert_eq!(tokens(b"a", 0, none).0, is(2));
     assert_eq!(tokens(wrong, 2015, none).0, is(4));
     assert_eq!(prefix(b"a", 10, none).0, is(3));

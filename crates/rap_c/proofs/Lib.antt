@@ -1,6 +1,7 @@
 pub mod Filled
 pub mod GivenBy
 pub mod NoKind
+pub mod Packed
 pub mod Put
 pub mod Rows
 pub mod Settled

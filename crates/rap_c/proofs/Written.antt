@@ -52,7 +52,7 @@ write_at-twice (x ∷ xs) (suc i) zero us vs e = absurd (omega (arith, e))
 write_at-twice (x ∷ xs) (suc i) (suc j) us vs e = ap (λ l. x ∷ l) (write_at-twice xs i j us vs (omega (arith, e)))
 
 -- as many as there is room for
-over : {A : Type 0} (old new : List A) (c : ℕ) → c ≡ min (length new) (length old) → take c new ++ drop c old ≡ overwritten old new
+pub over : {A : Type 0} (old new : List A) (c : ℕ) → c ≡ min (length new) (length old) → take c new ++ drop c old ≡ overwritten old new
 over [] new zero e = refl
 over [] new (suc c) e = absurd (omega (arith, e))
 over (x ∷ xs) [] zero e = refl

@@ -53,6 +53,9 @@ pub const OK: u32 = 0;
 /// The steps make no tree.
 pub const NO_TREE: u32 = 1;
 
+/// The text is no script source.
+pub const NO_SCRIPT: u32 = 12;
+
 /// What a call returns: its status, how many steps and how many bytes of messages there are, and how many bytes of the
 /// text they are about.
 ///

@@ -1,4 +1,8 @@
 //! `tree EDITION ENTRY FILE` prints the tree of a file and its messages, as the program `rast` does.
+#[path = "common/mod.rs"]
+mod common;
+
+use common::entry_named;
 use ra_ap_parser::{Edition, LexedStr, StrStep, TopEntryPoint};
 use std::fmt::Write as _;
 use std::process::ExitCode;
@@ -53,20 +57,6 @@ fn lines_of(text: &str, edition: Edition, entry: &TopEntryPoint) -> (String, Str
         let _ = writeln!(messages, "error {}: {message}", lexed.text_start(token));
     }
     (lines, messages)
-}
-
-/// The top entry with this name.
-fn entry_named(name: &str) -> Option<TopEntryPoint> {
-    Some(match name {
-        "SourceFile" => TopEntryPoint::SourceFile,
-        "MacroStmts" => TopEntryPoint::MacroStmts,
-        "MacroItems" => TopEntryPoint::MacroItems,
-        "Pattern" => TopEntryPoint::Pattern,
-        "Type" => TopEntryPoint::Type,
-        "Expr" => TopEntryPoint::Expr,
-        "MetaItem" => TopEntryPoint::MetaItem,
-        _ => return None,
-    })
 }
 
 fn fail(why: &str) -> ExitCode {

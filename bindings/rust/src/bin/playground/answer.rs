@@ -1,4 +1,5 @@
 //! What the page is told of a text: numbers for the steps of its tree, and its messages.
+use crate::common::entry_named;
 use ra_ap_parser::{Edition, LexedStr, StrStep, SyntaxKind, TopEntryPoint};
 use std::fmt::Write as _;
 
@@ -16,20 +17,6 @@ impl Asked {
         let text = std::str::from_utf8(body).ok()?.to_owned();
         Some(Asked { edition: edition.parse().ok()?, entry: entry_named(entry)?, text })
     }
-}
-
-/// The top entry with this name.
-fn entry_named(name: &str) -> Option<TopEntryPoint> {
-    Some(match name {
-        "SourceFile" => TopEntryPoint::SourceFile,
-        "MacroStmts" => TopEntryPoint::MacroStmts,
-        "MacroItems" => TopEntryPoint::MacroItems,
-        "Pattern" => TopEntryPoint::Pattern,
-        "Type" => TopEntryPoint::Type,
-        "Expr" => TopEntryPoint::Expr,
-        "MetaItem" => TopEntryPoint::MetaItem,
-        _ => return None,
-    })
 }
 
 /// Adds a text as JSON, in quotes. A `<` stands as a number, so that no text ends or begins markup.

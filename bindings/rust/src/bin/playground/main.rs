@@ -6,6 +6,8 @@
 //!
 //! A browser's field holds line feeds alone: a file's carriage returns before them are not in the text that is read.
 mod answer;
+#[path = "../common/mod.rs"]
+mod common;
 mod http;
 
 use answer::{Asked, answer_to};
