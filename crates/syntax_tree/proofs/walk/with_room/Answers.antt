@@ -1,4 +1,4 @@
-use Rattle.std.proofs.Common.{◌≡◌, ◌+◌, ◌≤◌, [], ◌∷◌, vec_capacity, ℕ, length, arith, ap}
+use Rattle.std.proofs.Common.{◌+◌, ◌≤◌, length, arith}
 use Rattle.syntax_tree.proofs.Walks.{first_of, none_of, empty_left, leaf_left, node_left, empty_room, leaf_room, node_room}
 use Rattle.syntax_tree.proofs.walk.with_room.Goals as goal
 

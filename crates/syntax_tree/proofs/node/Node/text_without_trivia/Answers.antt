@@ -1,4 +1,4 @@
-use Rattle.std.proofs.Common.{◌≡◌, ◌++◌, ap, subst, sym, ◌∙◌, string_bytes}
+use Rattle.std.proofs.Common.{◌≡◌, ◌++◌, ap, subst, sym, ◌∙◌}
 use Rattle.syntax_tree.specs.Leaves.{leaves_of}
 use Rattle.syntax_tree.specs.PlainText.{plain_text}
 use Rattle.syntax_tree.proofs.LeafPlaces.{ArePlaced, leaves_placed}

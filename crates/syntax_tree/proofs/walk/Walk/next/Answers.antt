@@ -1,5 +1,4 @@
-use Rattle.std.proofs.Common.{◌≡◌, ◌≤◌, ◌<◌, ◌++◌, [], ◌∷◌, vec_capacity, length, refl, ap, sym, ◌∙◌, arith}
-use Rattle.syntax_tree.specs.Walking.{element_of}
+use Rattle.std.proofs.Common.{◌++◌, [], ◌∷◌, vec_capacity, refl, sym, ◌∙◌, arith}
 use Rattle.syntax_tree.proofs.Walks.{first_of, none_of, empty_ahead, leaf_ahead, node_ahead, last_room, rest_room, inner_room}
 use Rattle.syntax_tree.proofs.walk.Walk.next.Goals.{in-Node, in-Leaf}
 use Rattle.syntax_tree.proofs.walk.Walk.next.Goals as goal
