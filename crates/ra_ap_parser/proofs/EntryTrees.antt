@@ -8,7 +8,9 @@ use Rattle.rap_grammar_core.proofs.Again.{made_again, block_made, items_made, fi
 use Rattle.rap_grammar.specs.Part.{IsPrefixOf, IsPartCore, IsWhole, part_script, part_kind, in_braces}
 use Rattle.rap_grammar.specs.declared.entry.part.Part.{Part}
 use Rattle.rap_grammar.specs.declared.entry.part.Part.TheVariants as part
+use Rattle.rap_grammar.proofs.DotsInside.{visibility_inside, block_inside, path_inside, expression_inside, type_inside, pattern_inside, single_pattern_inside, meta_inside, statement_inside, item_inside}
 use Rattle.rap_grammar.proofs.Padded.{top_of_prefix}
+use Rattle.rap_grammar_core.specs.Dots.{dots_inside}
 use Rattle.rap_grammar.proofs.Parts.{one_prefix}
 use Rattle.rap_grammar.proofs.Prefixes.{front_expression, front_type, front_block, front_item, front_part}
 use Rattle.ra_ap_parser.specs.Reparsed.{IsAgainItself}
@@ -79,6 +81,20 @@ one_prefix_output prefix.Expr input i j = one_prefix i j
 one_prefix_output prefix.Path input i j = one_prefix i j
 one_prefix_output prefix.Item input i j = one_prefix i j
 one_prefix_output prefix.MetaItem input i j = one_prefix i j
+
+-- no node at the top of it ends with a float that ends in a dot
+pub dots_stay : (e : PrefixEntryPoint) (input : List Record) {output : Forest} → IsPrefixOutputOf e input output →
+    dots_inside output ≡ true
+dots_stay prefix.Vis input i = visibility_inside i
+dots_stay prefix.Block input i = block_inside i
+dots_stay prefix.Stmt input i = statement_inside i
+dots_stay prefix.Pat input i = single_pattern_inside i
+dots_stay prefix.PatTop input i = pattern_inside i
+dots_stay prefix.Ty input i = type_inside i
+dots_stay prefix.Expr input i = expression_inside i
+dots_stay prefix.Path input i = path_inside i
+dots_stay prefix.Item input i = item_inside i
+dots_stay prefix.MetaItem input i = meta_inside i
 
 -- a front of an input that is derived comes out as it was derived
 pub prefix_core : (e : PrefixEntryPoint) (input : List Record) {output : Forest} → IsPrefixOutputOf e input output →

@@ -1,5 +1,5 @@
 //! Entry points: what an input is parsed as.
-ghost use Rattle.std.specs.Prelude.{◌≡◌, ◌<◌, ◌≤◌, ◌↔◌, List, ◌++◌, length, IfOk, IsTrue, Some};
+ghost use Rattle.std.specs.Prelude.{◌≡◌, ◌<◌, ◌≤◌, ◌↔◌, List, ◌++◌, length, IfOk, IsTrue, Some, true};
 ghost use Rattle.rap_events.specs.Forest.{Forest, message_count};
 ghost use Rattle.rap_events.specs.Record.{Record};
 ghost use Rattle.rap_grammar.specs.Part.{IsPrefixOver, IsWhole};
@@ -149,6 +149,7 @@ pub enum PrefixEntryPoint {
 
 impl PrefixEntryPoint {
     ghost use Rattle.ra_ap_parser.specs.EntryScript.{IsPrefixOutputOf, IsPrefixCore};
+    ghost use Rattle.rap_grammar_core.specs.Dots.{dots_inside};
 
     /// Parses what the entry names.
     fn run(&self, alloc: Global, input: &Input) -> Result<Output, NoMemory>
@@ -172,8 +173,9 @@ impl PrefixEntryPoint {
 
     /// Parses a prefix of the input, and leaves the other tokens.
     ///
-    /// The output may be no tree, or several trees, with messages beside them. The number of tokens that it takes is
-    /// the sum of the `n_input_tokens` of its steps, and one for each float that is split. The error is `TooManyTokens`
+    /// The output may be no tree, or several trees, with messages beside them. No node at its top ends with a float
+    /// that ends in a dot: the node of such a float stands in another node. The number of tokens that it takes is the
+    /// sum of the `n_input_tokens` of its steps, and one for each float that is split. The error is `TooManyTokens`
     /// exactly for an input of more than [`MAX_TOKENS`] tokens, which is tested first; otherwise `NoMemory` if the
     /// allocator refused a request. The output is that of the entry's script, and no other. If the core grammar derives
     /// a prefix of the input, as a block, a type, an expression or an item, and the next tokens can follow it, the
@@ -182,6 +184,7 @@ impl PrefixEntryPoint {
         ensures prefix { IfOk result (IsPrefixOver input.now) }
         ensures script { IfOk result (IsPrefixOutputOf self.now input.now) }
         ensures only { IfOk result (λ output. (other : Forest) → IsPrefixOutputOf self.now input.now other → other ≡ output) }
+        ensures dots { IfOk result (λ output. dots_inside output ≡ true) }
         ensures core { IfOk result (λ output. (front rest : List Record) (tree : Forest) → input.now ≡ front ++ rest → IsPrefixCore self.now front rest tree → IsWhole tree (length front) output) }
         ensures too_many { (result ≡ Err ParseFault.TooManyTokens) ↔ (MAX_TOKENS < length input.now) }
     {

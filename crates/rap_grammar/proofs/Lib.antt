@@ -1,3 +1,4 @@
+pub mod DotsInside
 pub mod OneTree
 pub mod Outputs
 pub mod Padded

@@ -62,7 +62,7 @@ same_flags true false h = absurd cc
 same_flags false true h = absurd cc
 same_flags false false h = refl
 
-same_outcome : (v w : Outcome) → same v w ≡ true → v ≡ w
+pub same_outcome : (v w : Outcome) → same v w ≡ true → v ≡ w
 same_outcome nothing nothing h = refl
 same_outcome something something h = refl
 same_outcome block block h = refl

@@ -4,6 +4,12 @@ pub mod AllRules
 pub mod Begins
 pub mod Built
 pub mod Complete
+pub mod DotEnds
+pub mod DotFits
+pub mod DotKeeps
+pub mod DotRules
+pub mod DotsInNodes
+pub mod Endings
 pub mod Ends
 pub mod Example
 pub mod ItemWays

@@ -1,4 +1,5 @@
 pub mod Derives
+pub mod Dots
 pub mod Laws
 pub mod MacroCall
 pub mod Mixed

@@ -1,5 +1,6 @@
 //! Laws of the core grammar. Each is a function that does nothing and whose contract is the law.
 ghost use Rattle.rap_grammar_core.specs.Derives.{Block, Contents, Expression, Fields, File, Item, Items, Many, Ty};
+ghost use Rattle.rap_grammar_core.specs.Dots.{DotsAreSeen, DotsStandInNodes};
 ghost use Rattle.rap_grammar_core.specs.Laws.{HasOneTree, HoldsPlain, MakesItsNodes};
 
 /// The same tokens have at most one tree, in each category that an entry point or a reparser reads: a file, any number
@@ -26,4 +27,11 @@ pub fn nodes_are_made_again()
 /// What is derived where no block is an expression is derived with the same tree where blocks are expressions.
 pub fn holds_plain()
     ensures { HoldsPlain }
+{}
+
+/// Where no node at the top of an output ends with a float that ends in a dot, the node of each such float stands in another
+/// node.
+pub fn dots_stand_in_nodes()
+    ensures inside { DotsStandInNodes }
+    ensures seen { DotsAreSeen }
 {}

@@ -1,4 +1,4 @@
-use Rattle.ra_ap_parser.proofs.EntryTrees.{prefix_core, one_prefix_output}
+use Rattle.ra_ap_parser.proofs.EntryTrees.{dots_stay, prefix_core, one_prefix_output}
 use Rattle.ra_ap_parser.proofs.entry_point.PrefixEntryPoint.parse.Goals as goal
 
 pub returns-in-Ok-clause-only : goal.returns-in-Ok-clause-only
@@ -6,3 +6,6 @@ returns-in-Ok-clause-only c = λ other i. one_prefix_output c.args.self.now _ i 
 
 pub returns-in-Ok-clause-core : goal.returns-in-Ok-clause-core
 returns-in-Ok-clause-core c = λ front rest tree e d. prefix_core c.args.self.now _ c.in-Ok.ensures.script front rest tree e d
+
+pub returns-in-Ok-clause-dots : goal.returns-in-Ok-clause-dots
+returns-in-Ok-clause-dots c = dots_stay c.args.self.now _ c.in-Ok.ensures.script

@@ -1,0 +1,212 @@
+-- How a script ends that begins at these levels, said by rules: what is computed, and beside it what the tests on the way
+-- say of the dots of a range.
+use Rattle.std.proofs.Common.{◌≡◌, ℕ, Bool, true, false, ◌&&◌, not, List, [], ◌∷◌, ◌++◌, append-nil, if◌then◌else◌, refl}
+use Rattle.rap_events.proofs.Truth.{and_left, and_right}
+use Rattle.rap_events.specs.Record.{Record}
+use Rattle.rap_grammar_scripts.specs.Expressions.{is_range}
+use Rattle.rap_grammar_scripts.specs.Phrase.{Phrase}
+use Rattle.rap_grammar_scripts.specs.Script.{Script, Outcome, nothing, something, block, again, give, test, ends_with, token, any, bear, report, report_next, skip, start, precede, finish, extend, abandon, split_float, after, rule, loop}
+use Rattle.rap_grammar_core.proofs.Ends.{same_flag}
+use Rattle.rap_grammar_core.proofs.Endings.{Ending, unknown, gather, flagged, every, Tells, Then, Turned, joined_left, joined_right, gathered, settled, of_flags}
+use Rattle.rap_grammar_core.proofs.DotEnds.{Level, inside, ranged, free, same_level, within, Levels, levels, same_lower, same_levels, as_good, added, lowered, raised, before_last, extended, merged, Said, never, at_level, said, called, one_end, is_apart, dot_ends}
+
+-- what the next tokens are where the last node may end in a dot
+abbrev pub Next : Type 0
+Next = List Record → Bool
+
+abbrev pub Implies : Next → Next → Type 0
+Implies g h = (rs : List Record) → g rs ≡ true → h rs ≡ true
+
+abbrev pub Never : Next → Type 0
+Never g = (rs : List Record) → g rs ≡ false
+
+abbrev pub both : Next → Next → Next
+both g h rs = g rs && h rs
+
+abbrev pub but : Next → Next → Next
+but g h rs = g rs && not (h rs)
+
+abbrev pub always : Next
+always rs = true
+
+-- The script ends so, where at a ranged level this is what comes next if the last node ends in a dot.
+pub data Fits : Next → Script Phrase → Level → List Bool → (Outcome → Levels → Bool) → Type 0 where
+  fits_give : {g : Next} {v : Outcome} {l : Level} {ls : List Bool} {f : Outcome → Levels → Bool} →
+      Implies g is_range → f v (levels l ls) ≡ true → Fits g (give v) l ls f
+  fits_settled : {g : Next} {v : Outcome} {ls : List Bool} {f : Outcome → Levels → Bool} →
+      Never g → f v (levels inside ls) ≡ true → Fits g (give v) ranged ls f
+  fits_test : {g h : Next} {s t : Script Phrase} {l : Level} {ls : List Bool} {f : Outcome → Levels → Bool} →
+      Fits (both g h) s l ls f → Fits (but g h) t l ls f → Fits g (test h s t) l ls f
+  fits_ends_with : {g : Next} {k : ℕ} {s t : Script Phrase} {l : Level} {ls : List Bool} {f : Outcome → Levels → Bool} →
+      Fits g s l ls f → Fits g t l ls f → Fits g (ends_with k s t) l ls f
+  fits_token : {g : Next} {k : ℕ} {s : Script Phrase} {l : Level} {ls : List Bool} {f : Outcome → Levels → Bool} →
+      Fits is_range s (added l) ls f → Fits g (token k s) l ls f
+  fits_any : {g : Next} {s : Script Phrase} {l : Level} {ls : List Bool} {f : Outcome → Levels → Bool} →
+      Fits is_range s (added l) ls f → Fits g (any s) l ls f
+  fits_bear : {g : Next} {k : ℕ} {s : Script Phrase} {l : Level} {ls : List Bool} {f : Outcome → Levels → Bool} →
+      Fits is_range s (added l) ls f → Fits g (bear k s) l ls f
+  fits_report : {g : Next} {bytes : List ℕ} {s : Script Phrase} {l : Level} {ls : List Bool}
+      {f : Outcome → Levels → Bool} → Fits is_range s (added l) ls f → Fits g (report bytes s) l ls f
+  fits_report_next : {g : Next} {bytes : List ℕ} {s : Script Phrase} {l : Level} {ls : List Bool}
+      {f : Outcome → Levels → Bool} → Fits is_range s (added l) ls f → Fits g (report_next bytes s) l ls f
+  fits_skip : {g : Next} {bytes : List ℕ} {s : Script Phrase} {l : Level} {ls : List Bool}
+      {f : Outcome → Levels → Bool} → Fits is_range s (added l) ls f → Fits g (skip bytes s) l ls f
+  fits_start : {g : Next} {s : Script Phrase} {l : Level} {ls : List Bool} {f : Outcome → Levels → Bool} →
+      Fits is_range s inside (lowered l ∷ ls) f → Fits g (start s) l ls f
+  fits_precede : {g : Next} {s : Script Phrase} {l : Level} {ls : List Bool} {f : Outcome → Levels → Bool} →
+      Fits is_range s free (before_last l ∷ ls) f → Fits g (precede s) l ls f
+  fits_finish : {g : Next} {k : ℕ} {s : Script Phrase} {l : Level} {c : Bool} {ls : List Bool}
+      {f : Outcome → Levels → Bool} → Fits is_range s (raised c) ls f → Fits g (finish k s) l (c ∷ ls) f
+  fits_extend : {g : Next} {s : Script Phrase} {l : Level} {c : Bool} {ls : List Bool} {f : Outcome → Levels → Bool} →
+      Fits g s (extended l c) ls f → Fits g (extend s) l (c ∷ ls) f
+  fits_abandon : {g : Next} {s : Script Phrase} {l : Level} {c : Bool} {ls : List Bool} {f : Outcome → Levels → Bool} →
+      Fits is_range s (merged l c) ls f → Fits g (abandon s) l (c ∷ ls) f
+  fits_split : {g : Next} {s t : Script Phrase} {l : Level} {ls : List Bool} {f : Outcome → Levels → Bool} →
+      Fits always s ranged ls f → Fits is_range t inside ls f → Fits g (split_float s t) l (true ∷ ls) f
+  fits_after : {g : Next} {s : Script Phrase} {h : Outcome → Script Phrase} {l : Level} {ls : List Bool}
+      {e f : Outcome → Levels → Bool} → Fits g s l ls e →
+      ((v : Outcome) (m : Level) (ms : List Bool) → e v (levels m ms) ≡ true → Fits is_range (h v) m ms f) →
+      Fits g (after s h) l ls f
+  fits_rule : {g : Next} {c : Phrase} {h : Outcome → Script Phrase} {l : Level} {ls : List Bool}
+      {f : Outcome → Levels → Bool} → is_apart c ≡ true →
+      ((v : Outcome) (m : Level) → said v c ≡ at_level m → Fits is_range (h v) (called l m) ls f) →
+      Fits g (rule c h) l ls f
+  fits_loop : {g : Next} {h : Bool → Bool → Script Phrase} {a b : Bool} {l m : Level} {ls : List Bool}
+      {f : Outcome → Levels → Bool} → Implies g is_range → within l m ≡ true →
+      ((c d : Bool) → Fits is_range (h c d) m ls (Turned (as_good m ls) f)) → Fits g (loop h a b) l ls f
+
+-- the tests of levels
+pub same_level_is : (l m : Level) → same_level l m ≡ true → l ≡ m
+same_level_is inside inside h = refl
+same_level_is ranged ranged h = refl
+same_level_is free free h = refl
+same_level_is inside ranged h = absurd cc
+same_level_is inside free h = absurd cc
+same_level_is ranged inside h = absurd cc
+same_level_is ranged free h = absurd cc
+same_level_is free inside h = absurd cc
+same_level_is free ranged h = absurd cc
+
+same_flag_is : (a b : Bool) → same_flag a b ≡ true → a ≡ b
+same_flag_is true true h = refl
+same_flag_is true false h = absurd cc
+same_flag_is false true h = absurd cc
+same_flag_is false false h = refl
+
+pub same_lower_is : (ls ms : List Bool) → same_lower ls ms ≡ true → ls ≡ ms
+same_lower_is [] [] h = refl
+same_lower_is [] (d ∷ ms) h = absurd cc
+same_lower_is (c ∷ ls) [] h = absurd cc
+same_lower_is (c ∷ ls) (d ∷ ms) h =
+    rw (same_flag_is c d (and_left _ _ h), same_lower_is ls ms (and_right (same_flag c d) _ h)) refl
+
+pub tells : Tells same_levels
+tells (levels l ls) (levels m ms) h =
+    rw (same_level_is l m (and_left _ _ h), same_lower_is ls ms (and_right (same_level l m) _ h)) refl
+
+pub within_itself : (l : Level) → within l l ≡ true
+within_itself inside = refl
+within_itself ranged = refl
+within_itself free = refl
+
+-- tests that are narrower
+pub both_implies : (g h k : Next) → Implies g k → Implies (both g h) k
+both_implies g h k i rs e = i rs (and_left (g rs) (h rs) e)
+
+pub but_implies : (g h k : Next) → Implies g k → Implies (but g h) k
+but_implies g h k i rs e = i rs (and_left (g rs) (not (h rs)) e)
+
+pub range_implies : Implies is_range is_range
+range_implies rs e = e
+
+-- what holds of the ends of what follows each of these
+abbrev Following : Type 0
+Following = Outcome → Levels → List (Ending Levels)
+
+follows_first : (f : Outcome → Levels → Bool) (h : Following) (v : Outcome) (s : Said) (l m : Level) (ls : List Bool)
+    (r : List (Ending Levels)) → s ≡ at_level m → every f (gather same_levels h (one_end v s l ls ++ r)) ≡ true →
+    every f (h v (levels (called l m) ls)) ≡ true
+follows_first f h v s l m ls r i e =
+    joined_left same_levels tells f (h v (levels (called l m) ls)) (gather same_levels h r) (rw i at e)
+
+follows_rest : (f : Outcome → Levels → Bool) (h : Following) (v : Outcome) (s : Said) (l : Level) (ls : List Bool)
+    (r : List (Ending Levels)) → every f (gather same_levels h (one_end v s l ls ++ r)) ≡ true →
+    every f (gather same_levels h r) ≡ true
+follows_rest f h v never l ls r e = e
+follows_rest f h v (at_level m) l ls r e =
+    joined_right same_levels f (h v (levels (called l m) ls)) (gather same_levels h r) e
+
+-- the ends of a rule, with what follows them
+record Ruled (f : Outcome → Levels → Bool) (h : Following) (c : Phrase) (l : Level) (ls : List Bool) (b : Bool) :
+    Type 0 where
+  apart : b ≡ true
+  on : (v : Outcome) (m : Level) → said v c ≡ at_level m → every f (h v (levels (called l m) ls)) ≡ true
+
+ruled_on : (f : Outcome → Levels → Bool) (h : Following) (c : Phrase) (l : Level) (ls : List Bool) →
+    every f (gather same_levels h (one_end nothing (said nothing c) l ls
+    ++ (one_end something (said something c) l ls ++ one_end block (said block c) l ls))) ≡ true →
+    (v : Outcome) (m : Level) → said v c ≡ at_level m → every f (h v (levels (called l m) ls)) ≡ true
+ruled_on f h c l ls e nothing m i =
+    follows_first f h nothing (said nothing c) l m ls
+    (one_end something (said something c) l ls ++ one_end block (said block c) l ls) i e
+ruled_on f h c l ls e something m i =
+    follows_first f h something (said something c) l m ls (one_end block (said block c) l ls) i
+    (follows_rest f h nothing (said nothing c) l ls
+    (one_end something (said something c) l ls ++ one_end block (said block c) l ls) e)
+ruled_on f h c l ls e block m i =
+    follows_first f h block (said block c) l m ls [] i
+    (rw (append-nil (one_end block (said block c) l ls))
+    (follows_rest f h something (said something c) l ls (one_end block (said block c) l ls)
+    (follows_rest f h nothing (said nothing c) l ls
+    (one_end something (said something c) l ls ++ one_end block (said block c) l ls) e)))
+ruled_on f h c l ls e (again a b) m i = absurd cc
+
+ruled : (f : Outcome → Levels → Bool) (h : Following) (c : Phrase) (l : Level) (ls : List Bool) (b : Bool) →
+    every f (gather same_levels h (if b then one_end nothing (said nothing c) l ls
+    ++ (one_end something (said something c) l ls ++ one_end block (said block c) l ls) else unknown ∷ [])) ≡ true →
+    Ruled f h c l ls b
+ruled f h c l ls true e = record { apart = refl; on = ruled_on f h c l ls e }
+ruled f h c l ls false e = absurd cc
+
+-- A script ends as is computed.
+pub computed : (s : Script Phrase) (g : Next) (l : Level) (ls : List Bool) (f : Outcome → Levels → Bool) →
+    Implies g is_range → every f (dot_ends s l ls) ≡ true → Fits g s l ls f
+computed (give v) g l ls f i e = fits_give i (and_left _ _ e)
+computed (test h s t) g l ls f i e =
+    fits_test
+    (computed s (both g h) l ls f (both_implies g h is_range i)
+    (joined_left same_levels tells f (dot_ends s l ls) (dot_ends t l ls) e))
+    (computed t (but g h) l ls f (but_implies g h is_range i)
+    (joined_right same_levels f (dot_ends s l ls) (dot_ends t l ls) e))
+computed (ends_with k s t) g l ls f i e =
+    fits_ends_with
+    (computed s g l ls f i (joined_left same_levels tells f (dot_ends s l ls) (dot_ends t l ls) e))
+    (computed t g l ls f i (joined_right same_levels f (dot_ends s l ls) (dot_ends t l ls) e))
+computed (token k s) g l ls f i e = fits_token (computed s is_range (added l) ls f range_implies e)
+computed (any s) g l ls f i e = fits_any (computed s is_range (added l) ls f range_implies e)
+computed (bear k s) g l ls f i e = fits_bear (computed s is_range (added l) ls f range_implies e)
+computed (report bytes s) g l ls f i e = fits_report (computed s is_range (added l) ls f range_implies e)
+computed (report_next bytes s) g l ls f i e = fits_report_next (computed s is_range (added l) ls f range_implies e)
+computed (skip bytes s) g l ls f i e = fits_skip (computed s is_range (added l) ls f range_implies e)
+computed (start s) g l ls f i e = fits_start (computed s is_range inside (lowered l ∷ ls) f range_implies e)
+computed (precede s) g l ls f i e = fits_precede (computed s is_range free (before_last l ∷ ls) f range_implies e)
+computed (finish k s) g l [] f i e = absurd cc
+computed (finish k s) g l (c ∷ ls) f i e = fits_finish (computed s is_range (raised c) ls f range_implies e)
+computed (extend s) g l ls f i e = absurd cc
+computed (abandon s) g l [] f i e = absurd cc
+computed (abandon s) g l (c ∷ ls) f i e = fits_abandon (computed s is_range (merged l c) ls f range_implies e)
+computed (split_float s t) g l ls f i e = absurd cc
+computed (after s h) g l ls f i e =
+    let on : Following = λ v. elim [ levels m ms ↦ dot_ends (h v) m ms ] in
+    fits_after (computed s g l ls (Then f on) i (gathered same_levels tells f on (dot_ends s l ls) e))
+    (λ v m ms k. computed (h v) is_range m ms f range_implies k)
+computed (rule c h) g l ls f i e =
+    let on : Following = λ v. elim [ levels m ms ↦ dot_ends (h v) m ms ] in
+    let r = ruled f on c l ls (is_apart c) e in
+    fits_rule r.apart (λ v m k. computed (h v) is_range (called l m) ls f range_implies (r.on v m k))
+computed (loop h a b) g l ls f i e =
+    let on : Bool → Bool → List (Ending Levels) = λ c d. dot_ends (h c d) l ls in
+    let t = settled (as_good l ls) f (flagged same_levels on) e in
+    fits_loop i (within_itself l)
+    (λ c d. computed (h c d) is_range l ls (Turned (as_good l ls) f) range_implies
+    (of_flags same_levels tells (Turned (as_good l ls) f) on c d t))
