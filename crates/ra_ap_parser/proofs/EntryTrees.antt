@@ -83,18 +83,18 @@ one_prefix_output prefix.Item input i j = one_prefix i j
 one_prefix_output prefix.MetaItem input i j = one_prefix i j
 
 -- no node at the top of it ends with a float that ends in a dot
-pub dots_stay : (e : PrefixEntryPoint) (input : List Record) {output : Forest} → IsPrefixOutputOf e input output →
+pub dots_stay : (e : PrefixEntryPoint) (input : List Record) (output : Forest) → IsPrefixOutputOf e input output →
     dots_inside output ≡ true
-dots_stay prefix.Vis input i = visibility_inside i
-dots_stay prefix.Block input i = block_inside i
-dots_stay prefix.Stmt input i = statement_inside i
-dots_stay prefix.Pat input i = single_pattern_inside i
-dots_stay prefix.PatTop input i = pattern_inside i
-dots_stay prefix.Ty input i = type_inside i
-dots_stay prefix.Expr input i = expression_inside i
-dots_stay prefix.Path input i = path_inside i
-dots_stay prefix.Item input i = item_inside i
-dots_stay prefix.MetaItem input i = meta_inside i
+dots_stay prefix.Vis input output i = visibility_inside i
+dots_stay prefix.Block input output i = block_inside i
+dots_stay prefix.Stmt input output i = statement_inside i
+dots_stay prefix.Pat input output i = single_pattern_inside i
+dots_stay prefix.PatTop input output i = pattern_inside i
+dots_stay prefix.Ty input output i = type_inside i
+dots_stay prefix.Expr input output i = expression_inside i
+dots_stay prefix.Path input output i = path_inside i
+dots_stay prefix.Item input output i = item_inside i
+dots_stay prefix.MetaItem input output i = meta_inside i
 
 -- a front of an input that is derived comes out as it was derived
 pub prefix_core : (e : PrefixEntryPoint) (input : List Record) {output : Forest} → IsPrefixOutputOf e input output →

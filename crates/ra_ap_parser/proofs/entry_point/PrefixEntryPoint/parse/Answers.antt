@@ -8,4 +8,4 @@ pub returns-in-Ok-clause-core : goal.returns-in-Ok-clause-core
 returns-in-Ok-clause-core c = λ front rest tree e d. prefix_core c.args.self.now _ c.in-Ok.ensures.script front rest tree e d
 
 pub returns-in-Ok-clause-dots : goal.returns-in-Ok-clause-dots
-returns-in-Ok-clause-dots c = dots_stay c.args.self.now _ c.in-Ok.ensures.script
+returns-in-Ok-clause-dots c = dots_stay c.args.self.now _ _ c.in-Ok.ensures.script
