@@ -1,5 +1,5 @@
--- Whether the node of a float that ends in a dot may stand at the top of what a script makes, computed: by which outcomes
--- the script ends, and of each open node, whether such a node may stand right under it.
+-- Whether the node of a float that ends in a dot may stand at the top of what a script makes, computed: by which
+-- outcomes the script ends, and of each open node, whether such a node may stand right under it.
 use Rattle.std.specs.Prelude.{Bool, true, false, ◌&&◌, nat_lt, List, [], ◌∷◌, ◌++◌, if◌then◌else◌}
 use Rattle.rap_grammar_scripts.specs.Phrase.{Phrase}
 use Rattle.rap_grammar_scripts.specs.Phrase as phrase
@@ -87,8 +87,8 @@ pub data Said : Type 0 where
   never : Said
   at_level : Level → Said
 
--- How each rule of the knot ends that begins where no node ends in a dot. An expression that takes in ranges leaves none;
--- but one that reads like a block and ends a statement may leave the last one.
+-- How each rule of the knot ends that begins where no node ends in a dot. An expression that takes in ranges leaves
+-- none; but one that reads like a block and ends a statement may leave the last one.
 abbrev pub said : Outcome → Phrase → Said
 said nothing (phrase.expr_bp from r bp) = at_level inside
 said nothing c = never
@@ -115,7 +115,8 @@ is_apart c = true
 
 abbrev pub rule_ends : Phrase → Level → List Bool → List (Ending Levels)
 rule_ends c l ls =
-    if is_apart c then one_end nothing (said nothing c) l ls ++ (one_end something (said something c) l ls ++ one_end block (said block c) l ls)
+    if is_apart c then one_end nothing (said nothing c) l ls
+    ++ (one_end something (said something c) l ls ++ one_end block (said block c) l ls)
     else unknown ∷ []
 
 -- Where a script ends that begins at these levels. What takes a float apart, and what lets a node begin where another

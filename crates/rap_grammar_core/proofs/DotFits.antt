@@ -1,5 +1,5 @@
--- How a script ends that begins at these levels, said by rules: what is computed, and beside it what the tests on the way
--- say of the dots of a range.
+-- How a script ends that begins at these levels, said by rules: what is computed, and beside it what the tests on
+-- the way say of the dots of a range.
 use Rattle.std.proofs.Common.{◌≡◌, ℕ, Bool, true, false, ◌&&◌, not, List, [], ◌∷◌, ◌++◌, append-nil, if◌then◌else◌, refl}
 use Rattle.rap_events.proofs.Truth.{and_left, and_right}
 use Rattle.rap_events.specs.Record.{Record}

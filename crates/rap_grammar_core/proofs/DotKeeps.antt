@@ -1,4 +1,5 @@
--- A run of a script ends at the levels where the script fits, so what it leaves has no node at the top that ends in a dot.
+-- A run of a script ends at the levels where the script fits, so what it leaves has no node at the top that ends in
+-- a dot.
 use Rattle.std.proofs.Common.{◌≡◌, ℕ, Bool, true, false, ◌&&◌, not, List, [], ◌∷◌, drop, refl, sym, ◌∙◌, subst}
 use Rattle.rap_base.specs.NodeKind.{FIELD_EXPR}
 use Rattle.rap_base.specs.TokenKind.{ERROR}
@@ -63,7 +64,8 @@ inside_plain (node b k c) h = inside_plain b (and_left (dots_inside b) (not (end
 inside_plain (leaf b k w) h = inside_plain b h
 inside_plain (message b m) h = inside_plain b h
 inside_plain (split b d) h =
-    and_both (plain b) (not d) (inside_plain b (and_left (dots_inside b) (not d) h)) (and_right (dots_inside b) (not d) h)
+    and_both (plain b) (not d) (inside_plain b (and_left (dots_inside b) (not d) h))
+    (and_right (dots_inside b) (not d) h)
 
 plain_before : (f : Forest) → Plain f → Plain (but_last f)
 unfolding but_last
@@ -404,7 +406,8 @@ keeps x {p = p} (reports_next r) g o b (fits_report_next {g = n} {l = l} {ls = l
 keeps x {p = p} (skips {bytes = bytes} r) g o b (fits_skip {g = n} {l = l} {ls = ls} y) k =
     keeps x r g o b y (record {
       top = grown (own g ls) n is_range l p.rest _ p.forest (node p.forest ERROR (skipped p.rest bytes))
-          (λ i. (own_good g o ls).on_node p.forest ERROR (skipped p.rest bytes) i (skipped_end p.rest bytes)) (λ i. i) k.top;
+          (λ i. (own_good g o ls).on_node p.forest ERROR (skipped p.rest bytes) i (skipped_end p.rest bytes))
+          (λ i. i) k.top;
       older = k.older;
     })
 keeps x {p = p} (starts r) g o b (fits_start {g = n} {l = l} {ls = ls} y) k =
@@ -446,7 +449,9 @@ keeps x {p = p} (splits_dotted h j r) g o b (fits_split {ls = ls} y z) k =
 keeps x {p = p} (splits_whole h j r) g o b (fits_split {ls = ls} y z) k =
     let d = older_one g b true ls p.below k.older in
     keeps x r g o b z (record {
-      top = (own_good g o ls).on_node (newest p.below) FIELD_EXPR (node none FIELD_EXPR (split p.forest false)) d.0 refl;
+      top =
+          (own_good g o ls).on_node (newest p.below) FIELD_EXPR (node none FIELD_EXPR (split p.forest false)) d.0
+          refl;
       older = d.1;
     })
 keeps x (follows {w = w} r z) g o b (fits_after y t) k =
@@ -458,7 +463,8 @@ keeps x {p = p} (obeys {c = c} {r = u} {w = w} r z) g o b (fits_rule {g = n} {l 
       older = k.older;
     }) in
     let a = told c w y.level y.lower y.so in
-    let m = subst (λ (ms : List Bool). Stand (Base l (own g ls)) (Lower g b ls) is_range y.level ms u) a.alone y.stand in
+    let m =
+    subst (λ (ms : List Bool). Stand (Base l (own g ls)) (Lower g b ls) is_range y.level ms u) a.alone y.stand in
     keeps x z g o b (t w a.level a.is) (record {
       top = back_at (own g ls) (own_good g o ls) l y.level a.level u.rest u.forest a.near m.top;
       older = m.older;

@@ -1,5 +1,5 @@
--- All rules of the knot end at the levels that their table says: expressions and statements by hand, where the dots of a
--- range are read behind a float that ends in a dot, and the others computed from their scripts.
+-- All rules of the knot end at the levels that their table says: expressions and statements by hand, where the dots
+-- of a range are read behind a float that ends in a dot, and the others computed from their scripts.
 use Rattle.std.proofs.Common.{◌≡◌, ℕ, Bool, true, false, ◌&&◌, ◌||◌, ◌==◌, not, nat_lt, List, [], ◌∷◌, if◌then◌else◌, inl, inr, refl, sym, ap, ◌∙◌, subst, arith}
 use Rattle.std.proofs.lemmas.Bool.Decides.{nat_tests}
 use Rattle.rap_base.specs.TokenKind.{EOF, DOT, DOT2, DOT2EQ, EQ, R_CURLY}
@@ -159,7 +159,8 @@ atom_on a b block l ls e =
     (operand (not (b && true)) true range_implies)
 atom_on a b (again c d) l ls e = absurd cc
 
-left_side : {n : Next} (a b : Bool) → Implies n is_range → Fits n (lhs (restrictions a b)) inside (true ∷ []) operand_end
+left_side : {n : Next} (a b : Bool) → Implies n is_range →
+    Fits n (lhs (restrictions a b)) inside (true ∷ []) operand_end
 unfolding scripts
 left_side a true i =
     tested i (λ j. by_computing j refl)
@@ -214,7 +215,8 @@ rows_end r false = refl
 climb_settled : (bp : ℕ) → nat_lt 2 bp ≡ false → Never (both is_range (λ rs. nat_lt (power (operator_at rs)) bp))
 climb_settled bp h rs =
     none_left (is_range rs && nat_lt (power (operator_at rs)) bp) (nat_lt 2 bp) h
-    (λ e. subst (λ (k : ℕ). nat_lt k bp ≡ true) (range_power rs (and_left (is_range rs) _ e)) (and_right (is_range rs) _ e))
+    (λ e. subst (λ (k : ℕ). nat_lt k bp ≡ true) (range_power rs (and_left (is_range rs) _ e))
+    (and_right (is_range rs) _ e))
 
 some_power : (n : Next) → Implies n is_range → (rs : List Record) → n rs ≡ true →
     nat_lt 0 (power_in powers (operator_at rs)) ≡ true

@@ -29,8 +29,8 @@ pub fn holds_plain()
     ensures { HoldsPlain }
 {}
 
-/// Where no node at the top of an output ends with a float that ends in a dot, the node of each such float stands in another
-/// node.
+/// Where no node at the top of an output ends with a float that ends in a dot, the node of each such float stands in
+/// another node.
 pub fn dots_stand_in_nodes()
     ensures inside { DotsStandInNodes }
     ensures seen { DotsAreSeen }
