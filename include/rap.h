@@ -157,13 +157,14 @@ struct rap_answer rap_tree(const uint8_t *text, size_t text_length, uint32_t edi
 /* What a token's word holds in the place of its length where a second word has it. */
 enum { RAP_LONG = 8191 };
 
-/* The tree of a text in words of 32 bits, most of them a step each: what rap_tree gives in eight times the room.
+/* The tree of a text in words of 32 bits, most of them a step each: what rap_tree gives takes eight times the room.
  * `words`, `word_room`: the caller's room. It is filled as far as it reaches, which may be in the middle of a step.
- * In the first word of a step bits 0 to 2 say what it is, one of enum rap_what; bits 16 to 31 are the number of its kind,
- * at RAP_ENTER and RAP_TOKEN; all else is 0, but at RAP_TOKEN bits 3 to 15: how many bytes the token has, or RAP_LONG where
- * they are RAP_LONG or more, and then the next word is how many they are. Behind the word of RAP_MESSAGE stand two: the
- * byte of the text at which the message stands, and how many bytes of the messages' array it has; one message begins there
- * where the last one ended. A token begins in the text where the last one ended. There is no RAP_SPLIT.
+ * In the first word of a step bits 0 to 2 say what it is, one of enum rap_what; bits 16 to 31 are the number of its
+ * kind, at RAP_ENTER and RAP_TOKEN; all else is 0, but at RAP_TOKEN bits 3 to 15: how many bytes the token has, or
+ * RAP_LONG where they are RAP_LONG or more, and then the next word is how many they are. Behind the word of RAP_MESSAGE
+ * stand two: the byte of the text at which the message stands, and how many bytes of the messages' array it has; one
+ * message begins there where the last one ended. A token begins in the text where the last one ended. There is no
+ * RAP_SPLIT.
  * Behind the last node's end stand the lexer's messages, each at its token.
  * Status: as that of rap_tree. `steps` is the number of words, and `used` how many of them stand before the lexer's
  * messages.
@@ -273,28 +274,28 @@ struct rap_answer rap_weave(const uint8_t *text, size_t text_length, uint32_t ed
                             const uint8_t *tree_messages, size_t tree_message_bytes,
                             struct rap_step *steps, size_t step_room, uint8_t *messages, size_t message_room);
 
-/* Cuts a text into what may stand before the code of a file, and the code: a shebang, which is a line, and a frontmatter
- * between two lines of dashes.
+/* Cuts a text into what may stand before the code of a file, and the code: a shebang, which is a line, and a
+ * frontmatter between two lines of dashes.
  * `parts`, `part_room`: the caller's room. It is filled as far as it reaches.
- * Where the status is RAP_OK, the parts are six: the shebang with its line feed, the dashes that open the frontmatter, the
- * word behind them on their line, the lines between the dashes, the dashes that close it, and the rest of the text, which
- * is always there. There is no message.
- * Where it is RAP_NO_SCRIPT, the text is refused: the first part is what the message is about, those behind it are to be
- * shown beside it, in order, and all of them are there.
- * Else it is RAP_NOT_UTF8, or RAP_NO_MEMORY, which comes only of a text that is refused. `steps` is the number of parts, and
- * `used` the text's length.
+ * Where the status is RAP_OK, the parts are six: the shebang with its line feed, the dashes that open the frontmatter,
+ * what stands behind them on their line, without the spaces and tabs around it, the lines between the dashes, the dashes
+ * that close it, and the rest of the text, which is always there. There is no message.
+ * Where it is RAP_NO_SCRIPT, the text is refused: the first part is what the message is about, those behind it are to
+ * be shown beside it, in order, and all of them are there.
+ * Else it is RAP_NOT_UTF8, or RAP_NO_MEMORY, which comes only of a text that is refused. `steps` is the number of
+ * parts, and `used` the text's length.
  */
 struct rap_answer rap_script(const uint8_t *text, size_t text_length,
                              struct rap_part *parts, size_t part_room, uint8_t *messages, size_t message_room);
 
-/* Where the shebang of a text ends, with its line feed: the text begins with `#!`, and what follows does not, past white
- * space, begin with `[`. `used` is how many bytes it has, or 0 where there is none.
+/* Where the shebang of a text ends, with its line feed: the text begins with `#!`, and what follows does not, past
+ * white space, begin with `[`. `used` is how many bytes it has, or 0 where there is none.
  * Status: RAP_OK or RAP_NOT_UTF8. `steps` and `message_bytes` are 0.
  */
 struct rap_answer rap_shebang(const uint8_t *text, size_t text_length);
 
-/* Where the longest run of Rust's white space ends that begins a text and ends with a line feed. `used` is how many bytes it
- * has, or 0 where there is none. The rest of the answer is as that of rap_shebang.
+/* Where the longest run of Rust's white space ends that begins a text and ends with a line feed. `used` is how many
+ * bytes it has, or 0 where there is none. The rest of the answer is as that of rap_shebang.
  */
 struct rap_answer rap_blank_lines(const uint8_t *text, size_t text_length);
 
