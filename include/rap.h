@@ -278,9 +278,9 @@ struct rap_answer rap_weave(const uint8_t *text, size_t text_length, uint32_t ed
 /* Divides a text into what may stand before the code of a file, and the code: a shebang, which is a line, and a
  * frontmatter between two lines of dashes.
  * `parts`, `part_room`: the caller's array. As many parts as fit are written.
- * With RAP_OK there are six parts: the shebang with its line feed, the dashes that open the frontmatter, the word after
- * them on their line, the lines between the dashes, the dashes that close it, and the rest of the text, which is always
- * there. There is no message.
+ * With RAP_OK there are six parts: the shebang with its line feed, the dashes that open the frontmatter, the text after
+ * them on their line without the spaces and tabs around it, the lines between the dashes, the dashes that close it, and
+ * the rest of the text, which is always there. There is no message.
  * With RAP_NO_SCRIPT the text is refused: the first part is the range that the message is about, and the others, all of
  * them there, are to be shown with it, in order.
  * Else the status is RAP_NOT_UTF8, or RAP_NO_MEMORY, which only a text that is refused can have. `steps` is the number
