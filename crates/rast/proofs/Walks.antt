@@ -196,7 +196,7 @@ told-all lexed forest =
 
 -- what is printed of a text's tree
 pub ranges_whole : (text : List ℕ) (edition : Edition) (entry : TopEntryPoint) (root : RangedNode) (messages : List RangedMessage) (p : Printer)
-    → IsTextTree text edition entry root messages → string_bytes p.tree ≡ ranged_lines text 0 (alone root) → string_bytes p.messages ≡ told_lines messages
+    → IsTextTree text edition entry root messages → p.tree ≡ ranged_lines text 0 (alone root) → string_bytes p.messages ≡ told_lines messages
     → ArePrinted true text edition entry p
 ranges_whole text edition entry root messages p t lines told = record {
   lexed = t.lexed;
