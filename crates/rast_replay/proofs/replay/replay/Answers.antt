@@ -7,10 +7,10 @@ use Rattle.rast_replay.specs.Row.{IsRow}
 use Rattle.rast_replay.proofs.replay.replay.Goals as goal
 
 pub rows-preserved-then-branch : goal.rows-preserved-then-branch
-rows-preserved-then-branch g c = λ none.
+rows-preserved-then-branch c = λ none.
     All-push (λ (line : Bor (List ℕ)). IsRow line.now) c.rows.yielded c.in-Some.line (c.rows.invariant none) (c.in_ok-is_same.ensures (search rules))
 
 pub returns : goal.returns
-returns g c = λ none.
+returns c = λ none.
     let all = YieldsList-end (YieldsList-from_lines c.args.rows.now cc) c.rows.yielded _ c.rows.yielded_by _ _ c.in-None.is c.next.ensures.steps in
     subst (All IsRow) all.0 (All-map IsRow (λ (line : Bor (List ℕ)). line.now) c.rows.yielded (c.rows.invariant none))

@@ -5,4 +5,4 @@ use Rattle.rast_replay.proofs.replay.replay.Given as goal
 
 -- as long as none was different, the lines so far are rows
 abbrev pub invariant-rows : goal.invariant-rows
-invariant-rows g l = l.replayed.different ≡ 0 → All (λ line. IsRow line.now) l.yielded
+invariant-rows l = l.replayed.different ≡ 0 → All (λ line. IsRow line.now) l.yielded

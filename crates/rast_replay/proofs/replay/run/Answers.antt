@@ -1,4 +1,4 @@
-use Rattle.std.proofs.Common.{◌≡◌, ℕ, Result, Ok, Err, IfOk, inl, inr, refl, arith}
+use Rattle.std.proofs.Common.{◌≡◌, ℕ, Result, Ok, Err, IfOk, arith}
 use Rattle.rast_replay.proofs.replay.run.Goals as goal
 
 -- the status of a fault is not that of a whole run
@@ -7,4 +7,7 @@ at_fault P (Ok status) two = λ none. absurd (omega (arith, two, none))
 at_fault P (Err e) two = tt
 
 pub returns-in_default-clause-same : goal.returns-in_default-clause-same
-returns-in_default-clause-same g c = ?
+returns-in_default-clause-same g c = at_fault _ c.report.result c.report.ensures.status
+
+pub returns-in_default-2-clause-same : goal.returns-in_default-2-clause-same
+returns-in_default-2-clause-same g c = at_fault _ c.report-in_default-2.result c.report-in_default-2.ensures.status
