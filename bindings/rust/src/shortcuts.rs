@@ -2,7 +2,7 @@
 use crate::input::Source;
 use crate::lexed_str::{check_status, kind_of};
 use crate::output::Tree;
-use crate::sys::{self, Filled, Word, Woven};
+use crate::sys::{self, Filled};
 use crate::{Edition, Input, LexedStr, Output, SyntaxKind};
 
 /// A step of the walk through a tree over a text, from left to right.
@@ -20,16 +20,6 @@ pub enum StrStep<'a> {
     /// begins; the Rust crate gives the place of its token.
     #[allow(missing_docs)]
     Error { msg: &'a str, pos: usize },
-}
-
-/// Hands the steps of a tree, which are words, to a sink.
-fn hand_out_words(text: &str, woven: &Woven, sink: &mut dyn FnMut(StrStep<'_>)) {
-    woven.each(text, |word| match word {
-        Word::Enter { kind } => sink(StrStep::Enter { kind: kind_of(kind) }),
-        Word::Exit => sink(StrStep::Exit),
-        Word::Token { kind, text } => sink(StrStep::Token { kind: kind_of(kind), text }),
-        Word::Message { text, at } => sink(StrStep::Error { msg: text, pos: at }),
-    });
 }
 
 /// Hands steps with places in a text to a sink.
@@ -79,7 +69,7 @@ impl LexedStr<'_> {
     /// identifier as its contextual keyword or a keyword as an identifier; the Rust crate takes some such outputs.
     pub fn intersperse_trivia(&self, output: &Output, sink: &mut dyn FnMut(StrStep<'_>)) -> bool {
         if let Some(tree) = output.tree().filter(|tree| self.is_of(tree)) {
-            hand_out_words(self.as_str(), &tree.woven, sink);
+            tree.woven.each(sink);
             return true;
         }
         let filled = sys::weave(self.as_str(), self.edition().year(), output.steps());
@@ -91,6 +81,6 @@ impl LexedStr<'_> {
 
     /// Whether the tree is of this text, cut by the same rules.
     fn is_of(&self, tree: &Tree) -> bool {
-        self.edition() == tree.source.edition && *self.as_str() == *tree.source.text
+        self.edition() == tree.source.edition && tree.woven.is_of(self.as_str())
     }
 }

@@ -4,7 +4,9 @@
 //! it.
 #![allow(unsafe_code, missing_docs)]
 
+use crate::{StrStep, SyntaxKind};
 use std::cell::Cell;
+use std::sync::Arc;
 
 /// A step, as `struct rap_step`.
 #[repr(C)]
@@ -222,48 +224,57 @@ fn room_for(words: usize) -> Vec<u32> {
     room
 }
 
-/// A text's tree in words, as `rap_tree_words` gives it: its status, all words, how many of them are the tree's, and
-/// all bytes of the messages.
-#[derive(Debug, Default)]
+/// A text's tree in words, as `rap_tree_words` gives it: its status, the text, all words, how many of them are the
+/// tree's, and all bytes of the messages.
 pub(crate) struct Woven {
     pub(crate) status: u32,
+    text: Arc<str>,
     words: Vec<u32>,
     tree: usize,
     messages: Vec<u8>,
 }
 
-/// A step of a tree in words. The place of a message counts bytes of the text.
-pub(crate) enum Word<'a> {
-    Enter { kind: u32 },
-    Exit,
-    Token { kind: u32, text: &'a str },
-    Message { text: &'a str, at: usize },
+/// The kind whose number stands in a word.
+///
+/// # Safety The word must be that of a node's begin or of a token, which the library has written.
+#[inline(always)]
+unsafe fn kind_in(word: u32) -> SyntaxKind {
+    // SAFETY: the library writes the number of a kind, from 0 to 329, and the enum has these numbers.
+    unsafe { std::mem::transmute::<u16, SyntaxKind>((word >> 16) as u16) }
 }
 
 impl Woven {
-    /// Hands the tree's steps to a function, each token with its text. The text is the one that was parsed.
+    /// Whether it is the tree of this text.
+    pub(crate) fn is_of(&self, text: &str) -> bool {
+        *self.text == *text
+    }
+
+    /// Hands the tree's steps to a function.
     #[inline(always)]
-    pub(crate) fn each<'a>(&'a self, text: &'a str, mut take: impl FnMut(Word<'a>)) {
+    pub(crate) fn each(&self, mut take: impl FnMut(StrStep<'_>)) {
         let messages = std::str::from_utf8(&self.messages).expect("messages are UTF-8");
-        let (mut rest, mut said) = (text, 0);
+        let (mut rest, mut said) = (&*self.text, 0);
         let mut words = self.words[..self.tree].iter().copied();
         let next = |words: &mut dyn Iterator<Item = u32>| words.next().expect("a word follows") as usize;
         while let Some(word) = words.next() {
-            let kind = word >> 16;
             match word & 7 {
-                ENTER => take(Word::Enter { kind }),
-                EXIT => take(Word::Exit),
+                // SAFETY: it is the word of a node's begin.
+                ENTER => take(StrStep::Enter { kind: unsafe { kind_in(word) } }),
+                EXIT => take(StrStep::Exit),
                 TOKEN => {
                     let short = word >> 3 & LONG;
                     let length = if short < LONG { short as usize } else { next(&mut words) };
-                    let (text, behind) = rest.split_at(length);
-                    rest = behind;
-                    take(Word::Token { kind, text });
+                    // SAFETY: the texts of the tokens joined are the text, so there are as many bytes, and a character
+                    // ends there; and it is the word of a token.
+                    let (text, kind) = unsafe { (rest.get_unchecked(..length), kind_in(word)) };
+                    // SAFETY: as above.
+                    rest = unsafe { rest.get_unchecked(length..) };
+                    take(StrStep::Token { kind, text });
                 }
                 _ => {
-                    let at = next(&mut words);
+                    let pos = next(&mut words);
                     let end = said + next(&mut words);
-                    take(Word::Message { text: &messages[said..end], at });
+                    take(StrStep::Error { msg: &messages[said..end], pos });
                     said = end;
                 }
             }
@@ -333,7 +344,7 @@ fn guess(text: &str) -> (usize, usize) {
 }
 
 /// The tree of a text, by `rap_tree_words`.
-pub(crate) fn tree(text: &str, edition: u32, entry: u32) -> Woven {
+pub(crate) fn tree(text: &Arc<str>, edition: u32, entry: u32) -> Woven {
     // SAFETY: the text is valid for its length, the room is what `fill` gives, which overlaps nothing, and
     // `rap_tree_words` fills it as the header says.
     let (word_room, message_room) = guess(text);
@@ -342,7 +353,8 @@ pub(crate) fn tree(text: &str, edition: u32, entry: u32) -> Woven {
             rap_tree_words(text.as_ptr(), text.len(), edition, entry, words, n, bytes, m)
         })
     };
-    Woven { status: filled.status, words: filled.steps, tree: filled.used, messages: filled.messages }
+    let text = text.clone();
+    Woven { status: filled.status, text, words: filled.steps, tree: filled.used, messages: filled.messages }
 }
 
 /// The parts of a script source, or what refuses it, by `rap_script`, with the message.

@@ -132,6 +132,7 @@ impl StrSink for Packer<'_> {
 
     ghost refuses = { λ _ _ _ _. ⊥ };
 
+    #[inline(always)]
     fn step(&mut self, step: StrStep<'_>) -> Result<(), Infallible> {
         match step {
             StrStep::Enter { kind } => self.put(word(ENTER, 0, kind)),
