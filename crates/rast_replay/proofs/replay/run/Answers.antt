@@ -9,5 +9,5 @@ at_fault P (Err e) two = tt
 pub returns-in_default-clause-same : goal.returns-in_default-clause-same
 returns-in_default-clause-same g c = at_fault _ c.report.result c.report.ensures.status
 
-pub returns-in_default-2-clause-same : goal.returns-in_default-2-clause-same
-returns-in_default-2-clause-same g c = at_fault _ c.report-in_default-2.result c.report-in_default-2.ensures.status
+pub returns-in_default-write_page-clause-same : goal.returns-in_default-write_page-clause-same
+returns-in_default-write_page-clause-same g c = at_fault _ c.report-in_default-write_page.result c.report-in_default-write_page.ensures.status
