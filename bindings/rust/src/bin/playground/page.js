@@ -8,6 +8,17 @@ const kinds = JSON.parse(byId('data').textContent).kinds;
 const textPane = byId('text');
 const treePane = byId('tree');
 
+// Where a pane is scrolled to and how high it is, as its last event said: to ask it for them has all of the page laid out.
+const views = new Map();
+function look(pane) {
+  views.set(pane, { top: pane.scrollTop, left: pane.scrollLeft, height: pane.clientHeight });
+}
+// The first row in view, and the one behind the last, of so many.
+function rowsInView(pane, count) {
+  const { top, height } = views.get(pane);
+  return [Math.max(0, Math.floor(top / ROW) - 2), Math.min(count, Math.ceil((top + height) / ROW) + 2)];
+}
+
 // The tree's items, nodes and tokens, in the order of the text. An item's children are those after it up to `end`.
 // Places are units of UTF-16.
 let tree = noTree();
@@ -141,12 +152,12 @@ function lineRow(line) {
   return row;
 }
 function drawText() {
-  const first = Math.max(0, Math.floor(textPane.scrollTop / ROW) - 2);
-  const last = Math.min(lineStarts.length, Math.ceil((textPane.scrollTop + textPane.clientHeight) / ROW) + 2);
+  const [first, last] = rowsInView(textPane, lineStarts.length);
+  const { top, left } = views.get(textPane);
   const list = [];
   for (let line = first; line < last; line += 1) list.push(lineRow(line));
   byId('under').replaceChildren(...list);
-  byId('under').style.transform = 'translate(' + -textPane.scrollLeft + 'px,' + -textPane.scrollTop + 'px)';
+  byId('under').style.transform = 'translate(' + -left + 'px,' + -top + 'px)';
 }
 
 // The messages: the item at whose place each stands, and the line at whose end it is shown.
@@ -238,8 +249,7 @@ function itemRow(index) {
   return row;
 }
 function drawTree() {
-  const first = Math.max(0, Math.floor(treePane.scrollTop / ROW) - 2);
-  const last = Math.min(rowCount, Math.ceil((treePane.scrollTop + treePane.clientHeight) / ROW) + 2);
+  const [first, last] = rowsInView(treePane, rowCount);
   const list = [];
   for (let index = first; index < last; index += 1) list.push(itemRow(index));
   byId('rows').replaceChildren(...list);
@@ -255,8 +265,10 @@ function setOpen(item, open) {
   drawTree();
 }
 function bringIntoView(pane, top) {
-  if (top < pane.scrollTop || top + ROW > pane.scrollTop + pane.clientHeight) {
-    pane.scrollTop = Math.max(0, top - pane.clientHeight / 3);
+  const view = views.get(pane);
+  if (top < view.top || top + ROW > view.top + view.height) {
+    pane.scrollTop = Math.max(0, top - view.height / 3);
+    look(pane);
   }
 }
 
@@ -364,12 +376,12 @@ textPane.addEventListener('input', () => {
   drawText();
   ask();
 });
-textPane.addEventListener('scroll', drawText, { passive: true });
+textPane.addEventListener('scroll', () => { look(textPane); drawText(); }, { passive: true });
 textPane.addEventListener('click', chooseAtCaret);
 textPane.addEventListener('keyup', (event) => {
   if (event.key.startsWith('Arrow') || event.key === 'Home' || event.key === 'End') chooseAtCaret();
 });
-treePane.addEventListener('scroll', () => requestAnimationFrame(drawTree), { passive: true });
+treePane.addEventListener('scroll', () => { look(treePane); requestAnimationFrame(drawTree); }, { passive: true });
 treePane.addEventListener('click', (event) => {
   const row = event.target.closest('.item');
   if (!row) return;
@@ -383,7 +395,7 @@ treePane.addEventListener('dblclick', (event) => {
 treePane.addEventListener('keydown', (event) => {
   if (event.altKey || event.ctrlKey || event.metaKey || tree.count === 0) return;
   const index = rowOf(chosen);
-  const page = Math.max(1, Math.floor(treePane.clientHeight / ROW) - 1);
+  const page = Math.max(1, Math.floor(views.get(treePane).height / ROW) - 1);
   const by = { ArrowDown: 1, ArrowUp: -1, PageDown: page, PageUp: -page, Home: -rowCount, End: rowCount }[event.key];
   if (by !== undefined) choose(rows[Math.max(0, Math.min(rowCount - 1, index + by))], treePane);
   else if (event.key === 'ArrowRight') setOpen(chosen, true);
@@ -394,10 +406,12 @@ treePane.addEventListener('keydown', (event) => {
 });
 byId('entry').addEventListener('change', ask);
 byId('edition').addEventListener('change', ask);
-new ResizeObserver(() => { drawTree(); drawText(); }).observe(treePane);
+new ResizeObserver(() => { look(textPane); look(treePane); drawTree(); drawText(); }).observe(treePane);
 textPane.value = JSON.parse(byId('data').textContent).text;
 text = textPane.value;
 textPane.setSelectionRange(0, 0);
+look(textPane);
+look(treePane);
 findLines();
 drawText();
 ask();
