@@ -2,6 +2,8 @@
 #![tactic(auto)]
 
 mod ranges;
+#[cfg(test)]
+mod refused_write;
 mod run;
 
 use rast_common::fault::{exit_code, report};
