@@ -1,10 +1,12 @@
 /* Measures one call of rap_tree on a text that repeats a few bytes: growth ENTRY COUNT ROUNDS TEXT.
  *
  * The call counts its steps and fills no array. It runs on a stack of 2 GB; a text that nests more ends the program by
- * a signal. Prints the bytes of the text, the least processor time of so many calls in nanoseconds, the most bytes of
+ * a signal. What a call frees stays with the process, so that the time of getting pages from the system is no part of
+ * what is measured; how much memory a call had is measured beside it. Prints the bytes of the text, the least processor time of so many calls in nanoseconds, the most bytes of
  * memory that a call had at once, the bytes of stack that it used, and how many steps there are. */
 #define _GNU_SOURCE
 #include "rap.h"
+#include <limits.h>
 #include <malloc.h>
 #include <pthread.h>
 #include <stdio.h>
@@ -75,7 +77,7 @@ static void *measure(void *nothing)
         unsigned long long begin = processor_time();
         answer = rap_tree(text, length, 2024, entry, &step, 0, &byte, 0);
         unsigned long long took = processor_time() - begin;
-        /* The first call touches the stack's pages, and is not counted. */
+        /* The first call touches the pages of the stack and of the memory, and is not counted. */
         least = i && took < least ? took : least;
     }
     return nothing;
@@ -95,7 +97,7 @@ static size_t touched(uint8_t *stack)
 
 int main(int count, char **words)
 {
-    if (count != 5)
+    if (count != 5 || !mallopt(M_MMAP_MAX, 0) || !mallopt(M_TRIM_THRESHOLD, INT_MAX) || !mallopt(M_ARENA_MAX, 1))
         return 2;
     size_t repeats = strtoul(words[2], NULL, 10), unit = strlen(words[4]);
     entry = (uint32_t)atoi(words[1]);
