@@ -28,8 +28,8 @@ border what kind at = record { what = what; kind = kind; at = at; start = at; en
 abbrev wide : ℕ → ℕ → ℕ → ℕ → RapStep
 wide what kind at end = record { what = what; kind = kind; at = at; start = at; end = end }
 
-abbrev told : ℕ → ℕ → ℕ → RapStep
-told at start end = record { what = 3; kind = 0; at = at; start = start; end = end }
+abbrev message_step : ℕ → ℕ → ℕ → RapStep
+message_step at start end = record { what = 3; kind = 0; at = at; start = start; end = end }
 
 -- the step of an item is that of the exact numbers
 row_at : (p q m n : ℕ) (x : Item) → p ≡ counted q → m ≡ counted n → row p m x ≡ row q n x
@@ -39,10 +39,10 @@ row_at p q m n (token kind width) e f = ap (λ a. wide 2 kind a (counted (p + wi
 row_at p q m n (split ends_in_dot) e f =
     ap (λ a. wide 4 (if ends_in_dot then 1 else 0) a (counted (p + 1))) (again p q e) ∙ ap (λ b. wide 4 (if ends_in_dot then 1 else 0) (counted q) b) (further p q 1 e)
 row_at p q m n (message bytes at) e f =
-    ap (λ a. told at a (counted (m + length bytes))) (again m n f) ∙ ap (λ b. told at (counted n) b) (further m n (length bytes) f)
+    ap (λ a. message_step at a (counted (m + length bytes))) (again m n f) ∙ ap (λ b. message_step at (counted n) b) (further m n (length bytes) f)
 row_at p q m n (remark bytes) e f =
-    ap (λ a. told a (counted m) (counted (m + length bytes))) (again p q e)
-    ∙ (ap (λ a. told (counted q) a (counted (m + length bytes))) (again m n f) ∙ ap (λ b. told (counted q) (counted n) b) (further m n (length bytes) f))
+    ap (λ a. message_step a (counted m) (counted (m + length bytes))) (again p q e)
+    ∙ (ap (λ a. message_step (counted q) a (counted (m + length bytes))) (again m n f) ∙ ap (λ b. message_step (counted q) (counted n) b) (further m n (length bytes) f))
 
 -- one item on
 at_after : (f : Filling) (x : Item) (n m p : ℕ) → IsAt f n m p → IsAt (after f x) (suc n) (m + length (said_by x)) (p + width_of x)

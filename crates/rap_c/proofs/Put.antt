@@ -21,8 +21,8 @@ same_filling a a' b b' c c' d d' e e' p q r s t =
 abbrev wide : ℕ → ℕ → ℕ → ℕ → RapStep
 wide what kind at end = record { what = what; kind = kind; at = at; start = at; end = end }
 
-abbrev told : ℕ → ℕ → ℕ → RapStep
-told at start end = record { what = 3; kind = 0; at = at; start = start; end = end }
+abbrev message_step : ℕ → ℕ → ℕ → RapStep
+message_step at start end = record { what = 3; kind = 0; at = at; start = start; end = end }
 
 -- a number of the machine's
 small : (n : ℕ) → n < 2 ^ 64 → n ≡ counted n
@@ -64,12 +64,12 @@ put_split ends_in_dot n old new e h = add 4 n 1 (split ends_in_dot) old new
 
 -- a message
 pub put_message : (bytes : List ℕ) (at : ℕ) (old new : Filler) → old.said < 2 ^ 64 → old.place < 2 ^ 64
-    → new.steps.now ≡ slice_set old.steps.now old.count (told at old.said (counted (old.said + length bytes)))
+    → new.steps.now ≡ slice_set old.steps.now old.count (message_step at old.said (counted (old.said + length bytes)))
     → new.messages.now ≡ write_at old.messages.now old.said bytes → new.count ≡ counted (old.count + 1) → new.said ≡ counted (old.said + length bytes) → new.place ≡ old.place
     → IsSame old new → Adds (message bytes at) old new
 put_message bytes at old new said_fits place_fits steps messages count said place same = record {
   is = same_filling new.steps.now _ new.messages.now _ new.count _ new.said _ new.place _
-      (steps ∙ ap (λ a. slice_set old.steps.now old.count (told at a (counted (old.said + length bytes)))) (small old.said said_fits))
+      (steps ∙ ap (λ a. slice_set old.steps.now old.count (message_step at a (counted (old.said + length bytes)))) (small old.said said_fits))
       messages count said (place ∙ omega (arith, place_fits));
   same = same;
 }
@@ -77,7 +77,7 @@ put_message bytes at old new said_fits place_fits steps messages count said plac
 -- a message where the steps have come to
 pub message_here : (bytes : List ℕ) (old new : Filler) → old.place < 2 ^ 64 → Adds (message bytes old.place) old new → Adds (remark bytes) old new
 message_here bytes old new place_fits h = record {
-  is = h.is ∙ ap (λ a. make (slice_set old.steps.now old.count (told a (counted old.said) (counted (old.said + length bytes)))) (write_at old.messages.now old.said bytes) (counted (old.count + 1)) (counted (old.said + length bytes)) (counted (old.place + 0))) (small old.place place_fits);
+  is = h.is ∙ ap (λ a. make (slice_set old.steps.now old.count (message_step a (counted old.said) (counted (old.said + length bytes)))) (write_at old.messages.now old.said bytes) (counted (old.count + 1)) (counted (old.said + length bytes)) (counted (old.place + 0))) (small old.place place_fits);
   same = h.same;
 }
 

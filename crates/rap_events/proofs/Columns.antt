@@ -35,7 +35,7 @@ reads columns len i small =
 pub reads_past : (columns : Columns) (len i : ℕ) → len ≤ i → IsPast (records columns len) i
 reads_past columns len i past = is_past (records columns len) i (omega (arith, length-records columns len))
 
--- the records are told by what stands in their places
+-- the records follow from what stands in their places
 pub same_records : (old new : Columns) (len : ℕ) → ((i : ℕ) → i < len → record_at new i ≡ record_at old i) → records new len ≡ records old len
 unfolding records
 same_records old new len same =

@@ -8,7 +8,7 @@ use Rattle.rap_base.specs.NodeKind.{FIELD_EXPR}
 use Rattle.rap_events.specs.Record.{Record, next_kind, joint_at}
 use Rattle.rap_events.specs.Forest.{Forest, none, node, split, split_ends, is_ended, splits_last}
 use Rattle.rap_events.specs.Cover.{Leaf, of_float, leaves, first_splits}
-use Rattle.rap_events.specs.History.{Call, history, IsTold}
+use Rattle.rap_events.specs.History.{Call, history, HasMessage}
 use Rattle.rap_events.specs.History as call
 use Rattle.rap_events.specs.Machine.{Stack, floor, push, Config, close, step, run, initial, stack_leaves, all_leaves, stack_splits_placed}
 use Rattle.rap_events.specs.Fit.{AllFitIn, StackFit, AllFit}
@@ -18,7 +18,7 @@ use Rattle.rap_events.specs.declared.event.Event.{Event}
 use Rattle.rap_events.specs.declared.parser.CompletedMarker.{CompletedMarker}
 use Rattle.rap_events.specs.declared.event.Event.TheVariants as event
 use Rattle.rap_events.proofs.Calls.{Kept, Held, stand-push, widths-append, drop-plus, fit_of_plain}
-use Rattle.rap_events.proofs.HistoryLemmas.{history-push, told-push}
+use Rattle.rap_events.proofs.HistoryLemmas.{history-push, has_message-push}
 use Rattle.rap_events.proofs.HistoryLemmas as shows
 use Rattle.rap_events.proofs.MachineLemmas.{Rooted, rooted, count_of}
 use Rattle.rap_events.proofs.Splits.{Placed, placed, all_placed, Pushed, pushed, both_placed, before_none, node_last}
@@ -169,18 +169,18 @@ split_history es ms false =
     ∙ ap (λ (l : List Call). l ++ call.precede ∷ call.finish FIELD_EXPR ∷ []) (history-two es ms _ _ _ _ (shows.float_split false) (shows.finish FIELD_EXPR))
     ∙ append_assoc (history es ms) (call.float_split false ∷ call.finish FIELD_EXPR ∷ []) (call.precede ∷ call.finish FIELD_EXPR ∷ [])
 
-split_told : (n : ℕ) (es : List Event) (d : Bool) → All (IsTold n) es → All (IsTold n) (es ++ split_events d)
-split_told n es true h = rw (← append_assoc es (event.FloatSplit true ∷ []) (event.Finish FIELD_EXPR ∷ []))
-    (told-push n (es ++ event.FloatSplit true ∷ []) (event.Finish FIELD_EXPR) _ (shows.finish FIELD_EXPR) (told-push n es (event.FloatSplit true) _ (shows.float_split true) h))
-split_told n es false h =
-    let two = told-push n (es ++ event.FloatSplit false ∷ []) (event.Finish FIELD_EXPR) _ (shows.finish FIELD_EXPR) (told-push n es (event.FloatSplit false) _ (shows.float_split false) h) in
-    let four = told-push n _ (event.Finish FIELD_EXPR) _ (shows.finish FIELD_EXPR) (told-push n _ event.Precede _ shows.precede two) in
-    subst (All (IsTold n)) (simp append_assoc) four
+split_has_message : (n : ℕ) (es : List Event) (d : Bool) → All (HasMessage n) es → All (HasMessage n) (es ++ split_events d)
+split_has_message n es true h = rw (← append_assoc es (event.FloatSplit true ∷ []) (event.Finish FIELD_EXPR ∷ []))
+    (has_message-push n (es ++ event.FloatSplit true ∷ []) (event.Finish FIELD_EXPR) _ (shows.finish FIELD_EXPR) (has_message-push n es (event.FloatSplit true) _ (shows.float_split true) h))
+split_has_message n es false h =
+    let two = has_message-push n (es ++ event.FloatSplit false ∷ []) (event.Finish FIELD_EXPR) _ (shows.finish FIELD_EXPR) (has_message-push n es (event.FloatSplit false) _ (shows.float_split false) h) in
+    let four = has_message-push n _ (event.Finish FIELD_EXPR) _ (shows.finish FIELD_EXPR) (has_message-push n _ event.Precede _ shows.precede two) in
+    subst (All (HasMessage n)) (simp append_assoc) four
 
 pub held-split : (es : List Event) (ms : List (List ℕ)) (m : ℕ) (input : List Record) (pos : ℕ) (d : Bool) (n : ℕ) → (run initial (history es ms)).marker ≡ Some n →
     next_kind (drop pos input) ≡ FLOAT_NUMBER → joint_at (drop pos input) 0 ≡ not d → Held es ms m input pos → Held (es ++ split_events d) ms m input (pos + 1)
 held-split es ms m input pos d n marker k j h = record {
-  reported = split_told m es d h.reported;
+  reported = split_has_message m es d h.reported;
   kept = rw (split_history es ms d) (kept-split input pos (history es ms) d n marker k j h.kept);
 }
 

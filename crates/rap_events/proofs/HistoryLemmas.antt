@@ -4,7 +4,7 @@ use Rattle.std.specs.Prelude.{All, String, string_bytes}
 use Rattle.std.specs.declared.alloc.Global.{Global}
 use Rattle.std.proofs.lemmas.List.{map-append, length-map}
 use Rattle.std.proofs.lemmas.List.Elements.{All-push, All-weaker, All-head, All-tail}
-use Rattle.rap_events.specs.History.{Call, call_of, history, text_at, told_by, IsTold}
+use Rattle.rap_events.specs.History.{Call, call_of, history, text_at, needed_messages, HasMessage}
 use Rattle.rap_events.specs.History as call
 use Rattle.rap_events.specs.declared.event.Event.{Event}
 use Rattle.rap_events.specs.declared.event.Event.TheVariants as event
@@ -33,7 +33,7 @@ shown ms e x (enter k) = refl
 shown ms e x exit = refl
 
 -- it has no message's number
-silent : (e : Event) (x : Call) → Shows e x → told_by e ≡ 0
+silent : (e : Event) (x : Call) → Shows e x → needed_messages e ≡ 0
 silent e x start = refl
 silent e x precede = refl
 silent e x (finish k) = refl
@@ -52,11 +52,11 @@ history-more es ms e = map-append (call_of ms) es (e ∷ [])
 pub history-push : (es : List Event) (ms : List (List ℕ)) (e : Event) (x : Call) → Shows e x → history (es ++ e ∷ []) ms ≡ history es ms ++ x ∷ []
 history-push es ms e x h = history-more es ms e ∙ ap (λ (y : Call). history es ms ++ y ∷ []) (shown ms e x h)
 
-pub told-push : (n : ℕ) (es : List Event) (e : Event) (x : Call) → Shows e x → All (IsTold n) es → All (IsTold n) (es ++ e ∷ [])
-told-push n es e x h a = All-push (IsTold n) es e a (omega (arith, silent e x h))
+pub has_message-push : (n : ℕ) (es : List Event) (e : Event) (x : Call) → Shows e x → All (HasMessage n) es → All (HasMessage n) (es ++ e ∷ [])
+has_message-push n es e x h a = All-push (HasMessage n) es e a (omega (arith, silent e x h))
 
-pub told-report : (n : ℕ) (es : List Event) → All (IsTold n) es → All (IsTold (n + 1)) (es ++ event.Error n ∷ [])
-told-report n es a = All-push (IsTold (n + 1)) es (event.Error n) (All-weaker (IsTold n) (IsTold (n + 1)) (λ e h. omega (arith, h)) es a) (omega arith)
+pub has_message-report : (n : ℕ) (es : List Event) → All (HasMessage n) es → All (HasMessage (n + 1)) (es ++ event.Error n ∷ [])
+has_message-report n es a = All-push (HasMessage (n + 1)) es (event.Error n) (All-weaker (HasMessage n) (HasMessage (n + 1)) (λ e h. omega (arith, h)) es a) (omega arith)
 
 text_at-more : (ms : List (List ℕ)) (m : List ℕ) (n : ℕ) → n < length ms → text_at (ms ++ m ∷ []) n ≡ text_at ms n
 text_at-more [] m n h = absurd (omega arith)
@@ -68,7 +68,7 @@ text_at-last [] m = refl
 text_at-last (t ∷ ms) m = text_at-last ms m
 
 -- a later message changes no call
-call_of-more : (ms : List (List ℕ)) (m : List ℕ) (e : Event) → IsTold (length ms) e → call_of (ms ++ m ∷ []) e ≡ call_of ms e
+call_of-more : (ms : List (List ℕ)) (m : List ℕ) (e : Event) → HasMessage (length ms) e → call_of (ms ++ m ∷ []) e ≡ call_of ms e
 call_of-more ms m event.Start h = refl
 call_of-more ms m event.Precede h = refl
 call_of-more ms m (event.Finish k) h = refl
@@ -80,14 +80,14 @@ call_of-more ms m (event.Error number) h = ap call.error (text_at-more ms m numb
 call_of-more ms m (event.Enter k) h = refl
 call_of-more ms m event.Exit h = refl
 
-history-later : (es : List Event) (ms : List (List ℕ)) (m : List ℕ) → All (IsTold (length ms)) es → history es (ms ++ m ∷ []) ≡ history es ms
+history-later : (es : List Event) (ms : List (List ℕ)) (m : List ℕ) → All (HasMessage (length ms)) es → history es (ms ++ m ∷ []) ≡ history es ms
 history-later [] ms m h = refl
 history-later (e ∷ es) ms m h =
-    ap (λ (x : Call). x ∷ history es (ms ++ m ∷ [])) (call_of-more ms m e (All-head (IsTold (length ms)) e es h))
-    ∙ ap (λ (xs : List Call). call_of ms e ∷ xs) (history-later es ms m (All-tail (IsTold (length ms)) e es h))
+    ap (λ (x : Call). x ∷ history es (ms ++ m ∷ [])) (call_of-more ms m e (All-head (HasMessage (length ms)) e es h))
+    ∙ ap (λ (xs : List Call). call_of ms e ∷ xs) (history-later es ms m (All-tail (HasMessage (length ms)) e es h))
 
 -- one message more
-pub history-report : (es : List Event) (ms : List (List ℕ)) (m : List ℕ) (n : ℕ) → n ≡ length ms → All (IsTold (length ms)) es → history (es ++ event.Error n ∷ []) (ms ++ m ∷ []) ≡ history es ms ++ call.error m ∷ []
+pub history-report : (es : List Event) (ms : List (List ℕ)) (m : List ℕ) (n : ℕ) → n ≡ length ms → All (HasMessage (length ms)) es → history (es ++ event.Error n ∷ []) (ms ++ m ∷ []) ≡ history es ms ++ call.error m ∷ []
 history-report es ms m n e h =
     history-more es (ms ++ m ∷ []) (event.Error n)
     ∙ ap (λ (i : ℕ). history es (ms ++ m ∷ []) ++ call.error (text_at (ms ++ m ∷ []) i) ∷ []) e

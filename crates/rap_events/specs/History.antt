@@ -43,18 +43,18 @@ abbrev pub history : List Event → List (List ℕ) → List Call
 history es ms = map (call_of ms) es
 
 -- how many messages there are at least, since an error has the number of one of them
-abbrev pub told_by : Event → ℕ
-told_by event.Start = 0
-told_by event.Precede = 0
-told_by (event.Finish kind) = 0
-told_by event.Extend = 0
-told_by event.Abandon = 0
-told_by (event.Token width kind) = 0
-told_by (event.FloatSplit ends_in_dot) = 0
-told_by (event.Error message) = message + 1
-told_by (event.Enter kind) = 0
-told_by event.Exit = 0
+abbrev pub needed_messages : Event → ℕ
+needed_messages event.Start = 0
+needed_messages event.Precede = 0
+needed_messages (event.Finish kind) = 0
+needed_messages event.Extend = 0
+needed_messages event.Abandon = 0
+needed_messages (event.Token width kind) = 0
+needed_messages (event.FloatSplit ends_in_dot) = 0
+needed_messages (event.Error message) = message + 1
+needed_messages (event.Enter kind) = 0
+needed_messages event.Exit = 0
 
 -- an event with a message has the number of one of so many
-abbrev pub IsTold : ℕ → Event → Type 0
-IsTold n e = told_by e ≤ n
+abbrev pub HasMessage : ℕ → Event → Type 0
+HasMessage n e = needed_messages e ≤ n

@@ -6,7 +6,7 @@ ghost use Rattle.rap_base.specs.TokenSet.{member};
 ghost use Rattle.rap_base.specs.Keyword.{is_any_identifier};
 ghost use Rattle.rap_events.specs.Record.{IsTokenRecord};
 ghost use Rattle.rap_events.specs.Cover.{stand, widths};
-ghost use Rattle.rap_events.specs.History.{history, IsTold};
+ghost use Rattle.rap_events.specs.History.{history, HasMessage};
 ghost use Rattle.rap_events.specs.Machine.{run, initial, all_leaves, all_splits_placed};
 ghost use Rattle.rap_events.specs.Fit.{AllFit};
 ghost use Rattle.rap_events.specs.FloatSplit.{split_calls};
@@ -45,7 +45,7 @@ pub struct Parser<'t> {
     ghost tokens: { All IsTokenRecord input.now },
     ghost ends: { len ≡ length input.now },
     ghost in_input: { pos ≤ len },
-    ghost reported: { All (IsTold (length messages.items)) events.items },
+    ghost reported: { All (HasMessage (length messages.items)) events.items },
     ghost sound: { (run initial (history events.items (map string_bytes messages.items))).sound ≡ true },
     ghost covers: { stand (all_leaves (run initial (history events.items (map string_bytes messages.items)))) input.now ≡ true },
     ghost place: { widths (all_leaves (run initial (history events.items (map string_bytes messages.items)))) ≡ pos },

@@ -16,7 +16,8 @@ use rap_base::no_memory::NoMemory;
 use rap_base::syntax_kind::SyntaxKind;
 use rap_events::parser::{CompletedMarker, Marker, Parser};
 use rap_grammar_blocks::blocks::{block_expr, stmt_list};
-use rap_grammar_frame::called::{else_if, expr_no_struct, pattern};
+use rap_grammar_frame::called;
+use rap_grammar_frame::called::{expr_no_struct, pattern};
 use rap_grammar_frame::knot::{Answer, Grammar, Rule};
 use rap_grammar_frame::names::lifetime;
 use rap_grammar_scripts::T;
@@ -49,7 +50,7 @@ fn else_branch<G: Grammar>(p: &mut Parser<'_>, g: &G) -> Result<(), NoMemory>
         return Ok(());
     }
     if p.at(T![if]) {
-        else_if(p, g)?;
+        called::if_expr(p, g)?;
         return Ok(());
     }
     block_expr(p, g)?;

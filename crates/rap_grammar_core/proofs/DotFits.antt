@@ -7,7 +7,7 @@ use Rattle.rap_grammar_scripts.specs.Expressions.{is_range}
 use Rattle.rap_grammar_scripts.specs.Phrase.{Phrase}
 use Rattle.rap_grammar_scripts.specs.Script.{Script, Outcome, nothing, something, block, again, give, test, ends_with, token, any, bear, report, report_next, skip, start, precede, finish, extend, abandon, split_float, after, rule, loop}
 use Rattle.rap_grammar_core.proofs.Ends.{same_flag}
-use Rattle.rap_grammar_core.proofs.Endings.{Ending, unknown, gather, flagged, every, Tells, Then, Turned, joined_left, joined_right, gathered, settled, of_flags}
+use Rattle.rap_grammar_core.proofs.Endings.{Ending, unknown, gather, flagged, every, Decides, Then, Turned, joined_left, joined_right, gathered, settled, of_flags}
 use Rattle.rap_grammar_core.proofs.DotEnds.{Level, inside, ranged, free, same_level, within, Levels, levels, same_lower, same_levels, as_good, added, lowered, raised, before_last, extended, merged, Said, never, at_level, said, called, one_end, is_apart, dot_ends}
 
 -- what the next tokens are where the last node may end in a dot
@@ -100,8 +100,8 @@ same_lower_is (c ∷ ls) [] h = absurd cc
 same_lower_is (c ∷ ls) (d ∷ ms) h =
     rw (same_flag_is c d (and_left _ _ h), same_lower_is ls ms (and_right (same_flag c d) _ h)) refl
 
-pub tells : Tells same_levels
-tells (levels l ls) (levels m ms) h =
+pub decides : Decides same_levels
+decides (levels l ls) (levels m ms) h =
     rw (same_level_is l m (and_left _ _ h), same_lower_is ls ms (and_right (same_level l m) _ h)) refl
 
 pub within_itself : (l : Level) → within l l ≡ true
@@ -127,7 +127,7 @@ follows_first : (f : Outcome → Levels → Bool) (h : Following) (v : Outcome) 
     (r : List (Ending Levels)) → s ≡ at_level m → every f (gather same_levels h (one_end v s l ls ++ r)) ≡ true →
     every f (h v (levels (called l m) ls)) ≡ true
 follows_first f h v s l m ls r i e =
-    joined_left same_levels tells f (h v (levels (called l m) ls)) (gather same_levels h r) (rw i at e)
+    joined_left same_levels decides f (h v (levels (called l m) ls)) (gather same_levels h r) (rw i at e)
 
 follows_rest : (f : Outcome → Levels → Bool) (h : Following) (v : Outcome) (s : Said) (l : Level) (ls : List Bool)
     (r : List (Ending Levels)) → every f (gather same_levels h (one_end v s l ls ++ r)) ≡ true →
@@ -175,12 +175,12 @@ computed (give v) g l ls f i e = fits_give i (and_left _ _ e)
 computed (test h s t) g l ls f i e =
     fits_test
     (computed s (both g h) l ls f (both_implies g h is_range i)
-    (joined_left same_levels tells f (dot_ends s l ls) (dot_ends t l ls) e))
+    (joined_left same_levels decides f (dot_ends s l ls) (dot_ends t l ls) e))
     (computed t (but g h) l ls f (but_implies g h is_range i)
     (joined_right same_levels f (dot_ends s l ls) (dot_ends t l ls) e))
 computed (ends_with k s t) g l ls f i e =
     fits_ends_with
-    (computed s g l ls f i (joined_left same_levels tells f (dot_ends s l ls) (dot_ends t l ls) e))
+    (computed s g l ls f i (joined_left same_levels decides f (dot_ends s l ls) (dot_ends t l ls) e))
     (computed t g l ls f i (joined_right same_levels f (dot_ends s l ls) (dot_ends t l ls) e))
 computed (token k s) g l ls f i e = fits_token (computed s is_range (added l) ls f range_implies e)
 computed (any s) g l ls f i e = fits_any (computed s is_range (added l) ls f range_implies e)
@@ -198,7 +198,7 @@ computed (abandon s) g l (c ∷ ls) f i e = fits_abandon (computed s is_range (m
 computed (split_float s t) g l ls f i e = absurd cc
 computed (after s h) g l ls f i e =
     let on : Following = λ v. elim [ levels m ms ↦ dot_ends (h v) m ms ] in
-    fits_after (computed s g l ls (Then f on) i (gathered same_levels tells f on (dot_ends s l ls) e))
+    fits_after (computed s g l ls (Then f on) i (gathered same_levels decides f on (dot_ends s l ls) e))
     (λ v m ms k. computed (h v) is_range m ms f range_implies k)
 computed (rule c h) g l ls f i e =
     let on : Following = λ v. elim [ levels m ms ↦ dot_ends (h v) m ms ] in
@@ -209,4 +209,4 @@ computed (loop h a b) g l ls f i e =
     let t = settled (as_good l ls) f (flagged same_levels on) e in
     fits_loop i (within_itself l)
     (λ c d. computed (h c d) is_range l ls (Turned (as_good l ls) f) range_implies
-    (of_flags same_levels tells (Turned (as_good l ls) f) on c d t))
+    (of_flags same_levels decides (Turned (as_good l ls) f) on c d t))

@@ -299,7 +299,7 @@ dotted_at g o rest f h d = record {
   settled = λ e. let z : true ≡ false = e in absurd cc;
 }
 
--- what a called rule is told of the forest that it begins with, and what is known behind it
+-- what holds of the forest that a called rule begins with, and what is known after it
 abbrev Base : Level → (Forest → Type 0) → Forest → Type 0
 Base inside g = g
 Base ranged g = Plain
@@ -330,19 +330,19 @@ abbrev pub as_said : Phrase → Outcome → Levels → Bool
 as_said c v (levels m []) = within_said m (said v c)
 as_said c v (levels m (d ∷ ms)) = false
 
-record Told (c : Phrase) (v : Outcome) (m : Level) (ms : List Bool) : Type 0 where
+record CallStart (c : Phrase) (v : Outcome) (m : Level) (ms : List Bool) : Type 0 where
   level : Level
   is : said v c ≡ at_level level
   near : within m level ≡ true
   alone : ms ≡ []
 
-told_by : (c : Phrase) (v : Outcome) (m : Level) (s : Said) → said v c ≡ s → within_said m s ≡ true → Told c v m []
-told_by c v m never i h = absurd cc
-told_by c v m (at_level k) i h = record { level = k; is = i; near = h; alone = refl }
+start_at : (c : Phrase) (v : Outcome) (m : Level) (s : Said) → said v c ≡ s → within_said m s ≡ true → CallStart c v m []
+start_at c v m never i h = absurd cc
+start_at c v m (at_level k) i h = record { level = k; is = i; near = h; alone = refl }
 
-told : (c : Phrase) (v : Outcome) (m : Level) (ms : List Bool) → as_said c v (levels m ms) ≡ true → Told c v m ms
-told c v m [] h = told_by c v m (said v c) refl h
-told c v m (d ∷ ms) h = absurd cc
+call_start : (c : Phrase) (v : Outcome) (m : Level) (ms : List Bool) → as_said c v (levels m ms) ≡ true → CallStart c v m ms
+call_start c v m [] h = start_at c v m (said v c) refl h
+call_start c v m (d ∷ ms) h = absurd cc
 
 -- The rules of the knot end as their table says.
 abbrev pub Sound : Type 0
@@ -462,7 +462,7 @@ keeps x {p = p} (obeys {c = c} {r = u} {w = w} r z) g o b (fits_rule {g = n} {l 
       top = base_at (own g ls) n l p.rest p.forest k.top;
       older = k.older;
     }) in
-    let a = told c w y.level y.lower y.so in
+    let a = call_start c w y.level y.lower y.so in
     let m =
     subst (λ (ms : List Bool). Stand (Base l (own g ls)) (Lower g b ls) is_range y.level ms u) a.alone y.stand in
     keeps x z g o b (t w a.level a.is) (record {

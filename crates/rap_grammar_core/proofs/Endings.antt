@@ -49,8 +49,8 @@ every f (unknown ∷ l) = false
 every f (ends_in v n ∷ l) = f v n && every f l
 
 -- states are the same where the test says so
-abbrev pub Tells : {S : Type 0} → (S → S → Bool) → Type 0
-Tells {S = S} eq = (m n : S) → eq m n ≡ true → m ≡ n
+abbrev pub Decides : {S : Type 0} → (S → S → Bool) → Type 0
+Decides {S = S} eq = (m n : S) → eq m n ≡ true → m ≡ n
 
 -- What holds of every end of a list holds of each that it has.
 of_first : {S : Type 0} (f : Outcome → S → Bool) (v w : Outcome) (m n : S) (b c d : Bool) → same v w ≡ b →
@@ -59,7 +59,7 @@ of_first f v w m n true true d s e t r h = rw (same_outcome v w s, t refl) e
 of_first f v w m n true false d s e t r h = r h
 of_first f v w m n false c d s e t r h = r h
 
-of_has : {S : Type 0} (eq : S → S → Bool) → Tells eq → (f : Outcome → S → Bool) (v : Outcome) (m : S)
+of_has : {S : Type 0} (eq : S → S → Bool) → Decides eq → (f : Outcome → S → Bool) (v : Outcome) (m : S)
     (l : List (Ending S)) → has eq v m l ≡ true → every f l ≡ true → f v m ≡ true
 of_has eq t f v m [] h e = absurd cc
 of_has eq t f v m (unknown ∷ l) h e = absurd cc
@@ -80,13 +80,13 @@ joined_right eq f (unknown ∷ l) m e = absurd cc
 joined_right eq f (ends_in v n ∷ l) m e =
     joined_right eq f l m (joined_rest f v n (join eq l m) (has eq v n m) e)
 
-joined_first : {S : Type 0} (eq : S → S → Bool) → Tells eq → (f : Outcome → S → Bool) (v : Outcome) (n : S)
+joined_first : {S : Type 0} (eq : S → S → Bool) → Decides eq → (f : Outcome → S → Bool) (v : Outcome) (n : S)
     (l m : List (Ending S)) (b : Bool) → b ≡ has eq v n m → every f m ≡ true →
     every f (if b then l else ends_in v n ∷ l) ≡ true → f v n ≡ true
 joined_first eq t f v n l m true i h e = of_has eq t f v n m (sym i) h
 joined_first eq t f v n l m false i h e = and_left _ _ e
 
-pub joined_left : {S : Type 0} (eq : S → S → Bool) → Tells eq → (f : Outcome → S → Bool) (l m : List (Ending S)) →
+pub joined_left : {S : Type 0} (eq : S → S → Bool) → Decides eq → (f : Outcome → S → Bool) (l m : List (Ending S)) →
     every f (join eq l m) ≡ true → every f l ≡ true
 joined_left eq t f [] m e = refl
 joined_left eq t f (unknown ∷ l) m e = absurd cc
@@ -100,7 +100,7 @@ joined_left eq t f (ends_in v n ∷ l) m e =
 abbrev pub Then : {S : Type 0} → (Outcome → S → Bool) → (Outcome → S → List (Ending S)) → Outcome → S → Bool
 Then f h v n = every f (h v n)
 
-pub gathered : {S : Type 0} (eq : S → S → Bool) → Tells eq → (f : Outcome → S → Bool)
+pub gathered : {S : Type 0} (eq : S → S → Bool) → Decides eq → (f : Outcome → S → Bool)
     (h : Outcome → S → List (Ending S)) (l : List (Ending S)) → every f (gather eq h l) ≡ true →
     every (Then f h) l ≡ true
 gathered eq t f h [] e = refl
@@ -135,7 +135,7 @@ settled good f (ends_in (again a b) n ∷ l) e =
     let k = settled_again f (settle good l) (good n) e in
     and_both (good n) _ k.0 (settled good f l k.1)
 
-pub of_flags : {S : Type 0} (eq : S → S → Bool) → Tells eq → (f : Outcome → S → Bool)
+pub of_flags : {S : Type 0} (eq : S → S → Bool) → Decides eq → (f : Outcome → S → Bool)
     (h : Bool → Bool → List (Ending S)) (a b : Bool) → every f (flagged eq h) ≡ true → every f (h a b) ≡ true
 of_flags eq t f h true true e = joined_left eq t f (h true true) (h true false) (joined_left eq t f
     (join eq (h true true) (h true false)) (join eq (h false true) (h false false)) e)

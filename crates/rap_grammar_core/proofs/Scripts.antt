@@ -58,7 +58,7 @@ unfolding adt.missing_in_list adt.comma_in_braces adt.opt_value adt.mut_restrict
     called.expr called.expr_no_struct called.expr_stmt called.type_ called.type_no_bounds called.path_type_bounds
     called.generic_arg_element called.generic_param_list called.pattern called.pattern_single called.meta
     called.cfg_predicate_element called.opt_generic_param_list called.bounds called.bounds_without_colon
-    called.opt_where_clause called.arm_pattern called.else_if called.item_or_macro called.use_tree
+    called.opt_where_clause called.arm_pattern called.if_expr called.item_or_macro called.use_tree
     const_args.negative_const const_args.const_path const_args.missing_const const_args.const_arg_expr
     const_args.const_arg
     consts.const_name consts.const_params consts.missing_const_type consts.const_type consts.const_value

@@ -26,7 +26,8 @@ use Rattle.rap_grammar_scripts.specs.declared.arguments.Mode.{Mode}
 use Rattle.rap_grammar_scripts.specs.declared.arguments.Mode.TheVariants as mode
 use Rattle.rap_grammar_scripts.specs.Blocks.{block_expr}
 use Rattle.rap_grammar_scripts.specs.Control.{if_expr, else_branch, while_expr, while_from, loop_expr, loop_from}
-use Rattle.rap_grammar_scripts.specs.Called.{expr_no_struct, without_structs, else_if}
+use Rattle.rap_grammar_scripts.specs.Called.{expr_no_struct, without_structs}
+use Rattle.rap_grammar_scripts.specs.Called as called
 use Rattle.rap_grammar_core.specs.Derives.{begins_block}
 use Rattle.rap_grammar_core.proofs.Operators.{is_atom, is_operand, differ, differ_back}
 use Rattle.rap_events.proofs.Truth.{and_false}
@@ -534,7 +535,7 @@ else_block_way e k x = passes (rw e refl) (takes (rw e refl) (fails (rw k refl) 
 
 pub else_if_way : {b : List Forest} {a : Record} {rs l : List Record} {f x : Forest} → a.kind ≡ ELSE_KW →
     next_kind rs ≡ IF_KW → Leads if_expr b rs (leaf f ELSE_KW 1) l x → Leads else_branch b (a ∷ rs) f l x
-unfolding else_branch else_if script_of
+unfolding else_branch called.if_expr script_of
 else_if_way e k x = passes (rw e refl) (takes (rw e refl) (passes (rw k refl) (obeys x gives)))
 
 -- arguments

@@ -161,11 +161,11 @@ pub fn arm_pattern<G: Grammar>(p: &mut Parser<'_>, g: &G) -> Result<(), NoMemory
 }
 
 /// An `if` after an `else`.
-pub fn else_if<G: Grammar>(p: &mut Parser<'_>, g: &G) -> Result<(), NoMemory>
+pub fn if_expr<G: Grammar>(p: &mut Parser<'_>, g: &G) -> Result<(), NoMemory>
     requires behind { Behind G.valid G.left g.now (state p.old) }
     requires here { next (state p.old) ≡ IF_KW }
     ensures took { OnOk result (Took (state p.old) (state p.new) atom_room) }
-    ensures script { OnOk result (Follows called.else_if something (state p.old) (state p.new)) }
+    ensures script { OnOk result (Follows called.if_expr something (state p.old) (state p.new)) }
 {
     g.run(p, Rule::IfExpr)?;
     Ok(())

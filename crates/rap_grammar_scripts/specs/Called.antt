@@ -83,8 +83,8 @@ unfoldable pub arm_pattern : Script Phrase
 arm_pattern = recur phrase.arm_pattern ▸ done
 
 -- an `if` after an `else`
-unfoldable pub else_if : Script Phrase
-else_if = recur phrase.if_expr ▸ done
+unfoldable pub if_expr : Script Phrase
+if_expr = recur phrase.if_expr ▸ done
 
 -- an item in a list of items
 unfoldable pub item_or_macro : Bool → Bool → Script Phrase

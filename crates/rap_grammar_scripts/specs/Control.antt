@@ -7,7 +7,8 @@ use Rattle.rap_events.specs.Record.{next_kind}
 use Rattle.rap_events.specs.Composite.{is_at}
 use Rattle.rap_grammar_scripts.specs.Attributes.{inner_attrs, outer_attrs}
 use Rattle.rap_grammar_scripts.specs.Blocks.{block_expr, stmt_list, error_block}
-use Rattle.rap_grammar_scripts.specs.Called.{expr, expr_no_struct, expr_stmt, pattern, arm_pattern, else_if}
+use Rattle.rap_grammar_scripts.specs.Called.{expr, expr_no_struct, expr_stmt, pattern, arm_pattern}
+use Rattle.rap_grammar_scripts.specs.Called as called
 use Rattle.rap_grammar_scripts.specs.First.{is_expr_first}
 use Rattle.rap_grammar_scripts.specs.Grammar.{lifetime, opt_ret_type}
 use Rattle.rap_grammar_scripts.specs.Params.{param_list_closure}
@@ -20,7 +21,7 @@ use Rattle.rap_grammar_scripts.specs.declared.arguments.Restrictions.{Restrictio
 
 -- what stands after the block of an `if`, if it has an `else`
 unfoldable pub else_branch : Script Phrase
-else_branch = optional (is_at ELSE_KW) (token ELSE_KW ▸ test (is_at IF_KW) else_if block_expr)
+else_branch = optional (is_at ELSE_KW) (token ELSE_KW ▸ test (is_at IF_KW) called.if_expr block_expr)
 
 unfoldable pub if_expr : Script Phrase
 if_expr = start ▸ token IF_KW ▸ call expr_no_struct ▸ call block_expr ▸ call else_branch ▸ finish IF_EXPR ▸ done

@@ -14,15 +14,15 @@ use Rattle.rast_print.specs.Printed.{reported_line, reported, lexer_reported}
 use Rattle.rast_print.specs.Shown.{all_reported}
 use Rattle.rast.specs.Ran.{ArePrinted}
 use Rattle.rast_print.specs.declared.printer.Printer.{Printer}
-use Rattle.rast.specs.Pending.{pending, child_lines, ArePlaced, AllPlaced, pending_size, told_lines}
+use Rattle.rast.specs.Pending.{pending, child_lines, ArePlaced, AllPlaced, pending_size, message_lines}
 use Rattle.rast.specs.RangedLines.{ranged_lines, node_line, leaf_line}
 use Rattle.syntax_tree.specs.Children.{with_child, with_children, children_of}
 use Rattle.syntax_tree.specs.Leaves.{RangedLeaf, leaf_of_byte}
 use Rattle.syntax_tree.specs.Places.{HavePlaces}
 use Rattle.syntax_tree.specs.RangedForest.{RangedForest, RangedNode, ranged_none, forest_size, alone}
-use Rattle.syntax_tree.specs.RangedMessages.{RangedMessage, ranged_message, told_at}
+use Rattle.syntax_tree.specs.RangedMessages.{RangedMessage, ranged_message, ranged_at}
 use Rattle.syntax_tree.specs.TextTree.{IsTextTree}
-use Rattle.syntax_tree.specs.Told.{Told, told_by, told, lexer_told, all_told}
+use Rattle.syntax_tree.specs.Reports.{ReportValue, reports_of_step, reports_of, lexer_reports, all_reports}
 use Rattle.syntax_tree.specs.declared.node.Child.{Child}
 use Rattle.syntax_tree.specs.declared.node.Child.TheVariants.{Node as a_node, Leaf as a_leaf}
 
@@ -155,53 +155,53 @@ pub children_placed : (text : List ℕ) (cs : List Child) (f : RangedForest) →
 children_placed text cs f e h = let P : RangedForest → Type 0 = λ g. HavePlaces text g in are_placed text cs ranged_none (subst P (sym e) h)
 
 -- the lines of messages without their places
-abbrev pub bare_lines : List Told → List ℕ
+abbrev pub bare_lines : List ReportValue → List ℕ
 bare_lines [] = []
 bare_lines (m ∷ ms) = message_line m.at m.text ++ bare_lines ms
 
-line-at : (m : Told) (leaf : Option RangedLeaf) → message_line (told_at m leaf).at (told_at m leaf).text ≡ message_line m.at m.text
+line-at : (m : ReportValue) (leaf : Option RangedLeaf) → message_line (ranged_at m leaf).at (ranged_at m leaf).text ≡ message_line m.at m.text
 line-at m None = refl
 line-at m (Some leaf) = refl
 
-told-bare : (f : RangedForest) (ms : List Told) → told_lines (map (ranged_message f) ms) ≡ bare_lines ms
-told-bare f [] = refl
-told-bare f (m ∷ ms) = ap (λ l. l ++ told_lines (map (ranged_message f) ms)) (line-at m (leaf_of_byte m.at f)) ∙ ap (λ l. message_line m.at m.text ++ l) (told-bare f ms)
+message_lines-bare : (f : RangedForest) (ms : List ReportValue) → message_lines (map (ranged_message f) ms) ≡ bare_lines ms
+message_lines-bare f [] = refl
+message_lines-bare f (m ∷ ms) = ap (λ l. l ++ message_lines (map (ranged_message f) ms)) (line-at m (leaf_of_byte m.at f)) ∙ ap (λ l. message_line m.at m.text ++ l) (message_lines-bare f ms)
 
 -- the lines of the messages are those of the steps and of the lexer
-told-append : (xs ys : List Told) → bare_lines (xs ++ ys) ≡ bare_lines xs ++ bare_lines ys
-told-append [] ys = refl
-told-append (m ∷ ms) ys = ap (λ l. message_line m.at m.text ++ l) (told-append ms ys) ∙ sym (append_assoc (message_line m.at m.text) (bare_lines ms) (bare_lines ys))
+bare_lines-append : (xs ys : List ReportValue) → bare_lines (xs ++ ys) ≡ bare_lines xs ++ bare_lines ys
+bare_lines-append [] ys = refl
+bare_lines-append (m ∷ ms) ys = ap (λ l. message_line m.at m.text ++ l) (bare_lines-append ms ys) ∙ sym (append_assoc (message_line m.at m.text) (bare_lines ms) (bare_lines ys))
 
-told-step : (s : StrStepValue) → bare_lines (told_by s) ≡ reported_line s
-told-step (str_enter kind) = refl
-told-step str_exit = refl
-told-step (str_token kind text) = refl
-told-step (str_error bytes pos) = append-nil (message_line pos bytes)
+bare_lines-step : (s : StrStepValue) → bare_lines (reports_of_step s) ≡ reported_line s
+bare_lines-step (str_enter kind) = refl
+bare_lines-step str_exit = refl
+bare_lines-step (str_token kind text) = refl
+bare_lines-step (str_error bytes pos) = append-nil (message_line pos bytes)
 
-told-steps : (ss : List StrStepValue) → bare_lines (told ss) ≡ reported ss
-told-steps [] = refl
-told-steps (s ∷ ss) =
-    told-append (told_by s) (told ss) ∙ (ap (λ l. l ++ bare_lines (told ss)) (told-step s) ∙ ap (λ l. reported_line s ++ l) (told-steps ss))
+bare_lines-steps : (ss : List StrStepValue) → bare_lines (reports_of ss) ≡ reported ss
+bare_lines-steps [] = refl
+bare_lines-steps (s ∷ ss) =
+    bare_lines-append (reports_of_step s) (reports_of ss) ∙ (ap (λ l. l ++ bare_lines (reports_of ss)) (bare_lines-step s) ∙ ap (λ l. reported_line s ++ l) (bare_lines-steps ss))
 
-told-lexer : (ts : List Token) (ms : List Message) → bare_lines (lexer_told ts ms) ≡ lexer_reported ts ms
-told-lexer ts [] = refl
-told-lexer ts (m ∷ ms) = ap (λ l. message_line (start_of ts m.token) m.text ++ l) (told-lexer ts ms)
+bare_lines-lexer : (ts : List Token) (ms : List Message) → bare_lines (lexer_reports ts ms) ≡ lexer_reported ts ms
+bare_lines-lexer ts [] = refl
+bare_lines-lexer ts (m ∷ ms) = ap (λ l. message_line (start_of ts m.token) m.text ++ l) (bare_lines-lexer ts ms)
 
-pub told-all : (lexed : Lexed) (forest : Forest) → bare_lines (all_told lexed (str_flat (with_trivia lexed.tokens forest))) ≡ all_reported lexed forest
-told-all lexed forest =
+pub bare_lines-all : (lexed : Lexed) (forest : Forest) → bare_lines (all_reports lexed (str_flat (with_trivia lexed.tokens forest))) ≡ all_reported lexed forest
+bare_lines-all lexed forest =
     let steps : List StrStepValue = str_flat (with_trivia lexed.tokens forest) in
-    told-append (told steps) (lexer_told lexed.tokens lexed.errors)
-    ∙ (ap (λ l. l ++ bare_lines (lexer_told lexed.tokens lexed.errors)) (told-steps steps)
-    ∙ ap (λ l. reported steps ++ l) (told-lexer lexed.tokens lexed.errors))
+    bare_lines-append (reports_of steps) (lexer_reports lexed.tokens lexed.errors)
+    ∙ (ap (λ l. l ++ bare_lines (lexer_reports lexed.tokens lexed.errors)) (bare_lines-steps steps)
+    ∙ ap (λ l. reported steps ++ l) (bare_lines-lexer lexed.tokens lexed.errors))
 
 -- what is printed of a text's tree
 pub ranges_whole : (text : List ℕ) (edition : Edition) (entry : TopEntryPoint) (root : RangedNode) (messages : List RangedMessage) (p : Printer)
-    → IsTextTree text edition entry root messages → p.tree ≡ ranged_lines text 0 (alone root) → string_bytes p.messages ≡ told_lines messages
+    → IsTextTree text edition entry root messages → p.tree ≡ ranged_lines text 0 (alone root) → string_bytes p.messages ≡ message_lines messages
     → ArePrinted true text edition entry p
-ranges_whole text edition entry root messages p t lines told = record {
+ranges_whole text edition entry root messages p t lines said = record {
   lexed = t.lexed;
   forest = t.forest;
   parsed = t.parsed;
   tree = lines ∙ ap (λ f. ranged_lines text 0 f) t.ranged;
-  messages = told ∙ (ap told_lines t.told ∙ (told-bare root.children (all_told t.lexed (str_flat (with_trivia t.lexed.tokens t.forest))) ∙ told-all t.lexed t.forest));
+  messages = said ∙ (ap message_lines t.reports ∙ (message_lines-bare root.children (all_reports t.lexed (str_flat (with_trivia t.lexed.tokens t.forest))) ∙ bare_lines-all t.lexed t.forest));
 }

@@ -34,6 +34,6 @@ pending_size [] = 0
 pending_size (f ∷ fs) = (1 + 2 * forest_size (children_of f.now)) + pending_size fs
 
 -- the lines of messages that a tree has kept
-abbrev pub told_lines : List RangedMessage → List ℕ
-told_lines [] = []
-told_lines (m ∷ ms) = message_line m.at m.text ++ told_lines ms
+abbrev pub message_lines : List RangedMessage → List ℕ
+message_lines [] = []
+message_lines (m ∷ ms) = message_line m.at m.text ++ message_lines ms

@@ -1,6 +1,6 @@
 //! A tree's lines with the place of each node and leaf.
 ghost use Rattle.std.specs.Prelude.{◌≡◌, ◌+◌, ◌*◌, ◌<◌, ◌++◌, ◌∷◌, IfErr, IfOk, OnOk, true, length, string_bytes};
-ghost use Rattle.rast.specs.Pending.{pending, child_lines, ArePlaced, AllPlaced, pending_size, told_lines};
+ghost use Rattle.rast.specs.Pending.{pending, child_lines, ArePlaced, AllPlaced, pending_size, message_lines};
 ghost use Rattle.rast.specs.RangedLines.{place, node_line, leaf_line, ranged_lines};
 ghost use Rattle.rast.specs.Ran.{ArePrinted};
 ghost use Rattle.rast_print.specs.Shown.{Comes};
@@ -113,7 +113,7 @@ fn push_children(
 
 /// Adds the messages' lines.
 fn push_messages(lines: &mut String, messages: &[Message]) -> Result<(), AllocError>
-    ensures { OnOk result (string_bytes lines.new ≡ string_bytes lines.old ++ told_lines messages.now) }
+    ensures { OnOk result (string_bytes lines.new ≡ string_bytes lines.old ++ message_lines messages.now) }
 {
     'messages: for message in messages {
         push_message(lines, message.position(), message.text())?;
@@ -125,7 +125,7 @@ fn push_messages(lines: &mut String, messages: &[Message]) -> Result<(), AllocEr
 fn printed(alloc: Global, tree: &Tree<'_>, text: &str) -> Result<Printer, NoMemory>
     requires { HavePlaces text.now (alone tree.now.root) }
     ensures tree { IfOk result (λ printer. printer.tree ≡ ranged_lines text.now 0 (alone tree.now.root)) }
-    ensures messages { IfOk result (λ printer. string_bytes printer.messages ≡ told_lines tree.now.messages.items) }
+    ensures messages { IfOk result (λ printer. string_bytes printer.messages ≡ message_lines tree.now.messages.items) }
 {
     let mut printer = Printer::new(alloc);
     push_node(&mut printer.tree, 0, tree.root())?;

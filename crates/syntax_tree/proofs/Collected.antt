@@ -16,7 +16,7 @@ use Rattle.syntax_tree.specs.Ranged.{Ranged, ranged}
 use Rattle.syntax_tree.specs.RangedForest.{RangedForest, RangedNode, ranged_none, alone}
 use Rattle.syntax_tree.specs.RangedMessages.{RangedMessage, ranged_message}
 use Rattle.syntax_tree.specs.TextTree.{IsTextTree}
-use Rattle.syntax_tree.specs.Told.{Told, told_by, told, lexer_told}
+use Rattle.syntax_tree.specs.Reports.{ReportValue, reports_of_step, reports_of, lexer_reports}
 use Rattle.syntax_tree.specs.declared.collector.Collector.{Collector}
 use Rattle.syntax_tree.proofs.Runs.{held, built, one_node, root_place}
 use Rattle.syntax_tree.proofs.Texts.{places_of}
@@ -26,12 +26,12 @@ pub builds_along : (steps : List StrStepValue) (s t : Collector) → Takes Colle
 builds_along [] s t h = ap (λ (c : Collector). c.builder) h
 builds_along (x ∷ xs) s t h = (h.0.builder, h.1.tree, builds_along xs h.0 t h.2)
 
-pub told_along : (steps : List StrStepValue) (s t : Collector) → Takes Collects s steps t → t.reports.items ≡ s.reports.items ++ told steps
-told_along [] s t h = ap (λ (c : Collector). c.reports.items) (sym h) ∙ sym (append-nil s.reports.items)
-told_along (x ∷ xs) s t h =
-    told_along xs h.0 t h.2
-    ∙ (ap (λ l. l ++ told xs) h.1.reports
-    ∙ append_assoc s.reports.items (told_by x) (told xs))
+pub reports_along : (steps : List StrStepValue) (s t : Collector) → Takes Collects s steps t → t.reports.items ≡ s.reports.items ++ reports_of steps
+reports_along [] s t h = ap (λ (c : Collector). c.reports.items) (sym h) ∙ sym (append-nil s.reports.items)
+reports_along (x ∷ xs) s t h =
+    reports_along xs h.0 t h.2
+    ∙ (ap (λ l. l ++ reports_of xs) h.1.reports
+    ∙ append_assoc s.reports.items (reports_of_step x) (reports_of xs))
 
 -- what a collector holds that had nothing and has taken the steps of a text's tree
 pub forest_of_text : (text : List ℕ) (edition : Edition) (entry : TopEntryPoint) (lexed : Lexed) (all : Bool) (s t : Collector)
@@ -55,9 +55,9 @@ pub row_of_text : (text : List ℕ) (edition : Edition) (entry : TopEntryPoint) 
 row_of_text text edition entry lexed all s t root e h is = root_row (with_trivia lexed.tokens h.forest) root (sym is ∙ forest_of_text text edition entry lexed all s t e h)
 
 -- and with the lexer's messages it is the tree of the text
-pub text_tree : (text : List ℕ) (edition : Edition) (entry : TopEntryPoint) (lexed : Lexed) (all : Bool) (s t : Collector) (root : RangedNode) (reports : List Told) (messages : List RangedMessage)
+pub text_tree : (text : List ℕ) (edition : Edition) (entry : TopEntryPoint) (lexed : Lexed) (all : Bool) (s t : Collector) (root : RangedNode) (reports : List ReportValue) (messages : List RangedMessage)
     → building s.builder ≡ held outermost ranged_none 0 → s.reports.items ≡ [] → Headline Collects text edition entry lexed all s t
-    → (building t.builder).forest ≡ alone root → reports ≡ t.reports.items ++ lexer_told lexed.tokens lexed.errors → messages ≡ map (ranged_message root.children) reports
+    → (building t.builder).forest ≡ alone root → reports ≡ t.reports.items ++ lexer_reports lexed.tokens lexed.errors → messages ≡ map (ranged_message root.children) reports
     → IsTextTree text edition entry root messages
 text_tree text edition entry lexed all s t root reports messages e none h is more placed =
     let f = with_trivia lexed.tokens h.forest in
@@ -73,8 +73,8 @@ text_tree text edition entry lexed all s t root reports messages e none h is mor
       start = at.0;
       end = at.1 ∙ ap length h.whole;
       places = subst P (sym is_ranged) (places_of f s.builder t.builder text taken h.whole);
-      told =
+      reports =
           placed
           ∙ ap (map (ranged_message root.children))
-          (more ∙ ap (λ l. l ++ lexer_told lexed.tokens lexed.errors) (told_along (str_flat f) s t h.taken ∙ ap (λ l. l ++ told (str_flat f)) none));
+          (more ∙ ap (λ l. l ++ lexer_reports lexed.tokens lexed.errors) (reports_along (str_flat f) s t h.taken ∙ ap (λ l. l ++ reports_of (str_flat f)) none));
     }

@@ -3,10 +3,10 @@
 use Rattle.std.specs.Prelude.{◌≡◌, ◌++◌}
 use Rattle.rap_lexed.specs.StrStep.{StrStepValue}
 use Rattle.syntax_tree.specs.Building.{Builds}
-use Rattle.syntax_tree.specs.Told.{told_by}
+use Rattle.syntax_tree.specs.Reports.{reports_of_step}
 use Rattle.syntax_tree.specs.declared.collector.Collector.{Collector}
 
 -- the builder takes the step, and a message is kept
 pub record Collects (old : Collector) (step : StrStepValue) (new : Collector) : Type 0 where
   pub tree : Builds old.builder step new.builder
-  pub reports : new.reports.items ≡ old.reports.items ++ told_by step
+  pub reports : new.reports.items ≡ old.reports.items ++ reports_of_step step

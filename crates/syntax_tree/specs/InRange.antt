@@ -21,7 +21,7 @@ abbrev pub lies_in : ℕ → ℕ → RangedLeaf → Bool
 lies_in start end leaf = (nat_le start leaf.start && nat_le leaf.end end) && has_text leaf
 
 -- In a tree with the places of a text, the leaves of a node are those leaves of the tree that lie in its range. (No leaf
--- of a lexed text is empty; an empty one at the range's border would tell nothing.)
+-- of a lexed text is empty; an empty one at the range's border would say nothing.)
 abbrev pub HasLeavesInRange : Type 0
 HasLeavesInRange =
     (f : StrForest) (root n : RangedNode) → Ranged f root → StandsIn n (alone root)

@@ -16,5 +16,5 @@ pub mod RangedForest
 pub mod RangedMessages
 pub mod Stored
 pub mod TextTree
-pub mod Told
+pub mod Reports
 pub mod Walking

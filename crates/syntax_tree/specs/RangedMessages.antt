@@ -2,7 +2,7 @@
 use Rattle.std.specs.Prelude.{ℕ, List, Option, Some, None}
 use Rattle.syntax_tree.specs.Leaves.{RangedLeaf, leaf_of_byte}
 use Rattle.syntax_tree.specs.RangedForest.{RangedForest}
-use Rattle.syntax_tree.specs.Told.{Told}
+use Rattle.syntax_tree.specs.Reports.{ReportValue}
 
 -- a message: the bytes of what it says, the byte of the text at which it stands, and the bytes at which the leaf there
 -- begins and ends
@@ -13,10 +13,10 @@ pub record RangedMessage : Type 0 where
   pub end : ℕ
 
 -- a message at a leaf; behind the last leaf its place is empty
-abbrev pub told_at : Told → Option RangedLeaf → RangedMessage
-told_at m None = record { text = m.text; at = m.at; start = m.at; end = m.at }
-told_at m (Some leaf) = record { text = m.text; at = m.at; start = leaf.start; end = leaf.end }
+abbrev pub ranged_at : ReportValue → Option RangedLeaf → RangedMessage
+ranged_at m None = record { text = m.text; at = m.at; start = m.at; end = m.at }
+ranged_at m (Some leaf) = record { text = m.text; at = m.at; start = leaf.start; end = leaf.end }
 
 -- a message at the leaf of the forest that has its byte
-abbrev pub ranged_message : RangedForest → Told → RangedMessage
-ranged_message f m = told_at m (leaf_of_byte m.at f)
+abbrev pub ranged_message : RangedForest → ReportValue → RangedMessage
+ranged_message f m = ranged_at m (leaf_of_byte m.at f)

@@ -11,7 +11,7 @@ use Rattle.syntax_tree.specs.Places.{HavePlaces}
 use Rattle.syntax_tree.specs.Ranged.{Ranged}
 use Rattle.syntax_tree.specs.RangedForest.{RangedNode, alone}
 use Rattle.syntax_tree.specs.RangedMessages.{RangedMessage, ranged_message}
-use Rattle.syntax_tree.specs.Told.{all_told}
+use Rattle.syntax_tree.specs.Reports.{all_reports}
 
 -- The root is the one tree of the text's tokens, with the place of each node and leaf, and covers the whole text; each
 -- place is from one border of characters to another; and the messages are those of the tree, and after them those of
@@ -24,4 +24,4 @@ pub record IsTextTree (text : List ℕ) (edition : Edition) (entry : TopEntryPoi
   pub start : root.start ≡ 0
   pub end : root.end ≡ length text
   pub places : HavePlaces text (alone root)
-  pub told : messages ≡ map (ranged_message root.children) (all_told lexed (str_flat (with_trivia lexed.tokens forest)))
+  pub reports : messages ≡ map (ranged_message root.children) (all_reports lexed (str_flat (with_trivia lexed.tokens forest)))

@@ -3,7 +3,7 @@ ghost use Rattle.std.specs.Prelude.{◌≡◌, ◌++◌, ◌∷◌, [], OnOk, le
 ghost use Rattle.rap_lexed.specs.LexedStr.{AreInOrder};
 ghost use Rattle.syntax_tree.specs.Building.{building, outermost};
 ghost use Rattle.syntax_tree.specs.RangedForest.{ranged_none};
-ghost use Rattle.syntax_tree.specs.Told.{lexer_told};
+ghost use Rattle.syntax_tree.specs.Reports.{lexer_reports};
 
 use crate::builder::Builder;
 use crate::report::Report;
@@ -34,7 +34,7 @@ impl Collector {
     }
 
     /// Keeps a message.
-    fn tell(&mut self, text: &str, at: usize) -> Result<(), NoMemory>
+    fn keep(&mut self, text: &str, at: usize) -> Result<(), NoMemory>
         ensures reports { OnOk result (self.new.reports.items ≡ self.old.reports.items ++ record { text = text.now; at = at } ∷ []) }
         ensures tree { self.new.builder ≡ self.old.builder }
     {
@@ -44,14 +44,14 @@ impl Collector {
     }
 
     /// Keeps the lexer's messages, each at the start of its token.
-    pub(crate) fn tell_errors_of(&mut self, lexed: &LexedStr<'_>) -> Result<(), NoMemory>
+    pub(crate) fn keep_errors_of(&mut self, lexed: &LexedStr<'_>) -> Result<(), NoMemory>
         requires { AreInOrder (length lexed.now.tokens) lexed.now.errors }
         ensures reports { OnOk result (self.new.reports.items
-            ≡ self.old.reports.items ++ lexer_told lexed.now.tokens lexed.now.errors) }
+            ≡ self.old.reports.items ++ lexer_reports lexed.now.tokens lexed.now.errors) }
         ensures tree { self.new.builder ≡ self.old.builder }
     {
         'errors: for (token, message) in lexed.errors() {
-            self.tell(message, lexed.text_start(token))?;
+            self.keep(message, lexed.text_start(token))?;
         }
         Ok(())
     }
@@ -69,7 +69,7 @@ impl StrSink for Collector {
 
     fn step(&mut self, step: StrStep<'_>) -> Result<(), NoMemory> {
         match step {
-            StrStep::Error { msg, pos } => self.tell(msg, pos),
+            StrStep::Error { msg, pos } => self.keep(msg, pos),
             StrStep::Token { kind, text } => self.builder.token(kind, text),
             StrStep::Enter { kind } => self.builder.enter(kind),
             StrStep::Exit => self.builder.exit(),

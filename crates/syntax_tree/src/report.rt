@@ -19,9 +19,9 @@ pub(crate) struct Report {
 
 impl Model for Report {
     ghost use Rattle.std.specs.Prelude.{string_bytes};
-    ghost use Rattle.syntax_tree.specs.Told.{Told};
+    ghost use Rattle.syntax_tree.specs.Reports.{ReportValue};
 
-    ghost Value = { Told };
+    ghost Value = { ReportValue };
 
     ghost view = { λ r. record { text = string_bytes r.text; at = r.at } };
 }

@@ -76,7 +76,7 @@ impl<'t> Tree<'t> {
     {
         let mut collector = Collector::new(alloc);
         let parsed = parse_text(alloc, edition, entry, text, &mut collector)?;
-        let Ok(()) = collector.tell_errors_of(&parsed.lexed) else {
+        let Ok(()) = collector.keep_errors_of(&parsed.lexed) else {
             return Err(TextFault::Refused(NoMemory));
         };
         let Collector {

@@ -13,7 +13,7 @@ unfolding else_branch
 returns-then-at-clause-script g c = record {
   run =
       ate c.in_ok-eat.ensures.state c.if-not-branch.false
-      (then_by c.at.ensures c.if-at.true (to_end c.in_ok-else_if.ensures.script));
+      (then_by c.at.ensures c.if-at.true (to_end c.in_ok-if_expr.ensures.script));
 }
 
 pub returns-clause-script : goal.returns-clause-script

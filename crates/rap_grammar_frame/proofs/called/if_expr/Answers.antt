@@ -1,10 +1,10 @@
-use Rattle.rap_grammar_scripts.specs.Called.{else_if}
+use Rattle.rap_grammar_scripts.specs.Called.{if_expr}
 use Rattle.rap_grammar_scripts.specs.Knot.{script_of}
 use Rattle.rap_grammar_scripts.specs.Phrase as phrase
 use Rattle.rap_grammar_scripts.specs.Script.{gives}
 use Rattle.rap_grammar_frame.proofs.Steps.{by_part}
-use Rattle.rap_grammar_frame.proofs.called.else_if.Goals as goal
+use Rattle.rap_grammar_frame.proofs.called.if_expr.Goals as goal
 
 pub returns-clause-script : goal.returns-clause-script
-unfolding else_if script_of
+unfolding if_expr script_of
 returns-clause-script g c = record { run = by_part phrase.if_expr c.in_ok-run.ensures.1 gives }
