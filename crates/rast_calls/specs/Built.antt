@@ -1,6 +1,7 @@
 -- The nodes and leaves of a tree that is built.
 use Rattle.std.specs.Prelude.{◌≡◌, ◌<◌, ℕ, List, [], ◌∷◌, ◌++◌, length, codes}
 use Rattle.std.specs.Fmt.{decimal}
+use Rattle.rap_base.specs.Limits.{max_tokens}
 use Rattle.rap_base.specs.Names.{name_of}
 use Rattle.rap_base.specs.declared.edition.Edition.{Edition}
 use Rattle.rap_events.specs.Forest.{Forest}
@@ -48,7 +49,7 @@ pub record IsBuilt (text : List ℕ) (edition : Edition) (entry : TopEntryPoint)
 pub record HasTooMany (text : List ℕ) (edition : Edition) : Type 0 where
   pub lexed : Lexed
   pub lexing : IsLexing text edition lexed
-  pub many : 8388607 < length (records lexed.tokens edition)
+  pub many : max_tokens < length (records lexed.tokens edition)
 
 -- when a fault comes of a text whose tree is built
 abbrev pub ComesOfBuild : List ℕ → Edition → CallFault → Type 0

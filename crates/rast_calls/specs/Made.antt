@@ -1,5 +1,6 @@
 -- Inputs of tokens that are pushed, and what is made of them.
 use Rattle.std.specs.Prelude.{◌≡◌, ◌≢◌, ◌<◌, ◌+◌, ◌%◌, ◌==◌, ℕ, zero, suc, Bool, true, false, if◌then◌else◌, List, [], ◌∷◌, ◌++◌, length}
+use Rattle.rap_base.specs.Limits.{max_tokens}
 use Rattle.rap_base.specs.TokenKind.{EOF, IDENT, L_CURLY}
 use Rattle.rap_base.specs.TokenTests.{is_token}
 use Rattle.rap_base.specs.declared.edition.Edition.TheVariants.{Edition2024}
@@ -49,7 +50,7 @@ LacksBrace (Node part) input = (asks_brace part ≡ true) × (next_kind input �
 -- when a fault comes of an input that is there
 abbrev pub ComesOfOutput : Way → List Record → CallFault → Type 0
 ComesOfOutput way input TextTooLong = ⊥
-ComesOfOutput way input TooManyTokens = 8388607 < length input
+ComesOfOutput way input TooManyTokens = max_tokens < length input
 ComesOfOutput way input NoBrace = LacksBrace way input
 ComesOfOutput way input NoToken = ⊥
 ComesOfOutput way input NoMemory = Unit {0}
