@@ -38,7 +38,7 @@ both_close j k ks ss inner outer =
     ap (λ (b : Bool). and_then (if b then (if k == FIELD_EXPR then Some ks else None) else None) (λ next. closes ss next)) inner
     ∙ dot_closes k ks ss outer
 
--- past a forest in an open node, the same nodes are open
+-- after a forest in an open node, the same nodes are open
 past : (f : Forest) (j : ℕ) (ks : List ℕ) (ss : List StepValue) → Tree f → splits_last f ≡ true → closes (flat f ++ ss) (j ∷ ks) ≡ closes ss (j ∷ ks)
 past none j ks ss nothing h = refl
 past (split b d) j ks ss t h = elim t [ ]
@@ -105,12 +105,12 @@ abbrev begun_steps : Begun → List StepValue
 begun_steps reading.nothing = []
 begun_steps (reading.inside begun b k) = begun_steps begun ++ (flat b ++ enter k ∷ [])
 
--- a forest stands inside nodes that have begun; beside the oldest of them there is nothing
+-- a forest inside nodes that have begun; nothing is beside the oldest of them
 abbrev Stands : Begun → Forest → Type 0
 Stands reading.nothing b = b ≡ none
 Stands (reading.inside begun c j) b = Stands begun c × Before b
 
--- the same, or it is the whole
+-- the same, or it is the whole tree
 abbrev Standing : Begun → Forest → Type 0
 Standing reading.nothing f = (one_tree f ≡ true) × Before f
 Standing (reading.inside begun b k) f = Stands begun b × Before f
@@ -148,7 +148,7 @@ if_both : (a b : Bool) (ks : List ℕ) (ss : List StepValue) → and_then (if a 
 if_both true b ks ss h = (refl, if_some b ks ss h)
 if_both false b ks ss h = absurd cc
 
--- what steps make that end all nodes that have begun
+-- the tree of steps that end all nodes that have begun
 sound : (ss : List StepValue) (begun : Begun) (f : Forest) → closes ss (kinds begun) ≡ true → Standing begun f → Made (begun_steps begun ++ (flat f ++ ss)) (read (with_ends ss) begun f)
 sound [] reading.nothing f h s = record { shown = sym (append-nil (flat f)); placed = s.1; one = s.0 }
 sound [] (reading.inside begun b k) f h s = absurd cc

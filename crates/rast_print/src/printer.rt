@@ -55,7 +55,7 @@ impl Printer {
         Printer::behind(alloc, IndentedText::new(alloc))
     }
 
-    /// A printer that adds a tree's lines behind these.
+    /// A printer that adds a tree's lines after these.
     pub fn behind(alloc: Global, lines: IndentedText) -> Printer
         ensures tree { result.tree ≡ lines }
         ensures messages { string_bytes result.messages ≡ [] }

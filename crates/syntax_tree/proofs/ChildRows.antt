@@ -1,4 +1,4 @@
--- Children whose places follow one another, and the child that reaches over a byte.
+-- Children whose places follow one another, and the child whose range holds a byte.
 use Rattle.std.proofs.Common.{◌≡◌, ℕ, zero, suc, ◌+◌, ◌<◌, ◌≤◌, Bool, true, false, cond, ◌&&◌, nat_lt, leb, ◌⊎◌, List, [], ◌∷◌, ◌++◌, Option, Some, None, length, get_or, refl, ap, subst, sym, ◌∙◌, append_assoc, append-nil, arith, inl, inr}
 use Rattle.std.specs.List.{find}
 use Rattle.std.specs.Option.{option_or}
@@ -104,7 +104,7 @@ find_in_child (c ∷ cs) a b offset h p =
           (cut ∙ ap (λ o. option_or o (find (has_byte offset) (child_leaves cs))) first ∙ find_in_child cs (child_end c) b offset h.1 q)
     ]
 
--- the leaf of a byte stands in the first child that ends behind the byte
+-- the leaf of a byte is in the first child that ends after the byte
 pub byte_in_child : (cs : List Child) (f : RangedForest) (a b offset : ℕ) → children_of cs ≡ f → InRow a f b → a ≤ offset → leaf_of_byte offset f ≡ in_child offset (find (ends_behind offset) cs)
 byte_in_child cs f a b offset e h p =
     ap (leaf_of_byte offset) (sym e)
@@ -130,7 +130,7 @@ found_from (x ∷ xs) a b offset c h p e = elim (cases_lt offset (child_end x)) 
       found_from xs (child_end x) b offset c h.1 q same
 ]
 
--- the leaf of the byte, where that child is a leaf
+-- the leaf of the byte, if that child is a leaf
 pub at_leaf : (cs : List Child) (f : RangedForest) (a b offset : ℕ) (kind : ℕ) (range : Range ℕ) → children_of cs ≡ f → InRow a f b → a ≤ offset → find (ends_behind offset) cs ≡ Some (a_leaf kind range)
     → let l : RangedLeaf = record { kind = kind; start = range.start; end = range.end } in leaf_of_byte offset f ≡ Some l
 at_leaf cs f a b offset kind range e h p is =
@@ -142,7 +142,7 @@ at_leaf cs f a b offset kind range e h p is =
     ∙ ap (λ t. cond t (Some l) None) (lt-ltb offset range.end r.ends) in
     byte_in_child cs f a b offset e h p ∙ ap (in_child offset) is ∙ here
 
--- where it is a node, the leaf of the byte stands in that node
+-- if it is a node, the leaf of the byte is in that node
 pub at_node : (cs : List Child) (f : RangedForest) (a b offset : ℕ) (n : RangedNode) → children_of cs ≡ f → InRow a f b → a ≤ offset → find (ends_behind offset) cs ≡ Some (a_node n)
     → (leaf_of_byte offset f ≡ leaf_of_byte offset n.children) × InRow n.start n.children n.end × (n.start ≤ offset)
 at_node cs f a b offset n e h p is =
@@ -154,7 +154,7 @@ at_node cs f a b offset n e h p is =
 pub at_none : (cs : List Child) (f : RangedForest) (a b offset : ℕ) → children_of cs ≡ f → InRow a f b → a ≤ offset → find (ends_behind offset) cs ≡ None → leaf_of_byte offset f ≡ None
 at_none cs f a b offset e h p is = byte_in_child cs f a b offset e h p ∙ ap (in_child offset) is
 
--- a child that a search finds is smaller than all of them
+-- a child that a search finds is smaller than all children
 found_first : (x c : Child) (t : Bool) (r : Option Child) → cond t (Some x) r ≡ Some c → (x ≡ c) ⊎ (r ≡ Some c)
 found_first x c true r e = let is : x ≡ c = cc in inl is
 found_first x c false r e = inr e

@@ -84,7 +84,7 @@ none_of_leaf before kind start end s e not outer =
     ∙ ap (λ t. option_or (cond t (Some l) None) (smallest_holding s e before)) not
     ∙ outer
 
--- what begins behind the range's start does not hold it
+-- a node or leaf that begins after the range's start does not hold it
 none_behind : (f : RangedForest) (a b s e : ℕ) → InRow a f b → s < a → smallest_holding s e f ≡ None
 none_behind ranged_none a b s e h p = refl
 none_behind (ranged_node before kind start end children) a b s e h p =
@@ -95,7 +95,7 @@ none_behind (ranged_leaf before kind start end) a b s e h p =
     let q : s < start = omega (arith, rises before a start h.0) in
     none_of_leaf before kind start end s e (begins_behind start end s e q) (none_behind before a start s e h.0 p)
 
--- nor does what ends before its end
+-- nor does one that ends before its end
 none_short : (f : RangedForest) (a b s e : ℕ) → InRow a f b → b < e → smallest_holding s e f ≡ None
 none_short ranged_none a b s e h p = refl
 none_short (ranged_node before kind start end children) a b s e h p =
@@ -232,13 +232,13 @@ at_none (c ∷ cs) f a b s e same h p is =
     let clash : Some r.0 ≡ None = sym r.1.is ∙ is in
     absurd (cc)
 
--- where that child ends before the range does, none holds it
+-- if that child ends before the range does, none holds it
 pub at_short : (cs : List Child) (f : RangedForest) (a b s e : ℕ) (d : Child) → children_of cs ≡ f → InRow a f b → a ≤ s → reaching s cs ≡ Some d → child_end d < e → smallest_holding s e f ≡ None
 at_short cs f a b s e d same h p is short =
     let r = at_child cs f a b s e d same h p is in
     r.1.2 ∙ none_short (only d) r.0 (child_end d) s e r.1.1 short
 
--- where it is a node that ends no earlier, what holds the range stands in it or is it
+-- if it is a node that ends no earlier, what holds the range is in it, or is that node
 pub at_node : (cs : List Child) (f : RangedForest) (a b s e : ℕ) (n : RangedNode) (x : RangedElement) → children_of cs ≡ f → InRow a f b → a ≤ s → reaching s cs ≡ Some (a_node n) → e ≤ n.end
     → (option_or (smallest_holding s e f) (Some x) ≡ option_or (smallest_holding s e n.children) (Some (node_element n))) × InRow n.start n.children n.end × (n.start ≤ s)
 at_node cs f a b s e n x same h p is long =
@@ -249,7 +249,7 @@ at_node cs f a b s e n x same h p is long =
       begins,
     )
 
--- where it is a leaf that ends no earlier, that leaf
+-- if it is a leaf that ends no earlier, it is that leaf
 pub at_leaf : (cs : List Child) (f : RangedForest) (a b s e : ℕ) (kind : ℕ) (range : Range ℕ) (x : RangedElement) → children_of cs ≡ f → InRow a f b → a ≤ s → reaching s cs ≡ Some (a_leaf kind range) → e ≤ range.end
     → option_or (smallest_holding s e f) (Some x) ≡ Some (leaf_element (record { kind = kind; start = range.start; end = range.end }))
 at_leaf cs f a b s e kind range x same h p is long =
@@ -261,7 +261,7 @@ at_leaf cs f a b s e kind range x same h p is long =
     ∙ (found-leaf ranged_none kind range.start range.end s e
     ∙ ap (λ t. option_or (cond t (Some l) None) None) (reaches_over range.start range.end s e begins long)))
 
--- the child is smaller than all of them
+-- the child is smaller than all children
 got_smaller : (cs : List Child) (f : RangedForest) (i : ℕ) (n : RangedNode) → slice_get cs i ≡ Some (a_node n) → forest_size n.children + 1 ≤ forest_size (with_children f cs)
 got_smaller [] f i n e = absurd (cc)
 got_smaller (x ∷ xs) f zero n e =

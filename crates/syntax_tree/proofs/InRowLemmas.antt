@@ -13,7 +13,7 @@ rises ranged_none a b h = omega (arith, h)
 rises (ranged_node before kind start end children) a b h = omega (arith, rises before a start h.0, rises children start end h.1, h.2)
 rises (ranged_leaf before kind start end) a b h = omega (arith, rises before a start h.0, h.1, h.2)
 
--- a byte behind a forest is in none of its leaves
+-- a byte after the end of a forest is in none of its leaves
 pub byte_behind : (f : RangedForest) (a b offset : ℕ) → InRow a f b → b ≤ offset → leaf_of_byte offset f ≡ None
 byte_behind ranged_none a b offset h p = refl
 byte_behind (ranged_node before kind start end children) a b offset h p =
@@ -32,7 +32,7 @@ byte_behind (ranged_leaf before kind start end) a b offset h p =
     find-append (has_byte offset) (leaves_of before) (leaf ∷ [])
     ∙ ap (λ o. option_or o (find (has_byte offset) (leaf ∷ []))) first ∙ second
 
--- a byte that a forest reaches over is in one of its leaves
+-- a byte in the range of a forest is in one of its leaves
 pub byte_inside : (f : RangedForest) (a b offset : ℕ) → InRow a f b → a ≤ offset → offset < b → (l : RangedLeaf) × (leaf_of_byte offset f ≡ Some l)
 byte_inside ranged_none a b offset h p q = absurd (omega (arith, h))
 byte_inside (ranged_node before kind start end children) a b offset h p q = elim (cases_lt offset start) [

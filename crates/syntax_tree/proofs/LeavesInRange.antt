@@ -19,7 +19,7 @@ leaf_before s e a b p = grind (arith, nat_tests)
 leaf_behind : (s e a b : ℕ) → e ≤ a → ((nat_le s a && nat_le b e) && nat_lt a b) ≡ false
 leaf_behind s e a b p = grind (arith, nat_tests)
 
--- two parts of what a test lets through
+-- a filter of two lists joined
 both : (p : RangedLeaf → Bool) (xs ys us vs : List RangedLeaf) → filter p xs ≡ us → filter p ys ≡ vs → filter p (xs ++ ys) ≡ us ++ vs
 both p xs ys us vs d e = filter-append p xs ys ∙ ap (λ l. l ++ filter p ys) d ∙ ap (λ l. us ++ l) e
 
@@ -66,7 +66,7 @@ none_behind (ranged_leaf before kind start end) a b s e h p =
     let low : e ≤ start = omega (arith, rises before a start h.0) in
     both (lies_in s e) (leaves_of before) (leaf ∷ []) [] [] (none_behind before a start s e h.0 p) (one (lies_in s e) leaf false (leaf_behind s e start end low))
 
--- where a node stands, and what of the forest lies in its range
+-- the range of a node, and the leaves of the forest in it
 pub record Stands (n : RangedNode) (a b : ℕ) (all : List RangedLeaf) : Type 0 where
   pub low : a ≤ n.start
   pub high : n.end ≤ b

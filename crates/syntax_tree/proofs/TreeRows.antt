@@ -27,7 +27,7 @@ root_row f n e =
     let h = subst P (sym e) (ranged_row f 0) in
     (h.1, sym h.0)
 
--- no leaf has a byte exactly at the end and behind it
+-- exactly the bytes at the end and after it are in no leaf
 pub none_from_end : (f : StrForest) (n : RangedNode) (offset : ℕ) (r : Option RangedLeaf) → Ranged f n → r ≡ leaf_of_byte offset n.children → (r ≡ None) ↔ (n.end ≤ offset)
 none_from_end f n offset r e is =
     let row = root_row f n e in

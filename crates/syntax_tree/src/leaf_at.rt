@@ -15,7 +15,7 @@ impl Tree<'_> {
     /// The leaf that holds the byte at this offset in the text: the one that begins there or before, and ends after it.
     /// `None` exactly at the end of the text and after it. The tree must have the places of a text, as [`Tree::build`]
     /// and [`Tree::of_text`] return it. On each level it searches the
-    /// children of one node by halves, and it allocates no memory.
+    /// children of one node by bisection, and it allocates no memory.
     pub fn leaf_at(&self, offset: usize) -> Option<Leaf>
         requires { (forest : StrForest) × Ranged forest self.now.root }
         ensures leaf { result ≡ leaf_of_byte offset self.now.root.children }

@@ -1,4 +1,4 @@
-//! Lists the functions of a file, each with its place: `syntax_tree_example FILE`.
+//! Lists the functions of a file with their ranges: `syntax_tree_example FILE`.
 #![tactic(auto)]
 
 use ra_ap_parser::{Edition, SyntaxKind, TopEntryPoint};
