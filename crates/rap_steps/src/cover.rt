@@ -45,14 +45,14 @@ fn width_at(alloc: Global, step: &Step<'_>, input: &Input, place: usize) -> Opti
             kind,
             n_input_tokens,
         } => {
-            if token_stands(alloc, *kind, *n_input_tokens, input, place) {
+            if token_matches(alloc, *kind, *n_input_tokens, input, place) {
                 Some(usize::from(*n_input_tokens))
             } else {
                 None
             }
         }
         Step::FloatSplit { ends_in_dot } => {
-            if float_stands(*ends_in_dot, input, place) {
+            if float_matches(*ends_in_dot, input, place) {
                 Some(1)
             } else {
                 None
@@ -63,7 +63,7 @@ fn width_at(alloc: Global, step: &Step<'_>, input: &Input, place: usize) -> Opti
 }
 
 /// Whether the next `n_input_tokens` tokens at the place make a leaf of this kind.
-fn token_stands(
+fn token_matches(
     alloc: Global,
     kind: SyntaxKind,
     n_input_tokens: u8,
@@ -104,7 +104,7 @@ fn bears(own: SyntaxKind, contextual: SyntaxKind, kind: SyntaxKind) -> bool
 }
 
 /// Whether the token at the place is a float that ends in a dot, or one that does not.
-fn float_stands(ends_in_dot: bool, input: &Input, place: usize) -> bool
+fn float_matches(ends_in_dot: bool, input: &Input, place: usize) -> bool
     ensures { result ≡ first_splits (drop place input.now) ends_in_dot }
 {
     if place >= input.len() {

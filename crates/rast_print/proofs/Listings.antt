@@ -18,8 +18,8 @@ use Rattle.rast_print.specs.Listed.{tree_lines, tree_part}
 use Rattle.rap_base.specs.Limits.{max_tokens}
 
 -- the lines of a tree after those that a printer began with
-pub tree_behind : (lines : List ℕ) (steps : List StrStepValue) (s t : Printer) → s.tree ≡ lines → s.depth ≡ 0 → Takes Prints s steps t → t.tree ≡ lines ++ printed 0 steps
-tree_behind lines steps s t behind no_depth h = tree_along steps s t h ∙ (ap (λ l. l ++ printed s.depth steps) behind ∙ ap (λ d. lines ++ printed d steps) no_depth)
+pub tree_after : (lines : List ℕ) (steps : List StrStepValue) (s t : Printer) → s.tree ≡ lines → s.depth ≡ 0 → Takes Prints s steps t → t.tree ≡ lines ++ printed 0 steps
+tree_after lines steps s t begun no_depth h = tree_along steps s t h ∙ (ap (λ l. l ++ printed s.depth steps) begun ∙ ap (λ d. lines ++ printed d steps) no_depth)
 
 pub messages_from : (steps : List StrStepValue) (s t : Printer) → string_bytes s.messages ≡ [] → Takes Prints s steps t → string_bytes t.messages ≡ reported steps
 messages_from steps s t none_yet h = messages_along steps s t h ∙ ap (λ l. l ++ reported steps) none_yet

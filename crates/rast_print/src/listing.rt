@@ -113,7 +113,7 @@ fn push_used(lines: &mut String, lexed: &LexedStr<'_>, output: &Output) -> Resul
 }
 
 /// The lines of a tree, trivia put back, after other lines, and those of its messages.
-#[tactic(auto, using(crate::proofs::Listings::tree_behind, crate::proofs::Listings::messages_from))]
+#[tactic(auto, using(crate::proofs::Listings::tree_after, crate::proofs::Listings::messages_from))]
 fn print_tree(
     alloc: Global,
     lines: IndentedText,
@@ -125,7 +125,7 @@ fn print_tree(
     ensures tree { IfOk result (λ p. p.tree ≡ lines ++ printed 0 (str_flat (with_trivia lexed.now.tokens output.now))) }
     ensures messages { IfOk result (λ p. string_bytes p.messages ≡ reported (str_flat (with_trivia lexed.now.tokens output.now))) }
 {
-    let mut printer = Printer::behind(alloc, lines);
+    let mut printer = Printer::after(alloc, lines);
     lexed.intersperse_trivia(output, &mut printer)?;
     Ok(printer)
 }

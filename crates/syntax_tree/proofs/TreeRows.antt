@@ -6,7 +6,7 @@ use Rattle.syntax_tree.specs.InRow.{InRow}
 use Rattle.syntax_tree.specs.Leaves.{RangedLeaf, leaf_of_byte}
 use Rattle.syntax_tree.specs.Ranged.{Ranged, end_from, ranged}
 use Rattle.syntax_tree.specs.RangedForest.{RangedForest, RangedNode}
-use Rattle.syntax_tree.proofs.InRowLemmas.{byte_behind, byte_inside}
+use Rattle.syntax_tree.proofs.InRowLemmas.{byte_after, byte_inside}
 
 end_of_both : (at : ℕ) (xs ys : List ℕ) → (at + length xs) + length ys ≡ at + length (xs ++ ys)
 end_of_both at xs ys = omega (arith, length-append xs ys)
@@ -39,5 +39,5 @@ none_from_end f n offset r e is =
             absurd (cc)
         | inr q ↦ q
       ],
-      λ q. is ∙ byte_behind n.children n.start n.end offset row.0 q,
+      λ q. is ∙ byte_after n.children n.start n.end offset row.0 q,
     )

@@ -263,12 +263,12 @@ pub node_ahead : (before old mid after : List (Bor (List Child))) (s rest inner 
     → old ≡ before ++ s ∷ [] → s.now ≡ c ∷ rest.now → c ≡ a_node n → mid ≡ before ++ rest ∷ [] → after ≡ mid ++ inner ∷ [] → children_of inner.now ≡ n.children
     → ahead old ≡ element_of c ∷ ahead after
 node_ahead before old mid after s rest inner c n e is node d a same =
-    let behind : List RangedElement = elements_of (children_of rest.now) ++ ahead before in
-    let then : ahead after ≡ elements_of n.children ++ behind =
+    let others : List RangedElement = elements_of (children_of rest.now) ++ ahead before in
+    let then : ahead after ≡ elements_of n.children ++ others =
     ap ahead a ∙ (ahead-snoc mid inner ∙ (ap (λ f. elements_of f ++ ahead mid) same ∙ ap (λ l. elements_of n.children ++ l) (ap ahead d ∙ ahead-snoc before rest))) in
     first_ahead before old s c rest.now e is
-    ∙ (ap (λ k. elements_of (only k) ++ behind) node
-    ∙ (ap (λ k. element_of k ∷ (elements_of n.children ++ behind)) (sym node)
+    ∙ (ap (λ k. elements_of (only k) ++ others) node
+    ∙ (ap (λ k. element_of k ∷ (elements_of n.children ++ others)) (sym node)
     ∙ ap (λ l. element_of c ∷ l) (sym then)))
 
 -- the nodes and the leaves among the nodes and leaves of a forest

@@ -11,9 +11,9 @@ child_end (a_node n) = n.end
 child_end (a_leaf kind range) = range.end
 
 -- a child ends after the byte
-abbrev pub ends_behind : ℕ → Child → Bool
-ends_behind offset c = nat_lt offset (child_end c)
+abbrev pub ends_after : ℕ → Child → Bool
+ends_after offset c = nat_lt offset (child_end c)
 
 -- the first child that ends after the byte, or the last one
 abbrev pub reaching : ℕ → List Child → Option Child
-reaching offset cs = option_or (find (ends_behind offset) cs) (slice_get cs (length cs - 1))
+reaching offset cs = option_or (find (ends_after offset) cs) (slice_get cs (length cs - 1))

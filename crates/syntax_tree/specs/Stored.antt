@@ -1,4 +1,4 @@
--- Nodes as lists of numbers, by which the prover tells them apart.
+-- Nodes as lists of numbers, by which the prover distinguishes them.
 -- (Used in contracts between internal functions only; no public contract rests on it.)
 use Rattle.std.specs.Prelude.{◌≡◌, ℕ, zero, suc, List, [], ◌∷◌, ◌++◌, refl}
 use Rattle.std.specs.Coded.{Coded, code_by, coded×, coded_ℕ, coded_list}

@@ -12,7 +12,7 @@ ghost use Rattle.syntax_tree.specs.RangedForest.{alone};
 
 use crate::element::Element;
 use crate::leaf::Leaf;
-use crate::leaf_at::{child_behind, end_of};
+use crate::leaf_at::{child_after, end_of};
 use crate::node::{Child, Node};
 use crate::tree::Tree;
 use std::ops::Range;
@@ -41,9 +41,9 @@ fn child_reaching(children: &[Child], offset: usize) -> Option<&Child>
     requires { IsNonDecreasingBy child_end children.now }
     ensures { option_copied result ≡ reaching offset children.now }
 {
-    let behind = child_behind(children, offset);
-    if behind.is_some() {
-        behind
+    let found = child_after(children, offset);
+    if found.is_some() {
+        found
     } else {
         children.last()
     }

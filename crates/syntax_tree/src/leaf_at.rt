@@ -2,7 +2,7 @@
 ghost use Rattle.std.specs.Prelude.{◌≡◌, ◌≤◌, ◌↔◌, None, find, option_copied};
 ghost use Rattle.std.specs.List.Sorted.{IsNonDecreasingBy};
 ghost use Rattle.rap_lexed.specs.StrForest.{StrForest};
-ghost use Rattle.syntax_tree.specs.ChildEnds.{child_end, ends_behind};
+ghost use Rattle.syntax_tree.specs.ChildEnds.{child_end, ends_after};
 ghost use Rattle.syntax_tree.specs.InRow.{InRow};
 ghost use Rattle.syntax_tree.specs.Leaves.{leaf_of_byte};
 ghost use Rattle.syntax_tree.specs.Ranged.{Ranged};
@@ -36,9 +36,9 @@ pub(crate) fn end_of(child: &Child) -> usize
 }
 
 /// The first child that ends after a byte.
-pub(crate) fn child_behind(children: &[Child], offset: usize) -> Option<&Child>
+pub(crate) fn child_after(children: &[Child], offset: usize) -> Option<&Child>
     requires { IsNonDecreasingBy child_end children.now }
-    ensures { option_copied result ≡ find (ends_behind offset) children.now }
+    ensures { option_copied result ≡ find (ends_after offset) children.now }
 {
     let at = children.partition_point(|child| end_of(child) <= offset);
     if at < children.len() {
@@ -56,7 +56,7 @@ pub(crate) fn leaf_below(root: &Node, offset: usize) -> Option<Leaf>
 {
     let mut node = root;
     'down: loop {
-        match child_behind(node.children(), offset) {
+        match child_after(node.children(), offset) {
             Some(Child::Node(inner)) => node = inner,
             Some(Child::Leaf { kind, range }) => return Some(Leaf::new(
                 *kind,
