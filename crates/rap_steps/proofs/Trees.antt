@@ -1,10 +1,10 @@
 -- A walk through steps finds whether they are those of one tree.
-use Rattle.std.proofs.Common.{◌≡◌, ℕ, ◌-◌, List, [], ◌∷◌, ◌++◌, Bool, true, false, not, ◌&&◌, ◌||◌, ◌==◌, Option, Some, None, refl, sym, ap, subst, ◌∙◌, append_assoc, append-nil, arith}
+use Rattle.std.proofs.Common.{◌≡◌, ℕ, List, [], ◌∷◌, ◌++◌, Bool, true, false, not, ◌==◌, Some, None, refl, sym, ap, subst, ◌∙◌, append_assoc, append-nil, arith}
 use Rattle.std.specs.Prelude.{if◌then◌else◌, ◌↔◌, IsTrue}
 use Rattle.std.proofs.lemmas.Bool.{eq-eqb}
 use Rattle.rap_base.specs.NodeKind.{FIELD_EXPR}
 use Rattle.rap_events.specs.StepValue.{StepValue, enter, exit, token, float_split, error}
-use Rattle.rap_events.specs.Forest.{Forest, none, node, leaf, message, split, flat, split_ends, exit_of, is_ended, splits_last, splits_placed, ends_in_dot, one_tree}
+use Rattle.rap_events.specs.Forest.{Forest, none, node, leaf, message, split, flat, split_ends, exit_of, is_ended, splits_last, ends_in_dot, one_tree}
 use Rattle.rap_events.specs.Reading.{Begun, read, with_ends, forest_of}
 use Rattle.rap_events.specs.Reading as reading
 use Rattle.rap_events.proofs.StepLemmas.{Before, before, Parts, node_parts}
@@ -12,7 +12,7 @@ use Rattle.rap_events.proofs.Splits.{both_placed, before_none, node_last}
 use Rattle.rap_events.proofs.Trees.{Tree, nothing, a_node, a_leaf, a_message, dotted, apart, tree}
 use Rattle.rap_events.proofs.Truth.{or_left}
 use Rattle.rap_steps.specs.Steps.{IsTreeSteps}
-use Rattle.rap_steps.specs.Walk.{after_split, after_step, is_none_open, and_then, closes, makes_tree}
+use Rattle.rap_steps.specs.Walk.{and_then, closes, makes_tree}
 
 -- the steps of a node
 node-steps : (b : Forest) (k : ℕ) (x : Forest) (ss : List StepValue) → split_ends x ≡ 0 → flat (node b k x) ++ ss ≡ flat b ++ (enter k ∷ (flat x ++ (exit ∷ ss)))

@@ -1,6 +1,6 @@
 -- A walk through steps.
 -- (Used in contracts between internal functions only; no public contract rests on it.)
-use Rattle.std.specs.Prelude.{ℕ, List, [], ◌∷◌, ◌++◌, Bool, true, false, ◌&&◌, ◌==◌, Option, Some, None, if◌then◌else◌}
+use Rattle.std.specs.Prelude.{ℕ, List, [], ◌∷◌, ◌++◌, Bool, true, false, ◌==◌, Option, Some, None, if◌then◌else◌}
 use Rattle.rap_base.specs.NodeKind.{FIELD_EXPR}
 use Rattle.rap_events.specs.Cover.{Leaf, of_tokens, of_float}
 use Rattle.rap_events.specs.StepValue.{StepValue, enter, exit, token, float_split, error}

@@ -1,5 +1,5 @@
 -- Inputs of tokens that are pushed, and what is made of them.
-use Rattle.std.specs.Prelude.{◌≡◌, ◌≢◌, ◌<◌, ◌+◌, ◌%◌, ◌==◌, ℕ, zero, suc, Bool, true, false, if◌then◌else◌, List, [], ◌∷◌, ◌++◌, length}
+use Rattle.std.specs.Prelude.{◌≡◌, ◌≢◌, ◌<◌, ◌%◌, ◌==◌, ℕ, zero, suc, Bool, true, false, if◌then◌else◌, List, [], ◌∷◌, ◌++◌, length}
 use Rattle.rap_base.specs.TokenKind.{EOF, IDENT, L_CURLY}
 use Rattle.rap_base.specs.TokenTests.{is_token}
 use Rattle.rap_base.specs.declared.edition.Edition.TheVariants.{Edition2024}
