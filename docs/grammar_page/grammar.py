@@ -36,7 +36,7 @@ class Grammar:
         # Of each rule with its arguments: the kinds that the next token may have, the kinds that it is given, its
         # other names, and its outcomes; and of a rule with any arguments: the kinds that the next token may have.
         self.facts, self.kinds_given, self.labels, self.outcomes, self.firsts = {}, {}, {}, {}, {}
-        # How rules can end, and who asked for that; the tests of scripts; what is still to be looked at, and what is.
+        # How rules can end, and which rules depend on it; the tests of scripts; the rules still to explore, and the current one.
         self.summaries, self.users, self.tests, self.waiting, self.current = {}, {}, {}, {}, [None]
 
     # -- which rules have an entry
@@ -62,7 +62,7 @@ class Grammar:
         return turns
 
     def makes_node(self, term):
-        """Whether a script begins with a marker, behind its tests."""
+        """Whether a script begins with a marker, after its tests."""
         if term[0] == 'op':
             return term[2] in (('name', 'start'), ('name', 'precede'))
         if term[0] != 'call':
@@ -95,10 +95,10 @@ class Grammar:
             word, (target,) = body[2][1][1], body[2][2]
             return self.target(target, word == 'recur', module) if word in ('recur', 'call') else None
         if body[0] == 'call' and body[1][1] == 'rule':
-            (name,), behind = body[2][1][1:]
+            (name,), rest = body[2][1][1:]
             outcome = ('name', name)
             some = ('call', ('name', 'if_some'), (outcome, ('name', 'done'), GIVE_NOTHING))
-            is_alone = behind in (some, ('call', ('name', 'give'), (outcome,)))
+            is_alone = rest in (some, ('call', ('name', 'give'), (outcome,)))
             return self.target(body[2][0], True, module) if is_alone else None
         if body[0] == 'call' and body[1][1] not in ENDS and body[1][1] not in STEPS:
             return self.target(body, False, module)

@@ -38,7 +38,7 @@ def join(form, part):
 
 
 def list_behind_one(maybe):
-    """The list that an element makes with what may stand behind it: a separator and more of the list."""
+    """The list that an element makes with what may follow it: a separator and more of the list."""
     rest = maybe.form[-1]
     if isinstance(rest, Listed) and not rest.is_open and maybe.form[:-1] == rest.separator:
         return rest
@@ -117,7 +117,7 @@ def uncovered(options):
 
 
 def with_lists(options):
-    """Options without those that a list among them covers: repeated elements, each with the separator behind it."""
+    """Options without those that a list among them covers: repeated elements, each with the separator after it."""
     for option in options:
         many = option[0] if option else None
         if not isinstance(many, Many):
@@ -205,7 +205,7 @@ def group(options):
 
 
 def with_openings(options):
-    """Options of which one is another behind an opening part: that part may be missing."""
+    """Options of which one is another after an opening part: that part may be missing."""
     for option in options:
         rest = flat(option[1:]) if len(option) > 1 else []
         if rest and all(it in options for it in rest):

@@ -61,7 +61,7 @@ class KindOf:
 
 @dataclass(frozen=True)
 class Tokens:
-    """The tokens that are left behind so many."""
+    """The tokens after the first `skipped`."""
     skipped: int
 
 
