@@ -103,7 +103,7 @@ def is_absent(form):
 
 
 def form_width(form, kinds):
-    """How many tokens a form reads, where that is the same on all ways and can be seen; else none."""
+    """How many tokens a form reads, where that is the same on all ways and can be seen; otherwise `None`."""
     width = 0
     for part in form:
         if isinstance(part, Token):

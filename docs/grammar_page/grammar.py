@@ -90,7 +90,7 @@ class Grammar:
         return target is not None and bool(target.parameters) and self.is_entry(target)
 
     def called_alone(self, body, module):
-        """The rule that a script consists of; none where it does more."""
+        """The rule that a script consists of; `None` if it does more."""
         if body[0] == 'op' and body[3] == ('name', 'done') and body[2][0] == 'call':
             word, (target,) = body[2][1][1], body[2][2]
             return self.target(target, word == 'recur', module) if word in ('recur', 'call') else None

@@ -163,7 +163,7 @@ def merge_alike(options):
 
 
 def alike(left, right):
-    """Two forms as one, where they differ in one part that can be both; else none."""
+    """Two forms as one, where they differ in one part that can be both; otherwise `None`."""
     if len(left) != len(right):
         return None
     places = [at for at, (a, b) in enumerate(zip(left, right)) if a != b]

@@ -356,7 +356,7 @@ class Walker:
         return self.evaluator.value(('call', term, (tokens,)), scope)
 
     def decide(self, test, state):
-        """Whether a test holds where a way stands; none where it may or may not."""
+        """Whether a test holds where a way stands; `None` if it may or may not."""
         if isinstance(test, bool):
             return test
         if test in state.tests or no(test) in state.tests:
