@@ -162,8 +162,8 @@ class Grammar:
                 self.waiting.update((it, None) for it in self.summaries if it[0] == key)
 
     def order_of(self, key):
-        """Where a rule with its arguments stands among the same with others: the cases of an enumeration are in the
-        order in which clauses have them, and what holds stands before what does not, but in a record."""
+        """The place of a rule with its arguments among the same with others: the cases of an enumeration are in the
+        order in which clauses have them, and what holds is before what does not, except in a record."""
         order = []
         for value in key[2]:
             if isinstance(value, Fields):

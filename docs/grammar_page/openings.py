@@ -23,7 +23,7 @@ class Openings:
         return None if openings is None else frozenset(self.kind(it) for it in openings if it)
 
     def kind(self, opening):
-        """The kind of the first of some tokens, as the lexer gives it."""
+        """The kind of the first of some tokens, as the lexer returns it."""
         return 'IDENT' if opening[0] in self.weak else opening[0]
 
     def of(self, form, count):

@@ -104,7 +104,7 @@ def optional(box):
 
 
 def loop(box, back):
-    """A box with a way back to its beginning, below; there stands what comes between two turns."""
+    """A box with a way back to its start below it, on which is what comes between two turns."""
     width = max(box.width, back.width)
     height = max(box.down + back.up + GAP / 2, 2 * BEND)
     side = 2 * BEND

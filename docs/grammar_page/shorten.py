@@ -1,4 +1,4 @@
-"""Builds forms, and keeps them short: common beginnings and ends stand once, and what is a list is called one. What a
+"""Builds forms, and keeps them short: common beginnings and ends are written once, and a list is written as one. What a
 form reads is not changed by it."""
 from dataclasses import replace
 
@@ -197,7 +197,7 @@ def factored(options):
 
 
 def group(options):
-    """Options that begin alike stand together, at the place of the first of them."""
+    """Options that begin alike are put together, at the place of the first of them."""
     groups = {}
     for option in options:
         groups.setdefault(option[0], []).append(option)

@@ -1,4 +1,4 @@
-"""Where the ways through a script stand and how they end, what was noted on them, and how ways are joined."""
+"""The states of the ways through a script and how they end, what was noted on them, and how ways are joined."""
 from dataclasses import dataclass, replace
 
 from grammar_page.forms import Node, added, shared_head, unmarked
@@ -11,7 +11,7 @@ FEW_KINDS = 2
 
 @dataclass(frozen=True)
 class State:
-    """Where a way stands: what it has read, which kinds the next token may have, which tests hold of the next tokens,
+    """The state of a way: what it has read, which kinds the next token may have, which tests hold of the next tokens,
     and whether something was reported."""
     form: tuple
     facts: frozenset
@@ -21,7 +21,7 @@ class State:
 
 @dataclass(frozen=True)
 class Exit:
-    """How a way ends: what the rule returns, and where it stands then."""
+    """How a way ends: what the rule returns, and the state then."""
     outcome: Outcome
     state: State
 

@@ -45,7 +45,7 @@ class Fields:
 
 @dataclass(frozen=True)
 class Given:
-    """A number, a message or a test that the caller gives."""
+    """A number, a message or a test that the caller passes."""
     name: str
 
 

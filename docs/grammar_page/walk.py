@@ -270,7 +270,7 @@ class Walker:
         return exits + self.walk(skipped, scope, State(state.form, self.kinds.tokens, (), True))
 
     def kept(self, function):
-        """The tokens that a recovery leaves where they are."""
+        """The tokens that a recovery does not skip."""
         if isinstance(function, Given):
             return function
         return self.evaluator.give(function, [self.evaluator.native_next_kind(Tokens(0))])
@@ -309,7 +309,7 @@ class Walker:
         return results
 
     def eager(self, label):
-        """Another walker, which asks for each outcome; what is reported was noted before."""
+        """Another walker, which explores each outcome; what is reported was noted before."""
         walker = Walker(self.grammar, False)
         walker.label, walker.begins = label, list(self.begins)
         return walker
@@ -356,7 +356,7 @@ class Walker:
         return self.evaluator.value(('call', term, (tokens,)), scope)
 
     def decide(self, test, state):
-        """Whether a test holds where a way stands; `None` if it may or may not."""
+        """Whether a test holds in a state; `None` if it may or may not."""
         if isinstance(test, bool):
             return test
         if test in state.tests or no(test) in state.tests:
