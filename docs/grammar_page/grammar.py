@@ -36,7 +36,8 @@ class Grammar:
         # Of each rule with its arguments: the kinds that the next token may have, the kinds that it is given, its
         # other names, and its outcomes; and of a rule with any arguments: the kinds that the next token may have.
         self.facts, self.kinds_given, self.labels, self.outcomes, self.firsts = {}, {}, {}, {}, {}
-        # How rules can end, and which rules depend on it; the tests of scripts; the rules still to explore, and the current one.
+        # How rules can end, and which rules depend on it; the tests of scripts; what is still to explore, and what is
+        # being explored.
         self.summaries, self.users, self.tests, self.waiting, self.current = {}, {}, {}, {}, [None]
 
     # -- which rules have an entry

@@ -38,7 +38,7 @@ class Limits:
         return [self.text(how, tests, forms) for (how, tests), forms in found.items()]
 
     def asked(self, limit):
-        """What a test requires: a form is read `only` if tests hold, or `not` if one does, or the test `counts` later."""
+        """What a test requires: a form is read `only` if tests hold, `not` if one does, or the test `counts` later."""
         if limit.form is None or self.is_given(limit):
             return '', (), ()
         if not limit.form:
@@ -73,7 +73,7 @@ class Limits:
         return tuple(tests)
 
     def beginnings_left_out(self, test, limit):
-        """The kinds that a test excludes from the start of a form, and with which no other form begins, if they are few."""
+        """The kinds that a test excludes from the start of a form and with which no other form begins, if few."""
         firsts, others = self.openings.firsts(limit.form), self.openings.firsts(limit.otherwise or ())
         if firsts is None or others is None:
             return frozenset()

@@ -35,7 +35,7 @@ The notation is that of the Reference:
 | `fn`, `{` | this token; a word like `union` is an identifier that is read as a keyword there |
 | IDENT | a token of this kind, as the lexer returns it |
 | [type_] | another rule, by the name that the caller uses |
-| [type_] _(y)_ | the rule, called with the argument y or ending with the result y; a parameter's name alone means that the parameter is true |
+| [type_] _(y)_ | the rule with the argument or the result y; a parameter's name means that it is true |
 | `x`? | it may be missing |
 | `x`\\*, `x`+ | any number of them; at least one |
 | `x` \\| `y` | one of them: the first that fits what comes next |
