@@ -257,16 +257,16 @@ struct rap_answer rap_parse_node(const struct rap_record *records, size_t record
 /* Puts the trivia of a text back into a tree over its tokens, which a parse of its records returned.
  * `text`, `text_length`, `edition`: as at rap_records. `tree`, `tree_steps`: all steps of the tree. `tree_messages`,
  * `tree_message_bytes`: all bytes of its messages.
- * The steps are those of the tree with the trivia around its tokens, as rap_tree gives them, without the lexer's
+ * The steps are those of the tree with the trivia around its tokens, as rap_tree returns them, without the lexer's
  * messages.
  * Of the given steps these are read: `what`; `kind` at RAP_ENTER, RAP_TOKEN and RAP_SPLIT; `end` minus `start` at
  * RAP_TOKEN, the number of tokens; and `start` and `end` at RAP_MESSAGE. They must be those of one tree, with nothing
- * beside it, whose leaves stand for the first tokens of the text that are no trivia, one after another: each token
+ * beside it, whose leaves match the first tokens of the text that are no trivia, one after another: each token
  * under its own kind, an identifier as its contextual kind, a keyword as an identifier, or the two or three of an
  * operator; a RAP_SPLIT at a float, in the last place of as many FIELD_EXPR nodes as it ends, and in another node.
  * Messages must be UTF-8.
  * Status: RAP_OK, RAP_NO_EDITION, RAP_NOT_UTF8, RAP_TEXT_TOO_LONG, RAP_NO_STEPS, RAP_NO_MEMORY; the first of them that
- * fits.
+ * applies.
  * `used` is the end of the last token of the tree. Trivia after it are in the tree. The last step's `at` is the length
  * of the text exactly if the tree has all tokens of the text.
  */
