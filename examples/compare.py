@@ -16,7 +16,7 @@ LETTERS = {'n': '\n', 'r': '\r', 't': '\t', '0': '\0'}
 
 
 def unquoted(quoted):
-    """The text that stands in these quotes."""
+    """The text in these quotes."""
     def plain(found):
         code, letter = found.groups()
         return chr(int(code, 16)) if code else LETTERS.get(letter, letter)
@@ -49,7 +49,7 @@ def is_row_same(program, folder, number, row):
 
 
 def compare_rows(program, rows):
-    """Prints the rows that the program prints otherwise, and answers how many there are."""
+    """Prints the rows that the program prints differently, and returns how many there are."""
     with tempfile.TemporaryDirectory() as folder, concurrent.futures.ThreadPoolExecutor() as pool:
         same = list(pool.map(lambda at: is_row_same(program, folder, at, rows[at]), range(len(rows))))
     for row in [row for row, is_same in zip(rows, same) if not is_same]:
@@ -58,7 +58,7 @@ def compare_rows(program, rows):
 
 
 def compare_files(programs, rast, files):
-    """Prints the files of which a program prints something else than `rast`, and answers how many there are."""
+    """Prints the files for which a program prints something else than `rast`, and returns how many there are."""
     different = 0
     for file in files:
         for edition, entry in [('2024', 'SourceFile'), ('2015', 'Expr'), ('2021', 'MacroStmts')]:

@@ -59,10 +59,10 @@ struct rap_step {
 /* A token of a parser's input, which has no trivia.
  * `kind`: the number of its kind, which is a token's, from 1 to RAP_LAST_TOKEN.
  * `contextual_kind`: what an identifier may be read as instead, the number of a token's kind, as that of UNION_KW for
- *     `union`; RAP_IDENT, or RAP_EOF, for nothing else. RAP_EOF where `kind` is not RAP_IDENT.
+ *     `union`; RAP_IDENT, or RAP_EOF, for nothing else. RAP_EOF if `kind` is not RAP_IDENT.
  * `edition`: 2015, 2018, 2021 or 2024.
  * `joint`: 1 where the token touches the next one, and else 0. `>` `>` `=` are read as one `>>=` where the first two
- *     touch the next one. Of a float it says that its text does not end in a dot.
+ *     touch the next one. For a float it means that its text does not end in a dot.
  */
 struct rap_record {
     uint32_t kind;
@@ -72,8 +72,8 @@ struct rap_record {
 };
 
 /* A part of a text.
- * `there`: 1 where the part is there, and else 0.
- * `start`, `end`: its first byte, and the one behind it. Both are 0 where it is not there.
+ * `there`: 1 if the part is there, and otherwise 0.
+ * `start`, `end`: its first byte, and the one after its last. Both are 0 if it is not there.
  */
 struct rap_part {
     size_t there;
@@ -162,9 +162,9 @@ enum { RAP_LONG = 8191 };
  * In the first word of a step bits 0 to 2 are one of enum rap_what; bits 16 to 31 are the number of its kind, for
  * RAP_ENTER and RAP_TOKEN; the others are 0, but for RAP_TOKEN bits 3 to 15 are the length of the token in bytes, or
  * RAP_LONG where that is RAP_LONG or more, and then the next word is the length. Two words follow that of RAP_MESSAGE:
- * the byte of the text at which the message stands, and the number of its bytes in the array of messages; a message
+ * the byte of the text at which the message is, and the number of its bytes in the array of messages; a message
  * begins there where the one before it ended. A token begins in the text where the one before it ended. There is no
- * RAP_SPLIT. After the end of the last node stand the lexer's messages, each at its token.
+ * RAP_SPLIT. After the end of the last node follow the lexer's messages, each at its token.
  * Status: as for rap_tree. `steps` is the number of words, and `used` the number of those before the lexer's messages.
  */
 struct rap_answer rap_tree_words(const uint8_t *text, size_t text_length, uint32_t edition, uint32_t entry,
@@ -172,7 +172,7 @@ struct rap_answer rap_tree_words(const uint8_t *text, size_t text_length, uint32
 
 /* The tokens of a text, trivia included: a RAP_TOKEN step for each, and after the last one the lexer's messages, each
  * at its token. Nothing is parsed.
- * Status: RAP_OK, RAP_NO_EDITION, RAP_NOT_UTF8, RAP_TEXT_TOO_LONG, RAP_NO_MEMORY; the first of them that fits. `used`
+ * Status: RAP_OK, RAP_NO_EDITION, RAP_NOT_UTF8, RAP_TEXT_TOO_LONG, RAP_NO_MEMORY; the first of them that applies. `used`
  * is the text's length.
  */
 struct rap_answer rap_tokens(const uint8_t *text, size_t text_length, uint32_t edition,
@@ -202,13 +202,13 @@ struct rap_answer rap_prefix(const uint8_t *text, size_t text_length, uint32_t e
  * 3. The old node ended with its own `}` too: its last steps were such ones.
  * 4. Past a shebang and blank lines the whole text does not begin with `---`, or the old tree has a FRONTMATTER token.
  * 5. No message `unknown literal prefix` is about one of the first five tokens of rap_tokens of the old text of the
- *    node or of its new one, nor about one of the five behind the node.
+ *    node or of its new one, nor about one of the five after the node.
  * The third spares only a stale `expected R_CURLY`, and the fifth only the words of that message. This is measured, not
  * proved: over five million random edits of right and wrong texts, parsed by a build of the Rust crate, the trees, the
  * messages and their places were those of the whole new text wherever all five held. Smallest texts of which one does
  * not hold, and the trees differ, of the third and the fifth the messages:
  * 1. `{e unsafe{}`, `unsafe` goes: a record expression.
- * 2. `{{}}`, `#` comes into the inner braces: what is expected behind it takes the `}`. `use{}`, `..` comes into the
+ * 2. `{{}}`, `#` comes into the inner braces: what is expected after it takes the `}`. `use{}`, `..` comes into the
  *    braces.
  * 3. `fn f(){`, `}` comes at the end.
  * 4. `---{{}`, a line `---` comes into the inner braces: a frontmatter.
@@ -221,7 +221,7 @@ struct rap_answer rap_reparse(const uint8_t *text, size_t text_length, uint32_t 
 
 /* The parser's input of a text: a record for each token that is no trivia, in order.
  * `records`, `record_room`: the caller's array and its length in records. As many records as fit are written.
- * Status: RAP_OK, RAP_NO_EDITION, RAP_NOT_UTF8, RAP_TEXT_TOO_LONG, RAP_NO_MEMORY; the first of them that fits. `steps`
+ * Status: RAP_OK, RAP_NO_EDITION, RAP_NOT_UTF8, RAP_TEXT_TOO_LONG, RAP_NO_MEMORY; the first of them that applies. `steps`
  * is the number of records, `message_bytes` is 0, and `used` is the text's length.
  */
 struct rap_answer rap_records(const uint8_t *text, size_t text_length, uint32_t edition,
@@ -229,9 +229,9 @@ struct rap_answer rap_records(const uint8_t *text, size_t text_length, uint32_t 
 
 /* Parses the records as a whole. `records`, `record_count`: the tokens, in order. `entry`: one of enum rap_entry.
  * The steps are those of the output, one tree over all records, in which places count records, from 0 on, and with no
- * trivia. A leaf stands for the records from `start` to `end`: two or three of them make one operator. A RAP_SPLIT
- * stands for one record. A message stands before the record at its place.
- * Status: RAP_OK, RAP_NO_ENTRY, RAP_NO_RECORD, RAP_TOO_MANY_TOKENS, RAP_NO_MEMORY; the first of them that fits. `used`
+ * trivia. A leaf has the records from `start` to `end`: two or three of them make one operator. A RAP_SPLIT has one
+ * record. A message is before the record at its place.
+ * Status: RAP_OK, RAP_NO_ENTRY, RAP_NO_RECORD, RAP_TOO_MANY_TOKENS, RAP_NO_MEMORY; the first of them that applies. `used`
  * is the number of records.
  */
 struct rap_answer rap_parse(const struct rap_record *records, size_t record_count, uint32_t entry,
@@ -240,14 +240,14 @@ struct rap_answer rap_parse(const struct rap_record *records, size_t record_coun
 /* Parses a prefix of the records. `entry`: one of enum rap_prefix_entry.
  * The steps are as those of rap_parse. The status is RAP_OK if they are those of one tree, and RAP_NO_TREE otherwise.
  * `used` is the number of records that were taken; those after them are left. On a fault the
- * status is RAP_NO_ENTRY, RAP_NO_RECORD, RAP_TOO_MANY_TOKENS or RAP_NO_MEMORY; the first of them that fits.
+ * status is RAP_NO_ENTRY, RAP_NO_RECORD, RAP_TOO_MANY_TOKENS or RAP_NO_MEMORY; the first of them that applies.
  */
 struct rap_answer rap_parse_prefix(const struct rap_record *records, size_t record_count, uint32_t entry,
                                    struct rap_step *steps, size_t step_room, uint8_t *messages, size_t message_room);
 
 /* Parses a node in braces again from its own records. `node`, `first_child`, `parent`: as at rap_reparse.
  * The answer is as that of rap_parse_prefix; but the statuses are, after RAP_OK and RAP_NO_TREE, RAP_NO_NODE,
- * RAP_NO_RECORD, RAP_NO_BRACE, RAP_TOO_MANY_TOKENS and RAP_NO_MEMORY; the first of them that fits. Without
+ * RAP_NO_RECORD, RAP_NO_BRACE, RAP_TOO_MANY_TOKENS and RAP_NO_MEMORY; the first of them that applies. Without
  * records the call tests whether such a node is parsed again alone: exactly if the status is not RAP_NO_NODE.
  */
 struct rap_answer rap_parse_node(const struct rap_record *records, size_t record_count, uint32_t node,
@@ -257,16 +257,16 @@ struct rap_answer rap_parse_node(const struct rap_record *records, size_t record
 /* Puts the trivia of a text back into a tree over its tokens, which a parse of its records returned.
  * `text`, `text_length`, `edition`: as at rap_records. `tree`, `tree_steps`: all steps of the tree. `tree_messages`,
  * `tree_message_bytes`: all bytes of its messages.
- * The steps are those of the tree with the trivia around its tokens, as rap_tree gives them, without the lexer's
+ * The steps are those of the tree with the trivia around its tokens, as rap_tree returns them, without the lexer's
  * messages.
  * Of the given steps these are read: `what`; `kind` at RAP_ENTER, RAP_TOKEN and RAP_SPLIT; `end` minus `start` at
  * RAP_TOKEN, the number of tokens; and `start` and `end` at RAP_MESSAGE. They must be those of one tree, with nothing
- * beside it, whose leaves stand for the first tokens of the text that are no trivia, one after another: each token
+ * beside it, whose leaves match the first tokens of the text that are no trivia, one after another: each token
  * under its own kind, an identifier as its contextual kind, a keyword as an identifier, or the two or three of an
  * operator; a RAP_SPLIT at a float, in the last place of as many FIELD_EXPR nodes as it ends, and in another node.
  * Messages must be UTF-8.
  * Status: RAP_OK, RAP_NO_EDITION, RAP_NOT_UTF8, RAP_TEXT_TOO_LONG, RAP_NO_STEPS, RAP_NO_MEMORY; the first of them that
- * fits.
+ * applies.
  * `used` is the end of the last token of the tree. Trivia after it are in the tree. The last step's `at` is the length
  * of the text exactly if the tree has all tokens of the text.
  */

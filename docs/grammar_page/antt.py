@@ -200,7 +200,7 @@ class Library:
         self.bodies = {}
 
     def find(self, module, name):
-        """The definition that a name means in a module; none where it comes from elsewhere."""
+        """The definition that a name means in a module; `None` if it comes from elsewhere."""
         alias, _, rest = name.partition('.')
         home = self.modules[module]
         if rest and alias in home.aliases:

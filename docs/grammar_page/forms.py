@@ -47,7 +47,7 @@ class Mark:
 
 @dataclass(frozen=True)
 class Node:
-    """A node over a form, and where `around` holds over what stands before it too."""
+    """A node over a form; if `around` holds, it also contains what was read before."""
     kind: str
     form: tuple
     around: bool = False
@@ -74,7 +74,7 @@ class Many:
 
 @dataclass(frozen=True)
 class Listed:
-    """Elements with a separator between them, and maybe behind the last one."""
+    """Elements with a separator between them, and maybe after the last one."""
     form: tuple
     separator: tuple
     is_open: bool
@@ -103,7 +103,7 @@ def is_absent(form):
 
 
 def form_width(form, kinds):
-    """How many tokens a form reads, where that is the same on all ways and can be seen; else none."""
+    """How many tokens a form reads, where that is the same on all ways and can be seen; otherwise `None`."""
     width = 0
     for part in form:
         if isinstance(part, Token):
@@ -142,7 +142,7 @@ def abandon(form):
 
 
 def since_start(form):
-    """What stands behind the newest start, and what stands before it."""
+    """The parts after the newest start, and those before it."""
     for at in reversed(range(len(form))):
         if form[at] == TURN:
             break
@@ -191,7 +191,7 @@ def shared_head(forms):
 
 
 def added(before, after):
-    """What a longer form has behind a form that it begins with, and the kind of the node that took that form in."""
+    """What a longer form has after a form that it begins with, and the kind of the node that contains that form."""
     head = shared_head([before, after])
     rest = before[head:]
     if head < len(after) and isinstance(after[head], Node):
@@ -199,7 +199,7 @@ def added(before, after):
         if inner[:len(rest)] == rest:
             return (*inner[len(rest):], *after[head + 1:]), after[head].kind
         if inner and isinstance(inner[0], Node):
-            behind, kind = added(rest, inner)
-            if behind != inner:
-                return (*behind, *after[head + 1:]), kind
+            further, kind = added(rest, inner)
+            if further != inner:
+                return (*further, *after[head + 1:]), kind
     return after[head:], ''

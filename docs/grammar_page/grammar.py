@@ -36,7 +36,8 @@ class Grammar:
         # Of each rule with its arguments: the kinds that the next token may have, the kinds that it is given, its
         # other names, and its outcomes; and of a rule with any arguments: the kinds that the next token may have.
         self.facts, self.kinds_given, self.labels, self.outcomes, self.firsts = {}, {}, {}, {}, {}
-        # How rules can end, and who asked for that; the tests of scripts; what is still to be looked at, and what is.
+        # How rules can end, and which rules depend on it; the tests of scripts; what is still to explore, and what is
+        # being explored.
         self.summaries, self.users, self.tests, self.waiting, self.current = {}, {}, {}, {}, [None]
 
     # -- which rules have an entry
@@ -62,7 +63,7 @@ class Grammar:
         return turns
 
     def makes_node(self, term):
-        """Whether a script begins with a marker, behind its tests."""
+        """Whether a script begins with a marker, after its tests."""
         if term[0] == 'op':
             return term[2] in (('name', 'start'), ('name', 'precede'))
         if term[0] != 'call':
@@ -90,15 +91,15 @@ class Grammar:
         return target is not None and bool(target.parameters) and self.is_entry(target)
 
     def called_alone(self, body, module):
-        """The rule that a script consists of; none where it does more."""
+        """The rule that a script consists of; `None` if it does more."""
         if body[0] == 'op' and body[3] == ('name', 'done') and body[2][0] == 'call':
             word, (target,) = body[2][1][1], body[2][2]
             return self.target(target, word == 'recur', module) if word in ('recur', 'call') else None
         if body[0] == 'call' and body[1][1] == 'rule':
-            (name,), behind = body[2][1][1:]
+            (name,), rest = body[2][1][1:]
             outcome = ('name', name)
             some = ('call', ('name', 'if_some'), (outcome, ('name', 'done'), GIVE_NOTHING))
-            is_alone = behind in (some, ('call', ('name', 'give'), (outcome,)))
+            is_alone = rest in (some, ('call', ('name', 'give'), (outcome,)))
             return self.target(body[2][0], True, module) if is_alone else None
         if body[0] == 'call' and body[1][1] not in ENDS and body[1][1] not in STEPS:
             return self.target(body, False, module)
@@ -162,8 +163,8 @@ class Grammar:
                 self.waiting.update((it, None) for it in self.summaries if it[0] == key)
 
     def order_of(self, key):
-        """Where a rule with its arguments stands among the same with others: the cases of an enumeration are in the
-        order in which clauses have them, and what holds stands before what does not, but in a record."""
+        """The place of a rule with its arguments among the same with others: the cases of an enumeration are in the
+        order in which clauses have them, and what holds is before what does not, except in a record."""
         order = []
         for value in key[2]:
             if isinstance(value, Fields):

@@ -52,7 +52,7 @@ class Kinds:
         return sorted(kinds, key=lambda it: (it == 'EOF', self.order[it]))
 
     def text(self, kind):
-        """A kind as it stands in a rule: its text in code, or its name where no one text is meant."""
+        """A kind as it is written in a rule: its text as code, or its name if it has no single text."""
         if kind == 'EOF':
             return 'the end of the input'
         return f'`{self.texts[kind]}`' if kind in self.texts else kind

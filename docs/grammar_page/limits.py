@@ -1,4 +1,4 @@
-"""Says of forms where they are read alone: what the tests of a script ask for that a form does not say."""
+"""Says under which conditions forms are read: what the tests of a script require that a form does not say."""
 from grammar_page.entries import shown, ungiven
 from grammar_page.forms import Either, Listed, Many, Maybe, Node, Rule
 from grammar_page.tests import And, At, Not, Operator, Or, ReadsAs, Said, bounds, is_of_next_kind
@@ -13,7 +13,7 @@ def conjuncts(test):
 
 
 def asks_for_next(test):
-    """Whether a test asks for the next token."""
+    """Whether a test looks at the next token."""
     if isinstance(test, Not):
         return asks_for_next(test.test)
     if isinstance(test, (And, Or)):
@@ -29,7 +29,7 @@ class Limits:
         self.words, self.write, self.openings, self.firsts, self.given = words, write, openings, firsts, given
 
     def of(self, walker):
-        """What the tests of a rule ask for, a text for each test."""
+        """What the tests of a rule require, a text for each test."""
         found = {}
         for limit in walker.limits:
             how, tests, form = self.asked(limit)
@@ -38,14 +38,14 @@ class Limits:
         return [self.text(how, tests, forms) for (how, tests), forms in found.items()]
 
     def asked(self, limit):
-        """What a test asks for: a form is read `only` where tests hold, or `not` where one does, or it `counts`."""
+        """What a test requires: a form is read `only` if tests hold, `not` if one does, or the test `counts` later."""
         if limit.form is None or self.is_given(limit):
             return '', (), ()
         if not limit.form:
             return 'not', (limit.test,) if isinstance(limit.test, Said) else (), limit.otherwise
         if limit.form == limit.otherwise:
-            is_told = not is_of_next_kind(limit.test, self.words.kinds)
-            return 'counts', (limit.test,) if is_told else (), limit.form
+            is_noted = not is_of_next_kind(limit.test, self.words.kinds)
+            return 'counts', (limit.test,) if is_noted else (), limit.form
         if self.openings.says(limit.test, limit.form):
             return '', (), ()
         left_out = self.left_out(limit)
@@ -60,7 +60,7 @@ class Limits:
         return bool(is_known) and self.words.is_next_token(limit.test)
 
     def left_out(self, limit):
-        """Where a form is not read, if a test asks for no more than to leave out some of its beginnings."""
+        """When a form is not read, if a test does no more than exclude some of its first tokens."""
         tests = []
         for test in conjuncts(limit.test):
             if is_of_next_kind(test, self.words.kinds):
@@ -73,7 +73,7 @@ class Limits:
         return tuple(tests)
 
     def beginnings_left_out(self, test, limit):
-        """The kinds with which a form may begin but for a test, and no other form does, if they are few."""
+        """The kinds that a test excludes from the start of a form and with which no other form begins, if few."""
         firsts, others = self.openings.firsts(limit.form), self.openings.firsts(limit.otherwise or ())
         if firsts is None or others is None:
             return frozenset()
@@ -86,13 +86,14 @@ class Limits:
         heads = list(dict.fromkeys(head for form in forms for head in self.heads(form)))
         where = '; or '.join(map(self.words.test, tests))
         if how == 'counts':
-            return f'before {listing(heads)} it counts whether {where}'
+            return f'before {listing(heads)} the rule tests whether {where}'
         if how == 'only' and len(heads) == 1:
-            where = '; or '.join(self.behind(it, heads[0]) for it in where.split('; or '))
-        return f'{listing(heads, "and")} {how} where {where}'
+            where = '; or '.join(self.after_head(it, heads[0]) for it in where.split('; or '))
+        verb = f'{"is" if len(heads) == 1 else "are"} {"parsed only" if how == "only" else "not parsed"}'
+        return f'{listing(heads, "and")} {verb} if {where}'
 
-    def behind(self, text, head):
-        """A test of the next tokens as one of those behind the first."""
+    def after_head(self, text, head):
+        """A test of the next tokens as one of those after the first."""
         start = f'{head}, then '
         return text.removeprefix(start).replace(' comes next', ' follows') if text.startswith(start) else text
 

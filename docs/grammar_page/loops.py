@@ -66,7 +66,7 @@ class Loop:
     # -- messages
 
     def name_elements(self, messages):
-        """Says of messages at the beginning of a turn what stands there in a turn that is right."""
+        """Adds to messages at the start of a turn what is there in a turn without errors."""
         turns, ends = self.firsts(self.edges), self.firsts(self.leaves)
         closing = {Token(frozenset([it])) for it in CLOSING.values()}
         is_list = len(turns) == 1 and ends <= turns | closing

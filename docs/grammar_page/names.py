@@ -2,7 +2,7 @@
 
 
 def read_names(path):
-    """The modules in the order of the page, and of each rule that is named the words behind it."""
+    """The modules in the order of the page, and for each rule that is named the words after its name."""
     modules, names = [], {}
     with open(path, encoding='utf-8') as file:
         for line in file:

@@ -23,11 +23,11 @@ class Openings:
         return None if openings is None else frozenset(self.kind(it) for it in openings if it)
 
     def kind(self, opening):
-        """The kind of the first of some tokens, as the lexer gives it."""
+        """The kind of the first of some tokens, as the lexer returns it."""
         return 'IDENT' if opening[0] in self.weak else opening[0]
 
     def of(self, form, count):
-        """The first tokens of a form, as far as it goes; none where there are too many ways."""
+        """The first tokens of a form, as far as it goes; `None` if there are too many ways."""
         found = {()}
         for part in form:
             grown = set()
@@ -72,7 +72,7 @@ class Openings:
         return self.known[place]
 
     def holds(self, test, opening):
-        """Whether a test holds of the first tokens; none where they do not say."""
+        """Whether a test holds of the first tokens; `None` if they do not say."""
         if isinstance(test, Not):
             inner = self.holds(test.test, opening)
             return None if inner is None else not inner

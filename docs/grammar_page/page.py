@@ -24,7 +24,7 @@ HEAD = '''# The grammar
 Each rule of the parser as a rule of a grammar, with the node that it makes and with each message that it reports. The
 page is computed from the scripts of the rules (`crates/rap_grammar_scripts/specs`), and each rule of the program is
 proved to follow its script, so the page says what the program does. Rules have the names that rust-analyzer gives
-them; where the Rust Reference has a name for one, it stands beside it.
+them; if the Rust Reference has a name for a rule, that name is given too.
 
 ## How to read a rule
 
@@ -33,40 +33,45 @@ The notation is that of the Reference:
 | here | means |
 |---|---|
 | `fn`, `{` | this token; a word like `union` is an identifier that is read as a keyword there |
-| IDENT | a token of this kind, as the lexer gives it |
-| [type_] | another rule, as it is called there |
+| IDENT | a token of this kind, as the lexer returns it |
+| [type_] | another rule, by the name that the caller uses |
+| [type_] _(y)_ | the rule with the argument or the result y; a parameter's name means that it is true |
 | `x`? | it may be missing |
-| `x`\\*, `x`+ | any number of them; one at least |
+| `x`\\*, `x`+ | any number of them; at least one |
 | `x` \\| `y` | one of them: the first that fits what comes next |
-| … | the node before it, which becomes a part of this rule's node |
+| … | the node before it, which becomes a part of this rule's node (as by `precede` in rust-analyzer) |
 | ⇒ `NODE` | the node of this alternative |
 
-A rule is written as it reads a text without faults. Where the text has one, the lines below the rule say what is
-reported and where: *behind* a part of the rule and *where* something comes next or does not. What is in quotes is the
-message. A token that is missing is reported, and the rule goes on as if it had been there; a token that fits nowhere
-goes into an `ERROR` node, and the rule goes on behind it. What a rule reports *through* another one stands below that
-one: it finds nothing of its own there. Where a message says KIND, it has the name of the next token's kind.
+A rule is written as it parses a text without errors. The lines below the rule say what it reports for other texts:
+the message in quotes, the part of the rule *after* which it is reported or *instead of* which, the condition on the
+next tokens (*if*), and what is done then. After a message for a missing token the rule continues as if the token had
+been there; after a token that goes into an `ERROR` node, the rule continues with the next one. A message that is
+reported *through* another rule is reported by that rule, if nothing of it comes next; its conditions are listed there.
+A rule that *fails* returns `None` or `false` in the Rust crate. KIND in a message is the name of the next token's
+kind.
 
-- **Node**: the node that the rule makes.
-- **Reports**: a message, its place, and what is done then; without such a line the rule itself reports nothing.
-- **Recovery**: which tokens are not skipped where a part is missing.
-- **Note**: what the form does not say: a look at more tokens than the next one, or what another rule is given.
+- **Node**: the node that the rule makes. If the caller started it, that node also contains what the caller parsed
+  first, such as attributes and the visibility.
+- **Reports**: a message, its place, its condition, and what is done then. Without such a line the rule itself reports
+  nothing.
+- **Recovery**: tokens that are not skipped if a part is missing.
+- **Note**: what the form does not say: conditions on more tokens than the next one, or arguments of another rule.
 '''
 OPERATORS = '''## Operators
 
 ### operator
 
-The operators between two operands, from the tightest on. An operand on the right of one has no operators but those of
-at least the power in the last column.
+The binary operators, the tightest first. The right operand of an operator contains only operators whose power is at
+least that in the last column.
 '''
 UNREPORTED = '''## Messages that are never reported
 
-The scripts have these messages too, but the rules that report them are never called where they would.
+The scripts have these messages too, but no call of their rules can reach them.
 '''
 SETS = '''## Sets of tokens
 
-The sets have the names that they have in the scripts. A token that is written with several stands in them with its
-first one: `:` may be that of `::`, and `.` that of `..`.
+The sets of tokens, with their names in the scripts. A token of several characters is in a set through its first one:
+`:` may be that of `::`, and `.` that of `..`.
 '''
 
 
@@ -126,7 +131,7 @@ class Page:
         return f'[{label}]'
 
     def about(self, rule):
-        """What a rule is given where that says how it reads, and what it returns where that says how to go on."""
+        """The arguments of a call if they change what it reads, and its result if that decides how to continue."""
         entry = self.entries[rule.module, rule.name]
         words = []
         aliases = entry.labels.get((rule.module, rule.name, rule.given), [])
@@ -137,12 +142,12 @@ class Page:
         return words
 
     def outcome(self, rule):
-        """With which outcome a rule ends, in words."""
+        """The outcome with which a rule ends, in words."""
         forms = self.entries[rule.module, rule.name].with_outcome(next(iter(rule.only)))
         texts = [self.write.form(shown(it)) for it in forms]
         if texts and all(re.fullmatch(r'`[^` ]+`', it) for it in texts):
             return listing(texts)
-        return 'like a block' if BLOCK in rule.only else 'not like a block'
+        return 'block-like' if BLOCK in rule.only else 'not block-like'
 
     # -- the order
 
@@ -174,7 +179,7 @@ class Page:
         return lines + below + [''] * bool(below)
 
     def other_names(self, entry):
-        """The other names of a rule, where they do not stand before its forms."""
+        """The other names of a rule, unless they are given before its forms."""
         if len(entry.groups) > 1:
             return []
         found = [(label, self.given(entry, [it])) for it in entry.instances() for label in entry.labels.get(it.key, [])]
@@ -201,7 +206,7 @@ class Page:
         return self.quoted([f'{start}\\', *(f'{it}\\' for it in lines[:-1]), lines[-1]])
 
     def common(self, group):
-        """What all instances of a group read: as they say it, or without what they say differently."""
+        """What all instances of a group read: the same form, or the form without the arguments in which they differ."""
         for change in (lambda form: form, ungiven):
             forms = [alternatives([change(it) for it in instance.options]) for instance in group]
             if all(it == forms[0] for it in forms):
@@ -228,7 +233,7 @@ class Page:
         return [f'> {it}' for it in wrapped]
 
     def label(self, entry, group):
-        """Which of the calls of a rule this is: by the names that it has there, or by what it is given."""
+        """Which of the calls of a rule this is: by its name there, or by its arguments."""
         return self.called(entry, group) if len(entry.groups) > 1 else ''
 
     def called(self, entry, instances):
@@ -238,7 +243,7 @@ class Page:
         return self.given(entry, instances)
 
     def given(self, entry, instances):
-        """What a rule is given at some of its calls, as far as that tells them from the others."""
+        """The arguments of some calls of a rule that distinguish them from the other calls."""
         names = self.grammar.parameters(self.grammar.library.modules[entry.module].definitions[entry.name])
         others = [self.values(names, it.key[2]) for group in entry.groups for it in group if it not in instances]
         mine = [self.values(names, it.key[2]) for it in instances]
@@ -270,9 +275,9 @@ class Page:
         nodes = self.reports.nodes(options)
         lines = [f'- **Node** {nodes}'] if nodes else []
         if not instances[0].is_right:
-            lines.append('- **Only** behind a message')
-        for word, told in self.reports.told(instances):
-            for text, those in told.items():
+            lines.append('- **Called** only after a message')
+        for word, texts in self.reports.notes_below(instances):
+            for text, those in texts.items():
                 label = self.called(entry, those) if len(those) < len(instances) else ''
                 lines.append(f'- **{word}** {text}' + (f' ({label})' if label else ''))
         return [part for it in lines for part in self.bullet(it)]
@@ -345,7 +350,7 @@ class Page:
         return ['## Nodes', '', 'Each node, with the rules that make it.', '', *bullets, '']
 
     def unreported(self):
-        """The messages of the scripts that no rule reports, since it is never called where it would."""
+        """The messages of the scripts that no rule reports, since no call reaches them."""
         walkers = [it.walker for entry in self.order for it in entry.instances()]
         reported = tuple({it.text for walker in walkers for it in walker.messages if isinstance(it.text, str)})
         lost = [it for it in self.grammar.library.texts() if not any(text.startswith(it) for text in reported)]
@@ -375,7 +380,7 @@ class Page:
         return without_nodes(alternatives(self.common(group)), self.grammar.kinds)
 
     def opened(self, form, rules):
-        """A form in which some rules stand with what they read."""
+        """A form in which some rules are replaced by what they read."""
         def part_of(part):
             if isinstance(part, Rule) and part.name in rules:
                 group = self.entries[part.module, part.name].group_of(part.given)

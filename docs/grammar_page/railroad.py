@@ -49,7 +49,7 @@ def label(text, kind):
 
 
 def row(boxes):
-    """Boxes one behind the other."""
+    """Boxes one after the other."""
     width = sum(it.width for it in boxes) + GAP * (len(boxes) - 1 if boxes else 1)
 
     def draw(x, y):
@@ -104,7 +104,7 @@ def optional(box):
 
 
 def loop(box, back):
-    """A box with a way back to its beginning, below; there stands what comes between two turns."""
+    """A box with a way back to its start below it, on which is what comes between two turns."""
     width = max(box.width, back.width)
     height = max(box.down + back.up + GAP / 2, 2 * BEND)
     side = 2 * BEND
@@ -174,7 +174,7 @@ class Diagrams:
             *drawn, '</svg>', ''])
 
     def rail(self, box, at, rows, y, width):
-        """A row with the rail before it and behind it, and the way to the next row."""
+        """A row with the rail before it and after it, and the way to the next row."""
         x = 3 * GAP
         drawn = [line(GAP, y, f'h{2 * GAP}'), *box.draw(x, y), line(x + box.width, y, f'h{GAP}')]
         if at == 0:

@@ -7,6 +7,9 @@ from grammar_page.tests import At, Not
 from grammar_page.values import Function
 from grammar_page.words import listing
 
+# Of a node that begins before the part that is read.
+AROUND = 'also containing the node before it'
+
 
 class Reports:
     """Says things of the entries, in the words of `words`."""
@@ -14,30 +17,36 @@ class Reports:
     def __init__(self, entries, words, write, limits):
         self.entries, self.words, self.write, self.limits = entries, words, write, limits
 
-    def told(self, instances):
-        """What is said of a rule below its form: a word, and each text with the instances that it is true of."""
-        for word, tell in (('Reports', self.messages), ('Reports', self.through), ('Recovery', self.recovery),
-                           ('Note', self.notes)):
-            told = {}
+    def notes_below(self, instances):
+        """The lines below a rule's form: a word, and each text with the instances that it is true of."""
+        for word, texts_of in (('Reports', self.messages), ('Reports', self.through), ('Recovery', self.recovery),
+                               ('Note', self.notes)):
+            texts = {}
             for it in instances:
-                for text in tell(it.walker):
-                    told.setdefault(text, []).append(it)
-            yield word, told
+                for text in texts_of(it.walker):
+                    texts.setdefault(text, []).append(it)
+            yield word, texts
 
     # -- nodes
 
     def nodes(self, options):
         """The nodes that a rule makes: those over all that it reads, and those in them."""
         whole = list(dict.fromkeys(it for it in map(self.whole, options) if it))
-        inner = {}
-        for kind, span in (it for option in options for it in self.inner(option, True)):
-            inner.setdefault(kind, []).append(span)
-        texts = [self.over(kind, [it for it in dict.fromkeys(spans) if it]) for kind, spans in inner.items()]
-        inside = [('in it ' if whole else '') + listing(texts, 'and')] if texts else []
+        inner, around = {}, []
+        for kind, how, span in (it for option in options for it in self.inner(option, True)):
+            if how == AROUND:
+                around.append(f'`{kind}`')
+            else:
+                inner.setdefault((kind, how), []).append(span)
+        texts = [self.covering(kind, how, [it for it in dict.fromkeys(spans) if it])
+                 for (kind, how), spans in inner.items()]
+        if around:
+            texts.append(f'{listing(around, "and")}, ' + ('each ' if len(set(around)) > 1 else '') + AROUND)
+        inside = [('inside it ' if whole else '') + listing(texts, 'and')] if texts else []
         return '; '.join([*([listing(whole)] if whole else []), *inside])
 
-    def over(self, kind, spans):
-        return f'`{kind}` over {listing(spans)}' if 0 < len(spans) < 3 else f'`{kind}`'
+    def covering(self, kind, how, spans):
+        return f'`{kind}` {how} {listing(spans)}' if 0 < len(spans) < 3 else f'`{kind}`'
 
     def whole(self, option):
         """The node over an option."""
@@ -45,22 +54,22 @@ class Reports:
         if around:
             return f'`{around[-1]}`'
         if option and isinstance(option[0], Node):
-            return f'`{option[0].kind}`' + (', around what stands before it' if option[0].around else '')
+            return f'`{option[0].kind}`' + (', ' + AROUND if option[0].around else '')
         if option and isinstance(option[-1], Mark):
-            return f'`{option[-1].kind}`, which the caller began'
+            return f'`{option[-1].kind}`, started by the caller'
         return ''
 
     def inner(self, form, is_outer=False):
-        """The nodes inside of a form, each with what it is over."""
+        """The nodes inside of a form: the kind of each, how it lies over a part, and the part."""
         found = []
         outer = next((it for it in reversed(form) if isinstance(it, Node) and it.around and not it.form), None)
         outer = outer or form[0] if is_outer and form else None
         for at, part in enumerate(form):
             if isinstance(part, Node) and part is not outer:
                 span = self.span(part.form) if part.form else ''
-                found.append((part.kind, 'what stands before it too' if part.around else span))
+                found.append((part.kind, AROUND if part.around else 'over', span))
             elif isinstance(part, Mark) and not (is_outer and at == len(form) - 1):
-                found.append((part.kind, self.span(form[:at]) if at else ''))
+                found.append((part.kind, '(started by the caller) up to', self.span(form[:at]) if at else ''))
             found += [it for form_in in inside(part) for it in self.inner(form_in)]
         return found
 
@@ -75,7 +84,7 @@ class Reports:
     # -- messages
 
     def messages(self, walker):
-        """What is reported on one way of calling a rule, a text for each message."""
+        """What is reported by one instance of a rule, a text for each message."""
         found = [it for it in walker.messages if not self.is_repeated(it, walker.messages)]
         missing = list(dict.fromkeys(self.words.message(it) for it in found if it.how == 'missing'))
         others = self.paired([it for it in found if it.how != 'missing'])
@@ -110,7 +119,7 @@ class Reports:
         return message.late and any(it.text == message.text and not it.late for it in messages)
 
     def paired(self, messages):
-        """Messages of which two are one: reported before some tokens, and else with the next one in an `ERROR`."""
+        """Messages of which two are one: reported before some tokens, and otherwise with the next one in an `ERROR`."""
         left = []
         for message in messages:
             other = next((it for it in left if self.is_pair(it, message) or self.is_pair(message, it)), None)
@@ -141,7 +150,7 @@ class Reports:
             for place, conditions in places.items():
                 conditions = self.shortest(list(dict.fromkeys(conditions)))
                 if len(conditions) > 2:
-                    conditions = ['where nothing comes next that may follow']
+                    conditions = ['if none of the expected tokens comes next']
                 condition = ' or '.join(conditions)
                 where.setdefault(condition, []).append(place)
             spots = [self.spot(them, condition) for condition, them in where.items()]
@@ -150,7 +159,7 @@ class Reports:
 
     def shortest(self, conditions):
         """The shortest of conditions that all say what does not come next."""
-        absent = [it for it in conditions if it.startswith(('where no', 'where neither'))]
+        absent = [it for it in conditions if it.startswith(('if no', 'if neither'))]
         return [min(absent, key=len), *(it for it in conditions if it not in absent)] if absent else conditions
 
     def spot(self, places, condition):
@@ -164,20 +173,20 @@ class Reports:
         return [*self.limits.of(walker), *self.powers(walker), *self.loose(walker)]
 
     def recovery(self, walker):
-        """Which tokens other rules are told to leave where they are."""
+        """Which tokens other rules do not skip."""
         texts = []
         for call in walker.calls:
             for value in call.given:
                 test = walker.kept(value) if isinstance(value, Function) else None
                 if isinstance(test, At):
-                    texts.append(f'{self.name(call.rule)} leaves a token of {self.words.of(test.kinds)} where it is')
+                    texts.append(f'{self.name(call.rule)} does not skip {self.words.one_of(test.kinds)}')
         return list(dict.fromkeys(texts))
 
     def powers(self, walker):
         """The least power of the operators that other rules may have."""
         found = [(it.rule, value) for it in walker.calls for value in it.given if isinstance(value, int)]
         return list(dict.fromkeys(
-            f'{self.name(rule)} with operators of the power {power} and more'
+            f'{self.name(rule)} only with operators of power {power} or more'
             for rule, power in found if not isinstance(power, bool) and power > 1))
 
     def name(self, rule):
@@ -186,4 +195,4 @@ class Reports:
     def loose(self, walker):
         """What is left without a node and without a message."""
         forms = dict.fromkeys(self.write.form(shown(it)) for it in walker.loose if not is_absent(it))
-        return [f'{it} alone is left without a node, and nothing is reported' for it in forms]
+        return [f'{it} alone gets no node, and nothing is reported' for it in forms]

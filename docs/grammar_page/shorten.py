@@ -1,4 +1,4 @@
-"""Builds forms, and keeps them short: common beginnings and ends stand once, and what is a list is called one. What a
+"""Builds forms, and keeps them short: common beginnings and ends are written once, and a list is written as one. What a
 form reads is not changed by it."""
 from dataclasses import replace
 
@@ -38,7 +38,7 @@ def join(form, part):
 
 
 def list_behind_one(maybe):
-    """The list that an element makes with what may stand behind it: a separator and more of the list."""
+    """The list that an element makes with what may follow it: a separator and more of the list."""
     rest = maybe.form[-1]
     if isinstance(rest, Listed) and not rest.is_open and maybe.form[:-1] == rest.separator:
         return rest
@@ -117,7 +117,7 @@ def uncovered(options):
 
 
 def with_lists(options):
-    """Options without those that a list among them covers: repeated elements, each with the separator behind it."""
+    """Options without those that a list among them covers: repeated elements, each with the separator after it."""
     for option in options:
         many = option[0] if option else None
         if not isinstance(many, Many):
@@ -163,7 +163,7 @@ def merge_alike(options):
 
 
 def alike(left, right):
-    """Two forms as one, where they differ in one part that can be both; else none."""
+    """Two forms as one, where they differ in one part that can be both; otherwise `None`."""
     if len(left) != len(right):
         return None
     places = [at for at, (a, b) in enumerate(zip(left, right)) if a != b]
@@ -197,7 +197,7 @@ def factored(options):
 
 
 def group(options):
-    """Options that begin alike stand together, at the place of the first of them."""
+    """Options that begin alike are put together, at the place of the first of them."""
     groups = {}
     for option in options:
         groups.setdefault(option[0], []).append(option)
@@ -205,7 +205,7 @@ def group(options):
 
 
 def with_openings(options):
-    """Options of which one is another behind an opening part: that part may be missing."""
+    """Options of which one is another after an opening part: that part may be missing."""
     for option in options:
         rest = flat(option[1:]) if len(option) > 1 else []
         if rest and all(it in options for it in rest):

@@ -1,4 +1,4 @@
-"""Where the ways through a script stand and how they end, what was noted on them, and how ways are joined."""
+"""The states of the ways through a script and how they end, what was noted on them, and how ways are joined."""
 from dataclasses import dataclass, replace
 
 from grammar_page.forms import Node, added, shared_head, unmarked
@@ -11,7 +11,7 @@ FEW_KINDS = 2
 
 @dataclass(frozen=True)
 class State:
-    """Where a way stands: what it has read, which kinds the next token may have, which tests hold of the next tokens,
+    """The state of a way: what it has read, which kinds the next token may have, which tests hold of the next tokens,
     and whether something was reported."""
     form: tuple
     facts: frozenset
@@ -21,7 +21,7 @@ class State:
 
 @dataclass(frozen=True)
 class Exit:
-    """How a way ends: what the rule returns, and where it stands then."""
+    """How a way ends: what the rule returns, and the state then."""
     outcome: Outcome
     state: State
 
@@ -50,7 +50,7 @@ class Message:
     """What is reported.
 
     `how` says in which way: a token is `missing`; a `report`; a `skip`, with the next token in an `ERROR`; or
-    `recover`, which is a skip unless that token is one of those that `keeps` tells. `before` is what was read before,
+    `recover`, which is a skip unless that token is one of those in `keeps`. `before` is what was read before,
     `tests` holds there; `late` says that something was reported before. In a loop's turn `element` is what stands in
     this place in one that is right, and `in_list` says that it may be several things. `by` is the rule that reports
     it, if that is another one. `after` is what is read next, `closed` the node that ends there, `outcome` what is
@@ -82,7 +82,7 @@ class Message:
 
 def without_end(exits):
     """The ways that reported nothing; of these not those that the end of the input cut short, where others go on as
-    well: it may come next behind those."""
+    well: it may come next after those."""
     right = [it for it in exits if not it.state.fault]
     cut = {it.outcome for it in right if it.state.facts == {'EOF'}}
     going = {it.outcome for it in right if it.state.facts != {'EOF'}}
@@ -118,6 +118,6 @@ def merged(exits):
 
 
 def read_by(state, exits):
-    """What is read behind a state on the ways that report nothing; none where there is no such way."""
+    """What is read after a state on the ways that report nothing; `None` if there is no such way."""
     forms = [added(unmarked(state.form), unmarked(it.state.form))[0] for it in exits if not it.state.fault]
     return alternatives(forms) if forms else None

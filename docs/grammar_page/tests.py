@@ -11,33 +11,33 @@ class At:
 
 @dataclass(frozen=True)
 class Operator:
-    """At a place stands an operator that is written with several tokens."""
+    """At a place is an operator of several tokens."""
     place: int
     kind: str
 
 
 @dataclass(frozen=True)
 class ReadsAs:
-    """At a place stands an identifier that may be read as this keyword."""
+    """At a place is an identifier that may be read as this keyword."""
     place: int
     kind: str
 
 
 @dataclass(frozen=True)
 class Last:
-    """The last token that was taken is of this kind."""
+    """The last token that was consumed is of this kind."""
     kind: str
 
 
 @dataclass(frozen=True)
 class There:
-    """Another rule is there, as it says itself."""
+    """Another rule comes next, by its own test."""
     rule: object
 
 
 @dataclass(frozen=True)
 class Said:
-    """What can only be said in words, and what its opposite is in words."""
+    """A test that can only be given in words, with its negation in words."""
     text: str
     opposite: str
 
@@ -82,7 +82,7 @@ def either(left, right):
 
 
 def reach(test, kinds):
-    """How many tokens a test asks for."""
+    """How many tokens a test looks at."""
     if isinstance(test, Not):
         return reach(test.test, kinds)
     if isinstance(test, (And, Or)):
@@ -92,16 +92,16 @@ def reach(test, kinds):
     return test.place + 1 if isinstance(test, (At, ReadsAs)) else 0
 
 
-def behind(test, width):
-    """What a test says of the tokens behind the first ones, as tests."""
+def after(test, width):
+    """What a test says about the tokens after the first ones, as tests."""
     if isinstance(test, And):
-        return behind(test.left, width) + behind(test.right, width)
+        return after(test.left, width) + after(test.right, width)
     moved = moved_by(test, width)
     return [] if moved is None else [moved]
 
 
 def moved_by(test, width):
-    """A test as it reads behind so many tokens; none where it speaks of these."""
+    """A test as it reads after `width` tokens; `None` if it is about these."""
     if isinstance(test, (At, Operator, ReadsAs)):
         return replace(test, place=test.place - width) if test.place >= width else None
     if isinstance(test, Not):

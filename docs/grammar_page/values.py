@@ -45,7 +45,7 @@ class Fields:
 
 @dataclass(frozen=True)
 class Given:
-    """A number, a message or a test that the caller gives."""
+    """A number, a message or a test that the caller passes."""
     name: str
 
 
@@ -61,7 +61,7 @@ class KindOf:
 
 @dataclass(frozen=True)
 class Tokens:
-    """The tokens that are left behind so many."""
+    """The tokens after the first `skipped`."""
     skipped: int
 
 

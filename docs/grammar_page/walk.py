@@ -5,7 +5,7 @@ from dataclasses import dataclass, replace
 from grammar_page.forms import Mark, Maybe, Token, abandon, finish, form_width, is_absent, may_be_empty, since_start
 from grammar_page.loops import Loop
 from grammar_page.states import Call, Exit, Limit, Message, State, groups_of, read_by
-from grammar_page.tests import Last, Not, ReadsAs, There, behind, bounds, no
+from grammar_page.tests import Last, Not, ReadsAs, There, after, bounds, no
 from grammar_page.values import NOTHING, SOMETHING, UNKNOWN, Given, KindOf, Scope, Tokens, Undecided
 
 # The words of scripts that something follows, and how many arguments each has.
@@ -82,7 +82,7 @@ class Walker:
         return self.evaluator.value(term, scope)
 
     def step(self, word, rest, scope, state):
-        """The exits behind a word and what follows it."""
+        """The exits after a word and what follows it."""
         arguments = word[2] if word[0] == 'call' else ()
         name = word[1][1] if word[0] == 'call' else word[1]
         if name == 'abandon' and rest == GIVE_NOTHING and not state.fault:
@@ -91,11 +91,11 @@ class Walker:
             run = self.walk if name == 'call' else self.phrase
             states = groups_of(self.within(run, arguments[0], scope, state))
             return [it for at in states for it in self.rest(rest, scope, at)]
-        behind = getattr(self, f'step_{name}')(state, scope, *arguments)
+        passed = getattr(self, f'step_{name}')(state, scope, *arguments)
         message = self.messages[-1] if name in ('report', 'report_next', 'skip') else None
-        exits = self.rest(rest, scope, behind)
+        exits = self.rest(rest, scope, passed)
         if message:
-            message.follow(behind, exits, not self.depth)
+            message.follow(passed, exits, not self.depth)
         return exits
 
     def within(self, run, *arguments):
@@ -133,9 +133,9 @@ class Walker:
     # -- words
 
     def took(self, state, part, width=None):
-        """The state behind a part; where it is known how wide that is, tests of what follows it still hold."""
+        """The state after a part; if its width is known, tests of what follows it still hold."""
         width = form_width((part,), self.kinds) or width
-        tests = tuple(it for test in state.tests for it in behind(test, width)) if width else ()
+        tests = tuple(it for test in state.tests for it in after(test, width)) if width else ()
         facts = self.kinds.tokens
         for test in tests:
             facts &= bounds(test, self.kinds)[1]
@@ -270,7 +270,7 @@ class Walker:
         return exits + self.walk(skipped, scope, State(state.form, self.kinds.tokens, (), True))
 
     def kept(self, function):
-        """The tokens that a recovery leaves where they are."""
+        """The tokens that a recovery does not skip."""
         if isinstance(function, Given):
             return function
         return self.evaluator.give(function, [self.evaluator.native_next_kind(Tokens(0))])
@@ -280,14 +280,14 @@ class Walker:
         self.evaluator.known(value)
         return self.walk(none if value == NOTHING else some, scope, state)
 
-    def end_rule(self, scope, state, phrase, behind):
-        return self.behind(lambda it: it.within(it.phrase, phrase, scope, state), behind, scope, state)
+    def end_rule(self, scope, state, phrase, function):
+        return self.exits_after(lambda it: it.within(it.phrase, phrase, scope, state), function, scope, state)
 
-    def end_after(self, scope, state, rule, behind):
-        return self.behind(lambda it: it.within(it.walk, rule, scope, state), behind, scope, state)
+    def end_after(self, scope, state, rule, function):
+        return self.exits_after(lambda it: it.within(it.walk, rule, scope, state), function, scope, state)
 
-    def behind(self, run, function, scope, state):
-        """The exits behind a rule whose outcome a function of it may ask for."""
+    def exits_after(self, run, function, scope, state):
+        """The exits after a rule whose outcome a function may look at."""
         name, body = function[1][0], function[2]
         label = self.label
         exits = run(self)
@@ -309,7 +309,7 @@ class Walker:
         return results
 
     def eager(self, label):
-        """Another walker, which asks for each outcome; what is reported was noted before."""
+        """Another walker, which explores each outcome; what is reported was noted before."""
         walker = Walker(self.grammar, False)
         walker.label, walker.begins = label, list(self.begins)
         return walker
@@ -356,7 +356,7 @@ class Walker:
         return self.evaluator.value(('call', term, (tokens,)), scope)
 
     def decide(self, test, state):
-        """Whether a test holds where a way stands; none where it may or may not."""
+        """Whether a test holds in a state; `None` if it may or may not."""
         if isinstance(test, bool):
             return test
         if test in state.tests or no(test) in state.tests:

@@ -62,40 +62,46 @@ class Words:
     def clause(self, clause):
         """What must hold together, in the order of the tokens."""
         tokens = [it for it in clause if isinstance(it[0], (At, Operator, ReadsAs))]
-        texts, behind = [], 0
+        texts, after = [], 0
         for place in sorted({it.place for it, _ in tokens}):
-            if place > behind:
+            if place > after:
                 texts.append('any token')
-            text, behind = self.token([it for it in tokens if it[0].place == place], place)
+            text, after = self.token([it for it in tokens if it[0].place == place], place)
             texts.append(text)
         said = [self.said(it, holds) for it, holds in clause if (it, holds) not in tokens]
         if texts[:1] == ['any token']:
-            texts = ['behind the next token ' + ', then '.join(texts[1:]) + ' comes']
+            texts = [', then '.join(texts[1:]) + ' comes after the next token']
         elif texts:
             texts = [', then '.join(texts) + ' comes next']
         return ', and '.join([*texts, *(it for it in said if not it.startswith('but'))]) \
             + ''.join(f', {it}' for it in said if it.startswith('but'))
 
     def token(self, tests, place):
-        """What the token at a place is or is not, and the place behind it."""
-        here, behind = None, place + 1
+        """What the token at a place is or is not, and the place after it."""
+        here, after = None, place + 1
         for test, holds in tests:
             kinds = test.kinds if isinstance(test, At) else frozenset([test.kind])
             if holds and not (here and here != test and 'IDENT' in kinds):
                 here = kinds if here is None or isinstance(test, ReadsAs) else here & kinds
-                behind = place + (len(self.kinds.parts[test.kind]) if isinstance(test, Operator) else 1)
+                after = place + (len(self.kinds.parts[test.kind]) if isinstance(test, Operator) else 1)
         absent = [it.kinds if isinstance(it, At) else frozenset([it.kind]) for it, holds in tests if not holds]
         others = frozenset().union(*absent)
         if here is None:
-            return self.none_of(others), behind
+            return self.none_of(others), after
         here -= others
         others = {it for it in others if it in self.kinds.parts and self.kinds.parts[it][0] in here}
         begins = f' that does not begin {self.of(frozenset(others))}' if others else ''
-        return self.of(here) + begins, behind
+        return self.one_of(here) + begins, after
+
+    def one_of(self, kinds):
+        """A token of one of these kinds."""
+        items = self.items(kinds)
+        return f'a token of {items[0]}' if len(items) == 1 and items[0][0] == '[' else listing(items)
 
     def none_of(self, kinds):
+        """A token of none of these kinds."""
         items = self.items(kinds)
-        return f'no {items[0]}' if len(items) == 1 and items[0][0] != '[' else f'none of {listing(items)}'
+        return f'no {self.one_of(kinds).removeprefix("a ")}' if len(items) == 1 else f'none of {listing(items)}'
 
     def said(self, test, holds):
         """What is no test of a token, in words."""
@@ -105,7 +111,7 @@ class Words:
             return f'the last token is {"" if holds else "not "}{self.kinds.text(test.kind)}'
         if isinstance(test, There):
             return f'{self.write.rule(shown((test.rule,))[0])} is {"" if holds else "not "}there'
-        return f'but not where {self.test(test)}'
+        return f'but not if {self.test(test)}'
 
     def test(self, test):
         """A test in words."""
@@ -113,7 +119,7 @@ class Words:
         return '; or '.join(dict.fromkeys(self.clause(it) for it in clauses))
 
     def joined(self, clauses):
-        """Clauses that speak of the next token alone, as one."""
+        """Clauses about the next token alone, as one."""
         alone = [it for it in clauses if self.is_alone(it)]
         if len(alone) < 2:
             return clauses
@@ -121,12 +127,12 @@ class Words:
         return [((At(0, self.kinds_of(alone)), True),), *others]
 
     def is_alone(self, clause):
-        """Whether a clause says of the next token alone what it is."""
+        """Whether a clause is about the next token alone, and says what it is."""
         (test, holds), *others = clause
         return not others and holds and isinstance(test, (At, Operator, ReadsAs)) and test.place == 0
 
     def is_next_token(self, test):
-        """Whether a test says of the next token alone what it is."""
+        """Whether a test is about the next token alone, and says what it is."""
         return all(map(self.is_alone, self.clauses(test)))
 
     def kinds_of(self, clauses):
@@ -134,7 +140,7 @@ class Words:
         return frozenset().union(*(it.kinds if isinstance(it, At) else frozenset([it.kind]) for it in tests))
 
     def condition(self, tests):
-        """Where these tests hold: what comes next, or what does not."""
+        """The condition that these tests hold: what comes next, or what does not."""
         said = [it for it in tests if isinstance(it.test if isinstance(it, Not) else it, (Last, Said))]
         there = [it for it in tests if not isinstance(it, Not) and it not in said]
         absent = [it.test for it in tests if isinstance(it, Not) and it not in said]
@@ -143,7 +149,7 @@ class Words:
             texts.insert(0, self.present(there[-1], absent))
         elif absent:
             texts.insert(0, self.missing(absent))
-        return f'where {" and ".join(texts)}' if texts else ''
+        return f'if {" and ".join(texts)}' if texts else ''
 
     def present(self, test, absent):
         """What comes next, of which some may be known not to."""
@@ -160,32 +166,35 @@ class Words:
         others = [it for it in clauses if it not in alone and not self.is_covered(it, kinds)]
         items = rules + (self.items(kinds) if kinds else [])
         if others or len(items) > MOST_LISTED + 4:
-            return 'none of these comes next'
+            return 'none of the above comes next'
         if len(items) == 1:
-            return f'{"none of" if items[0][0] == "[" and not rules else "no"} {items[0]} comes next'
-        return f'neither {listing(items, "nor")} comes next'
+            return f'no {"token of " if items[0][0] == "[" and not rules else ""}{items[0]} comes next'
+        if len(items) == 2:
+            return f'neither {listing(items, "nor")} comes next'
+        return f'none of {listing(items, "and")} comes next'
 
     def is_covered(self, clause, kinds):
-        """Whether a clause asks for a next token of one of these kinds."""
+        """Whether a clause requires a next token of one of these kinds."""
         return any(holds and isinstance(it, At) and it.place == 0 and it.kinds <= kinds for it, holds in clause)
 
     # -- places
 
     def place(self, message):
-        """Behind what a message is reported, or in the place of what."""
+        """After what a message is reported, or instead of what."""
         before = unstarted(message.before)
         if message.late and before and isinstance(before[-1], Rule):
-            missing = f'where {self.write.form(ungiven(shown(before[-1:])))} is missing'
-            return f'{self.behind(before[:-1])} {missing}'.strip()
+            missing = f'if {self.write.form(ungiven(shown(before[-1:])))} is missing'
+            place = self.after(before[:-1])
+            return f'{place}, {missing}' if place else missing
         if before[-1:] == (TURN,) and message.element:
-            return f'in the place of {self.write.form(shown(message.element))}'
+            return f'instead of {self.write.form(shown(message.element))}'
         if before[-1:] != (TURN,):
-            return self.behind(before)
-        return ('in the list ' if message.in_list else '') + self.behind(unstarted(before[:-1]))
+            return self.after(before)
+        return ('in the list ' if message.in_list else '') + self.after(unstarted(before[:-1]))
 
-    def behind(self, form):
+    def after(self, form):
         tail = self.tail(form)
-        return f'behind {tail}' if tail else ''
+        return f'after {tail}' if tail else ''
 
     def tail(self, form):
         """The last parts of a form, back to one that must be there and is no single token."""
@@ -221,35 +230,35 @@ class Words:
         return '“' + text.replace('\n', '\\n') + '”'
 
     def then(self, message):
-        """What is done behind a message."""
+        """What is done after a message."""
         then = []
         if message.by:
-            then.append(f'what comes next is read by {self.write.rule(shown((message.by,))[0])}')
+            then.append(f'{self.write.rule(shown((message.by,))[0])} parses what comes next')
         elif message.how in ('skip', 'recover'):
-            then.append('the next token goes into an `ERROR`' + self.unless(message))
+            then.append('the next token goes into an `ERROR` node' + self.unless(message))
         elif message.closed == 'ERROR' or Mark('finish', 'ERROR') in message.after:
             then.append(self.wrapped(message.after))
         elif message.before and isinstance(message.before[-1], Node) and message.before[-1].kind == 'ERROR':
-            then.append('what was read is an `ERROR`')
+            then.append('what was parsed so far is an `ERROR` node')
         elif len(message.after) == 1 and isinstance(message.after[0], Token):
-            then.append(f'the {self.write.written(message.after)} is taken')
+            then.append(f'a {self.write.written(message.after)} is consumed')
         if message.goes_on is not None:
-            behind = self.test(message.goes_on).replace(' comes next', ' comes behind it')
-            then.append(f'the list goes on only where {behind}')
+            follows = self.test(message.goes_on).replace(' comes next', ' comes after it')
+            then.append(f'the list continues only if {follows}')
         if message.outcome == NOTHING and message.how != 'recover':
-            then.append('nothing is returned')
+            then.append('the rule fails')
         return ', and '.join(then)
 
     def unless(self, message):
         if message.how == 'skip':
             return ''
         if isinstance(message.keeps, Given):
-            return ', unless it is `{`, `}` or one that the caller keeps'
+            return ', unless it is `{`, `}` or in the recovery set that the caller passes'
         kinds = message.keeps.kinds if isinstance(message.keeps, At) else frozenset()
         return f', unless it is {self.of(kinds | BRACES)}'
 
     def wrapped(self, after):
         read = [it for it in after if not isinstance(it, Mark)]
         if not read:
-            return 'what was read becomes an `ERROR`'
-        return f'{self.write.form(shown(tuple(read)))} goes into an `ERROR`'
+            return 'what was parsed so far becomes an `ERROR` node'
+        return f'{self.write.form(shown(tuple(read)))} goes into an `ERROR` node'

@@ -1,14 +1,15 @@
-/* A target for libFuzzer: what holds of each call, whatever the bytes are. `examples/fuzz` builds and runs it.
+/* A target for libFuzzer: what must hold for each call, whatever the bytes are. `examples/fuzz` builds and runs it.
  *
- * The bytes are the text; how many there are says the edition and the entries. It ends the process where
- * - a tree's tokens, joined, are not the text, or its nodes do not nest, or a message lies outside of the text;
- * - a call writes behind its room, or writes something else in less room than in enough, or writes where it refuses;
- * - one call refuses the bytes as no UTF-8, and another takes them;
- * - what stands at the front of a text is no front of it;
- * - a node that begins with `{` and ends with its own `}` is another one where it is parsed again from its own text;
- * - memory is not free again after a call (by clang's address sanitizer).
+ * The bytes are the text; their number selects the edition and the entries. It ends the process if
+ * - a tree's tokens, joined, are not the text, or its nodes do not nest, or a message is outside of the text;
+ * - a call writes after the end of its arrays, or writes other values in small arrays than in large ones, or writes
+ *   although it returns a fault;
+ * - one call rejects the bytes as no UTF-8, and another accepts them;
+ * - the tokens that a prefix entry takes are not a prefix of the text;
+ * - a node that begins with `{` and ends with its own `}` differs when it is parsed again from its own text;
+ * - memory is not freed after a call (by clang's address sanitizer).
  *
- * The library counts no branches for libFuzzer. So that it learns what is new, the kinds that stand in one another and
+ * The library counts no branches for libFuzzer. So that it sees what is new, the kinds that are inside one another and
  * beside one another, and the messages, are counted here. */
 #include <stdio.h>
 #include <stdlib.h>
@@ -88,10 +89,10 @@ static int is_same(struct rap_answer one, struct rap_answer other) {
 /* That nothing is written from this byte on. */
 static void check_rest(const void *room, size_t from, size_t size) {
     const uint8_t *bytes = room;
-    while (from <= size) check(bytes[from++] == 0xa5, "nothing is written behind the room");
+    while (from <= size) check(bytes[from++] == 0xa5, "nothing is written after the end of an array");
 }
 
-/* Calls with room for none, with enough, and with less. */
+/* Calls with arrays of no length, with large ones, and with small ones. */
 static struct tree call(const struct call *c) {
     struct rap_step *none = room_of(0);
     uint8_t *no_byte = room_of(0);
@@ -105,9 +106,9 @@ static struct tree call(const struct call *c) {
     check(is_same(made(c, tree.steps, steps, tree.messages, bytes), tree.answer), "the same answer comes again");
     struct rap_step *few = room_of(size);
     uint8_t *fewer = room_of(bytes);
-    check(is_same(made(c, few, steps / 2, fewer, bytes / 2), tree.answer), "the answer does not depend on the room");
-    check(!memcmp(few, tree.steps, steps / 2 * sizeof *none), "less room has the same steps at its begin");
-    check(!memcmp(fewer, tree.messages, bytes / 2), "less room has the same messages at its begin");
+    check(is_same(made(c, few, steps / 2, fewer, bytes / 2), tree.answer), "the result does not depend on the room");
+    check(!memcmp(few, tree.steps, steps / 2 * sizeof *none), "less room has the same steps at its start");
+    check(!memcmp(fewer, tree.messages, bytes / 2), "less room has the same messages at its start");
     check_rest(none, 0, 0);
     check_rest(no_byte, 0, 0);
     check_rest(tree.steps, size, size);
@@ -121,7 +122,8 @@ static struct tree call(const struct call *c) {
     return tree;
 }
 
-/* That the tokens of a tree, or of none, are a front of the text, that its nodes nest, and where its messages lie. */
+/* Checks that the tokens of a tree, or of none, are a prefix of the text, that its nodes nest, and that its messages
+ * are inside the text. */
 static void check_steps(const struct call *c, const struct tree *tree, int is_tree) {
     size_t depth = 0, end = 0, said = 0;
     uint32_t before = 0, around[DEEPEST] = {0};
@@ -136,7 +138,7 @@ static void check_steps(const struct call *c, const struct tree *tree, int is_tr
             depth--;
         } else if (step->what == RAP_TOKEN) {
             check(step->start == end && step->end > end && step->at == end, "a token is where the last one ends");
-            check((depth > 0) == is_tree, "a token stands in a node");
+            check((depth > 0) == is_tree, "a token is inside a node");
             count(around[depth % DEEPEST], step->kind, before);
             before = step->kind;
             end = step->end;
@@ -162,7 +164,7 @@ static int same_step(const struct tree *tree, size_t step, const struct tree *no
     return length == two->end - two->start && !memcmp(tree->messages + one->start, node->messages + two->start, length);
 }
 
-/* Parses the node that begins at this step again, if it is one in braces that it ends with. Answers whether it did. */
+/* Parses the node that begins at this step again, if it is one in braces that it ends with. Returns whether it did. */
 static int reparse(const struct call *c, const struct tree *tree, size_t first, uint32_t parent) {
     const struct rap_step *steps = tree->steps;
     size_t last = first, depth = 1;

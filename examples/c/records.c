@@ -1,5 +1,5 @@
-/* records FILE.. tests the calls that take records and steps: with answers worked out by hand, and, on each file, that records
- * parsed and woven with the text again are the tree that rap_tree gives. Prints what is wrong, and answers 1 then. */
+/* records FILE.. tests the calls that take records and steps: with results worked out by hand, and, on each file, that records
+ * parsed and woven with the text again are the tree of rap_tree. Prints what is wrong, and returns 1 then. */
 #include <stdio.h>
 #include <stdlib.h>
 #include <string.h>

@@ -11,7 +11,7 @@ static int fail(const char *why) {
     return 2;
 }
 
-/* Prints a text in quotes; a quote, a backslash and a control character stand behind a backslash. */
+/* Prints a text in quotes; a quote, a backslash and a control character are written after a backslash. */
 static void print_quoted(const uint8_t *text, size_t length) {
     putchar('"');
     for (size_t i = 0; i < length; i++) {

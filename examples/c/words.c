@@ -1,5 +1,5 @@
-/* words FILE.. tests the tree in words and the calls that cut script sources: with answers worked out by hand, and, on each
- * file, that the words are the steps that rap_tree gives. Prints what is wrong, and answers 1 then. */
+/* words FILE.. tests the tree in words and the calls that cut script sources: with results worked out by hand, and, on each
+ * file, that the words are the steps of rap_tree. Prints what is wrong, and returns 1 then. */
 #include <stdio.h>
 #include <stdlib.h>
 #include <string.h>
@@ -29,7 +29,7 @@ static uint32_t kind(const char *name) {
     return RAP_NO_KIND;
 }
 
-/* Reads a step from the words, of which `*at` have been read; it begins at `*place` and behind `*said` bytes of messages. */
+/* Reads a step from the words, of which `*at` have been read; it begins at `*place` and after `*said` bytes of messages. */
 static struct rap_step step_of(const uint32_t *words, size_t *at, size_t *place, size_t *said) {
     uint32_t word = words[(*at)++];
     struct rap_step step = {word & 7, word >> 16, *place, *place, *place};
@@ -47,7 +47,7 @@ static int are_same(struct rap_step a, struct rap_step b) {
     return a.what == b.what && a.kind == b.kind && a.at == b.at && a.start == b.start && a.end == b.end;
 }
 
-/* A text's words are the steps of its tree. Gives how many of the words stand behind the tree. */
+/* A text's words are the steps of its tree. Returns how many of the words are after the tree. */
 static size_t compare(const uint8_t *text, size_t length, uint32_t edition, uint32_t entry) {
     struct rap_step step;
     uint32_t word;
@@ -61,7 +61,7 @@ static size_t compare(const uint8_t *text, size_t length, uint32_t edition, uint
     rap_tree(text, length, edition, entry, steps, t.steps, said, t.message_bytes);
     words[w.steps] = 0xa5a5a5a5;
     w = rap_tree_words(text, length, edition, entry, words, w.steps, also_said, w.message_bytes);
-    expect(words[w.steps] == 0xa5a5a5a5, "a word behind the last one");
+    expect(words[w.steps] == 0xa5a5a5a5, "a word after the last one");
     expect(memcmp(said, also_said, t.message_bytes) == 0, "other messages than those of rap_tree");
     size_t at = 0, place = 0, bytes = 0, count = 0, last_exit = 0;
     while (at < w.steps && count < t.steps) {
@@ -127,7 +127,7 @@ static void test_scripts(void) {
     expect(a.status == RAP_OK && a.steps == 6 && a.message_bytes == 0 && a.used == 20, "a script source");
     expect(is_part(parts[0], 0, 4) && is_part(parts[1], 5, 8) && is_part(parts[2], 9, 10), "its first parts");
     expect(is_part(parts[3], 12, 14) && is_part(parts[4], 14, 17) && is_part(parts[5], 18, 20), "its last parts");
-    expect(parts[6].there == 9, "a part behind the last one");
+    expect(parts[6].there == 9, "a part after the last one");
     a = script("fn", parts, said);
     expect(a.status == RAP_OK && is_part(parts[5], 0, 2), "no script source");
     for (size_t i = 0; i < 5; i++)

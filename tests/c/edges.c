@@ -1,11 +1,10 @@
-/* Makes calls of the static library at the edges of what C may hand over.
+/* Makes calls of the static library with texts and arrays next to memory that must not be accessed.
  *
- * Standard input has a call in each line, as exports.h says. Each is made on its text at the end of a page behind
- * which, and at the begin of one before which, memory may not be read; with both arrays at such ends and begins, and
- * with room for all their steps and messages, for one of each and for none. What the call answers and writes is what
- * it answers and writes on its text elsewhere, and the bytes beside an array stay. An array of no length stands at any
- * address: at one that may not be read, at one that no step may have, and at none (NULL); a text of no length too. The
- * same holds of rap_kind_name.
+ * Standard input has a call in each line, as exports.h says. Each is made on its text at the end of a page after which,
+ * and at the start of one before which, memory must not be read; with both arrays at such places, and with room for
+ * all their steps and messages, for one of each and for none. The call must return and write the same as for its text
+ * elsewhere, and must not change the bytes beside an array. An array of length 0 is at any address: at one that must
+ * not be read, at one that no step may have, and at NULL; a text of length 0 too. The same holds for rap_kind_name.
  *
  * Prints what is wrong, how many calls there were, and how many lines passed and failed. */
 #define _GNU_SOURCE
@@ -75,7 +74,7 @@ static int are_blank(const uint8_t *from, const uint8_t *to)
     return from >= to;
 }
 
-/* Makes a call with room for so many steps and messages, both arrays at the ends of fenced memory or at its begins. */
+/* Makes a call with room for so many steps and messages, both arrays at the ends of fenced memory or at its starts. */
 static void call_at(const struct call *c, const uint8_t *text, const struct wanted *w, size_t steps, size_t messages,
                     int at_end, unsigned long line)
 {
@@ -108,7 +107,7 @@ static void call_empty(const struct call *c, const uint8_t *text, const struct w
     check(are_same(answer_at(c, text, none), w->answer), line, "another answer with arrays of no length");
 }
 
-/* Makes a call on a text that stands here, at all edges of its arrays. */
+/* Makes a call on a text at this address, at all edges of its arrays. */
 static void call_on(const struct call *c, const uint8_t *text, const struct wanted *w, unsigned long line)
 {
     struct fenced nowhere = fence(1);

@@ -2,10 +2,9 @@
  *
  * Standard input has a call in each line, as exports.h says. Each is made with ample memory, with room for all its
  * steps and messages, for half of them and for none; and then, for each of these, with the N-th growth refused, N from
- * 1 up to the first call that comes to no such growth. A call with a refused growth answers RAP_NO_MEMORY, its other
- * numbers are 0 and both arrays are as they were; or it answers what it answers with ample memory, and leaves the same
- * in both arrays. Whatever a call took is free again when it returns. A call that must take memory and takes none is
- * wrong too.
+ * 1 up to the first call that has no such growth. A call with a refused growth must return RAP_NO_MEMORY, with the
+ * other numbers 0 and both arrays unchanged; or the same result as with ample memory, and the same contents of both
+ * arrays. It must free what it allocated. A call that must allocate memory and allocates none is wrong too.
  *
  * Prints what is wrong, how many calls there were, and how many lines passed and failed. */
 #define _GNU_SOURCE
@@ -21,7 +20,7 @@ extern void *__libc_calloc(size_t count, size_t size);
 extern void *__libc_realloc(void *block, size_t size);
 extern void __libc_free(void *block);
 
-/* Counts a growth, and tells whether it is to be refused. */
+/* Counts a growth, and returns whether it is to be refused. */
 static int fails(void)
 {
     if (++growths != refused)
@@ -108,7 +107,7 @@ static void give_back(struct room r)
     free(r.messages);
 }
 
-/* Makes a call with each growth refused in turn, in so much room. Gives how many growths were refused. */
+/* Makes a call with each growth refused in turn, in this room. Returns how many growths were refused. */
 static unsigned long sweep(const struct call *c, size_t steps, size_t messages, unsigned long line)
 {
     struct room ample = room_for(c, steps, messages), other = room_for(c, steps, messages);

@@ -9,8 +9,8 @@
  *     shebang TEXT
  *     blank TEXT
  *
- * ENTRY is a number; NODE, FIRST and PARENT are names of kinds, or `-` for none; TEXT is in hexadecimal digits behind
- * an `=`, which stands alone for the empty text. */
+ * ENTRY is a number; NODE, FIRST and PARENT are names of kinds, or `-` for none; TEXT is in hexadecimal digits after
+ * an `=`; the `=` alone is the empty text. */
 #ifndef EXPORTS_H
 #define EXPORTS_H
 
@@ -43,7 +43,7 @@ static inline size_t size_of_step(const struct call *c)
     return c->which == WORDS ? sizeof(uint32_t) : c->which == SCRIPT ? sizeof(struct rap_part) : sizeof(struct rap_step);
 }
 
-/* Makes a call on a text that stands at another place. */
+/* Makes a call on a text at another address. */
 static inline struct rap_answer answer_at(const struct call *c, const uint8_t *text, struct room r)
 {
     switch (c->which) {

@@ -1,24 +1,24 @@
-/* fronts reads texts, and parses each front of those that are wrong, from the empty one to the whole text, that ends
- * where a character does, under each top entry. `tests/fronts` calls it.
+/* fronts reads texts, and parses each prefix (front) of those that are wrong, from the empty one to the whole text,
+ * that ends at a character boundary, under each top entry. `tests/fronts` calls it.
  *
- * On standard input stands of each text a line `EDITION ENTRIES LENGTH`, and then its bytes. ENTRIES has the bit of
- * each entry by which the text is looked at: it is wrong if one of these gives a message. Of each text there is a line on
- * standard output: `HASH FRONTS TREES` of a wrong one, and else `right`.
+ * Standard input has for each text a line `EDITION ENTRIES LENGTH`, and then its bytes. ENTRIES has the bit of each
+ * entry under which the text is tested: the text is wrong if one of these reports a message. Standard output has a
+ * line for each text: `HASH FRONTS TREES` for a wrong one, and otherwise `right`.
  *
  * The hash is that of 64 bits by FNV-1a, in sixteen hexadecimal digits, of the lines of all trees: entry after entry in
- * the order of enum rap_entry, and under each the fronts from the shortest on. A tree has a line for each step, in the
+ * the order of enum rap_entry, and under each the prefixes from the shortest on. A tree has a line for each step, in the
  * order of its steps, each with a line feed at its end; the lexer's messages are its last ones:
  *
  *     enter KIND            a node begins
- *     token KIND LENGTH     a token, of so many bytes
+ *     token KIND LENGTH     a token, and the number of its bytes
  *     exit                  the newest open node ends
  *     error AT MESSAGE      a message, with its place
  *
- * KIND is the kind's name, and numbers are decimal. Behind them stands of each tree the line `front ENTRY LENGTH`, with
- * the entry's number and the front's length.
+ * KIND is the kind's name, and numbers are decimal. After these lines each tree has the line `front ENTRY LENGTH`, with
+ * the entry's number and the prefix's length.
  *
- * Of each tree it is checked that its tokens, one behind the other, are the front, that it is one node with all within
- * it, and that messages lie in the front. What is not so ends the program with 1 and a line on standard error. */
+ * For each tree it is checked that its tokens, in order, are the prefix, that it is one node that contains all others,
+ * and that messages are inside the prefix. Otherwise the program ends with 1 and a line on standard error. */
 #include <inttypes.h>
 #include <stdio.h>
 #include <stdlib.h>
@@ -32,7 +32,7 @@ struct names {
     size_t lengths[RAP_LAST_KIND + 1];
 };
 
-/* The room that a tree is given, and what is made of all trees of a text. */
+/* The arrays for a tree, and the results for all trees of a text. */
 struct sweep {
     struct rap_step *steps;
     size_t step_room;
@@ -102,7 +102,7 @@ static void hash_step(struct sweep *sweep, const struct rap_step *step) {
     hash_word(sweep, "\n");
 }
 
-/* Parses, with more room where it was too little. */
+/* Parses, with larger arrays if they were too small. */
 static struct rap_answer parse(struct sweep *s, const uint8_t *text, size_t length, uint32_t edition, uint32_t entry) {
     for (;;) {
         struct rap_answer answer =
@@ -134,7 +134,7 @@ static const char *fault_of(const struct rap_step *steps, struct rap_answer answ
         if (step->what == RAP_ENTER) depth++;
         else if (step->what == RAP_EXIT) depth--;
         else if (step->what != RAP_TOKEN || depth == 0) return "a step is no step of a tree";
-        else if (step->start != end || step->end <= end) return "a token is not behind the last one";
+        else if (step->start != end || step->end <= end) return "a token does not begin where the last one ended";
         else end = step->end;
         if (step->what != RAP_EXIT && step->kind > RAP_LAST_KIND) return "a step has no kind";
     }

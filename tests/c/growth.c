@@ -1,9 +1,10 @@
 /* Measures one call of rap_tree on a text that repeats a few bytes: growth ENTRY COUNT ROUNDS TEXT.
  *
  * The call counts its steps and fills no array. It runs on a stack of 2 GB; a text that nests more ends the program by
- * a signal. What a call frees stays with the process, so that the time of getting pages from the system is no part of
- * what is measured; how much memory a call had is measured beside it. Prints the bytes of the text, the least processor time of so many calls in nanoseconds, the most bytes of
- * memory that a call had at once, the bytes of stack that it used, and how many steps there are. */
+ * a signal. Memory that a call frees stays with the process, so that the time of getting pages from the system is not
+ * measured; how much memory a call had is measured separately. Prints the bytes of the text, the least processor time
+ * of ROUNDS calls in nanoseconds, the most bytes of memory that a call had at once, the bytes of stack that it used,
+ * and the number of steps. */
 #define _GNU_SOURCE
 #include "rap.h"
 #include <limits.h>
@@ -37,7 +38,7 @@ void *malloc(size_t size) { return counted(__libc_malloc(size)); }
 
 void *calloc(size_t count, size_t size) { return counted(__libc_calloc(count, size)); }
 
-/* A block that is moved is there twice meanwhile, as far as can be told: what is counted is the larger of both. */
+/* A block that is moved may exist twice for a time, which cannot be seen here: the larger of both is counted. */
 void *realloc(void *block, size_t size)
 {
     size_t before = block ? malloc_usable_size(block) : 0;

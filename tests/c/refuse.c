@@ -1,18 +1,18 @@
 /* Fails one call of a program. Built as a shared library, and loaded before the C library by LD_PRELOAD.
  *
- * REFUSE_KIND   which calls are counted from the begin of `main` on: growth (malloc, realloc, calloc), write, read or
+ * REFUSE_KIND   which calls are counted from the start of `main` on: growth (malloc, realloc, calloc), write, read or
  *               open
  * REFUSE_AT     the number of the call that fails, from 1 on
- * REFUSE_SWEEP  in place of REFUSE_AT, a file: the program is run for each number from 0 on, each time in a process of
+ * REFUSE_SWEEP  instead of REFUSE_AT, a file: the program is run for each number from 0 on, each time in a process of
  *               its own, until a run meets no call that fails. The file gets a line for each run:
  *
  *     NUMBER MET END STATUS OUT LENGTH ERR TEXT
  *
- * MET is 1 where a call failed. END is `exit` or `signal`, with the status or the signal. OUT is how the standard
- * output is to that of run 0: `same`, `front` (it begins that output; nothing does too) or `other`; in run 0 OUT is
- * `first`. LENGTH says how many bytes were written to it. Behind it stand, in hexadecimal digits or `-` for nothing,
- * what was written to the standard error and, where OUT is `first` or `other`, to the standard output. A run that
- * takes ten seconds ends by a signal. */
+ * MET is 1 if a call failed. END is `exit` or `signal`, with the status or the signal. OUT compares the standard
+ * output with that of run 0: `same`, `front` (a prefix of it, or empty) or `other`; in run 0 OUT is `first`. LENGTH is
+ * the number of bytes written to it. After it follow, in hexadecimal digits or `-` for none, the bytes written to the
+ * standard error and, if OUT is `first` or `other`, to the standard output. A run that takes ten seconds is ended by a
+ * signal. */
 #define _GNU_SOURCE
 #include <errno.h>
 #include <fcntl.h>
@@ -38,7 +38,7 @@ extern void *__libc_malloc(size_t size);
 extern void *__libc_calloc(size_t count, size_t size);
 extern void *__libc_realloc(void *block, size_t size);
 
-/* Counts a call, and tells whether it is to fail. */
+/* Counts a call, and returns whether it is to fail. */
 static int fails(enum kind kind, int error)
 {
     if (kind != counted || ++calls != refused)
@@ -155,16 +155,16 @@ static int run(unsigned long number, int out, int err, int *status)
 /* Runs the program for each number. Returns in the runs alone. */
 static void sweep(const char *path, enum kind kind)
 {
-    FILE *told = fopen(path, "w");
+    FILE *report = fopen(path, "w");
     int out = memfd_create("out", 0), err = memfd_create("err", 0);
     met = mmap(NULL, sizeof *met, PROT_READ | PROT_WRITE, MAP_SHARED | MAP_ANONYMOUS, -1, 0);
-    if (!told || out < 0 || err < 0 || met == MAP_FAILED)
+    if (!report || out < 0 || err < 0 || met == MAP_FAILED)
         _exit(125);
     char *first = NULL;
     size_t first_count = 0;
     for (unsigned long number = 0;; number++) {
         int status;
-        fflush(told);
+        fflush(report);
         if (!run(number, out, err, &status)) {
             counted = kind;
             return;
@@ -174,11 +174,11 @@ static void sweep(const char *path, enum kind kind)
         int is_front = number && out_count <= first_count && memcmp(out_bytes, first, out_count) == 0;
         const char *as = !number ? "first" : !is_front ? "other" : out_count == first_count ? "same" : "front";
         int is_exit = WIFEXITED(status);
-        fprintf(told, "%lu %lu %s %d %s %zu", number, *met, is_exit ? "exit" : "signal",
+        fprintf(report, "%lu %lu %s %d %s %zu", number, *met, is_exit ? "exit" : "signal",
                 is_exit ? WEXITSTATUS(status) : WTERMSIG(status), as, out_count);
-        put_hex(told, err_bytes, err_count);
-        put_hex(told, out_bytes, is_front ? 0 : out_count);
-        fputc('\n', told);
+        put_hex(report, err_bytes, err_count);
+        put_hex(report, out_bytes, is_front ? 0 : out_count);
+        fputc('\n', report);
         free(err_bytes);
         if (number)
             free(out_bytes);
@@ -187,7 +187,7 @@ static void sweep(const char *path, enum kind kind)
         if (number && !*met)
             break;
     }
-    fclose(told);
+    fclose(report);
     _exit(0);
 }
 

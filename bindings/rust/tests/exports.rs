@@ -1,10 +1,10 @@
-//! The exports as C calls them, with answers worked out by hand.
+//! The exports as C calls them, with results worked out by hand.
 use ra_ap_parser::sys::{self, Answer, ENTER, EXIT, LONG, MESSAGE, NO_KIND, Part, Step, TOKEN};
 
-/// What stands in room that no call has written to.
+/// The contents of an array that no call has written to.
 const BLANK: Step = Step { what: 99, kind: 99, at: 99, start: 99, end: 99 };
 
-/// A kind's name, written into room for so many bytes, and how many it has.
+/// A kind's name, written into an array of this length, and the number of its bytes.
 fn kind_name(kind: u32, room: usize) -> (usize, Vec<u8>) {
     let mut name = vec![b'.'; room];
     let length = unsafe { sys::rap_kind_name(kind, name.as_mut_ptr(), room) };
@@ -33,10 +33,10 @@ fn message(at: usize, start: usize, end: usize) -> Step {
     Step { what: MESSAGE, kind: 0, at, start, end }
 }
 
-/// What a call answers, and what it leaves in room for so many steps and bytes of messages.
+/// The result of a call, and the contents of its arrays of steps and of bytes of messages.
 type Filled = (Answer, Vec<Step>, String);
 
-/// Calls with room for so many steps and bytes of messages.
+/// Calls with arrays for this number of steps and of bytes of messages.
 fn filled(room: (usize, usize), call: impl FnOnce(*mut Step, usize, *mut u8, usize) -> Answer) -> Filled {
     let mut steps = vec![BLANK; room.0];
     let mut messages = vec![b'.'; room.1];
@@ -101,7 +101,7 @@ fn counts_where_there_is_no_room_and_fills_no_further() {
     assert_eq!(tree(b"-1+", 2015, 5, (3, 4)), (counts, want, "expe".to_string()));
 }
 
-/// Calls with room for so many words and bytes of messages.
+/// Calls with arrays for this number of words and of bytes of messages.
 fn tree_words(text: &[u8], edition: u32, entry: u32, room: (usize, usize)) -> (Answer, Vec<u32>, String) {
     let mut words = vec![99; room.0];
     let mut messages = vec![b'.'; room.1];

@@ -49,7 +49,7 @@ impl Drop for Server {
     }
 }
 
-/// An answer's numbers, behind the first one, and its messages.
+/// The numbers of a response after the first one, and its messages.
 fn read(answer: &[u8]) -> (Vec<u32>, String) {
     let number = |at: usize| u32::from_le_bytes(answer[4 * at..4 * at + 4].try_into().expect("four bytes"));
     let count = number(0) as usize;
@@ -64,7 +64,7 @@ fn serves_the_page_and_nothing_else() {
     let (status, page) = server.get("/", &host);
     let page = String::from_utf8(page).expect("it is UTF-8");
     assert_eq!(status, 200);
-    // The text that it begins with stands in it as data.
+    // The page contains the initial text as data.
     assert!(page.contains(r#""text":"fn main() {\u000a"#) && !page.contains(">DATA<"));
     for (target, want) in [("/page.css", 200), ("/page.js", 200), ("/x", 404), ("/../Cargo.toml", 404), ("/parse", 404)]
     {
@@ -102,7 +102,7 @@ fn parses_what_is_posted() {
     let (numbers, messages) = read(&answer);
     let kind = |name: &str| (0..330).find(|it| ra_ap_parser::SyntaxKind::from(*it).name() == name).unwrap() as u32;
     let (enter, token) = (|name| 4 * kind(name) + 1, |name| 4 * kind(name) + 2);
-    // The crab is an identifier with a message, of two units, together with the letter behind it.
+    // The crab is an identifier with a message, of two units, together with the letter after it.
     assert_eq!(numbers[..2], [enter("BIN_EXPR"), enter("PATH_EXPR")]);
     assert_eq!(numbers[5..7], [token("IDENT"), 3]);
     assert_eq!(numbers[11..15], [token("WHITESPACE"), 1, token("PLUS"), 1]);

@@ -36,8 +36,8 @@ fn refuses_wrong_fences() {
     assert_eq!(refused("----\n-\n--\n--"), (less.into(), 7..9, vec![0..4]));
     let more = "closing code fence has 1 more `-` than the opening fence";
     assert_eq!(refused("---\n----"), (more.into(), 7..8, vec![0..3]));
-    let behind = "unexpected characters after frontmatter close";
-    assert_eq!(refused("---\n--- x y\n"), (behind.into(), 8..11, vec![0..3]));
+    let after_close = "unexpected characters after frontmatter close";
+    assert_eq!(refused("---\n--- x y\n"), (after_close.into(), 8..11, vec![0..3]));
     let twice = "only one frontmatter is supported";
     assert_eq!(refused("---\n---\n\n-"), (twice.into(), 9..10, vec![0..3, 4..7]));
 }

@@ -1,4 +1,4 @@
--- What is in the caller's room behind the items.
+-- What the caller's room holds after the items.
 use Rattle.std.proofs.Common.{◌≡◌, ℕ, suc, ◌+◌, ◌^◌, ◌≤◌, ◌<◌, List, [], ◌∷◌, ◌++◌, length, refl, ap, sym, ◌∙◌, inl, inr, arith, add-zero, add_assoc, length-append, length-set, add-one}
 use Rattle.std.proofs.lemmas.Bool.{cases_lt}
 use Rattle.std.proofs.lemmas.List.{set_past}
@@ -8,7 +8,7 @@ use Rattle.rap_c.specs.Filling.{write_at, Filling, after, after_all}
 use Rattle.rap_c.specs.declared.step.RapStep.{RapStep}
 use Rattle.rap_c.proofs.Written.{write_at-nothing, write_at-past, write_at-length, write_at-set, write_at-twice}
 
--- The machine's numbers are these, saturated at 2^64 - 1.
+-- The machine's numbers are the exact ones, saturated at 2^64 - 1.
 pub record IsAt (f : Filling) (count said place : ℕ) : Type 0 where
   pub count_is : f.count ≡ counted count
   pub said_is : f.said ≡ counted said
@@ -54,7 +54,7 @@ at_after f x n m p h = record {
   short_messages = omega (arith, h.short_messages, write_at-length f.messages f.said (said_by x));
 }
 
--- a place past what 64 bits count lies past the room
+-- a place above 2^64 - 1 is after the end of the room
 set_then : (s : List RapStep) (c n : ℕ) (y : RapStep) (ys : List RapStep) → c ≡ counted n → length s < 2 ^ 64 → write_at (slice_set s c y) (suc n) ys ≡ write_at s n (y ∷ ys)
 set_then s c n y ys e short = elim (cases_lt n (2 ^ 64)) [
   | inl low ↦
@@ -103,7 +103,7 @@ said_along (x ∷ xs) f n m p h =
     said_along xs (after f x) (suc n) (m + length (said_by x)) (p + width_of x) (at_after f x n m p h)
     ∙ ap counted (add_assoc m (length (said_by x)) (length (all_said xs)) ∙ ap (λ k. m + k) (sym (length-append (said_by x) (all_said xs))))
 
--- items behind items
+-- items after items
 pub after_all-append : (f : Filling) (xs ys : List Item) → after_all f (xs ++ ys) ≡ after_all (after_all f xs) ys
 after_all-append f [] ys = refl
 after_all-append f (x ∷ xs) ys = after_all-append (after f x) xs ys

@@ -1,4 +1,4 @@
--- What a filler gives its caller.
+-- What a filler returns to its caller.
 use Rattle.std.proofs.Common.{◌≡◌, ℕ, List, [], ◌∷◌, ◌++◌, true, false, length, refl, ap, subst, sym, ◌∙◌, zero-add}
 use Rattle.std.proofs.lemmas.Bool.{cond-true, cond-false}
 use Rattle.rap_events.specs.Forest.{Forest, flat, one_tree}
@@ -28,7 +28,7 @@ along (x ∷ xs) f g h =
       same = same_trans f h.0 g h.1.same rest.same;
     }
 
--- items, and others behind them
+-- items, and others after them
 pub then : (xs ys : List Item) (f g i : Filler) → AddsAll xs f g → AddsAll ys g i → AddsAll (xs ++ ys) f i
 then xs ys f g i a b = record {
   is = b.is ∙ (ap (λ s. after_all s ys) a.is ∙ sym (after_all-append (filling_of f) xs ys));
@@ -38,7 +38,7 @@ then xs ys f g i a b = record {
 started : (steps : List RapStep) (messages : List ℕ) (f : Filler) → IsStart steps messages f → IsAt (record { steps = steps; messages = messages; count = 0; said = 0; place = 0 }) 0 0 0
 started steps messages f h = record { count_is = refl; said_is = refl; place_is = refl; short_steps = h.short_steps; short_messages = h.short_messages }
 
--- all that was added is given
+-- all that was added is returned
 pub given_by : (xs : List Item) (steps : List RapStep) (messages : List ℕ) (f g : Filler) (status used : ℕ) → IsStart steps messages f → AddsAll xs f g
     → IsGiven xs steps g.steps.now messages g.messages.now (record { status = status; steps = g.count; message_bytes = g.said; used = used })
 given_by xs steps messages f g status used start added =
@@ -52,7 +52,7 @@ given_by xs steps messages f g status used start added =
       bytes = ap (λ (s : Filling). s.said) is ∙ (said_along xs begin 0 0 0 at ∙ ap counted (zero-add (length (all_said xs))));
     }
 
--- all that was added is in the caller's room, once it is handed back
+-- all that was added is in the caller's room when the call returns
 pub given_back : (xs : List Item) (steps steps_after : List RapStep) (messages messages_after : List ℕ) (f g : Filler) (status used : ℕ) (answer : RapAnswer)
     → IsStart steps messages f → AddsAll xs f g → steps_after ≡ g.steps.now → messages_after ≡ g.messages.now
     → answer ≡ record { status = status; steps = g.count; message_bytes = g.said; used = used } → IsGiven xs steps steps_after messages messages_after answer

@@ -1,4 +1,4 @@
--- Numbers that are no kind's.
+-- Numbers of no kind.
 use Rattle.std.proofs.Common.{◌≡◌, ℕ, ◌≤◌, None, inl, inr, arith}
 use Rattle.std.proofs.lemmas.Bool.{cases_lt}
 use Rattle.std.proofs.lemmas.Bool.Decides.{nat_tests}

@@ -1,4 +1,4 @@
--- What a packer's writes come to.
+-- The result of a packer's writes.
 use Rattle.std.proofs.Common.{◌≡◌, ℕ, suc, ◌+◌, ◌^◌, ◌≤◌, ◌<◌, List, [], ◌∷◌, ◌++◌, length, refl, ap, sym, subst, ◌∙◌, inl, inr, arith, length-append, zero-add}
 use Rattle.std.proofs.lemmas.Bool.{cases_lt, cond-true, cond-false, lt-ltb, le-ltb}
 use Rattle.std.specs.Prelude.{slice_set, nat_lt}
@@ -14,7 +14,7 @@ use Rattle.rap_c.specs.declared.answer.RapAnswer.{RapAnswer}
 use Rattle.rap_c.specs.declared.packer.Packer.{Packer}
 use Rattle.rap_c.proofs.Written.{write_at-nothing, write_at-past, write_at-length, write_at-set, write_at-twice}
 
--- a place past what 64 bits count lies past the room
+-- a place above 2^64 - 1 is after the end of the room
 write_counted : (b : List ℕ) (n : ℕ) (vs : List ℕ) → length b < 2 ^ 64 → write_at b (counted n) vs ≡ write_at b n vs
 write_counted b n vs short = elim (cases_lt n (2 ^ 64)) [
   | inl low ↦
@@ -34,7 +34,7 @@ write_more b c us vs short =
 count_more : (c m n : ℕ) → counted (counted (c + m) + n) ≡ counted (c + (m + n))
 count_more c m n = omega arith
 
--- 64 bits count these
+-- these numbers are below 2^64
 pub record FitsIn (p : Packing) : Type 0 where
   pub words : length p.words < 2 ^ 64
   pub messages : length p.messages < 2 ^ 64
@@ -59,7 +59,7 @@ same_packing : (a a' b b' : List ℕ) (c c' d d' : ℕ) → a ≡ a' → b ≡ b
 same_packing a a' b b' c c' d d' p q r s =
     ap (λ v. make v b c d) p ∙ (ap (λ v. make a' v c d) q ∙ (ap (λ v. make a' b' v d) r ∙ ap (λ v. make a' b' c' v) s))
 
--- some, and others behind them
+-- some, and others after them
 packed_twice : (p : Packing) (us bs vs cs : List ℕ) → FitsIn p → packed (packed p us bs) vs cs ≡ packed p (us ++ vs) (bs ++ cs)
 packed_twice p us bs vs cs h = same_packing _ _ _ _ _ _ _ _
     (write_more p.words p.count us vs h.words)
@@ -77,7 +77,7 @@ pack_refl p = record { words = refl; messages = refl }
 pub pack_trans : (f g h : Packer) → IsSamePack f g → IsSamePack g h → IsSamePack f h
 pack_trans f g h a b = record { words = b.words ∙ a.words; messages = b.messages ∙ a.messages }
 
--- words and bytes of messages, and others behind them
+-- words and bytes of messages, and others after them
 pub pack_then : (us bs vs cs : List ℕ) (f g h : Packer) → Fits f → Packs us bs f g → Packs vs cs g h → Packs (us ++ vs) (bs ++ cs) f h
 pack_then us bs vs cs f g h fits a b = record {
   is = b.is ∙ (ap (λ p. packed p vs cs) a.is ∙ packed_twice (packing_of f) us bs vs cs (fits_in f fits));
@@ -100,7 +100,7 @@ pack_two v w f g h a b = pack_then (v ∷ []) [] (w ∷ []) [] f g h a.fits (pac
 pub pack_three : (u v w : ℕ) (f g h i : Packer) → PutsWord u f g → PutsWord v g h → PutsWord w h i → Packs (u ∷ v ∷ w ∷ []) [] f i
 pack_three u v w f g h i a b c = pack_then (u ∷ []) [] (v ∷ w ∷ []) [] f g i a.fits (pack_one u f g a) (pack_two v w g h i b c)
 
--- a message behind its words
+-- a message after its words
 pub pack_message : (u v w : ℕ) (bytes : List ℕ) (f g h i j : Packer) → PutsWord u f g → PutsWord v g h → PutsWord w h i
     → j.words.now ≡ i.words.now → j.messages.now ≡ write_at i.messages.now f.said bytes → j.count ≡ i.count → j.said ≡ counted (f.said + length bytes)
     → IsSamePack i j → Packs (u ∷ v ∷ w ∷ []) bytes f j
@@ -116,7 +116,7 @@ pack_message u v w bytes f g h i j a b c words messages count said same =
     } in
     pack_then (u ∷ v ∷ w ∷ []) [] [] bytes f i j a.fits (pack_three u v w f g h i a b c) last
 
--- a token of so many bytes
+-- a token of n bytes
 pub short_token : (kind bytes : ℕ) (f g : Packer) → bytes < 8191 → PutsWord (word_of 2 bytes kind) f g → Packs (token_words kind bytes) [] f g
 short_token kind bytes f g low h =
     subst (λ l. Packs l [] f g) (sym (cond-true (nat_lt bytes 8191) (word_of 2 bytes kind ∷ []) (word_of 2 8191 kind ∷ as_word bytes ∷ []) (lt-ltb bytes 8191 low))) (pack_one (word_of 2 bytes kind) f g h)
@@ -139,7 +139,7 @@ packed_append : (p : Packing) (xs ys : List StrStepValue) → packed_all p (xs +
 packed_append p [] ys = refl
 packed_append p (x ∷ xs) ys = packed_append (packed p (words_of x) (bytes_of x)) xs ys
 
--- steps, and others behind them
+-- steps, and others after them
 pub pack_others : (xs ys : List StrStepValue) (f g h : Packer) → PacksAll xs f g → PacksAll ys g h → PacksAll (xs ++ ys) f h
 pack_others xs ys f g h a b = record {
   is = b.is ∙ (ap (λ p. packed_all p ys) a.is ∙ sym (packed_append (packing_of f) xs ys));
@@ -156,7 +156,7 @@ packed_once (x ∷ xs) p h =
 pub packed_is : (xs : List StrStepValue) (f g : Packer) → Fits f → PacksAll xs f g → packing_of g ≡ packed (packing_of f) (all_words xs) (all_bytes xs)
 packed_is xs f g fits h = h.is ∙ packed_once xs (packing_of f) (fits_in f fits)
 
--- all that was added is in the caller's room, once it is handed back
+-- all that was added is in the caller's room when the call returns
 pub words_given : (xs ys : List StrStepValue) (words words_after messages messages_after : List ℕ) (f g h : Packer) (answer : RapAnswer)
     → IsPackStart words messages f → PacksAll xs f g → PacksAll ys g h → words_after ≡ h.words.now → messages_after ≡ h.messages.now
     → answer ≡ record { status = 0; steps = h.count; message_bytes = h.said; used = g.count } → AreWordsGiven xs ys words words_after messages messages_after answer

@@ -74,7 +74,7 @@ put_message bytes at old new said_fits place_fits steps messages count said plac
   same = same;
 }
 
--- a message where the steps have come to
+-- a message at the place after the steps so far
 pub message_here : (bytes : List ℕ) (old new : Filler) → old.place < 2 ^ 64 → Adds (message bytes old.place) old new → Adds (remark bytes) old new
 message_here bytes old new place_fits h = record {
   is = h.is ∙ ap (λ a. make (slice_set old.steps.now old.count (message_step a (counted old.said) (counted (old.said + length bytes)))) (write_at old.messages.now old.said bytes) (counted (old.count + 1)) (counted (old.said + length bytes)) (counted (old.place + 0))) (small old.place place_fits);
@@ -87,7 +87,7 @@ same_refl f = record { steps = refl; messages = refl }
 pub same_trans : (f g h : Filler) → IsSame f g → IsSame g h → IsSame f h
 same_trans f g h a b = record { steps = b.steps ∙ a.steps; messages = b.messages ∙ a.messages }
 
--- one more item of those that are left
+-- one more of the remaining items
 pub one_on : (x : Item) (xs : List Item) (f g : Filler) (whole : Filling) → Adds x f g → after_all (filling_of f) (x ∷ xs) ≡ whole → after_all (filling_of g) xs ≡ whole
 one_on x xs f g whole h e = ap (λ i. after_all i xs) h.is ∙ e
 

@@ -26,7 +26,7 @@ at_place (r ∷ rs) (suc n) d h = at_place rs n d (omega (arith, h))
 any : Record
 any = record { kind = 0; contextual = 0; edition = Edition2024; joint = false }
 
--- the numbers of the record at a place, and of those behind it
+-- the numbers of the record at a place, and of those after it
 pub row_next : (rs : List Record) (i kind contextual edition joint : ℕ) → i < length rs → kind ≡ kind_at rs i → contextual ≡ contextual_at rs i → edition ≡ year (edition_at rs i)
     → joint ≡ (if joint_at rs i then 1 else 0) → map row_of (drop i rs) ≡ numbers kind contextual edition joint ∷ map row_of (drop (i + 1) rs)
 row_next rs i kind contextual edition joint h k c e j =
@@ -62,7 +62,7 @@ found [] i d h all = absurd (omega (arith, h))
 found (r ∷ rs) zero d h all = (r, (refl, all zero r (omega arith)))
 found (r ∷ rs) (suc n) d h all = found rs n d (omega (arith, h)) (λ j e below. all (suc j) e (omega arith))
 
--- where one of the numbers are no record's, they are those of no input
+-- if one group of numbers is no record's, they are those of no input
 pub no_input : (rows : List RapRecord) (i : ℕ) (d : RapRecord) → i < length rows → ((r : Record) → IsTokenRecord r → get_or rows i d ≢ row_of r) → IsNoInput rows
 no_input rows i d h bad = λ rs input.
     let n : length rows ≡ length rs = ap length input.rows_are ∙ length-map rs row_of in

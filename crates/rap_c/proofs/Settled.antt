@@ -1,4 +1,4 @@
--- Answers of calls that may have met a fault.
+-- Results of calls that may have had a fault.
 use Rattle.std.proofs.Common.{◌≡◌, ℕ, ◌≤◌, ◌<◌, List, Bool, true, false, Option, Result, Ok, Err, ap, subst, arith}
 use Rattle.std.specs.Prelude.{IfOk, IfErr, MatchResult, if◌then◌else◌}
 use Rattle.rap_events.specs.Forest.{one_tree}
@@ -24,7 +24,7 @@ node_refused text year kind steps steps_after messages messages_after (Ok a) ans
 node_refused text year kind steps steps_after messages messages_after (Err fault) answer is filled comes untouched high =
     (record { fault = fault; comes = comes; is = is }, untouched)
 
--- the same of any call: what is good has no high status
+-- the same for any call: a success has a low status
 pub refused_past : (Good : RapAnswer → Type 0) (Comes : Fault → Type 0) (Same : Type 0) (High : ℕ → Type 0) (outcome : Result RapAnswer Fault) (answer : RapAnswer)
     → ((a : RapAnswer) → Good a → High a.status → ⊥)
     → MatchResult outcome (λ a. answer ≡ a) (λ fault. answer ≡ refusal fault)
@@ -32,6 +32,6 @@ pub refused_past : (Good : RapAnswer → Type 0) (Comes : Fault → Type 0) (Sam
 refused_past Good Comes Same High (Ok a) answer low is good comes same high = absurd (low a good (subst High (ap (λ (b : RapAnswer). b.status) is) high))
 refused_past Good Comes Same High (Err fault) answer low is good comes same high = (record { fault = fault; comes = comes; is = is }, same)
 
--- an output's status is low
+-- the status of an output is low
 pub low_output : (b : Bool) (n : ℕ) → n ≡ (if b then 0 else 1) → 1 < n → ⊥
 low_output b n e h = absurd (omega (arith, low b n e, h))

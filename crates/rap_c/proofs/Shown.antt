@@ -1,4 +1,4 @@
--- Steps that are given in numbers.
+-- Steps that are given as numbers.
 use Rattle.std.proofs.Common.{◌≡◌, ℕ, zero, suc, ◌+◌, ◌<◌, List, [], ◌∷◌, ◌++◌, length, map, take, get_or, Bool, true, false, refl, ap, sym, subst, ◌∙◌, arith}
 use Rattle.std.specs.Prelude.{if◌then◌else◌, Option, Some, None, MatchOption}
 use Rattle.std.proofs.lemmas.List.{map-append, take_more}
@@ -37,7 +37,7 @@ same_bit true false e = absurd (omega (arith, e))
 same_bit false true e = absurd (omega (arith, e))
 same_bit false false e = refl
 
--- numbers show one step
+-- the numbers are those of one step
 same_step : (ms : List ℕ) (s : RapStep) (v w : StepValue) → IsStepOf ms s v → IsStepOf ms s w → v ≡ w
 same_step ms s (enter k) (enter j) h g = ap enter (sym h.1 ∙ g.1)
 same_step ms s exit exit h g = refl
@@ -75,13 +75,13 @@ step_at ms (s ∷ ss) [] i d h within = absurd h
 step_at ms (s ∷ ss) (v ∷ vs) zero d h within = (v, h.0)
 step_at ms (s ∷ ss) (v ∷ vs) (suc n) d h within = step_at ms ss vs n d h.1 (omega (arith, within))
 
--- where one shows no step, they show none
+-- if one group shows no step, they show no steps
 pub no_steps : (ms : List ℕ) (ss : List RapStep) (i : ℕ) (d : RapStep) → i < length ss → ((v : StepValue) → ¬ IsStepOf ms (get_or ss i d) v) → (vs : List StepValue) → ¬ AreStepsOf ms ss vs
 no_steps ms ss i d within bad vs h =
     let f = step_at ms ss vs i d h within in
     bad f.0 f.1
 
--- a tree that is shown is the one that the steps make
+-- the tree that is shown is that of the steps
 pub tree_of : (ts : List Token) (edition : Edition) (ss : List RapStep) (ms : List ℕ) (vs : List StepValue) (f : Forest) → AreStepsOf ms ss vs → IsTreeOf ts edition ss ms f → forest_of vs ≡ f
 tree_of ts edition ss ms vs f h t = ap forest_of (same_steps ms ss vs (flat f) h t.steps_are) ∙ forest_of-flat f t.placed
 
@@ -108,7 +108,7 @@ is_tree_of ts edition ss ms vs h t c = record {
   covering = c;
 }
 
--- what holds with any messages holds with these
+-- what holds for any messages holds for these
 pub at_messages : (ms : List ℕ) (s : RapStep) (r : Option Step) → MatchOption r ((m : List ℕ) (v : StepValue) → ¬ IsStepOf m s v) (λ t. (m : List ℕ) → IsStepOf m s (step_value t))
     → MatchOption r ((v : StepValue) → ¬ IsStepOf ms s v) (λ t. IsStepOf ms s (step_value t))
 at_messages ms s None h = h ms

@@ -1,4 +1,4 @@
--- Writes into room that may be too small.
+-- Writes to room that may be too small.
 use Rattle.std.proofs.Common.{◌≡◌, ℕ, zero, suc, ◌+◌, ◌-◌, ◌≤◌, List, [], ◌∷◌, ◌++◌, min, length, take, drop, refl, ap, ◌∙◌, arith, zero-add}
 use borrow.Rule.Slice.PartMut.{put_mid}
 use Rattle.std.specs.Prelude.{slice_set}
@@ -30,7 +30,7 @@ write_at-length old zero new = overwritten-length old new
 write_at-length [] (suc i) new = refl
 write_at-length (x ∷ xs) (suc i) new = ap suc (write_at-length xs i new)
 
--- one at a place, and the others behind it
+-- one at a place, and the others after it
 pub write_at-set : {A : Type 0} (old : List A) (i : ℕ) (y : A) (ys : List A) → write_at (slice_set old i y) (suc i) ys ≡ write_at old i (y ∷ ys)
 write_at-set [] zero y ys = refl
 write_at-set [] (suc i) y ys = refl
@@ -43,7 +43,7 @@ overwritten-twice [] (u ∷ us) vs = refl
 overwritten-twice (x ∷ xs) [] vs = refl
 overwritten-twice (x ∷ xs) (u ∷ us) vs = ap (λ l. u ∷ l) (overwritten-twice xs us vs)
 
--- some at a place, and others behind them
+-- some at a place, and others after them
 pub write_at-twice : {A : Type 0} (old : List A) (i j : ℕ) (us vs : List A) → j ≡ i + length us → write_at (write_at old i us) j vs ≡ write_at old i (us ++ vs)
 write_at-twice old zero j us vs e = ap (λ k. write_at (overwritten old us) k vs) (e ∙ zero-add (length us)) ∙ overwritten-twice old us vs
 write_at-twice [] (suc i) zero us vs e = refl

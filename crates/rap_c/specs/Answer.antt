@@ -1,4 +1,4 @@
--- Answers by their numbers.
+-- Results by their status numbers.
 use Rattle.std.specs.Prelude.{ℕ}
 use Rattle.rap_c.specs.declared.answer.Fault.{Fault}
 use Rattle.rap_c.specs.declared.answer.Fault.TheVariants.{NoEdition, NoEntry, NotUtf8, TextTooLong, TooManyTokens, NoMemory, NoNode, NoBrace, NoRecord, NoSteps}

@@ -3,7 +3,7 @@ use Rattle.std.specs.Prelude.{ℕ, zero, suc, ◌+◌, List, [], ◌∷◌, leng
 use Rattle.rap_c.specs.Item.{Item, row, width_of, said_by, counted}
 use Rattle.rap_c.specs.declared.step.RapStep.{RapStep}
 
--- Room with these in it, from its begin on and as far as it reaches. What lies behind them stays.
+-- Room with these in it, from its start and as many as fit. What is after them does not change.
 abbrev pub overwritten : {A : Type 0} → List A → List A → List A
 overwritten [] new = []
 overwritten (x ∷ xs) [] = x ∷ xs
@@ -15,8 +15,8 @@ write_at old zero new = overwritten old new
 write_at [] (suc i) new = []
 write_at (x ∷ xs) (suc i) new = x ∷ write_at xs i new
 
--- The room for steps and for the bytes of messages, how many there have been of each, and the place that the items have
--- come to.
+-- The room for steps and for the bytes of messages, how many there were of each, and the place after the items
+-- so far.
 pub record Filling : Type 0 where
   pub steps : List RapStep
   pub messages : List ℕ

@@ -1,5 +1,5 @@
 -- What a filler does.
--- (What calls promise one another; no promise of the library rests on it.)
+-- (Used in contracts between internal functions only; no public contract rests on it.)
 use Rattle.std.specs.Prelude.{◌≡◌, ℕ, ◌+◌, ◌<◌, ◌^◌, List, length, slice_set}
 use Rattle.rap_lexed.specs.StrStep.{StrStepValue}
 use Rattle.rap_c.specs.Item.{Item, counted, text_item}
@@ -7,7 +7,7 @@ use Rattle.rap_c.specs.Filling.{Filling, after, after_all}
 use Rattle.rap_c.specs.declared.filler.Filler.{Filler}
 use Rattle.rap_c.specs.declared.step.RapStep.{RapStep}
 
--- the room, as it is filled so far
+-- the room, as filled so far
 abbrev pub filling_of : Filler → Filling
 filling_of f = record { steps = f.steps.now; messages = f.messages.now; count = f.count; said = f.said; place = f.place }
 
@@ -36,7 +36,7 @@ pub record AddsAll (xs : List Item) (old new : Filler) : Type 0 where
 abbrev pub AddsStep : Filler → StrStepValue → Filler → Type 0
 AddsStep old step new = Adds (text_item step) old new
 
--- a step that begins where the steps have come to was added, and goes so far on
+-- a step that begins at the place after the steps so far was added, with this length
 pub record Puts (what kind width : ℕ) (old new : Filler) : Type 0 where
   pub steps : new.steps.now ≡ slice_set old.steps.now old.count (record { what = what; kind = kind; at = old.place; start = old.place; end = counted (old.place + width) })
   pub messages : new.messages.now ≡ old.messages.now

@@ -1,13 +1,13 @@
--- What is handed to a caller, one thing after another, and the numbers of each.
+-- The items of an output to a caller, in order, and the numbers of each.
 use Rattle.std.specs.Prelude.{ℕ, ◌+◌, ◌-◌, ◌^◌, Bool, List, [], ◌∷◌, ◌++◌, length, map, min, if◌then◌else◌}
 use Rattle.rap_events.specs.StepValue as raw
 use Rattle.rap_lexed.specs.LexedStr.{Token, Message, start_of}
 use Rattle.rap_lexed.specs.StrStep.{StrStepValue, str_enter, str_exit, str_token, str_error}
 use Rattle.rap_c.specs.declared.step.RapStep.{RapStep}
 
--- A node begins; the newest open node ends; a token of so many bytes of the text, or of so many tokens; a float that is
--- taken apart, and whether it ends in a dot; a message, and the byte at which it stands; a message where the items have
--- come to.
+-- A node begins; the newest open node ends; a token of n bytes of the text, or of n input tokens; a float that is
+-- split, and whether it ends in a dot; a message, and its position in bytes; a message at the place after the items
+-- so far.
 pub data Item : Type 0 where
   enter : ℕ → Item
   exit : Item
@@ -16,7 +16,7 @@ pub data Item : Type 0 where
   message : List ℕ → ℕ → Item
   remark : List ℕ → Item
 
--- how many bytes or tokens an item takes
+-- the number of bytes or tokens of an item
 abbrev pub width_of : Item → ℕ
 width_of (enter kind) = 0
 width_of exit = 0
@@ -34,11 +34,11 @@ said_by (split ends_in_dot) = []
 said_by (message bytes at) = bytes
 said_by (remark bytes) = bytes
 
--- a number, or 2^64 - 1 where it is larger
+-- a number, or 2^64 - 1 if it is larger
 abbrev pub counted : ℕ → ℕ
 counted n = min n (2 ^ 64 - 1)
 
--- the step of an item, at the place that the items have come to, behind so many bytes of messages
+-- the step of an item, at the place after the items so far, after n bytes of messages
 abbrev pub row : ℕ → ℕ → Item → RapStep
 row place said (enter kind) = record { what = 0; kind = kind; at = counted place; start = counted place; end = counted place }
 row place said exit = record { what = 1; kind = 0; at = counted place; start = counted place; end = counted place }
@@ -48,7 +48,7 @@ row place said (remark bytes) = record { what = 3; kind = 0; at = counted place;
 row place said (split ends_in_dot) =
     record { what = 4; kind = (if ends_in_dot then 1 else 0); at = counted place; start = counted place; end = counted (place + 1) }
 
--- the steps of items, from a place on, behind so many bytes of messages
+-- the steps of items, from a place on, after n bytes of messages
 abbrev pub rows : ℕ → ℕ → List Item → List RapStep
 rows place said [] = []
 rows place said (x ∷ xs) = row place said x ∷ rows (place + width_of x) (said + length (said_by x)) xs

@@ -5,7 +5,7 @@ use Rattle.rap_c.specs.Filling.{write_at}
 use Rattle.rap_c.specs.Item.{counted}
 use Rattle.rap_c.specs.Words.{words_of, bytes_of}
 
--- The room for words and for the bytes of messages, and how many there have been of each.
+-- The room for words and for the bytes of messages, and how many there were of each.
 pub record Packing : Type 0 where
   pub words : List ℕ
   pub messages : List ℕ

@@ -1,5 +1,5 @@
 -- What a packer does.
--- (What calls promise one another; no promise of the library rests on it.)
+-- (Used in contracts between internal functions only; no public contract rests on it.)
 use Rattle.std.specs.Prelude.{◌≡◌, ℕ, ◌+◌, ◌<◌, ◌^◌, List, length, slice_set}
 use Rattle.rap_lexed.specs.StrStep.{StrStepValue}
 use Rattle.rap_c.specs.Item.{counted}
@@ -7,11 +7,11 @@ use Rattle.rap_c.specs.Packing.{Packing, packed, packed_all}
 use Rattle.rap_c.specs.Words.{words_of, bytes_of}
 use Rattle.rap_c.specs.declared.packer.Packer.{Packer}
 
--- the room, as it is filled so far
+-- the room, as filled so far
 abbrev pub packing_of : Packer → Packing
 packing_of p = record { words = p.words.now; messages = p.messages.now; count = p.count; said = p.said }
 
--- 64 bits count what there is room for, and what there has been
+-- the lengths of the room and the numbers so far are below 2^64
 pub record Fits (p : Packer) : Type 0 where
   pub words : length p.words.now < 2 ^ 64
   pub messages : length p.messages.now < 2 ^ 64

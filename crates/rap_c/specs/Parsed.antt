@@ -1,4 +1,4 @@
--- What is given of records that are parsed.
+-- What is returned of records that are parsed.
 use Rattle.std.specs.Prelude.{◌≡◌, ◌≢◌, ℕ, ◌≤◌, ◌<◌, List, Option, Some, None, true, length, if◌then◌else◌}
 use Rattle.rap_base.specs.TokenKind.{L_CURLY}
 use Rattle.rap_events.specs.Forest.{Forest, flat, one_tree, used}
@@ -24,13 +24,13 @@ use Rattle.rap_base.specs.Limits.{max_tokens}
 abbrev pub status_of : Forest → ℕ
 status_of output = if one_tree output then 0 else 1
 
--- The output's own steps are given, and how many tokens it took.
+-- The output's own steps are returned, and the number of tokens that it consumed.
 pub record IsRawOutput (output : Forest) (steps steps_after : List RapStep) (messages messages_after : List ℕ) (answer : RapAnswer) : Type 0 where
   pub given : IsGiven (output_items (flat output)) steps steps_after messages messages_after answer
   pub status : answer.status ≡ status_of output
   pub used_is : answer.used ≡ used output
 
--- The numbers are those of records, few enough for the parser, and what is made of them is given.
+-- The numbers are those of records, few enough for the parser, and the output of their parse is returned.
 pub record IsFilledParse (Makes : List Record → Forest → Type 0) (rows : List RapRecord) (steps steps_after : List RapStep) (messages messages_after : List ℕ) (answer : RapAnswer) : Type 0 where
   pub records : List Record
   pub output : Forest
@@ -39,43 +39,43 @@ pub record IsFilledParse (Makes : List Record → Forest → Type 0) (rows : Lis
   pub made : Makes records output
   pub is : IsRawOutput output steps steps_after messages messages_after answer
 
--- The number is a top entry's, and what it makes is given.
+-- The number is that of a top entry, and its output is returned.
 pub record IsParse (rows : List RapRecord) (entry_number : ℕ) (steps steps_after : List RapStep) (messages messages_after : List ℕ) (answer : RapAnswer) : Type 0 where
   pub entry : TopEntryPoint
   pub is_entry : IsTopOf entry_number entry
   pub filled : IsFilledParse (IsOutputOf entry) rows steps steps_after messages messages_after answer
 
--- The number is a prefix entry's, and what it makes of the front is given.
+-- The number is that of a prefix entry, and its output is returned.
 pub record IsParsePrefix (rows : List RapRecord) (entry_number : ℕ) (steps steps_after : List RapStep) (messages messages_after : List ℕ) (answer : RapAnswer) : Type 0 where
   pub entry : PrefixEntryPoint
   pub is_entry : numbers.IsPrefixOf entry_number entry
   pub filled : IsFilledParse (IsPrefixOutputOf entry) rows steps steps_after messages messages_after answer
 
--- The node begins as it must, and this is what is made of it.
+-- The node begins as it must, and this is its output.
 pub record IsNodeOutputOf (part : Part) (records : List Record) (output : Forest) : Type 0 where
   pub brace : asks_brace part ≡ true → next_kind records ≡ L_CURLY
   pub made : IsPrefixOf (part_script part) records output
 
--- The node of this kind is given.
+-- The node of this kind is returned.
 pub record IsParseNode (rows : List RapRecord) (kind : Option ℕ) (steps steps_after : List RapStep) (messages messages_after : List ℕ) (answer : RapAnswer) : Type 0 where
   pub part : Part
   pub is_part : kind ≡ Some (part_kind part)
   pub filled : IsFilledParse (IsNodeOutputOf part) rows steps steps_after messages messages_after answer
 
--- the numbers are those of more records than a parse takes
+-- the numbers are those of more records than a parse accepts
 pub record AreTooMany (rows : List RapRecord) : Type 0 where
   pub records : List Record
   pub input : IsInputOf rows records
   pub many : max_tokens < length records
 
--- the part begins with a brace, and the records do not
+-- the node must begin with a brace, and the records do not
 pub record LackBrace (rows : List RapRecord) (part : Part) : Type 0 where
   pub asks : asks_brace part ≡ true
   pub records : List Record
   pub input : IsInputOf rows records
   pub lacks : next_kind records ≢ L_CURLY
 
--- when a fault comes of records
+-- when a fault occurs for records
 abbrev pub ComesOfRows : List RapRecord → Fault → Type 0
 ComesOfRows rows NoEdition = ⊥
 ComesOfRows rows NoEntry = ⊥
@@ -88,7 +88,7 @@ ComesOfRows rows NoBrace = ⊥
 ComesOfRows rows NoRecord = IsNoInput rows
 ComesOfRows rows NoSteps = ⊥
 
--- the same of a node
+-- the same for a node
 abbrev pub ComesOfNodeRows : List RapRecord → Part → Fault → Type 0
 ComesOfNodeRows rows part NoEdition = ⊥
 ComesOfNodeRows rows part NoEntry = ⊥
@@ -101,7 +101,7 @@ ComesOfNodeRows rows part NoBrace = LackBrace rows part
 ComesOfNodeRows rows part NoRecord = IsNoInput rows
 ComesOfNodeRows rows part NoSteps = ⊥
 
--- when a fault comes of a number and records
+-- when a fault occurs for a number and records
 abbrev pub ComesOfParse : List RapRecord → ℕ → Fault → Type 0
 ComesOfParse rows entry_number NoEdition = ⊥
 ComesOfParse rows entry_number NoEntry = IsNoTop entry_number
@@ -126,7 +126,7 @@ ComesOfParsePrefix rows entry_number NoBrace = ⊥
 ComesOfParsePrefix rows entry_number NoRecord = ((entry : PrefixEntryPoint) × numbers.IsPrefixOf entry_number entry) × IsNoInput rows
 ComesOfParsePrefix rows entry_number NoSteps = ⊥
 
--- The node can be parsed again; and this holds of it.
+-- The node can be parsed again, and this holds for it.
 pub record IsAskedPart (kind : Option ℕ) (Holds : Part → Type 0) : Type 0 where
   pub part : Part
   pub is_part : kind ≡ Some (part_kind part)

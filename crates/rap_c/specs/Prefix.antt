@@ -1,4 +1,4 @@
--- What is given of the front of a text.
+-- What is returned of a prefix of a text.
 use Rattle.std.specs.Prelude.{ℕ, ◌≤◌, ◌<◌, List, length, IsUtf8}
 use Rattle.rap_base.specs.declared.edition.Edition.{Edition}
 use Rattle.rap_events.specs.Forest.{Forest}
@@ -21,7 +21,7 @@ pub record IsRead (text : List ℕ) (edition : Edition) (lexed : Lexed) : Type 0
   pub lexing : IsLexing text edition lexed
   pub few : length (records lexed.tokens edition) ≤ max_tokens
 
--- What the entry makes of the front of the text is given.
+-- The output of the entry for a prefix of the text is returned.
 pub record IsFilledPrefix (text : List ℕ) (edition : Edition) (entry : PrefixEntryPoint) (steps steps_after : List RapStep) (messages messages_after : List ℕ) (answer : RapAnswer) : Type 0 where
   pub lexed : Lexed
   pub output : Forest
@@ -29,7 +29,7 @@ pub record IsFilledPrefix (text : List ℕ) (edition : Edition) (entry : PrefixE
   pub made : IsPrefixOutputOf entry (records lexed.tokens edition) output
   pub is : IsOutput lexed.tokens output steps steps_after messages messages_after answer
 
--- The bytes are text, the numbers are those of an edition and of an entry, and what it makes is given.
+-- The bytes are UTF-8, the numbers are those of an edition and of an entry, and its output is returned.
 pub record IsPrefix (text : List ℕ) (year entry_number : ℕ) (steps steps_after : List RapStep) (messages messages_after : List ℕ) (answer : RapAnswer) : Type 0 where
   pub edition : Edition
   pub is_edition : IsEditionOf year edition
@@ -38,7 +38,7 @@ pub record IsPrefix (text : List ℕ) (year entry_number : ℕ) (steps steps_aft
   pub utf8 : IsUtf8 text
   pub filled : IsFilledPrefix text edition entry steps steps_after messages messages_after answer
 
--- when a fault comes of a text
+-- when a fault occurs for a text
 abbrev pub ComesOfFront : List ℕ → Edition → Fault → Type 0
 ComesOfFront text edition NoEdition = ⊥
 ComesOfFront text edition NoEntry = ⊥
@@ -51,7 +51,7 @@ ComesOfFront text edition NoBrace = ⊥
 ComesOfFront text edition NoRecord = ⊥
 ComesOfFront text edition NoSteps = ⊥
 
--- The bytes are text, and the numbers those of an edition and of an entry; and this holds of the edition.
+-- The bytes are UTF-8, and the numbers those of an edition and of an entry; and this holds for the edition.
 pub record IsAsked (text : List ℕ) (year entry_number : ℕ) (Holds : Edition → Type 0) : Type 0 where
   pub edition : Edition
   pub is_edition : IsEditionOf year edition
@@ -60,7 +60,7 @@ pub record IsAsked (text : List ℕ) (year entry_number : ℕ) (Holds : Edition 
   pub utf8 : IsUtf8 text
   pub holds : Holds edition
 
--- when a fault comes of numbers and bytes
+-- when a fault occurs for numbers and bytes
 abbrev pub ComesOfPrefix : List ℕ → ℕ → ℕ → Fault → Type 0
 ComesOfPrefix text year entry_number NoEdition = IsNoEdition year
 ComesOfPrefix text year entry_number NoEntry = ((edition : Edition) × IsEditionOf year edition) × IsNoPrefix entry_number

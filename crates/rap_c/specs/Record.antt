@@ -13,6 +13,6 @@ pub record IsInputOf (rows : List RapRecord) (records : List Record) : Type 0 wh
   pub rows_are : rows ≡ map row_of records
   pub tokens : All IsTokenRecord records
 
--- they are those of no such records
+-- they are not those of such records
 abbrev pub IsNoInput : List RapRecord → Type 0
 IsNoInput rows = (records : List Record) → ¬ IsInputOf rows records

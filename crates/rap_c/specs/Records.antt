@@ -1,4 +1,4 @@
--- What is given of a text's records.
+-- What is returned of a text's records.
 use Rattle.std.specs.Prelude.{◌≡◌, ℕ, ◌≤◌, List, map, length, IsUtf8}
 use Rattle.rap_base.specs.declared.edition.Edition.{Edition}
 use Rattle.rap_lexed.specs.Input.{records}
@@ -9,8 +9,8 @@ use Rattle.rap_c.specs.Record.{row_of}
 use Rattle.rap_c.specs.declared.answer.RapAnswer.{RapAnswer}
 use Rattle.rap_c.specs.declared.record.RapRecord.{RapRecord}
 
--- The first records of the room are those of the text's tokens that are no trivia, as far as it reaches; what lies behind
--- them stays. The answer says how many there are.
+-- The first records of the room are those of the text's tokens that are no trivia, as many as fit; what is after
+-- them does not change. The result has the number of all.
 pub record IsFilledRecords (text : List ℕ) (edition : Edition) (room room_after : List RapRecord) (answer : RapAnswer) : Type 0 where
   pub lexed : Lexed
   pub lexing : IsLexing text edition lexed
@@ -18,7 +18,7 @@ pub record IsFilledRecords (text : List ℕ) (edition : Edition) (room room_afte
   pub rows_are : room_after ≡ overwritten room (map row_of (records lexed.tokens edition))
   pub answer_is : answer ≡ record { status = 0; steps = length (records lexed.tokens edition); message_bytes = 0; used = length text }
 
--- The bytes are text, the number is that of an edition, and the text's records are given.
+-- The bytes are UTF-8, the number is that of an edition, and the text's records are returned.
 pub record IsRecords (text : List ℕ) (year : ℕ) (room room_after : List RapRecord) (answer : RapAnswer) : Type 0 where
   pub edition : Edition
   pub is_edition : IsEditionOf year edition

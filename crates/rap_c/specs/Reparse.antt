@@ -1,4 +1,4 @@
--- What is given of a node that is parsed again.
+-- What is returned of a node that is parsed again.
 use Rattle.std.specs.Prelude.{◌≡◌, ◌≢◌, ℕ, ◌≤◌, ◌<◌, List, Option, Some, None, true, nat_le, if◌then◌else◌, length, IsUtf8}
 use Rattle.rap_base.specs.TokenKind.{L_CURLY}
 use Rattle.rap_base.specs.declared.edition.Edition.{Edition}
@@ -18,11 +18,11 @@ use Rattle.rap_c.specs.declared.answer.Fault.TheVariants.{NoEdition, NoEntry, No
 use Rattle.rap_c.specs.declared.answer.RapAnswer.{RapAnswer}
 use Rattle.rap_c.specs.declared.step.RapStep.{RapStep}
 
--- The kind of the node that is parsed again, if it can be, by numbers. A number that is no kind's says that there is none.
+-- The kind of the node that is parsed again, if it can be, by numbers. A number of no kind means that there is none.
 abbrev pub asked_kind : ℕ → ℕ → ℕ → Option ℕ
 asked_kind node first_child parent = if nat_le node 329 then reparsed node (kind_in first_child) (kind_in parent) else None
 
--- The part that is read again is given.
+-- The node that is parsed again is returned.
 pub record IsFilledNode (text : List ℕ) (edition : Edition) (part : Part) (steps steps_after : List RapStep) (messages messages_after : List ℕ) (answer : RapAnswer) : Type 0 where
   pub lexed : Lexed
   pub output : Forest
@@ -31,7 +31,7 @@ pub record IsFilledNode (text : List ℕ) (edition : Edition) (part : Part) (ste
   pub made : IsPrefixOf (part_script part) (records lexed.tokens edition) output
   pub is : IsOutput lexed.tokens output steps steps_after messages messages_after answer
 
--- The bytes are text, the number is that of an edition, and the node of this kind is given.
+-- The bytes are UTF-8, the number is that of an edition, and the node of this kind is returned.
 pub record IsReparsed (text : List ℕ) (year : ℕ) (kind : Option ℕ) (steps steps_after : List RapStep) (messages messages_after : List ℕ) (answer : RapAnswer) : Type 0 where
   pub edition : Edition
   pub is_edition : IsEditionOf year edition
@@ -40,7 +40,7 @@ pub record IsReparsed (text : List ℕ) (year : ℕ) (kind : Option ℕ) (steps 
   pub utf8 : IsUtf8 text
   pub filled : IsFilledNode text edition part steps steps_after messages messages_after answer
 
--- the part begins with a brace, and the text does not
+-- the node must begin with a brace, and the text does not
 pub record LacksBrace (text : List ℕ) (edition : Edition) (part : Part) : Type 0 where
   pub asks : asks_brace part ≡ true
   pub small : length text ≤ 4294967295
@@ -48,7 +48,7 @@ pub record LacksBrace (text : List ℕ) (edition : Edition) (part : Part) : Type
   pub lexing : IsLexing text edition lexed
   pub lacks : next_kind (records lexed.tokens edition) ≢ L_CURLY
 
--- when a fault comes of a text
+-- when a fault occurs for a text
 abbrev pub ComesOfNode : List ℕ → Edition → Part → Fault → Type 0
 ComesOfNode text edition part NoEdition = ⊥
 ComesOfNode text edition part NoEntry = ⊥
@@ -61,7 +61,7 @@ ComesOfNode text edition part NoBrace = LacksBrace text edition part
 ComesOfNode text edition part NoRecord = ⊥
 ComesOfNode text edition part NoSteps = ⊥
 
--- The bytes are text, the number is that of an edition and the node can be parsed again; and this holds of them.
+-- The bytes are UTF-8, the number is that of an edition and the node can be parsed again; and this holds for them.
 pub record IsAskedNode (text : List ℕ) (year : ℕ) (kind : Option ℕ) (Holds : Edition → Part → Type 0) : Type 0 where
   pub edition : Edition
   pub is_edition : IsEditionOf year edition
@@ -70,7 +70,7 @@ pub record IsAskedNode (text : List ℕ) (year : ℕ) (kind : Option ℕ) (Holds
   pub utf8 : IsUtf8 text
   pub holds : Holds edition part
 
--- when a fault comes of numbers and bytes
+-- when a fault occurs for numbers and bytes
 abbrev pub ComesOfReparse : List ℕ → ℕ → Option ℕ → Fault → Type 0
 ComesOfReparse text year kind NoEdition = IsNoEdition year
 ComesOfReparse text year kind NoEntry = ⊥

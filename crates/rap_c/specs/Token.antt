@@ -1,5 +1,5 @@
 -- A token of a parser's input.
--- (What calls promise one another; no promise of the library rests on it.)
+-- (Used in contracts between internal functions only; no public contract rests on it.)
 use Rattle.rap_events.specs.Record.{Record}
 use Rattle.rap_c.specs.declared.record.Token.{Token}
 

@@ -1,4 +1,4 @@
--- What is given of a text's tokens.
+-- What is returned of a text's tokens.
 use Rattle.std.specs.Prelude.{◌≡◌, ℕ, ◌≤◌, ◌<◌, List, ◌++◌, length, IsUtf8}
 use Rattle.rap_base.specs.declared.edition.Edition.{Edition}
 use Rattle.rap_lexed.specs.LexedStr.{Lexed, IsLexing}
@@ -10,11 +10,11 @@ use Rattle.rap_c.specs.declared.answer.Fault.TheVariants.{NoEdition, NoEntry, No
 use Rattle.rap_c.specs.declared.answer.RapAnswer.{RapAnswer}
 use Rattle.rap_c.specs.declared.step.RapStep.{RapStep}
 
--- the tokens, and behind them the lexer's messages
+-- the tokens, and after them the lexer's messages
 abbrev pub lexed_items : Lexed → List Item
 lexed_items lexed = token_items lexed.tokens ++ lexer_items lexed.tokens lexed.errors
 
--- The text's tokens are given.
+-- The text's tokens are returned.
 pub record IsFilledTokens (text : List ℕ) (edition : Edition) (steps steps_after : List RapStep) (messages messages_after : List ℕ) (answer : RapAnswer) : Type 0 where
   pub lexed : Lexed
   pub lexing : IsLexing text edition lexed
@@ -23,14 +23,14 @@ pub record IsFilledTokens (text : List ℕ) (edition : Edition) (steps steps_aft
   pub status : answer.status ≡ 0
   pub used : answer.used ≡ length text
 
--- The bytes are text, the number is that of an edition, and the text's tokens are given.
+-- The bytes are UTF-8, the number is that of an edition, and the text's tokens are returned.
 pub record IsTokens (text : List ℕ) (year : ℕ) (steps steps_after : List RapStep) (messages messages_after : List ℕ) (answer : RapAnswer) : Type 0 where
   pub edition : Edition
   pub is_edition : IsEditionOf year edition
   pub utf8 : IsUtf8 text
   pub filled : IsFilledTokens text edition steps steps_after messages messages_after answer
 
--- when a fault comes of a text
+-- when a fault occurs for a text
 abbrev pub ComesOfLexing : List ℕ → Fault → Type 0
 ComesOfLexing text NoEdition = ⊥
 ComesOfLexing text NoEntry = ⊥
@@ -43,7 +43,7 @@ ComesOfLexing text NoBrace = ⊥
 ComesOfLexing text NoRecord = ⊥
 ComesOfLexing text NoSteps = ⊥
 
--- when a fault comes of a number and bytes
+-- when a fault occurs for a number and bytes
 abbrev pub ComesOfTokens : List ℕ → ℕ → Fault → Type 0
 ComesOfTokens text year NoEdition = IsNoEdition year
 ComesOfTokens text year NoEntry = ⊥

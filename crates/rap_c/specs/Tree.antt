@@ -1,4 +1,4 @@
--- What is given of a text's tree.
+-- What is returned of a text's tree.
 use Rattle.std.specs.Prelude.{◌≡◌, ℕ, ◌≤◌, ◌<◌, List, ◌++◌, length, IsUtf8}
 use Rattle.rap_base.specs.declared.edition.Edition.{Edition}
 use Rattle.rap_events.specs.Forest.{Forest}
@@ -15,11 +15,11 @@ use Rattle.rap_c.specs.declared.answer.Fault.TheVariants.{NoEdition, NoEntry, No
 use Rattle.rap_c.specs.declared.answer.RapAnswer.{RapAnswer}
 use Rattle.rap_c.specs.declared.step.RapStep.{RapStep}
 
--- the steps of a tree, and behind them the lexer's messages
+-- the steps of a tree, and after them the lexer's messages
 abbrev pub tree_items : Lexed → Forest → List Item
 tree_items lexed forest = text_items (str_flat (with_trivia lexed.tokens forest)) ++ lexer_items lexed.tokens lexed.errors
 
--- The text's one tree is given; the texts of its tokens joined are the text.
+-- The text's one tree is returned; the texts of its tokens joined are the text.
 pub record IsFilledTree (text : List ℕ) (edition : Edition) (entry : TopEntryPoint) (steps steps_after : List RapStep) (messages messages_after : List ℕ) (answer : RapAnswer) : Type 0 where
   pub lexed : Lexed
   pub forest : Forest
@@ -29,7 +29,7 @@ pub record IsFilledTree (text : List ℕ) (edition : Edition) (entry : TopEntryP
   pub status : answer.status ≡ 0
   pub used : answer.used ≡ length text
 
--- The bytes are text, the numbers are those of an edition and of an entry, and the text's one tree is given.
+-- The bytes are UTF-8, the numbers are those of an edition and of an entry, and the text's one tree is returned.
 pub record IsTree (text : List ℕ) (year entry_number : ℕ) (steps steps_after : List RapStep) (messages messages_after : List ℕ) (answer : RapAnswer) : Type 0 where
   pub edition : Edition
   pub is_edition : IsEditionOf year edition
@@ -38,7 +38,7 @@ pub record IsTree (text : List ℕ) (year entry_number : ℕ) (steps steps_after
   pub utf8 : IsUtf8 text
   pub filled : IsFilledTree text edition entry steps steps_after messages messages_after answer
 
--- when a fault comes of a text
+-- when a fault occurs for a text
 abbrev pub ComesOfText : List ℕ → Edition → Fault → Type 0
 ComesOfText text edition NoEdition = ⊥
 ComesOfText text edition NoEntry = ⊥
@@ -51,7 +51,7 @@ ComesOfText text edition NoBrace = ⊥
 ComesOfText text edition NoRecord = ⊥
 ComesOfText text edition NoSteps = ⊥
 
--- The bytes are text, and the numbers those of an edition and of an entry; and this holds of the edition.
+-- The bytes are UTF-8, and the numbers those of an edition and of an entry; and this holds for the edition.
 pub record IsAsked (text : List ℕ) (year entry_number : ℕ) (Holds : Edition → Type 0) : Type 0 where
   pub edition : Edition
   pub is_edition : IsEditionOf year edition
@@ -60,7 +60,7 @@ pub record IsAsked (text : List ℕ) (year entry_number : ℕ) (Holds : Edition 
   pub utf8 : IsUtf8 text
   pub holds : Holds edition
 
--- when a fault comes of numbers and bytes
+-- when a fault occurs for numbers and bytes
 abbrev pub ComesOfTree : List ℕ → ℕ → ℕ → Fault → Type 0
 ComesOfTree text year entry_number NoEdition = IsNoEdition year
 ComesOfTree text year entry_number NoEntry = ((edition : Edition) × IsEditionOf year edition) × IsNoTop entry_number

@@ -1,4 +1,4 @@
--- What is given of a text's tree in words.
+-- What is returned of a text's tree in words.
 use Rattle.std.specs.Prelude.{◌≡◌, ℕ, List, ◌++◌, length, IsUtf8}
 use Rattle.rap_base.specs.declared.edition.Edition.{Edition}
 use Rattle.rap_events.specs.Forest.{Forest}
@@ -14,8 +14,8 @@ use Rattle.rap_c.specs.Numbers.{IsEditionOf, IsTopOf}
 use Rattle.rap_c.specs.Words.{all_words, all_bytes, lexer_steps}
 use Rattle.rap_c.specs.declared.answer.RapAnswer.{RapAnswer}
 
--- The first words of the room are those of the steps, and of others behind them, as far as it reaches, and the first bytes
--- those of their messages; what lies behind them stays. The answer says how many there are of each, and how many of the
+-- The first words of the room are those of the steps, and of others after them, as many as fit, and the first bytes
+-- those of their messages; what is after them does not change. The result has the number of each, and how many of the
 -- words are those of the first steps.
 pub record AreWordsGiven (steps others : List StrStepValue) (words words_after messages messages_after : List ℕ) (answer : RapAnswer) : Type 0 where
   pub words_are : words_after ≡ overwritten words (all_words (steps ++ others))
@@ -25,7 +25,7 @@ pub record AreWordsGiven (steps others : List StrStepValue) (words words_after m
   pub bytes : answer.message_bytes ≡ counted (length (all_bytes (steps ++ others)))
   pub used : answer.used ≡ counted (length (all_words steps))
 
--- The text's one tree is given, and behind it the lexer's messages; the texts of its tokens joined are the text.
+-- The text's one tree is returned, and after it the lexer's messages; the texts of its tokens joined are the text.
 pub record IsFilledTreeWords (text : List ℕ) (edition : Edition) (entry : TopEntryPoint) (words words_after messages messages_after : List ℕ) (answer : RapAnswer) : Type 0 where
   pub lexed : Lexed
   pub forest : Forest
@@ -33,7 +33,7 @@ pub record IsFilledTreeWords (text : List ℕ) (edition : Edition) (entry : TopE
   pub whole : str_joined (with_trivia lexed.tokens forest) ≡ text
   pub given : AreWordsGiven (str_flat (with_trivia lexed.tokens forest)) (lexer_steps lexed.tokens lexed.errors) words words_after messages messages_after answer
 
--- The bytes are text, the numbers are those of an edition and of an entry, and the text's one tree is given.
+-- The bytes are UTF-8, the numbers are those of an edition and of an entry, and the text's one tree is returned.
 pub record IsTreeWords (text : List ℕ) (year entry_number : ℕ) (words words_after messages messages_after : List ℕ) (answer : RapAnswer) : Type 0 where
   pub edition : Edition
   pub is_edition : IsEditionOf year edition
@@ -42,7 +42,7 @@ pub record IsTreeWords (text : List ℕ) (year entry_number : ℕ) (words words_
   pub utf8 : IsUtf8 text
   pub filled : IsFilledTreeWords text edition entry words words_after messages messages_after answer
 
--- the room is as it was
+-- the room is unchanged
 pub record AreWordsUntouched (words words_after messages messages_after : List ℕ) : Type 0 where
   pub words_are : words_after ≡ words
   pub messages_are : messages_after ≡ messages

@@ -7,7 +7,7 @@ use Rattle.rap_lexed.specs.StrStep.{StrStepValue, str_enter, str_exit, str_token
 abbrev pub word_of : ℕ → ℕ → ℕ → ℕ
 word_of what bytes kind = what + 8 * bytes + 65536 * kind
 
--- a number, or 2^32 - 1 where it is larger
+-- a number, or 2^32 - 1 if it is larger
 abbrev pub as_word : ℕ → ℕ
 as_word n = min n (2 ^ 32 - 1)
 
@@ -15,7 +15,7 @@ as_word n = min n (2 ^ 32 - 1)
 abbrev pub token_words : ℕ → ℕ → List ℕ
 token_words kind bytes = if nat_lt bytes 8191 then word_of 2 bytes kind ∷ [] else word_of 2 8191 kind ∷ as_word bytes ∷ []
 
--- Behind a message's word stand the byte of the text at which the message stands, and how many bytes it has.
+-- After a message's word follow the message's position in bytes, and the number of its bytes.
 abbrev pub words_of : StrStepValue → List ℕ
 words_of (str_enter kind) = word_of 0 0 kind ∷ []
 words_of str_exit = word_of 1 0 0 ∷ []

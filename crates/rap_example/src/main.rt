@@ -1,11 +1,11 @@
-//! Prints the leaves of a text's tree, and what is reported about it: the smallest program on the library.
+//! Prints the leaves of a text's tree and its messages: the smallest program on the library.
 #![tactic(auto)]
 
 use ra_ap_parser::{Edition, NoMemory, StrSink, StrStep, TextFault, TopEntryPoint, parse_text};
 use std::fmt::Write as _;
 use std::io;
 
-/// A line for each leaf that is no white space and no comment, and for each message.
+/// A line for each leaf that is neither white space nor a comment, and for each message.
 #[derive(Drop)]
 struct Leaves {
     lines: String,
@@ -14,7 +14,7 @@ struct Leaves {
 impl StrSink for Leaves {
     type Refusal = NoMemory;
 
-    // What a step that is taken does to the sink, and what one that is refused does: here nothing is claimed.
+    // The effect of an accepted step on the sink, and that of a refused one: here nothing is specified.
     ghost takes = { λ _ _ _. Unit {0} };
 
     ghost refuses = { λ _ _ _ _. Unit {0} };

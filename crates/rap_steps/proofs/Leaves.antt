@@ -65,7 +65,7 @@ one_on s rest rs place width all here w h =
 pub count_on : (s : StepValue) (rest : List StepValue) (place width n : ℕ) → width ≡ widths (step_leaves s) → place + widths (leaves_in (s ∷ rest)) ≡ n → (place + width) + widths (leaves_in rest) ≡ n
 count_on s rest place width n w h = omega (arith, widths-append (step_leaves s) (leaves_in rest), w, h)
 
--- a leaf that does not stand
+-- a leaf that does not match
 pub stops : (s : StepValue) (rest : List StepValue) (rs : List Record) (place : ℕ) (all : Bool) → stand (step_leaves s) (drop place rs) ≡ false → stand (leaves_in (s ∷ rest)) (drop place rs) ≡ all → all ≡ false
 stops s rest rs place all here h =
     sym h ∙ stand-next s (leaves_in rest) (drop place rs) ∙ ap (λ b. b && stand (leaves_in rest) (drop (widths (step_leaves s)) (drop place rs))) here
@@ -76,7 +76,7 @@ covers_by ss rs h = ap (λ l. stand l rs) (sym (leaves_in-flat (forest_of ss)) �
 pub used_by : (ss : List StepValue) → flat (forest_of ss) ≡ ss → used (forest_of ss) ≡ widths (leaves_in ss)
 used_by ss h = sym (widths-leaves (forest_of ss)) ∙ ap widths (sym (leaves_in-flat (forest_of ss)) ∙ ap leaves_in h)
 
--- so many tokens are there
+-- the records have at least as many tokens as the kinds
 begins_with-length : (ks : List ℕ) (rs : List Record) → begins_with ks rs ≡ true → length ks ≤ length rs
 begins_with-length [] rs h = omega arith
 begins_with-length (k ∷ ks) [] h = absurd cc
@@ -98,7 +98,7 @@ tokens_within kind width rs false e h =
     let rest : ((length (parts kind) == width) && begins_with (parts kind) rs) ≡ true = and_right (nat_lt 0 width) ((length (parts kind) == width) && begins_with (parts kind) rs) h in
     omega (arith, eqb-true (length (parts kind)) width (and_left (length (parts kind) == width) (begins_with (parts kind) rs) rest), begins_with-length (parts kind) rs (and_right (length (parts kind) == width) (begins_with (parts kind) rs) rest))
 
--- a leaf's tokens are there
+-- the tokens of a leaf are there
 pub token_within : (kind width : ℕ) (rs : List Record) (place : ℕ) → place ≤ length rs → stands (of_tokens kind width) (drop place rs) ≡ true → place + width ≤ length rs
 token_within kind width rs place h s = omega (arith, h, length-drop place rs, tokens_within kind width (drop place rs) (width == 1) refl s)
 

@@ -1,10 +1,10 @@
 -- A walk through steps finds whether they are those of one tree.
-use Rattle.std.proofs.Common.{◌≡◌, ℕ, ◌-◌, List, [], ◌∷◌, ◌++◌, Bool, true, false, not, ◌&&◌, ◌||◌, ◌==◌, Option, Some, None, refl, sym, ap, subst, ◌∙◌, append_assoc, append-nil, arith}
+use Rattle.std.proofs.Common.{◌≡◌, ℕ, List, [], ◌∷◌, ◌++◌, Bool, true, false, not, ◌==◌, Some, None, refl, sym, ap, subst, ◌∙◌, append_assoc, append-nil, arith}
 use Rattle.std.specs.Prelude.{if◌then◌else◌, ◌↔◌, IsTrue}
 use Rattle.std.proofs.lemmas.Bool.{eq-eqb}
 use Rattle.rap_base.specs.NodeKind.{FIELD_EXPR}
 use Rattle.rap_events.specs.StepValue.{StepValue, enter, exit, token, float_split, error}
-use Rattle.rap_events.specs.Forest.{Forest, none, node, leaf, message, split, flat, split_ends, exit_of, is_ended, splits_last, splits_placed, ends_in_dot, one_tree}
+use Rattle.rap_events.specs.Forest.{Forest, none, node, leaf, message, split, flat, split_ends, exit_of, is_ended, splits_last, ends_in_dot, one_tree}
 use Rattle.rap_events.specs.Reading.{Begun, read, with_ends, forest_of}
 use Rattle.rap_events.specs.Reading as reading
 use Rattle.rap_events.proofs.StepLemmas.{Before, before, Parts, node_parts}
@@ -12,7 +12,7 @@ use Rattle.rap_events.proofs.Splits.{both_placed, before_none, node_last}
 use Rattle.rap_events.proofs.Trees.{Tree, nothing, a_node, a_leaf, a_message, dotted, apart, tree}
 use Rattle.rap_events.proofs.Truth.{or_left}
 use Rattle.rap_steps.specs.Steps.{IsTreeSteps}
-use Rattle.rap_steps.specs.Walk.{after_split, after_step, is_none_open, and_then, closes, makes_tree}
+use Rattle.rap_steps.specs.Walk.{and_then, closes, makes_tree}
 
 -- the steps of a node
 node-steps : (b : Forest) (k : ℕ) (x : Forest) (ss : List StepValue) → split_ends x ≡ 0 → flat (node b k x) ++ ss ≡ flat b ++ (enter k ∷ (flat x ++ (exit ∷ ss)))
@@ -38,7 +38,7 @@ both_close j k ks ss inner outer =
     ap (λ (b : Bool). and_then (if b then (if k == FIELD_EXPR then Some ks else None) else None) (λ next. closes ss next)) inner
     ∙ dot_closes k ks ss outer
 
--- past a forest in an open node, the same nodes are open
+-- after a forest in an open node, the same nodes are open
 past : (f : Forest) (j : ℕ) (ks : List ℕ) (ss : List StepValue) → Tree f → splits_last f ≡ true → closes (flat f ++ ss) (j ∷ ks) ≡ closes ss (j ∷ ks)
 past none j ks ss nothing h = refl
 past (split b d) j ks ss t h = elim t [ ]
@@ -105,12 +105,12 @@ abbrev begun_steps : Begun → List StepValue
 begun_steps reading.nothing = []
 begun_steps (reading.inside begun b k) = begun_steps begun ++ (flat b ++ enter k ∷ [])
 
--- a forest stands inside nodes that have begun; beside the oldest of them there is nothing
+-- a forest inside nodes that have begun; nothing is beside the oldest of them
 abbrev Stands : Begun → Forest → Type 0
 Stands reading.nothing b = b ≡ none
 Stands (reading.inside begun c j) b = Stands begun c × Before b
 
--- the same, or it is the whole
+-- the same, or it is the whole tree
 abbrev Standing : Begun → Forest → Type 0
 Standing reading.nothing f = (one_tree f ≡ true) × Before f
 Standing (reading.inside begun b k) f = Stands begun b × Before f
@@ -148,7 +148,7 @@ if_both : (a b : Bool) (ks : List ℕ) (ss : List StepValue) → and_then (if a 
 if_both true b ks ss h = (refl, if_some b ks ss h)
 if_both false b ks ss h = absurd cc
 
--- what steps make that end all nodes that have begun
+-- the tree of steps that end all nodes that have begun
 sound : (ss : List StepValue) (begun : Begun) (f : Forest) → closes ss (kinds begun) ≡ true → Standing begun f → Made (begun_steps begun ++ (flat f ++ ss)) (read (with_ends ss) begun f)
 sound [] reading.nothing f h s = record { shown = sym (append-nil (flat f)); placed = s.1; one = s.0 }
 sound [] (reading.inside begun b k) f h s = absurd cc

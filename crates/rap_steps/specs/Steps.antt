@@ -4,7 +4,7 @@ use Rattle.rap_events.specs.Forest.{flat, one_tree, splits_placed}
 use Rattle.rap_events.specs.Reading.{forest_of}
 use Rattle.rap_events.specs.StepValue.{StepValue}
 
--- The steps are those of one tree, in which each float that is taken apart stands where it must.
+-- The steps are those of one tree, in which each split float is in a valid place.
 pub record IsTreeSteps (ss : List StepValue) : Type 0 where
   pub shown : flat (forest_of ss) ≡ ss
   pub placed : splits_placed (forest_of ss) ≡ true

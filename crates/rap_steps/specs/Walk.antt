@@ -1,11 +1,11 @@
 -- A walk through steps.
--- (What calls promise one another; no promise of the library rests on it.)
-use Rattle.std.specs.Prelude.{ℕ, List, [], ◌∷◌, ◌++◌, Bool, true, false, ◌&&◌, ◌==◌, Option, Some, None, if◌then◌else◌}
+-- (Used in contracts between internal functions only; no public contract rests on it.)
+use Rattle.std.specs.Prelude.{ℕ, List, [], ◌∷◌, ◌++◌, Bool, true, false, ◌==◌, Option, Some, None, if◌then◌else◌}
 use Rattle.rap_base.specs.NodeKind.{FIELD_EXPR}
 use Rattle.rap_events.specs.Cover.{Leaf, of_tokens, of_float}
 use Rattle.rap_events.specs.StepValue.{StepValue, enter, exit, token, float_split, error}
 
--- the kinds of the nodes that are open after a float that is taken apart, the newest first, if it can stand there
+-- the kinds of the nodes that are open after a split float, the newest first, if it is valid there
 abbrev pub after_split : Bool → List ℕ → Option (List ℕ)
 after_split ends_in_dot [] = None
 after_split ends_in_dot (j ∷ []) = None
@@ -29,7 +29,7 @@ abbrev pub and_then : Option (List ℕ) → (List ℕ → Bool) → Bool
 and_then None test = false
 and_then (Some ks) test = test ks
 
--- the steps end all open nodes, the oldest of them at last
+-- the steps end all open nodes, the oldest of them with the last step
 abbrev pub closes : List StepValue → List ℕ → Bool
 closes [] ks = is_none_open ks
 closes (s ∷ ss) ks = and_then (after_step s ks) (λ next. closes ss next)

@@ -17,7 +17,7 @@ use rap_events::output::Step;
 use rap_events::parser::Parser;
 use std::alloc::Global;
 
-/// Returns the number of tokens that the leaves of a forest stand for; `None` if they do not match the first tokens of
+/// Returns the number of input tokens in the leaves of a forest; `None` if they do not match the first tokens of
 /// the input. The steps must be those of the forest. No memory is allocated.
 pub fn covered(alloc: Global, steps: &[Step<'_>], input: &Input) -> Option<usize>
     requires { flat (forest_of (map step_value steps.now)) ≡ map step_value steps.now }
@@ -34,7 +34,7 @@ pub fn covered(alloc: Global, steps: &[Step<'_>], input: &Input) -> Option<usize
     Some(place)
 }
 
-/// How many tokens the step stands for, where it stands at the place.
+/// The number of input tokens of the step, if it matches at the place.
 fn width_at(alloc: Global, step: &Step<'_>, input: &Input, place: usize) -> Option<usize>
     requires { place ≤ length input.now }
     ensures stands { MatchOption result (stand (step_leaves (step_value step.now)) (drop place input.now) ≡ false) (λ width. (stand (step_leaves (step_value step.now)) (drop place input.now) ≡ true) × (width ≡ widths (step_leaves (step_value step.now)))) }
@@ -45,14 +45,14 @@ fn width_at(alloc: Global, step: &Step<'_>, input: &Input, place: usize) -> Opti
             kind,
             n_input_tokens,
         } => {
-            if token_stands(alloc, *kind, *n_input_tokens, input, place) {
+            if token_matches(alloc, *kind, *n_input_tokens, input, place) {
                 Some(usize::from(*n_input_tokens))
             } else {
                 None
             }
         }
         Step::FloatSplit { ends_in_dot } => {
-            if float_stands(*ends_in_dot, input, place) {
+            if float_matches(*ends_in_dot, input, place) {
                 Some(1)
             } else {
                 None
@@ -62,8 +62,8 @@ fn width_at(alloc: Global, step: &Step<'_>, input: &Input, place: usize) -> Opti
     }
 }
 
-/// Whether so many tokens stand at the place that make a leaf of this kind.
-fn token_stands(
+/// Whether the next `n_input_tokens` tokens at the place make a leaf of this kind.
+fn token_matches(
     alloc: Global,
     kind: SyntaxKind,
     n_input_tokens: u8,
@@ -84,7 +84,7 @@ fn token_stands(
     Parser::new(alloc, input).nth_at(place, kind)
 }
 
-/// Whether the token at the place may bear the kind.
+/// Whether the token at the place may have the kind.
 fn may_bear(kind: SyntaxKind, input: &Input, place: usize) -> bool
     ensures { result ≡ first_may_bear (drop place input.now) kind }
 {
@@ -94,7 +94,7 @@ fn may_bear(kind: SyntaxKind, input: &Input, place: usize) -> bool
     bears(input.kind(place), input.contextual_kind(place), kind)
 }
 
-/// Whether a token of a kind, which may be read as another one if it is an identifier, may bear this kind.
+/// Whether a token of a kind, which may be read as another one if it is an identifier, may have this kind.
 fn bears(own: SyntaxKind, contextual: SyntaxKind, kind: SyntaxKind) -> bool
     ensures { result ≡ ((own == kind) || (((own == IDENT) && (contextual == kind)) || ((kind == IDENT) && is_keyword own Edition2024))) }
 {
@@ -103,8 +103,8 @@ fn bears(own: SyntaxKind, contextual: SyntaxKind, kind: SyntaxKind) -> bool
         || (kind == SyntaxKind::IDENT && own.is_keyword(Edition::Edition2024))
 }
 
-/// Whether a float stands at the place that ends in a dot, or does not.
-fn float_stands(ends_in_dot: bool, input: &Input, place: usize) -> bool
+/// Whether the token at the place is a float that ends in a dot, or one that does not.
+fn float_matches(ends_in_dot: bool, input: &Input, place: usize) -> bool
     ensures { result ≡ first_splits (drop place input.now) ends_in_dot }
 {
     if place >= input.len() {
@@ -113,14 +113,14 @@ fn float_stands(ends_in_dot: bool, input: &Input, place: usize) -> bool
     is_split(input.kind(place), input.is_joint(place), ends_in_dot)
 }
 
-/// Whether a token of this kind is a float that ends in a dot, or does not. Its joint bit says that it does not.
+/// Whether a token of this kind is a float that ends in a dot, or one that does not. A joint float does not.
 fn is_split(kind: SyntaxKind, joint: bool, ends_in_dot: bool) -> bool
     ensures { result ≡ ((kind == FLOAT_NUMBER) && (if joint then not ends_in_dot else ends_in_dot)) }
 {
     kind == SyntaxKind::FLOAT_NUMBER && joint != ends_in_dot
 }
 
-/// How many tokens an operator is written with; 0 of any other kind.
+/// The number of tokens of an operator; 0 for any other kind.
 fn operator_len(kind: SyntaxKind) -> u8
     ensures { result ≡ length (parts kind) }
 {

@@ -1,4 +1,4 @@
-//! Checks of steps that a caller hands in: whether they are those of one tree, and whether its leaves match an input.
+//! Checks of steps that a caller passes: whether they are those of one tree, and whether its leaves match an input.
 #![tactic(auto)]
 
 mod cover;

@@ -27,7 +27,7 @@ pub fn is_tree(alloc: Global, steps: &[Step<'_>]) -> Result<bool, NoMemory>
     closes(rest, begun)
 }
 
-/// Whether the steps end all these open nodes, of which the last one is the newest, and the oldest of them at last.
+/// Whether the steps end all these open nodes, of which the last one is the newest, the oldest with the last step.
 fn closes(steps: &[Step<'_>], mut begun: Vec<SyntaxKind>) -> Result<bool, NoMemory>
     ensures { IfOk result (λ b. b ≡ closes (map step_value steps.now) (reverse begun.items)) }
 {
@@ -39,7 +39,7 @@ fn closes(steps: &[Step<'_>], mut begun: Vec<SyntaxKind>) -> Result<bool, NoMemo
     Ok(begun.is_empty())
 }
 
-/// Whether the step can stand inside these open nodes, which it changes to those that are open after it.
+/// Whether the step is valid inside these open nodes, which it changes to those that are open after it.
 fn goes_on(step: &Step<'_>, begun: &mut Vec<SyntaxKind>) -> Result<bool, NoMemory>
     ensures { IfOk result (λ b. after_step (step_value step.now) (reverse begun.old.items) ≡ (if b then Some (reverse begun.new.items) else None)) }
 {
@@ -57,7 +57,7 @@ fn goes_on(step: &Step<'_>, begun: &mut Vec<SyntaxKind>) -> Result<bool, NoMemor
     }
 }
 
-/// The same of a float that is taken apart.
+/// The same for a split float.
 fn goes_past_float(ends_in_dot: bool, begun: &mut Vec<SyntaxKind>) -> bool
     ensures { after_split ends_in_dot (reverse begun.old.items) ≡ (if result then Some (reverse begun.new.items) else None) }
 {
@@ -79,7 +79,7 @@ fn goes_past_float(ends_in_dot: bool, begun: &mut Vec<SyntaxKind>) -> bool
     outer == SyntaxKind::FIELD_EXPR
 }
 
-/// Takes the newest open node away.
+/// Removes the newest open node.
 fn take_newest(begun: &mut Vec<SyntaxKind>) -> Option<SyntaxKind>
     ensures { MatchOption result (reverse begun.old.items ≡ []) (λ kind. reverse begun.old.items ≡ kind ∷ reverse begun.new.items) }
 {

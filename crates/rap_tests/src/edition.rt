@@ -1,4 +1,4 @@
-//! The order of editions, and years that are read and refused.
+//! The order of editions, and years that are accepted and rejected.
 ghost use Rattle.std.specs.Prelude.{◌≡◌, ◌==◌, nat_lt};
 ghost use Rattle.std.specs.Ordering.{nat_cmp};
 ghost use Rattle.rap_base.specs.Edition.{year};

@@ -10,7 +10,7 @@ use std::alloc::Global;
 use std::test::Fail;
 
 // The steps of an output in one line: a node as `KIND(..)`, a token by its kind and how many tokens it takes, a
-// float that is taken apart by what it ends, a message in quotes.
+// split float by whether it ends in a dot, a message in quotes.
 fn line(alloc: Global, output: &Output) -> Result<String, NoMemory> {
     let mut text = String::new(alloc);
     for step in output.iter() {

@@ -1,4 +1,4 @@
-//! What is asked of a text's tokens.
+//! Queries on a text's tokens.
 use rap_base::edition::Edition;
 use rap_lexed::lexed_str::LexedStr;
 use std::test::Fail;

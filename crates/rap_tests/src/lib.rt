@@ -1,5 +1,5 @@
-//! Tests of the public calls of the libraries below the grammar, as far as no built program shows what they give; in a
-//! crate of their own, since in those libraries they would have each proved a second time.
+//! Tests of the public calls of the libraries below the grammar whose results no built program shows; they are in a
+//! crate of their own, since in those libraries each would be proved a second time.
 #![tactic(auto)]
 
 #[cfg(test)]

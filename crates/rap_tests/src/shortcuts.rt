@@ -35,7 +35,7 @@ impl From<std::alloc::AllocFailed<Kept>> for Refusal {
     }
 }
 
-/// Keeps `left` steps more, and refuses the next one.
+/// Keeps `left` more steps, and refuses the next one.
 #[derive(Drop)]
 struct Keeper {
     alloc: Global,
@@ -89,7 +89,7 @@ fn line(alloc: Global, steps: &[Kept]) -> Result<String, AllocError> {
     Ok(line)
 }
 
-/// What a sink that takes so many steps answers and keeps of a `use` that is a name and a semicolon, inside an `ERROR`.
+/// What a sink that accepts `left` steps returns and keeps for a `use` of a name and a semicolon, inside an `ERROR`.
 fn item_line(
     alloc: Global,
     text: &str,

@@ -8,7 +8,7 @@ use rap_base::edition::Edition;
 use rap_base::syntax_kind::SyntaxKind;
 use std::cmp::Ordering;
 
-// A kind is got back from its number.
+// The kind with a kind's number is that kind.
 fn there_and_back(kind: SyntaxKind) -> SyntaxKind
     ensures { result ≡ kind }
 {

@@ -1,5 +1,5 @@
 -- What is left to print of a tree: lists of children, the innermost last.
--- (What calls promise one another; no promise of the program rests on it.)
+-- (Used in contracts between internal functions only; no public contract rests on it.)
 use Rattle.std.specs.Prelude.{ℕ, ◌+◌, ◌*◌, List, [], ◌∷◌, ◌++◌}
 use Rattle.std.specs.Borrow.{Bor}
 use Rattle.rast_common.specs.Message.{message_line}

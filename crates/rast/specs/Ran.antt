@@ -17,14 +17,14 @@ use Rattle.rast.specs.RangedLines.{ranged_lines}
 use Rattle.syntax_tree.specs.Ranged.{ranged}
 use Rattle.rast_print.specs.declared.printer.Printer.{Printer}
 
--- A fault came before the first write: the output is as it was, and the line reports the fault.
+-- A fault occurred before the first write: the output is as it was, and the line reports the fault.
 pub record StopsBefore {W : Type 0} (text : List ℕ) (edition : Edition) (before after : W) (line : List ℕ) : Type 0 where
   pub fault : TextFault Memory
   pub comes : Comes text edition fault
   pub untouched : after ≡ before
   pub is : line ≡ fault_line fault
 
--- the lines of a tree, with the places of its nodes and leaves where they are asked for
+-- the lines of a tree, with the places of its nodes and leaves if they are requested
 abbrev pub tree_lines : Bool → List ℕ → StrForest → List ℕ
 tree_lines true text f = ranged_lines text 0 (ranged 0 f)
 tree_lines false text f = printed 0 (str_flat f)
@@ -43,7 +43,7 @@ pub record StopsWriting (ranges : Bool) (text : List ℕ) (edition : Edition) (e
   pub printed : ArePrinted ranges text edition entry printer
   pub is : line ≡ cannot_write
 
--- a fault stopped the program, and what is asked holds of the line that reports it
+-- a fault stopped the program, and the condition holds for the line that reports it
 abbrev pub IfStops : {W : Type 0} → Bool → List ℕ → Edition → TopEntryPoint → W → W → (List ℕ → Type 0) → Type 0
 IfStops ranges text edition entry before after Asked =
     (line : List ℕ) × (StopsBefore text edition before after line ⊎ StopsWriting ranges text edition entry line) × Asked line

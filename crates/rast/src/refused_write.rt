@@ -1,4 +1,4 @@
-//! What `run` leaves where its output fails at one of its calls.
+//! What `run` has written when its output fails at one of the calls.
 use crate::run::run;
 use ra_ap_parser::{Edition, TopEntryPoint};
 use std::io;
@@ -8,7 +8,7 @@ const TREE: &str = "BIN_EXPR\n  LITERAL\n    INT_NUMBER \"1\"\n  PLUS \"+\"\n  E
 
 const MESSAGES: &str = "error 2: expected expression\n";
 
-/// An output that takes as many calls as are left, keeps what they write, and fails at the next one.
+/// An output that accepts as many calls as are left, keeps what they write, and fails at the next one.
 #[derive(Drop)]
 struct Failing {
     taken: Vec<u8>,

@@ -13,7 +13,7 @@ use rast_print::printer::Printer;
 use std::alloc::Global;
 use std::io;
 
-/// What a fault is called on the error stream.
+/// The message of a fault on the error stream.
 fn fault_message<R>(fault: &TextFault<R>) -> &'static str
     ensures { result.now ≡ fault_line fault.now }
 {
@@ -24,7 +24,7 @@ fn fault_message<R>(fault: &TextFault<R>) -> &'static str
     }
 }
 
-/// The lines of the text's tree, with the places of its nodes and leaves where they are wanted, and of its messages.
+/// The lines of the text's tree, with the places of its nodes and leaves if requested, and of its messages.
 fn print(
     alloc: Global,
     edition: Edition,

@@ -26,7 +26,7 @@ messages_few (token kind width ∷ steps) = omega (arith, messages_few steps)
 messages_few (float_split ends_in_dot ∷ steps) = omega (arith, messages_few steps)
 messages_few (error bytes ∷ steps) = omega (arith, messages_few steps)
 
--- the lines along the steps that a sink takes
+-- the lines along the steps that a sink accepts
 lines_along : (steps : List StrStepValue) (s t : Holder) → Takes Holds s steps t → string_bytes t.lines ≡ string_bytes s.lines ++ str_lines steps
 lines_along [] s t h = ap (λ (p : Holder). string_bytes p.lines) (sym h) ∙ sym (append-nil (string_bytes s.lines))
 lines_along (x ∷ xs) s t h =
@@ -35,7 +35,7 @@ lines_along (x ∷ xs) s t h =
     ∙ (ap (λ l. l ++ str_lines xs) h.1.lines
     ∙ append_assoc (string_bytes s.lines) (str_line x) (str_lines xs))
 
--- how many more it takes after them
+-- how many more it accepts after them
 left_along : (steps : List StrStepValue) (s t : Holder) → Takes Holds s steps t → t.left + length steps ≡ s.left
 left_along [] s t h = let same : t.left ≡ s.left = ap (λ (p : Holder). p.left) (sym h) in omega (arith, same)
 left_along (x ∷ xs) s t h = let m = h.0 in omega (arith, left_along xs m t h.2, h.1.left)
@@ -57,7 +57,7 @@ holds_all text edition entry count lexed whole s t lines none_yet from h is =
       is = is ∙ (ap (λ a. string_bytes t.lines ++ answer_line a) h.all ∙ ap (λ l. l ++ codes "answer true\n") here);
     })
 
--- the first of the steps, where it refused the next one
+-- the first of the steps, if it refused the next one
 pub holds_first : (text : List ℕ) (edition : Edition) (entry : TopEntryPoint) (count : ℕ) (fault : TextFault Refusal) (s t : Holder) (lines : List ℕ)
     → string_bytes s.lines ≡ [] → s.left ≡ count
     → fault ≡ Refused Full

@@ -51,7 +51,7 @@ pub record HasTooMany (text : List ℕ) (edition : Edition) : Type 0 where
   pub lexing : IsLexing text edition lexed
   pub many : max_tokens < length (records lexed.tokens edition)
 
--- when a fault comes of a text whose tree is built
+-- when a fault occurs for a text whose tree is built
 abbrev pub ComesOfBuild : List ℕ → Edition → CallFault → Type 0
 ComesOfBuild text edition TextTooLong = 4294967295 < length text
 ComesOfBuild text edition TooManyTokens = HasTooMany text edition

@@ -1,4 +1,4 @@
--- What a sink holds that takes so many steps of a text's tree.
+-- What a sink holds that accepts a number of steps of a text's tree.
 use Rattle.std.specs.Prelude.{◌≡◌, ◌⊎◌, ◌≤◌, ◌<◌, ◌+◌, ℕ, Bool, true, false, List, [], ◌∷◌, ◌++◌, length, codes, chars, string_bytes}
 use Rattle.rap_base.specs.Names.{name_of}
 use Rattle.rap_base.specs.declared.edition.Edition.{Edition}
@@ -29,22 +29,22 @@ abbrev pub str_lines : List StrStepValue → List ℕ
 str_lines [] = []
 str_lines (step ∷ steps) = str_line step ++ str_lines steps
 
--- the line of whether the sink has been handed all of the text
+-- the line that says whether all of the text was passed to the sink
 abbrev pub answer_line : Bool → List ℕ
 answer_line true = codes "answer true\n"
 answer_line false = codes "answer false\n"
 
--- a step is taken: its line is added, and one less is taken after it
+-- a step is accepted: its line is added, and one step fewer is accepted after it
 pub record Holds (old : Holder) (step : StrStepValue) (new : Holder) : Type 0 where
   pub lines : string_bytes new.lines ≡ string_bytes old.lines ++ str_line step
   pub left : new.left + 1 ≡ old.left
 
--- a step is refused: none was to be taken, and the lines stay; if it is out of memory, nothing is specified
+-- a step is refused: no more steps are accepted, and the lines do not change; out of memory, nothing is specified
 abbrev pub Refuses : Holder → StrStepValue → Refusal → Holder → Type 0
 Refuses old step refusal.Full new = (old.left ≡ 0) × (string_bytes new.lines ≡ string_bytes old.lines)
 Refuses old step refusal.NoMemory new = Unit {0}
 
--- all steps of the text's tree were taken, and the answer is true
+-- all steps of the text's tree were accepted, and the result is true
 pub record HoldsAll (text : List ℕ) (edition : Edition) (entry : TopEntryPoint) (count : ℕ) (lines : List ℕ) : Type 0 where
   pub lexed : Lexed
   pub forest : Forest
@@ -52,7 +52,7 @@ pub record HoldsAll (text : List ℕ) (edition : Edition) (entry : TopEntryPoint
   pub few : length (str_flat (with_trivia lexed.tokens forest)) ≤ count
   pub is : lines ≡ str_lines (str_flat (with_trivia lexed.tokens forest)) ++ codes "answer true\n"
 
--- so many of them were taken, and there is one more, which was refused
+-- a number of them were accepted, and there is one more, which was refused
 pub record HoldsFirst (text : List ℕ) (edition : Edition) (entry : TopEntryPoint) (count : ℕ) (lines : List ℕ) : Type 0 where
   pub lexed : Lexed
   pub forest : Forest
@@ -67,7 +67,7 @@ pub record HoldsFirst (text : List ℕ) (edition : Edition) (entry : TopEntryPoi
 abbrev pub IsHeld : List ℕ → Edition → TopEntryPoint → ℕ → List ℕ → Type 0
 IsHeld text edition entry count lines = HoldsAll text edition entry count lines ⊎ HoldsFirst text edition entry count lines
 
--- when a fault comes of a text whose steps are handed out
+-- when a fault occurs for a text whose steps are passed to the sink
 abbrev pub ComesOfSteps : List ℕ → Edition → CallFault → Type 0
 ComesOfSteps text edition TextTooLong = 4294967295 < length text
 ComesOfSteps text edition TooManyTokens = HasTooManyTokens text edition

@@ -1,5 +1,5 @@
--- What is listed of calls, and when nothing is.
-use Rattle.std.specs.Prelude.{◌≡◌, ◌⊎◌, ◌≤◌, ◌<◌, ◌+◌, ℕ, zero, suc, List, [], ◌∷◌, ◌++◌, length, codes, string_bytes}
+-- What is listed of calls, and when nothing is listed.
+use Rattle.std.specs.Prelude.{◌≡◌, ◌⊎◌, ◌≤◌, ◌+◌, ℕ, zero, suc, List, [], ◌∷◌, ◌++◌, length, codes, string_bytes}
 use Rattle.std.specs.Fmt.{decimal}
 use Rattle.std.specs.declared.ops.Range.{Range}
 use Rattle.rap_events.specs.Forest.{Forest, flat}
@@ -15,14 +15,14 @@ use Rattle.rast_calls.specs.declared.asked.Way.{Way}
 use Rattle.rast_calls.specs.declared.pushed.CallFault.{CallFault}
 use Rattle.rast_calls.specs.declared.pushed.CallFault.TheVariants.{NoMemory}
 
--- an input that no token was pushed to
+-- an input to which no token was pushed
 abbrev pub capacity_lines : List ℕ
 capacity_lines = codes "length " ++ (decimal 0 ++ codes "\n")
 
 abbrev pub span : ℕ → ℕ → Range ℕ
 span start end = record { start = start; end = end }
 
--- so many spans of one byte, from the text's begin on
+-- n spans of one byte, from the start of the text on
 abbrev pub spans : ℕ → List (Range ℕ)
 spans zero = []
 spans (suc n) = spans n ++ span n (n + 1) ∷ []
@@ -30,12 +30,12 @@ spans (suc n) = spans n ++ span n (n + 1) ∷ []
 abbrev pub places : ℕ → ℕ → List ℕ
 places start end = decimal start ++ (codes ".." ++ decimal end)
 
--- spans, each behind a space
+-- spans, each after a space
 abbrev pub shown_spans : List (Range ℕ) → List ℕ
 shown_spans [] = []
 shown_spans (r ∷ rs) = codes " " ++ (places r.start r.end ++ shown_spans rs)
 
--- a refusal's message, the span that it speaks of, and those beside it
+-- a refusal's message, the span that it is about, and those beside it
 abbrev pub refusal_lines : List ℕ → ℕ → ℕ → ℕ → List ℕ
 refusal_lines message start end count =
     codes "refused " ++ (message
@@ -69,7 +69,7 @@ pub record IsCounted (way : Way) (tokens : Tokens) (lines : List ℕ) : Type 0 w
   pub made : IsMade way (pushed tokens.token tokens.every tokens.count) output
   pub is : lines ≡ count_lines (flat output)
 
--- The first of the tokens, as many as the input has, and its steps: after a refused push it is as it was.
+-- The first of the tokens, as many as the input has, and its steps: a refused push does not change the input.
 pub record IsKept (way : Way) (tokens : Tokens) (lines : List ℕ) : Type 0 where
   pub count : ℕ
   pub few : count ≤ tokens.count
@@ -77,16 +77,16 @@ pub record IsKept (way : Way) (tokens : Tokens) (lines : List ℕ) : Type 0 wher
   pub made : IsMade way (pushed tokens.token tokens.every count) output
   pub is : lines ≡ kept_lines count count ++ step_lines (flat output)
 
--- when a fault comes of an input of all the tokens
+-- when a fault occurs for an input of all the tokens
 abbrev pub ComesOfTokens : Way → Tokens → CallFault → Type 0
 ComesOfTokens way tokens fault = ComesOfInput tokens fault ⊎ ComesOfOutput way (pushed tokens.token tokens.every tokens.count) fault
 
--- when a fault comes of one of the first of them
+-- when a fault occurs for one of the first of them
 abbrev pub ComesOfKept : Way → Tokens → CallFault → Type 0
 ComesOfKept way tokens fault =
     ComesOfInput tokens fault ⊎ ((count : ℕ) × (count ≤ tokens.count) × ComesOfOutput way (pushed tokens.token tokens.every count) fault)
 
--- what is asked is listed
+-- what is requested is listed
 abbrev pub Lists : List ℕ → Asked → List ℕ → Type 0
 Lists text (Capacity capacity) lines = lines ≡ capacity_lines
 Lists text (Frontmatter message start end count) lines = lines ≡ refusal_lines (string_bytes message) start end count
@@ -96,7 +96,7 @@ Lists text (Count way tokens) lines = IsCounted way tokens lines
 Lists text (Sink count entry edition) lines = IsHeld text edition entry count lines
 Lists text (Build entry edition) lines = IsBuilt text edition entry lines
 
--- when a fault comes
+-- when a fault occurs
 abbrev pub Comes : List ℕ → Asked → CallFault → Type 0
 Comes text (Capacity capacity) fault = fault ≡ NoMemory
 Comes text (Frontmatter message start end count) fault = fault ≡ NoMemory

@@ -1,5 +1,5 @@
 -- Inputs of tokens that are pushed, and what is made of them.
-use Rattle.std.specs.Prelude.{◌≡◌, ◌≢◌, ◌<◌, ◌+◌, ◌%◌, ◌==◌, ℕ, zero, suc, Bool, true, false, if◌then◌else◌, List, [], ◌∷◌, ◌++◌, length}
+use Rattle.std.specs.Prelude.{◌≡◌, ◌≢◌, ◌<◌, ◌%◌, ◌==◌, ℕ, zero, suc, Bool, true, false, if◌then◌else◌, List, [], ◌∷◌, ◌++◌, length}
 use Rattle.rap_base.specs.Limits.{max_tokens}
 use Rattle.rap_base.specs.TokenKind.{EOF, IDENT, L_CURLY}
 use Rattle.rap_base.specs.TokenTests.{is_token}
@@ -26,11 +26,11 @@ abbrev pub record_of_token : Token → Bool → Record
 record_of_token (Kind kind) joint = record { kind = kind; contextual = EOF; edition = Edition2024; joint = joint }
 record_of_token (Ident kind) joint = record { kind = IDENT; contextual = kind; edition = Edition2024; joint = joint }
 
--- whether the token at a place touches the one after it: the first does and every so many-th after it; at 0 none does
+-- whether the token at a place touches the one after it: the first and every n-th after it do; at 0 none does
 abbrev pub touches : ℕ → ℕ → Bool
 touches every i = if every == 0 then false else (i % every == 0)
 
--- an input of so many tokens
+-- an input of n tokens
 abbrev pub pushed : Token → ℕ → ℕ → List Record
 pushed token every zero = []
 pushed token every (suc n) = pushed token every n ++ record_of_token token (touches every n) ∷ []
@@ -41,13 +41,13 @@ IsMade (Top entry) input output = IsOutputOf entry input output
 IsMade (Prefix entry) input output = IsPrefixOutputOf entry input output
 IsMade (Node part) input output = (asks_brace part ≡ true → next_kind input ≡ L_CURLY) × IsPrefixOf (part_script part) input output
 
--- a node begins with a brace, and the input does not
+-- the node must begin with a brace, and the input does not
 abbrev pub LacksBrace : Way → List Record → Type 0
 LacksBrace (Top entry) input = ⊥
 LacksBrace (Prefix entry) input = ⊥
 LacksBrace (Node part) input = (asks_brace part ≡ true) × (next_kind input ≢ L_CURLY)
 
--- when a fault comes of an input that is there
+-- when a fault occurs for an input whose tokens were all pushed
 abbrev pub ComesOfOutput : Way → List Record → CallFault → Type 0
 ComesOfOutput way input TextTooLong = ⊥
 ComesOfOutput way input TooManyTokens = max_tokens < length input
@@ -55,7 +55,7 @@ ComesOfOutput way input NoBrace = LacksBrace way input
 ComesOfOutput way input NoToken = ⊥
 ComesOfOutput way input NoMemory = Unit {0}
 
--- when a fault comes while tokens are pushed
+-- when a fault occurs while tokens are pushed
 abbrev pub ComesOfInput : Tokens → CallFault → Type 0
 ComesOfInput tokens TextTooLong = ⊥
 ComesOfInput tokens TooManyTokens = ⊥

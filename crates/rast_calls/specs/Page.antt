@@ -1,4 +1,4 @@
--- What is written of calls, and when nothing is.
+-- What is written for calls, and when nothing is written.
 use Rattle.std.specs.Prelude.{◌≡◌, ◌⊎◌, ℕ, List, Option}
 use Rattle.std.specs.Io.KnownBytes.{Appends}
 use Rattle.rast_calls.specs.Listed.{Comes, Lists}
@@ -6,7 +6,7 @@ use Rattle.rast_calls.specs.Words.{cannot_write, fault_line}
 use Rattle.rast_calls.specs.declared.asked.Asked.{Asked}
 use Rattle.rast_calls.specs.declared.pushed.CallFault.{CallFault}
 
--- A fault came before the first write: the output is as it was, and the line reports the fault.
+-- A fault occurred before the first write: the output is as it was, and the line reports the fault.
 pub record StopsBefore {W : Type 0} (text : List ℕ) (asked : Asked) (before after : W) (line : List ℕ) : Type 0 where
   pub fault : CallFault
   pub comes : Comes text asked fault
@@ -19,7 +19,7 @@ pub record StopsWriting (text : List ℕ) (asked : Asked) (line : List ℕ) : Ty
   pub lists : Lists text asked lines
   pub is : line ≡ cannot_write
 
--- a fault stopped the program, and what is asked holds of the line that reports it
+-- a fault stopped the program, and the condition holds for the line that reports it
 abbrev pub IfStops : {W : Type 0} → List ℕ → Asked → W → W → (List ℕ → Type 0) → Type 0
 IfStops text asked before after Holds =
     (line : List ℕ) × (StopsBefore text asked before after line ⊎ StopsWriting text asked line) × Holds line

@@ -3,7 +3,7 @@ use Rattle.std.specs.Prelude.{List, ℕ, codes}
 use Rattle.rast_calls.specs.declared.pushed.CallFault.{CallFault}
 use Rattle.rast_calls.specs.declared.pushed.CallFault.TheVariants.{TextTooLong, TooManyTokens, NoBrace, NoToken, NoMemory}
 
--- what is reported where the output refuses a write
+-- what is reported when the output refuses a write
 abbrev pub cannot_write : List ℕ
 cannot_write = codes "rast_calls: cannot write\n"
 

@@ -1,12 +1,12 @@
 //! The calls to make, and their arguments.
 use ra_ap_parser::{Edition, PrefixEntryPoint, Reparser, SyntaxKind, TopEntryPoint};
 
-/// What reads an input.
+/// How an input is parsed.
 #[derive(Clone, Copy, Debug)]
 pub enum Way {
-    /// A top entry point, which reads the whole input.
+    /// A top entry point, which parses the whole input.
     Top(TopEntryPoint),
-    /// A prefix entry point, which reads from the front.
+    /// A prefix entry point, which parses a prefix.
     Prefix(PrefixEntryPoint),
     /// A node that is parsed again.
     Node(Reparser),
@@ -28,16 +28,16 @@ pub struct Tokens {
     pub token: Token,
     /// How many there are.
     pub count: usize,
-    /// The first and every so many-th after it touch the next one. At 0 none does.
+    /// The first and every n-th after it touch the next one. At 0 none does.
     pub every: usize,
 }
 
 /// Which calls are made.
 #[derive(Drop)]
 pub enum Asked {
-    /// An input is made with room for so many tokens.
+    /// An input is made with capacity for this number of tokens.
     Capacity(usize),
-    /// A refusal of a script source is made, with a message, a span, and so many spans beside it.
+    /// A refusal of a script source is made, with a message, a span, and this number of spans beside it.
     Frontmatter {
         message: String,
         start: usize,
@@ -46,11 +46,11 @@ pub enum Asked {
     },
     /// The steps of an input of these tokens.
     Push(Way, Tokens),
-    /// The steps of an input of these tokens, as far as pushes are not refused.
+    /// The steps of an input of these tokens up to the first push that is refused.
     Kept(Way, Tokens),
     /// How many steps and messages an input of these tokens has.
     Count(Way, Tokens),
-    /// What a sink holds of a text's steps if it takes so many, and refuses the next one.
+    /// What a sink holds of a text's steps if it accepts this number of them, and refuses the next one.
     Sink {
         count: usize,
         entry: TopEntryPoint,

@@ -14,7 +14,7 @@ use ra_ap_parser::{Input, NoMemory, Output, Step};
 use std::alloc::{AllocError, Global};
 use std::fmt::Write as _;
 
-/// Makes an input with room for so many tokens, and lists how many it has.
+/// Makes an input with capacity for `room` tokens, and lists how many it has.
 fn list_capacity(alloc: Global, capacity: usize) -> Result<String, CallFault>
     ensures lists { IfOk result (λ lines. string_bytes lines ≡ capacity_lines) }
     ensures fault { IfErr result (λ fault. fault ≡ CallFault.NoMemory) }
@@ -25,7 +25,7 @@ fn list_capacity(alloc: Global, capacity: usize) -> Result<String, CallFault>
     Ok(lines)
 }
 
-/// A refusal with so many spans beside it: 0..1, 1..2 and so on.
+/// A refusal with `count` spans beside it: 0..1, 1..2 and so on.
 fn refusal_of(
     alloc: Global,
     message: &str,

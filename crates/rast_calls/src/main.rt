@@ -24,7 +24,7 @@ const USAGE: &str = "usage: rast_calls capacity COUNT\n       \
 
 const UNREADABLE: &str = "rast_calls: cannot read the file\n";
 
-/// The text of the file, or an empty one where none is named.
+/// The text of the file, or an empty text if no file is named.
 fn read_text<R: Files + AllocGlobal>(rt: &R, file: &Option<String>) -> Option<String> {
     match file {
         Some(file) => fs::read_to_string(rt, file.as_str()).ok(),

@@ -15,7 +15,7 @@ pub enum CallFault {
     TooManyTokens,
     /// The node must begin with a `{`, and the input does not.
     NoBrace,
-    /// The kind is no token's, or the end's.
+    /// The kind is not a token's, or it is the end's.
     NoToken,
     /// Out of memory: the allocator refused a request.
     NoMemory,
@@ -69,7 +69,7 @@ impl From<ParseFault> for CallFault {
     }
 }
 
-/// Whether the token may be pushed: the end may not, but an identifier may be read as it, which is as nothing else.
+/// Whether the token may be pushed: the end may not; an identifier that may be read as the end has no second reading.
 fn may_be_pushed(token: Token) -> bool
     ensures can { IsTrue result → CanPush token }
     ensures cannot { IsFalse result → CanPush token → ⊥ }
@@ -105,7 +105,7 @@ fn push_token(input: &mut Input, token: Token, joint: bool) -> Result<(), NoMemo
     Ok(())
 }
 
-/// Pushes the tokens, and gives how many there were before a push was refused.
+/// Pushes the tokens, and returns how many were pushed before a push was refused.
 fn push_tokens(input: &mut Input, tokens: &Tokens) -> usize
     requires can { CanPush tokens.now.token }
     requires none { input.old ≡ [] }
@@ -128,7 +128,7 @@ pub struct Pushed {
     pub count: usize,
 }
 
-/// An input of the tokens, up to the first whose push is refused. There is room for none of them at first.
+/// An input of the tokens, up to the first whose push is refused. Its capacity is 0 at first.
 pub fn input_of_first(alloc: Global, tokens: &Tokens) -> Result<Pushed, CallFault>
     ensures few { IfOk result (λ p. p.count ≤ tokens.now.count) }
     ensures pushed { IfOk result (λ p. p.input ≡ pushed tokens.now.token tokens.now.every p.count) }

@@ -90,7 +90,7 @@ fn read_entry(args: &mut Args) -> Option<(TopEntryPoint, Edition)> {
     Some((entry, edition))
 }
 
-/// Reads the words behind `sink`, without the file.
+/// Reads the words after `sink`, without the file.
 fn read_sink(args: &mut Args) -> Option<Asked> {
     let count = read_number(args)?;
     let (entry, edition) = read_entry(args)?;
@@ -101,7 +101,7 @@ fn read_sink(args: &mut Args) -> Option<Asked> {
     })
 }
 
-/// Reads the words behind `build`, without the file.
+/// Reads the words after `build`, without the file.
 fn read_build(args: &mut Args) -> Option<Asked> {
     let (entry, edition) = read_entry(args)?;
     Some(Asked::Build { entry, edition })

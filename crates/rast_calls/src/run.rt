@@ -11,7 +11,7 @@ use rast_common::fault::report;
 use std::alloc::Global;
 use std::io;
 
-/// What a fault is called on the error stream.
+/// The message of a fault on the error stream.
 fn fault_message(fault: CallFault) -> &'static str
     ensures { result.now ≡ fault_line fault }
 {
@@ -34,7 +34,7 @@ fn write_lines<W: io::Write>(out: &mut W, lines: &str) -> io::Result<()>
 
 /// Makes the calls that the arguments name, and writes their results.
 ///
-/// Gives the program's status: 0 where it is written, and 2 at a fault, which is reported on `err`. At a fault nothing
+/// Returns the program's status: 0 if it is written, and 2 at a fault, which is reported on `err`. At a fault nothing
 /// is written to `out`, unless `out` itself refused a write. The error is that of `err`, where it refused the report.
 pub fn run<W: io::Write, V: io::Write>(
     alloc: Global,

@@ -1,4 +1,4 @@
-//! A sink that takes so many steps of a text's tree, and refuses the next one.
+//! A sink that accepts a number of steps of a text's tree, and refuses the next one.
 ghost use Rattle.std.specs.Prelude.{◌≡◌, ◌+◌, IfErr, IfOk, OnErr, OnOk, string_bytes};
 ghost use Rattle.rast_calls.specs.Held.{ComesOfSteps, IsHeld, answer_line};
 
@@ -12,7 +12,7 @@ use std::fmt::Write as _;
 /// Why a step is refused.
 #[derive(Clone, Copy, Debug, PartialEq, Eq)]
 pub enum Refusal {
-    /// So many steps were taken as were to be.
+    /// As many steps were accepted as the sink accepts.
     Full,
     /// Out of memory: the allocator refused a request.
     NoMemory,
@@ -28,7 +28,7 @@ impl From<AllocError> for Refusal {
     }
 }
 
-/// The lines of the steps that were taken, and how many more are taken.
+/// The lines of the steps that were accepted, and how many more are accepted.
 #[derive(Drop)]
 pub struct Holder {
     pub lines: String,
@@ -40,7 +40,7 @@ impl Holder {
     ghost use Rattle.rap_lexed.specs.StrStep.{str_enter, str_exit, str_token, str_error};
     ghost use Rattle.rast_calls.specs.Held.{Holds, Refuses};
 
-    /// Takes one step less from here on, or refuses it.
+    /// Counts a step as accepted, or refuses it.
     fn take(&mut self) -> Result<(), Refusal>
         ensures ok { OnOk result ((self.new.left + 1 ≡ self.old.left) × (self.new.lines ≡ self.old.lines)) }
         ensures err { OnErr result ((self.old.left ≡ 0) × (self.new ≡ self.old)) }
@@ -121,7 +121,7 @@ fn answer_of(whole: bool) -> &'static str
     }
 }
 
-/// The lines of the steps of a text's tree that such a sink takes, and whether these are all.
+/// The lines of the steps of a text's tree that such a sink accepts, and whether these are all.
 pub fn list_held(
     alloc: Global,
     count: usize,

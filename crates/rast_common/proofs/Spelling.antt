@@ -23,11 +23,11 @@ take-indent (suc n) more (suc all) e =
     let twice : 2 * suc n ≡ suc (suc (2 * n)) = omega arith in
     ap (λ k. take k (indent (suc all))) twice ∙ ap (λ l. codes "  " ++ l) (take-indent n more all rest)
 
--- the front of these spaces
+-- a prefix of these spaces
 pub spaces_are : (n : ℕ) → n ≤ 32 → take (2 * n) (codes "                                                                ") ≡ indent n
 spaces_are n h = take-indent n (32 - n) 32 (omega (arith, h))
 
--- some of the spaces were added, and then some more
+-- some of the spaces were added, and then more of them
 pub indent-more : (old mid new : Option (List ℕ)) (all left next : ℕ) (bytes : List ℕ) → left ≤ all → next ≤ left → bytes ≡ indent next
     → Appends old mid (indent (all - left)) → Appends mid new bytes → Appends old new (indent (all - (left - next)))
 indent-more old mid new all left next bytes le within e p q =
@@ -102,14 +102,14 @@ empty_block : (known : Option (List ℕ)) (items : List ℕ) → items ≡ [] �
 empty_block None items e = tt
 empty_block (Some x) items e = ap (λ l. x ++ l) e
 
--- A block that is written holds nothing behind what is written.
+-- A block that is written holds no bytes after those that are written.
 pub written_block : (before mid after : Option (List ℕ)) (items all : List ℕ) → Appends before (append_known mid items) all → Appends mid after items → Appends before after all
 written_block None mid after items all p q = tt
 written_block (Some x) None after items all p q = absurd p
 written_block (Some x) (Some y) None items all p q = absurd q
 written_block (Some x) (Some y) (Some z) items all p q = q ∙ p
 
--- All is added but the text from a place on.
+-- All of the text was added except the part from a place on.
 pub record AddsFront (before known : Option (List ℕ)) (start : ℕ) (is : List Indent) (t all : List ℕ) : Type 0 where
   pub front : List ℕ
   pub added : Appends before known front

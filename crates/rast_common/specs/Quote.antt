@@ -10,9 +10,9 @@ hex_digit n = if nat_lt n 10 then 48 + n else 87 + n
 abbrev pub hex_digits : ℕ → List ℕ
 hex_digits n = if nat_lt n 16 then hex_digit n ∷ [] else (hex_digit (n / 16) ∷ hex_digit (n % 16) ∷ [])
 
--- A character as it stands between quotes: a quote and a backslash behind a backslash; a line feed, a carriage
--- return, a tab and a zero as a letter behind a backslash; any other ASCII control character by its number; all
--- else as it is.
+-- A character as it is written between quotes: a quote and a backslash after a backslash; a line feed, a carriage
+-- return, a tab and a zero as a letter after a backslash; any other ASCII control character by its number;
+-- anything else unchanged.
 abbrev pub escaped : ℕ → List ℕ
 escaped c =
     if c == 34 then codes "\\\""

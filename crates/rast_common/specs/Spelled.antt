@@ -3,12 +3,12 @@ use Rattle.std.specs.Prelude.{ℕ, ◌≤◌, List, [], ◌∷◌, ◌++◌, dro
 use Rattle.rast_common.specs.Indented.{indent}
 use Rattle.rast_common.specs.declared.indented.Indent.{Indent}
 
--- the text from a place on, with the spaces of the indentations that stand in it from there on
+-- the text from a place on, with the spaces of the indentations from there on
 abbrev pub spelled : ℕ → List Indent → List ℕ → List ℕ
 spelled start [] text = drop start text
 spelled start (i ∷ is) text = slice_range text start i.at ++ (indent i.levels ++ spelled i.at is text)
 
--- the indentations stand one behind the other, from a place on, and none behind the end
+-- the indentations are in order, from a place on, and none is after the end
 abbrev pub AreInOrder : ℕ → List Indent → ℕ → Type 0
 AreInOrder start [] end = start ≤ end
 AreInOrder start (i ∷ is) end = (start ≤ i.at) × AreInOrder i.at is end

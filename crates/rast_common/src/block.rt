@@ -9,7 +9,7 @@ use std::io;
 /// How many bytes are written together.
 const BLOCK: usize = 8192;
 
-/// Bytes that are not written yet. They lie in the value itself, so that none of its calls wants memory.
+/// Bytes that are not written yet. They are stored in the value itself, so that none of its calls allocates memory.
 pub(crate) type Block = ArrayVec<u8, BLOCK>;
 
 /// The spaces of [`LEVELS`] levels of indentation.
@@ -18,7 +18,7 @@ const SPACES: &str = "                                                          
 /// How many levels of indentation are added at a time.
 const LEVELS: usize = 32;
 
-/// Adds the bytes behind those of the block. Where they do not fit the block is written first.
+/// Adds the bytes after those of the block. If they do not fit, the block is written first.
 pub(crate) fn put<W: io::Write>(block: &mut Block, bytes: &[u8], out: &mut W) -> io::Result<()>
     ensures { OnOk result (Appends (append_known (W.contents out.old) block.old.items)
         (append_known (W.contents out.new) block.new.items) bytes.now) }

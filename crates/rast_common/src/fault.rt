@@ -9,7 +9,7 @@ use std::process::ExitCode;
 /// The status of a fault.
 const FAULT: u8 = 2;
 
-/// Writes the message to the error stream, and returns the status of a fault. An error is that of the stream.
+/// Writes the message to the error stream, and returns the status of a fault. The error is that of the stream.
 pub fn report<V: io::Write>(err: &mut V, message: &str) -> io::Result<u8>
     ensures status { IfOk result (λ status. status ≡ 2) }
     ensures reported { IfOk result (λ _. Appends (V.contents err.old) (V.contents err.new) message.now) }

@@ -11,7 +11,7 @@ use std::fmt::Display;
 use std::io;
 use std::marker::Model;
 
-/// Before which byte of a text spaces stand, and of how many levels.
+/// The byte of a text before which the spaces of an indentation are, and the number of its levels.
 #[derive(Clone, Copy, Debug)]
 pub struct Indent {
     pub at: usize,
@@ -59,7 +59,7 @@ impl IndentedText {
         }
     }
 
-    /// Adds the spaces of so many levels. The error is want of memory, and the text is as it was.
+    /// Adds the spaces of an indentation. The error means out of memory, and the text is as before.
     pub fn indent(&mut self, levels: usize) -> Result<(), AllocError>
         ensures ok { OnOk result (self.new ≡ self.old ++ indent levels) }
         ensures err { OnErr result (self.new ≡ self.old) }
@@ -69,7 +69,7 @@ impl IndentedText {
         Ok(())
     }
 
-    /// Adds a text. The error is want of memory, and the text is as it was.
+    /// Adds a text. The error means out of memory, and the text is as before.
     pub fn push_str(&mut self, text: &str) -> Result<(), AllocError>
         ensures ok { OnOk result (self.new ≡ self.old ++ text.now) }
         ensures err { OnErr result (self.new ≡ self.old) }
@@ -78,7 +78,7 @@ impl IndentedText {
         Ok(())
     }
 
-    /// Adds a text in quotes. The error is want of memory, after which nothing is claimed of the text.
+    /// Adds a text in quotes. The error means out of memory; then nothing is specified about the text.
     pub fn push_quoted(&mut self, text: &str) -> Result<(), AllocError>
         ensures { OnOk result (self.new ≡ self.old ++ quoted (chars text.now)) }
     {
@@ -89,8 +89,8 @@ impl IndentedText {
         Ok(())
     }
 
-    /// Adds what is displayed, whose bytes must be known; `write!` calls it. The error is want of memory, after which
-    /// nothing is claimed of the text.
+    /// Adds what is displayed, whose bytes must be known; `write!` calls it. The error means out of memory; then
+    /// nothing is specified about the text.
     pub fn write_fmt<D: Display + Drop>(&mut self, value: D) -> Result<(), AllocError>
         requires { IsSome (D.output value) }
         ensures { OnOk result (IfSome (D.output value) (λ bytes. self.new ≡ self.old ++ bytes)) }
@@ -102,8 +102,8 @@ impl IndentedText {
         Ok(())
     }
 
-    /// Writes the text, in blocks. No call wants memory. The error is that of a write, after which a front of the text
-    /// may be written.
+    /// Writes the text, in blocks. It allocates no memory. The error is that of a write; then a prefix of the text
+    /// may have been written.
     pub fn write_to<W: io::Write>(&self, out: &mut W) -> io::Result<()>
         ensures { OnOk result (Appends (W.contents out.old) (W.contents out.new) self.now) }
     {

@@ -27,7 +27,7 @@ fn push_hex(out: &mut String, n: u8) -> Result<(), AllocError>
     Ok(())
 }
 
-/// Adds the character as it stands between quotes.
+/// Adds the character as it is written between quotes.
 fn push_escaped(out: &mut String, c: char) -> Result<(), AllocError>
     ensures { OnOk result (string_bytes out.new ≡ string_bytes out.old ++ escaped c) }
 {
@@ -50,8 +50,8 @@ fn push_escaped(out: &mut String, c: char) -> Result<(), AllocError>
 
 /// Adds the text in quotes.
 ///
-/// A quote and a backslash stand after a backslash; a line feed, a carriage return, a tab and a zero are
-/// letters after a backslash; any other ASCII control character is `\u{h}`; all else stands as it is.
+/// A quote and a backslash are written after a backslash; a line feed, a carriage return, a tab and a zero are
+/// letters after a backslash; any other ASCII control character is `\u{h}`; anything else is unchanged.
 pub fn push_quoted(out: &mut String, text: &str) -> Result<(), AllocError>
     ensures { OnOk result (string_bytes out.new ≡ string_bytes out.old ++ quoted (chars text.now)) }
 {

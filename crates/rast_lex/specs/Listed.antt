@@ -19,7 +19,7 @@ lines line (suc n) = lines line n ++ line n
 abbrev pub places : ℕ → ℕ → List ℕ
 places start end = decimal start ++ (codes ".." ++ decimal end)
 
--- the line of the i-th token: its kind, where it stands in the text, and its text in quotes
+-- the line of the i-th token: its kind, its range in the text, and its text in quotes
 abbrev pub token_line : List Token → ℕ → List ℕ
 token_line ts i = name_of (token_at ts i).kind ++ (codes " " ++ (places (start_of ts i) (start_of ts (i + 1)) ++ (codes " " ++ (quoted (chars (token_at ts i).text) ++ codes "\n"))))
 
@@ -36,17 +36,17 @@ truth false = codes "false"
 abbrev pub record_line : List Record → ℕ → List ℕ
 record_line rs i = name_of (kind_at rs i) ++ (codes " " ++ (name_of (contextual_at rs i) ++ (codes " " ++ (truth (joint_at rs i) ++ codes "\n"))))
 
--- the line of a text that is one token: its kind, and its last message, or a dash where it has none
+-- the line of a text that is one token: its kind, and its last message, or a dash if it has none
 abbrev pub single_line : ℕ → Option (List ℕ) → List ℕ
 single_line kind None = name_of kind ++ codes " -\n"
 single_line kind (Some message) = name_of kind ++ (codes " error " ++ (message ++ codes "\n"))
 
--- the line of a script's part: where it stands, if there is one
+-- the line of a script's part: its range, if there is one
 abbrev pub part_line : List ℕ → Option (Range ℕ) → List ℕ
 part_line name None = name ++ codes " none\n"
 part_line name (Some r) = name ++ (codes " " ++ (places r.start r.end ++ codes "\n"))
 
--- the lines of a text that is accepted as a script source: where its parts stand
+-- the lines of a text that is accepted as a script source: the ranges of its parts
 abbrev pub script_lines : Script → List ℕ
 script_lines s =
     codes "accepted\n"
@@ -57,12 +57,12 @@ script_lines s =
     ++ (part_line (codes "close") s.close
     ++ part_line (codes "content") (Some s.content))))))
 
--- spans, each behind a space
+-- spans, each after a space
 abbrev pub shown_spans : List (Range ℕ) → List ℕ
 shown_spans [] = []
 shown_spans (r ∷ rs) = codes " " ++ (places r.start r.end ++ shown_spans rs)
 
--- the lines of a text that is refused: the message, the span that it speaks of, and those to show beside it
+-- the lines of a text that is refused: the message, the span that it is about, and those to show beside it
 abbrev pub refusal_lines : Refusal → List ℕ
 refusal_lines e =
     codes "refused " ++ (e.message

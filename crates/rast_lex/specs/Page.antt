@@ -1,4 +1,4 @@
--- What is listed of a text, and whether a message is among it.
+-- What is listed of a text, and whether a message is listed.
 use Rattle.std.specs.Prelude.{◌≡◌, ◌≢◌, ◌⊎◌, ◌↔◌, ◌<◌, ◌≤◌, IsTrue, IsFalse, ℕ, List, [], ◌++◌, Option, None, length, codes, string_bytes}
 use Rattle.std.specs.Io.KnownBytes.{Appends}
 use Rattle.rap_base.specs.declared.edition.Edition.{Edition}
@@ -22,14 +22,14 @@ pub record ListsTokens (text : List ℕ) (edition : Edition) (page : Page) : Typ
   pub is : string_bytes page.lines ≡ lines (token_line lexed.tokens) (length lexed.tokens) ++ message_lines lexed.errors
   pub reported : IsTrue page.has_message ↔ (lexed.errors ≢ [])
 
--- what the parser reads of the text, a line for each token that is no trivia
+-- the parser's input for the text, a line for each token that is no trivia
 pub record ListsInput (text : List ℕ) (edition : Edition) (page : Page) : Type 0 where
   pub lexed : Lexed
   pub lexing : IsLexing text edition lexed
   pub is : string_bytes page.lines ≡ lines (record_line (records lexed.tokens edition)) (length (records lexed.tokens edition))
   pub quiet : IsFalse page.has_message
 
--- the text is no one token, and the line says so
+-- the text is not one token, and the line says so
 pub record ListsNone (text : List ℕ) (edition : Edition) (page : Page) : Type 0 where
   pub none : IsNotOneToken edition text
   pub is : string_bytes page.lines ≡ codes "none\n"
@@ -46,7 +46,7 @@ pub record ListsOne (text : List ℕ) (edition : Edition) (page : Page) : Type 0
 abbrev pub ListsSingle : List ℕ → Edition → Page → Type 0
 ListsSingle text edition page = ListsNone text edition page ⊎ ListsOne text edition page
 
--- the text is a script source, and the lines say where its parts stand
+-- the text is a script source, and the lines have the ranges of its parts
 pub record ListsParts (text : List ℕ) (page : Page) : Type 0 where
   pub script : Script
   pub accepted : IsScript text script
@@ -63,19 +63,19 @@ pub record ListsRefusal (text : List ℕ) (page : Page) : Type 0 where
 abbrev pub ListsScript : List ℕ → Page → Type 0
 ListsScript text page = ListsParts text page ⊎ ListsRefusal text page
 
--- what is asked is listed
+-- what is requested is listed
 abbrev pub Lists : List ℕ → Edition → Listing → Page → Type 0
 Lists text edition Tokens page = ListsTokens text edition page
 Lists text edition Input page = ListsInput text edition page
 Lists text edition Single page = ListsSingle text edition page
 Lists text edition script page = ListsScript text page
 
--- when a fault comes: the parts of a script are listed of a text of any length
+-- when a fault occurs: the parts of a script are listed of a text of any length
 abbrev pub Comes : List ℕ → Listing → LexFault → Type 0
 Comes text listing TextTooLong = (4294967295 < length text) × (listing ≢ script)
 Comes text listing NoMemory = (length text ≤ 4294967295) ⊎ (listing ≡ script)
 
--- A fault came before the first write: the output is as it was, and the line reports the fault.
+-- A fault occurred before the first write: the output is as it was, and the line reports the fault.
 pub record StopsBefore {W : Type 0} (text : List ℕ) (listing : Listing) (before after : W) (line : List ℕ) : Type 0 where
   pub fault : LexFault
   pub comes : Comes text listing fault
@@ -88,12 +88,12 @@ pub record StopsWriting (text : List ℕ) (edition : Edition) (listing : Listing
   pub lists : Lists text edition listing page
   pub is : line ≡ cannot_write
 
--- a fault stopped the program, and what is asked holds of the line that reports it
+-- a fault stopped the program, and the condition holds for the line that reports it
 abbrev pub IfStops : {W : Type 0} → List ℕ → Edition → Listing → W → W → (List ℕ → Type 0) → Type 0
 IfStops text edition listing before after Asked =
     (line : List ℕ) × (StopsBefore text listing before after line ⊎ StopsWriting text edition listing line) × Asked line
 
--- It was written, and the status is 0 where no message is among it, and else 1.
+-- It was written, and the status is 0 if no message is listed, and 1 otherwise.
 pub record Shows (text : List ℕ) (edition : Edition) (listing : Listing) (status : ℕ) (before after : Option (List ℕ)) : Type 0 where
   pub page : Page
   pub lists : Lists text edition listing page

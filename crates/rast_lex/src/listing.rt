@@ -12,7 +12,7 @@ use rast_common::quote::push_quoted;
 use std::alloc::{AllocError, Global};
 use std::fmt::Write as _;
 
-/// The lines that are listed, and whether a message is among them.
+/// The lines that are listed, and whether one of them is a message.
 #[derive(Drop)]
 pub struct Page {
     pub lines: String,
@@ -158,7 +158,7 @@ fn push_part(lines: &mut String, name: &str, part: &Option<Span>) -> Result<(), 
     Ok(())
 }
 
-/// Lists where the parts of a script stand.
+/// Lists the ranges of the parts of a script.
 fn list_parts(alloc: Global, script: &ScriptSource<'_>) -> Result<String, AllocError>
     ensures { IfOk result (λ lines. string_bytes lines ≡ script_lines script.now) }
 {
@@ -198,7 +198,7 @@ fn list_refusal(alloc: Global, error: &FrontmatterError) -> Result<String, Alloc
     Ok(lines)
 }
 
-/// Lists where the parts of a script stand, or why the text is refused as one.
+/// Lists the ranges of the parts of a script, or why the text is refused as one.
 pub fn list_script(alloc: Global, text: &str) -> Result<Page, LexFault>
     ensures lists { IfOk result (ListsScript text.now) }
     ensures never_too_long { result ≢ Err LexFault.TextTooLong }

@@ -1,5 +1,5 @@
-//! `rast_lex EDITION FILE [input|single|script]` prints a file's tokens, what the parser reads of them, the one
-//! token that it is, or the parts of a script.
+//! `rast_lex EDITION FILE [input|single|script]` prints a file's tokens, the parser's input, the file as a single
+//! token, or the parts of a script.
 #![tactic(auto)]
 
 mod listing;

@@ -17,15 +17,15 @@ use std::str::FromStr;
 pub enum Listing {
     /// The tokens and the lexer's messages.
     Tokens,
-    /// What the parser reads of the tokens.
+    /// The parser's input.
     Input,
-    /// The one token that the text is.
+    /// The text as a single token.
     Single,
     /// The parts of a script.
     Script,
 }
 
-/// The word names nothing that is listed.
+/// The word is not the name of a listing.
 #[derive(Clone, Copy, PartialEq, Eq, Debug)]
 pub struct InvalidListing;
 
@@ -58,7 +58,7 @@ fn list(alloc: Global, edition: Edition, listing: Listing, text: &str) -> Result
     }
 }
 
-/// What a fault is called on the error stream.
+/// The message of a fault on the error stream.
 fn fault_message(fault: &LexFault) -> &'static str
     ensures { result.now ≡ fault_line fault.now }
 {

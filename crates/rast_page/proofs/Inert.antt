@@ -25,7 +25,7 @@ one x xs h k = record { all = All-cons (λ b. b ≢ 60) x xs h k.all }
 none : IsInert []
 none = record { all = All-nil (λ b. b ≢ 60) }
 
--- a text that is there in letters, by a test
+-- a literal text, by a test
 written : (xs : List ℕ) → list_all (λ b. not (b == 60)) xs ≡ true → IsInert xs
 written [] e = none
 written (x ∷ xs) e = let p = and_parts (not (x == 60)) (list_all (λ b. not (b == 60)) xs) e in one x xs (λ is. other x is p.0) (written xs p.1)
@@ -43,7 +43,7 @@ hex n = grind arith
 glyph : (n : ℕ) → digit_glyph false n ≢ 60
 glyph n = grind arith
 
--- a character other than `<`, as its bytes
+-- the bytes of a character other than `<`
 encoded : (c : ℕ) → c ≢ 60 → IsInert (encode_utf8 c)
 encoded c other = record { all = reads }
   where

@@ -1,4 +1,4 @@
--- What a page's reader takes for text.
+-- What a browser reads as text.
 use Rattle.std.specs.Prelude.{◌≢◌, ℕ, List}
 use Rattle.std.specs.List.{All}
 

@@ -7,9 +7,9 @@ use Rattle.rast_common.specs.Quote.{hex_digit}
 abbrev pub number_escape : ℕ → List ℕ
 number_escape c = codes "\\u00" ++ (hex_digit (c / 16) ∷ hex_digit (c % 16) ∷ [])
 
--- A character as it stands in a string: a quote and a backslash behind a backslash; a line feed, a carriage return
--- and a tab as a letter behind a backslash; any other ASCII control character, `<`, `>`, `&` and the two separators of
--- lines and paragraphs by their numbers; all else as it is.
+-- A character as it is written in a string: a quote and a backslash after a backslash; a line feed, a carriage return
+-- and a tab as a letter after a backslash; any other ASCII control character, `<`, `>`, `&` and the two separators of
+-- lines and paragraphs by their numbers; anything else unchanged.
 abbrev pub json_escaped : ℕ → List ℕ
 json_escaped c =
     if c == 34 then codes "\\\""

@@ -3,7 +3,7 @@ use Rattle.std.specs.Prelude.{ℕ, List, ◌++◌, codes, string_bytes}
 use Rattle.rast_page.specs.declared.run.Frame.{Frame}
 use Rattle.rast_page.specs.declared.run.Page.{Page}
 
--- an object of the file's name, the tree's steps and the messages, both lists behind a zero that nothing reads
+-- an object of the file's name, the tree's steps and the messages, both lists after a zero that nothing reads
 abbrev pub object : List ℕ → List ℕ → List ℕ → List ℕ
 object name steps messages =
     (codes "{\"file\":" ++ name)

@@ -38,7 +38,7 @@ pub record IsPage (file text : List ℕ) (edition : Edition) (entry : TopEntryPo
   pub name : string_bytes page.name ≡ json_text (chars file)
   pub rows : AreRows text edition entry page.rows
 
--- A fault came before the first write: the output is as it was, and the line reports the fault.
+-- A fault occurred before the first write: the output is as it was, and the line reports the fault.
 pub record StopsBefore {W : Type 0} (text : List ℕ) (edition : Edition) (before after : W) (line : List ℕ) : Type 0 where
   pub fault : TextFault Memory
   pub comes : Comes text edition fault
@@ -51,7 +51,7 @@ pub record StopsWriting (file text : List ℕ) (edition : Edition) (entry : TopE
   pub made : IsPage file text edition entry page
   pub is : line ≡ cannot_write
 
--- a fault stopped the program, and what is asked holds of the line that reports it
+-- a fault stopped the program, and the condition holds for the line that reports it
 abbrev pub IfStops : {W : Type 0} → List ℕ → List ℕ → Edition → TopEntryPoint → W → W → (List ℕ → Type 0) → Type 0
 IfStops file text edition entry before after Asked =
     (line : List ℕ) × (StopsBefore text edition before after line ⊎ StopsWriting file text edition entry line) × Asked line

@@ -19,7 +19,7 @@ abbrev pub step_rows : List StrStepValue → List ℕ
 step_rows [] = []
 step_rows (step ∷ steps) = step_row step ++ step_rows steps
 
--- the items of a message: the byte of the text at which it stands, and what it says
+-- the items of a message: its position in bytes, and its text
 abbrev pub message_row : ℕ → List ℕ → List ℕ
 message_row pos text = codes "," ++ (decimal pos ++ (codes "," ++ json_text (chars text)))
 

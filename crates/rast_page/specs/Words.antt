@@ -3,7 +3,7 @@ use Rattle.std.specs.Prelude.{List, ℕ, codes}
 use Rattle.ra_ap_parser.specs.declared.whole_text.TextFault.{TextFault}
 use Rattle.ra_ap_parser.specs.declared.whole_text.TextFault.TheVariants.{TextTooLong, TooManyTokens, NoMemory, Refused}
 
--- what is reported where the output refuses a write
+-- what is reported when the output refuses a write
 abbrev pub cannot_write : List ℕ
 cannot_write = codes "rast_page: cannot write\n"
 

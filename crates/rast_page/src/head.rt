@@ -1,6 +1,6 @@
-//! What stands in a page before its data: its markup and its style.
+//! The part of a page before its data: its markup and its style.
 
-/// The head of a page. It asks for nothing over the network, and its policy lets it ask for nothing.
+/// The head of a page. It requests nothing over the network, and its policy forbids such requests.
 pub const HEAD: &str = r##"<!doctype html>
 <html lang="en">
 <head>

@@ -16,7 +16,7 @@ fn push_number_escape(out: &mut String, n: u8) -> Result<(), AllocError>
     Ok(())
 }
 
-/// Adds the character as it stands in a JSON string.
+/// Adds the character as it is written in a JSON string.
 fn push_json_escaped(out: &mut String, c: char) -> Result<(), AllocError>
     ensures { OnOk result (string_bytes out.new ≡ string_bytes out.old ++ json_escaped c) }
 {
@@ -36,9 +36,9 @@ fn push_json_escaped(out: &mut String, c: char) -> Result<(), AllocError>
 
 /// Adds the text as a JSON string.
 ///
-/// A quote and a backslash stand after a backslash; a line feed, a carriage return and a tab are letters after a
+/// A quote and a backslash are written after a backslash; a line feed, a carriage return and a tab are letters after a
 /// backslash; any other ASCII control character, `<`, `>`, `&` and the separators of lines and paragraphs (U+2028,
-/// U+2029) are `\uhhhh`; all else stands as it is. The string's grammar is that of RFC 8259, section 7. Without `<` it
+/// U+2029) are `\uhhhh`; anything else is unchanged. The string's grammar is that of RFC 8259, section 7. Without `<` it
 /// ends no `script` element and opens no comment (the HTML standard, "Restrictions for contents of script elements").
 pub fn push_json(out: &mut String, text: &str) -> Result<(), AllocError>
     ensures { OnOk result (string_bytes out.new ≡ string_bytes out.old ++ json_text (chars text.now)) }

@@ -13,8 +13,8 @@ use std::fmt::Write as _;
 /// What the page's script reads: a tree's steps, and its messages.
 ///
 /// Each step and each message is a few items of a JSON array, with a comma before each of them: `0` where a node ends,
-/// `1` and its kind where one begins, `2`, the kind and the text for a token; the byte of the text at which it stands
-/// and what it says for a message.
+/// `1` and its kind where one begins, `2`, the kind and the text for a token; for a message its position in bytes
+/// and its text.
 #[derive(Drop)]
 pub struct Rows {
     pub steps: String,
@@ -61,7 +61,7 @@ impl StrSink for Rows {
 
     ghost takes = { Records };
 
-    // Once out of memory, nothing is claimed of the rows.
+    // After a call that was out of memory, nothing is specified about the rows.
     ghost refuses = { λ _ _ _ _. Unit {0} };
 
     fn step(&mut self, step: StrStep<'_>) -> Result<(), NoMemory> {

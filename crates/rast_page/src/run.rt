@@ -14,7 +14,7 @@ use rast_common::fault::report;
 use std::alloc::{AllocError, Global};
 use std::io;
 
-/// The parts of a page that are the same for all files: what stands before the data, and what stands after it.
+/// The parts of a page that are the same for all files: the part before the data, and the part after it.
 #[derive(Clone, Copy, Debug)]
 pub struct Frame {
     pub head: &'static str,
@@ -59,7 +59,7 @@ fn page_of(
     Ok(Page { name, rows })
 }
 
-/// What a fault is called on the error stream.
+/// The message of a fault on the error stream.
 fn fault_message<R>(fault: &TextFault<R>) -> &'static str
     ensures { result.now ≡ fault_line fault.now }
 {

@@ -1,4 +1,4 @@
-//! What stands in a page after its data: the script that draws it.
+//! The part of a page after its data: the script that draws it.
 
 /// The tail of a page. Data are shown as text alone, never as markup.
 pub const TAIL: &str = r##"</script>
@@ -157,7 +157,7 @@ function counted(n, what) {
   return n.toLocaleString('en') + ' ' + what + (n === 1 ? '' : 's');
 }
 
-// A place as the line and the character in it, from 1.
+// A place as the numbers of its line and of the character in it, from 1.
 function placeName(place) {
   let line = lineAt(place);
   const start = lineStarts[line];
@@ -169,7 +169,7 @@ function placeName(place) {
   return numbers[line] + ':' + column;
 }
 
-// The messages: the item at whose place each stands, and the line under which it is shown.
+// The messages: the item at whose place each is, and the line under which it is shown.
 const messages = [];
 const notesOf = new Map();
 for (let i = 1; i < data.messages.length; i += 2) {
@@ -421,7 +421,7 @@ function listMessages() {
   }
 }
 
-// Kinds that are searched for.
+// The kinds that a search finds.
 let found = [];
 function searchKinds() {
   const asked = byId('kind').value.trim().toUpperCase();

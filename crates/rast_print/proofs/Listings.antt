@@ -17,9 +17,9 @@ use Rattle.rast_print.proofs.Lines.{tree_along, messages_along}
 use Rattle.rast_print.specs.Listed.{tree_lines, tree_part}
 use Rattle.rap_base.specs.Limits.{max_tokens}
 
--- the lines of a tree behind those that a printer began with
-pub tree_behind : (lines : List ℕ) (steps : List StrStepValue) (s t : Printer) → s.tree ≡ lines → s.depth ≡ 0 → Takes Prints s steps t → t.tree ≡ lines ++ printed 0 steps
-tree_behind lines steps s t behind no_depth h = tree_along steps s t h ∙ (ap (λ l. l ++ printed s.depth steps) behind ∙ ap (λ d. lines ++ printed d steps) no_depth)
+-- the lines of a tree after those that a printer began with
+pub tree_after : (lines : List ℕ) (steps : List StrStepValue) (s t : Printer) → s.tree ≡ lines → s.depth ≡ 0 → Takes Prints s steps t → t.tree ≡ lines ++ printed 0 steps
+tree_after lines steps s t begun no_depth h = tree_along steps s t h ∙ (ap (λ l. l ++ printed s.depth steps) begun ∙ ap (λ d. lines ++ printed d steps) no_depth)
 
 pub messages_from : (steps : List StrStepValue) (s t : Printer) → string_bytes s.messages ≡ [] → Takes Prints s steps t → string_bytes t.messages ≡ reported steps
 messages_from steps s t none_yet h = messages_along steps s t h ∙ ap (λ l. l ++ reported steps) none_yet
@@ -33,7 +33,7 @@ a_tree l ts output h =
     append_assoc l (codes "tree\n") (tree_lines ts output) ∙
     sym (ap (λ part. l ++ part) (cond-true (one_tree output) (codes "tree\n" ++ tree_lines ts output) [] h))
 
--- a text with so many records
+-- a text with this number of records
 pub too_many : (text : List ℕ) (edition : Edition) (lexed : Lexed) (input : List Record) → length text ≤ 4294967295 → IsLexing text edition lexed → length input ≡ significant lexed.tokens → max_tokens < length input → HasTooManyTokens text edition
 too_many text edition lexed input small lexing e many = record {
   small = small;

@@ -1,4 +1,4 @@
--- Words that name none of the kinds so far.
+-- Words that are the name of none of the first n kinds.
 use Rattle.std.proofs.Common.{◌≡◌, ◌≢◌, ◌<◌, ◌≤◌, ◌+◌, ℕ, List, subst, arith}
 use Rattle.rap_base.specs.Names.{name_of}
 

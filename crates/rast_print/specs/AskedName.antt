@@ -1,4 +1,4 @@
--- The names of what is asked of a text.
+-- The names of the listings of a text.
 use Rattle.std.specs.Prelude.{◌≡◌, ◌≢◌, ◌<◌, List, ℕ, Option, Some, None, Result, MatchOption, MatchResult, codes}
 use Rattle.rap_base.specs.Names.{name_of}
 use Rattle.ra_ap_parser.specs.declared.entry_point.PrefixEntryPoint.{PrefixEntryPoint}
@@ -18,7 +18,7 @@ name_of_prefix Path = codes "Path"
 name_of_prefix Item = codes "Item"
 name_of_prefix MetaItem = codes "MetaItem"
 
--- a word is read as the prefix entry point that it names, and refused where it names none
+-- a word is read as the prefix entry point that it names, and rejected if it names none
 abbrev pub IsNamed : {Refusal : Type 0} → List ℕ → Result Prefix Refusal → Type 0
 IsNamed word result =
     MatchResult result
@@ -29,7 +29,7 @@ IsNamed word result =
 abbrev pub IsKindOf : List ℕ → Option ℕ → Type 0
 IsKindOf word result = MatchOption result ((kind : ℕ) → kind < 330 → word ≢ name_of kind) (λ kind. word ≡ name_of kind)
 
--- a word is a dash, which says that there is no kind, or it is read as a kind's name
+-- a word is a dash, which means no kind, or it is read as a kind's name
 abbrev pub IsReadAs : List ℕ → Option (Option ℕ) → Type 0
 IsReadAs word result =
     MatchOption result

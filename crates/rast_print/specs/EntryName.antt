@@ -14,7 +14,7 @@ name_of_entry Ty = codes "Type"
 name_of_entry Expr = codes "Expr"
 name_of_entry MetaItem = codes "MetaItem"
 
--- a word is read as the entry point that it names, and refused where it names none
+-- a word is read as the entry point that it names, and rejected if it names none
 abbrev pub IsNamed : {Refusal : Type 0} → List ℕ → Result Entry Refusal → Type 0
 IsNamed word result =
     MatchResult result

@@ -14,7 +14,7 @@ abbrev pub split_line : Bool → List ℕ
 split_line true = codes "split true\n"
 split_line false = codes "split false\n"
 
--- the line of a step: a token with the number of tokens that it stands for, and a float with whether it ends in a dot
+-- the line of a step: a token with the number of input tokens in it, and a split float with whether it ends in a dot
 abbrev pub step_line : StepValue → List ℕ
 step_line (enter kind) = codes "enter " ++ (name_of kind ++ codes "\n")
 step_line exit = codes "exit\n"
@@ -27,7 +27,7 @@ abbrev pub step_lines : List StepValue → List ℕ
 step_lines [] = []
 step_lines (step ∷ steps) = step_line step ++ step_lines steps
 
--- where the last token that an output took ends
+-- the end of the last token that an output consumed
 abbrev pub used_line : List Token → Forest → List ℕ
 used_line ts output = codes "used " ++ (decimal (end_after (used output) ts) ++ codes "\n")
 
@@ -39,11 +39,11 @@ tree_lines ts output = printed 0 (str_flat (with_trivia ts output)) ++ reported 
 abbrev pub tree_part : List Token → Forest → List ℕ
 tree_part ts output = if one_tree output then codes "tree\n" ++ tree_lines ts output else []
 
--- what stands at the front: its steps, where it ends, and its tree
+-- the prefix that was parsed: its steps, where it ends, and its tree
 abbrev pub prefix_lines : List Token → Forest → List ℕ
 prefix_lines ts output = step_lines (flat output) ++ (used_line ts output ++ tree_part ts output)
 
--- a node's tree, or the steps where they make no tree
+-- a node's tree, or the steps if they are not one tree
 abbrev pub node_part : List Token → Forest → List ℕ
 node_part ts output = if one_tree output then tree_lines ts output else codes "not one tree\n" ++ step_lines (flat output)
 

@@ -1,4 +1,4 @@
--- What is listed of a text, and when nothing is.
+-- What is listed of a text, and when nothing is listed.
 use Rattle.std.specs.Prelude.{◌≡◌, ◌≢◌, ◌<◌, ◌≤◌, ℕ, List, Option, Some, None, length, codes, true}
 use Rattle.rap_base.specs.declared.edition.Edition.{Edition}
 use Rattle.rap_base.specs.TokenKind.{L_CURLY}
@@ -33,7 +33,7 @@ pub record ListsSteps (text : List ℕ) (edition : Edition) (entry : TopEntryPoi
   pub made : IsOutputOf entry (records lexed.tokens edition) output
   pub is : lines ≡ step_lines (flat output)
 
--- what stands at the front of an input
+-- the prefix of an input that is parsed
 pub record ListsPrefix (text : List ℕ) (edition : Edition) (entry : PrefixEntryPoint) (lines : List ℕ) : Type 0 where
   pub lexed : Lexed
   pub output : Forest
@@ -41,7 +41,7 @@ pub record ListsPrefix (text : List ℕ) (edition : Edition) (entry : PrefixEntr
   pub made : IsPrefixOutputOf entry (records lexed.tokens edition) output
   pub is : lines ≡ prefix_lines lexed.tokens output
 
--- a part that is parsed again
+-- a node that is parsed again
 pub record ListsNode (text : List ℕ) (edition : Edition) (part : Part) (lines : List ℕ) : Type 0 where
   pub lexed : Lexed
   pub output : Forest
@@ -50,18 +50,18 @@ pub record ListsNode (text : List ℕ) (edition : Edition) (part : Part) (lines 
   pub made : IsPrefixOf (part_script part) (records lexed.tokens edition) output
   pub is : lines ≡ node_lines lexed.tokens output
 
--- the node of this kind, where it can be parsed again, and else that it cannot
+-- the node of this kind if it can be parsed again, and otherwise that it cannot
 abbrev pub ListsReparsed : List ℕ → Edition → Option ℕ → List ℕ → Type 0
 ListsReparsed text edition None lines = lines ≡ codes "none\n"
 ListsReparsed text edition (Some kind) lines = (part : Part) × (part_kind part ≡ kind) × ListsNode text edition part lines
 
--- what is asked is listed
+-- what is requested is listed
 abbrev pub Lists : List ℕ → Edition → Asked → List ℕ → Type 0
 Lists text edition (Steps entry) lines = ListsSteps text edition entry lines
 Lists text edition (Prefix entry) lines = ListsPrefix text edition entry lines
 Lists text edition (Reparse node first_child parent) lines = ListsReparsed text edition (reparsed node first_child parent) lines
 
--- a node of this kind begins with a brace, and the text does not
+-- a node of this kind must begin with a brace, and the text does not
 pub record LacksBrace (text : List ℕ) (edition : Edition) (kind : ℕ) : Type 0 where
   pub part : Part
   pub is_part : part_kind part ≡ kind
@@ -70,19 +70,19 @@ pub record LacksBrace (text : List ℕ) (edition : Edition) (kind : ℕ) : Type 
   pub lexing : IsLexing text edition lexed
   pub lacks : next_kind (records lexed.tokens edition) ≢ L_CURLY
 
--- when a fault comes of a text that is read; what is said last is when a brace is missing
+-- when a fault occurs for a text that is read; the last argument is the condition under which a brace is missing
 abbrev pub ComesOf : List ℕ → Edition → Type 0 → ListFault → Type 0
 ComesOf text edition Lacks TextTooLong = 4294967295 < length text
 ComesOf text edition Lacks TooManyTokens = HasTooManyTokens text edition
 ComesOf text edition Lacks NoBrace = Lacks
 ComesOf text edition Lacks NoMemory = length text ≤ 4294967295
 
--- the same of a node that is parsed again; of one that cannot be, the text is not read
+-- the same for a node that is parsed again; if it cannot be, the text is not read
 abbrev pub ComesOfNode : List ℕ → Edition → Option ℕ → ListFault → Type 0
 ComesOfNode text edition None fault = fault ≡ NoMemory
 ComesOfNode text edition (Some kind) fault = ComesOf text edition (LacksBrace text edition kind) fault
 
--- when a fault comes
+-- when a fault occurs
 abbrev pub Comes : List ℕ → Edition → Asked → ListFault → Type 0
 Comes text edition (Steps entry) fault = ComesOf text edition ⊥ fault
 Comes text edition (Prefix entry) fault = ComesOf text edition ⊥ fault

@@ -7,14 +7,14 @@ use Rattle.rast_common.specs.Quote.{quoted}
 use Rattle.rap_lexed.specs.LexedStr.{Token, Message, start_of}
 use Rattle.rap_lexed.specs.StrStep.{StrStepValue, str_enter, str_exit, str_token, str_error}
 
--- the line of a step, behind two spaces for each open node
+-- the line of a step, after two spaces for each open node
 abbrev pub line : ℕ → StrStepValue → List ℕ
 line depth (str_enter kind) = indent depth ++ (name_of kind ++ codes "\n")
 line depth (str_token kind text) = indent depth ++ (name_of kind ++ (codes " " ++ (quoted (chars text) ++ codes "\n")))
 line depth str_exit = []
 line depth (str_error text pos) = []
 
--- how many nodes are open after a step, or the largest machine number where there are more
+-- the number of open nodes after a step, or the largest machine number if there are more
 abbrev pub depth_after : ℕ → StrStepValue → ℕ
 depth_after depth (str_enter kind) = min (depth + 1) (2 ^ 64 - 1)
 depth_after depth (str_token kind text) = depth

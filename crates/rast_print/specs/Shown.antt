@@ -24,7 +24,7 @@ pub record IsPrinted (text : List ℕ) (edition : Edition) (entry : TopEntryPoin
   pub tree : printer.tree ≡ printed 0 (str_flat (with_trivia lexed.tokens forest))
   pub messages : string_bytes printer.messages ≡ all_reported lexed forest
 
--- when a fault comes; the printer refuses a step only when out of memory
+-- when a fault occurs; the printer refuses a step only when out of memory
 abbrev pub Comes : {R : Type 0} → List ℕ → Edition → TextFault R → Type 0
 Comes text edition TextTooLong = 4294967295 < length text
 Comes text edition TooManyTokens = HasTooManyTokens text edition

@@ -27,7 +27,7 @@ pub enum Asked {
 #[derive(Clone, Copy, Debug)]
 pub struct Prefix(pub PrefixEntryPoint);
 
-/// The word is no prefix entry point's name.
+/// The word is not the name of a prefix entry point.
 #[derive(Clone, Copy, PartialEq, Eq, Debug)]
 pub struct InvalidPrefix;
 
@@ -85,7 +85,7 @@ fn kind_named(name: &str) -> Option<SyntaxKind>
     None
 }
 
-/// The kind with this name, or that there is none, which a dash says. `None` if the word is no kind's name.
+/// The kind with this name, or no kind for a dash. `None` if the word is no kind's name.
 pub fn read_kind(word: &str) -> Option<Option<SyntaxKind>>
     ensures { IsReadAs word.now result }
 {

@@ -9,7 +9,7 @@ use std::str::FromStr;
 #[derive(Clone, Copy, Debug)]
 pub struct Entry(pub TopEntryPoint);
 
-/// The word is no entry point's name.
+/// The word is not the name of an entry point.
 #[derive(Clone, Copy, PartialEq, Eq, Debug)]
 pub struct InvalidEntry;
 

@@ -102,7 +102,7 @@ fn push_steps(lines: &mut String, output: &Output) -> Result<(), AllocError>
     Ok(())
 }
 
-/// Adds the line that says where what an output took ends.
+/// Adds the line with the end of the last token that an output consumed.
 fn push_used(lines: &mut String, lexed: &LexedStr<'_>, output: &Output) -> Result<(), AllocError>
     requires { used output.now ≤ max_tokens }
     ensures { OnOk result (string_bytes lines.new ≡ string_bytes lines.old ++ used_line lexed.now.tokens output.now) }
@@ -112,8 +112,8 @@ fn push_used(lines: &mut String, lexed: &LexedStr<'_>, output: &Output) -> Resul
     Ok(())
 }
 
-/// The lines of a tree, trivia put back, behind other lines, and those of its messages.
-#[tactic(auto, using(crate::proofs::Listings::tree_behind, crate::proofs::Listings::messages_from))]
+/// The lines of a tree, trivia put back, after other lines, and those of its messages.
+#[tactic(auto, using(crate::proofs::Listings::tree_after, crate::proofs::Listings::messages_from))]
 fn print_tree(
     alloc: Global,
     lines: IndentedText,
@@ -125,12 +125,12 @@ fn print_tree(
     ensures tree { IfOk result (λ p. p.tree ≡ lines ++ printed 0 (str_flat (with_trivia lexed.now.tokens output.now))) }
     ensures messages { IfOk result (λ p. string_bytes p.messages ≡ reported (str_flat (with_trivia lexed.now.tokens output.now))) }
 {
-    let mut printer = Printer::behind(alloc, lines);
+    let mut printer = Printer::after(alloc, lines);
     lexed.intersperse_trivia(output, &mut printer)?;
     Ok(printer)
 }
 
-/// The lines of a tree, trivia put back, and those of its messages, behind other lines.
+/// The lines of a tree, trivia put back, and those of its messages, after other lines.
 fn with_tree(
     alloc: Global,
     lines: IndentedText,
@@ -146,7 +146,7 @@ fn with_tree(
     Ok(printer.tree)
 }
 
-/// Other lines, and after them, where the output is one tree, the lines of the tree after a line that says so.
+/// Other lines, and after them, if the output is one tree, a line that says so and the lines of the tree.
 #[tactic(auto, using(crate::proofs::Listings::no_tree, crate::proofs::Listings::a_tree))]
 fn with_tree_part(
     alloc: Global,
@@ -164,7 +164,7 @@ fn with_tree_part(
     with_tree(alloc, IndentedText::unindented(alloc, lines), lexed, output)
 }
 
-/// The lines of a node's tree, or of its steps where they make no tree.
+/// The lines of a node's tree, or of its steps if they are not one tree.
 fn list_node_part(
     alloc: Global,
     lexed: &LexedStr<'_>,
@@ -223,7 +223,7 @@ fn list_steps(
     Ok(IndentedText::unindented(alloc, lines))
 }
 
-/// Lists the steps of a prefix of the text and where it ends, and where it is one tree that tree.
+/// Lists the steps of a prefix of the text and where it ends, and the tree if it is one.
 #[tactic(auto, using(crate::proofs::Listings::too_many))]
 fn list_prefix(
     alloc: Global,
@@ -247,7 +247,7 @@ fn list_prefix(
     Ok(lines)
 }
 
-/// Lists the tree of a node that is parsed again, or its steps where it is no tree, and where it ends.
+/// Lists the tree of a node that is parsed again, or its steps if they are not one tree, and where it ends.
 #[tactic(auto, using(crate::proofs::Listings::too_many))]
 fn list_node(
     alloc: Global,
@@ -274,7 +274,7 @@ fn list_node(
     Ok(lines)
 }
 
-/// Lists what is asked of the text.
+/// Lists what is requested of the text.
 pub fn list(
     alloc: Global,
     edition: Edition,

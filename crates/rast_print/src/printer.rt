@@ -52,11 +52,11 @@ impl Printer {
         ensures messages { string_bytes result.messages ≡ [] }
         ensures depth { result.depth ≡ 0 }
     {
-        Printer::behind(alloc, IndentedText::new(alloc))
+        Printer::after(alloc, IndentedText::new(alloc))
     }
 
-    /// A printer that adds a tree's lines behind these.
-    pub fn behind(alloc: Global, lines: IndentedText) -> Printer
+    /// A printer that adds a tree's lines after these.
+    pub fn after(alloc: Global, lines: IndentedText) -> Printer
         ensures tree { result.tree ≡ lines }
         ensures messages { string_bytes result.messages ≡ [] }
         ensures depth { result.depth ≡ 0 }

@@ -11,12 +11,12 @@ use Rattle.rast_replay.specs.declared.way.Way.{Way}
 abbrev pub sixteen_digits : ℕ → List ℕ
 sixteen_digits hash = padded_integral (format_spec 32 0 4 16 (2 ^ 64 - 1)) false [] (digits 16 false hash)
 
--- the line of a text that is read by this edition and in this way, with the hash of what is printed of it
+-- the line of a text that is read with this edition and in this way, with the hash of what is printed of it
 abbrev pub row_line : List ℕ → List ℕ → ℕ → List ℕ → List ℕ
 row_line year name hash text = year ++ (codes " " ++ (name ++ (codes " " ++ (sixteen_digits hash ++ (codes " " ++ quoted (chars text))))))
 
--- The line is that of a text, with the hash of the lines of what its way makes of it: of its one tree and its messages, or
--- of what is listed of it.
+-- The line is that of a text, with the hash of the lines that its way gives: those of its one tree and its messages, or
+-- those that are listed of it.
 pub record IsRow (line : List ℕ) : Type 0 where
   pub edition : Edition
   pub way : Way

@@ -20,8 +20,8 @@ struct Replayed {
     different: usize,
 }
 
-/// Whether the line is as this library reads its text. Where it is not, it is added after `- `, and then what it
-/// would be after `+ `, unless it is no row.
+/// Whether the line is as this library reads its text. If it is not, it is added after `- `, and then what it
+/// should be after `+ `, unless it is no row.
 fn is_same(alloc: Global, line: &str, page: &mut String) -> Result<bool, NoMemory>
     ensures { IfOk result (λ same. IsTrue same → IsRow line.now) }
 {
@@ -70,10 +70,10 @@ fn write_page<W: io::Write>(out: &mut W, page: &str) -> io::Result<()> {
     out.flush()
 }
 
-/// Replays each row, prints those that this library reads otherwise, and then how many were the same and how many
+/// Replays each row, prints those that this library reads differently, and then how many were the same and how many
 /// were not.
 ///
-/// Returns the program's status: 0 where none was different, 1 where one was, and 2 at a fault, which is reported on
+/// Returns the program's status: 0 if none was different, 1 if one was, and 2 at a fault, which is reported on
 /// `err`. At a fault nothing is written to `out`, unless `out` itself refused a write. The error is that of `err`, where
 /// it refused the report.
 pub fn run<W: io::Write, V: io::Write>(

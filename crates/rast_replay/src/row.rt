@@ -19,7 +19,7 @@ use rast_print::print_text::print_text;
 use std::alloc::{AllocError, Global};
 use std::fmt::Write as _;
 
-/// The hash of lines. They are spelled out for it: a row's text is short.
+/// The hash of lines. They are written to memory for it: a row's text is short.
 fn lines_hash(alloc: Global, lines: &IndentedText) -> Result<u64, AllocError>
     ensures { IfOk result (λ hash. hash ≡ fnv1a_of lines.now) }
 {
@@ -47,7 +47,7 @@ fn tree_hash(
     Ok(fnv1a(tree, printer.messages.as_bytes()))
 }
 
-/// The hash of what is listed of the text. None where nothing is, since a brace is missing.
+/// The hash of what is listed of the text. `None` if nothing is listed, since a brace is missing.
 fn list_hash(
     alloc: Global,
     edition: Edition,
@@ -69,7 +69,7 @@ fn list_hash(
     }
 }
 
-/// The hash of what is printed of the text that is read so. None where nothing is.
+/// The hash of what is printed of the text that is read so. `None` if nothing is printed.
 fn hash_of(
     alloc: Global,
     edition: Edition,
@@ -87,7 +87,7 @@ fn hash_of(
     }
 }
 
-/// The row of the line's text as this library reads it. None where the line is no row.
+/// The row of the line's text as this library reads it. `None` if the line is no row.
 pub fn row_of(alloc: Global, line: &str) -> Result<Option<String>, TextFault<NoMemory>>
     ensures { IfOk result (λ o. IfSome o (λ row. IsRow (string_bytes row))) }
 {
@@ -122,7 +122,7 @@ pub fn row_of(alloc: Global, line: &str) -> Result<Option<String>, TextFault<NoM
     }
 }
 
-/// The row in writing.
+/// The row as a line.
 fn written(
     alloc: Global,
     year: &str,

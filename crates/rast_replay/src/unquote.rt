@@ -1,7 +1,7 @@
-//! Texts out of their quotes.
+//! Reads quoted texts.
 use std::alloc::{AllocError, Global};
 
-/// What a character of a quoted text is read after.
+/// What a character of a quoted text follows.
 #[derive(Clone, Copy)]
 enum Place {
     Plain,
@@ -12,7 +12,7 @@ enum Place {
     Code(u32),
 }
 
-/// Takes a character at its place. Gives the place after it, and the character that ends here.
+/// Reads a character at its place. Returns the place after it, and the character that ends here.
 fn step(place: Place, c: char) -> Option<(Place, Option<char>)> {
     match (place, c) {
         (Place::Plain, '\\') => Some((Place::Backslash, None)),
@@ -34,9 +34,9 @@ fn step(place: Place, c: char) -> Option<(Place, Option<char>)> {
     }
 }
 
-/// The text that stands in these quotes, if one does.
+/// The text in these quotes. `None` if they are no quoted text.
 ///
-/// Nothing is claimed of it: who reads a text so quotes it again, and compares.
+/// Nothing is specified about it: a caller quotes the text again, and compares.
 pub fn unquoted(alloc: Global, quoted: &str) -> Result<Option<String>, AllocError> {
     let mut text = String::new(alloc);
     let Some(body) = quoted.strip_prefix('"') else {

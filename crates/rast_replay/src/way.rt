@@ -1,4 +1,4 @@
-//! How the text of a row is read, and what the row calls it.
+//! How the text of a row is read, and the row's name for it.
 //!
 //! `Expr` and the other top entry points: the lines of the text's tree and messages. `steps/Expr`: the steps of the
 //! whole text. `prefix/Expr` and the other prefix entry points: a prefix. `reparse/NODE/FIRST/PARENT`: a node that is
@@ -50,7 +50,7 @@ fn read_asked(word: &str, rest: &str) -> Option<Asked> {
 
 /// Reads how a text is read. `None` if the word names no way.
 ///
-/// The contract promises nothing of the result: the caller prints the way's name and compares it with what it has read.
+/// The contract says nothing about the result: the caller prints the way's name and compares it with the word it read.
 pub fn read_way(name: &str) -> Option<Way> {
     let Some((word, rest)) = name.split_once('/') else {
         let Entry(entry) = name.parse::<Entry>().ok()?;

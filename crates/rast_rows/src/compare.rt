@@ -15,7 +15,7 @@ use std::io;
 enum Fault {
     /// A section does not say how its texts are read, or a text has no end.
     Table,
-    /// A text was not read: out of memory.
+    /// Out of memory: a text was not read.
     NoMemory,
 }
 
@@ -33,8 +33,8 @@ struct Compared {
     different: usize,
 }
 
-/// Whether the text is read as its row says. Where it is not, it is added after `- `, then what it was to be, and
-/// then what it is after `+ `.
+/// Whether the text is read as its row says. If it is not, the text is added after `- `, with the expected tree and
+/// messages, and then, after `+`, the tree and the messages that were returned.
 fn is_same(
     alloc: Global,
     (edition, entry): (Edition, TopEntryPoint),
@@ -97,10 +97,10 @@ fn write_page<W: io::Write>(out: &mut W, page: &str) -> io::Result<()> {
     out.flush()
 }
 
-/// Compares each text with its row, prints those that are read otherwise, and then how many were the same and how many
+/// Compares each text with its row, prints those that are read differently, and then how many were the same and how many
 /// were not.
 ///
-/// Returns the program's status: 0 where none was different, 1 where one was, and 2 at a fault, which is reported on
+/// Returns the program's status: 0 if none was different, 1 if one was, and 2 at a fault, which is reported on
 /// `err`. At a fault nothing is written to `out`, unless `out` itself refused a write. The error is that of `err`, where
 /// it refused the report.
 pub fn run<W: io::Write, V: io::Write>(

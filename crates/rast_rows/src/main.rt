@@ -1,5 +1,5 @@
-//! `rast_rows FILE..` reads tables of texts with their trees and messages, as the Rust crate gives them, and prints
-//! those that this library reads otherwise.
+//! `rast_rows FILE..` reads tables of texts with their trees and messages, as the Rust crate returns them, and prints
+//! those that this library reads differently.
 #![tactic(auto)]
 
 mod compare;

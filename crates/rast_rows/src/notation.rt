@@ -1,13 +1,13 @@
 //! Trees in one line.
 //!
-//! `K(..)` is a node with its children and `K"t"` a leaf; `_` is a leaf of one space. In what is written by hand `P:a`
+//! `K(..)` is a node with its children and `K"t"` a leaf; `_` is a leaf of one space. In tables written by hand, `P:a`
 //! is the path that is the name `a`, `E:a` and `T:a` the expression and the type that are that path, and `¶` a line
 //! feed.
 use ra_ap_parser::{NoMemory, StrSink, StrStep, SyntaxKind};
 use std::alloc::{AllocError, Global};
 use std::fmt::Write as _;
 
-/// Writes a tree down in one line, and its messages in another, each after a bar and its place.
+/// Writes a tree in one line, and its messages in another, each after a bar and its place.
 #[derive(Drop)]
 pub struct Notation {
     pub tree: String,
@@ -26,7 +26,7 @@ impl Notation {
         }
     }
 
-    /// Parts what comes next from what stands before it in the same node.
+    /// Separates what comes next from what is before it in the same node.
     fn space(&mut self) -> Result<(), NoMemory> {
         if self.begun {
             self.tree.push_str(" ")?;
@@ -68,7 +68,7 @@ impl StrSink for Notation {
     }
 }
 
-/// The tree with each `P:a`, `E:a` and `T:a` as the nodes that it stands for.
+/// The tree with each `P:a`, `E:a` and `T:a` replaced by its nodes.
 pub fn spelled_out(alloc: Global, tree: &str) -> Result<String, AllocError> {
     let mut out = String::new(alloc);
     let mut last = ' ';
@@ -95,7 +95,7 @@ pub fn spelled_out(alloc: Global, tree: &str) -> Result<String, AllocError> {
     Ok(out)
 }
 
-/// The text with a line feed in the place of each `¶`.
+/// The text with each `¶` replaced by a line feed.
 pub fn with_line_feeds(alloc: Global, text: &str) -> Result<String, AllocError> {
     let mut out = String::new(alloc);
     for c in text.chars() {

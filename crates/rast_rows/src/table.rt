@@ -1,14 +1,14 @@
 //! Tables of texts with their trees and messages.
 //!
-//! A line `@ ENTRY EDITION` says how the texts below it are read. Each text stands between `«` and `»`; after it
-//! stands its tree, on any number of lines, and each message in a line of its own after a bar, with its place, a
-//! further line of a message after two bars. What stands after `# ` is for the reader.
+//! A line `@ ENTRY EDITION` says how the texts below it are read. Each text is between `«` and `»`; after it
+//! is its tree, on any number of lines, and each message in a line of its own after a bar, with its place, a
+//! further line of a message after two bars. Text after `# ` is a comment.
 use crate::notation::{spelled_out, with_line_feeds};
 use ra_ap_parser::{Edition, TopEntryPoint};
 use rast_print::entry::Entry;
 use std::alloc::{AllocError, Global};
 
-/// What a text is to give.
+/// The expected result of a text.
 #[derive(Drop)]
 pub struct Row {
     pub text: String,
@@ -25,7 +25,7 @@ pub fn read_head(section: &str) -> Option<(Edition, TopEntryPoint, &str)> {
     Some((edition, entry, table))
 }
 
-/// The tree and the messages out of their lines.
+/// Reads the tree and the messages from their lines.
 fn tree_and_messages(alloc: Global, lines: &str) -> Result<(String, String), AllocError> {
     let mut tree = String::new(alloc);
     let mut messages = String::new(alloc);

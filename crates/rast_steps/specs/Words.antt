@@ -3,7 +3,7 @@ use Rattle.std.specs.Prelude.{List, ℕ, codes}
 use Rattle.rast_print.specs.declared.listing.ListFault.{ListFault}
 use Rattle.rast_print.specs.declared.listing.ListFault.TheVariants.{TextTooLong, TooManyTokens, NoBrace, NoMemory}
 
--- what is reported where the output refuses a write
+-- what is reported when the output refuses a write
 abbrev pub cannot_write : List ℕ
 cannot_write = codes "rast_steps: cannot write\n"
 

@@ -1,5 +1,5 @@
 //! `rast_steps --steps ENTRY EDITION FILE`, `--prefix ENTRY EDITION FILE` and
-//! `--reparse NODE FIRST PARENT EDITION FILE` print what the parser gives before the trivia are put back.
+//! `--reparse NODE FIRST PARENT EDITION FILE` print what the parser returns before the trivia are put back.
 #![tactic(auto)]
 
 mod request;

@@ -12,7 +12,7 @@ use rast_print::listing::{ListFault, list};
 use std::alloc::Global;
 use std::io;
 
-/// What a fault is called on the error stream.
+/// The message of a fault on the error stream.
 fn fault_message(fault: ListFault) -> &'static str
     ensures { result.now ≡ fault_line fault }
 {

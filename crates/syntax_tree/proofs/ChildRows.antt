@@ -1,4 +1,4 @@
--- Children whose places follow one another, and the child that reaches over a byte.
+-- Children whose places follow one another, and the child whose range holds a byte.
 use Rattle.std.proofs.Common.{◌≡◌, ℕ, zero, suc, ◌+◌, ◌<◌, ◌≤◌, Bool, true, false, cond, ◌&&◌, nat_lt, leb, ◌⊎◌, List, [], ◌∷◌, ◌++◌, Option, Some, None, length, get_or, refl, ap, subst, sym, ◌∙◌, append_assoc, append-nil, arith, inl, inr}
 use Rattle.std.specs.List.{find}
 use Rattle.std.specs.Option.{option_or}
@@ -6,7 +6,7 @@ use Rattle.std.specs.List.Sorted.{IsNonDecreasingBy, IsPartitionPoint}
 use Rattle.std.specs.declared.ops.Range.{Range}
 use Rattle.std.proofs.lemmas.Bool.{cases_lt, lt-ltb, le-ltb, le-leb, leb-true, leb-false}
 use Rattle.std.proofs.lemmas.List.Folds.{find-append}
-use Rattle.syntax_tree.specs.ChildEnds.{child_end, ends_behind}
+use Rattle.syntax_tree.specs.ChildEnds.{child_end, ends_after}
 use Rattle.syntax_tree.specs.ChildSizes.{size-with_children}
 use Rattle.syntax_tree.specs.Children.{with_child, with_children, children_of}
 use Rattle.syntax_tree.specs.InRow.{InRow}
@@ -14,7 +14,7 @@ use Rattle.syntax_tree.specs.Leaves.{RangedLeaf, leaves_of, has_byte, leaf_of_by
 use Rattle.syntax_tree.specs.RangedForest.{RangedForest, RangedNode, ranged_none, forest_size}
 use Rattle.syntax_tree.specs.declared.node.Child.{Child}
 use Rattle.syntax_tree.specs.declared.node.Child.TheVariants.{Node as a_node, Leaf as a_leaf}
-use Rattle.syntax_tree.proofs.InRowLemmas.{rises, byte_behind, byte_inside}
+use Rattle.syntax_tree.proofs.InRowLemmas.{rises, byte_after, byte_inside}
 
 -- a child alone
 abbrev pub only : Child → RangedForest
@@ -89,7 +89,7 @@ abbrev pub in_child : ℕ → Option Child → Option RangedLeaf
 in_child offset None = None
 in_child offset (Some c) = leaf_of_byte offset (only c)
 
-find_in_child : (cs : List Child) (a b offset : ℕ) → Follow a cs b → a ≤ offset → find (has_byte offset) (child_leaves cs) ≡ in_child offset (find (ends_behind offset) cs)
+find_in_child : (cs : List Child) (a b offset : ℕ) → Follow a cs b → a ≤ offset → find (has_byte offset) (child_leaves cs) ≡ in_child offset (find (ends_after offset) cs)
 find_in_child [] a b offset h p = refl
 find_in_child (c ∷ cs) a b offset h p =
     let cut = find-append (has_byte offset) (leaves_of (only c)) (child_leaves cs) in
@@ -99,13 +99,13 @@ find_in_child (c ∷ cs) a b offset h p =
           rw (lt-ltb offset (child_end c) q)
           (cut ∙ ap (λ o. option_or o (find (has_byte offset) (child_leaves cs))) first.1 ∙ sym first.1)
       | inr q ↦
-          let first = byte_behind (only c) a (child_end c) offset h.0 q in
+          let first = byte_after (only c) a (child_end c) offset h.0 q in
           rw (le-ltb offset (child_end c) q)
           (cut ∙ ap (λ o. option_or o (find (has_byte offset) (child_leaves cs))) first ∙ find_in_child cs (child_end c) b offset h.1 q)
     ]
 
--- the leaf of a byte stands in the first child that ends behind the byte
-pub byte_in_child : (cs : List Child) (f : RangedForest) (a b offset : ℕ) → children_of cs ≡ f → InRow a f b → a ≤ offset → leaf_of_byte offset f ≡ in_child offset (find (ends_behind offset) cs)
+-- the leaf of a byte is in the first child that ends after the byte
+pub byte_in_child : (cs : List Child) (f : RangedForest) (a b offset : ℕ) → children_of cs ≡ f → InRow a f b → a ≤ offset → leaf_of_byte offset f ≡ in_child offset (find (ends_after offset) cs)
 byte_in_child cs f a b offset e h p =
     ap (leaf_of_byte offset) (sym e)
     ∙ ap (find (has_byte offset)) (leaves-with_children cs ranged_none)
@@ -118,20 +118,20 @@ pub record Reaches (offset : ℕ) (c : Child) : Type 0 where
   pub row : InRow from (only c) (child_end c)
   pub ends : offset < child_end c
 
-found_from : (cs : List Child) (a b offset : ℕ) (c : Child) → Follow a cs b → a ≤ offset → find (ends_behind offset) cs ≡ Some c → Reaches offset c
+found_from : (cs : List Child) (a b offset : ℕ) (c : Child) → Follow a cs b → a ≤ offset → find (ends_after offset) cs ≡ Some c → Reaches offset c
 found_from [] a b offset c h p e = absurd (cc)
 found_from (x ∷ xs) a b offset c h p e = elim (cases_lt offset (child_end x)) [
   | inl q ↦
-      let same : Some x ≡ Some c = sym (ap (λ t. cond t (Some x) (find (ends_behind offset) xs)) (lt-ltb offset (child_end x) q)) ∙ e in
+      let same : Some x ≡ Some c = sym (ap (λ t. cond t (Some x) (find (ends_after offset) xs)) (lt-ltb offset (child_end x) q)) ∙ e in
       let is : x ≡ c = cc in
       subst (Reaches offset) is (record { from = a; begins = p; row = h.0; ends = q })
   | inr q ↦
-      let same : find (ends_behind offset) xs ≡ Some c = sym (ap (λ t. cond t (Some x) (find (ends_behind offset) xs)) (le-ltb offset (child_end x) q)) ∙ e in
+      let same : find (ends_after offset) xs ≡ Some c = sym (ap (λ t. cond t (Some x) (find (ends_after offset) xs)) (le-ltb offset (child_end x) q)) ∙ e in
       found_from xs (child_end x) b offset c h.1 q same
 ]
 
--- the leaf of the byte, where that child is a leaf
-pub at_leaf : (cs : List Child) (f : RangedForest) (a b offset : ℕ) (kind : ℕ) (range : Range ℕ) → children_of cs ≡ f → InRow a f b → a ≤ offset → find (ends_behind offset) cs ≡ Some (a_leaf kind range)
+-- the leaf of the byte, if that child is a leaf
+pub at_leaf : (cs : List Child) (f : RangedForest) (a b offset : ℕ) (kind : ℕ) (range : Range ℕ) → children_of cs ≡ f → InRow a f b → a ≤ offset → find (ends_after offset) cs ≡ Some (a_leaf kind range)
     → let l : RangedLeaf = record { kind = kind; start = range.start; end = range.end } in leaf_of_byte offset f ≡ Some l
 at_leaf cs f a b offset kind range e h p is =
     let r = found_from cs a b offset (a_leaf kind range) (follow cs f a b e h) p is in
@@ -142,8 +142,8 @@ at_leaf cs f a b offset kind range e h p is =
     ∙ ap (λ t. cond t (Some l) None) (lt-ltb offset range.end r.ends) in
     byte_in_child cs f a b offset e h p ∙ ap (in_child offset) is ∙ here
 
--- where it is a node, the leaf of the byte stands in that node
-pub at_node : (cs : List Child) (f : RangedForest) (a b offset : ℕ) (n : RangedNode) → children_of cs ≡ f → InRow a f b → a ≤ offset → find (ends_behind offset) cs ≡ Some (a_node n)
+-- if it is a node, the leaf of the byte is in that node
+pub at_node : (cs : List Child) (f : RangedForest) (a b offset : ℕ) (n : RangedNode) → children_of cs ≡ f → InRow a f b → a ≤ offset → find (ends_after offset) cs ≡ Some (a_node n)
     → (leaf_of_byte offset f ≡ leaf_of_byte offset n.children) × InRow n.start n.children n.end × (n.start ≤ offset)
 at_node cs f a b offset n e h p is =
     let r = found_from cs a b offset (a_node n) (follow cs f a b e h) p is in
@@ -151,10 +151,10 @@ at_node cs f a b offset n e h p is =
     (byte_in_child cs f a b offset e h p ∙ ap (in_child offset) is, r.row.1, begins)
 
 -- and without such a child no leaf has the byte
-pub at_none : (cs : List Child) (f : RangedForest) (a b offset : ℕ) → children_of cs ≡ f → InRow a f b → a ≤ offset → find (ends_behind offset) cs ≡ None → leaf_of_byte offset f ≡ None
+pub at_none : (cs : List Child) (f : RangedForest) (a b offset : ℕ) → children_of cs ≡ f → InRow a f b → a ≤ offset → find (ends_after offset) cs ≡ None → leaf_of_byte offset f ≡ None
 at_none cs f a b offset e h p is = byte_in_child cs f a b offset e h p ∙ ap (in_child offset) is
 
--- a child that a search finds is smaller than all of them
+-- a child that a search finds is smaller than all children
 found_first : (x c : Child) (t : Bool) (r : Option Child) → cond t (Some x) r ≡ Some c → (x ≡ c) ⊎ (r ≡ Some c)
 found_first x c true r e = let is : x ≡ c = cc in inl is
 found_first x c false r e = inr e
@@ -191,16 +191,16 @@ found_none p (c ∷ cs) all =
 abbrev pub EndsPart : List Child → ℕ → ℕ → Type 0
 EndsPart cs offset i = IsPartitionPoint (λ c. leb (child_end c) offset ≡ true) (λ c. leb (child_end c) offset ≡ false) cs i
 
-before_point : (cs : List Child) (offset i : ℕ) → EndsPart cs offset i → (k : ℕ) (d : Child) → k < i → ends_behind offset (get_or cs k d) ≡ false
+before_point : (cs : List Child) (offset i : ℕ) → EndsPart cs offset i → (k : ℕ) (d : Child) → k < i → ends_after offset (get_or cs k d) ≡ false
 before_point cs offset i h k d q =
     let zero_le : 0 ≤ k = omega arith in
     le-ltb offset (child_end (get_or cs k d)) (leb-true (child_end (get_or cs k d)) offset (h.0 k d zero_le q))
 
-pub behind_at : (cs : List Child) (offset i : ℕ) (d : Child) → EndsPart cs offset i → i < length cs → find (ends_behind offset) cs ≡ Some (get_or cs i d)
-behind_at cs offset i d h q =
+pub ends_after_at : (cs : List Child) (offset i : ℕ) (d : Child) → EndsPart cs offset i → i < length cs → find (ends_after offset) cs ≡ Some (get_or cs i d)
+ends_after_at cs offset i d h q =
     let same : i ≤ i = omega arith in
-    found_at (ends_behind offset) cs i d q (λ k r. before_point cs offset i h k d r)
+    found_at (ends_after offset) cs i d q (λ k r. before_point cs offset i h k d r)
     (lt-ltb offset (child_end (get_or cs i d)) (leb-false (child_end (get_or cs i d)) offset (h.1 i d same q)))
 
-pub behind_none : (cs : List Child) (offset i : ℕ) → EndsPart cs offset i → length cs ≤ i → find (ends_behind offset) cs ≡ None
-behind_none cs offset i h q = found_none (ends_behind offset) cs (λ k d r. let s : k < i = omega arith in before_point cs offset i h k d s)
+pub ends_after_none : (cs : List Child) (offset i : ℕ) → EndsPart cs offset i → length cs ≤ i → find (ends_after offset) cs ≡ None
+ends_after_none cs offset i h q = found_none (ends_after offset) cs (λ k d r. let s : k < i = omega arith in before_point cs offset i h k d s)

@@ -40,7 +40,7 @@ pub forest_of_text : (text : List ℕ) (edition : Edition) (entry : TopEntryPoin
 forest_of_text text edition entry lexed all s t e h =
     built (with_trivia lexed.tokens h.forest) s.builder t.builder e (builds_along (str_flat (with_trivia lexed.tokens h.forest)) s t h.taken)
 
--- so it is one node
+-- it is one node
 pub node_of_text : (text : List ℕ) (edition : Edition) (entry : TopEntryPoint) (lexed : Lexed) (all : Bool) (s t : Collector)
     → building s.builder ≡ held outermost ranged_none 0 → Headline Collects text edition entry lexed all s t
     → (n : RangedNode) × ((building t.builder).forest ≡ alone n)

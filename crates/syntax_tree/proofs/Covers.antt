@@ -7,7 +7,7 @@ use Rattle.std.proofs.lemmas.Bool.{cases_lt, lt-ltb, le-ltb}
 use Rattle.std.proofs.lemmas.Bool.Decides.{nat_tests}
 use Rattle.std.proofs.lemmas.List.{reverse-append}
 use Rattle.std.proofs.lemmas.List.Folds.{find-append}
-use Rattle.syntax_tree.specs.ChildEnds.{child_end, ends_behind, reaching}
+use Rattle.syntax_tree.specs.ChildEnds.{child_end, ends_after, reaching}
 use Rattle.syntax_tree.specs.Children.{with_child, with_children, children_of}
 use Rattle.syntax_tree.specs.Covering.{holds, smallest_holding}
 use Rattle.syntax_tree.specs.Elements.{RangedElement, node_element, leaf_element, elements_of}
@@ -21,8 +21,8 @@ use Rattle.syntax_tree.proofs.InRowLemmas.{rises}
 use Rattle.syntax_tree.proofs.Walks.{elements-first}
 
 -- two places and a range
-begins_behind : (a b s e : ℕ) → s < a → (nat_le a s && nat_le e b) ≡ false
-begins_behind a b s e p = grind (arith, nat_tests)
+begins_after : (a b s e : ℕ) → s < a → (nat_le a s && nat_le e b) ≡ false
+begins_after a b s e p = grind (arith, nat_tests)
 
 ends_before : (a b s e : ℕ) → b < e → (nat_le a s && nat_le e b) ≡ false
 ends_before a b s e p = grind (arith, nat_tests)
@@ -84,18 +84,18 @@ none_of_leaf before kind start end s e not outer =
     ∙ ap (λ t. option_or (cond t (Some l) None) (smallest_holding s e before)) not
     ∙ outer
 
--- what begins behind the range's start does not hold it
-none_behind : (f : RangedForest) (a b s e : ℕ) → InRow a f b → s < a → smallest_holding s e f ≡ None
-none_behind ranged_none a b s e h p = refl
-none_behind (ranged_node before kind start end children) a b s e h p =
+-- a node or leaf that begins after the range's start does not hold it
+none_after : (f : RangedForest) (a b s e : ℕ) → InRow a f b → s < a → smallest_holding s e f ≡ None
+none_after ranged_none a b s e h p = refl
+none_after (ranged_node before kind start end children) a b s e h p =
     let q : s < start = omega (arith, rises before a start h.0) in
     none_of_node before kind start end children s e
-    (none_behind children start end s e h.1 q) (begins_behind start end s e q) (none_behind before a start s e h.0 p)
-none_behind (ranged_leaf before kind start end) a b s e h p =
+    (none_after children start end s e h.1 q) (begins_after start end s e q) (none_after before a start s e h.0 p)
+none_after (ranged_leaf before kind start end) a b s e h p =
     let q : s < start = omega (arith, rises before a start h.0) in
-    none_of_leaf before kind start end s e (begins_behind start end s e q) (none_behind before a start s e h.0 p)
+    none_of_leaf before kind start end s e (begins_after start end s e q) (none_after before a start s e h.0 p)
 
--- nor does what ends before its end
+-- nor does one that ends before its end
 none_short : (f : RangedForest) (a b s e : ℕ) → InRow a f b → b < e → smallest_holding s e f ≡ None
 none_short ranged_none a b s e h p = refl
 none_short (ranged_node before kind start end children) a b s e h p =
@@ -132,18 +132,18 @@ found-first c cs s e =
     ap (λ l. find (holds s e) (reverse l)) (elements-first c cs)
     ∙ found-append (holds s e) (elements_of (only c)) (elements_of (children_of cs))
 
-none_behind_all : (cs : List Child) (a b s e : ℕ) → Follow a cs b → s < a → smallest_holding s e (children_of cs) ≡ None
-none_behind_all [] a b s e h p = refl
-none_behind_all (c ∷ cs) a b s e h p =
+none_after_all : (cs : List Child) (a b s e : ℕ) → Follow a cs b → s < a → smallest_holding s e (children_of cs) ≡ None
+none_after_all [] a b s e h p = refl
+none_after_all (c ∷ cs) a b s e h p =
     let q : s < child_end c = omega (arith, rises (only c) a (child_end c) h.0) in
     found-first c cs s e
-    ∙ ap (λ o. option_or o (smallest_holding s e (only c))) (none_behind_all cs (child_end c) b s e h.1 q)
-    ∙ none_behind (only c) a (child_end c) s e h.0 p
+    ∙ ap (λ o. option_or o (smallest_holding s e (only c))) (none_after_all cs (child_end c) b s e h.1 q)
+    ∙ none_after (only c) a (child_end c) s e h.0 p
 
 -- the child in whose place the range begins
 reach_here : (c : Child) (cs : List Child) (s : ℕ) → s < child_end c → reaching s (c ∷ cs) ≡ Some c
 reach_here c cs s q =
-    ap (λ t. option_or (cond t (Some c) (find (ends_behind s) cs)) (slice_get (c ∷ cs) (length (c ∷ cs) - 1))) (lt-ltb s (child_end c) q)
+    ap (λ t. option_or (cond t (Some c) (find (ends_after s) cs)) (slice_get (c ∷ cs) (length (c ∷ cs) - 1))) (lt-ltb s (child_end c) q)
 
 reach_only : (c : Child) (s : ℕ) → child_end c ≤ s → reaching s (c ∷ []) ≡ Some c
 reach_only c s q =
@@ -153,7 +153,7 @@ reach_only c s q =
 
 reach_later : (c x : Child) (xs : List Child) (s : ℕ) → child_end c ≤ s → reaching s (c ∷ x ∷ xs) ≡ reaching s (x ∷ xs)
 reach_later c x xs s q =
-    let found : Option Child = find (ends_behind s) (x ∷ xs) in
+    let found : Option Child = find (ends_after s) (x ∷ xs) in
     let next : length (c ∷ x ∷ xs) - 1 ≡ suc (length (x ∷ xs) - 1) = omega arith in
     ap (λ t. option_or (cond t (Some c) found) (slice_get (c ∷ x ∷ xs) (length (c ∷ x ∷ xs) - 1))) (le-ltb s (child_end c) q)
     ∙ ap (λ i. option_or found (slice_get (c ∷ x ∷ xs) i)) next
@@ -194,7 +194,7 @@ reached_from c (x ∷ xs) a b s e h p = elim (cases_lt s (child_end c)) [
       ends = rises (only c) a (child_end c) h.0;
       same =
           found-first c (x ∷ xs) s e
-          ∙ ap (λ o. option_or o (smallest_holding s e (only c))) (none_behind_all (x ∷ xs) (child_end c) b s e h.1 q);
+          ∙ ap (λ o. option_or o (smallest_holding s e (only c))) (none_after_all (x ∷ xs) (child_end c) b s e h.1 q);
     },
   )
   | inr q ↦
@@ -232,13 +232,13 @@ at_none (c ∷ cs) f a b s e same h p is =
     let clash : Some r.0 ≡ None = sym r.1.is ∙ is in
     absurd (cc)
 
--- where that child ends before the range does, none holds it
+-- if that child ends before the range does, none holds it
 pub at_short : (cs : List Child) (f : RangedForest) (a b s e : ℕ) (d : Child) → children_of cs ≡ f → InRow a f b → a ≤ s → reaching s cs ≡ Some d → child_end d < e → smallest_holding s e f ≡ None
 at_short cs f a b s e d same h p is short =
     let r = at_child cs f a b s e d same h p is in
     r.1.2 ∙ none_short (only d) r.0 (child_end d) s e r.1.1 short
 
--- where it is a node that ends no earlier, what holds the range stands in it or is it
+-- if it is a node that ends no earlier, what holds the range is in it, or is that node
 pub at_node : (cs : List Child) (f : RangedForest) (a b s e : ℕ) (n : RangedNode) (x : RangedElement) → children_of cs ≡ f → InRow a f b → a ≤ s → reaching s cs ≡ Some (a_node n) → e ≤ n.end
     → (option_or (smallest_holding s e f) (Some x) ≡ option_or (smallest_holding s e n.children) (Some (node_element n))) × InRow n.start n.children n.end × (n.start ≤ s)
 at_node cs f a b s e n x same h p is long =
@@ -249,7 +249,7 @@ at_node cs f a b s e n x same h p is long =
       begins,
     )
 
--- where it is a leaf that ends no earlier, that leaf
+-- if it is a leaf that ends no earlier, it is that leaf
 pub at_leaf : (cs : List Child) (f : RangedForest) (a b s e : ℕ) (kind : ℕ) (range : Range ℕ) (x : RangedElement) → children_of cs ≡ f → InRow a f b → a ≤ s → reaching s cs ≡ Some (a_leaf kind range) → e ≤ range.end
     → option_or (smallest_holding s e f) (Some x) ≡ Some (leaf_element (record { kind = kind; start = range.start; end = range.end }))
 at_leaf cs f a b s e kind range x same h p is long =
@@ -261,7 +261,7 @@ at_leaf cs f a b s e kind range x same h p is long =
     ∙ (found-leaf ranged_none kind range.start range.end s e
     ∙ ap (λ t. option_or (cond t (Some l) None) None) (reaches_over range.start range.end s e begins long)))
 
--- the child is smaller than all of them
+-- the child is smaller than all children
 got_smaller : (cs : List Child) (f : RangedForest) (i : ℕ) (n : RangedNode) → slice_get cs i ≡ Some (a_node n) → forest_size n.children + 1 ≤ forest_size (with_children f cs)
 got_smaller [] f i n e = absurd (cc)
 got_smaller (x ∷ xs) f zero n e =
@@ -270,13 +270,13 @@ got_smaller (x ∷ xs) f zero n e =
     subst P (sym is) (omega (arith, size-with_children xs (with_child f (a_node n))))
 got_smaller (x ∷ xs) f (suc i) n e = got_smaller xs (with_child f x) i n e
 
-smaller_by : (cs : List Child) (f : RangedForest) (s : ℕ) (n : RangedNode) (o : Option Child) → children_of cs ≡ f → find (ends_behind s) cs ≡ o
+smaller_by : (cs : List Child) (f : RangedForest) (s : ℕ) (n : RangedNode) (o : Option Child) → children_of cs ≡ f → find (ends_after s) cs ≡ o
     → option_or o (slice_get cs (length cs - 1)) ≡ Some (a_node n) → forest_size n.children < forest_size f
 smaller_by cs f s n None same is e = omega (arith, ap forest_size same, got_smaller cs ranged_none (length cs - 1) n e)
-smaller_by cs f s n (Some d) same is e = child_smaller cs f (ends_behind s) n same (is ∙ e)
+smaller_by cs f s n (Some d) same is e = child_smaller cs f (ends_after s) n same (is ∙ e)
 
 pub reached_smaller : (cs : List Child) (f : RangedForest) (s : ℕ) (n : RangedNode) → children_of cs ≡ f → reaching s cs ≡ Some (a_node n) → forest_size n.children < forest_size f
-reached_smaller cs f s n same is = smaller_by cs f s n (find (ends_behind s) cs) same refl is
+reached_smaller cs f s n same is = smaller_by cs f s n (find (ends_after s) cs) same refl is
 
 -- the root of a text's tree
 pub from_root : (n : RangedNode) (s e : ℕ) (x : RangedElement) → n.start ≤ s → e ≤ n.end → Some x ≡ option_or (smallest_holding s e n.children) (Some (node_element n)) → Some x ≡ smallest_holding s e (only (a_node n))

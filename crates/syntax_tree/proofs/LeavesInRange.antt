@@ -16,10 +16,10 @@ leaf_inside s e a b p q = grind (arith, nat_tests)
 leaf_before : (s e a b : ℕ) → b ≤ s → ((nat_le s a && nat_le b e) && nat_lt a b) ≡ false
 leaf_before s e a b p = grind (arith, nat_tests)
 
-leaf_behind : (s e a b : ℕ) → e ≤ a → ((nat_le s a && nat_le b e) && nat_lt a b) ≡ false
-leaf_behind s e a b p = grind (arith, nat_tests)
+leaf_after : (s e a b : ℕ) → e ≤ a → ((nat_le s a && nat_le b e) && nat_lt a b) ≡ false
+leaf_after s e a b p = grind (arith, nat_tests)
 
--- two parts of what a test lets through
+-- a filter of two lists joined
 both : (p : RangedLeaf → Bool) (xs ys us vs : List RangedLeaf) → filter p xs ≡ us → filter p ys ≡ vs → filter p (xs ++ ys) ≡ us ++ vs
 both p xs ys us vs d e = filter-append p xs ys ∙ ap (λ l. l ++ filter p ys) d ∙ ap (λ l. us ++ l) e
 
@@ -56,17 +56,17 @@ none_before (ranged_leaf before kind start end) a b s e h p =
     let mid : start ≤ s = omega (arith, h.1) in
     both (lies_in s e) (leaves_of before) (leaf ∷ []) [] [] (none_before before a start s e h.0 mid) (one (lies_in s e) leaf false (leaf_before s e start end high))
 
-none_behind : (f : RangedForest) (a b s e : ℕ) → InRow a f b → e ≤ a → filter (lies_in s e) (leaves_of f) ≡ []
-none_behind ranged_none a b s e h p = refl
-none_behind (ranged_node before kind start end children) a b s e h p =
+none_after : (f : RangedForest) (a b s e : ℕ) → InRow a f b → e ≤ a → filter (lies_in s e) (leaves_of f) ≡ []
+none_after ranged_none a b s e h p = refl
+none_after (ranged_node before kind start end children) a b s e h p =
     let low : e ≤ start = omega (arith, rises before a start h.0) in
-    both (lies_in s e) (leaves_of before) (leaves_of children) [] [] (none_behind before a start s e h.0 p) (none_behind children start end s e h.1 low)
-none_behind (ranged_leaf before kind start end) a b s e h p =
+    both (lies_in s e) (leaves_of before) (leaves_of children) [] [] (none_after before a start s e h.0 p) (none_after children start end s e h.1 low)
+none_after (ranged_leaf before kind start end) a b s e h p =
     let leaf : RangedLeaf = record { kind = kind; start = start; end = end } in
     let low : e ≤ start = omega (arith, rises before a start h.0) in
-    both (lies_in s e) (leaves_of before) (leaf ∷ []) [] [] (none_behind before a start s e h.0 p) (one (lies_in s e) leaf false (leaf_behind s e start end low))
+    both (lies_in s e) (leaves_of before) (leaf ∷ []) [] [] (none_after before a start s e h.0 p) (one (lies_in s e) leaf false (leaf_after s e start end low))
 
--- where a node stands, and what of the forest lies in its range
+-- the range of a node, and the leaves of the forest in it
 pub record Stands (n : RangedNode) (a b : ℕ) (all : List RangedLeaf) : Type 0 where
   pub low : a ≤ n.start
   pub high : n.end ≤ b
@@ -80,7 +80,7 @@ stands (ranged_node before kind start end children) a b n h (inl i) =
       high = omega (arith, r.high, rises children start end h.1, h.2);
       leaves =
           both (lies_in n.start n.end) (leaves_of before) (leaves_of children) (filter has_text (leaves_of n.children)) []
-          r.leaves (none_behind children start end n.start n.end h.1 r.high)
+          r.leaves (none_after children start end n.start n.end h.1 r.high)
           ∙ append-nil (filter has_text (leaves_of n.children));
     }
 stands (ranged_node before kind start end children) a b n h (inr (inl is)) =
@@ -111,7 +111,7 @@ stands (ranged_leaf before kind start end) a b n h i =
       high = omega (arith, r.high, h.1, h.2);
       leaves =
           both (lies_in n.start n.end) (leaves_of before) (leaf ∷ []) (filter has_text (leaves_of n.children)) []
-          r.leaves (one (lies_in n.start n.end) leaf false (leaf_behind n.start n.end start end r.high))
+          r.leaves (one (lies_in n.start n.end) leaf false (leaf_after n.start n.end start end r.high))
           ∙ append-nil (filter has_text (leaves_of n.children));
     }
 

@@ -24,7 +24,7 @@ held frames f at = record { frames = frames; forest = f; at = at }
 end_of-node : (at : ℕ) (xs ys : List ℕ) → (at + length xs) + length ys ≡ at + length (xs ++ ys)
 end_of-node at xs ys = omega (arith, length-append xs ys)
 
--- the steps of a forest put it, with its places, where nothing stood yet
+-- the steps of a forest add it, with its places, to an empty forest
 pub run-flat : (f : StrForest) (ss : List StrStepValue) (frames : Frames) (at : ℕ) → run (held frames ranged_none at) (str_flat f ++ ss) ≡ run (held frames (ranged at f) (end_from at f)) ss
 run-flat str_none ss frames at = ap (λ n. run (held frames ranged_none n) ss) (sym (add-zero at))
 run-flat (str_node before kind children) ss frames at =

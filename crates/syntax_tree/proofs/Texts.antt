@@ -48,11 +48,11 @@ text_joined (str_node before kind children) h = IsUtf8-append (str_joined before
 text_joined (str_leaf before kind text) h = IsUtf8-append (str_joined before) text (text_joined before h.0) h.1
 text_joined (str_message before bytes pos) h = text_joined before h
 
--- a border between two parts of a text
+-- a character boundary between two parts of a text
 border : (text front back : List ℕ) (at : ℕ) → at ≡ length front → text ≡ front ++ back → IsUtf8 back → IsCharBoundary text at
 border text front back at e parts h = let P : ℕ → Type 0 = λ n. IsCharBoundary text n in subst P (sym e) (IsCharBoundary-at_seam text front back parts h)
 
--- a part of a text stands at a place
+-- the range of a part of a text is on character boundaries
 place : (text front part back : List ℕ) (at : ℕ) → at ≡ length front → text ≡ front ++ (part ++ back) → IsUtf8 part → IsUtf8 back → IsPlace text at (at + length part)
 place text front part back at e parts p b = record {
   begins = border text front (part ++ back) at e parts (IsUtf8-append part back p b);
@@ -60,7 +60,7 @@ place text front part back at e parts p b = record {
   rising = omega arith;
 }
 
--- the nodes and leaves of a forest that stands inside a text
+-- the nodes and leaves of a forest inside a text
 pub places_inside : (f : StrForest) (text front back : List ℕ) (at : ℕ) → at ≡ length front → text ≡ front ++ (str_joined f ++ back) → IsUtf8 back → HasTexts f → HavePlaces text (ranged at f)
 places_inside str_none text front back at e parts b h = tt
 places_inside (str_node before kind children) text front back at e parts b h =

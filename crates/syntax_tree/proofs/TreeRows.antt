@@ -6,7 +6,7 @@ use Rattle.syntax_tree.specs.InRow.{InRow}
 use Rattle.syntax_tree.specs.Leaves.{RangedLeaf, leaf_of_byte}
 use Rattle.syntax_tree.specs.Ranged.{Ranged, end_from, ranged}
 use Rattle.syntax_tree.specs.RangedForest.{RangedForest, RangedNode}
-use Rattle.syntax_tree.proofs.InRowLemmas.{byte_behind, byte_inside}
+use Rattle.syntax_tree.proofs.InRowLemmas.{byte_after, byte_inside}
 
 end_of_both : (at : ℕ) (xs ys : List ℕ) → (at + length xs) + length ys ≡ at + length (xs ++ ys)
 end_of_both at xs ys = omega (arith, length-append xs ys)
@@ -27,7 +27,7 @@ root_row f n e =
     let h = subst P (sym e) (ranged_row f 0) in
     (h.1, sym h.0)
 
--- no leaf has a byte exactly at the end and behind it
+-- exactly the bytes at the end and after it are in no leaf
 pub none_from_end : (f : StrForest) (n : RangedNode) (offset : ℕ) (r : Option RangedLeaf) → Ranged f n → r ≡ leaf_of_byte offset n.children → (r ≡ None) ↔ (n.end ≤ offset)
 none_from_end f n offset r e is =
     let row = root_row f n e in
@@ -39,5 +39,5 @@ none_from_end f n offset r e is =
             absurd (cc)
         | inr q ↦ q
       ],
-      λ q. is ∙ byte_behind n.children n.start n.end offset row.0 q,
+      λ q. is ∙ byte_after n.children n.start n.end offset row.0 q,
     )

@@ -1,4 +1,4 @@
--- What a walk has before it, and the room that it needs.
+-- What is left of a walk, and the capacity that it needs.
 use Rattle.std.proofs.Common.{◌≡◌, ℕ, ◌+◌, ◌-◌, ◌<◌, ◌≤◌, max, List, [], ◌∷◌, ◌++◌, length, length-append, get_or, take, drop, refl, ap, sym, ◌∙◌, append_assoc, append-nil, arith}
 use Rattle.std.proofs.Math.Nat.{le-max_left, le-max_right, max-le, max-zero, max-eq_right}
 use Rattle.std.proofs.lemmas.List.{take_all}
@@ -72,7 +72,7 @@ levels-first c cs =
     ∙ (zero_max (child_levels (c ∷ cs))
     ∙ ap (λ n. max (levels (only c)) n) (sym (levels-with_children cs ranged_none ∙ zero_max (child_levels cs))))
 
--- what they weigh
+-- their weight
 weight-with_child : (c : Child) (f : RangedForest) → weight (with_child f c) ≡ weight f + weight (only c)
 weight-with_child (a_node n) f = omega arith
 weight-with_child (a_leaf kind range) f = omega arith
@@ -95,11 +95,11 @@ ahead-snoc (x ∷ xs) s =
     ap (λ l. l ++ elements_of (children_of x.now)) (ahead-snoc xs s)
     ∙ append_assoc (elements_of (children_of s.now)) (ahead xs) (elements_of (children_of x.now))
 
--- a number that two have room in
+-- a number at least as large as two others
 both_within : (a b m : ℕ) → max a b ≤ m → (a ≤ m) × (b ≤ m)
 both_within a b m h = (omega (arith, h, le-max_left a b), omega (arith, h, le-max_right a b))
 
--- what a list that a walk holds above so many others needs
+-- the capacity for a list that a walk holds above n others
 abbrev pub needed : ℕ → Bor (List Child) → ℕ
 needed held s = held + 1 + levels (children_of s.now)
 
@@ -213,7 +213,7 @@ node_room before old mid after s rest inner c n m e is node d a same h =
     let here : held + 1 + levels (only c) ≤ m = omega (arith, needed_only n held m deep, ap (λ k. levels (only k)) node) in
     omega (arith, ap (room 0) e, room_snoc before s 0 m r.0 (needed_by held m s (c ∷ rest.now) is (needed_first c rest.now held m here r.1)))
 
--- the same the other way round: what there was room for leaves room for what comes
+-- the converse: the capacity for what was left is enough for what comes next
 pub last_room : (before old : List (Bor (List Child))) (s : Bor (List Child)) (m : ℕ) → old ≡ before ++ s ∷ [] → room 0 old ≤ m → room 0 before ≤ m
 last_room before old s m e h = (room_of_snoc before s 0 m (omega (arith, h, ap (room 0) e))).0
 
@@ -263,12 +263,12 @@ pub node_ahead : (before old mid after : List (Bor (List Child))) (s rest inner 
     → old ≡ before ++ s ∷ [] → s.now ≡ c ∷ rest.now → c ≡ a_node n → mid ≡ before ++ rest ∷ [] → after ≡ mid ++ inner ∷ [] → children_of inner.now ≡ n.children
     → ahead old ≡ element_of c ∷ ahead after
 node_ahead before old mid after s rest inner c n e is node d a same =
-    let behind : List RangedElement = elements_of (children_of rest.now) ++ ahead before in
-    let then : ahead after ≡ elements_of n.children ++ behind =
+    let others : List RangedElement = elements_of (children_of rest.now) ++ ahead before in
+    let then : ahead after ≡ elements_of n.children ++ others =
     ap ahead a ∙ (ahead-snoc mid inner ∙ (ap (λ f. elements_of f ++ ahead mid) same ∙ ap (λ l. elements_of n.children ++ l) (ap ahead d ∙ ahead-snoc before rest))) in
     first_ahead before old s c rest.now e is
-    ∙ (ap (λ k. elements_of (only k) ++ behind) node
-    ∙ (ap (λ k. element_of k ∷ (elements_of n.children ++ behind)) (sym node)
+    ∙ (ap (λ k. elements_of (only k) ++ others) node
+    ∙ (ap (λ k. element_of k ∷ (elements_of n.children ++ others)) (sym node)
     ∙ ap (λ l. element_of c ∷ l) (sym then)))
 
 -- the nodes and the leaves among the nodes and leaves of a forest

@@ -13,7 +13,7 @@ weight ranged_none = 0
 weight (ranged_node before kind start end children) = weight before + (2 + weight children)
 weight (ranged_leaf before kind start end) = weight before + 2
 
--- the same of a list that is left for the last node's children, and of the lists further out, which that node holds
+-- the same for a list that is left for the last node's children, and for the outer lists, which that node holds
 abbrev pub outer_weight : RangedForest → ℕ
 outer_weight ranged_none = 0
 outer_weight (ranged_node before kind start end children) = weight before + (1 + outer_weight children)
@@ -24,7 +24,7 @@ outer_weight-le ranged_none = omega arith
 outer_weight-le (ranged_node before kind start end children) = omega (arith, outer_weight-le children)
 outer_weight-le (ranged_leaf before kind start end) = omega arith
 
--- what the last child weighs
+-- the weight of the last child
 pub weight-leaf : (cs ds : List Child) (c : Child) (kind : ℕ) (range : Range ℕ) → ds ≡ cs ++ c ∷ [] → c ≡ a_leaf kind range → weight (children_of ds) ≡ weight (children_of cs) + 2
 weight-leaf cs ds c kind range e is = ap weight (children-snoc cs ds c e ∙ ap (λ d. with_child (children_of cs) d) is)
 

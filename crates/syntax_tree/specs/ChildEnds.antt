@@ -1,5 +1,5 @@
 -- Where children end.
--- (What calls promise one another; no promise of the library rests on it.)
+-- (Used in contracts between internal functions only; no public contract rests on it.)
 use Rattle.std.specs.Prelude.{Bool, ℕ, ◌-◌, List, Option, length, nat_lt}
 use Rattle.std.specs.List.{find, slice_get}
 use Rattle.std.specs.Option.{option_or}
@@ -10,10 +10,10 @@ abbrev pub child_end : Child → ℕ
 child_end (a_node n) = n.end
 child_end (a_leaf kind range) = range.end
 
--- a child ends behind the byte
-abbrev pub ends_behind : ℕ → Child → Bool
-ends_behind offset c = nat_lt offset (child_end c)
+-- a child ends after the byte
+abbrev pub ends_after : ℕ → Child → Bool
+ends_after offset c = nat_lt offset (child_end c)
 
--- the first child that ends behind the byte, or the last one
+-- the first child that ends after the byte, or the last one
 abbrev pub reaching : ℕ → List Child → Option Child
-reaching offset cs = option_or (find (ends_behind offset) cs) (slice_get cs (length cs - 1))
+reaching offset cs = option_or (find (ends_after offset) cs) (slice_get cs (length cs - 1))

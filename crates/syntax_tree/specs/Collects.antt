@@ -1,5 +1,5 @@
--- A tree with its messages, as far as its steps have come.
--- (What calls promise one another; no promise of the library rests on it.)
+-- A tree with its messages after some of its steps.
+-- (Used in contracts between internal functions only; no public contract rests on it.)
 use Rattle.std.specs.Prelude.{◌≡◌, ◌++◌}
 use Rattle.rap_lexed.specs.StrStep.{StrStepValue}
 use Rattle.syntax_tree.specs.Building.{Builds}

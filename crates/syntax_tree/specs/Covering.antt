@@ -19,15 +19,15 @@ abbrev pub element_end : RangedElement → ℕ
 element_end (node_element n) = n.end
 element_end (leaf_element l) = l.end
 
--- it begins where the range does or before, and ends where the range does or behind
+-- it begins where the range does or before, and ends where the range does or after
 abbrev pub holds : ℕ → ℕ → RangedElement → Bool
 holds start end e = nat_le (element_start e) start && nat_le end (element_end e)
 
--- Of the nodes and leaves of a forest that hold the range the last one in preorder: none of the others stands in it.
+-- Of the nodes and leaves of a forest that hold the range, the last one in preorder: none of the others is inside it.
 abbrev pub smallest_holding : ℕ → ℕ → RangedForest → Option RangedElement
 smallest_holding start end f = find (holds start end) (reverse (elements_of f))
 
--- what is handed out, as contracts see it
+-- the value that is returned, as contracts see it
 abbrev pub shown : Element → RangedElement
 shown (whole_node n) = node_element n.now
 shown (whole_leaf l) = leaf_element l

@@ -1,4 +1,4 @@
--- What stands in a forest, each thing before what stands in it.
+-- The nodes and leaves of a forest, each before those inside it.
 use Rattle.std.specs.Prelude.{List, [], ◌∷◌, ◌++◌}
 use Rattle.syntax_tree.specs.Leaves.{RangedLeaf}
 use Rattle.syntax_tree.specs.RangedForest.{RangedForest, RangedNode, ranged_none, ranged_node, ranged_leaf}

@@ -5,7 +5,7 @@ use Rattle.syntax_tree.specs.Leaves.{RangedLeaf, leaves_of}
 use Rattle.syntax_tree.specs.Ranged.{Ranged}
 use Rattle.syntax_tree.specs.RangedForest.{RangedForest, RangedNode, ranged_none, ranged_node, ranged_leaf, alone}
 
--- a node stands in a forest, right in it or further inside
+-- a node is in a forest, at its top or further inside
 abbrev pub StandsIn : RangedNode → RangedForest → Type 0
 StandsIn n ranged_none = ⊥
 StandsIn n (ranged_node before kind start end children) =
@@ -21,7 +21,7 @@ abbrev pub lies_in : ℕ → ℕ → RangedLeaf → Bool
 lies_in start end leaf = (nat_le start leaf.start && nat_le leaf.end end) && has_text leaf
 
 -- In a tree with the places of a text, the leaves of a node are those leaves of the tree that lie in its range. (No leaf
--- of a lexed text is empty; an empty one at the range's border would say nothing.)
+-- of a lexed text is empty; an empty one at the end of the range could be in the node or not.)
 abbrev pub HasLeavesInRange : Type 0
 HasLeavesInRange =
     (f : StrForest) (root n : RangedNode) → Ranged f root → StandsIn n (alone root)

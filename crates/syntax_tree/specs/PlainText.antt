@@ -3,7 +3,7 @@ use Rattle.std.specs.Prelude.{ℕ, if◌then◌else◌, List, [], ◌∷◌, ◌
 use Rattle.rap_base.specs.TokenTests.{is_trivia}
 use Rattle.syntax_tree.specs.Leaves.{RangedLeaf}
 
--- the text of a leaf, and nothing of one that is trivia
+-- the text of a leaf, or no text if it is trivia
 abbrev pub plain_leaf : List ℕ → RangedLeaf → List ℕ
 plain_leaf text leaf = if is_trivia leaf.kind then [] else slice_range text leaf.start leaf.end
 

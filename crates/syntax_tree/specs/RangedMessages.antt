@@ -4,7 +4,7 @@ use Rattle.syntax_tree.specs.Leaves.{RangedLeaf, leaf_of_byte}
 use Rattle.syntax_tree.specs.RangedForest.{RangedForest}
 use Rattle.syntax_tree.specs.Reports.{ReportValue}
 
--- a message: the bytes of what it says, the byte of the text at which it stands, and the bytes at which the leaf there
+-- a message: the bytes of its text, its position in bytes, and the bytes at which the leaf there
 -- begins and ends
 pub record RangedMessage : Type 0 where
   pub text : List ℕ
@@ -12,7 +12,7 @@ pub record RangedMessage : Type 0 where
   pub start : ℕ
   pub end : ℕ
 
--- a message at a leaf; behind the last leaf its place is empty
+-- a message at a leaf; after the last leaf its range is empty
 abbrev pub ranged_at : ReportValue → Option RangedLeaf → RangedMessage
 ranged_at m None = record { text = m.text; at = m.at; start = m.at; end = m.at }
 ranged_at m (Some leaf) = record { text = m.text; at = m.at; start = leaf.start; end = leaf.end }

@@ -3,7 +3,7 @@ use Rattle.std.specs.Prelude.{ℕ, List, [], ◌∷◌, ◌++◌}
 use Rattle.rap_lexed.specs.LexedStr.{Lexed, Token, Message, start_of}
 use Rattle.rap_lexed.specs.StrStep.{StrStepValue, str_enter, str_exit, str_token, str_error}
 
--- a message: the bytes of what it says, and the byte of the text at which it stands
+-- a message: the bytes of its text, and its position in bytes
 pub record ReportValue : Type 0 where
   pub text : List ℕ
   pub at : ℕ

@@ -1,5 +1,5 @@
--- Nodes as lists of numbers, by which the prover tells them apart.
--- (What calls promise one another; no promise of the library rests on it.)
+-- Nodes as lists of numbers, by which the prover distinguishes them.
+-- (Used in contracts between internal functions only; no public contract rests on it.)
 use Rattle.std.specs.Prelude.{◌≡◌, ℕ, zero, suc, List, [], ◌∷◌, ◌++◌, refl}
 use Rattle.std.specs.Coded.{Coded, code_by, coded×, coded_ℕ, coded_list}
 use Rattle.std.proofs.Common.{◌∙◌, ap, sym, append_assoc, append-nil}
@@ -18,7 +18,7 @@ marks (ranged_node before kind start end children) =
     marks before ++ begin_mark ∷ (marks children ++ end_mark kind start end ∷ [])
 marks (ranged_leaf before kind start end) = marks before ++ leaf_mark kind start end ∷ []
 
--- the forests before the nodes that have begun and not ended, the newest on top
+-- the forests before the open nodes, the newest on top
 pub data Begun : Type 0 where
   nothing : Begun
   inside : Begun → RangedForest → Begun

@@ -14,8 +14,8 @@ use Rattle.syntax_tree.specs.RangedMessages.{RangedMessage, ranged_message}
 use Rattle.syntax_tree.specs.Reports.{all_reports}
 
 -- The root is the one tree of the text's tokens, with the place of each node and leaf, and covers the whole text; each
--- place is from one border of characters to another; and the messages are those of the tree, and after them those of
--- the lexer, each with the place of the leaf at which it stands.
+-- range is on character boundaries; and the messages are those of the tree, and after them those of
+-- the lexer, each with the range of the leaf at its position.
 pub record IsTextTree (text : List ℕ) (edition : Edition) (entry : TopEntryPoint) (root : RangedNode) (messages : List RangedMessage) : Type 0 where
   pub lexed : Lexed
   pub forest : Forest

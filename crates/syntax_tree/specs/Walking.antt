@@ -1,5 +1,5 @@
 -- A walk through a forest.
--- (What calls promise one another; no promise of the library rests on it.)
+-- (Used in contracts between internal functions only; no public contract rests on it.)
 use Rattle.std.specs.Prelude.{ℕ, ◌+◌, max, List, [], ◌∷◌, ◌++◌, Option, Some, None}
 use Rattle.std.specs.Borrow.{Bor}
 use Rattle.syntax_tree.specs.Children.{children_of}
@@ -25,23 +25,23 @@ leaves_in [] = []
 leaves_in (node_element n ∷ es) = leaves_in es
 leaves_in (leaf_element l ∷ es) = l ∷ leaves_in es
 
--- the node that comes before a walk's
+-- the node of a walk that comes first, if there is one
 abbrev pub first_node : Option (Bor RangedNode) → List RangedNode
 first_node None = []
 first_node (Some n) = n.now ∷ []
 
--- what a walk has before it that holds these lists of children, the one that it is in last
+-- what is left of a walk that holds these lists of children, the innermost last
 abbrev pub ahead : List (Bor (List Child)) → List RangedElement
 ahead [] = []
 ahead (s ∷ ss) = ahead ss ++ elements_of (children_of s.now)
 
--- how many lists of children stand inside one another below a forest
+-- the depth of the lists of children below a forest
 abbrev pub levels : RangedForest → ℕ
 levels ranged_none = 0
 levels (ranged_node before kind start end children) = max (levels before) (levels children + 1)
 levels (ranged_leaf before kind start end) = levels before
 
--- the most lists that a walk comes to hold, which holds these above so many others
+-- the largest number of lists that a walk holds, which holds these above n others
 abbrev pub room : ℕ → List (Bor (List Child)) → ℕ
 room held [] = 0
 room held (s ∷ ss) = max (held + 1 + levels (children_of s.now)) (room (held + 1) ss)

@@ -12,7 +12,7 @@ use rap_lexed::lexed_str::LexedStr;
 use rap_lexed::shortcuts::{StrSink, StrStep};
 use std::alloc::Global;
 
-/// A tree and its messages as far as its steps have come.
+/// A tree and its messages after some of its steps.
 #[derive(Drop)]
 pub(crate) struct Collector {
     alloc: Global,
@@ -21,7 +21,7 @@ pub(crate) struct Collector {
 }
 
 impl Collector {
-    /// Nothing yet.
+    /// An empty collector.
     pub(crate) fn new(alloc: Global) -> Collector
         ensures tree { building result.builder ≡ record { frames = outermost; forest = ranged_none; at = 0 } }
         ensures reports { result.reports.items ≡ [] }

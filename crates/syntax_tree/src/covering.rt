@@ -12,17 +12,17 @@ ghost use Rattle.syntax_tree.specs.RangedForest.{alone};
 
 use crate::element::Element;
 use crate::leaf::Leaf;
-use crate::leaf_at::{child_behind, end_of};
+use crate::leaf_at::{child_after, end_of};
 use crate::node::{Child, Node};
 use crate::tree::Tree;
 use std::ops::Range;
 
 impl Tree<'_> {
     /// The smallest node or leaf that holds a range of bytes: of those that begin where it begins or before, and end where
-    /// it ends or behind, the last one in preorder. None of the others stands in it. Of two leaves between which an
-    /// empty range stands it is the one behind. `None` exactly where the range ends behind the text. The tree must have
+    /// it ends or after, the last one in preorder. None of the others is inside it. Of two leaves between which an
+    /// empty range is, it is the second one. `None` exactly if the range ends after the text. The tree must have
     /// the places of a text, as [`Tree::build`] and [`Tree::of_text`] return it. On each level it searches the children
-    /// of one node by halves, and it takes no memory.
+    /// of one node by bisection, and it allocates no memory.
     pub fn covering(&self, range: Range<usize>) -> Option<Element<'_>>
         requires { (forest : StrForest) × Ranged forest self.now.root }
         ensures element { option_map shown result ≡ smallest_holding range.start range.end (alone self.now.root) }
@@ -36,20 +36,20 @@ impl Tree<'_> {
     }
 }
 
-/// The first child that ends behind a byte, or the last one if none does.
+/// The first child that ends after a byte, or the last one if none does.
 fn child_reaching(children: &[Child], offset: usize) -> Option<&Child>
     requires { IsNonDecreasingBy child_end children.now }
     ensures { option_copied result ≡ reaching offset children.now }
 {
-    let behind = child_behind(children, offset);
-    if behind.is_some() {
-        behind
+    let found = child_after(children, offset);
+    if found.is_some() {
+        found
     } else {
         children.last()
     }
 }
 
-/// What holds a range that a node holds, in the node or the node itself.
+/// The smallest node or leaf that holds a range which the node holds: inside the node, or the node itself.
 fn covering_below(root: &Node, start: usize, end: usize) -> Element<'_>
     requires row { InRow root.now.start root.now.children root.now.end }
     requires begins { root.now.start ≤ start }

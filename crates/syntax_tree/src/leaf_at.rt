@@ -2,7 +2,7 @@
 ghost use Rattle.std.specs.Prelude.{◌≡◌, ◌≤◌, ◌↔◌, None, find, option_copied};
 ghost use Rattle.std.specs.List.Sorted.{IsNonDecreasingBy};
 ghost use Rattle.rap_lexed.specs.StrForest.{StrForest};
-ghost use Rattle.syntax_tree.specs.ChildEnds.{child_end, ends_behind};
+ghost use Rattle.syntax_tree.specs.ChildEnds.{child_end, ends_after};
 ghost use Rattle.syntax_tree.specs.InRow.{InRow};
 ghost use Rattle.syntax_tree.specs.Leaves.{leaf_of_byte};
 ghost use Rattle.syntax_tree.specs.Ranged.{Ranged};
@@ -15,7 +15,7 @@ impl Tree<'_> {
     /// The leaf that holds the byte at this offset in the text: the one that begins there or before, and ends after it.
     /// `None` exactly at the end of the text and after it. The tree must have the places of a text, as [`Tree::build`]
     /// and [`Tree::of_text`] return it. On each level it searches the
-    /// children of one node by halves, and it allocates no memory.
+    /// children of one node by bisection, and it allocates no memory.
     pub fn leaf_at(&self, offset: usize) -> Option<Leaf>
         requires { (forest : StrForest) × Ranged forest self.now.root }
         ensures leaf { result ≡ leaf_of_byte offset self.now.root.children }
@@ -36,9 +36,9 @@ pub(crate) fn end_of(child: &Child) -> usize
 }
 
 /// The first child that ends after a byte.
-pub(crate) fn child_behind(children: &[Child], offset: usize) -> Option<&Child>
+pub(crate) fn child_after(children: &[Child], offset: usize) -> Option<&Child>
     requires { IsNonDecreasingBy child_end children.now }
-    ensures { option_copied result ≡ find (ends_behind offset) children.now }
+    ensures { option_copied result ≡ find (ends_after offset) children.now }
 {
     let at = children.partition_point(|child| end_of(child) <= offset);
     if at < children.len() {
@@ -56,7 +56,7 @@ pub(crate) fn leaf_below(root: &Node, offset: usize) -> Option<Leaf>
 {
     let mut node = root;
     'down: loop {
-        match child_behind(node.children(), offset) {
+        match child_after(node.children(), offset) {
             Some(Child::Node(inner)) => node = inner,
             Some(Child::Leaf { kind, range }) => return Some(Leaf::new(
                 *kind,

@@ -4,7 +4,7 @@ ghost use Rattle.std.specs.Prelude.{◌≡◌, string_bytes};
 use std::marker::Model;
 use std::ops::Range;
 
-/// A message about a text: what it says, the byte of the text at which it stands, and the place of the token there.
+/// A message about a text: its own text, its position in bytes, and the range of the token there.
 #[derive(Debug, Drop)]
 pub struct Message {
     text: String,
@@ -35,21 +35,21 @@ impl Message {
         }
     }
 
-    /// What it says.
+    /// The text of the message.
     pub fn text(&self) -> &str
         ensures { result.now ≡ self.now.text }
     {
         self.text.as_str()
     }
 
-    /// The byte of the text at which it stands.
+    /// Its position in the text, in bytes.
     pub fn position(&self) -> usize
         ensures { result ≡ self.now.at }
     {
         self.at
     }
 
-    /// The place of the token at which it stands, in bytes. At the end of the text it is empty.
+    /// The range of the token at its position, in bytes. At the end of the text it is empty.
     pub fn range(&self) -> Range<usize>
         ensures start { result.start ≡ self.now.start }
         ensures end { result.end ≡ self.now.end }

@@ -6,7 +6,7 @@ use crate::node::{Child, Node};
 use rap_base::syntax_kind::SyntaxKind;
 
 impl Node {
-    /// The first node of the kind that stands right in the node. A leaf of the kind does not count, nor does a node
+    /// The first child node of the kind. A leaf of the kind does not count, nor does a node
     /// further inside.
     pub fn child_of_kind(&self, kind: SyntaxKind) -> Option<&Node>
         ensures { option_copied result ≡ first_of_kind kind self.now.children }

@@ -10,7 +10,7 @@ use rap_base::no_memory::NoMemory;
 use std::alloc::Global;
 use std::marker::Model;
 
-/// A message: what it says, and the byte of the text at which it stands.
+/// A message: its text, and its position in bytes.
 #[derive(Drop)]
 pub(crate) struct Report {
     text: String,
@@ -34,7 +34,7 @@ impl Report {
         Report { text, at }
     }
 
-    /// The message with the place of the leaf below a node at which it stands.
+    /// The message with the range of the leaf at its position below a node.
     fn placed(self, root: &Node) -> Message
         requires row { InRow root.now.start root.now.children root.now.end }
         requires begins { root.now.start ≡ 0 }

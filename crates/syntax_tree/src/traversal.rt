@@ -12,8 +12,8 @@ use std::alloc::Global;
 use std::marker::Model;
 
 impl Node {
-    /// The node and all nodes inside it, each before those that stand in it, from left to right. The memory for the depth
-    /// of the tree is taken here, where the tree is walked through once, and a step takes none. The error is want of
+    /// The node and all nodes inside it, each before those inside it, from left to right. The memory for the depth
+    /// of the tree is allocated here, in one walk through the tree, and a step allocates none. The error means out of
     /// memory.
     pub fn descendants(&self, alloc: Global) -> Result<Descendants<'_>, NoMemory>
         ensures { IfOk result (λ nodes. nodes ≡ self.now ∷ descendants_of self.now.children) }
@@ -24,7 +24,7 @@ impl Node {
         })
     }
 
-    /// The leaves of the node and of all nodes inside it, from left to right. The memory is taken as by
+    /// The leaves of the node and of all nodes inside it, from left to right. Memory is allocated as by
     /// [`Node::descendants`].
     pub fn leaves(&self, alloc: Global) -> Result<Leaves<'_>, NoMemory>
         ensures { IfOk result (λ leaves. leaves ≡ leaves_of self.now.children) }

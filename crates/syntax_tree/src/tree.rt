@@ -59,7 +59,7 @@ impl<'t> Tree<'t> {
         })
     }
 
-    /// The tree of a text, from its bytes on: the text is divided into tokens, and parsed from the entry point. The
+    /// The tree of a text: the text is divided into tokens, and parsed from the entry point. The
     /// tree keeps the messages.
     ///
     /// The errors are those of [`parse_text`]; if a node or a message is out of memory, the error is `Refused`.
@@ -127,7 +127,7 @@ impl<'t> Tree<'t> {
     }
 }
 
-/// The node that stands alone in a list.
+/// The node that is alone in a list.
 fn only_node(mut children: Vec<Child>) -> Node
     requires { (node : RangedNode) × (children_of children.items ≡ alone node) }
     ensures { children_of children.items ≡ alone result }

@@ -1,4 +1,4 @@
-//! The walk through what stands in a node, each thing before what stands in it.
+//! The walk through the nodes and leaves inside a node, each before those inside it.
 ghost use Rattle.std.specs.Prelude.{◌≡◌, ◌+◌, ◌≤◌, [], ◌∷◌, IfOk, MatchOption, vec_capacity};
 ghost use Rattle.syntax_tree.specs.Children.{children_of};
 ghost use Rattle.syntax_tree.specs.Elements.{elements_of};
@@ -9,8 +9,8 @@ use rap_base::no_memory::NoMemory;
 use std::alloc::Global;
 use std::marker::Model;
 
-/// What a walk has before it. It holds the rest of each list of children that it is in, the innermost last, and has
-/// room for as many as it comes to hold.
+/// What is left of a walk. It holds the rest of each list of children that it is in, the innermost last, and has
+/// capacity for as many as it ever holds.
 #[derive(Drop)]
 pub(crate) struct Walk<'a> {
     stack: Vec<&'a [Child]>,
@@ -61,7 +61,7 @@ impl<'a> Walk<'a> {
     }
 }
 
-/// An empty list with room for as many lists of children as the walk through these comes to hold: it makes the walk.
+/// An empty list with capacity for as many lists of children as the walk through these ever holds: it makes the walk.
 fn with_room<'a>(alloc: Global, children: &'a [Child]) -> Result<Vec<&'a [Child]>, NoMemory>
     ensures items { IfOk result (λ stack. stack.items ≡ []) }
     ensures room { IfOk result (λ stack. 1 + levels (children_of children.now) ≤ vec_capacity stack) }

@@ -1,7 +1,4 @@
 use Rattle.std.proofs.Common.{rules}
-use Rattle.rap_lexed.specs.StrForest.{str_flat}
-use Rattle.rap_lexed.specs.Trivia.{with_trivia}
-use Rattle.rap_c.specs.Words.{lexer_steps}
 use Rattle.rap_c.proofs.Packed.{pack_along, words_given}
 use Rattle.rap_c.proofs.tree_words.fill_tree_words.Goals as goal
 

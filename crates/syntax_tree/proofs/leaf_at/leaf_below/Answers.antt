@@ -1,16 +1,16 @@
 use Rattle.std.proofs.Common.{Some, ap, sym, ◌∙◌}
-use Rattle.syntax_tree.specs.ChildEnds.{ends_behind}
+use Rattle.syntax_tree.specs.ChildEnds.{ends_after}
 use Rattle.syntax_tree.proofs.ChildRows.{follow, ends_rise, child_smaller, at_leaf, at_node, at_none}
 use Rattle.syntax_tree.proofs.leaf_at.leaf_below.Goals as goal
 
-pub child_behind-requires : goal.child_behind-requires
-child_behind-requires c =
+pub child_after-requires : goal.child_after-requires
+child_after-requires c =
     let n = c.down.node.now in
     ends_rise c.children.result.now n.start n.end (follow c.children.result.now n.children n.start n.end c.children.ensures c.down.invariant.row)
 
 pub down-smaller : goal.down-smaller
 down-smaller c =
-    child_smaller c.children.result.now c.down.node.now.children (ends_behind c.args.offset) c.in-Some-Node.inner c.children.ensures
+    child_smaller c.children.result.now c.down.node.now.children (ends_after c.args.offset) c.in-Some-Node.inner c.children.ensures
     (sym c.in-Some-Node.ensures ∙ ap Some c.in-Some-Node.field-0-is)
 
 pub down-preserved : goal.down-preserved

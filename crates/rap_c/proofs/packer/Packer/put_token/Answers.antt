@@ -1,4 +1,3 @@
-use Rattle.rap_c.specs.Words.{word_of}
 use Rattle.rap_c.proofs.Packed.{short_token, long_token}
 use Rattle.rap_c.proofs.packer.Packer.put_token.Goals as goal
 

@@ -1,6 +1,6 @@
 use Rattle.std.proofs.Common.{arith}
 use Rattle.rap_steps.proofs.Leaves.{splits_by}
-use Rattle.rap_steps.proofs.cover.float_stands.Goals as goal
+use Rattle.rap_steps.proofs.cover.float_matches.Goals as goal
 
 pub returns : goal.returns
 returns c =
