@@ -1,11 +1,13 @@
-//! `rast_speed EDITION ENTRY FILE` prints how long each part of a parse of the file takes.
+//! `rast_speed EDITION ENTRY FILE [build]` prints how long each part of a parse of the file takes, and with the fourth
+//! word how long a tree takes that owns its nodes.
 #![tactic(auto)]
 
+mod request;
 mod times;
 
 use ra_ap_parser::{Edition, LexFault, ParseFault, TopEntryPoint};
 use rast_common::fault::{exit_code, report};
-use rast_print::request::read_request;
+use request::read_speed_request;
 use std::alloc::{AllocError, Global};
 use std::process::ExitCode;
 use std::rt::Clock;
@@ -15,7 +17,7 @@ use times::{Failure, Times, measure};
 /// How often each part is measured; the shortest time counts.
 const ROUNDS: usize = 5;
 
-const USAGE: &str = "usage: rast_speed EDITION ENTRY FILE\n";
+const USAGE: &str = "usage: rast_speed EDITION ENTRY FILE [build]\n";
 
 const UNREADABLE: &str = "rast_speed: cannot read the file\n";
 
@@ -38,10 +40,11 @@ fn measure_rounds<R: Clock>(
     edition: Edition,
     entry: TopEntryPoint,
     text: &str,
+    builds: bool,
 ) -> Result<Times, Failure> {
-    let mut best = measure(rt, alloc, edition, entry, text)?;
+    let mut best = measure(rt, alloc, edition, entry, text, builds)?;
     for _ in 1..ROUNDS {
-        let next = measure(rt, alloc, edition, entry, text)?;
+        let next = measure(rt, alloc, edition, entry, text, builds)?;
         best = best.shortest(&next);
     }
     Ok(best)
@@ -49,16 +52,13 @@ fn measure_rounds<R: Clock>(
 
 /// The lines that show the times.
 fn lines(alloc: Global, bytes: usize, times: &Times) -> Result<String, AllocError> {
+    let build = match times.build {
+        Some(time) => format!(in alloc; ", build {time} us")?,
+        None => String::new(alloc),
+    };
     format!(in alloc;
-        "{bytes} bytes, {} input tokens, {} steps, {} ERROR nodes\nlex {} us, to_input {} us, parse {} us, intersperse {} us, build {} us\n",
-        times.tokens,
-        times.steps,
-        times.errors,
-        times.lex,
-        times.input,
-        times.parse,
-        times.sink,
-        times.build
+        "{bytes} bytes, {} input tokens, {} steps, {} ERROR nodes\nlex {} us, to_input {} us, parse {} us, intersperse {} us{build}\n",
+        times.tokens, times.steps, times.errors, times.lex, times.input, times.parse, times.sink
     )
 }
 
@@ -70,14 +70,21 @@ fn write<W: io::Write>(out: &mut W, lines: &str) -> io::Result<()> {
 
 fn main(rt: HostRuntime) -> ExitCode {
     let mut err = rt.stderr();
-    let Some(request) = read_request(&rt) else {
+    let Some((request, builds)) = read_speed_request(&rt) else {
         return exit_code(report(&mut err, USAGE));
     };
     let Ok(text) = fs::read_to_string(&rt, request.file.as_str()) else {
         return exit_code(report(&mut err, UNREADABLE));
     };
     let alloc = rt.alloc();
-    let times = match measure_rounds(&rt, alloc, request.edition, request.entry, text.as_str()) {
+    let times = match measure_rounds(
+        &rt,
+        alloc,
+        request.edition,
+        request.entry,
+        text.as_str(),
+        builds,
+    ) {
         Ok(times) => times,
         Err(failure) => return exit_code(report(&mut err, failure_message(&failure))),
     };

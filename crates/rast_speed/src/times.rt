@@ -41,7 +41,8 @@ pub struct Times {
     pub input: u128,
     pub parse: u128,
     pub sink: u128,
-    pub build: u128,
+    /// That of building a tree, if one was built.
+    pub build: Option<u128>,
     pub tokens: usize,
     pub steps: usize,
     pub errors: usize,
@@ -55,11 +56,19 @@ impl Times {
             input: self.input.min(other.input),
             parse: self.parse.min(other.parse),
             sink: self.sink.min(other.sink),
-            build: self.build.min(other.build),
+            build: shorter(self.build, other.build),
             tokens: self.tokens,
             steps: self.steps,
             errors: self.errors,
         }
+    }
+}
+
+/// The shorter of two times, if both were taken.
+fn shorter(time: Option<u128>, other: Option<u128>) -> Option<u128> {
+    match (time, other) {
+        (Some(time), Some(other)) => Some(time.min(other)),
+        _ => None,
     }
 }
 
@@ -96,13 +105,14 @@ impl From<NoMemory> for Failure {
     }
 }
 
-/// Parses the text once, and takes the time of each part.
+/// Parses the text once, builds a tree if one is wanted, and takes the time of each part.
 pub fn measure<R: Clock>(
     rt: &R,
     alloc: Global,
     edition: Edition,
     entry: TopEntryPoint,
     text: &str,
+    builds: bool,
 ) -> Result<Times, Failure> {
     let start = Instant::now(rt)?;
     let lexed = LexedStr::new(alloc, edition, text)?;
@@ -120,9 +130,13 @@ pub fn measure<R: Clock>(
     let start = Instant::now(rt)?;
     let _whole = lexed.intersperse_trivia(&output, &mut counter)?;
     let sink = start.elapsed(rt)?.as_micros();
-    let start = Instant::now(rt)?;
-    let _tree = Tree::build(alloc, &lexed, &output)?;
-    let build = start.elapsed(rt)?.as_micros();
+    let build = if builds {
+        let start = Instant::now(rt)?;
+        let _tree = Tree::build(alloc, &lexed, &output)?;
+        Some(start.elapsed(rt)?.as_micros())
+    } else {
+        None
+    };
     Ok(Times {
         lex,
         input,
