@@ -115,6 +115,20 @@ function piece(className, content) {
   return span;
 }
 
+// Shows rows in a box, each a text of all that is seen of it and how it is made. A row that shows the same as before
+// stays: to make all of them anew takes longer than to parse the text.
+function showRows(box, list) {
+  list.forEach(([shown, make], i) => {
+    const old = box.children[i];
+    if (old && old.shown === shown) return;
+    const row = make();
+    row.shown = shown;
+    if (old) old.replaceWith(row);
+    else box.append(row);
+  });
+  while (box.children.length > list.length) box.lastChild.remove();
+}
+
 // The text: the lines in view are drawn under the field that is typed in, whose own letters are not seen.
 function findLines() {
   lineStarts = [0];
@@ -123,40 +137,45 @@ function findLines() {
 function lineStop(line) {
   return line + 1 < lineStarts.length ? lineStarts[line + 1] - 1 : text.length;
 }
-function lineRow(line) {
-  const row = document.createElement('div');
-  row.className = 'line';
-  row.dataset.number = line + 1;
-  row.style.top = line * ROW + 'px';
+// What a line shows: its pieces, each a class and a text.
+function linePieces(line) {
   const start = lineStarts[line], whole = lineStop(line);
   const stop = Math.min(whole, start + LONGEST_LINE);
   const from = tree.start[chosen], to = tree.stop[chosen];
   const marks = tree.count > 0 && to - from < text.length;
+  const pieces = [];
   let at = start;
   for (let k = leafIndexAt(start); at < stop && k < tree.leaves.length; k += 1) {
     const leaf = tree.leaves[k];
     const end = Math.min(stop, tree.stop[leaf]);
     if (end <= at) continue;
-    const span = piece(colours[tree.kind[leaf]], text.slice(at, end));
-    if (marks && tree.start[leaf] >= from && tree.stop[leaf] <= to) span.classList.add('on');
-    if (wrongLeaves.has(leaf)) span.classList.add('wavy');
-    row.append(span);
+    const on = marks && tree.start[leaf] >= from && tree.stop[leaf] <= to ? ' on' : '';
+    pieces.push(colours[tree.kind[leaf]] + on + (wrongLeaves.has(leaf) ? ' wavy' : ''), text.slice(at, end));
     at = end;
   }
-  if (at < whole) row.append(text.slice(at, whole));
+  if (at < whole) pieces.push('', text.slice(at, whole));
   const said = notes.get(line);
-  if (said) {
-    if (said.atEnd) row.append(piece('end wavy', ' '));
-    row.append(piece('note', '\u25c2 ' + said.texts.join('; ')));
-  }
+  if (said && said.atEnd) pieces.push('end wavy', ' ');
+  if (said) pieces.push('note', '\u25c2 ' + said.texts.join('; '));
+  return pieces;
+}
+function lineRow(line, pieces) {
+  const row = document.createElement('div');
+  row.className = 'line';
+  row.dataset.number = line + 1;
+  row.style.top = line * ROW + 'px';
+  for (let i = 0; i < pieces.length; i += 2) row.append(piece(pieces[i], pieces[i + 1]));
   return row;
 }
 function drawText() {
   const [first, last] = rowsInView(textPane, lineStarts.length);
   const { top, left } = views.get(textPane);
   const list = [];
-  for (let line = first; line < last; line += 1) list.push(lineRow(line));
-  byId('under').replaceChildren(...list);
+  for (let line = first; line < last; line += 1) {
+    const pieces = linePieces(line);
+    list.push([line + '\n' + pieces.join('\n'), () => lineRow(line, pieces)]);
+  }
+  showRows(byId('under'), list);
   byId('under').style.transform = 'translate(' + -left + 'px,' + -top + 'px)';
 }
 
@@ -223,36 +242,51 @@ function short(item) {
   const more = stop - start > most ? '\u2026' : '';
   return tree.leaf[item] ? JSON.stringify(whole) + more : whole.replace(/\s+/g, ' ') + more;
 }
-function itemRow(index) {
+// What a row of the tree shows.
+function rowParts(index) {
   const item = rows[index];
   const folds = !tree.leaf[item] && tree.end[item] > item + 1;
   const isOpen = !folded.has(item);
-  const name = kinds[tree.kind[item]];
+  const isShort = tree.leaf[item] || !isOpen;
+  return {
+    index, folds, isOpen, kind: tree.kind[item], leaf: tree.leaf[item] === 1, depth: tree.depth[item],
+    chosen: item === chosen, text: isShort ? short(item) : '', said: (saidAt.get(item) ?? []).join('; '),
+  };
+}
+function itemRow(parts) {
+  const name = kinds[parts.kind];
   const row = document.createElement('div');
   row.className = 'item';
-  row.classList.toggle('leaf', tree.leaf[item] === 1);
+  row.classList.toggle('leaf', parts.leaf);
   row.classList.toggle('wrong', name === 'ERROR');
-  row.item = item;
-  row.id = 'item-' + item;
   row.setAttribute('role', 'treeitem');
-  row.setAttribute('aria-level', tree.depth[item] + 1);
-  row.setAttribute('aria-selected', item === chosen ? 'true' : 'false');
-  if (folds) row.setAttribute('aria-expanded', isOpen ? 'true' : 'false');
-  row.style.top = index * ROW + 'px';
-  row.style.paddingLeft = 4 + Math.min(tree.depth[item], 200) * 14 + 'px';
-  const fold = piece('fold', folds ? (isOpen ? '\u25be' : '\u25b8') : '');
+  row.setAttribute('aria-level', parts.depth + 1);
+  row.setAttribute('aria-selected', parts.chosen ? 'true' : 'false');
+  if (parts.folds) row.setAttribute('aria-expanded', parts.isOpen ? 'true' : 'false');
+  row.style.top = parts.index * ROW + 'px';
+  row.style.paddingLeft = 4 + Math.min(parts.depth, 200) * 14 + 'px';
+  const fold = piece('fold', parts.folds ? (parts.isOpen ? '\u25be' : '\u25b8') : '');
   fold.setAttribute('aria-hidden', 'true');
   row.append(fold, piece('kind', name));
-  if (tree.leaf[item]) row.append(' ', piece(colours[tree.kind[item]], short(item)));
-  else if (!isOpen) row.append(' ', piece('short', short(item)));
-  if (saidAt.has(item)) row.append(' ', piece('said', '\u25c2 ' + saidAt.get(item).join('; ')));
+  if (parts.text) row.append(' ', piece(parts.leaf ? colours[parts.kind] : 'short', parts.text));
+  if (parts.said) row.append(' ', piece('said', '\u25c2 ' + parts.said));
   return row;
 }
 function drawTree() {
   const [first, last] = rowsInView(treePane, rowCount);
   const list = [];
-  for (let index = first; index < last; index += 1) list.push(itemRow(index));
-  byId('rows').replaceChildren(...list);
+  for (let index = first; index < last; index += 1) {
+    const parts = rowParts(index);
+    list.push([Object.values(parts).join('\n'), () => itemRow(parts)]);
+  }
+  showRows(byId('rows'), list);
+  // The numbers of the items change where a token comes or goes before them.
+  for (let index = first; index < last; index += 1) {
+    const row = byId('rows').children[index - first];
+    if (row.item === rows[index]) continue;
+    row.item = rows[index];
+    row.id = 'item-' + rows[index];
+  }
   if (byId('item-' + chosen)) treePane.setAttribute('aria-activedescendant', 'item-' + chosen);
   else treePane.removeAttribute('aria-activedescendant');
 }
@@ -371,10 +405,10 @@ function draw(bytes, begin) {
 textPane.addEventListener('input', () => {
   const old = text;
   text = textPane.value;
+  ask();
   stretch(old, text);
   findLines();
   drawText();
-  ask();
 });
 textPane.addEventListener('scroll', () => { look(textPane); drawText(); }, { passive: true });
 textPane.addEventListener('click', chooseAtCaret);
