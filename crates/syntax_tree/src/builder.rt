@@ -104,7 +104,8 @@ impl Builder {
         let before = self.children.len().saturating_sub(self.inside);
         let children = self.children.split_off(before)?;
         let node = Node::new(open.kind, open.start, self.at, children);
-        self.children.push(Child::Node(node))?;
+        self.children.reserve(1)?;
+        self.children.push_reserved(Child::Node(node));
         self.inside = inside;
         Ok(())
     }
@@ -118,7 +119,8 @@ impl Builder {
         let inside = one_more(self.inside)?;
         let end = end_of(self.at, text)?;
         let range = self.at as usize..end as usize;
-        self.children.push(Child::Leaf { kind, range })?;
+        self.children.reserve(1)?;
+        self.children.push_reserved(Child::Leaf { kind, range });
         self.inside = inside;
         self.at = end;
         Ok(())
