@@ -11,6 +11,7 @@ pub mod EscapeStrings
 pub mod EscapeWalks
 pub mod Lanes
 pub mod Leads
+pub mod LoneSigns
 pub mod Nesting
 pub mod OneBody
 pub mod OneRun
