@@ -191,6 +191,21 @@ fn weaves_a_tree_into_a_text_with_other_trivia() {
 }
 
 #[test]
+fn tells_its_own_copy_of_a_text_from_those_of_others() {
+    let (edition, again) = (Edition::Edition2024, String::from("-1"));
+    let (first, second) = (LexedStr::new(edition, "-1"), LexedStr::new(edition, &again));
+    let other = LexedStr::new(edition, "- 1");
+    let outputs = [&first, &second, &other].map(|it| TopEntryPoint::Expr.parse(&it.to_input(edition)));
+    let want = "<PREFIX_EXPR> MINUS:- <LITERAL> INT_NUMBER:1 </> </>";
+    let apart = "<PREFIX_EXPR> MINUS:- WHITESPACE:  <LITERAL> INT_NUMBER:1 </> </>";
+    for output in &outputs {
+        assert_eq!(woven(&first, output), (want.to_string(), true));
+        assert_eq!(woven(&second, output), (want.to_string(), true));
+        assert_eq!(woven(&other, output), (apart.to_string(), true));
+    }
+}
+
+#[test]
 fn gives_back_every_byte() {
     for text in ["", "fn f() { 1 +", "\u{feff}é\0 /* ", "#!/bin/x\n1.0.0", "]]}}))", &"(".repeat(300)] {
         let lexed = LexedStr::new(Edition::Edition2021, text);
