@@ -18,7 +18,7 @@ const UNREADABLE: &str = "rast: cannot read the file\n";
 
 fn main(rt: HostRuntime) -> ExitCode {
     let mut err = rt.stderr();
-    let Some((request, ranges)) = read_tree_request(&rt) else {
+    let Some((request, ranges)) = read_tree_request(&rt, "ranges") else {
         return exit_code(report(&mut err, USAGE));
     };
     let Ok(text) = fs::read_to_string(&rt, request.file.as_str()) else {

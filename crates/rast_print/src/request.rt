@@ -26,17 +26,17 @@ pub fn read_request<R: Env + AllocGlobal>(rt: &R) -> Option<Request> {
     request_of(edition.as_str(), entry.as_str(), file)
 }
 
-/// Reads the program's arguments `EDITION ENTRY FILE [ranges]`, and whether the last one is there. `None` for any other
+/// Reads the program's arguments `EDITION ENTRY FILE [LAST]`, and whether the word `LAST` is there. `None` for any other
 /// words.
-pub fn read_tree_request<R: Env + AllocGlobal>(rt: &R) -> Option<(Request, bool)> {
+pub fn read_tree_request<R: Env + AllocGlobal>(rt: &R, last: &str) -> Option<(Request, bool)> {
     let mut args = env::args(rt).ok()?;
     let _program = args.next();
     let (Some(edition), Some(entry), Some(file)) = (args.next(), args.next(), args.next()) else {
         return None;
     };
-    let ranges = match args.next() {
+    let has_last = match args.next() {
         Some(word) => {
-            if word.as_str() != "ranges" {
+            if word.as_str() != last {
                 return None;
             }
             true
@@ -47,7 +47,7 @@ pub fn read_tree_request<R: Env + AllocGlobal>(rt: &R) -> Option<(Request, bool)
         return None;
     }
     let request = request_of(edition.as_str(), entry.as_str(), file)?;
-    Some((request, ranges))
+    Some((request, has_last))
 }
 
 /// Reads the words of an edition and of an entry point.

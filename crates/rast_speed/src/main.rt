@@ -2,12 +2,11 @@
 //! word how long a tree takes that owns its nodes.
 #![tactic(auto)]
 
-mod request;
 mod times;
 
 use ra_ap_parser::{Edition, LexFault, ParseFault, TopEntryPoint};
 use rast_common::fault::{exit_code, report};
-use request::read_speed_request;
+use rast_print::request::read_tree_request;
 use std::alloc::{AllocError, Global};
 use std::process::ExitCode;
 use std::rt::Clock;
@@ -70,7 +69,7 @@ fn write<W: io::Write>(out: &mut W, lines: &str) -> io::Result<()> {
 
 fn main(rt: HostRuntime) -> ExitCode {
     let mut err = rt.stderr();
-    let Some((request, builds)) = read_speed_request(&rt) else {
+    let Some((request, builds)) = read_tree_request(&rt, "build") else {
         return exit_code(report(&mut err, USAGE));
     };
     let Ok(text) = fs::read_to_string(&rt, request.file.as_str()) else {
