@@ -34,19 +34,13 @@ function noTree() {
     stop: list(), leaves: list() };
 }
 
-// Reads the numbers of a tree's steps.
+// Reads the numbers of a tree's steps, of which each item has two.
 function treeOf(numbers) {
-  let count = 0;
-  for (let i = 0; i < numbers.length; i += 1) {
-    if (numbers[i] === 0) continue;
-    count += 1;
-    if ((numbers[i] & 3) === 2) i += 1;
-  }
+  const count = numbers.length / 2;
   const list = () => new Int32Array(count);
   const made = { count, kind: list(), leaf: list(), parent: list(), end: list(), depth: list(), start: list(),
-    stop: list(), leaves: null };
-  const leaves = [];
-  let item = 0, open = -1, depth = 0, at = 0;
+    stop: list(), leaves: list() };
+  let item = 0, leaves = 0, open = -1, depth = 0, at = 0;
   for (let i = 0; i < numbers.length; i += 1) {
     if (numbers[i] === 0) {
       made.end[open] = item;
@@ -68,11 +62,12 @@ function treeOf(numbers) {
       made.leaf[item] = 1;
       made.stop[item] = at;
       made.end[item] = item + 1;
-      leaves.push(item);
+      made.leaves[leaves] = item;
+      leaves += 1;
     }
     item += 1;
   }
-  made.leaves = Int32Array.from(leaves);
+  made.leaves = made.leaves.subarray(0, leaves);
   return made;
 }
 
@@ -337,14 +332,15 @@ function stretch(old, now) {
   while (after < most - before &&
     old.charCodeAt(old.length - 1 - after) === now.charCodeAt(now.length - 1 - after)) after += 1;
   const from = old.length - after, by = now.length - old.length;
-  const move = (list) => {
-    for (let i = 0; i < list.length; i += 1) {
-      if (list[i] >= from && list[i] > before) list[i] += by;
-      else if (list[i] > before) list[i] = before;
-    }
-  };
-  move(tree.start);
-  move(tree.stop);
+  const moved = (place) => (place <= before ? place : place >= from ? place + by : before);
+  if (tree.count === 0) return;
+  // Of the items that begin before the edit only those around it end after it: the last one, and those that hold it.
+  const last = lastUpTo(tree.count, (item) => tree.start[item], before);
+  for (let item = last + 1; item < tree.count; item += 1) {
+    tree.start[item] = moved(tree.start[item]);
+    tree.stop[item] = moved(tree.stop[item]);
+  }
+  for (let item = last; item >= 0; item = tree.parent[item]) tree.stop[item] = moved(tree.stop[item]);
 }
 // The folded nodes of the new tree: those of a kind and a place where one was folded.
 function keepFolds(old, made) {
