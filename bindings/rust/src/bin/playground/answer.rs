@@ -1,4 +1,4 @@
-//! What the page is told of a text: numbers for the steps of its tree, and its messages.
+//! The answer to the page for a text: numbers for the steps of its tree, and its messages.
 use crate::common::entry_named;
 use ra_ap_parser::{Edition, LexedStr, StrStep, SyntaxKind, TopEntryPoint};
 use std::fmt::Write as _;
