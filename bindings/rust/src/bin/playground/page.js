@@ -13,7 +13,7 @@ const views = new Map();
 function look(pane) {
   views.set(pane, { top: pane.scrollTop, left: pane.scrollLeft, height: pane.clientHeight });
 }
-// The first row in view, and the one behind the last, of so many.
+// The first row in view, and the one after the last, of so many.
 function rowsInView(pane, count) {
   const { top, height } = views.get(pane);
   return [Math.max(0, Math.floor(top / ROW) - 2), Math.min(count, Math.ceil((top + height) / ROW) + 2)];
