@@ -1,6 +1,8 @@
 pub mod AsciiClasses
 pub mod AsciiRuns
 pub mod Characters
+pub mod CommonClasses
+pub mod CommonTokens
 pub mod Ends
 pub mod EscapeDigits
 pub mod EscapeFaults

@@ -12,7 +12,7 @@ use Rattle.rap_lexer.specs.Lexeme.{plain, with_remark}
 use Rattle.rap_lexer.specs.Number.{IsExponent, IsFraction, IsPastDigits, IsBased, IsNumber, base_of, takes_dot, starts_exponent, has_digit}
 use Rattle.rap_lexer.specs.Quoted.{StringRun, CharacterEnds, IsLiteral, IsLifetime, IsCommonLifetime, IsTick, IsRawString, is_raw_lifetime, starts_lifetime}
 use Rattle.rap_lexer.specs.Run.{next_is, next_in, tail, run_of, after_run}
-use Rattle.rap_base.specs.TokenKind.{EOF, IDENT}
+use Rattle.rap_base.specs.TokenKind.{EOF, IDENT, STRING, UNDERSCORE}
 use Rattle.rap_base.specs.TokenTests.{IsTokenKind, is_token}
 use Rattle.rap_lexer.specs.Word.{IsWord, IsPastR, IsPastB, IsPastC, IsWordLike, ends_prefix, starts_raw_ident, starts_raw, starts_prefixed_raw, word_kind}
 use Rattle.rap_base.specs.declared.edition.Edition.{Edition}
@@ -72,6 +72,33 @@ keyword_low text Edition2024 = rows_low (reserved Edition2024) text refl
 
 word_low : (edition : Edition) (text : List ℕ) → is_low (word_kind edition text) ≡ true
 word_low edition text = choose (bytes_eq text (codes "_")) _ _ refl (keyword_low text edition)
+
+-- no word is a string
+rows_no_string : (rows : List (List ℕ × ℕ)) (text : List ℕ) → list_all (λ row. not (row.1 == STRING)) rows ≡ true → (unwrap_or (kind_of_word rows text) IDENT == STRING) ≡ false
+rows_no_string [] text h = refl
+rows_no_string (row ∷ rows) text h =
+    let all = and_parts (not (row.1 == STRING)) (list_all (λ row. not (row.1 == STRING)) rows) h in
+    elim (cases_Bool (bytes_eq text row.0)) as (λ _. (unwrap_or (kind_of_word (row ∷ rows) text) IDENT == STRING) ≡ false) [
+      | inl e ↦ ap (λ k. unwrap_or k IDENT == STRING) (cond-true (bytes_eq text row.0) (Some row.1) (kind_of_word rows text) e) ∙ is_no (row.1 == STRING) all.0
+      | inr e ↦ ap (λ k. unwrap_or k IDENT == STRING) (cond-false (bytes_eq text row.0) (Some row.1) (kind_of_word rows text) e) ∙ rows_no_string rows text all.1
+    ]
+  where
+    is_no : (b : Bool) → not b ≡ true → b ≡ false
+    is_no true e = cc
+    is_no false e = refl
+
+keyword_no_string : (text : List ℕ) (edition : Edition) → (unwrap_or (from_keyword text edition) IDENT == STRING) ≡ false
+keyword_no_string text Edition2015 = rows_no_string (reserved Edition2015) text refl
+keyword_no_string text Edition2018 = rows_no_string (reserved Edition2018) text refl
+keyword_no_string text Edition2021 = rows_no_string (reserved Edition2021) text refl
+keyword_no_string text Edition2024 = rows_no_string (reserved Edition2024) text refl
+
+pub word_no_string : (edition : Edition) (text : List ℕ) → word_kind edition text ≢ STRING
+word_no_string edition text e = by_test (bytes_eq text (codes "_")) (ap (λ k. k == STRING) e)
+  where
+    by_test : (b : Bool) → ((if b then UNDERSCORE else unwrap_or (from_keyword text edition) IDENT) == STRING) ≡ true → ⊥
+    by_test true h = cc
+    by_test false h = let f = keyword_no_string text edition in cc
 
 exponent : (cs : List ℕ) (token : Lexeme) (rest : List ℕ) → IsExponent cs token rest → Low token
 exponent cs token rest h = is h.0 refl

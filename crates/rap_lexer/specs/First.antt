@@ -1,5 +1,5 @@
 -- The first token of a text, by its first characters.
-use Rattle.std.specs.Prelude.{◌≡◌, ℕ, Bool, Option, Some, None, List, [], ◌∷◌, if◌then◌else◌, ◌&&◌, ◌||◌, ◌==◌, MatchBool}
+use Rattle.std.specs.Prelude.{◌≡◌, ℕ, Bool, List, [], ◌∷◌, if◌then◌else◌, ◌&&◌, ◌||◌, ◌==◌, MatchBool}
 use Rattle.std.specs.Str.{byte}
 use Rattle.rap_lexer.specs.Class.{is_in}
 use Rattle.rap_lexer.specs.Comment.{IsLineComment, IsBlockComment}
@@ -47,36 +47,6 @@ single_kind c =
     else (if c == byte "!" then BANG
     else (if c == byte "-" then MINUS
     else ERROR))))))))))))))))))))))))))
-
--- The kind of a character that is a token of its own, whatever follows it.
-abbrev pub lone_sign : ℕ → Option ℕ
-lone_sign c =
-    if c == byte ";" then Some SEMICOLON
-    else (if c == byte "," then Some COMMA
-    else (if c == byte "(" then Some L_PAREN
-    else (if c == byte ")" then Some R_PAREN
-    else (if c == byte "{" then Some L_CURLY
-    else (if c == byte "}" then Some R_CURLY
-    else (if c == byte "[" then Some L_BRACK
-    else (if c == byte "]" then Some R_BRACK
-    else (if c == byte "<" then Some L_ANGLE
-    else (if c == byte ">" then Some R_ANGLE
-    else (if c == byte "@" then Some AT
-    else (if c == byte "~" then Some TILDE
-    else (if c == byte "?" then Some QUESTION
-    else (if c == byte "$" then Some DOLLAR
-    else (if c == byte "&" then Some AMP
-    else (if c == byte "|" then Some PIPE
-    else (if c == byte "+" then Some PLUS
-    else (if c == byte "*" then Some STAR
-    else (if c == byte "^" then Some CARET
-    else (if c == byte "%" then Some PERCENT
-    else (if c == byte "." then Some DOT
-    else (if c == byte ":" then Some COLON
-    else (if c == byte "=" then Some EQ
-    else (if c == byte "!" then Some BANG
-    else (if c == byte "-" then Some MINUS
-    else None))))))))))))))))))))))))
 
 -- One character, which is punctuation or an ERROR.
 abbrev pub IsSingle : ℕ → List ℕ → Lexeme → List ℕ → Type 0

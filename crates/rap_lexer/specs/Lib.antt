@@ -1,5 +1,6 @@
 pub mod Class
 pub mod Comment
+pub mod Common
 pub mod Escape
 pub mod EscapeWalk
 pub mod First

@@ -2,7 +2,7 @@
 //! token is malformed, those of rustc's own lexer.
 ghost use Rattle.std.specs.Prelude.{◌≡◌, ◌<◌, length, chars, drop, IsCharBoundary};
 ghost use Rattle.rap_base.specs.TokenTests.{IsTokenKind};
-ghost use Rattle.rap_lexer.specs.First.{lone_sign, single_kind, is_reserved_hash, IsSlash, IsHash, IsSign, First};
+ghost use Rattle.rap_lexer.specs.First.{single_kind, is_reserved_hash, IsSlash, IsHash, IsSign, First};
 ghost use Rattle.rap_lexer.specs.OneToken.{IsOnlyToken};
 
 use crate::escape::Mode;
@@ -12,11 +12,13 @@ use crate::lexer::number::number;
 use crate::lexer::quoted::{string, tick};
 use crate::lexer::run::{Class, eat_run, is_in};
 use crate::lexer::word::{invalid_word, word_like};
+pub use common::common_token;
 pub use lexeme::{Lexeme, Remark};
 use rap_base::edition::Edition;
 use rap_base::syntax_kind::SyntaxKind;
 
 mod comment;
+mod common;
 pub(crate) mod cursor;
 mod lanes;
 mod lexeme;
@@ -49,9 +51,7 @@ fn take_token(edition: Edition, cursor: &mut Cursor<'_>) -> Lexeme
     match cursor.bump() {
         None => unreachable!(),
         Some(c) => {
-            if let Some(kind) = lone_sign(c) {
-                Lexeme::plain(kind)
-            } else if is_in(Class::White, c) {
+            if is_in(Class::White, c) {
                 eat_run(cursor, Class::White);
                 Lexeme::plain(SyntaxKind::WHITESPACE)
             } else if is_in(Class::IdentStart, c) {
@@ -62,42 +62,6 @@ fn take_token(edition: Edition, cursor: &mut Cursor<'_>) -> Lexeme
                 sign(edition, cursor, c)
             }
         }
-    }
-}
-
-/// The kind of a character that is a token of its own, whatever follows it: one test in the place of many, since half
-/// of a text's tokens are such characters.
-#[inline(always)]
-fn lone_sign(c: char) -> Option<SyntaxKind>
-    ensures { result ≡ lone_sign c }
-{
-    match c {
-        ';' => Some(SyntaxKind::SEMICOLON),
-        ',' => Some(SyntaxKind::COMMA),
-        '(' => Some(SyntaxKind::L_PAREN),
-        ')' => Some(SyntaxKind::R_PAREN),
-        '{' => Some(SyntaxKind::L_CURLY),
-        '}' => Some(SyntaxKind::R_CURLY),
-        '[' => Some(SyntaxKind::L_BRACK),
-        ']' => Some(SyntaxKind::R_BRACK),
-        '<' => Some(SyntaxKind::L_ANGLE),
-        '>' => Some(SyntaxKind::R_ANGLE),
-        '@' => Some(SyntaxKind::AT),
-        '~' => Some(SyntaxKind::TILDE),
-        '?' => Some(SyntaxKind::QUESTION),
-        '$' => Some(SyntaxKind::DOLLAR),
-        '&' => Some(SyntaxKind::AMP),
-        '|' => Some(SyntaxKind::PIPE),
-        '+' => Some(SyntaxKind::PLUS),
-        '*' => Some(SyntaxKind::STAR),
-        '^' => Some(SyntaxKind::CARET),
-        '%' => Some(SyntaxKind::PERCENT),
-        '.' => Some(SyntaxKind::DOT),
-        ':' => Some(SyntaxKind::COLON),
-        '=' => Some(SyntaxKind::EQ),
-        '!' => Some(SyntaxKind::BANG),
-        '-' => Some(SyntaxKind::MINUS),
-        _ => None,
     }
 }
 

@@ -154,7 +154,7 @@ fn prefix_remark(text: &str) -> Remark
 }
 
 /// The kind of an identifier with this text.
-fn word_kind(edition: Edition, text: &str) -> SyntaxKind
+pub fn word_kind(edition: Edition, text: &str) -> SyntaxKind
     ensures { result ≡ word_kind edition text.now }
 {
     if text == "_" {

@@ -1,0 +1,140 @@
+//! Common tokens: characters that are tokens of their own, white space, and words.
+ghost use Rattle.std.specs.Prelude.{◌≡◌, ◌≢◌, ◌<◌, ◌==◌, IfSome, MatchOption, nat_lt, false, true, length, chars, drop, get_or, IsCharBoundary};
+ghost use Rattle.rap_base.specs.TokenKind.{STRING};
+ghost use Rattle.rap_base.specs.TokenTests.{IsTokenKind};
+ghost use Rattle.rap_lexer.specs.Class.{is_ascii_in};
+ghost use Rattle.rap_lexer.specs.Common.{is_lone, ends_no_word, is_uncommon, IsCommon};
+ghost use Rattle.rap_lexer.specs.First.{First, single_kind};
+ghost use Rattle.rap_lexer.specs.Lexeme.{plain};
+ghost use Rattle.rap_lexer.specs.Run.{run_of};
+ghost use Rattle.rap_base.specs.declared.edition.Edition.{Edition};
+ghost use Rattle.rap_lexer.specs.declared.lexer.run.Class.TheVariants.{White, IdentStart, IdentContinue};
+
+use crate::lexer::lanes::{white_run, word_run};
+use crate::lexer::word::word_kind;
+use rap_base::edition::Edition;
+use rap_base::syntax_kind::SyntaxKind;
+
+/// Returns the kind of the first token of `text`, which must not be empty, and its length in bytes, if it is a common
+/// one, and otherwise `None`: [`first_token`](crate::lexer::first_token) takes any.
+///
+/// Common are a character that is a token of its own whatever follows it; white space in ASCII, unless a character
+/// past ASCII follows it; and a word in ASCII, unless a quote, a `#` or a character past ASCII follows it. There is
+/// nothing to report about any of them.
+#[inline(always)]
+pub fn common_token(edition: Edition, text: &str) -> Option<(SyntaxKind, usize)>
+    requires { 0 < length text.now }
+    ensures token { IfSome result (λ r. First edition (chars text.now) (plain r.0) (chars (drop r.1 text.now))) }
+    ensures kind { IfSome result (λ r. IsTokenKind r.0) }
+    ensures no_string { IfSome result (λ r. r.0 ≢ STRING) }
+    ensures positive { IfSome result (λ r. 0 < r.1) }
+    ensures border { IfSome result (λ r. IsCharBoundary text.now r.1) }
+    ensures common { MatchOption result (is_uncommon text.now ≡ true) (λ _. is_uncommon text.now ≡ false) }
+{
+    let class = class_of(text.as_bytes()[0]);
+    if class < WHITE {
+        Some((SyntaxKind::from_u16(u16::from(class)), 1))
+    } else if class == WHITE {
+        white_token(text)
+    } else if class == WORD {
+        word_token(edition, text)
+    } else {
+        None
+    }
+}
+
+/// The white space that the text begins with.
+#[inline(always)]
+fn white_token(text: &str) -> Option<(SyntaxKind, usize)>
+    requires { is_ascii_in White (get_or text.now 0 0) ≡ true }
+    ensures { MatchOption result (is_uncommon text.now ≡ true) (λ r. (edition : Edition) → IsCommon edition text.now r.0 r.1) }
+{
+    let bytes = text.as_bytes();
+    let n = white_len(bytes);
+    if n < bytes.len() && PAST_ASCII == class_of(bytes[n]) {
+        None
+    } else {
+        Some((SyntaxKind::WHITESPACE, n))
+    }
+}
+
+/// How many bytes of ASCII white space stand first. Most often it is one.
+#[inline(always)]
+fn white_len(bytes: &[u8]) -> usize
+    requires { is_ascii_in White (get_or bytes.now 0 0) ≡ true }
+    ensures { result ≡ length (run_of (is_ascii_in White) bytes.now) }
+{
+    if 1 < bytes.len() && class_of(bytes[1]) != WHITE {
+        1
+    } else {
+        white_run(bytes)
+    }
+}
+
+/// The word that the text begins with.
+#[inline(always)]
+fn word_token(edition: Edition, text: &str) -> Option<(SyntaxKind, usize)>
+    requires { is_ascii_in IdentStart (get_or text.now 0 0) ≡ true }
+    ensures { MatchOption result (is_uncommon text.now ≡ true) (λ r. IsCommon edition text.now r.0 r.1) }
+{
+    let bytes = text.as_bytes();
+    let n = word_run(bytes);
+    if n < bytes.len() && OTHER < class_of(bytes[n]) {
+        None
+    } else {
+        Some((word_kind(edition, &text[..n]), n))
+    }
+}
+
+/// The class of a byte.
+#[inline(always)]
+fn class_of(b: u8) -> u8
+    ensures lone { nat_lt result WHITE ≡ is_lone b }
+    ensures kind { result < WHITE → result ≡ single_kind b }
+    ensures white { (result == WHITE) ≡ is_ascii_in White b }
+    ensures word { (result == WORD) ≡ is_ascii_in IdentStart b }
+    ensures end { nat_lt OTHER result ≡ ends_no_word b }
+    ensures past { (result == PAST_ASCII) ≡ nat_lt 127 b }
+{
+    CLASSES[usize::from(b)]
+}
+
+// The class of a character that is a token of its own is the number of its kind, from 1 to 28. The others:
+
+/// White space.
+const WHITE: u8 = 29;
+
+/// The first character of a word.
+const WORD: u8 = 30;
+
+/// Any other ASCII character.
+const OTHER: u8 = 31;
+
+/// A quote or a `#`, which make the word before them a prefix.
+const QUOTE: u8 = 32;
+
+/// Part of a character past ASCII.
+const PAST_ASCII: u8 = 33;
+
+const W: u8 = WHITE;
+
+const I: u8 = WORD;
+
+const O: u8 = OTHER;
+
+const Q: u8 = QUOTE;
+
+const H: u8 = PAST_ASCII;
+
+#[rattlefmt::skip]
+static CLASSES: [u8; 256] = [
+    O, O, O, O, O, O, O, O, O, W, W, W, W, W, O, O, O, O, O, O, O, O, O, O, O, O, O, O, O, O, O, O,
+    W, 27, Q, Q, 15, 22, 16, Q, 3, 4, 19, 18, 2, 28, 24, O, O, O, O, O, O, O, O, O, O, O, 25, 1, 9,
+    26, 10, 14, 11, I, I, I, I, I, I, I, I, I, I, I, I, I, I, I, I, I, I, I, I, I, I, I, I, I, I,
+    7, O, 8, 21, I, O, I, I, I, I, I, I, I, I, I, I, I, I, I, I, I, I, I, I, I, I, I, I, I, I, I,
+    I, 5, 17, 6, 13, O, H, H, H, H, H, H, H, H, H, H, H, H, H, H, H, H, H, H, H, H, H, H, H, H, H,
+    H, H, H, H, H, H, H, H, H, H, H, H, H, H, H, H, H, H, H, H, H, H, H, H, H, H, H, H, H, H, H, H,
+    H, H, H, H, H, H, H, H, H, H, H, H, H, H, H, H, H, H, H, H, H, H, H, H, H, H, H, H, H, H, H, H,
+    H, H, H, H, H, H, H, H, H, H, H, H, H, H, H, H, H, H, H, H, H, H, H, H, H, H, H, H, H, H, H, H,
+    H, H, H, H, H, H, H,
+];
