@@ -66,11 +66,12 @@ impl<'a> Packer<'a> {
     {
         let _said = self.said;
         let _message_room = self.messages.len();
-        if self.count < self.words.len() {
-            self.words[self.count] = word;
-            self.count += 1;
+        let count = self.count;
+        if count < self.words.len() {
+            self.words[count] = word;
+            self.count = count + 1;
         } else {
-            self.count = self.count.saturating_add(1);
+            self.count = count.saturating_add(1);
         }
     }
 
