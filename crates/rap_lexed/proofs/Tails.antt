@@ -3,7 +3,7 @@ use Rattle.std.proofs.Common.{◌≡◌, refl, sym, ◌∙◌, ap, List, [], ◌
 use Rattle.std.specs.Prelude.{◌==◌, ◌&&◌, not}
 use Rattle.std.specs.List.{list_any, prefix_len, take_while}
 use Rattle.std.proofs.lemmas.Bool.{cases_Bool, cases_eq, cond-true, cond-false, cond_both, and_left, or_left, or_from, or_right, eqb-true}
-use Rattle.std.proofs.lemmas.List.{drop-drop, drop-take, get_or-drop, length-drop, length-reverse, length-take-le, reverse-append, take-append-drop, take-append-le, take_all, take_more}
+use Rattle.std.proofs.lemmas.List.{drop-drop, drop_all, drop-take, get_or-drop, length-drop, length-reverse, length-take-le, reverse-append, take-append-drop, take-append-le, take_all, take_more}
 use Rattle.std.proofs.lemmas.List.Folds.{length-prefix_len}
 use Rattle.rap_base.specs.TokenKind.{COMMENT, EOF, WHITESPACE}
 use Rattle.rap_lexed.specs.Attached.{takes_tail, is_comment, holds_blank_line, looks_like_doc, doc_is_first, reached, up_to_farthest, item_tail_len, tail_len, attached_tail, before_tail}
@@ -154,13 +154,15 @@ module _ (ts : List Token) (at kind : ℕ) where
       ∙ ap (λ n. drop n (trivia_at ts at)) (length-before kind (trivia_at ts at))
 
   -- a node without a tail has all trivia before it
-  pub before-all : takes_tail kind ≡ false → before_tail kind (trivia_at ts at) ≡ trivia_at ts at
-  before-all h =
-      let none : tail_len kind (trivia_at ts at) ≡ 0 = cond-false (takes_tail kind) (item_tail_len (trivia_at ts at)) 0 h in
-      take_all (length (trivia_at ts at) - tail_len kind (trivia_at ts at)) (trivia_at ts at) (omega (arith, none))
+  module _ (plain : takes_tail kind ≡ false) where
+    none : tail_len kind (trivia_at ts at) ≡ 0
+    none = cond-false (takes_tail kind) (item_tail_len (trivia_at ts at)) 0 plain
 
-  pub place-all : takes_tail kind ≡ false → past_trivia ts at ≡ at + length (before_tail kind (trivia_at ts at))
-  place-all h = omega (arith, ap length (before-all h), length-prefix_len is_trivial (drop at ts))
+    pub before-all : before_tail kind (trivia_at ts at) ≡ trivia_at ts at
+    before-all = take_all (length (trivia_at ts at) - tail_len kind (trivia_at ts at)) (trivia_at ts at) (omega (arith, none))
+
+    pub tail-empty : attached_tail kind (trivia_at ts at) ≡ []
+    tail-empty = drop_all (length (trivia_at ts at) - tail_len kind (trivia_at ts at)) (trivia_at ts at) (omega (arith, none))
 
   -- an item has those before the place where its tail begins
   module _ (item : takes_tail kind ≡ true) (begin : ℕ) (h : begin + item_tail_len (trivia_at ts at) ≡ past_trivia ts at) where

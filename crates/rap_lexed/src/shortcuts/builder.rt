@@ -1,9 +1,9 @@
 //! Inserting trivia between the steps of an output.
-ghost use Rattle.std.specs.Prelude.{◌≡◌, ◌+◌, ◌<◌, ◌≤◌, ◌↔◌, ◌∷◌, [], ◌++◌, length, take, drop, map, IsTrue, IfOk, OnOk};
+ghost use Rattle.std.specs.Prelude.{◌≡◌, ◌+◌, ◌<◌, ◌≤◌, ◌↔◌, ◌∷◌, [], ◌++◌, true, length, take, drop, map, IsTrue, IfOk, OnOk};
 ghost use Rattle.rap_events.specs.StepValue.{enter, exit, token, float_split};
 ghost use Rattle.rap_events.specs.Step.{step_value};
 ghost use Rattle.rap_lexed.specs.StrSink.{HandsOut};
-ghost use Rattle.rap_lexed.specs.Attached.{attached_tail, before_tail};
+ghost use Rattle.rap_lexed.specs.Attached.{attached_tail, before_tail, takes_tail};
 ghost use Rattle.rap_lexed.specs.Builder.{number_steps, dotted_steps, illegal_steps, float_steps, after_float};
 ghost use Rattle.rap_lexed.specs.Input.{ends_with_dot};
 ghost use Rattle.rap_lexed.specs.StrStep.{str_enter, str_token, str_step_value};
@@ -151,7 +151,26 @@ impl<'a, 'text> Builder<'a, 'text> {
         ensures steps { HandsOut S.takes S.refuses sink.old (leaves_of (before_tail kind (trivia_at self.old.lexed.now.tokens self.old.pos)) ++ str_enter kind ∷ leaves_of (attached_tail kind (trivia_at self.old.lexed.now.tokens self.old.pos))) result sink.new }
         ensures after { OnOk result (self.new ≡ record self.old { pos = past_trivia self.old.lexed.now.tokens self.old.pos }) }
     {
-        self.eat_before_tail(kind, sink)?;
+        if takes_tail(kind) {
+            return self.enter_with_tail(kind, sink);
+        }
+        self.eat_trivias(sink)?;
+        sink.step(StrStep::Enter { kind })
+    }
+
+    /// Hands out the beginning of a node that takes a tail, between the trivia before the tail and the tail.
+    fn enter_with_tail<S: StrSink>(
+        &mut self,
+        kind: SyntaxKind,
+        sink: &mut S,
+    ) -> Result<(), S::Refusal>
+        requires within { self.old.pos ≤ length self.old.lexed.now.tokens }
+        requires item { takes_tail kind ≡ true }
+        ensures steps { HandsOut S.takes S.refuses sink.old (leaves_of (before_tail kind (trivia_at self.old.lexed.now.tokens self.old.pos)) ++ str_enter kind ∷ leaves_of (attached_tail kind (trivia_at self.old.lexed.now.tokens self.old.pos))) result sink.new }
+        ensures after { OnOk result (self.new ≡ record self.old { pos = past_trivia self.old.lexed.now.tokens self.old.pos }) }
+    {
+        let begin = tail_begin(self.lexed, self.pos);
+        self.eat_n_trivias(begin - self.pos, sink)?;
         sink.step(StrStep::Enter { kind })?;
         self.eat_trivias(sink)
     }
@@ -200,23 +219,6 @@ impl<'a, 'text> Builder<'a, 'text> {
             self.do_token(kind, 1, sink)?;
         }
         Ok(())
-    }
-
-    /// Hands out the trivia that stand here, but for the attached tail of a node of this kind.
-    fn eat_before_tail<S: StrSink>(
-        &mut self,
-        kind: SyntaxKind,
-        sink: &mut S,
-    ) -> Result<(), S::Refusal>
-        requires { self.old.pos ≤ length self.old.lexed.now.tokens }
-        ensures steps { HandsOut S.takes S.refuses sink.old (leaves_of (before_tail kind (trivia_at self.old.lexed.now.tokens self.old.pos))) result sink.new }
-        ensures after { OnOk result (self.new ≡ record self.old { pos = self.old.pos + length (before_tail kind (trivia_at self.old.lexed.now.tokens self.old.pos)) }) }
-    {
-        if !takes_tail(kind) {
-            return self.eat_trivias(sink);
-        }
-        let begin = tail_begin(self.lexed, self.pos);
-        self.eat_n_trivias(begin - self.pos, sink)
     }
 
     /// Hands out so many tokens as they are.
