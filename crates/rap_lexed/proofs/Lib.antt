@@ -1,4 +1,5 @@
 pub mod Bodies
+pub mod CommonTokens
 pub mod ContextualWords
 pub mod Covered
 pub mod Cuts

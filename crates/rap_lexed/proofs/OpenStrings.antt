@@ -1,7 +1,7 @@
 -- Which tokens follow a string that looks open.
-use Rattle.std.proofs.Common.{◌≡◌, ◌<◌, ◌≤◌, ◌+◌, ◌&&◌, ◌==◌, ℕ, zero, suc, Bool, true, false, nat_lt, if◌then◌else◌, List, refl, sym, ap, ◌∙◌, inl, inr, arith, eq-eqb}
+use Rattle.std.proofs.Common.{◌≡◌, ◌≢◌, ◌<◌, ◌≤◌, ◌+◌, ◌&&◌, ◌==◌, ℕ, zero, suc, Bool, true, false, nat_lt, if◌then◌else◌, List, refl, sym, ap, ◌∙◌, inl, inr, arith, eq-eqb}
 use Rattle.std.specs.Prelude.{◌↔◌, IsFalse, IsTrue, min}
-use Rattle.std.proofs.lemmas.Bool.{and_parts, cases_eq, eqb-true, ltb-true, ltb-false, lt-ltb}
+use Rattle.std.proofs.lemmas.Bool.{and_left, and_parts, cases_eq, cond-false, cond_both, eqb-true, ltb-true, ltb-false, lt-ltb, ne_eqb}
 use Rattle.rap_base.specs.TokenKind.{STRING}
 use Rattle.rap_lexed.specs.LexedStr.{Token, token_at, FollowsOpen}
 use Rattle.rap_lexed.specs.Reported.{looks_open}
@@ -33,6 +33,19 @@ counts since kind text result opens other = by_token ((kind == STRING) && looks_
     by_token : (b : Bool) → (IsTrue b → result ≡ 0) → (IsFalse b → result ≡ min (since + 1) 5) → result ≡ (if b then 0 else (if nat_lt since 5 then since + 1 else 5))
     by_token true opens other = opens refl
     by_token false opens other = by_count (other refl) (nat_lt since 5) refl
+
+-- a token that is no string
+pub since_other : (since kind : ℕ) (text : List ℕ) → kind ≢ STRING → since_open_after since kind text ≡ min (since + 1) 5
+since_other since kind text other =
+    cond-false ((kind == STRING) && looks_open text) 0 (if nat_lt since 5 then since + 1 else 5) (and_left (kind == STRING) _ (ne_eqb kind STRING other))
+    ∙ cond_both (nat_lt since 5) (since + 1) 5 (λ n. n ≡ min (since + 1) 5) (λ e. omega (arith, ltb-true since 5 e)) (λ e. omega (arith, ltb-false since 5 e))
+
+-- never more than 5
+pub since_few : (at : ℕ → Token) (i : ℕ) → since_open at i ≤ 5
+since_few at zero = omega arith
+since_few at (suc i) =
+    cond_both (is_open (at i)) 0 (if nat_lt (since_open at i) 5 then since_open at i + 1 else 5) (λ n. n ≤ 5) (λ e. omega arith)
+    (λ e. cond_both (nat_lt (since_open at i) 5) (since_open at i + 1) 5 (λ n. n ≤ 5) (λ f. omega (arith, ltb-true (since_open at i) 5 f)) (λ f. omega arith))
 
 -- where the last one stands
 abbrev Last : (ℕ → Token) → ℕ → ℕ → Type 0

@@ -1,6 +1,7 @@
 pub mod About
 pub mod Attached
 pub mod Builder
+pub mod CommonTokens
 pub mod Fault
 pub mod FloatParts
 pub mod Header

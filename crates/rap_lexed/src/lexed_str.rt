@@ -1,9 +1,10 @@
 //! A text divided into tokens, with the lexer's messages.
-ghost use Rattle.std.specs.Prelude.{◌≡◌, ℕ, ◌<◌, ◌≤◌, ◌+◌, ◌^◌, ◌↔◌, ◌&&◌, ◌==◌, Some, IfOk, IfSome, IsFalse, IsTrue, MatchOption, min, string_bytes, length, slice_range};
+ghost use Rattle.std.specs.Prelude.{◌≡◌, ℕ, ◌<◌, ◌≤◌, ◌+◌, ◌^◌, ◌↔◌, ◌&&◌, ◌==◌, Some, IfOk, IfSome, IsCharBoundary, IsFalse, IsTrue, MatchOption, OnOk, min, string_bytes, length, slice_range};
 ghost use Rattle.std.specs.List.Sorted.{IsNonDecreasingBy, IsPartitionPoint};
 ghost use Rattle.std.specs.Option.{option_copied, option_map};
 ghost use Rattle.rap_base.specs.TokenKind.{STRING};
 ghost use Rattle.rap_base.specs.TokenTests.{IsTokenKind};
+ghost use Rattle.rap_lexed.specs.CommonTokens.{TakesCommon};
 ghost use Rattle.rap_lexed.specs.OneLexing.{IsOnlyLexing};
 ghost use Rattle.rap_lexed.specs.SingleToken.{IsNotOneToken, IsOneToken};
 ghost use Rattle.rap_lexed.specs.Reported.{looks_open};
@@ -14,7 +15,7 @@ use header::{find_header, push_header};
 use rap_base::edition::Edition;
 use rap_base::no_memory::NoMemory;
 use rap_base::syntax_kind::SyntaxKind;
-use rap_lexer::lexer::first_token;
+use rap_lexer::lexer::{common_token, first_token};
 pub(crate) use reported::holds_pair;
 use reported::{LexError, last_message, looks_open, report};
 
@@ -127,6 +128,43 @@ fn since_open_after(since: usize, kind: SyntaxKind, text: &str) -> usize
     }
 }
 
+/// The same, with so many tokens more, none of which is a string.
+#[inline(always)]
+fn since_open_with(since: usize, more: usize) -> usize
+    requires { since + more < 2 ^ 64 }
+    ensures { result ≡ min (since + more) 5 }
+{
+    (since + more).min(5)
+}
+
+/// Takes the common tokens that stand next, as many as there are. Returns where they end.
+#[inline(always)]
+fn take_common(
+    edition: Edition,
+    text: &str,
+    from: usize,
+    kind: &mut Vec<SyntaxKind>,
+    start: &mut Vec<u32>,
+) -> Result<usize, NoMemory>
+    requires short { length text.now ≤ MAX_TEXT }
+    requires border { IsCharBoundary text.now from }
+    ensures taken { IfOk result (TakesCommon edition text.now kind.old.items start.old.items from kind.new.items start.new.items) }
+    ensures border { IfOk result (IsCharBoundary text.now) }
+    ensures further { IfOk result (λ end. from ≤ end) }
+    ensures grows { OnOk result (length kind.old.items ≤ length kind.new.items) }
+{
+    let mut end = from;
+    'common: while end < text.len() {
+        let Some((token, len)) = common_token(edition, &text[end..]) else {
+            break;
+        };
+        end += len;
+        kind.push(token)?;
+        start.push(end as u32)?;
+    }
+    Ok(end)
+}
+
 /// Where the messages about the token and the later ones begin.
 fn first_error(errors: &[LexError], token: usize) -> usize
     requires { IsNonDecreasingBy (λ m. m.token) errors.now }
@@ -162,17 +200,17 @@ impl<'a> LexedStr<'a> {
         let mut error = Vec::new(alloc);
         let mut since_open = 5usize;
         'tokens: while offset < text.len() {
+            let before = kind.len();
+            offset = take_common(edition, text, offset, &mut kind, &mut start)?;
+            since_open = since_open_with(since_open, kind.len() - before);
+            if offset == text.len() {
+                break;
+            }
             let (token, len) = first_token(edition, &text[offset..]);
             let next = &text[offset..offset + len];
             let number = kind.len() as u32;
-            report(
-                alloc,
-                &mut error,
-                number,
-                next,
-                token.remark,
-                since_open < 5,
-            )?;
+            let after_open = since_open < 5;
+            report(alloc, &mut error, number, next, token.remark, after_open)?;
             since_open = since_open_after(since_open, token.kind, next);
             offset += len;
             kind.push(token.kind)?;

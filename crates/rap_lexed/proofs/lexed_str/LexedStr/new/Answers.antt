@@ -1,18 +1,22 @@
-use Rattle.std.proofs.Common.{◌≡◌, ℕ, List, [], ◌∷◌, ◌++◌, ◌+◌, length, nat_lt, drop, chars, slice_range, IsCharBoundary, subst, ap, ◌∙◌, arith}
+use Rattle.std.proofs.Common.{◌≡◌, ℕ, List, [], ◌∷◌, ◌++◌, ◌+◌, ◌-◌, ◌≤◌, length, All, nat_lt, drop, chars, slice_range, IsCharBoundary, subst, ap, ◌∙◌, arith}
 use Rattle.std.proofs.lemmas.List.{drop-drop}
 use Rattle.std.proofs.lemmas.List.Elements.{All-push}
 use Rattle.rap_lexer.specs.First.{First}
 use Rattle.rap_base.specs.TokenTests.{IsTokenKind}
+use Rattle.rap_base.specs.declared.edition.Edition.{Edition}
 use Rattle.rap_lexed.specs.About.{about}
-use Rattle.std.specs.Prelude.{option_to_list}
-use Rattle.rap_lexed.specs.Header.{pieces, header_kinds}
-use Rattle.rap_lexed.specs.LexedStr.{IsFirst}
+use Rattle.std.specs.Prelude.{min, option_to_list}
+use Rattle.rap_lexed.specs.Header.{pieces, header_kinds, IsHeader}
+use Rattle.rap_lexed.specs.LexedStr.{Token, Message, IsFirst}
 use Rattle.rap_lexed.specs.Reported.{ReportsOf}
 use Rattle.std.proofs.lemmas.Str.{IsCharBoundary-from_rest}
+use Rattle.rap_lexed.proofs.CommonTokens.{further}
+use Rattle.rap_lexed.proofs.Cuts.{piece}
 use Rattle.rap_lexed.proofs.OneLexing.{only_lexing}
-use Rattle.rap_lexed.proofs.OpenStrings.{counts}
-use Rattle.rap_lexed.proofs.Upto.{header_begun, header_tokens, more, lexing}
+use Rattle.rap_lexed.proofs.OpenStrings.{counts, since_few}
+use Rattle.rap_lexed.proofs.Upto.{Upto, header_begun, header_tokens, more, starts, lexing}
 use Rattle.rap_lexed.proofs.lexed_str.LexedStr.new.Goals as goal
+use Rattle.rap_lexed.proofs.lexed_str.LexedStr.new.Goals.{else-tokens-test, then-tokens-test+in_ok-offset+then-offset-text}
 
 pub tokens-init : goal.tokens-init
 tokens-init c =
@@ -27,10 +31,27 @@ tokens-init c =
       kinds = rw kinds (header_tokens f.shebang f.frontmatter);
     }
 
+pub since_open_with-since_open-requires : goal.since_open_with-since_open-requires
+since_open_with-since_open-requires c =
+    let i = c.tokens.invariant in
+    let f = further _ _ i.header _ _ _ _ _ i.upto i.kinds c.in_ok-offset.ensures.taken in
+    omega (arith, c.len.ensures, c.if-text-gt-MAX_TEXT.false, i.upto.since_is, since_few (piece c.args.text.now c.tokens.kind.items c.tokens.start.items) (length c.tokens.kind.items), f.upto.few, f.upto.within)
+
+pub overflow_cast-number : goal.overflow_cast-number
+overflow_cast-number c =
+    let i = c.tokens.invariant in
+    let f = further _ _ i.header _ _ _ _ _ i.upto i.kinds c.in_ok-offset.ensures.taken in
+    omega (arith, c.len-number.ensures, c.if-text-gt-MAX_TEXT.false, f.upto.few, f.upto.within)
+
 pub tokens-preserved : goal.tokens-preserved
 tokens-preserved c =
     let text = c.args.text.now in
-    let offset = c.tokens.offset in
+    let i = c.tokens.invariant in
+    let f = further _ _ i.header _ _ _ _ _ i.upto i.kinds c.in_ok-offset.ensures.taken in
+    let offset = c.in_ok-offset.offset in
+    let since = c.since_open_with-since_open.result in
+    let kinds = c.take_common.new.kind.items in
+    let with_common : min (c.tokens.since_open + (length kinds - length c.tokens.kind.items)) 5 ≡ since = omega (arith, c.since_open_with-since_open.ensures, c.len.ensures, c.len-before.ensures) in
     let token = c.first_token-len.result.0 in
     let n = c.first_token-len.result.1 in
     let e = c.range_from.ensures.value in
@@ -38,21 +59,64 @@ tokens-preserved c =
     let border : IsCharBoundary (drop offset text) n = subst (λ (l : List ℕ). IsCharBoundary l n) e c.first_token-len.ensures.border in
     let reported = c.in_ok-report.ensures in
     let next : c.range-next.result.now ≡ slice_range text offset (offset + n) = c.range-next.ensures.value in
-    let reports : ReportsOf (nat_lt c.tokens.since_open 5) (slice_range text offset (offset + n)) token.remark reported.0 = rw next at reported.1 in
-    let is_first : IsFirst c.args.edition (nat_lt c.tokens.since_open 5) (drop offset text) (record { kind = token.kind; text = slice_range text offset (offset + n) }) (drop (offset + n) text) reported.0 = (token.remark, first, reports) in
-    let number : c.len-number.result ≡ length c.tokens.kind.items = omega (arith, c.len-number.ensures) in
-    let errors : c.report.new.errors.items ≡ c.tokens.error.items ++ about (length c.tokens.kind.items) reported.0 = reported.2 ∙ ap (λ i. c.tokens.error.items ++ about i reported.0) number in
-    let counted = counts c.tokens.since_open token.kind (slice_range text offset (offset + n)) _ (rw next at c.since_open_after-since_open.ensures.opens) (rw next at c.since_open_after-since_open.ensures.other) in
-    let all = more c.args.edition text _ _ _ c.tokens.error.items c.tokens.since_open offset token.kind (offset + n) c.tokens.invariant.upto (omega (arith, c.first_token-len.ensures.positive)) (IsCharBoundary-from_rest text offset n c.tokens.invariant.upto.within border) reported.0 is_first in
+    let reports : ReportsOf (nat_lt since 5) (slice_range text offset (offset + n)) token.remark reported.0 = rw next at reported.1 in
+    let is_first : IsFirst c.args.edition (nat_lt since 5) (drop offset text) (record { kind = token.kind; text = slice_range text offset (offset + n) }) (drop (offset + n) text) reported.0 = (token.remark, first, reports) in
+    let number : c.len-number.result ≡ length kinds = omega (arith, c.len-number.ensures) in
+    let errors : c.report.new.errors.items ≡ c.tokens.error.items ++ about (length kinds) reported.0 = reported.2 ∙ ap (λ i. c.tokens.error.items ++ about i reported.0) number in
+    let counted = counts since token.kind (slice_range text offset (offset + n)) _ (rw next at c.since_open_after-since_open.ensures.opens) (rw next at c.since_open_after-since_open.ensures.other) in
+    let all = more c.args.edition text _ _ _ c.tokens.error.items since offset token.kind (offset + n) (rw with_common at f.upto) (omega (arith, c.first_token-len.ensures.positive)) (IsCharBoundary-from_rest text offset n f.upto.within border) reported.0 is_first in
     record {
-      header = c.tokens.invariant.header;
-      is_header = c.tokens.invariant.is_header;
+      header = i.header;
+      is_header = i.is_header;
       upto = rw (c.in_ok-push-2.ensures.items, c.in_ok-push-3.ensures.items, errors, counted) all;
-      kinds = rw c.in_ok-push-2.ensures.items (All-push IsTokenKind c.tokens.kind.items token.kind c.tokens.invariant.kinds c.first_token-len.ensures.kind);
+      kinds = rw c.in_ok-push-2.ensures.items (All-push IsTokenKind kinds token.kind f.tokens c.first_token-len.ensures.kind);
     }
 
+-- the loop has come to the end of the text
+record Whole (edition : Edition) (text kinds starts : List ℕ) (errors : List Message) : Type 0 where
+  pub since : ℕ
+  pub offset : ℕ
+  pub header : List Token
+  pub is_header : IsHeader edition text header
+  pub upto : Upto edition text header kinds starts errors since offset
+  pub tokens : All IsTokenKind kinds
+  pub done : length text ≤ offset
+
+whole : (c : goal.After-text-1) → Whole c.args.edition c.args.text.now c.tokens-test.kind.items c.tokens-test.start.items c.tokens.error.items
+whole c =
+    let i = c.tokens.invariant in
+    elim c.tokens-test.branch [
+      | else-tokens-test w ↦ rw (w.kind-is, w.start-is) (record {
+        since = c.tokens.since_open;
+        offset = c.tokens.offset;
+        header = i.header;
+        is_header = i.is_header;
+        upto = i.upto;
+        tokens = i.kinds;
+        done = w.tokens-test.false;
+      })
+      | then-tokens-test+in_ok-offset+then-offset-text w ↦
+          let f = further _ _ i.header _ _ _ _ _ i.upto i.kinds w.in_ok-offset.ensures.taken in
+          rw (w.kind-is, w.start-is) (record {
+            since = _;
+            offset = w.in_ok-offset.offset;
+            header = i.header;
+            is_header = i.is_header;
+            upto = f.upto;
+            tokens = f.tokens;
+            done = omega (arith, w.if-offset-text.true);
+          })
+    ]
+
+pub invariant_of-result : goal.invariant_of-result
+invariant_of-result c =
+    let w = whole c in
+    (starts c.args.edition _ _ _ _ _ w.since w.offset w.upto (omega arith) c.utf8.text w.done, w.tokens, w.upto.ordered)
+
 pub returns-clause-lexing : goal.returns-clause-lexing
-returns-clause-lexing c = lexing c.args.edition _ _ _ _ _ c.tokens.since_open c.tokens.offset c.tokens.invariant.upto (omega arith) c.utf8.text c.tokens-test.false c.tokens.invariant.is_header
+returns-clause-lexing c =
+    let w = whole c in
+    lexing c.args.edition _ _ _ _ _ w.since w.offset w.upto (omega arith) c.utf8.text w.done w.is_header
 
 pub returns-clause-only : goal.returns-clause-only
-returns-clause-only c = only_lexing c.args.text.now c.args.edition _ c.utf8.text (lexing c.args.edition _ _ _ _ _ c.tokens.since_open c.tokens.offset c.tokens.invariant.upto (omega arith) c.utf8.text c.tokens-test.false c.tokens.invariant.is_header)
+returns-clause-only c = only_lexing c.args.text.now c.args.edition _ c.utf8.text (returns-clause-lexing c)

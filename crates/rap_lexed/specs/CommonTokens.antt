@@ -1,0 +1,23 @@
+-- Common tokens, which the lexer takes one after another without a look at what is to be reported.
+-- (What calls promise one another; no promise of the library rests on it.)
+use Rattle.std.specs.Prelude.{◌≢◌, ℕ, ◌<◌, List, [], ◌∷◌, ◌++◌, chars, drop, IsCharBoundary}
+use Rattle.rap_base.specs.TokenKind.{STRING}
+use Rattle.rap_base.specs.TokenTests.{IsTokenKind}
+use Rattle.rap_base.specs.declared.edition.Edition.{Edition}
+use Rattle.rap_lexer.specs.First.{First}
+use Rattle.rap_lexer.specs.Lexeme.{plain}
+
+-- from one place to another stands a token about which nothing is reported, and which is no string
+pub record IsCommon (edition : Edition) (text : List ℕ) (kind from to : ℕ) : Type 0 where
+  pub first : First edition (chars (drop from text)) (plain kind) (chars (drop to text))
+  pub token : IsTokenKind kind
+  pub no_string : kind ≢ STRING
+  pub some : from < to
+  pub border : IsCharBoundary text to
+
+-- Such tokens, taken from a place on, lead from the first kinds and starts to these, and to this place.
+pub data TakesCommon (edition : Edition) (text kinds starts : List ℕ) (from : ℕ) : List ℕ → List ℕ → ℕ → Type 0 where
+  none : TakesCommon edition text kinds starts from kinds starts from
+  more : (ks ss : List ℕ) (at kind to : ℕ) → TakesCommon edition text kinds starts from ks ss at →
+      IsCommon edition text kind at to →
+      TakesCommon edition text kinds starts from (ks ++ kind ∷ []) (ss ++ to ∷ []) to
