@@ -8,7 +8,7 @@ use Rattle.rap_lexer.specs.First.{First}
 use Rattle.rap_lexer.specs.Lexeme.{plain}
 
 -- from one place to another stands a token about which nothing is reported, and which is no string
-pub record IsCommon (edition : Edition) (text : List ℕ) (kind from to : ℕ) : Type 0 where
+pub record IsCommonAt (edition : Edition) (text : List ℕ) (kind from to : ℕ) : Type 0 where
   pub first : First edition (chars (drop from text)) (plain kind) (chars (drop to text))
   pub token : IsTokenKind kind
   pub no_string : kind ≢ STRING
@@ -19,5 +19,5 @@ pub record IsCommon (edition : Edition) (text : List ℕ) (kind from to : ℕ) :
 pub data TakesCommon (edition : Edition) (text kinds starts : List ℕ) (from : ℕ) : List ℕ → List ℕ → ℕ → Type 0 where
   none : TakesCommon edition text kinds starts from kinds starts from
   more : (ks ss : List ℕ) (at kind to : ℕ) → TakesCommon edition text kinds starts from ks ss at →
-      IsCommon edition text kind at to →
+      IsCommonAt edition text kind at to →
       TakesCommon edition text kinds starts from (ks ++ kind ∷ []) (ss ++ to ∷ []) to

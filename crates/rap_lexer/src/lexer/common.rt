@@ -116,6 +116,8 @@ const QUOTE: u8 = 32;
 /// Part of a character past ASCII.
 const PAST_ASCII: u8 = 33;
 
+// Their letters in the table, which has a row for each sixteen bytes.
+
 const W: u8 = WHITE;
 
 const I: u8 = WORD;
@@ -128,13 +130,20 @@ const H: u8 = PAST_ASCII;
 
 #[rattlefmt::skip]
 static CLASSES: [u8; 256] = [
-    O, O, O, O, O, O, O, O, O, W, W, W, W, W, O, O, O, O, O, O, O, O, O, O, O, O, O, O, O, O, O, O,
-    W, 27, Q, Q, 15, 22, 16, Q, 3, 4, 19, 18, 2, 28, 24, O, O, O, O, O, O, O, O, O, O, O, 25, 1, 9,
-    26, 10, 14, 11, I, I, I, I, I, I, I, I, I, I, I, I, I, I, I, I, I, I, I, I, I, I, I, I, I, I,
-    7, O, 8, 21, I, O, I, I, I, I, I, I, I, I, I, I, I, I, I, I, I, I, I, I, I, I, I, I, I, I, I,
-    I, 5, 17, 6, 13, O, H, H, H, H, H, H, H, H, H, H, H, H, H, H, H, H, H, H, H, H, H, H, H, H, H,
-    H, H, H, H, H, H, H, H, H, H, H, H, H, H, H, H, H, H, H, H, H, H, H, H, H, H, H, H, H, H, H, H,
-    H, H, H, H, H, H, H, H, H, H, H, H, H, H, H, H, H, H, H, H, H, H, H, H, H, H, H, H, H, H, H, H,
-    H, H, H, H, H, H, H, H, H, H, H, H, H, H, H, H, H, H, H, H, H, H, H, H, H, H, H, H, H, H, H, H,
-    H, H, H, H, H, H, H,
+    O,  O,  O,  O,  O,  O,  O,  O,  O,  W,  W,  W,  W,  W,  O,  O, // 0x00
+    O,  O,  O,  O,  O,  O,  O,  O,  O,  O,  O,  O,  O,  O,  O,  O, // 0x10
+    W,  27, Q,  Q,  15, 22, 16, Q,  3,  4,  19, 18, 2,  28, 24, O, // 0x20
+    O,  O,  O,  O,  O,  O,  O,  O,  O,  O,  25, 1,  9,  26, 10, 14, // 0x30
+    11, I,  I,  I,  I,  I,  I,  I,  I,  I,  I,  I,  I,  I,  I,  I, // 0x40
+    I,  I,  I,  I,  I,  I,  I,  I,  I,  I,  I,  7,  O,  8,  21, I, // 0x50
+    O,  I,  I,  I,  I,  I,  I,  I,  I,  I,  I,  I,  I,  I,  I,  I, // 0x60
+    I,  I,  I,  I,  I,  I,  I,  I,  I,  I,  I,  5,  17, 6,  13, O, // 0x70
+    H,  H,  H,  H,  H,  H,  H,  H,  H,  H,  H,  H,  H,  H,  H,  H, // 0x80
+    H,  H,  H,  H,  H,  H,  H,  H,  H,  H,  H,  H,  H,  H,  H,  H, // 0x90
+    H,  H,  H,  H,  H,  H,  H,  H,  H,  H,  H,  H,  H,  H,  H,  H, // 0xa0
+    H,  H,  H,  H,  H,  H,  H,  H,  H,  H,  H,  H,  H,  H,  H,  H, // 0xb0
+    H,  H,  H,  H,  H,  H,  H,  H,  H,  H,  H,  H,  H,  H,  H,  H, // 0xc0
+    H,  H,  H,  H,  H,  H,  H,  H,  H,  H,  H,  H,  H,  H,  H,  H, // 0xd0
+    H,  H,  H,  H,  H,  H,  H,  H,  H,  H,  H,  H,  H,  H,  H,  H, // 0xe0
+    H,  H,  H,  H,  H,  H,  H,  H,  H,  H,  H,  H,  H,  H,  H,  H, // 0xf0
 ];

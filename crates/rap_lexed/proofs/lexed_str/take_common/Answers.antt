@@ -6,12 +6,12 @@ use Rattle.rap_base.specs.TokenTests.{IsTokenKind}
 use Rattle.rap_base.specs.declared.edition.Edition.{Edition}
 use Rattle.rap_lexer.specs.First.{First}
 use Rattle.rap_lexer.specs.Lexeme.{plain}
-use Rattle.rap_lexed.specs.CommonTokens.{IsCommon}
+use Rattle.rap_lexed.specs.CommonTokens.{IsCommonAt}
 use Rattle.rap_lexed.specs.CommonTokens.TakesCommon.{none, more}
 use Rattle.rap_lexed.proofs.lexed_str.take_common.Goals as goal
 
 -- the token that begins what is left
-common-at : (edition : Edition) (text seen : List ℕ) (at kind n : ℕ) → IsCharBoundary text at → seen ≡ drop at text → First edition (chars seen) (plain kind) (chars (drop n seen)) → IsTokenKind kind → kind ≢ STRING → 0 < n → IsCharBoundary seen n → IsCommon edition text kind at (at + n)
+common-at : (edition : Edition) (text seen : List ℕ) (at kind n : ℕ) → IsCharBoundary text at → seen ≡ drop at text → First edition (chars seen) (plain kind) (chars (drop n seen)) → IsTokenKind kind → kind ≢ STRING → 0 < n → IsCharBoundary seen n → IsCommonAt edition text kind at (at + n)
 common-at edition text seen at kind n before e first token other some border = record {
   first = subst (λ (l : List ℕ). First edition (chars (drop at text)) (plain kind) (chars l)) (drop-drop n at text) (rw e at first);
   token = token;
