@@ -7,7 +7,7 @@
 use std::hint::black_box;
 use std::time::{Duration, Instant};
 
-/// A step, as whoever builds a tree takes it: a number for what it is, and the bytes of its text or its message.
+/// A step, as whoever builds a tree takes it: a number for what it is, and the bytes of its text.
 type Taken = (u32, usize, usize);
 
 type Parser = fn(&str, &mut Vec<Taken>) -> Option<usize>;
@@ -21,14 +21,18 @@ macro_rules! parser {
             let output = TopEntryPoint::SourceFile.parse(&lexed.to_input(Edition::LATEST));
             steps.clear();
             let mut place = 0;
-            lexed.intersperse_trivia(&output, &mut |step| match step {
-                StrStep::Enter { kind } => steps.push((1 + kind as u32, place, place)),
-                StrStep::Exit => steps.push((0, place, place)),
-                StrStep::Token { kind, text } => {
-                    steps.push((1 + kind as u32, place, place + text.len()));
-                    place += text.len();
-                }
-                StrStep::Error { msg, pos } => steps.push((u32::MAX, pos, msg.len())),
+            lexed.intersperse_trivia(&output, &mut |step| {
+                let begin = place;
+                let what = match step {
+                    StrStep::Enter { kind } => 1 + kind as u32,
+                    StrStep::Exit => 0,
+                    StrStep::Token { kind, text } => {
+                        place += text.len();
+                        1 + kind as u32
+                    }
+                    StrStep::Error { .. } => u32::MAX,
+                };
+                steps.push((what, begin, place));
             });
             Some(steps.len())
         }

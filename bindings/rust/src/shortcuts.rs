@@ -67,6 +67,8 @@ impl LexedStr<'_> {
     ///
     /// Panics where the output is not exactly one tree over the first tokens of this text, each under its own kind, an
     /// identifier as its contextual keyword or a keyword as an identifier; the Rust crate takes some such outputs.
+    // A sink that is small is put in the place of its calls where this is inlined.
+    #[inline]
     pub fn intersperse_trivia(&self, output: &Output, sink: &mut dyn FnMut(StrStep<'_>)) -> bool {
         if let Some(tree) = output.tree().filter(|tree| self.is_of(tree)) {
             tree.woven.each(sink);

@@ -252,29 +252,32 @@ impl Woven {
     /// Hands the tree's steps to a function.
     #[inline(always)]
     pub(crate) fn each(&self, mut take: impl FnMut(StrStep<'_>)) {
+        let (text, words) = (&*self.text, &self.words[..self.tree]);
         let messages = std::str::from_utf8(&self.messages).expect("messages are UTF-8");
-        let (mut rest, mut said) = (&*self.text, 0);
-        let mut words = self.words[..self.tree].iter().copied();
-        let next = |words: &mut dyn Iterator<Item = u32>| words.next().expect("a word follows") as usize;
-        while let Some(word) = words.next() {
+        let (mut at, mut start, mut said) = (0, 0, 0);
+        while let Some(&word) = words.get(at) {
+            at += 1;
             match word & 7 {
                 // SAFETY: it is the word of a node's begin.
                 ENTER => take(StrStep::Enter { kind: unsafe { kind_in(word) } }),
                 EXIT => take(StrStep::Exit),
                 TOKEN => {
-                    let short = word >> 3 & LONG;
-                    let length = if short < LONG { short as usize } else { next(&mut words) };
+                    let mut length = word >> 3 & LONG;
+                    if length == LONG {
+                        length = words[at];
+                        at += 1;
+                    }
+                    let end = start + length as usize;
                     // SAFETY: the texts of the tokens joined are the text, so there are as many bytes, and a character
-                    // ends there; and it is the word of a token.
-                    let (text, kind) = unsafe { (rest.get_unchecked(..length), kind_in(word)) };
-                    // SAFETY: as above.
-                    rest = unsafe { rest.get_unchecked(length..) };
+                    // begins and ends there; and it is the word of a token.
+                    let (text, kind) = unsafe { (text.get_unchecked(start..end), kind_in(word)) };
+                    start = end;
                     take(StrStep::Token { kind, text });
                 }
                 _ => {
-                    let pos = next(&mut words);
-                    let end = said + next(&mut words);
-                    take(StrStep::Error { msg: &messages[said..end], pos });
+                    let end = said + words[at + 1] as usize;
+                    take(StrStep::Error { msg: &messages[said..end], pos: words[at] as usize });
+                    at += 2;
                     said = end;
                 }
             }
