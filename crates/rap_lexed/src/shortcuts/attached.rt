@@ -9,6 +9,7 @@ use crate::lexed_str::{LexedStr, holds_pair};
 use rap_base::syntax_kind::SyntaxKind;
 
 /// Whether a node of this kind takes an attached tail: an item's, a field's, a variant's or a macro call's.
+#[inline(always)]
 pub(super) fn takes_tail(kind: SyntaxKind) -> bool
     ensures { result ≡ takes_tail kind }
 {
