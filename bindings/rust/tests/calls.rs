@@ -55,6 +55,17 @@ fn gives_the_steps_of_a_tree() {
 }
 
 #[test]
+fn gives_what_stands_behind_a_long_token() {
+    let comment = format!("//{}", "é".repeat(35_000));
+    let text = format!("{comment}\nstruct S 5");
+    let want = format!(
+        "<SOURCE_FILE> <STRUCT> COMMENT:{comment} WHITESPACE:\n STRUCT_KW:struct WHITESPACE:  <NAME> IDENT:S \
+         70011:expected `;`, `{{`, or `(` </> </> WHITESPACE:  <ERROR> 70012:expected an item INT_NUMBER:5 </> </>"
+    );
+    assert_eq!(tree(TopEntryPoint::SourceFile, &text), want);
+}
+
+#[test]
 fn gives_messages_where_they_stand() {
     let want = "<BIN_EXPR> <LITERAL> INT_NUMBER:1 </> PLUS:+ <ERROR> 2:expected expression </> </>";
     assert_eq!(tree(TopEntryPoint::Expr, "1+"), want);
