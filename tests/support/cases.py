@@ -18,8 +18,8 @@ def cases_of(file: str) -> list[tuple[str, dict[str, list[str]]]]:
     with open(file, encoding='utf-8', newline='') as lines:
         for line in lines.read().split('\n'):
             if line.startswith('$ '):
-                cases.append((line, {'|': [], '~': [], '!': []}))
-            elif line[:1] in ('|', '~', '!'):
+                cases.append((line, {'|': [], '~': [], '*': [], '!': []}))
+            elif line[:1] in ('|', '~', '*', '!'):
                 cases[-1][1][line[0]].append(line[2:])
             elif line and not line.startswith('# '):
                 sys.exit(f'{file}: a line that is none of a case: {line}')
@@ -56,9 +56,18 @@ def ran(head: str, folder: str, start: Callable[[str], list[str]]) -> tuple[int,
     return int(status), done.returncode, out, err
 
 
+def has_lines(wanted: str, out: str) -> bool:
+    """Whether so many lines of the output are matched by a pattern as `COUNT PATTERN` says."""
+    count, _, pattern = wanted.partition(' ')
+    return sum(bool(re.fullmatch(pattern, it)) for it in out.split('\n')) == int(count)
+
+
 def is_as_wanted(head: str, lines: dict[str, list[str]], folder: str,
                  start: Callable[[str], list[str]] = built) -> bool:
     """Whether a case is as its lines say, of a program that these words start."""
     wanted, status, out, err = ran(head, folder, start)
-    is_out = all(it in out for it in lines['~']) if lines['~'] else out == ''.join(f'{it}\n' for it in lines['|'])
+    if lines['~'] or lines['*']:
+        is_out = all(it in out for it in lines['~']) and all(has_lines(it, out) for it in lines['*'])
+    else:
+        is_out = out == ''.join(f'{it}\n' for it in lines['|'])
     return status == wanted and is_out and err == ''.join(f'{it}\n' for it in lines['!'])
