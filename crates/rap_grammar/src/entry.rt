@@ -15,12 +15,12 @@ ghost use Rattle.rap_grammar.specs.Top.{top_tree, with_leaves};
 ghost use Rattle.rap_grammar_scripts.specs.Statements as statement_script;
 
 use crate::knot::run;
+use rap_base::T;
 use rap_base::no_memory::NoMemory;
 use rap_base::syntax_kind::SyntaxKind;
 use rap_events::output::{Output, Step, wrap_in_node};
 use rap_events::parser::{Marker, Parser};
 use rap_grammar_frame::knot::Rule;
-use rap_grammar_scripts::T;
 use rap_grammar_scripts::arguments::Semicolon;
 use std::alloc::Global;
 

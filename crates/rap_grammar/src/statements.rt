@@ -13,6 +13,7 @@ ghost use Rattle.rap_grammar_scripts.specs.Script.{something};
 ghost use Rattle.rap_grammar_scripts.specs.Statements as script;
 ghost use Rattle.rap_grammar_scripts.specs.Statements.{ends_block};
 
+use rap_base::T;
 use rap_base::no_memory::NoMemory;
 use rap_base::syntax_kind::SyntaxKind;
 use rap_events::parser::{CompletedMarker, Marker, Parser};
@@ -22,7 +23,6 @@ use rap_grammar_expressions::expressions::expr_bp;
 use rap_grammar_frame::first::is_expr_first;
 use rap_grammar_frame::knot::Grammar;
 use rap_grammar_items::items::opt_item;
-use rap_grammar_scripts::T;
 use rap_grammar_scripts::arguments::{BlockLike, Restrictions, Semicolon};
 
 /// A statement: `;`, a `let`, an item, or an expression, which at the end of its block is its value.

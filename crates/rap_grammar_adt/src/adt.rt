@@ -12,6 +12,7 @@ ghost use Rattle.rap_grammar_frame.specs.Room.{brackets_room, item_room, list_ro
 ghost use Rattle.rap_grammar_scripts.specs.Script.{something};
 ghost use Rattle.rap_grammar_scripts.specs.Words.{of_bool};
 
+use rap_base::T;
 use rap_base::no_memory::NoMemory;
 use rap_base::syntax_kind::SyntaxKind;
 use rap_events::parser::{Marker, Parser};
@@ -24,7 +25,6 @@ use rap_grammar_frame::knot::Grammar;
 use rap_grammar_frame::lists::{Element, delimited};
 use rap_grammar_frame::names::name;
 use rap_grammar_paths::visibility::{opt_visibility, opt_visibility_inner};
-use rap_grammar_scripts::T;
 
 /// A struct from its keyword on, as `struct S;`.
 pub fn strukt<G: Grammar>(p: &mut Parser<'_>, g: &G, m: Marker) -> Result<(), NoMemory>

@@ -12,6 +12,7 @@ ghost use Rattle.rap_grammar_frame.specs.Room.{list_room, name_room, element_roo
 ghost use Rattle.rap_grammar_frame.specs.Rules.{Parsed};
 ghost use Rattle.rap_grammar_scripts.specs.Script.{something};
 
+use rap_base::T;
 use rap_base::no_memory::NoMemory;
 use rap_base::syntax_kind::SyntaxKind;
 use rap_events::parser::Parser;
@@ -21,7 +22,6 @@ use rap_grammar_frame::knot::{Grammar, Rule};
 use rap_grammar_frame::lists::{Element, delimited};
 use rap_grammar_frame::token_tree::{is_bracket, token_tree};
 use rap_grammar_paths::paths::attr_path;
-use rap_grammar_scripts::T;
 
 /// Returns whether an inner attribute comes next.
 fn is_inner_attr_start(p: &Parser<'_>) -> bool

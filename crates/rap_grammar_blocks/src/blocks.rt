@@ -14,12 +14,12 @@ ghost use Rattle.rap_grammar_scripts.specs.Script.{something};
 ghost use Rattle.rap_grammar_scripts.specs.Words.{of_option};
 
 use crate::attributes::inner_attrs;
+use rap_base::T;
 use rap_base::no_memory::NoMemory;
 use rap_base::syntax_kind::SyntaxKind;
 use rap_events::parser::{CompletedMarker, Parser};
 use rap_grammar_frame::called::{ascription, expr, pattern};
 use rap_grammar_frame::knot::{Grammar, Rule};
-use rap_grammar_scripts::T;
 use rap_grammar_scripts::arguments::Semicolon;
 
 /// A block, as `{ a; b }`. Where none begins, that is reported.

@@ -14,6 +14,7 @@ ghost use Rattle.rap_grammar_frame.specs.Rules.{Missed};
 ghost use Rattle.rap_grammar_scripts.specs.Script.{something};
 ghost use Rattle.rap_grammar_scripts.specs.Words.{of_bool};
 
+use rap_base::T;
 use rap_base::no_memory::NoMemory;
 use rap_base::syntax_kind::SyntaxKind;
 use rap_events::parser::{CompletedMarker, Marker, Parser};
@@ -23,7 +24,6 @@ use rap_grammar_frame::called::expr;
 use rap_grammar_frame::knot::{Grammar, Rule};
 use rap_grammar_frame::names::{is_path_name, name_any_identifier, name_ref_mod_path};
 use rap_grammar_paths::paths::sym_path;
-use rap_grammar_scripts::T;
 use rap_grammar_scripts::arguments::Restrictions;
 
 /// Inline assembly after its name, as `("nop", in(reg) a)`.

@@ -15,13 +15,13 @@ ghost use Rattle.rap_grammar_scripts.specs.Script.{something};
 ghost use Rattle.rap_grammar_scripts.specs.Words.{of_bool, of_option, starts_builtin};
 
 use crate::asm::parse_asm_expr;
+use rap_base::T;
 use rap_base::no_memory::NoMemory;
 use rap_base::syntax_kind::SyntaxKind;
 use rap_events::parser::{CompletedMarker, Marker, Parser};
 use rap_grammar_frame::called::{expr, type_};
 use rap_grammar_frame::knot::{Answer, Grammar, Rule};
 use rap_grammar_frame::names::{name_any_identifier, name_ref_mod_path_or_index};
-use rap_grammar_scripts::T;
 use rap_grammar_scripts::arguments::BlockLike;
 
 /// An expression after `builtin#`, as `builtin#offset_of(a, b)`. An unknown name is reported and not taken.

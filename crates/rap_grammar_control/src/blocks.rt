@@ -16,13 +16,13 @@ ghost use Rattle.rap_grammar_scripts.specs.Script.{something};
 
 use crate::closures::closure_expr;
 use crate::control::for_expr;
+use rap_base::T;
 use rap_base::no_memory::NoMemory;
 use rap_base::syntax_kind::SyntaxKind;
 use rap_events::parser::{CompletedMarker, Parser};
 use rap_grammar_blocks::blocks::stmt_list;
 use rap_grammar_frame::called::type_;
 use rap_grammar_frame::knot::{Answer, Grammar};
-use rap_grammar_scripts::T;
 use rap_grammar_scripts::arguments::BlockLike;
 
 /// A block by itself, as `{ a; b }`.

@@ -11,6 +11,7 @@ ghost use Rattle.rap_grammar_scripts.specs.Knot.{Follows};
 ghost use Rattle.rap_grammar_frame.specs.Room.{atom_room, list_room, name_room};
 ghost use Rattle.rap_grammar_scripts.specs.Script.{something};
 
+use rap_base::T;
 use rap_base::no_memory::NoMemory;
 use rap_base::syntax_kind::SyntaxKind;
 use rap_events::parser::{CompletedMarker, Parser};
@@ -19,7 +20,6 @@ use rap_grammar_frame::called::{expr, for_binder, opt_ret_type};
 use rap_grammar_frame::first::is_expr_first;
 use rap_grammar_frame::knot::Grammar;
 use rap_grammar_params::params::param_list_closure;
-use rap_grammar_scripts::T;
 
 /// A closure, as `|a| b`.
 #[inline(never)]

@@ -12,6 +12,7 @@ ghost use Rattle.rap_grammar_frame.specs.Room.{atom_room, list_room, name_room};
 ghost use Rattle.rap_grammar_frame.specs.Rules.{Operand, OperandFrom};
 ghost use Rattle.rap_grammar_scripts.specs.Script.{something};
 
+use rap_base::T;
 use rap_base::no_memory::NoMemory;
 use rap_base::syntax_kind::SyntaxKind;
 use rap_events::parser::{CompletedMarker, Marker, Parser};
@@ -20,7 +21,6 @@ use rap_grammar_frame::called;
 use rap_grammar_frame::called::{expr_no_struct, pattern};
 use rap_grammar_frame::knot::{Answer, Grammar, Rule};
 use rap_grammar_frame::names::lifetime;
-use rap_grammar_scripts::T;
 use rap_grammar_scripts::arguments::{BlockLike, Restrictions};
 
 /// An `if`, as `if a { b } else { c }`.

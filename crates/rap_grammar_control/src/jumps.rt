@@ -10,6 +10,7 @@ ghost use Rattle.rap_grammar_scripts.specs.Knot.{Follows};
 ghost use Rattle.rap_grammar_frame.specs.Room.{atom_room};
 ghost use Rattle.rap_grammar_scripts.specs.Script.{something};
 
+use rap_base::T;
 use rap_base::no_memory::NoMemory;
 use rap_base::syntax_kind::SyntaxKind;
 use rap_events::parser::{CompletedMarker, Parser};
@@ -17,7 +18,6 @@ use rap_grammar_frame::called::expr;
 use rap_grammar_frame::first::is_expr_first;
 use rap_grammar_frame::knot::Grammar;
 use rap_grammar_frame::names::lifetime;
-use rap_grammar_scripts::T;
 use rap_grammar_scripts::arguments::Restrictions;
 
 /// Whether an operand follows. Before a block, as in `if break {}`, a `{` begins none.

@@ -13,6 +13,7 @@ ghost use Rattle.rap_grammar_scripts.specs.Knot.{Follows};
 ghost use Rattle.rap_grammar_frame.specs.Room.{atom_room, list_room, pattern_room, statement_room, arm_room};
 ghost use Rattle.rap_grammar_scripts.specs.Script.{something};
 
+use rap_base::T;
 use rap_base::no_memory::NoMemory;
 use rap_base::syntax_kind::SyntaxKind;
 use rap_events::parser::{CompletedMarker, Parser};
@@ -20,7 +21,6 @@ use rap_grammar_blocks::attributes::{inner_attrs, outer_attrs};
 use rap_grammar_blocks::blocks::error_block;
 use rap_grammar_frame::called::{arm_pattern, expr, expr_no_struct, expr_stmt};
 use rap_grammar_frame::knot::Grammar;
-use rap_grammar_scripts::T;
 use rap_grammar_scripts::arguments::BlockLike;
 
 /// A `match`, as `match a { b => c }`.

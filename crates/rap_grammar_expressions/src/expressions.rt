@@ -14,6 +14,7 @@ ghost use Rattle.rap_grammar_scripts.specs.Script.{nothing};
 
 use crate::expressions::atom::atom_expr;
 use crate::expressions::operators::{climb, prefix_expr, ref_expr};
+use rap_base::T;
 use rap_base::no_memory::NoMemory;
 use rap_events::parser::{CompletedMarker, Marker, Parser};
 use rap_grammar_blocks::attributes::outer_attrs;
@@ -22,7 +23,6 @@ use rap_grammar_frame::knot::Grammar;
 use rap_grammar_frame::recovery::expr_recovery_set;
 use rap_grammar_operands::postfix::postfix_expr;
 use rap_grammar_operands::ranges::prefix_range;
-use rap_grammar_scripts::T;
 use rap_grammar_scripts::arguments::{BlockLike, Restrictions};
 
 mod atom;

@@ -18,10 +18,10 @@ ghost use Rattle.rap_grammar_scripts.specs.Words.{of_bool, of_option};
 
 use crate::knot::{Answer, Grammar, Rule};
 use crate::names::is_path_name;
+use rap_base::T;
 use rap_base::no_memory::NoMemory;
 use rap_base::syntax_kind::SyntaxKind;
 use rap_events::parser::{CompletedMarker, Parser};
-use rap_grammar_scripts::T;
 use rap_grammar_scripts::arguments::Restrictions;
 
 /// The return type of a function, as `-> a`, if there is one. Returns whether there is.

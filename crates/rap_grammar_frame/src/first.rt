@@ -5,9 +5,9 @@ ghost use Rattle.rap_events.specs.State.{state, next};
 ghost use Rattle.rap_grammar_scripts.specs.First.{is_outer_attr_first, is_expr_first, is_const_arg_first, is_type_first, is_generic_arg_first, is_path_name, is_path_first, is_path_start, is_use_path_start, is_pattern_first, is_pat_top_first, is_fn_ptr_first, is_literal_first, is_atom_expr_first};
 
 use crate::names::is_path_name;
+use rap_base::T;
 use rap_base::syntax_kind::SyntaxKind;
 use rap_events::parser::Parser;
-use rap_grammar_scripts::T;
 
 /// Whether an outer attribute begins with a token of this kind.
 pub fn is_outer_attr_first(kind: SyntaxKind) -> bool

@@ -14,10 +14,10 @@ ghost use Rattle.rap_grammar_scripts.specs.Script.{something};
 
 use crate::names::{given_name, name_r};
 use crate::recovery::item_recovery_set;
+use rap_base::T;
 use rap_base::no_memory::NoMemory;
 use rap_base::token_set::TokenSet;
 use rap_events::parser::Parser;
-use rap_grammar_scripts::T;
 
 /// An item's name. Where it is missing, the next token is skipped too, unless it is a brace or an item begins with it.
 #[inline(never)]

@@ -14,11 +14,11 @@ ghost use Rattle.rap_grammar_frame.specs.Room.{name_room, recovery_events};
 ghost use Rattle.rap_grammar_scripts.specs.Script.{something};
 ghost use Rattle.rap_grammar_scripts.specs.Words.{starts_builtin};
 
+use rap_base::T;
 use rap_base::no_memory::NoMemory;
 use rap_base::syntax_kind::SyntaxKind;
 use rap_base::token_set::TokenSet;
 use rap_events::parser::Parser;
-use rap_grammar_scripts::T;
 
 /// Whether `builtin#` comes next.
 pub fn starts_builtin(p: &Parser<'_>) -> bool

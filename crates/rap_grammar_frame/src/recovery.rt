@@ -3,8 +3,8 @@ ghost use Rattle.std.specs.Prelude.{◌≡◌, ◌≢◌, ℕ, ◌<◌, ◌≤�
 ghost use Rattle.rap_base.specs.TokenSet.{member};
 ghost use Rattle.rap_grammar_scripts.specs.Recovery.{is_type_recovery, is_expr_recovery, is_item_recovery};
 
+use rap_base::T;
 use rap_base::token_set::TokenSet;
-use rap_grammar_scripts::T;
 
 /// The recovery set of types.
 pub fn type_recovery_set() -> TokenSet

@@ -15,10 +15,10 @@ ghost use Rattle.rap_grammar_scripts.specs.Knot.{Follows};
 ghost use Rattle.rap_grammar_frame.specs.Room.{list_room};
 ghost use Rattle.rap_grammar_scripts.specs.Script.{something};
 
+use rap_base::T;
 use rap_base::no_memory::NoMemory;
 use rap_base::syntax_kind::SyntaxKind;
 use rap_events::parser::Parser;
-use rap_grammar_scripts::T;
 use rap_grammar_scripts::arguments::BlockLike;
 
 /// Whether a kind is an opening bracket.

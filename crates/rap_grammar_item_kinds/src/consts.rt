@@ -9,13 +9,13 @@ ghost use Rattle.rap_grammar_scripts.specs.Knot.{Follows};
 ghost use Rattle.rap_grammar_frame.specs.Room.{item_room, recovery_events};
 ghost use Rattle.rap_grammar_scripts.specs.Script.{something};
 
+use rap_base::T;
 use rap_base::no_memory::NoMemory;
 use rap_base::syntax_kind::SyntaxKind;
 use rap_events::parser::{Marker, Parser};
 use rap_grammar_frame::called::{ascription, expr, opt_generic_param_list, opt_where_clause};
 use rap_grammar_frame::knot::Grammar;
 use rap_grammar_frame::names::name;
-use rap_grammar_scripts::T;
 
 /// A constant from its `const` or `type const` on, as `const A: b = c;`.
 pub fn konst<G: Grammar>(p: &mut Parser<'_>, g: &G, m: Marker) -> Result<(), NoMemory>

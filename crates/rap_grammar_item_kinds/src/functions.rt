@@ -9,6 +9,7 @@ ghost use Rattle.rap_grammar_scripts.specs.Knot.{Follows};
 ghost use Rattle.rap_grammar_frame.specs.Room.{item_room, recovery_events};
 ghost use Rattle.rap_grammar_scripts.specs.Script.{something};
 
+use rap_base::T;
 use rap_base::no_memory::NoMemory;
 use rap_base::syntax_kind::SyntaxKind;
 use rap_events::parser::{Marker, Parser};
@@ -19,7 +20,6 @@ use rap_grammar_frame::called::{
 use rap_grammar_frame::item_names::fn_name;
 use rap_grammar_frame::knot::Grammar;
 use rap_grammar_params::params::param_list_fn_def;
-use rap_grammar_scripts::T;
 
 /// A function from its keyword on, as `fn f(a: b) -> c {}`.
 pub fn fn_<G: Grammar>(p: &mut Parser<'_>, g: &G, m: Marker) -> Result<(), NoMemory>

@@ -9,13 +9,13 @@ ghost use Rattle.rap_grammar_scripts.specs.Macros as script;
 ghost use Rattle.rap_grammar_frame.specs.Room.{item_room};
 ghost use Rattle.rap_grammar_scripts.specs.Script.{something};
 
+use rap_base::T;
 use rap_base::no_memory::NoMemory;
 use rap_base::syntax_kind::SyntaxKind;
 use rap_events::parser::{Marker, Parser};
 use rap_grammar_frame::item_names::item_name;
 use rap_grammar_frame::names::name;
 use rap_grammar_frame::token_tree::{is_bracket, macro_call_after_excl, token_tree};
-use rap_grammar_scripts::T;
 
 /// A macro by its rules, as `macro_rules! a { () => {} }`.
 pub fn macro_rules(p: &mut Parser<'_>, m: Marker) -> Result<(), NoMemory>

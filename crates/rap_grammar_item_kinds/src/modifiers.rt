@@ -12,13 +12,13 @@ ghost use Rattle.rap_grammar_frame.specs.Room.{list_room};
 ghost use Rattle.rap_grammar_scripts.specs.Script.{something, again};
 ghost use Rattle.rap_grammar_scripts.specs.Words.{of_bool};
 
+use rap_base::T;
 use rap_base::no_memory::NoMemory;
 use rap_base::syntax_kind::SyntaxKind;
 use rap_events::parser::Parser;
 use rap_grammar_frame::knot::Grammar;
 use rap_grammar_frame::names::abi;
 use rap_grammar_paths::visibility::opt_visibility_inner;
-use rap_grammar_scripts::T;
 
 /// Whether there were modifiers, and whether `extern` was one.
 #[derive(Clone, Copy)]

@@ -12,6 +12,7 @@ ghost use Rattle.rap_grammar_frame.specs.Room.{item_room, list_room};
 ghost use Rattle.rap_grammar_scripts.specs.Script.{something};
 
 use crate::consts::konst;
+use rap_base::T;
 use rap_base::no_memory::NoMemory;
 use rap_base::syntax_kind::SyntaxKind;
 use rap_events::parser::{Marker, Parser};
@@ -19,7 +20,6 @@ use rap_grammar_blocks::attributes::inner_attrs;
 use rap_grammar_frame::called::{bounds, opt_generic_param_list, opt_where_clause, type_};
 use rap_grammar_frame::knot::{Grammar, Rule};
 use rap_grammar_frame::names::{name, name_ref_or_self, opt_rename};
-use rap_grammar_scripts::T;
 
 /// A crate's name, as `extern crate a as b;`.
 pub fn extern_crate(p: &mut Parser<'_>, m: Marker) -> Result<(), NoMemory>

@@ -10,6 +10,7 @@ ghost use Rattle.rap_grammar_frame.specs.Room.{item_room, list_room, statement_r
 ghost use Rattle.rap_grammar_scripts.specs.Script.{something};
 ghost use Rattle.rap_grammar_scripts.specs.Traits as script;
 
+use rap_base::T;
 use rap_base::no_memory::NoMemory;
 use rap_base::syntax_kind::SyntaxKind;
 use rap_events::parser::{Marker, Parser};
@@ -20,7 +21,6 @@ use rap_grammar_frame::called::{
 };
 use rap_grammar_frame::item_names::item_name;
 use rap_grammar_frame::knot::{Grammar, Rule};
-use rap_grammar_scripts::T;
 
 /// A trait from its keyword on, as `trait A {}`.
 pub fn trait_<G: Grammar>(p: &mut Parser<'_>, g: &G, m: Marker) -> Result<(), NoMemory>

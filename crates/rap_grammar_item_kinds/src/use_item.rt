@@ -13,6 +13,7 @@ ghost use Rattle.rap_grammar_scripts.specs.Script.{something};
 ghost use Rattle.rap_grammar_scripts.specs.UseItem as script;
 ghost use Rattle.rap_grammar_scripts.specs.UseItem.{is_group_first, is_global_group_start, is_use_tree_start};
 
+use rap_base::T;
 use rap_base::no_memory::NoMemory;
 use rap_base::syntax_kind::SyntaxKind;
 use rap_base::token_set::TokenSet;
@@ -23,7 +24,6 @@ use rap_grammar_frame::lists::{Element, delimited};
 use rap_grammar_frame::names::opt_rename;
 use rap_grammar_frame::recovery::item_recovery_set;
 use rap_grammar_paths::paths::use_path;
-use rap_grammar_scripts::T;
 
 /// An import from its keyword on, as `use a::b;`.
 pub fn use_<G: Grammar>(p: &mut Parser<'_>, g: &G, m: Marker) -> Result<(), NoMemory>

@@ -13,6 +13,7 @@ ghost use Rattle.rap_grammar_frame.specs.Rules.{IsItem};
 ghost use Rattle.rap_grammar_scripts.specs.Script.{something};
 ghost use Rattle.rap_grammar_scripts.specs.Words.{next_is};
 
+use rap_base::T;
 use rap_base::no_memory::NoMemory;
 use rap_base::syntax_kind::SyntaxKind;
 use rap_events::parser::{Marker, Parser};
@@ -32,7 +33,6 @@ use rap_grammar_item_kinds::traits::{impl_, trait_};
 use rap_grammar_item_kinds::use_item::use_;
 use rap_grammar_paths::paths::use_path;
 use rap_grammar_paths::visibility::opt_visibility;
-use rap_grammar_scripts::T;
 
 /// An item from the newest marker on, if one comes next; else the marker is handed back.
 pub fn opt_item<G: Grammar>(

@@ -13,6 +13,7 @@ ghost use Rattle.rap_grammar_frame.specs.Room.{operand_room, arguments_room, rec
 ghost use Rattle.rap_grammar_scripts.specs.Script.{something};
 ghost use Rattle.rap_grammar_scripts.specs.Words.{of_bool};
 
+use rap_base::T;
 use rap_base::no_memory::NoMemory;
 use rap_base::syntax_kind::SyntaxKind;
 use rap_events::parser::{CompletedMarker, Marker, Parser};
@@ -24,7 +25,6 @@ use rap_grammar_frame::names::{
     is_path_name, is_path_name_or_index, name_ref_mod_path, name_ref_mod_path_or_index,
 };
 use rap_grammar_paths::generic_args::opt_generic_arg_list_expr;
-use rap_grammar_scripts::T;
 use rap_grammar_scripts::arguments::BlockLike;
 
 /// What follows an operand directly, as `(a)`, `[0]`, `.b`, `.c()` and `?`.

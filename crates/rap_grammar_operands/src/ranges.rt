@@ -13,12 +13,12 @@ ghost use Rattle.rap_grammar_frame.specs.Room.{operand_room};
 ghost use Rattle.rap_grammar_scripts.specs.Script.{something};
 ghost use Rattle.rap_grammar_scripts.specs.Words.{of_bool};
 
+use rap_base::T;
 use rap_base::no_memory::NoMemory;
 use rap_base::syntax_kind::SyntaxKind;
 use rap_events::parser::{CompletedMarker, Parser};
 use rap_grammar_frame::first::is_expr_first;
 use rap_grammar_frame::knot::{Grammar, Rule};
-use rap_grammar_scripts::T;
 use rap_grammar_scripts::arguments::Restrictions;
 
 /// Whether the dots of a range have an end after them: not in `(1..).max()`, nor before the block of `for i in 1.. {}`.

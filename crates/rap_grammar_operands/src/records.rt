@@ -12,6 +12,7 @@ ghost use Rattle.rap_grammar_scripts.specs.Records.{is_field_name};
 ghost use Rattle.rap_grammar_frame.specs.Room.{list_room, name_room, field_room, marked_field_room};
 ghost use Rattle.rap_grammar_scripts.specs.Script.{something};
 
+use rap_base::T;
 use rap_base::no_memory::NoMemory;
 use rap_base::syntax_kind::SyntaxKind;
 use rap_events::parser::{Marker, Parser};
@@ -20,7 +21,6 @@ use rap_grammar_blocks::blocks::error_block;
 use rap_grammar_frame::called::expr;
 use rap_grammar_frame::knot::Grammar;
 use rap_grammar_frame::names::name_ref_or_index;
-use rap_grammar_scripts::T;
 
 /// The fields of a record in their braces, as `{ a: b, ..c }`.
 pub fn record_expr_field_list<G: Grammar>(p: &mut Parser<'_>, g: &G) -> Result<(), NoMemory>

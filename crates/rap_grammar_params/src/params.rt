@@ -10,6 +10,7 @@ ghost use Rattle.rap_grammar_frame.specs.Room.{list_room, element_room, param_ro
 ghost use Rattle.rap_grammar_scripts.specs.Script.{something};
 ghost use Rattle.rap_grammar_scripts.specs.Words.{of_bool};
 
+use rap_base::T;
 use rap_base::no_memory::NoMemory;
 use rap_base::syntax_kind::SyntaxKind;
 use rap_events::parser::{Marker, Parser};
@@ -18,7 +19,6 @@ use rap_grammar_frame::called::{ascription, pattern, pattern_single, type_};
 use rap_grammar_frame::first::{is_outer_attr_first, is_pattern_first, is_type_first};
 use rap_grammar_frame::knot::Grammar;
 use rap_grammar_frame::names::lifetime;
-use rap_grammar_scripts::T;
 use rap_grammar_scripts::arguments::Flavor;
 
 /// The parameters of a function, as `(&self, a: b)`.

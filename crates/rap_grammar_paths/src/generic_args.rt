@@ -10,13 +10,13 @@ ghost use Rattle.rap_grammar_scripts.specs.Paths as path_script;
 ghost use Rattle.rap_grammar_frame.specs.Room.{element_room};
 ghost use Rattle.rap_grammar_scripts.specs.Script.{something};
 
+use rap_base::T;
 use rap_base::no_memory::NoMemory;
 use rap_base::syntax_kind::SyntaxKind;
 use rap_events::parser::{Marker, Parser};
 use rap_grammar_frame::first::is_generic_arg_first;
 use rap_grammar_frame::knot::{Grammar, Rule};
 use rap_grammar_frame::lists::{Element, delimited};
-use rap_grammar_scripts::T;
 
 /// An argument in a list.
 pub struct GenericArg;

@@ -16,6 +16,7 @@ ghost use Rattle.rap_grammar_scripts.specs.Script.{something};
 ghost use Rattle.rap_grammar_scripts.specs.Words.{of_option};
 
 use crate::generic_args::{generic_arg_list, opt_generic_arg_list_expr};
+use rap_base::T;
 use rap_base::no_memory::NoMemory;
 use rap_base::syntax_kind::SyntaxKind;
 use rap_base::token_set::TokenSet;
@@ -26,7 +27,6 @@ use rap_grammar_frame::knot::{Grammar, Rule};
 use rap_grammar_frame::lists::{Element, delimited};
 use rap_grammar_frame::names::{is_path_name, name_ref_mod_path};
 use rap_grammar_frame::recovery::{expr_recovery_set, item_recovery_set, type_recovery_set};
-use rap_grammar_scripts::T;
 use rap_grammar_scripts::arguments::Mode;
 
 /// A path in an import, as `a::b`, and where an item may be a macro call.

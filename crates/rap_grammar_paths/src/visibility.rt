@@ -11,11 +11,11 @@ ghost use Rattle.rap_grammar_scripts.specs.Script.{something};
 ghost use Rattle.rap_grammar_scripts.specs.Words.{of_bool};
 
 use crate::paths::vis_path;
+use rap_base::T;
 use rap_base::no_memory::NoMemory;
 use rap_base::syntax_kind::SyntaxKind;
 use rap_events::parser::Parser;
 use rap_grammar_frame::knot::Grammar;
-use rap_grammar_scripts::T;
 
 /// `pub` with its restriction, as `pub(crate)`, if it comes next. In a tuple's field, parentheses may be the field's
 /// type. Returns whether it does.

@@ -15,6 +15,7 @@ ghost use Rattle.rap_grammar_frame.specs.Rules.{IsAtomPattern, PatternUntil};
 ghost use Rattle.rap_grammar_scripts.specs.Script.{something, nothing};
 ghost use Rattle.rap_grammar_scripts.specs.Words.{of_option, of_bool};
 
+use rap_base::T;
 use rap_base::no_memory::NoMemory;
 use rap_base::syntax_kind::SyntaxKind;
 use rap_base::token_set::TokenSet;
@@ -28,7 +29,6 @@ use rap_grammar_frame::literals::literal;
 use rap_grammar_frame::names::{given_name, name_r, name_ref_or_index, starts_builtin};
 use rap_grammar_frame::token_tree::macro_call_after_excl;
 use rap_grammar_paths::paths::expr_path;
-use rap_grammar_scripts::T;
 
 /// Whether the end of a range may begin with a token of this kind.
 fn is_range_pat_end_first(kind: SyntaxKind) -> bool

@@ -3,7 +3,7 @@ ghost use Rattle.std.specs.Prelude.{◌≡◌, ◌≢◌, ◌<◌, ◌≤◌, �
 ghost use Rattle.rap_base.specs.TokenKind.{EOF};
 ghost use Rattle.rap_grammar_scripts.specs.Params as params_script;
 
-use crate::T;
+use rap_base::T;
 use rap_base::syntax_kind::SyntaxKind;
 
 /// Whether an expression reads like a block: as a statement it needs no semicolon, and no operator may follow it.

@@ -2,4 +2,3 @@
 #![tactic(auto)]
 
 pub mod arguments;
-pub mod token_kind;

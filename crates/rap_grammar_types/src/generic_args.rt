@@ -14,6 +14,7 @@ ghost use Rattle.rap_grammar_scripts.specs.Script.{something};
 
 use crate::generic_params::bounds;
 use crate::types::{opt_type_bounds_as_dyn_trait_type, starts_weak_dyn, type_with_bounds_cond};
+use rap_base::T;
 use rap_base::no_memory::NoMemory;
 use rap_base::syntax_kind::SyntaxKind;
 use rap_base::token_set::TokenSet;
@@ -28,7 +29,6 @@ use rap_grammar_frame::literals::literal;
 use rap_grammar_frame::names::{is_path_name, lifetime, name_ref_mod_path};
 use rap_grammar_frame::token_tree::{macro_call_after_excl, starts_macro_call};
 use rap_grammar_paths::paths::{expr_path, opt_path_type_args, type_path_for_qualifier};
-use rap_grammar_scripts::T;
 
 /// An argument, as `'a`, `1`, `a`, `a = b` and `a: b`.
 pub fn generic_arg<G: Grammar>(p: &mut Parser<'_>, g: &G) -> Result<(), NoMemory>

@@ -13,6 +13,7 @@ ghost use Rattle.rap_grammar_scripts.specs.Words.{of_bool};
 
 use crate::generic_args::const_arg;
 use crate::types::path_type;
+use rap_base::T;
 use rap_base::no_memory::NoMemory;
 use rap_base::syntax_kind::SyntaxKind;
 use rap_events::parser::{CompletedMarker, Marker, Parser};
@@ -23,7 +24,6 @@ use rap_grammar_frame::knot::Grammar;
 use rap_grammar_frame::lists::{Element, delimited};
 use rap_grammar_frame::names::{lifetime, name, name_ref_or_upper_self};
 use rap_grammar_frame::token_tree::token_tree;
-use rap_grammar_scripts::T;
 
 /// Generic parameters, as `<'a, T: A, const N: b>`.
 pub fn generic_param_list<G: Grammar>(p: &mut Parser<'_>, g: &G) -> Result<(), NoMemory>

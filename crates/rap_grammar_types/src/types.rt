@@ -15,6 +15,7 @@ ghost use Rattle.rap_grammar_scripts.specs.Types.{starts_bare_dyn, starts_for_ta
 ghost use Rattle.rap_grammar_scripts.specs.Words.{of_bool};
 
 use crate::generic_params::{bounds_without_colon, bounds_without_colon_m};
+use rap_base::T;
 use rap_base::no_memory::NoMemory;
 use rap_base::syntax_kind::SyntaxKind;
 use rap_events::parser::{CompletedMarker, Parser};
@@ -26,7 +27,6 @@ use rap_grammar_frame::recovery::type_recovery_set;
 use rap_grammar_frame::token_tree::{macro_call_after_excl, starts_macro_call};
 use rap_grammar_params::params::param_list_fn_ptr;
 use rap_grammar_paths::paths::type_path;
-use rap_grammar_scripts::T;
 
 /// A type, as `&a` and `[a; 1]`, with bounds after it, as `a + b`, where they are allowed.
 pub fn type_with_bounds_cond<G: Grammar>(

@@ -14,6 +14,7 @@ ghost use Rattle.rap_grammar_frame.specs.Rules.{Operand};
 ghost use Rattle.rap_grammar_scripts.specs.Script.{something};
 ghost use Rattle.rap_grammar_scripts.specs.Words.{of_bool};
 
+use rap_base::T;
 use rap_base::no_memory::NoMemory;
 use rap_base::syntax_kind::SyntaxKind;
 use rap_events::parser::{CompletedMarker, Parser};
@@ -32,7 +33,6 @@ use rap_grammar_frame::names::starts_builtin;
 use rap_grammar_frame::token_tree::{macro_call_after_excl, starts_macro_call};
 use rap_grammar_operands::records::record_expr_field_list;
 use rap_grammar_paths::paths::expr_path;
-use rap_grammar_scripts::T;
 use rap_grammar_scripts::arguments::{BlockLike, Restrictions};
 
 /// An expression that begins with no operator, as `1`, `a::b` and `(a)`. Where none begins, the next token stands in an

@@ -15,13 +15,13 @@ ghost use Rattle.rap_grammar_scripts.specs.Operator.{operator_at};
 ghost use Rattle.rap_grammar_frame.specs.Room.{operand_room};
 ghost use Rattle.rap_grammar_scripts.specs.Script.{something};
 
+use rap_base::T;
 use rap_base::no_memory::NoMemory;
 use rap_base::syntax_kind::SyntaxKind;
 use rap_events::parser::{CompletedMarker, Parser};
 use rap_grammar_frame::called::type_no_bounds;
 use rap_grammar_frame::knot::{Grammar, Rule};
 use rap_grammar_operands::ranges::range_expr;
-use rap_grammar_scripts::T;
 use rap_grammar_scripts::arguments::Restrictions;
 
 /// The least power of the operand of a prefix operator: it binds tighter than any operator between two operands.
