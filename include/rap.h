@@ -25,6 +25,7 @@
 
 #include <stddef.h>
 #include <stdint.h>
+#include "rap_kinds.h"
 
 #ifdef __cplusplus
 extern "C" {
@@ -139,11 +140,12 @@ enum rap_prefix_entry {
     RAP_PREFIX_META_ITEM = 9 /* the contents of an attribute's brackets */
 };
 
-/* Kinds are numbered from 0 to RAP_LAST_KIND; rap_kind_name writes their names. RAP_NO_KIND is no kind's number. */
-enum { RAP_LAST_KIND = 329, RAP_NO_KIND = 330 };
+/* Kinds are numbered from 0 to RAP_LAST_KIND: enum rap_kind has a name for each, and rap_kind_name writes those names
+ * without their RAP_KIND_. RAP_NO_KIND is no kind's number. */
+enum { RAP_LAST_KIND = RAP_KIND_PATH_META, RAP_NO_KIND = RAP_LAST_KIND + 1 };
 
 /* Some kinds: the end of an input, an identifier, and the last of the tokens. */
-enum { RAP_EOF = 0, RAP_IDENT = 148, RAP_LAST_TOKEN = 156 };
+enum { RAP_EOF = RAP_KIND_EOF, RAP_IDENT = RAP_KIND_IDENT, RAP_LAST_TOKEN = RAP_KIND_SHEBANG };
 
 /* The tree of any text: its steps from left to right, trivia included, so that the texts of the tokens joined are the
  * text. The lexer's messages, each at its token, follow the end of the last node.

@@ -26,8 +26,6 @@ struct tree {
     uint8_t *messages;
 };
 
-static uint32_t l_curly, r_curly, block_expr, names_read;
-
 static void check(int holds, const char *what) {
     if (holds) return;
     fprintf(stderr, "fuzz: not so: %s\n", what);
@@ -43,22 +41,6 @@ static void *room_of(size_t size) {
 static void count(uint32_t some, uint32_t other, uint32_t more) {
     uint32_t place = (some * 331 + other * 7919 + more * 104729) % COUNTERS;
     if (counters[place] < 255) counters[place]++;
-}
-
-static uint32_t kind_of(const char *wanted) {
-    uint8_t name[32];
-    size_t length = strlen(wanted);
-    for (uint32_t kind = 0; kind <= RAP_LAST_KIND; kind++)
-        if (rap_kind_name(kind, name, sizeof name) == length && !memcmp(name, wanted, length)) return kind;
-    abort();
-}
-
-static void read_names(void) {
-    if (names_read) return;
-    l_curly = kind_of("L_CURLY");
-    r_curly = kind_of("R_CURLY");
-    block_expr = kind_of("BLOCK_EXPR");
-    names_read = 1;
 }
 
 /* A call, by its number: a tree, tokens, a prefix, or a node that is parsed again. */
@@ -173,12 +155,12 @@ static int reparse(const struct call *c, const struct tree *tree, size_t first, 
         depth += steps[last].what == RAP_ENTER;
         depth -= steps[last].what == RAP_EXIT;
     }
-    size_t ends = steps[first].kind == block_expr ? 2 : 1;
+    size_t ends = steps[first].kind == RAP_KIND_BLOCK_EXPR ? 2 : 1;
     const struct rap_step *brace = &steps[last - ends];
-    if (last - first <= 2 * ends || brace->what != RAP_TOKEN || brace->kind != r_curly) return 0;
+    if (last - first <= 2 * ends || brace->what != RAP_TOKEN || brace->kind != RAP_KIND_R_CURLY) return 0;
     if (ends == 2 && (steps[first + 1].what != RAP_ENTER || steps[last - 1].what != RAP_EXIT)) return 0;
     const struct rap_step *open = &steps[first + ends];
-    if (open->what != RAP_TOKEN || open->kind != l_curly) return 0;
+    if (open->what != RAP_TOKEN || open->kind != RAP_KIND_L_CURLY) return 0;
     size_t base = steps[first].at, length = steps[last].at - base;
     uint32_t child = steps[first + 1].kind;
     struct call again = {3, c->edition, steps[first].kind, child, parent, c->text + base, length};
@@ -209,7 +191,6 @@ static void reparse_nodes(const struct call *c, const struct tree *tree) {
 int LLVMFuzzerTestOneInput(const uint8_t *text, size_t length) {
     static const uint32_t EDITIONS[] = {2024, 2021, 2018, 2015};
     struct call c = {0, EDITIONS[length / 70 % 4], (uint32_t)(length % 7), RAP_NO_KIND, RAP_NO_KIND, text, length};
-    read_names();
     struct tree tree = call(&c);
     c.which = 1;
     struct tree tokens = call(&c);
