@@ -1,5 +1,5 @@
 -- The calls that a parser recorded, in order. The number of a call is its place among them.
--- (What calls promise one another; no promise of the library rests on it.)
+-- (What calls promise one another, but for what docs/ARCHITECTURE.md lists as to be believed.)
 use Rattle.std.specs.Prelude.{ℕ, zero, suc, ◌+◌, ◌≤◌, List, [], ◌∷◌, map, Bool}
 use Rattle.rap_events.specs.declared.event.Event.{Event}
 use Rattle.rap_events.specs.declared.event.Event.TheVariants as event

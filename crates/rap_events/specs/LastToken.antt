@@ -1,5 +1,5 @@
 -- The last token that was taken.
--- (What calls promise one another; no promise of the library rests on it.)
+-- (What calls promise one another, but for what docs/ARCHITECTURE.md lists as to be believed.)
 use Rattle.std.specs.Prelude.{ℕ}
 use Rattle.rap_base.specs.TokenKind.{EOF}
 use Rattle.rap_events.specs.Forest.{Forest, none, node, leaf, message, split}

@@ -1,5 +1,4 @@
 -- The steps that an output holds.
--- (What calls promise one another; no promise of the library rests on it.)
 use Rattle.std.specs.Prelude.{◌≤◌, ⊤, ℕ, List, [], Option, Some, None, map, string_bytes, drop, length}
 use Rattle.rap_events.specs.History.{text_at}
 use Rattle.rap_events.specs.StepValue.{StepValue, enter, exit, token, float_split, error}

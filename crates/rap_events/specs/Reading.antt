@@ -1,5 +1,5 @@
 -- Reading a list of steps back into the forest that it shows, and forests as lists of steps.
--- (What calls promise one another; no promise of the library rests on it.)
+-- (What calls promise one another, but for what docs/ARCHITECTURE.md lists as to be believed.)
 use Rattle.std.specs.Prelude.{◌≡◌, ℕ, zero, suc, List, [], ◌∷◌, ◌++◌, Bool, true, false, refl}
 use Rattle.std.specs.Coded.{Coded, code_by, coded×, coded_ℕ, coded_list}
 use Rattle.std.proofs.Common.{◌∙◌, ap, sym, append_assoc, append-nil}

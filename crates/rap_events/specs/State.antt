@@ -1,5 +1,5 @@
 -- What a caller sees of a parser, and what each of its calls does to that.
--- (What calls promise one another; no promise of the library rests on it.)
+-- (What calls promise one another, but for what docs/ARCHITECTURE.md lists as to be believed.)
 use Rattle.std.specs.Prelude.{◌≡◌, ◌≢◌, ℕ, ◌+◌, ◌≤◌, ◌<◌, List, [], ◌∷◌, ◌++◌, Option, Some, Bool, true, false, length, drop, map, string_bytes, codes, ◌||◌, ◌==◌, not}
 use Rattle.rap_base.specs.TokenKind.{EOF, ERROR, L_CURLY, R_CURLY}
 use Rattle.rap_base.specs.NodeKind.{FIELD_EXPR}
