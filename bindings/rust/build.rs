@@ -8,10 +8,20 @@
 use std::env;
 use std::path::{Path, PathBuf};
 
-/// The folder in which cargo was called. Cargo starts this program in the folder of the package.
+/// The folder of cargo's process, which starts this program in the folder of the package.
+#[cfg(unix)]
+fn folder_of_cargo() -> Option<PathBuf> {
+    std::fs::read_link(format!("/proc/{}/cwd", std::os::unix::process::parent_id())).ok()
+}
+
+#[cfg(not(unix))]
+fn folder_of_cargo() -> Option<PathBuf> {
+    None
+}
+
+/// The folder in which cargo was called.
 fn called_in() -> PathBuf {
-    let cargo = format!("/proc/{}/cwd", std::os::unix::process::parent_id());
-    std::fs::read_link(cargo).ok().or_else(|| env::var_os("PWD").map(PathBuf::from)).unwrap_or_default()
+    folder_of_cargo().or_else(|| env::var_os("PWD").map(PathBuf::from)).unwrap_or_default()
 }
 
 /// The folder that a variable names.

@@ -43,12 +43,15 @@ static void *parse(void *given) {
     return NULL;
 }
 
-/* Parses in a thread with a stack for this text. Returns 0, or the number of an error of the system. */
+/* Parses in a thread with a stack for this text. Returns 0, or the number of an error of the system. The length of the
+ * text would do in the place of the number of its tokens, and reserve more. */
 static int parse_in_thread(struct job *job) {
+    struct rap_record none;
+    size_t tokens = rap_records(job->text, job->length, job->edition, &none, 0).steps;
     pthread_attr_t attributes;
     pthread_t thread;
     int error = pthread_attr_init(&attributes);
-    if (!error) error = pthread_attr_setstacksize(&attributes, rap_stack(job->length));
+    if (!error) error = pthread_attr_setstacksize(&attributes, rap_stack(tokens));
     if (!error) error = pthread_create(&thread, &attributes, parse, job);
     return error ? error : pthread_join(thread, NULL);
 }
