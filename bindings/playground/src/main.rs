@@ -11,7 +11,7 @@ mod http;
 use answer::{Asked, answer_to};
 use http::{Request, Response};
 use std::ffi::OsString;
-use std::io;
+use std::io::{self, Write as _};
 use std::net::{TcpListener, TcpStream};
 use std::path::Path;
 use std::process::ExitCode;
@@ -122,7 +122,8 @@ fn run(port: Option<u16>, text: &str) -> io::Result<()> {
     let hosts = [format!("127.0.0.1:{port}"), format!("localhost:{port}")];
     let jobs = start_parser()?;
     let site = SITE.get_or_init(|| Site { page: PAGE.replace("DATA", &answer::data(text)), hosts, jobs });
-    println!("http://127.0.0.1:{port}/");
+    // It serves too where nobody reads this.
+    let _ = writeln!(io::stdout(), "http://127.0.0.1:{port}/");
     let open = Arc::new(AtomicUsize::new(0));
     for stream in listener.incoming() {
         let Ok(stream) = stream else { continue };
@@ -169,7 +170,7 @@ fn asked_for(words: &[OsString]) -> Option<(Option<u16>, Option<&Path>)> {
 fn main() -> ExitCode {
     let words: Vec<OsString> = std::env::args_os().skip(1).collect();
     if words.iter().any(|word| word == "--help") {
-        println!("{USAGE}");
+        let _ = writeln!(io::stdout(), "{USAGE}");
         return ExitCode::SUCCESS;
     }
     let Some((port, file)) = asked_for(&words) else {
