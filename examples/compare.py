@@ -1,35 +1,20 @@
 #!/usr/bin/env python3
 """compare.py C_TREE RUST_TREE GREEN RAST ROWS FILE ..
 
-Compares what the examples in C and in Rust print: of each row's text with the row's hash, and of each file with what the
-program `rast` prints, with its status. GREEN, the example of a tree that is built from the steps, must print of each file
-what `rast` prints with ranges. A row is `EDITION ENTRY HASH TEXT`, the text in quotes, as in
+Compares what the examples in C and in Rust print: of each row's text with the row's hash, and of each file with what
+the program `rast` prints, with its status. GREEN, the example of a tree that is built from the steps, must print of
+each file what `rast` prints with ranges. A row is `EDITION ENTRY HASH TEXT`, the text in quotes, as in
 crates/rast_replay/data/texts.txt. Prints what differs, and how many were the same."""
 import concurrent.futures
 import os
-import re
 import subprocess
 import sys
 import tempfile
 
-ENTRIES = ['SourceFile', 'MacroStmts', 'MacroItems', 'Pattern', 'Type', 'Expr', 'MetaItem']
-LETTERS = {'n': '\n', 'r': '\r', 't': '\t', '0': '\0'}
+sys.dont_write_bytecode = True
+sys.path.insert(0, f'{os.path.dirname(os.path.dirname(os.path.abspath(__file__)))}/tests')
 
-
-def unquoted(quoted):
-    """The text in these quotes."""
-    def plain(found):
-        code, letter = found.groups()
-        return chr(int(code, 16)) if code else LETTERS.get(letter, letter)
-    return re.sub(r'\\(?:u\{([0-9a-f]+)\}|(.))', plain, quoted[1:-1])
-
-
-def fnv1a(data):
-    """The FNV-1a hash, of 64 bits."""
-    value = 0xcbf29ce484222325
-    for byte in data:
-        value = (value ^ byte) * 0x100000001b3 % 2 ** 64
-    return value
+from support.sample import TOPS, fnv1a, lines_of, unquoted  # noqa: E402
 
 
 def printed(program, edition, entry, file, *more):
@@ -76,8 +61,7 @@ def main():
     if len(sys.argv) < 7:
         sys.exit(__doc__)
     in_c, in_rust, green, rast, rows_file, *files = sys.argv[1:]
-    with open(rows_file, encoding='utf-8', newline='') as lines:
-        rows = [row for row in lines.read().split('\n') if row and row.split(' ')[1] in ENTRIES]
+    rows = [row for row in lines_of(rows_file) if row and row.split(' ')[1] in TOPS]
     different = 0
     for program in [in_c, in_rust]:
         found = compare_rows(program, rows)

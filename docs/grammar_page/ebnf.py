@@ -72,4 +72,3 @@ class Writer:
         if rule.first:
             words.append(f'at {" or ".join(map(self.kinds.text, self.kinds.sorted(rule.first)))}')
         return self.link(rule) + (f' _({", ".join(words)})_' if words else '')
-

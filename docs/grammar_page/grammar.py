@@ -1,5 +1,6 @@
 """The rules that have an entry on the page, each with what it reads, and what it reports."""
 from dataclasses import dataclass, field
+from typing import Optional
 
 from grammar_page.antt import Library
 from grammar_page.forms import Rule, form_width, is_absent
@@ -21,7 +22,7 @@ class Summary:
     present: tuple = ()
     absent: dict = field(default_factory=dict)
     fault: tuple = ()
-    width: int = None
+    width: Optional[int] = None
 
 
 class Grammar:

@@ -1,6 +1,4 @@
 """The kinds of tokens: their texts, the tokens that an operator is written with, and the operators' powers."""
-import re
-
 from grammar_page.antt import Library
 
 CLOSING = {'L_PAREN': 'R_PAREN', 'L_BRACK': 'R_BRACK', 'L_CURLY': 'R_CURLY'}
@@ -20,16 +18,13 @@ class Kinds:
     """What is known of the kinds of tokens in the crates of a folder."""
 
     def __init__(self, crates):
-        table = read(f'{crates}/rap_grammar_scripts/src/token_kind.rt')
-        rows = re.findall(r"\[(?:'(.)'|(\S+))\] => \{ rap_base::syntax_kind::SyntaxKind::(\w+) \}", table)
-        self.texts = {kind: quoted or text for quoted, text, kind in rows if (quoted or text).upper() != kind}
-        names = re.findall(r'(?m)^    "(\w+)",$', read(f'{crates}/rap_base/src/syntax_kind/names.rt'))
-        self.order = {it: at for at, it in enumerate(names)}
-        self.tokens = frozenset(names[:names.index('TOMBSTONE')])
-        self.nodes = frozenset(names[names.index('TOMBSTONE'):]) | {'ERROR'}
-        words = Library(f'{crates}/rap_base/specs')
-        (_, weak), = words.clauses_of(words.find_in('Keyword', 'contextual_ever'))
-        self.weak = frozenset(kind[1] for _, (_, kind) in elements(weak))
+        rows = [line.split() for line in read(f'{crates}/rap_base/kinds.txt').split('\n')]
+        rows = [row for row in rows if row and row[0] != '#']
+        self.texts = {row[1]: row[3] for row in rows if row[2] not in ('token', 'node')}
+        self.order = {row[1]: int(row[0]) for row in rows}
+        self.tokens = frozenset(row[1] for row in rows if row[2] != 'node')
+        self.nodes = frozenset(row[1] for row in rows if row[2] == 'node') | {'ERROR'}
+        self.weak = frozenset(row[1] for row in rows if row[2] == 'contextual')
         self.parts, self.powers = {}, {}
         self.read_operators(Library(f'{crates}/rap_events/specs'))
 

@@ -1,5 +1,6 @@
 """The states of the ways through a script and how they end, what was noted on them, and how ways are joined."""
 from dataclasses import dataclass, replace
+from typing import Optional
 
 from grammar_page.forms import Node, added, shared_head, unmarked
 from grammar_page.shorten import alternatives, sequence
@@ -62,7 +63,7 @@ class Message:
     late: bool
     keeps: object = None
     by: object = None
-    element: tuple = None
+    element: Optional[tuple] = None
     in_list: bool = False
     after: tuple = ()
     closed: str = ''

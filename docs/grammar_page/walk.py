@@ -9,8 +9,8 @@ from grammar_page.tests import Last, Not, ReadsAs, There, after, bounds, no
 from grammar_page.values import NOTHING, SOMETHING, UNKNOWN, Given, KindOf, Scope, Tokens, Undecided
 
 # The words of scripts that something follows, and how many arguments each has.
-STEPS = {'token': 1, 'any': 0, 'bear': 1, 'report': 1, 'report_next': 1, 'skip': 1, 'start': 0, 'precede': 0, 'finish': 1, 'extend': 0,
-         'abandon': 0, 'eat': 1, 'eat_as': 1, 'expect': 1, 'call': 1, 'recur': 1}
+STEPS = {'token': 1, 'any': 0, 'bear': 1, 'report': 1, 'report_next': 1, 'skip': 1, 'start': 0, 'precede': 0,
+         'finish': 1, 'extend': 0, 'abandon': 0, 'eat': 1, 'eat_as': 1, 'expect': 1, 'call': 1, 'recur': 1}
 # Those that end a script.
 ENDS = ('give', 'done', 'test', 'choose', 'optional', 'only_if', 'recover', 'ends_with', 'after', 'rule', 'loop',
         'by_operator', 'split_float', 'if_some')

@@ -2,7 +2,9 @@
  *
  * The call is made in a thread whose stack is memory of this program, which holds zeros before: the lowest byte that is
  * none after the call is the deepest that was written to. */
+#ifndef _GNU_SOURCE
 #define _GNU_SOURCE
+#endif
 #include <pthread.h>
 #include <stdio.h>
 #include <stdlib.h>

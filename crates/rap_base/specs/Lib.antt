@@ -2,6 +2,7 @@ pub mod Bits
 pub mod Char
 pub mod Edition
 pub mod Keyword
+pub mod KeywordTable
 pub mod Limits
 pub mod Names
 pub mod NodeKind

@@ -1,3 +1,4 @@
+-- Written by crates/rap_base/kinds from kinds.txt beside it: an edit here is lost.
 -- The kinds in the order of their numbers: the name of each, and the number that contracts give that name.
 use Rattle.std.specs.Prelude.{ℕ, List, [], ◌∷◌, codes}
 use Rattle.rap_base.specs.TokenKind as token

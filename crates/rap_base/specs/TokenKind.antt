@@ -1,3 +1,4 @@
+-- Written by crates/rap_base/kinds from kinds.txt beside it: an edit here is lost.
 -- The kinds of tokens, by their numbers.
 use Rattle.std.specs.Prelude.{ℕ}
 

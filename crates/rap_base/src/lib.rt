@@ -4,5 +4,6 @@
 pub mod edition;
 pub mod no_memory;
 pub mod syntax_kind;
+pub mod token_kind;
 pub mod token_set;
 pub mod whitespace;

@@ -1,4 +1,5 @@
-//! The kinds of tokens and nodes, and the texts of tokens. Written by `bindings/kinds`.
+// Written by crates/rap_base/kinds from kinds.txt beside it: an edit here is lost.
+//! The kinds of tokens and nodes, and the texts of tokens.
 
 kinds! {
     EOF, SEMICOLON, COMMA, L_PAREN, R_PAREN, L_CURLY, R_CURLY, L_BRACK, R_BRACK, L_ANGLE, R_ANGLE, AT, POUND,
@@ -116,42 +117,42 @@ pub(crate) fn reserved_since_2024(text: &str) -> Option<SyntaxKind> {
 /// The word that is contextual in every edition.
 pub(crate) fn contextual_ever(text: &str) -> Option<SyntaxKind> {
     Some(match text {
-        "is" => SyntaxKind::IS_KW,
         "asm" => SyntaxKind::ASM_KW,
-        "cfg" => SyntaxKind::CFG_KW,
-        "out" => SyntaxKind::OUT_KW,
-        "raw" => SyntaxKind::RAW_KW,
-        "sym" => SyntaxKind::SYM_KW,
-        "auto" => SyntaxKind::AUTO_KW,
-        "pure" => SyntaxKind::PURE_KW,
-        "safe" => SyntaxKind::SAFE_KW,
-        "yeet" => SyntaxKind::YEET_KW,
-        "deref" => SyntaxKind::DEREF_KW,
-        "inout" => SyntaxKind::INOUT_KW,
-        "label" => SyntaxKind::LABEL_KW,
-        "nomem" => SyntaxKind::NOMEM_KW,
-        "union" => SyntaxKind::UNION_KW,
-        "builtin" => SyntaxKind::BUILTIN_KW,
-        "default" => SyntaxKind::DEFAULT_KW,
-        "lateout" => SyntaxKind::LATEOUT_KW,
-        "nostack" => SyntaxKind::NOSTACK_KW,
-        "options" => SyntaxKind::OPTIONS_KW,
-        "bikeshed" => SyntaxKind::BIKESHED_KW,
-        "cfg_attr" => SyntaxKind::CFG_ATTR_KW,
-        "noreturn" => SyntaxKind::NORETURN_KW,
-        "readonly" => SyntaxKind::READONLY_KW,
-        "inlateout" => SyntaxKind::INLATEOUT_KW,
-        "naked_asm" => SyntaxKind::NAKED_ASM_KW,
-        "offset_of" => SyntaxKind::OFFSET_OF_KW,
         "att_syntax" => SyntaxKind::ATT_SYNTAX_KW,
-        "global_asm" => SyntaxKind::GLOBAL_ASM_KW,
-        "may_unwind" => SyntaxKind::MAY_UNWIND_KW,
+        "auto" => SyntaxKind::AUTO_KW,
+        "bikeshed" => SyntaxKind::BIKESHED_KW,
+        "builtin" => SyntaxKind::BUILTIN_KW,
+        "cfg" => SyntaxKind::CFG_KW,
+        "cfg_attr" => SyntaxKind::CFG_ATTR_KW,
         "clobber_abi" => SyntaxKind::CLOBBER_ABI_KW,
+        "default" => SyntaxKind::DEFAULT_KW,
+        "deref" => SyntaxKind::DEREF_KW,
         "format_args" => SyntaxKind::FORMAT_ARGS_KW,
-        "macro_rules" => SyntaxKind::MACRO_RULES_KW,
-        "pattern_type" => SyntaxKind::PATTERN_TYPE_KW,
+        "global_asm" => SyntaxKind::GLOBAL_ASM_KW,
         "include_bytes" => SyntaxKind::INCLUDE_BYTES_KW,
+        "inlateout" => SyntaxKind::INLATEOUT_KW,
+        "inout" => SyntaxKind::INOUT_KW,
+        "is" => SyntaxKind::IS_KW,
+        "label" => SyntaxKind::LABEL_KW,
+        "lateout" => SyntaxKind::LATEOUT_KW,
+        "macro_rules" => SyntaxKind::MACRO_RULES_KW,
+        "may_unwind" => SyntaxKind::MAY_UNWIND_KW,
+        "naked_asm" => SyntaxKind::NAKED_ASM_KW,
+        "nomem" => SyntaxKind::NOMEM_KW,
+        "noreturn" => SyntaxKind::NORETURN_KW,
+        "nostack" => SyntaxKind::NOSTACK_KW,
+        "offset_of" => SyntaxKind::OFFSET_OF_KW,
+        "options" => SyntaxKind::OPTIONS_KW,
+        "out" => SyntaxKind::OUT_KW,
+        "pattern_type" => SyntaxKind::PATTERN_TYPE_KW,
         "preserves_flags" => SyntaxKind::PRESERVES_FLAGS_KW,
+        "pure" => SyntaxKind::PURE_KW,
+        "raw" => SyntaxKind::RAW_KW,
+        "readonly" => SyntaxKind::READONLY_KW,
+        "safe" => SyntaxKind::SAFE_KW,
+        "sym" => SyntaxKind::SYM_KW,
+        "union" => SyntaxKind::UNION_KW,
+        "yeet" => SyntaxKind::YEET_KW,
         _ => return None,
     })
 }
@@ -183,17 +184,17 @@ pub(crate) const fn text_of(kind: SyntaxKind) -> Option<&'static str> {
         SyntaxKind::PERCENT => "%",
         SyntaxKind::UNDERSCORE => "_",
         SyntaxKind::DOT => ".",
+        SyntaxKind::COLON => ":",
+        SyntaxKind::EQ => "=",
+        SyntaxKind::BANG => "!",
+        SyntaxKind::MINUS => "-",
         SyntaxKind::DOT2 => "..",
         SyntaxKind::DOT3 => "...",
         SyntaxKind::DOT2EQ => "..=",
-        SyntaxKind::COLON => ":",
         SyntaxKind::COLON2 => "::",
-        SyntaxKind::EQ => "=",
         SyntaxKind::EQ2 => "==",
         SyntaxKind::FAT_ARROW => "=>",
-        SyntaxKind::BANG => "!",
         SyntaxKind::NEQ => "!=",
-        SyntaxKind::MINUS => "-",
         SyntaxKind::THIN_ARROW => "->",
         SyntaxKind::LTEQ => "<=",
         SyntaxKind::GTEQ => ">=",
@@ -371,17 +372,17 @@ macro_rules! T_ {
     [%] => { $crate::SyntaxKind::PERCENT };
     [_] => { $crate::SyntaxKind::UNDERSCORE };
     [.] => { $crate::SyntaxKind::DOT };
+    [:] => { $crate::SyntaxKind::COLON };
+    [=] => { $crate::SyntaxKind::EQ };
+    [!] => { $crate::SyntaxKind::BANG };
+    [-] => { $crate::SyntaxKind::MINUS };
     [..] => { $crate::SyntaxKind::DOT2 };
     [...] => { $crate::SyntaxKind::DOT3 };
     [..=] => { $crate::SyntaxKind::DOT2EQ };
-    [:] => { $crate::SyntaxKind::COLON };
     [::] => { $crate::SyntaxKind::COLON2 };
-    [=] => { $crate::SyntaxKind::EQ };
     [==] => { $crate::SyntaxKind::EQ2 };
     [=>] => { $crate::SyntaxKind::FAT_ARROW };
-    [!] => { $crate::SyntaxKind::BANG };
     [!=] => { $crate::SyntaxKind::NEQ };
-    [-] => { $crate::SyntaxKind::MINUS };
     [->] => { $crate::SyntaxKind::THIN_ARROW };
     [<=] => { $crate::SyntaxKind::LTEQ };
     [>=] => { $crate::SyntaxKind::GTEQ };
@@ -488,9 +489,9 @@ macro_rules! T_ {
     [union] => { $crate::SyntaxKind::UNION_KW };
     [yeet] => { $crate::SyntaxKind::YEET_KW };
     [int_number] => { $crate::SyntaxKind::INT_NUMBER };
-    [ident] => { $crate::SyntaxKind::IDENT };
     [string] => { $crate::SyntaxKind::STRING };
+    [ident] => { $crate::SyntaxKind::IDENT };
     [lifetime_ident] => { $crate::SyntaxKind::LIFETIME_IDENT };
-    [shebang] => { $crate::SyntaxKind::SHEBANG };
     [frontmatter] => { $crate::SyntaxKind::FRONTMATTER };
+    [shebang] => { $crate::SyntaxKind::SHEBANG };
 }

@@ -22,7 +22,7 @@ pub(super) fn take(words: usize) -> Vec<u32> {
     }
     drop(kept);
     let mut room = Vec::new();
-    // Where there is no memory for the guess the first call counts.
+    // If this much is refused, the first call of the library writes nothing and returns how much is needed.
     let _ = room.try_reserve_exact(words);
     room
 }

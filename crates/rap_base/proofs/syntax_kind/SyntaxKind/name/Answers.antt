@@ -6,4 +6,4 @@ use Rattle.rap_base.proofs.syntax_kind.SyntaxKind.name.Goals as goal
 pub returns : goal.returns
 returns c =
     let last = subst (λ kind. kind ≤ PATH_META) c.self.view_is c.self.invariant in
-    table-names c.all_names.result.now c.from.result _ _ c.all_names.ensures (c.from.ensures ∙ c.self.view_is) last
+    table-names c.numbered.result.now c.from.result _ _ c.numbered.ensures.table (c.from.ensures ∙ c.self.view_is) last

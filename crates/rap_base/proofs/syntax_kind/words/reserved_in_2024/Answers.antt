@@ -2,7 +2,7 @@ use Rattle.std.proofs.Common.{rules}
 use Rattle.rap_base.specs.Keyword.{reserved}
 use Rattle.rap_base.specs.declared.edition.Edition.TheVariants.{Edition2024}
 use Rattle.rap_base.proofs.KeywordLemmas.{from_length}
-use Rattle.rap_base.proofs.syntax_kind.keywords.reserved_in_2024.Goals as goal
+use Rattle.rap_base.proofs.syntax_kind.words.reserved_in_2024.Goals as goal
 
 pub returns-in_default-text : goal.returns-in_default-text
 returns-in_default-text c = from_length 2 (reserved Edition2024) c.args.text.now _ c.in-2.is (search rules)

@@ -1,0 +1,9 @@
+"""What the scripts of tests/, examples/ and bindings/ share."""
+import os
+
+TOP = os.path.dirname(os.path.dirname(os.path.dirname(os.path.abspath(__file__))))
+
+
+def built(program: str) -> list[str]:
+    """The words that start a program that the gate, or `rt run`, has left in its crate's folder."""
+    return [f'{TOP}/crates/{program}/out/{program}']

@@ -1,0 +1,73 @@
+"""Cases of programs, as `tests/NAME.cases` holds them: `tests/run` says in which form."""
+import json
+import os
+import re
+import subprocess
+import sys
+from collections.abc import Callable
+from typing import IO, Optional, Union
+
+from support import built
+
+HEAD = re.compile(r'\$ (\S+)((?: \S+)*?)( > full)?(?: (b?)("(?:[^"\\]|\\.)*"))? = (\d+)')
+
+
+def cases_of(file: str) -> list[tuple[str, dict[str, list[str]]]]:
+    """The cases of a file: its head, and the lines below it by their marks."""
+    cases: list[tuple[str, dict[str, list[str]]]] = []
+    with open(file, encoding='utf-8', newline='') as lines:
+        for line in lines.read().split('\n'):
+            if line.startswith('$ '):
+                cases.append((line, {'|': [], '~': [], '*': [], '!': []}))
+            elif line[:1] in ('|', '~', '*', '!'):
+                cases[-1][1][line[0]].append(line[2:])
+            elif line and not line.startswith('# '):
+                sys.exit(f'{file}: a line that is none of a case: {line}')
+    return cases
+
+
+def word_of(word: str) -> bytes:
+    """The bytes of a word."""
+    return re.sub(rb'\\x([0-9a-f]{2})', lambda it: bytes.fromhex(it[1].decode()), word.encode())
+
+
+def words_of(line: str, in_bytes: str, text: Optional[str], folder: str) -> list[bytes]:
+    """The words of a case, whose file is written if it has a text."""
+    words = line.split()
+    if text is not None:
+        with open(f'{folder}/a.rs', 'wb') as file:
+            file.write(json.loads(text).encode('latin-1' if in_bytes else 'utf-8'))
+        words = [it.replace('FILE', 'a.rs') for it in words] if 'FILE' in words else [*words, 'a.rs']
+    return [word_of(it) for it in words]
+
+
+def ran(head: str, folder: str, start: Callable[[str], list[str]]) -> tuple[int, int, str, str]:
+    """Runs a case. Gives the status that is wanted, the status, and both streams."""
+    found = HEAD.fullmatch(head)
+    if not found:
+        sys.exit(f'this is no head of a case: {head}')
+    program, line, full, in_bytes, text, status = found.groups()
+    words = words_of(line, in_bytes, text, folder)
+    with open('/dev/full', 'wb') as device:
+        to: Union[int, IO[bytes]] = device if full else subprocess.PIPE
+        started = [*map(os.fsencode, start(program)), *words]
+        done = subprocess.run(started, cwd=folder, stdout=to, stderr=subprocess.PIPE, check=False)
+    out, err = ((it or b'').decode(errors='backslashreplace') for it in (done.stdout, done.stderr))
+    return int(status), done.returncode, out, err
+
+
+def has_lines(wanted: str, out: str) -> bool:
+    """Whether so many lines of the output are matched by a pattern as `COUNT PATTERN` says."""
+    count, _, pattern = wanted.partition(' ')
+    return sum(bool(re.fullmatch(pattern, it)) for it in out.split('\n')) == int(count)
+
+
+def is_as_wanted(head: str, lines: dict[str, list[str]], folder: str,
+                 start: Callable[[str], list[str]] = built) -> bool:
+    """Whether a case is as its lines say, of a program that these words start."""
+    wanted, status, out, err = ran(head, folder, start)
+    if lines['~'] or lines['*']:
+        is_out = all(it in out for it in lines['~']) and all(has_lines(it, out) for it in lines['*'])
+    else:
+        is_out = out == ''.join(f'{it}\n' for it in lines['|'])
+    return status == wanted and is_out and err == ''.join(f'{it}\n' for it in lines['!'])
