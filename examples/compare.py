@@ -1,8 +1,9 @@
 #!/usr/bin/env python3
-"""compare.py C_TREE RUST_TREE RAST ROWS FILE ..
+"""compare.py C_TREE RUST_TREE GREEN RAST ROWS FILE ..
 
 Compares what the examples in C and in Rust print: of each row's text with the row's hash, and of each file with what
-the program `rast` prints, with its status. A row is `EDITION ENTRY HASH TEXT`, the text in quotes, as in
+the program `rast` prints, with its status. GREEN, the example of a tree that is built from the steps, must print of
+each file what `rast` prints with ranges. A row is `EDITION ENTRY HASH TEXT`, the text in quotes, as in
 crates/rast_replay/data/texts.txt. Prints what differs, and how many were the same."""
 import concurrent.futures
 import os
@@ -16,9 +17,9 @@ sys.path.insert(0, f'{os.path.dirname(os.path.dirname(os.path.abspath(__file__))
 from support.sample import TOPS, fnv1a, lines_of, unquoted  # noqa: E402
 
 
-def printed(program, edition, entry, file):
+def printed(program, edition, entry, file, *more):
     """What a program prints of a file, and its status."""
-    run = subprocess.run([program, edition, entry, file], stdout=subprocess.PIPE, stderr=subprocess.DEVNULL)
+    run = subprocess.run([program, edition, entry, file, *more], stdout=subprocess.PIPE, stderr=subprocess.DEVNULL)
     return run.stdout, run.returncode
 
 
@@ -42,12 +43,13 @@ def compare_rows(program, rows):
     return same.count(False)
 
 
-def compare_files(programs, rast, files):
-    """Prints the files for which a program prints something else than `rast`, and returns how many there are."""
+def compare_files(programs, rast, files, *more):
+    """Prints the files for which a program prints something else than `rast`, which may be given one more word, and
+    returns how many there are."""
     different = 0
     for file in files:
         for edition, entry in [('2024', 'SourceFile'), ('2015', 'Expr'), ('2021', 'MacroStmts')]:
-            want = printed(rast, edition, entry, file)
+            want = printed(rast, edition, entry, file, *more)
             for program in programs:
                 if printed(program, edition, entry, file) != want:
                     print('-', program, edition, entry, file)
@@ -56,16 +58,16 @@ def compare_files(programs, rast, files):
 
 
 def main():
-    if len(sys.argv) < 6:
+    if len(sys.argv) < 7:
         sys.exit(__doc__)
-    in_c, in_rust, rast, rows_file, *files = sys.argv[1:]
+    in_c, in_rust, green, rast, rows_file, *files = sys.argv[1:]
     rows = [row for row in lines_of(rows_file) if row and row.split(' ')[1] in TOPS]
     different = 0
     for program in [in_c, in_rust]:
         found = compare_rows(program, rows)
         print(f'{program}: {len(rows) - found} rows same, {found} different')
         different += found
-    found = compare_files([in_c, in_rust], rast, files)
+    found = compare_files([in_c, in_rust], rast, files) + compare_files([green], rast, files, 'ranges')
     print(f'{len(files)} files as rast prints them, {found} differences')
     sys.exit(different + found > 0)
 

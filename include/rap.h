@@ -16,7 +16,8 @@
  * - No pointer may be NULL, not even where its length is 0: any other address of the type is allowed then.
  * - An array that is written to must not overlap any other argument.
  * - The program must be linked with the kit's memory functions, liblibc_c.a, which call malloc, realloc and free.
- * - The stack must be large enough: each level of nesting takes some 250 to 900 bytes. There is no limit in the code.
+ * - The stack must be large enough: rap_stack, below, says how large. There is no limit of depth in the code.
+ * - The processor must have the instructions of x86-64-v2, as those of SSE4.2. No call tests for them.
  * Calls may run on several threads at a time. Nothing is kept from one call to the next, and a call frees all memory
  * that it allocates before it returns.
  */
@@ -30,6 +31,30 @@
 #ifdef __cplusplus
 extern "C" {
 #endif
+
+/* The stack.
+ *
+ * A call that parses calls itself for each level of nesting in the text. A level takes at most 900 bytes of the stack
+ * and has at least one token, so 1,024 bytes for each token, and 65,536 for what a call takes beside, suffice for every
+ * text. Calls that parse are rap_tree, rap_tree_words, rap_prefix, rap_reparse, rap_parse, rap_parse_prefix and
+ * rap_parse_node. The other calls take the same few kilobytes for each text.
+ *
+ * rap_stack returns that number of bytes. `tokens`: the number of the tokens that are no trivia, or more: the length of
+ * the text in bytes is never less. rap_records returns the number of a text. More than 8,388,607 are refused before
+ * they are parsed, so that rap_stack(SIZE_MAX), 8.6 GB, suffices for each call.
+ *
+ * A thread with such a stack reserves addresses, and takes memory only for the pages that a call writes to:
+ *
+ *     pthread_attr_init(&attributes);
+ *     pthread_attr_setstacksize(&attributes, rap_stack(text_length));      both return 0, or there is no such stack
+ *     pthread_create(&thread, &attributes, parse, &job);
+ *
+ * examples/c/deep.c is a program that parses each text so. For the first thread of a program the number that
+ * `ulimit -s` takes is in units of 1,024 bytes: one for each token, and 64.
+ */
+static inline size_t rap_stack(size_t tokens) {
+    return ((tokens < 8388607 ? tokens : 8388607) + 64) * 1024;
+}
 
 /* The values of `what` in a step. */
 enum rap_what {

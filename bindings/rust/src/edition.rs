@@ -26,27 +26,69 @@ impl Edition {
     /// The same as [`Edition::CURRENT`], where the edition of the text should stand.
     pub const CURRENT_FIXME: Edition = Edition::Edition2024;
 
-    /// The edition with this number: 0 for 2015, up to 3 for 2024. Panics for another number.
+    /// The edition with this number: 0 for 2015, up to 3 for 2024.
+    ///
+    /// # Panics
+    ///
+    /// For another number.
+    ///
+    /// ```
+    /// use ra_ap_parser::Edition;
+    ///
+    /// assert_eq!(Edition::from_u32(3), Edition::Edition2024);
+    /// ```
+    #[must_use]
     pub fn from_u32(number: u32) -> Edition {
         Edition::iter().nth(number as usize).expect("the number is an edition's")
     }
 
     /// Whether this is the edition 2024 or a later one.
+    ///
+    /// ```
+    /// use ra_ap_parser::Edition;
+    ///
+    /// assert!(Edition::Edition2024.at_least_2024());
+    /// assert!(!Edition::Edition2021.at_least_2024());
+    /// ```
+    #[must_use]
     pub fn at_least_2024(self) -> bool {
         self >= Edition::Edition2024
     }
 
     /// Whether this is the edition 2021 or a later one.
+    ///
+    /// ```
+    /// use ra_ap_parser::Edition;
+    ///
+    /// assert!(Edition::Edition2021.at_least_2021());
+    /// assert!(!Edition::Edition2018.at_least_2021());
+    /// ```
+    #[must_use]
     pub fn at_least_2021(self) -> bool {
         self >= Edition::Edition2021
     }
 
     /// Whether this is the edition 2018 or a later one.
+    ///
+    /// ```
+    /// use ra_ap_parser::Edition;
+    ///
+    /// assert!(Edition::Edition2018.at_least_2018());
+    /// assert!(!Edition::Edition2015.at_least_2018());
+    /// ```
+    #[must_use]
     pub fn at_least_2018(self) -> bool {
         self >= Edition::Edition2018
     }
 
     /// The year.
+    ///
+    /// ```
+    /// use ra_ap_parser::Edition;
+    ///
+    /// assert_eq!(Edition::Edition2021.number(), 2021);
+    /// ```
+    #[must_use]
     pub fn number(&self) -> usize {
         match self {
             Edition::Edition2015 => 2015,
@@ -57,6 +99,13 @@ impl Edition {
     }
 
     /// All editions, by their years.
+    ///
+    /// ```
+    /// use ra_ap_parser::Edition;
+    ///
+    /// let years: Vec<usize> = Edition::iter().map(|edition| edition.number()).collect();
+    /// assert_eq!(years, [2015, 2018, 2021, 2024]);
+    /// ```
     pub fn iter() -> impl Iterator<Item = Edition> {
         [Edition::Edition2015, Edition::Edition2018, Edition::Edition2021, Edition::Edition2024].into_iter()
     }
@@ -82,6 +131,13 @@ impl fmt::Display for ParseEditionError {
 }
 
 /// Reads an edition from the four digits of its year, and nothing else.
+///
+/// ```
+/// use ra_ap_parser::Edition;
+///
+/// assert_eq!("2021".parse::<Edition>().unwrap(), Edition::Edition2021);
+/// assert!("2022".parse::<Edition>().is_err());
+/// ```
 impl FromStr for Edition {
     type Err = ParseEditionError;
 
@@ -92,6 +148,10 @@ impl FromStr for Edition {
 }
 
 /// Prints the year.
+///
+/// ```
+/// assert_eq!(ra_ap_parser::Edition::Edition2018.to_string(), "2018");
+/// ```
 impl fmt::Display for Edition {
     fn fmt(&self, f: &mut fmt::Formatter<'_>) -> fmt::Result {
         f.write_str(match self {

@@ -1,8 +1,8 @@
 //! What a parse gives.
 use crate::SyntaxKind;
 use crate::input::Source;
-use crate::lexed_str::{check_status, kind_of};
-use crate::sys::{self, Filled, Woven};
+use crate::lexed_str::kind_of;
+use crate::sys::{self, Filled, Woven, check_status};
 use std::fmt;
 use std::sync::OnceLock;
 
@@ -50,6 +50,17 @@ pub enum Step<'a> {
 
 impl Output {
     /// The steps from left to right.
+    ///
+    /// Of a text's tree they are made at the first call, which panics if it is out of memory.
+    ///
+    /// ```
+    /// use ra_ap_parser::{Edition, LexedStr, Step, SyntaxKind, TopEntryPoint};
+    ///
+    /// let input = LexedStr::new(Edition::CURRENT, "a >= b").to_input(Edition::CURRENT);
+    /// let output = TopEntryPoint::Expr.parse(&input);
+    /// let is_operator = |step: &Step| matches!(step, Step::Token { kind: SyntaxKind::GTEQ, n_input_tokens: 2 });
+    /// assert_eq!(output.iter().filter(is_operator).count(), 1);
+    /// ```
     pub fn iter(&self) -> impl Iterator<Item = Step<'_>> {
         let filled = self.steps();
         filled.steps.iter().map(move |step| match step.what {
@@ -79,7 +90,7 @@ impl Output {
         self.steps.get_or_init(|| {
             let Some(tree) = &self.tree else { return Filled::default() };
             let filled = sys::parse(&tree.source.records(), tree.entry);
-            check_status(filled.status);
+            check_status(filled.status, &[]);
             filled
         })
     }

@@ -1,11 +1,13 @@
 //! From a lexed text to the parser's input, and from the parser's output back to the text.
 use crate::input::Source;
-use crate::lexed_str::{check_status, kind_of};
+use crate::lexed_str::kind_of;
 use crate::output::Tree;
-use crate::sys::{self, Filled};
+use crate::sys::{self, Filled, check_status};
 use crate::{Edition, Input, LexedStr, Output, SyntaxKind};
 
 /// A step of the walk through a tree over a text, from left to right.
+///
+/// [`LexedStr::intersperse_trivia`] hands them out.
 #[derive(Debug)]
 pub enum StrStep<'a> {
     /// A leaf of the newest open node: its kind, and its text.
@@ -46,6 +48,19 @@ impl LexedStr<'_> {
     /// An identifier has the contextual keyword of its text in this edition, if it has one. A token touches the next
     /// one where that is neither trivia nor an identifier; of a float it is said that its text does not end in a dot,
     /// and of an identifier never that it touches the next token.
+    ///
+    /// # Panics
+    ///
+    /// If `edition` is not the text's own and the call is out of memory.
+    ///
+    /// ```
+    /// use ra_ap_parser::{Edition, LexedStr, SyntaxKind, T};
+    ///
+    /// let input = LexedStr::new(Edition::CURRENT, "union /* of */ U").to_input(Edition::CURRENT);
+    /// assert_eq!(input.len(), 2);
+    /// assert_eq!((input.kind(0), input.contextual_kind(0)), (SyntaxKind::IDENT, T![union]));
+    /// ```
+    #[must_use]
     pub fn to_input(&self, edition: Edition) -> Input {
         let source = Source { text: self.as_str().into(), edition: self.edition() };
         if edition == self.edition() {
@@ -65,9 +80,27 @@ impl LexedStr<'_> {
     /// Hands the tree of an output to a sink, with the texts of its leaves and with the trivia that the parser left
     /// out. The answer says whether all tokens of the text were handed out.
     ///
-    /// Panics where the output is not exactly one tree over the first tokens of this text, each under its own kind, an
-    /// identifier as its contextual keyword or a keyword as an identifier; the Rust crate takes some such outputs.
+    /// # Panics
+    ///
+    /// If the output is not exactly one tree over the first tokens of this text, each under its own kind, an identifier
+    /// as its contextual keyword or a keyword as an identifier; the Rust crate takes some such outputs. If the call is
+    /// out of memory.
     // A sink that is small is put in the place of its calls where this is inlined.
+    ///
+    /// ```
+    /// use ra_ap_parser::{Edition, LexedStr, StrStep, TopEntryPoint};
+    ///
+    /// let lexed = LexedStr::new(Edition::CURRENT, "1 + 2");
+    /// let output = TopEntryPoint::Expr.parse(&lexed.to_input(Edition::CURRENT));
+    /// let mut leaves = Vec::new();
+    /// let is_all = lexed.intersperse_trivia(&output, &mut |step| {
+    ///     if let StrStep::Token { text, .. } = step {
+    ///         leaves.push(text.to_owned());
+    ///     }
+    /// });
+    /// assert!(is_all);
+    /// assert_eq!(leaves, ["1", " ", "+", " ", "2"]);
+    /// ```
     #[inline]
     pub fn intersperse_trivia(&self, output: &Output, sink: &mut dyn FnMut(StrStep<'_>)) -> bool {
         if let Some(tree) = output.tree().filter(|tree| self.is_of(tree)) {
@@ -75,7 +108,7 @@ impl LexedStr<'_> {
             return true;
         }
         let filled = sys::weave(self.as_str(), self.edition().year(), output.steps());
-        check_status(filled.status);
+        check_status(filled.status, &[sys::NO_STEPS]);
         assert!(filled.status != sys::NO_STEPS, "the output is not one tree over this text");
         hand_out(self.as_str(), &filled, sink);
         filled.steps.last().is_some_and(|step| step.at == self.as_str().len())

@@ -89,7 +89,7 @@ fn cuts_a_text() {
 #[test]
 #[should_panic(expected = "there is no token 1")]
 fn has_no_token_behind_the_last_one() {
-    LexedStr::new(Edition::Edition2024, "a").kind(1);
+    let _ = LexedStr::new(Edition::Edition2024, "a").kind(1);
 }
 
 #[test]
@@ -176,7 +176,7 @@ fn parses_a_node_again() {
 #[should_panic(expected = "the node does not begin with a brace")]
 fn refuses_a_node_without_its_brace() {
     let list = Reparser::for_node(ITEM_LIST, None, None).expect("it is parsed again");
-    list.parse(&pushed(&[SEMICOLON]));
+    let _ = list.parse(&pushed(&[SEMICOLON]));
 }
 
 #[test]

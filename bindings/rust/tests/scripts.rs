@@ -2,6 +2,11 @@
 use ra_ap_parser::frontmatter::{FrontmatterError, ScriptSource, Span, strip_shebang, strip_ws_lines};
 use ra_ap_parser::is_rust_whitespace;
 
+/// One span.
+fn one(span: Span) -> Vec<Span> {
+    vec![span]
+}
+
 /// What is refused: the message, its span, and the spans beside it.
 fn refused(text: &str) -> (String, Span, Vec<Span>) {
     let error = ScriptSource::parse(text).expect_err("it is refused");
@@ -29,15 +34,15 @@ fn takes_what_is_no_script() {
 #[test]
 fn refuses_wrong_fences() {
     let short = "found 2 `-` in rust frontmatter, expected at least 3";
-    assert_eq!(refused("--\n"), (short.into(), 3..3, vec![0..2]));
-    assert_eq!(refused("----\n"), ("unclosed frontmatter; expected `----`".into(), 5..5, vec![0..4]));
-    assert_eq!(refused("---"), ("unclosed frontmatter; expected `---`".into(), 3..3, vec![0..3]));
+    assert_eq!(refused("--\n"), (short.into(), 3..3, one(0..2)));
+    assert_eq!(refused("----\n"), ("unclosed frontmatter; expected `----`".into(), 5..5, one(0..4)));
+    assert_eq!(refused("---"), ("unclosed frontmatter; expected `---`".into(), 3..3, one(0..3)));
     let less = "closing code fence has 2 less `-` than the opening fence";
-    assert_eq!(refused("----\n-\n--\n--"), (less.into(), 7..9, vec![0..4]));
+    assert_eq!(refused("----\n-\n--\n--"), (less.into(), 7..9, one(0..4)));
     let more = "closing code fence has 1 more `-` than the opening fence";
-    assert_eq!(refused("---\n----"), (more.into(), 7..8, vec![0..3]));
+    assert_eq!(refused("---\n----"), (more.into(), 7..8, one(0..3)));
     let after_close = "unexpected characters after frontmatter close";
-    assert_eq!(refused("---\n--- x y\n"), (after_close.into(), 8..11, vec![0..3]));
+    assert_eq!(refused("---\n--- x y\n"), (after_close.into(), 8..11, one(0..3)));
     let twice = "only one frontmatter is supported";
     assert_eq!(refused("---\n---\n\n-"), (twice.into(), 9..10, vec![0..3, 4..7]));
 }
@@ -58,6 +63,6 @@ fn strips() {
 #[test]
 fn makes_an_error() {
     let error = FrontmatterError::new("why", 1..2).push_visible_span(3..4);
-    assert_eq!((error.message(), error.primary_span(), error.visible_spans()), ("why", 1..2, &[3..4][..]));
+    assert_eq!((error.message(), error.primary_span(), error.visible_spans()), ("why", 1..2, &one(3..4)[..]));
     assert_eq!(format!("{error:>5}"), "  why");
 }

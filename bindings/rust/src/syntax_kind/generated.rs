@@ -340,6 +340,12 @@ pub(crate) fn kind_of_char(c: char) -> Option<SyntaxKind> {
 }
 
 /// The kind of a token by its text: `T![+]`, `T!['(']`, `T![mut]`.
+///
+/// ```
+/// use ra_ap_parser::{SyntaxKind, T};
+///
+/// assert_eq!(T!['('], SyntaxKind::L_PAREN);
+/// ```
 #[macro_export]
 macro_rules! T_ {
     [;] => { $crate::SyntaxKind::SEMICOLON };

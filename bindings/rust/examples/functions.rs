@@ -1,7 +1,13 @@
 //! `functions FILE ..` prints the name of each function, a line each: `FILE:LINE NAME`.
+mod common;
+
 use ra_ap_parser::SyntaxKind::{self, FN, IDENT, NAME};
 use ra_ap_parser::{Edition, LexedStr, StrStep, TopEntryPoint};
+use std::io::Write as _;
+use std::path::Path;
 use std::process::ExitCode;
+
+const USAGE: &str = "usage: functions FILE ..";
 
 /// The functions of a text, each with its line: a name is an identifier in a `NAME` right inside an `FN`.
 fn functions(text: &str) -> Vec<(usize, String)> {
@@ -27,19 +33,24 @@ fn functions(text: &str) -> Vec<(usize, String)> {
 }
 
 fn main() -> ExitCode {
-    let mut status = ExitCode::SUCCESS;
-    for file in std::env::args().skip(1) {
-        match std::fs::read_to_string(&file) {
-            Ok(text) => {
-                for (line, name) in functions(&text) {
-                    println!("{file}:{line} {name}");
+    common::run(USAGE, |files, out| {
+        if files.is_empty() {
+            return Err(USAGE.into());
+        }
+        let mut status = ExitCode::SUCCESS;
+        for file in files {
+            match common::read(file) {
+                Ok(text) => {
+                    for (line, name) in functions(&text) {
+                        writeln!(out, "{}:{line} {name}", Path::new(file).display())?;
+                    }
+                }
+                Err(fault) => {
+                    eprintln!("{fault}");
+                    status = ExitCode::from(2);
                 }
             }
-            Err(error) => {
-                eprintln!("{file}: {error}");
-                status = ExitCode::from(2);
-            }
         }
-    }
-    status
+        Ok(status)
+    })
 }

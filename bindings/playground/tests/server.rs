@@ -130,3 +130,19 @@ fn parses_what_nests_deeply() {
     // Of each tuple its begin, its bracket with that one's length, and its end.
     assert_eq!((status, read(&answer).0.len()), (200, 4 << 20));
 }
+
+#[test]
+fn says_how_it_is_called() {
+    let ran = |words: &[&str]| {
+        let output = Command::new(env!("CARGO_BIN_EXE_playground")).args(words).output().expect("it starts");
+        let text = |bytes| String::from_utf8(bytes).expect("it is UTF-8");
+        (text(output.stdout), text(output.stderr), output.status.code())
+    };
+    let usage = "usage: playground [--port N] [FILE]";
+    assert_eq!(ran(&["--help"]), (format!("{usage}\n"), String::new(), Some(0)));
+    for words in [&["a.rs", "b.rs"][..], &["--port", "x"], &["--port"]] {
+        assert_eq!(ran(words).2, Some(2), "{words:?}");
+    }
+    let fault = "playground: /none/a.rs: No such file or directory (os error 2)\n";
+    assert_eq!(ran(&["/none/a.rs"]), (String::new(), fault.to_owned(), Some(2)));
+}

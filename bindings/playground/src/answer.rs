@@ -1,5 +1,4 @@
 //! The answer to the page for a text: numbers for the steps of its tree, and its messages.
-use crate::common::entry_named;
 use ra_ap_parser::{Edition, LexedStr, StrStep, SyntaxKind, TopEntryPoint};
 use std::fmt::Write as _;
 
@@ -8,6 +7,20 @@ pub struct Asked {
     edition: Edition,
     entry: TopEntryPoint,
     text: String,
+}
+
+/// The top entry with this name.
+fn entry_named(name: &str) -> Option<TopEntryPoint> {
+    Some(match name {
+        "SourceFile" => TopEntryPoint::SourceFile,
+        "MacroStmts" => TopEntryPoint::MacroStmts,
+        "MacroItems" => TopEntryPoint::MacroItems,
+        "Pattern" => TopEntryPoint::Pattern,
+        "Type" => TopEntryPoint::Type,
+        "Expr" => TopEntryPoint::Expr,
+        "MetaItem" => TopEntryPoint::MetaItem,
+        _ => return None,
+    })
 }
 
 impl Asked {

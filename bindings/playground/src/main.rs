@@ -6,14 +6,14 @@
 //!
 //! A browser's field holds line feeds alone: a file's carriage returns before them are not in the text that is read.
 mod answer;
-#[path = "../common/mod.rs"]
-mod common;
 mod http;
 
 use answer::{Asked, answer_to};
 use http::{Request, Response};
-use std::io;
+use std::ffi::OsString;
+use std::io::{self, Write as _};
 use std::net::{TcpListener, TcpStream};
+use std::path::Path;
 use std::process::ExitCode;
 use std::sync::atomic::{AtomicUsize, Ordering};
 use std::sync::mpsc::{self, Sender};
@@ -23,15 +23,13 @@ use std::thread;
 /// How many bytes a text has at most.
 const MOST_BYTES: usize = 2 << 20;
 
-/// The stack of the thread that parses: a text takes at most 1,000 bytes for each of its bytes, where each opens a
-/// level.
-const STACK: usize = MOST_BYTES * 1024;
-
 /// How many requests are answered at a time.
 const MOST_REQUESTS: usize = 32;
 
 /// The port where none is asked for, and no other server has it.
 const PORT: u16 = 8360;
+
+const USAGE: &str = "usage: playground [--port N] [FILE]";
 
 const PAGE: &str = include_str!("page.html");
 const LOOKS: &str = include_str!("page.css");
@@ -97,7 +95,7 @@ fn serve(site: &Site, mut stream: TcpStream) -> io::Result<()> {
 /// Starts the thread that parses one text after another.
 fn start_parser() -> io::Result<Sender<Job>> {
     let (jobs, asked) = mpsc::channel::<Job>();
-    thread::Builder::new().stack_size(STACK).spawn(move || {
+    thread::Builder::new().spawn(move || {
         for (asked, to) in asked {
             // A text whose parse panics has no answer; the page that asked may be gone.
             if let Ok(answer) = std::panic::catch_unwind(|| answer_to(&asked)) {
@@ -124,7 +122,8 @@ fn run(port: Option<u16>, text: &str) -> io::Result<()> {
     let hosts = [format!("127.0.0.1:{port}"), format!("localhost:{port}")];
     let jobs = start_parser()?;
     let site = SITE.get_or_init(|| Site { page: PAGE.replace("DATA", &answer::data(text)), hosts, jobs });
-    println!("http://127.0.0.1:{port}/");
+    // It serves too where nobody reads this.
+    let _ = writeln!(io::stdout(), "http://127.0.0.1:{port}/");
     let open = Arc::new(AtomicUsize::new(0));
     for stream in listener.incoming() {
         let Ok(stream) = stream else { continue };
@@ -146,24 +145,42 @@ fn fail(why: &str) -> ExitCode {
     ExitCode::from(2)
 }
 
-fn main() -> ExitCode {
-    let mut words = std::env::args().skip(1).peekable();
-    let mut port = None;
-    if words.next_if(|word| word == "--port").is_some() {
-        port = words.next().and_then(|word| word.parse().ok());
-        if port.is_none() {
-            return fail("usage: playground [--port N] [FILE]");
-        }
+/// The text of a file that is not too long. The fault names the file.
+fn read(file: &Path) -> Result<String, String> {
+    let text = std::fs::read_to_string(file).map_err(|error| format!("{}: {error}", file.display()))?;
+    if text.len() > MOST_BYTES {
+        return Err(format!("{}: the file has more than 2 MB", file.display()));
     }
-    let text = match words.next().map(std::fs::read_to_string) {
-        None => "fn main() {\n    println!(\"hello\");\n}\n".to_owned(),
-        Some(Ok(text)) if text.len() <= MOST_BYTES => text,
-        Some(Ok(_)) => return fail("the file has more than 2 MB"),
-        Some(Err(error)) => return fail(&error.to_string()),
+    Ok(text)
+}
+
+/// The port and the file that are asked for, each of them if there is one.
+fn asked_for(words: &[OsString]) -> Option<(Option<u16>, Option<&Path>)> {
+    let (port, files) = match words {
+        [option, port, files @ ..] if option == "--port" => (Some(port.to_str()?.parse().ok()?), files),
+        files => (None, files),
     };
-    if words.next().is_some() {
-        return fail("usage: playground [--port N] [FILE]");
+    match files {
+        [] => Some((port, None)),
+        [file] => Some((port, Some(Path::new(file)))),
+        _ => None,
     }
+}
+
+fn main() -> ExitCode {
+    let words: Vec<OsString> = std::env::args_os().skip(1).collect();
+    if words.iter().any(|word| word == "--help") {
+        let _ = writeln!(io::stdout(), "{USAGE}");
+        return ExitCode::SUCCESS;
+    }
+    let Some((port, file)) = asked_for(&words) else {
+        return fail(USAGE);
+    };
+    let text = match file.map(read) {
+        None => "fn main() {\n    println!(\"hello\");\n}\n".to_owned(),
+        Some(Ok(text)) => text,
+        Some(Err(why)) => return fail(&why),
+    };
     match run(port, &text) {
         Ok(()) => ExitCode::SUCCESS,
         Err(error) => fail(&error.to_string()),

@@ -1,9 +1,13 @@
 //! `colour FILE` prints a file of Rust with its tokens coloured for a terminal. It reads tokens alone, so that any file
 //! can be shown, however wrong.
+mod common;
+
 use ra_ap_parser::SyntaxKind::{self, *};
 use ra_ap_parser::{Edition, LexedStr};
 use std::io::Write as _;
 use std::process::ExitCode;
+
+const USAGE: &str = "usage: colour FILE";
 
 /// The colour of a token, as a terminal takes it.
 fn colour_of(kind: SyntaxKind) -> &'static str {
@@ -19,25 +23,15 @@ fn colour_of(kind: SyntaxKind) -> &'static str {
 }
 
 fn main() -> ExitCode {
-    let Some(file) = std::env::args().nth(1) else {
-        eprintln!("usage: colour FILE");
-        return ExitCode::from(2);
-    };
-    let text = match std::fs::read_to_string(&file) {
-        Ok(text) => text,
-        Err(error) => {
-            eprintln!("{file}: {error}");
-            return ExitCode::from(2);
+    common::run(USAGE, |words, out| {
+        let [file] = words else { return Err(USAGE.into()) };
+        let text = common::read(file)?;
+        let lexed = LexedStr::new(Edition::LATEST, &text);
+        for i in 0..lexed.len() {
+            let colour = colour_of(lexed.kind(i));
+            let end = if colour.is_empty() { "" } else { "\x1b[0m" };
+            write!(out, "{colour}{}{end}", lexed.text(i))?;
         }
-    };
-    let lexed = LexedStr::new(Edition::LATEST, &text);
-    let mut out = std::io::stdout().lock();
-    for i in 0..lexed.len() {
-        let colour = colour_of(lexed.kind(i));
-        let end = if colour.is_empty() { "" } else { "\x1b[0m" };
-        if write!(out, "{colour}{}{end}", lexed.text(i)).is_err() {
-            return ExitCode::from(2);
-        }
-    }
-    ExitCode::SUCCESS
+        Ok(ExitCode::SUCCESS)
+    })
 }

@@ -1,31 +1,12 @@
 //! `tree EDITION ENTRY FILE` prints the tree of a file and its messages, as the program `rast` does.
-#[path = "common/mod.rs"]
 mod common;
 
-use common::entry_named;
 use ra_ap_parser::{Edition, LexedStr, StrStep, TopEntryPoint};
 use std::fmt::Write as _;
+use std::io::Write as _;
 use std::process::ExitCode;
 
-/// Adds a text in quotes; a quote, a backslash and a control character stand after a backslash.
-fn push_quoted(lines: &mut String, text: &str) {
-    lines.push('"');
-    for c in text.chars() {
-        match c {
-            '"' => lines.push_str("\\\""),
-            '\\' => lines.push_str("\\\\"),
-            '\n' => lines.push_str("\\n"),
-            '\r' => lines.push_str("\\r"),
-            '\t' => lines.push_str("\\t"),
-            '\0' => lines.push_str("\\0"),
-            '\0'..='\u{1f}' | '\u{7f}' => {
-                let _ = write!(lines, "\\u{{{:x}}}", c as u32);
-            }
-            _ => lines.push(c),
-        }
-    }
-    lines.push('"');
-}
+const USAGE: &str = "usage: tree EDITION ENTRY FILE";
 
 /// Adds a step's line of the tree, or of the messages.
 fn push_step(lines: &mut String, messages: &mut String, depth: &mut usize, step: StrStep<'_>) {
@@ -40,7 +21,7 @@ fn push_step(lines: &mut String, messages: &mut String, depth: &mut usize, step:
         }
         StrStep::Token { kind, text } => {
             let _ = write!(lines, "{:1$}{kind:?} ", "", 2 * *depth);
-            push_quoted(lines, text);
+            common::push_quoted(lines, text);
             writeln!(lines)
         }
         StrStep::Error { msg, pos } => writeln!(messages, "error {pos}: {msg}"),
@@ -59,23 +40,11 @@ fn lines_of(text: &str, edition: Edition, entry: &TopEntryPoint) -> (String, Str
     (lines, messages)
 }
 
-fn fail(why: &str) -> ExitCode {
-    eprintln!("tree: {why}");
-    ExitCode::from(2)
-}
-
 fn main() -> ExitCode {
-    let words: Vec<String> = std::env::args().skip(1).collect();
-    let [edition, entry, file] = &words[..] else {
-        return fail("usage: tree EDITION ENTRY FILE");
-    };
-    let (Ok(edition), Some(entry)) = (edition.parse(), entry_named(entry)) else {
-        return fail("usage: tree EDITION ENTRY FILE");
-    };
-    let Ok(text) = std::fs::read_to_string(file) else {
-        return fail("cannot read the file");
-    };
-    let (lines, messages) = lines_of(&text, edition, &entry);
-    print!("{lines}{messages}");
-    ExitCode::from(!messages.is_empty() as u8)
+    common::run(USAGE, |words, out| {
+        let (edition, entry, text) = common::asked_for(words, USAGE)?;
+        let (lines, messages) = lines_of(&text, edition, &entry);
+        write!(out, "{lines}{messages}")?;
+        Ok(ExitCode::from(u8::from(!messages.is_empty())))
+    })
 }

@@ -1,0 +1,192 @@
+//! What `include/rap.h` declares, as it is: structs, numbers and calls.
+#![allow(missing_docs)]
+
+/// A step, as `struct rap_step`.
+#[repr(C)]
+#[derive(Clone, Copy, Debug, Default, PartialEq, Eq)]
+pub struct Step {
+    pub what: u32,
+    pub kind: u32,
+    pub at: usize,
+    pub start: usize,
+    pub end: usize,
+}
+
+/// A token that a parser reads, as `struct rap_record`.
+#[repr(C)]
+#[derive(Clone, Copy, Debug, Default, PartialEq, Eq)]
+pub struct Record {
+    pub kind: u32,
+    pub contextual_kind: u32,
+    pub edition: u32,
+    pub joint: u32,
+}
+
+/// A part of a script source, as `struct rap_part`.
+#[repr(C)]
+#[derive(Clone, Copy, Debug, Default, PartialEq, Eq)]
+pub struct Part {
+    pub there: usize,
+    pub start: usize,
+    pub end: usize,
+}
+
+/// An answer, as `struct rap_answer`.
+#[repr(C)]
+#[derive(Clone, Copy, Debug, Default, PartialEq, Eq)]
+pub struct Answer {
+    pub status: u32,
+    pub steps: usize,
+    pub message_bytes: usize,
+    pub used: usize,
+}
+
+pub const ENTER: u32 = 0;
+pub const EXIT: u32 = 1;
+pub const TOKEN: u32 = 2;
+pub const MESSAGE: u32 = 3;
+pub const SPLIT: u32 = 4;
+
+pub const OK: u32 = 0;
+pub const NO_TREE: u32 = 1;
+pub const TEXT_TOO_LONG: u32 = 5;
+pub const TOO_MANY_TOKENS: u32 = 6;
+pub const NO_MEMORY: u32 = 7;
+pub const NO_NODE: u32 = 8;
+pub const NO_BRACE: u32 = 9;
+pub const NO_RECORD: u32 = 10;
+pub const NO_STEPS: u32 = 11;
+pub const NO_SCRIPT: u32 = 12;
+
+/// What a token's word holds in the place of its length where a second word has it, as `RAP_LONG`.
+pub const LONG: u32 = 8191;
+
+/// A number that is no kind's, as `RAP_NO_KIND`.
+pub const NO_KIND: u32 = 330;
+
+unsafe extern "C" {
+    pub fn rap_tree(
+        text: *const u8,
+        text_length: usize,
+        edition: u32,
+        entry: u32,
+        steps: *mut Step,
+        step_room: usize,
+        messages: *mut u8,
+        message_room: usize,
+    ) -> Answer;
+
+    pub fn rap_tokens(
+        text: *const u8,
+        text_length: usize,
+        edition: u32,
+        steps: *mut Step,
+        step_room: usize,
+        messages: *mut u8,
+        message_room: usize,
+    ) -> Answer;
+
+    pub fn rap_prefix(
+        text: *const u8,
+        text_length: usize,
+        edition: u32,
+        entry: u32,
+        steps: *mut Step,
+        step_room: usize,
+        messages: *mut u8,
+        message_room: usize,
+    ) -> Answer;
+
+    pub fn rap_reparse(
+        text: *const u8,
+        text_length: usize,
+        edition: u32,
+        node: u32,
+        first_child: u32,
+        parent: u32,
+        steps: *mut Step,
+        step_room: usize,
+        messages: *mut u8,
+        message_room: usize,
+    ) -> Answer;
+
+    pub fn rap_records(
+        text: *const u8,
+        text_length: usize,
+        edition: u32,
+        records: *mut Record,
+        record_room: usize,
+    ) -> Answer;
+
+    pub fn rap_parse(
+        records: *const Record,
+        record_count: usize,
+        entry: u32,
+        steps: *mut Step,
+        step_room: usize,
+        messages: *mut u8,
+        message_room: usize,
+    ) -> Answer;
+
+    pub fn rap_parse_prefix(
+        records: *const Record,
+        record_count: usize,
+        entry: u32,
+        steps: *mut Step,
+        step_room: usize,
+        messages: *mut u8,
+        message_room: usize,
+    ) -> Answer;
+
+    pub fn rap_parse_node(
+        records: *const Record,
+        record_count: usize,
+        node: u32,
+        first_child: u32,
+        parent: u32,
+        steps: *mut Step,
+        step_room: usize,
+        messages: *mut u8,
+        message_room: usize,
+    ) -> Answer;
+
+    pub fn rap_weave(
+        text: *const u8,
+        text_length: usize,
+        edition: u32,
+        tree: *const Step,
+        tree_steps: usize,
+        tree_messages: *const u8,
+        tree_message_bytes: usize,
+        steps: *mut Step,
+        step_room: usize,
+        messages: *mut u8,
+        message_room: usize,
+    ) -> Answer;
+
+    pub fn rap_tree_words(
+        text: *const u8,
+        text_length: usize,
+        edition: u32,
+        entry: u32,
+        words: *mut u32,
+        word_room: usize,
+        messages: *mut u8,
+        message_room: usize,
+    ) -> Answer;
+
+    pub fn rap_script(
+        text: *const u8,
+        text_length: usize,
+        parts: *mut Part,
+        part_room: usize,
+        messages: *mut u8,
+        message_room: usize,
+    ) -> Answer;
+
+    pub fn rap_shebang(text: *const u8, text_length: usize) -> Answer;
+
+    pub fn rap_blank_lines(text: *const u8, text_length: usize) -> Answer;
+
+    pub fn rap_kind_name(kind: u32, name: *mut u8, name_room: usize) -> usize;
+}
