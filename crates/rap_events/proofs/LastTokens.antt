@@ -1,8 +1,8 @@
 -- The last event that takes a token shows the last token.
-use Rattle.std.proofs.Common.{◌≡◌, ℕ, ◌+◌, ◌<◌, List, [], ◌∷◌, ◌++◌, length, take, get_or, Bool, true, false, refl, ap, ◌∙◌}
+use Rattle.std.proofs.Common.{◌≡◌, ℕ, ◌+◌, ◌<◌, List, [], ◌∷◌, ◌++◌, length, take, drop, get_or, Bool, true, false, refl, ap, ◌∙◌}
 use Rattle.rap_base.specs.TokenKind.{EOF}
 use Rattle.rap_events.specs.Forest.{Forest, none, node, leaf, message, split, ◌⧺◌}
-use Rattle.rap_events.specs.History.{Call, history, text_at}
+use Rattle.rap_events.specs.History.{Call, history, first_message}
 use Rattle.rap_events.specs.History as call
 use Rattle.rap_events.specs.LastToken.{last_after, last_below}
 use Rattle.rap_events.specs.Machine.{Stack, floor, push, Config, close, merge, wrap, stretch, step, run, initial}
@@ -19,7 +19,7 @@ kind_after k event.Extend = k
 kind_after k event.Abandon = k
 kind_after k (event.Token width kind) = kind
 kind_after k (event.FloatSplit ends_in_dot) = k
-kind_after k (event.Error number) = k
+kind_after k event.Error = k
 kind_after k (event.Enter kind) = k
 kind_after k event.Exit = k
 
@@ -91,7 +91,7 @@ last_of-run c (event.Token width kind ∷ es) ms = last_of-run (step c (call.tok
 last_of-run c (event.FloatSplit ends_in_dot ∷ es) ms = last_of-run (step c (call.float_split ends_in_dot)) es ms
 last_of-run c (event.Enter kind ∷ es) ms = last_of-run (step c call.start) es ms
 last_of-run c (event.Exit ∷ es) ms = last_of-run (step c call.start) es ms
-last_of-run c (event.Error number ∷ es) ms = last_of-run (step c (call.error (text_at ms number))) es ms
+last_of-run c (event.Error ∷ es) ms = last_of-run (step c (call.error (first_message ms))) es (drop 1 ms)
 
 -- the last token of all is that of the last event that takes one
 pub last_shown : (es : List Event) (ms : List (List ℕ)) → last_of (run initial (history es ms)) ≡ kind_of_last EOF es
@@ -106,6 +106,6 @@ no_token k event.Extend h = refl
 no_token k event.Abandon h = refl
 no_token k (event.Token width kind) h = absurd (h width kind refl)
 no_token k (event.FloatSplit ends_in_dot) h = refl
-no_token k (event.Error number) h = refl
+no_token k event.Error h = refl
 no_token k (event.Enter kind) h = refl
 no_token k event.Exit h = refl

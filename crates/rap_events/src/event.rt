@@ -40,10 +40,8 @@ pub(crate) enum Event {
     FloatSplit {
         ends_in_dot: bool,
     },
-    /// The message with this number is reported.
-    Error {
-        message: u32,
-    },
+    /// A message is reported. The messages stand in a list of their own, in the order of the events that report them.
+    Error,
     /// A node begins: a step. A parser records none.
     Enter {
         kind: SyntaxKind,

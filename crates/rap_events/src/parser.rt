@@ -6,7 +6,7 @@ ghost use Rattle.rap_base.specs.TokenSet.{member};
 ghost use Rattle.rap_base.specs.Keyword.{is_any_identifier};
 ghost use Rattle.rap_events.specs.Record.{IsTokenRecord};
 ghost use Rattle.rap_events.specs.Cover.{stand, widths};
-ghost use Rattle.rap_events.specs.History.{history, HasMessage};
+ghost use Rattle.rap_events.specs.History.{history, reported_by};
 ghost use Rattle.rap_events.specs.Machine.{run, initial, all_leaves, all_splits_placed};
 ghost use Rattle.rap_events.specs.Fit.{AllFit};
 ghost use Rattle.rap_events.specs.FloatSplit.{split_calls};
@@ -28,9 +28,6 @@ mod composite;
 
 use composite::{at_place, width_of};
 
-/// The number of messages that a word can tell apart.
-const MAX_MESSAGES: usize = 1 << 31;
-
 /// Reads an input from its beginning and records events.
 ///
 /// After a call that was out of memory a parser must not be used any more: what it has recorded is not specified.
@@ -45,7 +42,7 @@ pub struct Parser<'t> {
     ghost tokens: { All IsTokenRecord input.now },
     ghost ends: { len ≡ length input.now },
     ghost in_input: { pos ≤ len },
-    ghost reported: { All (HasMessage (length messages.items)) events.items },
+    ghost reported: { reported_by events.items ≡ length messages.items },
     ghost sound: { (run initial (history events.items (map string_bytes messages.items))).sound ≡ true },
     ghost covers: { stand (all_leaves (run initial (history events.items (map string_bytes messages.items)))) input.now ≡ true },
     ghost place: { widths (all_leaves (run initial (history events.items (map string_bytes messages.items)))) ≡ pos },
@@ -389,26 +386,10 @@ impl<'t> Parser<'t> {
         ensures state { OnOk result (Reported (state self.old) (state self.new) (string_bytes message)) }
         ensures recorded { OnOk result (calls self.new ≡ calls self.old ++ call.error (string_bytes message) ∷ []) }
     {
-        let word = self.next_message()?;
         self.events.reserve(1)?;
         self.messages.push(message)?;
-        self.events.push_reserved(word);
+        self.events.push_reserved(Word::of_event(Event::Error));
         Ok(())
-    }
-
-    // The word of the message that is reported next. A word can number 2^31 messages. A parse of the grammar records no
-    // more events than that: it reads fewer than 2^23 tokens and records at most 256 events for each of them and for
-    // the end. If a caller records more messages, the call is out of memory.
-    fn next_message(&self) -> Result<Word, NoMemory>
-        ensures { IfOk result (λ word. word ≡ event.Error (length self.now.messages.items)) }
-    {
-        let number = self.messages.len();
-        if number < MAX_MESSAGES {
-            return Ok(Word::of_event(Event::Error {
-                message: number as u32,
-            }));
-        }
-        Err(NoMemory)
     }
 
     /// Makes the output of the recorded events. Each marker must have been completed or abandoned. The error means out

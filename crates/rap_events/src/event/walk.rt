@@ -59,7 +59,7 @@ pub(super) struct Walk {
 impl Walk {
     ghost use Rattle.rap_events.specs.History as call;
     ghost use Rattle.rap_events.specs.declared.event.Event.TheVariants as event;
-    ghost use Rattle.rap_events.specs.Unwind.{walk_of, nothing_yet, entered, HasRoom, Started, Kept, Written, Taken, Backed, EventBacked, EnteredLast, Same};
+    ghost use Rattle.rap_events.specs.Unwind.{texts, walk_with, walk_of, nothing_yet, entered, HasRoom, Started, Kept, Written, Taken, Backed, EventBacked, EnteredLast, Same};
 
     pub(super) fn new(alloc: Global, events: Vec<Word>, messages: Vec<String>) -> Walk
         ensures { Started events.items messages.items result }
@@ -209,7 +209,7 @@ impl Walk {
             Event::Finish { kind } => self.finish(kind)?,
             Event::Extend => self.skips += 1,
             Event::Abandon => self.abandon()?,
-            Event::Token { .. } | Event::Error { .. } => self.write(word),
+            Event::Token { .. } | Event::Error => self.write(word),
             Event::FloatSplit { ends_in_dot } => self.float_split(word, ends_in_dot),
         }
         Ok(())
@@ -225,11 +225,11 @@ impl Walk {
         Ok(())
     }
 
-    /// The output that the steps make.
+    /// The output that the steps and all messages make.
     pub(super) fn output(self) -> Output
-        requires steps { flat (forest_of (walk_of self).steps) ≡ (walk_of self).steps }
-        requires splits { splits_placed (forest_of (walk_of self).steps) ≡ true }
-        ensures { result ≡ forest_of (walk_of self).steps }
+        requires steps { flat (forest_of (walk_with (texts self) self).steps) ≡ (walk_with (texts self) self).steps }
+        requires splits { splits_placed (forest_of (walk_with (texts self) self).steps) ≡ true }
+        ensures { result ≡ forest_of (walk_with (texts self) self).steps }
     {
         Output::of_steps(self.events, self.first, self.messages)
     }
