@@ -1,7 +1,6 @@
 -- What is still to begin, on the code's own lists.
 use Rattle.std.proofs.Common.{◌≡◌, ℕ, suc, ◌+◌, List, [], ◌∷◌, ◌++◌, Bool, true, drop, reverse, ap, sym, ◌∙◌, arith}
 use Rattle.std.proofs.lemmas.List.{reverse-append}
-use Rattle.std.specs.Prelude.{string_bytes}
 use Rattle.rap_events.specs.StepValue.{StepValue, enter}
 use Rattle.rap_events.specs.Output.{values}
 use Rattle.rap_events.specs.Pending.{inners, glue, others, pasts}

@@ -15,6 +15,7 @@ ghost use Rattle.std.proofs.Props.{props};
 
 use crate::event::Event;
 use crate::input::Input;
+use crate::list::push;
 use crate::output::Output;
 use crate::word::Word;
 use rap_base::edition::Edition;
@@ -374,10 +375,13 @@ impl<'t> Parser<'t> {
         ensures state { OnOk result (Bumped (state self.old) (state self.new) kind n_input_tokens) }
         ensures recorded { OnOk result (calls self.new ≡ calls self.old ++ call.token kind n_input_tokens ∷ []) }
     {
-        self.events.push(Word::of_event(Event::Token {
-            kind,
-            n_input_tokens,
-        }))?;
+        push(
+            &mut self.events,
+            Word::of_event(Event::Token {
+                kind,
+                n_input_tokens,
+            }),
+        )?;
         self.pos += usize::from(n_input_tokens);
         Ok(())
     }
@@ -417,7 +421,7 @@ impl<'t> Parser<'t> {
         ensures recorded { OnOk result (calls self.new ≡ calls self.old ++ call.start ∷ []) }
     {
         let pos = Snapshot::of(&self.events.len());
-        self.events.push(Word::of_event(Event::Start))?;
+        push(&mut self.events, Word::of_event(Event::Start))?;
         Ok(Marker { pos })
     }
 }
@@ -459,7 +463,7 @@ impl Marker {
         ensures state { IfOk result (λ cm. Completed (state p.old) (state p.new) kind × IsLast (state p.new) cm kind) }
         ensures recorded { OnOk result (calls p.new ≡ calls p.old ++ call.finish kind ∷ []) }
     {
-        p.events.push(Word::of_event(Event::Finish { kind }))?;
+        push(&mut p.events, Word::of_event(Event::Finish { kind }))?;
         Ok(CompletedMarker {
             end: Snapshot::of(&p.events.len()),
             kind: Snapshot::of(&kind),
@@ -472,7 +476,7 @@ impl Marker {
         ensures state { OnOk result (Abandoned (state p.old) (state p.new)) }
         ensures recorded { OnOk result (calls p.new ≡ calls p.old ++ call.abandon ∷ []) }
     {
-        p.events.push(Word::of_event(Event::Abandon))?;
+        push(&mut p.events, Word::of_event(Event::Abandon))?;
         Ok(())
     }
 }
@@ -489,7 +493,7 @@ impl CompletedMarker {
         ensures recorded { OnOk result (calls p.new ≡ calls p.old ++ call.precede ∷ []) }
     {
         let pos = Snapshot::of(&p.events.len());
-        p.events.push(Word::of_event(Event::Precede))?;
+        push(&mut p.events, Word::of_event(Event::Precede))?;
         Ok(Marker { pos })
     }
 
@@ -502,7 +506,7 @@ impl CompletedMarker {
         ensures state { IfOk result (λ cm. Extended (state p.old) (state p.new) self.kind.value × IsLast (state p.new) cm self.kind.value) }
         ensures recorded { OnOk result (calls p.new ≡ calls p.old ++ call.extend ∷ []) }
     {
-        p.events.push(Word::of_event(Event::Extend))?;
+        push(&mut p.events, Word::of_event(Event::Extend))?;
         Ok(CompletedMarker {
             end: Snapshot::of(&p.events.len()),
             kind: self.kind,

@@ -1,6 +1,5 @@
-use Rattle.std.proofs.Common.{◌≡◌, ℕ, ◌+◌, ◌-◌, ◌∷◌, [], ◌++◌, List, drop, take, map, refl, sym, ap, ◌∙◌, arith}
-use Rattle.std.specs.Prelude.{string_bytes}
-use Rattle.rap_events.specs.History.{reports, reported_by}
+use Rattle.std.proofs.Common.{◌≡◌, ℕ, ◌+◌, ◌-◌, List, drop, take, refl, sym, ap, ◌∙◌, arith}
+use Rattle.rap_events.specs.History.{reported_by}
 use Rattle.rap_events.specs.Unwind.{texts, walk_with}
 use Rattle.rap_events.proofs.Backing.{last_event, texts_after}
 use Rattle.rap_events.proofs.event.walk.Walk.take_event.Goals as goal
