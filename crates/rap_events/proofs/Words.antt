@@ -1,11 +1,13 @@
 -- The words of steps, and what is read back of them.
-use Rattle.std.proofs.Common.{◌≡◌, ℕ, ◌+◌, ◌*◌, ◌^◌, ◌/◌, ◌%◌, ◌<◌, List, true, false, refl, ap, arith}
+use Rattle.std.proofs.Common.{◌≡◌, ℕ, ◌+◌, ◌*◌, ◌^◌, ◌/◌, ◌%◌, ◌<◌, List, true, false, refl, ap, subst, arith}
 use Rattle.std.specs.Prelude.{⊤}
 use Rattle.rap_base.specs.NodeKind.{SOURCE_FILE}
 use Rattle.rap_events.specs.StepValue.{StepValue, enter, exit, token, float_split, error}
 use Rattle.rap_events.specs.History.{first_message}
 use Rattle.rap_events.specs.Output.{value_of}
-use Rattle.rap_events.specs.Word.{fields, word_of, event_of_fields, event_of}
+use Rattle.rap_events.specs.Word.{fields, word_of, word_of_event, event_of_fields, event_of, IsWord}
+use Rattle.rap_events.specs.declared.event.Event.{Event}
+use Rattle.rap_events.specs.declared.event.Event.TheVariants as event
 
 -- the fields of a word
 record Fields (w b k : ℕ) : Type 0 where
@@ -18,6 +20,23 @@ fields_back w b k h l = record { which = omega (arith, h, l); byte = omega (arit
 
 event_of-fields : (w b k : ℕ) → w < 16 → b < 256 → event_of (fields w b k) ≡ event_of_fields w b k
 event_of-fields w b k h l = let f = fields_back w b k h l in rw (f.which, f.byte, f.kind) refl
+
+-- what a word is, is one of ten
+which_of : (e : Event) → word_of_event e % 2 ^ 4 < 10
+which_of (event.Token width kind) = omega arith
+which_of (event.Enter kind) = omega arith
+which_of event.Exit = omega arith
+which_of (event.FloatSplit true) = omega arith
+which_of (event.FloatSplit false) = omega arith
+which_of event.Error = omega arith
+which_of event.Start = omega arith
+which_of event.Precede = omega arith
+which_of (event.Finish kind) = omega arith
+which_of event.Extend = omega arith
+which_of event.Abandon = omega arith
+
+pub which_below : (bits : ℕ) → IsWord bits → bits % 2 ^ 4 < 10
+which_below bits h = let P : ℕ → Type 0 = λ n. n % 2 ^ 4 < 10 in subst P h.word (which_of (event_of bits))
 
 -- a token of fewer than 256 input tokens, a message that is the first of these, and any other step
 abbrev HasWord : List (List ℕ) → StepValue → Type 0

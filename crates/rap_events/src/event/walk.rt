@@ -163,7 +163,7 @@ impl Walk {
         ensures { Backed call.start self.old self.new }
     {
         self.is_around = false;
-        let mut is_more = true;
+        let mut is_more = self.enter_last();
         while is_more {
             is_more = self.enter_last();
         }
