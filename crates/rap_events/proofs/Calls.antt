@@ -308,19 +308,19 @@ pub held_either : (b : Bool) (old new es : List Event) (ms : List (List ℕ)) (n
 held_either true old new es ms n input pos e h k = rw e k
 held_either false old new es ms n input pos e h k = rw e h
 
-pub reported_history : (es : List Event) (texts : List (String Global)) (text : String Global) → reported_by es ≡ length texts →
-    history (es ++ event.Error ∷ []) (map string_bytes (texts ++ text ∷ [])) ≡ history es (map string_bytes texts) ++ call.error (string_bytes text) ∷ []
-reported_history es texts text h =
+pub reported_history : (es : List Event) (texts : List (String Global)) (text : String Global) (number : ℕ) → reported_by es ≡ length texts →
+    history (es ++ event.Error number ∷ []) (map string_bytes (texts ++ text ∷ [])) ≡ history es (map string_bytes texts) ++ call.error (string_bytes text) ∷ []
+reported_history es texts text number h =
     let ms : List (List ℕ) = map string_bytes texts in
-    rw (map-append string_bytes texts (text ∷ [])) (history-report es ms (string_bytes text) (h ∙ sym (length-map texts string_bytes)))
+    rw (map-append string_bytes texts (text ∷ [])) (history-report es ms (string_bytes text) number (h ∙ sym (length-map texts string_bytes)))
 
 -- one message more
-pub held_reported : (es : List Event) (texts : List (String Global)) (text : String Global) (input : List Record) (pos : ℕ) →
+pub held_reported : (es : List Event) (texts : List (String Global)) (text : String Global) (number : ℕ) (input : List Record) (pos : ℕ) →
     Held es (map string_bytes texts) (length texts) input pos →
-    Held (es ++ event.Error ∷ []) (map string_bytes (texts ++ text ∷ [])) (length (texts ++ text ∷ [])) input pos
-held_reported es texts text input pos h =
+    Held (es ++ event.Error number ∷ []) (map string_bytes (texts ++ text ∷ [])) (length (texts ++ text ∷ [])) input pos
+held_reported es texts text number input pos h =
     let m : List ℕ = string_bytes text in
     record {
-      reported = omega (arith, length-append texts (text ∷ []), reported_by-append es (event.Error ∷ []), h.reported);
-      kept = rw (reported_history es texts text h.reported) (kept-error (history es (map string_bytes texts)) input pos m h.kept);
+      reported = omega (arith, length-append texts (text ∷ []), reported_by-append es (event.Error number ∷ []), h.reported);
+      kept = rw (reported_history es texts text number h.reported) (kept-error (history es (map string_bytes texts)) input pos m h.kept);
     }

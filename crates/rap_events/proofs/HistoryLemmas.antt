@@ -75,8 +75,8 @@ call_of-more ms m event.Extend h = refl
 call_of-more ms m event.Abandon h = refl
 call_of-more ms m (event.Token w k) h = refl
 call_of-more ms m (event.FloatSplit d) h = refl
-call_of-more [] m event.Error h = absurd (omega arith)
-call_of-more (t ∷ ms) m event.Error h = refl
+call_of-more [] m (event.Error number) h = absurd (omega arith)
+call_of-more (t ∷ ms) m (event.Error number) h = refl
 call_of-more ms m (event.Enter k) h = refl
 call_of-more ms m event.Exit h = refl
 
@@ -90,10 +90,10 @@ history-later (e ∷ es) ms m h =
     ∙ ap (λ (xs : List Call). call_of ms e ∷ xs) (history-later es (drop (reports e) ms) m others)
 
 -- one message more
-pub history-report : (es : List Event) (ms : List (List ℕ)) (m : List ℕ) → reported_by es ≡ length ms → history (es ++ event.Error ∷ []) (ms ++ m ∷ []) ≡ history es ms ++ call.error m ∷ []
-history-report es ms m h =
+pub history-report : (es : List Event) (ms : List (List ℕ)) (m : List ℕ) (number : ℕ) → reported_by es ≡ length ms → history (es ++ event.Error number ∷ []) (ms ++ m ∷ []) ≡ history es ms ++ call.error m ∷ []
+history-report es ms m number h =
     let own : drop (reported_by es) (ms ++ m ∷ []) ≡ m ∷ [] = drop_at ms (m ∷ []) (reported_by es) (sym h) in
-    history-more es (ms ++ m ∷ []) event.Error
+    history-more es (ms ++ m ∷ []) (event.Error number)
     ∙ ap (λ (ts : List (List ℕ)). history es (ms ++ m ∷ []) ++ call.error (first_message ts) ∷ []) own
     ∙ ap (λ (xs : List Call). xs ++ call.error m ∷ []) (history-later es ms m (omega arith))
 

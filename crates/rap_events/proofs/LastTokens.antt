@@ -19,7 +19,7 @@ kind_after k event.Extend = k
 kind_after k event.Abandon = k
 kind_after k (event.Token width kind) = kind
 kind_after k (event.FloatSplit ends_in_dot) = k
-kind_after k event.Error = k
+kind_after k (event.Error number) = k
 kind_after k (event.Enter kind) = k
 kind_after k event.Exit = k
 
@@ -91,7 +91,7 @@ last_of-run c (event.Token width kind ∷ es) ms = last_of-run (step c (call.tok
 last_of-run c (event.FloatSplit ends_in_dot ∷ es) ms = last_of-run (step c (call.float_split ends_in_dot)) es ms
 last_of-run c (event.Enter kind ∷ es) ms = last_of-run (step c call.start) es ms
 last_of-run c (event.Exit ∷ es) ms = last_of-run (step c call.start) es ms
-last_of-run c (event.Error ∷ es) ms = last_of-run (step c (call.error (first_message ms))) es (drop 1 ms)
+last_of-run c (event.Error number ∷ es) ms = last_of-run (step c (call.error (first_message ms))) es (drop 1 ms)
 
 -- the last token of all is that of the last event that takes one
 pub last_shown : (es : List Event) (ms : List (List ℕ)) → last_of (run initial (history es ms)) ≡ kind_of_last EOF es
@@ -106,6 +106,6 @@ no_token k event.Extend h = refl
 no_token k event.Abandon h = refl
 no_token k (event.Token width kind) h = absurd (h width kind refl)
 no_token k (event.FloatSplit ends_in_dot) h = refl
-no_token k event.Error h = refl
+no_token k (event.Error number) h = refl
 no_token k (event.Enter kind) h = refl
 no_token k event.Exit h = refl

@@ -27,7 +27,7 @@ reports event.Extend = 0
 reports event.Abandon = 0
 reports (event.Token width kind) = 0
 reports (event.FloatSplit ends_in_dot) = 0
-reports event.Error = 1
+reports (event.Error number) = 1
 reports (event.Enter kind) = 0
 reports event.Exit = 0
 
@@ -57,7 +57,7 @@ call_of ms event.Extend = extend
 call_of ms event.Abandon = abandon
 call_of ms (event.Token width kind) = token kind width
 call_of ms (event.FloatSplit ends_in_dot) = float_split ends_in_dot
-call_of ms event.Error = error (first_message ms)
+call_of ms (event.Error number) = error (first_message ms)
 call_of ms (event.Enter kind) = start
 call_of ms event.Exit = start
 

@@ -40,8 +40,11 @@ pub(crate) enum Event {
     FloatSplit {
         ends_in_dot: bool,
     },
-    /// A message is reported. The messages stand in a list of their own, in the order of the events that report them.
-    Error,
+    /// A message is reported. The messages stand in a list of their own, in the order of the events that report them; the
+    /// number is that of the message among them, as far as a word has bits for it.
+    Error {
+        message: u32,
+    },
     /// A node begins: a step. A parser records none.
     Enter {
         kind: SyntaxKind,

@@ -196,7 +196,7 @@ impl<'a> Iterator for Steps<'a> {
             Event::FloatSplit { ends_in_dot } => Step::FloatSplit { ends_in_dot },
             Event::Enter { kind } => Step::Enter { kind },
             Event::Exit => Step::Exit,
-            Event::Error => {
+            Event::Error { .. } => {
                 let (msg, messages) = split_message(self.messages);
                 self.messages = messages;
                 Step::Error { msg }

@@ -1,5 +1,5 @@
 //! The parser: a position in the input, and the events that were recorded so far.
-ghost use Rattle.std.specs.Prelude.{◌≡◌, ◌==◌, ◌^◌, ◌≢◌, ℕ, ◌+◌, ◌-◌, ◌<◌, ◌≤◌, List, [], ◌∷◌, ◌++◌, length, drop, map, true, All, AllPairs, IfOk, OnOk, IsTrue, Some, None, string_bytes, if◌then◌else◌};
+ghost use Rattle.std.specs.Prelude.{◌≡◌, ◌==◌, ◌^◌, ◌%◌, ◌≢◌, ℕ, ◌+◌, ◌-◌, ◌<◌, ◌≤◌, List, [], ◌∷◌, ◌++◌, length, drop, map, true, All, AllPairs, IfOk, OnOk, IsTrue, Some, None, string_bytes, if◌then◌else◌};
 ghost use Rattle.rap_base.specs.TokenKind.{EOF, IDENT, FLOAT_NUMBER};
 ghost use Rattle.rap_base.specs.NodeKind.{FIELD_EXPR};
 ghost use Rattle.rap_base.specs.TokenSet.{member};
@@ -28,6 +28,9 @@ use std::snapshot::Snapshot;
 mod composite;
 
 use composite::{at_place, width_of};
+
+/// How many messages a word can number.
+const MESSAGE_NUMBERS: usize = 1 << 31;
 
 /// Reads an input from its beginning and records events.
 ///
@@ -389,11 +392,23 @@ impl<'t> Parser<'t> {
     fn report(&mut self, message: String) -> Result<(), NoMemory>
         ensures state { OnOk result (Reported (state self.old) (state self.new) (string_bytes message)) }
         ensures recorded { OnOk result (calls self.new ≡ calls self.old ++ call.error (string_bytes message) ∷ []) }
+        ensures word { OnOk result (self.new.events.items ≡ self.old.events.items ++ event.Error (length self.old.messages.items % 2 ^ 31) ∷ []) }
     {
+        let word = self.next_word();
         self.events.reserve(1)?;
         self.messages.push(message)?;
-        self.events.push_reserved(Word::of_event(Event::Error));
+        self.events.push_reserved(word);
         Ok(())
+    }
+
+    // The word of the message that is reported next, with its number among the messages. A word has 31 bits for it, more
+    // than a parse of the grammar needs: that reads fewer than 2^23 tokens, and records at most 256 events for each of
+    // them and for the end. Past that the numbers begin again. No message is lost: the k-th error has the k-th message.
+    fn next_word(&self) -> Word
+        ensures { result ≡ event.Error (length self.now.messages.items % 2 ^ 31) }
+    {
+        let number = (self.messages.len() % MESSAGE_NUMBERS) as u32;
+        Word::of_event(Event::Error { message: number })
     }
 
     /// Makes the output of the recorded events. Each marker must have been completed or abandoned. The error means out

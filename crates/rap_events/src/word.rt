@@ -1,6 +1,6 @@
 //! Events as words of 32 bits.
 ghost use Rattle.std.specs.Prelude.{◌≡◌, ◌+◌, ◌*◌, ◌<◌, ◌^◌};
-ghost use Rattle.rap_events.specs.Word.{fields, word_of_event, Fits};
+ghost use Rattle.rap_events.specs.Word.{fields, word_of_event, Fits, HasNumber};
 
 use crate::event::Event;
 use rap_base::syntax_kind::SyntaxKind;
@@ -9,9 +9,9 @@ use std::mem::size_of;
 
 /// An event in 32 bits. Contracts see the event.
 ///
-/// Bits 0 to 3 hold the event's number. Bits 8 to 15 hold the number of input tokens of a token, 1 for a float that ends
-/// in a dot, else 0. Bits 16 to 31 hold the number of the kind, or 0 for an event without kind. All other bits are 0. A
-/// message is not in its word: the messages stand in a list of their own, in the order of the events that report them.
+/// For a message, bit 0 is 0 and bits 1 to 31 hold its number among the messages. Otherwise bit 0 is 1; bits 4 to 7
+/// hold the event's number; bits 8 to 15 hold the number of input tokens of a token, 1 for a float that ends in a dot,
+/// else 0; bits 16 to 31 hold the number of the kind, or 0 for an event without kind.
 #[derive(Clone, Copy)]
 pub(crate) struct Word {
     bits: u32,
@@ -38,7 +38,7 @@ impl Model for Word {
 
 const _: () = prove!(size_of::<Word>() <= 4);
 
-// What stands in bits 0 to 3: first the steps, then the events that are no steps.
+// What stands in bits 4 to 7: first the steps, then the events that are no steps.
 const TOKEN: u32 = 0;
 
 const ENTER: u32 = 1;
@@ -47,22 +47,21 @@ const EXIT: u32 = 2;
 
 const FLOAT_SPLIT: u32 = 3;
 
-const ERROR: u32 = 4;
+const START: u32 = 4;
 
-const START: u32 = 5;
+const PRECEDE: u32 = 5;
 
-const PRECEDE: u32 = 6;
+const FINISH: u32 = 6;
 
-const FINISH: u32 = 7;
+const EXTEND: u32 = 7;
 
-const EXTEND: u32 = 8;
-
-const ABANDON: u32 = 9;
+const ABANDON: u32 = 8;
 
 impl Word {
-    /// Returns the word of an event.
+    /// Returns the word of an event. A message's number must be below 2^31.
     #[inline(always)]
     pub(crate) fn of_event(event: Event) -> Word
+        requires { HasNumber event }
         ensures { result ≡ event }
     {
         Word {
@@ -77,9 +76,12 @@ impl Word {
         ensures { result ≡ self.now }
     {
         let bits = self.bits;
+        if bits & 1 == 0 {
+            return Event::Error { message: bits >> 1 };
+        }
         let kind = SyntaxKind::from_u16((bits >> 16) as u16);
         let byte = ((bits >> 8) & 0xFF) as u8;
-        match bits & 0xF {
+        match (bits >> 4) & 0xF {
             TOKEN => Event::Token {
                 n_input_tokens: byte,
                 kind,
@@ -89,7 +91,6 @@ impl Word {
             FLOAT_SPLIT => Event::FloatSplit {
                 ends_in_dot: byte == 1,
             },
-            ERROR => Event::Error,
             START => Event::Start,
             PRECEDE => Event::Precede,
             FINISH => Event::Finish { kind },
@@ -102,10 +103,12 @@ impl Word {
 
 #[inline(always)]
 fn bits_of(event: Event) -> u32
+    requires { HasNumber event }
     ensures word { result ≡ word_of_event event }
     ensures fits { Fits event }
 {
     match event {
+        Event::Error { message } => message << 1,
         Event::Token {
             n_input_tokens,
             kind,
@@ -114,7 +117,6 @@ fn bits_of(event: Event) -> u32
         Event::Exit => packed(EXIT, 0, 0),
         Event::FloatSplit { ends_in_dot: false } => packed(FLOAT_SPLIT, 0, 0),
         Event::FloatSplit { ends_in_dot: true } => packed(FLOAT_SPLIT, 1, 0),
-        Event::Error => packed(ERROR, 0, 0),
         Event::Start => packed(START, 0, 0),
         Event::Precede => packed(PRECEDE, 0, 0),
         Event::Finish { kind } => packed(FINISH, 0, u16::from(kind)),
@@ -123,45 +125,47 @@ fn bits_of(event: Event) -> u32
     }
 }
 
-// The word that holds these.
+// The word that is no message and holds these.
 #[inline(always)]
 fn packed(which: u32, byte: u8, kind: u16) -> u32
     requires { which < 2 ^ 4 }
     ensures { result ≡ fields which byte kind }
 {
-    (u32::from(kind) << 16) + (u32::from(byte) << 8) + which
+    (u32::from(kind) << 16) + (u32::from(byte) << 8) + (which << 4) + 1
 }
 
 #[cfg(test)]
 mod tests {
     use super::*;
 
-    fn bits(event: Event) -> u32 {
+    fn bits(event: Event) -> u32
+        requires { HasNumber event }
+    {
         Word::of_event(event).bits
     }
 
     #[test]
     fn words_of_no_tokens(rt: HostRuntime) {
         let source_file = SyntaxKind::SOURCE_FILE;
-        assert_eq!(rt; bits(Event::Enter { kind: source_file }), 0x009E_0001);
-        assert_eq!(rt; bits(Event::Exit), 0x0000_0002);
+        assert_eq!(rt; bits(Event::Enter { kind: source_file }), 0x009E_0011);
+        assert_eq!(rt; bits(Event::Exit), 0x0000_0021);
     }
 
     #[test]
     fn words_of_splits(rt: HostRuntime) {
-        assert_eq!(rt; bits(Event::FloatSplit { ends_in_dot: false }), 0x0000_0003);
-        assert_eq!(rt; bits(Event::FloatSplit { ends_in_dot: true }), 0x0000_0103);
+        assert_eq!(rt; bits(Event::FloatSplit { ends_in_dot: false }), 0x0000_0031);
+        assert_eq!(rt; bits(Event::FloatSplit { ends_in_dot: true }), 0x0000_0131);
     }
 
     #[test]
-    fn a_message_is_not_in_its_word(rt: HostRuntime) {
-        assert_eq!(rt; bits(Event::Error), 0x0000_0004);
-    }
-
-    #[test]
-    fn words_of_calls(rt: HostRuntime) {
-        let source_file = SyntaxKind::SOURCE_FILE;
-        assert_eq!(rt; bits(Event::Finish { kind: source_file }), 0x009E_0007);
-        assert_eq!(rt; bits(Event::Abandon), 0x0000_0009);
+    fn a_message_is_twice_its_number(rt: HostRuntime) {
+        assert_eq!(rt; bits(Event::Error { message: 0 }), 0);
+        assert_eq!(rt; bits(Event::Error { message: 5 }), 10);
+        assert_eq!(rt;
+            bits(Event::Error {
+                message: 0x7FFF_FFFF
+            }),
+            0xFFFF_FFFE
+        );
     }
 }

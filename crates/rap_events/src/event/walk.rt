@@ -222,7 +222,7 @@ impl Walk {
             Event::Finish { kind } => self.finish(kind)?,
             Event::Extend => self.skips += 1,
             Event::Abandon => self.abandon()?,
-            Event::Token { .. } | Event::Error => self.write(word),
+            Event::Token { .. } | Event::Error { .. } => self.write(word),
             Event::FloatSplit { ends_in_dot } => self.float_split(word, ends_in_dot),
         }
         Ok(())
