@@ -1,6 +1,6 @@
 -- What each call does to the state, and that it keeps what holds of every parser.
 use Rattle.std.proofs.Common.{◌≡◌, ℕ, ◌+◌, ◌≤◌, List, [], ◌∷◌, ◌++◌, length, Some, Bool, true, false, refl, sym, ap, ◌∙◌, append_assoc, append-nil, drop, length-drop, length-append, cond, arith, subst, map}
-use Rattle.std.specs.Prelude.{All, String, string_bytes}
+use Rattle.std.specs.Prelude.{String, string_bytes}
 use Rattle.std.specs.declared.alloc.Global.{Global}
 use Rattle.std.proofs.lemmas.List.{drop-drop, length-map, map-append}
 use mathlib.Core.Logic.{∥∥₁_map}
@@ -8,7 +8,7 @@ use Rattle.rap_base.specs.NodeKind.{BIN_EXPR, TOKEN_TREE}
 use Rattle.rap_events.specs.Record.{Record}
 use Rattle.rap_events.specs.Forest.{Forest, none, node, leaf, message, split, ◌⧺◌}
 use Rattle.rap_events.specs.Cover.{Leaf, of_tokens, leaf_width, leaves, stand, stands, widths}
-use Rattle.rap_events.specs.History.{Call, history, HasMessage}
+use Rattle.rap_events.specs.History.{Call, reported_by, history}
 use Rattle.rap_events.specs.History as call
 use Rattle.rap_events.specs.Machine.{Stack, floor, push, top, stack_leaves, all_leaves, Config, close, merge, wrap, stretch, run, initial, all_splits_placed}
 use Rattle.rap_events.specs.State.{view, but_last, last_children, Opened, IsLast, Completed, Abandoned, Preceded, Extended, Bumped, Reported}
@@ -19,7 +19,7 @@ use Rattle.rap_events.specs.declared.parser.CompletedMarker.{CompletedMarker}
 use Rattle.rap_events.proofs.Splits.{placed, all_placed, start_placed, point_placed, placed-close, placed-merge, placed-wrap, placed-stretch}
 use Rattle.rap_events.proofs.Truth.{and_left, and_right, and_both}
 use Rattle.rap_events.proofs.MachineLemmas.{run-push, Rooted, rooted, count_of, leaves-⧺}
-use Rattle.rap_events.proofs.HistoryLemmas.{Shows, history-push, history-report, has_message-push, has_message-report}
+use Rattle.rap_events.proofs.HistoryLemmas.{Shows, history-push, history-report, reported_by-push, reported_by-append}
 
 -- the calls, on states
 pub opened : (input rest : List Record) (xs : List Call) (n : ℕ) → n ≡ length xs →
@@ -293,14 +293,14 @@ kept-extend xs input rest pos cm k n l m f h =
       fit = λ z. ∥∥₁_map (h.fit (sym w.2 ∙ z)) (fit-stretch c c.forest c.below k f l.forest refl refl);
     })
 
--- the same of events and messages, the errors having numbers of messages
+-- the same of events and messages, each message being that of one event
 pub record Held (es : List Event) (ms : List (List ℕ)) (n : ℕ) (input : List Record) (pos : ℕ) : Type 0 where
-  pub reported : All (HasMessage n) es
+  pub reported : reported_by es ≡ n
   pub kept : Kept (run initial (history es ms)) input pos
 
 pub held-push : (es : List Event) (ms : List (List ℕ)) (n : ℕ) (input : List Record) (pos pos' : ℕ) (e : Event) (x : Call) → Shows e x →
     Held es ms n input pos → Kept (run initial (history es ms ++ x ∷ [])) input pos' → Held (es ++ e ∷ []) ms n input pos'
-held-push es ms n input pos pos' e x s h k = record { reported = has_message-push n es e x s h.reported; kept = rw (history-push es ms e x s) k }
+held-push es ms n input pos pos' e x s h k = record { reported = reported_by-push es e x s ∙ h.reported; kept = rw (history-push es ms e x s) k }
 
 -- after a push that may be refused
 pub held_either : (b : Bool) (old new es : List Event) (ms : List (List ℕ)) (n : ℕ) (input : List Record) (pos : ℕ) → es ≡ cond b new old →
@@ -308,21 +308,19 @@ pub held_either : (b : Bool) (old new es : List Event) (ms : List (List ℕ)) (n
 held_either true old new es ms n input pos e h k = rw e k
 held_either false old new es ms n input pos e h k = rw e h
 
-pub reported_history : (es : List Event) (texts : List (String Global)) (text : String Global) → All (HasMessage (length texts)) es →
-    history (es ++ event.Error (length texts) ∷ []) (map string_bytes (texts ++ text ∷ [])) ≡ history es (map string_bytes texts) ++ call.error (string_bytes text) ∷ []
-reported_history es texts text h =
+pub reported_history : (es : List Event) (texts : List (String Global)) (text : String Global) (number : ℕ) → reported_by es ≡ length texts →
+    history (es ++ event.Error number ∷ []) (map string_bytes (texts ++ text ∷ [])) ≡ history es (map string_bytes texts) ++ call.error (string_bytes text) ∷ []
+reported_history es texts text number h =
     let ms : List (List ℕ) = map string_bytes texts in
-    let n : length ms ≡ length texts = length-map texts string_bytes in
-    rw (map-append string_bytes texts (text ∷ [])) (history-report es ms (string_bytes text) (length texts) (sym n) (rw n h))
+    rw (map-append string_bytes texts (text ∷ [])) (history-report es ms (string_bytes text) number (h ∙ sym (length-map texts string_bytes)))
 
 -- one message more
-pub held_reported : (es : List Event) (texts : List (String Global)) (text : String Global) (input : List Record) (pos : ℕ) →
+pub held_reported : (es : List Event) (texts : List (String Global)) (text : String Global) (number : ℕ) (input : List Record) (pos : ℕ) →
     Held es (map string_bytes texts) (length texts) input pos →
-    Held (es ++ event.Error (length texts) ∷ []) (map string_bytes (texts ++ text ∷ [])) (length (texts ++ text ∷ [])) input pos
-held_reported es texts text input pos h =
+    Held (es ++ event.Error number ∷ []) (map string_bytes (texts ++ text ∷ [])) (length (texts ++ text ∷ [])) input pos
+held_reported es texts text number input pos h =
     let m : List ℕ = string_bytes text in
-    let more : length (texts ++ text ∷ []) ≡ length texts + 1 = length-append texts (text ∷ []) in
     record {
-      reported = rw more (has_message-report (length texts) es h.reported);
-      kept = rw (reported_history es texts text h.reported) (kept-error (history es (map string_bytes texts)) input pos m h.kept);
+      reported = omega (arith, length-append texts (text ∷ []), reported_by-append es (event.Error number ∷ []), h.reported);
+      kept = rw (reported_history es texts text number h.reported) (kept-error (history es (map string_bytes texts)) input pos m h.kept);
     }

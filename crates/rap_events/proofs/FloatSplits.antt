@@ -1,6 +1,6 @@
 -- A float that is taken apart, and the field accesses that it ends.
 use Rattle.std.proofs.Common.{◌≡◌, ℕ, ◌+◌, ◌≤◌, List, [], ◌∷◌, ◌++◌, length, length-drop, take, Option, Some, Bool, true, false, not, ◌||◌, ◌==◌, refl, sym, ap, ◌∙◌, append_assoc, drop, subst, arith}
-use Rattle.std.specs.Prelude.{All, if◌then◌else◌}
+use Rattle.std.specs.Prelude.{if◌then◌else◌}
 use Rattle.std.proofs.lemmas.Bool.{eq-eqb}
 use mathlib.Core.Logic.{∥∥₁_map}
 use Rattle.rap_base.specs.TokenKind.{FLOAT_NUMBER}
@@ -8,7 +8,7 @@ use Rattle.rap_base.specs.NodeKind.{FIELD_EXPR}
 use Rattle.rap_events.specs.Record.{Record, next_kind, joint_at}
 use Rattle.rap_events.specs.Forest.{Forest, none, node, split, split_ends, is_ended, splits_last}
 use Rattle.rap_events.specs.Cover.{Leaf, of_float, leaves, first_splits}
-use Rattle.rap_events.specs.History.{Call, history, HasMessage}
+use Rattle.rap_events.specs.History.{Call, reported_by, history}
 use Rattle.rap_events.specs.History as call
 use Rattle.rap_events.specs.Machine.{Stack, floor, push, Config, close, step, run, initial, stack_leaves, all_leaves, stack_splits_placed}
 use Rattle.rap_events.specs.Fit.{AllFitIn, StackFit, AllFit}
@@ -18,7 +18,7 @@ use Rattle.rap_events.specs.declared.event.Event.{Event}
 use Rattle.rap_events.specs.declared.parser.CompletedMarker.{CompletedMarker}
 use Rattle.rap_events.specs.declared.event.Event.TheVariants as event
 use Rattle.rap_events.proofs.Calls.{Kept, Held, stand-push, widths-append, drop-plus, fit_of_plain}
-use Rattle.rap_events.proofs.HistoryLemmas.{history-push, has_message-push}
+use Rattle.rap_events.proofs.HistoryLemmas.{history-push, reported_by-append}
 use Rattle.rap_events.proofs.HistoryLemmas as shows
 use Rattle.rap_events.proofs.MachineLemmas.{Rooted, rooted, count_of}
 use Rattle.rap_events.proofs.Splits.{Placed, placed, all_placed, Pushed, pushed, both_placed, before_none, node_last}
@@ -169,18 +169,14 @@ split_history es ms false =
     ∙ ap (λ (l : List Call). l ++ call.precede ∷ call.finish FIELD_EXPR ∷ []) (history-two es ms _ _ _ _ (shows.float_split false) (shows.finish FIELD_EXPR))
     ∙ append_assoc (history es ms) (call.float_split false ∷ call.finish FIELD_EXPR ∷ []) (call.precede ∷ call.finish FIELD_EXPR ∷ [])
 
-split_has_message : (n : ℕ) (es : List Event) (d : Bool) → All (HasMessage n) es → All (HasMessage n) (es ++ split_events d)
-split_has_message n es true h = rw (← append_assoc es (event.FloatSplit true ∷ []) (event.Finish FIELD_EXPR ∷ []))
-    (has_message-push n (es ++ event.FloatSplit true ∷ []) (event.Finish FIELD_EXPR) _ (shows.finish FIELD_EXPR) (has_message-push n es (event.FloatSplit true) _ (shows.float_split true) h))
-split_has_message n es false h =
-    let two = has_message-push n (es ++ event.FloatSplit false ∷ []) (event.Finish FIELD_EXPR) _ (shows.finish FIELD_EXPR) (has_message-push n es (event.FloatSplit false) _ (shows.float_split false) h) in
-    let four = has_message-push n _ (event.Finish FIELD_EXPR) _ (shows.finish FIELD_EXPR) (has_message-push n _ event.Precede _ shows.precede two) in
-    subst (All (HasMessage n)) (simp append_assoc) four
+split_silent : (d : Bool) → reported_by (split_events d) ≡ 0
+split_silent true = refl
+split_silent false = refl
 
 pub held-split : (es : List Event) (ms : List (List ℕ)) (m : ℕ) (input : List Record) (pos : ℕ) (d : Bool) (n : ℕ) → (run initial (history es ms)).marker ≡ Some n →
     next_kind (drop pos input) ≡ FLOAT_NUMBER → joint_at (drop pos input) 0 ≡ not d → Held es ms m input pos → Held (es ++ split_events d) ms m input (pos + 1)
 held-split es ms m input pos d n marker k j h = record {
-  reported = split_has_message m es d h.reported;
+  reported = omega (arith, reported_by-append es (split_events d), split_silent d, h.reported);
   kept = rw (split_history es ms d) (kept-split input pos (history es ms) d n marker k j h.kept);
 }
 

@@ -1,8 +1,8 @@
 -- The last event that takes a token shows the last token.
-use Rattle.std.proofs.Common.{◌≡◌, ℕ, ◌+◌, ◌<◌, List, [], ◌∷◌, ◌++◌, length, take, get_or, Bool, true, false, refl, ap, ◌∙◌}
+use Rattle.std.proofs.Common.{◌≡◌, ℕ, ◌+◌, ◌<◌, List, [], ◌∷◌, ◌++◌, length, take, drop, get_or, Bool, true, false, refl, ap, ◌∙◌}
 use Rattle.rap_base.specs.TokenKind.{EOF}
 use Rattle.rap_events.specs.Forest.{Forest, none, node, leaf, message, split, ◌⧺◌}
-use Rattle.rap_events.specs.History.{Call, history, text_at}
+use Rattle.rap_events.specs.History.{Call, history, first_message}
 use Rattle.rap_events.specs.History as call
 use Rattle.rap_events.specs.LastToken.{last_after, last_below}
 use Rattle.rap_events.specs.Machine.{Stack, floor, push, Config, close, merge, wrap, stretch, step, run, initial}
@@ -91,7 +91,7 @@ last_of-run c (event.Token width kind ∷ es) ms = last_of-run (step c (call.tok
 last_of-run c (event.FloatSplit ends_in_dot ∷ es) ms = last_of-run (step c (call.float_split ends_in_dot)) es ms
 last_of-run c (event.Enter kind ∷ es) ms = last_of-run (step c call.start) es ms
 last_of-run c (event.Exit ∷ es) ms = last_of-run (step c call.start) es ms
-last_of-run c (event.Error number ∷ es) ms = last_of-run (step c (call.error (text_at ms number))) es ms
+last_of-run c (event.Error number ∷ es) ms = last_of-run (step c (call.error (first_message ms))) es (drop 1 ms)
 
 -- the last token of all is that of the last event that takes one
 pub last_shown : (es : List Event) (ms : List (List ℕ)) → last_of (run initial (history es ms)) ≡ kind_of_last EOF es

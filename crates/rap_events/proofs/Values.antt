@@ -1,18 +1,19 @@
 -- The steps that lists of steps and messages show.
 use Rattle.std.proofs.Common.{◌≡◌, ◌≤◌, ℕ, List, [], ◌∷◌, ◌++◌, length, length-drop, append_assoc, take, drop, ap, ◌∙◌, arith}
-use Rattle.std.proofs.lemmas.List.{drop_at, length-take-le, length-map, map-append}
+use Rattle.std.proofs.lemmas.List.{drop_at, length-take-le}
 use Rattle.std.specs.List.{insert}
 use Rattle.rap_events.specs.StepValue.{StepValue, enter, exit}
 use Rattle.rap_events.specs.Output.{value_of, values}
 use Rattle.rap_events.specs.declared.event.Event.{Event}
 use Rattle.rap_events.specs.declared.event.Event.TheVariants as event
+use Rattle.rap_events.proofs.HistoryLemmas.{in_turn-more, in_turn-length}
 
 pub values_length : (es : List Event) (ms : List (List ℕ)) → length (values es ms) ≡ length es
-values_length es ms = length-map es (value_of ms)
+values_length es ms = in_turn-length value_of es ms
 
 -- one exit more
 pub values_exit : (es : List Event) (ms : List (List ℕ)) → values (es ++ event.Exit ∷ []) ms ≡ values es ms ++ exit ∷ []
-values_exit es ms = map-append (value_of ms) es (event.Exit ∷ [])
+values_exit es ms = in_turn-more value_of es ms event.Exit
 
 -- steps that begin within a list are no more than it has
 pub values_few : (n : ℕ) (es : List Event) (ms : List (List ℕ)) → length (values (drop n es) ms) ≤ length es

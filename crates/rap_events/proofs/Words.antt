@@ -1,11 +1,13 @@
 -- The words of steps, and what is read back of them.
-use Rattle.std.proofs.Common.{◌≡◌, ℕ, ◌+◌, ◌*◌, ◌^◌, ◌/◌, ◌%◌, ◌<◌, List, true, false, refl, ap, arith}
+use Rattle.std.proofs.Common.{◌≡◌, ◌≢◌, ℕ, ◌+◌, ◌*◌, ◌^◌, ◌/◌, ◌%◌, ◌<◌, List, true, false, refl, ap, subst, arith}
 use Rattle.std.specs.Prelude.{⊤}
 use Rattle.rap_base.specs.NodeKind.{SOURCE_FILE}
 use Rattle.rap_events.specs.StepValue.{StepValue, enter, exit, token, float_split, error}
-use Rattle.rap_events.specs.History.{text_at}
+use Rattle.rap_events.specs.History.{first_message}
 use Rattle.rap_events.specs.Output.{value_of}
-use Rattle.rap_events.specs.Word.{fields, word_of, event_of_fields, event_of}
+use Rattle.rap_events.specs.Word.{fields, word_of, word_of_event, event_of_fields, event_of, IsWord}
+use Rattle.rap_events.specs.declared.event.Event.{Event}
+use Rattle.rap_events.specs.declared.event.Event.TheVariants as event
 
 -- the fields of a word that is no message
 record Fields (w b k : ℕ) : Type 0 where
@@ -25,13 +27,32 @@ fields_back w b k h l = record {
 event_of-fields : (w b k : ℕ) → w < 16 → b < 256 → event_of (fields w b k) ≡ event_of_fields w b k
 event_of-fields w b k h l = let f = fields_back w b k h l in rw (f.odd, f.which, f.byte, f.kind) refl
 
--- a token of fewer than 256 input tokens, a message by its number, and any other step
+-- what a word that is no message is, is one of nine
+which_of : (e : Event) → word_of_event e % 2 ≢ 0 → word_of_event e / 2 ^ 4 % 2 ^ 4 < 9
+which_of (event.Token width kind) h = omega arith
+which_of (event.Enter kind) h = omega arith
+which_of event.Exit h = omega arith
+which_of (event.FloatSplit true) h = omega arith
+which_of (event.FloatSplit false) h = omega arith
+which_of (event.Error number) h = absurd (h (omega arith))
+which_of event.Start h = omega arith
+which_of event.Precede h = omega arith
+which_of (event.Finish kind) h = omega arith
+which_of event.Extend h = omega arith
+which_of event.Abandon h = omega arith
+
+pub which_below : (bits : ℕ) → IsWord bits → bits % 2 ≢ 0 → bits / 2 ^ 4 % 2 ^ 4 < 9
+which_below bits h =
+    let P : ℕ → Type 0 = λ n. n % 2 ≢ 0 → n / 2 ^ 4 % 2 ^ 4 < 9 in
+    subst P h.word (which_of (event_of bits))
+
+-- a token of fewer than 256 input tokens, a message that is the first of these, and any other step
 abbrev HasWord : List (List ℕ) → StepValue → ℕ → Type 0
 HasWord ms (token kind width) number = width < 256
 HasWord ms (enter kind) number = ⊤
 HasWord ms exit number = ⊤
 HasWord ms (float_split ends_in_dot) number = ⊤
-HasWord ms (error bytes) number = text_at ms number ≡ bytes
+HasWord ms (error bytes) number = first_message ms ≡ bytes
 
 -- the law of the words of steps: reading a step's word back gives the step
 pub step_back : (ms : List (List ℕ)) (s : StepValue) (number : ℕ) → HasWord ms s number →
@@ -43,8 +64,7 @@ step_back ms (float_split true) number h = refl
 step_back ms (float_split false) number h = refl
 step_back ms (error bytes) number h =
     let even : number * 2 % 2 ≡ 0 = omega arith in
-    let half : number * 2 / 2 ≡ number = omega arith in
-    rw (even, half) (ap error h)
+    rw even (ap error h)
 
 -- The words of a file without tokens, 0x009E0011 and 0x00000021; of a float that is taken apart, 0x00000031, and of one
 -- that ends in a dot, 0x00000131; and of message 5.

@@ -1,6 +1,6 @@
 -- The calls that a parser recorded, in order. The number of a call is its place among them.
 -- (What calls promise one another, but for what docs/ARCHITECTURE.md lists as to be believed.)
-use Rattle.std.specs.Prelude.{ℕ, zero, suc, ◌+◌, ◌≤◌, List, [], ◌∷◌, map, Bool}
+use Rattle.std.specs.Prelude.{ℕ, ◌+◌, List, [], ◌∷◌, drop, Bool}
 use Rattle.rap_events.specs.declared.event.Event.{Event}
 use Rattle.rap_events.specs.declared.event.Event.TheVariants as event
 
@@ -18,14 +18,37 @@ pub data Call : Type 0 where
   float_split : Bool → Call
   error : List ℕ → Call
 
--- the message of a number, by its bytes, or none where there is no such message
-abbrev pub text_at : List (List ℕ) → ℕ → List ℕ
-text_at [] n = []
-text_at (m ∷ ms) zero = m
-text_at (m ∷ ms) (suc n) = text_at ms n
+-- how many messages an event reports
+abbrev pub reports : Event → ℕ
+reports event.Start = 0
+reports event.Precede = 0
+reports (event.Finish kind) = 0
+reports event.Extend = 0
+reports event.Abandon = 0
+reports (event.Token width kind) = 0
+reports (event.FloatSplit ends_in_dot) = 0
+reports (event.Error number) = 1
+reports (event.Enter kind) = 0
+reports event.Exit = 0
 
--- The call that an event shows, an error with the message of its number. A step that is no call would be a start, and
--- no parser records one.
+-- the same of events one after another
+abbrev pub reported_by : List Event → ℕ
+reported_by [] = 0
+reported_by (e ∷ es) = reports e + reported_by es
+
+-- Events one after another, each shown with the messages that were not reported before it. So the first of these is
+-- its own, if it reports one.
+abbrev pub in_turn : {A : Type 0} → (List (List ℕ) → Event → A) → List Event → List (List ℕ) → List A
+in_turn show [] ms = []
+in_turn show (e ∷ es) ms = show ms e ∷ in_turn show es (drop (reports e) ms)
+
+-- the first message, by its bytes, or none where there is no message
+abbrev pub first_message : List (List ℕ) → List ℕ
+first_message [] = []
+first_message (m ∷ ms) = m
+
+-- The call that an event shows, an error with the first of these messages. A step that is no call would be a start,
+-- and no parser records one.
 abbrev pub call_of : List (List ℕ) → Event → Call
 call_of ms event.Start = start
 call_of ms event.Precede = precede
@@ -34,27 +57,10 @@ call_of ms event.Extend = extend
 call_of ms event.Abandon = abandon
 call_of ms (event.Token width kind) = token kind width
 call_of ms (event.FloatSplit ends_in_dot) = float_split ends_in_dot
-call_of ms (event.Error message) = error (text_at ms message)
+call_of ms (event.Error number) = error (first_message ms)
 call_of ms (event.Enter kind) = start
 call_of ms event.Exit = start
 
--- the calls that the events show
+-- the calls that the events show: the messages are those of the errors, in the same order
 abbrev pub history : List Event → List (List ℕ) → List Call
-history es ms = map (call_of ms) es
-
--- how many messages there are at least, since an error has the number of one of them
-abbrev pub needed_messages : Event → ℕ
-needed_messages event.Start = 0
-needed_messages event.Precede = 0
-needed_messages (event.Finish kind) = 0
-needed_messages event.Extend = 0
-needed_messages event.Abandon = 0
-needed_messages (event.Token width kind) = 0
-needed_messages (event.FloatSplit ends_in_dot) = 0
-needed_messages (event.Error message) = message + 1
-needed_messages (event.Enter kind) = 0
-needed_messages event.Exit = 0
-
--- an event with a message has the number of one of so many
-abbrev pub HasMessage : ℕ → Event → Type 0
-HasMessage n e = needed_messages e ≤ n
+history es ms = in_turn call_of es ms

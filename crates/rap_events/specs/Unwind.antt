@@ -3,7 +3,7 @@
 use Rattle.std.specs.Prelude.{◌≡◌, ℕ, suc, ◌+◌, ◌≤◌, ◌<◌, List, [], ◌∷◌, ◌++◌, Bool, true, false, length, map, reverse, take, drop, String, string_bytes}
 use Rattle.std.specs.declared.alloc.Global.{Global}
 use Rattle.rap_events.specs.StepValue.{StepValue, enter, exit, token, float_split, error}
-use Rattle.rap_events.specs.History.{Call, call_of, history}
+use Rattle.rap_events.specs.History.{Call, reports, reported_by, call_of, history}
 use Rattle.rap_events.specs.History as call
 use Rattle.rap_events.specs.Forest.{ended_by}
 use Rattle.rap_events.specs.Interval.{without_exits}
@@ -85,14 +85,30 @@ nothing_yet = record { is_around = false; skips = 0; pending = []; steps = [] }
 abbrev pub texts : kept.Walk → List (List ℕ)
 texts w = map string_bytes w.messages.items
 
--- what the code keeps: its list is kept the other way round, and the steps stand where events were
-abbrev pub walk_of : kept.Walk → Walk
-walk_of w = record {
+-- the events that were not yet read
+abbrev pub unread : kept.Walk → List Event
+unread w = take w.left w.events.items
+
+-- the messages that they do not report
+abbrev pub texts_read : kept.Walk → List (List ℕ)
+texts_read w = drop (reported_by (unread w)) (texts w)
+
+-- what the code keeps: its list is kept the other way round, and the steps stand where events were, with these messages
+abbrev pub walk_with : List (List ℕ) → kept.Walk → Walk
+walk_with ms w = record {
   is_around = w.is_around;
   skips = w.skips;
   pending = reverse w.pending.items;
-  steps = values (drop w.first w.events.items) (texts w);
+  steps = values (drop w.first w.events.items) ms;
 }
+
+-- each event that was read is in the steps, if it reports a message
+abbrev pub walk_of : kept.Walk → Walk
+walk_of w = walk_with (texts_read w) w
+
+-- the same just after this event was read, whose message is in no step yet
+abbrev pub walk_after : Event → kept.Walk → Walk
+walk_after e w = walk_with (drop (reports e) (texts_read w)) w
 
 -- an event was read whose place is still free
 abbrev pub HasRoom : kept.Walk → Type 0
@@ -110,6 +126,7 @@ pub record Kept (old new : kept.Walk) : Type 0 where
   pub left : new.left ≡ old.left
   pub events : take old.left new.events.items ≡ take old.left old.events.items
   pub messages : new.messages.items ≡ old.messages.items
+  pub texts : texts_read new ≡ texts_read old
 
 -- a step stands before the others
 pub record Written (step : Event) (old new : kept.Walk) : Type 0 where
@@ -125,7 +142,7 @@ pub record Taken (e : Event) (old new : kept.Walk) : Type 0 where
   pub left : new.left + 1 ≡ old.left
   pub events : take old.left old.events.items ≡ take new.left new.events.items ++ e ∷ []
   pub messages : new.messages.items ≡ old.messages.items
-  pub walk : walk_of new ≡ walk_of old
+  pub walk : walk_after e new ≡ walk_of old
   pub room : HasRoom new
   pub few : new.skips + new.left < length new.events.items
 
@@ -142,12 +159,13 @@ pub record Backed (x : Call) (old new : kept.Walk) : Type 0 where
   pub walk : walk_of new ≡ back x (walk_of old)
 
 -- an event was taken back
-abbrev pub EventBacked : Event → kept.Walk → kept.Walk → Type 0
-EventBacked e old new = Backed (call_of (texts old) e) old new
+pub record EventBacked (e : Event) (old new : kept.Walk) : Type 0 where
+  pub kept : Kept old new
+  pub walk : walk_of new ≡ back (call_of (texts_read old) e) (walk_after e old)
 
 -- the calls that were not yet taken back
 abbrev pub calls_left : kept.Walk → List Call
-calls_left w = history (take w.left w.events.items) (texts w)
+calls_left w = history (unread w) (texts w)
 
 -- one event fewer is left to take back, and to go on gives the same
 pub record Same (old new : kept.Walk) : Type 0 where

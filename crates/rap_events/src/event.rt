@@ -40,7 +40,8 @@ pub(crate) enum Event {
     FloatSplit {
         ends_in_dot: bool,
     },
-    /// The message with this number is reported.
+    /// A message is reported. The messages stand in a list of their own, in the order of the events that report them; the
+    /// number is that of the message among them, as far as a word has bits for it.
     Error {
         message: u32,
     },

@@ -3,6 +3,7 @@
 
 pub mod event;
 pub mod input;
+mod list;
 pub mod output;
 pub mod parser;
 mod word;

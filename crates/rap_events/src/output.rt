@@ -1,7 +1,7 @@
 //! The output of a parse: the steps of its forest.
 ghost use Rattle.std.specs.Prelude.{◌≡◌, ◌≤◌, ◌<◌, ◌^◌, length, drop, map, true, IfOk, string_bytes};
 ghost use Rattle.rap_events.specs.Output.{values};
-ghost use Rattle.rap_events.specs.History.{text_at};
+ghost use Rattle.rap_events.specs.History.{first_message};
 ghost use Rattle.rap_events.specs.Forest.{none, node, flat, splits_placed};
 ghost use Rattle.rap_events.specs.Reading.{forest_of};
 
@@ -12,7 +12,7 @@ use rap_base::syntax_kind::SyntaxKind;
 use std::alloc::Global;
 use std::marker::Model;
 
-/// The steps of an output: the words from `first` on. An error holds the number of its message.
+/// The steps of an output: the words from `first` on. The messages are those of the errors, in the same order.
 #[derive(Drop)]
 pub(crate) struct StepList {
     steps: Vec<Word>,
@@ -56,7 +56,7 @@ impl Default for Output {
 }
 
 impl Output {
-    /// Makes the output of the steps from `first` on. Each error has the message with its number.
+    /// Makes the output of the steps from `first` on. The messages are those of the errors, in the same order.
     pub(crate) fn of_steps(steps: Vec<Word>, first: usize, messages: Vec<String>) -> Output
         requires within { first ≤ length steps.items }
         requires steps { flat (forest_of (values (drop first steps.items) (map string_bytes messages.items))) ≡ values (drop first steps.items) (map string_bytes messages.items) }
@@ -196,9 +196,11 @@ impl<'a> Iterator for Steps<'a> {
             Event::FloatSplit { ends_in_dot } => Step::FloatSplit { ends_in_dot },
             Event::Enter { kind } => Step::Enter { kind },
             Event::Exit => Step::Exit,
-            Event::Error { message } => Step::Error {
-                msg: message_at(self.messages, message),
-            },
+            Event::Error { .. } => {
+                let (msg, messages) = split_message(self.messages);
+                self.messages = messages;
+                Step::Error { msg }
+            }
             // No output holds any of these.
             Event::Start | Event::Precede | Event::Finish { .. } | Event::Extend | Event::Abandon =>
                 Step::Error { msg: "" },
@@ -221,12 +223,13 @@ impl<'a> ExactSizeIterator for Steps<'a> {
     }
 }
 
-// The message of that number, or an empty one if there is none.
-fn message_at(messages: &[String], number: u32) -> &str
-    ensures { result.now ≡ text_at (map string_bytes messages.now) number }
+// The first message, or an empty one if there is none, and the others.
+fn split_message(messages: &[String]) -> (&str, &[String])
+    ensures message { result.0.now ≡ first_message (map string_bytes messages.now) }
+    ensures others { map string_bytes result.1.now ≡ drop 1 (map string_bytes messages.now) }
 {
-    match messages.get(number as usize) {
-        Some(message) => message.as_str(),
-        None => "",
+    match messages.split_first() {
+        Some((message, others)) => (message.as_str(), others),
+        None => ("", messages),
     }
 }

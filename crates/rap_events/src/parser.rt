@@ -1,12 +1,12 @@
 //! The parser: a position in the input, and the events that were recorded so far.
-ghost use Rattle.std.specs.Prelude.{◌≡◌, ◌==◌, ◌^◌, ◌≢◌, ℕ, ◌+◌, ◌-◌, ◌<◌, ◌≤◌, List, [], ◌∷◌, ◌++◌, length, drop, map, true, All, AllPairs, IfOk, OnOk, IsTrue, Some, None, string_bytes, if◌then◌else◌};
+ghost use Rattle.std.specs.Prelude.{◌≡◌, ◌==◌, ◌^◌, ◌%◌, ◌≢◌, ℕ, ◌+◌, ◌-◌, ◌<◌, ◌≤◌, List, [], ◌∷◌, ◌++◌, length, drop, map, true, All, AllPairs, IfOk, OnOk, IsTrue, Some, None, string_bytes, if◌then◌else◌};
 ghost use Rattle.rap_base.specs.TokenKind.{EOF, IDENT, FLOAT_NUMBER};
 ghost use Rattle.rap_base.specs.NodeKind.{FIELD_EXPR};
 ghost use Rattle.rap_base.specs.TokenSet.{member};
 ghost use Rattle.rap_base.specs.Keyword.{is_any_identifier};
 ghost use Rattle.rap_events.specs.Record.{IsTokenRecord};
 ghost use Rattle.rap_events.specs.Cover.{stand, widths};
-ghost use Rattle.rap_events.specs.History.{history, HasMessage};
+ghost use Rattle.rap_events.specs.History.{history, reported_by};
 ghost use Rattle.rap_events.specs.Machine.{run, initial, all_leaves, all_splits_placed};
 ghost use Rattle.rap_events.specs.Fit.{AllFit};
 ghost use Rattle.rap_events.specs.FloatSplit.{split_calls};
@@ -15,6 +15,7 @@ ghost use Rattle.std.proofs.Props.{props};
 
 use crate::event::Event;
 use crate::input::Input;
+use crate::list::push;
 use crate::output::Output;
 use crate::word::Word;
 use rap_base::edition::Edition;
@@ -28,8 +29,8 @@ mod composite;
 
 use composite::{at_place, width_of};
 
-/// The number of messages that a word can tell apart.
-const MAX_MESSAGES: usize = 1 << 31;
+/// How many messages a word can number.
+const MESSAGE_NUMBERS: usize = 1 << 31;
 
 /// Reads an input from its beginning and records events.
 ///
@@ -45,7 +46,7 @@ pub struct Parser<'t> {
     ghost tokens: { All IsTokenRecord input.now },
     ghost ends: { len ≡ length input.now },
     ghost in_input: { pos ≤ len },
-    ghost reported: { All (HasMessage (length messages.items)) events.items },
+    ghost reported: { reported_by events.items ≡ length messages.items },
     ghost sound: { (run initial (history events.items (map string_bytes messages.items))).sound ≡ true },
     ghost covers: { stand (all_leaves (run initial (history events.items (map string_bytes messages.items)))) input.now ≡ true },
     ghost place: { widths (all_leaves (run initial (history events.items (map string_bytes messages.items)))) ≡ pos },
@@ -377,10 +378,13 @@ impl<'t> Parser<'t> {
         ensures state { OnOk result (Bumped (state self.old) (state self.new) kind n_input_tokens) }
         ensures recorded { OnOk result (calls self.new ≡ calls self.old ++ call.token kind n_input_tokens ∷ []) }
     {
-        self.events.push(Word::of_event(Event::Token {
-            kind,
-            n_input_tokens,
-        }))?;
+        push(
+            &mut self.events,
+            Word::of_event(Event::Token {
+                kind,
+                n_input_tokens,
+            }),
+        )?;
         self.pos += usize::from(n_input_tokens);
         Ok(())
     }
@@ -388,27 +392,23 @@ impl<'t> Parser<'t> {
     fn report(&mut self, message: String) -> Result<(), NoMemory>
         ensures state { OnOk result (Reported (state self.old) (state self.new) (string_bytes message)) }
         ensures recorded { OnOk result (calls self.new ≡ calls self.old ++ call.error (string_bytes message) ∷ []) }
+        ensures word { OnOk result (self.new.events.items ≡ self.old.events.items ++ event.Error (length self.old.messages.items % 2 ^ 31) ∷ []) }
     {
-        let word = self.next_message()?;
+        let word = self.next_word();
         self.events.reserve(1)?;
         self.messages.push(message)?;
         self.events.push_reserved(word);
         Ok(())
     }
 
-    // The word of the message that is reported next. A word can number 2^31 messages. A parse of the grammar records no
-    // more events than that: it reads fewer than 2^23 tokens and records at most 256 events for each of them and for
-    // the end. If a caller records more messages, the call is out of memory.
-    fn next_message(&self) -> Result<Word, NoMemory>
-        ensures { IfOk result (λ word. word ≡ event.Error (length self.now.messages.items)) }
+    // The word of the message that is reported next, with its number among the messages. A word has 31 bits for it, more
+    // than a parse of the grammar needs: that reads fewer than 2^23 tokens, and records at most 256 events for each of
+    // them and for the end. Past that the numbers begin again. No message is lost: the k-th error has the k-th message.
+    fn next_word(&self) -> Word
+        ensures { result ≡ event.Error (length self.now.messages.items % 2 ^ 31) }
     {
-        let number = self.messages.len();
-        if number < MAX_MESSAGES {
-            return Ok(Word::of_event(Event::Error {
-                message: number as u32,
-            }));
-        }
-        Err(NoMemory)
+        let number = (self.messages.len() % MESSAGE_NUMBERS) as u32;
+        Word::of_event(Event::Error { message: number })
     }
 
     /// Makes the output of the recorded events. Each marker must have been completed or abandoned. The error means out
@@ -436,7 +436,7 @@ impl<'t> Parser<'t> {
         ensures recorded { OnOk result (calls self.new ≡ calls self.old ++ call.start ∷ []) }
     {
         let pos = Snapshot::of(&self.events.len());
-        self.events.push(Word::of_event(Event::Start))?;
+        push(&mut self.events, Word::of_event(Event::Start))?;
         Ok(Marker { pos })
     }
 }
@@ -478,7 +478,7 @@ impl Marker {
         ensures state { IfOk result (λ cm. Completed (state p.old) (state p.new) kind × IsLast (state p.new) cm kind) }
         ensures recorded { OnOk result (calls p.new ≡ calls p.old ++ call.finish kind ∷ []) }
     {
-        p.events.push(Word::of_event(Event::Finish { kind }))?;
+        push(&mut p.events, Word::of_event(Event::Finish { kind }))?;
         Ok(CompletedMarker {
             end: Snapshot::of(&p.events.len()),
             kind: Snapshot::of(&kind),
@@ -491,7 +491,7 @@ impl Marker {
         ensures state { OnOk result (Abandoned (state p.old) (state p.new)) }
         ensures recorded { OnOk result (calls p.new ≡ calls p.old ++ call.abandon ∷ []) }
     {
-        p.events.push(Word::of_event(Event::Abandon))?;
+        push(&mut p.events, Word::of_event(Event::Abandon))?;
         Ok(())
     }
 }
@@ -508,7 +508,7 @@ impl CompletedMarker {
         ensures recorded { OnOk result (calls p.new ≡ calls p.old ++ call.precede ∷ []) }
     {
         let pos = Snapshot::of(&p.events.len());
-        p.events.push(Word::of_event(Event::Precede))?;
+        push(&mut p.events, Word::of_event(Event::Precede))?;
         Ok(Marker { pos })
     }
 
@@ -521,7 +521,7 @@ impl CompletedMarker {
         ensures state { IfOk result (λ cm. Extended (state p.old) (state p.new) self.kind.value × IsLast (state p.new) cm self.kind.value) }
         ensures recorded { OnOk result (calls p.new ≡ calls p.old ++ call.extend ∷ []) }
     {
-        p.events.push(Word::of_event(Event::Extend))?;
+        push(&mut p.events, Word::of_event(Event::Extend))?;
         Ok(CompletedMarker {
             end: Snapshot::of(&p.events.len()),
             kind: self.kind,

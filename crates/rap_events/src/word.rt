@@ -71,6 +71,7 @@ impl Word {
 
     /// Returns the event of the word.
     #[inline(always)]
+    #[tactic(auto, using(crate::proofs::Words::which_below))]
     pub(crate) fn event(&self) -> Event
         ensures { result ≡ self.now }
     {
@@ -94,7 +95,8 @@ impl Word {
             PRECEDE => Event::Precede,
             FINISH => Event::Finish { kind },
             EXTEND => Event::Extend,
-            _ => Event::Abandon,
+            ABANDON => Event::Abandon,
+            _ => unreachable!(),
         }
     }
 }

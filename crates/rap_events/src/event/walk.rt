@@ -6,6 +6,7 @@ ghost use Rattle.rap_events.specs.Interval.{without_exit};
 ghost use Rattle.rap_events.specs.Pending.{inners, slot, pasts};
 
 use super::Event;
+use crate::list::push;
 use crate::output::Output;
 use crate::word::Word;
 use rap_base::no_memory::NoMemory;
@@ -27,13 +28,14 @@ enum Pending {
 }
 
 // Puts so many markers between the newest open one and what begins next.
+#[inline(always)]
 #[tactic(auto, using(crate::proofs::Places::inners_append))]
 fn push_past(pending: &mut Vec<Pending>, markers: usize) -> Result<(), NoMemory>
     ensures inners { inners pending.new.items ≡ inners pending.old.items }
     ensures past { OnOk result (reverse pending.new.items ≡ pasts markers (reverse pending.old.items)) }
 {
     for _ in 0..markers {
-        pending.push(Pending::Past)?;
+        push(pending, Pending::Past)?;
     }
     Ok(())
 }
@@ -59,7 +61,7 @@ pub(super) struct Walk {
 impl Walk {
     ghost use Rattle.rap_events.specs.History as call;
     ghost use Rattle.rap_events.specs.declared.event.Event.TheVariants as event;
-    ghost use Rattle.rap_events.specs.Unwind.{walk_of, nothing_yet, entered, HasRoom, Started, Kept, Written, Taken, Backed, EventBacked, EnteredLast, Same};
+    ghost use Rattle.rap_events.specs.Unwind.{texts, walk_with, walk_of, nothing_yet, entered, HasRoom, Started, Kept, Written, Taken, Backed, EventBacked, EnteredLast, Same};
 
     pub(super) fn new(alloc: Global, events: Vec<Word>, messages: Vec<String>) -> Walk
         ensures { Started events.items messages.items result }
@@ -76,6 +78,7 @@ impl Walk {
     }
 
     // Writes a step before the others, in the place of an event that was read.
+    #[inline(always)]
     fn write(&mut self, step: Word)
         requires room { HasRoom self.old }
         ensures { Written step self.old self.new }
@@ -85,16 +88,18 @@ impl Walk {
     }
 
     // The node is in those around it, if there are any, and else the outermost at its place.
+    #[inline(always)]
     #[tactic(auto, using(crate::proofs::Places::inners_append))]
     fn finish(&mut self, kind: SyntaxKind) -> Result<(), NoMemory>
         requires room { HasRoom self.old }
         ensures { OnOk result (Backed (call.finish kind) self.old self.new) }
     {
-        self.pending.push(if self.is_around {
+        let node = if self.is_around {
             Pending::Inner { kind }
         } else {
             Pending::Outermost { kind }
-        })?;
+        };
+        push(&mut self.pending, node)?;
         self.is_around = false;
         push_past(&mut self.pending, self.skips)?;
         self.skips = 0;
@@ -102,16 +107,18 @@ impl Walk {
         Ok(())
     }
 
+    #[inline(always)]
     #[tactic(auto, using(crate::proofs::Places::inners_append))]
     fn abandon(&mut self) -> Result<(), NoMemory>
         ensures { OnOk result (Backed call.abandon self.old self.new) }
     {
         self.is_around = false;
-        self.pending.push(Pending::Nothing)?;
+        push(&mut self.pending, Pending::Nothing)?;
         Ok(())
     }
 
     // The nodes that begin at the newest open marker are those around the node that ends next.
+    #[inline(always)]
     #[tactic(auto, using(crate::proofs::Places::inners_append))]
     fn precede(&mut self)
         requires room { HasRoom self.old }
@@ -128,6 +135,7 @@ impl Walk {
 
     // Takes the last one from the list and begins it, if it is a node. Returns whether it is in another one that begins
     // there.
+    #[inline(always)]
     #[tactic(auto, using(crate::proofs::Places::inners_append))]
     fn enter_last(&mut self) -> bool
         requires room { HasRoom self.old }
@@ -149,18 +157,20 @@ impl Walk {
         }
     }
 
+    #[inline(always)]
     fn start(&mut self)
         requires room { HasRoom self.old }
         ensures { Backed call.start self.old self.new }
     {
         self.is_around = false;
-        let mut is_more = true;
+        let mut is_more = self.enter_last();
         while is_more {
             is_more = self.enter_last();
         }
     }
 
     // Takes the first step away, if it ends a node.
+    #[inline(always)]
     fn drop_exit(&mut self)
         ensures kept { Kept self.old self.new }
         ensures room { self.old.first ≤ self.new.first }
@@ -176,6 +186,7 @@ impl Walk {
     }
 
     // The float stands for the ends of the nodes that it ends.
+    #[inline(always)]
     fn float_split(&mut self, word: Word, ends_in_dot: bool)
         requires room { HasRoom self.old }
         requires split { word ≡ event.FloatSplit ends_in_dot }
@@ -189,6 +200,7 @@ impl Walk {
     }
 
     // The last event that was not yet read.
+    #[inline(always)]
     fn take_event(&mut self) -> Word
         requires { 0 < self.old.left }
         ensures { Taken result self.old self.new }
@@ -198,6 +210,7 @@ impl Walk {
     }
 
     // A token, a message and a float are steps as they are.
+    #[inline(always)]
     fn read(&mut self, word: Word) -> Result<(), NoMemory>
         requires room { HasRoom self.old }
         requires few { self.old.skips + self.old.left < length self.old.events.items }
@@ -216,6 +229,7 @@ impl Walk {
     }
 
     /// Takes the last event back that was not yet read.
+    #[inline(always)]
     pub(super) fn back(&mut self) -> Result<(), NoMemory>
         requires left { 0 < self.old.left }
         ensures { OnOk result (Same self.old self.new) }
@@ -225,11 +239,11 @@ impl Walk {
         Ok(())
     }
 
-    /// The output that the steps make.
+    /// The output that the steps and all messages make.
     pub(super) fn output(self) -> Output
-        requires steps { flat (forest_of (walk_of self).steps) ≡ (walk_of self).steps }
-        requires splits { splits_placed (forest_of (walk_of self).steps) ≡ true }
-        ensures { result ≡ forest_of (walk_of self).steps }
+        requires steps { flat (forest_of (walk_with (texts self) self).steps) ≡ (walk_with (texts self) self).steps }
+        requires splits { splits_placed (forest_of (walk_with (texts self) self).steps) ≡ true }
+        ensures { result ≡ forest_of (walk_with (texts self) self).steps }
     {
         Output::of_steps(self.events, self.first, self.messages)
     }

@@ -6,7 +6,7 @@ use Rattle.rap_events.proofs.StepLemmas.{forest_of-flat}
 use Rattle.rap_events.proofs.Splits.{floor_placed}
 use Rattle.rap_events.specs.History.{Call, history}
 use Rattle.rap_events.specs.Machine.{run, initial}
-use Rattle.rap_events.specs.Unwind.{Walk, walk_of}
+use Rattle.rap_events.specs.Unwind.{Walk, texts, walk_with}
 use Rattle.rap_events.proofs.Unwinding.{unwound}
 use Rattle.rap_events.proofs.Backing.{all_back}
 use Rattle.rap_events.proofs.event.Event.process.Goals as goal
@@ -17,7 +17,7 @@ output-output-requires-clause-steps c =
     let F : Forest = (run initial xs).forest in
     let placed : splits_placed F ≡ true = floor_placed (run initial xs) c.requires.splits in
     let end = all_back c.loop-walk.walk xs (omega arith) c.loop-walk.invariant.so_far in
-    let steps : (walk_of c.loop-walk.walk).steps ≡ flat F = ap (λ (w : Walk). w.steps) end ∙ unwound xs c.requires.sound c.requires.closed placed in
+    let steps : (walk_with (texts c.loop-walk.walk) c.loop-walk.walk).steps ≡ flat F = ap (λ (w : Walk). w.steps) end ∙ unwound xs c.requires.sound c.requires.closed placed in
     rw steps (ap flat (forest_of-flat F placed))
 
 pub output-output-requires-clause-splits : goal.output-output-requires-clause-splits
@@ -26,7 +26,7 @@ output-output-requires-clause-splits c =
     let F : Forest = (run initial xs).forest in
     let placed : splits_placed F ≡ true = floor_placed (run initial xs) c.requires.splits in
     let end = all_back c.loop-walk.walk xs (omega arith) c.loop-walk.invariant.so_far in
-    let steps : (walk_of c.loop-walk.walk).steps ≡ flat F = ap (λ (w : Walk). w.steps) end ∙ unwound xs c.requires.sound c.requires.closed placed in
+    let steps : (walk_with (texts c.loop-walk.walk) c.loop-walk.walk).steps ≡ flat F = ap (λ (w : Walk). w.steps) end ∙ unwound xs c.requires.sound c.requires.closed placed in
     rw steps (rw (forest_of-flat F placed) placed)
 
 pub returns : goal.returns
@@ -35,5 +35,5 @@ returns c =
     let F : Forest = (run initial xs).forest in
     let placed : splits_placed F ≡ true = floor_placed (run initial xs) c.requires.splits in
     let end = all_back c.loop-walk.walk xs (omega arith) c.loop-walk.invariant.so_far in
-    let steps : (walk_of c.loop-walk.walk).steps ≡ flat F = ap (λ (w : Walk). w.steps) end ∙ unwound xs c.requires.sound c.requires.closed placed in
+    let steps : (walk_with (texts c.loop-walk.walk) c.loop-walk.walk).steps ≡ flat F = ap (λ (w : Walk). w.steps) end ∙ unwound xs c.requires.sound c.requires.closed placed in
     c.output-output.ensures ∙ ap forest_of steps ∙ forest_of-flat F placed

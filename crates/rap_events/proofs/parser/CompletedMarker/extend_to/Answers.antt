@@ -27,7 +27,7 @@ returns-clause-state c =
     let s = c.args.p.now in
     let ms : List (List ℕ) = map string_bytes s.messages.items in
     let xs : List Call = history s.events.items ms in
-    let e : c.len.result ≡ length xs + 1 = omega (arith, c.push.new.self.ok.0, length-append s.events.items, ap length c.in_ok-push.ensures.items, length-history s.events.items ms) in
+    let e : c.len.result ≡ length xs + 1 = omega (arith, c.push.new.list.ok.0, length-append s.events.items, ap length c.in_ok-push.ensures.items, length-history s.events.items ms) in
     rw (c.in_ok-push.ensures.items, history-push s.events.items ms c.of_event.result call.extend (rw c.of_event.ensures shows.extend)) (extended s.input.now _ xs c.args.self _ c.args.self.kind.value c.args.m.pos.value c.requires.last c.requires.newest (c.of.ensures ∙ e) refl)
 
 pub returns-clause-recorded : goal.returns-clause-recorded

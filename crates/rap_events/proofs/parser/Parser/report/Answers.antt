@@ -1,4 +1,4 @@
-use Rattle.std.proofs.Common.{◌≡◌, List, [], ◌∷◌, ◌++◌, length, map, ap, ◌∙◌}
+use Rattle.std.proofs.Common.{◌≡◌, ◌%◌, ◌^◌, List, [], ◌∷◌, ◌++◌, length, map, ap, ◌∙◌}
 use Rattle.std.specs.Prelude.{string_bytes}
 use Rattle.rap_events.specs.State.{state, calls}
 use Rattle.rap_events.specs.History.{history}
@@ -13,8 +13,8 @@ invariant_of-self c =
     let e = c.reserve.ensures.items in
     record { tokens = s.tokens; ends = s.ends; in_input = s.in_input; reported = rw e s.reported; sound = rw e s.sound; covers = rw e s.covers; place = rw e s.place; splits = rw e s.splits; fit = rw e s.fit }
 
-pub invariant_of-self-in-Break-branch-3 : goal.invariant_of-self-in-Break-branch-3
-invariant_of-self-in-Break-branch-3 c =
+pub invariant_of-self-in-Break-branch-2 : goal.invariant_of-self-in-Break-branch-2
+invariant_of-self-in-Break-branch-2 c =
     let s = c.args.self.now in
     let e = c.reserve.ensures.items in
     let m : c.push.new.self.items ≡ s.messages.items = rw c.in_err-push.was at c.push.ensures.items in
@@ -25,26 +25,23 @@ invariant_of-self-2 c =
     let s = c.args.self.now in
     let before : Held s.events.items (map string_bytes s.messages.items) (length s.messages.items) s.input.now s.pos =
     record { reported = s.reported; kept = record { sound = s.sound; covers = s.covers; place = s.place; splits = s.splits; fit = s.fit } } in
-    let word : c.in_ok-word.word ≡ event.Error (length s.messages.items) = c.in_ok-word.ensures in
-    let events : c.push_reserved.new.self.items ≡ s.events.items ++ event.Error (length s.messages.items) ∷ [] =
-    c.push_reserved.ensures.items ∙ ap (λ (es : List Event). es ++ c.in_ok-word.word ∷ []) c.reserve.ensures.items ∙ ap (λ (e : Event). s.events.items ++ e ∷ []) word in
-    let h = held_reported s.events.items s.messages.items c.args.message s.input.now s.pos before in
+    let events : c.push_reserved.new.self.items ≡ s.events.items ++ event.Error (length s.messages.items % 2 ^ 31) ∷ [] =
+    c.push_reserved.ensures.items ∙ ap (λ (es : List Event). es ++ c.next_word-word.result ∷ []) c.reserve.ensures.items ∙ ap (λ (e : Event). s.events.items ++ e ∷ []) c.next_word-word.ensures in
+    let h = held_reported s.events.items s.messages.items c.args.message (length s.messages.items % 2 ^ 31) s.input.now s.pos before in
     record { tokens = s.tokens; ends = s.ends; in_input = s.in_input; reported = rw (events, c.in_ok-push.ensures.items) h.reported; sound = rw (events, c.in_ok-push.ensures.items) h.kept.sound; covers = rw (events, c.in_ok-push.ensures.items) h.kept.covers; place = rw (events, c.in_ok-push.ensures.items) h.kept.place; splits = rw (events, c.in_ok-push.ensures.items) h.kept.splits; fit = rw (events, c.in_ok-push.ensures.items) h.kept.fit }
 
 pub returns-clause-state : goal.returns-clause-state
 unfolding state calls
 returns-clause-state c =
     let s = c.args.self.now in
-    let word : c.in_ok-word.word ≡ event.Error (length s.messages.items) = c.in_ok-word.ensures in
-    let events : c.push_reserved.new.self.items ≡ s.events.items ++ event.Error (length s.messages.items) ∷ [] =
-    c.push_reserved.ensures.items ∙ ap (λ (es : List Event). es ++ c.in_ok-word.word ∷ []) c.reserve.ensures.items ∙ ap (λ (e : Event). s.events.items ++ e ∷ []) word in
-    rw (events, c.in_ok-push.ensures.items, reported_history s.events.items s.messages.items c.args.message s.reported) (reported s.input.now _ (history s.events.items (map string_bytes s.messages.items)) (string_bytes c.args.message))
+    let events : c.push_reserved.new.self.items ≡ s.events.items ++ event.Error (length s.messages.items % 2 ^ 31) ∷ [] =
+    c.push_reserved.ensures.items ∙ ap (λ (es : List Event). es ++ c.next_word-word.result ∷ []) c.reserve.ensures.items ∙ ap (λ (e : Event). s.events.items ++ e ∷ []) c.next_word-word.ensures in
+    rw (events, c.in_ok-push.ensures.items, reported_history s.events.items s.messages.items c.args.message (length s.messages.items % 2 ^ 31) s.reported) (reported s.input.now _ (history s.events.items (map string_bytes s.messages.items)) (string_bytes c.args.message))
 
 pub returns-clause-recorded : goal.returns-clause-recorded
 unfolding calls
 returns-clause-recorded c =
     let s = c.args.self.now in
-    let word : c.in_ok-word.word ≡ event.Error (length s.messages.items) = c.in_ok-word.ensures in
-    let events : c.push_reserved.new.self.items ≡ s.events.items ++ event.Error (length s.messages.items) ∷ [] =
-    c.push_reserved.ensures.items ∙ ap (λ (es : List Event). es ++ c.in_ok-word.word ∷ []) c.reserve.ensures.items ∙ ap (λ (e : Event). s.events.items ++ e ∷ []) word in
-    rw (events, c.in_ok-push.ensures.items) (reported_history s.events.items s.messages.items c.args.message s.reported)
+    let events : c.push_reserved.new.self.items ≡ s.events.items ++ event.Error (length s.messages.items % 2 ^ 31) ∷ [] =
+    c.push_reserved.ensures.items ∙ ap (λ (es : List Event). es ++ c.next_word-word.result ∷ []) c.reserve.ensures.items ∙ ap (λ (e : Event). s.events.items ++ e ∷ []) c.next_word-word.ensures in
+    rw (events, c.in_ok-push.ensures.items) (reported_history s.events.items s.messages.items c.args.message (length s.messages.items % 2 ^ 31) s.reported)

@@ -11,7 +11,7 @@ use Rattle.rap_events.proofs.parser.Parser.take.Goals as goal
 pub invariant_of-self : goal.invariant_of-self
 invariant_of-self c =
     let s = c.args.self.now in
-    let e : c.push.new.self.items ≡ s.events.items = rw c.in_err-push.was at c.push.ensures.items in
+    let e : c.push.new.list.items ≡ s.events.items = rw c.in_err-push.was at c.push.ensures.items in
     record { tokens = s.tokens; ends = s.ends; in_input = s.in_input; reported = rw e s.reported; sound = rw e s.sound; covers = rw e s.covers; place = rw e s.place; splits = rw e s.splits; fit = rw e s.fit }
 
 pub overflow_add-self : goal.overflow_add-self

@@ -16,8 +16,8 @@ returns-in-Inner c =
     let inner : inners old.pending.items ≡ inners ps + 1 = ap inners popped ∙ inners_append ps (pending.Inner c.in-Inner.kind ∷ []) in
     let longer : length old.pending.items ≡ length ps + 1 = ap length popped ∙ length-append ps (pending.Inner c.in-Inner.kind ∷ []) in
     record {
-      kept = record { left = w.kept.left; events = w.kept.events; messages = w.kept.messages };
+      kept = record { left = w.kept.left; events = w.kept.events; messages = w.kept.messages; texts = w.kept.texts };
       room = omega (arith, c.requires.room, w.first, w.kept.left, ap inners w.pending, ap slot w.is_around, inner);
       shorter = omega (arith, ap length w.pending, longer);
-      walk = entered_inner old c.write.new.self ps c.in-Inner.kind popped w.pending w.is_around w.skips (w.steps ∙ ap (λ (e : Event). e ∷ drop old.first old.events.items) c.of_event.ensures) w.kept.messages;
+      walk = entered_inner old c.write.new.self ps c.in-Inner.kind popped w.pending w.is_around w.skips (w.steps ∙ ap (λ (e : Event). e ∷ drop old.first old.events.items) c.of_event.ensures) w.kept.texts;
     }

@@ -1,0 +1,37 @@
+//! Lists that grow seldom.
+ghost use Rattle.std.specs.Prelude.{◌≡◌, ◌<◌, IsTrue, is_ok, if◌then◌else◌, [], ◌∷◌, ◌++◌, vec_len, vec_capacity};
+
+use rap_base::no_memory::NoMemory;
+use std::mem::replace;
+
+/// Adds an item at the end. If memory is refused, the list is as before.
+///
+/// A list that must grow is moved out and back in, so nothing but a copy of it is lent: a caller can keep the list's
+/// length and address in registers.
+#[inline(always)]
+pub(crate) fn push<T: Copy>(list: &mut Vec<T>, item: T) -> Result<(), NoMemory>
+    ensures items { list.new.items ≡ (if is_ok result then list.old.items ++ item ∷ [] else list.old.items) }
+{
+    if list.len() == list.capacity() {
+        let empty = Vec::new(*list.allocator());
+        let (roomier, is_grown) = with_room(replace(list, empty));
+        *list = roomier;
+        if !is_grown {
+            return Err(NoMemory);
+        }
+    }
+    list.push_reserved(item);
+    Ok(())
+}
+
+// The list with room for one more item, and whether memory was left for that.
+#[cold]
+#[inline(never)]
+fn with_room<T: Copy>(list: Vec<T>) -> (Vec<T>, bool)
+    ensures items { result.0.items ≡ list.items }
+    ensures room { IsTrue result.1 → vec_len result.0 < vec_capacity result.0 }
+{
+    let mut roomier = list;
+    let is_grown = roomier.reserve(1).is_ok();
+    (roomier, is_grown)
+}
