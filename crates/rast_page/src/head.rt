@@ -17,6 +17,7 @@ pub const HEAD: &str = r##"<!doctype html>
   --mark: #cfe4ff; --mark-edge: #0757b8; --hit: #fff0b8; --wrong: #b3141c; --wrong-paper: #ffe9e9;
   --keyword: #8a1a5b; --string: #0a6640; --number: #0550ae; --comment: #5b636d; --name: #1f2328;
   --lifetime: #8a4600; --mark-sign: #4d545c; --node: #0b5c7a;
+  --function: #6b3fa0; --type: #8a4b08; --field: #155e75; --parameter: #5f4b00; --macro: #9c2a10;
 }
 @media (prefers-color-scheme: dark) {
   :root {
@@ -24,12 +25,13 @@ pub const HEAD: &str = r##"<!doctype html>
     --mark: #1d4273; --mark-edge: #8fc1ff; --hit: #4f4415; --wrong: #ff9a96; --wrong-paper: #3b1a1c;
     --keyword: #ff9bd0; --string: #86d9a5; --number: #8fc1ff; --comment: #9aa4b1; --name: #e3e7ec;
     --lifetime: #ffb877; --mark-sign: #b3bbc6; --node: #7fd0ea;
+    --function: #c9a6ff; --type: #f0c674; --field: #7fd6e0; --parameter: #d9c77e; --macro: #ff9d82;
   }
 }
 * { box-sizing: border-box; }
 html, body { height: 100%; margin: 0; }
 body {
-  display: grid; grid-template-rows: auto minmax(0, 1fr) auto;
+  display: grid; grid-template-rows: auto minmax(0, 1fr) auto; grid-template-columns: minmax(0, 1fr);
   background: var(--paper); color: var(--ink); font: 14px/20px system-ui, sans-serif;
 }
 header {
@@ -47,9 +49,13 @@ input, button {
 button { cursor: pointer; }
 :focus-visible { outline: 2px solid var(--mark-edge); outline-offset: -2px; }
 .faint { color: var(--faint); }
-main { display: grid; grid-template-columns: minmax(0, 1fr) minmax(0, 1fr); min-height: 0; }
+main {
+  display: grid; min-height: 0;
+  grid-template-columns: minmax(0, var(--text-share, 50fr)) 7px minmax(0, var(--tree-share, 50fr));
+}
 #text, #tree { overflow: auto; position: relative; font: 13px/20px ui-monospace, monospace; }
-#tree { border-left: 1px solid var(--line); }
+#divider { background: var(--raised); border: solid var(--line); border-width: 0 1px; cursor: col-resize; }
+#divider { touch-action: none; }
 #lines { min-width: 100%; width: max-content; }
 .block { white-space: pre; tab-size: 4; padding-left: 64px; content-visibility: auto; contain: strict; }
 .line, .note { position: relative; height: var(--row); }
@@ -63,6 +69,11 @@ main { display: grid; grid-template-columns: minmax(0, 1fr) minmax(0, 1fr); min-
 .n { color: var(--number); }
 .c { color: var(--comment); font-style: italic; }
 .i { color: var(--name); }
+.f { color: var(--function); }
+.t { color: var(--type); }
+.d { color: var(--field); }
+.a { color: var(--parameter); }
+.m { color: var(--macro); }
 .l { color: var(--lifetime); }
 .p { color: var(--mark-sign); }
 .e { color: var(--wrong); text-decoration: underline wavy; }
@@ -87,8 +98,12 @@ footer { border-top: 1px solid var(--line); background: var(--raised); padding: 
 }
 #messages li.chosen { background: var(--wrong-paper); }
 @media (max-width: 720px) {
-  main { grid-template-columns: minmax(0, 1fr); grid-template-rows: minmax(0, 1fr) minmax(0, 1fr); }
-  #tree { border-left: 0; border-top: 1px solid var(--line); }
+  main {
+    grid-template-columns: minmax(0, 1fr);
+    grid-template-rows: minmax(0, var(--text-share, 50fr)) 11px minmax(0, var(--tree-share, 50fr));
+  }
+  #divider { border-width: 1px 0; cursor: row-resize; }
+  form { margin-left: 0; }
 }
 @media (forced-colors: active) {
   .on, .item[aria-selected='true'] { outline: 1px solid Highlight; }
@@ -101,6 +116,7 @@ footer { border-top: 1px solid var(--line); background: var(--raised); padding: 
 <span id="counts" class="faint"></span>
 <button type="button" id="less" title="Folds the tree to its upper levels">Fold</button>
 <button type="button" id="more" title="Unfolds the whole tree">Unfold</button>
+<label><input type="checkbox" id="trivia" checked> White space and comments</label>
 <form id="search" role="search">
 <label for="kind">Kind</label>
 <input id="kind" list="kinds" size="18" autocomplete="off" spellcheck="false" placeholder="FN, _EXPR, ..">
@@ -114,6 +130,8 @@ footer { border-top: 1px solid var(--line); background: var(--raised); padding: 
 <section id="text" role="group" aria-label="Text, by tokens: the arrow keys go from token to token" tabindex="0">
 <div id="lines"></div>
 </section>
+<div id="divider" role="separator" tabindex="0" aria-label="Share of the text" aria-controls="text"
+  aria-valuemin="10" aria-valuemax="90" aria-valuenow="50"></div>
 <section id="tree" role="tree" aria-label="Syntax tree" tabindex="0"><div id="rows" role="presentation"></div></section>
 </main>
 <footer>

@@ -44,6 +44,7 @@ function bytesOf(piece) {
 }
 
 const leaves = [];
+let allBytes = 0;
 const text = (() => {
   const numbers = new Map();
   const pieces = [];
@@ -88,6 +89,7 @@ const text = (() => {
     }
     item += 1;
   }
+  allBytes = byte;
   return pieces.join('');
 })();
 data.steps = null;
@@ -104,6 +106,40 @@ function colourOf(name) {
   return 'p';
 }
 const colours = names.map(colourOf);
+const isTrivia = names.map((name) => name === 'WHITESPACE' || name === 'COMMENT');
+
+// What an identifier is, by the node of the name it is, and by the node of the use it is.
+const NAMED = {
+  FN: 'f', STRUCT: 't', ENUM: 't', UNION: 't', TRAIT: 't', TYPE_ALIAS: 't', TYPE_PARAM: 't', VARIANT: 't',
+  RECORD_FIELD: 'd', SELF_PARAM: 'a', MACRO_RULES: 'm', MACRO_DEF: 'm',
+};
+const USED = { FIELD_EXPR: 'd', RECORD_EXPR_FIELD: 'd', RECORD_PAT_FIELD: 'd', METHOD_CALL_EXPR: 'f' };
+const PATH_OF = { PATH_TYPE: 't', RECORD_EXPR: 't', TUPLE_STRUCT_PAT: 't', RECORD_PAT: 't', MACRO_CALL: 'm' };
+const nameOf = (item) => (item < 0 ? '' : names[kindOf[item]]);
+
+function pathColour(segment) {
+  const path = parentOf[segment];
+  const user = parentOf[path];
+  if (nameOf(user) !== 'PATH_EXPR') return PATH_OF[nameOf(user)] || 'i';
+  return nameOf(parentOf[user]) === 'CALL_EXPR' && nthOf[user] === 1 ? 'f' : 'i';
+}
+function leafColour(leaf) {
+  const own = colours[kindOf[leaf]];
+  if (own !== 'i') return own;
+  const node = parentOf[leaf], around = node < 0 ? -1 : parentOf[node];
+  if (nameOf(node) === 'NAME') {
+    if (nameOf(around) === 'IDENT_PAT') return nameOf(parentOf[around]) === 'PARAM' ? 'a' : 'i';
+    return NAMED[nameOf(around)] || 'i';
+  }
+  if (nameOf(node) !== 'NAME_REF') return 'i';
+  return nameOf(around) === 'PATH_SEGMENT' ? pathColour(around) : USED[nameOf(around)] || 'i';
+}
+const stopByteOf = (item) => {
+  const next = endOf[item];
+  return next < count ? byteOf[next] : allBytes;
+};
+// An item with its range in bytes, as `rast` prints it.
+const rangeOf = (item) => nameOf(item) + '@' + byteOf[item] + '..' + stopByteOf(item);
 
 // The last index of a sorted list whose value is at most this one, or 0.
 function lastUpTo(length, valueAt, value) {
@@ -212,17 +248,18 @@ function lineRow(line) {
   let stop = lineStop(line);
   if (stop > start && text[stop - 1] === '\n') stop -= 1;
   row.place = stop;
-  if (leaves.length === 0) return row;
   for (let k = leafIndexAt(start); k < leaves.length && startOf[leaves[k]] < stop; k += 1) {
     const leaf = leaves[k];
     const piece = text.slice(Math.max(start, startOf[leaf]), Math.min(stop, stopOf[leaf]));
     if (piece === '') continue;
     const span = document.createElement('span');
-    span.className = colours[kindOf[leaf]];
+    span.className = leafColour(leaf);
+    span.title = rangeOf(leaf);
     span.item = leaf;
     span.textContent = piece;
     row.append(span);
   }
+  if (start === stop) row.append(document.createElement('br'));
   return row;
 }
 function noteRow(message) {
@@ -308,11 +345,14 @@ const rows = new Int32Array(count);
 let rowCount = 0;
 let hits = new Uint8Array(0);
 
+let showsTrivia = true;
 function layTree() {
   rowCount = 0;
   for (let item = 0; item < count;) {
-    rows[rowCount] = item;
-    rowCount += 1;
+    if (showsTrivia || !isTrivia[kindOf[item]] || item === chosen) {
+      rows[rowCount] = item;
+      rowCount += 1;
+    }
     item = isOpen[item] ? item + 1 : endOf[item];
   }
   treeRows.style.height = rowCount * ROW + 'px';
@@ -347,6 +387,7 @@ function itemRow(index) {
   row.classList.toggle('wrong', name === 'ERROR');
   row.classList.toggle('hit', hits[kindOf[item]] === 1);
   row.id = 'item-' + item;
+  row.title = rangeOf(item);
   row.item = item;
   row.setAttribute('role', 'treeitem');
   row.setAttribute('aria-level', depthOf[item] + 1);
@@ -359,7 +400,7 @@ function itemRow(index) {
   const fold = piece('fold', folds ? (isOpen[item] ? '\u25be' : '\u25b8') : '');
   fold.setAttribute('aria-hidden', 'true');
   row.append(fold, piece('kind', name));
-  if (isLeaf[item]) row.append(' ', piece(colours[kindOf[item]], short(item)));
+  if (isLeaf[item]) row.append(' ', piece(leafColour(item), short(item)));
   else if (!isOpen[item] && folds) row.append(' ', piece('short', short(item)));
   if (saidAt.has(item)) row.append(' ', piece('said', '^ ' + saidAt.get(item).join('; ')));
   else if (!isOpen[item] && saidIn[item] > 0) row.append(' ', piece('said', counted(saidIn[item], 'message')));
@@ -392,12 +433,12 @@ function choose(item, from) {
       opened = true;
     }
   }
-  if (opened) layTree();
+  if (opened || (!showsTrivia && isTrivia[kindOf[item]])) layTree();
   bringIntoView(treePane, rowOf(item) * ROW, ROW);
   drawTree();
   if (from !== textPane) bringIntoView(textPane, topOfLine(lineAt(startOf[item])), ROW);
   for (const block of drawn) markBlock(block);
-  byId('place').textContent = names[kindOf[item]] + ' at ' + placeName(startOf[item]) + ': ' + short(item);
+  byId('place').textContent = rangeOf(item) + ' at ' + placeName(startOf[item]) + ': ' + short(item);
   for (const entry of byId('messages').children) entry.className = entry.item === item ? 'chosen' : '';
 }
 
@@ -508,6 +549,34 @@ function onKey(pane, itemFor) {
   });
 }
 
+// The divider between the halves: dragged, or moved by the arrow keys.
+const divider = byId('divider');
+const isNarrow = matchMedia('(max-width: 720px)');
+let share = 50;
+function divide(percent) {
+  share = Math.round(Math.min(90, Math.max(10, percent)));
+  const main = divider.parentElement;
+  main.style.setProperty('--text-share', share + 'fr');
+  main.style.setProperty('--tree-share', 100 - share + 'fr');
+  divider.setAttribute('aria-valuenow', share);
+}
+divider.addEventListener('pointerdown', (event) => {
+  divider.setPointerCapture(event.pointerId);
+  event.preventDefault();
+});
+divider.addEventListener('pointermove', (event) => {
+  if (!divider.hasPointerCapture(event.pointerId)) return;
+  const all = divider.parentElement.getBoundingClientRect();
+  divide(isNarrow.matches ? ((event.clientY - all.top) / all.height) * 100
+    : ((event.clientX - all.left) / all.width) * 100);
+});
+divider.addEventListener('keydown', (event) => {
+  const by = { ArrowLeft: -5, ArrowUp: -5, ArrowRight: 5, ArrowDown: 5 }[event.key];
+  if (by === undefined) return;
+  event.preventDefault();
+  divide(share + by);
+});
+
 byId('name').textContent = data.file;
 document.title = data.file + ': syntax tree';
 byId('counts').textContent = counted(leaves.length, 'token') + ', ' + counted(count - leaves.length, 'node');
@@ -544,6 +613,10 @@ onKey(treePane, treeKey);
 onKey(textPane, textKey);
 byId('less').addEventListener('click', () => { openLevels(60); layTree(); });
 byId('more').addEventListener('click', () => { openLevels(MOST_ROWS); layTree(); });
+byId('trivia').addEventListener('change', (event) => {
+  showsTrivia = event.target.checked;
+  layTree();
+});
 byId('kind').addEventListener('input', searchKinds);
 byId('search').addEventListener('submit', (event) => { event.preventDefault(); goToFound(true); });
 byId('previous').addEventListener('click', () => goToFound(false));
