@@ -1,8 +1,9 @@
 -- The attached tail of trivia: how it grows with each trivia more, and what stands on either side of its beginning.
 use Rattle.std.proofs.Common.{◌≡◌, refl, sym, ◌∙◌, ap, List, [], ◌∷◌, ◌++◌, ℕ, zero, suc, Bool, inl, inr, ◌+◌, ◌-◌, ◌<◌, ◌≤◌, true, false, length, take, drop, reverse, get_or, arith}
-use Rattle.std.specs.Prelude.{◌==◌, ◌&&◌, not}
+use Rattle.std.specs.Prelude.{◌==◌, ◌&&◌, ◌↔◌, IsTrue, not}
 use Rattle.std.specs.List.{list_any, prefix_len, take_while}
-use Rattle.std.proofs.lemmas.Bool.{cases_Bool, cases_eq, cond-true, cond-false, cond_both, and_left, or_left, or_from, or_right, eqb-true}
+use Rattle.std.proofs.Math.Seq.{drop-nil, take-nil}
+use Rattle.std.proofs.lemmas.Bool.{both_ways, cases_lt, cases_Bool, cases_eq, cond-true, cond-false, cond_both, and_left, or_left, or_from, or_right, eqb-true}
 use Rattle.std.proofs.lemmas.List.{drop-drop, drop_all, drop-take, get_or-drop, length-drop, length-reverse, length-take-le, reverse-append, take-append-drop, take-append-le, take_all, take_more}
 use Rattle.std.proofs.lemmas.List.Folds.{length-prefix_len}
 use Rattle.rap_base.specs.TokenKind.{COMMENT, EOF, WHITESPACE}
@@ -136,6 +137,13 @@ module _ (ts : List Token) (at n : ℕ) (h : n ≤ length (trivia_at ts at)) whe
       let m : ℕ = prefix_len is_trivial (drop at ts) in
       ap (take n) (sym (take-append-drop m (drop at ts))) ∙ take-append-le n (trivia_at ts at) (drop m (drop at ts)) h
 
+-- none stand there
+pub bare-from : (ts : List Token) (at : ℕ) (b : Bool) → (IsTrue b ↔ (at < past_trivia ts at)) → b ≡ false → past_trivia ts at ≤ at
+bare-from ts at b h e = elim (cases_lt at (past_trivia ts at)) [
+  | inl k ↦ absurd (both_ways b e (h.1 k))
+  | inr k ↦ k
+]
+
 -- how many trivia stand before the tail
 length-before : (kind : ℕ) (trivia : List Token) → length (before_tail kind trivia) ≡ length trivia - tail_len kind trivia
 length-before kind trivia = length-take-le (length trivia - tail_len kind trivia) trivia (omega arith)
@@ -152,6 +160,17 @@ module _ (ts : List Token) (at kind : ℕ) where
   trivia-before =
       trivia-past ts at (length (before_tail kind (trivia_at ts at))) before-within
       ∙ ap (λ n. drop n (trivia_at ts at)) (length-before kind (trivia_at ts at))
+
+  -- where no trivia stand, none are around the node
+  module _ (bare : past_trivia ts at ≤ at) where
+    pub trivia-bare : trivia_at ts at ≡ []
+    trivia-bare = let few : prefix_len is_trivial (drop at ts) ≡ 0 = omega arith in ap (λ (k : ℕ). take k (drop at ts)) few
+
+    pub before-bare : before_tail kind (trivia_at ts at) ≡ []
+    before-bare = ap (λ (l : List Token). before_tail kind l) trivia-bare ∙ take-nil (length {A = Token} [] - tail_len kind [])
+
+    pub tail-bare : attached_tail kind (trivia_at ts at) ≡ []
+    tail-bare = ap (λ (l : List Token). attached_tail kind l) trivia-bare ∙ drop-nil (length {A = Token} [] - tail_len kind [])
 
   -- a node without a tail has all trivia before it
   module _ (plain : takes_tail kind ≡ false) where

@@ -8,8 +8,11 @@ ghost use Rattle.rap_lexed.specs.CommonTokens.{TakesCommon};
 ghost use Rattle.rap_lexed.specs.OneLexing.{IsOnlyLexing};
 ghost use Rattle.rap_lexed.specs.SingleToken.{IsNotOneToken, IsOneToken};
 ghost use Rattle.rap_lexed.specs.Reported.{looks_open};
+ghost use Rattle.rap_lexed.specs.ErrorSteps.{error_steps};
+ghost use Rattle.rap_lexed.specs.StrSink.{HandsOut};
 ghost use Rattle.rap_lexed.specs.LexedStr.{joined, start_of, token_at, error_of, AreTokens, IsLexing};
 
+use crate::shortcuts::{StrSink, StrStep};
 pub use count::significant_tokens;
 use header::{find_header, push_header};
 use rap_base::edition::Edition;
@@ -356,6 +359,21 @@ impl<'a> LexedStr<'a> {
         Errors {
             rest: self.error.as_slice(),
         }
+    }
+
+    /// Passes all messages to a sink in the order of the tokens, each at the offset at which its token begins.
+    ///
+    /// No memory is allocated, except by the sink. The error is the sink's refusal of a message; it has accepted all
+    /// messages before.
+    pub fn report_errors<S: StrSink>(&self, sink: &mut S) -> Result<(), S::Refusal>
+        ensures { HandsOut S.takes S.refuses sink.old (error_steps self.now.tokens self.now.errors) result sink.new }
+    {
+        'errors: for error in &self.error {
+            let msg = error.message();
+            let pos = self.text_start(error.token());
+            sink.step(StrStep::Error { msg, pos })?;
+        }
+        Ok(())
     }
 }
 

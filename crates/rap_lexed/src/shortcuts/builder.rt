@@ -141,8 +141,31 @@ impl<'a, 'text> Builder<'a, 'text> {
     }
 
     /// Hands out the beginning of a node, and the trivia that stand here: its attached tail after it, and the others
-    /// before.
+    /// before. Most nodes begin where none stand.
     fn enter_between_trivias<S: StrSink>(
+        &mut self,
+        kind: SyntaxKind,
+        sink: &mut S,
+    ) -> Result<(), S::Refusal>
+        requires { self.old.pos ≤ length self.old.lexed.now.tokens }
+        ensures steps { HandsOut S.takes S.refuses sink.old (leaves_of (before_tail kind (trivia_at self.old.lexed.now.tokens self.old.pos)) ++ str_enter kind ∷ leaves_of (attached_tail kind (trivia_at self.old.lexed.now.tokens self.old.pos))) result sink.new }
+        ensures after { OnOk result (self.new ≡ record self.old { pos = past_trivia self.old.lexed.now.tokens self.old.pos }) }
+    {
+        if self.is_at_trivia() {
+            return self.enter_at_trivia(kind, sink);
+        }
+        sink.step(StrStep::Enter { kind })
+    }
+
+    /// Whether the next token is trivia.
+    fn is_at_trivia(&self) -> bool
+        ensures { IsTrue result ↔ (self.now.pos < past_trivia self.now.lexed.now.tokens self.now.pos) }
+    {
+        self.pos < self.lexed.len() && self.lexed.kind(self.pos).is_trivia()
+    }
+
+    /// The same for a node that begins where trivia stand.
+    fn enter_at_trivia<S: StrSink>(
         &mut self,
         kind: SyntaxKind,
         sink: &mut S,
