@@ -1,0 +1,85 @@
+//! Flat trees over a text.
+ghost use Rattle.std.specs.Prelude.{◌≡◌, IfOk, true, option_copied, slice_range};
+ghost use Rattle.std.specs.List.{slice_get};
+ghost use Rattle.rap_base.specs.declared.edition.Edition.{Edition};
+ghost use Rattle.rap_events.specs.Cover.{covers};
+ghost use Rattle.rap_events.specs.Forest.{one_tree, used};
+ghost use Rattle.rap_lexed.specs.Input.{records};
+ghost use Rattle.rap_lexed.specs.LexedStr.{joined};
+ghost use Rattle.rap_lexed.specs.Trivia.{significant, with_trivia};
+ghost use Rattle.rap_ranged.specs.Places.{IsPlace};
+ghost use Rattle.flat_tree.specs.Built.{IsFlat, IsOver};
+
+use crate::builder::Builder;
+use crate::element::Element;
+use rap_base::no_memory::NoMemory;
+use rap_events::output::Output;
+use rap_lexed::lexed_str::LexedStr;
+use std::alloc::Global;
+
+/// A tree over a text: the list of its nodes and leaves in preorder. It borrows the text.
+#[derive(Drop)]
+pub struct FlatTree<'t> {
+    text: &'t str,
+    elements: Vec<Element>,
+}
+
+impl<'t> FlatTree<'t> {
+    /// The tree of an output over a lexed text, with the trivia that the parser left out put back.
+    ///
+    /// It requires what [`LexedStr::intersperse_trivia`] requires, and has the nodes and leaves of that call, in order.
+    /// The first leaf begins at 0, each further one where the leaf before it ends, and each is as long as its text. A
+    /// node begins where the leaves before it end, and ends where its own last leaf ends; a node without a leaf is
+    /// empty. The output's messages are not kept. Room is made once, for as many elements as the output has steps and
+    /// the text has tokens. The error means out of memory.
+    pub fn build(
+        alloc: Global,
+        lexed: &LexedStr<'t>,
+        output: &Output,
+    ) -> Result<FlatTree<'t>, NoMemory>
+        requires tree { one_tree output.now ≡ true }
+        requires prefix { (edition : Edition) × (covers (records lexed.now.tokens edition) output.now ≡ true) }
+        ensures flat { IfOk result (λ tree. IsFlat (with_trivia lexed.now.tokens output.now) tree.elements.items) }
+        ensures text { IfOk result (λ tree. tree.text.now ≡ joined lexed.now.tokens) }
+        ensures whole { IfOk result (λ tree. used output.now ≡ significant lexed.now.tokens
+            → IsOver (joined lexed.now.tokens) (with_trivia lexed.now.tokens output.now) tree.elements.items) }
+    {
+        let room = output.iter().len().saturating_add(lexed.len());
+        let mut builder = Builder::with_room(alloc, room)?;
+        let _whole = lexed.intersperse_trivia(output, &mut builder)?;
+        Ok(FlatTree {
+            text: lexed.as_str(),
+            elements: builder.into_elements(),
+        })
+    }
+
+    /// The text that the tree is over.
+    pub fn text(&self) -> &'t str
+        ensures { result.now ≡ self.now.text.now }
+    {
+        self.text
+    }
+
+    /// The nodes and leaves in preorder.
+    pub fn elements(&self) -> &[Element]
+        ensures { result.now ≡ self.now.elements.items }
+    {
+        self.elements.as_slice()
+    }
+
+    /// The node or leaf with this index. `None` exactly of an index that none has.
+    pub fn element(&self, index: u32) -> Option<&Element>
+        ensures { option_copied result ≡ slice_get self.now.elements.items index }
+    {
+        self.elements.get(index as usize)
+    }
+
+    /// The text of a node or leaf: that of its range. No memory is allocated, and nothing is copied.
+    pub fn text_of(&self, element: &Element) -> &'t str
+        requires { IsPlace self.now.text.now element.now.start element.now.end }
+        ensures { result.now ≡ slice_range self.now.text.now element.now.start element.now.end }
+    {
+        let range = element.range();
+        &self.text[range.start..range.end]
+    }
+}
