@@ -20,7 +20,7 @@ pub record Found (root : RangedNode) (es : List Element) (i : ℕ) (e : Element)
   pub is : e ≡ row i stands.up value
 
 -- an element at an index, or none
-some_or_none : (es : List RangedElement) (i : ℕ) → i < length es → (x : RangedElement) × (slice_get es i ≡ Some x)
+pub some_or_none : (es : List RangedElement) (i : ℕ) → i < length es → (x : RangedElement) × (slice_get es i ≡ Some x)
 some_or_none [] i h = absurd (omega (arith, h))
 some_or_none (x ∷ xs) zero h = (x, refl)
 some_or_none (x ∷ xs) (suc i) h = some_or_none xs i (omega (arith, h))
@@ -79,7 +79,7 @@ tops_first (ranged_leaf before kind start end) first h = elim (cases_lt 0 (fores
 pub first_missing : (root : RangedNode) (es : List Element) (i : ℕ) → es ≡ elements_of_tree root → slice_get es i ≡ None → slice_get (child_indices root i) 0 ≡ None
 first_missing root es i is h = ap (λ o. slice_get (tops (i + 1) (inside o)) 0) (missing root es i is h).1
 
-reaches : (root : RangedNode) (es : List Element) (i : ℕ) (e : Element) (f : Found root es i e) → e.after ≡ i + 1 + forest_size (inside (Some f.value))
+pub reaches : (root : RangedNode) (es : List Element) (i : ℕ) (e : Element) (f : Found root es i e) → e.after ≡ i + 1 + forest_size (inside (Some f.value))
 reaches root es i e f = ap (λ (x : Element). x.after) f.is ∙ row_after i f.stands.up f.value
 
 pub first_none : (root : RangedNode) (es : List Element) (i : ℕ) (e : Element) → es ≡ elements_of_tree root → slice_get es i ≡ Some e → e.after ≤ i + 1

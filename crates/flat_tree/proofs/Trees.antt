@@ -28,6 +28,7 @@ over_of f s t text es one e h is whole =
     record {
       root = node.0;
       ranged = sym node.1;
+      elements = is ∙ (built f no_parent s t e h ∙ ap (elements 0 no_parent) node.1);
       start = place.0;
       end = place.1 ∙ ap length whole;
       places = subst P (sym (is ∙ built f no_parent s t e h)) (placed _ text 0 no_parent (places_of f text (texts_along (str_flat f) s t h) whole));

@@ -17,6 +17,7 @@ pub record IsFlat (f : StrForest) (es : List Element) : Type 0 where
 pub record IsOver (text : List ℕ) (f : StrForest) (es : List Element) : Type 0 where
   pub root : RangedNode
   pub ranged : Ranged f root
+  pub elements : es ≡ elements_of_tree root
   pub start : root.start ≡ 0
   pub end : root.end ≡ length text
   pub places : All (λ (e : Element). IsPlace text e.start e.end) es

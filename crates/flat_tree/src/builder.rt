@@ -39,6 +39,19 @@ fn narrow(number: usize) -> Result<u32, NoMemory>
 }
 
 impl Builder {
+    /// Nothing yet. Room for so many elements is made if there is memory for it; else the list grows as it is filled.
+    pub(crate) fn with_hint(alloc: Global, room: usize) -> Builder
+        ensures { building result ≡ record { elements = []; newest = NO_PARENT; at = 0 } }
+    {
+        let mut elements = Vec::new(alloc);
+        let _ = elements.reserve(room);
+        Builder {
+            elements,
+            newest: NO_PARENT,
+            at: 0,
+        }
+    }
+
     /// Nothing yet, with room for so many elements.
     pub(crate) fn with_room(alloc: Global, room: usize) -> Result<Builder, NoMemory>
         ensures { IfOk result (λ builder. building builder ≡ record { elements = []; newest = NO_PARENT; at = 0 }) }

@@ -6,9 +6,15 @@
 #![tactic(auto)]
 
 mod builder;
+mod collector;
+mod descendants;
 mod element;
 mod family;
+mod leaf_at;
+mod message;
+mod report;
 mod tree;
 
 pub use element::{Element, NO_PARENT};
+pub use message::Message;
 pub use tree::FlatTree;

@@ -1,5 +1,7 @@
 //! Flat trees over a text.
-ghost use Rattle.std.specs.Prelude.{◌≡◌, IfOk, true, option_copied, slice_range};
+ghost use Rattle.std.specs.Prelude.{◌≡◌, ◌<◌, ◌↔◌, [], Err, IfOk, true, length, option_copied, slice_range};
+ghost use Rattle.ra_ap_parser.specs.Headline.{HasTooManyTokens};
+ghost use Rattle.flat_tree.specs.TextTree.{IsFlatText};
 ghost use Rattle.std.specs.List.{slice_get};
 ghost use Rattle.rap_base.specs.declared.edition.Edition.{Edition};
 ghost use Rattle.rap_events.specs.Cover.{covers};
@@ -11,7 +13,11 @@ ghost use Rattle.rap_ranged.specs.Places.{IsPlace};
 ghost use Rattle.flat_tree.specs.Built.{IsFlat, IsOver};
 
 use crate::builder::Builder;
+use crate::collector::Collector;
 use crate::element::Element;
+use crate::message::Message;
+use crate::report::all_placed;
+use ra_ap_parser::{Edition, MAX_TEXT, TextFault, TopEntryPoint, parse_text};
 use rap_base::no_memory::NoMemory;
 use rap_events::output::Output;
 use rap_lexed::lexed_str::LexedStr;
@@ -22,6 +28,7 @@ use std::alloc::Global;
 pub struct FlatTree<'t> {
     text: &'t str,
     elements: Vec<Element>,
+    messages: Vec<Message>,
 }
 
 impl<'t> FlatTree<'t> {
@@ -41,6 +48,7 @@ impl<'t> FlatTree<'t> {
         requires prefix { (edition : Edition) × (covers (records lexed.now.tokens edition) output.now ≡ true) }
         ensures flat { IfOk result (λ tree. IsFlat (with_trivia lexed.now.tokens output.now) tree.elements.items) }
         ensures text { IfOk result (λ tree. tree.text.now ≡ joined lexed.now.tokens) }
+        ensures messages { IfOk result (λ tree. tree.messages.items ≡ []) }
         ensures whole { IfOk result (λ tree. used output.now ≡ significant lexed.now.tokens
             → IsOver (joined lexed.now.tokens) (with_trivia lexed.now.tokens output.now) tree.elements.items) }
     {
@@ -50,7 +58,52 @@ impl<'t> FlatTree<'t> {
         Ok(FlatTree {
             text: lexed.as_str(),
             elements: builder.into_elements(),
+            messages: Vec::new(alloc),
         })
+    }
+
+    /// The tree of a text: the text is divided into tokens, and parsed from the entry point. The tree keeps the messages.
+    ///
+    /// The errors are those of [`parse_text`]; if the list or a message is out of memory, the error is `Refused`.
+    pub fn of_text(
+        alloc: Global,
+        edition: Edition,
+        entry: TopEntryPoint,
+        text: &'t str,
+    ) -> Result<FlatTree<'t>, TextFault<NoMemory>>
+        ensures tree { IfOk result (λ tree. IsFlatText text.now edition entry tree.elements.items tree.messages.items) }
+        ensures text { IfOk result (λ tree. tree.text.now ≡ text.now) }
+        ensures too_long { (result ≡ Err TextFault.TextTooLong) ↔ (MAX_TEXT < length text.now) }
+        ensures too_many { (result ≡ Err TextFault.TooManyTokens) ↔ HasTooManyTokens text.now edition }
+    {
+        let mut collector = Collector::with_hint(alloc, text.len() / 2);
+        let parsed = parse_text(alloc, edition, entry, text, &mut collector)?;
+        let Ok(()) = collector.keep_errors_of(&parsed.lexed) else {
+            return Err(TextFault::Refused(NoMemory));
+        };
+        let Collector {
+            builder,
+            reports,
+            ..
+        } = collector;
+        let elements = builder.into_elements();
+        match all_placed(alloc, reports, elements.as_slice()) {
+            Ok(messages) => Ok(FlatTree {
+                text,
+                elements,
+                messages,
+            }),
+            Err(NoMemory) => Err(TextFault::Refused(NoMemory)),
+        }
+    }
+
+    /// The messages: none after [`FlatTree::build`]; after [`FlatTree::of_text`] those of the parser in the order of the
+    /// tree, and after them those of the lexer in the order of their tokens, each with the range of the leaf at which it
+    /// is.
+    pub fn messages(&self) -> &[Message]
+        ensures { result.now ≡ self.now.messages.items }
+    {
+        self.messages.as_slice()
     }
 
     /// The text that the tree is over.
