@@ -14,7 +14,7 @@ use Rattle.syntax_tree.specs.Leaves.{RangedLeaf, leaves_of, has_byte, leaf_of_by
 use Rattle.syntax_tree.specs.RangedForest.{RangedForest, RangedNode, ranged_none, forest_size}
 use Rattle.syntax_tree.specs.declared.node.Child.{Child}
 use Rattle.syntax_tree.specs.declared.node.Child.TheVariants.{Node as a_node, Leaf as a_leaf}
-use Rattle.syntax_tree.proofs.InRowLemmas.{rises, byte_after, byte_inside}
+use Rattle.rap_ranged.proofs.InRowLemmas.{rises, byte_after, byte_inside}
 
 -- a child alone
 abbrev pub only : Child → RangedForest

@@ -18,9 +18,10 @@ use Rattle.syntax_tree.specs.RangedMessages.{RangedMessage, ranged_message}
 use Rattle.syntax_tree.specs.TextTree.{IsTextTree}
 use Rattle.syntax_tree.specs.Reports.{ReportValue, reports_of_step, reports_of, lexer_reports}
 use Rattle.syntax_tree.specs.declared.collector.Collector.{Collector}
-use Rattle.syntax_tree.proofs.Runs.{held, built, one_node, root_place}
+use Rattle.rap_ranged.proofs.Roots.{one_node, root_place}
+use Rattle.syntax_tree.proofs.Runs.{held, built}
 use Rattle.syntax_tree.proofs.Texts.{places_of}
-use Rattle.syntax_tree.proofs.TreeRows.{root_row}
+use Rattle.rap_ranged.proofs.TreeRows.{root_row}
 
 pub builds_along : (steps : List StrStepValue) (s t : Collector) → Takes Collects s steps t → Takes Builds s.builder steps t.builder
 builds_along [] s t h = ap (λ (c : Collector). c.builder) h

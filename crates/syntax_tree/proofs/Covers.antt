@@ -17,7 +17,7 @@ use Rattle.syntax_tree.specs.ChildSizes.{size-with_children}
 use Rattle.syntax_tree.specs.declared.node.Child.{Child}
 use Rattle.syntax_tree.specs.declared.node.Child.TheVariants.{Node as a_node, Leaf as a_leaf}
 use Rattle.syntax_tree.proofs.ChildRows.{only, Follow, follow, child_smaller}
-use Rattle.syntax_tree.proofs.InRowLemmas.{rises}
+use Rattle.rap_ranged.proofs.InRowLemmas.{rises}
 use Rattle.syntax_tree.proofs.Walks.{elements-first}
 
 -- two places and a range

@@ -7,8 +7,8 @@ use Rattle.syntax_tree.specs.InRow.{InRow}
 use Rattle.syntax_tree.specs.Leaves.{RangedLeaf, leaves_of}
 use Rattle.syntax_tree.specs.Ranged.{end_from}
 use Rattle.syntax_tree.specs.RangedForest.{RangedForest, RangedNode, ranged_none, ranged_node, ranged_leaf, alone}
-use Rattle.syntax_tree.proofs.InRowLemmas.{rises}
-use Rattle.syntax_tree.proofs.TreeRows.{ranged_row}
+use Rattle.rap_ranged.proofs.InRowLemmas.{rises}
+use Rattle.rap_ranged.proofs.TreeRows.{ranged_row}
 
 leaf_inside : (s e a b : ℕ) → s ≤ a → b ≤ e → ((nat_le s a && nat_le b e) && nat_lt a b) ≡ nat_lt a b
 leaf_inside s e a b p q = grind (arith, nat_tests)

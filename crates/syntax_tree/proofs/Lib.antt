@@ -3,12 +3,10 @@ pub mod ChildRows
 pub mod Collected
 pub mod Covers
 pub mod Frames
-pub mod InRowLemmas
 pub mod LeafPlaces
 pub mod LeavesInRange
 pub mod NodeLists
 pub mod Runs
 pub mod Texts
-pub mod TreeRows
 pub mod Weights
 pub mod Walks

@@ -1,8 +1,9 @@
 -- A tree as far as its steps have come.
 -- (What calls promise one another; no promise of the library rests on it.)
-use Rattle.std.specs.Prelude.{◌≡◌, ℕ, ◌+◌, ◌-◌, List, [], ◌∷◌, length, take, drop, reverse, IsUtf8}
+use Rattle.std.specs.Prelude.{◌≡◌, ℕ, ◌+◌, ◌-◌, List, [], ◌∷◌, length, take, drop, reverse}
 use Rattle.rap_lexed.specs.StrStep.{StrStepValue, str_enter, str_exit, str_token, str_error}
 use Rattle.syntax_tree.specs.Children.{children_of}
+use Rattle.syntax_tree.specs.StepTexts.{IsText}
 use Rattle.syntax_tree.specs.RangedForest.{RangedForest, ranged_none, ranged_node, ranged_leaf}
 use Rattle.syntax_tree.specs.declared.builder.Builder.{Builder}
 use Rattle.syntax_tree.specs.declared.builder.Open.{Open}
@@ -58,13 +59,6 @@ building b =
       forest = newest_of (reverse b.open.items) b.inside b.children.items;
       at = b.at;
     }
-
--- a token's bytes are text
-abbrev pub IsText : StrStepValue → Type 0
-IsText (str_enter kind) = Unit {0}
-IsText str_exit = Unit {0}
-IsText (str_token kind text) = IsUtf8 text
-IsText (str_error bytes pos) = Unit {0}
 
 -- a builder takes a step
 pub record Builds (old : Builder) (step : StrStepValue) (new : Builder) : Type 0 where

@@ -1,6 +1,7 @@
 //! A node or a leaf.
 ghost use Rattle.std.specs.Prelude.{◌≡◌};
-ghost use Rattle.syntax_tree.specs.Covering.{element_kind, element_start, element_end, shown};
+ghost use Rattle.syntax_tree.specs.Covering.{element_kind, element_start, element_end};
+ghost use Rattle.syntax_tree.specs.Shown.{shown};
 
 use crate::leaf::Leaf;
 use crate::node::Node;

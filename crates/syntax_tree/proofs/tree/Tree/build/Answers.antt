@@ -5,7 +5,8 @@ use Rattle.rap_lexed.specs.Trivia.{with_trivia}
 use Rattle.syntax_tree.proofs.Texts.{places_of}
 use Rattle.syntax_tree.specs.Places.{HavePlaces}
 use Rattle.syntax_tree.specs.RangedForest.{RangedForest}
-use Rattle.syntax_tree.proofs.Runs.{built, one_node, root_place}
+use Rattle.rap_ranged.proofs.Roots.{one_node, root_place}
+use Rattle.syntax_tree.proofs.Runs.{built}
 use Rattle.syntax_tree.specs.Ranged.{Ranged}
 use Rattle.syntax_tree.proofs.tree.Tree.build.Goals as goal
 

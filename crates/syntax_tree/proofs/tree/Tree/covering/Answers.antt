@@ -1,9 +1,10 @@
 use Rattle.std.proofs.Common.{◌≤◌, ◌<◌, ap, arith, subst, sym, ◌∙◌}
-use Rattle.syntax_tree.specs.Covering.{shown, smallest_holding}
+use Rattle.syntax_tree.specs.Covering.{smallest_holding}
+use Rattle.syntax_tree.specs.Shown.{shown}
 use Rattle.syntax_tree.specs.Ranged.{Ranged}
 use Rattle.syntax_tree.specs.RangedForest.{RangedNode, alone}
 use Rattle.syntax_tree.proofs.Covers.{from_root, beside_root}
-use Rattle.syntax_tree.proofs.TreeRows.{root_row}
+use Rattle.rap_ranged.proofs.TreeRows.{root_row}
 use Rattle.syntax_tree.proofs.tree.Tree.covering.Goals as goal
 
 pub returns-then-range-clause-element : goal.returns-then-range-clause-element

@@ -2,7 +2,7 @@ use Rattle.std.proofs.Common.{ap, arith, subst, sym, ◌∙◌}
 use Rattle.syntax_tree.specs.Leaves.{leaf_of_byte}
 use Rattle.syntax_tree.specs.Ranged.{Ranged}
 use Rattle.syntax_tree.specs.RangedForest.{RangedNode}
-use Rattle.syntax_tree.proofs.TreeRows.{root_row, none_from_end}
+use Rattle.rap_ranged.proofs.TreeRows.{root_row, none_from_end}
 use Rattle.syntax_tree.proofs.tree.Tree.leaf_at.Goals as goal
 
 pub leaf_below-requires : goal.leaf_below-requires

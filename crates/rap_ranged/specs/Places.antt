@@ -1,6 +1,6 @@
 -- Character boundaries.
 use Rattle.std.specs.Prelude.{ℕ, ◌≤◌, List, IsCharBoundary}
-use Rattle.syntax_tree.specs.RangedForest.{RangedForest, ranged_none, ranged_node, ranged_leaf}
+use Rattle.rap_ranged.specs.RangedForest.{RangedForest, ranged_none, ranged_node, ranged_leaf}
 
 -- from one character boundary of the text to another that is not before it
 pub record IsPlace (text : List ℕ) (start end : ℕ) : Type 0 where

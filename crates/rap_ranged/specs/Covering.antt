@@ -1,10 +1,8 @@
 -- The smallest node or leaf that holds a range.
 use Rattle.std.specs.Prelude.{Bool, ◌&&◌, ℕ, Option, nat_le, reverse}
 use Rattle.std.specs.List.{find}
-use Rattle.syntax_tree.specs.Elements.{RangedElement, node_element, leaf_element, elements_of}
-use Rattle.syntax_tree.specs.RangedForest.{RangedForest}
-use Rattle.syntax_tree.specs.declared.element.Element.{Element}
-use Rattle.syntax_tree.specs.declared.element.Element.TheVariants.{Node as whole_node, Leaf as whole_leaf}
+use Rattle.rap_ranged.specs.Elements.{RangedElement, node_element, leaf_element, elements_of}
+use Rattle.rap_ranged.specs.RangedForest.{RangedForest}
 
 -- the kind of a node or a leaf, and the bytes of the text at which it begins and ends
 abbrev pub element_kind : RangedElement → ℕ
@@ -26,8 +24,3 @@ holds start end e = nat_le (element_start e) start && nat_le end (element_end e)
 -- Of the nodes and leaves of a forest that hold the range, the last one in preorder: none of the others is inside it.
 abbrev pub smallest_holding : ℕ → ℕ → RangedForest → Option RangedElement
 smallest_holding start end f = find (holds start end) (reverse (elements_of f))
-
--- the value that is returned, as contracts see it
-abbrev pub shown : Element → RangedElement
-shown (whole_node n) = node_element n.now
-shown (whole_leaf l) = leaf_element l

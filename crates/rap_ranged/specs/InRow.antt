@@ -1,7 +1,7 @@
 -- Forests whose places follow one another.
 -- (Used in contracts between internal functions only; no public contract rests on it.)
 use Rattle.std.specs.Prelude.{◌≡◌, ℕ, ◌≤◌}
-use Rattle.syntax_tree.specs.RangedForest.{RangedForest, ranged_none, ranged_node, ranged_leaf}
+use Rattle.rap_ranged.specs.RangedForest.{RangedForest, ranged_none, ranged_node, ranged_leaf}
 
 -- each node and leaf begins where the one before it ends, from one place to another, and so does what stands in a node
 abbrev pub InRow : ℕ → RangedForest → ℕ → Type 0

@@ -1,7 +1,7 @@
 -- The places of nodes and leaves.
 use Rattle.std.specs.Prelude.{◌≡◌, ℕ, ◌+◌, length}
 use Rattle.rap_lexed.specs.StrForest.{StrForest, str_none, str_node, str_leaf, str_message, str_joined}
-use Rattle.syntax_tree.specs.RangedForest.{RangedForest, RangedNode, ranged_none, ranged_node, ranged_leaf, alone}
+use Rattle.rap_ranged.specs.RangedForest.{RangedForest, RangedNode, ranged_none, ranged_node, ranged_leaf, alone}
 
 -- where the last leaf of a forest ends that begins at a place
 abbrev pub end_from : ℕ → StrForest → ℕ

@@ -1,7 +1,7 @@
 -- The leaves of a forest.
 use Rattle.std.specs.Prelude.{Bool, ◌&&◌, ℕ, List, [], ◌∷◌, ◌++◌, Option, nat_le, nat_lt}
 use Rattle.std.specs.List.{find}
-use Rattle.syntax_tree.specs.RangedForest.{RangedForest, ranged_none, ranged_node, ranged_leaf}
+use Rattle.rap_ranged.specs.RangedForest.{RangedForest, ranged_none, ranged_node, ranged_leaf}
 
 -- A leaf: its kind, and the bytes of the text at which it begins and ends.
 pub record RangedLeaf : Type 0 where

@@ -1,8 +1,8 @@
 -- Messages with their places in a tree.
 use Rattle.std.specs.Prelude.{ℕ, List, Option, Some, None}
-use Rattle.syntax_tree.specs.Leaves.{RangedLeaf, leaf_of_byte}
-use Rattle.syntax_tree.specs.RangedForest.{RangedForest}
-use Rattle.syntax_tree.specs.Reports.{ReportValue}
+use Rattle.rap_ranged.specs.Leaves.{RangedLeaf, leaf_of_byte}
+use Rattle.rap_ranged.specs.RangedForest.{RangedForest}
+use Rattle.rap_ranged.specs.Reports.{ReportValue}
 
 -- a message: the bytes of its text, its position in bytes, and the bytes at which the leaf there
 -- begins and ends

@@ -1,7 +1,7 @@
 -- The nodes and leaves of a forest, each before those inside it.
 use Rattle.std.specs.Prelude.{List, [], ◌∷◌, ◌++◌}
-use Rattle.syntax_tree.specs.Leaves.{RangedLeaf}
-use Rattle.syntax_tree.specs.RangedForest.{RangedForest, RangedNode, ranged_none, ranged_node, ranged_leaf}
+use Rattle.rap_ranged.specs.Leaves.{RangedLeaf}
+use Rattle.rap_ranged.specs.RangedForest.{RangedForest, RangedNode, ranged_none, ranged_node, ranged_leaf}
 
 -- a node or a leaf
 pub data RangedElement : Type 0 where

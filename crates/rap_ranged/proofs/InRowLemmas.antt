@@ -4,9 +4,9 @@ use Rattle.std.specs.List.{find}
 use Rattle.std.specs.Option.{option_or}
 use Rattle.std.proofs.lemmas.Bool.{cases_lt, lt-ltb, le-ltb, le-leb}
 use Rattle.std.proofs.lemmas.List.Folds.{find-append}
-use Rattle.syntax_tree.specs.InRow.{InRow}
-use Rattle.syntax_tree.specs.Leaves.{RangedLeaf, leaves_of, has_byte, leaf_of_byte}
-use Rattle.syntax_tree.specs.RangedForest.{RangedForest, ranged_none, ranged_node, ranged_leaf}
+use Rattle.rap_ranged.specs.InRow.{InRow}
+use Rattle.rap_ranged.specs.Leaves.{RangedLeaf, leaves_of, has_byte, leaf_of_byte}
+use Rattle.rap_ranged.specs.RangedForest.{RangedForest, ranged_none, ranged_node, ranged_leaf}
 
 pub rises : (f : RangedForest) (a b : ℕ) → InRow a f b → a ≤ b
 rises ranged_none a b h = omega (arith, h)

@@ -2,11 +2,11 @@
 use Rattle.std.proofs.Common.{◌≡◌, ℕ, ◌+◌, ◌≤◌, ◌↔◌, List, ◌++◌, Option, Some, None, length, length-append, add-zero, subst, sym, ◌∙◌, arith, inl, inr}
 use Rattle.rap_lexed.specs.StrForest.{StrForest, str_none, str_node, str_leaf, str_message, str_joined}
 use Rattle.std.proofs.lemmas.Bool.{cases_lt}
-use Rattle.syntax_tree.specs.InRow.{InRow}
-use Rattle.syntax_tree.specs.Leaves.{RangedLeaf, leaf_of_byte}
-use Rattle.syntax_tree.specs.Ranged.{Ranged, end_from, ranged}
-use Rattle.syntax_tree.specs.RangedForest.{RangedForest, RangedNode}
-use Rattle.syntax_tree.proofs.InRowLemmas.{byte_after, byte_inside}
+use Rattle.rap_ranged.specs.InRow.{InRow}
+use Rattle.rap_ranged.specs.Leaves.{RangedLeaf, leaf_of_byte}
+use Rattle.rap_ranged.specs.Ranged.{Ranged, end_from, ranged}
+use Rattle.rap_ranged.specs.RangedForest.{RangedForest, RangedNode}
+use Rattle.rap_ranged.proofs.InRowLemmas.{byte_after, byte_inside}
 
 end_of_both : (at : ℕ) (xs ys : List ℕ) → (at + length xs) + length ys ≡ at + length (xs ++ ys)
 end_of_both at xs ys = omega (arith, length-append xs ys)

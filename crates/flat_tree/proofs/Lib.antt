@@ -1,0 +1,11 @@
+pub mod ByteLeaves
+pub mod Bytes
+pub mod Collected
+pub mod Cuts
+pub mod Kin
+pub mod Links
+pub mod Messages
+pub mod Placed
+pub mod Rows
+pub mod Runs
+pub mod Trees

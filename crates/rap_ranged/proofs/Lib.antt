@@ -1,0 +1,4 @@
+pub mod InRowLemmas
+pub mod Roots
+pub mod Texts
+pub mod TreeRows

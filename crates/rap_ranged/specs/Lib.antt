@@ -1,0 +1,10 @@
+pub mod Covering
+pub mod Elements
+pub mod InRow
+pub mod Leaves
+pub mod Places
+pub mod Ranged
+pub mod RangedForest
+pub mod RangedMessages
+pub mod Reports
+pub mod StepTexts

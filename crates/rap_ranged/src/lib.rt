@@ -1,0 +1,3 @@
+//! Ranged trees: what the steps of a tree over a text say, with the bytes at which each node and each leaf begins and
+//! ends. The definitions stand in `specs/`, and what follows of the places in `proofs/`. There is no code.
+#![tactic(auto)]
