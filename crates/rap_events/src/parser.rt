@@ -26,7 +26,8 @@ use std::snapshot::Snapshot;
 
 mod composite;
 
-use composite::{at_place, width_of};
+use composite::at_place;
+pub use composite::width_of;
 
 /// The number of messages that a word can tell apart.
 const MAX_MESSAGES: usize = 1 << 31;
