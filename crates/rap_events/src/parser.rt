@@ -27,7 +27,8 @@ use std::snapshot::Snapshot;
 
 mod composite;
 
-use composite::{at_place, width_of};
+use composite::at_place;
+pub use composite::width_of;
 
 /// How many messages a word can number.
 const MESSAGE_NUMBERS: usize = 1 << 31;

@@ -3,7 +3,6 @@ ghost use Rattle.std.specs.Prelude.{◌≡◌, ◌+◌, ◌≤◌, length, map, 
 ghost use Rattle.rap_base.specs.Keyword.{is_keyword};
 ghost use Rattle.rap_base.specs.TokenKind.{FLOAT_NUMBER, IDENT};
 ghost use Rattle.rap_base.specs.declared.edition.Edition.TheVariants.{Edition2024};
-ghost use Rattle.rap_events.specs.Composite.{parts};
 ghost use Rattle.rap_events.specs.Cover.{covers, first_may_bear, first_splits, of_tokens, stand, stands, widths};
 ghost use Rattle.rap_events.specs.Forest.{flat, used};
 ghost use Rattle.rap_events.specs.Reading.{forest_of};
@@ -14,7 +13,7 @@ use rap_base::edition::Edition;
 use rap_base::syntax_kind::SyntaxKind;
 use rap_events::input::Input;
 use rap_events::output::Step;
-use rap_events::parser::Parser;
+use rap_events::parser::{Parser, width_of};
 use std::alloc::Global;
 
 /// Returns the number of input tokens in the leaves of a forest; `None` if they do not match the first tokens of
@@ -78,7 +77,7 @@ fn token_matches(
     if n_input_tokens == 0 {
         return false;
     }
-    if n_input_tokens != operator_len(kind) {
+    if n_input_tokens != width_of(kind) {
         return false;
     }
     Parser::new(alloc, input).nth_at(place, kind)
@@ -118,34 +117,4 @@ fn is_split(kind: SyntaxKind, joint: bool, ends_in_dot: bool) -> bool
     ensures { result ≡ ((kind == FLOAT_NUMBER) && (if joint then not ends_in_dot else ends_in_dot)) }
 {
     kind == SyntaxKind::FLOAT_NUMBER && joint != ends_in_dot
-}
-
-/// The number of tokens of an operator; 0 for any other kind.
-fn operator_len(kind: SyntaxKind) -> u8
-    ensures { result ≡ length (parts kind) }
-{
-    match kind {
-        SyntaxKind::DOT3 | SyntaxKind::DOT2EQ | SyntaxKind::SHLEQ | SyntaxKind::SHREQ => 3,
-        SyntaxKind::DOT2
-        | SyntaxKind::COLON2
-        | SyntaxKind::EQ2
-        | SyntaxKind::FAT_ARROW
-        | SyntaxKind::NEQ
-        | SyntaxKind::THIN_ARROW
-        | SyntaxKind::LTEQ
-        | SyntaxKind::GTEQ
-        | SyntaxKind::PLUSEQ
-        | SyntaxKind::MINUSEQ
-        | SyntaxKind::PIPEEQ
-        | SyntaxKind::AMPEQ
-        | SyntaxKind::CARETEQ
-        | SyntaxKind::SLASHEQ
-        | SyntaxKind::STAREQ
-        | SyntaxKind::PERCENTEQ
-        | SyntaxKind::AMP2
-        | SyntaxKind::PIPE2
-        | SyntaxKind::SHL
-        | SyntaxKind::SHR => 2,
-        _ => 0,
-    }
 }

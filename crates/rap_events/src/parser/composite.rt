@@ -6,8 +6,8 @@ ghost use Rattle.rap_events.specs.Composite.{begins_with, touches_next, is_at, w
 use crate::input::Input;
 use rap_base::syntax_kind::SyntaxKind;
 
-/// How many tokens a token of this kind is written with.
-pub(super) fn width_of(kind: SyntaxKind) -> u8
+/// Returns how many tokens a token of this kind is written with: two or three for an operator of so many, and else one.
+pub fn width_of(kind: SyntaxKind) -> u8
     ensures { result ≡ width kind }
 {
     match kind {
