@@ -8,6 +8,10 @@
  *     struct rap_answer answer = rap_tree(text, length, 2024, RAP_SOURCE_FILE, steps, room, messages, message_room);
  *     if (answer.status == RAP_OK && answer.steps > room) ...       more room is needed, and the call is made again
  *
+ * RAP_OK says that the text was parsed, and not that all steps are in the array: with a room for fewer steps the status
+ * is RAP_OK too, the array has the first of them, and `steps` is the number of all. The same is true of the bytes of
+ * messages. A call on the same text with more room returns the same numbers.
+ *
  * The tokens of a macro expander are in no text. They are parsed as records, by rap_parse, rap_parse_prefix and
  * rap_parse_node. For a text, rap_records, rap_parse and rap_weave, each called with the results of the one before it,
  * return together what rap_tree returns in one call, except the lexer's messages.
@@ -107,7 +111,13 @@ struct rap_part {
     size_t end;
 };
 
-/* Statuses. */
+/* Statuses. Where more than one applies, a call returns the first of those that it lists. One exception: a call may
+ * run out of memory before it finds another fault, and then returns RAP_NO_MEMORY in place of it. So may rap_prefix in
+ * place of RAP_TOO_MANY_TOKENS; rap_reparse in place of RAP_NO_BRACE and RAP_TOO_MANY_TOKENS; rap_parse and
+ * rap_parse_prefix in place of RAP_NO_RECORD and RAP_TOO_MANY_TOKENS; rap_parse_node in place of these two and
+ * RAP_NO_BRACE; rap_weave in place of RAP_NO_STEPS; and rap_script in place of RAP_NO_SCRIPT. No other call returns it
+ * where another of these applies.
+ */
 enum rap_status {
     RAP_OK = 0,              /* the steps are those of one tree, or of a text's tokens */
     RAP_NO_TREE = 1,         /* the steps are those of an output that is no tree, or several */
@@ -116,7 +126,7 @@ enum rap_status {
     RAP_NOT_UTF8 = 4,        /* the bytes are no UTF-8 */
     RAP_TEXT_TOO_LONG = 5,   /* the text has more than 4,294,967,295 bytes */
     RAP_TOO_MANY_TOKENS = 6, /* there are more than 8,388,607 tokens that are no trivia */
-    RAP_NO_MEMORY = 7,       /* out of memory; all calls but rap_tree may return it in place of another fault */
+    RAP_NO_MEMORY = 7,       /* out of memory */
     RAP_NO_NODE = 8,         /* such a node is not parsed again alone */
     RAP_NO_BRACE = 9,        /* the node must begin with a `{`, and the text or the records do not */
     RAP_NO_RECORD = 10,      /* one of the records is no token's */
@@ -210,8 +220,8 @@ struct rap_answer rap_tokens(const uint8_t *text, size_t text_length, uint32_t e
  * tokens. Otherwise the status is RAP_NO_TREE, and places count the text's tokens that are no trivia: those of
  * rap_tokens, except WHITESPACE and COMMENT. The lexer's messages are not among the steps.
  * `used` is the end of the last token that was taken; the text after it is not parsed.
- * Else the status is RAP_NO_EDITION, RAP_NO_ENTRY, RAP_NOT_UTF8, RAP_TEXT_TOO_LONG, RAP_TOO_MANY_TOKENS or
- * RAP_NO_MEMORY.
+ * On a fault the status is RAP_NO_EDITION, RAP_NO_ENTRY, RAP_NOT_UTF8, RAP_TEXT_TOO_LONG, RAP_TOO_MANY_TOKENS or
+ * RAP_NO_MEMORY; the first of them that applies.
  */
 struct rap_answer rap_prefix(const uint8_t *text, size_t text_length, uint32_t edition, uint32_t entry,
                              struct rap_step *steps, size_t step_room, uint8_t *messages, size_t message_room);
@@ -220,7 +230,8 @@ struct rap_answer rap_prefix(const uint8_t *text, size_t text_length, uint32_t e
  * `first_child`, `parent`: those of the first thing in it and of the node around it, or RAP_NO_KIND.
  * The result is as that of rap_prefix. The status is RAP_NO_NODE if such a node is not parsed again alone, and
  * RAP_NO_BRACE if it must begin with a `{` and the text does not; for a block, the missing brace is reported as a
- * message instead.
+ * message instead. On a fault the status is RAP_NO_EDITION, RAP_NO_NODE, RAP_NOT_UTF8, RAP_TEXT_TOO_LONG, RAP_NO_BRACE,
+ * RAP_TOO_MANY_TOKENS or RAP_NO_MEMORY; the first of them that applies.
  *
  * The new node may replace the old one, with no other change of the tree, if all of this holds:
  * 1. The status is not RAP_NO_NODE, and the old node's first token was `{`.
@@ -256,8 +267,8 @@ struct rap_answer rap_records(const uint8_t *text, size_t text_length, uint32_t 
 
 /* Parses the records as a whole. `records`, `record_count`: the tokens, in order. `entry`: one of enum rap_entry.
  * The steps are those of the output, one tree over all records, in which places count records, from 0 on, and with no
- * trivia. A leaf has the records from `start` to `end`: two or three of them make one operator. A RAP_SPLIT has one
- * record. A message is before the record at its place.
+ * trivia. So the status is never RAP_NO_TREE. A leaf has the records from `start` to `end`: two or three of them make
+ * one operator. A RAP_SPLIT has one record. A message is before the record at its place.
  * Status: RAP_OK, RAP_NO_ENTRY, RAP_NO_RECORD, RAP_TOO_MANY_TOKENS, RAP_NO_MEMORY; the first of them that applies. `used`
  * is the number of records.
  */
@@ -290,8 +301,10 @@ struct rap_answer rap_parse_node(const struct rap_record *records, size_t record
  * RAP_TOKEN, the number of tokens; and `start` and `end` at RAP_MESSAGE. They must be those of one tree, with nothing
  * beside it, whose leaves match the first tokens of the text that are no trivia, one after another: each token
  * under its own kind, an identifier as its contextual kind, a keyword as an identifier, or the two or three of an
- * operator; a RAP_SPLIT at a float, in the last place of as many FIELD_EXPR nodes as it ends, and in another node.
- * Messages must be UTF-8.
+ * operator; a RAP_SPLIT at a float, last in as many FIELD_EXPR nodes as it ends: in one where the float ends in a dot,
+ * and else in one that is itself last in another. Where the float ends in a dot, that FIELD_EXPR stands in another node,
+ * which then has the dot as a leaf after it. Where it does not, the outer of the two may be the root. Messages must be
+ * UTF-8.
  * Status: RAP_OK, RAP_NO_EDITION, RAP_NOT_UTF8, RAP_TEXT_TOO_LONG, RAP_NO_STEPS, RAP_NO_MEMORY; the first of them that
  * applies.
  * `used` is the end of the last token of the tree. Trivia after it are in the tree. The last step's `at` is the length

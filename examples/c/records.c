@@ -182,6 +182,27 @@ static void test_nodes(void) {
     expect(a.status == RAP_NO_RECORD, "a list with the end in it");
 }
 
+/* More records than a parse accepts: what is tested first is returned. */
+static void test_too_many(void) {
+    const size_t count = 8388608;
+    struct rap_record *records = room(count, sizeof *records), name = record("IDENT", 0);
+    struct rap_step step;
+    uint8_t byte;
+    uint32_t list = kind("MATCH_ARM_LIST");
+    for (size_t i = 0; i < count; i++) records[i] = name;
+    struct rap_answer a = rap_parse_node(records, count, list, RAP_NO_KIND, RAP_NO_KIND, &step, 0, &byte, 0);
+    expect(a.status == RAP_NO_BRACE, "too many records and no brace");
+    records[0].kind = kind("L_CURLY"), records[0].contextual_kind = RAP_EOF;
+    a = rap_parse_node(records, count, list, RAP_NO_KIND, RAP_NO_KIND, &step, 0, &byte, 0);
+    expect(a.status == RAP_TOO_MANY_TOKENS, "too many records in braces");
+    a = rap_parse(records, count, RAP_EXPR, &step, 0, &byte, 0);
+    expect(a.status == RAP_TOO_MANY_TOKENS && a.steps == 0 && a.used == 0, "too many records");
+    records[count - 1].joint = 2;
+    a = rap_parse_node(records, count, list, RAP_NO_KIND, RAP_NO_KIND, &step, 0, &byte, 0);
+    expect(a.status == RAP_NO_RECORD, "too many records, and one that is none");
+    free(records);
+}
+
 /* Nothing is believed of a step. */
 static void test_no_steps(void) {
     static const char text[] = "/* */ x.0.1 ; ";
@@ -285,6 +306,7 @@ int main(int count, char **words) {
     test_pushed();
     test_no_records();
     test_nodes();
+    test_too_many();
     test_no_steps();
     test_no_messages();
     for (size_t i = 0; i < sizeof texts / sizeof *texts; i++)

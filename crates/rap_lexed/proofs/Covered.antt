@@ -1,8 +1,8 @@
 -- What follows where a forest covers the records of a text.
-use Rattle.std.proofs.Common.{◌≡◌, refl, sym, ◌∙◌, ap, subst, List, [], ◌∷◌, ◌++◌, ℕ, Bool, inl, inr, ◌+◌, ◌<◌, ◌≤◌, true, false, append_assoc, append-nil, length, drop, arith}
+use Rattle.std.proofs.Common.{◌≡◌, refl, sym, ◌∙◌, ap, subst, List, [], ◌∷◌, ◌++◌, ℕ, Bool, inl, inr, ◌+◌, ◌<◌, ◌≤◌, true, false, append_assoc, append-nil, length, take, drop, zero, suc, zero-add, arith}
 use Rattle.std.specs.List.{prefix_len}
-use Rattle.std.proofs.lemmas.Bool.{and_parts, cases_Bool}
-use Rattle.std.proofs.lemmas.List.{drop-drop, drop_all, length-drop}
+use Rattle.std.proofs.lemmas.Bool.{and_parts, cases_Bool, cond-true, cond-false}
+use Rattle.std.proofs.lemmas.List.{drop-drop, drop_all, length-drop, take_all}
 use Rattle.std.proofs.lemmas.List.Sums.{prefix_len-le-length}
 use Rattle.rap_base.specs.declared.edition.Edition.{Edition}
 use Rattle.rap_events.specs.StepValue.{StepValue, enter, exit, token, float_split, error}
@@ -15,11 +15,11 @@ use Rattle.rap_lexed.specs.StrForest.{StrForest, str_none, str_node, with_leaves
 use Rattle.rap_lexed.specs.Input.{ends_with_dot, records}
 use Rattle.rap_lexed.specs.Builder.{after_float}
 use Rattle.rap_lexed.specs.Attached.{attached_tail, before_tail}
-use Rattle.rap_lexed.specs.Trivia.{is_trivial, is_significant, significant, trivia_at, past_trivia, text_of, end_of, placed, LeavesTouch, TreeTouches}
+use Rattle.rap_lexed.specs.Trivia.{is_trivial, is_significant, front_of, significant, trivia_at, past_trivia, text_of, end_of, placed, LeavesTouch, TreeTouches}
 use Rattle.rap_lexed.proofs.Joined.{tree_end, after_node-plain}
 use Rattle.rap_events.proofs.Trees.{Tree, nothing, a_node, a_leaf, a_message, dotted, apart}
 use Rattle.rap_lexed.proofs.Emitted.{Fits, state_of, place-enter, state_of-with_message, flat-node, flat-dotted, flat-half, flat-apart}
-use Rattle.rap_lexed.proofs.Records.{records-past, significant-past, IsPast, past-is-past, records-drop, significant-drop, leaf-touches, float-touches, prefix-yes, significant-trivial, significant-more}
+use Rattle.rap_lexed.proofs.Records.{records-past, significant-past, IsPast, past-is-past, records-drop, significant-drop, leaf-touches, float-touches, prefix-yes, prefix-no, significant-trivial, significant-more}
 
 -- the place after the trivia is within the text
 pub past_trivia-within : (ts : List Token) (at : ℕ) → at ≤ length ts → past_trivia ts at ≤ length ts
@@ -231,9 +231,64 @@ all-trivia (t ∷ ts) h = elim (cases_Bool (is_trivial t)) [
   | inr e ↦ absurd (omega (arith, significant-more t ts e))
 ]
 
+trivia-alone : (ts : List Token) → take (prefix_len is_trivial ts) ts ≡ front_of 0 ts
+trivia-alone [] = refl
+trivia-alone (t ∷ ts) = elim (cases_Bool (is_trivial t)) [
+  | inl h ↦
+      ap (λ n. take n (t ∷ ts)) (prefix-yes is_trivial t ts h)
+      ∙ ap (λ l. t ∷ l) (trivia-alone ts)
+      ∙ sym (cond-true (is_trivial t) (t ∷ front_of 0 ts) [] h)
+  | inr h ↦
+      ap (λ n. take n (t ∷ ts)) (prefix-no is_trivial t ts h)
+      ∙ sym (cond-false (is_trivial t) (t ∷ front_of 0 ts) [] h)
+]
+
+front-trivial : (n : ℕ) (t : Token) (ts : List Token) → is_trivial t ≡ true → front_of n (t ∷ ts) ≡ t ∷ front_of n ts
+front-trivial zero t ts h = cond-true (is_trivial t) (t ∷ front_of 0 ts) [] h
+front-trivial (suc n) t ts h = ap (λ l. t ∷ l) (cond-true (is_trivial t) (front_of (suc n) ts) (front_of n ts) h)
+
+front-more : (n : ℕ) (t : Token) (ts : List Token) → is_trivial t ≡ false → front_of (suc n) (t ∷ ts) ≡ t ∷ front_of n ts
+front-more n t ts h = ap (λ l. t ∷ l) (cond-false (is_trivial t) (front_of (suc n) ts) (front_of n ts) h)
+
+significant-later : (e : ℕ) (ts : List Token) → significant (drop e ts) ≤ significant ts
+significant-later zero ts = omega arith
+significant-later (suc e) [] = omega arith
+significant-later (suc e) (t ∷ ts) = elim (cases_Bool (is_trivial t)) [
+  | inl h ↦ omega (arith, significant-later e ts, significant-trivial t ts h)
+  | inr h ↦ omega (arith, significant-later e ts, significant-more t ts h)
+]
+
+front-past : (e n : ℕ) (t : Token) (ts : List Token) → is_trivial t ≡ false → significant (drop e ts) + n ≡ significant (t ∷ ts)
+    → ((m : ℕ) → significant (drop e ts) + m ≡ significant ts → take (past_trivia ts e) ts ≡ front_of m ts)
+    → t ∷ take (past_trivia ts e) ts ≡ front_of n (t ∷ ts)
+front-past e zero t ts g h rest = absurd (omega (arith, h, significant-more t ts g, significant-later e ts))
+front-past e (suc n) t ts g h rest =
+    ap (λ l. t ∷ l) (rest n (omega (arith, h, significant-more t ts g))) ∙ sym (front-more n t ts g)
+
+-- the tokens up to a place, by how many of them are no trivia
+front-to : (e n : ℕ) (ts : List Token) → significant (drop e ts) + n ≡ significant ts → take (past_trivia ts e) ts ≡ front_of n ts
+front-to e zero [] h = take_all (past_trivia [] e) [] (omega arith)
+front-to e (suc n) [] h = take_all (past_trivia [] e) [] (omega arith)
+front-to zero n (t ∷ ts) h =
+    let none : n ≡ 0 = omega (arith, h) in
+    ap (λ k. take k (t ∷ ts)) (zero-add (prefix_len is_trivial (t ∷ ts)))
+    ∙ trivia-alone (t ∷ ts)
+    ∙ ap (λ k. front_of k (t ∷ ts)) (sym none)
+front-to (suc e) n (t ∷ ts) h =
+    let next : past_trivia (t ∷ ts) (suc e) ≡ suc (past_trivia ts e) = omega arith in
+    ap (λ k. take k (t ∷ ts)) next
+    ∙ elim (cases_Bool (is_trivial t)) as (λ _. t ∷ take (past_trivia ts e) ts ≡ front_of n (t ∷ ts)) [
+      | inl g ↦
+          ap (λ l. t ∷ l) (front-to e n ts (omega (arith, h, significant-trivial t ts g)))
+          ∙ sym (front-trivial n t ts g)
+      | inr g ↦ front-past e n t ts g h (λ m k. front-to e m ts k)
+    ]
+
 -- such a tree ends at the text's end exactly if its leaves stand for all tokens but trivia
 pub record Answers (ts : List Token) (f : Forest) : Type 0 where
   pub touch : TreeTouches ts f
+  pub front : take (tree_end ts f) ts ≡ front_of (used f) ts
+  pub within : tree_end ts f ≤ length ts
   pub all_used : tree_end ts f ≡ length ts → used f ≡ significant ts
   pub at_end : used f ≡ significant ts → tree_end ts f ≡ length ts
 
@@ -244,6 +299,8 @@ answers-tree ts edition (node none kind children) h c =
     let e : ℕ = end_of ts 0 children in
     record {
       touch = s.touch;
+      front = front-to e (used children) ts (omega (arith, s.count)) ∙ ap (λ n. front_of n ts) (sym (zero-add (used children)));
+      within = past_trivia-within ts e (s.within (omega arith));
       all_used = λ k. omega (arith, s.count, significant-from-past ts e, ap significant (drop_all (past_trivia ts e) ts (omega arith)));
       at_end = λ k. omega (arith, s.within (omega arith), all-trivia (drop e ts) (omega (arith, s.count)), length-drop e ts);
     }

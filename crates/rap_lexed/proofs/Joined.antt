@@ -193,6 +193,10 @@ joined-tree ts (leaf b k w) h t l = absurd cc
 joined-tree ts (message b m) h t l = absurd cc
 joined-tree ts (split b d) h t l = elim t [ ]
 
+-- its leaves are these tokens, where they end with the tree
+pub joined-front : (ts us : List Token) (f : Forest) → one_tree f ≡ true → Tree f → TreeTouches ts f → take (tree_end ts f) ts ≡ us → str_joined (with_trivia ts f) ≡ joined us
+joined-front ts us f h t l e = joined-tree ts f h t l ∙ ap joined e
+
 -- a tree that ends at the text's end has the text
 pub joined-whole : (ts : List Token) (f : Forest) → one_tree f ≡ true → Tree f → TreeTouches ts f → length ts ≡ tree_end ts f → str_joined (with_trivia ts f) ≡ joined ts
 joined-whole ts f h t l e = joined-tree ts f h t l ∙ ap joined (ap (λ n. take n ts) (sym e) ∙ take_all (length ts) ts (omega arith))

@@ -6,6 +6,7 @@ pub mod Cuts
 pub mod Eating
 pub mod Emitted
 pub mod Examples
+pub mod FewSteps
 pub mod FloatTexts
 pub mod Handed
 pub mod Headers

@@ -37,7 +37,7 @@ significant-more t ts h =
 pub prefix-yes : (p : Token → Bool) (t : Token) (ts : List Token) → p t ≡ true → prefix_len p (t ∷ ts) ≡ suc (prefix_len p ts)
 prefix-yes p t ts h = cond-true (p t) (1 + prefix_len p ts) 0 h ∙ omega arith
 
-prefix-no : (p : Token → Bool) (t : Token) (ts : List Token) → p t ≡ false → prefix_len p (t ∷ ts) ≡ 0
+pub prefix-no : (p : Token → Bool) (t : Token) (ts : List Token) → p t ≡ false → prefix_len p (t ∷ ts) ≡ 0
 prefix-no p t ts h = cond-false (p t) (1 + prefix_len p ts) 0 h
 
 -- trivia at the beginning have no records

@@ -1,5 +1,5 @@
 -- Trivia put back into a forest.
-use Rattle.std.specs.Prelude.{◌≡◌, ℕ, ◌+◌, ◌≤◌, Bool, not, List, take, drop, count_by}
+use Rattle.std.specs.Prelude.{◌≡◌, ℕ, zero, suc, ◌+◌, ◌≤◌, Bool, not, List, [], ◌∷◌, take, drop, count_by, if◌then◌else◌}
 use Rattle.std.specs.List.{prefix_len, take_while}
 use Rattle.rap_base.specs.TokenTests.{is_trivia}
 use Rattle.rap_events.specs.Forest.{Forest, none, node, leaf, message, split}
@@ -20,6 +20,13 @@ is_significant t = not (is_trivial t)
 -- how many tokens are no trivia
 abbrev pub significant : List Token → ℕ
 significant ts = count_by is_significant ts
+
+-- the tokens up to the last of so many that are no trivia, and the trivia after it
+abbrev pub front_of : ℕ → List Token → List Token
+front_of zero [] = []
+front_of (suc n) [] = []
+front_of zero (t ∷ ts) = if is_trivial t then t ∷ front_of zero ts else []
+front_of (suc n) (t ∷ ts) = t ∷ (if is_trivial t then front_of (suc n) ts else front_of n ts)
 
 -- the trivia that stand at a place
 abbrev pub trivia_at : List Token → ℕ → List Token

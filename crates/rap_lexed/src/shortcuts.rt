@@ -1,5 +1,5 @@
 //! From a text's tokens to the parser's input, and from the parser's output to the steps of the tree over the text.
-ghost use Rattle.std.specs.Prelude.{◌≡◌, ◌+◌, ◌<◌, ◌≤◌, ◌↔◌, ◌∷◌, [], ◌++◌, length, drop, map, true, IsTrue, IsFalse, IfOk, OnOk, not, ◌||◌, ◌==◌};
+ghost use Rattle.std.specs.Prelude.{◌≡◌, ◌+◌, ◌*◌, ◌<◌, ◌≤◌, ◌↔◌, ◌∷◌, [], ◌++◌, length, drop, map, true, IsTrue, IsFalse, IfOk, OnOk, not, ◌||◌, ◌==◌};
 ghost use Rattle.rap_base.specs.TokenKind.{IDENT};
 ghost use Rattle.rap_base.specs.TokenTests.{is_trivia};
 ghost use Rattle.rap_base.specs.declared.edition.Edition.{Edition};
@@ -11,7 +11,7 @@ ghost use Rattle.rap_lexed.specs.Input.{records, records_at, joint_of};
 ghost use Rattle.rap_lexed.specs.LexedStr.{joined, token_at};
 ghost use Rattle.rap_lexed.specs.StrForest.{str_flat, str_joined, str_one_tree};
 ghost use Rattle.rap_lexed.specs.StrSink.{HandsOut};
-ghost use Rattle.rap_lexed.specs.Trivia.{significant, with_trivia, TreeTouches};
+ghost use Rattle.rap_lexed.specs.Trivia.{front_of, significant, with_trivia, TreeTouches};
 
 use crate::lexed_str::LexedStr;
 use rap_base::edition::Edition;
@@ -101,9 +101,13 @@ impl LexedStr<'_> {
         ensures answer { IfOk result (λ all. IsTrue all ↔ (used output.now ≡ significant self.now.tokens)) }
 
         // What was handed out is one tree, each leaf stands for tokens that touch, and the texts of all its leaves
-        // are the text, where all were passed to the sink.
+        // are those of the tokens that the output covers and of the trivia before the next one: the text, where all
+        // were passed to the sink. It has few steps: those of the output, at most nine more for each token that the
+        // output covers, and one for each token of the text.
         ensures tree { str_one_tree (with_trivia self.now.tokens output.now) ≡ true }
         ensures touching { TreeTouches self.now.tokens output.now }
+        ensures front { str_joined (with_trivia self.now.tokens output.now) ≡ joined (front_of (used output.now) self.now.tokens) }
+        ensures few { length (str_flat (with_trivia self.now.tokens output.now)) ≤ length (flat output.now) + (9 * used output.now + length self.now.tokens) }
         ensures whole { IfOk result (λ all. IsTrue all → str_joined (with_trivia self.now.tokens output.now) ≡ joined self.now.tokens) }
     {
         let mut builder = Builder::new(self);

@@ -1,2 +1,3 @@
 pub mod Reported
 mod Spelling
+pub mod Fronts

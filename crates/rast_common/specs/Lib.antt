@@ -2,3 +2,4 @@ pub mod Indented
 pub mod Message
 pub mod Quote
 pub mod Spelled
+pub mod Written

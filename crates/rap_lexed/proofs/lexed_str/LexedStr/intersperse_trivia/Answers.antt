@@ -1,6 +1,10 @@
-use Rattle.std.proofs.Common.{ap}
+use Rattle.std.proofs.Common.{ap, arith}
 use Rattle.rap_events.proofs.Trees.{tree}
 use Rattle.rap_lexed.proofs.Covered.{answers-tree}
+use Rattle.rap_lexed.specs.Trivia.{front_of}
+use Rattle.rap_events.specs.Forest.{used}
+use Rattle.rap_lexed.proofs.Joined.{joined-front}
+use Rattle.rap_lexed.proofs.FewSteps.{few-tree}
 use Rattle.rap_lexed.proofs.Handed.{hands-refused}
 use Rattle.rap_lexed.proofs.Walk.{stands-start, stands-more, stands-stops, stands-hands, stands-end, answer-used, answer-whole}
 use Rattle.rap_lexed.proofs.lexed_str.LexedStr.intersperse_trivia.Goals as goal
@@ -46,3 +50,25 @@ returns-clause-whole g c =
     answer-whole c.args.self.now.tokens _ c.args.output.now c.requires.tree (tree c.args.output.now c.iter-step-items.ensures.splits) _ c.loop-step.invariant.same
     (stands-end g.S.StrSink.takes c.args.self.now.tokens c.args.output.now c.args.sink.now c.loop-step.builder c.loop-step.sink (rw c.in-None.ensures.steps.0 at c.loop-step.invariant))
     (answers-tree c.args.self.now.tokens c.requires.prefix.0 c.args.output.now c.requires.tree c.requires.prefix.1) c.finish.result c.finish.ensures.answer
+
+pub returns-in_err-step-clause-front : goal.returns-in_err-step-clause-front
+returns-in_err-step-clause-front g c =
+    let answers = answers-tree c.args.self.now.tokens c.requires.prefix.0 c.args.output.now c.requires.tree c.requires.prefix.1 in
+    joined-front c.args.self.now.tokens (front_of (used c.args.output.now) c.args.self.now.tokens) c.args.output.now c.requires.tree
+    (tree c.args.output.now c.iter-step-items.ensures.splits) answers.touch answers.front
+
+pub returns-clause-front : goal.returns-clause-front
+returns-clause-front g c =
+    let answers = answers-tree c.args.self.now.tokens c.requires.prefix.0 c.args.output.now c.requires.tree c.requires.prefix.1 in
+    joined-front c.args.self.now.tokens (front_of (used c.args.output.now) c.args.self.now.tokens) c.args.output.now c.requires.tree
+    (tree c.args.output.now c.iter-step-items.ensures.splits) answers.touch answers.front
+
+pub returns-in_err-step-clause-few : goal.returns-in_err-step-clause-few
+returns-in_err-step-clause-few g c =
+    let answers = answers-tree c.args.self.now.tokens c.requires.prefix.0 c.args.output.now c.requires.tree c.requires.prefix.1 in
+    omega (arith, answers.within, few-tree c.args.self.now.tokens c.args.output.now c.requires.tree (tree c.args.output.now c.iter-step-items.ensures.splits))
+
+pub returns-clause-few : goal.returns-clause-few
+returns-clause-few g c =
+    let answers = answers-tree c.args.self.now.tokens c.requires.prefix.0 c.args.output.now c.requires.tree c.requires.prefix.1 in
+    omega (arith, answers.within, few-tree c.args.self.now.tokens c.args.output.now c.requires.tree (tree c.args.output.now c.iter-step-items.ensures.splits))
