@@ -141,6 +141,7 @@ impl LexedStr<'_> {
     }
 }
 
+// `*step` is refused: a `Copy` enum that holds a struct with a model is not copied from behind a reference.
 fn copied_step<'a>(step: &Step<'a>) -> Step<'a>
     ensures { step_value result ≡ step_value step.now }
 {

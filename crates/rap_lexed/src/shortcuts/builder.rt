@@ -277,6 +277,9 @@ impl<'a, 'text> Builder<'a, 'text> {
 
 /// Hands out the parts of a float that a field access ends with, and the end of that access: its numbers are the names
 /// of fields. Where it does not end in a dot, the end of the access around it is not handed out yet.
+///
+/// Such floats are rare: inlined, this takes registers from the walk.
+#[inline(never)]
 fn hand_out_float<S: StrSink>(
     text: &str,
     ends_in_dot: bool,
@@ -362,6 +365,7 @@ fn hand_out<S: StrSink>(steps: &[StrStep<'_>], sink: &mut S) -> Result<(), S::Re
     Ok(())
 }
 
+// `*step` is refused: a `Copy` enum that holds a struct with a model is not copied from behind a reference.
 fn copied<'a>(step: &StrStep<'a>) -> StrStep<'a>
     ensures { str_step_value result ≡ str_step_value step.now }
 {
