@@ -1,5 +1,5 @@
 //! The tokens that a parser reads.
-ghost use Rattle.std.specs.Prelude.{◌≡◌, ◌≢◌, ℕ, ◌+◌, ◌-◌, ◌<◌, ◌↔◌, List, [], ◌∷◌, ◌++◌, length, map, true, false, All, IsTrue, IfOk, OnOk, OnErr};
+ghost use Rattle.std.specs.Prelude.{◌≡◌, ◌≢◌, ℕ, ◌+◌, ◌-◌, ◌<◌, ◌↔◌, List, [], ◌∷◌, ◌++◌, length, map, true, false, All, IsTrue, IsFalse, IfOk, OnOk, OnErr};
 ghost use Rattle.rap_base.specs.TokenKind.{EOF, IDENT};
 ghost use Rattle.rap_base.specs.TokenTests.{is_token};
 
@@ -91,6 +91,40 @@ impl Input {
         self.columns.write(self.len, SyntaxKind::IDENT, contextual_kind, edition, false);
         self.len += 1;
         Ok(())
+    }
+
+    /// Appends a token as [`Input::push_joint`] does, if there is room for it without asking for memory. Returns whether
+    /// it did; where it did not, the input is unchanged.
+    #[inline(always)]
+    pub fn push_joint_in_room(&mut self, kind: SyntaxKind, edition: Edition, joint: bool) -> bool
+        requires token { is_token kind ≡ true }
+        requires some { kind ≢ EOF }
+        ensures pushed { IsTrue result → self.new ≡ self.old ++ record { kind = kind; contextual = EOF; edition = edition; joint = joint } ∷ [] }
+        ensures full { IsFalse result → self.new ≡ self.old }
+    {
+        if !self.columns.has_room(self.len) {
+            return false;
+        }
+        self.columns
+            .write(self.len, kind, SyntaxKind::EOF, edition, joint);
+        self.len += 1;
+        true
+    }
+
+    /// Appends an identifier as [`Input::push_ident`] does, if there is room for it without asking for memory. Returns
+    /// whether it did; where it did not, the input is unchanged.
+    #[inline(always)]
+    pub fn push_ident_in_room(&mut self, contextual_kind: SyntaxKind, edition: Edition) -> bool
+        requires { is_token contextual_kind ≡ true }
+        ensures pushed { IsTrue result → self.new ≡ self.old ++ record { kind = IDENT; contextual = contextual_kind; edition = edition; joint = false } ∷ [] }
+        ensures full { IsFalse result → self.new ≡ self.old }
+    {
+        if !self.columns.has_room(self.len) {
+            return false;
+        }
+        self.columns.write(self.len, SyntaxKind::IDENT, contextual_kind, edition, false);
+        self.len += 1;
+        true
     }
 
     /// Marks the last token as touching the next one. There must be a token.

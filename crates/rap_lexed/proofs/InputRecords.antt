@@ -43,8 +43,8 @@ records-more ts i edition h =
     ]
 
 -- one more token is done
-pub records-step : (done next : List Record) (ts : List Token) (i : ℕ) (edition : Edition) → i < length ts → done ++ records (drop i ts) edition ≡ records ts edition → next ≡ done ++ records_at ts i edition → next ++ records (drop (i + 1) ts) edition ≡ records ts edition
-records-step done next ts i edition h all e =
+pub records-step : (done next whole : List Record) (ts : List Token) (i : ℕ) (edition : Edition) → i < length ts → done ++ records (drop i ts) edition ≡ whole → next ≡ done ++ records_at ts i edition → next ++ records (drop (i + 1) ts) edition ≡ whole
+records-step done next whole ts i edition h all e =
     ap (λ l. l ++ records (drop (i + 1) ts) edition) e
     ∙ append_assoc done (records_at ts i edition) (records (drop (i + 1) ts) edition)
     ∙ ap (λ l. done ++ l) (sym (records-more ts i edition h))

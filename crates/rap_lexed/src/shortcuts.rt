@@ -1,5 +1,5 @@
 //! From a text's tokens to the parser's input, and from the parser's output to the steps of the tree over the text.
-ghost use Rattle.std.specs.Prelude.{◌≡◌, ◌+◌, ◌<◌, ◌↔◌, ◌∷◌, [], ◌++◌, length, drop, map, true, IsTrue, IfOk, OnOk, not, ◌||◌, ◌==◌};
+ghost use Rattle.std.specs.Prelude.{◌≡◌, ◌+◌, ◌<◌, ◌≤◌, ◌↔◌, ◌∷◌, [], ◌++◌, length, drop, map, true, IsTrue, IsFalse, IfOk, OnOk, not, ◌||◌, ◌==◌};
 ghost use Rattle.rap_base.specs.TokenKind.{IDENT};
 ghost use Rattle.rap_base.specs.TokenTests.{is_trivia};
 ghost use Rattle.rap_base.specs.declared.edition.Edition.{Edition};
@@ -72,8 +72,10 @@ impl LexedStr<'_> {
         ensures count { IfOk result (λ input. length input ≡ significant self.now.tokens) }
     {
         let mut input = Input::with_capacity(alloc, self.len())?;
-        for i in 0..self.len() {
+        let mut i = 0;
+        'tokens: while i < self.len() {
             push_record(self, i, edition, &mut input)?;
+            i = push_in_room(self, i + 1, edition, &mut input);
         }
         Ok(input)
     }
@@ -156,6 +158,7 @@ fn copied_step<'a>(step: &Step<'a>) -> Step<'a>
 }
 
 /// Appends the record of a token, if it is no trivia.
+#[inline(never)]
 fn push_record(
     lexed: &LexedStr<'_>,
     i: usize,
@@ -177,7 +180,46 @@ fn push_record(
     Ok(())
 }
 
+/// Appends the records of the tokens from `from` on, as long as there is room for them. Returns how far it came.
+///
+/// It is inlined, and calls nothing that changes the input's lists, so that they stay in registers.
+#[inline(always)]
+fn push_in_room(lexed: &LexedStr<'_>, from: usize, edition: Edition, input: &mut Input) -> usize
+    requires { from ≤ length lexed.now.tokens }
+    ensures further { from ≤ result }
+    ensures within { result ≤ length lexed.now.tokens }
+    ensures pushed { input.new ++ records (drop result lexed.now.tokens) edition ≡ input.old ++ records (drop from lexed.now.tokens) edition }
+{
+    let mut i = from;
+    'tokens: while i < lexed.len() {
+        if !push_record_in_room(lexed, i, edition, input) {
+            break;
+        }
+        i += 1;
+    }
+    i
+}
+
+/// Appends the record of a token as `push_record` does, if there is room for it. Returns whether there was.
+#[inline(always)]
+fn push_record_in_room(lexed: &LexedStr<'_>, i: usize, edition: Edition, input: &mut Input) -> bool
+    requires { i < length lexed.now.tokens }
+    ensures pushed { IsTrue result → input.new ≡ input.old ++ records_at lexed.now.tokens i edition }
+    ensures full { IsFalse result → input.new ≡ input.old }
+{
+    let kind = lexed.kind(i);
+    if kind.is_trivia() {
+        return true;
+    }
+    if kind == SyntaxKind::IDENT {
+        let keyword = contextual_keyword(lexed.text(i), edition);
+        return input.push_ident_in_room(keyword.unwrap_or(SyntaxKind::IDENT), edition);
+    }
+    input.push_joint_in_room(kind, edition, is_joint(lexed, i))
+}
+
 /// The joint bit of a token.
+#[inline(always)]
 fn is_joint(lexed: &LexedStr<'_>, i: usize) -> bool
     requires { i < length lexed.now.tokens }
     ensures { result ≡ joint_of (token_at lexed.now.tokens i) (drop (i + 1) lexed.now.tokens) }

@@ -1,5 +1,5 @@
 //! The lists in which an input keeps its records.
-ghost use Rattle.std.specs.Prelude.{◌≡◌, ℕ, ◌+◌, ◌*◌, ◌<◌, length, [], ◌∷◌, ◌++◌, IfOk, OnOk};
+ghost use Rattle.std.specs.Prelude.{◌≡◌, ℕ, ◌+◌, ◌*◌, ◌<◌, ◌↔◌, length, [], ◌∷◌, ◌++◌, IfOk, IsTrue, OnOk};
 ghost use Rattle.rap_base.specs.Bits.{bit};
 ghost use Rattle.rap_events.specs.Record.{with_last_joint};
 ghost use Rattle.rap_events.specs.Input.{records, Holds};
@@ -44,6 +44,15 @@ impl Columns {
         })
     }
 
+    /// Whether there is room for a record after the first `len`.
+    #[inline(always)]
+    pub(super) fn has_room(&self, len: usize) -> bool
+        requires { Holds self.now len }
+        ensures { IsTrue result ↔ (len < 64 * length self.now.joints.items) }
+    {
+        len < self.joints.len() * BLOCK
+    }
+
     /// Makes room for a record after the first `len`, which stay as they are, also if this is out of memory.
     #[inline(always)]
     pub(super) fn make_room(&mut self, len: usize) -> Result<(), NoMemory>
@@ -52,8 +61,7 @@ impl Columns {
         ensures room { OnOk result (len < 64 * length self.new.joints.items) }
         ensures records { records self.new len ≡ records self.old len }
     {
-        let room = self.joints.len() * BLOCK;
-        if len < room {
+        if self.has_room(len) {
             return Ok(());
         }
         self.grow(len)

@@ -4,7 +4,7 @@ use Rattle.rap_lexed.proofs.Records.{length-records}
 use Rattle.rap_lexed.proofs.lexed_str.LexedStr.to_input.Goals as goal
 
 pub returns-clause-records : goal.returns-clause-records
-returns-clause-records c = records-all c.loop-i.input c.args.self.now.tokens c.loop-i.i c.args.edition (omega (arith, c.len-i-end.ensures.count)) c.loop-i.invariant
+returns-clause-records c = records-all c.tokens.input c.args.self.now.tokens c.tokens.i c.args.edition (omega (arith, c.tokens-test.false, c.len-in-tokens.ensures.count)) c.tokens.invariant.0
 
 pub returns-clause-count : goal.returns-clause-count
-returns-clause-count c = ap length (records-all c.loop-i.input c.args.self.now.tokens c.loop-i.i c.args.edition (omega (arith, c.len-i-end.ensures.count)) c.loop-i.invariant) ∙ length-records c.args.self.now.tokens c.args.edition
+returns-clause-count c = ap length (records-all c.tokens.input c.args.self.now.tokens c.tokens.i c.args.edition (omega (arith, c.tokens-test.false, c.len-in-tokens.ensures.count)) c.tokens.invariant.0) ∙ length-records c.args.self.now.tokens c.args.edition

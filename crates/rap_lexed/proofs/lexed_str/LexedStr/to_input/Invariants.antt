@@ -1,6 +1,9 @@
-use Rattle.std.proofs.Common.{◌≡◌, ◌++◌, drop}
+use Rattle.std.proofs.Common.{◌≡◌, ◌++◌, ◌-◌, ◌≤◌, drop, length}
 use Rattle.rap_lexed.specs.Input.{records}
 use Rattle.rap_lexed.proofs.lexed_str.LexedStr.to_input.Given as goal
 
-abbrev pub invariant-loop-i : goal.invariant-loop-i
-invariant-loop-i l = l.input ++ records (drop l.i l.self.tokens) l.edition ≡ records l.self.tokens l.edition
+abbrev pub invariant-tokens : goal.invariant-tokens
+invariant-tokens l = (l.input ++ records (drop l.i l.self.tokens) l.edition ≡ records l.self.tokens l.edition) × (l.i ≤ length l.self.tokens)
+
+abbrev pub decreases-tokens : goal.decreases-tokens
+decreases-tokens l = length l.self.tokens - l.i
