@@ -47,8 +47,9 @@ fn push_json(json: &mut String, text: &str) {
     json.push('"');
 }
 
-/// The data of the page: the names of all kinds, and the text that it begins with, as JSON.
-pub fn data(text: &str) -> String {
+/// The data of the page: the names of all kinds, how many bytes a text has at most, and the text that the page begins
+/// with, as JSON.
+pub fn data(most: usize, text: &str) -> String {
     let mut json = String::from("{\"kinds\":[");
     for number in 0..SyntaxKind::__LAST as u16 {
         if number > 0 {
@@ -56,7 +57,7 @@ pub fn data(text: &str) -> String {
         }
         push_json(&mut json, SyntaxKind::from(number).name());
     }
-    json.push_str("],\"text\":");
+    json.push_str(&format!("],\"most\":{most},\"text\":"));
     push_json(&mut json, text);
     json.push('}');
     json

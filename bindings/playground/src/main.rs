@@ -121,7 +121,7 @@ fn run(port: Option<u16>, text: &str) -> io::Result<()> {
     let port = listener.local_addr()?.port();
     let hosts = [format!("127.0.0.1:{port}"), format!("localhost:{port}")];
     let jobs = start_parser()?;
-    let site = SITE.get_or_init(|| Site { page: PAGE.replace("DATA", &answer::data(text)), hosts, jobs });
+    let site = SITE.get_or_init(|| Site { page: PAGE.replace("DATA", &answer::data(MOST_BYTES, text)), hosts, jobs });
     // It serves too where nobody reads this.
     let _ = writeln!(io::stdout(), "http://127.0.0.1:{port}/");
     let open = Arc::new(AtomicUsize::new(0));

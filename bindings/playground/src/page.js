@@ -4,7 +4,9 @@ const ROW = 20;
 const LONGEST_LINE = 4000;
 const MOST_LISTED = 100;
 const MOST_IN_LINE = 4;
-const kinds = JSON.parse(byId('data').textContent).kinds;
+// How many levels of a tree are open at first.
+const LEVELS = 3;
+const { kinds, most } = JSON.parse(byId('data').textContent);
 const textPane = byId('text');
 const treePane = byId('tree');
 
@@ -24,6 +26,7 @@ function rowsInView(pane, count) {
 let tree = noTree();
 let messages = [];
 let folded = new Set();
+let hits = new Set();
 let chosen = 0;
 let text = '';
 let lineStarts = [0];
@@ -150,7 +153,7 @@ function linePieces(line) {
   }
   if (at < whole) pieces.push('', text.slice(at, whole));
   const said = notes.get(line);
-  if (said && said.atEnd) pieces.push('end wavy', ' ');
+  if (said && said.atEnd) pieces.push('wavy', '\u00a0');
   if (said) pieces.push('note', '\u25c2 ' + said.texts.join('; '));
   return pieces;
 }
@@ -245,7 +248,7 @@ function rowParts(index) {
   const isShort = tree.leaf[item] || !isOpen;
   return {
     index, folds, isOpen, kind: tree.kind[item], leaf: tree.leaf[item] === 1, depth: tree.depth[item],
-    chosen: item === chosen, text: isShort ? short(item) : '', said: (saidAt.get(item) ?? []).join('; '),
+    chosen: item === chosen, hit: hits.has(tree.kind[item]), text: isShort ? short(item) : '', said: (saidAt.get(item) ?? []).join('; '),
   };
 }
 function itemRow(parts) {
@@ -254,6 +257,7 @@ function itemRow(parts) {
   row.className = 'item';
   row.classList.toggle('leaf', parts.leaf);
   row.classList.toggle('wrong', name === 'ERROR');
+  row.classList.toggle('hit', parts.hit);
   row.setAttribute('role', 'treeitem');
   row.setAttribute('aria-level', parts.depth + 1);
   row.setAttribute('aria-selected', parts.chosen ? 'true' : 'false');
@@ -353,7 +357,106 @@ function keepFolds(old, made) {
   }
 }
 
+// Folds the nodes from a level on.
+function foldFrom(level) {
+  folded = new Set();
+  for (let item = 0; item < tree.count; item += 1) {
+    if (!tree.leaf[item] && tree.depth[item] >= level && tree.end[item] > item + 1) folded.add(item);
+  }
+}
+function foldAll(level) {
+  foldFrom(level);
+  if (folded.size > 0 && tree.count > 0) {
+    // What is chosen stays in view: the outermost folded node around it is chosen in its place.
+    let item = chosen;
+    for (let up = tree.parent[chosen]; up >= 0; up = tree.parent[up]) if (folded.has(up)) item = up;
+    chosen = item;
+  }
+  layTree();
+  if (tree.count > 0) choose(chosen, treePane);
+}
+
+// The kinds that a search finds, and the items of these kinds.
+let found = [];
+function searchKinds() {
+  const asked = byId('kind').value.trim().toUpperCase();
+  const exact = kinds.includes(asked);
+  hits = new Set();
+  kinds.forEach((name, kind) => {
+    if (asked !== '' && (exact ? name === asked : name.includes(asked))) hits.add(kind);
+  });
+  found = [];
+  if (hits.size > 0) for (let item = 0; item < tree.count; item += 1) if (hits.has(tree.kind[item])) found.push(item);
+  byId('found').textContent = asked === '' ? '' : found.length === 0 ? 'none' : found.length + ' found';
+}
+function goToFound(isForward) {
+  if (found.length === 0) return;
+  const upTo = lastUpTo(found.length, (k) => found[k], chosen);
+  let next;
+  if (isForward) next = found[upTo] > chosen ? upTo : (upTo + 1) % found.length;
+  else next = found[upTo] < chosen ? upTo : (upTo + found.length - 1) % found.length;
+  choose(found[next], null);
+  byId('found').textContent = next + 1 + ' of ' + found.length;
+}
+
+// A text in the part of an address that no browser sends: its bytes, made shorter, in the letters of base64.
+async function packed(bytes, stream) {
+  const answer = new Response(new Blob([bytes]).stream().pipeThrough(stream));
+  return new Uint8Array(await answer.arrayBuffer());
+}
+async function fragmentOf(whole) {
+  const bytes = await packed(new TextEncoder().encode(whole), new CompressionStream('deflate-raw'));
+  let letters = '';
+  for (const byte of bytes) letters += String.fromCharCode(byte);
+  return btoa(letters).replaceAll('+', '-').replaceAll('/', '_').replaceAll('=', '');
+}
+async function textOf(fragment) {
+  const letters = atob(fragment.replaceAll('-', '+').replaceAll('_', '/'));
+  const bytes = Uint8Array.from(letters, (letter) => letter.charCodeAt(0));
+  return new TextDecoder('utf-8', { fatal: true }).decode(await packed(bytes, new DecompressionStream('deflate-raw')));
+}
+async function makeLink() {
+  const words = new URLSearchParams({ edition: byId('edition').value, entry: byId('entry').value });
+  history.replaceState(null, '', '#' + words + '&text=' + await fragmentOf(text));
+  byId('state').textContent = 'the address holds the text';
+}
+// Reads the text that the address holds, if it holds one.
+async function readLink() {
+  const words = new URLSearchParams(location.hash.slice(1));
+  if (!words.has('text')) return;
+  try {
+    textPane.value = await textOf(words.get('text'));
+  } catch {
+    byId('state').textContent = 'the address holds no text';
+    return;
+  }
+  for (const name of ['edition', 'entry']) {
+    const field = byId(name);
+    if ([...field.options].some((it) => it.value === words.get(name))) field.value = words.get(name);
+  }
+}
+
+// Shows that there is no tree, and why.
+function showNone(why) {
+  tree = noTree();
+  folded = new Set();
+  chosen = 0;
+  placeMessages([]);
+  layTree();
+  listMessages();
+  searchKinds();
+  drawTree();
+  drawText();
+  byId('notice').textContent = why;
+  byId('notice').hidden = false;
+  byId('counts').textContent = '';
+  byId('place').textContent = '';
+  byId('state').textContent = '';
+  isFirst = true;
+}
+
 // One text is asked for at a time; what was typed meanwhile is asked for next.
+let isFirst = true;
 let isAsked = false;
 let isStale = false;
 async function ask() {
@@ -364,6 +467,11 @@ async function ask() {
   isAsked = true;
   isStale = false;
   const asked = text, begin = performance.now();
+  if (new Blob([asked]).size > most) {
+    showNone('The text has more than ' + most / (1 << 20) + ' MB, and is not parsed.');
+    isAsked = false;
+    return;
+  }
   try {
     const query = 'edition=' + byId('edition').value + '&entry=' + byId('entry').value;
     const response = await fetch('/parse?' + query, { method: 'POST', body: asked });
@@ -371,7 +479,7 @@ async function ask() {
       const bytes = await response.arrayBuffer();
       if (text === asked) draw(bytes, begin);
     } else {
-      byId('state').textContent = (await response.text()).trim();
+      showNone('There is no tree: ' + (await response.text()).trim() + '.');
     }
   } catch (error) {
     byId('state').textContent = 'no answer: ' + error.message;
@@ -385,10 +493,14 @@ function draw(bytes, begin) {
   keepFolds(tree, made);
   tree = made;
   chosen = 0;
+  if (isFirst) foldFrom(LEVELS);
+  isFirst = false;
+  byId('notice').hidden = true;
   placeMessages(JSON.parse(new TextDecoder().decode(new Uint8Array(bytes, 4 + 4 * count))));
   layTree();
   listMessages();
-  if (tree.leaves.length > 0) chooseAtCaret();
+  searchKinds();
+  if (tree.leaves.length > 0 && document.activeElement === textPane) chooseAtCaret();
   else {
     drawTree();
     drawText();
@@ -434,14 +546,27 @@ treePane.addEventListener('keydown', (event) => {
   else return;
   event.preventDefault();
 });
+byId('less').addEventListener('click', () => foldAll(LEVELS));
+byId('more').addEventListener('click', () => foldAll(Infinity));
+byId('kind').addEventListener('input', () => { searchKinds(); drawTree(); });
+byId('search').addEventListener('submit', (event) => { event.preventDefault(); goToFound(true); });
+byId('previous').addEventListener('click', () => goToFound(false));
+byId('link').addEventListener('click', makeLink);
+for (const name of [...kinds].sort()) {
+  const option = document.createElement('option');
+  option.value = name;
+  byId('kinds').append(option);
+}
 byId('entry').addEventListener('change', ask);
 byId('edition').addEventListener('change', ask);
 new ResizeObserver(() => { look(textPane); look(treePane); drawTree(); drawText(); }).observe(treePane);
 textPane.value = JSON.parse(byId('data').textContent).text;
-text = textPane.value;
-textPane.setSelectionRange(0, 0);
-look(textPane);
-look(treePane);
-findLines();
-drawText();
-ask();
+readLink().then(() => {
+  text = textPane.value;
+  textPane.setSelectionRange(0, 0);
+  look(textPane);
+  look(treePane);
+  findLines();
+  drawText();
+  ask();
+});
