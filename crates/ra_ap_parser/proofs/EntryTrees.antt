@@ -1,11 +1,13 @@
 -- What the core grammar derives comes out of its entry as it was derived.
-use Rattle.std.proofs.Common.{◌≡◌, List, [], ◌++◌, append-nil, length, true, refl, sym, ◌∙◌}
-use Rattle.rap_events.specs.Record.{Record}
-use Rattle.rap_events.specs.Forest.{Forest, message_count}
+use Rattle.std.proofs.Common.{◌≡◌, ℕ, List, [], ◌++◌, append-nil, length, true, refl, subst, sym, ◌∙◌}
+use Rattle.rap_base.specs.NodeKind.{RECORD_FIELD_LIST, RECORD_EXPR_FIELD_LIST, VARIANT_LIST, MATCH_ARM_LIST, USE_TREE_LIST, EXTERN_ITEM_LIST, TOKEN_TREE, ASSOC_ITEM_LIST, ITEM_LIST}
+use Rattle.rap_base.specs.TokenKind.{L_CURLY}
+use Rattle.rap_events.specs.Record.{Record, next_kind}
+use Rattle.rap_events.specs.Forest.{Forest, message_count, one_tree}
 use Rattle.rap_grammar.proofs.Outputs.{derived, derived_clean, derived_type, derived_type_clean, derived_statements, derived_statements_clean, derived_file, derived_file_clean, derived_items, derived_items_clean, called_file, called_items, begun_file, begun_items, one_output, one_root}
 use Rattle.rap_grammar_core.specs.ParsedAgain.{is_parsed_again, MakesNode}
 use Rattle.rap_grammar_core.proofs.Again.{made_again, block_made, items_made, fields_made, token_tree_made, none_made}
-use Rattle.rap_grammar.specs.Part.{IsPrefixOf, IsPartCore, IsWhole, part_script, part_kind, in_braces}
+use Rattle.rap_grammar.specs.Part.{IsPrefixOf, IsPartCore, IsWhole, IsOneNode, part_script, part_kind, asks_brace, in_braces}
 use Rattle.rap_grammar.specs.declared.entry.part.Part.{Part}
 use Rattle.rap_grammar.specs.declared.entry.part.Part.TheVariants as part
 use Rattle.rap_grammar.proofs.DotsInside.{visibility_inside, block_inside, path_inside, expression_inside, type_inside, pattern_inside, single_pattern_inside, meta_inside, statement_inside, item_inside}
@@ -95,6 +97,30 @@ dots_stay prefix.Expr input output i = expression_inside i
 dots_stay prefix.Path input output i = path_inside i
 dots_stay prefix.Item input output i = item_inside i
 dots_stay prefix.MetaItem input output i = meta_inside i
+
+-- nor of one tree
+one_inside : (kind : ℕ) (output : Forest) → IsOneNode kind output → dots_inside output ≡ true
+one_inside kind output i =
+    let P : Forest → Type 0 = λ f. dots_inside f ≡ true in
+    let Q : Forest → Type 0 = λ f. one_tree f ≡ true in
+    subst P (sym i.node_is) (subst Q i.node_is i.one)
+
+-- nor of a part, which is one node wherever it begins as it must
+pub part_dots : (p : Part) (input : List Record) (output : Forest) → (asks_brace p ≡ true → next_kind input ≡ L_CURLY) →
+    (next_kind input ≡ L_CURLY → IsOneNode (part_kind p) output) → IsPrefixOf (part_script p) input output →
+    dots_inside output ≡ true
+part_dots part.Visibility input output brace one i = visibility_inside i
+part_dots part.Path input output brace one i = path_inside i
+part_dots part.Block input output brace one i = block_inside i
+part_dots part.RecordFieldList input output brace one i = one_inside RECORD_FIELD_LIST output (one (brace refl))
+part_dots part.RecordExprFieldList input output brace one i = one_inside RECORD_EXPR_FIELD_LIST output (one (brace refl))
+part_dots part.VariantList input output brace one i = one_inside VARIANT_LIST output (one (brace refl))
+part_dots part.MatchArmList input output brace one i = one_inside MATCH_ARM_LIST output (one (brace refl))
+part_dots part.UseTreeList input output brace one i = one_inside USE_TREE_LIST output (one (brace refl))
+part_dots part.ExternItemList input output brace one i = one_inside EXTERN_ITEM_LIST output (one (brace refl))
+part_dots part.TokenTree input output brace one i = one_inside TOKEN_TREE output (one (brace refl))
+part_dots part.AssocItemList input output brace one i = one_inside ASSOC_ITEM_LIST output (one (brace refl))
+part_dots part.ItemList input output brace one i = one_inside ITEM_LIST output (one (brace refl))
 
 -- a front of an input that is derived comes out as it was derived
 pub prefix_core : (e : PrefixEntryPoint) (input : List Record) {output : Forest} → IsPrefixOutputOf e input output →

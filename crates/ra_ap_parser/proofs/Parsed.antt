@@ -1,16 +1,20 @@
 -- The parts of the promise, put together.
-use Rattle.std.proofs.Common.{◌≡◌, ℕ, ◌+◌, ◌*◌, ◌<◌, ◌≤◌, List, true, length, ap, ◌∙◌, subst, arith}
+use Rattle.std.proofs.Common.{◌≡◌, ℕ, ◌+◌, ◌*◌, ◌<◌, ◌≤◌, List, [], ◌∷◌, true, length, length-append, ap, ◌∙◌, subst, arith}
+use Rattle.std.specs.Prelude.{All}
+use Rattle.std.proofs.lemmas.List.Elements.{All-head, All-tail}
+use Rattle.std.proofs.lemmas.List.Sums.{count_by-le-length}
 use Rattle.rap_base.specs.declared.edition.Edition.{Edition}
 use Rattle.rap_events.specs.Cover.{covers}
-use Rattle.rap_events.specs.Forest.{Forest, flat}
+use Rattle.rap_events.specs.Forest.{Forest, flat, used}
 use Rattle.rap_events.specs.Record.{Record}
 use Rattle.rap_grammar.specs.Top.{IsTreeOver}
 use Rattle.ra_ap_parser.specs.EntryScript.{IsOutputOf}
 use Rattle.rap_lexed.specs.Input.{records}
-use Rattle.rap_lexed.specs.LexedStr.{Lexed, IsLexing}
+use Rattle.rap_lexed.specs.LexedStr.{AreTokens, Lexed, IsLexing, joined}
 use Rattle.rap_lexed.specs.OneLexing.{IsOnlyLexing}
-use Rattle.rap_lexed.specs.StrForest.{str_one_tree}
-use Rattle.rap_lexed.specs.Trivia.{significant, with_trivia}
+use Rattle.rap_lexed.specs.StrForest.{str_flat, str_one_tree}
+use Rattle.rap_lexed.specs.Token.{Token}
+use Rattle.rap_lexed.specs.Trivia.{is_significant, significant, with_trivia}
 use Rattle.ra_ap_parser.specs.Headline.{HasTooManyTokens, IsParsed}
 use Rattle.ra_ap_parser.specs.declared.entry_point.TopEntryPoint.{TopEntryPoint}
 use Rattle.ra_ap_parser.proofs.EntryTrees.{core_tree}
@@ -19,8 +23,20 @@ use Rattle.rap_base.specs.Limits.{max_tokens}
 at_most : (m n : ℕ) → (m < n → ⊥) → n ≤ m
 at_most m n h = omega (arith, h)
 
-pub parsed : (text : List ℕ) (edition : Edition) (entry : TopEntryPoint) (lexed : Lexed) (input : List Record) (f : Forest) → (4294967295 < length text → ⊥) → IsLexing text edition lexed → input ≡ records lexed.tokens edition → (max_tokens < length input → ⊥) → IsTreeOver input f → IsOutputOf entry input f → str_one_tree (with_trivia lexed.tokens f) ≡ true → IsParsed text edition entry lexed f
-parsed text edition entry lexed input f small lexing e few tree made one = record {
+-- no token of a lexed text is empty
+few_tokens_in : (ts : List Token) → All (λ t. 0 < length t.text) ts → length ts ≤ length (joined ts)
+few_tokens_in [] h = omega arith
+few_tokens_in (t ∷ ts) h =
+    omega (arith, All-head (λ x. 0 < length x.text) t ts h, few_tokens_in ts (All-tail (λ x. 0 < length x.text) t ts h), length-append t.text (joined ts))
+
+-- the steps of a tree with its trivia, by the bytes of the text
+few_in_bytes : (text : List ℕ) (ts : List Token) (steps own n : ℕ) → joined ts ≡ text → AreTokens ts → n ≡ significant ts →
+    own ≤ 256 * (n + 1) → steps ≤ own + (9 * n + length ts) → steps ≤ 266 * (length text + 1)
+few_in_bytes text ts steps own n whole tokens e few all =
+    omega (arith, few_tokens_in ts tokens.full, ap length whole, count_by-le-length is_significant ts, e, few, all)
+
+pub parsed : (text : List ℕ) (edition : Edition) (entry : TopEntryPoint) (lexed : Lexed) (input : List Record) (f : Forest) → (4294967295 < length text → ⊥) → IsLexing text edition lexed → input ≡ records lexed.tokens edition → (max_tokens < length input → ⊥) → IsTreeOver input f → IsOutputOf entry input f → str_one_tree (with_trivia lexed.tokens f) ≡ true → AreTokens lexed.tokens → length input ≡ significant lexed.tokens → length (str_flat (with_trivia lexed.tokens f)) ≤ length (flat f) + (9 * used f + length lexed.tokens) → IsParsed text edition entry lexed f
+parsed text edition entry lexed input f small lexing e few tree made one tokens count whole = record {
   small = at_most 4294967295 (length text) small;
   lexing = lexing;
   few_tokens = subst (λ (rs : List Record). length rs ≤ max_tokens) e (at_most max_tokens (length input) few);
@@ -31,6 +47,9 @@ parsed text edition entry lexed input f small lexing e few tree made one = recor
   made = subst (λ (rs : List Record). IsOutputOf entry rs f) e made;
   core = λ t h. core_tree entry (records lexed.tokens edition) (subst (λ (rs : List Record). IsOutputOf entry rs f) e made) h;
   str_one = one;
+  few_whole =
+      few_in_bytes text lexed.tokens (length (str_flat (with_trivia lexed.tokens f))) (length (flat f)) (length input) lexing.whole tokens count tree.forest.few
+      (omega (arith, whole, tree.forest.used));
 }
 
 -- a text with so few records has not too many tokens

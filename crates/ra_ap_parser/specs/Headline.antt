@@ -17,7 +17,7 @@ use Rattle.rap_base.specs.Limits.{max_tokens}
 
 -- The text's tokens; one tree over all those that are no trivia, in at most 256 steps for each and 256 more; that it is
 -- the entry's, and where the core grammar derives the tokens, their derivation's, without a message; and the same tree
--- with the trivia put back, which is one tree too.
+-- with the trivia put back, which is one tree too, in at most 266 steps for each byte of the text and 266 more.
 pub record IsParsed (text : List ℕ) (edition : Edition) (entry : TopEntryPoint) (lexed : Lexed) (forest : Forest) : Type 0 where
   pub small : length text ≤ 4294967295
   pub lexing : IsLexing text edition lexed
@@ -29,6 +29,7 @@ pub record IsParsed (text : List ℕ) (edition : Edition) (entry : TopEntryPoint
   pub made : IsOutputOf entry (records lexed.tokens edition) forest
   pub core : (tree : Forest) → IsCore entry (records lexed.tokens edition) tree → (forest ≡ tree) × (message_count forest ≡ 0)
   pub str_one : str_one_tree (with_trivia lexed.tokens forest) ≡ true
+  pub few_whole : length (str_flat (with_trivia lexed.tokens forest)) ≤ 266 * (length text + 1)
 
 -- The sink has taken the steps of that tree, one after another; its token texts joined are the text, byte for byte;
 -- and the result says so.

@@ -69,6 +69,7 @@ impl Model for Reparser {
 
 impl Reparser {
     ghost use Rattle.ra_ap_parser.specs.Reparsed.{reparsed, kind_of, IsAgainItself};
+    ghost use Rattle.rap_grammar_core.specs.Dots.{dots_inside};
     ghost use Rattle.ra_ap_parser.specs.Closed.{brace_depth, is_closed, ClosesByOwnBrace};
 
     /// Returns the reparser of a node of the kind `node`, or `None` if such a node is not parsed again. `first_child`
@@ -151,7 +152,8 @@ impl Reparser {
     /// Parses the node again from its own tokens.
     ///
     /// If the input begins with `{`, the output is exactly one node, of the reparser's kind. Tokens after its closing
-    /// brace are left. A block, and a list of items or of a struct's fields, that the core grammar derives is its
+    /// brace are left. No node at the output's top ends with a float that ends in a dot: the node of such a float
+    /// stands in another node. A block, and a list of items or of a struct's fields, that the core grammar derives is its
     /// derivation's tree again, without a message; and a token tree, whatever its tokens are as long as their brackets
     /// are balanced, is the `TOKEN_TREE` that nests as they do. So such a node in the tree of anything that the core
     /// grammar derives, or of a macro call, is itself again when it is parsed from its own tokens. The error is
@@ -163,6 +165,7 @@ impl Reparser {
         ensures script { IfOk result (IsPrefixOf (part_script self) input.now) }
         ensures only { IfOk result (λ output. (other : Forest) → IsPrefixOf (part_script self) input.now other → other ≡ output) }
         ensures core { IfOk result (λ output. (front rest : List Record) (tree : Forest) → input.now ≡ front ++ rest → IsPartCore self front tree → IsWhole tree (length front) output) }
+        ensures dots { IfOk result (λ output. dots_inside output ≡ true) }
         ensures again { IfOk result (IsAgainItself self input.now) }
         ensures one { IfOk result (λ output. next_kind input.now ≡ L_CURLY → IsOneNode (part_kind self) output) }
         ensures too_many { (result ≡ Err ParseFault.TooManyTokens) ↔ (MAX_TOKENS < length input.now) }

@@ -83,6 +83,7 @@ pub fn parse_text<'t, S: StrSink>(
         Err(LexFault::TextTooLong) => return Err(TextFault::TextTooLong),
         Err(LexFault::NoMemory) => return Err(without_memory(alloc, edition, text)),
     };
+    let _count = lexed.len();
     let Ok(input) = lexed.to_input(alloc, edition) else {
         return Err(without_memory(alloc, edition, text));
     };

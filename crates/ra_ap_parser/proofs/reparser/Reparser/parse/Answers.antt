@@ -1,6 +1,6 @@
 use Rattle.std.proofs.Common.{sym}
 use Rattle.rap_grammar.proofs.Parts.{one_prefix}
-use Rattle.ra_ap_parser.proofs.EntryTrees.{part_core, part_again}
+use Rattle.ra_ap_parser.proofs.EntryTrees.{part_core, part_again, part_dots}
 use Rattle.ra_ap_parser.proofs.reparser.Reparser.parse.Goals as goal
 
 pub returns-in-Ok-clause-only : goal.returns-in-Ok-clause-only
@@ -12,3 +12,8 @@ returns-in-Ok-clause-core c =
 
 pub returns-in-Ok-clause-again : goal.returns-in-Ok-clause-again
 returns-in-Ok-clause-again c = rw (sym c.self.view_is) (part_again _ _ c.self.invariant c.in-Ok.ensures.script)
+
+pub returns-in-Ok-clause-dots : goal.returns-in-Ok-clause-dots
+returns-in-Ok-clause-dots c =
+    let asked = rw (sym c.self.view_is) at c.requires in
+    part_dots c.self.inside.part c.args.input.now _ asked.brace (λ n. c.in-Ok.ensures.one c.self.invariant n) c.in-Ok.ensures.script
