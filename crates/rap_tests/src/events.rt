@@ -53,6 +53,22 @@ fn comparison(alloc: Global) -> Result<Input, NoMemory> {
     Ok(input)
 }
 
+// A push makes room for 64 tokens; then there is none before the next push.
+#[test]
+fn pushes_while_there_is_room(rt: HostRuntime) -> Result<(), Fail> {
+    let mut input = Input::with_capacity(rt.alloc(), 4)?;
+    let has_room = input.push_joint_in_room(SyntaxKind::EQ, Edition::Edition2024, true);
+    assert!(rt; !has_room && input.is_empty());
+    input.push(SyntaxKind::EQ, Edition::Edition2024)?;
+    let has_room = input.push_joint_in_room(SyntaxKind::EQ, Edition::Edition2024, true);
+    assert!(rt; has_room && input.is_joint(1));
+    for _ in 0..64 {
+        let _pushed = input.push_ident_in_room(SyntaxKind::IDENT, Edition::Edition2024);
+    }
+    assert_eq!(rt; input.len(), 64);
+    Ok(())
+}
+
 #[test]
 fn reads_tokens_back(rt: HostRuntime) -> Result<(), Fail> {
     let input = comparison(rt.alloc())?;
