@@ -1,3 +1,4 @@
+pub mod Fronts
 pub mod InRowLemmas
 pub mod Roots
 pub mod Texts

@@ -14,6 +14,7 @@ pub mod ChildSizes
 pub mod Children
 pub mod Collects
 pub mod InRange
+pub mod NodePlaces
 pub mod PlainText
 pub mod Queries
 pub mod Stored

@@ -12,7 +12,8 @@ use std::alloc::Global;
 
 impl Node {
     /// The text of the node without white space and comments: the texts of its other leaves, in order, with nothing
-    /// between them. The tree must be that of the node. The error means out of memory.
+    /// between them. The tree must be that of the node, as [`Tree::build`] and [`Tree::of_text`] return it. The error
+    /// means out of memory.
     pub fn text_without_trivia(&self, alloc: Global, tree: &Tree<'_>) -> Result<String, NoMemory>
         requires { HavePlaces tree.now.text.now self.now.children }
         ensures { IfOk result (λ text. string_bytes text ≡ plain_text tree.now.text.now (leaves_of self.now.children)) }

@@ -6,7 +6,7 @@ ghost use Rattle.rap_events.specs.Forest.{one_tree, used};
 ghost use Rattle.ra_ap_parser.specs.Headline.{HasTooManyTokens};
 ghost use Rattle.rap_lexed.specs.Input.{records};
 ghost use Rattle.rap_lexed.specs.LexedStr.{joined};
-ghost use Rattle.rap_lexed.specs.Trivia.{significant, with_trivia};
+ghost use Rattle.rap_lexed.specs.Trivia.{front_of, significant, with_trivia};
 ghost use Rattle.syntax_tree.specs.Children.{children_of};
 ghost use Rattle.syntax_tree.specs.Places.{HavePlaces, IsPlace};
 ghost use Rattle.syntax_tree.specs.Ranged.{Ranged};
@@ -38,19 +38,23 @@ impl<'t> Tree<'t> {
     /// It requires what [`LexedStr::intersperse_trivia`] requires, and has the nodes and leaves of that call, in order.
     /// The first leaf begins at 0, each further one where the leaf before it ends, and each is as long as its text. A
     /// node begins where the leaves before it end, and ends where its own last leaf ends; a node without a leaf is
-    /// empty. The output's messages are not kept. The error means out of memory.
+    /// empty. The root ends where the tokens that the output covers end, with the trivia after them; what follows in the
+    /// text is in no node. Every range is on character boundaries of the text, so [`Tree::text_of`] returns the text of
+    /// each node. The output's messages are not kept. The error means out of memory.
     pub fn build(alloc: Global, lexed: &LexedStr<'t>, output: &Output) -> Result<Tree<'t>, NoMemory>
         requires tree { one_tree output.now ≡ true }
         requires prefix { (edition : Edition) × (covers (records lexed.now.tokens edition) output.now ≡ true) }
         ensures ranged { IfOk result (λ tree. Ranged (with_trivia lexed.now.tokens output.now) tree.root) }
         ensures text { IfOk result (λ tree. tree.text.now ≡ joined lexed.now.tokens) }
         ensures messages { IfOk result (λ tree. tree.messages.items ≡ []) }
+        ensures begins { IfOk result (λ tree. tree.root.start ≡ 0) }
+        ensures ends { IfOk result (λ tree. tree.root.end ≡ length (joined (front_of (used output.now) lexed.now.tokens))) }
         ensures whole { IfOk result (λ tree. used output.now ≡ significant lexed.now.tokens
-            → (tree.root.start ≡ 0) × (tree.root.end ≡ length (joined lexed.now.tokens))) }
-        ensures places { IfOk result (λ tree. used output.now ≡ significant lexed.now.tokens
-            → HavePlaces (joined lexed.now.tokens) (alone tree.root)) }
+            → tree.root.end ≡ length (joined lexed.now.tokens)) }
+        ensures places { IfOk result (λ tree. HavePlaces (joined lexed.now.tokens) (alone tree.root)) }
     {
         let mut builder = Builder::new(alloc);
+        let _count = lexed.len();
         let _whole = lexed.intersperse_trivia(output, &mut builder)?;
         Ok(Tree {
             text: lexed.as_str(),
