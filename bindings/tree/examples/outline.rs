@@ -32,7 +32,7 @@ fn outline(text: &str) -> String {
         let Some(word) = name.parent().and_then(word_for) else { continue };
         let depth = name.ancestors().skip(2).filter(|node| word_for(*node).is_some()).count();
         let position = index.position(name.text_range().start, Unit::Bytes).expect("a name begins with a character");
-        let _ = writeln!(lines, "{:4} {:indent$}{word} {name}", position.line + 1, "", indent = 2 * depth);
+        let _ = writeln!(lines, "{:4} {}{word} {name}", position.line + 1, "  ".repeat(depth));
     }
     lines
 }

@@ -1,4 +1,5 @@
 //! Builds the list of a tree and its messages from the calls of the parser's package.
+use crate::offsets::leaf_at;
 use crate::tree::{Element, Message, NO_PARENT};
 use ra_ap_parser::{Edition, LexedStr, StrStep, SyntaxKind, TopEntryPoint};
 
@@ -6,7 +7,7 @@ use ra_ap_parser::{Edition, LexedStr, StrStep, SyntaxKind, TopEntryPoint};
 pub(crate) fn build(edition: Edition, entry: &TopEntryPoint, text: &str) -> (Vec<Element>, Vec<Message>) {
     let lexed = LexedStr::new(edition, text);
     let output = entry.parse(&lexed.to_input(edition));
-    let mut builder = Builder::with_room(text.len() / 3);
+    let mut builder = Builder::with_room(text.len() / 2);
     lexed.intersperse_trivia(&output, &mut |step| builder.take(step));
     let Builder { elements, mut reports, .. } = builder;
     reports.extend(lexed.errors().map(|(token, message)| (lexed.text_start(token), message.to_owned())));
@@ -21,17 +22,6 @@ fn placed(elements: &[Element], position: usize, text: String) -> Message {
         None => position..position,
     };
     Message::new(text, position, range)
-}
-
-/// The index of the token that has the byte at this offset; `None` at the end of the text and after it.
-///
-/// Of all elements that begin at a byte or before, the last one is the token that has it, as elements are in the order
-/// of their beginnings, and behind an empty node some token begins where the node does.
-pub(crate) fn leaf_at(elements: &[Element], offset: usize) -> Option<usize> {
-    if elements.first().is_none_or(|root| offset >= root.end as usize) {
-        return None;
-    }
-    Some(elements.partition_point(|element| element.start as usize <= offset) - 1)
 }
 
 /// The list as far as the steps have come. Each open node has the index of the one around it.

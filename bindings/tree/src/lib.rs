@@ -40,9 +40,9 @@
 //!
 //! # What a call costs
 //!
-//! Building is linear in the text. No call but [`Tree::of_text`], [`LineIndex::new`] and [`Tree::clone`] allocates
-//! memory, and none goes deeper into the stack for a deeper tree. What begins or follows a node is found at once, what
-//! ends or precedes it by a climb through the levels between; what is at an offset by bisection and such a climb.
+//! Building is linear in the text. No way through a tree allocates memory, and none goes deeper into the stack for a
+//! deeper tree. What begins or follows a node is found at once, what ends or precedes it by a climb through the levels
+//! between; what is at an offset by bisection and such a climb.
 #![deny(missing_docs)]
 
 mod builder;

@@ -57,7 +57,8 @@ impl fmt::Debug for Node<'_> {
         for event in self.preorder_with_tokens() {
             match event {
                 WalkEvent::Enter(element) => {
-                    writeln!(f, "{:1$}{element:?}", "", 2 * depth)?;
+                    (0..depth).try_for_each(|_| f.write_str("  "))?;
+                    writeln!(f, "{element:?}")?;
                     depth += 1;
                 }
                 WalkEvent::Leave(_) => depth -= 1,

@@ -1,9 +1,20 @@
 //! What stands at a byte of the text, or covers a range.
 use crate::TokenAtOffset;
-use crate::builder::leaf_at;
 use crate::place::Place;
+use crate::tree::Element;
 use std::iter::successors;
 use std::ops::Range;
+
+/// The index of the token that has the byte at this offset; `None` at the end of the text and after it.
+///
+/// Of all elements that begin at a byte or before, the last one is the token that has it, as elements are in the order
+/// of their beginnings, and behind an empty node some token begins where the node does.
+pub(crate) fn leaf_at(elements: &[Element], offset: usize) -> Option<usize> {
+    if elements.first().is_none_or(|root| offset >= root.end as usize) {
+        return None;
+    }
+    Some(elements.partition_point(|element| element.start as usize <= offset) - 1)
+}
 
 impl<'t> Place<'t> {
     /// The token that has a byte of the text.
