@@ -1,0 +1,67 @@
+//! Flat syntax trees of Rust, over the parser that is written and proved in Rattle.
+//!
+//! A [`Tree`] owns a text, its nodes and tokens, and the messages about it. A [`Node`] and a [`Token`] are handles, a
+//! reference to the tree and an index, which are copied freely. The names and their meaning are those of the crate
+//! `rowan`, on which rust-analyzer's trees stand; offsets and ranges are `usize` and `Range<usize>`, in bytes.
+//!
+//! ```
+//! use rap_tree::{Edition, Node, SyntaxKind, TopEntryPoint, Tree};
+//!
+//! /// The name of a function.
+//! fn name_of(function: Node<'_>) -> Option<Node<'_>> {
+//!     function.children().find(|child| child.kind() == SyntaxKind::NAME)
+//! }
+//!
+//! let tree = Tree::of_text(Edition::CURRENT, TopEntryPoint::SourceFile, "fn f() {} mod m { fn g() {} }");
+//! let functions = tree.root().descendants().filter(|node| node.kind() == SyntaxKind::FN);
+//! let names: Vec<String> = functions.filter_map(name_of).map(|name| name.to_string()).collect();
+//! assert_eq!(names, ["f", "g"]);
+//! ```
+//!
+//! # A tree in print
+//!
+//! `{}` of a node is its text, `{:?}` its kind and range, and `{:#?}` all that is in it.
+//!
+//! ```
+//! use rap_tree::{Edition, TopEntryPoint, Tree};
+//!
+//! let tree = Tree::of_text(Edition::CURRENT, TopEntryPoint::Expr, "1 + 2");
+//! let lines = r#"BIN_EXPR@0..5
+//!   LITERAL@0..1
+//!     INT_NUMBER@0..1 "1"
+//!   WHITESPACE@1..2 " "
+//!   PLUS@2..3 "+"
+//!   WHITESPACE@3..4 " "
+//!   LITERAL@4..5
+//!     INT_NUMBER@4..5 "2"
+//! "#;
+//! assert_eq!(format!("{:#?}", tree.root()), lines);
+//! ```
+//!
+//! # What a call costs
+//!
+//! Building is linear in the text. No way through a tree allocates memory, and none goes deeper into the stack for a
+//! deeper tree. What begins or follows a node is found at once, what ends or precedes it by a climb through the levels
+//! between; what is at an offset by bisection and such a climb.
+#![deny(missing_docs)]
+
+mod builder;
+mod iterators;
+mod line_index;
+mod node;
+mod node_or_token;
+mod offsets;
+mod place;
+mod token;
+mod token_at_offset;
+mod tree;
+
+pub use iterators::{Children, ChildrenWithTokens, Descendants, DescendantsWithTokens, PreorderWithTokens, WalkEvent};
+pub use line_index::{LineIndex, Position, Unit};
+pub use node::{Direction, Node};
+pub use node_or_token::NodeOrToken;
+pub use token::Token;
+pub use token_at_offset::TokenAtOffset;
+pub use tree::{Message, Tree};
+
+pub use ra_ap_parser::{Edition, SyntaxKind, T, TopEntryPoint};
