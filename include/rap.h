@@ -12,6 +12,10 @@
  * is RAP_OK too, the array has the first of them, and `steps` is the number of all. The same is true of the bytes of
  * messages. A call on the same text with more room returns the same numbers.
  *
+ * For `n` records rap_parse, rap_parse_prefix and rap_parse_node have at most 256 * (n + 1) steps. The tree of a text
+ * of `n` bytes has at most 266 * (n + 1), besides the lexer's messages. Most need far fewer: a call with a room of 0
+ * counts them. No such number is given for the bytes of messages.
+ *
  * The tokens of a macro expander are in no text. They are parsed as records, by rap_parse, rap_parse_prefix and
  * rap_parse_node. For a text, rap_records, rap_parse and rap_weave, each called with the results of the one before it,
  * return together what rap_tree returns in one call, except the lexer's messages.
@@ -35,6 +39,14 @@
 #ifdef __cplusplus
 extern "C" {
 #endif
+
+/* The version of the interface that this header declares. The first number changes where a program must be changed, or
+ * compiled again; the second where something is added; and the third where neither is so.
+ */
+#define RAP_VERSION_MAJOR 1
+#define RAP_VERSION_MINOR 0
+#define RAP_VERSION_PATCH 0
+#define RAP_VERSION (1000000 * RAP_VERSION_MAJOR + 1000 * RAP_VERSION_MINOR + RAP_VERSION_PATCH)
 
 /* The stack.
  *
@@ -117,6 +129,7 @@ struct rap_part {
  * rap_parse_prefix in place of RAP_NO_RECORD and RAP_TOO_MANY_TOKENS; rap_parse_node in place of these two and
  * RAP_NO_BRACE; rap_weave in place of RAP_NO_STEPS; and rap_script in place of RAP_NO_SCRIPT. No other call returns it
  * where another of these applies.
+ * The text of a status is written by rap_status_text.
  */
 enum rap_status {
     RAP_OK = 0,              /* the steps are those of one tree, or of a text's tokens */
@@ -344,6 +357,19 @@ struct rap_answer rap_blank_lines(const uint8_t *text, size_t text_length);
  * name in bytes: 0 if the number is no kind's. No name has more than 32 bytes.
  */
 size_t rap_kind_name(uint32_t kind, uint8_t *name, size_t name_room);
+
+/* The number of the kind with this name, which has no 0 at its end; RAP_NO_KIND where no kind has it. */
+uint32_t rap_kind_of_name(const uint8_t *name, size_t name_length);
+
+/* Writes the text of a status, in ASCII and with no 0 at the end, as many bytes as fit, and returns the length of the
+ * text in bytes: 0 if the number is no status. No text has more than 34 bytes.
+ */
+size_t rap_status_text(uint32_t status, uint8_t *text, size_t text_room);
+
+/* The version of the interface that the library has, as a number like RAP_VERSION. A program that was compiled with
+ * this header may run with a library of the same first number and of no lower second one.
+ */
+uint32_t rap_version(void);
 
 #ifdef __cplusplus
 }

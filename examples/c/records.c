@@ -203,6 +203,27 @@ static void test_too_many(void) {
     free(records);
 }
 
+/* The names of the kinds and their numbers; the texts of the statuses; the version. */
+static void test_names(void) {
+    uint8_t bytes[40];
+    for (uint32_t k = 0; k <= RAP_LAST_KIND; k++) {
+        size_t length = rap_kind_name(k, bytes, sizeof bytes);
+        expect(length > 0 && length <= 32 && rap_kind_of_name(bytes, length) == k, "a kind by its name");
+        expect(rap_kind_of_name(bytes, length - 1) != k, "a kind by a part of its name");
+    }
+    expect(rap_kind_of_name(bytes, 0) == RAP_NO_KIND, "a kind without a name");
+    expect(rap_kind_of_name((const uint8_t *)"Ident", 5) == RAP_NO_KIND, "a name of no kind");
+    expect(rap_kind_of_name((const uint8_t *)"IDENT", 5) == RAP_IDENT, "an identifier's name");
+    for (uint32_t status = RAP_OK; status <= RAP_NO_SCRIPT; status++) {
+        size_t length = rap_status_text(status, bytes, sizeof bytes);
+        expect(length > 0 && length <= 34, "a status's text");
+    }
+    expect(rap_status_text(RAP_NO_SCRIPT + 1, bytes, sizeof bytes) == 0, "the text of no status");
+    memset(bytes, '?', sizeof bytes);
+    expect(rap_status_text(RAP_NO_MEMORY, bytes, 3) == 13 && !memcmp(bytes, "out?", 4), "a text with too little room");
+    expect(rap_version() == RAP_VERSION, "the version");
+}
+
 /* Nothing is believed of a step. */
 static void test_no_steps(void) {
     static const char text[] = "/* */ x.0.1 ; ";
@@ -307,6 +328,7 @@ int main(int count, char **words) {
     test_no_records();
     test_nodes();
     test_too_many();
+    test_names();
     test_no_steps();
     test_no_messages();
     for (size_t i = 0; i < sizeof texts / sizeof *texts; i++)

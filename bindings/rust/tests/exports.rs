@@ -1,5 +1,5 @@
 //! The exports as C calls them, with results worked out by hand.
-use ra_ap_parser::sys::{self, Answer, ENTER, EXIT, LONG, MESSAGE, NO_KIND, Part, Step, TOKEN};
+use ra_ap_parser::sys::{self, Answer, ENTER, EXIT, LONG, MESSAGE, NO_KIND, NO_SCRIPT, Part, Step, TOKEN, VERSION};
 
 /// The contents of an array that no call has written to.
 const BLANK: Step = Step { what: 99, kind: 99, at: 99, start: 99, end: 99 };
@@ -205,6 +205,31 @@ fn names_kinds() {
     assert_eq!(kind_name(329, 9), (9, b"PATH_META".to_vec()));
     assert_eq!(kind_name(3, 2), (7, b"L_".to_vec()));
     assert_eq!(kind_name(NO_KIND, 2), (0, b"..".to_vec()));
+}
+
+#[test]
+fn finds_kinds_by_their_names() {
+    let kind_of = |name: &[u8]| unsafe { sys::rap_kind_of_name(name.as_ptr(), name.len()) };
+    assert_eq!([kind_of(b"EOF"), kind_of(b"L_PAREN"), kind_of(b"PATH_META")], [0, 3, 329]);
+    assert_eq!([kind_of(b""), kind_of(b"EO"), kind_of(b"eof"), kind_of(b"EOF\0")], [NO_KIND; 4]);
+}
+
+#[test]
+fn says_what_statuses_mean() {
+    let text_of = |status, room| {
+        let mut text = vec![b'.'; room];
+        let length = unsafe { sys::rap_status_text(status, text.as_mut_ptr(), room) };
+        (length, text)
+    };
+    assert_eq!(text_of(0, 4), (2, b"ok..".to_vec()));
+    assert_eq!(text_of(sys::NO_MEMORY, 3), (13, b"out".to_vec()));
+    assert_eq!(text_of(NO_SCRIPT, 16), (16, b"no script source".to_vec()));
+    assert_eq!(text_of(NO_SCRIPT + 1, 1), (0, b".".to_vec()));
+}
+
+#[test]
+fn is_declared_as_the_library_is() {
+    assert_eq!(unsafe { sys::rap_version() }, VERSION);
 }
 
 #[test]

@@ -3,6 +3,7 @@ pub mod GivenBy
 pub mod NoKind
 pub mod Packed
 pub mod Put
+pub mod Room
 pub mod Rows
 pub mod Settled
 pub mod Shown

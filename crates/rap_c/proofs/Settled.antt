@@ -1,7 +1,9 @@
 -- Results of calls that may have had a fault.
-use Rattle.std.proofs.Common.{◌≡◌, ℕ, ◌≤◌, ◌<◌, List, Bool, true, false, Option, Result, Ok, Err, ap, subst, arith}
+use Rattle.std.proofs.Common.{◌≡◌, ℕ, ◌≤◌, ◌<◌, List, Bool, true, false, Option, Result, Ok, Err, ap, subst, ◌∙◌, arith}
 use Rattle.std.specs.Prelude.{IfOk, IfErr, MatchResult, if◌then◌else◌}
-use Rattle.rap_events.specs.Forest.{one_tree}
+use Rattle.std.proofs.lemmas.Bool.{cond-true}
+use Rattle.rap_events.specs.Forest.{Forest, one_tree}
+use Rattle.rap_c.specs.Parsed.{status_of}
 use Rattle.rap_c.specs.Answer.{refusal}
 use Rattle.rap_c.specs.Given.{IsRefusal, IsUntouched}
 use Rattle.rap_c.specs.Reparse.{ComesOfReparse, IsReparsed}
@@ -35,3 +37,7 @@ refused_past Good Comes Same High (Err fault) answer low is good comes same high
 -- the status of an output is low
 pub low_output : (b : Bool) (n : ℕ) → n ≡ (if b then 0 else 1) → 1 < n → ⊥
 low_output b n e h = absurd (omega (arith, low b n e, h))
+
+-- that of one tree is 0
+pub one_output : (f : Forest) (n : ℕ) → n ≡ status_of f → one_tree f ≡ true → n ≡ 0
+one_output f n e one = e ∙ cond-true (one_tree f) 0 1 one

@@ -14,9 +14,11 @@ pub mod Records
 pub mod Reparse
 pub mod Script
 pub mod Shown
+pub mod StatusText
 pub mod Token
 pub mod Tokens
 pub mod Tree
 pub mod TreeWords
+pub mod Version
 pub mod Woven
 pub mod Words

@@ -1,10 +1,12 @@
 -- What is returned of records that are parsed.
-use Rattle.std.specs.Prelude.{◌≡◌, ◌≢◌, ℕ, ◌≤◌, ◌<◌, List, Option, Some, None, true, length, if◌then◌else◌}
+use Rattle.std.specs.Prelude.{◌≡◌, ◌≢◌, ℕ, ◌+◌, ◌*◌, ◌≤◌, ◌<◌, List, Option, Some, None, true, length, if◌then◌else◌}
 use Rattle.rap_base.specs.TokenKind.{L_CURLY}
 use Rattle.rap_events.specs.Forest.{Forest, flat, one_tree, used}
 use Rattle.rap_events.specs.Record.{Record, next_kind}
-use Rattle.rap_grammar.specs.Part.{IsPrefixOf, part_script, part_kind, asks_brace}
+use Rattle.rap_grammar.specs.Part.{IsOneNode, IsPrefixOf, IsPrefixOver, part_script, part_kind, asks_brace}
+use Rattle.rap_grammar.specs.Top.{IsTreeOver}
 use Rattle.rap_grammar.specs.declared.entry.part.Part.{Part}
+use Rattle.rap_grammar_core.specs.Dots.{dots_inside}
 use Rattle.ra_ap_parser.specs.EntryScript.{IsOutputOf, IsPrefixOutputOf}
 use Rattle.ra_ap_parser.specs.declared.entry_point.PrefixEntryPoint.{PrefixEntryPoint}
 use Rattle.ra_ap_parser.specs.declared.entry_point.TopEntryPoint.{TopEntryPoint}
@@ -30,7 +32,8 @@ pub record IsRawOutput (output : Forest) (steps steps_after : List RapStep) (mes
   pub status : answer.status ≡ status_of output
   pub used_is : answer.used ≡ used output
 
--- The numbers are those of records, few enough for the parser, and the output of their parse is returned.
+-- The numbers are those of records, few enough for the parser, and the output of their parse is returned. There are at
+-- most 256 steps for each record, and 256 more.
 pub record IsFilledParse (Makes : List Record → Forest → Type 0) (rows : List RapRecord) (steps steps_after : List RapStep) (messages messages_after : List ℕ) (answer : RapAnswer) : Type 0 where
   pub records : List Record
   pub output : Forest
@@ -38,23 +41,40 @@ pub record IsFilledParse (Makes : List Record → Forest → Type 0) (rows : Lis
   pub few : length records ≤ max_tokens
   pub made : Makes records output
   pub is : IsRawOutput output steps steps_after messages messages_after answer
+  pub few_steps : answer.steps ≤ 256 * (length rows + 1)
 
--- The number is that of a top entry, and its output is returned.
+-- The output is the entry's, and one tree over all records.
+pub record IsTopTreeOf (entry : TopEntryPoint) (records : List Record) (output : Forest) : Type 0 where
+  pub made : IsOutputOf entry records output
+  pub tree : IsTreeOver records output
+
+-- The output is the entry's, over records at the front and over no others; and no node at its top ends with a float that
+-- ends in a dot.
+pub record IsFrontOf (entry : PrefixEntryPoint) (records : List Record) (output : Forest) : Type 0 where
+  pub made : IsPrefixOutputOf entry records output
+  pub front : IsPrefixOver records output
+  pub dots : dots_inside output ≡ true
+
+-- The number is that of a top entry, and its one tree over all records is returned.
 pub record IsParse (rows : List RapRecord) (entry_number : ℕ) (steps steps_after : List RapStep) (messages messages_after : List ℕ) (answer : RapAnswer) : Type 0 where
   pub entry : TopEntryPoint
   pub is_entry : IsTopOf entry_number entry
-  pub filled : IsFilledParse (IsOutputOf entry) rows steps steps_after messages messages_after answer
+  pub filled : IsFilledParse (IsTopTreeOf entry) rows steps steps_after messages messages_after answer
 
 -- The number is that of a prefix entry, and its output is returned.
 pub record IsParsePrefix (rows : List RapRecord) (entry_number : ℕ) (steps steps_after : List RapStep) (messages messages_after : List ℕ) (answer : RapAnswer) : Type 0 where
   pub entry : PrefixEntryPoint
   pub is_entry : numbers.IsPrefixOf entry_number entry
-  pub filled : IsFilledParse (IsPrefixOutputOf entry) rows steps steps_after messages messages_after answer
+  pub filled : IsFilledParse (IsFrontOf entry) rows steps steps_after messages messages_after answer
 
--- The node begins as it must, and this is its output.
+-- The node begins as it must, and this is its output, over records at the front and over no others: exactly one node of
+-- its kind where a brace comes first.
 pub record IsNodeOutputOf (part : Part) (records : List Record) (output : Forest) : Type 0 where
   pub brace : asks_brace part ≡ true → next_kind records ≡ L_CURLY
   pub made : IsPrefixOf (part_script part) records output
+  pub front : IsPrefixOver records output
+  pub dots : dots_inside output ≡ true
+  pub one : next_kind records ≡ L_CURLY → IsOneNode (part_kind part) output
 
 -- The node of this kind is returned.
 pub record IsParseNode (rows : List RapRecord) (kind : Option ℕ) (steps steps_after : List RapStep) (messages messages_after : List ℕ) (answer : RapAnswer) : Type 0 where
@@ -67,6 +87,13 @@ pub record AreTooMany (rows : List RapRecord) : Type 0 where
   pub records : List Record
   pub input : IsInputOf rows records
   pub many : max_tokens < length records
+
+-- the same, and the node begins as it must
+pub record AreTooManyInBraces (rows : List RapRecord) (part : Part) : Type 0 where
+  pub records : List Record
+  pub input : IsInputOf rows records
+  pub many : max_tokens < length records
+  pub brace : asks_brace part ≡ true → next_kind records ≡ L_CURLY
 
 -- the node must begin with a brace, and the records do not
 pub record LackBrace (rows : List RapRecord) (part : Part) : Type 0 where
@@ -94,7 +121,7 @@ ComesOfNodeRows rows part NoEdition = ⊥
 ComesOfNodeRows rows part NoEntry = ⊥
 ComesOfNodeRows rows part NotUtf8 = ⊥
 ComesOfNodeRows rows part TextTooLong = ⊥
-ComesOfNodeRows rows part TooManyTokens = AreTooMany rows
+ComesOfNodeRows rows part TooManyTokens = AreTooManyInBraces rows part
 ComesOfNodeRows rows part NoMemory = Unit {0}
 ComesOfNodeRows rows part NoNode = ⊥
 ComesOfNodeRows rows part NoBrace = LackBrace rows part
@@ -137,7 +164,7 @@ ComesOfParseNode rows kind NoEdition = ⊥
 ComesOfParseNode rows kind NoEntry = ⊥
 ComesOfParseNode rows kind NotUtf8 = ⊥
 ComesOfParseNode rows kind TextTooLong = ⊥
-ComesOfParseNode rows kind TooManyTokens = IsAskedPart kind (λ part. AreTooMany rows)
+ComesOfParseNode rows kind TooManyTokens = IsAskedPart kind (λ part. AreTooManyInBraces rows part)
 ComesOfParseNode rows kind NoMemory = IsAskedPart kind (λ part. Unit {0})
 ComesOfParseNode rows kind NoNode = kind ≡ None
 ComesOfParseNode rows kind NoBrace = IsAskedPart kind (λ part. LackBrace rows part)

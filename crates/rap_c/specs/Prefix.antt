@@ -1,8 +1,10 @@
 -- What is returned of a prefix of a text.
-use Rattle.std.specs.Prelude.{ℕ, ◌≤◌, ◌<◌, List, length, IsUtf8}
+use Rattle.std.specs.Prelude.{◌≡◌, ℕ, ◌≤◌, ◌<◌, List, true, length, IsUtf8}
 use Rattle.rap_base.specs.declared.edition.Edition.{Edition}
 use Rattle.rap_events.specs.Forest.{Forest}
 use Rattle.ra_ap_parser.specs.EntryScript.{IsPrefixOutputOf}
+use Rattle.rap_grammar.specs.Part.{IsPrefixOver}
+use Rattle.rap_grammar_core.specs.Dots.{dots_inside}
 use Rattle.ra_ap_parser.specs.Headline.{HasTooManyTokens}
 use Rattle.rap_lexed.specs.Input.{records}
 use Rattle.rap_lexed.specs.LexedStr.{Lexed, IsLexing}
@@ -21,12 +23,15 @@ pub record IsRead (text : List ℕ) (edition : Edition) (lexed : Lexed) : Type 0
   pub lexing : IsLexing text edition lexed
   pub few : length (records lexed.tokens edition) ≤ max_tokens
 
--- The output of the entry for a prefix of the text is returned.
+-- The output of the entry for a prefix of the text is returned: it is over tokens at the front and over no others, and no
+-- node at its top ends with a float that ends in a dot.
 pub record IsFilledPrefix (text : List ℕ) (edition : Edition) (entry : PrefixEntryPoint) (steps steps_after : List RapStep) (messages messages_after : List ℕ) (answer : RapAnswer) : Type 0 where
   pub lexed : Lexed
   pub output : Forest
   pub is_read : IsRead text edition lexed
   pub made : IsPrefixOutputOf entry (records lexed.tokens edition) output
+  pub front : IsPrefixOver (records lexed.tokens edition) output
+  pub dots : dots_inside output ≡ true
   pub is : IsOutput lexed.tokens output steps steps_after messages messages_after answer
 
 -- The bytes are UTF-8, the numbers are those of an edition and of an entry, and its output is returned.

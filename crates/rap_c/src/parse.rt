@@ -1,9 +1,8 @@
 //! Records parsed as a whole.
 ghost use Rattle.std.specs.Prelude.{◌≡◌, ◌≢◌, ◌≤◌, ◌<◌, IfErr, IfOk};
-ghost use Rattle.ra_ap_parser.specs.EntryScript.{IsOutputOf};
 ghost use Rattle.rap_events.specs.Forest.{used};
 ghost use Rattle.rap_c.specs.Given.{IsRefusal, IsUntouched};
-ghost use Rattle.rap_c.specs.Parsed.{ComesOfParse, ComesOfRows, IsFilledParse, IsParse, IsRawOutput, status_of};
+ghost use Rattle.rap_c.specs.Parsed.{ComesOfParse, ComesOfRows, IsFilledParse, IsParse, IsRawOutput, IsTopTreeOf, status_of};
 ghost use Rattle.rap_base.specs.Limits.{max_tokens};
 
 use crate::answer::{Fault, NO_TREE, OK, RapAnswer, settle};
@@ -42,7 +41,7 @@ fn fill_parse(
     steps: &mut [RapStep],
     messages: &mut [u8],
 ) -> Result<RapAnswer, Fault>
-    ensures filled { IfOk result (IsFilledParse (IsOutputOf entry) rows.now steps.old steps.new messages.old messages.new) }
+    ensures filled { IfOk result (IsFilledParse (IsTopTreeOf entry) rows.now steps.old steps.new messages.old messages.new) }
     ensures fault { IfErr result (ComesOfRows rows.now) }
     ensures untouched { IfErr result (λ _. IsUntouched steps.old steps.new messages.old messages.new) }
 {
@@ -71,7 +70,8 @@ fn parse(
 }
 
 /// Parses the records as a whole from the top entry with the number, and fills the slices with the steps of the output,
-/// which count records, and with the bytes of its messages. Returns how many of each there are.
+/// which count records, and with the bytes of its messages. Returns how many of each there are. The output is one tree
+/// over all records, so the status is never 1.
 #[unsafe(no_mangle)]
 pub extern "C" fn rap_parse(
     alloc: Global,
@@ -80,8 +80,8 @@ pub extern "C" fn rap_parse(
     steps: &mut [RapStep],
     messages: &mut [u8],
 ) -> RapAnswer
-    ensures parsed { result.status ≤ 1 → IsParse rows.now entry steps.old steps.new messages.old messages.new result }
-    ensures refused { 1 < result.status → IsRefusal (ComesOfParse rows.now entry) result × IsUntouched steps.old steps.new messages.old messages.new }
+    ensures parsed { result.status ≡ 0 → IsParse rows.now entry steps.old steps.new messages.old messages.new result }
+    ensures refused { result.status ≢ 0 → IsRefusal (ComesOfParse rows.now entry) result × IsUntouched steps.old steps.new messages.old messages.new }
 {
     settle(parse(alloc, rows, entry, steps, messages))
 }

@@ -1,8 +1,7 @@
 //! Parsing a prefix of records.
 ghost use Rattle.std.specs.Prelude.{◌≡◌, ◌≤◌, ◌<◌, IfErr, IfOk};
-ghost use Rattle.ra_ap_parser.specs.EntryScript.{IsPrefixOutputOf};
 ghost use Rattle.rap_c.specs.Given.{IsRefusal, IsUntouched};
-ghost use Rattle.rap_c.specs.Parsed.{ComesOfParsePrefix, ComesOfRows, IsFilledParse, IsParsePrefix};
+ghost use Rattle.rap_c.specs.Parsed.{ComesOfParsePrefix, ComesOfRows, IsFilledParse, IsFrontOf, IsParsePrefix};
 
 use crate::answer::{Fault, RapAnswer, settle};
 use crate::numbers::prefix_entry_of;
@@ -20,7 +19,7 @@ fn fill_front(
     steps: &mut [RapStep],
     messages: &mut [u8],
 ) -> Result<RapAnswer, Fault>
-    ensures filled { IfOk result (IsFilledParse (IsPrefixOutputOf entry) rows.now steps.old steps.new messages.old messages.new) }
+    ensures filled { IfOk result (IsFilledParse (IsFrontOf entry) rows.now steps.old steps.new messages.old messages.new) }
     ensures fault { IfErr result (ComesOfRows rows.now) }
     ensures untouched { IfErr result (λ _. IsUntouched steps.old steps.new messages.old messages.new) }
 {

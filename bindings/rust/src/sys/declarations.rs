@@ -64,6 +64,9 @@ pub const LONG: u32 = 8191;
 /// A number that is no kind's, as `RAP_NO_KIND`.
 pub const NO_KIND: u32 = 330;
 
+/// The version of the interface that is declared here, as `RAP_VERSION`.
+pub const VERSION: u32 = 1_000_000;
+
 unsafe extern "C" {
     pub fn rap_tree(
         text: *const u8,
@@ -189,4 +192,10 @@ unsafe extern "C" {
     pub fn rap_blank_lines(text: *const u8, text_length: usize) -> Answer;
 
     pub fn rap_kind_name(kind: u32, name: *mut u8, name_room: usize) -> usize;
+
+    pub fn rap_kind_of_name(name: *const u8, name_length: usize) -> u32;
+
+    pub fn rap_status_text(status: u32, text: *mut u8, text_room: usize) -> usize;
+
+    pub fn rap_version() -> u32;
 }
