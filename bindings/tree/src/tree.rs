@@ -67,6 +67,12 @@ impl Tree {
         Tree { text, elements, messages }
     }
 
+    /// The tree of these steps.
+    #[cfg(test)]
+    pub(crate) fn of_steps(text: &str, steps: Vec<ra_ap_parser::StrStep<'_>>) -> Tree {
+        Tree { text: text.into(), elements: builder::of_steps(steps), messages: Vec::new() }
+    }
+
     /// The text that the tree is over.
     ///
     /// ```
