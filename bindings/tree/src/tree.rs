@@ -27,8 +27,8 @@ const _: () = assert!(size_of::<Element>() == 20);
 
 /// The syntax tree of a text, with the text and with the messages about it.
 ///
-/// All nodes and tokens are in one list of 20 bytes each: there is no allocation for each node, and neither building nor
-/// dropping a tree takes stack for its levels. [`Tree::root`] is where reading it begins.
+/// All nodes and tokens are in one list of 20 bytes each: there is no allocation for each node, and neither building
+/// nor dropping a tree takes stack for its levels. [`Tree::root`] is where reading it begins.
 ///
 /// ```
 /// use rap_tree::{Edition, TopEntryPoint, Tree};

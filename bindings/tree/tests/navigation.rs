@@ -189,8 +189,8 @@ fn check_messages(pair: &Pair<'_>) {
     }
 }
 
-/// Compares a tree with the plain one: each part, and of large trees the lists of so many parts, drawn by lot. Returns how
-/// many empty nodes are inside the root.
+/// Compares a tree with the plain one: each part, and of large trees the lists of so many parts, drawn by lot. Returns
+/// how many empty nodes are inside the root.
 fn check(sample: &Sample, lists: usize, random: &mut Random) -> usize {
     let tree = Tree::of_text(sample.edition, sample.entry(), sample.text.as_str());
     let naive = Naive::of(sample);
