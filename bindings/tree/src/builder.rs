@@ -15,6 +15,14 @@ pub(crate) fn build(edition: Edition, entry: &TopEntryPoint, text: &str) -> (Vec
     (elements, messages)
 }
 
+/// The list of a tree of these steps.
+#[cfg(test)]
+pub(crate) fn of_steps(steps: Vec<StrStep<'_>>) -> Vec<Element> {
+    let mut builder = Builder::with_room(0);
+    steps.into_iter().for_each(|step| builder.take(step));
+    builder.elements
+}
+
 /// The message with the range of the token at its position.
 fn placed(elements: &[Element], position: usize, text: String) -> Message {
     let range = match leaf_at(elements, position) {

@@ -27,8 +27,8 @@ pub enum Direction {
 
 /// A node of a tree: a reference to the tree, and an index.
 ///
-/// Two nodes are equal if they are the same one of the same tree. `{}` of a node is its text, `{:?}` its kind and range,
-/// and `{:#?}` the same of all that is in it, a line each, tokens with their texts.
+/// Two nodes are equal if they are the same one of the same tree. `{}` of a node is its text, `{:?}` its kind and
+/// range, and `{:#?}` the same of all that is in it, a line each, tokens with their texts.
 ///
 /// ```
 /// use rap_tree::{Edition, TopEntryPoint, Tree};
@@ -324,7 +324,8 @@ impl<'t> Node<'t> {
         DescendantsWithTokens::of(self.0)
     }
 
-    /// A walk through the node and all that is inside it. Each node and token is entered, and left after what is inside it.
+    /// A walk through the node and all that is inside it. Each node and token is entered, and left after what is inside
+    /// it.
     ///
     /// ```
     /// use rap_tree::{Edition, TopEntryPoint, Tree, WalkEvent};
@@ -341,7 +342,8 @@ impl<'t> Node<'t> {
         PreorderWithTokens::of(self.0)
     }
 
-    /// The tokens in it that touch an offset of the text: none exactly if it is empty; two if the offset is between them.
+    /// The tokens in it that touch an offset of the text: none exactly if it is empty; two if the offset is between
+    /// them.
     ///
     /// # Panics
     ///
@@ -359,8 +361,8 @@ impl<'t> Node<'t> {
         self.0.token_at_offset(offset).map(Token)
     }
 
-    /// The smallest node or token in it that has the range in its own. For an empty range between two that touch it this
-    /// is the left one.
+    /// The smallest node or token in it that has the range in its own. For an empty range between two that touch it
+    /// this is the left one.
     ///
     /// # Panics
     ///
@@ -378,7 +380,8 @@ impl<'t> Node<'t> {
         self.0.covering_element(&range).into()
     }
 
-    /// The first token inside it. `None` exactly if it is empty. Where an empty node comes first, `rowan` gives `None` too.
+    /// The first token inside it. `None` exactly if it is empty. Where an empty node comes first, `rowan` gives `None`
+    /// too.
     ///
     /// ```
     /// use rap_tree::{Edition, TopEntryPoint, Tree};
@@ -391,7 +394,8 @@ impl<'t> Node<'t> {
         self.0.first_token().map(Token)
     }
 
-    /// The last token inside it. `None` exactly if it is empty. Where an empty node comes last, `rowan` gives `None` too.
+    /// The last token inside it. `None` exactly if it is empty. Where an empty node comes last, `rowan` gives `None`
+    /// too.
     ///
     /// ```
     /// use rap_tree::{Edition, TopEntryPoint, Tree};

@@ -95,3 +95,27 @@ impl<'t> Place<'t> {
         successors(Some(self), first_of).last().unwrap_or(self)
     }
 }
+
+#[cfg(test)]
+mod tests {
+    use crate::SyntaxKind::{self, ATTR, NAME, PARAM, SOURCE_FILE, VISIBILITY, WHITESPACE};
+    use crate::Tree;
+    use ra_ap_parser::StrStep;
+
+    fn node(kind: SyntaxKind, inside: Vec<Vec<StrStep<'static>>>) -> Vec<StrStep<'static>> {
+        std::iter::once(StrStep::Enter { kind }).chain(inside.into_iter().flatten()).chain([StrStep::Exit]).collect()
+    }
+
+    /// Trees as no parse gives them, with several empty nodes beside one another.
+    #[test]
+    fn covers_an_offset_beside_empty_nodes() {
+        let token = || vec![StrStep::Token { kind: WHITESPACE, text: " " }];
+        let empty = |kind| node(kind, Vec::new());
+        let inner = node(PARAM, vec![empty(ATTR), empty(NAME), token(), empty(ATTR), empty(VISIBILITY)]);
+        let tree = Tree::of_steps(" ", node(SOURCE_FILE, vec![empty(NAME), inner, empty(NAME), empty(ATTR)]));
+        let covering = |node: crate::Node<'_>, at| node.covering_element(at..at).kind();
+        let param = tree.root().children().nth(1).expect("it is there");
+        assert_eq!([covering(tree.root(), 0), covering(tree.root(), 1)], [NAME, ATTR]);
+        assert_eq!([covering(param, 0), covering(param, 1)], [NAME, VISIBILITY]);
+    }
+}

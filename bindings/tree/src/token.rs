@@ -6,8 +6,8 @@ use std::ops::Range;
 
 /// A token of a tree, white space and comments among them: a reference to the tree, and an index.
 ///
-/// Two tokens are equal if they are the same one of the same tree. `{}` of a token is its text, and `{:?}` its kind, its
-/// range and its text. Of a text of 25 bytes or more `{:?}` prints the first 21 to 24.
+/// Two tokens are equal if they are the same one of the same tree. `{}` of a token is its text, and `{:?}` its kind,
+/// its range and its text. Of a text of 25 bytes or more `{:?}` prints the first 21 to 24.
 ///
 /// ```
 /// use rap_tree::{Edition, TopEntryPoint, Tree};

@@ -27,8 +27,8 @@ const _: () = assert!(size_of::<Element>() == 20);
 
 /// The syntax tree of a text, with the text and with the messages about it.
 ///
-/// All nodes and tokens are in one list of 20 bytes each: there is no allocation for each node, and neither building nor
-/// dropping a tree takes stack for its levels. [`Tree::root`] is where reading it begins.
+/// All nodes and tokens are in one list of 20 bytes each: there is no allocation for each node, and neither building
+/// nor dropping a tree takes stack for its levels. [`Tree::root`] is where reading it begins.
 ///
 /// ```
 /// use rap_tree::{Edition, TopEntryPoint, Tree};
@@ -65,6 +65,12 @@ impl Tree {
         let text = text.into();
         let (elements, messages) = builder::build(edition, &entry, &text);
         Tree { text, elements, messages }
+    }
+
+    /// The tree of these steps.
+    #[cfg(test)]
+    pub(crate) fn of_steps(text: &str, steps: Vec<ra_ap_parser::StrStep<'_>>) -> Tree {
+        Tree { text: text.into(), elements: builder::of_steps(steps), messages: Vec::new() }
     }
 
     /// The text that the tree is over.
