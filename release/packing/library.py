@@ -36,7 +36,9 @@ def exported(words: list[str], folder: str) -> list[str]:
 
 
 def make_libraries(library: str, memory: str, folder: str) -> None:
-    """Makes librap.a and librap.so.0 in a folder, and compares what they export with the header."""
+    """Makes librap.a and librap.so.0 in a folder, and holds them and the header to what callers expect."""
+    output(['cc', '-std=c11', '-Wall', '-Wextra', '-Werror', '-pedantic', '-fsyntax-only', '-I../include', 'layout.c'],
+           HERE)
     if names() != declared():
         raise Refused('release/librap0.symbols does not list the calls of include/rap.h')
     shutil.copyfile(library, f'{folder}/librap_c.a')
