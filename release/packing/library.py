@@ -41,6 +41,8 @@ def make_libraries(library: str, memory: str, folder: str) -> None:
            HERE)
     if names() != declared():
         raise Refused('release/librap0.symbols does not list the calls of include/rap.h')
+    if not set(names()) <= set(re.findall(r'\brap_[a-z_]+', read('release/layout.c'))):
+        raise Refused('release/layout.c has not all calls of include/rap.h')
     shutil.copyfile(library, f'{folder}/librap_c.a')
     shutil.copyfile(memory, f'{folder}/liblibc_c.a')
     with open(f'{folder}/names', 'w', encoding='ascii') as file:
