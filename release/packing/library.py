@@ -1,6 +1,6 @@
 """The libraries: the static one with the kit's memory functions within, and the shared one that is made of it.
 
-`librap0.symbols` is the list of the names that either gives, which must be those that the header declares."""
+`librap0.symbols` is the list of the names that either exports, which must be those that the header declares."""
 import re
 import shutil
 
@@ -29,16 +29,20 @@ def declared() -> list[str]:
     return sorted(re.findall(r'(?m)^(?:struct rap_answer|size_t) (rap_[a-z_]+)\(', read('include/rap.h')))
 
 
-def given(words: list[str], folder: str) -> list[str]:
-    """The names that a library gives, as nm prints them."""
+def exported(words: list[str], folder: str) -> list[str]:
+    """The names that a library exports, as nm prints them."""
     lines = output(['nm', '--defined-only', '--format=posix', '--extern-only', *words], folder).split('\n')
     return sorted(it.split()[0].split('@')[0] for it in lines if len(it.split()) > 1 and it.split()[1] != 'A')
 
 
 def make_libraries(library: str, memory: str, folder: str) -> None:
-    """Makes librap.a and librap.so.0 in a folder, and compares the names that they give with those of the header."""
+    """Makes librap.a and librap.so.0 in a folder, and holds them and the header to what callers expect."""
+    output(['cc', '-std=c11', '-Wall', '-Wextra', '-Werror', '-pedantic', '-fsyntax-only', '-I../include', 'layout.c'],
+           HERE)
     if names() != declared():
-        raise Refused('release/librap0.symbols has not the calls of include/rap.h')
+        raise Refused('release/librap0.symbols does not list the calls of include/rap.h')
+    if not set(names()) <= set(re.findall(r'\brap_[a-z_]+', read('release/layout.c'))):
+        raise Refused('release/layout.c has not all calls of include/rap.h')
     shutil.copyfile(library, f'{folder}/librap_c.a')
     shutil.copyfile(memory, f'{folder}/liblibc_c.a')
     with open(f'{folder}/names', 'w', encoding='ascii') as file:
@@ -48,8 +52,8 @@ def make_libraries(library: str, memory: str, folder: str) -> None:
     for line in COMMANDS:
         output(line.split(' '), folder)
     for words in [['librap.a'], ['--dynamic', SONAME]]:
-        if given(words, folder) != names():
-            raise Refused(f'{words[-1]} gives other names than the calls of include/rap.h')
+        if exported(words, folder) != names():
+            raise Refused(f'{words[-1]} exports other names than the calls of include/rap.h')
 
 
 def symbols(folder: str, package_version: str) -> bytes:
