@@ -373,6 +373,7 @@ impl<'t> Parser<'t> {
         Ok((ends_in_dot, completed))
     }
 
+    #[inline(never)]
     fn take(&mut self, kind: SyntaxKind, n_input_tokens: u8) -> Result<(), NoMemory>
         requires within { n_input_tokens ≤ (state self.old).left }
         requires stands { stands (of_tokens kind n_input_tokens) (state self.old).rest ≡ true }
@@ -432,6 +433,7 @@ impl<'t> Parser<'t> {
     }
 
     /// Starts a node.
+    #[inline(never)]
     pub fn start(&mut self) -> Result<Marker, NoMemory>
         ensures state { IfOk result (λ m. Opened (state self.old) (state self.new) m.pos.value) }
         ensures recorded { OnOk result (calls self.new ≡ calls self.old ++ call.start ∷ []) }
@@ -469,6 +471,7 @@ impl Marker {
 
     /// Finishes the node, of any kind. The marker must be the newest one, and unless a message was reported, the
     /// children must be as the kind requires.
+    #[inline(never)]
     pub fn complete_fit(
         self,
         p: &mut Parser<'_>,
@@ -487,6 +490,7 @@ impl Marker {
     }
 
     /// Abandons the node. The marker must be the newest one; what was recorded under it stays.
+    #[inline(never)]
     pub fn abandon(self, p: &mut Parser<'_>) -> Result<(), NoMemory>
         requires { (state p.old).marker ≡ Some self.pos.value }
         ensures state { OnOk result (Abandoned (state p.old) (state p.new)) }
@@ -503,6 +507,7 @@ impl CompletedMarker {
     ghost use Rattle.rap_events.specs.State.{state, calls, IsLast, Preceded, Extended};
 
     /// Starts a node around this one, which must be the one just finished.
+    #[inline(never)]
     pub fn precede(self, p: &mut Parser<'_>) -> Result<Marker, NoMemory>
         requires { IsLast (state p.old) self self.kind.value }
         ensures state { IfOk result (λ m. Preceded (state p.old) (state p.new) m.pos.value self.kind.value) }
@@ -515,6 +520,7 @@ impl CompletedMarker {
 
     /// Lets this node, which must be the one just finished, begin at `m`, the newest marker. The marker is
     /// removed. The kind must be neither `BIN_EXPR` nor `TOKEN_TREE`.
+    #[inline(never)]
     pub fn extend_to(self, p: &mut Parser<'_>, m: Marker) -> Result<CompletedMarker, NoMemory>
         requires last { IsLast (state p.old) self self.kind.value }
         requires newest { (state p.old).marker ≡ Some m.pos.value }
