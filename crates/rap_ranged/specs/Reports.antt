@@ -1,6 +1,7 @@
 -- The messages about a text.
 use Rattle.std.specs.Prelude.{ℕ, List, [], ◌∷◌, ◌++◌}
-use Rattle.rap_lexed.specs.LexedStr.{Lexed, Token, Message, start_of}
+use Rattle.rap_lexed.specs.ErrorSteps.{error_steps}
+use Rattle.rap_lexed.specs.LexedStr.{Lexed, Token, Message}
 use Rattle.rap_lexed.specs.StrStep.{StrStepValue, str_enter, str_exit, str_token, str_error}
 
 -- a message: the bytes of its text, and its position in bytes
@@ -22,8 +23,7 @@ reports_of (s ∷ ss) = reports_of_step s ++ reports_of ss
 
 -- the messages of the lexer, each at the start of its token
 abbrev pub lexer_reports : List Token → List Message → List ReportValue
-lexer_reports ts [] = []
-lexer_reports ts (m ∷ ms) = record { text = m.text; at = start_of ts m.token } ∷ lexer_reports ts ms
+lexer_reports ts ms = reports_of (error_steps ts ms)
 
 -- all messages: those of the tree, and after them those of the lexer
 abbrev pub all_reports : Lexed → List StrStepValue → List ReportValue

@@ -2,7 +2,8 @@
 use Rattle.std.specs.Prelude.{ℕ, List, [], ◌∷◌, ◌++◌, codes, chars}
 use Rattle.std.specs.Fmt.{decimal}
 use Rattle.rap_base.specs.Names.{name_of}
-use Rattle.rap_lexed.specs.LexedStr.{Token, Message, start_of}
+use Rattle.rap_lexed.specs.ErrorSteps.{error_steps}
+use Rattle.rap_lexed.specs.LexedStr.{Token, Message}
 use Rattle.rap_lexed.specs.StrStep.{StrStepValue, str_enter, str_exit, str_token, str_error}
 use Rattle.rast_page.specs.Json.{json_text}
 
@@ -37,5 +38,4 @@ message_rows (step ∷ steps) = step_message_row step ++ message_rows steps
 
 -- the items of the lexer's messages, each at the start of its token
 abbrev pub lexer_message_rows : List Token → List Message → List ℕ
-lexer_message_rows tokens [] = []
-lexer_message_rows tokens (m ∷ ms) = message_row (start_of tokens m.token) m.text ++ lexer_message_rows tokens ms
+lexer_message_rows tokens messages = message_rows (error_steps tokens messages)

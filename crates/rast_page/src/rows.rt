@@ -1,12 +1,11 @@
 //! A sink that writes a tree as the page's script reads it.
-ghost use Rattle.std.specs.Prelude.{◌≡◌, ◌++◌, [], OnOk, length, string_bytes, chars};
+ghost use Rattle.std.specs.Prelude.{◌≡◌, ◌++◌, [], OnOk, string_bytes, chars};
 ghost use Rattle.rap_base.specs.Names.{name_of};
-ghost use Rattle.rap_lexed.specs.LexedStr.{AreInOrder};
 ghost use Rattle.rast_page.specs.Json.{json_text};
-ghost use Rattle.rast_page.specs.Rows.{message_row, lexer_message_rows};
+ghost use Rattle.rast_page.specs.Rows.{message_row};
 
 use crate::json::push_json;
-use ra_ap_parser::{LexedStr, NoMemory, StrSink, StrStep};
+use ra_ap_parser::{NoMemory, StrSink, StrStep};
 use std::alloc::{AllocError, Global};
 use std::fmt::Write as _;
 
@@ -38,19 +37,6 @@ impl Rows {
             steps: String::new(alloc),
             messages: String::new(alloc),
         }
-    }
-
-    /// Adds the lexer's messages, each at the start of its token.
-    pub fn add_errors_of(&mut self, lexed: &LexedStr<'_>) -> Result<(), AllocError>
-        requires { AreInOrder (length lexed.now.tokens) lexed.now.errors }
-        ensures messages { OnOk result (string_bytes self.new.messages
-            ≡ string_bytes self.old.messages ++ lexer_message_rows lexed.now.tokens lexed.now.errors) }
-        ensures steps { self.new.steps ≡ self.old.steps }
-    {
-        'errors: for (token, message) in lexed.errors() {
-            push_message_row(&mut self.messages, lexed.text_start(token), message)?;
-        }
-        Ok(())
     }
 }
 

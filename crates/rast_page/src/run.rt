@@ -50,7 +50,7 @@ fn page_of(
 {
     let mut rows = Rows::new(alloc);
     let parsed = parse_text(alloc, edition, entry, text, &mut rows)?;
-    let Ok(()) = rows.add_errors_of(&parsed.lexed) else {
+    let Ok(()) = parsed.lexed.report_errors(&mut rows) else {
         return Err(TextFault::NoMemory);
     };
     let Ok(name) = name_of_file(alloc, file) else {

@@ -1,7 +1,8 @@
 -- What a printer has written along the steps of a tree.
-use Rattle.std.proofs.Common.{◌≡◌, ℕ, List, [], ◌∷◌, ◌++◌, ap, sym, ◌∙◌, Bool, string_bytes, append_assoc, append-nil}
+use Rattle.std.proofs.Common.{◌≡◌, ℕ, List, [], ◌∷◌, ◌++◌, refl, ap, sym, ◌∙◌, Bool, string_bytes, append_assoc, append-nil}
 use Rattle.rap_base.specs.declared.edition.Edition.{Edition}
-use Rattle.rap_lexed.specs.LexedStr.{Lexed}
+use Rattle.rap_lexed.specs.ErrorSteps.{error_steps}
+use Rattle.rap_lexed.specs.LexedStr.{Lexed, Token, Message}
 use Rattle.rap_lexed.specs.StrForest.{str_flat}
 use Rattle.rap_lexed.specs.StrSink.{Takes}
 use Rattle.rap_lexed.specs.StrStep.{StrStepValue}
@@ -30,18 +31,25 @@ messages_along (x ∷ xs) s t h =
     ∙ (ap (λ l. l ++ reported xs) h.1.messages
     ∙ append_assoc (string_bytes s.messages) (reported_line x) (reported xs))
 
+-- the lexer's messages add no line to the tree's
+printed-errors : (depth : ℕ) (ts : List Token) (ms : List Message) → printed depth (error_steps ts ms) ≡ []
+printed-errors depth ts [] = refl
+printed-errors depth ts (m ∷ ms) = printed-errors depth ts ms
+
+pub same_after_errors : (ts : List Token) (ms : List Message) (s t : Printer) → Takes Prints s (error_steps ts ms) t → t.tree ≡ s.tree
+same_after_errors ts ms s t h = tree_along (error_steps ts ms) s t h ∙ (ap (λ l. s.tree ++ l) (printed-errors s.depth ts ms) ∙ append-nil s.tree)
+
 -- the lines of a tree and of all messages, from a printer that had written nothing
 pub printed_whole : (text : List ℕ) (edition : Edition) (entry : TopEntryPoint) (lexed : Lexed) (all : Bool) (s t u : Printer)
     → s.tree ≡ [] → string_bytes s.messages ≡ [] → s.depth ≡ 0
-    → Headline Prints text edition entry lexed all s t
-    → u.tree ≡ t.tree → string_bytes u.messages ≡ string_bytes t.messages ++ lexer_reported lexed.tokens lexed.errors
+    → Headline Prints text edition entry lexed all s t → Takes Prints t (error_steps lexed.tokens lexed.errors) u
     → IsPrinted text edition entry u
-printed_whole text edition entry lexed all s t u no_tree no_messages no_depth h same more =
+printed_whole text edition entry lexed all s t u no_tree no_messages no_depth h more =
     let steps = str_flat (with_trivia lexed.tokens h.forest) in
     record {
       lexed = lexed;
       forest = h.forest;
       parsed = h.parsed;
-      tree = same ∙ (tree_along steps s t h.taken ∙ (ap (λ l. l ++ printed s.depth steps) no_tree ∙ ap (λ d. printed d steps) no_depth));
-      messages = more ∙ ap (λ l. l ++ lexer_reported lexed.tokens lexed.errors) (messages_along steps s t h.taken ∙ ap (λ l. l ++ reported steps) no_messages);
+      tree = same_after_errors lexed.tokens lexed.errors t u more ∙ (tree_along steps s t h.taken ∙ (ap (λ l. l ++ printed s.depth steps) no_tree ∙ ap (λ d. printed d steps) no_depth));
+      messages = messages_along (error_steps lexed.tokens lexed.errors) t u more ∙ ap (λ l. l ++ lexer_reported lexed.tokens lexed.errors) (messages_along steps s t h.taken ∙ ap (λ l. l ++ reported steps) no_messages);
     }

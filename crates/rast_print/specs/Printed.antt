@@ -4,7 +4,8 @@ use Rattle.rap_base.specs.Names.{name_of}
 use Rattle.rast_common.specs.Indented.{indent}
 use Rattle.rast_common.specs.Message.{message_line}
 use Rattle.rast_common.specs.Quote.{quoted}
-use Rattle.rap_lexed.specs.LexedStr.{Token, Message, start_of}
+use Rattle.rap_lexed.specs.ErrorSteps.{error_steps}
+use Rattle.rap_lexed.specs.LexedStr.{Token, Message}
 use Rattle.rap_lexed.specs.StrStep.{StrStepValue, str_enter, str_exit, str_token, str_error}
 
 -- the line of a step, after two spaces for each open node
@@ -40,5 +41,4 @@ reported (step ∷ steps) = reported_line step ++ reported steps
 
 -- the lines of the lexer's messages, each at the start of its token
 abbrev pub lexer_reported : List Token → List Message → List ℕ
-lexer_reported tokens [] = []
-lexer_reported tokens (m ∷ ms) = message_line (start_of tokens m.token) m.text ++ lexer_reported tokens ms
+lexer_reported tokens messages = reported (error_steps tokens messages)

@@ -18,7 +18,7 @@ pub fn print_text(
 {
     let mut printer = Printer::new(alloc);
     let parsed = parse_text(alloc, edition, entry, text, &mut printer)?;
-    let Ok(()) = printer.add_errors_of(&parsed.lexed) else {
+    let Ok(()) = parsed.lexed.report_errors(&mut printer) else {
         return Err(TextFault::NoMemory);
     };
     Ok(printer)

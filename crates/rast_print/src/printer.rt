@@ -1,12 +1,10 @@
 //! A sink that prints a tree.
-ghost use Rattle.std.specs.Prelude.{◌≡◌, ◌+◌, ◌^◌, ◌-◌, ◌++◌, [], IfOk, OnOk, min, length, string_bytes, codes, chars};
+ghost use Rattle.std.specs.Prelude.{◌≡◌, ◌+◌, ◌^◌, ◌-◌, ◌++◌, [], IfOk, OnOk, min, string_bytes, codes, chars};
 ghost use Rattle.rap_base.specs.Names.{name_of};
 ghost use Rattle.rast_common.specs.Indented.{indent};
 ghost use Rattle.rast_common.specs.Quote.{quoted};
-ghost use Rattle.rap_lexed.specs.LexedStr.{AreInOrder};
-ghost use Rattle.rast_print.specs.Printed.{lexer_reported};
 
-use ra_ap_parser::{LexedStr, NoMemory, StrSink, StrStep, SyntaxKind};
+use ra_ap_parser::{NoMemory, StrSink, StrStep, SyntaxKind};
 use rast_common::indented::IndentedText;
 use rast_common::message::push_message;
 use std::alloc::{AllocError, Global};
@@ -66,19 +64,6 @@ impl Printer {
             messages: String::new(alloc),
             depth: 0,
         }
-    }
-
-    /// Adds the lexer's messages, each at the start of its token.
-    pub fn add_errors_of(&mut self, lexed: &LexedStr<'_>) -> Result<(), AllocError>
-        requires { AreInOrder (length lexed.now.tokens) lexed.now.errors }
-        ensures messages { OnOk result (string_bytes self.new.messages
-            ≡ string_bytes self.old.messages ++ lexer_reported lexed.now.tokens lexed.now.errors) }
-        ensures tree { self.new.tree ≡ self.old.tree }
-    {
-        'errors: for (token, message) in lexed.errors() {
-            push_message(&mut self.messages, lexed.text_start(token), message)?;
-        }
-        Ok(())
     }
 }
 

@@ -1,14 +1,15 @@
 -- What a collector holds along the steps of a tree.
-use Rattle.std.proofs.Common.{◌≡◌, ℕ, List, [], ◌∷◌, ◌++◌, ap, subst, sym, ◌∙◌, Bool, append_assoc, append-nil, length, map}
+use Rattle.std.proofs.Common.{◌≡◌, ℕ, List, [], ◌∷◌, ◌++◌, refl, ap, subst, sym, ◌∙◌, Bool, append_assoc, append-nil, length, map}
 use Rattle.rap_base.specs.declared.edition.Edition.{Edition}
-use Rattle.rap_lexed.specs.LexedStr.{Lexed}
+use Rattle.rap_lexed.specs.ErrorSteps.{error_steps}
+use Rattle.rap_lexed.specs.LexedStr.{Lexed, Token, Message}
 use Rattle.rap_lexed.specs.StrForest.{str_flat}
 use Rattle.rap_lexed.specs.StrSink.{Takes}
 use Rattle.rap_lexed.specs.StrStep.{StrStepValue}
 use Rattle.rap_lexed.specs.Trivia.{with_trivia}
 use Rattle.ra_ap_parser.specs.Headline.{Headline}
 use Rattle.ra_ap_parser.specs.declared.entry_point.TopEntryPoint.{TopEntryPoint}
-use Rattle.syntax_tree.specs.Building.{Builds, building, outermost}
+use Rattle.syntax_tree.specs.Building.{Building, Builds, building, outermost}
 use Rattle.syntax_tree.specs.Collects.{Collects}
 use Rattle.syntax_tree.specs.InRow.{InRow}
 use Rattle.syntax_tree.specs.Places.{HavePlaces}
@@ -19,7 +20,7 @@ use Rattle.syntax_tree.specs.TextTree.{IsTextTree}
 use Rattle.syntax_tree.specs.Reports.{ReportValue, reports_of_step, reports_of, lexer_reports}
 use Rattle.syntax_tree.specs.declared.collector.Collector.{Collector}
 use Rattle.rap_ranged.proofs.Roots.{one_node, root_place}
-use Rattle.syntax_tree.proofs.Runs.{held, built}
+use Rattle.syntax_tree.proofs.Runs.{run, along, held, built}
 use Rattle.syntax_tree.proofs.Texts.{places_of}
 use Rattle.rap_ranged.proofs.TreeRows.{root_row}
 
@@ -33,6 +34,17 @@ reports_along (x ∷ xs) s t h =
     reports_along xs h.0 t h.2
     ∙ (ap (λ l. l ++ reports_of xs) h.1.reports
     ∙ append_assoc s.reports.items (reports_of_step x) (reports_of xs))
+
+-- what it holds after the lexer's messages: the same tree, and these messages after the others
+pub run-errors : (ts : List Token) (ms : List Message) (b : Building) → run b (error_steps ts ms) ≡ b
+run-errors ts [] b = refl
+run-errors ts (m ∷ ms) b = run-errors ts ms b
+
+pub same_after_errors : (ts : List Token) (ms : List Message) (s t : Collector) → Takes Collects s (error_steps ts ms) t → (building t.builder).forest ≡ (building s.builder).forest
+same_after_errors ts ms s t h = ap (λ (b : Building). b.forest) (along (error_steps ts ms) s.builder t.builder (builds_along (error_steps ts ms) s t h) ∙ run-errors ts ms (building s.builder))
+
+pub more_after_errors : (ts : List Token) (ms : List Message) (s t : Collector) → Takes Collects s (error_steps ts ms) t → t.reports.items ≡ s.reports.items ++ lexer_reports ts ms
+more_after_errors ts ms s t h = reports_along (error_steps ts ms) s t h
 
 -- what a collector holds that had nothing and has taken the steps of a text's tree
 pub forest_of_text : (text : List ℕ) (edition : Edition) (entry : TopEntryPoint) (lexed : Lexed) (all : Bool) (s t : Collector)

@@ -80,7 +80,7 @@ impl<'t> Tree<'t> {
     {
         let mut collector = Collector::new(alloc);
         let parsed = parse_text(alloc, edition, entry, text, &mut collector)?;
-        let Ok(()) = collector.keep_errors_of(&parsed.lexed) else {
+        let Ok(()) = parsed.lexed.report_errors(&mut collector) else {
             return Err(TextFault::Refused(NoMemory));
         };
         let Collector {

@@ -4,5 +4,5 @@ use Rattle.rast_page.proofs.run.page_of.Goals as goal
 pub returns-clause-page : goal.returns-clause-page
 returns-clause-page c = record {
   name = c.in-Ok-name_of_file.ensures;
-  rows = rows_whole c.args.text.now c.args.edition c.args.entry c.in_ok-parsed.parsed.lexed c.in_ok-parsed.parsed.whole c.new-rows.result c.parse_text.new.sink c.add_errors_of.new.self c.new-rows.ensures.steps c.new-rows.ensures.messages c.in_ok-parsed.ensures.parsed c.add_errors_of.ensures.steps c.in-Ok.ensures.messages;
+  rows = rows_whole c.args.text.now c.args.edition c.args.entry c.in_ok-parsed.parsed.lexed c.in_ok-parsed.parsed.whole c.new-rows.result c.parse_text.new.sink c.report_errors.new.sink c.new-rows.ensures.steps c.new-rows.ensures.messages c.in_ok-parsed.ensures.parsed c.in-Ok.ensures;
 }
