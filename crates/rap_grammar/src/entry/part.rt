@@ -54,6 +54,7 @@ pub enum Part {
 }
 
 /// Runs the rule of a part.
+#[tactic(auto, using(rap_grammar_scripts::proofs::Exec::does_follow))]
 fn run_part(p: &mut Parser<'_>, part: Part) -> Result<(), NoMemory>
     requires brace { asks_brace part ≡ true → next (state p.old) ≡ L_CURLY }
     ensures grew { OnOk result (Grew (state p.old) (state p.new) 8) }
@@ -66,7 +67,7 @@ fn run_part(p: &mut Parser<'_>, part: Part) -> Result<(), NoMemory>
     let call = |q: &mut Parser<'_>, c: Rule| -> Result<Answer, NoMemory>
         requires pre { Pre c (state q.old) }
         requires left { (state q.old).left < left }
-        ensures { IfOk result (Post c (state q.old) (state q.new)) }
+        ensures { IfOk result (Post left c (state q.old) (state q.new)) }
     {
         let _ = &left;
         run(q, c)
@@ -141,6 +142,7 @@ pub fn parse_part(alloc: Global, input: &Input, part: Part) -> Result<Output, No
 }
 
 /// A statement without the semicolon that may stand after it.
+#[tactic(auto, using(rap_grammar_scripts::proofs::Exec::does_follow))]
 pub fn stmt(alloc: Global, input: &Input) -> Result<Output, NoMemory>
     requires { length input.now ≤ max_tokens }
     ensures prefix { IfOk result (IsPrefixOver input.now) }
@@ -154,6 +156,7 @@ pub fn stmt(alloc: Global, input: &Input) -> Result<Output, NoMemory>
 }
 
 /// A pattern without alternatives.
+#[tactic(auto, using(rap_grammar_scripts::proofs::Exec::does_follow))]
 pub fn pattern_single(alloc: Global, input: &Input) -> Result<Output, NoMemory>
     requires { length input.now ≤ max_tokens }
     ensures prefix { IfOk result (IsPrefixOver input.now) }
@@ -167,6 +170,7 @@ pub fn pattern_single(alloc: Global, input: &Input) -> Result<Output, NoMemory>
 }
 
 /// A pattern with its alternatives.
+#[tactic(auto, using(rap_grammar_scripts::proofs::Exec::does_follow))]
 pub fn pattern(alloc: Global, input: &Input) -> Result<Output, NoMemory>
     requires { length input.now ≤ max_tokens }
     ensures prefix { IfOk result (IsPrefixOver input.now) }
@@ -180,6 +184,7 @@ pub fn pattern(alloc: Global, input: &Input) -> Result<Output, NoMemory>
 }
 
 /// A type.
+#[tactic(auto, using(rap_grammar_scripts::proofs::Exec::does_follow))]
 pub fn type_(alloc: Global, input: &Input) -> Result<Output, NoMemory>
     requires { length input.now ≤ max_tokens }
     ensures prefix { IfOk result (IsPrefixOver input.now) }
@@ -193,6 +198,7 @@ pub fn type_(alloc: Global, input: &Input) -> Result<Output, NoMemory>
 }
 
 /// An expression.
+#[tactic(auto, using(rap_grammar_scripts::proofs::Exec::does_follow))]
 pub fn expr(alloc: Global, input: &Input) -> Result<Output, NoMemory>
     requires { length input.now ≤ max_tokens }
     ensures prefix { IfOk result (IsPrefixOver input.now) }
@@ -206,6 +212,7 @@ pub fn expr(alloc: Global, input: &Input) -> Result<Output, NoMemory>
 }
 
 /// An item, or a macro call in its place.
+#[tactic(auto, using(rap_grammar_scripts::proofs::Exec::does_follow))]
 pub fn item(alloc: Global, input: &Input) -> Result<Output, NoMemory>
     requires { length input.now ≤ max_tokens }
     ensures prefix { IfOk result (IsPrefixOver input.now) }
@@ -223,6 +230,7 @@ pub fn item(alloc: Global, input: &Input) -> Result<Output, NoMemory>
 }
 
 /// The contents of an attribute's brackets.
+#[tactic(auto, using(rap_grammar_scripts::proofs::Exec::does_follow))]
 pub fn meta_item(alloc: Global, input: &Input) -> Result<Output, NoMemory>
     requires { length input.now ≤ max_tokens }
     ensures prefix { IfOk result (IsPrefixOver input.now) }

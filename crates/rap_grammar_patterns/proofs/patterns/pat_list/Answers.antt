@@ -1,8 +1,8 @@
 use Rattle.std.proofs.Common.{rules, refl}
 use Rattle.rap_grammar_scripts.specs.Patterns.{pat_list}
 use Rattle.rap_grammar_frame.proofs.Patterning.{took_before}
-use Rattle.rap_grammar_scripts.specs.Script.{gives, passes, fails}
-use Rattle.rap_grammar_frame.proofs.Steps.{by_report_next, by_rule, turn, last_turn, then_by, else_by, ate, not_ate}
+use Rattle.rap_grammar_scripts.proofs.Ends.{gives, passes, fails}
+use Rattle.rap_grammar_frame.proofs.Steps.{by_report_next, by_rule, turn, last_turn, then_by, else_by, ate, not_ate, fewer}
 use Rattle.rap_grammar_patterns.proofs.patterns.pat_list.Goals as goal
 
 pub patterns-preserved-then-branch : goal.patterns-preserved-then-branch
@@ -12,7 +12,7 @@ patterns-preserved-then-branch g c = record {
       (else_by c.at.ensures c.patterns-test.true
       (else_by c.at-in-patterns.ensures c.if-not-at.true
       (by_rule c.in_ok-pattern.ensures.script
-      (ate c.in_ok-eat.ensures.state c.if-branch.true gives))));
+      (ate c.in_ok-eat.ensures.state c.if-branch.true gives)))) (fewer (search rules));
 }
 
 pub patterns-smaller : goal.patterns-smaller
@@ -31,31 +31,25 @@ patterns-preserved g c =
           (by_rule c.in_ok-pattern.ensures.script
           (not_ate c.in_ok-eat.ensures.state c.if-branch.false
           (passes (search rules)
-          (by_report_next c.in_ok-error_with_kind.ensures.state gives))))));
+          (by_report_next c.in_ok-error_with_kind.ensures.state gives)))))) (fewer (search rules));
     }
 
 pub returns-then-not-is_pat_top_first-clause-script : goal.returns-then-not-is_pat_top_first-clause-script
 unfolding pat_list
-returns-then-not-is_pat_top_first-clause-script g c = record {
-  run = last_turn c.patterns.invariant.script
+returns-then-not-is_pat_top_first-clause-script g c = last_turn c.patterns.invariant.script
       (else_by c.at.ensures c.patterns-test.true
       (else_by c.at-in-patterns.ensures c.if-not-at.true
       (by_rule c.in_ok-pattern.ensures.script
       (not_ate c.in_ok-eat.ensures.state c.if-branch.false
-      (fails (search rules) gives))))) refl;
-}
+      (fails (search rules) gives))))) refl
 
 pub returns-else-not-at-clause-script : goal.returns-else-not-at-clause-script
 unfolding pat_list
-returns-else-not-at-clause-script g c = record {
-  run = last_turn c.patterns.invariant.script
+returns-else-not-at-clause-script g c = last_turn c.patterns.invariant.script
       (else_by c.at.ensures c.patterns-test.true
-      (then_by c.at-in-patterns.ensures c.if-not-at.false gives)) refl;
-}
+      (then_by c.at-in-patterns.ensures c.if-not-at.false gives)) refl
 
 pub returns-after-patterns-clause-script : goal.returns-after-patterns-clause-script
 unfolding pat_list
-returns-after-patterns-clause-script g c = record {
-  run = last_turn c.patterns.invariant.script
-      (then_by c.at.ensures c.patterns-test.false gives) refl;
-}
+returns-after-patterns-clause-script g c = last_turn c.patterns.invariant.script
+      (then_by c.at.ensures c.patterns-test.false gives) refl
