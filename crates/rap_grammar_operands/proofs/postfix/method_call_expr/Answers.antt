@@ -9,7 +9,7 @@ use Rattle.rap_grammar_operands.proofs.postfix.method_call_expr.Goals as goal
 
 pub returns-clause-script : goal.returns-clause-script
 unfolding method_call_expr
-returns-clause-script g c = let d : On method_arguments (spot (state c.if-is_path_name.p)) (spot (state c.method_arguments.new.p)) something =
+returns-clause-script g c = let d : On (g.G.Grammar.left c.args.g.now) method_arguments (spot (state c.if-is_path_name.p)) (spot (state c.method_arguments.new.p)) something =
       to_end c.in_ok-cm.ensures.script in
       elim c.if-is_path_name.branch [
         | then-is_path_name+in_ok-name_ref_mod_path w ↦ passes (search rules)

@@ -10,13 +10,13 @@ use Rattle.rap_grammar_types.proofs.generic_params.const_param.Goals as goal
 pub returns-clause-script : goal.returns-clause-script
 unfolding const_param const_type const_default
 returns-clause-script g c =
-    let t : On const_type (spot (state c.name.new.p)) (spot (state c.if-at.p)) something = elim c.if-at.branch [
+    let t : On (g.G.Grammar.left c.args.g.now) const_type (spot (state c.name.new.p)) (spot (state c.if-at.p)) something = elim c.if-at.branch [
       | then-at+in_ok-ascription w ↦
           rw w.p-is (then_by c.at.ensures w.if-at.true (to_end w.in_ok-ascription.ensures.script))
       | else-at+in_ok-error w ↦
           rw w.p-is (else_by c.at.ensures w.if-at.false (by_report w.in_ok-error.ensures.state gives))
     ] in
-    let d : On const_default (spot (state c.if-at.p)) (spot (state c.if-branch.p)) something = elim c.if-branch.branch [
+    let d : On (g.G.Grammar.left c.args.g.now) const_default (spot (state c.if-at.p)) (spot (state c.if-branch.p)) something = elim c.if-branch.branch [
       | then-branch+in_ok-const_arg w ↦
           rw w.p-is (ate c.in_ok-eat.ensures.state w.if-branch.true (to_end w.in_ok-const_arg.ensures.script))
       | else-branch w ↦ rw w.p-is (not_ate c.in_ok-eat.ensures.state w.if-branch.false gives)

@@ -18,7 +18,7 @@ returns-clause-script g c =
       | then-at+in_ok-bounds w ↦ rw w.p-is (then_by c.at.ensures w.if-at.true (to_end w.in_ok-bounds.ensures.script))
       | else-at w ↦ rw w.p-is (else_by c.at.ensures w.if-at.false gives)
     ] in
-    let d : On type_default (spot (state c.if-at.p)) (spot (state c.if-at-2.p)) something = elim c.if-at-2.branch [
+    let d : On (g.G.Grammar.left c.args.g.now) type_default (spot (state c.if-at.p)) (spot (state c.if-at-2.p)) something = elim c.if-at-2.branch [
       | then-at-2+in_ok-bump+in_ok-type_ w ↦ rw w.p-is (then_by c.at-2.ensures w.if-at-2.true
           (by_bump (sym c.at-2.ensures ∙ w.if-at-2.true) w.in_ok-bump.ensures.state
           (to_end w.in_ok-type_.ensures.script)))
