@@ -134,8 +134,8 @@ abbrev pub Turns : ℕ → (Bool → Bool → Script Phrase) → Bool → Bool �
 Turns depth h a b c d s t = Loops depth h a b c d (spot s) (spot t)
 
 -- one turn more, which took a token
-pub turn : {j : ℕ} {h : Bool → Bool → Script Phrase} {a b c d e f : Bool} {s t u : State} → Turns j h a b c d s t →
-    On j (h c d) (spot t) (spot u) (again e f) → length u.rest < length t.rest → Turns j h a b e f s u
+pub turn : {j : ℕ} {h : Bool → Bool → Script Phrase} {a b c d e f : Bool} {o p q : Spot} → Loops j h a b c d o p →
+    On j (h c d) p q (again e f) → length q.rest < length p.rest → Loops j h a b e f o q
 turn k d l = turns k d l
 
 -- tokens taken by a parser
@@ -144,8 +144,8 @@ unfolding state
 fewer l = l
 
 -- the last turn
-pub last_turn : {j : ℕ} {h : Bool → Bool → Script Phrase} {a b c d : Bool} {s t : State} {q : Spot} {v : Outcome} →
-    Turns j h a b c d s t → On j (h c d) (spot t) q v → goes_on v ≡ false → On j (loop h a b) (spot s) q v
+pub last_turn : {j : ℕ} {h : Bool → Bool → Script Phrase} {a b c d : Bool} {o p q : Spot} {v : Outcome} →
+    Loops j h a b c d o p → On j (h c d) p q v → goes_on v ≡ false → On j (loop h a b) o q v
 last_turn k d e = stops k d e
 
 -- where a message keeps the next token out of an `ERROR`
