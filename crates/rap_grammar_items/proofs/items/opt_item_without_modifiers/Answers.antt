@@ -8,7 +8,7 @@ use Rattle.rap_grammar_items.proofs.items.opt_item_without_modifiers.Goals as go
 pub returns-in-EXTERN_KW-T-clause-script : goal.returns-in-EXTERN_KW-T-clause-script
 unfolding opt_item_without_modifiers
 returns-in-EXTERN_KW-T-clause-script g c =
-    handed_if c.opt_extern_crate.result c.opt_extern_crate.ensures.script (λ item h. passes (search rules) (to_end h))
+    handed_if c.opt_extern_crate.result c.opt_extern_crate.ensures.script (λ item h. passes (search rules) (to_end (h _)))
 
 pub returns-in_ok-use_-clause-script : goal.returns-in_ok-use_-clause-script
 unfolding opt_item_without_modifiers

@@ -18,7 +18,7 @@ returns-in-L_PAREN-T-clause-script g c =
 pub returns-in-BANG-T-clause-script : goal.returns-in-BANG-T-clause-script
 unfolding type_with_bounds_cond
 returns-in-BANG-T-clause-script g c =
-    handed_on c.never_type.result c.never_type.ensures.script (λ h. fails (search rules) (passes (search rules) (to_end h)))
+    handed_on c.never_type.result c.never_type.ensures.script (λ h. fails (search rules) (passes (search rules) (to_end (h _))))
 
 pub returns-in-STAR-T-clause-script : goal.returns-in-STAR-T-clause-script
 unfolding type_with_bounds_cond
@@ -41,7 +41,7 @@ pub returns-in-UNDERSCORE-T-clause-script : goal.returns-in-UNDERSCORE-T-clause-
 unfolding type_with_bounds_cond
 returns-in-UNDERSCORE-T-clause-script g c =
     handed_on c.infer_type.result c.infer_type.ensures.script (λ h. fails (search rules) (fails (search rules) (fails (search rules) (fails (search rules)
-          (fails (search rules) (passes (search rules) (to_end h)))))))
+          (fails (search rules) (passes (search rules) (to_end (h _))))))))
 
 pub returns-in-FN_KW-clause-script : goal.returns-in-FN_KW-clause-script
 unfolding type_with_bounds_cond
