@@ -8,16 +8,16 @@ use Rattle.rap_grammar.proofs.statements.expr_as_stmt.Goals as goal
 pub returns-then-not-is_expr_first-clause-script : goal.returns-then-not-is_expr_first-clause-script
 unfolding expr_as_stmt
 returns-then-not-is_expr_first-clause-script g c = fails (search rules)
-      (by_skip c.in_ok-err_and_bump.ensures.state
-      (by_abandon c.in_ok-abandon.ensures.state gives))
+    (by_skip c.in_ok-err_and_bump.ensures.state
+    (by_abandon c.in_ok-abandon.ensures.state gives))
 
 pub returns-in_default-clause-script : goal.returns-in_default-clause-script
 unfolding expr_as_stmt
 returns-in_default-clause-script g c = passes (search rules)
-      (by_rule (rw c.in_default.is at c.in_ok-cm.ensures.script) gives)
+    (by_rule (rw c.in_default.is at c.in_ok-cm.ensures.script) gives)
 
 pub returns-clause-script : goal.returns-clause-script
 unfolding expr_as_stmt
 returns-clause-script g c = passes (search rules)
-      (from_expr c.in-Some.block_like c.args.semicolon (rw c.in-Some.is at c.in_ok-cm.ensures.script)
-      (to_end (c.in_ok-expr_stmt_end.ensures.script _)))
+    (from_expr c.in-Some.block_like c.args.semicolon (rw c.in-Some.is at c.in_ok-cm.ensures.script)
+    (to_end (c.in_ok-expr_stmt_end.ensures.script _)))

@@ -7,13 +7,13 @@ pub returns-then-is_block-clause-script : goal.returns-then-is_block-clause-scri
 unfolding expr_semicolon
 returns-then-is_block-clause-script c depth =
     rw (c.in-Required.is, ← c.is_block.ensures, c.if-is_block.true)
-          (by_eat c.in_ok-eat-in-Required.ensures.state gives)
+    (by_eat c.in_ok-eat-in-Required.ensures.state gives)
 
 pub returns-in_ok-expect-in-Required-clause-script : goal.returns-in_ok-expect-in-Required-clause-script
 unfolding expr_semicolon
 returns-in_ok-expect-in-Required-clause-script c depth =
     rw (c.in-Required.is, ← c.is_block.ensures, c.if-is_block.false)
-          (by_expect c.in_ok-expect-in-Required.ensures.state gives)
+    (by_expect c.in_ok-expect-in-Required.ensures.state gives)
 
 pub returns-in_ok-eat-in-Optional-clause-script : goal.returns-in_ok-eat-in-Optional-clause-script
 unfolding expr_semicolon

@@ -10,6 +10,6 @@ returns-then-ends_block-clause-script c depth = then_by c.ends_block.ensures c.i
 pub returns-clause-script : goal.returns-clause-script
 unfolding expr_stmt_end
 returns-clause-script c depth = else_by c.ends_block.ensures c.if-ends_block.false
-      (by_precede c.requires.last c.in_ok-m.ensures.state
-      (by_rule (c.in_ok-expr_semicolon.ensures.script _)
-      (by_complete c.in_ok-complete.ensures.state.0 gives)))
+    (by_precede c.requires.last c.in_ok-m.ensures.state
+    (by_rule (c.in_ok-expr_semicolon.ensures.script _)
+    (by_complete c.in_ok-complete.ensures.state.0 gives)))

@@ -10,25 +10,25 @@ returns-then-branch-clause-script g c = ate c.in_ok-eat.ensures.state c.if-branc
 pub returns-then-starts_let-clause-script : goal.returns-then-starts_let-clause-script
 unfolding stmt
 returns-then-starts_let-clause-script g c = not_ate c.in_ok-eat.ensures.state c.if-branch.false
-      (by_start c.in_ok-m.ensures.state
-      (by_rule c.in_ok-outer_attrs.ensures.script
-      (then_by c.starts_let.ensures c.if-starts_let.true
-      (by_rule c.in_ok-let_stmt.ensures.script
-      (by_complete c.in_ok-complete.ensures.state.0 gives)))))
+    (by_start c.in_ok-m.ensures.state
+    (by_rule c.in_ok-outer_attrs.ensures.script
+    (then_by c.starts_let.ensures c.if-starts_let.true
+    (by_rule c.in_ok-let_stmt.ensures.script
+    (by_complete c.in_ok-complete.ensures.state.0 gives)))))
 
 pub returns-in-Ok-clause-script : goal.returns-in-Ok-clause-script
 unfolding stmt
 returns-in-Ok-clause-script g c = not_ate c.in_ok-eat.ensures.state c.if-branch.false
-      (by_start c.in_ok-m.ensures.state
-      (by_rule c.in_ok-outer_attrs.ensures.script
-      (else_by c.starts_let.ensures c.if-starts_let.false
-      (by_rule (rw c.in-Ok.is at c.in_ok-opt_item.ensures.script) gives))))
+    (by_start c.in_ok-m.ensures.state
+    (by_rule c.in_ok-outer_attrs.ensures.script
+    (else_by c.starts_let.ensures c.if-starts_let.false
+    (by_rule (rw c.in-Ok.is at c.in_ok-opt_item.ensures.script) gives))))
 
 pub returns-in_ok-expr_as_stmt-in-Err-clause-script : goal.returns-in_ok-expr_as_stmt-in-Err-clause-script
 unfolding stmt
 returns-in_ok-expr_as_stmt-in-Err-clause-script g c = not_ate c.in_ok-eat.ensures.state c.if-branch.false
-      (by_start c.in_ok-m.ensures.state
-      (by_rule c.in_ok-outer_attrs.ensures.script
-      (else_by c.starts_let.ensures c.if-starts_let.false
-      (by_rule (rw c.in-Err.is at c.in_ok-opt_item.ensures.script)
-      (to_end c.in_ok-expr_as_stmt-in-Err.ensures.script)))))
+    (by_start c.in_ok-m.ensures.state
+    (by_rule c.in_ok-outer_attrs.ensures.script
+    (else_by c.starts_let.ensures c.if-starts_let.false
+    (by_rule (rw c.in-Err.is at c.in_ok-opt_item.ensures.script)
+    (to_end c.in_ok-expr_as_stmt-in-Err.ensures.script)))))

@@ -10,4 +10,4 @@ returns-then-at-clause-script c depth = then_by c.at.ensures c.if-at.true gives
 pub returns-clause-script : goal.returns-clause-script
 unfolding comma_in_braces
 returns-clause-script c depth = else_by c.at.ensures c.if-at.false
-      (by_expect c.in_ok-expect.ensures.state gives)
+    (by_expect c.in_ok-expect.ensures.state gives)

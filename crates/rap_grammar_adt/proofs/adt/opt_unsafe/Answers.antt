@@ -10,4 +10,4 @@ returns-then-not-branch-clause-script g c = not_ate c.in_ok-eat.ensures.state c.
 pub returns-clause-script : goal.returns-clause-script
 unfolding opt_unsafe
 returns-clause-script g c = ate c.in_ok-eat.ensures.state c.if-not-branch.false
-      (to_end c.in_ok-opt_mut_restriction.ensures.script)
+    (to_end c.in_ok-opt_mut_restriction.ensures.script)

@@ -10,6 +10,6 @@ returns-then-not-branch-clause-script g c = not_ate c.in_ok-eat.ensures.state c.
 pub returns-clause-script : goal.returns-clause-script
 unfolding opt_value
 returns-clause-script g c = ate c.in_ok-eat.ensures.state c.if-not-branch.false
-      (by_start c.in_ok-m.ensures.state
-      (by_rule c.in_ok-expr.ensures.script
-      (by_complete c.in_ok-complete.ensures.state.0 gives)))
+    (by_start c.in_ok-m.ensures.state
+    (by_rule c.in_ok-expr.ensures.script
+    (by_complete c.in_ok-complete.ensures.state.0 gives)))

@@ -16,7 +16,7 @@ fields-preserved g c = record {
 pub returns-else-not-at-clause-script : goal.returns-else-not-at-clause-script
 unfolding record_fields
 returns-else-not-at-clause-script g c = last_turn c.fields.invariant.script
-      (else_by c.at.ensures c.fields-test.true (then_by c.at-in-fields.ensures c.if-not-at.false gives)) refl
+    (else_by c.at.ensures c.fields-test.true (then_by c.at-in-fields.ensures c.if-not-at.false gives)) refl
 
 pub returns-after-fields-clause-script : goal.returns-after-fields-clause-script
 unfolding record_fields

@@ -10,11 +10,11 @@ returns-then-branch-clause-script g c = ate c.in_ok-eat.ensures.state c.if-branc
 pub returns-then-at-clause-script : goal.returns-then-at-clause-script
 unfolding struct_fields
 returns-then-at-clause-script g c = not_ate c.in_ok-eat.ensures.state c.if-branch.false
-      (then_by c.at.ensures c.if-at.true
-      (to_end c.in_ok-tuple_fields.ensures.script))
+    (then_by c.at.ensures c.if-at.true
+    (to_end c.in_ok-tuple_fields.ensures.script))
 
 pub returns-clause-script : goal.returns-clause-script
 unfolding struct_fields
 returns-clause-script g c = not_ate c.in_ok-eat.ensures.state c.if-branch.false
-      (else_by c.at.ensures c.if-at.false
-      (by_report c.in_ok-error.ensures.state gives))
+    (else_by c.at.ensures c.if-at.false
+    (by_report c.in_ok-error.ensures.state gives))

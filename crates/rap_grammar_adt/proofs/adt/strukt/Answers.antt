@@ -8,8 +8,8 @@ use Rattle.rap_grammar_adt.proofs.adt.strukt.Goals as goal
 pub returns-clause-script : goal.returns-clause-script
 unfolding strukt
 returns-clause-script g c = by_bump (search rules) c.in_ok-bump.ensures.state
-      (by_rule c.in_ok-struct_or_union.ensures.script
-      (by_complete c.in_ok-complete.ensures.state.0 gives))
+    (by_rule c.in_ok-struct_or_union.ensures.script
+    (by_complete c.in_ok-complete.ensures.state.0 gives))
 
 pub returns-clause-ended : goal.returns-clause-ended
 returns-clause-ended g c = ended (search rules) c.in_ok-complete.ensures.state.0

@@ -6,15 +6,15 @@ use Rattle.rap_grammar_adt.proofs.adt.variant_fields.Goals as goal
 pub returns-then-at-clause-script : goal.returns-then-at-clause-script
 unfolding variant_fields
 returns-then-at-clause-script g c = then_by c.at.ensures c.if-at.true
-      (to_end c.in_ok-record_field_list.ensures.script)
+    (to_end c.in_ok-record_field_list.ensures.script)
 
 pub returns-then-at-2-clause-script : goal.returns-then-at-2-clause-script
 unfolding variant_fields
 returns-then-at-2-clause-script g c = else_by c.at.ensures c.if-at.false
-      (then_by c.at-2.ensures c.if-at-2.true
-      (to_end c.in_ok-tuple_field_list.ensures.script))
+    (then_by c.at-2.ensures c.if-at-2.true
+    (to_end c.in_ok-tuple_field_list.ensures.script))
 
 pub returns-clause-script : goal.returns-clause-script
 unfolding variant_fields
 returns-clause-script g c = else_by c.at.ensures c.if-at.false
-      (else_by c.at-2.ensures c.if-at-2.false gives)
+    (else_by c.at-2.ensures c.if-at-2.false gives)

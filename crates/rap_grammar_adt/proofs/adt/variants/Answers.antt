@@ -16,7 +16,7 @@ variants-preserved g c = record {
 pub returns-else-not-at-clause-script : goal.returns-else-not-at-clause-script
 unfolding variants
 returns-else-not-at-clause-script g c = last_turn c.variants.invariant.script
-      (else_by c.at.ensures c.variants-test.true (then_by c.at-in-variants.ensures c.if-not-at.false gives)) refl
+    (else_by c.at.ensures c.variants-test.true (then_by c.at-in-variants.ensures c.if-not-at.false gives)) refl
 
 pub returns-after-variants-clause-script : goal.returns-after-variants-clause-script
 unfolding variants

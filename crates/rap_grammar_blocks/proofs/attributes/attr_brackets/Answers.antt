@@ -10,4 +10,4 @@ returns-then-not-branch-clause-script g c = lacking_expected c.in_ok-expect.ensu
 pub returns-clause-script : goal.returns-clause-script
 unfolding attr_brackets
 returns-clause-script g c = taken_expected c.in_ok-expect.ensures.state c.if-not-branch.false
-      (by_rule c.in_ok-meta.ensures.script (by_expect c.in_ok-expect-2.ensures.state gives))
+    (by_rule c.in_ok-meta.ensures.script (by_expect c.in_ok-expect-2.ensures.state gives))

@@ -7,10 +7,10 @@ use Rattle.rap_grammar_blocks.proofs.attributes.attr_value.Goals as goal
 pub returns-then-is_none-clause-script : goal.returns-then-is_none-clause-script
 unfolding attr_value
 returns-then-is_none-clause-script g c = by_bump c.requires.here c.in_ok-bump.ensures.state
-      (by_rule (answers_nothing (search rules) c.in_ok-expr.ensures.script)
-      (by_report c.in_ok-error.ensures.state gives))
+    (by_rule (answers_nothing (search rules) c.in_ok-expr.ensures.script)
+    (by_report c.in_ok-error.ensures.state gives))
 
 pub returns-clause-script : goal.returns-clause-script
 unfolding attr_value
 returns-clause-script g c = by_bump c.requires.here c.in_ok-bump.ensures.state
-      (by_rule (answers_something (search rules) c.in_ok-expr.ensures.script) gives)
+    (by_rule (answers_something (search rules) c.in_ok-expr.ensures.script) gives)

@@ -17,14 +17,14 @@ metas-preserved g c = record {
 pub returns-then-not-branch-clause-script : goal.returns-then-not-branch-clause-script
 unfolding cfg_attr_metas
 returns-then-not-branch-clause-script g c = last_turn c.metas.invariant.script
-      (else_by c.at.ensures c.metas-test.true
-      (else_by c.at-in-metas.ensures c.if-not-at.true
-      (by_part phrase.meta c.in_ok-run.ensures.1 (not_ate c.in_ok-eat.ensures.state c.if-not-branch.true gives)))) refl
+    (else_by c.at.ensures c.metas-test.true
+    (else_by c.at-in-metas.ensures c.if-not-at.true
+    (by_part phrase.meta c.in_ok-run.ensures.1 (not_ate c.in_ok-eat.ensures.state c.if-not-branch.true gives)))) refl
 
 pub returns-else-not-at-clause-script : goal.returns-else-not-at-clause-script
 unfolding cfg_attr_metas
 returns-else-not-at-clause-script g c = last_turn c.metas.invariant.script
-      (else_by c.at.ensures c.metas-test.true (then_by c.at-in-metas.ensures c.if-not-at.false gives)) refl
+    (else_by c.at.ensures c.metas-test.true (then_by c.at-in-metas.ensures c.if-not-at.false gives)) refl
 
 pub returns-after-metas-clause-script : goal.returns-after-metas-clause-script
 unfolding cfg_attr_metas

@@ -8,8 +8,8 @@ use Rattle.rap_grammar_blocks.proofs.attributes.unsafe_meta.Goals as goal
 pub returns-clause-script : goal.returns-clause-script
 unfolding unsafe_meta
 returns-clause-script g c = by_start c.in_ok-m.ensures.state
-      (by_bump (search rules) c.in_ok-bump.ensures.state
-      (by_expect c.in_ok-expect.ensures.state
-      (by_part phrase.meta c.in_ok-run.ensures.1
-      (by_expect c.in_ok-expect-2.ensures.state
-      (by_complete c.in_ok-complete.ensures.state.0 gives)))))
+    (by_bump (search rules) c.in_ok-bump.ensures.state
+    (by_expect c.in_ok-expect.ensures.state
+    (by_part phrase.meta c.in_ok-run.ensures.1
+    (by_expect c.in_ok-expect-2.ensures.state
+    (by_complete c.in_ok-complete.ensures.state.0 gives)))))

@@ -12,6 +12,6 @@ returns-then-not-at-clause-script g c =
 pub returns-clause-script : goal.returns-clause-script
 unfolding block_expr
 returns-clause-script g c = then_by c.at.ensures c.if-not-at.false
-      (by_start c.in_ok-m.ensures.state
-      (by_rule c.in_ok-stmt_list.ensures.script
-      (by_complete c.in_ok-complete.ensures.state.0 gives)))
+    (by_start c.in_ok-m.ensures.state
+    (by_rule c.in_ok-stmt_list.ensures.script
+    (by_complete c.in_ok-complete.ensures.state.0 gives)))

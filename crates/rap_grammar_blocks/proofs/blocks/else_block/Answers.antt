@@ -7,6 +7,6 @@ use Rattle.rap_grammar_blocks.proofs.blocks.else_block.Goals as goal
 pub returns-clause-script : goal.returns-clause-script
 unfolding else_block
 returns-clause-script g c = by_start c.in_ok-m.ensures.state
-      (by_bump (search rules) c.in_ok-bump.ensures.state
-      (by_rule c.in_ok-block_expr.ensures.script
-      (by_complete c.in_ok-complete.ensures.state.0 gives)))
+    (by_bump (search rules) c.in_ok-bump.ensures.state
+    (by_rule c.in_ok-block_expr.ensures.script
+    (by_complete c.in_ok-complete.ensures.state.0 gives)))

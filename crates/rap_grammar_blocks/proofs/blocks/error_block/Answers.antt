@@ -7,8 +7,8 @@ use Rattle.rap_grammar_blocks.proofs.blocks.error_block.Goals as goal
 pub returns-clause-script : goal.returns-clause-script
 unfolding error_block
 returns-clause-script g c = by_start c.in_ok-m.ensures.state
-      (by_report c.in_ok-error.ensures.state
-      (by_bump (search rules) c.in_ok-bump.ensures.state
-      (by_rule c.in_ok-expr_block_contents.ensures.script
-      (by_eat c.in_ok-eat.ensures.state
-      (by_complete c.in_ok-complete.ensures.state.0 gives)))))
+    (by_report c.in_ok-error.ensures.state
+    (by_bump (search rules) c.in_ok-bump.ensures.state
+    (by_rule c.in_ok-expr_block_contents.ensures.script
+    (by_eat c.in_ok-eat.ensures.state
+    (by_complete c.in_ok-complete.ensures.state.0 gives)))))

@@ -7,6 +7,6 @@ use Rattle.rap_grammar_blocks.proofs.blocks.error_let_stmt.Goals as goal
 pub returns-clause-script : goal.returns-clause-script
 unfolding error_let_stmt
 returns-clause-script g c = by_start c.in_ok-m.ensures.state
-      (by_report c.in_ok-error.ensures.state
-      (by_rule c.in_ok-let_stmt.ensures.script
-      (by_complete c.in_ok-complete.ensures.state.0 gives)))
+    (by_report c.in_ok-error.ensures.state
+    (by_rule c.in_ok-let_stmt.ensures.script
+    (by_complete c.in_ok-complete.ensures.state.0 gives)))

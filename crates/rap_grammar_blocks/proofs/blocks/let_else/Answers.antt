@@ -10,4 +10,4 @@ returns-then-not-at-clause-script g c = else_by c.at.ensures c.if-not-at.true gi
 pub returns-clause-script : goal.returns-clause-script
 unfolding let_else
 returns-clause-script g c = then_by c.at.ensures c.if-not-at.false
-      (by_rule (c.in_ok-value_before_else.ensures.script _) (to_end c.in_ok-else_block.ensures.script))
+    (by_rule (c.in_ok-value_before_else.ensures.script _) (to_end c.in_ok-else_block.ensures.script))

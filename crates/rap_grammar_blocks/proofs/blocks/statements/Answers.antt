@@ -27,7 +27,7 @@ statements-preserved-in_ok-run g c = record {
 pub returns-else-not-at-clause-script : goal.returns-else-not-at-clause-script
 unfolding statements
 returns-else-not-at-clause-script g c = last_turn c.statements.invariant.script
-      (else_by c.at.ensures c.statements-test.true (then_by c.at-in-statements.ensures c.if-not-at.false gives)) refl
+    (else_by c.at.ensures c.statements-test.true (then_by c.at-in-statements.ensures c.if-not-at.false gives)) refl
 
 pub returns-after-statements-clause-script : goal.returns-after-statements-clause-script
 unfolding statements

@@ -12,7 +12,7 @@ returns-in_default-clause-script c depth = rw c.in_default.is gives
 pub returns-then-eq-clause-script : goal.returns-then-eq-clause-script
 unfolding value_before_else
 returns-then-eq-clause-script c depth = rw c.in-Some.is (ended_so (state c.args.p.now) c.last_token.ensures (sym c.eq.ensures ∙ c.if-eq.true)
-      (by_report c.in_ok-error.ensures.state gives))
+    (by_report c.in_ok-error.ensures.state gives))
 
 pub returns-clause-script : goal.returns-clause-script
 unfolding value_before_else

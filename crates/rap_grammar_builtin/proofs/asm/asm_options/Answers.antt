@@ -32,18 +32,18 @@ options-preserved c = record {
 pub returns-then-branch-clause-script : goal.returns-then-branch-clause-script
 unfolding asm_options
 returns-then-branch-clause-script c depth = last_turn (c.options.invariant.script depth)
-      (else_by c.at.ensures c.options-test.true
-      (ate c.in_ok-eat.ensures.state c.if-branch.true gives)) refl
+    (else_by c.at.ensures c.options-test.true
+    (ate c.in_ok-eat.ensures.state c.if-branch.true gives)) refl
 
 pub returns-then-branch-2-clause-script : goal.returns-then-branch-2-clause-script
 unfolding asm_options
 returns-then-branch-2-clause-script c depth = last_turn (c.options.invariant.script depth)
-      (else_by c.at.ensures c.options-test.true
-      (not_ate c.in_ok-eat.ensures.state c.if-branch.false
-      (by_start c.in_ok-m.ensures.state
-      (by_rule (answers_yes c.if-not-branch.false (c.in_ok-option_name.ensures.script _))
-      (by_complete c.in_ok-complete.ensures.state.0
-      (ate c.in_ok-eat-2.ensures.state c.if-branch-2.true gives)))))) refl
+    (else_by c.at.ensures c.options-test.true
+    (not_ate c.in_ok-eat.ensures.state c.if-branch.false
+    (by_start c.in_ok-m.ensures.state
+    (by_rule (answers_yes c.if-not-branch.false (c.in_ok-option_name.ensures.script _))
+    (by_complete c.in_ok-complete.ensures.state.0
+    (ate c.in_ok-eat-2.ensures.state c.if-branch-2.true gives)))))) refl
 
 pub returns-clause-script : goal.returns-clause-script
 unfolding asm_options

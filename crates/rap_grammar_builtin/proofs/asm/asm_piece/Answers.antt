@@ -8,27 +8,27 @@ use Rattle.rap_grammar_builtin.proofs.asm.asm_piece.Goals as goal
 pub returns-then-branch-clause-script : goal.returns-then-branch-clause-script
 unfolding asm_piece
 returns-then-branch-clause-script g c = by_start c.in_ok-op_n.ensures.state
-      (by_rule c.in_ok-outer_attrs.ensures.script
-      (ate_as c.in_ok-eat_contextual_kw.ensures.state c.if-branch.true
-      (by_rule (c.in_ok-parse_clobber_abi.ensures.script _)
-      (by_complete c.in_ok-complete.ensures.state.0 gives))))
+    (by_rule c.in_ok-outer_attrs.ensures.script
+    (ate_as c.in_ok-eat_contextual_kw.ensures.state c.if-branch.true
+    (by_rule (c.in_ok-parse_clobber_abi.ensures.script _)
+    (by_complete c.in_ok-complete.ensures.state.0 gives))))
 
 pub returns-then-branch-2-clause-script : goal.returns-then-branch-2-clause-script
 unfolding asm_piece
 returns-then-branch-2-clause-script g c = by_start c.in_ok-op_n.ensures.state
-      (by_rule c.in_ok-outer_attrs.ensures.script
-      (not_ate_as c.in_ok-eat_contextual_kw.ensures.state c.if-branch.false
-      (ate_as c.in_ok-eat_contextual_kw-2.ensures.state c.if-branch-2.true
-      (by_rule (c.in_ok-parse_options.ensures.script _)
-      (by_complete c.in_ok-complete-2.ensures.state.0 gives)))))
+    (by_rule c.in_ok-outer_attrs.ensures.script
+    (not_ate_as c.in_ok-eat_contextual_kw.ensures.state c.if-branch.false
+    (ate_as c.in_ok-eat_contextual_kw-2.ensures.state c.if-branch-2.true
+    (by_rule (c.in_ok-parse_options.ensures.script _)
+    (by_complete c.in_ok-complete-2.ensures.state.0 gives)))))
 
 pub returns-clause-script : goal.returns-clause-script
 unfolding asm_piece
 returns-clause-script g c = by_start c.in_ok-op_n.ensures.state
-      (by_rule c.in_ok-outer_attrs.ensures.script
-      (not_ate_as c.in_ok-eat_contextual_kw.ensures.state c.if-branch.false
-      (not_ate_as c.in_ok-eat_contextual_kw-2.ensures.state c.if-branch-2.false
-      (to_end c.in_ok-allow.ensures.script))))
+    (by_rule c.in_ok-outer_attrs.ensures.script
+    (not_ate_as c.in_ok-eat_contextual_kw.ensures.state c.if-branch.false
+    (not_ate_as c.in_ok-eat_contextual_kw-2.ensures.state c.if-branch-2.false
+    (to_end c.in_ok-allow.ensures.script))))
 
 pub returns-clause-took : goal.returns-clause-took
 returns-clause-took g c =

@@ -23,24 +23,24 @@ pieces-preserved g c =
 pub returns-then-at-clause-script : goal.returns-then-at-clause-script
 unfolding asm_pieces
 returns-then-at-clause-script g c = last_turn c.pieces.invariant.script
-      (else_by c.at.ensures c.pieces-test.true
-      (else_by c.at-in-pieces.ensures c.if-not-at.true
-      (by_expect c.in_ok-expect.ensures.state
-      (then_by c.at-in-pieces-2.ensures c.if-at.true gives)))) refl
+    (else_by c.at.ensures c.pieces-test.true
+    (else_by c.at-in-pieces.ensures c.if-not-at.true
+    (by_expect c.in_ok-expect.ensures.state
+    (then_by c.at-in-pieces-2.ensures c.if-at.true gives)))) refl
 
 pub returns-in-None-clause-script : goal.returns-in-None-clause-script
 unfolding asm_pieces
 returns-in-None-clause-script g c = last_turn c.pieces.invariant.script
-      (else_by c.at.ensures c.pieces-test.true
-      (else_by c.at-in-pieces.ensures c.if-not-at.true
-      (by_expect c.in_ok-expect.ensures.state
-      (else_by c.at-in-pieces-2.ensures c.if-at.false
-      (to_end (rw c.in-None.is at c.in_ok-allow.ensures.script)))))) refl
+    (else_by c.at.ensures c.pieces-test.true
+    (else_by c.at-in-pieces.ensures c.if-not-at.true
+    (by_expect c.in_ok-expect.ensures.state
+    (else_by c.at-in-pieces-2.ensures c.if-at.false
+    (to_end (rw c.in-None.is at c.in_ok-allow.ensures.script)))))) refl
 
 pub returns-else-not-at-clause-script : goal.returns-else-not-at-clause-script
 unfolding asm_pieces
 returns-else-not-at-clause-script g c = last_turn c.pieces.invariant.script
-      (else_by c.at.ensures c.pieces-test.true (then_by c.at-in-pieces.ensures c.if-not-at.false gives)) refl
+    (else_by c.at.ensures c.pieces-test.true (then_by c.at-in-pieces.ensures c.if-not-at.false gives)) refl
 
 pub returns-after-pieces-clause-script : goal.returns-after-pieces-clause-script
 unfolding asm_pieces

@@ -7,11 +7,11 @@ use Rattle.rap_grammar_builtin.proofs.asm.asm_sym.Goals as goal
 pub returns-then-at-clause-script : goal.returns-then-at-clause-script
 unfolding asm_sym
 returns-then-at-clause-script g c = then_by c.at.ensures c.if-at.true
-      (by_bump (search rules) c.in_ok-bump.ensures.state
-      (by_rule c.in_ok-sym_path.ensures.script
-      (by_expect c.in_ok-expect.ensures.state gives)))
+    (by_bump (search rules) c.in_ok-bump.ensures.state
+    (by_rule c.in_ok-sym_path.ensures.script
+    (by_expect c.in_ok-expect.ensures.state gives)))
 
 pub returns-clause-script : goal.returns-clause-script
 unfolding asm_sym
 returns-clause-script g c = else_by c.at.ensures c.if-at.false
-      (by_rule c.in_ok-sym_path-2.ensures.script gives)
+    (by_rule c.in_ok-sym_path-2.ensures.script gives)

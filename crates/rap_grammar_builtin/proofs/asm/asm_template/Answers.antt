@@ -13,7 +13,7 @@ returns-then-branch-clause-script g c = by_rule (answers_yes c.if-branch.true c.
 pub returns-clause-script : goal.returns-clause-script
 unfolding asm_template
 returns-clause-script g c = by_rule (answers_no c.if-branch.false c.in_ok-some_expr.ensures.script)
-      (by_skip c.in_ok-err_and_bump.ensures.state gives)
+    (by_skip c.in_ok-err_and_bump.ensures.state gives)
 
 pub returns-clause-took : goal.returns-clause-took
 returns-clause-took g c = λ some.

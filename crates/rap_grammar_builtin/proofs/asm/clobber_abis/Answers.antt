@@ -18,23 +18,23 @@ abis-preserved c = record {
 pub returns-then-branch-clause-script : goal.returns-then-branch-clause-script
 unfolding clobber_abis
 returns-then-branch-clause-script c depth = last_turn (c.abis.invariant.script depth)
-      (else_by c.at.ensures c.abis-test.true
-      (ate c.in_ok-eat.ensures.state c.if-branch.true gives)) refl
+    (else_by c.at.ensures c.abis-test.true
+    (ate c.in_ok-eat.ensures.state c.if-branch.true gives)) refl
 
 pub returns-then-not-branch-clause-script : goal.returns-then-not-branch-clause-script
 unfolding clobber_abis
 returns-then-not-branch-clause-script c depth = last_turn (c.abis.invariant.script depth)
-      (else_by c.at.ensures c.abis-test.true
-      (not_ate c.in_ok-eat.ensures.state c.if-branch.false
-      (lacking_expected c.in_ok-expect.ensures.state c.if-not-branch.true gives))) refl
+    (else_by c.at.ensures c.abis-test.true
+    (not_ate c.in_ok-eat.ensures.state c.if-branch.false
+    (lacking_expected c.in_ok-expect.ensures.state c.if-not-branch.true gives))) refl
 
 pub returns-then-branch-2-clause-script : goal.returns-then-branch-2-clause-script
 unfolding clobber_abis
 returns-then-branch-2-clause-script c depth = last_turn (c.abis.invariant.script depth)
-      (else_by c.at.ensures c.abis-test.true
-      (not_ate c.in_ok-eat.ensures.state c.if-branch.false
-      (taken_expected c.in_ok-expect.ensures.state c.if-not-branch.false
-      (ate c.in_ok-eat-2.ensures.state c.if-branch-2.true gives)))) refl
+    (else_by c.at.ensures c.abis-test.true
+    (not_ate c.in_ok-eat.ensures.state c.if-branch.false
+    (taken_expected c.in_ok-expect.ensures.state c.if-not-branch.false
+    (ate c.in_ok-eat-2.ensures.state c.if-branch-2.true gives)))) refl
 
 pub returns-clause-script : goal.returns-clause-script
 unfolding clobber_abis

@@ -7,49 +7,49 @@ use Rattle.rap_grammar_builtin.proofs.asm.dir_spec.Goals as goal
 pub returns-then-branch-clause-script : goal.returns-then-branch-clause-script
 unfolding dir_spec
 returns-then-branch-clause-script c depth = by_start c.in_ok-m.ensures.state
-      (ate c.in_ok-eat.ensures.state c.if-branch.true
-      (by_complete c.in_ok-complete.ensures.state.0 gives))
+    (ate c.in_ok-eat.ensures.state c.if-branch.true
+    (by_complete c.in_ok-complete.ensures.state.0 gives))
 
 pub returns-then-branch-2-clause-script : goal.returns-then-branch-2-clause-script
 unfolding dir_spec
 returns-then-branch-2-clause-script c depth = by_start c.in_ok-m.ensures.state
-      (not_ate c.in_ok-eat.ensures.state c.if-branch.false
-      (ate_as c.in_ok-eat_contextual_kw.ensures.state c.if-branch-2.true
-      (by_complete c.in_ok-complete-2.ensures.state.0 gives)))
+    (not_ate c.in_ok-eat.ensures.state c.if-branch.false
+    (ate_as c.in_ok-eat_contextual_kw.ensures.state c.if-branch-2.true
+    (by_complete c.in_ok-complete-2.ensures.state.0 gives)))
 
 pub returns-then-branch-3-clause-script : goal.returns-then-branch-3-clause-script
 unfolding dir_spec
 returns-then-branch-3-clause-script c depth = by_start c.in_ok-m.ensures.state
-      (not_ate c.in_ok-eat.ensures.state c.if-branch.false
-      (not_ate_as c.in_ok-eat_contextual_kw.ensures.state c.if-branch-2.false
-      (ate_as c.in_ok-eat_contextual_kw-2.ensures.state c.if-branch-3.true
-      (by_complete c.in_ok-complete-3.ensures.state.0 gives))))
+    (not_ate c.in_ok-eat.ensures.state c.if-branch.false
+    (not_ate_as c.in_ok-eat_contextual_kw.ensures.state c.if-branch-2.false
+    (ate_as c.in_ok-eat_contextual_kw-2.ensures.state c.if-branch-3.true
+    (by_complete c.in_ok-complete-3.ensures.state.0 gives))))
 
 pub returns-then-branch-4-clause-script : goal.returns-then-branch-4-clause-script
 unfolding dir_spec
 returns-then-branch-4-clause-script c depth = by_start c.in_ok-m.ensures.state
-      (not_ate c.in_ok-eat.ensures.state c.if-branch.false
-      (not_ate_as c.in_ok-eat_contextual_kw.ensures.state c.if-branch-2.false
-      (not_ate_as c.in_ok-eat_contextual_kw-2.ensures.state c.if-branch-3.false
-      (ate_as c.in_ok-eat_contextual_kw-3.ensures.state c.if-branch-4.true
-      (by_complete c.in_ok-complete-4.ensures.state.0 gives)))))
+    (not_ate c.in_ok-eat.ensures.state c.if-branch.false
+    (not_ate_as c.in_ok-eat_contextual_kw.ensures.state c.if-branch-2.false
+    (not_ate_as c.in_ok-eat_contextual_kw-2.ensures.state c.if-branch-3.false
+    (ate_as c.in_ok-eat_contextual_kw-3.ensures.state c.if-branch-4.true
+    (by_complete c.in_ok-complete-4.ensures.state.0 gives)))))
 
 pub returns-then-branch-5-clause-script : goal.returns-then-branch-5-clause-script
 unfolding dir_spec
 returns-then-branch-5-clause-script c depth = by_start c.in_ok-m.ensures.state
-      (not_ate c.in_ok-eat.ensures.state c.if-branch.false
-      (not_ate_as c.in_ok-eat_contextual_kw.ensures.state c.if-branch-2.false
-      (not_ate_as c.in_ok-eat_contextual_kw-2.ensures.state c.if-branch-3.false
-      (not_ate_as c.in_ok-eat_contextual_kw-3.ensures.state c.if-branch-4.false
-      (ate_as c.in_ok-eat_contextual_kw-4.ensures.state c.if-branch-5.true
-      (by_complete c.in_ok-complete-5.ensures.state.0 gives))))))
+    (not_ate c.in_ok-eat.ensures.state c.if-branch.false
+    (not_ate_as c.in_ok-eat_contextual_kw.ensures.state c.if-branch-2.false
+    (not_ate_as c.in_ok-eat_contextual_kw-2.ensures.state c.if-branch-3.false
+    (not_ate_as c.in_ok-eat_contextual_kw-3.ensures.state c.if-branch-4.false
+    (ate_as c.in_ok-eat_contextual_kw-4.ensures.state c.if-branch-5.true
+    (by_complete c.in_ok-complete-5.ensures.state.0 gives))))))
 
 pub returns-clause-script : goal.returns-clause-script
 unfolding dir_spec
 returns-clause-script c depth = by_start c.in_ok-m.ensures.state
-      (not_ate c.in_ok-eat.ensures.state c.if-branch.false
-      (not_ate_as c.in_ok-eat_contextual_kw.ensures.state c.if-branch-2.false
-      (not_ate_as c.in_ok-eat_contextual_kw-2.ensures.state c.if-branch-3.false
-      (not_ate_as c.in_ok-eat_contextual_kw-3.ensures.state c.if-branch-4.false
-      (not_ate_as c.in_ok-eat_contextual_kw-4.ensures.state c.if-branch-5.false
-      (by_abandon c.in_ok-abandon.ensures.state gives))))))
+    (not_ate c.in_ok-eat.ensures.state c.if-branch.false
+    (not_ate_as c.in_ok-eat_contextual_kw.ensures.state c.if-branch-2.false
+    (not_ate_as c.in_ok-eat_contextual_kw-2.ensures.state c.if-branch-3.false
+    (not_ate_as c.in_ok-eat_contextual_kw-3.ensures.state c.if-branch-4.false
+    (not_ate_as c.in_ok-eat_contextual_kw-4.ensures.state c.if-branch-5.false
+    (by_abandon c.in_ok-abandon.ensures.state gives))))))

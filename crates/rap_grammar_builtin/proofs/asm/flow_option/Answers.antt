@@ -11,34 +11,34 @@ returns-then-branch-clause-script c depth = ate_as c.in_ok-eat_contextual_kw.ens
 pub returns-then-branch-2-clause-script : goal.returns-then-branch-2-clause-script
 unfolding flow_option
 returns-then-branch-2-clause-script c depth = not_ate_as c.in_ok-eat_contextual_kw.ensures.state c.if-branch.false
-      (ate_as c.in_ok-eat_contextual_kw-2.ensures.state c.if-branch-2.true gives)
+    (ate_as c.in_ok-eat_contextual_kw-2.ensures.state c.if-branch-2.true gives)
 
 pub returns-then-branch-3-clause-script : goal.returns-then-branch-3-clause-script
 unfolding flow_option
 returns-then-branch-3-clause-script c depth = not_ate_as c.in_ok-eat_contextual_kw.ensures.state c.if-branch.false
-      (not_ate_as c.in_ok-eat_contextual_kw-2.ensures.state c.if-branch-2.false
-      (ate_as c.in_ok-eat_contextual_kw-3.ensures.state c.if-branch-3.true gives))
+    (not_ate_as c.in_ok-eat_contextual_kw-2.ensures.state c.if-branch-2.false
+    (ate_as c.in_ok-eat_contextual_kw-3.ensures.state c.if-branch-3.true gives))
 
 pub returns-then-branch-4-clause-script : goal.returns-then-branch-4-clause-script
 unfolding flow_option
 returns-then-branch-4-clause-script c depth = not_ate_as c.in_ok-eat_contextual_kw.ensures.state c.if-branch.false
-      (not_ate_as c.in_ok-eat_contextual_kw-2.ensures.state c.if-branch-2.false
-      (not_ate_as c.in_ok-eat_contextual_kw-3.ensures.state c.if-branch-3.false
-      (ate_as c.in_ok-eat_contextual_kw-4.ensures.state c.if-branch-4.true gives)))
+    (not_ate_as c.in_ok-eat_contextual_kw-2.ensures.state c.if-branch-2.false
+    (not_ate_as c.in_ok-eat_contextual_kw-3.ensures.state c.if-branch-3.false
+    (ate_as c.in_ok-eat_contextual_kw-4.ensures.state c.if-branch-4.true gives)))
 
 pub returns-then-branch-5-clause-script : goal.returns-then-branch-5-clause-script
 unfolding flow_option
 returns-then-branch-5-clause-script c depth = not_ate_as c.in_ok-eat_contextual_kw.ensures.state c.if-branch.false
-      (not_ate_as c.in_ok-eat_contextual_kw-2.ensures.state c.if-branch-2.false
-      (not_ate_as c.in_ok-eat_contextual_kw-3.ensures.state c.if-branch-3.false
-      (not_ate_as c.in_ok-eat_contextual_kw-4.ensures.state c.if-branch-4.false
-      (ate_as c.in_ok-eat_contextual_kw-5.ensures.state c.if-branch-5.true gives))))
+    (not_ate_as c.in_ok-eat_contextual_kw-2.ensures.state c.if-branch-2.false
+    (not_ate_as c.in_ok-eat_contextual_kw-3.ensures.state c.if-branch-3.false
+    (not_ate_as c.in_ok-eat_contextual_kw-4.ensures.state c.if-branch-4.false
+    (ate_as c.in_ok-eat_contextual_kw-5.ensures.state c.if-branch-5.true gives))))
 
 pub returns-clause-script : goal.returns-clause-script
 unfolding flow_option
 returns-clause-script c depth = not_ate_as c.in_ok-eat_contextual_kw.ensures.state c.if-branch.false
-      (not_ate_as c.in_ok-eat_contextual_kw-2.ensures.state c.if-branch-2.false
-      (not_ate_as c.in_ok-eat_contextual_kw-3.ensures.state c.if-branch-3.false
-      (not_ate_as c.in_ok-eat_contextual_kw-4.ensures.state c.if-branch-4.false
-      (not_ate_as c.in_ok-eat_contextual_kw-5.ensures.state c.if-branch-5.false
-      (gives)))))
+    (not_ate_as c.in_ok-eat_contextual_kw-2.ensures.state c.if-branch-2.false
+    (not_ate_as c.in_ok-eat_contextual_kw-3.ensures.state c.if-branch-3.false
+    (not_ate_as c.in_ok-eat_contextual_kw-4.ensures.state c.if-branch-4.false
+    (not_ate_as c.in_ok-eat_contextual_kw-5.ensures.state c.if-branch-5.false
+    (gives)))))

@@ -9,7 +9,7 @@ use Rattle.rap_grammar_builtin.proofs.asm.missing_operand.Goals as goal
 pub returns-then-at-clause-script : goal.returns-then-at-clause-script
 unfolding missing_operand
 returns-then-at-clause-script g c = then_by c.at.ensures c.if-at.true
-      (by_report c.in_ok-error.ensures.state (by_rule c.in_ok-some_expr.ensures.script gives))
+    (by_report c.in_ok-error.ensures.state (by_rule c.in_ok-some_expr.ensures.script gives))
 
 pub returns-clause-script : goal.returns-clause-script
 unfolding missing_operand

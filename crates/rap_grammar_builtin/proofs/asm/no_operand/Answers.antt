@@ -11,9 +11,9 @@ returns-then-allow_templates-clause-script g c = rw c.if-allow_templates.true (b
 pub returns-then-at-clause-script : goal.returns-then-at-clause-script
 unfolding no_operand
 returns-then-at-clause-script g c = rw c.if-allow_templates.false
-      (by_rule c.in_ok-missing_operand.ensures.script (then_by c.at.ensures c.if-at.true gives))
+    (by_rule c.in_ok-missing_operand.ensures.script (then_by c.at.ensures c.if-at.true gives))
 
 pub returns-clause-script : goal.returns-clause-script
 unfolding no_operand
 returns-clause-script g c = rw c.if-allow_templates.false
-      (by_rule c.in_ok-missing_operand.ensures.script (else_by c.at.ensures c.if-at.false gives))
+    (by_rule c.in_ok-missing_operand.ensures.script (else_by c.at.ensures c.if-at.false gives))

@@ -11,5 +11,5 @@ returns-then-not-starts_operand_name-clause-script c depth = else_by c.starts_op
 pub returns-clause-script : goal.returns-clause-script
 unfolding operand_name
 returns-clause-script c depth = then_by c.starts_operand_name.ensures.here c.if-not-starts_operand_name.false
-      (by_rule (c.in_ok-name_any_identifier.ensures.script _)
-      (by_bump (search rules) c.in_ok-bump.ensures.state gives))
+    (by_rule (c.in_ok-name_any_identifier.ensures.script _)
+    (by_bump (search rules) c.in_ok-bump.ensures.state gives))

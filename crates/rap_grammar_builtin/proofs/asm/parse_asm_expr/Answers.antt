@@ -7,7 +7,7 @@ use Rattle.rap_grammar_builtin.proofs.asm.parse_asm_expr.Goals as goal
 pub returns-clause-script : goal.returns-clause-script
 unfolding parse_asm_expr
 returns-clause-script g c = by_expect c.in_ok-expect.ensures.state
-      (by_rule c.in_ok-asm_template.ensures.script
-      (by_rule c.in_ok-asm_pieces.ensures.script
-      (by_expect c.in_ok-expect-2.ensures.state
-      (by_complete c.in_ok-cm.ensures.state.0 gives))))
+    (by_rule c.in_ok-asm_template.ensures.script
+    (by_rule c.in_ok-asm_pieces.ensures.script
+    (by_expect c.in_ok-expect-2.ensures.state
+    (by_complete c.in_ok-cm.ensures.state.0 gives))))

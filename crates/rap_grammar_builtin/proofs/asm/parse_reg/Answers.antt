@@ -7,5 +7,5 @@ use Rattle.rap_grammar_builtin.proofs.asm.parse_reg.Goals as goal
 pub returns-clause-script : goal.returns-clause-script
 unfolding parse_reg
 returns-clause-script c depth = by_expect c.in_ok-expect.ensures.state
-      (by_rule (c.in_ok-reg_spec.ensures.script _)
-      (by_expect c.in_ok-expect-2.ensures.state gives))
+    (by_rule (c.in_ok-reg_spec.ensures.script _)
+    (by_expect c.in_ok-expect-2.ensures.state gives))

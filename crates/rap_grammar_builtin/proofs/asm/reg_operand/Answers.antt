@@ -7,24 +7,24 @@ use Rattle.rap_grammar_builtin.proofs.asm.reg_operand.Goals as goal
 pub returns-then-not-goes_both_ways-clause-script : goal.returns-then-not-goes_both_ways-clause-script
 unfolding reg_operand
 returns-then-not-goes_both_ways-clause-script g c = by_rule (c.in_ok-parse_reg.ensures.script _)
-      (by_start c.in_ok-op_expr.ensures.state
-      (by_rule c.in_ok-expr.ensures.script
-      (rw c.if-not-goes_both_ways.true (by_complete c.in_ok-complete.ensures.state.0 gives))))
+    (by_start c.in_ok-op_expr.ensures.state
+    (by_rule c.in_ok-expr.ensures.script
+    (rw c.if-not-goes_both_ways.true (by_complete c.in_ok-complete.ensures.state.0 gives))))
 
 pub returns-then-branch-clause-script : goal.returns-then-branch-clause-script
 unfolding reg_operand
 returns-then-branch-clause-script g c = by_rule (c.in_ok-parse_reg.ensures.script _)
-      (by_start c.in_ok-op_expr.ensures.state
-      (by_rule c.in_ok-expr.ensures.script
-      (rw c.if-not-goes_both_ways.false
-      (ate c.in_ok-eat.ensures.state c.if-branch.true
-      (by_rule c.in_ok-expr-2.ensures.script (by_complete c.in_ok-complete-2.ensures.state.0 gives))))))
+    (by_start c.in_ok-op_expr.ensures.state
+    (by_rule c.in_ok-expr.ensures.script
+    (rw c.if-not-goes_both_ways.false
+    (ate c.in_ok-eat.ensures.state c.if-branch.true
+    (by_rule c.in_ok-expr-2.ensures.script (by_complete c.in_ok-complete-2.ensures.state.0 gives))))))
 
 pub returns-clause-script : goal.returns-clause-script
 unfolding reg_operand
 returns-clause-script g c = by_rule (c.in_ok-parse_reg.ensures.script _)
-      (by_start c.in_ok-op_expr.ensures.state
-      (by_rule c.in_ok-expr.ensures.script
-      (rw c.if-not-goes_both_ways.false
-      (not_ate c.in_ok-eat.ensures.state c.if-branch.false
-      (by_complete c.in_ok-complete-3.ensures.state.0 gives)))))
+    (by_start c.in_ok-op_expr.ensures.state
+    (by_rule c.in_ok-expr.ensures.script
+    (rw c.if-not-goes_both_ways.false
+    (not_ate c.in_ok-eat.ensures.state c.if-branch.false
+    (by_complete c.in_ok-complete-3.ensures.state.0 gives)))))

@@ -8,20 +8,20 @@ use Rattle.rap_grammar_scripts.specs.First.{is_path_name}
 pub returns-then-is_path_name-clause-script : goal.returns-then-is_path_name-clause-script
 unfolding reg_spec
 returns-then-is_path_name-clause-script c depth = then_by (by_kind is_path_name c.is_path_name.ensures c.current.ensures.kind) c.if-is_path_name.true
-      (by_start c.in_ok-m.ensures.state
-      (by_rule (c.in_ok-name_ref_mod_path.ensures.script _)
-      (by_complete c.in_ok-complete.ensures.state.0 gives)))
+    (by_start c.in_ok-m.ensures.state
+    (by_rule (c.in_ok-name_ref_mod_path.ensures.script _)
+    (by_complete c.in_ok-complete.ensures.state.0 gives)))
 
 pub returns-then-at-clause-script : goal.returns-then-at-clause-script
 unfolding reg_spec
 returns-then-at-clause-script c depth = else_by (by_kind is_path_name c.is_path_name.ensures c.current.ensures.kind) c.if-is_path_name.false
-      (then_by c.at.ensures c.if-at.true
-      (by_start c.in_ok-m-2.ensures.state
-      (by_bump (search rules) c.in_ok-bump.ensures.state
-      (by_complete c.in_ok-complete-2.ensures.state.0 gives))))
+    (then_by c.at.ensures c.if-at.true
+    (by_start c.in_ok-m-2.ensures.state
+    (by_bump (search rules) c.in_ok-bump.ensures.state
+    (by_complete c.in_ok-complete-2.ensures.state.0 gives))))
 
 pub returns-clause-script : goal.returns-clause-script
 unfolding reg_spec
 returns-clause-script c depth = else_by (by_kind is_path_name c.is_path_name.ensures c.current.ensures.kind) c.if-is_path_name.false
-      (else_by c.at.ensures c.if-at.false
-      (by_skip c.in_ok-err_and_bump.ensures.state gives))
+    (else_by c.at.ensures c.if-at.false
+    (by_skip c.in_ok-err_and_bump.ensures.state gives))

@@ -8,6 +8,6 @@ use Rattle.rap_grammar_builtin.proofs.builtin.cfg.Goals as goal
 pub returns-clause-script : goal.returns-clause-script
 unfolding cfg
 returns-clause-script g c = by_expect c.in_ok-expect.ensures.state
-      (by_part phrase.cfg_predicate c.in_ok-run.ensures.1
-      (by_eat c.in_ok-eat.ensures.state
-      (by_expect c.in_ok-expect-2.ensures.state gives)))
+    (by_part phrase.cfg_predicate c.in_ok-run.ensures.1
+    (by_eat c.in_ok-eat.ensures.state
+    (by_expect c.in_ok-expect-2.ensures.state gives)))

@@ -34,17 +34,17 @@ arguments-preserved g c = record {
 pub returns-then-is_none-clause-script : goal.returns-then-is_none-clause-script
 unfolding format_arguments
 returns-then-is_none-clause-script g c = last_turn c.arguments.invariant.script
-      (else_by c.at.ensures c.arguments-test.true
-      (else_by c.at-in-arguments.ensures c.if-not-at.true
-      (by_start c.in_ok-m.ensures.state
-      (by_rule (c.in_ok-opt_arg_name.ensures.script _)
-      (by_rule (answers_nothing (search rules) c.in_ok-expr.ensures.script)
-      (by_abandon c.in_ok-abandon.ensures.state gives)))))) refl
+    (else_by c.at.ensures c.arguments-test.true
+    (else_by c.at-in-arguments.ensures c.if-not-at.true
+    (by_start c.in_ok-m.ensures.state
+    (by_rule (c.in_ok-opt_arg_name.ensures.script _)
+    (by_rule (answers_nothing (search rules) c.in_ok-expr.ensures.script)
+    (by_abandon c.in_ok-abandon.ensures.state gives)))))) refl
 
 pub returns-else-not-at-clause-script : goal.returns-else-not-at-clause-script
 unfolding format_arguments
 returns-else-not-at-clause-script g c = last_turn c.arguments.invariant.script
-      (else_by c.at.ensures c.arguments-test.true (then_by c.at-in-arguments.ensures c.if-not-at.false gives)) refl
+    (else_by c.at.ensures c.arguments-test.true (then_by c.at-in-arguments.ensures c.if-not-at.false gives)) refl
 
 pub returns-after-arguments-clause-script : goal.returns-after-arguments-clause-script
 unfolding format_arguments

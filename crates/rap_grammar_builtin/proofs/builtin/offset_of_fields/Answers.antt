@@ -28,7 +28,7 @@ fields-preserved c = record {
 pub returns-else-not-at-clause-script : goal.returns-else-not-at-clause-script
 unfolding offset_of_fields
 returns-else-not-at-clause-script c depth = last_turn (c.fields.invariant.script depth)
-      (else_by c.at.ensures c.fields-test.true (then_by c.at-in-fields.ensures c.if-not-at.false gives)) refl
+    (else_by c.at.ensures c.fields-test.true (then_by c.at-in-fields.ensures c.if-not-at.false gives)) refl
 
 pub returns-after-fields-clause-script : goal.returns-after-fields-clause-script
 unfolding offset_of_fields

@@ -6,6 +6,6 @@ use Rattle.rap_grammar_control.proofs.blocks.effect_block.Goals as goal
 pub returns-clause-script : goal.returns-clause-script
 unfolding effect_block
 returns-clause-script g c = by_start c.in_ok-m.ensures.state
-      (by_rule (c.in_ok-effects.ensures.script _)
-      (by_rule c.in_ok-stmt_list.ensures.script
-      (by_complete c.in_ok-cm.ensures.state.0 gives)))
+    (by_rule (c.in_ok-effects.ensures.script _)
+    (by_rule c.in_ok-stmt_list.ensures.script
+    (by_complete c.in_ok-cm.ensures.state.0 gives)))

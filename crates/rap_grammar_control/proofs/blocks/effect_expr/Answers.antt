@@ -13,26 +13,26 @@ returns-then-is_effect_block-clause-script g c = (then_by c.is_effect_block.ensu
 pub returns-then-is_closure-clause-script : goal.returns-then-is_closure-clause-script
 unfolding effect_expr
 returns-then-is_closure-clause-script g c = (else_by c.is_effect_block.ensures c.if-is_effect_block.false
-      (then_by c.is_closure.ensures c.if-is_closure.true (to_end c.in_ok-closure.ensures.script)))
+    (then_by c.is_closure.ensures c.if-is_closure.true (to_end c.in_ok-closure.ensures.script)))
 
 pub returns-in_ok-try_block_expr-clause-script : goal.returns-in_ok-try_block_expr-clause-script
 unfolding effect_expr
 returns-in_ok-try_block_expr-clause-script g c =
     let e : next (state c.args.p.now) ≡ TRY_KW = search rules in
     ((else_by c.is_effect_block.ensures c.if-is_effect_block.false
-          (else_by c.is_closure.ensures c.if-is_closure.false
-          (passes (rw e refl) (by_rule c.in_ok-try_block_expr.ensures.script gives)))))
+    (else_by c.is_closure.ensures c.if-is_closure.false
+    (passes (rw e refl) (by_rule c.in_ok-try_block_expr.ensures.script gives)))))
 
 pub returns-in_ok-for_expr-clause-script : goal.returns-in_ok-for_expr-clause-script
 unfolding effect_expr
 returns-in_ok-for_expr-clause-script g c =
     let e : next (state c.args.p.now) ≡ FOR_KW = search rules in
     ((else_by c.is_effect_block.ensures c.if-is_effect_block.false
-          (else_by c.is_closure.ensures c.if-is_closure.false
-          (fails (rw e refl) (passes (rw e refl) (by_rule c.in_ok-for_expr.ensures.script gives))))))
+    (else_by c.is_closure.ensures c.if-is_closure.false
+    (fails (rw e refl) (passes (rw e refl) (by_rule c.in_ok-for_expr.ensures.script gives))))))
 
 pub returns-in_ok-err_and_bump-in_default-clause-script : goal.returns-in_ok-err_and_bump-in_default-clause-script
 unfolding effect_expr
 returns-in_ok-err_and_bump-in_default-clause-script g c = (else_by c.is_effect_block.ensures c.if-is_effect_block.false
-      (else_by c.is_closure.ensures c.if-is_closure.false
-      (fails (search rules) (fails (search rules) (by_skip c.in_ok-err_and_bump-in_default.ensures.state gives)))))
+    (else_by c.is_closure.ensures c.if-is_closure.false
+    (fails (search rules) (fails (search rules) (by_skip c.in_ok-err_and_bump-in_default.ensures.state gives)))))

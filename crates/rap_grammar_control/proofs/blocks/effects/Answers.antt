@@ -14,5 +14,5 @@ returns-clause-here c =
 pub returns-clause-script : goal.returns-clause-script
 unfolding effects
 returns-clause-script c depth = by_any (some_first _ c.requires.starts) c.in_ok-bump_any.ensures.state
-      (by_eat c.in_ok-eat.ensures.state
-      (by_eat c.in_ok-eat-2.ensures.state gives))
+    (by_eat c.in_ok-eat.ensures.state
+    (by_eat c.in_ok-eat-2.ensures.state gives))

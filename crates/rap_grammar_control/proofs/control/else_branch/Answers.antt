@@ -11,9 +11,9 @@ returns-then-not-branch-clause-script g c =
 pub returns-then-at-clause-script : goal.returns-then-at-clause-script
 unfolding else_branch
 returns-then-at-clause-script g c = ate c.in_ok-eat.ensures.state c.if-not-branch.false
-      (then_by c.at.ensures c.if-at.true (to_end c.in_ok-if_expr.ensures.script))
+    (then_by c.at.ensures c.if-at.true (to_end c.in_ok-if_expr.ensures.script))
 
 pub returns-clause-script : goal.returns-clause-script
 unfolding else_branch
 returns-clause-script g c = ate c.in_ok-eat.ensures.state c.if-not-branch.false
-      (else_by c.at.ensures c.if-at.false (to_end c.in_ok-block_expr.ensures.script))
+    (else_by c.at.ensures c.if-at.false (to_end c.in_ok-block_expr.ensures.script))

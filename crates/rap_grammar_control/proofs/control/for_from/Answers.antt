@@ -7,8 +7,8 @@ use Rattle.rap_grammar_control.proofs.control.for_from.Goals as goal
 pub returns-clause-script : goal.returns-clause-script
 unfolding for_from
 returns-clause-script g c = by_bump (search rules) c.in_ok-bump.ensures.state
-      (by_rule c.in_ok-pattern.ensures.script
-      (by_expect c.in_ok-expect.ensures.state
-      (by_rule c.in_ok-expr_no_struct.ensures.script
-      (by_rule c.in_ok-block_expr.ensures.script
-      (by_complete c.in_ok-cm.ensures.state.0 gives)))))
+    (by_rule c.in_ok-pattern.ensures.script
+    (by_expect c.in_ok-expect.ensures.state
+    (by_rule c.in_ok-expr_no_struct.ensures.script
+    (by_rule c.in_ok-block_expr.ensures.script
+    (by_complete c.in_ok-cm.ensures.state.0 gives)))))

@@ -7,8 +7,8 @@ use Rattle.rap_grammar_control.proofs.control.if_expr.Goals as goal
 pub returns-clause-script : goal.returns-clause-script
 unfolding if_expr
 returns-clause-script g c = by_start c.in_ok-m.ensures.state
-      (by_bump (search rules) c.in_ok-bump.ensures.state
-      (by_rule c.in_ok-expr_no_struct.ensures.script
-      (by_rule c.in_ok-block_expr.ensures.script
-      (by_rule c.in_ok-else_branch.ensures.script
-      (by_complete c.in_ok-cm.ensures.state.0 gives)))))
+    (by_bump (search rules) c.in_ok-bump.ensures.state
+    (by_rule c.in_ok-expr_no_struct.ensures.script
+    (by_rule c.in_ok-block_expr.ensures.script
+    (by_rule c.in_ok-else_branch.ensures.script
+    (by_complete c.in_ok-cm.ensures.state.0 gives)))))

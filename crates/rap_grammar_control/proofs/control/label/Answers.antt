@@ -24,8 +24,8 @@ bump-requires-clause-here c = colon_left c.in_ok-m.ensures.state c.in_ok-lifetim
 pub returns-clause-script : goal.returns-clause-script
 unfolding label
 returns-clause-script c depth = by_start c.in_ok-m.ensures.state
-      (by_rule (c.in_ok-lifetime.ensures.script _)
-      (by_bump
-      (colon_left c.in_ok-m.ensures.state c.in_ok-lifetime.ensures.script c.requires.colon)
-      c.in_ok-bump.ensures.state
-      (by_complete c.in_ok-complete.ensures.state.0 gives)))
+    (by_rule (c.in_ok-lifetime.ensures.script _)
+    (by_bump
+    (colon_left c.in_ok-m.ensures.state c.in_ok-lifetime.ensures.script c.requires.colon)
+    c.in_ok-bump.ensures.state
+    (by_complete c.in_ok-complete.ensures.state.0 gives)))

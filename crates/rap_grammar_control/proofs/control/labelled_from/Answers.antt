@@ -30,19 +30,19 @@ returns-in_ok-for_from-clause-script g c =
 pub returns-in_ok-while_from-clause-script : goal.returns-in_ok-while_from-clause-script
 unfolding labelled_from
 returns-in_ok-while_from-clause-script g c = fails (search rules)
-      (fails (search rules) (passes (search rules) (by_rule c.in_ok-while_from.ensures.script gives)))
+    (fails (search rules) (passes (search rules) (by_rule c.in_ok-while_from.ensures.script gives)))
 
 pub returns-in_ok-cm-clause-script : goal.returns-in_ok-cm-clause-script
 unfolding labelled_from
 returns-in_ok-cm-clause-script g c = fails (search rules) (fails (search rules) (fails (search rules) (passes (search rules)
-      (by_rule c.in_ok-stmt_list.ensures.script
-      (by_complete c.in_ok-cm.ensures.state.0 gives)))))
+    (by_rule c.in_ok-stmt_list.ensures.script
+    (by_complete c.in_ok-cm.ensures.state.0 gives)))))
 
 pub returns-in_ok-complete-in_default-clause-script : goal.returns-in_ok-complete-in_default-clause-script
 unfolding labelled_from
 returns-in_ok-complete-in_default-clause-script g c = fails (search rules) (fails (search rules) (fails (search rules) (fails (search rules)
-      (by_report c.in_ok-error-in_default.ensures.state
-      (by_complete c.in_ok-complete-in_default.ensures.state.0 gives)))))
+    (by_report c.in_ok-error-in_default.ensures.state
+    (by_complete c.in_ok-complete-in_default.ensures.state.0 gives)))))
 
 pub returns-in_ok-complete-in_default-clause-operand : goal.returns-in_ok-complete-in_default-clause-operand
 returns-in_ok-complete-in_default-clause-operand g c =

@@ -7,5 +7,5 @@ use Rattle.rap_grammar_control.proofs.control.loop_from.Goals as goal
 pub returns-clause-script : goal.returns-clause-script
 unfolding loop_from
 returns-clause-script g c = by_bump (search rules) c.in_ok-bump.ensures.state
-      (by_rule c.in_ok-block_expr.ensures.script
-      (by_complete c.in_ok-cm.ensures.state.0 gives))
+    (by_rule c.in_ok-block_expr.ensures.script
+    (by_complete c.in_ok-cm.ensures.state.0 gives))

@@ -12,9 +12,9 @@ returns-then-branch-clause-script g c =
 pub returns-in_default-clause-script : goal.returns-in_default-clause-script
 unfolding arm_body
 returns-in_default-clause-script g c = not_ate c.in_ok-eat.ensures.state c.if-branch.false
-      (by_rule (rw c.in_default.is at c.in_ok-block_like.ensures.script) (to_end (c.in_ok-arm_end.ensures.script _)))
+    (by_rule (rw c.in_default.is at c.in_ok-block_like.ensures.script) (to_end (c.in_ok-arm_end.ensures.script _)))
 
 pub returns-clause-script : goal.returns-clause-script
 unfolding arm_body
 returns-clause-script g c = not_ate c.in_ok-eat.ensures.state c.if-branch.false
-      (by_rule (rw c.in-Some.is at c.in_ok-block_like.ensures.script) (to_end (c.in_ok-arm_end-2.ensures.script _)))
+    (by_rule (rw c.in-Some.is at c.in_ok-block_like.ensures.script) (to_end (c.in_ok-arm_end-2.ensures.script _)))

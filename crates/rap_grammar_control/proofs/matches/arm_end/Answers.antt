@@ -12,15 +12,15 @@ pub returns-then-is_block-clause-script : goal.returns-then-is_block-clause-scri
 unfolding arm_end
 returns-then-is_block-clause-script c depth =
     not_ate c.in_ok-eat.ensures.state c.if-branch.false
-          (rw (← c.is_block.ensures, c.if-is_block.true) gives)
+    (rw (← c.is_block.ensures, c.if-is_block.true) gives)
 
 pub returns-else-not-at-clause-script : goal.returns-else-not-at-clause-script
 unfolding arm_end
 returns-else-not-at-clause-script c depth = not_ate c.in_ok-eat.ensures.state c.if-branch.false
-      (rw (← c.is_block.ensures, c.if-is_block.false) (then_by c.at.ensures c.if-not-at.false gives))
+    (rw (← c.is_block.ensures, c.if-is_block.false) (then_by c.at.ensures c.if-not-at.false gives))
 
 pub returns-in_ok-error-clause-script : goal.returns-in_ok-error-clause-script
 unfolding arm_end
 returns-in_ok-error-clause-script c depth = not_ate c.in_ok-eat.ensures.state c.if-branch.false
-      (rw (← c.is_block.ensures, c.if-is_block.false)
-      (else_by c.at.ensures c.if-not-at.true (by_report c.in_ok-error.ensures.state gives)))
+    (rw (← c.is_block.ensures, c.if-is_block.false)
+    (else_by c.at.ensures c.if-not-at.true (by_report c.in_ok-error.ensures.state gives)))

@@ -13,4 +13,4 @@ pub returns-clause-script : goal.returns-clause-script
 unfolding arm_head
 returns-clause-script g c =
     by_rule c.in_ok-arm_pattern.ensures.script
-          (then_by c.at.ensures c.if-not-at.false (to_end c.in_ok-match_guard.ensures.script))
+    (then_by c.at.ensures c.if-not-at.false (to_end c.in_ok-match_guard.ensures.script))

@@ -7,8 +7,8 @@ use Rattle.rap_grammar_control.proofs.matches.match_arm.Goals as goal
 pub returns-clause-script : goal.returns-clause-script
 unfolding match_arm
 returns-clause-script g c = by_start c.in_ok-m.ensures.state
-      (by_rule c.in_ok-outer_attrs.ensures.script
-      (by_rule c.in_ok-arm_head.ensures.script
-      (by_expect c.in_ok-expect.ensures.state
-      (by_rule c.in_ok-arm_body.ensures.script
-      (by_complete c.in_ok-complete.ensures.state.0 gives)))))
+    (by_rule c.in_ok-outer_attrs.ensures.script
+    (by_rule c.in_ok-arm_head.ensures.script
+    (by_expect c.in_ok-expect.ensures.state
+    (by_rule c.in_ok-arm_body.ensures.script
+    (by_complete c.in_ok-complete.ensures.state.0 gives)))))

@@ -7,8 +7,8 @@ use Rattle.rap_grammar_control.proofs.matches.match_arm_list.Goals as goal
 pub returns-clause-script : goal.returns-clause-script
 unfolding match_arm_list
 returns-clause-script g c = by_start c.in_ok-m.ensures.state
-      (by_bump (search rules) c.in_ok-bump.ensures.state
-      (by_rule c.in_ok-inner_attrs.ensures.script
-      (by_rule c.in_ok-match_arms.ensures.script
-      (by_expect c.in_ok-expect.ensures.state
-      (by_complete c.in_ok-complete.ensures.state.0 gives)))))
+    (by_bump (search rules) c.in_ok-bump.ensures.state
+    (by_rule c.in_ok-inner_attrs.ensures.script
+    (by_rule c.in_ok-match_arms.ensures.script
+    (by_expect c.in_ok-expect.ensures.state
+    (by_complete c.in_ok-complete.ensures.state.0 gives)))))

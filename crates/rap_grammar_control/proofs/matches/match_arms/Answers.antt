@@ -36,7 +36,7 @@ arms-preserved g c = record {
 pub returns-else-not-at-clause-script : goal.returns-else-not-at-clause-script
 unfolding match_arms
 returns-else-not-at-clause-script g c = last_turn c.arms.invariant.script
-      (else_by c.at.ensures c.arms-test.true (then_by c.at-in-arms.ensures c.if-not-at.false gives)) refl
+    (else_by c.at.ensures c.arms-test.true (then_by c.at-in-arms.ensures c.if-not-at.false gives)) refl
 
 pub returns-after-arms-clause-script : goal.returns-after-arms-clause-script
 unfolding match_arms

@@ -22,5 +22,5 @@ returns-in_ok-expr-in-Some-clause-script g c =
 pub returns-in_ok-expr-in-None-clause-script : goal.returns-in_ok-expr-in-None-clause-script
 unfolding expr_bp
 returns-in_ok-expr-in-None-clause-script g c = rw c.in-None.is ((by_start c.in_ok-m-in-None.ensures.state
-      (by_rule c.in_ok-outer_attrs-in-None.ensures.script
-      (to_end c.in_ok-expr-in-None.ensures.script))))
+    (by_rule c.in_ok-outer_attrs-in-None.ensures.script
+    (to_end c.in_ok-expr-in-None.ensures.script))))

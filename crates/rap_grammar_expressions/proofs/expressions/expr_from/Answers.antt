@@ -22,22 +22,22 @@ pub returns-in_default-clause-script : goal.returns-in_default-clause-script
 unfolding expr_from
 returns-in_default-clause-script g c =
     passes (search rules)
-          (by_rule (rw c.in_default.is at c.in_ok-lhs.ensures.script) (by_abandon c.in_ok-abandon.ensures.state gives))
+    (by_rule (rw c.in_default.is at c.in_ok-lhs.ensures.script) (by_abandon c.in_ok-abandon.ensures.state gives))
 
 pub returns-then-is_block-clause-script : goal.returns-then-is_block-clause-script
 unfolding expr_from
 returns-then-is_block-clause-script g c = let m : Made (state c.args.p.now) (state c.lhs.new.p) c.in-Some.lhs operand_room = search rules in
-      passes (search rules) (from_lhs c.in-Some.block_like _ _ (rw c.in-Some.is at c.in_ok-lhs.ensures.script)
-      (by_extend m.last c.in_ok-lhs-2.ensures.state.0
-      (rw (c.if-r.true, ← c.is_block.ensures, c.if-is_block.true) gives)))
+    passes (search rules) (from_lhs c.in-Some.block_like _ _ (rw c.in-Some.is at c.in_ok-lhs.ensures.script)
+    (by_extend m.last c.in_ok-lhs-2.ensures.state.0
+    (rw (c.if-r.true, ← c.is_block.ensures, c.if-is_block.true) gives)))
 
 pub returns-clause-script : goal.returns-clause-script
 unfolding expr_from
 returns-clause-script g c = let m : Made (state c.args.p.now) (state c.lhs.new.p) c.in-Some.lhs operand_room = search rules in
-      let e : (c.args.r.prefer_stmt && is_block (of_like c.in-Some.block_like)) ≡ false = elim c.else-r.branch [
-        | else-r-via-then-r+else-is_block w ↦ not_both (λ _. sym w.is_block.ensures ∙ w.if-is_block.false)
-        | else-r-via-else-r w ↦ not_both {b = is_block (of_like c.in-Some.block_like)}
-            (λ i. absurd (clash i w.if-r.false))
-      ] in
-      passes (search rules) (from_lhs c.in-Some.block_like _ _ (rw c.in-Some.is at c.in_ok-lhs.ensures.script)
-      (by_extend m.last c.in_ok-lhs-2.ensures.state.0 (rw e (by_rule c.in_ok-cm.ensures.script gives))))
+    let e : (c.args.r.prefer_stmt && is_block (of_like c.in-Some.block_like)) ≡ false = elim c.else-r.branch [
+      | else-r-via-then-r+else-is_block w ↦ not_both (λ _. sym w.is_block.ensures ∙ w.if-is_block.false)
+      | else-r-via-else-r w ↦ not_both {b = is_block (of_like c.in-Some.block_like)}
+          (λ i. absurd (clash i w.if-r.false))
+    ] in
+    passes (search rules) (from_lhs c.in-Some.block_like _ _ (rw c.in-Some.is at c.in_ok-lhs.ensures.script)
+    (by_extend m.last c.in_ok-lhs-2.ensures.state.0 (rw e (by_rule c.in_ok-cm.ensures.script gives))))

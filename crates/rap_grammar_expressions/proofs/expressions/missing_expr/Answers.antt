@@ -20,4 +20,4 @@ pub returns-clause-script : goal.returns-clause-script
 unfolding missing_expr
 returns-clause-script c depth =
     by_recover is_expr_recovery (search rules) c.in_ok-err_recover.ensures.state
-          (λ k. by_abandon c.in_ok-abandon.ensures.state gives) (λ k. by_abandon c.in_ok-abandon.ensures.state gives)
+    (λ k. by_abandon c.in_ok-abandon.ensures.state gives) (λ k. by_abandon c.in_ok-abandon.ensures.state gives)

@@ -14,4 +14,4 @@ returns-then-branch-clause-script c depth = rw c.if-not-is_const.false (ate c.in
 pub returns-clause-script : goal.returns-clause-script
 unfolding const_name
 returns-clause-script c depth = rw c.if-not-is_const.false
-      (not_ate c.in_ok-eat.ensures.state c.if-branch.false (to_end (c.in_ok-name-2.ensures.script _)))
+    (not_ate c.in_ok-eat.ensures.state c.if-branch.false (to_end (c.in_ok-name-2.ensures.script _)))

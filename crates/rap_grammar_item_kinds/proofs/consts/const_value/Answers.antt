@@ -6,7 +6,7 @@ use Rattle.rap_grammar_item_kinds.proofs.consts.const_value.Goals as goal
 pub returns-in_ok-expr-clause-script : goal.returns-in_ok-expr-clause-script
 unfolding const_value
 returns-in_ok-expr-clause-script g c = ate c.in_ok-eat.ensures.state c.if-branch.true
-      (by_rule c.in_ok-expr.ensures.script gives)
+    (by_rule c.in_ok-expr.ensures.script gives)
 
 pub returns-else-branch-clause-script : goal.returns-else-branch-clause-script
 unfolding const_value

@@ -8,8 +8,8 @@ use Rattle.rap_grammar_item_kinds.proofs.consts.static_.Goals as goal
 pub returns-clause-script : goal.returns-clause-script
 unfolding static_
 returns-clause-script g c = by_bump (search rules) c.in_ok-bump.ensures.state
-      (by_rule c.in_ok-const_or_static.ensures.script
-      (by_complete c.in_ok-complete.ensures.state.0 gives))
+    (by_rule c.in_ok-const_or_static.ensures.script
+    (by_complete c.in_ok-complete.ensures.state.0 gives))
 
 pub returns-clause-ended : goal.returns-clause-ended
 returns-clause-ended g c = ended (search rules) c.in_ok-complete.ensures.state.0

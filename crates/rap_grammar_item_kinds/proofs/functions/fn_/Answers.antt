@@ -8,11 +8,11 @@ use Rattle.rap_grammar_item_kinds.proofs.functions.fn_.Goals as goal
 pub returns-clause-script : goal.returns-clause-script
 unfolding fn_
 returns-clause-script g c = by_bump (search rules) c.in_ok-bump.ensures.state
-      (by_rule (c.in_ok-fn_name.ensures.script _)
-      (by_rule c.in_ok-opt_generic_param_list.ensures.script
-      (by_rule c.in_ok-signature.ensures.script
-      (by_rule c.in_ok-fn_body.ensures.script
-      (by_complete c.in_ok-complete.ensures.state.0 gives)))))
+    (by_rule (c.in_ok-fn_name.ensures.script _)
+    (by_rule c.in_ok-opt_generic_param_list.ensures.script
+    (by_rule c.in_ok-signature.ensures.script
+    (by_rule c.in_ok-fn_body.ensures.script
+    (by_complete c.in_ok-complete.ensures.state.0 gives)))))
 
 pub returns-clause-ended : goal.returns-clause-ended
 returns-clause-ended g c = ended_by c.in_ok-complete.ensures.state.0 (search rules)

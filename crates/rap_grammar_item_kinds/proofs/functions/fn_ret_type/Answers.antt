@@ -10,4 +10,4 @@ returns-then-branch-clause-script g c = by_rule (answers_yes c.if-branch.true c.
 pub returns-clause-script : goal.returns-clause-script
 unfolding fn_ret_type
 returns-clause-script g c = by_rule (answers_no c.if-branch.false c.in_ok-opt_ret_type.ensures.script)
-      (by_rule c.in_ok-opt_no_arrow_ret_type.ensures.script gives)
+    (by_rule c.in_ok-opt_no_arrow_ret_type.ensures.script gives)

@@ -7,8 +7,8 @@ use Rattle.rap_grammar_item_kinds.proofs.macros.rules_in_brackets.Goals as goal
 pub returns-then-matches-clause-script : goal.returns-then-matches-clause-script
 unfolding rules_in_brackets
 returns-then-matches-clause-script c depth h = passes (search rules)
-      (by_rule (c.in_ok-token_tree.ensures.script _ (search rules))
-      (by_expect c.in_ok-expect.ensures.state gives))
+    (by_rule (c.in_ok-token_tree.ensures.script _ (search rules))
+    (by_expect c.in_ok-expect.ensures.state gives))
 
 pub returns-then-eq-clause-script : goal.returns-then-eq-clause-script
 unfolding rules_in_brackets

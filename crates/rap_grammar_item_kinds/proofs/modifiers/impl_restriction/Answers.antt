@@ -7,14 +7,14 @@ use Rattle.rap_grammar_item_kinds.proofs.modifiers.impl_restriction.Goals as goa
 pub returns-then-branch-clause-script : goal.returns-then-branch-clause-script
 unfolding impl_restriction
 returns-then-branch-clause-script g c = by_start c.in_ok-m.ensures.state
-      (by_bump (search rules) c.in_ok-bump.ensures.state
-      (by_rule (answers_yes c.if-branch.true c.in_ok-opt_visibility_inner.ensures.script)
-      (by_complete c.in_ok-complete.ensures.state.0 gives)))
+    (by_bump (search rules) c.in_ok-bump.ensures.state
+    (by_rule (answers_yes c.if-branch.true c.in_ok-opt_visibility_inner.ensures.script)
+    (by_complete c.in_ok-complete.ensures.state.0 gives)))
 
 pub returns-clause-script : goal.returns-clause-script
 unfolding impl_restriction
 returns-clause-script g c = by_start c.in_ok-m.ensures.state
-      (by_bump (search rules) c.in_ok-bump.ensures.state
-      (by_rule (answers_no c.if-branch.false c.in_ok-opt_visibility_inner.ensures.script)
-      (by_report c.in_ok-error.ensures.state
-      (by_complete c.in_ok-complete-2.ensures.state.0 gives))))
+    (by_bump (search rules) c.in_ok-bump.ensures.state
+    (by_rule (answers_no c.if-branch.false c.in_ok-opt_visibility_inner.ensures.script)
+    (by_report c.in_ok-error.ensures.state
+    (by_complete c.in_ok-complete-2.ensures.state.0 gives))))

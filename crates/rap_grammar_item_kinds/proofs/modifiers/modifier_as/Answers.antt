@@ -10,4 +10,4 @@ returns-then-not-found-clause-script c depth = λ h e. else_by e c.if-not-found.
 pub returns-clause-script : goal.returns-clause-script
 unfolding modifier_as
 returns-clause-script c depth = λ h e. then_by e c.if-not-found.false
-      (by_bear (c.requires.here c.if-not-found.false) c.in_ok-bump_remap.ensures.state gives)
+    (by_bear (c.requires.here c.if-not-found.false) c.in_ok-bump_remap.ensures.state gives)

@@ -10,4 +10,4 @@ returns-then-not-is_impl_restriction-clause-script g c = else_by c.is_impl_restr
 pub returns-clause-script : goal.returns-clause-script
 unfolding opt_impl_restriction
 returns-clause-script g c = then_by c.is_impl_restriction.ensures.here c.if-not-is_impl_restriction.false
-      (to_end c.in_ok-impl_restriction.ensures.script)
+    (to_end c.in_ok-impl_restriction.ensures.script)

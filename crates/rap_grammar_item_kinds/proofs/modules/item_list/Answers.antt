@@ -7,7 +7,7 @@ use Rattle.rap_grammar_item_kinds.proofs.modules.item_list.Goals as goal
 pub returns-clause-script : goal.returns-clause-script
 unfolding item_list
 returns-clause-script g c = by_start c.in_ok-m.ensures.state
-      (by_bump (search rules) c.in_ok-bump.ensures.state
-      (by_rule c.in_ok-mod_contents.ensures.script
-      (by_expect c.in_ok-expect.ensures.state
-      (by_complete c.in_ok-complete.ensures.state.0 gives))))
+    (by_bump (search rules) c.in_ok-bump.ensures.state
+    (by_rule c.in_ok-mod_contents.ensures.script
+    (by_expect c.in_ok-expect.ensures.state
+    (by_complete c.in_ok-complete.ensures.state.0 gives))))

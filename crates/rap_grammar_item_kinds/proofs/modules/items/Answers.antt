@@ -26,7 +26,7 @@ items-preserved-in_ok-run g c = record {
 pub returns-else-not-ends_items-clause-script : goal.returns-else-not-ends_items-clause-script
 unfolding items
 returns-else-not-ends_items-clause-script g c = last_turn c.items.invariant.script
-      (else_by c.at.ensures c.items-test.true (then_by c.ends_items.ensures.here c.if-not-ends_items.false gives)) refl
+    (else_by c.at.ensures c.items-test.true (then_by c.ends_items.ensures.here c.if-not-ends_items.false gives)) refl
 
 pub returns-after-items-clause-script : goal.returns-after-items-clause-script
 unfolding items

@@ -14,4 +14,4 @@ returns-then-branch-clause-script g c = else_by c.at.ensures c.if-at.false (ate 
 pub returns-clause-script : goal.returns-clause-script
 unfolding mod_body
 returns-clause-script g c = else_by c.at.ensures c.if-at.false
-      (not_ate c.in_ok-eat.ensures.state c.if-branch.false (by_report c.in_ok-error.ensures.state gives))
+    (not_ate c.in_ok-eat.ensures.state c.if-branch.false (by_report c.in_ok-error.ensures.state gives))

@@ -9,9 +9,9 @@ use Rattle.rap_grammar_item_kinds.proofs.traits.assoc_item.Goals as goal
 pub returns-then-at-clause-script : goal.returns-then-at-clause-script
 unfolding assoc_item item_or_macro
 returns-then-at-clause-script g c = then_by c.at.ensures c.if-at.true
-      (to_end c.in_ok-error_block.ensures.script)
+    (to_end c.in_ok-error_block.ensures.script)
 
 pub returns-clause-script : goal.returns-clause-script
 unfolding assoc_item item_or_macro
 returns-clause-script g c = else_by c.at.ensures c.if-at.false
-      (by_part (phrase.item_or_macro true false) c.in_ok-run.ensures.1 gives)
+    (by_part (phrase.item_or_macro true false) c.in_ok-run.ensures.1 gives)

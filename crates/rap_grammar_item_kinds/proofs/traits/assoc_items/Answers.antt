@@ -16,7 +16,7 @@ items-preserved g c = record {
 pub returns-else-not-at-clause-script : goal.returns-else-not-at-clause-script
 unfolding assoc_items
 returns-else-not-at-clause-script g c = last_turn c.items.invariant.script
-      (else_by c.at.ensures c.items-test.true (then_by c.at-in-items.ensures c.if-not-at.false gives)) refl
+    (else_by c.at.ensures c.items-test.true (then_by c.at-in-items.ensures c.if-not-at.false gives)) refl
 
 pub returns-after-items-clause-script : goal.returns-after-items-clause-script
 unfolding assoc_items

@@ -6,7 +6,7 @@ use Rattle.rap_grammar_item_kinds.proofs.traits.impl_params.Goals as goal
 pub returns-in_ok-opt_generic_param_list-clause-script : goal.returns-in_ok-opt_generic_param_list-clause-script
 unfolding impl_params
 returns-in_ok-opt_generic_param_list-clause-script g c = then_by c.is_impl_params_start.ensures c.if-is_impl_params_start.true
-      (to_end c.in_ok-opt_generic_param_list.ensures.script)
+    (to_end c.in_ok-opt_generic_param_list.ensures.script)
 
 pub returns-else-is_impl_params_start-clause-script : goal.returns-else-is_impl_params_start-clause-script
 unfolding impl_params

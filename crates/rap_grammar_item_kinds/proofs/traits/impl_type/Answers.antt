@@ -6,9 +6,9 @@ use Rattle.rap_grammar_item_kinds.proofs.traits.impl_type.Goals as goal
 pub returns-then-at-clause-script : goal.returns-then-at-clause-script
 unfolding impl_type
 returns-then-at-clause-script g c = then_by c.at.ensures c.if-at.true
-      (by_report c.in_ok-error.ensures.state gives)
+    (by_report c.in_ok-error.ensures.state gives)
 
 pub returns-clause-script : goal.returns-clause-script
 unfolding impl_type
 returns-clause-script g c = else_by c.at.ensures c.if-at.false
-      (to_end c.in_ok-type_.ensures.script)
+    (to_end c.in_ok-type_.ensures.script)

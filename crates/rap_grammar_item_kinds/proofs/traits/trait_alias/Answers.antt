@@ -6,5 +6,5 @@ use Rattle.rap_grammar_item_kinds.proofs.traits.trait_alias.Goals as goal
 pub returns-clause-script : goal.returns-clause-script
 unfolding trait_alias
 returns-clause-script g c = by_rule c.in_ok-bounds_without_colon.ensures.script
-      (by_rule c.in_ok-opt_where_clause.ensures.script
-      (by_expect c.in_ok-expect.ensures.state gives))
+    (by_rule c.in_ok-opt_where_clause.ensures.script
+    (by_expect c.in_ok-expect.ensures.state gives))

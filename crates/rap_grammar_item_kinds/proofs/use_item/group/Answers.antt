@@ -10,4 +10,4 @@ returns-then-branch-clause-script g c = ate c.in_ok-eat.ensures.state c.if-branc
 pub returns-clause-script : goal.returns-clause-script
 unfolding group
 returns-clause-script g c = not_ate c.in_ok-eat.ensures.state c.if-branch.false
-      (to_end c.in_ok-use_tree_list.ensures.script)
+    (to_end c.in_ok-use_tree_list.ensures.script)

@@ -6,5 +6,5 @@ use Rattle.rap_grammar_item_kinds.proofs.use_item.use_tree_list.Goals as goal
 pub returns-clause-script : goal.returns-clause-script
 unfolding use_tree_list
 returns-clause-script g c = by_start c.in_ok-m.ensures.state
-      (by_rule c.in_ok-delimited.ensures.script
-      (by_complete c.in_ok-complete.ensures.state.0 gives))
+    (by_rule c.in_ok-delimited.ensures.script
+    (by_complete c.in_ok-complete.ensures.state.0 gives))

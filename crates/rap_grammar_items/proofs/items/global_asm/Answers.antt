@@ -14,6 +14,6 @@ returns-clause-script g c =
     let a = c.in_ok-eat_contextual_kw.ensures.state in
     let e = asm_taken c.in_ok-bump_remap.ensures.state c.in_ok-bump.ensures.state a c.requires.more in
     (by_bear c.requires.bears c.in_ok-bump_remap.ensures.state
-          (by_bump (search rules) c.in_ok-bump.ensures.state
-          (by_bear (a.bears e) (a.token e)
-          (by_rule c.in_ok-parse_asm_expr.ensures.script gives))))
+    (by_bump (search rules) c.in_ok-bump.ensures.state
+    (by_bear (a.bears e) (a.token e)
+    (by_rule c.in_ok-parse_asm_expr.ensures.script gives))))

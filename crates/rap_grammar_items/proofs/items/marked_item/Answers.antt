@@ -18,4 +18,4 @@ returns-in_ok-macro_or_error-in-Err-clause-item g c =
 pub returns-in_ok-macro_or_error-in-Err-clause-script : goal.returns-in_ok-macro_or_error-in-Err-clause-script
 unfolding marked_item
 returns-in_ok-macro_or_error-in-Err-clause-script g c = by_rule (rw c.in-Err.is at c.in_ok-opt_item.ensures.script)
-      (to_end c.in_ok-macro_or_error-in-Err.ensures.script)
+    (to_end c.in_ok-macro_or_error-in-Err.ensures.script)

@@ -18,7 +18,7 @@ returns-then-is_unmatched-clause-item g c = skips_took c.in_ok-unmatched_brace.e
 pub returns-then-is_unmatched-clause-script : goal.returns-then-is_unmatched-clause-script
 unfolding missing_item
 returns-then-is_unmatched-clause-script g c = fails (search rules)
-      (then_by c.is_unmatched.ensures.here c.if-is_unmatched.true (to_end (c.in_ok-unmatched_brace.ensures.script _)))
+    (then_by c.is_unmatched.ensures.here c.if-is_unmatched.true (to_end (c.in_ok-unmatched_brace.ensures.script _)))
 
 pub returns-then-is_at_end-clause-item : goal.returns-then-is_at_end-clause-item
 returns-then-is_at_end-clause-item g c =
@@ -29,8 +29,8 @@ returns-then-is_at_end-clause-item g c =
 pub returns-then-is_at_end-clause-script : goal.returns-then-is_at_end-clause-script
 unfolding missing_item
 returns-then-is_at_end-clause-script g c = fails (search rules)
-      (else_by c.is_unmatched.ensures.here c.if-is_unmatched.false
-      (then_by c.is_at_end.ensures.here c.if-is_at_end.true (by_report c.in_ok-error.ensures.state gives)))
+    (else_by c.is_unmatched.ensures.here c.if-is_unmatched.false
+    (then_by c.is_at_end.ensures.here c.if-is_at_end.true (by_report c.in_ok-error.ensures.state gives)))
 
 pub returns-then-eq-2-clause-item : goal.returns-then-eq-2-clause-item
 returns-then-eq-2-clause-item g c = skips_took c.in_ok-error_let_stmt.ensures.took
@@ -38,9 +38,9 @@ returns-then-eq-2-clause-item g c = skips_took c.in_ok-error_let_stmt.ensures.to
 pub returns-then-eq-2-clause-script : goal.returns-then-eq-2-clause-script
 unfolding missing_item
 returns-then-eq-2-clause-script g c = fails (search rules)
-      (else_by c.is_unmatched.ensures.here c.if-is_unmatched.false
-      (else_by c.is_at_end.ensures.here c.if-is_at_end.false
-      (passes (search rules) (to_end c.in_ok-error_let_stmt.ensures.script))))
+    (else_by c.is_unmatched.ensures.here c.if-is_unmatched.false
+    (else_by c.is_at_end.ensures.here c.if-is_at_end.false
+    (passes (search rules) (to_end c.in_ok-error_let_stmt.ensures.script))))
 
 pub returns-clause-item : goal.returns-clause-item
 returns-clause-item g c =
@@ -49,6 +49,6 @@ returns-clause-item g c =
 pub returns-clause-script : goal.returns-clause-script
 unfolding missing_item
 returns-clause-script g c = fails (search rules)
-      (else_by c.is_unmatched.ensures.here c.if-is_unmatched.false
-      (else_by c.is_at_end.ensures.here c.if-is_at_end.false
-      (fails (search rules) (by_skip c.in_ok-err_and_bump.ensures.state gives))))
+    (else_by c.is_unmatched.ensures.here c.if-is_unmatched.false
+    (else_by c.is_at_end.ensures.here c.if-is_at_end.false
+    (fails (search rules) (by_skip c.in_ok-err_and_bump.ensures.state gives))))

@@ -12,7 +12,7 @@ returns-then-not-has_extern-clause-script g c = rw c.if-not-has_extern.true give
 pub returns-clause-script : goal.returns-clause-script
 unfolding opt_extern_block
 returns-clause-script g c = rw c.if-not-has_extern.false
-      (by_rule c.in_ok-extern_item_list.ensures.script (by_complete c.in_ok-complete.ensures.state.0 gives))
+    (by_rule c.in_ok-extern_item_list.ensures.script (by_complete c.in_ok-complete.ensures.state.0 gives))
 
 pub returns-clause-handed : goal.returns-clause-handed
 returns-clause-handed g c = ended_by c.in_ok-complete.ensures.state.0 (search rules)

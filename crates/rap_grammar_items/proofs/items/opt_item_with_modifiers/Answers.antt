@@ -22,25 +22,25 @@ returns-in-STATIC_KW-T-clause-script g c =
 pub returns-in_ok-trait_-clause-script : goal.returns-in_ok-trait_-clause-script
 unfolding opt_item_with_modifiers
 returns-in_ok-trait_-clause-script g c = fails (search rules)
-      (fails (search rules) (fails (search rules) (passes (search rules) (to_end c.in_ok-trait_.ensures.script))))
+    (fails (search rules) (fails (search rules) (passes (search rules) (to_end c.in_ok-trait_.ensures.script))))
 
 pub returns-in_ok-impl_-clause-script : goal.returns-in_ok-impl_-clause-script
 unfolding opt_item_with_modifiers
 returns-in_ok-impl_-clause-script g c = fails (search rules) (fails (search rules) (fails (search rules) (fails (search rules)
-      (passes (search rules) (to_end c.in_ok-impl_.ensures.script)))))
+    (passes (search rules) (to_end c.in_ok-impl_.ensures.script)))))
 
 pub returns-in_ok-type_item-clause-script : goal.returns-in_ok-type_item-clause-script
 unfolding opt_item_with_modifiers
 returns-in_ok-type_item-clause-script g c = fails (search rules) (fails (search rules) (fails (search rules) (fails (search rules)
-      (fails (search rules) (passes (search rules) (to_end c.in_ok-type_item.ensures.script))))))
+    (fails (search rules) (passes (search rules) (to_end c.in_ok-type_item.ensures.script))))))
 
 pub returns-in-L_CURLY-T-clause-script : goal.returns-in-L_CURLY-T-clause-script
 unfolding opt_item_with_modifiers
 returns-in-L_CURLY-T-clause-script g c =
     handed_if c.opt_extern_block.result c.opt_extern_block.ensures.script (λ item h. fails (search rules) (fails (search rules) (fails (search rules) (fails (search rules)
-          (fails (search rules) (fails (search rules) (passes (search rules) (to_end h))))))))
+    (fails (search rules) (fails (search rules) (passes (search rules) (to_end h))))))))
 
 pub returns-in_default-clause-script : goal.returns-in_default-clause-script
 unfolding opt_item_with_modifiers
 returns-in_default-clause-script g c = fails (search rules) (fails (search rules) (fails (search rules) (fails (search rules)
-      (fails (search rules) (fails (search rules) (fails (search rules) gives))))))
+    (fails (search rules) (fails (search rules) (fails (search rules) gives))))))

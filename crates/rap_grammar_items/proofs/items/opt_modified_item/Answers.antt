@@ -11,7 +11,7 @@ returns-in-Ok-clause-handed g c =
 pub returns-in-Ok-clause-script : goal.returns-in-Ok-clause-script
 unfolding opt_modified_item
 returns-in-Ok-clause-script g c = by_rule c.in_ok-found.ensures.script
-      (by_rule (rw c.in-Ok.is at c.in_ok-opt_item_with_modifiers.ensures.script) gives)
+    (by_rule (rw c.in-Ok.is at c.in_ok-opt_item_with_modifiers.ensures.script) gives)
 
 pub returns-in_ok-item-in-Err-clause-handed : goal.returns-in_ok-item-in-Err-clause-handed
 returns-in_ok-item-in-Err-clause-handed g c =
@@ -21,5 +21,5 @@ returns-in_ok-item-in-Err-clause-handed g c =
 pub returns-in_ok-item-in-Err-clause-script : goal.returns-in_ok-item-in-Err-clause-script
 unfolding opt_modified_item
 returns-in_ok-item-in-Err-clause-script g c = by_rule c.in_ok-found.ensures.script
-      (by_rule (rw c.in-Err.is at c.in_ok-opt_item_with_modifiers.ensures.script)
-      (to_end (c.in_ok-item-in-Err.ensures.script _)))
+    (by_rule (rw c.in-Err.is at c.in_ok-opt_item_with_modifiers.ensures.script)
+    (to_end (c.in_ok-item-in-Err.ensures.script _)))

@@ -7,12 +7,12 @@ use Rattle.rap_grammar_items.proofs.items.refuse.Goals as goal
 pub returns-then-has_mods-clause-script : goal.returns-then-has_mods-clause-script
 unfolding refuse
 returns-then-has_mods-clause-script c depth = rw c.if-has_mods.true
-      (by_report c.in_ok-error.ensures.state (by_complete c.in_ok-complete.ensures.state.0 gives))
+    (by_report c.in_ok-error.ensures.state (by_complete c.in_ok-complete.ensures.state.0 gives))
 
 pub returns-then-has_visibility-clause-script : goal.returns-then-has_visibility-clause-script
 unfolding refuse
 returns-then-has_visibility-clause-script c depth = rw (c.if-has_mods.false, c.if-has_visibility.true)
-      (by_report c.in_ok-error-2.ensures.state (by_complete c.in_ok-complete-2.ensures.state.0 gives))
+    (by_report c.in_ok-error-2.ensures.state (by_complete c.in_ok-complete-2.ensures.state.0 gives))
 
 pub returns-clause-script : goal.returns-clause-script
 unfolding refuse

@@ -14,20 +14,20 @@ returns-then-ne-clause-script g c = last_turn c.fields.invariant.script (fails (
 pub returns-then-not-ends_in_dot-clause-script : goal.returns-then-not-ends_in_dot-clause-script
 unfolding after_dot
 returns-then-not-ends_in_dot-clause-script g c = let float : next (state c.fields.p) ≡ FLOAT_NUMBER = search rules in
-      last_turn c.fields.invariant.script
-      (passes (rw float refl) (by_split_whole float c.in_ok-ends_in_dot.ensures.state.0 (search rules) gives)) refl
+    last_turn c.fields.invariant.script
+    (passes (rw float refl) (by_split_whole float c.in_ok-ends_in_dot.ensures.state.0 (search rules) gives)) refl
 
 pub returns-then-at-clause-script : goal.returns-then-at-clause-script
 unfolding after_dot
 returns-then-at-clause-script g c = let float : next (state c.fields.p) ≡ FLOAT_NUMBER = search rules in
-      let range : is_range (state c.split_float.new.self).rest ≡ true = elim c.then-at.branch [
-        | then-at-via-then-at w ↦ rw (← c.at.ensures, w.if-at.true) refl
-        | then-at-via-else-at+then-at-2 w ↦ rw
-            (← c.at.ensures, w.if-at.false, ← w.at-else-at.ensures, w.if-at-2.true) refl
-      ] in
-      last_turn c.fields.invariant.script
-      (passes (rw float refl)
-      (by_split_dotted float c.in_ok-ends_in_dot.ensures.state.0 (search rules) (passes range gives))) refl
+    let range : is_range (state c.split_float.new.self).rest ≡ true = elim c.then-at.branch [
+      | then-at-via-then-at w ↦ rw (← c.at.ensures, w.if-at.true) refl
+      | then-at-via-else-at+then-at-2 w ↦ rw
+          (← c.at.ensures, w.if-at.false, ← w.at-else-at.ensures, w.if-at-2.true) refl
+    ] in
+    last_turn c.fields.invariant.script
+    (passes (rw float refl)
+    (by_split_dotted float c.in_ok-ends_in_dot.ensures.state.0 (search rules) (passes range gives))) refl
 
 pub fields-preserved : goal.fields-preserved
 fields-preserved g c =

@@ -7,4 +7,4 @@ pub returns-clause-script : goal.returns-clause-script
 unfolding call_expr
 returns-clause-script g c =
     by_precede c.requires.last c.in_ok-m.ensures.state
-          (by_rule c.in_ok-arg_list.ensures.script (by_complete c.in_ok-cm.ensures.state.0 gives))
+    (by_rule c.in_ok-arg_list.ensures.script (by_complete c.in_ok-cm.ensures.state.0 gives))

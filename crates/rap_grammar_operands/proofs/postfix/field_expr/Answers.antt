@@ -8,9 +8,9 @@ use Rattle.rap_grammar_operands.proofs.postfix.field_expr.Goals as goal
 pub returns-clause-script : goal.returns-clause-script
 unfolding field_expr
 returns-clause-script c depth = elim c.if-is_path_name_or_index.branch [
-    | then-is_path_name_or_index+in_ok-name_ref_mod_path_or_index w ↦ passes (search rules)
-        (by_rule (w.in_ok-name_ref_mod_path_or_index.ensures.script _)
-        (by_complete (rw w.p-is at c.in_ok-cm.ensures.state.0) gives))
-    | else-is_path_name_or_index+in_ok-error w ↦ fails (search rules)
-        (by_report w.in_ok-error.ensures.state (by_complete (rw w.p-is at c.in_ok-cm.ensures.state.0) gives))
-  ]
+  | then-is_path_name_or_index+in_ok-name_ref_mod_path_or_index w ↦ passes (search rules)
+      (by_rule (w.in_ok-name_ref_mod_path_or_index.ensures.script _)
+      (by_complete (rw w.p-is at c.in_ok-cm.ensures.state.0) gives))
+  | else-is_path_name_or_index+in_ok-error w ↦ fails (search rules)
+      (by_report w.in_ok-error.ensures.state (by_complete (rw w.p-is at c.in_ok-cm.ensures.state.0) gives))
+]

@@ -13,10 +13,10 @@ pub returns-then-at-clause-script : goal.returns-then-at-clause-script
 unfolding name_after_dot
 returns-then-at-clause-script g c =
     else_by c.is_method_call.ensures c.if-is_method_call.false
-          (passes (search rules) (to_end (c.in_ok-cm-2.ensures.script _)))
+    (passes (search rules) (to_end (c.in_ok-cm-2.ensures.script _)))
 
 pub returns-clause-script : goal.returns-clause-script
 unfolding name_after_dot
 returns-clause-script g c =
     else_by c.is_method_call.ensures c.if-is_method_call.false
-          (fails (search rules) (to_end (c.in_ok-cm-3.ensures.script _)))
+    (fails (search rules) (to_end (c.in_ok-cm-3.ensures.script _)))

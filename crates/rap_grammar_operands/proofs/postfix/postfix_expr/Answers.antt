@@ -55,13 +55,13 @@ postfixes-preserved-else-not-goes_on g c =
 pub returns-then-not-goes_on-clause-script : goal.returns-then-not-goes_on-clause-script
 unfolding postfix_expr
 returns-then-not-goes_on-clause-script g c = let e : next (state c.postfixes.p) ≡ DOT = search rules in
-      let b = c.postfixes.block_like in
-      let on : c.in_ok-access.goes_on ≡ false = search rules in
-      last_turn c.postfixes.invariant.script
-      (fails (rw e refl)
-      (fails (rw e refl)
-      (passes (rw (e, ← c.at.ensures, ← c.at-then-not-at.ensures, c.if-not-at.true, c.if-not-at-2.true) refl)
-      (by_rule c.in_ok-access.ensures.script (rw (on, like_is b) gives))))) (like_ends b)
+    let b = c.postfixes.block_like in
+    let on : c.in_ok-access.goes_on ≡ false = search rules in
+    last_turn c.postfixes.invariant.script
+    (fails (rw e refl)
+    (fails (rw e refl)
+    (passes (rw (e, ← c.at.ensures, ← c.at-then-not-at.ensures, c.if-not-at.true, c.if-not-at-2.true) refl)
+    (by_rule c.in_ok-access.ensures.script (rw (on, like_is b) gives))))) (like_ends b)
 
 pub postfixes-preserved : goal.postfixes-preserved
 postfixes-preserved g c =
@@ -80,38 +80,38 @@ postfixes-preserved g c =
 pub returns-in_default-clause-script : goal.returns-in_default-clause-script
 unfolding postfix_expr
 returns-in_default-clause-script g c = let inv = c.postfixes.invariant.script in
-      let b = c.postfixes.block_like in
-      elim c.in_default.branch [
-        | in_default-via-in-L_PAREN-T+else-allow_calls w ↦
-            let e : next (state c.postfixes.p) ≡ L_PAREN = search rules in
-            last_turn inv
-            (fails (rw (e, w.if-allow_calls.false) refl)
-            (fails (rw e refl) (fails (rw e refl) (fails (rw e refl) (rw (like_is b) gives))))) (like_ends b)
-        | in_default-via-in-L_BRACK-T+else-allow_calls-2 w ↦
-            let e : next (state c.postfixes.p) ≡ L_BRACK = search rules in
-            last_turn inv
-            (fails (rw e refl)
-            (fails (rw (e, w.if-allow_calls-2.false) refl)
-            (fails (rw e refl) (fails (rw e refl) (rw (like_is b) gives))))) (like_ends b)
-        | in_default-via-in-DOT-T+then-not-at+else-not-at-2 w ↦
-            let e : next (state c.postfixes.p) ≡ DOT = search rules in
-            last_turn inv
-            (fails (rw e refl)
-            (fails (rw e refl)
-            (fails (rw (e, ← w.at.ensures, ← w.at-then-not-at.ensures, w.if-not-at.true, w.if-not-at-2.false) refl)
-            (fails (rw e refl) (rw (like_is b) gives))))) (like_ends b)
-        | in_default-via-in-DOT-T+else-not-at w ↦
-            let e : next (state c.postfixes.p) ≡ DOT = search rules in
-            last_turn inv
-            (fails (rw e refl)
-            (fails (rw e refl)
-            (fails (rw (e, ← w.at.ensures, w.if-not-at.false) refl) (fails (rw e refl) (rw (like_is b) gives)))))
-            (like_ends b)
-        | in_default-via-in_default-1 w ↦
-            let p : (next (state c.postfixes.p) == L_PAREN) ≡ false = search rules in
-            let k : (next (state c.postfixes.p) == L_BRACK) ≡ false = search rules in
-            let d : (next (state c.postfixes.p) == DOT) ≡ false = search rules in
-            let q : (next (state c.postfixes.p) == QUESTION) ≡ false = search rules in
-            last_turn inv (fails (rw p refl) (fails (rw k refl) (fails (rw d refl) (fails q (rw (like_is b) gives)))))
-            (like_ends b)
-      ]
+    let b = c.postfixes.block_like in
+    elim c.in_default.branch [
+      | in_default-via-in-L_PAREN-T+else-allow_calls w ↦
+          let e : next (state c.postfixes.p) ≡ L_PAREN = search rules in
+          last_turn inv
+          (fails (rw (e, w.if-allow_calls.false) refl)
+          (fails (rw e refl) (fails (rw e refl) (fails (rw e refl) (rw (like_is b) gives))))) (like_ends b)
+      | in_default-via-in-L_BRACK-T+else-allow_calls-2 w ↦
+          let e : next (state c.postfixes.p) ≡ L_BRACK = search rules in
+          last_turn inv
+          (fails (rw e refl)
+          (fails (rw (e, w.if-allow_calls-2.false) refl)
+          (fails (rw e refl) (fails (rw e refl) (rw (like_is b) gives))))) (like_ends b)
+      | in_default-via-in-DOT-T+then-not-at+else-not-at-2 w ↦
+          let e : next (state c.postfixes.p) ≡ DOT = search rules in
+          last_turn inv
+          (fails (rw e refl)
+          (fails (rw e refl)
+          (fails (rw (e, ← w.at.ensures, ← w.at-then-not-at.ensures, w.if-not-at.true, w.if-not-at-2.false) refl)
+          (fails (rw e refl) (rw (like_is b) gives))))) (like_ends b)
+      | in_default-via-in-DOT-T+else-not-at w ↦
+          let e : next (state c.postfixes.p) ≡ DOT = search rules in
+          last_turn inv
+          (fails (rw e refl)
+          (fails (rw e refl)
+          (fails (rw (e, ← w.at.ensures, w.if-not-at.false) refl) (fails (rw e refl) (rw (like_is b) gives)))))
+          (like_ends b)
+      | in_default-via-in_default-1 w ↦
+          let p : (next (state c.postfixes.p) == L_PAREN) ≡ false = search rules in
+          let k : (next (state c.postfixes.p) == L_BRACK) ≡ false = search rules in
+          let d : (next (state c.postfixes.p) == DOT) ≡ false = search rules in
+          let q : (next (state c.postfixes.p) == QUESTION) ≡ false = search rules in
+          last_turn inv (fails (rw p refl) (fails (rw k refl) (fails (rw d refl) (fails q (rw (like_is b) gives)))))
+          (like_ends b)
+    ]

@@ -10,12 +10,12 @@ returns-then-at-clause-script g c = then_by c.at.ensures c.if-at.true gives
 pub returns-then-not-at-clause-script : goal.returns-then-not-at-clause-script
 unfolding base_of_record
 returns-then-not-at-clause-script g c = else_by c.at.ensures c.if-at.false
-      (by_rule c.in_ok-expr.ensures.script
-      (else_by c.at-2.ensures c.if-not-at.true gives))
+    (by_rule c.in_ok-expr.ensures.script
+    (else_by c.at-2.ensures c.if-not-at.true gives))
 
 pub returns-clause-script : goal.returns-clause-script
 unfolding base_of_record
 returns-clause-script g c = else_by c.at.ensures c.if-at.false
-      (by_rule c.in_ok-expr.ensures.script
-      (then_by c.at-2.ensures c.if-not-at.false
-      (by_report c.in_ok-error.ensures.state gives)))
+    (by_rule c.in_ok-expr.ensures.script
+    (then_by c.at-2.ensures c.if-not-at.false
+    (by_report c.in_ok-error.ensures.state gives)))

@@ -13,5 +13,5 @@ returns-clause-spent g c =
 pub returns-clause-script : goal.returns-clause-script
 unfolding base_without_dots
 returns-clause-script g c = by_abandon c.in_ok-abandon.ensures.state
-      (by_expect c.in_ok-expect.ensures.state
-      (by_rule c.in_ok-expr.ensures.script gives))
+    (by_expect c.in_ok-expect.ensures.state
+    (by_rule c.in_ok-expr.ensures.script gives))

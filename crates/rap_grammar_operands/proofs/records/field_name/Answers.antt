@@ -7,17 +7,17 @@ use Rattle.rap_grammar_operands.proofs.records.field_name.Goals as goal
 pub returns-then-nth_at-clause-script : goal.returns-then-nth_at-clause-script
 unfolding field_name
 returns-then-nth_at-clause-script c depth = then_by c.nth_at.ensures c.if-nth_at.true
-      (by_rule (c.in_ok-name_ref_or_index.ensures.script _)
-      (by_bump (search rules) c.in_ok-bump.ensures.state gives))
+    (by_rule (c.in_ok-name_ref_or_index.ensures.script _)
+    (by_bump (search rules) c.in_ok-bump.ensures.state gives))
 
 pub returns-then-nth_at-2-clause-script : goal.returns-then-nth_at-2-clause-script
 unfolding field_name
 returns-then-nth_at-2-clause-script c depth = else_by c.nth_at.ensures c.if-nth_at.false
-      (then_by c.nth_at-2.ensures c.if-nth_at-2.true
-      (by_rule (c.in_ok-name_ref_or_index-2.ensures.script _)
-      (by_skip c.in_ok-err_and_bump.ensures.state gives)))
+    (then_by c.nth_at-2.ensures c.if-nth_at-2.true
+    (by_rule (c.in_ok-name_ref_or_index-2.ensures.script _)
+    (by_skip c.in_ok-err_and_bump.ensures.state gives)))
 
 pub returns-clause-script : goal.returns-clause-script
 unfolding field_name
 returns-clause-script c depth = else_by c.nth_at.ensures c.if-nth_at.false
-      (else_by c.nth_at-2.ensures c.if-nth_at-2.false gives)
+    (else_by c.nth_at-2.ensures c.if-nth_at-2.false gives)

@@ -10,15 +10,15 @@ returns-then-nth_at-clause-script g c = then_by c.nth_at.ensures c.if-nth_at.tru
 pub returns-then-nth_at-2-clause-script : goal.returns-then-nth_at-2-clause-script
 unfolding named_field
 returns-then-nth_at-2-clause-script g c = else_by c.nth_at.ensures c.if-nth_at.false
-      (then_by c.nth_at-2.ensures c.if-nth_at-2.true
-      (by_rule (c.in_ok-name_ref_or_index.ensures.script _)
-      (by_report c.in_ok-error.ensures.state
-      (by_complete c.in_ok-complete.ensures.state.0 gives))))
+    (then_by c.nth_at-2.ensures c.if-nth_at-2.true
+    (by_rule (c.in_ok-name_ref_or_index.ensures.script _)
+    (by_report c.in_ok-error.ensures.state
+    (by_complete c.in_ok-complete.ensures.state.0 gives))))
 
 pub returns-clause-script : goal.returns-clause-script
 unfolding named_field
 returns-clause-script g c = else_by c.nth_at.ensures c.if-nth_at.false
-      (else_by c.nth_at-2.ensures c.if-nth_at-2.false
-      (by_rule (c.in_ok-field_name.ensures.script _)
-      (by_rule c.in_ok-expr.ensures.script
-      (by_complete c.in_ok-complete-2.ensures.state.0 gives))))
+    (else_by c.nth_at-2.ensures c.if-nth_at-2.false
+    (by_rule (c.in_ok-field_name.ensures.script _)
+    (by_rule c.in_ok-expr.ensures.script
+    (by_complete c.in_ok-complete-2.ensures.state.0 gives))))

@@ -15,5 +15,5 @@ returns-then-not-is_param_first-clause-script c depth = not_ate c.in_ok-eat.ensu
 pub returns-clause-script : goal.returns-clause-script
 unfolding after_param
 returns-clause-script c depth = not_ate c.in_ok-eat.ensures.state c.if-branch.false
-      (passes (search rules)
-      (by_report c.in_ok-error.ensures.state gives))
+    (passes (search rules)
+    (by_report c.in_ok-error.ensures.state gives))

@@ -10,5 +10,5 @@ returns-then-branch-clause-script g c = ate c.in_ok-eat.ensures.state c.if-branc
 pub returns-clause-script : goal.returns-clause-script
 unfolding fn_def_param
 returns-clause-script g c = not_ate c.in_ok-eat.ensures.state c.if-branch.false
-      (by_rule c.in_ok-pattern.ensures.script
-      (to_end c.in_ok-param_type.ensures.script))
+    (by_rule c.in_ok-pattern.ensures.script
+    (to_end c.in_ok-param_type.ensures.script))

@@ -10,4 +10,4 @@ returns-then-not-branch-clause-script g c = by_rule (answers_no c.if-not-branch.
 pub returns-clause-script : goal.returns-clause-script
 unfolding fn_def_params
 returns-clause-script g c = by_rule (answers_yes c.if-not-branch.false c.in_ok-first_param.ensures.script)
-      (to_end c.in_ok-params.ensures.script)
+    (to_end c.in_ok-params.ensures.script)

@@ -10,11 +10,11 @@ returns-then-branch-clause-script g c = ate c.in_ok-eat.ensures.state c.if-branc
 pub returns-then-is_named_param-clause-script : goal.returns-then-is_named_param-clause-script
 unfolding fn_ptr_param
 returns-then-is_named_param-clause-script g c = not_ate c.in_ok-eat.ensures.state c.if-branch.false
-      (then_by c.is_named_param.ensures c.if-is_named_param.true
-      (by_rule c.in_ok-pattern_single.ensures.script (to_end c.in_ok-param_type.ensures.script)))
+    (then_by c.is_named_param.ensures c.if-is_named_param.true
+    (by_rule c.in_ok-pattern_single.ensures.script (to_end c.in_ok-param_type.ensures.script)))
 
 pub returns-clause-script : goal.returns-clause-script
 unfolding fn_ptr_param
 returns-clause-script g c = not_ate c.in_ok-eat.ensures.state c.if-branch.false
-      (else_by c.is_named_param.ensures c.if-is_named_param.false
-      (to_end c.in_ok-type_.ensures.script))
+    (else_by c.is_named_param.ensures c.if-is_named_param.false
+    (to_end c.in_ok-type_.ensures.script))

@@ -7,7 +7,7 @@ use Rattle.rap_grammar_params.proofs.params.list_.Goals as goal
 pub returns-clause-script : goal.returns-clause-script
 unfolding list_
 returns-clause-script g c = by_start c.in_ok-m.ensures.state
-      (rw (sym c.bra.ensures.kind) (by_bump (search rules) c.in_ok-bump.ensures.state
-      (by_rule c.in_ok-params_of.ensures.script
-      (rw (sym c.ket.ensures.kind) (by_expect c.in_ok-expect.ensures.state
-      (by_complete c.in_ok-complete.ensures.state.0 gives))))))
+    (rw (sym c.bra.ensures.kind) (by_bump (search rules) c.in_ok-bump.ensures.state
+    (by_rule c.in_ok-params_of.ensures.script
+    (rw (sym c.ket.ensures.kind) (by_expect c.in_ok-expect.ensures.state
+    (by_complete c.in_ok-complete.ensures.state.0 gives))))))

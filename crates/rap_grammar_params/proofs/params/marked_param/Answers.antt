@@ -7,10 +7,10 @@ use Rattle.rap_grammar_params.proofs.params.marked_param.Goals as goal
 pub returns-then-not-is_param_first-clause-script : goal.returns-then-not-is_param_first-clause-script
 unfolding marked_param
 returns-then-not-is_param_first-clause-script g c = fails (search rules) (by_report c.in_ok-error.ensures.state (by_abandon c.in_ok-abandon.ensures.state
-      (by_eat_or c.in_ok-on.ensures.state (λ e. rw e gives) (λ e. rw e gives))))
+    (by_eat_or c.in_ok-on.ensures.state (λ e. rw e gives) (λ e. rw e gives))))
 
 pub returns-clause-script : goal.returns-clause-script
 unfolding marked_param
 returns-clause-script g c = passes (search rules)
-      (by_rule c.in_ok-param.ensures.script
-      (by_complete c.in_ok-complete.ensures.state.0 (to_end (c.in_ok-on-2.ensures.script _))))
+    (by_rule c.in_ok-param.ensures.script
+    (by_complete c.in_ok-complete.ensures.state.0 (to_end (c.in_ok-on-2.ensures.script _))))

@@ -10,10 +10,10 @@ returns-then-is_self_value-clause-script g c = then_by c.is_self_value.ensures c
 pub returns-then-is_self_ref-clause-script : goal.returns-then-is_self_ref-clause-script
 unfolding opt_self_param
 returns-then-is_self_ref-clause-script g c = else_by c.is_self_value.ensures c.if-is_self_value.false
-      (then_by c.is_self_ref.ensures c.if-is_self_ref.true
-      (to_end (c.in_ok-self_ref.ensures.script _)))
+    (then_by c.is_self_ref.ensures c.if-is_self_ref.true
+    (to_end (c.in_ok-self_ref.ensures.script _)))
 
 pub returns-clause-script : goal.returns-clause-script
 unfolding opt_self_param
 returns-clause-script g c = else_by c.is_self_value.ensures c.if-is_self_value.false
-      (else_by c.is_self_ref.ensures c.if-is_self_ref.false gives)
+    (else_by c.is_self_ref.ensures c.if-is_self_ref.false gives)

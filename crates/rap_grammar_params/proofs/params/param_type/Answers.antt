@@ -10,11 +10,11 @@ returns-then-branch-clause-script g c = by_rule (answers_yes c.if-branch.true (c
 pub returns-then-at-clause-script : goal.returns-then-at-clause-script
 unfolding param_type
 returns-then-at-clause-script g c = by_rule (answers_no c.if-branch.false (c.in_ok-variadic_param.ensures.script _))
-      (then_by c.at.ensures c.if-at.true
-      (to_end c.in_ok-ascription.ensures.script))
+    (then_by c.at.ensures c.if-at.true
+    (to_end c.in_ok-ascription.ensures.script))
 
 pub returns-clause-script : goal.returns-clause-script
 unfolding param_type
 returns-clause-script g c = by_rule (answers_no c.if-branch.false (c.in_ok-variadic_param.ensures.script _))
-      (else_by c.at.ensures c.if-at.false
-      (by_report c.in_ok-error.ensures.state gives))
+    (else_by c.at.ensures c.if-at.false
+    (by_report c.in_ok-error.ensures.state gives))

@@ -20,17 +20,17 @@ params-preserved g c = record {
 pub returns-then-not-branch-clause-script : goal.returns-then-not-branch-clause-script
 unfolding params
 returns-then-not-branch-clause-script g c = let at_ket = by_kind (λ (k : ℕ). is_at k (state c.params.p).rest) c.at-in-params.ensures c.ket.ensures.kind in
-      last_turn c.params.invariant.script
-      (else_by c.at.ensures c.params-test.true
-      (else_by at_ket c.if-not-at.true
-      (by_rule (answers_no c.if-not-branch.true c.in_ok-attributed_param.ensures.script) gives))) refl
+    last_turn c.params.invariant.script
+    (else_by c.at.ensures c.params-test.true
+    (else_by at_ket c.if-not-at.true
+    (by_rule (answers_no c.if-not-branch.true c.in_ok-attributed_param.ensures.script) gives))) refl
 
 pub returns-else-not-at-clause-script : goal.returns-else-not-at-clause-script
 unfolding params
 returns-else-not-at-clause-script g c = let at_ket = by_kind (λ (k : ℕ). is_at k (state c.params.p).rest) c.at-in-params.ensures c.ket.ensures.kind in
-      last_turn c.params.invariant.script
-      (else_by c.at.ensures c.params-test.true
-      (then_by at_ket c.if-not-at.false gives)) refl
+    last_turn c.params.invariant.script
+    (else_by c.at.ensures c.params-test.true
+    (then_by at_ket c.if-not-at.false gives)) refl
 
 pub returns-after-params-clause-script : goal.returns-after-params-clause-script
 unfolding params

@@ -10,12 +10,12 @@ unfolding variadic_param
 returns-then-nth_at-clause-script c depth = let a = sym c.at.ensures ∙ c.if-at.true in
     let n = sym c.nth_at.ensures ∙ c.if-nth_at.true in
     (passes (both a n)
-          (by_bump a c.in_ok-bump.ensures.state
-          (by_bump (search rules) c.in_ok-bump-2.ensures.state gives)))
+    (by_bump a c.in_ok-bump.ensures.state
+    (by_bump (search rules) c.in_ok-bump-2.ensures.state gives)))
 
 pub returns-clause-script : goal.returns-clause-script
 unfolding variadic_param
 returns-clause-script c depth = fails (elim c.else-at.branch [
-    | else-at-via-then-at+else-nth_at w ↦ not_both (λ _. sym w.nth_at.ensures ∙ w.if-nth_at.false)
-    | else-at-via-else-at w ↦ not_left _ (sym c.at.ensures ∙ w.if-at.false)
-  ]) gives
+  | else-at-via-then-at+else-nth_at w ↦ not_both (λ _. sym w.nth_at.ensures ∙ w.if-nth_at.false)
+  | else-at-via-else-at w ↦ not_left _ (sym c.at.ensures ∙ w.if-at.false)
+]) gives

@@ -12,6 +12,6 @@ returns-then-not-starts_expr_args-clause-script g c =
 pub returns-clause-script : goal.returns-clause-script
 unfolding opt_generic_arg_list_expr
 returns-clause-script g c = then_by c.starts_expr_args.ensures c.if-not-starts_expr_args.false
-      (by_start c.in_ok-m.ensures.state
-      (by_bump (search rules) c.in_ok-bump.ensures.state
-      (to_end c.in_ok-generic_arg_list.ensures.script)))
+    (by_start c.in_ok-m.ensures.state
+    (by_bump (search rules) c.in_ok-bump.ensures.state
+    (to_end c.in_ok-generic_arg_list.ensures.script)))

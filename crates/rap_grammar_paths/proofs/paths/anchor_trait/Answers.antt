@@ -13,11 +13,11 @@ returns-then-not-branch-clause-script g c =
 pub returns-then-is_use_path_start-clause-script : goal.returns-then-is_use_path_start-clause-script
 unfolding anchor_trait path_type_bounds
 returns-then-is_use_path_start-clause-script g c = ate c.in_ok-eat.ensures.state c.if-not-branch.false
-      (then_by c.is_use_path_start.ensures c.if-is_use_path_start.true
-      (by_part phrase.path_type_bounds c.in_ok-run.ensures.1 gives))
+    (then_by c.is_use_path_start.ensures c.if-is_use_path_start.true
+    (by_part phrase.path_type_bounds c.in_ok-run.ensures.1 gives))
 
 pub returns-clause-script : goal.returns-clause-script
 unfolding anchor_trait
 returns-clause-script g c = ate c.in_ok-eat.ensures.state c.if-not-branch.false
-      (else_by c.is_use_path_start.ensures c.if-is_use_path_start.false
-      (by_report c.in_ok-error.ensures.state gives))
+    (else_by c.is_use_path_start.ensures c.if-is_use_path_start.false
+    (by_report c.in_ok-error.ensures.state gives))

@@ -9,12 +9,12 @@ unfolding opt_path_args
 returns-in-Use g c = record {
   grew = search rules;
   script = elim c.in-Use.is [
-      | inl e ↦ rw e gives
-      | inr e ↦ elim e [
-        | inl i ↦ rw i gives
-        | inr i ↦ rw i gives
-      ]
-    ];
+    | inl e ↦ rw e gives
+    | inr e ↦ elim e [
+      | inl i ↦ rw i gives
+      | inr i ↦ rw i gives
+    ]
+  ];
 }
 
 pub returns-in_ok-opt_path_type_args-in-Type-clause-script : goal.returns-in_ok-opt_path_type_args-in-Type-clause-script

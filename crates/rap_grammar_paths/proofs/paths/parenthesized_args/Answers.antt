@@ -19,5 +19,5 @@ returns-clause-ended g c = record {
 pub returns-clause-script : goal.returns-clause-script
 unfolding parenthesized_args
 returns-clause-script g c = by_rule c.in_ok-delimited.ensures.script
-      (by_complete c.in_ok-complete.ensures.state.0
-      (by_rule c.in_ok-opt_ret_type.ensures.script gives))
+    (by_complete c.in_ok-complete.ensures.state.0
+    (by_rule c.in_ok-opt_ret_type.ensures.script gives))

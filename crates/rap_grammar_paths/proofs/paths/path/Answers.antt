@@ -8,12 +8,12 @@ pub returns-then-is_none-clause-script : goal.returns-then-is_none-clause-script
 unfolding path
 returns-then-is_none-clause-script g c =
     by_start c.in_ok-path.ensures.state
-          (by_rule (answers_nothing (search rules) c.in_ok-path_segment.ensures.script)
-          (by_abandon c.in_ok-abandon.ensures.state gives))
+    (by_rule (answers_nothing (search rules) c.in_ok-path_segment.ensures.script)
+    (by_abandon c.in_ok-abandon.ensures.state gives))
 
 pub returns-clause-script : goal.returns-clause-script
 unfolding path
 returns-clause-script g c =
     by_start c.in_ok-path.ensures.state
-          (by_rule (answers_something (search rules) c.in_ok-path_segment.ensures.script)
-          (by_complete c.in_ok-qual.ensures.state.0 (to_end c.in_ok-path-2.ensures.script)))
+    (by_rule (answers_something (search rules) c.in_ok-path_segment.ensures.script)
+    (by_complete c.in_ok-qual.ensures.state.0 (to_end c.in_ok-path-2.ensures.script)))

@@ -22,4 +22,4 @@ pub returns-clause-script : goal.returns-clause-script
 unfolding path_for_qualifier
 returns-clause-script g c =
     last_turn c.segments.invariant.script
-          (else_by c.has_segment.ensures.segment c.segments-test.false gives) refl
+    (else_by c.has_segment.ensures.segment c.segments-test.false gives) refl

@@ -13,21 +13,21 @@ returns-then-not-first-clause-script g c =
 pub returns-then-at-clause-script : goal.returns-then-at-clause-script
 unfolding path_segment
 returns-then-at-clause-script g c = rw c.if-not-first.false (by_start c.in_ok-m.ensures.state
-      (then_by c.at.ensures c.if-at.true
-      (by_rule c.in_ok-type_anchor.ensures.script
-      (by_complete c.in_ok-segment-2.ensures.state.0 gives))))
+    (then_by c.at.ensures c.if-at.true
+    (by_rule c.in_ok-type_anchor.ensures.script
+    (by_complete c.in_ok-segment-2.ensures.state.0 gives))))
 
 pub returns-then-branch-clause-script : goal.returns-then-branch-clause-script
 unfolding path_segment
 returns-then-branch-clause-script g c = rw c.if-not-first.false (by_start c.in_ok-m.ensures.state
-      (else_by c.at.ensures c.if-at.false
-      (ate c.in_ok-eat.ensures.state c.if-branch.true (to_end c.in_ok-segment-3.ensures.script))))
+    (else_by c.at.ensures c.if-at.false
+    (ate c.in_ok-eat.ensures.state c.if-branch.true (to_end c.in_ok-segment-3.ensures.script))))
 
 pub returns-clause-script : goal.returns-clause-script
 unfolding path_segment
 returns-clause-script g c = rw c.if-not-first.false (by_start c.in_ok-m.ensures.state
-      (else_by c.at.ensures c.if-at.false
-      (not_ate c.in_ok-eat.ensures.state c.if-branch.false (to_end c.in_ok-segment-4.ensures.script))))
+    (else_by c.at.ensures c.if-at.false
+    (not_ate c.in_ok-eat.ensures.state c.if-branch.false (to_end c.in_ok-segment-4.ensures.script))))
 
 pub returns-clause-took : goal.returns-clause-took
 returns-clause-took g c = λ f h.

@@ -13,10 +13,10 @@ pub returns-then-nth_at-clause-script : goal.returns-then-nth_at-clause-script
 unfolding path_type_args
 returns-then-nth_at-clause-script g c =
     fails (search rules)
-          (then_by c.nth_at.ensures c.if-nth_at.true (to_end (c.in_ok-return_type_syntax.ensures.script _)))
+    (then_by c.nth_at.ensures c.if-nth_at.true (to_end (c.in_ok-return_type_syntax.ensures.script _)))
 
 pub returns-clause-script : goal.returns-clause-script
 unfolding path_type_args
 returns-clause-script g c =
     fails (search rules)
-          (else_by c.nth_at.ensures c.if-nth_at.false (to_end c.in_ok-parenthesized_args.ensures.script))
+    (else_by c.nth_at.ensures c.if-nth_at.false (to_end c.in_ok-parenthesized_args.ensures.script))

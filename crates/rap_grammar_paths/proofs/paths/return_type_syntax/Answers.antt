@@ -20,6 +20,6 @@ returns-clause-ended c = record {
 pub returns-clause-script : goal.returns-clause-script
 unfolding return_type_syntax
 returns-clause-script c depth = by_bump (search rules) c.in_ok-bump.ensures.state
-      (by_bump (search rules) c.in_ok-bump-2.ensures.state
-      (by_expect c.in_ok-expect.ensures.state
-      (by_complete c.in_ok-complete.ensures.state.0 gives)))
+    (by_bump (search rules) c.in_ok-bump-2.ensures.state
+    (by_expect c.in_ok-expect.ensures.state
+    (by_complete c.in_ok-complete.ensures.state.0 gives)))

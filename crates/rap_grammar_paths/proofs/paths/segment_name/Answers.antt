@@ -12,6 +12,6 @@ returns-then-not-is_path_name-clause-script g c =
 pub returns-clause-script : goal.returns-clause-script
 unfolding segment_name
 returns-clause-script g c = passes (search rules)
-      (by_rule (c.in_ok-name_ref_mod_path.ensures.script _)
-      (by_rule c.in_ok-opt_path_args.ensures.script
-      (by_complete c.in_ok-segment-2.ensures.state.0 gives)))
+    (by_rule (c.in_ok-name_ref_mod_path.ensures.script _)
+    (by_rule c.in_ok-opt_path_args.ensures.script
+    (by_complete c.in_ok-segment-2.ensures.state.0 gives)))

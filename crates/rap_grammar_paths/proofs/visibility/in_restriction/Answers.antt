@@ -7,8 +7,8 @@ use Rattle.rap_grammar_paths.proofs.visibility.in_restriction.Goals as goal
 pub returns-clause-script : goal.returns-clause-script
 unfolding in_restriction
 returns-clause-script g c = by_start c.in_ok-m.ensures.state
-      (by_bump (search rules) c.in_ok-bump.ensures.state
-      (by_bump (search rules) c.in_ok-bump-2.ensures.state
-      (by_rule c.in_ok-vis_path.ensures.script
-      (by_expect c.in_ok-expect.ensures.state
-      (by_complete c.in_ok-complete.ensures.state.0 gives)))))
+    (by_bump (search rules) c.in_ok-bump.ensures.state
+    (by_bump (search rules) c.in_ok-bump-2.ensures.state
+    (by_rule c.in_ok-vis_path.ensures.script
+    (by_expect c.in_ok-expect.ensures.state
+    (by_complete c.in_ok-complete.ensures.state.0 gives)))))

@@ -15,4 +15,4 @@ alternatives-preserved g c = record {
 pub returns-clause-script : goal.returns-clause-script
 unfolding alternatives
 returns-clause-script g c = last_turn c.alternatives.invariant.script
-      (else_by c.at.ensures c.alternatives-test.false gives) refl
+    (else_by c.at.ensures c.alternatives-test.false gives) refl

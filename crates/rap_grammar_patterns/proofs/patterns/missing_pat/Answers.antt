@@ -12,4 +12,4 @@ returns-clause-reads c =
 pub returns-clause-script : goal.returns-clause-script
 unfolding missing_pat
 returns-clause-script c depth = by_recover (ends_search c.args.in_arm) c.recovery_set.ensures c.in_ok-err_recover.ensures.state (λ k. gives)
-      (λ k. gives)
+    (λ k. gives)

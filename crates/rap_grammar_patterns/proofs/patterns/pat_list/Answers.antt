@@ -37,19 +37,19 @@ patterns-preserved g c =
 pub returns-then-not-is_pat_top_first-clause-script : goal.returns-then-not-is_pat_top_first-clause-script
 unfolding pat_list
 returns-then-not-is_pat_top_first-clause-script g c = last_turn c.patterns.invariant.script
-      (else_by c.at.ensures c.patterns-test.true
-      (else_by c.at-in-patterns.ensures c.if-not-at.true
-      (by_rule c.in_ok-pattern.ensures.script
-      (not_ate c.in_ok-eat.ensures.state c.if-branch.false
-      (fails (search rules) gives))))) refl
+    (else_by c.at.ensures c.patterns-test.true
+    (else_by c.at-in-patterns.ensures c.if-not-at.true
+    (by_rule c.in_ok-pattern.ensures.script
+    (not_ate c.in_ok-eat.ensures.state c.if-branch.false
+    (fails (search rules) gives))))) refl
 
 pub returns-else-not-at-clause-script : goal.returns-else-not-at-clause-script
 unfolding pat_list
 returns-else-not-at-clause-script g c = last_turn c.patterns.invariant.script
-      (else_by c.at.ensures c.patterns-test.true
-      (then_by c.at-in-patterns.ensures c.if-not-at.false gives)) refl
+    (else_by c.at.ensures c.patterns-test.true
+    (then_by c.at-in-patterns.ensures c.if-not-at.false gives)) refl
 
 pub returns-after-patterns-clause-script : goal.returns-after-patterns-clause-script
 unfolding pat_list
 returns-after-patterns-clause-script g c = last_turn c.patterns.invariant.script
-      (then_by c.at.ensures c.patterns-test.false gives) refl
+    (then_by c.at.ensures c.patterns-test.false gives) refl

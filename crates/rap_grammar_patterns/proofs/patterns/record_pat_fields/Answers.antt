@@ -28,10 +28,10 @@ fields-preserved g c = record {
 pub returns-else-not-at-clause-script : goal.returns-else-not-at-clause-script
 unfolding record_pat_fields
 returns-else-not-at-clause-script g c = last_turn c.fields.invariant.script
-      (else_by c.at.ensures c.fields-test.true
-      (then_by c.at-in-fields.ensures c.if-not-at.false gives)) refl
+    (else_by c.at.ensures c.fields-test.true
+    (then_by c.at-in-fields.ensures c.if-not-at.false gives)) refl
 
 pub returns-after-fields-clause-script : goal.returns-after-fields-clause-script
 unfolding record_pat_fields
 returns-after-fields-clause-script g c = last_turn c.fields.invariant.script
-      (then_by c.at.ensures c.fields-test.false gives) refl
+    (then_by c.at.ensures c.fields-test.false gives) refl

@@ -7,7 +7,7 @@ use Rattle.rap_grammar_patterns.proofs.patterns.ref_pat.Goals as goal
 pub returns-clause-script : goal.returns-clause-script
 unfolding ref_pat
 returns-clause-script g c = by_start c.in_ok-m.ensures.state
-      (by_bump (search rules) c.in_ok-bump.ensures.state
-      (by_eat c.in_ok-eat.ensures.state
-      (by_rule c.in_ok-pattern_single.ensures.script
-      (by_complete c.in_ok-cm.ensures.state.0 gives))))
+    (by_bump (search rules) c.in_ok-bump.ensures.state
+    (by_eat c.in_ok-eat.ensures.state
+    (by_rule c.in_ok-pattern_single.ensures.script
+    (by_complete c.in_ok-cm.ensures.state.0 gives))))

@@ -7,7 +7,7 @@ use Rattle.rap_grammar_patterns.proofs.patterns.slice_pat.Goals as goal
 pub returns-clause-script : goal.returns-clause-script
 unfolding slice_pat
 returns-clause-script g c = by_start c.in_ok-m.ensures.state
-      (by_bump (search rules) c.in_ok-bump.ensures.state
-      (by_rule c.in_ok-pat_list.ensures.script
-      (by_expect c.in_ok-expect.ensures.state
-      (by_complete c.in_ok-cm.ensures.state.0 gives))))
+    (by_bump (search rules) c.in_ok-bump.ensures.state
+    (by_rule c.in_ok-pat_list.ensures.script
+    (by_expect c.in_ok-expect.ensures.state
+    (by_complete c.in_ok-cm.ensures.state.0 gives))))

@@ -7,5 +7,5 @@ use Rattle.rap_grammar_patterns.proofs.patterns.tuple_pat_fields.Goals as goal
 pub returns-clause-script : goal.returns-clause-script
 unfolding tuple_pat_fields
 returns-clause-script g c = by_bump (search rules) c.in_ok-bump.ensures.state
-      (by_rule c.in_ok-pat_list.ensures.script
-      (by_expect c.in_ok-expect.ensures.state gives))
+    (by_rule c.in_ok-pat_list.ensures.script
+    (by_expect c.in_ok-expect.ensures.state gives))

@@ -33,35 +33,35 @@ patterns-preserved g c = record {
 pub returns-then-not-is_pat_top_first-clause-script : goal.returns-then-not-is_pat_top_first-clause-script
 unfolding tuple_patterns
 returns-then-not-is_pat_top_first-clause-script g c = last_turn c.patterns.invariant.script
-      (else_by c.at.ensures c.patterns-test.true
-      (else_by c.at-in-patterns.ensures c.if-not-at.true
-      (fails (search rules)
-      (by_report c.in_ok-error.ensures.state gives)))) (not_on _)
+    (else_by c.at.ensures c.patterns-test.true
+    (else_by c.at-in-patterns.ensures c.if-not-at.true
+    (fails (search rules)
+    (by_report c.in_ok-error.ensures.state gives)))) (not_on _)
 
 pub returns-then-has_pat-clause-script : goal.returns-then-has_pat-clause-script
 unfolding tuple_patterns
 returns-then-has_pat-clause-script g c = elim c.patterns-test.branch [
-    | then-patterns-test+else-not-at w ↦
-        last_turn c.patterns.invariant.script
-        (else_by c.at.ensures w.patterns-test.true
-        (then_by w.at-in-patterns.ensures w.if-not-at.false
-        (rw c.if-has_pat.true gives))) (not_on _)
-    | else-patterns-test w ↦
-        last_turn c.patterns.invariant.script
-        (then_by c.at.ensures w.patterns-test.false
-        (rw c.if-has_pat.true gives)) (not_on _)
-  ]
+  | then-patterns-test+else-not-at w ↦
+      last_turn c.patterns.invariant.script
+      (else_by c.at.ensures w.patterns-test.true
+      (then_by w.at-in-patterns.ensures w.if-not-at.false
+      (rw c.if-has_pat.true gives))) (not_on _)
+  | else-patterns-test w ↦
+      last_turn c.patterns.invariant.script
+      (then_by c.at.ensures w.patterns-test.false
+      (rw c.if-has_pat.true gives)) (not_on _)
+]
 
 pub returns-else-has_pat-clause-script : goal.returns-else-has_pat-clause-script
 unfolding tuple_patterns
 returns-else-has_pat-clause-script g c = elim c.patterns-test.branch [
-    | then-patterns-test+else-not-at w ↦
-        last_turn c.patterns.invariant.script
-        (else_by c.at.ensures w.patterns-test.true
-        (then_by w.at-in-patterns.ensures w.if-not-at.false
-        (rw c.if-has_pat.false gives))) (not_on _)
-    | else-patterns-test w ↦
-        last_turn c.patterns.invariant.script
-        (then_by c.at.ensures w.patterns-test.false
-        (rw c.if-has_pat.false gives)) (not_on _)
-  ]
+  | then-patterns-test+else-not-at w ↦
+      last_turn c.patterns.invariant.script
+      (else_by c.at.ensures w.patterns-test.true
+      (then_by w.at-in-patterns.ensures w.if-not-at.false
+      (rw c.if-has_pat.false gives))) (not_on _)
+  | else-patterns-test w ↦
+      last_turn c.patterns.invariant.script
+      (then_by c.at.ensures w.patterns-test.false
+      (rw c.if-has_pat.false gives)) (not_on _)
+]

@@ -17,14 +17,14 @@ pub returns-then-eq-2-clause-script : goal.returns-then-eq-2-clause-script
 unfolding const_arg_expr
 returns-then-eq-2-clause-script g c =
     fails (search rules)
-          (fails (search rules) (passes (search rules) (to_end (c.in_ok-negative_const.ensures.script _))))
+    (fails (search rules) (passes (search rules) (to_end (c.in_ok-negative_const.ensures.script _))))
 
 pub returns-then-is_path_start-clause-script : goal.returns-then-is_path_start-clause-script
 unfolding const_arg_expr
 returns-then-is_path_start-clause-script g c = fails (search rules) (fails (search rules) (fails (search rules)
-      (then_by c.is_path_start.ensures c.if-is_path_start.true (to_end c.in_ok-const_path.ensures.script))))
+    (then_by c.is_path_start.ensures c.if-is_path_start.true (to_end c.in_ok-const_path.ensures.script))))
 
 pub returns-clause-script : goal.returns-clause-script
 unfolding const_arg_expr
 returns-clause-script g c = fails (search rules) (fails (search rules) (fails (search rules)
-      (else_by c.is_path_start.ensures c.if-is_path_start.false (to_end (c.in_ok-missing_const.ensures.script _)))))
+    (else_by c.is_path_start.ensures c.if-is_path_start.false (to_end (c.in_ok-missing_const.ensures.script _)))))

@@ -8,20 +8,20 @@ pub returns-then-starts_lifetime_arg-clause-script : goal.returns-then-starts_li
 unfolding generic_arg
 returns-then-starts_lifetime_arg-clause-script g c =
     then_by c.starts_lifetime_arg.ensures.starts c.if-starts_lifetime_arg.true
-          (to_end (c.in_ok-lifetime_arg.ensures.script _))
+    (to_end (c.in_ok-lifetime_arg.ensures.script _))
 
 pub returns-then-is_const_arg_first-clause-script : goal.returns-then-is_const_arg_first-clause-script
 unfolding generic_arg
 returns-then-is_const_arg_first-clause-script g c =
     else_by c.starts_lifetime_arg.ensures.starts c.if-starts_lifetime_arg.false
-          (passes (search rules) (to_end c.in_ok-const_arg.ensures.script))
+    (passes (search rules) (to_end c.in_ok-const_arg.ensures.script))
 
 pub returns-then-starts_named_arg-clause-script : goal.returns-then-starts_named_arg-clause-script
 unfolding generic_arg
 returns-then-starts_named_arg-clause-script g c = else_by c.starts_lifetime_arg.ensures.starts c.if-starts_lifetime_arg.false (fails (search rules)
-      (then_by c.starts_named_arg.ensures.starts c.if-starts_named_arg.true (to_end c.in_ok-named_arg.ensures.script)))
+    (then_by c.starts_named_arg.ensures.starts c.if-starts_named_arg.true (to_end c.in_ok-named_arg.ensures.script)))
 
 pub returns-clause-script : goal.returns-clause-script
 unfolding generic_arg
 returns-clause-script g c = else_by c.starts_lifetime_arg.ensures.starts c.if-starts_lifetime_arg.false (fails (search rules)
-      (else_by c.starts_named_arg.ensures.starts c.if-starts_named_arg.false (to_end c.in_ok-type_arg.ensures.script)))
+    (else_by c.starts_named_arg.ensures.starts c.if-starts_named_arg.false (to_end c.in_ok-type_arg.ensures.script)))

@@ -9,4 +9,4 @@ pub returns-clause-script : goal.returns-clause-script
 unfolding missing_const
 returns-clause-script c depth =
     by_recover is_generic_arg_recovery (search rules) c.in_ok-err_recover.ensures.state (λ k. gives)
-          (λ k. gives)
+    (λ k. gives)

@@ -7,4 +7,4 @@ pub returns-clause-script : goal.returns-clause-script
 unfolding type_arg
 returns-clause-script g c =
     by_start c.in_ok-m.ensures.state
-          (by_rule c.in_ok-type_with_bounds_cond.ensures.script (by_complete c.in_ok-complete.ensures.state.0 gives))
+    (by_rule c.in_ok-type_with_bounds_cond.ensures.script (by_complete c.in_ok-complete.ensures.state.0 gives))

@@ -11,11 +11,11 @@ returns-then-matches-clause-script c depth = by_eat_or c.in_ok-comma.ensures.sta
 pub returns-in_ok-error-clause-script : goal.returns-in_ok-error-clause-script
 unfolding after_predicate
 returns-in_ok-error-clause-script c depth = by_eat_or c.in_ok-comma.ensures.state (λ e. absurd (clash e c.if-not-comma.true))
-      (λ e. fails (search rules)
-      (by_report c.in_ok-error.ensures.state gives))
+    (λ e. fails (search rules)
+    (by_report c.in_ok-error.ensures.state gives))
 
 pub returns-else-not-comma-clause-script : goal.returns-else-not-comma-clause-script
 unfolding after_predicate
 returns-else-not-comma-clause-script c depth = by_eat_or c.in_ok-comma.ensures.state (λ e. fails (search rules) gives)
-      (λ e. absurd
-      (clash c.if-not-comma.false e))
+    (λ e. absurd
+    (clash c.if-not-comma.false e))

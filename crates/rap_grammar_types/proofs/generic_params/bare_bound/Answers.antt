@@ -15,18 +15,18 @@ returns-in_ok-lifetime-clause-script g c = passes (search rules) (to_end (c.in_o
 pub returns-in_ok-found-clause-script : goal.returns-in_ok-found-clause-script
 unfolding bare_bound
 returns-in_ok-found-clause-script g c = fails (search rules) (passes (search rules)
-      (by_rule c.in_ok-for_binder.ensures.script (to_end c.in_ok-found.ensures.script)))
+    (by_rule c.in_ok-for_binder.ensures.script (to_end c.in_ok-found.ensures.script)))
 
 pub returns-in_ok-use_bound-clause-script : goal.returns-in_ok-use_bound-clause-script
 unfolding bare_bound
 returns-in_ok-use_bound-clause-script g c = fails (search rules)
-      (fails (search rules)
-      (passes (both (search rules) (sym c.nth_at.ensures ∙ c.if-nth_at.true))
-      (to_end c.in_ok-use_bound.ensures.script)))
+    (fails (search rules)
+    (passes (both (search rules) (sym c.nth_at.ensures ∙ c.if-nth_at.true))
+    (to_end c.in_ok-use_bound.ensures.script)))
 
 pub returns-in_ok-found-in_default-clause-script : goal.returns-in_ok-found-in_default-clause-script
 unfolding bare_bound
 returns-in_ok-found-in_default-clause-script g c = fails (search rules) (fails (search rules) (fails (elim c.in_default.branch [
-    | in_default-via-in-USE_KW-T+else-nth_at w ↦ not_both (λ _. sym w.nth_at.ensures ∙ w.if-nth_at.false)
-    | in_default-via-in_default-1 w ↦ not_left {a = next_is USE_KW (state c.args.p.now).rest} _ (search rules)
-  ]) (to_end c.in_ok-found-in_default.ensures.script)))
+  | in_default-via-in-USE_KW-T+else-nth_at w ↦ not_both (λ _. sym w.nth_at.ensures ∙ w.if-nth_at.false)
+  | in_default-via-in_default-1 w ↦ not_left {a = next_is USE_KW (state c.args.p.now).rest} _ (search rules)
+]) (to_end c.in_ok-found-in_default.ensures.script)))

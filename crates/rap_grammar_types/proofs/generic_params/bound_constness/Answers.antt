@@ -10,12 +10,12 @@ returns-then-branch-clause-script c depth = ate c.in_ok-eat.ensures.state c.if-b
 pub returns-then-branch-2-clause-script : goal.returns-then-branch-2-clause-script
 unfolding bound_constness
 returns-then-branch-2-clause-script c depth = not_ate c.in_ok-eat.ensures.state c.if-branch.false
-      (ate c.in_ok-eat-2.ensures.state c.if-branch-2.true
-      (by_expect c.in_ok-expect-2.ensures.state
-      (by_expect c.in_ok-expect-3.ensures.state gives)))
+    (ate c.in_ok-eat-2.ensures.state c.if-branch-2.true
+    (by_expect c.in_ok-expect-2.ensures.state
+    (by_expect c.in_ok-expect-3.ensures.state gives)))
 
 pub returns-clause-script : goal.returns-clause-script
 unfolding bound_constness
 returns-clause-script c depth = not_ate c.in_ok-eat.ensures.state c.if-branch.false
-      (not_ate c.in_ok-eat-2.ensures.state c.if-branch-2.false
-      (by_eat c.in_ok-eat-3.ensures.state gives))
+    (not_ate c.in_ok-eat-2.ensures.state c.if-branch-2.false
+    (by_eat c.in_ok-eat-3.ensures.state gives))

@@ -8,12 +8,12 @@ use Rattle.rap_grammar_types.proofs.generic_params.bound_macro_call.Goals as goa
 pub returns-clause-script : goal.returns-clause-script
 unfolding bound_macro_call
 returns-clause-script c depth h = by_start c.in_ok-m.ensures.state
-      (by_bump (search rules) c.in_ok-bump.ensures.state
-      (by_report c.in_ok-error.ensures.state
-      (elim c.if-matches.branch [
-        | then-matches+in_ok-token_tree w ↦
-            passes (search rules)
-            (by_rule (w.in_ok-token_tree.ensures.script _ (search rules))
-            (by_complete (rw w.p-is at c.in_ok-complete.ensures.state.0) gives))
-        | else-matches w ↦ fails (search rules) (by_complete (rw w.p-is at c.in_ok-complete.ensures.state.0) gives)
-      ])))
+    (by_bump (search rules) c.in_ok-bump.ensures.state
+    (by_report c.in_ok-error.ensures.state
+    (elim c.if-matches.branch [
+      | then-matches+in_ok-token_tree w ↦
+          passes (search rules)
+          (by_rule (w.in_ok-token_tree.ensures.script _ (search rules))
+          (by_complete (rw w.p-is at c.in_ok-complete.ensures.state.0) gives))
+      | else-matches w ↦ fails (search rules) (by_complete (rw w.p-is at c.in_ok-complete.ensures.state.0) gives)
+    ])))

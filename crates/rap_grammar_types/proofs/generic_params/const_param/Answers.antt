@@ -22,7 +22,7 @@ returns-clause-script g c =
       | else-branch w ↦ rw w.p-is (not_ate c.in_ok-eat.ensures.state w.if-branch.false gives)
     ] in
     (by_bump (search rules) c.in_ok-bump.ensures.state
-          (by_rule (c.in_ok-name.ensures.script _)
-          (follows t
-          (follows d
-          (by_complete c.in_ok-complete.ensures.state.0 gives)))))
+    (by_rule (c.in_ok-name.ensures.script _)
+    (follows t
+    (follows d
+    (by_complete c.in_ok-complete.ensures.state.0 gives)))))

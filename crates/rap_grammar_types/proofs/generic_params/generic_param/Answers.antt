@@ -16,12 +16,12 @@ returns-in_ok-type_param-clause-script g c = fails (search rules) (passes (searc
 pub returns-in_ok-const_param-clause-script : goal.returns-in_ok-const_param-clause-script
 unfolding generic_param
 returns-in_ok-const_param-clause-script g c = fails (search rules)
-      (fails (search rules)
-      (passes (search rules)
-      (to_end c.in_ok-const_param.ensures.script)))
+    (fails (search rules)
+    (passes (search rules)
+    (to_end c.in_ok-const_param.ensures.script)))
 
 pub returns-in_ok-err_and_bump-in_default-clause-script : goal.returns-in_ok-err_and_bump-in_default-clause-script
 unfolding generic_param
 returns-in_ok-err_and_bump-in_default-clause-script g c = fails (search rules) (fails (search rules) (fails (search rules)
-      (by_abandon c.in_ok-abandon-in_default.ensures.state
-      (by_skip c.in_ok-err_and_bump-in_default.ensures.state gives))))
+    (by_abandon c.in_ok-abandon-in_default.ensures.state
+    (by_skip c.in_ok-err_and_bump-in_default.ensures.state gives))))

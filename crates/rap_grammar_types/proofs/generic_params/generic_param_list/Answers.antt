@@ -6,5 +6,5 @@ use Rattle.rap_grammar_types.proofs.generic_params.generic_param_list.Goals as g
 pub returns-clause-script : goal.returns-clause-script
 unfolding generic_param_list generic_params
 returns-clause-script g c = by_start c.in_ok-m.ensures.state
-      (by_rule c.in_ok-delimited.ensures.script
-      (by_complete c.in_ok-complete.ensures.state.0 gives))
+    (by_rule c.in_ok-delimited.ensures.script
+    (by_complete c.in_ok-complete.ensures.state.0 gives))

@@ -8,10 +8,10 @@ use Rattle.rap_grammar_types.proofs.generic_params.lifetime_bound.Goals as goal
 pub returns-clause-script : goal.returns-clause-script
 unfolding lifetime_bound
 returns-clause-script g c = elim c.if-not-matches.branch [
-    | then-not-matches+in_ok-error w ↦
-        fails (search rules)
-        (by_report w.in_ok-error.ensures.state
-        (to_end
-        (rw w.p-is at c.in_ok-found.ensures.script)))
-    | else-not-matches w ↦ passes (search rules) (to_end (rw w.p-is at c.in_ok-found.ensures.script))
-  ]
+  | then-not-matches+in_ok-error w ↦
+      fails (search rules)
+      (by_report w.in_ok-error.ensures.state
+      (to_end
+      (rw w.p-is at c.in_ok-found.ensures.script)))
+  | else-not-matches w ↦ passes (search rules) (to_end (rw w.p-is at c.in_ok-found.ensures.script))
+]

@@ -15,10 +15,10 @@ bounds-preserved g c = record {
 pub returns-then-not-branch-clause-script : goal.returns-then-not-branch-clause-script
 unfolding lifetime_bound_list
 returns-then-not-branch-clause-script g c = last_turn c.bounds.invariant.script
-      (by_rule (answers_yes c.if-branch.true c.in_ok-lifetime_bound.ensures.script)
-      (not_ate c.in_ok-eat.ensures.state c.if-not-branch.true gives)) refl
+    (by_rule (answers_yes c.if-branch.true c.in_ok-lifetime_bound.ensures.script)
+    (not_ate c.in_ok-eat.ensures.state c.if-not-branch.true gives)) refl
 
 pub returns-clause-script : goal.returns-clause-script
 unfolding lifetime_bound_list
 returns-clause-script g c = last_turn c.bounds.invariant.script
-      (by_rule (answers_no c.if-branch.false c.in_ok-lifetime_bound.ensures.script) gives) refl
+    (by_rule (answers_no c.if-branch.false c.in_ok-lifetime_bound.ensures.script) gives) refl

@@ -6,5 +6,5 @@ use Rattle.rap_grammar_types.proofs.generic_params.lifetime_bounds.Goals as goal
 pub returns-clause-script : goal.returns-clause-script
 unfolding lifetime_bounds
 returns-clause-script g c = by_start c.in_ok-m.ensures.state
-      (by_rule c.in_ok-lifetime_bound_list.ensures.script
-      (by_complete c.in_ok-complete.ensures.state.0 gives))
+    (by_rule c.in_ok-lifetime_bound_list.ensures.script
+    (by_complete c.in_ok-complete.ensures.state.0 gives))

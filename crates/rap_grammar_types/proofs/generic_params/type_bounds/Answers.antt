@@ -24,8 +24,8 @@ bounds-preserved g c = record {
 pub returns-then-not-branch-clause-script : goal.returns-then-not-branch-clause-script
 unfolding type_bounds
 returns-then-not-branch-clause-script g c = last_turn c.bounds.invariant.script
-      (by_rule (answers_yes c.if-branch.true c.in_ok-type_bound.ensures.script)
-      (not_ate c.in_ok-eat.ensures.state c.if-not-branch.true gives)) refl
+    (by_rule (answers_yes c.if-branch.true c.in_ok-type_bound.ensures.script)
+    (not_ate c.in_ok-eat.ensures.state c.if-not-branch.true gives)) refl
 
 pub returns-clause-took : goal.returns-clause-took
 returns-clause-took g c = λ e. elim (c.bounds.invariant.begun e) [
@@ -39,4 +39,4 @@ returns-clause-took g c = λ e. elim (c.bounds.invariant.begun e) [
 pub returns-clause-script : goal.returns-clause-script
 unfolding type_bounds
 returns-clause-script g c = last_turn c.bounds.invariant.script
-      (by_rule (answers_no c.if-branch.false c.in_ok-type_bound.ensures.script) gives) refl
+    (by_rule (answers_no c.if-branch.false c.in_ok-type_bound.ensures.script) gives) refl

@@ -25,4 +25,4 @@ returns-clause-script g c =
       | else-at-2 w ↦ rw w.p-is (else_by c.at-2.ensures w.if-at-2.false gives)
     ] in
     (by_rule (c.in_ok-name.ensures.script _)
-          (follows b (follows d (by_complete c.in_ok-complete.ensures.state.0 gives))))
+    (follows b (follows d (by_complete c.in_ok-complete.ensures.state.0 gives))))

@@ -7,6 +7,6 @@ use Rattle.rap_grammar_types.proofs.generic_params.where_clause.Goals as goal
 pub returns-clause-script : goal.returns-clause-script
 unfolding where_clause
 returns-clause-script g c = by_start c.in_ok-m.ensures.state
-      (by_bump (search rules) c.in_ok-bump.ensures.state
-      (by_rule c.in_ok-where_predicates.ensures.script
-      (by_complete c.in_ok-complete.ensures.state.0 gives)))
+    (by_bump (search rules) c.in_ok-bump.ensures.state
+    (by_rule c.in_ok-where_predicates.ensures.script
+    (by_complete c.in_ok-complete.ensures.state.0 gives)))

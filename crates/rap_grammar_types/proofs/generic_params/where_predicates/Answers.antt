@@ -16,9 +16,9 @@ predicates-preserved g c = record {
 pub returns-then-not-branch-clause-script : goal.returns-then-not-branch-clause-script
 unfolding where_predicates
 returns-then-not-branch-clause-script g c = last_turn c.predicates.invariant.script
-      (passes (search rules)
-      (by_rule c.in_ok-where_predicate.ensures.script
-      (by_rule (answers_no c.if-not-branch.true (c.in_ok-after_predicate.ensures.script _)) gives))) refl
+    (passes (search rules)
+    (by_rule c.in_ok-where_predicate.ensures.script
+    (by_rule (answers_no c.if-not-branch.true (c.in_ok-after_predicate.ensures.script _)) gives))) refl
 
 pub returns-clause-script : goal.returns-clause-script
 unfolding where_predicates

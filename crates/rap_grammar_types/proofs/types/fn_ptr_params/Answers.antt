@@ -6,9 +6,9 @@ use Rattle.rap_grammar_types.proofs.types.fn_ptr_params.Goals as goal
 pub returns-then-at-clause-script : goal.returns-then-at-clause-script
 unfolding fn_ptr_params
 returns-then-at-clause-script g c = then_by c.at.ensures c.if-at.true
-      (to_end c.in_ok-param_list_fn_ptr.ensures.script)
+    (to_end c.in_ok-param_list_fn_ptr.ensures.script)
 
 pub returns-clause-script : goal.returns-clause-script
 unfolding fn_ptr_params
 returns-clause-script g c = else_by c.at.ensures c.if-at.false
-      (by_report c.in_ok-error.ensures.state gives)
+    (by_report c.in_ok-error.ensures.state gives)

@@ -7,17 +7,17 @@ use Rattle.rap_grammar_types.proofs.types.fn_ptr_type.Goals as goal
 pub returns-then-not-at-clause-script : goal.returns-then-not-at-clause-script
 unfolding fn_ptr_type
 returns-then-not-at-clause-script g c = by_start c.in_ok-m.ensures.state
-      (by_rule (c.in_ok-fn_qualifiers.ensures.script _)
-      (else_by c.at.ensures c.if-not-at.true
-      (by_abandon c.in_ok-abandon.ensures.state
-      (by_report c.in_ok-error.ensures.state gives))))
+    (by_rule (c.in_ok-fn_qualifiers.ensures.script _)
+    (else_by c.at.ensures c.if-not-at.true
+    (by_abandon c.in_ok-abandon.ensures.state
+    (by_report c.in_ok-error.ensures.state gives))))
 
 pub returns-clause-script : goal.returns-clause-script
 unfolding fn_ptr_type
 returns-clause-script g c = by_start c.in_ok-m.ensures.state
-      (by_rule (c.in_ok-fn_qualifiers.ensures.script _)
-      (then_by c.at.ensures c.if-not-at.false
-      (by_bump (search rules) c.in_ok-bump.ensures.state
-      (by_rule c.in_ok-fn_ptr_params.ensures.script
-      (by_rule c.in_ok-opt_ret_type.ensures.script
-      (by_complete c.in_ok-complete.ensures.state.0 gives))))))
+    (by_rule (c.in_ok-fn_qualifiers.ensures.script _)
+    (then_by c.at.ensures c.if-not-at.false
+    (by_bump (search rules) c.in_ok-bump.ensures.state
+    (by_rule c.in_ok-fn_ptr_params.ensures.script
+    (by_rule c.in_ok-opt_ret_type.ensures.script
+    (by_complete c.in_ok-complete.ensures.state.0 gives))))))

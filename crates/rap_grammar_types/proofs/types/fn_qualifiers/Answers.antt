@@ -6,8 +6,8 @@ use Rattle.rap_grammar_types.proofs.types.fn_qualifiers.Goals as goal
 pub returns-then-at-clause-script : goal.returns-then-at-clause-script
 unfolding fn_qualifiers
 returns-then-at-clause-script c depth = by_eat c.in_ok-eat.ensures.state
-      (then_by c.at.ensures c.if-at.true
-      (to_end (c.in_ok-abi.ensures.script _)))
+    (then_by c.at.ensures c.if-at.true
+    (to_end (c.in_ok-abi.ensures.script _)))
 
 pub returns-clause-script : goal.returns-clause-script
 unfolding fn_qualifiers

@@ -9,36 +9,36 @@ unfolding for_type
 returns-then-allow_bounds-clause-script g c =
     let bounds = c.in_ok-opt_type_bounds_as_dyn_trait_type.ensures.script in
     (by_start c.in_ok-m.ensures.state
-          (by_rule c.in_ok-for_binder.ensures.script
-          (elim c.if-not-starts_for_target.branch [
-            | then-not-starts_for_target+in_ok-error w ↦
-                else_by c.starts_for_target.ensures w.if-not-starts_for_target.true
-                (by_report w.in_ok-error.ensures.state
-                (by_rule (rw w.p-is at c.in_ok-type_no_bounds.ensures.script)
-                (by_complete c.in_ok-cm.ensures.state.0
-                (rw c.if-allow_bounds.true (to_end bounds)))))
-            | else-not-starts_for_target w ↦
-                then_by c.starts_for_target.ensures w.if-not-starts_for_target.false
-                (by_rule (rw w.p-is at c.in_ok-type_no_bounds.ensures.script)
-                (by_complete c.in_ok-cm.ensures.state.0
-                (rw c.if-allow_bounds.true (to_end bounds))))
-          ])))
+    (by_rule c.in_ok-for_binder.ensures.script
+    (elim c.if-not-starts_for_target.branch [
+      | then-not-starts_for_target+in_ok-error w ↦
+          else_by c.starts_for_target.ensures w.if-not-starts_for_target.true
+          (by_report w.in_ok-error.ensures.state
+          (by_rule (rw w.p-is at c.in_ok-type_no_bounds.ensures.script)
+          (by_complete c.in_ok-cm.ensures.state.0
+          (rw c.if-allow_bounds.true (to_end bounds)))))
+      | else-not-starts_for_target w ↦
+          then_by c.starts_for_target.ensures w.if-not-starts_for_target.false
+          (by_rule (rw w.p-is at c.in_ok-type_no_bounds.ensures.script)
+          (by_complete c.in_ok-cm.ensures.state.0
+          (rw c.if-allow_bounds.true (to_end bounds))))
+    ])))
 
 pub returns-clause-script : goal.returns-clause-script
 unfolding for_type
 returns-clause-script g c =
     by_start c.in_ok-m.ensures.state
-          (by_rule c.in_ok-for_binder.ensures.script
-          (elim c.if-not-starts_for_target.branch [
-            | then-not-starts_for_target+in_ok-error w ↦
-                else_by c.starts_for_target.ensures w.if-not-starts_for_target.true
-                (by_report w.in_ok-error.ensures.state
-                (by_rule (rw w.p-is at c.in_ok-type_no_bounds.ensures.script)
-                (by_complete c.in_ok-cm.ensures.state.0
-                (rw c.if-allow_bounds.false gives))))
-            | else-not-starts_for_target w ↦
-                then_by c.starts_for_target.ensures w.if-not-starts_for_target.false
-                (by_rule (rw w.p-is at c.in_ok-type_no_bounds.ensures.script)
-                (by_complete c.in_ok-cm.ensures.state.0
-                (rw c.if-allow_bounds.false gives)))
-          ]))
+    (by_rule c.in_ok-for_binder.ensures.script
+    (elim c.if-not-starts_for_target.branch [
+      | then-not-starts_for_target+in_ok-error w ↦
+          else_by c.starts_for_target.ensures w.if-not-starts_for_target.true
+          (by_report w.in_ok-error.ensures.state
+          (by_rule (rw w.p-is at c.in_ok-type_no_bounds.ensures.script)
+          (by_complete c.in_ok-cm.ensures.state.0
+          (rw c.if-allow_bounds.false gives))))
+      | else-not-starts_for_target w ↦
+          then_by c.starts_for_target.ensures w.if-not-starts_for_target.false
+          (by_rule (rw w.p-is at c.in_ok-type_no_bounds.ensures.script)
+          (by_complete c.in_ok-cm.ensures.state.0
+          (rw c.if-allow_bounds.false gives)))
+    ]))

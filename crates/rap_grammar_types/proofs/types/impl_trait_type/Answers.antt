@@ -7,6 +7,6 @@ use Rattle.rap_grammar_types.proofs.types.impl_trait_type.Goals as goal
 pub returns-clause-script : goal.returns-clause-script
 unfolding impl_trait_type
 returns-clause-script g c = by_start c.in_ok-m.ensures.state
-      (by_bump (search rules) c.in_ok-bump.ensures.state
-      (by_rule c.in_ok-bounds_without_colon.ensures.script
-      (by_complete c.in_ok-complete.ensures.state.0 gives)))
+    (by_bump (search rules) c.in_ok-bump.ensures.state
+    (by_rule c.in_ok-bounds_without_colon.ensures.script
+    (by_complete c.in_ok-complete.ensures.state.0 gives)))

@@ -12,4 +12,4 @@ returns-then-eq-clause-script c depth = passes (search rules) (by_report c.in_ok
 pub returns-clause-script : goal.returns-clause-script
 unfolding missing_type
 returns-clause-script c depth = fails (search rules)
-      (by_recover is_type_recovery (search rules) c.in_ok-err_recover.ensures.state (λ k. gives) (λ k. gives))
+    (by_recover is_type_recovery (search rules) c.in_ok-err_recover.ensures.state (λ k. gives) (λ k. gives))

@@ -7,7 +7,7 @@ use Rattle.rap_grammar_types.proofs.types.ptr_qualifier.Goals as goal
 pub returns-then-matches-clause-script : goal.returns-then-matches-clause-script
 unfolding ptr_qualifier
 returns-then-matches-clause-script c depth = passes (search rules)
-      (by_any (search rules) c.in_ok-bump_any.ensures.state gives)
+    (by_any (search rules) c.in_ok-bump_any.ensures.state gives)
 
 pub returns-clause-script : goal.returns-clause-script
 unfolding ptr_qualifier

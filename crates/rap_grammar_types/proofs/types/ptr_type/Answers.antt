@@ -7,7 +7,7 @@ use Rattle.rap_grammar_types.proofs.types.ptr_type.Goals as goal
 pub returns-clause-script : goal.returns-clause-script
 unfolding ptr_type
 returns-clause-script g c = by_start c.in_ok-m.ensures.state
-      (by_bump (search rules) c.in_ok-bump.ensures.state
-      (by_rule (c.in_ok-ptr_qualifier.ensures.script _)
-      (by_rule c.in_ok-type_no_bounds.ensures.script
-      (by_complete c.in_ok-complete.ensures.state.0 gives))))
+    (by_bump (search rules) c.in_ok-bump.ensures.state
+    (by_rule (c.in_ok-ptr_qualifier.ensures.script _)
+    (by_rule c.in_ok-type_no_bounds.ensures.script
+    (by_complete c.in_ok-complete.ensures.state.0 gives))))

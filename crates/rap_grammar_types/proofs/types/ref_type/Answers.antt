@@ -8,17 +8,17 @@ use Rattle.rap_grammar_types.proofs.types.ref_type.Goals as goal
 pub returns-clause-script : goal.returns-clause-script
 unfolding ref_type
 returns-clause-script g c = by_start c.in_ok-m.ensures.state
-      (by_bump (search rules) c.in_ok-bump.ensures.state
-      (elim c.if-at.branch [
-        | then-at+in_ok-lifetime w ↦
-            then_by c.at.ensures w.if-at.true
-            (by_rule (w.in_ok-lifetime.ensures.script _)
-            (by_eat (rw w.p-is at c.in_ok-eat.ensures.state)
-            (by_rule c.in_ok-type_no_bounds.ensures.script
-            (by_complete c.in_ok-complete.ensures.state.0 gives))))
-        | else-at w ↦
-            else_by c.at.ensures w.if-at.false
-            (by_eat (rw w.p-is at c.in_ok-eat.ensures.state)
-            (by_rule c.in_ok-type_no_bounds.ensures.script
-            (by_complete c.in_ok-complete.ensures.state.0 gives)))
-      ]))
+    (by_bump (search rules) c.in_ok-bump.ensures.state
+    (elim c.if-at.branch [
+      | then-at+in_ok-lifetime w ↦
+          then_by c.at.ensures w.if-at.true
+          (by_rule (w.in_ok-lifetime.ensures.script _)
+          (by_eat (rw w.p-is at c.in_ok-eat.ensures.state)
+          (by_rule c.in_ok-type_no_bounds.ensures.script
+          (by_complete c.in_ok-complete.ensures.state.0 gives))))
+      | else-at w ↦
+          else_by c.at.ensures w.if-at.false
+          (by_eat (rw w.p-is at c.in_ok-eat.ensures.state)
+          (by_rule c.in_ok-type_no_bounds.ensures.script
+          (by_complete c.in_ok-complete.ensures.state.0 gives)))
+    ]))

@@ -8,10 +8,10 @@ use Rattle.rap_grammar_blocks.proofs.attributes.CfgOperandElement.parse.Goals as
 pub returns-then-not-is_cfg_predicate_first-clause-script : goal.returns-then-not-is_cfg_predicate_first-clause-script
 unfolding cfg_predicate_element
 returns-then-not-is_cfg_predicate_first-clause-script g c = else_by (by_kind is_cfg_predicate_first c.is_cfg_predicate_first.ensures c.current.ensures.kind)
-      c.if-not-is_cfg_predicate_first.true gives
+    c.if-not-is_cfg_predicate_first.true gives
 
 pub returns-clause-script : goal.returns-clause-script
 unfolding cfg_predicate_element
 returns-clause-script g c = then_by (by_kind is_cfg_predicate_first c.is_cfg_predicate_first.ensures c.current.ensures.kind)
-      c.if-not-is_cfg_predicate_first.false
-      (by_part phrase.cfg_predicate c.in_ok-run.ensures.1 gives)
+    c.if-not-is_cfg_predicate_first.false
+    (by_part phrase.cfg_predicate c.in_ok-run.ensures.1 gives)

@@ -43,8 +43,8 @@ returns-then-branch-clause-script c depth =
           (λ e. absurd (clash e w.if-is_first.false))
     ] in
     (fails e
-          (rw c.if-has_semi.false
-          (else_by c.at-2.ensures c.if-at-2.false (taken_expected c.in_ok-expect.ensures.state c.if-branch.true gives))))
+    (rw c.if-has_semi.false
+    (else_by c.at-2.ensures c.if-at-2.false (taken_expected c.in_ok-expect.ensures.state c.if-branch.true gives))))
 
 pub returns-clause-script : goal.returns-clause-script
 unfolding after_element
@@ -55,6 +55,6 @@ returns-clause-script c depth =
           (λ e. absurd (clash e w.if-is_first.false))
     ] in
     (fails e
-          (rw c.if-has_semi.false
-          (else_by c.at-2.ensures c.if-at-2.false
-          (lacking_expected c.in_ok-expect.ensures.state c.if-branch.false gives))))
+    (rw c.if-has_semi.false
+    (else_by c.at-2.ensures c.if-at-2.false
+    (lacking_expected c.in_ok-expect.ensures.state c.if-branch.false gives))))

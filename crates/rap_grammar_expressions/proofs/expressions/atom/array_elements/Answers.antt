@@ -17,23 +17,23 @@ elements-preserved g c = record {
 pub returns-then-is_none-clause-script : goal.returns-then-is_none-clause-script
 unfolding array_elements
 returns-then-is_none-clause-script g c = last_turn c.elements.invariant.script
-      (else_by c.at.ensures c.elements-test.true
-      (else_by c.at-in-elements.ensures c.if-not-at.true
-      (by_rule (answers_nothing (search rules) c.in_ok-expr.ensures.script) gives))) refl
+    (else_by c.at.ensures c.elements-test.true
+    (else_by c.at-in-elements.ensures c.if-not-at.true
+    (by_rule (answers_nothing (search rules) c.in_ok-expr.ensures.script) gives))) refl
 
 pub returns-in-None-clause-script : goal.returns-in-None-clause-script
 unfolding array_elements
 returns-in-None-clause-script g c = last_turn c.elements.invariant.script
-      (else_by c.at.ensures c.elements-test.true
-      (else_by c.at-in-elements.ensures c.if-not-at.true
-      (by_rule (answers_something (search rules) c.in_ok-expr.ensures.script)
-      (to_end (rw c.in-None.is at c.in_ok-semi.ensures.script))))) refl
+    (else_by c.at.ensures c.elements-test.true
+    (else_by c.at-in-elements.ensures c.if-not-at.true
+    (by_rule (answers_something (search rules) c.in_ok-expr.ensures.script)
+    (to_end (rw c.in-None.is at c.in_ok-semi.ensures.script))))) refl
 
 pub returns-else-not-at-clause-script : goal.returns-else-not-at-clause-script
 unfolding array_elements
 returns-else-not-at-clause-script g c = last_turn c.elements.invariant.script
-      (else_by c.at.ensures c.elements-test.true
-      (then_by c.at-in-elements.ensures c.if-not-at.false gives)) refl
+    (else_by c.at.ensures c.elements-test.true
+    (then_by c.at-in-elements.ensures c.if-not-at.false gives)) refl
 
 pub returns-after-elements-clause-script : goal.returns-after-elements-clause-script
 unfolding array_elements

@@ -23,26 +23,26 @@ unfolding bracketed_expr
 returns-in_ok-plain_block-clause-script g c =
     let e : next (state c.args.p.now) ≡ L_CURLY = search rules in
     ((fails (rw e refl)
-          (fails (rw e refl) (passes (rw e refl) (by_rule c.in_ok-plain_block.ensures.script gives)))))
+    (fails (rw e refl) (passes (rw e refl) (by_rule c.in_ok-plain_block.ensures.script gives)))))
 
 pub returns-in_ok-underscore_expr-clause-script : goal.returns-in_ok-underscore_expr-clause-script
 unfolding bracketed_expr
 returns-in_ok-underscore_expr-clause-script g c =
     let e : next (state c.args.p.now) ≡ UNDERSCORE = search rules in
     ((fails (rw e refl)
-          (fails (rw e refl) (fails (rw e refl) (passes (rw e refl) (to_end (c.in_ok-underscore_expr.ensures.script _)))))))
+    (fails (rw e refl) (fails (rw e refl) (passes (rw e refl) (to_end (c.in_ok-underscore_expr.ensures.script _)))))))
 
 pub returns-in_ok-let_expr-clause-script : goal.returns-in_ok-let_expr-clause-script
 unfolding bracketed_expr
 returns-in_ok-let_expr-clause-script g c =
     let e : next (state c.args.p.now) ≡ LET_KW = search rules in
     ((fails (rw e refl)
-          (fails (rw e refl)
-          (fails (rw e refl) (fails (rw e refl) (passes (rw e refl) (to_end c.in_ok-let_expr.ensures.script)))))))
+    (fails (rw e refl)
+    (fails (rw e refl) (fails (rw e refl) (passes (rw e refl) (to_end c.in_ok-let_expr.ensures.script)))))))
 
 pub returns-in_ok-other-in_default-clause-script : goal.returns-in_ok-other-in_default-clause-script
 unfolding bracketed_expr
 returns-in_ok-other-in_default-clause-script g c = (fails (search rules)
-      (fails (search rules)
-      (fails (search rules)
-      (fails (search rules) (fails (search rules) (to_end c.in_ok-other-in_default.ensures.script))))))
+    (fails (search rules)
+    (fails (search rules)
+    (fails (search rules) (fails (search rules) (to_end c.in_ok-other-in_default.ensures.script))))))

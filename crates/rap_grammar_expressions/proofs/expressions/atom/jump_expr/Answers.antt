@@ -15,43 +15,43 @@ unfolding jump_expr
 returns-in_ok-return_expr-clause-script g c =
     let e : next (state c.args.p.now) ≡ RETURN_KW = search rules in
     ((else_by c.starts_yeet.ensures.starts c.if-starts_yeet.false
-          (passes (rw e refl) (to_end c.in_ok-return_expr.ensures.script))))
+    (passes (rw e refl) (to_end c.in_ok-return_expr.ensures.script))))
 
 pub returns-in_ok-become_expr-clause-script : goal.returns-in_ok-become_expr-clause-script
 unfolding jump_expr
 returns-in_ok-become_expr-clause-script g c =
     let e : next (state c.args.p.now) ≡ BECOME_KW = search rules in
     ((else_by c.starts_yeet.ensures.starts c.if-starts_yeet.false
-          (fails (rw e refl) (passes (rw e refl) (to_end c.in_ok-become_expr.ensures.script)))))
+    (fails (rw e refl) (passes (rw e refl) (to_end c.in_ok-become_expr.ensures.script)))))
 
 pub returns-in_ok-yield_expr-clause-script : goal.returns-in_ok-yield_expr-clause-script
 unfolding jump_expr
 returns-in_ok-yield_expr-clause-script g c =
     let e : next (state c.args.p.now) ≡ YIELD_KW = search rules in
     ((else_by c.starts_yeet.ensures.starts c.if-starts_yeet.false
-          (fails (rw e refl) (fails (rw e refl) (passes (rw e refl) (to_end c.in_ok-yield_expr.ensures.script))))))
+    (fails (rw e refl) (fails (rw e refl) (passes (rw e refl) (to_end c.in_ok-yield_expr.ensures.script))))))
 
 pub returns-in_ok-continue_expr-clause-script : goal.returns-in_ok-continue_expr-clause-script
 unfolding jump_expr
 returns-in_ok-continue_expr-clause-script g c =
     let e : next (state c.args.p.now) ≡ CONTINUE_KW = search rules in
     ((else_by c.starts_yeet.ensures.starts c.if-starts_yeet.false
-          (fails (rw e refl)
-          (fails (rw e refl) (fails (rw e refl) (passes (rw e refl) (to_end (c.in_ok-continue_expr.ensures.script _))))))))
+    (fails (rw e refl)
+    (fails (rw e refl) (fails (rw e refl) (passes (rw e refl) (to_end (c.in_ok-continue_expr.ensures.script _))))))))
 
 pub returns-in_ok-break_expr-clause-script : goal.returns-in_ok-break_expr-clause-script
 unfolding jump_expr
 returns-in_ok-break_expr-clause-script g c =
     let e : next (state c.args.p.now) ≡ BREAK_KW = search rules in
     ((else_by c.starts_yeet.ensures.starts c.if-starts_yeet.false
-          (fails (rw e refl)
-          (fails (rw e refl)
-          (fails (rw e refl) (fails (rw e refl) (passes (rw e refl) (to_end c.in_ok-break_expr.ensures.script))))))))
+    (fails (rw e refl)
+    (fails (rw e refl)
+    (fails (rw e refl) (fails (rw e refl) (passes (rw e refl) (to_end c.in_ok-break_expr.ensures.script))))))))
 
 pub returns-in_ok-other-in_default-clause-script : goal.returns-in_ok-other-in_default-clause-script
 unfolding jump_expr
 returns-in_ok-other-in_default-clause-script g c = (else_by c.starts_yeet.ensures.starts c.if-starts_yeet.false
-      (fails (search rules)
-      (fails (search rules)
-      (fails (search rules)
-      (fails (search rules) (fails (search rules) (to_end c.in_ok-other-in_default.ensures.script)))))))
+    (fails (search rules)
+    (fails (search rules)
+    (fails (search rules)
+    (fails (search rules) (fails (search rules) (to_end c.in_ok-other-in_default.ensures.script)))))))

@@ -20,8 +20,8 @@ returns-clause-bound g c =
 pub returns-clause-script : goal.returns-clause-script
 unfolding bin_expr
 returns-clause-script g c = let n = c.right_power-bp.ensures in
-      let same = right_is c.args.op c.args.bp c.right_power-bp.result c.requires.power n.left n.right in
-      by_precede c.requires.last c.in_ok-m.ensures.state
-      (by_bump (search rules) c.in_ok-bump.ensures.state
-      (by_expression (rw same at c.in_ok-run.ensures.1)
-      (by_complete c.in_ok-cm.ensures.state.0 gives)))
+    let same = right_is c.args.op c.args.bp c.right_power-bp.result c.requires.power n.left n.right in
+    by_precede c.requires.last c.in_ok-m.ensures.state
+    (by_bump (search rules) c.in_ok-bump.ensures.state
+    (by_expression (rw same at c.in_ok-run.ensures.1)
+    (by_complete c.in_ok-cm.ensures.state.0 gives)))

@@ -7,6 +7,6 @@ use Rattle.rap_grammar_expressions.proofs.expressions.operators.cast_expr.Goals 
 pub returns-clause-script : goal.returns-clause-script
 unfolding cast_expr
 returns-clause-script g c = by_precede c.requires.last c.in_ok-m.ensures.state
-      (by_bump (search rules) c.in_ok-bump.ensures.state
-      (by_rule c.in_ok-type_no_bounds.ensures.script
-      (by_complete c.in_ok-cm.ensures.state.0 gives)))
+    (by_bump (search rules) c.in_ok-bump.ensures.state
+    (by_rule c.in_ok-type_no_bounds.ensures.script
+    (by_complete c.in_ok-cm.ensures.state.0 gives)))

@@ -11,7 +11,7 @@ pub returns-then-op_bp-bp-clause-script : goal.returns-then-op_bp-bp-clause-scri
 unfolding climb
 returns-then-op_bp-bp-clause-script g c =
     last_turn c.operators.invariant.script
-          (stops_low c.args.r c.args.bp c.current_op-op_bp.ensures.power c.if-op_bp-bp.true) refl
+    (stops_low c.args.r c.args.bp c.current_op-op_bp.ensures.power c.if-op_bp-bp.true) refl
 
 pub operators-preserved-then-eq : goal.operators-preserved-then-eq
 operators-preserved-then-eq g c =
@@ -36,8 +36,8 @@ returns-then-not-has_end-clause-script g c =
     let some : 0 < c.current_op-op_bp.result.0 = omega (arith, c.if-op_bp-bp.false, c.requires.power) in
     let no_cast : operator_at (state c.operators.p).rest ≢ AS_KW = search rules in
     (last_turn c.operators.invariant.script
-          (stops_range c.args.r c.args.bp e.power some c.if-op_bp-bp.false no_cast c.if-op_bp-eq2.true
-          (rw (e.op some) at c.in_ok-range.ensures.script) c.if-not-has_end.true) refl)
+    (stops_range c.args.r c.args.bp e.power some c.if-op_bp-bp.false no_cast c.if-op_bp-eq2.true
+    (rw (e.op some) at c.in_ok-range.ensures.script) c.if-not-has_end.true) refl)
 
 pub operators-preserved-then-op_bp-eq2 : goal.operators-preserved-then-op_bp-eq2
 operators-preserved-then-op_bp-eq2 g c =

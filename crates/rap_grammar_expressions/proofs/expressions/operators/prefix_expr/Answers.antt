@@ -7,6 +7,6 @@ use Rattle.rap_grammar_expressions.proofs.expressions.operators.prefix_expr.Goal
 pub returns-clause-script : goal.returns-clause-script
 unfolding prefix_expr
 returns-clause-script g c = by_start c.in_ok-m.ensures.state
-      (by_any (search rules) c.in_ok-bump_any.ensures.state
-      (by_expression c.in_ok-run.ensures.1
-      (by_complete c.in_ok-cm.ensures.state.0 gives)))
+    (by_any (search rules) c.in_ok-bump_any.ensures.state
+    (by_expression c.in_ok-run.ensures.1
+    (by_complete c.in_ok-cm.ensures.state.0 gives)))

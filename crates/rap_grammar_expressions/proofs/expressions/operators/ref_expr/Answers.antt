@@ -7,7 +7,7 @@ use Rattle.rap_grammar_expressions.proofs.expressions.operators.ref_expr.Goals a
 pub returns-clause-script : goal.returns-clause-script
 unfolding ref_expr
 returns-clause-script g c = by_start c.in_ok-m.ensures.state
-      (by_bump (search rules) c.in_ok-bump.ensures.state
-      (by_rule (c.in_ok-ref_qualifier.ensures.script _)
-      (by_expression c.in_ok-run.ensures.1
-      (by_complete c.in_ok-cm.ensures.state.0 gives))))
+    (by_bump (search rules) c.in_ok-bump.ensures.state
+    (by_rule (c.in_ok-ref_qualifier.ensures.script _)
+    (by_expression c.in_ok-run.ensures.1
+    (by_complete c.in_ok-cm.ensures.state.0 gives))))

@@ -8,11 +8,11 @@ use Rattle.rap_grammar_item_kinds.proofs.use_item.NestedUseTreeElement.parse.Goa
 pub returns-then-is_use_tree_start-clause-script : goal.returns-then-is_use_tree_start-clause-script
 unfolding nested_use_tree use_tree
 returns-then-is_use_tree_start-clause-script g c = then_by c.is_use_tree_start.ensures c.if-is_use_tree_start.true
-      (by_part phrase.use_tree c.in_ok-run.ensures.1 gives)
+    (by_part phrase.use_tree c.in_ok-run.ensures.1 gives)
 
 pub returns-clause-script : goal.returns-clause-script
 unfolding nested_use_tree use_tree
 returns-clause-script g c = else_by c.is_use_tree_start.ensures c.if-is_use_tree_start.false
-      (by_skip c.in_ok-err_and_bump.ensures.state
-      (decided c.use_tree_list_goes_on.result c.use_tree_list_goes_on.ensures.here (λ y. rw y gives)
-      (λ n. rw n gives)))
+    (by_skip c.in_ok-err_and_bump.ensures.state
+    (decided c.use_tree_list_goes_on.result c.use_tree_list_goes_on.ensures.here (λ y. rw y gives)
+    (λ n. rw n gives)))

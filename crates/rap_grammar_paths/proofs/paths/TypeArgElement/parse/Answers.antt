@@ -7,8 +7,8 @@ use Rattle.rap_grammar_paths.proofs.paths.TypeArgElement.parse.Goals as goal
 pub returns-clause-script : goal.returns-clause-script
 unfolding type_arg_element
 returns-clause-script g c = decided c.is_type_first-progress.result
-      (by_kind is_type_first c.is_type_first-progress.ensures c.current.ensures.kind)
-      (λ e. by_start c.in_ok-m.ensures.state
-      (by_rule c.in_ok-type_.ensures.script (by_complete c.in_ok-complete.ensures.state.0 (rw e gives))))
-      (λ e. by_start c.in_ok-m.ensures.state
-      (by_rule c.in_ok-type_.ensures.script (by_complete c.in_ok-complete.ensures.state.0 (rw e gives))))
+    (by_kind is_type_first c.is_type_first-progress.ensures c.current.ensures.kind)
+    (λ e. by_start c.in_ok-m.ensures.state
+    (by_rule c.in_ok-type_.ensures.script (by_complete c.in_ok-complete.ensures.state.0 (rw e gives))))
+    (λ e. by_start c.in_ok-m.ensures.state
+    (by_rule c.in_ok-type_.ensures.script (by_complete c.in_ok-complete.ensures.state.0 (rw e gives))))
