@@ -16,7 +16,7 @@ use Rattle.rap_events.specs.declared.parser.CompletedMarker.{CompletedMarker}
 use Rattle.rap_events.specs.declared.parser.Parser.{Parser}
 use Rattle.rap_grammar_scripts.specs.First.{is_path_name, is_path_start}
 use Rattle.rap_grammar_scripts.proofs.Ends.{Loops, gives, passes, fails, ends_so, ends_else, takes, takes_any, bears, reports, reports_next, skips, starts, precedes, finishes, extends, abandons, splits_dotted, splits_whole, follows, obeys, turns, stops}
-use Rattle.rap_grammar_scripts.specs.Exec.{Ends, Answers}
+use Rattle.rap_grammar_scripts.specs.Exec.{Ends, Answers, exec, run_of}
 use Rattle.rap_grammar_scripts.specs.Expressions.{expr_bp, of_like}
 use Rattle.rap_grammar_scripts.specs.Phrase.{Phrase}
 use Rattle.rap_grammar_scripts.specs.Phrase as phrase
@@ -129,24 +129,29 @@ pub by_eat : {j : ℕ} {s t : State} {k : ℕ} {b : Bool} {n : Script Phrase} {q
 by_eat {b = true} e d = passes (sym e.decided) (by_bump (sym e.decided) (e.token refl) d)
 by_eat {b = false} e d = fails (sym e.decided) (from_there (ap spot (sym (e.not_token refl))) d)
 
--- a loop, as far as it has come: from these flags to those
-abbrev pub Turns : ℕ → (Bool → Bool → Script Phrase) → Bool → Bool → Bool → Bool → State → State → Type 0
-Turns depth h a b c d s t = Loops depth h a b c d (spot s) (spot t)
+-- a loop, as far as it has come between two parsers: from these flags to those
+pub record Turns (depth : ℕ) (h : Bool → Bool → Script Phrase) (a b c d : Bool) (o p : Parser) : Type 0 where
+  pub same : exec (run_of depth) (loop h a b) (spot (state o)) ≡ exec (run_of depth) (loop h c d) (spot (state p))
+
+come : {j : ℕ} {h : Bool → Bool → Script Phrase} {a b c d : Bool} {o p : Parser} → Turns j h a b c d o p →
+    Loops j h a b c d (spot (state o)) (spot (state p))
+come t = record { same = t.same }
+
+fewer : (p q : Parser) → (state q).left < (state p).left → length (state q).rest < length (state p).rest
+unfolding state
+fewer p q l = l
 
 -- one turn more, which took a token
-pub turn : {j : ℕ} {h : Bool → Bool → Script Phrase} {a b c d e f : Bool} {o p q : Spot} → Loops j h a b c d o p →
-    On j (h c d) p q (again e f) → length q.rest < length p.rest → Loops j h a b e f o q
-turn k d l = turns k d l
-
--- tokens taken by a parser
-pub fewer : {p q : Parser} → (state q).left < (state p).left → length (state q).rest < length (state p).rest
-unfolding state
-fewer l = l
+pub turn : {j : ℕ} {h : Bool → Bool → Script Phrase} {a b c d e f : Bool} {o p q : Parser} → Turns j h a b c d o p →
+    On j (h c d) (spot (state p)) (spot (state q)) (again e f) → (state q).left < (state p).left →
+    Turns j h a b e f o q
+turn {p = p} {q = q} t k l = record { same = (turns (come t) k (fewer p q l)).same }
 
 -- the last turn
-pub last_turn : {j : ℕ} {h : Bool → Bool → Script Phrase} {a b c d : Bool} {o p q : Spot} {v : Outcome} →
-    Loops j h a b c d o p → On j (h c d) p q v → goes_on v ≡ false → On j (loop h a b) o q v
-last_turn k d e = stops k d e
+pub last_turn : {j : ℕ} {h : Bool → Bool → Script Phrase} {a b c d : Bool} {o p : Parser} {q : Spot} {v : Outcome} →
+    Turns j h a b c d o p → On j (h c d) (spot (state p)) q v → goes_on v ≡ false →
+    On j (loop h a b) (spot (state o)) q v
+last_turn t k e = stops (come t) k e
 
 -- where a message keeps the next token out of an `ERROR`
 pub by_recover : {j : ℕ} {s t : State} {bytes : List ℕ} {set : TokenSet} {kept : Bool}

@@ -8,13 +8,14 @@ use Rattle.rap_events.specs.Record.{next_kind}
 use Rattle.rap_events.specs.Composite.{is_at, width}
 use Rattle.rap_events.specs.Fit.{Fit, Opens, begin, token, tree, partner}
 use Rattle.rap_events.specs.Forest.{Forest, none, node, leaf}
-use Rattle.rap_events.specs.State.{State, next, Opened, Bumped, Expected}
+use Rattle.rap_events.specs.State.{State, state, next, Opened, Bumped, Expected}
+use Rattle.rap_events.specs.declared.parser.Parser.{Parser}
 use Rattle.rap_grammar_scripts.specs.First.{one_of, is_bracket}
 use Rattle.rap_grammar_scripts.specs.TokenTree.{tokens_turn, tokens_in, tokens_to, token_tree}
 use Rattle.rap_grammar_scripts.specs.Script.{Outcome, something, Spot, spot}
 use Rattle.rap_grammar_scripts.proofs.Balance.{one_wide}
-use Rattle.rap_grammar_scripts.proofs.Ends.{Loops, gives, passes, fails}
-use Rattle.rap_grammar_frame.proofs.Steps.{On, last_turn}
+use Rattle.rap_grammar_scripts.proofs.Ends.{gives, passes, fails}
+use Rattle.rap_grammar_frame.proofs.Steps.{On, Turns, last_turn}
 
 bracket_opens : (k : ℕ) → is_bracket k ≡ true → is_l_delimiter k ≡ true
 bracket_opens k h = grind (arith, nat_tests)
@@ -76,7 +77,8 @@ at_end ket p true e f = passes e gives
 at_end ket p false e f = fails e (passes (f refl) gives)
 
 -- the end of the tokens: the closing bracket, or none is left
-pub tokens_end : {j : ℕ} (ket : ℕ) {o p : Spot} → Loops j (tokens_turn ket) false false false false o p →
-    (is_at EOF p.rest ≡ false → is_at ket p.rest ≡ true) → On j (tokens_to ket) o p something
+pub tokens_end : {j : ℕ} (ket : ℕ) {o p : Parser} → Turns j (tokens_turn ket) false false false false o p →
+    (is_at EOF (state p).rest ≡ false → is_at ket (state p).rest ≡ true) →
+    On j (tokens_to ket) (spot (state o)) (spot (state p)) something
 unfolding tokens_to
-tokens_end ket {p = p} k f = last_turn k (at_end ket p (is_at EOF p.rest) refl f) refl
+tokens_end ket {p = p} k f = last_turn k (at_end ket (spot (state p)) (is_at EOF (state p).rest) refl f) refl

@@ -3,7 +3,7 @@ use Rattle.rap_grammar_scripts.proofs.Ends.{gives, passes, fails, answers_more}
 use Rattle.rap_grammar_scripts.specs.Phrase as phrase
 use Rattle.rap_grammar_scripts.specs.Items.{items}
 use Rattle.rap_events.proofs.Truth.{and_false}
-use Rattle.rap_grammar_frame.proofs.Steps.{by_part, turn, last_turn, fewer}
+use Rattle.rap_grammar_frame.proofs.Steps.{by_part, turn, last_turn}
 use Rattle.rap_grammar.proofs.entry.items.Goals as goal
 
 pub items-preserved : goal.items-preserved
@@ -13,7 +13,7 @@ items-preserved c = record {
       turn c.items.invariant.script
       (fails (search rules)
       (fails (and_false _) (by_part (phrase.item_or_macro false true) (answers_more (search rules) c.in_ok-run.ensures.1) gives)))
-      (fewer (search rules));
+      (search rules);
 }
 
 pub items-preserved-in_ok-run : goal.items-preserved-in_ok-run
@@ -23,7 +23,7 @@ items-preserved-in_ok-run c = record {
       turn c.items.invariant.script
       (fails (search rules)
       (fails (and_false _) (by_part (phrase.item_or_macro false true) (answers_more (search rules) c.in_ok-run.ensures.1) gives)))
-      (fewer (search rules));
+      (search rules);
 }
 
 pub returns-clause-rest : goal.returns-clause-rest

@@ -3,7 +3,7 @@ use Rattle.rap_grammar_scripts.proofs.Ends.{gives, passes, fails, answers_more}
 use Rattle.rap_grammar_scripts.specs.Phrase as phrase
 use Rattle.rap_grammar_scripts.specs.Statements.{macro_stmts}
 use Rattle.rap_grammar_scripts.specs.declared.arguments.Semicolon.TheVariants as semicolon
-use Rattle.rap_grammar_frame.proofs.Steps.{by_part, turn, last_turn, fewer}
+use Rattle.rap_grammar_frame.proofs.Steps.{by_part, turn, last_turn}
 use Rattle.rap_grammar.proofs.entry.macro_stmts.Goals as goal
 
 pub statements-preserved : goal.statements-preserved
@@ -13,7 +13,7 @@ statements-preserved c = record {
       turn c.statements.invariant.script
       (fails (search rules)
       (by_part (phrase.stmt semicolon.Optional) (answers_more (search rules) c.in_ok-run.ensures.1) gives))
-      (fewer (search rules));
+      (search rules);
 }
 
 pub statements-preserved-in_ok-run : goal.statements-preserved-in_ok-run
@@ -23,7 +23,7 @@ statements-preserved-in_ok-run c = record {
       turn c.statements.invariant.script
       (fails (search rules)
       (by_part (phrase.stmt semicolon.Optional) (answers_more (search rules) c.in_ok-run.ensures.1) gives))
-      (fewer (search rules));
+      (search rules);
 }
 
 pub returns-clause-rest : goal.returns-clause-rest

@@ -1,7 +1,7 @@
 use Rattle.std.proofs.Common.{rules, refl}
 use Rattle.rap_grammar_scripts.specs.Adt.{variants}
 use Rattle.rap_grammar_scripts.proofs.Ends.{gives}
-use Rattle.rap_grammar_frame.proofs.Steps.{by_rule, else_by, last_turn, then_by, turn, fewer}
+use Rattle.rap_grammar_frame.proofs.Steps.{by_rule, else_by, last_turn, then_by, turn}
 use Rattle.rap_grammar_adt.proofs.adt.variants.Goals as goal
 
 pub variants-preserved : goal.variants-preserved
@@ -10,7 +10,7 @@ variants-preserved g c = record {
   script = turn c.variants.invariant.script
       (else_by c.at.ensures c.variants-test.true
       (else_by c.at-in-variants.ensures c.if-not-at.true
-      (by_rule c.in_ok-variant_or_block.ensures.script gives))) (fewer (search rules));
+      (by_rule c.in_ok-variant_or_block.ensures.script gives))) (search rules);
 }
 
 pub returns-else-not-at-clause-script : goal.returns-else-not-at-clause-script

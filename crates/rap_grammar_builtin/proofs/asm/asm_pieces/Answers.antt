@@ -1,7 +1,7 @@
 use Rattle.std.proofs.Common.{rules, refl}
 use Rattle.rap_grammar_scripts.specs.Asm.{asm_pieces}
 use Rattle.rap_grammar_scripts.proofs.Ends.{gives}
-use Rattle.rap_grammar_frame.proofs.Steps.{then_by, else_by, by_expect, turn, last_turn, to_end, fewer}
+use Rattle.rap_grammar_frame.proofs.Steps.{then_by, else_by, by_expect, turn, last_turn, to_end}
 use Rattle.rap_grammar_frame.proofs.Left.{left_of_next}
 use Rattle.rap_grammar_builtin.proofs.Taken.{piece_took}
 use Rattle.rap_grammar_builtin.proofs.asm.asm_pieces.Goals as goal
@@ -17,7 +17,7 @@ pieces-preserved g c =
           (else_by c.at-in-pieces.ensures c.if-not-at.true
           (by_expect c.in_ok-expect.ensures.state
           (else_by c.at-in-pieces-2.ensures c.if-at.false
-          (to_end (rw c.in-Some.is at e.script)))))) (fewer (search rules));
+          (to_end (rw c.in-Some.is at e.script)))))) (search rules);
     }
 
 pub returns-then-at-clause-script : goal.returns-then-at-clause-script

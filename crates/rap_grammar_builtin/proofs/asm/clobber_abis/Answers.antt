@@ -1,7 +1,7 @@
 use Rattle.std.proofs.Common.{rules, refl}
 use Rattle.rap_grammar_scripts.specs.Asm.{clobber_abis}
 use Rattle.rap_grammar_scripts.proofs.Ends.{gives}
-use Rattle.rap_grammar_frame.proofs.Steps.{then_by, else_by, by_expect, ate, not_ate, turn, last_turn, taken_expected, lacking_expected, fewer}
+use Rattle.rap_grammar_frame.proofs.Steps.{then_by, else_by, by_expect, ate, not_ate, turn, last_turn, taken_expected, lacking_expected}
 use Rattle.rap_grammar_builtin.proofs.asm.clobber_abis.Goals as goal
 
 pub abis-preserved : goal.abis-preserved
@@ -12,7 +12,7 @@ abis-preserved c = record {
       (not_ate c.in_ok-eat.ensures.state c.if-branch.false
       (taken_expected c.in_ok-expect.ensures.state c.if-not-branch.false
       (not_ate c.in_ok-eat-2.ensures.state c.if-branch-2.false
-      (by_expect c.in_ok-expect-2.ensures.state gives))))) (fewer (search rules));
+      (by_expect c.in_ok-expect-2.ensures.state gives))))) (search rules);
 }
 
 pub returns-then-branch-clause-script : goal.returns-then-branch-clause-script

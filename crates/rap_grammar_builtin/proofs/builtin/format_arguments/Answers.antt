@@ -1,7 +1,7 @@
 use Rattle.std.proofs.Common.{rules, refl}
 use Rattle.rap_grammar_scripts.specs.Builtins.{format_arguments}
 use Rattle.rap_grammar_scripts.proofs.Ends.{gives}
-use Rattle.rap_grammar_frame.proofs.Steps.{then_by, else_by, by_start, by_rule, by_expect, by_complete, by_abandon, turn, last_turn, answers_nothing, answers_something, fewer}
+use Rattle.rap_grammar_frame.proofs.Steps.{then_by, else_by, by_start, by_rule, by_expect, by_complete, by_abandon, turn, last_turn, answers_nothing, answers_something}
 use Rattle.rap_grammar_builtin.proofs.builtin.format_arguments.Goals as goal
 
 pub arguments-preserved-in_ok-expect : goal.arguments-preserved-in_ok-expect
@@ -15,7 +15,7 @@ arguments-preserved-in_ok-expect g c = record {
       (by_rule (answers_something (search rules) c.in_ok-expr.ensures.script)
       (by_complete c.in_ok-complete.ensures.state.0
       (else_by c.at-in-arguments-2.ensures c.if-not-at-2.true
-      (by_expect c.in_ok-expect.ensures.state gives)))))))) (fewer (search rules));
+      (by_expect c.in_ok-expect.ensures.state gives)))))))) (search rules);
 }
 
 pub arguments-preserved : goal.arguments-preserved
@@ -28,7 +28,7 @@ arguments-preserved g c = record {
       (by_rule (c.in_ok-opt_arg_name.ensures.script _)
       (by_rule (answers_something (search rules) c.in_ok-expr.ensures.script)
       (by_complete c.in_ok-complete.ensures.state.0
-      (then_by c.at-in-arguments-2.ensures c.if-not-at-2.false gives))))))) (fewer (search rules));
+      (then_by c.at-in-arguments-2.ensures c.if-not-at-2.false gives))))))) (search rules);
 }
 
 pub returns-then-is_none-clause-script : goal.returns-then-is_none-clause-script

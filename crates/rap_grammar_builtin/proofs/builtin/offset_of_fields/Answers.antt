@@ -1,7 +1,7 @@
 use Rattle.std.proofs.Common.{rules, refl}
 use Rattle.rap_grammar_scripts.specs.Builtins.{offset_of_fields}
 use Rattle.rap_grammar_scripts.proofs.Ends.{gives}
-use Rattle.rap_grammar_frame.proofs.Steps.{then_by, else_by, by_rule, by_expect, turn, last_turn, fewer}
+use Rattle.rap_grammar_frame.proofs.Steps.{then_by, else_by, by_rule, by_expect, turn, last_turn}
 use Rattle.rap_grammar_builtin.proofs.builtin.offset_of_fields.Goals as goal
 
 pub fields-preserved-in_ok-expect : goal.fields-preserved-in_ok-expect
@@ -12,7 +12,7 @@ fields-preserved-in_ok-expect c = record {
       (else_by c.at-in-fields.ensures c.if-not-at.true
       (by_rule (c.in_ok-name_ref_mod_path_or_index.ensures.script _)
       (else_by c.at-in-fields-2.ensures c.if-not-at-2.true
-      (by_expect c.in_ok-expect.ensures.state gives))))) (fewer (search rules));
+      (by_expect c.in_ok-expect.ensures.state gives))))) (search rules);
 }
 
 pub fields-preserved : goal.fields-preserved
@@ -22,7 +22,7 @@ fields-preserved c = record {
       (else_by c.at.ensures c.fields-test.true
       (else_by c.at-in-fields.ensures c.if-not-at.true
       (by_rule (c.in_ok-name_ref_mod_path_or_index.ensures.script _)
-      (then_by c.at-in-fields-2.ensures c.if-not-at-2.false gives)))) (fewer (search rules));
+      (then_by c.at-in-fields-2.ensures c.if-not-at-2.false gives)))) (search rules);
 }
 
 pub returns-else-not-at-clause-script : goal.returns-else-not-at-clause-script

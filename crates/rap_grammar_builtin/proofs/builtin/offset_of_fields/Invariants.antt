@@ -8,7 +8,7 @@ use Rattle.rap_grammar_builtin.proofs.builtin.offset_of_fields.Given as goal
 abbrev pub invariant-fields : goal.invariant-fields
 invariant-fields l = record {
   grew : Grew (state l.initial.p) (state l.p) 0;
-  script : (depth : ℕ) → Turns depth fields_turn false false false false (state l.initial.p) (state l.p);
+  script : (depth : ℕ) → Turns depth fields_turn false false false false l.initial.p l.p;
 }
 
 abbrev pub decreases-fields : goal.decreases-fields

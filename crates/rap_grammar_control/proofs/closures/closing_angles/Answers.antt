@@ -1,7 +1,7 @@
 use Rattle.std.proofs.Common.{rules, refl}
 use Rattle.rap_grammar_scripts.specs.Control.{closing_angles}
 use Rattle.rap_grammar_scripts.proofs.Ends.{gives}
-use Rattle.rap_grammar_frame.proofs.Steps.{turn, last_turn, then_by, else_by, by_skip, fewer}
+use Rattle.rap_grammar_frame.proofs.Steps.{turn, last_turn, then_by, else_by, by_skip}
 use Rattle.rap_grammar_control.proofs.closures.closing_angles.Goals as goal
 
 pub angles-preserved : goal.angles-preserved
@@ -9,7 +9,7 @@ angles-preserved c = record {
   grew = search rules;
   script =
       λ depth. turn (c.angles.invariant.script depth)
-      (then_by c.at.ensures c.angles-test.true (by_skip c.in_ok-err_and_bump.ensures.state gives)) (fewer (search rules));
+      (then_by c.at.ensures c.angles-test.true (by_skip c.in_ok-err_and_bump.ensures.state gives)) (search rules);
 }
 
 pub returns-clause-script : goal.returns-clause-script

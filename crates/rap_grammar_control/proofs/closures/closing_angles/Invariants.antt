@@ -8,7 +8,7 @@ use Rattle.rap_grammar_control.proofs.closures.closing_angles.Given as goal
 abbrev pub invariant-angles : goal.invariant-angles
 invariant-angles l = record {
   grew : Grew (state l.initial.p) (state l.p) 0;
-  script : (depth : ℕ) → Turns depth angles_turn false false false false (state l.initial.p) (state l.p);
+  script : (depth : ℕ) → Turns depth angles_turn false false false false l.initial.p l.p;
 }
 
 abbrev pub decreases-angles : goal.decreases-angles

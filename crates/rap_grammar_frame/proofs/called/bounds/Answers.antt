@@ -9,4 +9,4 @@ pub returns-clause-script : goal.returns-clause-script
 unfolding bounds
 returns-clause-script g c =
     by_bump (search rules) c.in_ok-bump.ensures.state
-          (by_part phrase.bounds_without_colon c.in_ok-run.ensures.1 gives)
+    (by_part phrase.bounds_without_colon c.in_ok-run.ensures.1 gives)

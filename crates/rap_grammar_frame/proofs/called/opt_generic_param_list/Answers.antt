@@ -12,4 +12,4 @@ pub returns-clause-script : goal.returns-clause-script
 unfolding opt_generic_param_list
 returns-clause-script g c =
     then_by c.at.ensures c.if-not-at.false
-          (by_part phrase.generic_param_list c.in_ok-run.ensures.1 gives)
+    (by_part phrase.generic_param_list c.in_ok-run.ensures.1 gives)

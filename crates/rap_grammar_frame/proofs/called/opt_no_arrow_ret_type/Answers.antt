@@ -11,7 +11,7 @@ returns-then-not-is_path_name-clause-script g c = fails (search rules) gives
 pub returns-clause-script : goal.returns-clause-script
 unfolding opt_no_arrow_ret_type
 returns-clause-script g c = passes (search rules)
-      (by_start c.in_ok-m.ensures.state
-      (by_report c.in_ok-error.ensures.state
-      (by_rule c.in_ok-type_no_bounds.ensures.script
-      (by_complete c.in_ok-complete.ensures.state.0 gives))))
+    (by_start c.in_ok-m.ensures.state
+    (by_report c.in_ok-error.ensures.state
+    (by_rule c.in_ok-type_no_bounds.ensures.script
+    (by_complete c.in_ok-complete.ensures.state.0 gives))))

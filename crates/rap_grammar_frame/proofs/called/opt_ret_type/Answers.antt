@@ -11,7 +11,7 @@ returns-then-not-at-clause-script g c = else_by c.at.ensures c.if-not-at.true gi
 pub returns-clause-script : goal.returns-clause-script
 unfolding opt_ret_type
 returns-clause-script g c = then_by c.at.ensures c.if-not-at.false
-      (by_start c.in_ok-m.ensures.state
-      (by_bump (search rules) c.in_ok-bump.ensures.state
-      (by_rule c.in_ok-type_no_bounds.ensures.script
-      (by_complete c.in_ok-complete.ensures.state.0 gives))))
+    (by_start c.in_ok-m.ensures.state
+    (by_bump (search rules) c.in_ok-bump.ensures.state
+    (by_rule c.in_ok-type_no_bounds.ensures.script
+    (by_complete c.in_ok-complete.ensures.state.0 gives))))

@@ -7,4 +7,4 @@ pub returns-clause-script : goal.returns-clause-script
 unfolding delimited
 returns-clause-script g c =
     by_bump c.requires.here c.in_ok-bump.ensures.state
-          (by_rule c.in_ok-elements.ensures.script (by_expect c.in_ok-expect.ensures.state gives))
+    (by_rule c.in_ok-elements.ensures.script (by_expect c.in_ok-expect.ensures.state gives))

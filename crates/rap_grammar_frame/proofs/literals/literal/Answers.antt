@@ -12,5 +12,5 @@ pub returns-clause-script : goal.returns-clause-script
 unfolding literal
 returns-clause-script c depth =
     passes (search rules)
-          (by_start c.in_ok-m.ensures.state
-          (by_any (search rules) c.in_ok-bump_any.ensures.state (by_complete c.in_ok-cm.ensures.state.0 gives)))
+    (by_start c.in_ok-m.ensures.state
+    (by_any (search rules) c.in_ok-bump_any.ensures.state (by_complete c.in_ok-cm.ensures.state.0 gives)))

@@ -8,5 +8,5 @@ pub returns-clause-script : goal.returns-clause-script
 unfolding abi
 returns-clause-script c depth =
     by_start c.in_ok-m.ensures.state
-          (by_bump (search rules) c.in_ok-bump.ensures.state
-          (by_eat c.in_ok-eat.ensures.state (by_complete c.in_ok-complete.ensures.state.0 gives)))
+    (by_bump (search rules) c.in_ok-bump.ensures.state
+    (by_eat c.in_ok-eat.ensures.state (by_complete c.in_ok-complete.ensures.state.0 gives)))

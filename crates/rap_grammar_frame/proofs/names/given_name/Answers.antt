@@ -5,5 +5,5 @@ use Rattle.rap_grammar_frame.proofs.names.given_name.Goals as goal
 
 pub returns-clause-script : goal.returns-clause-script
 returns-clause-script c depth = by_start c.in_ok-m.ensures.state
-      (by_bump (search rules) c.in_ok-bump.ensures.state
-      (by_complete c.in_ok-complete.ensures.state.0 gives))
+    (by_bump (search rules) c.in_ok-bump.ensures.state
+    (by_complete c.in_ok-complete.ensures.state.0 gives))

@@ -6,9 +6,9 @@ use Rattle.rap_grammar_frame.proofs.names.name_r.Goals as goal
 pub returns-then-at-clause-script : goal.returns-then-at-clause-script
 unfolding name_r
 returns-then-at-clause-script c depth = λ kept e. then_by c.at.ensures c.if-at.true
-      (to_end (c.in_ok-given_name.ensures.script _))
+    (to_end (c.in_ok-given_name.ensures.script _))
 
 pub returns-clause-script : goal.returns-clause-script
 unfolding name_r
 returns-clause-script c depth = λ kept e. else_by c.at.ensures c.if-at.false
-      (by_recover kept e c.in_ok-err_recover.ensures.state (λ k. gives) (λ k. gives))
+    (by_recover kept e c.in_ok-err_recover.ensures.state (λ k. gives) (λ k. gives))

@@ -7,5 +7,5 @@ use Rattle.rap_grammar_frame.proofs.names.name_ref_or_index.Goals as goal
 pub returns-clause-script : goal.returns-clause-script
 unfolding name_ref_or_index
 returns-clause-script c depth = by_start c.in_ok-m.ensures.state
-      (by_any (search rules) c.in_ok-bump_any.ensures.state
-      (by_complete c.in_ok-complete.ensures.state.0 gives))
+    (by_any (search rules) c.in_ok-bump_any.ensures.state
+    (by_complete c.in_ok-complete.ensures.state.0 gives))

@@ -7,9 +7,9 @@ use Rattle.rap_grammar_frame.proofs.names.name_ref_or_self.Goals as goal
 pub returns-in_ok-complete-clause-script : goal.returns-in_ok-complete-clause-script
 unfolding name_ref_or_self
 returns-in_ok-complete-clause-script c depth = passes (search rules)
-      (by_start c.in_ok-m.ensures.state
-      (by_any (search rules) c.in_ok-bump_any.ensures.state
-      (by_complete c.in_ok-complete.ensures.state.0 gives)))
+    (by_start c.in_ok-m.ensures.state
+    (by_any (search rules) c.in_ok-bump_any.ensures.state
+    (by_complete c.in_ok-complete.ensures.state.0 gives)))
 
 pub returns-in_ok-err_and_bump-clause-script : goal.returns-in_ok-err_and_bump-clause-script
 unfolding name_ref_or_self

@@ -11,16 +11,16 @@ returns-then-not-at-clause-script c depth = else_by c.at.ensures c.if-not-at.tru
 pub returns-then-branch-clause-script : goal.returns-then-branch-clause-script
 unfolding opt_rename
 returns-then-branch-clause-script c depth = then_by c.at.ensures c.if-not-at.false
-      (by_start c.in_ok-m.ensures.state
-      (by_bump (search rules) c.in_ok-bump.ensures.state
-      (ate c.in_ok-eat.ensures.state c.if-branch.true
-      (by_complete c.in_ok-complete.ensures.state.0 gives))))
+    (by_start c.in_ok-m.ensures.state
+    (by_bump (search rules) c.in_ok-bump.ensures.state
+    (ate c.in_ok-eat.ensures.state c.if-branch.true
+    (by_complete c.in_ok-complete.ensures.state.0 gives))))
 
 pub returns-clause-script : goal.returns-clause-script
 unfolding opt_rename
 returns-clause-script c depth = then_by c.at.ensures c.if-not-at.false
-      (by_start c.in_ok-m.ensures.state
-      (by_bump (search rules) c.in_ok-bump.ensures.state
-      (not_ate c.in_ok-eat.ensures.state c.if-branch.false
-      (by_rule (c.in_ok-name.ensures.script _)
-      (by_complete c.in_ok-complete-2.ensures.state.0 gives)))))
+    (by_start c.in_ok-m.ensures.state
+    (by_bump (search rules) c.in_ok-bump.ensures.state
+    (not_ate c.in_ok-eat.ensures.state c.if-branch.false
+    (by_rule (c.in_ok-name.ensures.script _)
+    (by_complete c.in_ok-complete-2.ensures.state.0 gives)))))

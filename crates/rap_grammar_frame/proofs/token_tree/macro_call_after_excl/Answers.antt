@@ -7,22 +7,22 @@ use Rattle.rap_grammar_frame.proofs.token_tree.macro_call_after_excl.Goals as go
 
 pub returns-then-eq-clause-script : goal.returns-then-eq-clause-script
 unfolding macro_call_after_excl
-returns-then-eq-clause-script c depth h = 
+returns-then-eq-clause-script c depth h =
     by_bump (search rules) c.in_ok-bump.ensures.state
-      (passes (search rules) (by_rule (c.in_ok-token_tree.ensures.script _ (search rules)) gives))
+    (passes (search rules) (by_rule (c.in_ok-token_tree.ensures.script _ (search rules)) gives))
 
 pub returns-then-is_bracket-clause-script : goal.returns-then-is_bracket-clause-script
 unfolding macro_call_after_excl
-returns-then-is_bracket-clause-script c depth h = 
+returns-then-is_bracket-clause-script c depth h =
     by_bump (search rules) c.in_ok-bump.ensures.state
-      (fails (search rules)
-      (then_by (by_kind is_bracket c.is_bracket.ensures c.current-kind.ensures.kind) c.if-is_bracket.true
-      (by_rule (c.in_ok-token_tree-2.ensures.script _ (search rules)) gives)))
+    (fails (search rules)
+    (then_by (by_kind is_bracket c.is_bracket.ensures c.current-kind.ensures.kind) c.if-is_bracket.true
+    (by_rule (c.in_ok-token_tree-2.ensures.script _ (search rules)) gives)))
 
 pub returns-clause-script : goal.returns-clause-script
 unfolding macro_call_after_excl
-returns-clause-script c depth h = 
+returns-clause-script c depth h =
     by_bump (search rules) c.in_ok-bump.ensures.state
-      (fails (search rules)
-      (else_by (by_kind is_bracket c.is_bracket.ensures c.current-kind.ensures.kind) c.if-is_bracket.false
-      (by_report c.in_ok-error.ensures.state gives)))
+    (fails (search rules)
+    (else_by (by_kind is_bracket c.is_bracket.ensures c.current-kind.ensures.kind) c.if-is_bracket.false
+    (by_report c.in_ok-error.ensures.state gives)))

@@ -8,7 +8,7 @@ use Rattle.rap_grammar_item_kinds.proofs.functions.unbalanced_brackets.Given as 
 abbrev pub invariant-brackets : goal.invariant-brackets
 invariant-brackets l = record {
   grew : Grew (state l.initial.p) (state l.p) 0;
-  script : (depth : ℕ) → Turns depth bracket_turn false false false false (state l.initial.p) (state l.p);
+  script : (depth : ℕ) → Turns depth bracket_turn false false false false l.initial.p l.p;
 }
 
 abbrev pub decreases-brackets : goal.decreases-brackets

@@ -3,7 +3,7 @@ use Rattle.rap_base.specs.TokenKind.{FLOAT_NUMBER}
 use Rattle.rap_events.specs.State.{state, next}
 use Rattle.rap_grammar_scripts.specs.Expressions.{after_dot, is_range}
 use Rattle.rap_grammar_scripts.proofs.Ends.{gives, passes, fails}
-use Rattle.rap_grammar_frame.proofs.Steps.{turn, last_turn, to_end, by_split_dotted, by_split_whole, by_precede, fewer}
+use Rattle.rap_grammar_frame.proofs.Steps.{turn, last_turn, to_end, by_split_dotted, by_split_whole, by_precede}
 use Rattle.rap_grammar_operands.proofs.postfix.after_dot.Goals.{then-at-via-then-at, then-at-via-else-at+then-at-2}
 use Rattle.rap_grammar_operands.proofs.postfix.after_dot.Goals as goal
 
@@ -45,5 +45,5 @@ fields-preserved g c =
           turn c.fields.invariant.script
           (passes (rw float refl)
           (by_split_dotted float c.in_ok-ends_in_dot.ensures.state.0 (search rules)
-          (fails range (by_precede c.in_ok-ends_in_dot.ensures.state.1 c.in_ok-m.ensures.state gives)))) (fewer (search rules));
+          (fails range (by_precede c.in_ok-ends_in_dot.ensures.state.1 c.in_ok-m.ensures.state gives)))) (search rules);
     }

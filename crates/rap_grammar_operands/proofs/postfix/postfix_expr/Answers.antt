@@ -4,7 +4,7 @@ use Rattle.rap_events.specs.State.{state, next}
 use Rattle.rap_grammar_scripts.specs.Expressions.{postfix_expr}
 use Rattle.rap_grammar_scripts.proofs.Ends.{gives, passes, fails}
 use Rattle.rap_grammar_frame.proofs.Operating.{like_is, like_ends}
-use Rattle.rap_grammar_frame.proofs.Steps.{by_rule, turn, last_turn, fewer}
+use Rattle.rap_grammar_frame.proofs.Steps.{by_rule, turn, last_turn}
 use Rattle.rap_grammar_operands.proofs.postfix.postfix_expr.Goals.{in_default-via-in-L_PAREN-T+else-allow_calls, in_default-via-in-L_BRACK-T+else-allow_calls-2, in_default-via-in-DOT-T+then-not-at+else-not-at-2, in_default-via-in-DOT-T+else-not-at, in_default-via-in_default-1}
 use Rattle.rap_grammar_operands.proofs.postfix.postfix_expr.Goals as goal
 
@@ -18,7 +18,7 @@ postfixes-preserved-in_ok-lhs g c =
       one = search rules;
       script =
           turn c.postfixes.invariant.script
-          (passes (rw (e, c.if-allow_calls.true) refl) (by_rule c.in_ok-lhs.ensures.script gives)) (fewer (search rules));
+          (passes (rw (e, c.if-allow_calls.true) refl) (by_rule c.in_ok-lhs.ensures.script gives)) (search rules);
     }
 
 pub postfixes-preserved-in_ok-lhs-2 : goal.postfixes-preserved-in_ok-lhs-2
@@ -32,7 +32,7 @@ postfixes-preserved-in_ok-lhs-2 g c =
       script =
           turn c.postfixes.invariant.script
           (fails (rw e refl)
-          (passes (rw (e, c.if-allow_calls-2.true) refl) (by_rule c.in_ok-lhs-2.ensures.script gives))) (fewer (search rules));
+          (passes (rw (e, c.if-allow_calls-2.true) refl) (by_rule c.in_ok-lhs-2.ensures.script gives))) (search rules);
     }
 
 pub postfixes-preserved-else-not-goes_on : goal.postfixes-preserved-else-not-goes_on
@@ -49,7 +49,7 @@ postfixes-preserved-else-not-goes_on g c =
           (fails (rw e refl)
           (fails (rw e refl)
           (passes (rw (e, ← c.at.ensures, ← c.at-then-not-at.ensures, c.if-not-at.true, c.if-not-at-2.true) refl)
-          (by_rule c.in_ok-access.ensures.script (rw on gives))))) (fewer (search rules));
+          (by_rule c.in_ok-access.ensures.script (rw on gives))))) (search rules);
     }
 
 pub returns-then-not-goes_on-clause-script : goal.returns-then-not-goes_on-clause-script
@@ -74,7 +74,7 @@ postfixes-preserved g c =
       script =
           turn c.postfixes.invariant.script
           (fails (rw e refl)
-          (fails (rw e refl) (fails (rw e refl) (passes (rw e refl) (by_rule c.in_ok-lhs-3.ensures.script gives))))) (fewer (search rules));
+          (fails (rw e refl) (fails (rw e refl) (passes (rw e refl) (by_rule c.in_ok-lhs-3.ensures.script gives))))) (search rules);
     }
 
 pub returns-in_default-clause-script : goal.returns-in_default-clause-script

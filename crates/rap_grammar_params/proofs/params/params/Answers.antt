@@ -3,7 +3,7 @@ use Rattle.rap_events.specs.Composite.{is_at}
 use Rattle.rap_events.specs.State.{state}
 use Rattle.rap_grammar_scripts.specs.Params.{params}
 use Rattle.rap_grammar_scripts.proofs.Ends.{gives}
-use Rattle.rap_grammar_frame.proofs.Steps.{then_by, else_by, by_rule, by_kind, turn, last_turn, answers_no, answers_yes, fewer}
+use Rattle.rap_grammar_frame.proofs.Steps.{then_by, else_by, by_rule, by_kind, turn, last_turn, answers_no, answers_yes}
 use Rattle.rap_grammar_params.proofs.params.params.Goals as goal
 
 pub params-preserved : goal.params-preserved
@@ -14,7 +14,7 @@ params-preserved g c = record {
       turn c.params.invariant.script
       (else_by c.at.ensures c.params-test.true
       (else_by at_ket c.if-not-at.true
-      (by_rule (answers_yes c.if-not-branch.false c.in_ok-attributed_param.ensures.script) gives))) (fewer (search rules));
+      (by_rule (answers_yes c.if-not-branch.false c.in_ok-attributed_param.ensures.script) gives))) (search rules);
 }
 
 pub returns-then-not-branch-clause-script : goal.returns-then-not-branch-clause-script

@@ -2,7 +2,7 @@ use Rattle.std.proofs.Common.{rules}
 use Rattle.rap_grammar_frame.proofs.Patterning.{by_rest_pat}
 use Rattle.rap_grammar_scripts.specs.Patterns.{tuple_patterns}
 use Rattle.rap_grammar_scripts.proofs.Ends.{gives, passes, fails}
-use Rattle.rap_grammar_frame.proofs.Steps.{by_report, by_rule, by_expect, turn, last_turn, then_by, else_by, not_on, fewer}
+use Rattle.rap_grammar_frame.proofs.Steps.{by_report, by_rule, by_expect, turn, last_turn, then_by, else_by, not_on}
 use Rattle.rap_grammar_patterns.proofs.patterns.tuple_patterns.Goals.{then-patterns-test+else-not-at, else-patterns-test}
 use Rattle.rap_grammar_patterns.proofs.patterns.tuple_patterns.Goals as goal
 
@@ -15,7 +15,7 @@ patterns-preserved-in_ok-expect g c = record {
       (passes (search rules)
       (by_rest_pat c.is_rest_pat.ensures (by_rule c.in_ok-pattern.ensures.script
       (else_by c.at-in-patterns-2.ensures c.if-not-at-2.true
-      (by_expect c.in_ok-expect.ensures.state gives))))))) (fewer (search rules));
+      (by_expect c.in_ok-expect.ensures.state gives))))))) (search rules);
 }
 
 pub patterns-preserved : goal.patterns-preserved
@@ -27,7 +27,7 @@ patterns-preserved g c = record {
       (passes (search rules)
       (by_rest_pat c.is_rest_pat.ensures (by_rule c.in_ok-pattern.ensures.script
       (then_by c.at-in-patterns-2.ensures c.if-not-at-2.false
-      gives)))))) (fewer (search rules));
+      gives)))))) (search rules);
 }
 
 pub returns-then-not-is_pat_top_first-clause-script : goal.returns-then-not-is_pat_top_first-clause-script

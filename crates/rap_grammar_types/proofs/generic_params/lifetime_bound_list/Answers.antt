@@ -1,7 +1,7 @@
 use Rattle.std.proofs.Common.{rules, refl}
 use Rattle.rap_grammar_scripts.specs.GenericParams.{lifetime_bound_list}
 use Rattle.rap_grammar_scripts.proofs.Ends.{gives}
-use Rattle.rap_grammar_frame.proofs.Steps.{by_rule, ate, not_ate, turn, last_turn, answers_no, answers_yes, fewer}
+use Rattle.rap_grammar_frame.proofs.Steps.{by_rule, ate, not_ate, turn, last_turn, answers_no, answers_yes}
 use Rattle.rap_grammar_types.proofs.generic_params.lifetime_bound_list.Goals as goal
 
 pub bounds-preserved : goal.bounds-preserved
@@ -9,7 +9,7 @@ bounds-preserved g c = record {
   grew = search rules;
   script = turn c.bounds.invariant.script
       (by_rule (answers_yes c.if-branch.true c.in_ok-lifetime_bound.ensures.script)
-      (ate c.in_ok-eat.ensures.state c.if-not-branch.false gives)) (fewer (search rules));
+      (ate c.in_ok-eat.ensures.state c.if-not-branch.false gives)) (search rules);
 }
 
 pub returns-then-not-branch-clause-script : goal.returns-then-not-branch-clause-script

@@ -3,7 +3,7 @@ use Rattle.rap_base.specs.TokenKind.{LIFETIME_IDENT}
 use Rattle.rap_events.specs.State.{state, next}
 use Rattle.rap_grammar_scripts.specs.GenericParams.{type_bounds}
 use Rattle.rap_grammar_scripts.proofs.Ends.{gives}
-use Rattle.rap_grammar_frame.proofs.Steps.{by_rule, ate, not_ate, turn, last_turn, answers_no, answers_yes, fewer}
+use Rattle.rap_grammar_frame.proofs.Steps.{by_rule, ate, not_ate, turn, last_turn, answers_no, answers_yes}
 use Rattle.rap_grammar_types.proofs.generic_params.type_bounds.Goals as goal
 
 pub bounds-preserved : goal.bounds-preserved
@@ -18,7 +18,7 @@ bounds-preserved g c = record {
   ];
   script = turn c.bounds.invariant.script
       (by_rule (answers_yes c.if-branch.true c.in_ok-type_bound.ensures.script)
-      (ate c.in_ok-eat.ensures.state c.if-not-branch.false gives)) (fewer (search rules));
+      (ate c.in_ok-eat.ensures.state c.if-not-branch.false gives)) (search rules);
 }
 
 pub returns-then-not-branch-clause-script : goal.returns-then-not-branch-clause-script

@@ -1,7 +1,7 @@
 use Rattle.std.proofs.Common.{rules, refl}
 use Rattle.rap_grammar_scripts.specs.GenericParams.{where_predicates}
 use Rattle.rap_grammar_scripts.proofs.Ends.{gives, passes, fails}
-use Rattle.rap_grammar_frame.proofs.Steps.{by_rule, turn, last_turn, answers_no, answers_yes, fewer}
+use Rattle.rap_grammar_frame.proofs.Steps.{by_rule, turn, last_turn, answers_no, answers_yes}
 use Rattle.rap_grammar_types.proofs.generic_params.where_predicates.Goals as goal
 
 pub predicates-preserved : goal.predicates-preserved
@@ -10,7 +10,7 @@ predicates-preserved g c = record {
   script = turn c.predicates.invariant.script
       (passes (search rules)
       (by_rule c.in_ok-where_predicate.ensures.script
-      (by_rule (answers_yes c.if-not-branch.false (c.in_ok-after_predicate.ensures.script _)) gives))) (fewer (search rules));
+      (by_rule (answers_yes c.if-not-branch.false (c.in_ok-after_predicate.ensures.script _)) gives))) (search rules);
 }
 
 pub returns-then-not-branch-clause-script : goal.returns-then-not-branch-clause-script

@@ -1,7 +1,7 @@
 use Rattle.std.proofs.Common.{rules, refl}
 use Rattle.rap_grammar_scripts.specs.Types.{tuple_types}
 use Rattle.rap_grammar_scripts.proofs.Ends.{gives}
-use Rattle.rap_grammar_frame.proofs.Steps.{by_rule, turn, last_turn, then_by, else_by, ate, not_ate, not_on, fewer}
+use Rattle.rap_grammar_frame.proofs.Steps.{by_rule, turn, last_turn, then_by, else_by, ate, not_ate, not_on}
 use Rattle.rap_grammar_types.proofs.types.tuple_types.Goals as goal
 
 pub returns-then-not-branch-clause-script : goal.returns-then-not-branch-clause-script
@@ -20,7 +20,7 @@ types-preserved g c = record {
       (else_by c.at.ensures c.types-test.true
       (else_by c.at-in-types.ensures c.if-not-at.true
       (by_rule c.in_ok-type_.ensures.script
-      (ate c.in_ok-eat.ensures.state c.if-not-branch.false gives)))) (fewer (search rules));
+      (ate c.in_ok-eat.ensures.state c.if-not-branch.false gives)))) (search rules);
 }
 
 pub returns-else-not-at-clause-script : goal.returns-else-not-at-clause-script

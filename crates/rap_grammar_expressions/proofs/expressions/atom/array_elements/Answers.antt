@@ -1,7 +1,7 @@
 use Rattle.std.proofs.Common.{rules, refl}
 use Rattle.rap_grammar_scripts.specs.Atom.{array_elements}
 use Rattle.rap_grammar_scripts.proofs.Ends.{gives}
-use Rattle.rap_grammar_frame.proofs.Steps.{then_by, else_by, by_rule, to_end, turn, last_turn, answers_nothing, answers_something, fewer}
+use Rattle.rap_grammar_frame.proofs.Steps.{then_by, else_by, by_rule, to_end, turn, last_turn, answers_nothing, answers_something}
 use Rattle.rap_grammar_expressions.proofs.expressions.atom.array_elements.Goals as goal
 
 pub elements-preserved : goal.elements-preserved
@@ -11,7 +11,7 @@ elements-preserved g c = record {
       (else_by c.at.ensures c.elements-test.true
       (else_by c.at-in-elements.ensures c.if-not-at.true
       (by_rule (answers_something (search rules) c.in_ok-expr.ensures.script)
-      (to_end (rw c.in-Some.is at c.in_ok-semi.ensures.script))))) (fewer (search rules));
+      (to_end (rw c.in-Some.is at c.in_ok-semi.ensures.script))))) (search rules);
 }
 
 pub returns-then-is_none-clause-script : goal.returns-then-is_none-clause-script

@@ -4,7 +4,7 @@ use Rattle.rap_events.specs.State.{state}
 use Rattle.rap_grammar_scripts.specs.Expressions.{climb}
 use Rattle.rap_grammar_scripts.specs.Operator.{operator_at}
 use Rattle.rap_grammar_frame.proofs.Operating.{stops_low, goes_as, stops_range, goes_range, goes_binary}
-use Rattle.rap_grammar_frame.proofs.Steps.{turn, last_turn, fewer}
+use Rattle.rap_grammar_frame.proofs.Steps.{turn, last_turn}
 use Rattle.rap_grammar_expressions.proofs.expressions.operators.climb.Goals as goal
 
 pub returns-then-op_bp-bp-clause-script : goal.returns-then-op_bp-bp-clause-script
@@ -26,7 +26,7 @@ operators-preserved-then-eq g c =
       bound = search rules;
       script =
           turn c.operators.invariant.script
-          (goes_as c.args.r c.args.bp e.power some c.if-op_bp-bp.false cast c.in_ok-lhs.ensures.script) (fewer (search rules));
+          (goes_as c.args.r c.args.bp e.power some c.if-op_bp-bp.false cast c.in_ok-lhs.ensures.script) (search rules);
     }
 
 pub returns-then-not-has_end-clause-script : goal.returns-then-not-has_end-clause-script
@@ -53,7 +53,7 @@ operators-preserved-then-op_bp-eq2 g c =
       script =
           turn c.operators.invariant.script
           (goes_range c.args.r c.args.bp e.power some c.if-op_bp-bp.false no_cast c.if-op_bp-eq2.true
-          (rw (e.op some) at c.in_ok-range.ensures.script) c.if-not-has_end.false) (fewer (search rules));
+          (rw (e.op some) at c.in_ok-range.ensures.script) c.if-not-has_end.false) (search rules);
     }
 
 pub bin_expr-requires-clause-left_side : goal.bin_expr-requires-clause-left_side
@@ -78,5 +78,5 @@ operators-preserved g c =
       script =
           turn c.operators.invariant.script
           (goes_binary c.args.r c.args.bp e.power some c.if-op_bp-bp.false no_cast c.if-op_bp-eq2.false
-          (rw (e.op some) at c.in_ok-lhs-2.ensures.script)) (fewer (search rules));
+          (rw (e.op some) at c.in_ok-lhs-2.ensures.script)) (search rules);
     }
