@@ -4,6 +4,7 @@ use Rattle.rap_events.specs.Fit.{partner}
 use Rattle.rap_events.specs.State.{state}
 use Rattle.rap_grammar_scripts.specs.First.{one_of, is_bracket}
 use Rattle.rap_grammar_scripts.specs.TokenTree.{tokens_to}
+use Rattle.rap_grammar_scripts.specs.Knot.{script_of}
 use Rattle.rap_grammar_scripts.specs.Phrase as phrase
 use Rattle.rap_grammar_scripts.proofs.Ends.{answers, gives, passes, fails, follows}
 use Rattle.rap_grammar_scripts.proofs.Balance.{nests_as_brackets}
@@ -21,6 +22,7 @@ tokens-init t c = record {
 }
 
 pub tokens-preserved-then-is_bracket : goal.tokens-preserved-then-is_bracket
+unfolding script_of
 tokens-preserved-then-is_bracket t c = record {
   grew = search rules;
   opens = λ z. more_tree c.in_ok-token_tree.ensures.one
