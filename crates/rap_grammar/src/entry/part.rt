@@ -54,7 +54,6 @@ pub enum Part {
 }
 
 /// Runs the rule of a part.
-#[tactic(auto, using(rap_grammar_scripts::proofs::Exec::does_follow))]
 fn run_part(p: &mut Parser<'_>, part: Part) -> Result<(), NoMemory>
     requires brace { asks_brace part ≡ true → next (state p.old) ≡ L_CURLY }
     ensures grew { OnOk result (Grew (state p.old) (state p.new) 8) }
@@ -142,7 +141,6 @@ pub fn parse_part(alloc: Global, input: &Input, part: Part) -> Result<Output, No
 }
 
 /// A statement without the semicolon that may stand after it.
-#[tactic(auto, using(rap_grammar_scripts::proofs::Exec::does_follow))]
 pub fn stmt(alloc: Global, input: &Input) -> Result<Output, NoMemory>
     requires { length input.now ≤ max_tokens }
     ensures prefix { IfOk result (IsPrefixOver input.now) }
@@ -156,7 +154,6 @@ pub fn stmt(alloc: Global, input: &Input) -> Result<Output, NoMemory>
 }
 
 /// A pattern without alternatives.
-#[tactic(auto, using(rap_grammar_scripts::proofs::Exec::does_follow))]
 pub fn pattern_single(alloc: Global, input: &Input) -> Result<Output, NoMemory>
     requires { length input.now ≤ max_tokens }
     ensures prefix { IfOk result (IsPrefixOver input.now) }
@@ -170,7 +167,6 @@ pub fn pattern_single(alloc: Global, input: &Input) -> Result<Output, NoMemory>
 }
 
 /// A pattern with its alternatives.
-#[tactic(auto, using(rap_grammar_scripts::proofs::Exec::does_follow))]
 pub fn pattern(alloc: Global, input: &Input) -> Result<Output, NoMemory>
     requires { length input.now ≤ max_tokens }
     ensures prefix { IfOk result (IsPrefixOver input.now) }
@@ -184,7 +180,6 @@ pub fn pattern(alloc: Global, input: &Input) -> Result<Output, NoMemory>
 }
 
 /// A type.
-#[tactic(auto, using(rap_grammar_scripts::proofs::Exec::does_follow))]
 pub fn type_(alloc: Global, input: &Input) -> Result<Output, NoMemory>
     requires { length input.now ≤ max_tokens }
     ensures prefix { IfOk result (IsPrefixOver input.now) }
@@ -198,7 +193,6 @@ pub fn type_(alloc: Global, input: &Input) -> Result<Output, NoMemory>
 }
 
 /// An expression.
-#[tactic(auto, using(rap_grammar_scripts::proofs::Exec::does_follow))]
 pub fn expr(alloc: Global, input: &Input) -> Result<Output, NoMemory>
     requires { length input.now ≤ max_tokens }
     ensures prefix { IfOk result (IsPrefixOver input.now) }
@@ -212,7 +206,6 @@ pub fn expr(alloc: Global, input: &Input) -> Result<Output, NoMemory>
 }
 
 /// An item, or a macro call in its place.
-#[tactic(auto, using(rap_grammar_scripts::proofs::Exec::does_follow))]
 pub fn item(alloc: Global, input: &Input) -> Result<Output, NoMemory>
     requires { length input.now ≤ max_tokens }
     ensures prefix { IfOk result (IsPrefixOver input.now) }
@@ -230,7 +223,6 @@ pub fn item(alloc: Global, input: &Input) -> Result<Output, NoMemory>
 }
 
 /// The contents of an attribute's brackets.
-#[tactic(auto, using(rap_grammar_scripts::proofs::Exec::does_follow))]
 pub fn meta_item(alloc: Global, input: &Input) -> Result<Output, NoMemory>
     requires { length input.now ≤ max_tokens }
     ensures prefix { IfOk result (IsPrefixOver input.now) }

@@ -20,7 +20,6 @@ use rap_grammar_frame::called;
 use std::alloc::Global;
 
 /// A file: `SOURCE_FILE` over the whole input.
-#[tactic(auto, using(rap_grammar_scripts::proofs::Exec::does_follow))]
 pub fn source_file(alloc: Global, input: &Input) -> Result<Output, NoMemory>
     requires { length input.now ≤ max_tokens }
     ensures tree { IfOk result (IsTreeOver input.now) }
@@ -34,7 +33,6 @@ pub fn source_file(alloc: Global, input: &Input) -> Result<Output, NoMemory>
 }
 
 /// A pattern with its alternatives. If the input is not exactly one pattern, the tree is an `ERROR`.
-#[tactic(auto, using(rap_grammar_scripts::proofs::Exec::does_follow))]
 pub fn pattern(alloc: Global, input: &Input) -> Result<Output, NoMemory>
     requires { length input.now ≤ max_tokens }
     ensures tree { IfOk result (IsTreeOver input.now) }
@@ -49,7 +47,6 @@ pub fn pattern(alloc: Global, input: &Input) -> Result<Output, NoMemory>
 }
 
 /// A type. If the input is not exactly one type, the tree is an `ERROR`.
-#[tactic(auto, using(rap_grammar_scripts::proofs::Exec::does_follow))]
 pub fn type_(alloc: Global, input: &Input) -> Result<Output, NoMemory>
     requires { length input.now ≤ max_tokens }
     ensures tree { IfOk result (IsTreeOver input.now) }
@@ -64,7 +61,6 @@ pub fn type_(alloc: Global, input: &Input) -> Result<Output, NoMemory>
 }
 
 /// An expression. If the input is not exactly one expression, the tree is an `ERROR`.
-#[tactic(auto, using(rap_grammar_scripts::proofs::Exec::does_follow))]
 pub fn expr(alloc: Global, input: &Input) -> Result<Output, NoMemory>
     requires { length input.now ≤ max_tokens }
     ensures tree { IfOk result (IsTreeOver input.now) }
@@ -79,7 +75,6 @@ pub fn expr(alloc: Global, input: &Input) -> Result<Output, NoMemory>
 }
 
 /// The contents of an attribute's brackets, as `cfg(a)` in `#[cfg(a)]`. If other tokens follow, the tree is an `ERROR`.
-#[tactic(auto, using(rap_grammar_scripts::proofs::Exec::does_follow))]
 pub fn meta_item(alloc: Global, input: &Input) -> Result<Output, NoMemory>
     requires { length input.now ≤ max_tokens }
     ensures tree { IfOk result (IsTreeOver input.now) }
@@ -93,7 +88,6 @@ pub fn meta_item(alloc: Global, input: &Input) -> Result<Output, NoMemory>
 }
 
 /// The statements that a macro expands to: `MACRO_STMTS` over the whole input.
-#[tactic(auto, using(rap_grammar_scripts::proofs::Exec::does_follow))]
 pub fn macro_stmts(alloc: Global, input: &Input) -> Result<Output, NoMemory>
     requires { length input.now ≤ max_tokens }
     ensures tree { IfOk result (IsTreeOver input.now) }
@@ -107,7 +101,6 @@ pub fn macro_stmts(alloc: Global, input: &Input) -> Result<Output, NoMemory>
 }
 
 /// The items that a macro expands to: `MACRO_ITEMS` over the whole input.
-#[tactic(auto, using(rap_grammar_scripts::proofs::Exec::does_follow))]
 pub fn macro_items(alloc: Global, input: &Input) -> Result<Output, NoMemory>
     requires { length input.now ≤ max_tokens }
     ensures tree { IfOk result (IsTreeOver input.now) }
