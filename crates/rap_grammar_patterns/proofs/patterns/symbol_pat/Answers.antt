@@ -57,4 +57,4 @@ returns-in_ok-missing_pat-in_default-clause-script g c = else_by c.is_literal_pa
     (fails (search rules)
     (fails (search rules)
     (fails (search rules)
-    (to_end c.in_ok-missing_pat-in_default.ensures.script))))))
+    (to_end (c.in_ok-missing_pat-in_default.ensures.script _)))))))
