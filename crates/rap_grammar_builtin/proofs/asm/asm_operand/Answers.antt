@@ -8,14 +8,14 @@ use Rattle.rap_grammar_builtin.proofs.asm.asm_operand.Goals as goal
 pub returns-in-Some-clause-script : goal.returns-in-Some-clause-script
 unfolding asm_operand
 returns-in-Some-clause-script g c = by_start c.in_ok-op.ensures.state
-    (by_rule (rw c.in-Some.is at c.in_ok-goes_both_ways.ensures.script)
+    (by_rule (rw c.in-Some.is at (c.in_ok-goes_both_ways.ensures.script (g.G.Grammar.left c.args.g.now)))
     (by_dir c.in-Some.goes_both_ways _ c.in_ok-reg_operand.ensures.script
     (by_complete c.in_ok-complete.ensures.state.0 gives)))
 
 pub returns-then-branch-clause-script : goal.returns-then-branch-clause-script
 unfolding asm_operand
 returns-then-branch-clause-script g c = by_start c.in_ok-op.ensures.state
-    (by_rule (rw c.in_default.is at c.in_ok-goes_both_ways.ensures.script)
+    (by_rule (rw c.in_default.is at (c.in_ok-goes_both_ways.ensures.script (g.G.Grammar.left c.args.g.now)))
     (ate_as c.in_ok-eat_contextual_kw.ensures.state c.if-branch.true
     (by_rule c.in_ok-block_expr.ensures.script
     (by_complete c.in_ok-complete-2.ensures.state.0 gives))))
@@ -23,7 +23,7 @@ returns-then-branch-clause-script g c = by_start c.in_ok-op.ensures.state
 pub returns-then-branch-2-clause-script : goal.returns-then-branch-2-clause-script
 unfolding asm_operand
 returns-then-branch-2-clause-script g c = by_start c.in_ok-op.ensures.state
-    (by_rule (rw c.in_default.is at c.in_ok-goes_both_ways.ensures.script)
+    (by_rule (rw c.in_default.is at (c.in_ok-goes_both_ways.ensures.script (g.G.Grammar.left c.args.g.now)))
     (not_ate_as c.in_ok-eat_contextual_kw.ensures.state c.if-branch.false
     (ate c.in_ok-eat.ensures.state c.if-branch-2.true
     (by_rule c.in_ok-expr.ensures.script
@@ -32,7 +32,7 @@ returns-then-branch-2-clause-script g c = by_start c.in_ok-op.ensures.state
 pub returns-then-branch-3-clause-script : goal.returns-then-branch-3-clause-script
 unfolding asm_operand
 returns-then-branch-3-clause-script g c = by_start c.in_ok-op.ensures.state
-    (by_rule (rw c.in_default.is at c.in_ok-goes_both_ways.ensures.script)
+    (by_rule (rw c.in_default.is at (c.in_ok-goes_both_ways.ensures.script (g.G.Grammar.left c.args.g.now)))
     (not_ate_as c.in_ok-eat_contextual_kw.ensures.state c.if-branch.false
     (not_ate c.in_ok-eat.ensures.state c.if-branch-2.false
     (ate_as c.in_ok-eat_contextual_kw-2.ensures.state c.if-branch-3.true
@@ -42,7 +42,7 @@ returns-then-branch-3-clause-script g c = by_start c.in_ok-op.ensures.state
 pub returns-clause-script : goal.returns-clause-script
 unfolding asm_operand
 returns-clause-script g c = by_start c.in_ok-op.ensures.state
-    (by_rule (rw c.in_default.is at c.in_ok-goes_both_ways.ensures.script)
+    (by_rule (rw c.in_default.is at (c.in_ok-goes_both_ways.ensures.script (g.G.Grammar.left c.args.g.now)))
     (not_ate_as c.in_ok-eat_contextual_kw.ensures.state c.if-branch.false
     (not_ate c.in_ok-eat.ensures.state c.if-branch-2.false
     (not_ate_as c.in_ok-eat_contextual_kw-2.ensures.state c.if-branch-3.false

@@ -11,7 +11,7 @@ elements-preserved g c = record {
       (else_by c.at.ensures c.elements-test.true
       (else_by c.at-in-elements.ensures c.if-not-at.true
       (by_rule (answers_something (search rules) c.in_ok-expr.ensures.script)
-      (to_end (rw c.in-Some.is at c.in_ok-semi.ensures.script))))) (search rules);
+      (to_end (rw c.in-Some.is at (c.in_ok-semi.ensures.script (g.G.Grammar.left c.args.g.now))))))) (search rules);
 }
 
 pub returns-then-is_none-clause-script : goal.returns-then-is_none-clause-script
@@ -27,7 +27,7 @@ returns-in-None-clause-script g c = last_turn c.elements.invariant.script
     (else_by c.at.ensures c.elements-test.true
     (else_by c.at-in-elements.ensures c.if-not-at.true
     (by_rule (answers_something (search rules) c.in_ok-expr.ensures.script)
-    (to_end (rw c.in-None.is at c.in_ok-semi.ensures.script))))) refl
+    (to_end (rw c.in-None.is at (c.in_ok-semi.ensures.script (g.G.Grammar.left c.args.g.now))))))) refl
 
 pub returns-else-not-at-clause-script : goal.returns-else-not-at-clause-script
 unfolding array_elements
