@@ -7,7 +7,7 @@ use Rattle.rap_grammar_operands.proofs.postfix.name_after_dot.Goals as goal
 pub returns-then-is_method_call-clause-script : goal.returns-then-is_method_call-clause-script
 unfolding name_after_dot
 returns-then-is_method_call-clause-script g c =
-    then_by c.is_method_call.ensures c.if-is_method_call.true (to_end (c.in_ok-cm.ensures.script _))
+    then_by c.is_method_call.ensures c.if-is_method_call.true (to_end c.in_ok-cm.ensures.script)
 
 pub returns-then-at-clause-script : goal.returns-then-at-clause-script
 unfolding name_after_dot

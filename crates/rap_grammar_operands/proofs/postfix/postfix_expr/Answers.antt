@@ -74,7 +74,7 @@ postfixes-preserved g c =
       script =
           turn c.postfixes.invariant.script
           (fails (rw e refl)
-          (fails (rw e refl) (fails (rw e refl) (passes (rw e refl) (by_rule c.in_ok-lhs-3.ensures.script gives))))) (search rules);
+          (fails (rw e refl) (fails (rw e refl) (passes (rw e refl) (by_rule (c.in_ok-lhs-3.ensures.script _) gives))))) (search rules);
     }
 
 pub returns-in_default-clause-script : goal.returns-in_default-clause-script
