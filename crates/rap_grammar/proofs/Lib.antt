@@ -1,3 +1,4 @@
+pub mod Depth
 pub mod DotsInside
 pub mod OneTree
 pub mod Outputs

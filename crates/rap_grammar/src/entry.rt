@@ -1,5 +1,5 @@
 //! The entries of the grammar, and how a parse ends.
-ghost use Rattle.std.specs.Prelude.{◌≡◌, ◌≢◌, ◌^◌, ℕ, ◌+◌, ◌*◌, ◌<◌, ◌≤◌, ◌↔◌, length, [], IfOk, IfSome, OnOk, IsTrue, Some, None, true, false};
+ghost use Rattle.std.specs.Prelude.{suc, ◌≡◌, ◌≢◌, ◌^◌, ℕ, ◌+◌, ◌*◌, ◌<◌, ◌≤◌, ◌↔◌, length, [], IfOk, IfSome, OnOk, IsTrue, Some, None, true, false};
 ghost use Rattle.rap_events.specs.Cover.{covers};
 ghost use Rattle.rap_events.specs.Fit.{AllFitIn, is_plain};
 ghost use Rattle.rap_events.specs.Forest.{Forest, node, none, flat, message_count, one_tree, used};
@@ -9,7 +9,7 @@ ghost use Rattle.rap_base.specs.TokenKind.{ERROR};
 ghost use Rattle.rap_grammar_scripts.specs.Called as called;
 ghost use Rattle.rap_grammar_frame.specs.Grew.{Grew};
 ghost use Rattle.rap_grammar_scripts.specs.Items as item_script;
-ghost use Rattle.rap_grammar_scripts.specs.Knot.{Follows};
+ghost use Rattle.rap_grammar_scripts.specs.Exec.{Does};
 ghost use Rattle.rap_grammar_scripts.specs.Script.{something};
 ghost use Rattle.rap_grammar.specs.Top.{top_tree, with_leaves};
 ghost use Rattle.rap_grammar_scripts.specs.Statements as statement_script;
@@ -71,7 +71,7 @@ pub fn is_one_tree(output: &Output) -> bool
 /// Reads the contents of an attribute's brackets.
 fn meta_item(p: &mut Parser<'_>) -> Result<(), NoMemory>
     ensures grew { OnOk result (Grew (state p.old) (state p.new) 16) }
-    ensures script { OnOk result (Follows called.meta something (state p.old) (state p.new)) }
+    ensures script { OnOk result (Does (suc (state p.old).left) called.meta something (state p.old) (state p.new)) }
 {
     run(p, Rule::Meta)?;
     Ok(())
@@ -81,7 +81,7 @@ fn meta_item(p: &mut Parser<'_>) -> Result<(), NoMemory>
 fn macro_stmts(p: &mut Parser<'_>) -> Result<(), NoMemory>
     ensures grew { OnOk result (Grew (state p.old) (state p.new) 0) }
     ensures rest { OnOk result ((state p.new).rest ≡ []) }
-    ensures script { OnOk result (Follows statement_script.macro_stmts something (state p.old) (state p.new)) }
+    ensures script { OnOk result (Does (suc (state p.old).left) statement_script.macro_stmts something (state p.old) (state p.new)) }
 {
     'statements: while p.current() != SyntaxKind::EOF {
         let semicolon = Semicolon::Optional;
@@ -94,7 +94,7 @@ fn macro_stmts(p: &mut Parser<'_>) -> Result<(), NoMemory>
 fn items(p: &mut Parser<'_>) -> Result<(), NoMemory>
     ensures grew { OnOk result (Grew (state p.old) (state p.new) 0) }
     ensures rest { OnOk result ((state p.new).rest ≡ []) }
-    ensures script { OnOk result (Follows (item_script.items false) something (state p.old) (state p.new)) }
+    ensures script { OnOk result (Does (suc (state p.old).left) (item_script.items false) something (state p.old) (state p.new)) }
 {
     'items: while p.current() != SyntaxKind::EOF {
         // Only `safe fn` is more than elsewhere in a foreign block, and there is no other reading of it.
@@ -111,7 +111,7 @@ fn items(p: &mut Parser<'_>) -> Result<(), NoMemory>
 fn macro_items(p: &mut Parser<'_>) -> Result<(), NoMemory>
     ensures grew { OnOk result (Grew (state p.old) (state p.new) 0) }
     ensures rest { OnOk result ((state p.new).rest ≡ []) }
-    ensures script { OnOk result (Follows (item_script.mod_contents false) something (state p.old) (state p.new)) }
+    ensures script { OnOk result (Does (suc (state p.old).left) (item_script.mod_contents false) something (state p.old) (state p.new)) }
 {
     run(p, Rule::InnerAttrs)?;
     items(p)?;
@@ -122,7 +122,7 @@ fn macro_items(p: &mut Parser<'_>) -> Result<(), NoMemory>
 fn source_file(p: &mut Parser<'_>) -> Result<(), NoMemory>
     ensures grew { OnOk result (Grew (state p.old) (state p.new) 0) }
     ensures rest { OnOk result ((state p.new).rest ≡ []) }
-    ensures script { OnOk result (Follows item_script.source_file something (state p.old) (state p.new)) }
+    ensures script { OnOk result (Does (suc (state p.old).left) item_script.source_file something (state p.old) (state p.new)) }
 {
     p.eat(T![shebang])?;
     p.eat(T![frontmatter])?;

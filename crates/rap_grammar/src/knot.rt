@@ -1,5 +1,5 @@
 //! The knot of the grammar: the function that runs any recursive rule.
-ghost use Rattle.std.specs.Prelude.{◌≡◌, ◌+◌, ◌<◌, ◌≤◌, IfOk};
+ghost use Rattle.std.specs.Prelude.{◌≡◌, ◌+◌, ◌<◌, ◌≤◌, IfOk, suc};
 ghost use Rattle.rap_events.specs.State.{state};
 ghost use Rattle.rap_grammar_frame.specs.Rules.{Pre, Post};
 
@@ -28,7 +28,7 @@ impl<F: Fn(&mut Parser<'_>, Rule) -> Result<Answer, NoMemory>> Grammar for Rules
     ghost left = { λ rules. rules.left };
 
     ghost valid = { λ rules. ((q : _) (c : _) → Pre c (state q.now) → (state q.now).left < rules.left → F.pre rules.run q c) ×
-        ((q : _) (c : _) (a : _) (s : _) → F.post rules.run q c a s → IfOk a (Post c (state q.now) (state s.now))) };
+        ((q : _) (c : _) (a : _) (s : _) → F.post rules.run q c a s → IfOk a (Post rules.left c (state q.now) (state s.now))) };
 
     #[inline(always)]
     fn run(&self, p: &mut Parser<'_>, rule: Rule) -> Result<Answer, NoMemory> {
@@ -49,6 +49,7 @@ impl Grammar for AllRules {
     ghost valid = { λ _. Unit {0} };
 
     #[inline(always)]
+    #[tactic(auto, using(crate::proofs::Depth::more))]
     fn run(&self, p: &mut Parser<'_>, rule: Rule) -> Result<Answer, NoMemory> {
         run(p, rule)
     }
@@ -65,15 +66,16 @@ pub(crate) fn all_rules(p: &Parser<'_>) -> AllRules
 /// what a level of nesting keeps on the stack.
 #[inline(always)]
 #[cycle(run)]
+#[tactic(auto, using(crate::proofs::Depth::more))]
 pub fn run(p: &mut Parser<'_>, rule: Rule) -> Result<Answer, NoMemory>
     requires { Pre rule (state p.old) }
-    ensures { IfOk result (Post rule (state p.old) (state p.new)) }
+    ensures { IfOk result (Post (suc (state p.old).left) rule (state p.old) (state p.new)) }
 {
     let left = p.left();
     let call = |q: &mut Parser<'_>, c: Rule| -> Result<Answer, NoMemory>
         requires pre { Pre c (state q.old) }
         requires left { (state q.old).left < left }
-        ensures { IfOk result (Post c (state q.old) (state q.new)) }
+        ensures { IfOk result (Post left c (state q.old) (state q.new)) }
     {
         let _ = &left;
         run(q, c)

@@ -1,12 +1,12 @@
 //! Statements.
 //! In the Rust crate: `grammar/expressions.rs`.
-ghost use Rattle.std.specs.Prelude.{◌≡◌, ◌≢◌, ◌<◌, ◌≤◌, IfOk, OnOk, Some, None, true};
+ghost use Rattle.std.specs.Prelude.{ℕ, ◌≡◌, ◌≢◌, ◌<◌, ◌≤◌, IfOk, OnOk, Some, None, true};
 ghost use Rattle.rap_base.specs.TokenKind.{EOF};
 ghost use Rattle.rap_events.specs.State.{state, next, IsLast};
 ghost use Rattle.rap_grammar_scripts.specs.Blocks.{starts_let};
 ghost use Rattle.rap_grammar_scripts.specs.Expressions.{of_like, is_block};
 ghost use Rattle.rap_grammar_frame.specs.Grew.{Within, Grew, Gone, Spent};
-ghost use Rattle.rap_grammar_scripts.specs.Knot.{Follows};
+ghost use Rattle.rap_grammar_scripts.specs.Exec.{Does};
 ghost use Rattle.rap_grammar_frame.specs.Room.{expr_stmt_room, recovery_events};
 ghost use Rattle.rap_grammar_frame.specs.Rules.{IsStatement};
 ghost use Rattle.rap_grammar_scripts.specs.Script.{something};
@@ -29,7 +29,7 @@ use rap_grammar_scripts::arguments::{BlockLike, Restrictions, Semicolon};
 pub fn stmt<G: Grammar>(p: &mut Parser<'_>, g: &G, semicolon: Semicolon) -> Result<(), NoMemory>
     requires within { Within G.valid G.left g.now (state p.old) }
     ensures statement { OnOk result (IsStatement (state p.old) (state p.new)) }
-    ensures script { OnOk result (Follows (script.stmt semicolon) something (state p.old) (state p.new)) }
+    ensures script { OnOk result (Does (G.left g.now) (script.stmt semicolon) something (state p.old) (state p.new)) }
 {
     if p.eat(T![;])? {
         return Ok(());
@@ -61,7 +61,7 @@ fn expr_as_stmt<G: Grammar>(
     requires newest { (state p.old).marker ≡ Some m.pos.value }
     ensures gone { OnOk result (Gone (state p.old) (state p.new) 4) }
     ensures spent { OnOk result (next (state p.old) ≢ EOF → Spent (state p.old) (state p.new) expr_stmt_room) }
-    ensures script { OnOk result (Follows (script.expr_as_stmt semicolon) something (state p.old) (state p.new)) }
+    ensures script { OnOk result (Does (G.left g.now) (script.expr_as_stmt semicolon) something (state p.old) (state p.new)) }
 {
     if !is_expr_first(p.current()) {
         p.err_and_bump("expected expression, item or let statement")?;
@@ -89,7 +89,7 @@ fn expr_stmt_end(
     requires last { IsLast (state p.old) cm cm.kind.value }
     ensures grew { OnOk result (Grew (state p.old) (state p.new) recovery_events) }
     ensures script { OnOk result
-        (Follows (script.expr_stmt_end semicolon (is_block (of_like block_like))) something (state p.old)
+        ((depth : ℕ) → Does depth (script.expr_stmt_end semicolon (is_block (of_like block_like))) something (state p.old)
         (state p.new)) }
 {
     if ends_block(p, semicolon) {
@@ -119,7 +119,7 @@ fn expr_semicolon(
 ) -> Result<(), NoMemory>
     ensures grew { OnOk result (Grew (state p.old) (state p.new) 1) }
     ensures script { OnOk result
-        (Follows (script.expr_semicolon semicolon (is_block (of_like block_like))) something (state p.old)
+        ((depth : ℕ) → Does depth (script.expr_semicolon semicolon (is_block (of_like block_like))) something (state p.old)
         (state p.new)) }
 {
     match semicolon {

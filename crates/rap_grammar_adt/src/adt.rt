@@ -7,7 +7,7 @@ ghost use Rattle.rap_events.specs.State.{state, last_children, next, ReadsAs};
 ghost use Rattle.rap_grammar_scripts.specs.Adt as script;
 ghost use Rattle.rap_grammar_scripts.specs.Adt.{is_mut_restriction_start};
 ghost use Rattle.rap_grammar_frame.specs.Grew.{Within, Behind, Took, Grew, Ended, Gone, Spent};
-ghost use Rattle.rap_grammar_scripts.specs.Knot.{Follows};
+ghost use Rattle.rap_grammar_scripts.specs.Exec.{Does};
 ghost use Rattle.rap_grammar_frame.specs.Room.{brackets_room, item_room, list_room, name_room, element_room, param_room, type_room, recovery_events};
 ghost use Rattle.rap_grammar_scripts.specs.Script.{something};
 ghost use Rattle.rap_grammar_scripts.specs.Words.{of_bool};
@@ -32,7 +32,7 @@ pub fn strukt<G: Grammar>(p: &mut Parser<'_>, g: &G, m: Marker) -> Result<(), No
     requires newest { (state p.old).marker ≡ Some m.pos.value }
     requires here { next (state p.old) ≡ STRUCT_KW }
     ensures ended { OnOk result (Ended (state p.old) (state p.new) item_room) }
-    ensures script { OnOk result (Follows script.strukt something (state p.old) (state p.new)) }
+    ensures script { OnOk result (Does (G.left g.now) script.strukt something (state p.old) (state p.new)) }
 {
     p.bump(T![struct])?;
     struct_or_union(p, g, true)?;
@@ -46,7 +46,7 @@ pub fn union<G: Grammar>(p: &mut Parser<'_>, g: &G, m: Marker) -> Result<(), NoM
     requires newest { (state p.old).marker ≡ Some m.pos.value }
     requires here { ReadsAs (state p.old) UNION_KW }
     ensures ended { OnOk result (Ended (state p.old) (state p.new) item_room) }
-    ensures script { OnOk result (Follows script.union something (state p.old) (state p.new)) }
+    ensures script { OnOk result (Does (G.left g.now) script.union something (state p.old) (state p.new)) }
 {
     p.bump_remap(T![union])?;
     struct_or_union(p, g, false)?;
@@ -58,7 +58,7 @@ pub fn union<G: Grammar>(p: &mut Parser<'_>, g: &G, m: Marker) -> Result<(), NoM
 fn struct_or_union<G: Grammar>(p: &mut Parser<'_>, g: &G, is_struct: bool) -> Result<(), NoMemory>
     requires behind { Behind G.valid G.left g.now (state p.old) }
     ensures grew { OnOk result (Grew (state p.old) (state p.new) 4) }
-    ensures script { OnOk result (Follows (script.struct_or_union is_struct) something (state p.old) (state p.new)) }
+    ensures script { OnOk result (Does (G.left g.now) (script.struct_or_union is_struct) something (state p.old) (state p.new)) }
 {
     item_name(p)?;
     opt_generic_param_list(p, g)?;
@@ -70,7 +70,7 @@ fn struct_or_union<G: Grammar>(p: &mut Parser<'_>, g: &G, is_struct: bool) -> Re
 fn fields<G: Grammar>(p: &mut Parser<'_>, g: &G, is_struct: bool) -> Result<(), NoMemory>
     requires behind { Behind G.valid G.left g.now (state p.old) }
     ensures grew { OnOk result (Grew (state p.old) (state p.new) 1) }
-    ensures script { OnOk result (Follows (script.fields is_struct) something (state p.old) (state p.new)) }
+    ensures script { OnOk result (Does (G.left g.now) (script.fields is_struct) something (state p.old) (state p.new)) }
 {
     if p.at(T![where]) {
         fields_behind_where(p, g)?;
@@ -92,7 +92,7 @@ fn fields<G: Grammar>(p: &mut Parser<'_>, g: &G, is_struct: bool) -> Result<(), 
 fn fields_behind_where<G: Grammar>(p: &mut Parser<'_>, g: &G) -> Result<(), NoMemory>
     requires behind { Behind G.valid G.left g.now (state p.old) }
     ensures grew { OnOk result (Grew (state p.old) (state p.new) 1) }
-    ensures script { OnOk result (Follows script.fields_behind_where something (state p.old) (state p.new)) }
+    ensures script { OnOk result (Does (G.left g.now) script.fields_behind_where something (state p.old) (state p.new)) }
 {
     opt_where_clause(p, g)?;
     if p.eat(T![;])? {
@@ -110,7 +110,7 @@ fn fields_behind_where<G: Grammar>(p: &mut Parser<'_>, g: &G) -> Result<(), NoMe
 fn struct_fields<G: Grammar>(p: &mut Parser<'_>, g: &G) -> Result<(), NoMemory>
     requires behind { Behind G.valid G.left g.now (state p.old) }
     ensures grew { OnOk result (Grew (state p.old) (state p.new) 1) }
-    ensures script { OnOk result (Follows script.struct_fields something (state p.old) (state p.new)) }
+    ensures script { OnOk result (Does (G.left g.now) script.struct_fields something (state p.old) (state p.new)) }
 {
     if p.eat(T![;])? {
         return Ok(());
@@ -128,7 +128,7 @@ fn tuple_fields<G: Grammar>(p: &mut Parser<'_>, g: &G) -> Result<(), NoMemory>
     requires within { Within G.valid G.left g.now (state p.old) }
     requires here { next (state p.old) ≡ L_PAREN }
     ensures grew { OnOk result (Grew (state p.old) (state p.new) 0) }
-    ensures script { OnOk result (Follows script.tuple_fields something (state p.old) (state p.new)) }
+    ensures script { OnOk result (Does (G.left g.now) script.tuple_fields something (state p.old) (state p.new)) }
 {
     tuple_field_list(p, g)?;
     opt_where_clause(p, g)?;
@@ -142,7 +142,7 @@ pub fn enum_<G: Grammar>(p: &mut Parser<'_>, g: &G, m: Marker) -> Result<(), NoM
     requires newest { (state p.old).marker ≡ Some m.pos.value }
     requires here { next (state p.old) ≡ ENUM_KW }
     ensures ended { OnOk result (Ended (state p.old) (state p.new) item_room) }
-    ensures script { OnOk result (Follows script.enum_ something (state p.old) (state p.new)) }
+    ensures script { OnOk result (Does (G.left g.now) script.enum_ something (state p.old) (state p.new)) }
 {
     p.bump(T![enum])?;
     item_name(p)?;
@@ -165,7 +165,7 @@ pub fn variant_list<G: Grammar>(p: &mut Parser<'_>, g: &G) -> Result<(), NoMemor
     ensures took { OnOk result (Took (state p.old) (state p.new) list_room) }
     ensures one { OnOk result
         ((state p.new).forest ≡ node (state p.old).forest VARIANT_LIST (last_children (state p.new).forest)) }
-    ensures script { OnOk result (Follows script.variant_list something (state p.old) (state p.new)) }
+    ensures script { OnOk result (Does (G.left g.now) script.variant_list something (state p.old) (state p.new)) }
 {
     let m = p.start()?;
     p.bump(T!['{'])?;
@@ -179,7 +179,7 @@ pub fn variant_list<G: Grammar>(p: &mut Parser<'_>, g: &G) -> Result<(), NoMemor
 fn variants<G: Grammar>(p: &mut Parser<'_>, g: &G) -> Result<(), NoMemory>
     requires behind { Behind G.valid G.left g.now (state p.old) }
     ensures grew { OnOk result (Grew (state p.old) (state p.new) 0) }
-    ensures script { OnOk result (Follows script.variants something (state p.old) (state p.new)) }
+    ensures script { OnOk result (Does (G.left g.now) script.variants something (state p.old) (state p.new)) }
 {
     'variants: while !p.at(SyntaxKind::EOF) && !p.at(T!['}']) {
         variant_or_block(p, g)?;
@@ -193,7 +193,7 @@ fn variant_or_block<G: Grammar>(p: &mut Parser<'_>, g: &G) -> Result<(), NoMemor
     requires more { next (state p.old) ≢ EOF }
     requires inside { next (state p.old) ≢ R_CURLY }
     ensures took { OnOk result (Took (state p.old) (state p.new) element_room) }
-    ensures script { OnOk result (Follows script.variant_or_block something (state p.old) (state p.new)) }
+    ensures script { OnOk result (Does (G.left g.now) script.variant_or_block something (state p.old) (state p.new)) }
 {
     if p.at(T!['{']) {
         error_block(p, g, "expected enum variant")?;
@@ -207,7 +207,7 @@ fn variant_or_block<G: Grammar>(p: &mut Parser<'_>, g: &G) -> Result<(), NoMemor
 /// The comma in braces, before another field or variant and after it.
 fn comma_in_braces(p: &mut Parser<'_>) -> Result<(), NoMemory>
     ensures grew { OnOk result (Grew (state p.old) (state p.new) 1) }
-    ensures script { OnOk result (Follows script.comma_in_braces something (state p.old) (state p.new)) }
+    ensures script { OnOk result ((depth : ℕ) → Does depth script.comma_in_braces something (state p.old) (state p.new)) }
 {
     if p.at(T!['}']) {
         return Ok(());
@@ -222,7 +222,7 @@ fn variant<G: Grammar>(p: &mut Parser<'_>, g: &G) -> Result<(), NoMemory>
     requires more { next (state p.old) ≢ EOF }
     requires inside { next (state p.old) ≢ R_CURLY }
     ensures took { OnOk result (Took (state p.old) (state p.new) param_room) }
-    ensures script { OnOk result (Follows script.variant something (state p.old) (state p.new)) }
+    ensures script { OnOk result (Does (G.left g.now) script.variant something (state p.old) (state p.new)) }
 {
     let m = p.start()?;
     outer_attrs(p, g)?;
@@ -237,7 +237,7 @@ fn named_variant<G: Grammar>(p: &mut Parser<'_>, g: &G, m: Marker) -> Result<(),
     ensures gone { OnOk result (Gone (state p.old) (state p.new) 4) }
     ensures spent { OnOk result
         (next (state p.old) ≢ EOF → next (state p.old) ≢ R_CURLY → Spent (state p.old) (state p.new) type_room) }
-    ensures script { OnOk result (Follows script.named_variant something (state p.old) (state p.new)) }
+    ensures script { OnOk result (Does (G.left g.now) script.named_variant something (state p.old) (state p.new)) }
 {
     if p.at(T![ident]) {
         name(p)?;
@@ -258,7 +258,7 @@ fn missing_in_list(p: &mut Parser<'_>, message: &str) -> Result<(), NoMemory>
     ensures grew { OnOk result (Grew (state p.old) (state p.new) recovery_events) }
     ensures took { OnOk result
         (next (state p.old) ≢ EOF → next (state p.old) ≢ R_CURLY → Took (state p.old) (state p.new) name_room) }
-    ensures script { OnOk result (Follows (script.missing_in_list message.now) something (state p.old) (state p.new)) }
+    ensures script { OnOk result ((depth : ℕ) → Does depth (script.missing_in_list message.now) something (state p.old) (state p.new)) }
 {
     if p.at(T!['}']) {
         p.error(message)?;
@@ -273,7 +273,7 @@ fn after_variant_name<G: Grammar>(p: &mut Parser<'_>, g: &G, m: Marker) -> Resul
     requires behind { Behind G.valid G.left g.now (state p.old) }
     requires newest { (state p.old).marker ≡ Some m.pos.value }
     ensures gone { OnOk result (Gone (state p.old) (state p.new) 1) }
-    ensures script { OnOk result (Follows script.after_variant_name something (state p.old) (state p.new)) }
+    ensures script { OnOk result (Does (G.left g.now) script.after_variant_name something (state p.old) (state p.new)) }
 {
     variant_fields(p, g)?;
     opt_value(p, g)?;
@@ -285,7 +285,7 @@ fn after_variant_name<G: Grammar>(p: &mut Parser<'_>, g: &G, m: Marker) -> Resul
 fn variant_fields<G: Grammar>(p: &mut Parser<'_>, g: &G) -> Result<(), NoMemory>
     requires behind { Behind G.valid G.left g.now (state p.old) }
     ensures grew { OnOk result (Grew (state p.old) (state p.new) 0) }
-    ensures script { OnOk result (Follows script.variant_fields something (state p.old) (state p.new)) }
+    ensures script { OnOk result (Does (G.left g.now) script.variant_fields something (state p.old) (state p.new)) }
 {
     if p.at(T!['{']) {
         record_field_list(p, g)?;
@@ -302,7 +302,7 @@ fn variant_fields<G: Grammar>(p: &mut Parser<'_>, g: &G) -> Result<(), NoMemory>
 fn opt_value<G: Grammar>(p: &mut Parser<'_>, g: &G) -> Result<(), NoMemory>
     requires within { Within G.valid G.left g.now (state p.old) }
     ensures grew { OnOk result (Grew (state p.old) (state p.new) 0) }
-    ensures script { OnOk result (Follows script.opt_value something (state p.old) (state p.new)) }
+    ensures script { OnOk result (Does (G.left g.now) script.opt_value something (state p.old) (state p.new)) }
 {
     if !p.eat(T![=])? {
         return Ok(());
@@ -320,7 +320,7 @@ pub fn record_field_list<G: Grammar>(p: &mut Parser<'_>, g: &G) -> Result<(), No
     ensures took { OnOk result (Took (state p.old) (state p.new) list_room) }
     ensures one { OnOk result
         ((state p.new).forest ≡ node (state p.old).forest RECORD_FIELD_LIST (last_children (state p.new).forest)) }
-    ensures script { OnOk result (Follows script.record_field_list something (state p.old) (state p.new)) }
+    ensures script { OnOk result (Does (G.left g.now) script.record_field_list something (state p.old) (state p.new)) }
 {
     let m = p.start()?;
     p.bump(T!['{'])?;
@@ -334,7 +334,7 @@ pub fn record_field_list<G: Grammar>(p: &mut Parser<'_>, g: &G) -> Result<(), No
 fn record_fields<G: Grammar>(p: &mut Parser<'_>, g: &G) -> Result<(), NoMemory>
     requires behind { Behind G.valid G.left g.now (state p.old) }
     ensures grew { OnOk result (Grew (state p.old) (state p.new) 0) }
-    ensures script { OnOk result (Follows script.record_fields something (state p.old) (state p.new)) }
+    ensures script { OnOk result (Does (G.left g.now) script.record_fields something (state p.old) (state p.new)) }
 {
     'fields: while !p.at(T!['}']) && !p.at(SyntaxKind::EOF) {
         field_or_block(p, g)?;
@@ -348,7 +348,7 @@ fn field_or_block<G: Grammar>(p: &mut Parser<'_>, g: &G) -> Result<(), NoMemory>
     requires more { next (state p.old) ≢ EOF }
     requires inside { next (state p.old) ≢ R_CURLY }
     ensures took { OnOk result (Took (state p.old) (state p.new) element_room) }
-    ensures script { OnOk result (Follows script.field_or_block something (state p.old) (state p.new)) }
+    ensures script { OnOk result (Does (G.left g.now) script.field_or_block something (state p.old) (state p.new)) }
 {
     if p.at(T!['{']) {
         error_block(p, g, "expected field")?;
@@ -365,7 +365,7 @@ fn record_field<G: Grammar>(p: &mut Parser<'_>, g: &G) -> Result<(), NoMemory>
     requires more { next (state p.old) ≢ EOF }
     requires inside { next (state p.old) ≢ R_CURLY }
     ensures took { OnOk result (Took (state p.old) (state p.new) param_room) }
-    ensures script { OnOk result (Follows script.record_field something (state p.old) (state p.new)) }
+    ensures script { OnOk result (Does (G.left g.now) script.record_field something (state p.old) (state p.new)) }
 {
     let m = p.start()?;
     outer_attrs(p, g)?;
@@ -380,7 +380,7 @@ fn visible_field<G: Grammar>(p: &mut Parser<'_>, g: &G, m: Marker) -> Result<(),
     ensures gone { OnOk result (Gone (state p.old) (state p.new) 4) }
     ensures spent { OnOk result
         (next (state p.old) ≢ EOF → next (state p.old) ≢ R_CURLY → Spent (state p.old) (state p.new) type_room) }
-    ensures script { OnOk result (Follows script.visible_field something (state p.old) (state p.new)) }
+    ensures script { OnOk result (Does (G.left g.now) script.visible_field something (state p.old) (state p.new)) }
 {
     opt_visibility(p, g, false)?;
     restricted_field(p, g, m)?;
@@ -394,7 +394,7 @@ fn restricted_field<G: Grammar>(p: &mut Parser<'_>, g: &G, m: Marker) -> Result<
     ensures gone { OnOk result (Gone (state p.old) (state p.new) 4) }
     ensures spent { OnOk result
         (next (state p.old) ≢ EOF → next (state p.old) ≢ R_CURLY → Spent (state p.old) (state p.new) type_room) }
-    ensures script { OnOk result (Follows script.restricted_field something (state p.old) (state p.new)) }
+    ensures script { OnOk result (Does (G.left g.now) script.restricted_field something (state p.old) (state p.new)) }
 {
     opt_mut_restriction(p, g)?;
     opt_unsafe(p, g)?;
@@ -409,7 +409,7 @@ fn named_field<G: Grammar>(p: &mut Parser<'_>, g: &G, m: Marker) -> Result<(), N
     ensures gone { OnOk result (Gone (state p.old) (state p.new) 4) }
     ensures spent { OnOk result
         (next (state p.old) ≢ EOF → next (state p.old) ≢ R_CURLY → Spent (state p.old) (state p.new) type_room) }
-    ensures script { OnOk result (Follows script.named_field something (state p.old) (state p.new)) }
+    ensures script { OnOk result (Does (G.left g.now) script.named_field something (state p.old) (state p.new)) }
 {
     if p.at(T![ident]) {
         name(p)?;
@@ -430,7 +430,7 @@ fn opt_unsafe<G: Grammar>(p: &mut Parser<'_>, g: &G) -> Result<(), NoMemory>
     ensures grew { OnOk result (Grew (state p.old) (state p.new) 0) }
     ensures took { OnOk result (next (state p.old) ≡ UNSAFE_KW → Took (state p.old) (state p.new) list_room) }
     ensures stays { OnOk result (next (state p.old) ≢ UNSAFE_KW → state p.new ≡ state p.old) }
-    ensures script { OnOk result (Follows script.opt_unsafe something (state p.old) (state p.new)) }
+    ensures script { OnOk result (Does (G.left g.now) script.opt_unsafe something (state p.old) (state p.new)) }
 {
     if !p.eat(T![unsafe])? {
         return Ok(());
@@ -454,7 +454,7 @@ fn opt_mut_restriction<G: Grammar>(p: &mut Parser<'_>, g: &G) -> Result<(), NoMe
     ensures took { OnOk result
         (is_mut_restriction_start (state p.old).rest ≡ true → Took (state p.old) (state p.new) brackets_room) }
     ensures stays { OnOk result (is_mut_restriction_start (state p.old).rest ≡ false → state p.new ≡ state p.old) }
-    ensures script { OnOk result (Follows script.opt_mut_restriction something (state p.old) (state p.new)) }
+    ensures script { OnOk result (Does (G.left g.now) script.opt_mut_restriction something (state p.old) (state p.new)) }
 {
     if is_mut_restriction_start(p) {
         mut_restriction(p, g)?;
@@ -467,7 +467,7 @@ fn mut_restriction<G: Grammar>(p: &mut Parser<'_>, g: &G) -> Result<(), NoMemory
     requires within { Within G.valid G.left g.now (state p.old) }
     requires here { next (state p.old) ≡ MUT_KW }
     ensures took { OnOk result (Took (state p.old) (state p.new) brackets_room) }
-    ensures script { OnOk result (Follows script.mut_restriction something (state p.old) (state p.new)) }
+    ensures script { OnOk result (Does (G.left g.now) script.mut_restriction something (state p.old) (state p.new)) }
 {
     let m = p.start()?;
     p.bump(T![mut])?;
@@ -485,7 +485,7 @@ fn tuple_field_list<G: Grammar>(p: &mut Parser<'_>, g: &G) -> Result<(), NoMemor
     requires within { Within G.valid G.left g.now (state p.old) }
     requires here { next (state p.old) ≡ L_PAREN }
     ensures took { OnOk result (Took (state p.old) (state p.new) list_room) }
-    ensures script { OnOk result (Follows script.tuple_field_list something (state p.old) (state p.new)) }
+    ensures script { OnOk result (Does (G.left g.now) script.tuple_field_list something (state p.old) (state p.new)) }
 {
     let m = p.start()?;
     delimited(
@@ -534,7 +534,7 @@ fn restricted_tuple_field<G: Grammar>(
     ensures gone { OnOk result (Gone (state p.old) (state p.new) 2) }
     ensures spent { IfOk result (λ found. found ≡ true → Spent (state p.old) (state p.new) param_room) }
     ensures script { IfOk result
-        (λ found. Follows (script.restricted_tuple_field (of_bool has_vis)) (of_bool found) (state p.old)
+        (λ found. Does (G.left g.now) (script.restricted_tuple_field (of_bool has_vis)) (of_bool found) (state p.old)
         (state p.new)) }
 {
     opt_mut_restriction(p, g)?;
@@ -555,7 +555,7 @@ fn typed_field<G: Grammar>(
     ensures gone { OnOk result (Gone (state p.old) (state p.new) 2) }
     ensures spent { IfOk result (λ found. found ≡ true → Spent (state p.old) (state p.new) param_room) }
     ensures script { IfOk result
-        (λ found. Follows (script.typed_field (of_bool has_vis)) (of_bool found) (state p.old) (state p.new)) }
+        (λ found. Does (G.left g.now) (script.typed_field (of_bool has_vis)) (of_bool found) (state p.old) (state p.new)) }
 {
     if is_type_first(p.current()) {
         type_(p, g)?;

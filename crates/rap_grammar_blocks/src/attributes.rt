@@ -1,5 +1,5 @@
 //! Attributes.
-ghost use Rattle.std.specs.Prelude.{◌≡◌, ◌≢◌, ◌∷◌, OnOk, true, false, []};
+ghost use Rattle.std.specs.Prelude.{ℕ, ◌≡◌, ◌≢◌, ◌∷◌, OnOk, true, false, []};
 ghost use Rattle.rap_base.specs.TokenKind.{EOF, UNSAFE_KW, CFG_ATTR_KW, CFG_KW, TRUE_KW, FALSE_KW, L_PAREN, EQ};
 ghost use Rattle.rap_events.specs.State.{state, next, At};
 ghost use Rattle.rap_events.specs.Composite.{is_at};
@@ -7,7 +7,7 @@ ghost use Rattle.rap_grammar_scripts.specs.Attributes as script;
 ghost use Rattle.rap_grammar_scripts.specs.Attributes.{is_inner_attr_start, doc_comment, starts_attr, at_called_kw, is_value_start};
 ghost use Rattle.rap_grammar_scripts.specs.First.{is_outer_attr_first, is_cfg_predicate_first, one_of};
 ghost use Rattle.rap_grammar_frame.specs.Grew.{Within, Grew, Took, Behind};
-ghost use Rattle.rap_grammar_scripts.specs.Knot.{Follows};
+ghost use Rattle.rap_grammar_scripts.specs.Exec.{Does};
 ghost use Rattle.rap_grammar_frame.specs.Room.{list_room, name_room, element_room, recovery_events};
 ghost use Rattle.rap_grammar_frame.specs.Rules.{Parsed};
 ghost use Rattle.rap_grammar_scripts.specs.Script.{something};
@@ -35,7 +35,7 @@ pub fn inner_attrs<G: Grammar>(p: &mut Parser<'_>, g: &G) -> Result<(), NoMemory
     requires within { Within G.valid G.left g.now (state p.old) }
     ensures grew { OnOk result (Grew (state p.old) (state p.new) 0) }
     ensures stays { OnOk result (is_inner_attr_start (state p.old).rest ≡ false → state p.new ≡ state p.old) }
-    ensures script { OnOk result (Follows script.inner_attrs something (state p.old) (state p.new)) }
+    ensures script { OnOk result (Does (G.left g.now) script.inner_attrs something (state p.old) (state p.new)) }
 {
     'attrs: while is_inner_attr_start(p) {
         attr(p, g, true)?;
@@ -49,7 +49,7 @@ pub fn outer_attrs<G: Grammar>(p: &mut Parser<'_>, g: &G) -> Result<(), NoMemory
     ensures grew { OnOk result (Grew (state p.old) (state p.new) 0) }
     ensures took { OnOk result (is_outer_attr_first (next (state p.old)) ≡ true → Took (state p.old) (state p.new) list_room) }
     ensures stays { OnOk result (is_outer_attr_first (next (state p.old)) ≡ false → state p.new ≡ state p.old) }
-    ensures script { OnOk result (Follows script.outer_attrs something (state p.old) (state p.new)) }
+    ensures script { OnOk result (Does (G.left g.now) script.outer_attrs something (state p.old) (state p.new)) }
 {
     'attrs: while is_outer_attr_first(p.current()) {
         attr(p, g, false)?;
@@ -73,7 +73,7 @@ fn attr<G: Grammar>(p: &mut Parser<'_>, g: &G, inner: bool) -> Result<(), NoMemo
     requires within { Within G.valid G.left g.now (state p.old) }
     requires first { starts_attr inner (state p.old).rest ≡ true }
     ensures took { OnOk result (Took (state p.old) (state p.new) list_room) }
-    ensures script { OnOk result (Follows (script.attr inner) something (state p.old) (state p.new)) }
+    ensures script { OnOk result (Does (G.left g.now) (script.attr inner) something (state p.old) (state p.new)) }
 {
     if p.at(doc_comment(inner)) {
         let m = p.start()?;
@@ -93,7 +93,7 @@ fn attr_mark(p: &mut Parser<'_>, inner: bool) -> Result<(), NoMemory>
     requires first { starts_attr inner (state p.old).rest ≡ true }
     requires no_comment { is_at (doc_comment inner) (state p.old).rest ≡ false }
     ensures took { OnOk result (Took (state p.old) (state p.new) name_room) }
-    ensures script { OnOk result (Follows (script.attr_mark inner) something (state p.old) (state p.new)) }
+    ensures script { OnOk result ((depth : ℕ) → Does depth (script.attr_mark inner) something (state p.old) (state p.new)) }
 {
     p.bump(T![#])?;
     if inner {
@@ -107,7 +107,7 @@ fn attr_mark(p: &mut Parser<'_>, inner: bool) -> Result<(), NoMemory>
 fn attr_brackets<G: Grammar>(p: &mut Parser<'_>, g: &G) -> Result<(), NoMemory>
     requires within { Within G.valid G.left g.now (state p.old) }
     ensures grew { OnOk result (Grew (state p.old) (state p.new) 1) }
-    ensures script { OnOk result (Follows script.attr_brackets something (state p.old) (state p.new)) }
+    ensures script { OnOk result (Does (G.left g.now) script.attr_brackets something (state p.old) (state p.new)) }
 {
     if !p.expect(T!['['])? {
         return Ok(());
@@ -129,7 +129,7 @@ fn at_called_kw(p: &Parser<'_>, kw: SyntaxKind) -> bool
 pub fn meta<G: Grammar>(p: &mut Parser<'_>, g: &G) -> Result<(), NoMemory>
     requires within { Within G.valid G.left g.now (state p.old) }
     ensures grew { OnOk result (Grew (state p.old) (state p.new) 16) }
-    ensures script { OnOk result (Follows script.meta something (state p.old) (state p.new)) }
+    ensures script { OnOk result (Does (G.left g.now) script.meta something (state p.old) (state p.new)) }
 {
     if p.at(T![unsafe]) {
         unsafe_meta(p, g)?;
@@ -152,7 +152,7 @@ fn unsafe_meta<G: Grammar>(p: &mut Parser<'_>, g: &G) -> Result<(), NoMemory>
     requires within { Within G.valid G.left g.now (state p.old) }
     requires here { At (state p.old) UNSAFE_KW }
     ensures took { OnOk result (Took (state p.old) (state p.new) element_room) }
-    ensures script { OnOk result (Follows script.unsafe_meta something (state p.old) (state p.new)) }
+    ensures script { OnOk result (Does (G.left g.now) script.unsafe_meta something (state p.old) (state p.new)) }
 {
     let m = p.start()?;
     p.bump(T![unsafe])?;
@@ -168,7 +168,7 @@ fn cfg_attr_meta<G: Grammar>(p: &mut Parser<'_>, g: &G) -> Result<(), NoMemory>
     requires within { Within G.valid G.left g.now (state p.old) }
     requires here { at_called_kw CFG_ATTR_KW (state p.old).rest ≡ true }
     ensures took { OnOk result (Took (state p.old) (state p.new) element_room) }
-    ensures script { OnOk result (Follows script.cfg_attr_meta something (state p.old) (state p.new)) }
+    ensures script { OnOk result (Does (G.left g.now) script.cfg_attr_meta something (state p.old) (state p.new)) }
 {
     let m = p.start()?;
     p.bump_remap(T![cfg_attr])?;
@@ -185,7 +185,7 @@ fn cfg_attr_meta<G: Grammar>(p: &mut Parser<'_>, g: &G) -> Result<(), NoMemory>
 fn cfg_attr_metas<G: Grammar>(p: &mut Parser<'_>, g: &G) -> Result<(), NoMemory>
     requires behind { Behind G.valid G.left g.now (state p.old) }
     ensures grew { OnOk result (Grew (state p.old) (state p.new) 16) }
-    ensures script { OnOk result (Follows script.cfg_attr_metas something (state p.old) (state p.new)) }
+    ensures script { OnOk result (Does (G.left g.now) script.cfg_attr_metas something (state p.old) (state p.new)) }
 {
     'metas: while !p.at(T![')']) && !p.at(SyntaxKind::EOF) {
         g.run(p, Rule::Meta)?;
@@ -201,7 +201,7 @@ fn cfg_meta<G: Grammar>(p: &mut Parser<'_>, g: &G) -> Result<(), NoMemory>
     requires within { Within G.valid G.left g.now (state p.old) }
     requires here { at_called_kw CFG_KW (state p.old).rest ≡ true }
     ensures took { OnOk result (Took (state p.old) (state p.new) element_room) }
-    ensures script { OnOk result (Follows script.cfg_meta something (state p.old) (state p.new)) }
+    ensures script { OnOk result (Does (G.left g.now) script.cfg_meta something (state p.old) (state p.new)) }
 {
     let m = p.start()?;
     p.bump_remap(T![cfg])?;
@@ -255,7 +255,7 @@ impl Element for CfgOperand {
 pub fn cfg_predicate<G: Grammar>(p: &mut Parser<'_>, g: &G) -> Result<(), NoMemory>
     requires within { Within G.valid G.left g.now (state p.old) }
     ensures parsed { OnOk result (Parsed is_cfg_predicate_first 8 element_room (state p.old) (state p.new)) }
-    ensures script { OnOk result (Follows script.cfg_predicate something (state p.old) (state p.new)) }
+    ensures script { OnOk result (Does (G.left g.now) script.cfg_predicate something (state p.old) (state p.new)) }
 {
     let m = p.start()?;
     if is_bool(p.current()) {
@@ -281,7 +281,7 @@ pub fn cfg_predicate<G: Grammar>(p: &mut Parser<'_>, g: &G) -> Result<(), NoMemo
 /// What a condition's name is compared with, as `"b"` in `a = "b"`.
 fn cfg_value(p: &mut Parser<'_>) -> Result<(), NoMemory>
     ensures grew { OnOk result (Grew (state p.old) (state p.new) recovery_events) }
-    ensures script { OnOk result (Follows script.cfg_value something (state p.old) (state p.new)) }
+    ensures script { OnOk result ((depth : ℕ) → Does depth script.cfg_value something (state p.old) (state p.new)) }
 {
     if p.at(T![ident]) {
         p.err_and_bump("expected a string literal")?;
@@ -296,7 +296,7 @@ fn cfg_operands<G: Grammar>(p: &mut Parser<'_>, g: &G) -> Result<(), NoMemory>
     requires within { Within G.valid G.left g.now (state p.old) }
     requires here { At (state p.old) L_PAREN }
     ensures took { OnOk result (Took (state p.old) (state p.new) list_room) }
-    ensures script { OnOk result (Follows script.cfg_operands something (state p.old) (state p.new)) }
+    ensures script { OnOk result (Does (G.left g.now) script.cfg_operands something (state p.old) (state p.new)) }
 {
     delimited(
         p,
@@ -321,7 +321,7 @@ fn is_value_start(p: &Parser<'_>) -> bool
 fn path_meta<G: Grammar>(p: &mut Parser<'_>, g: &G) -> Result<(), NoMemory>
     requires within { Within G.valid G.left g.now (state p.old) }
     ensures grew { OnOk result (Grew (state p.old) (state p.new) 16) }
-    ensures script { OnOk result (Follows script.path_meta something (state p.old) (state p.new)) }
+    ensures script { OnOk result (Does (G.left g.now) script.path_meta something (state p.old) (state p.new)) }
 {
     let m = p.start()?;
     attr_path(p, g)?;
@@ -344,7 +344,7 @@ fn attr_value<G: Grammar>(p: &mut Parser<'_>, g: &G) -> Result<(), NoMemory>
     requires within { Within G.valid G.left g.now (state p.old) }
     requires here { At (state p.old) EQ }
     ensures took { OnOk result (Took (state p.old) (state p.new) element_room) }
-    ensures script { OnOk result (Follows script.attr_value something (state p.old) (state p.new)) }
+    ensures script { OnOk result (Does (G.left g.now) script.attr_value something (state p.old) (state p.new)) }
 {
     p.bump(T![=])?;
     if expr(p, g)?.is_none() {

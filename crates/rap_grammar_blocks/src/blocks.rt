@@ -1,6 +1,6 @@
 //! Blocks, and the `let` statements in them.
 //! In the Rust crate: `grammar/expressions/atom.rs`, `grammar/expressions.rs` and `grammar.rs`.
-ghost use Rattle.std.specs.Prelude.{◌≡◌, ◌≢◌, ◌<◌, ◌≤◌, OnOk, IfOk, true, ◌⊎◌};
+ghost use Rattle.std.specs.Prelude.{ℕ, ◌≡◌, ◌≢◌, ◌<◌, ◌≤◌, OnOk, IfOk, true, ◌⊎◌};
 ghost use Rattle.rap_base.specs.NodeKind.{BLOCK_EXPR};
 ghost use Rattle.rap_base.specs.TokenKind.{L_CURLY, ELSE_KW, LET_KW};
 ghost use Rattle.rap_events.specs.Forest.{node};
@@ -8,7 +8,7 @@ ghost use Rattle.rap_events.specs.State.{state, last_children, next};
 ghost use Rattle.rap_grammar_scripts.specs.Blocks as script;
 ghost use Rattle.rap_grammar_scripts.specs.Blocks.{starts_let};
 ghost use Rattle.rap_grammar_frame.specs.Grew.{Within, Behind, Took, Grew};
-ghost use Rattle.rap_grammar_scripts.specs.Knot.{Follows};
+ghost use Rattle.rap_grammar_scripts.specs.Exec.{Does};
 ghost use Rattle.rap_grammar_frame.specs.Room.{brackets_room, list_room, recovery_events};
 ghost use Rattle.rap_grammar_scripts.specs.Script.{something};
 ghost use Rattle.rap_grammar_scripts.specs.Words.{of_option};
@@ -30,7 +30,7 @@ pub fn block_expr<G: Grammar>(p: &mut Parser<'_>, g: &G) -> Result<(), NoMemory>
     ensures one { OnOk result
         (next (state p.old) ≡ L_CURLY →
         (state p.new).forest ≡ node (state p.old).forest BLOCK_EXPR (last_children (state p.new).forest)) }
-    ensures script { OnOk result (Follows script.block_expr something (state p.old) (state p.new)) }
+    ensures script { OnOk result (Does (G.left g.now) script.block_expr something (state p.old) (state p.new)) }
 {
     if !p.at(T!['{']) {
         p.error("expected a block")?;
@@ -47,7 +47,7 @@ pub fn stmt_list<G: Grammar>(p: &mut Parser<'_>, g: &G) -> Result<(), NoMemory>
     requires within { Within G.valid G.left g.now (state p.old) }
     requires here { next (state p.old) ≡ L_CURLY }
     ensures took { OnOk result (Took (state p.old) (state p.new) brackets_room) }
-    ensures script { OnOk result (Follows script.stmt_list something (state p.old) (state p.new)) }
+    ensures script { OnOk result (Does (G.left g.now) script.stmt_list something (state p.old) (state p.new)) }
 {
     let m = p.start()?;
     p.bump(T!['{'])?;
@@ -61,7 +61,7 @@ pub fn stmt_list<G: Grammar>(p: &mut Parser<'_>, g: &G) -> Result<(), NoMemory>
 pub fn expr_block_contents<G: Grammar>(p: &mut Parser<'_>, g: &G) -> Result<(), NoMemory>
     requires behind { Behind G.valid G.left g.now (state p.old) }
     ensures grew { OnOk result (Grew (state p.old) (state p.new) 8) }
-    ensures script { OnOk result (Follows script.expr_block_contents something (state p.old) (state p.new)) }
+    ensures script { OnOk result (Does (G.left g.now) script.expr_block_contents something (state p.old) (state p.new)) }
 {
     inner_attrs(p, g)?;
     statements(p, g)?;
@@ -72,7 +72,7 @@ pub fn expr_block_contents<G: Grammar>(p: &mut Parser<'_>, g: &G) -> Result<(), 
 fn statements<G: Grammar>(p: &mut Parser<'_>, g: &G) -> Result<(), NoMemory>
     requires behind { Behind G.valid G.left g.now (state p.old) }
     ensures grew { OnOk result (Grew (state p.old) (state p.new) 0) }
-    ensures script { OnOk result (Follows script.statements something (state p.old) (state p.new)) }
+    ensures script { OnOk result (Does (G.left g.now) script.statements something (state p.old) (state p.new)) }
 {
     'statements: while !p.at(SyntaxKind::EOF) && !p.at(T!['}']) {
         let semicolon = Semicolon::Required;
@@ -86,7 +86,7 @@ pub fn error_block<G: Grammar>(p: &mut Parser<'_>, g: &G, message: &str) -> Resu
     requires within { Within G.valid G.left g.now (state p.old) }
     requires here { next (state p.old) ≡ L_CURLY }
     ensures took { OnOk result (Took (state p.old) (state p.new) list_room) }
-    ensures script { OnOk result (Follows (script.error_block message.now) something (state p.old) (state p.new)) }
+    ensures script { OnOk result (Does (G.left g.now) (script.error_block message.now) something (state p.old) (state p.new)) }
 {
     let m = p.start()?;
     p.error(message)?;
@@ -109,7 +109,7 @@ pub fn let_stmt<G: Grammar>(p: &mut Parser<'_>, g: &G, with_semi: Semicolon) -> 
     requires within { Within G.valid G.left g.now (state p.old) }
     requires here { starts_let (state p.old).rest ≡ true }
     ensures took { OnOk result (Took (state p.old) (state p.new) brackets_room) }
-    ensures script { OnOk result (Follows (script.let_stmt with_semi) something (state p.old) (state p.new)) }
+    ensures script { OnOk result (Does (G.left g.now) (script.let_stmt with_semi) something (state p.old) (state p.new)) }
 {
     p.eat(T![super])?;
     p.bump(T![let])?;
@@ -125,7 +125,7 @@ pub fn let_stmt<G: Grammar>(p: &mut Parser<'_>, g: &G, with_semi: Semicolon) -> 
 fn let_type<G: Grammar>(p: &mut Parser<'_>, g: &G) -> Result<(), NoMemory>
     requires within { Within G.valid G.left g.now (state p.old) }
     ensures grew { OnOk result (Grew (state p.old) (state p.new) 0) }
-    ensures script { OnOk result (Follows script.let_type something (state p.old) (state p.new)) }
+    ensures script { OnOk result (Does (G.left g.now) script.let_type something (state p.old) (state p.new)) }
 {
     if !p.at(T![:]) {
         return Ok(());
@@ -138,7 +138,7 @@ fn let_type<G: Grammar>(p: &mut Parser<'_>, g: &G) -> Result<(), NoMemory>
 fn let_value<G: Grammar>(p: &mut Parser<'_>, g: &G) -> Result<Option<CompletedMarker>, NoMemory>
     requires within { Within G.valid G.left g.now (state p.old) }
     ensures grew { OnOk result (Grew (state p.old) (state p.new) 0) }
-    ensures script { IfOk result (λ value. Follows script.let_value (of_option value) (state p.old) (state p.new)) }
+    ensures script { IfOk result (λ value. Does (G.left g.now) script.let_value (of_option value) (state p.old) (state p.new)) }
 {
     if !p.eat(T![=])? {
         return Ok(None);
@@ -155,7 +155,7 @@ fn let_else<G: Grammar>(
 ) -> Result<(), NoMemory>
     requires within { Within G.valid G.left g.now (state p.old) }
     ensures grew { OnOk result (Grew (state p.old) (state p.new) 0) }
-    ensures script { OnOk result (Follows (script.let_else (of_option value)) something (state p.old) (state p.new)) }
+    ensures script { OnOk result (Does (G.left g.now) (script.let_else (of_option value)) something (state p.old) (state p.new)) }
 {
     if !p.at(T![else]) {
         return Ok(());
@@ -169,7 +169,7 @@ fn let_else<G: Grammar>(
 fn value_before_else(p: &mut Parser<'_>, value: Option<CompletedMarker>) -> Result<(), NoMemory>
     ensures grew { OnOk result (Grew (state p.old) (state p.new) 1) }
     ensures rest { OnOk result ((state p.new).rest ≡ (state p.old).rest) }
-    ensures script { OnOk result (Follows (script.value_before_else (of_option value)) something (state p.old) (state p.new)) }
+    ensures script { OnOk result ((depth : ℕ) → Does depth (script.value_before_else (of_option value)) something (state p.old) (state p.new)) }
 {
     let Some(_) = value else {
         return Ok(());
@@ -186,7 +186,7 @@ fn else_block<G: Grammar>(p: &mut Parser<'_>, g: &G) -> Result<(), NoMemory>
     requires within { Within G.valid G.left g.now (state p.old) }
     requires here { next (state p.old) ≡ ELSE_KW }
     ensures took { OnOk result (Took (state p.old) (state p.new) list_room) }
-    ensures script { OnOk result (Follows script.else_block something (state p.old) (state p.new)) }
+    ensures script { OnOk result (Does (G.left g.now) script.else_block something (state p.old) (state p.new)) }
 {
     let m = p.start()?;
     p.bump(T![else])?;
@@ -198,7 +198,7 @@ fn else_block<G: Grammar>(p: &mut Parser<'_>, g: &G) -> Result<(), NoMemory>
 /// The semicolon of a `let` statement, which may or must be there, or is left to others.
 fn let_end(p: &mut Parser<'_>, with_semi: Semicolon) -> Result<(), NoMemory>
     ensures grew { OnOk result (Grew (state p.old) (state p.new) 1) }
-    ensures script { OnOk result (Follows (script.let_end with_semi) something (state p.old) (state p.new)) }
+    ensures script { OnOk result ((depth : ℕ) → Does depth (script.let_end with_semi) something (state p.old) (state p.new)) }
 {
     match with_semi {
         Semicolon::Required => {
@@ -218,7 +218,7 @@ pub fn error_let_stmt<G: Grammar>(p: &mut Parser<'_>, g: &G, message: &str) -> R
     requires within { Within G.valid G.left g.now (state p.old) }
     requires here { next (state p.old) ≡ LET_KW }
     ensures took { OnOk result (Took (state p.old) (state p.new) list_room) }
-    ensures script { OnOk result (Follows (script.error_let_stmt message.now) something (state p.old) (state p.new)) }
+    ensures script { OnOk result (Does (G.left g.now) (script.error_let_stmt message.now) something (state p.old) (state p.new)) }
 {
     let m = p.start()?;
     p.error(message)?;

@@ -1,6 +1,6 @@
 //! Inline assembly.
 //! In the Rust crate: `grammar/expressions/atom.rs`.
-ghost use Rattle.std.specs.Prelude.{◌≡◌, ◌≢◌, ◌<◌, ◌≤◌, IfOk, OnOk, IfSome, IsTrue, Some, None, true, false};
+ghost use Rattle.std.specs.Prelude.{ℕ, ◌≡◌, ◌≢◌, ◌<◌, ◌≤◌, IfOk, OnOk, IfSome, IsTrue, Some, None, true, false};
 ghost use Rattle.rap_base.specs.Keyword.{is_any_identifier};
 ghost use Rattle.rap_base.specs.TokenKind.{EQ};
 ghost use Rattle.rap_base.specs.NodeKind.{ASM_EXPR};
@@ -8,7 +8,7 @@ ghost use Rattle.rap_events.specs.State.{state, next, NthAt};
 ghost use Rattle.rap_grammar_scripts.specs.Asm as script;
 ghost use Rattle.rap_grammar_scripts.specs.Called as called;
 ghost use Rattle.rap_grammar_frame.specs.Grew.{Behind, Closes, Grew, Took, Gone, Ended};
-ghost use Rattle.rap_grammar_scripts.specs.Knot.{Follows};
+ghost use Rattle.rap_grammar_scripts.specs.Exec.{Does};
 ghost use Rattle.rap_grammar_frame.specs.Room.{asm_room, asm_end_room, operand_room, expression_room, name_room, recovery_events};
 ghost use Rattle.rap_grammar_frame.specs.Rules.{Missed};
 ghost use Rattle.rap_grammar_scripts.specs.Script.{something};
@@ -35,7 +35,7 @@ pub fn parse_asm_expr<G: Grammar>(
     requires behind { Behind G.valid G.left g.now (state p.old) }
     requires newest { (state p.old).marker ≡ Some m.pos.value }
     ensures closes { IfOk result (Closes ASM_EXPR 16 (state p.old) (state p.new)) }
-    ensures script { OnOk result (Follows script.parse_asm_expr something (state p.old) (state p.new)) }
+    ensures script { OnOk result (Does (G.left g.now) script.parse_asm_expr something (state p.old) (state p.new)) }
 {
     p.expect(T!['('])?;
     asm_template(p, g)?;
@@ -49,7 +49,7 @@ pub fn parse_asm_expr<G: Grammar>(
 fn asm_pieces<G: Grammar>(p: &mut Parser<'_>, g: &G) -> Result<(), NoMemory>
     requires behind { Behind G.valid G.left g.now (state p.old) }
     ensures grew { OnOk result (Grew (state p.old) (state p.new) 1) }
-    ensures script { OnOk result (Follows script.asm_pieces something (state p.old) (state p.new)) }
+    ensures script { OnOk result (Does (G.left g.now) script.asm_pieces something (state p.old) (state p.new)) }
 {
     let mut allow_templates = true;
     'pieces: while !p.at(SyntaxKind::EOF) && !p.at(T![')']) {
@@ -76,7 +76,7 @@ fn asm_piece<G: Grammar>(
     ensures grew { OnOk result (Grew (state p.old) (state p.new) 20) }
     ensures took { OnOk result (0 < (state p.old).left → Took (state p.old) (state p.new) 64) }
     ensures script { IfOk result
-        (λ o. Follows (script.asm_piece allow_templates) (script.of_allow o) (state p.old) (state p.new)) }
+        (λ o. Does (G.left g.now) (script.asm_piece allow_templates) (script.of_allow o) (state p.old) (state p.new)) }
 {
     let op_n = p.start()?;
     outer_attrs(p, g)?;
@@ -107,7 +107,7 @@ fn named_operand<G: Grammar>(
     ensures gone { OnOk result (Gone (state p.old) (state p.new) 19) }
     ensures ended { OnOk result (0 < (state p.old).left → Ended (state p.old) (state p.new) asm_room) }
     ensures script { IfOk result
-        (λ o. Follows (script.named_operand allow_templates) (script.of_allow o) (state p.old) (state p.new)) }
+        (λ o. Does (G.left g.now) (script.named_operand allow_templates) (script.of_allow o) (state p.old) (state p.new)) }
 {
     let is_named = operand_name(p)?;
     if asm_operand(p, g)? {
@@ -136,7 +136,7 @@ fn no_operand<G: Grammar>(
     ensures grew { OnOk result (Grew (state p.old) (state p.new) 11) }
     ensures took { OnOk result (0 < (state p.old).left → Took (state p.old) (state p.new) asm_end_room) }
     ensures script { IfOk result
-        (λ o. Follows (script.no_operand allow_templates) (script.of_allow o) (state p.old) (state p.new)) }
+        (λ o. Does (G.left g.now) (script.no_operand allow_templates) (script.of_allow o) (state p.old) (state p.new)) }
 {
     if allow_templates {
         asm_template(p, g)?;
@@ -154,7 +154,7 @@ fn missing_operand<G: Grammar>(p: &mut Parser<'_>, g: &G) -> Result<(), NoMemory
     requires behind { Behind G.valid G.left g.now (state p.old) }
     ensures grew { OnOk result (Grew (state p.old) (state p.new) 11) }
     ensures took { OnOk result (0 < (state p.old).left → Took (state p.old) (state p.new) asm_end_room) }
-    ensures script { OnOk result (Follows script.missing_operand something (state p.old) (state p.new)) }
+    ensures script { OnOk result (Does (G.left g.now) script.missing_operand something (state p.old) (state p.new)) }
 {
     if p.at(T!['{']) {
         p.error("expected asm operand")?;
@@ -170,7 +170,7 @@ fn asm_template<G: Grammar>(p: &mut Parser<'_>, g: &G) -> Result<(), NoMemory>
     requires behind { Behind G.valid G.left g.now (state p.old) }
     ensures grew { OnOk result (Grew (state p.old) (state p.new) 11) }
     ensures took { OnOk result (0 < (state p.old).left → Took (state p.old) (state p.new) asm_end_room) }
-    ensures script { OnOk result (Follows script.asm_template something (state p.old) (state p.new)) }
+    ensures script { OnOk result (Does (G.left g.now) script.asm_template something (state p.old) (state p.new)) }
 {
     if some_expr(p, g)? {
         return Ok(());
@@ -185,7 +185,7 @@ fn some_expr<G: Grammar>(p: &mut Parser<'_>, g: &G) -> Result<bool, NoMemory>
     ensures grew { OnOk result (Grew (state p.old) (state p.new) 8) }
     ensures took { IfOk result (λ found. found ≡ true → Took (state p.old) (state p.new) expression_room) }
     ensures missed { IfOk result (λ found. found ≡ false → Missed (state p.old) (state p.new)) }
-    ensures script { IfOk result (λ found. Follows called.expr (of_bool found) (state p.old) (state p.new)) }
+    ensures script { IfOk result (λ found. Does (G.left g.now) called.expr (of_bool found) (state p.old) (state p.new)) }
 {
     let r = Restrictions {
         forbid_structs: false,
@@ -202,7 +202,7 @@ fn operand_name(p: &mut Parser<'_>) -> Result<bool, NoMemory>
     ensures grew { OnOk result (Grew (state p.old) (state p.new) 0) }
     ensures took { IfOk result (λ found. found ≡ true → Took (state p.old) (state p.new) name_room) }
     ensures stays { IfOk result (λ found. found ≡ false → state p.new ≡ state p.old) }
-    ensures script { IfOk result (λ found. Follows script.operand_name (of_bool found) (state p.old) (state p.new)) }
+    ensures script { IfOk result (λ found. (depth : ℕ) → Does depth script.operand_name (of_bool found) (state p.old) (state p.new)) }
 {
     if !starts_operand_name(p) {
         return Ok(false);
@@ -227,7 +227,7 @@ fn asm_operand<G: Grammar>(p: &mut Parser<'_>, g: &G) -> Result<bool, NoMemory>
     ensures took { IfOk result (λ found. found ≡ true → Took (state p.old) (state p.new) operand_room) }
     ensures grew { IfOk result (λ found. found ≡ false → Grew (state p.old) (state p.new) 4) }
     ensures stays { IfOk result (λ found. found ≡ false → (state p.new).left ≡ (state p.old).left) }
-    ensures script { IfOk result (λ found. Follows script.asm_operand (of_bool found) (state p.old) (state p.new)) }
+    ensures script { IfOk result (λ found. Does (G.left g.now) script.asm_operand (of_bool found) (state p.old) (state p.new)) }
 {
     let op = p.start()?;
     if let Some(goes_both_ways) = dir_spec(p)? {
@@ -260,7 +260,7 @@ fn dir_spec(p: &mut Parser<'_>) -> Result<Option<bool>, NoMemory>
     ensures took { IfOk result (λ o. IfSome o (λ both. Took (state p.old) (state p.new) name_room)) }
     ensures grew { IfOk result (λ o. o ≡ None → Grew (state p.old) (state p.new) 2) }
     ensures stays { IfOk result (λ o. o ≡ None → (state p.new).left ≡ (state p.old).left) }
-    ensures script { IfOk result (λ o. Follows script.dir_spec (script.of_way o) (state p.old) (state p.new)) }
+    ensures script { IfOk result (λ o. (depth : ℕ) → Does depth script.dir_spec (script.of_way o) (state p.old) (state p.new)) }
 {
     let m = p.start()?;
     if p.eat(T![in])? {
@@ -292,7 +292,7 @@ fn dir_spec(p: &mut Parser<'_>) -> Result<Option<bool>, NoMemory>
 fn reg_operand<G: Grammar>(p: &mut Parser<'_>, g: &G, goes_both_ways: bool) -> Result<(), NoMemory>
     requires behind { Behind G.valid G.left g.now (state p.old) }
     ensures grew { OnOk result (Grew (state p.old) (state p.new) 15) }
-    ensures script { OnOk result (Follows (script.reg_operand goes_both_ways) something (state p.old) (state p.new)) }
+    ensures script { OnOk result (Does (G.left g.now) (script.reg_operand goes_both_ways) something (state p.old) (state p.new)) }
 {
     parse_reg(p)?;
     let op_expr = p.start()?;
@@ -314,7 +314,7 @@ fn reg_operand<G: Grammar>(p: &mut Parser<'_>, g: &G, goes_both_ways: bool) -> R
 fn asm_sym<G: Grammar>(p: &mut Parser<'_>, g: &G) -> Result<(), NoMemory>
     requires behind { Behind G.valid G.left g.now (state p.old) }
     ensures grew { OnOk result (Grew (state p.old) (state p.new) 8) }
-    ensures script { OnOk result (Follows script.asm_sym something (state p.old) (state p.new)) }
+    ensures script { OnOk result (Does (G.left g.now) script.asm_sym something (state p.old) (state p.new)) }
 {
     if p.at(T!['(']) {
         p.bump(T!['('])?;
@@ -329,7 +329,7 @@ fn asm_sym<G: Grammar>(p: &mut Parser<'_>, g: &G) -> Result<(), NoMemory>
 /// The register of an operand, as `(reg)` and `("eax")`.
 fn parse_reg(p: &mut Parser<'_>) -> Result<(), NoMemory>
     ensures grew { OnOk result (Grew (state p.old) (state p.new) 5) }
-    ensures script { OnOk result (Follows script.parse_reg something (state p.old) (state p.new)) }
+    ensures script { OnOk result ((depth : ℕ) → Does depth script.parse_reg something (state p.old) (state p.new)) }
 {
     p.expect(T!['('])?;
     reg_spec(p)?;
@@ -340,7 +340,7 @@ fn parse_reg(p: &mut Parser<'_>) -> Result<(), NoMemory>
 /// The name of a register or of a class of registers.
 fn reg_spec(p: &mut Parser<'_>) -> Result<(), NoMemory>
     ensures grew { OnOk result (Grew (state p.old) (state p.new) recovery_events) }
-    ensures script { OnOk result (Follows script.reg_spec something (state p.old) (state p.new)) }
+    ensures script { OnOk result ((depth : ℕ) → Does depth script.reg_spec something (state p.old) (state p.new)) }
 {
     if is_path_name(p.current()) {
         let m = p.start()?;
@@ -361,7 +361,7 @@ fn reg_spec(p: &mut Parser<'_>) -> Result<(), NoMemory>
 /// The clobbered ABIs, as `("C", "system")`.
 fn parse_clobber_abi(p: &mut Parser<'_>) -> Result<(), NoMemory>
     ensures grew { OnOk result (Grew (state p.old) (state p.new) 2) }
-    ensures script { OnOk result (Follows script.parse_clobber_abi something (state p.old) (state p.new)) }
+    ensures script { OnOk result ((depth : ℕ) → Does depth script.parse_clobber_abi something (state p.old) (state p.new)) }
 {
     p.expect(T!['('])?;
     clobber_abis(p)?;
@@ -371,7 +371,7 @@ fn parse_clobber_abi(p: &mut Parser<'_>) -> Result<(), NoMemory>
 /// The names of ABIs, and the bracket that closes.
 fn clobber_abis(p: &mut Parser<'_>) -> Result<(), NoMemory>
     ensures grew { OnOk result (Grew (state p.old) (state p.new) 1) }
-    ensures script { OnOk result (Follows script.clobber_abis something (state p.old) (state p.new)) }
+    ensures script { OnOk result ((depth : ℕ) → Does depth script.clobber_abis something (state p.old) (state p.new)) }
 {
     'abis: while !p.at(SyntaxKind::EOF) {
         if p.eat(T![')'])? {
@@ -392,7 +392,7 @@ fn clobber_abis(p: &mut Parser<'_>) -> Result<(), NoMemory>
 /// The options of the assembly, as `(nomem, nostack)`.
 fn parse_options(p: &mut Parser<'_>) -> Result<(), NoMemory>
     ensures grew { OnOk result (Grew (state p.old) (state p.new) 1) }
-    ensures script { OnOk result (Follows script.parse_options something (state p.old) (state p.new)) }
+    ensures script { OnOk result ((depth : ℕ) → Does depth script.parse_options something (state p.old) (state p.new)) }
 {
     p.expect(T!['('])?;
     asm_options(p)?;
@@ -402,7 +402,7 @@ fn parse_options(p: &mut Parser<'_>) -> Result<(), NoMemory>
 /// Options, and the bracket that closes. Anything else is skipped.
 fn asm_options(p: &mut Parser<'_>) -> Result<(), NoMemory>
     ensures grew { OnOk result (Grew (state p.old) (state p.new) 0) }
-    ensures script { OnOk result (Follows script.asm_options something (state p.old) (state p.new)) }
+    ensures script { OnOk result ((depth : ℕ) → Does depth script.asm_options something (state p.old) (state p.new)) }
 {
     'options: while !p.at(SyntaxKind::EOF) {
         if p.eat(T![')'])? {
@@ -428,7 +428,7 @@ fn asm_options(p: &mut Parser<'_>) -> Result<(), NoMemory>
 fn option_name(p: &mut Parser<'_>) -> Result<bool, NoMemory>
     ensures took { IfOk result (λ found. found ≡ true → Took (state p.old) (state p.new) name_room) }
     ensures stays { IfOk result (λ found. found ≡ false → state p.new ≡ state p.old) }
-    ensures script { IfOk result (λ found. Follows script.option_name (of_bool found) (state p.old) (state p.new)) }
+    ensures script { IfOk result (λ found. (depth : ℕ) → Does depth script.option_name (of_bool found) (state p.old) (state p.new)) }
 {
     if p.eat_contextual_kw(T![pure])? {
         return Ok(true);
@@ -450,7 +450,7 @@ fn option_name(p: &mut Parser<'_>) -> Result<bool, NoMemory>
 fn flow_option(p: &mut Parser<'_>) -> Result<bool, NoMemory>
     ensures took { IfOk result (λ found. found ≡ true → Took (state p.old) (state p.new) name_room) }
     ensures stays { IfOk result (λ found. found ≡ false → state p.new ≡ state p.old) }
-    ensures script { IfOk result (λ found. Follows script.flow_option (of_bool found) (state p.old) (state p.new)) }
+    ensures script { IfOk result (λ found. (depth : ℕ) → Does depth script.flow_option (of_bool found) (state p.old) (state p.new)) }
 {
     if p.eat_contextual_kw(T![noreturn])? {
         return Ok(true);

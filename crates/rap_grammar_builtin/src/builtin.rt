@@ -1,6 +1,6 @@
 //! The forms after `builtin#`.
 //! In the Rust crate: `grammar/expressions/atom.rs`.
-ghost use Rattle.std.specs.Prelude.{◌≡◌, ◌≢◌, ◌<◌, ◌≤◌, IfOk, OnOk, IfSome, IsTrue, Some, None, true, false, ◌⊎◌};
+ghost use Rattle.std.specs.Prelude.{ℕ, ◌≡◌, ◌≢◌, ◌<◌, ◌≤◌, IfOk, OnOk, IfSome, IsTrue, Some, None, true, false, ◌⊎◌};
 ghost use Rattle.rap_base.specs.Keyword.{is_any_identifier};
 ghost use Rattle.rap_base.specs.TokenKind.{EQ};
 ghost use Rattle.rap_events.specs.Fit.{is_plain};
@@ -8,7 +8,7 @@ ghost use Rattle.rap_events.specs.State.{state, next, NthAt};
 ghost use Rattle.rap_grammar_scripts.specs.Builtins as script;
 ghost use Rattle.rap_grammar_scripts.specs.Expressions.{of_expr};
 ghost use Rattle.rap_grammar_frame.specs.Grew.{Within, Behind, Took, Grew, Gone, Closes};
-ghost use Rattle.rap_grammar_scripts.specs.Knot.{Follows};
+ghost use Rattle.rap_grammar_scripts.specs.Exec.{Does};
 ghost use Rattle.rap_grammar_frame.specs.Room.{atom_room, name_room};
 ghost use Rattle.rap_grammar_frame.specs.Rules.{Operand};
 ghost use Rattle.rap_grammar_scripts.specs.Script.{something};
@@ -30,7 +30,7 @@ pub fn builtin_expr<G: Grammar>(p: &mut Parser<'_>, g: &G) -> Result<Answer, NoM
     requires within { Within G.valid G.left g.now (state p.old) }
     requires here { starts_builtin (state p.old).rest ≡ true }
     ensures operand { IfOk result (Operand atom_room (state p.old) (state p.new)) }
-    ensures script { IfOk result (λ e. Follows script.builtin_expr (of_expr e) (state p.old) (state p.new)) }
+    ensures script { IfOk result (λ e. Does (G.left g.now) script.builtin_expr (of_expr e) (state p.old) (state p.new)) }
 {
     let m = p.start()?;
     p.bump_remap(T![builtin])?;
@@ -64,7 +64,7 @@ fn other_builtin<G: Grammar>(
     ensures plain { IfOk result (λ o. IfSome o (λ cm. is_plain cm.kind.value ≡ true)) }
     ensures gone { IfOk result (λ o. o ≡ None → Gone (state p.old) (state p.new) 2) }
     ensures reported { IfOk result (λ o. o ≡ None → (state p.old).messages < (state p.new).messages) }
-    ensures script { IfOk result (λ o. Follows script.other_builtin (of_option o) (state p.old) (state p.new)) }
+    ensures script { IfOk result (λ o. Does (G.left g.now) script.other_builtin (of_option o) (state p.old) (state p.new)) }
 {
     if asm_name(p)? {
         let cm = parse_asm_expr(p, g, m)?;
@@ -88,7 +88,7 @@ fn other_builtin<G: Grammar>(
 fn asm_name(p: &mut Parser<'_>) -> Result<bool, NoMemory>
     ensures took { IfOk result (λ found. found ≡ true → Took (state p.old) (state p.new) name_room) }
     ensures stays { IfOk result (λ found. found ≡ false → state p.new ≡ state p.old) }
-    ensures script { IfOk result (λ found. Follows script.asm_name (of_bool found) (state p.old) (state p.new)) }
+    ensures script { IfOk result (λ found. (depth : ℕ) → Does depth script.asm_name (of_bool found) (state p.old) (state p.new)) }
 {
     if p.eat_contextual_kw(T![asm])? {
         return Ok(true);
@@ -106,7 +106,7 @@ fn asm_name(p: &mut Parser<'_>) -> Result<bool, NoMemory>
 fn offset_of<G: Grammar>(p: &mut Parser<'_>, g: &G) -> Result<(), NoMemory>
     requires behind { Behind G.valid G.left g.now (state p.old) }
     ensures grew { OnOk result (Grew (state p.old) (state p.new) 12) }
-    ensures script { OnOk result (Follows script.offset_of something (state p.old) (state p.new)) }
+    ensures script { OnOk result (Does (G.left g.now) script.offset_of something (state p.old) (state p.new)) }
 {
     p.expect(T!['('])?;
     type_(p, g)?;
@@ -126,7 +126,7 @@ fn offset_of<G: Grammar>(p: &mut Parser<'_>, g: &G) -> Result<(), NoMemory>
 /// The fields on the way to the one whose place is asked for, as `b.0`.
 fn offset_of_fields(p: &mut Parser<'_>) -> Result<(), NoMemory>
     ensures grew { OnOk result (Grew (state p.old) (state p.new) 0) }
-    ensures script { OnOk result (Follows script.offset_of_fields something (state p.old) (state p.new)) }
+    ensures script { OnOk result ((depth : ℕ) → Does depth script.offset_of_fields something (state p.old) (state p.new)) }
 {
     'fields: while !p.at(SyntaxKind::EOF) && !p.at(T![')']) {
         name_ref_mod_path_or_index(p)?;
@@ -141,7 +141,7 @@ fn offset_of_fields(p: &mut Parser<'_>) -> Result<(), NoMemory>
 fn format_args<G: Grammar>(p: &mut Parser<'_>, g: &G) -> Result<(), NoMemory>
     requires behind { Behind G.valid G.left g.now (state p.old) }
     ensures grew { OnOk result (Grew (state p.old) (state p.new) 20) }
-    ensures script { OnOk result (Follows script.format_args something (state p.old) (state p.new)) }
+    ensures script { OnOk result (Does (G.left g.now) script.format_args something (state p.old) (state p.new)) }
 {
     p.expect(T!['('])?;
     expr(p, g)?;
@@ -158,7 +158,7 @@ fn format_args<G: Grammar>(p: &mut Parser<'_>, g: &G) -> Result<(), NoMemory>
 fn format_arguments<G: Grammar>(p: &mut Parser<'_>, g: &G) -> Result<(), NoMemory>
     requires behind { Behind G.valid G.left g.now (state p.old) }
     ensures grew { OnOk result (Grew (state p.old) (state p.new) 10) }
-    ensures script { OnOk result (Follows script.format_arguments something (state p.old) (state p.new)) }
+    ensures script { OnOk result (Does (G.left g.now) script.format_arguments something (state p.old) (state p.new)) }
 {
     'arguments: while !p.at(SyntaxKind::EOF) && !p.at(T![')']) {
         let m = p.start()?;
@@ -178,7 +178,7 @@ fn format_arguments<G: Grammar>(p: &mut Parser<'_>, g: &G) -> Result<(), NoMemor
 /// The name of an argument and its `=`, as `b =`, if they come next.
 fn opt_arg_name(p: &mut Parser<'_>) -> Result<(), NoMemory>
     ensures grew { OnOk result (Grew (state p.old) (state p.new) 0) }
-    ensures script { OnOk result (Follows script.opt_arg_name something (state p.old) (state p.new)) }
+    ensures script { OnOk result ((depth : ℕ) → Does depth script.opt_arg_name something (state p.old) (state p.new)) }
 {
     if !starts_arg_name(p) {
         return Ok(());
@@ -201,7 +201,7 @@ fn starts_arg_name(p: &Parser<'_>) -> bool
 fn cfg<G: Grammar>(p: &mut Parser<'_>, g: &G) -> Result<(), NoMemory>
     requires behind { Behind G.valid G.left g.now (state p.old) }
     ensures grew { OnOk result (Grew (state p.old) (state p.new) 10) }
-    ensures script { OnOk result (Follows script.cfg something (state p.old) (state p.new)) }
+    ensures script { OnOk result (Does (G.left g.now) script.cfg something (state p.old) (state p.new)) }
 {
     p.expect(T!['('])?;
     g.run(p, Rule::CfgPredicate)?;

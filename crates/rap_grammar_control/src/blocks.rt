@@ -1,6 +1,6 @@
 //! Blocks as expressions, and what stands before their braces.
 //! In the Rust crate: `grammar/expressions/atom.rs`.
-ghost use Rattle.std.specs.Prelude.{◌≡◌, ◌≢◌, ◌<◌, ◌≤◌, IfOk, OnOk, true, ◌⊎◌};
+ghost use Rattle.std.specs.Prelude.{ℕ, ◌≡◌, ◌≢◌, ◌<◌, ◌≤◌, IfOk, OnOk, true, ◌⊎◌};
 ghost use Rattle.rap_base.specs.TokenKind.{EOF, L_CURLY, TRY_KW};
 ghost use Rattle.rap_base.specs.NodeKind.{BLOCK_EXPR};
 ghost use Rattle.rap_events.specs.State.{state, next};
@@ -9,7 +9,7 @@ ghost use Rattle.rap_grammar_scripts.specs.Atom.{is_effect_block};
 ghost use Rattle.rap_grammar_scripts.specs.Expressions.{of_expr};
 ghost use Rattle.rap_grammar_scripts.specs.First.{is_closure};
 ghost use Rattle.rap_grammar_frame.specs.Grew.{Within, Took, Makes};
-ghost use Rattle.rap_grammar_scripts.specs.Knot.{Follows};
+ghost use Rattle.rap_grammar_scripts.specs.Exec.{Does};
 ghost use Rattle.rap_grammar_frame.specs.Room.{atom_room, list_room};
 ghost use Rattle.rap_grammar_frame.specs.Rules.{Operand};
 ghost use Rattle.rap_grammar_scripts.specs.Script.{something};
@@ -31,7 +31,7 @@ pub fn plain_block<G: Grammar>(p: &mut Parser<'_>, g: &G) -> Result<CompletedMar
     requires within { Within G.valid G.left g.now (state p.old) }
     requires here { next (state p.old) ≡ L_CURLY }
     ensures made { IfOk result (Makes BLOCK_EXPR atom_room (state p.old) (state p.new)) }
-    ensures script { OnOk result (Follows script.plain_block something (state p.old) (state p.new)) }
+    ensures script { OnOk result (Does (G.left g.now) script.plain_block something (state p.old) (state p.new)) }
 {
     let m = p.start()?;
     stmt_list(p, g)?;
@@ -45,7 +45,7 @@ pub fn effect_expr<G: Grammar>(p: &mut Parser<'_>, g: &G) -> Result<Answer, NoMe
     requires within { Within G.valid G.left g.now (state p.old) }
     requires more { next (state p.old) ≢ EOF }
     ensures operand { IfOk result (Operand atom_room (state p.old) (state p.new)) }
-    ensures script { IfOk result (λ o. Follows script.effect_expr (of_expr o) (state p.old) (state p.new)) }
+    ensures script { IfOk result (λ o. Does (G.left g.now) script.effect_expr (of_expr o) (state p.old) (state p.new)) }
 {
     if is_effect_block(p) {
         let block = effect_block(p, g)?;
@@ -99,7 +99,7 @@ fn effects(p: &mut Parser<'_>) -> Result<(), NoMemory>
     requires starts { is_effect_block (state p.old).rest ≡ true }
     ensures took { OnOk result (Took (state p.old) (state p.new) list_room) }
     ensures here { OnOk result (next (state p.new) ≡ L_CURLY) }
-    ensures script { OnOk result (Follows script.effects something (state p.old) (state p.new)) }
+    ensures script { OnOk result ((depth : ℕ) → Does depth script.effects something (state p.old) (state p.new)) }
 {
     p.bump_any()?;
     p.eat(T![gen])?;
@@ -113,7 +113,7 @@ fn effect_block<G: Grammar>(p: &mut Parser<'_>, g: &G) -> Result<CompletedMarker
     requires within { Within G.valid G.left g.now (state p.old) }
     requires starts { is_effect_block (state p.old).rest ≡ true }
     ensures made { IfOk result (Makes BLOCK_EXPR atom_room (state p.old) (state p.new)) }
-    ensures script { OnOk result (Follows script.effect_block something (state p.old) (state p.new)) }
+    ensures script { OnOk result (Does (G.left g.now) script.effect_block something (state p.old) (state p.new)) }
 {
     let m = p.start()?;
     effects(p)?;
@@ -127,7 +127,7 @@ fn try_modifier<G: Grammar>(p: &mut Parser<'_>, g: &G) -> Result<(), NoMemory>
     requires within { Within G.valid G.left g.now (state p.old) }
     requires here { next (state p.old) ≡ TRY_KW }
     ensures took { OnOk result (Took (state p.old) (state p.new) list_room) }
-    ensures script { OnOk result (Follows script.try_modifier something (state p.old) (state p.new)) }
+    ensures script { OnOk result (Does (G.left g.now) script.try_modifier something (state p.old) (state p.new)) }
 {
     let m = p.start()?;
     p.bump(T![try])?;
@@ -146,7 +146,7 @@ fn try_block_expr<G: Grammar>(p: &mut Parser<'_>, g: &G) -> Result<CompletedMark
     requires within { Within G.valid G.left g.now (state p.old) }
     requires here { next (state p.old) ≡ TRY_KW }
     ensures made { IfOk result (Makes BLOCK_EXPR atom_room (state p.old) (state p.new)) }
-    ensures script { OnOk result (Follows script.try_block_expr something (state p.old) (state p.new)) }
+    ensures script { OnOk result (Does (G.left g.now) script.try_block_expr something (state p.old) (state p.new)) }
 {
     let m = p.start()?;
     try_modifier(p, g)?;

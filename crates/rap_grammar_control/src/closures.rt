@@ -1,13 +1,13 @@
 //! Closures.
 //! In the Rust crate: `grammar/expressions/atom.rs`.
-ghost use Rattle.std.specs.Prelude.{◌≡◌, ◌≢◌, ◌<◌, ◌≤◌, IfOk, OnOk, true, [], ◌∷◌};
+ghost use Rattle.std.specs.Prelude.{ℕ, ◌≡◌, ◌≢◌, ◌<◌, ◌≤◌, IfOk, OnOk, true, [], ◌∷◌};
 ghost use Rattle.rap_base.specs.TokenKind.{FOR_KW, CONST_KW, STATIC_KW, ASYNC_KW, MOVE_KW, PIPE};
 ghost use Rattle.rap_base.specs.NodeKind.{CLOSURE_EXPR};
 ghost use Rattle.rap_events.specs.State.{state, next};
 ghost use Rattle.rap_grammar_scripts.specs.Control as script;
 ghost use Rattle.rap_grammar_scripts.specs.First.{one_of, is_closure};
 ghost use Rattle.rap_grammar_frame.specs.Grew.{Within, Behind, Took, Grew, Makes};
-ghost use Rattle.rap_grammar_scripts.specs.Knot.{Follows};
+ghost use Rattle.rap_grammar_scripts.specs.Exec.{Does};
 ghost use Rattle.rap_grammar_frame.specs.Room.{atom_room, list_room, name_room};
 ghost use Rattle.rap_grammar_scripts.specs.Script.{something};
 
@@ -27,7 +27,7 @@ pub fn closure_expr<G: Grammar>(p: &mut Parser<'_>, g: &G) -> Result<CompletedMa
     requires within { Within G.valid G.left g.now (state p.old) }
     requires here { is_closure (state p.old).rest ≡ true }
     ensures made { IfOk result (Makes CLOSURE_EXPR atom_room (state p.old) (state p.new)) }
-    ensures script { OnOk result (Follows script.closure_expr something (state p.old) (state p.new)) }
+    ensures script { OnOk result (Does (G.left g.now) script.closure_expr something (state p.old) (state p.new)) }
 {
     let m = p.start()?;
     closure_binder(p, g)?;
@@ -49,7 +49,7 @@ fn closure_binder<G: Grammar>(p: &mut Parser<'_>, g: &G) -> Result<(), NoMemory>
     ensures grew { OnOk result (Grew (state p.old) (state p.new) 0) }
     ensures took { OnOk result (next (state p.old) ≡ FOR_KW → Took (state p.old) (state p.new) list_room) }
     ensures stays { OnOk result (next (state p.old) ≢ FOR_KW → state p.new ≡ state p.old) }
-    ensures script { OnOk result (Follows script.closure_binder something (state p.old) (state p.new)) }
+    ensures script { OnOk result (Does (G.left g.now) script.closure_binder something (state p.old) (state p.new)) }
 {
     if !p.at(T![for]) {
         return Ok(());
@@ -65,7 +65,7 @@ fn closure_keywords(p: &mut Parser<'_>) -> Result<(), NoMemory>
         (one_of (CONST_KW ∷ STATIC_KW ∷ ASYNC_KW ∷ MOVE_KW ∷ []) (next (state p.old)) ≡ true →
         Took (state p.old) (state p.new) name_room) }
     ensures stays { OnOk result (next (state p.old) ≡ PIPE → next (state p.new) ≡ PIPE) }
-    ensures script { OnOk result (Follows script.closure_keywords something (state p.old) (state p.new)) }
+    ensures script { OnOk result ((depth : ℕ) → Does depth script.closure_keywords something (state p.old) (state p.new)) }
 {
     p.eat(T![const])?;
     p.eat(T![static])?;
@@ -79,7 +79,7 @@ fn closure_keywords(p: &mut Parser<'_>) -> Result<(), NoMemory>
 fn closure_body<G: Grammar>(p: &mut Parser<'_>, g: &G) -> Result<(), NoMemory>
     requires behind { Behind G.valid G.left g.now (state p.old) }
     ensures grew { OnOk result (Grew (state p.old) (state p.new) 8) }
-    ensures script { OnOk result (Follows script.closure_body something (state p.old) (state p.new)) }
+    ensures script { OnOk result (Does (G.left g.now) script.closure_body something (state p.old) (state p.new)) }
 {
     if opt_ret_type(p, g)? {
         closing_angles(p)?;
@@ -97,7 +97,7 @@ fn closure_body<G: Grammar>(p: &mut Parser<'_>, g: &G) -> Result<(), NoMemory>
 /// Angle brackets that nothing opened, after the type of a closure.
 fn closing_angles(p: &mut Parser<'_>) -> Result<(), NoMemory>
     ensures grew { OnOk result (Grew (state p.old) (state p.new) 0) }
-    ensures script { OnOk result (Follows script.closing_angles something (state p.old) (state p.new)) }
+    ensures script { OnOk result ((depth : ℕ) → Does depth script.closing_angles something (state p.old) (state p.new)) }
 {
     'angles: while p.at(T![>]) {
         p.err_and_bump("expected a curly brace")?;

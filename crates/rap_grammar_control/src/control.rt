@@ -1,13 +1,13 @@
 //! Conditions, loops and labels.
 //! In the Rust crate: `grammar/expressions/atom.rs`.
-ghost use Rattle.std.specs.Prelude.{◌≡◌, ◌≢◌, ◌<◌, ◌≤◌, IfOk, OnOk, Some};
+ghost use Rattle.std.specs.Prelude.{ℕ, ◌≡◌, ◌≢◌, ◌<◌, ◌≤◌, IfOk, OnOk, Some};
 ghost use Rattle.rap_base.specs.TokenKind.{IF_KW, LET_KW, LOOP_KW, WHILE_KW, FOR_KW, LIFETIME_IDENT, COLON};
 ghost use Rattle.rap_base.specs.NodeKind.{IF_EXPR, LET_EXPR, LOOP_EXPR, WHILE_EXPR, FOR_EXPR};
 ghost use Rattle.rap_events.specs.State.{state, next, NthAt};
 ghost use Rattle.rap_grammar_scripts.specs.Control as script;
 ghost use Rattle.rap_grammar_scripts.specs.Expressions.{of_expr};
 ghost use Rattle.rap_grammar_frame.specs.Grew.{Within, Behind, Took, Grew, Makes, Closed};
-ghost use Rattle.rap_grammar_scripts.specs.Knot.{Follows};
+ghost use Rattle.rap_grammar_scripts.specs.Exec.{Does};
 ghost use Rattle.rap_grammar_frame.specs.Room.{atom_room, list_room, name_room};
 ghost use Rattle.rap_grammar_frame.specs.Rules.{Operand, OperandFrom};
 ghost use Rattle.rap_grammar_scripts.specs.Script.{something};
@@ -29,7 +29,7 @@ pub fn if_expr<G: Grammar>(p: &mut Parser<'_>, g: &G) -> Result<CompletedMarker,
     requires within { Within G.valid G.left g.now (state p.old) }
     requires here { next (state p.old) ≡ IF_KW }
     ensures made { IfOk result (Makes IF_EXPR atom_room (state p.old) (state p.new)) }
-    ensures script { OnOk result (Follows script.if_expr something (state p.old) (state p.new)) }
+    ensures script { OnOk result (Does (G.left g.now) script.if_expr something (state p.old) (state p.new)) }
 {
     let m = p.start()?;
     p.bump(T![if])?;
@@ -44,7 +44,7 @@ pub fn if_expr<G: Grammar>(p: &mut Parser<'_>, g: &G) -> Result<CompletedMarker,
 fn else_branch<G: Grammar>(p: &mut Parser<'_>, g: &G) -> Result<(), NoMemory>
     requires behind { Behind G.valid G.left g.now (state p.old) }
     ensures grew { OnOk result (Grew (state p.old) (state p.new) 0) }
-    ensures script { OnOk result (Follows script.else_branch something (state p.old) (state p.new)) }
+    ensures script { OnOk result (Does (G.left g.now) script.else_branch something (state p.old) (state p.new)) }
 {
     if !p.eat(T![else])? {
         return Ok(());
@@ -67,7 +67,7 @@ pub fn let_expr<G: Grammar>(
     requires within { Within G.valid G.left g.now (state p.old) }
     requires here { next (state p.old) ≡ LET_KW }
     ensures made { IfOk result (Makes LET_EXPR atom_room (state p.old) (state p.new)) }
-    ensures script { OnOk result (Follows (script.let_expr r) something (state p.old) (state p.new)) }
+    ensures script { OnOk result (Does (G.left g.now) (script.let_expr r) something (state p.old) (state p.new)) }
 {
     let m = p.start()?;
     p.bump(T![let])?;
@@ -84,7 +84,7 @@ pub fn loop_expr<G: Grammar>(p: &mut Parser<'_>, g: &G) -> Result<CompletedMarke
     requires within { Within G.valid G.left g.now (state p.old) }
     requires here { next (state p.old) ≡ LOOP_KW }
     ensures made { IfOk result (Makes LOOP_EXPR atom_room (state p.old) (state p.new)) }
-    ensures script { OnOk result (Follows script.loop_expr something (state p.old) (state p.new)) }
+    ensures script { OnOk result (Does (G.left g.now) script.loop_expr something (state p.old) (state p.new)) }
 {
     let m = p.start()?;
     let cm = loop_from(p, g, m)?;
@@ -97,7 +97,7 @@ fn loop_from<G: Grammar>(p: &mut Parser<'_>, g: &G, m: Marker) -> Result<Complet
     requires newest { (state p.old).marker ≡ Some m.pos.value }
     requires here { next (state p.old) ≡ LOOP_KW }
     ensures closed { IfOk result (λ cm. Closed (state p.old) (state p.new) cm list_room × (cm.kind.value ≡ LOOP_EXPR)) }
-    ensures script { OnOk result (Follows script.loop_from something (state p.old) (state p.new)) }
+    ensures script { OnOk result (Does (G.left g.now) script.loop_from something (state p.old) (state p.new)) }
 {
     p.bump(T![loop])?;
     block_expr(p, g)?;
@@ -111,7 +111,7 @@ pub fn while_expr<G: Grammar>(p: &mut Parser<'_>, g: &G) -> Result<CompletedMark
     requires within { Within G.valid G.left g.now (state p.old) }
     requires here { next (state p.old) ≡ WHILE_KW }
     ensures made { IfOk result (Makes WHILE_EXPR atom_room (state p.old) (state p.new)) }
-    ensures script { OnOk result (Follows script.while_expr something (state p.old) (state p.new)) }
+    ensures script { OnOk result (Does (G.left g.now) script.while_expr something (state p.old) (state p.new)) }
 {
     let m = p.start()?;
     let cm = while_from(p, g, m)?;
@@ -124,7 +124,7 @@ fn while_from<G: Grammar>(p: &mut Parser<'_>, g: &G, m: Marker) -> Result<Comple
     requires newest { (state p.old).marker ≡ Some m.pos.value }
     requires here { next (state p.old) ≡ WHILE_KW }
     ensures closed { IfOk result (λ cm. Closed (state p.old) (state p.new) cm list_room × (cm.kind.value ≡ WHILE_EXPR)) }
-    ensures script { OnOk result (Follows script.while_from something (state p.old) (state p.new)) }
+    ensures script { OnOk result (Does (G.left g.now) script.while_from something (state p.old) (state p.new)) }
 {
     p.bump(T![while])?;
     expr_no_struct(p, g)?;
@@ -139,7 +139,7 @@ pub fn for_expr<G: Grammar>(p: &mut Parser<'_>, g: &G) -> Result<CompletedMarker
     requires within { Within G.valid G.left g.now (state p.old) }
     requires here { next (state p.old) ≡ FOR_KW }
     ensures made { IfOk result (Makes FOR_EXPR atom_room (state p.old) (state p.new)) }
-    ensures script { OnOk result (Follows script.for_expr something (state p.old) (state p.new)) }
+    ensures script { OnOk result (Does (G.left g.now) script.for_expr something (state p.old) (state p.new)) }
 {
     let m = p.start()?;
     let cm = for_from(p, g, m)?;
@@ -152,7 +152,7 @@ fn for_from<G: Grammar>(p: &mut Parser<'_>, g: &G, m: Marker) -> Result<Complete
     requires newest { (state p.old).marker ≡ Some m.pos.value }
     requires here { next (state p.old) ≡ FOR_KW }
     ensures closed { IfOk result (λ cm. Closed (state p.old) (state p.new) cm list_room × (cm.kind.value ≡ FOR_EXPR)) }
-    ensures script { OnOk result (Follows script.for_from something (state p.old) (state p.new)) }
+    ensures script { OnOk result (Does (G.left g.now) script.for_from something (state p.old) (state p.new)) }
 {
     p.bump(T![for])?;
     pattern(p, g)?;
@@ -170,7 +170,7 @@ pub fn labelled_expr<G: Grammar>(p: &mut Parser<'_>, g: &G) -> Result<Answer, No
     requires here { next (state p.old) ≡ LIFETIME_IDENT }
     requires colon { NthAt (state p.old) 1 COLON }
     ensures operand { IfOk result (Operand atom_room (state p.old) (state p.new)) }
-    ensures script { IfOk result (λ e. Follows script.labelled_expr (of_expr e) (state p.old) (state p.new)) }
+    ensures script { IfOk result (λ e. Does (G.left g.now) script.labelled_expr (of_expr e) (state p.old) (state p.new)) }
 {
     let m = p.start()?;
     label(p)?;
@@ -183,7 +183,7 @@ fn label(p: &mut Parser<'_>) -> Result<(), NoMemory>
     requires here { next (state p.old) ≡ LIFETIME_IDENT }
     requires colon { NthAt (state p.old) 1 COLON }
     ensures took { OnOk result (Took (state p.old) (state p.new) name_room) }
-    ensures script { OnOk result (Follows script.label something (state p.old) (state p.new)) }
+    ensures script { OnOk result ((depth : ℕ) → Does depth script.label something (state p.old) (state p.new)) }
 {
     let m = p.start()?;
     lifetime(p)?;
@@ -197,7 +197,7 @@ fn labelled_from<G: Grammar>(p: &mut Parser<'_>, g: &G, m: Marker) -> Result<Ans
     requires within { Within G.valid G.left g.now (state p.old) }
     requires newest { (state p.old).marker ≡ Some m.pos.value }
     ensures operand { IfOk result (OperandFrom 2 (state p.old) (state p.new)) }
-    ensures script { IfOk result (λ e. Follows script.labelled_from (of_expr e) (state p.old) (state p.new)) }
+    ensures script { IfOk result (λ e. Does (G.left g.now) script.labelled_from (of_expr e) (state p.old) (state p.new)) }
 {
     match p.current() {
         T![loop] => Ok(Some((loop_from(p, g, m)?, BlockLike::Block))),

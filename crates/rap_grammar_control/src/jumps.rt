@@ -1,12 +1,12 @@
 //! Jump expressions, with a value or without one.
 //! In the Rust crate: `grammar/expressions/atom.rs`.
-ghost use Rattle.std.specs.Prelude.{◌≡◌, ◌≢◌, ◌<◌, ◌≤◌, IfOk, OnOk, true, IsTrue};
+ghost use Rattle.std.specs.Prelude.{ℕ, ◌≡◌, ◌≢◌, ◌<◌, ◌≤◌, IfOk, OnOk, true, IsTrue};
 ghost use Rattle.rap_base.specs.TokenKind.{EOF, RETURN_KW, BECOME_KW, YIELD_KW, DO_KW, CONTINUE_KW, BREAK_KW};
 ghost use Rattle.rap_base.specs.NodeKind.{RETURN_EXPR, BECOME_EXPR, YIELD_EXPR, YEET_EXPR, CONTINUE_EXPR, BREAK_EXPR};
 ghost use Rattle.rap_events.specs.State.{state, next};
 ghost use Rattle.rap_grammar_scripts.specs.Atom as script;
 ghost use Rattle.rap_grammar_frame.specs.Grew.{Within, Behind, Grew, Makes};
-ghost use Rattle.rap_grammar_scripts.specs.Knot.{Follows};
+ghost use Rattle.rap_grammar_scripts.specs.Exec.{Does};
 ghost use Rattle.rap_grammar_frame.specs.Room.{atom_room};
 ghost use Rattle.rap_grammar_scripts.specs.Script.{something};
 
@@ -32,7 +32,7 @@ fn has_operand(p: &Parser<'_>, before_block: bool) -> bool
 fn opt_expr<G: Grammar>(p: &mut Parser<'_>, g: &G, before_block: bool) -> Result<(), NoMemory>
     requires behind { Behind G.valid G.left g.now (state p.old) }
     ensures grew { OnOk result (Grew (state p.old) (state p.new) 8) }
-    ensures script { OnOk result (Follows (script.opt_expr before_block) something (state p.old) (state p.new)) }
+    ensures script { OnOk result (Does (G.left g.now) (script.opt_expr before_block) something (state p.old) (state p.new)) }
 {
     if !has_operand(p, before_block) {
         return Ok(());
@@ -44,7 +44,7 @@ fn opt_expr<G: Grammar>(p: &mut Parser<'_>, g: &G, before_block: bool) -> Result
 /// The label of the loop or block, if there is one.
 fn opt_lifetime(p: &mut Parser<'_>) -> Result<(), NoMemory>
     ensures grew { OnOk result (Grew (state p.old) (state p.new) 0) }
-    ensures script { OnOk result (Follows script.opt_lifetime something (state p.old) (state p.new)) }
+    ensures script { OnOk result ((depth : ℕ) → Does depth script.opt_lifetime something (state p.old) (state p.new)) }
 {
     if !p.at(T![lifetime_ident]) {
         return Ok(());
@@ -59,7 +59,7 @@ pub fn return_expr<G: Grammar>(p: &mut Parser<'_>, g: &G) -> Result<CompletedMar
     requires within { Within G.valid G.left g.now (state p.old) }
     requires here { next (state p.old) ≡ RETURN_KW }
     ensures made { IfOk result (Makes RETURN_EXPR atom_room (state p.old) (state p.new)) }
-    ensures script { OnOk result (Follows script.return_expr something (state p.old) (state p.new)) }
+    ensures script { OnOk result (Does (G.left g.now) script.return_expr something (state p.old) (state p.new)) }
 {
     let m = p.start()?;
     p.bump(T![return])?;
@@ -74,7 +74,7 @@ pub fn become_expr<G: Grammar>(p: &mut Parser<'_>, g: &G) -> Result<CompletedMar
     requires within { Within G.valid G.left g.now (state p.old) }
     requires here { next (state p.old) ≡ BECOME_KW }
     ensures made { IfOk result (Makes BECOME_EXPR atom_room (state p.old) (state p.new)) }
-    ensures script { OnOk result (Follows script.become_expr something (state p.old) (state p.new)) }
+    ensures script { OnOk result (Does (G.left g.now) script.become_expr something (state p.old) (state p.new)) }
 {
     let m = p.start()?;
     p.bump(T![become])?;
@@ -89,7 +89,7 @@ pub fn yield_expr<G: Grammar>(p: &mut Parser<'_>, g: &G) -> Result<CompletedMark
     requires within { Within G.valid G.left g.now (state p.old) }
     requires here { next (state p.old) ≡ YIELD_KW }
     ensures made { IfOk result (Makes YIELD_EXPR atom_room (state p.old) (state p.new)) }
-    ensures script { OnOk result (Follows script.yield_expr something (state p.old) (state p.new)) }
+    ensures script { OnOk result (Does (G.left g.now) script.yield_expr something (state p.old) (state p.new)) }
 {
     let m = p.start()?;
     p.bump(T![yield])?;
@@ -112,7 +112,7 @@ pub fn yeet_expr<G: Grammar>(p: &mut Parser<'_>, g: &G) -> Result<CompletedMarke
     requires within { Within G.valid G.left g.now (state p.old) }
     requires here { next (state p.old) ≡ DO_KW }
     ensures made { IfOk result (Makes YEET_EXPR atom_room (state p.old) (state p.new)) }
-    ensures script { OnOk result (Follows script.yeet_expr something (state p.old) (state p.new)) }
+    ensures script { OnOk result (Does (G.left g.now) script.yeet_expr something (state p.old) (state p.new)) }
 {
     let m = p.start()?;
     p.bump(T![do])?;
@@ -127,7 +127,7 @@ pub fn yeet_expr<G: Grammar>(p: &mut Parser<'_>, g: &G) -> Result<CompletedMarke
 pub fn continue_expr(p: &mut Parser<'_>) -> Result<CompletedMarker, NoMemory>
     requires here { next (state p.old) ≡ CONTINUE_KW }
     ensures made { IfOk result (Makes CONTINUE_EXPR atom_room (state p.old) (state p.new)) }
-    ensures script { OnOk result (Follows script.continue_expr something (state p.old) (state p.new)) }
+    ensures script { OnOk result ((depth : ℕ) → Does depth script.continue_expr something (state p.old) (state p.new)) }
 {
     let m = p.start()?;
     p.bump(T![continue])?;
@@ -146,7 +146,7 @@ pub fn break_expr<G: Grammar>(
     requires within { Within G.valid G.left g.now (state p.old) }
     requires here { next (state p.old) ≡ BREAK_KW }
     ensures made { IfOk result (Makes BREAK_EXPR atom_room (state p.old) (state p.new)) }
-    ensures script { OnOk result (Follows (script.break_expr r) something (state p.old) (state p.new)) }
+    ensures script { OnOk result (Does (G.left g.now) (script.break_expr r) something (state p.old) (state p.new)) }
 {
     let m = p.start()?;
     p.bump(T![break])?;

@@ -1,6 +1,6 @@
 //! `match` and its arms.
 //! In the Rust crate: `grammar/expressions/atom.rs`.
-ghost use Rattle.std.specs.Prelude.{◌≡◌, ◌≢◌, ◌<◌, ◌≤◌, IfOk, OnOk, false, [], ◌∷◌};
+ghost use Rattle.std.specs.Prelude.{ℕ, ◌≡◌, ◌≢◌, ◌<◌, ◌≤◌, IfOk, OnOk, false, [], ◌∷◌};
 ghost use Rattle.rap_base.specs.TokenKind.{EOF, IF_KW, MATCH_KW, L_CURLY, R_CURLY, EQ};
 ghost use Rattle.rap_base.specs.NodeKind.{MATCH_EXPR, MATCH_ARM_LIST};
 ghost use Rattle.rap_events.specs.Forest.{node};
@@ -9,7 +9,7 @@ ghost use Rattle.rap_grammar_scripts.specs.Control as script;
 ghost use Rattle.rap_grammar_scripts.specs.Expressions.{of_like, is_block};
 ghost use Rattle.rap_grammar_scripts.specs.First.{one_of};
 ghost use Rattle.rap_grammar_frame.specs.Grew.{Within, Behind, Took, Grew, Makes};
-ghost use Rattle.rap_grammar_scripts.specs.Knot.{Follows};
+ghost use Rattle.rap_grammar_scripts.specs.Exec.{Does};
 ghost use Rattle.rap_grammar_frame.specs.Room.{atom_room, list_room, pattern_room, statement_room, arm_room};
 ghost use Rattle.rap_grammar_scripts.specs.Script.{something};
 
@@ -29,7 +29,7 @@ pub fn match_expr<G: Grammar>(p: &mut Parser<'_>, g: &G) -> Result<CompletedMark
     requires within { Within G.valid G.left g.now (state p.old) }
     requires here { next (state p.old) ≡ MATCH_KW }
     ensures made { IfOk result (Makes MATCH_EXPR atom_room (state p.old) (state p.new)) }
-    ensures script { OnOk result (Follows script.match_expr something (state p.old) (state p.new)) }
+    ensures script { OnOk result (Does (G.left g.now) script.match_expr something (state p.old) (state p.new)) }
 {
     let m = p.start()?;
     p.bump(T![match])?;
@@ -51,7 +51,7 @@ pub fn match_arm_list<G: Grammar>(p: &mut Parser<'_>, g: &G) -> Result<(), NoMem
     ensures took { OnOk result (Took (state p.old) (state p.new) list_room) }
     ensures one { OnOk result
         ((state p.new).forest ≡ node (state p.old).forest MATCH_ARM_LIST (last_children (state p.new).forest)) }
-    ensures script { OnOk result (Follows script.match_arm_list something (state p.old) (state p.new)) }
+    ensures script { OnOk result (Does (G.left g.now) script.match_arm_list something (state p.old) (state p.new)) }
 {
     let m = p.start()?;
     p.bump(T!['{'])?;
@@ -66,7 +66,7 @@ pub fn match_arm_list<G: Grammar>(p: &mut Parser<'_>, g: &G) -> Result<(), NoMem
 fn match_arms<G: Grammar>(p: &mut Parser<'_>, g: &G) -> Result<(), NoMemory>
     requires behind { Behind G.valid G.left g.now (state p.old) }
     ensures grew { OnOk result (Grew (state p.old) (state p.new) 0) }
-    ensures script { OnOk result (Follows script.match_arms something (state p.old) (state p.new)) }
+    ensures script { OnOk result (Does (G.left g.now) script.match_arms something (state p.old) (state p.new)) }
 {
     'arms: while !p.at(SyntaxKind::EOF) && !p.at(T!['}']) {
         if p.at(T!['{']) {
@@ -87,7 +87,7 @@ fn match_arm<G: Grammar>(p: &mut Parser<'_>, g: &G) -> Result<(), NoMemory>
     requires behind { Behind G.valid G.left g.now (state p.old) }
     requires more { one_of (EOF ∷ L_CURLY ∷ R_CURLY ∷ []) (next (state p.old)) ≡ false }
     ensures took { OnOk result (Took (state p.old) (state p.new) arm_room) }
-    ensures script { OnOk result (Follows script.match_arm something (state p.old) (state p.new)) }
+    ensures script { OnOk result (Does (G.left g.now) script.match_arm something (state p.old) (state p.new)) }
 {
     let m = p.start()?;
     outer_attrs(p, g)?;
@@ -106,7 +106,7 @@ fn arm_head<G: Grammar>(p: &mut Parser<'_>, g: &G) -> Result<(), NoMemory>
         (one_of (EOF ∷ L_CURLY ∷ R_CURLY ∷ EQ ∷ []) (next (state p.old)) ≡ false →
         Took (state p.old) (state p.new) pattern_room) }
     ensures stays { OnOk result (next (state p.old) ≡ EQ → next (state p.new) ≡ EQ) }
-    ensures script { OnOk result (Follows script.arm_head something (state p.old) (state p.new)) }
+    ensures script { OnOk result (Does (G.left g.now) script.arm_head something (state p.old) (state p.new)) }
 {
     arm_pattern(p, g)?;
     if !p.at(T![if]) {
@@ -121,7 +121,7 @@ fn match_guard<G: Grammar>(p: &mut Parser<'_>, g: &G) -> Result<(), NoMemory>
     requires within { Within G.valid G.left g.now (state p.old) }
     requires here { next (state p.old) ≡ IF_KW }
     ensures took { OnOk result (Took (state p.old) (state p.new) list_room) }
-    ensures script { OnOk result (Follows script.match_guard something (state p.old) (state p.new)) }
+    ensures script { OnOk result (Does (G.left g.now) script.match_guard something (state p.old) (state p.new)) }
 {
     let m = p.start()?;
     p.bump(T![if])?;
@@ -140,7 +140,7 @@ fn arm_body<G: Grammar>(p: &mut Parser<'_>, g: &G) -> Result<(), NoMemory>
     requires behind { Behind G.valid G.left g.now (state p.old) }
     ensures grew { OnOk result (Grew (state p.old) (state p.new) 9) }
     ensures took { OnOk result (next (state p.old) ≡ EQ → Took (state p.old) (state p.new) statement_room) }
-    ensures script { OnOk result (Follows script.arm_body something (state p.old) (state p.new)) }
+    ensures script { OnOk result (Does (G.left g.now) script.arm_body something (state p.old) (state p.new)) }
 {
     if p.eat(T![,])? {
         p.error("expected expression")?;
@@ -157,7 +157,7 @@ fn arm_body<G: Grammar>(p: &mut Parser<'_>, g: &G) -> Result<(), NoMemory>
 /// The comma after an arm. It may be missing after a block and at the end.
 fn arm_end(p: &mut Parser<'_>, block_like: BlockLike) -> Result<(), NoMemory>
     ensures grew { OnOk result (Grew (state p.old) (state p.new) 1) }
-    ensures script { OnOk result (Follows (script.arm_end (is_block (of_like block_like))) something (state p.old) (state p.new)) }
+    ensures script { OnOk result ((depth : ℕ) → Does depth (script.arm_end (is_block (of_like block_like))) something (state p.old) (state p.new)) }
 {
     if p.eat(T![,])? {
         return Ok(());

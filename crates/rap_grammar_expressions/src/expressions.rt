@@ -1,12 +1,12 @@
 //! Expressions.
-ghost use Rattle.std.specs.Prelude.{◌≡◌, ◌≢◌, ◌<◌, ◌≤◌, IfOk, Some, None, is_some, OnOk, true, false};
+ghost use Rattle.std.specs.Prelude.{ℕ, ◌≡◌, ◌≢◌, ◌<◌, ◌≤◌, IfOk, Some, None, is_some, OnOk, true, false};
 ghost use Rattle.rap_base.specs.TokenKind.{EOF};
 ghost use Rattle.rap_events.specs.State.{state, next};
 ghost use Rattle.rap_grammar_scripts.specs.Expressions as script;
 ghost use Rattle.rap_grammar_scripts.specs.Expressions.{of_expr};
 ghost use Rattle.rap_grammar_scripts.specs.First.{is_expr_first};
 ghost use Rattle.rap_grammar_frame.specs.Grew.{Within, Dropped, Spent};
-ghost use Rattle.rap_grammar_scripts.specs.Knot.{Follows};
+ghost use Rattle.rap_grammar_scripts.specs.Exec.{Does};
 ghost use Rattle.rap_grammar_scripts.specs.Recovery.{stops_expr};
 ghost use Rattle.rap_grammar_frame.specs.Room.{operand_room, marked_room, dropped_events};
 ghost use Rattle.rap_grammar_frame.specs.Rules.{Answered, IsNewest, AnsweredFrom, Operand};
@@ -40,7 +40,7 @@ pub fn expr_bp<G: Grammar>(
     requires newest { IsNewest (state p.old) m }
     requires power { 1 ≤ bp }
     ensures answered { IfOk result (Answered (state p.old) (state p.new) m r.prefer_stmt bp) }
-    ensures script { IfOk result (λ e. Follows (script.expr_bp (is_some m) r bp) (of_expr e) (state p.old) (state p.new)) }
+    ensures script { IfOk result (λ e. Does (G.left g.now) (script.expr_bp (is_some m) r bp) (of_expr e) (state p.old) (state p.new)) }
 {
     match m {
         Some(m) => {
@@ -72,7 +72,7 @@ fn expr_from<G: Grammar>(
         (λ e. e ≡ None → stops_expr (next (state p.old)) ≡ false → Spent (state p.old) (state p.new) marked_room) }
     ensures stays { IfOk result
         (λ e. e ≡ None → stops_expr (next (state p.old)) ≡ true → (state p.new).left ≡ (state p.old).left) }
-    ensures script { IfOk result (λ e. Follows (script.expr_from r bp) (of_expr e) (state p.old) (state p.new)) }
+    ensures script { IfOk result (λ e. Does (G.left g.now) (script.expr_from r bp) (of_expr e) (state p.old) (state p.new)) }
 {
     if !is_expr_first(p.current()) {
         missing_expr(p, m)?;
@@ -99,7 +99,7 @@ fn missing_expr(p: &mut Parser<'_>, m: Marker) -> Result<(), NoMemory>
     ensures dropped { OnOk result (Dropped (state p.old) (state p.new) dropped_events) }
     ensures spent { OnOk result (stops_expr (next (state p.old)) ≡ false → Spent (state p.old) (state p.new) marked_room) }
     ensures stays { OnOk result (stops_expr (next (state p.old)) ≡ true → (state p.new).left ≡ (state p.old).left) }
-    ensures script { OnOk result (Follows script.missing_expr nothing (state p.old) (state p.new)) }
+    ensures script { OnOk result ((depth : ℕ) → Does depth script.missing_expr nothing (state p.old) (state p.new)) }
 {
     p.err_recover("expected expression", expr_recovery_set())?;
     m.abandon(p)?;
@@ -115,7 +115,7 @@ fn lhs<G: Grammar>(
     requires within { Within G.valid G.left g.now (state p.old) }
     requires more { next (state p.old) ≢ EOF }
     ensures operand { IfOk result (Operand operand_room (state p.old) (state p.new)) }
-    ensures script { IfOk result (λ e. Follows (script.lhs r) (of_expr e) (state p.old) (state p.new)) }
+    ensures script { IfOk result (λ e. Does (G.left g.now) (script.lhs r) (of_expr e) (state p.old) (state p.new)) }
 {
     match p.current() {
         T![&] => Ok(Some((ref_expr(p, g, r)?, BlockLike::NotBlock))),

@@ -6,8 +6,10 @@ use Rattle.rap_events.specs.Record.{Record, next_kind}
 use Rattle.rap_events.specs.Composite.{is_at, width}
 use Rattle.rap_events.specs.State.{State, Ate}
 use Rattle.rap_events.proofs.Truth.{and_left, and_right}
+use Rattle.rap_grammar_scripts.proofs.Exec.{runs}
+use Rattle.rap_grammar_scripts.specs.Exec.{Ends}
 use Rattle.rap_grammar_scripts.specs.Grammar.{lifetime}
-use Rattle.rap_grammar_scripts.specs.Knot.{script_of, Follows}
+use Rattle.rap_grammar_scripts.specs.Knot.{script_of}
 use Rattle.rap_grammar_scripts.specs.Params.{past, is_self_ref}
 use Rattle.rap_grammar_scripts.specs.Script.{Spot, Outcome, something, Runs, starts, takes, finishes, gives}
 
@@ -16,8 +18,8 @@ unfolding lifetime
 lifetime_rest (starts (takes e (finishes gives))) = refl
 
 -- a lifetime is one token
-pub past_lifetime : {s t : State} → Follows lifetime something s t → t.rest ≡ drop 1 s.rest
-past_lifetime h = lifetime_rest h.run
+pub past_lifetime : {p q : Spot} → ((depth : ℕ) → Ends depth lifetime p q something) → q.rest ≡ drop 1 p.rest
+past_lifetime {p = p} {q = q} h = lifetime_rest (runs 0 lifetime p q something (h 0).run)
 
 -- a token that was there was taken, and one that was not was passed over
 pub past_taken : (rs : List Record) (n k : ℕ) {s t : List Record} →

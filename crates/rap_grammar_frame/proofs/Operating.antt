@@ -6,13 +6,12 @@ use Rattle.rap_base.specs.TokenKind.{AS_KW}
 use Rattle.rap_events.specs.Composite.{begins_with}
 use Rattle.rap_events.specs.Power.{power}
 use Rattle.rap_events.specs.Record.{Record, next_kind}
-use Rattle.rap_events.specs.State.{State}
-use Rattle.rap_grammar_scripts.proofs.ByOperator.{operates}
+use Rattle.rap_grammar_scripts.proofs.ByOperator.{ends_by_operator}
+use Rattle.rap_grammar_scripts.proofs.Ends.{gives, passes, fails}
 use Rattle.rap_grammar_scripts.specs.Atom.{atom_expr}
 use Rattle.rap_grammar_scripts.specs.Expressions.{operation, climb_turn, cast_expr, range_expr, bin_expr, climb, lhs, postfix_expr, of_like, is_block}
-use Rattle.rap_grammar_scripts.specs.Knot.{Follows}
 use Rattle.rap_grammar_scripts.specs.Operator.{operator_at}
-use Rattle.rap_grammar_scripts.specs.Script.{Outcome, nothing, something, block, again, goes_on, Spot, spot, give, extend, abandon, after, gives, passes, fails}
+use Rattle.rap_grammar_scripts.specs.Script.{Outcome, nothing, something, block, again, goes_on, Spot, give, extend, abandon, after}
 use Rattle.rap_grammar_scripts.specs.Words.{done, if_some, of_bool}
 use Rattle.rap_grammar_scripts.specs.declared.arguments.BlockLike.{BlockLike}
 use Rattle.rap_grammar_scripts.specs.declared.arguments.BlockLike.TheVariants as like
@@ -26,55 +25,55 @@ not_below : (a b : ℕ) → b ≤ a → nat_lt a b ≡ false
 not_below a b h = grind (arith, nat_tests)
 
 -- a turn that goes on by the operator that comes next, which has power enough
-on_operator : (r : Restrictions) (bp : ℕ) {n : ℕ} {p q : Spot} {v : Outcome} →
-    n ≡ power (operator_at p.rest) → 0 < n → bp ≤ n → On (operation r (operator_at p.rest)) p q v →
-    On (climb_turn r bp false false) p q v
+on_operator : {j : ℕ} (r : Restrictions) (bp : ℕ) {n : ℕ} {p q : Spot} {v : Outcome} →
+    n ≡ power (operator_at p.rest) → 0 < n → bp ≤ n → On j (operation r (operator_at p.rest)) p q v →
+    On j (climb_turn r bp false false) p q v
 on_operator r bp e some h d =
-    fails (not_below _ _ (rw e at h)) (operates (operation r) (rw e at some) d)
+    fails (not_below _ _ (rw e at h)) (ends_by_operator (operation r) (rw e at some) d)
 
 -- an operator of too little power
-pub stops_low : (r : Restrictions) (bp : ℕ) {n : ℕ} {p : Spot} →
-    n ≡ power (operator_at p.rest) → n < bp → On (climb_turn r bp false false) p p something
+pub stops_low : {j : ℕ} (r : Restrictions) (bp : ℕ) {n : ℕ} {p : Spot} →
+    n ≡ power (operator_at p.rest) → n < bp → On j (climb_turn r bp false false) p p something
 stops_low r bp e h = passes (below _ _ (rw e at h)) gives
 
 -- a cast
-pub goes_as : (r : Restrictions) (bp : ℕ) {n : ℕ} {s t : State} →
-    n ≡ power (operator_at s.rest) → 0 < n → bp ≤ n → operator_at s.rest ≡ AS_KW → Follows cast_expr something s t →
-    On (climb_turn r bp false false) (spot s) (spot t) (again false false)
-goes_as r bp {s = s} e some h is f =
-    let cast : (operator_at s.rest == AS_KW) ≡ true = rw is refl in
+pub goes_as : {j : ℕ} (r : Restrictions) (bp : ℕ) {n : ℕ} {p q : Spot} →
+    n ≡ power (operator_at p.rest) → 0 < n → bp ≤ n → operator_at p.rest ≡ AS_KW → On j cast_expr p q something →
+    On j (climb_turn r bp false false) p q (again false false)
+goes_as r bp {p = p} e some h is f =
+    let cast : (operator_at p.rest == AS_KW) ≡ true = rw is refl in
     on_operator r bp e some h (rw cast (by_rule f gives))
 
 -- a range without an end
-pub stops_range : (r : Restrictions) (bp : ℕ) {n : ℕ} {s t : State} {c : Bool} →
-    n ≡ power (operator_at s.rest) → 0 < n → bp ≤ n → operator_at s.rest ≢ AS_KW → n ≡ 2 →
-    Follows (range_expr r (operator_at s.rest)) (of_bool c) s t → c ≡ false →
-    On (climb_turn r bp false false) (spot s) (spot t) something
+pub stops_range : {j : ℕ} (r : Restrictions) (bp : ℕ) {n : ℕ} {p q : Spot} {c : Bool} →
+    n ≡ power (operator_at p.rest) → 0 < n → bp ≤ n → operator_at p.rest ≢ AS_KW → n ≡ 2 →
+    On j (range_expr r (operator_at p.rest)) p q (of_bool c) → c ≡ false →
+    On j (climb_turn r bp false false) p q something
 stops_range r bp {c = true} e some h is two f i = absurd cc
-stops_range r bp {s = s} {c = false} e some h is two f i =
-    let cast : (operator_at s.rest == AS_KW) ≡ false = ne_eqb (operator_at s.rest) AS_KW is in
-    let dots : (power (operator_at s.rest) == 2) ≡ true = rw (← e, two) refl in
+stops_range r bp {p = p} {c = false} e some h is two f i =
+    let cast : (operator_at p.rest == AS_KW) ≡ false = ne_eqb (operator_at p.rest) AS_KW is in
+    let dots : (power (operator_at p.rest) == 2) ≡ true = rw (← e, two) refl in
     on_operator r bp e some h (rw (cast, dots) (by_rule f gives))
 
 -- a range with an end
-pub goes_range : (r : Restrictions) (bp : ℕ) {n : ℕ} {s t : State} {c : Bool} →
-    n ≡ power (operator_at s.rest) → 0 < n → bp ≤ n → operator_at s.rest ≢ AS_KW → n ≡ 2 →
-    Follows (range_expr r (operator_at s.rest)) (of_bool c) s t → c ≡ true →
-    On (climb_turn r bp false false) (spot s) (spot t) (again false false)
+pub goes_range : {j : ℕ} (r : Restrictions) (bp : ℕ) {n : ℕ} {p q : Spot} {c : Bool} →
+    n ≡ power (operator_at p.rest) → 0 < n → bp ≤ n → operator_at p.rest ≢ AS_KW → n ≡ 2 →
+    On j (range_expr r (operator_at p.rest)) p q (of_bool c) → c ≡ true →
+    On j (climb_turn r bp false false) p q (again false false)
 goes_range r bp {c = false} e some h is two f i = absurd cc
-goes_range r bp {s = s} {c = true} e some h is two f i =
-    let cast : (operator_at s.rest == AS_KW) ≡ false = ne_eqb (operator_at s.rest) AS_KW is in
-    let dots : (power (operator_at s.rest) == 2) ≡ true = rw (← e, two) refl in
+goes_range r bp {p = p} {c = true} e some h is two f i =
+    let cast : (operator_at p.rest == AS_KW) ≡ false = ne_eqb (operator_at p.rest) AS_KW is in
+    let dots : (power (operator_at p.rest) == 2) ≡ true = rw (← e, two) refl in
     on_operator r bp e some h (rw (cast, dots) (by_rule f gives))
 
 -- an operator with its right operand
-pub goes_binary : (r : Restrictions) (bp : ℕ) {n : ℕ} {s t : State} →
-    n ≡ power (operator_at s.rest) → 0 < n → bp ≤ n → operator_at s.rest ≢ AS_KW → n ≢ 2 →
-    Follows (bin_expr r (operator_at s.rest)) something s t →
-    On (climb_turn r bp false false) (spot s) (spot t) (again false false)
-goes_binary r bp {s = s} e some h is two f =
-    let cast : (operator_at s.rest == AS_KW) ≡ false = ne_eqb (operator_at s.rest) AS_KW is in
-    let dots : (power (operator_at s.rest) == 2) ≡ false = ne_eqb (power (operator_at s.rest)) 2 (λ i. two (e ∙ i)) in
+pub goes_binary : {j : ℕ} (r : Restrictions) (bp : ℕ) {n : ℕ} {p q : Spot} →
+    n ≡ power (operator_at p.rest) → 0 < n → bp ≤ n → operator_at p.rest ≢ AS_KW → n ≢ 2 →
+    On j (bin_expr r (operator_at p.rest)) p q something →
+    On j (climb_turn r bp false false) p q (again false false)
+goes_binary r bp {p = p} e some h is two f =
+    let cast : (operator_at p.rest == AS_KW) ≡ false = ne_eqb (operator_at p.rest) AS_KW is in
+    let dots : (power (operator_at p.rest) == 2) ≡ false = ne_eqb (power (operator_at p.rest)) 2 (λ i. two (e ∙ i)) in
     on_operator r bp e some h (rw (cast, dots) (by_rule f gives))
 
 pub like_is : (x : BlockLike) → (if is_block (of_like x) then block else something) ≡ of_like x
@@ -86,14 +85,14 @@ like_ends like.Block = refl
 like_ends like.NotBlock = refl
 
 -- an operand, and on
-pub from_lhs : (x : BlockLike) (r : Restrictions) (bp : ℕ) {s t : State} {q : Spot} {v : Outcome} →
-    Follows (lhs r) (of_like x) s t →
-    On (extend (if r.prefer_stmt && is_block (of_like x) then give block else after (climb r bp) (λ w. done)))
-    (spot t) q v →
-    On
+pub from_lhs : {j : ℕ} (x : BlockLike) (r : Restrictions) (bp : ℕ) {o p q : Spot} {v : Outcome} →
+    On j (lhs r) o p (of_like x) →
+    On j (extend (if r.prefer_stmt && is_block (of_like x) then give block else after (climb r bp) (λ w. done)))
+    p q v →
+    On j
     (after (lhs r)
     (λ w. if_some w (extend (if r.prefer_stmt && is_block w then give block else after (climb r bp) (λ u. done)))
-    (abandon (give nothing)))) (spot s) q v
+    (abandon (give nothing)))) o q v
 from_lhs like.Block r bp h d = by_rule h d
 from_lhs like.NotBlock r bp h d = by_rule h d
 
@@ -103,11 +102,11 @@ no_first [] j k ks n = refl
 no_first (r ∷ rs) j k ks n = rw (ne_eqb r.kind j n) refl
 
 -- an operand without an operator before it, and on
-pub from_atom : (x : BlockLike) (r : Restrictions) {s t : State} {q : Spot} {v : Outcome} →
-    Follows (atom_expr r) (of_like x) s t →
-    On (postfix_expr (not (r.prefer_stmt && is_block (of_like x))) (is_block (of_like x))) (spot t) q v →
-    On
+pub from_atom : {j : ℕ} (x : BlockLike) (r : Restrictions) {o p q : Spot} {v : Outcome} →
+    On j (atom_expr r) o p (of_like x) →
+    On j (postfix_expr (not (r.prefer_stmt && is_block (of_like x))) (is_block (of_like x))) p q v →
+    On j
     (after (atom_expr r)
-    (λ w. if_some w (postfix_expr (not (r.prefer_stmt && is_block w)) (is_block w)) (give nothing))) (spot s) q v
+    (λ w. if_some w (postfix_expr (not (r.prefer_stmt && is_block w)) (is_block w)) (give nothing))) o q v
 from_atom like.Block r h d = by_rule h d
 from_atom like.NotBlock r h d = by_rule h d

@@ -8,11 +8,13 @@ use Rattle.rap_events.specs.Record.{next_kind}
 use Rattle.rap_events.specs.Composite.{is_at, width}
 use Rattle.rap_events.specs.Fit.{Fit, Opens, begin, token, tree, partner}
 use Rattle.rap_events.specs.Forest.{Forest, none, node, leaf}
-use Rattle.rap_events.specs.State.{State, next, Opened, Bumped, Expected}
+use Rattle.rap_events.specs.State.{State, state, next, Opened, Bumped, Expected}
+use Rattle.rap_events.specs.declared.parser.Parser.{Parser}
 use Rattle.rap_grammar_scripts.specs.First.{one_of, is_bracket}
 use Rattle.rap_grammar_scripts.specs.TokenTree.{tokens_turn, tokens_in, tokens_to, token_tree}
-use Rattle.rap_grammar_scripts.specs.Script.{Outcome, something, Spot, spot, gives, passes, fails}
-use Rattle.rap_grammar_scripts.proofs.Balance.{one_wide, by_partner}
+use Rattle.rap_grammar_scripts.specs.Script.{Outcome, something, Spot, spot}
+use Rattle.rap_grammar_scripts.proofs.Balance.{one_wide}
+use Rattle.rap_grammar_scripts.proofs.Ends.{gives, passes, fails}
 use Rattle.rap_grammar_frame.proofs.Steps.{On, Turns, last_turn}
 
 bracket_opens : (k : ℕ) → is_bracket k ≡ true → is_l_delimiter k ≡ true
@@ -56,17 +58,27 @@ closed {k = k} {ket = ket} {s = s} e i h z = record {
 }
 
 -- the script, by the bracket that comes next
-pub by_bracket : {ket : ℕ} {p q : Spot} {v : Outcome} → ket ≡ partner (next_kind p.rest) → On (tokens_in ket) p q v →
-    On token_tree p q v
-by_bracket e d = by_partner (rw (← e) d)
+by_opening : {j : ℕ} (a b : Bool) {p q : Spot} {v : Outcome} → (next_kind p.rest == L_PAREN) ≡ a →
+    (next_kind p.rest == L_BRACK) ≡ b →
+    On j (tokens_in (if a then R_PAREN else (if b then R_BRACK else R_CURLY))) p q v → On j token_tree p q v
+unfolding token_tree
+by_opening true b e i r = passes e r
+by_opening false true e i r = fails e (passes i r)
+by_opening false false e i r = fails e (fails i r)
 
-at_end : (ket : ℕ) (p : Spot) (b : Bool) → is_at EOF p.rest ≡ b → (b ≡ false → is_at ket p.rest ≡ true) →
-    On (tokens_turn ket false false) p p something
+pub by_bracket : {j ket : ℕ} {p q : Spot} {v : Outcome} → ket ≡ partner (next_kind p.rest) →
+    On j (tokens_in ket) p q v → On j token_tree p q v
+by_bracket {p = p} e d =
+    by_opening (next_kind p.rest == L_PAREN) (next_kind p.rest == L_BRACK) refl refl (rw (← e) d)
+
+at_end : {j : ℕ} (ket : ℕ) (p : Spot) (b : Bool) → is_at EOF p.rest ≡ b → (b ≡ false → is_at ket p.rest ≡ true) →
+    On j (tokens_turn ket false false) p p something
 at_end ket p true e f = passes e gives
 at_end ket p false e f = fails e (passes (f refl) gives)
 
 -- the end of the tokens: the closing bracket, or none is left
-pub tokens_end : (ket : ℕ) {s t : State} → Turns (tokens_turn ket) false false false false s t →
-    (is_at EOF t.rest ≡ false → is_at ket t.rest ≡ true) → On (tokens_to ket) (spot s) (spot t) something
+pub tokens_end : {j : ℕ} (ket : ℕ) {o p : Parser} → Turns j (tokens_turn ket) false false false false o p →
+    (is_at EOF (state p).rest ≡ false → is_at ket (state p).rest ≡ true) →
+    On j (tokens_to ket) (spot (state o)) (spot (state p)) something
 unfolding tokens_to
-tokens_end ket {t = t} k f = last_turn k (at_end ket (spot t) (is_at EOF t.rest) refl f) refl
+tokens_end ket {p = p} k f = last_turn k (at_end ket (spot (state p)) (is_at EOF (state p).rest) refl f) refl

@@ -6,23 +6,17 @@ use Rattle.rap_events.specs.Fit.{is_plain}
 use Rattle.rap_events.specs.State.{State, next}
 use Rattle.rap_events.specs.declared.parser.CompletedMarker.{CompletedMarker}
 use Rattle.rap_events.specs.declared.parser.Marker.{Marker}
-use Rattle.rap_grammar_scripts.specs.Attributes.{inner_attrs, meta, cfg_predicate}
+use Rattle.rap_grammar_scripts.specs.Attributes.{inner_attrs}
 use Rattle.rap_grammar_frame.specs.Climb.{Climbed}
-use Rattle.rap_grammar_scripts.specs.Control.{if_expr}
-use Rattle.rap_grammar_scripts.specs.Expressions.{expr_bp, of_expr}
+use Rattle.rap_grammar_scripts.specs.Exec.{Does, Obeys}
+use Rattle.rap_grammar_scripts.specs.Expressions.{of_expr}
 use Rattle.rap_grammar_scripts.specs.First.{is_type_first, is_generic_arg_first, is_cfg_predicate_first, is_use_path_start}
-use Rattle.rap_grammar_scripts.specs.GenericArgs.{generic_arg}
-use Rattle.rap_grammar_scripts.specs.GenericParams.{generic_param_list, bounds_without_colon, where_clause}
 use Rattle.rap_grammar_frame.specs.Grew.{Grew, Took, Spent, Made, Closed, Closes, Dropped}
-use Rattle.rap_grammar_scripts.specs.Items.{item_or_macro}
-use Rattle.rap_grammar_scripts.specs.Knot.{Follows}
-use Rattle.rap_grammar_scripts.specs.Patterns.{pattern_r, pattern_single_r}
+use Rattle.rap_grammar_scripts.specs.Phrase as phrase
 use Rattle.rap_grammar_scripts.specs.Recovery.{stops_expr, stops_pattern, stops_arm, stops_of, stops_type}
 use Rattle.rap_grammar_frame.specs.Room.{expression_room, atom_room, statement_room, marked_room, element_room, list_room, type_room, pattern_room, single_pattern_room, atom_pattern_room, recovery_events, dropped_events}
 use Rattle.rap_grammar_scripts.specs.Script.{something}
-use Rattle.rap_grammar_scripts.specs.Statements.{stmt}
-use Rattle.rap_grammar_scripts.specs.Types.{type_with_bounds_cond, path_type_bounds}
-use Rattle.rap_grammar_scripts.specs.UseItem.{is_use_tree_start, use_tree}
+use Rattle.rap_grammar_scripts.specs.UseItem.{is_use_tree_start}
 use Rattle.rap_grammar_scripts.specs.declared.arguments.BlockLike.{BlockLike}
 use Rattle.rap_grammar_frame.specs.declared.knot.Rule.{Rule}
 use Rattle.rap_grammar_frame.specs.declared.knot.Rule.TheVariants as rule
@@ -127,26 +121,26 @@ Pre rule.UseTree s = is_use_tree_start s.rest ≡ true
 Pre rule.Meta s = Unit {0}
 Pre rule.CfgPredicate s = Unit {0}
 
--- what each rule ensures
-abbrev pub Post : Rule → State → State → Option (CompletedMarker × BlockLike) → Type 0
-Post (rule.ExprBp m r bp) old new e =
-    Answered old new m r.prefer_stmt bp e × Follows (expr_bp (is_some m) r bp) (of_expr e) old new
-Post (rule.TypeWithBoundsCond allow_bounds) old new e =
-    IsType old new × Follows (type_with_bounds_cond allow_bounds) something old new
-Post rule.PathTypeBounds old new e = Took old new type_room × Follows (path_type_bounds true) something old new
-Post rule.GenericArg old new e = Took old new element_room × Follows generic_arg something old new
-Post rule.GenericParamList old new e = Took old new list_room × Follows generic_param_list something old new
-Post rule.BoundsWithoutColon old new e = Grew old new 16 × Follows bounds_without_colon something old new
-Post rule.WhereClause old new e = Took old new list_room × Follows where_clause something old new
-Post rule.Pattern old new e = IsPattern old new × Follows (pattern_r false) something old new
-Post rule.PatternSingle old new e = IsSinglePattern old new × Follows (pattern_single_r false) something old new
-Post rule.ArmPattern old new e = IsArmPattern old new × Follows (pattern_r true) something old new
-Post (rule.Stmt semicolon) old new e = IsStatement old new × Follows (stmt semicolon) something old new
-Post rule.IfExpr old new e = Took old new atom_room × Follows if_expr something old new
-Post (rule.ItemOrMacro stop_on_r_curly is_in_extern) old new e =
-    IsItem stop_on_r_curly old new × Follows (item_or_macro stop_on_r_curly is_in_extern) something old new
-Post rule.InnerAttrs old new e = Grew old new 0 × Follows inner_attrs something old new
-Post rule.UseTree old new e = Took old new list_room × Follows use_tree something old new
-Post rule.Meta old new e = Grew old new 16 × Follows meta something old new
-Post rule.CfgPredicate old new e =
-    Parsed is_cfg_predicate_first 8 element_room old new × Follows cfg_predicate something old new
+-- what each rule ensures, with at most so many rules inside one another
+abbrev pub Post : ℕ → Rule → State → State → Option (CompletedMarker × BlockLike) → Type 0
+Post n (rule.ExprBp m r bp) old new e =
+    Answered old new m r.prefer_stmt bp e × Obeys n (phrase.expr_bp (is_some m) r bp) (of_expr e) old new
+Post n (rule.TypeWithBoundsCond allow_bounds) old new e =
+    IsType old new × Obeys n (phrase.type_with_bounds_cond allow_bounds) something old new
+Post n rule.PathTypeBounds old new e = Took old new type_room × Obeys n phrase.path_type_bounds something old new
+Post n rule.GenericArg old new e = Took old new element_room × Obeys n phrase.generic_arg something old new
+Post n rule.GenericParamList old new e = Took old new list_room × Obeys n phrase.generic_param_list something old new
+Post n rule.BoundsWithoutColon old new e = Grew old new 16 × Obeys n phrase.bounds_without_colon something old new
+Post n rule.WhereClause old new e = Took old new list_room × Obeys n phrase.where_clause something old new
+Post n rule.Pattern old new e = IsPattern old new × Obeys n phrase.pattern something old new
+Post n rule.PatternSingle old new e = IsSinglePattern old new × Obeys n phrase.pattern_single something old new
+Post n rule.ArmPattern old new e = IsArmPattern old new × Obeys n phrase.arm_pattern something old new
+Post n (rule.Stmt semicolon) old new e = IsStatement old new × Obeys n (phrase.stmt semicolon) something old new
+Post n rule.IfExpr old new e = Took old new atom_room × Obeys n phrase.if_expr something old new
+Post n (rule.ItemOrMacro stop_on_r_curly is_in_extern) old new e =
+    IsItem stop_on_r_curly old new × Obeys n (phrase.item_or_macro stop_on_r_curly is_in_extern) something old new
+Post n rule.InnerAttrs old new e = Grew old new 0 × Does n inner_attrs something old new
+Post n rule.UseTree old new e = Took old new list_room × Obeys n phrase.use_tree something old new
+Post n rule.Meta old new e = Grew old new 16 × Obeys n phrase.meta something old new
+Post n rule.CfgPredicate old new e =
+    Parsed is_cfg_predicate_first 8 element_room old new × Obeys n phrase.cfg_predicate something old new

@@ -8,7 +8,7 @@ ghost use Rattle.rap_grammar_scripts.specs.Called as called;
 ghost use Rattle.rap_grammar_scripts.specs.Expressions.{of_expr};
 ghost use Rattle.rap_grammar_scripts.specs.Grammar as grammar_script;
 ghost use Rattle.rap_grammar_frame.specs.Grew.{Within, Grew, Behind, Reads, Took};
-ghost use Rattle.rap_grammar_scripts.specs.Knot.{Follows};
+ghost use Rattle.rap_grammar_scripts.specs.Exec.{Does};
 ghost use Rattle.rap_grammar_scripts.specs.Recovery.{stops_expr};
 ghost use Rattle.rap_grammar_frame.specs.Room.{atom_room, expression_room, list_room};
 ghost use Rattle.rap_grammar_frame.specs.Rules.{Answered, IsArmPattern, IsPattern, IsSinglePattern, IsType};
@@ -28,7 +28,7 @@ use rap_grammar_scripts::arguments::Restrictions;
 pub fn opt_ret_type<G: Grammar>(p: &mut Parser<'_>, g: &G) -> Result<bool, NoMemory>
     requires within { Within G.valid G.left g.now (state p.old) }
     ensures grew { OnOk result (Grew (state p.old) (state p.new) 0) }
-    ensures script { IfOk result (λ found. Follows grammar_script.opt_ret_type (of_bool found) (state p.old) (state p.new)) }
+    ensures script { IfOk result (λ found. Does (G.left g.now) grammar_script.opt_ret_type (of_bool found) (state p.old) (state p.new)) }
 {
     if !p.at(T![->]) {
         return Ok(false);
@@ -45,7 +45,7 @@ pub fn opt_no_arrow_ret_type<G: Grammar>(p: &mut Parser<'_>, g: &G) -> Result<bo
     requires behind { Behind G.valid G.left g.now (state p.old) }
     ensures grew { OnOk result (Grew (state p.old) (state p.new) 0) }
     ensures script { IfOk result
-        (λ found. Follows grammar_script.opt_no_arrow_ret_type (of_bool found) (state p.old) (state p.new)) }
+        (λ found. Does (G.left g.now) grammar_script.opt_no_arrow_ret_type (of_bool found) (state p.old) (state p.new)) }
 {
     if !is_path_name(p.current()) {
         return Ok(false);
@@ -62,7 +62,7 @@ pub fn expr<G: Grammar>(p: &mut Parser<'_>, g: &G) -> Result<Option<CompletedMar
     requires behind { Behind G.valid G.left g.now (state p.old) }
     ensures reads { IfOk result (Reads expression_room 8 (state p.old) (state p.new)) }
     ensures took { OnOk result (stops_expr (next (state p.old)) ≡ false → Took (state p.old) (state p.new) expression_room) }
-    ensures script { IfOk result (λ o. Follows atom_script.expr (of_option o) (state p.old) (state p.new)) }
+    ensures script { IfOk result (λ o. Does (G.left g.now) atom_script.expr (of_option o) (state p.old) (state p.new)) }
 {
     let r = Restrictions {
         forbid_structs: false,
@@ -78,7 +78,7 @@ pub fn expr<G: Grammar>(p: &mut Parser<'_>, g: &G) -> Result<Option<CompletedMar
 pub fn expr_no_struct<G: Grammar>(p: &mut Parser<'_>, g: &G) -> Result<(), NoMemory>
     requires behind { Behind G.valid G.left g.now (state p.old) }
     ensures grew { OnOk result (Grew (state p.old) (state p.new) 8) }
-    ensures script { OnOk result (Follows called.expr_no_struct something (state p.old) (state p.new)) }
+    ensures script { OnOk result (Does (G.left g.now) called.expr_no_struct something (state p.old) (state p.new)) }
 {
     let r = Restrictions {
         forbid_structs: true,
@@ -92,7 +92,7 @@ pub fn expr_no_struct<G: Grammar>(p: &mut Parser<'_>, g: &G) -> Result<(), NoMem
 pub fn expr_stmt<G: Grammar>(p: &mut Parser<'_>, g: &G) -> Result<Answer, NoMemory>
     requires behind { Behind G.valid G.left g.now (state p.old) }
     ensures answered { IfOk result (Answered (state p.old) (state p.new) None true 1) }
-    ensures script { IfOk result (λ e. Follows called.expr_stmt (of_expr e) (state p.old) (state p.new)) }
+    ensures script { IfOk result (λ e. Does (G.left g.now) called.expr_stmt (of_expr e) (state p.old) (state p.new)) }
 {
     let r = Restrictions {
         forbid_structs: false,
@@ -106,7 +106,7 @@ pub fn expr_stmt<G: Grammar>(p: &mut Parser<'_>, g: &G) -> Result<Answer, NoMemo
 pub fn opt_generic_param_list<G: Grammar>(p: &mut Parser<'_>, g: &G) -> Result<(), NoMemory>
     requires behind { Behind G.valid G.left g.now (state p.old) }
     ensures grew { OnOk result (Grew (state p.old) (state p.new) 0) }
-    ensures script { OnOk result (Follows called.opt_generic_param_list something (state p.old) (state p.new)) }
+    ensures script { OnOk result (Does (G.left g.now) called.opt_generic_param_list something (state p.old) (state p.new)) }
 {
     if !p.at(T![<]) {
         return Ok(());
@@ -120,7 +120,7 @@ pub fn bounds<G: Grammar>(p: &mut Parser<'_>, g: &G) -> Result<(), NoMemory>
     requires within { Within G.valid G.left g.now (state p.old) }
     requires here { next (state p.old) ≡ COLON }
     ensures took { OnOk result (Took (state p.old) (state p.new) list_room) }
-    ensures script { OnOk result (Follows called.bounds something (state p.old) (state p.new)) }
+    ensures script { OnOk result (Does (G.left g.now) called.bounds something (state p.old) (state p.new)) }
 {
     p.bump(T![:])?;
     g.run(p, Rule::BoundsWithoutColon)?;
@@ -131,7 +131,7 @@ pub fn bounds<G: Grammar>(p: &mut Parser<'_>, g: &G) -> Result<(), NoMemory>
 pub fn bounds_without_colon<G: Grammar>(p: &mut Parser<'_>, g: &G) -> Result<(), NoMemory>
     requires behind { Behind G.valid G.left g.now (state p.old) }
     ensures grew { OnOk result (Grew (state p.old) (state p.new) 16) }
-    ensures script { OnOk result (Follows called.bounds_without_colon something (state p.old) (state p.new)) }
+    ensures script { OnOk result (Does (G.left g.now) called.bounds_without_colon something (state p.old) (state p.new)) }
 {
     g.run(p, Rule::BoundsWithoutColon)?;
     Ok(())
@@ -141,7 +141,7 @@ pub fn bounds_without_colon<G: Grammar>(p: &mut Parser<'_>, g: &G) -> Result<(),
 pub fn opt_where_clause<G: Grammar>(p: &mut Parser<'_>, g: &G) -> Result<(), NoMemory>
     requires behind { Behind G.valid G.left g.now (state p.old) }
     ensures grew { OnOk result (Grew (state p.old) (state p.new) 0) }
-    ensures script { OnOk result (Follows called.opt_where_clause something (state p.old) (state p.new)) }
+    ensures script { OnOk result (Does (G.left g.now) called.opt_where_clause something (state p.old) (state p.new)) }
 {
     if !p.at(T![where]) {
         return Ok(());
@@ -154,7 +154,7 @@ pub fn opt_where_clause<G: Grammar>(p: &mut Parser<'_>, g: &G) -> Result<(), NoM
 pub fn arm_pattern<G: Grammar>(p: &mut Parser<'_>, g: &G) -> Result<(), NoMemory>
     requires behind { Behind G.valid G.left g.now (state p.old) }
     ensures reads { OnOk result (IsArmPattern (state p.old) (state p.new)) }
-    ensures script { OnOk result (Follows called.arm_pattern something (state p.old) (state p.new)) }
+    ensures script { OnOk result (Does (G.left g.now) called.arm_pattern something (state p.old) (state p.new)) }
 {
     g.run(p, Rule::ArmPattern)?;
     Ok(())
@@ -165,7 +165,7 @@ pub fn if_expr<G: Grammar>(p: &mut Parser<'_>, g: &G) -> Result<(), NoMemory>
     requires behind { Behind G.valid G.left g.now (state p.old) }
     requires here { next (state p.old) ≡ IF_KW }
     ensures took { OnOk result (Took (state p.old) (state p.new) atom_room) }
-    ensures script { OnOk result (Follows called.if_expr something (state p.old) (state p.new)) }
+    ensures script { OnOk result (Does (G.left g.now) called.if_expr something (state p.old) (state p.new)) }
 {
     g.run(p, Rule::IfExpr)?;
     Ok(())
@@ -175,7 +175,7 @@ pub fn if_expr<G: Grammar>(p: &mut Parser<'_>, g: &G) -> Result<(), NoMemory>
 pub fn pattern<G: Grammar>(p: &mut Parser<'_>, g: &G) -> Result<(), NoMemory>
     requires behind { Behind G.valid G.left g.now (state p.old) }
     ensures reads { OnOk result (IsPattern (state p.old) (state p.new)) }
-    ensures script { OnOk result (Follows called.pattern something (state p.old) (state p.new)) }
+    ensures script { OnOk result (Does (G.left g.now) called.pattern something (state p.old) (state p.new)) }
 {
     g.run(p, Rule::Pattern)?;
     Ok(())
@@ -185,7 +185,7 @@ pub fn pattern<G: Grammar>(p: &mut Parser<'_>, g: &G) -> Result<(), NoMemory>
 pub fn pattern_single<G: Grammar>(p: &mut Parser<'_>, g: &G) -> Result<(), NoMemory>
     requires behind { Behind G.valid G.left g.now (state p.old) }
     ensures reads { OnOk result (IsSinglePattern (state p.old) (state p.new)) }
-    ensures script { OnOk result (Follows called.pattern_single something (state p.old) (state p.new)) }
+    ensures script { OnOk result (Does (G.left g.now) called.pattern_single something (state p.old) (state p.new)) }
 {
     g.run(p, Rule::PatternSingle)?;
     Ok(())
@@ -195,7 +195,7 @@ pub fn pattern_single<G: Grammar>(p: &mut Parser<'_>, g: &G) -> Result<(), NoMem
 pub fn type_<G: Grammar>(p: &mut Parser<'_>, g: &G) -> Result<(), NoMemory>
     requires behind { Behind G.valid G.left g.now (state p.old) }
     ensures reads { OnOk result (IsType (state p.old) (state p.new)) }
-    ensures script { OnOk result (Follows called.type_ something (state p.old) (state p.new)) }
+    ensures script { OnOk result (Does (G.left g.now) called.type_ something (state p.old) (state p.new)) }
 {
     g.run(p, Rule::TypeWithBoundsCond { allow_bounds: true })?;
     Ok(())
@@ -205,7 +205,7 @@ pub fn type_<G: Grammar>(p: &mut Parser<'_>, g: &G) -> Result<(), NoMemory>
 pub fn type_no_bounds<G: Grammar>(p: &mut Parser<'_>, g: &G) -> Result<(), NoMemory>
     requires behind { Behind G.valid G.left g.now (state p.old) }
     ensures reads { OnOk result (IsType (state p.old) (state p.new)) }
-    ensures script { OnOk result (Follows called.type_no_bounds something (state p.old) (state p.new)) }
+    ensures script { OnOk result (Does (G.left g.now) called.type_no_bounds something (state p.old) (state p.new)) }
 {
     g.run(
         p,
@@ -221,7 +221,7 @@ pub fn for_binder<G: Grammar>(p: &mut Parser<'_>, g: &G) -> Result<(), NoMemory>
     requires within { Within G.valid G.left g.now (state p.old) }
     requires here { next (state p.old) ≡ FOR_KW }
     ensures took { OnOk result (Took (state p.old) (state p.new) list_room) }
-    ensures script { OnOk result (Follows parts.for_binder something (state p.old) (state p.new)) }
+    ensures script { OnOk result (Does (G.left g.now) parts.for_binder something (state p.old) (state p.new)) }
 {
     let m = p.start()?;
     p.bump(T![for])?;
@@ -240,7 +240,7 @@ pub fn ascription<G: Grammar>(p: &mut Parser<'_>, g: &G) -> Result<(), NoMemory>
     requires within { Within G.valid G.left g.now (state p.old) }
     requires here { next (state p.old) ≡ COLON }
     ensures took { OnOk result (Took (state p.old) (state p.new) list_room) }
-    ensures script { OnOk result (Follows parts.ascription something (state p.old) (state p.new)) }
+    ensures script { OnOk result (Does (G.left g.now) parts.ascription something (state p.old) (state p.new)) }
 {
     p.bump(T![:])?;
     if p.at(T![=]) {

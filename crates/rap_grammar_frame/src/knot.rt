@@ -28,7 +28,7 @@ pub trait Grammar {
         requires valid { valid self.now }
         requires left { (state p.old).left < left self.now }
         requires pre { Pre rule (state p.old) }
-        ensures { IfOk result (Post rule (state p.old) (state p.new)) };
+        ensures { IfOk result (Post (left self.now) rule (state p.old) (state p.new)) };
 }
 
 /// A recursive rule with its arguments.

@@ -5,7 +5,7 @@ ghost use Rattle.rap_base.specs.TokenKind.{EOF};
 ghost use Rattle.rap_events.specs.State.{state, next, At};
 ghost use Rattle.rap_grammar_scripts.specs.Grammar as script;
 ghost use Rattle.rap_grammar_frame.specs.Grew.{Behind, Grew, Took, Within};
-ghost use Rattle.rap_grammar_scripts.specs.Knot.{Follows};
+ghost use Rattle.rap_grammar_scripts.specs.Exec.{Does};
 ghost use Rattle.rap_grammar_scripts.specs.Phrase.{Phrase};
 ghost use Rattle.rap_grammar_frame.specs.Room.{element_room, brackets_room};
 ghost use Rattle.rap_grammar_scripts.specs.Script.{Script, something};
@@ -30,7 +30,7 @@ pub trait Element {
         requires more { next (state p.old) ≢ EOF }
         ensures grew { OnOk result (Grew (state p.old) (state p.new) 16) }
         ensures took { IfOk result (λ going_on. going_on ≡ true → Took (state p.old) (state p.new) element_room) }
-        ensures script { IfOk result (λ going_on. Follows (element self.now) (of_bool going_on) (state p.old) (state p.new)) };
+        ensures script { IfOk result (λ going_on. Does (G.left g.now) (element self.now) (of_bool going_on) (state p.old) (state p.new)) };
 
     /// Whether an element may begin with a token of this kind.
     fn is_first(&self, kind: SyntaxKind) -> bool
@@ -56,7 +56,7 @@ pub fn delimited<G: Grammar, E: Element>(
     requires delim { delim ≢ EOF }
     ensures took { OnOk result (Took (state p.old) (state p.new) brackets_room) }
     ensures script { OnOk result
-        (Follows
+        (Does (G.left g.now)
         (script.delimited (E.element element.now) bra ket delim unexpected_delim_message.now (E.first element.now))
         something (state p.old) (state p.new)) }
 {
@@ -79,7 +79,7 @@ fn elements<G: Grammar, E: Element>(
     requires delim { delim ≢ EOF }
     ensures grew { OnOk result (Grew (state p.old) (state p.new) 16) }
     ensures script { OnOk result
-        (Follows
+        (Does (G.left g.now)
         (script.elements (E.element element.now) ket delim unexpected_delim_message.now (E.first element.now)) something
         (state p.old) (state p.new)) }
 {

@@ -1,12 +1,12 @@
 //! Literals.
 //! In the Rust crate: `grammar/expressions/atom.rs`.
-ghost use Rattle.std.specs.Prelude.{◌≡◌, ◌≢◌, ◌<◌, ◌≤◌, IfOk, OnOk, true, ◌⊎◌};
+ghost use Rattle.std.specs.Prelude.{ℕ, ◌≡◌, ◌≢◌, ◌<◌, ◌≤◌, IfOk, OnOk, true, ◌⊎◌};
 ghost use Rattle.rap_base.specs.NodeKind.{LITERAL};
 ghost use Rattle.rap_events.specs.State.{state, next};
 ghost use Rattle.rap_grammar_scripts.specs.Atom as script;
 ghost use Rattle.rap_grammar_scripts.specs.First.{is_literal_first};
 ghost use Rattle.rap_grammar_frame.specs.Grew.{Grew, Took, Optional};
-ghost use Rattle.rap_grammar_scripts.specs.Knot.{Follows};
+ghost use Rattle.rap_grammar_scripts.specs.Exec.{Does};
 ghost use Rattle.rap_grammar_frame.specs.Room.{atom_room};
 ghost use Rattle.rap_grammar_scripts.specs.Words.{of_option};
 
@@ -21,7 +21,7 @@ pub fn literal(p: &mut Parser<'_>) -> Result<Option<CompletedMarker>, NoMemory>
     ensures made { IfOk result (Optional LITERAL atom_room (state p.old) (state p.new)) }
     ensures grew { OnOk result (Grew (state p.old) (state p.new) 0) }
     ensures took { OnOk result (is_literal_first (next (state p.old)) ≡ true → Took (state p.old) (state p.new) atom_room) }
-    ensures script { IfOk result (λ o. Follows script.literal (of_option o) (state p.old) (state p.new)) }
+    ensures script { IfOk result (λ o. (depth : ℕ) → Does depth script.literal (of_option o) (state p.old) (state p.new)) }
 {
     if !is_literal_first(p.current()) {
         return Ok(None);

@@ -8,7 +8,7 @@ ghost use Rattle.rap_events.specs.State.{state, next, NthAt, ReadsAs};
 ghost use Rattle.rap_grammar_scripts.specs.First.{is_path_name, is_path_name_or_index};
 ghost use Rattle.rap_grammar_scripts.specs.Grammar as script;
 ghost use Rattle.rap_grammar_frame.specs.Grew.{Grew, Took};
-ghost use Rattle.rap_grammar_scripts.specs.Knot.{Follows};
+ghost use Rattle.rap_grammar_scripts.specs.Exec.{Does};
 ghost use Rattle.rap_grammar_scripts.specs.Name.{given_name};
 ghost use Rattle.rap_grammar_frame.specs.Room.{name_room, recovery_events};
 ghost use Rattle.rap_grammar_scripts.specs.Script.{something};
@@ -43,7 +43,7 @@ pub fn is_path_name(kind: SyntaxKind) -> bool
 pub fn name_ref_mod_path(p: &mut Parser<'_>) -> Result<(), NoMemory>
     ensures grew { OnOk result (Grew (state p.old) (state p.new) recovery_events) }
     ensures took { OnOk result (next (state p.old) ≢ EOF → Took (state p.old) (state p.new) name_room) }
-    ensures script { OnOk result (Follows script.name_ref_mod_path something (state p.old) (state p.new)) }
+    ensures script { OnOk result ((depth : ℕ) → Does depth script.name_ref_mod_path something (state p.old) (state p.new)) }
 {
     if is_path_name(p.current()) {
         let m = p.start()?;
@@ -66,7 +66,7 @@ pub fn is_path_name_or_index(kind: SyntaxKind) -> bool
 pub fn name_ref_mod_path_or_index(p: &mut Parser<'_>) -> Result<(), NoMemory>
     ensures grew { OnOk result (Grew (state p.old) (state p.new) recovery_events) }
     ensures took { OnOk result (next (state p.old) ≢ EOF → Took (state p.old) (state p.new) name_room) }
-    ensures script { OnOk result (Follows script.name_ref_mod_path_or_index something (state p.old) (state p.new)) }
+    ensures script { OnOk result ((depth : ℕ) → Does depth script.name_ref_mod_path_or_index something (state p.old) (state p.new)) }
 {
     if is_path_name_or_index(p.current()) {
         let m = p.start()?;
@@ -82,7 +82,7 @@ pub fn name_ref_mod_path_or_index(p: &mut Parser<'_>) -> Result<(), NoMemory>
 pub fn lifetime(p: &mut Parser<'_>) -> Result<(), NoMemory>
     requires here { next (state p.old) ≡ LIFETIME_IDENT }
     ensures took { OnOk result (Took (state p.old) (state p.new) name_room) }
-    ensures script { OnOk result (Follows script.lifetime something (state p.old) (state p.new)) }
+    ensures script { OnOk result ((depth : ℕ) → Does depth script.lifetime something (state p.old) (state p.new)) }
 {
     let m = p.start()?;
     p.bump(T![lifetime_ident])?;
@@ -94,7 +94,7 @@ pub fn lifetime(p: &mut Parser<'_>) -> Result<(), NoMemory>
 pub fn given_name(p: &mut Parser<'_>) -> Result<(), NoMemory>
     requires here { next (state p.old) ≡ IDENT }
     ensures took { OnOk result (Took (state p.old) (state p.new) name_room) }
-    ensures script { OnOk result (Follows given_name something (state p.old) (state p.new)) }
+    ensures script { OnOk result ((depth : ℕ) → Does depth given_name something (state p.old) (state p.new)) }
 {
     let m = p.start()?;
     p.bump(T![ident])?;
@@ -108,8 +108,8 @@ pub fn name_r(p: &mut Parser<'_>, recovery: TokenSet) -> Result<(), NoMemory>
     ensures grew { OnOk result (Grew (state p.old) (state p.new) recovery_events) }
     ensures took { OnOk result (next (state p.old) ≡ IDENT → Took (state p.old) (state p.new) name_room) }
     ensures script { OnOk result
-        ((kept : ℕ → Bool) → ((kind : ℕ) → member recovery kind ≡ kept kind) →
-        Follows (script.name_r kept) something (state p.old) (state p.new)) }
+        ((depth : ℕ) → (kept : ℕ → Bool) → ((kind : ℕ) → member recovery kind ≡ kept kind) →
+        Does depth (script.name_r kept) something (state p.old) (state p.new)) }
 {
     if p.at(T![ident]) {
         given_name(p)?;
@@ -123,7 +123,7 @@ pub fn name_r(p: &mut Parser<'_>, recovery: TokenSet) -> Result<(), NoMemory>
 pub fn name(p: &mut Parser<'_>) -> Result<(), NoMemory>
     ensures grew { OnOk result (Grew (state p.old) (state p.new) recovery_events) }
     ensures took { OnOk result (next (state p.old) ≡ IDENT → Took (state p.old) (state p.new) name_room) }
-    ensures script { OnOk result (Follows script.name something (state p.old) (state p.new)) }
+    ensures script { OnOk result ((depth : ℕ) → Does depth script.name something (state p.old) (state p.new)) }
 {
     name_r(p, TokenSet::new(&[]))?;
     Ok(())
@@ -134,7 +134,7 @@ pub fn name_ref_or_index(p: &mut Parser<'_>) -> Result<(), NoMemory>
     requires more { next (state p.old) ≢ EOF }
     ensures took { OnOk result (Took (state p.old) (state p.new) name_room) }
     ensures rest { OnOk result ((state p.new).rest ≡ drop 1 (state p.old).rest) }
-    ensures script { OnOk result (Follows script.name_ref_or_index something (state p.old) (state p.new)) }
+    ensures script { OnOk result ((depth : ℕ) → Does depth script.name_ref_or_index something (state p.old) (state p.new)) }
 {
     let m = p.start()?;
     p.bump_any()?;
@@ -147,7 +147,7 @@ pub fn name_any_identifier(p: &mut Parser<'_>) -> Result<(), NoMemory>
     requires here { is_any_identifier (next (state p.old)) ≡ true }
     ensures took { OnOk result (Took (state p.old) (state p.new) name_room) }
     ensures rest { OnOk result ((state p.new).rest ≡ drop 1 (state p.old).rest) }
-    ensures script { OnOk result (Follows script.name_any_identifier something (state p.old) (state p.new)) }
+    ensures script { OnOk result ((depth : ℕ) → Does depth script.name_any_identifier something (state p.old) (state p.new)) }
 {
     let m = p.start()?;
     p.bump_remap_any_ident()?;
@@ -159,7 +159,7 @@ pub fn name_any_identifier(p: &mut Parser<'_>) -> Result<(), NoMemory>
 pub fn name_ref_or_upper_self(p: &mut Parser<'_>) -> Result<(), NoMemory>
     ensures grew { OnOk result (Grew (state p.old) (state p.new) recovery_events) }
     ensures took { OnOk result (next (state p.old) ≢ EOF → Took (state p.old) (state p.new) name_room) }
-    ensures script { OnOk result (Follows script.name_ref_or_upper_self something (state p.old) (state p.new)) }
+    ensures script { OnOk result ((depth : ℕ) → Does depth script.name_ref_or_upper_self something (state p.old) (state p.new)) }
 {
     if matches!(p.current(), T![ident] | T![Self]) {
         let m = p.start()?;
@@ -175,7 +175,7 @@ pub fn name_ref_or_upper_self(p: &mut Parser<'_>) -> Result<(), NoMemory>
 pub fn name_ref_or_self(p: &mut Parser<'_>) -> Result<(), NoMemory>
     ensures grew { OnOk result (Grew (state p.old) (state p.new) recovery_events) }
     ensures took { OnOk result (next (state p.old) ≢ EOF → Took (state p.old) (state p.new) name_room) }
-    ensures script { OnOk result (Follows script.name_ref_or_self something (state p.old) (state p.new)) }
+    ensures script { OnOk result ((depth : ℕ) → Does depth script.name_ref_or_self something (state p.old) (state p.new)) }
 {
     if matches!(p.current(), T![ident] | T![self]) {
         let m = p.start()?;
@@ -190,7 +190,7 @@ pub fn name_ref_or_self(p: &mut Parser<'_>) -> Result<(), NoMemory>
 /// Another name for what is imported, as `as a`, if there is one.
 pub fn opt_rename(p: &mut Parser<'_>) -> Result<(), NoMemory>
     ensures grew { OnOk result (Grew (state p.old) (state p.new) 0) }
-    ensures script { OnOk result (Follows script.opt_rename something (state p.old) (state p.new)) }
+    ensures script { OnOk result ((depth : ℕ) → Does depth script.opt_rename something (state p.old) (state p.new)) }
 {
     if !p.at(T![as]) {
         return Ok(());
@@ -210,7 +210,7 @@ pub fn opt_rename(p: &mut Parser<'_>) -> Result<(), NoMemory>
 pub fn abi(p: &mut Parser<'_>) -> Result<(), NoMemory>
     requires here { next (state p.old) ≡ EXTERN_KW }
     ensures took { OnOk result (Took (state p.old) (state p.new) name_room) }
-    ensures script { OnOk result (Follows script.abi something (state p.old) (state p.new)) }
+    ensures script { OnOk result ((depth : ℕ) → Does depth script.abi something (state p.old) (state p.new)) }
 {
     let m = p.start()?;
     p.bump(T![extern])?;

@@ -1,6 +1,6 @@
 //! Token trees, and the macro calls that hold them.
 //! In the Rust crate: `grammar/items.rs`.
-ghost use Rattle.std.specs.Prelude.{◌≡◌, ◌∷◌, [], OnOk, true, IfOk};
+ghost use Rattle.std.specs.Prelude.{◌≤◌, ℕ, ◌≡◌, ◌∷◌, [], OnOk, true, IfOk};
 ghost use Rattle.rap_base.specs.TokenKind.{R_PAREN, R_BRACK, BANG};
 ghost use Rattle.rap_base.specs.NodeKind.{TOKEN_TREE};
 ghost use Rattle.rap_events.specs.Fit.{partner};
@@ -11,7 +11,7 @@ ghost use Rattle.rap_grammar_scripts.specs.Expressions.{of_like};
 ghost use Rattle.rap_grammar_scripts.specs.First.{is_bracket, one_of};
 ghost use Rattle.rap_grammar_frame.specs.Grew.{Took};
 ghost use Rattle.rap_grammar_scripts.specs.TokenTree as script;
-ghost use Rattle.rap_grammar_scripts.specs.Knot.{Follows};
+ghost use Rattle.rap_grammar_scripts.specs.Exec.{Does};
 ghost use Rattle.rap_grammar_frame.specs.Room.{list_room};
 ghost use Rattle.rap_grammar_scripts.specs.Script.{something};
 
@@ -52,7 +52,7 @@ pub fn token_tree(p: &mut Parser<'_>) -> Result<(), NoMemory>
     ensures took { OnOk result (Took (state p.old) (state p.new) list_room) }
     ensures one { OnOk result
         ((state p.new).forest ≡ node (state p.old).forest TOKEN_TREE (last_children (state p.new).forest)) }
-    ensures script { OnOk result (Follows script.token_tree something (state p.old) (state p.new)) }
+    ensures script { OnOk result ((depth : ℕ) → (state p.old).left ≤ depth → Does depth script.token_tree something (state p.old) (state p.new)) }
     ensures balanced { OnOk result (NestsAsBrackets (state p.old) (state p.new)) }
 {
     let ket = closing_bracket(p.current());
@@ -92,7 +92,7 @@ pub fn starts_macro_call(p: &Parser<'_>) -> bool
 pub fn macro_call_after_excl(p: &mut Parser<'_>) -> Result<BlockLike, NoMemory>
     requires here { next (state p.old) ≡ BANG }
     ensures took { OnOk result (Took (state p.old) (state p.new) list_room) }
-    ensures script { IfOk result (λ e. Follows script.macro_call_after_excl (of_like e) (state p.old) (state p.new)) }
+    ensures script { IfOk result (λ e. (depth : ℕ) → (state p.old).left ≤ depth → Does depth script.macro_call_after_excl (of_like e) (state p.old) (state p.new)) }
 {
     p.bump(T![!])?;
     let kind = p.current();

@@ -11,10 +11,10 @@ use Rattle.rap_grammar_item_kinds.specs.ItemEnds.{Refused, Parted, Modified, Han
 use Rattle.rap_grammar_scripts.specs.Modifiers.{found, either_of}
 use Rattle.rap_grammar_item_kinds.specs.ItemEnds.{Seen}
 use Rattle.rap_grammar_frame.specs.Room.{list_room, item_room}
-use Rattle.rap_grammar_scripts.specs.Script.{Script, Outcome, something, block, Spot, again, give, gives}
+use Rattle.rap_grammar_scripts.specs.Script.{Script, Outcome, something, block, Spot, again, give}
 use Rattle.rap_grammar_scripts.specs.Words.{of_bool}
 use Rattle.rap_grammar_scripts.specs.Expressions.{of_like, is_block}
-use Rattle.rap_grammar_scripts.specs.Knot.{Follows}
+use Rattle.rap_grammar_scripts.proofs.Ends.{gives}
 use Rattle.rap_grammar_scripts.specs.Phrase.{Phrase}
 use Rattle.rap_grammar_scripts.specs.declared.arguments.BlockLike.{BlockLike}
 use Rattle.rap_grammar_scripts.specs.declared.arguments.BlockLike.TheVariants as like
@@ -82,8 +82,8 @@ outcome_of {a = a} {b = b} e =
     ∙ ap (again a) (found_is b)
 
 -- a rule ends with an outcome
-pub gives_as : {v w : Outcome} {p : Spot} → v ≡ w → On (give v) p p w
-gives_as {v = v} {p = p} e = subst (λ (x : Outcome). On (give v) p p x) e gives
+pub gives_as : {j : ℕ} {v w : Outcome} {p : Spot} → v ≡ w → On j (give v) p p w
+gives_as {j = j} {v = v} {p = p} e = subst (λ (x : Outcome). On j (give v) p p x) e gives
 
 -- an item after what was read before it
 pub seen_ended : {s t u : State} {b : Bool} → Seen s t b → Ended t u item_room → Ended s u item_room
@@ -157,13 +157,13 @@ handed u {v = false} (Ok _) x y z = subst (λ (a : State). Ended a u item_room) 
 handed u (Err m) x y z = (z.1.0 ∙ y z.0, z.1.1)
 
 -- whether a macro call reads like a block
-pub like_block : (e : BlockLike) {c : Script Phrase} {s t : State} {b : Bool} → b ≡ is_block (of_like e) → b ≡ true →
-    Follows c (of_like e) s t → Follows c block s t
+pub like_block : (e : BlockLike) {j : ℕ} {c : Script Phrase} {p q : Spot} {b : Bool} → b ≡ is_block (of_like e) →
+    b ≡ true → On j c p q (of_like e) → On j c p q block
 like_block like.Block i h f = f
 like_block like.NotBlock i h f = absurd (clash h i)
 
-pub like_other : (e : BlockLike) {c : Script Phrase} {s t : State} {b : Bool} → b ≡ is_block (of_like e) → b ≡ false →
-    Follows c (of_like e) s t → Follows c something s t
+pub like_other : (e : BlockLike) {j : ℕ} {c : Script Phrase} {p q : Spot} {b : Bool} → b ≡ is_block (of_like e) →
+    b ≡ false → On j c p q (of_like e) → On j c p q something
 like_other like.Block i h f = absurd (clash i h)
 like_other like.NotBlock i h f = f
 
@@ -294,8 +294,8 @@ pub refused_kept : (u : State) (v : Bool) {s t r : State} {b : Bool} (item : Res
 refused_kept u v {b = b} item x e y = refused u v item x (subst (λ (a : State). Refused v b a u item) e y)
 
 -- a rule that asks for what was found
-pub on_found : (f : Bool → Script Phrase) (b : Bool) {p q : Spot} {w : Outcome} → On (f b) p q w →
-    On (f (found (of_bool b))) p q w
+pub on_found : {j : ℕ} (f : Bool → Script Phrase) (b : Bool) {p q : Spot} {w : Outcome} → On j (f b) p q w →
+    On j (f (found (of_bool b))) p q w
 on_found f true d = d
 on_found f false d = d
 

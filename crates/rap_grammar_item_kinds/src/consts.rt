@@ -1,11 +1,11 @@
 //! Constants and statics.
-ghost use Rattle.std.specs.Prelude.{◌≡◌, ◌≢◌, ◌<◌, ◌≤◌, OnOk, Some, true, ◌⊎◌};
+ghost use Rattle.std.specs.Prelude.{ℕ, ◌≡◌, ◌≢◌, ◌<◌, ◌≤◌, OnOk, Some, true, ◌⊎◌};
 ghost use Rattle.rap_base.specs.TokenKind.{STATIC_KW};
 ghost use Rattle.rap_events.specs.State.{state, next};
 ghost use Rattle.rap_grammar_scripts.specs.Consts as script;
 ghost use Rattle.rap_grammar_scripts.specs.Consts.{starts_const};
 ghost use Rattle.rap_grammar_frame.specs.Grew.{Within, Behind, Grew, Ended};
-ghost use Rattle.rap_grammar_scripts.specs.Knot.{Follows};
+ghost use Rattle.rap_grammar_scripts.specs.Exec.{Does};
 ghost use Rattle.rap_grammar_frame.specs.Room.{item_room, recovery_events};
 ghost use Rattle.rap_grammar_scripts.specs.Script.{something};
 
@@ -23,7 +23,7 @@ pub fn konst<G: Grammar>(p: &mut Parser<'_>, g: &G, m: Marker) -> Result<(), NoM
     requires newest { (state p.old).marker ≡ Some m.pos.value }
     requires here { starts_const (state p.old).rest ≡ true }
     ensures ended { OnOk result (Ended (state p.old) (state p.new) item_room) }
-    ensures script { OnOk result (Follows script.konst something (state p.old) (state p.new)) }
+    ensures script { OnOk result (Does (G.left g.now) script.konst something (state p.old) (state p.new)) }
 {
     p.eat(T![type])?;
     p.bump(T![const])?;
@@ -38,7 +38,7 @@ pub fn static_<G: Grammar>(p: &mut Parser<'_>, g: &G, m: Marker) -> Result<(), N
     requires newest { (state p.old).marker ≡ Some m.pos.value }
     requires here { next (state p.old) ≡ STATIC_KW }
     ensures ended { OnOk result (Ended (state p.old) (state p.new) item_room) }
-    ensures script { OnOk result (Follows script.static_ something (state p.old) (state p.new)) }
+    ensures script { OnOk result (Does (G.left g.now) script.static_ something (state p.old) (state p.new)) }
 {
     p.bump(T![static])?;
     const_or_static(p, g, false)?;
@@ -50,7 +50,7 @@ pub fn static_<G: Grammar>(p: &mut Parser<'_>, g: &G, m: Marker) -> Result<(), N
 fn const_or_static<G: Grammar>(p: &mut Parser<'_>, g: &G, is_const: bool) -> Result<(), NoMemory>
     requires behind { Behind G.valid G.left g.now (state p.old) }
     ensures grew { OnOk result (Grew (state p.old) (state p.new) 8) }
-    ensures script { OnOk result (Follows (script.const_or_static is_const) something (state p.old) (state p.new)) }
+    ensures script { OnOk result (Does (G.left g.now) (script.const_or_static is_const) something (state p.old) (state p.new)) }
 {
     p.eat(T![mut])?;
     const_name(p, is_const)?;
@@ -65,7 +65,7 @@ fn const_or_static<G: Grammar>(p: &mut Parser<'_>, g: &G, is_const: bool) -> Res
 /// The name. A constant may have none, as `const _: a = b;`.
 fn const_name(p: &mut Parser<'_>, is_const: bool) -> Result<(), NoMemory>
     ensures grew { OnOk result (Grew (state p.old) (state p.new) recovery_events) }
-    ensures script { OnOk result (Follows (script.const_name is_const) something (state p.old) (state p.new)) }
+    ensures script { OnOk result ((depth : ℕ) → Does depth (script.const_name is_const) something (state p.old) (state p.new)) }
 {
     if !is_const {
         name(p)?;
@@ -82,7 +82,7 @@ fn const_name(p: &mut Parser<'_>, is_const: bool) -> Result<(), NoMemory>
 fn const_params<G: Grammar>(p: &mut Parser<'_>, g: &G, is_const: bool) -> Result<(), NoMemory>
     requires behind { Behind G.valid G.left g.now (state p.old) }
     ensures grew { OnOk result (Grew (state p.old) (state p.new) 1) }
-    ensures script { OnOk result (Follows (script.const_params is_const) something (state p.old) (state p.new)) }
+    ensures script { OnOk result (Does (G.left g.now) (script.const_params is_const) something (state p.old) (state p.new)) }
 {
     if is_const {
         opt_generic_param_list(p, g)?;
@@ -101,7 +101,7 @@ fn const_params<G: Grammar>(p: &mut Parser<'_>, g: &G, is_const: bool) -> Result
 fn const_type<G: Grammar>(p: &mut Parser<'_>, g: &G, is_const: bool) -> Result<(), NoMemory>
     requires within { Within G.valid G.left g.now (state p.old) }
     ensures grew { OnOk result (Grew (state p.old) (state p.new) 1) }
-    ensures script { OnOk result (Follows (script.const_type is_const) something (state p.old) (state p.new)) }
+    ensures script { OnOk result (Does (G.left g.now) (script.const_type is_const) something (state p.old) (state p.new)) }
 {
     if p.at(T![:]) {
         ascription(p, g)?;
@@ -119,7 +119,7 @@ fn const_type<G: Grammar>(p: &mut Parser<'_>, g: &G, is_const: bool) -> Result<(
 fn const_value<G: Grammar>(p: &mut Parser<'_>, g: &G) -> Result<(), NoMemory>
     requires within { Within G.valid G.left g.now (state p.old) }
     ensures grew { OnOk result (Grew (state p.old) (state p.new) 0) }
-    ensures script { OnOk result (Follows script.const_value something (state p.old) (state p.new)) }
+    ensures script { OnOk result (Does (G.left g.now) script.const_value something (state p.old) (state p.new)) }
 {
     if p.eat(T![=])? {
         expr(p, g)?;
@@ -131,7 +131,7 @@ fn const_value<G: Grammar>(p: &mut Parser<'_>, g: &G) -> Result<(), NoMemory>
 fn const_where<G: Grammar>(p: &mut Parser<'_>, g: &G, is_const: bool) -> Result<(), NoMemory>
     requires behind { Behind G.valid G.left g.now (state p.old) }
     ensures grew { OnOk result (Grew (state p.old) (state p.new) 0) }
-    ensures script { OnOk result (Follows (script.const_where is_const) something (state p.old) (state p.new)) }
+    ensures script { OnOk result (Does (G.left g.now) (script.const_where is_const) something (state p.old) (state p.new)) }
 {
     if is_const {
         opt_where_clause(p, g)?;

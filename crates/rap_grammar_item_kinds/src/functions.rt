@@ -1,11 +1,11 @@
 //! Functions.
 //! In the Rust crate: `grammar/items.rs`.
-ghost use Rattle.std.specs.Prelude.{◌≡◌, ◌≢◌, ◌<◌, ◌≤◌, IfOk, OnOk, Some, None, true, ◌⊎◌};
+ghost use Rattle.std.specs.Prelude.{ℕ, ◌≡◌, ◌≢◌, ◌<◌, ◌≤◌, IfOk, OnOk, Some, None, true, ◌⊎◌};
 ghost use Rattle.rap_base.specs.TokenKind.{FN_KW, EOF};
 ghost use Rattle.rap_events.specs.State.{state, next};
 ghost use Rattle.rap_grammar_scripts.specs.Functions as script;
 ghost use Rattle.rap_grammar_frame.specs.Grew.{Within, Behind, Took, Grew, Ended};
-ghost use Rattle.rap_grammar_scripts.specs.Knot.{Follows};
+ghost use Rattle.rap_grammar_scripts.specs.Exec.{Does};
 ghost use Rattle.rap_grammar_frame.specs.Room.{item_room, recovery_events};
 ghost use Rattle.rap_grammar_scripts.specs.Script.{something};
 
@@ -27,7 +27,7 @@ pub fn fn_<G: Grammar>(p: &mut Parser<'_>, g: &G, m: Marker) -> Result<(), NoMem
     requires newest { (state p.old).marker ≡ Some m.pos.value }
     requires here { next (state p.old) ≡ FN_KW }
     ensures ended { OnOk result (Ended (state p.old) (state p.new) item_room) }
-    ensures script { OnOk result (Follows script.fn_ something (state p.old) (state p.new)) }
+    ensures script { OnOk result (Does (G.left g.now) script.fn_ something (state p.old) (state p.new)) }
 {
     p.bump(T![fn])?;
     fn_name(p)?;
@@ -42,7 +42,7 @@ pub fn fn_<G: Grammar>(p: &mut Parser<'_>, g: &G, m: Marker) -> Result<(), NoMem
 fn signature<G: Grammar>(p: &mut Parser<'_>, g: &G) -> Result<(), NoMemory>
     requires behind { Behind G.valid G.left g.now (state p.old) }
     ensures grew { OnOk result (Grew (state p.old) (state p.new) 1) }
-    ensures script { OnOk result (Follows script.signature something (state p.old) (state p.new)) }
+    ensures script { OnOk result (Does (G.left g.now) script.signature something (state p.old) (state p.new)) }
 {
     fn_params(p, g)?;
     fn_ret_type(p, g)?;
@@ -55,7 +55,7 @@ fn signature<G: Grammar>(p: &mut Parser<'_>, g: &G) -> Result<(), NoMemory>
 fn fn_params<G: Grammar>(p: &mut Parser<'_>, g: &G) -> Result<(), NoMemory>
     requires within { Within G.valid G.left g.now (state p.old) }
     ensures grew { OnOk result (Grew (state p.old) (state p.new) 1) }
-    ensures script { OnOk result (Follows script.fn_params something (state p.old) (state p.new)) }
+    ensures script { OnOk result (Does (G.left g.now) script.fn_params something (state p.old) (state p.new)) }
 {
     if p.at(T!['(']) {
         param_list_fn_def(p, g)?;
@@ -69,7 +69,7 @@ fn fn_params<G: Grammar>(p: &mut Parser<'_>, g: &G) -> Result<(), NoMemory>
 fn fn_ret_type<G: Grammar>(p: &mut Parser<'_>, g: &G) -> Result<(), NoMemory>
     requires behind { Behind G.valid G.left g.now (state p.old) }
     ensures grew { OnOk result (Grew (state p.old) (state p.new) 0) }
-    ensures script { OnOk result (Follows script.fn_ret_type something (state p.old) (state p.new)) }
+    ensures script { OnOk result (Does (G.left g.now) script.fn_ret_type something (state p.old) (state p.new)) }
 {
     if opt_ret_type(p, g)? {
         return Ok(());
@@ -89,7 +89,7 @@ fn is_unbalanced(kind: SyntaxKind) -> bool
 /// Brackets that close nothing, each in an `ERROR`.
 fn unbalanced_brackets(p: &mut Parser<'_>) -> Result<(), NoMemory>
     ensures grew { OnOk result (Grew (state p.old) (state p.new) 0) }
-    ensures script { OnOk result (Follows script.unbalanced_brackets something (state p.old) (state p.new)) }
+    ensures script { OnOk result ((depth : ℕ) → Does depth script.unbalanced_brackets something (state p.old) (state p.new)) }
 {
     'brackets: while is_unbalanced(p.current()) {
         p.err_and_bump("expected a curly brace")?;
@@ -101,7 +101,7 @@ fn unbalanced_brackets(p: &mut Parser<'_>) -> Result<(), NoMemory>
 fn fn_body<G: Grammar>(p: &mut Parser<'_>, g: &G) -> Result<(), NoMemory>
     requires within { Within G.valid G.left g.now (state p.old) }
     ensures grew { OnOk result (Grew (state p.old) (state p.new) recovery_events) }
-    ensures script { OnOk result (Follows script.fn_body something (state p.old) (state p.new)) }
+    ensures script { OnOk result (Does (G.left g.now) script.fn_body something (state p.old) (state p.new)) }
 {
     if p.eat(T![;])? {
         return Ok(());

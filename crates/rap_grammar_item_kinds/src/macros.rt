@@ -1,10 +1,10 @@
 //! Macros, and calls of them in the place of an item.
 //! In the Rust crate: `grammar/items.rs`.
-ghost use Rattle.std.specs.Prelude.{◌≡◌, ◌≢◌, ◌<◌, ◌≤◌, IfOk, OnOk, Some, None, true, ◌⊎◌};
+ghost use Rattle.std.specs.Prelude.{ℕ, ◌≡◌, ◌≢◌, ◌<◌, ◌≤◌, IfOk, OnOk, Some, None, true, ◌⊎◌};
 ghost use Rattle.rap_base.specs.TokenKind.{BANG, MACRO_KW, MACRO_RULES_KW};
 ghost use Rattle.rap_events.specs.State.{state, next, ReadsAs};
 ghost use Rattle.rap_grammar_frame.specs.Grew.{Took, Grew, Ended};
-ghost use Rattle.rap_grammar_scripts.specs.Knot.{Follows};
+ghost use Rattle.rap_grammar_scripts.specs.Exec.{Does};
 ghost use Rattle.rap_grammar_scripts.specs.Macros as script;
 ghost use Rattle.rap_grammar_frame.specs.Room.{item_room};
 ghost use Rattle.rap_grammar_scripts.specs.Script.{something};
@@ -22,7 +22,7 @@ pub fn macro_rules(p: &mut Parser<'_>, m: Marker) -> Result<(), NoMemory>
     requires newest { (state p.old).marker ≡ Some m.pos.value }
     requires here { ReadsAs (state p.old) MACRO_RULES_KW }
     ensures ended { OnOk result (Ended (state p.old) (state p.new) item_room) }
-    ensures script { OnOk result (Follows script.macro_rules something (state p.old) (state p.new)) }
+    ensures script { OnOk result ((depth : ℕ) → (state p.old).left ≤ depth → Does depth script.macro_rules something (state p.old) (state p.new)) }
 {
     p.bump_remap(T![macro_rules])?;
     p.expect(T![!])?;
@@ -35,7 +35,7 @@ pub fn macro_rules(p: &mut Parser<'_>, m: Marker) -> Result<(), NoMemory>
 /// The rules of a macro in their brackets, with a semicolon after them if these are no braces.
 fn rules_in_brackets(p: &mut Parser<'_>) -> Result<(), NoMemory>
     ensures grew { OnOk result (Grew (state p.old) (state p.new) 1) }
-    ensures script { OnOk result (Follows script.rules_in_brackets something (state p.old) (state p.new)) }
+    ensures script { OnOk result ((depth : ℕ) → (state p.old).left ≤ depth → Does depth script.rules_in_brackets something (state p.old) (state p.new)) }
 {
     let kind = p.current();
     if matches!(kind, T!['['] | T!['(']) {
@@ -56,7 +56,7 @@ pub fn macro_def(p: &mut Parser<'_>, m: Marker) -> Result<(), NoMemory>
     requires newest { (state p.old).marker ≡ Some m.pos.value }
     requires here { next (state p.old) ≡ MACRO_KW }
     ensures ended { OnOk result (Ended (state p.old) (state p.new) item_room) }
-    ensures script { OnOk result (Follows script.macro_def something (state p.old) (state p.new)) }
+    ensures script { OnOk result ((depth : ℕ) → (state p.old).left ≤ depth → Does depth script.macro_def something (state p.old) (state p.new)) }
 {
     p.bump(T![macro])?;
     item_name(p)?;
@@ -68,7 +68,7 @@ pub fn macro_def(p: &mut Parser<'_>, m: Marker) -> Result<(), NoMemory>
 /// What stands after a macro's name, as `{ () => {} }` and `($a:ident) {}`.
 fn macro_def_tokens(p: &mut Parser<'_>) -> Result<(), NoMemory>
     ensures grew { OnOk result (Grew (state p.old) (state p.new) 1) }
-    ensures script { OnOk result (Follows script.macro_def_tokens something (state p.old) (state p.new)) }
+    ensures script { OnOk result ((depth : ℕ) → (state p.old).left ≤ depth → Does depth script.macro_def_tokens something (state p.old) (state p.new)) }
 {
     if p.at(T!['{']) {
         token_tree(p)?;
@@ -86,7 +86,7 @@ fn macro_def_tokens(p: &mut Parser<'_>) -> Result<(), NoMemory>
 /// The body of a macro, after its parameters.
 fn macro_def_body(p: &mut Parser<'_>) -> Result<(), NoMemory>
     ensures grew { OnOk result (Grew (state p.old) (state p.new) 1) }
-    ensures script { OnOk result (Follows script.macro_def_body something (state p.old) (state p.new)) }
+    ensures script { OnOk result ((depth : ℕ) → (state p.old).left ≤ depth → Does depth script.macro_def_body something (state p.old) (state p.new)) }
 {
     if is_bracket(p.current()) {
         token_tree(p)?;
@@ -101,7 +101,7 @@ pub fn macro_call(p: &mut Parser<'_>, m: Marker) -> Result<(), NoMemory>
     requires newest { (state p.old).marker ≡ Some m.pos.value }
     requires here { next (state p.old) ≡ BANG }
     ensures ended { OnOk result (Ended (state p.old) (state p.new) item_room) }
-    ensures script { OnOk result (Follows script.macro_call something (state p.old) (state p.new)) }
+    ensures script { OnOk result ((depth : ℕ) → (state p.old).left ≤ depth → Does depth script.macro_call something (state p.old) (state p.new)) }
 {
     let like = macro_call_after_excl(p)?;
     if like.is_block() {

@@ -1,11 +1,11 @@
 //! What may stand before the keyword of an item.
 //! In the Rust crate: `grammar/items.rs`.
-ghost use Rattle.std.specs.Prelude.{◌≡◌, ◌≢◌, ◌<◌, ◌≤◌, IfOk, OnOk, IsTrue, true, false, ◌⊎◌, ◌||◌, List, Bool};
+ghost use Rattle.std.specs.Prelude.{ℕ, ◌≡◌, ◌≢◌, ◌<◌, ◌≤◌, IfOk, OnOk, IsTrue, true, false, ◌⊎◌, ◌||◌, List, Bool};
 ghost use Rattle.rap_base.specs.TokenKind.{EOF, IMPL_KW, CONST_KW, ASYNC_KW, GEN_KW, UNSAFE_KW, SAFE_KW, AUTO_KW, DEFAULT_KW};
 ghost use Rattle.rap_events.specs.Record.{Record};
 ghost use Rattle.rap_events.specs.State.{state, next, At, NthAt, ReadsAs};
 ghost use Rattle.rap_grammar_frame.specs.Grew.{Within, Took, Grew};
-ghost use Rattle.rap_grammar_scripts.specs.Knot.{Follows};
+ghost use Rattle.rap_grammar_scripts.specs.Exec.{Does};
 ghost use Rattle.rap_grammar_scripts.specs.Modifiers as script;
 ghost use Rattle.rap_grammar_item_kinds.specs.ItemEnds.{Seen};
 ghost use Rattle.rap_grammar_frame.specs.Room.{list_room};
@@ -36,7 +36,7 @@ pub fn modifiers<G: Grammar>(
     requires within { Within G.valid G.left g.now (state p.old) }
     ensures seen { IfOk result (λ found. Seen (state p.old) (state p.new) found.has_mods) }
     ensures script { IfOk result
-        (λ found. Follows (script.modifiers is_in_extern) (again found.has_mods found.has_extern) (state p.old)
+        (λ found. Does (G.left g.now) (script.modifiers is_in_extern) (again found.has_mods found.has_extern) (state p.old)
         (state p.new)) }
 {
     let restricted = opt_impl_restriction(p, g)?;
@@ -76,7 +76,7 @@ fn is_impl_restriction(p: &Parser<'_>) -> bool
 fn opt_impl_restriction<G: Grammar>(p: &mut Parser<'_>, g: &G) -> Result<bool, NoMemory>
     requires within { Within G.valid G.left g.now (state p.old) }
     ensures seen { IfOk result (λ found. Seen (state p.old) (state p.new) found) }
-    ensures script { IfOk result (λ found. Follows script.opt_impl_restriction (of_bool found) (state p.old) (state p.new)) }
+    ensures script { IfOk result (λ found. Does (G.left g.now) script.opt_impl_restriction (of_bool found) (state p.old) (state p.new)) }
 {
     if !is_impl_restriction(p) {
         return Ok(false);
@@ -90,7 +90,7 @@ fn impl_restriction<G: Grammar>(p: &mut Parser<'_>, g: &G) -> Result<(), NoMemor
     requires within { Within G.valid G.left g.now (state p.old) }
     requires here { next (state p.old) ≡ IMPL_KW }
     ensures took { OnOk result (Took (state p.old) (state p.new) list_room) }
-    ensures script { OnOk result (Follows script.impl_restriction something (state p.old) (state p.new)) }
+    ensures script { OnOk result (Does (G.left g.now) script.impl_restriction something (state p.old) (state p.new)) }
 {
     let m = p.start()?;
     p.bump(T![impl])?;
@@ -109,8 +109,8 @@ fn modifier(p: &mut Parser<'_>, found: bool, kind: SyntaxKind) -> Result<bool, N
     requires some { kind ≢ EOF }
     ensures seen { IfOk result (λ some. Seen (state p.old) (state p.new) some) }
     ensures script { IfOk result
-        (λ some. (h : List Record → Bool) → found ≡ h (state p.old).rest →
-        Follows (script.modifier h kind) (of_bool some) (state p.old) (state p.new)) }
+        (λ some. (depth : ℕ) → (h : List Record → Bool) → found ≡ h (state p.old).rest →
+        Does depth (script.modifier h kind) (of_bool some) (state p.old) (state p.new)) }
 {
     if !found {
         return Ok(false);
@@ -124,8 +124,8 @@ fn modifier_as(p: &mut Parser<'_>, found: bool, kind: SyntaxKind) -> Result<bool
     requires here { found ≡ true → ReadsAs (state p.old) kind }
     ensures seen { IfOk result (λ some. Seen (state p.old) (state p.new) some) }
     ensures script { IfOk result
-        (λ some. (h : List Record → Bool) → found ≡ h (state p.old).rest →
-        Follows (script.modifier_as h kind) (of_bool some) (state p.old) (state p.new)) }
+        (λ some. (depth : ℕ) → (h : List Record → Bool) → found ≡ h (state p.old).rest →
+        Does depth (script.modifier_as h kind) (of_bool some) (state p.old) (state p.new)) }
 {
     if !found {
         return Ok(false);
@@ -187,7 +187,7 @@ fn is_auto_modifier(p: &Parser<'_>) -> bool
 /// The `const` and `async` of a function. Returns whether there was one of them.
 fn qualifiers(p: &mut Parser<'_>) -> Result<bool, NoMemory>
     ensures seen { IfOk result (λ found. Seen (state p.old) (state p.new) found) }
-    ensures script { IfOk result (λ found. Follows script.qualifiers (of_bool found) (state p.old) (state p.new)) }
+    ensures script { IfOk result (λ found. (depth : ℕ) → Does depth script.qualifiers (of_bool found) (state p.old) (state p.new)) }
 {
     let is_const = is_const_modifier(p);
     let constant = modifier(p, is_const, T![const])?;
@@ -201,7 +201,7 @@ fn qualifiers(p: &mut Parser<'_>) -> Result<bool, NoMemory>
 /// `unsafe`, and `safe` in an `extern` block. Returns whether there was one.
 fn safety(p: &mut Parser<'_>, is_in_extern: bool) -> Result<bool, NoMemory>
     ensures seen { IfOk result (λ found. Seen (state p.old) (state p.new) found) }
-    ensures script { IfOk result (λ found. Follows (script.safety is_in_extern) (of_bool found) (state p.old) (state p.new)) }
+    ensures script { IfOk result (λ found. (depth : ℕ) → Does depth (script.safety is_in_extern) (of_bool found) (state p.old) (state p.new)) }
 {
     let is_unsafe = is_unsafe_modifier(p);
     let no_safety = modifier(p, is_unsafe, T![unsafe])?;
@@ -213,7 +213,7 @@ fn safety(p: &mut Parser<'_>, is_in_extern: bool) -> Result<bool, NoMemory>
 /// An ABI, as `extern "C"`, if it comes next. Returns whether it does.
 fn opt_abi(p: &mut Parser<'_>) -> Result<bool, NoMemory>
     ensures seen { IfOk result (λ found. Seen (state p.old) (state p.new) found) }
-    ensures script { IfOk result (λ found. Follows script.opt_abi (of_bool found) (state p.old) (state p.new)) }
+    ensures script { IfOk result (λ found. (depth : ℕ) → Does depth script.opt_abi (of_bool found) (state p.old) (state p.new)) }
 {
     if !p.at(T![extern]) {
         return Ok(false);
@@ -225,7 +225,7 @@ fn opt_abi(p: &mut Parser<'_>) -> Result<bool, NoMemory>
 /// `auto` before a trait, and `default` before what may be replaced. Returns whether there was one.
 fn auto_or_default(p: &mut Parser<'_>) -> Result<bool, NoMemory>
     ensures seen { IfOk result (λ found. Seen (state p.old) (state p.new) found) }
-    ensures script { IfOk result (λ found. Follows script.auto_or_default (of_bool found) (state p.old) (state p.new)) }
+    ensures script { IfOk result (λ found. (depth : ℕ) → Does depth script.auto_or_default (of_bool found) (state p.old) (state p.new)) }
 {
     let is_auto = is_auto_modifier(p);
     let auto = modifier_as(p, is_auto, T![auto])?;
@@ -266,7 +266,7 @@ fn is_default_async(p: &Parser<'_>) -> bool
 /// `default` with the modifier after it, if it comes next. Returns whether it does.
 fn opt_default(p: &mut Parser<'_>) -> Result<bool, NoMemory>
     ensures seen { IfOk result (λ found. Seen (state p.old) (state p.new) found) }
-    ensures script { IfOk result (λ found. Follows script.opt_default (of_bool found) (state p.old) (state p.new)) }
+    ensures script { IfOk result (λ found. (depth : ℕ) → Does depth script.opt_default (of_bool found) (state p.old) (state p.new)) }
 {
     if is_default(p) {
         p.bump_remap(T![default])?;

@@ -1,13 +1,13 @@
 //! Modules, lists of items, and what is named in one line: a crate and a type.
 //! In the Rust crate: `grammar/items.rs`.
-ghost use Rattle.std.specs.Prelude.{◌≡◌, ◌≢◌, ◌<◌, ◌≤◌, IfOk, OnOk, Some, None, true, false, ◌⊎◌};
+ghost use Rattle.std.specs.Prelude.{ℕ, ◌≡◌, ◌≢◌, ◌<◌, ◌≤◌, IfOk, OnOk, Some, None, true, false, ◌⊎◌};
 ghost use Rattle.rap_base.specs.NodeKind.{ITEM_LIST, EXTERN_ITEM_LIST};
 ghost use Rattle.rap_base.specs.TokenKind.{EOF, L_CURLY, R_CURLY, CRATE_KW, EXTERN_KW, MOD_KW, TYPE_KW};
 ghost use Rattle.rap_events.specs.Forest.{node};
 ghost use Rattle.rap_events.specs.State.{state, last_children, next, NthAt};
 ghost use Rattle.rap_grammar_frame.specs.Grew.{Within, Behind, Took, Grew, Ended};
 ghost use Rattle.rap_grammar_scripts.specs.Items as script;
-ghost use Rattle.rap_grammar_scripts.specs.Knot.{Follows};
+ghost use Rattle.rap_grammar_scripts.specs.Exec.{Does};
 ghost use Rattle.rap_grammar_frame.specs.Room.{item_room, list_room};
 ghost use Rattle.rap_grammar_scripts.specs.Script.{something};
 
@@ -27,7 +27,7 @@ pub fn extern_crate(p: &mut Parser<'_>, m: Marker) -> Result<(), NoMemory>
     requires here { next (state p.old) ≡ EXTERN_KW }
     requires more { NthAt (state p.old) 1 CRATE_KW }
     ensures ended { OnOk result (Ended (state p.old) (state p.new) item_room) }
-    ensures script { OnOk result (Follows script.extern_crate something (state p.old) (state p.new)) }
+    ensures script { OnOk result ((depth : ℕ) → Does depth script.extern_crate something (state p.old) (state p.new)) }
 {
     p.bump(T![extern])?;
     p.bump(T![crate])?;
@@ -46,7 +46,7 @@ pub fn mod_contents<G: Grammar>(
 ) -> Result<(), NoMemory>
     requires behind { Behind G.valid G.left g.now (state p.old) }
     ensures grew { OnOk result (Grew (state p.old) (state p.new) 0) }
-    ensures script { OnOk result (Follows (script.mod_contents stop_on_r_curly) something (state p.old) (state p.new)) }
+    ensures script { OnOk result (Does (G.left g.now) (script.mod_contents stop_on_r_curly) something (state p.old) (state p.new)) }
 {
     inner_attrs(p, g)?;
     items(p, g, stop_on_r_curly)?;
@@ -65,7 +65,7 @@ fn ends_items(p: &Parser<'_>, stop_on_r_curly: bool) -> bool
 fn items<G: Grammar>(p: &mut Parser<'_>, g: &G, stop_on_r_curly: bool) -> Result<(), NoMemory>
     requires behind { Behind G.valid G.left g.now (state p.old) }
     ensures grew { OnOk result (Grew (state p.old) (state p.new) 0) }
-    ensures script { OnOk result (Follows (script.items stop_on_r_curly) something (state p.old) (state p.new)) }
+    ensures script { OnOk result (Does (G.left g.now) (script.items stop_on_r_curly) something (state p.old) (state p.new)) }
 {
     // `safe fn` may stand anywhere: there is nothing else that it could be.
     let is_in_extern = true;
@@ -88,7 +88,7 @@ pub fn item_list<G: Grammar>(p: &mut Parser<'_>, g: &G) -> Result<(), NoMemory>
     ensures took { OnOk result (Took (state p.old) (state p.new) list_room) }
     ensures one { OnOk result
         ((state p.new).forest ≡ node (state p.old).forest ITEM_LIST (last_children (state p.new).forest)) }
-    ensures script { OnOk result (Follows script.item_list something (state p.old) (state p.new)) }
+    ensures script { OnOk result (Does (G.left g.now) script.item_list something (state p.old) (state p.new)) }
 {
     let m = p.start()?;
     p.bump(T!['{'])?;
@@ -105,7 +105,7 @@ pub fn extern_item_list<G: Grammar>(p: &mut Parser<'_>, g: &G) -> Result<(), NoM
     ensures took { OnOk result (Took (state p.old) (state p.new) list_room) }
     ensures one { OnOk result
         ((state p.new).forest ≡ node (state p.old).forest EXTERN_ITEM_LIST (last_children (state p.new).forest)) }
-    ensures script { OnOk result (Follows script.extern_item_list something (state p.old) (state p.new)) }
+    ensures script { OnOk result (Does (G.left g.now) script.extern_item_list something (state p.old) (state p.new)) }
 {
     let m = p.start()?;
     p.bump(T!['{'])?;
@@ -121,7 +121,7 @@ pub fn mod_item<G: Grammar>(p: &mut Parser<'_>, g: &G, m: Marker) -> Result<(), 
     requires newest { (state p.old).marker ≡ Some m.pos.value }
     requires here { next (state p.old) ≡ MOD_KW }
     ensures ended { OnOk result (Ended (state p.old) (state p.new) item_room) }
-    ensures script { OnOk result (Follows script.mod_item something (state p.old) (state p.new)) }
+    ensures script { OnOk result (Does (G.left g.now) script.mod_item something (state p.old) (state p.new)) }
 {
     p.bump(T![mod])?;
     name(p)?;
@@ -134,7 +134,7 @@ pub fn mod_item<G: Grammar>(p: &mut Parser<'_>, g: &G, m: Marker) -> Result<(), 
 fn mod_body<G: Grammar>(p: &mut Parser<'_>, g: &G) -> Result<(), NoMemory>
     requires within { Within G.valid G.left g.now (state p.old) }
     ensures grew { OnOk result (Grew (state p.old) (state p.new) 1) }
-    ensures script { OnOk result (Follows script.mod_body something (state p.old) (state p.new)) }
+    ensures script { OnOk result (Does (G.left g.now) script.mod_body something (state p.old) (state p.new)) }
 {
     if p.at(T!['{']) {
         item_list(p, g)?;
@@ -153,7 +153,7 @@ pub fn type_item<G: Grammar>(p: &mut Parser<'_>, g: &G, m: Marker) -> Result<(),
     requires newest { (state p.old).marker ≡ Some m.pos.value }
     requires here { next (state p.old) ≡ TYPE_KW }
     ensures ended { OnOk result (Ended (state p.old) (state p.new) item_room) }
-    ensures script { OnOk result (Follows script.type_item something (state p.old) (state p.new)) }
+    ensures script { OnOk result (Does (G.left g.now) script.type_item something (state p.old) (state p.new)) }
 {
     if p.nth_at(1, T![const]) {
         konst(p, g, m)?;
@@ -169,7 +169,7 @@ fn type_alias<G: Grammar>(p: &mut Parser<'_>, g: &G, m: Marker) -> Result<(), No
     requires newest { (state p.old).marker ≡ Some m.pos.value }
     requires here { next (state p.old) ≡ TYPE_KW }
     ensures ended { OnOk result (Ended (state p.old) (state p.new) item_room) }
-    ensures script { OnOk result (Follows script.type_alias something (state p.old) (state p.new)) }
+    ensures script { OnOk result (Does (G.left g.now) script.type_alias something (state p.old) (state p.new)) }
 {
     p.bump(T![type])?;
     name(p)?;
@@ -187,7 +187,7 @@ fn type_alias<G: Grammar>(p: &mut Parser<'_>, g: &G, m: Marker) -> Result<(), No
 fn alias_bounds<G: Grammar>(p: &mut Parser<'_>, g: &G) -> Result<(), NoMemory>
     requires within { Within G.valid G.left g.now (state p.old) }
     ensures grew { OnOk result (Grew (state p.old) (state p.new) 0) }
-    ensures script { OnOk result (Follows script.alias_bounds something (state p.old) (state p.new)) }
+    ensures script { OnOk result (Does (G.left g.now) script.alias_bounds something (state p.old) (state p.new)) }
 {
     if !p.at(T![:]) {
         return Ok(());
@@ -200,7 +200,7 @@ fn alias_bounds<G: Grammar>(p: &mut Parser<'_>, g: &G) -> Result<(), NoMemory>
 fn aliased_type<G: Grammar>(p: &mut Parser<'_>, g: &G) -> Result<(), NoMemory>
     requires within { Within G.valid G.left g.now (state p.old) }
     ensures grew { OnOk result (Grew (state p.old) (state p.new) 0) }
-    ensures script { OnOk result (Follows script.aliased_type something (state p.old) (state p.new)) }
+    ensures script { OnOk result (Does (G.left g.now) script.aliased_type something (state p.old) (state p.new)) }
 {
     if !p.eat(T![=])? {
         return Ok(());

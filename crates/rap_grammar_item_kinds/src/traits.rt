@@ -1,11 +1,11 @@
 //! Traits and implementations.
-ghost use Rattle.std.specs.Prelude.{◌≡◌, ◌≢◌, ◌<◌, ◌≤◌, OnOk, Some, true};
+ghost use Rattle.std.specs.Prelude.{ℕ, ◌≡◌, ◌≢◌, ◌<◌, ◌≤◌, OnOk, Some, true};
 ghost use Rattle.rap_base.specs.NodeKind.{ASSOC_ITEM_LIST};
 ghost use Rattle.rap_base.specs.TokenKind.{EOF, L_CURLY, R_CURLY, BANG, TRAIT_KW, IMPL_KW};
 ghost use Rattle.rap_events.specs.Forest.{node};
 ghost use Rattle.rap_events.specs.State.{state, last_children, next};
 ghost use Rattle.rap_grammar_frame.specs.Grew.{Within, Behind, Took, Grew, Ended};
-ghost use Rattle.rap_grammar_scripts.specs.Knot.{Follows};
+ghost use Rattle.rap_grammar_scripts.specs.Exec.{Does};
 ghost use Rattle.rap_grammar_frame.specs.Room.{item_room, list_room, statement_room};
 ghost use Rattle.rap_grammar_scripts.specs.Script.{something};
 ghost use Rattle.rap_grammar_scripts.specs.Traits as script;
@@ -28,7 +28,7 @@ pub fn trait_<G: Grammar>(p: &mut Parser<'_>, g: &G, m: Marker) -> Result<(), No
     requires newest { (state p.old).marker ≡ Some m.pos.value }
     requires here { next (state p.old) ≡ TRAIT_KW }
     ensures ended { OnOk result (Ended (state p.old) (state p.new) item_room) }
-    ensures script { OnOk result (Follows script.trait_ something (state p.old) (state p.new)) }
+    ensures script { OnOk result (Does (G.left g.now) script.trait_ something (state p.old) (state p.new)) }
 {
     p.bump(T![trait])?;
     item_name(p)?;
@@ -42,7 +42,7 @@ pub fn trait_<G: Grammar>(p: &mut Parser<'_>, g: &G, m: Marker) -> Result<(), No
 fn trait_body<G: Grammar>(p: &mut Parser<'_>, g: &G) -> Result<(), NoMemory>
     requires behind { Behind G.valid G.left g.now (state p.old) }
     ensures grew { OnOk result (Grew (state p.old) (state p.new) 1) }
-    ensures script { OnOk result (Follows script.trait_body something (state p.old) (state p.new)) }
+    ensures script { OnOk result (Does (G.left g.now) script.trait_body something (state p.old) (state p.new)) }
 {
     if p.eat(T![=])? {
         trait_alias(p, g)?;
@@ -58,7 +58,7 @@ fn trait_body<G: Grammar>(p: &mut Parser<'_>, g: &G) -> Result<(), NoMemory>
 fn trait_alias<G: Grammar>(p: &mut Parser<'_>, g: &G) -> Result<(), NoMemory>
     requires behind { Behind G.valid G.left g.now (state p.old) }
     ensures grew { OnOk result (Grew (state p.old) (state p.new) 17) }
-    ensures script { OnOk result (Follows script.trait_alias something (state p.old) (state p.new)) }
+    ensures script { OnOk result (Does (G.left g.now) script.trait_alias something (state p.old) (state p.new)) }
 {
     bounds_without_colon(p, g)?;
     opt_where_clause(p, g)?;
@@ -70,7 +70,7 @@ fn trait_alias<G: Grammar>(p: &mut Parser<'_>, g: &G) -> Result<(), NoMemory>
 fn opt_bounds<G: Grammar>(p: &mut Parser<'_>, g: &G) -> Result<(), NoMemory>
     requires within { Within G.valid G.left g.now (state p.old) }
     ensures grew { OnOk result (Grew (state p.old) (state p.new) 0) }
-    ensures script { OnOk result (Follows script.opt_bounds something (state p.old) (state p.new)) }
+    ensures script { OnOk result (Does (G.left g.now) script.opt_bounds something (state p.old) (state p.new)) }
 {
     if p.at(T![:]) {
         bounds(p, g)?;
@@ -84,7 +84,7 @@ pub fn impl_<G: Grammar>(p: &mut Parser<'_>, g: &G, m: Marker) -> Result<(), NoM
     requires newest { (state p.old).marker ≡ Some m.pos.value }
     requires here { next (state p.old) ≡ IMPL_KW }
     ensures ended { OnOk result (Ended (state p.old) (state p.new) item_room) }
-    ensures script { OnOk result (Follows script.impl_ something (state p.old) (state p.new)) }
+    ensures script { OnOk result (Does (G.left g.now) script.impl_ something (state p.old) (state p.new)) }
 {
     p.bump(T![impl])?;
     impl_params(p, g)?;
@@ -101,7 +101,7 @@ pub fn impl_<G: Grammar>(p: &mut Parser<'_>, g: &G, m: Marker) -> Result<(), NoM
 fn impl_params<G: Grammar>(p: &mut Parser<'_>, g: &G) -> Result<(), NoMemory>
     requires behind { Behind G.valid G.left g.now (state p.old) }
     ensures grew { OnOk result (Grew (state p.old) (state p.new) 0) }
-    ensures script { OnOk result (Follows script.impl_params something (state p.old) (state p.new)) }
+    ensures script { OnOk result (Does (G.left g.now) script.impl_params something (state p.old) (state p.new)) }
 {
     if is_impl_params_start(p) {
         opt_generic_param_list(p, g)?;
@@ -129,7 +129,7 @@ fn not_a_qualified_path(p: &Parser<'_>) -> bool
 /// A `!` before a trait, as in `impl !A for b {}`, if there is one.
 fn opt_negative(p: &mut Parser<'_>) -> Result<(), NoMemory>
     ensures grew { OnOk result (Grew (state p.old) (state p.new) 0) }
-    ensures script { OnOk result (Follows script.opt_negative something (state p.old) (state p.new)) }
+    ensures script { OnOk result ((depth : ℕ) → Does depth script.opt_negative something (state p.old) (state p.new)) }
 {
     if is_negative_start(p) {
         p.bump(T![!])?;
@@ -149,7 +149,7 @@ fn is_negative_start(p: &Parser<'_>) -> bool
 fn impl_types<G: Grammar>(p: &mut Parser<'_>, g: &G) -> Result<(), NoMemory>
     requires behind { Behind G.valid G.left g.now (state p.old) }
     ensures grew { OnOk result (Grew (state p.old) (state p.new) 8) }
-    ensures script { OnOk result (Follows script.impl_types something (state p.old) (state p.new)) }
+    ensures script { OnOk result (Does (G.left g.now) script.impl_types something (state p.old) (state p.new)) }
 {
     impl_type(p, g)?;
     if p.eat(T![for])? {
@@ -162,7 +162,7 @@ fn impl_types<G: Grammar>(p: &mut Parser<'_>, g: &G) -> Result<(), NoMemory>
 pub fn impl_type<G: Grammar>(p: &mut Parser<'_>, g: &G) -> Result<(), NoMemory>
     requires behind { Behind G.valid G.left g.now (state p.old) }
     ensures grew { OnOk result (Grew (state p.old) (state p.new) 8) }
-    ensures script { OnOk result (Follows script.impl_type something (state p.old) (state p.new)) }
+    ensures script { OnOk result (Does (G.left g.now) script.impl_type something (state p.old) (state p.new)) }
 {
     if p.at(T![impl]) {
         p.error("expected trait or type")?;
@@ -176,7 +176,7 @@ pub fn impl_type<G: Grammar>(p: &mut Parser<'_>, g: &G) -> Result<(), NoMemory>
 fn expect_assoc_item_list<G: Grammar>(p: &mut Parser<'_>, g: &G) -> Result<(), NoMemory>
     requires within { Within G.valid G.left g.now (state p.old) }
     ensures grew { OnOk result (Grew (state p.old) (state p.new) 1) }
-    ensures script { OnOk result (Follows script.expect_assoc_item_list something (state p.old) (state p.new)) }
+    ensures script { OnOk result (Does (G.left g.now) script.expect_assoc_item_list something (state p.old) (state p.new)) }
 {
     if p.at(T!['{']) {
         assoc_item_list(p, g)?;
@@ -193,7 +193,7 @@ pub fn assoc_item_list<G: Grammar>(p: &mut Parser<'_>, g: &G) -> Result<(), NoMe
     ensures took { OnOk result (Took (state p.old) (state p.new) list_room) }
     ensures one { OnOk result
         ((state p.new).forest ≡ node (state p.old).forest ASSOC_ITEM_LIST (last_children (state p.new).forest)) }
-    ensures script { OnOk result (Follows script.assoc_item_list something (state p.old) (state p.new)) }
+    ensures script { OnOk result (Does (G.left g.now) script.assoc_item_list something (state p.old) (state p.new)) }
 {
     let m = p.start()?;
     p.bump(T!['{'])?;
@@ -208,7 +208,7 @@ pub fn assoc_item_list<G: Grammar>(p: &mut Parser<'_>, g: &G) -> Result<(), NoMe
 fn assoc_items<G: Grammar>(p: &mut Parser<'_>, g: &G) -> Result<(), NoMemory>
     requires behind { Behind G.valid G.left g.now (state p.old) }
     ensures grew { OnOk result (Grew (state p.old) (state p.new) 0) }
-    ensures script { OnOk result (Follows script.assoc_items something (state p.old) (state p.new)) }
+    ensures script { OnOk result (Does (G.left g.now) script.assoc_items something (state p.old) (state p.new)) }
 {
     'items: while !p.at(SyntaxKind::EOF) && !p.at(T!['}']) {
         assoc_item(p, g)?;
@@ -222,7 +222,7 @@ fn assoc_item<G: Grammar>(p: &mut Parser<'_>, g: &G) -> Result<(), NoMemory>
     requires more { next (state p.old) ≢ EOF }
     requires inside { next (state p.old) ≢ R_CURLY }
     ensures took { OnOk result (Took (state p.old) (state p.new) statement_room) }
-    ensures script { OnOk result (Follows script.assoc_item something (state p.old) (state p.new)) }
+    ensures script { OnOk result (Does (G.left g.now) script.assoc_item something (state p.old) (state p.new)) }
 {
     if p.at(T!['{']) {
         error_block(p, g, "expected an item")?;

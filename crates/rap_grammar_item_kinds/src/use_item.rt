@@ -7,7 +7,7 @@ ghost use Rattle.rap_events.specs.Composite.{is_at};
 ghost use Rattle.rap_events.specs.Forest.{node};
 ghost use Rattle.rap_events.specs.State.{state, last_children, next};
 ghost use Rattle.rap_grammar_frame.specs.Grew.{Within, Took, Grew, Ended};
-ghost use Rattle.rap_grammar_scripts.specs.Knot.{Follows};
+ghost use Rattle.rap_grammar_scripts.specs.Exec.{Does};
 ghost use Rattle.rap_grammar_frame.specs.Room.{item_room, list_room, recovery_events, use_list_room};
 ghost use Rattle.rap_grammar_scripts.specs.Script.{something};
 ghost use Rattle.rap_grammar_scripts.specs.UseItem as script;
@@ -31,7 +31,7 @@ pub fn use_<G: Grammar>(p: &mut Parser<'_>, g: &G, m: Marker) -> Result<(), NoMe
     requires newest { (state p.old).marker ≡ Some m.pos.value }
     requires here { next (state p.old) ≡ USE_KW }
     ensures ended { OnOk result (Ended (state p.old) (state p.new) item_room) }
-    ensures script { OnOk result (Follows script.use_ something (state p.old) (state p.new)) }
+    ensures script { OnOk result (Does (G.left g.now) script.use_ something (state p.old) (state p.new)) }
 {
     p.bump(T![use])?;
     expect_use_tree(p, g)?;
@@ -46,7 +46,7 @@ pub fn use_<G: Grammar>(p: &mut Parser<'_>, g: &G, m: Marker) -> Result<(), NoMe
 fn expect_use_tree<G: Grammar>(p: &mut Parser<'_>, g: &G) -> Result<(), NoMemory>
     requires within { Within G.valid G.left g.now (state p.old) }
     ensures grew { OnOk result (Grew (state p.old) (state p.new) recovery_events) }
-    ensures script { OnOk result (Follows script.expect_use_tree something (state p.old) (state p.new)) }
+    ensures script { OnOk result (Does (G.left g.now) script.expect_use_tree something (state p.old) (state p.new)) }
 {
     if is_use_tree_start(p) {
         use_tree(p, g)?;
@@ -86,7 +86,7 @@ pub fn use_tree<G: Grammar>(p: &mut Parser<'_>, g: &G) -> Result<(), NoMemory>
     requires within { Within G.valid G.left g.now (state p.old) }
     requires here { is_use_tree_start (state p.old).rest ≡ true }
     ensures took { OnOk result (Took (state p.old) (state p.new) list_room) }
-    ensures script { OnOk result (Follows script.use_tree something (state p.old) (state p.new)) }
+    ensures script { OnOk result (Does (G.left g.now) script.use_tree something (state p.old) (state p.new)) }
 {
     let m = p.start()?;
     if is_group_first(p.current()) {
@@ -111,7 +111,7 @@ fn group<G: Grammar>(p: &mut Parser<'_>, g: &G) -> Result<(), NoMemory>
     requires within { Within G.valid G.left g.now (state p.old) }
     requires first { is_group_first (next (state p.old)) ≡ true }
     ensures took { OnOk result (Took (state p.old) (state p.new) use_list_room) }
-    ensures script { OnOk result (Follows script.group something (state p.old) (state p.new)) }
+    ensures script { OnOk result (Does (G.left g.now) script.group something (state p.old) (state p.new)) }
 {
     if p.eat(T![*])? {
         return Ok(());
@@ -124,7 +124,7 @@ fn group<G: Grammar>(p: &mut Parser<'_>, g: &G) -> Result<(), NoMemory>
 fn after_use_path<G: Grammar>(p: &mut Parser<'_>, g: &G) -> Result<(), NoMemory>
     requires within { Within G.valid G.left g.now (state p.old) }
     ensures grew { OnOk result (Grew (state p.old) (state p.new) 0) }
-    ensures script { OnOk result (Follows script.after_use_path something (state p.old) (state p.new)) }
+    ensures script { OnOk result (Does (G.left g.now) script.after_use_path something (state p.old) (state p.new)) }
 {
     if p.at(T![as]) {
         opt_rename(p)?;
@@ -141,7 +141,7 @@ fn group_behind<G: Grammar>(p: &mut Parser<'_>, g: &G) -> Result<(), NoMemory>
     requires within { Within G.valid G.left g.now (state p.old) }
     requires here { is_at COLON2 (state p.old).rest ≡ true }
     ensures grew { OnOk result (Grew (state p.old) (state p.new) 0) }
-    ensures script { OnOk result (Follows script.group_behind something (state p.old) (state p.new)) }
+    ensures script { OnOk result (Does (G.left g.now) script.group_behind something (state p.old) (state p.new)) }
 {
     p.bump(T![::])?;
     if is_group_first(p.current()) {
@@ -159,7 +159,7 @@ pub fn use_tree_list<G: Grammar>(p: &mut Parser<'_>, g: &G) -> Result<(), NoMemo
     ensures took { OnOk result (Took (state p.old) (state p.new) use_list_room) }
     ensures one { OnOk result
         ((state p.new).forest ≡ node (state p.old).forest USE_TREE_LIST (last_children (state p.new).forest)) }
-    ensures script { OnOk result (Follows script.use_tree_list something (state p.old) (state p.new)) }
+    ensures script { OnOk result (Does (G.left g.now) script.use_tree_list something (state p.old) (state p.new)) }
 {
     let m = p.start()?;
     delimited(

@@ -1,5 +1,5 @@
 //! Items.
-ghost use Rattle.std.specs.Prelude.{◌≡◌, ◌≢◌, ◌<◌, ◌≤◌, IfOk, OnOk, Some, true, false, ◌⊎◌, ◌&&◌, not, List, [], ◌∷◌, Option};
+ghost use Rattle.std.specs.Prelude.{ℕ, ◌≡◌, ◌≢◌, ◌<◌, ◌≤◌, IfOk, OnOk, Some, true, false, ◌⊎◌, ◌&&◌, not, List, [], ◌∷◌, Option};
 ghost use Rattle.rap_base.specs.TokenKind.{EOF, L_CURLY, R_CURLY, BANG, POUND, CRATE_KW, EXTERN_KW, MOD_KW, TYPE_KW, CONST_KW, STATIC_KW, IDENT, UNION_KW, MACRO_RULES_KW, BUILTIN_KW, GLOBAL_ASM_KW};
 ghost use Rattle.rap_events.specs.Record.{contextual_at};
 ghost use Rattle.rap_events.specs.State.{state, next, ReadsAs, NthAt};
@@ -7,7 +7,7 @@ ghost use Rattle.rap_grammar_scripts.specs.First.{is_use_path_start, one_of};
 ghost use Rattle.rap_grammar_frame.specs.Grew.{Within, Behind, Took, Grew, Ended};
 ghost use Rattle.rap_grammar_scripts.specs.Items as script;
 ghost use Rattle.rap_grammar_item_kinds.specs.ItemEnds.{of_item, Handed, Refused, Modified, EndsItem, SkipsItem};
-ghost use Rattle.rap_grammar_scripts.specs.Knot.{Follows};
+ghost use Rattle.rap_grammar_scripts.specs.Exec.{Does};
 ghost use Rattle.rap_grammar_frame.specs.Room.{item_room, list_room};
 ghost use Rattle.rap_grammar_frame.specs.Rules.{IsItem};
 ghost use Rattle.rap_grammar_scripts.specs.Script.{something};
@@ -45,7 +45,7 @@ pub fn opt_item<G: Grammar>(
     requires newest { (state p.old).marker ≡ Some m.pos.value }
     ensures handed { IfOk result (Handed (state p.old) (state p.new)) }
     ensures script { IfOk result
-        (λ item. Follows (script.opt_item is_in_extern) (of_item item) (state p.old) (state p.new)) }
+        (λ item. Does (G.left g.now) (script.opt_item is_in_extern) (of_item item) (state p.old) (state p.new)) }
 {
     let has_visibility = opt_visibility(p, g, false)?;
     match opt_item_without_modifiers(p, g, m)? {
@@ -69,7 +69,7 @@ fn opt_modified_item<G: Grammar>(
     requires newest { (state p.old).marker ≡ Some m.pos.value }
     ensures handed { IfOk result (Modified has_visibility (state p.old) (state p.new)) }
     ensures script { IfOk result
-        (λ item. Follows (script.opt_modified_item has_visibility is_in_extern) (of_item item) (state p.old)
+        (λ item. Does (G.left g.now) (script.opt_modified_item has_visibility is_in_extern) (of_item item) (state p.old)
         (state p.new)) }
 {
     let found = modifiers(p, g, is_in_extern)?;
@@ -92,7 +92,7 @@ fn refuse(
     requires newest { (state p.old).marker ≡ Some m.pos.value }
     ensures refused { IfOk result (Refused has_visibility has_mods (state p.old) (state p.new)) }
     ensures script { IfOk result
-        (λ item. Follows (script.refuse has_visibility has_mods) (of_item item) (state p.old) (state p.new)) }
+        (λ item. (depth : ℕ) → Does depth (script.refuse has_visibility has_mods) (of_item item) (state p.old) (state p.new)) }
 {
     if has_mods {
         p.error("expected fn, trait or impl")?;
@@ -117,7 +117,7 @@ fn opt_item_without_modifiers<G: Grammar>(
     requires newest { (state p.old).marker ≡ Some m.pos.value }
     ensures handed { IfOk result (Handed (state p.old) (state p.new)) }
     ensures script { IfOk result
-        (λ item. Follows script.opt_item_without_modifiers (of_item item) (state p.old) (state p.new)) }
+        (λ item. Does (G.left g.now) script.opt_item_without_modifiers (of_item item) (state p.old) (state p.new)) }
 {
     match p.current() {
         T![extern] => opt_extern_crate(p, m),
@@ -157,7 +157,7 @@ fn opt_extern_crate(p: &mut Parser<'_>, m: Marker) -> Result<Result<(), Marker>,
     requires newest { (state p.old).marker ≡ Some m.pos.value }
     requires here { next (state p.old) ≡ EXTERN_KW }
     ensures handed { IfOk result (Handed (state p.old) (state p.new)) }
-    ensures script { IfOk result (λ item. Follows script.opt_extern_crate (of_item item) (state p.old) (state p.new)) }
+    ensures script { IfOk result (λ item. (depth : ℕ) → Does depth script.opt_extern_crate (of_item item) (state p.old) (state p.new)) }
 {
     if !p.nth_at(1, T![crate]) {
         return Ok(Err(m));
@@ -183,7 +183,7 @@ fn opt_named_const<G: Grammar>(
     requires newest { (state p.old).marker ≡ Some m.pos.value }
     requires here { next (state p.old) ≡ CONST_KW }
     ensures handed { IfOk result (Handed (state p.old) (state p.new)) }
-    ensures script { IfOk result (λ item. Follows script.opt_named_const (of_item item) (state p.old) (state p.new)) }
+    ensures script { IfOk result (λ item. Does (G.left g.now) script.opt_named_const (of_item item) (state p.old) (state p.new)) }
 {
     if !is_named(p) {
         return Ok(Err(m));
@@ -202,7 +202,7 @@ fn opt_const<G: Grammar>(
     requires newest { (state p.old).marker ≡ Some m.pos.value }
     requires here { next (state p.old) ≡ CONST_KW }
     ensures handed { IfOk result (Handed (state p.old) (state p.new)) }
-    ensures script { IfOk result (λ item. Follows script.opt_const (of_item item) (state p.old) (state p.new)) }
+    ensures script { IfOk result (λ item. Does (G.left g.now) script.opt_const (of_item item) (state p.old) (state p.new)) }
 {
     if p.nth(1) == T!['{'] {
         return Ok(Err(m));
@@ -221,7 +221,7 @@ fn opt_static<G: Grammar>(
     requires newest { (state p.old).marker ≡ Some m.pos.value }
     requires here { next (state p.old) ≡ STATIC_KW }
     ensures handed { IfOk result (Handed (state p.old) (state p.new)) }
-    ensures script { IfOk result (λ item. Follows script.opt_static (of_item item) (state p.old) (state p.new)) }
+    ensures script { IfOk result (λ item. Does (G.left g.now) script.opt_static (of_item item) (state p.old) (state p.new)) }
 {
     if !is_named(p) {
         return Ok(Err(m));
@@ -265,7 +265,7 @@ fn opt_item_by_name<G: Grammar>(
     requires within { Within G.valid G.left g.now (state p.old) }
     requires newest { (state p.old).marker ≡ Some m.pos.value }
     ensures handed { IfOk result (Handed (state p.old) (state p.new)) }
-    ensures script { IfOk result (λ item. Follows script.opt_item_by_name (of_item item) (state p.old) (state p.new)) }
+    ensures script { IfOk result (λ item. Does (G.left g.now) script.opt_item_by_name (of_item item) (state p.old) (state p.new)) }
 {
     if starts_union(p) {
         union(p, g, m)?;
@@ -290,7 +290,7 @@ fn global_asm<G: Grammar>(p: &mut Parser<'_>, g: &G, m: Marker) -> Result<(), No
     requires pound { NthAt (state p.old) 1 POUND }
     requires more { contextual_at (state p.old).rest 2 ≡ GLOBAL_ASM_KW }
     ensures ended { OnOk result (Ended (state p.old) (state p.new) item_room) }
-    ensures script { OnOk result (Follows script.global_asm something (state p.old) (state p.new)) }
+    ensures script { OnOk result (Does (G.left g.now) script.global_asm something (state p.old) (state p.new)) }
 {
     p.bump_remap(T![builtin])?;
     p.bump(T![#])?;
@@ -310,7 +310,7 @@ fn opt_item_with_modifiers<G: Grammar>(
     requires newest { (state p.old).marker ≡ Some m.pos.value }
     ensures handed { IfOk result (Handed (state p.old) (state p.new)) }
     ensures script { IfOk result
-        (λ item. Follows (script.opt_item_with_modifiers has_extern) (of_item item) (state p.old) (state p.new)) }
+        (λ item. Does (G.left g.now) (script.opt_item_with_modifiers has_extern) (of_item item) (state p.old) (state p.new)) }
 {
     match p.current() {
         T![fn] => {
@@ -348,7 +348,7 @@ fn opt_extern_block<G: Grammar>(
     requires here { next (state p.old) ≡ L_CURLY }
     ensures handed { IfOk result (Handed (state p.old) (state p.new)) }
     ensures script { IfOk result
-        (λ item. Follows (script.opt_extern_block has_extern) (of_item item) (state p.old) (state p.new)) }
+        (λ item. Does (G.left g.now) (script.opt_extern_block has_extern) (of_item item) (state p.old) (state p.new)) }
 {
     if !has_extern {
         return Ok(Err(m));
@@ -369,7 +369,7 @@ pub fn item_or_macro<G: Grammar>(
     requires within { Within G.valid G.left g.now (state p.old) }
     ensures item { OnOk result (IsItem stop_on_r_curly (state p.old) (state p.new)) }
     ensures script { OnOk result
-        (Follows (script.item_or_macro stop_on_r_curly is_in_extern) something (state p.old) (state p.new)) }
+        (Does (G.left g.now) (script.item_or_macro stop_on_r_curly is_in_extern) something (state p.old) (state p.new)) }
 {
     let m = p.start()?;
     outer_attrs(p, g)?;
@@ -389,7 +389,7 @@ fn marked_item<G: Grammar>(
     requires newest { (state p.old).marker ≡ Some m.pos.value }
     ensures item { OnOk result (EndsItem stop_on_r_curly (state p.old) (state p.new)) }
     ensures script { OnOk result
-        (Follows (script.marked_item stop_on_r_curly is_in_extern) something (state p.old) (state p.new)) }
+        (Does (G.left g.now) (script.marked_item stop_on_r_curly is_in_extern) something (state p.old) (state p.new)) }
 {
     match opt_item(p, g, m, is_in_extern)? {
         Ok(()) => {
@@ -406,7 +406,7 @@ fn marked_item<G: Grammar>(
 /// A semicolon after an item, which is taken into an `ERROR`.
 fn after_item(p: &mut Parser<'_>) -> Result<(), NoMemory>
     ensures grew { OnOk result (Grew (state p.old) (state p.new) 0) }
-    ensures script { OnOk result (Follows script.after_item something (state p.old) (state p.new)) }
+    ensures script { OnOk result ((depth : ℕ) → Does depth script.after_item something (state p.old) (state p.new)) }
 {
     if !p.at(T![;]) {
         return Ok(());
@@ -425,7 +425,7 @@ fn macro_or_error<G: Grammar>(
     requires within { Within G.valid G.left g.now (state p.old) }
     requires newest { (state p.old).marker ≡ Some m.pos.value }
     ensures item { OnOk result (EndsItem stop_on_r_curly (state p.old) (state p.new)) }
-    ensures script { OnOk result (Follows (script.macro_or_error stop_on_r_curly) something (state p.old) (state p.new)) }
+    ensures script { OnOk result (Does (G.left g.now) (script.macro_or_error stop_on_r_curly) something (state p.old) (state p.new)) }
 {
     if is_use_path_start(p) {
         path_item(p, g, m)?;
@@ -442,7 +442,7 @@ fn path_item<G: Grammar>(p: &mut Parser<'_>, g: &G, m: Marker) -> Result<(), NoM
     requires newest { (state p.old).marker ≡ Some m.pos.value }
     requires path { is_use_path_start (state p.old).rest ≡ true }
     ensures ended { OnOk result (Ended (state p.old) (state p.new) item_room) }
-    ensures script { OnOk result (Follows script.path_item something (state p.old) (state p.new)) }
+    ensures script { OnOk result (Does (G.left g.now) script.path_item something (state p.old) (state p.new)) }
 {
     use_path(p, g)?;
     if p.at(T![!]) {
@@ -462,7 +462,7 @@ fn missing_item<G: Grammar>(
 ) -> Result<(), NoMemory>
     requires within { Within G.valid G.left g.now (state p.old) }
     ensures item { OnOk result (SkipsItem stop_on_r_curly (state p.old) (state p.new)) }
-    ensures script { OnOk result (Follows (script.missing_item stop_on_r_curly) something (state p.old) (state p.new)) }
+    ensures script { OnOk result (Does (G.left g.now) (script.missing_item stop_on_r_curly) something (state p.old) (state p.new)) }
 {
     if p.current() == T!['{'] {
         error_block(p, g, "expected an item")?;
@@ -506,7 +506,7 @@ fn is_at_end(p: &Parser<'_>) -> bool
 fn unmatched_brace(p: &mut Parser<'_>) -> Result<(), NoMemory>
     requires here { next (state p.old) ≡ R_CURLY }
     ensures took { OnOk result (Took (state p.old) (state p.new) list_room) }
-    ensures script { OnOk result (Follows script.unmatched_brace something (state p.old) (state p.new)) }
+    ensures script { OnOk result ((depth : ℕ) → Does depth script.unmatched_brace something (state p.old) (state p.new)) }
 {
     let m = p.start()?;
     p.error("unmatched `}`")?;

@@ -1,6 +1,6 @@
 //! What follows an operand: calls, indexes, fields and methods, `?`.
 //! In the Rust crate: `grammar/expressions.rs`.
-ghost use Rattle.std.specs.Prelude.{◌≡◌, ◌<◌, ◌≤◌, IfOk, OnOk, true, Some};
+ghost use Rattle.std.specs.Prelude.{ℕ, ◌≡◌, ◌<◌, ◌≤◌, IfOk, OnOk, true, Some};
 ghost use Rattle.rap_base.specs.TokenKind.{DOT, L_PAREN, L_BRACK, AWAIT_KW, QUESTION};
 ghost use Rattle.rap_base.specs.NodeKind.{CALL_EXPR, INDEX_EXPR, METHOD_CALL_EXPR, AWAIT_EXPR, FIELD_EXPR, TRY_EXPR};
 ghost use Rattle.rap_events.specs.Fit.{is_plain};
@@ -8,7 +8,7 @@ ghost use Rattle.rap_events.specs.State.{state, IsLast, but_last, next};
 ghost use Rattle.rap_grammar_scripts.specs.Expressions as script;
 ghost use Rattle.rap_grammar_scripts.specs.Expressions.{of_like, is_block, is_method_call};
 ghost use Rattle.rap_grammar_frame.specs.Grew.{Within, Grew, Wraps, Behind, Closes, Took};
-ghost use Rattle.rap_grammar_scripts.specs.Knot.{Follows};
+ghost use Rattle.rap_grammar_scripts.specs.Exec.{Does};
 ghost use Rattle.rap_grammar_frame.specs.Room.{operand_room, arguments_room, recovery_events};
 ghost use Rattle.rap_grammar_scripts.specs.Script.{something};
 ghost use Rattle.rap_grammar_scripts.specs.Words.{of_bool};
@@ -44,7 +44,7 @@ pub fn postfix_expr<G: Grammar>(
     ensures plain { IfOk result (λ e. is_plain e.0.kind.value ≡ true) }
     ensures one { OnOk result (but_last (state p.new).forest ≡ but_last (state p.old).forest) }
     ensures script { IfOk result
-        (λ e. Follows (script.postfix_expr allow_calls (is_block (of_like block_like))) (of_like e.1) (state p.old)
+        (λ e. Does (G.left g.now) (script.postfix_expr allow_calls (is_block (of_like block_like))) (of_like e.1) (state p.old)
         (state p.new)) }
 {
     'postfixes: loop {
@@ -77,7 +77,7 @@ fn postfix_dot_expr<G: Grammar>(
     requires here { next (state p.old) ≡ DOT }
     ensures wraps { IfOk result
         (λ e. Wraps e.0.kind.value operand_room (state p.old) (state p.new) e.0 × (is_plain e.0.kind.value ≡ true)) }
-    ensures script { IfOk result (λ e. Follows script.postfix_dot_expr (of_bool e.1) (state p.old) (state p.new)) }
+    ensures script { IfOk result (λ e. Does (G.left g.now) script.postfix_dot_expr (of_bool e.1) (state p.old) (state p.new)) }
 {
     let m = lhs.precede(p)?;
     p.bump(T![.])?;
@@ -99,7 +99,7 @@ fn after_dot<G: Grammar>(
     ensures closes { IfOk result
         (λ e. Closes e.0.kind.value recovery_events (state p.old) (state p.new) e.0 ×
         (is_plain e.0.kind.value ≡ true)) }
-    ensures script { IfOk result (λ e. Follows script.after_dot (of_bool e.1) (state p.old) (state p.new)) }
+    ensures script { IfOk result (λ e. Does (G.left g.now) script.after_dot (of_bool e.1) (state p.old) (state p.new)) }
 {
     'fields: loop {
         if p.current() != SyntaxKind::FLOAT_NUMBER {
@@ -127,7 +127,7 @@ fn name_after_dot<G: Grammar>(
     requires newest { (state p.old).marker ≡ Some m.pos.value }
     ensures closes { IfOk result
         (λ cm. Closes cm.kind.value recovery_events (state p.old) (state p.new) cm × (is_plain cm.kind.value ≡ true)) }
-    ensures script { OnOk result (Follows script.name_after_dot something (state p.old) (state p.new)) }
+    ensures script { OnOk result (Does (G.left g.now) script.name_after_dot something (state p.old) (state p.new)) }
 {
     if is_method_call(p) {
         let cm = method_call_expr(p, g, m)?;
@@ -162,7 +162,7 @@ fn call_expr<G: Grammar>(
     requires last { IsLast (state p.old) lhs lhs.kind.value }
     requires here { next (state p.old) ≡ L_PAREN }
     ensures wraps { IfOk result (Wraps CALL_EXPR operand_room (state p.old) (state p.new)) }
-    ensures script { OnOk result (Follows script.call_expr something (state p.old) (state p.new)) }
+    ensures script { OnOk result (Does (G.left g.now) script.call_expr something (state p.old) (state p.new)) }
 {
     let m = lhs.precede(p)?;
     arg_list(p, g)?;
@@ -180,7 +180,7 @@ fn index_expr<G: Grammar>(
     requires last { IsLast (state p.old) lhs lhs.kind.value }
     requires here { next (state p.old) ≡ L_BRACK }
     ensures wraps { IfOk result (Wraps INDEX_EXPR operand_room (state p.old) (state p.new)) }
-    ensures script { OnOk result (Follows script.index_expr something (state p.old) (state p.new)) }
+    ensures script { OnOk result (Does (G.left g.now) script.index_expr something (state p.old) (state p.new)) }
 {
     let m = lhs.precede(p)?;
     p.bump(T!['['])?;
@@ -199,7 +199,7 @@ fn method_call_expr<G: Grammar>(
     requires behind { Behind G.valid G.left g.now (state p.old) }
     requires newest { (state p.old).marker ≡ Some m.pos.value }
     ensures closes { IfOk result (Closes METHOD_CALL_EXPR recovery_events (state p.old) (state p.new)) }
-    ensures script { OnOk result (Follows script.method_call_expr something (state p.old) (state p.new)) }
+    ensures script { OnOk result (Does (G.left g.now) script.method_call_expr something (state p.old) (state p.new)) }
 {
     if is_path_name(p.current()) {
         name_ref_mod_path(p)?;
@@ -219,7 +219,7 @@ fn method_arguments<G: Grammar>(
     requires behind { Behind G.valid G.left g.now (state p.old) }
     requires newest { (state p.old).marker ≡ Some m.pos.value }
     ensures closes { IfOk result (Closes METHOD_CALL_EXPR 2 (state p.old) (state p.new)) }
-    ensures script { OnOk result (Follows script.method_arguments something (state p.old) (state p.new)) }
+    ensures script { OnOk result (Does (G.left g.now) script.method_arguments something (state p.old) (state p.new)) }
 {
     opt_generic_arg_list_expr(p, g)?;
     if p.at(T!['(']) {
@@ -236,7 +236,7 @@ fn await_expr(p: &mut Parser<'_>, m: Marker) -> Result<CompletedMarker, NoMemory
     requires newest { (state p.old).marker ≡ Some m.pos.value }
     requires here { next (state p.old) ≡ AWAIT_KW }
     ensures closes { IfOk result (Closes AWAIT_EXPR recovery_events (state p.old) (state p.new)) }
-    ensures script { OnOk result (Follows script.await_expr something (state p.old) (state p.new)) }
+    ensures script { OnOk result ((depth : ℕ) → Does depth script.await_expr something (state p.old) (state p.new)) }
 {
     p.bump(T![await])?;
     let cm = m.complete(p, SyntaxKind::AWAIT_EXPR)?;
@@ -247,7 +247,7 @@ fn await_expr(p: &mut Parser<'_>, m: Marker) -> Result<CompletedMarker, NoMemory
 fn field_expr(p: &mut Parser<'_>, m: Marker) -> Result<CompletedMarker, NoMemory>
     requires newest { (state p.old).marker ≡ Some m.pos.value }
     ensures closes { IfOk result (Closes FIELD_EXPR recovery_events (state p.old) (state p.new)) }
-    ensures script { OnOk result (Follows script.field_expr something (state p.old) (state p.new)) }
+    ensures script { OnOk result ((depth : ℕ) → Does depth script.field_expr something (state p.old) (state p.new)) }
 {
     if is_path_name_or_index(p.current()) {
         name_ref_mod_path_or_index(p)?;
@@ -263,7 +263,7 @@ fn try_expr(p: &mut Parser<'_>, lhs: CompletedMarker) -> Result<CompletedMarker,
     requires last { IsLast (state p.old) lhs lhs.kind.value }
     requires here { next (state p.old) ≡ QUESTION }
     ensures wraps { IfOk result (Wraps TRY_EXPR operand_room (state p.old) (state p.new)) }
-    ensures script { OnOk result (Follows script.try_expr something (state p.old) (state p.new)) }
+    ensures script { OnOk result ((depth : ℕ) → Does depth script.try_expr something (state p.old) (state p.new)) }
 {
     let m = lhs.precede(p)?;
     p.bump(T![?])?;
@@ -297,7 +297,7 @@ fn arg_list<G: Grammar>(p: &mut Parser<'_>, g: &G) -> Result<(), NoMemory>
     requires within { Within G.valid G.left g.now (state p.old) }
     requires here { next (state p.old) ≡ L_PAREN }
     ensures took { OnOk result (Took (state p.old) (state p.new) arguments_room) }
-    ensures script { OnOk result (Follows script.arg_list something (state p.old) (state p.new)) }
+    ensures script { OnOk result (Does (G.left g.now) script.arg_list something (state p.old) (state p.new)) }
 {
     let m = p.start()?;
     delimited(

@@ -8,7 +8,7 @@ ghost use Rattle.rap_events.specs.Power.{power, open_ended};
 ghost use Rattle.rap_grammar_scripts.specs.Expressions as script;
 ghost use Rattle.rap_grammar_scripts.specs.Expressions.{has_range_end};
 ghost use Rattle.rap_grammar_frame.specs.Grew.{Within, Wraps, Makes};
-ghost use Rattle.rap_grammar_scripts.specs.Knot.{Follows};
+ghost use Rattle.rap_grammar_scripts.specs.Exec.{Does};
 ghost use Rattle.rap_grammar_frame.specs.Room.{operand_room};
 ghost use Rattle.rap_grammar_scripts.specs.Script.{something};
 ghost use Rattle.rap_grammar_scripts.specs.Words.{of_bool};
@@ -47,7 +47,7 @@ pub fn range_expr<G: Grammar>(
     requires power { power op ≡ 2 }
     ensures wraps { IfOk result (λ range. Wraps RANGE_EXPR operand_room (state p.old) (state p.new) range.0) }
     ensures open_end { IfOk result (λ range. range.1 ≡ false → open_ended (last_children (state p.new).forest) ≡ true) }
-    ensures script { IfOk result (λ range. Follows (script.range_expr r op) (of_bool range.1) (state p.old) (state p.new)) }
+    ensures script { IfOk result (λ range. Does (G.left g.now) (script.range_expr r op) (of_bool range.1) (state p.old) (state p.new)) }
 {
     let m = lhs.precede(p)?;
     p.bump(op)?;
@@ -77,7 +77,7 @@ pub fn prefix_range<G: Grammar>(
     requires here { At (state p.old) op }
     requires some { op ≢ EOF }
     ensures made { IfOk result (Makes RANGE_EXPR operand_room (state p.old) (state p.new)) }
-    ensures script { OnOk result (Follows (script.prefix_range r op) something (state p.old) (state p.new)) }
+    ensures script { OnOk result (Does (G.left g.now) (script.prefix_range r op) something (state p.old) (state p.new)) }
 {
     let m = p.start()?;
     p.bump(op)?;

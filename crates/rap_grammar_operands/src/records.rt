@@ -1,12 +1,12 @@
 //! Record literals.
 //! In the Rust crate: `grammar/expressions.rs`.
-ghost use Rattle.std.specs.Prelude.{◌≡◌, ◌≢◌, ◌<◌, ◌≤◌, OnOk, Some, true, ◌⊎◌};
+ghost use Rattle.std.specs.Prelude.{ℕ, ◌≡◌, ◌≢◌, ◌<◌, ◌≤◌, OnOk, Some, true, ◌⊎◌};
 ghost use Rattle.rap_base.specs.NodeKind.{RECORD_EXPR_FIELD_LIST};
 ghost use Rattle.rap_base.specs.TokenKind.{EOF, L_CURLY};
 ghost use Rattle.rap_events.specs.Forest.{node};
 ghost use Rattle.rap_events.specs.State.{state, last_children, next};
 ghost use Rattle.rap_grammar_frame.specs.Grew.{Within, Behind, Took, Grew, Gone, Spent};
-ghost use Rattle.rap_grammar_scripts.specs.Knot.{Follows};
+ghost use Rattle.rap_grammar_scripts.specs.Exec.{Does};
 ghost use Rattle.rap_grammar_scripts.specs.Records as script;
 ghost use Rattle.rap_grammar_scripts.specs.Records.{is_field_name};
 ghost use Rattle.rap_grammar_frame.specs.Room.{list_room, name_room, field_room, marked_field_room};
@@ -29,7 +29,7 @@ pub fn record_expr_field_list<G: Grammar>(p: &mut Parser<'_>, g: &G) -> Result<(
     ensures took { OnOk result (Took (state p.old) (state p.new) list_room) }
     ensures one { OnOk result
         ((state p.new).forest ≡ node (state p.old).forest RECORD_EXPR_FIELD_LIST (last_children (state p.new).forest)) }
-    ensures script { OnOk result (Follows script.record_expr_field_list something (state p.old) (state p.new)) }
+    ensures script { OnOk result (Does (G.left g.now) script.record_expr_field_list something (state p.old) (state p.new)) }
 {
     let m = p.start()?;
     p.bump(T!['{'])?;
@@ -43,7 +43,7 @@ pub fn record_expr_field_list<G: Grammar>(p: &mut Parser<'_>, g: &G) -> Result<(
 fn record_fields<G: Grammar>(p: &mut Parser<'_>, g: &G) -> Result<(), NoMemory>
     requires behind { Behind G.valid G.left g.now (state p.old) }
     ensures grew { OnOk result (Grew (state p.old) (state p.new) 0) }
-    ensures script { OnOk result (Follows script.record_fields something (state p.old) (state p.new)) }
+    ensures script { OnOk result (Does (G.left g.now) script.record_fields something (state p.old) (state p.new)) }
 {
     'fields: while !p.at(SyntaxKind::EOF) && !p.at(T!['}']) {
         record_field(p, g)?;
@@ -59,7 +59,7 @@ fn record_field<G: Grammar>(p: &mut Parser<'_>, g: &G) -> Result<(), NoMemory>
     requires behind { Behind G.valid G.left g.now (state p.old) }
     requires more { next (state p.old) ≢ EOF }
     ensures took { OnOk result (Took (state p.old) (state p.new) field_room) }
-    ensures script { OnOk result (Follows script.record_field something (state p.old) (state p.new)) }
+    ensures script { OnOk result (Does (G.left g.now) script.record_field something (state p.old) (state p.new)) }
 {
     let m = p.start()?;
     outer_attrs(p, g)?;
@@ -80,7 +80,7 @@ fn marked_field<G: Grammar>(p: &mut Parser<'_>, g: &G, m: Marker) -> Result<(), 
     requires newest { (state p.old).marker ≡ Some m.pos.value }
     ensures gone { OnOk result (Gone (state p.old) (state p.new) 4) }
     ensures spent { OnOk result (next (state p.old) ≢ EOF → Spent (state p.old) (state p.new) marked_field_room) }
-    ensures script { OnOk result (Follows script.marked_field something (state p.old) (state p.new)) }
+    ensures script { OnOk result (Does (G.left g.now) script.marked_field something (state p.old) (state p.new)) }
 {
     if is_field_name(p.current()) {
         named_field(p, g, m)?;
@@ -109,7 +109,7 @@ fn named_field<G: Grammar>(p: &mut Parser<'_>, g: &G, m: Marker) -> Result<(), N
     requires name { is_field_name (next (state p.old)) ≡ true }
     ensures gone { OnOk result (Gone (state p.old) (state p.new) 0) }
     ensures spent { OnOk result (Spent (state p.old) (state p.new) marked_field_room) }
-    ensures script { OnOk result (Follows script.named_field something (state p.old) (state p.new)) }
+    ensures script { OnOk result (Does (G.left g.now) script.named_field something (state p.old) (state p.new)) }
 {
     if p.nth_at(1, T![::]) {
         base_without_dots(p, g, m)?;
@@ -134,7 +134,7 @@ fn base_without_dots<G: Grammar>(p: &mut Parser<'_>, g: &G, m: Marker) -> Result
     requires name { is_field_name (next (state p.old)) ≡ true }
     ensures gone { OnOk result (Gone (state p.old) (state p.new) 0) }
     ensures spent { OnOk result (Spent (state p.old) (state p.new) marked_field_room) }
-    ensures script { OnOk result (Follows script.base_without_dots something (state p.old) (state p.new)) }
+    ensures script { OnOk result (Does (G.left g.now) script.base_without_dots something (state p.old) (state p.new)) }
 {
     m.abandon(p)?;
     p.expect(T![..])?;
@@ -146,7 +146,7 @@ fn base_without_dots<G: Grammar>(p: &mut Parser<'_>, g: &G, m: Marker) -> Result
 fn field_name(p: &mut Parser<'_>) -> Result<(), NoMemory>
     requires more { next (state p.old) ≢ EOF }
     ensures took { OnOk result ((state p.new ≡ state p.old) ⊎ Took (state p.old) (state p.new) name_room) }
-    ensures script { OnOk result (Follows script.field_name something (state p.old) (state p.new)) }
+    ensures script { OnOk result ((depth : ℕ) → Does depth script.field_name something (state p.old) (state p.new)) }
 {
     if p.nth_at(1, T![:]) {
         name_ref_or_index(p)?;
@@ -165,7 +165,7 @@ fn field_name(p: &mut Parser<'_>) -> Result<(), NoMemory>
 fn base_of_record<G: Grammar>(p: &mut Parser<'_>, g: &G) -> Result<(), NoMemory>
     requires behind { Behind G.valid G.left g.now (state p.old) }
     ensures grew { OnOk result (Grew (state p.old) (state p.new) 9) }
-    ensures script { OnOk result (Follows script.base_of_record something (state p.old) (state p.new)) }
+    ensures script { OnOk result (Does (G.left g.now) script.base_of_record something (state p.old) (state p.new)) }
 {
     if p.at(T!['}']) {
         return Ok(());

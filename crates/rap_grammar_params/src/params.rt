@@ -1,10 +1,10 @@
 //! Parameters of functions and closures.
-ghost use Rattle.std.specs.Prelude.{◌≡◌, ◌≢◌, ◌<◌, ◌≤◌, ◌+◌, OnOk, IfOk, true, false, Some};
+ghost use Rattle.std.specs.Prelude.{ℕ, ◌≡◌, ◌≢◌, ◌<◌, ◌≤◌, ◌+◌, OnOk, IfOk, true, false, Some};
 ghost use Rattle.rap_base.specs.TokenKind.{L_PAREN, PIPE, EOF, SELF_KW};
 ghost use Rattle.rap_events.specs.State.{state, next, At};
 ghost use Rattle.rap_grammar_scripts.specs.First.{is_param_first};
 ghost use Rattle.rap_grammar_frame.specs.Grew.{Within, Took, Behind, Grew, Gone, Spent};
-ghost use Rattle.rap_grammar_scripts.specs.Knot.{Follows};
+ghost use Rattle.rap_grammar_scripts.specs.Exec.{Does};
 ghost use Rattle.rap_grammar_scripts.specs.Params as script;
 ghost use Rattle.rap_grammar_frame.specs.Room.{list_room, element_room, param_room, bare_param_room, name_room};
 ghost use Rattle.rap_grammar_scripts.specs.Script.{something};
@@ -26,7 +26,7 @@ pub fn param_list_fn_def<G: Grammar>(p: &mut Parser<'_>, g: &G) -> Result<(), No
     requires within { Within G.valid G.left g.now (state p.old) }
     requires here { next (state p.old) ≡ L_PAREN }
     ensures took { OnOk result (Took (state p.old) (state p.new) list_room) }
-    ensures script { OnOk result (Follows script.param_list_fn_def something (state p.old) (state p.new)) }
+    ensures script { OnOk result (Does (G.left g.now) script.param_list_fn_def something (state p.old) (state p.new)) }
 {
     list_(p, g, Flavor::FnDef)?;
     Ok(())
@@ -37,7 +37,7 @@ pub fn param_list_fn_ptr<G: Grammar>(p: &mut Parser<'_>, g: &G) -> Result<(), No
     requires within { Within G.valid G.left g.now (state p.old) }
     requires here { next (state p.old) ≡ L_PAREN }
     ensures took { OnOk result (Took (state p.old) (state p.new) list_room) }
-    ensures script { OnOk result (Follows script.param_list_fn_ptr something (state p.old) (state p.new)) }
+    ensures script { OnOk result (Does (G.left g.now) script.param_list_fn_ptr something (state p.old) (state p.new)) }
 {
     list_(p, g, Flavor::FnPointer)?;
     Ok(())
@@ -48,7 +48,7 @@ pub fn param_list_closure<G: Grammar>(p: &mut Parser<'_>, g: &G) -> Result<(), N
     requires within { Within G.valid G.left g.now (state p.old) }
     requires here { next (state p.old) ≡ PIPE }
     ensures took { OnOk result (Took (state p.old) (state p.new) list_room) }
-    ensures script { OnOk result (Follows script.param_list_closure something (state p.old) (state p.new)) }
+    ensures script { OnOk result (Does (G.left g.now) script.param_list_closure something (state p.old) (state p.new)) }
 {
     list_(p, g, Flavor::Closure)?;
     Ok(())
@@ -60,7 +60,7 @@ fn list_<G: Grammar>(p: &mut Parser<'_>, g: &G, flavor: Flavor) -> Result<(), No
     requires within { Within G.valid G.left g.now (state p.old) }
     requires here { At (state p.old) (script.bra flavor) }
     ensures took { OnOk result (Took (state p.old) (state p.new) list_room) }
-    ensures script { OnOk result (Follows (script.list_ flavor) something (state p.old) (state p.new)) }
+    ensures script { OnOk result (Does (G.left g.now) (script.list_ flavor) something (state p.old) (state p.new)) }
 {
     let m = p.start()?;
     p.bump(flavor.bra())?;
@@ -74,7 +74,7 @@ fn list_<G: Grammar>(p: &mut Parser<'_>, g: &G, flavor: Flavor) -> Result<(), No
 fn params_of<G: Grammar>(p: &mut Parser<'_>, g: &G, flavor: Flavor) -> Result<(), NoMemory>
     requires behind { Behind G.valid G.left g.now (state p.old) }
     ensures grew { OnOk result (Grew (state p.old) (state p.new) 16) }
-    ensures script { OnOk result (Follows (script.params_of flavor) something (state p.old) (state p.new)) }
+    ensures script { OnOk result (Does (G.left g.now) (script.params_of flavor) something (state p.old) (state p.new)) }
 {
     if flavor == Flavor::FnDef {
         fn_def_params(p, g)?;
@@ -88,7 +88,7 @@ fn params_of<G: Grammar>(p: &mut Parser<'_>, g: &G, flavor: Flavor) -> Result<()
 fn fn_def_params<G: Grammar>(p: &mut Parser<'_>, g: &G) -> Result<(), NoMemory>
     requires behind { Behind G.valid G.left g.now (state p.old) }
     ensures grew { OnOk result (Grew (state p.old) (state p.new) 16) }
-    ensures script { OnOk result (Follows script.fn_def_params something (state p.old) (state p.new)) }
+    ensures script { OnOk result (Does (G.left g.now) script.fn_def_params something (state p.old) (state p.new)) }
 {
     if !first_param(p, g)? {
         return Ok(());
@@ -101,7 +101,7 @@ fn fn_def_params<G: Grammar>(p: &mut Parser<'_>, g: &G) -> Result<(), NoMemory>
 fn first_param<G: Grammar>(p: &mut Parser<'_>, g: &G) -> Result<bool, NoMemory>
     requires behind { Behind G.valid G.left g.now (state p.old) }
     ensures grew { OnOk result (Grew (state p.old) (state p.new) 8) }
-    ensures script { IfOk result (λ on. Follows script.first_param (of_bool on) (state p.old) (state p.new)) }
+    ensures script { IfOk result (λ on. Does (G.left g.now) script.first_param (of_bool on) (state p.old) (state p.new)) }
 {
     let m = p.start()?;
     outer_attrs(p, g)?;
@@ -121,7 +121,7 @@ fn first_param<G: Grammar>(p: &mut Parser<'_>, g: &G) -> Result<bool, NoMemory>
 /// The comma after a `self`.
 fn after_self(p: &mut Parser<'_>) -> Result<(), NoMemory>
     ensures grew { OnOk result (Grew (state p.old) (state p.new) 1) }
-    ensures script { OnOk result (Follows script.after_self something (state p.old) (state p.new)) }
+    ensures script { OnOk result ((depth : ℕ) → Does depth script.after_self something (state p.old) (state p.new)) }
 {
     if !p.at(T![')']) {
         p.expect(T![,])?;
@@ -133,7 +133,7 @@ fn after_self(p: &mut Parser<'_>) -> Result<(), NoMemory>
 fn params<G: Grammar>(p: &mut Parser<'_>, g: &G, flavor: Flavor) -> Result<(), NoMemory>
     requires behind { Behind G.valid G.left g.now (state p.old) }
     ensures grew { OnOk result (Grew (state p.old) (state p.new) 8) }
-    ensures script { OnOk result (Follows (script.params flavor) something (state p.old) (state p.new)) }
+    ensures script { OnOk result (Does (G.left g.now) (script.params flavor) something (state p.old) (state p.new)) }
 {
     'params: while !p.at(SyntaxKind::EOF) && !p.at(flavor.ket()) {
         if !attributed_param(p, g, flavor)? {
@@ -148,7 +148,7 @@ fn attributed_param<G: Grammar>(p: &mut Parser<'_>, g: &G, flavor: Flavor) -> Re
     requires behind { Behind G.valid G.left g.now (state p.old) }
     ensures grew { OnOk result (Grew (state p.old) (state p.new) 4) }
     ensures took { IfOk result (λ on. on ≡ true → Took (state p.old) (state p.new) element_room) }
-    ensures script { IfOk result (λ on. Follows (script.attributed_param flavor) (of_bool on) (state p.old) (state p.new)) }
+    ensures script { IfOk result (λ on. Does (G.left g.now) (script.attributed_param flavor) (of_bool on) (state p.old) (state p.new)) }
 {
     let m = p.start()?;
     outer_attrs(p, g)?;
@@ -167,7 +167,7 @@ fn marked_param<G: Grammar>(
     requires newest { (state p.old).marker ≡ Some m.pos.value }
     ensures gone { OnOk result (Gone (state p.old) (state p.new) 2) }
     ensures spent { IfOk result (λ on. on ≡ true → Spent (state p.old) (state p.new) param_room) }
-    ensures script { IfOk result (λ on. Follows (script.marked_param flavor) (of_bool on) (state p.old) (state p.new)) }
+    ensures script { IfOk result (λ on. Does (G.left g.now) (script.marked_param flavor) (of_bool on) (state p.old) (state p.new)) }
 {
     if !is_param_first(p.current()) {
         p.error("expected value parameter")?;
@@ -191,7 +191,7 @@ fn is_param_first(kind: SyntaxKind) -> bool
 /// The comma after a parameter. Returns whether another one may follow. Where one begins, a missing comma is reported.
 fn after_param(p: &mut Parser<'_>) -> Result<bool, NoMemory>
     ensures grew { OnOk result (Grew (state p.old) (state p.new) 1) }
-    ensures script { IfOk result (λ on. Follows script.after_param (of_bool on) (state p.old) (state p.new)) }
+    ensures script { IfOk result (λ on. (depth : ℕ) → Does depth script.after_param (of_bool on) (state p.old) (state p.new)) }
 {
     if p.eat(T![,])? {
         return Ok(true);
@@ -208,7 +208,7 @@ fn param<G: Grammar>(p: &mut Parser<'_>, g: &G, flavor: Flavor) -> Result<(), No
     requires behind { Behind G.valid G.left g.now (state p.old) }
     requires first { is_param_first (next (state p.old)) ≡ true }
     ensures took { OnOk result (Took (state p.old) (state p.new) bare_param_room) }
-    ensures script { OnOk result (Follows (script.param flavor) something (state p.old) (state p.new)) }
+    ensures script { OnOk result (Does (G.left g.now) (script.param flavor) something (state p.old) (state p.new)) }
 {
     match flavor {
         Flavor::FnDef => {
@@ -231,7 +231,7 @@ fn fn_def_param<G: Grammar>(p: &mut Parser<'_>, g: &G) -> Result<(), NoMemory>
     requires behind { Behind G.valid G.left g.now (state p.old) }
     requires first { is_param_first (next (state p.old)) ≡ true }
     ensures took { OnOk result (Took (state p.old) (state p.new) bare_param_room) }
-    ensures script { OnOk result (Follows script.fn_def_param something (state p.old) (state p.new)) }
+    ensures script { OnOk result (Does (G.left g.now) script.fn_def_param something (state p.old) (state p.new)) }
 {
     if p.eat(T![...])? {
         return Ok(());
@@ -246,7 +246,7 @@ fn fn_ptr_param<G: Grammar>(p: &mut Parser<'_>, g: &G) -> Result<(), NoMemory>
     requires behind { Behind G.valid G.left g.now (state p.old) }
     requires first { is_param_first (next (state p.old)) ≡ true }
     ensures took { OnOk result (Took (state p.old) (state p.new) bare_param_room) }
-    ensures script { OnOk result (Follows script.fn_ptr_param something (state p.old) (state p.new)) }
+    ensures script { OnOk result (Does (G.left g.now) script.fn_ptr_param something (state p.old) (state p.new)) }
 {
     if p.eat(T![...])? {
         return Ok(());
@@ -272,7 +272,7 @@ fn closure_param<G: Grammar>(p: &mut Parser<'_>, g: &G) -> Result<(), NoMemory>
     requires behind { Behind G.valid G.left g.now (state p.old) }
     requires first { is_param_first (next (state p.old)) ≡ true }
     ensures took { OnOk result (Took (state p.old) (state p.new) bare_param_room) }
-    ensures script { OnOk result (Follows script.closure_param something (state p.old) (state p.new)) }
+    ensures script { OnOk result (Does (G.left g.now) script.closure_param something (state p.old) (state p.new)) }
 {
     pattern_single(p, g)?;
     if p.at(T![:]) && !p.at(T![::]) {
@@ -285,7 +285,7 @@ fn closure_param<G: Grammar>(p: &mut Parser<'_>, g: &G) -> Result<(), NoMemory>
 fn param_type<G: Grammar>(p: &mut Parser<'_>, g: &G) -> Result<(), NoMemory>
     requires behind { Behind G.valid G.left g.now (state p.old) }
     ensures grew { OnOk result (Grew (state p.old) (state p.new) 1) }
-    ensures script { OnOk result (Follows script.param_type something (state p.old) (state p.new)) }
+    ensures script { OnOk result (Does (G.left g.now) script.param_type something (state p.old) (state p.new)) }
 {
     if variadic_param(p)? {
         return Ok(());
@@ -301,7 +301,7 @@ fn param_type<G: Grammar>(p: &mut Parser<'_>, g: &G) -> Result<(), NoMemory>
 /// `: ...`, if it comes next. Returns whether it did.
 fn variadic_param(p: &mut Parser<'_>) -> Result<bool, NoMemory>
     ensures grew { OnOk result (Grew (state p.old) (state p.new) 0) }
-    ensures script { IfOk result (λ found. Follows script.variadic_param (of_bool found) (state p.old) (state p.new)) }
+    ensures script { IfOk result (λ found. (depth : ℕ) → Does depth script.variadic_param (of_bool found) (state p.old) (state p.new)) }
 {
     if p.at(T![:]) && p.nth_at(1, T![...]) {
         p.bump(T![:])?;
@@ -316,7 +316,7 @@ fn opt_self_param<G: Grammar>(p: &mut Parser<'_>, g: &G) -> Result<bool, NoMemor
     requires behind { Behind G.valid G.left g.now (state p.old) }
     ensures grew { OnOk result (Grew (state p.old) (state p.new) 0) }
     ensures took { IfOk result (λ found. found ≡ true → Took (state p.old) (state p.new) param_room) }
-    ensures script { IfOk result (λ found. Follows script.opt_self_param (of_bool found) (state p.old) (state p.new)) }
+    ensures script { IfOk result (λ found. Does (G.left g.now) script.opt_self_param (of_bool found) (state p.old) (state p.new)) }
 {
     if is_self_value(p) {
         self_value(p, g)?;
@@ -365,7 +365,7 @@ fn self_value<G: Grammar>(p: &mut Parser<'_>, g: &G) -> Result<(), NoMemory>
     requires within { Within G.valid G.left g.now (state p.old) }
     requires here { script.is_self_value (state p.old).rest ≡ true }
     ensures took { OnOk result (Took (state p.old) (state p.new) param_room) }
-    ensures script { OnOk result (Follows script.self_value something (state p.old) (state p.new)) }
+    ensures script { OnOk result (Does (G.left g.now) script.self_value something (state p.old) (state p.new)) }
 {
     p.eat(T![mut])?;
     self_as_name(p)?;
@@ -379,7 +379,7 @@ fn self_value<G: Grammar>(p: &mut Parser<'_>, g: &G) -> Result<(), NoMemory>
 fn self_ref(p: &mut Parser<'_>) -> Result<(), NoMemory>
     requires here { script.is_self_ref (state p.old).rest ≡ true }
     ensures took { OnOk result (Took (state p.old) (state p.new) param_room) }
-    ensures script { OnOk result (Follows script.self_ref something (state p.old) (state p.new)) }
+    ensures script { OnOk result ((depth : ℕ) → Does depth script.self_ref something (state p.old) (state p.new)) }
 {
     p.bump(T![&])?;
     if p.at(T![lifetime_ident]) {
@@ -394,7 +394,7 @@ fn self_ref(p: &mut Parser<'_>) -> Result<(), NoMemory>
 fn self_as_name(p: &mut Parser<'_>) -> Result<(), NoMemory>
     requires { next (state p.old) ≡ SELF_KW }
     ensures took { OnOk result (Took (state p.old) (state p.new) name_room) }
-    ensures script { OnOk result (Follows script.self_as_name something (state p.old) (state p.new)) }
+    ensures script { OnOk result ((depth : ℕ) → Does depth script.self_as_name something (state p.old) (state p.new)) }
 {
     let m = p.start()?;
     p.bump(T![self])?;

@@ -5,7 +5,7 @@ ghost use Rattle.rap_events.specs.State.{state, next};
 ghost use Rattle.rap_events.specs.Composite.{is_at};
 ghost use Rattle.rap_grammar_scripts.specs.First.{is_generic_arg_first, starts_expr_args};
 ghost use Rattle.rap_grammar_frame.specs.Grew.{Within, Ended, Grew};
-ghost use Rattle.rap_grammar_scripts.specs.Knot.{Follows};
+ghost use Rattle.rap_grammar_scripts.specs.Exec.{Does};
 ghost use Rattle.rap_grammar_scripts.specs.Paths as path_script;
 ghost use Rattle.rap_grammar_frame.specs.Room.{element_room};
 ghost use Rattle.rap_grammar_scripts.specs.Script.{something};
@@ -52,7 +52,7 @@ pub(crate) fn generic_arg_list<G: Grammar>(
     requires newest { (state p.old).marker ≡ Some m.pos.value }
     requires here { next (state p.old) ≡ L_ANGLE }
     ensures ended { OnOk result (Ended (state p.old) (state p.new) element_room) }
-    ensures script { OnOk result (Follows path_script.generic_arg_list something (state p.old) (state p.new)) }
+    ensures script { OnOk result (Does (G.left g.now) path_script.generic_arg_list something (state p.old) (state p.new)) }
 {
     delimited(
         p,
@@ -79,7 +79,7 @@ pub fn opt_generic_arg_list_expr<G: Grammar>(p: &mut Parser<'_>, g: &G) -> Resul
     requires within { Within G.valid G.left g.now (state p.old) }
     ensures grew { OnOk result (Grew (state p.old) (state p.new) 0) }
     ensures stays { OnOk result (is_at COLON2 (state p.old).rest ≡ false → state p.new ≡ state p.old) }
-    ensures script { OnOk result (Follows path_script.opt_generic_arg_list_expr something (state p.old) (state p.new)) }
+    ensures script { OnOk result (Does (G.left g.now) path_script.opt_generic_arg_list_expr something (state p.old) (state p.new)) }
 {
     if !starts_expr_args(p) {
         return Ok(());

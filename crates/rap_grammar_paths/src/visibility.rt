@@ -5,7 +5,7 @@ ghost use Rattle.rap_base.specs.TokenKind.{PUB_KW, L_PAREN, IN_KW};
 ghost use Rattle.rap_events.specs.State.{state, next, At, NthAt};
 ghost use Rattle.rap_grammar_scripts.specs.Visibility as script;
 ghost use Rattle.rap_grammar_frame.specs.Grew.{Within, Behind, Took, Grew};
-ghost use Rattle.rap_grammar_scripts.specs.Knot.{Follows};
+ghost use Rattle.rap_grammar_scripts.specs.Exec.{Does};
 ghost use Rattle.rap_grammar_frame.specs.Room.{list_room};
 ghost use Rattle.rap_grammar_scripts.specs.Script.{something};
 ghost use Rattle.rap_grammar_scripts.specs.Words.{of_bool};
@@ -28,7 +28,7 @@ pub fn opt_visibility<G: Grammar>(
     ensures took { IfOk result (λ found. found ≡ true → Took (state p.old) (state p.new) list_room) }
     ensures stays { IfOk result (λ found. found ≡ false → state p.new ≡ state p.old) }
     ensures script { IfOk result
-        (λ found. Follows (script.opt_visibility in_tuple_field) (of_bool found) (state p.old) (state p.new)) }
+        (λ found. Does (G.left g.now) (script.opt_visibility in_tuple_field) (of_bool found) (state p.old) (state p.new)) }
 {
     if !p.at(T![pub]) {
         return Ok(false);
@@ -74,7 +74,7 @@ pub fn opt_visibility_inner<G: Grammar>(
     ensures took { IfOk result (λ found. found ≡ true → Took (state p.old) (state p.new) list_room) }
     ensures stays { IfOk result (λ found. found ≡ false → state p.new ≡ state p.old) }
     ensures script { IfOk result
-        (λ found. Follows (script.opt_visibility_inner in_tuple_field) (of_bool found) (state p.old) (state p.new)) }
+        (λ found. Does (G.left g.now) (script.opt_visibility_inner in_tuple_field) (of_bool found) (state p.old) (state p.new)) }
 {
     if starts_restriction(p, in_tuple_field) {
         restriction(p, g)?;
@@ -92,7 +92,7 @@ fn restriction<G: Grammar>(p: &mut Parser<'_>, g: &G) -> Result<(), NoMemory>
     requires within { Within G.valid G.left g.now (state p.old) }
     requires here { next (state p.old) ≡ L_PAREN }
     ensures took { OnOk result (Took (state p.old) (state p.new) list_room) }
-    ensures script { OnOk result (Follows script.restriction something (state p.old) (state p.new)) }
+    ensures script { OnOk result (Does (G.left g.now) script.restriction something (state p.old) (state p.new)) }
 {
     let m = p.start()?;
     p.bump(T!['('])?;
@@ -108,7 +108,7 @@ fn in_restriction<G: Grammar>(p: &mut Parser<'_>, g: &G) -> Result<(), NoMemory>
     requires here { next (state p.old) ≡ L_PAREN }
     requires more { NthAt (state p.old) 1 IN_KW }
     ensures took { OnOk result (Took (state p.old) (state p.new) list_room) }
-    ensures script { OnOk result (Follows script.in_restriction something (state p.old) (state p.new)) }
+    ensures script { OnOk result (Does (G.left g.now) script.in_restriction something (state p.old) (state p.new)) }
 {
     let m = p.start()?;
     p.bump(T!['('])?;

@@ -6,7 +6,7 @@ ghost use Rattle.rap_base.specs.NodeKind.{LITERAL_PAT, WILDCARD_PAT, REF_PAT, NO
 ghost use Rattle.rap_events.specs.State.{state, At, IsLast, next, NthAt, ReadsAs};
 ghost use Rattle.rap_grammar_scripts.specs.First.{is_range_pat_end_first, is_path_start, is_pat_top_first, one_of};
 ghost use Rattle.rap_grammar_frame.specs.Grew.{Within, Grew, Took, Makes, Made, Behind};
-ghost use Rattle.rap_grammar_scripts.specs.Knot.{Follows};
+ghost use Rattle.rap_grammar_scripts.specs.Exec.{Does};
 ghost use Rattle.rap_grammar_scripts.specs.Patterns as script;
 ghost use Rattle.rap_grammar_scripts.specs.Patterns.{ends_range_pat, is_ident_pat_start, is_literal_pat_start, at_field, is_rest_pat, ends_search};
 ghost use Rattle.rap_grammar_scripts.specs.Recovery.{is_pattern_recovery, stops_of};
@@ -70,7 +70,7 @@ fn recovery_set(in_arm: bool) -> TokenSet
 pub fn pattern_r<G: Grammar>(p: &mut Parser<'_>, g: &G, in_arm: bool) -> Result<(), NoMemory>
     requires within { Within G.valid G.left g.now (state p.old) }
     ensures reads { OnOk result (PatternUntil (stops_of in_arm) 8 pattern_room (state p.old) (state p.new)) }
-    ensures script { OnOk result (Follows (script.pattern_r in_arm) something (state p.old) (state p.new)) }
+    ensures script { OnOk result (Does (G.left g.now) (script.pattern_r in_arm) something (state p.old) (state p.new)) }
 {
     let m = p.start()?;
     if p.eat(T![|])? {
@@ -93,7 +93,7 @@ pub fn pattern_r<G: Grammar>(p: &mut Parser<'_>, g: &G, in_arm: bool) -> Result<
 fn alternatives<G: Grammar>(p: &mut Parser<'_>, g: &G, in_arm: bool) -> Result<(), NoMemory>
     requires within { Within G.valid G.left g.now (state p.old) }
     ensures grew { OnOk result (Grew (state p.old) (state p.new) 0) }
-    ensures script { OnOk result (Follows (script.alternatives in_arm) something (state p.old) (state p.new)) }
+    ensures script { OnOk result (Does (G.left g.now) (script.alternatives in_arm) something (state p.old) (state p.new)) }
 {
     'alternatives: while p.at(T![|]) {
         p.bump(T![|])?;
@@ -106,7 +106,7 @@ fn alternatives<G: Grammar>(p: &mut Parser<'_>, g: &G, in_arm: bool) -> Result<(
 pub fn pattern_single_r<G: Grammar>(p: &mut Parser<'_>, g: &G, in_arm: bool) -> Result<(), NoMemory>
     requires within { Within G.valid G.left g.now (state p.old) }
     ensures reads { OnOk result (PatternUntil (stops_of in_arm) recovery_events single_pattern_room (state p.old) (state p.new)) }
-    ensures script { OnOk result (Follows (script.pattern_single_r in_arm) something (state p.old) (state p.new)) }
+    ensures script { OnOk result (Does (G.left g.now) (script.pattern_single_r in_arm) something (state p.old) (state p.new)) }
 {
     if p.at(T![..=]) {
         range_to_pat(p, g, in_arm)?;
@@ -128,7 +128,7 @@ fn range_to_pat<G: Grammar>(p: &mut Parser<'_>, g: &G, in_arm: bool) -> Result<(
     requires within { Within G.valid G.left g.now (state p.old) }
     requires here { At (state p.old) DOT2EQ }
     ensures took { OnOk result (Took (state p.old) (state p.new) single_pattern_room) }
-    ensures script { OnOk result (Follows (script.range_to_pat in_arm) something (state p.old) (state p.new)) }
+    ensures script { OnOk result (Does (G.left g.now) (script.range_to_pat in_arm) something (state p.old) (state p.new)) }
 {
     let m = p.start()?;
     p.bump(T![..=])?;
@@ -142,7 +142,7 @@ fn rest_pat<G: Grammar>(p: &mut Parser<'_>, g: &G, in_arm: bool) -> Result<(), N
     requires within { Within G.valid G.left g.now (state p.old) }
     requires here { At (state p.old) DOT2 }
     ensures took { OnOk result (Took (state p.old) (state p.new) single_pattern_room) }
-    ensures script { OnOk result (Follows (script.rest_pat in_arm) something (state p.old) (state p.new)) }
+    ensures script { OnOk result (Does (G.left g.now) (script.rest_pat in_arm) something (state p.old) (state p.new)) }
 {
     let m = p.start()?;
     p.bump(T![..])?;
@@ -165,7 +165,7 @@ fn range_op<G: Grammar>(
     requires within { Within G.valid G.left g.now (state p.old) }
     requires last { IsLast (state p.old) lhs lhs.kind.value }
     ensures grew { OnOk result (Grew (state p.old) (state p.new) 0) }
-    ensures script { OnOk result (Follows (script.range_op in_arm) something (state p.old) (state p.new)) }
+    ensures script { OnOk result (Does (G.left g.now) (script.range_op in_arm) something (state p.old) (state p.new)) }
 {
     if p.at(T![...]) {
         range_from_pat(p, g, lhs, T![...], in_arm)?;
@@ -196,7 +196,7 @@ fn range_from_pat<G: Grammar>(
     requires here { At (state p.old) op }
     requires op { op ≢ EOF }
     ensures grew { OnOk result (Grew (state p.old) (state p.new) 0) }
-    ensures script { OnOk result (Follows (script.range_from_pat in_arm op) something (state p.old) (state p.new)) }
+    ensures script { OnOk result (Does (G.left g.now) (script.range_from_pat in_arm op) something (state p.old) (state p.new)) }
 {
     let m = lhs.precede(p)?;
     p.bump(op)?;
@@ -227,7 +227,7 @@ fn atom_pat<G: Grammar>(
 ) -> Result<Option<CompletedMarker>, NoMemory>
     requires within { Within G.valid G.left g.now (state p.old) }
     ensures atom { IfOk result (IsAtomPattern in_arm (state p.old) (state p.new)) }
-    ensures script { IfOk result (λ o. Follows (script.atom_pat in_arm) (of_option o) (state p.old) (state p.new)) }
+    ensures script { IfOk result (λ o. Does (G.left g.now) (script.atom_pat in_arm) (of_option o) (state p.old) (state p.new)) }
 {
     if starts_builtin(p) {
         let cm = builtin_pat(p, g)?;
@@ -261,7 +261,7 @@ fn symbol_pat<G: Grammar>(
 ) -> Result<Option<CompletedMarker>, NoMemory>
     requires within { Within G.valid G.left g.now (state p.old) }
     ensures atom { IfOk result (IsAtomPattern in_arm (state p.old) (state p.new)) }
-    ensures script { IfOk result (λ o. Follows (script.symbol_pat in_arm) (of_option o) (state p.old) (state p.new)) }
+    ensures script { IfOk result (λ o. Does (G.left g.now) (script.symbol_pat in_arm) (of_option o) (state p.old) (state p.new)) }
 {
     if is_literal_pat_start(p) {
         return Ok(Some(literal_pat(p)?));
@@ -285,7 +285,7 @@ fn missing_pat(p: &mut Parser<'_>, in_arm: bool) -> Result<(), NoMemory>
     requires no_reference { next (state p.old) ≢ AMP }
     requires end { next (state p.old) ≡ EOF → (state p.old).rest ≡ [] }
     ensures reads { OnOk result (PatternUntil (stops_of in_arm) recovery_events atom_pattern_room (state p.old) (state p.new)) }
-    ensures script { OnOk result (Follows (script.missing_pat in_arm) nothing (state p.old) (state p.new)) }
+    ensures script { OnOk result ((depth : ℕ) → Does depth (script.missing_pat in_arm) nothing (state p.old) (state p.new)) }
 {
     p.err_recover("expected pattern", recovery_set(in_arm))?;
     Ok(())
@@ -297,7 +297,7 @@ fn builtin_pat<G: Grammar>(p: &mut Parser<'_>, g: &G) -> Result<Option<Completed
     requires here { ReadsAs (state p.old) BUILTIN_KW }
     requires pound { NthAt (state p.old) 1 POUND }
     ensures atom { IfOk result (λ o. (in_arm : Bool) → IsAtomPattern in_arm (state p.old) (state p.new) o) }
-    ensures script { IfOk result (λ o. Follows script.builtin_pat (of_option o) (state p.old) (state p.new)) }
+    ensures script { IfOk result (λ o. Does (G.left g.now) script.builtin_pat (of_option o) (state p.old) (state p.new)) }
 {
     let m = p.start()?;
     p.bump_remap(T![builtin])?;
@@ -335,7 +335,7 @@ fn is_literal_pat_start(p: &Parser<'_>) -> bool
 fn literal_pat(p: &mut Parser<'_>) -> Result<CompletedMarker, NoMemory>
     requires here { is_literal_pat_start (state p.old).rest ≡ true }
     ensures made { IfOk result (Makes LITERAL_PAT atom_pattern_room (state p.old) (state p.new)) }
-    ensures script { OnOk result (Follows script.literal_pat something (state p.old) (state p.new)) }
+    ensures script { OnOk result ((depth : ℕ) → Does depth script.literal_pat something (state p.old) (state p.new)) }
 {
     let m = p.start()?;
     p.eat(T![-])?;
@@ -350,7 +350,7 @@ fn path_or_macro_pat<G: Grammar>(p: &mut Parser<'_>, g: &G) -> Result<CompletedM
     requires within { Within G.valid G.left g.now (state p.old) }
     requires path { is_path_start (state p.old).rest ≡ true }
     ensures made { IfOk result (λ cm. Made (state p.old) (state p.new) cm atom_pattern_room) }
-    ensures script { OnOk result (Follows script.path_or_macro_pat something (state p.old) (state p.new)) }
+    ensures script { OnOk result (Does (G.left g.now) script.path_or_macro_pat something (state p.old) (state p.new)) }
 {
     let m = p.start()?;
     expr_path(p, g)?;
@@ -384,7 +384,7 @@ fn tuple_pat_fields<G: Grammar>(p: &mut Parser<'_>, g: &G) -> Result<(), NoMemor
     requires within { Within G.valid G.left g.now (state p.old) }
     requires here { next (state p.old) ≡ L_PAREN }
     ensures took { OnOk result (Took (state p.old) (state p.new) list_room) }
-    ensures script { OnOk result (Follows script.tuple_pat_fields something (state p.old) (state p.new)) }
+    ensures script { OnOk result (Does (G.left g.now) script.tuple_pat_fields something (state p.old) (state p.new)) }
 {
     p.bump(T!['('])?;
     pat_list(p, g, T![')'])?;
@@ -404,7 +404,7 @@ fn record_pat_field<G: Grammar>(p: &mut Parser<'_>, g: &G) -> Result<(), NoMemor
     requires within { Within G.valid G.left g.now (state p.old) }
     ensures grew { OnOk result (Grew (state p.old) (state p.new) recovery_events) }
     ensures took { OnOk result (next (state p.old) ≢ EOF → Took (state p.old) (state p.new) atom_pattern_room) }
-    ensures script { OnOk result (Follows script.record_pat_field something (state p.old) (state p.new)) }
+    ensures script { OnOk result (Does (G.left g.now) script.record_pat_field something (state p.old) (state p.new)) }
 {
     if at_field(p, T![:]) {
         name_ref_or_index(p)?;
@@ -439,7 +439,7 @@ fn record_pat_field_list<G: Grammar>(p: &mut Parser<'_>, g: &G) -> Result<(), No
     requires within { Within G.valid G.left g.now (state p.old) }
     requires here { next (state p.old) ≡ L_CURLY }
     ensures took { OnOk result (Took (state p.old) (state p.new) list_room) }
-    ensures script { OnOk result (Follows script.record_pat_field_list something (state p.old) (state p.new)) }
+    ensures script { OnOk result (Does (G.left g.now) script.record_pat_field_list something (state p.old) (state p.new)) }
 {
     let m = p.start()?;
     p.bump(T!['{'])?;
@@ -453,7 +453,7 @@ fn record_pat_field_list<G: Grammar>(p: &mut Parser<'_>, g: &G) -> Result<(), No
 fn record_pat_fields<G: Grammar>(p: &mut Parser<'_>, g: &G) -> Result<(), NoMemory>
     requires within { Within G.valid G.left g.now (state p.old) }
     ensures grew { OnOk result (Grew (state p.old) (state p.new) 0) }
-    ensures script { OnOk result (Follows script.record_pat_fields something (state p.old) (state p.new)) }
+    ensures script { OnOk result (Does (G.left g.now) script.record_pat_fields something (state p.old) (state p.new)) }
 {
     'fields: while !p.at(SyntaxKind::EOF) && !p.at(T!['}']) {
         record_pat_element(p, g)?;
@@ -469,7 +469,7 @@ fn record_pat_element<G: Grammar>(p: &mut Parser<'_>, g: &G) -> Result<(), NoMem
     requires within { Within G.valid G.left g.now (state p.old) }
     requires more { next (state p.old) ≢ EOF }
     ensures took { OnOk result (Took (state p.old) (state p.new) single_pattern_room) }
-    ensures script { OnOk result (Follows script.record_pat_element something (state p.old) (state p.new)) }
+    ensures script { OnOk result (Does (G.left g.now) script.record_pat_element something (state p.old) (state p.new)) }
 {
     let m = p.start()?;
     outer_attrs(p, g)?;
@@ -492,7 +492,7 @@ fn record_pat_element<G: Grammar>(p: &mut Parser<'_>, g: &G) -> Result<(), NoMem
 fn wildcard_pat(p: &mut Parser<'_>) -> Result<CompletedMarker, NoMemory>
     requires here { next (state p.old) ≡ UNDERSCORE }
     ensures made { IfOk result (Makes WILDCARD_PAT atom_pattern_room (state p.old) (state p.new)) }
-    ensures script { OnOk result (Follows script.wildcard_pat something (state p.old) (state p.new)) }
+    ensures script { OnOk result ((depth : ℕ) → Does depth script.wildcard_pat something (state p.old) (state p.new)) }
 {
     let m = p.start()?;
     p.bump(T![_])?;
@@ -505,7 +505,7 @@ fn ref_pat<G: Grammar>(p: &mut Parser<'_>, g: &G) -> Result<CompletedMarker, NoM
     requires within { Within G.valid G.left g.now (state p.old) }
     requires here { next (state p.old) ≡ AMP }
     ensures made { IfOk result (Makes REF_PAT atom_pattern_room (state p.old) (state p.new)) }
-    ensures script { OnOk result (Follows script.ref_pat something (state p.old) (state p.new)) }
+    ensures script { OnOk result (Does (G.left g.now) script.ref_pat something (state p.old) (state p.new)) }
 {
     let m = p.start()?;
     p.bump(T![&])?;
@@ -520,7 +520,7 @@ fn not_null_pat<G: Grammar>(p: &mut Parser<'_>, g: &G) -> Result<CompletedMarker
     requires within { Within G.valid G.left g.now (state p.old) }
     requires here { next (state p.old) ≡ BANG }
     ensures made { IfOk result (Makes NOT_NULL atom_pattern_room (state p.old) (state p.new)) }
-    ensures script { OnOk result (Follows script.not_null_pat something (state p.old) (state p.new)) }
+    ensures script { OnOk result (Does (G.left g.now) script.not_null_pat something (state p.old) (state p.new)) }
 {
     let m = p.start()?;
     p.bump(T![!])?;
@@ -535,7 +535,7 @@ fn tuple_pat<G: Grammar>(p: &mut Parser<'_>, g: &G) -> Result<CompletedMarker, N
     requires within { Within G.valid G.left g.now (state p.old) }
     requires here { next (state p.old) ≡ L_PAREN }
     ensures made { IfOk result (λ cm. Made (state p.old) (state p.new) cm atom_pattern_room) }
-    ensures script { OnOk result (Follows script.tuple_pat something (state p.old) (state p.new)) }
+    ensures script { OnOk result (Does (G.left g.now) script.tuple_pat something (state p.old) (state p.new)) }
 {
     let m = p.start()?;
     p.bump(T!['('])?;
@@ -554,7 +554,7 @@ fn tuple_pat<G: Grammar>(p: &mut Parser<'_>, g: &G) -> Result<CompletedMarker, N
 /// A comma before the first pattern, as in `(, a)`, which is reported. Returns whether there is one.
 fn leading_comma(p: &mut Parser<'_>) -> Result<bool, NoMemory>
     ensures grew { OnOk result (Grew (state p.old) (state p.new) 0) }
-    ensures script { IfOk result (λ comma. Follows script.leading_comma (of_bool comma) (state p.old) (state p.new)) }
+    ensures script { IfOk result (λ comma. (depth : ℕ) → Does depth script.leading_comma (of_bool comma) (state p.old) (state p.new)) }
 {
     if p.eat(T![,])? {
         p.error("expected pattern")?;
@@ -572,7 +572,7 @@ fn tuple_patterns<G: Grammar>(
     requires behind { Behind G.valid G.left g.now (state p.old) }
     ensures grew { OnOk result (Grew (state p.old) (state p.new) 1) }
     ensures script { IfOk result
-        (λ parens. Follows (script.tuple_patterns is_tuple) (of_bool parens) (state p.old) (state p.new)) }
+        (λ parens. Does (G.left g.now) (script.tuple_patterns is_tuple) (of_bool parens) (state p.old) (state p.new)) }
 {
     let mut has_pat = false;
     'patterns: while !p.at(SyntaxKind::EOF) && !p.at(T![')']) {
@@ -604,7 +604,7 @@ fn slice_pat<G: Grammar>(p: &mut Parser<'_>, g: &G) -> Result<CompletedMarker, N
     requires within { Within G.valid G.left g.now (state p.old) }
     requires here { next (state p.old) ≡ L_BRACK }
     ensures made { IfOk result (Makes SLICE_PAT atom_pattern_room (state p.old) (state p.new)) }
-    ensures script { OnOk result (Follows script.slice_pat something (state p.old) (state p.new)) }
+    ensures script { OnOk result (Does (G.left g.now) script.slice_pat something (state p.old) (state p.new)) }
 {
     let m = p.start()?;
     p.bump(T!['['])?;
@@ -618,7 +618,7 @@ fn slice_pat<G: Grammar>(p: &mut Parser<'_>, g: &G) -> Result<CompletedMarker, N
 fn pat_list<G: Grammar>(p: &mut Parser<'_>, g: &G, ket: SyntaxKind) -> Result<(), NoMemory>
     requires behind { Behind G.valid G.left g.now (state p.old) }
     ensures grew { OnOk result (Grew (state p.old) (state p.new) 8) }
-    ensures script { OnOk result (Follows (script.pat_list ket) something (state p.old) (state p.new)) }
+    ensures script { OnOk result (Does (G.left g.now) (script.pat_list ket) something (state p.old) (state p.new)) }
 {
     'patterns: while !p.at(SyntaxKind::EOF) && !p.at(ket) {
         pattern(p, g)?;
@@ -642,7 +642,7 @@ fn ident_pat<G: Grammar>(
     requires within { Within G.valid G.left g.now (state p.old) }
     requires here { one_of (REF_KW ∷ MUT_KW ∷ IDENT ∷ []) (next (state p.old)) ≡ true }
     ensures made { IfOk result (Makes IDENT_PAT atom_pattern_room (state p.old) (state p.new)) }
-    ensures script { OnOk result (Follows (script.ident_pat with_at) something (state p.old) (state p.new)) }
+    ensures script { OnOk result (Does (G.left g.now) (script.ident_pat with_at) something (state p.old) (state p.new)) }
 {
     let m = p.start()?;
     binding(p)?;
@@ -656,7 +656,7 @@ fn ident_pat<G: Grammar>(
 fn binding(p: &mut Parser<'_>) -> Result<(), NoMemory>
     requires here { one_of (REF_KW ∷ MUT_KW ∷ IDENT ∷ []) (next (state p.old)) ≡ true }
     ensures took { OnOk result (Took (state p.old) (state p.new) name_room) }
-    ensures script { OnOk result (Follows script.binding something (state p.old) (state p.new)) }
+    ensures script { OnOk result ((depth : ℕ) → Does depth script.binding something (state p.old) (state p.new)) }
 {
     p.eat(T![ref])?;
     p.eat(T![mut])?;
@@ -672,7 +672,7 @@ fn binding(p: &mut Parser<'_>) -> Result<(), NoMemory>
 fn at_pattern<G: Grammar>(p: &mut Parser<'_>, g: &G, with_at: bool) -> Result<(), NoMemory>
     requires within { Within G.valid G.left g.now (state p.old) }
     ensures grew { OnOk result (Grew (state p.old) (state p.new) 0) }
-    ensures script { OnOk result (Follows (script.at_pattern with_at) something (state p.old) (state p.new)) }
+    ensures script { OnOk result (Does (G.left g.now) (script.at_pattern with_at) something (state p.old) (state p.new)) }
 {
     if with_at && p.at(T![@]) {
         p.bump(T![@])?;
@@ -686,7 +686,7 @@ fn box_pat<G: Grammar>(p: &mut Parser<'_>, g: &G) -> Result<CompletedMarker, NoM
     requires within { Within G.valid G.left g.now (state p.old) }
     requires here { next (state p.old) ≡ BOX_KW }
     ensures made { IfOk result (Makes BOX_PAT atom_pattern_room (state p.old) (state p.new)) }
-    ensures script { OnOk result (Follows script.box_pat something (state p.old) (state p.new)) }
+    ensures script { OnOk result (Does (G.left g.now) script.box_pat something (state p.old) (state p.new)) }
 {
     let m = p.start()?;
     p.bump(T![box])?;
@@ -700,7 +700,7 @@ fn const_block_pat<G: Grammar>(p: &mut Parser<'_>, g: &G) -> Result<CompletedMar
     requires within { Within G.valid G.left g.now (state p.old) }
     requires here { next (state p.old) ≡ CONST_KW }
     ensures made { IfOk result (Makes CONST_BLOCK_PAT atom_pattern_room (state p.old) (state p.new)) }
-    ensures script { OnOk result (Follows script.const_block_pat something (state p.old) (state p.new)) }
+    ensures script { OnOk result (Does (G.left g.now) script.const_block_pat something (state p.old) (state p.new)) }
 {
     let m = p.start()?;
     p.bump(T![const])?;

@@ -1,4 +1,6 @@
 pub mod Balance
 pub mod ByOperator
+pub mod Ends
+pub mod Exec
 pub mod Forests
 pub mod OneEnd

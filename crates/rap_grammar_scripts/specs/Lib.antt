@@ -9,6 +9,7 @@ pub mod Called
 pub mod ConstArgs
 pub mod Consts
 pub mod Control
+pub mod Exec
 pub mod Expressions
 pub mod First
 pub mod Functions

@@ -1,5 +1,5 @@
 //! Generic arguments.
-ghost use Rattle.std.specs.Prelude.{◌≡◌, ◌<◌, ◌≤◌, OnOk, true, Some, IfOk};
+ghost use Rattle.std.specs.Prelude.{ℕ, ◌≡◌, ◌<◌, ◌≤◌, OnOk, true, Some, IfOk};
 ghost use Rattle.rap_base.specs.TokenKind.{LIFETIME_IDENT, COLON, BANG, MINUS};
 ghost use Rattle.rap_base.specs.NodeKind.{PATH_EXPR};
 ghost use Rattle.rap_events.specs.State.{state, next, IsLast};
@@ -7,7 +7,7 @@ ghost use Rattle.rap_grammar_scripts.specs.ConstArgs as const_script;
 ghost use Rattle.rap_grammar_scripts.specs.First.{is_const_arg_first, is_generic_arg_first, is_type_first, is_path_name, is_path_start};
 ghost use Rattle.rap_grammar_scripts.specs.GenericArgs as script;
 ghost use Rattle.rap_grammar_frame.specs.Grew.{Within, Took, Behind, Grew, Ended, Makes};
-ghost use Rattle.rap_grammar_scripts.specs.Knot.{Follows};
+ghost use Rattle.rap_grammar_scripts.specs.Exec.{Does};
 ghost use Rattle.rap_grammar_scripts.specs.Recovery.{is_generic_arg_recovery};
 ghost use Rattle.rap_grammar_frame.specs.Room.{element_room, operand_room, atom_room, recovery_events};
 ghost use Rattle.rap_grammar_scripts.specs.Script.{something};
@@ -35,7 +35,7 @@ pub fn generic_arg<G: Grammar>(p: &mut Parser<'_>, g: &G) -> Result<(), NoMemory
     requires within { Within G.valid G.left g.now (state p.old) }
     requires first { is_generic_arg_first (next (state p.old)) ≡ true }
     ensures took { OnOk result (Took (state p.old) (state p.new) element_room) }
-    ensures script { OnOk result (Follows script.generic_arg something (state p.old) (state p.new)) }
+    ensures script { OnOk result (Does (G.left g.now) script.generic_arg something (state p.old) (state p.new)) }
 {
     if starts_lifetime_arg(p) {
         lifetime_arg(p)?;
@@ -65,7 +65,7 @@ fn starts_lifetime_arg(p: &Parser<'_>) -> bool
 fn lifetime_arg(p: &mut Parser<'_>) -> Result<(), NoMemory>
     requires here { next (state p.old) ≡ LIFETIME_IDENT }
     ensures took { OnOk result (Took (state p.old) (state p.new) element_room) }
-    ensures script { OnOk result (Follows script.lifetime_arg something (state p.old) (state p.new)) }
+    ensures script { OnOk result ((depth : ℕ) → Does depth script.lifetime_arg something (state p.old) (state p.new)) }
 {
     let m = p.start()?;
     lifetime(p)?;
@@ -78,7 +78,7 @@ fn type_arg<G: Grammar>(p: &mut Parser<'_>, g: &G) -> Result<(), NoMemory>
     requires within { Within G.valid G.left g.now (state p.old) }
     requires first { is_type_first (next (state p.old)) ≡ true }
     ensures took { OnOk result (Took (state p.old) (state p.new) element_room) }
-    ensures script { OnOk result (Follows script.type_arg something (state p.old) (state p.new)) }
+    ensures script { OnOk result (Does (G.left g.now) script.type_arg something (state p.old) (state p.new)) }
 {
     let m = p.start()?;
     type_with_bounds_cond(p, g, true)?;
@@ -107,7 +107,7 @@ fn named_arg<G: Grammar>(p: &mut Parser<'_>, g: &G) -> Result<(), NoMemory>
     requires within { Within G.valid G.left g.now (state p.old) }
     requires name { is_path_name (next (state p.old)) ≡ true }
     ensures took { OnOk result (Took (state p.old) (state p.new) element_room) }
-    ensures script { OnOk result (Follows script.named_arg something (state p.old) (state p.new)) }
+    ensures script { OnOk result (Does (G.left g.now) script.named_arg something (state p.old) (state p.new)) }
 {
     let m = p.start()?;
     name_ref_mod_path(p)?;
@@ -132,7 +132,7 @@ fn named_arg<G: Grammar>(p: &mut Parser<'_>, g: &G) -> Result<(), NoMemory>
 fn assoc_value<G: Grammar>(p: &mut Parser<'_>, g: &G) -> Result<(), NoMemory>
     requires behind { Behind G.valid G.left g.now (state p.old) }
     ensures grew { OnOk result (Grew (state p.old) (state p.new) 8) }
-    ensures script { OnOk result (Follows script.assoc_value something (state p.old) (state p.new)) }
+    ensures script { OnOk result (Does (G.left g.now) script.assoc_value something (state p.old) (state p.new)) }
 {
     if is_type_first(p.current()) {
         type_(p, g)?;
@@ -158,7 +158,7 @@ fn path_arg<G: Grammar>(p: &mut Parser<'_>, g: &G, segment: CompletedMarker) -> 
     requires behind { Behind G.valid G.left g.now (state p.old) }
     requires last { IsLast (state p.old) segment segment.kind.value }
     ensures grew { OnOk result (Grew (state p.old) (state p.new) 24) }
-    ensures script { OnOk result (Follows script.path_arg something (state p.old) (state p.new)) }
+    ensures script { OnOk result (Does (G.left g.now) script.path_arg something (state p.old) (state p.new)) }
 {
     let m = segment.precede(p)?;
     let qual = m.complete(p, SyntaxKind::PATH)?;
@@ -179,7 +179,7 @@ fn macro_arg<G: Grammar>(p: &mut Parser<'_>, g: &G, m: Marker) -> Result<(), NoM
     requires newest { (state p.old).marker ≡ Some m.pos.value }
     requires here { next (state p.old) ≡ BANG }
     ensures ended { OnOk result (Ended (state p.old) (state p.new) element_room) }
-    ensures script { OnOk result (Follows script.macro_arg something (state p.old) (state p.new)) }
+    ensures script { OnOk result (Does (G.left g.now) script.macro_arg something (state p.old) (state p.new)) }
 {
     macro_call_after_excl(p)?;
     let call = m.complete(p, SyntaxKind::MACRO_CALL)?;
@@ -199,7 +199,7 @@ fn bounded_arg<G: Grammar>(
     requires behind { Behind G.valid G.left g.now (state p.old) }
     requires last { IsLast (state p.old) ty kind }
     ensures grew { OnOk result (Grew (state p.old) (state p.new) 18) }
-    ensures script { OnOk result (Follows (script.bounded_arg kind) something (state p.old) (state p.new)) }
+    ensures script { OnOk result (Does (G.left g.now) (script.bounded_arg kind) something (state p.old) (state p.new)) }
 {
     let ty = opt_type_bounds_as_dyn_trait_type(p, g, ty, kind)?;
     let m = ty.precede(p)?;
@@ -212,7 +212,7 @@ pub(crate) fn const_arg<G: Grammar>(p: &mut Parser<'_>, g: &G) -> Result<(), NoM
     requires within { Within G.valid G.left g.now (state p.old) }
     ensures grew { OnOk result (Grew (state p.old) (state p.new) 8) }
     ensures took { OnOk result (is_const_arg_first (next (state p.old)) ≡ true → Took (state p.old) (state p.new) element_room) }
-    ensures script { OnOk result (Follows const_script.const_arg something (state p.old) (state p.new)) }
+    ensures script { OnOk result (Does (G.left g.now) const_script.const_arg something (state p.old) (state p.new)) }
 {
     let m = p.start()?;
     const_arg_expr(p, g)?;
@@ -225,7 +225,7 @@ fn const_arg_expr<G: Grammar>(p: &mut Parser<'_>, g: &G) -> Result<(), NoMemory>
     requires within { Within G.valid G.left g.now (state p.old) }
     ensures grew { OnOk result (Grew (state p.old) (state p.new) 6) }
     ensures took { OnOk result (is_const_arg_first (next (state p.old)) ≡ true → Took (state p.old) (state p.new) operand_room) }
-    ensures script { OnOk result (Follows const_script.const_arg_expr something (state p.old) (state p.new)) }
+    ensures script { OnOk result (Does (G.left g.now) const_script.const_arg_expr something (state p.old) (state p.new)) }
 {
     if p.current() == T!['{'] {
         block_expr(p, g)?;
@@ -252,7 +252,7 @@ fn const_path<G: Grammar>(p: &mut Parser<'_>, g: &G) -> Result<CompletedMarker, 
     requires within { Within G.valid G.left g.now (state p.old) }
     requires path { is_path_start (state p.old).rest ≡ true }
     ensures made { IfOk result (Makes PATH_EXPR atom_room (state p.old) (state p.new)) }
-    ensures script { OnOk result (Follows const_script.const_path something (state p.old) (state p.new)) }
+    ensures script { OnOk result (Does (G.left g.now) const_script.const_path something (state p.old) (state p.new)) }
 {
     let m = p.start()?;
     expr_path(p, g)?;
@@ -264,7 +264,7 @@ fn const_path<G: Grammar>(p: &mut Parser<'_>, g: &G) -> Result<CompletedMarker, 
 fn negative_const(p: &mut Parser<'_>) -> Result<(), NoMemory>
     requires here { next (state p.old) ≡ MINUS }
     ensures took { OnOk result (Took (state p.old) (state p.new) operand_room) }
-    ensures script { OnOk result (Follows const_script.negative_const something (state p.old) (state p.new)) }
+    ensures script { OnOk result ((depth : ℕ) → Does depth const_script.negative_const something (state p.old) (state p.new)) }
 {
     let m = p.start()?;
     p.bump(T![-])?;
@@ -278,7 +278,7 @@ fn negative_const(p: &mut Parser<'_>) -> Result<(), NoMemory>
 #[inline(never)]
 fn missing_const(p: &mut Parser<'_>) -> Result<(), NoMemory>
     ensures grew { OnOk result (Grew (state p.old) (state p.new) recovery_events) }
-    ensures script { OnOk result (Follows const_script.missing_const something (state p.old) (state p.new)) }
+    ensures script { OnOk result ((depth : ℕ) → Does depth const_script.missing_const something (state p.old) (state p.new)) }
 {
     p.err_recover(
         "expected a generic const argument",

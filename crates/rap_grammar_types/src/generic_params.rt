@@ -1,12 +1,12 @@
 //! Generic parameters, bounds, and `where`.
-ghost use Rattle.std.specs.Prelude.{◌≡◌, ◌≢◌, ◌<◌, ◌≤◌, OnOk, IfOk, Some, true, false};
+ghost use Rattle.std.specs.Prelude.{ℕ, ◌≡◌, ◌≢◌, ◌<◌, ◌≤◌, OnOk, IfOk, Some, true, false};
 ghost use Rattle.rap_base.specs.TokenKind.{L_ANGLE, LIFETIME_IDENT, IDENT, CONST_KW, COLON, USE_KW, BANG, WHERE_KW};
 ghost use Rattle.rap_base.specs.NodeKind.{TYPE_BOUND_LIST};
 ghost use Rattle.rap_events.specs.State.{state, next, NthAt};
 ghost use Rattle.rap_grammar_scripts.specs.First.{is_type_first, is_where_predicate_first};
 ghost use Rattle.rap_grammar_scripts.specs.GenericParams as script;
 ghost use Rattle.rap_grammar_frame.specs.Grew.{Within, Grew, Took, Behind, Gone, Spent, Closes};
-ghost use Rattle.rap_grammar_scripts.specs.Knot.{Follows};
+ghost use Rattle.rap_grammar_scripts.specs.Exec.{Does};
 ghost use Rattle.rap_grammar_frame.specs.Room.{list_room, param_room, element_room, path_room, segment_room, name_end_room, name_room};
 ghost use Rattle.rap_grammar_scripts.specs.Script.{something};
 ghost use Rattle.rap_grammar_scripts.specs.Words.{of_bool};
@@ -30,7 +30,7 @@ pub fn generic_param_list<G: Grammar>(p: &mut Parser<'_>, g: &G) -> Result<(), N
     requires within { Within G.valid G.left g.now (state p.old) }
     requires here { next (state p.old) ≡ L_ANGLE }
     ensures took { OnOk result (Took (state p.old) (state p.new) list_room) }
-    ensures script { OnOk result (Follows script.generic_param_list something (state p.old) (state p.new)) }
+    ensures script { OnOk result (Does (G.left g.now) script.generic_param_list something (state p.old) (state p.new)) }
 {
     let m = p.start()?;
     delimited(
@@ -74,7 +74,7 @@ fn generic_param<G: Grammar>(p: &mut Parser<'_>, g: &G, m: Marker) -> Result<boo
     requires newest { (state p.old).marker ≡ Some m.pos.value }
     ensures gone { OnOk result (Gone (state p.old) (state p.new) 4) }
     ensures spent { IfOk result (λ found. found ≡ true → Spent (state p.old) (state p.new) param_room) }
-    ensures script { IfOk result (λ found. Follows script.generic_param (of_bool found) (state p.old) (state p.new)) }
+    ensures script { IfOk result (λ found. Does (G.left g.now) script.generic_param (of_bool found) (state p.old) (state p.new)) }
 {
     match p.current() {
         T![lifetime_ident] => {
@@ -104,7 +104,7 @@ fn lifetime_param<G: Grammar>(p: &mut Parser<'_>, g: &G, m: Marker) -> Result<()
     requires here { next (state p.old) ≡ LIFETIME_IDENT }
     ensures gone { OnOk result (Gone (state p.old) (state p.new) 0) }
     ensures spent { OnOk result (Spent (state p.old) (state p.new) param_room) }
-    ensures script { OnOk result (Follows script.lifetime_param something (state p.old) (state p.new)) }
+    ensures script { OnOk result (Does (G.left g.now) script.lifetime_param something (state p.old) (state p.new)) }
 {
     lifetime(p)?;
     if p.eat(T![:])? {
@@ -121,7 +121,7 @@ fn type_param<G: Grammar>(p: &mut Parser<'_>, g: &G, m: Marker) -> Result<(), No
     requires here { next (state p.old) ≡ IDENT }
     ensures gone { OnOk result (Gone (state p.old) (state p.new) 0) }
     ensures spent { OnOk result (Spent (state p.old) (state p.new) param_room) }
-    ensures script { OnOk result (Follows script.type_param something (state p.old) (state p.new)) }
+    ensures script { OnOk result (Does (G.left g.now) script.type_param something (state p.old) (state p.new)) }
 {
     name(p)?;
     if p.at(T![:]) {
@@ -142,7 +142,7 @@ fn const_param<G: Grammar>(p: &mut Parser<'_>, g: &G, m: Marker) -> Result<(), N
     requires here { next (state p.old) ≡ CONST_KW }
     ensures gone { OnOk result (Gone (state p.old) (state p.new) 0) }
     ensures spent { OnOk result (Spent (state p.old) (state p.new) param_room) }
-    ensures script { OnOk result (Follows script.const_param something (state p.old) (state p.new)) }
+    ensures script { OnOk result (Does (G.left g.now) script.const_param something (state p.old) (state p.new)) }
 {
     p.bump(T![const])?;
     name(p)?;
@@ -162,7 +162,7 @@ fn const_param<G: Grammar>(p: &mut Parser<'_>, g: &G, m: Marker) -> Result<(), N
 fn lifetime_bounds<G: Grammar>(p: &mut Parser<'_>, g: &G) -> Result<(), NoMemory>
     requires within { Within G.valid G.left g.now (state p.old) }
     ensures grew { OnOk result (Grew (state p.old) (state p.new) 16) }
-    ensures script { OnOk result (Follows script.lifetime_bounds something (state p.old) (state p.new)) }
+    ensures script { OnOk result (Does (G.left g.now) script.lifetime_bounds something (state p.old) (state p.new)) }
 {
     let m = p.start()?;
     lifetime_bound_list(p, g)?;
@@ -174,7 +174,7 @@ fn lifetime_bounds<G: Grammar>(p: &mut Parser<'_>, g: &G) -> Result<(), NoMemory
 fn lifetime_bound_list<G: Grammar>(p: &mut Parser<'_>, g: &G) -> Result<(), NoMemory>
     requires within { Within G.valid G.left g.now (state p.old) }
     ensures grew { OnOk result (Grew (state p.old) (state p.new) 8) }
-    ensures script { OnOk result (Follows script.lifetime_bound_list something (state p.old) (state p.new)) }
+    ensures script { OnOk result (Does (G.left g.now) script.lifetime_bound_list something (state p.old) (state p.new)) }
 {
     'bounds: while lifetime_bound(p, g)? {
         if !p.eat(T![+])? {
@@ -189,7 +189,7 @@ fn lifetime_bound<G: Grammar>(p: &mut Parser<'_>, g: &G) -> Result<bool, NoMemor
     requires within { Within G.valid G.left g.now (state p.old) }
     ensures grew { OnOk result (Grew (state p.old) (state p.new) 4) }
     ensures took { IfOk result (λ found. found ≡ true → Took (state p.old) (state p.new) element_room) }
-    ensures script { IfOk result (λ found. Follows script.lifetime_bound (of_bool found) (state p.old) (state p.new)) }
+    ensures script { IfOk result (λ found. Does (G.left g.now) script.lifetime_bound (of_bool found) (state p.old) (state p.new)) }
 {
     if !matches!(p.current(), T![lifetime_ident] | T![>] | T![,]) {
         p.error("expected lifetime")?;
@@ -203,7 +203,7 @@ pub(crate) fn bounds<G: Grammar>(p: &mut Parser<'_>, g: &G) -> Result<(), NoMemo
     requires within { Within G.valid G.left g.now (state p.old) }
     requires here { next (state p.old) ≡ COLON }
     ensures took { OnOk result (Took (state p.old) (state p.new) list_room) }
-    ensures script { OnOk result (Follows script.bounds something (state p.old) (state p.new)) }
+    ensures script { OnOk result (Does (G.left g.now) script.bounds something (state p.old) (state p.new)) }
 {
     p.bump(T![:])?;
     bounds_without_colon(p, g)?;
@@ -215,7 +215,7 @@ pub fn bounds_without_colon<G: Grammar>(p: &mut Parser<'_>, g: &G) -> Result<(),
     requires within { Within G.valid G.left g.now (state p.old) }
     ensures grew { OnOk result (Grew (state p.old) (state p.new) 16) }
     ensures took { OnOk result (next (state p.old) ≡ LIFETIME_IDENT → Took (state p.old) (state p.new) list_room) }
-    ensures script { OnOk result (Follows script.bounds_without_colon something (state p.old) (state p.new)) }
+    ensures script { OnOk result (Does (G.left g.now) script.bounds_without_colon something (state p.old) (state p.new)) }
 {
     let m = p.start()?;
     bounds_without_colon_m(p, g, m)?;
@@ -232,7 +232,7 @@ pub(crate) fn bounds_without_colon_m<G: Grammar>(
     requires newest { (state p.old).marker ≡ Some m.pos.value }
     ensures closes { IfOk result (Closes TYPE_BOUND_LIST 8 (state p.old) (state p.new)) }
     ensures spent { OnOk result (next (state p.old) ≡ LIFETIME_IDENT → Spent (state p.old) (state p.new) path_room) }
-    ensures script { OnOk result (Follows script.bounds_without_colon_m something (state p.old) (state p.new)) }
+    ensures script { OnOk result (Does (G.left g.now) script.bounds_without_colon_m something (state p.old) (state p.new)) }
 {
     type_bounds(p, g)?;
     let cm = m.complete(p, SyntaxKind::TYPE_BOUND_LIST)?;
@@ -244,7 +244,7 @@ fn type_bounds<G: Grammar>(p: &mut Parser<'_>, g: &G) -> Result<(), NoMemory>
     requires within { Within G.valid G.left g.now (state p.old) }
     ensures grew { OnOk result (Grew (state p.old) (state p.new) 4) }
     ensures took { OnOk result (next (state p.old) ≡ LIFETIME_IDENT → Took (state p.old) (state p.new) segment_room) }
-    ensures script { OnOk result (Follows script.type_bounds something (state p.old) (state p.new)) }
+    ensures script { OnOk result (Does (G.left g.now) script.type_bounds something (state p.old) (state p.new)) }
 {
     'bounds: while type_bound(p, g)? {
         if !p.eat(T![+])? {
@@ -260,7 +260,7 @@ fn type_bound<G: Grammar>(p: &mut Parser<'_>, g: &G) -> Result<bool, NoMemory>
     ensures grew { OnOk result (Grew (state p.old) (state p.new) 2) }
     ensures took { IfOk result (λ found. found ≡ true → Took (state p.old) (state p.new) param_room) }
     ensures lifetime { OnOk result (next (state p.old) ≡ LIFETIME_IDENT → Took (state p.old) (state p.new) name_end_room) }
-    ensures script { IfOk result (λ found. Follows script.type_bound (of_bool found) (state p.old) (state p.new)) }
+    ensures script { IfOk result (λ found. Does (G.left g.now) script.type_bound (of_bool found) (state p.old) (state p.new)) }
 {
     let m = p.start()?;
     let has_paren = p.eat(T!['('])?;
@@ -281,7 +281,7 @@ fn bare_bound<G: Grammar>(p: &mut Parser<'_>, g: &G) -> Result<bool, NoMemory>
     ensures grew { OnOk result (Grew (state p.old) (state p.new) 0) }
     ensures took { IfOk result (λ found. found ≡ true → Took (state p.old) (state p.new) list_room) }
     ensures lifetime { OnOk result (next (state p.old) ≡ LIFETIME_IDENT → Took (state p.old) (state p.new) name_room) }
-    ensures script { IfOk result (λ found. Follows script.bare_bound (of_bool found) (state p.old) (state p.new)) }
+    ensures script { IfOk result (λ found. Does (G.left g.now) script.bare_bound (of_bool found) (state p.old) (state p.new)) }
 {
     match p.current() {
         T![lifetime_ident] => {
@@ -310,7 +310,7 @@ fn use_bound<G: Grammar>(p: &mut Parser<'_>, g: &G) -> Result<(), NoMemory>
     requires here { next (state p.old) ≡ USE_KW }
     requires args { NthAt (state p.old) 1 L_ANGLE }
     ensures took { OnOk result (Took (state p.old) (state p.new) list_room) }
-    ensures script { OnOk result (Follows script.use_bound something (state p.old) (state p.new)) }
+    ensures script { OnOk result (Does (G.left g.now) script.use_bound something (state p.old) (state p.new)) }
 {
     p.bump(T![use])?;
     let m = p.start()?;
@@ -357,7 +357,7 @@ fn path_type_bound<G: Grammar>(p: &mut Parser<'_>, g: &G) -> Result<bool, NoMemo
     requires within { Within G.valid G.left g.now (state p.old) }
     ensures grew { OnOk result (Grew (state p.old) (state p.new) 0) }
     ensures took { IfOk result (λ found. found ≡ true → Took (state p.old) (state p.new) list_room) }
-    ensures script { IfOk result (λ found. Follows script.path_type_bound (of_bool found) (state p.old) (state p.new)) }
+    ensures script { IfOk result (λ found. Does (G.left g.now) script.path_type_bound (of_bool found) (state p.old) (state p.new)) }
 {
     bound_constness(p)?;
     p.eat(T![async])?;
@@ -375,7 +375,7 @@ fn path_type_bound<G: Grammar>(p: &mut Parser<'_>, g: &G) -> Result<bool, NoMemo
 /// The `const` before a trait, as `const`, `~const` and `[const]`, if there is one.
 fn bound_constness(p: &mut Parser<'_>) -> Result<(), NoMemory>
     ensures grew { OnOk result (Grew (state p.old) (state p.new) 0) }
-    ensures script { OnOk result (Follows script.bound_constness something (state p.old) (state p.new)) }
+    ensures script { OnOk result ((depth : ℕ) → Does depth script.bound_constness something (state p.old) (state p.new)) }
 {
     if p.eat(T![~])? {
         p.expect(T![const])?;
@@ -394,7 +394,7 @@ fn bound_constness(p: &mut Parser<'_>) -> Result<(), NoMemory>
 fn bound_macro_call(p: &mut Parser<'_>) -> Result<(), NoMemory>
     requires { next (state p.old) ≡ BANG }
     ensures took { OnOk result (Took (state p.old) (state p.new) param_room) }
-    ensures script { OnOk result (Follows script.bound_macro_call something (state p.old) (state p.new)) }
+    ensures script { OnOk result ((depth : ℕ) → (state p.old).left ≤ depth → Does depth script.bound_macro_call something (state p.old) (state p.new)) }
 {
     let m = p.start()?;
     p.bump(T![!])?;
@@ -411,7 +411,7 @@ pub fn where_clause<G: Grammar>(p: &mut Parser<'_>, g: &G) -> Result<(), NoMemor
     requires within { Within G.valid G.left g.now (state p.old) }
     requires here { next (state p.old) ≡ WHERE_KW }
     ensures took { OnOk result (Took (state p.old) (state p.new) list_room) }
-    ensures script { OnOk result (Follows script.where_clause something (state p.old) (state p.new)) }
+    ensures script { OnOk result (Does (G.left g.now) script.where_clause something (state p.old) (state p.new)) }
 {
     let m = p.start()?;
     p.bump(T![where])?;
@@ -424,7 +424,7 @@ pub fn where_clause<G: Grammar>(p: &mut Parser<'_>, g: &G) -> Result<(), NoMemor
 fn where_predicates<G: Grammar>(p: &mut Parser<'_>, g: &G) -> Result<(), NoMemory>
     requires behind { Behind G.valid G.left g.now (state p.old) }
     ensures grew { OnOk result (Grew (state p.old) (state p.new) 0) }
-    ensures script { OnOk result (Follows script.where_predicates something (state p.old) (state p.new)) }
+    ensures script { OnOk result (Does (G.left g.now) script.where_predicates something (state p.old) (state p.new)) }
 {
     'predicates: while is_where_predicate(p.current()) {
         where_predicate(p, g)?;
@@ -445,7 +445,7 @@ fn is_where_predicate(kind: SyntaxKind) -> bool
 /// The comma after a predicate. Returns whether another predicate may follow.
 fn after_predicate(p: &mut Parser<'_>) -> Result<bool, NoMemory>
     ensures grew { OnOk result (Grew (state p.old) (state p.new) 1) }
-    ensures script { IfOk result (λ on. Follows script.after_predicate (of_bool on) (state p.old) (state p.new)) }
+    ensures script { IfOk result (λ on. (depth : ℕ) → Does depth script.after_predicate (of_bool on) (state p.old) (state p.new)) }
 {
     let comma = p.eat(T![,])?;
     if matches!(p.current(), T!['{'] | T![;] | T![=]) {
@@ -463,7 +463,7 @@ fn where_predicate<G: Grammar>(p: &mut Parser<'_>, g: &G) -> Result<(), NoMemory
     ensures grew { OnOk result (Grew (state p.old) (state p.new) 16) }
     ensures took { OnOk result
         (is_where_predicate_first (next (state p.old)) ≡ true → Took (state p.old) (state p.new) element_room) }
-    ensures script { OnOk result (Follows script.where_predicate something (state p.old) (state p.new)) }
+    ensures script { OnOk result (Does (G.left g.now) script.where_predicate something (state p.old) (state p.new)) }
 {
     let m = p.start()?;
     match p.current() {
@@ -487,7 +487,7 @@ fn type_predicate<G: Grammar>(p: &mut Parser<'_>, g: &G) -> Result<(), NoMemory>
     requires behind { Behind G.valid G.left g.now (state p.old) }
     ensures grew { OnOk result (Grew (state p.old) (state p.new) 9) }
     ensures took { OnOk result (is_type_first (next (state p.old)) ≡ true → Took (state p.old) (state p.new) param_room) }
-    ensures script { OnOk result (Follows script.type_predicate something (state p.old) (state p.new)) }
+    ensures script { OnOk result (Does (G.left g.now) script.type_predicate something (state p.old) (state p.new)) }
 {
     if p.at(T![for]) {
         for_binder(p, g)?;
@@ -501,7 +501,7 @@ fn type_predicate<G: Grammar>(p: &mut Parser<'_>, g: &G) -> Result<(), NoMemory>
 fn predicate_bounds<G: Grammar>(p: &mut Parser<'_>, g: &G) -> Result<(), NoMemory>
     requires within { Within G.valid G.left g.now (state p.old) }
     ensures grew { OnOk result (Grew (state p.old) (state p.new) 1) }
-    ensures script { OnOk result (Follows script.predicate_bounds something (state p.old) (state p.new)) }
+    ensures script { OnOk result (Does (G.left g.now) script.predicate_bounds something (state p.old) (state p.new)) }
 {
     if p.at(T![:]) {
         bounds(p, g)?;

@@ -1,11 +1,11 @@
 //! Types.
-ghost use Rattle.std.specs.Prelude.{◌≡◌, ◌≢◌, ◌<◌, ◌≤◌, OnOk, IsTrue, IfOk, true};
+ghost use Rattle.std.specs.Prelude.{ℕ, ◌≡◌, ◌≢◌, ◌<◌, ◌≤◌, OnOk, IsTrue, IfOk, true};
 ghost use Rattle.rap_base.specs.TokenKind.{DYN_KW, L_PAREN, BANG, STAR, L_BRACK, SEMICOLON, AMP, UNDERSCORE, FN_KW, FOR_KW, IMPL_KW, LIFETIME_IDENT, BUILTIN_KW, POUND};
 ghost use Rattle.rap_base.specs.NodeKind.{PATH_TYPE};
 ghost use Rattle.rap_events.specs.State.{state, next, ReadsAs, IsLast, but_last, NthAt};
 ghost use Rattle.rap_grammar_scripts.specs.First.{starts_weak_dyn, is_weak_dyn_path_first, is_dyn_weak, is_fn_ptr_first, is_path_start};
 ghost use Rattle.rap_grammar_frame.specs.Grew.{Within, Took, Behind, Grew, Makes};
-ghost use Rattle.rap_grammar_scripts.specs.Knot.{Follows};
+ghost use Rattle.rap_grammar_scripts.specs.Exec.{Does};
 ghost use Rattle.rap_grammar_frame.specs.Room.{type_room, list_room, name_room};
 ghost use Rattle.rap_grammar_frame.specs.Rules.{IsType};
 ghost use Rattle.rap_grammar_scripts.specs.Script.{something};
@@ -36,7 +36,7 @@ pub fn type_with_bounds_cond<G: Grammar>(
 ) -> Result<(), NoMemory>
     requires within { Within G.valid G.left g.now (state p.old) }
     ensures reads { OnOk result (IsType (state p.old) (state p.new)) }
-    ensures script { OnOk result (Follows (script.type_with_bounds_cond allow_bounds) something (state p.old) (state p.new)) }
+    ensures script { OnOk result (Does (G.left g.now) (script.type_with_bounds_cond allow_bounds) something (state p.old) (state p.new)) }
 {
     match p.current() {
         T!['('] => paren_or_tuple_type(p, g),
@@ -58,7 +58,7 @@ pub fn type_with_bounds_cond<G: Grammar>(
 fn named_type<G: Grammar>(p: &mut Parser<'_>, g: &G, allow_bounds: bool) -> Result<(), NoMemory>
     requires within { Within G.valid G.left g.now (state p.old) }
     ensures reads { OnOk result (IsType (state p.old) (state p.new)) }
-    ensures script { OnOk result (Follows (script.named_type allow_bounds) something (state p.old) (state p.new)) }
+    ensures script { OnOk result (Does (G.left g.now) (script.named_type allow_bounds) something (state p.old) (state p.new)) }
 {
     if starts_weak_dyn(p) {
         dyn_trait_type_weak(p, g)?;
@@ -87,7 +87,7 @@ fn starts_bare_dyn(p: &Parser<'_>) -> bool
 #[inline(never)]
 fn missing_type(p: &mut Parser<'_>) -> Result<(), NoMemory>
     ensures reads { OnOk result (IsType (state p.old) (state p.new)) }
-    ensures script { OnOk result (Follows script.missing_type something (state p.old) (state p.new)) }
+    ensures script { OnOk result ((depth : ℕ) → Does depth script.missing_type something (state p.old) (state p.new)) }
 {
     if p.current() == T!['{'] {
         p.error("expected type, found `{`")?;
@@ -137,7 +137,7 @@ fn paren_or_tuple_type<G: Grammar>(p: &mut Parser<'_>, g: &G) -> Result<(), NoMe
     requires within { Within G.valid G.left g.now (state p.old) }
     requires here { next (state p.old) ≡ L_PAREN }
     ensures took { OnOk result (Took (state p.old) (state p.new) type_room) }
-    ensures script { OnOk result (Follows script.paren_or_tuple_type something (state p.old) (state p.new)) }
+    ensures script { OnOk result (Does (G.left g.now) script.paren_or_tuple_type something (state p.old) (state p.new)) }
 {
     let m = p.start()?;
     p.bump(T!['('])?;
@@ -156,7 +156,7 @@ fn paren_or_tuple_type<G: Grammar>(p: &mut Parser<'_>, g: &G) -> Result<(), NoMe
 fn tuple_types<G: Grammar>(p: &mut Parser<'_>, g: &G) -> Result<bool, NoMemory>
     requires behind { Behind G.valid G.left g.now (state p.old) }
     ensures grew { OnOk result (Grew (state p.old) (state p.new) 8) }
-    ensures script { IfOk result (λ parens. Follows script.tuple_types (of_bool parens) (state p.old) (state p.new)) }
+    ensures script { IfOk result (λ parens. Does (G.left g.now) script.tuple_types (of_bool parens) (state p.old) (state p.new)) }
 {
     let mut seen = false;
     'types: while !p.at(SyntaxKind::EOF) && !p.at(T![')']) {
@@ -174,7 +174,7 @@ fn tuple_types<G: Grammar>(p: &mut Parser<'_>, g: &G) -> Result<bool, NoMemory>
 fn never_type(p: &mut Parser<'_>) -> Result<(), NoMemory>
     requires here { next (state p.old) ≡ BANG }
     ensures took { OnOk result (Took (state p.old) (state p.new) type_room) }
-    ensures script { OnOk result (Follows script.never_type something (state p.old) (state p.new)) }
+    ensures script { OnOk result ((depth : ℕ) → Does depth script.never_type something (state p.old) (state p.new)) }
 {
     let m = p.start()?;
     p.bump(T![!])?;
@@ -187,7 +187,7 @@ fn ptr_type<G: Grammar>(p: &mut Parser<'_>, g: &G) -> Result<(), NoMemory>
     requires within { Within G.valid G.left g.now (state p.old) }
     requires here { next (state p.old) ≡ STAR }
     ensures took { OnOk result (Took (state p.old) (state p.new) type_room) }
-    ensures script { OnOk result (Follows script.ptr_type something (state p.old) (state p.new)) }
+    ensures script { OnOk result (Does (G.left g.now) script.ptr_type something (state p.old) (state p.new)) }
 {
     let m = p.start()?;
     p.bump(T![*])?;
@@ -201,7 +201,7 @@ fn ptr_type<G: Grammar>(p: &mut Parser<'_>, g: &G) -> Result<(), NoMemory>
 #[inline(never)]
 fn ptr_qualifier(p: &mut Parser<'_>) -> Result<(), NoMemory>
     ensures grew { OnOk result (Grew (state p.old) (state p.new) 1) }
-    ensures script { OnOk result (Follows script.ptr_qualifier something (state p.old) (state p.new)) }
+    ensures script { OnOk result ((depth : ℕ) → Does depth script.ptr_qualifier something (state p.old) (state p.new)) }
 {
     if matches!(p.current(), T![mut] | T![const]) {
         p.bump_any()?;
@@ -219,7 +219,7 @@ fn array_or_slice_type<G: Grammar>(p: &mut Parser<'_>, g: &G) -> Result<(), NoMe
     requires within { Within G.valid G.left g.now (state p.old) }
     requires here { next (state p.old) ≡ L_BRACK }
     ensures took { OnOk result (Took (state p.old) (state p.new) type_room) }
-    ensures script { OnOk result (Follows script.array_or_slice_type something (state p.old) (state p.new)) }
+    ensures script { OnOk result (Does (G.left g.now) script.array_or_slice_type something (state p.old) (state p.new)) }
 {
     let m = p.start()?;
     p.bump(T!['['])?;
@@ -244,7 +244,7 @@ fn array_length<G: Grammar>(p: &mut Parser<'_>, g: &G) -> Result<(), NoMemory>
     requires within { Within G.valid G.left g.now (state p.old) }
     requires here { next (state p.old) ≡ SEMICOLON }
     ensures took { OnOk result (Took (state p.old) (state p.new) list_room) }
-    ensures script { OnOk result (Follows script.array_length something (state p.old) (state p.new)) }
+    ensures script { OnOk result (Does (G.left g.now) script.array_length something (state p.old) (state p.new)) }
 {
     p.bump(T![;])?;
     let m = p.start()?;
@@ -260,7 +260,7 @@ fn ref_type<G: Grammar>(p: &mut Parser<'_>, g: &G) -> Result<(), NoMemory>
     requires within { Within G.valid G.left g.now (state p.old) }
     requires here { next (state p.old) ≡ AMP }
     ensures took { OnOk result (Took (state p.old) (state p.new) type_room) }
-    ensures script { OnOk result (Follows script.ref_type something (state p.old) (state p.new)) }
+    ensures script { OnOk result (Does (G.left g.now) script.ref_type something (state p.old) (state p.new)) }
 {
     let m = p.start()?;
     p.bump(T![&])?;
@@ -278,7 +278,7 @@ fn ref_type<G: Grammar>(p: &mut Parser<'_>, g: &G) -> Result<(), NoMemory>
 fn infer_type(p: &mut Parser<'_>) -> Result<(), NoMemory>
     requires here { next (state p.old) ≡ UNDERSCORE }
     ensures took { OnOk result (Took (state p.old) (state p.new) type_room) }
-    ensures script { OnOk result (Follows script.infer_type something (state p.old) (state p.new)) }
+    ensures script { OnOk result ((depth : ℕ) → Does depth script.infer_type something (state p.old) (state p.new)) }
 {
     let m = p.start()?;
     p.bump(T![_])?;
@@ -292,7 +292,7 @@ fn fn_ptr_type<G: Grammar>(p: &mut Parser<'_>, g: &G) -> Result<(), NoMemory>
     requires within { Within G.valid G.left g.now (state p.old) }
     requires first { is_fn_ptr_first (next (state p.old)) ≡ true }
     ensures took { OnOk result (Took (state p.old) (state p.new) type_room) }
-    ensures script { OnOk result (Follows script.fn_ptr_type something (state p.old) (state p.new)) }
+    ensures script { OnOk result (Does (G.left g.now) script.fn_ptr_type something (state p.old) (state p.new)) }
 {
     let m = p.start()?;
     fn_qualifiers(p)?;
@@ -314,7 +314,7 @@ fn fn_qualifiers(p: &mut Parser<'_>) -> Result<(), NoMemory>
     ensures took { OnOk result
         (is_fn_ptr_first (next (state p.old)) ≡ true → next (state p.new) ≢ FN_KW →
         Took (state p.old) (state p.new) name_room) }
-    ensures script { OnOk result (Follows script.fn_qualifiers something (state p.old) (state p.new)) }
+    ensures script { OnOk result ((depth : ℕ) → Does depth script.fn_qualifiers something (state p.old) (state p.new)) }
 {
     p.eat(T![unsafe])?;
     if p.at(T![extern]) {
@@ -328,7 +328,7 @@ fn fn_qualifiers(p: &mut Parser<'_>) -> Result<(), NoMemory>
 fn fn_ptr_params<G: Grammar>(p: &mut Parser<'_>, g: &G) -> Result<(), NoMemory>
     requires within { Within G.valid G.left g.now (state p.old) }
     ensures grew { OnOk result (Grew (state p.old) (state p.new) 1) }
-    ensures script { OnOk result (Follows script.fn_ptr_params something (state p.old) (state p.new)) }
+    ensures script { OnOk result (Does (G.left g.now) script.fn_ptr_params something (state p.old) (state p.new)) }
 {
     if p.at(T!['(']) {
         param_list_fn_ptr(p, g)?;
@@ -344,7 +344,7 @@ fn for_type<G: Grammar>(p: &mut Parser<'_>, g: &G, allow_bounds: bool) -> Result
     requires within { Within G.valid G.left g.now (state p.old) }
     requires here { next (state p.old) ≡ FOR_KW }
     ensures took { OnOk result (Took (state p.old) (state p.new) type_room) }
-    ensures script { OnOk result (Follows (script.for_type allow_bounds) something (state p.old) (state p.new)) }
+    ensures script { OnOk result (Does (G.left g.now) (script.for_type allow_bounds) something (state p.old) (state p.new)) }
 {
     let m = p.start()?;
     for_binder(p, g)?;
@@ -373,7 +373,7 @@ fn impl_trait_type<G: Grammar>(p: &mut Parser<'_>, g: &G) -> Result<(), NoMemory
     requires within { Within G.valid G.left g.now (state p.old) }
     requires here { next (state p.old) ≡ IMPL_KW }
     ensures took { OnOk result (Took (state p.old) (state p.new) type_room) }
-    ensures script { OnOk result (Follows script.impl_trait_type something (state p.old) (state p.new)) }
+    ensures script { OnOk result (Does (G.left g.now) script.impl_trait_type something (state p.old) (state p.new)) }
 {
     let m = p.start()?;
     p.bump(T![impl])?;
@@ -388,7 +388,7 @@ fn dyn_trait_type<G: Grammar>(p: &mut Parser<'_>, g: &G) -> Result<(), NoMemory>
     requires within { Within G.valid G.left g.now (state p.old) }
     requires here { next (state p.old) ≡ DYN_KW }
     ensures took { OnOk result (Took (state p.old) (state p.new) type_room) }
-    ensures script { OnOk result (Follows script.dyn_trait_type something (state p.old) (state p.new)) }
+    ensures script { OnOk result (Does (G.left g.now) script.dyn_trait_type something (state p.old) (state p.new)) }
 {
     let m = p.start()?;
     p.bump(T![dyn])?;
@@ -403,7 +403,7 @@ fn dyn_trait_type_weak<G: Grammar>(p: &mut Parser<'_>, g: &G) -> Result<(), NoMe
     requires within { Within G.valid G.left g.now (state p.old) }
     requires here { ReadsAs (state p.old) DYN_KW }
     ensures took { OnOk result (Took (state p.old) (state p.new) type_room) }
-    ensures script { OnOk result (Follows script.dyn_trait_type_weak something (state p.old) (state p.new)) }
+    ensures script { OnOk result (Does (G.left g.now) script.dyn_trait_type_weak something (state p.old) (state p.new)) }
 {
     let m = p.start()?;
     p.bump_remap(T![dyn])?;
@@ -418,7 +418,7 @@ fn bare_dyn_trait_type<G: Grammar>(p: &mut Parser<'_>, g: &G) -> Result<(), NoMe
     requires within { Within G.valid G.left g.now (state p.old) }
     requires here { next (state p.old) ≡ LIFETIME_IDENT }
     ensures took { OnOk result (Took (state p.old) (state p.new) type_room) }
-    ensures script { OnOk result (Follows script.bare_dyn_trait_type something (state p.old) (state p.new)) }
+    ensures script { OnOk result (Does (G.left g.now) script.bare_dyn_trait_type something (state p.old) (state p.new)) }
 {
     let m = p.start()?;
     bounds_without_colon(p, g)?;
@@ -435,7 +435,7 @@ fn path_or_macro_type<G: Grammar>(
     requires within { Within G.valid G.left g.now (state p.old) }
     requires path { is_path_start (state p.old).rest ≡ true }
     ensures took { OnOk result (Took (state p.old) (state p.new) type_room) }
-    ensures script { OnOk result (Follows (script.path_or_macro_type allow_bounds) something (state p.old) (state p.new)) }
+    ensures script { OnOk result (Does (G.left g.now) (script.path_or_macro_type allow_bounds) something (state p.old) (state p.new)) }
 {
     if starts_builtin(p) {
         pattern_type(p, g)?;
@@ -451,7 +451,7 @@ fn path_or_macro<G: Grammar>(p: &mut Parser<'_>, g: &G, allow_bounds: bool) -> R
     requires within { Within G.valid G.left g.now (state p.old) }
     requires path { is_path_start (state p.old).rest ≡ true }
     ensures took { OnOk result (Took (state p.old) (state p.new) type_room) }
-    ensures script { OnOk result (Follows (script.path_or_macro allow_bounds) something (state p.old) (state p.new)) }
+    ensures script { OnOk result (Does (G.left g.now) (script.path_or_macro allow_bounds) something (state p.old) (state p.new)) }
 {
     let r = p.start()?;
     let m = p.start()?;
@@ -476,7 +476,7 @@ pub(crate) fn path_type<G: Grammar>(p: &mut Parser<'_>, g: &G) -> Result<Complet
     requires within { Within G.valid G.left g.now (state p.old) }
     requires path { is_path_start (state p.old).rest ≡ true }
     ensures made { IfOk result (Makes PATH_TYPE list_room (state p.old) (state p.new)) }
-    ensures script { OnOk result (Follows parts.path_type something (state p.old) (state p.new)) }
+    ensures script { OnOk result (Does (G.left g.now) parts.path_type something (state p.old) (state p.new)) }
 {
     let m = p.start()?;
     type_path(p, g)?;
@@ -493,7 +493,7 @@ pub fn path_type_bounds<G: Grammar>(
     requires within { Within G.valid G.left g.now (state p.old) }
     requires path { is_path_start (state p.old).rest ≡ true }
     ensures took { OnOk result (Took (state p.old) (state p.new) type_room) }
-    ensures script { OnOk result (Follows (script.path_type_bounds allow_bounds) something (state p.old) (state p.new)) }
+    ensures script { OnOk result (Does (G.left g.now) (script.path_type_bounds allow_bounds) something (state p.old) (state p.new)) }
 {
     let path = path_type(p, g)?;
     if allow_bounds {
@@ -517,7 +517,7 @@ pub(crate) fn opt_type_bounds_as_dyn_trait_type<G: Grammar>(
     ensures grew { OnOk result (Grew (state p.old) (state p.new) 16) }
     ensures last { IfOk result (λ cm. IsLast (state p.new) cm cm.kind.value) }
     ensures one { OnOk result (but_last (state p.new).forest ≡ but_last (state p.old).forest) }
-    ensures script { OnOk result (Follows (script.opt_type_bounds_as_dyn_trait_type kind) something (state p.old) (state p.new)) }
+    ensures script { OnOk result (Does (G.left g.now) (script.opt_type_bounds_as_dyn_trait_type kind) something (state p.old) (state p.new)) }
 {
     if kind == SyntaxKind::MACRO_TYPE || !p.at(T![+]) {
         return Ok(lhs);
@@ -539,7 +539,7 @@ fn pattern_type<G: Grammar>(p: &mut Parser<'_>, g: &G) -> Result<(), NoMemory>
     requires here { ReadsAs (state p.old) BUILTIN_KW }
     requires pound { NthAt (state p.old) 1 POUND }
     ensures took { OnOk result (Took (state p.old) (state p.new) type_room) }
-    ensures script { OnOk result (Follows script.pattern_type something (state p.old) (state p.new)) }
+    ensures script { OnOk result (Does (G.left g.now) script.pattern_type something (state p.old) (state p.new)) }
 {
     let m = p.start()?;
     p.bump_remap(T![builtin])?;
@@ -559,7 +559,7 @@ fn pattern_type<G: Grammar>(p: &mut Parser<'_>, g: &G) -> Result<(), NoMemory>
 fn pattern_type_parts<G: Grammar>(p: &mut Parser<'_>, g: &G) -> Result<(), NoMemory>
     requires behind { Behind G.valid G.left g.now (state p.old) }
     ensures grew { OnOk result (Grew (state p.old) (state p.new) 32) }
-    ensures script { OnOk result (Follows script.pattern_type_parts something (state p.old) (state p.new)) }
+    ensures script { OnOk result (Does (G.left g.now) script.pattern_type_parts something (state p.old) (state p.new)) }
 {
     p.expect(T!['('])?;
     type_(p, g)?;

@@ -66,7 +66,7 @@ fn run_part(p: &mut Parser<'_>, part: Part) -> Result<(), NoMemory>
     let call = |q: &mut Parser<'_>, c: Rule| -> Result<Answer, NoMemory>
         requires pre { Pre c (state q.old) }
         requires left { (state q.old).left < left }
-        ensures { IfOk result (Post c (state q.old) (state q.new)) }
+        ensures { IfOk result (Post left c (state q.old) (state q.new)) }
     {
         let _ = &left;
         run(q, c)

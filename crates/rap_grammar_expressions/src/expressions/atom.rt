@@ -1,5 +1,5 @@
 //! Expressions that begin with no operator.
-ghost use Rattle.std.specs.Prelude.{◌≡◌, ◌≢◌, ◌<◌, ◌≤◌, IfOk, ◌⊎◌, OnOk, true, IfSome};
+ghost use Rattle.std.specs.Prelude.{ℕ, ◌≡◌, ◌≢◌, ◌<◌, ◌≤◌, IfOk, ◌⊎◌, OnOk, true, IfSome};
 ghost use Rattle.rap_base.specs.TokenKind.{EOF, L_PAREN, L_BRACK, L_CURLY, UNDERSCORE, LIFETIME_IDENT, COLON};
 ghost use Rattle.rap_base.specs.NodeKind.{PAREN_EXPR, TUPLE_EXPR, ARRAY_EXPR, UNDERSCORE_EXPR};
 ghost use Rattle.rap_events.specs.Fit.{is_plain};
@@ -8,7 +8,7 @@ ghost use Rattle.rap_grammar_scripts.specs.Atom as script;
 ghost use Rattle.rap_grammar_scripts.specs.Expressions.{of_expr, of_like};
 ghost use Rattle.rap_grammar_scripts.specs.First.{is_path_start};
 ghost use Rattle.rap_grammar_frame.specs.Grew.{Within, Made, Behind, Grew, Makes};
-ghost use Rattle.rap_grammar_scripts.specs.Knot.{Follows};
+ghost use Rattle.rap_grammar_scripts.specs.Exec.{Does};
 ghost use Rattle.rap_grammar_frame.specs.Room.{atom_room};
 ghost use Rattle.rap_grammar_frame.specs.Rules.{Operand};
 ghost use Rattle.rap_grammar_scripts.specs.Script.{something};
@@ -45,7 +45,7 @@ pub(crate) fn atom_expr<G: Grammar>(
     requires within { Within G.valid G.left g.now (state p.old) }
     requires more { next (state p.old) ≢ EOF }
     ensures operand { IfOk result (Operand atom_room (state p.old) (state p.new)) }
-    ensures script { IfOk result (λ o. Follows (script.atom_expr r) (of_expr o) (state p.old) (state p.new)) }
+    ensures script { IfOk result (λ o. Does (G.left g.now) (script.atom_expr r) (of_expr o) (state p.old) (state p.new)) }
 {
     if let Some(cm) = literal(p)? {
         return Ok(Some((cm, BlockLike::NotBlock)));
@@ -71,7 +71,7 @@ fn bracketed_expr<G: Grammar>(
     requires within { Within G.valid G.left g.now (state p.old) }
     requires more { next (state p.old) ≢ EOF }
     ensures operand { IfOk result (Operand atom_room (state p.old) (state p.new)) }
-    ensures script { IfOk result (λ o. Follows (script.bracketed_expr r) (of_expr o) (state p.old) (state p.new)) }
+    ensures script { IfOk result (λ o. Does (G.left g.now) (script.bracketed_expr r) (of_expr o) (state p.old) (state p.new)) }
 {
     match p.current() {
         T!['('] => Ok(Some((tuple_expr(p, g)?, BlockLike::NotBlock))),
@@ -100,7 +100,7 @@ fn control_expr<G: Grammar>(p: &mut Parser<'_>, g: &G, r: Restrictions) -> Resul
     requires within { Within G.valid G.left g.now (state p.old) }
     requires more { next (state p.old) ≢ EOF }
     ensures operand { IfOk result (Operand atom_room (state p.old) (state p.new)) }
-    ensures script { IfOk result (λ o. Follows (script.control_expr r) (of_expr o) (state p.old) (state p.new)) }
+    ensures script { IfOk result (λ o. Does (G.left g.now) (script.control_expr r) (of_expr o) (state p.old) (state p.new)) }
 {
     if starts_label(p) {
         let labelled = labelled_expr(p, g)?;
@@ -123,7 +123,7 @@ fn jump_expr<G: Grammar>(p: &mut Parser<'_>, g: &G, r: Restrictions) -> Result<A
     requires within { Within G.valid G.left g.now (state p.old) }
     requires more { next (state p.old) ≢ EOF }
     ensures operand { IfOk result (Operand atom_room (state p.old) (state p.new)) }
-    ensures script { IfOk result (λ o. Follows (script.jump_expr r) (of_expr o) (state p.old) (state p.new)) }
+    ensures script { IfOk result (λ o. Does (G.left g.now) (script.jump_expr r) (of_expr o) (state p.old) (state p.new)) }
 {
     if starts_yeet(p) {
         let yeet = yeet_expr(p, g)?;
@@ -146,7 +146,7 @@ fn jump_expr<G: Grammar>(p: &mut Parser<'_>, g: &G, r: Restrictions) -> Result<A
 fn underscore_expr(p: &mut Parser<'_>) -> Result<CompletedMarker, NoMemory>
     requires here { next (state p.old) ≡ UNDERSCORE }
     ensures made { IfOk result (Makes UNDERSCORE_EXPR atom_room (state p.old) (state p.new)) }
-    ensures script { OnOk result (Follows script.underscore_expr something (state p.old) (state p.new)) }
+    ensures script { OnOk result ((depth : ℕ) → Does depth script.underscore_expr something (state p.old) (state p.new)) }
 {
     let m = p.start()?;
     p.bump(T![_])?;
@@ -172,7 +172,7 @@ fn path_expr<G: Grammar>(
     requires within { Within G.valid G.left g.now (state p.old) }
     requires path { is_path_start (state p.old).rest ≡ true }
     ensures made { IfOk result (λ e. Made (state p.old) (state p.new) e.0 atom_room × (is_plain e.0.kind.value ≡ true)) }
-    ensures script { IfOk result (λ e. Follows (script.path_expr r) (of_like e.1) (state p.old) (state p.new)) }
+    ensures script { IfOk result (λ e. Does (G.left g.now) (script.path_expr r) (of_like e.1) (state p.old) (state p.new)) }
 {
     let m = p.start()?;
     expr_path(p, g)?;
@@ -200,7 +200,7 @@ fn tuple_expr<G: Grammar>(p: &mut Parser<'_>, g: &G) -> Result<CompletedMarker, 
     ensures made { IfOk result
         (λ cm. Made (state p.old) (state p.new) cm atom_room ×
         ((cm.kind.value ≡ PAREN_EXPR) ⊎ (cm.kind.value ≡ TUPLE_EXPR))) }
-    ensures script { OnOk result (Follows script.tuple_expr something (state p.old) (state p.new)) }
+    ensures script { OnOk result (Does (G.left g.now) script.tuple_expr something (state p.old) (state p.new)) }
 {
     let m = p.start()?;
     p.bump(T!['('])?;
@@ -219,7 +219,7 @@ fn tuple_expr<G: Grammar>(p: &mut Parser<'_>, g: &G) -> Result<CompletedMarker, 
 fn tuple_elements<G: Grammar>(p: &mut Parser<'_>, g: &G) -> Result<bool, NoMemory>
     requires behind { Behind G.valid G.left g.now (state p.old) }
     ensures grew { OnOk result (Grew (state p.old) (state p.new) 8) }
-    ensures script { IfOk result (λ parens. Follows script.tuple_elements (of_bool parens) (state p.old) (state p.new)) }
+    ensures script { IfOk result (λ parens. Does (G.left g.now) script.tuple_elements (of_bool parens) (state p.old) (state p.new)) }
 {
     let mut saw_comma = false;
     let mut saw_expr = false;
@@ -249,7 +249,7 @@ fn array_expr<G: Grammar>(p: &mut Parser<'_>, g: &G) -> Result<CompletedMarker, 
     requires within { Within G.valid G.left g.now (state p.old) }
     requires here { next (state p.old) ≡ L_BRACK }
     ensures made { IfOk result (Makes ARRAY_EXPR atom_room (state p.old) (state p.new)) }
-    ensures script { OnOk result (Follows script.array_expr something (state p.old) (state p.new)) }
+    ensures script { OnOk result (Does (G.left g.now) script.array_expr something (state p.old) (state p.new)) }
 {
     let m = p.start()?;
     p.bump(T!['['])?;
@@ -263,7 +263,7 @@ fn array_expr<G: Grammar>(p: &mut Parser<'_>, g: &G) -> Result<CompletedMarker, 
 fn array_elements<G: Grammar>(p: &mut Parser<'_>, g: &G) -> Result<(), NoMemory>
     requires behind { Behind G.valid G.left g.now (state p.old) }
     ensures grew { OnOk result (Grew (state p.old) (state p.new) 9) }
-    ensures script { OnOk result (Follows script.array_elements something (state p.old) (state p.new)) }
+    ensures script { OnOk result (Does (G.left g.now) script.array_elements something (state p.old) (state p.new)) }
 {
     let mut is_first = true;
     let mut has_semi = false;
@@ -290,7 +290,7 @@ fn after_element(
     ensures grew { OnOk result (Grew (state p.old) (state p.new) 1) }
     ensures on { IfOk result (λ o. IfSome o (λ semi. Grew (state p.old) (state p.new) 0)) }
     ensures script { IfOk result
-        (λ o. Follows (script.after_element is_first has_semi) (script.of_semi o) (state p.old) (state p.new)) }
+        (λ o. (depth : ℕ) → Does depth (script.after_element is_first has_semi) (script.of_semi o) (state p.old) (state p.new)) }
 {
     if is_first && p.at(T![;]) {
         p.bump(T![;])?;

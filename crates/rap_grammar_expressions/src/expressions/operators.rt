@@ -1,6 +1,6 @@
 //! Operators before an operand and between two.
 //! In the Rust crate: `grammar/expressions.rs`.
-ghost use Rattle.std.specs.Prelude.{◌≡◌, ◌≢◌, ◌+◌, ◌<◌, ◌≤◌, ◌↔◌, ◌∷◌, IfOk, OnOk, true, false, []};
+ghost use Rattle.std.specs.Prelude.{ℕ, ◌≡◌, ◌≢◌, ◌+◌, ◌<◌, ◌≤◌, ◌↔◌, ◌∷◌, IfOk, OnOk, true, false, []};
 ghost use Rattle.rap_base.specs.TokenKind.{EOF, AS_KW, MUT_KW, CONST_KW, IDENT, AMP};
 ghost use Rattle.rap_base.specs.NodeKind.{BIN_EXPR, CAST_EXPR, REF_EXPR, PREFIX_EXPR};
 ghost use Rattle.rap_events.specs.Power.{power};
@@ -10,7 +10,7 @@ ghost use Rattle.rap_grammar_frame.specs.Climb.{Climbed, LeftFits, Bound};
 ghost use Rattle.rap_grammar_scripts.specs.Expressions as script;
 ghost use Rattle.rap_grammar_scripts.specs.First.{one_of};
 ghost use Rattle.rap_grammar_frame.specs.Grew.{Within, Grew, Wraps, Makes};
-ghost use Rattle.rap_grammar_scripts.specs.Knot.{Follows};
+ghost use Rattle.rap_grammar_scripts.specs.Exec.{Does};
 ghost use Rattle.rap_grammar_scripts.specs.Operator.{operator_at};
 ghost use Rattle.rap_grammar_frame.specs.Room.{operand_room};
 ghost use Rattle.rap_grammar_scripts.specs.Script.{something};
@@ -99,7 +99,7 @@ pub(crate) fn climb<G: Grammar>(
     ensures last { IfOk result (λ cm. IsLast (state p.new) cm cm.kind.value) }
     ensures one { OnOk result (but_last (state p.new).forest ≡ but_last (state p.old).forest) }
     ensures climbed { IfOk result (λ cm. Climbed (state p.new) cm.kind.value bp false) }
-    ensures script { OnOk result (Follows (script.climb r bp) something (state p.old) (state p.new)) }
+    ensures script { OnOk result (Does (G.left g.now) (script.climb r bp) something (state p.old) (state p.new)) }
 {
     'operators: loop {
         let (op_bp, op, associativity) = current_op(p);
@@ -144,7 +144,7 @@ fn bin_expr<G: Grammar>(
     requires left_side { (state p.old).messages ≡ 0 → LeftFits lhs.kind.value (last_children (state p.old).forest) bp }
     ensures wraps { IfOk result (Wraps BIN_EXPR operand_room (state p.old) (state p.new)) }
     ensures bound { OnOk result ((state p.new).messages ≡ 0 → Bound (state p.new) bp) }
-    ensures script { OnOk result (Follows (script.bin_expr r op) something (state p.old) (state p.new)) }
+    ensures script { OnOk result (Does (G.left g.now) (script.bin_expr r op) something (state p.old) (state p.new)) }
 {
     let m = lhs.precede(p)?;
     p.bump(op)?;
@@ -168,7 +168,7 @@ fn cast_expr<G: Grammar>(
     requires last { IsLast (state p.old) lhs lhs.kind.value }
     requires here { At (state p.old) AS_KW }
     ensures wraps { IfOk result (Wraps CAST_EXPR operand_room (state p.old) (state p.new)) }
-    ensures script { OnOk result (Follows script.cast_expr something (state p.old) (state p.new)) }
+    ensures script { OnOk result (Does (G.left g.now) script.cast_expr something (state p.old) (state p.new)) }
 {
     let m = lhs.precede(p)?;
     p.bump(T![as])?;
@@ -197,7 +197,7 @@ fn right_power(bp: u8, associativity: Associativity) -> u8
 /// Elsewhere `raw` is a name itself, as in `&raw.b`.
 fn ref_qualifier(p: &mut Parser<'_>) -> Result<(), NoMemory>
     ensures grew { OnOk result (Grew (state p.old) (state p.new) 0) }
-    ensures script { OnOk result (Follows script.ref_qualifier something (state p.old) (state p.new)) }
+    ensures script { OnOk result ((depth : ℕ) → Does depth script.ref_qualifier something (state p.old) (state p.new)) }
 {
     if p.at_contextual_kw(T![raw]) && is_raw_follow(p.nth(1)) {
         p.bump_remap(T![raw])?;
@@ -228,7 +228,7 @@ pub(crate) fn ref_expr<G: Grammar>(
     requires within { Within G.valid G.left g.now (state p.old) }
     requires here { next (state p.old) ≡ AMP }
     ensures made { IfOk result (Makes REF_EXPR operand_room (state p.old) (state p.new)) }
-    ensures script { OnOk result (Follows (script.ref_expr r) something (state p.old) (state p.new)) }
+    ensures script { OnOk result (Does (G.left g.now) (script.ref_expr r) something (state p.old) (state p.new)) }
 {
     let m = p.start()?;
     p.bump(T![&])?;
@@ -255,7 +255,7 @@ pub(crate) fn prefix_expr<G: Grammar>(
     requires within { Within G.valid G.left g.now (state p.old) }
     requires more { next (state p.old) ≢ EOF }
     ensures made { IfOk result (Makes PREFIX_EXPR operand_room (state p.old) (state p.new)) }
-    ensures script { OnOk result (Follows (script.prefix_expr r) something (state p.old) (state p.new)) }
+    ensures script { OnOk result (Does (G.left g.now) (script.prefix_expr r) something (state p.old) (state p.new)) }
 {
     let m = p.start()?;
     p.bump_any()?;

@@ -1,28 +1,29 @@
-use Rattle.std.proofs.Common.{refl, rules}
-use Rattle.rap_grammar_scripts.specs.Knot.{script_of}
+use Rattle.std.proofs.Common.{refl, rules, true, false}
+use Rattle.rap_grammar_scripts.proofs.Ends.{gives, passes, fails, answers_more}
 use Rattle.rap_grammar_scripts.specs.Phrase as phrase
-use Rattle.rap_grammar_scripts.specs.Script.{gives, passes, fails}
 use Rattle.rap_grammar_scripts.specs.Statements.{macro_stmts}
 use Rattle.rap_grammar_scripts.specs.declared.arguments.Semicolon.TheVariants as semicolon
 use Rattle.rap_grammar_frame.proofs.Steps.{by_part, turn, last_turn}
 use Rattle.rap_grammar.proofs.entry.macro_stmts.Goals as goal
 
 pub statements-preserved : goal.statements-preserved
-unfolding script_of
 statements-preserved c = record {
   grew = search rules;
   script =
       turn c.statements.invariant.script
-      (fails (search rules) (by_part (phrase.stmt semicolon.Optional) c.in_ok-run.ensures.1 gives));
+      (fails (search rules)
+      (by_part (phrase.stmt semicolon.Optional) (answers_more (search rules) c.in_ok-run.ensures.1) gives))
+      (search rules);
 }
 
 pub statements-preserved-in_ok-run : goal.statements-preserved-in_ok-run
-unfolding script_of
 statements-preserved-in_ok-run c = record {
   grew = search rules;
   script =
       turn c.statements.invariant.script
-      (fails (search rules) (by_part (phrase.stmt semicolon.Optional) c.in_ok-run.ensures.1 gives));
+      (fails (search rules)
+      (by_part (phrase.stmt semicolon.Optional) (answers_more (search rules) c.in_ok-run.ensures.1) gives))
+      (search rules);
 }
 
 pub returns-clause-rest : goal.returns-clause-rest
@@ -30,4 +31,5 @@ returns-clause-rest c = c.current.ensures.end (search rules)
 
 pub returns-clause-script : goal.returns-clause-script
 unfolding macro_stmts
-returns-clause-script c = record { run = last_turn c.statements.invariant.script (passes (search rules) gives) refl }
+returns-clause-script c =
+    last_turn c.statements.invariant.script (passes (search rules) gives) refl

@@ -1,4 +1,4 @@
-use Rattle.std.proofs.Common.{false}
+use Rattle.std.proofs.Common.{suc, false}
 use Rattle.rap_events.specs.State.{state}
 use Rattle.rap_grammar_frame.specs.Grew.{Grew}
 use Rattle.rap_grammar_scripts.specs.Statements.{macro_turn}
@@ -8,7 +8,7 @@ use Rattle.rap_grammar.proofs.entry.macro_stmts.Given as goal
 abbrev pub invariant-statements : goal.invariant-statements
 invariant-statements l = record {
   grew : Grew (state l.initial.p) (state l.p) 0;
-  script : Turns macro_turn false false false false (state l.initial.p) (state l.p);
+  script : Turns (suc (state l.initial.p).left) macro_turn false false false false l.initial.p l.p;
 }
 
 abbrev pub decreases-statements : goal.decreases-statements

@@ -4,8 +4,6 @@ use Rattle.rap_grammar_adt.proofs.adt.record_field.Goals as goal
 
 pub returns-clause-script : goal.returns-clause-script
 unfolding record_field
-returns-clause-script g c = record {
-  run = by_start c.in_ok-m.ensures.state
-      (by_rule c.in_ok-outer_attrs.ensures.script
-      (to_end c.in_ok-visible_field.ensures.script));
-}
+returns-clause-script g c = by_start c.in_ok-m.ensures.state
+    (by_rule c.in_ok-outer_attrs.ensures.script
+    (to_end c.in_ok-visible_field.ensures.script))

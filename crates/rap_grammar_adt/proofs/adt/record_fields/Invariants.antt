@@ -8,7 +8,7 @@ use Rattle.rap_grammar_adt.proofs.adt.record_fields.Given as goal
 abbrev pub invariant-fields : goal.invariant-fields
 invariant-fields g l = record {
   grew : Grew (state l.initial.p) (state l.p) 0;
-  script : Turns field_turn false false false false (state l.initial.p) (state l.p);
+  script : Turns (g.G.Grammar.left l.g) field_turn false false false false l.initial.p l.p;
 }
 
 abbrev pub decreases-fields : goal.decreases-fields

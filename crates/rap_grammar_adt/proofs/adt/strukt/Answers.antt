@@ -1,17 +1,15 @@
 use Rattle.std.proofs.Common.{rules}
 use Rattle.rap_grammar_scripts.specs.Adt.{strukt}
-use Rattle.rap_grammar_scripts.specs.Script.{gives}
+use Rattle.rap_grammar_scripts.proofs.Ends.{gives}
 use Rattle.rap_grammar_frame.proofs.Steps.{by_bump, by_complete, by_rule}
 use Rattle.rap_grammar_frame.proofs.Ending.{ended}
 use Rattle.rap_grammar_adt.proofs.adt.strukt.Goals as goal
 
 pub returns-clause-script : goal.returns-clause-script
 unfolding strukt
-returns-clause-script g c = record {
-  run = by_bump (search rules) c.in_ok-bump.ensures.state
-      (by_rule c.in_ok-struct_or_union.ensures.script
-      (by_complete c.in_ok-complete.ensures.state.0 gives));
-}
+returns-clause-script g c = by_bump (search rules) c.in_ok-bump.ensures.state
+    (by_rule c.in_ok-struct_or_union.ensures.script
+    (by_complete c.in_ok-complete.ensures.state.0 gives))
 
 pub returns-clause-ended : goal.returns-clause-ended
 returns-clause-ended g c = ended (search rules) c.in_ok-complete.ensures.state.0

@@ -1,26 +1,20 @@
 use Rattle.rap_grammar_scripts.specs.Adt.{variant_fields}
-use Rattle.rap_grammar_scripts.specs.Script.{gives}
+use Rattle.rap_grammar_scripts.proofs.Ends.{gives}
 use Rattle.rap_grammar_frame.proofs.Steps.{else_by, then_by, to_end}
 use Rattle.rap_grammar_adt.proofs.adt.variant_fields.Goals as goal
 
 pub returns-then-at-clause-script : goal.returns-then-at-clause-script
 unfolding variant_fields
-returns-then-at-clause-script g c = record {
-  run = then_by c.at.ensures c.if-at.true
-      (to_end c.in_ok-record_field_list.ensures.script);
-}
+returns-then-at-clause-script g c = then_by c.at.ensures c.if-at.true
+    (to_end c.in_ok-record_field_list.ensures.script)
 
 pub returns-then-at-2-clause-script : goal.returns-then-at-2-clause-script
 unfolding variant_fields
-returns-then-at-2-clause-script g c = record {
-  run = else_by c.at.ensures c.if-at.false
-      (then_by c.at-2.ensures c.if-at-2.true
-      (to_end c.in_ok-tuple_field_list.ensures.script));
-}
+returns-then-at-2-clause-script g c = else_by c.at.ensures c.if-at.false
+    (then_by c.at-2.ensures c.if-at-2.true
+    (to_end c.in_ok-tuple_field_list.ensures.script))
 
 pub returns-clause-script : goal.returns-clause-script
 unfolding variant_fields
-returns-clause-script g c = record {
-  run = else_by c.at.ensures c.if-at.false
-      (else_by c.at-2.ensures c.if-at-2.false gives);
-}
+returns-clause-script g c = else_by c.at.ensures c.if-at.false
+    (else_by c.at-2.ensures c.if-at-2.false gives)

@@ -4,15 +4,11 @@ use Rattle.rap_grammar_adt.proofs.adt.variant_or_block.Goals as goal
 
 pub returns-then-at-clause-script : goal.returns-then-at-clause-script
 unfolding variant_or_block
-returns-then-at-clause-script g c = record {
-  run = then_by c.at.ensures c.if-at.true
-      (to_end c.in_ok-error_block.ensures.script);
-}
+returns-then-at-clause-script g c = then_by c.at.ensures c.if-at.true
+    (to_end c.in_ok-error_block.ensures.script)
 
 pub returns-clause-script : goal.returns-clause-script
 unfolding variant_or_block
-returns-clause-script g c = record {
-  run = else_by c.at.ensures c.if-at.false
-      (by_rule c.in_ok-variant.ensures.script
-      (to_end c.in_ok-comma_in_braces.ensures.script));
-}
+returns-clause-script g c = else_by c.at.ensures c.if-at.false
+    (by_rule c.in_ok-variant.ensures.script
+    (to_end (c.in_ok-comma_in_braces.ensures.script _)))

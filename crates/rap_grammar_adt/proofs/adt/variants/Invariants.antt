@@ -8,7 +8,7 @@ use Rattle.rap_grammar_adt.proofs.adt.variants.Given as goal
 abbrev pub invariant-variants : goal.invariant-variants
 invariant-variants g l = record {
   grew : Grew (state l.initial.p) (state l.p) 0;
-  script : Turns variant_turn false false false false (state l.initial.p) (state l.p);
+  script : Turns (g.G.Grammar.left l.g) variant_turn false false false false l.initial.p l.p;
 }
 
 abbrev pub decreases-variants : goal.decreases-variants

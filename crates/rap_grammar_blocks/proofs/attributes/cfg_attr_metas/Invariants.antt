@@ -8,7 +8,7 @@ use Rattle.rap_grammar_blocks.proofs.attributes.cfg_attr_metas.Given as goal
 abbrev pub invariant-metas : goal.invariant-metas
 invariant-metas g l = record {
   grew : Grew (state l.initial.p) (state l.p) 0;
-  script : Turns metas_turn false false false false (state l.initial.p) (state l.p);
+  script : Turns (g.G.Grammar.left l.g) metas_turn false false false false l.initial.p l.p;
 }
 
 abbrev pub decreases-metas : goal.decreases-metas

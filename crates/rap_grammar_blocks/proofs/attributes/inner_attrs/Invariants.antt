@@ -9,7 +9,7 @@ abbrev pub invariant-attrs : goal.invariant-attrs
 invariant-attrs g l = record {
   grew : Grew (state l.initial.p) (state l.p) 0;
   stays : is_inner_attr_start (state l.initial.p).rest ≡ false → state l.p ≡ state l.initial.p;
-  script : Turns inner_turn false false false false (state l.initial.p) (state l.p);
+  script : Turns (g.G.Grammar.left l.g) inner_turn false false false false l.initial.p l.p;
 }
 
 abbrev pub decreases-attrs : goal.decreases-attrs

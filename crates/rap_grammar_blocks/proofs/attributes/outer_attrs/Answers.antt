@@ -1,7 +1,7 @@
 use Rattle.std.proofs.Common.{rules, refl, sym, ◌∙◌, inl, inr}
 use Rattle.rap_grammar_scripts.specs.Attributes.{outer_attrs}
 use Rattle.rap_grammar_scripts.specs.First.{is_outer_attr_first}
-use Rattle.rap_grammar_scripts.specs.Script.{gives}
+use Rattle.rap_grammar_scripts.proofs.Ends.{gives}
 use Rattle.rap_grammar_frame.proofs.Steps.{then_by, else_by, by_kind, by_rule, turn, last_turn, clash}
 use Rattle.rap_grammar_blocks.proofs.attributes.outer_attrs.Goals as goal
 
@@ -13,7 +13,7 @@ attrs-preserved g c =
       began = inr (search rules);
       stays = λ e. absurd (clash (sym first ∙ c.attrs-test.true) (rw (c.attrs.invariant.stays e) e));
       script = turn c.attrs.invariant.script
-          (then_by first c.attrs-test.true (by_rule c.in_ok-attr.ensures.script gives));
+          (then_by first c.attrs-test.true (by_rule c.in_ok-attr.ensures.script gives)) (search rules);
     }
 
 pub returns-clause-took : goal.returns-clause-took
@@ -28,4 +28,4 @@ pub returns-clause-script : goal.returns-clause-script
 unfolding outer_attrs
 returns-clause-script g c =
     let first = by_kind is_outer_attr_first c.is_outer_attr_first.ensures c.current.ensures.kind in
-    record { run = last_turn c.attrs.invariant.script (else_by first c.attrs-test.false gives) refl }
+    (last_turn c.attrs.invariant.script (else_by first c.attrs-test.false gives) refl)

@@ -12,7 +12,7 @@ invariant-attrs g l = record {
   grew : Grew (state l.initial.p) (state l.p) 0;
   began : (state l.p ≡ state l.initial.p) ⊎ Took (state l.initial.p) (state l.p) list_room;
   stays : is_outer_attr_first (next (state l.initial.p)) ≡ false → state l.p ≡ state l.initial.p;
-  script : Turns outer_turn false false false false (state l.initial.p) (state l.p);
+  script : Turns (g.G.Grammar.left l.g) outer_turn false false false false l.initial.p l.p;
 }
 
 abbrev pub decreases-attrs : goal.decreases-attrs

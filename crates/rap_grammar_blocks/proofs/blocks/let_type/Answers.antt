@@ -1,13 +1,13 @@
 use Rattle.rap_grammar_scripts.specs.Blocks.{let_type}
-use Rattle.rap_grammar_scripts.specs.Script.{gives}
+use Rattle.rap_grammar_scripts.proofs.Ends.{gives}
 use Rattle.rap_grammar_frame.proofs.Steps.{then_by, else_by, by_rule}
 use Rattle.rap_grammar_blocks.proofs.blocks.let_type.Goals as goal
 
 pub returns-then-not-at-clause-script : goal.returns-then-not-at-clause-script
 unfolding let_type
-returns-then-not-at-clause-script g c = record { run = else_by c.at.ensures c.if-not-at.true gives }
+returns-then-not-at-clause-script g c = else_by c.at.ensures c.if-not-at.true gives
 
 pub returns-clause-script : goal.returns-clause-script
 unfolding let_type
 returns-clause-script g c =
-    record { run = then_by c.at.ensures c.if-not-at.false (by_rule c.in_ok-ascription.ensures.script gives) }
+    then_by c.at.ensures c.if-not-at.false (by_rule c.in_ok-ascription.ensures.script gives)

@@ -1,41 +1,34 @@
 use Rattle.std.proofs.Common.{refl, rules}
-use Rattle.rap_grammar_scripts.specs.Knot.{script_of}
 use Rattle.rap_grammar_scripts.specs.Blocks.{statements}
 use Rattle.rap_grammar_scripts.specs.Phrase as phrase
 use Rattle.rap_grammar_scripts.specs.declared.arguments.Semicolon.TheVariants as semicolon
-use Rattle.rap_grammar_scripts.specs.Script.{gives}
+use Rattle.rap_grammar_scripts.proofs.Ends.{gives}
 use Rattle.rap_grammar_frame.proofs.Steps.{then_by, else_by, by_part, turn, last_turn}
 use Rattle.rap_grammar_blocks.proofs.blocks.statements.Goals as goal
 
 pub statements-preserved : goal.statements-preserved
-unfolding script_of
 statements-preserved g c = record {
   grew = search rules;
   script = turn c.statements.invariant.script
       (else_by c.at.ensures c.statements-test.true
       (else_by c.at-in-statements.ensures c.if-not-at.true
-      (by_part (phrase.stmt semicolon.Required) c.in_ok-run.ensures.1 gives)));
+      (by_part (phrase.stmt semicolon.Required) c.in_ok-run.ensures.1 gives))) (search rules);
 }
 
 pub statements-preserved-in_ok-run : goal.statements-preserved-in_ok-run
-unfolding script_of
 statements-preserved-in_ok-run g c = record {
   grew = search rules;
   script = turn c.statements.invariant.script
       (else_by c.at.ensures c.statements-test.true
       (else_by c.at-in-statements.ensures c.if-not-at.true
-      (by_part (phrase.stmt semicolon.Required) c.in_ok-run.ensures.1 gives)));
+      (by_part (phrase.stmt semicolon.Required) c.in_ok-run.ensures.1 gives))) (search rules);
 }
 
 pub returns-else-not-at-clause-script : goal.returns-else-not-at-clause-script
 unfolding statements
-returns-else-not-at-clause-script g c = record {
-  run = last_turn c.statements.invariant.script
-      (else_by c.at.ensures c.statements-test.true (then_by c.at-in-statements.ensures c.if-not-at.false gives)) refl;
-}
+returns-else-not-at-clause-script g c = last_turn c.statements.invariant.script
+    (else_by c.at.ensures c.statements-test.true (then_by c.at-in-statements.ensures c.if-not-at.false gives)) refl
 
 pub returns-after-statements-clause-script : goal.returns-after-statements-clause-script
 unfolding statements
-returns-after-statements-clause-script g c = record {
-  run = last_turn c.statements.invariant.script (then_by c.at.ensures c.statements-test.false gives) refl;
-}
+returns-after-statements-clause-script g c = last_turn c.statements.invariant.script (then_by c.at.ensures c.statements-test.false gives) refl

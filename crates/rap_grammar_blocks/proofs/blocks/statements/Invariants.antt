@@ -8,7 +8,7 @@ use Rattle.rap_grammar_blocks.proofs.blocks.statements.Given as goal
 abbrev pub invariant-statements : goal.invariant-statements
 invariant-statements g l = record {
   grew : Grew (state l.initial.p) (state l.p) 0;
-  script : Turns contents_turn false false false false (state l.initial.p) (state l.p);
+  script : Turns (g.G.Grammar.left l.g) contents_turn false false false false l.initial.p l.p;
 }
 
 abbrev pub decreases-statements : goal.decreases-statements

@@ -8,7 +8,7 @@ use Rattle.rap_grammar_builtin.proofs.asm.asm_pieces.Given as goal
 abbrev pub invariant-pieces : goal.invariant-pieces
 invariant-pieces g l = record {
   grew : Grew (state l.initial.p) (state l.p) 0;
-  script : Turns pieces_turn true false l.allow_templates false (state l.initial.p) (state l.p);
+  script : Turns (g.G.Grammar.left l.g) pieces_turn true false l.allow_templates false l.initial.p l.p;
 }
 
 abbrev pub decreases-pieces : goal.decreases-pieces

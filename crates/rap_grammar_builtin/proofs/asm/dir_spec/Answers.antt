@@ -1,67 +1,55 @@
 use Rattle.std.proofs.Common.{rules}
 use Rattle.rap_grammar_scripts.specs.Asm.{dir_spec}
-use Rattle.rap_grammar_scripts.specs.Script.{gives}
+use Rattle.rap_grammar_scripts.proofs.Ends.{gives}
 use Rattle.rap_grammar_frame.proofs.Steps.{then_by, else_by, by_start, by_bump, by_bear, by_rule, by_expect, by_eat, by_complete, by_abandon, by_report, by_skip, ate, not_ate, ate_as, not_ate_as, turn, last_turn, to_end, by_kind}
 use Rattle.rap_grammar_builtin.proofs.asm.dir_spec.Goals as goal
 
 pub returns-then-branch-clause-script : goal.returns-then-branch-clause-script
 unfolding dir_spec
-returns-then-branch-clause-script c = record {
-  run = by_start c.in_ok-m.ensures.state
-      (ate c.in_ok-eat.ensures.state c.if-branch.true
-      (by_complete c.in_ok-complete.ensures.state.0 gives));
-}
+returns-then-branch-clause-script c depth = by_start c.in_ok-m.ensures.state
+    (ate c.in_ok-eat.ensures.state c.if-branch.true
+    (by_complete c.in_ok-complete.ensures.state.0 gives))
 
 pub returns-then-branch-2-clause-script : goal.returns-then-branch-2-clause-script
 unfolding dir_spec
-returns-then-branch-2-clause-script c = record {
-  run = by_start c.in_ok-m.ensures.state
-      (not_ate c.in_ok-eat.ensures.state c.if-branch.false
-      (ate_as c.in_ok-eat_contextual_kw.ensures.state c.if-branch-2.true
-      (by_complete c.in_ok-complete-2.ensures.state.0 gives)));
-}
+returns-then-branch-2-clause-script c depth = by_start c.in_ok-m.ensures.state
+    (not_ate c.in_ok-eat.ensures.state c.if-branch.false
+    (ate_as c.in_ok-eat_contextual_kw.ensures.state c.if-branch-2.true
+    (by_complete c.in_ok-complete-2.ensures.state.0 gives)))
 
 pub returns-then-branch-3-clause-script : goal.returns-then-branch-3-clause-script
 unfolding dir_spec
-returns-then-branch-3-clause-script c = record {
-  run = by_start c.in_ok-m.ensures.state
-      (not_ate c.in_ok-eat.ensures.state c.if-branch.false
-      (not_ate_as c.in_ok-eat_contextual_kw.ensures.state c.if-branch-2.false
-      (ate_as c.in_ok-eat_contextual_kw-2.ensures.state c.if-branch-3.true
-      (by_complete c.in_ok-complete-3.ensures.state.0 gives))));
-}
+returns-then-branch-3-clause-script c depth = by_start c.in_ok-m.ensures.state
+    (not_ate c.in_ok-eat.ensures.state c.if-branch.false
+    (not_ate_as c.in_ok-eat_contextual_kw.ensures.state c.if-branch-2.false
+    (ate_as c.in_ok-eat_contextual_kw-2.ensures.state c.if-branch-3.true
+    (by_complete c.in_ok-complete-3.ensures.state.0 gives))))
 
 pub returns-then-branch-4-clause-script : goal.returns-then-branch-4-clause-script
 unfolding dir_spec
-returns-then-branch-4-clause-script c = record {
-  run = by_start c.in_ok-m.ensures.state
-      (not_ate c.in_ok-eat.ensures.state c.if-branch.false
-      (not_ate_as c.in_ok-eat_contextual_kw.ensures.state c.if-branch-2.false
-      (not_ate_as c.in_ok-eat_contextual_kw-2.ensures.state c.if-branch-3.false
-      (ate_as c.in_ok-eat_contextual_kw-3.ensures.state c.if-branch-4.true
-      (by_complete c.in_ok-complete-4.ensures.state.0 gives)))));
-}
+returns-then-branch-4-clause-script c depth = by_start c.in_ok-m.ensures.state
+    (not_ate c.in_ok-eat.ensures.state c.if-branch.false
+    (not_ate_as c.in_ok-eat_contextual_kw.ensures.state c.if-branch-2.false
+    (not_ate_as c.in_ok-eat_contextual_kw-2.ensures.state c.if-branch-3.false
+    (ate_as c.in_ok-eat_contextual_kw-3.ensures.state c.if-branch-4.true
+    (by_complete c.in_ok-complete-4.ensures.state.0 gives)))))
 
 pub returns-then-branch-5-clause-script : goal.returns-then-branch-5-clause-script
 unfolding dir_spec
-returns-then-branch-5-clause-script c = record {
-  run = by_start c.in_ok-m.ensures.state
-      (not_ate c.in_ok-eat.ensures.state c.if-branch.false
-      (not_ate_as c.in_ok-eat_contextual_kw.ensures.state c.if-branch-2.false
-      (not_ate_as c.in_ok-eat_contextual_kw-2.ensures.state c.if-branch-3.false
-      (not_ate_as c.in_ok-eat_contextual_kw-3.ensures.state c.if-branch-4.false
-      (ate_as c.in_ok-eat_contextual_kw-4.ensures.state c.if-branch-5.true
-      (by_complete c.in_ok-complete-5.ensures.state.0 gives))))));
-}
+returns-then-branch-5-clause-script c depth = by_start c.in_ok-m.ensures.state
+    (not_ate c.in_ok-eat.ensures.state c.if-branch.false
+    (not_ate_as c.in_ok-eat_contextual_kw.ensures.state c.if-branch-2.false
+    (not_ate_as c.in_ok-eat_contextual_kw-2.ensures.state c.if-branch-3.false
+    (not_ate_as c.in_ok-eat_contextual_kw-3.ensures.state c.if-branch-4.false
+    (ate_as c.in_ok-eat_contextual_kw-4.ensures.state c.if-branch-5.true
+    (by_complete c.in_ok-complete-5.ensures.state.0 gives))))))
 
 pub returns-clause-script : goal.returns-clause-script
 unfolding dir_spec
-returns-clause-script c = record {
-  run = by_start c.in_ok-m.ensures.state
-      (not_ate c.in_ok-eat.ensures.state c.if-branch.false
-      (not_ate_as c.in_ok-eat_contextual_kw.ensures.state c.if-branch-2.false
-      (not_ate_as c.in_ok-eat_contextual_kw-2.ensures.state c.if-branch-3.false
-      (not_ate_as c.in_ok-eat_contextual_kw-3.ensures.state c.if-branch-4.false
-      (not_ate_as c.in_ok-eat_contextual_kw-4.ensures.state c.if-branch-5.false
-      (by_abandon c.in_ok-abandon.ensures.state gives))))));
-}
+returns-clause-script c depth = by_start c.in_ok-m.ensures.state
+    (not_ate c.in_ok-eat.ensures.state c.if-branch.false
+    (not_ate_as c.in_ok-eat_contextual_kw.ensures.state c.if-branch-2.false
+    (not_ate_as c.in_ok-eat_contextual_kw-2.ensures.state c.if-branch-3.false
+    (not_ate_as c.in_ok-eat_contextual_kw-3.ensures.state c.if-branch-4.false
+    (not_ate_as c.in_ok-eat_contextual_kw-4.ensures.state c.if-branch-5.false
+    (by_abandon c.in_ok-abandon.ensures.state gives))))))

@@ -8,7 +8,7 @@ use Rattle.rap_grammar_builtin.proofs.builtin.format_arguments.Given as goal
 abbrev pub invariant-arguments : goal.invariant-arguments
 invariant-arguments g l = record {
   grew : Grew (state l.initial.p) (state l.p) 0;
-  script : Turns arguments_turn false false false false (state l.initial.p) (state l.p);
+  script : Turns (g.G.Grammar.left l.g) arguments_turn false false false false l.initial.p l.p;
 }
 
 abbrev pub decreases-arguments : goal.decreases-arguments

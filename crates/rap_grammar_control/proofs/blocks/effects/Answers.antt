@@ -1,5 +1,5 @@
 use Rattle.rap_grammar_scripts.specs.Atom.{effects}
-use Rattle.rap_grammar_scripts.specs.Script.{gives}
+use Rattle.rap_grammar_scripts.proofs.Ends.{gives}
 use Rattle.rap_grammar_frame.proofs.Steps.{by_any, by_eat}
 use Rattle.rap_grammar_control.proofs.Effects.{brace_next, some_first}
 use Rattle.rap_grammar_control.proofs.blocks.effects.Goals as goal
@@ -13,8 +13,6 @@ returns-clause-here c =
 
 pub returns-clause-script : goal.returns-clause-script
 unfolding effects
-returns-clause-script c = record {
-  run = by_any (some_first _ c.requires.starts) c.in_ok-bump_any.ensures.state
-      (by_eat c.in_ok-eat.ensures.state
-      (by_eat c.in_ok-eat-2.ensures.state gives));
-}
+returns-clause-script c depth = by_any (some_first _ c.requires.starts) c.in_ok-bump_any.ensures.state
+    (by_eat c.in_ok-eat.ensures.state
+    (by_eat c.in_ok-eat-2.ensures.state gives))

@@ -1,16 +1,14 @@
 use Rattle.std.proofs.Common.{rules}
 use Rattle.rap_grammar_scripts.specs.Control.{if_expr}
-use Rattle.rap_grammar_scripts.specs.Script.{gives}
+use Rattle.rap_grammar_scripts.proofs.Ends.{gives}
 use Rattle.rap_grammar_frame.proofs.Steps.{by_start, by_bump, by_rule, by_complete}
 use Rattle.rap_grammar_control.proofs.control.if_expr.Goals as goal
 
 pub returns-clause-script : goal.returns-clause-script
 unfolding if_expr
-returns-clause-script g c = record {
-  run = by_start c.in_ok-m.ensures.state
-      (by_bump (search rules) c.in_ok-bump.ensures.state
-      (by_rule c.in_ok-expr_no_struct.ensures.script
-      (by_rule c.in_ok-block_expr.ensures.script
-      (by_rule c.in_ok-else_branch.ensures.script
-      (by_complete c.in_ok-cm.ensures.state.0 gives)))));
-}
+returns-clause-script g c = by_start c.in_ok-m.ensures.state
+    (by_bump (search rules) c.in_ok-bump.ensures.state
+    (by_rule c.in_ok-expr_no_struct.ensures.script
+    (by_rule c.in_ok-block_expr.ensures.script
+    (by_rule c.in_ok-else_branch.ensures.script
+    (by_complete c.in_ok-cm.ensures.state.0 gives)))))

@@ -5,15 +5,16 @@ use Rattle.rap_events.specs.Record.{Record}
 use Rattle.rap_events.specs.State.{state, State, NthAt, Opened}
 use Rattle.rap_grammar_scripts.specs.Control.{label}
 use Rattle.rap_grammar_scripts.specs.Grammar.{lifetime}
-use Rattle.rap_grammar_scripts.specs.Knot.{Follows}
-use Rattle.rap_grammar_scripts.specs.Script.{something, gives}
+use Rattle.rap_grammar_scripts.specs.Exec.{Ends}
+use Rattle.rap_grammar_scripts.proofs.Ends.{gives}
+use Rattle.rap_grammar_scripts.specs.Script.{Spot, spot, something}
 use Rattle.rap_grammar_frame.proofs.Lookahead.{past_lifetime}
 use Rattle.rap_grammar_frame.proofs.Steps.{by_start, by_rule, by_bump, by_complete}
 use Rattle.rap_grammar_control.proofs.control.label.Goals as goal
 
 -- after the lifetime comes the colon that was seen
-colon_left : {s t u : State} {m : ℕ} → Opened s t m → Follows lifetime something t u → NthAt s 1 COLON →
-    is_at COLON u.rest ≡ true
+colon_left : {s t : State} {q : Spot} {m : ℕ} → Opened s t m → ((depth : ℕ) → Ends depth lifetime (spot t) q something) →
+    NthAt s 1 COLON → is_at COLON q.rest ≡ true
 colon_left o h e =
     ap (λ (x : List Record). is_at COLON x) (past_lifetime h ∙ ap (λ (x : List Record). drop 1 x) o.recorded.rest) ∙ e
 
@@ -22,11 +23,9 @@ bump-requires-clause-here c = colon_left c.in_ok-m.ensures.state c.in_ok-lifetim
 
 pub returns-clause-script : goal.returns-clause-script
 unfolding label
-returns-clause-script c = record {
-  run = by_start c.in_ok-m.ensures.state
-      (by_rule c.in_ok-lifetime.ensures.script
-      (by_bump
-      (colon_left c.in_ok-m.ensures.state c.in_ok-lifetime.ensures.script c.requires.colon)
-      c.in_ok-bump.ensures.state
-      (by_complete c.in_ok-complete.ensures.state.0 gives)));
-}
+returns-clause-script c depth = by_start c.in_ok-m.ensures.state
+    (by_rule (c.in_ok-lifetime.ensures.script _)
+    (by_bump
+    (colon_left c.in_ok-m.ensures.state c.in_ok-lifetime.ensures.script c.requires.colon)
+    c.in_ok-bump.ensures.state
+    (by_complete c.in_ok-complete.ensures.state.0 gives)))

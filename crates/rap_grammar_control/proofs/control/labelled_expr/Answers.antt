@@ -4,6 +4,4 @@ use Rattle.rap_grammar_control.proofs.control.labelled_expr.Goals as goal
 
 pub returns-clause-script : goal.returns-clause-script
 unfolding labelled_expr
-returns-clause-script g c = record {
-  run = by_start c.in_ok-m.ensures.state (by_rule c.in_ok-label.ensures.script (to_end c.in_ok-e.ensures.script));
-}
+returns-clause-script g c = by_start c.in_ok-m.ensures.state (by_rule (c.in_ok-label.ensures.script _) (to_end c.in_ok-e.ensures.script))

@@ -1,6 +1,6 @@
 use Rattle.std.proofs.Common.{rules, refl}
 use Rattle.rap_grammar_scripts.specs.Control.{match_arms}
-use Rattle.rap_grammar_scripts.specs.Script.{gives}
+use Rattle.rap_grammar_scripts.proofs.Ends.{gives}
 use Rattle.rap_grammar_frame.proofs.Steps.{then_by, else_by, by_rule, by_skip, turn, last_turn}
 use Rattle.rap_grammar_control.proofs.matches.match_arms.Goals as goal
 
@@ -10,7 +10,7 @@ arms-preserved-then-at g c = record {
   script = turn c.arms.invariant.script
       (else_by c.at.ensures c.arms-test.true
       (else_by c.at-in-arms.ensures c.if-not-at.true
-      (then_by c.at-in-arms-2.ensures c.if-at.true (by_rule c.in_ok-error_block.ensures.script gives))));
+      (then_by c.at-in-arms-2.ensures c.if-at.true (by_rule c.in_ok-error_block.ensures.script gives)))) (search rules);
 }
 
 pub arms-preserved-then-at-2 : goal.arms-preserved-then-at-2
@@ -20,7 +20,7 @@ arms-preserved-then-at-2 g c = record {
       (else_by c.at.ensures c.arms-test.true
       (else_by c.at-in-arms.ensures c.if-not-at.true
       (else_by c.at-in-arms-2.ensures c.if-at.false
-      (then_by c.at-in-arms-3.ensures c.if-at-2.true (by_skip c.in_ok-err_and_bump.ensures.state gives)))));
+      (then_by c.at-in-arms-3.ensures c.if-at-2.true (by_skip c.in_ok-err_and_bump.ensures.state gives))))) (search rules);
 }
 
 pub arms-preserved : goal.arms-preserved
@@ -30,18 +30,14 @@ arms-preserved g c = record {
       (else_by c.at.ensures c.arms-test.true
       (else_by c.at-in-arms.ensures c.if-not-at.true
       (else_by c.at-in-arms-2.ensures c.if-at.false
-      (else_by c.at-in-arms-3.ensures c.if-at-2.false (by_rule c.in_ok-match_arm.ensures.script gives)))));
+      (else_by c.at-in-arms-3.ensures c.if-at-2.false (by_rule c.in_ok-match_arm.ensures.script gives))))) (search rules);
 }
 
 pub returns-else-not-at-clause-script : goal.returns-else-not-at-clause-script
 unfolding match_arms
-returns-else-not-at-clause-script g c = record {
-  run = last_turn c.arms.invariant.script
-      (else_by c.at.ensures c.arms-test.true (then_by c.at-in-arms.ensures c.if-not-at.false gives)) refl;
-}
+returns-else-not-at-clause-script g c = last_turn c.arms.invariant.script
+    (else_by c.at.ensures c.arms-test.true (then_by c.at-in-arms.ensures c.if-not-at.false gives)) refl
 
 pub returns-after-arms-clause-script : goal.returns-after-arms-clause-script
 unfolding match_arms
-returns-after-arms-clause-script g c = record {
-  run = last_turn c.arms.invariant.script (then_by c.at.ensures c.arms-test.false gives) refl;
-}
+returns-after-arms-clause-script g c = last_turn c.arms.invariant.script (then_by c.at.ensures c.arms-test.false gives) refl

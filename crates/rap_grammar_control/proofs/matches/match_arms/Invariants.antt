@@ -8,7 +8,7 @@ use Rattle.rap_grammar_control.proofs.matches.match_arms.Given as goal
 abbrev pub invariant-arms : goal.invariant-arms
 invariant-arms g l = record {
   grew : Grew (state l.initial.p) (state l.p) 0;
-  script : Turns arms_turn false false false false (state l.initial.p) (state l.p);
+  script : Turns (g.G.Grammar.left l.g) arms_turn false false false false l.initial.p l.p;
 }
 
 abbrev pub decreases-arms : goal.decreases-arms

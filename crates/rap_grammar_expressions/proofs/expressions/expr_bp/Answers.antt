@@ -17,12 +17,10 @@ returns-in_ok-expr-in-Some-clause-answered g c =
 pub returns-in_ok-expr-in-Some-clause-script : goal.returns-in_ok-expr-in-Some-clause-script
 unfolding expr_bp
 returns-in_ok-expr-in-Some-clause-script g c =
-    rw c.in-Some.is (record { run = to_end c.in_ok-expr-in-Some.ensures.script })
+    rw c.in-Some.is ((to_end c.in_ok-expr-in-Some.ensures.script))
 
 pub returns-in_ok-expr-in-None-clause-script : goal.returns-in_ok-expr-in-None-clause-script
 unfolding expr_bp
-returns-in_ok-expr-in-None-clause-script g c = rw c.in-None.is (record {
-  run = by_start c.in_ok-m-in-None.ensures.state
-      (by_rule c.in_ok-outer_attrs-in-None.ensures.script
-      (to_end c.in_ok-expr-in-None.ensures.script));
-})
+returns-in_ok-expr-in-None-clause-script g c = rw c.in-None.is ((by_start c.in_ok-m-in-None.ensures.state
+    (by_rule c.in_ok-outer_attrs-in-None.ensures.script
+    (to_end c.in_ok-expr-in-None.ensures.script))))

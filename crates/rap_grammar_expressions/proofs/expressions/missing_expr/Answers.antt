@@ -1,7 +1,7 @@
 use Rattle.std.proofs.Common.{rules}
 use Rattle.rap_grammar_scripts.specs.Expressions.{missing_expr}
 use Rattle.rap_grammar_scripts.specs.Recovery.{is_expr_recovery}
-use Rattle.rap_grammar_scripts.specs.Script.{gives}
+use Rattle.rap_grammar_scripts.proofs.Ends.{gives}
 use Rattle.rap_grammar_frame.proofs.Left.{left_at_end}
 use Rattle.rap_grammar_frame.proofs.Steps.{by_recover, by_abandon}
 use Rattle.rap_grammar_expressions.proofs.Missing.{spent_missing, stays_missing}
@@ -18,8 +18,6 @@ returns-clause-stays c =
 
 pub returns-clause-script : goal.returns-clause-script
 unfolding missing_expr
-returns-clause-script c =
-    record {
-      run = by_recover is_expr_recovery (search rules) c.in_ok-err_recover.ensures.state
-          (λ k. by_abandon c.in_ok-abandon.ensures.state gives) (λ k. by_abandon c.in_ok-abandon.ensures.state gives);
-    }
+returns-clause-script c depth =
+    by_recover is_expr_recovery (search rules) c.in_ok-err_recover.ensures.state
+    (λ k. by_abandon c.in_ok-abandon.ensures.state gives) (λ k. by_abandon c.in_ok-abandon.ensures.state gives)

@@ -1,10 +1,9 @@
 use Rattle.rap_grammar_scripts.specs.Called.{bounds_without_colon}
-use Rattle.rap_grammar_scripts.specs.Knot.{script_of}
 use Rattle.rap_grammar_scripts.specs.Phrase as phrase
-use Rattle.rap_grammar_scripts.specs.Script.{gives}
+use Rattle.rap_grammar_scripts.proofs.Ends.{gives}
 use Rattle.rap_grammar_frame.proofs.Steps.{by_part}
 use Rattle.rap_grammar_frame.proofs.called.bounds_without_colon.Goals as goal
 
 pub returns-clause-script : goal.returns-clause-script
-unfolding bounds_without_colon script_of
-returns-clause-script g c = record { run = by_part phrase.bounds_without_colon c.in_ok-run.ensures.1 gives }
+unfolding bounds_without_colon
+returns-clause-script g c = by_part phrase.bounds_without_colon c.in_ok-run.ensures.1 gives

@@ -6,8 +6,8 @@ use Rattle.rap_grammar_frame.proofs.item_names.fn_name.Goals as goal
 
 pub returns-then-at-clause-script : goal.returns-then-at-clause-script
 unfolding name_r
-returns-then-at-clause-script c =
-    record { run = then_by c.at.ensures c.if-at.true (to_end c.in_ok-given_name.ensures.script) }
+returns-then-at-clause-script c depth =
+    then_by c.at.ensures c.if-at.true (to_end (c.in_ok-given_name.ensures.script _))
 
 pub returns-clause-script : goal.returns-clause-script
-returns-clause-script c = record { run = to_end (c.in_ok-name_r.ensures.script is_item_paren_recovery (search rules)) }
+returns-clause-script c depth = to_end ((c.in_ok-name_r.ensures.script _) is_item_paren_recovery (search rules))

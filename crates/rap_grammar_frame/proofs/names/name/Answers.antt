@@ -4,4 +4,4 @@ use Rattle.rap_grammar_frame.proofs.names.name.Goals as goal
 
 pub returns-clause-script : goal.returns-clause-script
 unfolding name
-returns-clause-script c = c.in_ok-name_r.ensures.script (λ kind. false) (search rules)
+returns-clause-script c depth = c.in_ok-name_r.ensures.script depth (λ kind. false) (search rules)

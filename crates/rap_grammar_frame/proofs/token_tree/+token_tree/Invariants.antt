@@ -1,4 +1,4 @@
-use Rattle.std.proofs.Common.{◌≡◌, false}
+use Rattle.std.proofs.Common.{◌≤◌, ℕ, ◌≡◌, false}
 use Rattle.rap_events.specs.Fit.{Opens}
 use Rattle.rap_events.specs.State.{state, next}
 use Rattle.rap_grammar_frame.specs.Grew.{Grew}
@@ -10,7 +10,7 @@ abbrev pub invariant-tokens : goal.invariant-tokens
 invariant-tokens l = record {
   grew : Grew (state l.initial.p) (state l.p) 0;
   opens : (state l.p).messages ≡ 0 → Opens (next (state l.fn.p)) (state l.p).forest;
-  script : Turns (tokens_turn l.ket) false false false false (state l.initial.p) (state l.p);
+  script : (depth : ℕ) → (state l.fn.p).left ≤ depth → Turns depth (tokens_turn l.ket) false false false false l.initial.p l.p;
 }
 
 abbrev pub decreases-tokens : goal.decreases-tokens

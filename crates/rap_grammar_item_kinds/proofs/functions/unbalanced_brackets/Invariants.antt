@@ -1,4 +1,4 @@
-use Rattle.std.proofs.Common.{false}
+use Rattle.std.proofs.Common.{ℕ, false}
 use Rattle.rap_events.specs.State.{state}
 use Rattle.rap_grammar_scripts.specs.Functions.{bracket_turn}
 use Rattle.rap_grammar_frame.specs.Grew.{Grew}
@@ -8,7 +8,7 @@ use Rattle.rap_grammar_item_kinds.proofs.functions.unbalanced_brackets.Given as 
 abbrev pub invariant-brackets : goal.invariant-brackets
 invariant-brackets l = record {
   grew : Grew (state l.initial.p) (state l.p) 0;
-  script : Turns bracket_turn false false false false (state l.initial.p) (state l.p);
+  script : (depth : ℕ) → Turns depth bracket_turn false false false false l.initial.p l.p;
 }
 
 abbrev pub decreases-brackets : goal.decreases-brackets

@@ -9,8 +9,6 @@ returns-clause-seen c = seen_both c.either.ensures c.in_ok-auto.ensures.seen c.i
 
 pub returns-clause-script : goal.returns-clause-script
 unfolding auto_or_default
-returns-clause-script c = record {
-  run = by_rule (c.in_ok-auto.ensures.script is_auto_modifier c.is_auto_modifier-is_auto.ensures.here)
-      (by_rule c.in_ok-default.ensures.script
-      (gives_as (outcome_both _ _ c.either.ensures refl)));
-}
+returns-clause-script c depth = by_rule ((c.in_ok-auto.ensures.script _) is_auto_modifier c.is_auto_modifier-is_auto.ensures.here)
+    (by_rule (c.in_ok-default.ensures.script _)
+    (gives_as (outcome_both _ _ c.either.ensures refl)))

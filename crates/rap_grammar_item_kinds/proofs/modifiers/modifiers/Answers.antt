@@ -13,13 +13,11 @@ returns-clause-seen g c =
 
 pub returns-clause-script : goal.returns-clause-script
 unfolding modifiers
-returns-clause-script g c = record {
-  run = by_rule c.in_ok-restricted.ensures.script
-      (by_rule c.in_ok-qualified.ensures.script
-      (by_rule c.in_ok-safe.ensures.script
-      (by_rule c.in_ok-has_extern.ensures.script
-      (by_rule c.in_ok-marked.ensures.script
-      (gives_as (outcome_of
-      (outcome_both _ _ c.either-has_mods.ensures (outcome_both _ _ c.either-3.ensures
-      (outcome_both _ _ c.either-2.ensures (outcome_both _ _ c.either.ensures refl))))))))));
-}
+returns-clause-script g c = by_rule c.in_ok-restricted.ensures.script
+    (by_rule (c.in_ok-qualified.ensures.script _)
+    (by_rule (c.in_ok-safe.ensures.script _)
+    (by_rule (c.in_ok-has_extern.ensures.script _)
+    (by_rule (c.in_ok-marked.ensures.script _)
+    (gives_as (outcome_of
+    (outcome_both _ _ c.either-has_mods.ensures (outcome_both _ _ c.either-3.ensures
+    (outcome_both _ _ c.either-2.ensures (outcome_both _ _ c.either.ensures refl))))))))))

@@ -1,16 +1,12 @@
 use Rattle.rap_grammar_scripts.specs.Modifiers.{opt_abi}
-use Rattle.rap_grammar_scripts.specs.Script.{gives}
+use Rattle.rap_grammar_scripts.proofs.Ends.{gives}
 use Rattle.rap_grammar_frame.proofs.Steps.{then_by, else_by, to_end}
 use Rattle.rap_grammar_item_kinds.proofs.modifiers.opt_abi.Goals as goal
 
 pub returns-then-not-at-clause-script : goal.returns-then-not-at-clause-script
 unfolding opt_abi
-returns-then-not-at-clause-script c = record {
-  run = else_by c.at.ensures c.if-not-at.true gives;
-}
+returns-then-not-at-clause-script c depth = else_by c.at.ensures c.if-not-at.true gives
 
 pub returns-clause-script : goal.returns-clause-script
 unfolding opt_abi
-returns-clause-script c = record {
-  run = then_by c.at.ensures c.if-not-at.false (to_end c.in_ok-abi.ensures.script);
-}
+returns-clause-script c depth = then_by c.at.ensures c.if-not-at.false (to_end (c.in_ok-abi.ensures.script _))

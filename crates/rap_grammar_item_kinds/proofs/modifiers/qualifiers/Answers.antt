@@ -11,9 +11,7 @@ returns-clause-seen c =
 
 pub returns-clause-script : goal.returns-clause-script
 unfolding qualifiers
-returns-clause-script c = record {
-  run = by_rule (c.in_ok-constant.ensures.script is_const_modifier c.is_const_modifier-is_const.ensures.here)
-      (by_rule (c.in_ok-asynchronous.ensures.script is_async_modifier c.is_async_modifier-is_async.ensures.here)
-      (by_rule (c.in_ok-generator.ensures.script is_gen_modifier c.is_gen_modifier-is_gen.ensures.here)
-      (gives_as (outcome_both _ _ c.either-2.ensures (outcome_both _ _ c.either.ensures refl)))));
-}
+returns-clause-script c depth = by_rule ((c.in_ok-constant.ensures.script _) is_const_modifier c.is_const_modifier-is_const.ensures.here)
+    (by_rule ((c.in_ok-asynchronous.ensures.script _) is_async_modifier c.is_async_modifier-is_async.ensures.here)
+    (by_rule ((c.in_ok-generator.ensures.script _) is_gen_modifier c.is_gen_modifier-is_gen.ensures.here)
+    (gives_as (outcome_both _ _ c.either-2.ensures (outcome_both _ _ c.either.ensures refl)))))

@@ -9,9 +9,7 @@ returns-clause-seen c = seen_both c.either.ensures c.in_ok-no_safety.ensures.see
 
 pub returns-clause-script : goal.returns-clause-script
 unfolding safety
-returns-clause-script c = record {
-  run = by_rule (c.in_ok-no_safety.ensures.script is_unsafe_modifier c.is_unsafe_modifier-is_unsafe.ensures.here)
-      (by_rule
-      (c.in_ok-safe.ensures.script (is_safe_modifier c.args.is_in_extern) c.is_safe_modifier-is_safe.ensures.here)
-      (gives_as (outcome_both _ _ c.either.ensures refl)));
-}
+returns-clause-script c depth = by_rule ((c.in_ok-no_safety.ensures.script _) is_unsafe_modifier c.is_unsafe_modifier-is_unsafe.ensures.here)
+    (by_rule
+    ((c.in_ok-safe.ensures.script _) (is_safe_modifier c.args.is_in_extern) c.is_safe_modifier-is_safe.ensures.here)
+    (gives_as (outcome_both _ _ c.either.ensures refl)))

@@ -8,7 +8,7 @@ use Rattle.rap_grammar_item_kinds.proofs.modules.items.Given as goal
 abbrev pub invariant-items : goal.invariant-items
 invariant-items g l = record {
   grew : Grew (state l.initial.p) (state l.p) 0;
-  script : Turns (item_turn l.stop_on_r_curly) false false false false (state l.initial.p) (state l.p);
+  script : Turns (g.G.Grammar.left l.g) (item_turn l.stop_on_r_curly) false false false false l.initial.p l.p;
 }
 
 abbrev pub decreases-items : goal.decreases-items

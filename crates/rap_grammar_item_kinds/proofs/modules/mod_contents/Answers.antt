@@ -4,6 +4,4 @@ use Rattle.rap_grammar_item_kinds.proofs.modules.mod_contents.Goals as goal
 
 pub returns-clause-script : goal.returns-clause-script
 unfolding mod_contents
-returns-clause-script g c = record {
-  run = by_rule c.in_ok-inner_attrs.ensures.script (to_end c.in_ok-items.ensures.script);
-}
+returns-clause-script g c = by_rule c.in_ok-inner_attrs.ensures.script (to_end c.in_ok-items.ensures.script)

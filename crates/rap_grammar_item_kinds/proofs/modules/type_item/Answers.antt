@@ -4,12 +4,8 @@ use Rattle.rap_grammar_item_kinds.proofs.modules.type_item.Goals as goal
 
 pub returns-then-nth_at-clause-script : goal.returns-then-nth_at-clause-script
 unfolding type_item
-returns-then-nth_at-clause-script g c = record {
-  run = then_by c.nth_at.ensures c.if-nth_at.true (to_end c.in_ok-konst.ensures.script);
-}
+returns-then-nth_at-clause-script g c = then_by c.nth_at.ensures c.if-nth_at.true (to_end c.in_ok-konst.ensures.script)
 
 pub returns-clause-script : goal.returns-clause-script
 unfolding type_item
-returns-clause-script g c = record {
-  run = else_by c.nth_at.ensures c.if-nth_at.false (to_end c.in_ok-type_alias.ensures.script);
-}
+returns-clause-script g c = else_by c.nth_at.ensures c.if-nth_at.false (to_end c.in_ok-type_alias.ensures.script)

@@ -1,5 +1,5 @@
 use Rattle.std.proofs.Common.{rules, refl}
-use Rattle.rap_grammar_scripts.specs.Script.{gives}
+use Rattle.rap_grammar_scripts.proofs.Ends.{gives}
 use Rattle.rap_grammar_scripts.specs.Traits.{assoc_items}
 use Rattle.rap_grammar_frame.proofs.Steps.{by_rule, else_by, last_turn, then_by, turn}
 use Rattle.rap_grammar_item_kinds.proofs.traits.assoc_items.Goals as goal
@@ -10,18 +10,14 @@ items-preserved g c = record {
   script = turn c.items.invariant.script
       (else_by c.at.ensures c.items-test.true
       (else_by c.at-in-items.ensures c.if-not-at.true
-      (by_rule c.in_ok-assoc_item.ensures.script gives)));
+      (by_rule c.in_ok-assoc_item.ensures.script gives))) (search rules);
 }
 
 pub returns-else-not-at-clause-script : goal.returns-else-not-at-clause-script
 unfolding assoc_items
-returns-else-not-at-clause-script g c = record {
-  run = last_turn c.items.invariant.script
-      (else_by c.at.ensures c.items-test.true (then_by c.at-in-items.ensures c.if-not-at.false gives)) refl;
-}
+returns-else-not-at-clause-script g c = last_turn c.items.invariant.script
+    (else_by c.at.ensures c.items-test.true (then_by c.at-in-items.ensures c.if-not-at.false gives)) refl
 
 pub returns-after-items-clause-script : goal.returns-after-items-clause-script
 unfolding assoc_items
-returns-after-items-clause-script g c = record {
-  run = last_turn c.items.invariant.script (then_by c.at.ensures c.items-test.false gives) refl;
-}
+returns-after-items-clause-script g c = last_turn c.items.invariant.script (then_by c.at.ensures c.items-test.false gives) refl

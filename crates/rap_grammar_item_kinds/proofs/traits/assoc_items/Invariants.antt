@@ -8,7 +8,7 @@ use Rattle.rap_grammar_item_kinds.proofs.traits.assoc_items.Given as goal
 abbrev pub invariant-items : goal.invariant-items
 invariant-items g l = record {
   grew : Grew (state l.initial.p) (state l.p) 0;
-  script : Turns assoc_turn false false false false (state l.initial.p) (state l.p);
+  script : Turns (g.G.Grammar.left l.g) assoc_turn false false false false l.initial.p l.p;
 }
 
 abbrev pub decreases-items : goal.decreases-items

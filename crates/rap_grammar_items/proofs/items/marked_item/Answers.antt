@@ -9,9 +9,7 @@ returns-in_ok-after_item-in-Ok-clause-item g c =
 
 pub returns-in_ok-after_item-in-Ok-clause-script : goal.returns-in_ok-after_item-in-Ok-clause-script
 unfolding marked_item
-returns-in_ok-after_item-in-Ok-clause-script g c = record {
-  run = by_rule (rw c.in-Ok.is at c.in_ok-opt_item.ensures.script) (to_end c.in_ok-after_item-in-Ok.ensures.script);
-}
+returns-in_ok-after_item-in-Ok-clause-script g c = by_rule (rw c.in-Ok.is at c.in_ok-opt_item.ensures.script) (to_end (c.in_ok-after_item-in-Ok.ensures.script _))
 
 pub returns-in_ok-macro_or_error-in-Err-clause-item : goal.returns-in_ok-macro_or_error-in-Err-clause-item
 returns-in_ok-macro_or_error-in-Err-clause-item g c =
@@ -19,8 +17,5 @@ returns-in_ok-macro_or_error-in-Err-clause-item g c =
 
 pub returns-in_ok-macro_or_error-in-Err-clause-script : goal.returns-in_ok-macro_or_error-in-Err-clause-script
 unfolding marked_item
-returns-in_ok-macro_or_error-in-Err-clause-script g c = record {
-  run =
-      by_rule (rw c.in-Err.is at c.in_ok-opt_item.ensures.script)
-      (to_end c.in_ok-macro_or_error-in-Err.ensures.script);
-}
+returns-in_ok-macro_or_error-in-Err-clause-script g c = by_rule (rw c.in-Err.is at c.in_ok-opt_item.ensures.script)
+    (to_end c.in_ok-macro_or_error-in-Err.ensures.script)

@@ -1,5 +1,5 @@
 use Rattle.rap_grammar_scripts.specs.Items.{opt_modified_item}
-use Rattle.rap_grammar_scripts.specs.Script.{gives}
+use Rattle.rap_grammar_scripts.proofs.Ends.{gives}
 use Rattle.rap_grammar_frame.proofs.Steps.{by_rule, to_end}
 use Rattle.rap_grammar_item_kinds.proofs.Seeing.{parted, refused_kept}
 use Rattle.rap_grammar_items.proofs.items.opt_modified_item.Goals as goal
@@ -10,10 +10,8 @@ returns-in-Ok-clause-handed g c =
 
 pub returns-in-Ok-clause-script : goal.returns-in-Ok-clause-script
 unfolding opt_modified_item
-returns-in-Ok-clause-script g c = record {
-  run = by_rule c.in_ok-found.ensures.script
-      (by_rule (rw c.in-Ok.is at c.in_ok-opt_item_with_modifiers.ensures.script) gives);
-}
+returns-in-Ok-clause-script g c = by_rule c.in_ok-found.ensures.script
+    (by_rule (rw c.in-Ok.is at c.in_ok-opt_item_with_modifiers.ensures.script) gives)
 
 pub returns-in_ok-item-in-Err-clause-handed : goal.returns-in_ok-item-in-Err-clause-handed
 returns-in_ok-item-in-Err-clause-handed g c =
@@ -22,8 +20,6 @@ returns-in_ok-item-in-Err-clause-handed g c =
 
 pub returns-in_ok-item-in-Err-clause-script : goal.returns-in_ok-item-in-Err-clause-script
 unfolding opt_modified_item
-returns-in_ok-item-in-Err-clause-script g c = record {
-  run = by_rule c.in_ok-found.ensures.script
-      (by_rule (rw c.in-Err.is at c.in_ok-opt_item_with_modifiers.ensures.script)
-      (to_end c.in_ok-item-in-Err.ensures.script));
-}
+returns-in_ok-item-in-Err-clause-script g c = by_rule c.in_ok-found.ensures.script
+    (by_rule (rw c.in-Err.is at c.in_ok-opt_item_with_modifiers.ensures.script)
+    (to_end (c.in_ok-item-in-Err.ensures.script _)))

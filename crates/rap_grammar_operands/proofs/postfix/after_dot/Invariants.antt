@@ -12,7 +12,7 @@ invariant-fields g l = record {
   count : (state l.p).count + 256 * (state l.p).left ≤ (state l.fn.p).count + 256 * (state l.fn.p).left;
   messages : (state l.fn.p).messages ≤ (state l.p).messages;
   below : (state l.p).below ≡ (state l.fn.p).below;
-  script : Turns after_dot_turn false false false false (state l.fn.p) (state l.p);
+  script : Turns (g.G.Grammar.left l.g) after_dot_turn false false false false l.fn.p l.p;
 }
 
 abbrev pub decreases-fields : goal.decreases-fields

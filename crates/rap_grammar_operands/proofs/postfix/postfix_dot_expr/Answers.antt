@@ -5,8 +5,5 @@ use Rattle.rap_grammar_operands.proofs.postfix.postfix_dot_expr.Goals as goal
 
 pub returns-clause-script : goal.returns-clause-script
 unfolding postfix_dot_expr
-returns-clause-script g c = record {
-  run =
-      by_precede c.requires.last c.in_ok-m.ensures.state
-      (by_bump (search rules) c.in_ok-bump.ensures.state (to_end c.in_ok-access.ensures.script));
-}
+returns-clause-script g c = by_precede c.requires.last c.in_ok-m.ensures.state
+    (by_bump (search rules) c.in_ok-bump.ensures.state (to_end c.in_ok-access.ensures.script))

@@ -12,8 +12,8 @@ invariant-postfixes g l = record {
   last : IsLast (state l.p) l.lhs l.lhs.kind.value;
   plain : is_plain l.lhs.kind.value ≡ true;
   one : but_last (state l.p).forest ≡ but_last (state l.fn.p).forest;
-  script : Turns postfix_turn l.fn.allow_calls (is_block (of_like l.fn.block_like)) l.allow_calls
-      (is_block (of_like l.block_like)) (state l.fn.p) (state l.p);
+  script : Turns (g.G.Grammar.left l.g) postfix_turn l.fn.allow_calls (is_block (of_like l.fn.block_like)) l.allow_calls
+      (is_block (of_like l.block_like)) l.fn.p l.p;
 }
 
 abbrev pub decreases-postfixes : goal.decreases-postfixes

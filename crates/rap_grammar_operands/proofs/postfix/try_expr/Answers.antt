@@ -1,13 +1,11 @@
 use Rattle.std.proofs.Common.{rules}
 use Rattle.rap_grammar_scripts.specs.Expressions.{try_expr}
-use Rattle.rap_grammar_scripts.specs.Script.{gives}
+use Rattle.rap_grammar_scripts.proofs.Ends.{gives}
 use Rattle.rap_grammar_frame.proofs.Steps.{by_precede, by_bump, by_complete}
 use Rattle.rap_grammar_operands.proofs.postfix.try_expr.Goals as goal
 
 pub returns-clause-script : goal.returns-clause-script
 unfolding try_expr
-returns-clause-script c =
-    record {
-      run = by_precede c.requires.last c.in_ok-m.ensures.state
-          (by_bump (search rules) c.in_ok-bump.ensures.state (by_complete c.in_ok-cm.ensures.state.0 gives));
-    }
+returns-clause-script c depth =
+    by_precede c.requires.last c.in_ok-m.ensures.state
+    (by_bump (search rules) c.in_ok-bump.ensures.state (by_complete c.in_ok-cm.ensures.state.0 gives))

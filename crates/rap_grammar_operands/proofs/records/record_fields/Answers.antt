@@ -1,6 +1,6 @@
 use Rattle.std.proofs.Common.{rules, refl}
 use Rattle.rap_grammar_scripts.specs.Records.{record_fields}
-use Rattle.rap_grammar_scripts.specs.Script.{gives}
+use Rattle.rap_grammar_scripts.proofs.Ends.{gives}
 use Rattle.rap_grammar_frame.proofs.Steps.{then_by, else_by, by_rule, by_expect, turn, last_turn}
 use Rattle.rap_grammar_operands.proofs.records.record_fields.Goals as goal
 
@@ -12,7 +12,7 @@ fields-preserved-in_ok-expect g c = record {
       (else_by c.at-in-fields.ensures c.if-not-at.true
       (by_rule c.in_ok-record_field.ensures.script
       (else_by c.at-in-fields-2.ensures c.if-not-at-2.true
-      (by_expect c.in_ok-expect.ensures.state gives)))));
+      (by_expect c.in_ok-expect.ensures.state gives))))) (search rules);
 }
 
 pub fields-preserved : goal.fields-preserved
@@ -22,18 +22,16 @@ fields-preserved g c = record {
       (else_by c.at.ensures c.fields-test.true
       (else_by c.at-in-fields.ensures c.if-not-at.true
       (by_rule c.in_ok-record_field.ensures.script
-      (then_by c.at-in-fields-2.ensures c.if-not-at-2.false gives))));
+      (then_by c.at-in-fields-2.ensures c.if-not-at-2.false gives)))) (search rules);
 }
 
 pub returns-else-not-at-clause-script : goal.returns-else-not-at-clause-script
 unfolding record_fields
-returns-else-not-at-clause-script g c = record {
-  run = last_turn c.fields.invariant.script
-      (else_by c.at.ensures c.fields-test.true
-      (then_by c.at-in-fields.ensures c.if-not-at.false gives)) refl;
-}
+returns-else-not-at-clause-script g c = last_turn c.fields.invariant.script
+    (else_by c.at.ensures c.fields-test.true
+    (then_by c.at-in-fields.ensures c.if-not-at.false gives)) refl
 
 pub returns-after-fields-clause-script : goal.returns-after-fields-clause-script
 unfolding record_fields
 returns-after-fields-clause-script g c =
-    record { run = last_turn c.fields.invariant.script (then_by c.at.ensures c.fields-test.false gives) refl }
+    last_turn c.fields.invariant.script (then_by c.at.ensures c.fields-test.false gives) refl

@@ -8,7 +8,7 @@ use Rattle.rap_grammar_operands.proofs.records.record_fields.Given as goal
 abbrev pub invariant-fields : goal.invariant-fields
 invariant-fields g l = record {
   grew : Grew (state l.initial.p) (state l.p) 0;
-  script : Turns fields_turn false false false false (state l.initial.p) (state l.p);
+  script : Turns (g.G.Grammar.left l.g) fields_turn false false false false l.initial.p l.p;
 }
 
 abbrev pub decreases-fields : goal.decreases-fields

@@ -4,4 +4,4 @@ use Rattle.rap_grammar_params.proofs.params.param_list_fn_def.Goals as goal
 
 pub returns-clause-script : goal.returns-clause-script
 unfolding param_list_fn_def
-returns-clause-script g c = record { run = to_end c.in_ok-list_.ensures.script }
+returns-clause-script g c = to_end c.in_ok-list_.ensures.script

@@ -8,7 +8,7 @@ use Rattle.rap_grammar_params.proofs.params.params.Given as goal
 abbrev pub invariant-params : goal.invariant-params
 invariant-params g l = record {
   grew : Grew (state l.initial.p) (state l.p) 0;
-  script : Turns (param_turn l.flavor) false false false false (state l.initial.p) (state l.p);
+  script : Turns (g.G.Grammar.left l.g) (param_turn l.flavor) false false false false l.initial.p l.p;
 }
 
 abbrev pub decreases-params : goal.decreases-params

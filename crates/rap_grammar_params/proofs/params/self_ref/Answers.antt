@@ -23,11 +23,9 @@ self_as_name-requires c =
 
 pub returns-clause-script : goal.returns-clause-script
 unfolding self_ref self_mut
-returns-clause-script c = record {
-  run = by_bump (search rules) c.in_ok-bump.ensures.state (elim c.if-at.branch [
-    | then-at+in_ok-lifetime w ↦ then_by c.at.ensures w.if-at.true (by_rule w.in_ok-lifetime.ensures.script
-        (by_eat (rw w.p-is at c.in_ok-eat.ensures.state) (to_end c.in_ok-self_as_name.ensures.script)))
-    | else-at w ↦ else_by c.at.ensures w.if-at.false
-        (by_eat (rw w.p-is at c.in_ok-eat.ensures.state) (to_end c.in_ok-self_as_name.ensures.script))
-  ]);
-}
+returns-clause-script c depth = by_bump (search rules) c.in_ok-bump.ensures.state (elim c.if-at.branch [
+  | then-at+in_ok-lifetime w ↦ then_by c.at.ensures w.if-at.true (by_rule (w.in_ok-lifetime.ensures.script _)
+      (by_eat (rw w.p-is at c.in_ok-eat.ensures.state) (to_end (c.in_ok-self_as_name.ensures.script _))))
+  | else-at w ↦ else_by c.at.ensures w.if-at.false
+      (by_eat (rw w.p-is at c.in_ok-eat.ensures.state) (to_end (c.in_ok-self_as_name.ensures.script _)))
+])

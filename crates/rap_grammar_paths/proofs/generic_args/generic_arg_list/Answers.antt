@@ -1,6 +1,6 @@
 use Rattle.std.proofs.Common.{rules, sym, ◌∙◌}
 use Rattle.rap_grammar_scripts.specs.Paths.{generic_arg_list}
-use Rattle.rap_grammar_scripts.specs.Script.{gives}
+use Rattle.rap_grammar_scripts.proofs.Ends.{gives}
 use Rattle.rap_grammar_frame.proofs.Growth.{gone}
 use Rattle.rap_grammar_frame.proofs.Steps.{by_rule, by_complete}
 use Rattle.rap_grammar_paths.proofs.generic_args.generic_arg_list.Goals as goal
@@ -17,4 +17,4 @@ returns-clause-ended g c = record {
 pub returns-clause-script : goal.returns-clause-script
 unfolding generic_arg_list
 returns-clause-script g c =
-    record { run = by_rule c.in_ok-delimited.ensures.script (by_complete c.in_ok-complete.ensures.state.0 gives) }
+    by_rule c.in_ok-delimited.ensures.script (by_complete c.in_ok-complete.ensures.state.0 gives)

@@ -1,6 +1,6 @@
 use Rattle.std.proofs.Common.{rules, sym, ◌∙◌}
 use Rattle.rap_grammar_scripts.specs.Paths.{parenthesized_args}
-use Rattle.rap_grammar_scripts.specs.Script.{gives}
+use Rattle.rap_grammar_scripts.proofs.Ends.{gives}
 use Rattle.rap_grammar_frame.proofs.Growth.{gone}
 use Rattle.rap_grammar_frame.proofs.Steps.{by_rule, by_complete}
 use Rattle.rap_grammar_paths.proofs.paths.parenthesized_args.Goals as goal
@@ -18,8 +18,6 @@ returns-clause-ended g c = record {
 
 pub returns-clause-script : goal.returns-clause-script
 unfolding parenthesized_args
-returns-clause-script g c = record {
-  run = by_rule c.in_ok-delimited.ensures.script
-      (by_complete c.in_ok-complete.ensures.state.0
-      (by_rule c.in_ok-opt_ret_type.ensures.script gives));
-}
+returns-clause-script g c = by_rule c.in_ok-delimited.ensures.script
+    (by_complete c.in_ok-complete.ensures.state.0
+    (by_rule c.in_ok-opt_ret_type.ensures.script gives))

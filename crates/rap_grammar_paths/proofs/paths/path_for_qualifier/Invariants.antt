@@ -11,7 +11,7 @@ invariant-segments g l = record {
   grew : Grew (state l.initial.p) (state l.p) 0;
   last : IsLast (state l.p) l.qual PATH;
   one : but_last (state l.p).forest ≡ but_last (state l.initial.p).forest;
-  script : Turns (segment_turn l.mode) false false false false (state l.initial.p) (state l.p);
+  script : Turns (g.G.Grammar.left l.g) (segment_turn l.mode) false false false false l.initial.p l.p;
 }
 
 abbrev pub decreases-segments : goal.decreases-segments

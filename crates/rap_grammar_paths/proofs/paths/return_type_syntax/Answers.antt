@@ -1,6 +1,6 @@
 use Rattle.std.proofs.Common.{rules, sym, ◌∙◌}
 use Rattle.rap_grammar_scripts.specs.Paths.{return_type_syntax}
-use Rattle.rap_grammar_scripts.specs.Script.{gives}
+use Rattle.rap_grammar_scripts.proofs.Ends.{gives}
 use Rattle.rap_grammar_frame.proofs.Growth.{gone}
 use Rattle.rap_grammar_frame.proofs.Steps.{by_bump, by_expect, by_complete}
 use Rattle.rap_grammar_paths.proofs.paths.return_type_syntax.Goals as goal
@@ -19,9 +19,7 @@ returns-clause-ended c = record {
 
 pub returns-clause-script : goal.returns-clause-script
 unfolding return_type_syntax
-returns-clause-script c = record {
-  run = by_bump (search rules) c.in_ok-bump.ensures.state
-      (by_bump (search rules) c.in_ok-bump-2.ensures.state
-      (by_expect c.in_ok-expect.ensures.state
-      (by_complete c.in_ok-complete.ensures.state.0 gives)));
-}
+returns-clause-script c depth = by_bump (search rules) c.in_ok-bump.ensures.state
+    (by_bump (search rules) c.in_ok-bump-2.ensures.state
+    (by_expect c.in_ok-expect.ensures.state
+    (by_complete c.in_ok-complete.ensures.state.0 gives)))

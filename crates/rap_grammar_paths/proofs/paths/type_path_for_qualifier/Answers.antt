@@ -4,4 +4,4 @@ use Rattle.rap_grammar_paths.proofs.paths.type_path_for_qualifier.Goals as goal
 
 pub returns-clause-script : goal.returns-clause-script
 unfolding type_path_for_qualifier
-returns-clause-script g c = record { run = to_end c.in_ok-path.ensures.script }
+returns-clause-script g c = to_end c.in_ok-path.ensures.script

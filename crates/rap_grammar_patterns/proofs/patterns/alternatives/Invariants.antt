@@ -8,7 +8,7 @@ use Rattle.rap_grammar_patterns.proofs.patterns.alternatives.Given as goal
 abbrev pub invariant-alternatives : goal.invariant-alternatives
 invariant-alternatives g l = record {
   grew : Grew (state l.fn.p) (state l.p) 0;
-  script : Turns (alternative_turn l.in_arm) false false false false (state l.fn.p) (state l.p);
+  script : Turns (g.G.Grammar.left l.g) (alternative_turn l.in_arm) false false false false l.fn.p l.p;
 }
 
 abbrev pub decreases-alternatives : goal.decreases-alternatives

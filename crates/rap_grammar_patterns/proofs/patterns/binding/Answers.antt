@@ -7,16 +7,12 @@ use Rattle.rap_grammar_patterns.proofs.patterns.binding.Goals as goal
 
 pub returns-then-at-clause-script : goal.returns-then-at-clause-script
 unfolding binding name_r
-returns-then-at-clause-script c = record {
-  run = by_eat c.in_ok-eat.ensures.state
-      (by_eat c.in_ok-eat-2.ensures.state
-      (then_by c.at.ensures c.if-at.true (to_end c.in_ok-given_name.ensures.script)));
-}
+returns-then-at-clause-script c depth = by_eat c.in_ok-eat.ensures.state
+    (by_eat c.in_ok-eat-2.ensures.state
+    (then_by c.at.ensures c.if-at.true (to_end (c.in_ok-given_name.ensures.script _))))
 
 pub returns-clause-script : goal.returns-clause-script
 unfolding binding
-returns-clause-script c = record {
-  run = by_eat c.in_ok-eat.ensures.state
-      (by_eat c.in_ok-eat-2.ensures.state
-      (to_end (c.in_ok-name_r.ensures.script is_pattern_recovery (search rules))));
-}
+returns-clause-script c depth = by_eat c.in_ok-eat.ensures.state
+    (by_eat c.in_ok-eat-2.ensures.state
+    (to_end ((c.in_ok-name_r.ensures.script _) is_pattern_recovery (search rules))))

@@ -1,14 +1,12 @@
 use Rattle.std.proofs.Common.{rules}
 use Rattle.rap_grammar_scripts.specs.Patterns.{box_pat}
-use Rattle.rap_grammar_scripts.specs.Script.{gives}
+use Rattle.rap_grammar_scripts.proofs.Ends.{gives}
 use Rattle.rap_grammar_frame.proofs.Steps.{by_bump, by_start, by_complete, by_rule}
 use Rattle.rap_grammar_patterns.proofs.patterns.box_pat.Goals as goal
 
 pub returns-clause-script : goal.returns-clause-script
 unfolding box_pat
-returns-clause-script g c = record {
-  run = by_start c.in_ok-m.ensures.state
-      (by_bump (search rules) c.in_ok-bump.ensures.state
-      (by_rule c.in_ok-pattern_single.ensures.script
-      (by_complete c.in_ok-cm.ensures.state.0 gives)));
-}
+returns-clause-script g c = by_start c.in_ok-m.ensures.state
+    (by_bump (search rules) c.in_ok-bump.ensures.state
+    (by_rule c.in_ok-pattern_single.ensures.script
+    (by_complete c.in_ok-cm.ensures.state.0 gives)))

@@ -1,5 +1,5 @@
 use Rattle.rap_grammar_scripts.specs.Patterns.{missing_pat, ends_search}
-use Rattle.rap_grammar_scripts.specs.Script.{gives}
+use Rattle.rap_grammar_scripts.proofs.Ends.{gives}
 use Rattle.rap_grammar_frame.proofs.Patterning.{missing}
 use Rattle.rap_grammar_frame.proofs.Steps.{by_recover}
 use Rattle.rap_grammar_patterns.proofs.patterns.missing_pat.Goals as goal
@@ -11,8 +11,5 @@ returns-clause-reads c =
 
 pub returns-clause-script : goal.returns-clause-script
 unfolding missing_pat
-returns-clause-script c = record {
-  run =
-      by_recover (ends_search c.args.in_arm) c.recovery_set.ensures c.in_ok-err_recover.ensures.state (λ k. gives)
-      (λ k. gives);
-}
+returns-clause-script c depth = by_recover (ends_search c.args.in_arm) c.recovery_set.ensures c.in_ok-err_recover.ensures.state (λ k. gives)
+    (λ k. gives)

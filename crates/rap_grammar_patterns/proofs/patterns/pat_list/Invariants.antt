@@ -8,7 +8,7 @@ use Rattle.rap_grammar_patterns.proofs.patterns.pat_list.Given as goal
 abbrev pub invariant-patterns : goal.invariant-patterns
 invariant-patterns g l = record {
   grew : Grew (state l.fn.p) (state l.p) 0;
-  script : Turns (pat_turn l.ket) false false false false (state l.fn.p) (state l.p);
+  script : Turns (g.G.Grammar.left l.g) (pat_turn l.ket) false false false false l.fn.p l.p;
 }
 
 abbrev pub decreases-patterns : goal.decreases-patterns

@@ -8,7 +8,7 @@ use Rattle.rap_grammar_patterns.proofs.patterns.record_pat_fields.Given as goal
 abbrev pub invariant-fields : goal.invariant-fields
 invariant-fields g l = record {
   grew : Grew (state l.fn.p) (state l.p) 0;
-  script : Turns record_pat_turn false false false false (state l.fn.p) (state l.p);
+  script : Turns (g.G.Grammar.left l.g) record_pat_turn false false false false l.fn.p l.p;
 }
 
 abbrev pub decreases-fields : goal.decreases-fields

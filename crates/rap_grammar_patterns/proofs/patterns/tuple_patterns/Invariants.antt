@@ -8,7 +8,7 @@ use Rattle.rap_grammar_patterns.proofs.patterns.tuple_patterns.Given as goal
 abbrev pub invariant-patterns : goal.invariant-patterns
 invariant-patterns g l = record {
   grew : Grew (state l.fn.p) (state l.p) 0;
-  script : Turns tuple_pat_turn l.fn.is_tuple false l.is_tuple l.has_pat (state l.fn.p) (state l.p);
+  script : Turns (g.G.Grammar.left l.g) tuple_pat_turn l.fn.is_tuple false l.is_tuple l.has_pat l.fn.p l.p;
 }
 
 abbrev pub decreases-patterns : goal.decreases-patterns

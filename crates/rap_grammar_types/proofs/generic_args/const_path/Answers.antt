@@ -1,12 +1,10 @@
 use Rattle.rap_grammar_scripts.specs.ConstArgs.{const_path}
-use Rattle.rap_grammar_scripts.specs.Script.{gives}
+use Rattle.rap_grammar_scripts.proofs.Ends.{gives}
 use Rattle.rap_grammar_frame.proofs.Steps.{by_start, by_rule, by_complete}
 use Rattle.rap_grammar_types.proofs.generic_args.const_path.Goals as goal
 
 pub returns-clause-script : goal.returns-clause-script
 unfolding const_path
 returns-clause-script g c =
-    record {
-      run = by_start c.in_ok-m.ensures.state
-          (by_rule c.in_ok-expr_path.ensures.script (by_complete c.in_ok-cm.ensures.state.0 gives));
-    }
+    by_start c.in_ok-m.ensures.state
+    (by_rule c.in_ok-expr_path.ensures.script (by_complete c.in_ok-cm.ensures.state.0 gives))

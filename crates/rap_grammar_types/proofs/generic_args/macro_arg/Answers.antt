@@ -18,10 +18,8 @@ returns-clause-ended g c =
 
 pub returns-clause-script : goal.returns-clause-script
 unfolding macro_arg
-returns-clause-script g c = record {
-  run = by_rule c.in_ok-macro_call_after_excl.ensures.script
-      (by_complete c.in_ok-call.ensures.state.0
-      (by_precede c.in_ok-call.ensures.state.1 c.in_ok-m.ensures.state
-      (by_complete c.in_ok-ty.ensures.state.0
-      (to_end c.in_ok-bounded_arg.ensures.script))));
-}
+returns-clause-script g c = by_rule (c.in_ok-macro_call_after_excl.ensures.script _ (search rules))
+    (by_complete c.in_ok-call.ensures.state.0
+    (by_precede c.in_ok-call.ensures.state.1 c.in_ok-m.ensures.state
+    (by_complete c.in_ok-ty.ensures.state.0
+    (to_end c.in_ok-bounded_arg.ensures.script))))

@@ -4,6 +4,4 @@ use Rattle.rap_grammar_types.proofs.generic_params.bounds_without_colon.Goals as
 
 pub returns-clause-script : goal.returns-clause-script
 unfolding bounds_without_colon
-returns-clause-script g c = record {
-  run = by_start c.in_ok-m.ensures.state (to_end c.in_ok-bounds_without_colon_m.ensures.script);
-}
+returns-clause-script g c = by_start c.in_ok-m.ensures.state (to_end c.in_ok-bounds_without_colon_m.ensures.script)

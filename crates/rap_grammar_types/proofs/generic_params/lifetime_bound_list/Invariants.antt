@@ -8,7 +8,7 @@ use Rattle.rap_grammar_types.proofs.generic_params.lifetime_bound_list.Given as 
 abbrev pub invariant-bounds : goal.invariant-bounds
 invariant-bounds g l = record {
   grew : Grew (state l.initial.p) (state l.p) 0;
-  script : Turns lifetime_bound_turn false false false false (state l.initial.p) (state l.p);
+  script : Turns (g.G.Grammar.left l.g) lifetime_bound_turn false false false false l.initial.p l.p;
 }
 
 abbrev pub decreases-bounds : goal.decreases-bounds

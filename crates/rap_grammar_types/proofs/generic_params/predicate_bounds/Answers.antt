@@ -1,16 +1,12 @@
 use Rattle.rap_grammar_scripts.specs.GenericParams.{predicate_bounds}
-use Rattle.rap_grammar_scripts.specs.Script.{gives}
+use Rattle.rap_grammar_scripts.proofs.Ends.{gives}
 use Rattle.rap_grammar_frame.proofs.Steps.{then_by, else_by, by_report, to_end}
 use Rattle.rap_grammar_types.proofs.generic_params.predicate_bounds.Goals as goal
 
 pub returns-then-at-clause-script : goal.returns-then-at-clause-script
 unfolding predicate_bounds
-returns-then-at-clause-script g c = record {
-  run = then_by c.at.ensures c.if-at.true (to_end c.in_ok-bounds.ensures.script);
-}
+returns-then-at-clause-script g c = then_by c.at.ensures c.if-at.true (to_end c.in_ok-bounds.ensures.script)
 
 pub returns-clause-script : goal.returns-clause-script
 unfolding predicate_bounds
-returns-clause-script g c = record {
-  run = else_by c.at.ensures c.if-at.false (by_report c.in_ok-error.ensures.state gives);
-}
+returns-clause-script g c = else_by c.at.ensures c.if-at.false (by_report c.in_ok-error.ensures.state gives)

@@ -12,7 +12,7 @@ invariant-bounds g l = record {
   grew : Grew (state l.initial.p) (state l.p) 0;
   begun : next (state l.initial.p) ≡ LIFETIME_IDENT →
       (state l.p ≡ state l.initial.p) ⊎ Took (state l.initial.p) (state l.p) name_end_room;
-  script : Turns bound_turn false false false false (state l.initial.p) (state l.p);
+  script : Turns (g.G.Grammar.left l.g) bound_turn false false false false l.initial.p l.p;
 }
 
 abbrev pub decreases-bounds : goal.decreases-bounds

@@ -8,7 +8,7 @@ use Rattle.rap_grammar_types.proofs.generic_params.where_predicates.Given as goa
 abbrev pub invariant-predicates : goal.invariant-predicates
 invariant-predicates g l = record {
   grew : Grew (state l.initial.p) (state l.p) 0;
-  script : Turns where_turn false false false false (state l.initial.p) (state l.p);
+  script : Turns (g.G.Grammar.left l.g) where_turn false false false false l.initial.p l.p;
 }
 
 abbrev pub decreases-predicates : goal.decreases-predicates

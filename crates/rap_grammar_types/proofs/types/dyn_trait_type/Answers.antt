@@ -1,14 +1,12 @@
 use Rattle.std.proofs.Common.{rules}
 use Rattle.rap_grammar_scripts.specs.Types.{dyn_trait_type}
-use Rattle.rap_grammar_scripts.specs.Script.{gives}
+use Rattle.rap_grammar_scripts.proofs.Ends.{gives}
 use Rattle.rap_grammar_frame.proofs.Steps.{by_bump, by_start, by_complete, by_rule}
 use Rattle.rap_grammar_types.proofs.types.dyn_trait_type.Goals as goal
 
 pub returns-clause-script : goal.returns-clause-script
 unfolding dyn_trait_type
-returns-clause-script g c = record {
-  run = by_start c.in_ok-m.ensures.state
-      (by_bump (search rules) c.in_ok-bump.ensures.state
-      (by_rule c.in_ok-bounds_without_colon.ensures.script
-      (by_complete c.in_ok-complete.ensures.state.0 gives)));
-}
+returns-clause-script g c = by_start c.in_ok-m.ensures.state
+    (by_bump (search rules) c.in_ok-bump.ensures.state
+    (by_rule c.in_ok-bounds_without_colon.ensures.script
+    (by_complete c.in_ok-complete.ensures.state.0 gives)))

@@ -1,18 +1,14 @@
 use Rattle.rap_grammar_scripts.specs.Types.{fn_ptr_params}
-use Rattle.rap_grammar_scripts.specs.Script.{gives}
+use Rattle.rap_grammar_scripts.proofs.Ends.{gives}
 use Rattle.rap_grammar_frame.proofs.Steps.{by_report, to_end, then_by, else_by}
 use Rattle.rap_grammar_types.proofs.types.fn_ptr_params.Goals as goal
 
 pub returns-then-at-clause-script : goal.returns-then-at-clause-script
 unfolding fn_ptr_params
-returns-then-at-clause-script g c = record {
-  run = then_by c.at.ensures c.if-at.true
-      (to_end c.in_ok-param_list_fn_ptr.ensures.script);
-}
+returns-then-at-clause-script g c = then_by c.at.ensures c.if-at.true
+    (to_end c.in_ok-param_list_fn_ptr.ensures.script)
 
 pub returns-clause-script : goal.returns-clause-script
 unfolding fn_ptr_params
-returns-clause-script g c = record {
-  run = else_by c.at.ensures c.if-at.false
-      (by_report c.in_ok-error.ensures.state gives);
-}
+returns-clause-script g c = else_by c.at.ensures c.if-at.false
+    (by_report c.in_ok-error.ensures.state gives)

@@ -1,13 +1,11 @@
 use Rattle.std.proofs.Common.{rules}
 use Rattle.rap_grammar_scripts.specs.Types.{never_type}
-use Rattle.rap_grammar_scripts.specs.Script.{gives}
+use Rattle.rap_grammar_scripts.proofs.Ends.{gives}
 use Rattle.rap_grammar_frame.proofs.Steps.{by_bump, by_start, by_complete}
 use Rattle.rap_grammar_types.proofs.types.never_type.Goals as goal
 
 pub returns-clause-script : goal.returns-clause-script
 unfolding never_type
-returns-clause-script c = record {
-  run = by_start c.in_ok-m.ensures.state
-      (by_bump (search rules) c.in_ok-bump.ensures.state
-      (by_complete c.in_ok-complete.ensures.state.0 gives));
-}
+returns-clause-script c depth = by_start c.in_ok-m.ensures.state
+    (by_bump (search rules) c.in_ok-bump.ensures.state
+    (by_complete c.in_ok-complete.ensures.state.0 gives))

@@ -8,7 +8,7 @@ use Rattle.rap_grammar_types.proofs.types.tuple_types.Given as goal
 abbrev pub invariant-types : goal.invariant-types
 invariant-types g l = record {
   grew : Grew (state l.initial.p) (state l.p) 0;
-  script : Turns types_turn false false l.seen false (state l.initial.p) (state l.p);
+  script : Turns (g.G.Grammar.left l.g) types_turn false false l.seen false l.initial.p l.p;
 }
 
 abbrev pub decreases-types : goal.decreases-types

@@ -1,22 +1,17 @@
 use Rattle.rap_grammar_scripts.specs.Called.{cfg_predicate_element}
 use Rattle.rap_grammar_scripts.specs.First.{is_cfg_predicate_first}
-use Rattle.rap_grammar_scripts.specs.Knot.{script_of}
 use Rattle.rap_grammar_scripts.specs.Phrase as phrase
-use Rattle.rap_grammar_scripts.specs.Script.{gives}
+use Rattle.rap_grammar_scripts.proofs.Ends.{gives}
 use Rattle.rap_grammar_frame.proofs.Steps.{then_by, else_by, by_kind, by_part}
 use Rattle.rap_grammar_blocks.proofs.attributes.CfgOperandElement.parse.Goals as goal
 
 pub returns-then-not-is_cfg_predicate_first-clause-script : goal.returns-then-not-is_cfg_predicate_first-clause-script
 unfolding cfg_predicate_element
-returns-then-not-is_cfg_predicate_first-clause-script g c = record {
-  run = else_by (by_kind is_cfg_predicate_first c.is_cfg_predicate_first.ensures c.current.ensures.kind)
-      c.if-not-is_cfg_predicate_first.true gives;
-}
+returns-then-not-is_cfg_predicate_first-clause-script g c = else_by (by_kind is_cfg_predicate_first c.is_cfg_predicate_first.ensures c.current.ensures.kind)
+    c.if-not-is_cfg_predicate_first.true gives
 
 pub returns-clause-script : goal.returns-clause-script
-unfolding cfg_predicate_element script_of
-returns-clause-script g c = record {
-  run = then_by (by_kind is_cfg_predicate_first c.is_cfg_predicate_first.ensures c.current.ensures.kind)
-      c.if-not-is_cfg_predicate_first.false
-      (by_part phrase.cfg_predicate c.in_ok-run.ensures.1 gives);
-}
+unfolding cfg_predicate_element
+returns-clause-script g c = then_by (by_kind is_cfg_predicate_first c.is_cfg_predicate_first.ensures c.current.ensures.kind)
+    c.if-not-is_cfg_predicate_first.false
+    (by_part phrase.cfg_predicate c.in_ok-run.ensures.1 gives)

@@ -8,7 +8,7 @@ use Rattle.rap_grammar_expressions.proofs.expressions.atom.array_elements.Given 
 abbrev pub invariant-elements : goal.invariant-elements
 invariant-elements g l = record {
   grew : Grew (state l.initial.p) (state l.p) 0;
-  script : Turns array_turn true false l.is_first l.has_semi (state l.initial.p) (state l.p);
+  script : Turns (g.G.Grammar.left l.g) array_turn true false l.is_first l.has_semi l.initial.p l.p;
 }
 
 abbrev pub decreases-elements : goal.decreases-elements

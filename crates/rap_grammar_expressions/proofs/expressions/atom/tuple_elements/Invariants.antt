@@ -8,7 +8,7 @@ use Rattle.rap_grammar_expressions.proofs.expressions.atom.tuple_elements.Given 
 abbrev pub invariant-elements : goal.invariant-elements
 invariant-elements g l = record {
   grew : Grew (state l.initial.p) (state l.p) 0;
-  script : Turns tuple_turn false false l.saw_comma l.saw_expr (state l.initial.p) (state l.p);
+  script : Turns (g.G.Grammar.left l.g) tuple_turn false false l.saw_comma l.saw_expr l.initial.p l.p;
 }
 
 abbrev pub decreases-elements : goal.decreases-elements

@@ -1,6 +1,6 @@
 use Rattle.std.proofs.Common.{rules}
 use Rattle.rap_grammar_scripts.specs.Expressions.{bin_expr}
-use Rattle.rap_grammar_scripts.specs.Script.{gives}
+use Rattle.rap_grammar_scripts.proofs.Ends.{gives}
 use Rattle.rap_grammar_frame.proofs.Binary.{fits, bound, right_is}
 use Rattle.rap_grammar_frame.proofs.Steps.{by_precede, by_bump, by_expression, by_complete}
 use Rattle.rap_grammar_expressions.proofs.expressions.operators.bin_expr.Goals as goal
@@ -19,12 +19,9 @@ returns-clause-bound g c =
 
 pub returns-clause-script : goal.returns-clause-script
 unfolding bin_expr
-returns-clause-script g c = record {
-  run =
-      let n = c.right_power-bp.ensures in
-      let same = right_is c.args.op c.args.bp c.right_power-bp.result c.requires.power n.left n.right in
-      by_precede c.requires.last c.in_ok-m.ensures.state
-      (by_bump (search rules) c.in_ok-bump.ensures.state
-      (by_expression (rw same at c.in_ok-run.ensures.1)
-      (by_complete c.in_ok-cm.ensures.state.0 gives)));
-}
+returns-clause-script g c = let n = c.right_power-bp.ensures in
+    let same = right_is c.args.op c.args.bp c.right_power-bp.result c.requires.power n.left n.right in
+    by_precede c.requires.last c.in_ok-m.ensures.state
+    (by_bump (search rules) c.in_ok-bump.ensures.state
+    (by_expression (rw same at c.in_ok-run.ensures.1)
+    (by_complete c.in_ok-cm.ensures.state.0 gives)))

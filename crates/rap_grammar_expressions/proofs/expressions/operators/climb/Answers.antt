@@ -10,10 +10,8 @@ use Rattle.rap_grammar_expressions.proofs.expressions.operators.climb.Goals as g
 pub returns-then-op_bp-bp-clause-script : goal.returns-then-op_bp-bp-clause-script
 unfolding climb
 returns-then-op_bp-bp-clause-script g c =
-    record {
-      run = last_turn c.operators.invariant.script
-          (stops_low c.args.r c.args.bp c.current_op-op_bp.ensures.power c.if-op_bp-bp.true) refl;
-    }
+    last_turn c.operators.invariant.script
+    (stops_low c.args.r c.args.bp c.current_op-op_bp.ensures.power c.if-op_bp-bp.true) refl
 
 pub operators-preserved-then-eq : goal.operators-preserved-then-eq
 operators-preserved-then-eq g c =
@@ -28,7 +26,7 @@ operators-preserved-then-eq g c =
       bound = search rules;
       script =
           turn c.operators.invariant.script
-          (goes_as c.args.r c.args.bp e.power some c.if-op_bp-bp.false cast c.in_ok-lhs.ensures.script);
+          (goes_as c.args.r c.args.bp e.power some c.if-op_bp-bp.false cast c.in_ok-lhs.ensures.script) (search rules);
     }
 
 pub returns-then-not-has_end-clause-script : goal.returns-then-not-has_end-clause-script
@@ -37,11 +35,9 @@ returns-then-not-has_end-clause-script g c =
     let e = c.current_op-op_bp.ensures in
     let some : 0 < c.current_op-op_bp.result.0 = omega (arith, c.if-op_bp-bp.false, c.requires.power) in
     let no_cast : operator_at (state c.operators.p).rest ≢ AS_KW = search rules in
-    record {
-      run = last_turn c.operators.invariant.script
-          (stops_range c.args.r c.args.bp e.power some c.if-op_bp-bp.false no_cast c.if-op_bp-eq2.true
-          (rw (e.op some) at c.in_ok-range.ensures.script) c.if-not-has_end.true) refl;
-    }
+    (last_turn c.operators.invariant.script
+    (stops_range c.args.r c.args.bp e.power some c.if-op_bp-bp.false no_cast c.if-op_bp-eq2.true
+    (rw (e.op some) at c.in_ok-range.ensures.script) c.if-not-has_end.true) refl)
 
 pub operators-preserved-then-op_bp-eq2 : goal.operators-preserved-then-op_bp-eq2
 operators-preserved-then-op_bp-eq2 g c =
@@ -57,7 +53,7 @@ operators-preserved-then-op_bp-eq2 g c =
       script =
           turn c.operators.invariant.script
           (goes_range c.args.r c.args.bp e.power some c.if-op_bp-bp.false no_cast c.if-op_bp-eq2.true
-          (rw (e.op some) at c.in_ok-range.ensures.script) c.if-not-has_end.false);
+          (rw (e.op some) at c.in_ok-range.ensures.script) c.if-not-has_end.false) (search rules);
     }
 
 pub bin_expr-requires-clause-left_side : goal.bin_expr-requires-clause-left_side
@@ -82,5 +78,5 @@ operators-preserved g c =
       script =
           turn c.operators.invariant.script
           (goes_binary c.args.r c.args.bp e.power some c.if-op_bp-bp.false no_cast c.if-op_bp-eq2.false
-          (rw (e.op some) at c.in_ok-lhs-2.ensures.script));
+          (rw (e.op some) at c.in_ok-lhs-2.ensures.script)) (search rules);
     }

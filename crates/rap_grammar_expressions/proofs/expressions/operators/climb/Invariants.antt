@@ -17,7 +17,7 @@ invariant-operators g l = record {
       l.bp ≤ power (operator (last_children (state l.p).forest));
   bound : (state l.p).messages ≡ 0 → l.lhs.kind.value ≡ BIN_EXPR →
       Bound (state l.p) (power (operator (last_children (state l.p).forest)));
-  script : Turns (climb_turn l.r l.bp) false false false false (state l.fn.p) (state l.p);
+  script : Turns (g.G.Grammar.left l.g) (climb_turn l.r l.bp) false false false false l.fn.p l.p;
 }
 
 abbrev pub decreases-operators : goal.decreases-operators

@@ -4,12 +4,8 @@ use Rattle.rap_grammar_types.proofs.generic_params.UseBoundArgElement.parse.Goal
 
 pub returns-then-at-clause-script : goal.returns-then-at-clause-script
 unfolding use_bound_arg
-returns-then-at-clause-script g c = record {
-  run = then_by c.at.ensures c.if-at.true (to_end c.in_ok-lifetime.ensures.script);
-}
+returns-then-at-clause-script g c = then_by c.at.ensures c.if-at.true (to_end (c.in_ok-lifetime.ensures.script _))
 
 pub returns-clause-script : goal.returns-clause-script
 unfolding use_bound_arg
-returns-clause-script g c = record {
-  run = else_by c.at.ensures c.if-at.false (to_end c.in_ok-name_ref_or_upper_self.ensures.script);
-}
+returns-clause-script g c = else_by c.at.ensures c.if-at.false (to_end (c.in_ok-name_ref_or_upper_self.ensures.script _))
