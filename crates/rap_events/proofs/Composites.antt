@@ -9,7 +9,7 @@ use Rattle.rap_events.specs.Record.{Record, next_kind, kind_at, joint_at, contex
 use Rattle.rap_events.specs.OperatorTable.{composites}
 use Rattle.rap_events.specs.Composite.{row_of, parts, begins_with, touches_next, is_first, is_at, width_of, width}
 use Rattle.rap_events.specs.Cover.{of_tokens, first_may_bear, stands}
-use Rattle.rap_events.proofs.Truth.{and_left, and_right, and_both, or_left, or_right}
+use Rattle.rap_events.proofs.Truth.{and_left, and_right, and_both, and_false, or_left, or_right}
 
 -- so many tokens are there
 begins_with-length : (ks : List ℕ) (rs : List Record) → begins_with ks rs ≡ true → length ks ≤ length rs
@@ -97,10 +97,17 @@ reads_as_within [] kind h = absurd cc
 reads_as_within (r ∷ rs) kind h = omega arith
 
 -- a token of this kind touches the one after it
-pub touches_next-drop : (rs : List Record) (place kind : ℕ) → place < length rs → touches_next (drop place rs) kind ≡ ((kind_at rs place == kind) && joint_at rs place)
-touches_next-drop [] place kind h = absurd (omega arith)
-touches_next-drop (r ∷ rs) zero kind h = refl
-touches_next-drop (r ∷ rs) (suc place) kind h = touches_next-drop rs place kind (omega arith)
+pub touches_next-drop : (rs : List Record) (place kind : ℕ) → touches_next (drop place rs) kind ≡ ((kind_at rs place == kind) && joint_at rs place)
+touches_next-drop [] zero kind = sym (and_false (EOF == kind))
+touches_next-drop [] (suc place) kind = sym (and_false (EOF == kind))
+touches_next-drop (r ∷ rs) zero kind = refl
+touches_next-drop (r ∷ rs) (suc place) kind = touches_next-drop rs place kind
+
+-- past the last token none touches another
+pub joint_at-past : (rs : List Record) (place : ℕ) → length rs ≤ place → joint_at rs place ≡ false
+joint_at-past [] place h = refl
+joint_at-past (r ∷ rs) zero h = absurd (omega arith)
+joint_at-past (r ∷ rs) (suc place) h = joint_at-past rs place (omega arith)
 
 pub begins_with-touching : (k j : ℕ) (ks : List ℕ) (rs : List Record) → touches_next rs k ≡ true → begins_with (k ∷ j ∷ ks) rs ≡ begins_with (j ∷ ks) (drop 1 rs)
 begins_with-touching k j ks [] h = absurd cc

@@ -1,7 +1,7 @@
 -- The words of steps, and what is read back of them.
-use Rattle.std.proofs.Common.{◌≡◌, ◌≢◌, ℕ, ◌+◌, ◌*◌, ◌^◌, ◌/◌, ◌%◌, ◌<◌, List, true, false, refl, ap, subst, arith}
+use Rattle.std.proofs.Common.{◌≡◌, ◌≢◌, ℕ, ◌+◌, ◌*◌, ◌^◌, ◌/◌, ◌%◌, ◌<◌, ◌≤◌, List, true, false, refl, ap, subst, arith}
 use Rattle.std.specs.Prelude.{⊤}
-use Rattle.rap_base.specs.NodeKind.{SOURCE_FILE}
+use Rattle.rap_base.specs.NodeKind.{SOURCE_FILE, PATH_META}
 use Rattle.rap_events.specs.StepValue.{StepValue, enter, exit, token, float_split, error}
 use Rattle.rap_events.specs.History.{first_message}
 use Rattle.rap_events.specs.Output.{value_of}
@@ -45,6 +45,28 @@ pub which_below : (bits : ℕ) → IsWord bits → bits % 2 ≢ 0 → bits / 2 ^
 which_below bits h =
     let P : ℕ → Type 0 = λ n. n % 2 ≢ 0 → n / 2 ^ 4 % 2 ^ 4 < 9 in
     subst P h.word (which_of (event_of bits))
+
+-- what the lowest byte says of a word
+known : (bits which : ℕ) → which < 16 → bits % 256 ≡ which * 16 + 1 → IsWord bits → (event_of bits ≡ event_of_fields which (bits / 2 ^ 8 % 2 ^ 8) (bits / 2 ^ 16)) × (bits / 2 ^ 16 ≤ PATH_META)
+known bits which small low word =
+    let odd : bits % 2 ≡ 1 = omega (arith, small, low) in
+    let is : bits / 2 ^ 4 % 2 ^ 4 ≡ which = omega (arith, small, low) in
+    (rw (odd, is) refl, word.kind (omega (arith, odd)))
+
+pub token_byte : (bits : ℕ) → bits % 256 ≡ 1 → IsWord bits → (event_of bits ≡ event.Token (bits / 2 ^ 8 % 2 ^ 8) (bits / 2 ^ 16)) × (bits / 2 ^ 16 ≤ PATH_META)
+token_byte bits low word = known bits 0 (omega arith) low word
+
+pub enter_byte : (bits : ℕ) → bits % 256 ≡ 17 → IsWord bits → (event_of bits ≡ event.Enter (bits / 2 ^ 16)) × (bits / 2 ^ 16 ≤ PATH_META)
+enter_byte bits low word = known bits 1 (omega arith) low word
+
+pub exit_byte : (bits : ℕ) → bits % 256 ≡ 33 → IsWord bits → event_of bits ≡ event.Exit
+exit_byte bits low word = (known bits 2 (omega arith) low word).0
+
+pub start_byte : (bits : ℕ) → bits % 256 ≡ 65 → IsWord bits → event_of bits ≡ event.Start
+start_byte bits low word = (known bits 4 (omega arith) low word).0
+
+pub finish_byte : (bits : ℕ) → bits % 256 ≡ 97 → IsWord bits → (event_of bits ≡ event.Finish (bits / 2 ^ 16)) × (bits / 2 ^ 16 ≤ PATH_META)
+finish_byte bits low word = known bits 6 (omega arith) low word
 
 -- a token of fewer than 256 input tokens, a message that is the first of these, and any other step
 abbrev HasWord : List (List ℕ) → StepValue → ℕ → Type 0

@@ -24,6 +24,37 @@ pub(crate) fn push<T: Copy>(list: &mut Vec<T>, item: T) -> Result<(), NoMemory>
     Ok(())
 }
 
+/// Adds an item at the end of a list that stays where it is. An empty list is given room for `expected` items at once.
+/// If memory is refused, the list is as before.
+///
+/// The list grows in a call that ends the caller, so a caller that does no more than this needs no frame.
+#[inline(always)]
+pub(crate) fn push_in_place<T: Copy>(
+    list: &mut Vec<T>,
+    item: T,
+    expected: usize,
+) -> Result<(), NoMemory>
+    ensures items { list.new.items ≡ (if is_ok result then list.old.items ++ item ∷ [] else list.old.items) }
+{
+    if list.len() < list.capacity() {
+        list.push_reserved(item);
+        return Ok(());
+    }
+    push_growing(list, item, expected)
+}
+
+// The same for a list that must grow.
+#[cold]
+#[inline(never)]
+fn push_growing<T: Copy>(list: &mut Vec<T>, item: T, expected: usize) -> Result<(), NoMemory>
+    ensures items { list.new.items ≡ (if is_ok result then list.old.items ++ item ∷ [] else list.old.items) }
+{
+    let more = if list.is_empty() { expected } else { 1 };
+    list.reserve(more)?;
+    list.push(item)?;
+    Ok(())
+}
+
 // The list with room for one more item, and whether memory was left for that.
 #[cold]
 #[inline(never)]

@@ -185,7 +185,7 @@ impl<'a> Iterator for Steps<'a> {
         let (first, rest) = self.rest.split_first()?;
         self.rest = rest;
         let word = *first;
-        Some(match word.event() {
+        Some(match word.step() {
             Event::Token {
                 kind,
                 n_input_tokens,

@@ -1,10 +1,10 @@
 //! The parser: a position in the input, and the events that were recorded so far.
-ghost use Rattle.std.specs.Prelude.{◌≡◌, ◌==◌, ◌^◌, ◌%◌, ◌≢◌, ℕ, ◌+◌, ◌-◌, ◌<◌, ◌≤◌, List, [], ◌∷◌, ◌++◌, length, drop, map, true, All, AllPairs, IfOk, OnOk, IsTrue, Some, None, string_bytes, if◌then◌else◌};
+ghost use Rattle.std.specs.Prelude.{◌≡◌, ◌==◌, ◌^◌, ◌*◌, ◌/◌, ◌%◌, ◌≢◌, ℕ, ◌+◌, ◌-◌, ◌<◌, ◌≤◌, List, [], ◌∷◌, ◌++◌, length, drop, map, true, All, AllPairs, IfOk, OnOk, IsTrue, Some, None, string_bytes, if◌then◌else◌};
 ghost use Rattle.rap_base.specs.TokenKind.{EOF, IDENT, FLOAT_NUMBER};
 ghost use Rattle.rap_base.specs.NodeKind.{FIELD_EXPR};
 ghost use Rattle.rap_base.specs.TokenSet.{member};
 ghost use Rattle.rap_base.specs.Keyword.{is_any_identifier};
-ghost use Rattle.rap_events.specs.Record.{IsTokenRecord};
+ghost use Rattle.rap_events.specs.Record.{kind_at, IsTokenRecord};
 ghost use Rattle.rap_events.specs.Cover.{stand, widths};
 ghost use Rattle.rap_events.specs.History.{history, reported_by};
 ghost use Rattle.rap_events.specs.Machine.{run, initial, all_leaves, all_splits_placed};
@@ -15,7 +15,7 @@ ghost use Rattle.std.proofs.Props.{props};
 
 use crate::event::Event;
 use crate::input::Input;
-use crate::list::push;
+use crate::list::push_in_place;
 use crate::output::Output;
 use crate::word::Word;
 use rap_base::edition::Edition;
@@ -42,11 +42,14 @@ pub struct Parser<'t> {
     input: &'t Input,
     len: usize,
     pos: usize,
+    // The kind of the token at `pos`, or `EOF` at the end: most tests ask for it.
+    next: SyntaxKind,
     events: Vec<Word>,
     messages: Vec<String>,
     ghost tokens: { All IsTokenRecord input.now },
     ghost ends: { len ≡ length input.now },
     ghost in_input: { pos ≤ len },
+    ghost here: { next ≡ kind_at input.now pos },
     ghost reported: { reported_by events.items ≡ length messages.items },
     ghost sound: { (run initial (history events.items (map string_bytes messages.items))).sound ≡ true },
     ghost covers: { stand (all_leaves (run initial (history events.items (map string_bytes messages.items)))) input.now ≡ true },
@@ -77,7 +80,7 @@ impl<'t> Parser<'t> {
     ghost use Rattle.rap_events.specs.LastToken.{last_taken};
     ghost use Rattle.rap_events.specs.Machine.{floor};
     ghost use Rattle.rap_events.specs.Composite.{is_at, width};
-    ghost use Rattle.rap_events.specs.Record.{kind_at, contextual_at, edition_at};
+    ghost use Rattle.rap_events.specs.Record.{contextual_at, edition_at};
     ghost use Rattle.rap_events.specs.State.{state, calls, start_state, Opened, Bumped, SplitFloat, IsLast, Reported, Ate, AteAs, Expected, Skipped, Recovered, is_kept, expected, with_kind, skip_calls, next, next_contextual, At, ReadsAs};
 
     /// Makes a parser at the first token, with nothing recorded. No memory is allocated.
@@ -90,6 +93,7 @@ impl<'t> Parser<'t> {
             input,
             len: input.len(),
             pos: 0,
+            next: input.kind(0),
             events: Vec::new(alloc),
             messages: Vec::new(alloc),
         }
@@ -100,7 +104,7 @@ impl<'t> Parser<'t> {
         ensures kind { result ≡ next (state self.now) }
         ensures end { result ≡ EOF → (state self.now).rest ≡ [] }
     {
-        self.input.kind(self.pos)
+        self.next
     }
 
     /// Returns the kind of the token `n` places after the next one, or `EOF` past the last token.
@@ -137,14 +141,15 @@ impl<'t> Parser<'t> {
     pub fn at(&self, kind: SyntaxKind) -> bool
         ensures { result ≡ is_at kind (state self.now).rest }
     {
-        at_place(self.input, self.pos, kind)
+        at_place(self.input, self.pos, self.next, kind)
     }
 
     /// The same after `n` tokens.
     pub fn nth_at(&self, n: usize, kind: SyntaxKind) -> bool
         ensures { result ≡ is_at kind (drop n (state self.now).rest) }
     {
-        at_place(self.input, self.ahead(n), kind)
+        let place = self.ahead(n);
+        at_place(self.input, place, self.input.kind(place), kind)
     }
 
     /// Whether the next token's kind is in the set.
@@ -366,6 +371,7 @@ impl<'t> Parser<'t> {
         ];
         self.events.extend_from_slice(&events[..count])?;
         self.pos += 1;
+        self.next = self.input.kind(self.pos);
         let completed = CompletedMarker {
             end: Snapshot::of(&self.events.len()),
             kind: Snapshot::of(&kind),
@@ -373,21 +379,63 @@ impl<'t> Parser<'t> {
         Ok((ends_in_dot, completed))
     }
 
-    #[inline(never)]
+    // Takes so many tokens as one of this kind. Its word is made where the kind is known, so mostly beforehand.
+    #[inline(always)]
     fn take(&mut self, kind: SyntaxKind, n_input_tokens: u8) -> Result<(), NoMemory>
         requires within { n_input_tokens ≤ (state self.old).left }
         requires stands { stands (of_tokens kind n_input_tokens) (state self.old).rest ≡ true }
         ensures state { OnOk result (Bumped (state self.old) (state self.new) kind n_input_tokens) }
         ensures recorded { OnOk result (calls self.new ≡ calls self.old ++ call.token kind n_input_tokens ∷ []) }
     {
-        push(
-            &mut self.events,
-            Word::of_event(Event::Token {
-                kind,
-                n_input_tokens,
-            }),
-        )?;
-        self.pos += usize::from(n_input_tokens);
+        let word = Word::of_event(Event::Token {
+            kind,
+            n_input_tokens,
+        });
+        let width = usize::from(n_input_tokens);
+        self.take_word(word, Snapshot::of(&kind), width)?;
+        Ok(())
+    }
+
+    #[inline(never)]
+    fn take_word(
+        &mut self,
+        word: Word,
+        kind: Snapshot<SyntaxKind>,
+        width: usize,
+    ) -> Result<(), NoMemory>
+        requires word { word ≡ event.Token width kind.value }
+        requires within { width ≤ (state self.old).left }
+        requires stands { stands (of_tokens kind.value width) (state self.old).rest ≡ true }
+        ensures state { OnOk result (Bumped (state self.old) (state self.new) kind.value width) }
+        ensures recorded { OnOk result (calls self.new ≡ calls self.old ++ call.token kind.value width ∷ []) }
+    {
+        if self.events.len() < self.events.capacity() {
+            self.events.push_reserved(word);
+            self.pos += width;
+            self.next = self.input.kind(self.pos);
+            return Ok(());
+        }
+        self.take_growing(word, kind, width)
+    }
+
+    // The same where the list of events must grow: a call that ends the caller, so that this needs no frame.
+    #[cold]
+    #[inline(never)]
+    fn take_growing(
+        &mut self,
+        word: Word,
+        kind: Snapshot<SyntaxKind>,
+        width: usize,
+    ) -> Result<(), NoMemory>
+        requires word { word ≡ event.Token width kind.value }
+        requires within { width ≤ (state self.old).left }
+        requires stands { stands (of_tokens kind.value width) (state self.old).rest ≡ true }
+        ensures state { OnOk result (Bumped (state self.old) (state self.new) kind.value width) }
+        ensures recorded { OnOk result (calls self.new ≡ calls self.old ++ call.token kind.value width ∷ []) }
+    {
+        push_in_place(&mut self.events, word, expected_events(self.len))?;
+        self.pos += width;
+        self.next = self.input.kind(self.pos);
         Ok(())
     }
 
@@ -439,9 +487,18 @@ impl<'t> Parser<'t> {
         ensures recorded { OnOk result (calls self.new ≡ calls self.old ++ call.start ∷ []) }
     {
         let pos = Snapshot::of(&self.events.len());
-        push(&mut self.events, Word::of_event(Event::Start))?;
+        let word = Word::of_event(Event::Start);
+        push_in_place(&mut self.events, word, expected_events(self.len))?;
         Ok(Marker { pos })
     }
+}
+
+// For how many events room is made at first: most texts have three to three and a half for each token.
+#[inline(always)]
+fn expected_events(tokens: usize) -> usize
+    ensures { tokens * 7 < 2 ^ 64 → result ≡ tokens * 7 / 2 }
+{
+    tokens.saturating_mul(7) / 2
 }
 
 /// The number of events of a float that is split.
@@ -482,7 +539,8 @@ impl Marker {
         ensures state { IfOk result (λ cm. Completed (state p.old) (state p.new) kind × IsLast (state p.new) cm kind) }
         ensures recorded { OnOk result (calls p.new ≡ calls p.old ++ call.finish kind ∷ []) }
     {
-        push(&mut p.events, Word::of_event(Event::Finish { kind }))?;
+        let word = Word::of_event(Event::Finish { kind });
+        push_in_place(&mut p.events, word, expected_events(p.len))?;
         Ok(CompletedMarker {
             end: Snapshot::of(&p.events.len()),
             kind: Snapshot::of(&kind),
@@ -496,7 +554,8 @@ impl Marker {
         ensures state { OnOk result (Abandoned (state p.old) (state p.new)) }
         ensures recorded { OnOk result (calls p.new ≡ calls p.old ++ call.abandon ∷ []) }
     {
-        push(&mut p.events, Word::of_event(Event::Abandon))?;
+        let word = Word::of_event(Event::Abandon);
+        push_in_place(&mut p.events, word, expected_events(p.len))?;
         Ok(())
     }
 }
@@ -514,7 +573,8 @@ impl CompletedMarker {
         ensures recorded { OnOk result (calls p.new ≡ calls p.old ++ call.precede ∷ []) }
     {
         let pos = Snapshot::of(&p.events.len());
-        push(&mut p.events, Word::of_event(Event::Precede))?;
+        let word = Word::of_event(Event::Precede);
+        push_in_place(&mut p.events, word, expected_events(p.len))?;
         Ok(Marker { pos })
     }
 
@@ -528,7 +588,8 @@ impl CompletedMarker {
         ensures state { IfOk result (λ cm. Extended (state p.old) (state p.new) self.kind.value × IsLast (state p.new) cm self.kind.value) }
         ensures recorded { OnOk result (calls p.new ≡ calls p.old ++ call.extend ∷ []) }
     {
-        push(&mut p.events, Word::of_event(Event::Extend))?;
+        let word = Word::of_event(Event::Extend);
+        push_in_place(&mut p.events, word, expected_events(p.len))?;
         Ok(CompletedMarker {
             end: Snapshot::of(&p.events.len()),
             kind: self.kind,

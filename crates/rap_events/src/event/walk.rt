@@ -216,7 +216,7 @@ impl Walk {
         requires few { self.old.skips + self.old.left < length self.old.events.items }
         ensures { OnOk result (EventBacked word self.old self.new) }
     {
-        match word.event() {
+        match word.call() {
             Event::Start | Event::Enter { .. } | Event::Exit => self.start(),
             Event::Precede => self.precede(),
             Event::Finish { kind } => self.finish(kind)?,

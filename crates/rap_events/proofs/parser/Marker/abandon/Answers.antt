@@ -16,10 +16,10 @@ invariant_of-p c =
     let xs : List Call = history s.events.items ms in
     let before : Held s.events.items ms (length s.messages.items) s.input.now s.pos =
     record { reported = s.reported; kept = record { sound = s.sound; covers = s.covers; place = s.place; splits = s.splits; fit = s.fit } } in
-    let after : Held (s.events.items ++ c.of_event.result ∷ []) ms (length s.messages.items) s.input.now s.pos =
-    held-push s.events.items ms _ s.input.now s.pos s.pos c.of_event.result call.abandon (rw c.of_event.ensures shows.abandon) before (kept-abandon xs s.input.now s.pos c.args.self.pos.value c.requires before.kept) in
-    let h = held_either _ s.events.items (s.events.items ++ c.of_event.result ∷ []) _ ms _ s.input.now s.pos c.push.ensures.items before after in
-    record { tokens = s.tokens; ends = s.ends; in_input = s.in_input; reported = h.reported; sound = h.kept.sound; covers = h.kept.covers; place = h.kept.place; splits = h.kept.splits; fit = h.kept.fit }
+    let after : Held (s.events.items ++ c.of_event-word.result ∷ []) ms (length s.messages.items) s.input.now s.pos =
+    held-push s.events.items ms _ s.input.now s.pos s.pos c.of_event-word.result call.abandon (rw c.of_event-word.ensures shows.abandon) before (kept-abandon xs s.input.now s.pos c.args.self.pos.value c.requires before.kept) in
+    let h = held_either _ s.events.items (s.events.items ++ c.of_event-word.result ∷ []) _ ms _ s.input.now s.pos c.push_in_place.ensures.items before after in
+    record { tokens = s.tokens; ends = s.ends; in_input = s.in_input; here = s.here; reported = h.reported; sound = h.kept.sound; covers = h.kept.covers; place = h.kept.place; splits = h.kept.splits; fit = h.kept.fit }
 
 pub returns-clause-state : goal.returns-clause-state
 unfolding state calls
@@ -27,10 +27,10 @@ returns-clause-state c =
     let s = c.args.p.now in
     let ms : List (List ℕ) = map string_bytes s.messages.items in
     let xs : List Call = history s.events.items ms in
-    rw (c.in_ok-push.ensures.items, history-push s.events.items ms c.of_event.result call.abandon (rw c.of_event.ensures shows.abandon)) (abandoned s.input.now _ xs c.args.self.pos.value c.requires)
+    rw (c.in_ok-push_in_place.ensures.items, history-push s.events.items ms c.of_event-word.result call.abandon (rw c.of_event-word.ensures shows.abandon)) (abandoned s.input.now _ xs c.args.self.pos.value c.requires)
 
 pub returns-clause-recorded : goal.returns-clause-recorded
 unfolding calls
 returns-clause-recorded c =
     let s = c.args.p.now in
-    rw c.in_ok-push.ensures.items (history-push s.events.items (map string_bytes s.messages.items) c.of_event.result call.abandon (rw c.of_event.ensures shows.abandon))
+    rw c.in_ok-push_in_place.ensures.items (history-push s.events.items (map string_bytes s.messages.items) c.of_event-word.result call.abandon (rw c.of_event-word.ensures shows.abandon))

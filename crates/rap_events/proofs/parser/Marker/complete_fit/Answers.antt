@@ -16,10 +16,10 @@ invariant_of-p c =
     let xs : List Call = history s.events.items ms in
     let before : Held s.events.items ms (length s.messages.items) s.input.now s.pos =
     record { reported = s.reported; kept = record { sound = s.sound; covers = s.covers; place = s.place; splits = s.splits; fit = s.fit } } in
-    let after : Held (s.events.items ++ c.of_event.result ∷ []) ms (length s.messages.items) s.input.now s.pos =
-    held-push s.events.items ms _ s.input.now s.pos s.pos c.of_event.result (call.finish c.args.kind) (rw c.of_event.ensures (shows.finish c.args.kind)) before (kept-finish xs s.input.now s.pos c.args.kind c.args.self.pos.value c.requires.newest c.requires.fit before.kept) in
-    let h = held_either _ s.events.items (s.events.items ++ c.of_event.result ∷ []) _ ms _ s.input.now s.pos c.push.ensures.items before after in
-    record { tokens = s.tokens; ends = s.ends; in_input = s.in_input; reported = h.reported; sound = h.kept.sound; covers = h.kept.covers; place = h.kept.place; splits = h.kept.splits; fit = h.kept.fit }
+    let after : Held (s.events.items ++ c.of_event-word.result ∷ []) ms (length s.messages.items) s.input.now s.pos =
+    held-push s.events.items ms _ s.input.now s.pos s.pos c.of_event-word.result (call.finish c.args.kind) (rw c.of_event-word.ensures (shows.finish c.args.kind)) before (kept-finish xs s.input.now s.pos c.args.kind c.args.self.pos.value c.requires.newest c.requires.fit before.kept) in
+    let h = held_either _ s.events.items (s.events.items ++ c.of_event-word.result ∷ []) _ ms _ s.input.now s.pos c.push_in_place.ensures.items before after in
+    record { tokens = s.tokens; ends = s.ends; in_input = s.in_input; here = s.here; reported = h.reported; sound = h.kept.sound; covers = h.kept.covers; place = h.kept.place; splits = h.kept.splits; fit = h.kept.fit }
 
 pub returns-clause-state : goal.returns-clause-state
 unfolding state calls
@@ -27,11 +27,11 @@ returns-clause-state c =
     let s = c.args.p.now in
     let ms : List (List ℕ) = map string_bytes s.messages.items in
     let xs : List Call = history s.events.items ms in
-    let e : c.len.result ≡ length xs + 1 = omega (arith, c.push.new.list.ok.0, length-append s.events.items, ap length c.in_ok-push.ensures.items, length-history s.events.items ms) in
-    rw (c.in_ok-push.ensures.items, history-push s.events.items ms c.of_event.result (call.finish c.args.kind) (rw c.of_event.ensures (shows.finish c.args.kind))) (completed s.input.now _ xs c.args.kind c.args.self.pos.value _ c.requires.newest (c.of.ensures ∙ e) c.of-2.ensures)
+    let e : c.len.result ≡ length xs + 1 = omega (arith, c.push_in_place.new.list.ok.0, length-append s.events.items, ap length c.in_ok-push_in_place.ensures.items, length-history s.events.items ms) in
+    rw (c.in_ok-push_in_place.ensures.items, history-push s.events.items ms c.of_event-word.result (call.finish c.args.kind) (rw c.of_event-word.ensures (shows.finish c.args.kind))) (completed s.input.now _ xs c.args.kind c.args.self.pos.value _ c.requires.newest (c.of.ensures ∙ e) c.of-2.ensures)
 
 pub returns-clause-recorded : goal.returns-clause-recorded
 unfolding calls
 returns-clause-recorded c =
     let s = c.args.p.now in
-    rw c.in_ok-push.ensures.items (history-push s.events.items (map string_bytes s.messages.items) c.of_event.result (call.finish c.args.kind) (rw c.of_event.ensures (shows.finish c.args.kind)))
+    rw c.in_ok-push_in_place.ensures.items (history-push s.events.items (map string_bytes s.messages.items) c.of_event-word.result (call.finish c.args.kind) (rw c.of_event-word.ensures (shows.finish c.args.kind)))

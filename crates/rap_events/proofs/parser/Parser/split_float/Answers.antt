@@ -25,7 +25,7 @@ pub invariant_of-self : goal.invariant_of-self
 invariant_of-self c =
     let s = c.args.self.now in
     let e : c.extend_from_slice.new.self.items ≡ s.events.items = rw c.in_err-extend_from_slice.was at c.extend_from_slice.ensures.items in
-    record { tokens = s.tokens; ends = s.ends; in_input = s.in_input; reported = rw e s.reported; sound = rw e s.sound; covers = rw e s.covers; place = rw e s.place; splits = rw e s.splits; fit = rw e s.fit }
+    record { tokens = s.tokens; ends = s.ends; in_input = s.in_input; here = s.here; reported = rw e s.reported; sound = rw e s.sound; covers = rw e s.covers; place = rw e s.place; splits = rw e s.splits; fit = rw e s.fit }
 
 pub overflow_add-self : goal.overflow_add-self
 unfolding state
@@ -44,7 +44,7 @@ invariant_of-self-2 c =
     let h = held-split s.events.items ms _ s.input.now s.pos d c.args.marker.pos.value c.requires.newest c.requires.float (joint_is s.input.now s.pos c.is_joint-ends_in_dot.result c.is_joint-ends_in_dot.ensures) before in
     let within : s.pos + 1 ≤ s.len = omega (arith, s.ends, s.in_input, float_within (state s).rest c.requires.float, length-drop s.pos s.input.now) in
     let e = (events_are s.events.items _ c.is_joint-ends_in_dot.result _ _ _ _ _ c.of_event.ensures c.of_event-2.ensures c.of_event-3.ensures c.of_event-4.ensures c.in_ok-extend_from_slice.ensures.items c.split_len-count.ensures.calls) in
-    record { tokens = s.tokens; ends = s.ends; in_input = within; reported = rw e h.reported; sound = rw e h.kept.sound; covers = rw e h.kept.covers; place = rw e h.kept.place; splits = rw e h.kept.splits; fit = rw e h.kept.fit }
+    record { tokens = s.tokens; ends = s.ends; in_input = within; here = c.kind-self.ensures; reported = rw e h.reported; sound = rw e h.kept.sound; covers = rw e h.kept.covers; place = rw e h.kept.place; splits = rw e h.kept.splits; fit = rw e h.kept.fit }
 
 pub returns-clause-state : goal.returns-clause-state
 unfolding state calls

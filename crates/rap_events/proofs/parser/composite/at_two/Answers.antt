@@ -13,7 +13,7 @@ returns c =
     let e : begins_with (c.args.first ∷ c.args.second ∷ []) (drop c.args.place rs) ≡ c.eq.result =
     begins_with-touching c.args.first c.args.second [] (drop c.args.place rs) (sym c.touching.ensures.touches ∙ c.if-not-touching.false)
     ∙ ap (begins_with (c.args.second ∷ [])) (drop-drop 1 c.args.place rs)
-    ∙ begins_with-one c.args.second after c.requires
+    ∙ begins_with-one c.args.second after c.requires.second
     ∙ ap (λ (k : ℕ). k == c.args.second) (sym (kind_at-drop rs (c.args.place + 1)) ∙ sym c.kind.ensures)
     ∙ sym c.eq.ensures in
     sym e
