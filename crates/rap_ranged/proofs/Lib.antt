@@ -1,8 +1,13 @@
+pub mod FewReports
 pub mod Fronts
 pub mod InRowLemmas
+pub mod Listings
 pub mod Merges
 pub mod MessageOrder
+pub mod Notings
 pub mod Rising
 pub mod Roots
+pub mod Seats
 pub mod Texts
 pub mod TreeRows
+pub mod Waits

@@ -2,6 +2,8 @@ pub mod Covering
 pub mod Elements
 pub mod InRow
 pub mod Leaves
+pub mod Listed
+pub mod Listing
 pub mod MergedMessages
 pub mod Places
 pub mod Ranged
