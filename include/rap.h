@@ -12,9 +12,10 @@
  * is RAP_OK too, the array has the first of them, and `steps` is the number of all. The same is true of the bytes of
  * messages. A call on the same text with more room returns the same numbers.
  *
- * For `n` records rap_parse, rap_parse_prefix and rap_parse_node have at most 256 * (n + 1) steps. The tree of a text
- * of `n` bytes has at most 266 * (n + 1), besides the lexer's messages. Most need far fewer: a call with a room of 0
- * counts them. No such number is given for the bytes of messages.
+ * For `n` records rap_parse, rap_parse_prefix and rap_parse_node have at most 256 * (n + 1) steps. For a text of `n`
+ * bytes rap_tree has at most 267 * (n + 1) steps, the lexer's messages among them, and rap_tree_words at most
+ * 801 * (n + 1) words. Most need far fewer: a call with a room of 0 counts them. No such number is given for the bytes
+ * of messages.
  *
  * The tokens of a macro expander are in no text. They are parsed as records, by rap_parse, rap_parse_prefix and
  * rap_parse_node. For a text, rap_records, rap_parse and rap_weave, each called with the results of the one before it,

@@ -1,5 +1,5 @@
 -- What is returned of a text's tree.
-use Rattle.std.specs.Prelude.{◌≡◌, ℕ, ◌≤◌, ◌<◌, List, ◌++◌, length, IsUtf8}
+use Rattle.std.specs.Prelude.{◌≡◌, ℕ, ◌+◌, ◌*◌, ◌≤◌, ◌<◌, List, ◌++◌, length, IsUtf8}
 use Rattle.rap_base.specs.declared.edition.Edition.{Edition}
 use Rattle.rap_events.specs.Forest.{Forest}
 use Rattle.ra_ap_parser.specs.Headline.{HasTooManyTokens, IsParsed}
@@ -19,7 +19,8 @@ use Rattle.rap_c.specs.declared.step.RapStep.{RapStep}
 abbrev pub tree_items : Lexed → Forest → List Item
 tree_items lexed forest = text_items (str_flat (with_trivia lexed.tokens forest)) ++ lexer_items lexed.tokens lexed.errors
 
--- The text's one tree is returned; the texts of its tokens joined are the text.
+-- The text's one tree is returned; the texts of its tokens joined are the text, and there are at most 267 steps for each
+-- byte of the text and 267 more.
 pub record IsFilledTree (text : List ℕ) (edition : Edition) (entry : TopEntryPoint) (steps steps_after : List RapStep) (messages messages_after : List ℕ) (answer : RapAnswer) : Type 0 where
   pub lexed : Lexed
   pub forest : Forest
@@ -28,6 +29,7 @@ pub record IsFilledTree (text : List ℕ) (edition : Edition) (entry : TopEntryP
   pub given : IsGiven (tree_items lexed forest) steps steps_after messages messages_after answer
   pub status : answer.status ≡ 0
   pub used : answer.used ≡ length text
+  pub few : answer.steps ≤ 267 * (length text + 1)
 
 -- The bytes are UTF-8, the numbers are those of an edition and of an entry, and the text's one tree is returned.
 pub record IsTree (text : List ℕ) (year entry_number : ℕ) (steps steps_after : List RapStep) (messages messages_after : List ℕ) (answer : RapAnswer) : Type 0 where

@@ -1,5 +1,5 @@
 -- What is returned of a text's tree in words.
-use Rattle.std.specs.Prelude.{◌≡◌, ℕ, List, ◌++◌, length, IsUtf8}
+use Rattle.std.specs.Prelude.{◌≡◌, ℕ, ◌+◌, ◌*◌, ◌≤◌, List, ◌++◌, length, IsUtf8}
 use Rattle.rap_base.specs.declared.edition.Edition.{Edition}
 use Rattle.rap_events.specs.Forest.{Forest}
 use Rattle.ra_ap_parser.specs.Headline.{IsParsed}
@@ -25,13 +25,15 @@ pub record AreWordsGiven (steps others : List StrStepValue) (words words_after m
   pub bytes : answer.message_bytes ≡ counted (length (all_bytes (steps ++ others)))
   pub used : answer.used ≡ counted (length (all_words steps))
 
--- The text's one tree is returned, and after it the lexer's messages; the texts of its tokens joined are the text.
+-- The text's one tree is returned, and after it the lexer's messages; the texts of its tokens joined are the text, and
+-- there are at most 801 words for each byte of the text and 801 more.
 pub record IsFilledTreeWords (text : List ℕ) (edition : Edition) (entry : TopEntryPoint) (words words_after messages messages_after : List ℕ) (answer : RapAnswer) : Type 0 where
   pub lexed : Lexed
   pub forest : Forest
   pub parsed : IsParsed text edition entry lexed forest
   pub whole : str_joined (with_trivia lexed.tokens forest) ≡ text
   pub given : AreWordsGiven (str_flat (with_trivia lexed.tokens forest)) (lexer_steps lexed.tokens lexed.errors) words words_after messages messages_after answer
+  pub few : answer.steps ≤ 801 * (length text + 1)
 
 -- The bytes are UTF-8, the numbers are those of an edition and of an entry, and the text's one tree is returned.
 pub record IsTreeWords (text : List ℕ) (year entry_number : ℕ) (words words_after messages messages_after : List ℕ) (answer : RapAnswer) : Type 0 where
