@@ -7,12 +7,13 @@ _rast_prefixes='Vis Block Stmt Pat PatTop Ty Expr Path Item MetaItem'
 # What the word at a place may be: words, or `FILE`. The arguments are the program's words up to that place.
 _rast_choices() {
     case ${1##*/}:$#:${2-} in
-        rast:2:* | rast_page:2:* | rast_lex:2:*) echo "$_rast_editions" ;;
+        rast:2:*) echo "$_rast_editions" ;;
+        rast_page:2:* | rast_lex:2:*) echo "$_rast_editions --help --version" ;;
         rast:3:* | rast_page:3:*) echo "$_rast_entries" ;;
         rast:4:* | rast_page:4:* | rast_lex:3:*) echo FILE ;;
         rast:5:*) echo ranges ;;
         rast_lex:4:*) echo input single script ;;
-        rast_steps:2:*) echo --steps --prefix --reparse ;;
+        rast_steps:2:*) echo --steps --prefix --reparse --help --version ;;
         rast_steps:3:--steps) echo "$_rast_entries" ;;
         rast_steps:3:--prefix) echo "$_rast_prefixes" ;;
         rast_steps:4:--steps | rast_steps:4:--prefix | rast_steps:6:--reparse) echo "$_rast_editions" ;;

@@ -1,6 +1,7 @@
 //! Says where the static library of `crates/rap_c` and the kit's memory functions are linked from.
 //!
-//! `RAP_LIB` is the folder of `librap_c.a`, if that is not `crates/rap_c/out` of the repository in which this package
+//! `RAP_LIB` is the folder of `librap_c.a`. Without it the library is `lib/librap.a` of this package, which a release
+//! carries with the memory functions in it, or else that of `crates/rap_c/out` of the repository in which this package
 //! stands. `RATTLE_KIT` is the kit's folder, if `liblibc_c.a` is not in the folder of `librap_c.a` too. A relative folder
 //! is taken from the one in which cargo was called.
 //!
@@ -44,11 +45,19 @@ fn main() {
     let target = |what: &str| env::var(format!("CARGO_CFG_TARGET_{what}")).unwrap_or_default();
     if (target("ARCH"), target("OS"), target("POINTER_WIDTH")) != ("x86_64".into(), "linux".into(), "64".into()) {
         let name = env::var("TARGET").unwrap_or_default();
-        println!("cargo::error=ra_ap_parser is built for Linux on x86-64 alone, not for {name}");
+        println!(
+            "cargo::error=ra_ap_parser is built for Linux on x86-64 alone, not for {name}: build its repository from \
+             source with the Rattle kit there"
+        );
         return;
     }
     let here = PathBuf::from(env::var_os("CARGO_MANIFEST_DIR").expect("cargo names this folder"));
-    let library = folder("RAP_LIB").unwrap_or_else(|| here.join("../../crates/rap_c/out"));
+    let named = folder("RAP_LIB");
+    if named.is_none() && here.join("lib/librap.a").is_file() {
+        link(&here.join("lib"), "rap");
+        return;
+    }
+    let library = named.unwrap_or_else(|| here.join("../../crates/rap_c/out"));
     let kit = folder("RATTLE_KIT").map(|it| it.join("c")).unwrap_or_else(|| library.clone());
     let is_quiet = env::var_os("DOCS_RS").is_some();
     if !link(&library, "rap_c") && !is_quiet {

@@ -17,9 +17,9 @@ REVISION = 1
 PROCESSOR, TRIPLET = 'amd64', 'x86_64-linux-gnu'
 
 # Each tool, with Debian's package of it.
-TOOLS = {'ar': 'binutils', 'cc': 'gcc', 'dpkg-deb': 'dpkg', 'dpkg-gensymbols': 'dpkg-dev', 'git': 'git',
-         'ld': 'binutils', 'lintian': 'lintian', 'nm': 'binutils', 'objcopy': 'binutils', 'objdump': 'binutils',
-         'scdoc': 'scdoc', 'strip': 'binutils'}
+TOOLS = {'ar': 'binutils', 'cargo': 'cargo', 'cc': 'gcc', 'dpkg-deb': 'dpkg', 'dpkg-gensymbols': 'dpkg-dev',
+         'git': 'git', 'ld': 'binutils', 'lintian': 'lintian', 'nm': 'binutils', 'objcopy': 'binutils',
+         'objdump': 'binutils', 'scdoc': 'scdoc', 'strip': 'binutils'}
 
 
 class Refused(Exception):
@@ -36,9 +36,14 @@ def output(words: Sequence[str], folder: str = TOP, epoch: Optional[int] = None)
     return done.stdout
 
 
+def missing_packages() -> list[str]:
+    """The packages of Debian whose tools are not there."""
+    return sorted({package for tool, package in TOOLS.items() if not shutil.which(tool)})
+
+
 def need_tools() -> None:
     """Refuses with one line where tools are missing."""
-    missing = sorted({package for tool, package in TOOLS.items() if not shutil.which(tool)})
+    missing = missing_packages()
     if missing:
         raise Refused(f'needs packages of Debian: apt install {" ".join(missing)}')
 

@@ -3,51 +3,64 @@
 #![tactic(auto)]
 
 mod listing;
+mod request;
 mod run;
 
-use rap_base::edition::Edition;
 use rast_common::fault::{exit_code, report};
-use run::{Listing, run};
+use rast_common::program::Program;
+use rast_common::words::{read_common, read_words};
+use request::read_request;
+use run::run;
+use std::fs;
 use std::process::ExitCode;
-use std::{env, fs};
 
-const USAGE: &str = "usage: rast_lex EDITION FILE [input|single|script]\n";
+const PROGRAM: Program = Program {
+    name: "rast_lex",
+    usage: "usage: rast_lex EDITION FILE [input|single|script]\n",
+    options: "
+Prints the tokens of a Rust file: of each its kind, its range in bytes, and its text in quotes. A line
+`error TOKEN: MESSAGE` follows for each message; tokens are numbered from 0 on.
 
-const UNREADABLE: &str = "rast_lex: cannot read the file\n";
+  EDITION    2015, 2018, 2021 or 2024
+  FILE       the file, which must be UTF-8; /dev/stdin is the standard input
+  input      the parser's input instead: of each token that is no white space and no comment the kind, what an
+             identifier may be read as instead, and whether the token touches the next one
+  single     the kind of a text that is one token, with its message or -; for any other text none
+  script     the parts of a script source, or why the text is none
+
+  --help     prints this
+  --version  prints the version
+
+The status is 0 without messages, 1 with messages, and 2 after a fault, whose reason is on standard error.
+",
+    version: "rast_lex 0.0.360\n",
+    cannot_write: "rast_lex: cannot write\n",
+    no_memory: "rast_lex: no memory\n",
+};
 
 fn main(rt: HostRuntime) -> ExitCode {
-    let mut err = rt.stderr();
-    let Ok(mut args) = env::args(&rt) else {
-        return exit_code(report(&mut err, USAGE));
+    let (mut out, mut err) = (rt.stdout(), rt.stderr());
+    let Ok(words) = read_words(&rt) else {
+        return exit_code(report(&mut err, PROGRAM.usage));
     };
-    let _program = args.next();
-    let Some(edition) = args.next() else {
-        return exit_code(report(&mut err, USAGE));
-    };
-    let Some(file) = args.next() else {
-        return exit_code(report(&mut err, USAGE));
-    };
-    let listing = match args.next() {
-        None => Ok(Listing::Tokens),
-        Some(word) => word.as_str().parse::<Listing>(),
-    };
-    let Ok(listing) = listing else {
-        return exit_code(report(&mut err, USAGE));
-    };
-    if args.next().is_some() {
-        return exit_code(report(&mut err, USAGE));
+    if let Some(common) = read_common(words.as_slice()) {
+        return exit_code(PROGRAM.tell(common, &mut out, &mut err));
     }
-    let Ok(edition) = edition.as_str().parse::<Edition>() else {
-        return exit_code(report(&mut err, USAGE));
+    let request = match read_request(words.as_slice()) {
+        Ok(request) => request,
+        Err(wrong) => return exit_code(PROGRAM.refuse(rt.alloc(), &wrong, &mut err)),
     };
-    let Ok(text) = fs::read_to_string(&rt, file.as_str()) else {
-        return exit_code(report(&mut err, UNREADABLE));
+    let text = match fs::read_to_string(&rt, request.file) {
+        Ok(text) => text,
+        Err(error) => {
+            let kind = error.kind();
+            return exit_code(PROGRAM.report_unread(rt.alloc(), request.file, kind, &mut err));
+        }
     };
-    let mut out = rt.stdout();
     let status = run(
         rt.alloc(),
-        edition,
-        listing,
+        request.edition,
+        request.listing,
         text.as_str(),
         &mut out,
         &mut err,

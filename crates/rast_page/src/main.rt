@@ -3,42 +3,71 @@
 
 mod head;
 mod json;
+mod request;
 mod rows;
 mod run;
 mod tail;
 
 use head::HEAD;
 use rast_common::fault::{exit_code, report};
-use rast_print::request::read_request;
+use rast_common::program::Program;
+use rast_common::words::{read_common, read_words};
+use request::read_request;
 use run::{Frame, run};
 use std::fs;
 use std::process::ExitCode;
 use tail::TAIL;
 
-const USAGE: &str = "usage: rast_page EDITION ENTRY FILE\n";
+const PROGRAM: Program = Program {
+    name: "rast_page",
+    usage: "usage: rast_page EDITION ENTRY FILE\n",
+    options: "
+Writes a page for a browser on standard output, which shows a Rust file beside its syntax tree. The page is one file
+and loads nothing from a network.
 
-const UNREADABLE: &str = "rast_page: cannot read the file\n";
+  EDITION    2015, 2018, 2021 or 2024
+  ENTRY      SourceFile, MacroItems, MacroStmts, Pattern, Type, Expr or MetaItem, as which the text is parsed
+  FILE       the file, which must be UTF-8; /dev/stdin is the standard input
+
+  --help     prints this
+  --version  prints the version
+
+The status is 0 without messages, 1 with messages, and 2 after a fault, whose reason is on standard error.
+",
+    version: "rast_page 0.0.360\n",
+    cannot_write: "rast_page: cannot write\n",
+    no_memory: "rast_page: no memory\n",
+};
 
 fn main(rt: HostRuntime) -> ExitCode {
-    let mut err = rt.stderr();
-    let Some(request) = read_request(&rt) else {
-        return exit_code(report(&mut err, USAGE));
+    let (mut out, mut err) = (rt.stdout(), rt.stderr());
+    let Ok(words) = read_words(&rt) else {
+        return exit_code(report(&mut err, PROGRAM.usage));
     };
-    let file = request.file.as_str();
-    let Ok(text) = fs::read_to_string(&rt, file) else {
-        return exit_code(report(&mut err, UNREADABLE));
+    if let Some(common) = read_common(words.as_slice()) {
+        return exit_code(PROGRAM.tell(common, &mut out, &mut err));
+    }
+    let request = match read_request(words.as_slice()) {
+        Ok(request) => request,
+        Err(wrong) => return exit_code(PROGRAM.refuse(rt.alloc(), &wrong, &mut err)),
+    };
+    let text = match fs::read_to_string(&rt, request.file) {
+        Ok(text) => text,
+        Err(error) => {
+            let kind = error.kind();
+            return exit_code(PROGRAM.report_unread(rt.alloc(), request.file, kind, &mut err));
+        }
     };
     let frame = Frame {
         head: HEAD,
         tail: TAIL,
     };
-    let mut out = rt.stdout();
     let status = run(
         rt.alloc(),
         request.edition,
         request.entry,
         &frame,
-        file,
+        request.file,
         text.as_str(),
         &mut out,
         &mut err,

@@ -73,7 +73,7 @@ pub fn prefix_name(entry: PrefixEntryPoint) -> &'static str
 }
 
 /// The kind with this name.
-fn kind_named(name: &str) -> Option<SyntaxKind>
+pub fn kind_named(name: &str) -> Option<SyntaxKind>
     ensures { IsKindOf name.now result }
 {
     'kinds: for number in 0..KINDS {

@@ -1,8 +1,9 @@
 //! Entry points by their names.
 ghost use Rattle.std.specs.Prelude.{◌≡◌};
-ghost use Rattle.rast_print.specs.EntryName.{IsNamed, name_of_entry};
+ghost use Rattle.rast_print.specs.EntryName.{IsEntry, IsNamed, name_of_entry};
 
 use ra_ap_parser::TopEntryPoint;
+use rast_common::words::WrongWords;
 use std::str::FromStr;
 
 /// An entry point as a command line and a record name it.
@@ -30,6 +31,19 @@ impl FromStr for Entry {
             "MetaItem" => Ok(Entry(TopEntryPoint::MetaItem)),
             _ => Err(InvalidEntry),
         }
+    }
+}
+
+/// What the place of an entry point takes.
+const ENTRY: &str = "ENTRY (SourceFile, MacroItems, MacroStmts, Pattern, Type, Expr or MetaItem)";
+
+/// Reads the word of an entry point.
+pub fn read_entry(word: &str) -> Result<TopEntryPoint, WrongWords<'_>>
+    ensures { IsEntry word.now result }
+{
+    match word.parse::<Entry>() {
+        Ok(Entry(entry)) => Ok(entry),
+        Err(_) => Err(WrongWords::Word { word, place: ENTRY }),
     }
 }
 

@@ -13,19 +13,6 @@ pub struct Request {
     pub file: String,
 }
 
-/// Reads the program's arguments `EDITION ENTRY FILE`. `None` for any other words.
-pub fn read_request<R: Env + AllocGlobal>(rt: &R) -> Option<Request> {
-    let mut args = env::args(rt).ok()?;
-    let _program = args.next();
-    let (Some(edition), Some(entry), Some(file)) = (args.next(), args.next(), args.next()) else {
-        return None;
-    };
-    if args.next().is_some() {
-        return None;
-    }
-    request_of(edition.as_str(), entry.as_str(), file)
-}
-
 /// Reads the program's arguments `EDITION ENTRY FILE [LAST]`, and whether the word `LAST` is there. `None` for any other
 /// words.
 pub fn read_tree_request<R: Env + AllocGlobal>(rt: &R, last: &str) -> Option<(Request, bool)> {

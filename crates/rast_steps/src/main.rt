@@ -1,4 +1,4 @@
-//! `rast_steps --steps ENTRY EDITION FILE`, `--prefix ENTRY EDITION FILE` and
+//! `rast_steps --steps ENTRY EDITION FILE`, `--prefix PREFIX EDITION FILE` and
 //! `--reparse NODE FIRST PARENT EDITION FILE` print what the parser returns before the trivia are put back.
 #![tactic(auto)]
 
@@ -6,25 +6,62 @@ mod request;
 mod run;
 
 use rast_common::fault::{exit_code, report};
+use rast_common::program::Program;
+use rast_common::words::{read_common, read_words};
 use request::read_request;
 use run::run;
 use std::fs;
 use std::process::ExitCode;
 
-const USAGE: &str =
-    "usage: rast_steps --steps|--prefix ENTRY EDITION FILE\n       rast_steps --reparse NODE FIRST PARENT EDITION FILE\n";
+const PROGRAM: Program = Program {
+    name: "rast_steps",
+    usage: "\
+usage: rast_steps --steps ENTRY EDITION FILE
+       rast_steps --prefix PREFIX EDITION FILE
+       rast_steps --reparse NODE FIRST PARENT EDITION FILE
+",
+    options: "
+Prints the steps that the parser returns for a Rust text, before white space and comments are put back.
 
-const UNREADABLE: &str = "rast_steps: cannot read the file\n";
+  --steps    the whole text is parsed as ENTRY
+  --prefix   a prefix of the text is parsed as PREFIX, as a macro matches it; after the steps come the line
+             `used END` with the prefix's end in bytes, and, if the steps are those of one tree, `tree` and the tree
+  --reparse  a node in braces is parsed again from its own text, and its tree is printed; NODE is its kind, FIRST
+             that of the first thing in it, and PARENT that of the node around it; - for none
+  ENTRY      SourceFile, MacroItems, MacroStmts, Pattern, Type, Expr or MetaItem
+  PREFIX     Vis, Block, Stmt, Pat, PatTop, Ty, Expr, Path, Item or MetaItem
+  EDITION    2015, 2018, 2021 or 2024
+  FILE       the file, which must be UTF-8; /dev/stdin is the standard input
+
+  --help     prints this
+  --version  prints the version
+
+The status is 0, or 2 after a fault, whose reason is on standard error.
+",
+    version: "rast_steps 0.0.360\n",
+    cannot_write: "rast_steps: cannot write\n",
+    no_memory: "rast_steps: no memory\n",
+};
 
 fn main(rt: HostRuntime) -> ExitCode {
-    let mut err = rt.stderr();
-    let Some(request) = read_request(&rt) else {
-        return exit_code(report(&mut err, USAGE));
+    let (mut out, mut err) = (rt.stdout(), rt.stderr());
+    let Ok(words) = read_words(&rt) else {
+        return exit_code(report(&mut err, PROGRAM.usage));
     };
-    let Ok(text) = fs::read_to_string(&rt, request.file.as_str()) else {
-        return exit_code(report(&mut err, UNREADABLE));
+    if let Some(common) = read_common(words.as_slice()) {
+        return exit_code(PROGRAM.tell(common, &mut out, &mut err));
+    }
+    let request = match read_request(words.as_slice()) {
+        Ok(request) => request,
+        Err(wrong) => return exit_code(PROGRAM.refuse(rt.alloc(), &wrong, &mut err)),
     };
-    let mut out = rt.stdout();
+    let text = match fs::read_to_string(&rt, request.file) {
+        Ok(text) => text,
+        Err(error) => {
+            let kind = error.kind();
+            return exit_code(PROGRAM.report_unread(rt.alloc(), request.file, kind, &mut err));
+        }
+    };
     let status = run(
         rt.alloc(),
         request.edition,
