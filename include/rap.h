@@ -13,9 +13,9 @@
  * messages. A call on the same text with more room returns the same numbers.
  *
  * For `n` records rap_parse, rap_parse_prefix and rap_parse_node have at most 256 * (n + 1) steps. For a text of `n`
- * bytes rap_tree has at most 267 * (n + 1) steps, the lexer's messages among them, and rap_tree_words at most
- * 801 * (n + 1) words. Most need far fewer: a call with a room of 0 counts them. No such number is given for the bytes
- * of messages.
+ * bytes rap_tree has at most 267 * (n + 1) steps, the lexer's messages among them, rap_tree_words at most
+ * 801 * (n + 1) words, and rap_nodes at most 266 * (n + 1) elements. Most need far fewer: a call with a room of 0
+ * counts them. No such number is given for the bytes of messages.
  *
  * The tokens of a macro expander are in no text. They are parsed as records, by rap_parse, rap_parse_prefix and
  * rap_parse_node. For a text, rap_records, rap_parse and rap_weave, each called with the results of the one before it,
@@ -45,7 +45,7 @@ extern "C" {
  * compiled again; the second where something is added; and the third where neither is so.
  */
 #define RAP_VERSION_MAJOR 1
-#define RAP_VERSION_MINOR 0
+#define RAP_VERSION_MINOR 1
 #define RAP_VERSION_PATCH 0
 #define RAP_VERSION (1000000 * RAP_VERSION_MAJOR + 1000 * RAP_VERSION_MINOR + RAP_VERSION_PATCH)
 
@@ -53,8 +53,9 @@ extern "C" {
  *
  * A call that parses calls itself for each level of nesting in the text. A level takes at most 900 bytes of the stack
  * and has at least one token, so 1,024 bytes for each token, and 65,536 for what a call takes beside, suffice for every
- * text. Calls that parse are rap_tree, rap_tree_words, rap_prefix, rap_reparse, rap_parse, rap_parse_prefix and
- * rap_parse_node. The other calls take the same few kilobytes for each text.
+ * text. Calls that parse are rap_tree, rap_tree_words, rap_nodes, rap_prefix, rap_prefix_nodes, rap_reparse,
+ * rap_reparse_nodes, rap_parse, rap_parse_prefix and rap_parse_node. The other calls take the same few kilobytes for
+ * each text.
  *
  * rap_stack returns that number of bytes. `tokens`: the number of the tokens that are no trivia, or more: the length of
  * the text in bytes is never less. rap_records returns the number of a text. More than 8,388,607 are refused before
@@ -125,8 +126,9 @@ struct rap_part {
 };
 
 /* Statuses. Where more than one applies, a call returns the first of those that it lists. One exception: a call may
- * run out of memory before it finds another fault, and then returns RAP_NO_MEMORY in place of it. So may rap_prefix in
- * place of RAP_TOO_MANY_TOKENS; rap_reparse in place of RAP_NO_BRACE and RAP_TOO_MANY_TOKENS; rap_parse and
+ * run out of memory before it finds another fault, and then returns RAP_NO_MEMORY in place of it. So may rap_prefix
+ * and rap_prefix_nodes in place of RAP_TOO_MANY_TOKENS; rap_reparse and rap_reparse_nodes in place of RAP_NO_BRACE and
+ * RAP_TOO_MANY_TOKENS; rap_parse and
  * rap_parse_prefix in place of RAP_NO_RECORD and RAP_TOO_MANY_TOKENS; rap_parse_node in place of these two and
  * RAP_NO_BRACE; rap_weave in place of RAP_NO_STEPS; and rap_script in place of RAP_NO_SCRIPT. No other call returns it
  * where another of these applies.
@@ -221,6 +223,82 @@ enum { RAP_LONG = 8191 };
 struct rap_answer rap_tree_words(const uint8_t *text, size_t text_length, uint32_t edition, uint32_t entry,
                                  uint32_t *words, size_t word_room, uint8_t *messages, size_t message_room);
 
+/* The parent of the root, which has none. It is no element's index. */
+#define RAP_NO_PARENT 4294967295u
+
+/* An element of a tree in one list: a node or a leaf. They stand in preorder, the root first, each before all that is
+ * in it. Elements are named by their indices in the list.
+ * `kind`: the number of its kind. RAP_KIND_ERROR is a kind of nodes and of leaves.
+ * `start`, `end`: its first byte in the text, and the one after its last, trivia included. A node without a leaf is
+ *     empty, and both are the byte at which it stands. No leaf is empty.
+ * `after`: the index past all that is in it. Of a leaf it is the next index.
+ * `parent`: the index of the node that it is in, or RAP_NO_PARENT.
+ * So e[i] is a leaf exactly if `e[i].after == i + 1 && e[i].start < e[i].end`.
+ *
+ * With `e` for the array, and `i` for an index in it:
+ *
+ *     struct rap_element *node = &e[i];
+ *     for (uint32_t child = i + 1; child < node->after; child = e[child].after)
+ *         ...                                                       the children of i, from the first to the last
+ *     for (uint32_t inner = i + 1; inner < node->after; inner++)
+ *         ...                                                       all that is in i, in preorder
+ *     for (uint32_t up = node->parent; up != RAP_NO_PARENT; up = e[up].parent)
+ *         ...                                                       the nodes around i, from the inside out
+ *     if (node->parent != RAP_NO_PARENT && node->after < e[node->parent].after)
+ *         ... e[node->after] ...                                    the next sibling of i
+ *
+ * All of that needs the whole list. Where the array has room for fewer elements, an element that has no place counts in
+ * `after` all the same.
+ */
+struct rap_element {
+    uint32_t kind;
+    uint32_t start;
+    uint32_t end;
+    uint32_t after;
+    uint32_t parent;
+};
+
+/* A message about a text.
+ * `at`: the byte of the text at which it is.
+ * `start`, `end`: the first byte of the leaf there, and the one after its last. At the end of the text both are `at`.
+ * `text_start`, `text_end`: the range of its own bytes in the array of message bytes. They are UTF-8, and each message
+ *     begins where the one before it ended.
+ */
+struct rap_message {
+    size_t at;
+    size_t start;
+    size_t end;
+    size_t text_start;
+    size_t text_end;
+};
+
+/* The result of a call that returns a tree in one list.
+ * `status`: one of enum rap_status. From RAP_NO_EDITION on nothing was written, and the other numbers are 0.
+ * `elements`, `messages`, `message_bytes`: the numbers of all of them; as many as fit are in the caller's arrays.
+ * `used`: the end, in bytes of the text, of the last token that was taken.
+ */
+struct rap_nodes_answer {
+    uint32_t status;
+    size_t elements;
+    size_t messages;
+    size_t message_bytes;
+    size_t used;
+};
+
+/* The tree of any text in one list, trivia included, so that the texts of the leaves joined are the text; and all
+ * messages, the parser's and the lexer's, in the order of the text. Of two messages at one byte a message of the parser
+ * comes before one of the lexer, and else they are in the order of rap_tree.
+ * `text`, `text_length`, `edition`, `entry`: as for rap_tree.
+ * `elements`, `messages`, `message_bytes`: the caller's arrays, each with its room. As many of each as fit are written,
+ * from the beginning of each array; but no element after the first 4,294,967,295, whose indices 32 bits cannot name.
+ * Status: as for rap_tree. `used` is the text's length.
+ * A text of `n` bytes has at most 266 * (n + 1) elements. Most have far fewer, about two for each five bytes.
+ */
+struct rap_nodes_answer rap_nodes(const uint8_t *text, size_t text_length, uint32_t edition, uint32_t entry,
+                                  struct rap_element *elements, size_t element_room,
+                                  struct rap_message *messages, size_t message_room,
+                                  uint8_t *message_bytes, size_t byte_room);
+
 /* The tokens of a text, trivia included: a RAP_TOKEN step for each, and after the last one the lexer's messages, each
  * at its token. Nothing is parsed.
  * Status: RAP_OK, RAP_NO_EDITION, RAP_NOT_UTF8, RAP_TEXT_TOO_LONG, RAP_NO_MEMORY; the first of them that applies. `used`
@@ -239,6 +317,16 @@ struct rap_answer rap_tokens(const uint8_t *text, size_t text_length, uint32_t e
  */
 struct rap_answer rap_prefix(const uint8_t *text, size_t text_length, uint32_t edition, uint32_t entry,
                              struct rap_step *steps, size_t step_room, uint8_t *messages, size_t message_room);
+
+/* A prefix of a text, parsed as by rap_prefix, in one list as by rap_nodes. If the output is one tree, the status is
+ * RAP_OK, and the messages are the parser's. Otherwise it is RAP_NO_TREE, nothing is written, and the numbers of
+ * elements, messages and bytes are 0: rap_prefix returns the steps of such an output. `used` and the other statuses are
+ * those of rap_prefix.
+ */
+struct rap_nodes_answer rap_prefix_nodes(const uint8_t *text, size_t text_length, uint32_t edition, uint32_t entry,
+                                         struct rap_element *elements, size_t element_room,
+                                         struct rap_message *messages, size_t message_room,
+                                         uint8_t *message_bytes, size_t byte_room);
 
 /* A node in braces, parsed again from its own text after an edit inside its braces. `node`: the number of its kind.
  * `first_child`, `parent`: those of the first thing in it and of the node around it, or RAP_NO_KIND.
@@ -270,6 +358,15 @@ struct rap_answer rap_prefix(const uint8_t *text, size_t text_length, uint32_t e
 struct rap_answer rap_reparse(const uint8_t *text, size_t text_length, uint32_t edition, uint32_t node,
                               uint32_t first_child, uint32_t parent,
                               struct rap_step *steps, size_t step_room, uint8_t *messages, size_t message_room);
+
+/* A node in braces, parsed again as by rap_reparse, in one list as by rap_prefix_nodes. `used` and the statuses are
+ * those of rap_reparse. Of its five conditions the second then says that the last element is the leaf of that R_CURLY.
+ */
+struct rap_nodes_answer rap_reparse_nodes(const uint8_t *text, size_t text_length, uint32_t edition, uint32_t node,
+                                          uint32_t first_child, uint32_t parent,
+                                          struct rap_element *elements, size_t element_room,
+                                          struct rap_message *messages, size_t message_room,
+                                          uint8_t *message_bytes, size_t byte_room);
 
 /* The parser's input of a text: a record for each token that is no trivia, in order.
  * `records`, `record_room`: the caller's array and its length in records. As many records as fit are written.

@@ -4,6 +4,7 @@
  * - a tree's tokens, joined, are not the text, or its nodes do not nest, or a message is outside of the text;
  * - a call writes after the end of its arrays, or writes other values in small arrays than in large ones, or writes
  *   although it returns a fault;
+ * - a tree in one list is not what its steps make, or its messages are not those of the steps in the order of the text;
  * - one call rejects the bytes as no UTF-8, and another accepts them;
  * - the tokens that a prefix entry takes are not a prefix of the text;
  * - a node that begins with `{` and ends with its own `}` differs when it is parsed again from its own text;
@@ -188,6 +189,110 @@ static void reparse_nodes(const struct call *c, const struct tree *tree) {
         }
 }
 
+/* A tree in one list, with all of its messages. */
+struct list {
+    struct rap_nodes_answer answer;
+    struct rap_element *elements;
+    struct rap_message *messages;
+    uint8_t *bytes;
+};
+
+static int is_same_list(struct rap_nodes_answer one, struct rap_nodes_answer other) {
+    return one.status == other.status && one.elements == other.elements && one.messages == other.messages &&
+           one.message_bytes == other.message_bytes && one.used == other.used;
+}
+
+/* The list of a tree or of a prefix, with room for this part of it in four. */
+static struct list listed(const struct call *c, struct rap_nodes_answer all, size_t part) {
+    size_t elements = all.elements * part / 4, messages = all.messages * part / 4, bytes = all.message_bytes * part / 4;
+    struct list l = {all, room_of(elements * sizeof *l.elements), room_of(messages * sizeof *l.messages),
+                     room_of(bytes)};
+    l.answer = (c->which == 2 ? rap_prefix_nodes : rap_nodes)(c->text, c->length, c->edition, c->entry, l.elements,
+                                                              elements, l.messages, messages, l.bytes, bytes);
+    check_rest(l.elements, elements * sizeof *l.elements, elements * sizeof *l.elements);
+    check_rest(l.messages, messages * sizeof *l.messages, messages * sizeof *l.messages);
+    check_rest(l.bytes, bytes, bytes);
+    if (part > 0) check(is_same_list(l.answer, all), "the numbers of a list do not depend on the room");
+    return l;
+}
+
+static void free_list(struct list l) {
+    free(l.elements);
+    free(l.messages);
+    free(l.bytes);
+}
+
+/* Whether an element is a leaf. */
+static int is_leaf(const struct list *l, uint32_t i) {
+    return l->elements[i].after == i + 1 && l->elements[i].start < l->elements[i].end;
+}
+
+/* Checks that the elements are what the steps make. `around` has room for each open node. */
+static void check_elements(const struct list *l, const struct tree *tree, uint32_t *around) {
+    size_t depth = 0, end = 0;
+    uint32_t i = 0;
+    for (size_t s = 0; s < tree->answer.steps; s++) {
+        const struct rap_step *step = &tree->steps[s];
+        const struct rap_element *e = &l->elements[i];
+        if (step->what == RAP_EXIT) {
+            const struct rap_element *node = &l->elements[around[--depth]];
+            check(node->after == i && node->end == end, "a node ends in the list where it does in the steps");
+            check(!is_leaf(l, around[depth]), "a node does not look like a leaf");
+        }
+        if (step->what != RAP_ENTER && step->what != RAP_TOKEN) continue;
+        check(i < l->answer.elements && e->kind == step->kind && e->start == step->start, "an element is that of a step");
+        check(e->parent == (depth ? around[depth - 1] : RAP_NO_PARENT), "an element is in the newest open node");
+        if (step->what == RAP_TOKEN) check(is_leaf(l, i), "a leaf looks like one");
+        if (step->what == RAP_ENTER) around[depth++] = i;
+        else check(e->after == i + 1 && e->end == step->end, "nothing is in a leaf");
+        end = step->end;
+        i++;
+    }
+    check(i == l->answer.elements && depth == 0, "there are as many elements as nodes and leaves");
+}
+
+/* Checks that the messages rise, that each has its leaf, and that there are as many as among the steps. */
+static void check_messages(const struct list *l, const struct tree *tree) {
+    size_t said = 0, count = 0;
+    uint32_t leaf = 0;
+    for (size_t s = 0; s < tree->answer.steps; s++) count += tree->steps[s].what == RAP_MESSAGE;
+    for (size_t i = 0; i < l->answer.messages; i++) {
+        const struct rap_message *m = &l->messages[i];
+        check(m->text_start == said && m->text_end > said, "the texts of messages follow one another");
+        check(i == 0 || m[-1].at <= m->at, "messages are in the order of the text");
+        said = m->text_end;
+        while (leaf < l->answer.elements && !(is_leaf(l, leaf) && m->at < l->elements[leaf].end)) leaf++;
+        size_t start = leaf < l->answer.elements ? l->elements[leaf].start : m->at;
+        size_t end = leaf < l->answer.elements ? l->elements[leaf].end : m->at;
+        check(m->start == start && m->end == end, "a message has the range of its leaf");
+    }
+    check(count == l->answer.messages && said == tree->answer.message_bytes, "as many messages as in steps");
+}
+
+/* Checks the list of a tree, or of a prefix that is one. */
+static void check_list(const struct call *c, const struct tree *tree) {
+    struct rap_nodes_answer none = {0};
+    struct list l = listed(c, none, 0);
+    struct rap_nodes_answer all = l.answer;
+    free_list(l);
+    check(all.status == tree->answer.status && all.used == tree->answer.used, "a list has the status of its steps");
+    if (all.status != RAP_OK) {
+        check(all.elements == 0 && all.messages == 0 && all.message_bytes == 0, "what is no tree has no list");
+        return;
+    }
+    l = listed(c, all, 4);
+    uint32_t *around = room_of((tree->answer.steps + 1) * sizeof *around);
+    check_elements(&l, tree, around);
+    check_messages(&l, tree);
+    free(around);
+    struct list few = listed(c, all, 2);
+    check(!memcmp(few.elements, l.elements, all.elements / 2 * sizeof *l.elements), "less room has the same elements");
+    check(!memcmp(few.messages, l.messages, all.messages / 2 * sizeof *l.messages), "less room has the same messages");
+    check(!memcmp(few.bytes, l.bytes, all.message_bytes / 2), "less room has the same bytes of messages");
+    free_list(few);
+    free_list(l);
+}
+
 int LLVMFuzzerTestOneInput(const uint8_t *text, size_t length) {
     static const uint32_t EDITIONS[] = {2024, 2021, 2018, 2015};
     struct call c = {0, EDITIONS[length / 70 % 4], (uint32_t)(length % 7), RAP_NO_KIND, RAP_NO_KIND, text, length};
@@ -200,12 +305,14 @@ int LLVMFuzzerTestOneInput(const uint8_t *text, size_t length) {
         check_steps(&c, &tokens, 0);
         c.which = 0;
         check_steps(&c, &tree, 1);
+        check_list(&c, &tree);
         reparse_nodes(&c, &tree);
         c.which = 2;
         c.entry = (uint32_t)(length % 10);
         struct tree prefix = call(&c);
         check(prefix.answer.status <= RAP_NO_TREE, "all text has a front");
         if (prefix.answer.status == RAP_OK) check_steps(&c, &prefix, 1);
+        check_list(&c, &prefix);
         check(prefix.answer.used <= length, "a front is no longer than the text");
         free_tree(&prefix);
     }

@@ -1,7 +1,7 @@
 /* Makes calls of the static library with texts and arrays next to memory that must not be accessed.
  *
  * Standard input has a call in each line, as exports.h says. Each is made on its text at the end of a page after which,
- * and at the start of one before which, memory must not be read; with both arrays at such places, and with room for
+ * and at the start of one before which, memory must not be read; with all arrays at such places, and with room for
  * all their steps and messages, for one of each and for none. The call must return and write the same as for its text
  * elsewhere, and must not change the bytes beside an array. An array of length 0 is at any address: at one that must
  * not be read, at one that no step may have, and at NULL; a text of length 0 too. The same holds for rap_kind_name.
@@ -46,21 +46,23 @@ static void open_fence(struct fenced f)
 
 /* What a call leaves on its text elsewhere: its answer, its steps and its messages, all of them. */
 struct wanted {
-    struct rap_answer answer;
+    struct numbers answer;
     struct room room;
 };
 
 static struct wanted plain(const struct call *c)
 {
     struct rap_step step;
+    struct rap_message note;
     uint8_t byte;
-    struct room none = {&step, 0, &byte, 0};
+    struct room none = {&step, 0, &note, 0, &byte, 0};
     struct wanted w;
     w.answer = answer_at(c, c->text, none);
     struct room all = {calloc(w.answer.steps + 1, size_of_step(c)), w.answer.steps,
+                       calloc(w.answer.notes + 1, sizeof note), w.answer.notes,
                        calloc(w.answer.message_bytes + 1, 1), w.answer.message_bytes};
     w.room = all;
-    struct rap_answer again = answer_at(c, c->text, all);
+    struct numbers again = answer_at(c, c->text, all);
     calls += 2;
     check(are_same(w.answer, again), 0, "another answer with room than without");
     return w;
@@ -74,35 +76,50 @@ static int are_blank(const uint8_t *from, const uint8_t *to)
     return from >= to;
 }
 
-/* Makes a call with room for so many steps and messages, both arrays at the ends of fenced memory or at its starts. */
-static void call_at(const struct call *c, const uint8_t *text, const struct wanted *w, size_t steps, size_t messages,
-                    int at_end, unsigned long line)
+/* An array at the end of fenced memory or at its start: so many of a size, of which a call is to write so many. */
+struct array {
+    struct fenced fence;
+    uint8_t *at;
+    size_t size, room, written;
+};
+
+static struct array array_of(size_t size, size_t room, size_t all, int at_end)
 {
-    size_t step_size = size_of_step(c), step_bytes = steps * step_size;
-    struct fenced s = fence(step_bytes), m = fence(messages);
-    uint8_t *step_at = at_end ? s.end - step_bytes : s.begin, *message_at = at_end ? m.end - messages : m.begin;
-    memset(s.begin, 0xa5, (size_t)(s.end - s.begin));
-    memset(m.begin, 0xa5, (size_t)(m.end - m.begin));
-    struct room r = {step_at, steps, message_at, messages};
-    struct rap_answer answer = answer_at(c, text, r);
-    size_t step_count = steps < w->answer.steps ? steps : w->answer.steps;
-    size_t byte_count = messages < w->answer.message_bytes ? messages : w->answer.message_bytes;
+    struct array a = {fence(size * room), NULL, size, room, room < all ? room : all};
+    a.at = at_end ? a.fence.end - size * room : a.fence.begin;
+    memset(a.fence.begin, 0xa5, (size_t)(a.fence.end - a.fence.begin));
+    return a;
+}
+
+/* Checks that an array begins as this one does, as far as it has room, and that nothing beside that is written. */
+static void check_array(struct array a, const void *wanted, unsigned long line, const char *others, const char *beside)
+{
+    const uint8_t *end = a.at + a.size * a.written;
+    check(memcmp(a.at, wanted, a.size * a.written) == 0, line, others);
+    check(are_blank(a.fence.begin, a.at) && are_blank(end, a.fence.end), line, beside);
+    open_fence(a.fence);
+}
+
+/* Makes a call with this room, all arrays at the ends of fenced memory or at its starts. */
+static void call_at(const struct call *c, const uint8_t *text, const struct wanted *w, size_t steps, size_t notes,
+                    size_t messages, int at_end, unsigned long line)
+{
+    struct array s = array_of(size_of_step(c), steps, w->answer.steps, at_end);
+    struct array n = array_of(sizeof(struct rap_message), notes, w->answer.notes, at_end);
+    struct array m = array_of(1, messages, w->answer.message_bytes, at_end);
+    struct room r = {s.at, steps, (struct rap_message *)(void *)n.at, notes, m.at, messages};
     calls++;
-    check(are_same(answer, w->answer), line, "another answer at an edge");
-    check(memcmp(r.steps, w->room.steps, step_count * step_size) == 0, line, "other steps at an edge");
-    check(memcmp(r.messages, w->room.messages, byte_count) == 0, line, "other messages at an edge");
-    uint8_t *step_end = step_at + step_count * step_size, *message_end = message_at + byte_count;
-    check(are_blank(s.begin, step_at) && are_blank(step_end, s.end), line, "bytes beside steps");
-    check(are_blank(m.begin, message_at) && are_blank(message_end, m.end), line, "bytes beside messages");
-    open_fence(s);
-    open_fence(m);
+    check(are_same(answer_at(c, text, r), w->answer), line, "another answer at an edge");
+    check_array(s, w->room.steps, line, "other steps at an edge", "bytes beside steps");
+    check_array(n, w->room.notes, line, "other messages at an edge", "bytes beside messages");
+    check_array(m, w->room.messages, line, "other bytes of messages at an edge", "bytes beside those of messages");
 }
 
 /* Makes a call on a text with arrays of no length at this address. */
 static void call_empty(const struct call *c, const uint8_t *text, const struct wanted *w, void *address,
                        unsigned long line)
 {
-    struct room none = {address, 0, address, 0};
+    struct room none = {address, 0, address, 0, address, 0};
     calls++;
     check(are_same(answer_at(c, text, none), w->answer), line, "another answer with arrays of no length");
 }
@@ -112,11 +129,12 @@ static void call_on(const struct call *c, const uint8_t *text, const struct want
 {
     struct fenced nowhere = fence(1);
     for (int at_end = 0; at_end < 2; at_end++) {
-        call_at(c, text, w, w->answer.steps, w->answer.message_bytes, at_end, line);
-        call_at(c, text, w, w->answer.steps + 1, w->answer.message_bytes + 1, at_end, line);
-        call_at(c, text, w, 1, 1, at_end, line);
-        call_at(c, text, w, 1, 0, at_end, line);
-        call_at(c, text, w, 0, 1, at_end, line);
+        call_at(c, text, w, w->answer.steps, w->answer.notes, w->answer.message_bytes, at_end, line);
+        call_at(c, text, w, w->answer.steps + 1, w->answer.notes + 1, w->answer.message_bytes + 1, at_end, line);
+        call_at(c, text, w, 1, 1, 1, at_end, line);
+        call_at(c, text, w, 1, 0, 0, at_end, line);
+        call_at(c, text, w, 0, 1, 0, at_end, line);
+        call_at(c, text, w, 0, 0, 1, at_end, line);
     }
     call_empty(c, text, w, nowhere.end, line);
     call_empty(c, text, w, (void *)1, line);
@@ -140,6 +158,7 @@ static void call_everywhere(const struct call *c, unsigned long line)
     }
     open_fence(t);
     free(w.room.steps);
+    free(w.room.notes);
     free(w.room.messages);
 }
 

@@ -3,7 +3,7 @@
  * Standard input has a call in each line, as exports.h says. Each is made with ample memory, with room for all its
  * steps and messages, for half of them and for none; and then, for each of these, with the N-th growth refused, N from
  * 1 up to the first call that has no such growth. A call with a refused growth must return RAP_NO_MEMORY, with the
- * other numbers 0 and both arrays unchanged; or the same result as with ample memory, and the same contents of both
+ * other numbers 0 and all arrays unchanged; or the same result as with ample memory, and the same contents of all
  * arrays. It must free what it allocated. A call that must allocate memory and allocates none is wrong too.
  *
  * Prints what is wrong, how many calls there were, and how many lines passed and failed. */
@@ -71,18 +71,19 @@ static void check(int holds, unsigned long line, unsigned long number, const cha
 static void blank(const struct call *c, struct room r)
 {
     memset(r.steps, 0xa5, r.step_room * size_of_step(c));
+    memset(r.notes, 0x3c, r.note_room * sizeof *r.notes);
     memset(r.messages, 0x5a, r.message_room);
 }
 
 /* Makes a call whose growth of this number is refused, and none where it is 0. Its memory must be free again. */
-static struct rap_answer make(const struct call *c, struct room r, unsigned long line, unsigned long number)
+static struct numbers make(const struct call *c, struct room r, unsigned long line, unsigned long number)
 {
     long before = live;
     blank(c, r);
     met = 0;
     growths = 0;
     refused = number;
-    struct rap_answer answer = answer_at(c, c->text, r);
+    struct numbers answer = answer_at(c, c->text, r);
     refused = 0;
     calls++;
     check(live == before, line, number, "memory is not free again");
@@ -92,32 +93,35 @@ static struct rap_answer make(const struct call *c, struct room r, unsigned long
 static int are_alike(const struct call *c, struct room a, struct room b)
 {
     return memcmp(a.steps, b.steps, a.step_room * size_of_step(c)) == 0
+        && memcmp(a.notes, b.notes, a.note_room * sizeof *a.notes) == 0
         && memcmp(a.messages, b.messages, a.message_room) == 0;
 }
 
-static struct room room_for(const struct call *c, size_t steps, size_t messages)
+static struct room room_for(const struct call *c, size_t steps, size_t notes, size_t messages)
 {
-    struct room r = {malloc((steps + 1) * size_of_step(c)), steps, malloc(messages + 1), messages};
+    struct room r = {malloc((steps + 1) * size_of_step(c)), steps, malloc((notes + 1) * sizeof *r.notes), notes,
+                     malloc(messages + 1), messages};
     return r;
 }
 
 static void give_back(struct room r)
 {
     free(r.steps);
+    free(r.notes);
     free(r.messages);
 }
 
 /* Makes a call with each growth refused in turn, in this room. Returns how many growths were refused. */
-static unsigned long sweep(const struct call *c, size_t steps, size_t messages, unsigned long line)
+static unsigned long sweep(const struct call *c, size_t steps, size_t notes, size_t messages, unsigned long line)
 {
-    struct room ample = room_for(c, steps, messages), other = room_for(c, steps, messages);
-    struct room none = room_for(c, steps, messages);
-    const struct rap_answer refusal = {RAP_NO_MEMORY, 0, 0, 0};
-    struct rap_answer all = make(c, ample, line, 0);
+    struct room ample = room_for(c, steps, notes, messages), other = room_for(c, steps, notes, messages);
+    struct room none = room_for(c, steps, notes, messages);
+    const struct numbers refusal = {RAP_NO_MEMORY, 0, 0, 0, 0};
+    struct numbers all = make(c, ample, line, 0);
     unsigned long number = 0;
     blank(c, none);
     do {
-        struct rap_answer answer = make(c, other, line, ++number);
+        struct numbers answer = make(c, other, line, ++number);
         if (answer.status == RAP_NO_MEMORY) {
             check(met, line, number, "there is no memory, and none was refused");
             check(are_same(answer, refusal), line, number, "numbers beside the status of a fault");
@@ -142,12 +146,13 @@ int main(void)
         struct call c = read_call(text);
         unsigned long before = wrong;
         struct rap_step step;
+        struct rap_message note;
         uint8_t byte;
-        struct room nothing = {&step, 0, &byte, 0};
-        struct rap_answer size = make(&c, nothing, ++line, 0);
-        unsigned long count = sweep(&c, size.steps, size.message_bytes, line);
-        count += sweep(&c, size.steps / 2, size.message_bytes / 2, line);
-        count += sweep(&c, 0, 0, line);
+        struct room nothing = {&step, 0, &note, 0, &byte, 0};
+        struct numbers size = make(&c, nothing, ++line, 0);
+        unsigned long count = sweep(&c, size.steps, size.notes, size.message_bytes, line);
+        count += sweep(&c, size.steps / 2, size.notes / 2, size.message_bytes / 2, line);
+        count += sweep(&c, 0, 0, 0, line);
         int takes_none = c.which == SHEBANG || c.which == BLANK || (c.which == SCRIPT && size.status == RAP_OK);
         int may_take_none = size.status > RAP_NO_TREE && size.status < RAP_NO_SCRIPT && size.status != RAP_NO_MEMORY;
         check(count == 0 || !takes_none, line, 0, "a growth where none is needed");

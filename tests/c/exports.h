@@ -5,6 +5,9 @@
  *     prefix EDITION ENTRY TEXT
  *     reparse EDITION NODE FIRST PARENT TEXT
  *     words EDITION ENTRY TEXT
+ *     nodes EDITION ENTRY TEXT
+ *     prefix_nodes EDITION ENTRY TEXT
+ *     reparse_nodes EDITION NODE FIRST PARENT TEXT
  *     script TEXT
  *     shebang TEXT
  *     blank TEXT
@@ -19,7 +22,9 @@
 #include <stdlib.h>
 #include <string.h>
 
-enum which { TREE, TOKENS, PREFIX, REPARSE, WORDS, SCRIPT, SHEBANG, BLANK, NO_CALL };
+enum which {
+    TREE, TOKENS, PREFIX, REPARSE, WORDS, NODES, PREFIX_NODES, REPARSE_NODES, SCRIPT, SHEBANG, BLANK, NO_CALL
+};
 
 /* A call without its arrays. */
 struct call {
@@ -29,22 +34,57 @@ struct call {
     size_t length;
 };
 
-/* The arrays of a call, and how much room they have: the first is of steps, of words or of parts, as the call has them. */
+/* The arrays of a call, and how much room they have: the first is of steps, of words, of elements or of parts, as the
+ * call has them; the second of messages, where the call has them apart; and the last of the messages' bytes. */
 struct room {
     void *steps;
     size_t step_room;
+    struct rap_message *notes;
+    size_t note_room;
     uint8_t *messages;
     size_t message_room;
 };
 
+/* What a call returns: its status, and how many there are of what the arrays hold. */
+struct numbers {
+    uint32_t status;
+    size_t steps;
+    size_t notes;
+    size_t message_bytes;
+    size_t used;
+};
+
+/* Whether the call returns a tree in one list. */
+static inline int has_list(const struct call *c)
+{
+    return c->which == NODES || c->which == PREFIX_NODES || c->which == REPARSE_NODES;
+}
+
 /* How many bytes one of the first array has. The last two calls have none. */
 static inline size_t size_of_step(const struct call *c)
 {
-    return c->which == WORDS ? sizeof(uint32_t) : c->which == SCRIPT ? sizeof(struct rap_part) : sizeof(struct rap_step);
+    if (has_list(c))
+        return sizeof(struct rap_element);
+    if (c->which == SCRIPT)
+        return sizeof(struct rap_part);
+    return c->which == WORDS ? sizeof(uint32_t) : sizeof(struct rap_step);
 }
 
-/* Makes a call on a text at another address. */
-static inline struct rap_answer answer_at(const struct call *c, const uint8_t *text, struct room r)
+/* Makes a call that returns a tree in one list on a text at another address. */
+static inline struct rap_nodes_answer list_at(const struct call *c, const uint8_t *text, struct room r)
+{
+    if (c->which == NODES)
+        return rap_nodes(text, c->length, c->edition, c->entry, r.steps, r.step_room, r.notes, r.note_room, r.messages,
+                         r.message_room);
+    if (c->which == PREFIX_NODES)
+        return rap_prefix_nodes(text, c->length, c->edition, c->entry, r.steps, r.step_room, r.notes, r.note_room,
+                                r.messages, r.message_room);
+    return rap_reparse_nodes(text, c->length, c->edition, c->node, c->first_child, c->parent, r.steps, r.step_room,
+                             r.notes, r.note_room, r.messages, r.message_room);
+}
+
+/* Makes another call on a text at another address. */
+static inline struct rap_answer steps_at(const struct call *c, const uint8_t *text, struct room r)
 {
     switch (c->which) {
     case TREE:
@@ -67,9 +107,23 @@ static inline struct rap_answer answer_at(const struct call *c, const uint8_t *t
     }
 }
 
-static inline int are_same(struct rap_answer a, struct rap_answer b)
+/* Makes a call on a text at another address. */
+static inline struct numbers answer_at(const struct call *c, const uint8_t *text, struct room r)
 {
-    return a.status == b.status && a.steps == b.steps && a.message_bytes == b.message_bytes && a.used == b.used;
+    if (has_list(c)) {
+        struct rap_nodes_answer list = list_at(c, text, r);
+        struct numbers of_list = {list.status, list.elements, list.messages, list.message_bytes, list.used};
+        return of_list;
+    }
+    struct rap_answer steps = steps_at(c, text, r);
+    struct numbers of_steps = {steps.status, steps.steps, 0, steps.message_bytes, steps.used};
+    return of_steps;
+}
+
+static inline int are_same(struct numbers a, struct numbers b)
+{
+    return a.status == b.status && a.steps == b.steps && a.notes == b.notes && a.message_bytes == b.message_bytes
+        && a.used == b.used;
 }
 
 /* The number of the kind of this name. */
@@ -111,7 +165,8 @@ static inline void read_text(struct call *c, const char *word)
 /* Reads a line's call. */
 static inline struct call read_call(char *line)
 {
-    static const char *const names[] = {"tree", "tokens", "prefix", "reparse", "words", "script", "shebang", "blank"};
+    static const char *const names[] = {"tree",  "tokens",       "prefix",        "reparse", "words",   "nodes",
+                                        "prefix_nodes", "reparse_nodes", "script",  "shebang", "blank"};
     struct call c = {0};
     const char *word = strtok(line, " \n");
     while (c.which < NO_CALL && strcmp(word, names[c.which]) != 0)
@@ -120,9 +175,9 @@ static inline struct call read_call(char *line)
         exit(2);
     if (c.which < SCRIPT)
         c.edition = (uint32_t)atoi(next_word());
-    if (c.which == TREE || c.which == PREFIX || c.which == WORDS)
+    if (c.which < SCRIPT && c.which != TOKENS && c.which != REPARSE && c.which != REPARSE_NODES)
         c.entry = (uint32_t)atoi(next_word());
-    if (c.which == REPARSE) {
+    if (c.which == REPARSE || c.which == REPARSE_NODES) {
         c.node = kind_named(next_word());
         c.first_child = kind_named(next_word());
         c.parent = kind_named(next_word());

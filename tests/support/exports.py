@@ -24,11 +24,14 @@ def calls_of_rows(found: Iterable[Row]) -> Iterator[str]:
         if head in TOPS:
             yield line_of(['tree', edition, str(TOPS.index(head))], text)
             yield line_of(['words', edition, str(TOPS.index(head))], text)
+            yield line_of(['nodes', edition, str(TOPS.index(head))], text)
             yield line_of(['tokens', edition], text)
         elif head == 'prefix':
             yield line_of(['prefix', edition, str(PREFIXES.index(rest[0]))], text)
+            yield line_of(['prefix_nodes', edition, str(PREFIXES.index(rest[0]))], text)
         elif head == 'reparse':
             yield line_of(['reparse', edition, *rest], text)
+            yield line_of(['reparse_nodes', edition, *rest], text)
 
 
 def kit() -> str:

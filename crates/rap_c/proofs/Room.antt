@@ -1,5 +1,5 @@
 -- How much room a call needs.
-use Rattle.std.proofs.Common.{◌≡◌, ◌≤◌, ℕ, ◌+◌, ◌*◌, ◌^◌, ◌-◌, List, ap, length, arith}
+use Rattle.std.proofs.Common.{◌≤◌, ℕ, ◌+◌, ◌*◌, ◌^◌, ◌-◌, List, ap, length, arith}
 use Rattle.std.proofs.Math.Nat.{min-le_left}
 use Rattle.std.proofs.lemmas.List.{length-map}
 use Rattle.rap_events.specs.Forest.{Forest, flat}

@@ -4,7 +4,7 @@ use borrow.Rule.Slice.PartMut.{put_mid}
 use Rattle.std.specs.Prelude.{slice_set}
 use Rattle.rap_c.specs.Filling.{overwritten, write_at}
 
-overwritten-nothing : {A : Type 0} (old : List A) → overwritten old [] ≡ old
+pub overwritten-nothing : {A : Type 0} (old : List A) → overwritten old [] ≡ old
 overwritten-nothing [] = refl
 overwritten-nothing (x ∷ xs) = refl
 
@@ -20,7 +20,7 @@ write_at-past [] (suc i) new h = refl
 write_at-past (x ∷ xs) zero new h = absurd (omega (arith, h))
 write_at-past (x ∷ xs) (suc i) new h = ap (λ l. x ∷ l) (write_at-past xs i new (omega (arith, h)))
 
-overwritten-length : {A : Type 0} (old new : List A) → length (overwritten old new) ≡ length old
+pub overwritten-length : {A : Type 0} (old new : List A) → length (overwritten old new) ≡ length old
 overwritten-length [] new = refl
 overwritten-length (x ∷ xs) [] = refl
 overwritten-length (x ∷ xs) (y ∷ ys) = ap suc (overwritten-length xs ys)
@@ -37,7 +37,7 @@ write_at-set [] (suc i) y ys = refl
 write_at-set (x ∷ xs) zero y ys = refl
 write_at-set (x ∷ xs) (suc i) y ys = ap (λ l. x ∷ l) (write_at-set xs i y ys)
 
-overwritten-twice : {A : Type 0} (old us vs : List A) → write_at (overwritten old us) (length us) vs ≡ overwritten old (us ++ vs)
+pub overwritten-twice : {A : Type 0} (old us vs : List A) → write_at (overwritten old us) (length us) vs ≡ overwritten old (us ++ vs)
 overwritten-twice [] [] vs = refl
 overwritten-twice [] (u ∷ us) vs = refl
 overwritten-twice (x ∷ xs) [] vs = refl

@@ -1,8 +1,14 @@
 pub mod Answer
+pub mod Element
 pub mod Filling
 pub mod Fills
+pub mod FrontNodes
 pub mod Given
 pub mod Item
+pub mod Lays
+pub mod Listed
+pub mod Nodes
+pub mod NodesAnswer
 pub mod Numbers
 pub mod Output
 pub mod Packing
@@ -20,5 +26,5 @@ pub mod Tokens
 pub mod Tree
 pub mod TreeWords
 pub mod Version
-pub mod Woven
 pub mod Words
+pub mod Woven

@@ -65,7 +65,7 @@ pub const LONG: u32 = 8191;
 pub const NO_KIND: u32 = 330;
 
 /// The version of the interface that is declared here, as `RAP_VERSION`.
-pub const VERSION: u32 = 1_000_000;
+pub const VERSION: u32 = 1_001_000;
 
 unsafe extern "C" {
     pub fn rap_tree(
