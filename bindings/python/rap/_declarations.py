@@ -1,0 +1,72 @@
+# Written by bindings/python/declarations from include/rap.h: an edit here is lost.
+"""What the library declares."""
+
+# The version of the interface: the first number must be that of the library, and the second not above.
+VERSION = (1, 1)
+
+DECLARATIONS = '''
+struct rap_step {
+    uint32_t what;
+    uint32_t kind;
+    size_t at;
+    size_t start;
+    size_t end;
+};
+struct rap_answer {
+    uint32_t status;
+    size_t steps;
+    size_t message_bytes;
+    size_t used;
+};
+struct rap_element {
+    uint32_t kind;
+    uint32_t start;
+    uint32_t end;
+    uint32_t after;
+    uint32_t parent;
+};
+struct rap_message {
+    size_t at;
+    size_t start;
+    size_t end;
+    size_t text_start;
+    size_t text_end;
+};
+struct rap_nodes_answer {
+    uint32_t status;
+    size_t elements;
+    size_t messages;
+    size_t message_bytes;
+    size_t used;
+};
+enum rap_what {
+    RAP_ENTER = 0,
+    RAP_EXIT = 1,
+    RAP_TOKEN = 2,
+    RAP_MESSAGE = 3,
+    RAP_SPLIT = 4
+};
+enum rap_status {
+    RAP_OK = 0,
+    RAP_NO_TREE = 1,
+    RAP_NO_EDITION = 2,
+    RAP_NO_ENTRY = 3,
+    RAP_NOT_UTF8 = 4,
+    RAP_TEXT_TOO_LONG = 5,
+    RAP_TOO_MANY_TOKENS = 6,
+    RAP_NO_MEMORY = 7,
+    RAP_NO_NODE = 8,
+    RAP_NO_BRACE = 9,
+    RAP_NO_RECORD = 10,
+    RAP_NO_STEPS = 11,
+    RAP_NO_SCRIPT = 12
+};
+struct rap_nodes_answer rap_nodes(const uint8_t *text, size_t text_length, uint32_t edition, uint32_t entry,
+                                  struct rap_element *elements, size_t element_room,
+                                  struct rap_message *messages, size_t message_room,
+                                  uint8_t *message_bytes, size_t byte_room);
+struct rap_answer rap_tokens(const uint8_t *text, size_t text_length, uint32_t edition,
+                             struct rap_step *steps, size_t step_room, uint8_t *messages, size_t message_room);
+size_t rap_status_text(uint32_t status, uint8_t *text, size_t text_room);
+uint32_t rap_version(void);
+'''

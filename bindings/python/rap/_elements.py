@@ -1,0 +1,102 @@
+"""What trees and lists of tokens have in common: elements of 20 bytes each in one array."""
+from __future__ import annotations
+
+from typing import Any, NamedTuple
+
+import numpy as np
+from numpy.typing import NDArray
+
+from rap._source import Source
+from rap.node import Element, Node, Token
+
+# What stands for the parent of an element that has none.
+NO_PARENT = 2**32 - 1
+
+ELEMENT = np.dtype([(name, '<u4') for name in ('kind', 'start', 'end', 'after', 'parent')])
+MESSAGE = np.dtype([(name, '<u8') for name in ('at', 'start', 'end', 'text_start', 'text_end')])
+
+Column = NDArray[np.uint32]
+
+
+class Columns(NamedTuple):
+    """The elements as columns, in preorder: views of the memory that the library has filled, which cannot be written
+    to."""
+
+    kind: Column
+    """the number of the kind"""
+    start: Column
+    """the first byte"""
+    end: Column
+    """the byte after the last"""
+    after: Column
+    """the index past all that is in it"""
+    parent: Column
+    """the index of the node that it is in; 4,294,967,295 where there is none"""
+
+
+class Error(NamedTuple):
+    """A message about a text."""
+
+    message: str
+    """its own text"""
+    range: tuple[int, int]
+    """the range of the token there, in bytes; it is empty at the end of the text"""
+    position: int
+    """the byte at which it is"""
+
+
+class Messages(NamedTuple):
+    """Messages as the library has written them."""
+
+    rows: NDArray[Any]
+    """for each its position, the range of the token there, and the range of its own text"""
+    texts: bytes
+    """their texts"""
+
+
+class Elements:
+    """Elements over a text."""
+
+    __slots__ = ('source', 'words', '_array', '_messages', '_errors')
+
+    def __init__(self, source: Source, array: NDArray[Any], messages: Messages) -> None:
+        self.source = source
+        # As numbers, which are copied faster than structures are.
+        self._array: Column = array.view(np.uint32)
+        self._array.flags.writeable = False
+        self.words = self._array.data
+        self._messages = messages
+        self._errors: list[Error] | None = None
+
+    @property
+    def text(self) -> str:
+        """The text, as characters."""
+        return self.source.text
+
+    @property
+    def errors(self) -> list[Error]:
+        """The messages, in the order of their positions."""
+        if self._errors is None:
+            rows, texts = self._messages
+            self._errors = [Error(texts[first:last].decode(), (start, end), at)
+                            for at, start, end, first, last in rows.tolist()]
+        return self._errors
+
+    @property
+    def error_count(self) -> int:
+        """How many messages there are."""
+        return len(self._messages.rows)
+
+    def columns(self) -> Columns:
+        """The elements as NumPy arrays, without a copy."""
+        return Columns(*(self._array[field::5] for field in range(5)))
+
+    def element(self, index: int) -> Element:
+        """The node or token with this index. What has nothing in it is a token, or an empty node."""
+        _, start, end, after, _ = self.words[5 * index:5 * index + 5]
+        return Token(self, index) if after == index + 1 and start < end else Node(self, index)
+
+    def parent_of(self, index: int) -> int | None:
+        """The index of the node that an element is in."""
+        found = self.words[5 * index + 4]
+        return None if found == NO_PARENT else found

@@ -1,0 +1,209 @@
+"""Trees and tokens of texts."""
+from __future__ import annotations
+
+import re
+from collections.abc import Iterator, Sequence
+from typing import Any, overload
+
+import numpy as np
+from numpy.typing import NDArray
+
+from rap import _stack
+from rap._elements import ELEMENT, MESSAGE, NO_PARENT, Elements, Error, Messages
+from rap._html import page
+from rap._library import ffi, lib, status_text
+from rap._source import Source
+from rap.node import Element, Node, Token
+from rap.words import Edition, Entry
+
+STEP = np.dtype([('what', '<u4'), ('kind', '<u4'), ('at', '<u8'), ('start', '<u8'), ('end', '<u8')])
+
+# How a character is written in quotes that does not stand for itself.
+ESCAPES = {'"': '\\"', '\\': '\\\\', '\n': '\\n', '\r': '\\r', '\t': '\\t', '\0': '\\0'}
+
+
+def _quoted(text: str) -> str:
+    """A text in quotes."""
+    written = re.sub(r'["\\\x00-\x1f\x7f]', lambda it: ESCAPES.get(it[0]) or f'\\u{{{ord(it[0]):x}}}', text)
+    return f'"{written}"'
+
+
+def _room(dtype: np.dtype[Any], count: int) -> NDArray[Any]:
+    """An array with room for so many, and for one at least. Only what is written to takes memory."""
+    return np.empty(max(count, 1), dtype)
+
+
+def _check(status: int, source: Source) -> None:
+    """Raises what a status that is not RAP_OK stands for."""
+    if status == lib.RAP_NO_MEMORY:
+        raise MemoryError(status_text(status))
+    if status == lib.RAP_NOT_UTF8:
+        source.data.decode()
+    if status != lib.RAP_OK:
+        raise ValueError(status_text(status))
+
+
+class Tree(Elements):
+    """The syntax tree of a text: it holds every byte of it, and the messages about it."""
+
+    __slots__ = ('edition', 'entry')
+
+    def __init__(self, source: Source, array: NDArray[Any], messages: Messages, edition: Edition,
+                 entry: Entry) -> None:
+        super().__init__(source, array, messages)
+        self.edition, self.entry = edition, entry
+
+    def __repr__(self) -> str:
+        return f'<Tree {self.root!r}, {self.error_count} errors>'
+
+    def _repr_html_(self) -> str:
+        return page(self)
+
+    @property
+    def root(self) -> Node:
+        """The node that holds all others."""
+        return Node(self, 0)
+
+    def leaf_at(self, offset: int) -> Token | None:
+        """The token that holds a byte of the text. `None` at the end of the text and outside of it."""
+        return self.root.leaf_at(offset)
+
+    def covering(self, start: int, end: int) -> Element:
+        """The smallest node or token that holds these bytes, as [`Element.covering`]."""
+        return self.root.covering(start, end)
+
+    def dump(self, ranges: bool = False) -> str:
+        """The tree as the program `rast` prints it: a line for each node and token, and one for each message, first the
+        parser's and then the lexer's. With `ranges` each kind is followed by its range in bytes."""
+        return ''.join(self._lines(ranges)) + ''.join(f'error {it.position}: {it.message}\n' for it in self._in_turn())
+
+    def _lines(self, ranges: bool) -> Iterator[str]:
+        """The lines of nodes and tokens."""
+        open_nodes: list[int] = []
+        for index in range(len(self._array) // 5):
+            while open_nodes and open_nodes[-1] <= index:
+                open_nodes.pop()
+            found = self.element(index)
+            start, end = found.range
+            place = f'@{start}..{end}' if ranges else ''
+            text = f' {_quoted(found.text)}' if isinstance(found, Token) else ''
+            yield f'{"  " * len(open_nodes)}{found.kind.name}{place}{text}\n'
+            open_nodes.append(self.words[5 * index + 3])
+
+    def _in_turn(self) -> list[Error]:
+        """The parser's messages and after them the lexer's."""
+        if not self.errors:
+            return []
+        lexer = tokens(self.source.data, self.edition).errors
+        parser = list(self.errors)
+        for error in lexer:
+            parser.remove(error)
+        return parser + lexer
+
+
+class Tokens(Elements, Sequence[Token]):
+    """The tokens of a text, white space and comments included, and the messages about them. None has a parent."""
+
+    __slots__ = ('edition',)
+
+    def __init__(self, source: Source, array: NDArray[Any], messages: Messages, edition: Edition) -> None:
+        super().__init__(source, array, messages)
+        self.edition = edition
+
+    def __repr__(self) -> str:
+        return f'<Tokens {len(self)}, {self.error_count} errors>'
+
+    def __len__(self) -> int:
+        return len(self._array) // 5
+
+    @overload
+    def __getitem__(self, index: int) -> Token: ...
+
+    @overload
+    def __getitem__(self, index: slice) -> list[Token]: ...
+
+    def __getitem__(self, index: int | slice) -> Token | list[Token]:
+        found = range(len(self))[index]
+        return Token(self, found) if isinstance(found, int) else [Token(self, it) for it in found]
+
+
+def _tree_of(source: Source, edition: Edition, entry: Entry, rooms: tuple[int, int, int]
+             ) -> tuple[Any, NDArray[Any], NDArray[Any], NDArray[Any]]:
+    """Calls the library with these rooms for elements, messages and bytes of messages."""
+    arrays = _room(ELEMENT, rooms[0]), _room(MESSAGE, rooms[1]), _room(np.dtype(np.uint8), rooms[2])
+    text = ffi.from_buffer('uint8_t[]', source.data or b'\0')
+    elements = ffi.from_buffer('struct rap_element[]', arrays[0], require_writable=True)
+    messages = ffi.from_buffer('struct rap_message[]', arrays[1], require_writable=True)
+    texts = ffi.from_buffer('uint8_t[]', arrays[2], require_writable=True)
+    length, year, number = len(source.data), int(edition), entry.number
+    answer = _stack.run(length, lambda: lib.rap_nodes(text, length, year, number, elements, rooms[0], messages,
+                                                      rooms[1], texts, rooms[2]))
+    _check(answer.status, source)
+    return answer, *arrays
+
+
+def parse(text: str | bytes, edition: str = '2024', entry: str = 'SourceFile') -> Tree:
+    """The tree of a text, right or wrong.
+
+    `edition`: an [`Edition`] or its value. `entry`: an [`Entry`] or its value.
+
+    ValueError: the edition or the entry is none, the bytes are not UTF-8 (then it is a UnicodeDecodeError, which says
+    where), the text has more than 4,294,967,295 bytes, or more than 8,388,607 tokens that are neither white space nor
+    comments. MemoryError: there is no memory, or no stack for a text of this length.
+
+    No text ends the process, however deeply it nests. Other threads run while the library does."""
+    source, edition, entry = Source(text), Edition(edition), Entry(entry)
+    length = len(source.data)
+    try:
+        # A text of programs has half as many elements as bytes.
+        rooms = length + 256, length // 16 + 64, length + 4096
+        answer, elements, messages, texts = _tree_of(source, edition, entry, rooms)
+    except MemoryError:
+        rooms = 0, 0, 0
+        answer, elements, messages, texts = _tree_of(source, edition, entry, rooms)
+    wanted = answer.elements, answer.messages, answer.message_bytes
+    if any(it > room for it, room in zip(wanted, rooms)):
+        answer, elements, messages, texts = _tree_of(source, edition, entry, wanted)
+    # Where much room is left the elements are copied. Else it stays behind them: it was not written to, and memory that
+    # is given back as it was taken is there for the next call without a fault.
+    filled = elements[:answer.elements].view(np.uint32)
+    if 4 * answer.elements < len(elements):
+        filled = filled.copy()
+    reported = Messages(messages[:answer.messages].copy(), texts[:answer.message_bytes].tobytes())
+    return Tree(source, filled, reported, edition, entry)
+
+
+def tokens(text: str | bytes, edition: str = '2024') -> Tokens:
+    """The tokens of a text, white space and comments included. Nothing is parsed, and the messages are the lexer's.
+
+    The errors are those of [`parse`], but for the number of tokens and the stack."""
+    source, edition = Source(text), Edition(edition)
+    length = len(source.data)
+    data = ffi.from_buffer('uint8_t[]', source.data or b'\0')
+    rooms = length // 2 + 64, length // 16 + 64
+    while True:
+        arrays = _room(STEP, rooms[0]), _room(np.dtype(np.uint8), rooms[1])
+        steps = ffi.from_buffer('struct rap_step[]', arrays[0], require_writable=True)
+        texts = ffi.from_buffer('uint8_t[]', arrays[1], require_writable=True)
+        answer = lib.rap_tokens(data, length, int(edition), steps, rooms[0], texts, rooms[1])
+        _check(answer.status, source)
+        if answer.steps <= rooms[0] and answer.message_bytes <= rooms[1]:
+            return _tokens_of(source, edition, arrays[0][:answer.steps],
+                              arrays[1][:answer.message_bytes].tobytes())
+        rooms = answer.steps, answer.message_bytes
+
+
+def _tokens_of(source: Source, edition: Edition, steps: NDArray[Any], texts: bytes) -> Tokens:
+    """The tokens and the messages among the steps that the library has written."""
+    is_token = steps['what'] == lib.RAP_TOKEN
+    written, reported = steps[is_token], steps[~is_token]
+    array = np.empty(len(written), ELEMENT)
+    for name in ('kind', 'start', 'end'):
+        array[name] = written[name]
+    array['after'] = np.arange(1, len(written) + 1)
+    array['parent'] = NO_PARENT
+    rows = np.empty(len(reported), MESSAGE)
+    rows['at'], rows['text_start'], rows['text_end'] = (reported[it] for it in ('at', 'start', 'end'))
+    at = np.searchsorted(written['start'], reported['at'], 'right') - 1
+    rows['start'], rows['end'] = written['start'][at], written['end'][at]
+    return Tokens(source, array, Messages(rows, texts), edition)
