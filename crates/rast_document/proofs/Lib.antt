@@ -1,0 +1,5 @@
+pub mod CharacterLemmas
+pub mod ChangeLemmas
+pub mod LineLemmas
+pub mod PlaceLemmas
+pub mod UnitLemmas

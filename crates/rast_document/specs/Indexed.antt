@@ -1,0 +1,43 @@
+-- What calls promise one another of lines and of units counted ahead.
+-- (Used in contracts between internal functions and in what a document keeps true; no public contract rests on it.)
+use Rattle.std.specs.Prelude.{◌≡◌, ℕ, ◌+◌, ◌-◌, ◌*◌, ◌/◌, ◌<◌, ◌≤◌, true, false, List, length, take, slice_index}
+use Rattle.rast_document.specs.declared.encoding.Encoding.{Encoding}
+use Rattle.rast_document.specs.Lines.{ends_line, line_start, line_starts}
+use Rattle.rast_document.specs.Units.{units}
+
+-- the offset is on the line with this number
+pub record IsOnLine (s : List ℕ) (offset line : ℕ) : Type 0 where
+  pub within : offset ≤ length s
+  pub some : line < length (line_starts s)
+  pub from : line_start s line ≤ offset
+  pub next : line + 1 < length (line_starts s) → offset < line_start s (line + 1)
+
+-- a line begins at start, and the line after it at next
+pub record IsNextStart (s : List ℕ) (start next : ℕ) : Type 0 where
+  pub rising : start < next
+  pub within : next ≤ length s
+  pub ended : ends_line s (next - 1) ≡ true
+  pub whole : (i : ℕ) → start ≤ i → i + 1 < next → ends_line s i ≡ false
+
+-- the last line begins at start
+pub record IsLastStart (s : List ℕ) (start : ℕ) : Type 0 where
+  pub within : start ≤ length s
+  pub whole : (i : ℕ) → start ≤ i → i < length s → ends_line s i ≡ false
+
+-- a `\r\n` that begins at start or after it has its last byte here
+pub record IsPair (s : List ℕ) (start last : ℕ) : Type 0 where
+  pub later : start < last
+  pub feed : slice_index s last ≡ 10
+  pub return : slice_index s (last - 1) ≡ 13
+
+-- the units of the text before each 64th byte, up to the offset given
+pub record AreMarks (e : Encoding) (s : List ℕ) (offset : ℕ) (marks : List ℕ) : Type 0 where
+  pub count : length marks ≡ offset / 64 + 1
+  pub each : (k : ℕ) → k * 64 ≤ offset → slice_index marks k ≡ units e (take (k * 64) s)
+
+-- the last offset from start to end up to which at most count units stand, counted from start
+pub record IsReached (e : Encoding) (s : List ℕ) (start end count offset : ℕ) : Type 0 where
+  pub from : start ≤ offset
+  pub to : offset ≤ end
+  pub few : units e (take offset s) ≤ units e (take start s) + count
+  pub next : offset < end → units e (take start s) + count < units e (take (offset + 1) s)

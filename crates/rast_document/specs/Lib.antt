@@ -1,0 +1,5 @@
+pub mod Changes
+pub mod Indexed
+pub mod Lines
+pub mod Places
+pub mod Units

@@ -1,0 +1,149 @@
+//! A text with its lines, and the positions in it.
+ghost use Rattle.std.specs.Prelude.{◌≡◌, ℕ, ◌<◌, ◌≤◌, IfNone, IfOk, IfSome, IsCharBoundary, length, string_bytes, take};
+ghost use Rattle.rast_document.specs.Indexed.{AreMarks, IsOnLine, IsReached};
+ghost use Rattle.rast_document.specs.Lines.{line_end, line_start, line_starts};
+ghost use Rattle.rast_document.specs.Places.{IsAt, IsInLineEnd, position, within_line};
+ghost use Rattle.rast_document.specs.Units.{units};
+
+use crate::encoding::Encoding;
+use crate::lines::{end_before, end_of_last, line_of, line_starts};
+use crate::marks::{marks_of, units_to};
+use crate::position::Position;
+use std::alloc::{AllocError, Global};
+
+/// A text with what leads from its offsets to positions and back, in the units of one encoding. An offset is a number of
+/// bytes of the text. Lines end with `\n`, `\r\n` or `\r`.
+#[derive(Drop)]
+pub struct Document {
+    encoding: Encoding,
+    text: String,
+    starts: Vec<usize>,
+    marks: Vec<usize>,
+    ghost lines: { starts.items ≡ line_starts (string_bytes text) },
+    ghost counted: { AreMarks encoding (string_bytes text) (length (string_bytes text)) marks.items },
+}
+
+impl Document {
+    /// The document of a text. The error means out of memory.
+    pub fn new(alloc: Global, encoding: Encoding, text: String) -> Result<Document, AllocError>
+        ensures encoding { IfOk result (λ document. document.encoding ≡ encoding) }
+        ensures text { IfOk result (λ document. string_bytes document.text ≡ string_bytes text) }
+    {
+        let starts = line_starts(alloc, text.as_bytes())?;
+        let marks = marks_of(alloc, encoding, text.as_bytes())?;
+        Ok(Document {
+            encoding,
+            text,
+            starts,
+            marks,
+        })
+    }
+
+    /// The text.
+    pub fn text(&self) -> &str
+        ensures { result.now ≡ string_bytes self.now.text }
+    {
+        self.text.as_str()
+    }
+
+    /// The encoding in whose units positions are counted.
+    pub fn encoding(&self) -> Encoding
+        ensures { result ≡ self.now.encoding }
+    {
+        self.encoding
+    }
+
+    /// The position of an offset, which is in the text or at its end. It means that offset, if the offset is on a
+    /// character boundary; one between the `\r` and the `\n` of a line end has the position of the line's end.
+    pub fn position(&self, offset: usize) -> Position
+        requires { offset ≤ length (string_bytes self.now.text) }
+        ensures value { result ≡ position self.now.encoding (string_bytes self.now.text) offset }
+        ensures means { IsCharBoundary (string_bytes self.now.text) offset → ¬ IsInLineEnd (string_bytes self.now.text) offset
+            → IsAt self.now.encoding (string_bytes self.now.text) result offset }
+    {
+        let line = self.line_of(offset);
+        let end = self.line_end(line);
+        let before = self.units_to(self.starts[line]);
+        let character = self.units_to(offset.min(end)) - before;
+        Position { line, character }
+    }
+
+    /// The offset that a position means: past the end of its line the line's end. `None` exactly if no offset is meant:
+    /// the line is past the last, or the position is inside a character.
+    pub fn offset(&self, place: Position) -> Option<usize>
+        ensures found { IfSome result (λ offset. IsAt self.now.encoding (string_bytes self.now.text) place offset) }
+        ensures only { IfSome result (λ offset. (other : ℕ) → IsAt self.now.encoding (string_bytes self.now.text) place other → other ≡ offset) }
+        ensures back { IfSome result (λ offset. position self.now.encoding (string_bytes self.now.text) offset
+            ≡ within_line self.now.encoding (string_bytes self.now.text) place) }
+        ensures none { IfNone result ((offset : ℕ) → ¬ IsAt self.now.encoding (string_bytes self.now.text) place offset) }
+    {
+        if place.line >= self.starts.len() {
+            return None;
+        }
+        let start = self.starts[place.line];
+        let end = self.line_end(place.line);
+        let offset = self.reached(start, end, place.character);
+        if offset < end && self.units_to(offset) - self.units_to(start) < place.character {
+            return None;
+        }
+        if self.text.as_str().is_char_boundary(offset) {
+            Some(offset)
+        } else {
+            None
+        }
+    }
+
+    // The units of the text before an offset.
+    fn units_to(&self, offset: usize) -> usize
+        requires { offset ≤ length (string_bytes self.now.text) }
+        ensures { result ≡ units self.now.encoding (take offset (string_bytes self.now.text)) }
+    {
+        units_to(
+            self.encoding,
+            self.text.as_bytes(),
+            self.marks.as_slice(),
+            offset,
+        )
+    }
+
+    // The line that an offset is on.
+    fn line_of(&self, offset: usize) -> usize
+        requires { offset ≤ length (string_bytes self.now.text) }
+        ensures { IsOnLine (string_bytes self.now.text) offset result }
+    {
+        line_of(self.starts.as_slice(), offset)
+    }
+
+    // Where a line ends.
+    fn line_end(&self, line: usize) -> usize
+        requires { line < length (line_starts (string_bytes self.now.text)) }
+        ensures { result ≡ line_end (string_bytes self.now.text) (line_start (string_bytes self.now.text) line) }
+    {
+        let start = self.starts[line];
+        if line + 1 < self.starts.len() {
+            end_before(self.text.as_bytes(), start, self.starts[line + 1])
+        } else {
+            end_of_last(self.text.as_bytes(), start)
+        }
+    }
+
+    // The last offset from `start` to `end` up to which at most so many units stand, counted from `start`: by bisection.
+    fn reached(&self, start: usize, end: usize, count: usize) -> usize
+        requires rising { start ≤ end }
+        requires within { end ≤ length (string_bytes self.now.text) }
+        ensures { IsReached self.now.encoding (string_bytes self.now.text) start end count result }
+    {
+        let before = self.units_to(start);
+        let mut low = start;
+        let mut high = end;
+        'halves: while low < high {
+            let middle = high - (high - low) / 2;
+            if self.units_to(middle) - before <= count {
+                low = middle;
+            } else {
+                high = middle - 1;
+            }
+        }
+        low
+    }
+}

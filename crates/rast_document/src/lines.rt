@@ -1,0 +1,79 @@
+//! The lines of a text.
+ghost use Rattle.std.specs.Prelude.{◌≡◌, ◌+◌, ◌<◌, ◌≤◌, ◌↔◌, IfOk, IsTrue, length, slice_index};
+ghost use Rattle.rast_document.specs.Lines.{ends_line, line_end, line_starts};
+ghost use Rattle.rast_document.specs.Indexed.{IsLastStart, IsNextStart, IsPair};
+
+use std::alloc::{AllocError, Global};
+
+/// Whether a line end is complete with the byte at this index.
+fn ends_line(text: &[u8], index: usize) -> bool
+    requires { index < length text.now }
+    ensures { result ≡ ends_line text.now index }
+{
+    match text[index] {
+        b'\n' => true,
+        b'\r' => index + 1 == text.len() || text[index + 1] != b'\n',
+        _ => false,
+    }
+}
+
+/// The offsets at which the lines of a text begin. The error means out of memory.
+pub(crate) fn line_starts(alloc: Global, text: &[u8]) -> Result<Vec<usize>, AllocError>
+    ensures { IfOk result (λ starts. starts.items ≡ line_starts text.now) }
+{
+    let mut starts = Vec::new(alloc);
+    starts.push(0)?;
+    for index in 0..text.len() {
+        if ends_line(text, index) {
+            starts.push(index + 1)?;
+        }
+    }
+    Ok(starts)
+}
+
+/// Whether the line end whose last byte is at `last` is a `\r\n` that begins at `start` or after it.
+fn is_pair(text: &[u8], start: usize, last: usize) -> bool
+    requires { last < length text.now }
+    ensures { IsTrue result ↔ IsPair text.now start last }
+{
+    last > start && text[last] == b'\n' && text[last - 1] == b'\r'
+}
+
+/// Where a line that is not the last ends, before its line end: it begins at `start`, and the next line at `next`.
+pub(crate) fn end_before(text: &[u8], start: usize, next: usize) -> usize
+    requires { IsNextStart text.now start next }
+    ensures { result ≡ line_end text.now start }
+{
+    let last = next - 1;
+    let pair = is_pair(text, start, last);
+    if pair { last - 1 } else { last }
+}
+
+/// Where the last line ends, which begins at `start`: at the end of the text.
+pub(crate) fn end_of_last(text: &[u8], start: usize) -> usize
+    requires { IsLastStart text.now start }
+    ensures { result ≡ line_end text.now start }
+{
+    text.len()
+}
+
+/// The line that an offset is on, if `starts` are where the lines begin: by bisection.
+pub(crate) fn line_of(starts: &[usize], offset: usize) -> usize
+    requires some { 0 < length starts.now }
+    requires first { slice_index starts.now 0 ≤ offset }
+    ensures bound { result < length starts.now }
+    ensures begins { slice_index starts.now result ≤ offset }
+    ensures next { result + 1 < length starts.now → offset < slice_index starts.now (result + 1) }
+{
+    let mut low = 0;
+    let mut high = starts.len();
+    'halves: while high - low > 1 {
+        let middle = low + (high - low) / 2;
+        if starts[middle] <= offset {
+            low = middle;
+        } else {
+            high = middle;
+        }
+    }
+    low
+}

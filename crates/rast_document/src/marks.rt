@@ -1,0 +1,46 @@
+//! Units of a text counted ahead, so that a count to any offset looks at few bytes.
+ghost use Rattle.std.specs.Prelude.{◌≡◌, ◌<◌, ◌≤◌, ◌^◌, IfOk, length, take};
+ghost use Rattle.rast_document.specs.Indexed.{AreMarks};
+ghost use Rattle.rast_document.specs.Units.{units};
+
+use crate::encoding::Encoding;
+use std::alloc::{AllocError, Global};
+
+// How many bytes are between two marks.
+const STEP: usize = 64;
+
+/// The units of a text before each 64th byte. The error means out of memory.
+pub(crate) fn marks_of(
+    alloc: Global,
+    encoding: Encoding,
+    text: &[u8],
+) -> Result<Vec<usize>, AllocError>
+    requires { length text.now < 2 ^ 63 }
+    ensures { IfOk result (λ marks. AreMarks encoding text.now (length text.now) marks.items) }
+{
+    let mut marks = Vec::new(alloc);
+    marks.push(0)?;
+    let mut total = 0;
+    for index in 0..text.len() {
+        total += encoding.units_of_byte(text[index]);
+        if (index + 1) % STEP == 0 {
+            marks.push(total)?;
+        }
+    }
+    Ok(marks)
+}
+
+/// The units of a text before an offset, which is in it or at its end.
+pub(crate) fn units_to(encoding: Encoding, text: &[u8], marks: &[usize], offset: usize) -> usize
+    requires marks { AreMarks encoding text.now (length text.now) marks.now }
+    requires offset { offset ≤ length text.now }
+    requires room { length text.now < 2 ^ 63 }
+    ensures { result ≡ units encoding (take offset text.now) }
+{
+    let mark = offset / STEP;
+    let mut total = marks[mark];
+    for index in mark * STEP..offset {
+        total += encoding.units_of_byte(text[index]);
+    }
+    total
+}
