@@ -40,7 +40,7 @@ get_split xs ys j x h = elim (cases_lt j (length xs)) [
 ]
 
 -- an element of a list with a first
-first_or : (y x : RangedElement) (ys : List RangedElement) (j : ℕ) → slice_get (y ∷ ys) j ≡ Some x → ((j ≡ 0) × (y ≡ x)) ⊎ ((i : ℕ) × ((j ≡ i + 1) × (slice_get ys i ≡ Some x)))
+pub first_or : (y x : RangedElement) (ys : List RangedElement) (j : ℕ) → slice_get (y ∷ ys) j ≡ Some x → ((j ≡ 0) × (y ≡ x)) ⊎ ((i : ℕ) × ((j ≡ i + 1) × (slice_get ys i ≡ Some x)))
 first_or y x ys zero h = let same : y ≡ x = cc in inl (refl, same)
 first_or y x ys (suc j) h = inr (j, (omega arith, h))
 

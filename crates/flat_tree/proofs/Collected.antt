@@ -1,13 +1,17 @@
 -- What a collector holds along the steps of a tree.
-use Rattle.std.proofs.Common.{◌≡◌, ℕ, List, [], ◌∷◌, ◌++◌, ap, subst, sym, ◌∙◌, Bool, append_assoc, append-nil, length, map}
+use Rattle.std.proofs.Common.{◌≡◌, ℕ, List, [], ◌∷◌, ◌++◌, refl, ap, subst, sym, ◌∙◌, Bool, append_assoc, append-nil, length, map}
 use Rattle.rap_base.specs.declared.edition.Edition.{Edition}
-use Rattle.rap_lexed.specs.LexedStr.{Lexed}
+use Rattle.std.specs.List.Sorted.{IsNonDecreasingBy}
+use Rattle.rap_lexed.specs.ErrorSteps.{error_steps}
+use Rattle.rap_lexed.specs.LexedStr.{Lexed, Message, Token, start_of}
 use Rattle.rap_lexed.specs.StrForest.{str_flat}
 use Rattle.rap_lexed.specs.StrSink.{Takes}
 use Rattle.rap_lexed.specs.StrStep.{StrStepValue}
 use Rattle.rap_lexed.specs.Trivia.{with_trivia}
 use Rattle.ra_ap_parser.specs.Headline.{Headline}
 use Rattle.ra_ap_parser.specs.declared.entry_point.TopEntryPoint.{TopEntryPoint}
+use Rattle.rap_ranged.proofs.MessageOrder.{merged_in_order}
+use Rattle.rap_ranged.specs.MergedMessages.{merged}
 use Rattle.rap_ranged.specs.Ranged.{Ranged}
 use Rattle.rap_ranged.specs.RangedForest.{RangedNode}
 use Rattle.rap_ranged.specs.RangedMessages.{RangedMessage, ranged_message}
@@ -20,7 +24,7 @@ use Rattle.flat_tree.specs.TextTree.{IsFlatText}
 use Rattle.flat_tree.specs.declared.collector.Collector.{Collector}
 use Rattle.flat_tree.specs.declared.element.Element.{Element}
 use Rattle.flat_tree.proofs.Runs.{held}
-use Rattle.flat_tree.proofs.Trees.{over_of}
+use Rattle.flat_tree.proofs.Trees.{IsOrdered, flat_of, ordered, over_of}
 
 builds_along : (steps : List StrStepValue) (s t : Collector) → Takes Collects s steps t → Takes Builds s.builder steps t.builder
 builds_along [] s t h = ap (λ (c : Collector). c.builder) h
@@ -33,16 +37,32 @@ reports_along (x ∷ xs) s t h =
     ∙ (ap (λ l. l ++ reports_of xs) h.1.reports
     ∙ append_assoc s.reports.items (reports_of_step x) (reports_of xs))
 
+-- the lexer's messages come as steps too
+errors_are : (ts : List Token) (ms : List Message) → reports_of (error_steps ts ms) ≡ lexer_reports ts ms
+errors_are ts [] = refl
+errors_are ts (m ∷ ms) = ap (λ l. record { text = m.text; at = start_of ts m.token } ∷ l) (errors_are ts ms)
+
+pub errors_along : (ts : List Token) (ms : List Message) (s t : Collector) → s.reports.items ≡ [] → Takes Collects s (error_steps ts ms) t → t.reports.items ≡ lexer_reports ts ms
+errors_along ts ms s t none h = reports_along (error_steps ts ms) s t h ∙ (ap (λ l. l ++ reports_of (error_steps ts ms)) none ∙ errors_are ts ms)
+
 -- with the lexer's messages it is the tree of the text
-pub text_tree : (text : List ℕ) (edition : Edition) (entry : TopEntryPoint) (lexed : Lexed) (all : Bool) (s t : Collector) (es : List Element) (reports : List ReportValue) (messages : List RangedMessage)
+pub text_tree : (text : List ℕ) (edition : Edition) (entry : TopEntryPoint) (lexed : Lexed) (all : Bool) (s t : Collector) (es : List Element) (of_lexer : List ReportValue) (messages : List RangedMessage)
     → building s.builder ≡ held [] no_parent 0 → s.reports.items ≡ [] → (h : Headline Collects text edition entry lexed all s t)
-    → es ≡ (building t.builder).elements → reports ≡ t.reports.items ++ lexer_reports lexed.tokens lexed.errors
-    → ((root : RangedNode) → Ranged (with_trivia lexed.tokens h.forest) root → es ≡ elements_of_tree root → messages ≡ map (ranged_message root.children) reports)
+    → es ≡ (building t.builder).elements → of_lexer ≡ lexer_reports lexed.tokens lexed.errors
+    → ((root : RangedNode) → Ranged (with_trivia lexed.tokens h.forest) root → es ≡ elements_of_tree root
+    → messages ≡ merged (map (ranged_message root.children) t.reports.items) (map (ranged_message root.children) of_lexer))
     → IsFlatText text edition entry es messages
-text_tree text edition entry lexed all s t es reports messages e none h is more placed =
+text_tree text edition entry lexed all s t es of_lexer messages e none h is more placed =
     let f = with_trivia lexed.tokens h.forest in
     let taken = builds_along (str_flat f) s t h.taken in
-    let over : IsOver text f es = over_of f s.builder t.builder text es h.parsed.str_one e taken is h.whole in
+    let over : IsOver text text f es = over_of f s.builder t.builder text es h.parsed.str_one e taken is h.whole in
+    let place : ReportValue → RangedMessage = ranged_message over.root.children in
+    let first : t.reports.items ≡ reports_of (str_flat f) = reports_along (str_flat f) s t h.taken ∙ ap (λ l. l ++ reports_of (str_flat f)) none in
+    let all_of : messages ≡ merged (map place (reports_of (str_flat f))) (map place (lexer_reports lexed.tokens lexed.errors)) =
+    placed over.root over.ranged over.elements
+    ∙ (ap (λ l. merged (map place l) (map place of_lexer)) first
+    ∙ ap (λ l. merged (map place (reports_of (str_flat f))) (map place l)) more) in
+    let P : List RangedMessage → Type 0 = λ l. IsNonDecreasingBy (λ (m : RangedMessage). m.at) l in
     record {
       lexed = lexed;
       forest = h.forest;
@@ -53,8 +73,13 @@ text_tree text edition entry lexed all s t es reports messages e none h is more 
       start = over.start;
       end = over.end;
       places = over.places;
-      reports =
-          placed over.root over.ranged over.elements
-          ∙ ap (map (ranged_message over.root.children))
-          (more ∙ ap (λ l. l ++ lexer_reports lexed.tokens lexed.errors) (reports_along (str_flat f) s t h.taken ∙ ap (λ l. l ++ reports_of (str_flat f)) none));
+      reports = all_of;
+      in_order = subst P (sym all_of) (merged_in_order over.root.children lexed.tokens h.forest (length lexed.tokens) lexed.errors h.parsed.lexing.ordered);
     }
+
+-- and its elements are in order
+pub text_order : (text : List ℕ) (edition : Edition) (entry : TopEntryPoint) (lexed : Lexed) (all : Bool) (s t : Collector) (es : List Element)
+    → building s.builder ≡ held [] no_parent 0 → Headline Collects text edition entry lexed all s t → es ≡ (building t.builder).elements → IsOrdered es
+text_order text edition entry lexed all s t es e h is =
+    let f = with_trivia lexed.tokens h.forest in
+    ordered f es (flat_of f s.builder t.builder es h.parsed.str_one e (builds_along (str_flat f) s t h.taken) is)

@@ -20,7 +20,7 @@ pub record Found (root : RangedNode) (es : List Element) (i : ℕ) (e : Element)
   pub is : e ≡ row i stands.up value
 
 -- an element at an index, or none
-pub some_or_none : (es : List RangedElement) (i : ℕ) → i < length es → (x : RangedElement) × (slice_get es i ≡ Some x)
+pub some_or_none : {A : Type 0} (es : List A) (i : ℕ) → i < length es → (x : A) × (slice_get es i ≡ Some x)
 some_or_none [] i h = absurd (omega (arith, h))
 some_or_none (x ∷ xs) zero h = (x, refl)
 some_or_none (x ∷ xs) (suc i) h = some_or_none xs i (omega (arith, h))
@@ -97,7 +97,7 @@ first_is root es i e is h high =
     ∙ tops_first (inside (Some f.value)) (i + 1) (omega (arith, high, reaches root es i e f))
 
 -- the parent
-only_one : (us vs : List ℕ) (i j : ℕ) → j ∷ [] ≡ us ++ i ∷ vs → i ≡ j
+pub only_one : (us vs : List ℕ) (i j : ℕ) → j ∷ [] ≡ us ++ i ∷ vs → i ≡ j
 only_one [] vs i j h = cc
 only_one (u ∷ us) vs i j h = absurd (omega (arith, ap length h, length-append us (i ∷ vs)))
 
@@ -154,7 +154,7 @@ last_one : (root : RangedNode) (es : List Element) (p i a b : ℕ) (before other
 last_one root es p i a b before [] h l high = record { parent = p; before = before; among = h }
 last_one root es p i a b before (j ∷ js) h l high = absurd (omega (arith, high, l.1.1.1, links_rise es l.1.0.after b js l.1.1.2))
 
-same_element : (es : List Element) (i : ℕ) (d e : Element) → slice_get es i ≡ Some d → slice_get es i ≡ Some e → d ≡ e
+pub same_element : (es : List Element) (i : ℕ) (d e : Element) → slice_get es i ≡ Some d → slice_get es i ≡ Some e → d ≡ e
 same_element es i d e h g = cc
 
 pub next_is : (root : RangedNode) (es : List Element) (p i : ℕ) (e ep : Element) → es ≡ elements_of_tree root → IsChild root p i → slice_get es i ≡ Some e → slice_get es p ≡ Some ep

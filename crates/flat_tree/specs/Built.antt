@@ -13,11 +13,11 @@ pub record IsFlat (f : StrForest) (es : List Element) : Type 0 where
   pub ranged : Ranged f root
   pub elements : es ≡ elements_of_tree root
 
--- The forest's one tree covers the whole text, and each range is on character boundaries.
-pub record IsOver (text : List ℕ) (f : StrForest) (es : List Element) : Type 0 where
+-- The forest's one tree is over this front of the text, and each range is on character boundaries of the text.
+pub record IsOver (text front : List ℕ) (f : StrForest) (es : List Element) : Type 0 where
   pub root : RangedNode
   pub ranged : Ranged f root
   pub elements : es ≡ elements_of_tree root
   pub start : root.start ≡ 0
-  pub end : root.end ≡ length text
+  pub end : root.end ≡ length front
   pub places : All (λ (e : Element). IsPlace text e.start e.end) es

@@ -2,6 +2,10 @@ pub mod Building
 pub mod Built
 pub mod ByteLeaf
 pub mod Collects
+pub mod CoveringIndex
 pub mod FlatTree
+pub mod Laws
+pub mod LeavesOf
 pub mod Navigation
+pub mod Order
 pub mod TextTree

@@ -51,3 +51,8 @@ pub record IsLastChild (root : RangedNode) (child : ℕ) : Type 0 where
 -- it is the root's index, or no node or leaf has it
 abbrev pub HasNoParent : RangedNode → ℕ → Type 0
 HasNoParent root i = (i ≡ 0) ⊎ (node_size root ≤ i)
+
+-- these are the nodes that it is in, the innermost first: its parent, the parent of that one, and so on to the root
+abbrev pub AreAncestors : RangedNode → ℕ → List ℕ → Type 0
+AreAncestors root i [] = HasNoParent root i
+AreAncestors root i (p ∷ ps) = IsChild root p i × AreAncestors root p ps

@@ -1,14 +1,11 @@
 //! The sink that makes the list of a tree and keeps its messages.
-ghost use Rattle.std.specs.Prelude.{◌≡◌, ◌++◌, ◌∷◌, [], OnOk, length};
-ghost use Rattle.rap_lexed.specs.LexedStr.{AreInOrder};
-ghost use Rattle.rap_ranged.specs.Reports.{lexer_reports};
+ghost use Rattle.std.specs.Prelude.{◌≡◌, ◌++◌, ◌∷◌, [], OnOk};
 ghost use Rattle.flat_tree.specs.Building.{building};
 
 use crate::builder::Builder;
 use crate::element::NO_PARENT;
 use crate::report::Report;
 use rap_base::no_memory::NoMemory;
-use rap_lexed::lexed_str::LexedStr;
 use rap_lexed::shortcuts::{StrSink, StrStep};
 use std::alloc::Global;
 
@@ -40,19 +37,6 @@ impl Collector {
     {
         let text = String::from_str(self.alloc, text)?;
         self.reports.push(Report::new(text, at))?;
-        Ok(())
-    }
-
-    /// Keeps the lexer's messages, each at the start of its token.
-    pub(crate) fn keep_errors_of(&mut self, lexed: &LexedStr<'_>) -> Result<(), NoMemory>
-        requires { AreInOrder (length lexed.now.tokens) lexed.now.errors }
-        ensures reports { OnOk result (self.new.reports.items
-            ≡ self.old.reports.items ++ lexer_reports lexed.now.tokens lexed.now.errors) }
-        ensures tree { self.new.builder ≡ self.old.builder }
-    {
-        'errors: for (token, message) in lexed.errors() {
-            self.keep(message, lexed.text_start(token))?;
-        }
         Ok(())
     }
 }

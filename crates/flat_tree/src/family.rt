@@ -5,6 +5,7 @@ ghost use Rattle.rap_ranged.specs.RangedForest.{RangedNode};
 ghost use Rattle.flat_tree.specs.FlatTree.{elements_of_tree};
 ghost use Rattle.flat_tree.specs.Navigation.{child_indices, AreNeighbors, HasNoParent, IsChild, IsFirstChild, IsLastChild};
 
+use crate::leaf_at::parent_at;
 use crate::tree::FlatTree;
 
 impl FlatTree<'_> {
@@ -44,5 +45,27 @@ impl FlatTree<'_> {
         } else {
             None
         }
+    }
+
+    /// The index of the node or leaf right before it in the same node. `None` exactly of the first one, of the root,
+    /// and of an index that no element has. It climbs to it from the element with the index before.
+    pub fn prev_sibling(&self, index: u32) -> Option<u32>
+        ensures { (root : RangedNode) → self.now.elements.items ≡ elements_of_tree root
+            → MatchOption result (HasNoParent root index ⊎ IsFirstChild root index) (λ previous. AreNeighbors root previous index) }
+    {
+        if index == 0 {
+            return None;
+        }
+        let parent = self.element(index)?.parent();
+        let elements = self.elements();
+        let mut previous = index - 1;
+        'up: while parent < previous {
+            let up = parent_at(elements, previous);
+            if up == parent {
+                return Some(previous);
+            }
+            previous = up;
+        }
+        None
     }
 }

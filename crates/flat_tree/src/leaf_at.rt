@@ -1,11 +1,12 @@
 //! The leaf that holds a byte.
-ghost use Rattle.std.specs.Prelude.{◌≡◌, option_copied};
+ghost use Rattle.std.specs.Prelude.{◌≡◌, ◌<◌, Some, length, option_copied};
 ghost use Rattle.std.specs.List.{slice_get};
 ghost use Rattle.rap_lexed.specs.StrForest.{StrForest};
 ghost use Rattle.rap_ranged.specs.Ranged.{Ranged};
 ghost use Rattle.rap_ranged.specs.RangedForest.{RangedNode};
 ghost use Rattle.flat_tree.specs.ByteLeaf.{EndsBegun, IsLeafAt};
 ghost use Rattle.flat_tree.specs.FlatTree.{elements_of_tree};
+ghost use Rattle.flat_tree.specs.declared.element.Element.{Element};
 
 use crate::element::Element;
 use crate::tree::FlatTree;
@@ -16,6 +17,24 @@ pub(crate) fn element_of(elements: &[Element], index: u32) -> Option<&Element>
     ensures { option_copied result ≡ slice_get elements.now index }
 {
     elements.get(index as usize)
+}
+
+/// Where the element with this index ends.
+#[inline(always)]
+pub(crate) fn end_at(elements: &[Element], index: u32) -> usize
+    requires { index < length elements.now }
+    ensures { (e : Element) → slice_get elements.now index ≡ Some e → result ≡ e.end }
+{
+    elements[index as usize].end() as usize
+}
+
+/// The index of the node that the element with this index is in.
+#[inline(always)]
+pub(crate) fn parent_at(elements: &[Element], index: u32) -> u32
+    requires { index < length elements.now }
+    ensures { (e : Element) → slice_get elements.now index ≡ Some e → result ≡ e.parent }
+{
+    elements[index as usize].parent()
 }
 
 /// How many elements begin at a byte or before, if they are in the order of their beginnings: by bisection.

@@ -3,6 +3,7 @@ ghost use Rattle.std.specs.Prelude.{◌≡◌, IfOk, Some, map, string_bytes};
 ghost use Rattle.std.specs.List.{slice_get};
 ghost use Rattle.flat_tree.specs.declared.element.Element.{Element};
 ghost use Rattle.rap_lexed.specs.StrForest.{StrForest};
+ghost use Rattle.rap_ranged.specs.MergedMessages.{merged};
 ghost use Rattle.rap_ranged.specs.Ranged.{Ranged};
 ghost use Rattle.rap_ranged.specs.RangedForest.{RangedNode};
 ghost use Rattle.rap_ranged.specs.RangedMessages.{ranged_message};
@@ -10,6 +11,7 @@ ghost use Rattle.flat_tree.specs.FlatTree.{elements_of_tree};
 
 use crate::element::Element;
 use crate::leaf_at::{element_of, leaf_of};
+use crate::merge::merge;
 use crate::message::Message;
 use rap_base::no_memory::NoMemory;
 use std::alloc::Global;
@@ -65,8 +67,23 @@ fn place_of(elements: &[Element], index: u32, at: usize) -> Range<usize>
     }
 }
 
+/// The messages of the parser and those of the lexer in the order of their positions, with their places.
+pub(crate) fn all_messages(
+    alloc: Global,
+    of_parser: Vec<Report>,
+    of_lexer: Vec<Report>,
+    elements: &[Element],
+) -> Result<Vec<Message>, NoMemory>
+    ensures { (f : StrForest) (root : RangedNode) → Ranged f root → elements.now ≡ elements_of_tree root
+        → IfOk result (λ messages. messages.items ≡ merged (map (ranged_message root.children) of_parser.items) (map (ranged_message root.children) of_lexer.items)) }
+{
+    let first = all_placed(alloc, of_parser, elements)?;
+    let second = all_placed(alloc, of_lexer, elements)?;
+    merge(alloc, first, second)
+}
+
 /// The messages with their places.
-pub(crate) fn all_placed(
+fn all_placed(
     alloc: Global,
     reports: Vec<Report>,
     elements: &[Element],

@@ -8,15 +8,16 @@ ghost use Rattle.rap_events.specs.Cover.{covers};
 ghost use Rattle.rap_events.specs.Forest.{one_tree, used};
 ghost use Rattle.rap_lexed.specs.Input.{records};
 ghost use Rattle.rap_lexed.specs.LexedStr.{joined};
-ghost use Rattle.rap_lexed.specs.Trivia.{significant, with_trivia};
+ghost use Rattle.rap_lexed.specs.Trivia.{front_of, significant, with_trivia};
 ghost use Rattle.rap_ranged.specs.Places.{IsPlace};
 ghost use Rattle.flat_tree.specs.Built.{IsFlat, IsOver};
+ghost use Rattle.flat_tree.specs.Order.{ParentsComeFirst, PassesForward, PassesWithin};
 
 use crate::builder::Builder;
 use crate::collector::Collector;
 use crate::element::Element;
 use crate::message::Message;
-use crate::report::all_placed;
+use crate::report::all_messages;
 use ra_ap_parser::{Edition, MAX_TEXT, TextFault, TopEntryPoint, parse_text};
 use rap_base::no_memory::NoMemory;
 use rap_events::output::Output;
@@ -29,6 +30,9 @@ pub struct FlatTree<'t> {
     text: &'t str,
     elements: Vec<Element>,
     messages: Vec<Message>,
+    ghost parents: { ParentsComeFirst elements.items },
+    ghost forward: { PassesForward elements.items },
+    ghost within: { PassesWithin elements.items },
 }
 
 impl<'t> FlatTree<'t> {
@@ -37,8 +41,10 @@ impl<'t> FlatTree<'t> {
     /// It requires what [`LexedStr::intersperse_trivia`] requires, and has the nodes and leaves of that call, in order.
     /// The first leaf begins at 0, each further one where the leaf before it ends, and each is as long as its text. A
     /// node begins where the leaves before it end, and ends where its own last leaf ends; a node without a leaf is
-    /// empty. The output's messages are not kept. Room is made once, for as many elements as the output has steps and
-    /// the text has tokens. The error means out of memory.
+    /// empty. The root ends where the tokens that the output covers end, with the trivia after them; what follows in
+    /// the text is in no node. Every range is on character boundaries of the text, so [`FlatTree::text_of`] returns the
+    /// text of each element. The output's messages are not kept. Room is made once, for as many elements as the output
+    /// has steps and the text has tokens. The error means out of memory.
     pub fn build(
         alloc: Global,
         lexed: &LexedStr<'t>,
@@ -49,10 +55,13 @@ impl<'t> FlatTree<'t> {
         ensures flat { IfOk result (λ tree. IsFlat (with_trivia lexed.now.tokens output.now) tree.elements.items) }
         ensures text { IfOk result (λ tree. tree.text.now ≡ joined lexed.now.tokens) }
         ensures messages { IfOk result (λ tree. tree.messages.items ≡ []) }
+        ensures over { IfOk result (λ tree. IsOver (joined lexed.now.tokens) (joined (front_of (used output.now) lexed.now.tokens))
+            (with_trivia lexed.now.tokens output.now) tree.elements.items) }
         ensures whole { IfOk result (λ tree. used output.now ≡ significant lexed.now.tokens
-            → IsOver (joined lexed.now.tokens) (with_trivia lexed.now.tokens output.now) tree.elements.items) }
+            → IsOver (joined lexed.now.tokens) (joined lexed.now.tokens) (with_trivia lexed.now.tokens output.now) tree.elements.items) }
     {
-        let room = output.iter().len().saturating_add(lexed.len());
+        let count = lexed.len();
+        let room = output.iter().len().saturating_add(count);
         let mut builder = Builder::with_room(alloc, room)?;
         let _whole = lexed.intersperse_trivia(output, &mut builder)?;
         Ok(FlatTree {
@@ -78,7 +87,8 @@ impl<'t> FlatTree<'t> {
     {
         let mut collector = Collector::with_hint(alloc, text.len() / 2);
         let parsed = parse_text(alloc, edition, entry, text, &mut collector)?;
-        let Ok(()) = collector.keep_errors_of(&parsed.lexed) else {
+        let mut of_lexer = Collector::with_hint(alloc, 0);
+        let Ok(()) = parsed.lexed.report_errors(&mut of_lexer) else {
             return Err(TextFault::Refused(NoMemory));
         };
         let Collector {
@@ -87,7 +97,7 @@ impl<'t> FlatTree<'t> {
             ..
         } = collector;
         let elements = builder.into_elements();
-        match all_placed(alloc, reports, elements.as_slice()) {
+        match all_messages(alloc, reports, of_lexer.reports, elements.as_slice()) {
             Ok(messages) => Ok(FlatTree {
                 text,
                 elements,
@@ -97,9 +107,9 @@ impl<'t> FlatTree<'t> {
         }
     }
 
-    /// The messages: none after [`FlatTree::build`]; after [`FlatTree::of_text`] those of the parser in the order of the
-    /// tree, and after them those of the lexer in the order of their tokens, each with the range of the leaf at which it
-    /// is.
+    /// The messages, each with the range of the leaf at which it is: none after [`FlatTree::build`]; after
+    /// [`FlatTree::of_text`] those of the parser and those of the lexer in the order of their positions. Of two at one
+    /// position that of the parser comes first, and each of the two lists keeps its order.
     pub fn messages(&self) -> &[Message]
         ensures { result.now ≡ self.now.messages.items }
     {

@@ -2,6 +2,7 @@ pub mod Covering
 pub mod Elements
 pub mod InRow
 pub mod Leaves
+pub mod MergedMessages
 pub mod Places
 pub mod Ranged
 pub mod RangedForest
