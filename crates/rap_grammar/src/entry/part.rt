@@ -54,6 +54,7 @@ pub enum Part {
 }
 
 /// Runs the rule of a part.
+#[tactic(auto, using(crate::proofs::Depth::more))]
 fn run_part(p: &mut Parser<'_>, part: Part) -> Result<(), NoMemory>
     requires brace { asks_brace part ≡ true → next (state p.old) ≡ L_CURLY }
     ensures grew { OnOk result (Grew (state p.old) (state p.new) 8) }
