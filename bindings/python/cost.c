@@ -1,4 +1,4 @@
-/* bench ROUNDS FILE.. parses each file so many times by rap_nodes, and prints for each the least processor time of a
+/* cost ROUNDS FILE.. parses each file so many times by rap_nodes, and prints for each the least processor time of a
  * call in nanoseconds. The arrays have the room that the package for Python gives, and are made anew for each call. */
 #include <stdint.h>
 #include <stdio.h>

@@ -1,0 +1,170 @@
+/* Times the ways to a tree of a text, and walks over it: times FILE ROUNDS.
+ *
+ * Prints the least processor time of ROUNDS calls, in milliseconds and in megabytes of text a second: of
+ * rap_tree_words, of rap_nodes, and of a walk over all elements that counts the nodes of each kind, in millions of
+ * elements a second; of a walk that goes from each node to its children and counts them; and of the search for
+ * the leaf at each of a million places drawn at random, in nanoseconds a place. The arrays are written once
+ * before anything is timed. It runs on a stack as large as rap_stack says. */
+#define _GNU_SOURCE
+#include "rap.h"
+#include <pthread.h>
+#include <stdio.h>
+#include <stdlib.h>
+#include <time.h>
+
+#define PLACES 1000000
+
+static uint8_t *text;
+static size_t length;
+static int rounds;
+
+static double now(void)
+{
+    struct timespec time;
+    clock_gettime(CLOCK_THREAD_CPUTIME_ID, &time);
+    return 1e3 * (double)time.tv_sec + 1e-6 * (double)time.tv_nsec;
+}
+
+static void *room(size_t count, size_t size)
+{
+    void *found = calloc(count + 1, size);
+    if (!found) {
+        fputs("times: out of memory\n", stderr);
+        exit(2);
+    }
+    return found;
+}
+
+static void say(const char *name, double took)
+{
+    printf("%-10s %8.2f ms %8.1f MB/s\n", name, took, 1e-3 * (double)length / took);
+}
+
+/* The time of rap_tree_words. */
+static double time_words(void)
+{
+    uint8_t none[1];
+    uint32_t one[1];
+    struct rap_answer all = rap_tree_words(text, length, 2024, RAP_SOURCE_FILE, one, 0, none, 0);
+    uint32_t *words = room(all.steps, sizeof *words);
+    uint8_t *messages = room(all.message_bytes, 1);
+    double least = 1e9;
+    for (int i = 0; i <= rounds; i++) {
+        double begun = now();
+        rap_tree_words(text, length, 2024, RAP_SOURCE_FILE, words, all.steps, messages, all.message_bytes);
+        double took = now() - begun;
+        least = i && took < least ? took : least;
+    }
+    free(words);
+    free(messages);
+    return least;
+}
+
+/* Counts the nodes and leaves of each kind. */
+static uint64_t count_kinds(const struct rap_element *e, size_t count)
+{
+    static uint32_t counts[RAP_LAST_KIND + 1];
+    for (size_t i = 0; i < count; i++)
+        counts[e[i].kind]++;
+    return counts[RAP_IDENT];
+}
+
+/* Counts the children of all nodes, one node after another. */
+static uint64_t count_children(const struct rap_element *e, size_t count)
+{
+    uint64_t children = 0;
+    for (uint32_t i = 0; i < count; i++)
+        for (uint32_t child = i + 1; child < e[i].after; child = e[child].after)
+            children++;
+    return children;
+}
+
+/* The leaf at a place: the last element that begins there or before. */
+static size_t leaf_at(const struct rap_element *e, size_t count, uint32_t place)
+{
+    size_t low = 0;
+    while (count > 1) {
+        size_t half = count / 2;
+        low = e[low + half].start <= place ? low + half : low;
+        count -= half;
+    }
+    return low;
+}
+
+static void time_walks(const struct rap_element *e, size_t count)
+{
+    double kinds = 1e9, children = 1e9, begun, took;
+    uint64_t kept = 0;
+    for (int i = 0; i <= rounds; i++) {
+        begun = now();
+        kept += count_kinds(e, count);
+        took = now() - begun;
+        kinds = i && took < kinds ? took : kinds;
+        begun = now();
+        kept += count_children(e, count);
+        took = now() - begun;
+        children = i && took < children ? took : children;
+    }
+    begun = now();
+    for (uint32_t i = 0, place = 1; i < PLACES && e[0].end; i++, place = place * 1664525u + 1013904223u)
+        kept += leaf_at(e, count, place % e[0].end);
+    took = now() - begun;
+    printf("kinds      %8.2f ms %8.1f million elements a second\n", kinds, 1e-3 * (double)count / kinds);
+    printf("children   %8.2f ms %8.1f million elements a second\n", children, 1e-3 * (double)count / children);
+    printf("leaf_at    %8.1f ns a place (%d)\n", 1e6 * took / PLACES, (int)(kept % 10));
+}
+
+/* The time of rap_nodes, and of walks over its elements. */
+static void time_nodes(void)
+{
+    struct rap_element one[1];
+    struct rap_message message[1];
+    uint8_t none[1];
+    struct rap_nodes_answer all =
+        rap_nodes(text, length, 2024, RAP_SOURCE_FILE, one, 0, message, 0, none, 0);
+    struct rap_element *elements = room(all.elements, sizeof *elements);
+    struct rap_message *messages = room(all.messages, sizeof *messages);
+    uint8_t *bytes = room(all.message_bytes, 1);
+    double least = 1e9;
+    for (int i = 0; i <= rounds; i++) {
+        double begun = now();
+        rap_nodes(text, length, 2024, RAP_SOURCE_FILE, elements, all.elements, messages, all.messages, bytes,
+                  all.message_bytes);
+        double took = now() - begun;
+        least = i && took < least ? took : least;
+    }
+    say("rap_nodes", least);
+    printf("elements   %zu of %zu bytes\n", all.elements, sizeof *elements);
+    if (all.elements)
+        time_walks(elements, all.elements);
+}
+
+static void *run(void *none)
+{
+    say("words", time_words());
+    time_nodes();
+    return none;
+}
+
+int main(int count, char **arguments)
+{
+    FILE *file = count == 3 ? fopen(arguments[1], "rb") : NULL;
+    if (!file) {
+        fputs("usage: times FILE ROUNDS\n", stderr);
+        return 2;
+    }
+    fseek(file, 0, SEEK_END);
+    length = (size_t)ftell(file);
+    rewind(file);
+    text = room(length, 1);
+    if (fread(text, 1, length, file) != length)
+        return 2;
+    rounds = atoi(arguments[2]);
+    pthread_attr_t attributes;
+    pthread_t thread;
+    pthread_attr_init(&attributes);
+    if (pthread_attr_setstacksize(&attributes, rap_stack(length)) || pthread_create(&thread, &attributes, run, NULL))
+        return 2;
+    pthread_join(thread, NULL);
+    return 0;
+}
