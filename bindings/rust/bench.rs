@@ -1,9 +1,10 @@
-//! Times this package, and beside it the Rust crate and syn where they are linked, in one process and on the same
-//! texts.
+//! Times this package and the package `rap_tree`, and beside them the Rust crate and syn where they are linked, in one
+//! process and on the same texts.
 //!
 //! Each text is read by each parser in turn, several rounds over, and the least time of a text counts. The package and
 //! the Rust crate go from the text to the steps of the tree, by `LexedStr::new`, `to_input`, `parse` and
-//! `intersperse_trivia`, and write each step into memory that is kept; syn builds its own tree.
+//! `intersperse_trivia`, and write each step into memory that is kept; `rap_tree` and syn build trees of their own and
+//! drop them.
 use std::hint::black_box;
 use std::time::{Duration, Instant};
 
@@ -43,6 +44,12 @@ parser!(by_package, package);
 #[cfg(feature = "original")]
 parser!(by_crate, original);
 
+fn by_tree(text: &str, _steps: &mut Vec<Taken>) -> Option<usize> {
+    use rap_tree::{Edition, TopEntryPoint, Tree};
+    let tree = Tree::of_text(Edition::LATEST, TopEntryPoint::SourceFile, text);
+    Some(black_box(&tree).root().descendants_with_tokens().len())
+}
+
 #[cfg(feature = "syn")]
 fn by_syn(text: &str, _steps: &mut Vec<Taken>) -> Option<usize> {
     let file = syn_crate::parse_file(text).ok()?;
@@ -53,6 +60,7 @@ fn by_syn(text: &str, _steps: &mut Vec<Taken>) -> Option<usize> {
 fn parsers() -> Vec<(&'static str, Parser)> {
     vec![
         ("package", by_package),
+        ("rap_tree", by_tree),
         #[cfg(feature = "original")]
         ("Rust crate", by_crate),
         #[cfg(feature = "syn")]
@@ -70,7 +78,7 @@ fn times_of(text: &str, rounds: usize, steps: &mut Vec<Taken>, parsers: &[(&str,
             let count = black_box(parse(black_box(text), steps));
             least[i] = least[i].min(begin.elapsed());
             count?;
-            assert!(*name == "syn" || count == want, "{name} gives other steps");
+            assert!(matches!(*name, "rap_tree" | "syn") || count == want, "{name} gives other steps");
         }
     }
     Some(least)
@@ -97,8 +105,9 @@ fn run() {
     for ((name, _), sum) in parsers.iter().zip(&sums) {
         let seconds = sum.as_secs_f64();
         let speed = bytes as f64 / 1e6 / seconds;
-        let ratio = sums[0].as_secs_f64() / seconds;
-        println!("{name}: {:.1} ms, {speed:.1} MB/s; the package takes {ratio:.2} of it", 1e3 * seconds);
+        let ratios = [sums[0], sums[1]].map(|sum| sum.as_secs_f64() / seconds);
+        let shown = format!("the package takes {:.3} of it, rap_tree {:.3}", ratios[0], ratios[1]);
+        println!("{name}: {:.1} ms, {speed:.1} MB/s; {shown}", 1e3 * seconds);
     }
 }
 

@@ -70,18 +70,19 @@ def try_examples(place: Place, at: str) -> None:
     """Builds and runs the packages' own programs."""
     parser, tree = (f'{at}/{name}-{crate_version()}' for name in PACKAGES.values())
     run = f'{RUN.format(at)} --manifest-path {parser}/Cargo.toml --example'
-    for line in ['tree -- 2024 Expr sum.rs', "green -- 2024 Expr sum.rs | sed 's/@[0-9]*[.][.][0-9]*//'"]:
-        place.prints(f'{run} {line}', read('crates/rast/stdout'))
-    for line in ['deep -- 2024 Expr sum.rs', 'functions -- hello.rs', 'colour -- hello.rs']:
+    place.prints(f"{run} green -- 2024 Expr sum.rs | sed 's/@[0-9]*[.][.][0-9]*//'", read('crates/rast/stdout'))
+    for line in ['deep -- 2024 Expr sum.rs', 'colour -- hello.rs']:
         place.succeeds(f'{run} {line}')
+    patch = f'--config \'patch.crates-io.ra_ap_parser.path="{parser}"\''
+    run = f'{RUN.format(at)} {patch} --manifest-path {tree}/Cargo.toml --example'
+    place.prints(f'{run} tree -- 2024 Expr sum.rs', read('crates/rast/stdout'))
+    place.prints(f'{run} functions -- hello.rs', 'hello.rs:1 main\n')
     page = read('bindings/tree/README.md')
     shown = re.findall(r' Of\n\n((?:    .*\n|\n)+)it prints\n\n((?:    .*\n)+)', page)
     [[text, wanted]] = [[re.sub('(?m)^    ', '', part) for part in it] for it in shown]
     with open(f'{at}/shapes.rs', 'w', encoding='ascii') as file:
         file.write(text)
-    patch = f'--config \'patch.crates-io.ra_ap_parser.path="{parser}"\''
-    line = f'{RUN.format(at)} {patch} --manifest-path {tree}/Cargo.toml --example outline'
-    place.prints(f'{line} -- {at}/shapes.rs', wanted)
+    place.prints(f'{run} outline -- {at}/shapes.rs', wanted)
 
 
 def try_crates(place: Place, dist: str) -> None:

@@ -1,5 +1,5 @@
 //! The answer to the page for a text: numbers for the steps of its tree, and its messages.
-use ra_ap_parser::{Edition, LexedStr, StrStep, SyntaxKind, TopEntryPoint};
+use rap_tree::{Edition, NodeOrToken, SyntaxKind, TopEntryPoint, Tree, WalkEvent};
 use std::fmt::Write as _;
 
 /// A text, and how it is to be read.
@@ -97,23 +97,24 @@ fn push_message(messages: &mut String, at: u32, message: &str) {
 /// after them the messages as JSON, each with its place before it.
 ///
 /// A node's begin is its kind times four and 1; a token its kind times four and 2, and its length; a node's end is 0.
-pub fn answer_to(asked: &Asked) -> Vec<u8> {
-    let lexed = LexedStr::new(asked.edition, &asked.text);
-    let output = asked.entry.parse(&lexed.to_input(asked.edition));
-    let units = Units::of(&asked.text);
-    let (mut numbers, mut messages, mut byte) = (vec![0], String::new(), 0);
-    lexed.intersperse_trivia(&output, &mut |step| match step {
-        StrStep::Enter { kind } => numbers.push(kind as u32 * 4 + 1),
-        StrStep::Exit => numbers.push(0),
-        StrStep::Token { kind, text } => {
-            let length = units.before(byte + text.len()) - units.before(byte);
-            byte += text.len();
-            numbers.extend([kind as u32 * 4 + 2, length]);
+pub fn answer_to(asked: Asked) -> Vec<u8> {
+    let tree = Tree::of_text(asked.edition, asked.entry, asked.text);
+    let units = Units::of(tree.text());
+    let (mut numbers, mut messages) = (vec![0], String::new());
+    for event in tree.root().preorder_with_tokens() {
+        match event {
+            WalkEvent::Enter(NodeOrToken::Node(node)) => numbers.push(node.kind() as u32 * 4 + 1),
+            WalkEvent::Leave(NodeOrToken::Node(_)) => numbers.push(0),
+            WalkEvent::Enter(NodeOrToken::Token(token)) => {
+                let range = token.text_range();
+                let length = units.before(range.end) - units.before(range.start);
+                numbers.extend([token.kind() as u32 * 4 + 2, length]);
+            }
+            WalkEvent::Leave(NodeOrToken::Token(_)) => {}
         }
-        StrStep::Error { msg, pos } => push_message(&mut messages, units.before(pos), msg),
-    });
-    for (token, message) in lexed.errors() {
-        push_message(&mut messages, units.before(lexed.text_start(token)), message);
+    }
+    for message in tree.messages() {
+        push_message(&mut messages, units.before(message.position()), message.text());
     }
     messages.push_str(if messages.is_empty() { "[]" } else { "]" });
     numbers[0] = numbers.len() as u32 - 1;

@@ -98,7 +98,7 @@ fn start_parser() -> io::Result<Sender<Job>> {
     thread::Builder::new().spawn(move || {
         for (asked, to) in asked {
             // A text whose parse panics has no answer; the page that asked may be gone.
-            if let Ok(answer) = std::panic::catch_unwind(|| answer_to(&asked)) {
+            if let Ok(answer) = std::panic::catch_unwind(|| answer_to(asked)) {
                 let _ = to.send(answer);
             }
         }

@@ -100,7 +100,7 @@ fn parses_what_is_posted() {
     let (status, answer) = server.post("/parse?edition=2024&entry=Expr", "\u{1f980}é +");
     assert_eq!(status, 200);
     let (numbers, messages) = read(&answer);
-    let kind = |name: &str| (0..330).find(|it| ra_ap_parser::SyntaxKind::from(*it).name() == name).unwrap() as u32;
+    let kind = |name: &str| (0..330).find(|it| rap_tree::SyntaxKind::from(*it).name() == name).unwrap() as u32;
     let (enter, token) = (|name| 4 * kind(name) + 1, |name| 4 * kind(name) + 2);
     // The crab is an identifier with a message, of two units, together with the letter after it.
     assert_eq!(numbers[..2], [enter("BIN_EXPR"), enter("PATH_EXPR")]);

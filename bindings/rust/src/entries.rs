@@ -53,7 +53,7 @@ impl TopEntryPoint {
         Output::of_tree(Tree { source: source.clone(), entry, woven })
     }
 
-    fn number(&self) -> u32 {
+    pub(crate) fn number(&self) -> u32 {
         match self {
             TopEntryPoint::SourceFile => 0,
             TopEntryPoint::MacroStmts => 1,

@@ -20,6 +20,7 @@ pub use declarations::*;
 pub(crate) use status::check_status;
 pub(crate) use words::Woven;
 
+use crate::{Edition, StrStep, TopEntryPoint};
 use std::sync::Arc;
 
 /// What a call filled: its status, all its steps, and all bytes of its messages.
@@ -99,6 +100,15 @@ pub(crate) fn tree(text: &Arc<str>, edition: u32, entry: u32) -> Woven {
         });
         Woven::of(text.clone(), filled)
     }
+}
+
+/// Hands the steps of a text's tree to a function, and after them the lexer's messages, each with its place: for the
+/// package `rap_tree`, which needs no token of the text so. It panics where [`TopEntryPoint::parse`] does.
+#[inline]
+pub fn each_step(text: &str, edition: Edition, entry: &TopEntryPoint, take: impl FnMut(StrStep<'_>)) {
+    let woven = tree(&text.into(), edition.year(), entry.number());
+    check_status(woven.status, &[]);
+    woven.each_with_messages(take);
 }
 
 /// The parts of a script source, or what refuses it, by `rap_script`, with the message.

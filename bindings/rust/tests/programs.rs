@@ -5,12 +5,10 @@ use std::os::unix::net::UnixStream;
 use std::path::PathBuf;
 use std::process::{Command, Output, Stdio};
 
-const PROGRAMS: [(&str, &str); 5] = [
+const PROGRAMS: [(&str, &str); 3] = [
     ("colour", "usage: colour FILE"),
     ("deep", "usage: deep EDITION ENTRY FILE"),
-    ("functions", "usage: functions FILE .."),
     ("green", "usage: green EDITION ENTRY FILE"),
-    ("tree", "usage: tree EDITION ENTRY FILE"),
 ];
 
 /// A program, which cargo builds beside the tests.
@@ -34,7 +32,7 @@ fn ran(name: &str, words: &[&str]) -> (String, String, Option<i32>) {
 /// The words by which a program reads a file.
 fn words_for<'a>(program: &str, file: &'a str) -> Vec<&'a str> {
     match program {
-        "colour" | "functions" => vec![file],
+        "colour" => vec![file],
         _ => vec!["2024", "SourceFile", file],
     }
 }
@@ -51,7 +49,7 @@ fn say_how_they_are_called() {
         assert_eq!(ran(name, &["--help"]), (format!("{usage}\n"), String::new(), Some(0)));
         assert_eq!(ran(name, &[]), (String::new(), format!("{usage}\n"), Some(2)));
     }
-    assert_eq!(ran("tree", &["2024", "Block", "a.rs"]).2, Some(2));
+    assert_eq!(ran("green", &["2024", "Block", "a.rs"]).2, Some(2));
     assert_eq!(ran("deep", &["2025", "Expr", "a.rs"]).2, Some(2));
 }
 
@@ -78,12 +76,4 @@ fn end_in_silence_where_nobody_reads() {
     let output = program("colour").arg(file("build.rs")).stdout(full).stderr(Stdio::piped()).output();
     let (_, fault, status) = printed(&output.expect("it starts"));
     assert_eq!((fault.as_str(), status), ("No space left on device (os error 28)\n", Some(2)));
-}
-
-#[test]
-fn print_what_they_find() {
-    let at = file("examples/functions.rs");
-    let (lines, _, status) = ran("functions", &[&at]);
-    assert!(lines.lines().next().is_some_and(|line| line.ends_with(" functions")), "{lines}");
-    assert_eq!((lines.lines().count(), status), (2, Some(0)));
 }

@@ -1,16 +1,13 @@
 //! Builds the list of a tree and its messages from the calls of the parser's package.
 use crate::offsets::leaf_at;
 use crate::tree::{Element, Message, NO_PARENT};
-use ra_ap_parser::{Edition, LexedStr, StrStep, SyntaxKind, TopEntryPoint};
+use ra_ap_parser::{Edition, StrStep, SyntaxKind, TopEntryPoint, sys};
 
 /// The list of a text's tree, and its messages: the parser's, and after them the lexer's.
 pub(crate) fn build(edition: Edition, entry: &TopEntryPoint, text: &str) -> (Vec<Element>, Vec<Message>) {
-    let lexed = LexedStr::new(edition, text);
-    let output = entry.parse(&lexed.to_input(edition));
     let mut builder = Builder::with_room(text.len() / 2);
-    lexed.intersperse_trivia(&output, &mut |step| builder.take(step));
-    let Builder { elements, mut reports, .. } = builder;
-    reports.extend(lexed.errors().map(|(token, message)| (lexed.text_start(token), message.to_owned())));
+    sys::each_step(text, edition, entry, |step| builder.take(step));
+    let Builder { elements, reports, .. } = builder;
     let messages = reports.into_iter().map(|(position, text)| placed(&elements, position, text)).collect();
     (elements, messages)
 }

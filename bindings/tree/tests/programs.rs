@@ -1,4 +1,4 @@
-//! The program in `examples`, started as from a shell.
+//! The programs in `examples`, started as from a shell.
 use std::path::PathBuf;
 use std::process::Command;
 
@@ -26,14 +26,28 @@ const LINES: &str = r"   1 mod shapes
   15 type Shapes
 ";
 
-/// What the program prints, on standard output and on standard error, and its status.
-fn ran(words: &[&str]) -> (String, String, Option<i32>) {
+const PROGRAMS: [(&str, &str); 3] = [
+    ("functions", "usage: functions FILE .."),
+    ("outline", "usage: outline FILE"),
+    ("tree", "usage: tree EDITION ENTRY FILE"),
+];
+
+/// What a program prints, on standard output and on standard error, and its status.
+fn ran(name: &str, words: &[&str]) -> (String, String, Option<i32>) {
     let mut folder = std::env::current_exe().expect("the test has a path");
     folder.pop();
     folder.pop();
-    let output = Command::new(folder.join("examples/outline")).args(words).output().expect("it starts");
+    let program = folder.join("examples").join(name);
+    let output = Command::new(program).args(words).output().expect("it starts");
     let text = |bytes: Vec<u8>| String::from_utf8(bytes).expect("it is UTF-8");
     (text(output.stdout), text(output.stderr), output.status.code())
+}
+
+/// A file with this text.
+fn file(name: &str, text: &str) -> String {
+    let file = PathBuf::from(env!("CARGO_TARGET_TMPDIR")).join(name);
+    std::fs::write(&file, text).expect("it is written");
+    file.to_str().expect("it is UTF-8").to_owned()
 }
 
 /// The text as it stands in the package's page.
@@ -43,17 +57,51 @@ fn indented(text: &str) -> String {
 
 #[test]
 fn prints_an_outline() {
-    let file = PathBuf::from(env!("CARGO_TARGET_TMPDIR")).join("shapes.rs");
-    std::fs::write(&file, TEXT).expect("it is written");
-    assert_eq!(ran(&[file.to_str().expect("it is UTF-8")]), (LINES.to_owned(), String::new(), Some(0)));
+    let file = file("shapes.rs", TEXT);
+    assert_eq!(ran("outline", &[&file]), (LINES.to_owned(), String::new(), Some(0)));
     let page = include_str!("../README.md");
     assert!(page.contains(&indented(TEXT)) && page.contains(&indented(LINES)));
 }
 
 #[test]
-fn says_what_is_wrong() {
-    let usage = "usage: outline FILE\n";
-    assert_eq!(ran(&[]), (String::new(), usage.to_owned(), Some(2)));
+fn finds_functions() {
+    let file = file("functions.rs", "fn r#f() {}\ntrait T {\n    /// é\n    fn\n    g(x: fn()) {}\n}\nfn (){}\n");
+    let lines = format!("{file}:1 r#f\n{file}:5 g\n");
+    assert_eq!(ran("functions", &[&file]), (lines.clone(), String::new(), Some(0)));
     let fault = "/none/a.rs: No such file or directory (os error 2)\n";
-    assert_eq!(ran(&["/none/a.rs"]), (String::new(), fault.to_owned(), Some(2)));
+    assert_eq!(ran("functions", &["/none/a.rs", &file]), (lines, fault.to_owned(), Some(2)));
+}
+
+#[test]
+fn prints_a_tree_with_its_messages() {
+    let lines = "\
+BIN_EXPR
+  PATH_EXPR
+    PATH
+      PATH_SEGMENT
+        NAME_REF
+          IDENT \"é\"
+  WHITESPACE \"\\n\"
+  PLUS \"+\"
+  ERROR
+error 4: expected expression
+";
+    let file = file("tree.rs", "é\n+");
+    assert_eq!(ran("tree", &["2024", "Expr", &file]), (lines.to_owned(), String::new(), Some(1)));
+    assert_eq!(ran("tree", &["2024", "SourceFile", "/dev/null"]), ("SOURCE_FILE\n".to_owned(), String::new(), Some(0)));
+}
+
+#[test]
+fn say_what_is_wrong() {
+    for (name, usage) in PROGRAMS {
+        assert_eq!(ran(name, &[]), (String::new(), format!("{usage}\n"), Some(2)));
+    }
+    for words in [["2024", "Block", "a.rs"], ["2025", "Expr", "a.rs"]] {
+        assert_eq!(ran("tree", &words), (String::new(), "usage: tree EDITION ENTRY FILE\n".to_owned(), Some(2)));
+    }
+    let fault = "/none/a.rs: No such file or directory (os error 2)\n";
+    for words in [&["/none/a.rs"][..], &["2024", "Expr", "/none/a.rs"]] {
+        let name = if words.len() == 1 { "outline" } else { "tree" };
+        assert_eq!(ran(name, words), (String::new(), fault.to_owned(), Some(2)));
+    }
 }

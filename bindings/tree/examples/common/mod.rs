@@ -1,0 +1,1 @@
+../../../rust/examples/common/mod.rs
