@@ -25,7 +25,10 @@ DESCRIPTIONS = {
                 'The library fills arrays of the caller with the steps of a tree.', '', *COMMON],
     'librap-dev': ['lossless parser of Rust: header and static library',
                    'The header, the static library, files for pkg-config and for CMake, and',
-                   'programs in C as examples.', '', *COMMON]}
+                   'programs in C as examples.', '', *COMMON],
+    'python3-rap': ['syntax trees of Rust from Python',
+                    'The package shows trees as nodes and as NumPy arrays, and has the command',
+                    'rap-corpus, which collects the items of many files in a database.', '', *COMMON]}
 
 
 def least_glibc(files: list[str]) -> str:

@@ -4,18 +4,32 @@ import os
 import re
 import shutil
 import subprocess
+import textwrap
 from collections.abc import Sequence
 
-from packing import TOP, output
+from packing import TOP, output, read
 
-# What the fresh system has beside the packages.
-WITH = 'gcc,libc6-dev,man-db,pkgconf'
+# What the fresh system has beside the packages: a compiler, what finds a library for it, a reader of manuals, and what
+# the package for Python needs and is tested with.
+WITH = ','.join(['gcc', 'libc6-dev', 'pkgconf', 'cmake', 'make', 'man-db', 'python3-cffi', 'python3-numpy',
+                 'python3-tqdm', 'python3-pip', 'python3-pytest', 'python3-hypothesis'])
+
+# The tests of the package for Python that need no file of the repository.
+TESTS = ['test_tree.py', 'test_properties.py']
 
 # Enters the system, with /proc in it for as long as what is started lives.
 ENTER = ['unshare', '--mount', 'sh', '-c', 'mount -t proc proc "$0/proc" && exec chroot "$0" "$@"']
 
 # What changes in a system while any package is installed and removed.
 CHANGING = re.compile(r'(var/(lib/(dpkg|apt|man-db)|cache|log)|etc/ld\.so\.cache|tmp|dev|proc|sys|release)(/|$)')
+
+
+# The items of a file, as the database has them that rap-corpus makes.
+ITEM = '''import sqlite3
+found = sqlite3.connect("items.sqlite").execute("SELECT kind, items.path, first_line, last_line FROM items JOIN files "
+    "USING (digest) WHERE files.path LIKE '%hello.rs'")
+print(found.fetchall())
+'''
 
 
 class Count:
@@ -63,11 +77,24 @@ class Place:
             self.count.check(self.run(f'command -v {name}')[0] != 0, f'{name} is there before')
 
 
+def shown_in_python() -> list[str]:
+    """The program in Python that README shows, and what it prints."""
+    part = read('README.md').split('\n## From Python\n')[1].split('\n## ')[0]
+    found = re.findall(r'(?m)(?:^    .*\n|^\n(?=    ))+', part)[:2]
+    return [textwrap.dedent(it).strip('\n') + '\n' for it in found]
+
+
 def put_samples(folder: str) -> None:
     """Writes the files that the programs are run on."""
     os.makedirs(folder)
-    for file in glob.glob(f'{TOP}/crates/rast*/data/*.rs'):
+    for file in [*glob.glob(f'{TOP}/crates/rast*/data/*.rs'), f'{TOP}/examples/data/outline.rs']:
         shutil.copy(file, folder)
+    for name in TESTS:
+        shutil.copy(f'{TOP}/bindings/python/tests/{name}', folder)
+    with open(f'{folder}/shown.py', 'w', encoding='utf-8') as out:
+        out.write(shown_in_python()[0])
+    with open(f'{folder}/item.py', 'w', encoding='ascii') as out:
+        out.write(ITEM)
     with open(f'{folder}/a.rs', 'w', encoding='ascii') as out:
         out.write('7')
 

@@ -1,12 +1,24 @@
 """What an installed release must do: the programs, their manuals, the library for C."""
-from collections.abc import Iterator
+from collections.abc import Iterator, Sequence
 
 from packing import TRIPLET, crate_version, read
-from trying import Fresh, Place
+from packing.python import COMMAND
+from trying import TESTS, Fresh, Place, shown_in_python
 
 PROGRAMS = ['rast', 'rast_lex', 'rast_page', 'rast_steps']
 
-PACKAGES = ['rast', 'librap0', 'librap-dev']
+PACKAGES = ['rast', 'librap0', 'librap-dev', 'python3-rap']
+
+# A project of CMake, of a version of the library: the same program over the shared library and over the static one.
+PROJECT = '''cmake_minimum_required(VERSION 3.18)
+project(outline C)
+find_package(rap {0} REQUIRED CONFIG)
+find_package(Threads REQUIRED)
+foreach(kind rap static)
+  add_executable(outline_${{kind}} {1}/outline.c)
+  target_link_libraries(outline_${{kind}} rap::${{kind}} Threads::Threads)
+endforeach()
+'''
 
 # The completion of a word of each program, as its manual says what the word may be.
 COMPLETED = {'rast 2024 M': 'MacroItems MacroStmts MetaItem', 'rast_page 20': '2015 2018 2021 2024',
@@ -39,9 +51,9 @@ def try_programs(place: Place, before: str = '') -> None:
         place.count.check(status == 0 and out.startswith(f'usage: {name} '), f'{before}{name} --help: {status}\n{out}')
 
 
-def try_words(place: Place, share: str = '/usr/share') -> None:
-    """Reads each manual, and completes words."""
-    for name in PROGRAMS:
+def try_words(place: Place, share: str = '/usr/share', more: Sequence[str] = ()) -> None:
+    """Reads each manual, also those of more programs, and completes words."""
+    for name in [*PROGRAMS, *more]:
         status, out, err = place.run(f'MANPATH={share}/man MANWIDTH=90 man -P cat {name}')
         is_read = status == 0 and f'{name} - ' in out and 'EXIT STATUS' in out and not err
         place.count.check(is_read, f'man {name}: {status} {err}')
@@ -57,16 +69,55 @@ def try_library(place: Place, examples: str, flags: str = '', run: str = '') -> 
     made = f'{place.home}/made'
     place.succeeds(f'mkdir -p {made}')
     for kind, compiled in [('', '{0} --cflags --libs rap'), ('-static', '{0} --static --cflags --libs rap')]:
-        for name in ['tree', 'records', 'words', 'deep']:
+        for name in ['tree', 'records', 'words', 'deep', 'lists', 'outline']:
             config = compiled.format(f'{flags}pkg-config')
             line = f'cc -O2 -Wall -Werror -pthread {kind} {examples}/{name}.c $({config}) -o {made}/{name}'
             if not place.succeeds(line):
                 continue
             if name == 'tree':
                 place.prints(f'{run}{made}/tree 2024 Expr sum.rs', read('crates/rast/stdout'))
+            elif name == 'outline':
+                place.prints(f'{run}{made}/outline 2024 outline.rs', read('examples/data/outline.txt'))
             else:
                 place.succeeds(f'{run}{made}/{name} {"2024 Expr " if name == "deep" else ""}sum.rs')
     place.succeeds(f'rm -r {made}')
+
+
+def try_cmake(place: Place, examples: str, flags: str = '', run: str = '') -> None:
+    """Builds and runs an example by CMake, shared and static. `flags` are for cmake, `run` goes before each program."""
+    made = f'{place.home}/made'
+    for version, is_well in [(crate_version(), True), ('99.0', False)]:
+        written = f"mkdir -p {made} && printf '%s' '{PROJECT.format(version, examples)}' > {made}/CMakeLists.txt"
+        status, out, err = place.run(f'{written} && cmake {flags} -S {made} -B {made}')
+        place.count.check((status == 0) == is_well, f'cmake for version {version}: the status {status}\n{out}{err}')
+        if is_well and status == 0 and place.succeeds(f'cmake --build {made}'):
+            for kind, is_shared in [('rap', True), ('static', False)]:
+                place.prints(f'{run}{made}/outline_{kind} 2024 outline.rs', read('examples/data/outline.txt'))
+                needed = place.run(f'{run}ldd {made}/outline_{kind}')[1]
+                place.count.check(('librap.so.0 => /' in needed) == is_shared, f'outline_{kind} needs\n{needed}')
+        place.succeeds(f'rm -r {made}')
+
+
+def try_python(place: Place, before: str = '', command: str = COMMAND) -> None:
+    """Tries the package for Python: what README shows, a file as `rast` prints it, its own tests, and its command.
+    `before` stands before python3 and before the command."""
+    place.prints(f'{before}python3 shown.py', shown_in_python()[1])
+    lines = 'import rap; print(rap.parse(open("sum.rs", "rb").read(), entry="Expr").dump(), end="")'
+    place.prints(f"{before}python3 -c '{lines}'", read('crates/rast/stdout'))
+    place.succeeds(f'{before}python3 -B -m pytest -q -p no:cacheprovider {" ".join(TESTS)}')
+    place.prints(f'{before}{command} . --out items.sqlite --quiet', '')
+    place.prints('python3 item.py', "[('FN', 'main', 1, 3)]\n")
+    place.succeeds('rm items.sqlite')
+
+
+def try_wheel(place: Place, file: str) -> None:
+    """Installs the wheel into a folder, with the library that is in it, and tries it."""
+    status, out, _ = place.run('python3 -c "import rap"')
+    place.count.check(status != 0, f'rap is there before\n{out}')
+    at = f'{place.home}/wheel'
+    place.succeeds(f'python3 -m pip install --quiet --no-index --no-deps --target {at} {file}')
+    try_python(place, f'PYTHONPATH={at} ', f'{at}/bin/{COMMAND}')
+    place.succeeds(f'rm -r {at}')
 
 
 def try_packages(fresh: Fresh) -> None:
@@ -77,8 +128,10 @@ def try_packages(fresh: Fresh) -> None:
     if not fresh.succeeds(f'{apt} install ./*.deb', '/release'):
         return
     try_programs(fresh)
-    try_words(fresh)
+    try_words(fresh, more=[COMMAND])
     try_library(fresh, '/usr/share/doc/librap-dev/examples')
+    try_cmake(fresh, '/usr/share/doc/librap-dev/examples')
+    try_python(fresh)
     needed = fresh.run('cc /usr/share/doc/librap-dev/examples/tree.c -lrap -o /tmp/tree && ldd /tmp/tree')[1]
     is_own = f'librap.so.0 => /lib/{TRIPLET}/librap.so.0' in needed
     fresh.count.check(is_own, f'the example uses another library\n{needed}')
@@ -87,8 +140,9 @@ def try_packages(fresh: Fresh) -> None:
     fresh.count.check(not left, f'after the removal: {" ".join(left)}')
 
 
-def try_tar(place: Place, file: str, reads: bool) -> None:
-    """Tries the tar file under a prefix in the home folder, when no package is installed. `reads` the manuals too."""
+def try_tar(place: Place, file: str, reads: bool, builds: bool) -> None:
+    """Tries the tar file under a prefix in the home folder, when no package is installed. `reads` the manuals too, and
+    `builds` by CMake."""
     place.is_free()
     prefix = f'{place.home}/prefix'
     place.succeeds(f'mkdir -p {prefix} && tar -xzf {file} -C {prefix} --strip-components=1')
@@ -97,4 +151,7 @@ def try_tar(place: Place, file: str, reads: bool) -> None:
         try_words(place, f'{prefix}/share')
     try_library(place, f'{prefix}/share/doc/rap/examples', f'PKG_CONFIG_PATH={prefix}/lib/pkgconfig ',
                 f'LD_LIBRARY_PATH={prefix}/lib ')
+    if builds:
+        try_cmake(place, f'{prefix}/share/doc/rap/examples', f'-DCMAKE_PREFIX_PATH={prefix}',
+                  f'LD_LIBRARY_PATH={prefix}/lib ')
     place.succeeds(f'rm -r {prefix}')

@@ -1,10 +1,11 @@
 /* Times the ways to a tree of a text, and walks over it: times FILE ROUNDS.
  *
  * Prints the least processor time of ROUNDS calls, in milliseconds and in megabytes of text a second: of
- * rap_tree_words, of rap_nodes, and of a walk over all elements that counts the nodes of each kind, in millions of
- * elements a second; of a walk that goes from each node to its children and counts them; and of the search for
- * the leaf at each of a million places drawn at random, in nanoseconds a place. The arrays are written once
- * before anything is timed. It runs on a stack as large as rap_stack says. */
+ * rap_tree_words without room, which hands out the steps and keeps none; of rap_tree_words, of rap_nodes, and of a walk
+ * over all elements that counts the nodes of each kind, in millions of elements a second; of a walk that goes from each
+ * node to its children and counts them; and of the search for the leaf at each of a million places drawn at random, and
+ * for the smallest element that holds each of a million ranges of up to 64 bytes, in nanoseconds a place. The arrays
+ * are written once before anything is timed. It runs on a stack as large as rap_stack says. */
 #define _GNU_SOURCE
 #include "rap.h"
 #include <pthread.h>
@@ -38,6 +39,21 @@ static void *room(size_t count, size_t size)
 static void say(const char *name, double took)
 {
     printf("%-10s %8.2f ms %8.1f MB/s\n", name, took, 1e-3 * (double)length / took);
+}
+
+/* The time of rap_tree_words without room. */
+static double time_counts(void)
+{
+    uint8_t none[1];
+    uint32_t one[1];
+    double least = 1e9;
+    for (int i = 0; i <= rounds; i++) {
+        double begun = now();
+        rap_tree_words(text, length, 2024, RAP_SOURCE_FILE, one, 0, none, 0);
+        double took = now() - begun;
+        least = i && took < least ? took : least;
+    }
+    return least;
 }
 
 /* The time of rap_tree_words. */
@@ -91,6 +107,33 @@ static size_t leaf_at(const struct rap_element *e, size_t count, uint32_t place)
     return low;
 }
 
+/* The smallest element that holds a range: from the last one that begins early enough up to one that ends late enough. */
+static size_t covering(const struct rap_element *e, size_t count, uint32_t start, uint32_t end)
+{
+    size_t found = leaf_at(e, count, start);
+    while (e[found].end < end)
+        found = e[found].parent;
+    return found;
+}
+
+/* Times searches for what is at places drawn at random. */
+static void time_places(const struct rap_element *e, size_t count)
+{
+    uint64_t kept = 0;
+    double begun = now();
+    for (uint32_t i = 0, place = 1; i < PLACES; i++, place = place * 1664525u + 1013904223u)
+        kept += leaf_at(e, count, place % e[0].end);
+    double took = now() - begun;
+    printf("leaf_at    %8.1f ns a place (%d)\n", 1e6 * took / PLACES, (int)(kept % 10));
+    begun = now();
+    for (uint32_t i = 0, place = 1; i < PLACES; i++, place = place * 1664525u + 1013904223u) {
+        uint32_t start = place % e[0].end, end = start + (place >> 26);
+        kept += covering(e, count, start, end < e[0].end ? end : e[0].end);
+    }
+    took = now() - begun;
+    printf("covering   %8.1f ns a range (%d)\n", 1e6 * took / PLACES, (int)(kept % 10));
+}
+
 static void time_walks(const struct rap_element *e, size_t count)
 {
     double kinds = 1e9, children = 1e9, begun, took;
@@ -105,13 +148,9 @@ static void time_walks(const struct rap_element *e, size_t count)
         took = now() - begun;
         children = i && took < children ? took : children;
     }
-    begun = now();
-    for (uint32_t i = 0, place = 1; i < PLACES && e[0].end; i++, place = place * 1664525u + 1013904223u)
-        kept += leaf_at(e, count, place % e[0].end);
-    took = now() - begun;
     printf("kinds      %8.2f ms %8.1f million elements a second\n", kinds, 1e-3 * (double)count / kinds);
     printf("children   %8.2f ms %8.1f million elements a second\n", children, 1e-3 * (double)count / children);
-    printf("leaf_at    %8.1f ns a place (%d)\n", 1e6 * took / PLACES, (int)(kept % 10));
+    printf("kept       %d\n", (int)(kept % 10));
 }
 
 /* The time of rap_nodes, and of walks over its elements. */
@@ -137,10 +176,13 @@ static void time_nodes(void)
     printf("elements   %zu of %zu bytes\n", all.elements, sizeof *elements);
     if (all.elements)
         time_walks(elements, all.elements);
+    if (all.elements && elements[0].end)
+        time_places(elements, all.elements);
 }
 
 static void *run(void *none)
 {
+    say("counts", time_counts());
     say("words", time_words());
     time_nodes();
     return none;

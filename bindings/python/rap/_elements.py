@@ -59,10 +59,10 @@ class Elements:
 
     __slots__ = ('source', 'words', '_array', '_messages', '_errors')
 
-    def __init__(self, source: Source, array: NDArray[Any], messages: Messages) -> None:
+    def __init__(self, source: Source, array: Column, messages: Messages) -> None:
         self.source = source
-        # As numbers, which are copied faster than structures are.
-        self._array: Column = array.view(np.uint32)
+        # Five numbers for each element.
+        self._array = array
         self._array.flags.writeable = False
         self.words = self._array.data
         self._messages = messages

@@ -9,7 +9,7 @@ import numpy as np
 from numpy.typing import NDArray
 
 from rap import _stack
-from rap._elements import ELEMENT, MESSAGE, NO_PARENT, Elements, Error, Messages
+from rap._elements import ELEMENT, MESSAGE, NO_PARENT, Column, Elements, Error, Messages
 from rap._html import page
 from rap._library import ffi, lib, status_text
 from rap._source import Source
@@ -17,6 +17,8 @@ from rap.node import Element, Node, Token
 from rap.words import Edition, Entry
 
 STEP = np.dtype([('what', '<u4'), ('kind', '<u4'), ('at', '<u8'), ('start', '<u8'), ('end', '<u8')])
+
+NO_MESSAGES = Messages(np.empty(0, MESSAGE), b'')
 
 # How a character is written in quotes that does not stand for itself.
 ESCAPES = {'"': '\\"', '\\': '\\\\', '\n': '\\n', '\r': '\\r', '\t': '\\t', '\0': '\\0'}
@@ -26,11 +28,6 @@ def _quoted(text: str) -> str:
     """A text in quotes."""
     written = re.sub(r'["\\\x00-\x1f\x7f]', lambda it: ESCAPES.get(it[0]) or f'\\u{{{ord(it[0]):x}}}', text)
     return f'"{written}"'
-
-
-def _room(dtype: np.dtype[Any], count: int) -> NDArray[Any]:
-    """An array with room for so many, and for one at least. Only what is written to takes memory."""
-    return np.empty(max(count, 1), dtype)
 
 
 def _check(status: int, source: Source) -> None:
@@ -48,8 +45,7 @@ class Tree(Elements):
 
     __slots__ = ('edition', 'entry')
 
-    def __init__(self, source: Source, array: NDArray[Any], messages: Messages, edition: Edition,
-                 entry: Entry) -> None:
+    def __init__(self, source: Source, array: Column, messages: Messages, edition: Edition, entry: Entry) -> None:
         super().__init__(source, array, messages)
         self.edition, self.entry = edition, entry
 
@@ -106,7 +102,7 @@ class Tokens(Elements, Sequence[Token]):
 
     __slots__ = ('edition',)
 
-    def __init__(self, source: Source, array: NDArray[Any], messages: Messages, edition: Edition) -> None:
+    def __init__(self, source: Source, array: Column, messages: Messages, edition: Edition) -> None:
         super().__init__(source, array, messages)
         self.edition = edition
 
@@ -128,18 +124,23 @@ class Tokens(Elements, Sequence[Token]):
 
 
 def _tree_of(source: Source, edition: Edition, entry: Entry, rooms: tuple[int, int, int]
-             ) -> tuple[Any, NDArray[Any], NDArray[Any], NDArray[Any]]:
-    """Calls the library with these rooms for elements, messages and bytes of messages."""
-    arrays = _room(ELEMENT, rooms[0]), _room(MESSAGE, rooms[1]), _room(np.dtype(np.uint8), rooms[2])
-    text = ffi.from_buffer('uint8_t[]', source.data or b'\0')
-    elements = ffi.from_buffer('struct rap_element[]', arrays[0], require_writable=True)
-    messages = ffi.from_buffer('struct rap_message[]', arrays[1], require_writable=True)
-    texts = ffi.from_buffer('uint8_t[]', arrays[2], require_writable=True)
-    length, year, number = len(source.data), int(edition), entry.number
-    answer = _stack.run(length, lambda: lib.rap_nodes(text, length, year, number, elements, rooms[0], messages,
-                                                      rooms[1], texts, rooms[2]))
+             ) -> tuple[Any, Column, NDArray[np.uint64], NDArray[np.uint8]]:
+    """Calls the library with these rooms for elements, messages and bytes of messages, five numbers each of the former.
+    Only what is written to takes memory."""
+    elements, messages = np.empty(5 * rooms[0] + 1, np.uint32), np.empty(5 * rooms[1] + 1, np.uint64)
+    texts = np.empty(rooms[2] + 1, np.uint8)
+    room = ffi.from_buffer
+    answer = _stack.rap_nodes(room(source.data or b'\0'), len(source.data), int(edition), entry.number,
+                              room(elements), rooms[0], room(messages), rooms[1], room(texts), rooms[2])
     _check(answer.status, source)
-    return answer, *arrays
+    return answer, elements, messages, texts
+
+
+def _messages_of(answer: Any, messages: NDArray[np.uint64], texts: NDArray[np.uint8]) -> Messages:
+    """The messages that the library has written."""
+    if not answer.messages:
+        return NO_MESSAGES
+    return Messages(messages[:5 * answer.messages].copy().view(MESSAGE), texts[:answer.message_bytes].tobytes())
 
 
 def parse(text: str | bytes, edition: str = '2024', entry: str = 'SourceFile') -> Tree:
@@ -162,15 +163,14 @@ def parse(text: str | bytes, edition: str = '2024', entry: str = 'SourceFile') -
         rooms = 0, 0, 0
         answer, elements, messages, texts = _tree_of(source, edition, entry, rooms)
     wanted = answer.elements, answer.messages, answer.message_bytes
-    if any(it > room for it, room in zip(wanted, rooms)):
+    if wanted[0] > rooms[0] or wanted[1] > rooms[1] or wanted[2] > rooms[2]:
         answer, elements, messages, texts = _tree_of(source, edition, entry, wanted)
     # Where much room is left the elements are copied. Else it stays behind them: it was not written to, and memory that
     # is given back as it was taken is there for the next call without a fault.
-    filled = elements[:answer.elements].view(np.uint32)
-    if 4 * answer.elements < len(elements):
+    filled = elements[:5 * answer.elements]
+    if 4 * len(filled) < len(elements):
         filled = filled.copy()
-    reported = Messages(messages[:answer.messages].copy(), texts[:answer.message_bytes].tobytes())
-    return Tree(source, filled, reported, edition, entry)
+    return Tree(source, filled, _messages_of(answer, messages, texts), edition, entry)
 
 
 def tokens(text: str | bytes, edition: str = '2024') -> Tokens:
@@ -182,7 +182,7 @@ def tokens(text: str | bytes, edition: str = '2024') -> Tokens:
     data = ffi.from_buffer('uint8_t[]', source.data or b'\0')
     rooms = length // 2 + 64, length // 16 + 64
     while True:
-        arrays = _room(STEP, rooms[0]), _room(np.dtype(np.uint8), rooms[1])
+        arrays = np.empty(rooms[0] + 1, STEP), np.empty(rooms[1] + 1, np.uint8)
         steps = ffi.from_buffer('struct rap_step[]', arrays[0], require_writable=True)
         texts = ffi.from_buffer('uint8_t[]', arrays[1], require_writable=True)
         answer = lib.rap_tokens(data, length, int(edition), steps, rooms[0], texts, rooms[1])
@@ -206,4 +206,4 @@ def _tokens_of(source: Source, edition: Edition, steps: NDArray[Any], texts: byt
     rows['at'], rows['text_start'], rows['text_end'] = (reported[it] for it in ('at', 'start', 'end'))
     at = np.searchsorted(written['start'], reported['at'], 'right') - 1
     rows['start'], rows['end'] = written['start'][at], written['end'][at]
-    return Tokens(source, array, Messages(rows, texts), edition)
+    return Tokens(source, array.view(np.uint32), Messages(rows, texts), edition)

@@ -1,4 +1,5 @@
 """What holds of any text."""
+import re
 from bisect import bisect_right
 
 import numpy as np
@@ -91,5 +92,6 @@ def test_messages_are_in_order_and_at_tokens(tree: rap.Tree) -> None:
     for error in tree.errors:
         assert error.message and error.range[0] <= error.position <= error.range[1]
         assert error.range[0] == len(tree.text.encode()) or begins[bisect_right(begins, error.range[0]) - 1] >= 0
-    printed = [it for it in tree.dump().split('\n') if it.startswith('error ')]
-    assert sorted(printed) == sorted(f'error {it.position}: {it.message}' for it in tree.errors)
+    # A message may have two lines.
+    printed = re.split(r'(?m)^(?=error \d)', tree.dump())[1:]
+    assert sorted(printed) == sorted(f'error {it.position}: {it.message}\n' for it in tree.errors)

@@ -1,4 +1,4 @@
-"""Deep texts, and the threads in which they are parsed."""
+"""Deep texts, and the stacks on which they are parsed."""
 import gc
 import multiprocessing
 import os
@@ -19,19 +19,10 @@ NESTED = [('(', 'Expr'), ('-', 'Expr'), ('a(', 'Expr'), ('mod a{', 'SourceFile')
           ('|x|', 'Expr'), ('&', 'Type'), ('[', 'Pattern'), ('if a {} else ', 'Expr')]
 
 
-def threads() -> int:
-    """How many threads this process has."""
-    return len(os.listdir('/proc/self/task'))
-
-
-def threads_fall_to(count: int) -> bool:
-    """Whether there are soon so few threads."""
-    for _ in range(200):
-        gc.collect()
-        if threads() <= count:
-            return True
-        time.sleep(0.01)
-    return False
+def stacks() -> int:
+    """How many stacks there are."""
+    gc.collect()
+    return sum(isinstance(it, _stack.Stack) for it in gc.get_objects())
 
 
 def test_the_stack_is_that_of_the_header() -> None:
@@ -63,21 +54,40 @@ def test_in_a_thread_with_a_small_stack() -> None:
     assert threading.stack_size() == before
 
 
-def test_one_thread_is_kept_and_ends() -> None:
+def test_a_stack_is_kept_for_each_thread() -> None:
     text = 'fn f() {}\n' * 1000
     rap.parse(text)
-    before = threads()
+    before = stacks()
     for _ in range(20):
         rap.parse(text)
-    assert threads() == before
+    assert stacks() == before
     with ThreadPoolExecutor(4) as pool:
         ranges = set(pool.map(lambda _: rap.parse(text).root.range, range(40)))
-    assert ranges == {(0, 10000)} and threads_fall_to(before)
-    rap.parse(text * 10)
-    assert threads_fall_to(before)
+    assert ranges == {(0, 10000)} and stacks() == before
+    rap.parse(text * 100)
+    assert stacks() == before
+    with pytest.raises(MemoryError, match='no stack of 1125899906842624 bytes'):
+        _stack.Stack(1 << 50)
 
 
-def test_a_fault_in_a_kept_thread_is_the_callers() -> None:
+def test_a_call_in_a_call() -> None:
+    text = 'fn f() {}\n' * 1000
+
+    class Last:
+        def __del__(self) -> None:
+            found.append(size_of(text))
+
+    found: list[int] = []
+    for _ in range(10):
+        last = Last()
+        last.itself = last  # type: ignore[attr-defined]
+        del last
+        rap.parse(text)
+    gc.collect()
+    assert found == [size_of(text)] * 10
+
+
+def test_a_fault_is_the_callers() -> None:
     text = b'a' * 100_000 + b'\xff'
     for _ in range(3):
         with pytest.raises(UnicodeDecodeError):
