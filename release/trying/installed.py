@@ -105,7 +105,9 @@ def try_python(place: Place, before: str = '', command: str = COMMAND) -> None:
     lines = 'import rap; print(rap.parse(open("sum.rs", "rb").read(), entry="Expr").dump(), end="")'
     place.prints(f"{before}python3 -c '{lines}'", read('crates/rast/stdout'))
     place.succeeds(f'{before}python3 -B -m pytest -q -p no:cacheprovider {" ".join(TESTS)}')
-    place.prints(f'{before}{command} . --out items.sqlite --quiet', '')
+    status, out, err = place.run(f'{before}{command} . --out items.sqlite --quiet')
+    is_read = status == 0 and out.endswith(' files parsed, 0 with a text that was there, 0 not read\n')
+    place.count.check(is_read, f'{before}{command}: the status {status}\n{out}{err}')
     place.prints('python3 item.py', "[('FN', 'main', 1, 3)]\n")
     place.succeeds('rm items.sqlite')
 
