@@ -95,12 +95,15 @@ static uint64_t count_children(const struct rap_element *e, size_t count)
     return children;
 }
 
-/* The leaf at a place: the last element that begins there or before. */
+/* The leaf at a place: the last element that begins there or before. Both elements that may be asked for next are
+ * fetched ahead. */
 static size_t leaf_at(const struct rap_element *e, size_t count, uint32_t place)
 {
     size_t low = 0;
     while (count > 1) {
-        size_t half = count / 2;
+        size_t half = count / 2, next = (count - half) / 2;
+        __builtin_prefetch(&e[low + next].start);
+        __builtin_prefetch(&e[low + half + next].start);
         low = e[low + half].start <= place ? low + half : low;
         count -= half;
     }
