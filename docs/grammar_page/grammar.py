@@ -11,7 +11,7 @@ from grammar_page.walk import ENDS, GIVE_NOTHING, STEPS, Walker
 
 # How many rules are followed into one another at once; those that lie deeper wait.
 DEEPEST = 10
-ROOTS = (('Items', 'source_file', ()), ('Items', 'items', (False,)), ('Statements', 'macro_stmts', ()))
+ROOTS = (('Entry', 'source_file', ()), ('Modules', 'items', (False,)), ('Entry', 'macro_stmts', ()))
 
 
 @dataclass

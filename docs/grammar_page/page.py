@@ -309,7 +309,7 @@ class Page:
     def operators(self):
         """The operators with their powers."""
         kinds, evaluator = self.grammar.kinds, self.grammar.evaluator
-        right_of = self.grammar.library.find_in('Expressions', 'right_of')
+        right_of = self.grammar.library.find_in('Operators', 'right_of')
         rows = {}
         for kind, power in kinds.powers.items():
             rows.setdefault(power, []).append(kind)
@@ -322,8 +322,8 @@ class Page:
         return [*lines, '']
 
     def right_of(self, kind):
-        name = 'cast_expr' if kind == 'AS_KW' else 'range_expr'
-        return self.write.form((Rule('Expressions', name, name),))
+        module, name = ('Operators', 'cast_expr') if kind == 'AS_KW' else ('Ranges', 'range_expr')
+        return self.write.form((Rule(module, name, name),))
 
     def sets(self):
         lines = [SETS]

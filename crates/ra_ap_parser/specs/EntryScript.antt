@@ -4,14 +4,15 @@ use Rattle.rap_base.specs.NodeKind.{SOURCE_FILE, MACRO_STMTS, MACRO_ITEMS}
 use Rattle.rap_base.specs.TokenKind.{SEMICOLON}
 use Rattle.rap_events.specs.Record.{Record, next_kind}
 use Rattle.rap_events.specs.Forest.{Forest, none, node, ◌⧺◌, used}
-use Rattle.rap_grammar_scripts.specs.Atom.{expr}
-use Rattle.rap_grammar_scripts.specs.Called.{pattern, pattern_single, type_, meta}
+use Rattle.rap_grammar_scripts.specs.ThroughKnot.{expr, pattern, pattern_single, type_, meta}
 use Rattle.rap_grammar_core.specs.Derives.{Derives, Expression, Ty, Block, Contents, Many, Item, File, EndsExpression, EndsType}
 use Rattle.rap_grammar_core.specs.MacroCall.{IsMacroCall}
 use Rattle.rap_grammar_core.specs.Mixed.{IsFront}
 use Rattle.rap_grammar.specs.Top.{IsTopOf, IsRootOf, top_tree}
-use Rattle.rap_grammar_scripts.specs.Items.{source_file, mod_contents, item_or_macro}
-use Rattle.rap_grammar_scripts.specs.Statements.{macro_stmts, stmt}
+use Rattle.rap_grammar_scripts.specs.Entry.{source_file, macro_stmts}
+use Rattle.rap_grammar_scripts.specs.Modules.{mod_contents}
+use Rattle.rap_grammar_scripts.specs.Items.{item_or_macro}
+use Rattle.rap_grammar_scripts.specs.Statements.{stmt}
 use Rattle.rap_grammar.specs.Part.{IsPrefixOf}
 use Rattle.rap_grammar_scripts.specs.Blocks.{block_expr}
 use Rattle.rap_grammar_scripts.specs.Paths.{type_path}

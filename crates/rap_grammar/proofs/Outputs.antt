@@ -5,20 +5,19 @@ use Rattle.rap_base.specs.NodeKind.{MACRO_STMTS, SOURCE_FILE, MACRO_ITEMS}
 use Rattle.rap_events.specs.Record.{Record}
 use Rattle.rap_events.specs.Forest.{Forest, none, node, ◌⧺◌, message_count, one_tree}
 use Rattle.rap_events.specs.State.{State}
-use Rattle.rap_grammar_scripts.specs.Atom.{expr}
-use Rattle.rap_grammar_scripts.specs.Called.{type_}
+use Rattle.rap_grammar_scripts.specs.ThroughKnot.{expr, type_}
 use Rattle.rap_grammar_core.specs.Derives.{Derives, Expression, Ty, Contents, EndsExpression, File, Many, file_of, Item}
 use Rattle.rap_grammar_scripts.specs.Knot.{script_of, Follows}
-use Rattle.rap_grammar_scripts.specs.Phrase.{Phrase}
+use Rattle.rap_grammar_scripts.specs.declared.rule.Rule.{Rule}
 use Rattle.rap_grammar_scripts.specs.Script.{Script, forests, Spot, Outcome, something, Runs}
-use Rattle.rap_grammar_scripts.specs.Statements.{macro_stmts}
+use Rattle.rap_grammar_scripts.specs.Entry.{macro_stmts, source_file}
 use Rattle.rap_grammar.specs.Top.{IsTopOf, IsRootOf, top_tree}
 use Rattle.rap_grammar_core.proofs.Complete.{expression_whole, type_whole, contents_whole, expression_at_beginning}
 use Rattle.rap_grammar_scripts.proofs.OneEnd.{Same, one_end}
 use Rattle.rap_grammar_core.proofs.Recovery.{file_begins, contents_begin}
 use Rattle.rap_grammar_core.specs.Mixed.{IsFront}
 use Rattle.rap_grammar_core.proofs.Unique.{over, unmarked, one_expression, one_type}
-use Rattle.rap_grammar_scripts.specs.Items.{mod_contents, source_file}
+use Rattle.rap_grammar_scripts.specs.Modules.{mod_contents}
 use Rattle.rap_grammar_core.proofs.Items.{file_whole, items_whole}
 use Rattle.rap_grammar_core.specs.MacroCall.{IsMacroCall}
 use Rattle.rap_grammar_core.proofs.Ways.{Leads}
@@ -64,7 +63,7 @@ pub derived_statements_clean : {input : List Record} {t output : Forest} →
 derived_statements_clean {t = t} i d = ap message_count (derived_statements i d) ∙ over (unmarked d)
 
 -- what a script makes of a whole input stands under the node of its entry
-pub root_of : {kind : ℕ} {s : Script Phrase} {input : List Record} {t output : Forest} → IsRootOf kind s input output →
+pub root_of : {kind : ℕ} {s : Script Rule} {input : List Record} {t output : Forest} → IsRootOf kind s input output →
     Leads s (none ∷ []) input none [] t → output ≡ node none kind t
 root_of {kind = kind} i x =
     let e = one_end i.run x in
@@ -113,14 +112,14 @@ begun_items i d =
     (x.0, i.tree ∙ ap (λ (f : Forest). node none MACRO_ITEMS f) x.1)
 
 -- the same input gives the same output
-pub one_output : {s : Script Phrase} {input : List Record} {a b : Forest} → IsTopOf s input a → IsTopOf s input b →
+pub one_output : {s : Script Rule} {input : List Record} {a b : Forest} → IsTopOf s input a → IsTopOf s input b →
     a ≡ b
 one_output i j =
     let e = one_end i.run j.run in
     i.tree ∙ rw (ap (λ (p : Spot). p.forest) e.spot, ap (λ (p : Spot). p.rest) e.spot) (sym j.tree)
 
 -- the same of an entry that makes a node of its own
-pub one_root : {kind : ℕ} {s : Script Phrase} {input : List Record} {a b : Forest} → IsRootOf kind s input a →
+pub one_root : {kind : ℕ} {s : Script Rule} {input : List Record} {a b : Forest} → IsRootOf kind s input a →
     IsRootOf kind s input b → a ≡ b
 one_root {kind = kind} i j =
     let e = one_end i.run j.run in

@@ -6,22 +6,23 @@ ghost use Rattle.rap_events.specs.Forest.{Forest, node, none, flat, message_coun
 ghost use Rattle.rap_events.specs.Machine.{floor, push};
 ghost use Rattle.rap_events.specs.State.{state};
 ghost use Rattle.rap_base.specs.TokenKind.{ERROR};
-ghost use Rattle.rap_grammar_scripts.specs.Called as called;
+ghost use Rattle.rap_grammar_scripts.specs.ThroughKnot as through_knot_script;
 ghost use Rattle.rap_grammar_frame.specs.Grew.{Grew};
-ghost use Rattle.rap_grammar_scripts.specs.Items as item_script;
+ghost use Rattle.rap_grammar_scripts.specs.Entry as script;
+ghost use Rattle.rap_grammar_scripts.specs.Modules as modules_script;
 ghost use Rattle.rap_grammar_scripts.specs.Exec.{Does};
 ghost use Rattle.rap_grammar_scripts.specs.Script.{something};
 ghost use Rattle.rap_grammar.specs.Top.{top_tree, with_leaves};
-ghost use Rattle.rap_grammar_scripts.specs.Statements as statement_script;
 
-use crate::knot::run;
+use crate::knot::{all_rules, run};
 use rap_base::T;
 use rap_base::no_memory::NoMemory;
 use rap_base::syntax_kind::SyntaxKind;
 use rap_events::output::{Output, Step, wrap_in_node};
 use rap_events::parser::{Marker, Parser};
-use rap_grammar_frame::knot::Rule;
+use rap_grammar_attributes::attributes::inner_attrs;
 use rap_grammar_scripts::arguments::Semicolon;
+use rap_grammar_scripts::rule::Rule;
 use std::alloc::Global;
 
 pub mod part;
@@ -71,7 +72,7 @@ pub fn is_one_tree(output: &Output) -> bool
 /// Reads the contents of an attribute's brackets.
 fn meta_item(p: &mut Parser<'_>) -> Result<(), NoMemory>
     ensures grew { OnOk result (Grew (state p.old) (state p.new) 16) }
-    ensures script { OnOk result (Does (suc (state p.old).left) called.meta something (state p.old) (state p.new)) }
+    ensures script { OnOk result (Does (suc (state p.old).left) through_knot_script.meta something (state p.old) (state p.new)) }
 {
     run(p, Rule::Meta)?;
     Ok(())
@@ -81,7 +82,8 @@ fn meta_item(p: &mut Parser<'_>) -> Result<(), NoMemory>
 fn macro_stmts(p: &mut Parser<'_>) -> Result<(), NoMemory>
     ensures grew { OnOk result (Grew (state p.old) (state p.new) 0) }
     ensures rest { OnOk result ((state p.new).rest ≡ []) }
-    ensures script { OnOk result (Does (suc (state p.old).left) statement_script.macro_stmts something (state p.old) (state p.new)) }
+    ensures script { OnOk result
+        (Does (suc (state p.old).left) script.macro_stmts something (state p.old) (state p.new)) }
 {
     'statements: while p.current() != SyntaxKind::EOF {
         let semicolon = Semicolon::Optional;
@@ -94,7 +96,8 @@ fn macro_stmts(p: &mut Parser<'_>) -> Result<(), NoMemory>
 fn items(p: &mut Parser<'_>) -> Result<(), NoMemory>
     ensures grew { OnOk result (Grew (state p.old) (state p.new) 0) }
     ensures rest { OnOk result ((state p.new).rest ≡ []) }
-    ensures script { OnOk result (Does (suc (state p.old).left) (item_script.items false) something (state p.old) (state p.new)) }
+    ensures script { OnOk result
+        (Does (suc (state p.old).left) (modules_script.items false) something (state p.old) (state p.new)) }
 {
     'items: while p.current() != SyntaxKind::EOF {
         // Only `safe fn` is more than elsewhere in a foreign block, and there is no other reading of it.
@@ -111,9 +114,11 @@ fn items(p: &mut Parser<'_>) -> Result<(), NoMemory>
 fn macro_items(p: &mut Parser<'_>) -> Result<(), NoMemory>
     ensures grew { OnOk result (Grew (state p.old) (state p.new) 0) }
     ensures rest { OnOk result ((state p.new).rest ≡ []) }
-    ensures script { OnOk result (Does (suc (state p.old).left) (item_script.mod_contents false) something (state p.old) (state p.new)) }
+    ensures script { OnOk result
+        (Does (suc (state p.old).left) (modules_script.mod_contents false) something (state p.old) (state p.new)) }
 {
-    run(p, Rule::InnerAttrs)?;
+    let g = all_rules(p);
+    inner_attrs(p, &g)?;
     items(p)?;
     Ok(())
 }
@@ -122,7 +127,8 @@ fn macro_items(p: &mut Parser<'_>) -> Result<(), NoMemory>
 fn source_file(p: &mut Parser<'_>) -> Result<(), NoMemory>
     ensures grew { OnOk result (Grew (state p.old) (state p.new) 0) }
     ensures rest { OnOk result ((state p.new).rest ≡ []) }
-    ensures script { OnOk result (Does (suc (state p.old).left) item_script.source_file something (state p.old) (state p.new)) }
+    ensures script { OnOk result
+        (Does (suc (state p.old).left) script.source_file something (state p.old) (state p.new)) }
 {
     p.eat(T![shebang])?;
     p.eat(T![frontmatter])?;

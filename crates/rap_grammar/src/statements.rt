@@ -4,7 +4,7 @@ ghost use Rattle.std.specs.Prelude.{ℕ, ◌≡◌, ◌≢◌, ◌<◌, ◌≤�
 ghost use Rattle.rap_base.specs.TokenKind.{EOF};
 ghost use Rattle.rap_events.specs.State.{state, next, IsLast};
 ghost use Rattle.rap_grammar_scripts.specs.Blocks.{starts_let};
-ghost use Rattle.rap_grammar_scripts.specs.Expressions.{of_like, is_block};
+ghost use Rattle.rap_grammar_scripts.specs.Words.{of_like, is_block};
 ghost use Rattle.rap_grammar_frame.specs.Grew.{Within, Grew, Gone, Spent};
 ghost use Rattle.rap_grammar_scripts.specs.Exec.{Does};
 ghost use Rattle.rap_grammar_frame.specs.Room.{expr_stmt_room, recovery_events};
@@ -17,15 +17,16 @@ use rap_base::T;
 use rap_base::no_memory::NoMemory;
 use rap_base::syntax_kind::SyntaxKind;
 use rap_events::parser::{CompletedMarker, Marker, Parser};
-use rap_grammar_blocks::attributes::outer_attrs;
-use rap_grammar_blocks::blocks::{let_stmt, starts_let};
-use rap_grammar_expressions::expressions::expr_bp;
+use rap_grammar_attributes::attributes::outer_attrs;
+use rap_grammar_expressions::expressions::expr_from;
+use rap_grammar_expressions_blocks::blocks::{let_stmt, starts_let};
 use rap_grammar_frame::first::is_expr_first;
 use rap_grammar_frame::knot::Grammar;
 use rap_grammar_items::items::opt_item;
 use rap_grammar_scripts::arguments::{BlockLike, Restrictions, Semicolon};
 
 /// A statement: `;`, a `let`, an item, or an expression, which at the end of its block is its value.
+#[tactic(auto, unfolding(rap_grammar_scripts::specs::Statements::stmt))]
 pub fn stmt<G: Grammar>(p: &mut Parser<'_>, g: &G, semicolon: Semicolon) -> Result<(), NoMemory>
     requires within { Within G.valid G.left g.now (state p.old) }
     ensures statement { OnOk result (IsStatement (state p.old) (state p.new)) }
@@ -51,6 +52,7 @@ pub fn stmt<G: Grammar>(p: &mut Parser<'_>, g: &G, semicolon: Semicolon) -> Resu
 }
 
 /// An expression from the newest marker on, as a statement, or as the value of the block that ends after it.
+#[tactic(auto, unfolding(rap_grammar_scripts::specs::Statements::expr_as_stmt))]
 fn expr_as_stmt<G: Grammar>(
     p: &mut Parser<'_>,
     g: &G,
@@ -61,7 +63,8 @@ fn expr_as_stmt<G: Grammar>(
     requires newest { (state p.old).marker ≡ Some m.pos.value }
     ensures gone { OnOk result (Gone (state p.old) (state p.new) 4) }
     ensures spent { OnOk result (next (state p.old) ≢ EOF → Spent (state p.old) (state p.new) expr_stmt_room) }
-    ensures script { OnOk result (Does (G.left g.now) (script.expr_as_stmt semicolon) something (state p.old) (state p.new)) }
+    ensures script { OnOk result
+        (Does (G.left g.now) (script.expr_as_stmt semicolon) something (state p.old) (state p.new)) }
 {
     if !is_expr_first(p.current()) {
         p.err_and_bump("expected expression, item or let statement")?;
@@ -72,7 +75,7 @@ fn expr_as_stmt<G: Grammar>(
         forbid_structs: false,
         prefer_stmt: true,
     };
-    let Some((cm, block_like)) = expr_bp(p, g, Some(m), r, 1)? else {
+    let Some((cm, block_like)) = expr_from(p, g, m, r, 1)? else {
         return Ok(());
     };
     expr_stmt_end(p, cm, block_like, semicolon)?;
@@ -80,6 +83,7 @@ fn expr_as_stmt<G: Grammar>(
 }
 
 /// The end of an expression as a statement: a node around it and its semicolon, unless it is the value of its block.
+#[tactic(auto, unfolding(rap_grammar_scripts::specs::Statements::expr_stmt_end))]
 fn expr_stmt_end(
     p: &mut Parser<'_>,
     cm: CompletedMarker,
@@ -89,8 +93,8 @@ fn expr_stmt_end(
     requires last { IsLast (state p.old) cm cm.kind.value }
     ensures grew { OnOk result (Grew (state p.old) (state p.new) recovery_events) }
     ensures script { OnOk result
-        ((depth : ℕ) → Does depth (script.expr_stmt_end semicolon (is_block (of_like block_like))) something (state p.old)
-        (state p.new)) }
+        ((depth : ℕ) → Does depth (script.expr_stmt_end semicolon (is_block (of_like block_like))) something
+        (state p.old) (state p.new)) }
 {
     if ends_block(p, semicolon) {
         return Ok(());
@@ -112,6 +116,7 @@ fn ends_block(p: &Parser<'_>, semicolon: Semicolon) -> bool
 }
 
 /// The semicolon after an expression, which one that reads like a block may do without.
+#[tactic(auto, unfolding(rap_grammar_scripts::specs::Statements::expr_semicolon))]
 fn expr_semicolon(
     p: &mut Parser<'_>,
     semicolon: Semicolon,
@@ -119,8 +124,8 @@ fn expr_semicolon(
 ) -> Result<(), NoMemory>
     ensures grew { OnOk result (Grew (state p.old) (state p.new) 1) }
     ensures script { OnOk result
-        ((depth : ℕ) → Does depth (script.expr_semicolon semicolon (is_block (of_like block_like))) something (state p.old)
-        (state p.new)) }
+        ((depth : ℕ) → Does depth (script.expr_semicolon semicolon (is_block (of_like block_like))) something
+        (state p.old) (state p.new)) }
 {
     match semicolon {
         Semicolon::Required => {

@@ -9,22 +9,25 @@ use Rattle.rap_events.specs.Composite.{width, is_at, begins_with}
 use Rattle.rap_events.specs.Forest.{Forest, none, node, leaf, ◌⧺◌}
 use Rattle.rap_events.specs.OperatorTable.{powers}
 use Rattle.rap_events.specs.Power.{power, power_in}
-use Rattle.rap_grammar_scripts.specs.Atom.{unrestricted, expr, atom_expr, plain_block, starts_record}
+use Rattle.rap_grammar_scripts.specs.ThroughKnot.{unrestricted, expr, type_, type_no_bounds, pattern, as_statement, without_structs, expr_no_struct, ascription}
+use Rattle.rap_grammar_scripts.specs.Atom.{atom_expr, starts_record}
+use Rattle.rap_grammar_scripts.specs.EffectBlocks.{plain_block}
 use Rattle.rap_grammar_scripts.specs.Blocks.{let_type, block_expr}
-use Rattle.rap_grammar_scripts.specs.Called.{type_, type_no_bounds, pattern, as_statement, without_structs, expr_no_struct}
-use Rattle.rap_grammar_scripts.specs.Grammar.{name_r}
-use Rattle.rap_grammar_scripts.specs.Statements.{stmt, macro_stmts}
-use Rattle.rap_grammar_scripts.specs.TypeParts.{ascription}
+use Rattle.rap_grammar_scripts.specs.Names.{name_r}
+use Rattle.rap_grammar_scripts.specs.Statements.{stmt}
+use Rattle.rap_grammar_scripts.specs.Entry.{macro_stmts}
 use Rattle.rap_grammar_core.specs.Derives.{Is, Writes, IsNamedField, Category, Maybe, Many, Elements, Expression, Binary, Unary, Postfix, Arguments, Atom, Path, Segment, Reference, Ty, Name, Bind, Visibility, Annotation, Value, Statement, Contents, Block, Item, Items, Fields, Field, Tuple, TupleField, Params, Param, Return, File, Derives, EndsExpression, EndsType, maybe_none, maybe_some, many_none, many_more, element_last, element_comma, element_more, reference, segment, path_one, path_more, atom_literal, atom_path, atom_paren, postfix_atom, postfix_call, postfix_index, postfix_try, postfix_field, postfix_number, postfix_method, argument_list, unary_prefix, unary_ref, unary_ref_mut, unary_postfix, binary_unary, binary_tighter, binary_operator, expression_binary, expression_assign, type_path, type_ref, type_ref_mut, type_slice, name_given, bind_name, visibility_pub, annotation_type, value_given, statement_let, statement_expression, block_of, item_module, item_module_of, item_struct, item_struct_fields, item_struct_tuple, item_function, items_of, fields_of, field_named, tuple_of, tuple_field, params_of, param_typed, return_type, file_of, statement_block, contents_none, contents_value, contents_block, contents_statement, contents_block_before, with_block, with_if, with_while, with_loop, if_of, else_block, else_if, atom_block, WithBlock, If, Else, StartsPlainly, starts_with_block}
-use Rattle.rap_grammar_scripts.specs.Expressions.{operand_of, right_of, climb, arg_list, lhs, prefix_power}
+use Rattle.rap_grammar_scripts.specs.Operator.{operand_of, prefix_power, operator_at}
+use Rattle.rap_grammar_scripts.specs.Operators.{right_of, climb}
+use Rattle.rap_grammar_scripts.specs.Postfix.{arg_list}
+use Rattle.rap_grammar_scripts.specs.Expressions.{lhs}
 use Rattle.rap_grammar_scripts.specs.First.{is_literal_first, one_of}
-use Rattle.rap_grammar_scripts.specs.Operator.{operator_at}
 use Rattle.rap_grammar_scripts.specs.Paths.{path_segment, path_for_qualifier, path}
 use Rattle.rap_grammar_scripts.specs.declared.arguments.Restrictions.{Restrictions}
 use Rattle.rap_grammar_scripts.proofs.Forests.{⧺-assoc}
 use Rattle.rap_grammar_scripts.specs.Control.{if_expr, else_branch}
 use Rattle.rap_grammar_scripts.specs.Knot.{script_of}
-use Rattle.rap_grammar_scripts.specs.Phrase.{Phrase}
+use Rattle.rap_grammar_scripts.specs.declared.rule.Rule.{Rule}
 use Rattle.rap_grammar_scripts.specs.Script.{Script, Runs, block}
 use Rattle.rap_grammar_core.proofs.Operators.{written_lead, differ, differ_back, is_calm, Calm, operator_seen, written_first, written_past, is_operand, calm_so}
 use Rattle.rap_events.proofs.Truth.{and_false}
@@ -404,7 +407,7 @@ fits_past : (r : Restrictions) (ks js : List Record) → starts_with_block ks �
 unfolding Fits
 fits_past r ks js e w = rw e at w
 
-claim_alone : (r : Restrictions) {s : Script Phrase} {b : List Forest} {rs l : List Record} {f t : Forest} →
+claim_alone : (r : Restrictions) {s : Script Rule} {b : List Forest} {rs l : List Record} {f t : Forest} →
     Reads r s b rs f l (none ⧺ t) → Reads r s b rs f l t
 claim_alone r x = rw none-⧺ at x
 

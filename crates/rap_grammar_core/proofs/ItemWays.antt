@@ -8,17 +8,18 @@ use Rattle.rap_events.specs.Forest.{Forest, none, node, leaf}
 use Rattle.rap_grammar_scripts.specs.Adt.{strukt, struct_or_union, fields, struct_fields, tuple_fields, tuple_field, record_field, tuple_field_list, record_fields, record_field_list, restricted_tuple_field, field_or_block, visible_field, comma_in_braces, restricted_field, opt_mut_restriction, is_tuple_field_first, opt_unsafe, typed_field, named_field, opt_value}
 use Rattle.rap_grammar_scripts.specs.Attributes.{inner_attrs}
 use Rattle.rap_grammar_scripts.specs.Blocks.{block_expr}
-use Rattle.rap_grammar_scripts.specs.Called.{opt_generic_param_list, opt_where_clause, type_no_bounds, type_, pattern}
+use Rattle.rap_grammar_scripts.specs.ThroughKnot.{opt_generic_param_list, opt_where_clause, type_no_bounds, type_, pattern, opt_ret_type, opt_no_arrow_ret_type, ascription}
 use Rattle.rap_grammar_scripts.specs.First.{one_of, is_outer_attr_first, is_type_first}
 use Rattle.rap_grammar_scripts.specs.Functions.{fn_, signature, fn_params, fn_ret_type, unbalanced_brackets, fn_body}
-use Rattle.rap_grammar_scripts.specs.Grammar.{name, name_r, opt_ret_type, elements, opt_no_arrow_ret_type, delimited}
-use Rattle.rap_grammar_scripts.specs.Items.{items, mod_contents, item_list, mod_body, mod_item, opt_item_without_modifiers, opt_item_with_modifiers, opt_modified_item, opt_item, after_item, marked_item, item_or_macro, ends_items}
+use Rattle.rap_grammar_scripts.specs.Names.{name, name_r}
+use Rattle.rap_grammar_scripts.specs.Lists.{elements, delimited}
+use Rattle.rap_grammar_scripts.specs.Modules.{items, mod_contents, item_list, mod_body, mod_item, ends_items}
+use Rattle.rap_grammar_scripts.specs.Items.{opt_item_without_modifiers, opt_item_with_modifiers, opt_modified_item, opt_item, after_item, marked_item, item_or_macro}
 use Rattle.rap_grammar_scripts.specs.Knot.{script_of}
 use Rattle.rap_grammar_scripts.specs.Modifiers.{modifiers, opt_impl_restriction, qualifiers, safety, opt_abi, auto_or_default, opt_default, modifier, modifier_as}
 use Rattle.rap_grammar_scripts.specs.Params.{param_list_fn_def, fn_def_params, marked_param, first_param, list_, opt_self_param, fn_def_param, param_type, variadic_param, after_param, params, attributed_param, is_self_value}
-use Rattle.rap_grammar_scripts.specs.Phrase.{Phrase}
+use Rattle.rap_grammar_scripts.specs.declared.rule.Rule.{Rule}
 use Rattle.rap_grammar_scripts.specs.Script.{Script, Outcome, nothing, something, again, Runs, gives, passes, fails, takes, starts, finishes, abandons, follows, obeys, turns, stops}
-use Rattle.rap_grammar_scripts.specs.TypeParts.{ascription}
 use Rattle.rap_grammar_scripts.specs.declared.arguments.Flavor.TheVariants as flavor
 use Rattle.rap_grammar_scripts.specs.Visibility.{opt_visibility, opt_visibility_inner}
 use Rattle.rap_events.proofs.Truth.{and_false}
@@ -26,12 +27,12 @@ use Rattle.rap_grammar_core.proofs.Operators.{differ, differ_back}
 use Rattle.rap_grammar_core.proofs.Ways.{Leads, no_attributes, not_first}
 
 -- the same with any outcome
-abbrev pub Goes : Outcome → Script Phrase → List Forest → List Record → Forest → List Record → Forest → Type 0
+abbrev pub Goes : Outcome → Script Rule → List Forest → List Record → Forest → List Record → Forest → Type 0
 Goes v s b rs f l g =
     Runs script_of s (record { rest = rs; forest = f; below = b }) (record { rest = l; forest = g; below = b }) v
 
 -- a script that ends the newest open node, which has a forest already
-abbrev pub Ends : Script Phrase → List Forest → Forest → List Record → Forest → List Record → Forest → Type 0
+abbrev pub Ends : Script Rule → List Forest → Forest → List Record → Forest → List Record → Forest → Type 0
 Ends s b f rs x l g =
     Runs script_of s (record { rest = rs; forest = x; below = f ∷ b }) (record {
       rest = l;
@@ -45,7 +46,7 @@ pub no_attribute : (test : ℕ → Bool) (k : ℕ) → test k ≡ true → test 
     is_outer_attr_first k ≡ false
 no_attribute test k h p d = rw (differ_back test k POUND h p, differ_back test k OUTER_DOC_COMMENT h d) refl
 
-abbrev pub EndsNothing : Script Phrase → List Forest → Forest → List Record → Forest → List Record → Forest → Type 0
+abbrev pub EndsNothing : Script Rule → List Forest → Forest → List Record → Forest → List Record → Forest → Type 0
 EndsNothing s b f rs x l g =
     Runs script_of s (record { rest = rs; forest = x; below = f ∷ b }) (record {
       rest = l;
@@ -232,7 +233,7 @@ record_field_way v h x n c y e =
     (follows y (follows (fails e gives) (finishes gives)))))))))))
 
 -- fields without names
-abbrev pub tuple_contents : Script Phrase
+abbrev pub tuple_contents : Script Rule
 tuple_contents = elements tuple_field R_PAREN COMMA (codes "expected tuple field") is_tuple_field_first
 
 pub tuple_list_way : {b : List Forest} {a c : Record} {rs l : List Record} {f x : Forest} → a.kind ≡ L_PAREN →

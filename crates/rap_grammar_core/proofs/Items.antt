@@ -20,7 +20,9 @@ use Rattle.rap_grammar_scripts.specs.Visibility.{opt_visibility}
 use Rattle.rap_grammar_scripts.specs.Params.{marked_param, param_list_fn_def, fn_def_params, params}
 use Rattle.rap_grammar_scripts.specs.Functions.{fn_ret_type}
 use Rattle.rap_grammar_scripts.specs.First.{one_of, is_outer_attr_first}
-use Rattle.rap_grammar_scripts.specs.Items.{item_list, item_or_macro, opt_item, items, mod_contents, source_file}
+use Rattle.rap_grammar_scripts.specs.Modules.{item_list, items, mod_contents}
+use Rattle.rap_grammar_scripts.specs.Items.{item_or_macro, opt_item}
+use Rattle.rap_grammar_scripts.specs.Entry.{source_file}
 use Rattle.rap_grammar_core.proofs.Lists.{Repeated, one_more, no_more}
 
 -- who may use an item or a field

@@ -8,7 +8,9 @@ use Rattle.rap_grammar_scripts.proofs.Balance.{balanced_way, balanced_clean}
 use Rattle.rap_grammar_core.specs.Derives.{IsName, Is}
 use Rattle.rap_grammar_core.proofs.Ways.{Leads, name_way, no_attributes}
 use Rattle.rap_grammar_core.proofs.ItemWays.{Goes, Ends, no_pub_way, contents_way, items_on, items_end}
-use Rattle.rap_grammar_scripts.specs.Items.{opt_item, opt_item_without_modifiers, path_item, opt_item_by_name, opt_modified_item, opt_item_with_modifiers, opt_extern_block, refuse, source_file, item_or_macro, items, mod_contents, marked_item, macro_or_error}
+use Rattle.rap_grammar_scripts.specs.Items.{opt_item, opt_item_without_modifiers, path_item, opt_item_by_name, opt_modified_item, opt_item_with_modifiers, opt_extern_block, refuse, item_or_macro, marked_item, macro_or_error}
+use Rattle.rap_grammar_scripts.specs.Entry.{source_file}
+use Rattle.rap_grammar_scripts.specs.Modules.{items, mod_contents}
 use Rattle.rap_grammar_scripts.specs.Modifiers.{modifiers, opt_impl_restriction, qualifiers, safety, opt_abi, auto_or_default, opt_default, modifier, modifier_as}
 use Rattle.rap_grammar_scripts.specs.Paths.{use_path, path, path_segment, segment_name, opt_path_args, path_for_qualifier}
 use Rattle.rap_grammar_scripts.specs.Macros.{macro_call}

@@ -5,7 +5,7 @@ use Rattle.rap_base.specs.NodeKind.{PATH_TYPE, REF_TYPE, SLICE_TYPE}
 use Rattle.rap_events.specs.Record.{Record, next_kind}
 use Rattle.rap_events.specs.Composite.{is_at}
 use Rattle.rap_events.specs.Forest.{Forest, none, node, leaf}
-use Rattle.rap_grammar_scripts.specs.Called.{type_, type_no_bounds}
+use Rattle.rap_grammar_scripts.specs.ThroughKnot.{type_, type_no_bounds}
 use Rattle.rap_grammar_core.specs.Derives.{IsName, EndsType}
 use Rattle.rap_grammar_scripts.specs.First.{one_of}
 use Rattle.rap_grammar_scripts.specs.Knot.{script_of}

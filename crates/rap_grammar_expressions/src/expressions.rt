@@ -1,15 +1,15 @@
 //! Expressions.
-ghost use Rattle.std.specs.Prelude.{ℕ, ◌≡◌, ◌≢◌, ◌<◌, ◌≤◌, IfOk, Some, None, is_some, OnOk, true, false};
+ghost use Rattle.std.specs.Prelude.{ℕ, ◌≡◌, ◌≢◌, ◌<◌, ◌≤◌, IfOk, Some, None, OnOk, true, false};
 ghost use Rattle.rap_base.specs.TokenKind.{EOF};
 ghost use Rattle.rap_events.specs.State.{state, next};
 ghost use Rattle.rap_grammar_scripts.specs.Expressions as script;
-ghost use Rattle.rap_grammar_scripts.specs.Expressions.{of_expr};
+ghost use Rattle.rap_grammar_scripts.specs.Words.{of_expr};
 ghost use Rattle.rap_grammar_scripts.specs.First.{is_expr_first};
 ghost use Rattle.rap_grammar_frame.specs.Grew.{Within, Dropped, Spent};
 ghost use Rattle.rap_grammar_scripts.specs.Exec.{Does};
 ghost use Rattle.rap_grammar_scripts.specs.Recovery.{stops_expr};
 ghost use Rattle.rap_grammar_frame.specs.Room.{operand_room, marked_room, dropped_events};
-ghost use Rattle.rap_grammar_frame.specs.Rules.{Answered, IsNewest, AnsweredFrom, Operand};
+ghost use Rattle.rap_grammar_frame.specs.Rules.{Answered, AnsweredFrom, Operand};
 ghost use Rattle.rap_grammar_scripts.specs.Script.{nothing};
 
 use crate::expressions::atom::atom_expr;
@@ -17,47 +17,40 @@ use crate::expressions::operators::{climb, prefix_expr, ref_expr};
 use rap_base::T;
 use rap_base::no_memory::NoMemory;
 use rap_events::parser::{CompletedMarker, Marker, Parser};
-use rap_grammar_blocks::attributes::outer_attrs;
+use rap_grammar_attributes::attributes::outer_attrs;
+use rap_grammar_expressions_operands::postfix::postfix_expr;
+use rap_grammar_expressions_operands::ranges::prefix_range;
 use rap_grammar_frame::first::is_expr_first;
 use rap_grammar_frame::knot::Grammar;
 use rap_grammar_frame::recovery::expr_recovery_set;
-use rap_grammar_operands::postfix::postfix_expr;
-use rap_grammar_operands::ranges::prefix_range;
 use rap_grammar_scripts::arguments::{BlockLike, Restrictions};
 
 mod atom;
 mod operators;
 
-/// An expression of at least the power `bp`, from the marker on if there is one.
+/// An expression of at least the power `bp`, after its attributes.
+#[tactic(auto, unfolding(rap_grammar_scripts::specs::Expressions::expr_bp))]
 pub fn expr_bp<G: Grammar>(
     p: &mut Parser<'_>,
     g: &G,
-    m: Option<Marker>,
     r: Restrictions,
     bp: u8,
 ) -> Result<Option<(CompletedMarker, BlockLike)>, NoMemory>
     requires within { Within G.valid G.left g.now (state p.old) }
-    requires newest { IsNewest (state p.old) m }
     requires power { 1 ≤ bp }
-    ensures answered { IfOk result (Answered (state p.old) (state p.new) m r.prefer_stmt bp) }
-    ensures script { IfOk result (λ e. Does (G.left g.now) (script.expr_bp (is_some m) r bp) (of_expr e) (state p.old) (state p.new)) }
+    ensures answered { IfOk result (Answered (state p.old) (state p.new) r.prefer_stmt bp) }
+    ensures script { IfOk result
+        (λ e. Does (G.left g.now) (script.expr_bp r bp) (of_expr e) (state p.old) (state p.new)) }
 {
-    match m {
-        Some(m) => {
-            let expr = expr_from(p, g, m, r, bp)?;
-            Ok(expr)
-        }
-        None => {
-            let m = p.start()?;
-            outer_attrs(p, g)?;
-            let expr = expr_from(p, g, m, r, bp)?;
-            Ok(expr)
-        }
-    }
+    let m = p.start()?;
+    outer_attrs(p, g)?;
+    let expr = expr_from(p, g, m, r, bp)?;
+    Ok(expr)
 }
 
 /// An expression of at least the power `bp`, from the newest marker on.
-fn expr_from<G: Grammar>(
+#[tactic(auto, unfolding(rap_grammar_scripts::specs::Expressions::expr_from))]
+pub fn expr_from<G: Grammar>(
     p: &mut Parser<'_>,
     g: &G,
     m: Marker,
@@ -72,7 +65,8 @@ fn expr_from<G: Grammar>(
         (λ e. e ≡ None → stops_expr (next (state p.old)) ≡ false → Spent (state p.old) (state p.new) marked_room) }
     ensures stays { IfOk result
         (λ e. e ≡ None → stops_expr (next (state p.old)) ≡ true → (state p.new).left ≡ (state p.old).left) }
-    ensures script { IfOk result (λ e. Does (G.left g.now) (script.expr_from r bp) (of_expr e) (state p.old) (state p.new)) }
+    ensures script { IfOk result
+        (λ e. Does (G.left g.now) (script.expr_from r bp) (of_expr e) (state p.old) (state p.new)) }
 {
     if !is_expr_first(p.current()) {
         missing_expr(p, m)?;
@@ -93,6 +87,7 @@ fn expr_from<G: Grammar>(
 /// Reports that an expression is missing, and abandons the marker. It is a function of its own so that the set
 /// takes no room on the stack of the recursive rules.
 #[inline(never)]
+#[tactic(auto, unfolding(rap_grammar_scripts::specs::Expressions::missing_expr))]
 fn missing_expr(p: &mut Parser<'_>, m: Marker) -> Result<(), NoMemory>
     requires newest { (state p.old).marker ≡ Some m.pos.value }
     requires missing { is_expr_first (next (state p.old)) ≡ false }
@@ -107,6 +102,7 @@ fn missing_expr(p: &mut Parser<'_>, m: Marker) -> Result<(), NoMemory>
 }
 
 /// An expression without an operator between two expressions, as `-a` and `a.b()`.
+#[tactic(auto, unfolding(rap_grammar_scripts::specs::Expressions::lhs))]
 fn lhs<G: Grammar>(
     p: &mut Parser<'_>,
     g: &G,

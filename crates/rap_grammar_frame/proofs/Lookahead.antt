@@ -8,7 +8,7 @@ use Rattle.rap_events.specs.State.{State, Ate}
 use Rattle.rap_events.proofs.Truth.{and_left, and_right}
 use Rattle.rap_grammar_scripts.proofs.Exec.{runs}
 use Rattle.rap_grammar_scripts.specs.Exec.{Ends}
-use Rattle.rap_grammar_scripts.specs.Grammar.{lifetime}
+use Rattle.rap_grammar_scripts.specs.Names.{lifetime}
 use Rattle.rap_grammar_scripts.specs.Knot.{script_of}
 use Rattle.rap_grammar_scripts.specs.Params.{past, is_self_ref}
 use Rattle.rap_grammar_scripts.specs.Script.{Spot, Outcome, something, Runs, starts, takes, finishes, gives}

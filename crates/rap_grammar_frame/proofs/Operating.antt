@@ -9,10 +9,13 @@ use Rattle.rap_events.specs.Record.{Record, next_kind}
 use Rattle.rap_grammar_scripts.proofs.ByOperator.{ends_by_operator}
 use Rattle.rap_grammar_scripts.proofs.Ends.{gives, passes, fails}
 use Rattle.rap_grammar_scripts.specs.Atom.{atom_expr}
-use Rattle.rap_grammar_scripts.specs.Expressions.{operation, climb_turn, cast_expr, range_expr, bin_expr, climb, lhs, postfix_expr, of_like, is_block}
+use Rattle.rap_grammar_scripts.specs.Operators.{operation, climb_turn, cast_expr, bin_expr, climb}
+use Rattle.rap_grammar_scripts.specs.Ranges.{range_expr}
+use Rattle.rap_grammar_scripts.specs.Expressions.{lhs}
+use Rattle.rap_grammar_scripts.specs.Postfix.{postfix_expr}
+use Rattle.rap_grammar_scripts.specs.Words.{of_like, is_block, done, if_some, of_bool}
 use Rattle.rap_grammar_scripts.specs.Operator.{operator_at}
 use Rattle.rap_grammar_scripts.specs.Script.{Outcome, nothing, something, block, again, goes_on, Spot, give, extend, abandon, after}
-use Rattle.rap_grammar_scripts.specs.Words.{done, if_some, of_bool}
 use Rattle.rap_grammar_scripts.specs.declared.arguments.BlockLike.{BlockLike}
 use Rattle.rap_grammar_scripts.specs.declared.arguments.BlockLike.TheVariants as like
 use Rattle.rap_grammar_scripts.specs.declared.arguments.Restrictions.{Restrictions}

@@ -4,8 +4,8 @@ ghost use Rattle.std.specs.Prelude.{◌≡◌, ℕ, ◌||◌, OnOk};
 ghost use Rattle.rap_base.specs.TokenKind.{IDENT};
 ghost use Rattle.rap_base.specs.TokenSet.{member};
 ghost use Rattle.rap_events.specs.State.{state, next};
-ghost use Rattle.rap_grammar_scripts.specs.Functions.{is_item_paren_recovery};
-ghost use Rattle.rap_grammar_scripts.specs.Grammar.{name_r};
+ghost use Rattle.rap_grammar_scripts.specs.ItemNames.{is_item_paren_recovery};
+ghost use Rattle.rap_grammar_scripts.specs.Names.{name_r};
 ghost use Rattle.rap_grammar_frame.specs.Grew.{Grew, Took};
 ghost use Rattle.rap_grammar_scripts.specs.Exec.{Does};
 ghost use Rattle.rap_grammar_scripts.specs.Recovery.{is_item_recovery};
@@ -24,7 +24,8 @@ use rap_events::parser::Parser;
 pub fn item_name(p: &mut Parser<'_>) -> Result<(), NoMemory>
     ensures grew { OnOk result (Grew (state p.old) (state p.new) recovery_events) }
     ensures took { OnOk result (next (state p.old) ≡ IDENT → Took (state p.old) (state p.new) name_room) }
-    ensures script { OnOk result ((depth : ℕ) → Does depth (name_r is_item_recovery) something (state p.old) (state p.new)) }
+    ensures script { OnOk result
+        ((depth : ℕ) → Does depth (name_r is_item_recovery) something (state p.old) (state p.new)) }
 {
     if p.at(T![ident]) {
         given_name(p)?;
@@ -40,7 +41,8 @@ pub fn item_name(p: &mut Parser<'_>) -> Result<(), NoMemory>
 pub fn fn_name(p: &mut Parser<'_>) -> Result<(), NoMemory>
     ensures grew { OnOk result (Grew (state p.old) (state p.new) recovery_events) }
     ensures took { OnOk result (next (state p.old) ≡ IDENT → Took (state p.old) (state p.new) name_room) }
-    ensures script { OnOk result ((depth : ℕ) → Does depth (name_r is_item_paren_recovery) something (state p.old) (state p.new)) }
+    ensures script { OnOk result
+        ((depth : ℕ) → Does depth (name_r is_item_paren_recovery) something (state p.old) (state p.new)) }
 {
     if p.at(T![ident]) {
         given_name(p)?;

@@ -1,7 +1,6 @@
 //! The frame of the grammar: the trait by which recursive rules call one another, and the small rules that many share.
 #![tactic(auto)]
 
-pub mod called;
 pub mod first;
 pub mod item_names;
 pub mod knot;
@@ -9,4 +8,5 @@ pub mod lists;
 pub mod literals;
 pub mod names;
 pub mod recovery;
+pub mod through_knot;
 pub mod token_tree;

@@ -3,10 +3,10 @@
 ghost use Rattle.std.specs.Prelude.{◌≡◌, ◌≢◌, ℕ, Bool, ◌<◌, ◌≤◌, OnOk, IfOk, true};
 ghost use Rattle.rap_base.specs.TokenKind.{EOF};
 ghost use Rattle.rap_events.specs.State.{state, next, At};
-ghost use Rattle.rap_grammar_scripts.specs.Grammar as script;
+ghost use Rattle.rap_grammar_scripts.specs.Lists as script;
 ghost use Rattle.rap_grammar_frame.specs.Grew.{Behind, Grew, Took, Within};
 ghost use Rattle.rap_grammar_scripts.specs.Exec.{Does};
-ghost use Rattle.rap_grammar_scripts.specs.Phrase.{Phrase};
+ghost use Rattle.rap_grammar_scripts.specs.declared.rule.Rule.{Rule};
 ghost use Rattle.rap_grammar_frame.specs.Room.{element_room, brackets_room};
 ghost use Rattle.rap_grammar_scripts.specs.Script.{Script, something};
 ghost use Rattle.rap_grammar_scripts.specs.Words.{of_bool};
@@ -19,7 +19,7 @@ use rap_events::parser::Parser;
 /// What stands between the delimiters of a list.
 pub trait Element {
     /// What one element makes, and whether the list goes on after it.
-    ghost element: { Self → Script Phrase };
+    ghost element: { Self → Script Rule };
 
     /// What elements begin with.
     ghost first: { Self → ℕ → Bool };
@@ -30,7 +30,8 @@ pub trait Element {
         requires more { next (state p.old) ≢ EOF }
         ensures grew { OnOk result (Grew (state p.old) (state p.new) 16) }
         ensures took { IfOk result (λ going_on. going_on ≡ true → Took (state p.old) (state p.new) element_room) }
-        ensures script { IfOk result (λ going_on. Does (G.left g.now) (element self.now) (of_bool going_on) (state p.old) (state p.new)) };
+        ensures script { IfOk result
+            (λ going_on. Does (G.left g.now) (element self.now) (of_bool going_on) (state p.old) (state p.new)) };
 
     /// Whether an element may begin with a token of this kind.
     fn is_first(&self, kind: SyntaxKind) -> bool
@@ -39,7 +40,7 @@ pub trait Element {
 
 /// A list from `bra` to `ket`, as `(a, b)`, its elements with `delim` between. A missing element is reported and
 /// skipped; a missing `delim` is reported where the next element begins.
-#[tactic(auto, using(crate::proofs::Binary::width_positive))]
+#[tactic(auto, using(crate::proofs::Binary::width_positive), unfolding(rap_grammar_scripts::specs::Lists::delimited))]
 pub fn delimited<G: Grammar, E: Element>(
     p: &mut Parser<'_>,
     g: &G,
@@ -67,6 +68,7 @@ pub fn delimited<G: Grammar, E: Element>(
 }
 
 /// The elements of a list up to `ket`, or to where it can't go on.
+#[tactic(auto, using(crate::proofs::Loops::turns), unfolding(rap_grammar_scripts::specs::Lists::elements))]
 fn elements<G: Grammar, E: Element>(
     p: &mut Parser<'_>,
     g: &G,

@@ -6,10 +6,10 @@ ghost use Rattle.rap_base.specs.Keyword.{is_any_identifier};
 ghost use Rattle.rap_base.specs.TokenSet.{member};
 ghost use Rattle.rap_events.specs.State.{state, next, NthAt, ReadsAs};
 ghost use Rattle.rap_grammar_scripts.specs.First.{is_path_name, is_path_name_or_index};
-ghost use Rattle.rap_grammar_scripts.specs.Grammar as script;
+ghost use Rattle.rap_grammar_scripts.specs.Names as script;
 ghost use Rattle.rap_grammar_frame.specs.Grew.{Grew, Took};
 ghost use Rattle.rap_grammar_scripts.specs.Exec.{Does};
-ghost use Rattle.rap_grammar_scripts.specs.Name.{given_name};
+ghost use Rattle.rap_grammar_scripts.specs.Names.{given_name};
 ghost use Rattle.rap_grammar_frame.specs.Room.{name_room, recovery_events};
 ghost use Rattle.rap_grammar_scripts.specs.Script.{something};
 ghost use Rattle.rap_grammar_scripts.specs.Words.{starts_builtin};
@@ -40,10 +40,12 @@ pub fn is_path_name(kind: SyntaxKind) -> bool
 }
 
 /// A name in a path, as `a` or `self`.
+#[tactic(auto, unfolding(rap_grammar_scripts::specs::Names::name_ref_mod_path))]
 pub fn name_ref_mod_path(p: &mut Parser<'_>) -> Result<(), NoMemory>
     ensures grew { OnOk result (Grew (state p.old) (state p.new) recovery_events) }
     ensures took { OnOk result (next (state p.old) ≢ EOF → Took (state p.old) (state p.new) name_room) }
-    ensures script { OnOk result ((depth : ℕ) → Does depth script.name_ref_mod_path something (state p.old) (state p.new)) }
+    ensures script { OnOk result
+        ((depth : ℕ) → Does depth script.name_ref_mod_path something (state p.old) (state p.new)) }
 {
     if is_path_name(p.current()) {
         let m = p.start()?;
@@ -63,10 +65,12 @@ pub fn is_path_name_or_index(kind: SyntaxKind) -> bool
 }
 
 /// A name in a path or a field's number, as `a` or `0`.
+#[tactic(auto, unfolding(rap_grammar_scripts::specs::Names::name_ref_mod_path_or_index))]
 pub fn name_ref_mod_path_or_index(p: &mut Parser<'_>) -> Result<(), NoMemory>
     ensures grew { OnOk result (Grew (state p.old) (state p.new) recovery_events) }
     ensures took { OnOk result (next (state p.old) ≢ EOF → Took (state p.old) (state p.new) name_room) }
-    ensures script { OnOk result ((depth : ℕ) → Does depth script.name_ref_mod_path_or_index something (state p.old) (state p.new)) }
+    ensures script { OnOk result
+        ((depth : ℕ) → Does depth script.name_ref_mod_path_or_index something (state p.old) (state p.new)) }
 {
     if is_path_name_or_index(p.current()) {
         let m = p.start()?;
@@ -79,6 +83,7 @@ pub fn name_ref_mod_path_or_index(p: &mut Parser<'_>) -> Result<(), NoMemory>
 }
 
 /// A lifetime, as `'a`.
+#[tactic(auto, unfolding(rap_grammar_scripts::specs::Names::lifetime))]
 pub fn lifetime(p: &mut Parser<'_>) -> Result<(), NoMemory>
     requires here { next (state p.old) ≡ LIFETIME_IDENT }
     ensures took { OnOk result (Took (state p.old) (state p.new) name_room) }
@@ -104,6 +109,7 @@ pub fn given_name(p: &mut Parser<'_>) -> Result<(), NoMemory>
 
 /// A declared name, as the `a` of `let a`. Where it is missing, the next token is skipped too, unless it is a
 /// brace or in the set.
+#[tactic(auto, unfolding(rap_grammar_scripts::specs::Names::name_r))]
 pub fn name_r(p: &mut Parser<'_>, recovery: TokenSet) -> Result<(), NoMemory>
     ensures grew { OnOk result (Grew (state p.old) (state p.new) recovery_events) }
     ensures took { OnOk result (next (state p.old) ≡ IDENT → Took (state p.old) (state p.new) name_room) }
@@ -120,6 +126,7 @@ pub fn name_r(p: &mut Parser<'_>, recovery: TokenSet) -> Result<(), NoMemory>
 }
 
 /// A declared name.
+#[tactic(auto, unfolding(rap_grammar_scripts::specs::Names::name))]
 pub fn name(p: &mut Parser<'_>) -> Result<(), NoMemory>
     ensures grew { OnOk result (Grew (state p.old) (state p.new) recovery_events) }
     ensures took { OnOk result (next (state p.old) ≡ IDENT → Took (state p.old) (state p.new) name_room) }
@@ -130,11 +137,13 @@ pub fn name(p: &mut Parser<'_>) -> Result<(), NoMemory>
 }
 
 /// A field by its name or number, as the `a` of `S { a: 1 }`.
+#[tactic(auto, unfolding(rap_grammar_scripts::specs::Names::name_ref_or_index))]
 pub fn name_ref_or_index(p: &mut Parser<'_>) -> Result<(), NoMemory>
     requires more { next (state p.old) ≢ EOF }
     ensures took { OnOk result (Took (state p.old) (state p.new) name_room) }
     ensures rest { OnOk result ((state p.new).rest ≡ drop 1 (state p.old).rest) }
-    ensures script { OnOk result ((depth : ℕ) → Does depth script.name_ref_or_index something (state p.old) (state p.new)) }
+    ensures script { OnOk result
+        ((depth : ℕ) → Does depth script.name_ref_or_index something (state p.old) (state p.new)) }
 {
     let m = p.start()?;
     p.bump_any()?;
@@ -143,11 +152,13 @@ pub fn name_ref_or_index(p: &mut Parser<'_>) -> Result<(), NoMemory>
 }
 
 /// A name that may be a keyword, as the `type` of `type = 1`.
+#[tactic(auto, unfolding(rap_grammar_scripts::specs::Names::name_any_identifier))]
 pub fn name_any_identifier(p: &mut Parser<'_>) -> Result<(), NoMemory>
     requires here { is_any_identifier (next (state p.old)) ≡ true }
     ensures took { OnOk result (Took (state p.old) (state p.new) name_room) }
     ensures rest { OnOk result ((state p.new).rest ≡ drop 1 (state p.old).rest) }
-    ensures script { OnOk result ((depth : ℕ) → Does depth script.name_any_identifier something (state p.old) (state p.new)) }
+    ensures script { OnOk result
+        ((depth : ℕ) → Does depth script.name_any_identifier something (state p.old) (state p.new)) }
 {
     let m = p.start()?;
     p.bump_remap_any_ident()?;
@@ -156,10 +167,12 @@ pub fn name_any_identifier(p: &mut Parser<'_>) -> Result<(), NoMemory>
 }
 
 /// A name or `Self`.
+#[tactic(auto, unfolding(rap_grammar_scripts::specs::Names::name_ref_or_upper_self))]
 pub fn name_ref_or_upper_self(p: &mut Parser<'_>) -> Result<(), NoMemory>
     ensures grew { OnOk result (Grew (state p.old) (state p.new) recovery_events) }
     ensures took { OnOk result (next (state p.old) ≢ EOF → Took (state p.old) (state p.new) name_room) }
-    ensures script { OnOk result ((depth : ℕ) → Does depth script.name_ref_or_upper_self something (state p.old) (state p.new)) }
+    ensures script { OnOk result
+        ((depth : ℕ) → Does depth script.name_ref_or_upper_self something (state p.old) (state p.new)) }
 {
     if matches!(p.current(), T![ident] | T![Self]) {
         let m = p.start()?;
@@ -172,10 +185,12 @@ pub fn name_ref_or_upper_self(p: &mut Parser<'_>) -> Result<(), NoMemory>
 }
 
 /// A name or `self`.
+#[tactic(auto, unfolding(rap_grammar_scripts::specs::Names::name_ref_or_self))]
 pub fn name_ref_or_self(p: &mut Parser<'_>) -> Result<(), NoMemory>
     ensures grew { OnOk result (Grew (state p.old) (state p.new) recovery_events) }
     ensures took { OnOk result (next (state p.old) ≢ EOF → Took (state p.old) (state p.new) name_room) }
-    ensures script { OnOk result ((depth : ℕ) → Does depth script.name_ref_or_self something (state p.old) (state p.new)) }
+    ensures script { OnOk result
+        ((depth : ℕ) → Does depth script.name_ref_or_self something (state p.old) (state p.new)) }
 {
     if matches!(p.current(), T![ident] | T![self]) {
         let m = p.start()?;
@@ -188,6 +203,7 @@ pub fn name_ref_or_self(p: &mut Parser<'_>) -> Result<(), NoMemory>
 }
 
 /// Another name for what is imported, as `as a`, if there is one.
+#[tactic(auto, unfolding(rap_grammar_scripts::specs::Names::opt_rename))]
 pub fn opt_rename(p: &mut Parser<'_>) -> Result<(), NoMemory>
     ensures grew { OnOk result (Grew (state p.old) (state p.new) 0) }
     ensures script { OnOk result ((depth : ℕ) → Does depth script.opt_rename something (state p.old) (state p.new)) }
@@ -207,6 +223,7 @@ pub fn opt_rename(p: &mut Parser<'_>) -> Result<(), NoMemory>
 }
 
 /// An ABI, as `extern "C"`.
+#[tactic(auto, unfolding(rap_grammar_scripts::specs::Names::abi))]
 pub fn abi(p: &mut Parser<'_>) -> Result<(), NoMemory>
     requires here { next (state p.old) ≡ EXTERN_KW }
     ensures took { OnOk result (Took (state p.old) (state p.new) name_room) }

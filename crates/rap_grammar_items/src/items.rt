@@ -6,7 +6,7 @@ ghost use Rattle.rap_events.specs.State.{state, next, ReadsAs, NthAt};
 ghost use Rattle.rap_grammar_scripts.specs.First.{is_use_path_start, one_of};
 ghost use Rattle.rap_grammar_frame.specs.Grew.{Within, Behind, Took, Grew, Ended};
 ghost use Rattle.rap_grammar_scripts.specs.Items as script;
-ghost use Rattle.rap_grammar_item_kinds.specs.ItemEnds.{of_item, Handed, Refused, Modified, EndsItem, SkipsItem};
+ghost use Rattle.rap_grammar_items_kinds.specs.ItemEnds.{of_item, Handed, Refused, Modified, EndsItem, SkipsItem};
 ghost use Rattle.rap_grammar_scripts.specs.Exec.{Does};
 ghost use Rattle.rap_grammar_frame.specs.Room.{item_room, list_room};
 ghost use Rattle.rap_grammar_frame.specs.Rules.{IsItem};
@@ -17,24 +17,25 @@ use rap_base::T;
 use rap_base::no_memory::NoMemory;
 use rap_base::syntax_kind::SyntaxKind;
 use rap_events::parser::{Marker, Parser};
-use rap_grammar_adt::adt::{enum_, strukt, union};
-use rap_grammar_blocks::attributes::outer_attrs;
-use rap_grammar_blocks::blocks::{error_block, error_let_stmt};
-use rap_grammar_builtin::asm::parse_asm_expr;
+use rap_grammar_attributes::attributes::outer_attrs;
+use rap_grammar_expressions_blocks::blocks::{error_block, error_let_stmt};
+use rap_grammar_expressions_builtin::asm::parse_asm_expr;
 use rap_grammar_frame::first::is_use_path_start;
 use rap_grammar_frame::knot::Grammar;
 use rap_grammar_frame::names::starts_builtin;
-use rap_grammar_item_kinds::consts::{konst, static_};
-use rap_grammar_item_kinds::functions::fn_;
-use rap_grammar_item_kinds::macros::{macro_call, macro_def, macro_rules};
-use rap_grammar_item_kinds::modifiers::modifiers;
-use rap_grammar_item_kinds::modules::{extern_crate, extern_item_list, mod_item, type_item};
-use rap_grammar_item_kinds::traits::{impl_, trait_};
-use rap_grammar_item_kinds::use_item::use_;
+use rap_grammar_items_adt::adt::{enum_, strukt, union};
+use rap_grammar_items_kinds::consts::{konst, static_};
+use rap_grammar_items_kinds::functions::fn_;
+use rap_grammar_items_kinds::macros::{macro_call, macro_def, macro_rules};
+use rap_grammar_items_kinds::modifiers::modifiers;
+use rap_grammar_items_kinds::modules::{extern_crate, extern_item_list, mod_item, type_item};
+use rap_grammar_items_kinds::traits::{impl_, trait_};
+use rap_grammar_items_kinds::use_item::use_;
 use rap_grammar_paths::paths::use_path;
 use rap_grammar_paths::visibility::opt_visibility;
 
 /// An item from the newest marker on, if one comes next; else the marker is handed back.
+#[tactic(auto, unfolding(rap_grammar_scripts::specs::Items::opt_item))]
 pub fn opt_item<G: Grammar>(
     p: &mut Parser<'_>,
     g: &G,
@@ -58,6 +59,7 @@ pub fn opt_item<G: Grammar>(
 }
 
 /// An item from its modifiers on, if one comes next; else the marker is handed back, unless something stood before it.
+#[tactic(auto, unfolding(rap_grammar_scripts::specs::Items::opt_modified_item))]
 fn opt_modified_item<G: Grammar>(
     p: &mut Parser<'_>,
     g: &G,
@@ -83,6 +85,7 @@ fn opt_modified_item<G: Grammar>(
 }
 
 /// Reports what stands before an item where none follows; else the marker is handed back.
+#[tactic(auto, unfolding(rap_grammar_scripts::specs::Items::refuse))]
 fn refuse(
     p: &mut Parser<'_>,
     m: Marker,
@@ -92,7 +95,8 @@ fn refuse(
     requires newest { (state p.old).marker ≡ Some m.pos.value }
     ensures refused { IfOk result (Refused has_visibility has_mods (state p.old) (state p.new)) }
     ensures script { IfOk result
-        (λ item. (depth : ℕ) → Does depth (script.refuse has_visibility has_mods) (of_item item) (state p.old) (state p.new)) }
+        (λ item. (depth : ℕ) → Does depth (script.refuse has_visibility has_mods) (of_item item) (state p.old)
+        (state p.new)) }
 {
     if has_mods {
         p.error("expected fn, trait or impl")?;
@@ -108,6 +112,7 @@ fn refuse(
 }
 
 /// An item that begins with a keyword of its own, or with a name that is read as one.
+#[tactic(auto, unfolding(rap_grammar_scripts::specs::Items::opt_item_without_modifiers))]
 fn opt_item_without_modifiers<G: Grammar>(
     p: &mut Parser<'_>,
     g: &G,
@@ -153,11 +158,13 @@ fn opt_item_without_modifiers<G: Grammar>(
 }
 
 /// A crate's name, as `extern crate a;`, if `crate` follows.
+#[tactic(auto, unfolding(rap_grammar_scripts::specs::Items::opt_extern_crate))]
 fn opt_extern_crate(p: &mut Parser<'_>, m: Marker) -> Result<Result<(), Marker>, NoMemory>
     requires newest { (state p.old).marker ≡ Some m.pos.value }
     requires here { next (state p.old) ≡ EXTERN_KW }
     ensures handed { IfOk result (Handed (state p.old) (state p.new)) }
-    ensures script { IfOk result (λ item. (depth : ℕ) → Does depth script.opt_extern_crate (of_item item) (state p.old) (state p.new)) }
+    ensures script { IfOk result
+        (λ item. (depth : ℕ) → Does depth script.opt_extern_crate (of_item item) (state p.old) (state p.new)) }
 {
     if !p.nth_at(1, T![crate]) {
         return Ok(Err(m));
@@ -174,6 +181,7 @@ fn is_named(p: &Parser<'_>) -> bool
 }
 
 /// A constant, if its name follows.
+#[tactic(auto, unfolding(rap_grammar_scripts::specs::Items::opt_named_const))]
 fn opt_named_const<G: Grammar>(
     p: &mut Parser<'_>,
     g: &G,
@@ -183,7 +191,8 @@ fn opt_named_const<G: Grammar>(
     requires newest { (state p.old).marker ≡ Some m.pos.value }
     requires here { next (state p.old) ≡ CONST_KW }
     ensures handed { IfOk result (Handed (state p.old) (state p.new)) }
-    ensures script { IfOk result (λ item. Does (G.left g.now) script.opt_named_const (of_item item) (state p.old) (state p.new)) }
+    ensures script { IfOk result
+        (λ item. Does (G.left g.now) script.opt_named_const (of_item item) (state p.old) (state p.new)) }
 {
     if !is_named(p) {
         return Ok(Err(m));
@@ -193,6 +202,7 @@ fn opt_named_const<G: Grammar>(
 }
 
 /// A constant after modifiers, if its `const` begins no block.
+#[tactic(auto, unfolding(rap_grammar_scripts::specs::Items::opt_const))]
 fn opt_const<G: Grammar>(
     p: &mut Parser<'_>,
     g: &G,
@@ -202,7 +212,8 @@ fn opt_const<G: Grammar>(
     requires newest { (state p.old).marker ≡ Some m.pos.value }
     requires here { next (state p.old) ≡ CONST_KW }
     ensures handed { IfOk result (Handed (state p.old) (state p.new)) }
-    ensures script { IfOk result (λ item. Does (G.left g.now) script.opt_const (of_item item) (state p.old) (state p.new)) }
+    ensures script { IfOk result
+        (λ item. Does (G.left g.now) script.opt_const (of_item item) (state p.old) (state p.new)) }
 {
     if p.nth(1) == T!['{'] {
         return Ok(Err(m));
@@ -212,6 +223,7 @@ fn opt_const<G: Grammar>(
 }
 
 /// A static, if its name follows.
+#[tactic(auto, unfolding(rap_grammar_scripts::specs::Items::opt_static))]
 fn opt_static<G: Grammar>(
     p: &mut Parser<'_>,
     g: &G,
@@ -221,7 +233,8 @@ fn opt_static<G: Grammar>(
     requires newest { (state p.old).marker ≡ Some m.pos.value }
     requires here { next (state p.old) ≡ STATIC_KW }
     ensures handed { IfOk result (Handed (state p.old) (state p.new)) }
-    ensures script { IfOk result (λ item. Does (G.left g.now) script.opt_static (of_item item) (state p.old) (state p.new)) }
+    ensures script { IfOk result
+        (λ item. Does (G.left g.now) script.opt_static (of_item item) (state p.old) (state p.new)) }
 {
     if !is_named(p) {
         return Ok(Err(m));
@@ -257,6 +270,7 @@ fn starts_global_asm(p: &Parser<'_>) -> bool
 }
 
 /// An item that begins with a name that is read as a keyword, as `union`.
+#[tactic(auto, unfolding(rap_grammar_scripts::specs::Items::opt_item_by_name))]
 fn opt_item_by_name<G: Grammar>(
     p: &mut Parser<'_>,
     g: &G,
@@ -265,7 +279,8 @@ fn opt_item_by_name<G: Grammar>(
     requires within { Within G.valid G.left g.now (state p.old) }
     requires newest { (state p.old).marker ≡ Some m.pos.value }
     ensures handed { IfOk result (Handed (state p.old) (state p.new)) }
-    ensures script { IfOk result (λ item. Does (G.left g.now) script.opt_item_by_name (of_item item) (state p.old) (state p.new)) }
+    ensures script { IfOk result
+        (λ item. Does (G.left g.now) script.opt_item_by_name (of_item item) (state p.old) (state p.new)) }
 {
     if starts_union(p) {
         union(p, g, m)?;
@@ -283,6 +298,7 @@ fn opt_item_by_name<G: Grammar>(
 }
 
 /// Assembly in the place of an item, as `builtin#global_asm("")`.
+#[tactic(auto, unfolding(rap_events::specs::Machine::top, rap_grammar_scripts::specs::Items::global_asm))]
 fn global_asm<G: Grammar>(p: &mut Parser<'_>, g: &G, m: Marker) -> Result<(), NoMemory>
     requires within { Within G.valid G.left g.now (state p.old) }
     requires newest { (state p.old).marker ≡ Some m.pos.value }
@@ -300,6 +316,7 @@ fn global_asm<G: Grammar>(p: &mut Parser<'_>, g: &G, m: Marker) -> Result<(), No
 }
 
 /// An item after its modifiers, if one comes next; else the marker is handed back.
+#[tactic(auto, unfolding(rap_grammar_scripts::specs::Items::opt_item_with_modifiers))]
 fn opt_item_with_modifiers<G: Grammar>(
     p: &mut Parser<'_>,
     g: &G,
@@ -310,7 +327,8 @@ fn opt_item_with_modifiers<G: Grammar>(
     requires newest { (state p.old).marker ≡ Some m.pos.value }
     ensures handed { IfOk result (Handed (state p.old) (state p.new)) }
     ensures script { IfOk result
-        (λ item. Does (G.left g.now) (script.opt_item_with_modifiers has_extern) (of_item item) (state p.old) (state p.new)) }
+        (λ item. Does (G.left g.now) (script.opt_item_with_modifiers has_extern) (of_item item) (state p.old)
+        (state p.new)) }
 {
     match p.current() {
         T![fn] => {
@@ -337,6 +355,7 @@ fn opt_item_with_modifiers<G: Grammar>(
 }
 
 /// A block of foreign items after its ABI, as the `{}` of `extern {}`.
+#[tactic(auto, unfolding(rap_events::specs::Machine::top, rap_grammar_scripts::specs::Items::opt_extern_block))]
 fn opt_extern_block<G: Grammar>(
     p: &mut Parser<'_>,
     g: &G,
@@ -360,6 +379,7 @@ fn opt_extern_block<G: Grammar>(
 
 /// An item, or a macro call in its place. Where neither begins, that is reported, and the next token is taken into an
 /// `ERROR`, unless none is left or a brace ends the list of items.
+#[tactic(auto, unfolding(rap_grammar_scripts::specs::Items::item_or_macro))]
 pub fn item_or_macro<G: Grammar>(
     p: &mut Parser<'_>,
     g: &G,
@@ -369,7 +389,8 @@ pub fn item_or_macro<G: Grammar>(
     requires within { Within G.valid G.left g.now (state p.old) }
     ensures item { OnOk result (IsItem stop_on_r_curly (state p.old) (state p.new)) }
     ensures script { OnOk result
-        (Does (G.left g.now) (script.item_or_macro stop_on_r_curly is_in_extern) something (state p.old) (state p.new)) }
+        (Does (G.left g.now) (script.item_or_macro stop_on_r_curly is_in_extern) something (state p.old)
+        (state p.new)) }
 {
     let m = p.start()?;
     outer_attrs(p, g)?;
@@ -378,6 +399,7 @@ pub fn item_or_macro<G: Grammar>(
 }
 
 /// An item after its attributes, or what stands in its place.
+#[tactic(auto, unfolding(rap_grammar_scripts::specs::Items::marked_item))]
 fn marked_item<G: Grammar>(
     p: &mut Parser<'_>,
     g: &G,
@@ -404,6 +426,7 @@ fn marked_item<G: Grammar>(
 }
 
 /// A semicolon after an item, which is taken into an `ERROR`.
+#[tactic(auto, unfolding(rap_grammar_scripts::specs::Items::after_item))]
 fn after_item(p: &mut Parser<'_>) -> Result<(), NoMemory>
     ensures grew { OnOk result (Grew (state p.old) (state p.new) 0) }
     ensures script { OnOk result ((depth : ℕ) → Does depth script.after_item something (state p.old) (state p.new)) }
@@ -416,6 +439,7 @@ fn after_item(p: &mut Parser<'_>) -> Result<(), NoMemory>
 }
 
 /// A macro call in the place of an item; where neither begins, that is reported.
+#[tactic(auto, unfolding(rap_grammar_scripts::specs::Items::macro_or_error))]
 fn macro_or_error<G: Grammar>(
     p: &mut Parser<'_>,
     g: &G,
@@ -425,7 +449,8 @@ fn macro_or_error<G: Grammar>(
     requires within { Within G.valid G.left g.now (state p.old) }
     requires newest { (state p.old).marker ≡ Some m.pos.value }
     ensures item { OnOk result (EndsItem stop_on_r_curly (state p.old) (state p.new)) }
-    ensures script { OnOk result (Does (G.left g.now) (script.macro_or_error stop_on_r_curly) something (state p.old) (state p.new)) }
+    ensures script { OnOk result
+        (Does (G.left g.now) (script.macro_or_error stop_on_r_curly) something (state p.old) (state p.new)) }
 {
     if is_use_path_start(p) {
         path_item(p, g, m)?;
@@ -437,6 +462,7 @@ fn macro_or_error<G: Grammar>(
 }
 
 /// A macro call from its path on, or a path alone, which is no item.
+#[tactic(auto, unfolding(rap_events::specs::Machine::top, rap_grammar_scripts::specs::Items::path_item))]
 fn path_item<G: Grammar>(p: &mut Parser<'_>, g: &G, m: Marker) -> Result<(), NoMemory>
     requires within { Within G.valid G.left g.now (state p.old) }
     requires newest { (state p.old).marker ≡ Some m.pos.value }
@@ -455,6 +481,7 @@ fn path_item<G: Grammar>(p: &mut Parser<'_>, g: &G, m: Marker) -> Result<(), NoM
 }
 
 /// Reports that no item begins, with what comes next in an `ERROR`.
+#[tactic(auto, unfolding(rap_grammar_scripts::specs::Items::missing_item))]
 fn missing_item<G: Grammar>(
     p: &mut Parser<'_>,
     g: &G,
@@ -462,7 +489,8 @@ fn missing_item<G: Grammar>(
 ) -> Result<(), NoMemory>
     requires within { Within G.valid G.left g.now (state p.old) }
     ensures item { OnOk result (SkipsItem stop_on_r_curly (state p.old) (state p.new)) }
-    ensures script { OnOk result (Does (G.left g.now) (script.missing_item stop_on_r_curly) something (state p.old) (state p.new)) }
+    ensures script { OnOk result
+        (Does (G.left g.now) (script.missing_item stop_on_r_curly) something (state p.old) (state p.new)) }
 {
     if p.current() == T!['{'] {
         error_block(p, g, "expected an item")?;
@@ -503,10 +531,12 @@ fn is_at_end(p: &Parser<'_>) -> bool
 }
 
 /// A brace that closes nothing, in an `ERROR`.
+#[tactic(auto, unfolding(rap_grammar_scripts::specs::Items::unmatched_brace))]
 fn unmatched_brace(p: &mut Parser<'_>) -> Result<(), NoMemory>
     requires here { next (state p.old) ≡ R_CURLY }
     ensures took { OnOk result (Took (state p.old) (state p.new) list_room) }
-    ensures script { OnOk result ((depth : ℕ) → Does depth script.unmatched_brace something (state p.old) (state p.new)) }
+    ensures script { OnOk result
+        ((depth : ℕ) → Does depth script.unmatched_brace something (state p.old) (state p.new)) }
 {
     let m = p.start()?;
     p.error("unmatched `}`")?;

@@ -1,6 +1,6 @@
 //! Paths with the lists of their arguments, and visibilities.
 #![tactic(auto)]
 
-pub mod generic_args;
+pub mod generic_arg_list;
 pub mod paths;
 pub mod visibility;

@@ -9,91 +9,99 @@ ghost use Rattle.rap_grammar_scripts.specs.Atom as atom_script;
 ghost use Rattle.rap_grammar_scripts.specs.First.{is_path_start, is_path_name};
 ghost use Rattle.rap_grammar_frame.specs.Grew.{Within, Grew, Took, Behind, Spent, Closes, Dropped, Ended, Makes};
 ghost use Rattle.rap_grammar_scripts.specs.Exec.{Does};
-ghost use Rattle.rap_grammar_scripts.specs.Paths as paths_script;
+ghost use Rattle.rap_grammar_scripts.specs.Paths as script;
 ghost use Rattle.rap_grammar_scripts.specs.Recovery.{is_segment_recovery};
 ghost use Rattle.rap_grammar_frame.specs.Room.{path_room, segment_room, name_room, name_end_room, element_room, atom_room, dropped_events};
 ghost use Rattle.rap_grammar_scripts.specs.Script.{something};
 ghost use Rattle.rap_grammar_scripts.specs.Words.{of_option};
 
-use crate::generic_args::{generic_arg_list, opt_generic_arg_list_expr};
+use crate::generic_arg_list::{generic_arg_list, opt_generic_arg_list_expr};
 use rap_base::T;
 use rap_base::no_memory::NoMemory;
 use rap_base::syntax_kind::SyntaxKind;
 use rap_base::token_set::TokenSet;
 use rap_events::parser::{CompletedMarker, Marker, Parser};
-use rap_grammar_frame::called::{opt_ret_type, type_};
 use rap_grammar_frame::first::{is_type_first, is_use_path_start};
-use rap_grammar_frame::knot::{Grammar, Rule};
+use rap_grammar_frame::knot::Grammar;
 use rap_grammar_frame::lists::{Element, delimited};
 use rap_grammar_frame::names::{is_path_name, name_ref_mod_path};
 use rap_grammar_frame::recovery::{expr_recovery_set, item_recovery_set, type_recovery_set};
+use rap_grammar_frame::through_knot::{opt_ret_type, type_};
 use rap_grammar_scripts::arguments::Mode;
+use rap_grammar_scripts::rule::Rule;
 
 /// A path in an import, as `a::b`, and where an item may be a macro call.
+#[tactic(auto, unfolding(rap_grammar_scripts::specs::Paths::use_path))]
 pub fn use_path<G: Grammar>(p: &mut Parser<'_>, g: &G) -> Result<(), NoMemory>
     requires within { Within G.valid G.left g.now (state p.old) }
     ensures grew { OnOk result (Grew (state p.old) (state p.new) 8) }
     ensures took { OnOk result (is_path_start (state p.old).rest ≡ true → Took (state p.old) (state p.new) path_room) }
-    ensures script { OnOk result (Does (G.left g.now) paths_script.use_path something (state p.old) (state p.new)) }
+    ensures script { OnOk result (Does (G.left g.now) script.use_path something (state p.old) (state p.new)) }
 {
     path(p, g, Mode::Use)?;
     Ok(())
 }
 
 /// A path in a restriction, as the `a::b` of `pub(in a::b)`.
+#[tactic(auto, unfolding(rap_grammar_scripts::specs::Paths::vis_path))]
 pub fn vis_path<G: Grammar>(p: &mut Parser<'_>, g: &G) -> Result<(), NoMemory>
     requires within { Within G.valid G.left g.now (state p.old) }
     ensures grew { OnOk result (Grew (state p.old) (state p.new) 8) }
-    ensures script { OnOk result (Does (G.left g.now) paths_script.vis_path something (state p.old) (state p.new)) }
+    ensures script { OnOk result (Does (G.left g.now) script.vis_path something (state p.old) (state p.new)) }
 {
     path(p, g, Mode::Vis)?;
     Ok(())
 }
 
 /// A path in an attribute, as the `a::b` of `#[a::b]`.
+#[tactic(auto, unfolding(rap_grammar_scripts::specs::Paths::attr_path))]
 pub fn attr_path<G: Grammar>(p: &mut Parser<'_>, g: &G) -> Result<(), NoMemory>
     requires within { Within G.valid G.left g.now (state p.old) }
     ensures grew { OnOk result (Grew (state p.old) (state p.new) 8) }
     ensures took { OnOk result (is_path_start (state p.old).rest ≡ true → Took (state p.old) (state p.new) path_room) }
-    ensures script { OnOk result (Does (G.left g.now) paths_script.attr_path something (state p.old) (state p.new)) }
+    ensures script { OnOk result (Does (G.left g.now) script.attr_path something (state p.old) (state p.new)) }
 {
     path(p, g, Mode::Attr)?;
     Ok(())
 }
 
 /// A path in a type, as `a::b<c>`.
+#[tactic(auto, unfolding(rap_grammar_scripts::specs::Paths::type_path))]
 pub fn type_path<G: Grammar>(p: &mut Parser<'_>, g: &G) -> Result<(), NoMemory>
     requires within { Within G.valid G.left g.now (state p.old) }
     requires path { is_path_start (state p.old).rest ≡ true }
     ensures took { OnOk result (Took (state p.old) (state p.new) path_room) }
-    ensures script { OnOk result (Does (G.left g.now) paths_script.type_path something (state p.old) (state p.new)) }
+    ensures script { OnOk result (Does (G.left g.now) script.type_path something (state p.old) (state p.new)) }
 {
     path(p, g, Mode::Type)?;
     Ok(())
 }
 
 /// A path in a type, where one may be missing, as after the `sym` of inline assembly or at the front of an input.
+#[tactic(auto, unfolding(rap_grammar_scripts::specs::Paths::type_path))]
 pub fn sym_path<G: Grammar>(p: &mut Parser<'_>, g: &G) -> Result<(), NoMemory>
     requires within { Within G.valid G.left g.now (state p.old) }
     ensures grew { OnOk result (Grew (state p.old) (state p.new) 8) }
-    ensures script { OnOk result (Does (G.left g.now) paths_script.type_path something (state p.old) (state p.new)) }
+    ensures script { OnOk result (Does (G.left g.now) script.type_path something (state p.old) (state p.new)) }
 {
     path(p, g, Mode::Type)?;
     Ok(())
 }
 
 /// A path in an expression, as `a::b::<c>` and `::a`.
+#[tactic(auto, unfolding(rap_grammar_scripts::specs::Paths::expr_path))]
 pub fn expr_path<G: Grammar>(p: &mut Parser<'_>, g: &G) -> Result<(), NoMemory>
     requires within { Within G.valid G.left g.now (state p.old) }
     requires path { is_path_start (state p.old).rest ≡ true }
     ensures took { OnOk result (Took (state p.old) (state p.new) path_room) }
-    ensures script { OnOk result (Does (G.left g.now) paths_script.expr_path something (state p.old) (state p.new)) }
+    ensures script { OnOk result (Does (G.left g.now) script.expr_path something (state p.old) (state p.new)) }
 {
     path(p, g, Mode::Expr)?;
     Ok(())
 }
 
 /// The segments after a first path in a type, as `::b<c>` after `a`.
+#[tactic(auto, unfolding(rap_grammar_scripts::specs::Paths::type_path_for_qualifier))]
 pub fn type_path_for_qualifier<G: Grammar>(
     p: &mut Parser<'_>,
     g: &G,
@@ -104,13 +112,15 @@ pub fn type_path_for_qualifier<G: Grammar>(
     ensures grew { OnOk result (Grew (state p.old) (state p.new) 0) }
     ensures last { IfOk result (λ cm. IsLast (state p.new) cm PATH) }
     ensures one { OnOk result (but_last (state p.new).forest ≡ but_last (state p.old).forest) }
-    ensures script { OnOk result (Does (G.left g.now) paths_script.type_path_for_qualifier something (state p.old) (state p.new)) }
+    ensures script { OnOk result
+        (Does (G.left g.now) script.type_path_for_qualifier something (state p.old) (state p.new)) }
 {
     let path = path_for_qualifier(p, g, Mode::Type, qual)?;
     Ok(path)
 }
 
 /// A path. None, and a message, where no name follows and nothing was taken.
+#[tactic(auto, unfolding(rap_grammar_scripts::specs::Paths::path))]
 fn path<G: Grammar>(
     p: &mut Parser<'_>,
     g: &G,
@@ -121,7 +131,8 @@ fn path<G: Grammar>(
     ensures took { OnOk result (is_path_start (state p.old).rest ≡ true → Took (state p.old) (state p.new) path_room) }
     ensures some { IfOk result
         (λ o. IfSome o (λ cm. IsLast (state p.new) cm PATH × (but_last (state p.new).forest ≡ (state p.old).forest))) }
-    ensures script { IfOk result (λ o. Does (G.left g.now) (paths_script.path mode) (of_option o) (state p.old) (state p.new)) }
+    ensures script { IfOk result
+        (λ o. Does (G.left g.now) (script.path mode) (of_option o) (state p.old) (state p.new)) }
 {
     let path = p.start()?;
     if path_segment(p, g, mode, true)?.is_none() {
@@ -135,7 +146,7 @@ fn path<G: Grammar>(
 
 /// Whether another segment comes next: of what is imported, no list and no star, as in `a::{b, c}` and `a::*`.
 fn has_segment(p: &Parser<'_>, mode: Mode) -> bool
-    ensures segment { result ≡ paths_script.has_segment mode (state p.now).rest }
+    ensures segment { result ≡ script.has_segment mode (state p.now).rest }
     ensures here { result ≡ true → is_at COLON2 (state p.now).rest ≡ true }
 {
     match mode {
@@ -145,6 +156,7 @@ fn has_segment(p: &Parser<'_>, mode: Mode) -> bool
 }
 
 /// The segments after a first path, as `::b::c` after `a`.
+#[tactic(auto, using(rap_grammar_frame::proofs::Loops::turns), unfolding(rap_grammar_scripts::specs::Paths::path_for_qualifier))]
 fn path_for_qualifier<G: Grammar>(
     p: &mut Parser<'_>,
     g: &G,
@@ -156,7 +168,8 @@ fn path_for_qualifier<G: Grammar>(
     ensures grew { OnOk result (Grew (state p.old) (state p.new) 0) }
     ensures last { IfOk result (λ cm. IsLast (state p.new) cm PATH) }
     ensures one { OnOk result (but_last (state p.new).forest ≡ but_last (state p.old).forest) }
-    ensures script { OnOk result (Does (G.left g.now) (paths_script.path_for_qualifier mode) something (state p.old) (state p.new)) }
+    ensures script { OnOk result
+        (Does (G.left g.now) (script.path_for_qualifier mode) something (state p.old) (state p.new)) }
 {
     'segments: while has_segment(p, mode) {
         let path = qual.precede(p)?;
@@ -169,6 +182,7 @@ fn path_for_qualifier<G: Grammar>(
 
 /// A segment of a path, as `a`, and `::a` and `<a as b>` where it is the first. None, and a message, where no name
 /// follows.
+#[tactic(auto, unfolding(rap_grammar_scripts::specs::Paths::path_segment))]
 fn path_segment<G: Grammar>(
     p: &mut Parser<'_>,
     g: &G,
@@ -182,7 +196,8 @@ fn path_segment<G: Grammar>(
         (λ cm. IsLast (state p.new) cm PATH_SEGMENT × (but_last (state p.new).forest ≡ (state p.old).forest))) }
     ensures took { OnOk result
         (first ≡ true → is_path_start (state p.old).rest ≡ true → Took (state p.old) (state p.new) segment_room) }
-    ensures script { IfOk result (λ o. Does (G.left g.now) (paths_script.path_segment mode first) (of_option o) (state p.old) (state p.new)) }
+    ensures script { IfOk result
+        (λ o. Does (G.left g.now) (script.path_segment mode first) (of_option o) (state p.old) (state p.new)) }
 {
     let m = p.start()?;
     if !first {
@@ -203,11 +218,12 @@ fn path_segment<G: Grammar>(
 }
 
 /// A type, and its trait, in the angle brackets that a path begins with, as the `<a as b>` of `<a as b>::c`.
+#[tactic(auto, unfolding(rap_grammar_scripts::specs::Paths::type_anchor))]
 fn type_anchor<G: Grammar>(p: &mut Parser<'_>, g: &G) -> Result<(), NoMemory>
     requires within { Within G.valid G.left g.now (state p.old) }
     requires here { next (state p.old) ≡ L_ANGLE }
     ensures took { OnOk result (Took (state p.old) (state p.new) name_room) }
-    ensures script { OnOk result (Does (G.left g.now) paths_script.type_anchor something (state p.old) (state p.new)) }
+    ensures script { OnOk result (Does (G.left g.now) script.type_anchor something (state p.old) (state p.new)) }
 {
     let m = p.start()?;
     p.bump(T![<])?;
@@ -222,10 +238,11 @@ fn type_anchor<G: Grammar>(p: &mut Parser<'_>, g: &G) -> Result<(), NoMemory>
 }
 
 /// The trait of a type anchor, as the `as b` of `<a as b>::c`, if it has one.
+#[tactic(auto, unfolding(rap_grammar_scripts::specs::Paths::anchor_trait, rap_grammar_scripts::specs::ThroughKnot::path_type_bounds))]
 fn anchor_trait<G: Grammar>(p: &mut Parser<'_>, g: &G) -> Result<(), NoMemory>
     requires behind { Behind G.valid G.left g.now (state p.old) }
     ensures grew { OnOk result (Grew (state p.old) (state p.new) 0) }
-    ensures script { OnOk result (Does (G.left g.now) paths_script.anchor_trait something (state p.old) (state p.new)) }
+    ensures script { OnOk result (Does (G.left g.now) script.anchor_trait something (state p.old) (state p.new)) }
 {
     if !p.eat(T![as])? {
         return Ok(());
@@ -240,6 +257,7 @@ fn anchor_trait<G: Grammar>(p: &mut Parser<'_>, g: &G) -> Result<(), NoMemory>
 
 /// The name of a segment whose marker is open, and the arguments after it, as `a::<b>`. None, and a message, where no
 /// name follows and nothing was taken.
+#[tactic(auto, unfolding(rap_grammar_scripts::specs::Paths::segment_name))]
 fn segment_name<G: Grammar>(
     p: &mut Parser<'_>,
     g: &G,
@@ -252,7 +270,8 @@ fn segment_name<G: Grammar>(
     ensures some { IfOk result (λ o. IfSome o (λ cm. Closes PATH_SEGMENT 4 (state p.old) (state p.new) cm)) }
     ensures none { IfOk result (λ o. o ≡ None → Dropped (state p.old) (state p.new) dropped_events) }
     ensures took { OnOk result (is_path_name (next (state p.old)) ≡ true → Spent (state p.old) (state p.new) name_end_room) }
-    ensures script { IfOk result (λ o. Does (G.left g.now) (paths_script.segment_name mode empty) (of_option o) (state p.old) (state p.new)) }
+    ensures script { IfOk result
+        (λ o. Does (G.left g.now) (script.segment_name mode empty) (of_option o) (state p.old) (state p.new)) }
 {
     if !is_path_name(p.current()) {
         let segment = missing_segment_name(p, m, mode, empty)?;
@@ -267,6 +286,7 @@ fn segment_name<G: Grammar>(
 /// A segment's name is missing. It is a function of its own so that the set takes no room on the stack of the rules
 /// that nest.
 #[inline(never)]
+#[tactic(auto, unfolding(rap_grammar_scripts::specs::Paths::missing_segment_name))]
 fn missing_segment_name(
     p: &mut Parser<'_>,
     m: Marker,
@@ -277,7 +297,8 @@ fn missing_segment_name(
     ensures some { IfOk result (λ o. IfSome o (λ cm. Closes PATH_SEGMENT 4 (state p.old) (state p.new) cm)) }
     ensures none { IfOk result (λ o. o ≡ None → Dropped (state p.old) (state p.new) dropped_events) }
     ensures script { IfOk result
-        (λ o. (depth : ℕ) → Does depth (paths_script.missing_segment_name mode empty) (of_option o) (state p.old) (state p.new)) }
+        (λ o. (depth : ℕ) → Does depth (script.missing_segment_name mode empty) (of_option o) (state p.old)
+        (state p.new)) }
 {
     let stopped = p.err_recover(
         "expected identifier, `self`, `super`, `crate`, or `Self`",
@@ -305,10 +326,12 @@ fn segment_recovery_set(mode: Mode) -> TokenSet
 }
 
 /// The arguments after a name, as they may be where the path stands.
+#[tactic(auto, unfolding(rap_grammar_scripts::specs::Paths::opt_path_args))]
 fn opt_path_args<G: Grammar>(p: &mut Parser<'_>, g: &G, mode: Mode) -> Result<(), NoMemory>
     requires within { Within G.valid G.left g.now (state p.old) }
     ensures grew { OnOk result (Grew (state p.old) (state p.new) 0) }
-    ensures script { OnOk result (Does (G.left g.now) (paths_script.opt_path_args mode) something (state p.old) (state p.new)) }
+    ensures script { OnOk result
+        (Does (G.left g.now) (script.opt_path_args mode) something (state p.old) (state p.new)) }
 {
     match mode {
         Mode::Use | Mode::Attr | Mode::Vis => Ok(()),
@@ -325,23 +348,25 @@ fn opt_path_args<G: Grammar>(p: &mut Parser<'_>, g: &G, mode: Mode) -> Result<()
 
 /// Whether arguments in a type come next, with `::` before their bracket.
 fn has_args_behind(p: &Parser<'_>) -> bool
-    ensures { result ≡ paths_script.has_args_behind (state p.now).rest }
+    ensures { result ≡ script.has_args_behind (state p.now).rest }
 {
     p.at(T![::]) && matches!(p.nth(2), T![<] | T!['('])
 }
 
 /// Whether arguments in a type come next, from their bracket on.
 fn has_args(p: &Parser<'_>) -> bool
-    ensures { result ≡ paths_script.has_args (state p.now).rest }
+    ensures { result ≡ script.has_args (state p.now).rest }
 {
     (p.current() == T![<] && p.nth(1) != T![=]) || p.current() == T!['(']
 }
 
 /// The arguments after a name in a type, as `<a>`, `::<a>` and `(a) -> b`, if there are.
+#[tactic(auto, unfolding(rap_grammar_scripts::specs::Paths::opt_path_type_args))]
 pub fn opt_path_type_args<G: Grammar>(p: &mut Parser<'_>, g: &G) -> Result<(), NoMemory>
     requires within { Within G.valid G.left g.now (state p.old) }
     ensures grew { OnOk result (Grew (state p.old) (state p.new) 0) }
-    ensures script { OnOk result (Does (G.left g.now) paths_script.opt_path_type_args something (state p.old) (state p.new)) }
+    ensures script { OnOk result
+        (Does (G.left g.now) script.opt_path_type_args something (state p.old) (state p.new)) }
 {
     if has_args_behind(p) {
         let m = p.start()?;
@@ -357,12 +382,14 @@ pub fn opt_path_type_args<G: Grammar>(p: &mut Parser<'_>, g: &G) -> Result<(), N
 }
 
 /// Arguments in a type from their bracket on, as `<a>`, `(a) -> b` and `(..)`, whose marker is open.
+#[tactic(auto, unfolding(rap_grammar_scripts::specs::Paths::path_type_args))]
 fn path_type_args<G: Grammar>(p: &mut Parser<'_>, g: &G, m: Marker) -> Result<(), NoMemory>
     requires within { Within G.valid G.left g.now (state p.old) }
     requires newest { (state p.old).marker ≡ Some m.pos.value }
     requires here { (next (state p.old) ≡ L_PAREN) ⊎ (next (state p.old) ≡ L_ANGLE) }
     ensures ended { OnOk result (Ended (state p.old) (state p.new) element_room) }
-    ensures script { OnOk result (Does (G.left g.now) paths_script.path_type_args something (state p.old) (state p.new)) }
+    ensures script { OnOk result
+        (Does (G.left g.now) script.path_type_args something (state p.old) (state p.new)) }
 {
     if p.current() == T![<] {
         generic_arg_list(p, g, m)?;
@@ -377,12 +404,14 @@ fn path_type_args<G: Grammar>(p: &mut Parser<'_>, g: &G, m: Marker) -> Result<()
 }
 
 /// Two dots in parentheses, for any return type, as `(..)` after `a::b`. The marker is open.
+#[tactic(auto, unfolding(rap_grammar_scripts::specs::Paths::return_type_syntax, rap_events::specs::Machine::top))]
 fn return_type_syntax(p: &mut Parser<'_>, m: Marker) -> Result<(), NoMemory>
     requires newest { (state p.old).marker ≡ Some m.pos.value }
     requires here { next (state p.old) ≡ L_PAREN }
     requires dots { is_at DOT2 (drop 1 (state p.old).rest) ≡ true }
     ensures ended { OnOk result (Ended (state p.old) (state p.new) element_room) }
-    ensures script { OnOk result ((depth : ℕ) → Does depth paths_script.return_type_syntax something (state p.old) (state p.new)) }
+    ensures script { OnOk result
+        ((depth : ℕ) → Does depth script.return_type_syntax something (state p.old) (state p.new)) }
 {
     p.bump(T!['('])?;
     p.bump(T![..])?;
@@ -392,12 +421,14 @@ fn return_type_syntax(p: &mut Parser<'_>, m: Marker) -> Result<(), NoMemory>
 }
 
 /// The types of a function's parameters and its return type, as `(a, b) -> c` after `Fn`. The marker is open.
+#[tactic(auto, unfolding(rap_grammar_scripts::specs::Paths::parenthesized_args, rap_events::specs::Machine::top))]
 fn parenthesized_args<G: Grammar>(p: &mut Parser<'_>, g: &G, m: Marker) -> Result<(), NoMemory>
     requires within { Within G.valid G.left g.now (state p.old) }
     requires newest { (state p.old).marker ≡ Some m.pos.value }
     requires here { next (state p.old) ≡ L_PAREN }
     ensures ended { OnOk result (Ended (state p.old) (state p.new) element_room) }
-    ensures script { OnOk result (Does (G.left g.now) paths_script.parenthesized_args something (state p.old) (state p.new)) }
+    ensures script { OnOk result
+        (Does (G.left g.now) script.parenthesized_args something (state p.old) (state p.new)) }
 {
     delimited(p, g, T!['('], T![')'], T![,], "expected type", &TypeArg)?;
     m.complete(p, SyntaxKind::PARENTHESIZED_ARG_LIST)?;
@@ -409,12 +440,13 @@ fn parenthesized_args<G: Grammar>(p: &mut Parser<'_>, g: &G, m: Marker) -> Resul
 struct TypeArg;
 
 impl Element for TypeArg {
-    ghost use Rattle.rap_grammar_scripts.specs.First as set;
+    ghost use Rattle.rap_grammar_scripts.specs.First as first_script;
 
-    ghost element = { λ _. paths_script.type_arg_element };
+    ghost element = { λ _. script.type_arg_element };
 
-    ghost first = { λ _. set.is_type_first };
+    ghost first = { λ _. first_script.is_type_first };
 
+    #[tactic(auto, unfolding(rap_grammar_scripts::specs::Paths::type_arg_element))]
     fn parse<G: Grammar>(&self, p: &mut Parser<'_>, g: &G) -> Result<bool, NoMemory> {
         let progress = is_type_first(p.current());
         let m = p.start()?;

@@ -19,6 +19,7 @@ use rap_grammar_frame::knot::Grammar;
 
 /// `pub` with its restriction, as `pub(crate)`, if it comes next. In a tuple's field, parentheses may be the field's
 /// type. Returns whether it does.
+#[tactic(auto, unfolding(rap_grammar_scripts::specs::Visibility::opt_visibility))]
 pub fn opt_visibility<G: Grammar>(
     p: &mut Parser<'_>,
     g: &G,
@@ -28,7 +29,8 @@ pub fn opt_visibility<G: Grammar>(
     ensures took { IfOk result (λ found. found ≡ true → Took (state p.old) (state p.new) list_room) }
     ensures stays { IfOk result (λ found. found ≡ false → state p.new ≡ state p.old) }
     ensures script { IfOk result
-        (λ found. Does (G.left g.now) (script.opt_visibility in_tuple_field) (of_bool found) (state p.old) (state p.new)) }
+        (λ found. Does (G.left g.now) (script.opt_visibility in_tuple_field) (of_bool found) (state p.old)
+        (state p.new)) }
 {
     if !p.at(T![pub]) {
         return Ok(false);
@@ -65,6 +67,7 @@ fn starts_in_restriction(p: &Parser<'_>) -> bool
 }
 
 /// A restriction in its parentheses, as `(crate)` and `(in a::b)`, if it comes next. Returns whether it does.
+#[tactic(auto, unfolding(rap_grammar_scripts::specs::Visibility::opt_visibility_inner))]
 pub fn opt_visibility_inner<G: Grammar>(
     p: &mut Parser<'_>,
     g: &G,
@@ -74,7 +77,8 @@ pub fn opt_visibility_inner<G: Grammar>(
     ensures took { IfOk result (λ found. found ≡ true → Took (state p.old) (state p.new) list_room) }
     ensures stays { IfOk result (λ found. found ≡ false → state p.new ≡ state p.old) }
     ensures script { IfOk result
-        (λ found. Does (G.left g.now) (script.opt_visibility_inner in_tuple_field) (of_bool found) (state p.old) (state p.new)) }
+        (λ found. Does (G.left g.now) (script.opt_visibility_inner in_tuple_field) (of_bool found) (state p.old)
+        (state p.new)) }
 {
     if starts_restriction(p, in_tuple_field) {
         restriction(p, g)?;
@@ -88,6 +92,7 @@ pub fn opt_visibility_inner<G: Grammar>(
 }
 
 /// A restriction to a module, as `(crate)`.
+#[tactic(auto, unfolding(rap_grammar_scripts::specs::Visibility::restriction))]
 fn restriction<G: Grammar>(p: &mut Parser<'_>, g: &G) -> Result<(), NoMemory>
     requires within { Within G.valid G.left g.now (state p.old) }
     requires here { next (state p.old) ≡ L_PAREN }
@@ -103,6 +108,7 @@ fn restriction<G: Grammar>(p: &mut Parser<'_>, g: &G) -> Result<(), NoMemory>
 }
 
 /// A restriction with `in`, as `(in a::b)`.
+#[tactic(auto, unfolding(rap_grammar_scripts::specs::Visibility::in_restriction))]
 fn in_restriction<G: Grammar>(p: &mut Parser<'_>, g: &G) -> Result<(), NoMemory>
     requires within { Within G.valid G.left g.now (state p.old) }
     requires here { next (state p.old) ≡ L_PAREN }

@@ -20,13 +20,13 @@ use rap_base::no_memory::NoMemory;
 use rap_base::syntax_kind::SyntaxKind;
 use rap_base::token_set::TokenSet;
 use rap_events::parser::{CompletedMarker, Parser};
-use rap_grammar_blocks::attributes::{cfg_predicate, outer_attrs};
-use rap_grammar_blocks::blocks::{block_expr, error_block};
-use rap_grammar_frame::called::{pattern, pattern_single};
+use rap_grammar_attributes::attributes::{cfg_predicate, outer_attrs};
+use rap_grammar_expressions_blocks::blocks::{block_expr, error_block};
 use rap_grammar_frame::first::{is_literal_first, is_pat_top_first, is_path_first, is_path_start};
 use rap_grammar_frame::knot::Grammar;
 use rap_grammar_frame::literals::literal;
 use rap_grammar_frame::names::{given_name, name_r, name_ref_or_index, starts_builtin};
+use rap_grammar_frame::through_knot::{pattern, pattern_single};
 use rap_grammar_frame::token_tree::macro_call_after_excl;
 use rap_grammar_paths::paths::expr_path;
 
@@ -67,6 +67,7 @@ fn recovery_set(in_arm: bool) -> TokenSet
 }
 
 /// A pattern with its alternatives, as `a`, `1 | 2` and `| 1 | 2`.
+#[tactic(auto, unfolding(rap_grammar_scripts::specs::Patterns::pattern_r))]
 pub fn pattern_r<G: Grammar>(p: &mut Parser<'_>, g: &G, in_arm: bool) -> Result<(), NoMemory>
     requires within { Within G.valid G.left g.now (state p.old) }
     ensures reads { OnOk result (PatternUntil (stops_of in_arm) 8 pattern_room (state p.old) (state p.new)) }
@@ -90,10 +91,12 @@ pub fn pattern_r<G: Grammar>(p: &mut Parser<'_>, g: &G, in_arm: bool) -> Result<
 }
 
 /// The alternatives after a first one, as the `| 2 | 3` of `1 | 2 | 3`.
+#[tactic(auto, using(rap_grammar_frame::proofs::Loops::turns), unfolding(rap_grammar_scripts::specs::Patterns::alternatives))]
 fn alternatives<G: Grammar>(p: &mut Parser<'_>, g: &G, in_arm: bool) -> Result<(), NoMemory>
     requires within { Within G.valid G.left g.now (state p.old) }
     ensures grew { OnOk result (Grew (state p.old) (state p.new) 0) }
-    ensures script { OnOk result (Does (G.left g.now) (script.alternatives in_arm) something (state p.old) (state p.new)) }
+    ensures script { OnOk result
+        (Does (G.left g.now) (script.alternatives in_arm) something (state p.old) (state p.new)) }
 {
     'alternatives: while p.at(T![|]) {
         p.bump(T![|])?;
@@ -103,10 +106,12 @@ fn alternatives<G: Grammar>(p: &mut Parser<'_>, g: &G, in_arm: bool) -> Result<(
 }
 
 /// A pattern without alternatives, as `a`, `0..=9`, `..9` and `..`.
+#[tactic(auto, unfolding(rap_grammar_scripts::specs::Patterns::pattern_single_r))]
 pub fn pattern_single_r<G: Grammar>(p: &mut Parser<'_>, g: &G, in_arm: bool) -> Result<(), NoMemory>
     requires within { Within G.valid G.left g.now (state p.old) }
     ensures reads { OnOk result (PatternUntil (stops_of in_arm) recovery_events single_pattern_room (state p.old) (state p.new)) }
-    ensures script { OnOk result (Does (G.left g.now) (script.pattern_single_r in_arm) something (state p.old) (state p.new)) }
+    ensures script { OnOk result
+        (Does (G.left g.now) (script.pattern_single_r in_arm) something (state p.old) (state p.new)) }
 {
     if p.at(T![..=]) {
         range_to_pat(p, g, in_arm)?;
@@ -124,11 +129,13 @@ pub fn pattern_single_r<G: Grammar>(p: &mut Parser<'_>, g: &G, in_arm: bool) -> 
 }
 
 /// A range without a start, as `..=9`.
+#[tactic(auto, unfolding(rap_grammar_scripts::specs::Patterns::range_to_pat))]
 fn range_to_pat<G: Grammar>(p: &mut Parser<'_>, g: &G, in_arm: bool) -> Result<(), NoMemory>
     requires within { Within G.valid G.left g.now (state p.old) }
     requires here { At (state p.old) DOT2EQ }
     ensures took { OnOk result (Took (state p.old) (state p.new) single_pattern_room) }
-    ensures script { OnOk result (Does (G.left g.now) (script.range_to_pat in_arm) something (state p.old) (state p.new)) }
+    ensures script { OnOk result
+        (Does (G.left g.now) (script.range_to_pat in_arm) something (state p.old) (state p.new)) }
 {
     let m = p.start()?;
     p.bump(T![..=])?;
@@ -138,6 +145,7 @@ fn range_to_pat<G: Grammar>(p: &mut Parser<'_>, g: &G, in_arm: bool) -> Result<(
 }
 
 /// The rest of a list, as the `..` of `[a, ..]`, and a range without a start, as `..9`.
+#[tactic(auto, unfolding(rap_grammar_scripts::specs::Patterns::rest_pat))]
 fn rest_pat<G: Grammar>(p: &mut Parser<'_>, g: &G, in_arm: bool) -> Result<(), NoMemory>
     requires within { Within G.valid G.left g.now (state p.old) }
     requires here { At (state p.old) DOT2 }
@@ -156,6 +164,7 @@ fn rest_pat<G: Grammar>(p: &mut Parser<'_>, g: &G, in_arm: bool) -> Result<(), N
 }
 
 /// What makes a range of a pattern, as the `..=9` after `0`.
+#[tactic(auto, unfolding(rap_grammar_scripts::specs::Patterns::range_op))]
 fn range_op<G: Grammar>(
     p: &mut Parser<'_>,
     g: &G,
@@ -183,7 +192,7 @@ fn range_op<G: Grammar>(
 }
 
 /// A range from `lhs` on, whose end may be missing, as in `[0.., 1]`.
-#[tactic(auto, using(rap_grammar_frame::proofs::Binary::width_positive))]
+#[tactic(auto, using(rap_grammar_frame::proofs::Binary::width_positive), unfolding(rap_grammar_scripts::specs::Patterns::range_from_pat))]
 fn range_from_pat<G: Grammar>(
     p: &mut Parser<'_>,
     g: &G,
@@ -196,7 +205,8 @@ fn range_from_pat<G: Grammar>(
     requires here { At (state p.old) op }
     requires op { op ≢ EOF }
     ensures grew { OnOk result (Grew (state p.old) (state p.new) 0) }
-    ensures script { OnOk result (Does (G.left g.now) (script.range_from_pat in_arm op) something (state p.old) (state p.new)) }
+    ensures script { OnOk result
+        (Does (G.left g.now) (script.range_from_pat in_arm op) something (state p.old) (state p.new)) }
 {
     let m = lhs.precede(p)?;
     p.bump(op)?;
@@ -220,6 +230,7 @@ fn ends_range_pat(kind: SyntaxKind) -> bool
 }
 
 /// A pattern that is no range, as `a`, `S { x, .. }` and `&1`.
+#[tactic(auto, unfolding(rap_grammar_scripts::specs::Patterns::atom_pat))]
 fn atom_pat<G: Grammar>(
     p: &mut Parser<'_>,
     g: &G,
@@ -227,7 +238,8 @@ fn atom_pat<G: Grammar>(
 ) -> Result<Option<CompletedMarker>, NoMemory>
     requires within { Within G.valid G.left g.now (state p.old) }
     ensures atom { IfOk result (IsAtomPattern in_arm (state p.old) (state p.new)) }
-    ensures script { IfOk result (λ o. Does (G.left g.now) (script.atom_pat in_arm) (of_option o) (state p.old) (state p.new)) }
+    ensures script { IfOk result
+        (λ o. Does (G.left g.now) (script.atom_pat in_arm) (of_option o) (state p.old) (state p.new)) }
 {
     if starts_builtin(p) {
         let cm = builtin_pat(p, g)?;
@@ -254,6 +266,7 @@ fn is_ident_pat_start(p: &Parser<'_>) -> bool
 }
 
 /// A pattern that begins with no keyword and no path, as `1`, `_` and `(a, b)`.
+#[tactic(auto, unfolding(rap_grammar_scripts::specs::Patterns::symbol_pat))]
 fn symbol_pat<G: Grammar>(
     p: &mut Parser<'_>,
     g: &G,
@@ -261,7 +274,8 @@ fn symbol_pat<G: Grammar>(
 ) -> Result<Option<CompletedMarker>, NoMemory>
     requires within { Within G.valid G.left g.now (state p.old) }
     ensures atom { IfOk result (IsAtomPattern in_arm (state p.old) (state p.new)) }
-    ensures script { IfOk result (λ o. Does (G.left g.now) (script.symbol_pat in_arm) (of_option o) (state p.old) (state p.new)) }
+    ensures script { IfOk result
+        (λ o. Does (G.left g.now) (script.symbol_pat in_arm) (of_option o) (state p.old) (state p.new)) }
 {
     if is_literal_pat_start(p) {
         return Ok(Some(literal_pat(p)?));
@@ -281,11 +295,13 @@ fn symbol_pat<G: Grammar>(
 
 /// No pattern begins: the next token is skipped too, unless it is a brace or ends the search.
 #[inline(never)]
+#[tactic(auto, unfolding(rap_grammar_scripts::specs::Patterns::missing_pat))]
 fn missing_pat(p: &mut Parser<'_>, in_arm: bool) -> Result<(), NoMemory>
     requires no_reference { next (state p.old) ≢ AMP }
     requires end { next (state p.old) ≡ EOF → (state p.old).rest ≡ [] }
     ensures reads { OnOk result (PatternUntil (stops_of in_arm) recovery_events atom_pattern_room (state p.old) (state p.new)) }
-    ensures script { OnOk result ((depth : ℕ) → Does depth (script.missing_pat in_arm) nothing (state p.old) (state p.new)) }
+    ensures script { OnOk result
+        ((depth : ℕ) → Does depth (script.missing_pat in_arm) nothing (state p.old) (state p.new)) }
 {
     p.err_recover("expected pattern", recovery_set(in_arm))?;
     Ok(())
@@ -297,7 +313,8 @@ fn builtin_pat<G: Grammar>(p: &mut Parser<'_>, g: &G) -> Result<Option<Completed
     requires here { ReadsAs (state p.old) BUILTIN_KW }
     requires pound { NthAt (state p.old) 1 POUND }
     ensures atom { IfOk result (λ o. (in_arm : Bool) → IsAtomPattern in_arm (state p.old) (state p.new) o) }
-    ensures script { IfOk result (λ o. Does (G.left g.now) script.builtin_pat (of_option o) (state p.old) (state p.new)) }
+    ensures script { IfOk result
+        (λ o. Does (G.left g.now) script.builtin_pat (of_option o) (state p.old) (state p.new)) }
 {
     let m = p.start()?;
     p.bump_remap(T![builtin])?;
@@ -332,6 +349,7 @@ fn is_literal_pat_start(p: &Parser<'_>) -> bool
 
 /// A literal, as `1` and `-1`.
 #[inline(never)]
+#[tactic(auto, unfolding(rap_grammar_scripts::specs::Patterns::literal_pat))]
 fn literal_pat(p: &mut Parser<'_>) -> Result<CompletedMarker, NoMemory>
     requires here { is_literal_pat_start (state p.old).rest ≡ true }
     ensures made { IfOk result (Makes LITERAL_PAT atom_pattern_room (state p.old) (state p.new)) }
@@ -346,6 +364,7 @@ fn literal_pat(p: &mut Parser<'_>) -> Result<CompletedMarker, NoMemory>
 
 /// A path, as `a::B`, one with fields, as `B(x)` and `B { x }`, or a macro call, as `m!(x)`.
 #[inline(never)]
+#[tactic(auto, unfolding(rap_grammar_scripts::specs::Patterns::path_or_macro_pat))]
 fn path_or_macro_pat<G: Grammar>(p: &mut Parser<'_>, g: &G) -> Result<CompletedMarker, NoMemory>
     requires within { Within G.valid G.left g.now (state p.old) }
     requires path { is_path_start (state p.old).rest ≡ true }
@@ -380,6 +399,7 @@ fn path_or_macro_pat<G: Grammar>(p: &mut Parser<'_>, g: &G) -> Result<CompletedM
 }
 
 /// The fields of a tuple struct, as the `(a, ..)` of `S(a, ..)`.
+#[tactic(auto, unfolding(rap_grammar_scripts::specs::Patterns::tuple_pat_fields))]
 fn tuple_pat_fields<G: Grammar>(p: &mut Parser<'_>, g: &G) -> Result<(), NoMemory>
     requires within { Within G.valid G.left g.now (state p.old) }
     requires here { next (state p.old) ≡ L_PAREN }
@@ -435,11 +455,13 @@ fn record_pat_field<G: Grammar>(p: &mut Parser<'_>, g: &G) -> Result<(), NoMemor
 }
 
 /// The fields of a record, as the `{ x, y: 1, .. }` of `S { x, y: 1, .. }`.
+#[tactic(auto, unfolding(rap_grammar_scripts::specs::Patterns::record_pat_field_list))]
 fn record_pat_field_list<G: Grammar>(p: &mut Parser<'_>, g: &G) -> Result<(), NoMemory>
     requires within { Within G.valid G.left g.now (state p.old) }
     requires here { next (state p.old) ≡ L_CURLY }
     ensures took { OnOk result (Took (state p.old) (state p.new) list_room) }
-    ensures script { OnOk result (Does (G.left g.now) script.record_pat_field_list something (state p.old) (state p.new)) }
+    ensures script { OnOk result
+        (Does (G.left g.now) script.record_pat_field_list something (state p.old) (state p.new)) }
 {
     let m = p.start()?;
     p.bump(T!['{'])?;
@@ -450,6 +472,7 @@ fn record_pat_field_list<G: Grammar>(p: &mut Parser<'_>, g: &G) -> Result<(), No
 }
 
 /// What stands in the braces of a record.
+#[tactic(auto, using(rap_grammar_frame::proofs::Loops::turns), unfolding(rap_grammar_scripts::specs::Patterns::record_pat_fields))]
 fn record_pat_fields<G: Grammar>(p: &mut Parser<'_>, g: &G) -> Result<(), NoMemory>
     requires within { Within G.valid G.left g.now (state p.old) }
     ensures grew { OnOk result (Grew (state p.old) (state p.new) 0) }
@@ -465,6 +488,7 @@ fn record_pat_fields<G: Grammar>(p: &mut Parser<'_>, g: &G) -> Result<(), NoMemo
 }
 
 /// A field with its attributes, as `#[a] x: 1`, or the `..` that stands for the other fields.
+#[tactic(auto, unfolding(rap_grammar_scripts::specs::Patterns::record_pat_element))]
 fn record_pat_element<G: Grammar>(p: &mut Parser<'_>, g: &G) -> Result<(), NoMemory>
     requires within { Within G.valid G.left g.now (state p.old) }
     requires more { next (state p.old) ≢ EOF }
@@ -489,6 +513,7 @@ fn record_pat_element<G: Grammar>(p: &mut Parser<'_>, g: &G) -> Result<(), NoMem
 }
 
 /// The wildcard, `_`.
+#[tactic(auto, unfolding(rap_grammar_scripts::specs::Patterns::wildcard_pat))]
 fn wildcard_pat(p: &mut Parser<'_>) -> Result<CompletedMarker, NoMemory>
     requires here { next (state p.old) ≡ UNDERSCORE }
     ensures made { IfOk result (Makes WILDCARD_PAT atom_pattern_room (state p.old) (state p.new)) }
@@ -501,6 +526,7 @@ fn wildcard_pat(p: &mut Parser<'_>) -> Result<CompletedMarker, NoMemory>
 }
 
 /// A reference, as `&a` and `&mut a`.
+#[tactic(auto, unfolding(rap_grammar_scripts::specs::Patterns::ref_pat))]
 fn ref_pat<G: Grammar>(p: &mut Parser<'_>, g: &G) -> Result<CompletedMarker, NoMemory>
     requires within { Within G.valid G.left g.now (state p.old) }
     requires here { next (state p.old) ≡ AMP }
@@ -516,6 +542,7 @@ fn ref_pat<G: Grammar>(p: &mut Parser<'_>, g: &G) -> Result<CompletedMarker, NoM
 }
 
 /// A pointer that is not null, as `!a`.
+#[tactic(auto, unfolding(rap_grammar_scripts::specs::Patterns::not_null_pat))]
 fn not_null_pat<G: Grammar>(p: &mut Parser<'_>, g: &G) -> Result<CompletedMarker, NoMemory>
     requires within { Within G.valid G.left g.now (state p.old) }
     requires here { next (state p.old) ≡ BANG }
@@ -531,6 +558,7 @@ fn not_null_pat<G: Grammar>(p: &mut Parser<'_>, g: &G) -> Result<CompletedMarker
 
 /// A pattern in parentheses, as `(a)`, or a tuple, as `()`, `(a,)` and `(..)`.
 #[inline(never)]
+#[tactic(auto, unfolding(rap_grammar_scripts::specs::Patterns::tuple_pat))]
 fn tuple_pat<G: Grammar>(p: &mut Parser<'_>, g: &G) -> Result<CompletedMarker, NoMemory>
     requires within { Within G.valid G.left g.now (state p.old) }
     requires here { next (state p.old) ≡ L_PAREN }
@@ -552,9 +580,11 @@ fn tuple_pat<G: Grammar>(p: &mut Parser<'_>, g: &G) -> Result<CompletedMarker, N
 }
 
 /// A comma before the first pattern, as in `(, a)`, which is reported. Returns whether there is one.
+#[tactic(auto, unfolding(rap_grammar_scripts::specs::Patterns::leading_comma))]
 fn leading_comma(p: &mut Parser<'_>) -> Result<bool, NoMemory>
     ensures grew { OnOk result (Grew (state p.old) (state p.new) 0) }
-    ensures script { IfOk result (λ comma. (depth : ℕ) → Does depth script.leading_comma (of_bool comma) (state p.old) (state p.new)) }
+    ensures script { IfOk result
+        (λ comma. (depth : ℕ) → Does depth script.leading_comma (of_bool comma) (state p.old) (state p.new)) }
 {
     if p.eat(T![,])? {
         p.error("expected pattern")?;
@@ -564,6 +594,7 @@ fn leading_comma(p: &mut Parser<'_>) -> Result<bool, NoMemory>
 }
 
 /// What stands in parentheses. Returns whether it is one pattern, no comma and no `..`.
+#[tactic(auto, using(rap_grammar_frame::proofs::Loops::turns), unfolding(rap_grammar_scripts::specs::Patterns::tuple_patterns))]
 fn tuple_patterns<G: Grammar>(
     p: &mut Parser<'_>,
     g: &G,
@@ -600,6 +631,7 @@ fn is_rest_pat(p: &Parser<'_>) -> bool
 
 /// A slice by its elements, as `[a, .., b]`.
 #[inline(never)]
+#[tactic(auto, unfolding(rap_grammar_scripts::specs::Patterns::slice_pat))]
 fn slice_pat<G: Grammar>(p: &mut Parser<'_>, g: &G) -> Result<CompletedMarker, NoMemory>
     requires within { Within G.valid G.left g.now (state p.old) }
     requires here { next (state p.old) ≡ L_BRACK }
@@ -615,6 +647,7 @@ fn slice_pat<G: Grammar>(p: &mut Parser<'_>, g: &G) -> Result<CompletedMarker, N
 }
 
 /// Patterns up to `ket`, as `a, b`. A comma that is missing is reported where the next pattern begins.
+#[tactic(auto, using(rap_grammar_frame::proofs::Loops::turns), unfolding(rap_grammar_scripts::specs::Patterns::pat_list))]
 fn pat_list<G: Grammar>(p: &mut Parser<'_>, g: &G, ket: SyntaxKind) -> Result<(), NoMemory>
     requires behind { Behind G.valid G.left g.now (state p.old) }
     ensures grew { OnOk result (Grew (state p.old) (state p.new) 8) }
@@ -634,6 +667,7 @@ fn pat_list<G: Grammar>(p: &mut Parser<'_>, g: &G, ket: SyntaxKind) -> Result<()
 }
 
 /// An identifier pattern, as `a`, `ref mut a` and, where `with_at`, `a @ 1`.
+#[tactic(auto, unfolding(rap_grammar_scripts::specs::Patterns::ident_pat))]
 fn ident_pat<G: Grammar>(
     p: &mut Parser<'_>,
     g: &G,
@@ -642,7 +676,8 @@ fn ident_pat<G: Grammar>(
     requires within { Within G.valid G.left g.now (state p.old) }
     requires here { one_of (REF_KW ∷ MUT_KW ∷ IDENT ∷ []) (next (state p.old)) ≡ true }
     ensures made { IfOk result (Makes IDENT_PAT atom_pattern_room (state p.old) (state p.new)) }
-    ensures script { OnOk result (Does (G.left g.now) (script.ident_pat with_at) something (state p.old) (state p.new)) }
+    ensures script { OnOk result
+        (Does (G.left g.now) (script.ident_pat with_at) something (state p.old) (state p.new)) }
 {
     let m = p.start()?;
     binding(p)?;
@@ -669,10 +704,12 @@ fn binding(p: &mut Parser<'_>) -> Result<(), NoMemory>
 }
 
 /// The subpattern after a name, as the `@ 1` of `a @ 1`, if there is one and it may be there.
+#[tactic(auto, unfolding(rap_grammar_scripts::specs::Patterns::at_pattern))]
 fn at_pattern<G: Grammar>(p: &mut Parser<'_>, g: &G, with_at: bool) -> Result<(), NoMemory>
     requires within { Within G.valid G.left g.now (state p.old) }
     ensures grew { OnOk result (Grew (state p.old) (state p.new) 0) }
-    ensures script { OnOk result (Does (G.left g.now) (script.at_pattern with_at) something (state p.old) (state p.new)) }
+    ensures script { OnOk result
+        (Does (G.left g.now) (script.at_pattern with_at) something (state p.old) (state p.new)) }
 {
     if with_at && p.at(T![@]) {
         p.bump(T![@])?;
@@ -682,6 +719,7 @@ fn at_pattern<G: Grammar>(p: &mut Parser<'_>, g: &G, with_at: bool) -> Result<()
 }
 
 /// A box pattern, as `box a`.
+#[tactic(auto, unfolding(rap_grammar_scripts::specs::Patterns::box_pat))]
 fn box_pat<G: Grammar>(p: &mut Parser<'_>, g: &G) -> Result<CompletedMarker, NoMemory>
     requires within { Within G.valid G.left g.now (state p.old) }
     requires here { next (state p.old) ≡ BOX_KW }
@@ -696,6 +734,7 @@ fn box_pat<G: Grammar>(p: &mut Parser<'_>, g: &G) -> Result<CompletedMarker, NoM
 }
 
 /// A constant block, as `const { 1 }`.
+#[tactic(auto, unfolding(rap_grammar_scripts::specs::Patterns::const_block_pat))]
 fn const_block_pat<G: Grammar>(p: &mut Parser<'_>, g: &G) -> Result<CompletedMarker, NoMemory>
     requires within { Within G.valid G.left g.now (state p.old) }
     requires here { next (state p.old) ≡ CONST_KW }

@@ -1,10 +1,12 @@
 -- The operator after an operand that comes next.
-use Rattle.std.specs.Prelude.{ℕ, List, [], ◌∷◌, Bool, true, ◌==◌, if◌then◌else◌}
+use Rattle.std.specs.Prelude.{ℕ, List, [], ◌∷◌, Bool, true, if◌then◌else◌, ◌==◌, false}
 use Rattle.rap_base.specs.TokenKind.{EOF}
 use Rattle.rap_events.specs.Composite.{begins_with}
 use Rattle.rap_events.specs.OperatorTable.{operators, powers}
+use Rattle.rap_events.specs.Power.{power}
 use Rattle.rap_events.specs.Record.{Record, next_kind}
-use Rattle.rap_grammar_scripts.specs.Script.{Script, something, give, test}
+use Rattle.rap_grammar_scripts.specs.Script.{Script, something, give, test, any}
+use Rattle.rap_grammar_scripts.specs.declared.arguments.Restrictions.{Restrictions}
 
 -- whether these tokens follow the first one, which comes next
 abbrev pub goes_on_with : ℕ → List ℕ → List Record → Bool
@@ -32,3 +34,11 @@ by_operator_of (row ∷ rows) h = test (λ rs. row.0 == operator_at rs) (h row.0
 -- the way of the operator that comes next; where none does, there is nothing to do
 unfoldable pub by_operator : {P : Type 0} → (ℕ → Script P) → Script P
 by_operator h = by_operator_of powers h
+
+-- the same restrictions, but for the end of a statement
+abbrev pub operand_of : Restrictions → Restrictions
+operand_of r = record { forbid_structs = r.forbid_structs; prefer_stmt = false }
+
+-- the power at least of the operand of an operator before it: more than that of any operator between two
+abbrev pub prefix_power : ℕ
+prefix_power = 255

@@ -1,11 +1,14 @@
 -- Words of scripts.
-use Rattle.std.specs.Prelude.{ℕ, Bool, true, false, ◌==◌, ◌&&◌, ◌||◌, List, [], ◌∷◌, Option, Some, None, drop}
-use Rattle.rap_base.specs.TokenKind.{L_CURLY, R_CURLY, POUND, BUILTIN_KW}
-use Rattle.rap_events.specs.Record.{Record, next_kind, contextual_at}
+use Rattle.std.specs.Prelude.{Bool, List, [], ◌∷◌, true, false, ℕ, ◌==◌, ◌&&◌, drop, ◌||◌, Option, Some, None}
+use Rattle.rap_base.specs.TokenKind.{POUND, BUILTIN_KW, L_CURLY, R_CURLY}
 use Rattle.rap_events.specs.Composite.{is_at}
 use Rattle.rap_events.specs.Cover.{first_may_bear}
+use Rattle.rap_events.specs.Record.{Record, next_kind, contextual_at}
 use Rattle.rap_events.specs.State.{expected}
-use Rattle.rap_grammar_scripts.specs.Script.{Script, Outcome, nothing, something, block, again, give, test, token, bear, report, skip, after, rule}
+use Rattle.rap_events.specs.declared.parser.CompletedMarker.{CompletedMarker}
+use Rattle.rap_grammar_scripts.specs.Script.{Script, after, rule, test, nothing, something, give, Outcome, block, again, token, bear, report, skip}
+use Rattle.rap_grammar_scripts.specs.declared.arguments.BlockLike.{BlockLike}
+use Rattle.rap_grammar_scripts.specs.declared.arguments.BlockLike.TheVariants as like
 
 -- One word after another: a script reads in the order of its rule, from left to right.
 infixr 3 ◌▸◌
@@ -88,3 +91,12 @@ of_option (Some a) = something
 abbrev pub of_bool : Bool → Outcome
 of_bool false = nothing
 of_bool true = something
+
+-- a node that reads like a block, or another
+abbrev pub of_like : BlockLike → Outcome
+of_like like.Block = block
+of_like like.NotBlock = something
+
+abbrev pub of_expr : Option (CompletedMarker × BlockLike) → Outcome
+of_expr None = nothing
+of_expr (Some e) = of_like e.1

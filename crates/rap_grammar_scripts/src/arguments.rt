@@ -14,7 +14,7 @@ pub enum BlockLike {
 }
 
 impl BlockLike {
-    ghost use Rattle.rap_grammar_scripts.specs.Expressions.{of_like, is_block};
+    ghost use Rattle.rap_grammar_scripts.specs.Words.{of_like, is_block};
 
     pub fn is_block(self) -> bool
         ensures { result ≡ is_block (of_like self) }

@@ -1,36 +1,31 @@
 //! Generic arguments.
-ghost use Rattle.std.specs.Prelude.{ℕ, ◌≡◌, ◌<◌, ◌≤◌, OnOk, true, Some, IfOk};
-ghost use Rattle.rap_base.specs.TokenKind.{LIFETIME_IDENT, COLON, BANG, MINUS};
-ghost use Rattle.rap_base.specs.NodeKind.{PATH_EXPR};
+ghost use Rattle.std.specs.Prelude.{ℕ, ◌≡◌, ◌<◌, OnOk, true, Some};
+ghost use Rattle.rap_base.specs.TokenKind.{LIFETIME_IDENT, COLON, BANG};
 ghost use Rattle.rap_events.specs.State.{state, next, IsLast};
-ghost use Rattle.rap_grammar_scripts.specs.ConstArgs as const_script;
-ghost use Rattle.rap_grammar_scripts.specs.First.{is_const_arg_first, is_generic_arg_first, is_type_first, is_path_name, is_path_start};
+ghost use Rattle.rap_grammar_scripts.specs.First.{is_const_arg_first, is_generic_arg_first, is_type_first, is_path_name};
 ghost use Rattle.rap_grammar_scripts.specs.GenericArgs as script;
-ghost use Rattle.rap_grammar_frame.specs.Grew.{Within, Took, Behind, Grew, Ended, Makes};
+ghost use Rattle.rap_grammar_frame.specs.Grew.{Within, Took, Behind, Grew, Ended};
 ghost use Rattle.rap_grammar_scripts.specs.Exec.{Does};
 ghost use Rattle.rap_grammar_scripts.specs.Recovery.{is_generic_arg_recovery};
-ghost use Rattle.rap_grammar_frame.specs.Room.{element_room, operand_room, atom_room, recovery_events};
+ghost use Rattle.rap_grammar_frame.specs.Room.{element_room};
 ghost use Rattle.rap_grammar_scripts.specs.Script.{something};
 
+use crate::const_args::const_arg;
 use crate::generic_params::bounds;
 use crate::types::{opt_type_bounds_as_dyn_trait_type, starts_weak_dyn, type_with_bounds_cond};
 use rap_base::T;
 use rap_base::no_memory::NoMemory;
 use rap_base::syntax_kind::SyntaxKind;
-use rap_base::token_set::TokenSet;
 use rap_events::parser::{CompletedMarker, Marker, Parser};
-use rap_grammar_blocks::blocks::block_expr;
-use rap_grammar_frame::called::type_;
-use rap_grammar_frame::first::{
-    is_const_arg_first, is_literal_first, is_path_start, is_type_first,
-};
+use rap_grammar_frame::first::{is_const_arg_first, is_type_first};
 use rap_grammar_frame::knot::Grammar;
-use rap_grammar_frame::literals::literal;
 use rap_grammar_frame::names::{is_path_name, lifetime, name_ref_mod_path};
+use rap_grammar_frame::through_knot::type_;
 use rap_grammar_frame::token_tree::{macro_call_after_excl, starts_macro_call};
-use rap_grammar_paths::paths::{expr_path, opt_path_type_args, type_path_for_qualifier};
+use rap_grammar_paths::paths::{opt_path_type_args, type_path_for_qualifier};
 
 /// An argument, as `'a`, `1`, `a`, `a = b` and `a: b`.
+#[tactic(auto, unfolding(rap_grammar_scripts::specs::GenericArgs::generic_arg))]
 pub fn generic_arg<G: Grammar>(p: &mut Parser<'_>, g: &G) -> Result<(), NoMemory>
     requires within { Within G.valid G.left g.now (state p.old) }
     requires first { is_generic_arg_first (next (state p.old)) ≡ true }
@@ -62,6 +57,7 @@ fn starts_lifetime_arg(p: &Parser<'_>) -> bool
 }
 
 /// A lifetime as an argument, as `'a`.
+#[tactic(auto, unfolding(rap_grammar_scripts::specs::GenericArgs::lifetime_arg))]
 fn lifetime_arg(p: &mut Parser<'_>) -> Result<(), NoMemory>
     requires here { next (state p.old) ≡ LIFETIME_IDENT }
     ensures took { OnOk result (Took (state p.old) (state p.new) element_room) }
@@ -74,6 +70,7 @@ fn lifetime_arg(p: &mut Parser<'_>) -> Result<(), NoMemory>
 }
 
 /// A type as an argument, as `&a`.
+#[tactic(auto, unfolding(rap_grammar_scripts::specs::GenericArgs::type_arg))]
 fn type_arg<G: Grammar>(p: &mut Parser<'_>, g: &G) -> Result<(), NoMemory>
     requires within { Within G.valid G.left g.now (state p.old) }
     requires first { is_type_first (next (state p.old)) ≡ true }
@@ -103,6 +100,7 @@ fn starts_bounds(p: &Parser<'_>) -> bool
 }
 
 /// An argument that begins with a name, as `a::b<c>`, `a = b` and `a<b>: c`.
+#[tactic(auto, unfolding(rap_grammar_scripts::specs::GenericArgs::named_arg))]
 fn named_arg<G: Grammar>(p: &mut Parser<'_>, g: &G) -> Result<(), NoMemory>
     requires within { Within G.valid G.left g.now (state p.old) }
     requires name { is_path_name (next (state p.old)) ≡ true }
@@ -129,6 +127,7 @@ fn named_arg<G: Grammar>(p: &mut Parser<'_>, g: &G) -> Result<(), NoMemory>
 }
 
 /// What a name is bound to after the `=`, as the `b` of `a = b`.
+#[tactic(auto, unfolding(rap_grammar_scripts::specs::GenericArgs::assoc_value))]
 fn assoc_value<G: Grammar>(p: &mut Parser<'_>, g: &G) -> Result<(), NoMemory>
     requires behind { Behind G.valid G.left g.now (state p.old) }
     ensures grew { OnOk result (Grew (state p.old) (state p.new) 8) }
@@ -154,6 +153,7 @@ fn is_generic_arg_recovery(kind: SyntaxKind) -> bool
 }
 
 /// A path from its first segment on, as a type, as `a::b`, or a macro call, as `a!()`.
+#[tactic(auto, unfolding(rap_grammar_scripts::specs::GenericArgs::path_arg))]
 fn path_arg<G: Grammar>(p: &mut Parser<'_>, g: &G, segment: CompletedMarker) -> Result<(), NoMemory>
     requires behind { Behind G.valid G.left g.now (state p.old) }
     requires last { IsLast (state p.old) segment segment.kind.value }
@@ -174,6 +174,7 @@ fn path_arg<G: Grammar>(p: &mut Parser<'_>, g: &G, segment: CompletedMarker) -> 
 }
 
 /// A macro call after its path, as the `!()` of `a!()`. The marker before the path is open.
+#[tactic(auto, unfolding(rap_grammar_scripts::specs::GenericArgs::macro_arg, rap_events::specs::Machine::top))]
 fn macro_arg<G: Grammar>(p: &mut Parser<'_>, g: &G, m: Marker) -> Result<(), NoMemory>
     requires behind { Behind G.valid G.left g.now (state p.old) }
     requires newest { (state p.old).marker ≡ Some m.pos.value }
@@ -190,6 +191,7 @@ fn macro_arg<G: Grammar>(p: &mut Parser<'_>, g: &G, m: Marker) -> Result<(), NoM
 }
 
 /// The bounds after a type of this kind, as `+ b` after `a`, if there are; and what comes of it is an argument.
+#[tactic(auto, unfolding(rap_grammar_scripts::specs::GenericArgs::bounded_arg))]
 fn bounded_arg<G: Grammar>(
     p: &mut Parser<'_>,
     g: &G,
@@ -204,85 +206,5 @@ fn bounded_arg<G: Grammar>(
     let ty = opt_type_bounds_as_dyn_trait_type(p, g, ty, kind)?;
     let m = ty.precede(p)?;
     m.complete(p, SyntaxKind::TYPE_ARG)?;
-    Ok(())
-}
-
-/// A constant as an argument, as `1`, `-1`, `{ a }` and `a::b`.
-pub(crate) fn const_arg<G: Grammar>(p: &mut Parser<'_>, g: &G) -> Result<(), NoMemory>
-    requires within { Within G.valid G.left g.now (state p.old) }
-    ensures grew { OnOk result (Grew (state p.old) (state p.new) 8) }
-    ensures took { OnOk result (is_const_arg_first (next (state p.old)) ≡ true → Took (state p.old) (state p.new) element_room) }
-    ensures script { OnOk result (Does (G.left g.now) const_script.const_arg something (state p.old) (state p.new)) }
-{
-    let m = p.start()?;
-    const_arg_expr(p, g)?;
-    m.complete(p, SyntaxKind::CONST_ARG)?;
-    Ok(())
-}
-
-/// The expression of a constant.
-fn const_arg_expr<G: Grammar>(p: &mut Parser<'_>, g: &G) -> Result<(), NoMemory>
-    requires within { Within G.valid G.left g.now (state p.old) }
-    ensures grew { OnOk result (Grew (state p.old) (state p.new) 6) }
-    ensures took { OnOk result (is_const_arg_first (next (state p.old)) ≡ true → Took (state p.old) (state p.new) operand_room) }
-    ensures script { OnOk result (Does (G.left g.now) const_script.const_arg_expr something (state p.old) (state p.new)) }
-{
-    if p.current() == T!['{'] {
-        block_expr(p, g)?;
-        return Ok(());
-    }
-    if is_literal_first(p.current()) {
-        literal(p)?;
-        return Ok(());
-    }
-    if p.current() == T![-] {
-        negative_const(p)?;
-        return Ok(());
-    }
-    if is_path_start(p) {
-        const_path(p, g)?;
-        return Ok(());
-    }
-    missing_const(p)?;
-    Ok(())
-}
-
-/// A path as a constant, as `a::b`.
-fn const_path<G: Grammar>(p: &mut Parser<'_>, g: &G) -> Result<CompletedMarker, NoMemory>
-    requires within { Within G.valid G.left g.now (state p.old) }
-    requires path { is_path_start (state p.old).rest ≡ true }
-    ensures made { IfOk result (Makes PATH_EXPR atom_room (state p.old) (state p.new)) }
-    ensures script { OnOk result (Does (G.left g.now) const_script.const_path something (state p.old) (state p.new)) }
-{
-    let m = p.start()?;
-    expr_path(p, g)?;
-    let cm = m.complete(p, SyntaxKind::PATH_EXPR)?;
-    Ok(cm)
-}
-
-/// A negative number, as `-1`.
-fn negative_const(p: &mut Parser<'_>) -> Result<(), NoMemory>
-    requires here { next (state p.old) ≡ MINUS }
-    ensures took { OnOk result (Took (state p.old) (state p.new) operand_room) }
-    ensures script { OnOk result ((depth : ℕ) → Does depth const_script.negative_const something (state p.old) (state p.new)) }
-{
-    let m = p.start()?;
-    p.bump(T![-])?;
-    literal(p)?;
-    m.complete(p, SyntaxKind::PREFIX_EXPR)?;
-    Ok(())
-}
-
-/// A constant is missing. It is a function of its own so that the set takes no room on the stack of the rules that
-/// nest.
-#[inline(never)]
-fn missing_const(p: &mut Parser<'_>) -> Result<(), NoMemory>
-    ensures grew { OnOk result (Grew (state p.old) (state p.new) recovery_events) }
-    ensures script { OnOk result ((depth : ℕ) → Does depth const_script.missing_const something (state p.old) (state p.new)) }
-{
-    p.err_recover(
-        "expected a generic const argument",
-        TokenSet::new(&[T![>], T![,]]),
-    )?;
     Ok(())
 }

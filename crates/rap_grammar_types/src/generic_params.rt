@@ -11,21 +11,22 @@ ghost use Rattle.rap_grammar_frame.specs.Room.{list_room, param_room, element_ro
 ghost use Rattle.rap_grammar_scripts.specs.Script.{something};
 ghost use Rattle.rap_grammar_scripts.specs.Words.{of_bool};
 
-use crate::generic_args::const_arg;
-use crate::types::path_type;
+use crate::const_args::const_arg;
+use crate::path_type::path_type;
 use rap_base::T;
 use rap_base::no_memory::NoMemory;
 use rap_base::syntax_kind::SyntaxKind;
 use rap_events::parser::{CompletedMarker, Marker, Parser};
-use rap_grammar_blocks::attributes::outer_attrs;
-use rap_grammar_frame::called::{ascription, for_binder, type_};
+use rap_grammar_attributes::attributes::outer_attrs;
 use rap_grammar_frame::first::{is_outer_attr_first, is_type_first, is_use_path_start};
 use rap_grammar_frame::knot::Grammar;
 use rap_grammar_frame::lists::{Element, delimited};
 use rap_grammar_frame::names::{lifetime, name, name_ref_or_upper_self};
+use rap_grammar_frame::through_knot::{ascription, for_binder, type_};
 use rap_grammar_frame::token_tree::token_tree;
 
 /// Generic parameters, as `<'a, T: A, const N: b>`.
+#[tactic(auto, unfolding(rap_grammar_scripts::specs::GenericParams::generic_param_list, rap_grammar_scripts::specs::GenericParams::generic_params))]
 pub fn generic_param_list<G: Grammar>(p: &mut Parser<'_>, g: &G) -> Result<(), NoMemory>
     requires within { Within G.valid G.left g.now (state p.old) }
     requires here { next (state p.old) ≡ L_ANGLE }
@@ -50,12 +51,13 @@ pub fn generic_param_list<G: Grammar>(p: &mut Parser<'_>, g: &G) -> Result<(), N
 struct GenericParam;
 
 impl Element for GenericParam {
-    ghost use Rattle.rap_grammar_scripts.specs.First as set;
+    ghost use Rattle.rap_grammar_scripts.specs.First as first_script;
 
     ghost element = { λ _. script.attributed_param };
 
-    ghost first = { λ _. set.is_attributed_generic_param_first };
+    ghost first = { λ _. first_script.is_attributed_generic_param_first };
 
+    #[tactic(auto, unfolding(rap_grammar_scripts::specs::GenericParams::attributed_param))]
     fn parse<G: Grammar>(&self, p: &mut Parser<'_>, g: &G) -> Result<bool, NoMemory> {
         let m = p.start()?;
         outer_attrs(p, g)?;
@@ -69,12 +71,14 @@ impl Element for GenericParam {
 }
 
 /// A parameter from its marker on. Returns whether there is one.
+#[tactic(auto, unfolding(rap_grammar_scripts::specs::GenericParams::generic_param))]
 fn generic_param<G: Grammar>(p: &mut Parser<'_>, g: &G, m: Marker) -> Result<bool, NoMemory>
     requires behind { Behind G.valid G.left g.now (state p.old) }
     requires newest { (state p.old).marker ≡ Some m.pos.value }
     ensures gone { OnOk result (Gone (state p.old) (state p.new) 4) }
     ensures spent { IfOk result (λ found. found ≡ true → Spent (state p.old) (state p.new) param_room) }
-    ensures script { IfOk result (λ found. Does (G.left g.now) script.generic_param (of_bool found) (state p.old) (state p.new)) }
+    ensures script { IfOk result
+        (λ found. Does (G.left g.now) script.generic_param (of_bool found) (state p.old) (state p.new)) }
 {
     match p.current() {
         T![lifetime_ident] => {
@@ -98,6 +102,7 @@ fn generic_param<G: Grammar>(p: &mut Parser<'_>, g: &G, m: Marker) -> Result<boo
 }
 
 /// A lifetime as a parameter, as `'a: 'b`.
+#[tactic(auto, unfolding(rap_grammar_scripts::specs::GenericParams::lifetime_param))]
 fn lifetime_param<G: Grammar>(p: &mut Parser<'_>, g: &G, m: Marker) -> Result<(), NoMemory>
     requires behind { Behind G.valid G.left g.now (state p.old) }
     requires newest { (state p.old).marker ≡ Some m.pos.value }
@@ -115,6 +120,7 @@ fn lifetime_param<G: Grammar>(p: &mut Parser<'_>, g: &G, m: Marker) -> Result<()
 }
 
 /// A type as a parameter, as `T: A = b`.
+#[tactic(auto, unfolding(rap_grammar_scripts::specs::GenericParams::type_param, rap_grammar_scripts::specs::GenericParams::type_default))]
 fn type_param<G: Grammar>(p: &mut Parser<'_>, g: &G, m: Marker) -> Result<(), NoMemory>
     requires behind { Behind G.valid G.left g.now (state p.old) }
     requires newest { (state p.old).marker ≡ Some m.pos.value }
@@ -159,6 +165,7 @@ fn const_param<G: Grammar>(p: &mut Parser<'_>, g: &G, m: Marker) -> Result<(), N
 }
 
 /// What a lifetime outlives, as the `'b + 'c` of `'a: 'b + 'c`.
+#[tactic(auto, unfolding(rap_grammar_scripts::specs::GenericParams::lifetime_bounds))]
 fn lifetime_bounds<G: Grammar>(p: &mut Parser<'_>, g: &G) -> Result<(), NoMemory>
     requires within { Within G.valid G.left g.now (state p.old) }
     ensures grew { OnOk result (Grew (state p.old) (state p.new) 16) }
@@ -171,10 +178,12 @@ fn lifetime_bounds<G: Grammar>(p: &mut Parser<'_>, g: &G) -> Result<(), NoMemory
 }
 
 /// A lifetime's bounds with `+` between them.
+#[tactic(auto, using(rap_grammar_frame::proofs::Loops::turns), unfolding(rap_grammar_scripts::specs::GenericParams::lifetime_bound_list))]
 fn lifetime_bound_list<G: Grammar>(p: &mut Parser<'_>, g: &G) -> Result<(), NoMemory>
     requires within { Within G.valid G.left g.now (state p.old) }
     ensures grew { OnOk result (Grew (state p.old) (state p.new) 8) }
-    ensures script { OnOk result (Does (G.left g.now) script.lifetime_bound_list something (state p.old) (state p.new)) }
+    ensures script { OnOk result
+        (Does (G.left g.now) script.lifetime_bound_list something (state p.old) (state p.new)) }
 {
     'bounds: while lifetime_bound(p, g)? {
         if !p.eat(T![+])? {
@@ -189,7 +198,8 @@ fn lifetime_bound<G: Grammar>(p: &mut Parser<'_>, g: &G) -> Result<bool, NoMemor
     requires within { Within G.valid G.left g.now (state p.old) }
     ensures grew { OnOk result (Grew (state p.old) (state p.new) 4) }
     ensures took { IfOk result (λ found. found ≡ true → Took (state p.old) (state p.new) element_room) }
-    ensures script { IfOk result (λ found. Does (G.left g.now) script.lifetime_bound (of_bool found) (state p.old) (state p.new)) }
+    ensures script { IfOk result
+        (λ found. Does (G.left g.now) script.lifetime_bound (of_bool found) (state p.old) (state p.new)) }
 {
     if !matches!(p.current(), T![lifetime_ident] | T![>] | T![,]) {
         p.error("expected lifetime")?;
@@ -199,6 +209,7 @@ fn lifetime_bound<G: Grammar>(p: &mut Parser<'_>, g: &G) -> Result<bool, NoMemor
 }
 
 /// Bounds with their colon, as `: 'a + A`.
+#[tactic(auto, unfolding(rap_grammar_scripts::specs::GenericParams::bounds))]
 pub(crate) fn bounds<G: Grammar>(p: &mut Parser<'_>, g: &G) -> Result<(), NoMemory>
     requires within { Within G.valid G.left g.now (state p.old) }
     requires here { next (state p.old) ≡ COLON }
@@ -211,11 +222,13 @@ pub(crate) fn bounds<G: Grammar>(p: &mut Parser<'_>, g: &G) -> Result<(), NoMemo
 }
 
 /// Bounds, as `'a + ?A + for<'b> B`.
+#[tactic(auto, unfolding(rap_grammar_scripts::specs::GenericParams::bounds_without_colon))]
 pub fn bounds_without_colon<G: Grammar>(p: &mut Parser<'_>, g: &G) -> Result<(), NoMemory>
     requires within { Within G.valid G.left g.now (state p.old) }
     ensures grew { OnOk result (Grew (state p.old) (state p.new) 16) }
     ensures took { OnOk result (next (state p.old) ≡ LIFETIME_IDENT → Took (state p.old) (state p.new) list_room) }
-    ensures script { OnOk result (Does (G.left g.now) script.bounds_without_colon something (state p.old) (state p.new)) }
+    ensures script { OnOk result
+        (Does (G.left g.now) script.bounds_without_colon something (state p.old) (state p.new)) }
 {
     let m = p.start()?;
     bounds_without_colon_m(p, g, m)?;
@@ -223,6 +236,7 @@ pub fn bounds_without_colon<G: Grammar>(p: &mut Parser<'_>, g: &G) -> Result<(),
 }
 
 /// Bounds, from their marker on.
+#[tactic(auto, unfolding(rap_grammar_scripts::specs::GenericParams::bounds_without_colon_m))]
 pub(crate) fn bounds_without_colon_m<G: Grammar>(
     p: &mut Parser<'_>,
     g: &G,
@@ -232,7 +246,8 @@ pub(crate) fn bounds_without_colon_m<G: Grammar>(
     requires newest { (state p.old).marker ≡ Some m.pos.value }
     ensures closes { IfOk result (Closes TYPE_BOUND_LIST 8 (state p.old) (state p.new)) }
     ensures spent { OnOk result (next (state p.old) ≡ LIFETIME_IDENT → Spent (state p.old) (state p.new) path_room) }
-    ensures script { OnOk result (Does (G.left g.now) script.bounds_without_colon_m something (state p.old) (state p.new)) }
+    ensures script { OnOk result
+        (Does (G.left g.now) script.bounds_without_colon_m something (state p.old) (state p.new)) }
 {
     type_bounds(p, g)?;
     let cm = m.complete(p, SyntaxKind::TYPE_BOUND_LIST)?;
@@ -240,6 +255,7 @@ pub(crate) fn bounds_without_colon_m<G: Grammar>(
 }
 
 /// Bounds with `+` between them.
+#[tactic(auto, using(rap_grammar_frame::proofs::Loops::turns), unfolding(rap_grammar_scripts::specs::GenericParams::type_bounds))]
 fn type_bounds<G: Grammar>(p: &mut Parser<'_>, g: &G) -> Result<(), NoMemory>
     requires within { Within G.valid G.left g.now (state p.old) }
     ensures grew { OnOk result (Grew (state p.old) (state p.new) 4) }
@@ -255,12 +271,14 @@ fn type_bounds<G: Grammar>(p: &mut Parser<'_>, g: &G) -> Result<(), NoMemory>
 }
 
 /// A bound, as `'a`, `A` and `(?A)`. Returns whether there is one.
+#[tactic(auto, unfolding(rap_grammar_scripts::specs::GenericParams::type_bound))]
 fn type_bound<G: Grammar>(p: &mut Parser<'_>, g: &G) -> Result<bool, NoMemory>
     requires within { Within G.valid G.left g.now (state p.old) }
     ensures grew { OnOk result (Grew (state p.old) (state p.new) 2) }
     ensures took { IfOk result (λ found. found ≡ true → Took (state p.old) (state p.new) param_room) }
     ensures lifetime { OnOk result (next (state p.old) ≡ LIFETIME_IDENT → Took (state p.old) (state p.new) name_end_room) }
-    ensures script { IfOk result (λ found. Does (G.left g.now) script.type_bound (of_bool found) (state p.old) (state p.new)) }
+    ensures script { IfOk result
+        (λ found. Does (G.left g.now) script.type_bound (of_bool found) (state p.old) (state p.new)) }
 {
     let m = p.start()?;
     let has_paren = p.eat(T!['('])?;
@@ -276,12 +294,14 @@ fn type_bound<G: Grammar>(p: &mut Parser<'_>, g: &G) -> Result<bool, NoMemory>
 }
 
 /// A bound without its parentheses, as `'a`, `for<'a> A<'a>` and `use<'a, T>`. Returns whether there is one.
+#[tactic(auto, unfolding(rap_grammar_scripts::specs::GenericParams::bare_bound))]
 fn bare_bound<G: Grammar>(p: &mut Parser<'_>, g: &G) -> Result<bool, NoMemory>
     requires within { Within G.valid G.left g.now (state p.old) }
     ensures grew { OnOk result (Grew (state p.old) (state p.new) 0) }
     ensures took { IfOk result (λ found. found ≡ true → Took (state p.old) (state p.new) list_room) }
     ensures lifetime { OnOk result (next (state p.old) ≡ LIFETIME_IDENT → Took (state p.old) (state p.new) name_room) }
-    ensures script { IfOk result (λ found. Does (G.left g.now) script.bare_bound (of_bool found) (state p.old) (state p.new)) }
+    ensures script { IfOk result
+        (λ found. Does (G.left g.now) script.bare_bound (of_bool found) (state p.old) (state p.new)) }
 {
     match p.current() {
         T![lifetime_ident] => {
@@ -305,6 +325,7 @@ fn bare_bound<G: Grammar>(p: &mut Parser<'_>, g: &G) -> Result<bool, NoMemory>
 }
 
 /// What a type captures, as `use<'a, T>`.
+#[tactic(auto, unfolding(rap_grammar_scripts::specs::GenericParams::use_bound, rap_grammar_scripts::specs::GenericParams::use_bound_args))]
 fn use_bound<G: Grammar>(p: &mut Parser<'_>, g: &G) -> Result<(), NoMemory>
     requires within { Within G.valid G.left g.now (state p.old) }
     requires here { next (state p.old) ≡ USE_KW }
@@ -331,12 +352,13 @@ fn use_bound<G: Grammar>(p: &mut Parser<'_>, g: &G) -> Result<(), NoMemory>
 struct UseBoundArg;
 
 impl Element for UseBoundArg {
-    ghost use Rattle.rap_grammar_scripts.specs.First as set;
+    ghost use Rattle.rap_grammar_scripts.specs.First as first_script;
 
     ghost element = { λ _. script.use_bound_arg };
 
-    ghost first = { λ _. set.is_use_bound_arg_first };
+    ghost first = { λ _. first_script.is_use_bound_arg_first };
 
+    #[tactic(auto, unfolding(rap_grammar_scripts::specs::GenericParams::use_bound_arg))]
     fn parse<G: Grammar>(&self, p: &mut Parser<'_>, g: &G) -> Result<bool, NoMemory> {
         let _ = g;
         if p.at(T![lifetime_ident]) {
@@ -353,11 +375,13 @@ impl Element for UseBoundArg {
 }
 
 /// A trait as a bound, as `A`, `?A` and `const async A`. Returns whether there is one.
+#[tactic(auto, unfolding(rap_grammar_scripts::specs::GenericParams::path_type_bound))]
 fn path_type_bound<G: Grammar>(p: &mut Parser<'_>, g: &G) -> Result<bool, NoMemory>
     requires within { Within G.valid G.left g.now (state p.old) }
     ensures grew { OnOk result (Grew (state p.old) (state p.new) 0) }
     ensures took { IfOk result (λ found. found ≡ true → Took (state p.old) (state p.new) list_room) }
-    ensures script { IfOk result (λ found. Does (G.left g.now) script.path_type_bound (of_bool found) (state p.old) (state p.new)) }
+    ensures script { IfOk result
+        (λ found. Does (G.left g.now) script.path_type_bound (of_bool found) (state p.old) (state p.new)) }
 {
     bound_constness(p)?;
     p.eat(T![async])?;
@@ -373,9 +397,11 @@ fn path_type_bound<G: Grammar>(p: &mut Parser<'_>, g: &G) -> Result<bool, NoMemo
 }
 
 /// The `const` before a trait, as `const`, `~const` and `[const]`, if there is one.
+#[tactic(auto, unfolding(rap_grammar_scripts::specs::GenericParams::bound_constness))]
 fn bound_constness(p: &mut Parser<'_>) -> Result<(), NoMemory>
     ensures grew { OnOk result (Grew (state p.old) (state p.new) 0) }
-    ensures script { OnOk result ((depth : ℕ) → Does depth script.bound_constness something (state p.old) (state p.new)) }
+    ensures script { OnOk result
+        ((depth : ℕ) → Does depth script.bound_constness something (state p.old) (state p.new)) }
 {
     if p.eat(T![~])? {
         p.expect(T![const])?;
@@ -394,7 +420,9 @@ fn bound_constness(p: &mut Parser<'_>) -> Result<(), NoMemory>
 fn bound_macro_call(p: &mut Parser<'_>) -> Result<(), NoMemory>
     requires { next (state p.old) ≡ BANG }
     ensures took { OnOk result (Took (state p.old) (state p.new) param_room) }
-    ensures script { OnOk result ((depth : ℕ) → (state p.old).left ≤ depth → Does depth script.bound_macro_call something (state p.old) (state p.new)) }
+    ensures script { OnOk result
+        ((depth : ℕ) → (state p.old).left ≤ depth → Does depth script.bound_macro_call something (state p.old)
+        (state p.new)) }
 {
     let m = p.start()?;
     p.bump(T![!])?;
@@ -407,6 +435,7 @@ fn bound_macro_call(p: &mut Parser<'_>) -> Result<(), NoMemory>
 }
 
 /// A `where` clause, as `where 'a: 'b, T: A`.
+#[tactic(auto, unfolding(rap_grammar_scripts::specs::GenericParams::where_clause))]
 pub fn where_clause<G: Grammar>(p: &mut Parser<'_>, g: &G) -> Result<(), NoMemory>
     requires within { Within G.valid G.left g.now (state p.old) }
     requires here { next (state p.old) ≡ WHERE_KW }
@@ -421,6 +450,7 @@ pub fn where_clause<G: Grammar>(p: &mut Parser<'_>, g: &G) -> Result<(), NoMemor
 }
 
 /// The predicates of a `where`, with commas between them.
+#[tactic(auto, using(rap_grammar_frame::proofs::Loops::turns), unfolding(rap_grammar_scripts::specs::GenericParams::where_predicates))]
 fn where_predicates<G: Grammar>(p: &mut Parser<'_>, g: &G) -> Result<(), NoMemory>
     requires behind { Behind G.valid G.left g.now (state p.old) }
     ensures grew { OnOk result (Grew (state p.old) (state p.new) 0) }
@@ -443,9 +473,11 @@ fn is_where_predicate(kind: SyntaxKind) -> bool
 }
 
 /// The comma after a predicate. Returns whether another predicate may follow.
+#[tactic(auto, unfolding(rap_grammar_scripts::specs::GenericParams::after_predicate))]
 fn after_predicate(p: &mut Parser<'_>) -> Result<bool, NoMemory>
     ensures grew { OnOk result (Grew (state p.old) (state p.new) 1) }
-    ensures script { IfOk result (λ on. (depth : ℕ) → Does depth script.after_predicate (of_bool on) (state p.old) (state p.new)) }
+    ensures script { IfOk result
+        (λ on. (depth : ℕ) → Does depth script.after_predicate (of_bool on) (state p.old) (state p.new)) }
 {
     let comma = p.eat(T![,])?;
     if matches!(p.current(), T!['{'] | T![;] | T![=]) {
@@ -458,6 +490,7 @@ fn after_predicate(p: &mut Parser<'_>) -> Result<bool, NoMemory>
 }
 
 /// A predicate of a `where`, as `'a: 'b`, `T: A` and `for<'a> T: A<'a>`.
+#[tactic(auto, unfolding(rap_grammar_scripts::specs::GenericParams::where_predicate))]
 fn where_predicate<G: Grammar>(p: &mut Parser<'_>, g: &G) -> Result<(), NoMemory>
     requires behind { Behind G.valid G.left g.now (state p.old) }
     ensures grew { OnOk result (Grew (state p.old) (state p.new) 16) }
@@ -483,6 +516,7 @@ fn where_predicate<G: Grammar>(p: &mut Parser<'_>, g: &G) -> Result<(), NoMemory
 }
 
 /// A predicate about a type, as `for<'a> T: A<'a>`.
+#[tactic(auto, unfolding(rap_grammar_scripts::specs::GenericParams::type_predicate))]
 fn type_predicate<G: Grammar>(p: &mut Parser<'_>, g: &G) -> Result<(), NoMemory>
     requires behind { Behind G.valid G.left g.now (state p.old) }
     ensures grew { OnOk result (Grew (state p.old) (state p.new) 9) }
@@ -498,6 +532,7 @@ fn type_predicate<G: Grammar>(p: &mut Parser<'_>, g: &G) -> Result<(), NoMemory>
 }
 
 /// The bounds of what a predicate is about, as the `: A` of `T: A`.
+#[tactic(auto, unfolding(rap_grammar_scripts::specs::GenericParams::predicate_bounds))]
 fn predicate_bounds<G: Grammar>(p: &mut Parser<'_>, g: &G) -> Result<(), NoMemory>
     requires within { Within G.valid G.left g.now (state p.old) }
     ensures grew { OnOk result (Grew (state p.old) (state p.new) 1) }

@@ -1,34 +1,37 @@
 //! Types.
-ghost use Rattle.std.specs.Prelude.{ℕ, ◌≡◌, ◌≢◌, ◌<◌, ◌≤◌, OnOk, IsTrue, IfOk, true};
+ghost use Rattle.std.specs.Prelude.{ℕ, ◌≡◌, ◌≢◌, ◌<◌, OnOk, IsTrue, IfOk, true};
 ghost use Rattle.rap_base.specs.TokenKind.{DYN_KW, L_PAREN, BANG, STAR, L_BRACK, SEMICOLON, AMP, UNDERSCORE, FN_KW, FOR_KW, IMPL_KW, LIFETIME_IDENT, BUILTIN_KW, POUND};
 ghost use Rattle.rap_base.specs.NodeKind.{PATH_TYPE};
 ghost use Rattle.rap_events.specs.State.{state, next, ReadsAs, IsLast, but_last, NthAt};
 ghost use Rattle.rap_grammar_scripts.specs.First.{starts_weak_dyn, is_weak_dyn_path_first, is_dyn_weak, is_fn_ptr_first, is_path_start};
-ghost use Rattle.rap_grammar_frame.specs.Grew.{Within, Took, Behind, Grew, Makes};
+ghost use Rattle.rap_grammar_frame.specs.Grew.{Within, Took, Behind, Grew};
 ghost use Rattle.rap_grammar_scripts.specs.Exec.{Does};
 ghost use Rattle.rap_grammar_frame.specs.Room.{type_room, list_room, name_room};
 ghost use Rattle.rap_grammar_frame.specs.Rules.{IsType};
 ghost use Rattle.rap_grammar_scripts.specs.Script.{something};
-ghost use Rattle.rap_grammar_scripts.specs.TypeParts as parts;
 ghost use Rattle.rap_grammar_scripts.specs.Types as script;
 ghost use Rattle.rap_grammar_scripts.specs.Types.{starts_bare_dyn, starts_for_target};
 ghost use Rattle.rap_grammar_scripts.specs.Words.{of_bool};
 
 use crate::generic_params::{bounds_without_colon, bounds_without_colon_m};
+use crate::path_type::path_type;
 use rap_base::T;
 use rap_base::no_memory::NoMemory;
 use rap_base::syntax_kind::SyntaxKind;
 use rap_events::parser::{CompletedMarker, Parser};
-use rap_grammar_frame::called::{expr, for_binder, opt_ret_type, pattern, type_, type_no_bounds};
 use rap_grammar_frame::first::{is_fn_ptr_first, is_path_start, is_use_path_start};
-use rap_grammar_frame::knot::{Grammar, Rule};
+use rap_grammar_frame::knot::Grammar;
 use rap_grammar_frame::names::{abi, lifetime, starts_builtin};
 use rap_grammar_frame::recovery::type_recovery_set;
+use rap_grammar_frame::through_knot::{
+    expr, for_binder, opt_ret_type, pattern, type_, type_no_bounds,
+};
 use rap_grammar_frame::token_tree::{macro_call_after_excl, starts_macro_call};
 use rap_grammar_params::params::param_list_fn_ptr;
 use rap_grammar_paths::paths::type_path;
 
 /// A type, as `&a` and `[a; 1]`, with bounds after it, as `a + b`, where they are allowed.
+#[tactic(auto, unfolding(rap_grammar_scripts::specs::Types::type_with_bounds_cond))]
 pub fn type_with_bounds_cond<G: Grammar>(
     p: &mut Parser<'_>,
     g: &G,
@@ -36,7 +39,8 @@ pub fn type_with_bounds_cond<G: Grammar>(
 ) -> Result<(), NoMemory>
     requires within { Within G.valid G.left g.now (state p.old) }
     ensures reads { OnOk result (IsType (state p.old) (state p.new)) }
-    ensures script { OnOk result (Does (G.left g.now) (script.type_with_bounds_cond allow_bounds) something (state p.old) (state p.new)) }
+    ensures script { OnOk result
+        (Does (G.left g.now) (script.type_with_bounds_cond allow_bounds) something (state p.old) (state p.new)) }
 {
     match p.current() {
         T!['('] => paren_or_tuple_type(p, g),
@@ -55,10 +59,12 @@ pub fn type_with_bounds_cond<G: Grammar>(
 }
 
 /// A type that begins with no symbol and no keyword of its own, as `a::b` and `'a + b`.
+#[tactic(auto, unfolding(rap_grammar_scripts::specs::Types::named_type))]
 fn named_type<G: Grammar>(p: &mut Parser<'_>, g: &G, allow_bounds: bool) -> Result<(), NoMemory>
     requires within { Within G.valid G.left g.now (state p.old) }
     ensures reads { OnOk result (IsType (state p.old) (state p.new)) }
-    ensures script { OnOk result (Does (G.left g.now) (script.named_type allow_bounds) something (state p.old) (state p.new)) }
+    ensures script { OnOk result
+        (Does (G.left g.now) (script.named_type allow_bounds) something (state p.old) (state p.new)) }
 {
     if starts_weak_dyn(p) {
         dyn_trait_type_weak(p, g)?;
@@ -85,6 +91,7 @@ fn starts_bare_dyn(p: &Parser<'_>) -> bool
 
 /// A type is missing: the next token stands in an `ERROR`, unless it is kept.
 #[inline(never)]
+#[tactic(auto, unfolding(rap_grammar_scripts::specs::Types::missing_type))]
 fn missing_type(p: &mut Parser<'_>) -> Result<(), NoMemory>
     ensures reads { OnOk result (IsType (state p.old) (state p.new)) }
     ensures script { OnOk result ((depth : ℕ) → Does depth script.missing_type something (state p.old) (state p.new)) }
@@ -133,11 +140,13 @@ pub(crate) fn starts_weak_dyn(p: &Parser<'_>) -> bool
 
 /// A type in parentheses, as `(a)`, or a tuple of types, as `()`, `(a,)` and `(a, b)`.
 #[inline(never)]
+#[tactic(auto, unfolding(rap_grammar_scripts::specs::Types::paren_or_tuple_type))]
 fn paren_or_tuple_type<G: Grammar>(p: &mut Parser<'_>, g: &G) -> Result<(), NoMemory>
     requires within { Within G.valid G.left g.now (state p.old) }
     requires here { next (state p.old) ≡ L_PAREN }
     ensures took { OnOk result (Took (state p.old) (state p.new) type_room) }
-    ensures script { OnOk result (Does (G.left g.now) script.paren_or_tuple_type something (state p.old) (state p.new)) }
+    ensures script { OnOk result
+        (Does (G.left g.now) script.paren_or_tuple_type something (state p.old) (state p.new)) }
 {
     let m = p.start()?;
     p.bump(T!['('])?;
@@ -153,10 +162,12 @@ fn paren_or_tuple_type<G: Grammar>(p: &mut Parser<'_>, g: &G) -> Result<(), NoMe
 }
 
 /// What stands in parentheses. Returns whether it is one type and no comma.
+#[tactic(auto, using(rap_grammar_frame::proofs::Loops::turns), unfolding(rap_grammar_scripts::specs::Types::tuple_types))]
 fn tuple_types<G: Grammar>(p: &mut Parser<'_>, g: &G) -> Result<bool, NoMemory>
     requires behind { Behind G.valid G.left g.now (state p.old) }
     ensures grew { OnOk result (Grew (state p.old) (state p.new) 8) }
-    ensures script { IfOk result (λ parens. Does (G.left g.now) script.tuple_types (of_bool parens) (state p.old) (state p.new)) }
+    ensures script { IfOk result
+        (λ parens. Does (G.left g.now) script.tuple_types (of_bool parens) (state p.old) (state p.new)) }
 {
     let mut seen = false;
     'types: while !p.at(SyntaxKind::EOF) && !p.at(T![')']) {
@@ -171,6 +182,7 @@ fn tuple_types<G: Grammar>(p: &mut Parser<'_>, g: &G) -> Result<bool, NoMemory>
 
 /// The never type, `!`.
 #[inline(never)]
+#[tactic(auto, unfolding(rap_grammar_scripts::specs::Types::never_type))]
 fn never_type(p: &mut Parser<'_>) -> Result<(), NoMemory>
     requires here { next (state p.old) ≡ BANG }
     ensures took { OnOk result (Took (state p.old) (state p.new) type_room) }
@@ -183,6 +195,7 @@ fn never_type(p: &mut Parser<'_>) -> Result<(), NoMemory>
 }
 
 /// A pointer, as `*const a`.
+#[tactic(auto, unfolding(rap_grammar_scripts::specs::Types::ptr_type))]
 fn ptr_type<G: Grammar>(p: &mut Parser<'_>, g: &G) -> Result<(), NoMemory>
     requires within { Within G.valid G.left g.now (state p.old) }
     requires here { next (state p.old) ≡ STAR }
@@ -199,6 +212,7 @@ fn ptr_type<G: Grammar>(p: &mut Parser<'_>, g: &G) -> Result<(), NoMemory>
 
 /// What stands after the star of a pointer, as `const` and `mut`.
 #[inline(never)]
+#[tactic(auto, unfolding(rap_grammar_scripts::specs::Types::ptr_qualifier))]
 fn ptr_qualifier(p: &mut Parser<'_>) -> Result<(), NoMemory>
     ensures grew { OnOk result (Grew (state p.old) (state p.new) 1) }
     ensures script { OnOk result ((depth : ℕ) → Does depth script.ptr_qualifier something (state p.old) (state p.new)) }
@@ -215,11 +229,13 @@ fn ptr_qualifier(p: &mut Parser<'_>) -> Result<(), NoMemory>
 
 /// An array with its length, as `[a; 1]`, or a slice, as `[a]`.
 #[inline(never)]
+#[tactic(auto, unfolding(rap_grammar_scripts::specs::Types::array_or_slice_type))]
 fn array_or_slice_type<G: Grammar>(p: &mut Parser<'_>, g: &G) -> Result<(), NoMemory>
     requires within { Within G.valid G.left g.now (state p.old) }
     requires here { next (state p.old) ≡ L_BRACK }
     ensures took { OnOk result (Took (state p.old) (state p.new) type_room) }
-    ensures script { OnOk result (Does (G.left g.now) script.array_or_slice_type something (state p.old) (state p.new)) }
+    ensures script { OnOk result
+        (Does (G.left g.now) script.array_or_slice_type something (state p.old) (state p.new)) }
 {
     let m = p.start()?;
     p.bump(T!['['])?;
@@ -240,6 +256,7 @@ fn array_or_slice_type<G: Grammar>(p: &mut Parser<'_>, g: &G) -> Result<(), NoMe
 }
 
 /// The length of an array and its bracket, as `; 1]`.
+#[tactic(auto, unfolding(rap_grammar_scripts::specs::Types::array_length))]
 fn array_length<G: Grammar>(p: &mut Parser<'_>, g: &G) -> Result<(), NoMemory>
     requires within { Within G.valid G.left g.now (state p.old) }
     requires here { next (state p.old) ≡ SEMICOLON }
@@ -256,6 +273,7 @@ fn array_length<G: Grammar>(p: &mut Parser<'_>, g: &G) -> Result<(), NoMemory>
 
 /// A reference, as `&a` and `&'a mut b`.
 #[inline(never)]
+#[tactic(auto, unfolding(rap_grammar_scripts::specs::Types::ref_type))]
 fn ref_type<G: Grammar>(p: &mut Parser<'_>, g: &G) -> Result<(), NoMemory>
     requires within { Within G.valid G.left g.now (state p.old) }
     requires here { next (state p.old) ≡ AMP }
@@ -275,6 +293,7 @@ fn ref_type<G: Grammar>(p: &mut Parser<'_>, g: &G) -> Result<(), NoMemory>
 
 /// The inferred type, `_`.
 #[inline(never)]
+#[tactic(auto, unfolding(rap_grammar_scripts::specs::Types::infer_type))]
 fn infer_type(p: &mut Parser<'_>) -> Result<(), NoMemory>
     requires here { next (state p.old) ≡ UNDERSCORE }
     ensures took { OnOk result (Took (state p.old) (state p.new) type_room) }
@@ -288,6 +307,7 @@ fn infer_type(p: &mut Parser<'_>) -> Result<(), NoMemory>
 
 /// A function pointer, as `fn(a) -> b` and `unsafe extern "C" fn()`.
 #[inline(never)]
+#[tactic(auto, unfolding(rap_grammar_scripts::specs::Types::fn_ptr_type))]
 fn fn_ptr_type<G: Grammar>(p: &mut Parser<'_>, g: &G) -> Result<(), NoMemory>
     requires within { Within G.valid G.left g.now (state p.old) }
     requires first { is_fn_ptr_first (next (state p.old)) ≡ true }
@@ -309,6 +329,7 @@ fn fn_ptr_type<G: Grammar>(p: &mut Parser<'_>, g: &G) -> Result<(), NoMemory>
 }
 
 /// What stands before the `fn` of a function pointer, as `unsafe extern "C"`.
+#[tactic(auto, unfolding(rap_grammar_scripts::specs::Types::fn_qualifiers))]
 fn fn_qualifiers(p: &mut Parser<'_>) -> Result<(), NoMemory>
     ensures grew { OnOk result (Grew (state p.old) (state p.new) 0) }
     ensures took { OnOk result
@@ -325,6 +346,7 @@ fn fn_qualifiers(p: &mut Parser<'_>) -> Result<(), NoMemory>
 }
 
 /// The parameters of a function pointer, as `(a, b)`.
+#[tactic(auto, unfolding(rap_grammar_scripts::specs::Types::fn_ptr_params))]
 fn fn_ptr_params<G: Grammar>(p: &mut Parser<'_>, g: &G) -> Result<(), NoMemory>
     requires within { Within G.valid G.left g.now (state p.old) }
     ensures grew { OnOk result (Grew (state p.old) (state p.new) 1) }
@@ -344,7 +366,8 @@ fn for_type<G: Grammar>(p: &mut Parser<'_>, g: &G, allow_bounds: bool) -> Result
     requires within { Within G.valid G.left g.now (state p.old) }
     requires here { next (state p.old) ≡ FOR_KW }
     ensures took { OnOk result (Took (state p.old) (state p.new) type_room) }
-    ensures script { OnOk result (Does (G.left g.now) (script.for_type allow_bounds) something (state p.old) (state p.new)) }
+    ensures script { OnOk result
+        (Does (G.left g.now) (script.for_type allow_bounds) something (state p.old) (state p.new)) }
 {
     let m = p.start()?;
     for_binder(p, g)?;
@@ -369,6 +392,7 @@ fn starts_for_target(p: &Parser<'_>) -> bool
 
 /// A type by its bounds, as `impl a + 'b`.
 #[inline(never)]
+#[tactic(auto, unfolding(rap_grammar_scripts::specs::Types::impl_trait_type))]
 fn impl_trait_type<G: Grammar>(p: &mut Parser<'_>, g: &G) -> Result<(), NoMemory>
     requires within { Within G.valid G.left g.now (state p.old) }
     requires here { next (state p.old) ≡ IMPL_KW }
@@ -384,6 +408,7 @@ fn impl_trait_type<G: Grammar>(p: &mut Parser<'_>, g: &G) -> Result<(), NoMemory
 
 /// The type of trait objects, as `dyn a + 'b`.
 #[inline(never)]
+#[tactic(auto, unfolding(rap_grammar_scripts::specs::Types::dyn_trait_type))]
 fn dyn_trait_type<G: Grammar>(p: &mut Parser<'_>, g: &G) -> Result<(), NoMemory>
     requires within { Within G.valid G.left g.now (state p.old) }
     requires here { next (state p.old) ≡ DYN_KW }
@@ -399,11 +424,13 @@ fn dyn_trait_type<G: Grammar>(p: &mut Parser<'_>, g: &G) -> Result<(), NoMemory>
 
 /// The same where `dyn` is an identifier.
 #[inline(never)]
+#[tactic(auto, unfolding(rap_grammar_scripts::specs::Types::dyn_trait_type_weak))]
 fn dyn_trait_type_weak<G: Grammar>(p: &mut Parser<'_>, g: &G) -> Result<(), NoMemory>
     requires within { Within G.valid G.left g.now (state p.old) }
     requires here { ReadsAs (state p.old) DYN_KW }
     ensures took { OnOk result (Took (state p.old) (state p.new) type_room) }
-    ensures script { OnOk result (Does (G.left g.now) script.dyn_trait_type_weak something (state p.old) (state p.new)) }
+    ensures script { OnOk result
+        (Does (G.left g.now) script.dyn_trait_type_weak something (state p.old) (state p.new)) }
 {
     let m = p.start()?;
     p.bump_remap(T![dyn])?;
@@ -414,11 +441,13 @@ fn dyn_trait_type_weak<G: Grammar>(p: &mut Parser<'_>, g: &G) -> Result<(), NoMe
 
 /// The same without a `dyn`, as `'a + b`.
 #[inline(never)]
+#[tactic(auto, unfolding(rap_grammar_scripts::specs::Types::bare_dyn_trait_type))]
 fn bare_dyn_trait_type<G: Grammar>(p: &mut Parser<'_>, g: &G) -> Result<(), NoMemory>
     requires within { Within G.valid G.left g.now (state p.old) }
     requires here { next (state p.old) ≡ LIFETIME_IDENT }
     ensures took { OnOk result (Took (state p.old) (state p.new) type_room) }
-    ensures script { OnOk result (Does (G.left g.now) script.bare_dyn_trait_type something (state p.old) (state p.new)) }
+    ensures script { OnOk result
+        (Does (G.left g.now) script.bare_dyn_trait_type something (state p.old) (state p.new)) }
 {
     let m = p.start()?;
     bounds_without_colon(p, g)?;
@@ -427,6 +456,7 @@ fn bare_dyn_trait_type<G: Grammar>(p: &mut Parser<'_>, g: &G) -> Result<(), NoMe
 }
 
 /// A path, as `a::b`, a macro call, as `a!()`, or `builtin#pattern_type(a is b)`.
+#[tactic(auto, unfolding(rap_grammar_scripts::specs::Types::path_or_macro_type))]
 fn path_or_macro_type<G: Grammar>(
     p: &mut Parser<'_>,
     g: &G,
@@ -435,7 +465,8 @@ fn path_or_macro_type<G: Grammar>(
     requires within { Within G.valid G.left g.now (state p.old) }
     requires path { is_path_start (state p.old).rest ≡ true }
     ensures took { OnOk result (Took (state p.old) (state p.new) type_room) }
-    ensures script { OnOk result (Does (G.left g.now) (script.path_or_macro_type allow_bounds) something (state p.old) (state p.new)) }
+    ensures script { OnOk result
+        (Does (G.left g.now) (script.path_or_macro_type allow_bounds) something (state p.old) (state p.new)) }
 {
     if starts_builtin(p) {
         pattern_type(p, g)?;
@@ -447,11 +478,13 @@ fn path_or_macro_type<G: Grammar>(
 
 /// A path as a type, as `a::b`, or a macro call, as `a!()`.
 #[inline(never)]
+#[tactic(auto, unfolding(rap_grammar_scripts::specs::Types::path_or_macro))]
 fn path_or_macro<G: Grammar>(p: &mut Parser<'_>, g: &G, allow_bounds: bool) -> Result<(), NoMemory>
     requires within { Within G.valid G.left g.now (state p.old) }
     requires path { is_path_start (state p.old).rest ≡ true }
     ensures took { OnOk result (Took (state p.old) (state p.new) type_room) }
-    ensures script { OnOk result (Does (G.left g.now) (script.path_or_macro allow_bounds) something (state p.old) (state p.new)) }
+    ensures script { OnOk result
+        (Does (G.left g.now) (script.path_or_macro allow_bounds) something (state p.old) (state p.new)) }
 {
     let r = p.start()?;
     let m = p.start()?;
@@ -471,20 +504,8 @@ fn path_or_macro<G: Grammar>(p: &mut Parser<'_>, g: &G, allow_bounds: bool) -> R
     Ok(())
 }
 
-/// A path as a type, as `a::b`.
-pub(crate) fn path_type<G: Grammar>(p: &mut Parser<'_>, g: &G) -> Result<CompletedMarker, NoMemory>
-    requires within { Within G.valid G.left g.now (state p.old) }
-    requires path { is_path_start (state p.old).rest ≡ true }
-    ensures made { IfOk result (Makes PATH_TYPE list_room (state p.old) (state p.new)) }
-    ensures script { OnOk result (Does (G.left g.now) parts.path_type something (state p.old) (state p.new)) }
-{
-    let m = p.start()?;
-    type_path(p, g)?;
-    let cm = m.complete(p, SyntaxKind::PATH_TYPE)?;
-    Ok(cm)
-}
-
 /// A path as a type, and bounds after it where they are allowed, as `a + b`.
+#[tactic(auto, unfolding(rap_grammar_scripts::specs::Types::path_type_bounds))]
 pub fn path_type_bounds<G: Grammar>(
     p: &mut Parser<'_>,
     g: &G,
@@ -493,7 +514,8 @@ pub fn path_type_bounds<G: Grammar>(
     requires within { Within G.valid G.left g.now (state p.old) }
     requires path { is_path_start (state p.old).rest ≡ true }
     ensures took { OnOk result (Took (state p.old) (state p.new) type_room) }
-    ensures script { OnOk result (Does (G.left g.now) (script.path_type_bounds allow_bounds) something (state p.old) (state p.new)) }
+    ensures script { OnOk result
+        (Does (G.left g.now) (script.path_type_bounds allow_bounds) something (state p.old) (state p.new)) }
 {
     let path = path_type(p, g)?;
     if allow_bounds {
@@ -506,6 +528,7 @@ pub fn path_type_bounds<G: Grammar>(
 /// The bounds after a type of this kind, as `+ b` after `a`, if there are: all is one type of trait objects, and the
 /// type before them its first bound. A macro call has no bounds after it.
 #[inline(never)]
+#[tactic(auto, unfolding(rap_grammar_scripts::specs::Types::opt_type_bounds_as_dyn_trait_type))]
 pub(crate) fn opt_type_bounds_as_dyn_trait_type<G: Grammar>(
     p: &mut Parser<'_>,
     g: &G,
@@ -517,7 +540,8 @@ pub(crate) fn opt_type_bounds_as_dyn_trait_type<G: Grammar>(
     ensures grew { OnOk result (Grew (state p.old) (state p.new) 16) }
     ensures last { IfOk result (λ cm. IsLast (state p.new) cm cm.kind.value) }
     ensures one { OnOk result (but_last (state p.new).forest ≡ but_last (state p.old).forest) }
-    ensures script { OnOk result (Does (G.left g.now) (script.opt_type_bounds_as_dyn_trait_type kind) something (state p.old) (state p.new)) }
+    ensures script { OnOk result
+        (Does (G.left g.now) (script.opt_type_bounds_as_dyn_trait_type kind) something (state p.old) (state p.new)) }
 {
     if kind == SyntaxKind::MACRO_TYPE || !p.at(T![+]) {
         return Ok(lhs);
@@ -534,6 +558,7 @@ pub(crate) fn opt_type_bounds_as_dyn_trait_type<G: Grammar>(
 
 /// A type by its values, as `builtin#pattern_type(a is 1..)`. Where another name follows, `builtin#` is an error.
 #[inline(never)]
+#[tactic(auto, unfolding(rap_grammar_scripts::specs::Types::pattern_type))]
 fn pattern_type<G: Grammar>(p: &mut Parser<'_>, g: &G) -> Result<(), NoMemory>
     requires within { Within G.valid G.left g.now (state p.old) }
     requires here { ReadsAs (state p.old) BUILTIN_KW }

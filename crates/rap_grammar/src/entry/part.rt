@@ -6,12 +6,11 @@ ghost use Rattle.rap_events.specs.Forest.{node};
 ghost use Rattle.rap_events.specs.Record.{next_kind};
 ghost use Rattle.rap_events.specs.State.{state, next, last_children};
 ghost use Rattle.rap_grammar.specs.Part.{IsPrefixOver, IsPrefixOf, IsOneNode, Goes, part_script, part_kind, in_braces, asks_brace};
-ghost use Rattle.rap_grammar_scripts.specs.Called as called_script;
-ghost use Rattle.rap_grammar_scripts.specs.Atom as atom_script;
+ghost use Rattle.rap_grammar_scripts.specs.ThroughKnot as through_knot_script;
 ghost use Rattle.rap_grammar_frame.specs.Grew.{Grew};
 ghost use Rattle.rap_grammar_frame.specs.Rules.{Pre, Post};
-ghost use Rattle.rap_grammar_scripts.specs.Statements as statement_script;
-ghost use Rattle.rap_grammar_scripts.specs.Items as item_script;
+ghost use Rattle.rap_grammar_scripts.specs.Statements as statements_script;
+ghost use Rattle.rap_grammar_scripts.specs.Items as items_script;
 ghost use Rattle.rap_base.specs.Limits.{max_tokens};
 
 use crate::knot::{Rules, all_rules, run};
@@ -19,19 +18,20 @@ use rap_base::no_memory::NoMemory;
 use rap_events::input::Input;
 use rap_events::output::Output;
 use rap_events::parser::Parser;
-use rap_grammar_adt::adt::{record_field_list, variant_list};
-use rap_grammar_blocks::blocks::block_expr;
-use rap_grammar_control::matches::match_arm_list;
-use rap_grammar_frame::called;
-use rap_grammar_frame::knot::{Answer, Rule};
+use rap_grammar_expressions_blocks::blocks::block_expr;
+use rap_grammar_expressions_control::matches::match_arm_list;
+use rap_grammar_expressions_operands::records::record_expr_field_list;
+use rap_grammar_frame::knot::Answer;
+use rap_grammar_frame::through_knot;
 use rap_grammar_frame::token_tree::token_tree;
-use rap_grammar_item_kinds::modules::{extern_item_list, item_list};
-use rap_grammar_item_kinds::traits::assoc_item_list;
-use rap_grammar_item_kinds::use_item::use_tree_list;
-use rap_grammar_operands::records::record_expr_field_list;
+use rap_grammar_items_adt::adt::{record_field_list, variant_list};
+use rap_grammar_items_kinds::modules::{extern_item_list, item_list};
+use rap_grammar_items_kinds::traits::assoc_item_list;
+use rap_grammar_items_kinds::use_item::use_tree_list;
 use rap_grammar_paths::paths::sym_path;
 use rap_grammar_paths::visibility::opt_visibility;
 use rap_grammar_scripts::arguments::Semicolon;
+use rap_grammar_scripts::rule::Rule;
 use std::alloc::Global;
 
 /// The parts of a file that are not recursive rules, and can be parsed alone.
@@ -145,7 +145,7 @@ pub fn parse_part(alloc: Global, input: &Input, part: Part) -> Result<Output, No
 pub fn stmt(alloc: Global, input: &Input) -> Result<Output, NoMemory>
     requires { length input.now ≤ max_tokens }
     ensures prefix { IfOk result (IsPrefixOver input.now) }
-    ensures script { IfOk result (IsPrefixOf (statement_script.stmt Semicolon.Forbidden) input.now) }
+    ensures script { IfOk result (IsPrefixOf (statements_script.stmt Semicolon.Forbidden) input.now) }
 {
     let mut p = Parser::new(alloc, input);
     let semicolon = Semicolon::Forbidden;
@@ -158,11 +158,11 @@ pub fn stmt(alloc: Global, input: &Input) -> Result<Output, NoMemory>
 pub fn pattern_single(alloc: Global, input: &Input) -> Result<Output, NoMemory>
     requires { length input.now ≤ max_tokens }
     ensures prefix { IfOk result (IsPrefixOver input.now) }
-    ensures script { IfOk result (IsPrefixOf called_script.pattern_single input.now) }
+    ensures script { IfOk result (IsPrefixOf through_knot_script.pattern_single input.now) }
 {
     let mut p = Parser::new(alloc, input);
     let g = all_rules(&p);
-    called::pattern_single(&mut p, &g)?;
+    through_knot::pattern_single(&mut p, &g)?;
     let output = p.process(alloc)?;
     Ok(output)
 }
@@ -171,11 +171,11 @@ pub fn pattern_single(alloc: Global, input: &Input) -> Result<Output, NoMemory>
 pub fn pattern(alloc: Global, input: &Input) -> Result<Output, NoMemory>
     requires { length input.now ≤ max_tokens }
     ensures prefix { IfOk result (IsPrefixOver input.now) }
-    ensures script { IfOk result (IsPrefixOf called_script.pattern input.now) }
+    ensures script { IfOk result (IsPrefixOf through_knot_script.pattern input.now) }
 {
     let mut p = Parser::new(alloc, input);
     let g = all_rules(&p);
-    called::pattern(&mut p, &g)?;
+    through_knot::pattern(&mut p, &g)?;
     let output = p.process(alloc)?;
     Ok(output)
 }
@@ -184,11 +184,11 @@ pub fn pattern(alloc: Global, input: &Input) -> Result<Output, NoMemory>
 pub fn type_(alloc: Global, input: &Input) -> Result<Output, NoMemory>
     requires { length input.now ≤ max_tokens }
     ensures prefix { IfOk result (IsPrefixOver input.now) }
-    ensures script { IfOk result (IsPrefixOf called_script.type_ input.now) }
+    ensures script { IfOk result (IsPrefixOf through_knot_script.type_ input.now) }
 {
     let mut p = Parser::new(alloc, input);
     let g = all_rules(&p);
-    called::type_(&mut p, &g)?;
+    through_knot::type_(&mut p, &g)?;
     let output = p.process(alloc)?;
     Ok(output)
 }
@@ -197,11 +197,11 @@ pub fn type_(alloc: Global, input: &Input) -> Result<Output, NoMemory>
 pub fn expr(alloc: Global, input: &Input) -> Result<Output, NoMemory>
     requires { length input.now ≤ max_tokens }
     ensures prefix { IfOk result (IsPrefixOver input.now) }
-    ensures script { IfOk result (IsPrefixOf atom_script.expr input.now) }
+    ensures script { IfOk result (IsPrefixOf through_knot_script.expr input.now) }
 {
     let mut p = Parser::new(alloc, input);
     let g = all_rules(&p);
-    called::expr(&mut p, &g)?;
+    through_knot::expr(&mut p, &g)?;
     let output = p.process(alloc)?;
     Ok(output)
 }
@@ -210,7 +210,7 @@ pub fn expr(alloc: Global, input: &Input) -> Result<Output, NoMemory>
 pub fn item(alloc: Global, input: &Input) -> Result<Output, NoMemory>
     requires { length input.now ≤ max_tokens }
     ensures prefix { IfOk result (IsPrefixOver input.now) }
-    ensures script { IfOk result (IsPrefixOf (item_script.item_or_macro true true) input.now) }
+    ensures script { IfOk result (IsPrefixOf (items_script.item_or_macro true true) input.now) }
 {
     let mut p = Parser::new(alloc, input);
     // Only `safe fn` is more than elsewhere in a foreign block, and there is no other reading of it.
@@ -227,7 +227,7 @@ pub fn item(alloc: Global, input: &Input) -> Result<Output, NoMemory>
 pub fn meta_item(alloc: Global, input: &Input) -> Result<Output, NoMemory>
     requires { length input.now ≤ max_tokens }
     ensures prefix { IfOk result (IsPrefixOver input.now) }
-    ensures script { IfOk result (IsPrefixOf called_script.meta input.now) }
+    ensures script { IfOk result (IsPrefixOf through_knot_script.meta input.now) }
 {
     let mut p = Parser::new(alloc, input);
     super::meta_item(&mut p)?;

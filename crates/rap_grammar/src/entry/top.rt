@@ -2,10 +2,9 @@
 //! In the Rust crate: `grammar.rs`.
 ghost use Rattle.std.specs.Prelude.{◌≡◌, ◌≤◌, length, IfOk, false};
 ghost use Rattle.rap_base.specs.NodeKind.{SOURCE_FILE, MACRO_STMTS, MACRO_ITEMS};
-ghost use Rattle.rap_grammar_scripts.specs.Atom as script;
-ghost use Rattle.rap_grammar_scripts.specs.Called as called_script;
-ghost use Rattle.rap_grammar_scripts.specs.Items as item_script;
-ghost use Rattle.rap_grammar_scripts.specs.Statements as statement_script;
+ghost use Rattle.rap_grammar_scripts.specs.ThroughKnot as through_knot_script;
+ghost use Rattle.rap_grammar_scripts.specs.Entry as entry_script;
+ghost use Rattle.rap_grammar_scripts.specs.Modules as modules_script;
 ghost use Rattle.rap_grammar.specs.Top.{IsTreeOver, IsTopOf, IsRootOf};
 ghost use Rattle.rap_base.specs.Limits.{max_tokens};
 
@@ -16,14 +15,14 @@ use rap_base::syntax_kind::SyntaxKind;
 use rap_events::input::Input;
 use rap_events::output::Output;
 use rap_events::parser::Parser;
-use rap_grammar_frame::called;
+use rap_grammar_frame::through_knot;
 use std::alloc::Global;
 
 /// A file: `SOURCE_FILE` over the whole input.
 pub fn source_file(alloc: Global, input: &Input) -> Result<Output, NoMemory>
     requires { length input.now ≤ max_tokens }
     ensures tree { IfOk result (IsTreeOver input.now) }
-    ensures script { IfOk result (IsRootOf SOURCE_FILE item_script.source_file input.now) }
+    ensures script { IfOk result (IsRootOf SOURCE_FILE entry_script.source_file input.now) }
 {
     let mut p = Parser::new(alloc, input);
     let m = p.start()?;
@@ -36,12 +35,12 @@ pub fn source_file(alloc: Global, input: &Input) -> Result<Output, NoMemory>
 pub fn pattern(alloc: Global, input: &Input) -> Result<Output, NoMemory>
     requires { length input.now ≤ max_tokens }
     ensures tree { IfOk result (IsTreeOver input.now) }
-    ensures script { IfOk result (IsTopOf called_script.pattern input.now) }
+    ensures script { IfOk result (IsTopOf through_knot_script.pattern input.now) }
 {
     let mut p = Parser::new(alloc, input);
     let m = p.start()?;
     let g = all_rules(&p);
-    called::pattern(&mut p, &g)?;
+    through_knot::pattern(&mut p, &g)?;
     let output = close_top(alloc, p, m)?;
     Ok(output)
 }
@@ -50,12 +49,12 @@ pub fn pattern(alloc: Global, input: &Input) -> Result<Output, NoMemory>
 pub fn type_(alloc: Global, input: &Input) -> Result<Output, NoMemory>
     requires { length input.now ≤ max_tokens }
     ensures tree { IfOk result (IsTreeOver input.now) }
-    ensures script { IfOk result (IsTopOf called_script.type_ input.now) }
+    ensures script { IfOk result (IsTopOf through_knot_script.type_ input.now) }
 {
     let mut p = Parser::new(alloc, input);
     let m = p.start()?;
     let g = all_rules(&p);
-    called::type_(&mut p, &g)?;
+    through_knot::type_(&mut p, &g)?;
     let output = close_top(alloc, p, m)?;
     Ok(output)
 }
@@ -64,12 +63,12 @@ pub fn type_(alloc: Global, input: &Input) -> Result<Output, NoMemory>
 pub fn expr(alloc: Global, input: &Input) -> Result<Output, NoMemory>
     requires { length input.now ≤ max_tokens }
     ensures tree { IfOk result (IsTreeOver input.now) }
-    ensures script { IfOk result (IsTopOf script.expr input.now) }
+    ensures script { IfOk result (IsTopOf through_knot_script.expr input.now) }
 {
     let mut p = Parser::new(alloc, input);
     let m = p.start()?;
     let g = all_rules(&p);
-    called::expr(&mut p, &g)?;
+    through_knot::expr(&mut p, &g)?;
     let output = close_top(alloc, p, m)?;
     Ok(output)
 }
@@ -78,7 +77,7 @@ pub fn expr(alloc: Global, input: &Input) -> Result<Output, NoMemory>
 pub fn meta_item(alloc: Global, input: &Input) -> Result<Output, NoMemory>
     requires { length input.now ≤ max_tokens }
     ensures tree { IfOk result (IsTreeOver input.now) }
-    ensures script { IfOk result (IsTopOf called_script.meta input.now) }
+    ensures script { IfOk result (IsTopOf through_knot_script.meta input.now) }
 {
     let mut p = Parser::new(alloc, input);
     let m = p.start()?;
@@ -91,7 +90,7 @@ pub fn meta_item(alloc: Global, input: &Input) -> Result<Output, NoMemory>
 pub fn macro_stmts(alloc: Global, input: &Input) -> Result<Output, NoMemory>
     requires { length input.now ≤ max_tokens }
     ensures tree { IfOk result (IsTreeOver input.now) }
-    ensures script { IfOk result (IsRootOf MACRO_STMTS statement_script.macro_stmts input.now) }
+    ensures script { IfOk result (IsRootOf MACRO_STMTS entry_script.macro_stmts input.now) }
 {
     let mut p = Parser::new(alloc, input);
     let m = p.start()?;
@@ -104,7 +103,7 @@ pub fn macro_stmts(alloc: Global, input: &Input) -> Result<Output, NoMemory>
 pub fn macro_items(alloc: Global, input: &Input) -> Result<Output, NoMemory>
     requires { length input.now ≤ max_tokens }
     ensures tree { IfOk result (IsTreeOver input.now) }
-    ensures script { IfOk result (IsRootOf MACRO_ITEMS (item_script.mod_contents false) input.now) }
+    ensures script { IfOk result (IsRootOf MACRO_ITEMS (modules_script.mod_contents false) input.now) }
 {
     let mut p = Parser::new(alloc, input);
     let m = p.start()?;

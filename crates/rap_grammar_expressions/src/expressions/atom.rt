@@ -5,38 +5,40 @@ ghost use Rattle.rap_base.specs.NodeKind.{PAREN_EXPR, TUPLE_EXPR, ARRAY_EXPR, UN
 ghost use Rattle.rap_events.specs.Fit.{is_plain};
 ghost use Rattle.rap_events.specs.State.{state, next, NthAt};
 ghost use Rattle.rap_grammar_scripts.specs.Atom as script;
-ghost use Rattle.rap_grammar_scripts.specs.Expressions.{of_expr, of_like};
+ghost use Rattle.rap_grammar_scripts.specs.Words.{of_expr, of_like, of_bool};
 ghost use Rattle.rap_grammar_scripts.specs.First.{is_path_start};
 ghost use Rattle.rap_grammar_frame.specs.Grew.{Within, Made, Behind, Grew, Makes};
 ghost use Rattle.rap_grammar_scripts.specs.Exec.{Does};
 ghost use Rattle.rap_grammar_frame.specs.Room.{atom_room};
 ghost use Rattle.rap_grammar_frame.specs.Rules.{Operand};
 ghost use Rattle.rap_grammar_scripts.specs.Script.{something};
-ghost use Rattle.rap_grammar_scripts.specs.Words.{of_bool};
 
 use rap_base::T;
 use rap_base::no_memory::NoMemory;
 use rap_base::syntax_kind::SyntaxKind;
 use rap_events::parser::{CompletedMarker, Parser};
-use rap_grammar_builtin::builtin::builtin_expr;
-use rap_grammar_control::blocks::{effect_expr, plain_block};
-use rap_grammar_control::control::{if_expr, labelled_expr, let_expr, loop_expr, while_expr};
-use rap_grammar_control::jumps::{
+use rap_grammar_expressions_builtin::builtin::builtin_expr;
+use rap_grammar_expressions_control::control::{
+    if_expr, labelled_expr, let_expr, loop_expr, while_expr,
+};
+use rap_grammar_expressions_control::effect_blocks::{effect_expr, plain_block};
+use rap_grammar_expressions_control::jumps::{
     become_expr, break_expr, continue_expr, return_expr, starts_yeet, yeet_expr, yield_expr,
 };
-use rap_grammar_control::matches::match_expr;
-use rap_grammar_frame::called::expr;
+use rap_grammar_expressions_control::matches::match_expr;
+use rap_grammar_expressions_operands::records::record_expr_field_list;
 use rap_grammar_frame::first::is_path_start;
 use rap_grammar_frame::knot::{Answer, Grammar};
 use rap_grammar_frame::literals::literal;
 use rap_grammar_frame::names::starts_builtin;
+use rap_grammar_frame::through_knot::expr;
 use rap_grammar_frame::token_tree::{macro_call_after_excl, starts_macro_call};
-use rap_grammar_operands::records::record_expr_field_list;
 use rap_grammar_paths::paths::expr_path;
 use rap_grammar_scripts::arguments::{BlockLike, Restrictions};
 
 /// An expression that begins with no operator, as `1`, `a::b` and `(a)`. Where none begins, the next token stands in an
 /// `ERROR`.
+#[tactic(auto, unfolding(rap_grammar_scripts::specs::Atom::atom_expr))]
 pub(crate) fn atom_expr<G: Grammar>(
     p: &mut Parser<'_>,
     g: &G,
@@ -45,7 +47,8 @@ pub(crate) fn atom_expr<G: Grammar>(
     requires within { Within G.valid G.left g.now (state p.old) }
     requires more { next (state p.old) ≢ EOF }
     ensures operand { IfOk result (Operand atom_room (state p.old) (state p.new)) }
-    ensures script { IfOk result (λ o. Does (G.left g.now) (script.atom_expr r) (of_expr o) (state p.old) (state p.new)) }
+    ensures script { IfOk result
+        (λ o. Does (G.left g.now) (script.atom_expr r) (of_expr o) (state p.old) (state p.new)) }
 {
     if let Some(cm) = literal(p)? {
         return Ok(Some((cm, BlockLike::NotBlock)));
@@ -63,6 +66,7 @@ pub(crate) fn atom_expr<G: Grammar>(
 }
 
 /// An expression in brackets, `_` or a `let`, or one of those that [`control_expr`] reads.
+#[tactic(auto, unfolding(rap_grammar_scripts::specs::Atom::bracketed_expr))]
 fn bracketed_expr<G: Grammar>(
     p: &mut Parser<'_>,
     g: &G,
@@ -71,7 +75,8 @@ fn bracketed_expr<G: Grammar>(
     requires within { Within G.valid G.left g.now (state p.old) }
     requires more { next (state p.old) ≢ EOF }
     ensures operand { IfOk result (Operand atom_room (state p.old) (state p.new)) }
-    ensures script { IfOk result (λ o. Does (G.left g.now) (script.bracketed_expr r) (of_expr o) (state p.old) (state p.new)) }
+    ensures script { IfOk result
+        (λ o. Does (G.left g.now) (script.bracketed_expr r) (of_expr o) (state p.old) (state p.new)) }
 {
     match p.current() {
         T!['('] => Ok(Some((tuple_expr(p, g)?, BlockLike::NotBlock))),
@@ -96,11 +101,13 @@ fn starts_label(p: &Parser<'_>) -> bool
 }
 
 /// A condition, a loop or a `match`, or one of those that [`jump_expr`] reads.
+#[tactic(auto, unfolding(rap_grammar_scripts::specs::Atom::control_expr))]
 fn control_expr<G: Grammar>(p: &mut Parser<'_>, g: &G, r: Restrictions) -> Result<Answer, NoMemory>
     requires within { Within G.valid G.left g.now (state p.old) }
     requires more { next (state p.old) ≢ EOF }
     ensures operand { IfOk result (Operand atom_room (state p.old) (state p.new)) }
-    ensures script { IfOk result (λ o. Does (G.left g.now) (script.control_expr r) (of_expr o) (state p.old) (state p.new)) }
+    ensures script { IfOk result
+        (λ o. Does (G.left g.now) (script.control_expr r) (of_expr o) (state p.old) (state p.new)) }
 {
     if starts_label(p) {
         let labelled = labelled_expr(p, g)?;
@@ -119,11 +126,13 @@ fn control_expr<G: Grammar>(p: &mut Parser<'_>, g: &G, r: Restrictions) -> Resul
 }
 
 /// A jump, or one of those that [`effect_expr`] reads.
+#[tactic(auto, unfolding(rap_grammar_scripts::specs::Atom::jump_expr))]
 fn jump_expr<G: Grammar>(p: &mut Parser<'_>, g: &G, r: Restrictions) -> Result<Answer, NoMemory>
     requires within { Within G.valid G.left g.now (state p.old) }
     requires more { next (state p.old) ≢ EOF }
     ensures operand { IfOk result (Operand atom_room (state p.old) (state p.new)) }
-    ensures script { IfOk result (λ o. Does (G.left g.now) (script.jump_expr r) (of_expr o) (state p.old) (state p.new)) }
+    ensures script { IfOk result
+        (λ o. Does (G.left g.now) (script.jump_expr r) (of_expr o) (state p.old) (state p.new)) }
 {
     if starts_yeet(p) {
         let yeet = yeet_expr(p, g)?;
@@ -143,10 +152,12 @@ fn jump_expr<G: Grammar>(p: &mut Parser<'_>, g: &G, r: Restrictions) -> Result<A
 }
 
 /// A `_`, as on the left of `_ = a`.
+#[tactic(auto, unfolding(rap_grammar_scripts::specs::Atom::underscore_expr))]
 fn underscore_expr(p: &mut Parser<'_>) -> Result<CompletedMarker, NoMemory>
     requires here { next (state p.old) ≡ UNDERSCORE }
     ensures made { IfOk result (Makes UNDERSCORE_EXPR atom_room (state p.old) (state p.new)) }
-    ensures script { OnOk result ((depth : ℕ) → Does depth script.underscore_expr something (state p.old) (state p.new)) }
+    ensures script { OnOk result
+        ((depth : ℕ) → Does depth script.underscore_expr something (state p.old) (state p.new)) }
 {
     let m = p.start()?;
     p.bump(T![_])?;
@@ -164,6 +175,7 @@ fn starts_record(p: &Parser<'_>, r: Restrictions) -> bool
 
 /// A path, as `a::b`, a record literal, as `a { b: c }`, or a macro call, as `a!(b)`.
 #[inline(never)]
+#[tactic(auto, unfolding(rap_grammar_scripts::specs::Atom::path_expr))]
 fn path_expr<G: Grammar>(
     p: &mut Parser<'_>,
     g: &G,
@@ -172,7 +184,8 @@ fn path_expr<G: Grammar>(
     requires within { Within G.valid G.left g.now (state p.old) }
     requires path { is_path_start (state p.old).rest ≡ true }
     ensures made { IfOk result (λ e. Made (state p.old) (state p.new) e.0 atom_room × (is_plain e.0.kind.value ≡ true)) }
-    ensures script { IfOk result (λ e. Does (G.left g.now) (script.path_expr r) (of_like e.1) (state p.old) (state p.new)) }
+    ensures script { IfOk result
+        (λ e. Does (G.left g.now) (script.path_expr r) (of_like e.1) (state p.old) (state p.new)) }
 {
     let m = p.start()?;
     expr_path(p, g)?;
@@ -194,6 +207,7 @@ fn path_expr<G: Grammar>(
 
 /// An expression in parentheses, as `(a)`, or a tuple, as `()`, `(a,)` and `(a, b)`.
 #[inline(never)]
+#[tactic(auto, unfolding(rap_grammar_scripts::specs::Atom::tuple_expr))]
 fn tuple_expr<G: Grammar>(p: &mut Parser<'_>, g: &G) -> Result<CompletedMarker, NoMemory>
     requires within { Within G.valid G.left g.now (state p.old) }
     requires here { next (state p.old) ≡ L_PAREN }
@@ -216,10 +230,12 @@ fn tuple_expr<G: Grammar>(p: &mut Parser<'_>, g: &G) -> Result<CompletedMarker, 
 }
 
 /// What stands in parentheses. Returns whether it is one expression and no comma.
+#[tactic(auto, using(rap_grammar_frame::proofs::Loops::turns), unfolding(rap_grammar_scripts::specs::Atom::tuple_elements))]
 fn tuple_elements<G: Grammar>(p: &mut Parser<'_>, g: &G) -> Result<bool, NoMemory>
     requires behind { Behind G.valid G.left g.now (state p.old) }
     ensures grew { OnOk result (Grew (state p.old) (state p.new) 8) }
-    ensures script { IfOk result (λ parens. Does (G.left g.now) script.tuple_elements (of_bool parens) (state p.old) (state p.new)) }
+    ensures script { IfOk result
+        (λ parens. Does (G.left g.now) script.tuple_elements (of_bool parens) (state p.old) (state p.new)) }
 {
     let mut saw_comma = false;
     let mut saw_expr = false;
@@ -245,6 +261,7 @@ fn tuple_elements<G: Grammar>(p: &mut Parser<'_>, g: &G) -> Result<bool, NoMemor
 
 /// An array by its elements, as `[a, b]`, or by one and their number, as `[a; n]`.
 #[inline(never)]
+#[tactic(auto, unfolding(rap_grammar_scripts::specs::Atom::array_expr))]
 fn array_expr<G: Grammar>(p: &mut Parser<'_>, g: &G) -> Result<CompletedMarker, NoMemory>
     requires within { Within G.valid G.left g.now (state p.old) }
     requires here { next (state p.old) ≡ L_BRACK }
@@ -260,6 +277,7 @@ fn array_expr<G: Grammar>(p: &mut Parser<'_>, g: &G) -> Result<CompletedMarker, 
 }
 
 /// What stands in the brackets of an array.
+#[tactic(auto, using(rap_grammar_frame::proofs::Loops::turns), unfolding(rap_grammar_scripts::specs::Atom::array_elements))]
 fn array_elements<G: Grammar>(p: &mut Parser<'_>, g: &G) -> Result<(), NoMemory>
     requires behind { Behind G.valid G.left g.now (state p.old) }
     ensures grew { OnOk result (Grew (state p.old) (state p.new) 9) }
@@ -282,6 +300,7 @@ fn array_elements<G: Grammar>(p: &mut Parser<'_>, g: &G) -> Result<(), NoMemory>
 
 /// What stands after an element of an array: a semicolon after the first one, or a comma. Returns whether there was a
 /// semicolon, or `None` where the array ends.
+#[tactic(auto, unfolding(rap_grammar_scripts::specs::Atom::after_element))]
 fn after_element(
     p: &mut Parser<'_>,
     is_first: bool,
@@ -290,7 +309,8 @@ fn after_element(
     ensures grew { OnOk result (Grew (state p.old) (state p.new) 1) }
     ensures on { IfOk result (λ o. IfSome o (λ semi. Grew (state p.old) (state p.new) 0)) }
     ensures script { IfOk result
-        (λ o. (depth : ℕ) → Does depth (script.after_element is_first has_semi) (script.of_semi o) (state p.old) (state p.new)) }
+        (λ o. (depth : ℕ) → Does depth (script.after_element is_first has_semi) (script.of_semi o) (state p.old)
+        (state p.new)) }
 {
     if is_first && p.at(T![;]) {
         p.bump(T![;])?;

@@ -7,7 +7,7 @@ ghost use Rattle.rap_events.specs.Power.{power};
 ghost use Rattle.rap_events.specs.State.{state, next, At, IsLast, but_last, last_children};
 ghost use Rattle.rap_events.specs.Fit.{is_plain};
 ghost use Rattle.rap_grammar_frame.specs.Climb.{Climbed, LeftFits, Bound};
-ghost use Rattle.rap_grammar_scripts.specs.Expressions as script;
+ghost use Rattle.rap_grammar_scripts.specs.Operators as script;
 ghost use Rattle.rap_grammar_scripts.specs.First.{one_of};
 ghost use Rattle.rap_grammar_frame.specs.Grew.{Within, Grew, Wraps, Makes};
 ghost use Rattle.rap_grammar_scripts.specs.Exec.{Does};
@@ -19,10 +19,11 @@ use rap_base::T;
 use rap_base::no_memory::NoMemory;
 use rap_base::syntax_kind::SyntaxKind;
 use rap_events::parser::{CompletedMarker, Parser};
-use rap_grammar_frame::called::type_no_bounds;
-use rap_grammar_frame::knot::{Grammar, Rule};
-use rap_grammar_operands::ranges::range_expr;
+use rap_grammar_expressions_operands::ranges::range_expr;
+use rap_grammar_frame::knot::Grammar;
+use rap_grammar_frame::through_knot::type_no_bounds;
 use rap_grammar_scripts::arguments::Restrictions;
+use rap_grammar_scripts::rule::Rule;
 
 /// The least power of the operand of a prefix operator: it binds tighter than any operator between two operands.
 const PREFIX_POWER: u8 = 255;
@@ -123,7 +124,7 @@ pub(crate) fn climb<G: Grammar>(
 }
 
 /// An operator between two expressions, the left one done, as `+ b` after `a`.
-#[tactic(auto, using(rap_grammar_frame::proofs::Binary::width_positive))]
+#[tactic(auto, using(rap_grammar_frame::proofs::Binary::width_positive), unfolding(rap_grammar_scripts::specs::Operators::bin_expr))]
 fn bin_expr<G: Grammar>(
     p: &mut Parser<'_>,
     g: &G,
@@ -153,12 +154,13 @@ fn bin_expr<G: Grammar>(
         prefer_stmt: false,
         ..r
     };
-    g.run(p, Rule::ExprBp { m: None, r, bp })?;
+    g.run(p, Rule::ExprBp { r, bp })?;
     let cm = m.complete_fit(p, SyntaxKind::BIN_EXPR)?;
     Ok(cm)
 }
 
 /// A cast, as `as b` after `a`.
+#[tactic(auto, unfolding(rap_grammar_scripts::specs::Operators::cast_expr))]
 fn cast_expr<G: Grammar>(
     p: &mut Parser<'_>,
     g: &G,
@@ -195,6 +197,7 @@ fn right_power(bp: u8, associativity: Associativity) -> u8
 
 /// What stands between the `&` of a reference and its operand: `mut`, `raw mut`, `raw const`, and `raw` before a name.
 /// Elsewhere `raw` is a name itself, as in `&raw.b`.
+#[tactic(auto, unfolding(rap_grammar_scripts::specs::Operators::ref_qualifier))]
 fn ref_qualifier(p: &mut Parser<'_>) -> Result<(), NoMemory>
     ensures grew { OnOk result (Grew (state p.old) (state p.new) 0) }
     ensures script { OnOk result ((depth : ℕ) → Does depth script.ref_qualifier something (state p.old) (state p.new)) }
@@ -220,6 +223,7 @@ fn is_raw_follow(kind: SyntaxKind) -> bool
 
 /// A reference, as `&a`, `&mut a` and `&raw const a`.
 #[inline(never)]
+#[tactic(auto, unfolding(rap_grammar_scripts::specs::Operators::ref_expr))]
 pub(crate) fn ref_expr<G: Grammar>(
     p: &mut Parser<'_>,
     g: &G,
@@ -236,7 +240,6 @@ pub(crate) fn ref_expr<G: Grammar>(
     g.run(
         p,
         Rule::ExprBp {
-            m: None,
             r,
             bp: PREFIX_POWER,
         },
@@ -247,6 +250,7 @@ pub(crate) fn ref_expr<G: Grammar>(
 
 /// An operator before its operand, as `-a`.
 #[inline(never)]
+#[tactic(auto, unfolding(rap_grammar_scripts::specs::Operators::prefix_expr))]
 pub(crate) fn prefix_expr<G: Grammar>(
     p: &mut Parser<'_>,
     g: &G,
@@ -260,7 +264,7 @@ pub(crate) fn prefix_expr<G: Grammar>(
     let m = p.start()?;
     p.bump_any()?;
     let bp = PREFIX_POWER;
-    g.run(p, Rule::ExprBp { m: None, r, bp })?;
+    g.run(p, Rule::ExprBp { r, bp })?;
     let cm = m.complete(p, SyntaxKind::PREFIX_EXPR)?;
     Ok(cm)
 }

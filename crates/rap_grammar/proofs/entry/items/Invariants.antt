@@ -1,7 +1,7 @@
 use Rattle.std.proofs.Common.{suc, false}
 use Rattle.rap_events.specs.State.{state}
 use Rattle.rap_grammar_frame.specs.Grew.{Grew}
-use Rattle.rap_grammar_scripts.specs.Items.{item_turn}
+use Rattle.rap_grammar_scripts.specs.Modules.{item_turn}
 use Rattle.rap_grammar_frame.proofs.Steps.{Turns}
 use Rattle.rap_grammar.proofs.entry.items.Given as goal
 

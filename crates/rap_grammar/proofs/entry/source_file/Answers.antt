@@ -1,6 +1,6 @@
 use Rattle.std.proofs.Common.{rules}
 use Rattle.rap_grammar_scripts.proofs.Ends.{ends_more}
-use Rattle.rap_grammar_scripts.specs.Items.{source_file}
+use Rattle.rap_grammar_scripts.specs.Entry.{source_file}
 use Rattle.rap_grammar_frame.proofs.Steps.{by_eat}
 use Rattle.rap_grammar.proofs.entry.source_file.Goals as goal
 

@@ -1,6 +1,6 @@
 use Rattle.std.proofs.Common.{rules}
 use Rattle.rap_grammar_scripts.specs.Recovery.{is_item_recovery}
-use Rattle.rap_grammar_scripts.specs.Grammar.{name_r}
+use Rattle.rap_grammar_scripts.specs.Names.{name_r}
 use Rattle.rap_grammar_frame.proofs.Steps.{then_by, to_end}
 use Rattle.rap_grammar_frame.proofs.item_names.item_name.Goals as goal
 

@@ -1,6 +1,6 @@
 use Rattle.std.proofs.Common.{false}
 use Rattle.rap_events.specs.State.{state}
-use Rattle.rap_grammar_scripts.specs.Grammar.{element_turn}
+use Rattle.rap_grammar_scripts.specs.Lists.{element_turn}
 use Rattle.rap_grammar_frame.specs.Grew.{Grew}
 use Rattle.rap_grammar_frame.proofs.Steps.{Turns}
 use Rattle.rap_grammar_frame.proofs.lists.elements.Given as goal

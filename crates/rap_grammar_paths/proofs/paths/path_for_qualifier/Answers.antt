@@ -1,7 +1,6 @@
-use Rattle.std.proofs.Common.{rules, refl}
-use Rattle.rap_grammar_scripts.specs.Paths.{path_for_qualifier}
+use Rattle.std.proofs.Common.{rules}
 use Rattle.rap_grammar_scripts.proofs.Ends.{gives}
-use Rattle.rap_grammar_frame.proofs.Steps.{then_by, else_by, by_precede, by_bump, by_rule, by_complete, turn, last_turn}
+use Rattle.rap_grammar_frame.proofs.Steps.{then_by, by_precede, by_bump, by_rule, by_complete, turn}
 use Rattle.rap_grammar_paths.proofs.paths.path_for_qualifier.Goals as goal
 
 pub segments-preserved : goal.segments-preserved
@@ -17,9 +16,3 @@ segments-preserved g c = record {
       (by_rule c.in_ok-path_segment.ensures.script
       (by_complete c.in_ok-qual.ensures.state.0 gives))))) (search rules);
 }
-
-pub returns-clause-script : goal.returns-clause-script
-unfolding path_for_qualifier
-returns-clause-script g c =
-    last_turn c.segments.invariant.script
-    (else_by c.has_segment.ensures.segment c.segments-test.false gives) refl

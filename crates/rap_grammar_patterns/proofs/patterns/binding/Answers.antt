@@ -1,5 +1,5 @@
 use Rattle.std.proofs.Common.{rules}
-use Rattle.rap_grammar_scripts.specs.Grammar.{name_r}
+use Rattle.rap_grammar_scripts.specs.Names.{name_r}
 use Rattle.rap_grammar_scripts.specs.Patterns.{binding}
 use Rattle.rap_grammar_scripts.specs.Recovery.{is_pattern_recovery}
 use Rattle.rap_grammar_frame.proofs.Steps.{by_eat, then_by, to_end}

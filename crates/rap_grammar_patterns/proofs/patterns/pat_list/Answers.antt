@@ -1,8 +1,7 @@
-use Rattle.std.proofs.Common.{rules, refl}
-use Rattle.rap_grammar_scripts.specs.Patterns.{pat_list}
+use Rattle.std.proofs.Common.{rules}
 use Rattle.rap_grammar_frame.proofs.Patterning.{took_before}
-use Rattle.rap_grammar_scripts.proofs.Ends.{gives, passes, fails}
-use Rattle.rap_grammar_frame.proofs.Steps.{by_report_next, by_rule, turn, last_turn, then_by, else_by, ate, not_ate}
+use Rattle.rap_grammar_scripts.proofs.Ends.{gives, passes}
+use Rattle.rap_grammar_frame.proofs.Steps.{by_report_next, by_rule, turn, else_by, ate, not_ate}
 use Rattle.rap_grammar_patterns.proofs.patterns.pat_list.Goals as goal
 
 pub patterns-preserved-then-branch : goal.patterns-preserved-then-branch
@@ -33,23 +32,3 @@ patterns-preserved g c =
           (passes (search rules)
           (by_report_next c.in_ok-error_with_kind.ensures.state gives)))))) (search rules);
     }
-
-pub returns-then-not-is_pat_top_first-clause-script : goal.returns-then-not-is_pat_top_first-clause-script
-unfolding pat_list
-returns-then-not-is_pat_top_first-clause-script g c = last_turn c.patterns.invariant.script
-    (else_by c.at.ensures c.patterns-test.true
-    (else_by c.at-in-patterns.ensures c.if-not-at.true
-    (by_rule c.in_ok-pattern.ensures.script
-    (not_ate c.in_ok-eat.ensures.state c.if-branch.false
-    (fails (search rules) gives))))) refl
-
-pub returns-else-not-at-clause-script : goal.returns-else-not-at-clause-script
-unfolding pat_list
-returns-else-not-at-clause-script g c = last_turn c.patterns.invariant.script
-    (else_by c.at.ensures c.patterns-test.true
-    (then_by c.at-in-patterns.ensures c.if-not-at.false gives)) refl
-
-pub returns-after-patterns-clause-script : goal.returns-after-patterns-clause-script
-unfolding pat_list
-returns-after-patterns-clause-script g c = last_turn c.patterns.invariant.script
-    (then_by c.at.ensures c.patterns-test.false gives) refl

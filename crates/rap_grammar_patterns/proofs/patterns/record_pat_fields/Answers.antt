@@ -1,7 +1,6 @@
-use Rattle.std.proofs.Common.{rules, refl}
-use Rattle.rap_grammar_scripts.specs.Patterns.{record_pat_fields}
+use Rattle.std.proofs.Common.{rules}
 use Rattle.rap_grammar_scripts.proofs.Ends.{gives}
-use Rattle.rap_grammar_frame.proofs.Steps.{by_rule, by_expect, turn, last_turn, then_by, else_by}
+use Rattle.rap_grammar_frame.proofs.Steps.{by_rule, by_expect, turn, then_by, else_by}
 use Rattle.rap_grammar_patterns.proofs.patterns.record_pat_fields.Goals as goal
 
 pub fields-preserved-in_ok-expect : goal.fields-preserved-in_ok-expect
@@ -24,14 +23,3 @@ fields-preserved g c = record {
       (by_rule c.in_ok-record_pat_element.ensures.script
       (then_by c.at-in-fields-2.ensures c.if-not-at-2.false gives)))) (search rules);
 }
-
-pub returns-else-not-at-clause-script : goal.returns-else-not-at-clause-script
-unfolding record_pat_fields
-returns-else-not-at-clause-script g c = last_turn c.fields.invariant.script
-    (else_by c.at.ensures c.fields-test.true
-    (then_by c.at-in-fields.ensures c.if-not-at.false gives)) refl
-
-pub returns-after-fields-clause-script : goal.returns-after-fields-clause-script
-unfolding record_pat_fields
-returns-after-fields-clause-script g c = last_turn c.fields.invariant.script
-    (then_by c.at.ensures c.fields-test.false gives) refl

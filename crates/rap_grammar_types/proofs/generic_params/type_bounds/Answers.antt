@@ -1,9 +1,8 @@
-use Rattle.std.proofs.Common.{rules, ◌≡◌, refl, inl, inr}
+use Rattle.std.proofs.Common.{rules, ◌≡◌, inl, inr}
 use Rattle.rap_base.specs.TokenKind.{LIFETIME_IDENT}
 use Rattle.rap_events.specs.State.{state, next}
-use Rattle.rap_grammar_scripts.specs.GenericParams.{type_bounds}
 use Rattle.rap_grammar_scripts.proofs.Ends.{gives}
-use Rattle.rap_grammar_frame.proofs.Steps.{by_rule, ate, not_ate, turn, last_turn, answers_no, answers_yes}
+use Rattle.rap_grammar_frame.proofs.Steps.{by_rule, ate, turn, answers_yes}
 use Rattle.rap_grammar_types.proofs.generic_params.type_bounds.Goals as goal
 
 pub bounds-preserved : goal.bounds-preserved
@@ -21,12 +20,6 @@ bounds-preserved g c = record {
       (ate c.in_ok-eat.ensures.state c.if-not-branch.false gives)) (search rules);
 }
 
-pub returns-then-not-branch-clause-script : goal.returns-then-not-branch-clause-script
-unfolding type_bounds
-returns-then-not-branch-clause-script g c = last_turn c.bounds.invariant.script
-    (by_rule (answers_yes c.if-branch.true c.in_ok-type_bound.ensures.script)
-    (not_ate c.in_ok-eat.ensures.state c.if-not-branch.true gives)) refl
-
 pub returns-clause-took : goal.returns-clause-took
 returns-clause-took g c = λ e. elim (c.bounds.invariant.begun e) [
   | inl h ↦
@@ -35,8 +28,3 @@ returns-clause-took g c = λ e. elim (c.bounds.invariant.begun e) [
       search rules
   | inr t ↦ search rules
 ]
-
-pub returns-clause-script : goal.returns-clause-script
-unfolding type_bounds
-returns-clause-script g c = last_turn c.bounds.invariant.script
-    (by_rule (answers_no c.if-branch.false c.in_ok-type_bound.ensures.script) gives) refl

@@ -1,7 +1,7 @@
 use Rattle.std.proofs.Common.{rules, arith, refl, ◌≡◌, ◌≢◌, ◌<◌}
 use Rattle.rap_base.specs.TokenKind.{AS_KW}
 use Rattle.rap_events.specs.State.{state}
-use Rattle.rap_grammar_scripts.specs.Expressions.{climb}
+use Rattle.rap_grammar_scripts.specs.Operators.{climb}
 use Rattle.rap_grammar_scripts.specs.Operator.{operator_at}
 use Rattle.rap_grammar_frame.proofs.Operating.{stops_low, goes_as, stops_range, goes_range, goes_binary}
 use Rattle.rap_grammar_frame.proofs.Steps.{turn, last_turn}

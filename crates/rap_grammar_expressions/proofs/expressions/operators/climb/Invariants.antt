@@ -3,7 +3,7 @@ use Rattle.rap_base.specs.NodeKind.{BIN_EXPR}
 use Rattle.rap_events.specs.State.{state, IsLast, but_last, last_children}
 use Rattle.rap_events.specs.Power.{power, operator}
 use Rattle.rap_grammar_frame.specs.Climb.{Bound}
-use Rattle.rap_grammar_scripts.specs.Expressions.{climb_turn}
+use Rattle.rap_grammar_scripts.specs.Operators.{climb_turn}
 use Rattle.rap_grammar_frame.specs.Grew.{Grew}
 use Rattle.rap_grammar_frame.proofs.Steps.{Turns}
 use Rattle.rap_grammar_expressions.proofs.expressions.operators.climb.Given as goal

@@ -1,0 +1,6 @@
+use Rattle.std.proofs.lemmas.Result.{IfOk-weaker}
+use Rattle.rap_grammar.proofs.Depth.{more}
+use Rattle.rap_grammar.proofs.entry.part.fn.run_part.call.Goals as goal
+
+pub returns : goal.returns
+returns c = IfOk-weaker _ _ _ (more _ _ c.requires.left _ _ _) c.run.ensures

@@ -1,0 +1,4 @@
+//! Attributes.
+#![tactic(auto)]
+
+pub mod attributes;

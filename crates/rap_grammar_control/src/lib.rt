@@ -1,8 +1,0 @@
-//! Expressions that begin with a keyword of control flow, closures, and blocks with an effect.
-#![tactic(auto)]
-
-pub mod blocks;
-pub mod closures;
-pub mod control;
-pub mod jumps;
-pub mod matches;

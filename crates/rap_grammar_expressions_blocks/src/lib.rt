@@ -1,0 +1,4 @@
+//! Blocks, and the `let` statements in them.
+#![tactic(auto)]
+
+pub mod blocks;

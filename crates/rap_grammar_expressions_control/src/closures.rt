@@ -1,0 +1,112 @@
+//! Closures.
+//! In the Rust crate: `grammar/expressions/atom.rs`.
+ghost use Rattle.std.specs.Prelude.{ℕ, ◌≡◌, ◌≢◌, ◌<◌, ◌≤◌, IfOk, OnOk, true, [], ◌∷◌};
+ghost use Rattle.rap_base.specs.TokenKind.{FOR_KW, CONST_KW, STATIC_KW, ASYNC_KW, MOVE_KW, PIPE};
+ghost use Rattle.rap_base.specs.NodeKind.{CLOSURE_EXPR};
+ghost use Rattle.rap_events.specs.State.{state, next};
+ghost use Rattle.rap_grammar_scripts.specs.Closures as script;
+ghost use Rattle.rap_grammar_scripts.specs.First.{one_of, is_closure};
+ghost use Rattle.rap_grammar_frame.specs.Grew.{Within, Behind, Took, Grew, Makes};
+ghost use Rattle.rap_grammar_scripts.specs.Exec.{Does};
+ghost use Rattle.rap_grammar_frame.specs.Room.{atom_room, list_room, name_room};
+ghost use Rattle.rap_grammar_scripts.specs.Script.{something};
+
+use rap_base::T;
+use rap_base::no_memory::NoMemory;
+use rap_base::syntax_kind::SyntaxKind;
+use rap_events::parser::{CompletedMarker, Parser};
+use rap_grammar_expressions_blocks::blocks::block_expr;
+use rap_grammar_frame::first::is_expr_first;
+use rap_grammar_frame::knot::Grammar;
+use rap_grammar_frame::through_knot::{expr, for_binder, opt_ret_type};
+use rap_grammar_params::params::param_list_closure;
+
+/// A closure, as `|a| b`.
+#[inline(never)]
+#[tactic(auto, unfolding(rap_grammar_scripts::specs::Closures::closure_expr))]
+pub fn closure_expr<G: Grammar>(p: &mut Parser<'_>, g: &G) -> Result<CompletedMarker, NoMemory>
+    requires within { Within G.valid G.left g.now (state p.old) }
+    requires here { is_closure (state p.old).rest ≡ true }
+    ensures made { IfOk result (Makes CLOSURE_EXPR atom_room (state p.old) (state p.new)) }
+    ensures script { OnOk result (Does (G.left g.now) script.closure_expr something (state p.old) (state p.new)) }
+{
+    let m = p.start()?;
+    closure_binder(p, g)?;
+    closure_keywords(p)?;
+    if !p.at(T![|]) {
+        p.error("expected `|`")?;
+        let cm = m.complete(p, SyntaxKind::CLOSURE_EXPR)?;
+        return Ok(cm);
+    }
+    param_list_closure(p, g)?;
+    closure_body(p, g)?;
+    let cm = m.complete(p, SyntaxKind::CLOSURE_EXPR)?;
+    Ok(cm)
+}
+
+/// The lifetimes of a closure, as `for<'a>`, if it has some.
+#[tactic(auto, unfolding(rap_grammar_scripts::specs::Closures::closure_binder))]
+fn closure_binder<G: Grammar>(p: &mut Parser<'_>, g: &G) -> Result<(), NoMemory>
+    requires within { Within G.valid G.left g.now (state p.old) }
+    ensures grew { OnOk result (Grew (state p.old) (state p.new) 0) }
+    ensures took { OnOk result (next (state p.old) ≡ FOR_KW → Took (state p.old) (state p.new) list_room) }
+    ensures stays { OnOk result (next (state p.old) ≢ FOR_KW → state p.new ≡ state p.old) }
+    ensures script { OnOk result (Does (G.left g.now) script.closure_binder something (state p.old) (state p.new)) }
+{
+    if !p.at(T![for]) {
+        return Ok(());
+    }
+    for_binder(p, g)?;
+    Ok(())
+}
+
+/// The keywords before the parameters of a closure, as `static async move`.
+#[tactic(auto, unfolding(rap_grammar_scripts::specs::Closures::closure_keywords))]
+fn closure_keywords(p: &mut Parser<'_>) -> Result<(), NoMemory>
+    ensures grew { OnOk result (Grew (state p.old) (state p.new) 0) }
+    ensures took { OnOk result
+        (one_of (CONST_KW ∷ STATIC_KW ∷ ASYNC_KW ∷ MOVE_KW ∷ []) (next (state p.old)) ≡ true →
+        Took (state p.old) (state p.new) name_room) }
+    ensures stays { OnOk result (next (state p.old) ≡ PIPE → next (state p.new) ≡ PIPE) }
+    ensures script { OnOk result
+        ((depth : ℕ) → Does depth script.closure_keywords something (state p.old) (state p.new)) }
+{
+    p.eat(T![const])?;
+    p.eat(T![static])?;
+    p.eat(T![async])?;
+    p.eat(T![gen])?;
+    p.eat(T![move])?;
+    Ok(())
+}
+
+/// The body of a closure: an expression, or a block if there is a return type.
+#[tactic(auto, unfolding(rap_grammar_scripts::specs::Closures::closure_body))]
+fn closure_body<G: Grammar>(p: &mut Parser<'_>, g: &G) -> Result<(), NoMemory>
+    requires behind { Behind G.valid G.left g.now (state p.old) }
+    ensures grew { OnOk result (Grew (state p.old) (state p.new) 8) }
+    ensures script { OnOk result (Does (G.left g.now) script.closure_body something (state p.old) (state p.new)) }
+{
+    if opt_ret_type(p, g)? {
+        closing_angles(p)?;
+        block_expr(p, g)?;
+        return Ok(());
+    }
+    if !is_expr_first(p.current()) {
+        p.error("expected expression")?;
+        return Ok(());
+    }
+    expr(p, g)?;
+    Ok(())
+}
+
+/// Angle brackets that nothing opened, after the type of a closure.
+fn closing_angles(p: &mut Parser<'_>) -> Result<(), NoMemory>
+    ensures grew { OnOk result (Grew (state p.old) (state p.new) 0) }
+    ensures script { OnOk result
+        ((depth : ℕ) → Does depth script.closing_angles something (state p.old) (state p.new)) }
+{
+    'angles: while p.at(T![>]) {
+        p.err_and_bump("expected a curly brace")?;
+    }
+    Ok(())
+}

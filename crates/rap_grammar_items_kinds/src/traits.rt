@@ -1,0 +1,254 @@
+//! Traits and implementations.
+ghost use Rattle.std.specs.Prelude.{ℕ, ◌≡◌, ◌≢◌, ◌<◌, ◌≤◌, OnOk, Some, true};
+ghost use Rattle.rap_base.specs.NodeKind.{ASSOC_ITEM_LIST};
+ghost use Rattle.rap_base.specs.TokenKind.{EOF, L_CURLY, R_CURLY, BANG, TRAIT_KW, IMPL_KW};
+ghost use Rattle.rap_events.specs.Forest.{node};
+ghost use Rattle.rap_events.specs.State.{state, last_children, next};
+ghost use Rattle.rap_grammar_frame.specs.Grew.{Within, Behind, Took, Grew, Ended};
+ghost use Rattle.rap_grammar_scripts.specs.Exec.{Does};
+ghost use Rattle.rap_grammar_frame.specs.Room.{item_room, list_room, statement_room};
+ghost use Rattle.rap_grammar_scripts.specs.Script.{something};
+ghost use Rattle.rap_grammar_scripts.specs.Traits as script;
+
+use rap_base::T;
+use rap_base::no_memory::NoMemory;
+use rap_base::syntax_kind::SyntaxKind;
+use rap_events::parser::{Marker, Parser};
+use rap_grammar_attributes::attributes::inner_attrs;
+use rap_grammar_expressions_blocks::blocks::error_block;
+use rap_grammar_frame::item_names::item_name;
+use rap_grammar_frame::knot::Grammar;
+use rap_grammar_frame::through_knot::{
+    bounds, bounds_without_colon, opt_generic_param_list, opt_where_clause, type_,
+};
+use rap_grammar_scripts::rule::Rule;
+
+/// A trait from its keyword on, as `trait A {}`.
+#[tactic(auto, unfolding(rap_events::specs::Machine::top, rap_grammar_scripts::specs::Traits::trait_))]
+pub fn trait_<G: Grammar>(p: &mut Parser<'_>, g: &G, m: Marker) -> Result<(), NoMemory>
+    requires within { Within G.valid G.left g.now (state p.old) }
+    requires newest { (state p.old).marker ≡ Some m.pos.value }
+    requires here { next (state p.old) ≡ TRAIT_KW }
+    ensures ended { OnOk result (Ended (state p.old) (state p.new) item_room) }
+    ensures script { OnOk result (Does (G.left g.now) script.trait_ something (state p.old) (state p.new)) }
+{
+    p.bump(T![trait])?;
+    item_name(p)?;
+    opt_generic_param_list(p, g)?;
+    trait_body(p, g)?;
+    m.complete(p, SyntaxKind::TRAIT)?;
+    Ok(())
+}
+
+/// What stands after a trait's name and parameters.
+#[tactic(auto, unfolding(rap_grammar_scripts::specs::Traits::trait_body))]
+fn trait_body<G: Grammar>(p: &mut Parser<'_>, g: &G) -> Result<(), NoMemory>
+    requires behind { Behind G.valid G.left g.now (state p.old) }
+    ensures grew { OnOk result (Grew (state p.old) (state p.new) 1) }
+    ensures script { OnOk result (Does (G.left g.now) script.trait_body something (state p.old) (state p.new)) }
+{
+    if p.eat(T![=])? {
+        trait_alias(p, g)?;
+        return Ok(());
+    }
+    opt_bounds(p, g)?;
+    opt_where_clause(p, g)?;
+    expect_assoc_item_list(p, g)?;
+    Ok(())
+}
+
+/// The bounds of a trait alias, after its `=`, as the `A + B;` of `trait C = A + B;`.
+#[tactic(auto, unfolding(rap_grammar_scripts::specs::Traits::trait_alias))]
+fn trait_alias<G: Grammar>(p: &mut Parser<'_>, g: &G) -> Result<(), NoMemory>
+    requires behind { Behind G.valid G.left g.now (state p.old) }
+    ensures grew { OnOk result (Grew (state p.old) (state p.new) 17) }
+    ensures script { OnOk result (Does (G.left g.now) script.trait_alias something (state p.old) (state p.new)) }
+{
+    bounds_without_colon(p, g)?;
+    opt_where_clause(p, g)?;
+    p.expect(T![;])?;
+    Ok(())
+}
+
+/// Bounds after their colon, if there are.
+#[tactic(auto, unfolding(rap_grammar_scripts::specs::Traits::opt_bounds))]
+fn opt_bounds<G: Grammar>(p: &mut Parser<'_>, g: &G) -> Result<(), NoMemory>
+    requires within { Within G.valid G.left g.now (state p.old) }
+    ensures grew { OnOk result (Grew (state p.old) (state p.new) 0) }
+    ensures script { OnOk result (Does (G.left g.now) script.opt_bounds something (state p.old) (state p.new)) }
+{
+    if p.at(T![:]) {
+        bounds(p, g)?;
+    }
+    Ok(())
+}
+
+/// An implementation from its keyword on, as `impl A for b {}`.
+#[tactic(auto, unfolding(rap_events::specs::Machine::top, rap_grammar_scripts::specs::Traits::impl_))]
+pub fn impl_<G: Grammar>(p: &mut Parser<'_>, g: &G, m: Marker) -> Result<(), NoMemory>
+    requires within { Within G.valid G.left g.now (state p.old) }
+    requires newest { (state p.old).marker ≡ Some m.pos.value }
+    requires here { next (state p.old) ≡ IMPL_KW }
+    ensures ended { OnOk result (Ended (state p.old) (state p.new) item_room) }
+    ensures script { OnOk result (Does (G.left g.now) script.impl_ something (state p.old) (state p.new)) }
+{
+    p.bump(T![impl])?;
+    impl_params(p, g)?;
+    p.eat(T![const])?;
+    opt_negative(p)?;
+    impl_types(p, g)?;
+    opt_where_clause(p, g)?;
+    expect_assoc_item_list(p, g)?;
+    m.complete(p, SyntaxKind::IMPL)?;
+    Ok(())
+}
+
+/// The parameters of an implementation, as the `<T>` of `impl<T> A {}`, if there are.
+#[tactic(auto, unfolding(rap_grammar_scripts::specs::Traits::impl_params))]
+fn impl_params<G: Grammar>(p: &mut Parser<'_>, g: &G) -> Result<(), NoMemory>
+    requires behind { Behind G.valid G.left g.now (state p.old) }
+    ensures grew { OnOk result (Grew (state p.old) (state p.new) 0) }
+    ensures script { OnOk result (Does (G.left g.now) script.impl_params something (state p.old) (state p.new)) }
+{
+    if is_impl_params_start(p) {
+        opt_generic_param_list(p, g)?;
+    }
+    Ok(())
+}
+
+/// Whether an implementation has parameters.
+fn is_impl_params_start(p: &Parser<'_>) -> bool
+    ensures { result ≡ script.is_impl_params_start (state p.now).rest }
+{
+    p.at(T![<]) && not_a_qualified_path(p)
+}
+
+/// Whether the `<` that comes next begins parameters, and no type as in `impl <a>::b {}`. What may be both is
+/// parameters.
+fn not_a_qualified_path(p: &Parser<'_>) -> bool
+    ensures { result ≡ script.not_a_qualified_path (state p.now).rest }
+{
+    matches!(p.nth(1), T![#] | T![>] | T![const])
+        || (matches!(p.nth(1), T![lifetime_ident] | T![ident])
+            && matches!(p.nth(2), T![>] | T![,] | T![:] | T![=]))
+}
+
+/// A `!` before a trait, as in `impl !A for b {}`, if there is one.
+#[tactic(auto, unfolding(rap_grammar_scripts::specs::Traits::opt_negative))]
+fn opt_negative(p: &mut Parser<'_>) -> Result<(), NoMemory>
+    ensures grew { OnOk result (Grew (state p.old) (state p.new) 0) }
+    ensures script { OnOk result ((depth : ℕ) → Does depth script.opt_negative something (state p.old) (state p.new)) }
+{
+    if is_negative_start(p) {
+        p.bump(T![!])?;
+    }
+    Ok(())
+}
+
+/// Whether a `!` comes next that is no type: the braces do not follow.
+fn is_negative_start(p: &Parser<'_>) -> bool
+    ensures starts { result ≡ script.is_negative_start (state p.now).rest }
+    ensures here { result ≡ true → next (state p.now) ≡ BANG }
+{
+    p.at(T![!]) && !p.nth_at(1, T!['{'])
+}
+
+/// The type of an implementation, with the trait before it.
+#[tactic(auto, unfolding(rap_grammar_scripts::specs::Traits::impl_types))]
+fn impl_types<G: Grammar>(p: &mut Parser<'_>, g: &G) -> Result<(), NoMemory>
+    requires behind { Behind G.valid G.left g.now (state p.old) }
+    ensures grew { OnOk result (Grew (state p.old) (state p.new) 8) }
+    ensures script { OnOk result (Does (G.left g.now) script.impl_types something (state p.old) (state p.new)) }
+{
+    impl_type(p, g)?;
+    if p.eat(T![for])? {
+        impl_type(p, g)?;
+    }
+    Ok(())
+}
+
+/// A trait or a type of an implementation.
+#[tactic(auto, unfolding(rap_grammar_scripts::specs::Traits::impl_type))]
+pub fn impl_type<G: Grammar>(p: &mut Parser<'_>, g: &G) -> Result<(), NoMemory>
+    requires behind { Behind G.valid G.left g.now (state p.old) }
+    ensures grew { OnOk result (Grew (state p.old) (state p.new) 8) }
+    ensures script { OnOk result (Does (G.left g.now) script.impl_type something (state p.old) (state p.new)) }
+{
+    if p.at(T![impl]) {
+        p.error("expected trait or type")?;
+        return Ok(());
+    }
+    type_(p, g)?;
+    Ok(())
+}
+
+/// The items of a trait or an implementation. Where their braces are missing, that is reported.
+#[tactic(auto, unfolding(rap_grammar_scripts::specs::Traits::expect_assoc_item_list))]
+fn expect_assoc_item_list<G: Grammar>(p: &mut Parser<'_>, g: &G) -> Result<(), NoMemory>
+    requires within { Within G.valid G.left g.now (state p.old) }
+    ensures grew { OnOk result (Grew (state p.old) (state p.new) 1) }
+    ensures script { OnOk result
+        (Does (G.left g.now) script.expect_assoc_item_list something (state p.old) (state p.new)) }
+{
+    if p.at(T!['{']) {
+        assoc_item_list(p, g)?;
+        return Ok(());
+    }
+    p.error("expected `{`")?;
+    Ok(())
+}
+
+/// The items of a trait or an implementation in their braces.
+#[tactic(auto, unfolding(rap_grammar_scripts::specs::Traits::assoc_item_list))]
+pub fn assoc_item_list<G: Grammar>(p: &mut Parser<'_>, g: &G) -> Result<(), NoMemory>
+    requires within { Within G.valid G.left g.now (state p.old) }
+    requires here { next (state p.old) ≡ L_CURLY }
+    ensures took { OnOk result (Took (state p.old) (state p.new) list_room) }
+    ensures one { OnOk result
+        ((state p.new).forest ≡ node (state p.old).forest ASSOC_ITEM_LIST (last_children (state p.new).forest)) }
+    ensures script { OnOk result (Does (G.left g.now) script.assoc_item_list something (state p.old) (state p.new)) }
+{
+    let m = p.start()?;
+    p.bump(T!['{'])?;
+    inner_attrs(p, g)?;
+    assoc_items(p, g)?;
+    p.expect(T!['}'])?;
+    m.complete(p, SyntaxKind::ASSOC_ITEM_LIST)?;
+    Ok(())
+}
+
+/// Items up to the brace that closes their list.
+#[tactic(auto, using(rap_grammar_frame::proofs::Loops::turns), unfolding(rap_grammar_scripts::specs::Traits::assoc_items))]
+fn assoc_items<G: Grammar>(p: &mut Parser<'_>, g: &G) -> Result<(), NoMemory>
+    requires behind { Behind G.valid G.left g.now (state p.old) }
+    ensures grew { OnOk result (Grew (state p.old) (state p.new) 0) }
+    ensures script { OnOk result (Does (G.left g.now) script.assoc_items something (state p.old) (state p.new)) }
+{
+    'items: while !p.at(SyntaxKind::EOF) && !p.at(T!['}']) {
+        assoc_item(p, g)?;
+    }
+    Ok(())
+}
+
+/// An item of a trait or an implementation. A block in its place is reported.
+#[tactic(auto, unfolding(rap_grammar_scripts::specs::Traits::assoc_item, rap_grammar_scripts::specs::ThroughKnot::item_or_macro))]
+fn assoc_item<G: Grammar>(p: &mut Parser<'_>, g: &G) -> Result<(), NoMemory>
+    requires behind { Behind G.valid G.left g.now (state p.old) }
+    requires more { next (state p.old) ≢ EOF }
+    requires inside { next (state p.old) ≢ R_CURLY }
+    ensures took { OnOk result (Took (state p.old) (state p.new) statement_room) }
+    ensures script { OnOk result (Does (G.left g.now) script.assoc_item something (state p.old) (state p.new)) }
+{
+    if p.at(T!['{']) {
+        error_block(p, g, "expected an item")?;
+        return Ok(());
+    }
+    g.run(
+        p,
+        Rule::ItemOrMacro {
+            stop_on_r_curly: true,
+            is_in_extern: false,
+        },
+    )?;
+    Ok(())
+}

@@ -1,8 +1,0 @@
-use Rattle.rap_grammar_scripts.specs.Paths.{use_path}
-use Rattle.rap_grammar_scripts.proofs.Ends.{gives}
-use Rattle.rap_grammar_frame.proofs.Steps.{by_rule}
-use Rattle.rap_grammar_paths.proofs.paths.use_path.Goals as goal
-
-pub returns-clause-script : goal.returns-clause-script
-unfolding use_path
-returns-clause-script g c = by_rule c.in_ok-path.ensures.script gives

@@ -1,9 +1,0 @@
--- A name that is there.
-use Rattle.rap_base.specs.TokenKind.{IDENT}
-use Rattle.rap_base.specs.NodeKind.{NAME}
-use Rattle.rap_grammar_scripts.specs.Phrase.{Phrase}
-use Rattle.rap_grammar_scripts.specs.Script.{Script, token, start, finish}
-use Rattle.rap_grammar_scripts.specs.Words.{done, ◌▸◌}
-
-abbrev pub given_name : Script Phrase
-given_name = start ▸ token IDENT ▸ finish NAME ▸ done
