@@ -1,0 +1,4 @@
+pub mod Header
+pub mod Fronts
+pub mod Reading
+pub mod Stream
