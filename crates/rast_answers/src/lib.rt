@@ -1,0 +1,34 @@
+//! What an editor is answered about a document: diagnostics, symbols, folds, selections, tokens, highlights.
+//!
+//! [`Analysis::of_document`] parses a document; each of its other methods makes one answer, in byte offsets of the text
+//! on character boundaries. Only the tokens are in positions of the document, since their numbers are.
+#![tactic(auto)]
+
+mod analysis;
+mod comments;
+mod deltas;
+mod diagnostic;
+mod extent;
+mod folds;
+mod highlights;
+mod imports;
+mod jumps;
+mod kinds;
+mod selection;
+mod symbol_kind;
+mod symbols;
+#[cfg(test)]
+mod tests;
+mod token_kind;
+mod tokens;
+
+pub use analysis::Analysis;
+pub use deltas::Delta;
+pub use diagnostic::Diagnostic;
+pub use extent::Extent;
+pub use folds::{Fold, FoldKind};
+pub use symbol_kind::SymbolKind;
+pub use symbols::Symbol;
+pub use token_kind::{
+    DECLARATION, DOCUMENTATION, READONLY, STATIC, TOKEN_KINDS, TOKEN_MODIFIERS, TokenKind,
+};
