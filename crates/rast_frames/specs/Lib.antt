@@ -1,1 +1,4 @@
-pub mod Frames
+pub mod Header
+pub mod Fronts
+pub mod Reading
+pub mod Stream

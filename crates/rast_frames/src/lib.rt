@@ -1,12 +1,20 @@
-//! Messages in a stream of bytes, as the base protocol of language servers has them: a header of fields, one of them
-//! `Content-Length`, an empty line, and as many bytes of content as the field says.
+//! Messages in a stream of bytes, as the base protocol of language servers has them: a header of fields, each on a line
+//! that `\r\n` ends, one of them `Content-Length`; an empty line; and as many bytes of content as that field says.
 //!
-//! [`front_of`] says what stands at the front of the bytes that have come, [`frame`] writes a message.
+//! [`front_of`] says what stands at the front of bytes. [`Frames`] keeps the bytes of a stream as they come, in pieces
+//! of any length, and [`write_frame`] writes a message with its header.
 #![tactic(auto)]
 
+mod frames;
 mod front;
 mod header;
+mod laws;
+#[cfg(test)]
+mod tests;
 mod write;
 
-pub use front::{Front, MAX_HEADER, front_of};
-pub use write::frame;
+pub use frames::Frames;
+pub use front::{Front, front_of};
+pub use header::{HeaderFault, MAX_HEADER, MAX_STATED};
+pub use laws::{any_cut, one_front, reads_written, stays_read};
+pub use write::write_frame;

@@ -1,0 +1,4 @@
+pub mod HeaderLemmas
+pub mod FrontLemmas
+pub mod StreamLemmas
+pub mod WrittenLemmas

@@ -1,0 +1,6 @@
+use Rattle.std.proofs.Common.{◌≡◌, ◌<◌, ◌≤◌, ℕ, false}
+use Rattle.rast_frames.specs.Header.{IsBreak, IsLengthField, ends_header}
+use Rattle.rast_frames.proofs.header.header_end.Given as goal
+
+abbrev pub invariant-bytes : goal.invariant-bytes
+invariant-bytes l = (k : ℕ) → k < l.index → ends_header l.bytes k ≡ false
