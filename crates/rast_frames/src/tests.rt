@@ -83,9 +83,9 @@ fn is_lost_after_a_long_header(rt: HostRuntime) -> Result<(), Fail> {
 #[test]
 fn reads_a_byte_at_a_time(rt: HostRuntime) -> Result<(), Fail> {
     let mut stream = Vec::new(rt.alloc());
-    write_frame(rt.alloc(), &mut stream, b"first")?;
+    write_frame(&mut stream, b"first")?;
     stream.extend_from_slice(b"Content-Length: 9\r\n\r\n123456789None: 0\r\n\r\n")?;
-    write_frame(rt.alloc(), &mut stream, b"last")?;
+    write_frame(&mut stream, b"last")?;
     let mut frames = Frames::new(rt.alloc());
     let mut read = String::new(rt.alloc());
     for byte in stream.as_slice() {

@@ -1,281 +1,216 @@
-//! What is answered of a document and its tree.
-use flat_tree::{Element, FlatTree, NO_PARENT};
-use ra_ap_parser::{Edition, NoMemory, SyntaxKind, TextFault, TopEntryPoint};
-use rast_document::{Document, Encoding, Position};
-use serde_json::{Value, json, push};
+//! The answers about a document, as JSON texts.
+use crate::json::{push_comma, push_range, push_string};
+use crate::tree::tree_lines;
+use rast_answers::{Analysis, Delta, Diagnostic, Extent, Fold, FoldKind, Symbol};
+use rast_document::{Document, Position};
 use std::alloc::{AllocError, Global};
+use std::fmt::Write as _;
 
-/// The encoding that the editor offers and the server likes best: UTF-8, else UTF-16, which each editor knows, unless
-/// the editor offers UTF-32 alone.
-pub fn chosen_encoding(params: &Value) -> Encoding {
-    let Some(offered) = params
-        .pointer("/capabilities/general/positionEncodings")
-        .and_then(Value::as_array)
-    else {
-        return Encoding::Utf16;
-    };
-    let mut wide = false;
-    for value in offered {
-        match value.as_str() {
-            Some("utf-8") => return Encoding::Utf8,
-            Some("utf-32") => wide = true,
-            _ => (),
-        }
-    }
-    if wide && offered.len() == 1 {
-        Encoding::Utf32
-    } else {
-        Encoding::Utf16
-    }
-}
-
-/// What the server can do.
-pub fn capabilities(alloc: Global, encoding: Encoding) -> Result<Value, AllocError> {
-    let name = match encoding {
-        Encoding::Utf8 => "utf-8",
-        Encoding::Utf16 => "utf-16",
-        Encoding::Utf32 => "utf-32",
-    };
-    json!(in alloc; {
-        "capabilities": {
-            "positionEncoding": name,
-            "textDocumentSync": {"openClose": true, "change": 2},
-            "foldingRangeProvider": true,
-            "selectionRangeProvider": true
-        },
-        "serverInfo": {"name": "rast_server"}
-    })
-}
-
-fn place(alloc: Global, position: Position) -> Result<Value, AllocError> {
-    let line = position.line as u64;
-    let character = position.character as u64;
-    json!(in alloc; {"line": line, "character": character})
-}
-
-fn span(alloc: Global, document: &Document, start: usize, end: usize) -> Result<Value, AllocError> {
-    let from = place(alloc, document.position(start))?;
-    let to = place(alloc, document.position(end))?;
-    json!(in alloc; {"start": from, "end": to})
-}
-
-fn parsed(alloc: Global, document: &Document) -> Result<FlatTree<'_>, TextFault<NoMemory>> {
-    FlatTree::of_text(
-        alloc,
-        Edition::CURRENT,
-        TopEntryPoint::SourceFile,
-        document.text(),
-    )
-}
-
-// The text of a fault, if it is not that of memory.
-fn fault_text(fault: TextFault<NoMemory>) -> Result<&'static str, AllocError> {
-    match fault {
-        TextFault::TextTooLong => Ok("text too long"),
-        TextFault::TooManyTokens => Ok("too many tokens"),
-        TextFault::NoMemory | TextFault::Refused(_) => Err(AllocError),
-    }
-}
-
-fn diagnostic(
+/// Adds a message at a range.
+fn push_diagnostic(
     alloc: Global,
+    json: &mut String,
     document: &Document,
-    start: usize,
-    end: usize,
-    text: &str,
-) -> Result<Value, AllocError> {
-    let range = span(alloc, document, start, end)?;
-    json!(in alloc; {"range": range, "severity": 1, "source": "rast", "message": text})
+    diagnostic: &Diagnostic<'_>,
+) -> Result<(), AllocError> {
+    json.push_str("{\"range\":")?;
+    push_range(json, document, diagnostic.start, diagnostic.end)?;
+    json.push_str(",\"severity\":1,\"source\":\"rast\",\"message\":")?;
+    push_string(alloc, json, diagnostic.text)?;
+    json.push_str("}")?;
+    Ok(())
 }
 
-/// The messages of a document's tree.
-pub fn diagnostics(
+/// Adds messages at their ranges.
+pub fn push_diagnostics(
     alloc: Global,
-    name: &str,
-    version: i64,
+    json: &mut String,
     document: &Document,
-) -> Result<Value, AllocError> {
-    let mut list = Vec::new(alloc);
-    match parsed(alloc, document) {
-        Ok(tree) => {
-            for message in tree.messages() {
-                let range = message.range();
-                let one = diagnostic(alloc, document, range.start, range.end, message.text())?;
-                push(&mut list, one)?;
+    list: &[Diagnostic<'_>],
+) -> Result<(), AllocError> {
+    let mut is_first = true;
+    for diagnostic in list {
+        push_comma(json, &mut is_first)?;
+        push_diagnostic(alloc, json, document, diagnostic)?;
+    }
+    Ok(())
+}
+
+/// Adds a symbol up to the symbols inside it, whose list stays open.
+fn open_symbol(
+    alloc: Global,
+    json: &mut String,
+    document: &Document,
+    symbol: &Symbol,
+) -> Result<(), AllocError> {
+    let name = document
+        .text()
+        .get(symbol.name.start..symbol.name.end)
+        .unwrap_or("");
+    json.push_str("{\"name\":")?;
+    push_string(alloc, json, name)?;
+    let kind = symbol.kind.number();
+    write!(json, ",\"kind\":{kind},\"range\":")?;
+    push_range(json, document, symbol.extent.start, symbol.extent.end)?;
+    json.push_str(",\"selectionRange\":")?;
+    push_range(json, document, symbol.name.start, symbol.name.end)?;
+    json.push_str(",\"children\":[")?;
+    Ok(())
+}
+
+/// Closes the symbols that end at an index or before it.
+fn close_symbols(
+    json: &mut String,
+    ends: &mut Vec<usize>,
+    index: usize,
+    is_first: &mut bool,
+) -> Result<(), AllocError> {
+    for _ in 0..ends.len() {
+        match ends.last() {
+            Some(end) if *end <= index => {
+                let _ = ends.pop();
+                json.push_str("]}")?;
+                *is_first = false;
             }
-        }
-        Err(fault) => {
-            let text = fault_text(fault)?;
-            push(&mut list, diagnostic(alloc, document, 0, 0, text)?)?;
+            _ => break,
         }
     }
-    let all = Value::Array(list);
-    json!(in alloc; {"uri": name, "version": version, "diagnostics": all})
+    Ok(())
 }
 
-/// No message, for a document that is closed.
-pub fn no_diagnostics(alloc: Global, name: &str) -> Result<Value, AllocError> {
-    json!(in alloc; {"uri": name, "diagnostics": []})
-}
-
-// The tree, or none if the text is too long for one.
-fn tree_of(alloc: Global, document: &Document) -> Result<Option<FlatTree<'_>>, AllocError> {
-    match parsed(alloc, document) {
-        Ok(tree) => Ok(Some(tree)),
-        Err(fault) => {
-            let _text = fault_text(fault)?;
-            Ok(None)
-        }
+/// The symbols of a document, each in the one around it.
+pub fn symbols(alloc: Global, analysis: &Analysis<'_>) -> Result<String, AllocError> {
+    let list = analysis.symbols(alloc)?;
+    let mut json = String::from_str(alloc, "[")?;
+    let mut ends: Vec<usize> = Vec::new(alloc);
+    let mut is_first = true;
+    for symbol in list.as_slice() {
+        close_symbols(&mut json, &mut ends, symbol.index, &mut is_first)?;
+        push_comma(&mut json, &mut is_first)?;
+        open_symbol(alloc, &mut json, analysis.document(), symbol)?;
+        ends.push(symbol.after)?;
+        is_first = true;
     }
+    close_symbols(&mut json, &mut ends, usize::MAX, &mut is_first)?;
+    json.push_str("]")?;
+    Ok(json)
 }
 
-// Whether what is in a node of this kind folds.
-fn is_folded(kind: SyntaxKind) -> bool {
-    matches!(
-        kind,
-        SyntaxKind::STMT_LIST
-            | SyntaxKind::ITEM_LIST
-            | SyntaxKind::EXTERN_ITEM_LIST
-            | SyntaxKind::ASSOC_ITEM_LIST
-            | SyntaxKind::RECORD_FIELD_LIST
-            | SyntaxKind::TUPLE_FIELD_LIST
-            | SyntaxKind::VARIANT_LIST
-            | SyntaxKind::MATCH_ARM_LIST
-            | SyntaxKind::USE_TREE_LIST
-            | SyntaxKind::PARAM_LIST
-            | SyntaxKind::ARG_LIST
-            | SyntaxKind::RECORD_EXPR_FIELD_LIST
-            | SyntaxKind::RECORD_PAT_FIELD_LIST
-            | SyntaxKind::TOKEN_TREE
-            | SyntaxKind::COMMENT
-    )
+/// Adds what folds.
+fn push_fold(json: &mut String, document: &Document, fold: &Fold) -> Result<(), AllocError> {
+    let start = crate::json::position_of(document, fold.start);
+    let end = crate::json::position_of(document, fold.end);
+    let (first, from, last, to) = (start.line, start.character, end.line, end.character);
+    write!(json, "{{\"startLine\":{first},\"startCharacter\":{from}")?;
+    write!(json, ",\"endLine\":{last},\"endCharacter\":{to}")?;
+    json.push_str(match fold.kind {
+        FoldKind::Block => "}",
+        FoldKind::Comment => ",\"kind\":\"comment\"}",
+        FoldKind::Imports => ",\"kind\":\"imports\"}",
+    })?;
+    Ok(())
 }
 
-/// What folds: lists and comments over more than one line, in the order of their beginnings.
-pub fn folds(alloc: Global, document: &Document) -> Result<Value, AllocError> {
-    let mut list = Vec::new(alloc);
-    let Some(tree) = tree_of(alloc, document)? else {
-        return Ok(Value::Array(list));
-    };
-    for element in tree.elements() {
-        let first = document.position(element.start() as usize).line;
-        let last = document.position(element.end() as usize).line;
-        if first < last && is_folded(element.kind()) {
-            let from = first as u64;
-            let to = last as u64;
-            let one = if element.kind() == SyntaxKind::COMMENT {
-                json!(in alloc; {"startLine": from, "endLine": to, "kind": "comment"})?
-            } else {
-                json!(in alloc; {"startLine": from, "endLine": to})?
-            };
-            push(&mut list, one)?;
-        }
+/// What folds.
+pub fn folds(alloc: Global, analysis: &Analysis<'_>) -> Result<String, AllocError> {
+    let list = analysis.folds(alloc)?;
+    let mut json = String::from_str(alloc, "[")?;
+    let mut is_first = true;
+    for fold in list.as_slice() {
+        push_comma(&mut json, &mut is_first)?;
+        push_fold(&mut json, analysis.document(), fold)?;
     }
-    Ok(Value::Array(list))
+    json.push_str("]")?;
+    Ok(json)
 }
 
-// The elements that have the byte before an offset, or at it, from the innermost one to the root.
-fn covering(alloc: Global, tree: &FlatTree<'_>, offset: usize) -> Result<Vec<u32>, AllocError> {
-    let mut indices = Vec::new(alloc);
-    let found = match tree.leaf_at(offset) {
-        Some(index) => Some(index),
-        None => tree.leaf_at(offset.saturating_sub(1)),
-    };
-    let mut next = found;
-    for _ in 0..tree.elements().len() {
-        let Some(index) = next else {
-            break;
-        };
-        indices.push(index)?;
-        next = tree.parent(index);
-    }
-    Ok(indices)
-}
-
-fn selection(
-    alloc: Global,
+/// Adds ranges, each in the one after it.
+fn push_nested(
+    json: &mut String,
     document: &Document,
-    tree: &FlatTree<'_>,
-    offset: usize,
-) -> Result<Value, AllocError> {
-    let indices = covering(alloc, tree, offset)?;
-    let mut all = Value::Null;
-    let mut last: Option<(u32, u32)> = None;
-    for index in indices.iter().rev() {
-        if let Some(element) = tree.element(*index) {
-            let range = (element.start(), element.end());
-            if last != Some(range) {
-                let here = span(alloc, document, range.0 as usize, range.1 as usize)?;
-                all = if last.is_none() {
-                    json!(in alloc; {"range": here})?
-                } else {
-                    json!(in alloc; {"range": here, "parent": all})?
-                };
-                last = Some(range);
-            }
-        }
+    extents: &[Extent],
+) -> Result<(), AllocError> {
+    let mut before = "{\"range\":";
+    for extent in extents {
+        json.push_str(before)?;
+        push_range(json, document, extent.start, extent.end)?;
+        before = ",\"parent\":{\"range\":";
     }
-    if last.is_none() {
-        let here = span(alloc, document, offset, offset)?;
-        return json!(in alloc; {"range": here});
+    for _ in 0..extents.len() {
+        json.push_str("}")?;
     }
-    Ok(all)
+    Ok(())
 }
 
-/// For each position what may be selected around it, from the leaf to the whole text.
+/// What may be selected around each position. `None` if one of them is none of the document.
 pub fn selections(
     alloc: Global,
-    document: &Document,
+    analysis: &Analysis<'_>,
     positions: &[Position],
-) -> Result<Value, AllocError> {
-    let mut list = Vec::new(alloc);
-    let Some(tree) = tree_of(alloc, document)? else {
-        return Ok(Value::Null);
-    };
+) -> Result<Option<String>, AllocError> {
+    let mut json = String::from_str(alloc, "[")?;
+    let mut is_first = true;
     for position in positions {
-        let Some(offset) = document.offset(*position) else {
-            return Ok(Value::Null);
+        let Some(offset) = analysis.document().offset(*position) else {
+            return Ok(None);
         };
-        let one = selection(alloc, document, &tree, offset)?;
-        push(&mut list, one)?;
+        let extents = analysis.selection(alloc, offset)?;
+        push_comma(&mut json, &mut is_first)?;
+        push_nested(&mut json, analysis.document(), extents.as_slice())?;
     }
-    Ok(Value::Array(list))
+    json.push_str("]")?;
+    Ok(Some(json))
 }
 
-fn push_line(text: &mut String, tree: &FlatTree<'_>, depth: usize, element: &Element) -> Result<(), AllocError> {
-    for _ in 0..depth {
-        text.push_str("  ")?;
+/// What belongs together with what is at an offset.
+pub fn highlights(
+    alloc: Global,
+    analysis: &Analysis<'_>,
+    offset: usize,
+) -> Result<String, AllocError> {
+    let list = analysis.highlights(alloc, offset)?;
+    let mut json = String::from_str(alloc, "[")?;
+    let mut is_first = true;
+    for extent in list.as_slice() {
+        push_comma(&mut json, &mut is_first)?;
+        json.push_str("{\"range\":")?;
+        push_range(&mut json, analysis.document(), extent.start, extent.end)?;
+        json.push_str("}")?;
     }
-    let kind = element.kind().name();
-    let start = element.start();
-    let end = element.end();
-    write!(text, "{kind}@{start}..{end}")?;
-    if element.is_leaf() {
-        let own = &tree.text()[start as usize..end as usize];
-        write!(text, " {own:?}")?;
-    }
-    text.push_str("\n")
+    json.push_str("]")?;
+    Ok(json)
 }
 
-/// The tree as text, a line for each node and leaf with its place in bytes.
-pub fn tree(alloc: Global, document: &Document) -> Result<Value, AllocError> {
-    let mut text = String::new(alloc);
-    let Some(tree) = tree_of(alloc, document)? else {
-        return Ok(Value::Null);
-    };
-    let mut depths: Vec<usize> = Vec::new(alloc);
-    for element in tree.elements() {
-        let depth = if element.parent() == NO_PARENT {
-            0
-        } else {
-            depths
-                .get(element.parent() as usize)
-                .copied()
-                .unwrap_or(0)
-                .saturating_add(1)
-        };
-        depths.push(depth)?;
-        push_line(&mut text, &tree, depth, element)?;
+/// Adds the five numbers of a token.
+fn push_token(json: &mut String, token: &Delta) -> Result<(), AllocError> {
+    let Delta {
+        line,
+        start,
+        length,
+        kind,
+        modifiers,
+    } = token;
+    let kind = kind.number();
+    write!(json, "{line},{start},{length},{kind},{modifiers}")?;
+    Ok(())
+}
+
+/// Tokens as numbers.
+pub fn tokens(alloc: Global, list: &[Delta]) -> Result<String, AllocError> {
+    let mut json = String::from_str(alloc, "{\"data\":[")?;
+    let mut is_first = true;
+    for token in list {
+        push_comma(&mut json, &mut is_first)?;
+        push_token(&mut json, token)?;
     }
-    Ok(Value::String(text))
+    json.push_str("]}")?;
+    Ok(json)
+}
+
+/// The tree as text.
+pub fn tree(alloc: Global, analysis: &Analysis<'_>) -> Result<String, AllocError> {
+    let lines = tree_lines(alloc, analysis.tree())?;
+    let mut json = String::new(alloc);
+    push_string(alloc, &mut json, lines.as_str())?;
+    Ok(json)
 }

@@ -1,83 +1,116 @@
-//! Replies and notifications, and the errors of JSON-RPC.
-use serde_json::{Value, json};
+//! Replies and notifications of the server.
+use crate::json::push_string;
+use serde_json::Value;
 use std::alloc::{AllocError, Global};
-use std::io;
+use std::fmt::Write as _;
 
-/// The errors of JSON-RPC and of the protocol that are answered.
+/// Why a request has no result: the errors of JSON-RPC and of the protocol.
 #[derive(Clone, Copy, Debug, PartialEq, Eq)]
 pub enum Code {
+    /// The content of a message is no JSON, or its header is none.
     ParseError,
+    /// The content is no request, or none at this time.
     InvalidRequest,
+    /// The server has no such method.
     MethodNotFound,
+    /// The parameters are not those of the method.
     InvalidParams,
+    /// Out of memory.
     InternalError,
+    /// The request came before `initialize`.
     ServerNotInitialized,
 }
 
 impl Code {
     /// Its number.
-    pub fn number(self) -> i64 {
+    fn number(self) -> &'static str {
         match self {
-            Code::ParseError => -32700,
-            Code::InvalidRequest => -32600,
-            Code::MethodNotFound => -32601,
-            Code::InvalidParams => -32602,
-            Code::InternalError => -32603,
-            Code::ServerNotInitialized => -32002,
+            Code::ParseError => "-32700",
+            Code::InvalidRequest => "-32600",
+            Code::MethodNotFound => "-32601",
+            Code::InvalidParams => "-32602",
+            Code::InternalError => "-32603",
+            Code::ServerNotInitialized => "-32002",
         }
     }
+}
 
+/// What an error message says if memory ran out, and nothing more can be said.
+pub const OUT_OF_MEMORY: &str =
+    "{\"jsonrpc\":\"2.0\",\"id\":null,\"error\":{\"code\":-32603,\"message\":\"out of memory\"}}";
+
+/// An error with what it says.
+#[derive(Clone, Copy, Debug)]
+pub struct Fault {
+    /// Its code.
+    pub code: Code,
     /// What it says.
-    pub fn text(self) -> &'static str {
-        match self {
-            Code::ParseError => "the content is no JSON",
-            Code::InvalidRequest => "the content is no request",
-            Code::MethodNotFound => "no such method",
-            Code::InvalidParams => "the parameters are not those of the method",
-            Code::InternalError => "no memory",
-            Code::ServerNotInitialized => "the server is not initialized",
-        }
+    pub text: &'static str,
+}
+
+impl Fault {
+    /// Out of memory.
+    pub const NO_MEMORY: Fault = Fault {
+        code: Code::InternalError,
+        text: "out of memory",
+    };
+}
+
+impl From<AllocError> for Fault {
+    fn from(_error: AllocError) -> Fault {
+        Fault::NO_MEMORY
     }
 }
 
-// Writes a message with its header.
-fn send<W: io::Write>(alloc: Global, out: &mut W, message: &Value) -> io::Result<()> {
-    let text = message.to_string(alloc)?;
-    let framed = rast_frames::frame(alloc, text.as_str())?;
-    out.write_all(framed.as_bytes())?;
-    out.flush()
+/// What a reply begins with: the id of the request, or `null` if that cannot be told.
+fn begin(alloc: Global, id: Option<&Value>) -> Result<String, AllocError> {
+    let mut json = String::from_str(alloc, "{\"jsonrpc\":\"2.0\",\"id\":")?;
+    match id {
+        None => json.push_str("null")?,
+        Some(id) => {
+            let id = id.to_string(alloc)?;
+            json.push_str(id.as_str())?;
+        }
+    }
+    Ok(json)
 }
 
-/// Answers a request.
-pub fn result<W: io::Write>(
-    alloc: Global,
-    out: &mut W,
-    id: &Value,
-    result: Value,
-) -> io::Result<()> {
-    let message = json!(in alloc; {"jsonrpc": "2.0", "id": id, "result": result})?;
-    send(alloc, out, &message)
+/// The reply to a request with its result, a JSON text.
+pub fn success(alloc: Global, id: &Value, value: &str) -> Result<String, AllocError> {
+    let mut json = begin(alloc, Some(id))?;
+    json.push_str(",\"result\":")?;
+    json.push_str(value)?;
+    json.push_str("}")?;
+    Ok(json)
 }
 
-/// Answers a request by an error; `Null` stands for an id that is not known.
-pub fn error<W: io::Write>(alloc: Global, out: &mut W, id: &Value, code: Code) -> io::Result<()> {
-    let number = code.number();
-    let text = code.text();
-    let message = json!(in alloc; {
-        "jsonrpc": "2.0",
-        "id": id,
-        "error": {"code": number, "message": text}
-    })?;
-    send(alloc, out, &message)
+/// The reply to a request, or to a message that is none, with an error.
+pub fn error(alloc: Global, id: Option<&Value>, fault: Fault) -> Result<String, AllocError> {
+    let mut json = begin(alloc, id)?;
+    let number = fault.code.number();
+    write!(json, ",\"error\":{{\"code\":{number},\"message\":")?;
+    push_string(alloc, &mut json, fault.text)?;
+    json.push_str("}}")?;
+    Ok(json)
 }
 
-/// Sends a notification.
-pub fn notify<W: io::Write>(
-    alloc: Global,
-    out: &mut W,
-    method: &str,
-    params: Value,
-) -> io::Result<()> {
-    let message = json!(in alloc; {"jsonrpc": "2.0", "method": method, "params": params})?;
-    send(alloc, out, &message)
+/// A notification of a method with its parameters, a JSON text.
+pub fn notification(alloc: Global, method: &str, params: &str) -> Result<String, AllocError> {
+    let mut json = String::from_str(alloc, "{\"jsonrpc\":\"2.0\",\"method\":\"")?;
+    json.push_str(method)?;
+    json.push_str("\",\"params\":")?;
+    json.push_str(params)?;
+    json.push_str("}")?;
+    Ok(json)
+}
+
+/// The notification that a notification of the editor failed.
+pub fn log(alloc: Global, method: &str, fault: Fault) -> Result<String, AllocError> {
+    let mut text = String::from_str(alloc, method)?;
+    text.push_str(": ")?;
+    text.push_str(fault.text)?;
+    let mut params = String::from_str(alloc, "{\"type\":1,\"message\":")?;
+    push_string(alloc, &mut params, text.as_str())?;
+    params.push_str("}")?;
+    notification(alloc, "window/logMessage", params.as_str())
 }

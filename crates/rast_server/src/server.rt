@@ -1,25 +1,29 @@
 //! The state of the server, and what each message does to it.
-use crate::answers::{capabilities, chosen_encoding, diagnostics, folds, no_diagnostics, selections, tree};
-use crate::reply::{Code, error, notify, result};
-use rast_document::{Change, ChangeFault, Document, Encoding, Position, Span};
+use crate::answers::{folds, highlights, push_diagnostics, selections, symbols, tokens, tree};
+use crate::initialize::capabilities;
+use crate::json::push_string;
+use crate::message::{Message, classify};
+use crate::params::{
+    changes_in, encoding_of, position_in, positions_in, span_in, uri_of, version_of,
+};
+use crate::reply::{Code, Fault, error, log, notification, success};
+use ra_ap_parser::{Edition, NoMemory, TextFault};
+use rast_answers::{Analysis, Diagnostic};
+use rast_document::{ChangeFault, Document, Encoding};
 use serde_json::Value;
 use std::alloc::{AllocError, Global};
 use std::collections::BTreeMap;
-use std::io;
+use std::fmt::Write as _;
 
 /// How far the server has come.
 #[derive(Clone, Copy, Debug, PartialEq, Eq)]
 enum Stage {
+    /// It waits for `initialize`.
     Fresh,
+    /// It answers.
     Ready,
+    /// `shutdown` has come.
     ShutDown,
-}
-
-/// What is to come after a message.
-#[derive(Clone, Copy, Debug, PartialEq, Eq)]
-pub enum After {
-    Next,
-    Exit(u8),
 }
 
 /// A document that the editor has open.
@@ -37,55 +41,170 @@ pub struct Server {
     documents: BTreeMap<String, Opened>,
 }
 
-/// Why a message is not answered as it asks.
-enum Fault {
-    Known(Code),
-    Io(io::Error),
+/// What is sent for a message: JSON texts.
+#[derive(Drop)]
+pub enum Outcome {
+    /// Nothing.
+    Nothing,
+    /// The reply to a request, or to a message that is none.
+    Reply(String),
+    /// A notification.
+    Note(String),
+    /// Nothing, and the server ends with this status.
+    Exit(u8),
 }
 
-impl From<AllocError> for Fault {
-    fn from(_error: AllocError) -> Fault {
-        Fault::Known(Code::InternalError)
+/// A request that is none at this time.
+const NOT_NOW: Fault = Fault {
+    code: Code::InvalidRequest,
+    text: "not a request for this time",
+};
+
+/// The parameters of a method are wrong.
+const WRONG_PARAMS: Fault = Fault {
+    code: Code::InvalidParams,
+    text: "the parameters are not those of the method",
+};
+
+/// The document of a message is not open.
+const NOT_OPEN: Fault = Fault {
+    code: Code::InvalidParams,
+    text: "the document is not open",
+};
+
+/// A position or a range is none of the document.
+const NO_PLACE: Fault = Fault {
+    code: Code::InvalidParams,
+    text: "the position or range is none of the document",
+};
+
+/// Why a text has no tree.
+fn fault_of(fault: TextFault<NoMemory>) -> Fault {
+    match fault {
+        TextFault::TextTooLong => Fault {
+            code: Code::InternalError,
+            text: "text too long",
+        },
+        TextFault::TooManyTokens => Fault {
+            code: Code::InternalError,
+            text: "too many tokens",
+        },
+        TextFault::NoMemory | TextFault::Refused(_) => Fault::NO_MEMORY,
     }
 }
 
-impl From<io::Error> for Fault {
-    fn from(error: io::Error) -> Fault {
-        Fault::Io(error)
+/// The tree of a document.
+fn analysis_of(alloc: Global, document: &Document) -> Result<Analysis<'_>, Fault> {
+    match Analysis::of_document(alloc, Edition::CURRENT, document) {
+        Ok(analysis) => Ok(analysis),
+        Err(fault) => Err(fault_of(fault)),
     }
 }
 
-fn position_of(value: &Value) -> Option<Position> {
-    let line = value.get("line").and_then(Value::as_u64)?;
-    let character = value.get("character").and_then(Value::as_u64)?;
-    Some(Position {
-        line: line as usize,
-        character: character as usize,
-    })
+/// Adds the messages of a document, or the one that it has no tree.
+fn push_messages(alloc: Global, json: &mut String, document: &Document) -> Result<(), Fault> {
+    match Analysis::of_document(alloc, Edition::CURRENT, document) {
+        Ok(analysis) => {
+            let list = analysis.diagnostics(alloc)?;
+            push_diagnostics(alloc, json, document, list.as_slice())?;
+        }
+        Err(fault) => {
+            let fault = fault_of(fault);
+            if fault.text == Fault::NO_MEMORY.text {
+                return Err(fault);
+            }
+            let none = Diagnostic {
+                text: fault.text,
+                start: 0,
+                end: 0,
+            };
+            push_diagnostics(alloc, json, document, &[none])?;
+        }
+    }
+    Ok(())
 }
 
-fn span_of(value: &Value) -> Option<Span> {
-    let start = position_of(value.get("start")?)?;
-    let end = position_of(value.get("end")?)?;
-    Some(Span { start, end })
+/// The notification of a document's messages.
+fn published(alloc: Global, uri: &str, version: i64, document: &Document) -> Result<String, Fault> {
+    let mut json = String::from_str(alloc, "{\"uri\":")?;
+    push_string(alloc, &mut json, uri)?;
+    write!(json, ",\"version\":{version},\"diagnostics\":[").map_err(AllocError::from)?;
+    push_messages(alloc, &mut json, document)?;
+    json.push_str("]}")?;
+    Ok(notification(alloc, "textDocument/publishDiagnostics", json.as_str())?)
 }
 
-fn change_of(value: &Value) -> Option<Change<'_>> {
-    let text = value.get("text").and_then(Value::as_str)?;
-    match value.get("range") {
-        None => Some(Change { span: None, text }),
-        Some(range) => Some(Change {
-            span: Some(span_of(range)?),
-            text,
-        }),
+/// The notification that a document has no messages any more.
+fn withdrawn(alloc: Global, uri: &str) -> Result<String, Fault> {
+    let mut json = String::from_str(alloc, "{\"uri\":")?;
+    push_string(alloc, &mut json, uri)?;
+    json.push_str(",\"diagnostics\":[]}")?;
+    Ok(notification(alloc, "textDocument/publishDiagnostics", json.as_str())?)
+}
+
+/// What may be selected around the positions of a message.
+fn selected(alloc: Global, analysis: &Analysis<'_>, params: &Value) -> Result<String, Fault> {
+    let positions = positions_in(alloc, params)?.ok_or(WRONG_PARAMS)?;
+    selections(alloc, analysis, positions.as_slice())?.ok_or(NO_PLACE)
+}
+
+/// What belongs together with what is at the position of a message.
+fn highlighted(alloc: Global, analysis: &Analysis<'_>, params: &Value) -> Result<String, Fault> {
+    let place = params
+        .get("position")
+        .and_then(position_in)
+        .ok_or(WRONG_PARAMS)?;
+    let offset = analysis.document().offset(place).ok_or(NO_PLACE)?;
+    Ok(highlights(alloc, analysis, offset)?)
+}
+
+/// The tokens of the range of a message.
+fn tokens_of_range(
+    alloc: Global,
+    analysis: &Analysis<'_>,
+    params: &Value,
+) -> Result<String, Fault> {
+    let span = params.get("range").and_then(span_in).ok_or(WRONG_PARAMS)?;
+    let start = analysis.document().offset(span.start).ok_or(NO_PLACE)?;
+    let end = analysis.document().offset(span.end).ok_or(NO_PLACE)?;
+    let list = analysis.tokens_within(alloc, start, end)?;
+    Ok(tokens(alloc, list.as_slice())?)
+}
+
+/// The result of a request about a document.
+fn result_of(
+    alloc: Global,
+    document: &Document,
+    method: &str,
+    params: &Value,
+) -> Result<String, Fault> {
+    let analysis = analysis_of(alloc, document)?;
+    match method {
+        "textDocument/documentSymbol" => Ok(symbols(alloc, &analysis)?),
+        "textDocument/foldingRange" => Ok(folds(alloc, &analysis)?),
+        "textDocument/selectionRange" => selected(alloc, &analysis, params),
+        "textDocument/documentHighlight" => highlighted(alloc, &analysis, params),
+        "textDocument/semanticTokens/full" => {
+            let list = analysis.tokens(alloc)?;
+            Ok(tokens(alloc, list.as_slice())?)
+        }
+        "textDocument/semanticTokens/range" => tokens_of_range(alloc, &analysis, params),
+        _ => Ok(tree(alloc, &analysis)?),
     }
 }
 
-// The name of the document that a message is about.
-fn name_of(params: &Value) -> Option<&str> {
-    params
-        .pointer("/textDocument/uri")
-        .and_then(Value::as_str)
+/// Whether a method is a request about a document.
+fn is_known(method: &str) -> bool {
+    matches!(
+        method,
+        "textDocument/documentSymbol"
+            | "textDocument/foldingRange"
+            | "textDocument/selectionRange"
+            | "textDocument/documentHighlight"
+            | "textDocument/semanticTokens/full"
+            | "textDocument/semanticTokens/range"
+            | "rust-analyzer/viewSyntaxTree"
+    )
 }
 
 impl Server {
@@ -98,220 +217,160 @@ impl Server {
         }
     }
 
-    /// Answers a message.
-    pub fn answer<W: io::Write>(
-        &mut self,
-        alloc: Global,
-        content: &[u8],
-        out: &mut W,
-    ) -> io::Result<After> {
+    /// The status with which the server ends: 0 if `shutdown` has come.
+    pub fn status(&self) -> u8 {
+        if self.stage == Stage::ShutDown { 0 } else { 1 }
+    }
+
+    /// What is sent for a message. The error means that there is no memory even for the report of that.
+    pub fn answer(&mut self, alloc: Global, content: &[u8]) -> Result<Outcome, AllocError> {
         let message = match Value::from_slice(alloc, content) {
             Ok(message) => message,
-            Err(fault) => {
-                let code = if fault.is_memory() {
-                    Code::InternalError
-                } else {
-                    Code::ParseError
-                };
-                error(alloc, out, &Value::Null, code)?;
-                return Ok(After::Next);
-            }
+            Err(fault) => return unread(alloc, fault.is_memory()),
         };
-        let params = message.get("params").unwrap_or(&Value::Null);
-        match (
-            message.get("id"),
-            message.get("method").and_then(Value::as_str),
-        ) {
-            (Some(id), Some(method)) => {
-                match self.request(alloc, method, params) {
-                    Ok(value) => result(alloc, out, id, value)?,
-                    Err(Fault::Known(code)) => error(alloc, out, id, code)?,
-                    Err(Fault::Io(fault)) => return Err(fault),
-                }
-                Ok(After::Next)
+        let none = Value::Null;
+        let params = message.get("params").unwrap_or(&none);
+        match classify(&message) {
+            Message::Request { id, method } => self.reply(alloc, id, method, params),
+            Message::Notification { method } => self.take(alloc, method, params),
+            Message::Response => Ok(Outcome::Nothing),
+            Message::Invalid { id } => {
+                let fault = Fault {
+                    code: Code::InvalidRequest,
+                    text: "not a message of JSON-RPC 2.0",
+                };
+                Ok(Outcome::Reply(error(alloc, id, fault)?))
             }
-            (None, Some("exit")) => Ok(After::Exit(if self.stage == Stage::ShutDown {
-                0
-            } else {
-                1
-            })),
-            (None, Some(method)) => {
-                match self.notified(alloc, method, params, out) {
-                    Ok(()) => (),
-                    Err(Fault::Known(code)) => log(alloc, out, code)?,
-                    Err(Fault::Io(fault)) => return Err(fault),
-                }
-                Ok(After::Next)
-            }
-            (Some(id), None) => {
-                if message.get("result").is_none() && message.get("error").is_none() {
-                    error(alloc, out, id, Code::InvalidRequest)?;
-                }
-                Ok(After::Next)
-            }
-            (None, None) => {
-                error(alloc, out, &Value::Null, Code::InvalidRequest)?;
-                Ok(After::Next)
-            }
+        }
+    }
+
+    // The reply to a request.
+    fn reply(
+        &mut self,
+        alloc: Global,
+        id: &Value,
+        method: &str,
+        params: &Value,
+    ) -> Result<Outcome, AllocError> {
+        match self.request(alloc, method, params) {
+            Ok(text) => match success(alloc, id, text.as_str()) {
+                Ok(reply) => Ok(Outcome::Reply(reply)),
+                Err(_) => Ok(Outcome::Reply(error(alloc, Some(id), Fault::NO_MEMORY)?)),
+            },
+            Err(fault) => Ok(Outcome::Reply(error(alloc, Some(id), fault)?)),
         }
     }
 
     // The result of a request.
-    fn request(&mut self, alloc: Global, method: &str, params: &Value) -> Result<Value, Fault> {
-        if method == "initialize" {
-            if self.stage != Stage::Fresh {
-                return Err(Fault::Known(Code::InvalidRequest));
+    fn request(&mut self, alloc: Global, method: &str, params: &Value) -> Result<String, Fault> {
+        match (self.stage, method) {
+            (Stage::Fresh, "initialize") => {
+                let encoding = encoding_of(params);
+                let result = capabilities(alloc, encoding)?;
+                self.encoding = encoding;
+                self.stage = Stage::Ready;
+                Ok(result)
             }
-            self.encoding = chosen_encoding(params);
-            self.stage = Stage::Ready;
-            return Ok(capabilities(alloc, self.encoding)?);
+            (Stage::Fresh, _) => Err(Fault {
+                code: Code::ServerNotInitialized,
+                text: "the server is not initialized",
+            }),
+            (Stage::ShutDown, _) | (Stage::Ready, "initialize") => Err(NOT_NOW),
+            (Stage::Ready, "shutdown") => {
+                let result = String::from_str(alloc, "null")?;
+                self.stage = Stage::ShutDown;
+                Ok(result)
+            }
+            (Stage::Ready, _) => self.about_document(alloc, method, params),
         }
-        match self.stage {
-            Stage::Fresh => return Err(Fault::Known(Code::ServerNotInitialized)),
-            Stage::ShutDown => return Err(Fault::Known(Code::InvalidRequest)),
-            Stage::Ready => (),
-        }
-        if method == "shutdown" {
-            self.stage = Stage::ShutDown;
-            return Ok(Value::Null);
-        }
-        self.asked(alloc, method, params)
     }
 
     // The result of a request about a document.
-    fn asked(&self, alloc: Global, method: &str, params: &Value) -> Result<Value, Fault> {
-        let known = method == "textDocument/foldingRange"
-            || method == "textDocument/selectionRange"
-            || method == "rust-analyzer/viewSyntaxTree";
-        if !known {
-            return Err(Fault::Known(Code::MethodNotFound));
+    fn about_document(&self, alloc: Global, method: &str, params: &Value) -> Result<String, Fault> {
+        if !is_known(method) {
+            return Err(Fault {
+                code: Code::MethodNotFound,
+                text: "the server has no such method",
+            });
         }
-        let name = name_of(params).ok_or(Fault::Known(Code::InvalidParams))?;
-        let opened = self
-            .documents
-            .get(name)
-            .ok_or(Fault::Known(Code::InvalidParams))?;
-        let document = &opened.document;
-        match method {
-            "textDocument/foldingRange" => Ok(folds(alloc, document)?),
-            "textDocument/selectionRange" => {
-                let places = params
-                    .get("positions")
-                    .and_then(Value::as_array)
-                    .ok_or(Fault::Known(Code::InvalidParams))?;
-                let mut positions = Vec::new(alloc);
-                for place in places {
-                    let position =
-                        position_of(place).ok_or(Fault::Known(Code::InvalidParams))?;
-                    positions.push(position)?;
-                }
-                Ok(selections(alloc, document, positions.as_slice())?)
-            }
-            _ => Ok(tree(alloc, document)?),
-        }
+        let uri = uri_of(params).ok_or(WRONG_PARAMS)?;
+        let opened = self.documents.get(uri).ok_or(NOT_OPEN)?;
+        result_of(alloc, &opened.document, method, params)
     }
 
-    // What a notification does.
-    fn notified<W: io::Write>(
-        &mut self,
-        alloc: Global,
-        method: &str,
-        params: &Value,
-        out: &mut W,
-    ) -> Result<(), Fault> {
+    // What is sent for a notification.
+    fn take(&mut self, alloc: Global, method: &str, params: &Value) -> Result<Outcome, AllocError> {
+        if method == "exit" {
+            return Ok(Outcome::Exit(self.status()));
+        }
         if self.stage != Stage::Ready {
-            return Ok(());
+            return Ok(Outcome::Nothing);
         }
-        match method {
-            "textDocument/didOpen" => self.opened(alloc, params, out),
-            "textDocument/didChange" => self.changed(alloc, params, out),
-            "textDocument/didClose" => self.closed(alloc, params, out),
-            _ => Ok(()),
+        let note = match method {
+            "textDocument/didOpen" => self.open(alloc, params),
+            "textDocument/didChange" => self.change(alloc, params),
+            "textDocument/didClose" => self.close(alloc, params),
+            _ => return Ok(Outcome::Nothing),
+        };
+        match note {
+            Ok(note) => Ok(Outcome::Note(note)),
+            Err(fault) => Ok(Outcome::Note(log(alloc, method, fault)?)),
         }
     }
 
-    fn opened<W: io::Write>(
-        &mut self,
-        alloc: Global,
-        params: &Value,
-        out: &mut W,
-    ) -> Result<(), Fault> {
-        let wrong = Fault::Known(Code::InvalidParams);
-        let (Some(name), Some(version), Some(text)) = (
-            name_of(params),
-            params
-                .pointer("/textDocument/version")
-                .and_then(Value::as_i64),
-            params.pointer("/textDocument/text").and_then(Value::as_str),
-        ) else {
-            return Err(wrong);
-        };
-        let document = Document::new(alloc, self.encoding, String::from_str(alloc, text)?)?;
-        let shown = diagnostics(alloc, name, version, &document)?;
-        let key = String::from_str(alloc, name)?;
-        let opened = Opened { version, document };
-        if self.documents.insert(key, opened).is_err() {
-            return Err(Fault::Known(Code::InternalError));
-        }
-        notify(alloc, out, "textDocument/publishDiagnostics", shown)?;
-        Ok(())
-    }
-
-    fn changed<W: io::Write>(
-        &mut self,
-        alloc: Global,
-        params: &Value,
-        out: &mut W,
-    ) -> Result<(), Fault> {
-        let (Some(name), Some(version), Some(list)) = (
-            name_of(params),
-            params
-                .pointer("/textDocument/version")
-                .and_then(Value::as_i64),
-            params.get("contentChanges").and_then(Value::as_array),
-        ) else {
-            return Err(Fault::Known(Code::InvalidParams));
-        };
-        let mut changes = Vec::new(alloc);
-        for value in list {
-            let change = change_of(value).ok_or(Fault::Known(Code::InvalidParams))?;
-            changes.push(change)?;
-        }
-        let opened = self
+    fn open(&mut self, alloc: Global, params: &Value) -> Result<String, Fault> {
+        let uri = uri_of(params).ok_or(WRONG_PARAMS)?;
+        let version = version_of(params).ok_or(WRONG_PARAMS)?;
+        let text = params
+            .pointer("/textDocument/text")
+            .and_then(Value::as_str)
+            .ok_or(WRONG_PARAMS)?;
+        let text = String::from_str(alloc, text)?;
+        let document = Document::new(alloc, self.encoding, text)?;
+        let key = String::from_str(alloc, uri)?;
+        let note = published(alloc, uri, version, &document)?;
+        if self
             .documents
-            .get_mut(name)
-            .ok_or(Fault::Known(Code::InvalidParams))?;
+            .insert(key, Opened { version, document })
+            .is_err()
+        {
+            return Err(Fault::NO_MEMORY);
+        }
+        Ok(note)
+    }
+
+    fn change(&mut self, alloc: Global, params: &Value) -> Result<String, Fault> {
+        let uri = uri_of(params).ok_or(WRONG_PARAMS)?;
+        let version = version_of(params).ok_or(WRONG_PARAMS)?;
+        let changes = changes_in(alloc, params)?.ok_or(WRONG_PARAMS)?;
+        let opened = self.documents.get_mut(uri).ok_or(NOT_OPEN)?;
         match opened.document.change(alloc, changes.as_slice()) {
             Ok(()) => (),
-            Err(ChangeFault::NoRange) => return Err(Fault::Known(Code::InvalidParams)),
-            Err(ChangeFault::NoMemory) => return Err(Fault::Known(Code::InternalError)),
+            Err(ChangeFault::NoRange) => return Err(NO_PLACE),
+            Err(ChangeFault::NoMemory) => return Err(Fault::NO_MEMORY),
         }
         opened.version = version;
-        let shown = diagnostics(alloc, name, version, &opened.document)?;
-        notify(alloc, out, "textDocument/publishDiagnostics", shown)?;
-        Ok(())
+        published(alloc, uri, version, &opened.document)
     }
 
-    fn closed<W: io::Write>(
-        &mut self,
-        alloc: Global,
-        params: &Value,
-        out: &mut W,
-    ) -> Result<(), Fault> {
-        let Some(name) = name_of(params) else {
-            return Err(Fault::Known(Code::InvalidParams));
-        };
-        if self.documents.remove(name).is_some() {
-            let shown = no_diagnostics(alloc, name)?;
-            notify(alloc, out, "textDocument/publishDiagnostics", shown)?;
+    fn close(&mut self, alloc: Global, params: &Value) -> Result<String, Fault> {
+        let uri = uri_of(params).ok_or(WRONG_PARAMS)?;
+        if self.documents.remove(uri).is_none() {
+            return Err(NOT_OPEN);
         }
-        Ok(())
+        withdrawn(alloc, uri)
     }
 }
 
-// Tells the editor that a notification failed.
-fn log<W: io::Write>(alloc: Global, out: &mut W, code: Code) -> io::Result<()> {
-    let text = code.text();
-    let params = serde_json::json!(in alloc; {"type": 1, "message": text})?;
-    notify(alloc, out, "window/logMessage", params)
+// What is sent for a content that is no JSON, or that memory ran out for.
+fn unread(alloc: Global, is_memory: bool) -> Result<Outcome, AllocError> {
+    let fault = if is_memory {
+        Fault::NO_MEMORY
+    } else {
+        Fault {
+            code: Code::ParseError,
+            text: "the content is no JSON in UTF-8",
+        }
+    };
+    Ok(Outcome::Reply(error(alloc, None, fault)?))
 }
