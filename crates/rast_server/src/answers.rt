@@ -1,8 +1,8 @@
 //! The answers about a document, as JSON texts.
-use crate::json::{push_comma, push_range, push_string};
 use crate::tree::tree_lines;
 use rast_answers::{Analysis, Delta, Diagnostic, Extent, Fold, FoldKind, Symbol};
 use rast_document::{Document, Position};
+use rast_messages::{position_of, push_comma, push_range, push_string};
 use std::alloc::{AllocError, Global};
 use std::fmt::Write as _;
 
@@ -98,8 +98,8 @@ pub fn symbols(alloc: Global, analysis: &Analysis<'_>) -> Result<String, AllocEr
 
 /// Adds what folds.
 fn push_fold(json: &mut String, document: &Document, fold: &Fold) -> Result<(), AllocError> {
-    let start = crate::json::position_of(document, fold.start);
-    let end = crate::json::position_of(document, fold.end);
+    let start = position_of(document, fold.start);
+    let end = position_of(document, fold.end);
     let (first, from, last, to) = (start.line, start.character, end.line, end.character);
     write!(json, "{{\"startLine\":{first},\"startCharacter\":{from}")?;
     write!(json, ",\"endLine\":{last},\"endCharacter\":{to}")?;

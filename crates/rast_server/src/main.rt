@@ -3,10 +3,6 @@
 
 mod answers;
 mod initialize;
-mod json;
-mod message;
-mod params;
-mod reply;
 mod run;
 mod server;
 mod tree;

@@ -1,8 +1,8 @@
 //! All that the program does: it reads a message, answers it, and reads the next.
-use crate::reply::{Code, Fault, OUT_OF_MEMORY, error};
 use crate::server::{Outcome, Server};
 use rast_common::fault::report;
 use rast_frames::{Frames, Front, HeaderFault, write_frame};
+use rast_messages::{Code, Fault, OUT_OF_MEMORY, error};
 use std::alloc::{AllocError, Global};
 use std::io;
 

@@ -1,15 +1,13 @@
 //! The state of the server, and what each message does to it.
 use crate::answers::{folds, highlights, push_diagnostics, selections, symbols, tokens, tree};
 use crate::initialize::capabilities;
-use crate::json::push_string;
-use crate::message::{Message, classify};
-use crate::params::{
-    changes_in, encoding_of, position_in, positions_in, span_in, uri_of, version_of,
-};
-use crate::reply::{Code, Fault, error, log, notification, success};
 use ra_ap_parser::{Edition, NoMemory, TextFault};
 use rast_answers::{Analysis, Diagnostic};
 use rast_document::{ChangeFault, Document, Encoding};
+use rast_messages::{
+    Code, Fault, Message, changes_in, classify, encoding_of, error, log, notification, position_in,
+    positions_in, push_string, span_in, success, uri_of, version_of,
+};
 use serde_json::Value;
 use std::alloc::{AllocError, Global};
 use std::collections::BTreeMap;

@@ -1,6 +1,5 @@
 //! The tree of a document as text.
 use flat_tree::{Element, FlatTree};
-use rast_common::message::push_message;
 use rast_common::quote::push_quoted;
 use std::alloc::{AllocError, Global};
 use std::fmt::Write as _;
@@ -45,12 +44,9 @@ fn push_elements(alloc: Global, lines: &mut String, tree: &FlatTree<'_>) -> Resu
     Ok(())
 }
 
-/// The lines of a tree with the place of each node and leaf, and those of its messages. The error means out of memory.
+/// The lines of a tree with the place of each node and leaf. The error means out of memory.
 pub fn tree_lines(alloc: Global, tree: &FlatTree<'_>) -> Result<String, AllocError> {
     let mut lines = String::new(alloc);
     push_elements(alloc, &mut lines, tree)?;
-    'messages: for message in tree.messages() {
-        push_message(&mut lines, message.position(), message.text())?;
-    }
     Ok(lines)
 }

@@ -1,4 +1,10 @@
 //! Replies and notifications of the server.
+ghost use Rattle.std.specs.Prelude.{◌≡◌, ◌++◌, false, IfOk, MatchOption, codes, string_bytes};
+ghost use Rattle.serde_json.specs.Data.{null};
+ghost use Rattle.serde_json.specs.View.{view};
+ghost use Rattle.serde_json.specs.Written.{has_float};
+ghost use Rattle.rast_messages.specs.Replies.{begun, error_text, notification_text, number_of, string_text, success_text};
+
 use crate::json::push_string;
 use serde_json::Value;
 use std::alloc::{AllocError, Global};
@@ -23,7 +29,9 @@ pub enum Code {
 
 impl Code {
     /// Its number.
-    fn number(self) -> &'static str {
+    fn number(self) -> &'static str
+        ensures { result.now ≡ number_of self }
+    {
         match self {
             Code::ParseError => "-32700",
             Code::InvalidRequest => "-32600",
@@ -57,13 +65,20 @@ impl Fault {
 }
 
 impl From<AllocError> for Fault {
+    ghost use Rattle.rast_messages.specs.declared.reply.Fault.TheConstants.{NO_MEMORY};
+
+    ghost from_gives = { λ _ fault. fault ≡ NO_MEMORY };
+
     fn from(_error: AllocError) -> Fault {
         Fault::NO_MEMORY
     }
 }
 
 /// What a reply begins with: the id of the request, or `null` if that cannot be told.
-fn begin(alloc: Global, id: Option<&Value>) -> Result<String, AllocError> {
+fn begin(alloc: Global, id: Option<&Value>) -> Result<String, AllocError>
+    ensures { IfOk result (λ json. MatchOption id (string_bytes json ≡ begun null)
+        (λ id. has_float (view id.now) ≡ false → string_bytes json ≡ begun (view id.now))) }
+{
     let mut json = String::from_str(alloc, "{\"jsonrpc\":\"2.0\",\"id\":")?;
     match id {
         None => json.push_str("null")?,
@@ -76,7 +91,10 @@ fn begin(alloc: Global, id: Option<&Value>) -> Result<String, AllocError> {
 }
 
 /// The reply to a request with its result, a JSON text.
-pub fn success(alloc: Global, id: &Value, value: &str) -> Result<String, AllocError> {
+pub fn success(alloc: Global, id: &Value, value: &str) -> Result<String, AllocError>
+    ensures { IfOk result (λ json. has_float (view id.now) ≡ false
+        → string_bytes json ≡ success_text (view id.now) value.now) }
+{
     let mut json = begin(alloc, Some(id))?;
     json.push_str(",\"result\":")?;
     json.push_str(value)?;
@@ -85,7 +103,10 @@ pub fn success(alloc: Global, id: &Value, value: &str) -> Result<String, AllocEr
 }
 
 /// The reply to a request, or to a message that is none, with an error.
-pub fn error(alloc: Global, id: Option<&Value>, fault: Fault) -> Result<String, AllocError> {
+pub fn error(alloc: Global, id: Option<&Value>, fault: Fault) -> Result<String, AllocError>
+    ensures { IfOk result (λ json. MatchOption id (string_bytes json ≡ error_text null fault)
+        (λ id. has_float (view id.now) ≡ false → string_bytes json ≡ error_text (view id.now) fault)) }
+{
     let mut json = begin(alloc, id)?;
     let number = fault.code.number();
     write!(json, ",\"error\":{{\"code\":{number},\"message\":")?;
@@ -95,7 +116,9 @@ pub fn error(alloc: Global, id: Option<&Value>, fault: Fault) -> Result<String, 
 }
 
 /// A notification of a method with its parameters, a JSON text.
-pub fn notification(alloc: Global, method: &str, params: &str) -> Result<String, AllocError> {
+pub fn notification(alloc: Global, method: &str, params: &str) -> Result<String, AllocError>
+    ensures { IfOk result (λ json. string_bytes json ≡ notification_text method.now params.now) }
+{
     let mut json = String::from_str(alloc, "{\"jsonrpc\":\"2.0\",\"method\":\"")?;
     json.push_str(method)?;
     json.push_str("\",\"params\":")?;
@@ -105,7 +128,10 @@ pub fn notification(alloc: Global, method: &str, params: &str) -> Result<String,
 }
 
 /// The notification that a notification of the editor failed.
-pub fn log(alloc: Global, method: &str, fault: Fault) -> Result<String, AllocError> {
+pub fn log(alloc: Global, method: &str, fault: Fault) -> Result<String, AllocError>
+    ensures { IfOk result (λ json. string_bytes json ≡ notification_text (codes "window/logMessage")
+        (codes "{\"type\":1,\"message\":" ++ (string_text (method.now ++ (codes ": " ++ fault.text.now)) ++ codes "}"))) }
+{
     let mut text = String::from_str(alloc, method)?;
     text.push_str(": ")?;
     text.push_str(fault.text)?;

@@ -1,4 +1,8 @@
 //! What a message is, by JSON-RPC.
+ghost use Rattle.std.specs.Prelude.{◌≡◌, option_map};
+ghost use Rattle.serde_json.specs.View.{view};
+ghost use Rattle.rast_messages.specs.Messages.{Classifies, id_in, is_id};
+
 use serde_json::Value;
 
 /// A message.
@@ -14,18 +18,31 @@ pub enum Message<'a> {
     Invalid { id: Option<&'a Value> },
 }
 
-/// The id of a message, if it is a string or an integer.
-fn id_of(message: &Value) -> Option<&Value> {
-    let id = message.get("id")?;
-    if id.is_string() || id.is_i64() || id.is_u64() {
-        Some(id)
-    } else {
-        None
+/// Whether a value is an id: a string or an integer.
+fn is_id(value: &Value) -> bool
+    ensures { result ≡ is_id (view value.now) }
+{
+    match value {
+        Value::String(_) => true,
+        Value::Number(number) => !number.is_f64(),
+        _ => false,
+    }
+}
+
+/// The id of a message, if it is one.
+fn id_of(message: &Value) -> Option<&Value>
+    ensures { option_map (λ v. view v.now) result ≡ id_in (view message.now) }
+{
+    match message.get("id") {
+        Some(id) => if is_id(id) { Some(id) } else { None },
+        None => None,
     }
 }
 
 /// What a message is.
-pub fn classify(message: &Value) -> Message<'_> {
+pub fn classify(message: &Value) -> Message<'_>
+    ensures { Classifies (view message.now) result }
+{
     let id = id_of(message);
     if message.get("jsonrpc").and_then(Value::as_str) != Some("2.0") {
         return Message::Invalid { id };

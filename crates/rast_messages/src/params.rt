@@ -1,4 +1,9 @@
 //! What the parameters of a message say.
+ghost use Rattle.std.specs.Prelude.{◌≡◌, option_and_then};
+ghost use Rattle.serde_json.specs.Find.{as_number, as_u64};
+ghost use Rattle.serde_json.specs.View.{view};
+ghost use Rattle.rast_messages.specs.Places.{position_in, span_in};
+
 use rast_document::{Change, Encoding, Position, Span};
 use serde_json::Value;
 use std::alloc::{AllocError, Global};
@@ -41,26 +46,30 @@ pub fn version_of(params: &Value) -> Option<i64> {
         .and_then(Value::as_i64)
 }
 
-/// A number of lines or units. One that no text is long enough for stands for the greatest.
-fn count_of(value: &Value) -> Option<usize> {
+/// A number of lines or units.
+fn count_of(value: &Value) -> Option<usize>
+    ensures { result ≡ option_and_then as_u64 (as_number (view value.now)) }
+{
     let count = value.as_u64()?;
     Some(count as usize)
 }
 
 /// A position.
-pub fn position_in(value: &Value) -> Option<Position> {
-    Some(Position {
-        line: value.get("line").and_then(count_of)?,
-        character: value.get("character").and_then(count_of)?,
-    })
+pub fn position_in(value: &Value) -> Option<Position>
+    ensures { result ≡ position_in (view value.now) }
+{
+    let line = count_of(value.get("line")?)?;
+    let character = count_of(value.get("character")?)?;
+    Some(Position { line, character })
 }
 
 /// A range.
-pub fn span_in(value: &Value) -> Option<Span> {
-    Some(Span {
-        start: value.get("start").and_then(position_in)?,
-        end: value.get("end").and_then(position_in)?,
-    })
+pub fn span_in(value: &Value) -> Option<Span>
+    ensures { result ≡ span_in (view value.now) }
+{
+    let start = position_in(value.get("start")?)?;
+    let end = position_in(value.get("end")?)?;
+    Some(Span { start, end })
 }
 
 /// A change: of a range, or of the whole text if there is none.

@@ -1,0 +1,13 @@
+//! Messages of JSON-RPC 2.0 as the Language Server Protocol has them: what a message is and what its parameters say, and
+//! the replies and notifications that a server sends, written piece by piece, so that deeply nested ones take no stack.
+#![tactic(auto)]
+
+mod json;
+mod message;
+mod params;
+mod reply;
+
+pub use json::{position_of, push_comma, push_range, push_string};
+pub use message::{Message, classify};
+pub use params::{changes_in, encoding_of, position_in, positions_in, span_in, uri_of, version_of};
+pub use reply::{Code, Fault, OUT_OF_MEMORY, error, log, notification, success};
