@@ -1,8 +1,13 @@
 //! Frames by worked examples: headers in each form, faults, and a stream that comes a byte at a time.
+ghost use Rattle.std.specs.Prelude.{IfOk};
+ghost use Rattle.rast_frames.specs.Fronts.{Fronts};
+ghost use Rattle.rast_frames.specs.Stream.{waiting};
+
 use crate::frames::Frames;
 use crate::front::{Front, front_of};
 use crate::header::{HeaderFault, MAX_HEADER};
 use crate::write::write_frame;
+use std::alloc::AllocError;
 use std::test::Fail;
 
 fn front(text: &str) -> Front {
@@ -79,6 +84,24 @@ fn is_lost_after_a_long_header(rt: HostRuntime) -> Result<(), Fail> {
     Ok(())
 }
 
+// Adds what stands at the front.
+fn push_front(read: &mut String, frames: &Frames, limit: usize) -> Result<Front, AllocError>
+    ensures { IfOk result (Fronts limit (waiting frames.now).bytes) }
+{
+    let front = frames.front(limit);
+    match front {
+        Front::Part | Front::Lost => (),
+        Front::Message { start, end } => {
+            for byte in frames.content(start, end) {
+                read.push(char::from(*byte))?;
+            }
+        }
+        Front::TooLong { .. } => read.push_str(" long ")?,
+        Front::Wrong { .. } => read.push_str("wrong ")?,
+    }
+    Ok(front)
+}
+
 // Two messages, a content that is left out and a header that is none between them, a byte at a time.
 #[test]
 fn reads_a_byte_at_a_time(rt: HostRuntime) -> Result<(), Fail> {
@@ -90,17 +113,7 @@ fn reads_a_byte_at_a_time(rt: HostRuntime) -> Result<(), Fail> {
     let mut read = String::new(rt.alloc());
     for byte in stream.as_slice() {
         frames.push(&[*byte])?;
-        let front = frames.front(8);
-        match front {
-            Front::Part | Front::Lost => (),
-            Front::Message { start, end } => {
-                for byte in frames.content(start, end) {
-                    read.push(char::from(*byte))?;
-                }
-            }
-            Front::TooLong { .. } => read.push_str(" long ")?,
-            Front::Wrong { .. } => read.push_str("wrong ")?,
-        }
+        let front = push_front(&mut read, &frames, 8)?;
         frames.pass(front);
     }
     assert_eq!(rt; read.as_str(), "first long wrong last");
