@@ -76,7 +76,7 @@ impl From<AllocError> for Fault {
 
 /// What a reply begins with: the id of the request, or `null` if that cannot be told.
 fn begin(alloc: Global, id: Option<&Value>) -> Result<String, AllocError>
-    ensures { IfOk result (λ json. MatchOption id (string_bytes json ≡ begun null)
+    ensures { IfOk result (λ json. MatchOption id.entry (string_bytes json ≡ begun null)
         (λ id. has_float (view id.now) ≡ false → string_bytes json ≡ begun (view id.now))) }
 {
     let mut json = String::from_str(alloc, "{\"jsonrpc\":\"2.0\",\"id\":")?;
@@ -104,7 +104,7 @@ pub fn success(alloc: Global, id: &Value, value: &str) -> Result<String, AllocEr
 
 /// The reply to a request, or to a message that is none, with an error.
 pub fn error(alloc: Global, id: Option<&Value>, fault: Fault) -> Result<String, AllocError>
-    ensures { IfOk result (λ json. MatchOption id (string_bytes json ≡ error_text null fault)
+    ensures { IfOk result (λ json. MatchOption id.entry (string_bytes json ≡ error_text null fault)
         (λ id. has_float (view id.now) ≡ false → string_bytes json ≡ error_text (view id.now) fault)) }
 {
     let mut json = begin(alloc, id)?;
