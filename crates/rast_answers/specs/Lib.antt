@@ -1,0 +1,17 @@
+pub mod Borders
+pub mod Comments
+pub mod Deltas
+pub mod Diagnostics
+pub mod Extents
+pub mod Folds
+pub mod Gaps
+pub mod Imports
+pub mod Kinds
+pub mod Nesting
+pub mod Rows
+pub mod Selections
+pub mod SymbolTable
+pub mod Symbols
+pub mod TokenOrder
+pub mod TokenTable
+pub mod Tokens

@@ -1,4 +1,7 @@
 //! Tokens as numbers, each relative to the one before.
+ghost use Rattle.std.specs.Prelude.{◌≡◌, IfOk};
+ghost use Rattle.rast_answers.specs.Deltas.{AreInOrder, decoded, deltas_from, seen_from};
+
 use crate::token_kind::TokenKind;
 use crate::tokens::Token;
 use std::alloc::{AllocError, Global};
@@ -20,7 +23,9 @@ pub struct Delta {
 }
 
 /// A token as seen from a line and a place in it.
-fn seen_from(line: usize, start: usize, token: &Token) -> Delta {
+fn seen_from(line: usize, start: usize, token: &Token) -> Delta
+    ensures { result ≡ seen_from line start token.now }
+{
     let from = if token.line == line { start } else { 0 };
     Delta {
         line: token.line.saturating_sub(line),
@@ -31,12 +36,15 @@ fn seen_from(line: usize, start: usize, token: &Token) -> Delta {
     }
 }
 
-/// Tokens, each as seen from the one before, the first one from the start of the text.
-pub(crate) fn deltas(alloc: Global, tokens: &[Token]) -> Result<Vec<Delta>, AllocError> {
+/// Tokens, each as seen from the one before, the first one from the start of the text. The error means out of memory.
+pub(crate) fn deltas(alloc: Global, tokens: &[Token]) -> Result<Vec<Delta>, AllocError>
+    ensures value { IfOk result (λ list. list.items ≡ deltas_from 0 0 tokens.now) }
+    ensures decoded { IfOk result (λ list. AreInOrder 0 0 tokens.now → decoded 0 0 list.items ≡ tokens.now) }
+{
     let mut list = Vec::with_capacity(alloc, tokens.len())?;
     let mut line = 0;
     let mut start = 0;
-    for token in tokens {
+    'tokens: for token in tokens {
         list.push(seen_from(line, start, token))?;
         line = token.line;
         start = token.start;

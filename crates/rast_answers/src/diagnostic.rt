@@ -1,5 +1,8 @@
 //! Diagnostics: the messages of a tree.
-use flat_tree::FlatTree;
+ghost use Rattle.std.specs.Prelude.{◌≡◌, IfOk, map};
+ghost use Rattle.rast_answers.specs.Diagnostics.{said, shown};
+
+use flat_tree::Message;
 use std::alloc::{AllocError, Global};
 
 /// A message about a text, and the range that it is about.
@@ -13,19 +16,28 @@ pub struct Diagnostic<'t> {
     pub end: usize,
 }
 
-/// The messages of a tree. The error means out of memory.
-pub(crate) fn diagnostics<'t>(
+/// A message with its range.
+fn diagnostic_of(message: &Message) -> Diagnostic<'_>
+    ensures { shown result ≡ said message.now }
+{
+    let range = message.range();
+    Diagnostic {
+        text: message.text(),
+        start: range.start,
+        end: range.end,
+    }
+}
+
+/// Messages with their ranges, in their order. The error means out of memory.
+pub(crate) fn diagnostics(
     alloc: Global,
-    tree: &'t FlatTree<'_>,
-) -> Result<Vec<Diagnostic<'t>>, AllocError> {
+    messages: &[Message],
+) -> Result<Vec<Diagnostic<'_>>, AllocError>
+    ensures { IfOk result (λ list. map shown list.items ≡ map said messages.now) }
+{
     let mut list = Vec::new(alloc);
-    for message in tree.messages() {
-        let range = message.range();
-        list.push(Diagnostic {
-            text: message.text(),
-            start: range.start,
-            end: range.end,
-        })?;
+    'messages: for message in messages {
+        list.push(diagnostic_of(message))?;
     }
     Ok(list)
 }

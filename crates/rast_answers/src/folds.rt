@@ -1,9 +1,15 @@
 //! Folds: what stands over more than one line.
+ghost use Rattle.std.specs.Prelude.{◌≡◌, ◌<◌, IfOk, length, string_bytes};
+ghost use Rattle.std.specs.List.{slice_get};
+ghost use Rattle.rast_answers.specs.Folds.{fold_at, fold_of, folds_of, is_folded};
+
 use crate::comments::last_of_comments;
 use crate::imports::last_of_imports;
 use crate::kinds::kind_at;
+use crate::lines::line_of;
+use crate::lists::push_option;
 use flat_tree::Element;
-use ra_ap_parser::SyntaxKind;
+use rap_base::syntax_kind::SyntaxKind;
 use rast_document::Document;
 use std::alloc::{AllocError, Global};
 
@@ -30,7 +36,9 @@ pub struct Fold {
 }
 
 /// Whether nodes of this kind fold: blocks, and lists in brackets.
-fn is_folded(kind: SyntaxKind) -> bool {
+fn is_folded(kind: SyntaxKind) -> bool
+    ensures { result ≡ is_folded kind }
+{
     matches!(
         kind,
         SyntaxKind::STMT_LIST
@@ -53,41 +61,54 @@ fn is_folded(kind: SyntaxKind) -> bool {
     )
 }
 
-/// If the element with this index begins something that may fold, what it is, and the index of its last element.
-fn folded(document: &Document, elements: &[Element], index: usize) -> Option<(FoldKind, usize)> {
-    if is_folded(kind_at(elements, index)) {
-        return Some((FoldKind::Block, index));
-    }
-    if let Some(last) = last_of_comments(document, elements, index) {
-        return Some((FoldKind::Comment, last));
-    }
-    let last = last_of_imports(document, elements, index)?;
-    Some((FoldKind::Imports, last))
-}
-
-/// The fold that begins with the element with this index, if it stands over more than one line.
-fn fold_at(document: &Document, elements: &[Element], index: usize) -> Option<Fold> {
-    let (kind, last) = folded(document, elements, index)?;
-    let start = elements.get(index)?.start() as usize;
+/// The range from an element to another, if it is over more than one line.
+fn fold_from(
+    document: &Document,
+    elements: &[Element],
+    kind: FoldKind,
+    first: usize,
+    last: usize,
+) -> Option<Fold>
+    ensures { result ≡ fold_of (string_bytes document.now.text) kind (slice_get elements.now first) (slice_get elements.now last) }
+{
+    let start = elements.get(first)?.start() as usize;
     let end = elements.get(last)?.end() as usize;
-    if document.position(start).line < document.position(end).line {
+    if line_of(document, start) < line_of(document, end) {
         Some(Fold { kind, start, end })
     } else {
         None
     }
 }
 
-/// What folds, in the order of the text.
+/// The fold that begins with the element with this index.
+fn fold_at(document: &Document, elements: &[Element], index: usize) -> Option<Fold>
+    requires { index < length elements.now }
+    ensures { result ≡ fold_at (string_bytes document.now.text) elements.now index }
+{
+    if is_folded(kind_at(elements, index)) {
+        return fold_from(document, elements, FoldKind::Block, index, index);
+    }
+    if let Some(last) = last_of_comments(document, elements, index) {
+        return fold_from(document, elements, FoldKind::Comment, index, last);
+    }
+    if let Some(last) = last_of_imports(document, elements, index) {
+        return fold_from(document, elements, FoldKind::Imports, index, last);
+    }
+    None
+}
+
+/// What folds, in the order of the text. The error means out of memory.
+#[tactic(auto, using(crate::proofs::RowLaws::filter_map_next))]
 pub(crate) fn folds(
     alloc: Global,
     document: &Document,
     elements: &[Element],
-) -> Result<Vec<Fold>, AllocError> {
+) -> Result<Vec<Fold>, AllocError>
+    ensures { IfOk result (λ list. list.items ≡ folds_of (string_bytes document.now.text) elements.now) }
+{
     let mut list = Vec::new(alloc);
     for index in 0..elements.len() {
-        if let Some(fold) = fold_at(document, elements, index) {
-            list.push(fold)?;
-        }
+        push_option(&mut list, fold_at(document, elements, index))?;
     }
     Ok(list)
 }

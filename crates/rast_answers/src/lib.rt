@@ -1,4 +1,4 @@
-//! What an editor is answered about a document: diagnostics, symbols, folds, selections, tokens, highlights.
+//! What an editor is answered about a document: diagnostics, symbols, folds, selections, tokens.
 //!
 //! [`Analysis::of_document`] parses a document; each of its other methods makes one answer, in byte offsets of the text
 //! on character boundaries. Only the tokens are in positions of the document, since their numbers are.
@@ -10,10 +10,13 @@ mod deltas;
 mod diagnostic;
 mod extent;
 mod folds;
-mod highlights;
 mod imports;
-mod jumps;
 mod kinds;
+pub mod laws;
+mod lines;
+mod lists;
+mod places;
+mod rows;
 mod selection;
 mod symbol_kind;
 mod symbols;

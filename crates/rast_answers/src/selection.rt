@@ -1,43 +1,48 @@
 //! Selections: a leaf, and what is around it.
-use crate::extent::{Extent, extent_of};
-use flat_tree::FlatTree;
+ghost use Rattle.std.specs.Prelude.{◌≡◌, List, ◌∷◌, ◌++◌, IfOk, OnOk};
+ghost use Rattle.std.specs.List.{dedup_from};
+ghost use Rattle.rast_answers.specs.Extents.{is_same_extent};
+ghost use Rattle.rast_answers.specs.Selections.{outwards};
+
+use crate::extent::{Extent, extent_at, is_same_extent};
+use crate::kinds::parent_at;
+use flat_tree::Element;
 use std::alloc::{AllocError, Global};
 
-/// The index of the leaf at an offset. At the end of the text it is the last leaf; where no leaf is, the root.
-fn innermost(tree: &FlatTree<'_>, offset: usize) -> u32 {
-    match tree.leaf_at(offset) {
-        Some(index) => index,
-        None => tree.leaf_at(offset.saturating_sub(1)).unwrap_or(0),
-    }
-}
-
-/// Adds the range of an element, if the last range is another.
-fn push_other(
-    extents: &mut Vec<Extent>,
-    tree: &FlatTree<'_>,
-    index: u32,
-) -> Result<(), AllocError> {
-    let Some(element) = tree.element(index) else {
-        return Ok(());
-    };
-    let extent = extent_of(element);
-    if extents.last() != Some(&extent) {
-        extents.push(extent)?;
+/// Adds the range before another, if they differ.
+#[tactic(auto, using(crate::proofs::Climbs::same_kept, crate::proofs::Climbs::other_kept))]
+fn push_other(list: &mut Vec<Extent>, last: Extent, next: Extent) -> Result<(), AllocError>
+    ensures { OnOk result ((rest : List Extent) → list.new.items ++ dedup_from is_same_extent next rest
+        ≡ list.old.items ++ dedup_from is_same_extent last (next ∷ rest)) }
+{
+    if !is_same_extent(next, last) {
+        list.push(last)?;
     }
     Ok(())
 }
 
-/// The range of the leaf at an offset, and those of the nodes around it, each other than the one before.
-pub(crate) fn selection(
+/// The range of an element and those of the nodes around it, outwards, each other than the one before. The error means
+/// out of memory.
+#[tactic(auto, using(crate::proofs::Climbs::no_more_climbing, crate::proofs::Climbs::climbs))]
+pub(crate) fn outwards(
     alloc: Global,
-    tree: &FlatTree<'_>,
-    offset: usize,
-) -> Result<Vec<Extent>, AllocError> {
-    let mut extents = Vec::new(alloc);
-    let leaf = innermost(tree, offset);
-    push_other(&mut extents, tree, leaf)?;
-    for index in tree.ancestors(leaf) {
-        push_other(&mut extents, tree, index)?;
+    elements: &[Element],
+    index: usize,
+) -> Result<Vec<Extent>, AllocError>
+    ensures { IfOk result (λ list. list.items ≡ outwards elements.now index) }
+{
+    let mut list = Vec::new(alloc);
+    let mut last = extent_at(elements, index);
+    let mut at = index;
+    'up: for _step in 0..index {
+        if at == 0 {
+            break;
+        }
+        at = parent_at(elements, at);
+        let extent = extent_at(elements, at);
+        push_other(&mut list, last, extent)?;
+        last = extent;
     }
-    Ok(extents)
+    list.push(last)?;
+    Ok(list)
 }

@@ -1,5 +1,8 @@
 //! Kinds of symbols.
-use ra_ap_parser::SyntaxKind;
+ghost use Rattle.std.specs.Prelude.{◌≡◌};
+ghost use Rattle.rast_answers.specs.SymbolTable.{symbol_kind, symbol_number};
+
+use rap_base::syntax_kind::SyntaxKind;
 
 /// What a symbol is.
 #[derive(Clone, Copy, Debug, PartialEq, Eq)]
@@ -36,7 +39,9 @@ pub enum SymbolKind {
 
 impl SymbolKind {
     /// The number of the protocol's kind that comes closest.
-    pub fn number(self) -> u32 {
+    pub fn number(self) -> u32
+        ensures { result ≡ symbol_number self }
+    {
         match self {
             SymbolKind::Module => 2,
             SymbolKind::Function | SymbolKind::Macro => 12,
@@ -54,7 +59,9 @@ impl SymbolKind {
 }
 
 /// What a node of this kind in a node of that kind declares.
-pub(crate) fn symbol_kind(kind: SyntaxKind, around: SyntaxKind) -> Option<SymbolKind> {
+pub(crate) fn symbol_kind(kind: SyntaxKind, around: SyntaxKind) -> Option<SymbolKind>
+    ensures { result ≡ symbol_kind kind around }
+{
     match kind {
         SyntaxKind::MODULE => Some(SymbolKind::Module),
         SyntaxKind::FN => {

@@ -1,7 +1,10 @@
 //! Kinds of tokens: the table from leaves to what an editor colors.
+ghost use Rattle.std.specs.Prelude.{◌≡◌};
+ghost use Rattle.rast_answers.specs.TokenTable.{class_of, class_of_leaf, class_of_name, class_of_path, class_of_reference, declaring, is_keyword, plain, token_number};
+
 use crate::kinds::{around, kind_at};
 use flat_tree::Element;
-use ra_ap_parser::SyntaxKind;
+use rap_base::syntax_kind::SyntaxKind;
 
 /// The kind of a token, by its place in [`TOKEN_KINDS`].
 #[derive(Clone, Copy, Debug, PartialEq, Eq)]
@@ -86,7 +89,9 @@ pub const TOKEN_MODIFIERS: [&str; 4] = ["declaration", "documentation", "readonl
 
 impl TokenKind {
     /// Its place in [`TOKEN_KINDS`].
-    pub fn number(self) -> u32 {
+    pub fn number(self) -> u32
+        ensures { result ≡ token_number self }
+    {
         match self {
             TokenKind::Comment => 0,
             TokenKind::Keyword => 1,
@@ -118,11 +123,15 @@ pub(crate) struct Class {
     pub(crate) modifiers: u32,
 }
 
-fn plain(kind: TokenKind) -> Option<Class> {
+fn plain(kind: TokenKind) -> Option<Class>
+    ensures { result ≡ plain kind }
+{
     Some(Class { kind, modifiers: 0 })
 }
 
-fn declared(kind: TokenKind) -> Option<Class> {
+fn declaring(kind: TokenKind) -> Option<Class>
+    ensures { result ≡ declaring kind }
+{
     Some(Class {
         kind,
         modifiers: DECLARATION,
@@ -130,7 +139,9 @@ fn declared(kind: TokenKind) -> Option<Class> {
 }
 
 /// The class of a leaf that is no identifier, by its kind and that of the node around it.
-fn class_of_leaf(kind: SyntaxKind, node: SyntaxKind) -> Option<Class> {
+fn class_of_leaf(kind: SyntaxKind, node: SyntaxKind) -> Option<Class>
+    ensures { result ≡ class_of_leaf kind node }
+{
     match kind {
         SyntaxKind::COMMENT | SyntaxKind::SHEBANG | SyntaxKind::FRONTMATTER => plain(
             TokenKind::Comment,
@@ -164,17 +175,19 @@ fn class_of_leaf(kind: SyntaxKind, node: SyntaxKind) -> Option<Class> {
 }
 
 /// The class of an identifier that declares something, by the kinds of the node that it names and of the one around.
-fn class_of_name(node: SyntaxKind, outer: SyntaxKind) -> Option<Class> {
+fn class_of_name(node: SyntaxKind, outer: SyntaxKind) -> Option<Class>
+    ensures { result ≡ class_of_name node outer }
+{
     match node {
-        SyntaxKind::MODULE => declared(TokenKind::Namespace),
-        SyntaxKind::STRUCT | SyntaxKind::UNION => declared(TokenKind::Struct),
-        SyntaxKind::ENUM => declared(TokenKind::Enum),
-        SyntaxKind::TRAIT => declared(TokenKind::Interface),
-        SyntaxKind::TYPE_ALIAS => declared(TokenKind::Type),
-        SyntaxKind::TYPE_PARAM | SyntaxKind::CONST_PARAM => declared(TokenKind::TypeParameter),
-        SyntaxKind::RECORD_FIELD => declared(TokenKind::Property),
-        SyntaxKind::VARIANT => declared(TokenKind::EnumMember),
-        SyntaxKind::MACRO_RULES | SyntaxKind::MACRO_DEF => declared(TokenKind::Macro),
+        SyntaxKind::MODULE => declaring(TokenKind::Namespace),
+        SyntaxKind::STRUCT | SyntaxKind::UNION => declaring(TokenKind::Struct),
+        SyntaxKind::ENUM => declaring(TokenKind::Enum),
+        SyntaxKind::TRAIT => declaring(TokenKind::Interface),
+        SyntaxKind::TYPE_ALIAS => declaring(TokenKind::Type),
+        SyntaxKind::TYPE_PARAM | SyntaxKind::CONST_PARAM => declaring(TokenKind::TypeParameter),
+        SyntaxKind::RECORD_FIELD => declaring(TokenKind::Property),
+        SyntaxKind::VARIANT => declaring(TokenKind::EnumMember),
+        SyntaxKind::MACRO_RULES | SyntaxKind::MACRO_DEF => declaring(TokenKind::Macro),
         SyntaxKind::CONST => Some(Class {
             kind: TokenKind::Variable,
             modifiers: DECLARATION + READONLY,
@@ -185,16 +198,16 @@ fn class_of_name(node: SyntaxKind, outer: SyntaxKind) -> Option<Class> {
         }),
         SyntaxKind::FN => {
             if outer == SyntaxKind::ASSOC_ITEM_LIST {
-                declared(TokenKind::Method)
+                declaring(TokenKind::Method)
             } else {
-                declared(TokenKind::Function)
+                declaring(TokenKind::Function)
             }
         }
         SyntaxKind::IDENT_PAT => {
             if outer == SyntaxKind::PARAM {
-                declared(TokenKind::Parameter)
+                declaring(TokenKind::Parameter)
             } else {
-                declared(TokenKind::Variable)
+                declaring(TokenKind::Variable)
             }
         }
         _ => None,
@@ -202,7 +215,9 @@ fn class_of_name(node: SyntaxKind, outer: SyntaxKind) -> Option<Class> {
 }
 
 /// The class of an identifier at the end of a path, by the kinds of the node that the path is in and of the one around.
-fn class_of_path(node: SyntaxKind, outer: SyntaxKind) -> Option<Class> {
+fn class_of_path(node: SyntaxKind, outer: SyntaxKind) -> Option<Class>
+    ensures { result ≡ class_of_path node outer }
+{
     match node {
         SyntaxKind::MACRO_CALL => plain(TokenKind::Macro),
         SyntaxKind::RECORD_EXPR | SyntaxKind::RECORD_PAT => plain(TokenKind::Struct),
@@ -228,7 +243,9 @@ fn class_of_path(node: SyntaxKind, outer: SyntaxKind) -> Option<Class> {
 }
 
 /// The class of an identifier that refers to something, by the index of the node around its `NAME_REF`.
-fn class_of_reference(elements: &[Element], node: usize) -> Option<Class> {
+fn class_of_reference(elements: &[Element], node: usize) -> Option<Class>
+    ensures { result ≡ class_of_reference elements.now node }
+{
     match kind_at(elements, node) {
         SyntaxKind::METHOD_CALL_EXPR => plain(TokenKind::Method),
         SyntaxKind::FIELD_EXPR | SyntaxKind::RECORD_EXPR_FIELD | SyntaxKind::RECORD_PAT_FIELD => {
@@ -248,7 +265,9 @@ fn class_of_reference(elements: &[Element], node: usize) -> Option<Class> {
 }
 
 /// The class of the leaf with this index, if it has one.
-pub(crate) fn class_of(elements: &[Element], index: usize) -> Option<Class> {
+pub(crate) fn class_of(elements: &[Element], index: usize) -> Option<Class>
+    ensures { result ≡ class_of elements.now index }
+{
     let node = around(elements, index);
     let outer = around(elements, node);
     if kind_at(elements, index) != SyntaxKind::IDENT {

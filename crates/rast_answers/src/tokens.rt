@@ -1,4 +1,9 @@
 //! Tokens with their places: each leaf that has a class, a token for each of its lines.
+ghost use Rattle.std.specs.Prelude.{◌≡◌, ◌++◌, ◌≤◌, IfOk, OnOk, length, min, string_bytes};
+ghost use Rattle.rast_document.specs.Lines.{line_end};
+ghost use Rattle.rast_answers.specs.Tokens.{colored_at, piece, token_of, tokens_of, tokens_of_leaf, tokens_of_option};
+
+use crate::places::place_of;
 use crate::token_kind::{Class, TokenKind, class_of};
 use flat_tree::Element;
 use rast_document::Document;
@@ -6,30 +11,57 @@ use std::alloc::{AllocError, Global};
 
 /// A token on one line: the line, the place in it and the length in the document's units.
 #[derive(Clone, Copy, Debug, PartialEq, Eq)]
-pub(crate) struct Token {
-    pub(crate) line: usize,
-    pub(crate) start: usize,
-    pub(crate) length: usize,
-    pub(crate) kind: TokenKind,
-    pub(crate) modifiers: u32,
+pub struct Token {
+    /// The line.
+    pub line: usize,
+    /// The units of the line before the token.
+    pub start: usize,
+    /// The length.
+    pub length: usize,
+    /// The kind.
+    pub kind: TokenKind,
+    /// The sum of the bits of the modifiers.
+    pub modifiers: u32,
 }
 
-/// The offset at which the line ends that an offset is on, or the text's end, if that comes first.
-fn piece_end(text: &[u8], start: usize, end: usize) -> usize {
+/// A leaf with its class.
+#[derive(Clone, Copy, Debug, PartialEq, Eq)]
+struct Colored {
+    start: u32,
+    end: u32,
+    class: Class,
+}
+
+/// Where the part of a range that is on one line ends, from an offset on: with the line, or with the range.
+#[tactic(auto, using(crate::proofs::PieceLaws::line_goes_on, crate::proofs::PieceLaws::line_ends, crate::proofs::PieceLaws::line_past, crate::proofs::PieceLaws::line_not_before))]
+fn piece_end(text: &[u8], start: usize, end: usize) -> usize
+    requires { start ≤ end }
+    ensures { result ≡ min end (line_end text.now start) }
+{
     let mut at = start;
-    while at < end {
-        if text[at] == b'\n' || text[at] == b'\r' {
-            return at;
+    'bytes: while at < end {
+        match text.get(at) {
+            Some(b'\n' | b'\r') | None => return at,
+            _ => at += 1,
         }
-        at += 1;
     }
     end
 }
 
+/// Where the part of a range of a document that is on one line ends.
+fn part_end(document: &Document, start: usize, end: usize) -> usize
+    requires { start ≤ end }
+    ensures { result ≡ min end (line_end (string_bytes document.now.text) start) }
+{
+    piece_end(document.text().as_bytes(), start, end)
+}
+
 /// The token of a part of one line.
-fn token_of(document: &Document, start: usize, end: usize, class: Class) -> Token {
-    let from = document.position(start);
-    let to = document.position(end);
+fn token_of(document: &Document, start: usize, end: usize, class: Class) -> Token
+    ensures { result ≡ token_of document.now.encoding (string_bytes document.now.text) class start end }
+{
+    let from = place_of(document, start);
+    let to = place_of(document, end);
     Token {
         line: from.line,
         start: from.character,
@@ -39,44 +71,92 @@ fn token_of(document: &Document, start: usize, end: usize, class: Class) -> Toke
     }
 }
 
-/// Adds the tokens of a range: one for each line of it that is not empty.
-fn push_pieces(
+/// Adds the token of a part of one line, if it is not empty.
+fn push_piece(
     tokens: &mut Vec<Token>,
     document: &Document,
     start: usize,
     end: usize,
     class: Class,
-) -> Result<(), AllocError> {
-    let text = document.text().as_bytes();
+) -> Result<(), AllocError>
+    ensures { OnOk result (tokens.new.items
+        ≡ tokens.old.items ++ piece document.now.encoding (string_bytes document.now.text) class start end) }
+{
+    if start < end {
+        tokens.push(token_of(document, start, end, class))?;
+    }
+    Ok(())
+}
+
+/// Adds the tokens of a leaf: one for each line of it that is not empty.
+fn push_pieces(
+    tokens: &mut Vec<Token>,
+    document: &Document,
+    leaf: Colored,
+) -> Result<(), AllocError>
+    ensures { OnOk result (tokens.new.items
+        ≡ tokens.old.items ++ tokens_of_leaf document.now.encoding (string_bytes document.now.text) leaf) }
+{
+    let start = leaf.start as usize;
+    let end = leaf.end as usize;
     let mut at = start;
-    while at < end {
-        let to = piece_end(text, at, end);
-        if at < to {
-            tokens.push(token_of(document, at, to, class))?;
+    'lines: for _step in start..end {
+        if end <= at {
+            return Ok(());
         }
+        let to = part_end(document, at, end);
+        push_piece(tokens, document, at, to, leaf.class)?;
         at = to + 1;
     }
     Ok(())
 }
 
-/// The tokens of the leaves that have a class and touch a range, in the order of the text.
+/// The element with this index, if it is a leaf that has a class, and is in a range or touches it.
+fn colored_at(elements: &[Element], index: usize, from: usize, to: usize) -> Option<Colored>
+    ensures { result ≡ colored_at from to elements.now index }
+{
+    let element = elements.get(index)?;
+    let class = class_of(elements, index)?;
+    let start = element.start();
+    let end = element.end();
+    if element.is_leaf() && start as usize <= to && from <= end as usize {
+        Some(Colored { start, end, class })
+    } else {
+        None
+    }
+}
+
+/// Adds the tokens of a leaf, if there is one.
+fn push_tokens(
+    tokens: &mut Vec<Token>,
+    document: &Document,
+    leaf: Option<Colored>,
+) -> Result<(), AllocError>
+    ensures { OnOk result (tokens.new.items
+        ≡ tokens.old.items ++ tokens_of_option document.now.encoding (string_bytes document.now.text) leaf) }
+{
+    match leaf {
+        Some(leaf) => push_pieces(tokens, document, leaf),
+        None => Ok(()),
+    }
+}
+
+/// The tokens of the leaves that have a class and are in a range, or touch it, in the order of the text. The error means
+/// out of memory.
+#[tactic(auto, using(crate::proofs::RowLaws::flat_map_next))]
 pub(crate) fn tokens(
     alloc: Global,
     document: &Document,
     elements: &[Element],
-    start: usize,
-    end: usize,
-) -> Result<Vec<Token>, AllocError> {
+    from: usize,
+    to: usize,
+) -> Result<Vec<Token>, AllocError>
+    ensures { IfOk result (λ list. list.items
+        ≡ tokens_of document.now.encoding (string_bytes document.now.text) from to elements.now) }
+{
     let mut list = Vec::new(alloc);
     for index in 0..elements.len() {
-        let element = &elements[index];
-        let from = element.start() as usize;
-        let to = element.end() as usize;
-        if element.is_leaf() && from <= end && start <= to {
-            if let Some(class) = class_of(elements, index) {
-                push_pieces(&mut list, document, from, to, class)?;
-            }
-        }
+        push_tokens(&mut list, document, colored_at(elements, index, from, to))?;
     }
     Ok(list)
 }

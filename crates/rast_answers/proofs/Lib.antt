@@ -1,0 +1,10 @@
+pub mod BorderLaws
+pub mod Climbs
+pub mod DeltaLaws
+pub mod LeafRows
+pub mod NestLaws
+pub mod Passes
+pub mod Picked
+pub mod PieceLaws
+pub mod RowLaws
+pub mod TokenOrders
