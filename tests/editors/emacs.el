@@ -54,7 +54,6 @@
 (rast-check (= 2 (length (rast-ask :textDocument/foldingRange))) "folds")
 (let ((selected (aref (rast-ask :textDocument/selectionRange :positions [(:line 2 :character 8)]) 0)))
   (rast-check (plist-get selected :parent) "selection"))
-(rast-check (= 2 (length (rast-ask :textDocument/documentHighlight :position '(:line 0 :character 7)))) "highlights")
 (let ((data (plist-get (rast-ask :textDocument/semanticTokens/full) :data)))
   (rast-check (and (zerop (% (length data) 5)) (= 2 (aref data 2))) "tokens"))
 

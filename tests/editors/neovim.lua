@@ -57,8 +57,6 @@ check(folds[2].startLine == 1 and folds[2].endLine == 3, 'inner fold')
 local selected = ask('textDocument/selectionRange', { positions = { { line = 2, character = 8 } } })
 check(selected[1].range.start.character == 8 and selected[1].range['end'].character == 12, 'selection')
 check(selected[1].parent, 'selection without what is around it')
-local marked = ask('textDocument/documentHighlight', { position = { line = 0, character = 7 } })
-check(#marked == 2 and marked[2].range.start.character == 8, 'highlights')
 local tokens = ask('textDocument/semanticTokens/full')
 check(#tokens.data % 5 == 0 and tokens.data[3] == 2 and tokens.data[4] == 1, 'tokens')
 

@@ -19,7 +19,7 @@ const PROGRAM: Program = Program {
     options: "
 A language server for Rust texts over standard input and output, by the Language Server Protocol 3.17. It needs no
 project. It answers: diagnostics of what is open, documentSymbol, foldingRange, selectionRange, semanticTokens of a
-text or a range, documentHighlight, and rust-analyzer/viewSyntaxTree.
+text or a range, and rust-analyzer/viewSyntaxTree.
 
   --help     prints this
   --version  prints the version

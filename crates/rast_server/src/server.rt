@@ -1,11 +1,11 @@
 //! The state of the server, and what each message does to it.
-use crate::answers::{folds, highlights, push_diagnostics, selections, symbols, tokens, tree};
+use crate::answers::{folds, push_diagnostics, selections, symbols, tokens, tree};
 use crate::initialize::capabilities;
 use ra_ap_parser::{Edition, NoMemory, TextFault};
 use rast_answers::{Analysis, Diagnostic};
 use rast_document::{ChangeFault, Document, Encoding};
 use rast_messages::{
-    Code, Fault, Message, changes_in, classify, encoding_of, error, log, notification, position_in,
+    Code, Fault, Message, changes_in, classify, encoding_of, error, log, notification,
     positions_in, push_string, span_in, success, uri_of, version_of,
 };
 use serde_json::Value;
@@ -146,16 +146,6 @@ fn selected(alloc: Global, analysis: &Analysis<'_>, params: &Value) -> Result<St
     selections(alloc, analysis, positions.as_slice())?.ok_or(NO_PLACE)
 }
 
-/// What belongs together with what is at the position of a message.
-fn highlighted(alloc: Global, analysis: &Analysis<'_>, params: &Value) -> Result<String, Fault> {
-    let place = params
-        .get("position")
-        .and_then(position_in)
-        .ok_or(WRONG_PARAMS)?;
-    let offset = analysis.document().offset(place).ok_or(NO_PLACE)?;
-    Ok(highlights(alloc, analysis, offset)?)
-}
-
 /// The tokens of the range of a message.
 fn tokens_of_range(
     alloc: Global,
@@ -181,7 +171,6 @@ fn result_of(
         "textDocument/documentSymbol" => Ok(symbols(alloc, &analysis)?),
         "textDocument/foldingRange" => Ok(folds(alloc, &analysis)?),
         "textDocument/selectionRange" => selected(alloc, &analysis, params),
-        "textDocument/documentHighlight" => highlighted(alloc, &analysis, params),
         "textDocument/semanticTokens/full" => {
             let list = analysis.tokens(alloc)?;
             Ok(tokens(alloc, list.as_slice())?)
@@ -198,7 +187,6 @@ fn is_known(method: &str) -> bool {
         "textDocument/documentSymbol"
             | "textDocument/foldingRange"
             | "textDocument/selectionRange"
-            | "textDocument/documentHighlight"
             | "textDocument/semanticTokens/full"
             | "textDocument/semanticTokens/range"
             | "rust-analyzer/viewSyntaxTree"
