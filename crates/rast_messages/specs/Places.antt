@@ -7,10 +7,10 @@ use Rattle.rast_document.specs.declared.position.Position.{Position}
 use Rattle.rast_document.specs.declared.position.Span.{Span}
 
 -- the text of a position, and of a range
-abbrev pub position_text : Position → List ℕ
+unfoldable pub position_text : Position → List ℕ
 position_text p = codes "{\"line\":" ++ (decimal p.line ++ (codes ",\"character\":" ++ (decimal p.character ++ codes "}")))
 
-abbrev pub range_text : Position → Position → List ℕ
+unfoldable pub range_text : Position → Position → List ℕ
 range_text p q = codes "{\"start\":" ++ (position_text p ++ (codes ",\"end\":" ++ (position_text q ++ codes "}")))
 
 -- the number of a member

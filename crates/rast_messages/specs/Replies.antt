@@ -20,14 +20,14 @@ abbrev pub string_text : List ℕ → List ℕ
 string_text text = compact_text (string text)
 
 -- what a reply begins with
-abbrev pub begun : Data → List ℕ
+unfoldable pub begun : Data → List ℕ
 begun id = codes "{\"jsonrpc\":\"2.0\",\"id\":" ++ compact_text id
 
 abbrev pub success_text : Data → List ℕ → List ℕ
-success_text id value = begun id ++ (codes ",\"result\":" ++ (value ++ codes "}"))
+success_text id value = begun id ++ codes ",\"result\":" ++ value ++ codes "}"
 
 abbrev pub error_text : Data → Fault → List ℕ
-error_text id fault = begun id ++ (codes ",\"error\":{\"code\":" ++ (number_of fault.code ++ (codes ",\"message\":" ++ (string_text fault.text.now ++ codes "}}"))))
+error_text id fault = begun id ++ codes ",\"error\":{\"code\":" ++ number_of fault.code ++ codes ",\"message\":" ++ string_text fault.text.now ++ codes "}}"
 
 abbrev pub notification_text : List ℕ → List ℕ → List ℕ
-notification_text method params = codes "{\"jsonrpc\":\"2.0\",\"method\":\"" ++ (method ++ (codes "\",\"params\":" ++ (params ++ codes "}")))
+notification_text method params = codes "{\"jsonrpc\":\"2.0\",\"method\":\"" ++ method ++ codes "\",\"params\":" ++ params ++ codes "}"

@@ -32,12 +32,26 @@ pub fn push_comma(json: &mut String, is_first: &mut bool) -> Result<(), AllocErr
 }
 
 /// Adds a position.
+#[tactic(auto, unfolding(crate::specs::Places::position_text))]
 fn push_position(json: &mut String, position: Position) -> Result<(), AllocError>
     ensures { OnOk result (string_bytes json.new ≡ string_bytes json.old ++ position_text position) }
 {
     let line = position.line;
     let character = position.character;
     write!(json, "{{\"line\":{line},\"character\":{character}}}")?;
+    Ok(())
+}
+
+/// Adds the range between two positions.
+#[tactic(auto, unfolding(crate::specs::Places::range_text))]
+fn push_span(json: &mut String, start: Position, end: Position) -> Result<(), AllocError>
+    ensures { OnOk result (string_bytes json.new ≡ string_bytes json.old ++ range_text start end) }
+{
+    json.push_str("{\"start\":")?;
+    push_position(json, start)?;
+    json.push_str(",\"end\":")?;
+    push_position(json, end)?;
+    json.push_str("}")?;
     Ok(())
 }
 
@@ -52,12 +66,11 @@ pub fn push_range(
         (position document.now.encoding (string_bytes document.now.text) (min start (length (string_bytes document.now.text))))
         (position document.now.encoding (string_bytes document.now.text) (min end (length (string_bytes document.now.text))))) }
 {
-    json.push_str("{\"start\":")?;
-    push_position(json, position_of(document, start))?;
-    json.push_str(",\"end\":")?;
-    push_position(json, position_of(document, end))?;
-    json.push_str("}")?;
-    Ok(())
+    push_span(
+        json,
+        position_of(document, start),
+        position_of(document, end),
+    )
 }
 
 /// The position of an offset; past the end of the text, that of its end.

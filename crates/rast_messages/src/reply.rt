@@ -56,25 +56,24 @@ pub struct Fault {
     pub text: &'static str,
 }
 
-impl Fault {
-    /// Out of memory.
-    pub const NO_MEMORY: Fault = Fault {
-        code: Code::InternalError,
-        text: "out of memory",
-    };
-}
+/// Out of memory.
+pub const NO_MEMORY: Fault = Fault {
+    code: Code::InternalError,
+    text: "out of memory",
+};
 
 impl From<AllocError> for Fault {
-    ghost use Rattle.rast_messages.specs.declared.reply.Fault.TheConstants.{NO_MEMORY};
+    ghost use Rattle.rast_messages.specs.declared.reply.TheConstants.{NO_MEMORY};
 
     ghost from_gives = { λ _ fault. fault ≡ NO_MEMORY };
 
     fn from(_error: AllocError) -> Fault {
-        Fault::NO_MEMORY
+        NO_MEMORY
     }
 }
 
 /// What a reply begins with: the id of the request, or `null` if that cannot be told.
+#[tactic(auto, unfolding(crate::specs::Replies::begun))]
 fn begin(alloc: Global, id: Option<&Value>) -> Result<String, AllocError>
     ensures { IfOk result (λ json. MatchOption id.entry (string_bytes json ≡ begun null)
         (λ id. has_float (view id.now) ≡ false → string_bytes json ≡ begun (view id.now))) }
@@ -130,7 +129,7 @@ pub fn notification(alloc: Global, method: &str, params: &str) -> Result<String,
 /// The notification that a notification of the editor failed.
 pub fn log(alloc: Global, method: &str, fault: Fault) -> Result<String, AllocError>
     ensures { IfOk result (λ json. string_bytes json ≡ notification_text (codes "window/logMessage")
-        (codes "{\"type\":1,\"message\":" ++ (string_text (method.now ++ (codes ": " ++ fault.text.now)) ++ codes "}"))) }
+        (codes "{\"type\":1,\"message\":" ++ string_text (method.now ++ codes ": " ++ fault.text.now) ++ codes "}")) }
 {
     let mut text = String::from_str(alloc, method)?;
     text.push_str(": ")?;

@@ -5,7 +5,7 @@ use ra_ap_parser::{Edition, NoMemory, TextFault};
 use rast_answers::{Analysis, Diagnostic};
 use rast_document::{ChangeFault, Document, Encoding};
 use rast_messages::{
-    Code, Fault, Message, changes_in, classify, encoding_of, error, log, notification,
+    Code, Fault, Message, NO_MEMORY, changes_in, classify, encoding_of, error, log, notification,
     positions_in, push_string, span_in, success, uri_of, version_of,
 };
 use serde_json::Value;
@@ -87,7 +87,7 @@ fn fault_of(fault: TextFault<NoMemory>) -> Fault {
             code: Code::InternalError,
             text: "too many tokens",
         },
-        TextFault::NoMemory | TextFault::Refused(_) => Fault::NO_MEMORY,
+        TextFault::NoMemory | TextFault::Refused(_) => NO_MEMORY,
     }
 }
 
@@ -108,7 +108,7 @@ fn push_messages(alloc: Global, json: &mut String, document: &Document) -> Resul
         }
         Err(fault) => {
             let fault = fault_of(fault);
-            if fault.text == Fault::NO_MEMORY.text {
+            if fault.text == NO_MEMORY.text {
                 return Err(fault);
             }
             let none = Diagnostic {
@@ -241,7 +241,7 @@ impl Server {
         match self.request(alloc, method, params) {
             Ok(text) => match success(alloc, id, text.as_str()) {
                 Ok(reply) => Ok(Outcome::Reply(reply)),
-                Err(_) => Ok(Outcome::Reply(error(alloc, Some(id), Fault::NO_MEMORY)?)),
+                Err(_) => Ok(Outcome::Reply(error(alloc, Some(id), NO_MEMORY)?)),
             },
             Err(fault) => Ok(Outcome::Reply(error(alloc, Some(id), fault)?)),
         }
@@ -320,7 +320,7 @@ impl Server {
             .insert(key, Opened { version, document })
             .is_err()
         {
-            return Err(Fault::NO_MEMORY);
+            return Err(NO_MEMORY);
         }
         Ok(note)
     }
@@ -333,7 +333,7 @@ impl Server {
         match opened.document.change(alloc, changes.as_slice()) {
             Ok(()) => (),
             Err(ChangeFault::NoRange) => return Err(NO_PLACE),
-            Err(ChangeFault::NoMemory) => return Err(Fault::NO_MEMORY),
+            Err(ChangeFault::NoMemory) => return Err(NO_MEMORY),
         }
         opened.version = version;
         published(alloc, uri, version, &opened.document)
@@ -351,7 +351,7 @@ impl Server {
 // What is sent for a content that is no JSON, or that memory ran out for.
 fn unread(alloc: Global, is_memory: bool) -> Result<Outcome, AllocError> {
     let fault = if is_memory {
-        Fault::NO_MEMORY
+        NO_MEMORY
     } else {
         Fault {
             code: Code::ParseError,
