@@ -31,3 +31,11 @@ error_text id fault = begun id ++ codes ",\"error\":{\"code\":" ++ number_of fau
 
 abbrev pub notification_text : List ℕ → List ℕ → List ℕ
 notification_text method params = codes "{\"jsonrpc\":\"2.0\",\"method\":\"" ++ method ++ codes "\",\"params\":" ++ params ++ codes "}"
+
+-- what is said of a notification that failed
+unfoldable pub failure : List ℕ → List ℕ → List ℕ
+failure method text = method ++ codes ": " ++ text
+
+-- the parameters of a notification that shows a text as an error
+unfoldable pub shown_params : List ℕ → List ℕ
+shown_params text = codes "{\"type\":1,\"message\":" ++ string_text text ++ codes "}"

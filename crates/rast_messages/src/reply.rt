@@ -3,7 +3,7 @@ ghost use Rattle.std.specs.Prelude.{◌≡◌, ◌++◌, false, IfOk, MatchOptio
 ghost use Rattle.serde_json.specs.Data.{null};
 ghost use Rattle.serde_json.specs.View.{view};
 ghost use Rattle.serde_json.specs.Written.{has_float};
-ghost use Rattle.rast_messages.specs.Replies.{begun, error_text, notification_text, number_of, string_text, success_text};
+ghost use Rattle.rast_messages.specs.Replies.{begun, error_text, failure, notification_text, number_of, shown_params, success_text};
 
 use crate::json::push_string;
 use serde_json::Value;
@@ -63,9 +63,9 @@ pub const NO_MEMORY: Fault = Fault {
 };
 
 impl From<AllocError> for Fault {
-    ghost use Rattle.rast_messages.specs.declared.reply.TheConstants.{NO_MEMORY};
+    ghost use Rattle.rast_messages.specs.declared.reply.Code.TheVariants.{InternalError};
 
-    ghost from_gives = { λ _ fault. fault ≡ NO_MEMORY };
+    ghost from_gives = { λ _ fault. (fault.code ≡ InternalError) × (fault.text.now ≡ codes "out of memory") };
 
     fn from(_error: AllocError) -> Fault {
         NO_MEMORY
@@ -126,16 +126,34 @@ pub fn notification(alloc: Global, method: &str, params: &str) -> Result<String,
     Ok(json)
 }
 
+/// What is said of a notification that failed: its method and why.
+#[tactic(auto, unfolding(crate::specs::Replies::failure))]
+fn failure(alloc: Global, method: &str, text: &str) -> Result<String, AllocError>
+    ensures { IfOk result (λ said. string_bytes said ≡ failure method.now text.now) }
+{
+    let mut said = String::from_str(alloc, method)?;
+    said.push_str(": ")?;
+    said.push_str(text)?;
+    Ok(said)
+}
+
+/// The parameters of a notification that shows a text as an error.
+#[tactic(auto, unfolding(crate::specs::Replies::shown_params))]
+fn shown_params(alloc: Global, text: &str) -> Result<String, AllocError>
+    ensures { IfOk result (λ params. string_bytes params ≡ shown_params text.now) }
+{
+    let mut params = String::from_str(alloc, "{\"type\":1,\"message\":")?;
+    push_string(alloc, &mut params, text)?;
+    params.push_str("}")?;
+    Ok(params)
+}
+
 /// The notification that a notification of the editor failed.
 pub fn log(alloc: Global, method: &str, fault: Fault) -> Result<String, AllocError>
     ensures { IfOk result (λ json. string_bytes json ≡ notification_text (codes "window/logMessage")
-        (codes "{\"type\":1,\"message\":" ++ string_text (method.now ++ codes ": " ++ fault.text.now) ++ codes "}")) }
+        (shown_params (failure method.now fault.text.now))) }
 {
-    let mut text = String::from_str(alloc, method)?;
-    text.push_str(": ")?;
-    text.push_str(fault.text)?;
-    let mut params = String::from_str(alloc, "{\"type\":1,\"message\":")?;
-    push_string(alloc, &mut params, text.as_str())?;
-    params.push_str("}")?;
+    let text = failure(alloc, method, fault.text)?;
+    let params = shown_params(alloc, text.as_str())?;
     notification(alloc, "window/logMessage", params.as_str())
 }

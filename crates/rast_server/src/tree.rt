@@ -20,7 +20,8 @@ fn push_element(
     write!(lines, "{kind}@{start}..{end}")?;
     if element.is_leaf() {
         lines.push_str(" ")?;
-        push_quoted(lines, tree.text_of(element))?;
+        let text = tree.text().get(start as usize..end as usize);
+        push_quoted(lines, text.unwrap_or(""))?;
     }
     lines.push_str("\n")?;
     Ok(())
