@@ -1,4 +1,9 @@
 //! All that the program does: it reads a message, answers it, and reads the next.
+ghost use Rattle.std.specs.Prelude.{◌≡◌, ◌≤◌, ℕ, IfOk, length};
+ghost use Rattle.rast_frames.specs.Fronts.{Fronts};
+ghost use Rattle.rast_frames.specs.Stream.{waiting};
+ghost use Rattle.rast_server.specs.Ran.{EndsWell, IfExit, Sends};
+
 use crate::server::{Outcome, Server};
 use rast_common::fault::report;
 use rast_frames::{Frames, Front, HeaderFault, write_frame};
@@ -55,7 +60,10 @@ fn answer(
     server: &mut Server,
     frames: &Frames,
     front: Front,
-) -> Result<Outcome, AllocError> {
+) -> Result<Outcome, AllocError>
+    requires { (limit : ℕ) × Fronts limit (waiting frames.now).bytes front }
+    ensures { IfOk result EndsWell }
+{
     match front {
         Front::Part => Ok(Outcome::Nothing),
         Front::Message { start, end } => server.answer(alloc, frames.content(start, end)),
@@ -66,7 +74,11 @@ fn answer(
 }
 
 /// Sends what is to be sent.
-fn send<W: io::Write>(outcome: Result<Outcome, AllocError>, out: &mut W) -> Next {
+fn send<W: io::Write>(outcome: Result<Outcome, AllocError>, out: &mut W) -> Next
+    requires { IfOk outcome EndsWell }
+    ensures sent { Sends outcome (W.contents out.old) (W.contents out.new) result }
+    ensures ends { IfExit result (λ status. status ≤ 1) }
+{
     let sent = match outcome {
         Ok(Outcome::Nothing) => Ok(()),
         Ok(Outcome::Reply(text)) | Ok(Outcome::Note(text)) => write_frame(out, text.as_bytes()),
@@ -86,7 +98,9 @@ fn answer_whole<W: io::Write>(
     server: &mut Server,
     frames: &mut Frames,
     out: &mut W,
-) -> Next {
+) -> Next
+    ensures { IfExit result (λ status. status ≤ 1) }
+{
     for _ in 0..u64::MAX {
         let front = frames.front(LIMIT);
         if front == Front::Part {
@@ -106,7 +120,9 @@ fn answer_whole<W: io::Write>(
 }
 
 /// Keeps a piece of the input. If memory runs out, the message that is being read is left out, and the editor is told.
-fn keep<W: io::Write>(frames: &mut Frames, piece: &[u8], out: &mut W) -> Result<Next, AllocError> {
+fn keep<W: io::Write>(frames: &mut Frames, piece: &[u8], out: &mut W) -> Result<Next, AllocError>
+    ensures { IfOk result (λ next. IfExit next (λ status. status ≤ 1)) }
+{
     if frames.push(piece).is_ok() {
         return Ok(Next::Read);
     }
@@ -141,7 +157,9 @@ pub fn run<R: io::Read, W: io::Write, V: io::Write>(
     input: &mut R,
     out: &mut W,
     err: &mut V,
-) -> io::Result<u8> {
+) -> io::Result<u8>
+    ensures { IfOk result (λ status. status ≤ 2) }
+{
     let mut server = Server::new(alloc);
     let mut frames = Frames::new(alloc);
     let mut piece = [0u8; PIECE];

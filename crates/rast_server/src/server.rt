@@ -1,9 +1,19 @@
 //! The state of the server, and what each message does to it.
+ghost use Rattle.std.specs.Prelude.{◌≡◌, ◌≤◌, ◌⊎◌, ℕ, List, Some, IfOk, OnErr, OnOk, false, true, string_bytes};
+ghost use Rattle.serde_json.specs.Data.{Data};
+ghost use Rattle.serde_json.specs.Read.{read_text};
+ghost use Rattle.serde_json.specs.View.{view};
+ghost use Rattle.serde_json.specs.Written.{has_float};
+ghost use Rattle.rast_document.specs.Changes.{AllChange};
+ghost use Rattle.rast_messages.specs.Messages.{IsRequest};
+ghost use Rattle.rast_server.specs.Answered.{Replies, Reports};
+ghost use Rattle.rast_server.specs.Ran.{EndsWell};
+
 use crate::answers::{folds, push_diagnostics, selections, symbols, tokens, tree};
 use crate::initialize::capabilities;
 use ra_ap_parser::{Edition, NoMemory, TextFault};
 use rast_answers::{Analysis, Diagnostic};
-use rast_document::{ChangeFault, Document, Encoding};
+use rast_document::{Change, ChangeFault, Document, Encoding};
 use rast_messages::{
     Code, Fault, Message, NO_MEMORY, changes_in, classify, encoding_of, error, log, notification,
     positions_in, push_string, span_in, success, uri_of, version_of,
@@ -29,6 +39,25 @@ enum Stage {
 struct Opened {
     version: i64,
     document: Document,
+}
+
+impl Opened {
+    // Makes changes. After an error the document is as before.
+    fn change(&mut self, alloc: Global, version: i64, changes: &[Change<'_>]) -> Result<(), Fault>
+        ensures ok { OnOk result (AllChange self.old.document.encoding (string_bytes self.old.document.text) changes.now
+            (string_bytes self.new.document.text)) }
+        ensures version { OnOk result (self.new.version ≡ version) }
+        ensures err { OnErr result (self.new ≡ self.old) }
+    {
+        match self.document.change(alloc, changes) {
+            Ok(()) => {
+                self.version = version;
+                Ok(())
+            }
+            Err(ChangeFault::NoRange) => Err(NO_PLACE),
+            Err(ChangeFault::NoMemory) => Err(NO_MEMORY),
+        }
+    }
 }
 
 /// The server.
@@ -204,12 +233,19 @@ impl Server {
     }
 
     /// The status with which the server ends: 0 if `shutdown` has come.
-    pub fn status(&self) -> u8 {
+    pub fn status(&self) -> u8
+        ensures { result ≤ 1 }
+    {
         if self.stage == Stage::ShutDown { 0 } else { 1 }
     }
 
-    /// What is sent for a message. The error means that there is no memory even for the report of that.
-    pub fn answer(&mut self, alloc: Global, content: &[u8]) -> Result<Outcome, AllocError> {
+    /// What is sent for a message: for a request exactly the reply with its id, unless memory runs out while the message
+    /// is read. The error means that there is no memory even for the report of that.
+    pub fn answer(&mut self, alloc: Global, content: &[u8]) -> Result<Outcome, AllocError>
+        ensures ends { IfOk result EndsWell }
+        ensures replies { IfOk result (λ outcome. (d id : Data) (method : List ℕ) → read_text content.now ≡ Some d → IsRequest d id method
+            → Replies id outcome ⊎ Reports outcome) }
+    {
         let message = match Value::from_slice(alloc, content) {
             Ok(message) => message,
             Err(fault) => return unread(alloc, fault.is_memory()),
@@ -237,7 +273,10 @@ impl Server {
         id: &Value,
         method: &str,
         params: &Value,
-    ) -> Result<Outcome, AllocError> {
+    ) -> Result<Outcome, AllocError>
+        ensures ends { IfOk result EndsWell }
+        ensures replies { IfOk result (λ outcome. has_float (view id.now) ≡ false → Replies (view id.now) outcome) }
+    {
         match self.request(alloc, method, params) {
             Ok(text) => match success(alloc, id, text.as_str()) {
                 Ok(reply) => Ok(Outcome::Reply(reply)),
@@ -285,7 +324,9 @@ impl Server {
     }
 
     // What is sent for a notification.
-    fn take(&mut self, alloc: Global, method: &str, params: &Value) -> Result<Outcome, AllocError> {
+    fn take(&mut self, alloc: Global, method: &str, params: &Value) -> Result<Outcome, AllocError>
+        ensures { IfOk result EndsWell }
+    {
         if method == "exit" {
             return Ok(Outcome::Exit(self.status()));
         }
@@ -330,12 +371,7 @@ impl Server {
         let version = version_of(params).ok_or(WRONG_PARAMS)?;
         let changes = changes_in(alloc, params)?.ok_or(WRONG_PARAMS)?;
         let opened = self.documents.get_mut(uri).ok_or(NOT_OPEN)?;
-        match opened.document.change(alloc, changes.as_slice()) {
-            Ok(()) => (),
-            Err(ChangeFault::NoRange) => return Err(NO_PLACE),
-            Err(ChangeFault::NoMemory) => return Err(NO_MEMORY),
-        }
-        opened.version = version;
+        opened.change(alloc, version, changes.as_slice())?;
         published(alloc, uri, version, &opened.document)
     }
 
@@ -349,7 +385,10 @@ impl Server {
 }
 
 // What is sent for a content that is no JSON, or that memory ran out for.
-fn unread(alloc: Global, is_memory: bool) -> Result<Outcome, AllocError> {
+fn unread(alloc: Global, is_memory: bool) -> Result<Outcome, AllocError>
+    ensures ends { IfOk result EndsWell }
+    ensures reports { IfOk result (λ outcome. is_memory ≡ true → Reports outcome) }
+{
     let fault = if is_memory {
         NO_MEMORY
     } else {
