@@ -1,7 +1,7 @@
 //! The state of the server, and what each message does to it.
-ghost use Rattle.std.specs.Prelude.{◌≡◌, ◌≤◌, ◌⊎◌, ℕ, List, Some, IfOk, OnErr, OnOk, false, true, string_bytes};
+ghost use Rattle.std.specs.Prelude.{◌≡◌, ◌≤◌, ◌⊎◌, ℕ, List, Some, IfOk, OnErr, OnOk, IsUtf8, false, true, string_bytes};
 ghost use Rattle.serde_json.specs.Data.{Data};
-ghost use Rattle.serde_json.specs.Read.{read_text};
+ghost use Rattle.serde_json.specs.Read.{read};
 ghost use Rattle.serde_json.specs.View.{view};
 ghost use Rattle.serde_json.specs.Written.{has_float};
 ghost use Rattle.rast_document.specs.Changes.{AllChange};
@@ -181,7 +181,8 @@ fn tokens_of_range(
     analysis: &Analysis<'_>,
     params: &Value,
 ) -> Result<String, Fault> {
-    let span = params.get("range").and_then(span_in).ok_or(WRONG_PARAMS)?;
+    let range = params.get("range").ok_or(WRONG_PARAMS)?;
+    let span = span_in(range).ok_or(WRONG_PARAMS)?;
     let start = analysis.document().offset(span.start).ok_or(NO_PLACE)?;
     let end = analysis.document().offset(span.end).ok_or(NO_PLACE)?;
     let list = analysis.tokens_within(alloc, start, end)?;
@@ -243,7 +244,7 @@ impl Server {
     /// is read. The error means that there is no memory even for the report of that.
     pub fn answer(&mut self, alloc: Global, content: &[u8]) -> Result<Outcome, AllocError>
         ensures ends { IfOk result EndsWell }
-        ensures replies { IfOk result (λ outcome. (d id : Data) (method : List ℕ) → read_text content.now ≡ Some d → IsRequest d id method
+        ensures replies { IfOk result (λ outcome. (d id : Data) (method : List ℕ) → IsUtf8 content.now → read content.now ≡ Some d → IsRequest d id method
             → Replies id outcome ⊎ Reports outcome) }
     {
         let message = match Value::from_slice(alloc, content) {
@@ -280,9 +281,9 @@ impl Server {
         match self.request(alloc, method, params) {
             Ok(text) => match success(alloc, id, text.as_str()) {
                 Ok(reply) => Ok(Outcome::Reply(reply)),
-                Err(_) => Ok(Outcome::Reply(error(alloc, Some(id), NO_MEMORY)?)),
+                Err(_) => failed(alloc, id, NO_MEMORY),
             },
-            Err(fault) => Ok(Outcome::Reply(error(alloc, Some(id), fault)?)),
+            Err(fault) => failed(alloc, id, fault),
         }
     }
 
@@ -382,6 +383,14 @@ impl Server {
         }
         withdrawn(alloc, uri)
     }
+}
+
+// The reply to a request that fails.
+fn failed(alloc: Global, id: &Value, fault: Fault) -> Result<Outcome, AllocError>
+    ensures ends { IfOk result EndsWell }
+    ensures replies { IfOk result (λ outcome. has_float (view id.now) ≡ false → Replies (view id.now) outcome) }
+{
+    Ok(Outcome::Reply(error(alloc, Some(id), fault)?))
 }
 
 // What is sent for a content that is no JSON, or that memory ran out for.
