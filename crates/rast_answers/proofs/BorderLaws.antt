@@ -183,7 +183,7 @@ either_of : {X : Type 0} (P : X → Type 0) (b : Bool) (xs ys : List X) → All 
 either_of P true xs ys h g = h
 either_of P false xs ys h g = g
 
-kept_all : {X : Type 0} (P : X → Type 0) (E : X → X → Bool) (k : X) (xs : List X) → P k → All P xs → All P (dedup_from E k xs)
+pub kept_all : {X : Type 0} (P : X → Type 0) (E : X → X → Bool) (k : X) (xs : List X) → P k → All P xs → All P (dedup_from E k xs)
 kept_all P E k [] h g = All-cons P k [] h (λ i d low. absurd (omega (arith, low)))
 kept_all P E k (x ∷ xs) h g =
     let first : P x = g 0 x (omega arith) in

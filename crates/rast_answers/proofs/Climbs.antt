@@ -19,11 +19,14 @@ climbs es (suc n) m at h some =
     let same : n ≡ m = omega (arith, h) in
     cond-false _ _ _ (ne_eqb at 0 some) ∙ ap (λ k. parent_at es at ∷ climbing es k (parent_at es at)) same
 
+same_parts : (s t e f : ℕ) (a b : Extent) → s ≡ t → e ≡ f → a ≡ record { start = s; end = e } → b ≡ record { start = t; end = f } → a ≡ b
+same_parts s t e f a b h g x y = cc
+
 pub same_extent : (a b : Extent) → is_same_extent a b ≡ true → a ≡ b
 same_extent a b h =
     let start : a.start ≡ b.start = grind (arith, h) in
     let end : a.end ≡ b.end = grind (arith, h) in
-    ap (λ (s : ℕ). record { start = s; end = a.end }) start ∙ ap (λ (e : ℕ). record { start = b.start; end = e }) end
+    same_parts a.start b.start a.end b.end a b start end refl refl
 
 -- a range that is that of the last one kept
 pub same_kept : (k x : Extent) (xs ys : List Extent) → is_same_extent x k ≡ true
@@ -50,3 +53,13 @@ step_up es n m at up list more all last next e some h0 h1 added h =
     ∙ (ap (λ k. extent_at es k ∷ map (extent_at es) (climbing es m k)) (sym h0)
     ∙ ap (λ x. x ∷ map (extent_at es) (climbing es m up)) (sym h1)) in
     added (map (extent_at es) (climbing es m up)) ∙ (ap (λ xs. list ++ dedup_from is_same_extent last xs) (sym first) ∙ h)
+
+pub no_more_steps : (es : List Element) (n at : ℕ) → n ≡ 0 → climbing es n at ≡ []
+no_more_steps es zero at h = refl
+no_more_steps es (suc n) at h = absurd (omega (arith, h))
+
+-- at the end of the climb the last range is added
+pub top_reached : (es : List Element) (n at : ℕ) (list more all : List Extent) (last : Extent) → climbing es n at ≡ [] → more ≡ list ++ last ∷ []
+    → list ++ dedup_from is_same_extent last (map (extent_at es) (climbing es n at)) ≡ all → more ≡ all
+top_reached es n at list more all last none added h =
+    added ∙ (ap (λ is. list ++ dedup_from is_same_extent last (map (extent_at es) is)) (sym none) ∙ h)

@@ -6,6 +6,7 @@ use Rattle.std.proofs.lemmas.List.Elements.{All-cons}
 use Rattle.std.proofs.lemmas.List.Kept.{AllPairs-cons}
 use Rattle.std.proofs.lemmas.Option.{get_or_from_slice_get, slice_get_within}
 use Rattle.rap_lexed.specs.StrForest.{StrForest}
+use Rattle.rap_lexed.specs.Trivia.{with_trivia}
 use Rattle.rap_ranged.specs.Elements.{RangedElement, leaf_element, node_element}
 use Rattle.rap_ranged.specs.Places.{IsPlace}
 use Rattle.rap_ranged.specs.Ranged.{Ranged}
@@ -27,7 +28,7 @@ use Rattle.rast_answers.specs.Folds.{fold_at}
 use Rattle.rast_answers.specs.Kinds.{after_at}
 use Rattle.rast_answers.specs.Nesting.{ElementsAreOnBorders, FoldsAreInOrder, IsIn, IsInside, IsPast, NestOrFollow, SelectionsGoOutwards, SymbolsNest, TokensAreInOrder}
 use Rattle.rast_answers.specs.Symbols.{symbol_at}
-use Rattle.rast_answers.proofs.BorderLaws.{is_declared, is_folded_from, either_of, kept_all}
+use Rattle.rast_answers.proofs.BorderLaws.{is_declared, is_folded_from, kept_all}
 use Rattle.rast_answers.proofs.Climbs.{climbs, no_more_climbing}
 use Rattle.rast_answers.proofs.Picked.{picked_pairs}
 use Rattle.rast_answers.proofs.TokenOrders.{tokens_follow}
@@ -74,7 +75,7 @@ symbols_relate f root es i j x y ranged is low high hx hy =
 
 pub symbols_nest : SymbolsNest
 symbols_nest text edition entry es messages h =
-    picked_pairs NestOrFollow (symbol_at es) (length es) (λ k l x y low high hx hy. symbols_relate _ h.root es k l x y h.ranged h.elements low high hx hy)
+    picked_pairs NestOrFollow (symbol_at es) (length es) (λ k l x y low high hx hy. symbols_relate (with_trivia h.lexed.tokens h.forest) h.root es k l x y h.ranged h.elements low high hx hy)
 
 -- an element that is later in the list does not begin earlier
 begins_later : (f : StrForest) (root : RangedNode) (es : List Element) (i j : ℕ) (d e : Element) → Ranged f root → es ≡ elements_of_tree root → d.start ≤ d.end
@@ -95,7 +96,7 @@ folds_in_order text edition entry es messages h =
     picked_pairs (λ (a b : Fold). a.start ≤ b.start) (fold_at text es) (length es) (λ k l x y low high hx hy.
     let a = is_folded_from text es k x hx in
     let b = is_folded_from text es l y hy in
-    let first = begins_later _ h.root es k l a.first b.first h.ranged h.elements (place_rises text es k a.first h.places a.at) low a.at b.at in
+    let first = begins_later (with_trivia h.lexed.tokens h.forest) h.root es k l a.first b.first h.ranged h.elements (place_rises text es k a.first h.places a.at) low a.at b.at in
     omega (arith, first, a.start, b.start))
 
 -- a node holds what stands right in it
@@ -185,8 +186,8 @@ kept_pairs R E k (x ∷ xs) each pairs =
 pub selections_go_outwards : SelectionsGoOutwards
 selections_go_outwards text edition entry es messages h i low =
     let e = some_or_none es i low in
-    kept_pairs IsIn is_same_extent (extent_at es i) (map (extent_at es) (climbing es i i)) (up_holds _ h.root es i i e.0 h.ranged h.elements e.1)
-    (pairs_up _ h.root es i i e.0 h.ranged h.elements e.1)
+    kept_pairs IsIn is_same_extent (extent_at es i) (map (extent_at es) (climbing es i i)) (up_holds (with_trivia h.lexed.tokens h.forest) h.root es i i e.0 h.ranged h.elements e.1)
+    (pairs_up (with_trivia h.lexed.tokens h.forest) h.root es i i e.0 h.ranged h.elements e.1)
 
 -- past a leaf is the next index
 row_after_leaf : (i p : ℕ) (x : RangedElement) (e : Element) → e ≡ row i p x → e.leaf ≡ true → e.after ≡ i + 1
@@ -209,7 +210,7 @@ pub tokens_in_order : TokensAreInOrder
 tokens_in_order text edition entry es messages h e from to =
     tokens_follow e text from to es (record {
       rising = λ i x at. place_rises text es i x h.places at;
-      apart = λ i j d x low hd hx leaf is_leaf. leaves_apart _ h.root es i j d x h.ranged h.elements low hd hx leaf;
+      apart = λ i j d x low hd hx leaf is_leaf. leaves_apart (with_trivia h.lexed.tokens h.forest) h.root es i j d x h.ranged h.elements low hd hx leaf;
     })
 
 place_is : (text : List ℕ) (es : List Element) (i : ℕ) (e : Element) → All (λ (x : Element). IsPlace text x.start x.end) es → slice_get es i ≡ Some e

@@ -67,7 +67,7 @@ places_rise e s a b h =
     subst P sum (place_rises e s (min a (length s)) (min b (length s) - min a (length s)) (length s - min b (length s)) (omega (arith, h)))
 
 -- tokens at offsets that do not fall, from one offset to another
-RunsFrom : Encoding → List ℕ → ℕ → List Token → ℕ → Type 0
+abbrev RunsFrom : Encoding → List ℕ → ℕ → List Token → ℕ → Type 0
 RunsFrom e s a [] b = Unit {0}
 RunsFrom e s a (t ∷ ts) b =
     (o : ℕ) × ((a ≤ o) × ((o ≤ b) × (((place_of e s o).line ≡ t.line) × (((place_of e s o).character ≡ t.start) × RunsFrom e s o ts b))))

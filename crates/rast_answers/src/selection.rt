@@ -23,7 +23,6 @@ fn push_other(list: &mut Vec<Extent>, last: Extent, next: Extent) -> Result<(), 
 
 /// The range of an element and those of the nodes around it, outwards, each other than the one before. The error means
 /// out of memory.
-#[tactic(auto, using(crate::proofs::Climbs::no_more_climbing, crate::proofs::Climbs::climbs))]
 pub(crate) fn outwards(
     alloc: Global,
     elements: &[Element],
