@@ -41,7 +41,7 @@ no_response d i m p q = let e : (let x : Option (List ℕ) = Some m in x) ≡ No
 pub replied : (content : List ℕ) (m i : Data) (method : List ℕ) (r : Result Outcome AllocError) → read content ≡ Some m → IsRequest m i method
     → IfOk r (λ o. has_float i ≡ false → Replies i o)
     → IfOk r (λ o. (d id : Data) (n : List ℕ) → IsUtf8 content → read content ≡ Some d → IsRequest d id n → Replies id o ⊎ Reports o)
-replied content m i method (Ok o) text p h d id n u e q =
+replied content m i method (Ok o) text p h = λ d id n u e q.
     let both : (let x : Option Data = Some d in x) ≡ Some m = sym e ∙ text in
     let same : d ≡ m = cc both in
     let asked = subst (λ (x : Data). IsRequest x id n) same q in
@@ -53,6 +53,6 @@ replied content m i method (Err a) text p h = tt
 pub reported : (content : List ℕ) (memory : Bool) (r : Result Outcome AllocError) → (memory ≡ false → IsUtf8 content → read content ≡ None)
     → IfOk r (λ o. memory ≡ true → Reports o)
     → IfOk r (λ o. (d id : Data) (n : List ℕ) → IsUtf8 content → read content ≡ Some d → IsRequest d id n → Replies id o ⊎ Reports o)
-reported content true (Ok o) none h d id n u e q = inr (h refl)
-reported content false (Ok o) none h d id n u e q = let both : (let x : Option Data = None in x) ≡ Some d = sym (none refl u) ∙ e in absurd (cc both)
+reported content true (Ok o) none h = λ d id n u e q. inr (h refl)
+reported content false (Ok o) none h = λ d id n u e q. let both : (let x : Option Data = None in x) ≡ Some d = sym (none refl u) ∙ e in absurd (cc both)
 reported content memory (Err a) none h = tt
