@@ -1,5 +1,5 @@
 -- The lexer has at most one message for each byte of a text.
-use Rattle.std.proofs.Common.{◌≡◌, ◌⊎◌, ℕ, zero, suc, ◌+◌, ◌-◌, ◌*◌, ◌<◌, ◌≤◌, Bool, true, false, List, [], ◌∷◌, ◌++◌, Option, Some, None, refl, ap, sym, subst, ◌∙◌, length, length-append, map, take, arith, inl, inr, eq-eqb, Result, Ok, Err}
+use Rattle.std.proofs.Common.{◌≡◌, ℕ, zero, suc, ◌+◌, ◌-◌, ◌*◌, ◌<◌, ◌≤◌, Bool, true, List, [], ◌∷◌, ◌++◌, Option, Some, None, refl, ap, sym, subst, ◌∙◌, length, length-append, arith, inl, inr, eq-eqb, Result, Ok, Err}
 use Rattle.std.specs.Prelude.{◌==◌, MatchOption, codes, if◌then◌else◌, option_to_list}
 use Rattle.std.specs.Str.{byte, chars, chars_after, continuation_len, lead_bits}
 use Rattle.std.proofs.lemmas.Bool.{cases_Bool, cases_eq, cases_lt, cond-true, cond-false, ne_eqb}
@@ -7,19 +7,18 @@ use Rattle.std.proofs.lemmas.List.{length-map, take_all}
 use Rattle.rap_base.specs.TokenKind.{EOF}
 use Rattle.rap_base.specs.declared.edition.Edition.{Edition}
 use Rattle.rap_lexer.proofs.Runs.{after_length}
-use Rattle.rap_lexer.specs.Escape.{Character, CharacterReports, Escape, Reports, StringReports, backslash, carriage_return, is_gap, line_feed, message, reported}
+use Rattle.rap_lexer.specs.Escape.{Character, CharacterReports, Escape, Reports, StringReports, is_gap, message, reported}
 use Rattle.rap_lexer.specs.Escape.Escape.{alone, simple, unknown, hex_short_first, hex_short_second, hex_wrong_first, hex_wrong_second, hex, no_brace_at_end, no_brace, leading_underscore, empty, unclosed, foreign, closed}
 use Rattle.rap_lexer.specs.Escape.Character.{plain, escaped}
 use Rattle.rap_lexer.specs.Escape.CharacterReports.{empty as no_character, bare_return, faulty, more, one}
 use Rattle.rap_lexer.specs.Escape.StringReports.{end, gap, next}
-use Rattle.rap_lexer.specs.Run.{after_run}
 use Rattle.rap_lexer.specs.declared.escape.Fault.{Fault}
 use Rattle.rap_lexer.specs.declared.escape.Fault.TheVariants.{NulInCStr}
 use Rattle.rap_lexer.specs.declared.escape.Mode.{Mode}
 use Rattle.rap_lexer.specs.declared.escape.Mode.TheVariants.{Char, Byte, Str, ByteStr, CStr}
 use Rattle.rap_lexer.specs.declared.lexer.lexeme.Remark.{Remark}
-use Rattle.rap_lexed.specs.LexedStr.{AreInOrder, AreTokens, IsFirst, IsLexing, Lexed, Message, Token, joined, messages_of, start_of, token_at}
-use Rattle.rap_lexed.specs.Reported.{IsBetween, IsBody, ReportsFaults, ReportsOf, checked_mode, fixed_message, has_note, prefix_note, quote_of}
+use Rattle.rap_lexed.specs.LexedStr.{AreInOrder, AreTokens, IsLexing, Lexed, Message, Token, joined, messages_of, start_of, token_at}
+use Rattle.rap_lexed.specs.Reported.{IsBody, ReportsFaults, checked_mode, fixed_message, has_note, prefix_note, quote_of}
 use Rattle.rap_lexed.proofs.Tokens.{start_of_next}
 
 -- a text has no more characters than bytes

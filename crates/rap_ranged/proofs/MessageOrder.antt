@@ -1,5 +1,5 @@
 -- The messages about a text are in the order of their positions.
-use Rattle.std.proofs.Common.{◌≡◌, ℕ, zero, suc, ◌+◌, ◌-◌, ◌<◌, ◌≤◌, Bool, true, false, List, [], ◌∷◌, ◌++◌, Option, Some, None, refl, ap, sym, subst, ◌∙◌, append_assoc, append-nil, length, length-append, map, take, arith, inl, inr}
+use Rattle.std.proofs.Common.{◌≡◌, ℕ, zero, suc, ◌+◌, ◌-◌, ◌≤◌, Bool, true, false, List, [], ◌∷◌, ◌++◌, Option, Some, None, refl, ap, sym, subst, ◌∙◌, append_assoc, append-nil, length, length-append, map, take, arith, inl, inr}
 use Rattle.std.specs.Prelude.{codes}
 use Rattle.std.specs.List.{AllByRecursion, after_first, before_first, take_while}
 use Rattle.std.specs.List.Sorted.{IsNonDecreasingBy}
@@ -19,7 +19,7 @@ use Rattle.rap_ranged.specs.RangedForest.{RangedForest}
 use Rattle.rap_ranged.specs.RangedMessages.{RangedMessage, ranged_at, ranged_message}
 use Rattle.rap_ranged.specs.Reports.{ReportValue, reports_of_step, reports_of, lexer_reports}
 use Rattle.rap_ranged.proofs.Merges.{rest_from, rest_all, rest_more, taken_more, taken_none}
-use Rattle.rap_ranged.proofs.Rising.{Rising, rising_append, rising_higher, rising_list, rising_lower, rising_map, rising_none}
+use Rattle.rap_ranged.proofs.Rising.{Rising, rising_append, rising_higher, rising_list, rising_map, rising_none}
 
 -- where a message is
 abbrev pub at_report : ReportValue → ℕ

@@ -1,5 +1,5 @@
 -- The messages of a tree when all of its steps have come.
-use Rattle.std.proofs.Common.{◌≡◌, ◌⊎◌, ℕ, zero, suc, ◌+◌, ◌<◌, ◌≤◌, Bool, true, false, List, [], ◌∷◌, ◌++◌, Some, None, refl, ap, sym, subst, ◌∙◌, append_assoc, append-nil, length, length-append, map, take, drop, arith, inl, inr}
+use Rattle.std.proofs.Common.{◌≡◌, ◌⊎◌, ℕ, suc, ◌+◌, ◌<◌, ◌≤◌, true, false, List, [], ◌∷◌, ◌++◌, Some, None, refl, ap, sym, subst, ◌∙◌, append_assoc, append-nil, length, length-append, map, take, drop, arith, inl, inr}
 use Rattle.std.proofs.Math.Bool.{and-false}
 use Rattle.std.specs.Prelude.{◌&&◌, nat_le, nat_lt, if◌then◌else◌}
 use Rattle.std.specs.List.{find, prefix_len, take_while}
@@ -10,7 +10,7 @@ use Rattle.std.proofs.Math.Seq.{drop-append_seam, take-append_seam}
 use Rattle.rap_lexed.specs.StrForest.{StrForest, str_none, str_node, str_leaf, str_message, str_flat, str_joined}
 use Rattle.rap_lexed.specs.StrStep.{StrStepValue, str_enter, str_exit, str_token, str_error}
 use Rattle.rap_ranged.specs.Leaves.{RangedLeaf, has_byte, leaves_of}
-use Rattle.rap_ranged.specs.Listing.{Noting, note, bare_note, with_end, standing_before, standing_past, all_ranged, all_added, noting_after, noting_after_all, step_end, Rising}
+use Rattle.rap_ranged.specs.Listing.{Noting, note, bare_note, with_end, standing_before, standing_past, all_ranged, all_added, noting_after_all, step_end, Rising}
 use Rattle.rap_ranged.specs.MergedMessages.{is_before, merged}
 use Rattle.rap_ranged.specs.Ranged.{end_from, ranged}
 use Rattle.rap_ranged.specs.RangedMessages.{RangedMessage, ranged_at, ranged_message}

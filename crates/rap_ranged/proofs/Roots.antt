@@ -1,5 +1,5 @@
 -- The root of one tree.
-use Rattle.std.proofs.Common.{◌≡◌, ℕ, ◌+◌, true, refl, length, arith}
+use Rattle.std.proofs.Common.{◌≡◌, true, refl, length, arith}
 use Rattle.rap_lexed.specs.StrForest.{StrForest, str_none, str_node, str_leaf, str_message, str_joined, str_one_tree}
 use Rattle.rap_ranged.specs.Ranged.{Ranged, end_from, ranged}
 use Rattle.rap_ranged.specs.RangedForest.{RangedNode, alone}

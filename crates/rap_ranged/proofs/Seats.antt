@@ -4,14 +4,14 @@ use Rattle.std.specs.List.{before_first, after_first, prefix_len}
 use Rattle.std.proofs.Common.{◌≡◌, refl, sym, subst, ◌∙◌, ap, List, [], ◌∷◌, ◌++◌, ℕ, ◌+◌, Bool, true, false, append_assoc, append-nil, take, drop, length, length-append, arith}
 use Rattle.std.proofs.lemmas.List.{take-append-drop}
 use Rattle.rap_base.specs.TokenKind.{DOT, ERROR, FLOAT_NUMBER}
-use Rattle.rap_events.specs.Forest.{Forest, none, node, leaf, message, split, split_ends, splits_placed, one_tree}
+use Rattle.rap_events.specs.Forest.{Forest, none, node, leaf, message, split, splits_placed, one_tree}
 use Rattle.rap_events.proofs.Trees.{Tree, nothing, a_node, a_leaf, a_message, dotted, apart, tree}
 use Rattle.rap_lexed.specs.Attached.{attached_tail, before_tail}
-use Rattle.rap_lexed.specs.FloatParts.{is_dot, has_dot, without_dot, illegal, with_number, float_in, float_out}
+use Rattle.rap_lexed.specs.FloatParts.{is_dot, has_dot, illegal, with_number}
 use Rattle.rap_lexed.specs.LexedStr.{Token, joined, start_of}
 use Rattle.rap_lexed.specs.StrForest.{StrForest, str_none, str_node, str_leaf, str_message, str_flat, str_joined, with_leaves, with_message}
 use Rattle.rap_lexed.specs.StrStep.{StrStepValue, str_enter, str_exit, str_token, str_error}
-use Rattle.rap_lexed.specs.Trivia.{is_trivial, trivia_at, past_trivia, text_of, end_of, float_text, after_node, placed, with_trivia, LeavesTouch, TreeTouches}
+use Rattle.rap_lexed.specs.Trivia.{is_trivial, trivia_at, past_trivia, end_of, float_text, placed, with_trivia, LeavesTouch, TreeTouches}
 use Rattle.rap_lexed.proofs.Joined.{joined-more, joined-placed, after_node-plain}
 use Rattle.rap_lexed.proofs.Tokens.{joined-append}
 use Rattle.rap_ranged.specs.Ranged.{end_from}

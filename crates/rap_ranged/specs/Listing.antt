@@ -1,6 +1,6 @@
 -- A tree in one list, and its messages, as far as its steps have come.
 -- (Used in contracts between internal functions only; no public contract rests on it.)
-use Rattle.std.specs.Prelude.{ℕ, ◌+◌, ◌<◌, ◌≤◌, List, [], ◌∷◌, ◌++◌, Bool, Option, Some, None, nat_lt, if◌then◌else◌, length, map, take, drop, slice_set}
+use Rattle.std.specs.Prelude.{ℕ, ◌+◌, ◌<◌, ◌≤◌, List, [], ◌∷◌, ◌++◌, Option, Some, None, nat_lt, if◌then◌else◌, length, map, take, drop, slice_set}
 use Rattle.std.specs.List.{slice_get}
 use Rattle.rap_lexed.specs.StrStep.{StrStepValue, str_enter, str_exit, str_token, str_error}
 use Rattle.rap_ranged.specs.Listed.{ListedElement, no_parent}
