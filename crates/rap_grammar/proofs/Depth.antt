@@ -1,5 +1,5 @@
 -- What a rule does with so many rules inside one another, it does where there may be more.
-use Rattle.std.proofs.Common.{◌≡◌, ℕ, suc, Bool, ◌≤◌, Option}
+use Rattle.std.proofs.Common.{ℕ, suc, Bool, ◌≤◌, Option}
 use Rattle.rap_events.specs.State.{State}
 use Rattle.rap_events.specs.declared.parser.CompletedMarker.{CompletedMarker}
 use Rattle.rap_grammar_scripts.proofs.Ends.{answers_more, ends_more}

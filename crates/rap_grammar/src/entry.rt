@@ -81,7 +81,8 @@ fn meta_item(p: &mut Parser<'_>) -> Result<(), NoMemory>
 fn macro_stmts(p: &mut Parser<'_>) -> Result<(), NoMemory>
     ensures grew { OnOk result (Grew (state p.old) (state p.new) 0) }
     ensures rest { OnOk result ((state p.new).rest ≡ []) }
-    ensures script { OnOk result (Does (suc (state p.old).left) statement_script.macro_stmts something (state p.old) (state p.new)) }
+    ensures script { OnOk result
+        (Does (suc (state p.old).left) statement_script.macro_stmts something (state p.old) (state p.new)) }
 {
     'statements: while p.current() != SyntaxKind::EOF {
         let semicolon = Semicolon::Optional;
@@ -94,7 +95,8 @@ fn macro_stmts(p: &mut Parser<'_>) -> Result<(), NoMemory>
 fn items(p: &mut Parser<'_>) -> Result<(), NoMemory>
     ensures grew { OnOk result (Grew (state p.old) (state p.new) 0) }
     ensures rest { OnOk result ((state p.new).rest ≡ []) }
-    ensures script { OnOk result (Does (suc (state p.old).left) (item_script.items false) something (state p.old) (state p.new)) }
+    ensures script { OnOk result
+        (Does (suc (state p.old).left) (item_script.items false) something (state p.old) (state p.new)) }
 {
     'items: while p.current() != SyntaxKind::EOF {
         // Only `safe fn` is more than elsewhere in a foreign block, and there is no other reading of it.
@@ -111,7 +113,8 @@ fn items(p: &mut Parser<'_>) -> Result<(), NoMemory>
 fn macro_items(p: &mut Parser<'_>) -> Result<(), NoMemory>
     ensures grew { OnOk result (Grew (state p.old) (state p.new) 0) }
     ensures rest { OnOk result ((state p.new).rest ≡ []) }
-    ensures script { OnOk result (Does (suc (state p.old).left) (item_script.mod_contents false) something (state p.old) (state p.new)) }
+    ensures script { OnOk result
+        (Does (suc (state p.old).left) (item_script.mod_contents false) something (state p.old) (state p.new)) }
 {
     run(p, Rule::InnerAttrs)?;
     items(p)?;
@@ -122,7 +125,8 @@ fn macro_items(p: &mut Parser<'_>) -> Result<(), NoMemory>
 fn source_file(p: &mut Parser<'_>) -> Result<(), NoMemory>
     ensures grew { OnOk result (Grew (state p.old) (state p.new) 0) }
     ensures rest { OnOk result ((state p.new).rest ≡ []) }
-    ensures script { OnOk result (Does (suc (state p.old).left) item_script.source_file something (state p.old) (state p.new)) }
+    ensures script { OnOk result
+        (Does (suc (state p.old).left) item_script.source_file something (state p.old) (state p.new)) }
 {
     p.eat(T![shebang])?;
     p.eat(T![frontmatter])?;

@@ -61,7 +61,8 @@ fn expr_as_stmt<G: Grammar>(
     requires newest { (state p.old).marker ≡ Some m.pos.value }
     ensures gone { OnOk result (Gone (state p.old) (state p.new) 4) }
     ensures spent { OnOk result (next (state p.old) ≢ EOF → Spent (state p.old) (state p.new) expr_stmt_room) }
-    ensures script { OnOk result (Does (G.left g.now) (script.expr_as_stmt semicolon) something (state p.old) (state p.new)) }
+    ensures script { OnOk result
+        (Does (G.left g.now) (script.expr_as_stmt semicolon) something (state p.old) (state p.new)) }
 {
     if !is_expr_first(p.current()) {
         p.err_and_bump("expected expression, item or let statement")?;
@@ -89,8 +90,8 @@ fn expr_stmt_end(
     requires last { IsLast (state p.old) cm cm.kind.value }
     ensures grew { OnOk result (Grew (state p.old) (state p.new) recovery_events) }
     ensures script { OnOk result
-        ((depth : ℕ) → Does depth (script.expr_stmt_end semicolon (is_block (of_like block_like))) something (state p.old)
-        (state p.new)) }
+        ((depth : ℕ) → Does depth (script.expr_stmt_end semicolon (is_block (of_like block_like))) something
+        (state p.old) (state p.new)) }
 {
     if ends_block(p, semicolon) {
         return Ok(());
@@ -119,8 +120,8 @@ fn expr_semicolon(
 ) -> Result<(), NoMemory>
     ensures grew { OnOk result (Grew (state p.old) (state p.new) 1) }
     ensures script { OnOk result
-        ((depth : ℕ) → Does depth (script.expr_semicolon semicolon (is_block (of_like block_like))) something (state p.old)
-        (state p.new)) }
+        ((depth : ℕ) → Does depth (script.expr_semicolon semicolon (is_block (of_like block_like))) something
+        (state p.old) (state p.new)) }
 {
     match semicolon {
         Semicolon::Required => {

@@ -58,7 +58,8 @@ pub fn union<G: Grammar>(p: &mut Parser<'_>, g: &G, m: Marker) -> Result<(), NoM
 fn struct_or_union<G: Grammar>(p: &mut Parser<'_>, g: &G, is_struct: bool) -> Result<(), NoMemory>
     requires behind { Behind G.valid G.left g.now (state p.old) }
     ensures grew { OnOk result (Grew (state p.old) (state p.new) 4) }
-    ensures script { OnOk result (Does (G.left g.now) (script.struct_or_union is_struct) something (state p.old) (state p.new)) }
+    ensures script { OnOk result
+        (Does (G.left g.now) (script.struct_or_union is_struct) something (state p.old) (state p.new)) }
 {
     item_name(p)?;
     opt_generic_param_list(p, g)?;
@@ -92,7 +93,8 @@ fn fields<G: Grammar>(p: &mut Parser<'_>, g: &G, is_struct: bool) -> Result<(), 
 fn fields_behind_where<G: Grammar>(p: &mut Parser<'_>, g: &G) -> Result<(), NoMemory>
     requires behind { Behind G.valid G.left g.now (state p.old) }
     ensures grew { OnOk result (Grew (state p.old) (state p.new) 1) }
-    ensures script { OnOk result (Does (G.left g.now) script.fields_behind_where something (state p.old) (state p.new)) }
+    ensures script { OnOk result
+        (Does (G.left g.now) script.fields_behind_where something (state p.old) (state p.new)) }
 {
     opt_where_clause(p, g)?;
     if p.eat(T![;])? {
@@ -207,7 +209,8 @@ fn variant_or_block<G: Grammar>(p: &mut Parser<'_>, g: &G) -> Result<(), NoMemor
 /// The comma in braces, before another field or variant and after it.
 fn comma_in_braces(p: &mut Parser<'_>) -> Result<(), NoMemory>
     ensures grew { OnOk result (Grew (state p.old) (state p.new) 1) }
-    ensures script { OnOk result ((depth : ℕ) → Does depth script.comma_in_braces something (state p.old) (state p.new)) }
+    ensures script { OnOk result
+        ((depth : ℕ) → Does depth script.comma_in_braces something (state p.old) (state p.new)) }
 {
     if p.at(T!['}']) {
         return Ok(());
@@ -258,7 +261,8 @@ fn missing_in_list(p: &mut Parser<'_>, message: &str) -> Result<(), NoMemory>
     ensures grew { OnOk result (Grew (state p.old) (state p.new) recovery_events) }
     ensures took { OnOk result
         (next (state p.old) ≢ EOF → next (state p.old) ≢ R_CURLY → Took (state p.old) (state p.new) name_room) }
-    ensures script { OnOk result ((depth : ℕ) → Does depth (script.missing_in_list message.now) something (state p.old) (state p.new)) }
+    ensures script { OnOk result
+        ((depth : ℕ) → Does depth (script.missing_in_list message.now) something (state p.old) (state p.new)) }
 {
     if p.at(T!['}']) {
         p.error(message)?;
@@ -454,7 +458,8 @@ fn opt_mut_restriction<G: Grammar>(p: &mut Parser<'_>, g: &G) -> Result<(), NoMe
     ensures took { OnOk result
         (is_mut_restriction_start (state p.old).rest ≡ true → Took (state p.old) (state p.new) brackets_room) }
     ensures stays { OnOk result (is_mut_restriction_start (state p.old).rest ≡ false → state p.new ≡ state p.old) }
-    ensures script { OnOk result (Does (G.left g.now) script.opt_mut_restriction something (state p.old) (state p.new)) }
+    ensures script { OnOk result
+        (Does (G.left g.now) script.opt_mut_restriction something (state p.old) (state p.new)) }
 {
     if is_mut_restriction_start(p) {
         mut_restriction(p, g)?;
@@ -555,7 +560,8 @@ fn typed_field<G: Grammar>(
     ensures gone { OnOk result (Gone (state p.old) (state p.new) 2) }
     ensures spent { IfOk result (λ found. found ≡ true → Spent (state p.old) (state p.new) param_room) }
     ensures script { IfOk result
-        (λ found. Does (G.left g.now) (script.typed_field (of_bool has_vis)) (of_bool found) (state p.old) (state p.new)) }
+        (λ found. Does (G.left g.now) (script.typed_field (of_bool has_vis)) (of_bool found) (state p.old)
+        (state p.new)) }
 {
     if is_type_first(p.current()) {
         type_(p, g)?;

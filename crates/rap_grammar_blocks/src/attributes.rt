@@ -93,7 +93,8 @@ fn attr_mark(p: &mut Parser<'_>, inner: bool) -> Result<(), NoMemory>
     requires first { starts_attr inner (state p.old).rest ≡ true }
     requires no_comment { is_at (doc_comment inner) (state p.old).rest ≡ false }
     ensures took { OnOk result (Took (state p.old) (state p.new) name_room) }
-    ensures script { OnOk result ((depth : ℕ) → Does depth (script.attr_mark inner) something (state p.old) (state p.new)) }
+    ensures script { OnOk result
+        ((depth : ℕ) → Does depth (script.attr_mark inner) something (state p.old) (state p.new)) }
 {
     p.bump(T![#])?;
     if inner {

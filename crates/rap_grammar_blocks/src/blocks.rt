@@ -61,7 +61,8 @@ pub fn stmt_list<G: Grammar>(p: &mut Parser<'_>, g: &G) -> Result<(), NoMemory>
 pub fn expr_block_contents<G: Grammar>(p: &mut Parser<'_>, g: &G) -> Result<(), NoMemory>
     requires behind { Behind G.valid G.left g.now (state p.old) }
     ensures grew { OnOk result (Grew (state p.old) (state p.new) 8) }
-    ensures script { OnOk result (Does (G.left g.now) script.expr_block_contents something (state p.old) (state p.new)) }
+    ensures script { OnOk result
+        (Does (G.left g.now) script.expr_block_contents something (state p.old) (state p.new)) }
 {
     inner_attrs(p, g)?;
     statements(p, g)?;
@@ -86,7 +87,8 @@ pub fn error_block<G: Grammar>(p: &mut Parser<'_>, g: &G, message: &str) -> Resu
     requires within { Within G.valid G.left g.now (state p.old) }
     requires here { next (state p.old) ≡ L_CURLY }
     ensures took { OnOk result (Took (state p.old) (state p.new) list_room) }
-    ensures script { OnOk result (Does (G.left g.now) (script.error_block message.now) something (state p.old) (state p.new)) }
+    ensures script { OnOk result
+        (Does (G.left g.now) (script.error_block message.now) something (state p.old) (state p.new)) }
 {
     let m = p.start()?;
     p.error(message)?;
@@ -109,7 +111,8 @@ pub fn let_stmt<G: Grammar>(p: &mut Parser<'_>, g: &G, with_semi: Semicolon) -> 
     requires within { Within G.valid G.left g.now (state p.old) }
     requires here { starts_let (state p.old).rest ≡ true }
     ensures took { OnOk result (Took (state p.old) (state p.new) brackets_room) }
-    ensures script { OnOk result (Does (G.left g.now) (script.let_stmt with_semi) something (state p.old) (state p.new)) }
+    ensures script { OnOk result
+        (Does (G.left g.now) (script.let_stmt with_semi) something (state p.old) (state p.new)) }
 {
     p.eat(T![super])?;
     p.bump(T![let])?;
@@ -138,7 +141,8 @@ fn let_type<G: Grammar>(p: &mut Parser<'_>, g: &G) -> Result<(), NoMemory>
 fn let_value<G: Grammar>(p: &mut Parser<'_>, g: &G) -> Result<Option<CompletedMarker>, NoMemory>
     requires within { Within G.valid G.left g.now (state p.old) }
     ensures grew { OnOk result (Grew (state p.old) (state p.new) 0) }
-    ensures script { IfOk result (λ value. Does (G.left g.now) script.let_value (of_option value) (state p.old) (state p.new)) }
+    ensures script { IfOk result
+        (λ value. Does (G.left g.now) script.let_value (of_option value) (state p.old) (state p.new)) }
 {
     if !p.eat(T![=])? {
         return Ok(None);
@@ -155,7 +159,8 @@ fn let_else<G: Grammar>(
 ) -> Result<(), NoMemory>
     requires within { Within G.valid G.left g.now (state p.old) }
     ensures grew { OnOk result (Grew (state p.old) (state p.new) 0) }
-    ensures script { OnOk result (Does (G.left g.now) (script.let_else (of_option value)) something (state p.old) (state p.new)) }
+    ensures script { OnOk result
+        (Does (G.left g.now) (script.let_else (of_option value)) something (state p.old) (state p.new)) }
 {
     if !p.at(T![else]) {
         return Ok(());
@@ -169,7 +174,8 @@ fn let_else<G: Grammar>(
 fn value_before_else(p: &mut Parser<'_>, value: Option<CompletedMarker>) -> Result<(), NoMemory>
     ensures grew { OnOk result (Grew (state p.old) (state p.new) 1) }
     ensures rest { OnOk result ((state p.new).rest ≡ (state p.old).rest) }
-    ensures script { OnOk result ((depth : ℕ) → Does depth (script.value_before_else (of_option value)) something (state p.old) (state p.new)) }
+    ensures script { OnOk result
+        ((depth : ℕ) → Does depth (script.value_before_else (of_option value)) something (state p.old) (state p.new)) }
 {
     let Some(_) = value else {
         return Ok(());
@@ -198,7 +204,8 @@ fn else_block<G: Grammar>(p: &mut Parser<'_>, g: &G) -> Result<(), NoMemory>
 /// The semicolon of a `let` statement, which may or must be there, or is left to others.
 fn let_end(p: &mut Parser<'_>, with_semi: Semicolon) -> Result<(), NoMemory>
     ensures grew { OnOk result (Grew (state p.old) (state p.new) 1) }
-    ensures script { OnOk result ((depth : ℕ) → Does depth (script.let_end with_semi) something (state p.old) (state p.new)) }
+    ensures script { OnOk result
+        ((depth : ℕ) → Does depth (script.let_end with_semi) something (state p.old) (state p.new)) }
 {
     match with_semi {
         Semicolon::Required => {
@@ -218,7 +225,8 @@ pub fn error_let_stmt<G: Grammar>(p: &mut Parser<'_>, g: &G, message: &str) -> R
     requires within { Within G.valid G.left g.now (state p.old) }
     requires here { next (state p.old) ≡ LET_KW }
     ensures took { OnOk result (Took (state p.old) (state p.new) list_room) }
-    ensures script { OnOk result (Does (G.left g.now) (script.error_let_stmt message.now) something (state p.old) (state p.new)) }
+    ensures script { OnOk result
+        (Does (G.left g.now) (script.error_let_stmt message.now) something (state p.old) (state p.new)) }
 {
     let m = p.start()?;
     p.error(message)?;

@@ -107,7 +107,8 @@ fn named_operand<G: Grammar>(
     ensures gone { OnOk result (Gone (state p.old) (state p.new) 19) }
     ensures ended { OnOk result (0 < (state p.old).left → Ended (state p.old) (state p.new) asm_room) }
     ensures script { IfOk result
-        (λ o. Does (G.left g.now) (script.named_operand allow_templates) (script.of_allow o) (state p.old) (state p.new)) }
+        (λ o. Does (G.left g.now) (script.named_operand allow_templates) (script.of_allow o) (state p.old)
+        (state p.new)) }
 {
     let is_named = operand_name(p)?;
     if asm_operand(p, g)? {
@@ -185,7 +186,8 @@ fn some_expr<G: Grammar>(p: &mut Parser<'_>, g: &G) -> Result<bool, NoMemory>
     ensures grew { OnOk result (Grew (state p.old) (state p.new) 8) }
     ensures took { IfOk result (λ found. found ≡ true → Took (state p.old) (state p.new) expression_room) }
     ensures missed { IfOk result (λ found. found ≡ false → Missed (state p.old) (state p.new)) }
-    ensures script { IfOk result (λ found. Does (G.left g.now) called.expr (of_bool found) (state p.old) (state p.new)) }
+    ensures script { IfOk result
+        (λ found. Does (G.left g.now) called.expr (of_bool found) (state p.old) (state p.new)) }
 {
     let r = Restrictions {
         forbid_structs: false,
@@ -202,7 +204,8 @@ fn operand_name(p: &mut Parser<'_>) -> Result<bool, NoMemory>
     ensures grew { OnOk result (Grew (state p.old) (state p.new) 0) }
     ensures took { IfOk result (λ found. found ≡ true → Took (state p.old) (state p.new) name_room) }
     ensures stays { IfOk result (λ found. found ≡ false → state p.new ≡ state p.old) }
-    ensures script { IfOk result (λ found. (depth : ℕ) → Does depth script.operand_name (of_bool found) (state p.old) (state p.new)) }
+    ensures script { IfOk result
+        (λ found. (depth : ℕ) → Does depth script.operand_name (of_bool found) (state p.old) (state p.new)) }
 {
     if !starts_operand_name(p) {
         return Ok(false);
@@ -227,7 +230,8 @@ fn asm_operand<G: Grammar>(p: &mut Parser<'_>, g: &G) -> Result<bool, NoMemory>
     ensures took { IfOk result (λ found. found ≡ true → Took (state p.old) (state p.new) operand_room) }
     ensures grew { IfOk result (λ found. found ≡ false → Grew (state p.old) (state p.new) 4) }
     ensures stays { IfOk result (λ found. found ≡ false → (state p.new).left ≡ (state p.old).left) }
-    ensures script { IfOk result (λ found. Does (G.left g.now) script.asm_operand (of_bool found) (state p.old) (state p.new)) }
+    ensures script { IfOk result
+        (λ found. Does (G.left g.now) script.asm_operand (of_bool found) (state p.old) (state p.new)) }
 {
     let op = p.start()?;
     if let Some(goes_both_ways) = dir_spec(p)? {
@@ -260,7 +264,8 @@ fn dir_spec(p: &mut Parser<'_>) -> Result<Option<bool>, NoMemory>
     ensures took { IfOk result (λ o. IfSome o (λ both. Took (state p.old) (state p.new) name_room)) }
     ensures grew { IfOk result (λ o. o ≡ None → Grew (state p.old) (state p.new) 2) }
     ensures stays { IfOk result (λ o. o ≡ None → (state p.new).left ≡ (state p.old).left) }
-    ensures script { IfOk result (λ o. (depth : ℕ) → Does depth script.dir_spec (script.of_way o) (state p.old) (state p.new)) }
+    ensures script { IfOk result
+        (λ o. (depth : ℕ) → Does depth script.dir_spec (script.of_way o) (state p.old) (state p.new)) }
 {
     let m = p.start()?;
     if p.eat(T![in])? {
@@ -292,7 +297,8 @@ fn dir_spec(p: &mut Parser<'_>) -> Result<Option<bool>, NoMemory>
 fn reg_operand<G: Grammar>(p: &mut Parser<'_>, g: &G, goes_both_ways: bool) -> Result<(), NoMemory>
     requires behind { Behind G.valid G.left g.now (state p.old) }
     ensures grew { OnOk result (Grew (state p.old) (state p.new) 15) }
-    ensures script { OnOk result (Does (G.left g.now) (script.reg_operand goes_both_ways) something (state p.old) (state p.new)) }
+    ensures script { OnOk result
+        (Does (G.left g.now) (script.reg_operand goes_both_ways) something (state p.old) (state p.new)) }
 {
     parse_reg(p)?;
     let op_expr = p.start()?;
@@ -361,7 +367,8 @@ fn reg_spec(p: &mut Parser<'_>) -> Result<(), NoMemory>
 /// The clobbered ABIs, as `("C", "system")`.
 fn parse_clobber_abi(p: &mut Parser<'_>) -> Result<(), NoMemory>
     ensures grew { OnOk result (Grew (state p.old) (state p.new) 2) }
-    ensures script { OnOk result ((depth : ℕ) → Does depth script.parse_clobber_abi something (state p.old) (state p.new)) }
+    ensures script { OnOk result
+        ((depth : ℕ) → Does depth script.parse_clobber_abi something (state p.old) (state p.new)) }
 {
     p.expect(T!['('])?;
     clobber_abis(p)?;
@@ -428,7 +435,8 @@ fn asm_options(p: &mut Parser<'_>) -> Result<(), NoMemory>
 fn option_name(p: &mut Parser<'_>) -> Result<bool, NoMemory>
     ensures took { IfOk result (λ found. found ≡ true → Took (state p.old) (state p.new) name_room) }
     ensures stays { IfOk result (λ found. found ≡ false → state p.new ≡ state p.old) }
-    ensures script { IfOk result (λ found. (depth : ℕ) → Does depth script.option_name (of_bool found) (state p.old) (state p.new)) }
+    ensures script { IfOk result
+        (λ found. (depth : ℕ) → Does depth script.option_name (of_bool found) (state p.old) (state p.new)) }
 {
     if p.eat_contextual_kw(T![pure])? {
         return Ok(true);
@@ -450,7 +458,8 @@ fn option_name(p: &mut Parser<'_>) -> Result<bool, NoMemory>
 fn flow_option(p: &mut Parser<'_>) -> Result<bool, NoMemory>
     ensures took { IfOk result (λ found. found ≡ true → Took (state p.old) (state p.new) name_room) }
     ensures stays { IfOk result (λ found. found ≡ false → state p.new ≡ state p.old) }
-    ensures script { IfOk result (λ found. (depth : ℕ) → Does depth script.flow_option (of_bool found) (state p.old) (state p.new)) }
+    ensures script { IfOk result
+        (λ found. (depth : ℕ) → Does depth script.flow_option (of_bool found) (state p.old) (state p.new)) }
 {
     if p.eat_contextual_kw(T![noreturn])? {
         return Ok(true);

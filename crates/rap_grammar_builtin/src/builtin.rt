@@ -30,7 +30,8 @@ pub fn builtin_expr<G: Grammar>(p: &mut Parser<'_>, g: &G) -> Result<Answer, NoM
     requires within { Within G.valid G.left g.now (state p.old) }
     requires here { starts_builtin (state p.old).rest ≡ true }
     ensures operand { IfOk result (Operand atom_room (state p.old) (state p.new)) }
-    ensures script { IfOk result (λ e. Does (G.left g.now) script.builtin_expr (of_expr e) (state p.old) (state p.new)) }
+    ensures script { IfOk result
+        (λ e. Does (G.left g.now) script.builtin_expr (of_expr e) (state p.old) (state p.new)) }
 {
     let m = p.start()?;
     p.bump_remap(T![builtin])?;
@@ -64,7 +65,8 @@ fn other_builtin<G: Grammar>(
     ensures plain { IfOk result (λ o. IfSome o (λ cm. is_plain cm.kind.value ≡ true)) }
     ensures gone { IfOk result (λ o. o ≡ None → Gone (state p.old) (state p.new) 2) }
     ensures reported { IfOk result (λ o. o ≡ None → (state p.old).messages < (state p.new).messages) }
-    ensures script { IfOk result (λ o. Does (G.left g.now) script.other_builtin (of_option o) (state p.old) (state p.new)) }
+    ensures script { IfOk result
+        (λ o. Does (G.left g.now) script.other_builtin (of_option o) (state p.old) (state p.new)) }
 {
     if asm_name(p)? {
         let cm = parse_asm_expr(p, g, m)?;
@@ -88,7 +90,8 @@ fn other_builtin<G: Grammar>(
 fn asm_name(p: &mut Parser<'_>) -> Result<bool, NoMemory>
     ensures took { IfOk result (λ found. found ≡ true → Took (state p.old) (state p.new) name_room) }
     ensures stays { IfOk result (λ found. found ≡ false → state p.new ≡ state p.old) }
-    ensures script { IfOk result (λ found. (depth : ℕ) → Does depth script.asm_name (of_bool found) (state p.old) (state p.new)) }
+    ensures script { IfOk result
+        (λ found. (depth : ℕ) → Does depth script.asm_name (of_bool found) (state p.old) (state p.new)) }
 {
     if p.eat_contextual_kw(T![asm])? {
         return Ok(true);
@@ -126,7 +129,8 @@ fn offset_of<G: Grammar>(p: &mut Parser<'_>, g: &G) -> Result<(), NoMemory>
 /// The fields on the way to the one whose place is asked for, as `b.0`.
 fn offset_of_fields(p: &mut Parser<'_>) -> Result<(), NoMemory>
     ensures grew { OnOk result (Grew (state p.old) (state p.new) 0) }
-    ensures script { OnOk result ((depth : ℕ) → Does depth script.offset_of_fields something (state p.old) (state p.new)) }
+    ensures script { OnOk result
+        ((depth : ℕ) → Does depth script.offset_of_fields something (state p.old) (state p.new)) }
 {
     'fields: while !p.at(SyntaxKind::EOF) && !p.at(T![')']) {
         name_ref_mod_path_or_index(p)?;

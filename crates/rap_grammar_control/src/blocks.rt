@@ -27,6 +27,7 @@ use rap_grammar_scripts::arguments::BlockLike;
 
 /// A block by itself, as `{ a; b }`.
 #[inline(never)]
+#[tactic(auto, unfolding(rap_grammar_scripts::specs::Atom::plain_block))]
 pub fn plain_block<G: Grammar>(p: &mut Parser<'_>, g: &G) -> Result<CompletedMarker, NoMemory>
     requires within { Within G.valid G.left g.now (state p.old) }
     requires here { next (state p.old) ≡ L_CURLY }
@@ -41,6 +42,7 @@ pub fn plain_block<G: Grammar>(p: &mut Parser<'_>, g: &G) -> Result<CompletedMar
 
 /// A block with an effect, a closure, a `try` block or a `for` loop. Where none begins, the next token stands in an
 /// `ERROR`.
+#[tactic(auto, unfolding(rap_grammar_scripts::specs::Atom::effect_expr))]
 pub fn effect_expr<G: Grammar>(p: &mut Parser<'_>, g: &G) -> Result<Answer, NoMemory>
     requires within { Within G.valid G.left g.now (state p.old) }
     requires more { next (state p.old) ≢ EOF }
@@ -109,6 +111,7 @@ fn effects(p: &mut Parser<'_>) -> Result<(), NoMemory>
 
 /// A block with a keyword before it, as `unsafe {}`.
 #[inline(never)]
+#[tactic(auto, unfolding(rap_grammar_scripts::specs::Atom::effect_block))]
 fn effect_block<G: Grammar>(p: &mut Parser<'_>, g: &G) -> Result<CompletedMarker, NoMemory>
     requires within { Within G.valid G.left g.now (state p.old) }
     requires starts { is_effect_block (state p.old).rest ≡ true }
@@ -123,6 +126,7 @@ fn effect_block<G: Grammar>(p: &mut Parser<'_>, g: &G) -> Result<CompletedMarker
 }
 
 /// A `try`, and the type of the block after it, as `try bikeshed a`.
+#[tactic(auto, unfolding(rap_grammar_scripts::specs::Atom::try_modifier))]
 fn try_modifier<G: Grammar>(p: &mut Parser<'_>, g: &G) -> Result<(), NoMemory>
     requires within { Within G.valid G.left g.now (state p.old) }
     requires here { next (state p.old) ≡ TRY_KW }
@@ -142,6 +146,7 @@ fn try_modifier<G: Grammar>(p: &mut Parser<'_>, g: &G) -> Result<(), NoMemory>
 
 /// A `try` block, as `try {}` and `try bikeshed a {}`.
 #[inline(never)]
+#[tactic(auto, unfolding(rap_grammar_scripts::specs::Atom::try_block_expr))]
 fn try_block_expr<G: Grammar>(p: &mut Parser<'_>, g: &G) -> Result<CompletedMarker, NoMemory>
     requires within { Within G.valid G.left g.now (state p.old) }
     requires here { next (state p.old) ≡ TRY_KW }

@@ -23,6 +23,7 @@ use rap_grammar_params::params::param_list_closure;
 
 /// A closure, as `|a| b`.
 #[inline(never)]
+#[tactic(auto, unfolding(rap_grammar_scripts::specs::Control::closure_expr))]
 pub fn closure_expr<G: Grammar>(p: &mut Parser<'_>, g: &G) -> Result<CompletedMarker, NoMemory>
     requires within { Within G.valid G.left g.now (state p.old) }
     requires here { is_closure (state p.old).rest ≡ true }
@@ -44,6 +45,7 @@ pub fn closure_expr<G: Grammar>(p: &mut Parser<'_>, g: &G) -> Result<CompletedMa
 }
 
 /// The lifetimes of a closure, as `for<'a>`, if it has some.
+#[tactic(auto, unfolding(rap_grammar_scripts::specs::Control::closure_binder))]
 fn closure_binder<G: Grammar>(p: &mut Parser<'_>, g: &G) -> Result<(), NoMemory>
     requires within { Within G.valid G.left g.now (state p.old) }
     ensures grew { OnOk result (Grew (state p.old) (state p.new) 0) }
@@ -59,13 +61,15 @@ fn closure_binder<G: Grammar>(p: &mut Parser<'_>, g: &G) -> Result<(), NoMemory>
 }
 
 /// The keywords before the parameters of a closure, as `static async move`.
+#[tactic(auto, unfolding(rap_grammar_scripts::specs::Control::closure_keywords))]
 fn closure_keywords(p: &mut Parser<'_>) -> Result<(), NoMemory>
     ensures grew { OnOk result (Grew (state p.old) (state p.new) 0) }
     ensures took { OnOk result
         (one_of (CONST_KW ∷ STATIC_KW ∷ ASYNC_KW ∷ MOVE_KW ∷ []) (next (state p.old)) ≡ true →
         Took (state p.old) (state p.new) name_room) }
     ensures stays { OnOk result (next (state p.old) ≡ PIPE → next (state p.new) ≡ PIPE) }
-    ensures script { OnOk result ((depth : ℕ) → Does depth script.closure_keywords something (state p.old) (state p.new)) }
+    ensures script { OnOk result
+        ((depth : ℕ) → Does depth script.closure_keywords something (state p.old) (state p.new)) }
 {
     p.eat(T![const])?;
     p.eat(T![static])?;
@@ -76,6 +80,7 @@ fn closure_keywords(p: &mut Parser<'_>) -> Result<(), NoMemory>
 }
 
 /// The body of a closure: an expression, or a block if there is a return type.
+#[tactic(auto, unfolding(rap_grammar_scripts::specs::Control::closure_body))]
 fn closure_body<G: Grammar>(p: &mut Parser<'_>, g: &G) -> Result<(), NoMemory>
     requires behind { Behind G.valid G.left g.now (state p.old) }
     ensures grew { OnOk result (Grew (state p.old) (state p.new) 8) }
@@ -97,7 +102,8 @@ fn closure_body<G: Grammar>(p: &mut Parser<'_>, g: &G) -> Result<(), NoMemory>
 /// Angle brackets that nothing opened, after the type of a closure.
 fn closing_angles(p: &mut Parser<'_>) -> Result<(), NoMemory>
     ensures grew { OnOk result (Grew (state p.old) (state p.new) 0) }
-    ensures script { OnOk result ((depth : ℕ) → Does depth script.closing_angles something (state p.old) (state p.new)) }
+    ensures script { OnOk result
+        ((depth : ℕ) → Does depth script.closing_angles something (state p.old) (state p.new)) }
 {
     'angles: while p.at(T![>]) {
         p.err_and_bump("expected a curly brace")?;

@@ -25,6 +25,7 @@ use rap_grammar_scripts::arguments::{BlockLike, Restrictions};
 
 /// An `if`, as `if a { b } else { c }`.
 #[inline(never)]
+#[tactic(auto, unfolding(rap_grammar_scripts::specs::Control::if_expr))]
 pub fn if_expr<G: Grammar>(p: &mut Parser<'_>, g: &G) -> Result<CompletedMarker, NoMemory>
     requires within { Within G.valid G.left g.now (state p.old) }
     requires here { next (state p.old) ≡ IF_KW }
@@ -41,6 +42,7 @@ pub fn if_expr<G: Grammar>(p: &mut Parser<'_>, g: &G) -> Result<CompletedMarker,
 }
 
 /// The `else` of an `if`, if there is one: a block, or another `if`.
+#[tactic(auto, unfolding(rap_grammar_scripts::specs::Control::else_branch))]
 fn else_branch<G: Grammar>(p: &mut Parser<'_>, g: &G) -> Result<(), NoMemory>
     requires behind { Behind G.valid G.left g.now (state p.old) }
     ensures grew { OnOk result (Grew (state p.old) (state p.new) 0) }
@@ -80,6 +82,7 @@ pub fn let_expr<G: Grammar>(
 
 /// A `loop`, as `loop { a }`.
 #[inline(never)]
+#[tactic(auto, unfolding(rap_grammar_scripts::specs::Control::loop_expr))]
 pub fn loop_expr<G: Grammar>(p: &mut Parser<'_>, g: &G) -> Result<CompletedMarker, NoMemory>
     requires within { Within G.valid G.left g.now (state p.old) }
     requires here { next (state p.old) ≡ LOOP_KW }
@@ -92,6 +95,7 @@ pub fn loop_expr<G: Grammar>(p: &mut Parser<'_>, g: &G) -> Result<CompletedMarke
 }
 
 /// The same from the newest marker on.
+#[tactic(auto, unfolding(rap_grammar_scripts::specs::Control::loop_from))]
 fn loop_from<G: Grammar>(p: &mut Parser<'_>, g: &G, m: Marker) -> Result<CompletedMarker, NoMemory>
     requires within { Within G.valid G.left g.now (state p.old) }
     requires newest { (state p.old).marker ≡ Some m.pos.value }
@@ -107,6 +111,7 @@ fn loop_from<G: Grammar>(p: &mut Parser<'_>, g: &G, m: Marker) -> Result<Complet
 
 /// A `while` loop, as `while a { b }`.
 #[inline(never)]
+#[tactic(auto, unfolding(rap_grammar_scripts::specs::Control::while_expr))]
 pub fn while_expr<G: Grammar>(p: &mut Parser<'_>, g: &G) -> Result<CompletedMarker, NoMemory>
     requires within { Within G.valid G.left g.now (state p.old) }
     requires here { next (state p.old) ≡ WHILE_KW }
@@ -119,6 +124,7 @@ pub fn while_expr<G: Grammar>(p: &mut Parser<'_>, g: &G) -> Result<CompletedMark
 }
 
 /// The same from the newest marker on.
+#[tactic(auto, unfolding(rap_grammar_scripts::specs::Control::while_from))]
 fn while_from<G: Grammar>(p: &mut Parser<'_>, g: &G, m: Marker) -> Result<CompletedMarker, NoMemory>
     requires within { Within G.valid G.left g.now (state p.old) }
     requires newest { (state p.old).marker ≡ Some m.pos.value }
@@ -135,6 +141,7 @@ fn while_from<G: Grammar>(p: &mut Parser<'_>, g: &G, m: Marker) -> Result<Comple
 
 /// A `for` loop, as `for a in b { c }`.
 #[inline(never)]
+#[tactic(auto, unfolding(rap_grammar_scripts::specs::Control::for_expr))]
 pub fn for_expr<G: Grammar>(p: &mut Parser<'_>, g: &G) -> Result<CompletedMarker, NoMemory>
     requires within { Within G.valid G.left g.now (state p.old) }
     requires here { next (state p.old) ≡ FOR_KW }
@@ -165,12 +172,14 @@ fn for_from<G: Grammar>(p: &mut Parser<'_>, g: &G, m: Marker) -> Result<Complete
 
 /// A loop or a block after its label, as `'a: loop {}`. Where neither follows, the label stands in an `ERROR`.
 #[inline(never)]
+#[tactic(auto, unfolding(rap_grammar_scripts::specs::Control::labelled_expr))]
 pub fn labelled_expr<G: Grammar>(p: &mut Parser<'_>, g: &G) -> Result<Answer, NoMemory>
     requires within { Within G.valid G.left g.now (state p.old) }
     requires here { next (state p.old) ≡ LIFETIME_IDENT }
     requires colon { NthAt (state p.old) 1 COLON }
     ensures operand { IfOk result (Operand atom_room (state p.old) (state p.new)) }
-    ensures script { IfOk result (λ e. Does (G.left g.now) script.labelled_expr (of_expr e) (state p.old) (state p.new)) }
+    ensures script { IfOk result
+        (λ e. Does (G.left g.now) script.labelled_expr (of_expr e) (state p.old) (state p.new)) }
 {
     let m = p.start()?;
     label(p)?;
@@ -193,11 +202,13 @@ fn label(p: &mut Parser<'_>) -> Result<(), NoMemory>
 }
 
 /// What the label is of, from the newest marker on.
+#[tactic(auto, unfolding(rap_grammar_scripts::specs::Control::labelled_from))]
 fn labelled_from<G: Grammar>(p: &mut Parser<'_>, g: &G, m: Marker) -> Result<Answer, NoMemory>
     requires within { Within G.valid G.left g.now (state p.old) }
     requires newest { (state p.old).marker ≡ Some m.pos.value }
     ensures operand { IfOk result (OperandFrom 2 (state p.old) (state p.new)) }
-    ensures script { IfOk result (λ e. Does (G.left g.now) script.labelled_from (of_expr e) (state p.old) (state p.new)) }
+    ensures script { IfOk result
+        (λ e. Does (G.left g.now) script.labelled_from (of_expr e) (state p.old) (state p.new)) }
 {
     match p.current() {
         T![loop] => Ok(Some((loop_from(p, g, m)?, BlockLike::Block))),

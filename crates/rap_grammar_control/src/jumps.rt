@@ -29,10 +29,12 @@ fn has_operand(p: &Parser<'_>, before_block: bool) -> bool
 }
 
 /// An operand that may be missing.
+#[tactic(auto, unfolding(rap_grammar_scripts::specs::Atom::opt_expr))]
 fn opt_expr<G: Grammar>(p: &mut Parser<'_>, g: &G, before_block: bool) -> Result<(), NoMemory>
     requires behind { Behind G.valid G.left g.now (state p.old) }
     ensures grew { OnOk result (Grew (state p.old) (state p.new) 8) }
-    ensures script { OnOk result (Does (G.left g.now) (script.opt_expr before_block) something (state p.old) (state p.new)) }
+    ensures script { OnOk result
+        (Does (G.left g.now) (script.opt_expr before_block) something (state p.old) (state p.new)) }
 {
     if !has_operand(p, before_block) {
         return Ok(());
@@ -42,6 +44,7 @@ fn opt_expr<G: Grammar>(p: &mut Parser<'_>, g: &G, before_block: bool) -> Result
 }
 
 /// The label of the loop or block, if there is one.
+#[tactic(auto, unfolding(rap_grammar_scripts::specs::Atom::opt_lifetime))]
 fn opt_lifetime(p: &mut Parser<'_>) -> Result<(), NoMemory>
     ensures grew { OnOk result (Grew (state p.old) (state p.new) 0) }
     ensures script { OnOk result ((depth : ℕ) → Does depth script.opt_lifetime something (state p.old) (state p.new)) }
@@ -55,6 +58,7 @@ fn opt_lifetime(p: &mut Parser<'_>) -> Result<(), NoMemory>
 
 /// A `return`, as `return` and `return a`.
 #[inline(never)]
+#[tactic(auto, unfolding(rap_grammar_scripts::specs::Atom::return_expr))]
 pub fn return_expr<G: Grammar>(p: &mut Parser<'_>, g: &G) -> Result<CompletedMarker, NoMemory>
     requires within { Within G.valid G.left g.now (state p.old) }
     requires here { next (state p.old) ≡ RETURN_KW }
@@ -70,6 +74,7 @@ pub fn return_expr<G: Grammar>(p: &mut Parser<'_>, g: &G) -> Result<CompletedMar
 
 /// A `become`, as `become f()`.
 #[inline(never)]
+#[tactic(auto, unfolding(rap_grammar_scripts::specs::Atom::become_expr))]
 pub fn become_expr<G: Grammar>(p: &mut Parser<'_>, g: &G) -> Result<CompletedMarker, NoMemory>
     requires within { Within G.valid G.left g.now (state p.old) }
     requires here { next (state p.old) ≡ BECOME_KW }
@@ -85,6 +90,7 @@ pub fn become_expr<G: Grammar>(p: &mut Parser<'_>, g: &G) -> Result<CompletedMar
 
 /// A `yield`, as `yield` and `yield a`.
 #[inline(never)]
+#[tactic(auto, unfolding(rap_grammar_scripts::specs::Atom::yield_expr))]
 pub fn yield_expr<G: Grammar>(p: &mut Parser<'_>, g: &G) -> Result<CompletedMarker, NoMemory>
     requires within { Within G.valid G.left g.now (state p.old) }
     requires here { next (state p.old) ≡ YIELD_KW }
@@ -108,6 +114,7 @@ pub fn starts_yeet(p: &Parser<'_>) -> bool
 
 /// A `do yeet`, as `do yeet` and `do yeet a`.
 #[inline(never)]
+#[tactic(auto, unfolding(rap_grammar_scripts::specs::Atom::yeet_expr))]
 pub fn yeet_expr<G: Grammar>(p: &mut Parser<'_>, g: &G) -> Result<CompletedMarker, NoMemory>
     requires within { Within G.valid G.left g.now (state p.old) }
     requires here { next (state p.old) ≡ DO_KW }
@@ -124,6 +131,7 @@ pub fn yeet_expr<G: Grammar>(p: &mut Parser<'_>, g: &G) -> Result<CompletedMarke
 
 /// A `continue`, as `continue` and `continue 'a`.
 #[inline(never)]
+#[tactic(auto, unfolding(rap_grammar_scripts::specs::Atom::continue_expr))]
 pub fn continue_expr(p: &mut Parser<'_>) -> Result<CompletedMarker, NoMemory>
     requires here { next (state p.old) ≡ CONTINUE_KW }
     ensures made { IfOk result (Makes CONTINUE_EXPR atom_room (state p.old) (state p.new)) }
@@ -138,6 +146,7 @@ pub fn continue_expr(p: &mut Parser<'_>) -> Result<CompletedMarker, NoMemory>
 
 /// A `break`, as `break`, `break 'a` and `break 'a b`.
 #[inline(never)]
+#[tactic(auto, unfolding(rap_grammar_scripts::specs::Atom::break_expr))]
 pub fn break_expr<G: Grammar>(
     p: &mut Parser<'_>,
     g: &G,

@@ -25,6 +25,7 @@ use rap_grammar_scripts::arguments::BlockLike;
 
 /// A `match`, as `match a { b => c }`.
 #[inline(never)]
+#[tactic(auto, unfolding(rap_grammar_scripts::specs::Control::match_expr))]
 pub fn match_expr<G: Grammar>(p: &mut Parser<'_>, g: &G) -> Result<CompletedMarker, NoMemory>
     requires within { Within G.valid G.left g.now (state p.old) }
     requires here { next (state p.old) ≡ MATCH_KW }
@@ -45,6 +46,7 @@ pub fn match_expr<G: Grammar>(p: &mut Parser<'_>, g: &G) -> Result<CompletedMark
 }
 
 /// The arms of a `match` in their braces.
+#[tactic(auto, unfolding(rap_grammar_scripts::specs::Control::match_arm_list))]
 pub fn match_arm_list<G: Grammar>(p: &mut Parser<'_>, g: &G) -> Result<(), NoMemory>
     requires within { Within G.valid G.left g.now (state p.old) }
     requires here { next (state p.old) ≡ L_CURLY }
@@ -99,6 +101,7 @@ fn match_arm<G: Grammar>(p: &mut Parser<'_>, g: &G) -> Result<(), NoMemory>
 }
 
 /// The attributes, pattern and guard of an arm. It takes no token where the arrow itself comes next.
+#[tactic(auto, unfolding(rap_grammar_scripts::specs::Control::arm_head))]
 fn arm_head<G: Grammar>(p: &mut Parser<'_>, g: &G) -> Result<(), NoMemory>
     requires behind { Behind G.valid G.left g.now (state p.old) }
     ensures grew { OnOk result (Grew (state p.old) (state p.new) 8) }
@@ -117,6 +120,7 @@ fn arm_head<G: Grammar>(p: &mut Parser<'_>, g: &G) -> Result<(), NoMemory>
 }
 
 /// The guard of an arm, as `if a`.
+#[tactic(auto, unfolding(rap_grammar_scripts::specs::Control::match_guard))]
 fn match_guard<G: Grammar>(p: &mut Parser<'_>, g: &G) -> Result<(), NoMemory>
     requires within { Within G.valid G.left g.now (state p.old) }
     requires here { next (state p.old) ≡ IF_KW }
@@ -136,6 +140,7 @@ fn match_guard<G: Grammar>(p: &mut Parser<'_>, g: &G) -> Result<(), NoMemory>
 }
 
 /// The body of an arm, and the comma after it.
+#[tactic(auto, unfolding(rap_grammar_scripts::specs::Control::arm_body))]
 fn arm_body<G: Grammar>(p: &mut Parser<'_>, g: &G) -> Result<(), NoMemory>
     requires behind { Behind G.valid G.left g.now (state p.old) }
     ensures grew { OnOk result (Grew (state p.old) (state p.new) 9) }
@@ -155,9 +160,12 @@ fn arm_body<G: Grammar>(p: &mut Parser<'_>, g: &G) -> Result<(), NoMemory>
 }
 
 /// The comma after an arm. It may be missing after a block and at the end.
+#[tactic(auto, unfolding(rap_grammar_scripts::specs::Control::arm_end))]
 fn arm_end(p: &mut Parser<'_>, block_like: BlockLike) -> Result<(), NoMemory>
     ensures grew { OnOk result (Grew (state p.old) (state p.new) 1) }
-    ensures script { OnOk result ((depth : ℕ) → Does depth (script.arm_end (is_block (of_like block_like))) something (state p.old) (state p.new)) }
+    ensures script { OnOk result
+        ((depth : ℕ) → Does depth (script.arm_end (is_block (of_like block_like))) something (state p.old)
+        (state p.new)) }
 {
     if p.eat(T![,])? {
         return Ok(());

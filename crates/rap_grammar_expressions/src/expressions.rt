@@ -40,7 +40,8 @@ pub fn expr_bp<G: Grammar>(
     requires newest { IsNewest (state p.old) m }
     requires power { 1 ≤ bp }
     ensures answered { IfOk result (Answered (state p.old) (state p.new) m r.prefer_stmt bp) }
-    ensures script { IfOk result (λ e. Does (G.left g.now) (script.expr_bp (is_some m) r bp) (of_expr e) (state p.old) (state p.new)) }
+    ensures script { IfOk result
+        (λ e. Does (G.left g.now) (script.expr_bp (is_some m) r bp) (of_expr e) (state p.old) (state p.new)) }
 {
     match m {
         Some(m) => {
@@ -72,7 +73,8 @@ fn expr_from<G: Grammar>(
         (λ e. e ≡ None → stops_expr (next (state p.old)) ≡ false → Spent (state p.old) (state p.new) marked_room) }
     ensures stays { IfOk result
         (λ e. e ≡ None → stops_expr (next (state p.old)) ≡ true → (state p.new).left ≡ (state p.old).left) }
-    ensures script { IfOk result (λ e. Does (G.left g.now) (script.expr_from r bp) (of_expr e) (state p.old) (state p.new)) }
+    ensures script { IfOk result
+        (λ e. Does (G.left g.now) (script.expr_from r bp) (of_expr e) (state p.old) (state p.new)) }
 {
     if !is_expr_first(p.current()) {
         missing_expr(p, m)?;

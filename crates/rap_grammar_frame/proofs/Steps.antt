@@ -17,7 +17,7 @@ use Rattle.rap_events.specs.declared.parser.Parser.{Parser}
 use Rattle.rap_grammar_scripts.specs.First.{is_path_name, is_path_start}
 use Rattle.rap_grammar_scripts.proofs.Ends.{Loops, gives, passes, fails, ends_so, ends_else, takes, takes_any, bears, reports, reports_next, skips, starts, precedes, finishes, extends, abandons, splits_dotted, splits_whole, follows, obeys, turns, stops}
 use Rattle.rap_grammar_scripts.specs.Exec.{Ends, Answers, exec, run_of}
-use Rattle.rap_grammar_scripts.specs.Expressions.{expr_bp, of_like}
+use Rattle.rap_grammar_scripts.specs.Expressions.{of_like}
 use Rattle.rap_grammar_scripts.specs.Phrase.{Phrase}
 use Rattle.rap_grammar_scripts.specs.Phrase as phrase
 use Rattle.rap_grammar_scripts.specs.declared.arguments.BlockLike.{BlockLike}

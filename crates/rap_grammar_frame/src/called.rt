@@ -28,7 +28,8 @@ use rap_grammar_scripts::arguments::Restrictions;
 pub fn opt_ret_type<G: Grammar>(p: &mut Parser<'_>, g: &G) -> Result<bool, NoMemory>
     requires within { Within G.valid G.left g.now (state p.old) }
     ensures grew { OnOk result (Grew (state p.old) (state p.new) 0) }
-    ensures script { IfOk result (λ found. Does (G.left g.now) grammar_script.opt_ret_type (of_bool found) (state p.old) (state p.new)) }
+    ensures script { IfOk result
+        (λ found. Does (G.left g.now) grammar_script.opt_ret_type (of_bool found) (state p.old) (state p.new)) }
 {
     if !p.at(T![->]) {
         return Ok(false);
@@ -45,7 +46,8 @@ pub fn opt_no_arrow_ret_type<G: Grammar>(p: &mut Parser<'_>, g: &G) -> Result<bo
     requires behind { Behind G.valid G.left g.now (state p.old) }
     ensures grew { OnOk result (Grew (state p.old) (state p.new) 0) }
     ensures script { IfOk result
-        (λ found. Does (G.left g.now) grammar_script.opt_no_arrow_ret_type (of_bool found) (state p.old) (state p.new)) }
+        (λ found. Does (G.left g.now) grammar_script.opt_no_arrow_ret_type (of_bool found) (state p.old)
+        (state p.new)) }
 {
     if !is_path_name(p.current()) {
         return Ok(false);
@@ -106,7 +108,8 @@ pub fn expr_stmt<G: Grammar>(p: &mut Parser<'_>, g: &G) -> Result<Answer, NoMemo
 pub fn opt_generic_param_list<G: Grammar>(p: &mut Parser<'_>, g: &G) -> Result<(), NoMemory>
     requires behind { Behind G.valid G.left g.now (state p.old) }
     ensures grew { OnOk result (Grew (state p.old) (state p.new) 0) }
-    ensures script { OnOk result (Does (G.left g.now) called.opt_generic_param_list something (state p.old) (state p.new)) }
+    ensures script { OnOk result
+        (Does (G.left g.now) called.opt_generic_param_list something (state p.old) (state p.new)) }
 {
     if !p.at(T![<]) {
         return Ok(());
@@ -131,7 +134,8 @@ pub fn bounds<G: Grammar>(p: &mut Parser<'_>, g: &G) -> Result<(), NoMemory>
 pub fn bounds_without_colon<G: Grammar>(p: &mut Parser<'_>, g: &G) -> Result<(), NoMemory>
     requires behind { Behind G.valid G.left g.now (state p.old) }
     ensures grew { OnOk result (Grew (state p.old) (state p.new) 16) }
-    ensures script { OnOk result (Does (G.left g.now) called.bounds_without_colon something (state p.old) (state p.new)) }
+    ensures script { OnOk result
+        (Does (G.left g.now) called.bounds_without_colon something (state p.old) (state p.new)) }
 {
     g.run(p, Rule::BoundsWithoutColon)?;
     Ok(())

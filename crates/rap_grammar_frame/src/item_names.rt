@@ -24,7 +24,8 @@ use rap_events::parser::Parser;
 pub fn item_name(p: &mut Parser<'_>) -> Result<(), NoMemory>
     ensures grew { OnOk result (Grew (state p.old) (state p.new) recovery_events) }
     ensures took { OnOk result (next (state p.old) ≡ IDENT → Took (state p.old) (state p.new) name_room) }
-    ensures script { OnOk result ((depth : ℕ) → Does depth (name_r is_item_recovery) something (state p.old) (state p.new)) }
+    ensures script { OnOk result
+        ((depth : ℕ) → Does depth (name_r is_item_recovery) something (state p.old) (state p.new)) }
 {
     if p.at(T![ident]) {
         given_name(p)?;
@@ -40,7 +41,8 @@ pub fn item_name(p: &mut Parser<'_>) -> Result<(), NoMemory>
 pub fn fn_name(p: &mut Parser<'_>) -> Result<(), NoMemory>
     ensures grew { OnOk result (Grew (state p.old) (state p.new) recovery_events) }
     ensures took { OnOk result (next (state p.old) ≡ IDENT → Took (state p.old) (state p.new) name_room) }
-    ensures script { OnOk result ((depth : ℕ) → Does depth (name_r is_item_paren_recovery) something (state p.old) (state p.new)) }
+    ensures script { OnOk result
+        ((depth : ℕ) → Does depth (name_r is_item_paren_recovery) something (state p.old) (state p.new)) }
 {
     if p.at(T![ident]) {
         given_name(p)?;

@@ -30,7 +30,8 @@ pub trait Element {
         requires more { next (state p.old) ≢ EOF }
         ensures grew { OnOk result (Grew (state p.old) (state p.new) 16) }
         ensures took { IfOk result (λ going_on. going_on ≡ true → Took (state p.old) (state p.new) element_room) }
-        ensures script { IfOk result (λ going_on. Does (G.left g.now) (element self.now) (of_bool going_on) (state p.old) (state p.new)) };
+        ensures script { IfOk result
+            (λ going_on. Does (G.left g.now) (element self.now) (of_bool going_on) (state p.old) (state p.new)) };
 
     /// Whether an element may begin with a token of this kind.
     fn is_first(&self, kind: SyntaxKind) -> bool

@@ -21,7 +21,8 @@ pub fn literal(p: &mut Parser<'_>) -> Result<Option<CompletedMarker>, NoMemory>
     ensures made { IfOk result (Optional LITERAL atom_room (state p.old) (state p.new)) }
     ensures grew { OnOk result (Grew (state p.old) (state p.new) 0) }
     ensures took { OnOk result (is_literal_first (next (state p.old)) ≡ true → Took (state p.old) (state p.new) atom_room) }
-    ensures script { IfOk result (λ o. (depth : ℕ) → Does depth script.literal (of_option o) (state p.old) (state p.new)) }
+    ensures script { IfOk result
+        (λ o. (depth : ℕ) → Does depth script.literal (of_option o) (state p.old) (state p.new)) }
 {
     if !is_literal_first(p.current()) {
         return Ok(None);

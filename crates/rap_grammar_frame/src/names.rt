@@ -43,7 +43,8 @@ pub fn is_path_name(kind: SyntaxKind) -> bool
 pub fn name_ref_mod_path(p: &mut Parser<'_>) -> Result<(), NoMemory>
     ensures grew { OnOk result (Grew (state p.old) (state p.new) recovery_events) }
     ensures took { OnOk result (next (state p.old) ≢ EOF → Took (state p.old) (state p.new) name_room) }
-    ensures script { OnOk result ((depth : ℕ) → Does depth script.name_ref_mod_path something (state p.old) (state p.new)) }
+    ensures script { OnOk result
+        ((depth : ℕ) → Does depth script.name_ref_mod_path something (state p.old) (state p.new)) }
 {
     if is_path_name(p.current()) {
         let m = p.start()?;
@@ -66,7 +67,8 @@ pub fn is_path_name_or_index(kind: SyntaxKind) -> bool
 pub fn name_ref_mod_path_or_index(p: &mut Parser<'_>) -> Result<(), NoMemory>
     ensures grew { OnOk result (Grew (state p.old) (state p.new) recovery_events) }
     ensures took { OnOk result (next (state p.old) ≢ EOF → Took (state p.old) (state p.new) name_room) }
-    ensures script { OnOk result ((depth : ℕ) → Does depth script.name_ref_mod_path_or_index something (state p.old) (state p.new)) }
+    ensures script { OnOk result
+        ((depth : ℕ) → Does depth script.name_ref_mod_path_or_index something (state p.old) (state p.new)) }
 {
     if is_path_name_or_index(p.current()) {
         let m = p.start()?;
@@ -134,7 +136,8 @@ pub fn name_ref_or_index(p: &mut Parser<'_>) -> Result<(), NoMemory>
     requires more { next (state p.old) ≢ EOF }
     ensures took { OnOk result (Took (state p.old) (state p.new) name_room) }
     ensures rest { OnOk result ((state p.new).rest ≡ drop 1 (state p.old).rest) }
-    ensures script { OnOk result ((depth : ℕ) → Does depth script.name_ref_or_index something (state p.old) (state p.new)) }
+    ensures script { OnOk result
+        ((depth : ℕ) → Does depth script.name_ref_or_index something (state p.old) (state p.new)) }
 {
     let m = p.start()?;
     p.bump_any()?;
@@ -147,7 +150,8 @@ pub fn name_any_identifier(p: &mut Parser<'_>) -> Result<(), NoMemory>
     requires here { is_any_identifier (next (state p.old)) ≡ true }
     ensures took { OnOk result (Took (state p.old) (state p.new) name_room) }
     ensures rest { OnOk result ((state p.new).rest ≡ drop 1 (state p.old).rest) }
-    ensures script { OnOk result ((depth : ℕ) → Does depth script.name_any_identifier something (state p.old) (state p.new)) }
+    ensures script { OnOk result
+        ((depth : ℕ) → Does depth script.name_any_identifier something (state p.old) (state p.new)) }
 {
     let m = p.start()?;
     p.bump_remap_any_ident()?;
@@ -159,7 +163,8 @@ pub fn name_any_identifier(p: &mut Parser<'_>) -> Result<(), NoMemory>
 pub fn name_ref_or_upper_self(p: &mut Parser<'_>) -> Result<(), NoMemory>
     ensures grew { OnOk result (Grew (state p.old) (state p.new) recovery_events) }
     ensures took { OnOk result (next (state p.old) ≢ EOF → Took (state p.old) (state p.new) name_room) }
-    ensures script { OnOk result ((depth : ℕ) → Does depth script.name_ref_or_upper_self something (state p.old) (state p.new)) }
+    ensures script { OnOk result
+        ((depth : ℕ) → Does depth script.name_ref_or_upper_self something (state p.old) (state p.new)) }
 {
     if matches!(p.current(), T![ident] | T![Self]) {
         let m = p.start()?;
@@ -175,7 +180,8 @@ pub fn name_ref_or_upper_self(p: &mut Parser<'_>) -> Result<(), NoMemory>
 pub fn name_ref_or_self(p: &mut Parser<'_>) -> Result<(), NoMemory>
     ensures grew { OnOk result (Grew (state p.old) (state p.new) recovery_events) }
     ensures took { OnOk result (next (state p.old) ≢ EOF → Took (state p.old) (state p.new) name_room) }
-    ensures script { OnOk result ((depth : ℕ) → Does depth script.name_ref_or_self something (state p.old) (state p.new)) }
+    ensures script { OnOk result
+        ((depth : ℕ) → Does depth script.name_ref_or_self something (state p.old) (state p.new)) }
 {
     if matches!(p.current(), T![ident] | T![self]) {
         let m = p.start()?;

@@ -52,7 +52,9 @@ pub fn token_tree(p: &mut Parser<'_>) -> Result<(), NoMemory>
     ensures took { OnOk result (Took (state p.old) (state p.new) list_room) }
     ensures one { OnOk result
         ((state p.new).forest ≡ node (state p.old).forest TOKEN_TREE (last_children (state p.new).forest)) }
-    ensures script { OnOk result ((depth : ℕ) → (state p.old).left ≤ depth → Does depth script.token_tree something (state p.old) (state p.new)) }
+    ensures script { OnOk result
+        ((depth : ℕ) → (state p.old).left ≤ depth → Does depth script.token_tree something (state p.old)
+        (state p.new)) }
     ensures balanced { OnOk result (NestsAsBrackets (state p.old) (state p.new)) }
 {
     let ket = closing_bracket(p.current());
@@ -92,7 +94,9 @@ pub fn starts_macro_call(p: &Parser<'_>) -> bool
 pub fn macro_call_after_excl(p: &mut Parser<'_>) -> Result<BlockLike, NoMemory>
     requires here { next (state p.old) ≡ BANG }
     ensures took { OnOk result (Took (state p.old) (state p.new) list_room) }
-    ensures script { IfOk result (λ e. (depth : ℕ) → (state p.old).left ≤ depth → Does depth script.macro_call_after_excl (of_like e) (state p.old) (state p.new)) }
+    ensures script { IfOk result
+        (λ e. (depth : ℕ) → (state p.old).left ≤ depth → Does depth script.macro_call_after_excl (of_like e)
+        (state p.old) (state p.new)) }
 {
     p.bump(T![!])?;
     let kind = p.current();

@@ -18,6 +18,7 @@ use rap_grammar_frame::knot::Grammar;
 use rap_grammar_frame::names::name;
 
 /// A constant from its `const` or `type const` on, as `const A: b = c;`.
+#[tactic(auto, unfolding(rap_grammar_scripts::specs::Consts::konst))]
 pub fn konst<G: Grammar>(p: &mut Parser<'_>, g: &G, m: Marker) -> Result<(), NoMemory>
     requires within { Within G.valid G.left g.now (state p.old) }
     requires newest { (state p.old).marker ≡ Some m.pos.value }
@@ -33,6 +34,7 @@ pub fn konst<G: Grammar>(p: &mut Parser<'_>, g: &G, m: Marker) -> Result<(), NoM
 }
 
 /// A static from its keyword on, as `static A: b = c;`.
+#[tactic(auto, unfolding(rap_grammar_scripts::specs::Consts::static_))]
 pub fn static_<G: Grammar>(p: &mut Parser<'_>, g: &G, m: Marker) -> Result<(), NoMemory>
     requires within { Within G.valid G.left g.now (state p.old) }
     requires newest { (state p.old).marker ≡ Some m.pos.value }
@@ -47,10 +49,12 @@ pub fn static_<G: Grammar>(p: &mut Parser<'_>, g: &G, m: Marker) -> Result<(), N
 }
 
 /// A constant or a static, after its keyword.
+#[tactic(auto, unfolding(rap_grammar_scripts::specs::Consts::const_or_static))]
 fn const_or_static<G: Grammar>(p: &mut Parser<'_>, g: &G, is_const: bool) -> Result<(), NoMemory>
     requires behind { Behind G.valid G.left g.now (state p.old) }
     ensures grew { OnOk result (Grew (state p.old) (state p.new) 8) }
-    ensures script { OnOk result (Does (G.left g.now) (script.const_or_static is_const) something (state p.old) (state p.new)) }
+    ensures script { OnOk result
+        (Does (G.left g.now) (script.const_or_static is_const) something (state p.old) (state p.new)) }
 {
     p.eat(T![mut])?;
     const_name(p, is_const)?;
@@ -63,9 +67,11 @@ fn const_or_static<G: Grammar>(p: &mut Parser<'_>, g: &G, is_const: bool) -> Res
 }
 
 /// The name. A constant may have none, as `const _: a = b;`.
+#[tactic(auto, unfolding(rap_grammar_scripts::specs::Consts::const_name))]
 fn const_name(p: &mut Parser<'_>, is_const: bool) -> Result<(), NoMemory>
     ensures grew { OnOk result (Grew (state p.old) (state p.new) recovery_events) }
-    ensures script { OnOk result ((depth : ℕ) → Does depth (script.const_name is_const) something (state p.old) (state p.new)) }
+    ensures script { OnOk result
+        ((depth : ℕ) → Does depth (script.const_name is_const) something (state p.old) (state p.new)) }
 {
     if !is_const {
         name(p)?;
@@ -82,7 +88,8 @@ fn const_name(p: &mut Parser<'_>, is_const: bool) -> Result<(), NoMemory>
 fn const_params<G: Grammar>(p: &mut Parser<'_>, g: &G, is_const: bool) -> Result<(), NoMemory>
     requires behind { Behind G.valid G.left g.now (state p.old) }
     ensures grew { OnOk result (Grew (state p.old) (state p.new) 1) }
-    ensures script { OnOk result (Does (G.left g.now) (script.const_params is_const) something (state p.old) (state p.new)) }
+    ensures script { OnOk result
+        (Does (G.left g.now) (script.const_params is_const) something (state p.old) (state p.new)) }
 {
     if is_const {
         opt_generic_param_list(p, g)?;
@@ -98,10 +105,12 @@ fn const_params<G: Grammar>(p: &mut Parser<'_>, g: &G, is_const: bool) -> Result
 }
 
 /// The type, as `: a`. Where it is missing, that is reported.
+#[tactic(auto, unfolding(rap_grammar_scripts::specs::Consts::const_type, rap_grammar_scripts::specs::Consts::missing_const_type))]
 fn const_type<G: Grammar>(p: &mut Parser<'_>, g: &G, is_const: bool) -> Result<(), NoMemory>
     requires within { Within G.valid G.left g.now (state p.old) }
     ensures grew { OnOk result (Grew (state p.old) (state p.new) 1) }
-    ensures script { OnOk result (Does (G.left g.now) (script.const_type is_const) something (state p.old) (state p.new)) }
+    ensures script { OnOk result
+        (Does (G.left g.now) (script.const_type is_const) something (state p.old) (state p.new)) }
 {
     if p.at(T![:]) {
         ascription(p, g)?;
@@ -116,6 +125,7 @@ fn const_type<G: Grammar>(p: &mut Parser<'_>, g: &G, is_const: bool) -> Result<(
 }
 
 /// The value, as `= 1`, if it is given.
+#[tactic(auto, unfolding(rap_grammar_scripts::specs::Consts::const_value))]
 fn const_value<G: Grammar>(p: &mut Parser<'_>, g: &G) -> Result<(), NoMemory>
     requires within { Within G.valid G.left g.now (state p.old) }
     ensures grew { OnOk result (Grew (state p.old) (state p.new) 0) }
@@ -128,10 +138,12 @@ fn const_value<G: Grammar>(p: &mut Parser<'_>, g: &G) -> Result<(), NoMemory>
 }
 
 /// The `where` of a constant, if it has one. A static has none.
+#[tactic(auto, unfolding(rap_grammar_scripts::specs::Consts::const_where))]
 fn const_where<G: Grammar>(p: &mut Parser<'_>, g: &G, is_const: bool) -> Result<(), NoMemory>
     requires behind { Behind G.valid G.left g.now (state p.old) }
     ensures grew { OnOk result (Grew (state p.old) (state p.new) 0) }
-    ensures script { OnOk result (Does (G.left g.now) (script.const_where is_const) something (state p.old) (state p.new)) }
+    ensures script { OnOk result
+        (Does (G.left g.now) (script.const_where is_const) something (state p.old) (state p.new)) }
 {
     if is_const {
         opt_where_clause(p, g)?;

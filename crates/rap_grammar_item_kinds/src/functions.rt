@@ -22,6 +22,7 @@ use rap_grammar_frame::knot::Grammar;
 use rap_grammar_params::params::param_list_fn_def;
 
 /// A function from its keyword on, as `fn f(a: b) -> c {}`.
+#[tactic(auto, unfolding(rap_grammar_scripts::specs::Functions::fn_))]
 pub fn fn_<G: Grammar>(p: &mut Parser<'_>, g: &G, m: Marker) -> Result<(), NoMemory>
     requires within { Within G.valid G.left g.now (state p.old) }
     requires newest { (state p.old).marker ≡ Some m.pos.value }
@@ -39,6 +40,7 @@ pub fn fn_<G: Grammar>(p: &mut Parser<'_>, g: &G, m: Marker) -> Result<(), NoMem
 }
 
 /// The parameters of a function, its return type and its `where`, as `(a: b) -> c where d: E`.
+#[tactic(auto, unfolding(rap_grammar_scripts::specs::Functions::signature))]
 fn signature<G: Grammar>(p: &mut Parser<'_>, g: &G) -> Result<(), NoMemory>
     requires behind { Behind G.valid G.left g.now (state p.old) }
     ensures grew { OnOk result (Grew (state p.old) (state p.new) 1) }
@@ -52,6 +54,7 @@ fn signature<G: Grammar>(p: &mut Parser<'_>, g: &G) -> Result<(), NoMemory>
 }
 
 /// The parameters of a function, or the message that they are missing.
+#[tactic(auto, unfolding(rap_grammar_scripts::specs::Functions::fn_params))]
 fn fn_params<G: Grammar>(p: &mut Parser<'_>, g: &G) -> Result<(), NoMemory>
     requires within { Within G.valid G.left g.now (state p.old) }
     ensures grew { OnOk result (Grew (state p.old) (state p.new) 1) }
@@ -66,6 +69,7 @@ fn fn_params<G: Grammar>(p: &mut Parser<'_>, g: &G) -> Result<(), NoMemory>
 }
 
 /// The return type of a function, as `-> a`, and also without the arrow.
+#[tactic(auto, unfolding(rap_grammar_scripts::specs::Functions::fn_ret_type))]
 fn fn_ret_type<G: Grammar>(p: &mut Parser<'_>, g: &G) -> Result<(), NoMemory>
     requires behind { Behind G.valid G.left g.now (state p.old) }
     ensures grew { OnOk result (Grew (state p.old) (state p.new) 0) }
@@ -89,7 +93,8 @@ fn is_unbalanced(kind: SyntaxKind) -> bool
 /// Brackets that close nothing, each in an `ERROR`.
 fn unbalanced_brackets(p: &mut Parser<'_>) -> Result<(), NoMemory>
     ensures grew { OnOk result (Grew (state p.old) (state p.new) 0) }
-    ensures script { OnOk result ((depth : ℕ) → Does depth script.unbalanced_brackets something (state p.old) (state p.new)) }
+    ensures script { OnOk result
+        ((depth : ℕ) → Does depth script.unbalanced_brackets something (state p.old) (state p.new)) }
 {
     'brackets: while is_unbalanced(p.current()) {
         p.err_and_bump("expected a curly brace")?;
@@ -98,6 +103,7 @@ fn unbalanced_brackets(p: &mut Parser<'_>) -> Result<(), NoMemory>
 }
 
 /// The block of a function, or the semicolon in its place.
+#[tactic(auto, unfolding(rap_grammar_scripts::specs::Functions::fn_body))]
 fn fn_body<G: Grammar>(p: &mut Parser<'_>, g: &G) -> Result<(), NoMemory>
     requires within { Within G.valid G.left g.now (state p.old) }
     ensures grew { OnOk result (Grew (state p.old) (state p.new) recovery_events) }

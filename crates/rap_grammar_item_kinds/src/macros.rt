@@ -22,7 +22,9 @@ pub fn macro_rules(p: &mut Parser<'_>, m: Marker) -> Result<(), NoMemory>
     requires newest { (state p.old).marker ≡ Some m.pos.value }
     requires here { ReadsAs (state p.old) MACRO_RULES_KW }
     ensures ended { OnOk result (Ended (state p.old) (state p.new) item_room) }
-    ensures script { OnOk result ((depth : ℕ) → (state p.old).left ≤ depth → Does depth script.macro_rules something (state p.old) (state p.new)) }
+    ensures script { OnOk result
+        ((depth : ℕ) → (state p.old).left ≤ depth → Does depth script.macro_rules something (state p.old)
+        (state p.new)) }
 {
     p.bump_remap(T![macro_rules])?;
     p.expect(T![!])?;
@@ -33,9 +35,12 @@ pub fn macro_rules(p: &mut Parser<'_>, m: Marker) -> Result<(), NoMemory>
 }
 
 /// The rules of a macro in their brackets, with a semicolon after them if these are no braces.
+#[tactic(auto, unfolding(rap_grammar_scripts::specs::Macros::rules_in_brackets))]
 fn rules_in_brackets(p: &mut Parser<'_>) -> Result<(), NoMemory>
     ensures grew { OnOk result (Grew (state p.old) (state p.new) 1) }
-    ensures script { OnOk result ((depth : ℕ) → (state p.old).left ≤ depth → Does depth script.rules_in_brackets something (state p.old) (state p.new)) }
+    ensures script { OnOk result
+        ((depth : ℕ) → (state p.old).left ≤ depth → Does depth script.rules_in_brackets something (state p.old)
+        (state p.new)) }
 {
     let kind = p.current();
     if matches!(kind, T!['['] | T!['(']) {
@@ -52,11 +57,13 @@ fn rules_in_brackets(p: &mut Parser<'_>) -> Result<(), NoMemory>
 }
 
 /// A macro from its keyword on, as `macro a($b:ident) {}`.
+#[tactic(auto, unfolding(rap_grammar_scripts::specs::Macros::macro_def))]
 pub fn macro_def(p: &mut Parser<'_>, m: Marker) -> Result<(), NoMemory>
     requires newest { (state p.old).marker ≡ Some m.pos.value }
     requires here { next (state p.old) ≡ MACRO_KW }
     ensures ended { OnOk result (Ended (state p.old) (state p.new) item_room) }
-    ensures script { OnOk result ((depth : ℕ) → (state p.old).left ≤ depth → Does depth script.macro_def something (state p.old) (state p.new)) }
+    ensures script { OnOk result
+        ((depth : ℕ) → (state p.old).left ≤ depth → Does depth script.macro_def something (state p.old) (state p.new)) }
 {
     p.bump(T![macro])?;
     item_name(p)?;
@@ -66,9 +73,12 @@ pub fn macro_def(p: &mut Parser<'_>, m: Marker) -> Result<(), NoMemory>
 }
 
 /// What stands after a macro's name, as `{ () => {} }` and `($a:ident) {}`.
+#[tactic(auto, unfolding(rap_grammar_scripts::specs::Macros::macro_def_tokens))]
 fn macro_def_tokens(p: &mut Parser<'_>) -> Result<(), NoMemory>
     ensures grew { OnOk result (Grew (state p.old) (state p.new) 1) }
-    ensures script { OnOk result ((depth : ℕ) → (state p.old).left ≤ depth → Does depth script.macro_def_tokens something (state p.old) (state p.new)) }
+    ensures script { OnOk result
+        ((depth : ℕ) → (state p.old).left ≤ depth → Does depth script.macro_def_tokens something (state p.old)
+        (state p.new)) }
 {
     if p.at(T!['{']) {
         token_tree(p)?;
@@ -84,9 +94,12 @@ fn macro_def_tokens(p: &mut Parser<'_>) -> Result<(), NoMemory>
 }
 
 /// The body of a macro, after its parameters.
+#[tactic(auto, unfolding(rap_grammar_scripts::specs::Macros::macro_def_body))]
 fn macro_def_body(p: &mut Parser<'_>) -> Result<(), NoMemory>
     ensures grew { OnOk result (Grew (state p.old) (state p.new) 1) }
-    ensures script { OnOk result ((depth : ℕ) → (state p.old).left ≤ depth → Does depth script.macro_def_body something (state p.old) (state p.new)) }
+    ensures script { OnOk result
+        ((depth : ℕ) → (state p.old).left ≤ depth → Does depth script.macro_def_body something (state p.old)
+        (state p.new)) }
 {
     if is_bracket(p.current()) {
         token_tree(p)?;
@@ -97,11 +110,14 @@ fn macro_def_body(p: &mut Parser<'_>) -> Result<(), NoMemory>
 }
 
 /// A macro call after its path in the place of an item, as `!{}` and `!();`.
+#[tactic(auto, unfolding(rap_grammar_scripts::specs::Macros::macro_call))]
 pub fn macro_call(p: &mut Parser<'_>, m: Marker) -> Result<(), NoMemory>
     requires newest { (state p.old).marker ≡ Some m.pos.value }
     requires here { next (state p.old) ≡ BANG }
     ensures ended { OnOk result (Ended (state p.old) (state p.new) item_room) }
-    ensures script { OnOk result ((depth : ℕ) → (state p.old).left ≤ depth → Does depth script.macro_call something (state p.old) (state p.new)) }
+    ensures script { OnOk result
+        ((depth : ℕ) → (state p.old).left ≤ depth → Does depth script.macro_call something (state p.old)
+        (state p.new)) }
 {
     let like = macro_call_after_excl(p)?;
     if like.is_block() {

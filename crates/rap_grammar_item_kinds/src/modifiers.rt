@@ -28,6 +28,7 @@ pub struct ItemModifiers {
 }
 
 /// The modifiers of an item, as `pub(crate) const unsafe extern "C"` before `fn`, without the `pub`.
+#[tactic(auto, unfolding(rap_grammar_scripts::specs::Modifiers::modifiers))]
 pub fn modifiers<G: Grammar>(
     p: &mut Parser<'_>,
     g: &G,
@@ -36,8 +37,8 @@ pub fn modifiers<G: Grammar>(
     requires within { Within G.valid G.left g.now (state p.old) }
     ensures seen { IfOk result (λ found. Seen (state p.old) (state p.new) found.has_mods) }
     ensures script { IfOk result
-        (λ found. Does (G.left g.now) (script.modifiers is_in_extern) (again found.has_mods found.has_extern) (state p.old)
-        (state p.new)) }
+        (λ found. Does (G.left g.now) (script.modifiers is_in_extern) (again found.has_mods found.has_extern)
+        (state p.old) (state p.new)) }
 {
     let restricted = opt_impl_restriction(p, g)?;
     let qualified = qualifiers(p)?;
@@ -73,10 +74,12 @@ fn is_impl_restriction(p: &Parser<'_>) -> bool
 }
 
 /// An `impl` restriction of a trait, as `impl(crate)`, if it comes next. Returns whether it does.
+#[tactic(auto, unfolding(rap_grammar_scripts::specs::Modifiers::opt_impl_restriction))]
 fn opt_impl_restriction<G: Grammar>(p: &mut Parser<'_>, g: &G) -> Result<bool, NoMemory>
     requires within { Within G.valid G.left g.now (state p.old) }
     ensures seen { IfOk result (λ found. Seen (state p.old) (state p.new) found) }
-    ensures script { IfOk result (λ found. Does (G.left g.now) script.opt_impl_restriction (of_bool found) (state p.old) (state p.new)) }
+    ensures script { IfOk result
+        (λ found. Does (G.left g.now) script.opt_impl_restriction (of_bool found) (state p.old) (state p.new)) }
 {
     if !is_impl_restriction(p) {
         return Ok(false);
@@ -86,6 +89,7 @@ fn opt_impl_restriction<G: Grammar>(p: &mut Parser<'_>, g: &G) -> Result<bool, N
 }
 
 /// An `impl` restriction of a trait, as `impl(crate)`.
+#[tactic(auto, unfolding(rap_grammar_scripts::specs::Modifiers::impl_restriction))]
 fn impl_restriction<G: Grammar>(p: &mut Parser<'_>, g: &G) -> Result<(), NoMemory>
     requires within { Within G.valid G.left g.now (state p.old) }
     requires here { next (state p.old) ≡ IMPL_KW }
@@ -104,6 +108,7 @@ fn impl_restriction<G: Grammar>(p: &mut Parser<'_>, g: &G) -> Result<(), NoMemor
 }
 
 /// A modifier that is a keyword, if it was found to come next.
+#[tactic(auto, unfolding(rap_grammar_scripts::specs::Modifiers::modifier))]
 fn modifier(p: &mut Parser<'_>, found: bool, kind: SyntaxKind) -> Result<bool, NoMemory>
     requires here { found ≡ true → At (state p.old) kind }
     requires some { kind ≢ EOF }
@@ -120,6 +125,7 @@ fn modifier(p: &mut Parser<'_>, found: bool, kind: SyntaxKind) -> Result<bool, N
 }
 
 /// A modifier that is an identifier and is read as a keyword, if it was found to come next.
+#[tactic(auto, unfolding(rap_grammar_scripts::specs::Modifiers::modifier_as))]
 fn modifier_as(p: &mut Parser<'_>, found: bool, kind: SyntaxKind) -> Result<bool, NoMemory>
     requires here { found ≡ true → ReadsAs (state p.old) kind }
     ensures seen { IfOk result (λ some. Seen (state p.old) (state p.new) some) }
@@ -185,9 +191,11 @@ fn is_auto_modifier(p: &Parser<'_>) -> bool
 }
 
 /// The `const` and `async` of a function. Returns whether there was one of them.
+#[tactic(auto, unfolding(rap_grammar_scripts::specs::Modifiers::qualifiers))]
 fn qualifiers(p: &mut Parser<'_>) -> Result<bool, NoMemory>
     ensures seen { IfOk result (λ found. Seen (state p.old) (state p.new) found) }
-    ensures script { IfOk result (λ found. (depth : ℕ) → Does depth script.qualifiers (of_bool found) (state p.old) (state p.new)) }
+    ensures script { IfOk result
+        (λ found. (depth : ℕ) → Does depth script.qualifiers (of_bool found) (state p.old) (state p.new)) }
 {
     let is_const = is_const_modifier(p);
     let constant = modifier(p, is_const, T![const])?;
@@ -199,9 +207,11 @@ fn qualifiers(p: &mut Parser<'_>) -> Result<bool, NoMemory>
 }
 
 /// `unsafe`, and `safe` in an `extern` block. Returns whether there was one.
+#[tactic(auto, unfolding(rap_grammar_scripts::specs::Modifiers::safety))]
 fn safety(p: &mut Parser<'_>, is_in_extern: bool) -> Result<bool, NoMemory>
     ensures seen { IfOk result (λ found. Seen (state p.old) (state p.new) found) }
-    ensures script { IfOk result (λ found. (depth : ℕ) → Does depth (script.safety is_in_extern) (of_bool found) (state p.old) (state p.new)) }
+    ensures script { IfOk result
+        (λ found. (depth : ℕ) → Does depth (script.safety is_in_extern) (of_bool found) (state p.old) (state p.new)) }
 {
     let is_unsafe = is_unsafe_modifier(p);
     let no_safety = modifier(p, is_unsafe, T![unsafe])?;
@@ -211,9 +221,11 @@ fn safety(p: &mut Parser<'_>, is_in_extern: bool) -> Result<bool, NoMemory>
 }
 
 /// An ABI, as `extern "C"`, if it comes next. Returns whether it does.
+#[tactic(auto, unfolding(rap_grammar_scripts::specs::Modifiers::opt_abi))]
 fn opt_abi(p: &mut Parser<'_>) -> Result<bool, NoMemory>
     ensures seen { IfOk result (λ found. Seen (state p.old) (state p.new) found) }
-    ensures script { IfOk result (λ found. (depth : ℕ) → Does depth script.opt_abi (of_bool found) (state p.old) (state p.new)) }
+    ensures script { IfOk result
+        (λ found. (depth : ℕ) → Does depth script.opt_abi (of_bool found) (state p.old) (state p.new)) }
 {
     if !p.at(T![extern]) {
         return Ok(false);
@@ -223,9 +235,11 @@ fn opt_abi(p: &mut Parser<'_>) -> Result<bool, NoMemory>
 }
 
 /// `auto` before a trait, and `default` before what may be replaced. Returns whether there was one.
+#[tactic(auto, unfolding(rap_grammar_scripts::specs::Modifiers::auto_or_default))]
 fn auto_or_default(p: &mut Parser<'_>) -> Result<bool, NoMemory>
     ensures seen { IfOk result (λ found. Seen (state p.old) (state p.new) found) }
-    ensures script { IfOk result (λ found. (depth : ℕ) → Does depth script.auto_or_default (of_bool found) (state p.old) (state p.new)) }
+    ensures script { IfOk result
+        (λ found. (depth : ℕ) → Does depth script.auto_or_default (of_bool found) (state p.old) (state p.new)) }
 {
     let is_auto = is_auto_modifier(p);
     let auto = modifier_as(p, is_auto, T![auto])?;
@@ -264,9 +278,11 @@ fn is_default_async(p: &Parser<'_>) -> bool
 }
 
 /// `default` with the modifier after it, if it comes next. Returns whether it does.
+#[tactic(auto, unfolding(rap_grammar_scripts::specs::Modifiers::opt_default))]
 fn opt_default(p: &mut Parser<'_>) -> Result<bool, NoMemory>
     ensures seen { IfOk result (λ found. Seen (state p.old) (state p.new) found) }
-    ensures script { IfOk result (λ found. (depth : ℕ) → Does depth script.opt_default (of_bool found) (state p.old) (state p.new)) }
+    ensures script { IfOk result
+        (λ found. (depth : ℕ) → Does depth script.opt_default (of_bool found) (state p.old) (state p.new)) }
 {
     if is_default(p) {
         p.bump_remap(T![default])?;

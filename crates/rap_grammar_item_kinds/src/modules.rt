@@ -22,6 +22,7 @@ use rap_grammar_frame::knot::{Grammar, Rule};
 use rap_grammar_frame::names::{name, name_ref_or_self, opt_rename};
 
 /// A crate's name, as `extern crate a as b;`.
+#[tactic(auto, unfolding(rap_grammar_scripts::specs::Items::extern_crate))]
 pub fn extern_crate(p: &mut Parser<'_>, m: Marker) -> Result<(), NoMemory>
     requires newest { (state p.old).marker ≡ Some m.pos.value }
     requires here { next (state p.old) ≡ EXTERN_KW }
@@ -39,6 +40,7 @@ pub fn extern_crate(p: &mut Parser<'_>, m: Marker) -> Result<(), NoMemory>
 }
 
 /// What a list of items holds: up to the end, or up to a brace that closes it.
+#[tactic(auto, unfolding(rap_grammar_scripts::specs::Items::mod_contents))]
 pub fn mod_contents<G: Grammar>(
     p: &mut Parser<'_>,
     g: &G,
@@ -46,7 +48,8 @@ pub fn mod_contents<G: Grammar>(
 ) -> Result<(), NoMemory>
     requires behind { Behind G.valid G.left g.now (state p.old) }
     ensures grew { OnOk result (Grew (state p.old) (state p.new) 0) }
-    ensures script { OnOk result (Does (G.left g.now) (script.mod_contents stop_on_r_curly) something (state p.old) (state p.new)) }
+    ensures script { OnOk result
+        (Does (G.left g.now) (script.mod_contents stop_on_r_curly) something (state p.old) (state p.new)) }
 {
     inner_attrs(p, g)?;
     items(p, g, stop_on_r_curly)?;
@@ -65,7 +68,8 @@ fn ends_items(p: &Parser<'_>, stop_on_r_curly: bool) -> bool
 fn items<G: Grammar>(p: &mut Parser<'_>, g: &G, stop_on_r_curly: bool) -> Result<(), NoMemory>
     requires behind { Behind G.valid G.left g.now (state p.old) }
     ensures grew { OnOk result (Grew (state p.old) (state p.new) 0) }
-    ensures script { OnOk result (Does (G.left g.now) (script.items stop_on_r_curly) something (state p.old) (state p.new)) }
+    ensures script { OnOk result
+        (Does (G.left g.now) (script.items stop_on_r_curly) something (state p.old) (state p.new)) }
 {
     // `safe fn` may stand anywhere: there is nothing else that it could be.
     let is_in_extern = true;
@@ -82,6 +86,7 @@ fn items<G: Grammar>(p: &mut Parser<'_>, g: &G, stop_on_r_curly: bool) -> Result
 }
 
 /// The items of a module in their braces.
+#[tactic(auto, unfolding(rap_grammar_scripts::specs::Items::item_list))]
 pub fn item_list<G: Grammar>(p: &mut Parser<'_>, g: &G) -> Result<(), NoMemory>
     requires within { Within G.valid G.left g.now (state p.old) }
     requires here { next (state p.old) ≡ L_CURLY }
@@ -99,6 +104,7 @@ pub fn item_list<G: Grammar>(p: &mut Parser<'_>, g: &G) -> Result<(), NoMemory>
 }
 
 /// The items of an `extern` block in their braces.
+#[tactic(auto, unfolding(rap_grammar_scripts::specs::Items::extern_item_list))]
 pub fn extern_item_list<G: Grammar>(p: &mut Parser<'_>, g: &G) -> Result<(), NoMemory>
     requires within { Within G.valid G.left g.now (state p.old) }
     requires here { next (state p.old) ≡ L_CURLY }
@@ -116,6 +122,7 @@ pub fn extern_item_list<G: Grammar>(p: &mut Parser<'_>, g: &G) -> Result<(), NoM
 }
 
 /// A module from its keyword on, as `mod a;` and `mod a {}`.
+#[tactic(auto, unfolding(rap_grammar_scripts::specs::Items::mod_item))]
 pub fn mod_item<G: Grammar>(p: &mut Parser<'_>, g: &G, m: Marker) -> Result<(), NoMemory>
     requires within { Within G.valid G.left g.now (state p.old) }
     requires newest { (state p.old).marker ≡ Some m.pos.value }
@@ -131,6 +138,7 @@ pub fn mod_item<G: Grammar>(p: &mut Parser<'_>, g: &G, m: Marker) -> Result<(), 
 }
 
 /// What a module holds, or the semicolon in its place.
+#[tactic(auto, unfolding(rap_grammar_scripts::specs::Items::mod_body))]
 fn mod_body<G: Grammar>(p: &mut Parser<'_>, g: &G) -> Result<(), NoMemory>
     requires within { Within G.valid G.left g.now (state p.old) }
     ensures grew { OnOk result (Grew (state p.old) (state p.new) 1) }
@@ -148,6 +156,7 @@ fn mod_body<G: Grammar>(p: &mut Parser<'_>, g: &G) -> Result<(), NoMemory>
 }
 
 /// What begins with `type`: a type alias, or a constant after `type const`.
+#[tactic(auto, unfolding(rap_grammar_scripts::specs::Items::type_item))]
 pub fn type_item<G: Grammar>(p: &mut Parser<'_>, g: &G, m: Marker) -> Result<(), NoMemory>
     requires within { Within G.valid G.left g.now (state p.old) }
     requires newest { (state p.old).marker ≡ Some m.pos.value }
@@ -164,6 +173,7 @@ pub fn type_item<G: Grammar>(p: &mut Parser<'_>, g: &G, m: Marker) -> Result<(),
 }
 
 /// A type alias, as `type A<T>: B = c where T: D;`.
+#[tactic(auto, unfolding(rap_grammar_scripts::specs::Items::type_alias))]
 fn type_alias<G: Grammar>(p: &mut Parser<'_>, g: &G, m: Marker) -> Result<(), NoMemory>
     requires within { Within G.valid G.left g.now (state p.old) }
     requires newest { (state p.old).marker ≡ Some m.pos.value }
@@ -184,6 +194,7 @@ fn type_alias<G: Grammar>(p: &mut Parser<'_>, g: &G, m: Marker) -> Result<(), No
 }
 
 /// The bounds of a type alias, as `: A`, if there are.
+#[tactic(auto, unfolding(rap_grammar_scripts::specs::Items::alias_bounds))]
 fn alias_bounds<G: Grammar>(p: &mut Parser<'_>, g: &G) -> Result<(), NoMemory>
     requires within { Within G.valid G.left g.now (state p.old) }
     ensures grew { OnOk result (Grew (state p.old) (state p.new) 0) }
@@ -197,6 +208,7 @@ fn alias_bounds<G: Grammar>(p: &mut Parser<'_>, g: &G) -> Result<(), NoMemory>
 }
 
 /// The type of a type alias, as `= a`, if there is one.
+#[tactic(auto, unfolding(rap_grammar_scripts::specs::Items::aliased_type))]
 fn aliased_type<G: Grammar>(p: &mut Parser<'_>, g: &G) -> Result<(), NoMemory>
     requires within { Within G.valid G.left g.now (state p.old) }
     ensures grew { OnOk result (Grew (state p.old) (state p.new) 0) }

@@ -23,6 +23,7 @@ use rap_grammar_frame::item_names::item_name;
 use rap_grammar_frame::knot::{Grammar, Rule};
 
 /// A trait from its keyword on, as `trait A {}`.
+#[tactic(auto, unfolding(rap_grammar_scripts::specs::Traits::trait_))]
 pub fn trait_<G: Grammar>(p: &mut Parser<'_>, g: &G, m: Marker) -> Result<(), NoMemory>
     requires within { Within G.valid G.left g.now (state p.old) }
     requires newest { (state p.old).marker ≡ Some m.pos.value }
@@ -39,6 +40,7 @@ pub fn trait_<G: Grammar>(p: &mut Parser<'_>, g: &G, m: Marker) -> Result<(), No
 }
 
 /// What stands after a trait's name and parameters.
+#[tactic(auto, unfolding(rap_grammar_scripts::specs::Traits::trait_body))]
 fn trait_body<G: Grammar>(p: &mut Parser<'_>, g: &G) -> Result<(), NoMemory>
     requires behind { Behind G.valid G.left g.now (state p.old) }
     ensures grew { OnOk result (Grew (state p.old) (state p.new) 1) }
@@ -55,6 +57,7 @@ fn trait_body<G: Grammar>(p: &mut Parser<'_>, g: &G) -> Result<(), NoMemory>
 }
 
 /// The bounds of a trait alias, after its `=`, as the `A + B;` of `trait C = A + B;`.
+#[tactic(auto, unfolding(rap_grammar_scripts::specs::Traits::trait_alias))]
 fn trait_alias<G: Grammar>(p: &mut Parser<'_>, g: &G) -> Result<(), NoMemory>
     requires behind { Behind G.valid G.left g.now (state p.old) }
     ensures grew { OnOk result (Grew (state p.old) (state p.new) 17) }
@@ -67,6 +70,7 @@ fn trait_alias<G: Grammar>(p: &mut Parser<'_>, g: &G) -> Result<(), NoMemory>
 }
 
 /// Bounds after their colon, if there are.
+#[tactic(auto, unfolding(rap_grammar_scripts::specs::Traits::opt_bounds))]
 fn opt_bounds<G: Grammar>(p: &mut Parser<'_>, g: &G) -> Result<(), NoMemory>
     requires within { Within G.valid G.left g.now (state p.old) }
     ensures grew { OnOk result (Grew (state p.old) (state p.new) 0) }
@@ -79,6 +83,7 @@ fn opt_bounds<G: Grammar>(p: &mut Parser<'_>, g: &G) -> Result<(), NoMemory>
 }
 
 /// An implementation from its keyword on, as `impl A for b {}`.
+#[tactic(auto, unfolding(rap_grammar_scripts::specs::Traits::impl_))]
 pub fn impl_<G: Grammar>(p: &mut Parser<'_>, g: &G, m: Marker) -> Result<(), NoMemory>
     requires within { Within G.valid G.left g.now (state p.old) }
     requires newest { (state p.old).marker ≡ Some m.pos.value }
@@ -98,6 +103,7 @@ pub fn impl_<G: Grammar>(p: &mut Parser<'_>, g: &G, m: Marker) -> Result<(), NoM
 }
 
 /// The parameters of an implementation, as the `<T>` of `impl<T> A {}`, if there are.
+#[tactic(auto, unfolding(rap_grammar_scripts::specs::Traits::impl_params))]
 fn impl_params<G: Grammar>(p: &mut Parser<'_>, g: &G) -> Result<(), NoMemory>
     requires behind { Behind G.valid G.left g.now (state p.old) }
     ensures grew { OnOk result (Grew (state p.old) (state p.new) 0) }
@@ -127,6 +133,7 @@ fn not_a_qualified_path(p: &Parser<'_>) -> bool
 }
 
 /// A `!` before a trait, as in `impl !A for b {}`, if there is one.
+#[tactic(auto, unfolding(rap_grammar_scripts::specs::Traits::opt_negative))]
 fn opt_negative(p: &mut Parser<'_>) -> Result<(), NoMemory>
     ensures grew { OnOk result (Grew (state p.old) (state p.new) 0) }
     ensures script { OnOk result ((depth : ℕ) → Does depth script.opt_negative something (state p.old) (state p.new)) }
@@ -146,6 +153,7 @@ fn is_negative_start(p: &Parser<'_>) -> bool
 }
 
 /// The type of an implementation, with the trait before it.
+#[tactic(auto, unfolding(rap_grammar_scripts::specs::Traits::impl_types))]
 fn impl_types<G: Grammar>(p: &mut Parser<'_>, g: &G) -> Result<(), NoMemory>
     requires behind { Behind G.valid G.left g.now (state p.old) }
     ensures grew { OnOk result (Grew (state p.old) (state p.new) 8) }
@@ -159,6 +167,7 @@ fn impl_types<G: Grammar>(p: &mut Parser<'_>, g: &G) -> Result<(), NoMemory>
 }
 
 /// A trait or a type of an implementation.
+#[tactic(auto, unfolding(rap_grammar_scripts::specs::Traits::impl_type))]
 pub fn impl_type<G: Grammar>(p: &mut Parser<'_>, g: &G) -> Result<(), NoMemory>
     requires behind { Behind G.valid G.left g.now (state p.old) }
     ensures grew { OnOk result (Grew (state p.old) (state p.new) 8) }
@@ -173,10 +182,12 @@ pub fn impl_type<G: Grammar>(p: &mut Parser<'_>, g: &G) -> Result<(), NoMemory>
 }
 
 /// The items of a trait or an implementation. Where their braces are missing, that is reported.
+#[tactic(auto, unfolding(rap_grammar_scripts::specs::Traits::expect_assoc_item_list))]
 fn expect_assoc_item_list<G: Grammar>(p: &mut Parser<'_>, g: &G) -> Result<(), NoMemory>
     requires within { Within G.valid G.left g.now (state p.old) }
     ensures grew { OnOk result (Grew (state p.old) (state p.new) 1) }
-    ensures script { OnOk result (Does (G.left g.now) script.expect_assoc_item_list something (state p.old) (state p.new)) }
+    ensures script { OnOk result
+        (Does (G.left g.now) script.expect_assoc_item_list something (state p.old) (state p.new)) }
 {
     if p.at(T!['{']) {
         assoc_item_list(p, g)?;
@@ -187,6 +198,7 @@ fn expect_assoc_item_list<G: Grammar>(p: &mut Parser<'_>, g: &G) -> Result<(), N
 }
 
 /// The items of a trait or an implementation in their braces.
+#[tactic(auto, unfolding(rap_grammar_scripts::specs::Traits::assoc_item_list))]
 pub fn assoc_item_list<G: Grammar>(p: &mut Parser<'_>, g: &G) -> Result<(), NoMemory>
     requires within { Within G.valid G.left g.now (state p.old) }
     requires here { next (state p.old) ≡ L_CURLY }
@@ -217,6 +229,7 @@ fn assoc_items<G: Grammar>(p: &mut Parser<'_>, g: &G) -> Result<(), NoMemory>
 }
 
 /// An item of a trait or an implementation. A block in its place is reported.
+#[tactic(auto, unfolding(rap_grammar_scripts::specs::Traits::assoc_item, rap_grammar_scripts::specs::Called::item_or_macro))]
 fn assoc_item<G: Grammar>(p: &mut Parser<'_>, g: &G) -> Result<(), NoMemory>
     requires behind { Behind G.valid G.left g.now (state p.old) }
     requires more { next (state p.old) ≢ EOF }

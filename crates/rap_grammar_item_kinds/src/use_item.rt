@@ -26,6 +26,7 @@ use rap_grammar_frame::recovery::item_recovery_set;
 use rap_grammar_paths::paths::use_path;
 
 /// An import from its keyword on, as `use a::b;`.
+#[tactic(auto, unfolding(rap_grammar_scripts::specs::UseItem::use_))]
 pub fn use_<G: Grammar>(p: &mut Parser<'_>, g: &G, m: Marker) -> Result<(), NoMemory>
     requires within { Within G.valid G.left g.now (state p.old) }
     requires newest { (state p.old).marker ≡ Some m.pos.value }
@@ -43,6 +44,7 @@ pub fn use_<G: Grammar>(p: &mut Parser<'_>, g: &G, m: Marker) -> Result<(), NoMe
 /// The tree of an import. Where none begins, that is reported, and the next token is skipped too unless an item may
 /// begin there.
 #[inline(never)]
+#[tactic(auto, unfolding(rap_grammar_scripts::specs::UseItem::expect_use_tree))]
 fn expect_use_tree<G: Grammar>(p: &mut Parser<'_>, g: &G) -> Result<(), NoMemory>
     requires within { Within G.valid G.left g.now (state p.old) }
     ensures grew { OnOk result (Grew (state p.old) (state p.new) recovery_events) }
@@ -82,6 +84,7 @@ fn is_global_group_start(p: &Parser<'_>) -> bool
 }
 
 /// A tree of names, as `a::{b, c as d}`, of which one begins.
+#[tactic(auto, unfolding(rap_grammar_scripts::specs::UseItem::use_tree))]
 pub fn use_tree<G: Grammar>(p: &mut Parser<'_>, g: &G) -> Result<(), NoMemory>
     requires within { Within G.valid G.left g.now (state p.old) }
     requires here { is_use_tree_start (state p.old).rest ≡ true }
@@ -107,6 +110,7 @@ pub fn use_tree<G: Grammar>(p: &mut Parser<'_>, g: &G) -> Result<(), NoMemory>
 }
 
 /// A star, or a list in its braces.
+#[tactic(auto, unfolding(rap_grammar_scripts::specs::UseItem::group))]
 fn group<G: Grammar>(p: &mut Parser<'_>, g: &G) -> Result<(), NoMemory>
     requires within { Within G.valid G.left g.now (state p.old) }
     requires first { is_group_first (next (state p.old)) ≡ true }
@@ -121,6 +125,7 @@ fn group<G: Grammar>(p: &mut Parser<'_>, g: &G) -> Result<(), NoMemory>
 }
 
 /// What stands after a path: a name for it, as `as a`, or names in it, as `::{a, b}`.
+#[tactic(auto, unfolding(rap_grammar_scripts::specs::UseItem::after_use_path))]
 fn after_use_path<G: Grammar>(p: &mut Parser<'_>, g: &G) -> Result<(), NoMemory>
     requires within { Within G.valid G.left g.now (state p.old) }
     ensures grew { OnOk result (Grew (state p.old) (state p.new) 0) }
@@ -137,6 +142,7 @@ fn after_use_path<G: Grammar>(p: &mut Parser<'_>, g: &G) -> Result<(), NoMemory>
 }
 
 /// A star, or a list in its braces, after a path and `::`.
+#[tactic(auto, unfolding(rap_grammar_scripts::specs::UseItem::group_behind))]
 fn group_behind<G: Grammar>(p: &mut Parser<'_>, g: &G) -> Result<(), NoMemory>
     requires within { Within G.valid G.left g.now (state p.old) }
     requires here { is_at COLON2 (state p.old).rest ≡ true }
@@ -153,6 +159,7 @@ fn group_behind<G: Grammar>(p: &mut Parser<'_>, g: &G) -> Result<(), NoMemory>
 }
 
 /// Trees in their braces, as `{a, b::c}`.
+#[tactic(auto, unfolding(rap_grammar_scripts::specs::UseItem::use_tree_list))]
 pub fn use_tree_list<G: Grammar>(p: &mut Parser<'_>, g: &G) -> Result<(), NoMemory>
     requires within { Within G.valid G.left g.now (state p.old) }
     requires here { next (state p.old) ≡ L_CURLY }
@@ -184,6 +191,7 @@ impl Element for NestedUseTree {
 
     ghost first = { λ _. script.is_use_tree_list_first };
 
+    #[tactic(auto, unfolding(rap_grammar_scripts::specs::UseItem::nested_use_tree, rap_grammar_scripts::specs::Called::use_tree))]
     fn parse<G: Grammar>(&self, p: &mut Parser<'_>, g: &G) -> Result<bool, NoMemory> {
         if is_use_tree_start(p) {
             g.run(p, Rule::UseTree)?;

@@ -92,7 +92,8 @@ fn refuse(
     requires newest { (state p.old).marker ≡ Some m.pos.value }
     ensures refused { IfOk result (Refused has_visibility has_mods (state p.old) (state p.new)) }
     ensures script { IfOk result
-        (λ item. (depth : ℕ) → Does depth (script.refuse has_visibility has_mods) (of_item item) (state p.old) (state p.new)) }
+        (λ item. (depth : ℕ) → Does depth (script.refuse has_visibility has_mods) (of_item item) (state p.old)
+        (state p.new)) }
 {
     if has_mods {
         p.error("expected fn, trait or impl")?;
@@ -157,7 +158,8 @@ fn opt_extern_crate(p: &mut Parser<'_>, m: Marker) -> Result<Result<(), Marker>,
     requires newest { (state p.old).marker ≡ Some m.pos.value }
     requires here { next (state p.old) ≡ EXTERN_KW }
     ensures handed { IfOk result (Handed (state p.old) (state p.new)) }
-    ensures script { IfOk result (λ item. (depth : ℕ) → Does depth script.opt_extern_crate (of_item item) (state p.old) (state p.new)) }
+    ensures script { IfOk result
+        (λ item. (depth : ℕ) → Does depth script.opt_extern_crate (of_item item) (state p.old) (state p.new)) }
 {
     if !p.nth_at(1, T![crate]) {
         return Ok(Err(m));
@@ -183,7 +185,8 @@ fn opt_named_const<G: Grammar>(
     requires newest { (state p.old).marker ≡ Some m.pos.value }
     requires here { next (state p.old) ≡ CONST_KW }
     ensures handed { IfOk result (Handed (state p.old) (state p.new)) }
-    ensures script { IfOk result (λ item. Does (G.left g.now) script.opt_named_const (of_item item) (state p.old) (state p.new)) }
+    ensures script { IfOk result
+        (λ item. Does (G.left g.now) script.opt_named_const (of_item item) (state p.old) (state p.new)) }
 {
     if !is_named(p) {
         return Ok(Err(m));
@@ -202,7 +205,8 @@ fn opt_const<G: Grammar>(
     requires newest { (state p.old).marker ≡ Some m.pos.value }
     requires here { next (state p.old) ≡ CONST_KW }
     ensures handed { IfOk result (Handed (state p.old) (state p.new)) }
-    ensures script { IfOk result (λ item. Does (G.left g.now) script.opt_const (of_item item) (state p.old) (state p.new)) }
+    ensures script { IfOk result
+        (λ item. Does (G.left g.now) script.opt_const (of_item item) (state p.old) (state p.new)) }
 {
     if p.nth(1) == T!['{'] {
         return Ok(Err(m));
@@ -221,7 +225,8 @@ fn opt_static<G: Grammar>(
     requires newest { (state p.old).marker ≡ Some m.pos.value }
     requires here { next (state p.old) ≡ STATIC_KW }
     ensures handed { IfOk result (Handed (state p.old) (state p.new)) }
-    ensures script { IfOk result (λ item. Does (G.left g.now) script.opt_static (of_item item) (state p.old) (state p.new)) }
+    ensures script { IfOk result
+        (λ item. Does (G.left g.now) script.opt_static (of_item item) (state p.old) (state p.new)) }
 {
     if !is_named(p) {
         return Ok(Err(m));
@@ -265,7 +270,8 @@ fn opt_item_by_name<G: Grammar>(
     requires within { Within G.valid G.left g.now (state p.old) }
     requires newest { (state p.old).marker ≡ Some m.pos.value }
     ensures handed { IfOk result (Handed (state p.old) (state p.new)) }
-    ensures script { IfOk result (λ item. Does (G.left g.now) script.opt_item_by_name (of_item item) (state p.old) (state p.new)) }
+    ensures script { IfOk result
+        (λ item. Does (G.left g.now) script.opt_item_by_name (of_item item) (state p.old) (state p.new)) }
 {
     if starts_union(p) {
         union(p, g, m)?;
@@ -310,7 +316,8 @@ fn opt_item_with_modifiers<G: Grammar>(
     requires newest { (state p.old).marker ≡ Some m.pos.value }
     ensures handed { IfOk result (Handed (state p.old) (state p.new)) }
     ensures script { IfOk result
-        (λ item. Does (G.left g.now) (script.opt_item_with_modifiers has_extern) (of_item item) (state p.old) (state p.new)) }
+        (λ item. Does (G.left g.now) (script.opt_item_with_modifiers has_extern) (of_item item) (state p.old)
+        (state p.new)) }
 {
     match p.current() {
         T![fn] => {
@@ -369,7 +376,8 @@ pub fn item_or_macro<G: Grammar>(
     requires within { Within G.valid G.left g.now (state p.old) }
     ensures item { OnOk result (IsItem stop_on_r_curly (state p.old) (state p.new)) }
     ensures script { OnOk result
-        (Does (G.left g.now) (script.item_or_macro stop_on_r_curly is_in_extern) something (state p.old) (state p.new)) }
+        (Does (G.left g.now) (script.item_or_macro stop_on_r_curly is_in_extern) something (state p.old)
+        (state p.new)) }
 {
     let m = p.start()?;
     outer_attrs(p, g)?;
@@ -425,7 +433,8 @@ fn macro_or_error<G: Grammar>(
     requires within { Within G.valid G.left g.now (state p.old) }
     requires newest { (state p.old).marker ≡ Some m.pos.value }
     ensures item { OnOk result (EndsItem stop_on_r_curly (state p.old) (state p.new)) }
-    ensures script { OnOk result (Does (G.left g.now) (script.macro_or_error stop_on_r_curly) something (state p.old) (state p.new)) }
+    ensures script { OnOk result
+        (Does (G.left g.now) (script.macro_or_error stop_on_r_curly) something (state p.old) (state p.new)) }
 {
     if is_use_path_start(p) {
         path_item(p, g, m)?;
@@ -462,7 +471,8 @@ fn missing_item<G: Grammar>(
 ) -> Result<(), NoMemory>
     requires within { Within G.valid G.left g.now (state p.old) }
     ensures item { OnOk result (SkipsItem stop_on_r_curly (state p.old) (state p.new)) }
-    ensures script { OnOk result (Does (G.left g.now) (script.missing_item stop_on_r_curly) something (state p.old) (state p.new)) }
+    ensures script { OnOk result
+        (Does (G.left g.now) (script.missing_item stop_on_r_curly) something (state p.old) (state p.new)) }
 {
     if p.current() == T!['{'] {
         error_block(p, g, "expected an item")?;
@@ -506,7 +516,8 @@ fn is_at_end(p: &Parser<'_>) -> bool
 fn unmatched_brace(p: &mut Parser<'_>) -> Result<(), NoMemory>
     requires here { next (state p.old) ≡ R_CURLY }
     ensures took { OnOk result (Took (state p.old) (state p.new) list_room) }
-    ensures script { OnOk result ((depth : ℕ) → Does depth script.unmatched_brace something (state p.old) (state p.new)) }
+    ensures script { OnOk result
+        ((depth : ℕ) → Does depth script.unmatched_brace something (state p.old) (state p.new)) }
 {
     let m = p.start()?;
     p.error("unmatched `}`")?;

@@ -44,8 +44,8 @@ pub fn postfix_expr<G: Grammar>(
     ensures plain { IfOk result (λ e. is_plain e.0.kind.value ≡ true) }
     ensures one { OnOk result (but_last (state p.new).forest ≡ but_last (state p.old).forest) }
     ensures script { IfOk result
-        (λ e. Does (G.left g.now) (script.postfix_expr allow_calls (is_block (of_like block_like))) (of_like e.1) (state p.old)
-        (state p.new)) }
+        (λ e. Does (G.left g.now) (script.postfix_expr allow_calls (is_block (of_like block_like))) (of_like e.1)
+        (state p.old) (state p.new)) }
 {
     'postfixes: loop {
         lhs = match p.current() {
@@ -77,7 +77,8 @@ fn postfix_dot_expr<G: Grammar>(
     requires here { next (state p.old) ≡ DOT }
     ensures wraps { IfOk result
         (λ e. Wraps e.0.kind.value operand_room (state p.old) (state p.new) e.0 × (is_plain e.0.kind.value ≡ true)) }
-    ensures script { IfOk result (λ e. Does (G.left g.now) script.postfix_dot_expr (of_bool e.1) (state p.old) (state p.new)) }
+    ensures script { IfOk result
+        (λ e. Does (G.left g.now) script.postfix_dot_expr (of_bool e.1) (state p.old) (state p.new)) }
 {
     let m = lhs.precede(p)?;
     p.bump(T![.])?;

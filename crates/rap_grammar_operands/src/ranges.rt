@@ -47,7 +47,8 @@ pub fn range_expr<G: Grammar>(
     requires power { power op ≡ 2 }
     ensures wraps { IfOk result (λ range. Wraps RANGE_EXPR operand_room (state p.old) (state p.new) range.0) }
     ensures open_end { IfOk result (λ range. range.1 ≡ false → open_ended (last_children (state p.new).forest) ≡ true) }
-    ensures script { IfOk result (λ range. Does (G.left g.now) (script.range_expr r op) (of_bool range.1) (state p.old) (state p.new)) }
+    ensures script { IfOk result
+        (λ range. Does (G.left g.now) (script.range_expr r op) (of_bool range.1) (state p.old) (state p.new)) }
 {
     let m = lhs.precede(p)?;
     p.bump(op)?;
@@ -77,7 +78,8 @@ pub fn prefix_range<G: Grammar>(
     requires here { At (state p.old) op }
     requires some { op ≢ EOF }
     ensures made { IfOk result (Makes RANGE_EXPR operand_room (state p.old) (state p.new)) }
-    ensures script { OnOk result (Does (G.left g.now) (script.prefix_range r op) something (state p.old) (state p.new)) }
+    ensures script { OnOk result
+        (Does (G.left g.now) (script.prefix_range r op) something (state p.old) (state p.new)) }
 {
     let m = p.start()?;
     p.bump(op)?;

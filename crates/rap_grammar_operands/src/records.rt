@@ -29,7 +29,8 @@ pub fn record_expr_field_list<G: Grammar>(p: &mut Parser<'_>, g: &G) -> Result<(
     ensures took { OnOk result (Took (state p.old) (state p.new) list_room) }
     ensures one { OnOk result
         ((state p.new).forest ≡ node (state p.old).forest RECORD_EXPR_FIELD_LIST (last_children (state p.new).forest)) }
-    ensures script { OnOk result (Does (G.left g.now) script.record_expr_field_list something (state p.old) (state p.new)) }
+    ensures script { OnOk result
+        (Does (G.left g.now) script.record_expr_field_list something (state p.old) (state p.new)) }
 {
     let m = p.start()?;
     p.bump(T!['{'])?;

@@ -22,6 +22,7 @@ use rap_grammar_frame::names::lifetime;
 use rap_grammar_scripts::arguments::Flavor;
 
 /// The parameters of a function, as `(&self, a: b)`.
+#[tactic(auto, unfolding(rap_grammar_scripts::specs::Params::param_list_fn_def))]
 pub fn param_list_fn_def<G: Grammar>(p: &mut Parser<'_>, g: &G) -> Result<(), NoMemory>
     requires within { Within G.valid G.left g.now (state p.old) }
     requires here { next (state p.old) ≡ L_PAREN }
@@ -33,6 +34,7 @@ pub fn param_list_fn_def<G: Grammar>(p: &mut Parser<'_>, g: &G) -> Result<(), No
 }
 
 /// The parameters of a function pointer, as `(a, _: b)`.
+#[tactic(auto, unfolding(rap_grammar_scripts::specs::Params::param_list_fn_ptr))]
 pub fn param_list_fn_ptr<G: Grammar>(p: &mut Parser<'_>, g: &G) -> Result<(), NoMemory>
     requires within { Within G.valid G.left g.now (state p.old) }
     requires here { next (state p.old) ≡ L_PAREN }
@@ -44,6 +46,7 @@ pub fn param_list_fn_ptr<G: Grammar>(p: &mut Parser<'_>, g: &G) -> Result<(), No
 }
 
 /// The parameters of a closure, as `|a, b: c|`.
+#[tactic(auto, unfolding(rap_grammar_scripts::specs::Params::param_list_closure))]
 pub fn param_list_closure<G: Grammar>(p: &mut Parser<'_>, g: &G) -> Result<(), NoMemory>
     requires within { Within G.valid G.left g.now (state p.old) }
     requires here { next (state p.old) ≡ PIPE }
@@ -55,7 +58,7 @@ pub fn param_list_closure<G: Grammar>(p: &mut Parser<'_>, g: &G) -> Result<(), N
 }
 
 /// The parameters in their brackets.
-#[tactic(auto, using(rap_grammar_frame::proofs::Binary::width_positive))]
+#[tactic(auto, using(rap_grammar_frame::proofs::Binary::width_positive), unfolding(rap_grammar_scripts::specs::Params::list_))]
 fn list_<G: Grammar>(p: &mut Parser<'_>, g: &G, flavor: Flavor) -> Result<(), NoMemory>
     requires within { Within G.valid G.left g.now (state p.old) }
     requires here { At (state p.old) (script.bra flavor) }
@@ -85,6 +88,7 @@ fn params_of<G: Grammar>(p: &mut Parser<'_>, g: &G, flavor: Flavor) -> Result<()
 }
 
 /// The parameters of a function, the first of which may be a `self`.
+#[tactic(auto, unfolding(rap_grammar_scripts::specs::Params::fn_def_params))]
 fn fn_def_params<G: Grammar>(p: &mut Parser<'_>, g: &G) -> Result<(), NoMemory>
     requires behind { Behind G.valid G.left g.now (state p.old) }
     ensures grew { OnOk result (Grew (state p.old) (state p.new) 16) }
@@ -98,10 +102,12 @@ fn fn_def_params<G: Grammar>(p: &mut Parser<'_>, g: &G) -> Result<(), NoMemory>
 }
 
 /// The first parameter of a function, as `self` or `a: b`. Returns whether another one may follow.
+#[tactic(auto, unfolding(rap_grammar_scripts::specs::Params::first_param))]
 fn first_param<G: Grammar>(p: &mut Parser<'_>, g: &G) -> Result<bool, NoMemory>
     requires behind { Behind G.valid G.left g.now (state p.old) }
     ensures grew { OnOk result (Grew (state p.old) (state p.new) 8) }
-    ensures script { IfOk result (λ on. Does (G.left g.now) script.first_param (of_bool on) (state p.old) (state p.new)) }
+    ensures script { IfOk result
+        (λ on. Does (G.left g.now) script.first_param (of_bool on) (state p.old) (state p.new)) }
 {
     let m = p.start()?;
     outer_attrs(p, g)?;
@@ -119,6 +125,7 @@ fn first_param<G: Grammar>(p: &mut Parser<'_>, g: &G) -> Result<bool, NoMemory>
 }
 
 /// The comma after a `self`.
+#[tactic(auto, unfolding(rap_grammar_scripts::specs::Params::after_self))]
 fn after_self(p: &mut Parser<'_>) -> Result<(), NoMemory>
     ensures grew { OnOk result (Grew (state p.old) (state p.new) 1) }
     ensures script { OnOk result ((depth : ℕ) → Does depth script.after_self something (state p.old) (state p.new)) }
@@ -144,11 +151,13 @@ fn params<G: Grammar>(p: &mut Parser<'_>, g: &G, flavor: Flavor) -> Result<(), N
 }
 
 /// A parameter with its attributes, as `#[a] b: c`. Returns whether another one may follow.
+#[tactic(auto, unfolding(rap_grammar_scripts::specs::Params::attributed_param))]
 fn attributed_param<G: Grammar>(p: &mut Parser<'_>, g: &G, flavor: Flavor) -> Result<bool, NoMemory>
     requires behind { Behind G.valid G.left g.now (state p.old) }
     ensures grew { OnOk result (Grew (state p.old) (state p.new) 4) }
     ensures took { IfOk result (λ on. on ≡ true → Took (state p.old) (state p.new) element_room) }
-    ensures script { IfOk result (λ on. Does (G.left g.now) (script.attributed_param flavor) (of_bool on) (state p.old) (state p.new)) }
+    ensures script { IfOk result
+        (λ on. Does (G.left g.now) (script.attributed_param flavor) (of_bool on) (state p.old) (state p.new)) }
 {
     let m = p.start()?;
     outer_attrs(p, g)?;
@@ -157,6 +166,7 @@ fn attributed_param<G: Grammar>(p: &mut Parser<'_>, g: &G, flavor: Flavor) -> Re
 }
 
 /// A parameter from its marker on, and the comma after it. Returns whether another one may follow.
+#[tactic(auto, unfolding(rap_grammar_scripts::specs::Params::marked_param))]
 fn marked_param<G: Grammar>(
     p: &mut Parser<'_>,
     g: &G,
@@ -167,7 +177,8 @@ fn marked_param<G: Grammar>(
     requires newest { (state p.old).marker ≡ Some m.pos.value }
     ensures gone { OnOk result (Gone (state p.old) (state p.new) 2) }
     ensures spent { IfOk result (λ on. on ≡ true → Spent (state p.old) (state p.new) param_room) }
-    ensures script { IfOk result (λ on. Does (G.left g.now) (script.marked_param flavor) (of_bool on) (state p.old) (state p.new)) }
+    ensures script { IfOk result
+        (λ on. Does (G.left g.now) (script.marked_param flavor) (of_bool on) (state p.old) (state p.new)) }
 {
     if !is_param_first(p.current()) {
         p.error("expected value parameter")?;
@@ -189,9 +200,11 @@ fn is_param_first(kind: SyntaxKind) -> bool
 }
 
 /// The comma after a parameter. Returns whether another one may follow. Where one begins, a missing comma is reported.
+#[tactic(auto, unfolding(rap_grammar_scripts::specs::Params::after_param))]
 fn after_param(p: &mut Parser<'_>) -> Result<bool, NoMemory>
     ensures grew { OnOk result (Grew (state p.old) (state p.new) 1) }
-    ensures script { IfOk result (λ on. (depth : ℕ) → Does depth script.after_param (of_bool on) (state p.old) (state p.new)) }
+    ensures script { IfOk result
+        (λ on. (depth : ℕ) → Does depth script.after_param (of_bool on) (state p.old) (state p.new)) }
 {
     if p.eat(T![,])? {
         return Ok(true);
@@ -227,6 +240,7 @@ fn param<G: Grammar>(p: &mut Parser<'_>, g: &G, flavor: Flavor) -> Result<(), No
 }
 
 /// A parameter of a function, as `a: b`, `a: ...` and `...`.
+#[tactic(auto, unfolding(rap_grammar_scripts::specs::Params::fn_def_param))]
 fn fn_def_param<G: Grammar>(p: &mut Parser<'_>, g: &G) -> Result<(), NoMemory>
     requires behind { Behind G.valid G.left g.now (state p.old) }
     requires first { is_param_first (next (state p.old)) ≡ true }
@@ -242,6 +256,7 @@ fn fn_def_param<G: Grammar>(p: &mut Parser<'_>, g: &G) -> Result<(), NoMemory>
 }
 
 /// A parameter of a function pointer, as `a`, `_: a` and `...`.
+#[tactic(auto, unfolding(rap_grammar_scripts::specs::Params::fn_ptr_param))]
 fn fn_ptr_param<G: Grammar>(p: &mut Parser<'_>, g: &G) -> Result<(), NoMemory>
     requires behind { Behind G.valid G.left g.now (state p.old) }
     requires first { is_param_first (next (state p.old)) ≡ true }
@@ -268,6 +283,7 @@ fn is_named_param(p: &Parser<'_>) -> bool
 }
 
 /// A parameter of a closure, as `a` and `a: b`.
+#[tactic(auto, unfolding(rap_grammar_scripts::specs::Params::closure_param))]
 fn closure_param<G: Grammar>(p: &mut Parser<'_>, g: &G) -> Result<(), NoMemory>
     requires behind { Behind G.valid G.left g.now (state p.old) }
     requires first { is_param_first (next (state p.old)) ≡ true }
@@ -282,6 +298,7 @@ fn closure_param<G: Grammar>(p: &mut Parser<'_>, g: &G) -> Result<(), NoMemory>
 }
 
 /// What stands after a parameter's pattern: `: a` or `: ...`.
+#[tactic(auto, unfolding(rap_grammar_scripts::specs::Params::param_type))]
 fn param_type<G: Grammar>(p: &mut Parser<'_>, g: &G) -> Result<(), NoMemory>
     requires behind { Behind G.valid G.left g.now (state p.old) }
     ensures grew { OnOk result (Grew (state p.old) (state p.new) 1) }
@@ -299,9 +316,11 @@ fn param_type<G: Grammar>(p: &mut Parser<'_>, g: &G) -> Result<(), NoMemory>
 }
 
 /// `: ...`, if it comes next. Returns whether it did.
+#[tactic(auto, unfolding(rap_grammar_scripts::specs::Params::variadic_param))]
 fn variadic_param(p: &mut Parser<'_>) -> Result<bool, NoMemory>
     ensures grew { OnOk result (Grew (state p.old) (state p.new) 0) }
-    ensures script { IfOk result (λ found. (depth : ℕ) → Does depth script.variadic_param (of_bool found) (state p.old) (state p.new)) }
+    ensures script { IfOk result
+        (λ found. (depth : ℕ) → Does depth script.variadic_param (of_bool found) (state p.old) (state p.new)) }
 {
     if p.at(T![:]) && p.nth_at(1, T![...]) {
         p.bump(T![:])?;
@@ -312,11 +331,13 @@ fn variadic_param(p: &mut Parser<'_>) -> Result<bool, NoMemory>
 }
 
 /// A parameter that is a `self`, as `mut self: a` and `&'a mut self`, if one comes next. Returns whether it did.
+#[tactic(auto, unfolding(rap_grammar_scripts::specs::Params::opt_self_param))]
 fn opt_self_param<G: Grammar>(p: &mut Parser<'_>, g: &G) -> Result<bool, NoMemory>
     requires behind { Behind G.valid G.left g.now (state p.old) }
     ensures grew { OnOk result (Grew (state p.old) (state p.new) 0) }
     ensures took { IfOk result (λ found. found ≡ true → Took (state p.old) (state p.new) param_room) }
-    ensures script { IfOk result (λ found. Does (G.left g.now) script.opt_self_param (of_bool found) (state p.old) (state p.new)) }
+    ensures script { IfOk result
+        (λ found. Does (G.left g.now) script.opt_self_param (of_bool found) (state p.old) (state p.new)) }
 {
     if is_self_value(p) {
         self_value(p, g)?;
@@ -361,6 +382,7 @@ fn past(p: &Parser<'_>, kind: SyntaxKind, n: usize) -> usize
 }
 
 /// `self` or `mut self`, and its type.
+#[tactic(auto, unfolding(rap_grammar_scripts::specs::Params::self_value))]
 fn self_value<G: Grammar>(p: &mut Parser<'_>, g: &G) -> Result<(), NoMemory>
     requires within { Within G.valid G.left g.now (state p.old) }
     requires here { script.is_self_value (state p.old).rest ≡ true }

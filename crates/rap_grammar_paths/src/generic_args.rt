@@ -52,7 +52,8 @@ pub(crate) fn generic_arg_list<G: Grammar>(
     requires newest { (state p.old).marker ≡ Some m.pos.value }
     requires here { next (state p.old) ≡ L_ANGLE }
     ensures ended { OnOk result (Ended (state p.old) (state p.new) element_room) }
-    ensures script { OnOk result (Does (G.left g.now) path_script.generic_arg_list something (state p.old) (state p.new)) }
+    ensures script { OnOk result
+        (Does (G.left g.now) path_script.generic_arg_list something (state p.old) (state p.new)) }
 {
     delimited(
         p,
@@ -79,7 +80,8 @@ pub fn opt_generic_arg_list_expr<G: Grammar>(p: &mut Parser<'_>, g: &G) -> Resul
     requires within { Within G.valid G.left g.now (state p.old) }
     ensures grew { OnOk result (Grew (state p.old) (state p.new) 0) }
     ensures stays { OnOk result (is_at COLON2 (state p.old).rest ≡ false → state p.new ≡ state p.old) }
-    ensures script { OnOk result (Does (G.left g.now) path_script.opt_generic_arg_list_expr something (state p.old) (state p.new)) }
+    ensures script { OnOk result
+        (Does (G.left g.now) path_script.opt_generic_arg_list_expr something (state p.old) (state p.new)) }
 {
     if !starts_expr_args(p) {
         return Ok(());

@@ -104,7 +104,8 @@ pub fn type_path_for_qualifier<G: Grammar>(
     ensures grew { OnOk result (Grew (state p.old) (state p.new) 0) }
     ensures last { IfOk result (λ cm. IsLast (state p.new) cm PATH) }
     ensures one { OnOk result (but_last (state p.new).forest ≡ but_last (state p.old).forest) }
-    ensures script { OnOk result (Does (G.left g.now) paths_script.type_path_for_qualifier something (state p.old) (state p.new)) }
+    ensures script { OnOk result
+        (Does (G.left g.now) paths_script.type_path_for_qualifier something (state p.old) (state p.new)) }
 {
     let path = path_for_qualifier(p, g, Mode::Type, qual)?;
     Ok(path)
@@ -121,7 +122,8 @@ fn path<G: Grammar>(
     ensures took { OnOk result (is_path_start (state p.old).rest ≡ true → Took (state p.old) (state p.new) path_room) }
     ensures some { IfOk result
         (λ o. IfSome o (λ cm. IsLast (state p.new) cm PATH × (but_last (state p.new).forest ≡ (state p.old).forest))) }
-    ensures script { IfOk result (λ o. Does (G.left g.now) (paths_script.path mode) (of_option o) (state p.old) (state p.new)) }
+    ensures script { IfOk result
+        (λ o. Does (G.left g.now) (paths_script.path mode) (of_option o) (state p.old) (state p.new)) }
 {
     let path = p.start()?;
     if path_segment(p, g, mode, true)?.is_none() {
@@ -156,7 +158,8 @@ fn path_for_qualifier<G: Grammar>(
     ensures grew { OnOk result (Grew (state p.old) (state p.new) 0) }
     ensures last { IfOk result (λ cm. IsLast (state p.new) cm PATH) }
     ensures one { OnOk result (but_last (state p.new).forest ≡ but_last (state p.old).forest) }
-    ensures script { OnOk result (Does (G.left g.now) (paths_script.path_for_qualifier mode) something (state p.old) (state p.new)) }
+    ensures script { OnOk result
+        (Does (G.left g.now) (paths_script.path_for_qualifier mode) something (state p.old) (state p.new)) }
 {
     'segments: while has_segment(p, mode) {
         let path = qual.precede(p)?;
@@ -182,7 +185,8 @@ fn path_segment<G: Grammar>(
         (λ cm. IsLast (state p.new) cm PATH_SEGMENT × (but_last (state p.new).forest ≡ (state p.old).forest))) }
     ensures took { OnOk result
         (first ≡ true → is_path_start (state p.old).rest ≡ true → Took (state p.old) (state p.new) segment_room) }
-    ensures script { IfOk result (λ o. Does (G.left g.now) (paths_script.path_segment mode first) (of_option o) (state p.old) (state p.new)) }
+    ensures script { IfOk result
+        (λ o. Does (G.left g.now) (paths_script.path_segment mode first) (of_option o) (state p.old) (state p.new)) }
 {
     let m = p.start()?;
     if !first {
@@ -252,7 +256,8 @@ fn segment_name<G: Grammar>(
     ensures some { IfOk result (λ o. IfSome o (λ cm. Closes PATH_SEGMENT 4 (state p.old) (state p.new) cm)) }
     ensures none { IfOk result (λ o. o ≡ None → Dropped (state p.old) (state p.new) dropped_events) }
     ensures took { OnOk result (is_path_name (next (state p.old)) ≡ true → Spent (state p.old) (state p.new) name_end_room) }
-    ensures script { IfOk result (λ o. Does (G.left g.now) (paths_script.segment_name mode empty) (of_option o) (state p.old) (state p.new)) }
+    ensures script { IfOk result
+        (λ o. Does (G.left g.now) (paths_script.segment_name mode empty) (of_option o) (state p.old) (state p.new)) }
 {
     if !is_path_name(p.current()) {
         let segment = missing_segment_name(p, m, mode, empty)?;
@@ -277,7 +282,8 @@ fn missing_segment_name(
     ensures some { IfOk result (λ o. IfSome o (λ cm. Closes PATH_SEGMENT 4 (state p.old) (state p.new) cm)) }
     ensures none { IfOk result (λ o. o ≡ None → Dropped (state p.old) (state p.new) dropped_events) }
     ensures script { IfOk result
-        (λ o. (depth : ℕ) → Does depth (paths_script.missing_segment_name mode empty) (of_option o) (state p.old) (state p.new)) }
+        (λ o. (depth : ℕ) → Does depth (paths_script.missing_segment_name mode empty) (of_option o) (state p.old)
+        (state p.new)) }
 {
     let stopped = p.err_recover(
         "expected identifier, `self`, `super`, `crate`, or `Self`",
@@ -308,7 +314,8 @@ fn segment_recovery_set(mode: Mode) -> TokenSet
 fn opt_path_args<G: Grammar>(p: &mut Parser<'_>, g: &G, mode: Mode) -> Result<(), NoMemory>
     requires within { Within G.valid G.left g.now (state p.old) }
     ensures grew { OnOk result (Grew (state p.old) (state p.new) 0) }
-    ensures script { OnOk result (Does (G.left g.now) (paths_script.opt_path_args mode) something (state p.old) (state p.new)) }
+    ensures script { OnOk result
+        (Does (G.left g.now) (paths_script.opt_path_args mode) something (state p.old) (state p.new)) }
 {
     match mode {
         Mode::Use | Mode::Attr | Mode::Vis => Ok(()),
@@ -341,7 +348,8 @@ fn has_args(p: &Parser<'_>) -> bool
 pub fn opt_path_type_args<G: Grammar>(p: &mut Parser<'_>, g: &G) -> Result<(), NoMemory>
     requires within { Within G.valid G.left g.now (state p.old) }
     ensures grew { OnOk result (Grew (state p.old) (state p.new) 0) }
-    ensures script { OnOk result (Does (G.left g.now) paths_script.opt_path_type_args something (state p.old) (state p.new)) }
+    ensures script { OnOk result
+        (Does (G.left g.now) paths_script.opt_path_type_args something (state p.old) (state p.new)) }
 {
     if has_args_behind(p) {
         let m = p.start()?;
@@ -362,7 +370,8 @@ fn path_type_args<G: Grammar>(p: &mut Parser<'_>, g: &G, m: Marker) -> Result<()
     requires newest { (state p.old).marker ≡ Some m.pos.value }
     requires here { (next (state p.old) ≡ L_PAREN) ⊎ (next (state p.old) ≡ L_ANGLE) }
     ensures ended { OnOk result (Ended (state p.old) (state p.new) element_room) }
-    ensures script { OnOk result (Does (G.left g.now) paths_script.path_type_args something (state p.old) (state p.new)) }
+    ensures script { OnOk result
+        (Does (G.left g.now) paths_script.path_type_args something (state p.old) (state p.new)) }
 {
     if p.current() == T![<] {
         generic_arg_list(p, g, m)?;
@@ -382,7 +391,8 @@ fn return_type_syntax(p: &mut Parser<'_>, m: Marker) -> Result<(), NoMemory>
     requires here { next (state p.old) ≡ L_PAREN }
     requires dots { is_at DOT2 (drop 1 (state p.old).rest) ≡ true }
     ensures ended { OnOk result (Ended (state p.old) (state p.new) element_room) }
-    ensures script { OnOk result ((depth : ℕ) → Does depth paths_script.return_type_syntax something (state p.old) (state p.new)) }
+    ensures script { OnOk result
+        ((depth : ℕ) → Does depth paths_script.return_type_syntax something (state p.old) (state p.new)) }
 {
     p.bump(T!['('])?;
     p.bump(T![..])?;
@@ -397,7 +407,8 @@ fn parenthesized_args<G: Grammar>(p: &mut Parser<'_>, g: &G, m: Marker) -> Resul
     requires newest { (state p.old).marker ≡ Some m.pos.value }
     requires here { next (state p.old) ≡ L_PAREN }
     ensures ended { OnOk result (Ended (state p.old) (state p.new) element_room) }
-    ensures script { OnOk result (Does (G.left g.now) paths_script.parenthesized_args something (state p.old) (state p.new)) }
+    ensures script { OnOk result
+        (Does (G.left g.now) paths_script.parenthesized_args something (state p.old) (state p.new)) }
 {
     delimited(p, g, T!['('], T![')'], T![,], "expected type", &TypeArg)?;
     m.complete(p, SyntaxKind::PARENTHESIZED_ARG_LIST)?;

@@ -28,7 +28,8 @@ pub fn opt_visibility<G: Grammar>(
     ensures took { IfOk result (λ found. found ≡ true → Took (state p.old) (state p.new) list_room) }
     ensures stays { IfOk result (λ found. found ≡ false → state p.new ≡ state p.old) }
     ensures script { IfOk result
-        (λ found. Does (G.left g.now) (script.opt_visibility in_tuple_field) (of_bool found) (state p.old) (state p.new)) }
+        (λ found. Does (G.left g.now) (script.opt_visibility in_tuple_field) (of_bool found) (state p.old)
+        (state p.new)) }
 {
     if !p.at(T![pub]) {
         return Ok(false);
@@ -74,7 +75,8 @@ pub fn opt_visibility_inner<G: Grammar>(
     ensures took { IfOk result (λ found. found ≡ true → Took (state p.old) (state p.new) list_room) }
     ensures stays { IfOk result (λ found. found ≡ false → state p.new ≡ state p.old) }
     ensures script { IfOk result
-        (λ found. Does (G.left g.now) (script.opt_visibility_inner in_tuple_field) (of_bool found) (state p.old) (state p.new)) }
+        (λ found. Does (G.left g.now) (script.opt_visibility_inner in_tuple_field) (of_bool found) (state p.old)
+        (state p.new)) }
 {
     if starts_restriction(p, in_tuple_field) {
         restriction(p, g)?;

@@ -93,7 +93,8 @@ pub fn pattern_r<G: Grammar>(p: &mut Parser<'_>, g: &G, in_arm: bool) -> Result<
 fn alternatives<G: Grammar>(p: &mut Parser<'_>, g: &G, in_arm: bool) -> Result<(), NoMemory>
     requires within { Within G.valid G.left g.now (state p.old) }
     ensures grew { OnOk result (Grew (state p.old) (state p.new) 0) }
-    ensures script { OnOk result (Does (G.left g.now) (script.alternatives in_arm) something (state p.old) (state p.new)) }
+    ensures script { OnOk result
+        (Does (G.left g.now) (script.alternatives in_arm) something (state p.old) (state p.new)) }
 {
     'alternatives: while p.at(T![|]) {
         p.bump(T![|])?;
@@ -106,7 +107,8 @@ fn alternatives<G: Grammar>(p: &mut Parser<'_>, g: &G, in_arm: bool) -> Result<(
 pub fn pattern_single_r<G: Grammar>(p: &mut Parser<'_>, g: &G, in_arm: bool) -> Result<(), NoMemory>
     requires within { Within G.valid G.left g.now (state p.old) }
     ensures reads { OnOk result (PatternUntil (stops_of in_arm) recovery_events single_pattern_room (state p.old) (state p.new)) }
-    ensures script { OnOk result (Does (G.left g.now) (script.pattern_single_r in_arm) something (state p.old) (state p.new)) }
+    ensures script { OnOk result
+        (Does (G.left g.now) (script.pattern_single_r in_arm) something (state p.old) (state p.new)) }
 {
     if p.at(T![..=]) {
         range_to_pat(p, g, in_arm)?;
@@ -128,7 +130,8 @@ fn range_to_pat<G: Grammar>(p: &mut Parser<'_>, g: &G, in_arm: bool) -> Result<(
     requires within { Within G.valid G.left g.now (state p.old) }
     requires here { At (state p.old) DOT2EQ }
     ensures took { OnOk result (Took (state p.old) (state p.new) single_pattern_room) }
-    ensures script { OnOk result (Does (G.left g.now) (script.range_to_pat in_arm) something (state p.old) (state p.new)) }
+    ensures script { OnOk result
+        (Does (G.left g.now) (script.range_to_pat in_arm) something (state p.old) (state p.new)) }
 {
     let m = p.start()?;
     p.bump(T![..=])?;
@@ -196,7 +199,8 @@ fn range_from_pat<G: Grammar>(
     requires here { At (state p.old) op }
     requires op { op ≢ EOF }
     ensures grew { OnOk result (Grew (state p.old) (state p.new) 0) }
-    ensures script { OnOk result (Does (G.left g.now) (script.range_from_pat in_arm op) something (state p.old) (state p.new)) }
+    ensures script { OnOk result
+        (Does (G.left g.now) (script.range_from_pat in_arm op) something (state p.old) (state p.new)) }
 {
     let m = lhs.precede(p)?;
     p.bump(op)?;
@@ -227,7 +231,8 @@ fn atom_pat<G: Grammar>(
 ) -> Result<Option<CompletedMarker>, NoMemory>
     requires within { Within G.valid G.left g.now (state p.old) }
     ensures atom { IfOk result (IsAtomPattern in_arm (state p.old) (state p.new)) }
-    ensures script { IfOk result (λ o. Does (G.left g.now) (script.atom_pat in_arm) (of_option o) (state p.old) (state p.new)) }
+    ensures script { IfOk result
+        (λ o. Does (G.left g.now) (script.atom_pat in_arm) (of_option o) (state p.old) (state p.new)) }
 {
     if starts_builtin(p) {
         let cm = builtin_pat(p, g)?;
@@ -261,7 +266,8 @@ fn symbol_pat<G: Grammar>(
 ) -> Result<Option<CompletedMarker>, NoMemory>
     requires within { Within G.valid G.left g.now (state p.old) }
     ensures atom { IfOk result (IsAtomPattern in_arm (state p.old) (state p.new)) }
-    ensures script { IfOk result (λ o. Does (G.left g.now) (script.symbol_pat in_arm) (of_option o) (state p.old) (state p.new)) }
+    ensures script { IfOk result
+        (λ o. Does (G.left g.now) (script.symbol_pat in_arm) (of_option o) (state p.old) (state p.new)) }
 {
     if is_literal_pat_start(p) {
         return Ok(Some(literal_pat(p)?));
@@ -285,7 +291,8 @@ fn missing_pat(p: &mut Parser<'_>, in_arm: bool) -> Result<(), NoMemory>
     requires no_reference { next (state p.old) ≢ AMP }
     requires end { next (state p.old) ≡ EOF → (state p.old).rest ≡ [] }
     ensures reads { OnOk result (PatternUntil (stops_of in_arm) recovery_events atom_pattern_room (state p.old) (state p.new)) }
-    ensures script { OnOk result ((depth : ℕ) → Does depth (script.missing_pat in_arm) nothing (state p.old) (state p.new)) }
+    ensures script { OnOk result
+        ((depth : ℕ) → Does depth (script.missing_pat in_arm) nothing (state p.old) (state p.new)) }
 {
     p.err_recover("expected pattern", recovery_set(in_arm))?;
     Ok(())
@@ -297,7 +304,8 @@ fn builtin_pat<G: Grammar>(p: &mut Parser<'_>, g: &G) -> Result<Option<Completed
     requires here { ReadsAs (state p.old) BUILTIN_KW }
     requires pound { NthAt (state p.old) 1 POUND }
     ensures atom { IfOk result (λ o. (in_arm : Bool) → IsAtomPattern in_arm (state p.old) (state p.new) o) }
-    ensures script { IfOk result (λ o. Does (G.left g.now) script.builtin_pat (of_option o) (state p.old) (state p.new)) }
+    ensures script { IfOk result
+        (λ o. Does (G.left g.now) script.builtin_pat (of_option o) (state p.old) (state p.new)) }
 {
     let m = p.start()?;
     p.bump_remap(T![builtin])?;
@@ -439,7 +447,8 @@ fn record_pat_field_list<G: Grammar>(p: &mut Parser<'_>, g: &G) -> Result<(), No
     requires within { Within G.valid G.left g.now (state p.old) }
     requires here { next (state p.old) ≡ L_CURLY }
     ensures took { OnOk result (Took (state p.old) (state p.new) list_room) }
-    ensures script { OnOk result (Does (G.left g.now) script.record_pat_field_list something (state p.old) (state p.new)) }
+    ensures script { OnOk result
+        (Does (G.left g.now) script.record_pat_field_list something (state p.old) (state p.new)) }
 {
     let m = p.start()?;
     p.bump(T!['{'])?;
@@ -554,7 +563,8 @@ fn tuple_pat<G: Grammar>(p: &mut Parser<'_>, g: &G) -> Result<CompletedMarker, N
 /// A comma before the first pattern, as in `(, a)`, which is reported. Returns whether there is one.
 fn leading_comma(p: &mut Parser<'_>) -> Result<bool, NoMemory>
     ensures grew { OnOk result (Grew (state p.old) (state p.new) 0) }
-    ensures script { IfOk result (λ comma. (depth : ℕ) → Does depth script.leading_comma (of_bool comma) (state p.old) (state p.new)) }
+    ensures script { IfOk result
+        (λ comma. (depth : ℕ) → Does depth script.leading_comma (of_bool comma) (state p.old) (state p.new)) }
 {
     if p.eat(T![,])? {
         p.error("expected pattern")?;
@@ -642,7 +652,8 @@ fn ident_pat<G: Grammar>(
     requires within { Within G.valid G.left g.now (state p.old) }
     requires here { one_of (REF_KW ∷ MUT_KW ∷ IDENT ∷ []) (next (state p.old)) ≡ true }
     ensures made { IfOk result (Makes IDENT_PAT atom_pattern_room (state p.old) (state p.new)) }
-    ensures script { OnOk result (Does (G.left g.now) (script.ident_pat with_at) something (state p.old) (state p.new)) }
+    ensures script { OnOk result
+        (Does (G.left g.now) (script.ident_pat with_at) something (state p.old) (state p.new)) }
 {
     let m = p.start()?;
     binding(p)?;
@@ -672,7 +683,8 @@ fn binding(p: &mut Parser<'_>) -> Result<(), NoMemory>
 fn at_pattern<G: Grammar>(p: &mut Parser<'_>, g: &G, with_at: bool) -> Result<(), NoMemory>
     requires within { Within G.valid G.left g.now (state p.old) }
     ensures grew { OnOk result (Grew (state p.old) (state p.new) 0) }
-    ensures script { OnOk result (Does (G.left g.now) (script.at_pattern with_at) something (state p.old) (state p.new)) }
+    ensures script { OnOk result
+        (Does (G.left g.now) (script.at_pattern with_at) something (state p.old) (state p.new)) }
 {
     if with_at && p.at(T![@]) {
         p.bump(T![@])?;

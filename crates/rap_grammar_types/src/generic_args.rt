@@ -225,7 +225,8 @@ fn const_arg_expr<G: Grammar>(p: &mut Parser<'_>, g: &G) -> Result<(), NoMemory>
     requires within { Within G.valid G.left g.now (state p.old) }
     ensures grew { OnOk result (Grew (state p.old) (state p.new) 6) }
     ensures took { OnOk result (is_const_arg_first (next (state p.old)) ≡ true → Took (state p.old) (state p.new) operand_room) }
-    ensures script { OnOk result (Does (G.left g.now) const_script.const_arg_expr something (state p.old) (state p.new)) }
+    ensures script { OnOk result
+        (Does (G.left g.now) const_script.const_arg_expr something (state p.old) (state p.new)) }
 {
     if p.current() == T!['{'] {
         block_expr(p, g)?;
@@ -264,7 +265,8 @@ fn const_path<G: Grammar>(p: &mut Parser<'_>, g: &G) -> Result<CompletedMarker, 
 fn negative_const(p: &mut Parser<'_>) -> Result<(), NoMemory>
     requires here { next (state p.old) ≡ MINUS }
     ensures took { OnOk result (Took (state p.old) (state p.new) operand_room) }
-    ensures script { OnOk result ((depth : ℕ) → Does depth const_script.negative_const something (state p.old) (state p.new)) }
+    ensures script { OnOk result
+        ((depth : ℕ) → Does depth const_script.negative_const something (state p.old) (state p.new)) }
 {
     let m = p.start()?;
     p.bump(T![-])?;
@@ -278,7 +280,8 @@ fn negative_const(p: &mut Parser<'_>) -> Result<(), NoMemory>
 #[inline(never)]
 fn missing_const(p: &mut Parser<'_>) -> Result<(), NoMemory>
     ensures grew { OnOk result (Grew (state p.old) (state p.new) recovery_events) }
-    ensures script { OnOk result ((depth : ℕ) → Does depth const_script.missing_const something (state p.old) (state p.new)) }
+    ensures script { OnOk result
+        ((depth : ℕ) → Does depth const_script.missing_const something (state p.old) (state p.new)) }
 {
     p.err_recover(
         "expected a generic const argument",

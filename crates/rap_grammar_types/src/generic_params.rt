@@ -74,7 +74,8 @@ fn generic_param<G: Grammar>(p: &mut Parser<'_>, g: &G, m: Marker) -> Result<boo
     requires newest { (state p.old).marker ≡ Some m.pos.value }
     ensures gone { OnOk result (Gone (state p.old) (state p.new) 4) }
     ensures spent { IfOk result (λ found. found ≡ true → Spent (state p.old) (state p.new) param_room) }
-    ensures script { IfOk result (λ found. Does (G.left g.now) script.generic_param (of_bool found) (state p.old) (state p.new)) }
+    ensures script { IfOk result
+        (λ found. Does (G.left g.now) script.generic_param (of_bool found) (state p.old) (state p.new)) }
 {
     match p.current() {
         T![lifetime_ident] => {
@@ -174,7 +175,8 @@ fn lifetime_bounds<G: Grammar>(p: &mut Parser<'_>, g: &G) -> Result<(), NoMemory
 fn lifetime_bound_list<G: Grammar>(p: &mut Parser<'_>, g: &G) -> Result<(), NoMemory>
     requires within { Within G.valid G.left g.now (state p.old) }
     ensures grew { OnOk result (Grew (state p.old) (state p.new) 8) }
-    ensures script { OnOk result (Does (G.left g.now) script.lifetime_bound_list something (state p.old) (state p.new)) }
+    ensures script { OnOk result
+        (Does (G.left g.now) script.lifetime_bound_list something (state p.old) (state p.new)) }
 {
     'bounds: while lifetime_bound(p, g)? {
         if !p.eat(T![+])? {
@@ -189,7 +191,8 @@ fn lifetime_bound<G: Grammar>(p: &mut Parser<'_>, g: &G) -> Result<bool, NoMemor
     requires within { Within G.valid G.left g.now (state p.old) }
     ensures grew { OnOk result (Grew (state p.old) (state p.new) 4) }
     ensures took { IfOk result (λ found. found ≡ true → Took (state p.old) (state p.new) element_room) }
-    ensures script { IfOk result (λ found. Does (G.left g.now) script.lifetime_bound (of_bool found) (state p.old) (state p.new)) }
+    ensures script { IfOk result
+        (λ found. Does (G.left g.now) script.lifetime_bound (of_bool found) (state p.old) (state p.new)) }
 {
     if !matches!(p.current(), T![lifetime_ident] | T![>] | T![,]) {
         p.error("expected lifetime")?;
@@ -215,7 +218,8 @@ pub fn bounds_without_colon<G: Grammar>(p: &mut Parser<'_>, g: &G) -> Result<(),
     requires within { Within G.valid G.left g.now (state p.old) }
     ensures grew { OnOk result (Grew (state p.old) (state p.new) 16) }
     ensures took { OnOk result (next (state p.old) ≡ LIFETIME_IDENT → Took (state p.old) (state p.new) list_room) }
-    ensures script { OnOk result (Does (G.left g.now) script.bounds_without_colon something (state p.old) (state p.new)) }
+    ensures script { OnOk result
+        (Does (G.left g.now) script.bounds_without_colon something (state p.old) (state p.new)) }
 {
     let m = p.start()?;
     bounds_without_colon_m(p, g, m)?;
@@ -232,7 +236,8 @@ pub(crate) fn bounds_without_colon_m<G: Grammar>(
     requires newest { (state p.old).marker ≡ Some m.pos.value }
     ensures closes { IfOk result (Closes TYPE_BOUND_LIST 8 (state p.old) (state p.new)) }
     ensures spent { OnOk result (next (state p.old) ≡ LIFETIME_IDENT → Spent (state p.old) (state p.new) path_room) }
-    ensures script { OnOk result (Does (G.left g.now) script.bounds_without_colon_m something (state p.old) (state p.new)) }
+    ensures script { OnOk result
+        (Does (G.left g.now) script.bounds_without_colon_m something (state p.old) (state p.new)) }
 {
     type_bounds(p, g)?;
     let cm = m.complete(p, SyntaxKind::TYPE_BOUND_LIST)?;
@@ -260,7 +265,8 @@ fn type_bound<G: Grammar>(p: &mut Parser<'_>, g: &G) -> Result<bool, NoMemory>
     ensures grew { OnOk result (Grew (state p.old) (state p.new) 2) }
     ensures took { IfOk result (λ found. found ≡ true → Took (state p.old) (state p.new) param_room) }
     ensures lifetime { OnOk result (next (state p.old) ≡ LIFETIME_IDENT → Took (state p.old) (state p.new) name_end_room) }
-    ensures script { IfOk result (λ found. Does (G.left g.now) script.type_bound (of_bool found) (state p.old) (state p.new)) }
+    ensures script { IfOk result
+        (λ found. Does (G.left g.now) script.type_bound (of_bool found) (state p.old) (state p.new)) }
 {
     let m = p.start()?;
     let has_paren = p.eat(T!['('])?;
@@ -281,7 +287,8 @@ fn bare_bound<G: Grammar>(p: &mut Parser<'_>, g: &G) -> Result<bool, NoMemory>
     ensures grew { OnOk result (Grew (state p.old) (state p.new) 0) }
     ensures took { IfOk result (λ found. found ≡ true → Took (state p.old) (state p.new) list_room) }
     ensures lifetime { OnOk result (next (state p.old) ≡ LIFETIME_IDENT → Took (state p.old) (state p.new) name_room) }
-    ensures script { IfOk result (λ found. Does (G.left g.now) script.bare_bound (of_bool found) (state p.old) (state p.new)) }
+    ensures script { IfOk result
+        (λ found. Does (G.left g.now) script.bare_bound (of_bool found) (state p.old) (state p.new)) }
 {
     match p.current() {
         T![lifetime_ident] => {
@@ -357,7 +364,8 @@ fn path_type_bound<G: Grammar>(p: &mut Parser<'_>, g: &G) -> Result<bool, NoMemo
     requires within { Within G.valid G.left g.now (state p.old) }
     ensures grew { OnOk result (Grew (state p.old) (state p.new) 0) }
     ensures took { IfOk result (λ found. found ≡ true → Took (state p.old) (state p.new) list_room) }
-    ensures script { IfOk result (λ found. Does (G.left g.now) script.path_type_bound (of_bool found) (state p.old) (state p.new)) }
+    ensures script { IfOk result
+        (λ found. Does (G.left g.now) script.path_type_bound (of_bool found) (state p.old) (state p.new)) }
 {
     bound_constness(p)?;
     p.eat(T![async])?;
@@ -375,7 +383,8 @@ fn path_type_bound<G: Grammar>(p: &mut Parser<'_>, g: &G) -> Result<bool, NoMemo
 /// The `const` before a trait, as `const`, `~const` and `[const]`, if there is one.
 fn bound_constness(p: &mut Parser<'_>) -> Result<(), NoMemory>
     ensures grew { OnOk result (Grew (state p.old) (state p.new) 0) }
-    ensures script { OnOk result ((depth : ℕ) → Does depth script.bound_constness something (state p.old) (state p.new)) }
+    ensures script { OnOk result
+        ((depth : ℕ) → Does depth script.bound_constness something (state p.old) (state p.new)) }
 {
     if p.eat(T![~])? {
         p.expect(T![const])?;
@@ -394,7 +403,9 @@ fn bound_constness(p: &mut Parser<'_>) -> Result<(), NoMemory>
 fn bound_macro_call(p: &mut Parser<'_>) -> Result<(), NoMemory>
     requires { next (state p.old) ≡ BANG }
     ensures took { OnOk result (Took (state p.old) (state p.new) param_room) }
-    ensures script { OnOk result ((depth : ℕ) → (state p.old).left ≤ depth → Does depth script.bound_macro_call something (state p.old) (state p.new)) }
+    ensures script { OnOk result
+        ((depth : ℕ) → (state p.old).left ≤ depth → Does depth script.bound_macro_call something (state p.old)
+        (state p.new)) }
 {
     let m = p.start()?;
     p.bump(T![!])?;
@@ -445,7 +456,8 @@ fn is_where_predicate(kind: SyntaxKind) -> bool
 /// The comma after a predicate. Returns whether another predicate may follow.
 fn after_predicate(p: &mut Parser<'_>) -> Result<bool, NoMemory>
     ensures grew { OnOk result (Grew (state p.old) (state p.new) 1) }
-    ensures script { IfOk result (λ on. (depth : ℕ) → Does depth script.after_predicate (of_bool on) (state p.old) (state p.new)) }
+    ensures script { IfOk result
+        (λ on. (depth : ℕ) → Does depth script.after_predicate (of_bool on) (state p.old) (state p.new)) }
 {
     let comma = p.eat(T![,])?;
     if matches!(p.current(), T!['{'] | T![;] | T![=]) {

@@ -36,7 +36,8 @@ pub fn type_with_bounds_cond<G: Grammar>(
 ) -> Result<(), NoMemory>
     requires within { Within G.valid G.left g.now (state p.old) }
     ensures reads { OnOk result (IsType (state p.old) (state p.new)) }
-    ensures script { OnOk result (Does (G.left g.now) (script.type_with_bounds_cond allow_bounds) something (state p.old) (state p.new)) }
+    ensures script { OnOk result
+        (Does (G.left g.now) (script.type_with_bounds_cond allow_bounds) something (state p.old) (state p.new)) }
 {
     match p.current() {
         T!['('] => paren_or_tuple_type(p, g),
@@ -58,7 +59,8 @@ pub fn type_with_bounds_cond<G: Grammar>(
 fn named_type<G: Grammar>(p: &mut Parser<'_>, g: &G, allow_bounds: bool) -> Result<(), NoMemory>
     requires within { Within G.valid G.left g.now (state p.old) }
     ensures reads { OnOk result (IsType (state p.old) (state p.new)) }
-    ensures script { OnOk result (Does (G.left g.now) (script.named_type allow_bounds) something (state p.old) (state p.new)) }
+    ensures script { OnOk result
+        (Does (G.left g.now) (script.named_type allow_bounds) something (state p.old) (state p.new)) }
 {
     if starts_weak_dyn(p) {
         dyn_trait_type_weak(p, g)?;
@@ -137,7 +139,8 @@ fn paren_or_tuple_type<G: Grammar>(p: &mut Parser<'_>, g: &G) -> Result<(), NoMe
     requires within { Within G.valid G.left g.now (state p.old) }
     requires here { next (state p.old) ≡ L_PAREN }
     ensures took { OnOk result (Took (state p.old) (state p.new) type_room) }
-    ensures script { OnOk result (Does (G.left g.now) script.paren_or_tuple_type something (state p.old) (state p.new)) }
+    ensures script { OnOk result
+        (Does (G.left g.now) script.paren_or_tuple_type something (state p.old) (state p.new)) }
 {
     let m = p.start()?;
     p.bump(T!['('])?;
@@ -156,7 +159,8 @@ fn paren_or_tuple_type<G: Grammar>(p: &mut Parser<'_>, g: &G) -> Result<(), NoMe
 fn tuple_types<G: Grammar>(p: &mut Parser<'_>, g: &G) -> Result<bool, NoMemory>
     requires behind { Behind G.valid G.left g.now (state p.old) }
     ensures grew { OnOk result (Grew (state p.old) (state p.new) 8) }
-    ensures script { IfOk result (λ parens. Does (G.left g.now) script.tuple_types (of_bool parens) (state p.old) (state p.new)) }
+    ensures script { IfOk result
+        (λ parens. Does (G.left g.now) script.tuple_types (of_bool parens) (state p.old) (state p.new)) }
 {
     let mut seen = false;
     'types: while !p.at(SyntaxKind::EOF) && !p.at(T![')']) {
@@ -219,7 +223,8 @@ fn array_or_slice_type<G: Grammar>(p: &mut Parser<'_>, g: &G) -> Result<(), NoMe
     requires within { Within G.valid G.left g.now (state p.old) }
     requires here { next (state p.old) ≡ L_BRACK }
     ensures took { OnOk result (Took (state p.old) (state p.new) type_room) }
-    ensures script { OnOk result (Does (G.left g.now) script.array_or_slice_type something (state p.old) (state p.new)) }
+    ensures script { OnOk result
+        (Does (G.left g.now) script.array_or_slice_type something (state p.old) (state p.new)) }
 {
     let m = p.start()?;
     p.bump(T!['['])?;
@@ -344,7 +349,8 @@ fn for_type<G: Grammar>(p: &mut Parser<'_>, g: &G, allow_bounds: bool) -> Result
     requires within { Within G.valid G.left g.now (state p.old) }
     requires here { next (state p.old) ≡ FOR_KW }
     ensures took { OnOk result (Took (state p.old) (state p.new) type_room) }
-    ensures script { OnOk result (Does (G.left g.now) (script.for_type allow_bounds) something (state p.old) (state p.new)) }
+    ensures script { OnOk result
+        (Does (G.left g.now) (script.for_type allow_bounds) something (state p.old) (state p.new)) }
 {
     let m = p.start()?;
     for_binder(p, g)?;
@@ -403,7 +409,8 @@ fn dyn_trait_type_weak<G: Grammar>(p: &mut Parser<'_>, g: &G) -> Result<(), NoMe
     requires within { Within G.valid G.left g.now (state p.old) }
     requires here { ReadsAs (state p.old) DYN_KW }
     ensures took { OnOk result (Took (state p.old) (state p.new) type_room) }
-    ensures script { OnOk result (Does (G.left g.now) script.dyn_trait_type_weak something (state p.old) (state p.new)) }
+    ensures script { OnOk result
+        (Does (G.left g.now) script.dyn_trait_type_weak something (state p.old) (state p.new)) }
 {
     let m = p.start()?;
     p.bump_remap(T![dyn])?;
@@ -418,7 +425,8 @@ fn bare_dyn_trait_type<G: Grammar>(p: &mut Parser<'_>, g: &G) -> Result<(), NoMe
     requires within { Within G.valid G.left g.now (state p.old) }
     requires here { next (state p.old) ≡ LIFETIME_IDENT }
     ensures took { OnOk result (Took (state p.old) (state p.new) type_room) }
-    ensures script { OnOk result (Does (G.left g.now) script.bare_dyn_trait_type something (state p.old) (state p.new)) }
+    ensures script { OnOk result
+        (Does (G.left g.now) script.bare_dyn_trait_type something (state p.old) (state p.new)) }
 {
     let m = p.start()?;
     bounds_without_colon(p, g)?;
@@ -435,7 +443,8 @@ fn path_or_macro_type<G: Grammar>(
     requires within { Within G.valid G.left g.now (state p.old) }
     requires path { is_path_start (state p.old).rest ≡ true }
     ensures took { OnOk result (Took (state p.old) (state p.new) type_room) }
-    ensures script { OnOk result (Does (G.left g.now) (script.path_or_macro_type allow_bounds) something (state p.old) (state p.new)) }
+    ensures script { OnOk result
+        (Does (G.left g.now) (script.path_or_macro_type allow_bounds) something (state p.old) (state p.new)) }
 {
     if starts_builtin(p) {
         pattern_type(p, g)?;
@@ -451,7 +460,8 @@ fn path_or_macro<G: Grammar>(p: &mut Parser<'_>, g: &G, allow_bounds: bool) -> R
     requires within { Within G.valid G.left g.now (state p.old) }
     requires path { is_path_start (state p.old).rest ≡ true }
     ensures took { OnOk result (Took (state p.old) (state p.new) type_room) }
-    ensures script { OnOk result (Does (G.left g.now) (script.path_or_macro allow_bounds) something (state p.old) (state p.new)) }
+    ensures script { OnOk result
+        (Does (G.left g.now) (script.path_or_macro allow_bounds) something (state p.old) (state p.new)) }
 {
     let r = p.start()?;
     let m = p.start()?;
@@ -493,7 +503,8 @@ pub fn path_type_bounds<G: Grammar>(
     requires within { Within G.valid G.left g.now (state p.old) }
     requires path { is_path_start (state p.old).rest ≡ true }
     ensures took { OnOk result (Took (state p.old) (state p.new) type_room) }
-    ensures script { OnOk result (Does (G.left g.now) (script.path_type_bounds allow_bounds) something (state p.old) (state p.new)) }
+    ensures script { OnOk result
+        (Does (G.left g.now) (script.path_type_bounds allow_bounds) something (state p.old) (state p.new)) }
 {
     let path = path_type(p, g)?;
     if allow_bounds {
@@ -517,7 +528,8 @@ pub(crate) fn opt_type_bounds_as_dyn_trait_type<G: Grammar>(
     ensures grew { OnOk result (Grew (state p.old) (state p.new) 16) }
     ensures last { IfOk result (λ cm. IsLast (state p.new) cm cm.kind.value) }
     ensures one { OnOk result (but_last (state p.new).forest ≡ but_last (state p.old).forest) }
-    ensures script { OnOk result (Does (G.left g.now) (script.opt_type_bounds_as_dyn_trait_type kind) something (state p.old) (state p.new)) }
+    ensures script { OnOk result
+        (Does (G.left g.now) (script.opt_type_bounds_as_dyn_trait_type kind) something (state p.old) (state p.new)) }
 {
     if kind == SyntaxKind::MACRO_TYPE || !p.at(T![+]) {
         return Ok(lhs);

@@ -45,7 +45,8 @@ pub(crate) fn atom_expr<G: Grammar>(
     requires within { Within G.valid G.left g.now (state p.old) }
     requires more { next (state p.old) ≢ EOF }
     ensures operand { IfOk result (Operand atom_room (state p.old) (state p.new)) }
-    ensures script { IfOk result (λ o. Does (G.left g.now) (script.atom_expr r) (of_expr o) (state p.old) (state p.new)) }
+    ensures script { IfOk result
+        (λ o. Does (G.left g.now) (script.atom_expr r) (of_expr o) (state p.old) (state p.new)) }
 {
     if let Some(cm) = literal(p)? {
         return Ok(Some((cm, BlockLike::NotBlock)));
@@ -71,7 +72,8 @@ fn bracketed_expr<G: Grammar>(
     requires within { Within G.valid G.left g.now (state p.old) }
     requires more { next (state p.old) ≢ EOF }
     ensures operand { IfOk result (Operand atom_room (state p.old) (state p.new)) }
-    ensures script { IfOk result (λ o. Does (G.left g.now) (script.bracketed_expr r) (of_expr o) (state p.old) (state p.new)) }
+    ensures script { IfOk result
+        (λ o. Does (G.left g.now) (script.bracketed_expr r) (of_expr o) (state p.old) (state p.new)) }
 {
     match p.current() {
         T!['('] => Ok(Some((tuple_expr(p, g)?, BlockLike::NotBlock))),
@@ -100,7 +102,8 @@ fn control_expr<G: Grammar>(p: &mut Parser<'_>, g: &G, r: Restrictions) -> Resul
     requires within { Within G.valid G.left g.now (state p.old) }
     requires more { next (state p.old) ≢ EOF }
     ensures operand { IfOk result (Operand atom_room (state p.old) (state p.new)) }
-    ensures script { IfOk result (λ o. Does (G.left g.now) (script.control_expr r) (of_expr o) (state p.old) (state p.new)) }
+    ensures script { IfOk result
+        (λ o. Does (G.left g.now) (script.control_expr r) (of_expr o) (state p.old) (state p.new)) }
 {
     if starts_label(p) {
         let labelled = labelled_expr(p, g)?;
@@ -123,7 +126,8 @@ fn jump_expr<G: Grammar>(p: &mut Parser<'_>, g: &G, r: Restrictions) -> Result<A
     requires within { Within G.valid G.left g.now (state p.old) }
     requires more { next (state p.old) ≢ EOF }
     ensures operand { IfOk result (Operand atom_room (state p.old) (state p.new)) }
-    ensures script { IfOk result (λ o. Does (G.left g.now) (script.jump_expr r) (of_expr o) (state p.old) (state p.new)) }
+    ensures script { IfOk result
+        (λ o. Does (G.left g.now) (script.jump_expr r) (of_expr o) (state p.old) (state p.new)) }
 {
     if starts_yeet(p) {
         let yeet = yeet_expr(p, g)?;
@@ -146,7 +150,8 @@ fn jump_expr<G: Grammar>(p: &mut Parser<'_>, g: &G, r: Restrictions) -> Result<A
 fn underscore_expr(p: &mut Parser<'_>) -> Result<CompletedMarker, NoMemory>
     requires here { next (state p.old) ≡ UNDERSCORE }
     ensures made { IfOk result (Makes UNDERSCORE_EXPR atom_room (state p.old) (state p.new)) }
-    ensures script { OnOk result ((depth : ℕ) → Does depth script.underscore_expr something (state p.old) (state p.new)) }
+    ensures script { OnOk result
+        ((depth : ℕ) → Does depth script.underscore_expr something (state p.old) (state p.new)) }
 {
     let m = p.start()?;
     p.bump(T![_])?;
@@ -172,7 +177,8 @@ fn path_expr<G: Grammar>(
     requires within { Within G.valid G.left g.now (state p.old) }
     requires path { is_path_start (state p.old).rest ≡ true }
     ensures made { IfOk result (λ e. Made (state p.old) (state p.new) e.0 atom_room × (is_plain e.0.kind.value ≡ true)) }
-    ensures script { IfOk result (λ e. Does (G.left g.now) (script.path_expr r) (of_like e.1) (state p.old) (state p.new)) }
+    ensures script { IfOk result
+        (λ e. Does (G.left g.now) (script.path_expr r) (of_like e.1) (state p.old) (state p.new)) }
 {
     let m = p.start()?;
     expr_path(p, g)?;
@@ -219,7 +225,8 @@ fn tuple_expr<G: Grammar>(p: &mut Parser<'_>, g: &G) -> Result<CompletedMarker, 
 fn tuple_elements<G: Grammar>(p: &mut Parser<'_>, g: &G) -> Result<bool, NoMemory>
     requires behind { Behind G.valid G.left g.now (state p.old) }
     ensures grew { OnOk result (Grew (state p.old) (state p.new) 8) }
-    ensures script { IfOk result (λ parens. Does (G.left g.now) script.tuple_elements (of_bool parens) (state p.old) (state p.new)) }
+    ensures script { IfOk result
+        (λ parens. Does (G.left g.now) script.tuple_elements (of_bool parens) (state p.old) (state p.new)) }
 {
     let mut saw_comma = false;
     let mut saw_expr = false;
@@ -290,7 +297,8 @@ fn after_element(
     ensures grew { OnOk result (Grew (state p.old) (state p.new) 1) }
     ensures on { IfOk result (λ o. IfSome o (λ semi. Grew (state p.old) (state p.new) 0)) }
     ensures script { IfOk result
-        (λ o. (depth : ℕ) → Does depth (script.after_element is_first has_semi) (script.of_semi o) (state p.old) (state p.new)) }
+        (λ o. (depth : ℕ) → Does depth (script.after_element is_first has_semi) (script.of_semi o) (state p.old)
+        (state p.new)) }
 {
     if is_first && p.at(T![;]) {
         p.bump(T![;])?;

@@ -1,4 +1,4 @@
-use Rattle.std.proofs.Common.{refl, rules, true, false}
+use Rattle.std.proofs.Common.{refl, rules}
 use Rattle.rap_grammar_scripts.proofs.Ends.{gives, passes, fails, answers_more}
 use Rattle.rap_grammar_scripts.specs.Phrase as phrase
 use Rattle.rap_grammar_scripts.specs.Statements.{macro_stmts}

@@ -1,10 +1,7 @@
-use Rattle.std.proofs.Common.{rules, ℕ, List, arith, sym, ◌∙◌}
+use Rattle.std.proofs.Common.{ℕ, List, arith, sym, ◌∙◌}
 use Rattle.rap_events.specs.State.{State, Reported, Completed}
-use Rattle.rap_grammar_scripts.specs.Control.{labelled_from}
 use Rattle.rap_grammar_frame.specs.Grew.{Dropped}
-use Rattle.rap_grammar_scripts.proofs.Ends.{gives, passes, fails}
 use Rattle.rap_grammar_frame.proofs.Growth.{gone}
-use Rattle.rap_grammar_frame.proofs.Steps.{by_rule, by_complete, by_report}
 use Rattle.rap_grammar_control.proofs.control.labelled_from.Goals as goal
 
 -- a message, and the end of the newest node
@@ -16,33 +13,6 @@ dropped r m = record {
   messages = omega (arith, m.recorded.messages, r.messages);
   below = gone (sym r.below ∙ m.below);
 }
-
-pub returns-in_ok-loop_from-clause-script : goal.returns-in_ok-loop_from-clause-script
-unfolding labelled_from
-returns-in_ok-loop_from-clause-script g c =
-    passes (search rules) (by_rule c.in_ok-loop_from.ensures.script gives)
-
-pub returns-in_ok-for_from-clause-script : goal.returns-in_ok-for_from-clause-script
-unfolding labelled_from
-returns-in_ok-for_from-clause-script g c =
-    fails (search rules) (passes (search rules) (by_rule c.in_ok-for_from.ensures.script gives))
-
-pub returns-in_ok-while_from-clause-script : goal.returns-in_ok-while_from-clause-script
-unfolding labelled_from
-returns-in_ok-while_from-clause-script g c = fails (search rules)
-    (fails (search rules) (passes (search rules) (by_rule c.in_ok-while_from.ensures.script gives)))
-
-pub returns-in_ok-cm-clause-script : goal.returns-in_ok-cm-clause-script
-unfolding labelled_from
-returns-in_ok-cm-clause-script g c = fails (search rules) (fails (search rules) (fails (search rules) (passes (search rules)
-    (by_rule c.in_ok-stmt_list.ensures.script
-    (by_complete c.in_ok-cm.ensures.state.0 gives)))))
-
-pub returns-in_ok-complete-in_default-clause-script : goal.returns-in_ok-complete-in_default-clause-script
-unfolding labelled_from
-returns-in_ok-complete-in_default-clause-script g c = fails (search rules) (fails (search rules) (fails (search rules) (fails (search rules)
-    (by_report c.in_ok-error-in_default.ensures.state
-    (by_complete c.in_ok-complete-in_default.ensures.state.0 gives)))))
 
 pub returns-in_ok-complete-in_default-clause-operand : goal.returns-in_ok-complete-in_default-clause-operand
 returns-in_ok-complete-in_default-clause-operand g c =

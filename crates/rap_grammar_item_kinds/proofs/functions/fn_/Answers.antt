@@ -1,18 +1,6 @@
 use Rattle.std.proofs.Common.{rules}
-use Rattle.rap_grammar_scripts.specs.Functions.{fn_}
-use Rattle.rap_grammar_scripts.proofs.Ends.{gives}
-use Rattle.rap_grammar_frame.proofs.Steps.{by_bump, by_rule, by_complete}
 use Rattle.rap_grammar_item_kinds.proofs.Seeing.{ended_by}
 use Rattle.rap_grammar_item_kinds.proofs.functions.fn_.Goals as goal
-
-pub returns-clause-script : goal.returns-clause-script
-unfolding fn_
-returns-clause-script g c = by_bump (search rules) c.in_ok-bump.ensures.state
-    (by_rule (c.in_ok-fn_name.ensures.script _)
-    (by_rule c.in_ok-opt_generic_param_list.ensures.script
-    (by_rule c.in_ok-signature.ensures.script
-    (by_rule c.in_ok-fn_body.ensures.script
-    (by_complete c.in_ok-complete.ensures.state.0 gives)))))
 
 pub returns-clause-ended : goal.returns-clause-ended
 returns-clause-ended g c = ended_by c.in_ok-complete.ensures.state.0 (search rules)
