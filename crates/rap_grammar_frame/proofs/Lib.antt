@@ -3,6 +3,7 @@ pub mod Ending
 pub mod Growth
 pub mod Left
 pub mod Lookahead
+pub mod Loops
 pub mod Operating
 pub mod Patterning
 pub mod Steps

@@ -25,6 +25,7 @@ use rap_events::parser::{CompletedMarker, Parser};
 use rap_grammar_scripts::arguments::Restrictions;
 
 /// The return type of a function, as `-> a`, if there is one. Returns whether there is.
+#[tactic(auto, unfolding(rap_grammar_scripts::specs::Grammar::opt_ret_type))]
 pub fn opt_ret_type<G: Grammar>(p: &mut Parser<'_>, g: &G) -> Result<bool, NoMemory>
     requires within { Within G.valid G.left g.now (state p.old) }
     ensures grew { OnOk result (Grew (state p.old) (state p.new) 0) }
@@ -42,6 +43,7 @@ pub fn opt_ret_type<G: Grammar>(p: &mut Parser<'_>, g: &G) -> Result<bool, NoMem
 }
 
 /// The same without the arrow, which is reported: a type where a name of a path comes next.
+#[tactic(auto, unfolding(rap_grammar_scripts::specs::Grammar::opt_no_arrow_ret_type))]
 pub fn opt_no_arrow_ret_type<G: Grammar>(p: &mut Parser<'_>, g: &G) -> Result<bool, NoMemory>
     requires behind { Behind G.valid G.left g.now (state p.old) }
     ensures grew { OnOk result (Grew (state p.old) (state p.new) 0) }
@@ -60,6 +62,7 @@ pub fn opt_no_arrow_ret_type<G: Grammar>(p: &mut Parser<'_>, g: &G) -> Result<bo
 }
 
 /// An expression, after a token of the rule around it.
+#[tactic(auto, unfolding(rap_grammar_scripts::specs::Atom::expr))]
 pub fn expr<G: Grammar>(p: &mut Parser<'_>, g: &G) -> Result<Option<CompletedMarker>, NoMemory>
     requires behind { Behind G.valid G.left g.now (state p.old) }
     ensures reads { IfOk result (Reads expression_room 8 (state p.old) (state p.new)) }
@@ -77,6 +80,7 @@ pub fn expr<G: Grammar>(p: &mut Parser<'_>, g: &G) -> Result<Option<CompletedMar
 }
 
 /// An expression in which no record literal may stand, as before the block of an `if`.
+#[tactic(auto, unfolding(rap_grammar_scripts::specs::Called::expr_no_struct))]
 pub fn expr_no_struct<G: Grammar>(p: &mut Parser<'_>, g: &G) -> Result<(), NoMemory>
     requires behind { Behind G.valid G.left g.now (state p.old) }
     ensures grew { OnOk result (Grew (state p.old) (state p.new) 8) }
@@ -91,6 +95,7 @@ pub fn expr_no_struct<G: Grammar>(p: &mut Parser<'_>, g: &G) -> Result<(), NoMem
 }
 
 /// An expression that ends after a block, as a statement does.
+#[tactic(auto, unfolding(rap_grammar_scripts::specs::Called::expr_stmt))]
 pub fn expr_stmt<G: Grammar>(p: &mut Parser<'_>, g: &G) -> Result<Answer, NoMemory>
     requires behind { Behind G.valid G.left g.now (state p.old) }
     ensures answered { IfOk result (Answered (state p.old) (state p.new) None true 1) }
@@ -105,6 +110,7 @@ pub fn expr_stmt<G: Grammar>(p: &mut Parser<'_>, g: &G) -> Result<Answer, NoMemo
 }
 
 /// Generic parameters, as `<T, 'a>`, if there are.
+#[tactic(auto, unfolding(rap_grammar_scripts::specs::Called::opt_generic_param_list))]
 pub fn opt_generic_param_list<G: Grammar>(p: &mut Parser<'_>, g: &G) -> Result<(), NoMemory>
     requires behind { Behind G.valid G.left g.now (state p.old) }
     ensures grew { OnOk result (Grew (state p.old) (state p.new) 0) }
@@ -119,6 +125,7 @@ pub fn opt_generic_param_list<G: Grammar>(p: &mut Parser<'_>, g: &G) -> Result<(
 }
 
 /// Bounds after their colon, as `: A + B`.
+#[tactic(auto, unfolding(rap_grammar_scripts::specs::Called::bounds))]
 pub fn bounds<G: Grammar>(p: &mut Parser<'_>, g: &G) -> Result<(), NoMemory>
     requires within { Within G.valid G.left g.now (state p.old) }
     requires here { next (state p.old) ≡ COLON }
@@ -131,6 +138,7 @@ pub fn bounds<G: Grammar>(p: &mut Parser<'_>, g: &G) -> Result<(), NoMemory>
 }
 
 /// Bounds, as `A + B`.
+#[tactic(auto, unfolding(rap_grammar_scripts::specs::Called::bounds_without_colon))]
 pub fn bounds_without_colon<G: Grammar>(p: &mut Parser<'_>, g: &G) -> Result<(), NoMemory>
     requires behind { Behind G.valid G.left g.now (state p.old) }
     ensures grew { OnOk result (Grew (state p.old) (state p.new) 16) }
@@ -142,6 +150,7 @@ pub fn bounds_without_colon<G: Grammar>(p: &mut Parser<'_>, g: &G) -> Result<(),
 }
 
 /// A `where` clause, as `where T: A`, if there is one.
+#[tactic(auto, unfolding(rap_grammar_scripts::specs::Called::opt_where_clause))]
 pub fn opt_where_clause<G: Grammar>(p: &mut Parser<'_>, g: &G) -> Result<(), NoMemory>
     requires behind { Behind G.valid G.left g.now (state p.old) }
     ensures grew { OnOk result (Grew (state p.old) (state p.new) 0) }
@@ -155,6 +164,7 @@ pub fn opt_where_clause<G: Grammar>(p: &mut Parser<'_>, g: &G) -> Result<(), NoM
 }
 
 /// The pattern of an arm of a `match`.
+#[tactic(auto, unfolding(rap_grammar_scripts::specs::Called::arm_pattern))]
 pub fn arm_pattern<G: Grammar>(p: &mut Parser<'_>, g: &G) -> Result<(), NoMemory>
     requires behind { Behind G.valid G.left g.now (state p.old) }
     ensures reads { OnOk result (IsArmPattern (state p.old) (state p.new)) }
@@ -165,6 +175,7 @@ pub fn arm_pattern<G: Grammar>(p: &mut Parser<'_>, g: &G) -> Result<(), NoMemory
 }
 
 /// An `if` after an `else`.
+#[tactic(auto, unfolding(rap_grammar_scripts::specs::Called::if_expr))]
 pub fn if_expr<G: Grammar>(p: &mut Parser<'_>, g: &G) -> Result<(), NoMemory>
     requires behind { Behind G.valid G.left g.now (state p.old) }
     requires here { next (state p.old) ≡ IF_KW }
@@ -176,6 +187,7 @@ pub fn if_expr<G: Grammar>(p: &mut Parser<'_>, g: &G) -> Result<(), NoMemory>
 }
 
 /// A pattern, after a token of the rule around it.
+#[tactic(auto, unfolding(rap_grammar_scripts::specs::Called::pattern))]
 pub fn pattern<G: Grammar>(p: &mut Parser<'_>, g: &G) -> Result<(), NoMemory>
     requires behind { Behind G.valid G.left g.now (state p.old) }
     ensures reads { OnOk result (IsPattern (state p.old) (state p.new)) }
@@ -186,6 +198,7 @@ pub fn pattern<G: Grammar>(p: &mut Parser<'_>, g: &G) -> Result<(), NoMemory>
 }
 
 /// A pattern without alternatives, after a token of the rule around it.
+#[tactic(auto, unfolding(rap_grammar_scripts::specs::Called::pattern_single))]
 pub fn pattern_single<G: Grammar>(p: &mut Parser<'_>, g: &G) -> Result<(), NoMemory>
     requires behind { Behind G.valid G.left g.now (state p.old) }
     ensures reads { OnOk result (IsSinglePattern (state p.old) (state p.new)) }
@@ -196,6 +209,7 @@ pub fn pattern_single<G: Grammar>(p: &mut Parser<'_>, g: &G) -> Result<(), NoMem
 }
 
 /// A type, after a token of the rule around it.
+#[tactic(auto, unfolding(rap_grammar_scripts::specs::Called::type_))]
 pub fn type_<G: Grammar>(p: &mut Parser<'_>, g: &G) -> Result<(), NoMemory>
     requires behind { Behind G.valid G.left g.now (state p.old) }
     ensures reads { OnOk result (IsType (state p.old) (state p.new)) }
@@ -206,6 +220,7 @@ pub fn type_<G: Grammar>(p: &mut Parser<'_>, g: &G) -> Result<(), NoMemory>
 }
 
 /// A type without bounds after it.
+#[tactic(auto, unfolding(rap_grammar_scripts::specs::Called::type_no_bounds))]
 pub fn type_no_bounds<G: Grammar>(p: &mut Parser<'_>, g: &G) -> Result<(), NoMemory>
     requires behind { Behind G.valid G.left g.now (state p.old) }
     ensures reads { OnOk result (IsType (state p.old) (state p.new)) }
@@ -221,6 +236,7 @@ pub fn type_no_bounds<G: Grammar>(p: &mut Parser<'_>, g: &G) -> Result<(), NoMem
 }
 
 /// The parameters after `for`, as `for<'a>`.
+#[tactic(auto, unfolding(rap_grammar_scripts::specs::TypeParts::for_binder, rap_grammar_scripts::specs::Called::generic_param_list))]
 pub fn for_binder<G: Grammar>(p: &mut Parser<'_>, g: &G) -> Result<(), NoMemory>
     requires within { Within G.valid G.left g.now (state p.old) }
     requires here { next (state p.old) ≡ FOR_KW }
@@ -240,6 +256,7 @@ pub fn for_binder<G: Grammar>(p: &mut Parser<'_>, g: &G) -> Result<(), NoMemory>
 }
 
 /// A type after its colon, as `: a`.
+#[tactic(auto, unfolding(rap_grammar_scripts::specs::TypeParts::ascription))]
 pub fn ascription<G: Grammar>(p: &mut Parser<'_>, g: &G) -> Result<(), NoMemory>
     requires within { Within G.valid G.left g.now (state p.old) }
     requires here { next (state p.old) ≡ COLON }

@@ -40,7 +40,7 @@ pub trait Element {
 
 /// A list from `bra` to `ket`, as `(a, b)`, its elements with `delim` between. A missing element is reported and
 /// skipped; a missing `delim` is reported where the next element begins.
-#[tactic(auto, using(crate::proofs::Binary::width_positive))]
+#[tactic(auto, using(crate::proofs::Binary::width_positive), unfolding(rap_grammar_scripts::specs::Grammar::delimited))]
 pub fn delimited<G: Grammar, E: Element>(
     p: &mut Parser<'_>,
     g: &G,
@@ -68,6 +68,7 @@ pub fn delimited<G: Grammar, E: Element>(
 }
 
 /// The elements of a list up to `ket`, or to where it can't go on.
+#[tactic(auto, using(crate::proofs::Loops::turns), unfolding(rap_grammar_scripts::specs::Grammar::elements))]
 fn elements<G: Grammar, E: Element>(
     p: &mut Parser<'_>,
     g: &G,

@@ -17,6 +17,7 @@ use rap_events::parser::{CompletedMarker, Parser};
 
 /// A literal, as `1` and `true`, if one comes next.
 #[inline(never)]
+#[tactic(auto, unfolding(rap_grammar_scripts::specs::Atom::literal))]
 pub fn literal(p: &mut Parser<'_>) -> Result<Option<CompletedMarker>, NoMemory>
     ensures made { IfOk result (Optional LITERAL atom_room (state p.old) (state p.new)) }
     ensures grew { OnOk result (Grew (state p.old) (state p.new) 0) }

@@ -40,6 +40,7 @@ pub fn is_path_name(kind: SyntaxKind) -> bool
 }
 
 /// A name in a path, as `a` or `self`.
+#[tactic(auto, unfolding(rap_grammar_scripts::specs::Grammar::name_ref_mod_path))]
 pub fn name_ref_mod_path(p: &mut Parser<'_>) -> Result<(), NoMemory>
     ensures grew { OnOk result (Grew (state p.old) (state p.new) recovery_events) }
     ensures took { OnOk result (next (state p.old) ≢ EOF → Took (state p.old) (state p.new) name_room) }
@@ -64,6 +65,7 @@ pub fn is_path_name_or_index(kind: SyntaxKind) -> bool
 }
 
 /// A name in a path or a field's number, as `a` or `0`.
+#[tactic(auto, unfolding(rap_grammar_scripts::specs::Grammar::name_ref_mod_path_or_index))]
 pub fn name_ref_mod_path_or_index(p: &mut Parser<'_>) -> Result<(), NoMemory>
     ensures grew { OnOk result (Grew (state p.old) (state p.new) recovery_events) }
     ensures took { OnOk result (next (state p.old) ≢ EOF → Took (state p.old) (state p.new) name_room) }
@@ -81,6 +83,7 @@ pub fn name_ref_mod_path_or_index(p: &mut Parser<'_>) -> Result<(), NoMemory>
 }
 
 /// A lifetime, as `'a`.
+#[tactic(auto, unfolding(rap_grammar_scripts::specs::Grammar::lifetime))]
 pub fn lifetime(p: &mut Parser<'_>) -> Result<(), NoMemory>
     requires here { next (state p.old) ≡ LIFETIME_IDENT }
     ensures took { OnOk result (Took (state p.old) (state p.new) name_room) }
@@ -106,6 +109,7 @@ pub fn given_name(p: &mut Parser<'_>) -> Result<(), NoMemory>
 
 /// A declared name, as the `a` of `let a`. Where it is missing, the next token is skipped too, unless it is a
 /// brace or in the set.
+#[tactic(auto, unfolding(rap_grammar_scripts::specs::Grammar::name_r))]
 pub fn name_r(p: &mut Parser<'_>, recovery: TokenSet) -> Result<(), NoMemory>
     ensures grew { OnOk result (Grew (state p.old) (state p.new) recovery_events) }
     ensures took { OnOk result (next (state p.old) ≡ IDENT → Took (state p.old) (state p.new) name_room) }
@@ -122,6 +126,7 @@ pub fn name_r(p: &mut Parser<'_>, recovery: TokenSet) -> Result<(), NoMemory>
 }
 
 /// A declared name.
+#[tactic(auto, unfolding(rap_grammar_scripts::specs::Grammar::name))]
 pub fn name(p: &mut Parser<'_>) -> Result<(), NoMemory>
     ensures grew { OnOk result (Grew (state p.old) (state p.new) recovery_events) }
     ensures took { OnOk result (next (state p.old) ≡ IDENT → Took (state p.old) (state p.new) name_room) }
@@ -132,6 +137,7 @@ pub fn name(p: &mut Parser<'_>) -> Result<(), NoMemory>
 }
 
 /// A field by its name or number, as the `a` of `S { a: 1 }`.
+#[tactic(auto, unfolding(rap_grammar_scripts::specs::Grammar::name_ref_or_index))]
 pub fn name_ref_or_index(p: &mut Parser<'_>) -> Result<(), NoMemory>
     requires more { next (state p.old) ≢ EOF }
     ensures took { OnOk result (Took (state p.old) (state p.new) name_room) }
@@ -146,6 +152,7 @@ pub fn name_ref_or_index(p: &mut Parser<'_>) -> Result<(), NoMemory>
 }
 
 /// A name that may be a keyword, as the `type` of `type = 1`.
+#[tactic(auto, unfolding(rap_grammar_scripts::specs::Grammar::name_any_identifier))]
 pub fn name_any_identifier(p: &mut Parser<'_>) -> Result<(), NoMemory>
     requires here { is_any_identifier (next (state p.old)) ≡ true }
     ensures took { OnOk result (Took (state p.old) (state p.new) name_room) }
@@ -160,6 +167,7 @@ pub fn name_any_identifier(p: &mut Parser<'_>) -> Result<(), NoMemory>
 }
 
 /// A name or `Self`.
+#[tactic(auto, unfolding(rap_grammar_scripts::specs::Grammar::name_ref_or_upper_self))]
 pub fn name_ref_or_upper_self(p: &mut Parser<'_>) -> Result<(), NoMemory>
     ensures grew { OnOk result (Grew (state p.old) (state p.new) recovery_events) }
     ensures took { OnOk result (next (state p.old) ≢ EOF → Took (state p.old) (state p.new) name_room) }
@@ -177,6 +185,7 @@ pub fn name_ref_or_upper_self(p: &mut Parser<'_>) -> Result<(), NoMemory>
 }
 
 /// A name or `self`.
+#[tactic(auto, unfolding(rap_grammar_scripts::specs::Grammar::name_ref_or_self))]
 pub fn name_ref_or_self(p: &mut Parser<'_>) -> Result<(), NoMemory>
     ensures grew { OnOk result (Grew (state p.old) (state p.new) recovery_events) }
     ensures took { OnOk result (next (state p.old) ≢ EOF → Took (state p.old) (state p.new) name_room) }
@@ -194,6 +203,7 @@ pub fn name_ref_or_self(p: &mut Parser<'_>) -> Result<(), NoMemory>
 }
 
 /// Another name for what is imported, as `as a`, if there is one.
+#[tactic(auto, unfolding(rap_grammar_scripts::specs::Grammar::opt_rename))]
 pub fn opt_rename(p: &mut Parser<'_>) -> Result<(), NoMemory>
     ensures grew { OnOk result (Grew (state p.old) (state p.new) 0) }
     ensures script { OnOk result ((depth : ℕ) → Does depth script.opt_rename something (state p.old) (state p.new)) }
@@ -213,6 +223,7 @@ pub fn opt_rename(p: &mut Parser<'_>) -> Result<(), NoMemory>
 }
 
 /// An ABI, as `extern "C"`.
+#[tactic(auto, unfolding(rap_grammar_scripts::specs::Grammar::abi))]
 pub fn abi(p: &mut Parser<'_>) -> Result<(), NoMemory>
     requires here { next (state p.old) ≡ EXTERN_KW }
     ensures took { OnOk result (Took (state p.old) (state p.new) name_room) }

@@ -91,6 +91,7 @@ pub fn starts_macro_call(p: &Parser<'_>) -> bool
 }
 
 /// A macro call after its path, as `!(a)` in `f!(a)`. With braces it reads like a block.
+#[tactic(auto, unfolding(rap_grammar_scripts::specs::TokenTree::macro_call_after_excl))]
 pub fn macro_call_after_excl(p: &mut Parser<'_>) -> Result<BlockLike, NoMemory>
     requires here { next (state p.old) ≡ BANG }
     ensures took { OnOk result (Took (state p.old) (state p.new) list_room) }

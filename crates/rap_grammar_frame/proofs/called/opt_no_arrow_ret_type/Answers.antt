@@ -1,12 +1,8 @@
 use Rattle.std.proofs.Common.{rules}
 use Rattle.rap_grammar_scripts.specs.Grammar.{opt_no_arrow_ret_type}
-use Rattle.rap_grammar_scripts.proofs.Ends.{gives, passes, fails}
+use Rattle.rap_grammar_scripts.proofs.Ends.{gives, passes}
 use Rattle.rap_grammar_frame.proofs.Steps.{by_start, by_report, by_rule, by_complete}
 use Rattle.rap_grammar_frame.proofs.called.opt_no_arrow_ret_type.Goals as goal
-
-pub returns-then-not-is_path_name-clause-script : goal.returns-then-not-is_path_name-clause-script
-unfolding opt_no_arrow_ret_type
-returns-then-not-is_path_name-clause-script g c = fails (search rules) gives
 
 pub returns-clause-script : goal.returns-clause-script
 unfolding opt_no_arrow_ret_type

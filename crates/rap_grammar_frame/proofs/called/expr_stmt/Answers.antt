@@ -1,8 +1,0 @@
-use Rattle.rap_grammar_scripts.specs.Called.{expr_stmt}
-use Rattle.rap_grammar_scripts.proofs.Ends.{gives}
-use Rattle.rap_grammar_frame.proofs.Steps.{by_expression}
-use Rattle.rap_grammar_frame.proofs.called.expr_stmt.Goals as goal
-
-pub returns-clause-script : goal.returns-clause-script
-unfolding expr_stmt
-returns-clause-script g c = by_expression c.in_ok-expr.ensures.1 gives
