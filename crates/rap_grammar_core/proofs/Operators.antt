@@ -1,14 +1,14 @@
 -- Each operator is seen where its tokens stand before an operand.
-use Rattle.rap_events.proofs.Truth.{and_false}
-use Rattle.std.proofs.Common.{◌≡◌, ◌≢◌, ℕ, ◌<◌, List, [], ◌∷◌, ◌++◌, drop, length, Bool, true, false, not, refl, ap, sym, ◌∙◌, arith, ◌==◌, ◌&&◌, ◌||◌, ◌⊎◌, rules, inl, inr}
+use Rattle.rap_events.proofs.Truth.{and_false, and_left, and_right, or_either}
+use Rattle.std.proofs.Common.{◌≡◌, ◌≢◌, ℕ, ◌<◌, List, [], ◌∷◌, ◌++◌, drop, length, Bool, true, false, not, refl, ap, sym, ◌∙◌, arith, ◌==◌, ◌&&◌, ◌||◌, ◌⊎◌, if◌then◌else◌, rules, inl, inr}
 use Rattle.std.proofs.lemmas.Bool.{eqb-true, eq-eqb, ne_eqb}
-use Rattle.rap_base.specs.TokenKind.{EOF, EQ, PLUSEQ, MINUSEQ, STAREQ, SLASHEQ, PERCENTEQ, CARETEQ, AMPEQ, PIPEEQ, SHLEQ, SHREQ, DOT, DOT2, DOT2EQ, PIPE2, AMP2, EQ2, NEQ, L_ANGLE, R_ANGLE, LTEQ, GTEQ, PIPE, CARET, AMP, SHL, SHR, PLUS, MINUS, STAR, SLASH, PERCENT, BANG, AS_KW, L_PAREN, L_CURLY, L_BRACK, QUESTION, COLON, IF_KW, ELSE_KW, WHILE_KW, LOOP_KW}
+use Rattle.rap_base.specs.TokenKind.{EOF, EQ, DOT, NEQ, AMP, MINUS, STAR, BANG, L_PAREN, L_CURLY, L_BRACK, QUESTION, COLON, IF_KW, ELSE_KW, WHILE_KW, LOOP_KW}
 use Rattle.rap_events.specs.Record.{Record, next_kind}
 use Rattle.rap_events.specs.Composite.{parts, width, width_of, is_at, is_first, begins_with}
-use Rattle.rap_events.specs.OperatorTable.{powers}
+use Rattle.rap_events.specs.OperatorTable.{operators, powers}
 use Rattle.rap_events.specs.Power.{power, power_in}
 use Rattle.rap_grammar_scripts.specs.First.{is_literal_first, is_path_name, one_of}
-use Rattle.rap_grammar_scripts.specs.Operator.{operator_at}
+use Rattle.rap_grammar_scripts.specs.Operator.{operator_at, operator_in, first_of, goes_on_with}
 use Rattle.rap_grammar_scripts.specs.TokenTree.{starts_macro_call}
 use Rattle.rap_grammar_core.specs.Derives.{Touching, tokens_of, Writes, IsOperator}
 
@@ -30,65 +30,16 @@ is_atom k =
 abbrev pub is_operand : ℕ → Bool
 is_operand k = is_atom k || one_of (AMP ∷ STAR ∷ BANG ∷ MINUS ∷ []) k
 
+-- another token than the first of these
+other_first : (k : ℕ) (ks : List ℕ) (rs : List Record) → (next_kind rs == k) ≡ false → begins_with (k ∷ ks) rs ≡ false
+other_first k ks [] e = refl
+other_first k [] (r ∷ rs) e = e
+other_first k (j ∷ ks) (r ∷ rs) e = rw e refl
+
 -- an operand's first token is no part of an operator but `&`, `*`, `!` and `-`
 no_more : (k : ℕ) (ks : List ℕ) (rs : List Record) → is_operand (next_kind rs) ≡ true → is_operand k ≡ false →
     begins_with (k ∷ ks) rs ≡ false
-no_more k ks [] h i = refl
-no_more k [] (r ∷ rs) h i = differ is_operand r.kind k h i
-no_more k (j ∷ ks) (r ∷ rs) h i = rw (differ is_operand r.kind k h i) refl
-
--- one, two and three tokens that touch
-record One (k : ℕ) (os : List Record) : Type 0 where
-  r : Record
-  is : os ≡ r ∷ []
-  kind : r.kind ≡ k
-
-one : (k : ℕ) (os : List Record) → Touching (k ∷ []) os → One k os
-one k [] h = absurd h
-one k (r ∷ []) h = record { r = r; is = refl; kind = h }
-one k (r ∷ s ∷ os) h = absurd h
-
-record Two (k j : ℕ) (os : List Record) : Type 0 where
-  r : Record
-  s : Record
-  is : os ≡ r ∷ s ∷ []
-  kind : r.kind ≡ k
-  joint : r.joint ≡ true
-  second : s.kind ≡ j
-
-two : (k j : ℕ) (os : List Record) → Touching (k ∷ j ∷ []) os → Two k j os
-two k j [] h = absurd h
-two k j (r ∷ os) h =
-    let t = one j os h.2 in
-    record { r = r; s = t.r; is = ap (λ (x : List Record). r ∷ x) t.is; kind = h.0; joint = h.1; second = t.kind }
-
-record Three (k j i : ℕ) (os : List Record) : Type 0 where
-  r : Record
-  s : Record
-  t : Record
-  is : os ≡ r ∷ s ∷ t ∷ []
-  kind : r.kind ≡ k
-  joint : r.joint ≡ true
-  second : s.kind ≡ j
-  second_joint : s.joint ≡ true
-  third : t.kind ≡ i
-
-three : (k j i : ℕ) (os : List Record) → Touching (k ∷ j ∷ i ∷ []) os → Three k j i os
-three k j i [] h = absurd h
-three k j i (r ∷ os) h =
-    let t = two j i os h.2 in
-    record {
-      r = r;
-      s = t.r;
-      t = t.s;
-      is = ap (λ (x : List Record). r ∷ x) t.is;
-      kind = h.0;
-      joint = h.1;
-      second =
-          t.kind;
-      second_joint = t.joint;
-      third = t.second;
-    }
+no_more k ks rs h i = other_first k ks rs (differ is_operand (next_kind rs) k h i)
 
 -- the first of the kinds that an operator is written with
 abbrev pub lead : List ℕ → ℕ
@@ -126,69 +77,116 @@ record Seen (op : ℕ) : Type 0 where
   calm : power op ≢ 2 → power op < 12 → is_calm false (lead (tokens_of (parts op) op)) ≡ true
   bang : ((lead (tokens_of (parts op) op) == BANG) ≡ false) ⊎ (op ≡ NEQ)
 
-is_eq : (r : Record) (rest : List Record) → r.kind ≡ EQ → is_operand (next_kind rest) ≡ true →
-    operator_at (r ∷ rest) ≡ EQ
-unfolding operator_at
-is_eq r rest e h = rw (e, no_more EQ [] rest h refl, no_more R_ANGLE [] rest h refl, and_false r.joint) refl
+by_truth : {A : Type 0} (b : Bool) → (b ≡ true → A) → (b ≡ false → A) → A
+by_truth true f g = f refl
+by_truth false f g = g refl
 
-is_l_angle : (r : Record) (rest : List Record) → r.kind ≡ L_ANGLE → is_operand (next_kind rest) ≡ true →
-    operator_at (r ∷ rest) ≡ L_ANGLE
-unfolding operator_at
-is_l_angle r rest e h =
-    rw (
-      e,
-      no_more EQ [] rest h refl,
-      no_more L_ANGLE (EQ ∷ []) rest h refl,
-      no_more L_ANGLE [] rest h refl,
-      and_false r.joint,
-    ) refl
+turned : (b : Bool) → not b ≡ true → b ≡ false
+turned true e = absurd cc
+turned false e = refl
 
-is_r_angle : (r : Record) (rest : List Record) → r.kind ≡ R_ANGLE → is_operand (next_kind rest) ≡ true →
-    operator_at (r ∷ rest) ≡ R_ANGLE
-unfolding operator_at
-is_r_angle r rest e h =
-    rw (
-      e,
-      no_more R_ANGLE (EQ ∷ []) rest h refl,
-      no_more R_ANGLE [] rest h refl,
-      no_more EQ [] rest h refl,
-      and_false r.joint,
-    ) refl
+first_touching : (k : ℕ) (ks : List ℕ) (os rest : List Record) → Touching (k ∷ ks) os →
+    begins_with (k ∷ ks) (os ++ rest) ≡ true
+first_touching k ks [] rest h = absurd h
+first_touching k [] (r ∷ []) rest h = rw h (eq-eqb k k refl)
+first_touching k [] (r ∷ s ∷ os) rest h = absurd h
+first_touching k (j ∷ ks) (r ∷ os) rest h = rw (h.0, eq-eqb k k refl, h.1) (first_touching j ks os rest h.2)
 
-is_pipe : (r : Record) (rest : List Record) → r.kind ≡ PIPE → is_operand (next_kind rest) ≡ true →
-    operator_at (r ∷ rest) ≡ PIPE
-unfolding operator_at
-is_pipe r rest e h = rw (e, no_more PIPE [] rest h refl, no_more EQ [] rest h refl, and_false r.joint) refl
+-- Whether tokens that go on with the second list and an operand do not go on with the first one.
+abbrev apart : List ℕ → List ℕ → Bool
+apart [] js = false
+apart (k ∷ ks) [] = not (is_operand k)
+apart (k ∷ ks) (j ∷ js) = not (j == k) || apart ks js
 
-is_caret : (r : Record) (rest : List Record) → r.kind ≡ CARET → is_operand (next_kind rest) ≡ true →
-    operator_at (r ∷ rest) ≡ CARET
-unfolding operator_at
-is_caret r rest e h = rw (e, no_more EQ [] rest h refl, and_false r.joint) refl
+blocked : (f : ℕ) (ks js : List ℕ) (os rest : List Record) → apart ks js ≡ true → Touching (f ∷ js) os →
+    is_operand (next_kind rest) ≡ true → begins_with (f ∷ ks) (os ++ rest) ≡ false
+blocked f [] js os rest a w h = absurd cc
+blocked f (k ∷ ks) js [] rest a w h = absurd w
+blocked f (k ∷ ks) [] (r ∷ []) rest a w h =
+    rw (no_more k ks rest h (turned (is_operand k) a), and_false r.joint, and_false (r.kind == f)) refl
+blocked f (k ∷ ks) [] (r ∷ s ∷ os) rest a w h = absurd w
+blocked f (k ∷ ks) (j ∷ js) (r ∷ os) rest a w h =
+    let n : begins_with (k ∷ ks) (os ++ rest) ≡ false = by_truth (j == k)
+    (λ e. rw (← (eqb-true j k e)) (blocked j ks js os rest (rw e at a) w.2 h))
+    (λ e. other_first k ks (os ++ rest) (rw (lead_is (j ∷ js) os rest w.2) e)) in
+    rw (n, and_false r.joint, and_false (r.kind == f)) refl
 
-is_plus : (r : Record) (rest : List Record) → r.kind ≡ PLUS → is_operand (next_kind rest) ≡ true →
-    operator_at (r ∷ rest) ≡ PLUS
-unfolding operator_at
-is_plus r rest e h = rw (e, no_more EQ [] rest h refl, and_false r.joint) refl
+goes : (f : ℕ) (ks : List ℕ) (os rest : List Record) → Touching (f ∷ ks) os → goes_on_with f ks (os ++ rest) ≡ true
+goes f [] os rest w = refl
+goes f (k ∷ ks) os rest w = first_touching f (k ∷ ks) os rest w
 
-is_minus : (r : Record) (rest : List Record) → r.kind ≡ MINUS → is_operand (next_kind rest) ≡ true →
-    operator_at (r ∷ rest) ≡ MINUS
-unfolding operator_at
-is_minus r rest e h = rw (e, no_more EQ [] rest h refl, and_false r.joint) refl
+goes_not : (f : ℕ) (ks js : List ℕ) (os rest : List Record) → apart ks js ≡ true → Touching (f ∷ js) os →
+    is_operand (next_kind rest) ≡ true → goes_on_with f ks (os ++ rest) ≡ false
+goes_not f [] js os rest a w h = absurd cc
+goes_not f (k ∷ ks) js os rest a w h = blocked f (k ∷ ks) js os rest a w h
 
-is_star : (r : Record) (rest : List Record) → r.kind ≡ STAR → is_operand (next_kind rest) ≡ true →
-    operator_at (r ∷ rest) ≡ STAR
-unfolding operator_at
-is_star r rest e h = rw (e, no_more EQ [] rest h refl, and_false r.joint) refl
+abbrev same_list : List ℕ → List ℕ → Bool
+same_list [] [] = true
+same_list [] (j ∷ js) = false
+same_list (k ∷ ks) [] = false
+same_list (k ∷ ks) (j ∷ js) = (k == j) && same_list ks js
 
-is_slash : (r : Record) (rest : List Record) → r.kind ≡ SLASH → is_operand (next_kind rest) ≡ true →
-    operator_at (r ∷ rest) ≡ SLASH
-unfolding operator_at
-is_slash r rest e h = rw (e, no_more EQ [] rest h refl, and_false r.joint) refl
+same_list_is : (ks js : List ℕ) → same_list ks js ≡ true → ks ≡ js
+same_list_is [] [] e = refl
+same_list_is [] (j ∷ js) e = absurd cc
+same_list_is (k ∷ ks) [] e = absurd cc
+same_list_is (k ∷ ks) (j ∷ js) e =
+    rw (eqb-true k j (and_left _ _ e), same_list_is ks js (and_right (k == j) _ e)) refl
 
-is_percent : (r : Record) (rest : List Record) → r.kind ≡ PERCENT → is_operand (next_kind rest) ≡ true →
-    operator_at (r ∷ rest) ≡ PERCENT
+-- Whether the operator with these tokens behind the first one is that of a row which is tried first, and that of the
+-- table.
+abbrev chosen : ℕ → List ℕ → List (ℕ × ℕ × List ℕ) → Bool
+chosen op ks [] = false
+chosen op ks (row ∷ rows) = if row.0 == op then same_list row.2 ks else (apart row.2 ks && chosen op ks rows)
+
+abbrev stands : ℕ → List ℕ → List (ℕ × List (ℕ × ℕ × List ℕ)) → Bool
+stands op [] rows = false
+stands op (f ∷ ks) [] = false
+stands op (f ∷ ks) (row ∷ rows) = if row.0 == f then chosen op ks row.1 else stands op (f ∷ ks) rows
+
+in_row : (f op : ℕ) (ks : List ℕ) (rows : List (ℕ × ℕ × List ℕ)) (os rest : List Record) → chosen op ks rows ≡ true →
+    Touching (f ∷ ks) os → is_operand (next_kind rest) ≡ true → first_of f rows (os ++ rest) ≡ op
+in_row f op ks [] os rest c w h = absurd cc
+in_row f op ks (row ∷ rows) os rest c w h =
+    by_truth (row.0 == op)
+    (λ e.
+    let s : row.2 ≡ ks = same_list_is row.2 ks (rw e at c) in
+    let g : goes_on_with f row.2 (os ++ rest) ≡ true = rw s (goes f ks os rest w) in
+    rw g (eqb-true row.0 op e))
+    (λ e.
+    let d : apart row.2 ks && chosen op ks rows ≡ true = rw e at c in
+    rw (goes_not f row.2 ks os rest (and_left _ _ d) w h)
+    (in_row f op ks rows os rest (and_right (apart row.2 ks) _ d) w h))
+
+in_table : (op f : ℕ) (ks : List ℕ) (rows : List (ℕ × List (ℕ × ℕ × List ℕ))) (os rest : List Record) →
+    stands op (f ∷ ks) rows ≡ true → Touching (f ∷ ks) os → is_operand (next_kind rest) ≡ true →
+    operator_in rows f (os ++ rest) ≡ op
+in_table op f ks [] os rest s w h = absurd cc
+in_table op f ks (row ∷ rows) os rest s w h =
+    by_truth (row.0 == f)
+    (λ e.
+    let t : first_of row.0 row.1 (os ++ rest) ≡ op =
+    rw (eqb-true row.0 f e) (in_row f op ks row.1 os rest (rw e at s) w h) in
+    rw e t)
+    (λ e. rw e (in_table op f ks rows os rest (rw e at s) w h))
+
+by_table : (op : ℕ) (ts : List ℕ) (os rest : List Record) → stands op ts operators ≡ true → Touching ts os →
+    is_operand (next_kind rest) ≡ true → operator_at (os ++ rest) ≡ op
 unfolding operator_at
-is_percent r rest e h = rw (e, no_more EQ [] rest h refl, and_false r.joint) refl
+by_table op [] os rest s w h = absurd cc
+by_table op (f ∷ ks) os rest s w h =
+    rw (lead_is (f ∷ ks) os rest w) (in_table op f ks operators os rest s w h)
+
+-- the operator `&`, which an operand may begin with too
+record One (k : ℕ) (os : List Record) : Type 0 where
+  r : Record
+  is : os ≡ r ∷ []
+  kind : r.kind ≡ k
+
+one : (k : ℕ) (os : List Record) → Touching (k ∷ []) os → One k os
+one k [] h = absurd h
+one k (r ∷ []) h = record { r = r; is = refl; kind = h }
+one k (r ∷ s ∷ os) h = absurd h
 
 both_never : (a b : Bool) → (a ≡ true → b ≡ true → ⊥) → a && b ≡ false
 both_never true true h = absurd (h refl refl)
@@ -205,222 +203,6 @@ is_amp : (r : Record) (rest : List Record) → r.kind ≡ AMP → is_operand (ne
 unfolding operator_at
 is_amp r rest e h a = rw (e, no_more EQ [] rest h refl, and_false r.joint, amp_apart r rest a) refl
 
-seen_eq : Seen EQ
-unfolding operator_at
-seen_eq =
-    record {
-      at = λ n m os rest w h a. let t = one EQ os w in rw t.is (is_eq t.r rest t.kind h);
-      calm = λ n m. refl;
-      bang = inl refl;
-    }
-
-seen_pluseq : Seen PLUSEQ
-unfolding operator_at
-seen_pluseq =
-    record {
-      at = λ n m os rest w h a. let t = two PLUS EQ os w in rw (t.is, t.kind, t.joint, t.second) refl;
-      calm =
-          λ n m. refl;
-      bang = inl refl;
-    }
-
-seen_minuseq : Seen MINUSEQ
-unfolding operator_at
-seen_minuseq =
-    record {
-      at = λ n m os rest w h a. let t = two MINUS EQ os w in rw (t.is, t.kind, t.joint, t.second) refl;
-      calm =
-          λ n m. refl;
-      bang = inl refl;
-    }
-
-seen_stareq : Seen STAREQ
-unfolding operator_at
-seen_stareq =
-    record {
-      at = λ n m os rest w h a. let t = two STAR EQ os w in rw (t.is, t.kind, t.joint, t.second) refl;
-      calm =
-          λ n m. refl;
-      bang = inl refl;
-    }
-
-seen_slasheq : Seen SLASHEQ
-unfolding operator_at
-seen_slasheq =
-    record {
-      at = λ n m os rest w h a. let t = two SLASH EQ os w in rw (t.is, t.kind, t.joint, t.second) refl;
-      calm =
-          λ n m. refl;
-      bang = inl refl;
-    }
-
-seen_percenteq : Seen PERCENTEQ
-unfolding operator_at
-seen_percenteq =
-    record {
-      at = λ n m os rest w h a. let t = two PERCENT EQ os w in rw (t.is, t.kind, t.joint, t.second) refl;
-      calm =
-          λ n m. refl;
-      bang = inl refl;
-    }
-
-seen_careteq : Seen CARETEQ
-unfolding operator_at
-seen_careteq =
-    record {
-      at = λ n m os rest w h a. let t = two CARET EQ os w in rw (t.is, t.kind, t.joint, t.second) refl;
-      calm =
-          λ n m. refl;
-      bang = inl refl;
-    }
-
-seen_ampeq : Seen AMPEQ
-unfolding operator_at
-seen_ampeq =
-    record {
-      at = λ n m os rest w h a. let t = two AMP EQ os w in rw (t.is, t.kind, t.joint, t.second) refl;
-      calm =
-          λ n m. refl;
-      bang = inl refl;
-    }
-
-seen_pipeeq : Seen PIPEEQ
-unfolding operator_at
-seen_pipeeq =
-    record {
-      at = λ n m os rest w h a. let t = two PIPE EQ os w in rw (t.is, t.kind, t.joint, t.second) refl;
-      calm =
-          λ n m. refl;
-      bang = inl refl;
-    }
-
-seen_shleq : Seen SHLEQ
-unfolding operator_at
-seen_shleq =
-    record {
-      at = λ n m os rest w h a. let t = three L_ANGLE L_ANGLE EQ os w in
-          rw (t.is, t.kind, t.joint, t.second, t.second_joint, t.third) refl;
-      calm = λ n m. refl;
-      bang = inl refl;
-    }
-
-seen_shreq : Seen SHREQ
-unfolding operator_at
-seen_shreq =
-    record {
-      at = λ n m os rest w h a. let t = three R_ANGLE R_ANGLE EQ os w in
-          rw (t.is, t.kind, t.joint, t.second, t.second_joint, t.third) refl;
-      calm = λ n m. refl;
-      bang = inl refl;
-    }
-
-seen_dot2 : Seen DOT2
-unfolding operator_at
-seen_dot2 = record { at = λ n m. absurd (n refl); calm = λ n m. absurd (n refl); bang = inl refl }
-
-seen_dot2eq : Seen DOT2EQ
-unfolding operator_at
-seen_dot2eq = record { at = λ n m. absurd (n refl); calm = λ n m. absurd (n refl); bang = inl refl }
-
-seen_pipe2 : Seen PIPE2
-unfolding operator_at
-seen_pipe2 =
-    record {
-      at = λ n m os rest w h a. let t = two PIPE PIPE os w in rw (t.is, t.kind, t.joint, t.second) refl;
-      calm =
-          λ n m. refl;
-      bang = inl refl;
-    }
-
-seen_amp2 : Seen AMP2
-unfolding operator_at
-seen_amp2 =
-    record {
-      at = λ n m os rest w h a. let t = two AMP AMP os w in rw (t.is, t.kind, t.joint, t.second) refl;
-      calm =
-          λ n m. refl;
-      bang = inl refl;
-    }
-
-seen_eq2 : Seen EQ2
-unfolding operator_at
-seen_eq2 =
-    record {
-      at = λ n m os rest w h a. let t = two EQ EQ os w in rw (t.is, t.kind, t.joint, t.second) refl;
-      calm =
-          λ n m. refl;
-      bang = inl refl;
-    }
-
-seen_neq : Seen NEQ
-unfolding operator_at
-seen_neq =
-    record {
-      at = λ n m os rest w h a. let t = two BANG EQ os w in rw (t.is, t.kind, t.joint, t.second) refl;
-      calm =
-          λ n m. refl;
-      bang = inr refl;
-    }
-
-seen_l_angle : Seen L_ANGLE
-unfolding operator_at
-seen_l_angle =
-    record {
-      at = λ n m os rest w h a. let t = one L_ANGLE os w in rw t.is (is_l_angle t.r rest t.kind h);
-      calm =
-          λ n m. refl;
-      bang = inl refl;
-    }
-
-seen_r_angle : Seen R_ANGLE
-unfolding operator_at
-seen_r_angle =
-    record {
-      at = λ n m os rest w h a. let t = one R_ANGLE os w in rw t.is (is_r_angle t.r rest t.kind h);
-      calm =
-          λ n m. refl;
-      bang = inl refl;
-    }
-
-seen_lteq : Seen LTEQ
-unfolding operator_at
-seen_lteq =
-    record {
-      at = λ n m os rest w h a. let t = two L_ANGLE EQ os w in rw (t.is, t.kind, t.joint, t.second) refl;
-      calm =
-          λ n m. refl;
-      bang = inl refl;
-    }
-
-seen_gteq : Seen GTEQ
-unfolding operator_at
-seen_gteq =
-    record {
-      at = λ n m os rest w h a. let t = two R_ANGLE EQ os w in rw (t.is, t.kind, t.joint, t.second) refl;
-      calm =
-          λ n m. refl;
-      bang = inl refl;
-    }
-
-seen_pipe : Seen PIPE
-unfolding operator_at
-seen_pipe =
-    record {
-      at = λ n m os rest w h a. let t = one PIPE os w in rw t.is (is_pipe t.r rest t.kind h);
-      calm = λ n m. refl;
-      bang = inl refl;
-    }
-
-seen_caret : Seen CARET
-unfolding operator_at
-seen_caret =
-    record {
-      at = λ n m os rest w h a. let t = one CARET os w in rw t.is (is_caret t.r rest t.kind h);
-      calm =
-          λ n m. refl;
-      bang = inl refl;
-    }
-
 seen_amp : Seen AMP
 unfolding operator_at
 seen_amp =
@@ -431,188 +213,48 @@ seen_amp =
       bang = inl refl;
     }
 
-seen_shl : Seen SHL
-unfolding operator_at
-seen_shl =
+-- every other operator, by its tokens
+abbrev is_seen : ℕ → List ℕ → Bool
+is_seen op ts =
+    stands op ts operators
+    && (((power op == 2) || is_calm false (lead ts)) && (not (lead ts == BANG) || (op == NEQ)))
+
+seen_so : (op : ℕ) → is_seen op (tokens_of (parts op) op) ≡ true → Seen op
+seen_so op e =
+    let ts : List ℕ = tokens_of (parts op) op in
+    let r : ((power op == 2) || is_calm false (lead ts)) && (not (lead ts == BANG) || (op == NEQ)) ≡ true =
+    and_right (stands op ts operators) _ e in
     record {
-      at = λ n m os rest w h a. let t = two L_ANGLE L_ANGLE os w in
-          rw (t.is, t.kind, t.joint, t.second, no_more EQ [] rest h refl, and_false t.s.joint) refl;
-      calm = λ n m. refl;
-      bang = inl refl;
+      at = λ n m os rest w h a. by_table op ts os rest (and_left _ _ e) w h;
+      calm = λ n m. elim (or_either (power op == 2) (is_calm false (lead ts)) (and_left _ _ r)) [
+        | inl i ↦ absurd (n (eqb-true (power op) 2 i))
+        | inr i ↦ i
+      ];
+      bang = elim (or_either (not (lead ts == BANG)) (op == NEQ)
+          (and_right ((power op == 2) || is_calm false (lead ts)) _ r)) [
+            | inl i ↦ inl (turned (lead ts == BANG) i)
+            | inr i ↦ inr (eqb-true op NEQ i)
+          ];
     }
 
-seen_shr : Seen SHR
-unfolding operator_at
-seen_shr =
-    record {
-      at = λ n m os rest w h a. let t = two R_ANGLE R_ANGLE os w in
-          rw (t.is, t.kind, t.joint, t.second, no_more EQ [] rest h refl, and_false t.s.joint) refl;
-      calm = λ n m. refl;
-      bang = inl refl;
-    }
+abbrev is_row_seen : ℕ → Bool
+is_row_seen op = (op == AMP) || is_seen op (tokens_of (parts op) op)
 
-seen_plus : Seen PLUS
-unfolding operator_at
-seen_plus =
-    record {
-      at = λ n m os rest w h a. let t = one PLUS os w in rw t.is (is_plus t.r rest t.kind h);
-      calm = λ n m. refl;
-      bang = inl refl;
-    }
+abbrev all_seen : List (ℕ × ℕ) → Bool
+all_seen [] = true
+all_seen (row ∷ rows) = is_row_seen row.0 && all_seen rows
 
-seen_minus : Seen MINUS
-unfolding operator_at
-seen_minus =
-    record {
-      at = λ n m os rest w h a. let t = one MINUS os w in rw t.is (is_minus t.r rest t.kind h);
-      calm =
-          λ n m. refl;
-      bang = inl refl;
-    }
-
-seen_star : Seen STAR
-unfolding operator_at
-seen_star =
-    record {
-      at = λ n m os rest w h a. let t = one STAR os w in rw t.is (is_star t.r rest t.kind h);
-      calm = λ n m. refl;
-      bang = inl refl;
-    }
-
-seen_slash : Seen SLASH
-unfolding operator_at
-seen_slash =
-    record {
-      at = λ n m os rest w h a. let t = one SLASH os w in rw t.is (is_slash t.r rest t.kind h);
-      calm =
-          λ n m. refl;
-      bang = inl refl;
-    }
-
-seen_percent : Seen PERCENT
-unfolding operator_at
-seen_percent =
-    record {
-      at = λ n m os rest w h a. let t = one PERCENT os w in rw t.is (is_percent t.r rest t.kind h);
-      calm =
-          λ n m. refl;
-      bang = inl refl;
-    }
-
-seen_as_kw : Seen AS_KW
-unfolding operator_at
-seen_as_kw = record { at = λ n m. absurd (omega arith); calm = λ n m. absurd (omega arith); bang = inl refl }
-
-abbrev AllSeen : List (ℕ × ℕ) → Type 0
-AllSeen [] = Unit {0}
-AllSeen (row ∷ rows) = Seen row.0 × AllSeen rows
-
-by_row : (row : ℕ × ℕ) (rows : List (ℕ × ℕ)) (op : ℕ) (b : Bool) → (row.0 == op) ≡ b → Seen row.0 →
-    (0 < power_in rows op → Seen op) → 0 < power_in (row ∷ rows) op → Seen op
-by_row row rows op true e g h p = rw (← (eqb-true row.0 op e)) g
-by_row row rows op false e g h p = h (rw e at p)
-
-among : (rows : List (ℕ × ℕ)) (op : ℕ) → AllSeen rows → 0 < power_in rows op → Seen op
-among [] op g p = absurd (omega arith)
-among (row ∷ rows) op g p = by_row row rows op (row.0 == op) refl g.0 (among rows op g.1) p
+among : (rows : List (ℕ × ℕ)) (op : ℕ) → all_seen rows ≡ true → 0 < power_in rows op → is_row_seen op ≡ true
+among [] op e p = absurd (omega arith)
+among (row ∷ rows) op e p =
+    by_truth (row.0 == op) (λ i. rw (← (eqb-true row.0 op i)) (and_left _ _ e))
+    (λ i. among rows op (and_right (is_row_seen row.0) _ e) (rw i at p))
 
 seen : (op : ℕ) → 0 < power op → Seen op
-seen op p =
-    among powers op (
-      seen_pipe2,
-      (
-        seen_pipeeq,
-        (
-          seen_pipe,
-          (
-            seen_shreq,
-            (
-              seen_shr,
-              (
-                seen_gteq,
-                (
-                  seen_r_angle,
-                  (
-                    seen_eq2,
-                    (
-                      seen_eq,
-                      (
-                        seen_lteq,
-                        (
-                          seen_shleq,
-                          (
-                            seen_shl,
-                            (
-                              seen_l_angle,
-                              (
-                                seen_pluseq,
-                                (
-                                  seen_plus,
-                                  (
-                                    seen_careteq,
-                                    (
-                                      seen_caret,
-                                      (
-                                        seen_percenteq,
-                                        (
-                                          seen_percent,
-                                          (
-                                            seen_ampeq,
-                                            (
-                                              seen_amp2,
-                                              (
-                                                seen_amp,
-                                                (
-                                                  seen_slasheq,
-                                                  (
-                                                    seen_slash,
-                                                    (
-                                                      seen_stareq,
-                                                      (
-                                                        seen_star,
-                                                        (
-                                                          seen_dot2eq,
-                                                          (
-                                                            seen_dot2,
-                                                            (
-                                                              seen_neq,
-                                                              (seen_minuseq, (seen_minus, (seen_as_kw, tt))),
-                                                            ),
-                                                          ),
-                                                        ),
-                                                      ),
-                                                    ),
-                                                  ),
-                                                ),
-                                              ),
-                                            ),
-                                          ),
-                                        ),
-                                      ),
-                                    ),
-                                  ),
-                                ),
-                              ),
-                            ),
-                          ),
-                        ),
-                      ),
-                    ),
-                  ),
-                ),
-              ),
-            ),
-          ),
-        ),
-      ),
-    ) p
-
-first_touching : (k : ℕ) (ks : List ℕ) (os rest : List Record) → Touching (k ∷ ks) os →
-    begins_with (k ∷ ks) (os ++ rest) ≡ true
-first_touching k ks [] rest h = absurd h
-first_touching k [] (r ∷ []) rest h = rw h (eq-eqb k k refl)
-first_touching k [] (r ∷ s ∷ os) rest h = absurd h
-first_touching k (j ∷ ks) (r ∷ os) rest h = rw (h.0, eq-eqb k k refl, h.1) (first_touching j ks os rest h.2)
+seen op p = elim (or_either (op == AMP) (is_seen op (tokens_of (parts op) op)) (among powers op refl p)) [
+  | inl i ↦ rw (eqb-true op AMP i) seen_amp
+  | inr i ↦ seen_so op i
+]
 
 past_touching : (k : ℕ) (ks : List ℕ) (os rest : List Record) → Touching (k ∷ ks) os →
     drop (length (k ∷ ks)) (os ++ rest) ≡ rest
