@@ -7,8 +7,8 @@ use Rattle.rap_grammar_scripts.proofs.Exec.{runs, does_follow}
 use Rattle.rap_grammar_scripts.specs.Exec.{Ends, Answers, Does}
 use Rattle.rap_grammar_scripts.specs.Items.{item_or_macro}
 use Rattle.rap_grammar_scripts.specs.Knot.{script_of}
-use Rattle.rap_grammar_scripts.specs.Phrase.{Phrase}
-use Rattle.rap_grammar_scripts.specs.Phrase as phrase
+use Rattle.rap_grammar_scripts.specs.declared.rule.Rule.{Rule}
+use Rattle.rap_grammar_scripts.specs.declared.rule.Rule.TheVariants as knot
 use Rattle.rap_grammar_scripts.specs.Script.{Script, Outcome, Spot, Runs}
 use Rattle.rap_grammar_scripts.specs.Statements.{stmt}
 use Rattle.rap_grammar_scripts.specs.declared.arguments.Semicolon.{Semicolon}
@@ -39,19 +39,19 @@ more n m l rule.Meta s t e h = (h.0, answers_more l h.1)
 more n m l rule.CfgPredicate s t e h = (h.0, answers_more l h.1)
 
 -- a script that ends so runs to there
-pub ends_run : {n : ℕ} {s : Script Phrase} {p q : Spot} {v : Outcome} → Ends n s p q v → Runs script_of s p q v
+pub ends_run : {n : ℕ} {s : Script Rule} {p q : Spot} {v : Outcome} → Ends n s p q v → Runs script_of s p q v
 ends_run {n = n} {s = s} {p = p} {q = q} {v = v} d = runs n s p q v d.run
 
-pub stmt_runs : {n : ℕ} {semi : Semicolon} {p q : Spot} {v : Outcome} → Answers (suc n) (phrase.stmt semi) p q v →
+pub stmt_runs : {n : ℕ} {semi : Semicolon} {p q : Spot} {v : Outcome} → Answers (suc n) (knot.Stmt semi) p q v →
     Runs script_of (stmt semi) p q v
 unfolding script_of
 stmt_runs {n = n} {semi = semi} {p = p} {q = q} {v = v} d = runs n (stmt semi) p q v d.run
 
 pub item_runs : {n : ℕ} {stop extern : Bool} {p q : Spot} {v : Outcome} →
-    Answers (suc n) (phrase.item_or_macro stop extern) p q v → Runs script_of (item_or_macro stop extern) p q v
+    Answers (suc n) (knot.ItemOrMacro stop extern) p q v → Runs script_of (item_or_macro stop extern) p q v
 unfolding script_of
 item_runs {n = n} {stop = stop} {extern = extern} {p = p} {q = q} {v = v} d =
     runs n (item_or_macro stop extern) p q v d.run
 
-pub goes : {n : ℕ} {s : Script Phrase} {v : Outcome} {old new : State} → Does n s v old new → Goes s old new
+pub goes : {n : ℕ} {s : Script Rule} {v : Outcome} {old new : State} → Does n s v old new → Goes s old new
 goes {v = v} d = record { outcome = v; follows = does_follow d }

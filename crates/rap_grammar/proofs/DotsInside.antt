@@ -8,8 +8,8 @@ use Rattle.rap_grammar_scripts.specs.Expressions.{is_range}
 use Rattle.rap_grammar_scripts.specs.Items.{item_or_macro}
 use Rattle.rap_grammar_scripts.specs.Knot.{script_of}
 use Rattle.rap_grammar_scripts.specs.Paths.{type_path}
-use Rattle.rap_grammar_scripts.specs.Phrase.{Phrase}
-use Rattle.rap_grammar_scripts.specs.Phrase as phrase
+use Rattle.rap_grammar_scripts.specs.declared.rule.Rule.{Rule}
+use Rattle.rap_grammar_scripts.specs.declared.rule.Rule.TheVariants as knot
 use Rattle.rap_grammar_scripts.specs.Script.{Script, give, rule, gives, obeys}
 use Rattle.rap_grammar_scripts.specs.Statements.{stmt}
 use Rattle.rap_grammar_scripts.specs.Visibility.{opt_visibility}
@@ -24,15 +24,15 @@ use Rattle.rap_grammar_core.specs.Dots.{dots_inside}
 use Rattle.rap_grammar.specs.Part.{IsPrefixOf}
 
 -- what is computed of a script that leaves none
-abbrev LeavesNone : Script Phrase → Type 0
+abbrev LeavesNone : Script Rule → Type 0
 LeavesNone s = every leaves_inside (dot_ends s inside []) ≡ true
 
-inside_by : (s : Script Phrase) → LeavesNone s → {input : List Record} {output : Forest} → IsPrefixOf s input output →
+inside_by : (s : Script Rule) → LeavesNone s → {input : List Record} {output : Forest} → IsPrefixOf s input output →
     dots_inside output ≡ true
 inside_by s e i = kept_inside dots_sound i.run (computed s is_range inside [] leaves_inside range_implies e) refl
 
 -- the same of a rule of the knot, by what its table says
-inside_of_rule : (c : Phrase) → LeavesNone (rule c (λ v. give v)) → {input : List Record} {output : Forest} →
+inside_of_rule : (c : Rule) → LeavesNone (rule c (λ v. give v)) → {input : List Record} {output : Forest} →
     IsPrefixOf (script_of c) input output → dots_inside output ≡ true
 inside_of_rule c e i =
     kept_inside dots_sound (obeys {n = λ v. give v} i.run gives)
@@ -104,9 +104,9 @@ meta_inside i = inside_by meta meta_leaves_none i
 pub statement_inside : {input : List Record} {output : Forest} → IsPrefixOf (stmt semicolon.Forbidden) input output →
     dots_inside output ≡ true
 unfolding script_of
-statement_inside i = inside_of_rule (phrase.stmt semicolon.Forbidden) refl i
+statement_inside i = inside_of_rule (knot.Stmt semicolon.Forbidden) refl i
 
 pub item_inside : {input : List Record} {output : Forest} → IsPrefixOf (item_or_macro true true) input output →
     dots_inside output ≡ true
 unfolding script_of
-item_inside i = inside_of_rule (phrase.item_or_macro true true) refl i
+item_inside i = inside_of_rule (knot.ItemOrMacro true true) refl i

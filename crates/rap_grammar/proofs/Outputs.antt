@@ -9,7 +9,7 @@ use Rattle.rap_grammar_scripts.specs.Atom.{expr}
 use Rattle.rap_grammar_scripts.specs.Called.{type_}
 use Rattle.rap_grammar_core.specs.Derives.{Derives, Expression, Ty, Contents, EndsExpression, File, Many, file_of, Item}
 use Rattle.rap_grammar_scripts.specs.Knot.{script_of, Follows}
-use Rattle.rap_grammar_scripts.specs.Phrase.{Phrase}
+use Rattle.rap_grammar_scripts.specs.declared.rule.Rule.{Rule}
 use Rattle.rap_grammar_scripts.specs.Script.{Script, forests, Spot, Outcome, something, Runs}
 use Rattle.rap_grammar_scripts.specs.Statements.{macro_stmts}
 use Rattle.rap_grammar.specs.Top.{IsTopOf, IsRootOf, top_tree}
@@ -64,7 +64,7 @@ pub derived_statements_clean : {input : List Record} {t output : Forest} →
 derived_statements_clean {t = t} i d = ap message_count (derived_statements i d) ∙ over (unmarked d)
 
 -- what a script makes of a whole input stands under the node of its entry
-pub root_of : {kind : ℕ} {s : Script Phrase} {input : List Record} {t output : Forest} → IsRootOf kind s input output →
+pub root_of : {kind : ℕ} {s : Script Rule} {input : List Record} {t output : Forest} → IsRootOf kind s input output →
     Leads s (none ∷ []) input none [] t → output ≡ node none kind t
 root_of {kind = kind} i x =
     let e = one_end i.run x in
@@ -113,14 +113,14 @@ begun_items i d =
     (x.0, i.tree ∙ ap (λ (f : Forest). node none MACRO_ITEMS f) x.1)
 
 -- the same input gives the same output
-pub one_output : {s : Script Phrase} {input : List Record} {a b : Forest} → IsTopOf s input a → IsTopOf s input b →
+pub one_output : {s : Script Rule} {input : List Record} {a b : Forest} → IsTopOf s input a → IsTopOf s input b →
     a ≡ b
 one_output i j =
     let e = one_end i.run j.run in
     i.tree ∙ rw (ap (λ (p : Spot). p.forest) e.spot, ap (λ (p : Spot). p.rest) e.spot) (sym j.tree)
 
 -- the same of an entry that makes a node of its own
-pub one_root : {kind : ℕ} {s : Script Phrase} {input : List Record} {a b : Forest} → IsRootOf kind s input a →
+pub one_root : {kind : ℕ} {s : Script Rule} {input : List Record} {a b : Forest} → IsRootOf kind s input a →
     IsRootOf kind s input b → a ≡ b
 one_root {kind = kind} i j =
     let e = one_end i.run j.run in

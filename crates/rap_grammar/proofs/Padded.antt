@@ -4,7 +4,7 @@ use Rattle.std.proofs.Common.{◌≡◌, ℕ, ◌==◌, List, [], ◌∷◌, dro
 use Rattle.rap_events.specs.Record.{Record}
 use Rattle.rap_events.specs.Forest.{Forest, none, used}
 use Rattle.rap_events.specs.LastToken.{last_after}
-use Rattle.rap_grammar_scripts.specs.Phrase.{Phrase}
+use Rattle.rap_grammar_scripts.specs.declared.rule.Rule.{Rule}
 use Rattle.rap_grammar_scripts.specs.Script.{Script, Outcome, Spot, Runs, gives, passes, fails, ends_so, ends_else, takes, takes_any, bears, reports, reports_next, skips, starts, precedes, finishes, extends, abandons, splits_dotted, splits_whole, follows, obeys, turns, stops, newest, last_under}
 use Rattle.rap_grammar_scripts.proofs.OneEnd.{one_end}
 use Rattle.rap_grammar.specs.Part.{IsPrefixOf}
@@ -81,7 +81,7 @@ leads_padded (turns r z) x = let i = leads_padded r x in on (leads_padded z i.pa
 leads_padded (stops r h) x = on (leads_padded r x) (λ l y. stops y h)
 
 -- what an entry reads from the front is what the entry of the whole input reads
-pub top_of_prefix : {s : Script Phrase} {input : List Record} {made output : Forest} → IsPrefixOf s input made →
+pub top_of_prefix : {s : Script Rule} {input : List Record} {made output : Forest} → IsPrefixOf s input made →
     IsTopOf s input output → output ≡ top_tree made (drop (used made) input)
 top_of_prefix i j =
     let e = one_end j.run (leads_padded i.run (empty_below bottom)).run in

@@ -3,7 +3,7 @@ use Rattle.std.proofs.Common.{◌≡◌, ◌==◌, ◌&&◌, ℕ, Bool, true, fa
 use Rattle.rap_base.specs.NodeKind.{FIELD_EXPR}
 use Rattle.rap_events.specs.Record.{Record}
 use Rattle.rap_events.specs.Forest.{Forest, none, node, leaf, message, split, splits_placed, splits_last, is_ended, ends_in_dot}
-use Rattle.rap_grammar_scripts.specs.Phrase.{Phrase}
+use Rattle.rap_grammar_scripts.specs.declared.rule.Rule.{Rule}
 use Rattle.rap_grammar_scripts.specs.Script.{Script, Spot}
 use Rattle.rap_grammar_scripts.proofs.OneEnd.{one_end}
 use Rattle.rap_grammar.specs.Part.{IsPrefixOf, IsOneNode, part_kind}
@@ -11,7 +11,7 @@ use Rattle.rap_grammar.specs.declared.entry.part.Part.{Part}
 use Rattle.rap_grammar.specs.declared.entry.part.Part.TheVariants as part
 
 -- the same input gives the same output
-pub one_prefix : {s : Script Phrase} {input : List Record} {a b : Forest} → IsPrefixOf s input a →
+pub one_prefix : {s : Script Rule} {input : List Record} {a b : Forest} → IsPrefixOf s input a →
     IsPrefixOf s input b → a ≡ b
 one_prefix i j = ap (λ (p : Spot). p.forest) (one_end i.run j.run).spot
 

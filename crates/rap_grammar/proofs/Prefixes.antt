@@ -8,7 +8,7 @@ use Rattle.rap_grammar_scripts.specs.Atom.{expr}
 use Rattle.rap_grammar_scripts.specs.Called.{type_}
 use Rattle.rap_grammar_scripts.specs.Blocks.{block_expr}
 use Rattle.rap_grammar_scripts.specs.Items.{item_or_macro}
-use Rattle.rap_grammar_scripts.specs.Phrase.{Phrase}
+use Rattle.rap_grammar_scripts.specs.declared.rule.Rule.{Rule}
 use Rattle.rap_grammar_scripts.specs.Script.{Script, Spot}
 use Rattle.rap_grammar_scripts.specs.TokenTree.{token_tree}
 use Rattle.rap_grammar_scripts.proofs.Balance.{balanced_way, balanced_clean}
@@ -24,14 +24,14 @@ use Rattle.rap_grammar_core.proofs.Unique.{unmarked, used-derived, used-brackets
 use Rattle.rap_grammar_core.proofs.Ways.{Leads, none-⧺}
 
 -- the output is what the script makes of a front
-made : {s : Script Phrase} (ks l : List Record) {t output : Forest} → IsPrefixOf s (ks ++ l) output →
+made : {s : Script Rule} (ks l : List Record) {t output : Forest} → IsPrefixOf s (ks ++ l) output →
     Leads s [] (ks ++ l) none l t → message_count t ≡ 0 → used t ≡ length ks → IsWhole t (length ks) output
 made ks l i x clean all =
     let e = ap (λ (p : Spot). p.forest) (one_end i.run x).spot in
     record { same = e; clean = ap message_count e ∙ clean; used_is = ap used e ∙ all }
 
 -- the same of a front that is derived
-front : {s : Script Phrase} {c : Category} (ks l : List Record) {t output : Forest} → IsPrefixOf s (ks ++ l) output →
+front : {s : Script Rule} {c : Category} (ks l : List Record) {t output : Forest} → IsPrefixOf s (ks ++ l) output →
     Derives c ks t → Leads s [] (ks ++ l) none l t → IsWhole t (length ks) output
 front ks l i d x = made ks l i x (unmarked d) (used-derived d)
 

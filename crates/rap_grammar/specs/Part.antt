@@ -10,7 +10,7 @@ use Rattle.rap_grammar_scripts.specs.Control.{match_arm_list}
 use Rattle.rap_grammar_scripts.specs.Items.{item_list, extern_item_list}
 use Rattle.rap_grammar_scripts.specs.Knot.{script_of, Follows}
 use Rattle.rap_grammar_scripts.specs.Paths.{type_path}
-use Rattle.rap_grammar_scripts.specs.Phrase.{Phrase}
+use Rattle.rap_grammar_scripts.specs.declared.rule.Rule.{Rule}
 use Rattle.rap_grammar_scripts.specs.Records.{record_expr_field_list}
 use Rattle.rap_grammar_scripts.specs.Script.{Script, Outcome, Runs}
 use Rattle.rap_grammar_scripts.specs.TokenTree.{token_tree}
@@ -29,13 +29,13 @@ pub record IsPrefixOver (input : List Record) (output : Forest) : Type 0 where
   pub forest : IsForestOver input (used output) output
 
 -- The output of an entry with this script: what the script makes of the front of the input, up to where it stops.
-pub record IsPrefixOf (s : Script Phrase) (input : List Record) (output : Forest) : Type 0 where
+pub record IsPrefixOf (s : Script Rule) (input : List Record) (output : Forest) : Type 0 where
   pub outcome : Outcome
   pub run : Runs script_of s (record { rest = input; forest = none; below = [] })
       (record { rest = drop (used output) input; forest = output; below = [] }) outcome
 
 -- the script of a part
-abbrev pub part_script : Part → Script Phrase
+abbrev pub part_script : Part → Script Rule
 part_script part.Visibility = opt_visibility false
 part_script part.Path = type_path
 part_script part.Block = block_expr
@@ -123,6 +123,6 @@ pub record IsOneNode (kind : ℕ) (output : Forest) : Type 0 where
   pub one : one_tree output ≡ true
 
 -- A parser went along a script, with some outcome.
-pub record Goes (s : Script Phrase) (old new : State) : Type 0 where
+pub record Goes (s : Script Rule) (old new : State) : Type 0 where
   pub outcome : Outcome
   pub follows : Follows s outcome old new

@@ -6,7 +6,7 @@ use Rattle.rap_events.specs.Forest.{Forest, none, node, leaf, flat, used, messag
 use Rattle.rap_events.specs.Cover.{covers}
 use Rattle.rap_events.specs.Fit.{AllFitIn}
 use Rattle.rap_grammar_scripts.specs.Knot.{script_of}
-use Rattle.rap_grammar_scripts.specs.Phrase.{Phrase}
+use Rattle.rap_grammar_scripts.specs.declared.rule.Rule.{Rule}
 use Rattle.rap_grammar_scripts.specs.Script.{Script, Outcome, Runs}
 
 -- a forest, and each of these tokens as a leaf of its own kind after it
@@ -38,7 +38,7 @@ pub record IsTreeOver (input : List Record) (f : Forest) : Type 0 where
 
 -- The output of a top entry with this script: what the script makes of the whole input under one marker, and of what it
 -- leaves.
-pub record IsTopOf (s : Script Phrase) (input : List Record) (output : Forest) : Type 0 where
+pub record IsTopOf (s : Script Rule) (input : List Record) (output : Forest) : Type 0 where
   pub made : Forest
   pub rest : List Record
   pub outcome : Outcome
@@ -48,7 +48,7 @@ pub record IsTopOf (s : Script Phrase) (input : List Record) (output : Forest) :
 
 -- The output of a top entry that makes a node of this kind over the whole input: what its script makes of the input
 -- stands under that node.
-pub record IsRootOf (kind : ℕ) (s : Script Phrase) (input : List Record) (output : Forest) : Type 0 where
+pub record IsRootOf (kind : ℕ) (s : Script Rule) (input : List Record) (output : Forest) : Type 0 where
   pub made : Forest
   pub outcome : Outcome
   pub run : Runs script_of s (record { rest = input; forest = none; below = none ∷ [] })

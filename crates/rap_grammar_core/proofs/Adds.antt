@@ -4,7 +4,7 @@ use Rattle.rap_events.specs.Forest.{Forest, none, ◌⧺◌}
 use Rattle.rap_grammar_scripts.proofs.Forests.{⧺-assoc}
 use Rattle.rap_grammar_scripts.specs.Items.{items}
 use Rattle.rap_grammar_scripts.specs.Knot.{script_of}
-use Rattle.rap_grammar_scripts.specs.Phrase.{Phrase}
+use Rattle.rap_grammar_scripts.specs.declared.rule.Rule.{Rule}
 use Rattle.rap_grammar_scripts.specs.Script.{Script, Outcome, Spot, Runs}
 use Rattle.rap_grammar_core.proofs.AllRules.{sound}
 use Rattle.rap_grammar_core.proofs.Ends.{level}
@@ -17,7 +17,7 @@ Begins a under f fs = (x : Forest) × (f ≡ a ⧺ x) × (fs ≡ under)
 grows : (a : Forest) (under : List Forest) → Grows (Begins a under)
 grows a under f x fs k = (k.0 ⧺ x, ap (λ (y : Forest). y ⧺ x) k.1 ∙ ⧺-assoc a k.0 x, k.2)
 
-pub adds : {s : Script Phrase} {p q : Spot} {v : Outcome} → Runs script_of s p q v → level 0 s ≡ true →
+pub adds : {s : Script Rule} {p q : Spot} {v : Outcome} → Runs script_of s p q v → level 0 s ≡ true →
     Begins p.forest p.below q.forest q.below
 adds {p = p} {q = q} r e =
     let y = keeps sound r (Begins p.forest p.below) (grows p.forest p.below) (λ v j. j == 0) 0 e (none, refl, refl) in

@@ -24,7 +24,7 @@ use Rattle.rap_grammar_scripts.specs.declared.arguments.Restrictions.{Restrictio
 use Rattle.rap_grammar_scripts.proofs.Forests.{⧺-assoc}
 use Rattle.rap_grammar_scripts.specs.Control.{if_expr, else_branch}
 use Rattle.rap_grammar_scripts.specs.Knot.{script_of}
-use Rattle.rap_grammar_scripts.specs.Phrase.{Phrase}
+use Rattle.rap_grammar_scripts.specs.declared.rule.Rule.{Rule}
 use Rattle.rap_grammar_scripts.specs.Script.{Script, Runs, block}
 use Rattle.rap_grammar_core.proofs.Operators.{written_lead, differ, differ_back, is_calm, Calm, operator_seen, written_first, written_past, is_operand, calm_so}
 use Rattle.rap_events.proofs.Truth.{and_false}
@@ -404,7 +404,7 @@ fits_past : (r : Restrictions) (ks js : List Record) → starts_with_block ks �
 unfolding Fits
 fits_past r ks js e w = rw e at w
 
-claim_alone : (r : Restrictions) {s : Script Phrase} {b : List Forest} {rs l : List Record} {f t : Forest} →
+claim_alone : (r : Restrictions) {s : Script Rule} {b : List Forest} {rs l : List Record} {f t : Forest} →
     Reads r s b rs f l (none ⧺ t) → Reads r s b rs f l t
 claim_alone r x = rw none-⧺ at x
 

@@ -1,8 +1,8 @@
 -- Whether the node of a float that ends in a dot may stand at the top of what a script makes, computed: by which
 -- outcomes the script ends, and of each open node, whether such a node may stand right under it.
 use Rattle.std.specs.Prelude.{Bool, true, false, ◌&&◌, nat_lt, List, [], ◌∷◌, ◌++◌, if◌then◌else◌}
-use Rattle.rap_grammar_scripts.specs.Phrase.{Phrase}
-use Rattle.rap_grammar_scripts.specs.Phrase as phrase
+use Rattle.rap_grammar_scripts.specs.declared.rule.Rule.{Rule}
+use Rattle.rap_grammar_scripts.specs.declared.rule.Rule.TheVariants as knot
 use Rattle.rap_grammar_scripts.specs.Script.{Script, Outcome, nothing, something, block, again, give, test, ends_with, token, any, bear, report, report_next, skip, start, precede, finish, extend, abandon, split_float, after, rule, loop}
 use Rattle.rap_grammar_core.proofs.Ends.{same_flag}
 use Rattle.rap_grammar_core.proofs.Endings.{Ending, unknown, ends_in, join, gather, settle, flagged}
@@ -89,12 +89,12 @@ pub data Said : Type 0 where
 
 -- How each rule of the knot ends that begins where no node ends in a dot. An expression that takes in ranges leaves
 -- none; but one that reads like a block and ends a statement may leave the last one.
-abbrev pub said : Outcome → Phrase → Said
-said nothing (phrase.expr_bp from r bp) = at_level inside
+abbrev pub said : Outcome → Rule → Said
+said nothing (knot.ExprBp from r bp) = at_level inside
 said nothing c = never
-said something (phrase.expr_bp from r bp) = at_level (if nat_lt 2 bp then ranged else inside)
+said something (knot.ExprBp from r bp) = at_level (if nat_lt 2 bp then ranged else inside)
 said something c = at_level inside
-said block (phrase.expr_bp from r bp) = if r.prefer_stmt then at_level ranged else never
+said block (knot.ExprBp from r bp) = if r.prefer_stmt then at_level ranged else never
 said block c = never
 said (again a b) c = never
 
@@ -109,11 +109,11 @@ one_end v never l ls = []
 one_end v (at_level m) l ls = ends_in v (levels (called l m) ls) ∷ []
 
 -- whether a rule finishes no node of its caller's
-abbrev pub is_apart : Phrase → Bool
-is_apart (phrase.expr_bp true r bp) = false
+abbrev pub is_apart : Rule → Bool
+is_apart (knot.ExprBp true r bp) = false
 is_apart c = true
 
-abbrev pub rule_ends : Phrase → Level → List Bool → List (Ending Levels)
+abbrev pub rule_ends : Rule → Level → List Bool → List (Ending Levels)
 rule_ends c l ls =
     if is_apart c then one_end nothing (said nothing c) l ls
     ++ (one_end something (said something c) l ls ++ one_end block (said block c) l ls)
@@ -121,7 +121,7 @@ rule_ends c l ls =
 
 -- Where a script ends that begins at these levels. What takes a float apart, and what lets a node begin where another
 -- does, is left to proofs by hand.
-abbrev pub dot_ends : Script Phrase → Level → List Bool → List (Ending Levels)
+abbrev pub dot_ends : Script Rule → Level → List Bool → List (Ending Levels)
 dot_ends (give v) l ls = ends_in v (levels l ls) ∷ []
 dot_ends (test h s t) l ls = join same_levels (dot_ends s l ls) (dot_ends t l ls)
 dot_ends (ends_with k s t) l ls = join same_levels (dot_ends s l ls) (dot_ends t l ls)

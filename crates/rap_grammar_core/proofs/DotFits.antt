@@ -4,7 +4,7 @@ use Rattle.std.proofs.Common.{◌≡◌, ℕ, Bool, true, false, ◌&&◌, not, 
 use Rattle.rap_events.proofs.Truth.{and_left, and_right}
 use Rattle.rap_events.specs.Record.{Record}
 use Rattle.rap_grammar_scripts.specs.Expressions.{is_range}
-use Rattle.rap_grammar_scripts.specs.Phrase.{Phrase}
+use Rattle.rap_grammar_scripts.specs.declared.rule.Rule.{Rule}
 use Rattle.rap_grammar_scripts.specs.Script.{Script, Outcome, nothing, something, block, again, give, test, ends_with, token, any, bear, report, report_next, skip, start, precede, finish, extend, abandon, split_float, after, rule, loop}
 use Rattle.rap_grammar_core.proofs.Ends.{same_flag}
 use Rattle.rap_grammar_core.proofs.Endings.{Ending, unknown, gather, flagged, every, Decides, Then, Turned, joined_left, joined_right, gathered, settled, of_flags}
@@ -30,48 +30,48 @@ abbrev pub always : Next
 always rs = true
 
 -- The script ends so, where at a ranged level this is what comes next if the last node ends in a dot.
-pub data Fits : Next → Script Phrase → Level → List Bool → (Outcome → Levels → Bool) → Type 0 where
+pub data Fits : Next → Script Rule → Level → List Bool → (Outcome → Levels → Bool) → Type 0 where
   fits_give : {g : Next} {v : Outcome} {l : Level} {ls : List Bool} {f : Outcome → Levels → Bool} →
       Implies g is_range → f v (levels l ls) ≡ true → Fits g (give v) l ls f
   fits_settled : {g : Next} {v : Outcome} {ls : List Bool} {f : Outcome → Levels → Bool} →
       Never g → f v (levels inside ls) ≡ true → Fits g (give v) ranged ls f
-  fits_test : {g h : Next} {s t : Script Phrase} {l : Level} {ls : List Bool} {f : Outcome → Levels → Bool} →
+  fits_test : {g h : Next} {s t : Script Rule} {l : Level} {ls : List Bool} {f : Outcome → Levels → Bool} →
       Fits (both g h) s l ls f → Fits (but g h) t l ls f → Fits g (test h s t) l ls f
-  fits_ends_with : {g : Next} {k : ℕ} {s t : Script Phrase} {l : Level} {ls : List Bool} {f : Outcome → Levels → Bool} →
+  fits_ends_with : {g : Next} {k : ℕ} {s t : Script Rule} {l : Level} {ls : List Bool} {f : Outcome → Levels → Bool} →
       Fits g s l ls f → Fits g t l ls f → Fits g (ends_with k s t) l ls f
-  fits_token : {g : Next} {k : ℕ} {s : Script Phrase} {l : Level} {ls : List Bool} {f : Outcome → Levels → Bool} →
+  fits_token : {g : Next} {k : ℕ} {s : Script Rule} {l : Level} {ls : List Bool} {f : Outcome → Levels → Bool} →
       Fits is_range s (added l) ls f → Fits g (token k s) l ls f
-  fits_any : {g : Next} {s : Script Phrase} {l : Level} {ls : List Bool} {f : Outcome → Levels → Bool} →
+  fits_any : {g : Next} {s : Script Rule} {l : Level} {ls : List Bool} {f : Outcome → Levels → Bool} →
       Fits is_range s (added l) ls f → Fits g (any s) l ls f
-  fits_bear : {g : Next} {k : ℕ} {s : Script Phrase} {l : Level} {ls : List Bool} {f : Outcome → Levels → Bool} →
+  fits_bear : {g : Next} {k : ℕ} {s : Script Rule} {l : Level} {ls : List Bool} {f : Outcome → Levels → Bool} →
       Fits is_range s (added l) ls f → Fits g (bear k s) l ls f
-  fits_report : {g : Next} {bytes : List ℕ} {s : Script Phrase} {l : Level} {ls : List Bool}
+  fits_report : {g : Next} {bytes : List ℕ} {s : Script Rule} {l : Level} {ls : List Bool}
       {f : Outcome → Levels → Bool} → Fits is_range s (added l) ls f → Fits g (report bytes s) l ls f
-  fits_report_next : {g : Next} {bytes : List ℕ} {s : Script Phrase} {l : Level} {ls : List Bool}
+  fits_report_next : {g : Next} {bytes : List ℕ} {s : Script Rule} {l : Level} {ls : List Bool}
       {f : Outcome → Levels → Bool} → Fits is_range s (added l) ls f → Fits g (report_next bytes s) l ls f
-  fits_skip : {g : Next} {bytes : List ℕ} {s : Script Phrase} {l : Level} {ls : List Bool}
+  fits_skip : {g : Next} {bytes : List ℕ} {s : Script Rule} {l : Level} {ls : List Bool}
       {f : Outcome → Levels → Bool} → Fits is_range s (added l) ls f → Fits g (skip bytes s) l ls f
-  fits_start : {g : Next} {s : Script Phrase} {l : Level} {ls : List Bool} {f : Outcome → Levels → Bool} →
+  fits_start : {g : Next} {s : Script Rule} {l : Level} {ls : List Bool} {f : Outcome → Levels → Bool} →
       Fits is_range s inside (lowered l ∷ ls) f → Fits g (start s) l ls f
-  fits_precede : {g : Next} {s : Script Phrase} {l : Level} {ls : List Bool} {f : Outcome → Levels → Bool} →
+  fits_precede : {g : Next} {s : Script Rule} {l : Level} {ls : List Bool} {f : Outcome → Levels → Bool} →
       Fits is_range s free (before_last l ∷ ls) f → Fits g (precede s) l ls f
-  fits_finish : {g : Next} {k : ℕ} {s : Script Phrase} {l : Level} {c : Bool} {ls : List Bool}
+  fits_finish : {g : Next} {k : ℕ} {s : Script Rule} {l : Level} {c : Bool} {ls : List Bool}
       {f : Outcome → Levels → Bool} → Fits is_range s (raised c) ls f → Fits g (finish k s) l (c ∷ ls) f
-  fits_extend : {g : Next} {s : Script Phrase} {l : Level} {c : Bool} {ls : List Bool} {f : Outcome → Levels → Bool} →
+  fits_extend : {g : Next} {s : Script Rule} {l : Level} {c : Bool} {ls : List Bool} {f : Outcome → Levels → Bool} →
       Fits g s (extended l c) ls f → Fits g (extend s) l (c ∷ ls) f
-  fits_abandon : {g : Next} {s : Script Phrase} {l : Level} {c : Bool} {ls : List Bool} {f : Outcome → Levels → Bool} →
+  fits_abandon : {g : Next} {s : Script Rule} {l : Level} {c : Bool} {ls : List Bool} {f : Outcome → Levels → Bool} →
       Fits is_range s (merged l c) ls f → Fits g (abandon s) l (c ∷ ls) f
-  fits_split : {g : Next} {s t : Script Phrase} {l : Level} {ls : List Bool} {f : Outcome → Levels → Bool} →
+  fits_split : {g : Next} {s t : Script Rule} {l : Level} {ls : List Bool} {f : Outcome → Levels → Bool} →
       Fits always s ranged ls f → Fits is_range t inside ls f → Fits g (split_float s t) l (true ∷ ls) f
-  fits_after : {g : Next} {s : Script Phrase} {h : Outcome → Script Phrase} {l : Level} {ls : List Bool}
+  fits_after : {g : Next} {s : Script Rule} {h : Outcome → Script Rule} {l : Level} {ls : List Bool}
       {e f : Outcome → Levels → Bool} → Fits g s l ls e →
       ((v : Outcome) (m : Level) (ms : List Bool) → e v (levels m ms) ≡ true → Fits is_range (h v) m ms f) →
       Fits g (after s h) l ls f
-  fits_rule : {g : Next} {c : Phrase} {h : Outcome → Script Phrase} {l : Level} {ls : List Bool}
+  fits_rule : {g : Next} {c : Rule} {h : Outcome → Script Rule} {l : Level} {ls : List Bool}
       {f : Outcome → Levels → Bool} → is_apart c ≡ true →
       ((v : Outcome) (m : Level) → said v c ≡ at_level m → Fits is_range (h v) (called l m) ls f) →
       Fits g (rule c h) l ls f
-  fits_loop : {g : Next} {h : Bool → Bool → Script Phrase} {a b : Bool} {l m : Level} {ls : List Bool}
+  fits_loop : {g : Next} {h : Bool → Bool → Script Rule} {a b : Bool} {l m : Level} {ls : List Bool}
       {f : Outcome → Levels → Bool} → Implies g is_range → within l m ≡ true →
       ((c d : Bool) → Fits is_range (h c d) m ls (Turned (as_good m ls) f)) → Fits g (loop h a b) l ls f
 
@@ -137,12 +137,12 @@ follows_rest f h v (at_level m) l ls r e =
     joined_right same_levels f (h v (levels (called l m) ls)) (gather same_levels h r) e
 
 -- the ends of a rule, with what follows them
-record Ruled (f : Outcome → Levels → Bool) (h : Following) (c : Phrase) (l : Level) (ls : List Bool) (b : Bool) :
+record Ruled (f : Outcome → Levels → Bool) (h : Following) (c : Rule) (l : Level) (ls : List Bool) (b : Bool) :
     Type 0 where
   apart : b ≡ true
   on : (v : Outcome) (m : Level) → said v c ≡ at_level m → every f (h v (levels (called l m) ls)) ≡ true
 
-ruled_on : (f : Outcome → Levels → Bool) (h : Following) (c : Phrase) (l : Level) (ls : List Bool) →
+ruled_on : (f : Outcome → Levels → Bool) (h : Following) (c : Rule) (l : Level) (ls : List Bool) →
     every f (gather same_levels h (one_end nothing (said nothing c) l ls
     ++ (one_end something (said something c) l ls ++ one_end block (said block c) l ls))) ≡ true →
     (v : Outcome) (m : Level) → said v c ≡ at_level m → every f (h v (levels (called l m) ls)) ≡ true
@@ -161,7 +161,7 @@ ruled_on f h c l ls e block m i =
     (one_end something (said something c) l ls ++ one_end block (said block c) l ls) e)))
 ruled_on f h c l ls e (again a b) m i = absurd cc
 
-ruled : (f : Outcome → Levels → Bool) (h : Following) (c : Phrase) (l : Level) (ls : List Bool) (b : Bool) →
+ruled : (f : Outcome → Levels → Bool) (h : Following) (c : Rule) (l : Level) (ls : List Bool) (b : Bool) →
     every f (gather same_levels h (if b then one_end nothing (said nothing c) l ls
     ++ (one_end something (said something c) l ls ++ one_end block (said block c) l ls) else unknown ∷ [])) ≡ true →
     Ruled f h c l ls b
@@ -169,7 +169,7 @@ ruled f h c l ls true e = record { apart = refl; on = ruled_on f h c l ls e }
 ruled f h c l ls false e = absurd cc
 
 -- A script ends as is computed.
-pub computed : (s : Script Phrase) (g : Next) (l : Level) (ls : List Bool) (f : Outcome → Levels → Bool) →
+pub computed : (s : Script Rule) (g : Next) (l : Level) (ls : List Bool) (f : Outcome → Levels → Bool) →
     Implies g is_range → every f (dot_ends s l ls) ≡ true → Fits g s l ls f
 computed (give v) g l ls f i e = fits_give i (and_left _ _ e)
 computed (test h s t) g l ls f i e =

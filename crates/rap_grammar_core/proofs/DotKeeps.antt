@@ -9,7 +9,7 @@ use Rattle.rap_events.specs.Record.{Record}
 use Rattle.rap_events.specs.State.{but_last, last_children, skipped}
 use Rattle.rap_grammar_scripts.specs.Expressions.{is_range}
 use Rattle.rap_grammar_scripts.specs.Knot.{script_of}
-use Rattle.rap_grammar_scripts.specs.Phrase.{Phrase}
+use Rattle.rap_grammar_scripts.specs.declared.rule.Rule.{Rule}
 use Rattle.rap_grammar_scripts.specs.Script.{Script, Outcome, Spot, Runs, gives, passes, fails, ends_so, ends_else, takes, takes_any, bears, reports, reports_next, skips, starts, precedes, finishes, extends, abandons, splits_dotted, splits_whole, follows, obeys, turns, stops, newest, last_tree}
 use Rattle.rap_grammar_core.specs.Dots.{dots_inside}
 use Rattle.rap_grammar_core.proofs.Endings.{of_stop}
@@ -326,29 +326,29 @@ abbrev pub within_said : Level → Said → Bool
 within_said m never = false
 within_said m (at_level k) = within m k
 
-abbrev pub as_said : Phrase → Outcome → Levels → Bool
+abbrev pub as_said : Rule → Outcome → Levels → Bool
 as_said c v (levels m []) = within_said m (said v c)
 as_said c v (levels m (d ∷ ms)) = false
 
-record CallStart (c : Phrase) (v : Outcome) (m : Level) (ms : List Bool) : Type 0 where
+record CallStart (c : Rule) (v : Outcome) (m : Level) (ms : List Bool) : Type 0 where
   level : Level
   is : said v c ≡ at_level level
   near : within m level ≡ true
   alone : ms ≡ []
 
-start_at : (c : Phrase) (v : Outcome) (m : Level) (s : Said) → said v c ≡ s → within_said m s ≡ true → CallStart c v m []
+start_at : (c : Rule) (v : Outcome) (m : Level) (s : Said) → said v c ≡ s → within_said m s ≡ true → CallStart c v m []
 start_at c v m never i h = absurd cc
 start_at c v m (at_level k) i h = record { level = k; is = i; near = h; alone = refl }
 
-call_start : (c : Phrase) (v : Outcome) (m : Level) (ms : List Bool) → as_said c v (levels m ms) ≡ true → CallStart c v m ms
+call_start : (c : Rule) (v : Outcome) (m : Level) (ms : List Bool) → as_said c v (levels m ms) ≡ true → CallStart c v m ms
 call_start c v m [] h = start_at c v m (said v c) refl h
 call_start c v m (d ∷ ms) h = absurd cc
 
 -- The rules of the knot end as their table says.
 abbrev pub Sound : Type 0
-Sound = (c : Phrase) → is_apart c ≡ true → Fits is_range (script_of c) inside [] (as_said c)
+Sound = (c : Rule) → is_apart c ≡ true → Fits is_range (script_of c) inside [] (as_said c)
 
-pub keeps : Sound → {s : Script Phrase} {p q : Spot} {v : Outcome} → Runs script_of s p q v →
+pub keeps : Sound → {s : Script Rule} {p q : Spot} {v : Outcome} → Runs script_of s p q v →
     (g : Forest → Type 0) → Good g → (b : List Forest → Type 0) {n : Next} {l : Level} {ls : List Bool}
     {f : Outcome → Levels → Bool} → Fits n s l ls f → Stand g b n l ls p → Ended g b f q v
 keeps x {p = p} gives g o b (fits_give {g = n} {l = l} {ls = ls} i e) k = record {
@@ -508,7 +508,7 @@ left_inside v inside (c ∷ ls) rest f h a = a
 left_inside v ranged ls rest f h a = absurd cc
 left_inside v free ls rest f h a = absurd cc
 
-pub kept_inside : Sound → {s : Script Phrase} {p q : Spot} {v : Outcome} → Runs script_of s p q v →
+pub kept_inside : Sound → {s : Script Rule} {p q : Spot} {v : Outcome} → Runs script_of s p q v →
     Fits is_range s inside [] leaves_inside → Inside p.forest → Inside q.forest
 kept_inside x {q = q} {v = v} r t h =
     let y = keeps x r Inside good_inside (λ fs. Unit {0}) t (record { top = h; older = tt }) in

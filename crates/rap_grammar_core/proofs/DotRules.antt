@@ -16,8 +16,8 @@ use Rattle.rap_grammar_scripts.specs.Blocks.{let_stmt}
 use Rattle.rap_base.specs.NodeKind.{LET_STMT}
 use Rattle.rap_grammar_scripts.specs.Knot.{script_of}
 use Rattle.rap_grammar_scripts.specs.Operator.{operator_at, operator_in, by_operator, by_operator_of}
-use Rattle.rap_grammar_scripts.specs.Phrase.{Phrase}
-use Rattle.rap_grammar_scripts.specs.Phrase as phrase
+use Rattle.rap_grammar_scripts.specs.declared.rule.Rule.{Rule}
+use Rattle.rap_grammar_scripts.specs.declared.rule.Rule.TheVariants as knot
 use Rattle.rap_grammar_scripts.specs.Script.{Script, Outcome, nothing, something, block, again, give, test, finish, extend, abandon}
 use Rattle.rap_grammar_scripts.specs.Statements.{ends_block, expr_stmt_end, expr_as_stmt, stmt}
 use Rattle.rap_grammar_scripts.specs.Words.{done, if_some, is_block, call, ◌▸◌}
@@ -59,12 +59,12 @@ range_power rs h =
     ap power (at_dots (next_kind rs) rs (range_first rs h)) ∙ power_of_dots (is_at DOT2EQ rs) (is_at DOT2 rs) h
 
 -- What goes on after both tests.
-tested : {n h : Next} {s t : Script Phrase} {l : Level} {ls : List Bool} {f : Outcome → Levels → Bool} →
+tested : {n h : Next} {s t : Script Rule} {l : Level} {ls : List Bool} {f : Outcome → Levels → Bool} →
     Implies n is_range → (Implies (both n h) is_range → Fits (both n h) s l ls f) →
     (Implies (but n h) is_range → Fits (but n h) t l ls f) → Fits n (test h s t) l ls f
 tested {n = n} {h = h} i s t = fits_test (s (both_implies n h is_range i)) (t (but_implies n h is_range i))
 
-by_computing : {n : Next} {s : Script Phrase} {l : Level} {ls : List Bool} {f : Outcome → Levels → Bool} →
+by_computing : {n : Next} {s : Script Rule} {l : Level} {ls : List Bool} {f : Outcome → Levels → Bool} →
     Implies n is_range → every f (dot_ends s l ls) ≡ true → Fits n s l ls f
 by_computing {n = n} {s = s} {l = l} {ls = ls} {f = f} i e = computed s n l ls f i e
 
@@ -180,7 +180,7 @@ abbrev climb_end : Bool → Outcome → Levels → Bool
 climb_end true v n = as_good ranged [] n
 climb_end false v n = as_good inside [] n
 
-abbrev all_rows : (Outcome → Levels → Bool) → (ℕ → Script Phrase) → List (ℕ × ℕ) → Bool
+abbrev all_rows : (Outcome → Levels → Bool) → (ℕ → Script Rule) → List (ℕ × ℕ) → Bool
 all_rows f h [] = true
 all_rows f h (row ∷ rows) = every f (dot_ends (h row.0) ranged []) && all_rows f h rows
 
@@ -192,7 +192,7 @@ later_row : (b : Bool) (k m : ℕ) → not b ≡ true → nat_lt 0 (if b then k 
 later_row true k m h e = absurd cc
 later_row false k m h e = e
 
-by_rows : (rows : List (ℕ × ℕ)) (h : ℕ → Script Phrase) (n : Next) (f : Outcome → Levels → Bool) →
+by_rows : (rows : List (ℕ × ℕ)) (h : ℕ → Script Rule) (n : Next) (f : Outcome → Levels → Bool) →
     Implies n is_range → ((rs : List Record) → n rs ≡ true → nat_lt 0 (power_in rows (operator_at rs)) ≡ true) →
     all_rows f h rows ≡ true → f something (levels inside []) ≡ true → Fits n (by_operator_of rows h) ranged [] f
 by_rows [] h n f i p e s = fits_settled (λ rs. none_left (n rs) false refl (p rs)) s
@@ -238,7 +238,7 @@ unfolding climb climb_turn_end
 climb_fits r bp w h l i near = fits_loop i near (climbs r bp w h)
 
 climbed : (r : Restrictions) (bp : ℕ) (w : Bool) → nat_lt 2 bp ≡ w → (l : Level) (ls : List Bool) (v : Outcome) →
-    climb_end w v (levels l ls) ≡ true → as_said (phrase.expr_bp false r bp) something (levels l ls) ≡ true
+    climb_end w v (levels l ls) ≡ true → as_said (knot.ExprBp r bp) something (levels l ls) ≡ true
 climbed r bp true h l [] v e = rw h (and_left (within l ranged) true e)
 climbed r bp false h l [] v e = rw h (and_left (within l inside) true e)
 climbed r bp true h l (c ∷ ls) v e = let z = and_right (within l ranged) false e in absurd cc
@@ -246,7 +246,7 @@ climbed r bp false h l (c ∷ ls) v e = let z = and_right (within l inside) fals
 
 -- the operators behind an operand
 operators_on : {n : Next} (r : Restrictions) (bp : ℕ) (l : Level) → Implies n is_range → within l ranged ≡ true →
-    Fits n (call (climb r bp) ▸ done) l [] (as_said (phrase.expr_bp false r bp))
+    Fits n (call (climb r bp) ▸ done) l [] (as_said (knot.ExprBp r bp))
 operators_on r bp l i near =
     fits_after (climb_fits r bp (nat_lt 2 bp) refl l i near)
     (λ v m ms e. fits_give range_implies (climbed r bp (nat_lt 2 bp) refl m ms v e))
@@ -259,7 +259,7 @@ extended_near free h = absurd cc
 operand_on : (a b : Bool) (bp : ℕ) (v : Outcome) (l : Level) (ls : List Bool) → operand_end v (levels l ls) ≡ true →
     Fits is_range (if_some v (extend ▸ (if b && is_block v then give block
     else (call (climb (restrictions a b) bp) ▸ done))) (abandon ▸ give nothing)) l ls
-    (as_said (phrase.expr_bp false (restrictions a b) bp))
+    (as_said (knot.ExprBp (restrictions a b) bp))
 operand_on a b bp nothing l ls e =
     rw (is_inside l (good_level inside (true ∷ []) l ls e), good_lower inside (true ∷ []) l ls e)
     (by_computing range_implies refl)
@@ -281,7 +281,7 @@ operand_on a false bp block l ls e =
 operand_on a b bp (again c d) l ls e = absurd cc
 
 from_node : {n : Next} (a b : Bool) (bp : ℕ) → Implies n is_range →
-    Fits n (expr_from (restrictions a b) bp) inside (true ∷ []) (as_said (phrase.expr_bp false (restrictions a b) bp))
+    Fits n (expr_from (restrictions a b) bp) inside (true ∷ []) (as_said (knot.ExprBp (restrictions a b) bp))
 unfolding scripts
 from_node a b bp i =
     tested i (λ j. fits_after (left_side a b j) (operand_on a b bp)) (λ j. by_computing j refl)
@@ -300,7 +300,7 @@ flat_lower block l ls e = good_lower inside (true ∷ []) l ls e
 flat_lower (again a b) l ls e = absurd cc
 
 -- behind attributes
-attributed : {n : Next} {s : Script Phrase} {f : Outcome → Levels → Bool} → Implies n is_range →
+attributed : {n : Next} {s : Script Rule} {f : Outcome → Levels → Bool} → Implies n is_range →
     Fits is_range s inside (true ∷ []) f → Fits n (call outer_attrs ▸ s) inside (true ∷ []) f
 unfolding scripts
 attributed i s =
@@ -308,8 +308,8 @@ attributed i s =
     (λ v l ls e. rw (flat_level v l ls e, flat_lower v l ls e) s)
 
 an_expression : (a b : Bool) (bp : ℕ) →
-    Fits is_range (script_of (phrase.expr_bp false (restrictions a b) bp)) inside []
-    (as_said (phrase.expr_bp false (restrictions a b) bp))
+    Fits is_range (script_of (knot.ExprBp (restrictions a b) bp)) inside []
+    (as_said (knot.ExprBp (restrictions a b) bp))
 unfolding scripts
 an_expression a b bp = fits_start (attributed range_implies (from_node a b bp range_implies))
 
@@ -329,7 +329,7 @@ block_goes_on semi rs =
 
 -- an expression that ends a statement
 ended : (semi : Semicolon) (like : Bool) (l : Level) → within l ranged ≡ true →
-    Fits is_range (expr_stmt_end semi like) l [] (as_said (phrase.stmt semi))
+    Fits is_range (expr_stmt_end semi like) l [] (as_said (knot.Stmt semi))
 unfolding scripts
 ended kind.Required true inside h = by_computing range_implies refl
 ended kind.Required false inside h = by_computing range_implies refl
@@ -351,8 +351,8 @@ near_ranged ranged h = absurd cc
 near_ranged free h = absurd cc
 
 value_on : (semi : Semicolon) (v : Outcome) (l : Level) (ls : List Bool) →
-    as_said (phrase.expr_bp false as_statement 1) v (levels l ls) ≡ true →
-    Fits is_range (if_some v (expr_stmt_end semi (is_block v)) done) l ls (as_said (phrase.stmt semi))
+    as_said (knot.ExprBp as_statement 1) v (levels l ls) ≡ true →
+    Fits is_range (if_some v (expr_stmt_end semi (is_block v)) done) l ls (as_said (knot.Stmt semi))
 value_on semi v l (c ∷ ls) e = absurd cc
 value_on semi nothing l [] e = fits_give range_implies e
 value_on semi something l [] e = ended semi false l (near_ranged l e)
@@ -367,13 +367,13 @@ item_end block n = false
 item_end (again a b) n = false
 
 value : {n : Next} (semi : Semicolon) → Implies n is_range →
-    Fits n (expr_as_stmt semi) inside (true ∷ []) (as_said (phrase.stmt semi))
+    Fits n (expr_as_stmt semi) inside (true ∷ []) (as_said (knot.Stmt semi))
 unfolding scripts
 value semi i =
     tested i (λ j. fits_after (from_node false true 1 j) (value_on semi)) (λ j. by_computing j refl)
 
 no_item_on : (semi : Semicolon) (v : Outcome) (l : Level) (ls : List Bool) → item_end v (levels l ls) ≡ true →
-    Fits is_range (if_some v done (expr_as_stmt semi)) l ls (as_said (phrase.stmt semi))
+    Fits is_range (if_some v done (expr_as_stmt semi)) l ls (as_said (knot.Stmt semi))
 no_item_on semi nothing l ls e =
     rw (is_inside l (good_level inside (true ∷ []) l ls e), good_lower inside (true ∷ []) l ls e)
     (value semi range_implies)
@@ -384,7 +384,7 @@ no_item_on semi block l ls e = absurd cc
 no_item_on semi (again a b) l ls e = absurd cc
 
 let_ends : (semi : Semicolon) →
-    every (as_said (phrase.stmt semi)) (dot_ends (call (let_stmt semi) ▸ finish LET_STMT ▸ done) inside (true ∷ []))
+    every (as_said (knot.Stmt semi)) (dot_ends (call (let_stmt semi) ▸ finish LET_STMT ▸ done) inside (true ∷ []))
     ≡ true
 unfolding scripts
 let_ends kind.Required = refl
@@ -395,7 +395,7 @@ item_ends : every item_end (dot_ends (opt_item false) inside (true ∷ [])) ≡ 
 unfolding scripts
 item_ends = refl
 
-a_statement : (semi : Semicolon) → Fits is_range (stmt semi) inside [] (as_said (phrase.stmt semi))
+a_statement : (semi : Semicolon) → Fits is_range (stmt semi) inside [] (as_said (knot.Stmt semi))
 unfolding stmt
 a_statement semi =
     tested range_implies (λ i. fits_token (fits_give range_implies refl))
@@ -405,113 +405,113 @@ a_statement semi =
     (λ j. fits_after (computed (opt_item false) _ inside (true ∷ []) item_end j item_ends) (no_item_on semi)))))
 
 -- the rules that are computed
-abbrev Computes : Phrase → Type 0
+abbrev Computes : Rule → Type 0
 Computes c = every (as_said c) (dot_ends (script_of c) inside []) ≡ true
 
-type_with_bounds : Computes (phrase.type_with_bounds_cond true)
+type_with_bounds : Computes (knot.TypeWithBoundsCond true)
 unfolding scripts
 type_with_bounds = refl
 
-type_without_bounds : Computes (phrase.type_with_bounds_cond false)
+type_without_bounds : Computes (knot.TypeWithBoundsCond false)
 unfolding scripts
 type_without_bounds = refl
 
-of_trait_path : Computes phrase.path_type_bounds
+of_trait_path : Computes knot.PathTypeBounds
 unfolding scripts
 of_trait_path = refl
 
-of_generic_argument : Computes phrase.generic_arg
+of_generic_argument : Computes knot.GenericArg
 unfolding scripts
 of_generic_argument = refl
 
-of_generic_parameters : Computes phrase.generic_param_list
+of_generic_parameters : Computes knot.GenericParamList
 unfolding scripts
 of_generic_parameters = refl
 
-of_bound_list : Computes phrase.bounds_without_colon
+of_bound_list : Computes knot.BoundsWithoutColon
 unfolding scripts
 of_bound_list = refl
 
-of_where_part : Computes phrase.where_clause
+of_where_part : Computes knot.WhereClause
 unfolding scripts
 of_where_part = refl
 
-of_any_pattern : Computes phrase.pattern
+of_any_pattern : Computes knot.Pattern
 unfolding scripts
 of_any_pattern = refl
 
-of_single_pattern : Computes phrase.pattern_single
+of_single_pattern : Computes knot.PatternSingle
 unfolding scripts
 of_single_pattern = refl
 
-of_pattern_of_arm : Computes phrase.arm_pattern
+of_pattern_of_arm : Computes knot.ArmPattern
 unfolding scripts
 of_pattern_of_arm = refl
 
-of_if_behind_else : Computes phrase.if_expr
+of_if_behind_else : Computes knot.IfExpr
 unfolding scripts
 of_if_behind_else = refl
 
-of_item_to_brace_in_extern : Computes (phrase.item_or_macro true true)
+of_item_to_brace_in_extern : Computes (knot.ItemOrMacro true true)
 unfolding scripts
 of_item_to_brace_in_extern = refl
 
-of_item_to_brace : Computes (phrase.item_or_macro true false)
+of_item_to_brace : Computes (knot.ItemOrMacro true false)
 unfolding scripts
 of_item_to_brace = refl
 
-of_item_in_extern : Computes (phrase.item_or_macro false true)
+of_item_in_extern : Computes (knot.ItemOrMacro false true)
 unfolding scripts
 of_item_in_extern = refl
 
-of_item : Computes (phrase.item_or_macro false false)
+of_item : Computes (knot.ItemOrMacro false false)
 unfolding scripts
 of_item = refl
 
-of_tree_of_use : Computes phrase.use_tree
+of_tree_of_use : Computes knot.UseTree
 unfolding scripts
 of_tree_of_use = refl
 
-of_meta_item : Computes phrase.meta
+of_meta_item : Computes knot.Meta
 unfolding scripts
 of_meta_item = refl
 
-of_condition : Computes phrase.cfg_predicate
+of_condition : Computes knot.CfgPredicate
 unfolding scripts
 of_condition = refl
 
-of_bracketed : Computes phrase.token_tree
+of_bracketed : Computes knot.TokenTree
 unfolding scripts
 of_bracketed = refl
 
 -- all rules
-from_computed : (c : Phrase) → Computes c → Fits is_range (script_of c) inside [] (as_said c)
+from_computed : (c : Rule) → Computes c → Fits is_range (script_of c) inside [] (as_said c)
 from_computed c e = computed (script_of c) is_range inside [] (as_said c) range_implies e
 
-statement_said : (semi : Semicolon) → Fits is_range (script_of (phrase.stmt semi)) inside [] (as_said (phrase.stmt semi))
+statement_said : (semi : Semicolon) → Fits is_range (script_of (knot.Stmt semi)) inside [] (as_said (knot.Stmt semi))
 unfolding script_of
 statement_said semi = a_statement semi
 
 pub dots_sound : Sound
-dots_sound (phrase.expr_bp true r bp) h = absurd cc
-dots_sound (phrase.expr_bp false r bp) h = an_expression r.forbid_structs r.prefer_stmt bp
-dots_sound (phrase.stmt semi) h = statement_said semi
-dots_sound (phrase.type_with_bounds_cond true) h = from_computed (phrase.type_with_bounds_cond true) type_with_bounds
-dots_sound (phrase.type_with_bounds_cond false) h = from_computed (phrase.type_with_bounds_cond false) type_without_bounds
-dots_sound phrase.path_type_bounds h = from_computed phrase.path_type_bounds of_trait_path
-dots_sound phrase.generic_arg h = from_computed phrase.generic_arg of_generic_argument
-dots_sound phrase.generic_param_list h = from_computed phrase.generic_param_list of_generic_parameters
-dots_sound phrase.bounds_without_colon h = from_computed phrase.bounds_without_colon of_bound_list
-dots_sound phrase.where_clause h = from_computed phrase.where_clause of_where_part
-dots_sound phrase.pattern h = from_computed phrase.pattern of_any_pattern
-dots_sound phrase.pattern_single h = from_computed phrase.pattern_single of_single_pattern
-dots_sound phrase.arm_pattern h = from_computed phrase.arm_pattern of_pattern_of_arm
-dots_sound phrase.if_expr h = from_computed phrase.if_expr of_if_behind_else
-dots_sound (phrase.item_or_macro true true) h = from_computed (phrase.item_or_macro true true) of_item_to_brace_in_extern
-dots_sound (phrase.item_or_macro true false) h = from_computed (phrase.item_or_macro true false) of_item_to_brace
-dots_sound (phrase.item_or_macro false true) h = from_computed (phrase.item_or_macro false true) of_item_in_extern
-dots_sound (phrase.item_or_macro false false) h = from_computed (phrase.item_or_macro false false) of_item
-dots_sound phrase.use_tree h = from_computed phrase.use_tree of_tree_of_use
-dots_sound phrase.meta h = from_computed phrase.meta of_meta_item
-dots_sound phrase.cfg_predicate h = from_computed phrase.cfg_predicate of_condition
-dots_sound phrase.token_tree h = from_computed phrase.token_tree of_bracketed
+dots_sound (knot.ExprBp true r bp) h = absurd cc
+dots_sound (knot.ExprBp r bp) h = an_expression r.forbid_structs r.prefer_stmt bp
+dots_sound (knot.Stmt semi) h = statement_said semi
+dots_sound (knot.TypeWithBoundsCond true) h = from_computed (knot.TypeWithBoundsCond true) type_with_bounds
+dots_sound (knot.TypeWithBoundsCond false) h = from_computed (knot.TypeWithBoundsCond false) type_without_bounds
+dots_sound knot.PathTypeBounds h = from_computed knot.PathTypeBounds of_trait_path
+dots_sound knot.GenericArg h = from_computed knot.GenericArg of_generic_argument
+dots_sound knot.GenericParamList h = from_computed knot.GenericParamList of_generic_parameters
+dots_sound knot.BoundsWithoutColon h = from_computed knot.BoundsWithoutColon of_bound_list
+dots_sound knot.WhereClause h = from_computed knot.WhereClause of_where_part
+dots_sound knot.Pattern h = from_computed knot.Pattern of_any_pattern
+dots_sound knot.PatternSingle h = from_computed knot.PatternSingle of_single_pattern
+dots_sound knot.ArmPattern h = from_computed knot.ArmPattern of_pattern_of_arm
+dots_sound knot.IfExpr h = from_computed knot.IfExpr of_if_behind_else
+dots_sound (knot.ItemOrMacro true true) h = from_computed (knot.ItemOrMacro true true) of_item_to_brace_in_extern
+dots_sound (knot.ItemOrMacro true false) h = from_computed (knot.ItemOrMacro true false) of_item_to_brace
+dots_sound (knot.ItemOrMacro false true) h = from_computed (knot.ItemOrMacro false true) of_item_in_extern
+dots_sound (knot.ItemOrMacro false false) h = from_computed (knot.ItemOrMacro false false) of_item
+dots_sound knot.UseTree h = from_computed knot.UseTree of_tree_of_use
+dots_sound knot.Meta h = from_computed knot.Meta of_meta_item
+dots_sound knot.CfgPredicate h = from_computed knot.CfgPredicate of_condition
+dots_sound knot.TokenTree h = from_computed knot.TokenTree of_bracketed

@@ -1,7 +1,7 @@
 -- Where a script ends, computed: by which outcomes, with how many open nodes, and whether it leaves older ones alone.
 use Rattle.std.specs.Prelude.{ℕ, zero, suc, Bool, true, false, ◌&&◌, ◌||◌, ◌==◌, List, [], ◌∷◌, if◌then◌else◌}
-use Rattle.rap_grammar_scripts.specs.Phrase.{Phrase}
-use Rattle.rap_grammar_scripts.specs.Phrase as phrase
+use Rattle.rap_grammar_scripts.specs.declared.rule.Rule.{Rule}
+use Rattle.rap_grammar_scripts.specs.declared.rule.Rule.TheVariants as knot
 use Rattle.rap_grammar_scripts.specs.Script.{Script, Outcome, nothing, something, block, again, give, test, ends_with, token, any, bear, report, report_next, skip, start, precede, finish, extend, abandon, split_float, after, rule, loop}
 
 -- an end by an outcome, with so many open nodes; or an older node is finished, or one begins before it
@@ -54,24 +54,24 @@ abbrev pub flagged : (Bool → Bool → List End) → List End
 flagged h = join (join (h true true) (h true false)) (join (h false true) (h false false))
 
 -- by which outcomes a rule of the knot ends
-abbrev pub outcomes : Phrase → List Outcome
-outcomes (phrase.expr_bp from r bp) = nothing ∷ something ∷ block ∷ []
-outcomes (phrase.type_with_bounds_cond allow_bounds) = something ∷ []
-outcomes phrase.path_type_bounds = something ∷ []
-outcomes phrase.generic_arg = something ∷ []
-outcomes phrase.generic_param_list = something ∷ []
-outcomes phrase.bounds_without_colon = something ∷ []
-outcomes phrase.where_clause = something ∷ []
-outcomes phrase.pattern = something ∷ []
-outcomes phrase.pattern_single = something ∷ []
-outcomes phrase.arm_pattern = something ∷ []
-outcomes (phrase.stmt semicolon) = something ∷ []
-outcomes phrase.if_expr = something ∷ []
-outcomes (phrase.item_or_macro stop_on_r_curly is_in_extern) = something ∷ []
-outcomes phrase.use_tree = something ∷ []
-outcomes phrase.meta = something ∷ []
-outcomes phrase.cfg_predicate = something ∷ []
-outcomes phrase.token_tree = something ∷ []
+abbrev pub outcomes : Rule → List Outcome
+outcomes (knot.ExprBp from r bp) = nothing ∷ something ∷ block ∷ []
+outcomes (knot.TypeWithBoundsCond allow_bounds) = something ∷ []
+outcomes knot.PathTypeBounds = something ∷ []
+outcomes knot.GenericArg = something ∷ []
+outcomes knot.GenericParamList = something ∷ []
+outcomes knot.BoundsWithoutColon = something ∷ []
+outcomes knot.WhereClause = something ∷ []
+outcomes knot.Pattern = something ∷ []
+outcomes knot.PatternSingle = something ∷ []
+outcomes knot.ArmPattern = something ∷ []
+outcomes (knot.Stmt semicolon) = something ∷ []
+outcomes knot.IfExpr = something ∷ []
+outcomes (knot.ItemOrMacro stop_on_r_curly is_in_extern) = something ∷ []
+outcomes knot.UseTree = something ∷ []
+outcomes knot.Meta = something ∷ []
+outcomes knot.CfgPredicate = something ∷ []
+outcomes knot.TokenTree = something ∷ []
 
 abbrev pub all_at : ℕ → List Outcome → List End
 all_at n [] = []
@@ -80,14 +80,14 @@ all_at n (v ∷ vs) = at_end v n ∷ all_at n vs
 -- Where a rule of the knot ends that begins with so many open nodes: with as many. An item only adds to the newest
 -- forest; another may begin a node around what stands in it, so that forest must be one of an open node. An expression
 -- that goes on from a node of its caller's finishes that, and no script comes to it through the knot.
-abbrev pub rule_ends : Phrase → ℕ → List End
-rule_ends (phrase.expr_bp true r bp) n = bad ∷ []
-rule_ends (phrase.item_or_macro a b) n = all_at n (outcomes (phrase.item_or_macro a b))
+abbrev pub rule_ends : Rule → ℕ → List End
+rule_ends (knot.ExprBp true r bp) n = bad ∷ []
+rule_ends (knot.ItemOrMacro a b) n = all_at n (outcomes (knot.ItemOrMacro a b))
 rule_ends c zero = bad ∷ []
 rule_ends c (suc n) = all_at (suc n) (outcomes c)
 
 -- where a script ends that begins with so many open nodes
-abbrev pub ends : Script Phrase → ℕ → List End
+abbrev pub ends : Script Rule → ℕ → List End
 ends (give v) n = at_end v n ∷ []
 ends (test h s t) n = join (ends s n) (ends t n)
 ends (ends_with k s t) n = join (ends s n) (ends t n)
@@ -119,5 +119,5 @@ every f (bad ∷ l) = false
 every f (at_end v j ∷ l) = f v j && every f l
 
 -- as many nodes are open at the end as at the beginning, and it leaves the older ones alone
-abbrev pub level : ℕ → Script Phrase → Bool
+abbrev pub level : ℕ → Script Rule → Bool
 level n s = every (λ v j. j == n) (ends s n)

@@ -16,7 +16,7 @@ use Rattle.rap_grammar_scripts.specs.Items.{items, mod_contents, item_list, mod_
 use Rattle.rap_grammar_scripts.specs.Knot.{script_of}
 use Rattle.rap_grammar_scripts.specs.Modifiers.{modifiers, opt_impl_restriction, qualifiers, safety, opt_abi, auto_or_default, opt_default, modifier, modifier_as}
 use Rattle.rap_grammar_scripts.specs.Params.{param_list_fn_def, fn_def_params, marked_param, first_param, list_, opt_self_param, fn_def_param, param_type, variadic_param, after_param, params, attributed_param, is_self_value}
-use Rattle.rap_grammar_scripts.specs.Phrase.{Phrase}
+use Rattle.rap_grammar_scripts.specs.declared.rule.Rule.{Rule}
 use Rattle.rap_grammar_scripts.specs.Script.{Script, Outcome, nothing, something, again, Runs, gives, passes, fails, takes, starts, finishes, abandons, follows, obeys, turns, stops}
 use Rattle.rap_grammar_scripts.specs.TypeParts.{ascription}
 use Rattle.rap_grammar_scripts.specs.declared.arguments.Flavor.TheVariants as flavor
@@ -26,12 +26,12 @@ use Rattle.rap_grammar_core.proofs.Operators.{differ, differ_back}
 use Rattle.rap_grammar_core.proofs.Ways.{Leads, no_attributes, not_first}
 
 -- the same with any outcome
-abbrev pub Goes : Outcome → Script Phrase → List Forest → List Record → Forest → List Record → Forest → Type 0
+abbrev pub Goes : Outcome → Script Rule → List Forest → List Record → Forest → List Record → Forest → Type 0
 Goes v s b rs f l g =
     Runs script_of s (record { rest = rs; forest = f; below = b }) (record { rest = l; forest = g; below = b }) v
 
 -- a script that ends the newest open node, which has a forest already
-abbrev pub Ends : Script Phrase → List Forest → Forest → List Record → Forest → List Record → Forest → Type 0
+abbrev pub Ends : Script Rule → List Forest → Forest → List Record → Forest → List Record → Forest → Type 0
 Ends s b f rs x l g =
     Runs script_of s (record { rest = rs; forest = x; below = f ∷ b }) (record {
       rest = l;
@@ -45,7 +45,7 @@ pub no_attribute : (test : ℕ → Bool) (k : ℕ) → test k ≡ true → test 
     is_outer_attr_first k ≡ false
 no_attribute test k h p d = rw (differ_back test k POUND h p, differ_back test k OUTER_DOC_COMMENT h d) refl
 
-abbrev pub EndsNothing : Script Phrase → List Forest → Forest → List Record → Forest → List Record → Forest → Type 0
+abbrev pub EndsNothing : Script Rule → List Forest → Forest → List Record → Forest → List Record → Forest → Type 0
 EndsNothing s b f rs x l g =
     Runs script_of s (record { rest = rs; forest = x; below = f ∷ b }) (record {
       rest = l;
@@ -232,7 +232,7 @@ record_field_way v h x n c y e =
     (follows y (follows (fails e gives) (finishes gives)))))))))))
 
 -- fields without names
-abbrev pub tuple_contents : Script Phrase
+abbrev pub tuple_contents : Script Rule
 tuple_contents = elements tuple_field R_PAREN COMMA (codes "expected tuple field") is_tuple_field_first
 
 pub tuple_list_way : {b : List Forest} {a c : Record} {rs l : List Record} {f x : Forest} → a.kind ≡ L_PAREN →

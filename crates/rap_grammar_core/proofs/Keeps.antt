@@ -10,8 +10,8 @@ use Rattle.rap_events.specs.Forest.{Forest, none, node, leaf, message, ◌⧺◌
 use Rattle.rap_events.specs.Record.{next_kind}
 use Rattle.rap_events.specs.State.{with_kind, but_last, skipped, last_children}
 use Rattle.rap_grammar_scripts.specs.Knot.{script_of}
-use Rattle.rap_grammar_scripts.specs.Phrase.{Phrase}
-use Rattle.rap_grammar_scripts.specs.Phrase as phrase
+use Rattle.rap_grammar_scripts.specs.declared.rule.Rule.{Rule}
+use Rattle.rap_grammar_scripts.specs.declared.rule.Rule.TheVariants as knot
 use Rattle.rap_grammar_scripts.specs.Script.{Script, Outcome, nothing, something, block, again, Spot, goes_on, Runs, gives, passes, fails, ends_so, ends_else, takes, takes_any, bears, reports, reports_next, skips, starts, precedes, finishes, extends, abandons, splits_dotted, splits_whole, follows, obeys, turns, stops, newest, last_kind}
 use Rattle.rap_grammar_core.proofs.Ends.{End, bad, at_end, same, same_flag, has, join, gather, settle, flagged, outcomes, all_at, rule_ends, ends, every}
 
@@ -195,25 +195,25 @@ of_one f n v (w ∷ l) h e =
     of_one_or f n v w (is_of v l) h (and_left _ _ e) (λ i. of_one f n v l i (and_right (f w n) _ e))
 
 -- by one of its outcomes, and with so many open nodes
-abbrev pub as_said : Phrase → ℕ → Outcome → ℕ → Bool
+abbrev pub as_said : Rule → ℕ → Outcome → ℕ → Bool
 as_said c n v j = is_of v (outcomes c) && (j == n)
 
 -- whether a rule finishes no node of its caller's
-abbrev pub is_apart : Phrase → Bool
-is_apart (phrase.expr_bp true r bp) = false
+abbrev pub is_apart : Rule → Bool
+is_apart (knot.ExprBp true r bp) = false
 is_apart c = true
 
 -- within how many open nodes a rule must begin
-abbrev pub own : Phrase → ℕ
-own (phrase.item_or_macro a b) = 0
+abbrev pub own : Rule → ℕ
+own (knot.ItemOrMacro a b) = 0
 own c = 1
 
 -- the rules of the knot end as their table says
-abbrev pub EndsAsSaid : Phrase → Type 0
+abbrev pub EndsAsSaid : Rule → Type 0
 EndsAsSaid c = every (as_said c (own c)) (ends (script_of c) (own c)) ≡ true
 
 abbrev pub Sound : Type 0
-Sound = (c : Phrase) → is_apart c ≡ true → EndsAsSaid c
+Sound = (c : Rule) → is_apart c ≡ true → EndsAsSaid c
 
 -- an end of a run
 pub record Ended (b : Forest → List Forest → Type 0) (f : Outcome → ℕ → Bool) (q : Spot) (v : Outcome) : Type 0 where
@@ -222,7 +222,7 @@ pub record Ended (b : Forest → List Forest → Type 0) (f : Outcome → ℕ �
   pub so : f v depth ≡ true
 
 -- a rule that is called: within so many of the open nodes, above the others
-record Called (b : Forest → List Forest → Type 0) (f : Outcome → ℕ → Bool) (h : Outcome → ℕ → List End) (c : Phrase)
+record Called (b : Forest → List Forest → Type 0) (f : Outcome → ℕ → Bool) (h : Outcome → ℕ → List End) (c : Rule)
     (n : ℕ) : Type 0 where
   within : ℕ
   others : ℕ
@@ -231,7 +231,7 @@ record Called (b : Forest → List Forest → Type 0) (f : Outcome → ℕ → B
   so : every (as_said c within) (ends (script_of c) within) ≡ true
   on : every f (gather h (all_at n (outcomes c))) ≡ true
 
-within_one : (b : Forest → List Forest → Type 0) (f : Outcome → ℕ → Bool) (h : Outcome → ℕ → List End) (c : Phrase)
+within_one : (b : Forest → List Forest → Type 0) (f : Outcome → ℕ → Bool) (h : Outcome → ℕ → List End) (c : Rule)
     (n : ℕ) →
     every (as_said c 1) (ends (script_of c) 1) ≡ true → every f (gather h (all_at (suc n) (outcomes c))) ≡ true →
     Called b f h c (suc n)
@@ -245,23 +245,23 @@ within_one b f h c n s e = record {
 }
 
 called : Sound → (b : Forest → List Forest → Type 0) (f : Outcome → ℕ → Bool) (h : Outcome → ℕ → List End)
-    (c : Phrase) (n : ℕ) →
+    (c : Rule) (n : ℕ) →
     every f (gather h (rule_ends c n)) ≡ true → Called b f h c n
-called x b f h (phrase.expr_bp true r bp) n e = absurd cc
-called x b f h (phrase.item_or_macro i j) n e = record {
+called x b f h (knot.ExprBp true r bp) n e = absurd cc
+called x b f h (knot.ItemOrMacro i j) n e = record {
   within = 0;
   others = n;
   down = λ y fs k. k;
   up = λ y fs k. k;
-  so = x (phrase.item_or_macro i j) refl;
+  so = x (knot.ItemOrMacro i j) refl;
   on = e;
 }
-called x b f h (phrase.expr_bp false r bp) zero e = absurd cc
-called x b f h (phrase.expr_bp false r bp) (suc n) e = within_one b f h _ n (x (phrase.expr_bp false r bp) refl) e
+called x b f h (knot.ExprBp r bp) zero e = absurd cc
+called x b f h (knot.ExprBp r bp) (suc n) e = within_one b f h _ n (x (knot.ExprBp r bp) refl) e
 called x b f h c zero e = absurd cc
 called x b f h c (suc n) e = within_one b f h c n (x c refl) e
 
-pub keeps : Sound → {s : Script Phrase} {p q : Spot} {v : Outcome} → Runs script_of s p q v →
+pub keeps : Sound → {s : Script Rule} {p q : Spot} {v : Outcome} → Runs script_of s p q v →
     (b : Forest → List Forest → Type 0) → Grows b → (f : Outcome → ℕ → Bool) (n : ℕ) → every f (ends s n) ≡ true →
     Above b n p.forest p.below → Ended b f q v
 keeps x gives b g f n e k = record { depth = n; above = k; so = and_left _ _ e }

@@ -18,7 +18,7 @@ use Rattle.rap_grammar_scripts.specs.Items.{items, item_or_macro, opt_item_witho
 use Rattle.rap_grammar_scripts.specs.First.{one_of}
 use Rattle.rap_grammar_scripts.specs.Knot.{script_of}
 use Rattle.rap_grammar_scripts.specs.Modifiers.{modifiers, opt_impl_restriction, qualifiers, safety, opt_abi, auto_or_default, opt_default, modifier, modifier_as}
-use Rattle.rap_grammar_scripts.specs.Phrase.{Phrase}
+use Rattle.rap_grammar_scripts.specs.declared.rule.Rule.{Rule}
 
 abbrev is_stray : ℕ → Bool
 is_stray k = one_of (AT ∷ COMMA ∷ INT_NUMBER ∷ []) k
@@ -97,7 +97,7 @@ other_flag_of something = false
 other_flag_of block = false
 other_flag_of (again a b) = b
 
-behind_turn : {h : Bool → Bool → Script Phrase} {p m q : Spot} {v : Outcome} →
+behind_turn : {h : Bool → Bool → Script Rule} {p m q : Spot} {v : Outcome} →
     Runs script_of (h false false) p m (again false false) → Runs script_of (loop h false false) p q v →
     Runs script_of (loop h false false) m q v
 unfolding flag_of other_flag_of

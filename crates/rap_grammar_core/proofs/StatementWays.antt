@@ -23,7 +23,7 @@ use Rattle.rap_grammar_scripts.proofs.OneEnd.{one_end}
 use Rattle.rap_grammar_scripts.specs.Items.{opt_item, opt_item_without_modifiers, opt_item_by_name, opt_item_with_modifiers, opt_modified_item, refuse, opt_extern_block}
 use Rattle.rap_grammar_scripts.specs.Knot.{script_of}
 use Rattle.rap_grammar_scripts.specs.Modifiers.{opt_impl_restriction, modifier, modifier_as, qualifiers, safety, opt_abi, opt_default, auto_or_default, modifiers}
-use Rattle.rap_grammar_scripts.specs.Phrase.{Phrase}
+use Rattle.rap_grammar_scripts.specs.declared.rule.Rule.{Rule}
 use Rattle.rap_grammar_scripts.specs.Script.{Script, Outcome, nothing, something, again, give, test, Runs, after, gives, passes, fails, takes, starts, finishes, abandons, follows, obeys, turns, stops, block, extends}
 use Rattle.rap_grammar_scripts.specs.Visibility.{opt_visibility}
 use Rattle.rap_grammar_scripts.specs.Words.{next_is, reads_as}
@@ -34,7 +34,7 @@ use Rattle.rap_grammar_core.proofs.Operators.{differ, differ_back, is_atom, is_o
 use Rattle.rap_grammar_core.proofs.Ways.{Leads, LeadsOut, Single, attributed, precedes_one, not_first, kind_at_first, no_attributes, differ_attributes, extended_one}
 
 -- a script does nothing here, and answers so
-abbrev pub Passes : Script Phrase → List Forest → List Record → Forest → Outcome → Type 0
+abbrev pub Passes : Script Rule → List Forest → List Record → Forest → Outcome → Type 0
 Passes s b rs f v =
     Runs script_of s (record { rest = rs; forest = f; below = b }) (record { rest = rs; forest = f; below = b }) v
 
@@ -204,7 +204,7 @@ let_end_way true e = passes (rw e refl) (takes (rw e refl) gives)
 let_end_way false e = passes (rw e refl) (takes (rw e refl) gives)
 
 -- what follows the type of a `let`: its value, if there is one, and the semicolon
-abbrev pub let_rest : Semicolon → Script Phrase
+abbrev pub let_rest : Semicolon → Script Rule
 let_rest semi = after let_value (λ value. after (let_else value) (λ x. let_end semi))
 
 else_way : (optional : Bool) (v : Outcome) {b : List Forest} {c : Record} {l : List Record} {f : Forest} →
@@ -385,7 +385,7 @@ block_last_way true a p s h x e = block_stmt_way semicolon.Optional a p s h x (r
 block_last_way false a p s h x e = block_stmt_way semicolon.Required a p s h x (rw e refl) (passes (rw e refl) gives)
 
 -- the statements of a block, and those of a macro
-abbrev pub contents : Bool → Script Phrase
+abbrev pub contents : Bool → Script Rule
 contents true = macro_stmts
 contents false = statements
 

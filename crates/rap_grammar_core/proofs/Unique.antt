@@ -6,7 +6,7 @@ use Rattle.rap_events.specs.Forest.{Forest, none, node, leaf, message, split, �
 use Rattle.rap_grammar_core.specs.Derives.{Derives, Category, Expression, Ty, Contents, Block, Many, Item, Items, Fields, File, file_of}
 use Rattle.rap_grammar_core.specs.Laws.{HasOneTree}
 use Rattle.rap_grammar_core.specs.ParsedAgain.{IsBracketed}
-use Rattle.rap_grammar_scripts.specs.Phrase.{Phrase}
+use Rattle.rap_grammar_scripts.specs.declared.rule.Rule.{Rule}
 use Rattle.rap_grammar_scripts.specs.Script.{Script, Spot}
 use Rattle.rap_grammar_core.proofs.Built.{Built, empty, with_leaf, with_node, built, brackets_built, used-built}
 use Rattle.rap_grammar_core.proofs.Complete.{expression_whole, expression_single, type_whole, type_single, contents_whole, block_whole}
@@ -71,12 +71,12 @@ pub used-brackets : {ks : List Record} {t : Forest} → IsBracketed ks t → use
 used-brackets d = used-built (brackets_built d)
 
 -- a script that makes a tree of tokens makes no other tree of them
-same_tree : {s : Script Phrase} {ks : List Record} {t u : Forest} → Leads s [] ks none [] t → Leads s [] ks none [] u →
+same_tree : {s : Script Rule} {ks : List Record} {t u : Forest} → Leads s [] ks none [] t → Leads s [] ks none [] u →
     t ≡ u
 same_tree x y = ap (λ (p : Spot). p.forest) (one_end x y).spot
 
 -- what leads on before all tokens leads to the end before none
-whole : {s : Script Phrase} {ks : List Record} {t : Forest} → Leads s [] (ks ++ []) none [] (none ⧺ t) →
+whole : {s : Script Rule} {ks : List Record} {t : Forest} → Leads s [] (ks ++ []) none [] (none ⧺ t) →
     Leads s [] ks none [] t
 whole x = rw (append-nil, none-⧺) at x
 

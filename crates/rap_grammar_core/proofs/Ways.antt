@@ -17,7 +17,7 @@ use Rattle.rap_grammar_scripts.specs.Grammar.{name_ref_mod_path, name_ref_mod_pa
 use Rattle.rap_grammar_scripts.specs.Knot.{script_of}
 use Rattle.rap_grammar_scripts.specs.Operator.{operator_at}
 use Rattle.rap_grammar_scripts.specs.Paths.{opt_generic_arg_list_expr, has_args_behind, has_args, opt_path_type_args, segment_name, path_segment, path_for_qualifier, path, expr_path, opt_path_args}
-use Rattle.rap_grammar_scripts.specs.Phrase.{Phrase}
+use Rattle.rap_grammar_scripts.specs.declared.rule.Rule.{Rule}
 use Rattle.rap_grammar_scripts.specs.Script.{Script, Outcome, Spot, nothing, something, precede, after, Runs, gives, passes, fails, takes, takes_any, starts, precedes, finishes, extends, follows, obeys, turns, stops, last_kind, block, again}
 use Rattle.rap_grammar_scripts.specs.TokenTree.{starts_macro_call}
 use Rattle.rap_grammar_scripts.specs.Words.{reads_as, starts_builtin}
@@ -33,13 +33,13 @@ use Rattle.rap_grammar_core.proofs.Operators.{is_atom, is_operand, differ, diffe
 use Rattle.rap_events.proofs.Truth.{and_false}
 
 -- from these tokens and this forest a script leads to those tokens and that forest, and the older forests stay
-abbrev pub Leads : Script Phrase → List Forest → List Record → Forest → List Record → Forest → Type 0
+abbrev pub Leads : Script Rule → List Forest → List Record → Forest → List Record → Forest → Type 0
 Leads s b rs f l g =
     Runs script_of s (record { rest = rs; forest = f; below = b })
     (record { rest = l; forest = g; below = b }) something
 
 -- the same for a script that ends the newest open node, which is empty: what it makes goes to the next older forest
-abbrev pub LeadsOut : Script Phrase → List Forest → List Record → Forest → List Record → Forest → Type 0
+abbrev pub LeadsOut : Script Rule → List Forest → List Record → Forest → List Record → Forest → Type 0
 LeadsOut s b rs f l g =
     Runs script_of s (record { rest = rs; forest = none; below = f ∷ b })
     (record { rest = l; forest = g; below = b }) something
@@ -51,7 +51,7 @@ reads_like false = something
 
 -- From these tokens and this forest a script leads to those tokens and that forest, and the older forests stay. What is
 -- read may read like a block, unless a statement would end there.
-pub record Reads (r : Restrictions) (s : Script Phrase) (b : List Forest) (rs : List Record) (f : Forest)
+pub record Reads (r : Restrictions) (s : Script Rule) (b : List Forest) (rs : List Record) (f : Forest)
     (l : List Record) (g : Forest) : Type 0 where
   pub blocky : Bool
   pub stays : (r.prefer_stmt && blocky) ≡ false
@@ -59,7 +59,7 @@ pub record Reads (r : Restrictions) (s : Script Phrase) (b : List Forest) (rs : 
       (reads_like blocky)
 
 -- what reads like no block
-pub plainly : (r : Restrictions) {s : Script Phrase} {b : List Forest} {rs l : List Record} {f g : Forest} →
+pub plainly : (r : Restrictions) {s : Script Rule} {b : List Forest} {rs l : List Record} {f g : Forest} →
     Leads s b rs f l g → Reads r s b rs f l g
 plainly r x = record { blocky = false; stays = and_false r.prefer_stmt; run = x }
 
@@ -70,7 +70,7 @@ pub record Single (t : Forest) : Type 0 where
   pub is : t ≡ node none kind children
 
 -- a node around the last node alone
-pub precedes_one : {s : Script Phrase} {b : List Forest} {rs : List Record} {t : Forest} {q : Spot} {v : Outcome}
+pub precedes_one : {s : Script Rule} {b : List Forest} {rs : List Record} {t : Forest} {q : Spot} {v : Outcome}
     (f : Forest) → Single t →
     Runs script_of s (record { rest = rs; forest = t; below = f ∷ b }) q v →
     Runs script_of (precede s) (record { rest = rs; forest = f ⧺ t; below = b }) q v
@@ -216,7 +216,7 @@ unfolding outer_attrs
 no_attributes e = stops (fails e gives) refl
 
 -- an expression under its marker, with the attributes before it
-abbrev pub attributed : Restrictions → ℕ → Script Phrase
+abbrev pub attributed : Restrictions → ℕ → Script Rule
 attributed r bp = after outer_attrs (λ v. expr_from r bp)
 
 -- expressions
@@ -539,7 +539,7 @@ unfolding else_branch called.if_expr script_of
 else_if_way e k x = passes (rw e refl) (takes (rw e refl) (passes (rw k refl) (obeys x gives)))
 
 -- arguments
-abbrev pub arguments : Script Phrase
+abbrev pub arguments : Script Rule
 arguments = elements expr R_PAREN COMMA (codes "expected expression") is_expr_first
 
 pub arg_list_way : {b : List Forest} {a c : Record} {rs l : List Record} {f x : Forest} → a.kind ≡ L_PAREN →

@@ -12,7 +12,7 @@ use Rattle.rap_grammar_scripts.specs.Exec.{Does, Obeys}
 use Rattle.rap_grammar_scripts.specs.Expressions.{of_expr}
 use Rattle.rap_grammar_scripts.specs.First.{is_type_first, is_generic_arg_first, is_cfg_predicate_first, is_use_path_start}
 use Rattle.rap_grammar_frame.specs.Grew.{Grew, Took, Spent, Made, Closed, Closes, Dropped}
-use Rattle.rap_grammar_scripts.specs.Phrase as phrase
+use Rattle.rap_grammar_scripts.specs.declared.rule.Rule.TheVariants as knot
 use Rattle.rap_grammar_scripts.specs.Recovery.{stops_expr, stops_pattern, stops_arm, stops_of, stops_type}
 use Rattle.rap_grammar_frame.specs.Room.{expression_room, atom_room, statement_room, marked_room, element_room, list_room, type_room, pattern_room, single_pattern_room, atom_pattern_room, recovery_events, dropped_events}
 use Rattle.rap_grammar_scripts.specs.Script.{something}
@@ -124,23 +124,23 @@ Pre rule.CfgPredicate s = Unit {0}
 -- what each rule ensures, with at most so many rules inside one another
 abbrev pub Post : ℕ → Rule → State → State → Option (CompletedMarker × BlockLike) → Type 0
 Post n (rule.ExprBp m r bp) old new e =
-    Answered old new m r.prefer_stmt bp e × Obeys n (phrase.expr_bp (is_some m) r bp) (of_expr e) old new
+    Answered old new m r.prefer_stmt bp e × Obeys n (knot.ExprBp (is_some m) r bp) (of_expr e) old new
 Post n (rule.TypeWithBoundsCond allow_bounds) old new e =
-    IsType old new × Obeys n (phrase.type_with_bounds_cond allow_bounds) something old new
-Post n rule.PathTypeBounds old new e = Took old new type_room × Obeys n phrase.path_type_bounds something old new
-Post n rule.GenericArg old new e = Took old new element_room × Obeys n phrase.generic_arg something old new
-Post n rule.GenericParamList old new e = Took old new list_room × Obeys n phrase.generic_param_list something old new
-Post n rule.BoundsWithoutColon old new e = Grew old new 16 × Obeys n phrase.bounds_without_colon something old new
-Post n rule.WhereClause old new e = Took old new list_room × Obeys n phrase.where_clause something old new
-Post n rule.Pattern old new e = IsPattern old new × Obeys n phrase.pattern something old new
-Post n rule.PatternSingle old new e = IsSinglePattern old new × Obeys n phrase.pattern_single something old new
-Post n rule.ArmPattern old new e = IsArmPattern old new × Obeys n phrase.arm_pattern something old new
-Post n (rule.Stmt semicolon) old new e = IsStatement old new × Obeys n (phrase.stmt semicolon) something old new
-Post n rule.IfExpr old new e = Took old new atom_room × Obeys n phrase.if_expr something old new
+    IsType old new × Obeys n (knot.TypeWithBoundsCond allow_bounds) something old new
+Post n rule.PathTypeBounds old new e = Took old new type_room × Obeys n knot.PathTypeBounds something old new
+Post n rule.GenericArg old new e = Took old new element_room × Obeys n knot.GenericArg something old new
+Post n rule.GenericParamList old new e = Took old new list_room × Obeys n knot.GenericParamList something old new
+Post n rule.BoundsWithoutColon old new e = Grew old new 16 × Obeys n knot.BoundsWithoutColon something old new
+Post n rule.WhereClause old new e = Took old new list_room × Obeys n knot.WhereClause something old new
+Post n rule.Pattern old new e = IsPattern old new × Obeys n knot.Pattern something old new
+Post n rule.PatternSingle old new e = IsSinglePattern old new × Obeys n knot.PatternSingle something old new
+Post n rule.ArmPattern old new e = IsArmPattern old new × Obeys n knot.ArmPattern something old new
+Post n (rule.Stmt semicolon) old new e = IsStatement old new × Obeys n (knot.Stmt semicolon) something old new
+Post n rule.IfExpr old new e = Took old new atom_room × Obeys n knot.IfExpr something old new
 Post n (rule.ItemOrMacro stop_on_r_curly is_in_extern) old new e =
-    IsItem stop_on_r_curly old new × Obeys n (phrase.item_or_macro stop_on_r_curly is_in_extern) something old new
+    IsItem stop_on_r_curly old new × Obeys n (knot.ItemOrMacro stop_on_r_curly is_in_extern) something old new
 Post n rule.InnerAttrs old new e = Grew old new 0 × Does n inner_attrs something old new
-Post n rule.UseTree old new e = Took old new list_room × Obeys n phrase.use_tree something old new
-Post n rule.Meta old new e = Grew old new 16 × Obeys n phrase.meta something old new
+Post n rule.UseTree old new e = Took old new list_room × Obeys n knot.UseTree something old new
+Post n rule.Meta old new e = Grew old new 16 × Obeys n knot.Meta something old new
 Post n rule.CfgPredicate old new e =
-    Parsed is_cfg_predicate_first 8 element_room old new × Obeys n phrase.cfg_predicate something old new
+    Parsed is_cfg_predicate_first 8 element_room old new × Obeys n knot.CfgPredicate something old new

@@ -6,7 +6,7 @@ ghost use Rattle.rap_events.specs.State.{state, next, At};
 ghost use Rattle.rap_grammar_scripts.specs.Grammar as script;
 ghost use Rattle.rap_grammar_frame.specs.Grew.{Behind, Grew, Took, Within};
 ghost use Rattle.rap_grammar_scripts.specs.Exec.{Does};
-ghost use Rattle.rap_grammar_scripts.specs.Phrase.{Phrase};
+ghost use Rattle.rap_grammar_scripts.specs.declared.rule.Rule.{Rule};
 ghost use Rattle.rap_grammar_frame.specs.Room.{element_room, brackets_room};
 ghost use Rattle.rap_grammar_scripts.specs.Script.{Script, something};
 ghost use Rattle.rap_grammar_scripts.specs.Words.{of_bool};
@@ -19,7 +19,7 @@ use rap_events::parser::Parser;
 /// What stands between the delimiters of a list.
 pub trait Element {
     /// What one element makes, and whether the list goes on after it.
-    ghost element: { Self → Script Phrase };
+    ghost element: { Self → Script Rule };
 
     /// What elements begin with.
     ghost first: { Self → ℕ → Bool };

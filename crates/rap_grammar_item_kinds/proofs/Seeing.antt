@@ -15,7 +15,7 @@ use Rattle.rap_grammar_scripts.specs.Script.{Script, Outcome, something, block, 
 use Rattle.rap_grammar_scripts.specs.Words.{of_bool}
 use Rattle.rap_grammar_scripts.specs.Expressions.{of_like, is_block}
 use Rattle.rap_grammar_scripts.proofs.Ends.{gives}
-use Rattle.rap_grammar_scripts.specs.Phrase.{Phrase}
+use Rattle.rap_grammar_scripts.specs.declared.rule.Rule.{Rule}
 use Rattle.rap_grammar_scripts.specs.declared.arguments.BlockLike.{BlockLike}
 use Rattle.rap_grammar_scripts.specs.declared.arguments.BlockLike.TheVariants as like
 use Rattle.rap_grammar_frame.proofs.Growth.{gone}
@@ -157,12 +157,12 @@ handed u {v = false} (Ok _) x y z = subst (λ (a : State). Ended a u item_room) 
 handed u (Err m) x y z = (z.1.0 ∙ y z.0, z.1.1)
 
 -- whether a macro call reads like a block
-pub like_block : (e : BlockLike) {j : ℕ} {c : Script Phrase} {p q : Spot} {b : Bool} → b ≡ is_block (of_like e) →
+pub like_block : (e : BlockLike) {j : ℕ} {c : Script Rule} {p q : Spot} {b : Bool} → b ≡ is_block (of_like e) →
     b ≡ true → On j c p q (of_like e) → On j c p q block
 like_block like.Block i h f = f
 like_block like.NotBlock i h f = absurd (clash h i)
 
-pub like_other : (e : BlockLike) {j : ℕ} {c : Script Phrase} {p q : Spot} {b : Bool} → b ≡ is_block (of_like e) →
+pub like_other : (e : BlockLike) {j : ℕ} {c : Script Rule} {p q : Spot} {b : Bool} → b ≡ is_block (of_like e) →
     b ≡ false → On j c p q (of_like e) → On j c p q something
 like_other like.Block i h f = absurd (clash i h)
 like_other like.NotBlock i h f = f
@@ -294,7 +294,7 @@ pub refused_kept : (u : State) (v : Bool) {s t r : State} {b : Bool} (item : Res
 refused_kept u v {b = b} item x e y = refused u v item x (subst (λ (a : State). Refused v b a u item) e y)
 
 -- a rule that asks for what was found
-pub on_found : {j : ℕ} (f : Bool → Script Phrase) (b : Bool) {p q : Spot} {w : Outcome} → On j (f b) p q w →
+pub on_found : {j : ℕ} (f : Bool → Script Rule) (b : Bool) {p q : Spot} {w : Outcome} → On j (f b) p q w →
     On j (f (found (of_bool b))) p q w
 on_found f true d = d
 on_found f false d = d

@@ -12,7 +12,7 @@ use Rattle.rap_grammar_scripts.specs.Balanced.{ArePartners, Balanced, nothing_mo
 use Rattle.rap_grammar_scripts.specs.First.{one_of, is_bracket}
 use Rattle.rap_grammar_scripts.specs.TokenTree.{tokens_to, tokens_in, token_tree}
 use Rattle.rap_grammar_scripts.specs.Knot.{script_of, Follows}
-use Rattle.rap_grammar_scripts.specs.Phrase.{Phrase}
+use Rattle.rap_grammar_scripts.specs.declared.rule.Rule.{Rule}
 use Rattle.rap_grammar_scripts.specs.Script.{Script, Outcome, something, Spot, Runs, forests, gives, passes, fails, takes, takes_any, starts, finishes, follows, obeys, turns, stops}
 use Rattle.rap_grammar_scripts.proofs.Forests.{⧺-assoc, message_count-⧺}
 use Rattle.rap_grammar_scripts.proofs.OneEnd.{one_end}
@@ -27,7 +27,7 @@ pub one_wide : (k : ℕ) → width (partner k) ≡ 1
 one_wide k = wide (k == L_PAREN) (k == L_BRACK)
 
 -- from these tokens and this forest a script leads to those tokens and that forest, and the older forests stay
-abbrev pub Leads : Script Phrase → List Forest → List Record → Forest → List Record → Forest → Type 0
+abbrev pub Leads : Script Rule → List Forest → List Record → Forest → List Record → Forest → Type 0
 Leads s b rs f l g =
     Runs script_of s (record { rest = rs; forest = f; below = b })
     (record { rest = l; forest = g; below = b }) something

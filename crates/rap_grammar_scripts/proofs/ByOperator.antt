@@ -7,7 +7,7 @@ use Rattle.rap_events.specs.Record.{Record}
 use Rattle.rap_grammar_scripts.proofs.Ends as ends
 use Rattle.rap_grammar_scripts.specs.Exec.{Ends}
 use Rattle.rap_grammar_scripts.specs.Operator.{operator_at, by_operator, by_operator_of}
-use Rattle.rap_grammar_scripts.specs.Phrase.{Phrase}
+use Rattle.rap_grammar_scripts.specs.declared.rule.Rule.{Rule}
 use Rattle.rap_grammar_scripts.specs.Script.{Script, Outcome, Spot, test, Runs, passes, fails}
 
 same_kind : (k op : ℕ) → (k == op) ≡ true → op ≡ k
@@ -44,7 +44,7 @@ unfolding by_operator
 operates {script_of = script_of} h {p = p} {q = q} {v = v} some r =
     by_one_of (λ s x y w. Runs script_of s x y w) (record { passes = passes; fails = fails }) powers h p q v some r
 
-pub ends_by_operator : {j : ℕ} (h : ℕ → Script Phrase) {p q : Spot} {v : Outcome} →
+pub ends_by_operator : {j : ℕ} (h : ℕ → Script Rule) {p q : Spot} {v : Outcome} →
     0 < power (operator_at p.rest) → Ends j (h (operator_at p.rest)) p q v → Ends j (by_operator h) p q v
 unfolding by_operator
 ends_by_operator {j = j} h {p = p} {q = q} {v = v} some r =

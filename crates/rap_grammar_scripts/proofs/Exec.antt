@@ -6,7 +6,7 @@ use Rattle.rap_events.specs.Composite.{is_at, width}
 use Rattle.rap_events.specs.Cover.{first_may_bear}
 use Rattle.rap_events.specs.State.{State, with_kind}
 use Rattle.rap_grammar_scripts.specs.Knot.{script_of, Follows}
-use Rattle.rap_grammar_scripts.specs.Phrase.{Phrase}
+use Rattle.rap_grammar_scripts.specs.declared.rule.Rule.{Rule}
 use Rattle.rap_grammar_scripts.specs.Exec.{End, and_on, next_turn, on_again, turning, looped, exec, run_of, Does}
 use Rattle.rap_grammar_scripts.specs.Script.{Script, Outcome, nothing, something, block, again, goes_on, Spot, spot, give, test, ends_with, token, any, bear, report, report_next, skip, start, precede, finish, extend, abandon, split_float, after, rule, loop, taken, reported, skipped_over, started, preceded, finished, extended, abandoned, split_apart, last_taken_at, Runs, gives, passes, fails, ends_so, ends_else, takes, takes_any, bears, reports, reports_next, skips, starts, precedes, finishes, extends, abandons, splits_dotted, splits_whole, follows, obeys, turns, stops}
 
@@ -117,12 +117,12 @@ sound o u (loop h a b) p q v e =
     turns_run o h (λ c d. sound o u (h c d)) (suc (length p.rest)) a b p q v e
 
 -- where a recursive rule ends its script runs to
-pub rules_run : (n : ℕ) (c : Phrase) (p q : Spot) (v : Outcome) → run_of n c p ≡ Some (q, v) →
+pub rules_run : (n : ℕ) (c : Rule) (p q : Spot) (v : Outcome) → run_of n c p ≡ Some (q, v) →
     Runs script_of (script_of c) p q v
 rules_run zero c p q v e = no_end e
 rules_run (suc n) c p q v e = sound (run_of n) (rules_run n) (script_of c) p q v e
 
-pub runs : (n : ℕ) (s : Script Phrase) (p q : Spot) (v : Outcome) → exec (run_of n) s p ≡ Some (q, v) →
+pub runs : (n : ℕ) (s : Script Rule) (p q : Spot) (v : Outcome) → exec (run_of n) s p ≡ Some (q, v) →
     Runs script_of s p q v
 runs n s p q v e = sound (run_of n) (rules_run n) s p q v e
 
@@ -276,7 +276,7 @@ mono o u i (loop h a b) p r e =
     (λ c d. mono o u i (h c d)) a b p r e
 
 -- more depth
-pub grows : (n m : ℕ) → n ≤ m → (c : Phrase) (p : Spot) (r : Spot × Outcome) → run_of n c p ≡ Some r →
+pub grows : (n m : ℕ) → n ≤ m → (c : Rule) (p : Spot) (r : Spot × Outcome) → run_of n c p ≡ Some r →
     run_of m c p ≡ Some r
 grows zero m l c p r e = no_end e
 grows (suc n) zero l c p r e = absurd (not-suc-le-zero l)
@@ -284,15 +284,15 @@ grows (suc n) (suc m) l c p r e =
     mono (run_of n) (run_of m) (grows n m (le_of_suc-le-suc l)) (script_of c) p r e
 
 -- a script, with more depth
-pub deeper : (n m : ℕ) → n ≤ m → (s : Script Phrase) (p : Spot) (r : Spot × Outcome) → exec (run_of n) s p ≡ Some r →
+pub deeper : (n m : ℕ) → n ≤ m → (s : Script Rule) (p : Spot) (r : Spot × Outcome) → exec (run_of n) s p ≡ Some r →
     exec (run_of m) s p ≡ Some r
 deeper n m l s p r e = mono (run_of n) (run_of m) (grows n m l) s p r e
 
 -- what a rule's script does with less depth, the rule answers
-pub answered : (n m : ℕ) → n < m → (c : Phrase) (p : Spot) (r : Spot × Outcome) →
+pub answered : (n m : ℕ) → n < m → (c : Rule) (p : Spot) (r : Spot × Outcome) →
     exec (run_of n) (script_of c) p ≡ Some r → run_of m c p ≡ Some r
 answered n m l c p r e = grows (suc n) m l c p r e
 
 -- calls that do what a script does are those of the script
-pub does_follow : {n : ℕ} {s : Script Phrase} {v : Outcome} {old new : State} → Does n s v old new → Follows s v old new
+pub does_follow : {n : ℕ} {s : Script Rule} {v : Outcome} {old new : State} → Does n s v old new → Follows s v old new
 does_follow {n = n} {s = s} {v = v} {old = old} {new = new} d = record { run = runs n s (spot old) (spot new) v d.run }

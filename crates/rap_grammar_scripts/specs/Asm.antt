@@ -13,16 +13,16 @@ use Rattle.rap_grammar_scripts.specs.Called.{expr}
 use Rattle.rap_grammar_scripts.specs.First.{is_path_name}
 use Rattle.rap_grammar_scripts.specs.Grammar.{name_any_identifier, name_ref_mod_path}
 use Rattle.rap_grammar_scripts.specs.Paths.{type_path}
-use Rattle.rap_grammar_scripts.specs.Phrase.{Phrase}
+use Rattle.rap_grammar_scripts.specs.declared.rule.Rule.{Rule}
 use Rattle.rap_grammar_scripts.specs.Script.{Script, Outcome, nothing, something, block, give, test, token, bear, report, skip, start, finish, abandon, after, loop, again}
 use Rattle.rap_grammar_scripts.specs.Words.{done, if_some, reads_as, expect, ◌▸◌, call, choose, only_if}
 
 -- a line of the assembly
-unfoldable pub asm_template : Script Phrase
+unfoldable pub asm_template : Script Rule
 asm_template = after expr (λ v. if_some v done (skip (codes "expected asm template") ▸ done))
 
 -- where an operand lies: a register's name or its class, or a string
-unfoldable pub reg_spec : Script Phrase
+unfoldable pub reg_spec : Script Rule
 reg_spec =
     choose
     ((λ rs. is_path_name (next_kind rs), start ▸ call name_ref_mod_path ▸ finish ASM_REG_SPEC ▸ done)
@@ -30,11 +30,11 @@ reg_spec =
     ∷ [])
     (skip (codes "expected register name") ▸ done)
 
-unfoldable pub parse_reg : Script Phrase
+unfoldable pub parse_reg : Script Rule
 parse_reg = expect L_PAREN ▸ call reg_spec ▸ expect R_PAREN ▸ done
 
 -- the names of ABIs; the list ends where none follows
-abbrev pub clobber_turn : Bool → Bool → Script Phrase
+abbrev pub clobber_turn : Bool → Bool → Script Rule
 clobber_turn a b =
     choose
     ((is_at EOF, done)
@@ -43,14 +43,14 @@ clobber_turn a b =
     ∷ [])
     (report (expected STRING) ▸ done)
 
-unfoldable pub clobber_abis : Script Phrase
+unfoldable pub clobber_abis : Script Rule
 clobber_abis = loop clobber_turn false false
 
-unfoldable pub parse_clobber_abi : Script Phrase
+unfoldable pub parse_clobber_abi : Script Rule
 parse_clobber_abi = expect L_PAREN ▸ clobber_abis
 
 -- the name of an option
-unfoldable pub flow_option : Script Phrase
+unfoldable pub flow_option : Script Rule
 flow_option =
     choose
     ((reads_as NORETURN_KW, bear NORETURN_KW ▸ done)
@@ -61,7 +61,7 @@ flow_option =
     ∷ [])
     (give nothing)
 
-unfoldable pub option_name : Script Phrase
+unfoldable pub option_name : Script Rule
 option_name =
     choose
     ((reads_as PURE_KW, bear PURE_KW ▸ done)
@@ -72,7 +72,7 @@ option_name =
     flow_option
 
 -- options; anything else is skipped
-abbrev pub options_turn : Bool → Bool → Script Phrase
+abbrev pub options_turn : Bool → Bool → Script Rule
 options_turn a b =
     choose
     ((is_at EOF, done)
@@ -83,17 +83,17 @@ options_turn a b =
     if_some v (finish ASM_OPTION ▸ test (is_at R_PAREN) (token R_PAREN ▸ done) (expect COMMA ▸ give (again a b)))
     (skip (codes "expected asm option") ▸ abandon ▸ give (again a b))))
 
-unfoldable pub asm_options : Script Phrase
+unfoldable pub asm_options : Script Rule
 asm_options = loop options_turn false false
 
-unfoldable pub parse_options : Script Phrase
+unfoldable pub parse_options : Script Rule
 parse_options = expect L_PAREN ▸ asm_options
 
 -- the name of an operand and its `=` come next; the name may be a keyword
 abbrev pub starts_operand_name : List Record → Bool
 starts_operand_name rs = is_any_identifier (next_kind rs) && is_at EQ (drop 1 rs)
 
-unfoldable pub operand_name : Script Phrase
+unfoldable pub operand_name : Script Rule
 operand_name = only_if starts_operand_name (call name_any_identifier ▸ token EQ ▸ done)
 
 -- The direction of a register operand as an outcome: none, in or out, both. The outcome `block` stands for both here.
@@ -108,7 +108,7 @@ of_way None = nothing
 of_way (Some true) = both_ways
 of_way (Some false) = one_way
 
-unfoldable pub dir_spec : Script Phrase
+unfoldable pub dir_spec : Script Rule
 dir_spec =
     start ▸
     choose
@@ -121,7 +121,7 @@ dir_spec =
     (abandon ▸ give nothing)
 
 -- a register and what is in it; where the value goes both ways, another place may be named for the way out
-unfoldable pub reg_operand : Bool → Script Phrase
+unfoldable pub reg_operand : Bool → Script Rule
 reg_operand both =
     call parse_reg ▸ start ▸ call expr ▸
     (if both then
@@ -130,18 +130,18 @@ reg_operand both =
     else (finish ASM_OPERAND_EXPR ▸ done))
 
 -- a path, which may stand in parentheses
-unfoldable pub asm_sym : Script Phrase
+unfoldable pub asm_sym : Script Rule
 asm_sym = test (is_at L_PAREN) (token L_PAREN ▸ call type_path ▸ expect R_PAREN ▸ done) (call type_path ▸ done)
 
 -- what follows a direction, and this script where there is none
-abbrev pub by_way : Outcome → Script Phrase → Script Phrase
+abbrev pub by_way : Outcome → Script Rule → Script Rule
 by_way nothing s = s
 by_way something s = call (reg_operand false) ▸ finish ASM_REG_OPERAND ▸ done
 by_way block s = call (reg_operand true) ▸ finish ASM_REG_OPERAND ▸ done
 by_way (again a b) s = s
 
 -- an operand without its name, if one comes next
-unfoldable pub asm_operand : Script Phrase
+unfoldable pub asm_operand : Script Rule
 asm_operand =
     start ▸
     after dir_spec (λ way.
@@ -154,13 +154,13 @@ asm_operand =
     (abandon ▸ give nothing)))
 
 -- what stands in the place of an operand
-unfoldable pub missing_operand : Script Phrase
+unfoldable pub missing_operand : Script Rule
 missing_operand =
     test (is_at L_CURLY) (report (codes "expected asm operand") ▸ call expr ▸ done)
     (skip (codes "expected asm operand") ▸ done)
 
 -- no operand comes next: a template, where one may still follow, and else a message
-unfoldable pub no_operand : Bool → Script Phrase
+unfoldable pub no_operand : Bool → Script Rule
 no_operand allow_templates =
     if allow_templates then call asm_template ▸ give (again true false)
     else (call missing_operand ▸ test (is_at R_CURLY) done (give (again false false)))
@@ -173,7 +173,7 @@ templates_after allow_templates block = false
 templates_after allow_templates (again a b) = false
 
 -- an operand with its name, or what stands in its place, from its node on
-unfoldable pub named_operand : Bool → Script Phrase
+unfoldable pub named_operand : Bool → Script Rule
 named_operand allow_templates =
     after operand_name (λ named.
     after asm_operand (λ v.
@@ -181,7 +181,7 @@ named_operand allow_templates =
     (abandon ▸ no_operand (templates_after allow_templates named))))
 
 -- what stands after a comma: the ABIs whose registers are lost, options, an operand, or a template
-unfoldable pub asm_piece : Bool → Script Phrase
+unfoldable pub asm_piece : Bool → Script Rule
 asm_piece allow_templates =
     start ▸ call outer_attrs ▸
     choose
@@ -198,7 +198,7 @@ abbrev pub of_allow : Option Bool → Outcome
 of_allow None = something
 of_allow (Some allow_templates) = again allow_templates false
 
-abbrev pub pieces_turn : Bool → Bool → Script Phrase
+abbrev pub pieces_turn : Bool → Bool → Script Rule
 pieces_turn allow_templates b =
     choose
     ((is_at EOF, done)
@@ -206,9 +206,9 @@ pieces_turn allow_templates b =
     ∷ [])
     (expect COMMA ▸ test (is_at R_PAREN) done (asm_piece allow_templates))
 
-unfoldable pub asm_pieces : Script Phrase
+unfoldable pub asm_pieces : Script Rule
 asm_pieces = loop pieces_turn true false
 
 -- inline assembly, after its name
-unfoldable pub parse_asm_expr : Script Phrase
+unfoldable pub parse_asm_expr : Script Rule
 parse_asm_expr = expect L_PAREN ▸ call asm_template ▸ call asm_pieces ▸ expect R_PAREN ▸ finish ASM_EXPR ▸ done

@@ -10,8 +10,8 @@ use Rattle.rap_grammar_scripts.specs.First.{one_of, is_bracket, is_outer_attr_fi
 use Rattle.rap_grammar_scripts.specs.Grammar.{delimited}
 use Rattle.rap_grammar_scripts.specs.TokenTree.{token_tree}
 use Rattle.rap_grammar_scripts.specs.Paths.{attr_path}
-use Rattle.rap_grammar_scripts.specs.Phrase.{Phrase}
-use Rattle.rap_grammar_scripts.specs.Phrase as phrase
+use Rattle.rap_grammar_scripts.specs.declared.rule.Rule.{Rule}
+use Rattle.rap_grammar_scripts.specs.declared.rule.Rule.TheVariants as knot
 use Rattle.rap_grammar_scripts.specs.Script.{Script, give, test, token, any, bear, report, skip, start, finish, after, loop, again}
 use Rattle.rap_grammar_scripts.specs.Words.{done, if_some, reads_as, eat, expect, ◌▸◌, call, recur, choose, optional}
 
@@ -29,16 +29,16 @@ abbrev pub is_value_start : List Record → Bool
 is_value_start rs = is_at EQ rs && (not (is_at FAT_ARROW rs) && not (is_at EQ2 rs))
 
 -- what stands after the `=` of a condition
-unfoldable pub cfg_value : Script Phrase
+unfoldable pub cfg_value : Script Rule
 cfg_value = test (is_at IDENT) (skip (codes "expected a string literal") ▸ done) (expect STRING ▸ done)
 
 -- the conditions in the brackets of another
-abbrev pub cfg_operands : Script Phrase
+abbrev pub cfg_operands : Script Rule
 cfg_operands =
     delimited cfg_predicate_element L_PAREN R_PAREN COMMA (codes "expected a cfg predicate") is_cfg_predicate_first
 
 -- a condition
-unfoldable pub cfg_predicate : Script Phrase
+unfoldable pub cfg_predicate : Script Rule
 cfg_predicate =
     start ▸
     test (λ rs. one_of (TRUE_KW ∷ FALSE_KW ∷ []) (next_kind rs)) (any ▸ finish CFG_ATOM ▸ done)
@@ -50,37 +50,37 @@ cfg_predicate =
     (finish CFG_ATOM ▸ done))
 
 -- an attribute that holds if a condition does
-unfoldable pub cfg_meta : Script Phrase
+unfoldable pub cfg_meta : Script Rule
 cfg_meta =
     start ▸ bear CFG_KW ▸ token L_PAREN ▸ call cfg_predicate ▸ eat COMMA ▸ expect R_PAREN ▸ finish CFG_META ▸ done
 
-abbrev pub metas_turn : Bool → Bool → Script Phrase
+abbrev pub metas_turn : Bool → Bool → Script Rule
 metas_turn a b =
     choose
     ((is_at R_PAREN, done)
     ∷ (is_at EOF, done)
     ∷ [])
-    (recur phrase.meta ▸ optional (is_at COMMA) (token COMMA ▸ give (again a b)))
+    (recur knot.Meta ▸ optional (is_at COMMA) (token COMMA ▸ give (again a b)))
 
 -- the attributes after their condition
-unfoldable pub cfg_attr_metas : Script Phrase
+unfoldable pub cfg_attr_metas : Script Rule
 cfg_attr_metas = loop metas_turn false false
 
 -- attributes under a condition
-unfoldable pub cfg_attr_meta : Script Phrase
+unfoldable pub cfg_attr_meta : Script Rule
 cfg_attr_meta =
     start ▸ bear CFG_ATTR_KW ▸ token L_PAREN ▸ call cfg_predicate ▸ expect COMMA ▸ call cfg_attr_metas ▸
     expect R_PAREN ▸ finish CFG_ATTR_META ▸ done
 
-unfoldable pub unsafe_meta : Script Phrase
-unsafe_meta = start ▸ token UNSAFE_KW ▸ expect L_PAREN ▸ recur phrase.meta ▸ expect R_PAREN ▸ finish UNSAFE_META ▸ done
+unfoldable pub unsafe_meta : Script Rule
+unsafe_meta = start ▸ token UNSAFE_KW ▸ expect L_PAREN ▸ recur knot.Meta ▸ expect R_PAREN ▸ finish UNSAFE_META ▸ done
 
 -- an attribute's value after the path
-unfoldable pub attr_value : Script Phrase
+unfoldable pub attr_value : Script Rule
 attr_value = token EQ ▸ after expr (λ v. if_some v done (report (codes "expected expression") ▸ done))
 
 -- an attribute by its path, with a value or a list of tokens after it
-unfoldable pub path_meta : Script Phrase
+unfoldable pub path_meta : Script Rule
 path_meta =
     start ▸ call attr_path ▸
     choose
@@ -94,7 +94,7 @@ abbrev pub at_called_kw : ℕ → List Record → Bool
 at_called_kw kind rs = reads_as kind rs && is_at L_PAREN (drop 1 rs)
 
 -- what stands in the brackets of an attribute
-unfoldable pub meta : Script Phrase
+unfoldable pub meta : Script Rule
 meta =
     choose
     ((is_at UNSAFE_KW, unsafe_meta)
@@ -107,29 +107,29 @@ abbrev pub doc_comment : Bool → ℕ
 doc_comment inner = if inner then INNER_DOC_COMMENT else OUTER_DOC_COMMENT
 
 -- the `#` of an attribute, with a `!` where it is an inner one
-unfoldable pub attr_mark : Bool → Script Phrase
+unfoldable pub attr_mark : Bool → Script Rule
 attr_mark inner = token POUND ▸ (if inner then token BANG ▸ done else done)
 
-unfoldable pub attr_brackets : Script Phrase
+unfoldable pub attr_brackets : Script Rule
 attr_brackets =
     test (is_at L_BRACK) (token L_BRACK ▸ call meta ▸ expect R_BRACK ▸ done) (report (expected L_BRACK) ▸ done)
 
 -- an attribute, an inner one or not
-unfoldable pub attr : Bool → Script Phrase
+unfoldable pub attr : Bool → Script Rule
 attr inner =
     test (is_at (doc_comment inner)) (start ▸ any ▸ finish DOC_COMMENT ▸ done)
     (start ▸ call (attr_mark inner) ▸ call attr_brackets ▸ finish ATTR ▸ done)
 
-abbrev pub outer_turn : Bool → Bool → Script Phrase
+abbrev pub outer_turn : Bool → Bool → Script Rule
 outer_turn a b = optional (λ rs. is_outer_attr_first (next_kind rs)) (call (attr false) ▸ give (again a b))
 
 -- outer attributes
-unfoldable pub outer_attrs : Script Phrase
+unfoldable pub outer_attrs : Script Rule
 outer_attrs = loop outer_turn false false
 
-abbrev pub inner_turn : Bool → Bool → Script Phrase
+abbrev pub inner_turn : Bool → Bool → Script Rule
 inner_turn a b = optional is_inner_attr_start (call (attr true) ▸ give (again a b))
 
 -- inner attributes
-unfoldable pub inner_attrs : Script Phrase
+unfoldable pub inner_attrs : Script Rule
 inner_attrs = loop inner_turn false false

@@ -9,13 +9,13 @@ use Rattle.rap_events.specs.Composite.{is_at}
 unfoldable pub use Rattle.rap_grammar_scripts.specs.Asm.{parse_asm_expr}
 use Rattle.rap_grammar_scripts.specs.Called.{expr, type_}
 use Rattle.rap_grammar_scripts.specs.Grammar.{name_any_identifier, name_ref_mod_path_or_index}
-use Rattle.rap_grammar_scripts.specs.Phrase.{Phrase}
-use Rattle.rap_grammar_scripts.specs.Phrase as phrase
+use Rattle.rap_grammar_scripts.specs.declared.rule.Rule.{Rule}
+use Rattle.rap_grammar_scripts.specs.declared.rule.Rule.TheVariants as knot
 use Rattle.rap_grammar_scripts.specs.Script.{Script, nothing, give, test, token, bear, report, start, finish, abandon, after, loop, again}
 use Rattle.rap_grammar_scripts.specs.Words.{done, if_some, reads_as, eat, expect, ◌▸◌, call, recur, choose, optional}
 
 -- the fields on the way to the one whose place is asked for
-abbrev pub fields_turn : Bool → Bool → Script Phrase
+abbrev pub fields_turn : Bool → Bool → Script Rule
 fields_turn a b =
     choose
     ((is_at EOF, done)
@@ -23,11 +23,11 @@ fields_turn a b =
     ∷ [])
     (call name_ref_mod_path_or_index ▸ test (is_at R_PAREN) (give (again a b)) (expect DOT ▸ give (again a b)))
 
-unfoldable pub offset_of_fields : Script Phrase
+unfoldable pub offset_of_fields : Script Rule
 offset_of_fields = loop fields_turn false false
 
 -- a type and fields in it, which may stand in parentheses of their own
-unfoldable pub offset_of : Script Phrase
+unfoldable pub offset_of : Script Rule
 offset_of =
     expect L_PAREN ▸ call type_ ▸ expect COMMA ▸
     test (is_at L_PAREN) (token L_PAREN ▸ call offset_of_fields ▸ expect R_PAREN ▸ expect R_PAREN ▸ done)
@@ -37,11 +37,11 @@ offset_of =
 abbrev pub starts_arg_name : List Record → Bool
 starts_arg_name rs = is_any_identifier (next_kind rs) && (is_at EQ (drop 1 rs) && not (is_at EQ (drop 2 rs)))
 
-unfoldable pub opt_arg_name : Script Phrase
+unfoldable pub opt_arg_name : Script Rule
 opt_arg_name = optional starts_arg_name (call name_any_identifier ▸ token EQ ▸ done)
 
 -- arguments after the text; the list ends where no expression follows
-abbrev pub arguments_turn : Bool → Bool → Script Phrase
+abbrev pub arguments_turn : Bool → Bool → Script Rule
 arguments_turn a b =
     choose
     ((is_at EOF, done)
@@ -52,20 +52,20 @@ arguments_turn a b =
     if_some w (finish FORMAT_ARGS_ARG ▸ test (is_at R_PAREN) (give (again a b)) (expect COMMA ▸ give (again a b)))
     (abandon ▸ done)))
 
-unfoldable pub format_arguments : Script Phrase
+unfoldable pub format_arguments : Script Rule
 format_arguments = loop arguments_turn false false
 
-unfoldable pub format_args : Script Phrase
+unfoldable pub format_args : Script Rule
 format_args =
     expect L_PAREN ▸ call expr ▸
     test (is_at COMMA) (token COMMA ▸ call format_arguments ▸ expect R_PAREN ▸ done) (expect R_PAREN ▸ done)
 
 -- a condition
-unfoldable pub cfg : Script Phrase
-cfg = expect L_PAREN ▸ recur phrase.cfg_predicate ▸ eat COMMA ▸ expect R_PAREN ▸ done
+unfoldable pub cfg : Script Rule
+cfg = expect L_PAREN ▸ recur knot.CfgPredicate ▸ eat COMMA ▸ expect R_PAREN ▸ done
 
 -- the name of one of the kinds of inline assembly
-unfoldable pub asm_name : Script Phrase
+unfoldable pub asm_name : Script Rule
 asm_name =
     choose
     ((reads_as ASM_KW, bear ASM_KW ▸ done)
@@ -75,7 +75,7 @@ asm_name =
     (give nothing)
 
 -- the forms after those that name fields and arguments, from their node on
-unfoldable pub other_builtin : Script Phrase
+unfoldable pub other_builtin : Script Rule
 other_builtin =
     after asm_name (λ v.
     if_some v parse_asm_expr
@@ -85,7 +85,7 @@ other_builtin =
     ∷ [])
     (report (codes "unknown name after `builtin#`") ▸ finish ERROR ▸ give nothing)))
 
-unfoldable pub builtin_expr : Script Phrase
+unfoldable pub builtin_expr : Script Rule
 builtin_expr =
     start ▸ bear BUILTIN_KW ▸ token POUND ▸
     choose

@@ -6,7 +6,7 @@ use Rattle.rap_events.specs.Composite.{is_at, width}
 use Rattle.rap_events.specs.Cover.{first_may_bear}
 use Rattle.rap_events.specs.State.{State, with_kind}
 use Rattle.rap_grammar_scripts.specs.Knot.{script_of}
-use Rattle.rap_grammar_scripts.specs.Phrase.{Phrase}
+use Rattle.rap_grammar_scripts.specs.declared.rule.Rule.{Rule}
 use Rattle.rap_grammar_scripts.specs.Script.{Script, Outcome, nothing, something, block, again, Spot, spot, give, test, ends_with, token, any, bear, report, report_next, skip, start, precede, finish, extend, abandon, split_float, after, rule, loop, taken, reported, skipped_over, started, preceded, finished, extended, abandoned, split_apart, last_taken_at}
 
 -- where a script ends and with which outcome, if it does
@@ -64,21 +64,21 @@ exec o (rule c n) p = and_on (o c p) (λ w q. exec o (n w) q)
 exec o (loop h a b) p = looped (λ c d q. exec o (h c d) q) a b p
 
 -- where a recursive rule ends, with at most so many rules inside one another
-abbrev pub run_of : ℕ → Phrase → Spot → End
+abbrev pub run_of : ℕ → Rule → Spot → End
 run_of zero c p = None
 run_of (suc n) c p = exec (run_of n) (script_of c) p
 
 -- A script ends so from one spot to another, with at most so many rules inside one another.
-pub record Ends (depth : ℕ) (s : Script Phrase) (p q : Spot) (v : Outcome) : Type 0 where
+pub record Ends (depth : ℕ) (s : Script Rule) (p q : Spot) (v : Outcome) : Type 0 where
   pub run : exec (run_of depth) s p ≡ Some (q, v)
 
 -- the same for a recursive rule
-pub record Answers (depth : ℕ) (c : Phrase) (p q : Spot) (v : Outcome) : Type 0 where
+pub record Answers (depth : ℕ) (c : Rule) (p q : Spot) (v : Outcome) : Type 0 where
   pub run : run_of depth c p ≡ Some (q, v)
 
 -- the parser's calls between two states do what the script does, and what the rule does
-abbrev pub Does : ℕ → Script Phrase → Outcome → State → State → Type 0
+abbrev pub Does : ℕ → Script Rule → Outcome → State → State → Type 0
 Does depth s v old new = Ends depth s (spot old) (spot new) v
 
-abbrev pub Obeys : ℕ → Phrase → Outcome → State → State → Type 0
+abbrev pub Obeys : ℕ → Rule → Outcome → State → State → Type 0
 Obeys depth c v old new = Answers depth c (spot old) (spot new) v

@@ -13,8 +13,8 @@ use Rattle.rap_grammar_scripts.specs.First.{is_expr_first, is_path_name, is_path
 use Rattle.rap_grammar_scripts.specs.Grammar.{name_ref_mod_path, name_ref_mod_path_or_index, delimited}
 use Rattle.rap_grammar_scripts.specs.Operator.{operator_at, by_operator}
 use Rattle.rap_grammar_scripts.specs.Paths.{opt_generic_arg_list_expr}
-use Rattle.rap_grammar_scripts.specs.Phrase.{Phrase}
-use Rattle.rap_grammar_scripts.specs.Phrase as phrase
+use Rattle.rap_grammar_scripts.specs.declared.rule.Rule.{Rule}
+use Rattle.rap_grammar_scripts.specs.declared.rule.Rule.TheVariants as knot
 use Rattle.rap_grammar_scripts.specs.Recovery.{is_expr_recovery}
 use Rattle.rap_grammar_scripts.specs.Script.{Script, Outcome, nothing, something, block, give, test, token, any, bear, report, start, precede, finish, extend, abandon, split_float, after, loop, again}
 unfoldable pub use Rattle.rap_grammar_scripts.specs.Words.{is_block}
@@ -45,8 +45,8 @@ abbrev pub right_of : ℕ → ℕ
 right_of op = if power op == 1 then 1 else power op + 1
 
 -- an operator and its right operand, after the left one
-unfoldable pub bin_expr : Restrictions → ℕ → Script Phrase
-bin_expr r op = precede ▸ token op ▸ recur (phrase.expr_bp false (operand_of r) (right_of op)) ▸ finish BIN_EXPR ▸ done
+unfoldable pub bin_expr : Restrictions → ℕ → Script Rule
+bin_expr r op = precede ▸ token op ▸ recur (knot.ExprBp (operand_of r) (right_of op)) ▸ finish BIN_EXPR ▸ done
 
 -- An end follows the dots of a range: an expression begins, and it is no access to a field or a method of the range,
 -- nor, where no record literal may stand, a `{`.
@@ -56,64 +56,64 @@ has_range_end forbid_structs rs =
     (not ((next_kind rs == DOT) && (kind_at rs 1 == IDENT)) && not (forbid_structs && (next_kind rs == L_CURLY)))
 
 -- the dots of a range after its start, and whether an end followed
-unfoldable pub range_expr : Restrictions → ℕ → Script Phrase
+unfoldable pub range_expr : Restrictions → ℕ → Script Rule
 range_expr r op =
     precede ▸ token op ▸
-    test (has_range_end r.forbid_structs) (recur (phrase.expr_bp false (operand_of r) 3) ▸ finish RANGE_EXPR ▸ done)
+    test (has_range_end r.forbid_structs) (recur (knot.ExprBp (operand_of r) 3) ▸ finish RANGE_EXPR ▸ done)
     (finish RANGE_EXPR ▸ give nothing)
 
 -- a type after `as`, after an operand
-unfoldable pub cast_expr : Script Phrase
+unfoldable pub cast_expr : Script Rule
 cast_expr = precede ▸ token AS_KW ▸ call type_no_bounds ▸ finish CAST_EXPR ▸ done
 
 -- an operator with its operand; a range without an end goes no further
-abbrev pub operation : Restrictions → ℕ → Script Phrase
+abbrev pub operation : Restrictions → ℕ → Script Rule
 operation r op =
     if op == AS_KW then call cast_expr ▸ give (again false false)
     else if power op == 2 then after (range_expr r op) (λ v. if_some v (give (again false false)) done)
     else (call (bin_expr r op) ▸ give (again false false))
 
 -- the operator that comes next, if it has at least a power
-abbrev pub climb_turn : Restrictions → ℕ → Bool → Bool → Script Phrase
+abbrev pub climb_turn : Restrictions → ℕ → Bool → Bool → Script Rule
 climb_turn r bp a b = test (λ rs. nat_lt (power (operator_at rs)) bp) done (by_operator (operation r))
 
 -- the operators of at least a power after an operand
-unfoldable pub climb : Restrictions → ℕ → Script Phrase
+unfoldable pub climb : Restrictions → ℕ → Script Rule
 climb r bp = loop (climb_turn r bp) false false
 
 -- what stands between the `&` of a reference and its operand
-unfoldable pub ref_qualifier : Script Phrase
+unfoldable pub ref_qualifier : Script Rule
 ref_qualifier =
     test (λ rs. reads_as RAW_KW rs && one_of (MUT_KW ∷ CONST_KW ∷ IDENT ∷ []) (kind_at rs 1))
     (bear RAW_KW ▸ test (is_at CONST_KW) (token CONST_KW ▸ done) (eat MUT_KW ▸ done))
     (eat MUT_KW ▸ done)
 
-unfoldable pub ref_expr : Restrictions → Script Phrase
+unfoldable pub ref_expr : Restrictions → Script Rule
 ref_expr r =
-    start ▸ token AMP ▸ call ref_qualifier ▸ recur (phrase.expr_bp false r prefix_power) ▸ finish REF_EXPR ▸ done
+    start ▸ token AMP ▸ call ref_qualifier ▸ recur (knot.ExprBp r prefix_power) ▸ finish REF_EXPR ▸ done
 
-unfoldable pub prefix_expr : Restrictions → Script Phrase
-prefix_expr r = start ▸ any ▸ recur (phrase.expr_bp false r prefix_power) ▸ finish PREFIX_EXPR ▸ done
+unfoldable pub prefix_expr : Restrictions → Script Rule
+prefix_expr r = start ▸ any ▸ recur (knot.ExprBp r prefix_power) ▸ finish PREFIX_EXPR ▸ done
 
 -- a range without a start
-unfoldable pub prefix_range : Restrictions → ℕ → Script Phrase
+unfoldable pub prefix_range : Restrictions → ℕ → Script Rule
 prefix_range r op =
     start ▸ token op ▸
-    test (has_range_end r.forbid_structs) (recur (phrase.expr_bp false r 2) ▸ finish RANGE_EXPR ▸ done)
+    test (has_range_end r.forbid_structs) (recur (knot.ExprBp r 2) ▸ finish RANGE_EXPR ▸ done)
     (finish RANGE_EXPR ▸ done)
 
-unfoldable pub arg_list : Script Phrase
+unfoldable pub arg_list : Script Rule
 arg_list =
     start ▸ call (delimited expr L_PAREN R_PAREN COMMA (codes "expected expression") is_expr_first) ▸ finish ARG_LIST ▸
     done
 
-unfoldable pub call_expr : Script Phrase
+unfoldable pub call_expr : Script Rule
 call_expr = precede ▸ call arg_list ▸ finish CALL_EXPR ▸ done
 
-unfoldable pub index_expr : Script Phrase
+unfoldable pub index_expr : Script Rule
 index_expr = precede ▸ token L_BRACK ▸ call expr ▸ expect R_BRACK ▸ finish INDEX_EXPR ▸ done
 
-unfoldable pub try_expr : Script Phrase
+unfoldable pub try_expr : Script Rule
 try_expr = precede ▸ token QUESTION ▸ finish TRY_EXPR ▸ done
 
 -- What stands after a dot is called: a name before a `(` or `::`, or a `(` without a name.
@@ -122,29 +122,29 @@ is_method_call rs =
     (next_kind rs == L_PAREN) ||
     (is_path_name (next_kind rs) && ((kind_at rs 1 == L_PAREN) || is_at COLON2 (drop 1 rs)))
 
-unfoldable pub method_arguments : Script Phrase
+unfoldable pub method_arguments : Script Rule
 method_arguments =
     call opt_generic_arg_list_expr ▸
     test (is_at L_PAREN) (call arg_list ▸ finish METHOD_CALL_EXPR ▸ done)
     (report (codes "expected argument list") ▸ finish METHOD_CALL_EXPR ▸ done)
 
 -- a method after the dot
-unfoldable pub method_call_expr : Script Phrase
+unfoldable pub method_call_expr : Script Rule
 method_call_expr =
     test (λ rs. is_path_name (next_kind rs)) (call name_ref_mod_path ▸ method_arguments)
     (report (codes "expected method name, field name or number") ▸ method_arguments)
 
-unfoldable pub await_expr : Script Phrase
+unfoldable pub await_expr : Script Rule
 await_expr = token AWAIT_KW ▸ finish AWAIT_EXPR ▸ done
 
 -- a field after the dot
-unfoldable pub field_expr : Script Phrase
+unfoldable pub field_expr : Script Rule
 field_expr =
     test (λ rs. is_path_name_or_index (next_kind rs)) (call name_ref_mod_path_or_index ▸ finish FIELD_EXPR ▸ done)
     (report (codes "expected field name or number") ▸ finish FIELD_EXPR ▸ done)
 
 -- a method, `await` or a field after the dot
-unfoldable pub name_after_dot : Script Phrase
+unfoldable pub name_after_dot : Script Rule
 name_after_dot = choose ((is_method_call, method_call_expr) ∷ (next_is AWAIT_KW, await_expr) ∷ []) field_expr
 
 -- the dots of a range
@@ -153,16 +153,16 @@ is_range rs = is_at DOT2EQ rs || is_at DOT2 rs
 
 -- What follows a dot. A float is one field, or two where it has digits after its own dot. Where it ends in that dot,
 -- what follows it follows a dot once more; but the dots of a range are none of an access, and end all postfixes.
-abbrev pub after_dot_turn : Bool → Bool → Script Phrase
+abbrev pub after_dot_turn : Bool → Bool → Script Rule
 after_dot_turn a b =
     test (next_is FLOAT_NUMBER) (split_float (test is_range (give nothing) (precede ▸ give (again false false))) done)
     name_after_dot
 
-unfoldable pub after_dot : Script Phrase
+unfoldable pub after_dot : Script Rule
 after_dot = loop after_dot_turn false false
 
 -- a dot and what follows it
-unfoldable pub postfix_dot_expr : Script Phrase
+unfoldable pub postfix_dot_expr : Script Rule
 postfix_dot_expr = precede ▸ token DOT ▸ after_dot
 
 -- a dot that begins no range
@@ -171,7 +171,7 @@ is_access rs = (next_kind rs == DOT) && (not (is_at DOT2EQ rs) && not (is_at DOT
 
 -- What follows an operand directly, calls and indexes only where they are allowed. A block with something after it is
 -- none any more.
-abbrev pub postfix_turn : Bool → Bool → Script Phrase
+abbrev pub postfix_turn : Bool → Bool → Script Rule
 postfix_turn calls blocky =
     choose
     ((λ rs. (next_kind rs == L_PAREN) && calls, call call_expr ▸ give (again true false))
@@ -185,11 +185,11 @@ postfix_turn calls blocky =
     ∷ [])
     (give (if blocky then block else something))
 
-unfoldable pub postfix_expr : Bool → Bool → Script Phrase
+unfoldable pub postfix_expr : Bool → Bool → Script Rule
 postfix_expr allow_calls is_block = loop postfix_turn allow_calls is_block
 
 -- an operand with what follows it
-unfoldable pub lhs : Restrictions → Script Phrase
+unfoldable pub lhs : Restrictions → Script Rule
 lhs r =
     choose
     ((next_is AMP, ref_expr r)
@@ -201,11 +201,11 @@ lhs r =
     if_some v (postfix_expr (not (r.prefer_stmt && is_block v)) (is_block v)) (give nothing)))
 
 -- no expression begins
-unfoldable pub missing_expr : Script Phrase
+unfoldable pub missing_expr : Script Rule
 missing_expr = recover (codes "expected expression") is_expr_recovery (abandon ▸ give nothing) (abandon ▸ give nothing)
 
 -- an expression from the newest node on
-unfoldable pub expr_from : Restrictions → ℕ → Script Phrase
+unfoldable pub expr_from : Restrictions → ℕ → Script Rule
 expr_from r bp =
     test (λ rs. is_expr_first (next_kind rs))
     (after (lhs r) (λ v.
@@ -213,6 +213,6 @@ expr_from r bp =
     (abandon ▸ give nothing)))
     missing_expr
 
-unfoldable pub expr_bp : Bool → Restrictions → ℕ → Script Phrase
+unfoldable pub expr_bp : Bool → Restrictions → ℕ → Script Rule
 expr_bp false r bp = start ▸ call outer_attrs ▸ expr_from r bp
 expr_bp true r bp = expr_from r bp

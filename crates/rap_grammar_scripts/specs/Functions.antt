@@ -10,7 +10,7 @@ use Rattle.rap_grammar_scripts.specs.Called.{opt_generic_param_list, opt_where_c
 use Rattle.rap_grammar_scripts.specs.First.{one_of}
 use Rattle.rap_grammar_scripts.specs.Grammar.{name_r, opt_ret_type, opt_no_arrow_ret_type}
 use Rattle.rap_grammar_scripts.specs.Params.{param_list_fn_def}
-use Rattle.rap_grammar_scripts.specs.Phrase.{Phrase}
+use Rattle.rap_grammar_scripts.specs.declared.rule.Rule.{Rule}
 use Rattle.rap_grammar_scripts.specs.Recovery.{is_item_recovery}
 use Rattle.rap_grammar_scripts.specs.Script.{Script, give, test, token, report, skip, finish, after, loop, again}
 use Rattle.rap_grammar_scripts.specs.Words.{done, if_some, ◌▸◌, call, optional}
@@ -19,32 +19,32 @@ use Rattle.rap_grammar_scripts.specs.Words.{done, if_some, ◌▸◌, call, opti
 abbrev pub is_item_paren_recovery : ℕ → Bool
 is_item_paren_recovery kind = is_item_recovery kind || one_of (L_PAREN ∷ []) kind
 
-unfoldable pub fn_params : Script Phrase
+unfoldable pub fn_params : Script Rule
 fn_params = test (is_at L_PAREN) param_list_fn_def (report (codes "expected function arguments") ▸ done)
 
 -- the return type of a function, if there is one; a missing arrow is reported
-unfoldable pub fn_ret_type : Script Phrase
+unfoldable pub fn_ret_type : Script Rule
 fn_ret_type = after opt_ret_type (λ v. if_some v done (call opt_no_arrow_ret_type ▸ done))
 
 abbrev pub is_unbalanced : ℕ → Bool
 is_unbalanced kind = one_of (R_PAREN ∷ R_BRACK ∷ R_ANGLE ∷ []) kind
 
-abbrev pub bracket_turn : Bool → Bool → Script Phrase
+abbrev pub bracket_turn : Bool → Bool → Script Rule
 bracket_turn a b =
     optional (λ rs. is_unbalanced (next_kind rs)) (skip (codes "expected a curly brace") ▸ give (again a b))
 
 -- brackets that close nothing
-unfoldable pub unbalanced_brackets : Script Phrase
+unfoldable pub unbalanced_brackets : Script Rule
 unbalanced_brackets = loop bracket_turn false false
 
-unfoldable pub fn_body : Script Phrase
+unfoldable pub fn_body : Script Rule
 fn_body = test (is_at SEMICOLON) (token SEMICOLON ▸ done) block_expr
 
 -- what stands after a function's name and its generic parameters
-unfoldable pub signature : Script Phrase
+unfoldable pub signature : Script Rule
 signature = call fn_params ▸ call fn_ret_type ▸ call unbalanced_brackets ▸ opt_where_clause
 
-unfoldable pub fn_ : Script Phrase
+unfoldable pub fn_ : Script Rule
 fn_ =
     token FN_KW ▸ call (name_r is_item_paren_recovery) ▸ call opt_generic_param_list ▸ call signature ▸ call fn_body ▸
     finish FN ▸ done

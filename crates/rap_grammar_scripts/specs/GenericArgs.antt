@@ -11,7 +11,7 @@ use Rattle.rap_grammar_scripts.specs.GenericParams.{bounds}
 use Rattle.rap_grammar_scripts.specs.Grammar.{name_ref_mod_path, lifetime}
 use Rattle.rap_grammar_scripts.specs.TokenTree.{macro_call_after_excl, starts_macro_call}
 use Rattle.rap_grammar_scripts.specs.Paths.{opt_path_type_args, type_path_for_qualifier}
-use Rattle.rap_grammar_scripts.specs.Phrase.{Phrase}
+use Rattle.rap_grammar_scripts.specs.declared.rule.Rule.{Rule}
 use Rattle.rap_grammar_scripts.specs.Recovery.{is_generic_arg_recovery}
 use Rattle.rap_grammar_scripts.specs.Script.{Script, test, any, report, start, precede, finish}
 use Rattle.rap_grammar_scripts.specs.Types.{type_with_bounds_cond, opt_type_bounds_as_dyn_trait_type}
@@ -29,14 +29,14 @@ starts_named_arg rs = is_path_name (next_kind rs) && not (starts_weak_dyn rs)
 abbrev pub starts_bounds : List Record → Bool
 starts_bounds rs = next_is COLON rs && not (is_at COLON2 rs)
 
-unfoldable pub lifetime_arg : Script Phrase
+unfoldable pub lifetime_arg : Script Rule
 lifetime_arg = start ▸ call lifetime ▸ finish LIFETIME_ARG ▸ done
 
-unfoldable pub type_arg : Script Phrase
+unfoldable pub type_arg : Script Rule
 type_arg = start ▸ call (type_with_bounds_cond true) ▸ finish TYPE_ARG ▸ done
 
 -- what a name is bound to: a type or a constant, after the `=`
-unfoldable pub assoc_value : Script Phrase
+unfoldable pub assoc_value : Script Rule
 assoc_value =
     choose
     ((λ rs. is_type_first (next_kind rs), type_)
@@ -45,20 +45,20 @@ assoc_value =
     const_arg
 
 -- bounds after a type of this kind, which is then an argument
-unfoldable pub bounded_arg : ℕ → Script Phrase
+unfoldable pub bounded_arg : ℕ → Script Rule
 bounded_arg kind = call (opt_type_bounds_as_dyn_trait_type kind) ▸ precede ▸ finish TYPE_ARG ▸ done
 
-unfoldable pub macro_arg : Script Phrase
+unfoldable pub macro_arg : Script Rule
 macro_arg = call macro_call_after_excl ▸ finish MACRO_CALL ▸ precede ▸ finish MACRO_TYPE ▸ bounded_arg MACRO_TYPE
 
 -- a path from its first segment on, as a type, or a macro call
-unfoldable pub path_arg : Script Phrase
+unfoldable pub path_arg : Script Rule
 path_arg =
     precede ▸ finish PATH ▸ call type_path_for_qualifier ▸ precede ▸
     test starts_macro_call macro_arg (finish PATH_TYPE ▸ bounded_arg PATH_TYPE)
 
 -- a name with its own arguments: bound to something by `=`, with bounds, or a path's first segment
-unfoldable pub named_arg : Script Phrase
+unfoldable pub named_arg : Script Rule
 named_arg =
     start ▸ call name_ref_mod_path ▸ call opt_path_type_args ▸
     choose
@@ -67,7 +67,7 @@ named_arg =
     ∷ [])
     (finish PATH_SEGMENT ▸ path_arg)
 
-unfoldable pub generic_arg : Script Phrase
+unfoldable pub generic_arg : Script Rule
 generic_arg =
     choose
     ((starts_lifetime_arg, lifetime_arg)

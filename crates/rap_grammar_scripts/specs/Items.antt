@@ -16,8 +16,8 @@ use Rattle.rap_grammar_scripts.specs.Grammar.{name, name_ref_or_self, opt_rename
 use Rattle.rap_grammar_scripts.specs.Macros.{macro_rules, macro_def, macro_call}
 use Rattle.rap_grammar_scripts.specs.Modifiers.{found, modifiers}
 use Rattle.rap_grammar_scripts.specs.Paths.{use_path}
-use Rattle.rap_grammar_scripts.specs.Phrase.{Phrase}
-use Rattle.rap_grammar_scripts.specs.Phrase as phrase
+use Rattle.rap_grammar_scripts.specs.declared.rule.Rule.{Rule}
+use Rattle.rap_grammar_scripts.specs.declared.rule.Rule.TheVariants as knot
 use Rattle.rap_grammar_scripts.specs.Script.{Script, Outcome, nothing, something, block, again, give, test, token, bear, report, skip, start, finish, abandon, after, loop}
 use Rattle.rap_grammar_scripts.specs.Traits.{trait_, impl_}
 use Rattle.rap_grammar_scripts.specs.UseItem.{use_}
@@ -37,7 +37,7 @@ has_extern something = false
 has_extern block = false
 has_extern (again a b) = b
 
-unfoldable pub extern_crate : Script Phrase
+unfoldable pub extern_crate : Script Rule
 extern_crate =
     token EXTERN_KW ▸ token CRATE_KW ▸ call name_ref_or_self ▸ call opt_rename ▸ expect SEMICOLON ▸
     finish EXTERN_CRATE ▸ done
@@ -46,29 +46,29 @@ extern_crate =
 abbrev pub ends_items : Bool → List Record → Bool
 ends_items stop_on_r_curly rs = is_at R_CURLY rs && stop_on_r_curly
 
-abbrev pub item_turn : Bool → Bool → Bool → Script Phrase
+abbrev pub item_turn : Bool → Bool → Bool → Script Rule
 item_turn stop_on_r_curly a b =
     choose
     ((is_at EOF, done)
     ∷ (ends_items stop_on_r_curly, done)
     ∷ [])
-    (recur (phrase.item_or_macro stop_on_r_curly true) ▸ give (again a b))
+    (recur (knot.ItemOrMacro stop_on_r_curly true) ▸ give (again a b))
 
-unfoldable pub items : Bool → Script Phrase
+unfoldable pub items : Bool → Script Rule
 items stop_on_r_curly = loop (item_turn stop_on_r_curly) false false
 
 -- the same after inner attributes
-unfoldable pub mod_contents : Bool → Script Phrase
+unfoldable pub mod_contents : Bool → Script Rule
 mod_contents stop_on_r_curly = call inner_attrs ▸ items stop_on_r_curly
 
-unfoldable pub item_list : Script Phrase
+unfoldable pub item_list : Script Rule
 item_list = start ▸ token L_CURLY ▸ call (mod_contents true) ▸ expect R_CURLY ▸ finish ITEM_LIST ▸ done
 
-unfoldable pub extern_item_list : Script Phrase
+unfoldable pub extern_item_list : Script Rule
 extern_item_list = start ▸ token L_CURLY ▸ call (mod_contents true) ▸ expect R_CURLY ▸ finish EXTERN_ITEM_LIST ▸ done
 
 -- what a module holds, or the semicolon in its place
-unfoldable pub mod_body : Script Phrase
+unfoldable pub mod_body : Script Rule
 mod_body =
     choose
     ((is_at L_CURLY, item_list)
@@ -76,35 +76,35 @@ mod_body =
     ∷ [])
     (report (codes "expected `;` or `{`") ▸ done)
 
-unfoldable pub mod_item : Script Phrase
+unfoldable pub mod_item : Script Rule
 mod_item = token MOD_KW ▸ call name ▸ call mod_body ▸ finish MODULE ▸ done
 
-unfoldable pub alias_bounds : Script Phrase
+unfoldable pub alias_bounds : Script Rule
 alias_bounds = optional (is_at COLON) bounds
 
-unfoldable pub aliased_type : Script Phrase
+unfoldable pub aliased_type : Script Rule
 aliased_type = optional (is_at EQ) (token EQ ▸ type_)
 
-unfoldable pub type_alias : Script Phrase
+unfoldable pub type_alias : Script Rule
 type_alias =
     token TYPE_KW ▸ call name ▸ call opt_generic_param_list ▸ call alias_bounds ▸ call opt_where_clause ▸
     call aliased_type ▸ call opt_where_clause ▸ expect SEMICOLON ▸ finish TYPE_ALIAS ▸ done
 
 -- what begins with `type`
-unfoldable pub type_item : Script Phrase
+unfoldable pub type_item : Script Rule
 type_item = test (λ rs. is_at CONST_KW (drop 1 rs)) konst type_alias
 
 -- what follows the keyword of a constant or a static
 abbrev pub is_named : List Record → Bool
 is_named rs = one_of (IDENT ∷ UNDERSCORE ∷ MUT_KW ∷ []) (kind_at rs 1)
 
-unfoldable pub opt_extern_crate : Script Phrase
+unfoldable pub opt_extern_crate : Script Rule
 opt_extern_crate = only_if (λ rs. is_at CRATE_KW (drop 1 rs)) extern_crate
 
-unfoldable pub opt_named_const : Script Phrase
+unfoldable pub opt_named_const : Script Rule
 opt_named_const = only_if is_named konst
 
-unfoldable pub opt_static : Script Phrase
+unfoldable pub opt_static : Script Rule
 opt_static = only_if is_named static_
 
 -- an item that begins with an identifier
@@ -117,10 +117,10 @@ starts_macro_rules rs = reads_as MACRO_RULES_KW rs && (is_at BANG (drop 1 rs) &&
 abbrev pub starts_global_asm : List Record → Bool
 starts_global_asm rs = starts_builtin rs && (contextual_at rs 2 == GLOBAL_ASM_KW)
 
-unfoldable pub global_asm : Script Phrase
+unfoldable pub global_asm : Script Rule
 global_asm = bear BUILTIN_KW ▸ token POUND ▸ bear GLOBAL_ASM_KW ▸ call parse_asm_expr ▸ done
 
-unfoldable pub opt_item_by_name : Script Phrase
+unfoldable pub opt_item_by_name : Script Rule
 opt_item_by_name =
     choose
     ((starts_union, union)
@@ -129,7 +129,7 @@ opt_item_by_name =
     ∷ [])
     (give nothing)
 
-unfoldable pub opt_item_without_modifiers : Script Phrase
+unfoldable pub opt_item_without_modifiers : Script Rule
 opt_item_without_modifiers =
     choose
     ((next_is EXTERN_KW, opt_extern_crate)
@@ -146,14 +146,14 @@ opt_item_without_modifiers =
     (give nothing)
 
 -- a constant after modifiers: no block after `const`
-unfoldable pub opt_const : Script Phrase
+unfoldable pub opt_const : Script Rule
 opt_const = only_if (λ rs. not (kind_at rs 1 == L_CURLY)) konst
 
-unfoldable pub opt_extern_block : Bool → Script Phrase
+unfoldable pub opt_extern_block : Bool → Script Rule
 opt_extern_block has_extern = if has_extern then call extern_item_list ▸ finish EXTERN_BLOCK ▸ done else give nothing
 
 -- an item after its modifiers
-unfoldable pub opt_item_with_modifiers : Bool → Script Phrase
+unfoldable pub opt_item_with_modifiers : Bool → Script Rule
 opt_item_with_modifiers has_extern =
     choose
     ((next_is FN_KW, fn_)
@@ -167,40 +167,40 @@ opt_item_with_modifiers has_extern =
     (give nothing)
 
 -- where no item follows what stands before one
-unfoldable pub refuse : Bool → Bool → Script Phrase
+unfoldable pub refuse : Bool → Bool → Script Rule
 refuse has_visibility has_mods =
     if has_mods then report (codes "expected fn, trait or impl") ▸ finish ERROR ▸ done
     else if has_visibility then report (codes "expected an item") ▸ finish ERROR ▸ done
     else give nothing
 
-unfoldable pub opt_modified_item : Bool → Bool → Script Phrase
+unfoldable pub opt_modified_item : Bool → Bool → Script Rule
 opt_modified_item has_visibility is_in_extern =
     after (modifiers is_in_extern) (λ v.
     after (opt_item_with_modifiers (has_extern v)) (λ w. if_some w done
     (refuse has_visibility (has_mods v))))
 
 -- an item from the newest node on, if one comes next; nothing if none does
-unfoldable pub opt_item : Bool → Script Phrase
+unfoldable pub opt_item : Bool → Script Rule
 opt_item is_in_extern =
     after (opt_visibility false) (λ v.
     after opt_item_without_modifiers (λ w. if_some w done
     (opt_modified_item (found v) is_in_extern)))
 
 -- a semicolon after an item
-unfoldable pub after_item : Script Phrase
+unfoldable pub after_item : Script Rule
 after_item =
     optional (is_at SEMICOLON) (skip (codes "expected item, found `;`\nconsider removing this semicolon") ▸ done)
 
 -- a macro call in the place of an item, or a path alone, whose node is open
-unfoldable pub path_item : Script Phrase
+unfoldable pub path_item : Script Rule
 path_item = call use_path ▸ test (is_at BANG) macro_call (finish ERROR ▸ report (codes "expected an item") ▸ done)
 
 -- a brace that closes nothing
-unfoldable pub unmatched_brace : Script Phrase
+unfoldable pub unmatched_brace : Script Rule
 unmatched_brace = start ▸ report (codes "unmatched `}`") ▸ token R_CURLY ▸ finish ERROR ▸ done
 
 -- where no item begins and no path
-unfoldable pub missing_item : Bool → Script Phrase
+unfoldable pub missing_item : Bool → Script Rule
 missing_item stop_on_r_curly =
     choose
     ((next_is L_CURLY, error_block (codes "expected an item"))
@@ -210,18 +210,18 @@ missing_item stop_on_r_curly =
     ∷ [])
     (skip (codes "expected an item") ▸ done)
 
-unfoldable pub macro_or_error : Bool → Script Phrase
+unfoldable pub macro_or_error : Bool → Script Rule
 macro_or_error stop_on_r_curly = test is_use_path_start path_item (abandon ▸ missing_item stop_on_r_curly)
 
 -- an item after its attributes, or what stands in its place
-unfoldable pub marked_item : Bool → Bool → Script Phrase
+unfoldable pub marked_item : Bool → Bool → Script Rule
 marked_item stop_on_r_curly is_in_extern =
     after (opt_item is_in_extern) (λ v. if_some v after_item (macro_or_error stop_on_r_curly))
 
 -- an item, or a macro call in its place
-unfoldable pub item_or_macro : Bool → Bool → Script Phrase
+unfoldable pub item_or_macro : Bool → Bool → Script Rule
 item_or_macro stop_on_r_curly is_in_extern = start ▸ call outer_attrs ▸ marked_item stop_on_r_curly is_in_extern
 
 -- what a file holds, after its shebang and its frontmatter
-unfoldable pub source_file : Script Phrase
+unfoldable pub source_file : Script Rule
 source_file = eat SHEBANG ▸ eat FRONTMATTER ▸ mod_contents false

@@ -10,31 +10,31 @@ use Rattle.rap_grammar_scripts.specs.Statements.{stmt}
 use Rattle.rap_grammar_scripts.specs.UseItem.{use_tree}
 use Rattle.rap_grammar_scripts.specs.TokenTree.{token_tree}
 use Rattle.rap_grammar_scripts.specs.Patterns.{pattern_r, pattern_single_r}
-use Rattle.rap_grammar_scripts.specs.Phrase.{Phrase}
-use Rattle.rap_grammar_scripts.specs.Phrase as phrase
+use Rattle.rap_grammar_scripts.specs.declared.rule.Rule.{Rule}
+use Rattle.rap_grammar_scripts.specs.declared.rule.Rule.TheVariants as knot
 use Rattle.rap_grammar_scripts.specs.Script.{Script, Outcome, Runs, spot}
 use Rattle.rap_grammar_scripts.specs.Types.{type_with_bounds_cond, path_type_bounds}
 use Rattle.std.specs.Prelude.{true, false}
 
-unfoldable pub script_of : Phrase → Script Phrase
-script_of (phrase.expr_bp from r bp) = expr_bp from r bp
-script_of (phrase.type_with_bounds_cond allow_bounds) = type_with_bounds_cond allow_bounds
-script_of phrase.path_type_bounds = path_type_bounds true
-script_of phrase.generic_arg = generic_arg
-script_of phrase.generic_param_list = generic_param_list
-script_of phrase.bounds_without_colon = bounds_without_colon
-script_of phrase.where_clause = where_clause
-script_of phrase.pattern = pattern_r false
-script_of phrase.pattern_single = pattern_single_r false
-script_of phrase.arm_pattern = pattern_r true
-script_of (phrase.stmt semicolon) = stmt semicolon
-script_of phrase.if_expr = if_expr
-script_of (phrase.item_or_macro stop_on_r_curly is_in_extern) = item_or_macro stop_on_r_curly is_in_extern
-script_of phrase.use_tree = use_tree
-script_of phrase.meta = meta
-script_of phrase.cfg_predicate = cfg_predicate
-script_of phrase.token_tree = token_tree
+unfoldable pub script_of : Rule → Script Rule
+script_of (knot.ExprBp from r bp) = expr_bp from r bp
+script_of (knot.TypeWithBoundsCond allow_bounds) = type_with_bounds_cond allow_bounds
+script_of knot.PathTypeBounds = path_type_bounds true
+script_of knot.GenericArg = generic_arg
+script_of knot.GenericParamList = generic_param_list
+script_of knot.BoundsWithoutColon = bounds_without_colon
+script_of knot.WhereClause = where_clause
+script_of knot.Pattern = pattern_r false
+script_of knot.PatternSingle = pattern_single_r false
+script_of knot.ArmPattern = pattern_r true
+script_of (knot.Stmt semicolon) = stmt semicolon
+script_of knot.IfExpr = if_expr
+script_of (knot.ItemOrMacro stop_on_r_curly is_in_extern) = item_or_macro stop_on_r_curly is_in_extern
+script_of knot.UseTree = use_tree
+script_of knot.Meta = meta
+script_of knot.CfgPredicate = cfg_predicate
+script_of knot.TokenTree = token_tree
 
 -- the parser's calls between two states are those of the script, with this outcome
-pub record Follows (s : Script Phrase) (v : Outcome) (old new : State) : Type 0 where
+pub record Follows (s : Script Rule) (v : Outcome) (old new : State) : Type 0 where
   pub run : Runs script_of s (spot old) (spot new) v

@@ -7,14 +7,14 @@ use Rattle.rap_events.specs.Record.{next_kind}
 use Rattle.rap_events.specs.Composite.{is_at}
 use Rattle.rap_grammar_scripts.specs.First.{one_of, is_bracket}
 use Rattle.rap_grammar_scripts.specs.Grammar.{name, name_r}
-use Rattle.rap_grammar_scripts.specs.Phrase.{Phrase}
+use Rattle.rap_grammar_scripts.specs.declared.rule.Rule.{Rule}
 use Rattle.rap_grammar_scripts.specs.Recovery.{is_item_recovery}
 use Rattle.rap_grammar_scripts.specs.Script.{Script, Outcome, nothing, something, block, again, test, token, bear, report, finish, after}
 use Rattle.rap_grammar_scripts.specs.TokenTree.{token_tree, macro_call_after_excl}
 use Rattle.rap_grammar_scripts.specs.Words.{done, next_is, expect, ◌▸◌, call, choose}
 
 -- the rules of a macro in their brackets; a semicolon stands after other brackets than braces
-unfoldable pub rules_in_brackets : Script Phrase
+unfoldable pub rules_in_brackets : Script Rule
 rules_in_brackets =
     choose
     ((λ rs. one_of (L_BRACK ∷ L_PAREN ∷ []) (next_kind rs), call token_tree ▸ expect SEMICOLON ▸ done)
@@ -22,15 +22,15 @@ rules_in_brackets =
     ∷ [])
     (report (codes "expected `{`, `[`, `(`") ▸ done)
 
-unfoldable pub macro_rules : Script Phrase
+unfoldable pub macro_rules : Script Rule
 macro_rules = bear MACRO_RULES_KW ▸ expect BANG ▸ call name ▸ call rules_in_brackets ▸ finish MACRO_RULES ▸ done
 
 -- what a macro is expanded to, after its parameters
-unfoldable pub macro_def_body : Script Phrase
+unfoldable pub macro_def_body : Script Rule
 macro_def_body =
     test (λ rs. is_bracket (next_kind rs)) token_tree (report (codes "expected `{`, `[`, `(`") ▸ done)
 
-unfoldable pub macro_def_tokens : Script Phrase
+unfoldable pub macro_def_tokens : Script Rule
 macro_def_tokens =
     choose
     ((is_at L_CURLY, token_tree)
@@ -38,16 +38,16 @@ macro_def_tokens =
     ∷ [])
     (report (codes "unmatched `(`") ▸ done)
 
-unfoldable pub macro_def : Script Phrase
+unfoldable pub macro_def : Script Rule
 macro_def = token MACRO_KW ▸ call (name_r is_item_recovery) ▸ call macro_def_tokens ▸ finish MACRO_DEF ▸ done
 
 -- a semicolon, but not after braces
-abbrev pub semicolon_after : Outcome → Script Phrase → Script Phrase
+abbrev pub semicolon_after : Outcome → Script Rule → Script Rule
 semicolon_after nothing s = expect SEMICOLON ▸ s
 semicolon_after something s = expect SEMICOLON ▸ s
 semicolon_after block s = s
 semicolon_after (again a b) s = s
 
 -- a macro call after its path, whose node is open
-unfoldable pub macro_call : Script Phrase
+unfoldable pub macro_call : Script Rule
 macro_call = after macro_call_after_excl (λ v. semicolon_after v (finish MACRO_CALL done))

@@ -7,7 +7,7 @@ use Rattle.rap_events.specs.Record.{Record, kind_at}
 use Rattle.rap_events.specs.Composite.{is_at}
 use Rattle.rap_grammar_scripts.specs.First.{one_of}
 use Rattle.rap_grammar_scripts.specs.Grammar.{abi}
-use Rattle.rap_grammar_scripts.specs.Phrase.{Phrase}
+use Rattle.rap_grammar_scripts.specs.declared.rule.Rule.{Rule}
 use Rattle.rap_grammar_scripts.specs.Script.{Script, Outcome, nothing, something, block, again, give, token, bear, report, start, finish, after}
 use Rattle.rap_grammar_scripts.specs.Visibility.{opt_visibility_inner}
 use Rattle.rap_grammar_scripts.specs.Words.{done, if_some, reads_as, eat, ◌▸◌, choose, only_if}
@@ -33,21 +33,21 @@ is_impl_restriction rs =
     ((one_of (CRATE_KW ∷ SUPER_KW ∷ SELF_KW ∷ []) (kind_at rs 2) && (kind_at rs 3 == R_PAREN)) ||
     (kind_at rs 2 == IN_KW)))
 
-unfoldable pub impl_restriction : Script Phrase
+unfoldable pub impl_restriction : Script Rule
 impl_restriction =
     start ▸ token IMPL_KW ▸
     after (opt_visibility_inner false) (λ v.
     if_some v (finish IMPL_RESTRICTION ▸ done)
     (report (codes "expected an impl restriction") ▸ finish IMPL_RESTRICTION ▸ done))
 
-unfoldable pub opt_impl_restriction : Script Phrase
+unfoldable pub opt_impl_restriction : Script Rule
 opt_impl_restriction = only_if is_impl_restriction impl_restriction
 
 -- a modifier that is a keyword, or an identifier that is read as one, if the tokens that come next say so
-unfoldable pub modifier : (List Record → Bool) → ℕ → Script Phrase
+unfoldable pub modifier : (List Record → Bool) → ℕ → Script Rule
 modifier h kind = only_if h (token kind ▸ done)
 
-unfoldable pub modifier_as : (List Record → Bool) → ℕ → Script Phrase
+unfoldable pub modifier_as : (List Record → Bool) → ℕ → Script Rule
 modifier_as h kind = only_if h (bear kind ▸ done)
 
 -- a keyword before an item, and before no block and no closure
@@ -71,20 +71,20 @@ is_safe_modifier is_in_extern rs = is_in_extern && reads_as SAFE_KW rs
 abbrev pub is_auto_modifier : List Record → Bool
 is_auto_modifier rs = reads_as AUTO_KW rs && (kind_at rs 1 == TRAIT_KW)
 
-unfoldable pub qualifiers : Script Phrase
+unfoldable pub qualifiers : Script Rule
 qualifiers =
     after (modifier is_const_modifier CONST_KW) (λ a.
     after (modifier is_async_modifier ASYNC_KW) (λ b.
     after (modifier is_gen_modifier GEN_KW) (λ c.
     give (either_of a (either_of b c)))))
 
-unfoldable pub safety : Bool → Script Phrase
+unfoldable pub safety : Bool → Script Rule
 safety is_in_extern =
     after (modifier is_unsafe_modifier UNSAFE_KW) (λ a.
     after (modifier_as (is_safe_modifier is_in_extern) SAFE_KW) (λ b.
     give (either_of a b)))
 
-unfoldable pub opt_abi : Script Phrase
+unfoldable pub opt_abi : Script Rule
 opt_abi = only_if (is_at EXTERN_KW) abi
 
 -- a `default` before an item, and with the modifier after it
@@ -100,7 +100,7 @@ is_default_async rs =
     reads_as DEFAULT_KW rs && (is_at ASYNC_KW (drop 1 rs)
     && (is_at FN_KW (drop 2 rs) || (is_at UNSAFE_KW (drop 2 rs) && is_at FN_KW (drop 3 rs))))
 
-unfoldable pub opt_default : Script Phrase
+unfoldable pub opt_default : Script Rule
 opt_default =
     choose
     ((is_default, bear DEFAULT_KW ▸ done)
@@ -109,7 +109,7 @@ opt_default =
     ∷ [])
     (give nothing)
 
-unfoldable pub auto_or_default : Script Phrase
+unfoldable pub auto_or_default : Script Rule
 auto_or_default =
     after (modifier_as is_auto_modifier AUTO_KW) (λ a. after opt_default (λ b. give (either_of a b)))
 
@@ -118,7 +118,7 @@ abbrev pub of_modifiers : Bool → Bool → Outcome
 of_modifiers any is_extern = again any is_extern
 
 -- all modifiers
-unfoldable pub modifiers : Bool → Script Phrase
+unfoldable pub modifiers : Bool → Script Rule
 modifiers is_in_extern =
     after opt_impl_restriction (λ a.
     after qualifiers (λ b.

@@ -8,7 +8,7 @@ use Rattle.rap_grammar_scripts.specs.Attributes.{outer_attrs}
 use Rattle.rap_grammar_scripts.specs.Called.{type_, pattern, pattern_single}
 use Rattle.rap_grammar_scripts.specs.First.{is_param_first}
 use Rattle.rap_grammar_scripts.specs.Grammar.{lifetime}
-use Rattle.rap_grammar_scripts.specs.Phrase.{Phrase}
+use Rattle.rap_grammar_scripts.specs.declared.rule.Rule.{Rule}
 use Rattle.rap_grammar_scripts.specs.Script.{Script, nothing, give, test, token, report, start, finish, abandon, after, loop, again}
 use Rattle.rap_grammar_scripts.specs.TypeParts.{ascription}
 use Rattle.rap_grammar_scripts.specs.Words.{done, if_some, eat, expect, ◌▸◌, call, choose, optional, only_if}
@@ -42,33 +42,33 @@ is_self_value rs = is_isolated_self (past MUT_KW 0 rs) rs
 abbrev pub is_self_ref : List Record → Bool
 is_self_ref rs = is_at AMP rs && is_isolated_self (past MUT_KW (past LIFETIME_IDENT 1 rs) rs) rs
 
-unfoldable pub self_as_name : Script Phrase
+unfoldable pub self_as_name : Script Rule
 self_as_name = start ▸ token SELF_KW ▸ finish NAME ▸ done
 
-unfoldable pub self_value : Script Phrase
+unfoldable pub self_value : Script Rule
 self_value = eat MUT_KW ▸ call self_as_name ▸ optional (is_at COLON) ascription
 
 -- a `self` after a `mut`, if there is one
-unfoldable pub self_mut : Script Phrase
+unfoldable pub self_mut : Script Rule
 self_mut = eat MUT_KW ▸ self_as_name
 
-unfoldable pub self_ref : Script Phrase
+unfoldable pub self_ref : Script Rule
 self_ref = token AMP ▸ test (is_at LIFETIME_IDENT) (call lifetime ▸ self_mut) self_mut
 
 -- a parameter that is a `self`, without its marker, if one comes next
-unfoldable pub opt_self_param : Script Phrase
+unfoldable pub opt_self_param : Script Rule
 opt_self_param = choose ((is_self_value, self_value) ∷ (is_self_ref, self_ref) ∷ []) (give nothing)
 
-unfoldable pub variadic_param : Script Phrase
+unfoldable pub variadic_param : Script Rule
 variadic_param = only_if (λ rs. is_at COLON rs && is_at DOT3 (drop 1 rs)) (token COLON ▸ token DOT3 ▸ done)
 
 -- what stands after a parameter's pattern
-unfoldable pub param_type : Script Phrase
+unfoldable pub param_type : Script Rule
 param_type =
     after variadic_param (λ v.
     if_some v done (test (is_at COLON) ascription (report (codes "missing type for function parameter") ▸ done)))
 
-unfoldable pub fn_def_param : Script Phrase
+unfoldable pub fn_def_param : Script Rule
 fn_def_param = test (is_at DOT3) (token DOT3 ▸ done) (call pattern ▸ param_type)
 
 -- a name and a colon come next
@@ -76,20 +76,20 @@ abbrev pub is_named_param : List Record → Bool
 is_named_param rs =
     (is_at IDENT rs || is_at UNDERSCORE rs) && ((kind_at rs 1 == COLON) && not (is_at COLON2 (drop 1 rs)))
 
-unfoldable pub fn_ptr_param : Script Phrase
+unfoldable pub fn_ptr_param : Script Rule
 fn_ptr_param = choose ((is_at DOT3, token DOT3 ▸ done) ∷ (is_named_param, call pattern_single ▸ param_type) ∷ []) type_
 
-unfoldable pub closure_param : Script Phrase
+unfoldable pub closure_param : Script Rule
 closure_param = call pattern_single ▸ optional (λ rs. is_at COLON rs && not (is_at COLON2 rs)) ascription
 
 -- a parameter without its marker
-abbrev pub param : Flavor → Script Phrase
+abbrev pub param : Flavor → Script Rule
 param flavor.FnDef = fn_def_param
 param flavor.FnPointer = fn_ptr_param
 param flavor.Closure = closure_param
 
 -- on to the next parameter: something where one may follow
-unfoldable pub after_param : Script Phrase
+unfoldable pub after_param : Script Rule
 after_param =
     choose
     ((is_at COMMA, token COMMA ▸ done)
@@ -98,15 +98,15 @@ after_param =
     (give nothing)
 
 -- a parameter from its marker on, after its attributes
-unfoldable pub marked_param : Flavor → Script Phrase
+unfoldable pub marked_param : Flavor → Script Rule
 marked_param f =
     test (λ rs. is_param_first (next_kind rs)) (call (param f) ▸ finish PARAM ▸ after_param)
     (report (codes "expected value parameter") ▸ abandon ▸ only_if (is_at COMMA) (token COMMA ▸ done))
 
-unfoldable pub attributed_param : Flavor → Script Phrase
+unfoldable pub attributed_param : Flavor → Script Rule
 attributed_param f = start ▸ call outer_attrs ▸ marked_param f
 
-abbrev pub param_turn : Flavor → Bool → Bool → Script Phrase
+abbrev pub param_turn : Flavor → Bool → Bool → Script Rule
 param_turn f a b =
     choose
     ((is_at EOF, done)
@@ -114,15 +114,15 @@ param_turn f a b =
     ∷ [])
     (after (attributed_param f) (λ v. if_some v (give (again a b)) done))
 
-unfoldable pub params : Flavor → Script Phrase
+unfoldable pub params : Flavor → Script Rule
 params f = loop (param_turn f) false false
 
 -- what comes after `self`
-unfoldable pub after_self : Script Phrase
+unfoldable pub after_self : Script Rule
 after_self = test (is_at R_PAREN) done (expect COMMA ▸ done)
 
 -- the first parameter of a function, which may be a `self`: something where another one may follow
-unfoldable pub first_param : Script Phrase
+unfoldable pub first_param : Script Rule
 first_param =
     start ▸ call outer_attrs ▸
     after opt_self_param (λ w.
@@ -133,22 +133,22 @@ first_param =
     ∷ [])
     (marked_param flavor.FnDef)))
 
-unfoldable pub fn_def_params : Script Phrase
+unfoldable pub fn_def_params : Script Rule
 fn_def_params = after first_param (λ v. if_some v (params flavor.FnDef) done)
 
-abbrev pub params_of : Flavor → Script Phrase
+abbrev pub params_of : Flavor → Script Rule
 params_of flavor.FnDef = fn_def_params
 params_of flavor.FnPointer = params flavor.FnPointer
 params_of flavor.Closure = params flavor.Closure
 
-unfoldable pub list_ : Flavor → Script Phrase
+unfoldable pub list_ : Flavor → Script Rule
 list_ f = start ▸ token (bra f) ▸ call (params_of f) ▸ expect (ket f) ▸ finish PARAM_LIST ▸ done
 
-unfoldable pub param_list_fn_def : Script Phrase
+unfoldable pub param_list_fn_def : Script Rule
 param_list_fn_def = list_ flavor.FnDef
 
-unfoldable pub param_list_fn_ptr : Script Phrase
+unfoldable pub param_list_fn_ptr : Script Rule
 param_list_fn_ptr = list_ flavor.FnPointer
 
-unfoldable pub param_list_closure : Script Phrase
+unfoldable pub param_list_closure : Script Rule
 param_list_closure = list_ flavor.Closure

@@ -7,7 +7,7 @@ use Rattle.rap_events.specs.Composite.{is_at}
 use Rattle.rap_grammar_scripts.specs.Called.{type_, path_type_bounds, generic_arg_element}
 use Rattle.rap_grammar_scripts.specs.First.{one_of, is_path_name, is_type_first, is_generic_arg_first, is_use_path_start, starts_expr_args}
 use Rattle.rap_grammar_scripts.specs.Grammar.{name_ref_mod_path, delimited, opt_ret_type}
-use Rattle.rap_grammar_scripts.specs.Phrase.{Phrase}
+use Rattle.rap_grammar_scripts.specs.declared.rule.Rule.{Rule}
 use Rattle.rap_grammar_scripts.specs.Recovery.{is_segment_recovery}
 use Rattle.rap_grammar_scripts.specs.Script.{Script, nothing, give, test, token, report, start, precede, finish, abandon, after, loop, again}
 use Rattle.rap_grammar_scripts.specs.Words.{done, if_some, next_is, expect, recover, ◌▸◌, call, choose, optional}
@@ -15,33 +15,33 @@ use Rattle.rap_grammar_scripts.specs.declared.arguments.Mode.{Mode}
 use Rattle.rap_grammar_scripts.specs.declared.arguments.Mode.TheVariants as mode
 
 -- arguments in angle brackets, whose node is open
-unfoldable pub generic_arg_list : Script Phrase
+unfoldable pub generic_arg_list : Script Rule
 generic_arg_list =
     call (delimited generic_arg_element L_ANGLE R_ANGLE COMMA (codes "expected generic argument") is_generic_arg_first)
     ▸ finish GENERIC_ARG_LIST ▸ done
 
 -- the arguments after a name in an expression
-unfoldable pub opt_generic_arg_list_expr : Script Phrase
+unfoldable pub opt_generic_arg_list_expr : Script Rule
 opt_generic_arg_list_expr = optional starts_expr_args (start ▸ token COLON2 ▸ generic_arg_list)
 
 -- A type among those in parentheses. Where none begins, the list ends after its message.
-unfoldable pub type_arg_element : Script Phrase
+unfoldable pub type_arg_element : Script Rule
 type_arg_element =
     test (λ rs. is_type_first (next_kind rs)) (start ▸ call type_ ▸ finish TYPE_ARG ▸ done)
     (start ▸ call type_ ▸ finish TYPE_ARG ▸ give nothing)
 
 -- types in parentheses, as those of a function that are taken, and the return type; their node is open
-unfoldable pub parenthesized_args : Script Phrase
+unfoldable pub parenthesized_args : Script Rule
 parenthesized_args =
     call (delimited type_arg_element L_PAREN R_PAREN COMMA (codes "expected type") is_type_first) ▸
     finish PARENTHESIZED_ARG_LIST ▸ call opt_ret_type ▸ done
 
 -- two dots in parentheses, as in the return type notation `f(..)`; their node is open
-unfoldable pub return_type_syntax : Script Phrase
+unfoldable pub return_type_syntax : Script Rule
 return_type_syntax = token L_PAREN ▸ token DOT2 ▸ expect R_PAREN ▸ finish RETURN_TYPE_SYNTAX ▸ done
 
 -- arguments from their bracket on; their node is open
-unfoldable pub path_type_args : Script Phrase
+unfoldable pub path_type_args : Script Rule
 path_type_args =
     choose
     ((next_is L_ANGLE, generic_arg_list)
@@ -57,11 +57,11 @@ abbrev pub has_args : List Record → Bool
 has_args rs = ((next_kind rs == L_ANGLE) && not (kind_at rs 1 == EQ)) || (next_kind rs == L_PAREN)
 
 -- the arguments after a name in a type
-unfoldable pub opt_path_type_args : Script Phrase
+unfoldable pub opt_path_type_args : Script Rule
 opt_path_type_args =
     choose ((has_args_behind, start ▸ token COLON2 ▸ path_type_args) ∷ (has_args, start ▸ path_type_args) ∷ []) done
 
-unfoldable pub opt_path_args : Mode → Script Phrase
+unfoldable pub opt_path_args : Mode → Script Rule
 opt_path_args mode.Use = done
 opt_path_args mode.Attr = done
 opt_path_args mode.Type = opt_path_type_args
@@ -69,33 +69,33 @@ opt_path_args mode.Expr = opt_generic_arg_list_expr
 opt_path_args mode.Vis = done
 
 -- Where a segment's name is missing and nothing of the segment was taken, a message is all, unless it skips a token.
-unfoldable pub missing_segment_name : Mode → Bool → Script Phrase
+unfoldable pub missing_segment_name : Mode → Bool → Script Rule
 missing_segment_name m empty =
     recover (codes "expected identifier, `self`, `super`, `crate`, or `Self`") (is_segment_recovery m)
     (if empty then abandon ▸ give nothing else (finish PATH_SEGMENT ▸ done))
     (finish PATH_SEGMENT ▸ done)
 
 -- a segment's name, and the arguments after it
-unfoldable pub segment_name : Mode → Bool → Script Phrase
+unfoldable pub segment_name : Mode → Bool → Script Rule
 segment_name m empty =
     test (λ rs. is_path_name (next_kind rs))
     (call name_ref_mod_path ▸ call (opt_path_args m) ▸ finish PATH_SEGMENT ▸ done)
     (missing_segment_name m empty)
 
 -- the trait of a type anchor
-unfoldable pub anchor_trait : Script Phrase
+unfoldable pub anchor_trait : Script Rule
 anchor_trait =
     optional (is_at AS_KW)
     (token AS_KW ▸ test is_use_path_start path_type_bounds (report (codes "expected a trait") ▸ done))
 
 -- a type, and its trait, in the angle brackets that a path begins with
-unfoldable pub type_anchor : Script Phrase
+unfoldable pub type_anchor : Script Rule
 type_anchor =
     start ▸ token L_ANGLE ▸ call type_ ▸ call anchor_trait ▸ expect R_ANGLE ▸ finish TYPE_ANCHOR ▸
     test (is_at COLON2) done (report (codes "expected `::`") ▸ done)
 
 -- a segment, with `::` before it, or a type anchor, where it is the first
-unfoldable pub path_segment : Mode → Bool → Script Phrase
+unfoldable pub path_segment : Mode → Bool → Script Rule
 path_segment m false = start ▸ segment_name m true
 path_segment m true =
     start ▸
@@ -113,33 +113,33 @@ has_segment mode.Type rs = is_at COLON2 rs
 has_segment mode.Expr rs = is_at COLON2 rs
 has_segment mode.Vis rs = is_at COLON2 rs
 
-abbrev pub segment_turn : Mode → Bool → Bool → Script Phrase
+abbrev pub segment_turn : Mode → Bool → Bool → Script Rule
 segment_turn m a b =
     optional (has_segment m) (precede ▸ token COLON2 ▸ call (path_segment m false) ▸ finish PATH ▸ give (again a b))
 
 -- the segments after a path, each with that path in a larger one
-unfoldable pub path_for_qualifier : Mode → Script Phrase
+unfoldable pub path_for_qualifier : Mode → Script Rule
 path_for_qualifier m = loop (segment_turn m) false false
 
-unfoldable pub path : Mode → Script Phrase
+unfoldable pub path : Mode → Script Rule
 path m =
     start ▸ after (path_segment m true) (λ v. if_some v (finish PATH ▸ path_for_qualifier m) (abandon ▸ give nothing))
 
 -- a path in an import, in an attribute, in a type, in an expression and in a restriction
-unfoldable pub use_path : Script Phrase
+unfoldable pub use_path : Script Rule
 use_path = call (path mode.Use) ▸ done
 
-unfoldable pub attr_path : Script Phrase
+unfoldable pub attr_path : Script Rule
 attr_path = call (path mode.Attr) ▸ done
 
-unfoldable pub type_path : Script Phrase
+unfoldable pub type_path : Script Rule
 type_path = call (path mode.Type) ▸ done
 
-unfoldable pub expr_path : Script Phrase
+unfoldable pub expr_path : Script Rule
 expr_path = call (path mode.Expr) ▸ done
 
-unfoldable pub vis_path : Script Phrase
+unfoldable pub vis_path : Script Rule
 vis_path = call (path mode.Vis) ▸ done
 
-unfoldable pub type_path_for_qualifier : Script Phrase
+unfoldable pub type_path_for_qualifier : Script Rule
 type_path_for_qualifier = path_for_qualifier mode.Type

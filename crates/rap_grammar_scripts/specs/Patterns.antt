@@ -12,26 +12,26 @@ use Rattle.rap_grammar_scripts.specs.First.{one_of, is_literal_first, is_pat_top
 use Rattle.rap_grammar_scripts.specs.Grammar.{name_r, name_ref_or_index}
 use Rattle.rap_grammar_scripts.specs.TokenTree.{macro_call_after_excl}
 use Rattle.rap_grammar_scripts.specs.Paths.{expr_path}
-use Rattle.rap_grammar_scripts.specs.Phrase.{Phrase}
+use Rattle.rap_grammar_scripts.specs.declared.rule.Rule.{Rule}
 use Rattle.rap_grammar_scripts.specs.Recovery.{is_pattern_recovery, is_arm_recovery}
 use Rattle.rap_grammar_scripts.specs.Script.{Script, Outcome, nothing, something, block, again, give, test, token, bear, report, report_next, skip, start, precede, finish, abandon, after, loop}
 use Rattle.rap_grammar_scripts.specs.Words.{done, if_some, next_is, reads_as, eat, expect, recover, of_bool, starts_builtin, ◌▸◌, call, choose, optional, only_if}
 
 -- a name that is bound
-unfoldable pub binding : Script Phrase
+unfoldable pub binding : Script Rule
 binding = eat REF_KW ▸ eat MUT_KW ▸ name_r is_pattern_recovery
 
 -- the pattern that a name stands for, after its `@`
-unfoldable pub at_pattern : Bool → Script Phrase
+unfoldable pub at_pattern : Bool → Script Rule
 at_pattern with_at = optional (λ rs. with_at && is_at AT rs) (token AT ▸ call pattern_single ▸ done)
 
-unfoldable pub ident_pat : Bool → Script Phrase
+unfoldable pub ident_pat : Bool → Script Rule
 ident_pat with_at = start ▸ call binding ▸ call (at_pattern with_at) ▸ finish IDENT_PAT ▸ done
 
-unfoldable pub box_pat : Script Phrase
+unfoldable pub box_pat : Script Rule
 box_pat = start ▸ token BOX_KW ▸ call pattern_single ▸ finish BOX_PAT ▸ done
 
-unfoldable pub const_block_pat : Script Phrase
+unfoldable pub const_block_pat : Script Rule
 const_block_pat = start ▸ token CONST_KW ▸ call block_expr ▸ finish CONST_BLOCK_PAT ▸ done
 
 -- a literal comes next, be it with a minus
@@ -39,20 +39,20 @@ abbrev pub is_literal_pat_start : List Record → Bool
 is_literal_pat_start rs =
     (is_at MINUS rs && one_of (INT_NUMBER ∷ FLOAT_NUMBER ∷ []) (kind_at rs 1)) || is_literal_first (next_kind rs)
 
-unfoldable pub literal_pat : Script Phrase
+unfoldable pub literal_pat : Script Rule
 literal_pat = start ▸ eat MINUS ▸ call literal ▸ finish LITERAL_PAT ▸ done
 
-unfoldable pub wildcard_pat : Script Phrase
+unfoldable pub wildcard_pat : Script Rule
 wildcard_pat = start ▸ token UNDERSCORE ▸ finish WILDCARD_PAT ▸ done
 
-unfoldable pub ref_pat : Script Phrase
+unfoldable pub ref_pat : Script Rule
 ref_pat = start ▸ token AMP ▸ eat MUT_KW ▸ call pattern_single ▸ finish REF_PAT ▸ done
 
-unfoldable pub not_null_pat : Script Phrase
+unfoldable pub not_null_pat : Script Rule
 not_null_pat = start ▸ token BANG ▸ call pattern_single ▸ finish NOT_NULL ▸ done
 
 -- Patterns with commas between them. A comma that is missing before another pattern is reported.
-abbrev pub pat_turn : ℕ → Bool → Bool → Script Phrase
+abbrev pub pat_turn : ℕ → Bool → Bool → Script Rule
 pat_turn ket a b =
     choose
     ((is_at EOF, done)
@@ -65,10 +65,10 @@ pat_turn ket a b =
     ∷ [])
     done)
 
-unfoldable pub pat_list : ℕ → Script Phrase
+unfoldable pub pat_list : ℕ → Script Rule
 pat_list ket = loop (pat_turn ket) false false
 
-unfoldable pub slice_pat : Script Phrase
+unfoldable pub slice_pat : Script Rule
 slice_pat = start ▸ token L_BRACK ▸ call (pat_list R_BRACK) ▸ expect R_BRACK ▸ finish SLICE_PAT ▸ done
 
 -- `..` comes next that is no range's beginning
@@ -76,16 +76,16 @@ abbrev pub is_rest_pat : List Record → Bool
 is_rest_pat rs = not (is_at DOT2EQ rs) && (is_at DOT2 rs && not (is_range_pat_end_first (kind_at rs 2)))
 
 -- a comma before the first pattern
-unfoldable pub leading_comma : Script Phrase
+unfoldable pub leading_comma : Script Rule
 leading_comma = only_if (is_at COMMA) (token COMMA ▸ report (codes "expected pattern") ▸ done)
 
 -- A pattern, and a comma unless it is the last. There is a comma or a `..`, or none up to here.
-abbrev pub tuple_element : Bool → Script Phrase
+abbrev pub tuple_element : Bool → Script Rule
 tuple_element tuple =
     call pattern ▸ test (is_at R_PAREN) (give (again tuple true)) (expect COMMA ▸ give (again true true))
 
 -- The flags: there is a comma or a `..`, and there is a pattern.
-abbrev pub tuple_pat_turn : Bool → Bool → Script Phrase
+abbrev pub tuple_pat_turn : Bool → Bool → Script Rule
 tuple_pat_turn tuple seen =
     choose
     ((is_at EOF, give (of_bool (seen && not tuple)))
@@ -98,7 +98,7 @@ tuple_pat_turn tuple seen =
     (report (codes "expected a pattern") ▸ give (of_bool (not tuple)))
 
 -- what stands in parentheses: something where it is one pattern, no comma and no `..`
-unfoldable pub tuple_patterns : Bool → Script Phrase
+unfoldable pub tuple_patterns : Bool → Script Rule
 tuple_patterns comma = loop tuple_pat_turn comma false
 
 abbrev pub is_something : Outcome → Bool
@@ -113,7 +113,7 @@ tuple_pat_kind something = PAREN_PAT
 tuple_pat_kind block = PAREN_PAT
 tuple_pat_kind (again a b) = PAREN_PAT
 
-unfoldable pub tuple_pat : Script Phrase
+unfoldable pub tuple_pat : Script Rule
 tuple_pat =
     start ▸ token L_PAREN ▸
     after leading_comma (λ v.
@@ -123,7 +123,7 @@ tuple_pat =
 abbrev pub at_field : ℕ → List Record → Bool
 at_field separator rs = one_of (IDENT ∷ INT_NUMBER ∷ []) (next_kind rs) && (kind_at rs 1 == separator)
 
-unfoldable pub record_pat_field : Script Phrase
+unfoldable pub record_pat_field : Script Rule
 record_pat_field =
     choose
     ((at_field COLON, call name_ref_or_index ▸ token COLON ▸ call pattern ▸ done)
@@ -134,7 +134,7 @@ record_pat_field =
     (skip (codes "expected identifier") ▸ done)
 
 -- a field with its attributes, or the `..` for the other fields
-unfoldable pub record_pat_element : Script Phrase
+unfoldable pub record_pat_element : Script Rule
 record_pat_element =
     start ▸ call outer_attrs ▸
     choose
@@ -143,7 +143,7 @@ record_pat_element =
     ∷ [])
     (call record_pat_field ▸ finish RECORD_PAT_FIELD ▸ done)
 
-abbrev pub record_pat_turn : Bool → Bool → Script Phrase
+abbrev pub record_pat_turn : Bool → Bool → Script Rule
 record_pat_turn a b =
     choose
     ((is_at EOF, done)
@@ -151,18 +151,18 @@ record_pat_turn a b =
     ∷ [])
     (call record_pat_element ▸ test (is_at R_CURLY) (give (again a b)) (expect COMMA ▸ give (again a b)))
 
-unfoldable pub record_pat_fields : Script Phrase
+unfoldable pub record_pat_fields : Script Rule
 record_pat_fields = loop record_pat_turn false false
 
-unfoldable pub record_pat_field_list : Script Phrase
+unfoldable pub record_pat_field_list : Script Rule
 record_pat_field_list =
     start ▸ token L_CURLY ▸ call record_pat_fields ▸ expect R_CURLY ▸ finish RECORD_PAT_FIELD_LIST ▸ done
 
-unfoldable pub tuple_pat_fields : Script Phrase
+unfoldable pub tuple_pat_fields : Script Rule
 tuple_pat_fields = token L_PAREN ▸ call (pat_list R_PAREN) ▸ expect R_PAREN ▸ done
 
 -- a path alone, with its fields, or as the name of a macro
-unfoldable pub path_or_macro_pat : Script Phrase
+unfoldable pub path_or_macro_pat : Script Rule
 path_or_macro_pat =
     start ▸ call expr_path ▸
     choose
@@ -173,7 +173,7 @@ path_or_macro_pat =
     (finish PATH_PAT ▸ done)
 
 -- `builtin#` with a name after it, which is not taken where it is unknown
-unfoldable pub builtin_pat : Script Phrase
+unfoldable pub builtin_pat : Script Rule
 builtin_pat =
     start ▸ bear BUILTIN_KW ▸ token POUND ▸
     choose
@@ -197,11 +197,11 @@ ends_search false kind = is_pattern_recovery kind
 ends_search true kind = is_arm_recovery kind
 
 -- no pattern begins
-unfoldable pub missing_pat : Bool → Script Phrase
+unfoldable pub missing_pat : Bool → Script Rule
 missing_pat in_arm = recover (codes "expected pattern") (ends_search in_arm) (give nothing) (give nothing)
 
 -- a pattern that begins with no keyword and no path
-unfoldable pub symbol_pat : Bool → Script Phrase
+unfoldable pub symbol_pat : Bool → Script Rule
 symbol_pat in_arm =
     choose
     ((is_literal_pat_start, literal_pat)
@@ -213,7 +213,7 @@ symbol_pat in_arm =
     ∷ [])
     (missing_pat in_arm)
 
-unfoldable pub atom_pat : Bool → Script Phrase
+unfoldable pub atom_pat : Bool → Script Rule
 atom_pat in_arm =
     choose
     ((starts_builtin, builtin_pat)
@@ -230,13 +230,13 @@ abbrev pub ends_range_pat : ℕ → Bool
 ends_range_pat kind = one_of (EQ ∷ COMMA ∷ COLON ∷ R_PAREN ∷ R_CURLY ∷ R_BRACK ∷ IF_KW ∷ PIPE ∷ EOF ∷ []) kind
 
 -- a range from the pattern before it on
-unfoldable pub range_from_pat : Bool → ℕ → Script Phrase
+unfoldable pub range_from_pat : Bool → ℕ → Script Rule
 range_from_pat in_arm op =
     precede ▸ token op ▸
     test (λ rs. ends_range_pat (next_kind rs)) (finish RANGE_PAT ▸ done)
     (call (atom_pat in_arm) ▸ finish RANGE_PAT ▸ done)
 
-unfoldable pub range_op : Bool → Script Phrase
+unfoldable pub range_op : Bool → Script Rule
 range_op in_arm =
     choose
     ((is_at DOT3, range_from_pat in_arm DOT3)
@@ -246,16 +246,16 @@ range_op in_arm =
     done
 
 -- a range without a start, and `..` alone
-unfoldable pub range_to_pat : Bool → Script Phrase
+unfoldable pub range_to_pat : Bool → Script Rule
 range_to_pat in_arm = start ▸ token DOT2EQ ▸ call (atom_pat in_arm) ▸ finish RANGE_PAT ▸ done
 
-unfoldable pub rest_pat : Bool → Script Phrase
+unfoldable pub rest_pat : Bool → Script Rule
 rest_pat in_arm =
     start ▸ token DOT2 ▸
     test (λ rs. is_range_pat_end_first (next_kind rs)) (call (atom_pat in_arm) ▸ finish RANGE_PAT ▸ done)
     (finish REST_PAT ▸ done)
 
-unfoldable pub pattern_single_r : Bool → Script Phrase
+unfoldable pub pattern_single_r : Bool → Script Rule
 pattern_single_r in_arm =
     choose
     ((is_at DOT2EQ, range_to_pat in_arm)
@@ -263,14 +263,14 @@ pattern_single_r in_arm =
     ∷ [])
     (after (atom_pat in_arm) (λ v. if_some v (range_op in_arm) done))
 
-abbrev pub alternative_turn : Bool → Bool → Bool → Script Phrase
+abbrev pub alternative_turn : Bool → Bool → Bool → Script Rule
 alternative_turn in_arm a b = optional (is_at PIPE) (token PIPE ▸ call (pattern_single_r in_arm) ▸ give (again a b))
 
 -- the alternatives after a first one
-unfoldable pub alternatives : Bool → Script Phrase
+unfoldable pub alternatives : Bool → Script Rule
 alternatives in_arm = loop (alternative_turn in_arm) false false
 
-unfoldable pub pattern_r : Bool → Script Phrase
+unfoldable pub pattern_r : Bool → Script Rule
 pattern_r in_arm =
     start ▸
     test (is_at PIPE) (token PIPE ▸ call (pattern_single_r in_arm) ▸ call (alternatives in_arm) ▸ finish OR_PAT ▸ done)

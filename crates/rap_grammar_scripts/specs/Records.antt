@@ -10,7 +10,7 @@ use Rattle.rap_grammar_scripts.specs.Blocks.{error_block}
 use Rattle.rap_grammar_scripts.specs.Called.{expr}
 use Rattle.rap_grammar_scripts.specs.First.{one_of}
 use Rattle.rap_grammar_scripts.specs.Grammar.{name_ref_or_index}
-use Rattle.rap_grammar_scripts.specs.Phrase.{Phrase}
+use Rattle.rap_grammar_scripts.specs.declared.rule.Rule.{Rule}
 use Rattle.rap_grammar_scripts.specs.Script.{Script, give, test, token, report, skip, start, finish, abandon, loop, again}
 use Rattle.rap_grammar_scripts.specs.Words.{done, expect, ◌▸◌, call, choose, optional}
 
@@ -19,7 +19,7 @@ abbrev pub is_field_name : ℕ → Bool
 is_field_name kind = one_of (IDENT ∷ INT_NUMBER ∷ []) kind
 
 -- a field's name and the colon after it, or nothing where the name is the value too
-unfoldable pub field_name : Script Phrase
+unfoldable pub field_name : Script Rule
 field_name =
     choose
     ((λ rs. is_at COLON (drop 1 rs), call name_ref_or_index ▸ token COLON ▸ done)
@@ -28,11 +28,11 @@ field_name =
     done
 
 -- the base of a record without its dots, with no node around it
-unfoldable pub base_without_dots : Script Phrase
+unfoldable pub base_without_dots : Script Rule
 base_without_dots = abandon ▸ expect DOT2 ▸ call expr ▸ done
 
 -- a field that begins with a name, from the newest node on
-unfoldable pub named_field : Script Phrase
+unfoldable pub named_field : Script Rule
 named_field =
     choose
     ((λ rs. is_at COLON2 (drop 1 rs), base_without_dots)
@@ -44,13 +44,13 @@ named_field =
     (call field_name ▸ call expr ▸ finish RECORD_EXPR_FIELD ▸ done)
 
 -- what stands after the dots of the base
-unfoldable pub base_of_record : Script Phrase
+unfoldable pub base_of_record : Script Rule
 base_of_record =
     test (is_at R_CURLY) done
     (call expr ▸ optional (is_at COMMA) (report (codes "cannot use a comma after the base struct") ▸ done))
 
 -- a field from the newest node on, or the base
-unfoldable pub marked_field : Script Phrase
+unfoldable pub marked_field : Script Rule
 marked_field =
     choose
     ((λ rs. is_field_name (next_kind rs), named_field)
@@ -60,10 +60,10 @@ marked_field =
     (skip (codes "expected identifier") ▸ abandon ▸ done)
 
 -- a field with its attributes
-unfoldable pub record_field : Script Phrase
+unfoldable pub record_field : Script Rule
 record_field = start ▸ call outer_attrs ▸ marked_field
 
-abbrev pub fields_turn : Bool → Bool → Script Phrase
+abbrev pub fields_turn : Bool → Bool → Script Rule
 fields_turn a b =
     choose
     ((is_at EOF, done)
@@ -71,10 +71,10 @@ fields_turn a b =
     ∷ [])
     (call record_field ▸ test (is_at R_CURLY) (give (again a b)) (expect COMMA ▸ give (again a b)))
 
-unfoldable pub record_fields : Script Phrase
+unfoldable pub record_fields : Script Rule
 record_fields = loop fields_turn false false
 
 -- the fields of a record in their braces
-unfoldable pub record_expr_field_list : Script Phrase
+unfoldable pub record_expr_field_list : Script Rule
 record_expr_field_list =
     start ▸ token L_CURLY ▸ call record_fields ▸ expect R_CURLY ▸ finish RECORD_EXPR_FIELD_LIST ▸ done

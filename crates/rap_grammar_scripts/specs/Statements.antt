@@ -11,15 +11,15 @@ use Rattle.rap_grammar_scripts.specs.Called.{as_statement}
 use Rattle.rap_grammar_scripts.specs.Expressions.{expr_bp, is_block}
 use Rattle.rap_grammar_scripts.specs.First.{is_expr_first}
 use Rattle.rap_grammar_scripts.specs.Items.{opt_item}
-use Rattle.rap_grammar_scripts.specs.Phrase.{Phrase}
-use Rattle.rap_grammar_scripts.specs.Phrase as phrase
+use Rattle.rap_grammar_scripts.specs.declared.rule.Rule.{Rule}
+use Rattle.rap_grammar_scripts.specs.declared.rule.Rule.TheVariants as knot
 use Rattle.rap_grammar_scripts.specs.Script.{Script, give, test, token, skip, start, precede, finish, abandon, after, loop, again}
 use Rattle.rap_grammar_scripts.specs.Words.{done, if_some, eat, expect, ◌▸◌, call, recur}
 use Rattle.rap_grammar_scripts.specs.declared.arguments.Semicolon.{Semicolon}
 use Rattle.rap_grammar_scripts.specs.declared.arguments.Semicolon.TheVariants as semicolon
 
 -- the semicolon after an expression, which one that reads like a block may do without
-unfoldable pub expr_semicolon : Semicolon → Bool → Script Phrase
+unfoldable pub expr_semicolon : Semicolon → Bool → Script Rule
 expr_semicolon semicolon.Required true = eat SEMICOLON done
 expr_semicolon semicolon.Required false = expect SEMICOLON done
 expr_semicolon semicolon.Optional is_block = eat SEMICOLON done
@@ -32,28 +32,28 @@ ends_block semicolon.Optional rs = is_at R_CURLY rs || is_at EOF rs
 ends_block semicolon.Forbidden rs = is_at R_CURLY rs || is_at EOF rs
 
 -- An expression as a statement, unless it ends its block.
-unfoldable pub expr_stmt_end : Semicolon → Bool → Script Phrase
+unfoldable pub expr_stmt_end : Semicolon → Bool → Script Rule
 expr_stmt_end semi is_block =
     test (ends_block semi) done (precede ▸ call (expr_semicolon semi is_block) ▸ finish EXPR_STMT ▸ done)
 
 -- an expression from the newest node on, as a statement or as the value of the block
-unfoldable pub expr_as_stmt : Semicolon → Script Phrase
+unfoldable pub expr_as_stmt : Semicolon → Script Rule
 expr_as_stmt semi =
     test (λ rs. is_expr_first (next_kind rs))
     (after (expr_bp true as_statement 1) (λ v. if_some v (expr_stmt_end semi (is_block v)) done))
     (skip (codes "expected expression, item or let statement") ▸ abandon ▸ done)
 
 -- a statement
-unfoldable pub stmt : Semicolon → Script Phrase
+unfoldable pub stmt : Semicolon → Script Rule
 stmt semi =
     test (is_at SEMICOLON) (token SEMICOLON ▸ done)
     (start ▸ call outer_attrs ▸
     test starts_let (call (let_stmt semi) ▸ finish LET_STMT ▸ done)
     (after (opt_item false) (λ w. if_some w done (expr_as_stmt semi))))
 
-abbrev pub macro_turn : Bool → Bool → Script Phrase
-macro_turn a b = test (is_at EOF) done (recur (phrase.stmt semicolon.Optional) ▸ give (again a b))
+abbrev pub macro_turn : Bool → Bool → Script Rule
+macro_turn a b = test (is_at EOF) done (recur (knot.Stmt semicolon.Optional) ▸ give (again a b))
 
 -- the statements that a macro expands to
-unfoldable pub macro_stmts : Script Phrase
+unfoldable pub macro_stmts : Script Rule
 macro_stmts = loop macro_turn false false

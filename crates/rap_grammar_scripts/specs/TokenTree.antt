@@ -6,34 +6,34 @@ use Rattle.rap_base.specs.NodeKind.{TOKEN_TREE}
 use Rattle.rap_events.specs.Record.{Record, next_kind}
 use Rattle.rap_events.specs.Composite.{is_at}
 use Rattle.rap_grammar_scripts.specs.First.{one_of, is_bracket}
-use Rattle.rap_grammar_scripts.specs.Phrase.{Phrase}
-use Rattle.rap_grammar_scripts.specs.Phrase as phrase
+use Rattle.rap_grammar_scripts.specs.declared.rule.Rule.{Rule}
+use Rattle.rap_grammar_scripts.specs.declared.rule.Rule.TheVariants as knot
 use Rattle.rap_grammar_scripts.specs.Script.{Script, nothing, block, give, token, any, report, skip, start, finish, after, loop, again}
 use Rattle.rap_grammar_scripts.specs.Words.{done, if_some, next_is, expect, ◌▸◌, call, recur, choose}
 
 -- A bracket that closes no list of these goes into an `ERROR`, but a brace ends the list.
-abbrev pub tokens_turn : ℕ → Bool → Bool → Script Phrase
+abbrev pub tokens_turn : ℕ → Bool → Bool → Script Rule
 tokens_turn ket a b =
     choose
     ((is_at EOF, done)
     ∷ (is_at ket, done)
-    ∷ (λ rs. is_bracket (next_kind rs), recur phrase.token_tree ▸ give (again a b))
+    ∷ (λ rs. is_bracket (next_kind rs), recur knot.TokenTree ▸ give (again a b))
     ∷ (next_is R_CURLY, report (codes "unmatched `}`") ▸ give nothing)
     ∷ (λ rs. one_of (R_PAREN ∷ R_BRACK ∷ []) (next_kind rs), skip (codes "unmatched brace") ▸ give (again a b))
     ∷ [])
     (any ▸ give (again a b))
 
 -- tokens, and lists of them in brackets, up to the bracket that closes this one; nothing where a brace is in the way
-unfoldable pub tokens_to : ℕ → Script Phrase
+unfoldable pub tokens_to : ℕ → Script Rule
 tokens_to ket = loop (tokens_turn ket) false false
 
 -- a list of tokens in its brackets, the second of them this one
-abbrev pub tokens_in : ℕ → Script Phrase
+abbrev pub tokens_in : ℕ → Script Rule
 tokens_in ket =
     start ▸ any ▸
     after (tokens_to ket) (λ v. if_some v (expect ket ▸ finish TOKEN_TREE ▸ done) (finish TOKEN_TREE ▸ done))
 
-unfoldable pub token_tree : Script Phrase
+unfoldable pub token_tree : Script Rule
 token_tree =
     choose
     ((next_is L_PAREN, tokens_in R_PAREN)
@@ -46,7 +46,7 @@ abbrev pub starts_macro_call : List Record → Bool
 starts_macro_call rs = is_at BANG rs && not (is_at NEQ rs)
 
 -- a macro call after its path; with braces it reads like a block
-unfoldable pub macro_call_after_excl : Script Phrase
+unfoldable pub macro_call_after_excl : Script Rule
 macro_call_after_excl =
     token BANG ▸
     choose

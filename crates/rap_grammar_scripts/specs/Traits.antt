@@ -9,41 +9,41 @@ use Rattle.rap_grammar_scripts.specs.Blocks.{error_block}
 use Rattle.rap_grammar_scripts.specs.Called.{type_, item_or_macro, bounds, bounds_without_colon, opt_generic_param_list, opt_where_clause}
 use Rattle.rap_grammar_scripts.specs.First.{one_of}
 use Rattle.rap_grammar_scripts.specs.Grammar.{name_r}
-use Rattle.rap_grammar_scripts.specs.Phrase.{Phrase}
+use Rattle.rap_grammar_scripts.specs.declared.rule.Rule.{Rule}
 use Rattle.rap_grammar_scripts.specs.Recovery.{is_item_recovery}
 use Rattle.rap_grammar_scripts.specs.Script.{Script, give, test, token, report, start, finish, loop, again}
 use Rattle.rap_grammar_scripts.specs.Words.{done, eat, expect, ◌▸◌, call, choose, optional}
 
 -- an item of a trait or an implementation, or a block in its place
-unfoldable pub assoc_item : Script Phrase
+unfoldable pub assoc_item : Script Rule
 assoc_item = test (is_at L_CURLY) (error_block (codes "expected an item")) (item_or_macro true false)
 
-abbrev pub assoc_turn : Bool → Bool → Script Phrase
+abbrev pub assoc_turn : Bool → Bool → Script Rule
 assoc_turn a b = choose ((is_at EOF, done) ∷ (is_at R_CURLY, done) ∷ []) (call assoc_item ▸ give (again a b))
 
-unfoldable pub assoc_items : Script Phrase
+unfoldable pub assoc_items : Script Rule
 assoc_items = loop assoc_turn false false
 
-unfoldable pub assoc_item_list : Script Phrase
+unfoldable pub assoc_item_list : Script Rule
 assoc_item_list =
     start ▸ token L_CURLY ▸ call inner_attrs ▸ call assoc_items ▸ expect R_CURLY ▸ finish ASSOC_ITEM_LIST ▸ done
 
 -- the same, whose missing is reported
-unfoldable pub expect_assoc_item_list : Script Phrase
+unfoldable pub expect_assoc_item_list : Script Rule
 expect_assoc_item_list = test (is_at L_CURLY) assoc_item_list (report (codes "expected `{`") ▸ done)
 
 -- what a trait stands for, after its `=`
-unfoldable pub trait_alias : Script Phrase
+unfoldable pub trait_alias : Script Rule
 trait_alias = call bounds_without_colon ▸ call opt_where_clause ▸ expect SEMICOLON ▸ done
 
-unfoldable pub opt_bounds : Script Phrase
+unfoldable pub opt_bounds : Script Rule
 opt_bounds = optional (is_at COLON) bounds
 
 -- what stands after a trait's name and parameters
-unfoldable pub trait_body : Script Phrase
+unfoldable pub trait_body : Script Rule
 trait_body = test (is_at EQ) (token EQ ▸ trait_alias) (call opt_bounds ▸ call opt_where_clause ▸ expect_assoc_item_list)
 
-unfoldable pub trait_ : Script Phrase
+unfoldable pub trait_ : Script Rule
 trait_ =
     token TRAIT_KW ▸ call (name_r is_item_recovery) ▸ call opt_generic_param_list ▸ call trait_body ▸ finish TRAIT ▸
     done
@@ -58,25 +58,25 @@ not_a_qualified_path rs =
 abbrev pub is_impl_params_start : List Record → Bool
 is_impl_params_start rs = is_at L_ANGLE rs && not_a_qualified_path rs
 
-unfoldable pub impl_params : Script Phrase
+unfoldable pub impl_params : Script Rule
 impl_params = optional is_impl_params_start opt_generic_param_list
 
 -- a `!` before a trait, and not before the braces: there it is the type
 abbrev pub is_negative_start : List Record → Bool
 is_negative_start rs = is_at BANG rs && not (is_at L_CURLY (drop 1 rs))
 
-unfoldable pub opt_negative : Script Phrase
+unfoldable pub opt_negative : Script Rule
 opt_negative = optional is_negative_start (token BANG ▸ done)
 
 -- a trait or a type
-unfoldable pub impl_type : Script Phrase
+unfoldable pub impl_type : Script Rule
 impl_type = test (is_at IMPL_KW) (report (codes "expected trait or type") ▸ done) type_
 
 -- the type of an implementation, with the trait before it
-unfoldable pub impl_types : Script Phrase
+unfoldable pub impl_types : Script Rule
 impl_types = call impl_type ▸ optional (is_at FOR_KW) (token FOR_KW ▸ impl_type)
 
-unfoldable pub impl_ : Script Phrase
+unfoldable pub impl_ : Script Rule
 impl_ =
     token IMPL_KW ▸ call impl_params ▸ eat CONST_KW ▸ call opt_negative ▸ call impl_types ▸ call opt_where_clause ▸
     call expect_assoc_item_list ▸ finish IMPL ▸ done

@@ -8,7 +8,7 @@ use Rattle.rap_grammar_scripts.specs.Called as called
 use Rattle.rap_grammar_scripts.specs.First.{one_of, is_use_path_start}
 use Rattle.rap_grammar_scripts.specs.Grammar.{delimited, opt_rename}
 use Rattle.rap_grammar_scripts.specs.Paths.{use_path}
-use Rattle.rap_grammar_scripts.specs.Phrase.{Phrase}
+use Rattle.rap_grammar_scripts.specs.declared.rule.Rule.{Rule}
 use Rattle.rap_grammar_scripts.specs.Recovery.{is_item_recovery}
 use Rattle.rap_grammar_scripts.specs.Script.{Script, test, token, report, skip, start, finish}
 use Rattle.rap_grammar_scripts.specs.Words.{done, expect, recover, ◌▸◌, call, choose, only_if}
@@ -37,30 +37,30 @@ abbrev pub missing_use_tree : List ℕ
 missing_use_tree = codes "expected one of `*`, `::`, `{`, `self`, `super` or an identifier"
 
 -- a tree in braces; where none begins, a token is skipped too
-unfoldable pub nested_use_tree : Script Phrase
+unfoldable pub nested_use_tree : Script Rule
 nested_use_tree =
     test is_use_tree_start called.use_tree
     (skip missing_use_tree ▸ only_if (λ rs. is_use_tree_list_recovery (next_kind rs)) done)
 
-unfoldable pub use_tree_list : Script Phrase
+unfoldable pub use_tree_list : Script Rule
 use_tree_list =
     start ▸ call (delimited nested_use_tree L_CURLY R_CURLY COMMA (codes "expected use tree") is_use_tree_list_first) ▸
     finish USE_TREE_LIST ▸ done
 
-unfoldable pub group : Script Phrase
+unfoldable pub group : Script Rule
 group = test (is_at STAR) (token STAR ▸ done) use_tree_list
 
 -- what stands after a path and its `::`
-unfoldable pub group_behind : Script Phrase
+unfoldable pub group_behind : Script Rule
 group_behind =
     token COLON2 ▸ test (λ rs. is_group_first (next_kind rs)) group (report (codes "expected `{` or `*`") ▸ done)
 
 -- what stands after a path
-unfoldable pub after_use_path : Script Phrase
+unfoldable pub after_use_path : Script Rule
 after_use_path = choose ((is_at AS_KW, opt_rename) ∷ (is_at COLON2, group_behind) ∷ []) done
 
 -- a tree of names, of which one begins
-unfoldable pub use_tree : Script Phrase
+unfoldable pub use_tree : Script Rule
 use_tree =
     start ▸
     choose
@@ -70,8 +70,8 @@ use_tree =
     (call use_path ▸ call after_use_path ▸ finish USE_TREE ▸ done)
 
 -- the tree of an import; where none begins, the next token is skipped too, unless an item begins there
-unfoldable pub expect_use_tree : Script Phrase
+unfoldable pub expect_use_tree : Script Rule
 expect_use_tree = test is_use_tree_start use_tree (recover missing_use_tree is_item_recovery done done)
 
-unfoldable pub use_ : Script Phrase
+unfoldable pub use_ : Script Rule
 use_ = token USE_KW ▸ call expect_use_tree ▸ expect SEMICOLON ▸ finish USE ▸ done

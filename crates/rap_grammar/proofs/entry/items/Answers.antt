@@ -1,6 +1,6 @@
 use Rattle.std.proofs.Common.{refl, rules, true, false}
 use Rattle.rap_grammar_scripts.proofs.Ends.{gives, passes, fails, answers_more}
-use Rattle.rap_grammar_scripts.specs.Phrase as phrase
+use Rattle.rap_grammar_scripts.specs.declared.rule.Rule.TheVariants as knot
 use Rattle.rap_grammar_scripts.specs.Items.{items}
 use Rattle.rap_events.proofs.Truth.{and_false}
 use Rattle.rap_grammar_frame.proofs.Steps.{by_part, turn, last_turn}
@@ -12,7 +12,7 @@ items-preserved c = record {
   script =
       turn c.items.invariant.script
       (fails (search rules)
-      (fails (and_false _) (by_part (phrase.item_or_macro false true) (answers_more (search rules) c.in_ok-run.ensures.1) gives)))
+      (fails (and_false _) (by_part (knot.ItemOrMacro false true) (answers_more (search rules) c.in_ok-run.ensures.1) gives)))
       (search rules);
 }
 
@@ -22,7 +22,7 @@ items-preserved-in_ok-run c = record {
   script =
       turn c.items.invariant.script
       (fails (search rules)
-      (fails (and_false _) (by_part (phrase.item_or_macro false true) (answers_more (search rules) c.in_ok-run.ensures.1) gives)))
+      (fails (and_false _) (by_part (knot.ItemOrMacro false true) (answers_more (search rules) c.in_ok-run.ensures.1) gives)))
       (search rules);
 }
 

@@ -1,6 +1,6 @@
 use Rattle.std.proofs.Common.{refl, rules}
 use Rattle.rap_grammar_scripts.proofs.Ends.{gives, passes, fails, answers_more}
-use Rattle.rap_grammar_scripts.specs.Phrase as phrase
+use Rattle.rap_grammar_scripts.specs.declared.rule.Rule.TheVariants as knot
 use Rattle.rap_grammar_scripts.specs.Statements.{macro_stmts}
 use Rattle.rap_grammar_scripts.specs.declared.arguments.Semicolon.TheVariants as semicolon
 use Rattle.rap_grammar_frame.proofs.Steps.{by_part, turn, last_turn}
@@ -12,7 +12,7 @@ statements-preserved c = record {
   script =
       turn c.statements.invariant.script
       (fails (search rules)
-      (by_part (phrase.stmt semicolon.Optional) (answers_more (search rules) c.in_ok-run.ensures.1) gives))
+      (by_part (knot.Stmt semicolon.Optional) (answers_more (search rules) c.in_ok-run.ensures.1) gives))
       (search rules);
 }
 
@@ -22,7 +22,7 @@ statements-preserved-in_ok-run c = record {
   script =
       turn c.statements.invariant.script
       (fails (search rules)
-      (by_part (phrase.stmt semicolon.Optional) (answers_more (search rules) c.in_ok-run.ensures.1) gives))
+      (by_part (knot.Stmt semicolon.Optional) (answers_more (search rules) c.in_ok-run.ensures.1) gives))
       (search rules);
 }
 

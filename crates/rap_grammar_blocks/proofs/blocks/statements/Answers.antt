@@ -1,6 +1,6 @@
 use Rattle.std.proofs.Common.{refl, rules}
 use Rattle.rap_grammar_scripts.specs.Blocks.{statements}
-use Rattle.rap_grammar_scripts.specs.Phrase as phrase
+use Rattle.rap_grammar_scripts.specs.declared.rule.Rule.TheVariants as knot
 use Rattle.rap_grammar_scripts.specs.declared.arguments.Semicolon.TheVariants as semicolon
 use Rattle.rap_grammar_scripts.proofs.Ends.{gives}
 use Rattle.rap_grammar_frame.proofs.Steps.{then_by, else_by, by_part, turn, last_turn}
@@ -12,7 +12,7 @@ statements-preserved g c = record {
   script = turn c.statements.invariant.script
       (else_by c.at.ensures c.statements-test.true
       (else_by c.at-in-statements.ensures c.if-not-at.true
-      (by_part (phrase.stmt semicolon.Required) c.in_ok-run.ensures.1 gives))) (search rules);
+      (by_part (knot.Stmt semicolon.Required) c.in_ok-run.ensures.1 gives))) (search rules);
 }
 
 pub statements-preserved-in_ok-run : goal.statements-preserved-in_ok-run
@@ -21,7 +21,7 @@ statements-preserved-in_ok-run g c = record {
   script = turn c.statements.invariant.script
       (else_by c.at.ensures c.statements-test.true
       (else_by c.at-in-statements.ensures c.if-not-at.true
-      (by_part (phrase.stmt semicolon.Required) c.in_ok-run.ensures.1 gives))) (search rules);
+      (by_part (knot.Stmt semicolon.Required) c.in_ok-run.ensures.1 gives))) (search rules);
 }
 
 pub returns-else-not-at-clause-script : goal.returns-else-not-at-clause-script

@@ -2,12 +2,12 @@ use Rattle.std.proofs.Common.{rules}
 use Rattle.rap_grammar_scripts.specs.Builtins.{cfg}
 use Rattle.rap_grammar_scripts.proofs.Ends.{gives}
 use Rattle.rap_grammar_frame.proofs.Steps.{by_expect, by_eat, by_part}
-use Rattle.rap_grammar_scripts.specs.Phrase as phrase
+use Rattle.rap_grammar_scripts.specs.declared.rule.Rule.TheVariants as knot
 use Rattle.rap_grammar_builtin.proofs.builtin.cfg.Goals as goal
 
 pub returns-clause-script : goal.returns-clause-script
 unfolding cfg
 returns-clause-script g c = by_expect c.in_ok-expect.ensures.state
-    (by_part phrase.cfg_predicate c.in_ok-run.ensures.1
+    (by_part knot.CfgPredicate c.in_ok-run.ensures.1
     (by_eat c.in_ok-eat.ensures.state
     (by_expect c.in_ok-expect-2.ensures.state gives)))

@@ -5,7 +5,7 @@ use Rattle.rap_events.specs.State.{state}
 use Rattle.rap_grammar_scripts.specs.First.{one_of, is_bracket}
 use Rattle.rap_grammar_scripts.specs.TokenTree.{tokens_to}
 use Rattle.rap_grammar_scripts.specs.Knot.{script_of}
-use Rattle.rap_grammar_scripts.specs.Phrase as phrase
+use Rattle.rap_grammar_scripts.specs.declared.rule.Rule.TheVariants as knot
 use Rattle.rap_grammar_scripts.proofs.Ends.{answers, gives, passes, fails, follows}
 use Rattle.rap_grammar_scripts.proofs.Balance.{nests_as_brackets}
 use Rattle.rap_grammar_scripts.proofs.Exec.{does_follow}
@@ -31,7 +31,7 @@ tokens-preserved-then-is_bracket t c = record {
       (else_by c.at.ensures c.tokens-test.true
       (else_by c.at-in-tokens.ensures c.if-not-at.true
       (then_by (by_kind is_bracket c.is_bracket.ensures c.current-kind.ensures.kind) c.if-is_bracket.true
-      (by_part phrase.token_tree (answers {n = (state c.tokens.p).left} phrase.token_tree
+      (by_part knot.TokenTree (answers {n = (state c.tokens.p).left} knot.TokenTree
       (omega (
         arith,
         h,
