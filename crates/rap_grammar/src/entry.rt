@@ -14,14 +14,15 @@ ghost use Rattle.rap_grammar_scripts.specs.Script.{something};
 ghost use Rattle.rap_grammar.specs.Top.{top_tree, with_leaves};
 ghost use Rattle.rap_grammar_scripts.specs.Statements as statement_script;
 
-use crate::knot::run;
+use crate::knot::{all_rules, run};
 use rap_base::T;
 use rap_base::no_memory::NoMemory;
 use rap_base::syntax_kind::SyntaxKind;
 use rap_events::output::{Output, Step, wrap_in_node};
 use rap_events::parser::{Marker, Parser};
-use rap_grammar_frame::knot::Rule;
+use rap_grammar_blocks::attributes::inner_attrs;
 use rap_grammar_scripts::arguments::Semicolon;
+use rap_grammar_scripts::rule::Rule;
 use std::alloc::Global;
 
 pub mod part;
@@ -116,7 +117,8 @@ fn macro_items(p: &mut Parser<'_>) -> Result<(), NoMemory>
     ensures script { OnOk result
         (Does (suc (state p.old).left) (item_script.mod_contents false) something (state p.old) (state p.new)) }
 {
-    run(p, Rule::InnerAttrs)?;
+    let g = all_rules(p);
+    inner_attrs(p, &g)?;
     items(p)?;
     Ok(())
 }

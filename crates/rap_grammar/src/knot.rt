@@ -6,13 +6,15 @@ ghost use Rattle.rap_grammar_frame.specs.Rules.{Pre, Post};
 use crate::statements::stmt;
 use rap_base::no_memory::NoMemory;
 use rap_events::parser::Parser;
-use rap_grammar_blocks::attributes::{cfg_predicate, inner_attrs, meta};
+use rap_grammar_blocks::attributes::{cfg_predicate, meta};
 use rap_grammar_control::control::if_expr;
 use rap_grammar_expressions::expressions::expr_bp;
-use rap_grammar_frame::knot::{Answer, Grammar, Rule};
+use rap_grammar_frame::knot::{Answer, Grammar};
+use rap_grammar_frame::token_tree::token_tree;
 use rap_grammar_item_kinds::use_item::use_tree;
 use rap_grammar_items::items::item_or_macro;
 use rap_grammar_patterns::patterns::{pattern_r, pattern_single_r};
+use rap_grammar_scripts::rule::Rule;
 use rap_grammar_types::generic_args::generic_arg;
 use rap_grammar_types::generic_params::{bounds_without_colon, generic_param_list, where_clause};
 use rap_grammar_types::types::{path_type_bounds, type_with_bounds_cond};
@@ -82,8 +84,8 @@ pub fn run(p: &mut Parser<'_>, rule: Rule) -> Result<Answer, NoMemory>
     };
     let g = Rules { run: call, left };
     match rule {
-        Rule::ExprBp { m, r, bp } => {
-            let expr = expr_bp(p, &g, m, r, bp)?;
+        Rule::ExprBp { r, bp } => {
+            let expr = expr_bp(p, &g, r, bp)?;
             Ok(expr)
         }
         Rule::TypeWithBoundsCond { allow_bounds } => {
@@ -137,10 +139,6 @@ pub fn run(p: &mut Parser<'_>, rule: Rule) -> Result<Answer, NoMemory>
             item_or_macro(p, &g, stop_on_r_curly, is_in_extern)?;
             Ok(None)
         }
-        Rule::InnerAttrs => {
-            inner_attrs(p, &g)?;
-            Ok(None)
-        }
         Rule::UseTree => {
             use_tree(p, &g)?;
             Ok(None)
@@ -151,6 +149,10 @@ pub fn run(p: &mut Parser<'_>, rule: Rule) -> Result<Answer, NoMemory>
         }
         Rule::CfgPredicate => {
             cfg_predicate(p, &g)?;
+            Ok(None)
+        }
+        Rule::TokenTree => {
+            token_tree(p)?;
             Ok(None)
         }
     }

@@ -19,7 +19,7 @@ use rap_base::syntax_kind::SyntaxKind;
 use rap_events::parser::{CompletedMarker, Marker, Parser};
 use rap_grammar_blocks::attributes::outer_attrs;
 use rap_grammar_blocks::blocks::{let_stmt, starts_let};
-use rap_grammar_expressions::expressions::expr_bp;
+use rap_grammar_expressions::expressions::expr_from;
 use rap_grammar_frame::first::is_expr_first;
 use rap_grammar_frame::knot::Grammar;
 use rap_grammar_items::items::opt_item;
@@ -73,7 +73,7 @@ fn expr_as_stmt<G: Grammar>(
         forbid_structs: false,
         prefer_stmt: true,
     };
-    let Some((cm, block_like)) = expr_bp(p, g, Some(m), r, 1)? else {
+    let Some((cm, block_like)) = expr_from(p, g, m, r, 1)? else {
         return Ok(());
     };
     expr_stmt_end(p, cm, block_like, semicolon)?;

@@ -18,10 +18,11 @@ use rap_base::syntax_kind::SyntaxKind;
 use rap_events::parser::Parser;
 use rap_grammar_frame::called::expr;
 use rap_grammar_frame::first::is_outer_attr_first;
-use rap_grammar_frame::knot::{Grammar, Rule};
+use rap_grammar_frame::knot::Grammar;
 use rap_grammar_frame::lists::{Element, delimited};
 use rap_grammar_frame::token_tree::{is_bracket, token_tree};
 use rap_grammar_paths::paths::attr_path;
+use rap_grammar_scripts::rule::Rule;
 
 /// Returns whether an inner attribute comes next.
 fn is_inner_attr_start(p: &Parser<'_>) -> bool

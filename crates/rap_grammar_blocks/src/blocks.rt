@@ -19,8 +19,9 @@ use rap_base::no_memory::NoMemory;
 use rap_base::syntax_kind::SyntaxKind;
 use rap_events::parser::{CompletedMarker, Parser};
 use rap_grammar_frame::called::{ascription, expr, pattern};
-use rap_grammar_frame::knot::{Grammar, Rule};
+use rap_grammar_frame::knot::Grammar;
 use rap_grammar_scripts::arguments::Semicolon;
+use rap_grammar_scripts::rule::Rule;
 
 /// A block, as `{ a; b }`. Where none begins, that is reported.
 pub fn block_expr<G: Grammar>(p: &mut Parser<'_>, g: &G) -> Result<(), NoMemory>

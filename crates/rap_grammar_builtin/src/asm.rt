@@ -21,10 +21,11 @@ use rap_events::parser::{CompletedMarker, Marker, Parser};
 use rap_grammar_blocks::attributes::outer_attrs;
 use rap_grammar_blocks::blocks::block_expr;
 use rap_grammar_frame::called::expr;
-use rap_grammar_frame::knot::{Grammar, Rule};
+use rap_grammar_frame::knot::Grammar;
 use rap_grammar_frame::names::{is_path_name, name_any_identifier, name_ref_mod_path};
 use rap_grammar_paths::paths::sym_path;
 use rap_grammar_scripts::arguments::Restrictions;
+use rap_grammar_scripts::rule::Rule;
 
 /// Inline assembly after its name, as `("nop", in(reg) a)`.
 pub fn parse_asm_expr<G: Grammar>(
@@ -193,7 +194,7 @@ fn some_expr<G: Grammar>(p: &mut Parser<'_>, g: &G) -> Result<bool, NoMemory>
         forbid_structs: false,
         prefer_stmt: false,
     };
-    match g.run(p, Rule::ExprBp { m: None, r, bp: 1 })? {
+    match g.run(p, Rule::ExprBp { r, bp: 1 })? {
         Some(_) => Ok(true),
         None => Ok(false),
     }

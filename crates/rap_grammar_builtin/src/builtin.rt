@@ -20,9 +20,10 @@ use rap_base::no_memory::NoMemory;
 use rap_base::syntax_kind::SyntaxKind;
 use rap_events::parser::{CompletedMarker, Marker, Parser};
 use rap_grammar_frame::called::{expr, type_};
-use rap_grammar_frame::knot::{Answer, Grammar, Rule};
+use rap_grammar_frame::knot::{Answer, Grammar};
 use rap_grammar_frame::names::{name_any_identifier, name_ref_mod_path_or_index};
 use rap_grammar_scripts::arguments::BlockLike;
+use rap_grammar_scripts::rule::Rule;
 
 /// An expression after `builtin#`, as `builtin#offset_of(a, b)`. An unknown name is reported and not taken.
 #[inline(never)]

@@ -19,9 +19,10 @@ use rap_events::parser::{CompletedMarker, Marker, Parser};
 use rap_grammar_blocks::blocks::{block_expr, stmt_list};
 use rap_grammar_frame::called;
 use rap_grammar_frame::called::{expr_no_struct, pattern};
-use rap_grammar_frame::knot::{Answer, Grammar, Rule};
+use rap_grammar_frame::knot::{Answer, Grammar};
 use rap_grammar_frame::names::lifetime;
 use rap_grammar_scripts::arguments::{BlockLike, Restrictions};
+use rap_grammar_scripts::rule::Rule;
 
 /// An `if`, as `if a { b } else { c }`.
 #[inline(never)]
@@ -75,7 +76,7 @@ pub fn let_expr<G: Grammar>(
     p.bump(T![let])?;
     pattern(p, g)?;
     p.expect(T![=])?;
-    g.run(p, Rule::ExprBp { m: None, r, bp: 5 })?;
+    g.run(p, Rule::ExprBp { r, bp: 5 })?;
     let cm = m.complete(p, SyntaxKind::LET_EXPR)?;
     Ok(cm)
 }

@@ -90,11 +90,11 @@ pub data Said : Type 0 where
 -- How each rule of the knot ends that begins where no node ends in a dot. An expression that takes in ranges leaves
 -- none; but one that reads like a block and ends a statement may leave the last one.
 abbrev pub said : Outcome → Rule → Said
-said nothing (knot.ExprBp from r bp) = at_level inside
+said nothing (knot.ExprBp r bp) = at_level inside
 said nothing c = never
-said something (knot.ExprBp from r bp) = at_level (if nat_lt 2 bp then ranged else inside)
+said something (knot.ExprBp r bp) = at_level (if nat_lt 2 bp then ranged else inside)
 said something c = at_level inside
-said block (knot.ExprBp from r bp) = if r.prefer_stmt then at_level ranged else never
+said block (knot.ExprBp r bp) = if r.prefer_stmt then at_level ranged else never
 said block c = never
 said (again a b) c = never
 
@@ -108,16 +108,10 @@ abbrev pub one_end : Outcome → Said → Level → List Bool → List (Ending L
 one_end v never l ls = []
 one_end v (at_level m) l ls = ends_in v (levels (called l m) ls) ∷ []
 
--- whether a rule finishes no node of its caller's
-abbrev pub is_apart : Rule → Bool
-is_apart (knot.ExprBp true r bp) = false
-is_apart c = true
-
 abbrev pub rule_ends : Rule → Level → List Bool → List (Ending Levels)
 rule_ends c l ls =
-    if is_apart c then one_end nothing (said nothing c) l ls
+    one_end nothing (said nothing c) l ls
     ++ (one_end something (said something c) l ls ++ one_end block (said block c) l ls)
-    else unknown ∷ []
 
 -- Where a script ends that begins at these levels. What takes a float apart, and what lets a node begin where another
 -- does, is left to proofs by hand.

@@ -8,7 +8,7 @@ use Rattle.rap_grammar_scripts.specs.declared.rule.Rule.{Rule}
 use Rattle.rap_grammar_scripts.specs.Script.{Script, Outcome, nothing, something, block, again, give, test, ends_with, token, any, bear, report, report_next, skip, start, precede, finish, extend, abandon, split_float, after, rule, loop}
 use Rattle.rap_grammar_core.proofs.Ends.{same_flag}
 use Rattle.rap_grammar_core.proofs.Endings.{Ending, unknown, gather, flagged, every, Decides, Then, Turned, joined_left, joined_right, gathered, settled, of_flags}
-use Rattle.rap_grammar_core.proofs.DotEnds.{Level, inside, ranged, free, same_level, within, Levels, levels, same_lower, same_levels, as_good, added, lowered, raised, before_last, extended, merged, Said, never, at_level, said, called, one_end, is_apart, dot_ends}
+use Rattle.rap_grammar_core.proofs.DotEnds.{Level, inside, ranged, free, same_level, within, Levels, levels, same_lower, same_levels, as_good, added, lowered, raised, before_last, extended, merged, Said, never, at_level, said, called, one_end, dot_ends}
 
 -- what the next tokens are where the last node may end in a dot
 abbrev pub Next : Type 0
@@ -68,7 +68,7 @@ pub data Fits : Next → Script Rule → Level → List Bool → (Outcome → Le
       ((v : Outcome) (m : Level) (ms : List Bool) → e v (levels m ms) ≡ true → Fits is_range (h v) m ms f) →
       Fits g (after s h) l ls f
   fits_rule : {g : Next} {c : Rule} {h : Outcome → Script Rule} {l : Level} {ls : List Bool}
-      {f : Outcome → Levels → Bool} → is_apart c ≡ true →
+      {f : Outcome → Levels → Bool} →
       ((v : Outcome) (m : Level) → said v c ≡ at_level m → Fits is_range (h v) (called l m) ls f) →
       Fits g (rule c h) l ls f
   fits_loop : {g : Next} {h : Bool → Bool → Script Rule} {a b : Bool} {l m : Level} {ls : List Bool}
@@ -137,11 +137,6 @@ follows_rest f h v (at_level m) l ls r e =
     joined_right same_levels f (h v (levels (called l m) ls)) (gather same_levels h r) e
 
 -- the ends of a rule, with what follows them
-record Ruled (f : Outcome → Levels → Bool) (h : Following) (c : Rule) (l : Level) (ls : List Bool) (b : Bool) :
-    Type 0 where
-  apart : b ≡ true
-  on : (v : Outcome) (m : Level) → said v c ≡ at_level m → every f (h v (levels (called l m) ls)) ≡ true
-
 ruled_on : (f : Outcome → Levels → Bool) (h : Following) (c : Rule) (l : Level) (ls : List Bool) →
     every f (gather same_levels h (one_end nothing (said nothing c) l ls
     ++ (one_end something (said something c) l ls ++ one_end block (said block c) l ls))) ≡ true →
@@ -160,13 +155,6 @@ ruled_on f h c l ls e block m i =
     (follows_rest f h nothing (said nothing c) l ls
     (one_end something (said something c) l ls ++ one_end block (said block c) l ls) e)))
 ruled_on f h c l ls e (again a b) m i = absurd cc
-
-ruled : (f : Outcome → Levels → Bool) (h : Following) (c : Rule) (l : Level) (ls : List Bool) (b : Bool) →
-    every f (gather same_levels h (if b then one_end nothing (said nothing c) l ls
-    ++ (one_end something (said something c) l ls ++ one_end block (said block c) l ls) else unknown ∷ [])) ≡ true →
-    Ruled f h c l ls b
-ruled f h c l ls true e = record { apart = refl; on = ruled_on f h c l ls e }
-ruled f h c l ls false e = absurd cc
 
 -- A script ends as is computed.
 pub computed : (s : Script Rule) (g : Next) (l : Level) (ls : List Bool) (f : Outcome → Levels → Bool) →
@@ -202,8 +190,7 @@ computed (after s h) g l ls f i e =
     (λ v m ms k. computed (h v) is_range m ms f range_implies k)
 computed (rule c h) g l ls f i e =
     let on : Following = λ v. elim [ levels m ms ↦ dot_ends (h v) m ms ] in
-    let r = ruled f on c l ls (is_apart c) e in
-    fits_rule r.apart (λ v m k. computed (h v) is_range (called l m) ls f range_implies (r.on v m k))
+    fits_rule (λ v m k. computed (h v) is_range (called l m) ls f range_implies (ruled_on f on c l ls e v m k))
 computed (loop h a b) g l ls f i e =
     let on : Bool → Bool → List (Ending Levels) = λ c d. dot_ends (h c d) l ls in
     let t = settled (as_good l ls) f (flagged same_levels on) e in

@@ -13,7 +13,7 @@ use Rattle.rap_grammar_scripts.specs.declared.rule.Rule.{Rule}
 use Rattle.rap_grammar_scripts.specs.Script.{Script, Outcome, Spot, Runs, gives, passes, fails, ends_so, ends_else, takes, takes_any, bears, reports, reports_next, skips, starts, precedes, finishes, extends, abandons, splits_dotted, splits_whole, follows, obeys, turns, stops, newest, last_tree}
 use Rattle.rap_grammar_core.specs.Dots.{dots_inside}
 use Rattle.rap_grammar_core.proofs.Endings.{of_stop}
-use Rattle.rap_grammar_core.proofs.DotEnds.{Level, inside, ranged, free, within, Levels, levels, same_lower, as_good, added, lowered, raised, before_last, extended, merged, Said, never, at_level, said, called, is_apart}
+use Rattle.rap_grammar_core.proofs.DotEnds.{Level, inside, ranged, free, within, Levels, levels, same_lower, as_good, added, lowered, raised, before_last, extended, merged, Said, never, at_level, said, called}
 use Rattle.rap_grammar_core.proofs.DotFits.{Next, Implies, Fits, always, both, but, fits_give, fits_settled, fits_test, fits_ends_with, fits_token, fits_any, fits_bear, fits_report, fits_report_next, fits_skip, fits_start, fits_precede, fits_finish, fits_extend, fits_abandon, fits_split, fits_after, fits_rule, fits_loop, range_implies, same_lower_is, within_itself}
 
 -- no float that ends in a dot stands at the top level itself
@@ -346,7 +346,7 @@ call_start c v m (d ∷ ms) h = absurd cc
 
 -- The rules of the knot end as their table says.
 abbrev pub Sound : Type 0
-Sound = (c : Rule) → is_apart c ≡ true → Fits is_range (script_of c) inside [] (as_said c)
+Sound = (c : Rule) → Fits is_range (script_of c) inside [] (as_said c)
 
 pub keeps : Sound → {s : Script Rule} {p q : Spot} {v : Outcome} → Runs script_of s p q v →
     (g : Forest → Type 0) → Good g → (b : List Forest → Type 0) {n : Next} {l : Level} {ls : List Bool}
@@ -457,8 +457,8 @@ keeps x {p = p} (splits_whole h j r) g o b (fits_split {ls = ls} y z) k =
 keeps x (follows {w = w} r z) g o b (fits_after y t) k =
     let a = keeps x r g o b y k in
     keeps x z g o b (t w a.level a.lower a.so) a.stand
-keeps x {p = p} (obeys {c = c} {r = u} {w = w} r z) g o b (fits_rule {g = n} {l = l} {ls = ls} i t) k =
-    let y = keeps x r (Base l (own g ls)) (base_good l (own g ls) (own_good g o ls)) (Lower g b ls) (x c i) (record {
+keeps x {p = p} (obeys {c = c} {r = u} {w = w} r z) g o b (fits_rule {g = n} {l = l} {ls = ls} t) k =
+    let y = keeps x r (Base l (own g ls)) (base_good l (own g ls) (own_good g o ls)) (Lower g b ls) (x c) (record {
       top = base_at (own g ls) n l p.rest p.forest k.top;
       older = k.older;
     }) in

@@ -55,33 +55,16 @@ flagged h = join (join (h true true) (h true false)) (join (h false true) (h fal
 
 -- by which outcomes a rule of the knot ends
 abbrev pub outcomes : Rule → List Outcome
-outcomes (knot.ExprBp from r bp) = nothing ∷ something ∷ block ∷ []
-outcomes (knot.TypeWithBoundsCond allow_bounds) = something ∷ []
-outcomes knot.PathTypeBounds = something ∷ []
-outcomes knot.GenericArg = something ∷ []
-outcomes knot.GenericParamList = something ∷ []
-outcomes knot.BoundsWithoutColon = something ∷ []
-outcomes knot.WhereClause = something ∷ []
-outcomes knot.Pattern = something ∷ []
-outcomes knot.PatternSingle = something ∷ []
-outcomes knot.ArmPattern = something ∷ []
-outcomes (knot.Stmt semicolon) = something ∷ []
-outcomes knot.IfExpr = something ∷ []
-outcomes (knot.ItemOrMacro stop_on_r_curly is_in_extern) = something ∷ []
-outcomes knot.UseTree = something ∷ []
-outcomes knot.Meta = something ∷ []
-outcomes knot.CfgPredicate = something ∷ []
-outcomes knot.TokenTree = something ∷ []
+outcomes (knot.ExprBp r bp) = nothing ∷ something ∷ block ∷ []
+outcomes c = something ∷ []
 
 abbrev pub all_at : ℕ → List Outcome → List End
 all_at n [] = []
 all_at n (v ∷ vs) = at_end v n ∷ all_at n vs
 
 -- Where a rule of the knot ends that begins with so many open nodes: with as many. An item only adds to the newest
--- forest; another may begin a node around what stands in it, so that forest must be one of an open node. An expression
--- that goes on from a node of its caller's finishes that, and no script comes to it through the knot.
+-- forest; another may begin a node around what stands in it, so that forest must be one of an open node.
 abbrev pub rule_ends : Rule → ℕ → List End
-rule_ends (knot.ExprBp true r bp) n = bad ∷ []
 rule_ends (knot.ItemOrMacro a b) n = all_at n (outcomes (knot.ItemOrMacro a b))
 rule_ends c zero = bad ∷ []
 rule_ends c (suc n) = all_at (suc n) (outcomes c)

@@ -198,11 +198,6 @@ of_one f n v (w ∷ l) h e =
 abbrev pub as_said : Rule → ℕ → Outcome → ℕ → Bool
 as_said c n v j = is_of v (outcomes c) && (j == n)
 
--- whether a rule finishes no node of its caller's
-abbrev pub is_apart : Rule → Bool
-is_apart (knot.ExprBp true r bp) = false
-is_apart c = true
-
 -- within how many open nodes a rule must begin
 abbrev pub own : Rule → ℕ
 own (knot.ItemOrMacro a b) = 0
@@ -213,7 +208,7 @@ abbrev pub EndsAsSaid : Rule → Type 0
 EndsAsSaid c = every (as_said c (own c)) (ends (script_of c) (own c)) ≡ true
 
 abbrev pub Sound : Type 0
-Sound = (c : Rule) → is_apart c ≡ true → EndsAsSaid c
+Sound = (c : Rule) → EndsAsSaid c
 
 -- an end of a run
 pub record Ended (b : Forest → List Forest → Type 0) (f : Outcome → ℕ → Bool) (q : Spot) (v : Outcome) : Type 0 where
@@ -247,19 +242,16 @@ within_one b f h c n s e = record {
 called : Sound → (b : Forest → List Forest → Type 0) (f : Outcome → ℕ → Bool) (h : Outcome → ℕ → List End)
     (c : Rule) (n : ℕ) →
     every f (gather h (rule_ends c n)) ≡ true → Called b f h c n
-called x b f h (knot.ExprBp true r bp) n e = absurd cc
 called x b f h (knot.ItemOrMacro i j) n e = record {
   within = 0;
   others = n;
   down = λ y fs k. k;
   up = λ y fs k. k;
-  so = x (knot.ItemOrMacro i j) refl;
+  so = x (knot.ItemOrMacro i j);
   on = e;
 }
-called x b f h (knot.ExprBp r bp) zero e = absurd cc
-called x b f h (knot.ExprBp r bp) (suc n) e = within_one b f h _ n (x (knot.ExprBp r bp) refl) e
 called x b f h c zero e = absurd cc
-called x b f h c (suc n) e = within_one b f h c n (x c refl) e
+called x b f h c (suc n) e = within_one b f h c n (x c) e
 
 pub keeps : Sound → {s : Script Rule} {p q : Spot} {v : Outcome} → Runs script_of s p q v →
     (b : Forest → List Forest → Type 0) → Grows b → (f : Outcome → ℕ → Bool) (n : ℕ) → every f (ends s n) ≡ true →

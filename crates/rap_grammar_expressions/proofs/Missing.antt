@@ -8,7 +8,6 @@ use Rattle.rap_events.specs.Machine.{push, top}
 use Rattle.rap_events.specs.Record.{next_kind}
 use Rattle.rap_events.specs.State.{State, next, Opened, Abandoned, Recovered, but_last}
 use Rattle.rap_events.specs.declared.parser.CompletedMarker.{CompletedMarker}
-use Rattle.rap_events.specs.declared.parser.Marker.{Marker}
 use Rattle.rap_grammar_scripts.specs.First.{is_expr_first, is_outer_attr_first}
 use Rattle.rap_grammar_frame.specs.Grew.{Grew, Took, Spent, Dropped}
 use Rattle.rap_grammar_scripts.specs.Recovery.{is_expr_recovery, stops_expr}
@@ -117,41 +116,12 @@ nothing_taken t {s0 = s0} {s1 = s1} p stays same h =
     let e = stays (no_attr (next s1) h1) in
     same (ap (λ s. stops_expr (next s)) e ∙ h1) ∙ (ap (λ s. s.left) e ∙ p.recorded.left)
 
--- an expression from a marker on that was handed over
-pub answered_from : (stmt : Bool) (bp : ℕ) (o : Option (CompletedMarker × BlockLike)) {s t : State} (m : Marker) →
-    AnsweredFrom s t stmt bp o → (o ≡ None → stops_expr (next s) ≡ false → Spent s t marked_room) →
-    Answered s t (Some m) stmt bp o
-answered_from stmt bp (Some e) m d spent =
-    let c = d.0 in (
-      record {
-        input = c.input;
-        left = c.left;
-        count = omega (arith, c.count);
-        messages = c.messages;
-        last = c.last;
-        below = c.below;
-      },
-      d.1,
-    )
-answered_from stmt bp None m d spent = (
-  record {
-    input = d.input;
-    left = d.left;
-    count = omega (arith, d.count);
-    messages = d.messages;
-    below = d.below;
-  },
-  λ h.
-      let l = spent refl h in
-      record { left = l.left; count = omega (arith, l.count) },
-)
-
 -- an expression after its attributes
 pub answered : (stmt : Bool) (bp : ℕ) (o : Option (CompletedMarker × BlockLike)) {s0 s1 s2 t : State} {m : ℕ} →
     Opened s0 s1 m → Grew s1 s2 0 →
     (is_outer_attr_first (next s1) ≡ true → Took s1 s2 list_room) → (is_outer_attr_first (next s1) ≡ false → s2 ≡ s1) →
     AnsweredFrom s2 t stmt bp o → (o ≡ None → stops_expr (next s2) ≡ false → Spent s2 t marked_room) →
-    (o ≡ None → stops_expr (next s2) ≡ true → t.left ≡ s2.left) → Answered s0 t None stmt bp o
+    (o ≡ None → stops_expr (next s2) ≡ true → t.left ≡ s2.left) → Answered s0 t stmt bp o
 answered stmt bp (Some e) {s0 = s0} {t = t} p a took stays d spent same =
     let c = d.0 in
     let below : push s0.below s0.marker s0.forest ≡ push t.below t.marker (but_last t.forest) =

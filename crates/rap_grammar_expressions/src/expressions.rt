@@ -1,5 +1,5 @@
 //! Expressions.
-ghost use Rattle.std.specs.Prelude.{ℕ, ◌≡◌, ◌≢◌, ◌<◌, ◌≤◌, IfOk, Some, None, is_some, OnOk, true, false};
+ghost use Rattle.std.specs.Prelude.{ℕ, ◌≡◌, ◌≢◌, ◌<◌, ◌≤◌, IfOk, Some, None, OnOk, true, false};
 ghost use Rattle.rap_base.specs.TokenKind.{EOF};
 ghost use Rattle.rap_events.specs.State.{state, next};
 ghost use Rattle.rap_grammar_scripts.specs.Expressions as script;
@@ -9,7 +9,7 @@ ghost use Rattle.rap_grammar_frame.specs.Grew.{Within, Dropped, Spent};
 ghost use Rattle.rap_grammar_scripts.specs.Exec.{Does};
 ghost use Rattle.rap_grammar_scripts.specs.Recovery.{stops_expr};
 ghost use Rattle.rap_grammar_frame.specs.Room.{operand_room, marked_room, dropped_events};
-ghost use Rattle.rap_grammar_frame.specs.Rules.{Answered, IsNewest, AnsweredFrom, Operand};
+ghost use Rattle.rap_grammar_frame.specs.Rules.{Answered, AnsweredFrom, Operand};
 ghost use Rattle.rap_grammar_scripts.specs.Script.{nothing};
 
 use crate::expressions::atom::atom_expr;
@@ -28,37 +28,27 @@ use rap_grammar_scripts::arguments::{BlockLike, Restrictions};
 mod atom;
 mod operators;
 
-/// An expression of at least the power `bp`, from the marker on if there is one.
+/// An expression of at least the power `bp`, after its attributes.
 pub fn expr_bp<G: Grammar>(
     p: &mut Parser<'_>,
     g: &G,
-    m: Option<Marker>,
     r: Restrictions,
     bp: u8,
 ) -> Result<Option<(CompletedMarker, BlockLike)>, NoMemory>
     requires within { Within G.valid G.left g.now (state p.old) }
-    requires newest { IsNewest (state p.old) m }
     requires power { 1 ≤ bp }
-    ensures answered { IfOk result (Answered (state p.old) (state p.new) m r.prefer_stmt bp) }
+    ensures answered { IfOk result (Answered (state p.old) (state p.new) r.prefer_stmt bp) }
     ensures script { IfOk result
-        (λ e. Does (G.left g.now) (script.expr_bp (is_some m) r bp) (of_expr e) (state p.old) (state p.new)) }
+        (λ e. Does (G.left g.now) (script.expr_bp r bp) (of_expr e) (state p.old) (state p.new)) }
 {
-    match m {
-        Some(m) => {
-            let expr = expr_from(p, g, m, r, bp)?;
-            Ok(expr)
-        }
-        None => {
-            let m = p.start()?;
-            outer_attrs(p, g)?;
-            let expr = expr_from(p, g, m, r, bp)?;
-            Ok(expr)
-        }
-    }
+    let m = p.start()?;
+    outer_attrs(p, g)?;
+    let expr = expr_from(p, g, m, r, bp)?;
+    Ok(expr)
 }
 
 /// An expression of at least the power `bp`, from the newest marker on.
-fn expr_from<G: Grammar>(
+pub fn expr_from<G: Grammar>(
     p: &mut Parser<'_>,
     g: &G,
     m: Marker,

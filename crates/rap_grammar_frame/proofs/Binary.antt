@@ -32,7 +32,7 @@ record Operands (s0 s3 : State) (kind op w least : ℕ) : Type 0 where
   follows : open_ended right ≡ false → power (operator_at s3.rest) < least
 
 operands : (s0 s1 s2 s3 : State) (m least kind op w : ℕ) (o : Option (CompletedMarker × BlockLike)) →
-    Preceded s0 s1 m kind → Bumped s1 s2 op w → Answered s2 s3 None false least o → s3.messages ≡ 0 →
+    Preceded s0 s1 m kind → Bumped s1 s2 op w → Answered s2 s3 false least o → s3.messages ≡ 0 →
     Operands s0 s3 kind op w least
 operands s0 s1 s2 s3 m least kind op w None a b t z = absurd (omega arith)
 operands s0 s1 s2 s3 m least kind op w (Some e) a b t z =
@@ -48,7 +48,7 @@ operands s0 s1 s2 s3 m least kind op w (Some e) a b t z =
     }
 
 pub fits : (s0 s1 s2 s3 : State) (m least bp kind op w : ℕ) (o : Option (CompletedMarker × BlockLike)) →
-    Preceded s0 s1 m kind → Bumped s1 s2 op w → Answered s2 s3 None false least o →
+    Preceded s0 s1 m kind → Bumped s1 s2 op w → Answered s2 s3 false least o →
     bp ≡ power op → 0 < bp → bp ≢ 2 → bp < 12 → (bp ≢ 1 → least ≡ bp + 1) →
     (s0.messages ≡ 0 → LeftFits kind (last_children s0.forest) bp) → s3.messages ≡ 0 → Fit BIN_EXPR s3.forest
 fits s0 s1 s2 s3 m least bp kind op w o a b t e lo ne hi up left z =
@@ -76,7 +76,7 @@ closed_left (Some k) b h = h
 closed_left None b h = refl
 
 pub bound : (s0 s1 s2 s3 s4 : State) (m least bp kind op w : ℕ) (o : Option (CompletedMarker × BlockLike)) →
-    Preceded s0 s1 m kind → Bumped s1 s2 op w → Answered s2 s3 None false least o → Completed s3 s4 BIN_EXPR →
+    Preceded s0 s1 m kind → Bumped s1 s2 op w → Answered s2 s3 false least o → Completed s3 s4 BIN_EXPR →
     bp ≡ power op → least ≤ bp + 1 → (bp ≡ 1 → least ≡ 1) → s4.messages ≡ 0 → Bound s4 bp
 bound s0 s1 s2 s3 s4 m least bp kind op w o a b t d e most one z =
     let u = operands s0 s1 s2 s3 m least kind op w o a b t (sym d.recorded.messages ∙ z) in

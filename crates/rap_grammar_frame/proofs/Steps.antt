@@ -199,9 +199,8 @@ pub clash : {b : Bool} → b ≡ true → b ≡ false → ⊥
 clash e f = let x : true ≡ false = sym e ∙ f in cc
 
 -- an expression through the knot
-pub by_expression : {j : ℕ} {from : Bool} {r : Restrictions} {bp : ℕ} {n : Outcome → Script Rule} {p u q : Spot}
-    {w v : Outcome} → Answers j (knot.ExprBp from r bp) p u w → On j (n w) u q v →
-    On j (rule (knot.ExprBp from r bp) n) p q v
+pub by_expression : {j : ℕ} {r : Restrictions} {bp : ℕ} {n : Outcome → Script Rule} {p u q : Spot}
+    {w v : Outcome} → Answers j (knot.ExprBp r bp) p u w → On j (n w) u q v → On j (rule (knot.ExprBp r bp) n) p q v
 by_expression h d = obeys h d
 
 -- any other rule through the knot

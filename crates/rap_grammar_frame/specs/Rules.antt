@@ -1,43 +1,32 @@
 -- What the recursive rules require and ensure.
 -- (What calls promise one another; no promise of the library rests on it.)
-use Rattle.std.specs.Prelude.{◌≡◌, ℕ, ◌≤◌, ◌<◌, ◌≢◌, Option, Some, None, is_some, Bool, true, false}
+use Rattle.std.specs.Prelude.{◌≡◌, ℕ, ◌≤◌, ◌<◌, ◌≢◌, Option, Some, None, Bool, true, false}
 use Rattle.rap_base.specs.TokenKind.{EOF, L_ANGLE, R_CURLY, IF_KW, WHERE_KW}
 use Rattle.rap_events.specs.Fit.{is_plain}
 use Rattle.rap_events.specs.State.{State, next}
 use Rattle.rap_events.specs.declared.parser.CompletedMarker.{CompletedMarker}
-use Rattle.rap_events.specs.declared.parser.Marker.{Marker}
-use Rattle.rap_grammar_scripts.specs.Attributes.{inner_attrs}
 use Rattle.rap_grammar_frame.specs.Climb.{Climbed}
-use Rattle.rap_grammar_scripts.specs.Exec.{Does, Obeys}
+use Rattle.rap_grammar_scripts.specs.Exec.{Obeys}
 use Rattle.rap_grammar_scripts.specs.Expressions.{of_expr}
-use Rattle.rap_grammar_scripts.specs.First.{is_type_first, is_generic_arg_first, is_cfg_predicate_first, is_use_path_start}
+use Rattle.rap_grammar_scripts.specs.First.{is_bracket, is_type_first, is_generic_arg_first, is_cfg_predicate_first, is_use_path_start}
 use Rattle.rap_grammar_frame.specs.Grew.{Grew, Took, Spent, Made, Closed, Closes, Dropped}
+use Rattle.rap_grammar_scripts.specs.declared.rule.Rule.{Rule}
 use Rattle.rap_grammar_scripts.specs.declared.rule.Rule.TheVariants as knot
 use Rattle.rap_grammar_scripts.specs.Recovery.{stops_expr, stops_pattern, stops_arm, stops_of, stops_type}
 use Rattle.rap_grammar_frame.specs.Room.{expression_room, atom_room, statement_room, marked_room, element_room, list_room, type_room, pattern_room, single_pattern_room, atom_pattern_room, recovery_events, dropped_events}
-use Rattle.rap_grammar_scripts.specs.Script.{something}
+use Rattle.rap_grammar_scripts.specs.Script.{Outcome, something}
 use Rattle.rap_grammar_scripts.specs.UseItem.{is_use_tree_start}
 use Rattle.rap_grammar_scripts.specs.declared.arguments.BlockLike.{BlockLike}
-use Rattle.rap_grammar_frame.specs.declared.knot.Rule.{Rule}
-use Rattle.rap_grammar_frame.specs.declared.knot.Rule.TheVariants as rule
-
--- a marker that is handed over is the newest one
-abbrev pub IsNewest : State → Option Marker → Type 0
-IsNewest s None = Unit {0}
-IsNewest s (Some m) = s.marker ≡ Some m.pos.value
 
 -- no expression: a token is taken unless the next one ends the search for an expression, and then none is
 pub record Missed (old new : State) : Type 0 where
   pub took : stops_expr (next old) ≡ false → Took old new expression_room
   pub stays : stops_expr (next old) ≡ true → new.left ≡ old.left
 
--- an expression of its own, or one from the marker on that was handed over; or a message and no expression
-abbrev pub Answered : State → State → Option Marker → Bool → ℕ → Option (CompletedMarker × BlockLike) → Type 0
-Answered old new None stmt bp (Some e) = Made old new e.0 expression_room × Climbed new e.0.kind.value bp stmt
-Answered old new None stmt bp None = Grew old new 8 × (old.messages < new.messages) × Missed old new
-Answered old new (Some m) stmt bp (Some e) = Closed old new e.0 expression_room × Climbed new e.0.kind.value bp stmt
-Answered old new (Some m) stmt bp None =
-    Dropped old new 8 × (stops_expr (next old) ≡ false → Spent old new expression_room)
+-- an expression, or a message and none
+abbrev pub Answered : State → State → Bool → ℕ → Option (CompletedMarker × BlockLike) → Type 0
+Answered old new stmt bp (Some e) = Made old new e.0 expression_room × Climbed new e.0.kind.value bp stmt
+Answered old new stmt bp None = Grew old new 8 × (old.messages < new.messages) × Missed old new
 
 -- an operand: a node of which no more is required; or a message, with a token in an `ERROR` at least, and no node
 abbrev pub Operand : ℕ → State → State → Option (CompletedMarker × BlockLike) → Type 0
@@ -103,44 +92,49 @@ pub record IsItem (stop_on_r_curly : Bool) (old new : State) : Type 0 where
 
 -- what each rule requires
 abbrev pub Pre : Rule → State → Type 0
-Pre (rule.ExprBp m r bp) s = IsNewest s m × (1 ≤ bp)
-Pre (rule.TypeWithBoundsCond allow_bounds) s = Unit {0}
-Pre rule.PathTypeBounds s = is_use_path_start s.rest ≡ true
-Pre rule.GenericArg s = is_generic_arg_first (next s) ≡ true
-Pre rule.GenericParamList s = next s ≡ L_ANGLE
-Pre rule.BoundsWithoutColon s = Unit {0}
-Pre rule.WhereClause s = next s ≡ WHERE_KW
-Pre rule.Pattern s = Unit {0}
-Pre rule.PatternSingle s = Unit {0}
-Pre rule.ArmPattern s = Unit {0}
-Pre (rule.Stmt semicolon) s = Unit {0}
-Pre rule.IfExpr s = next s ≡ IF_KW
-Pre (rule.ItemOrMacro stop_on_r_curly is_in_extern) s = Unit {0}
-Pre rule.InnerAttrs s = Unit {0}
-Pre rule.UseTree s = is_use_tree_start s.rest ≡ true
-Pre rule.Meta s = Unit {0}
-Pre rule.CfgPredicate s = Unit {0}
+Pre (knot.ExprBp r bp) s = 1 ≤ bp
+Pre (knot.TypeWithBoundsCond allow_bounds) s = Unit {0}
+Pre knot.PathTypeBounds s = is_use_path_start s.rest ≡ true
+Pre knot.GenericArg s = is_generic_arg_first (next s) ≡ true
+Pre knot.GenericParamList s = next s ≡ L_ANGLE
+Pre knot.BoundsWithoutColon s = Unit {0}
+Pre knot.WhereClause s = next s ≡ WHERE_KW
+Pre knot.Pattern s = Unit {0}
+Pre knot.PatternSingle s = Unit {0}
+Pre knot.ArmPattern s = Unit {0}
+Pre (knot.Stmt semicolon) s = Unit {0}
+Pre knot.IfExpr s = next s ≡ IF_KW
+Pre (knot.ItemOrMacro stop_on_r_curly is_in_extern) s = Unit {0}
+Pre knot.UseTree s = is_use_tree_start s.rest ≡ true
+Pre knot.Meta s = Unit {0}
+Pre knot.CfgPredicate s = Unit {0}
+Pre knot.TokenTree s = is_bracket (next s) ≡ true
+
+-- what each rule takes and records, and an expression's node
+abbrev pub Parses : Rule → State → State → Option (CompletedMarker × BlockLike) → Type 0
+Parses (knot.ExprBp r bp) old new e = Answered old new r.prefer_stmt bp e
+Parses (knot.TypeWithBoundsCond allow_bounds) old new e = IsType old new
+Parses knot.PathTypeBounds old new e = Took old new type_room
+Parses knot.GenericArg old new e = Took old new element_room
+Parses knot.GenericParamList old new e = Took old new list_room
+Parses knot.BoundsWithoutColon old new e = Grew old new 16
+Parses knot.WhereClause old new e = Took old new list_room
+Parses knot.Pattern old new e = IsPattern old new
+Parses knot.PatternSingle old new e = IsSinglePattern old new
+Parses knot.ArmPattern old new e = IsArmPattern old new
+Parses (knot.Stmt semicolon) old new e = IsStatement old new
+Parses knot.IfExpr old new e = Took old new atom_room
+Parses (knot.ItemOrMacro stop_on_r_curly is_in_extern) old new e = IsItem stop_on_r_curly old new
+Parses knot.UseTree old new e = Took old new list_room
+Parses knot.Meta old new e = Grew old new 16
+Parses knot.CfgPredicate old new e = Parsed is_cfg_predicate_first 8 element_room old new
+Parses knot.TokenTree old new e = Took old new list_room
+
+-- the outcome of each rule: what an expression is, and something
+abbrev pub outcome_of : Rule → Option (CompletedMarker × BlockLike) → Outcome
+outcome_of (knot.ExprBp r bp) e = of_expr e
+outcome_of c e = something
 
 -- what each rule ensures, with at most so many rules inside one another
 abbrev pub Post : ℕ → Rule → State → State → Option (CompletedMarker × BlockLike) → Type 0
-Post n (rule.ExprBp m r bp) old new e =
-    Answered old new m r.prefer_stmt bp e × Obeys n (knot.ExprBp (is_some m) r bp) (of_expr e) old new
-Post n (rule.TypeWithBoundsCond allow_bounds) old new e =
-    IsType old new × Obeys n (knot.TypeWithBoundsCond allow_bounds) something old new
-Post n rule.PathTypeBounds old new e = Took old new type_room × Obeys n knot.PathTypeBounds something old new
-Post n rule.GenericArg old new e = Took old new element_room × Obeys n knot.GenericArg something old new
-Post n rule.GenericParamList old new e = Took old new list_room × Obeys n knot.GenericParamList something old new
-Post n rule.BoundsWithoutColon old new e = Grew old new 16 × Obeys n knot.BoundsWithoutColon something old new
-Post n rule.WhereClause old new e = Took old new list_room × Obeys n knot.WhereClause something old new
-Post n rule.Pattern old new e = IsPattern old new × Obeys n knot.Pattern something old new
-Post n rule.PatternSingle old new e = IsSinglePattern old new × Obeys n knot.PatternSingle something old new
-Post n rule.ArmPattern old new e = IsArmPattern old new × Obeys n knot.ArmPattern something old new
-Post n (rule.Stmt semicolon) old new e = IsStatement old new × Obeys n (knot.Stmt semicolon) something old new
-Post n rule.IfExpr old new e = Took old new atom_room × Obeys n knot.IfExpr something old new
-Post n (rule.ItemOrMacro stop_on_r_curly is_in_extern) old new e =
-    IsItem stop_on_r_curly old new × Obeys n (knot.ItemOrMacro stop_on_r_curly is_in_extern) something old new
-Post n rule.InnerAttrs old new e = Grew old new 0 × Does n inner_attrs something old new
-Post n rule.UseTree old new e = Took old new list_room × Obeys n knot.UseTree something old new
-Post n rule.Meta old new e = Grew old new 16 × Obeys n knot.Meta something old new
-Post n rule.CfgPredicate old new e =
-    Parsed is_cfg_predicate_first 8 element_room old new × Obeys n knot.CfgPredicate something old new
+Post n c old new e = Parses c old new e × Obeys n c (outcome_of c e) old new

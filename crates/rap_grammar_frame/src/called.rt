@@ -16,13 +16,14 @@ ghost use Rattle.rap_grammar_scripts.specs.Script.{something};
 ghost use Rattle.rap_grammar_scripts.specs.TypeParts as parts;
 ghost use Rattle.rap_grammar_scripts.specs.Words.{of_bool, of_option};
 
-use crate::knot::{Answer, Grammar, Rule};
+use crate::knot::{Answer, Grammar};
 use crate::names::is_path_name;
 use rap_base::T;
 use rap_base::no_memory::NoMemory;
 use rap_base::syntax_kind::SyntaxKind;
 use rap_events::parser::{CompletedMarker, Parser};
 use rap_grammar_scripts::arguments::Restrictions;
+use rap_grammar_scripts::rule::Rule;
 
 /// The return type of a function, as `-> a`, if there is one. Returns whether there is.
 #[tactic(auto, unfolding(rap_grammar_scripts::specs::Grammar::opt_ret_type))]
@@ -73,7 +74,7 @@ pub fn expr<G: Grammar>(p: &mut Parser<'_>, g: &G) -> Result<Option<CompletedMar
         forbid_structs: false,
         prefer_stmt: false,
     };
-    match g.run(p, Rule::ExprBp { m: None, r, bp: 1 })? {
+    match g.run(p, Rule::ExprBp { r, bp: 1 })? {
         Some((cm, _)) => Ok(Some(cm)),
         None => Ok(None),
     }
@@ -90,7 +91,7 @@ pub fn expr_no_struct<G: Grammar>(p: &mut Parser<'_>, g: &G) -> Result<(), NoMem
         forbid_structs: true,
         prefer_stmt: false,
     };
-    g.run(p, Rule::ExprBp { m: None, r, bp: 1 })?;
+    g.run(p, Rule::ExprBp { r, bp: 1 })?;
     Ok(())
 }
 
@@ -98,14 +99,14 @@ pub fn expr_no_struct<G: Grammar>(p: &mut Parser<'_>, g: &G) -> Result<(), NoMem
 #[tactic(auto, unfolding(rap_grammar_scripts::specs::Called::expr_stmt))]
 pub fn expr_stmt<G: Grammar>(p: &mut Parser<'_>, g: &G) -> Result<Answer, NoMemory>
     requires behind { Behind G.valid G.left g.now (state p.old) }
-    ensures answered { IfOk result (Answered (state p.old) (state p.new) None true 1) }
+    ensures answered { IfOk result (Answered (state p.old) (state p.new) true 1) }
     ensures script { IfOk result (λ e. Does (G.left g.now) called.expr_stmt (of_expr e) (state p.old) (state p.new)) }
 {
     let r = Restrictions {
         forbid_structs: false,
         prefer_stmt: true,
     };
-    let expr = g.run(p, Rule::ExprBp { m: None, r, bp: 1 })?;
+    let expr = g.run(p, Rule::ExprBp { r, bp: 1 })?;
     Ok(expr)
 }
 

@@ -14,8 +14,9 @@ ghost use Rattle.rap_events.specs.State.{state};
 ghost use Rattle.rap_grammar_frame.specs.Rules.{Pre, Post};
 
 use rap_base::no_memory::NoMemory;
-use rap_events::parser::{CompletedMarker, Marker, Parser};
-use rap_grammar_scripts::arguments::{BlockLike, Restrictions, Semicolon};
+use rap_events::parser::{CompletedMarker, Parser};
+use rap_grammar_scripts::arguments::BlockLike;
+use rap_grammar_scripts::rule::Rule;
 
 /// The recursive rules, which may be called where fewer than `left` tokens are left.
 pub trait Grammar {
@@ -29,56 +30,6 @@ pub trait Grammar {
         requires left { (state p.old).left < left self.now }
         requires pre { Pre rule (state p.old) }
         ensures { IfOk result (Post (left self.now) rule (state p.old) (state p.new)) };
-}
-
-/// A recursive rule with its arguments.
-#[derive(Drop)]
-pub enum Rule {
-    /// An expression of at least the power `bp`, from the marker on if there is one.
-    ExprBp {
-        m: Option<Marker>,
-        r: Restrictions,
-        bp: u8,
-    },
-    /// A type, with bounds after it where they are allowed.
-    TypeWithBoundsCond {
-        allow_bounds: bool,
-    },
-    /// A path as a type, and bounds after it.
-    PathTypeBounds,
-    /// A generic argument.
-    GenericArg,
-    /// Generic parameters in angle brackets.
-    GenericParamList,
-    /// The bounds of a type, without the colon before them.
-    BoundsWithoutColon,
-    /// A `where` clause.
-    WhereClause,
-    /// A pattern, with its alternatives.
-    Pattern,
-    /// A pattern without alternatives.
-    PatternSingle,
-    /// The pattern of an arm of a `match`.
-    ArmPattern,
-    /// A statement.
-    Stmt {
-        semicolon: Semicolon,
-    },
-    /// An `if`, as it stands after an `else`.
-    IfExpr,
-    /// An item, or a macro call in its place.
-    ItemOrMacro {
-        stop_on_r_curly: bool,
-        is_in_extern: bool,
-    },
-    /// Inner attributes.
-    InnerAttrs,
-    /// A tree of names in the braces of a `use`.
-    UseTree,
-    /// The contents of an attribute's brackets.
-    Meta,
-    /// A condition in `cfg`.
-    CfgPredicate,
 }
 
 /// The result of a rule. `ExprBp` returns the node of the expression, if it made one, and whether it reads like a

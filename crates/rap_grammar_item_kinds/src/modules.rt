@@ -18,8 +18,9 @@ use rap_base::syntax_kind::SyntaxKind;
 use rap_events::parser::{Marker, Parser};
 use rap_grammar_blocks::attributes::inner_attrs;
 use rap_grammar_frame::called::{bounds, opt_generic_param_list, opt_where_clause, type_};
-use rap_grammar_frame::knot::{Grammar, Rule};
+use rap_grammar_frame::knot::Grammar;
 use rap_grammar_frame::names::{name, name_ref_or_self, opt_rename};
+use rap_grammar_scripts::rule::Rule;
 
 /// A crate's name, as `extern crate a as b;`.
 #[tactic(auto, unfolding(rap_grammar_scripts::specs::Items::extern_crate))]

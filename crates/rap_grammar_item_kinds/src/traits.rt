@@ -20,7 +20,8 @@ use rap_grammar_frame::called::{
     bounds, bounds_without_colon, opt_generic_param_list, opt_where_clause, type_,
 };
 use rap_grammar_frame::item_names::item_name;
-use rap_grammar_frame::knot::{Grammar, Rule};
+use rap_grammar_frame::knot::Grammar;
+use rap_grammar_scripts::rule::Rule;
 
 /// A trait from its keyword on, as `trait A {}`.
 #[tactic(auto, unfolding(rap_grammar_scripts::specs::Traits::trait_))]

@@ -19,11 +19,12 @@ use rap_base::syntax_kind::SyntaxKind;
 use rap_base::token_set::TokenSet;
 use rap_events::parser::{Marker, Parser};
 use rap_grammar_frame::first::is_use_path_start;
-use rap_grammar_frame::knot::{Grammar, Rule};
+use rap_grammar_frame::knot::Grammar;
 use rap_grammar_frame::lists::{Element, delimited};
 use rap_grammar_frame::names::opt_rename;
 use rap_grammar_frame::recovery::item_recovery_set;
 use rap_grammar_paths::paths::use_path;
+use rap_grammar_scripts::rule::Rule;
 
 /// An import from its keyword on, as `use a::b;`.
 #[tactic(auto, unfolding(rap_grammar_scripts::specs::UseItem::use_))]

@@ -18,8 +18,9 @@ use rap_base::no_memory::NoMemory;
 use rap_base::syntax_kind::SyntaxKind;
 use rap_events::parser::{CompletedMarker, Parser};
 use rap_grammar_frame::first::is_expr_first;
-use rap_grammar_frame::knot::{Grammar, Rule};
+use rap_grammar_frame::knot::Grammar;
 use rap_grammar_scripts::arguments::Restrictions;
+use rap_grammar_scripts::rule::Rule;
 
 /// Whether the dots of a range have an end after them: not in `(1..).max()`, nor before the block of `for i in 1.. {}`.
 #[tactic(auto, unfolding(rap_grammar_scripts::specs::Expressions::has_range_end))]
@@ -60,7 +61,7 @@ pub fn range_expr<G: Grammar>(
         prefer_stmt: false,
         ..r
     };
-    g.run(p, Rule::ExprBp { m: None, r, bp: 3 })?;
+    g.run(p, Rule::ExprBp { r, bp: 3 })?;
     let cm = m.complete(p, SyntaxKind::RANGE_EXPR)?;
     Ok((cm, true))
 }
@@ -84,7 +85,7 @@ pub fn prefix_range<G: Grammar>(
     let m = p.start()?;
     p.bump(op)?;
     if has_range_end(p, r) {
-        g.run(p, Rule::ExprBp { m: None, r, bp: 2 })?;
+        g.run(p, Rule::ExprBp { r, bp: 2 })?;
     }
     let cm = m.complete(p, SyntaxKind::RANGE_EXPR)?;
     Ok(cm)

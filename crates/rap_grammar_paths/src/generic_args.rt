@@ -15,8 +15,9 @@ use rap_base::no_memory::NoMemory;
 use rap_base::syntax_kind::SyntaxKind;
 use rap_events::parser::{Marker, Parser};
 use rap_grammar_frame::first::is_generic_arg_first;
-use rap_grammar_frame::knot::{Grammar, Rule};
+use rap_grammar_frame::knot::Grammar;
 use rap_grammar_frame::lists::{Element, delimited};
+use rap_grammar_scripts::rule::Rule;
 
 /// An argument in a list.
 pub struct GenericArg;

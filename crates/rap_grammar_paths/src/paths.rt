@@ -23,11 +23,12 @@ use rap_base::token_set::TokenSet;
 use rap_events::parser::{CompletedMarker, Marker, Parser};
 use rap_grammar_frame::called::{opt_ret_type, type_};
 use rap_grammar_frame::first::{is_type_first, is_use_path_start};
-use rap_grammar_frame::knot::{Grammar, Rule};
+use rap_grammar_frame::knot::Grammar;
 use rap_grammar_frame::lists::{Element, delimited};
 use rap_grammar_frame::names::{is_path_name, name_ref_mod_path};
 use rap_grammar_frame::recovery::{expr_recovery_set, item_recovery_set, type_recovery_set};
 use rap_grammar_scripts::arguments::Mode;
+use rap_grammar_scripts::rule::Rule;
 
 /// A path in an import, as `a::b`, and where an item may be a macro call.
 pub fn use_path<G: Grammar>(p: &mut Parser<'_>, g: &G) -> Result<(), NoMemory>

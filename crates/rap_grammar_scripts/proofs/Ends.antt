@@ -1,5 +1,5 @@
 -- How a script ends, word by word.
-use Rattle.std.proofs.Common.{◌≡◌, ◌==◌, ◌≢◌, ◌<◌, ◌≤◌, ℕ, suc, Bool, true, false, List, length, refl, ◌∙◌, sym, eqb-true}
+use Rattle.std.proofs.Common.{◌≡◌, ◌==◌, ◌≢◌, ◌<◌, ◌≤◌, ℕ, Bool, true, false, List, length, refl, ◌∙◌, eqb-true}
 use Rattle.rap_base.specs.TokenKind.{EOF, FLOAT_NUMBER}
 use Rattle.rap_events.specs.Composite.{is_at, width}
 use Rattle.rap_events.specs.Cover.{first_may_bear}

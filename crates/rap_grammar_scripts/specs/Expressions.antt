@@ -213,6 +213,5 @@ expr_from r bp =
     (abandon ▸ give nothing)))
     missing_expr
 
-unfoldable pub expr_bp : Bool → Restrictions → ℕ → Script Rule
-expr_bp false r bp = start ▸ call outer_attrs ▸ expr_from r bp
-expr_bp true r bp = expr_from r bp
+unfoldable pub expr_bp : Restrictions → ℕ → Script Rule
+expr_bp r bp = start ▸ call outer_attrs ▸ expr_from r bp

@@ -17,7 +17,7 @@ use Rattle.rap_grammar_scripts.specs.Types.{type_with_bounds_cond, path_type_bou
 use Rattle.std.specs.Prelude.{true, false}
 
 unfoldable pub script_of : Rule → Script Rule
-script_of (knot.ExprBp from r bp) = expr_bp from r bp
+script_of (knot.ExprBp r bp) = expr_bp r bp
 script_of (knot.TypeWithBoundsCond allow_bounds) = type_with_bounds_cond allow_bounds
 script_of knot.PathTypeBounds = path_type_bounds true
 script_of knot.GenericArg = generic_arg

@@ -25,7 +25,6 @@ pub mod Operator
 pub mod Params
 pub mod Paths
 pub mod Patterns
-pub mod Rule
 pub mod Records
 pub mod Recovery
 pub mod Script

@@ -8,7 +8,7 @@ use Rattle.rap_events.specs.Composite.{is_at}
 use Rattle.rap_grammar_scripts.specs.Attributes.{outer_attrs}
 use Rattle.rap_grammar_scripts.specs.Blocks.{let_stmt, starts_let}
 use Rattle.rap_grammar_scripts.specs.Called.{as_statement}
-use Rattle.rap_grammar_scripts.specs.Expressions.{expr_bp, is_block}
+use Rattle.rap_grammar_scripts.specs.Expressions.{expr_from, is_block}
 use Rattle.rap_grammar_scripts.specs.First.{is_expr_first}
 use Rattle.rap_grammar_scripts.specs.Items.{opt_item}
 use Rattle.rap_grammar_scripts.specs.declared.rule.Rule.{Rule}
@@ -40,7 +40,7 @@ expr_stmt_end semi is_block =
 unfoldable pub expr_as_stmt : Semicolon → Script Rule
 expr_as_stmt semi =
     test (λ rs. is_expr_first (next_kind rs))
-    (after (expr_bp true as_statement 1) (λ v. if_some v (expr_stmt_end semi (is_block v)) done))
+    (after (expr_from as_statement 1) (λ v. if_some v (expr_stmt_end semi (is_block v)) done))
     (skip (codes "expected expression, item or let statement") ▸ abandon ▸ done)
 
 -- a statement

@@ -21,12 +21,13 @@ use rap_base::syntax_kind::SyntaxKind;
 use rap_events::parser::{CompletedMarker, Parser};
 use rap_grammar_frame::called::{expr, for_binder, opt_ret_type, pattern, type_, type_no_bounds};
 use rap_grammar_frame::first::{is_fn_ptr_first, is_path_start, is_use_path_start};
-use rap_grammar_frame::knot::{Grammar, Rule};
+use rap_grammar_frame::knot::Grammar;
 use rap_grammar_frame::names::{abi, lifetime, starts_builtin};
 use rap_grammar_frame::recovery::type_recovery_set;
 use rap_grammar_frame::token_tree::{macro_call_after_excl, starts_macro_call};
 use rap_grammar_params::params::param_list_fn_ptr;
 use rap_grammar_paths::paths::type_path;
+use rap_grammar_scripts::rule::Rule;
 
 /// A type, as `&a` and `[a; 1]`, with bounds after it, as `a + b`, where they are allowed.
 pub fn type_with_bounds_cond<G: Grammar>(

@@ -23,7 +23,7 @@ use rap_grammar_adt::adt::{record_field_list, variant_list};
 use rap_grammar_blocks::blocks::block_expr;
 use rap_grammar_control::matches::match_arm_list;
 use rap_grammar_frame::called;
-use rap_grammar_frame::knot::{Answer, Rule};
+use rap_grammar_frame::knot::Answer;
 use rap_grammar_frame::token_tree::token_tree;
 use rap_grammar_item_kinds::modules::{extern_item_list, item_list};
 use rap_grammar_item_kinds::traits::assoc_item_list;
@@ -32,6 +32,7 @@ use rap_grammar_operands::records::record_expr_field_list;
 use rap_grammar_paths::paths::sym_path;
 use rap_grammar_paths::visibility::opt_visibility;
 use rap_grammar_scripts::arguments::Semicolon;
+use rap_grammar_scripts::rule::Rule;
 use std::alloc::Global;
 
 /// The parts of a file that are not recursive rules, and can be parsed alone.

@@ -20,9 +20,10 @@ use rap_base::no_memory::NoMemory;
 use rap_base::syntax_kind::SyntaxKind;
 use rap_events::parser::{CompletedMarker, Parser};
 use rap_grammar_frame::called::type_no_bounds;
-use rap_grammar_frame::knot::{Grammar, Rule};
+use rap_grammar_frame::knot::Grammar;
 use rap_grammar_operands::ranges::range_expr;
 use rap_grammar_scripts::arguments::Restrictions;
+use rap_grammar_scripts::rule::Rule;
 
 /// The least power of the operand of a prefix operator: it binds tighter than any operator between two operands.
 const PREFIX_POWER: u8 = 255;
@@ -153,7 +154,7 @@ fn bin_expr<G: Grammar>(
         prefer_stmt: false,
         ..r
     };
-    g.run(p, Rule::ExprBp { m: None, r, bp })?;
+    g.run(p, Rule::ExprBp { r, bp })?;
     let cm = m.complete_fit(p, SyntaxKind::BIN_EXPR)?;
     Ok(cm)
 }
@@ -236,7 +237,6 @@ pub(crate) fn ref_expr<G: Grammar>(
     g.run(
         p,
         Rule::ExprBp {
-            m: None,
             r,
             bp: PREFIX_POWER,
         },
@@ -260,7 +260,7 @@ pub(crate) fn prefix_expr<G: Grammar>(
     let m = p.start()?;
     p.bump_any()?;
     let bp = PREFIX_POWER;
-    g.run(p, Rule::ExprBp { m: None, r, bp })?;
+    g.run(p, Rule::ExprBp { r, bp })?;
     let cm = m.complete(p, SyntaxKind::PREFIX_EXPR)?;
     Ok(cm)
 }

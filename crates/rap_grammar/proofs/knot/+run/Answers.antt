@@ -1,12 +1,13 @@
-use Rattle.std.proofs.Common.{rules}
-use Rattle.rap_grammar_scripts.proofs.Ends.{answers, ends_more}
+use Rattle.std.proofs.Common.{rules, le_refl}
+use Rattle.rap_events.specs.State.{state}
+use Rattle.rap_grammar_scripts.proofs.Ends.{answers}
 use Rattle.rap_grammar_scripts.specs.Knot.{script_of}
 use Rattle.rap_grammar_scripts.specs.declared.rule.Rule.TheVariants as knot
 use Rattle.rap_grammar.proofs.knot.+run.Goals as goal
 
 pub returns-in_ok-expr-in-ExprBp : goal.returns-in_ok-expr-in-ExprBp
 unfolding script_of
-returns-in_ok-expr-in-ExprBp t c = rw c.in-ExprBp.is (search rules, answers (knot.ExprBp _ c.in-ExprBp.r c.in-ExprBp.bp) (search rules) c.in_ok-expr-in-ExprBp.ensures.script)
+returns-in_ok-expr-in-ExprBp t c = rw c.in-ExprBp.is (search rules, answers (knot.ExprBp c.in-ExprBp.r c.in-ExprBp.bp) (search rules) c.in_ok-expr-in-ExprBp.ensures.script)
 
 pub returns-in_ok-type_with_bounds_cond-in-TypeWithBoundsCond : goal.returns-in_ok-type_with_bounds_cond-in-TypeWithBoundsCond
 unfolding script_of
@@ -56,10 +57,6 @@ pub returns-in_ok-item_or_macro-in-ItemOrMacro : goal.returns-in_ok-item_or_macr
 unfolding script_of
 returns-in_ok-item_or_macro-in-ItemOrMacro t c = rw c.in-ItemOrMacro.is (search rules, answers (knot.ItemOrMacro c.in-ItemOrMacro.stop_on_r_curly c.in-ItemOrMacro.is_in_extern) (search rules) c.in_ok-item_or_macro-in-ItemOrMacro.ensures.script)
 
-pub returns-in_ok-inner_attrs-in-InnerAttrs : goal.returns-in_ok-inner_attrs-in-InnerAttrs
-unfolding script_of
-returns-in_ok-inner_attrs-in-InnerAttrs t c = rw c.in-InnerAttrs.is (search rules, ends_more (search rules) c.in_ok-inner_attrs-in-InnerAttrs.ensures.script)
-
 pub returns-in_ok-use_tree-in-UseTree : goal.returns-in_ok-use_tree-in-UseTree
 unfolding script_of
 returns-in_ok-use_tree-in-UseTree t c = rw c.in-UseTree.is (search rules, answers knot.UseTree (search rules) c.in_ok-use_tree-in-UseTree.ensures.script)
@@ -71,3 +68,7 @@ returns-in_ok-meta-in-Meta t c = rw c.in-Meta.is (search rules, answers knot.Met
 pub returns-in_ok-cfg_predicate-in-CfgPredicate : goal.returns-in_ok-cfg_predicate-in-CfgPredicate
 unfolding script_of
 returns-in_ok-cfg_predicate-in-CfgPredicate t c = rw c.in-CfgPredicate.is (search rules, answers knot.CfgPredicate (search rules) c.in_ok-cfg_predicate-in-CfgPredicate.ensures.script)
+
+pub returns-in_ok-token_tree-in-TokenTree : goal.returns-in_ok-token_tree-in-TokenTree
+unfolding script_of
+returns-in_ok-token_tree-in-TokenTree t c = rw c.in-TokenTree.is (search rules, answers knot.TokenTree (search rules) (c.in_ok-token_tree-in-TokenTree.ensures.script (state c.args.p.now).left (le_refl _)))
