@@ -20,8 +20,6 @@ mod rows;
 mod selection;
 mod symbol_kind;
 mod symbols;
-#[cfg(test)]
-mod tests;
 mod token_kind;
 mod tokens;
 
