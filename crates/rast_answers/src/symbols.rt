@@ -18,7 +18,7 @@ pub struct Symbol {
     pub kind: SymbolKind,
     /// The range of its node.
     pub extent: Extent,
-    /// The range of its name, in that of the node. The name of an `impl` is its header, up to its `where` or its items.
+    /// The range of its name. The name of an `impl` is its header, up to its `where` or its items.
     pub name: Extent,
     /// The index of its node.
     pub index: usize,
