@@ -8,6 +8,7 @@ pub mod Input
 pub mod Interval
 pub mod LastToken
 pub mod Machine
+pub mod Message
 pub mod OperatorTable
 pub mod Output
 pub mod Pending

@@ -1,6 +1,8 @@
 //! The output of a parse: the steps of its forest.
-ghost use Rattle.std.specs.Prelude.{◌≡◌, ◌≤◌, ◌<◌, ◌^◌, length, drop, map, true, IfOk, string_bytes};
-ghost use Rattle.rap_events.specs.Output.{values};
+ghost use Rattle.std.specs.Prelude.{◌≡◌, ◌≤◌, ◌<◌, ◌^◌, ℕ, List, ◌∷◌, length, drop, map, not, true, IfOk, string_bytes};
+ghost use Rattle.rap_events.specs.Output.{value_of, values};
+ghost use Rattle.rap_events.specs.Message.{is_at_message_or_end};
+ghost use Rattle.rap_events.specs.StepValue.{StepValue};
 ghost use Rattle.rap_events.specs.History.{first_message};
 ghost use Rattle.rap_events.specs.Forest.{none, node, flat, splits_placed};
 ghost use Rattle.rap_events.specs.Reading.{forest_of};
@@ -166,6 +168,36 @@ impl<'a> Model for Steps<'a> {
     ghost use Rattle.rap_events.specs.Output.{values};
 
     ghost view = { λ steps. values steps.rest.now (map string_bytes steps.messages.now) };
+}
+
+impl Steps<'_> {
+    /// Returns whether a message comes next, or nothing: only then it is not known yet that a node's end is next in the
+    /// tree over a text, where messages that follow a node come before its end.
+    #[inline(always)]
+    pub fn is_at_message_or_end(&self) -> bool
+        ensures { result ≡ is_at_message_or_end self.now }
+    {
+        match self.rest {
+            [word, ..] => !is_step_without_message(word.event()),
+            [] => true,
+        }
+    }
+}
+
+// Whether an event is a step, but no message.
+#[inline(always)]
+fn is_step_without_message(event: Event) -> bool
+    ensures { (messages : List (List ℕ)) (values : List StepValue) → is_at_message_or_end (value_of messages event ∷ values) ≡ not result }
+{
+    match event {
+        Event::Token { .. } | Event::FloatSplit { .. } | Event::Enter { .. } | Event::Exit => true,
+        Event::Error { .. }
+        | Event::Start
+        | Event::Precede
+        | Event::Finish { .. }
+        | Event::Extend
+        | Event::Abandon => false,
+    }
 }
 
 #[tactic(auto, using(crate::proofs::Values::values_length))]

@@ -1,6 +1,5 @@
 -- How many steps a tree has with its trivia.
-use Rattle.std.proofs.Common.{◌≡◌, ◌≤◌, ℕ, zero, suc, ◌+◌, ◌*◌, List, [], ◌∷◌, ◌++◌, Bool, true, false, if◌then◌else◌, refl, ap, length, length-append, take, drop, codes, arith}
-use Rattle.std.specs.List.{prefix_len}
+use Rattle.std.proofs.Common.{◌≡◌, ◌≤◌, ℕ, ◌+◌, ◌*◌, List, [], ◌∷◌, ◌++◌, Bool, true, false, if◌then◌else◌, refl, ap, length, length-append, drop, codes, arith}
 use Rattle.std.proofs.lemmas.List.{take-append-drop}
 use Rattle.std.proofs.lemmas.List.Folds.{length-prefix_len}
 use Rattle.rap_events.specs.StepValue.{StepValue, enter, token, float_split, error}
@@ -11,9 +10,9 @@ use Rattle.rap_lexed.specs.Attached.{attached_tail, before_tail}
 use Rattle.rap_lexed.specs.FloatParts.{float_in, float_out, has_dot, illegal, with_number, without_dot}
 use Rattle.rap_lexed.specs.LexedStr.{start_of}
 use Rattle.rap_lexed.specs.StrForest.{StrForest, str_none, str_node, str_leaf, str_message, str_flat, with_leaves, with_message}
-use Rattle.rap_lexed.specs.StrStep.{StrStepValue, str_enter, str_exit, str_token, str_error}
+use Rattle.rap_lexed.specs.StrStep.{str_enter, str_exit, str_token, str_error}
 use Rattle.rap_lexed.specs.Token.{Token}
-use Rattle.rap_lexed.specs.Trivia.{is_trivial, trivia_at, past_trivia, text_of, end_of, float_text, after_node, placed, with_trivia}
+use Rattle.rap_lexed.specs.Trivia.{is_trivial, trivia_at, past_trivia, text_of, end_of, float_text, placed, with_trivia}
 use Rattle.rap_lexed.proofs.Joined.{tree_end, after_node-plain}
 
 -- how many steps a forest over the text has

@@ -1,10 +1,11 @@
 -- The walk through the steps of an output.
-use Rattle.std.proofs.Common.{◌≡◌, sym, ◌∙◌, ap, subst, List, [], ◌∷◌, ◌++◌, ℕ, ◌≤◌, Bool, true, IsTrue, length, arith, Result}
+use Rattle.std.proofs.Common.{◌≡◌, refl, false, sym, ◌∙◌, ap, subst, List, [], ◌∷◌, ◌++◌, ℕ, ◌≤◌, Bool, true, IsTrue, length, arith, Result}
 use Rattle.std.specs.Prelude.{IfOk, ◌↔◌}
 use Rattle.std.proofs.lemmas.Result.{IfOk-weaker}
 use Rattle.rap_base.specs.declared.edition.Edition.{Edition}
 use Rattle.rap_events.specs.StepValue.{StepValue, enter, exit, token, float_split, error}
 use Rattle.rap_events.specs.Forest.{Forest, flat, used, one_tree}
+use Rattle.rap_events.specs.Message.{is_at_message_or_end}
 use Rattle.rap_events.specs.Cover.{covers}
 use Rattle.rap_events.proofs.Trees.{Tree}
 use Rattle.rap_lexed.specs.declared.shortcuts.builder.Builder.{Builder}
@@ -40,6 +41,31 @@ place-within ts state at (token kind width) h c = c.1
 place-within ts state at (float_split d) h c = c.0
 place-within ts state at (error bytes) h c = h
 
+-- the end of a node that waits may be handed out at once where no message comes next
+emitted-close : (ts : List Token) (at : ℕ) (xs : List StepValue) → is_at_message_or_end xs ≡ false → emitted ts PendingExit at xs ≡ held PendingExit ++ emitted ts Normal at xs
+emitted-close ts at [] h = cc
+emitted-close ts at (error bytes ∷ xs) h = cc
+emitted-close ts at (enter kind ∷ xs) h = refl
+emitted-close ts at (exit ∷ xs) h = refl
+emitted-close ts at (token kind width ∷ xs) h = refl
+emitted-close ts at (float_split d ∷ xs) h = refl
+
+fits-close : (ts : List Token) (at : ℕ) (xs : List StepValue) → is_at_message_or_end xs ≡ false → Fits ts PendingExit at xs → Fits ts Normal at xs
+fits-close ts at [] h k = k
+fits-close ts at (error bytes ∷ xs) h k = cc
+fits-close ts at (enter kind ∷ xs) h k = k
+fits-close ts at (exit ∷ xs) h k = k
+fits-close ts at (token kind width ∷ xs) h k = k
+fits-close ts at (float_split d ∷ xs) h k = k
+
+ending-close : (ts : List Token) (at : ℕ) (xs : List StepValue) → is_at_message_or_end xs ≡ false → ending ts PendingExit at xs ≡ ending ts Normal at xs
+ending-close ts at [] h = refl
+ending-close ts at (error bytes ∷ xs) h = cc
+ending-close ts at (enter kind ∷ xs) h = refl
+ending-close ts at (exit ∷ xs) h = refl
+ending-close ts at (token kind width ∷ xs) h = refl
+ending-close ts at (float_split d ∷ xs) h = refl
+
 module _ {S : Type 0} (takes : S → StrStepValue → S → Type 0) (ts : List Token) (f : Forest) (s : S) where
   pub stands-start : (b : Builder) (edition : Edition) → b.lexed.now.tokens ≡ ts → b.pos ≡ 0 → b.state ≡ PendingEnter → one_tree f ≡ true → Tree f → covers (records ts edition) f ≡ true → Stands takes ts f s b (flat f) s
   stands-start b edition same zero first tree shape prefix = record {
@@ -69,6 +95,28 @@ module _ {S : Type 0} (takes : S → StrStepValue → S → Type 0) (ts : List T
     stands-stops refuses t e k =
         reached-stops takes refuses (str_flat (with_trivia ts f)) (made_of ts b.state b.pos x) (emitted ts (state_after b.state x) (place_after ts b.state b.pos x) xs) s m t e h.so
         (subst (λ (u : List Token). Stops takes refuses m (made_of u b.state b.pos x) e t) h.same k)
+
+  -- where the end of a node waits, and no message comes next
+  module _ (b : Builder) (xs : List StepValue) (m : S) (h : Stands takes ts f s b xs m) (waits : b.state ≡ PendingExit) (next : is_at_message_or_end xs ≡ false) where
+    stands-waiting : Reached takes (str_flat (with_trivia ts f)) s (held PendingExit ++ emitted ts Normal b.pos xs) m
+    stands-waiting =
+        subst (λ (l : List StrStepValue). Reached takes (str_flat (with_trivia ts f)) s l m) (emitted-close ts b.pos xs next)
+        (subst (λ (w : State). Reached takes (str_flat (with_trivia ts f)) s (emitted ts w b.pos xs) m) waits h.so)
+
+    pub stands-close : (t : S) → Takes takes m (held b.state) t → Stands takes ts f s (record b { state = Normal }) xs t
+    stands-close t k = record {
+      same = h.same;
+      within = h.within;
+      fits = fits-close ts b.pos xs next (subst (λ (w : State). Fits ts w b.pos xs) waits h.fits);
+      end = sym (ending-close ts b.pos xs next) ∙ subst (λ (w : State). ending ts w b.pos xs ≡ tree_end ts f) waits h.end;
+      so = reached-more takes (str_flat (with_trivia ts f)) (held PendingExit) (emitted ts Normal b.pos xs) s m t stands-waiting
+          (subst (λ (w : State). Takes takes m (held w) t) waits k);
+    }
+
+    pub stands-unclosed : {R : Type 0} (refuses : S → StrStepValue → R → S → Type 0) (t : S) (e : R) → Stops takes refuses m (held b.state) e t → Stops takes refuses s (str_flat (with_trivia ts f)) e t
+    stands-unclosed refuses t e k =
+        reached-stops takes refuses (str_flat (with_trivia ts f)) (held PendingExit) (emitted ts Normal b.pos xs) s m t e stands-waiting
+        (subst (λ (w : State). Stops takes refuses m (held w) e t) waits k)
 
   module _ (b : Builder) (m : S) (h : Stands takes ts f s b [] m) where
     pub stands-hands : {R T : Type 0} (refuses : S → StrStepValue → R → S → Type 0) (t : S) (r : Result T R) → HandsOut takes refuses m (leaves_of (trivia_at b.lexed.now.tokens b.pos) ++ held b.state) r t → HandsOut takes refuses s (str_flat (with_trivia ts f)) r t

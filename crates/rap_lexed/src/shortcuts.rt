@@ -111,8 +111,13 @@ impl LexedStr<'_> {
         ensures whole { IfOk result (λ all. IsTrue all → str_joined (with_trivia self.now.tokens output.now) ≡ joined self.now.tokens) }
     {
         let mut builder = Builder::new(self);
-        for step in output.iter() {
+        let mut steps = output.iter();
+        'steps: while let Some(step) = steps.next() {
             builder.step(step, sink)?;
+            // The end of a node waits for messages alone: handed out at once, it is not asked for at the next step.
+            if builder.is_waiting() && !steps.is_at_message_or_end() {
+                builder.close(sink)?;
+            }
         }
         builder.finish(sink)
     }

@@ -1,92 +1,42 @@
 // Written by crates/rap_base/kinds from kinds.txt beside it: an edit here is lost.
-//! The kinds of words. The lexer looks each identifier up, so the length is tested first: then few words are compared.
-ghost use Rattle.std.specs.Prelude.{◌≡◌};
+//! The kinds of words. The lexer looks each word up among the reserved ones, so that takes one comparison. Of
+//! contextual words the length is tested first: then few are compared.
+ghost use Rattle.std.specs.Prelude.{◌≡◌, ◌≤◌, length};
 ghost use Rattle.rap_base.specs.Keyword.{kind_of_word, reserved};
 ghost use Rattle.rap_base.specs.KeywordTable.{contextual_ever};
+ghost use Rattle.rap_base.specs.WordPlace.{place};
 
 use super::SyntaxKind;
+use super::reserved_words::reserved_words;
 use crate::edition::Edition;
 
 /// The kind of a word that the latest edition reserves.
 pub(super) fn reserved_in_2024(text: &str) -> Option<SyntaxKind>
     ensures { result ≡ kind_of_word (reserved Edition.Edition2024) text.now }
 {
-    match text.len() {
-        2 => match text {
-            "as" => Some(SyntaxKind::AS_KW),
-            "fn" => Some(SyntaxKind::FN_KW),
-            "if" => Some(SyntaxKind::IF_KW),
-            "in" => Some(SyntaxKind::IN_KW),
-            "do" => Some(SyntaxKind::DO_KW),
-            _ => None,
-        },
-        3 => match text {
-            "for" => Some(SyntaxKind::FOR_KW),
-            "let" => Some(SyntaxKind::LET_KW),
-            "mod" => Some(SyntaxKind::MOD_KW),
-            "mut" => Some(SyntaxKind::MUT_KW),
-            "pub" => Some(SyntaxKind::PUB_KW),
-            "ref" => Some(SyntaxKind::REF_KW),
-            "use" => Some(SyntaxKind::USE_KW),
-            "box" => Some(SyntaxKind::BOX_KW),
-            "dyn" => Some(SyntaxKind::DYN_KW),
-            "try" => Some(SyntaxKind::TRY_KW),
-            "gen" => Some(SyntaxKind::GEN_KW),
-            _ => None,
-        },
-        4 => match text {
-            "else" => Some(SyntaxKind::ELSE_KW),
-            "enum" => Some(SyntaxKind::ENUM_KW),
-            "impl" => Some(SyntaxKind::IMPL_KW),
-            "loop" => Some(SyntaxKind::LOOP_KW),
-            "move" => Some(SyntaxKind::MOVE_KW),
-            "self" => Some(SyntaxKind::SELF_KW),
-            "Self" => Some(SyntaxKind::SELF_TYPE_KW),
-            "true" => Some(SyntaxKind::TRUE_KW),
-            "type" => Some(SyntaxKind::TYPE_KW),
-            "priv" => Some(SyntaxKind::PRIV_KW),
-            _ => None,
-        },
-        5 => match text {
-            "break" => Some(SyntaxKind::BREAK_KW),
-            "const" => Some(SyntaxKind::CONST_KW),
-            "crate" => Some(SyntaxKind::CRATE_KW),
-            "false" => Some(SyntaxKind::FALSE_KW),
-            "match" => Some(SyntaxKind::MATCH_KW),
-            "super" => Some(SyntaxKind::SUPER_KW),
-            "trait" => Some(SyntaxKind::TRAIT_KW),
-            "where" => Some(SyntaxKind::WHERE_KW),
-            "while" => Some(SyntaxKind::WHILE_KW),
-            "final" => Some(SyntaxKind::FINAL_KW),
-            "macro" => Some(SyntaxKind::MACRO_KW),
-            "yield" => Some(SyntaxKind::YIELD_KW),
-            "async" => Some(SyntaxKind::ASYNC_KW),
-            "await" => Some(SyntaxKind::AWAIT_KW),
-            _ => None,
-        },
-        6 => match text {
-            "extern" => Some(SyntaxKind::EXTERN_KW),
-            "return" => Some(SyntaxKind::RETURN_KW),
-            "static" => Some(SyntaxKind::STATIC_KW),
-            "struct" => Some(SyntaxKind::STRUCT_KW),
-            "unsafe" => Some(SyntaxKind::UNSAFE_KW),
-            "become" => Some(SyntaxKind::BECOME_KW),
-            "typeof" => Some(SyntaxKind::TYPEOF_KW),
-            _ => None,
-        },
-        7 => match text {
-            "unsized" => Some(SyntaxKind::UNSIZED_KW),
-            "virtual" => Some(SyntaxKind::VIRTUAL_KW),
-            _ => None,
-        },
-        8 => match text {
-            "continue" => Some(SyntaxKind::CONTINUE_KW),
-            "abstract" => Some(SyntaxKind::ABSTRACT_KW),
-            "override" => Some(SyntaxKind::OVERRIDE_KW),
-            _ => None,
-        },
-        _ => None,
+    let len = text.len();
+    if len < 2 || 8 < len {
+        return None;
     }
+    let (word, number) = reserved_words()[place(text.as_bytes())];
+    if word == text {
+        Some(SyntaxKind { number })
+    } else {
+        None
+    }
+}
+
+/// Where the word stands among the reserved ones, if it is one. No two of them have the same place.
+#[inline(always)]
+fn place(text: &[u8]) -> usize
+    requires some { 2 ≤ length text.now }
+    requires few { length text.now ≤ 8 }
+    ensures { result ≡ place text.now }
+{
+    let len = text.len();
+    let first = usize::from(text[0]);
+    let middle = usize::from(text[len / 2]);
+    (4 * len + 21 * first + middle) % 256
 }
 
 /// The kind of a word that is contextual in every edition.

@@ -49,7 +49,7 @@ pub(super) struct Builder<'a, 'text> {
 
 impl<'a, 'text> Builder<'a, 'text> {
     ghost use Rattle.rap_lexed.specs.Builder.{held, leaves_of, before_next, made_by, moved, CanMake};
-    ghost use Rattle.rap_lexed.specs.declared.shortcuts.builder.State.TheVariants.{PendingEnter, Normal};
+    ghost use Rattle.rap_lexed.specs.declared.shortcuts.builder.State.TheVariants.{PendingEnter, Normal, PendingExit};
 
     pub(super) fn new(lexed: &'a LexedStr<'text>) -> Builder<'a, 'text>
         ensures { result ≡ record { lexed = lexed.entry; pos = 0; state = PendingEnter } }
@@ -217,8 +217,16 @@ impl<'a, 'text> Builder<'a, 'text> {
         self.eat_trivias(sink)
     }
 
+    /// Whether the end of a node waits.
+    #[inline(always)]
+    pub(super) fn is_waiting(&self) -> bool
+        ensures { IsTrue result ↔ (self.now.state ≡ PendingExit) }
+    {
+        matches!(self.state, State::PendingExit)
+    }
+
     /// Hands out the end of a node that waits.
-    fn close<S: StrSink>(&mut self, sink: &mut S) -> Result<(), S::Refusal>
+    pub(super) fn close<S: StrSink>(&mut self, sink: &mut S) -> Result<(), S::Refusal>
         ensures steps { HandsOut S.takes S.refuses sink.old (held self.old.state) result sink.new }
         ensures after { OnOk result (self.new ≡ record self.old { state = Normal }) }
     {

@@ -1,26 +1,19 @@
-use Rattle.std.proofs.Common.{rules}
-use Rattle.rap_base.specs.Keyword.{reserved}
-use Rattle.rap_base.specs.declared.edition.Edition.TheVariants.{Edition2024}
-use Rattle.rap_base.proofs.KeywordLemmas.{from_length}
+use Rattle.std.proofs.Common.{ap, sym, ◌∙◌, arith}
+use Rattle.rap_base.specs.WordPlace.{place}
+use Rattle.rap_base.proofs.ReservedWords.{number-is_kind, found, missing}
 use Rattle.rap_base.proofs.syntax_kind.words.reserved_in_2024.Goals as goal
 
-pub returns-in_default-text : goal.returns-in_default-text
-returns-in_default-text c = from_length 2 (reserved Edition2024) c.args.text.now _ c.in-2.is (search rules)
+pub invariant_of-result : goal.invariant_of-result
+invariant_of-result c =
+    number-is_kind c.reserved_words.result.now c.args.text.now c.place.result _ c.reserved_words.ensures
+    (c.place.ensures ∙ ap place c.as_bytes.ensures.value)
 
-pub returns-in_default-text-2 : goal.returns-in_default-text-2
-returns-in_default-text-2 c = from_length 3 (reserved Edition2024) c.args.text.now _ c.in-3.is (search rules)
+pub returns-then-eq : goal.returns-then-eq
+returns-then-eq c =
+    found c.reserved_words.result.now c.args.text.now c.place.result _ c.reserved_words.ensures
+    (c.place.ensures ∙ ap place c.as_bytes.ensures.value) (omega (arith, c.if-len-lt2.false)) (sym c.eq.ensures ∙ c.if-eq.true)
 
-pub returns-in_default-text-3 : goal.returns-in_default-text-3
-returns-in_default-text-3 c = from_length 4 (reserved Edition2024) c.args.text.now _ c.in-4.is (search rules)
-
-pub returns-in_default-text-4 : goal.returns-in_default-text-4
-returns-in_default-text-4 c = from_length 5 (reserved Edition2024) c.args.text.now _ c.in-5.is (search rules)
-
-pub returns-in_default-text-5 : goal.returns-in_default-text-5
-returns-in_default-text-5 c = from_length 6 (reserved Edition2024) c.args.text.now _ c.in-6.is (search rules)
-
-pub returns-in_default-text-6 : goal.returns-in_default-text-6
-returns-in_default-text-6 c = from_length 7 (reserved Edition2024) c.args.text.now _ c.in-7.is (search rules)
-
-pub returns-in_default-text-7 : goal.returns-in_default-text-7
-returns-in_default-text-7 c = from_length 8 (reserved Edition2024) c.args.text.now _ c.in-8.is (search rules)
+pub returns-else-eq : goal.returns-else-eq
+returns-else-eq c =
+    sym (missing c.reserved_words.result.now c.args.text.now c.place.result _ c.reserved_words.ensures
+    (c.place.ensures ∙ ap place c.as_bytes.ensures.value) (sym c.eq.ensures ∙ c.if-eq.false))
