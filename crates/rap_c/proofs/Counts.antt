@@ -6,6 +6,7 @@ use Rattle.std.proofs.lemmas.Bool.{cases_lt, cond-true, cond-false, le-ltb, lt-l
 use Rattle.std.proofs.lemmas.List.{length-map}
 use Rattle.rap_base.specs.declared.edition.Edition.{Edition}
 use Rattle.rap_events.specs.Forest.{Forest}
+use Rattle.rap_lexed.specs.ErrorSteps.{error_steps}
 use Rattle.rap_lexed.specs.LexedStr.{AreTokens, Lexed, Message, Token}
 use Rattle.rap_lexed.specs.StrForest.{str_flat}
 use Rattle.rap_lexed.specs.StrStep.{StrStepValue, str_enter, str_exit, str_token, str_error}
@@ -15,7 +16,7 @@ use Rattle.ra_ap_parser.specs.declared.entry_point.TopEntryPoint.{TopEntryPoint}
 use Rattle.rap_ranged.proofs.FewReports.{few_errors}
 use Rattle.rap_c.specs.Item.{counted, lexer_items, text_item, text_items}
 use Rattle.rap_c.specs.Tree.{tree_items}
-use Rattle.rap_c.specs.Words.{all_words, lexer_steps, token_words, word_of, as_word, words_of}
+use Rattle.rap_c.specs.Words.{all_words, token_words, word_of, as_word, words_of}
 
 at_most_counted : (n : ℕ) → counted n ≤ n
 at_most_counted n = min-le_left n (2 ^ 64 - 1)
@@ -25,7 +26,7 @@ items_count : (ts : List Token) (ms : List Message) → length (lexer_items ts m
 items_count ts [] = omega arith
 items_count ts (m ∷ ms) = omega (arith, items_count ts ms)
 
-steps_count : (ts : List Token) (ms : List Message) → length (lexer_steps ts ms) ≡ length ms
+steps_count : (ts : List Token) (ms : List Message) → length (error_steps ts ms) ≡ length ms
 steps_count ts [] = omega arith
 steps_count ts (m ∷ ms) = omega (arith, steps_count ts ms)
 
@@ -63,10 +64,10 @@ few_of_steps [] = omega arith
 few_of_steps (s ∷ ss) = omega (arith, few_of_step s, few_of_steps ss, length-append (words_of s) (all_words ss))
 
 pub few_words : (text : List ℕ) (edition : Edition) (entry : TopEntryPoint) (lexed : Lexed) (f : Forest) (n : ℕ) → IsParsed text edition entry lexed f → AreTokens lexed.tokens
-    → n ≡ counted (length (all_words (str_flat (with_trivia lexed.tokens f) ++ lexer_steps lexed.tokens lexed.errors))) → n ≤ 801 * (length text + 1)
+    → n ≡ counted (length (all_words (str_flat (with_trivia lexed.tokens f) ++ error_steps lexed.tokens lexed.errors))) → n ≤ 801 * (length text + 1)
 few_words text edition entry lexed f n p tokens is =
     let ss : List StrStepValue = str_flat (with_trivia lexed.tokens f) in
-    let ls : List StrStepValue = lexer_steps lexed.tokens lexed.errors in
+    let ls : List StrStepValue = error_steps lexed.tokens lexed.errors in
     omega (
       arith,
       is,

@@ -1,7 +1,8 @@
 -- The items of an output to a caller, in order, and the numbers of each.
 use Rattle.std.specs.Prelude.{ℕ, ◌+◌, ◌-◌, ◌^◌, Bool, List, [], ◌∷◌, ◌++◌, length, map, min, if◌then◌else◌}
 use Rattle.rap_events.specs.StepValue as raw
-use Rattle.rap_lexed.specs.LexedStr.{Token, Message, start_of}
+use Rattle.rap_lexed.specs.ErrorSteps.{error_steps}
+use Rattle.rap_lexed.specs.LexedStr.{Token, Message}
 use Rattle.rap_lexed.specs.StrStep.{StrStepValue, str_enter, str_exit, str_token, str_error}
 use Rattle.rap_c.specs.declared.step.RapStep.{RapStep}
 
@@ -85,5 +86,4 @@ token_items ts = map (λ t. token t.kind (length t.text)) ts
 
 -- the lexer's messages, each at the start of its token
 abbrev pub lexer_items : List Token → List Message → List Item
-lexer_items ts [] = []
-lexer_items ts (m ∷ ms) = message m.text (start_of ts m.token) ∷ lexer_items ts ms
+lexer_items ts ms = text_items (error_steps ts ms)

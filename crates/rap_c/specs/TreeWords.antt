@@ -4,6 +4,7 @@ use Rattle.rap_base.specs.declared.edition.Edition.{Edition}
 use Rattle.rap_events.specs.Forest.{Forest}
 use Rattle.ra_ap_parser.specs.Headline.{IsParsed}
 use Rattle.ra_ap_parser.specs.declared.entry_point.TopEntryPoint.{TopEntryPoint}
+use Rattle.rap_lexed.specs.ErrorSteps.{error_steps}
 use Rattle.rap_lexed.specs.LexedStr.{Lexed}
 use Rattle.rap_lexed.specs.StrForest.{str_flat, str_joined}
 use Rattle.rap_lexed.specs.StrStep.{StrStepValue}
@@ -11,7 +12,7 @@ use Rattle.rap_lexed.specs.Trivia.{with_trivia}
 use Rattle.rap_c.specs.Filling.{overwritten}
 use Rattle.rap_c.specs.Item.{counted}
 use Rattle.rap_c.specs.Numbers.{IsEditionOf, IsTopOf}
-use Rattle.rap_c.specs.Words.{all_words, all_bytes, lexer_steps}
+use Rattle.rap_c.specs.Words.{all_words, all_bytes}
 use Rattle.rap_c.specs.declared.answer.RapAnswer.{RapAnswer}
 
 -- The first words of the room are those of the steps, and of others after them, as many as fit, and the first bytes
@@ -32,7 +33,7 @@ pub record IsFilledTreeWords (text : List ℕ) (edition : Edition) (entry : TopE
   pub forest : Forest
   pub parsed : IsParsed text edition entry lexed forest
   pub whole : str_joined (with_trivia lexed.tokens forest) ≡ text
-  pub given : AreWordsGiven (str_flat (with_trivia lexed.tokens forest)) (lexer_steps lexed.tokens lexed.errors) words words_after messages messages_after answer
+  pub given : AreWordsGiven (str_flat (with_trivia lexed.tokens forest)) (error_steps lexed.tokens lexed.errors) words words_after messages messages_after answer
   pub few : answer.steps ≤ 801 * (length text + 1)
 
 -- The bytes are UTF-8, the numbers are those of an edition and of an entry, and the text's one tree is returned.

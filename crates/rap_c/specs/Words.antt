@@ -1,6 +1,5 @@
 -- The steps of a tree over a text, in words of 32 bits.
 use Rattle.std.specs.Prelude.{ℕ, ◌+◌, ◌*◌, ◌-◌, ◌^◌, List, [], ◌∷◌, ◌++◌, length, min, nat_lt, if◌then◌else◌}
-use Rattle.rap_lexed.specs.LexedStr.{Token, Message, start_of}
 use Rattle.rap_lexed.specs.StrStep.{StrStepValue, str_enter, str_exit, str_token, str_error}
 
 -- The word of a step: bits 0 to 2 say what it is, bits 3 to 15 hold a number of bytes, and bits 16 to 31 a kind's number.
@@ -38,8 +37,3 @@ all_words (x ∷ xs) = words_of x ++ all_words xs
 abbrev pub all_bytes : List StrStepValue → List ℕ
 all_bytes [] = []
 all_bytes (x ∷ xs) = bytes_of x ++ all_bytes xs
-
--- the lexer's messages as steps, each at the start of its token
-abbrev pub lexer_steps : List Token → List Message → List StrStepValue
-lexer_steps ts [] = []
-lexer_steps ts (m ∷ ms) = str_error m.text (start_of ts m.token) ∷ lexer_steps ts ms

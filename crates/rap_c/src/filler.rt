@@ -2,7 +2,6 @@
 ghost use Rattle.std.specs.Prelude.{◌≡◌, ◌<◌, ◌^◌, length};
 ghost use Rattle.rap_events.specs.Forest.{flat};
 ghost use Rattle.rap_events.specs.Step.{step_value};
-ghost use Rattle.rap_lexed.specs.LexedStr.{AreInOrder};
 ghost use Rattle.rap_c.specs.Item.{message, output_item, output_items, token_items, lexer_items};
 ghost use Rattle.rap_c.specs.Filling.{write_at};
 
@@ -135,11 +134,11 @@ impl<'a> Filler<'a> {
 
     /// Adds the lexer's messages, each at the start of its token.
     pub fn add_errors_of(&mut self, lexed: &LexedStr<'_>)
-        requires { AreInOrder (length lexed.now.tokens) lexed.now.errors }
         ensures { AddsAll (lexer_items lexed.now.tokens lexed.now.errors) self.old self.new }
     {
-        'errors: for (token, message) in lexed.errors() {
-            self.put_message(message, lexed.text_start(token));
+        match lexed.report_errors(self) {
+            Ok(()) => (),
+            Err(never) => match never {},
         }
     }
 

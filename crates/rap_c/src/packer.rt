@@ -1,7 +1,7 @@
 //! What fills the caller's room with the words of a tree.
 ghost use Rattle.std.specs.Prelude.{◌≡◌, ◌<◌, ◌^◌, [], ◌∷◌, length};
-ghost use Rattle.rap_lexed.specs.LexedStr.{AreInOrder};
-ghost use Rattle.rap_c.specs.Words.{as_word, lexer_steps, token_words, word_of};
+ghost use Rattle.rap_lexed.specs.ErrorSteps.{error_steps};
+ghost use Rattle.rap_c.specs.Words.{as_word, token_words, word_of};
 
 use crate::answer::{OK, RapAnswer};
 use crate::filler::put_bytes;
@@ -102,11 +102,11 @@ impl<'a> Packer<'a> {
 
     /// Adds the lexer's messages, each at the start of its token.
     pub fn add_errors_of(&mut self, lexed: &LexedStr<'_>)
-        requires { AreInOrder (length lexed.now.tokens) lexed.now.errors }
-        ensures { PacksAll (lexer_steps lexed.now.tokens lexed.now.errors) self.old self.new }
+        ensures { PacksAll (error_steps lexed.now.tokens lexed.now.errors) self.old self.new }
     {
-        'errors: for (token, message) in lexed.errors() {
-            self.put_message(message, lexed.text_start(token));
+        match lexed.report_errors(self) {
+            Ok(()) => (),
+            Err(never) => match never {},
         }
     }
 
