@@ -2,11 +2,14 @@
 import hashlib
 import os
 import re
+from concurrent.futures import ThreadPoolExecutor
 
 from packing import TOP, Refused, bytes_of, output, read
 
-# What is packed of the crates: the programs and the static library.
-PROGRAMS = ['rast', 'rast_lex', 'rast_page', 'rast_steps']
+# What is packed of the crates: the programs of the package rast, the language server, and the static library.
+RAST = ['rast', 'rast_lex', 'rast_page', 'rast_steps']
+SERVER = 'rast_server'
+PROGRAMS = [*RAST, SERVER]
 LIBRARY = 'rap_c'
 
 
@@ -58,5 +61,8 @@ def sums() -> dict[str, dict[str, str]]:
     for name in below():
         if not os.path.isdir(f'{TOP}/{folder_of(name)}'):
             raise Refused(f'{folder_of(name)} is not there: run `rt ci` first')
-        found[name]['library'] = sum_of(folder_of(name))
+    # Some gigabytes are read, and the sum of a file is made beside others.
+    with ThreadPoolExecutor(os.cpu_count()) as pool:
+        for name, library in zip(below(), pool.map(sum_of, map(folder_of, below()))):
+            found[name]['library'] = library
     return found
