@@ -1,13 +1,17 @@
 pub mod Borders
+pub mod Brackets
 pub mod Comments
 pub mod Deltas
 pub mod Diagnostics
 pub mod Extents
 pub mod Folds
 pub mod Gaps
+pub mod Highlights
 pub mod Imports
+pub mod Jumps
 pub mod Kinds
 pub mod Nesting
+pub mod Reaches
 pub mod Rows
 pub mod Selections
 pub mod SymbolTable
