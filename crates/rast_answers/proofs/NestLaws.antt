@@ -199,7 +199,7 @@ row_after_leaf i p (node_element n) e is h =
 leaf_after : (root : RangedNode) (es : List Element) (i : ℕ) (e : Element) → es ≡ elements_of_tree root → slice_get es i ≡ Some e → e.leaf ≡ true → e.after ≡ i + 1
 leaf_after root es i e is at leaf = let f = found root es i e is at in row_after_leaf i f.stands.up f.value e f.is leaf
 
-leaves_apart : (f : StrForest) (root : RangedNode) (es : List Element) (i j : ℕ) (d e : Element) → Ranged f root → es ≡ elements_of_tree root → i < j
+pub leaves_apart : (f : StrForest) (root : RangedNode) (es : List Element) (i j : ℕ) (d e : Element) → Ranged f root → es ≡ elements_of_tree root → i < j
     → slice_get es i ≡ Some d → slice_get es j ≡ Some e → d.leaf ≡ true → d.end ≤ e.start
 leaves_apart f root es i j d e ranged is low hd he leaf = elim (nest f root es i j d e ranged is low hd he) [
   | inl apart ↦ apart.places

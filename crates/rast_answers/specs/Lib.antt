@@ -16,6 +16,7 @@ pub mod Rows
 pub mod Selections
 pub mod SymbolTable
 pub mod Symbols
+pub mod Together
 pub mod TokenOrder
 pub mod TokenTable
 pub mod Tokens
