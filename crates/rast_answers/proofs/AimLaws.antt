@@ -1,6 +1,6 @@
 -- What an aim means, by how far nodes reach.
-use Rattle.std.proofs.Common.{◌≡◌, ℕ, zero, suc, ◌+◌, ◌<◌, ◌≤◌, Bool, true, false, List, Option, Some, None, refl, ap, sym, ◌∙◌, arith, inl, inr}
-use Rattle.std.specs.Prelude.{◌&&◌, ◌||◌, ◌==◌, not, bytes_eq, if◌then◌else◌, nat_le, nat_lt}
+use Rattle.std.proofs.Common.{◌≡◌, ℕ, ◌+◌, ◌<◌, ◌≤◌, Bool, true, false, List, Option, Some, None, refl, ap, sym, ◌∙◌, arith}
+use Rattle.std.specs.Prelude.{◌&&◌, ◌||◌, not, if◌then◌else◌, nat_le, nat_lt}
 use Rattle.std.proofs.lemmas.Bool.{eq-eqb, le-leb, lt-ltb}
 use Rattle.std.proofs.lemmas.Slice.Eq.{bytes_eq-Decides}
 use Rattle.flat_tree.specs.declared.element.Element.{Element}
@@ -11,7 +11,7 @@ use Rattle.rast_answers.specs.Highlights.{is_target}
 use Rattle.rast_answers.specs.Jumps.{accepted, accepts, has_label, innermost, is_body, is_labelled, is_loop, is_text, label_in, stops, target, text_at}
 use Rattle.rast_answers.specs.Kinds.{after_at, kind_at}
 use Rattle.rast_answers.specs.Reaches.{IsReach, is_meant, reach, reach_for, stops_label, stops_loop}
-use Rattle.rast_answers.proofs.ReachLaws.{IsInnermost, innermost_is, is_innermost, reach_stays}
+use Rattle.rast_answers.proofs.ReachLaws.{innermost_is, is_innermost, reach_stays}
 
 -- nothing new is inside a node before it
 pub all_stay : (s : List ℕ) (es : List Element) (node i : ℕ) (r : Reach) → i ≤ node → IsReach s es node i r → IsReach s es node (i + 1) r

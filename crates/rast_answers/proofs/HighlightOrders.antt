@@ -1,5 +1,5 @@
 -- Highlights in the order of the text, and on character boundaries.
-use Rattle.std.proofs.Common.{◌≡◌, ℕ, ◌<◌, ◌≤◌, true, List, Option, Some, None, refl, ap, sym, subst, ◌∙◌, length, arith}
+use Rattle.std.proofs.Common.{◌≡◌, ℕ, ◌<◌, ◌≤◌, true, List, Option, Some, None, refl, sym, subst, length, arith}
 use Rattle.std.specs.List.{AllPairs, slice_get}
 use Rattle.rap_lexed.specs.StrForest.{StrForest}
 use Rattle.rap_lexed.specs.Trivia.{with_trivia}

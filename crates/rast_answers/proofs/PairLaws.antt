@@ -1,21 +1,19 @@
 -- Brackets and their partners.
-use Rattle.std.proofs.Common.{◌≡◌, ◌⊎◌, ℕ, zero, suc, ◌+◌, ◌<◌, ◌≤◌, Bool, true, false, List, [], ◌∷◌, ◌++◌, Option, Some, None, refl, ap, sym, subst, ◌∙◌, length, arith, inl, inr}
+use Rattle.std.proofs.Common.{◌≡◌, ◌⊎◌, ℕ, zero, suc, ◌<◌, Bool, true, false, List, [], ◌∷◌, Option, Some, None, refl, ap, sym, subst, ◌∙◌, length, arith, inl, inr}
 use Rattle.std.specs.Prelude.{◌&&◌, ◌||◌, ◌==◌, find, if◌then◌else◌, nat_lt}
 use Rattle.std.specs.List.{slice_get}
 use Rattle.std.specs.Option.{option_or}
-use Rattle.std.proofs.lemmas.Bool.{cond-true, cond-false, eq-eqb, lt-ltb, ltb-true}
+use Rattle.std.proofs.lemmas.Bool.{cond-true, lt-ltb, ltb-true}
 use Rattle.std.proofs.lemmas.List.Folds.{find-append}
-use Rattle.rap_base.specs.NodeKind.{GENERIC_ARG_LIST, GENERIC_PARAM_LIST}
 use Rattle.rap_base.specs.TokenKind.{L_ANGLE, L_BRACK, L_CURLY, L_PAREN, R_ANGLE, R_BRACK, R_CURLY, R_PAREN}
 use Rattle.flat_tree.specs.declared.element.Element.{Element}
 use Rattle.rast_answers.specs.declared.brackets.BracketKinds.{BracketKinds}
 use Rattle.rast_answers.specs.declared.brackets.Pair.{Pair}
-use Rattle.rast_answers.specs.declared.jumps.Aim.{Aim}
 use Rattle.rast_answers.specs.Brackets.{bracket_kinds, first_in, is_generic_list, is_leaf_in, last_in, pair_at, pair_of_kinds, paired}
 use Rattle.rast_answers.specs.Gaps.{is_some_leaf}
 use Rattle.rast_answers.specs.Jumps.{aim_in}
 use Rattle.rast_answers.specs.Kinds.{around, kind_at}
-use Rattle.rast_answers.specs.Rows.{indices_to, last_below}
+use Rattle.rast_answers.specs.Rows.{indices_to}
 use Rattle.rast_answers.proofs.AimLaws.{both}
 use Rattle.rast_answers.proofs.LastLaws.{is_last}
 

@@ -1,11 +1,11 @@
 -- How far nodes inside a node reach, and which is the innermost one around an index.
-use Rattle.std.proofs.Common.{◌≡◌, ℕ, zero, suc, ◌+◌, ◌<◌, ◌≤◌, Bool, true, false, Option, Some, None, refl, ap, sym, ◌∙◌, max, arith, add-one, inl, inr}
+use Rattle.std.proofs.Common.{◌≡◌, ℕ, zero, suc, ◌+◌, ◌<◌, ◌≤◌, Bool, true, false, Some, refl, ap, ◌∙◌, max, arith, add-one, inl, inr}
 use Rattle.std.specs.Prelude.{◌&&◌, if◌then◌else◌, nat_lt}
 use Rattle.std.proofs.lemmas.Bool.{cases_lt, cond-true, cond-false, lt-ltb, le-ltb}
 use Rattle.rast_answers.specs.Jumps.{is_around}
 use Rattle.rast_answers.specs.Reaches.{reach}
 use Rattle.rast_answers.specs.Rows.{last_below}
-use Rattle.rast_answers.proofs.LastLaws.{IsLast, is_last, last_is}
+use Rattle.rast_answers.proofs.LastLaws.{is_last, last_is}
 
 lt_of : (a b : ℕ) → nat_lt a b ≡ true → a < b
 lt_of a b h = grind (arith, h)

@@ -1,5 +1,5 @@
 -- Leaves that belong together.
-use Rattle.std.proofs.Common.{◌≡◌, ◌⊎◌, ℕ, zero, suc, ◌+◌, ◌<◌, ◌≤◌, Bool, true, false, List, [], ◌∷◌, ◌++◌, Option, Some, None, refl, ap, sym, subst, ◌∙◌, length, arith, add-one, inl, inr}
+use Rattle.std.proofs.Common.{◌≡◌, ◌⊎◌, ℕ, zero, suc, ◌<◌, Bool, true, false, List, [], ◌++◌, Option, Some, None, refl, ap, sym, subst, ◌∙◌, length, arith, add-one, inl, inr}
 use Rattle.std.specs.Prelude.{◌&&◌, ◌||◌, ◌==◌, filter_map, if◌then◌else◌}
 use Rattle.std.specs.List.{All, Contains, slice_get}
 use Rattle.std.specs.Option.{option_to_list}
@@ -16,11 +16,11 @@ use Rattle.rast_answers.specs.declared.jumps.Aim.{Aim}
 use Rattle.rast_answers.specs.Brackets.{bracket_kinds, pair_at, pair_of_kinds}
 use Rattle.rast_answers.specs.Extents.{extent_at}
 use Rattle.rast_answers.specs.Gaps.{is_some_leaf}
-use Rattle.rast_answers.specs.Highlights.{belongs, highlight_at, highlights_of, highlights_with, is_target, subject_at, subject_of}
+use Rattle.rast_answers.specs.Highlights.{belongs, highlight_at, highlights_with, is_target, subject_at, subject_of}
 use Rattle.rast_answers.specs.Jumps.{accepted, accepts, aim_at, aim_in, innermost, is_around, stops, target_at, target_of}
 use Rattle.rast_answers.specs.Kinds.{after_at, around, kind_at}
 use Rattle.rast_answers.specs.Rows.{indices_to}
-use Rattle.rast_answers.specs.Together.{AreTogether, HighlightsAreLeaves, HighlightsAreShared, HighlightsHoldTheirLeaf, IsNearest, IsOfLeaf, PartnersArePartners, TargetsAreNearest, other_of_pair, partner}
+use Rattle.rast_answers.specs.Together.{HighlightsAreLeaves, HighlightsAreShared, HighlightsHoldTheirLeaf, IsOfLeaf, PartnersArePartners, TargetsAreNearest, other_of_pair, partner}
 use Rattle.rast_answers.proofs.LastLaws.{is_last}
 use Rattle.rast_answers.proofs.PairLaws.{are_both, is_pair, no_aim}
 use Rattle.rast_answers.proofs.Picked.{picked_all}
@@ -151,7 +151,7 @@ highlights_shared s es i j h = ap (highlights_with s es) ((belongs_to s es i j h
 
 -- a leaf belongs to its own subject
 bracket_or : (i f l : ℕ) → (i ≡ f) ⊎ (i ≡ l) → (i == f || i == l) ≡ true
-bracket_or i f l h = elim h [ | inl a ↦ grind (arith, a) | inr b ↦ grind (arith, b) ]
+bracket_or i f l h = elim h [ inl a ↦ grind (arith, a) | inr b ↦ grind (arith, b) ]
 
 pub belongs_itself : (s : List ℕ) (es : List Element) (i : ℕ) (x : Subject) → subject_at s es i ≡ Some x → belongs s es x i ≡ true
 belongs_itself s es i (Brackets p) h = bracket_or i p.opening p.closing (is_pair es i p (subject_pair s es i p h)).one

@@ -2,10 +2,10 @@
 ghost use Rattle.std.specs.Prelude.{◌≡◌, ◌+◌, if◌then◌else◌, max, string_bytes};
 ghost use Rattle.rast_answers.specs.declared.highlights.Subject.{Subject};
 ghost use Rattle.rast_answers.specs.Highlights.{belongs, is_target};
-ghost use Rattle.rast_answers.specs.Jumps.{label_in, target};
+ghost use Rattle.rast_answers.specs.Jumps.{accepts, is_body, label_in, stops, target};
 ghost use Rattle.rast_answers.specs.Reaches.{IsReach, has_this_label, is_meant, reach_for, stops_label, stops_loop};
 
-use crate::jumps::{Aim, accepts, aim_at, has_label, is_body, is_loop, stops};
+use crate::jumps::{Aim, aim_at, has_label, is_body, is_labelled, is_loop, is_text};
 use crate::kinds::{after_at, kind_at};
 use flat_tree::Element;
 use rast_document::Document;
@@ -99,22 +99,61 @@ fn reach_for(reach: Reach, aim: Aim) -> usize
     }
 }
 
+/// Whether the search for an aim ends at a node, of which it is known whether it is a body, and which is its label.
+fn ends_at(
+    document: &Document,
+    elements: &[Element],
+    node: usize,
+    body: bool,
+    label: Option<usize>,
+    aim: Aim,
+) -> bool
+    requires body { body ≡ is_body elements.now node }
+    requires label { label ≡ label_in elements.now node }
+    ensures { result ≡ stops (string_bytes document.now.text) elements.now aim node }
+{
+    let kind = kind_at(elements, node);
+    match aim {
+        Aim::Body => body,
+        Aim::Loop => body || is_loop(kind),
+        Aim::Labelled(own) | Aim::LabelledLoop(own) => {
+            body || (is_labelled(kind) && is_text(document, elements, label, own))
+        }
+    }
+}
+
+/// Whether the aim may mean a node, of which it is known whether it is a body.
+fn takes(elements: &[Element], node: usize, body: bool, aim: Aim) -> bool
+    requires { body ≡ is_body elements.now node }
+    ensures { result ≡ accepts elements.now aim node }
+{
+    match aim {
+        Aim::Body => true,
+        Aim::Loop | Aim::Labelled(_) => !body,
+        Aim::LabelledLoop(_) => !body && is_loop(kind_at(elements, node)),
+    }
+}
+
 /// Whether a node is around the element with this index, with no other one in between that ends the search for the aim.
 fn is_meant(
     document: &Document,
     elements: &[Element],
     node: usize,
+    body: bool,
+    label: Option<usize>,
     index: usize,
     reach: Reach,
     aim: Aim,
 ) -> bool
+    requires body { body ≡ is_body elements.now node }
+    requires label { label ≡ label_in elements.now node }
     ensures { result ≡ is_meant (string_bytes document.now.text) elements.now node index reach aim }
 {
     node < index
         && index < after_at(elements, node)
         && reach_for(reach, aim) <= index
-        && stops(document, elements, aim, node)
-        && accepts(elements, aim, node)
+        && ends_at(document, elements, node, body, label, aim)
+        && takes(elements, node, body, aim)
 }
 
 /// Whether the aim of the element with this index means a node.
@@ -122,14 +161,18 @@ fn means(
     document: &Document,
     elements: &[Element],
     node: usize,
+    body: bool,
+    label: Option<usize>,
     index: usize,
     reach: Reach,
     aim: Aim,
 ) -> bool
-    requires { IsReach (string_bytes document.now.text) elements.now node index reach }
+    requires body { body ≡ is_body elements.now node }
+    requires label { label ≡ label_in elements.now node }
+    requires reach { IsReach (string_bytes document.now.text) elements.now node index reach }
     ensures { result ≡ is_target node (target (string_bytes document.now.text) elements.now index aim) }
 {
-    is_meant(document, elements, node, index, reach, aim)
+    is_meant(document, elements, node, body, label, index, reach, aim)
 }
 
 /// Whether the element with this index is about a node.
@@ -137,14 +180,18 @@ pub(crate) fn is_about(
     document: &Document,
     elements: &[Element],
     node: usize,
+    body: bool,
+    label: Option<usize>,
     index: usize,
     reach: Reach,
 ) -> bool
-    requires { IsReach (string_bytes document.now.text) elements.now node index reach }
+    requires body { body ≡ is_body elements.now node }
+    requires label { label ≡ label_in elements.now node }
+    requires reach { IsReach (string_bytes document.now.text) elements.now node index reach }
     ensures { result ≡ belongs (string_bytes document.now.text) elements.now (Subject.Node node) index }
 {
     match aim_at(elements, index) {
-        Some(aim) => means(document, elements, node, index, reach, aim),
+        Some(aim) => means(document, elements, node, body, label, index, reach, aim),
         None => false,
     }
 }

@@ -107,13 +107,7 @@ impl<'d> Analysis<'d> {
     {
         let leaf = self.tree.leaf_at(offset);
         let before = self.tree.leaf_at(offset.saturating_sub(1));
-        highlights(
-            alloc,
-            self.document,
-            self.tree.elements(),
-            leaf,
-            before,
-        )
+        highlights(alloc, self.document, self.tree.elements(), leaf, before)
     }
 
     /// The tokens of the text as numbers, each relative to the one before. The error means out of memory.

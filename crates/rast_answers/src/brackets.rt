@@ -67,9 +67,7 @@ fn is_leaf_in(elements: &[Element], node: usize, kind: SyntaxKind, index: usize)
 {
     match elements.get(index) {
         Some(element) => {
-            element.is_leaf()
-                && around(elements, index) == node
-                && kind_at(elements, index) == kind
+            element.is_leaf() && around(elements, index) == node && kind_at(elements, index) == kind
         }
         None => false,
     }

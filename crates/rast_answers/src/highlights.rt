@@ -5,11 +5,11 @@ ghost use Rattle.rast_answers.specs.Extents.{extent_at};
 ghost use Rattle.rast_answers.specs.Highlights.{highlight_at, highlights_with, subject_at, subject_of_option};
 ghost use Rattle.rast_answers.specs.Rows.{indices_to};
 
+use crate::about::{Reach, is_about, reach_past};
 use crate::brackets::{Pair, pair_at};
 use crate::extent::{Extent, extent_at};
-use crate::jumps::{label_in, target_at};
+use crate::jumps::{is_body, label_in, target_at};
 use crate::lists::push_option;
-use crate::about::{Reach, is_about, reach_past};
 use flat_tree::Element;
 use rast_document::Document;
 use std::alloc::{AllocError, Global};
@@ -84,6 +84,7 @@ fn highlights_of_node(
 ) -> Result<Vec<Extent>, AllocError>
     ensures { IfOk result (λ list. list.items ≡ filter_map (highlight_at (string_bytes document.now.text) elements.now (Subject.Node node)) (indices_to (length elements.now))) }
 {
+    let body = is_body(elements, node);
     let label = label_in(elements, node);
     let mut list = Vec::new(alloc);
     let mut reach = Reach {
@@ -92,7 +93,7 @@ fn highlights_of_node(
         labels: 0,
     };
     'leaves: for index in 0..elements.len() {
-        let is_one = is_about(document, elements, node, index, reach);
+        let is_one = is_about(document, elements, node, body, label, index, reach);
         push_option(&mut list, extent_if(elements, is_one, index))?;
         reach = reach_past(document, elements, node, label, index, reach);
     }

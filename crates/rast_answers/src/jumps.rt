@@ -1,6 +1,6 @@
 //! Jumps, and the loops, blocks, functions and closures that they are about.
 ghost use Rattle.std.specs.Prelude.{◌≡◌, ◌<◌, ◌^◌, IfSome, if◌then◌else◌, string_bytes};
-ghost use Rattle.rast_answers.specs.Jumps.{accepts, aim_at, aim_in, aim_of_break, aim_of_continue, aim_of_label, child_of_kind, has_child, has_effect, has_label, innermost, is_body, is_body_kind, is_labelled, is_loop, label_in, stops, target, target_at, text_at};
+ghost use Rattle.rast_answers.specs.Jumps.{accepts, aim_at, aim_in, aim_of_break, aim_of_continue, aim_of_label, child_of_kind, has_child, has_effect, has_label, innermost, is_body, is_body_kind, is_labelled, is_loop, is_text, label_in, stops, target, target_at, text_at};
 
 use crate::extent::extent_at;
 use crate::kinds::{after_at, around, kind_at};
@@ -32,7 +32,7 @@ pub(crate) fn is_loop(kind: SyntaxKind) -> bool
 }
 
 /// Whether nodes of this kind may have labels.
-fn is_labelled(kind: SyntaxKind) -> bool
+pub(crate) fn is_labelled(kind: SyntaxKind) -> bool
     ensures { result ≡ is_labelled kind }
 {
     is_loop(kind) || kind == SyntaxKind::BLOCK_EXPR
@@ -113,6 +113,21 @@ pub(crate) fn label_in(elements: &[Element], node: usize) -> Option<usize>
     Some(label + 2)
 }
 
+/// Whether a label has the text of the leaf with this index, if it is one.
+pub(crate) fn is_text(
+    document: &Document,
+    elements: &[Element],
+    own: Option<usize>,
+    label: usize,
+) -> bool
+    ensures { result ≡ is_text (string_bytes document.now.text) elements.now (text_at (string_bytes document.now.text) elements.now label) own }
+{
+    match own {
+        Some(own) => text_at(document, elements, own) == text_at(document, elements, label),
+        None => false,
+    }
+}
+
 /// Whether a node is a loop or a block whose label has the text of the leaf with this index.
 pub(crate) fn has_label(
     document: &Document,
@@ -125,10 +140,7 @@ pub(crate) fn has_label(
     if !is_labelled(kind_at(elements, node)) {
         return false;
     }
-    match label_in(elements, node) {
-        Some(own) => text_at(document, elements, own) == text_at(document, elements, label),
-        None => false,
-    }
+    is_text(document, elements, label_in(elements, node), label)
 }
 
 /// Whether the search for an aim ends at a node.

@@ -19,7 +19,6 @@ mod kinds;
 pub mod laws;
 mod lines;
 mod lists;
-
 mod places;
 mod rows;
 mod selection;
