@@ -1,10 +1,16 @@
+pub mod AimLaws
 pub mod BorderLaws
 pub mod Climbs
 pub mod DeltaLaws
+pub mod HighlightOrders
+pub mod LastLaws
 pub mod LeafRows
 pub mod NestLaws
+pub mod PairLaws
 pub mod Passes
 pub mod Picked
 pub mod PieceLaws
+pub mod ReachLaws
 pub mod RowLaws
+pub mod TogetherLaws
 pub mod TokenOrders

@@ -1,6 +1,6 @@
 -- Symbols, folds and selections of the tree of a text.
-use Rattle.std.proofs.Common.{◌≡◌, ◌⊎◌, ℕ, zero, suc, ◌+◌, ◌<◌, ◌≤◌, ◌≢◌, Bool, true, false, List, [], ◌∷◌, Option, Some, None, refl, ap, sym, subst, ◌∙◌, length, get_or, arith, inl, inr}
-use Rattle.std.specs.Prelude.{if◌then◌else◌, map, nat_eq}
+use Rattle.std.proofs.Common.{◌≡◌, ℕ, zero, suc, ◌+◌, ◌<◌, ◌≤◌, ◌≢◌, Bool, true, false, List, [], ◌∷◌, Some, refl, ap, sym, subst, ◌∙◌, length, get_or, arith, inl, inr}
+use Rattle.std.specs.Prelude.{if◌then◌else◌, map}
 use Rattle.std.specs.List.{All, AllPairs, dedup_from, slice_get}
 use Rattle.std.proofs.lemmas.List.Elements.{All-cons}
 use Rattle.std.proofs.lemmas.List.Kept.{AllPairs-cons}
@@ -13,7 +13,6 @@ use Rattle.rap_ranged.specs.Ranged.{Ranged}
 use Rattle.rap_ranged.specs.RangedForest.{RangedNode}
 use Rattle.flat_tree.specs.FlatTree.{elements_of_tree}
 use Rattle.flat_tree.specs.Order.{after_of, climbing, parent_of}
-use Rattle.flat_tree.specs.TextTree.{IsFlatText}
 use Rattle.flat_tree.specs.declared.element.Element.{Element}
 use Rattle.flat_tree.proofs.Kin.{found, from_child, parent_is, some_or_none}
 use Rattle.flat_tree.proofs.Links.{links_rise}
@@ -25,8 +24,7 @@ use Rattle.rast_answers.specs.declared.folds.Fold.{Fold}
 use Rattle.rast_answers.specs.declared.symbols.Symbol.{Symbol}
 use Rattle.rast_answers.specs.Extents.{extent_at, extent_of, is_same_extent}
 use Rattle.rast_answers.specs.Folds.{fold_at}
-use Rattle.rast_answers.specs.Kinds.{after_at}
-use Rattle.rast_answers.specs.Nesting.{ElementsAreOnBorders, FoldsAreInOrder, IsIn, IsInside, IsPast, NestOrFollow, SelectionsGoOutwards, SymbolsNest, TokensAreInOrder}
+use Rattle.rast_answers.specs.Nesting.{ElementsAreOnBorders, FoldsAreInOrder, IsIn, NestOrFollow, SelectionsGoOutwards, SymbolsNest, TokensAreInOrder}
 use Rattle.rast_answers.specs.Symbols.{symbol_at}
 use Rattle.rast_answers.proofs.BorderLaws.{is_declared, is_folded_from, kept_all}
 use Rattle.rast_answers.proofs.Climbs.{climbs, no_more_climbing}
@@ -199,7 +197,7 @@ row_after_leaf i p (node_element n) e is h =
 leaf_after : (root : RangedNode) (es : List Element) (i : ℕ) (e : Element) → es ≡ elements_of_tree root → slice_get es i ≡ Some e → e.leaf ≡ true → e.after ≡ i + 1
 leaf_after root es i e is at leaf = let f = found root es i e is at in row_after_leaf i f.stands.up f.value e f.is leaf
 
-leaves_apart : (f : StrForest) (root : RangedNode) (es : List Element) (i j : ℕ) (d e : Element) → Ranged f root → es ≡ elements_of_tree root → i < j
+pub leaves_apart : (f : StrForest) (root : RangedNode) (es : List Element) (i j : ℕ) (d e : Element) → Ranged f root → es ≡ elements_of_tree root → i < j
     → slice_get es i ≡ Some d → slice_get es j ≡ Some e → d.leaf ≡ true → d.end ≤ e.start
 leaves_apart f root es i j d e ranged is low hd he leaf = elim (nest f root es i j d e ranged is low hd he) [
   | inl apart ↦ apart.places

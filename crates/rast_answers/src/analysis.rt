@@ -10,6 +10,7 @@ ghost use Rattle.flat_tree.specs.FlatTree.{elements_of_tree};
 ghost use Rattle.rast_answers.specs.Deltas.{AreInOrder, decoded, deltas_from};
 ghost use Rattle.rast_answers.specs.Diagnostics.{said, shown};
 ghost use Rattle.rast_answers.specs.Folds.{folds_of};
+ghost use Rattle.rast_answers.specs.Highlights.{AreHighlights};
 ghost use Rattle.rast_answers.specs.Selections.{IsSelection};
 ghost use Rattle.rast_answers.specs.Symbols.{symbols_of};
 ghost use Rattle.rast_answers.specs.Tokens.{tokens_of};
@@ -18,6 +19,7 @@ use crate::deltas::{Delta, deltas};
 use crate::diagnostic::{Diagnostic, diagnostics};
 use crate::extent::Extent;
 use crate::folds::{Fold, folds};
+use crate::highlights::highlights;
 use crate::selection::outwards;
 use crate::symbols::{Symbol, symbols};
 use crate::tokens::tokens;
@@ -93,6 +95,19 @@ impl<'d> Analysis<'d> {
         let before = self.tree.leaf_at(offset.saturating_sub(1));
         let index = leaf.unwrap_or(before.unwrap_or(0));
         outwards(alloc, self.tree.elements(), index as usize)
+    }
+
+    /// What belongs together with the leaf at an offset, in the order of the text: a bracket with its partner; the keyword
+    /// and the label of a loop or block with the jumps about it; the `fn` of a function or the bars of a closure with the
+    /// `return`s from it. If nothing belongs to that leaf, it is the one that ends at the offset; an empty list means that
+    /// nothing belongs to either. The error means out of memory.
+    pub fn highlights(&self, alloc: Global, offset: usize) -> Result<Vec<Extent>, AllocError>
+        ensures { (f : StrForest) (root : RangedNode) → Ranged f root → self.now.tree.elements.items ≡ elements_of_tree root
+            → IfOk result (λ list. AreHighlights (string_bytes self.now.document.now.text) root self.now.tree.elements.items offset list.items) }
+    {
+        let leaf = self.tree.leaf_at(offset);
+        let before = self.tree.leaf_at(offset.saturating_sub(1));
+        highlights(alloc, self.document, self.tree.elements(), leaf, before)
     }
 
     /// The tokens of the text as numbers, each relative to the one before. The error means out of memory.

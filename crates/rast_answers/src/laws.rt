@@ -1,5 +1,6 @@
 //! Laws of the answers. Each is a function that does nothing, whose contract is the law.
 ghost use Rattle.rast_answers.specs.Borders.{FoldsAreOnBorders, SelectionsAreOnBorders, SymbolsAreOnBorders};
+ghost use Rattle.rast_answers.specs.Together.{HighlightsAreInOrder, HighlightsAreLeaves, HighlightsAreOnBorders, HighlightsAreShared, HighlightsHoldTheirLeaf, PartnersArePartners, TargetsAreNearest};
 ghost use Rattle.rast_answers.specs.Nesting.{ElementsAreOnBorders, FoldsAreInOrder, SelectionsGoOutwards, SymbolsNest, TokensAreInOrder};
 
 /// The ranges of all elements of a text's tree are on character boundaries of the text.
@@ -40,4 +41,40 @@ pub fn selections_go_outwards()
 /// The tokens of a text are in order, so that what a client decodes of their numbers is these tokens.
 pub fn tokens_are_in_order()
     ensures { TokensAreInOrder }
+{}
+
+/// Each highlight is the range of a leaf.
+pub fn highlights_are_leaves()
+    ensures { HighlightsAreLeaves }
+{}
+
+/// The highlights of a text are in its order, and none is over another.
+pub fn highlights_are_in_order()
+    ensures { HighlightsAreInOrder }
+{}
+
+/// A leaf has no highlights, or its own range is one of them.
+pub fn highlights_hold_their_leaf()
+    ensures { HighlightsHoldTheirLeaf }
+{}
+
+/// Each of the leaves that are highlighted for a leaf has the same highlights.
+pub fn highlights_are_shared()
+    ensures { HighlightsAreShared }
+{}
+
+/// The partner of a bracket's partner is the bracket.
+pub fn partners_are_partners()
+    ensures { PartnersArePartners }
+{}
+
+/// The loop, block, function or closure that a leaf is about is around it, and no other one is in between at which the
+/// search for the leaf's aim ends.
+pub fn targets_are_nearest()
+    ensures { TargetsAreNearest }
+{}
+
+/// If the ranges of all elements are on character boundaries of a text, so are those of all highlights.
+pub fn highlights_are_on_borders()
+    ensures { HighlightsAreOnBorders }
 {}

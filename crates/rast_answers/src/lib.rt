@@ -1,16 +1,20 @@
-//! What an editor is answered about a document: diagnostics, symbols, folds, selections, tokens.
+//! What an editor is answered about a document: diagnostics, symbols, folds, selections, highlights, tokens.
 //!
 //! [`Analysis::of_document`] parses a document; each of its other methods makes one answer, in byte offsets of the text
 //! on character boundaries. Only the tokens are in positions of the document, since their numbers are.
 #![tactic(auto)]
 
+mod about;
 mod analysis;
+mod brackets;
 mod comments;
 mod deltas;
 mod diagnostic;
 mod extent;
 mod folds;
+mod highlights;
 mod imports;
+mod jumps;
 mod kinds;
 pub mod laws;
 mod lines;
