@@ -1,19 +1,19 @@
 -- What a rule does with so many rules inside one another, it does where there may be more.
-use Rattle.std.proofs.Common.{ℕ, suc, Bool, ◌≤◌, Option}
+use Rattle.std.proofs.Common.{ℕ, suc, ◌≤◌, Option, Some, None}
 use Rattle.rap_events.specs.State.{State}
 use Rattle.rap_events.specs.declared.parser.CompletedMarker.{CompletedMarker}
-use Rattle.rap_grammar_scripts.proofs.Ends.{answers_more}
+use Rattle.rap_grammar_scripts.proofs.Ends.{answers_more, gives, obeys}
 use Rattle.rap_grammar_scripts.proofs.Exec.{runs, does_follow}
-use Rattle.rap_grammar_scripts.specs.Exec.{Ends, Answers, Does}
-use Rattle.rap_grammar_scripts.specs.Items.{item_or_macro}
+use Rattle.rap_grammar_scripts.specs.Exec.{Ends, Answers, Does, Obeys}
 use Rattle.rap_grammar_scripts.specs.Knot.{script_of}
 use Rattle.rap_grammar_scripts.specs.declared.rule.Rule.{Rule}
 use Rattle.rap_grammar_scripts.specs.declared.rule.Rule.TheVariants as knot
-use Rattle.rap_grammar_scripts.specs.Script.{Script, Outcome, Spot, Runs}
-use Rattle.rap_grammar_scripts.specs.Statements.{stmt}
-use Rattle.rap_grammar_scripts.specs.declared.arguments.Semicolon.{Semicolon}
+use Rattle.rap_grammar_scripts.specs.Script.{Script, Outcome, something, Spot, spot, Runs}
+use Rattle.rap_grammar_scripts.specs.ThroughKnot.{expr, unrestricted}
+use Rattle.rap_grammar_scripts.specs.Words.{of_expr, of_option, recur, done}
 use Rattle.rap_grammar.specs.Part.{Goes}
 use Rattle.rap_grammar_scripts.specs.declared.arguments.BlockLike.{BlockLike}
+use Rattle.rap_grammar_scripts.specs.declared.arguments.BlockLike.TheVariants as like
 use Rattle.rap_grammar_frame.specs.Rules.{Post}
 
 pub more : (n m : ℕ) → n ≤ m → (c : Rule) (s t : State) (e : Option (CompletedMarker × BlockLike)) → Post n c s t e →
@@ -24,16 +24,19 @@ more n m l c s t e h = (h.0, answers_more l h.1)
 pub ends_run : {n : ℕ} {s : Script Rule} {p q : Spot} {v : Outcome} → Ends n s p q v → Runs script_of s p q v
 ends_run {n = n} {s = s} {p = p} {q = q} {v = v} d = runs n s p q v d.run
 
-pub stmt_runs : {n : ℕ} {semi : Semicolon} {p q : Spot} {v : Outcome} → Answers (suc n) (knot.Stmt semi) p q v →
-    Runs script_of (stmt semi) p q v
-unfolding script_of
-stmt_runs {n = n} {semi = semi} {p = p} {q = q} {v = v} d = runs n (stmt semi) p q v d.run
+pub expr_runs : {n : ℕ} {p q : Spot} (e : Option (CompletedMarker × BlockLike)) →
+    Answers n (knot.ExprBp unrestricted 1) p q (of_expr e) → Runs script_of expr p q (of_option e)
+unfolding expr
+expr_runs None h = ends_run (obeys h gives)
+expr_runs (Some (m, like.Block)) h = ends_run (obeys h gives)
+expr_runs (Some (m, like.NotBlock)) h = ends_run (obeys h gives)
 
-pub item_runs : {n : ℕ} {stop extern : Bool} {p q : Spot} {v : Outcome} →
-    Answers (suc n) (knot.ItemOrMacro stop extern) p q v → Runs script_of (item_or_macro stop extern) p q v
-unfolding script_of
-item_runs {n = n} {stop = stop} {extern = extern} {p = p} {q = q} {v = v} d =
-    runs n (item_or_macro stop extern) p q v d.run
+pub own_goes : {n : ℕ} {c : Rule} {v : Outcome} {old new : State} → Obeys (suc n) c v old new → Goes (script_of c) old new
+own_goes {n = n} {c = c} {v = v} {old = old} {new = new} d =
+    record { outcome = v; follows = record { run = runs n (script_of c) (spot old) (spot new) v d.run } }
+
+pub part_goes : {n : ℕ} {c : Rule} {v : Outcome} {old new : State} → Obeys n c v old new → Goes (recur c done) old new
+part_goes d = record { outcome = something; follows = record { run = ends_run (obeys d gives) } }
 
 pub goes : {n : ℕ} {s : Script Rule} {v : Outcome} {old new : State} → Does n s v old new → Goes s old new
 goes {v = v} d = record { outcome = v; follows = does_follow d }

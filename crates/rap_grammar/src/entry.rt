@@ -4,23 +4,28 @@ ghost use Rattle.rap_events.specs.Cover.{covers};
 ghost use Rattle.rap_events.specs.Fit.{AllFitIn, is_plain};
 ghost use Rattle.rap_events.specs.Forest.{Forest, node, none, flat, message_count, one_tree, used};
 ghost use Rattle.rap_events.specs.Machine.{floor, push};
-ghost use Rattle.rap_events.specs.State.{state};
-ghost use Rattle.rap_base.specs.TokenKind.{ERROR};
-ghost use Rattle.rap_grammar_scripts.specs.ThroughKnot as through_knot_script;
+ghost use Rattle.rap_events.specs.State.{state, next};
+ghost use Rattle.rap_base.specs.TokenKind.{EOF, ERROR};
+ghost use Rattle.rap_events.specs.Composite.{is_at};
 ghost use Rattle.rap_grammar_frame.specs.Grew.{Grew};
+ghost use Rattle.rap_grammar_frame.specs.Rules.{Pre, Parses};
 ghost use Rattle.rap_grammar_scripts.specs.Entry as script;
 ghost use Rattle.rap_grammar_scripts.specs.Modules as modules_script;
 ghost use Rattle.rap_grammar_scripts.specs.Exec.{Does};
+ghost use Rattle.rap_grammar_scripts.specs.Knot.{script_of};
 ghost use Rattle.rap_grammar_scripts.specs.Script.{something};
+ghost use Rattle.rap_grammar_scripts.specs.Words.{done, recur};
+ghost use Rattle.rap_grammar.specs.Part.{Goes};
 ghost use Rattle.rap_grammar.specs.Top.{top_tree, with_leaves};
 
-use crate::knot::{all_rules, run};
+use crate::knot::{AllRules, run};
 use rap_base::T;
 use rap_base::no_memory::NoMemory;
 use rap_base::syntax_kind::SyntaxKind;
 use rap_events::output::{Output, Step, wrap_in_node};
 use rap_events::parser::{Marker, Parser};
 use rap_grammar_attributes::attributes::inner_attrs;
+use rap_grammar_frame::knot::{Answer, Grammar};
 use rap_grammar_scripts::arguments::Semicolon;
 use rap_grammar_scripts::rule::Rule;
 use std::alloc::Global;
@@ -69,70 +74,87 @@ pub fn is_one_tree(output: &Output) -> bool
     nodes == 1
 }
 
-/// Reads the contents of an attribute's brackets.
-fn meta_item(p: &mut Parser<'_>) -> Result<(), NoMemory>
-    ensures grew { OnOk result (Grew (state p.old) (state p.new) 16) }
-    ensures script { OnOk result (Does (suc (state p.old).left) through_knot_script.meta something (state p.old) (state p.new)) }
+/// Runs a rule that is an entry of its own.
+fn run_alone(p: &mut Parser<'_>, rule: Rule) -> Result<Answer, NoMemory>
+    requires { Pre rule (state p.old) }
+    ensures parses { IfOk result (Parses rule (state p.old) (state p.new)) }
+    ensures own { OnOk result (Goes (script_of rule) (state p.old) (state p.new)) }
+    ensures part { OnOk result (Goes (recur rule done) (state p.old) (state p.new)) }
 {
-    run(p, Rule::Meta)?;
-    Ok(())
+    let answer = run(p, rule)?;
+    Ok(answer)
+}
+
+/// Whether no token is left.
+fn is_at_end(p: &Parser<'_>) -> bool
+    ensures here { result ≡ is_at EOF (state p.now).rest }
+    ensures some { result ≡ false → next (state p.now) ≢ EOF }
+    ensures rest { result ≡ true → (state p.now).rest ≡ [] }
+    ensures left { result ≡ true → (state p.now).left ≡ 0 }
+{
+    p.current() == SyntaxKind::EOF
 }
 
 /// Reads the statements that a macro expands to, to the end of the input.
-fn macro_stmts(p: &mut Parser<'_>) -> Result<(), NoMemory>
+#[tactic(auto, using(rap_grammar_frame::proofs::Loops::turns), unfolding(rap_grammar_scripts::specs::Entry::macro_stmts))]
+fn macro_stmts(p: &mut Parser<'_>, g: &AllRules) -> Result<(), NoMemory>
+    requires { (state p.old).left ≤ g.now.left }
     ensures grew { OnOk result (Grew (state p.old) (state p.new) 0) }
     ensures rest { OnOk result ((state p.new).rest ≡ []) }
-    ensures script { OnOk result
-        (Does (suc (state p.old).left) script.macro_stmts something (state p.old) (state p.new)) }
+    ensures script { OnOk result (Does (suc g.now.left) script.macro_stmts something (state p.old) (state p.new)) }
 {
-    'statements: while p.current() != SyntaxKind::EOF {
+    'statements: while !is_at_end(p) {
         let semicolon = Semicolon::Optional;
-        run(p, Rule::Stmt { semicolon })?;
+        g.run(p, Rule::Stmt { semicolon })?;
     }
     Ok(())
 }
 
 /// Reads items, to the end of the input.
-fn items(p: &mut Parser<'_>) -> Result<(), NoMemory>
+#[tactic(auto, using(rap_grammar_frame::proofs::Loops::turns), unfolding(rap_grammar_scripts::specs::Modules::items))]
+fn items(p: &mut Parser<'_>, g: &AllRules) -> Result<(), NoMemory>
+    requires { (state p.old).left ≤ g.now.left }
     ensures grew { OnOk result (Grew (state p.old) (state p.new) 0) }
     ensures rest { OnOk result ((state p.new).rest ≡ []) }
     ensures script { OnOk result
-        (Does (suc (state p.old).left) (modules_script.items false) something (state p.old) (state p.new)) }
+        (Does (suc g.now.left) (modules_script.items false) something (state p.old) (state p.new)) }
 {
-    'items: while p.current() != SyntaxKind::EOF {
+    'items: while !is_at_end(p) {
         // Only `safe fn` is more than elsewhere in a foreign block, and there is no other reading of it.
         let item = Rule::ItemOrMacro {
             stop_on_r_curly: false,
             is_in_extern: true,
         };
-        run(p, item)?;
+        g.run(p, item)?;
     }
     Ok(())
 }
 
 /// Reads the items that a macro expands to, to the end of the input.
-fn macro_items(p: &mut Parser<'_>) -> Result<(), NoMemory>
+#[tactic(auto, unfolding(rap_grammar_scripts::specs::Modules::mod_contents))]
+fn macro_items(p: &mut Parser<'_>, g: &AllRules) -> Result<(), NoMemory>
+    requires { (state p.old).left ≤ g.now.left }
     ensures grew { OnOk result (Grew (state p.old) (state p.new) 0) }
     ensures rest { OnOk result ((state p.new).rest ≡ []) }
     ensures script { OnOk result
-        (Does (suc (state p.old).left) (modules_script.mod_contents false) something (state p.old) (state p.new)) }
+        (Does (suc g.now.left) (modules_script.mod_contents false) something (state p.old) (state p.new)) }
 {
-    let g = all_rules(p);
-    inner_attrs(p, &g)?;
-    items(p)?;
+    inner_attrs(p, g)?;
+    items(p, g)?;
     Ok(())
 }
 
 /// Reads a file, to the end of the input.
-fn source_file(p: &mut Parser<'_>) -> Result<(), NoMemory>
+#[tactic(auto, unfolding(rap_grammar_scripts::specs::Entry::source_file))]
+fn source_file(p: &mut Parser<'_>, g: &AllRules) -> Result<(), NoMemory>
+    requires { (state p.old).left ≤ g.now.left }
     ensures grew { OnOk result (Grew (state p.old) (state p.new) 0) }
     ensures rest { OnOk result ((state p.new).rest ≡ []) }
-    ensures script { OnOk result
-        (Does (suc (state p.old).left) script.source_file something (state p.old) (state p.new)) }
+    ensures script { OnOk result (Does (suc g.now.left) script.source_file something (state p.old) (state p.new)) }
 {
     p.eat(T![shebang])?;
     p.eat(T![frontmatter])?;
-    macro_items(p)?;
+    macro_items(p, g)?;
     Ok(())
 }
 
@@ -147,7 +169,7 @@ fn take_rest(p: &mut Parser<'_>) -> Result<(), NoMemory>
     ensures marker { OnOk result ((state p.new).marker ≡ (state p.old).marker) }
     ensures below { OnOk result ((state p.new).below ≡ (state p.old).below) }
 {
-    'tokens: while p.current() != SyntaxKind::EOF {
+    'tokens: while !is_at_end(p) {
         p.bump_any()?;
     }
     Ok(())
@@ -167,7 +189,7 @@ pub fn close_top(alloc: Global, mut p: Parser<'_>, m: Marker) -> Result<Output, 
     ensures few { IfOk result (λ output. length (flat output) ≤ (state p.entry).count + (state p.entry).left + 3) }
     ensures fit { IfOk result (λ output. message_count output ≡ 0 → ∥ AllFitIn output ∥₁) }
 {
-    if p.current() != SyntaxKind::EOF {
+    if !is_at_end(&p) {
         take_rest(&mut p)?;
         m.complete(&mut p, SyntaxKind::ERROR)?;
         let output = p.process(alloc)?;

@@ -46,7 +46,7 @@ pub(crate) struct AllRules {
 }
 
 impl Grammar for AllRules {
-    ghost left = { λ rules. rules.left + 1 };
+    ghost left = { λ rules. suc rules.left };
 
     ghost valid = { λ _. Unit {0} };
 

@@ -13,6 +13,7 @@ ghost use Rattle.rap_grammar_scripts.specs.Statements as statements_script;
 ghost use Rattle.rap_grammar_scripts.specs.Items as items_script;
 ghost use Rattle.rap_base.specs.Limits.{max_tokens};
 
+use super::run_alone;
 use crate::knot::{Rules, all_rules, run};
 use rap_base::no_memory::NoMemory;
 use rap_events::input::Input;
@@ -142,6 +143,7 @@ pub fn parse_part(alloc: Global, input: &Input, part: Part) -> Result<Output, No
 }
 
 /// A statement without the semicolon that may stand after it.
+#[tactic(auto, unfolding(rap_grammar_scripts::specs::Knot::script_of))]
 pub fn stmt(alloc: Global, input: &Input) -> Result<Output, NoMemory>
     requires { length input.now ≤ max_tokens }
     ensures prefix { IfOk result (IsPrefixOver input.now) }
@@ -149,46 +151,46 @@ pub fn stmt(alloc: Global, input: &Input) -> Result<Output, NoMemory>
 {
     let mut p = Parser::new(alloc, input);
     let semicolon = Semicolon::Forbidden;
-    run(&mut p, Rule::Stmt { semicolon })?;
+    run_alone(&mut p, Rule::Stmt { semicolon })?;
     let output = p.process(alloc)?;
     Ok(output)
 }
 
 /// A pattern without alternatives.
+#[tactic(auto, unfolding(rap_grammar_scripts::specs::ThroughKnot::pattern_single))]
 pub fn pattern_single(alloc: Global, input: &Input) -> Result<Output, NoMemory>
     requires { length input.now ≤ max_tokens }
     ensures prefix { IfOk result (IsPrefixOver input.now) }
     ensures script { IfOk result (IsPrefixOf through_knot_script.pattern_single input.now) }
 {
     let mut p = Parser::new(alloc, input);
-    let g = all_rules(&p);
-    through_knot::pattern_single(&mut p, &g)?;
+    run_alone(&mut p, Rule::PatternSingle)?;
     let output = p.process(alloc)?;
     Ok(output)
 }
 
 /// A pattern with its alternatives.
+#[tactic(auto, unfolding(rap_grammar_scripts::specs::ThroughKnot::pattern))]
 pub fn pattern(alloc: Global, input: &Input) -> Result<Output, NoMemory>
     requires { length input.now ≤ max_tokens }
     ensures prefix { IfOk result (IsPrefixOver input.now) }
     ensures script { IfOk result (IsPrefixOf through_knot_script.pattern input.now) }
 {
     let mut p = Parser::new(alloc, input);
-    let g = all_rules(&p);
-    through_knot::pattern(&mut p, &g)?;
+    run_alone(&mut p, Rule::Pattern)?;
     let output = p.process(alloc)?;
     Ok(output)
 }
 
 /// A type.
+#[tactic(auto, unfolding(rap_grammar_scripts::specs::ThroughKnot::type_))]
 pub fn type_(alloc: Global, input: &Input) -> Result<Output, NoMemory>
     requires { length input.now ≤ max_tokens }
     ensures prefix { IfOk result (IsPrefixOver input.now) }
     ensures script { IfOk result (IsPrefixOf through_knot_script.type_ input.now) }
 {
     let mut p = Parser::new(alloc, input);
-    let g = all_rules(&p);
-    through_knot::type_(&mut p, &g)?;
+    run_alone(&mut p, Rule::TypeWithBoundsCond { allow_bounds: true })?;
     let output = p.process(alloc)?;
     Ok(output)
 }
@@ -207,6 +209,7 @@ pub fn expr(alloc: Global, input: &Input) -> Result<Output, NoMemory>
 }
 
 /// An item, or a macro call in its place.
+#[tactic(auto, unfolding(rap_grammar_scripts::specs::Knot::script_of))]
 pub fn item(alloc: Global, input: &Input) -> Result<Output, NoMemory>
     requires { length input.now ≤ max_tokens }
     ensures prefix { IfOk result (IsPrefixOver input.now) }
@@ -218,19 +221,20 @@ pub fn item(alloc: Global, input: &Input) -> Result<Output, NoMemory>
         stop_on_r_curly: true,
         is_in_extern: true,
     };
-    run(&mut p, item)?;
+    run_alone(&mut p, item)?;
     let output = p.process(alloc)?;
     Ok(output)
 }
 
 /// The contents of an attribute's brackets.
+#[tactic(auto, unfolding(rap_grammar_scripts::specs::ThroughKnot::meta))]
 pub fn meta_item(alloc: Global, input: &Input) -> Result<Output, NoMemory>
     requires { length input.now ≤ max_tokens }
     ensures prefix { IfOk result (IsPrefixOver input.now) }
     ensures script { IfOk result (IsPrefixOf through_knot_script.meta input.now) }
 {
     let mut p = Parser::new(alloc, input);
-    super::meta_item(&mut p)?;
+    run_alone(&mut p, Rule::Meta)?;
     let output = p.process(alloc)?;
     Ok(output)
 }

@@ -8,14 +8,15 @@ ghost use Rattle.rap_grammar_scripts.specs.Modules as modules_script;
 ghost use Rattle.rap_grammar.specs.Top.{IsTreeOver, IsTopOf, IsRootOf};
 ghost use Rattle.rap_base.specs.Limits.{max_tokens};
 
-use super::{close_root, close_top};
-use crate::knot::all_rules;
+use super::{close_root, close_top, run_alone};
+use crate::knot::{all_rules, run};
 use rap_base::no_memory::NoMemory;
 use rap_base::syntax_kind::SyntaxKind;
 use rap_events::input::Input;
 use rap_events::output::Output;
 use rap_events::parser::Parser;
-use rap_grammar_frame::through_knot;
+use rap_grammar_scripts::arguments::Restrictions;
+use rap_grammar_scripts::rule::Rule;
 use std::alloc::Global;
 
 /// A file: `SOURCE_FILE` over the whole input.
@@ -26,12 +27,14 @@ pub fn source_file(alloc: Global, input: &Input) -> Result<Output, NoMemory>
 {
     let mut p = Parser::new(alloc, input);
     let m = p.start()?;
-    super::source_file(&mut p)?;
+    let g = all_rules(&p);
+    super::source_file(&mut p, &g)?;
     let output = close_root(alloc, p, m, SyntaxKind::SOURCE_FILE)?;
     Ok(output)
 }
 
 /// A pattern with its alternatives. If the input is not exactly one pattern, the tree is an `ERROR`.
+#[tactic(auto, unfolding(rap_grammar_scripts::specs::ThroughKnot::pattern))]
 pub fn pattern(alloc: Global, input: &Input) -> Result<Output, NoMemory>
     requires { length input.now ≤ max_tokens }
     ensures tree { IfOk result (IsTreeOver input.now) }
@@ -39,13 +42,13 @@ pub fn pattern(alloc: Global, input: &Input) -> Result<Output, NoMemory>
 {
     let mut p = Parser::new(alloc, input);
     let m = p.start()?;
-    let g = all_rules(&p);
-    through_knot::pattern(&mut p, &g)?;
+    run_alone(&mut p, Rule::Pattern)?;
     let output = close_top(alloc, p, m)?;
     Ok(output)
 }
 
 /// A type. If the input is not exactly one type, the tree is an `ERROR`.
+#[tactic(auto, unfolding(rap_grammar_scripts::specs::ThroughKnot::type_))]
 pub fn type_(alloc: Global, input: &Input) -> Result<Output, NoMemory>
     requires { length input.now ≤ max_tokens }
     ensures tree { IfOk result (IsTreeOver input.now) }
@@ -53,8 +56,7 @@ pub fn type_(alloc: Global, input: &Input) -> Result<Output, NoMemory>
 {
     let mut p = Parser::new(alloc, input);
     let m = p.start()?;
-    let g = all_rules(&p);
-    through_knot::type_(&mut p, &g)?;
+    run_alone(&mut p, Rule::TypeWithBoundsCond { allow_bounds: true })?;
     let output = close_top(alloc, p, m)?;
     Ok(output)
 }
@@ -67,13 +69,17 @@ pub fn expr(alloc: Global, input: &Input) -> Result<Output, NoMemory>
 {
     let mut p = Parser::new(alloc, input);
     let m = p.start()?;
-    let g = all_rules(&p);
-    through_knot::expr(&mut p, &g)?;
+    let r = Restrictions {
+        forbid_structs: false,
+        prefer_stmt: false,
+    };
+    run(&mut p, Rule::ExprBp { r, bp: 1 })?;
     let output = close_top(alloc, p, m)?;
     Ok(output)
 }
 
 /// The contents of an attribute's brackets, as `cfg(a)` in `#[cfg(a)]`. If other tokens follow, the tree is an `ERROR`.
+#[tactic(auto, unfolding(rap_grammar_scripts::specs::ThroughKnot::meta))]
 pub fn meta_item(alloc: Global, input: &Input) -> Result<Output, NoMemory>
     requires { length input.now ≤ max_tokens }
     ensures tree { IfOk result (IsTreeOver input.now) }
@@ -81,7 +87,7 @@ pub fn meta_item(alloc: Global, input: &Input) -> Result<Output, NoMemory>
 {
     let mut p = Parser::new(alloc, input);
     let m = p.start()?;
-    super::meta_item(&mut p)?;
+    run_alone(&mut p, Rule::Meta)?;
     let output = close_top(alloc, p, m)?;
     Ok(output)
 }
@@ -94,7 +100,8 @@ pub fn macro_stmts(alloc: Global, input: &Input) -> Result<Output, NoMemory>
 {
     let mut p = Parser::new(alloc, input);
     let m = p.start()?;
-    super::macro_stmts(&mut p)?;
+    let g = all_rules(&p);
+    super::macro_stmts(&mut p, &g)?;
     let output = close_root(alloc, p, m, SyntaxKind::MACRO_STMTS)?;
     Ok(output)
 }
@@ -107,7 +114,8 @@ pub fn macro_items(alloc: Global, input: &Input) -> Result<Output, NoMemory>
 {
     let mut p = Parser::new(alloc, input);
     let m = p.start()?;
-    super::macro_items(&mut p)?;
+    let g = all_rules(&p);
+    super::macro_items(&mut p, &g)?;
     let output = close_root(alloc, p, m, SyntaxKind::MACRO_ITEMS)?;
     Ok(output)
 }

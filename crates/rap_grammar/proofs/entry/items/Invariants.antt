@@ -8,7 +8,7 @@ use Rattle.rap_grammar.proofs.entry.items.Given as goal
 abbrev pub invariant-items : goal.invariant-items
 invariant-items l = record {
   grew : Grew (state l.initial.p) (state l.p) 0;
-  script : Turns (suc (state l.initial.p).left) (item_turn false) false false false false l.initial.p l.p;
+  script : Turns (suc l.g.left) (item_turn false) false false false false l.initial.p l.p;
 }
 
 abbrev pub decreases-items : goal.decreases-items

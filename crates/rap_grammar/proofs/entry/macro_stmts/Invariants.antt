@@ -8,7 +8,7 @@ use Rattle.rap_grammar.proofs.entry.macro_stmts.Given as goal
 abbrev pub invariant-statements : goal.invariant-statements
 invariant-statements l = record {
   grew : Grew (state l.initial.p) (state l.p) 0;
-  script : Turns (suc (state l.initial.p).left) macro_turn false false false false l.initial.p l.p;
+  script : Turns (suc l.g.left) macro_turn false false false false l.initial.p l.p;
 }
 
 abbrev pub decreases-statements : goal.decreases-statements
