@@ -1,20 +1,31 @@
 -- What a rule does with so many rules inside one another, it does where there may be more.
-use Rattle.std.proofs.Common.{ℕ, suc, Bool, ◌≤◌, Option}
+use Rattle.std.proofs.Common.{ℕ, suc, Bool, ◌<◌, ◌≤◌, Option, Result, Ok, Err}
+use Rattle.std.specs.Prelude.{IfOk}
 use Rattle.rap_events.specs.State.{State}
 use Rattle.rap_events.specs.declared.parser.CompletedMarker.{CompletedMarker}
-use Rattle.rap_grammar_scripts.proofs.Ends.{answers_more}
+use Rattle.rap_grammar_scripts.proofs.Ends.{answers, answers_more}
 use Rattle.rap_grammar_scripts.proofs.Exec.{runs, does_follow}
 use Rattle.rap_grammar_scripts.specs.Exec.{Ends, Answers, Does}
+use Rattle.rap_grammar_scripts.specs.Expressions.{expr_bp}
 use Rattle.rap_grammar_scripts.specs.Items.{item_or_macro}
 use Rattle.rap_grammar_scripts.specs.Knot.{script_of}
 use Rattle.rap_grammar_scripts.specs.declared.rule.Rule.{Rule}
 use Rattle.rap_grammar_scripts.specs.declared.rule.Rule.TheVariants as knot
 use Rattle.rap_grammar_scripts.specs.Script.{Script, Outcome, Spot, Runs}
 use Rattle.rap_grammar_scripts.specs.Statements.{stmt}
+use Rattle.rap_grammar_scripts.specs.Words.{of_expr}
+use Rattle.rap_grammar_scripts.specs.declared.arguments.Restrictions.{Restrictions}
 use Rattle.rap_grammar_scripts.specs.declared.arguments.Semicolon.{Semicolon}
 use Rattle.rap_grammar.specs.Part.{Goes}
 use Rattle.rap_grammar_scripts.specs.declared.arguments.BlockLike.{BlockLike}
-use Rattle.rap_grammar_frame.specs.Rules.{Post}
+use Rattle.rap_grammar_frame.specs.Rules.{Answered, Post}
+
+-- what the two clauses of an expression say of its rule, where its result is returned as it is
+pub expr_post : {E : Type 0} {n m : ℕ} → n < m → (r : Restrictions) (bp : ℕ) (old new : State) (res : Result (Option (CompletedMarker × BlockLike)) E) →
+    IfOk res (Answered old new r.prefer_stmt bp) → IfOk res (λ e. Does n (expr_bp r bp) (of_expr e) old new) → IfOk res (Post m (knot.ExprBp r bp) old new)
+unfolding script_of
+expr_post l r bp old new (Ok e) answered done = (answered, answers (knot.ExprBp r bp) l done)
+expr_post l r bp old new (Err x) answered done = done
 
 pub more : (n m : ℕ) → n ≤ m → (c : Rule) (s t : State) (e : Option (CompletedMarker × BlockLike)) → Post n c s t e →
     Post m c s t e
