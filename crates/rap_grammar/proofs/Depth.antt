@@ -1,11 +1,14 @@
 -- What a rule does with so many rules inside one another, it does where there may be more.
-use Rattle.std.proofs.Common.{ℕ, suc, ◌≤◌, Option, Some, None}
+use Rattle.std.proofs.Common.{ℕ, suc, ◌<◌, ◌≤◌, Option, Some, None, Result, Ok, Err}
+use Rattle.std.specs.Prelude.{IfOk}
 use Rattle.rap_events.specs.State.{State}
 use Rattle.rap_events.specs.declared.parser.CompletedMarker.{CompletedMarker}
-use Rattle.rap_grammar_scripts.proofs.Ends.{answers_more, gives, obeys}
+use Rattle.rap_grammar_scripts.proofs.Ends.{answers, answers_more, gives, obeys}
 use Rattle.rap_grammar_scripts.proofs.Exec.{runs, does_follow}
 use Rattle.rap_grammar_scripts.specs.Exec.{Ends, Answers, Does, Obeys}
+use Rattle.rap_grammar_scripts.specs.Expressions.{expr_bp}
 use Rattle.rap_grammar_scripts.specs.Knot.{script_of}
+use Rattle.rap_grammar_scripts.specs.declared.arguments.Restrictions.{Restrictions}
 use Rattle.rap_grammar_scripts.specs.declared.rule.Rule.{Rule}
 use Rattle.rap_grammar_scripts.specs.declared.rule.Rule.TheVariants as knot
 use Rattle.rap_grammar_scripts.specs.Script.{Script, Outcome, something, Spot, spot, Runs}
@@ -14,7 +17,14 @@ use Rattle.rap_grammar_scripts.specs.Words.{of_expr, of_option, recur, done}
 use Rattle.rap_grammar.specs.Part.{Goes}
 use Rattle.rap_grammar_scripts.specs.declared.arguments.BlockLike.{BlockLike}
 use Rattle.rap_grammar_scripts.specs.declared.arguments.BlockLike.TheVariants as like
-use Rattle.rap_grammar_frame.specs.Rules.{Post}
+use Rattle.rap_grammar_frame.specs.Rules.{Answered, Post}
+
+-- what the two clauses of an expression say of its rule, where its result is returned as it is
+pub expr_post : {E : Type 0} {n m : ℕ} → n < m → (r : Restrictions) (bp : ℕ) (old new : State) (res : Result (Option (CompletedMarker × BlockLike)) E) →
+    IfOk res (Answered old new r.prefer_stmt bp) → IfOk res (λ e. Does n (expr_bp r bp) (of_expr e) old new) → IfOk res (Post m (knot.ExprBp r bp) old new)
+unfolding script_of
+expr_post l r bp old new (Ok e) answered done = (answered, answers (knot.ExprBp r bp) l done)
+expr_post l r bp old new (Err x) answered done = done
 
 pub more : (n m : ℕ) → n ≤ m → (c : Rule) (s t : State) (e : Option (CompletedMarker × BlockLike)) → Post n c s t e →
     Post m c s t e

@@ -1,7 +1,13 @@
 //! The knot of the grammar: the function that runs any recursive rule.
-ghost use Rattle.std.specs.Prelude.{◌≡◌, ◌+◌, ◌<◌, ◌≤◌, IfOk, suc};
+ghost use Rattle.std.specs.Prelude.{◌≡◌, ◌+◌, ◌<◌, ◌≤◌, IfOk, OnOk, false, suc};
 ghost use Rattle.rap_events.specs.State.{state};
-ghost use Rattle.rap_grammar_frame.specs.Rules.{Pre, Post};
+ghost use Rattle.rap_grammar_frame.specs.Grew.{Within};
+ghost use Rattle.rap_grammar_frame.specs.Room.{pattern_room, recovery_events, single_pattern_room};
+ghost use Rattle.rap_grammar_frame.specs.Rules.{PatternUntil, Pre, Post};
+ghost use Rattle.rap_grammar_scripts.specs.Exec.{Does};
+ghost use Rattle.rap_grammar_scripts.specs.Patterns as script;
+ghost use Rattle.rap_grammar_scripts.specs.Recovery.{stops_of};
+ghost use Rattle.rap_grammar_scripts.specs.Script.{something};
 
 use crate::statements::stmt;
 use rap_base::no_memory::NoMemory;
@@ -84,10 +90,7 @@ pub fn run(p: &mut Parser<'_>, rule: Rule) -> Result<Answer, NoMemory>
     };
     let g = Rules { run: call, left };
     match rule {
-        Rule::ExprBp { r, bp } => {
-            let expr = expr_bp(p, &g, r, bp)?;
-            Ok(expr)
-        }
+        Rule::ExprBp { r, bp } => expr_bp(p, &g, r, bp),
         Rule::TypeWithBoundsCond { allow_bounds } => {
             type_with_bounds_cond(p, &g, allow_bounds)?;
             Ok(None)
@@ -105,11 +108,11 @@ pub fn run(p: &mut Parser<'_>, rule: Rule) -> Result<Answer, NoMemory>
             Ok(None)
         }
         Rule::Pattern => {
-            pattern_r(p, &g, false)?;
+            pattern_elsewhere(p, &g)?;
             Ok(None)
         }
         Rule::PatternSingle => {
-            pattern_single_r(p, &g, false)?;
+            pattern_single_elsewhere(p, &g)?;
             Ok(None)
         }
         Rule::BoundsWithoutColon => {
@@ -156,4 +159,26 @@ pub fn run(p: &mut Parser<'_>, rule: Rule) -> Result<Answer, NoMemory>
             Ok(None)
         }
     }
+}
+
+// A pattern that is no arm's. Not inlined into `run`, which would keep the constant in a register over its calls.
+#[inline(never)]
+#[tactic(auto)]
+fn pattern_elsewhere<G: Grammar>(p: &mut Parser<'_>, g: &G) -> Result<(), NoMemory>
+    requires within { Within G.valid G.left g.now (state p.old) }
+    ensures reads { OnOk result (PatternUntil (stops_of false) 8 pattern_room (state p.old) (state p.new)) }
+    ensures script { OnOk result (Does (G.left g.now) (script.pattern_r false) something (state p.old) (state p.new)) }
+{
+    pattern_r(p, g, false)
+}
+
+// The same without alternatives.
+#[inline(never)]
+#[tactic(auto)]
+fn pattern_single_elsewhere<G: Grammar>(p: &mut Parser<'_>, g: &G) -> Result<(), NoMemory>
+    requires within { Within G.valid G.left g.now (state p.old) }
+    ensures reads { OnOk result (PatternUntil (stops_of false) recovery_events single_pattern_room (state p.old) (state p.new)) }
+    ensures script { OnOk result (Does (G.left g.now) (script.pattern_single_r false) something (state p.old) (state p.new)) }
+{
+    pattern_single_r(p, g, false)
 }

@@ -29,6 +29,7 @@ mod atom;
 mod operators;
 
 /// An expression of at least the power `bp`, after its attributes.
+#[inline(never)]
 #[tactic(auto, unfolding(rap_grammar_scripts::specs::Expressions::expr_bp))]
 pub fn expr_bp<G: Grammar>(
     p: &mut Parser<'_>,

@@ -4,12 +4,12 @@ use Rattle.rap_grammar_scripts.proofs.Ends.{answers}
 use Rattle.rap_grammar_scripts.specs.Knot.{script_of}
 use Rattle.rap_grammar_scripts.specs.declared.rule.Rule.TheVariants as knot
 use Rattle.std.proofs.lemmas.Result.{IfOk-weaker}
-use Rattle.rap_grammar.proofs.Depth.{more}
+use Rattle.rap_grammar.proofs.Depth.{expr_post, more}
 use Rattle.rap_grammar.proofs.knot.+run.Goals as goal
 
-pub returns-in_ok-expr-in-ExprBp : goal.returns-in_ok-expr-in-ExprBp
+pub returns-in-ExprBp : goal.returns-in-ExprBp
 unfolding script_of
-returns-in_ok-expr-in-ExprBp t c = rw c.in-ExprBp.is (search rules, answers (knot.ExprBp c.in-ExprBp.r c.in-ExprBp.bp) (search rules) c.in_ok-expr-in-ExprBp.ensures.script)
+returns-in-ExprBp t c = rw c.in-ExprBp.is (expr_post (search rules) c.in-ExprBp.r c.in-ExprBp.bp _ _ _ c.expr_bp.ensures.answered c.expr_bp.ensures.script)
 
 pub returns-in_ok-type_with_bounds_cond-in-TypeWithBoundsCond : goal.returns-in_ok-type_with_bounds_cond-in-TypeWithBoundsCond
 unfolding script_of
@@ -27,13 +27,13 @@ pub returns-in_ok-generic_param_list-in-GenericParamList : goal.returns-in_ok-ge
 unfolding script_of
 returns-in_ok-generic_param_list-in-GenericParamList t c = rw c.in-GenericParamList.is (search rules, answers knot.GenericParamList (search rules) c.in_ok-generic_param_list-in-GenericParamList.ensures.script)
 
-pub returns-in_ok-pattern_r-in-Pattern : goal.returns-in_ok-pattern_r-in-Pattern
+pub returns-in_ok-pattern_elsewhere-in-Pattern : goal.returns-in_ok-pattern_elsewhere-in-Pattern
 unfolding script_of
-returns-in_ok-pattern_r-in-Pattern t c = rw c.in-Pattern.is (search rules, answers knot.Pattern (search rules) c.in_ok-pattern_r-in-Pattern.ensures.script)
+returns-in_ok-pattern_elsewhere-in-Pattern t c = rw c.in-Pattern.is (search rules, answers knot.Pattern (search rules) c.in_ok-pattern_elsewhere-in-Pattern.ensures.script)
 
-pub returns-in_ok-pattern_single_r-in-PatternSingle : goal.returns-in_ok-pattern_single_r-in-PatternSingle
+pub returns-in_ok-pattern_single_elsewhere-in-PatternSingle : goal.returns-in_ok-pattern_single_elsewhere-in-PatternSingle
 unfolding script_of
-returns-in_ok-pattern_single_r-in-PatternSingle t c = rw c.in-PatternSingle.is (search rules, answers knot.PatternSingle (search rules) c.in_ok-pattern_single_r-in-PatternSingle.ensures.script)
+returns-in_ok-pattern_single_elsewhere-in-PatternSingle t c = rw c.in-PatternSingle.is (search rules, answers knot.PatternSingle (search rules) c.in_ok-pattern_single_elsewhere-in-PatternSingle.ensures.script)
 
 pub returns-in_ok-bounds_without_colon-in-BoundsWithoutColon : goal.returns-in_ok-bounds_without_colon-in-BoundsWithoutColon
 unfolding script_of
