@@ -23,8 +23,8 @@ use Rattle.rap_grammar_frame.specs.Rules.{Answered, Post}
 pub expr_post : {E : Type 0} {n m : ℕ} → n < m → (r : Restrictions) (bp : ℕ) (old new : State) (res : Result (Option (CompletedMarker × BlockLike)) E) →
     IfOk res (Answered old new r.prefer_stmt bp) → IfOk res (λ e. Does n (expr_bp r bp) (of_expr e) old new) → IfOk res (Post m (knot.ExprBp r bp) old new)
 unfolding script_of
-expr_post l r bp old new (Ok e) answered done = (answered, answers (knot.ExprBp r bp) l done)
-expr_post l r bp old new (Err x) answered done = done
+expr_post l r bp old new (Ok e) answered made = (answered, answers (knot.ExprBp r bp) l made)
+expr_post l r bp old new (Err x) answered made = made
 
 pub more : (n m : ℕ) → n ≤ m → (c : Rule) (s t : State) (e : Option (CompletedMarker × BlockLike)) → Post n c s t e →
     Post m c s t e
