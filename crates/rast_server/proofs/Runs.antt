@@ -10,7 +10,7 @@ use Rattle.rast_frames.specs.declared.front.Front.TheVariants.{Part, Message, To
 use Rattle.rast_messages.specs.declared.reply.TheConstants.{OUT_OF_MEMORY}
 use Rattle.rast_server.specs.Answered.{IsAnswer, status_of}
 use Rattle.rast_server.specs.Answered.IsAnswer.{request, notification, response, no_message, no_json, no_memory}
-use Rattle.rast_server.specs.Ran.{FrontAnswers, GoesOn, IsExited, IsRun, IsRunning, IsServed, Sends, Serves, Writes, sent}
+use Rattle.rast_server.specs.Ran.{FrontAnswers, GoesOn, IsExited, IsReported, IsRun, IsRunning, IsServed, Sends, Serves, Writes, sent}
 use Rattle.rast_server.specs.Ran.Serves.{answers, begins, comes, fails, leaves_out}
 use Rattle.rast_server.specs.declared.run.Next.{Next}
 use Rattle.rast_server.specs.declared.run.Next.TheVariants.{Read, Exit, CannotWrite, Lost}
@@ -196,3 +196,7 @@ ran_dry start now left mid rest s w piece count status h p none at_end empty is 
       read = subst (λ (x : List ℕ). Consumes left rest x) (append-nil h.input) all;
       ends = inr (h.served, at_end, empty, is);
     }
+
+-- what was reported where nothing was before
+pub reported_since : {E : Type 0} (r : Result ℕ E) (a b n : Option (List ℕ)) → a ≡ b → IfOk r (λ status. status ≡ 2 → IsReported a n) → IfOk r (λ status. status ≡ 2 → IsReported b n)
+reported_since r a b n e h = subst (λ (x : Option (List ℕ)). IfOk r (λ status. status ≡ 2 → IsReported x n)) e h

@@ -192,7 +192,8 @@ fn serve<W: io::Write>(
         → IsServed start (W.contents out.old) input server.old (waiting frames.old)
         → GoesOn next start (W.contents out.new) (input ++ piece.now) server.new (waiting frames.new)) }
 {
-    match keep(frames, piece, out)? {
+    let kept = keep(frames, piece, out)?;
+    match kept {
         Next::Read => Ok(answer_whole(alloc, server, frames, out)),
         next => Ok(next),
     }
