@@ -207,11 +207,7 @@ fn selected(alloc: Global, analysis: &Analysis<'_>, params: &Value) -> Result<St
 }
 
 /// The tokens of the range of a message.
-fn tokens_of_range(
-    alloc: Global,
-    analysis: &Analysis<'_>,
-    params: &Value,
-) -> Result<String, Fault>
+fn tokens_of_range(alloc: Global, analysis: &Analysis<'_>, params: &Value) -> Result<String, Fault>
     ensures { IfErr result (λ fault. IsOfDocument fault.code) }
 {
     let range = params.get("range").ok_or(WRONG_PARAMS)?;

@@ -15,10 +15,10 @@ pieces-init g c = (
 
 pub pieces-preserved : goal.pieces-preserved
 pieces-preserved g c = (
-    ran_on (g.W.Write.contents c.args.out.now) (g.W.Write.contents c.pieces.out) (g.W.Write.contents c.serve.new.out)
-    (g.R.Read.remaining c.args.input.now) (g.R.Read.remaining c.pieces.input) (g.R.Read.remaining c.read_piece.new.input)
-    c.pieces.server c.serve.new.server (waiting c.pieces.frames) (waiting c.serve.new.frames) (take c.in-Ok.count c.read_piece.new.piece) c.in-Ok-serve.next
-    c.pieces.invariant.0 c.in-Ok.ensures.read (λ i h. c.in-Ok-serve.ensures (g.W.Write.contents c.args.out.now) i h) c.in-Read.is,
+  ran_on (g.W.Write.contents c.args.out.now) (g.W.Write.contents c.pieces.out) (g.W.Write.contents c.serve.new.out)
+      (g.R.Read.remaining c.args.input.now) (g.R.Read.remaining c.pieces.input) (g.R.Read.remaining c.read_piece.new.input)
+      c.pieces.server c.serve.new.server (waiting c.pieces.frames) (waiting c.serve.new.frames) (take c.in-Ok.count c.read_piece.new.piece) c.in-Ok-serve.next
+      c.pieces.invariant.0 c.in-Ok.ensures.read (λ i h. c.in-Ok-serve.ensures (g.W.Write.contents c.args.out.now) i h) c.in-Read.is,
   c.pieces.invariant.1,
 )
 
@@ -36,10 +36,10 @@ returns-then-is_empty-clause-silent g c = λ small. c.pieces.invariant.1
 pub returns-in-Exit-clause-status : goal.returns-in-Exit-clause-status
 returns-in-Exit-clause-status g c =
     let ends = (
-      ran_out (g.W.Write.contents c.args.out.now) (g.W.Write.contents c.pieces.out) (g.W.Write.contents c.serve.new.out)
-      (g.R.Read.remaining c.args.input.now) (g.R.Read.remaining c.pieces.input) (g.R.Read.remaining c.read_piece.new.input)
-      c.pieces.server c.serve.new.server (waiting c.pieces.frames) (waiting c.serve.new.frames) (take c.in-Ok.count c.read_piece.new.piece) c.in-Ok-serve.next c.in-Exit.status
-      c.pieces.invariant.0 c.in-Ok.ensures.read (λ i h. c.in-Ok-serve.ensures (g.W.Write.contents c.args.out.now) i h) c.in-Exit.is
+    ran_out (g.W.Write.contents c.args.out.now) (g.W.Write.contents c.pieces.out) (g.W.Write.contents c.serve.new.out)
+    (g.R.Read.remaining c.args.input.now) (g.R.Read.remaining c.pieces.input) (g.R.Read.remaining c.read_piece.new.input)
+    c.pieces.server c.serve.new.server (waiting c.pieces.frames) (waiting c.serve.new.frames) (take c.in-Ok.count c.read_piece.new.piece) c.in-Ok-serve.next c.in-Exit.status
+    c.pieces.invariant.0 c.in-Ok.ensures.read (λ i h. c.in-Ok-serve.ensures (g.W.Write.contents c.args.out.now) i h) c.in-Exit.is
     ) in
     omega (arith, ends.1)
 
@@ -49,7 +49,7 @@ returns-in-Exit-clause-run g c = λ small. (
     (g.R.Read.remaining c.args.input.now) (g.R.Read.remaining c.pieces.input) (g.R.Read.remaining c.read_piece.new.input)
     c.pieces.server c.serve.new.server (waiting c.pieces.frames) (waiting c.serve.new.frames) (take c.in-Ok.count c.read_piece.new.piece) c.in-Ok-serve.next c.in-Exit.status
     c.pieces.invariant.0 c.in-Ok.ensures.read (λ i h. c.in-Ok-serve.ensures (g.W.Write.contents c.args.out.now) i h) c.in-Exit.is
-  ).0
+    ).0
 
 pub returns-in-Exit-clause-silent : goal.returns-in-Exit-clause-silent
 returns-in-Exit-clause-silent g c = λ small. c.pieces.invariant.1
@@ -58,9 +58,9 @@ pub returns-in-Exit-clause-reported : goal.returns-in-Exit-clause-reported
 returns-in-Exit-clause-reported g c = λ two.
     let ends = (
     ran_out (g.W.Write.contents c.args.out.now) (g.W.Write.contents c.pieces.out) (g.W.Write.contents c.serve.new.out)
-      (g.R.Read.remaining c.args.input.now) (g.R.Read.remaining c.pieces.input) (g.R.Read.remaining c.read_piece.new.input)
-      c.pieces.server c.serve.new.server (waiting c.pieces.frames) (waiting c.serve.new.frames) (take c.in-Ok.count c.read_piece.new.piece) c.in-Ok-serve.next c.in-Exit.status
-      c.pieces.invariant.0 c.in-Ok.ensures.read (λ i h. c.in-Ok-serve.ensures (g.W.Write.contents c.args.out.now) i h) c.in-Exit.is
+    (g.R.Read.remaining c.args.input.now) (g.R.Read.remaining c.pieces.input) (g.R.Read.remaining c.read_piece.new.input)
+    c.pieces.server c.serve.new.server (waiting c.pieces.frames) (waiting c.serve.new.frames) (take c.in-Ok.count c.read_piece.new.piece) c.in-Ok-serve.next c.in-Exit.status
+    c.pieces.invariant.0 c.in-Ok.ensures.read (λ i h. c.in-Ok-serve.ensures (g.W.Write.contents c.args.out.now) i h) c.in-Exit.is
     ) in
     absurd (omega (arith, two, ends.1))
 
