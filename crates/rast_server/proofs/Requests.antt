@@ -1,0 +1,69 @@
+-- What is sent for each kind of message.
+use Rattle.std.proofs.Common.{◌≡◌, ◌⊎◌, ℕ, Bool, Bor, MatchOption, String, true, false, IfOk, IsUtf8, List, Option, Some, None, Result, Ok, Err, inl, inr, refl, sym, subst, option_map, string_bytes}
+use Rattle.std.specs.declared.alloc.AllocError.{AllocError}
+use Rattle.std.specs.declared.alloc.Global.{Global}
+use Rattle.serde_json.specs.Data.{Data, null, boolean, number, string, array, object, Num, unsigned, negative, float}
+use Rattle.serde_json.specs.Read.{read}
+use Rattle.serde_json.specs.View.{view}
+use Rattle.serde_json.specs.declared.value.Value.{Value}
+use Rattle.serde_json.specs.Written.{has_float}
+use Rattle.rast_messages.specs.Messages.{IsNoMessage, IsNotification, IsRequest, checked_id, id_in}
+use Rattle.rast_messages.specs.Replies.{error_text}
+use Rattle.rast_messages.specs.declared.reply.Fault.{Fault}
+use Rattle.rast_messages.specs.declared.reply.Code.TheVariants.{InternalError, InvalidRequest, ParseError}
+use Rattle.rast_server.specs.Answered.{Answers, Heeds, IsAnswer, Reports, id_or_null}
+use Rattle.rast_server.specs.Answered.IsAnswer.{request, notification, no_message, no_json, no_memory}
+use Rattle.rast_server.specs.declared.server.Outcome.{Outcome}
+use Rattle.rast_server.specs.declared.server.Outcome.TheVariants.{Reply}
+use Rattle.rast_server.specs.declared.server.Server.{Server}
+
+checked_plain : (o : Option Data) (i : Data) → checked_id o ≡ Some i → has_float i ≡ false
+checked_plain None i e = cc e
+checked_plain (Some null) i e = cc e
+checked_plain (Some (boolean b)) i e = cc e
+checked_plain (Some (number (unsigned n))) i e = subst (λ (d : Data). has_float d ≡ false) (let f : number (unsigned n) ≡ i = cc e in f) refl
+checked_plain (Some (number (negative n))) i e = subst (λ (d : Data). has_float d ≡ false) (let f : number (negative n) ≡ i = cc e in f) refl
+checked_plain (Some (number (float x))) i e = cc e
+checked_plain (Some (string s)) i e = subst (λ (d : Data). has_float d ≡ false) (let f : string s ≡ i = cc e in f) refl
+checked_plain (Some (array ds)) i e = cc e
+checked_plain (Some (object ms)) i e = cc e
+
+-- an id is no number with a fraction
+pub id_plain : (d i : Data) → id_in d ≡ Some i → has_float i ≡ false
+id_plain d i e = checked_plain _ i e
+
+-- a request is answered
+pub requested : (old new : Server) (content method : List ℕ) (d i : Data) (r : Result Outcome AllocError) → read content ≡ Some d → IsRequest d i method
+    → IfOk r (λ o. has_float i ≡ false → Answers old i method o new) → IfOk r (λ o. IsAnswer old content o new)
+requested old new content method d i (Ok o) e p h = request d i method e p (h (id_plain d i p.id_is))
+requested old new content method d i (Err a) e p h = tt
+
+-- a notification is heeded
+pub notified : (old new : Server) (content method : List ℕ) (d : Data) (r : Result Outcome AllocError) → read content ≡ Some d → IsNotification d method
+    → IfOk r (λ o. Heeds old method o new) → IfOk r (λ o. IsAnswer old content o new)
+notified old new content method d (Ok o) e p h = notification d method e p h
+notified old new content method d (Err a) e p h = tt
+
+-- a content that is not read is reported
+pub unread : (old : Server) (content : List ℕ) (memory : Bool) (r : Result Outcome AllocError) → (memory ≡ false → IsUtf8 content → read content ≡ None)
+    → IfOk r (λ o. memory ≡ true → Reports InternalError null o) → IfOk r (λ o. memory ≡ false → Reports ParseError null o)
+    → IfOk r (λ o. IsAnswer old content o old)
+unread old content true (Ok o) none h k = no_memory (h refl) refl
+unread old content false (Ok o) none h k = no_json (none refl) (k refl) refl
+unread old content memory (Err a) none h k = tt
+
+-- the text of an error with an id that may not be known
+error_is : (id : Option (Bor Value)) (known : Option Data) (text : List ℕ) (fault : Fault) → option_map (λ v. view v.now) id ≡ known
+    → ((i : Data) → known ≡ Some i → has_float i ≡ false)
+    → MatchOption id (text ≡ error_text null fault) (λ v. has_float (view v.now) ≡ false → text ≡ error_text (view v.now) fault)
+    → text ≡ error_text (id_or_null known) fault
+error_is None known text fault e plain h = subst (λ (o : Option Data). text ≡ error_text (id_or_null o) fault) e h
+error_is (Some v) known text fault e plain h = subst (λ (o : Option Data). text ≡ error_text (id_or_null o) fault) e (h (plain (view v.now) (sym e)))
+
+-- what is no message is reported
+pub unfit : (old : Server) (content : List ℕ) (d : Data) (id : Option (Bor Value)) (fault : Fault) (text : String Global) → read content ≡ Some d
+    → IsNoMessage d → option_map (λ v. view v.now) id ≡ id_in d → fault.code ≡ InvalidRequest
+    → MatchOption id (string_bytes text ≡ error_text null fault) (λ v. has_float (view v.now) ≡ false → string_bytes text ≡ error_text (view v.now) fault)
+    → IsAnswer old content (Reply text) old
+unfit old content d id fault text e none known code h = no_message d e none
+    (record { fault = fault; code_is = code; text_is = error_is id (id_in d) (string_bytes text) fault known (id_plain d) h }) refl

@@ -1,0 +1,105 @@
+-- What is sent for a message, and what the server is after it.
+use Rattle.std.specs.Prelude.{◌≡◌, ◌≢◌, ◌⊎◌, ℕ, List, Option, Some, None, IsUtf8, codes, option_map, string_bytes}
+use Rattle.serde_json.specs.Data.{Data, null}
+use Rattle.serde_json.specs.Read.{read}
+use Rattle.rast_messages.specs.Messages.{IsNoMessage, IsNotification, IsRequest, IsResponse, id_in}
+use Rattle.rast_messages.specs.Replies.{error_text, success_text}
+use Rattle.rast_messages.specs.declared.reply.Code.{Code}
+use Rattle.rast_messages.specs.declared.reply.Code.TheVariants.{ParseError, InvalidRequest, MethodNotFound, InvalidParams, InternalError, ServerNotInitialized}
+use Rattle.rast_messages.specs.declared.reply.Fault.{Fault}
+use Rattle.rast_server.specs.declared.server.Granted.{Granted}
+use Rattle.rast_server.specs.declared.server.Outcome.{Outcome}
+use Rattle.rast_server.specs.declared.server.Outcome.TheVariants.{Nothing, Reply, Note, Exit}
+use Rattle.rast_server.specs.declared.server.Server.{Server}
+use Rattle.rast_server.specs.declared.server.Stage.{Stage}
+use Rattle.rast_server.specs.declared.server.Stage.TheVariants.{Fresh, Ready, ShutDown}
+
+-- the requests about a document
+abbrev pub IsAboutDocument : List ℕ → Type 0
+IsAboutDocument m = (m ≡ codes "textDocument/documentSymbol") ⊎ ((m ≡ codes "textDocument/foldingRange")
+    ⊎ ((m ≡ codes "textDocument/selectionRange") ⊎ ((m ≡ codes "textDocument/semanticTokens/full")
+    ⊎ ((m ≡ codes "textDocument/semanticTokens/range") ⊎ (m ≡ codes "rust-analyzer/viewSyntaxTree")))))
+
+-- the notifications that the server heeds, but for `exit`
+abbrev pub IsHeeded : List ℕ → Type 0
+IsHeeded m = (m ≡ codes "textDocument/didOpen") ⊎ ((m ≡ codes "textDocument/didChange") ⊎ (m ≡ codes "textDocument/didClose"))
+
+-- an answer about a document fails by its parameters, or out of memory
+abbrev pub IsOfDocument : Code → Type 0
+IsOfDocument code = (code ≡ InvalidParams) ⊎ (code ≡ InternalError)
+
+-- when a request is refused with which code; out of memory it may always be
+abbrev pub Refuses : Stage → List ℕ → Code → Type 0
+Refuses stage method code = (code ≡ InternalError)
+    ⊎ (((code ≡ ServerNotInitialized) × (stage ≡ Fresh) × (method ≢ codes "initialize"))
+    ⊎ (((code ≡ InvalidRequest) × ((stage ≡ ShutDown) ⊎ ((stage ≡ Ready) × (method ≡ codes "initialize"))))
+    ⊎ (((code ≡ MethodNotFound) × (stage ≡ Ready) × (method ≢ codes "initialize") × (method ≢ codes "shutdown") × ¬ IsAboutDocument method)
+    ⊎ ((code ≡ InvalidParams) × (stage ≡ Ready) × IsAboutDocument method))))
+
+-- what a request makes of the server: `initialize` and `shutdown` lead on, and nothing else changes it
+abbrev pub Grants : Server → List ℕ → Granted → Type 0
+Grants s method g = ((s.stage ≡ Fresh) × (method ≡ codes "initialize") × (g.stage ≡ Ready))
+    ⊎ (((s.stage ≡ Ready) × (method ≡ codes "shutdown") × (g.stage ≡ ShutDown) × (g.encoding ≡ s.encoding) × (string_bytes g.text ≡ codes "null"))
+    ⊎ ((s.stage ≡ Ready) × IsAboutDocument method × (g.stage ≡ Ready) × (g.encoding ≡ s.encoding)))
+
+-- the reply with the result, and the server as the request leaves it
+pub record IsGranted (old : Server) (id : Data) (method text : List ℕ) (new : Server) : Type 0 where
+  pub granted : Granted
+  pub grants : Grants old method granted
+  pub text_is : text ≡ success_text id (string_bytes granted.text)
+  pub stage : new.stage ≡ granted.stage
+  pub encoding : new.encoding ≡ granted.encoding
+  pub documents : new.documents ≡ old.documents
+
+-- the reply with an error, and the server as it was
+pub record IsRefused (old : Server) (id : Data) (method text : List ℕ) (new : Server) : Type 0 where
+  pub fault : Fault
+  pub refuses : Refuses old.stage method fault.code
+  pub text_is : text ≡ error_text id fault
+  pub same : new ≡ old
+
+-- the reply to a request, exactly one
+abbrev pub Answers : Server → Data → List ℕ → Outcome → Server → Type 0
+Answers old id method Nothing new = ⊥
+Answers old id method (Reply text) new = IsGranted old id method (string_bytes text) new ⊎ IsRefused old id method (string_bytes text) new
+Answers old id method (Note text) new = ⊥
+Answers old id method (Exit status) new = ⊥
+
+-- the status with which the server ends
+abbrev pub status_of : Stage → ℕ
+status_of Fresh = 1
+status_of Ready = 1
+status_of ShutDown = 0
+
+-- what a notification does: never is there a reply
+abbrev pub Heeds : Server → List ℕ → Outcome → Server → Type 0
+Heeds old method Nothing new = (method ≢ codes "exit") × (new ≡ old) × ((old.stage ≢ Ready) ⊎ ¬ IsHeeded method)
+Heeds old method (Reply text) new = ⊥
+Heeds old method (Note text) new = (old.stage ≡ Ready) × IsHeeded method × (new.stage ≡ Ready) × (new.encoding ≡ old.encoding)
+Heeds old method (Exit status) new = (method ≡ codes "exit") × (new ≡ old) × (status ≡ status_of old.stage)
+
+-- an error with this code is sent, without an id or with the one that is known
+pub record IsError (code : Code) (id : Data) (text : List ℕ) : Type 0 where
+  pub fault : Fault
+  pub code_is : fault.code ≡ code
+  pub text_is : text ≡ error_text id fault
+
+abbrev pub Reports : Code → Data → Outcome → Type 0
+Reports code id Nothing = ⊥
+Reports code id (Reply text) = IsError code id (string_bytes text)
+Reports code id (Note text) = ⊥
+Reports code id (Exit status) = ⊥
+
+-- `null` where no id can be told
+abbrev pub id_or_null : Option Data → Data
+id_or_null None = null
+id_or_null (Some id) = id
+
+-- what is sent for the content of a message, and what the server is after it
+pub data IsAnswer (old : Server) (content : List ℕ) (outcome : Outcome) (new : Server) : Type 0 where
+  request : (d id : Data) (method : List ℕ) → read content ≡ Some d → IsRequest d id method → Answers old id method outcome new → IsAnswer old content outcome new
+  notification : (d : Data) (method : List ℕ) → read content ≡ Some d → IsNotification d method → Heeds old method outcome new → IsAnswer old content outcome new
+  response : (d : Data) → read content ≡ Some d → IsResponse d → outcome ≡ Nothing → new ≡ old → IsAnswer old content outcome new
+  no_message : (d : Data) → read content ≡ Some d → IsNoMessage d → Reports InvalidRequest (id_or_null (id_in d)) outcome → new ≡ old → IsAnswer old content outcome new
+  no_json : (IsUtf8 content → read content ≡ None) → Reports ParseError null outcome → new ≡ old → IsAnswer old content outcome new
+  no_memory : Reports InternalError null outcome → new ≡ old → IsAnswer old content outcome new

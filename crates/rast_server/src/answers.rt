@@ -1,0 +1,197 @@
+//! The answers about a document, as JSON texts.
+use crate::tree::tree_lines;
+use rast_answers::{Analysis, Delta, Diagnostic, Extent, Fold, FoldKind, Symbol};
+use rast_document::{Document, Position};
+use rast_messages::{position_of, push_comma, push_range, push_string};
+use std::alloc::{AllocError, Global};
+use std::fmt::Write as _;
+
+/// Adds a message at a range.
+fn push_diagnostic(
+    alloc: Global,
+    json: &mut String,
+    document: &Document,
+    diagnostic: &Diagnostic<'_>,
+) -> Result<(), AllocError> {
+    json.push_str("{\"range\":")?;
+    push_range(json, document, diagnostic.start, diagnostic.end)?;
+    json.push_str(",\"severity\":1,\"source\":\"rast\",\"message\":")?;
+    push_string(alloc, json, diagnostic.text)?;
+    json.push_str("}")?;
+    Ok(())
+}
+
+/// Adds messages at their ranges.
+pub fn push_diagnostics(
+    alloc: Global,
+    json: &mut String,
+    document: &Document,
+    list: &[Diagnostic<'_>],
+) -> Result<(), AllocError> {
+    let mut is_first = true;
+    for diagnostic in list {
+        push_comma(json, &mut is_first)?;
+        push_diagnostic(alloc, json, document, diagnostic)?;
+    }
+    Ok(())
+}
+
+/// Adds a symbol up to the symbols inside it, whose list stays open.
+fn open_symbol(
+    alloc: Global,
+    json: &mut String,
+    document: &Document,
+    symbol: &Symbol,
+) -> Result<(), AllocError> {
+    let name = document
+        .text()
+        .get(symbol.name.start..symbol.name.end)
+        .unwrap_or("");
+    json.push_str("{\"name\":")?;
+    push_string(alloc, json, name)?;
+    let kind = symbol.kind.number();
+    write!(json, ",\"kind\":{kind},\"range\":")?;
+    push_range(json, document, symbol.extent.start, symbol.extent.end)?;
+    json.push_str(",\"selectionRange\":")?;
+    push_range(json, document, symbol.name.start, symbol.name.end)?;
+    json.push_str(",\"children\":[")?;
+    Ok(())
+}
+
+/// Closes the symbols that end at an index or before it.
+fn close_symbols(
+    json: &mut String,
+    ends: &mut Vec<usize>,
+    index: usize,
+    is_first: &mut bool,
+) -> Result<(), AllocError> {
+    for _ in 0..ends.len() {
+        match ends.last() {
+            Some(end) if *end <= index => {
+                let _ = ends.pop();
+                json.push_str("]}")?;
+                *is_first = false;
+            }
+            _ => break,
+        }
+    }
+    Ok(())
+}
+
+/// The symbols of a document, each in the one around it.
+pub fn symbols(alloc: Global, analysis: &Analysis<'_>) -> Result<String, AllocError> {
+    let list = analysis.symbols(alloc)?;
+    let mut json = String::from_str(alloc, "[")?;
+    let mut ends: Vec<usize> = Vec::new(alloc);
+    let mut is_first = true;
+    for symbol in list.as_slice() {
+        close_symbols(&mut json, &mut ends, symbol.index, &mut is_first)?;
+        push_comma(&mut json, &mut is_first)?;
+        open_symbol(alloc, &mut json, analysis.document(), symbol)?;
+        ends.push(symbol.after)?;
+        is_first = true;
+    }
+    close_symbols(&mut json, &mut ends, usize::MAX, &mut is_first)?;
+    json.push_str("]")?;
+    Ok(json)
+}
+
+/// Adds what folds.
+fn push_fold(json: &mut String, document: &Document, fold: &Fold) -> Result<(), AllocError> {
+    let start = position_of(document, fold.start);
+    let end = position_of(document, fold.end);
+    let (first, from, last, to) = (start.line, start.character, end.line, end.character);
+    write!(json, "{{\"startLine\":{first},\"startCharacter\":{from}")?;
+    write!(json, ",\"endLine\":{last},\"endCharacter\":{to}")?;
+    json.push_str(match fold.kind {
+        FoldKind::Block => "}",
+        FoldKind::Comment => ",\"kind\":\"comment\"}",
+        FoldKind::Imports => ",\"kind\":\"imports\"}",
+    })?;
+    Ok(())
+}
+
+/// What folds.
+pub fn folds(alloc: Global, analysis: &Analysis<'_>) -> Result<String, AllocError> {
+    let list = analysis.folds(alloc)?;
+    let mut json = String::from_str(alloc, "[")?;
+    let mut is_first = true;
+    for fold in list.as_slice() {
+        push_comma(&mut json, &mut is_first)?;
+        push_fold(&mut json, analysis.document(), fold)?;
+    }
+    json.push_str("]")?;
+    Ok(json)
+}
+
+/// Adds ranges, each in the one after it.
+fn push_nested(
+    json: &mut String,
+    document: &Document,
+    extents: &[Extent],
+) -> Result<(), AllocError> {
+    let mut before = "{\"range\":";
+    for extent in extents {
+        json.push_str(before)?;
+        push_range(json, document, extent.start, extent.end)?;
+        before = ",\"parent\":{\"range\":";
+    }
+    for _ in 0..extents.len() {
+        json.push_str("}")?;
+    }
+    Ok(())
+}
+
+/// What may be selected around each position. `None` if one of them is none of the document.
+pub fn selections(
+    alloc: Global,
+    analysis: &Analysis<'_>,
+    positions: &[Position],
+) -> Result<Option<String>, AllocError> {
+    let mut json = String::from_str(alloc, "[")?;
+    let mut is_first = true;
+    for position in positions {
+        let Some(offset) = analysis.document().offset(*position) else {
+            return Ok(None);
+        };
+        let extents = analysis.selection(alloc, offset)?;
+        push_comma(&mut json, &mut is_first)?;
+        push_nested(&mut json, analysis.document(), extents.as_slice())?;
+    }
+    json.push_str("]")?;
+    Ok(Some(json))
+}
+
+/// Adds the five numbers of a token.
+fn push_token(json: &mut String, token: &Delta) -> Result<(), AllocError> {
+    let Delta {
+        line,
+        start,
+        length,
+        kind,
+        modifiers,
+    } = token;
+    let kind = kind.number();
+    write!(json, "{line},{start},{length},{kind},{modifiers}")?;
+    Ok(())
+}
+
+/// Tokens as numbers.
+pub fn tokens(alloc: Global, list: &[Delta]) -> Result<String, AllocError> {
+    let mut json = String::from_str(alloc, "{\"data\":[")?;
+    let mut is_first = true;
+    for token in list {
+        push_comma(&mut json, &mut is_first)?;
+        push_token(&mut json, token)?;
+    }
+    json.push_str("]}")?;
+    Ok(json)
+}
+
+/// The tree as text.
+pub fn tree(alloc: Global, analysis: &Analysis<'_>) -> Result<String, AllocError> {
+    let lines = tree_lines(alloc, analysis.tree())?;
+    let mut json = String::new(alloc);
+    push_string(alloc, &mut json, lines.as_str())?;
+    Ok(json)
+}

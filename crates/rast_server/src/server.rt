@@ -1,0 +1,493 @@
+//! The state of the server, and what each message does to it.
+ghost use Rattle.std.specs.Prelude.{◌≡◌, ◌≤◌, ◌↔◌, [], IfErr, IfOk, IsTrue, OnErr, OnOk, codes, false, true, string_bytes};
+ghost use Rattle.serde_json.specs.Data.{null};
+ghost use Rattle.serde_json.specs.View.{view};
+ghost use Rattle.serde_json.specs.Written.{has_float};
+ghost use Rattle.rast_document.specs.Changes.{AllChange};
+ghost use Rattle.rast_messages.specs.declared.reply.Code.TheVariants.{InternalError, InvalidRequest, ParseError};
+ghost use Rattle.rast_server.specs.Answered.{Answers, Grants, Heeds, IsAboutDocument, IsHeeded, IsOfDocument, IsAnswer, Refuses, Reports, status_of};
+ghost use Rattle.rast_server.specs.declared.server.Stage.TheVariants.{Fresh, Ready, ShutDown};
+
+use crate::answers::{folds, push_diagnostics, selections, symbols, tokens, tree};
+use crate::initialize::capabilities;
+use ra_ap_parser::{Edition, NoMemory, TextFault};
+use rast_answers::{Analysis, Diagnostic};
+use rast_document::{Change, ChangeFault, Document, Encoding};
+use rast_messages::{
+    Code, Fault, Message, NO_MEMORY, changes_in, classify, encoding_of, error, log, notification,
+    positions_in, push_string, span_in, success, uri_of, version_of,
+};
+use serde_json::Value;
+use std::alloc::{AllocError, Global};
+use std::collections::BTreeMap;
+use std::fmt::Write as _;
+
+/// How far the server has come.
+#[derive(Clone, Copy, Debug, PartialEq, Eq)]
+enum Stage {
+    /// It waits for `initialize`.
+    Fresh,
+    /// It answers.
+    Ready,
+    /// `shutdown` has come.
+    ShutDown,
+}
+
+/// A document that the editor has open.
+#[derive(Drop)]
+struct Opened {
+    version: i64,
+    document: Document,
+}
+
+impl Opened {
+    // Makes changes. After an error the document is as before.
+    fn change(&mut self, alloc: Global, version: i64, changes: &[Change<'_>]) -> Result<(), Fault>
+        ensures ok { OnOk result (AllChange self.old.document.encoding (string_bytes self.old.document.text) changes.now
+            (string_bytes self.new.document.text)) }
+        ensures version { OnOk result (self.new.version ≡ version) }
+        ensures err { OnErr result (self.new ≡ self.old) }
+    {
+        match self.document.change(alloc, changes) {
+            Ok(()) => {
+                self.version = version;
+                Ok(())
+            }
+            Err(ChangeFault::NoRange) => Err(NO_PLACE),
+            Err(ChangeFault::NoMemory) => Err(NO_MEMORY),
+        }
+    }
+}
+
+/// The server.
+#[derive(Drop)]
+pub struct Server {
+    stage: Stage,
+    encoding: Encoding,
+    documents: BTreeMap<String, Opened>,
+}
+
+/// The result of a request, a JSON text, and what the request makes of the server.
+#[derive(Drop)]
+pub struct Granted {
+    text: String,
+    stage: Stage,
+    encoding: Encoding,
+}
+
+/// What is sent for a message: JSON texts.
+#[derive(Drop)]
+pub enum Outcome {
+    /// Nothing.
+    Nothing,
+    /// The reply to a request, or to a message that is none.
+    Reply(String),
+    /// A notification.
+    Note(String),
+    /// Nothing, and the server ends with this status.
+    Exit(u8),
+}
+
+/// A request that is none at this time.
+const NOT_NOW: Fault = Fault {
+    code: Code::InvalidRequest,
+    text: "not a request for this time",
+};
+
+/// The parameters of a method are wrong.
+const WRONG_PARAMS: Fault = Fault {
+    code: Code::InvalidParams,
+    text: "the parameters are not those of the method",
+};
+
+/// The document of a message is not open.
+const NOT_OPEN: Fault = Fault {
+    code: Code::InvalidParams,
+    text: "the document is not open",
+};
+
+/// No request but `initialize` is granted yet.
+const NOT_INITIALIZED: Fault = Fault {
+    code: Code::ServerNotInitialized,
+    text: "the server is not initialized",
+};
+
+/// The server has no such method.
+const NO_METHOD: Fault = Fault {
+    code: Code::MethodNotFound,
+    text: "the server has no such method",
+};
+
+/// The content of a message is no JSON.
+const NO_JSON: Fault = Fault {
+    code: Code::ParseError,
+    text: "the content is no JSON in UTF-8",
+};
+
+/// A position or a range is none of the document.
+const NO_PLACE: Fault = Fault {
+    code: Code::InvalidParams,
+    text: "the position or range is none of the document",
+};
+
+/// Why a text has no tree.
+fn fault_of(fault: TextFault<NoMemory>) -> Fault
+    ensures { result.code ≡ InternalError }
+{
+    match fault {
+        TextFault::TextTooLong => Fault {
+            code: Code::InternalError,
+            text: "text too long",
+        },
+        TextFault::TooManyTokens => Fault {
+            code: Code::InternalError,
+            text: "too many tokens",
+        },
+        TextFault::NoMemory | TextFault::Refused(_) => NO_MEMORY,
+    }
+}
+
+/// The tree of a document.
+fn analysis_of(alloc: Global, document: &Document) -> Result<Analysis<'_>, Fault>
+    ensures { IfErr result (λ fault. IsOfDocument fault.code) }
+{
+    match Analysis::of_document(alloc, Edition::CURRENT, document) {
+        Ok(analysis) => Ok(analysis),
+        Err(fault) => Err(fault_of(fault)),
+    }
+}
+
+/// Adds the messages of a document, or the one that it has no tree.
+fn push_messages(alloc: Global, json: &mut String, document: &Document) -> Result<(), Fault> {
+    match Analysis::of_document(alloc, Edition::CURRENT, document) {
+        Ok(analysis) => {
+            let list = analysis.diagnostics(alloc)?;
+            push_diagnostics(alloc, json, document, list.as_slice())?;
+        }
+        Err(fault) => {
+            let fault = fault_of(fault);
+            if fault.text == NO_MEMORY.text {
+                return Err(fault);
+            }
+            let none = Diagnostic {
+                text: fault.text,
+                start: 0,
+                end: 0,
+            };
+            push_diagnostics(alloc, json, document, &[none])?;
+        }
+    }
+    Ok(())
+}
+
+/// The notification of a document's messages.
+fn published(alloc: Global, uri: &str, version: i64, document: &Document) -> Result<String, Fault> {
+    let mut json = String::from_str(alloc, "{\"uri\":")?;
+    push_string(alloc, &mut json, uri)?;
+    write!(json, ",\"version\":{version},\"diagnostics\":[").map_err(AllocError::from)?;
+    push_messages(alloc, &mut json, document)?;
+    json.push_str("]}")?;
+    Ok(notification(alloc, "textDocument/publishDiagnostics", json.as_str())?)
+}
+
+/// The notification that a document has no messages any more.
+fn withdrawn(alloc: Global, uri: &str) -> Result<String, Fault> {
+    let mut json = String::from_str(alloc, "{\"uri\":")?;
+    push_string(alloc, &mut json, uri)?;
+    json.push_str(",\"diagnostics\":[]}")?;
+    Ok(notification(alloc, "textDocument/publishDiagnostics", json.as_str())?)
+}
+
+/// What may be selected around the positions of a message.
+fn selected(alloc: Global, analysis: &Analysis<'_>, params: &Value) -> Result<String, Fault>
+    ensures { IfErr result (λ fault. IsOfDocument fault.code) }
+{
+    let positions = positions_in(alloc, params)?.ok_or(WRONG_PARAMS)?;
+    selections(alloc, analysis, positions.as_slice())?.ok_or(NO_PLACE)
+}
+
+/// The tokens of the range of a message.
+fn tokens_of_range(alloc: Global, analysis: &Analysis<'_>, params: &Value) -> Result<String, Fault>
+    ensures { IfErr result (λ fault. IsOfDocument fault.code) }
+{
+    let range = params.get("range").ok_or(WRONG_PARAMS)?;
+    let span = span_in(range).ok_or(WRONG_PARAMS)?;
+    let start = analysis.document().offset(span.start).ok_or(NO_PLACE)?;
+    let end = analysis.document().offset(span.end).ok_or(NO_PLACE)?;
+    let list = analysis.tokens_within(alloc, start, end)?;
+    Ok(tokens(alloc, list.as_slice())?)
+}
+
+/// The result of a request about a document.
+fn result_of(
+    alloc: Global,
+    document: &Document,
+    method: &str,
+    params: &Value,
+) -> Result<String, Fault>
+    ensures { IfErr result (λ fault. IsOfDocument fault.code) }
+{
+    let analysis = analysis_of(alloc, document)?;
+    match method {
+        "textDocument/documentSymbol" => Ok(symbols(alloc, &analysis)?),
+        "textDocument/foldingRange" => Ok(folds(alloc, &analysis)?),
+        "textDocument/selectionRange" => selected(alloc, &analysis, params),
+        "textDocument/semanticTokens/full" => {
+            let list = analysis.tokens(alloc)?;
+            Ok(tokens(alloc, list.as_slice())?)
+        }
+        "textDocument/semanticTokens/range" => tokens_of_range(alloc, &analysis, params),
+        _ => Ok(tree(alloc, &analysis)?),
+    }
+}
+
+/// Whether a method is a request about a document.
+fn is_about_document(method: &str) -> bool
+    ensures { IsTrue result ↔ IsAboutDocument method.now }
+{
+    matches!(
+        method,
+        "textDocument/documentSymbol"
+            | "textDocument/foldingRange"
+            | "textDocument/selectionRange"
+            | "textDocument/semanticTokens/full"
+            | "textDocument/semanticTokens/range"
+            | "rust-analyzer/viewSyntaxTree"
+    )
+}
+
+/// Whether a method is a notification about a document.
+fn is_heeded(method: &str) -> bool
+    ensures { IsTrue result ↔ IsHeeded method.now }
+{
+    matches!(
+        method,
+        "textDocument/didOpen" | "textDocument/didChange" | "textDocument/didClose"
+    )
+}
+
+impl Server {
+    /// A server that waits for `initialize`.
+    pub fn new(alloc: Global) -> Server
+        ensures stage { result.stage ≡ Fresh }
+        ensures documents { result.documents.entries ≡ [] }
+    {
+        Server {
+            stage: Stage::Fresh,
+            encoding: Encoding::Utf16,
+            documents: BTreeMap::new(alloc),
+        }
+    }
+
+    /// The status with which the server ends: 0 if `shutdown` has come, else 1.
+    pub fn status(&self) -> u8
+        ensures value { result ≡ status_of self.now.stage }
+        ensures small { result ≤ 1 }
+    {
+        if self.stage == Stage::ShutDown { 0 } else { 1 }
+    }
+
+    /// What is sent for a message. The error means that there is no memory even for the report of that.
+    pub fn answer(&mut self, alloc: Global, content: &[u8]) -> Result<Outcome, AllocError>
+        ensures { IfOk result (λ outcome. IsAnswer self.old content.now outcome self.new) }
+    {
+        let message = match Value::from_slice(alloc, content) {
+            Ok(message) => message,
+            Err(fault) => return unread(alloc, fault.is_memory()),
+        };
+        let none = Value::Null;
+        let params = message.get("params").unwrap_or(&none);
+        match classify(&message) {
+            Message::Request { id, method } => self.reply(alloc, id, method, params),
+            Message::Notification { method } => self.take(alloc, method, params),
+            Message::Response => Ok(Outcome::Nothing),
+            Message::Invalid { id } => {
+                let fault = no_message();
+                Ok(Outcome::Reply(error(alloc, id, fault)?))
+            }
+        }
+    }
+
+    // The reply to a request. It changes the server only once the reply is made.
+    fn reply(
+        &mut self,
+        alloc: Global,
+        id: &Value,
+        method: &str,
+        params: &Value,
+    ) -> Result<Outcome, AllocError>
+        ensures { IfOk result (λ outcome. has_float (view id.now) ≡ false → Answers self.old (view id.now) method.now outcome self.new) }
+    {
+        let granted = match self.request(alloc, method, params) {
+            Ok(granted) => granted,
+            Err(fault) => return Ok(Outcome::Reply(error(alloc, Some(id), fault)?)),
+        };
+        let Ok(reply) = success(alloc, id, granted.text.as_str()) else {
+            let fault = Fault::from(AllocError);
+            return Ok(Outcome::Reply(error(alloc, Some(id), fault)?));
+        };
+        self.stage = granted.stage;
+        self.encoding = granted.encoding;
+        Ok(Outcome::Reply(reply))
+    }
+
+    // The result of a request.
+    fn request(&self, alloc: Global, method: &str, params: &Value) -> Result<Granted, Fault>
+        ensures grants { IfOk result (Grants self.now method.now) }
+        ensures refuses { IfErr result (λ fault. Refuses self.now.stage method.now fault.code) }
+    {
+        match self.stage {
+            Stage::Fresh => started(alloc, method, params),
+            Stage::Ready => self.asked(alloc, method, params),
+            Stage::ShutDown => Err(NOT_NOW),
+        }
+    }
+
+    // The result of a request after `initialize`.
+    fn asked(&self, alloc: Global, method: &str, params: &Value) -> Result<Granted, Fault>
+        requires { self.now.stage ≡ Ready }
+        ensures grants { IfOk result (Grants self.now method.now) }
+        ensures refuses { IfErr result (λ fault. Refuses self.now.stage method.now fault.code) }
+    {
+        if method == "initialize" {
+            return Err(NOT_NOW);
+        }
+        if method == "shutdown" {
+            return Ok(Granted {
+                text: String::from_str(alloc, "null")?,
+                stage: Stage::ShutDown,
+                encoding: self.encoding,
+            });
+        }
+        if !is_about_document(method) {
+            return Err(NO_METHOD);
+        }
+        Ok(Granted {
+            text: self.about_document(alloc, method, params)?,
+            stage: Stage::Ready,
+            encoding: self.encoding,
+        })
+    }
+
+    // The result of a request about a document.
+    fn about_document(&self, alloc: Global, method: &str, params: &Value) -> Result<String, Fault>
+        ensures { IfErr result (λ fault. IsOfDocument fault.code) }
+    {
+        let uri = uri_of(params).ok_or(WRONG_PARAMS)?;
+        let opened = self.documents.get(uri).ok_or(NOT_OPEN)?;
+        result_of(alloc, &opened.document, method, params)
+    }
+
+    // What is sent for a notification.
+    fn take(&mut self, alloc: Global, method: &str, params: &Value) -> Result<Outcome, AllocError>
+        ensures { IfOk result (λ outcome. Heeds self.old method.now outcome self.new) }
+    {
+        if method == "exit" {
+            return Ok(Outcome::Exit(self.status()));
+        }
+        if self.stage != Stage::Ready || !is_heeded(method) {
+            return Ok(Outcome::Nothing);
+        }
+        match self.heed(alloc, method, params) {
+            Ok(note) => Ok(Outcome::Note(note)),
+            Err(fault) => Ok(Outcome::Note(log(alloc, method, fault)?)),
+        }
+    }
+
+    // What is sent for a notification about a document.
+    fn heed(&mut self, alloc: Global, method: &str, params: &Value) -> Result<String, Fault>
+        ensures stage { self.new.stage ≡ self.old.stage }
+        ensures encoding { self.new.encoding ≡ self.old.encoding }
+    {
+        match method {
+            "textDocument/didOpen" => self.open(alloc, params),
+            "textDocument/didChange" => self.change(alloc, params),
+            _ => self.close(alloc, params),
+        }
+    }
+
+    fn open(&mut self, alloc: Global, params: &Value) -> Result<String, Fault>
+        ensures stage { self.new.stage ≡ self.old.stage }
+        ensures encoding { self.new.encoding ≡ self.old.encoding }
+        ensures err { OnErr result (self.new.documents.entries ≡ self.old.documents.entries) }
+    {
+        let uri = uri_of(params).ok_or(WRONG_PARAMS)?;
+        let version = version_of(params).ok_or(WRONG_PARAMS)?;
+        let text = params
+            .pointer("/textDocument/text")
+            .and_then(Value::as_str)
+            .ok_or(WRONG_PARAMS)?;
+        let text = String::from_str(alloc, text)?;
+        let document = Document::new(alloc, self.encoding, text)?;
+        let key = String::from_str(alloc, uri)?;
+        let note = published(alloc, uri, version, &document)?;
+        if self
+            .documents
+            .insert(key, Opened { version, document })
+            .is_err()
+        {
+            return Err(NO_MEMORY);
+        }
+        Ok(note)
+    }
+
+    fn change(&mut self, alloc: Global, params: &Value) -> Result<String, Fault>
+        ensures stage { self.new.stage ≡ self.old.stage }
+        ensures encoding { self.new.encoding ≡ self.old.encoding }
+    {
+        let uri = uri_of(params).ok_or(WRONG_PARAMS)?;
+        let version = version_of(params).ok_or(WRONG_PARAMS)?;
+        let changes = changes_in(alloc, params)?.ok_or(WRONG_PARAMS)?;
+        let opened = self.documents.get_mut(uri).ok_or(NOT_OPEN)?;
+        opened.change(alloc, version, changes.as_slice())?;
+        published(alloc, uri, version, &opened.document)
+    }
+
+    fn close(&mut self, alloc: Global, params: &Value) -> Result<String, Fault>
+        ensures stage { self.new.stage ≡ self.old.stage }
+        ensures encoding { self.new.encoding ≡ self.old.encoding }
+        ensures err { OnErr result (self.new.documents.entries ≡ self.old.documents.entries) }
+    {
+        let uri = uri_of(params).ok_or(WRONG_PARAMS)?;
+        let note = withdrawn(alloc, uri)?;
+        if self.documents.remove(uri).is_none() {
+            return Err(NOT_OPEN);
+        }
+        Ok(note)
+    }
+}
+
+// The result of `initialize`. Nothing else is granted before it.
+fn started(alloc: Global, method: &str, params: &Value) -> Result<Granted, Fault>
+    ensures grants { IfOk result (λ granted. (method.now ≡ codes "initialize") × (granted.stage ≡ Ready)) }
+    ensures refuses { IfErr result (λ fault. Refuses Fresh method.now fault.code) }
+{
+    if method != "initialize" {
+        return Err(NOT_INITIALIZED);
+    }
+    let encoding = encoding_of(params);
+    Ok(Granted {
+        text: capabilities(alloc, encoding)?,
+        stage: Stage::Ready,
+        encoding,
+    })
+}
+
+// What is said of a message that is none.
+fn no_message() -> Fault
+    ensures { result.code ≡ InvalidRequest }
+{
+    Fault {
+        code: Code::InvalidRequest,
+        text: "not a message of JSON-RPC 2.0",
+    }
+}
+
+// What is sent for a content that is no JSON, or that memory ran out for.
+fn unread(alloc: Global, is_memory: bool) -> Result<Outcome, AllocError>
+    ensures memory { IfOk result (λ outcome. is_memory ≡ true → Reports InternalError null outcome) }
+    ensures no_json { IfOk result (λ outcome. is_memory ≡ false → Reports ParseError null outcome) }
+{
+    let fault = if is_memory { NO_MEMORY } else { NO_JSON };
+    Ok(Outcome::Reply(error(alloc, None, fault)?))
+}
