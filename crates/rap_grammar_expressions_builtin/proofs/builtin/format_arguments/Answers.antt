@@ -1,6 +1,6 @@
 use Rattle.std.proofs.Common.{rules}
 use Rattle.rap_grammar_scripts.proofs.Ends.{gives}
-use Rattle.rap_grammar_frame.proofs.Steps.{then_by, else_by, by_start, by_rule, by_expect, by_complete, turn, answers_something}
+use Rattle.rap_grammar_frame.proofs.Steps.{else_by, by_start, by_rule, by_expect, by_complete, turn, answers_something}
 use Rattle.rap_grammar_expressions_builtin.proofs.builtin.format_arguments.Goals as goal
 
 pub arguments-preserved-in_ok-expect : goal.arguments-preserved-in_ok-expect
@@ -15,17 +15,4 @@ arguments-preserved-in_ok-expect g c = record {
       (by_complete c.in_ok-complete.ensures.state.0
       (else_by c.at-in-arguments-2.ensures c.if-not-at-2.true
       (by_expect c.in_ok-expect.ensures.state gives)))))))) (search rules);
-}
-
-pub arguments-preserved : goal.arguments-preserved
-arguments-preserved g c = record {
-  grew = search rules;
-  script = turn c.arguments.invariant.script
-      (else_by c.at.ensures c.arguments-test.true
-      (else_by c.at-in-arguments.ensures c.if-not-at.true
-      (by_start c.in_ok-m.ensures.state
-      (by_rule (c.in_ok-opt_arg_name.ensures.script _)
-      (by_rule (answers_something (search rules) c.in_ok-expr.ensures.script)
-      (by_complete c.in_ok-complete.ensures.state.0
-      (then_by c.at-in-arguments-2.ensures c.if-not-at-2.false gives))))))) (search rules);
 }
