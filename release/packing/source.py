@@ -2,6 +2,7 @@
 import hashlib
 import os
 import re
+from concurrent.futures import ThreadPoolExecutor
 
 from packing import TOP, Refused, bytes_of, output, read
 
@@ -58,5 +59,8 @@ def sums() -> dict[str, dict[str, str]]:
     for name in below():
         if not os.path.isdir(f'{TOP}/{folder_of(name)}'):
             raise Refused(f'{folder_of(name)} is not there: run `rt ci` first')
-        found[name]['library'] = sum_of(folder_of(name))
+    # Some gigabytes are read, and the sum of a file is made beside others.
+    with ThreadPoolExecutor(os.cpu_count()) as pool:
+        for name, library in zip(below(), pool.map(sum_of, map(folder_of, below()))):
+            found[name]['library'] = library
     return found

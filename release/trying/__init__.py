@@ -99,12 +99,16 @@ def put_samples(folder: str) -> None:
         out.write('7')
 
 
-class Fresh(Place):
-    """A fresh minimal Debian in a folder, with the release in /release."""
+def make_system(at: str, suite: str) -> str:
+    """Makes a fresh minimal Debian in a folder, which is returned."""
+    output(['mmdebstrap', '--quiet', '--variant=apt', '--dpkgopt=force-unsafe-io', f'--include={WITH}', suite, at])
+    return at
 
-    def __init__(self, count: Count, at: str, suite: str, dist: str) -> None:
-        words = ['--quiet', '--variant=apt', '--dpkgopt=force-unsafe-io', f'--include={WITH}']
-        output(['mmdebstrap', *words, suite, at])
+
+class Fresh(Place):
+    """A fresh system in a folder, with the release in /release."""
+
+    def __init__(self, count: Count, at: str, dist: str) -> None:
         shutil.copytree(dist, f'{at}/release')
         put_samples(f'{at}/release/files')
         super().__init__(count, '/release/files', '/root', '/usr/sbin:/usr/bin:/sbin:/bin', [*ENTER, at])

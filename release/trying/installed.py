@@ -3,9 +3,8 @@ from collections.abc import Iterator, Sequence
 
 from packing import TRIPLET, crate_version, read
 from packing.python import COMMAND
+from packing.source import PROGRAMS
 from trying import TESTS, Fresh, Place, shown_in_python
-
-PROGRAMS = ['rast', 'rast_lex', 'rast_page', 'rast_steps']
 
 PACKAGES = ['rast', 'librap0', 'librap-dev', 'python3-rap']
 
@@ -39,8 +38,8 @@ def try_programs(place: Place, before: str = '') -> None:
         *words, file = line.split()
         place.prints(before + line, wanted)
         place.prints(f'cat {file} | {before}{" ".join(words)} /dev/stdin', wanted)
-    # 40,000 levels take more than the 8 MB of stack that a shell gives
-    deep = "head -c 40000 /dev/zero | tr '\\0' '(' > deep.rs; ulimit -S -s 8192"
+    # 60,000 levels take more than the 8 MB of stack that a shell gives
+    deep = "head -c 60000 /dev/zero | tr '\\0' '(' > deep.rs; ulimit -S -s 8192"
     place.prints(f'{deep}; {before}rast 2024 Expr deep.rs > /dev/null; echo $?', '1\n')
     status, out, _ = place.run(f'{before}rast_page 2024 Expr a.rs')
     wanted = '{"file":"a.rs","steps":[0,1,"LITERAL",2,"INT_NUMBER","7",0],"messages":[0]}'
