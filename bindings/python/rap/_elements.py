@@ -1,7 +1,7 @@
 """What trees and lists of tokens have in common: elements of 20 bytes each in one array."""
 from __future__ import annotations
 
-from typing import Any, NamedTuple
+from typing import NamedTuple
 
 import numpy as np
 from numpy.typing import NDArray
@@ -13,7 +13,6 @@ from rap.node import Element, Node, Token
 NO_PARENT = 2**32 - 1
 
 ELEMENT = np.dtype([(name, '<u4') for name in ('kind', 'start', 'end', 'after', 'parent')])
-MESSAGE = np.dtype([(name, '<u8') for name in ('at', 'start', 'end', 'text_start', 'text_end')])
 
 Column = NDArray[np.uint32]
 
@@ -48,8 +47,8 @@ class Error(NamedTuple):
 class Messages(NamedTuple):
     """Messages as the library has written them."""
 
-    rows: NDArray[Any]
-    """for each its position, the range of the token there, and the range of its own text"""
+    rows: NDArray[np.uint64]
+    """for each a row of its position, the range of the token there, and the range of its own text"""
     texts: bytes
     """their texts"""
 
@@ -63,7 +62,7 @@ class Elements:
         self.source = source
         # Five numbers for each element.
         self._array = array
-        self._array.flags.writeable = False
+        self._array.setflags(write=False)
         self.words = self._array.data
         self._messages = messages
         self._errors: list[Error] | None = None
@@ -89,7 +88,8 @@ class Elements:
 
     def columns(self) -> Columns:
         """The elements as NumPy arrays, without a copy."""
-        return Columns(*(self._array[field::5] for field in range(5)))
+        array = self._array
+        return Columns(array[::5], array[1::5], array[2::5], array[3::5], array[4::5])
 
     def element(self, index: int) -> Element:
         """The node or token with this index. What has nothing in it is a token, or an empty node."""

@@ -7,7 +7,7 @@ import numpy as np
 class Source:
     """A text as bytes, with tables of its characters and lines that are made when they are asked for."""
 
-    __slots__ = ('data', 'given', 'is_ascii', '_characters', '_lines')
+    __slots__ = ('data', 'given', '_is_ascii', '_characters', '_lines')
 
     def __init__(self, text: str | bytes) -> None:
         if isinstance(text, str):
@@ -17,7 +17,7 @@ class Source:
         else:
             raise TypeError(f'a text is str or bytes, and not {type(text).__name__}')
         self.given = text if isinstance(text, str) else None
-        self.is_ascii = self.data.isascii()
+        self._is_ascii: bool | None = None
         self._characters: memoryview | None = None
         self._lines: memoryview | None = None
 
@@ -34,7 +34,9 @@ class Source:
 
     def characters(self, offset: int) -> int:
         """How many characters begin before a byte."""
-        if self.is_ascii:
+        if self._is_ascii is None:
+            self._is_ascii = self.data.isascii()
+        if self._is_ascii:
             return offset
         if self._characters is None:
             begins = (np.frombuffer(self.data, np.uint8) & 0xC0) != 0x80

@@ -37,6 +37,19 @@ void makecontext(uint64_t *context, void *function, int count, void *answer, voi
 int swapcontext(uint64_t *from, uint64_t *to);
 ''')
 _libc: Any = _libc_ffi.dlopen(None)
+
+# How many elements, messages and bytes of messages there are, or may be.
+Counts = tuple[int, int, int]
+
+# The bytes of a message: five numbers. So many bytes of messages are kept with a stack.
+MESSAGE, MOST_REPORTS = 40, 1 << 20
+
+# The status, the counts, the messages and their bytes.
+Answer = tuple[int, Counts, bytes, bytes]
+
+# Memory that no one has written to.
+_memory_of: Any = ffi.new_allocator(should_clear_after_alloc=False)
+
 _rap_nodes: Any = ffi.cast('void *', lib.rap_nodes)
 
 
@@ -59,17 +72,30 @@ class Stack:
         lowest = _libc_ffi.from_buffer(self._memory)
         _libc.mprotect(lowest, PAGE, 0)
         self._caller, self._context = (_libc_ffi.new('uint64_t[]', WORDS) for _ in range(2))
-        self._lowest = int(_libc_ffi.cast('size_t', lowest))
-        self._after = int(_libc_ffi.cast('size_t', self._caller))
+        self._answer = ffi.new('struct rap_nodes_answer *')
+        # Memory for messages, and how many bytes it has.
+        self._reports, self.reports = _memory_of('uint8_t[]', 1), 1
+        # What a context of the C library has of these stays when it takes the rest from the caller.
+        self._context[LINK] = int(_libc_ffi.cast('size_t', self._caller))
+        self._context[STACK], self._context[SIZE] = int(_libc_ffi.cast('size_t', lowest)), size
 
-    def rap_nodes(self, words: tuple[Any, ...]) -> Any:
-        """What `rap_nodes` returns of these words."""
-        answer, context = ffi.new('struct rap_nodes_answer *'), self._context
+    def rap_nodes(self, text: bytes, edition: int, entry: int, elements: Any, rooms: Counts) -> Answer:
+        """What `rap_nodes` returns of a text."""
+        most, most_messages, most_bytes = rooms
+        if self.reports < MESSAGE * most_messages + most_bytes:
+            self._reports = _memory_of('uint8_t[]', MESSAGE * most_messages + most_bytes)
+            self.reports = MESSAGE * most_messages + most_bytes
+        answer, context, reports = self._answer, self._context, self._reports
+        texts = reports + MESSAGE * most_messages
         _libc.getcontext(context)
-        context[LINK], context[STACK], context[SIZE] = self._after, self._lowest, self.size
-        _libc.makecontext(context, _rap_nodes, 1 + len(words), answer, *words)
+        _libc.makecontext(context, _rap_nodes, 11, answer, text, len(text), edition, entry, elements, most,
+                          reports, most_messages, texts, most_bytes)
         _libc.swapcontext(self._caller, context)
-        return answer
+        messages, size = answer.messages, answer.message_bytes
+        counts = answer.elements, messages, size
+        if not messages or messages > most_messages or size > most_bytes:
+            return answer.status, counts, b'', b''
+        return answer.status, counts, ffi.buffer(reports, MESSAGE * messages)[:], ffi.buffer(texts, size)[:]
 
 
 class _Local(threading.local):
@@ -81,15 +107,17 @@ class _Local(threading.local):
 _local = _Local()
 
 
-def rap_nodes(*words: Any) -> Any:
-    """What `rap_nodes` of the library returns of these words, of which the second is the length of the text.
-    MemoryError where there is no stack for it."""
-    need = needed(words[1]) + OWN
+def rap_nodes(text: bytes, edition: int, entry: int, elements: Any, rooms: Counts) -> Answer:
+    """What `rap_nodes` of the library returns of a text: the status, how many elements, messages and bytes of messages
+    there are, and the messages and their bytes, if there is room for them. MemoryError where there is no stack for
+    it."""
+    need = needed(len(text)) + OWN
     if need > MOST_KEPT:
-        return Stack(need).rap_nodes(words)
+        return Stack(need).rap_nodes(text, edition, entry, elements, rooms)
     stack, _local.kept = _local.kept, None
     if stack is None or stack.size < need:
         stack = Stack(max(LEAST_KEPT, 1 << (need - 1).bit_length()))
-    answer = stack.rap_nodes(words)
-    _local.kept = stack
+    answer = stack.rap_nodes(text, edition, entry, elements, rooms)
+    if stack.reports <= MOST_REPORTS:
+        _local.kept = stack
     return answer

@@ -9,16 +9,19 @@ import numpy as np
 from numpy.typing import NDArray
 
 from rap import _stack
-from rap._elements import ELEMENT, MESSAGE, NO_PARENT, Column, Elements, Error, Messages
+from rap._elements import ELEMENT, NO_PARENT, Column, Elements, Error, Messages
 from rap._html import page
 from rap._library import ffi, lib, status_text
 from rap._source import Source
+from rap._stack import Counts
 from rap.node import Element, Node, Token
-from rap.words import Edition, Entry
+from rap.words import Edition, Entry, edition_of, entry_of
 
 STEP = np.dtype([('what', '<u4'), ('kind', '<u4'), ('at', '<u8'), ('start', '<u8'), ('end', '<u8')])
 
-NO_MESSAGES = Messages(np.empty(0, MESSAGE), b'')
+RAP_OK: int = lib.RAP_OK
+
+NO_MESSAGES = Messages(np.empty((0, 5), np.uint64), b'')
 
 # How a character is written in quotes that does not stand for itself.
 ESCAPES = {'"': '\\"', '\\': '\\\\', '\n': '\\n', '\r': '\\r', '\t': '\\t', '\0': '\\0'}
@@ -32,12 +35,13 @@ def _quoted(text: str) -> str:
 
 def _check(status: int, source: Source) -> None:
     """Raises what a status that is not RAP_OK stands for."""
+    if status == RAP_OK:
+        return
     if status == lib.RAP_NO_MEMORY:
         raise MemoryError(status_text(status))
     if status == lib.RAP_NOT_UTF8:
         source.data.decode()
-    if status != lib.RAP_OK:
-        raise ValueError(status_text(status))
+    raise ValueError(status_text(status))
 
 
 class Tree(Elements):
@@ -123,24 +127,15 @@ class Tokens(Elements, Sequence[Token]):
         return Token(self, found) if isinstance(found, int) else [Token(self, it) for it in found]
 
 
-def _tree_of(source: Source, edition: Edition, entry: Entry, rooms: tuple[int, int, int]
-             ) -> tuple[Any, Column, NDArray[np.uint64], NDArray[np.uint8]]:
-    """Calls the library with these rooms for elements, messages and bytes of messages, five numbers each of the former.
-    Only what is written to takes memory."""
-    elements, messages = np.empty(5 * rooms[0] + 1, np.uint32), np.empty(5 * rooms[1] + 1, np.uint64)
-    texts = np.empty(rooms[2] + 1, np.uint8)
-    room = ffi.from_buffer
-    answer = _stack.rap_nodes(room(source.data or b'\0'), len(source.data), int(edition), entry.number,
-                              room(elements), rooms[0], room(messages), rooms[1], room(texts), rooms[2])
-    _check(answer.status, source)
-    return answer, elements, messages, texts
-
-
-def _messages_of(answer: Any, messages: NDArray[np.uint64], texts: NDArray[np.uint8]) -> Messages:
-    """The messages that the library has written."""
-    if not answer.messages:
-        return NO_MESSAGES
-    return Messages(messages[:5 * answer.messages].copy().view(MESSAGE), texts[:answer.message_bytes].tobytes())
+def _tree_of(source: Source, edition: Edition, entry: Entry, rooms: Counts) -> tuple[Counts, Column, Messages]:
+    """Calls the library with these rooms for elements, messages and bytes of messages. Returns how many there are, the
+    elements, five numbers each, and the messages if there is room for them. Only what is written to takes memory."""
+    elements = np.empty(5 * rooms[0] + 1, np.uint32)
+    status, counts, rows, texts = _stack.rap_nodes(source.data, int(edition), entry.number, ffi.from_buffer(elements),
+                                                   rooms)
+    _check(status, source)
+    messages = Messages(np.frombuffer(rows, np.uint64).reshape(-1, 5), texts) if rows else NO_MESSAGES
+    return counts, elements, messages
 
 
 def parse(text: str | bytes, edition: str = '2024', entry: str = 'SourceFile') -> Tree:
@@ -153,31 +148,30 @@ def parse(text: str | bytes, edition: str = '2024', entry: str = 'SourceFile') -
     comments. MemoryError: there is no memory, or no stack for a text of this length.
 
     No text ends the process, however deeply it nests. Other threads run while the library does."""
-    source, edition, entry = Source(text), Edition(edition), Entry(entry)
+    source, edition, entry = Source(text), edition_of(edition), entry_of(entry)
     length = len(source.data)
     try:
         # A text of programs has half as many elements as bytes.
         rooms = length + 256, length // 16 + 64, length + 4096
-        answer, elements, messages, texts = _tree_of(source, edition, entry, rooms)
+        counts, elements, messages = _tree_of(source, edition, entry, rooms)
     except MemoryError:
         rooms = 0, 0, 0
-        answer, elements, messages, texts = _tree_of(source, edition, entry, rooms)
-    wanted = answer.elements, answer.messages, answer.message_bytes
-    if wanted[0] > rooms[0] or wanted[1] > rooms[1] or wanted[2] > rooms[2]:
-        answer, elements, messages, texts = _tree_of(source, edition, entry, wanted)
+        counts, elements, messages = _tree_of(source, edition, entry, rooms)
+    if counts[0] > rooms[0] or counts[1] > rooms[1] or counts[2] > rooms[2]:
+        counts, elements, messages = _tree_of(source, edition, entry, counts)
     # Where much room is left the elements are copied. Else it stays behind them: it was not written to, and memory that
     # is given back as it was taken is there for the next call without a fault.
-    filled = elements[:5 * answer.elements]
+    filled = elements[:5 * counts[0]]
     if 4 * len(filled) < len(elements):
         filled = filled.copy()
-    return Tree(source, filled, _messages_of(answer, messages, texts), edition, entry)
+    return Tree(source, filled, messages, edition, entry)
 
 
 def tokens(text: str | bytes, edition: str = '2024') -> Tokens:
     """The tokens of a text, white space and comments included. Nothing is parsed, and the messages are the lexer's.
 
     The errors are those of [`parse`], but for the number of tokens and the stack."""
-    source, edition = Source(text), Edition(edition)
+    source, edition = Source(text), edition_of(edition)
     length = len(source.data)
     data = ffi.from_buffer('uint8_t[]', source.data or b'\0')
     rooms = length // 2 + 64, length // 16 + 64
@@ -202,8 +196,7 @@ def _tokens_of(source: Source, edition: Edition, steps: NDArray[Any], texts: byt
         array[name] = written[name]
     array['after'] = np.arange(1, len(written) + 1)
     array['parent'] = NO_PARENT
-    rows = np.empty(len(reported), MESSAGE)
-    rows['at'], rows['text_start'], rows['text_end'] = (reported[it] for it in ('at', 'start', 'end'))
     at = np.searchsorted(written['start'], reported['at'], 'right') - 1
-    rows['start'], rows['end'] = written['start'][at], written['end'][at]
+    columns = reported['at'], written['start'][at], written['end'][at], reported['start'], reported['end']
+    rows = np.stack(columns, axis=1)
     return Tokens(source, array.view(np.uint32), Messages(rows, texts), edition)

@@ -87,6 +87,16 @@ def test_a_call_in_a_call() -> None:
     assert found == [size_of(text)] * 10
 
 
+def test_messages_are_those_of_their_tree() -> None:
+    tree, same = rap.parse('1 +', entry='Expr'), rap.parse('1 +', entry='Expr')
+    wanted = same.errors
+    many = rap.parse('(' * 3000, entry='Expr')
+    # more than there is room for at first, which is kept for no other text
+    assert many.error_count > 3000 // 16 + 64 and len(many.errors) == many.error_count
+    assert all(it.message.isprintable() and it.range[0] <= it.position <= 3000 for it in many.errors)
+    assert tree.errors == wanted == [rap.Error('expected expression', (3, 3), 3)]
+
+
 def test_a_fault_is_the_callers() -> None:
     text = b'a' * 100_000 + b'\xff'
     for _ in range(3):
