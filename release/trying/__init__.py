@@ -1,5 +1,6 @@
 """Where the tests of a release run lines of the shell, and how they count."""
 import glob
+import json
 import os
 import re
 import shutil
@@ -8,6 +9,7 @@ import textwrap
 from collections.abc import Sequence
 
 from packing import TOP, output, read
+from packing.source import SERVER
 
 # What the fresh system has beside the packages: a compiler, what finds a library for it, a reader of manuals, and what
 # the package for Python needs and is tested with.
@@ -84,6 +86,19 @@ def shown_in_python() -> list[str]:
     return [textwrap.dedent(it).strip('\n') + '\n' for it in found]
 
 
+def deep_exchange() -> str:
+    """What an editor sends that opens a text which nests 60,000 levels deep, and ends. Two requests are answered, and
+    the messages about the text come between."""
+    text = 'fn f() { ' + '(' * 60000
+    document = {'uri': 'file:///a.rs', 'languageId': 'rust', 'version': 1, 'text': text}
+    sent: list[dict[str, object]] = [
+        {'id': 1, 'method': 'initialize', 'params': {'capabilities': {}}},
+        {'method': 'textDocument/didOpen', 'params': {'textDocument': document}},
+        {'id': 2, 'method': 'shutdown'}, {'method': 'exit'}]
+    lines = [json.dumps({'jsonrpc': '2.0', **it}) for it in sent]
+    return ''.join(f'Content-Length: {len(it)}\r\n\r\n{it}' for it in lines)
+
+
 def put_samples(folder: str) -> None:
     """Writes the files that the programs are run on."""
     os.makedirs(folder)
@@ -97,6 +112,10 @@ def put_samples(folder: str) -> None:
         out.write(ITEM)
     with open(f'{folder}/a.rs', 'w', encoding='ascii') as out:
         out.write('7')
+    for name, end in [('stdin', 'sent'), ('stdout', 'answered')]:
+        shutil.copy(f'{TOP}/crates/{SERVER}/{name}', f'{folder}/{SERVER}.{end}')
+    with open(f'{folder}/{SERVER}.deep', 'w', encoding='ascii', newline='') as out:
+        out.write(deep_exchange())
 
 
 def make_system(at: str, suite: str) -> str:

@@ -3,10 +3,10 @@ from collections.abc import Iterator, Sequence
 
 from packing import TRIPLET, crate_version, read
 from packing.python import COMMAND
-from packing.source import PROGRAMS
+from packing.source import PROGRAMS, SERVER
 from trying import TESTS, Fresh, Place, shown_in_python
 
-PACKAGES = ['rast', 'librap0', 'librap-dev', 'python3-rap']
+PACKAGES = ['rast', 'rast-server', 'librap0', 'librap-dev', 'python3-rap']
 
 # A project of CMake, of a version of the library: the same program over the shared library and over the static one.
 PROJECT = '''cmake_minimum_required(VERSION 3.18)
@@ -47,7 +47,16 @@ def try_programs(place: Place, before: str = '') -> None:
     for name in PROGRAMS[1:]:
         place.prints(f'{before}{name} --version', f'{name} {crate_version()}\n')
         status, out, _ = place.run(f'{before}{name} --help')
-        place.count.check(status == 0 and out.startswith(f'usage: {name} '), f'{before}{name} --help: {status}\n{out}')
+        is_told = status == 0 and out.startswith(f'usage: {name}')
+        place.count.check(is_told, f'{before}{name} --help: {status}\n{out}')
+
+
+def try_server(place: Place, before: str = '') -> None:
+    """Holds two exchanges with the language server: the recorded one, and one about a text that nests deep. `before` is
+    as above."""
+    place.prints(f'{before}{SERVER} < {SERVER}.sent > answered && cmp answered {SERVER}.answered && rm answered', '')
+    line = f"ulimit -S -s 8192; {before}{SERVER} < {SERVER}.deep | grep -o 'Content-Length: ' | wc -l"
+    place.prints(f'set -o pipefail; {line}', '3\n')
 
 
 def try_words(place: Place, share: str = '/usr/share', more: Sequence[str] = ()) -> None:
@@ -129,6 +138,7 @@ def try_packages(fresh: Fresh) -> None:
     if not fresh.succeeds(f'{apt} install ./*.deb', '/release'):
         return
     try_programs(fresh)
+    try_server(fresh)
     try_words(fresh, more=[COMMAND])
     try_library(fresh, '/usr/share/doc/librap-dev/examples')
     try_cmake(fresh, '/usr/share/doc/librap-dev/examples')
@@ -148,6 +158,7 @@ def try_tar(place: Place, file: str, reads: bool, builds: bool) -> None:
     prefix = f'{place.home}/prefix'
     place.succeeds(f'mkdir -p {prefix} && tar -xzf {file} -C {prefix} --strip-components=1')
     try_programs(place, f'{prefix}/bin/')
+    try_server(place, f'{prefix}/bin/')
     if reads:
         try_words(place, f'{prefix}/share')
     try_library(place, f'{prefix}/share/doc/rap/examples', f'PKG_CONFIG_PATH={prefix}/lib/pkgconfig ',
