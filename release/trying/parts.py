@@ -1,10 +1,13 @@
 """The parts of the test of a release, which are tried beside one another, each in a folder of its own."""
 import glob
 import os
+import re
 import shutil
 import subprocess
-from collections.abc import Callable
+import sys
+from collections.abc import Callable, Iterator
 from concurrent.futures import Future, ThreadPoolExecutor
+from contextlib import contextmanager
 from typing import Optional
 
 from packing import Refused, output
@@ -22,6 +25,33 @@ MODULES = {'cffi': 'python3-cffi', 'numpy': 'python3-numpy', 'pip': 'python3-pip
 
 # A system that is being made in a folder, which is the result.
 System = Future[str]
+
+# The variable that a script finds set which has mounts of its own, and the kilobytes of memory that must be free.
+OWN_MOUNTS, FREE = 'RAP_OWN_MOUNTS', 6_000_000
+
+
+def take_own_mounts() -> None:
+    """Starts this script again with mounts of its own, if it may have them: they end with it, however it ends."""
+    if os.geteuid() == 0 and OWN_MOUNTS not in os.environ and shutil.which('unshare'):
+        if subprocess.run(['unshare', '--mount', 'true'], stderr=subprocess.DEVNULL, check=False).returncode == 0:
+            words = ['unshare', '--mount', sys.executable, *sys.argv]
+            os.execvpe('unshare', words, {**os.environ, OWN_MOUNTS: 'yes'})
+
+
+@contextmanager
+def folder_in_memory(at: str) -> Iterator[str]:
+    """A folder, in memory if there is enough: the files of a system are many, and are made and removed in a moment."""
+    os.makedirs(at)
+    with open('/proc/meminfo', encoding='ascii') as file:
+        found = re.search(r'MemAvailable: +(\d+) kB', file.read())
+    words = ['mount', '-t', 'tmpfs', '-o', 'mode=755,size=3g', 'rap', at]
+    is_mounted = OWN_MOUNTS in os.environ and found is not None and int(found[1]) > FREE and subprocess.run(
+        words, stderr=subprocess.DEVNULL, check=False).returncode == 0
+    try:
+        yield at
+    finally:
+        if is_mounted:
+            subprocess.run(['umount', '--lazy', at], check=False)
 
 
 def has(part: str, *tools: str) -> bool:
