@@ -1,13 +1,7 @@
 //! The knot of the grammar: the function that runs any recursive rule.
-ghost use Rattle.std.specs.Prelude.{◌≡◌, ◌+◌, ◌<◌, ◌≤◌, IfOk, OnOk, false, suc};
+ghost use Rattle.std.specs.Prelude.{◌≡◌, ◌+◌, ◌<◌, ◌≤◌, IfOk, suc};
 ghost use Rattle.rap_events.specs.State.{state};
-ghost use Rattle.rap_grammar_frame.specs.Grew.{Within};
-ghost use Rattle.rap_grammar_frame.specs.Room.{pattern_room, recovery_events, single_pattern_room};
-ghost use Rattle.rap_grammar_frame.specs.Rules.{PatternUntil, Pre, Post};
-ghost use Rattle.rap_grammar_scripts.specs.Exec.{Does};
-ghost use Rattle.rap_grammar_scripts.specs.Patterns as script;
-ghost use Rattle.rap_grammar_scripts.specs.Recovery.{stops_of};
-ghost use Rattle.rap_grammar_scripts.specs.Script.{something};
+ghost use Rattle.rap_grammar_frame.specs.Rules.{Pre, Post};
 
 use crate::statements::stmt;
 use rap_base::no_memory::NoMemory;
@@ -19,7 +13,7 @@ use rap_grammar_frame::knot::{Answer, Grammar};
 use rap_grammar_frame::token_tree::token_tree;
 use rap_grammar_items::items::item_or_macro;
 use rap_grammar_items_kinds::use_item::use_tree;
-use rap_grammar_patterns::patterns::{pattern_r, pattern_single_r};
+use rap_grammar_patterns::patterns::{pattern_elsewhere, pattern_r, pattern_single_elsewhere};
 use rap_grammar_scripts::rule::Rule;
 use rap_grammar_types::generic_args::generic_arg;
 use rap_grammar_types::generic_params::{bounds_without_colon, generic_param_list, where_clause};
@@ -159,26 +153,4 @@ pub fn run(p: &mut Parser<'_>, rule: Rule) -> Result<Answer, NoMemory>
             Ok(None)
         }
     }
-}
-
-// A pattern that is no arm's. Not inlined into `run`, which would keep the constant in a register over its calls.
-#[inline(never)]
-#[tactic(auto)]
-fn pattern_elsewhere<G: Grammar>(p: &mut Parser<'_>, g: &G) -> Result<(), NoMemory>
-    requires within { Within G.valid G.left g.now (state p.old) }
-    ensures reads { OnOk result (PatternUntil (stops_of false) 8 pattern_room (state p.old) (state p.new)) }
-    ensures script { OnOk result (Does (G.left g.now) (script.pattern_r false) something (state p.old) (state p.new)) }
-{
-    pattern_r(p, g, false)
-}
-
-// The same without alternatives.
-#[inline(never)]
-#[tactic(auto)]
-fn pattern_single_elsewhere<G: Grammar>(p: &mut Parser<'_>, g: &G) -> Result<(), NoMemory>
-    requires within { Within G.valid G.left g.now (state p.old) }
-    ensures reads { OnOk result (PatternUntil (stops_of false) recovery_events single_pattern_room (state p.old) (state p.new)) }
-    ensures script { OnOk result (Does (G.left g.now) (script.pattern_single_r false) something (state p.old) (state p.new)) }
-{
-    pattern_single_r(p, g, false)
 }

@@ -105,6 +105,18 @@ fn alternatives<G: Grammar>(p: &mut Parser<'_>, g: &G, in_arm: bool) -> Result<(
     Ok(())
 }
 
+/// A pattern that is no arm's, as [`pattern_r`] reads it.
+// A call of its own, so that a caller that runs other rules too keeps no constant over their calls.
+#[inline(never)]
+#[tactic(auto)]
+pub fn pattern_elsewhere<G: Grammar>(p: &mut Parser<'_>, g: &G) -> Result<(), NoMemory>
+    requires within { Within G.valid G.left g.now (state p.old) }
+    ensures reads { OnOk result (PatternUntil (stops_of false) 8 pattern_room (state p.old) (state p.new)) }
+    ensures script { OnOk result (Does (G.left g.now) (script.pattern_r false) something (state p.old) (state p.new)) }
+{
+    pattern_r(p, g, false)
+}
+
 /// A pattern without alternatives, as `a`, `0..=9`, `..9` and `..`.
 #[tactic(auto, unfolding(rap_grammar_scripts::specs::Patterns::pattern_single_r))]
 pub fn pattern_single_r<G: Grammar>(p: &mut Parser<'_>, g: &G, in_arm: bool) -> Result<(), NoMemory>
@@ -126,6 +138,18 @@ pub fn pattern_single_r<G: Grammar>(p: &mut Parser<'_>, g: &G, in_arm: bool) -> 
     };
     range_op(p, g, lhs, in_arm)?;
     Ok(())
+}
+
+/// A pattern without alternatives that is no arm's, as [`pattern_single_r`] reads it.
+// A call of its own, as [`pattern_elsewhere`] is.
+#[inline(never)]
+#[tactic(auto)]
+pub fn pattern_single_elsewhere<G: Grammar>(p: &mut Parser<'_>, g: &G) -> Result<(), NoMemory>
+    requires within { Within G.valid G.left g.now (state p.old) }
+    ensures reads { OnOk result (PatternUntil (stops_of false) recovery_events single_pattern_room (state p.old) (state p.new)) }
+    ensures script { OnOk result (Does (G.left g.now) (script.pattern_single_r false) something (state p.old) (state p.new)) }
+{
+    pattern_single_r(p, g, false)
 }
 
 /// A range without a start, as `..=9`.
