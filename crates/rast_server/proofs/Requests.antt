@@ -1,8 +1,8 @@
 -- What is sent for each kind of message.
-use Rattle.std.proofs.Common.{◌≡◌, ◌⊎◌, ℕ, Bool, Bor, MatchOption, String, true, false, IfOk, IsUtf8, List, Option, Some, None, Result, Ok, Err, inl, inr, refl, sym, subst, option_map, string_bytes}
+use Rattle.std.proofs.Common.{◌≡◌, ℕ, Bool, Bor, MatchOption, String, true, false, IfOk, IsUtf8, List, Option, Some, None, Result, Ok, Err, refl, sym, subst, option_map, string_bytes}
 use Rattle.std.specs.declared.alloc.AllocError.{AllocError}
 use Rattle.std.specs.declared.alloc.Global.{Global}
-use Rattle.serde_json.specs.Data.{Data, null, boolean, number, string, array, object, Num, unsigned, negative, float}
+use Rattle.serde_json.specs.Data.{Data, null, boolean, number, string, array, object, unsigned, negative, float}
 use Rattle.serde_json.specs.Read.{read}
 use Rattle.serde_json.specs.View.{view}
 use Rattle.serde_json.specs.declared.value.Value.{Value}

@@ -1,4 +1,4 @@
-use Rattle.std.proofs.Common.{◌≤◌, [], ap, arith, refl, take}
+use Rattle.std.proofs.Common.{[], ap, arith, refl, take}
 use Rattle.rast_frames.specs.Stream.{waiting}
 use Rattle.rast_server.proofs.Runs.{begun, none_consumed, ran_dry, ran_on, ran_out, reported_since}
 use Rattle.rast_server.proofs.run.run.Goals as goal
