@@ -17,8 +17,9 @@ use Rattle.rast_server.specs.declared.server.Stage.TheVariants.{Fresh, Ready, Sh
 -- the requests about a document
 abbrev pub IsAboutDocument : List ℕ → Type 0
 IsAboutDocument m = (m ≡ codes "textDocument/documentSymbol") ⊎ ((m ≡ codes "textDocument/foldingRange")
-    ⊎ ((m ≡ codes "textDocument/selectionRange") ⊎ ((m ≡ codes "textDocument/semanticTokens/full")
-    ⊎ ((m ≡ codes "textDocument/semanticTokens/range") ⊎ (m ≡ codes "rust-analyzer/viewSyntaxTree")))))
+    ⊎ ((m ≡ codes "textDocument/selectionRange") ⊎ ((m ≡ codes "textDocument/documentHighlight")
+    ⊎ ((m ≡ codes "textDocument/semanticTokens/full") ⊎ ((m ≡ codes "textDocument/semanticTokens/range")
+    ⊎ (m ≡ codes "rust-analyzer/viewSyntaxTree"))))))
 
 -- the notifications that the server heeds, but for `exit`
 abbrev pub IsHeeded : List ℕ → Type 0

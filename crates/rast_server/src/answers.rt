@@ -162,6 +162,25 @@ pub fn selections(
     Ok(Some(json))
 }
 
+/// What belongs together with what stands at an offset.
+pub fn highlights(
+    alloc: Global,
+    analysis: &Analysis<'_>,
+    offset: usize,
+) -> Result<String, AllocError> {
+    let list = analysis.highlights(alloc, offset)?;
+    let mut json = String::from_str(alloc, "[")?;
+    let mut is_first = true;
+    for extent in list.as_slice() {
+        push_comma(&mut json, &mut is_first)?;
+        json.push_str("{\"range\":")?;
+        push_range(&mut json, analysis.document(), extent.start, extent.end)?;
+        json.push_str("}")?;
+    }
+    json.push_str("]")?;
+    Ok(json)
+}
+
 /// Adds the five numbers of a token.
 fn push_token(json: &mut String, token: &Delta) -> Result<(), AllocError> {
     let Delta {

@@ -30,7 +30,7 @@ pub fn capabilities(alloc: Global, encoding: Encoding) -> Result<String, AllocEr
     json.push_str(name_of(encoding))?;
     json.push_str("\",\"textDocumentSync\":{\"openClose\":true,\"change\":2}")?;
     json.push_str(",\"documentSymbolProvider\":true,\"foldingRangeProvider\":true")?;
-    json.push_str(",\"selectionRangeProvider\":true")?;
+    json.push_str(",\"selectionRangeProvider\":true,\"documentHighlightProvider\":true")?;
     json.push_str(
         ",\"semanticTokensProvider\":{\"full\":true,\"range\":true,\"legend\":{\"tokenTypes\":[",
     )?;

@@ -18,8 +18,8 @@ const PROGRAM: Program = Program {
     usage: "usage: rast_server\n",
     options: "
 A language server for Rust texts over standard input and output, by the Language Server Protocol 3.17. It needs no
-project. It answers: diagnostics of what is open, documentSymbol, foldingRange, selectionRange, semanticTokens of a
-text or a range, and rust-analyzer/viewSyntaxTree.
+project. It answers: diagnostics of what is open, documentSymbol, foldingRange, selectionRange, documentHighlight,
+semanticTokens of a text or a range, and rust-analyzer/viewSyntaxTree.
 
   --help     prints this
   --version  prints the version

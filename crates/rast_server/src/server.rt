@@ -8,14 +8,14 @@ ghost use Rattle.rast_messages.specs.declared.reply.Code.TheVariants.{InternalEr
 ghost use Rattle.rast_server.specs.Answered.{Answers, Grants, Heeds, IsAboutDocument, IsHeeded, IsOfDocument, IsAnswer, Refuses, Reports, status_of};
 ghost use Rattle.rast_server.specs.declared.server.Stage.TheVariants.{Fresh, Ready, ShutDown};
 
-use crate::answers::{folds, push_diagnostics, selections, symbols, tokens, tree};
+use crate::answers::{folds, highlights, push_diagnostics, selections, symbols, tokens, tree};
 use crate::initialize::capabilities;
 use ra_ap_parser::{Edition, NoMemory, TextFault};
 use rast_answers::{Analysis, Diagnostic};
 use rast_document::{Change, ChangeFault, Document, Encoding};
 use rast_messages::{
     Code, Fault, Message, NO_MEMORY, changes_in, classify, encoding_of, error, log, notification,
-    positions_in, push_string, span_in, success, uri_of, version_of,
+    position_in, positions_in, push_string, span_in, success, uri_of, version_of,
 };
 use serde_json::Value;
 use std::alloc::{AllocError, Global};
@@ -206,6 +206,16 @@ fn selected(alloc: Global, analysis: &Analysis<'_>, params: &Value) -> Result<St
     selections(alloc, analysis, positions.as_slice())?.ok_or(NO_PLACE)
 }
 
+/// What belongs together with what stands at the position of a message.
+fn highlighted(alloc: Global, analysis: &Analysis<'_>, params: &Value) -> Result<String, Fault>
+    ensures { IfErr result (λ fault. IsOfDocument fault.code) }
+{
+    let place = params.get("position").ok_or(WRONG_PARAMS)?;
+    let position = position_in(place).ok_or(WRONG_PARAMS)?;
+    let offset = analysis.document().offset(position).ok_or(NO_PLACE)?;
+    Ok(highlights(alloc, analysis, offset)?)
+}
+
 /// The tokens of the range of a message.
 fn tokens_of_range(alloc: Global, analysis: &Analysis<'_>, params: &Value) -> Result<String, Fault>
     ensures { IfErr result (λ fault. IsOfDocument fault.code) }
@@ -232,6 +242,7 @@ fn result_of(
         "textDocument/documentSymbol" => Ok(symbols(alloc, &analysis)?),
         "textDocument/foldingRange" => Ok(folds(alloc, &analysis)?),
         "textDocument/selectionRange" => selected(alloc, &analysis, params),
+        "textDocument/documentHighlight" => highlighted(alloc, &analysis, params),
         "textDocument/semanticTokens/full" => {
             let list = analysis.tokens(alloc)?;
             Ok(tokens(alloc, list.as_slice())?)
@@ -250,6 +261,7 @@ fn is_about_document(method: &str) -> bool
         "textDocument/documentSymbol"
             | "textDocument/foldingRange"
             | "textDocument/selectionRange"
+            | "textDocument/documentHighlight"
             | "textDocument/semanticTokens/full"
             | "textDocument/semanticTokens/range"
             | "rust-analyzer/viewSyntaxTree"
