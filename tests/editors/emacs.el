@@ -54,6 +54,9 @@
 (rast-check (= 2 (length (rast-ask :textDocument/foldingRange))) "folds")
 (let ((selected (aref (rast-ask :textDocument/selectionRange :positions [(:line 2 :character 8)]) 0)))
   (rast-check (plist-get selected :parent) "selection"))
+(let* ((together (rast-ask :textDocument/documentHighlight :position '(:line 3 :character 4)))
+       (start (plist-get (plist-get (aref together 0) :range) :start)))
+  (rast-check (and (= 2 (length together)) (= 1 (plist-get start :line)) (= 18 (plist-get start :character))) "highlights"))
 (let ((data (plist-get (rast-ask :textDocument/semanticTokens/full) :data)))
   (rast-check (and (zerop (% (length data) 5)) (= 2 (aref data 2))) "tokens"))
 

@@ -57,6 +57,8 @@ check(folds[2].startLine == 1 and folds[2].endLine == 3, 'inner fold')
 local selected = ask('textDocument/selectionRange', { positions = { { line = 2, character = 8 } } })
 check(selected[1].range.start.character == 8 and selected[1].range['end'].character == 12, 'selection')
 check(selected[1].parent, 'selection without what is around it')
+local together = ask('textDocument/documentHighlight', { position = { line = 3, character = 4 } })
+check(#together == 2 and together[1].range.start.line == 1 and together[1].range.start.character == 18, 'highlights')
 local tokens = ask('textDocument/semanticTokens/full')
 check(#tokens.data % 5 == 0 and tokens.data[3] == 2 and tokens.data[4] == 1, 'tokens')
 
