@@ -1,3 +1,4 @@
 pub mod Messages
+pub mod Params
 pub mod Places
 pub mod Replies

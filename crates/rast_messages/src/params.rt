@@ -1,7 +1,8 @@
 //! What the parameters of a message say.
-ghost use Rattle.std.specs.Prelude.{◌≡◌, option_and_then};
+ghost use Rattle.std.specs.Prelude.{◌≡◌, IfOk, map, option_and_then, option_map};
 ghost use Rattle.serde_json.specs.Find.{as_number, as_u64};
 ghost use Rattle.serde_json.specs.View.{view};
+ghost use Rattle.rast_messages.specs.Params.{change_in, changes_in, positions_in, said, uri_in, version_in};
 ghost use Rattle.rast_messages.specs.Places.{position_in, span_in};
 
 use rast_document::{Change, Encoding, Position, Span};
@@ -35,15 +36,17 @@ fn offers(list: Option<&Value>, name: &str) -> bool {
 }
 
 /// The name of the document that a message is about.
-pub fn uri_of(params: &Value) -> Option<&str> {
+pub fn uri_of(params: &Value) -> Option<&str>
+    ensures { option_map (λ uri. uri.now) result ≡ uri_in (view params.now) }
+{
     params.pointer("/textDocument/uri").and_then(Value::as_str)
 }
 
 /// The version of the document that a message is about.
-pub fn version_of(params: &Value) -> Option<i64> {
-    params
-        .pointer("/textDocument/version")
-        .and_then(Value::as_i64)
+pub fn version_of(params: &Value) -> Option<i64>
+    ensures { result ≡ version_in (view params.now) }
+{
+    params.pointer("/textDocument/version")?.as_i64()
 }
 
 /// A number of lines or units.
@@ -73,7 +76,9 @@ pub fn span_in(value: &Value) -> Option<Span>
 }
 
 /// A change: of a range, or of the whole text if there is none.
-fn change_in(value: &Value) -> Option<Change<'_>> {
+fn change_in(value: &Value) -> Option<Change<'_>>
+    ensures { option_map said result ≡ change_in (view value.now) }
+{
     let text = value.get("text").and_then(Value::as_str)?;
     let span = match value.get("range") {
         None => None,
@@ -83,7 +88,9 @@ fn change_in(value: &Value) -> Option<Change<'_>> {
 }
 
 /// The changes of a `didChange`. `None` if they are none. The error means out of memory.
-pub fn changes_in(alloc: Global, params: &Value) -> Result<Option<Vec<Change<'_>>>, AllocError> {
+pub fn changes_in(alloc: Global, params: &Value) -> Result<Option<Vec<Change<'_>>>, AllocError>
+    ensures { IfOk result (λ found. option_map (λ changes. map said changes.items) found ≡ changes_in (view params.now)) }
+{
     let Some(list) = params.get("contentChanges").and_then(Value::as_array) else {
         return Ok(None);
     };
@@ -98,7 +105,9 @@ pub fn changes_in(alloc: Global, params: &Value) -> Result<Option<Vec<Change<'_>
 }
 
 /// The positions of a `selectionRange`. `None` if they are none. The error means out of memory.
-pub fn positions_in(alloc: Global, params: &Value) -> Result<Option<Vec<Position>>, AllocError> {
+pub fn positions_in(alloc: Global, params: &Value) -> Result<Option<Vec<Position>>, AllocError>
+    ensures { IfOk result (λ found. option_map (λ positions. positions.items) found ≡ positions_in (view params.now)) }
+{
     let Some(list) = params.get("positions").and_then(Value::as_array) else {
         return Ok(None);
     };
