@@ -11,7 +11,7 @@ use Rattle.rast_messages.specs.Messages.{IsNoMessage, IsNotification, IsRequest,
 use Rattle.rast_messages.specs.Replies.{error_text}
 use Rattle.rast_messages.specs.declared.reply.Fault.{Fault}
 use Rattle.rast_messages.specs.declared.reply.Code.TheVariants.{InternalError, InvalidRequest, ParseError}
-use Rattle.rast_server.specs.Answered.{Answers, Heeds, IsAnswer, Reports, id_or_null}
+use Rattle.rast_server.specs.Answered.{Answers, Heeds, IsAnswer, Reports, id_or_null, params_in}
 use Rattle.rast_server.specs.Answered.IsAnswer.{request, notification, no_message, no_json, no_memory}
 use Rattle.rast_server.specs.declared.server.Outcome.{Outcome}
 use Rattle.rast_server.specs.declared.server.Outcome.TheVariants.{Reply}
@@ -39,10 +39,10 @@ requested old new content method d i (Ok o) e p h = request d i method e p (h (i
 requested old new content method d i (Err a) e p h = tt
 
 -- a notification is heeded
-pub notified : (old new : Server) (content method : List ℕ) (d : Data) (r : Result Outcome AllocError) → read content ≡ Some d → IsNotification d method
-    → IfOk r (λ o. Heeds old method o new) → IfOk r (λ o. IsAnswer old content o new)
-notified old new content method d (Ok o) e p h = notification d method e p h
-notified old new content method d (Err a) e p h = tt
+pub notified : (old new : Server) (content method : List ℕ) (d params : Data) (r : Result Outcome AllocError) → read content ≡ Some d → IsNotification d method
+    → params ≡ params_in d → IfOk r (λ o. Heeds old method params o new) → IfOk r (λ o. IsAnswer old content o new)
+notified old new content method d params (Ok o) e p q h = notification d method e p (subst (λ (x : Data). Heeds old method x o new) q h)
+notified old new content method d params (Err a) e p q h = tt
 
 -- a content that is not read is reported
 pub unread : (old : Server) (content : List ℕ) (memory : Bool) (r : Result Outcome AllocError) → (memory ≡ false → IsUtf8 content → read content ≡ None)

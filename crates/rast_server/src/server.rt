@@ -1,11 +1,12 @@
 //! The state of the server, and what each message does to it.
-ghost use Rattle.std.specs.Prelude.{◌≡◌, ◌≤◌, ◌↔◌, [], IfErr, IfOk, IsTrue, OnErr, OnOk, codes, false, true, string_bytes};
+ghost use Rattle.std.specs.Prelude.{◌≡◌, ◌⊎◌, ◌≤◌, ◌↔◌, [], IfErr, IfOk, IsTrue, OnErr, OnOk, codes, false, true, string_bytes};
 ghost use Rattle.serde_json.specs.Data.{null};
 ghost use Rattle.serde_json.specs.View.{view};
 ghost use Rattle.serde_json.specs.Written.{has_float};
 ghost use Rattle.rast_document.specs.Changes.{AllChange};
 ghost use Rattle.rast_messages.specs.declared.reply.Code.TheVariants.{InternalError, InvalidRequest, ParseError};
 ghost use Rattle.rast_server.specs.Answered.{Answers, Grants, Heeds, IsAboutDocument, IsHeeded, IsOfDocument, IsAnswer, Refuses, Reports, status_of};
+ghost use Rattle.rast_server.specs.Documents.{Changes, Closes, Does, Fails, KeepsDocuments, Opens};
 ghost use Rattle.rast_server.specs.declared.server.Stage.TheVariants.{Fresh, Ready, ShutDown};
 
 use crate::answers::{folds, highlights, push_diagnostics, selections, symbols, tokens, tree};
@@ -45,6 +46,7 @@ impl Opened {
     fn change(&mut self, alloc: Global, version: i64, changes: &[Change<'_>]) -> Result<(), Fault>
         ensures ok { OnOk result (AllChange self.old.document.encoding (string_bytes self.old.document.text) changes.now
             (string_bytes self.new.document.text)) }
+        ensures encoding { self.new.document.encoding ≡ self.old.document.encoding }
         ensures version { OnOk result (self.new.version ≡ version) }
         ensures err { OnErr result (self.new ≡ self.old) }
     {
@@ -158,7 +160,9 @@ fn analysis_of(alloc: Global, document: &Document) -> Result<Analysis<'_>, Fault
 }
 
 /// Adds the messages of a document, or the one that it has no tree.
-fn push_messages(alloc: Global, json: &mut String, document: &Document) -> Result<(), Fault> {
+fn push_messages(alloc: Global, json: &mut String, document: &Document) -> Result<(), Fault>
+    ensures { IfErr result (λ fault. fault.code ≡ InternalError) }
+{
     match Analysis::of_document(alloc, Edition::CURRENT, document) {
         Ok(analysis) => {
             let list = analysis.diagnostics(alloc)?;
@@ -181,7 +185,9 @@ fn push_messages(alloc: Global, json: &mut String, document: &Document) -> Resul
 }
 
 /// The notification of a document's messages.
-fn published(alloc: Global, uri: &str, version: i64, document: &Document) -> Result<String, Fault> {
+fn published(alloc: Global, uri: &str, version: i64, document: &Document) -> Result<String, Fault>
+    ensures { IfErr result (λ fault. fault.code ≡ InternalError) }
+{
     let mut json = String::from_str(alloc, "{\"uri\":")?;
     push_string(alloc, &mut json, uri)?;
     write!(json, ",\"version\":{version},\"diagnostics\":[").map_err(AllocError::from)?;
@@ -392,7 +398,7 @@ impl Server {
 
     // What is sent for a notification.
     fn take(&mut self, alloc: Global, method: &str, params: &Value) -> Result<Outcome, AllocError>
-        ensures { IfOk result (λ outcome. Heeds self.old method.now outcome self.new) }
+        ensures { IfOk result (λ outcome. Heeds self.old method.now (view params.now) outcome self.new) }
     {
         if method == "exit" {
             return Ok(Outcome::Exit(self.status()));
@@ -408,8 +414,11 @@ impl Server {
 
     // What is sent for a notification about a document.
     fn heed(&mut self, alloc: Global, method: &str, params: &Value) -> Result<String, Fault>
+        requires { IsHeeded method.now }
         ensures stage { self.new.stage ≡ self.old.stage }
         ensures encoding { self.new.encoding ≡ self.old.encoding }
+        ensures does { OnOk result (Does method.now (view params.now) self.old self.new) }
+        ensures fails { IfErr result (λ fault. Fails method.now (view params.now) fault self.old self.new) }
     {
         match method {
             "textDocument/didOpen" => self.open(alloc, params),
@@ -421,7 +430,8 @@ impl Server {
     fn open(&mut self, alloc: Global, params: &Value) -> Result<String, Fault>
         ensures stage { self.new.stage ≡ self.old.stage }
         ensures encoding { self.new.encoding ≡ self.old.encoding }
-        ensures err { OnErr result (self.new.documents.entries ≡ self.old.documents.entries) }
+        ensures opens { OnOk result (Opens (view params.now) self.old self.new) }
+        ensures err { OnErr result (KeepsDocuments self.old self.new) }
     {
         let uri = uri_of(params).ok_or(WRONG_PARAMS)?;
         let version = version_of(params).ok_or(WRONG_PARAMS)?;
@@ -446,6 +456,9 @@ impl Server {
     fn change(&mut self, alloc: Global, params: &Value) -> Result<String, Fault>
         ensures stage { self.new.stage ≡ self.old.stage }
         ensures encoding { self.new.encoding ≡ self.old.encoding }
+        ensures changes { OnOk result (Changes (view params.now) self.old self.new) }
+        ensures err { IfErr result (λ fault. KeepsDocuments self.old self.new
+            ⊎ ((fault.code ≡ InternalError) × Changes (view params.now) self.old self.new)) }
     {
         let uri = uri_of(params).ok_or(WRONG_PARAMS)?;
         let version = version_of(params).ok_or(WRONG_PARAMS)?;
@@ -458,7 +471,8 @@ impl Server {
     fn close(&mut self, alloc: Global, params: &Value) -> Result<String, Fault>
         ensures stage { self.new.stage ≡ self.old.stage }
         ensures encoding { self.new.encoding ≡ self.old.encoding }
-        ensures err { OnErr result (self.new.documents.entries ≡ self.old.documents.entries) }
+        ensures closes { OnOk result (Closes (view params.now) self.old self.new) }
+        ensures err { OnErr result (KeepsDocuments self.old self.new) }
     {
         let uri = uri_of(params).ok_or(WRONG_PARAMS)?;
         let note = withdrawn(alloc, uri)?;
