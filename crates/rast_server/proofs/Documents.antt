@@ -1,5 +1,5 @@
 -- What becomes of the documents.
-use Rattle.std.proofs.Common.{◌≡◌, ℕ, List, Bor, Option, Some, None, String, option_map, string_bytes, unwrap_or, codes, ap, ◌∙◌}
+use Rattle.std.proofs.Common.{◌≡◌, ℕ, List, Bor, Option, Some, None, Result, Ok, Err, OnOk, Bool, false, is_err, String, option_map, string_bytes, unwrap_or, codes, ap, ◌∙◌}
 use Rattle.std.specs.declared.alloc.Global.{Global}
 use Rattle.std.specs.BTreeMap.{BTreeMap, UpdatesBy}
 use Rattle.std.specs.Cmp.Lexicographic.{slice_cmp}
@@ -25,3 +25,8 @@ pub params_are : (o : Option (Bor Value)) (none : Bor Value) (d : Data) → opti
     → view (unwrap_or o none).now ≡ params_in d
 params_are None none d e n = n ∙ ap (λ (x : Option Data). unwrap_or x null) e
 params_are (Some v) none d e n = ap (λ (x : Option Data). unwrap_or x null) e
+
+-- what is so of a success
+pub on_ok : {A E P : Type 0} (r : Result A E) → OnOk r P → is_err r ≡ false → P
+on_ok (Ok a) h e = h
+on_ok (Err x) h e = cc e

@@ -1,5 +1,5 @@
 -- What notifications do to the documents that the editor has open.
-use Rattle.std.specs.Prelude.{◌≡◌, ◌⊎◌, ℕ, ℤ, List, Option, Some, None, codes, if◌then◌else◌, map, option_and_then, string_bytes}
+use Rattle.std.specs.Prelude.{◌≡◌, ◌⊎◌, ℕ, ℤ, List, Option, Some, None, IsSome, codes, if◌then◌else◌, map, option_and_then, string_bytes}
 use Rattle.std.specs.BTreeMap.{get_by_text}
 use Rattle.std.specs.Str.{bytes_eq}
 use Rattle.serde_json.specs.Data.{Data}
@@ -51,9 +51,8 @@ pub record Changes (params : Data) (old new : Server) : Type 0 where
 -- `didClose`: under the uri is no document any more
 pub record Closes (params : Data) (old new : Server) : Type 0 where
   pub uri : List ℕ
-  pub before : Opened
   pub uri_is : uri_in params ≡ Some uri
-  pub was : document_at old uri ≡ Some before
+  pub was : IsSome (document_at old uri)
   pub puts : Puts uri None old new
 
 -- what a notification about a document does

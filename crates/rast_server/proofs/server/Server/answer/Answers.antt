@@ -1,6 +1,7 @@
-use Rattle.std.proofs.Common.{refl}
+use Rattle.std.proofs.Common.{rules, refl}
 use Rattle.serde_json.specs.View.{view}
 use Rattle.rast_server.specs.Answered.IsAnswer.{response}
+use Rattle.rast_server.proofs.Documents.{params_are}
 use Rattle.rast_server.proofs.Requests.{notified, requested, unfit}
 use Rattle.rast_server.proofs.server.Server.answer.Goals as goal
 
@@ -11,8 +12,8 @@ returns-in-Request c =
 
 pub returns-in-Notification : goal.returns-in-Notification
 returns-in-Notification c =
-    notified c.args.self.now c.take.new.self c.args.content.now c.in-Notification.method.now (view c.in-Ok.message) c.take.result
-    c.in-Ok.ensures.ok.1 c.in-Notification.ensures c.take.ensures
+    notified c.args.self.now c.take.new.self c.args.content.now c.in-Notification.method.now (view c.in-Ok.message) _ c.take.result
+    c.in-Ok.ensures.ok.1 c.in-Notification.ensures (search (rules, params_are)) c.take.ensures
 
 pub returns-in-Response : goal.returns-in-Response
 returns-in-Response c = response (view c.in-Ok.message) c.in-Ok.ensures.ok.1 c.in-Response.ensures refl refl
