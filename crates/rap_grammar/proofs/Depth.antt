@@ -30,6 +30,10 @@ pub more : (n m : ℕ) → n ≤ m → (c : Rule) (s t : State) (e : Option (Com
     Post m c s t e
 more n m l c s t e h = (h.0, answers_more l h.1)
 
+-- a rule's script with less depth
+pub answers_so : (n m : ℕ) (c : Rule) (p q : Spot) (v : Outcome) → Ends n (script_of c) p q v → n < m → Answers m c p q v
+answers_so n m c p q v h l = answers c l h
+
 -- a script that ends so runs to there
 pub ends_run : {n : ℕ} {s : Script Rule} {p q : Spot} {v : Outcome} → Ends n s p q v → Runs script_of s p q v
 ends_run {n = n} {s = s} {p = p} {q = q} {v = v} d = runs n s p q v d.run

@@ -86,3 +86,6 @@ pub fit_in_error : (f g : Forest) → g ≡ node none ERROR f → (message_count
     message_count g ≡ 0 → ∥ AllFitIn g ∥₁
 fit_in_error f g e h z =
     rw e (let y : message_count f ≡ 0 = omega (arith, ap message_count e) in ∥∥₁_map (h y) (fit_error f))
+
+-- how a parse ends
+pub ruleset closing = (left-none, alone, in_error, all_used, length-flat-node, fit_in_error)

@@ -75,6 +75,7 @@ pub fn is_one_tree(output: &Output) -> bool
 }
 
 /// Runs a rule that is an entry of its own.
+#[tactic(auto, using(crate::proofs::Depth::own_goes))]
 fn run_alone(p: &mut Parser<'_>, rule: Rule) -> Result<Answer, NoMemory>
     requires { Pre rule (state p.old) }
     ensures parses { IfOk result (Parses rule (state p.old) (state p.new)) }
@@ -86,6 +87,7 @@ fn run_alone(p: &mut Parser<'_>, rule: Rule) -> Result<Answer, NoMemory>
 }
 
 /// Whether no token is left.
+#[tactic(auto, using(crate::proofs::TopTree::closing))]
 fn is_at_end(p: &Parser<'_>) -> bool
     ensures here { result ≡ is_at EOF (state p.now).rest }
     ensures some { result ≡ false → next (state p.now) ≢ EOF }
@@ -180,6 +182,7 @@ fn take_rest(p: &mut Parser<'_>) -> Result<(), NoMemory>
 /// If no token is left and the output is one tree, exactly one node and no other token or message, it is returned as it
 /// is. Otherwise the tokens that are left are taken one by one, and the tree is one `ERROR` over everything. The error
 /// means out of memory.
+#[tactic(auto, using(crate::proofs::TopTree::closing))]
 pub fn close_top(alloc: Global, mut p: Parser<'_>, m: Marker) -> Result<Output, NoMemory>
     requires newest { (state p).marker ≡ Some m.pos.value }
     requires below { (state p).below ≡ push floor None none }
@@ -206,6 +209,7 @@ pub fn close_top(alloc: Global, mut p: Parser<'_>, m: Marker) -> Result<Output, 
 
 /// Ends the parse of a top entry whose node has the marker `m`, the only open one. No token must be left. The error
 /// means out of memory.
+#[tactic(auto, using(crate::proofs::TopTree::closing))]
 pub fn close_root(
     alloc: Global,
     mut p: Parser<'_>,

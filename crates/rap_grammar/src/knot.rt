@@ -68,7 +68,7 @@ pub(crate) fn all_rules(p: &Parser<'_>) -> AllRules
 /// what a level of nesting keeps on the stack.
 #[inline(always)]
 #[cycle(run)]
-#[tactic(auto, using(crate::proofs::Depth::more))]
+#[tactic(auto, using(crate::proofs::Depth::more, crate::proofs::Depth::answers_so), unfolding(rap_grammar_scripts::specs::Knot::script_of))]
 pub fn run(p: &mut Parser<'_>, rule: Rule) -> Result<Answer, NoMemory>
     requires { Pre rule (state p.old) }
     ensures { IfOk result (Post (suc (state p.old).left) rule (state p.old) (state p.new)) }

@@ -30,7 +30,7 @@ mod operators;
 
 /// An expression of at least the power `bp`, after its attributes.
 #[inline(never)]
-#[tactic(auto, unfolding(rap_grammar_scripts::specs::Expressions::expr_bp))]
+#[tactic(auto, using(crate::proofs::Missing::answered), unfolding(rap_grammar_scripts::specs::Expressions::expr_bp))]
 pub fn expr_bp<G: Grammar>(
     p: &mut Parser<'_>,
     g: &G,
@@ -50,7 +50,7 @@ pub fn expr_bp<G: Grammar>(
 }
 
 /// An expression of at least the power `bp`, from the newest marker on.
-#[tactic(auto, unfolding(rap_grammar_scripts::specs::Expressions::expr_from))]
+#[tactic(auto, using(crate::proofs::Missing::begins_none), unfolding(rap_grammar_scripts::specs::Expressions::expr_from))]
 pub fn expr_from<G: Grammar>(
     p: &mut Parser<'_>,
     g: &G,
@@ -88,7 +88,7 @@ pub fn expr_from<G: Grammar>(
 /// Reports that an expression is missing, and abandons the marker. It is a function of its own so that the set
 /// takes no room on the stack of the recursive rules.
 #[inline(never)]
-#[tactic(auto, unfolding(rap_grammar_scripts::specs::Expressions::missing_expr))]
+#[tactic(auto, using(crate::proofs::Missing::spent_missing), unfolding(rap_grammar_scripts::specs::Expressions::missing_expr))]
 fn missing_expr(p: &mut Parser<'_>, m: Marker) -> Result<(), NoMemory>
     requires newest { (state p.old).marker ≡ Some m.pos.value }
     requires missing { is_expr_first (next (state p.old)) ≡ false }

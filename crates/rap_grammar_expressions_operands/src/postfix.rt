@@ -1,6 +1,6 @@
 //! What follows an operand: calls, indexes, fields and methods, `?`.
 //! In the Rust crate: `grammar/expressions.rs`.
-ghost use Rattle.std.specs.Prelude.{ℕ, ◌≡◌, ◌<◌, ◌≤◌, IfOk, OnOk, true, Some};
+ghost use Rattle.std.specs.Prelude.{ℕ, ◌≡◌, ◌<◌, ◌≤◌, Bool, IfOk, OnOk, true, false, Some, if◌then◌else◌};
 ghost use Rattle.rap_base.specs.TokenKind.{DOT, L_PAREN, L_BRACK, AWAIT_KW, QUESTION};
 ghost use Rattle.rap_base.specs.NodeKind.{CALL_EXPR, INDEX_EXPR, METHOD_CALL_EXPR, AWAIT_EXPR, FIELD_EXPR, TRY_EXPR};
 ghost use Rattle.rap_events.specs.Fit.{is_plain};
@@ -11,7 +11,7 @@ ghost use Rattle.rap_grammar_scripts.specs.Postfix.{is_method_call};
 ghost use Rattle.rap_grammar_frame.specs.Grew.{Within, Grew, Wraps, Behind, Closes, Took};
 ghost use Rattle.rap_grammar_scripts.specs.Exec.{Does};
 ghost use Rattle.rap_grammar_frame.specs.Room.{operand_room, arguments_room, recovery_events};
-ghost use Rattle.rap_grammar_scripts.specs.Script.{something};
+ghost use Rattle.rap_grammar_scripts.specs.Script.{something, block, again};
 
 use rap_base::T;
 use rap_base::no_memory::NoMemory;
@@ -49,21 +49,45 @@ pub fn postfix_expr<G: Grammar>(
         (state p.old) (state p.new)) }
 {
     'postfixes: loop {
-        lhs = match p.current() {
-            T!['('] if allow_calls => call_expr(p, g, lhs)?,
-            T!['['] if allow_calls => index_expr(p, g, lhs)?,
-            T![.] if !p.at(T![..=]) && !p.at(T![..]) => {
-                let (access, goes_on) = postfix_dot_expr(p, g, lhs)?;
-                if !goes_on {
-                    return Ok((access, block_like));
-                }
-                access
-            }
-            T![?] => try_expr(p, lhs)?,
-            _ => return Ok((lhs, block_like)),
-        };
+        let (expr, goes_on) = postfix(p, g, lhs, allow_calls)?;
+        if !goes_on {
+            return Ok((expr, block_like));
+        }
+        lhs = expr;
         allow_calls = true;
         block_like = BlockLike::NotBlock;
+    }
+}
+
+/// One call, index, field, method or `?` if one follows, and whether more may follow that. Where none does, the operand
+/// is returned as it is.
+fn postfix<G: Grammar>(
+    p: &mut Parser<'_>,
+    g: &G,
+    lhs: CompletedMarker,
+    allow_calls: bool,
+) -> Result<(CompletedMarker, bool), NoMemory>
+    requires within { Within G.valid G.left g.now (state p.old) }
+    requires last { IsLast (state p.old) lhs lhs.kind.value }
+    requires plain { is_plain lhs.kind.value ≡ true }
+    ensures grew { OnOk result (Grew (state p.old) (state p.new) 0) }
+    ensures less { IfOk result (λ e. e.1 ≡ true → (state p.new).left < (state p.old).left) }
+    ensures last { IfOk result (λ e. IsLast (state p.new) e.0 e.0.kind.value) }
+    ensures plain { IfOk result (λ e. is_plain e.0.kind.value ≡ true) }
+    ensures one { OnOk result (but_last (state p.new).forest ≡ but_last (state p.old).forest) }
+    ensures script { IfOk result
+        (λ e. (blocky : Bool) → Does (G.left g.now) (script.postfix_turn allow_calls blocky)
+        (if e.1 then again true false else (if blocky then block else something)) (state p.old) (state p.new)) }
+{
+    match p.current() {
+        T!['('] if allow_calls => Ok((call_expr(p, g, lhs)?, true)),
+        T!['['] if allow_calls => Ok((index_expr(p, g, lhs)?, true)),
+        T![.] if !p.at(T![..=]) && !p.at(T![..]) => {
+            let access = postfix_dot_expr(p, g, lhs)?;
+            Ok(access)
+        }
+        T![?] => Ok((try_expr(p, lhs)?, true)),
+        _ => Ok((lhs, false)),
     }
 }
 
@@ -198,6 +222,7 @@ fn index_expr<G: Grammar>(
 }
 
 /// The name and the arguments of a method after the dot, as `f(1)` after `a.`.
+#[tactic(auto, unfolding(rap_grammar_scripts::specs::Postfix::method_call_expr))]
 fn method_call_expr<G: Grammar>(
     p: &mut Parser<'_>,
     g: &G,
@@ -210,9 +235,10 @@ fn method_call_expr<G: Grammar>(
 {
     if is_path_name(p.current()) {
         name_ref_mod_path(p)?;
-    } else {
-        p.error("expected method name, field name or number")?;
+        let cm = method_arguments(p, g, m)?;
+        return Ok(cm);
     }
+    p.error("expected method name, field name or number")?;
     let cm = method_arguments(p, g, m)?;
     Ok(cm)
 }

@@ -35,7 +35,7 @@ use rap_grammar_paths::paths::use_path;
 use rap_grammar_paths::visibility::opt_visibility;
 
 /// An item from the newest marker on, if one comes next; else the marker is handed back.
-#[tactic(auto, unfolding(rap_grammar_scripts::specs::Items::opt_item))]
+#[tactic(auto, using(rap_grammar_items_kinds::proofs::Seeing::ended_visible, rap_grammar_items_kinds::proofs::Seeing::handed_kept), unfolding(rap_grammar_scripts::specs::Items::opt_item))]
 pub fn opt_item<G: Grammar>(
     p: &mut Parser<'_>,
     g: &G,
@@ -59,7 +59,7 @@ pub fn opt_item<G: Grammar>(
 }
 
 /// An item from its modifiers on, if one comes next; else the marker is handed back, unless something stood before it.
-#[tactic(auto, unfolding(rap_grammar_scripts::specs::Items::opt_modified_item))]
+#[tactic(auto, using(rap_grammar_items_kinds::proofs::Seeing::parted, rap_grammar_items_kinds::proofs::Seeing::refused_kept), unfolding(rap_grammar_scripts::specs::Items::opt_modified_item))]
 fn opt_modified_item<G: Grammar>(
     p: &mut Parser<'_>,
     g: &G,
@@ -85,7 +85,7 @@ fn opt_modified_item<G: Grammar>(
 }
 
 /// Reports what stands before an item where none follows; else the marker is handed back.
-#[tactic(auto, unfolding(rap_grammar_scripts::specs::Items::refuse))]
+#[tactic(auto, using(rap_grammar_items_kinds::proofs::Seeing::dropped, rap_grammar_items_kinds::proofs::Seeing::or_first, rap_grammar_items_kinds::proofs::Seeing::or_last), unfolding(rap_grammar_scripts::specs::Items::refuse))]
 fn refuse(
     p: &mut Parser<'_>,
     m: Marker,
@@ -399,7 +399,7 @@ pub fn item_or_macro<G: Grammar>(
 }
 
 /// An item after its attributes, or what stands in its place.
-#[tactic(auto, unfolding(rap_grammar_scripts::specs::Items::marked_item))]
+#[tactic(auto, using(rap_grammar_items_kinds::proofs::Seeing::ends_behind, rap_grammar_items_kinds::proofs::Seeing::ends_kept), unfolding(rap_grammar_scripts::specs::Items::marked_item))]
 fn marked_item<G: Grammar>(
     p: &mut Parser<'_>,
     g: &G,
@@ -439,7 +439,7 @@ fn after_item(p: &mut Parser<'_>) -> Result<(), NoMemory>
 }
 
 /// A macro call in the place of an item; where neither begins, that is reported.
-#[tactic(auto, unfolding(rap_grammar_scripts::specs::Items::macro_or_error))]
+#[tactic(auto, using(rap_grammar_items_kinds::proofs::Seeing::ends_at, rap_grammar_items_kinds::proofs::Seeing::ends_without), unfolding(rap_grammar_scripts::specs::Items::macro_or_error))]
 fn macro_or_error<G: Grammar>(
     p: &mut Parser<'_>,
     g: &G,
@@ -481,7 +481,7 @@ fn path_item<G: Grammar>(p: &mut Parser<'_>, g: &G, m: Marker) -> Result<(), NoM
 }
 
 /// Reports that no item begins, with what comes next in an `ERROR`.
-#[tactic(auto, unfolding(rap_grammar_scripts::specs::Items::missing_item))]
+#[tactic(auto, using(rap_grammar_items_kinds::proofs::Seeing::skips_took, rap_grammar_items_kinds::proofs::Seeing::skips_reported, rap_grammar_items_kinds::proofs::Seeing::skips_bumped), unfolding(rap_grammar_scripts::specs::Items::missing_item))]
 fn missing_item<G: Grammar>(
     p: &mut Parser<'_>,
     g: &G,

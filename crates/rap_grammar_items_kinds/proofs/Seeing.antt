@@ -63,6 +63,17 @@ seen_both {a = false} e x y = record {
   stays = λ h. y.stays (sym e ∙ h) ∙ x.stays refl;
 }
 
+pub seen_two : {s t u : State} {a b r : Bool} → Seen s t a → Seen t u b → r ≡ a || b → Seen s u r
+seen_two x y e = seen_both e x y
+
+pub seen_three : {s t u v : State} {a b c q r : Bool} → Seen s t a → Seen t u b → Seen u v c → q ≡ b || c → r ≡ a || q →
+    Seen s v r
+seen_three x y z e f = seen_both f x (seen_both e y z)
+
+pub seen_five : {s t u v w x : State} {a b c d e o p q r : Bool} → Seen s t a → Seen t u b → Seen u v c → Seen v w d →
+    Seen w x e → o ≡ d || e → p ≡ c || o → q ≡ b || p → r ≡ a || q → Seen s x r
+seen_five h i j k l e f g m = seen_both m h (seen_both g i (seen_both f j (seen_both e k l)))
+
 -- the outcome of both parts
 pub outcome_both : (a b : Bool) {r : Bool} {w : Outcome} → r ≡ a || b → w ≡ of_bool b →
     either_of (of_bool a) w ≡ of_bool r

@@ -28,7 +28,7 @@ pub struct ItemModifiers {
 }
 
 /// The modifiers of an item, as `pub(crate) const unsafe extern "C"` before `fn`, without the `pub`.
-#[tactic(auto, unfolding(rap_grammar_scripts::specs::Modifiers::modifiers))]
+#[tactic(auto, using(crate::proofs::Seeing::seen_five), unfolding(rap_grammar_scripts::specs::Modifiers::modifiers))]
 pub fn modifiers<G: Grammar>(
     p: &mut Parser<'_>,
     g: &G,
@@ -191,7 +191,7 @@ fn is_auto_modifier(p: &Parser<'_>) -> bool
 }
 
 /// The `const` and `async` of a function. Returns whether there was one of them.
-#[tactic(auto, unfolding(rap_grammar_scripts::specs::Modifiers::qualifiers))]
+#[tactic(auto, using(crate::proofs::Seeing::seen_three), unfolding(rap_grammar_scripts::specs::Modifiers::qualifiers))]
 fn qualifiers(p: &mut Parser<'_>) -> Result<bool, NoMemory>
     ensures seen { IfOk result (λ found. Seen (state p.old) (state p.new) found) }
     ensures script { IfOk result
@@ -207,7 +207,7 @@ fn qualifiers(p: &mut Parser<'_>) -> Result<bool, NoMemory>
 }
 
 /// `unsafe`, and `safe` in an `extern` block. Returns whether there was one.
-#[tactic(auto, unfolding(rap_grammar_scripts::specs::Modifiers::safety))]
+#[tactic(auto, using(crate::proofs::Seeing::seen_two), unfolding(rap_grammar_scripts::specs::Modifiers::safety))]
 fn safety(p: &mut Parser<'_>, is_in_extern: bool) -> Result<bool, NoMemory>
     ensures seen { IfOk result (λ found. Seen (state p.old) (state p.new) found) }
     ensures script { IfOk result
@@ -235,7 +235,7 @@ fn opt_abi(p: &mut Parser<'_>) -> Result<bool, NoMemory>
 }
 
 /// `auto` before a trait, and `default` before what may be replaced. Returns whether there was one.
-#[tactic(auto, unfolding(rap_grammar_scripts::specs::Modifiers::auto_or_default))]
+#[tactic(auto, using(crate::proofs::Seeing::seen_two), unfolding(rap_grammar_scripts::specs::Modifiers::auto_or_default))]
 fn auto_or_default(p: &mut Parser<'_>) -> Result<bool, NoMemory>
     ensures seen { IfOk result (λ found. Seen (state p.old) (state p.new) found) }
     ensures script { IfOk result

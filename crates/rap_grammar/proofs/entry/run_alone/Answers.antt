@@ -1,8 +1,5 @@
-use Rattle.rap_grammar.proofs.Depth.{own_goes, part_goes}
+use Rattle.rap_grammar.proofs.Depth.{part_goes}
 use Rattle.rap_grammar.proofs.entry.run_alone.Goals as goal
-
-pub returns-clause-own : goal.returns-clause-own
-returns-clause-own c = own_goes c.in_ok-answer.ensures.1
 
 pub returns-clause-part : goal.returns-clause-part
 returns-clause-part c = part_goes c.in_ok-answer.ensures.1

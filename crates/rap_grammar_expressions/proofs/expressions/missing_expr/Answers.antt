@@ -1,11 +1,7 @@
 use Rattle.std.proofs.Common.{rules}
 use Rattle.rap_grammar_frame.proofs.Left.{left_at_end}
-use Rattle.rap_grammar_expressions.proofs.Missing.{spent_missing, stays_missing}
+use Rattle.rap_grammar_expressions.proofs.Missing.{stays_missing}
 use Rattle.rap_grammar_expressions.proofs.expressions.missing_expr.Goals as goal
-
-pub returns-clause-spent : goal.returns-clause-spent
-returns-clause-spent c =
-    spent_missing (search rules) c.requires.missing c.in_ok-err_recover.ensures.state c.in_ok-abandon.ensures.state
 
 pub returns-clause-stays : goal.returns-clause-stays
 returns-clause-stays c =

@@ -1,14 +1,7 @@
-use Rattle.std.proofs.Common.{rules}
 use Rattle.rap_grammar_scripts.specs.Records.{base_without_dots}
 use Rattle.rap_grammar_scripts.proofs.Ends.{gives}
 use Rattle.rap_grammar_frame.proofs.Steps.{by_abandon, by_expect, by_rule}
-use Rattle.rap_grammar_expressions_operands.proofs.Fields.{base_spent}
 use Rattle.rap_grammar_expressions_operands.proofs.records.base_without_dots.Goals as goal
-
-pub returns-clause-spent : goal.returns-clause-spent
-returns-clause-spent g c =
-    base_spent c.requires.name c.in_ok-abandon.ensures.state c.in_ok-expect.ensures.state
-    (search rules) c.in_ok-expr.ensures.took
 
 pub returns-clause-script : goal.returns-clause-script
 unfolding base_without_dots

@@ -1,8 +1,0 @@
-use Rattle.rap_grammar_expressions.proofs.Missing.{answered}
-use Rattle.rap_grammar_expressions.proofs.expressions.expr_bp.Goals as goal
-
-pub returns-clause-answered : goal.returns-clause-answered
-returns-clause-answered g c =
-    let a = c.in_ok-outer_attrs.ensures in
-    let e = c.in_ok-expr.ensures in
-    answered _ _ _ c.in_ok-m.ensures.state a.grew a.took a.stays e.answered e.spent e.stays

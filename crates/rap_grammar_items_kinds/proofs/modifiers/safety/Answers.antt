@@ -1,5 +1,0 @@
-use Rattle.rap_grammar_items_kinds.proofs.Seeing.{seen_both}
-use Rattle.rap_grammar_items_kinds.proofs.modifiers.safety.Goals as goal
-
-pub returns-clause-seen : goal.returns-clause-seen
-returns-clause-seen c = seen_both c.either.ensures c.in_ok-no_safety.ensures.seen c.in_ok-safe.ensures.seen
