@@ -1,9 +1,9 @@
 //! What fills the caller's rooms with a tree in one list.
-ghost use Rattle.std.specs.Prelude.{◌≡◌, ◌+◌, ◌<◌, ◌^◌, [], length};
+ghost use Rattle.std.specs.Prelude.{◌≡◌, ◌+◌, ◌<◌, ◌≤◌, ◌^◌, [], IsTrue, length};
 ghost use Rattle.rap_lexed.specs.StrStep.{str_token};
 
 use crate::element::{RapElement, RapMessage};
-use crate::element_room::ElementCounts;
+use crate::element_room::{ElementCounts, narrow};
 use crate::filler::kind_number;
 use crate::message_room::MessageCounts;
 use crate::waiting::Waiting;
@@ -24,11 +24,11 @@ pub struct NodeFiller<'a, 'm, 'w> {
     pub message_counts: MessageCounts,
     pub waiting: &'m [Waiting<'w>],
     pub next: usize,
-    pub at: usize,
+    pub at: u32,
 }
 
 impl<'a, 'm, 'w> NodeFiller<'a, 'm, 'w> {
-    ghost use Rattle.rap_c.specs.Lays.{AddsWaiting, HoldsNodes, LaysStep};
+    ghost use Rattle.rap_c.specs.Lays.{AddsWaiting, HoldsNodes, LaysStep, Tells};
     ghost use Rattle.rap_c.specs.Listed.{rooms_of};
 
     /// Nothing is written yet.
@@ -64,12 +64,32 @@ impl<'a, 'm, 'w> NodeFiller<'a, 'm, 'w> {
         ensures { LaysStep self.old (str_token kind text.now) self.new }
     {
         let start = self.at;
-        let end = start.saturating_add(text.len());
+        let end = narrow(start as usize + text.len());
         self.element_counts.leaf(self.elements, kind, start, end);
         self.at = end;
+        if self.is_quiet() {
+            return;
+        }
         if text.is_empty() {
             return;
         }
+        self.tell(start as usize, end as usize);
+    }
+
+    /// Whether each message has its range, and none of the lexer waits.
+    #[inline(always)]
+    fn is_quiet(&self) -> bool
+        ensures { IsTrue result → (self.now.message_counts.ranged ≡ self.now.message_counts.count) × (length self.now.waiting.now ≤ self.now.next) }
+    {
+        self.message_counts.ranged == self.message_counts.count && self.next >= self.waiting.len()
+    }
+
+    /// A leaf that is not empty has come: the messages that have no range get its own, and the lexer's messages at it are
+    /// added. Most leaves have none, so that inlined this would only take registers from the walk.
+    #[inline(never)]
+    fn tell(&mut self, start: usize, end: usize)
+        ensures { Tells start end self.old self.new }
+    {
         self.message_counts.end_ranges(self.messages, end);
         self.add_waiting(start, end);
     }
