@@ -24,13 +24,13 @@ use Rattle.rap_ranged.proofs.Roots.{one_node}
 use Rattle.rap_ranged.proofs.Seats.{StepsSeated}
 use Rattle.rap_c.specs.Element.{cell}
 use Rattle.rap_c.specs.Filling.{overwritten}
-use Rattle.rap_c.specs.Lays.{AddsNote, AddsWaiting, AreSameRooms, ElementRoom, EndsRanges, HoldsElements, HoldsNodes, HoldsNotes, IsShort, LaysElements, LaysStep, MessageRoom, Tells, elements_of, messages_of, places}
+use Rattle.rap_c.specs.Lays.{AddsNote, AddsWaiting, AreSameRooms, ElementRoom, EndsRanges, HoldsElements, HoldsNodes, HoldsNotes, IsShort, LaysElements, LaysStep, MessageRoom, elements_of, messages_of, places}
 use Rattle.rap_c.specs.Listed.{IsListGiven, Rooms}
 use Rattle.rap_c.specs.Words.{as_word}
 use Rattle.rap_c.specs.declared.element.RapElement.{RapElement}
 use Rattle.rap_c.specs.declared.element.RapNodesAnswer.{RapNodesAnswer}
 use Rattle.rap_c.specs.declared.node_filler.NodeFiller.{NodeFiller}
-use Rattle.rap_c.proofs.Noted.{all_ended, count_ended}
+use Rattle.rap_c.proofs.Noted.{count_ended}
 use Rattle.rap_c.proofs.Told.{Going, gone_all}
 
 pub rooms_refl : (f : NodeFiller) → AreSameRooms f f
@@ -146,14 +146,8 @@ empty_laid kind end text old new none end_is leaf messages waiting next at same 
   same = same;
 }
 
--- messages at a leaf, by what is called for them
-pub told_by : (start end : ℕ) (old mid new : NodeFiller) → EndsRanges end (messages_of old) (messages_of mid) → AddsWaiting start end mid new → elements_of mid ≡ elements_of old → mid.waiting.now ≡ old.waiting.now
-    → mid.next ≡ old.next → mid.at ≡ old.at → AreSameRooms old mid → Tells start end old new
-told_by start end old mid new ends adds elements waiting next place same =
-    record { mid = mid; ends = ends; adds = adds; elements = elements; waiting = waiting; next = next; place = place; same = same }
-
--- where no message is without a range and none of the lexer is left
-nothing_waits : (start end : ℕ) (f : NodeFiller) → length f.waiting.now ≤ f.next → AddsWaiting start end f f
+-- none of the lexer's messages is left
+pub nothing_waits : (start end : ℕ) (f : NodeFiller) → length f.waiting.now ≤ f.next → AddsWaiting start end f f
 nothing_waits start end f past =
     let none : drop f.next f.waiting.now ≡ [] = drop_all f.next f.waiting.now past in
     record {
@@ -165,29 +159,6 @@ nothing_waits start end f past =
       place = refl;
       same = rooms_refl f;
     }
-
--- a leaf that is not empty, with the messages at it
-pub leaf_told : (kind end : ℕ) (text : List ℕ) (old mid new : NodeFiller) → 0 < length text → end ≡ as_word (old.at + length text)
-    → ((t : List ℕ) → end ≡ old.at + length t → LaysElements old.at (str_token kind t) (elements_of old) (elements_of mid))
-    → messages_of mid ≡ messages_of old → mid.waiting.now ≡ old.waiting.now → mid.next ≡ old.next → mid.at ≡ end → AreSameRooms old mid → Tells old.at end mid new
-    → LaysStep old (str_token kind text) new
-leaf_told kind end text old mid new some end_is leaf messages waiting next at same told =
-    let P : List ℕ → ElementRoom → Type 0 = λ t r. LaysElements old.at (str_token kind t) (elements_of old) r in
-    let Q : MessageRoom → Type 0 = λ r. EndsRanges end r (messages_of told.mid) in
-    leaf_laid kind end text old told.mid new some end_is (λ t is. subst (P t) (sym told.elements) (leaf t is)) (subst Q messages told.ends) told.adds (told.waiting ∙ waiting) (told.next ∙ next) (told.place ∙ at)
-    (rooms_trans old mid told.mid same told.same)
-
--- a leaf where there is nothing to tell
-pub leaf_quiet : (kind end : ℕ) (text : List ℕ) (old new : NodeFiller) → end ≡ as_word (old.at + length text)
-    → ((t : List ℕ) → end ≡ old.at + length t → LaysElements old.at (str_token kind t) (elements_of old) (elements_of new))
-    → messages_of new ≡ messages_of old → new.waiting.now ≡ old.waiting.now → new.next ≡ old.next → new.at ≡ end → AreSameRooms old new
-    → new.message_counts.ranged ≡ new.message_counts.count → length new.waiting.now ≤ new.next → LaysStep old (str_token kind text) new
-leaf_quiet kind end text old new end_is leaf messages waiting next at same all past = elim (cases_lt 0 (length text)) [
-  | inl some ↦
-      leaf_told kind end text old new new some end_is leaf messages waiting next at same
-      (told_by old.at end new new new (all_ended end (messages_of new) all) (nothing_waits old.at end new past) refl refl refl refl (rooms_refl new))
-  | inr none ↦ empty_laid kind end text old new (omega (arith, none)) end_is leaf messages waiting next at same
-]
 
 -- the numbers rise
 end_later : (ss : List StrStepValue) (at : ℕ) → at ≤ steps_end at ss

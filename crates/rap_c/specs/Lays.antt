@@ -134,17 +134,6 @@ pub record AddsWaiting (start end : ℕ) (old new : NodeFiller) : Type 0 where
   pub place : new.at ≡ old.at
   pub same : AreSameRooms old new
 
--- ranges end and messages are added, as of a leaf that is not empty
-pub record Tells (start end : ℕ) (old new : NodeFiller) : Type 0 where
-  pub mid : NodeFiller
-  pub ends : EndsRanges end (messages_of old) (messages_of mid)
-  pub adds : AddsWaiting start end mid new
-  pub elements : elements_of mid ≡ elements_of old
-  pub waiting : mid.waiting.now ≡ old.waiting.now
-  pub next : mid.next ≡ old.next
-  pub place : mid.at ≡ old.at
-  pub same : AreSameRooms old mid
-
 -- the numbers of a list and of a step are small
 pub record IsShort (l : Listing) (step : StrStepValue) : Type 0 where
   pub count : length l.elements + 1 < 2 ^ 64

@@ -1,5 +1,5 @@
 //! What fills the caller's rooms with a tree in one list.
-ghost use Rattle.std.specs.Prelude.{◌≡◌, ◌+◌, ◌<◌, ◌≤◌, ◌^◌, [], IsTrue, length};
+ghost use Rattle.std.specs.Prelude.{◌≡◌, ◌+◌, ◌<◌, ◌^◌, [], length};
 ghost use Rattle.rap_lexed.specs.StrStep.{str_token};
 
 use crate::element::{RapElement, RapMessage};
@@ -28,7 +28,7 @@ pub struct NodeFiller<'a, 'm, 'w> {
 }
 
 impl<'a, 'm, 'w> NodeFiller<'a, 'm, 'w> {
-    ghost use Rattle.rap_c.specs.Lays.{AddsWaiting, HoldsNodes, LaysStep, Tells};
+    ghost use Rattle.rap_c.specs.Lays.{AddsWaiting, HoldsNodes, LaysStep};
     ghost use Rattle.rap_c.specs.Listed.{rooms_of};
 
     /// Nothing is written yet.
@@ -67,36 +67,27 @@ impl<'a, 'm, 'w> NodeFiller<'a, 'm, 'w> {
         let end = narrow(start as usize + text.len());
         self.element_counts.leaf(self.elements, kind, start, end);
         self.at = end;
-        if self.is_quiet() {
-            return;
-        }
         if text.is_empty() {
             return;
         }
-        self.tell(start as usize, end as usize);
-    }
-
-    /// Whether each message has its range, and none of the lexer waits.
-    #[inline(always)]
-    fn is_quiet(&self) -> bool
-        ensures { IsTrue result → (self.now.message_counts.ranged ≡ self.now.message_counts.count) × (length self.now.waiting.now ≤ self.now.next) }
-    {
-        self.message_counts.ranged == self.message_counts.count && self.next >= self.waiting.len()
-    }
-
-    /// A leaf that is not empty has come: the messages that have no range get its own, and the lexer's messages at it are
-    /// added. Most leaves have none, so that inlined this would only take registers from the walk.
-    #[inline(never)]
-    fn tell(&mut self, start: usize, end: usize)
-        ensures { Tells start end self.old self.new }
-    {
         self.message_counts.end_ranges(self.messages, end);
         self.add_waiting(start, end);
     }
 
-    /// Adds the lexer's messages before the end of a leaf, with its range.
+    /// Adds the lexer's messages before the end of a leaf, with its range. Most often none waits.
     #[inline(always)]
-    fn add_waiting(&mut self, start: usize, end: usize)
+    fn add_waiting(&mut self, start: u32, end: u32)
+        ensures { AddsWaiting start end self.old self.new }
+    {
+        if self.next >= self.waiting.len() {
+            return;
+        }
+        self.add_next_waiting(start as usize, end as usize);
+    }
+
+    /// The same in a call of its own, which takes no register from the walk.
+    #[inline(never)]
+    fn add_next_waiting(&mut self, start: usize, end: usize)
         ensures { AddsWaiting start end self.old self.new }
     {
         'waiting: while self.next < self.waiting.len() {
