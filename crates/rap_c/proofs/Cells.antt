@@ -140,7 +140,7 @@ up_more : (room n : ℕ) (open_nodes : List ℕ) (count : ℕ) → count < room 
 up_more room n open_nodes count h k = (refl, (h, k.1))
 
 -- a node begins
-pub enter_in : (kind at : ℕ) (old new : ElementRoom) (room : List RapElement) (l : Listing) → l.at ≡ at → HoldsElements room l.elements l.opened old → old.count < places old.elements
+enter_in : (kind at : ℕ) (old new : ElementRoom) (room : List RapElement) (l : Listing) → l.at ≡ at → HoldsElements room l.elements l.opened old → old.count < places old.elements
     → new.elements ≡ slice_set old.elements old.count (numbered kind (as_word at) (as_word at) 0 old.newest)
     → new.newest ≡ old.count → new.count ≡ old.count + 1 → new.beyond ≡ old.beyond
     → HoldsElements room (listing_after l (str_enter kind)).elements (listing_after l (str_enter kind)).opened new
@@ -189,7 +189,7 @@ enter_out kind at old new room l h high kept newest_is count beyond =
     }
 
 -- a leaf comes
-pub leaf_in : (kind at end : ℕ) (text : List ℕ) (old new : ElementRoom) (room : List RapElement) (l : Listing) → l.at ≡ at → end ≡ at + length text → HoldsElements room l.elements l.opened old → old.count < places old.elements
+leaf_in : (kind at end : ℕ) (text : List ℕ) (old new : ElementRoom) (room : List RapElement) (l : Listing) → l.at ≡ at → end ≡ at + length text → HoldsElements room l.elements l.opened old → old.count < places old.elements
     → new.elements ≡ slice_set old.elements old.count (numbered kind (as_word at) (as_word end) (as_word (old.count + 1)) old.newest)
     → new.newest ≡ old.newest → new.count ≡ old.count + 1 → new.beyond ≡ old.beyond
     → HoldsElements room (listing_after l (str_token kind text)).elements (listing_after l (str_token kind text)).opened new
@@ -307,7 +307,7 @@ exit_placed at old new read d room es (i ∷ others) h up low is written newest_
       chain = chain_set es i e f others h.chain.0.1 refl h.chain.1;
     })
 
-pub exit_in : (at : ℕ) (old new : ElementRoom) (d : RapElement) (room : List RapElement) (l : Listing) → l.at ≡ at → HoldsElements room l.elements l.opened old → old.beyond ≡ 0
+exit_in : (at : ℕ) (old new : ElementRoom) (d : RapElement) (room : List RapElement) (l : Listing) → l.at ≡ at → HoldsElements room l.elements l.opened old → old.beyond ≡ 0
     → old.newest < places old.elements → let read : RapElement = get_or old.elements old.newest d in
     new.elements ≡ slice_set old.elements old.newest (numbered read.kind read.start (as_word at) (as_word old.count) read.parent)
     → new.newest ≡ read.parent → new.count ≡ old.count → new.beyond ≡ old.beyond
@@ -338,6 +338,34 @@ pub exit_out : (old new : ElementRoom) (room : List RapElement) (l : Listing) �
 exit_out old new room l h none high kept newest_is count beyond =
     exit_nothing l.at old new room l.elements l.opened h (subst (λ b. IsUp (places room) l.opened b old.newest) none h.up)
     (omega (arith, high, ap places h.is, places_same room l.elements)) kept newest_is count (beyond ∙ none)
+
+-- the same of places of 32 bits, which are written as they are
+pub enter_at : (kind at : ℕ) (old new : ElementRoom) (room : List RapElement) (l : Listing) → at ≤ no_parent → l.at ≡ at → HoldsElements room l.elements l.opened old → old.count < places old.elements
+    → new.elements ≡ slice_set old.elements old.count (numbered kind at at 0 old.newest)
+    → new.newest ≡ old.count → new.count ≡ old.count + 1 → new.beyond ≡ old.beyond
+    → HoldsElements room (listing_after l (str_enter kind)).elements (listing_after l (str_enter kind)).opened new
+enter_at kind at old new room l small place h low written newest_is count beyond =
+    let make : ℕ → List RapElement = λ n. slice_set old.elements old.count (numbered kind n n 0 old.newest) in
+    enter_in kind at old new room l place h low (written ∙ ap make (sym (small_word at small))) newest_is count beyond
+
+pub leaf_at : (kind at end : ℕ) (text : List ℕ) (old new : ElementRoom) (room : List RapElement) (l : Listing) → at ≤ no_parent → end ≤ no_parent → l.at ≡ at → end ≡ at + length text → HoldsElements room l.elements l.opened old
+    → old.count < places old.elements → new.elements ≡ slice_set old.elements old.count (numbered kind at end (as_word (old.count + 1)) old.newest)
+    → new.newest ≡ old.newest → new.count ≡ old.count + 1 → new.beyond ≡ old.beyond
+    → HoldsElements room (listing_after l (str_token kind text)).elements (listing_after l (str_token kind text)).opened new
+leaf_at kind at end text old new room l small small_end place end_is h low written newest_is count beyond =
+    let make : ℕ → ℕ → List RapElement = λ n m. slice_set old.elements old.count (numbered kind n m (as_word (old.count + 1)) old.newest) in
+    leaf_in kind at end text old new room l place end_is h low
+    (written ∙ (ap (λ n. make n end) (sym (small_word at small)) ∙ ap (make (as_word at)) (sym (small_word end small_end)))) newest_is count beyond
+
+pub exit_at : (at : ℕ) (old new : ElementRoom) (d : RapElement) (room : List RapElement) (l : Listing) → at ≤ no_parent → l.at ≡ at → HoldsElements room l.elements l.opened old → old.beyond ≡ 0
+    → old.newest < places old.elements → let read : RapElement = get_or old.elements old.newest d in
+    new.elements ≡ slice_set old.elements old.newest (numbered read.kind read.start at (as_word old.count) read.parent)
+    → new.newest ≡ read.parent → new.count ≡ old.count → new.beyond ≡ old.beyond
+    → HoldsElements room (listing_after l str_exit).elements (listing_after l str_exit).opened new
+exit_at at old new d room l small place h none low written newest_is count beyond =
+    let read : RapElement = get_or old.elements old.newest d in
+    let make : ℕ → List RapElement = λ n. slice_set old.elements old.newest (numbered read.kind read.start n (as_word old.count) read.parent) in
+    exit_in at old new d room l place h none low (written ∙ ap make (sym (small_word at small))) newest_is count beyond
 
 -- nothing is written yet
 pub nothing_held : (room : List RapElement) (r : ElementRoom) → r.elements ≡ room → r.count ≡ 0 → r.newest ≡ no_parent → r.beyond ≡ 0 → HoldsElements room [] [] r

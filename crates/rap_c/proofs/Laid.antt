@@ -4,6 +4,7 @@ use Rattle.std.specs.Prelude.{◌==◌, nat_lt}
 use Rattle.std.specs.List.{slice_get}
 use Rattle.std.specs.Prelude.{Some, None}
 use Rattle.std.proofs.lemmas.Bool.{cases_lt, cond-true, cond-false, eqb-true, le-ltb, lt-ltb}
+use Rattle.std.proofs.lemmas.List.{drop_all}
 use Rattle.rap_events.specs.Forest.{Forest}
 use Rattle.rap_lexed.specs.LexedStr.{Token}
 use Rattle.rap_lexed.specs.StrForest.{str_flat, str_joined, str_one_tree}
@@ -23,13 +24,14 @@ use Rattle.rap_ranged.proofs.Roots.{one_node}
 use Rattle.rap_ranged.proofs.Seats.{StepsSeated}
 use Rattle.rap_c.specs.Element.{cell}
 use Rattle.rap_c.specs.Filling.{overwritten}
-use Rattle.rap_c.specs.Item.{counted}
 use Rattle.rap_c.specs.Lays.{AddsNote, AddsWaiting, AreSameRooms, ElementRoom, EndsRanges, HoldsElements, HoldsNodes, HoldsNotes, IsShort, LaysElements, LaysStep, MessageRoom, elements_of, messages_of, places}
 use Rattle.rap_c.specs.Listed.{IsListGiven, Rooms}
+use Rattle.rap_c.specs.Words.{as_word}
 use Rattle.rap_c.specs.declared.element.RapElement.{RapElement}
 use Rattle.rap_c.specs.declared.element.RapNodesAnswer.{RapNodesAnswer}
 use Rattle.rap_c.specs.declared.node_filler.NodeFiller.{NodeFiller}
 use Rattle.rap_c.proofs.Noted.{count_ended}
+use Rattle.rap_c.proofs.Told.{Going, gone_all}
 
 pub rooms_refl : (f : NodeFiller) → AreSameRooms f f
 rooms_refl f = record { elements = refl; messages = refl; bytes = refl }
@@ -92,7 +94,7 @@ error_laid bytes pos old new k elements waiting next at same = record {
 }
 
 -- a leaf that is not empty
-pub leaf_laid : (kind end : ℕ) (text : List ℕ) (old mid new : NodeFiller) → 0 < length text → end ≡ counted (old.at + length text)
+pub leaf_laid : (kind end : ℕ) (text : List ℕ) (old mid new : NodeFiller) → 0 < length text → end ≡ as_word (old.at + length text)
     → ((t : List ℕ) → end ≡ old.at + length t → LaysElements old.at (str_token kind t) (elements_of old) (elements_of mid))
     → EndsRanges end (messages_of old) (messages_of mid) → AddsWaiting old.at end mid new → mid.waiting.now ≡ old.waiting.now → mid.next ≡ old.next → mid.at ≡ end → AreSameRooms old mid
     → LaysStep old (str_token kind text) new
@@ -123,7 +125,7 @@ leaf_laid kind end text old mid new some end_is leaf ends adds waiting next at s
 }
 
 -- an empty one
-pub empty_laid : (kind end : ℕ) (text : List ℕ) (old new : NodeFiller) → length text ≡ 0 → end ≡ counted (old.at + length text)
+pub empty_laid : (kind end : ℕ) (text : List ℕ) (old new : NodeFiller) → length text ≡ 0 → end ≡ as_word (old.at + length text)
     → ((t : List ℕ) → end ≡ old.at + length t → LaysElements old.at (str_token kind t) (elements_of old) (elements_of new))
     → messages_of new ≡ messages_of old → new.waiting.now ≡ old.waiting.now → new.next ≡ old.next → new.at ≡ end → AreSameRooms old new → LaysStep old (str_token kind text) new
 empty_laid kind end text old new none end_is leaf messages waiting next at same = record {
@@ -143,6 +145,20 @@ empty_laid kind end text old new none end_is leaf messages waiting next at same 
       });
   same = same;
 }
+
+-- none of the lexer's messages is left
+pub nothing_waits : (start end : ℕ) (f : NodeFiller) → length f.waiting.now ≤ f.next → AddsWaiting start end f f
+nothing_waits start end f past =
+    let none : drop f.next f.waiting.now ≡ [] = drop_all f.next f.waiting.now past in
+    record {
+      holds = λ room byte_room n full k waits.
+          let g : Going start end room byte_room n [] (messages_of f) = record { n = n; full = full; holds = k; waits = sym none ∙ waits; same = refl } in
+          let e = gone_all start end room byte_room n (messages_of f) g in
+          (e.holds, none ∙ e.waits);
+      elements = refl;
+      place = refl;
+      same = rooms_refl f;
+    }
 
 -- the numbers rise
 end_later : (ss : List StrStepValue) (at : ℕ) → at ≤ steps_end at ss
@@ -169,7 +185,7 @@ count_after l (str_token kind text) = simp length-append (omega arith)
 count_after l (str_error bytes pos) = omega arith
 
 -- along the steps of a tree
-pub laid_along : (ss : List StrStepValue) (f g : NodeFiller) (rooms : Rooms) (l : Listing) (n : Noting) → Takes LaysStep f ss g → length l.elements + length ss < 2 ^ 64 → steps_end l.at ss < 2 ^ 64
+pub laid_along : (ss : List StrStepValue) (f g : NodeFiller) (rooms : Rooms) (l : Listing) (n : Noting) → Takes LaysStep f ss g → length l.elements + length ss < 2 ^ 64 → steps_end l.at ss < 2 ^ 32
     → HoldsNodes rooms l n f → HoldsNodes rooms (listing_after_all l ss) (noting_after_all l.at n ss) g
 laid_along [] f g rooms l n h few low k = subst (HoldsNodes rooms l n) h k
 laid_along (s ∷ ss) f g rooms l n h few low k =
@@ -203,7 +219,7 @@ as_many room rows = elim (cases_lt (length room) no_parent) [
 
 -- what is returned of one tree
 pub list_given : (ts : List Token) (output : Forest) (others : List ReportValue) (used : ℕ) (rooms rooms_after : Rooms) (f g : NodeFiller) (answer : RapNodesAnswer)
-    → str_one_tree (with_trivia ts output) ≡ true → StepsSeated 0 (str_flat (with_trivia ts output)) → length (str_flat (with_trivia ts output)) < 2 ^ 64 → length (str_joined (with_trivia ts output)) < 2 ^ 64
+    → str_one_tree (with_trivia ts output) ≡ true → StepsSeated 0 (str_flat (with_trivia ts output)) → length (str_flat (with_trivia ts output)) < 2 ^ 64 → length (str_joined (with_trivia ts output)) < 2 ^ 32
     → Rising 0 others (length (str_joined (with_trivia ts output)))
     → HoldsNodes rooms (record { elements = []; opened = []; at = 0 }) (record { notes = []; ranged = 0; waiting = others }) f → Takes LaysStep f (str_flat (with_trivia ts output)) g
     → rooms_after.elements ≡ g.elements.now → rooms_after.messages ≡ g.messages.now → rooms_after.bytes ≡ g.bytes.now

@@ -8,7 +8,7 @@ use Rattle.rap_ranged.specs.RangedMessages.{RangedMessage}
 use Rattle.rap_c.specs.Element.{message_row, message_rows, message_texts}
 use Rattle.rap_c.specs.Filling.{overwritten, write_at}
 use Rattle.rap_c.specs.Item.{counted}
-use Rattle.rap_c.specs.Lays.{AddsNote, HoldsNotes, PutsNote, ends_at, MessageRoom}
+use Rattle.rap_c.specs.Lays.{AddsNote, EndsRanges, HoldsNotes, PutsNote, ends_at, MessageRoom}
 use Rattle.rap_c.specs.declared.element.RapMessage.{RapMessage}
 use Rattle.rap_c.proofs.Cells.{set_next}
 use Rattle.rap_c.proofs.Written.{overwritten-length, overwritten-twice, write_at-past}
@@ -209,3 +209,11 @@ notes_ended end old new room byte_room n h written bytes count said ranged_is =
       short_room = h.short_room;
       short_bytes = h.short_bytes;
     }
+
+-- none is left without a range
+pub all_ended : (end : ℕ) (r : MessageRoom) → r.ranged ≡ r.count → EndsRanges end r r
+all_ended end r all = record {
+  holds = λ room byte_room n h.
+      let none : min r.count (length r.messages) - r.ranged ≡ 0 = omega (arith, all) in
+      notes_ended end r r room byte_room n h (sym (ap (λ k. ends_at r.ranged k end r.messages) none ∙ ends_at-none r.ranged end r.messages)) refl refl refl all;
+}

@@ -101,7 +101,7 @@ pub few_steps_in : (ts : List Token) (f : Forest) → AreTokens ts → length (f
     → length (str_flat (with_trivia ts f)) < 2 ^ 64
 few_steps_in ts f tokens few small all = omega (arith, few_tokens_in ts tokens.full, tokens.small, few, small, all)
 
-pub short_front : (ts : List Token) (f : Forest) → AreTokens ts → str_joined (with_trivia ts f) ≡ joined (front_of (used f) ts) → length (str_joined (with_trivia ts f)) < 2 ^ 64
+pub short_front : (ts : List Token) (f : Forest) → AreTokens ts → str_joined (with_trivia ts f) ≡ joined (front_of (used f) ts) → length (str_joined (with_trivia ts f)) < 2 ^ 32
 short_front ts f tokens front = omega (arith, ap length front, front_shorter (used f) ts, tokens.small)
 
 -- the lexer's messages are about places in the text of the tree

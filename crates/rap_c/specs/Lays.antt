@@ -137,7 +137,7 @@ pub record AddsWaiting (start end : ℕ) (old new : NodeFiller) : Type 0 where
 -- the numbers of a list and of a step are small
 pub record IsShort (l : Listing) (step : StrStepValue) : Type 0 where
   pub count : length l.elements + 1 < 2 ^ 64
-  pub end : step_end l.at step < 2 ^ 64
+  pub end : step_end l.at step < 2 ^ 32
 
 -- a step does to the rooms what it does to the list and to its messages
 pub record LaysStep (old : NodeFiller) (step : StrStepValue) (new : NodeFiller) : Type 0 where

@@ -19,7 +19,7 @@ pub struct ElementCounts {
 
 /// The number in 32 bits. It saturates.
 #[inline(always)]
-fn narrow(number: usize) -> u32
+pub fn narrow(number: usize) -> u32
     ensures { result ≡ as_word number }
 {
     number.min(0xFFFF_FFFF) as u32
@@ -39,17 +39,16 @@ impl ElementCounts {
 
     /// A node begins at this byte.
     #[inline(always)]
-    pub fn enter(&mut self, elements: &mut [RapElement], kind: u32, at: usize)
+    pub fn enter(&mut self, elements: &mut [RapElement], kind: u32, at: u32)
         ensures { LaysElements at (str_enter kind) (element_room elements.old self.old) (element_room elements.new self.new) }
     {
         let index = self.count;
         let room = elements.len().min(NO_PARENT as usize);
         if index < room {
-            let start = narrow(at);
             elements[index] = RapElement {
                 kind,
-                start,
-                end: start,
+                start: at,
+                end: at,
                 after: 0,
                 parent: self.newest,
             };
@@ -63,7 +62,7 @@ impl ElementCounts {
 
     /// The newest open node ends at this byte, if there is one.
     #[inline(always)]
-    pub fn exit(&mut self, elements: &mut [RapElement], at: usize)
+    pub fn exit(&mut self, elements: &mut [RapElement], at: u32)
         ensures { LaysElements at str_exit (element_room elements.old self.old) (element_room elements.new self.new) }
     {
         if self.beyond > 0 {
@@ -75,7 +74,7 @@ impl ElementCounts {
 
     /// The newest open node that has a place ends at this byte, if there is one.
     #[inline(always)]
-    fn close(&mut self, elements: &mut [RapElement], at: usize)
+    fn close(&mut self, elements: &mut [RapElement], at: u32)
         ensures { self.old.beyond ≡ 0 → LaysElements at str_exit (element_room elements.old self.old) (element_room elements.new self.new) }
     {
         let index = self.newest as usize;
@@ -85,7 +84,7 @@ impl ElementCounts {
             elements[index] = RapElement {
                 kind: element.kind,
                 start: element.start,
-                end: narrow(at),
+                end: at,
                 after: narrow(self.count),
                 parent: element.parent,
             };
@@ -95,7 +94,7 @@ impl ElementCounts {
 
     /// A leaf comes, from this byte to the byte `end`.
     #[inline(always)]
-    pub fn leaf(&mut self, elements: &mut [RapElement], kind: u32, at: usize, end: usize)
+    pub fn leaf(&mut self, elements: &mut [RapElement], kind: u32, at: u32, end: u32)
         ensures { (text : List ℕ) → end ≡ at + length text → LaysElements at (str_token kind text) (element_room elements.old self.old) (element_room elements.new self.new) }
     {
         let index = self.count;
@@ -103,8 +102,8 @@ impl ElementCounts {
         if index < room {
             elements[index] = RapElement {
                 kind,
-                start: narrow(at),
-                end: narrow(end),
+                start: at,
+                end,
                 after: narrow(index + 1),
                 parent: self.newest,
             };

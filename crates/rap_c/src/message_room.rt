@@ -15,7 +15,6 @@ pub struct MessageCounts {
 }
 
 /// Ends the messages from one place to another at this byte, as far as the room reaches.
-#[inline(always)]
 fn end_messages(messages: &mut [RapMessage], first: usize, last: usize, end: usize)
     ensures { messages.new ≡ ends_at first (min last (length messages.old) - first) end messages.old }
 {
@@ -45,6 +44,7 @@ impl MessageCounts {
     }
 
     /// Adds a message at this byte, with a range.
+    #[inline(never)]
     pub fn add(
         &mut self,
         messages: &mut [RapMessage],
@@ -72,9 +72,20 @@ impl MessageCounts {
         self.said = text_end;
     }
 
-    /// Ends the range of each message that has none yet at this byte.
+    /// Ends the range of each message that has none yet at this byte. Most often there is none.
     #[inline(always)]
-    pub fn end_ranges(&mut self, messages: &mut [RapMessage], end: usize)
+    pub fn end_ranges(&mut self, messages: &mut [RapMessage], end: u32)
+        ensures { (bytes : List ℕ) → EndsRanges end (message_room messages.old bytes self.old) (message_room messages.new bytes self.new) }
+    {
+        if self.ranged == self.count {
+            return;
+        }
+        self.end_last_ranges(messages, end as usize);
+    }
+
+    /// The same in a call of its own, which takes no register from the walk.
+    #[inline(never)]
+    fn end_last_ranges(&mut self, messages: &mut [RapMessage], end: usize)
         ensures { (bytes : List ℕ) → EndsRanges end (message_room messages.old bytes self.old) (message_room messages.new bytes self.new) }
     {
         end_messages(messages, self.ranged, self.count, end);

@@ -3,7 +3,7 @@ ghost use Rattle.std.specs.Prelude.{◌≡◌, ◌+◌, ◌<◌, ◌^◌, [], le
 ghost use Rattle.rap_lexed.specs.StrStep.{str_token};
 
 use crate::element::{RapElement, RapMessage};
-use crate::element_room::ElementCounts;
+use crate::element_room::{ElementCounts, narrow};
 use crate::filler::kind_number;
 use crate::message_room::MessageCounts;
 use crate::waiting::Waiting;
@@ -24,7 +24,7 @@ pub struct NodeFiller<'a, 'm, 'w> {
     pub message_counts: MessageCounts,
     pub waiting: &'m [Waiting<'w>],
     pub next: usize,
-    pub at: usize,
+    pub at: u32,
 }
 
 impl<'a, 'm, 'w> NodeFiller<'a, 'm, 'w> {
@@ -64,7 +64,7 @@ impl<'a, 'm, 'w> NodeFiller<'a, 'm, 'w> {
         ensures { LaysStep self.old (str_token kind text.now) self.new }
     {
         let start = self.at;
-        let end = start.saturating_add(text.len());
+        let end = narrow(start as usize + text.len());
         self.element_counts.leaf(self.elements, kind, start, end);
         self.at = end;
         if text.is_empty() {
@@ -74,9 +74,20 @@ impl<'a, 'm, 'w> NodeFiller<'a, 'm, 'w> {
         self.add_waiting(start, end);
     }
 
-    /// Adds the lexer's messages before the end of a leaf, with its range.
+    /// Adds the lexer's messages before the end of a leaf, with its range. Most often none waits.
     #[inline(always)]
-    fn add_waiting(&mut self, start: usize, end: usize)
+    fn add_waiting(&mut self, start: u32, end: u32)
+        ensures { AddsWaiting start end self.old self.new }
+    {
+        if self.next >= self.waiting.len() {
+            return;
+        }
+        self.add_next_waiting(start as usize, end as usize);
+    }
+
+    /// The same in a call of its own, which takes no register from the walk.
+    #[inline(never)]
+    fn add_next_waiting(&mut self, start: usize, end: usize)
         ensures { AddsWaiting start end self.old self.new }
     {
         'waiting: while self.next < self.waiting.len() {

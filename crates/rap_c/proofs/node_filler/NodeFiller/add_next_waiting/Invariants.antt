@@ -3,7 +3,7 @@ use Rattle.rap_ranged.specs.Listing.{Noting}
 use Rattle.rap_c.specs.Lays.{AreSameRooms, HoldsNotes, elements_of, messages_of}
 use Rattle.rap_c.specs.declared.element.RapMessage.{RapMessage}
 use Rattle.rap_c.proofs.Told.{Going}
-use Rattle.rap_c.proofs.node_filler.NodeFiller.add_waiting.Given as goal
+use Rattle.rap_c.proofs.node_filler.NodeFiller.add_next_waiting.Given as goal
 
 abbrev pub invariant-waiting : goal.invariant-waiting
 invariant-waiting l = record {
