@@ -2,7 +2,7 @@
 use Rattle.std.proofs.Common.{◌≡◌, ℕ, Bool, true, false, ◌||◌, ◌&&◌, ◌==◌, ◌<◌, ◌≤◌, nat_le, List, [], ◌∷◌, ◌++◌, Option, Some, None, Bor, length, map, if◌then◌else◌, refl, ap, sym, ◌∙◌, subst, arith}
 use Rattle.std.specs.Prelude.{bytes_eq, codes, is_some, slice_index_or}
 use Rattle.std.specs.List.{list_all}
-use Rattle.std.proofs.lemmas.Bool.{and_parts, eqb-true, leb-true}
+use Rattle.std.proofs.lemmas.Bool.{and_parts, cond-true, cond-false, eqb-true, leb-true}
 use Rattle.std.proofs.lemmas.List.{get_or-map, length-map}
 use Rattle.std.proofs.lemmas.List.Folds.{list_all_at}
 use Rattle.std.proofs.lemmas.Slice.Eq.{bytes_eq-Decides}
@@ -85,7 +85,7 @@ module _ (rows : List (List ℕ × ℕ)) (p : ℕ → Bool) (stand : list_all st
       ] refl
 
   -- the kind of a word that stands at its place
-  pub found : (text : List ℕ) → 0 < length text → bytes_eq (at text).0 text ≡ true → kind_of_word rows text ≡ passing p (at text).1
+  found : (text : List ℕ) → 0 < length text → bytes_eq (at text).0 text ≡ true → kind_of_word rows text ≡ passing p (at text).1
   unfolding agrees
   found [] some hit = absurd (omega (arith, some))
   found (byte ∷ bytes) some hit =
@@ -95,7 +95,7 @@ module _ (rows : List (List ℕ × ℕ)) (p : ℕ → Bool) (stand : list_all st
       let kind = second (is_empty (at text).0) (same_kind (kind_of_word rows (at text).0) (passing p (at text).1)) long (at-agrees text) in
       subst (λ (w : List ℕ). kind_of_word rows w ≡ passing p (at text).1) same (same_kind-is _ _ kind)
 
-  pub missing : (text : List ℕ) → bytes_eq (at text).0 text ≡ false → kind_of_word rows text ≡ None
+  missing : (text : List ℕ) → bytes_eq (at text).0 text ≡ false → kind_of_word rows text ≡ None
   missing text other = not_among rows text stand other
 
 abbrev pub known : List (List ℕ × ℕ)
@@ -193,6 +193,38 @@ never text Edition2018 h = no_more (codes "dyn", DYN_KW) contextual_ever text (n
 never text Edition2021 h = no_more (codes "dyn", DYN_KW) contextual_ever text (no_kind (from_contextual_keyword text Edition2015) h)
 never text Edition2024 h = no_more (codes "dyn", DYN_KW) contextual_ever text (no_kind (from_contextual_keyword text Edition2015) h)
 
+-- no word is shorter or longer
+fits : List ℕ → Bool
+fits word = nat_le 2 (length word) && nat_le (length word) 15
+
+unfit : (rows : List (List ℕ × ℕ)) (text : List ℕ) → list_all (λ row. fits row.0) rows ≡ true → fits text ≡ false → kind_of_word rows text ≡ None
+unfit [] text all h = refl
+unfit (row ∷ rows) text all h =
+    let parts = and_parts (fits row.0) (list_all (λ row. fits row.0) rows) all in
+    (elim (bytes_eq text row.0) as (λ z. bytes_eq text row.0 ≡ z → (if z then Some row.1 else kind_of_word rows text) ≡ None) [
+      | true ↦ λ s. let same : fits text ≡ true = ap fits ((bytes_eq-Decides text row.0).0 s) ∙ parts.0 in cc
+      | false ↦ λ _. unfit rows text parts.1 h
+    ]) refl
+
+known-fit : list_all (λ row. fits row.0) known ≡ true
+unfolding fits
+known-fit = refl
+
+and-false : (b : Bool) → (b && false) ≡ false
+and-false true = refl
+and-false false = refl
+
+lt-leb : (a b : ℕ) → a < b → nat_le b a ≡ false
+lt-leb a b h = grind (arith, h)
+
+pub short : (text : List ℕ) → length text < 2 → known_kind text ≡ None
+unfolding fits
+short text h = unfit known text known-fit (ap (λ b. b && nat_le (length text) 15) (lt-leb (length text) 2 h))
+
+pub long : (text : List ℕ) → 15 < length text → known_kind text ≡ None
+unfolding fits
+long text h = unfit known text known-fit (ap (λ b. nat_le 2 (length text) && b) (lt-leb 15 (length text) h) ∙ and-false (nat_le 2 (length text)))
+
 -- a row's number is a kind's
 is_kind : List ℕ × ℕ → Bool
 is_kind row = nat_le row.1 PATH_META
@@ -229,3 +261,41 @@ module _ (table : List (Bor (List ℕ) × ℕ)) (text : List ℕ) (i : ℕ) (non
 
   pub miss : bytes_eq (slice_index_or table i none).0.now text ≡ false → known_kind text ≡ None
   miss other = missing known any known-stand known-agree text (subst (λ row. bytes_eq row.0 text ≡ false) row-is other)
+
+-- ---- What the calls return, by the kind of the known word
+
+passes : (p : ℕ → Bool) (kind : ℕ) → p kind ≡ true → passing p kind ≡ Some kind
+passes p kind h = cond-true (p kind) (Some kind) None h
+
+fails : (p : ℕ → Bool) (kind : ℕ) → p kind ≡ false → passing p kind ≡ None
+fails p kind h = cond-false (p kind) (Some kind) None h
+
+module _ (text : List ℕ) (edition : Edition) where
+  abbrev is_reserved_kind : ℕ → Bool
+  is_reserved_kind kind = nat_le kind (last_reserved edition)
+
+  pub reserved-none : known_kind text ≡ None → from_keyword text edition ≡ None
+  reserved-none e = reserved-part text edition ∙ ap (part is_reserved_kind) e
+
+  pub contextual-none : known_kind text ≡ None → from_contextual_keyword text edition ≡ None
+  contextual-none e = contextual-part text edition ∙ ap (part (is_contextual_kind edition)) e
+
+  module _ (kind : ℕ) (is : known_kind text ≡ Some kind) where
+    pub reserved-yes : nat_le kind (last_reserved edition) ≡ true → from_keyword text edition ≡ Some kind
+    reserved-yes h = reserved-part text edition ∙ (ap (part is_reserved_kind) is ∙ passes is_reserved_kind kind h)
+
+    pub reserved-no : nat_le kind (last_reserved edition) ≡ false → from_keyword text edition ≡ None
+    reserved-no h = reserved-part text edition ∙ (ap (part is_reserved_kind) is ∙ fails is_reserved_kind kind h)
+
+    pub contextual-yes : is_contextual_kind edition kind ≡ true → from_contextual_keyword text edition ≡ Some kind
+    contextual-yes h = contextual-part text edition ∙ (ap (part (is_contextual_kind edition)) is ∙ passes (is_contextual_kind edition) kind h)
+
+    pub contextual-no : is_contextual_kind edition kind ≡ false → from_contextual_keyword text edition ≡ None
+    contextual-no h = contextual-part text edition ∙ (ap (part (is_contextual_kind edition)) is ∙ fails (is_contextual_kind edition) kind h)
+
+    some_passing : (p : ℕ → Bool) → is_some (passing p kind) ≡ p kind
+    some_passing p = elim (p kind) as (λ b. is_some (if b then Some kind else None) ≡ b) [ true ↦ refl | false ↦ refl ]
+
+    -- whether it is a contextual keyword
+    pub contextual-is : is_some (from_contextual_keyword text edition) ≡ is_contextual_kind edition kind
+    contextual-is = ap is_some (contextual-part text edition) ∙ (ap (λ k. is_some (part (is_contextual_kind edition) k)) is ∙ some_passing (is_contextual_kind edition))

@@ -13,11 +13,15 @@ impl SyntaxKind {
     pub fn from_keyword(text: &str, edition: Edition) -> Option<SyntaxKind>
         ensures { result ≡ from_keyword text.now edition }
     {
-        let kind = known_word(text)?;
-        if kind.is_reserved(edition) {
-            Some(kind)
-        } else {
-            None
+        match known_word(text) {
+            Some(kind) => {
+                if kind.is_reserved(edition) {
+                    Some(kind)
+                } else {
+                    None
+                }
+            }
+            None => None,
         }
     }
 
@@ -26,11 +30,15 @@ impl SyntaxKind {
     pub fn from_contextual_keyword(text: &str, edition: Edition) -> Option<SyntaxKind>
         ensures { result ≡ from_contextual_keyword text.now edition }
     {
-        let kind = known_word(text)?;
-        if kind.is_contextual(edition) {
-            Some(kind)
-        } else {
-            None
+        match known_word(text) {
+            Some(kind) => {
+                if kind.is_contextual(edition) {
+                    Some(kind)
+                } else {
+                    None
+                }
+            }
+            None => None,
         }
     }
 
