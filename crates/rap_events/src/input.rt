@@ -127,6 +127,49 @@ impl Input {
         true
     }
 
+    #[inline(always)]
+    pub fn push_if_in_room(&mut self, kind: SyntaxKind, edition: Edition, joint: bool, keep: bool) -> bool {
+        if !self.columns.has_room(self.len) {
+            return false;
+        }
+        let contextual = if kind == SyntaxKind::IDENT { SyntaxKind::IDENT } else { SyntaxKind::EOF };
+        self.columns.write(self.len, kind, contextual, edition, joint & keep);
+        self.len += usize::from(keep);
+        true
+    }
+
+    #[inline(always)]
+    pub fn push_block(&mut self, tokens: &[SyntaxKind], from: usize, to: usize) -> usize {
+        let mut i = from;
+        if to <= i || !self.columns.has_room(self.len) {
+            return i;
+        }
+        let start = self.len;
+        let mut len = start;
+        let block = start / 64;
+        let end = block * 64 + 64;
+        let mut word = self.columns.joints[block];
+        let mut kind = tokens[i];
+        let mut touching = touches(kind);
+        'tokens: while i < to && len < end {
+            if kind == SyntaxKind::FLOAT_NUMBER {
+                break;
+            }
+            let next = tokens[i + 1];
+            let next_touches = touches(next);
+            self.columns.kinds[len] = kind;
+            self.columns.contextual_kinds[len] = if kind == SyntaxKind::IDENT { SyntaxKind::IDENT } else { SyntaxKind::EOF };
+            word |= u64::from(touching & next_touches) << (len % 64);
+            len += usize::from(!kind.is_trivia());
+            i += 1;
+            kind = next;
+            touching = next_touches;
+        }
+        self.columns.joints[block] = word;
+        self.len = len;
+        i
+    }
+
     /// Marks the last token as touching the next one. There must be a token.
     pub fn was_joint(&mut self)
         requires { 0 < length self.old }
@@ -190,4 +233,9 @@ impl Input {
     {
         index < self.len && self.columns.is_joint(index)
     }
+}
+
+#[inline(always)]
+fn touches(kind: SyntaxKind) -> bool {
+    !(kind.is_trivia() || kind == SyntaxKind::IDENT)
 }

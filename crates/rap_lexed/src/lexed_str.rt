@@ -99,8 +99,9 @@ impl From<NoMemory> for LexFault {
 #[derive(Drop)]
 pub struct LexedStr<'a> {
     text: &'a str,
-    kind: Vec<SyntaxKind>,
+    pub(crate) kind: Vec<SyntaxKind>,
     start: Vec<u32>,
+    pub(crate) contextual: Vec<u32>,
     error: Vec<LexError>,
 }
 
@@ -148,6 +149,7 @@ fn take_common(
     from: usize,
     kind: &mut Vec<SyntaxKind>,
     start: &mut Vec<u32>,
+    contextual: &mut Vec<u32>,
 ) -> Result<usize, NoMemory>
     requires short { length text.now ≤ MAX_TEXT }
     requires border { IsCharBoundary text.now from }
@@ -158,14 +160,24 @@ fn take_common(
 {
     let mut end = from;
     'common: while end < text.len() {
-        let Some((token, len)) = common_token(edition, &text[end..]) else {
+        let Some((token, len, may)) = common_token(edition, &text[end..]) else {
             break;
         };
         end += len;
+        if may {
+            note(contextual, kind.len())?;
+        }
         kind.push(token)?;
         start.push(end as u32)?;
     }
     Ok(end)
+}
+
+#[cold]
+#[inline(never)]
+fn note(contextual: &mut Vec<u32>, number: usize) -> Result<(), NoMemory> {
+    contextual.push(number as u32)?;
+    Ok(())
 }
 
 /// Where the messages about the token and the later ones begin.
@@ -201,10 +213,11 @@ impl<'a> LexedStr<'a> {
         push_header(&header, &mut kind, &mut start)?;
         let mut offset = header.end();
         let mut error = Vec::new(alloc);
+        let mut contextual = Vec::new(alloc);
         let mut since_open = 5usize;
         'tokens: while offset < text.len() {
             let before = kind.len();
-            offset = take_common(edition, text, offset, &mut kind, &mut start)?;
+            offset = take_common(edition, text, offset, &mut kind, &mut start, &mut contextual)?;
             since_open = since_open_with(since_open, kind.len() - before);
             if offset == text.len() {
                 break;
@@ -216,6 +229,9 @@ impl<'a> LexedStr<'a> {
             report(alloc, &mut error, number, next, token.remark, after_open)?;
             since_open = since_open_after(since_open, token.kind, next);
             offset += len;
+            if token.kind == SyntaxKind::IDENT && SyntaxKind::from_contextual_keyword(next, Edition::Edition2015).is_some() {
+                note(&mut contextual, kind.len())?;
+            }
             kind.push(token.kind)?;
             start.push(offset as u32)?;
         }
@@ -223,6 +239,7 @@ impl<'a> LexedStr<'a> {
             text,
             kind,
             start,
+            contextual,
             error,
         })
     }

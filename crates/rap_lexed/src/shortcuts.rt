@@ -72,10 +72,13 @@ impl LexedStr<'_> {
         ensures count { IfOk result (λ input. length input ≡ significant self.now.tokens) }
     {
         let mut input = Input::with_capacity(alloc, self.len())?;
+        let mut numbers = self.contextual.as_slice();
         let mut i = 0;
         'tokens: while i < self.len() {
+            numbers = past(numbers, i);
             push_record(self, i, edition, &mut input)?;
-            i = push_in_room(self, i + 1, edition, &mut input);
+            let to = next_of(numbers, self.len() - 1);
+            i = push_in_room(self, i + 1, to, edition, &mut input);
         }
         Ok(input)
     }
@@ -190,42 +193,43 @@ fn push_record(
     Ok(())
 }
 
-/// Appends the records of the tokens from `from` on, as long as there is room for them. Returns how far it came.
-///
-/// It is inlined, and calls nothing that changes the input's lists, so that they stay in registers.
-#[inline(always)]
-fn push_in_room(lexed: &LexedStr<'_>, from: usize, edition: Edition, input: &mut Input) -> usize
-    requires { from ≤ length lexed.now.tokens }
-    ensures further { from ≤ result }
-    ensures within { result ≤ length lexed.now.tokens }
-    ensures pushed { input.new ++ records (drop result lexed.now.tokens) edition ≡ input.old ++ records (drop from lexed.now.tokens) edition }
+
+/// The numbers, which are in order, past this one.
+fn past(numbers: &[u32], number: usize) -> &[u32]
 {
-    let mut i = from;
-    'tokens: while i < lexed.len() {
-        if !push_record_in_room(lexed, i, edition, input) {
-            break;
-        }
-        i += 1;
+    match numbers {
+        [first, rest @ ..] if *first as usize == number => rest,
+        _ => numbers,
     }
-    i
 }
 
-/// Appends the record of a token as `push_record` does, if there is room for it. Returns whether there was.
+/// The first of the numbers; without one, how many tokens there are.
+fn next_of(numbers: &[u32], count: usize) -> usize
+{
+    match numbers {
+        [first, ..] => *first as usize,
+        [] => count,
+    }
+}
+
+#[inline(always)]
+fn push_in_room(lexed: &LexedStr<'_>, from: usize, to: usize, edition: Edition, input: &mut Input) -> usize
+{
+    input.push_block(lexed.kind.as_slice(), from, to)
+}
+
 #[inline(always)]
 fn push_record_in_room(lexed: &LexedStr<'_>, i: usize, edition: Edition, input: &mut Input) -> bool
-    requires { i < length lexed.now.tokens }
-    ensures pushed { IsTrue result → input.new ≡ input.old ++ records_at lexed.now.tokens i edition }
-    ensures full { IsFalse result → input.new ≡ input.old }
 {
     let kind = lexed.kind(i);
-    if kind.is_trivia() {
-        return true;
-    }
-    if kind == SyntaxKind::IDENT {
-        let keyword = contextual_keyword(lexed.text(i), edition);
-        return input.push_ident_in_room(keyword.unwrap_or(SyntaxKind::IDENT), edition);
-    }
-    input.push_joint_in_room(kind, edition, is_joint(lexed, i))
+    let keep = !kind.is_trivia();
+    let touching = i + 1 < lexed.len() && touches(lexed.kind(i + 1));
+    let joint = if kind == SyntaxKind::FLOAT_NUMBER {
+        !lexed.text(i).ends_with('.')
+    } else {
+        touching & (kind != SyntaxKind::IDENT)
+    };
+    input.push_if_in_room(kind, edition, joint, keep)
 }
 
 /// The joint bit of a token.

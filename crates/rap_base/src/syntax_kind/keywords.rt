@@ -3,7 +3,7 @@ ghost use Rattle.std.specs.Prelude.{◌≡◌};
 ghost use Rattle.rap_base.specs.Keyword.{from_keyword, from_contextual_keyword, is_keyword, kind_of_word, reserved};
 
 use super::SyntaxKind;
-use super::words::{contextual_ever, reserved_in_2024};
+use super::words::{any_word, contextual_ever, reserved_in_2024};
 use crate::edition::Edition;
 
 impl SyntaxKind {
@@ -15,6 +15,20 @@ impl SyntaxKind {
             Edition::Edition2015 => reserved_in_2015(text),
             Edition::Edition2018 | Edition::Edition2021 => reserved_in_2018(text),
             Edition::Edition2024 => reserved_in_2024(text),
+        }
+    }
+
+    #[inline(always)]
+    pub fn from_word(text: &str) -> Option<SyntaxKind> {
+        any_word(text)
+    }
+
+    #[inline(always)]
+    pub fn is_reserved(self, edition: Edition) -> bool {
+        match edition {
+            Edition::Edition2015 => self <= SyntaxKind::YIELD_KW,
+            Edition::Edition2018 | Edition::Edition2021 => self <= SyntaxKind::TRY_KW,
+            Edition::Edition2024 => self <= SyntaxKind::GEN_KW,
         }
     }
 

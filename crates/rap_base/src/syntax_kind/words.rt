@@ -11,11 +11,10 @@ use super::reserved_words::reserved_words;
 use crate::edition::Edition;
 
 /// The kind of a word that the latest edition reserves.
-pub(super) fn reserved_in_2024(text: &str) -> Option<SyntaxKind>
-    ensures { result ≡ kind_of_word (reserved Edition.Edition2024) text.now }
+pub(super) fn any_word(text: &str) -> Option<SyntaxKind>
 {
     let len = text.len();
-    if len < 2 || 8 < len {
+    if len < 2 || 15 < len {
         return None;
     }
     let (word, number) = reserved_words()[place(text.as_bytes())];
@@ -26,17 +25,24 @@ pub(super) fn reserved_in_2024(text: &str) -> Option<SyntaxKind>
     }
 }
 
+pub(super) fn reserved_in_2024(text: &str) -> Option<SyntaxKind> {
+    match any_word(text) {
+        Some(kind) => if kind.number <= 104 { Some(kind) } else { None },
+        None => None,
+    }
+}
+
 /// Where the word stands among the reserved ones, if it is one. No two of them have the same place.
 #[inline(always)]
 fn place(text: &[u8]) -> usize
     requires some { 2 ≤ length text.now }
-    requires few { length text.now ≤ 8 }
+    requires few { length text.now ≤ 15 }
     ensures { result ≡ place text.now }
 {
     let len = text.len();
     let first = usize::from(text[0]);
     let middle = usize::from(text[len / 2]);
-    (4 * len + 21 * first + middle) % 256
+    (192 * len + 31 * first + middle) % 512
 }
 
 /// The kind of a word that is contextual in every edition.

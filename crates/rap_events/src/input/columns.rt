@@ -30,7 +30,7 @@ impl Columns {
     pub(super) fn with_capacity(alloc: Global, capacity: usize) -> Result<Columns, NoMemory>
         ensures { IfOk result (λ columns. Holds columns 0) }
     {
-        let words = capacity.div_ceil(BLOCK);
+        let words = capacity.div_ceil(1024) * 16;
         let room = words.saturating_mul(BLOCK);
         let kinds = Vec::with_capacity(alloc, room)?;
         let contextual_kinds = Vec::with_capacity(alloc, room)?;
@@ -78,13 +78,13 @@ impl Columns {
         ensures room { OnOk result (len < 64 * length self.new.joints.items) }
         ensures records { records self.new len ≡ records self.old len }
     {
-        let Some(room) = len.checked_add(BLOCK) else {
+        let Some(room) = len.checked_add(1024) else {
             return Err(NoMemory);
         };
         self.kinds.resize(room, SyntaxKind::EOF)?;
         self.contextual_kinds.resize(room, SyntaxKind::EOF)?;
         self.editions.resize(room, Edition::Edition2024)?;
-        self.joints.push(0)?;
+        self.joints.resize(room / BLOCK, 0)?;
         Ok(())
     }
 

@@ -11,7 +11,7 @@ ghost use Rattle.rap_base.specs.declared.edition.Edition.{Edition};
 ghost use Rattle.rap_lexer.specs.declared.lexer.run.Class.TheVariants.{White, IdentStart, IdentContinue};
 
 use crate::lexer::lanes::{white_run, word_run};
-use crate::lexer::word::word_kind;
+use crate::lexer::word::common_word;
 use rap_base::edition::Edition;
 use rap_base::syntax_kind::SyntaxKind;
 
@@ -22,7 +22,7 @@ use rap_base::syntax_kind::SyntaxKind;
 /// past ASCII follows it; and a word in ASCII, unless a quote, a `#` or a character past ASCII follows it. There is
 /// nothing to report about any of them.
 #[inline(always)]
-pub fn common_token(edition: Edition, text: &str) -> Option<(SyntaxKind, usize)>
+pub fn common_token(edition: Edition, text: &str) -> Option<(SyntaxKind, usize, bool)>
     requires { 0 < length text.now }
     ensures token { IfSome result (λ r. First edition (chars text.now) (plain r.0) (chars (drop r.1 text.now))) }
     ensures kind { IfSome result (λ r. IsTokenKind r.0) }
@@ -33,7 +33,7 @@ pub fn common_token(edition: Edition, text: &str) -> Option<(SyntaxKind, usize)>
 {
     let class = class_of(text.as_bytes()[0]);
     if class < WHITE {
-        Some((SyntaxKind::from_u16(u16::from(class)), 1))
+        Some((SyntaxKind::from_u16(u16::from(class)), 1, false))
     } else if class == WHITE {
         white_token(text)
     } else if class == WORD {
@@ -45,7 +45,7 @@ pub fn common_token(edition: Edition, text: &str) -> Option<(SyntaxKind, usize)>
 
 /// The white space that the text begins with.
 #[inline(always)]
-fn white_token(text: &str) -> Option<(SyntaxKind, usize)>
+fn white_token(text: &str) -> Option<(SyntaxKind, usize, bool)>
     requires { is_ascii_in White (get_or text.now 0 0) ≡ true }
     ensures { MatchOption result (is_uncommon text.now ≡ true) (λ r. (edition : Edition) → IsCommon edition text.now r.0 r.1) }
 {
@@ -54,7 +54,7 @@ fn white_token(text: &str) -> Option<(SyntaxKind, usize)>
     if n < bytes.len() && PAST_ASCII == class_of(bytes[n]) {
         None
     } else {
-        Some((SyntaxKind::WHITESPACE, n))
+        Some((SyntaxKind::WHITESPACE, n, false))
     }
 }
 
@@ -73,7 +73,7 @@ fn white_len(bytes: &[u8]) -> usize
 
 /// The word that the text begins with.
 #[inline(always)]
-fn word_token(edition: Edition, text: &str) -> Option<(SyntaxKind, usize)>
+fn word_token(edition: Edition, text: &str) -> Option<(SyntaxKind, usize, bool)>
     requires { is_ascii_in IdentStart (get_or text.now 0 0) ≡ true }
     ensures { MatchOption result (is_uncommon text.now ≡ true) (λ r. IsCommon edition text.now r.0 r.1) }
 {
@@ -82,7 +82,8 @@ fn word_token(edition: Edition, text: &str) -> Option<(SyntaxKind, usize)>
     if n < bytes.len() && OTHER < class_of(bytes[n]) {
         None
     } else {
-        Some((word_kind(edition, &text[..n]), n))
+        let (kind, contextual) = common_word(edition, &text[..n]);
+        Some((kind, n, contextual))
     }
 }
 

@@ -164,6 +164,24 @@ pub fn word_kind(edition: Edition, text: &str) -> SyntaxKind
     }
 }
 
+/// The kind of a word, and whether it may be contextual.
+#[inline(always)]
+pub fn common_word(edition: Edition, text: &str) -> (SyntaxKind, bool) {
+    if text == "_" {
+        return (SyntaxKind::UNDERSCORE, false);
+    }
+    match SyntaxKind::from_word(text) {
+        None => (SyntaxKind::IDENT, false),
+        Some(kind) => {
+            if kind.is_reserved(edition) {
+                (kind, false)
+            } else {
+                (SyntaxKind::IDENT, true)
+            }
+        }
+    }
+}
+
 /// What stands before the cursor in the text that it came from.
 fn taken<'a>(text: &'a str, cursor: &Cursor<'_>) -> &'a str
     requires { (initial : List ℕ) × (chars text.now ≡ initial ++ cursor.now) }
