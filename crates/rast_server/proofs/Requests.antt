@@ -1,5 +1,5 @@
 -- What is sent for each kind of message.
-use Rattle.std.proofs.Common.{◌≡◌, ℕ, Bool, Bor, MatchOption, String, true, false, IfOk, IsUtf8, List, Option, Some, None, Result, Ok, Err, refl, sym, subst, option_map, string_bytes}
+use Rattle.std.proofs.Common.{◌≡◌, ℕ, Bool, Bor, MatchOption, String, true, false, IfOk, OnErr, IsUtf8, List, Option, Some, None, Result, Ok, Err, refl, sym, subst, option_map, string_bytes}
 use Rattle.std.specs.declared.alloc.AllocError.{AllocError}
 use Rattle.std.specs.declared.alloc.Global.{Global}
 use Rattle.serde_json.specs.Data.{Data, null, boolean, number, string, array, object, unsigned, negative, float}
@@ -11,8 +11,9 @@ use Rattle.rast_messages.specs.Messages.{IsNoMessage, IsNotification, IsRequest,
 use Rattle.rast_messages.specs.Replies.{error_text}
 use Rattle.rast_messages.specs.declared.reply.Fault.{Fault}
 use Rattle.rast_messages.specs.declared.reply.Code.TheVariants.{InternalError, InvalidRequest, ParseError}
-use Rattle.rast_server.specs.Answered.{Answers, Heeds, IsAnswer, Reports, id_or_null}
+use Rattle.rast_server.specs.Answered.{Answers, Heeds, IsAnswer, IsUnanswered, IsUntold, Reports, id_or_null, params_in}
 use Rattle.rast_server.specs.Answered.IsAnswer.{request, notification, no_message, no_json, no_memory}
+use Rattle.rast_server.specs.Answered.IsUnanswered.{same, untold}
 use Rattle.rast_server.specs.declared.server.Outcome.{Outcome}
 use Rattle.rast_server.specs.declared.server.Outcome.TheVariants.{Reply}
 use Rattle.rast_server.specs.declared.server.Server.{Server}
@@ -39,10 +40,10 @@ requested old new content method d i (Ok o) e p h = request d i method e p (h (i
 requested old new content method d i (Err a) e p h = tt
 
 -- a notification is heeded
-pub notified : (old new : Server) (content method : List ℕ) (d : Data) (r : Result Outcome AllocError) → read content ≡ Some d → IsNotification d method
-    → IfOk r (λ o. Heeds old method o new) → IfOk r (λ o. IsAnswer old content o new)
-notified old new content method d (Ok o) e p h = notification d method e p h
-notified old new content method d (Err a) e p h = tt
+pub notified : (old new : Server) (content method : List ℕ) (d params : Data) (r : Result Outcome AllocError) → read content ≡ Some d → IsNotification d method
+    → params ≡ params_in d → IfOk r (λ o. Heeds old method params o new) → IfOk r (λ o. IsAnswer old content o new)
+notified old new content method d params (Ok o) e p q h = notification d method e p (subst (λ (x : Data). Heeds old method x o new) q h)
+notified old new content method d params (Err a) e p q h = tt
 
 -- a content that is not read is reported
 pub unread : (old : Server) (content : List ℕ) (memory : Bool) (r : Result Outcome AllocError) → (memory ≡ false → IsUtf8 content → read content ≡ None)
@@ -67,3 +68,14 @@ pub unfit : (old : Server) (content : List ℕ) (d : Data) (id : Option (Bor Val
     → IsAnswer old content (Reply text) old
 unfit old content d id fault text e none known code h = no_message d e none
     (record { fault = fault; code_is = code; text_is = error_is id (id_in d) (string_bytes text) fault known (id_plain d) h }) refl
+
+-- what a notification leaves that is not answered
+pub untold_of : (old new : Server) (content method : List ℕ) (d params : Data) (r : Result Outcome AllocError) → read content ≡ Some d → IsNotification d method
+    → params ≡ params_in d → OnErr r (IsUntold old method params new) → OnErr r (IsUnanswered old content new)
+untold_of old new content method d params (Ok o) e p q h = tt
+untold_of old new content method d params (Err a) e p q h = untold d method e p (subst (λ (x : Data). IsUntold old method x new) q h)
+
+-- what is not answered leaves the server as it was
+pub left : (old new : Server) (content : List ℕ) (r : Result Outcome AllocError) → OnErr r (new ≡ old) → OnErr r (IsUnanswered old content new)
+left old new content (Ok o) h = tt
+left old new content (Err a) h = same h

@@ -1,5 +1,5 @@
 -- A run, step by step.
-use Rattle.std.proofs.Common.{◌≡◌, ◌≤◌, ◌++◌, ℕ, IfOk, List, [], Option, Some, None, Result, Ok, Err, inl, inr, refl, sym, ap, ◌∙◌, subst, append_assoc, append-nil, string_bytes, take, arith, slice_range}
+use Rattle.std.proofs.Common.{◌≡◌, ◌≤◌, ◌++◌, ℕ, IfOk, OnErr, List, [], Option, Some, None, Result, Ok, Err, inl, inr, refl, sym, ap, ◌∙◌, subst, append_assoc, append-nil, string_bytes, take, arith, slice_range}
 use Rattle.std.specs.Io.KnownBytes.{Appends, Consumes, IsAtEnd, Keeps}
 use Rattle.std.specs.declared.alloc.AllocError.{AllocError}
 use Rattle.rast_frames.specs.Fronts.{Fronts}
@@ -9,7 +9,7 @@ use Rattle.rast_frames.specs.declared.front.Front.TheVariants.{Part, Message, To
 use Rattle.rast_messages.specs.declared.reply.TheConstants.{OUT_OF_MEMORY}
 use Rattle.rast_server.specs.Answered.{IsAnswer, status_of}
 use Rattle.rast_server.specs.Answered.IsAnswer.{request, notification, response, no_message, no_json, no_memory}
-use Rattle.rast_server.specs.Ran.{FrontAnswers, GoesOn, IsExited, IsReported, IsRun, IsRunning, IsServed, Sends, Serves, Writes, sent}
+use Rattle.rast_server.specs.Ran.{FrontAnswers, FrontLeaves, GoesOn, IsExited, IsReported, IsRun, IsRunning, IsServed, Sends, Serves, Writes, sent}
 use Rattle.rast_server.specs.Ran.Serves.{answers, begins, comes, fails, leaves_out}
 use Rattle.rast_server.specs.declared.run.Next.{Next}
 use Rattle.rast_server.specs.declared.run.Next.TheVariants.{Read, Exit, CannotWrite, Lost}
@@ -86,16 +86,17 @@ answered start now next i s t w v f o p q r k h = record {
 
 -- the front is answered, and the run goes on
 pub went_on : (start now next : Option (List ℕ)) (i : List ℕ) (s t : Server) (w v : Waiting) (f : Front) (r : Result Outcome AllocError) (n : Next) → Fronts LIMIT w.bytes f
-    → IfOk r (λ o. FrontAnswers s w.bytes f o t) → Sends r now next n → n ≡ Read → v ≡ passed w (taken f) → IsServed start now i s w → IsServed start next i t v
-went_on start now next i s t w v f (Ok Nothing) n p q r e k h =
+    → IfOk r (λ o. FrontAnswers s w.bytes f o t) → OnErr r (FrontLeaves s w.bytes f t) → Sends r now next n → n ≡ Read → v ≡ passed w (taken f)
+    → IsServed start now i s w → IsServed start next i t v
+went_on start now next i s t w v f (Ok Nothing) n p q l r e k h =
     answered start now next i s t w v f Nothing p q (subst (λ (x : Option (List ℕ)). Appends now x []) (sym r.1) (none_appended now)) k h
-went_on start now next i s t w v f (Ok (Reply text)) n p q r e k h = answered start now next i s t w v f (Reply text) p q (r.written e) k h
-went_on start now next i s t w v f (Ok (Note text)) n p q r e k h = answered start now next i s t w v f (Note text) p q (r.written e) k h
-went_on start now next i s t w v f (Ok (Ends status)) n p q r e k h = let no : Exit status ≡ Read = sym r.0 ∙ e in cc no
-went_on start now next i s t w v f (Err a) n p q r e k h = record {
+went_on start now next i s t w v f (Ok (Reply text)) n p q l r e k h = answered start now next i s t w v f (Reply text) p q (r.written e) k h
+went_on start now next i s t w v f (Ok (Note text)) n p q l r e k h = answered start now next i s t w v f (Note text) p q (r.written e) k h
+went_on start now next i s t w v f (Ok (Ends status)) n p q l r e k h = let no : Exit status ≡ Read = sym r.0 ∙ e in cc no
+went_on start now next i s t w v f (Err a) n p q l r e k h = record {
   output = h.output ++ frame OUT_OF_MEMORY.now;
   written = appended start now next h.output (frame OUT_OF_MEMORY.now) h.written (r.written e);
-  serves = subst (λ (x : Waiting). Serves i (h.output ++ frame OUT_OF_MEMORY.now) t x) (sym k) (fails i h.output s t w f h.serves p);
+  serves = subst (λ (x : Waiting). Serves i (h.output ++ frame OUT_OF_MEMORY.now) t x) (sym k) (fails i h.output s t w f h.serves p l);
 }
 
 status_small : (s : Stage) → status_of s ≤ 1

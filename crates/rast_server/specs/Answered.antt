@@ -1,12 +1,14 @@
 -- What is sent for a message, and what the server is after it.
-use Rattle.std.specs.Prelude.{◌≡◌, ◌≢◌, ◌⊎◌, ℕ, List, Option, Some, None, IsUtf8, codes, string_bytes}
+use Rattle.std.specs.Prelude.{◌≡◌, ◌≢◌, ◌⊎◌, ℕ, List, Option, Some, None, IsUtf8, codes, string_bytes, unwrap_or}
 use Rattle.serde_json.specs.Data.{Data, null}
+use Rattle.serde_json.specs.Find.{get}
 use Rattle.serde_json.specs.Read.{read}
 use Rattle.rast_messages.specs.Messages.{IsNoMessage, IsNotification, IsRequest, IsResponse, id_in}
-use Rattle.rast_messages.specs.Replies.{error_text, success_text}
+use Rattle.rast_messages.specs.Replies.{error_text, failure, notification_text, shown_params, success_text}
 use Rattle.rast_messages.specs.declared.reply.Code.{Code}
 use Rattle.rast_messages.specs.declared.reply.Code.TheVariants.{ParseError, InvalidRequest, MethodNotFound, InvalidParams, InternalError, ServerNotInitialized}
 use Rattle.rast_messages.specs.declared.reply.Fault.{Fault}
+use Rattle.rast_server.specs.Documents.{Cannot, Changes, Does, KeepsDocuments, Leaves}
 use Rattle.rast_server.specs.declared.server.Granted.{Granted}
 use Rattle.rast_server.specs.declared.server.Outcome.{Outcome}
 use Rattle.rast_server.specs.declared.server.Outcome.TheVariants.{Nothing, Reply, Note, Exit}
@@ -72,12 +74,37 @@ status_of Fresh = 1
 status_of Ready = 1
 status_of ShutDown = 0
 
+-- the parameters of a message, or `null`
+abbrev pub params_in : Data → Data
+params_in d = unwrap_or (get (codes "params") d) null
+
+-- a notification about a document fails, and the editor is told why
+pub record IsLogged (old : Server) (method : List ℕ) (params : Data) (text : List ℕ) (new : Server) : Type 0 where
+  pub fault : Fault
+  pub text_is : text ≡ notification_text (codes "window/logMessage") (shown_params (failure method fault.text.now))
+  pub why : Cannot method params old fault
+  pub leaves : Leaves method params fault old new
+
+-- a notification about a document does what it says, or fails
+pub record IsDone (old : Server) (method : List ℕ) (params : Data) (text : List ℕ) (new : Server) : Type 0 where
+  pub heeded : IsHeeded method
+  pub ready : old.stage ≡ Ready
+  pub stage : new.stage ≡ old.stage
+  pub encoding : new.encoding ≡ old.encoding
+  pub documents : Does method params old new ⊎ IsLogged old method params text new
+
 -- what a notification does: never is there a reply
-abbrev pub Heeds : Server → List ℕ → Outcome → Server → Type 0
-Heeds old method Nothing new = (method ≢ codes "exit") × (new ≡ old) × ((old.stage ≢ Ready) ⊎ ¬ IsHeeded method)
-Heeds old method (Reply text) new = ⊥
-Heeds old method (Note text) new = (old.stage ≡ Ready) × IsHeeded method × (new.stage ≡ Ready) × (new.encoding ≡ old.encoding)
-Heeds old method (Exit status) new = (method ≡ codes "exit") × (new ≡ old) × (status ≡ status_of old.stage)
+abbrev pub Heeds : Server → List ℕ → Data → Outcome → Server → Type 0
+Heeds old method params Nothing new = (method ≢ codes "exit") × (new ≡ old) × ((old.stage ≢ Ready) ⊎ ¬ IsHeeded method)
+Heeds old method params (Reply text) new = ⊥
+Heeds old method params (Note text) new = IsDone old method params (string_bytes text) new
+Heeds old method params (Exit status) new = (method ≡ codes "exit") × (new ≡ old) × (status ≡ status_of old.stage)
+
+-- what a notification leaves of which the editor is not even told that it failed
+pub record IsUntold (old : Server) (method : List ℕ) (params : Data) (new : Server) : Type 0 where
+  pub stage : new.stage ≡ old.stage
+  pub encoding : new.encoding ≡ old.encoding
+  pub documents : KeepsDocuments old new ⊎ ((method ≡ codes "textDocument/didChange") × Changes params old new)
 
 -- an error with this code is sent, without an id or with the one that is known
 pub record IsError (code : Code) (id : Data) (text : List ℕ) : Type 0 where
@@ -99,8 +126,13 @@ id_or_null (Some id) = id
 -- what is sent for the content of a message, and what the server is after it
 pub data IsAnswer (old : Server) (content : List ℕ) (outcome : Outcome) (new : Server) : Type 0 where
   request : (d id : Data) (method : List ℕ) → read content ≡ Some d → IsRequest d id method → Answers old id method outcome new → IsAnswer old content outcome new
-  notification : (d : Data) (method : List ℕ) → read content ≡ Some d → IsNotification d method → Heeds old method outcome new → IsAnswer old content outcome new
+  notification : (d : Data) (method : List ℕ) → read content ≡ Some d → IsNotification d method → Heeds old method (params_in d) outcome new → IsAnswer old content outcome new
   response : (d : Data) → read content ≡ Some d → IsResponse d → outcome ≡ Nothing → new ≡ old → IsAnswer old content outcome new
   no_message : (d : Data) → read content ≡ Some d → IsNoMessage d → Reports InvalidRequest (id_or_null (id_in d)) outcome → new ≡ old → IsAnswer old content outcome new
   no_json : (IsUtf8 content → read content ≡ None) → Reports ParseError null outcome → new ≡ old → IsAnswer old content outcome new
   no_memory : Reports InternalError null outcome → new ≡ old → IsAnswer old content outcome new
+
+-- what a message leaves that is not answered, since there is no memory for any answer
+pub data IsUnanswered (old : Server) (content : List ℕ) (new : Server) : Type 0 where
+  same : new ≡ old → IsUnanswered old content new
+  untold : (d : Data) (method : List ℕ) → read content ≡ Some d → IsNotification d method → IsUntold old method (params_in d) new → IsUnanswered old content new

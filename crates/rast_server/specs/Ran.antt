@@ -9,7 +9,7 @@ use Rattle.rast_frames.specs.declared.front.Front.{Front}
 use Rattle.rast_frames.specs.declared.front.Front.TheVariants.{Part, Message, TooLong, Wrong, Lost as NoEnd}
 use Rattle.rast_messages.specs.declared.reply.Code.TheVariants.{InvalidRequest, ParseError}
 use Rattle.rast_messages.specs.declared.reply.TheConstants.{OUT_OF_MEMORY}
-use Rattle.rast_server.specs.Answered.{IsAnswer, Reports, status_of}
+use Rattle.rast_server.specs.Answered.{IsAnswer, IsUnanswered, Reports, status_of}
 use Rattle.rast_server.specs.declared.run.Next.{Next}
 use Rattle.rast_server.specs.declared.run.Next.TheVariants.{Read, Exit, CannotWrite, Lost}
 use Rattle.rast_server.specs.declared.run.TheConstants.{LIMIT}
@@ -39,6 +39,14 @@ FrontAnswers old bytes (TooLong start long) outcome new = Reports InvalidRequest
 FrontAnswers old bytes (Wrong fault end) outcome new = Reports ParseError null outcome × (new ≡ old)
 FrontAnswers old bytes NoEnd outcome new = Reports ParseError null outcome × (new ≡ old)
 
+-- what the front of the input leaves for which there is no answer
+abbrev pub FrontLeaves : Server → List ℕ → Front → Server → Type 0
+FrontLeaves old bytes Part new = new ≡ old
+FrontLeaves old bytes (Message start end) new = IsUnanswered old (slice_range bytes start end) new
+FrontLeaves old bytes (TooLong start long) new = new ≡ old
+FrontLeaves old bytes (Wrong fault end) new = new ≡ old
+FrontLeaves old bytes NoEnd new = new ≡ old
+
 -- the bytes that are written for an outcome
 abbrev pub sent : Outcome → List ℕ
 sent Nothing = []
@@ -47,15 +55,14 @@ sent (Note text) = frame (string_bytes text)
 sent (Ends status) = []
 
 -- A run: the input that has come makes the output, leaves the server as it is and these bytes waiting. A message for
--- which there was no memory, not even for its reply, is reported in a text that takes none; what it did to the server
--- before is not said.
+-- which there was no memory, not even for its reply, is reported in a text that takes none.
 pub data Serves : List ℕ → List ℕ → Server → Waiting → Type 0 where
   begins : (s : Server) → s.stage ≡ Fresh → s.documents.entries ≡ [] → Serves [] [] s record { bytes = []; skip = 0 }
   comes : (i o : List ℕ) (s : Server) (w : Waiting) (piece : List ℕ) → Serves i o s w → Serves (i ++ piece) o s (come w piece)
   answers : (i o : List ℕ) (s t : Server) (w : Waiting) (f : Front) (outcome : Outcome) → Serves i o s w → Fronts LIMIT w.bytes f
       → FrontAnswers s w.bytes f outcome t → Serves i (o ++ sent outcome) t (passed w (taken f))
   fails : (i o : List ℕ) (s t : Server) (w : Waiting) (f : Front) → Serves i o s w → Fronts LIMIT w.bytes f
-      → Serves i (o ++ frame OUT_OF_MEMORY.now) t (passed w (taken f))
+      → FrontLeaves s w.bytes f t → Serves i (o ++ frame OUT_OF_MEMORY.now) t (passed w (taken f))
   leaves_out : (i o : List ℕ) (s : Server) (w : Waiting) (f : Front) → Serves i o s w → Fronts 0 w.bytes f
       → Serves i (o ++ frame OUT_OF_MEMORY.now) s (passed w (taken f))
 

@@ -1,10 +1,10 @@
 //! All that the program does: it reads a message, answers it, and reads the next.
-ghost use Rattle.std.specs.Prelude.{◌≡◌, ◌++◌, ◌<◌, ◌≤◌, ℕ, List, Option, IfOk, length, take};
+ghost use Rattle.std.specs.Prelude.{◌≡◌, ◌++◌, ◌<◌, ◌≤◌, ℕ, List, Option, IfOk, OnErr, length, take};
 ghost use Rattle.std.specs.Io.KnownBytes.{Consumes, IsAtEnd};
 ghost use Rattle.rast_frames.specs.Fronts.{Fronts};
 ghost use Rattle.rast_frames.specs.Stream.{waiting};
 ghost use Rattle.rast_messages.specs.declared.reply.Code.TheVariants.{InvalidRequest, ParseError};
-ghost use Rattle.rast_server.specs.Ran.{FrontAnswers, GoesOn, IsReported, IsRun, IsServed, Sends};
+ghost use Rattle.rast_server.specs.Ran.{FrontAnswers, FrontLeaves, GoesOn, IsReported, IsRun, IsServed, Sends};
 ghost use Rattle.rast_server.specs.declared.run.TheConstants.{LIMIT};
 ghost use Rattle.rast_server.specs.declared.server.Server.{Server};
 
@@ -76,7 +76,8 @@ fn answer(
     front: Front,
 ) -> Result<Outcome, AllocError>
     requires { Fronts LIMIT (waiting frames.now).bytes front }
-    ensures { IfOk result (λ outcome. FrontAnswers server.old (waiting frames.now).bytes front outcome server.new) }
+    ensures answers { IfOk result (λ outcome. FrontAnswers server.old (waiting frames.now).bytes front outcome server.new) }
+    ensures leaves { OnErr result (FrontLeaves server.old (waiting frames.now).bytes front server.new) }
 {
     match front {
         Front::Part => Ok(Outcome::Nothing),

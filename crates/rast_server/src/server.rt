@@ -1,11 +1,12 @@
 //! The state of the server, and what each message does to it.
-ghost use Rattle.std.specs.Prelude.{◌≡◌, ◌≤◌, ◌↔◌, [], IfErr, IfOk, IsTrue, OnErr, OnOk, codes, false, true, string_bytes};
+ghost use Rattle.std.specs.Prelude.{◌≡◌, ◌⊎◌, ◌≤◌, ◌↔◌, ℕ, List, [], IfErr, IfOk, IsTrue, OnErr, OnOk, codes, false, true, option_map, string_bytes};
 ghost use Rattle.serde_json.specs.Data.{null};
 ghost use Rattle.serde_json.specs.View.{view};
 ghost use Rattle.serde_json.specs.Written.{has_float};
 ghost use Rattle.rast_document.specs.Changes.{AllChange};
 ghost use Rattle.rast_messages.specs.declared.reply.Code.TheVariants.{InternalError, InvalidRequest, ParseError};
-ghost use Rattle.rast_server.specs.Answered.{Answers, Grants, Heeds, IsAboutDocument, IsHeeded, IsOfDocument, IsAnswer, Refuses, Reports, status_of};
+ghost use Rattle.rast_server.specs.Answered.{Answers, Grants, Heeds, IsAboutDocument, IsHeeded, IsOfDocument, IsAnswer, IsUnanswered, IsUntold, Refuses, Reports, status_of};
+ghost use Rattle.rast_server.specs.Documents.{Cannot, CannotChange, CannotClose, CannotOpen, Changes, Closes, Does, IsNoMemory, KeepsDocuments, Leaves, Opens, SaysNoPlace, opened_text};
 ghost use Rattle.rast_server.specs.declared.server.Stage.TheVariants.{Fresh, Ready, ShutDown};
 
 use crate::answers::{folds, highlights, push_diagnostics, selections, symbols, tokens, tree};
@@ -45,7 +46,10 @@ impl Opened {
     fn change(&mut self, alloc: Global, version: i64, changes: &[Change<'_>]) -> Result<(), Fault>
         ensures ok { OnOk result (AllChange self.old.document.encoding (string_bytes self.old.document.text) changes.now
             (string_bytes self.new.document.text)) }
+        ensures encoding { self.new.document.encoding ≡ self.old.document.encoding }
         ensures version { OnOk result (self.new.version ≡ version) }
+        ensures why { IfErr result (λ fault. IsNoMemory fault ⊎ (SaysNoPlace fault × ((text : List ℕ)
+            → ¬ AllChange self.old.document.encoding (string_bytes self.old.document.text) changes.now text))) }
         ensures err { OnErr result (self.new ≡ self.old) }
     {
         match self.document.change(alloc, changes) {
@@ -158,7 +162,9 @@ fn analysis_of(alloc: Global, document: &Document) -> Result<Analysis<'_>, Fault
 }
 
 /// Adds the messages of a document, or the one that it has no tree.
-fn push_messages(alloc: Global, json: &mut String, document: &Document) -> Result<(), Fault> {
+fn push_messages(alloc: Global, json: &mut String, document: &Document) -> Result<(), Fault>
+    ensures { IfErr result IsNoMemory }
+{
     match Analysis::of_document(alloc, Edition::CURRENT, document) {
         Ok(analysis) => {
             let list = analysis.diagnostics(alloc)?;
@@ -167,7 +173,7 @@ fn push_messages(alloc: Global, json: &mut String, document: &Document) -> Resul
         Err(fault) => {
             let fault = fault_of(fault);
             if fault.text == NO_MEMORY.text {
-                return Err(fault);
+                return Err(NO_MEMORY);
             }
             let none = Diagnostic {
                 text: fault.text,
@@ -181,7 +187,9 @@ fn push_messages(alloc: Global, json: &mut String, document: &Document) -> Resul
 }
 
 /// The notification of a document's messages.
-fn published(alloc: Global, uri: &str, version: i64, document: &Document) -> Result<String, Fault> {
+fn published(alloc: Global, uri: &str, version: i64, document: &Document) -> Result<String, Fault>
+    ensures { IfErr result IsNoMemory }
+{
     let mut json = String::from_str(alloc, "{\"uri\":")?;
     push_string(alloc, &mut json, uri)?;
     write!(json, ",\"version\":{version},\"diagnostics\":[").map_err(AllocError::from)?;
@@ -191,11 +199,20 @@ fn published(alloc: Global, uri: &str, version: i64, document: &Document) -> Res
 }
 
 /// The notification that a document has no messages any more.
-fn withdrawn(alloc: Global, uri: &str) -> Result<String, Fault> {
+fn withdrawn(alloc: Global, uri: &str) -> Result<String, Fault>
+    ensures { IfErr result IsNoMemory }
+{
     let mut json = String::from_str(alloc, "{\"uri\":")?;
     push_string(alloc, &mut json, uri)?;
     json.push_str(",\"diagnostics\":[]}")?;
     Ok(notification(alloc, "textDocument/publishDiagnostics", json.as_str())?)
+}
+
+/// The text that a `didOpen` brings.
+fn opened_text(params: &Value) -> Option<&str>
+    ensures { option_map (λ text. text.now) result ≡ opened_text (view params.now) }
+{
+    params.pointer("/textDocument/text").and_then(Value::as_str)
 }
 
 /// What may be selected around the positions of a message.
@@ -301,7 +318,8 @@ impl Server {
 
     /// What is sent for a message. The error means that there is no memory even for the report of that.
     pub fn answer(&mut self, alloc: Global, content: &[u8]) -> Result<Outcome, AllocError>
-        ensures { IfOk result (λ outcome. IsAnswer self.old content.now outcome self.new) }
+        ensures answers { IfOk result (λ outcome. IsAnswer self.old content.now outcome self.new) }
+        ensures unanswered { OnErr result (IsUnanswered self.old content.now self.new) }
     {
         let message = match Value::from_slice(alloc, content) {
             Ok(message) => message,
@@ -328,7 +346,8 @@ impl Server {
         method: &str,
         params: &Value,
     ) -> Result<Outcome, AllocError>
-        ensures { IfOk result (λ outcome. has_float (view id.now) ≡ false → Answers self.old (view id.now) method.now outcome self.new) }
+        ensures answers { IfOk result (λ outcome. has_float (view id.now) ≡ false → Answers self.old (view id.now) method.now outcome self.new) }
+        ensures err { OnErr result (self.new ≡ self.old) }
     {
         let granted = match self.request(alloc, method, params) {
             Ok(granted) => granted,
@@ -392,7 +411,8 @@ impl Server {
 
     // What is sent for a notification.
     fn take(&mut self, alloc: Global, method: &str, params: &Value) -> Result<Outcome, AllocError>
-        ensures { IfOk result (λ outcome. Heeds self.old method.now outcome self.new) }
+        ensures heeds { IfOk result (λ outcome. Heeds self.old method.now (view params.now) outcome self.new) }
+        ensures untold { OnErr result (IsUntold self.old method.now (view params.now) self.new) }
     {
         if method == "exit" {
             return Ok(Outcome::Exit(self.status()));
@@ -408,8 +428,12 @@ impl Server {
 
     // What is sent for a notification about a document.
     fn heed(&mut self, alloc: Global, method: &str, params: &Value) -> Result<String, Fault>
+        requires { IsHeeded method.now }
         ensures stage { self.new.stage ≡ self.old.stage }
         ensures encoding { self.new.encoding ≡ self.old.encoding }
+        ensures does { OnOk result (Does method.now (view params.now) self.old self.new) }
+        ensures why { IfErr result (λ fault. Cannot method.now (view params.now) self.old fault) }
+        ensures leaves { IfErr result (λ fault. Leaves method.now (view params.now) fault self.old self.new) }
     {
         match method {
             "textDocument/didOpen" => self.open(alloc, params),
@@ -421,14 +445,13 @@ impl Server {
     fn open(&mut self, alloc: Global, params: &Value) -> Result<String, Fault>
         ensures stage { self.new.stage ≡ self.old.stage }
         ensures encoding { self.new.encoding ≡ self.old.encoding }
-        ensures err { OnErr result (self.new.documents.entries ≡ self.old.documents.entries) }
+        ensures opens { OnOk result (Opens (view params.now) self.old self.new) }
+        ensures why { IfErr result (λ fault. CannotOpen (view params.now) fault) }
+        ensures err { OnErr result (KeepsDocuments self.old self.new) }
     {
         let uri = uri_of(params).ok_or(WRONG_PARAMS)?;
         let version = version_of(params).ok_or(WRONG_PARAMS)?;
-        let text = params
-            .pointer("/textDocument/text")
-            .and_then(Value::as_str)
-            .ok_or(WRONG_PARAMS)?;
+        let text = opened_text(params).ok_or(WRONG_PARAMS)?;
         let text = String::from_str(alloc, text)?;
         let document = Document::new(alloc, self.encoding, text)?;
         let key = String::from_str(alloc, uri)?;
@@ -446,6 +469,10 @@ impl Server {
     fn change(&mut self, alloc: Global, params: &Value) -> Result<String, Fault>
         ensures stage { self.new.stage ≡ self.old.stage }
         ensures encoding { self.new.encoding ≡ self.old.encoding }
+        ensures changes { OnOk result (Changes (view params.now) self.old self.new) }
+        ensures why { IfErr result (λ fault. CannotChange (view params.now) self.old fault) }
+        ensures err { IfErr result (λ fault. KeepsDocuments self.old self.new
+            ⊎ (IsNoMemory fault × Changes (view params.now) self.old self.new)) }
     {
         let uri = uri_of(params).ok_or(WRONG_PARAMS)?;
         let version = version_of(params).ok_or(WRONG_PARAMS)?;
@@ -458,7 +485,9 @@ impl Server {
     fn close(&mut self, alloc: Global, params: &Value) -> Result<String, Fault>
         ensures stage { self.new.stage ≡ self.old.stage }
         ensures encoding { self.new.encoding ≡ self.old.encoding }
-        ensures err { OnErr result (self.new.documents.entries ≡ self.old.documents.entries) }
+        ensures closes { OnOk result (Closes (view params.now) self.old self.new) }
+        ensures why { IfErr result (λ fault. CannotClose (view params.now) self.old fault) }
+        ensures err { OnErr result (KeepsDocuments self.old self.new) }
     {
         let uri = uri_of(params).ok_or(WRONG_PARAMS)?;
         let note = withdrawn(alloc, uri)?;
