@@ -1,13 +1,12 @@
 -- What a part of inline assembly takes.
-use Rattle.std.proofs.Common.{◌≡◌, ◌≢◌, ℕ, zero, suc, ◌<◌, ◌≤◌, ◌+◌, ◌*◌, List, Bool, true, false, Option, Some, refl, sym, ap, ◌∙◌, arith}
+use Rattle.std.proofs.Common.{◌≡◌, ℕ, zero, suc, ◌<◌, List, Bool, true, false, Some, refl, sym, ap, ◌∙◌, arith}
 use Rattle.rap_base.specs.NodeKind.{ASM_REG_OPERAND}
-use Rattle.rap_events.specs.Machine.{push}
 use Rattle.rap_events.specs.State.{State, next, Opened, Completed, AteAs, Skipped, Expected}
 use Rattle.rap_grammar_scripts.specs.Asm.{reg_operand, by_way, of_way}
 use Rattle.rap_grammar_scripts.specs.First.{is_outer_attr_first}
 use Rattle.rap_grammar_frame.specs.Grew.{Grew, Took, Gone, Ended, top_marker, rest}
 use Rattle.rap_grammar_scripts.specs.Recovery.{stops_expr}
-use Rattle.rap_grammar_frame.specs.Room.{asm_room, operand_room, list_room, asm_end_room, expression_room}
+use Rattle.rap_grammar_frame.specs.Room.{asm_room, operand_room, list_room, asm_end_room}
 use Rattle.rap_grammar_scripts.specs.declared.rule.Rule.{Rule}
 use Rattle.rap_grammar_frame.specs.Rules.{Missed}
 use Rattle.rap_grammar_scripts.specs.Script.{Script, Outcome, something, Spot, finish}

@@ -1,6 +1,6 @@
 //! Inline assembly.
 //! In the Rust crate: `grammar/expressions/atom.rs`.
-ghost use Rattle.std.specs.Prelude.{ℕ, ◌≡◌, ◌≢◌, ◌<◌, ◌≤◌, IfOk, OnOk, IfSome, IsTrue, Some, None, true, false};
+ghost use Rattle.std.specs.Prelude.{ℕ, ◌≡◌, ◌≢◌, ◌<◌, ◌≤◌, IfOk, OnOk, IfSome, IsTrue, Some, None, true, false, if◌then◌else◌};
 ghost use Rattle.rap_base.specs.Keyword.{is_any_identifier};
 ghost use Rattle.rap_base.specs.TokenKind.{EQ};
 ghost use Rattle.rap_base.specs.NodeKind.{ASM_EXPR};
@@ -11,7 +11,7 @@ ghost use Rattle.rap_grammar_frame.specs.Grew.{Behind, Closes, Grew, Took, Gone,
 ghost use Rattle.rap_grammar_scripts.specs.Exec.{Does};
 ghost use Rattle.rap_grammar_frame.specs.Room.{asm_room, asm_end_room, operand_room, expression_room, name_room, recovery_events};
 ghost use Rattle.rap_grammar_frame.specs.Rules.{Missed};
-ghost use Rattle.rap_grammar_scripts.specs.Script.{something};
+ghost use Rattle.rap_grammar_scripts.specs.Script.{something, again};
 ghost use Rattle.rap_grammar_scripts.specs.Words.{of_bool};
 
 use rap_base::T;
@@ -69,7 +69,7 @@ fn asm_pieces<G: Grammar>(p: &mut Parser<'_>, g: &G) -> Result<(), NoMemory>
 }
 
 /// What stands after a comma. Returns whether templates may follow, or `None` where the list ends.
-#[tactic(auto, unfolding(rap_grammar_scripts::specs::Asm::asm_piece))]
+#[tactic(auto, using(crate::proofs::Taken::operand_took), unfolding(rap_grammar_scripts::specs::Asm::asm_piece))]
 fn asm_piece<G: Grammar>(
     p: &mut Parser<'_>,
     g: &G,
@@ -156,6 +156,7 @@ fn no_operand<G: Grammar>(
 }
 
 /// A message where no operand stands, with the block or the token that stands there.
+#[tactic(auto, using(crate::proofs::Taken::skip_took, rap_grammar_frame::proofs::Left::left_past), unfolding(rap_grammar_scripts::specs::Asm::missing_operand))]
 fn missing_operand<G: Grammar>(p: &mut Parser<'_>, g: &G) -> Result<(), NoMemory>
     requires behind { Behind G.valid G.left g.now (state p.old) }
     ensures grew { OnOk result (Grew (state p.old) (state p.new) 11) }
@@ -172,7 +173,7 @@ fn missing_operand<G: Grammar>(p: &mut Parser<'_>, g: &G) -> Result<(), NoMemory
 }
 
 /// A line of the assembly. Anything else is skipped.
-#[tactic(auto, unfolding(rap_grammar_scripts::specs::Asm::asm_template))]
+#[tactic(auto, using(crate::proofs::Taken::missed_took, rap_grammar_frame::proofs::Left::left_past), unfolding(rap_grammar_scripts::specs::Asm::asm_template))]
 fn asm_template<G: Grammar>(p: &mut Parser<'_>, g: &G) -> Result<(), NoMemory>
     requires behind { Behind G.valid G.left g.now (state p.old) }
     ensures grew { OnOk result (Grew (state p.old) (state p.new) 11) }
@@ -187,6 +188,7 @@ fn asm_template<G: Grammar>(p: &mut Parser<'_>, g: &G) -> Result<(), NoMemory>
 }
 
 /// An expression. Returns whether there was one; where there was none, tokens that end the search for one are left.
+#[tactic(auto, unfolding(rap_grammar_scripts::specs::ThroughKnot::expr))]
 fn some_expr<G: Grammar>(p: &mut Parser<'_>, g: &G) -> Result<bool, NoMemory>
     requires behind { Behind G.valid G.left g.now (state p.old) }
     ensures grew { OnOk result (Grew (state p.old) (state p.new) 8) }
@@ -232,6 +234,7 @@ fn starts_operand_name(p: &Parser<'_>) -> bool
 }
 
 /// An operand without its name, as `in(reg) x`, if one comes next. Returns whether one does.
+#[tactic(auto, using(crate::proofs::Taken::by_dir), unfolding(rap_grammar_scripts::specs::Asm::asm_operand))]
 fn asm_operand<G: Grammar>(p: &mut Parser<'_>, g: &G) -> Result<bool, NoMemory>
     requires behind { Behind G.valid G.left g.now (state p.old) }
     ensures took { IfOk result (λ found. found ≡ true → Took (state p.old) (state p.new) operand_room) }
@@ -376,6 +379,7 @@ fn reg_spec(p: &mut Parser<'_>) -> Result<(), NoMemory>
 }
 
 /// The clobbered ABIs, as `("C", "system")`.
+#[tactic(auto, using(rap_grammar_frame::proofs::Steps::by_expect, rap_grammar_scripts::proofs::Ends::gives), unfolding(rap_grammar_scripts::specs::Asm::parse_clobber_abi))]
 fn parse_clobber_abi(p: &mut Parser<'_>) -> Result<(), NoMemory>
     ensures grew { OnOk result (Grew (state p.old) (state p.new) 2) }
     ensures script { OnOk result
@@ -391,23 +395,41 @@ fn clobber_abis(p: &mut Parser<'_>) -> Result<(), NoMemory>
     ensures grew { OnOk result (Grew (state p.old) (state p.new) 1) }
     ensures script { OnOk result ((depth : ℕ) → Does depth script.clobber_abis something (state p.old) (state p.new)) }
 {
-    'abis: while !p.at(SyntaxKind::EOF) {
-        if p.eat(T![')'])? {
+    'abis: loop {
+        let more = next_abi(p)?;
+        if !more {
             return Ok(());
         }
-        if !p.expect(T![string])? {
-            return Ok(());
-        }
-        // A comma may be the last.
-        if p.eat(T![')'])? {
-            return Ok(());
-        }
-        p.expect(T![,])?;
     }
-    Ok(())
+}
+
+/// The name of an ABI and its comma, or the bracket that closes. Returns whether another may follow.
+fn next_abi(p: &mut Parser<'_>) -> Result<bool, NoMemory>
+    ensures grew { IfOk result (λ more. Grew (state p.old) (state p.new) (if more then 0 else 1)) }
+    ensures less { IfOk result (λ more. more ≡ true → (state p.new).left < (state p.old).left) }
+    ensures script { IfOk result
+        (λ more. (depth : ℕ) → Does depth (script.clobber_turn false false)
+        (if more then again false false else something) (state p.old) (state p.new)) }
+{
+    if p.at(SyntaxKind::EOF) {
+        return Ok(false);
+    }
+    if p.eat(T![')'])? {
+        return Ok(false);
+    }
+    if !p.expect(T![string])? {
+        return Ok(false);
+    }
+    // A comma may be the last.
+    if p.eat(T![')'])? {
+        return Ok(false);
+    }
+    p.expect(T![,])?;
+    Ok(true)
 }
 
 /// The options of the assembly, as `(nomem, nostack)`.
+#[tactic(auto, using(rap_grammar_frame::proofs::Steps::by_expect, rap_grammar_scripts::proofs::Ends::gives), unfolding(rap_grammar_scripts::specs::Asm::parse_options))]
 fn parse_options(p: &mut Parser<'_>) -> Result<(), NoMemory>
     ensures grew { OnOk result (Grew (state p.old) (state p.new) 1) }
     ensures script { OnOk result ((depth : ℕ) → Does depth script.parse_options something (state p.old) (state p.new)) }
@@ -417,29 +439,46 @@ fn parse_options(p: &mut Parser<'_>) -> Result<(), NoMemory>
     Ok(())
 }
 
-/// Options, and the bracket that closes. Anything else is skipped.
+/// Options, and the bracket that closes.
 fn asm_options(p: &mut Parser<'_>) -> Result<(), NoMemory>
     ensures grew { OnOk result (Grew (state p.old) (state p.new) 0) }
     ensures script { OnOk result ((depth : ℕ) → Does depth script.asm_options something (state p.old) (state p.new)) }
 {
-    'options: while !p.at(SyntaxKind::EOF) {
-        if p.eat(T![')'])? {
+    'options: loop {
+        let more = next_option(p)?;
+        if !more {
             return Ok(());
         }
-        let m = p.start()?;
-        if !option_name(p)? {
-            p.err_and_bump("expected asm option")?;
-            m.abandon(p)?;
-            continue;
-        }
-        m.complete(p, SyntaxKind::ASM_OPTION)?;
-        // A comma may be the last.
-        if p.eat(T![')'])? {
-            return Ok(());
-        }
-        p.expect(T![,])?;
     }
-    Ok(())
+}
+
+/// An option and its comma, or the bracket that closes. Anything else is skipped. Returns whether another may follow.
+fn next_option(p: &mut Parser<'_>) -> Result<bool, NoMemory>
+    ensures grew { OnOk result (Grew (state p.old) (state p.new) 0) }
+    ensures less { IfOk result (λ more. more ≡ true → (state p.new).left < (state p.old).left) }
+    ensures script { IfOk result
+        (λ more. (depth : ℕ) → Does depth (script.options_turn false false)
+        (if more then again false false else something) (state p.old) (state p.new)) }
+{
+    if p.at(SyntaxKind::EOF) {
+        return Ok(false);
+    }
+    if p.eat(T![')'])? {
+        return Ok(false);
+    }
+    let m = p.start()?;
+    if !option_name(p)? {
+        p.err_and_bump("expected asm option")?;
+        m.abandon(p)?;
+        return Ok(true);
+    }
+    m.complete(p, SyntaxKind::ASM_OPTION)?;
+    // A comma may be the last.
+    if p.eat(T![')'])? {
+        return Ok(false);
+    }
+    p.expect(T![,])?;
+    Ok(true)
 }
 
 /// An option: what the assembly does to memory. Returns whether one comes next.

@@ -1,6 +1,6 @@
 //! The forms after `builtin#`.
 //! In the Rust crate: `grammar/expressions/atom.rs`.
-ghost use Rattle.std.specs.Prelude.{ℕ, ◌≡◌, ◌≢◌, ◌<◌, ◌≤◌, IfOk, OnOk, IfSome, IsTrue, Some, None, true, false, ◌⊎◌};
+ghost use Rattle.std.specs.Prelude.{ℕ, ◌≡◌, ◌≢◌, ◌<◌, ◌≤◌, IfOk, OnOk, IfSome, IsTrue, Some, None, true, false, if◌then◌else◌, ◌⊎◌};
 ghost use Rattle.rap_base.specs.Keyword.{is_any_identifier};
 ghost use Rattle.rap_base.specs.TokenKind.{EQ};
 ghost use Rattle.rap_events.specs.Fit.{is_plain};
@@ -11,7 +11,7 @@ ghost use Rattle.rap_grammar_frame.specs.Grew.{Within, Behind, Took, Grew, Gone,
 ghost use Rattle.rap_grammar_scripts.specs.Exec.{Does};
 ghost use Rattle.rap_grammar_frame.specs.Room.{atom_room, name_room};
 ghost use Rattle.rap_grammar_frame.specs.Rules.{Operand};
-ghost use Rattle.rap_grammar_scripts.specs.Script.{something};
+ghost use Rattle.rap_grammar_scripts.specs.Script.{something, again};
 
 use crate::asm::parse_asm_expr;
 use rap_base::T;
@@ -135,13 +135,34 @@ fn offset_of_fields(p: &mut Parser<'_>) -> Result<(), NoMemory>
     ensures script { OnOk result
         ((depth : ℕ) → Does depth script.offset_of_fields something (state p.old) (state p.new)) }
 {
-    'fields: while !p.at(SyntaxKind::EOF) && !p.at(T![')']) {
-        name_ref_mod_path_or_index(p)?;
-        if !p.at(T![')']) {
-            p.expect(T![.])?;
+    'fields: loop {
+        let more = next_field(p)?;
+        if !more {
+            return Ok(());
         }
     }
-    Ok(())
+}
+
+/// A field and the dot after it. Returns whether there was one.
+fn next_field(p: &mut Parser<'_>) -> Result<bool, NoMemory>
+    ensures grew { OnOk result (Grew (state p.old) (state p.new) 0) }
+    ensures less { IfOk result (λ more. more ≡ true → (state p.new).left < (state p.old).left) }
+    ensures script { IfOk result
+        (λ more. (depth : ℕ) → Does depth (script.fields_turn false false)
+        (if more then again false false else something) (state p.old) (state p.new)) }
+{
+    if p.at(SyntaxKind::EOF) {
+        return Ok(false);
+    }
+    if p.at(T![')']) {
+        return Ok(false);
+    }
+    name_ref_mod_path_or_index(p)?;
+    if p.at(T![')']) {
+        return Ok(true);
+    }
+    p.expect(T![.])?;
+    Ok(true)
 }
 
 /// A text and its arguments, as `("{} {b}", a, b = 1)`.

@@ -1,5 +1,5 @@
 -- What stands before the brace of a block with an effect.
-use Rattle.std.proofs.Common.{◌≡◌, ◌≢◌, ℕ, Bool, true, false, ◌==◌, ◌&&◌, ◌||◌, List, [], ◌∷◌, drop, zero, suc, refl, sym, ap, ◌∙◌, arith}
+use Rattle.std.proofs.Common.{◌≡◌, ◌≢◌, ℕ, Bool, true, false, ◌==◌, ◌&&◌, ◌||◌, List, [], ◌∷◌, drop, zero, suc, refl, ap, ◌∙◌, arith}
 use Rattle.std.proofs.lemmas.Bool.Decides.{nat_tests}
 use Rattle.rap_base.specs.TokenKind.{EOF, L_CURLY, CONST_KW, UNSAFE_KW, ASYNC_KW, GEN_KW, MOVE_KW}
 use Rattle.rap_events.specs.Record.{Record, next_kind, kind_at}

@@ -203,7 +203,7 @@ fn label(p: &mut Parser<'_>) -> Result<(), NoMemory>
 }
 
 /// What the label is of, from the newest marker on.
-#[tactic(auto, unfolding(rap_grammar_scripts::specs::Control::labelled_from))]
+#[tactic(auto, using(crate::proofs::Labels::dropped), unfolding(rap_grammar_scripts::specs::Control::labelled_from))]
 fn labelled_from<G: Grammar>(p: &mut Parser<'_>, g: &G, m: Marker) -> Result<Answer, NoMemory>
     requires within { Within G.valid G.left g.now (state p.old) }
     requires newest { (state p.old).marker ≡ Some m.pos.value }

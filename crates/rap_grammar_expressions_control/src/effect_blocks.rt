@@ -97,6 +97,7 @@ fn is_effect_block(p: &Parser<'_>) -> bool
 }
 
 /// What stands before the brace of a block with an effect, as `async move`.
+#[tactic(auto, using(crate::proofs::Effects::some_first, crate::proofs::Effects::brace_next), unfolding(rap_grammar_scripts::specs::EffectBlocks::effects))]
 fn effects(p: &mut Parser<'_>) -> Result<(), NoMemory>
     requires starts { is_effect_block (state p.old).rest ≡ true }
     ensures took { OnOk result (Took (state p.old) (state p.new) list_room) }

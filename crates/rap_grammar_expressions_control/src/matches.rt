@@ -1,6 +1,6 @@
 //! `match` and its arms.
 //! In the Rust crate: `grammar/expressions/atom.rs`.
-ghost use Rattle.std.specs.Prelude.{ℕ, ◌≡◌, ◌≢◌, ◌<◌, ◌≤◌, IfOk, OnOk, false, [], ◌∷◌};
+ghost use Rattle.std.specs.Prelude.{ℕ, ◌≡◌, ◌≢◌, ◌<◌, ◌≤◌, IfOk, OnOk, true, false, [], ◌∷◌, if◌then◌else◌};
 ghost use Rattle.rap_base.specs.TokenKind.{EOF, IF_KW, MATCH_KW, L_CURLY, R_CURLY, EQ};
 ghost use Rattle.rap_base.specs.NodeKind.{MATCH_EXPR, MATCH_ARM_LIST};
 ghost use Rattle.rap_events.specs.Forest.{node};
@@ -11,7 +11,7 @@ ghost use Rattle.rap_grammar_scripts.specs.First.{one_of};
 ghost use Rattle.rap_grammar_frame.specs.Grew.{Within, Behind, Took, Grew, Makes};
 ghost use Rattle.rap_grammar_scripts.specs.Exec.{Does};
 ghost use Rattle.rap_grammar_frame.specs.Room.{atom_room, list_room, pattern_room, statement_room, arm_room};
-ghost use Rattle.rap_grammar_scripts.specs.Script.{something};
+ghost use Rattle.rap_grammar_scripts.specs.Script.{something, again};
 
 use rap_base::T;
 use rap_base::no_memory::NoMemory;
@@ -71,18 +71,39 @@ fn match_arms<G: Grammar>(p: &mut Parser<'_>, g: &G) -> Result<(), NoMemory>
     ensures grew { OnOk result (Grew (state p.old) (state p.new) 0) }
     ensures script { OnOk result (Does (G.left g.now) script.match_arms something (state p.old) (state p.new)) }
 {
-    'arms: while !p.at(SyntaxKind::EOF) && !p.at(T!['}']) {
-        if p.at(T!['{']) {
-            error_block(p, g, "expected match arm")?;
-            continue;
+    'arms: loop {
+        let more = next_arm(p, g)?;
+        if !more {
+            return Ok(());
         }
-        if p.at(T![,]) {
-            p.err_and_bump("expected pattern")?;
-            continue;
-        }
-        match_arm(p, g)?;
     }
-    Ok(())
+}
+
+/// An arm, or what stands in its place, up to the brace that closes. Returns whether there was one.
+fn next_arm<G: Grammar>(p: &mut Parser<'_>, g: &G) -> Result<bool, NoMemory>
+    requires behind { Behind G.valid G.left g.now (state p.old) }
+    ensures grew { OnOk result (Grew (state p.old) (state p.new) 0) }
+    ensures less { IfOk result (λ more. more ≡ true → (state p.new).left < (state p.old).left) }
+    ensures script { IfOk result
+        (λ more. Does (G.left g.now) (script.arms_turn false false) (if more then again false false else something)
+        (state p.old) (state p.new)) }
+{
+    if p.at(SyntaxKind::EOF) {
+        return Ok(false);
+    }
+    if p.at(T!['}']) {
+        return Ok(false);
+    }
+    if p.at(T!['{']) {
+        error_block(p, g, "expected match arm")?;
+        return Ok(true);
+    }
+    if p.at(T![,]) {
+        p.err_and_bump("expected pattern")?;
+        return Ok(true);
+    }
+    match_arm(p, g)?;
+    Ok(true)
 }
 
 /// An arm, as `a if b => c,`.

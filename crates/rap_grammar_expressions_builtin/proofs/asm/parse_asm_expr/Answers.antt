@@ -1,7 +1,6 @@
-use Rattle.std.proofs.Common.{rules}
 use Rattle.rap_grammar_scripts.specs.Asm.{parse_asm_expr}
 use Rattle.rap_grammar_scripts.proofs.Ends.{gives}
-use Rattle.rap_grammar_frame.proofs.Steps.{then_by, else_by, by_start, by_bump, by_bear, by_rule, by_expect, by_eat, by_complete, by_abandon, by_report, by_skip, ate, not_ate, ate_as, not_ate_as, turn, last_turn, to_end, by_kind}
+use Rattle.rap_grammar_frame.proofs.Steps.{by_rule, by_expect, by_complete}
 use Rattle.rap_grammar_expressions_builtin.proofs.asm.parse_asm_expr.Goals as goal
 
 pub returns-clause-script : goal.returns-clause-script

@@ -1,4 +1,3 @@
-use Rattle.std.proofs.Common.{rules}
 use Rattle.rap_grammar_scripts.specs.Builtin.{cfg}
 use Rattle.rap_grammar_scripts.proofs.Ends.{gives}
 use Rattle.rap_grammar_frame.proofs.Steps.{by_expect, by_eat, by_part}

@@ -1,4 +1,3 @@
-use Rattle.std.proofs.Common.{rules}
 use Rattle.rap_grammar_scripts.specs.Matches.{match_arm}
 use Rattle.rap_grammar_scripts.proofs.Ends.{gives}
 use Rattle.rap_grammar_frame.proofs.Steps.{by_start, by_rule, by_expect, by_complete}
