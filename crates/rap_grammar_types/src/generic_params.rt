@@ -217,7 +217,7 @@ fn lifetime_bound_list<G: Grammar>(p: &mut Parser<'_>, g: &G) -> Result<(), NoMe
 }
 
 /// A lifetime's bound. One that is no lifetime is reported. Returns whether there is one.
-#[tactic(auto, unfolding(rap_grammar_scripts::specs::GenericParams::lifetime_bound))]
+#[tactic(auto, using(rap_grammar_frame::proofs::Steps::by_report), unfolding(rap_grammar_scripts::specs::GenericParams::lifetime_bound))]
 fn lifetime_bound<G: Grammar>(p: &mut Parser<'_>, g: &G) -> Result<bool, NoMemory>
     requires within { Within G.valid G.left g.now (state p.old) }
     ensures grew { OnOk result (Grew (state p.old) (state p.new) 4) }
