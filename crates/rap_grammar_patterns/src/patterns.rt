@@ -443,7 +443,7 @@ fn at_field(p: &Parser<'_>, separator: SyntaxKind) -> bool
 }
 
 /// A field of a record, as `x: 1`, `ref x` and `box x`.
-#[tactic(auto, using(rap_grammar_frame::proofs::Patterning::separator_next), unfolding(rap_grammar_scripts::specs::Patterns::record_pat_field))]
+#[tactic(auto, using(rap_grammar_frame::proofs::Patterning::separator_next, rap_grammar_frame::proofs::Steps::by_skip), unfolding(rap_grammar_scripts::specs::Patterns::record_pat_field))]
 fn record_pat_field<G: Grammar>(p: &mut Parser<'_>, g: &G) -> Result<(), NoMemory>
     requires within { Within G.valid G.left g.now (state p.old) }
     ensures grew { OnOk result (Grew (state p.old) (state p.new) recovery_events) }
