@@ -399,6 +399,7 @@ fn self_value<G: Grammar>(p: &mut Parser<'_>, g: &G) -> Result<(), NoMemory>
 }
 
 /// `&self`, with a lifetime and a `mut` or without them.
+#[tactic(auto, unfolding(rap_grammar_scripts::specs::Params::self_ref, rap_grammar_scripts::specs::Params::self_mut))]
 fn self_ref(p: &mut Parser<'_>) -> Result<(), NoMemory>
     requires here { script.is_self_ref (state p.old).rest ≡ true }
     ensures took { OnOk result (Took (state p.old) (state p.new) param_room) }
@@ -407,6 +408,9 @@ fn self_ref(p: &mut Parser<'_>) -> Result<(), NoMemory>
     p.bump(T![&])?;
     if p.at(T![lifetime_ident]) {
         lifetime(p)?;
+        p.eat(T![mut])?;
+        self_as_name(p)?;
+        return Ok(());
     }
     p.eat(T![mut])?;
     self_as_name(p)?;
@@ -414,6 +418,7 @@ fn self_ref(p: &mut Parser<'_>) -> Result<(), NoMemory>
 }
 
 /// The `self` of a parameter.
+#[tactic(auto, unfolding(rap_grammar_scripts::specs::Params::self_as_name))]
 fn self_as_name(p: &mut Parser<'_>) -> Result<(), NoMemory>
     requires { next (state p.old) ≡ SELF_KW }
     ensures took { OnOk result (Took (state p.old) (state p.new) name_room) }

@@ -1,7 +1,7 @@
 //! Patterns.
 ghost use Rattle.std.specs.Prelude.{Bool, ◌≡◌, ◌≢◌, ◌<◌, ◌≤◌, ◌∷◌, ℕ, OnOk, IfOk, true, [], false};
 ghost use Rattle.rap_base.specs.TokenSet.{member};
-ghost use Rattle.rap_base.specs.TokenKind.{DOT2EQ, DOT2, EOF, AMP, POUND, BUILTIN_KW, L_PAREN, L_CURLY, UNDERSCORE, BANG, L_BRACK, IDENT, MUT_KW, REF_KW, BOX_KW, CONST_KW};
+ghost use Rattle.rap_base.specs.TokenKind.{DOT2EQ, DOT2, EOF, AMP, POUND, BUILTIN_KW, L_PAREN, L_CURLY, R_CURLY, UNDERSCORE, BANG, L_BRACK, IDENT, MUT_KW, REF_KW, BOX_KW, CONST_KW};
 ghost use Rattle.rap_base.specs.NodeKind.{LITERAL_PAT, WILDCARD_PAT, REF_PAT, NOT_NULL, SLICE_PAT, IDENT_PAT, BOX_PAT, CONST_BLOCK_PAT};
 ghost use Rattle.rap_events.specs.State.{state, At, IsLast, next, NthAt, ReadsAs};
 ghost use Rattle.rap_grammar_scripts.specs.First.{is_range_pat_end_first, is_path_start, is_pat_top_first, one_of};
@@ -10,9 +10,9 @@ ghost use Rattle.rap_grammar_scripts.specs.Exec.{Does};
 ghost use Rattle.rap_grammar_scripts.specs.Patterns as script;
 ghost use Rattle.rap_grammar_scripts.specs.Patterns.{ends_range_pat, is_ident_pat_start, is_literal_pat_start, at_field, is_rest_pat, ends_search};
 ghost use Rattle.rap_grammar_scripts.specs.Recovery.{is_pattern_recovery, stops_of};
-ghost use Rattle.rap_grammar_frame.specs.Room.{pattern_room, single_pattern_room, atom_pattern_room, list_room, name_room, recovery_events};
+ghost use Rattle.rap_grammar_frame.specs.Room.{element_room, pattern_room, single_pattern_room, atom_pattern_room, list_room, name_room, recovery_events};
 ghost use Rattle.rap_grammar_frame.specs.Rules.{IsAtomPattern, PatternUntil};
-ghost use Rattle.rap_grammar_scripts.specs.Script.{something, nothing};
+ghost use Rattle.rap_grammar_scripts.specs.Script.{something, nothing, again};
 ghost use Rattle.rap_grammar_scripts.specs.Words.{of_option, of_bool};
 
 use rap_base::T;
@@ -108,7 +108,6 @@ fn alternatives<G: Grammar>(p: &mut Parser<'_>, g: &G, in_arm: bool) -> Result<(
 /// A pattern that is no arm's, as [`pattern_r`] reads it.
 // A call of its own, so that a caller that runs other rules too keeps no constant over their calls.
 #[inline(never)]
-#[tactic(auto)]
 pub fn pattern_elsewhere<G: Grammar>(p: &mut Parser<'_>, g: &G) -> Result<(), NoMemory>
     requires within { Within G.valid G.left g.now (state p.old) }
     ensures reads { OnOk result (PatternUntil (stops_of false) 8 pattern_room (state p.old) (state p.new)) }
@@ -143,7 +142,6 @@ pub fn pattern_single_r<G: Grammar>(p: &mut Parser<'_>, g: &G, in_arm: bool) -> 
 /// A pattern without alternatives that is no arm's, as [`pattern_single_r`] reads it.
 // A call of its own, as [`pattern_elsewhere`] is.
 #[inline(never)]
-#[tactic(auto)]
 pub fn pattern_single_elsewhere<G: Grammar>(p: &mut Parser<'_>, g: &G) -> Result<(), NoMemory>
     requires within { Within G.valid G.left g.now (state p.old) }
     ensures reads { OnOk result (PatternUntil (stops_of false) recovery_events single_pattern_room (state p.old) (state p.new)) }
@@ -319,7 +317,7 @@ fn symbol_pat<G: Grammar>(
 
 /// No pattern begins: the next token is skipped too, unless it is a brace or ends the search.
 #[inline(never)]
-#[tactic(auto, unfolding(rap_grammar_scripts::specs::Patterns::missing_pat))]
+#[tactic(auto, using(rap_grammar_frame::proofs::Patterning::missing), unfolding(rap_grammar_scripts::specs::Patterns::missing_pat))]
 fn missing_pat(p: &mut Parser<'_>, in_arm: bool) -> Result<(), NoMemory>
     requires no_reference { next (state p.old) ≢ AMP }
     requires end { next (state p.old) ≡ EOF → (state p.old).rest ≡ [] }
@@ -332,6 +330,7 @@ fn missing_pat(p: &mut Parser<'_>, in_arm: bool) -> Result<(), NoMemory>
 }
 
 /// A pattern after `builtin#`, as `builtin#deref(a)` and `builtin#cfg(unix)`. An unknown name is not taken.
+#[tactic(auto, using(rap_grammar_frame::proofs::Patterning::builtin_no_stop, rap_grammar_frame::proofs::Patterning::no_stop_there), unfolding(rap_grammar_scripts::specs::Patterns::builtin_pat))]
 fn builtin_pat<G: Grammar>(p: &mut Parser<'_>, g: &G) -> Result<Option<CompletedMarker>, NoMemory>
     requires within { Within G.valid G.left g.now (state p.old) }
     requires here { ReadsAs (state p.old) BUILTIN_KW }
@@ -444,6 +443,7 @@ fn at_field(p: &Parser<'_>, separator: SyntaxKind) -> bool
 }
 
 /// A field of a record, as `x: 1`, `ref x` and `box x`.
+#[tactic(auto, using(rap_grammar_frame::proofs::Patterning::separator_next, rap_grammar_frame::proofs::Steps::by_skip), unfolding(rap_grammar_scripts::specs::Patterns::record_pat_field))]
 fn record_pat_field<G: Grammar>(p: &mut Parser<'_>, g: &G) -> Result<(), NoMemory>
     requires within { Within G.valid G.left g.now (state p.old) }
     ensures grew { OnOk result (Grew (state p.old) (state p.new) recovery_events) }
@@ -503,10 +503,24 @@ fn record_pat_fields<G: Grammar>(p: &mut Parser<'_>, g: &G) -> Result<(), NoMemo
     ensures script { OnOk result (Does (G.left g.now) script.record_pat_fields something (state p.old) (state p.new)) }
 {
     'fields: while !p.at(SyntaxKind::EOF) && !p.at(T!['}']) {
-        record_pat_element(p, g)?;
-        if !p.at(T!['}']) {
-            p.expect(T![,])?;
-        }
+        record_pat_turn(p, g)?;
+    }
+    Ok(())
+}
+
+/// A field, and the comma after it unless it is the last.
+fn record_pat_turn<G: Grammar>(p: &mut Parser<'_>, g: &G) -> Result<(), NoMemory>
+    requires within { Within G.valid G.left g.now (state p.old) }
+    requires more { next (state p.old) ≢ EOF }
+    requires open { next (state p.old) ≢ R_CURLY }
+    ensures took { OnOk result (Took (state p.old) (state p.new) pattern_room) }
+    ensures script { OnOk result ((a b : Bool) →
+        Does (G.left g.now) (script.record_pat_turn a b) (again a b) (state p.old) (state p.new)) }
+{
+    record_pat_element(p, g)?;
+    if !p.at(T!['}']) {
+        p.expect(T![,])?;
+        return Ok(());
     }
     Ok(())
 }
@@ -637,13 +651,25 @@ fn tuple_patterns<G: Grammar>(
             return Ok(!is_tuple);
         }
         is_tuple |= is_rest_pat(p);
-        pattern(p, g)?;
-        if !p.at(T![')']) {
-            is_tuple = true;
-            p.expect(T![,])?;
-        }
+        is_tuple = tuple_element(p, g, is_tuple)?;
     }
     Ok(has_pat && !is_tuple)
+}
+
+/// A pattern, and the comma after it unless it is the last. Returns whether there is a comma or a `..` up to here.
+fn tuple_element<G: Grammar>(p: &mut Parser<'_>, g: &G, is_tuple: bool) -> Result<bool, NoMemory>
+    requires behind { Behind G.valid G.left g.now (state p.old) }
+    requires first { is_pat_top_first (next (state p.old)) ≡ true }
+    ensures took { OnOk result (Took (state p.old) (state p.new) element_room) }
+    ensures script { IfOk result (λ tuple.
+        Does (G.left g.now) (script.tuple_element is_tuple) (again tuple true) (state p.old) (state p.new)) }
+{
+    pattern(p, g)?;
+    if !p.at(T![')']) {
+        p.expect(T![,])?;
+        return Ok(true);
+    }
+    Ok(is_tuple)
 }
 
 /// Whether `..` comes next and no range begins with it.

@@ -142,6 +142,7 @@ fn type_param<G: Grammar>(p: &mut Parser<'_>, g: &G, m: Marker) -> Result<(), No
 }
 
 /// A constant as a parameter, as `const N: a = 1`.
+#[tactic(auto, unfolding(rap_grammar_scripts::specs::GenericParams::const_param))]
 fn const_param<G: Grammar>(p: &mut Parser<'_>, g: &G, m: Marker) -> Result<(), NoMemory>
     requires behind { Behind G.valid G.left g.now (state p.old) }
     requires newest { (state p.old).marker ≡ Some m.pos.value }
@@ -152,15 +153,37 @@ fn const_param<G: Grammar>(p: &mut Parser<'_>, g: &G, m: Marker) -> Result<(), N
 {
     p.bump(T![const])?;
     name(p)?;
+    const_type(p, g)?;
+    const_default(p, g)?;
+    m.complete(p, SyntaxKind::CONST_PARAM)?;
+    Ok(())
+}
+
+/// The type of a constant, as `: a`. Where it is missing, that is reported.
+#[tactic(auto, unfolding(rap_grammar_scripts::specs::GenericParams::const_type))]
+fn const_type<G: Grammar>(p: &mut Parser<'_>, g: &G) -> Result<(), NoMemory>
+    requires behind { Behind G.valid G.left g.now (state p.old) }
+    ensures grew { OnOk result (Grew (state p.old) (state p.new) 1) }
+    ensures script { OnOk result (Does (G.left g.now) script.const_type something (state p.old) (state p.new)) }
+{
     if p.at(T![:]) {
         ascription(p, g)?;
-    } else {
-        p.error("missing type for const parameter")?;
+        return Ok(());
     }
+    p.error("missing type for const parameter")?;
+    Ok(())
+}
+
+/// The default of a constant, as `= 1`, if there is one.
+#[tactic(auto, unfolding(rap_grammar_scripts::specs::GenericParams::const_default))]
+fn const_default<G: Grammar>(p: &mut Parser<'_>, g: &G) -> Result<(), NoMemory>
+    requires behind { Behind G.valid G.left g.now (state p.old) }
+    ensures grew { OnOk result (Grew (state p.old) (state p.new) 0) }
+    ensures script { OnOk result (Does (G.left g.now) script.const_default something (state p.old) (state p.new)) }
+{
     if p.eat(T![=])? {
         const_arg(p, g)?;
     }
-    m.complete(p, SyntaxKind::CONST_PARAM)?;
     Ok(())
 }
 
@@ -194,6 +217,7 @@ fn lifetime_bound_list<G: Grammar>(p: &mut Parser<'_>, g: &G) -> Result<(), NoMe
 }
 
 /// A lifetime's bound. One that is no lifetime is reported. Returns whether there is one.
+#[tactic(auto, using(rap_grammar_frame::proofs::Steps::by_report), unfolding(rap_grammar_scripts::specs::GenericParams::lifetime_bound))]
 fn lifetime_bound<G: Grammar>(p: &mut Parser<'_>, g: &G) -> Result<bool, NoMemory>
     requires within { Within G.valid G.left g.now (state p.old) }
     ensures grew { OnOk result (Grew (state p.old) (state p.new) 4) }
@@ -201,9 +225,11 @@ fn lifetime_bound<G: Grammar>(p: &mut Parser<'_>, g: &G) -> Result<bool, NoMemor
     ensures script { IfOk result
         (λ found. Does (G.left g.now) script.lifetime_bound (of_bool found) (state p.old) (state p.new)) }
 {
-    if !matches!(p.current(), T![lifetime_ident] | T![>] | T![,]) {
-        p.error("expected lifetime")?;
+    if matches!(p.current(), T![lifetime_ident] | T![>] | T![,]) {
+        let found = type_bound(p, g)?;
+        return Ok(found);
     }
+    p.error("expected lifetime")?;
     let found = type_bound(p, g)?;
     Ok(found)
 }
@@ -417,6 +443,7 @@ fn bound_constness(p: &mut Parser<'_>) -> Result<(), NoMemory>
 }
 
 /// The rest of a macro call in place of a trait, as `!(a)`.
+#[tactic(auto, unfolding(rap_grammar_scripts::specs::GenericParams::bound_macro_call))]
 fn bound_macro_call(p: &mut Parser<'_>) -> Result<(), NoMemory>
     requires { next (state p.old) ≡ BANG }
     ensures took { OnOk result (Took (state p.old) (state p.new) param_room) }
@@ -429,6 +456,8 @@ fn bound_macro_call(p: &mut Parser<'_>) -> Result<(), NoMemory>
     p.error("unexpected `!` in type path, macro calls are not allowed here")?;
     if matches!(p.current(), T!['{'] | T!['['] | T!['(']) {
         token_tree(p)?;
+        m.complete(p, SyntaxKind::ERROR)?;
+        return Ok(());
     }
     m.complete(p, SyntaxKind::ERROR)?;
     Ok(())

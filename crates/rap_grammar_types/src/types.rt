@@ -1,10 +1,10 @@
 //! Types.
-ghost use Rattle.std.specs.Prelude.{ℕ, ◌≡◌, ◌≢◌, ◌<◌, OnOk, IsTrue, IfOk, true};
+ghost use Rattle.std.specs.Prelude.{ℕ, ◌≡◌, ◌≢◌, ◌<◌, OnOk, IsTrue, IfOk, Some, true};
 ghost use Rattle.rap_base.specs.TokenKind.{DYN_KW, L_PAREN, BANG, STAR, L_BRACK, SEMICOLON, AMP, UNDERSCORE, FN_KW, FOR_KW, IMPL_KW, LIFETIME_IDENT, BUILTIN_KW, POUND};
 ghost use Rattle.rap_base.specs.NodeKind.{PATH_TYPE};
 ghost use Rattle.rap_events.specs.State.{state, next, ReadsAs, IsLast, but_last, NthAt};
 ghost use Rattle.rap_grammar_scripts.specs.First.{starts_weak_dyn, is_weak_dyn_path_first, is_dyn_weak, is_fn_ptr_first, is_path_start};
-ghost use Rattle.rap_grammar_frame.specs.Grew.{Within, Took, Behind, Grew};
+ghost use Rattle.rap_grammar_frame.specs.Grew.{Within, Took, Behind, Grew, Gone};
 ghost use Rattle.rap_grammar_scripts.specs.Exec.{Does};
 ghost use Rattle.rap_grammar_frame.specs.Room.{type_room, list_room, name_room};
 ghost use Rattle.rap_grammar_frame.specs.Rules.{IsType};
@@ -18,7 +18,7 @@ use crate::path_type::path_type;
 use rap_base::T;
 use rap_base::no_memory::NoMemory;
 use rap_base::syntax_kind::SyntaxKind;
-use rap_events::parser::{CompletedMarker, Parser};
+use rap_events::parser::{CompletedMarker, Marker, Parser};
 use rap_grammar_frame::first::{is_fn_ptr_first, is_path_start, is_use_path_start};
 use rap_grammar_frame::knot::Grammar;
 use rap_grammar_frame::names::{abi, lifetime, starts_builtin};
@@ -362,6 +362,7 @@ fn fn_ptr_params<G: Grammar>(p: &mut Parser<'_>, g: &G) -> Result<(), NoMemory>
 
 /// A type over any lifetimes, as `for<'a> fn(&'a b)` and `for<'a> b<'a> + c`.
 #[inline(never)]
+#[tactic(auto, unfolding(rap_grammar_scripts::specs::Types::for_type))]
 fn for_type<G: Grammar>(p: &mut Parser<'_>, g: &G, allow_bounds: bool) -> Result<(), NoMemory>
     requires within { Within G.valid G.left g.now (state p.old) }
     requires here { next (state p.old) ≡ FOR_KW }
@@ -371,9 +372,29 @@ fn for_type<G: Grammar>(p: &mut Parser<'_>, g: &G, allow_bounds: bool) -> Result
 {
     let m = p.start()?;
     for_binder(p, g)?;
-    if !starts_for_target(p) {
-        p.error("expected a function pointer or path")?;
+    if starts_for_target(p) {
+        for_target(p, g, m, allow_bounds)?;
+        return Ok(());
     }
+    p.error("expected a function pointer or path")?;
+    for_target(p, g, m, allow_bounds)?;
+    Ok(())
+}
+
+/// The type after the lifetimes of a `for`, and its bounds, as `b<'a> + c`. The marker before the `for` is open.
+#[tactic(auto)]
+fn for_target<G: Grammar>(
+    p: &mut Parser<'_>,
+    g: &G,
+    m: Marker,
+    allow_bounds: bool,
+) -> Result<(), NoMemory>
+    requires behind { Behind G.valid G.left g.now (state p.old) }
+    requires newest { (state p.old).marker ≡ Some m.pos.value }
+    ensures gone { OnOk result (Gone (state p.old) (state p.new) 32) }
+    ensures script { OnOk result
+        (Does (G.left g.now) (script.for_target allow_bounds) something (state p.old) (state p.new)) }
+{
     type_no_bounds(p, g)?;
     let cm = m.complete(p, SyntaxKind::FOR_TYPE)?;
     if allow_bounds {

@@ -1,28 +1,8 @@
 use Rattle.std.proofs.Common.{rules}
-use Rattle.rap_events.specs.State.{state, next}
 use Rattle.rap_grammar_scripts.specs.Patterns.{builtin_pat}
-use Rattle.rap_grammar_frame.proofs.Patterning.{builtin_no_stop, no_stop_there}
 use Rattle.rap_grammar_scripts.proofs.Ends.{gives}
-use Rattle.rap_grammar_frame.proofs.Steps.{by_bump, by_bear, by_report, by_start, by_complete, by_rule, by_expect, by_eat, clash, ate_as, not_ate_as}
+use Rattle.rap_grammar_frame.proofs.Steps.{by_bump, by_bear, by_start, by_complete, by_rule, by_expect, by_eat, ate_as, not_ate_as}
 use Rattle.rap_grammar_patterns.proofs.patterns.builtin_pat.Goals as goal
-
-pub returns-then-branch-clause-atom : goal.returns-then-branch-clause-atom
-returns-then-branch-clause-atom g c =
-    λ in_arm. (search rules, builtin_no_stop (state c.args.p.now).rest c.requires.here)
-
-pub returns-then-branch-2-clause-atom : goal.returns-then-branch-2-clause-atom
-returns-then-branch-2-clause-atom g c =
-    λ in_arm. (search rules, builtin_no_stop (state c.args.p.now).rest c.requires.here)
-
-pub returns-clause-atom : goal.returns-clause-atom
-returns-clause-atom g c = λ in_arm. record {
-  grew = search rules;
-  took = λ n. search rules;
-  stays =
-      λ s. absurd
-      (clash s
-      (no_stop_there in_arm (next (state c.args.p.now)) (builtin_no_stop (state c.args.p.now).rest c.requires.here)));
-}
 
 pub returns-then-branch-clause-script : goal.returns-then-branch-clause-script
 unfolding builtin_pat
@@ -47,13 +27,3 @@ returns-then-branch-2-clause-script g c = by_start c.in_ok-m.ensures.state
     (by_eat c.in_ok-eat.ensures.state
     (by_expect c.in_ok-expect-4.ensures.state
     (by_complete c.in_ok-cm-2.ensures.state.0 gives)))))))))
-
-pub returns-clause-script : goal.returns-clause-script
-unfolding builtin_pat
-returns-clause-script g c = by_start c.in_ok-m.ensures.state
-    (by_bear (search rules) c.in_ok-bump_remap.ensures.state
-    (by_bump (search rules) c.in_ok-bump.ensures.state
-    (not_ate_as c.in_ok-eat_contextual_kw.ensures.state c.if-branch.false
-    (not_ate_as c.in_ok-eat_contextual_kw-2.ensures.state c.if-branch-2.false
-    (by_report c.in_ok-error.ensures.state
-    (by_complete c.in_ok-complete.ensures.state.0 gives))))))

@@ -1,25 +1,9 @@
-use Rattle.std.proofs.Common.{rules}
-use Rattle.rap_grammar_scripts.proofs.Ends.{gives}
-use Rattle.rap_grammar_frame.proofs.Steps.{by_rule, by_expect, turn, then_by, else_by}
+use Rattle.std.proofs.Common.{rules, false}
+use Rattle.rap_grammar_frame.proofs.Steps.{turn}
 use Rattle.rap_grammar_patterns.proofs.patterns.record_pat_fields.Goals as goal
-
-pub fields-preserved-in_ok-expect : goal.fields-preserved-in_ok-expect
-fields-preserved-in_ok-expect g c = record {
-  grew = search rules;
-  script = turn c.fields.invariant.script
-      (else_by c.at.ensures c.fields-test.true
-      (else_by c.at-in-fields.ensures c.if-not-at.true
-      (by_rule c.in_ok-record_pat_element.ensures.script
-      (else_by c.at-in-fields-2.ensures c.if-not-at-2.true
-      (by_expect c.in_ok-expect.ensures.state gives))))) (search rules);
-}
 
 pub fields-preserved : goal.fields-preserved
 fields-preserved g c = record {
   grew = search rules;
-  script = turn c.fields.invariant.script
-      (else_by c.at.ensures c.fields-test.true
-      (else_by c.at-in-fields.ensures c.if-not-at.true
-      (by_rule c.in_ok-record_pat_element.ensures.script
-      (then_by c.at-in-fields-2.ensures c.if-not-at-2.false gives)))) (search rules);
+  script = turn c.fields.invariant.script (c.in_ok-record_pat_turn.ensures.script false false) (search rules);
 }
