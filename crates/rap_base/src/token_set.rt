@@ -1,8 +1,11 @@
 //! Sets of token kinds.
-ghost use Rattle.std.specs.Prelude.{◌≡◌, ℕ, ◌||◌, ◌==◌, IsTrue, false};
+ghost use Rattle.std.specs.Prelude.{◌≡◌, ℕ, ◌||◌, ◌==◌, IsTrue, false, slice_index_or};
+ghost use Rattle.std.specs.Int.{bit_at};
 ghost use Rattle.std.specs.List.{list_all, list_any};
+ghost use Rattle.rap_base.specs.TokenKind.{EOF, INT_NUMBER};
 ghost use Rattle.rap_base.specs.TokenSet.{member};
 ghost use Rattle.rap_base.specs.TokenTests.{is_token};
+ghost use Rattle.rap_base.specs.declared.token_set.TokenSet.{TokenSet};
 
 use crate::syntax_kind::SyntaxKind;
 
@@ -22,6 +25,13 @@ impl TokenSet {
     /// States in its contract that the empty set has no kind. The body does nothing.
     pub fn empty_has_no_kind()
         ensures { (kind : ℕ) → member TokenSet.EMPTY kind ≡ false }
+    {}
+
+    /// States in its contract that a kind is in a set by the bit of its number: `EOF`, 0, by bit 0 of word 0, and
+    /// `INT_NUMBER`, 141, by bit 13 of word 2. The body does nothing.
+    pub fn keeps_a_bit_for_each_kind()
+        ensures first { (set : TokenSet) → member set EOF ≡ (bit_at (slice_index_or set.words 0 0) 0 == 1) }
+        ensures number { (set : TokenSet) → member set INT_NUMBER ≡ (bit_at (slice_index_or set.words 2 0) 13 == 1) }
     {}
 
     /// Returns the set of the given kinds. Each must be a token's kind.
@@ -57,23 +67,5 @@ impl TokenSet {
     {
         let number = u16::from(kind) as usize;
         (self.words[number / 64] >> (number % 64)) & 1 == 1
-    }
-}
-
-#[cfg(test)]
-mod tests {
-    use super::TokenSet;
-    use crate::syntax_kind::SyntaxKind;
-
-    #[test]
-    fn keeps_a_bit_for_each_kind(rt: HostRuntime) {
-        let ends = TokenSet::new(&[SyntaxKind::EOF, SyntaxKind::SHEBANG]);
-        assert_eq!(rt; ends.words[0], 1);
-        assert_eq!(rt; ends.words[1], 0);
-        assert!(rt; ends.contains(SyntaxKind::EOF) && ends.contains(SyntaxKind::SHEBANG));
-        assert!(rt; !ends.contains(SyntaxKind::PLUS));
-        let numbers = TokenSet::new(&[SyntaxKind::INT_NUMBER]);
-        assert_eq!(rt; numbers.words[2], 1 << 13);
-        assert_eq!(rt; numbers.words[0] | numbers.words[1], 0);
     }
 }

@@ -1,8 +1,9 @@
 //! Events as words of 32 bits.
-ghost use Rattle.std.specs.Prelude.{◌≡◌, ◌+◌, ◌*◌, ◌/◌, ◌%◌, ◌<◌, ◌≤◌, ◌^◌};
-ghost use Rattle.rap_base.specs.NodeKind.{PATH_META};
+ghost use Rattle.std.specs.Prelude.{◌≡◌, ℕ, List, ◌+◌, ◌*◌, ◌/◌, ◌%◌, ◌<◌, ◌≤◌, ◌^◌, true, false};
+ghost use Rattle.rap_base.specs.NodeKind.{PATH_META, SOURCE_FILE};
 ghost use Rattle.rap_events.specs.declared.event.Event.TheVariants as event;
-ghost use Rattle.rap_events.specs.Word.{fields, word_of_event, Fits, HasNumber};
+ghost use Rattle.rap_events.specs.StepValue.{enter, exit, float_split, error};
+ghost use Rattle.rap_events.specs.Word.{fields, word_of, word_of_event, Fits, HasNumber};
 
 use crate::event::Event;
 use rap_base::syntax_kind::SyntaxKind;
@@ -70,6 +71,15 @@ impl Word {
             bits: bits_of(event),
         }
     }
+
+    /// The words of some steps: which bits hold what. A law: the function does nothing.
+    pub(crate) fn are_fields()
+        ensures enter { word_of (enter SOURCE_FILE) 0 ≡ 0x009E0011 }
+        ensures exit { word_of exit 0 ≡ 0x00000021 }
+        ensures split { word_of (float_split false) 0 ≡ 0x00000031 }
+        ensures dotted { word_of (float_split true) 0 ≡ 0x00000131 }
+        ensures message { (bytes : List ℕ) (number : ℕ) → word_of (error bytes) number ≡ 2 * number }
+    {}
 
     /// Returns the event of the word.
     #[inline(always)]
@@ -191,40 +201,4 @@ fn packed(which: u32, byte: u8, kind: u16) -> u32
     ensures { result ≡ fields which byte kind }
 {
     (u32::from(kind) << 16) + (u32::from(byte) << 8) + (which << 4) + 1
-}
-
-#[cfg(test)]
-mod tests {
-    use super::*;
-
-    fn bits(event: Event) -> u32
-        requires { HasNumber event }
-    {
-        Word::of_event(event).bits
-    }
-
-    #[test]
-    fn words_of_no_tokens(rt: HostRuntime) {
-        let source_file = SyntaxKind::SOURCE_FILE;
-        assert_eq!(rt; bits(Event::Enter { kind: source_file }), 0x009E_0011);
-        assert_eq!(rt; bits(Event::Exit), 0x0000_0021);
-    }
-
-    #[test]
-    fn words_of_splits(rt: HostRuntime) {
-        assert_eq!(rt; bits(Event::FloatSplit { ends_in_dot: false }), 0x0000_0031);
-        assert_eq!(rt; bits(Event::FloatSplit { ends_in_dot: true }), 0x0000_0131);
-    }
-
-    #[test]
-    fn a_message_is_twice_its_number(rt: HostRuntime) {
-        assert_eq!(rt; bits(Event::Error { message: 0 }), 0);
-        assert_eq!(rt; bits(Event::Error { message: 5 }), 10);
-        assert_eq!(rt;
-            bits(Event::Error {
-                message: 0x7FFF_FFFF
-            }),
-            0xFFFF_FFFE
-        );
-    }
 }

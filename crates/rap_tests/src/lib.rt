@@ -1,13 +1,17 @@
-//! Tests of the public calls of the libraries below the grammar whose results no built program shows; they are in a
+//! Tests of the public calls of the libraries that need no grammar whose results no built program shows; they are in a
 //! crate of their own, since in those libraries each would be proved a second time.
 #![tactic(auto)]
 
+#[cfg(test)]
+mod document;
 #[cfg(test)]
 mod edition;
 #[cfg(test)]
 mod escape;
 #[cfg(test)]
 mod events;
+#[cfg(test)]
+mod frames;
 #[cfg(test)]
 mod frontmatter;
 #[cfg(test)]

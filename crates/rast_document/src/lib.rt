@@ -11,8 +11,6 @@ mod encoding;
 mod lines;
 mod marks;
 mod position;
-#[cfg(test)]
-mod tests;
 
 pub use change::{Change, ChangeFault};
 pub use document::Document;

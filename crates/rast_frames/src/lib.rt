@@ -9,8 +9,6 @@ mod frames;
 mod front;
 mod header;
 mod laws;
-#[cfg(test)]
-mod tests;
 mod write;
 
 pub use frames::Frames;

@@ -3,10 +3,7 @@ ghost use Rattle.std.specs.Prelude.{IfOk};
 ghost use Rattle.rast_frames.specs.Fronts.{Fronts};
 ghost use Rattle.rast_frames.specs.Stream.{waiting};
 
-use crate::frames::Frames;
-use crate::front::{Front, front_of};
-use crate::header::{HeaderFault, MAX_HEADER};
-use crate::write::write_frame;
+use rast_frames::{Frames, Front, HeaderFault, MAX_HEADER, front_of, write_frame};
 use std::alloc::AllocError;
 use std::test::Fail;
 

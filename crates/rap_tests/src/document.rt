@@ -1,8 +1,5 @@
 //! Documents by worked examples: those of the protocol, and each line end.
-use crate::change::{Change, ChangeFault};
-use crate::document::Document;
-use crate::encoding::Encoding;
-use crate::position::{Position, Span};
+use rast_document::{Change, ChangeFault, Document, Encoding, Position, Span};
 use std::alloc::{AllocError, Global};
 use std::test::Fail;
 
