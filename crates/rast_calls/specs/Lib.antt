@@ -1,4 +1,5 @@
 pub mod Built
+pub mod Closed
 pub mod Held
 pub mod Listed
 pub mod Made

@@ -6,10 +6,11 @@ use Rattle.rap_events.specs.Forest.{Forest, flat}
 use Rattle.rap_events.specs.StepValue.{StepValue, enter, exit, token, float_split, error}
 use Rattle.rast_print.specs.Listed.{step_lines}
 use Rattle.rast_calls.specs.Built.{ComesOfBuild, IsBuilt}
+use Rattle.rast_calls.specs.Closed.{ComesOfClosed, IsListedClosed}
 use Rattle.rast_calls.specs.Held.{ComesOfSteps, IsHeld}
 use Rattle.rast_calls.specs.Made.{ComesOfInput, ComesOfOutput, IsMade, pushed}
 use Rattle.rast_calls.specs.declared.asked.Asked.{Asked}
-use Rattle.rast_calls.specs.declared.asked.Asked.TheVariants.{Capacity, Frontmatter, Push, Kept, Count, Sink, Build}
+use Rattle.rast_calls.specs.declared.asked.Asked.TheVariants.{Capacity, Frontmatter, Push, Kept, Count, Sink, Build, Closed}
 use Rattle.rast_calls.specs.declared.asked.Tokens.{Tokens}
 use Rattle.rast_calls.specs.declared.asked.Way.{Way}
 use Rattle.rast_calls.specs.declared.pushed.CallFault.{CallFault}
@@ -95,6 +96,7 @@ Lists text (Kept way tokens) lines = IsKept way tokens lines
 Lists text (Count way tokens) lines = IsCounted way tokens lines
 Lists text (Sink count entry edition) lines = IsHeld text edition entry count lines
 Lists text (Build entry edition) lines = IsBuilt text edition entry lines
+Lists text (Closed reparser edition) lines = IsListedClosed text edition reparser lines
 
 -- when a fault occurs
 abbrev pub Comes : List ℕ → Asked → CallFault → Type 0
@@ -105,3 +107,4 @@ Comes text (Kept way tokens) fault = ComesOfKept way tokens fault
 Comes text (Count way tokens) fault = ComesOfTokens way tokens fault
 Comes text (Sink count entry edition) fault = ComesOfSteps text edition fault
 Comes text (Build entry edition) fault = ComesOfBuild text edition fault
+Comes text (Closed reparser edition) fault = ComesOfClosed text edition reparser fault

@@ -61,4 +61,9 @@ pub enum Asked {
         entry: TopEntryPoint,
         edition: Edition,
     },
+    /// Whether the node that is made of a text is closed.
+    Closed {
+        reparser: Reparser,
+        edition: Edition,
+    },
 }

@@ -7,6 +7,7 @@ ghost use Rattle.rast_calls.specs.Listed.{Comes, ComesOfKept, ComesOfTokens, IsC
 
 use crate::asked::{Asked, Tokens, Way};
 use crate::built::list_built;
+use crate::closed::list_closed;
 use crate::pushed::{CallFault, input_of, input_of_first, output_of};
 use crate::sink::list_held;
 use ra_ap_parser::frontmatter::FrontmatterError;
@@ -192,5 +193,6 @@ pub fn list(alloc: Global, asked: &Asked, text: &str) -> Result<String, CallFaul
             edition,
         } => list_held(alloc, *count, *entry, *edition, text),
         Asked::Build { entry, edition } => list_built(alloc, *entry, *edition, text),
+        Asked::Closed { reparser, edition } => list_closed(alloc, *reparser, *edition, text),
     }
 }

@@ -3,6 +3,7 @@
 
 mod asked;
 mod built;
+mod closed;
 mod listing;
 mod pushed;
 mod request;
@@ -20,7 +21,8 @@ const USAGE: &str = "usage: rast_calls capacity COUNT\n       \
     rast_calls frontmatter MESSAGE START END COUNT\n       \
     rast_calls push|ident|kept|kept-ident|count top|prefix|reparse NAME COUNT KIND [EVERY]\n       \
     rast_calls sink COUNT ENTRY EDITION FILE\n       \
-    rast_calls build ENTRY EDITION FILE\n";
+    rast_calls build ENTRY EDITION FILE\n       \
+    rast_calls closed NODE EDITION FILE\n";
 
 const UNREADABLE: &str = "rast_calls: cannot read the file\n";
 

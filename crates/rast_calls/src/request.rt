@@ -19,7 +19,13 @@ fn read_number(args: &mut Args) -> Option<usize> {
     word.as_str().parse::<usize>().ok()
 }
 
-/// Reads `top ENTRY`, `prefix ENTRY` or `reparse NODE`, where the node begins with a brace and stands in an `impl`.
+/// Reads a node's kind, where the node begins with a brace and stands in an `impl`.
+fn read_node(name: &str) -> Option<Reparser> {
+    let node = read_kind(name)??;
+    Reparser::for_node(node, Some(SyntaxKind::L_CURLY), Some(SyntaxKind::IMPL))
+}
+
+/// Reads `top ENTRY`, `prefix ENTRY` or `reparse NODE`.
 fn read_way(args: &mut Args) -> Option<Way> {
     let (Some(word), Some(name)) = (args.next(), args.next()) else {
         return None;
@@ -33,15 +39,7 @@ fn read_way(args: &mut Args) -> Option<Way> {
             let Prefix(entry) = name.as_str().parse::<Prefix>().ok()?;
             Some(Way::Prefix(entry))
         }
-        "reparse" => {
-            let node = read_kind(name.as_str())??;
-            let reparser = Reparser::for_node(
-                node,
-                Some(SyntaxKind::L_CURLY),
-                Some(SyntaxKind::IMPL),
-            )?;
-            Some(Way::Node(reparser))
-        }
+        "reparse" => Some(Way::Node(read_node(name.as_str())?)),
         _ => None,
     }
 }
@@ -107,6 +105,16 @@ fn read_build(args: &mut Args) -> Option<Asked> {
     Some(Asked::Build { entry, edition })
 }
 
+/// Reads the words after `closed`, without the file.
+fn read_closed(args: &mut Args) -> Option<Asked> {
+    let (Some(name), Some(edition)) = (args.next(), args.next()) else {
+        return None;
+    };
+    let reparser = read_node(name.as_str())?;
+    let edition = edition.as_str().parse::<Edition>().ok()?;
+    Some(Asked::Closed { reparser, edition })
+}
+
 /// Reads which calls are made.
 fn read_asked(args: &mut Args, word: &str) -> Option<Asked> {
     match word {
@@ -119,6 +127,7 @@ fn read_asked(args: &mut Args, word: &str) -> Option<Asked> {
         "count" => Some(Asked::Count(read_way(args)?, read_tokens(args, false)?)),
         "sink" => read_sink(args),
         "build" => read_build(args),
+        "closed" => read_closed(args),
         _ => None,
     }
 }
@@ -130,7 +139,7 @@ pub fn read_request<R: Env + AllocGlobal>(rt: &R) -> Option<Request> {
     let word = args.next()?;
     let asked = read_asked(&mut args, word.as_str())?;
     let file = match asked {
-        Asked::Sink { .. } | Asked::Build { .. } => Some(args.next()?),
+        Asked::Sink { .. } | Asked::Build { .. } | Asked::Closed { .. } => Some(args.next()?),
         _ => None,
     };
     if args.next().is_some() {
