@@ -1,5 +1,5 @@
 -- What a sink holds of steps, and how many messages there are among steps.
-use Rattle.std.proofs.Common.{◌≡◌, ℕ, ◌+◌, ◌≤◌, List, [], ◌∷◌, ◌++◌, Bool, true, length, ap, sym, ◌∙◌, subst, codes, string_bytes, append_assoc, append-nil, arith, inl, inr}
+use Rattle.std.proofs.Common.{◌≡◌, ℕ, ◌+◌, ◌≤◌, List, [], ◌∷◌, ◌++◌, Bool, length, ap, sym, ◌∙◌, subst, codes, string_bytes, append_assoc, append-nil, arith, inl, inr}
 use Rattle.rap_base.specs.declared.edition.Edition.{Edition}
 use Rattle.rap_events.specs.StepValue.{StepValue, enter, exit, token, float_split, error}
 use Rattle.rap_lexed.specs.LexedStr.{Lexed}
