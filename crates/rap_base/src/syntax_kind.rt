@@ -9,7 +9,7 @@ use std::marker::Model;
 mod constants;
 mod keywords;
 mod names;
-mod reserved_words;
+mod word_table;
 mod table;
 mod token_tests;
 mod words;

@@ -1,6 +1,6 @@
 pub mod Bodies
 pub mod CommonTokens
-pub mod ContextualWords
+pub mod Contextual
 pub mod Covered
 pub mod Cuts
 pub mod Eating
