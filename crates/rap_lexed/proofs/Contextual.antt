@@ -1,20 +1,12 @@
 -- The numbers of the tokens that are contextual keywords, noted one by one.
-use Rattle.std.proofs.Common.{◌≡◌, ◌≢◌, ℕ, zero, suc, Bool, true, false, ◌+◌, ◌<◌, ◌≤◌, List, [], ◌∷◌, ◌++◌, length, refl, ap, sym, ◌∙◌, subst, inl, inr, arith, eq-eqb}
-use Rattle.std.specs.Prelude.{◌==◌, ◌&&◌, Option, None, Some, if◌then◌else◌}
+use Rattle.std.proofs.Common.{◌≡◌, ◌≢◌, ℕ, zero, suc, Bool, true, false, ◌+◌, ◌-◌, ◌<◌, ◌≤◌, List, [], ◌∷◌, ◌++◌, length, refl, ap, sym, ◌∙◌, subst, inl, inr, arith, eq-eqb}
+use Rattle.std.specs.Prelude.{◌==◌, Option, None, Some, if◌then◌else◌}
 use Rattle.std.proofs.lemmas.Bool.{true≢false}
 use Rattle.std.proofs.lemmas.Bool.Decides.{eqb_tells}
-use Rattle.rap_base.specs.Keyword.{from_contextual_keyword}
-use Rattle.rap_base.specs.TokenKind.{IDENT}
-use Rattle.rap_base.specs.TokenTests.{is_trivia}
-use Rattle.rap_base.specs.Word.{is_ever_contextual}
-use Rattle.rap_base.specs.declared.edition.Edition.{Edition}
-use Rattle.rap_base.proofs.WordTable.{never}
-use Rattle.rap_lexed.specs.Contextual.{is_contextual_token, next_of, noted, past, ArePlain, AreNoted}
+use Rattle.rap_lexed.specs.Contextual.{is_contextual_token, noted, past, past_first, ArePlain, AreNoted}
 use Rattle.rap_lexed.specs.Header.{header_kinds}
-use Rattle.rap_lexed.specs.Input.{contextual_of, joint_of, records_at}
-use Rattle.rap_lexed.specs.LexedStr.{Token, token_at}
+use Rattle.rap_lexed.specs.LexedStr.{Token}
 use Rattle.rap_lexed.proofs.Cuts.{piece}
-use Rattle.rap_lexed.proofs.Records.{record_of}
 use Rattle.rap_lexed.proofs.Upto.{last_or}
 
 module _ (f g : ℕ → Token) (count : ℕ) (same : (i : ℕ) → i < count → f i ≡ g i) where
@@ -64,23 +56,16 @@ header-noted text ks ss ns shebang frontmatter e f =
     let begun : AreNoted (piece text (header_kinds shebang frontmatter) ss) 0 (length (header_kinds shebang frontmatter)) [] = (omega arith, λ i l h. header-plain text ss shebang frontmatter i h) in
     rw (e, f) begun
 
--- the record of an identifier that is none
-pub ident-record : (t : Token) (us : List Token) (edition : Edition) → t.kind ≡ IDENT → is_contextual_token t ≡ false → (if is_trivia t.kind then [] else record_of t us edition ∷ []) ≡ record { kind = IDENT; contextual = IDENT; edition = edition; joint = false } ∷ []
-ident-record t us edition e h =
-    let ever : is_ever_contextual t.text ≡ false = rw e at h in
-    let none : from_contextual_keyword t.text edition ≡ None = never t.text edition ever in
-    rw (e, none) refl
-
 module _ (token : ℕ → Token) (count : ℕ) where
-  -- up to the next number no token is one
-  pub noted-next : (from : ℕ) (ns : List ℕ) → AreNoted token from count ns → (from ≤ next_of ns count) × (next_of ns count ≤ count) × ArePlain token from (next_of ns count)
-  noted-next from [] h = (h.0, omega arith, h.1)
-  noted-next from (n ∷ ns) h = (h.0, omega (arith, h.1), h.2)
+  -- no token before the next number is one
+  pub noted-next : (from : ℕ) (ns : List ℕ) → AreNoted token from count ns → (from ≤ past_first ns count) × (past_first ns count ≤ count) × ArePlain token from (past_first ns count - 1)
+  noted-next from [] h = (h.0, omega arith, λ i l m. h.1 i l (omega arith))
+  noted-next from (n ∷ ns) h = (omega (arith, h.0), omega (arith, h.1), λ i l m. h.2 i l (omega arith))
 
-  -- the same from a later token on, before the next number
-  pub noted-later : (from to : ℕ) (ns : List ℕ) → AreNoted token from count ns → from ≤ to → to ≤ next_of ns count → AreNoted token to count ns
-  noted-later from to [] h l m = (m, λ i k j. h.1 i (omega arith) j)
-  noted-later from to (n ∷ ns) h l m = (m, h.1, λ i k j. h.2 i (omega arith) j, h.3)
+  -- the same from a later token on, which is not past the next number
+  pub noted-later : (from to : ℕ) (ns : List ℕ) → AreNoted token from count ns → from ≤ to → to ≤ past_first ns count → (from < past_first ns count → to < past_first ns count) → AreNoted token to count ns
+  noted-later from to [] h l m s = (m, λ i k j. h.1 i (omega arith) j)
+  noted-later from to (n ∷ ns) h l m s = (let below : to < n + 1 = s (omega (arith, h.0)) in omega (arith, below), h.1, λ i k j. h.2 i (omega arith) j, h.3)
 
   -- the same past one token
   pub noted-past : (from : ℕ) (ns : List ℕ) → AreNoted token from count ns → from < count → AreNoted token (from + 1) count (past ns from)

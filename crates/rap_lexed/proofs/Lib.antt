@@ -15,6 +15,7 @@ pub mod Joined
 pub mod Messages
 pub mod OneLexing
 pub mod OpenStrings
+pub mod PlainRecords
 pub mod Records
 pub mod Reports
 pub mod TailExamples

@@ -26,7 +26,7 @@ abbrev pub past : List ℕ → ℕ → List ℕ
 past [] number = []
 past (n ∷ ns) number = if n == number then ns else n ∷ ns
 
--- the first of the numbers; without one, how many tokens there are
-abbrev pub next_of : List ℕ → ℕ → ℕ
-next_of [] count = count
-next_of (n ∷ ns) count = n
+-- one past the first of the numbers; without one, how many tokens there are
+abbrev pub past_first : List ℕ → ℕ → ℕ
+past_first [] count = count
+past_first (n ∷ ns) count = n + 1

@@ -1,5 +1,5 @@
 //! A text divided into tokens, with the lexer's messages.
-ghost use Rattle.std.specs.Prelude.{◌≡◌, ℕ, ◌<◌, ◌≤◌, ◌+◌, ◌++◌, ◌∷◌, [], ◌^◌, ◌↔◌, ◌&&◌, ◌==◌, Some, IfOk, IfSome, IsCharBoundary, IsFalse, IsTrue, MatchOption, OnOk, min, string_bytes, length, slice_range};
+ghost use Rattle.std.specs.Prelude.{◌≡◌, ℕ, ◌<◌, ◌≤◌, ◌+◌, ◌++◌, ◌∷◌, [], ◌^◌, ◌↔◌, ◌&&◌, ◌==◌, Some, IfOk, IfSome, IsCharBoundary, IsFalse, IsTrue, MatchOption, OnOk, min, string_bytes, length, map, slice_range, All};
 ghost use Rattle.std.specs.List.Sorted.{IsNonDecreasingBy, IsPartitionPoint};
 ghost use Rattle.std.specs.Option.{option_copied, option_map};
 ghost use Rattle.rap_base.specs.TokenKind.{STRING};
@@ -327,6 +327,16 @@ impl<'a> LexedStr<'a> {
         ensures token { IsTokenKind result }
     {
         self.kind[i]
+    }
+
+    /// The kinds of the tokens.
+    #[inline(always)]
+    pub(crate) fn kinds(&self) -> &[SyntaxKind]
+        ensures kinds { result.now ≡ map (λ token. token.kind) self.now.tokens }
+        ensures count { length result.now ≡ length self.now.tokens }
+        ensures tokens { All IsTokenKind result.now }
+    {
+        self.kind.as_slice()
     }
 
     /// The numbers of the tokens that are contextual keywords of some edition, in order.

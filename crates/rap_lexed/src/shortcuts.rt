@@ -1,5 +1,5 @@
 //! From a text's tokens to the parser's input, and from the parser's output to the steps of the tree over the text.
-ghost use Rattle.std.specs.Prelude.{◌≡◌, ◌+◌, ◌*◌, ◌<◌, ◌≤◌, ◌↔◌, ◌∷◌, [], ◌++◌, length, drop, map, true, false, IsTrue, IsFalse, IfOk, OnOk, not, ◌||◌, ◌==◌};
+ghost use Rattle.std.specs.Prelude.{◌≡◌, ◌+◌, ◌-◌, ◌*◌, ◌<◌, ◌≤◌, ◌↔◌, ◌∷◌, [], ◌++◌, length, drop, map, true, IsTrue, IfOk, OnOk, not, ◌||◌, ◌==◌};
 ghost use Rattle.rap_base.specs.TokenKind.{IDENT};
 ghost use Rattle.rap_base.specs.TokenTests.{is_trivia};
 ghost use Rattle.rap_base.specs.declared.edition.Edition.{Edition};
@@ -7,7 +7,7 @@ ghost use Rattle.rap_events.specs.Forest.{flat, one_tree, splits_placed, used};
 ghost use Rattle.rap_events.specs.Cover.{covers};
 ghost use Rattle.rap_events.specs.Reading.{forest_of};
 ghost use Rattle.rap_events.specs.Step.{step_value};
-ghost use Rattle.rap_lexed.specs.Contextual.{is_contextual_token, next_of, past, ArePlain};
+ghost use Rattle.rap_lexed.specs.Contextual.{past, past_first, ArePlain};
 ghost use Rattle.rap_lexed.specs.Input.{records, records_at, joint_of};
 ghost use Rattle.rap_lexed.specs.LexedStr.{joined, token_at};
 ghost use Rattle.rap_lexed.specs.StrForest.{str_flat, str_joined, str_one_tree};
@@ -76,8 +76,8 @@ impl LexedStr<'_> {
         'tokens: while i < self.len() {
             numbers = past(numbers, i);
             push_record(self, i, edition, &mut input)?;
-            let to = next_of(numbers, self.len());
-            i = push_in_room(self, i + 1, to, edition, &mut input);
+            let end = past_first(numbers, self.len());
+            i = push_plain(self, i + 1, end, edition, &mut input);
         }
         Ok(input)
     }
@@ -202,63 +202,37 @@ fn past(numbers: &[u32], number: usize) -> &[u32]
     }
 }
 
-/// The first of the numbers; without one, how many tokens there are.
-fn next_of(numbers: &[u32], count: usize) -> usize
-    ensures { result ≡ next_of numbers.now count }
+/// One past the first of the numbers; without one, how many tokens there are.
+fn past_first(numbers: &[u32], count: usize) -> usize
+    ensures { result ≡ past_first numbers.now count }
 {
     match numbers {
-        [first, ..] => *first as usize,
+        [first, ..] => *first as usize + 1,
         [] => count,
     }
 }
 
-/// Appends the records of the tokens from `from` to `to`, none of which is a contextual keyword, as long as there is
-/// room for them. Returns how far it came.
+/// Appends the records of tokens from `from` on, as far as the kinds alone give them. The last one before `end` is only
+/// looked at, and none before that may be a contextual keyword. Returns how far it came.
 ///
-/// It is inlined, and calls nothing that changes the input's lists, so that they stay in registers.
+/// It stops where there is no room, and at a float number: `push_record` goes on from there.
 #[inline(always)]
-fn push_in_room(
+fn push_plain(
     lexed: &LexedStr<'_>,
     from: usize,
-    to: usize,
+    end: usize,
     edition: Edition,
     input: &mut Input,
 ) -> usize
-    requires rising { from ≤ to }
-    requires within { to ≤ length lexed.now.tokens }
-    requires plain { ArePlain (token_at lexed.now.tokens) from to }
+    requires rising { from ≤ end }
+    requires within { end ≤ length lexed.now.tokens }
+    requires plain { ArePlain (token_at lexed.now.tokens) from (end - 1) }
     ensures further { from ≤ result }
-    ensures within { result ≤ to }
+    ensures within { result ≤ end }
+    ensures last { from < end → result < end }
     ensures pushed { input.new ++ records (drop result lexed.now.tokens) edition ≡ input.old ++ records (drop from lexed.now.tokens) edition }
 {
-    let mut i = from;
-    'tokens: while i < to {
-        if !push_record_in_room(lexed, i, edition, input) {
-            break;
-        }
-        i += 1;
-    }
-    i
-}
-
-/// Appends the record of a token that is no contextual keyword, if there is room for it. Returns whether there was.
-///
-/// The text of an identifier is not read.
-#[inline(always)]
-fn push_record_in_room(lexed: &LexedStr<'_>, i: usize, edition: Edition, input: &mut Input) -> bool
-    requires within { i < length lexed.now.tokens }
-    requires plain { is_contextual_token (token_at lexed.now.tokens i) ≡ false }
-    ensures pushed { IsTrue result → input.new ≡ input.old ++ records_at lexed.now.tokens i edition }
-    ensures full { IsFalse result → input.new ≡ input.old }
-{
-    let kind = lexed.kind(i);
-    if kind.is_trivia() {
-        return true;
-    }
-    if kind == SyntaxKind::IDENT {
-        return input.push_ident_in_room(SyntaxKind::IDENT, edition);
-    }
-    input.push_joint_in_room(kind, edition, is_joint(lexed, i))
+    from + input.push_kinds_in_room(&lexed.kinds()[from..end], edition)
 }
 
 /// The joint bit of a token.
