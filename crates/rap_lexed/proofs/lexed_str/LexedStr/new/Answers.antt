@@ -32,7 +32,7 @@ tokens-init c =
       is_header = c.find_header-header.ensures.header;
       upto = header_begun c.args.edition c.args.text.now f.shebang f.frontmatter _ _ _ _ c.utf8.text c.find_header-header.ensures.ends kinds starts c.new-error.ensures.items c.end-offset.ensures;
       kinds = rw kinds (header_tokens f.shebang f.frontmatter);
-      numbers = header-noted c.args.text.now _ _ _ f.shebang f.frontmatter kinds c.new-contextual.ensures.items;
+      numbers = header-noted c.args.text.now c.push_header.new.kinds.items c.push_header.new.starts.items _ f.shebang f.frontmatter kinds c.new-contextual.ensures.items;
     }
 
 pub since_open_with-since_open-requires : goal.since_open_with-since_open-requires
