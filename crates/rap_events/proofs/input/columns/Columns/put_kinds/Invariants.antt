@@ -2,7 +2,7 @@ use Rattle.std.proofs.Common.{◌≡◌, ◌≢◌, ◌+◌, ◌-◌, ◌/◌, �
 use Rattle.rap_base.specs.TokenKind.{EOF, FLOAT_NUMBER}
 use Rattle.rap_events.specs.Input.{records, with_word, Holds}
 use Rattle.rap_events.specs.KindRecords.{touches, kind_records}
-use Rattle.rap_events.proofs.input.columns.kinds.Columns.put_kinds.Given as goal
+use Rattle.rap_events.proofs.input.columns.Columns.put_kinds.Given as goal
 
 abbrev pub invariant-tokens : goal.invariant-tokens
 invariant-tokens l = record {

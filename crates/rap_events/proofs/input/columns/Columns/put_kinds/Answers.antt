@@ -4,7 +4,7 @@ use Rattle.rap_base.specs.TokenKind.{EOF, FLOAT_NUMBER}
 use Rattle.rap_events.specs.Input.{records, with_word}
 use Rattle.rap_events.specs.KindRecords.{touches}
 use Rattle.rap_events.proofs.KindRecords.{none_yet, one_more_kind, touching-kept}
-use Rattle.rap_events.proofs.input.columns.kinds.Columns.put_kinds.Goals as goal
+use Rattle.rap_events.proofs.input.columns.Columns.put_kinds.Goals as goal
 
 pub tokens-init : goal.tokens-init
 tokens-init c = record {

@@ -5,7 +5,7 @@ use Rattle.rap_base.specs.TokenTests.{is_trivia}
 use Rattle.rap_events.specs.Input.{with_word}
 use Rattle.rap_events.specs.KindRecords.{contextual_of_kind}
 use Rattle.rap_events.proofs.Columns.{put-holds, put-records, bit_in_word, record_of}
-use Rattle.rap_events.proofs.input.columns.kinds.Columns.put.Goals as goal
+use Rattle.rap_events.proofs.input.columns.Columns.put.Goals as goal
 
 pub index_mut-requires : goal.index_mut-requires
 index_mut-requires c =
