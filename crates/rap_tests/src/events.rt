@@ -53,7 +53,7 @@ fn comparison(alloc: Global) -> Result<Input, NoMemory> {
     Ok(input)
 }
 
-// A push makes room for 64 tokens; then there is none before the next push.
+// A push makes room for 1,024 tokens; then there is none before the next push.
 #[test]
 fn pushes_while_there_is_room(rt: HostRuntime) -> Result<(), Fail> {
     let mut input = Input::with_capacity(rt.alloc(), 4)?;
@@ -62,10 +62,10 @@ fn pushes_while_there_is_room(rt: HostRuntime) -> Result<(), Fail> {
     input.push(SyntaxKind::EQ, Edition::Edition2024)?;
     let has_room = input.push_joint_in_room(SyntaxKind::EQ, Edition::Edition2024, true);
     assert!(rt; has_room && input.is_joint(1));
-    for _ in 0..64 {
+    for _ in 0..1024 {
         let _pushed = input.push_ident_in_room(SyntaxKind::IDENT, Edition::Edition2024);
     }
-    assert_eq!(rt; input.len(), 64);
+    assert_eq!(rt; input.len(), 1024);
     Ok(())
 }
 
