@@ -21,12 +21,12 @@ module _ (edition : Edition) (text : List ℕ) (header : List Token) (kinds star
     pub grows : length kinds ≤ length ks
     pub upto : Upto edition text header ks ss errors (min (since + (length ks - length kinds)) 5) to
     pub tokens : All IsTokenKind ks
-    pub numbers : AreNoted (piece text ks ss) 0 (length ks) ns
+    pub noted : AreNoted (piece text ks ss) 0 (length ks) ns
 
   pub further : {ks ss ns : List ℕ} {to : ℕ} → TakesCommon edition text kinds starts numbers from ks ss ns to → Further ks ss ns to
   further none =
       let same : min (since + (length kinds - length kinds)) 5 ≡ since = omega (arith, since_few (piece text kinds starts) (length kinds), u.since_is) in
-      record { grows = omega arith; upto = rw same u; tokens = first; numbers = before }
+      record { grows = omega arith; upto = rw same u; tokens = first; noted = before }
   further (more ks ss ns at kind to t c) =
       let f = further t in
       let count : ℕ = min (since + (length ks - length kinds)) 5 in
@@ -38,8 +38,8 @@ module _ (edition : Edition) (text : List ℕ) (header : List Token) (kinds star
         grows = omega (arith, longer, f.grows);
         upto = rw (append-nil errors, counted) at all;
         tokens = All-push IsTokenKind ks kind f.tokens c.token;
-        numbers =
+        noted =
             let old = upto.same_piece edition text header ks ss errors count at kind to f.upto c.some c.border in
             let new = upto.new_piece edition text header ks ss errors count at kind to f.upto c.some c.border in
-            rw longer (noted-more (piece text ks ss) (piece text (ks ++ kind ∷ []) (ss ++ to ∷ [])) (length ks) (λ i h. sym (old i h)) ns _ (ap is_contextual_token new) f.numbers);
+            rw longer (noted-more (piece text ks ss) (piece text (ks ++ kind ∷ []) (ss ++ to ∷ [])) (length ks) (λ i h. sym (old i h)) ns _ (ap is_contextual_token new) f.noted);
       }

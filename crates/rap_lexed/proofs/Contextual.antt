@@ -33,7 +33,7 @@ module _ (f g : ℕ → Token) (count : ℕ) (same : (i : ℕ) → i < count →
 
   -- one token more, with its number
   noted-one : (from : ℕ) (ns : List ℕ) → AreNoted f from count ns → AreNoted g from (count + 1) (ns ++ count ∷ [])
-  noted-one from [] h = (h.0, omega arith, plain-same from count (omega arith) h.1, omega arith, λ i l m. absurd (omega arith))
+  noted-one from [] h = (h.0, omega arith, plain-same from count (omega arith) h.1, (omega arith, λ i l m. absurd (omega arith)))
   noted-one from (n ∷ ns) h = (h.0, omega (arith, h.1), plain-same from n (omega (arith, h.1)) h.2, noted-one (n + 1) ns h.3)
 
   pub noted-more : (ns : List ℕ) (is_one : Bool) → is_contextual_token (g count) ≡ is_one → AreNoted f 0 count ns → AreNoted g 0 (count + 1) (noted ns count is_one)
@@ -77,3 +77,21 @@ module _ (token : ℕ → Token) (count : ℕ) where
             let differs : n ≢ from = λ s. true≢false (sym (eq-eqb n from s) ∙ e.0) in
             rw e.0 (omega (arith, h.0, differs), h.1, λ i k j. h.2 i (omega arith) j, h.3)
       ]
+
+  -- past one token, with the numbers that are left: no token before the next of these is one
+  pub record Turn (from end : ℕ) (ns : List ℕ) : Type 0 where
+    pub rising : from ≤ end
+    pub within : end ≤ count
+    pub plain : ArePlain token from (end - 1)
+    pub later : (to : ℕ) → from ≤ to → to ≤ end → (from < end → to < end) → AreNoted token to count ns
+
+  pub turn : (from end : ℕ) (ns ms : List ℕ) → AreNoted token from count ns → from < count → ms ≡ past ns from → end ≡ past_first ms count → Turn (from + 1) end ms
+  turn from end ns ms h l e f =
+      let rest : AreNoted token (from + 1) count ms = subst (λ (ls : List ℕ). AreNoted token (from + 1) count ls) (sym e) (noted-past from ns h l) in
+      let next = noted-next (from + 1) ms rest in
+      record {
+        rising = omega (arith, next.0, f);
+        within = omega (arith, next.1, f);
+        plain = subst (λ (n : ℕ). ArePlain token (from + 1) (n - 1)) (sym f) next.2;
+        later = λ to k m s. noted-later (from + 1) to ms rest k (omega (arith, m, f)) (λ b. let below : to < end = s (omega (arith, b, f)) in omega (arith, below, f));
+      }

@@ -1,4 +1,4 @@
-use Rattle.std.proofs.Common.{◌≡◌, ◌≢◌, ℕ, ◌+◌, ◌-◌, ◌<◌, List, [], ◌∷◌, take, drop, slice_range, length-append, chars, IsCharBoundary, ap, subst, arith}
+use Rattle.std.proofs.Common.{◌≡◌, ◌≢◌, ℕ, ◌+◌, ◌-◌, ◌<◌, List, [], ◌∷◌, take, drop, length, slice_range, length-append, chars, IsCharBoundary, ap, subst, arith}
 use Rattle.std.proofs.lemmas.List.{drop-drop}
 use Rattle.std.proofs.lemmas.Str.{IsCharBoundary-from_rest}
 use Rattle.rap_base.specs.TokenKind.{STRING}
@@ -34,10 +34,11 @@ common-preserved c =
     let token = c.in-Some.token in
     let seen = c.range_from.ensures.value in
     let said : token.is_contextual ≡ is_contextual token.kind (slice_range c.args.text.now c.common.end (c.common.end + token.len)) = rw (seen, range-drop c.args.text.now c.common.end token.len) at t.contextual in
+    let number : c.len.result ≡ length c.common.kind.items = omega (arith, c.len.ensures) in
     let common = common-at c.args.edition c.args.text.now c.range_from.result.now c.common.end _ _ c.common.invariant.border c.range_from.ensures.value t.token t.kind t.no_string t.positive t.border in
     record {
       border = common.border;
-      taken = rw (c.in_ok-push.ensures.items, c.in_ok-push-2.ensures.items, c.in_ok-note.ensures, c.len-2.ensures, said) (more c.common.kind.items c.common.start.items c.common.contextual.items c.common.end _ _ c.common.invariant.taken common);
+      taken = rw (c.in_ok-push.ensures.items, c.in_ok-push-2.ensures.items, c.in_ok-note.ensures, number, said) (more c.common.kind.items c.common.start.items c.common.contextual.items c.common.end _ _ c.common.invariant.taken common);
       few = omega (arith, c.in_ok-push.ensures.items, length-append c.common.kind.items (token.kind ∷ []), t.positive, c.common.invariant.few);
       further = omega (arith, c.common.invariant.further);
       grows = omega (arith, c.in_ok-push.ensures.lower_bound, c.common.invariant.grows);

@@ -1,4 +1,4 @@
-use Rattle.std.proofs.Common.{◌≡◌, ℕ, List, [], ◌∷◌, ◌++◌, ◌+◌, ◌-◌, ◌≤◌, length, All, nat_lt, drop, chars, slice_range, IsCharBoundary, length-append, subst, ap, sym, ◌∙◌, arith}
+use Rattle.std.proofs.Common.{◌≡◌, ℕ, List, [], ◌∷◌, ◌++◌, ◌+◌, ◌-◌, ◌<◌, ◌≤◌, length, All, nat_lt, drop, chars, slice_range, IsCharBoundary, length-append, subst, ap, sym, ◌∙◌, arith}
 use Rattle.std.proofs.lemmas.List.{drop-drop}
 use Rattle.std.proofs.lemmas.List.Elements.{All-push}
 use Rattle.rap_lexer.specs.Common.{is_contextual}
@@ -47,6 +47,12 @@ overflow_cast-number c =
     let f = further _ _ i.header _ _ _ _ _ _ i.upto i.kinds i.numbers c.in_ok-offset.ensures.taken in
     omega (arith, c.len-number.ensures, c.if-text-gt-MAX_TEXT.false, f.upto.few, f.upto.within)
 
+pub note-requires : goal.note-requires
+note-requires c =
+    let i = c.tokens.invariant in
+    let f = further _ _ i.header _ _ _ _ _ _ i.upto i.kinds i.numbers c.in_ok-offset.ensures.taken in
+    omega (arith, c.len-in-tokens.ensures, c.if-text-gt-MAX_TEXT.false, f.upto.few, f.upto.within)
+
 pub tokens-preserved : goal.tokens-preserved
 tokens-preserved c =
     let text = c.args.text.now in
@@ -82,9 +88,10 @@ tokens-preserved c =
           let old = same_piece c.args.edition text i.header kinds starts c.tokens.error.items since offset token.kind end (rw with_common at f.upto) positive there in
           let latest = new_piece c.args.edition text i.header kinds starts c.tokens.error.items since offset token.kind end (rw with_common at f.upto) positive there in
           let longer : length (kinds ++ token.kind ∷ []) ≡ length kinds + 1 = length-append kinds (token.kind ∷ []) in
+          let place : c.len-in-tokens.result ≡ length kinds = omega (arith, c.len-in-tokens.ensures) in
           let said : c.is_contextual.result ≡ is_contextual token.kind (slice_range text offset end) = c.is_contextual.ensures ∙ ap (is_contextual token.kind) next in
-          let more = noted-more (piece text kinds starts) (piece text (kinds ++ token.kind ∷ []) (starts ++ end ∷ [])) (length kinds) (λ j h. sym (old j h)) c.take_common.new.contextual.items _ (ap is_contextual_token latest ∙ sym said) f.numbers in
-          rw (c.in_ok-push-2.ensures.items, c.in_ok-push-3.ensures.items, c.in_ok-note.ensures, longer, c.len-3.ensures) more;
+          let more = noted-more (piece text kinds starts) (piece text (kinds ++ token.kind ∷ []) (starts ++ end ∷ [])) (length kinds) (λ j h. sym (old j h)) c.take_common.new.contextual.items _ (ap is_contextual_token latest ∙ sym said) f.noted in
+          rw (c.in_ok-push-2.ensures.items, c.in_ok-push-3.ensures.items, c.in_ok-note.ensures, longer, place) more;
     }
 
 -- the loop has come to the end of the text
@@ -122,7 +129,7 @@ whole c =
             upto = f.upto;
             tokens = f.tokens;
             done = omega (arith, w.if-offset-text.true);
-            noted = f.numbers;
+            noted = f.noted;
           })
     ]
 
@@ -130,9 +137,9 @@ pub invariant_of-result : goal.invariant_of-result
 invariant_of-result c =
     let w = whole c in
     let text = c.args.text.now in
-    let kinds = c.tokens-test.kind.items in
-    let starts = c.tokens-test.start.items in
-    (starts c.args.edition _ _ _ _ _ w.since w.offset w.upto (omega arith) c.utf8.text w.done, w.tokens, w.upto.ordered, noted-same (piece text kinds starts) (token_at (cut text kinds starts)) (length kinds) (λ i h. sym (token_at-cut text kinds starts i h)) 0 _ w.noted)
+    let ks = c.tokens-test.kind.items in
+    let ss = c.tokens-test.start.items in
+    (starts c.args.edition _ _ _ _ _ w.since w.offset w.upto (omega arith) c.utf8.text w.done, w.tokens, w.upto.ordered, noted-same (piece text ks ss) (token_at (cut text ks ss)) (length ks) (λ i h. sym (token_at-cut text ks ss i h)) 0 _ w.noted)
 
 pub returns-clause-lexing : goal.returns-clause-lexing
 returns-clause-lexing c =
