@@ -87,16 +87,16 @@ kept old new len kinds contextual_kinds editions joints =
     same_records old new len (λ i small. by_fields _ _ _ _ _ _ _ _ (kinds i small) (contextual_kinds i small) (editions i small) (joints i small))
 
 -- further words without bits
-no_bits : (m j : ℕ) → get_or (replicate m 0) j 0 ≡ 0
-no_bits m j = elim (cases_lt j m) [
-  | inl within ↦ get_or-replicate m j 0 0 within
-  | inr past ↦ get_or_past (replicate m 0) j 0 (omega (arith, length-replicate {A = ℕ} m 0))
+no_bits : (m j none : ℕ) → get_or (replicate m none) j none ≡ none
+no_bits m j none = elim (cases_lt j m) [
+  | inl within ↦ get_or-replicate m j none none within
+  | inr past ↦ get_or_past (replicate m none) j none (omega (arith, length-replicate m none))
 ]
 
 zero_words : (words : List ℕ) (m j : ℕ) → get_or (words ++ replicate m 0) j 0 ≡ get_or words j 0
 zero_words words m j = elim (cases_lt j (length words)) [
   | inl within ↦ get_or_append_left words (replicate m 0) 0 j within
-  | inr past ↦ get_or-append_right words (replicate m 0) (length words) j 0 refl past ∙ no_bits m (j - length words) ∙ sym (get_or_past words j 0 past)
+  | inr past ↦ get_or-append_right words (replicate m 0) (length words) j 0 refl past ∙ no_bits m (j - length words) 0 ∙ sym (get_or_past words j 0 past)
 ]
 
 pub bit-filled : (old new : List ℕ) (n m i : ℕ) → length old ≤ n → new ≡ take n old ++ replicate m 0 → bit new i ≡ bit old i

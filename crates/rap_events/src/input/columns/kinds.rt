@@ -43,8 +43,8 @@ impl Columns {
                 break;
             }
             let next_touching = touches(kinds[taken + 1]);
-            let (next_word, next_place) =
-                self.put(place, word, kind, edition, touching & next_touching);
+            let joint = touching & next_touching;
+            let (next_word, next_place) = self.put(place, word, kind, edition, joint);
             word = next_word;
             place = next_place;
             touching = next_touching;

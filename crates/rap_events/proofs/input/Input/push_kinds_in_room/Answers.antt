@@ -1,9 +1,9 @@
-use Rattle.std.proofs.Common.{◌++◌, ◌+◌, List, take, sym, ap, ◌∙◌, subst, All, arith}
+use Rattle.std.proofs.Common.{◌++◌, ◌+◌, List, take, sym, ap, ◌∙◌, subst, All}
 use Rattle.std.proofs.lemmas.List.Elements.{All-append, All-take}
 use Rattle.rap_base.specs.TokenTests.{IsTokenKind}
 use Rattle.rap_events.specs.KindRecords.{kind_records}
 use Rattle.rap_events.specs.Record.{Record, IsTokenRecord}
-use Rattle.rap_events.proofs.KindRecords.{none_yet, All-kind_records}
+use Rattle.rap_events.proofs.KindRecords.{All-kind_records}
 use Rattle.rap_events.proofs.input.Input.push_kinds_in_room.Goals as goal
 
 pub invariant_of-self : goal.invariant_of-self

@@ -1,5 +1,4 @@
-use Rattle.std.proofs.Common.{◌++◌, ◌+◌, List, length, take, ap, ◌∙◌, arith}
-use Rattle.std.proofs.lemmas.List.{length-set}
+use Rattle.std.proofs.Common.{◌++◌, ◌+◌, List, take, ap, ◌∙◌, arith}
 use Rattle.rap_events.specs.Record.{Record}
 use Rattle.rap_events.specs.KindRecords.{kind_records}
 use Rattle.rap_events.proofs.Columns.{own_word-holds, own_word-records}
