@@ -1,6 +1,6 @@
 -- The numbers of the tokens that are contextual keywords, noted one by one.
 use Rattle.std.proofs.Common.{◌≡◌, ◌≢◌, ℕ, zero, suc, Bool, true, false, ◌+◌, ◌-◌, ◌<◌, ◌≤◌, List, [], ◌∷◌, ◌++◌, length, refl, ap, sym, ◌∙◌, subst, inl, inr, arith, eq-eqb}
-use Rattle.std.specs.Prelude.{◌==◌, Option, None, Some, if◌then◌else◌}
+use Rattle.std.specs.Prelude.{Option, None, Some}
 use Rattle.std.proofs.lemmas.Bool.{true≢false}
 use Rattle.std.proofs.lemmas.Bool.Decides.{eqb_tells}
 use Rattle.rap_lexed.specs.Contextual.{is_contextual_token, noted, past, past_first, ArePlain, AreNoted}

@@ -246,7 +246,14 @@ impl<'a> LexedStr<'a> {
         let mut since_open = 5usize;
         'tokens: while offset < text.len() {
             let before = kind.len();
-            offset = take_common(edition, text, offset, &mut kind, &mut start, &mut contextual)?;
+            offset = take_common(
+                edition,
+                text,
+                offset,
+                &mut kind,
+                &mut start,
+                &mut contextual,
+            )?;
             since_open = since_open_with(since_open, kind.len() - before);
             if offset == text.len() {
                 break;

@@ -1,4 +1,4 @@
-use Rattle.std.proofs.Common.{◌≡◌, ◌≤◌, ℕ, Bool, true, false, ap, sym, ◌∙◌, arith}
+use Rattle.std.proofs.Common.{ℕ, ap, sym, ◌∙◌}
 use Rattle.std.specs.Prelude.{Option, is_some, unwrap_or}
 use Rattle.rap_base.specs.TokenKind.{IDENT}
 use Rattle.rap_base.specs.declared.edition.Edition.TheVariants.{Edition2015}

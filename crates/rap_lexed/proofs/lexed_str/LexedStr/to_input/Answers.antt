@@ -1,4 +1,4 @@
-use Rattle.std.proofs.Common.{◌≡◌, ◌+◌, ◌<◌, ◌≤◌, ℕ, List, length, ap, sym, ◌∙◌, arith}
+use Rattle.std.proofs.Common.{◌≡◌, ◌<◌, ℕ, List, length, ap, ◌∙◌, arith}
 use Rattle.rap_lexed.specs.Contextual.{past_first}
 use Rattle.rap_lexed.specs.LexedStr.{Token, token_at}
 use Rattle.rap_lexed.proofs.Contextual.{turn}
