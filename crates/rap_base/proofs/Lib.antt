@@ -1,5 +1,5 @@
 pub mod Bits
 pub mod KeywordLemmas
 pub mod Named
-pub mod ReservedWords
 pub mod TokenSets
+pub mod WordTable

@@ -7,8 +7,8 @@ pub mod Limits
 pub mod Names
 pub mod NodeKind
 pub mod Numbered
-pub mod ReservedRows
 pub mod TokenKind
 pub mod TokenSet
 pub mod TokenTests
-pub mod WordPlace
+pub mod Word
+pub mod WordRows

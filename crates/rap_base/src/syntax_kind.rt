@@ -9,9 +9,9 @@ use std::marker::Model;
 mod constants;
 mod keywords;
 mod names;
-mod reserved_words;
 mod table;
 mod token_tests;
+mod word_table;
 mod words;
 
 /// The kind of a token or a node, as its number in the table of kinds. Contracts see that number.

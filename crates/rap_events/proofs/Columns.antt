@@ -1,9 +1,10 @@
 -- The records of an input's lists: one more, and the last one made joint.
-use Rattle.std.proofs.Common.{◌≡◌, ◌≢◌, ℕ, zero, suc, ◌<◌, ◌≤◌, ◌+◌, ◌*◌, ◌/◌, ◌%◌, ◌^◌, ◌==◌, inl, inr, Bool, true, false, List, [], ◌∷◌, ◌++◌, length, max, get_or, set, map, refl, ap, sym, ◌∙◌, arith}
+use Rattle.std.proofs.Common.{◌≡◌, ◌≢◌, ℕ, ◌<◌, ◌≤◌, ◌+◌, ◌-◌, ◌*◌, ◌/◌, ◌%◌, ◌^◌, ◌==◌, inl, inr, Bool, true, false, List, [], ◌∷◌, ◌++◌, not, cond, length, max, get_or, set, take, map, replicate, append-nil, refl, ap, sym, subst, ◌∙◌, arith}
 use Rattle.std.proofs.lemmas.List.FromFn.{length-map-range_with_len, get_or-map-range_with_len, map-range_with_len_more, fill_by_all}
 use Rattle.std.proofs.Math.Bool.{or-true, or-false}
+use Rattle.std.proofs.lemmas.Bool.{cases_lt, false_from_ne_true, true≢false}
 use Rattle.std.proofs.lemmas.Bool.Decides.{eqb_tells}
-use Rattle.std.proofs.lemmas.List.{get_or-set_same, get_or-set_other, get_or_default, length_push, length-set}
+use Rattle.std.proofs.lemmas.List.{get_or-set_same, get_or-set_other, get_or_default, get_or_past, get_or_append_left, get_or-append_right, get_or-replicate, length-replicate, length-set, set-set, set-get_or, take_all}
 use Rattle.std.proofs.lemmas.Nat.Bits.{bit_at_or, bit_at-zero}
 use Rattle.std.specs.Int.{bit_at, from_bool}
 use Rattle.std.specs.Int.Bits.{bit_or}
@@ -14,7 +15,7 @@ use Rattle.rap_base.specs.declared.edition.Edition.TheVariants.{Edition2024}
 use Rattle.rap_base.proofs.Bits.{bit-with}
 use Rattle.rap_base.specs.Bits.{bit}
 use Rattle.rap_events.specs.Record.{Record, with_last_joint}
-use Rattle.rap_events.specs.Input.{record_at, records, Holds}
+use Rattle.rap_events.specs.Input.{record_at, records, with_word, Holds}
 use Rattle.rap_events.specs.declared.input.columns.Columns.{Columns}
 use Rattle.rap_events.proofs.Records.{IsAt, IsPast, is_at-get_or, is_past}
 
@@ -85,16 +86,24 @@ pub kept : (old new : Columns) (len : ℕ) →
 kept old new len kinds contextual_kinds editions joints =
     same_records old new len (λ i small. by_fields _ _ _ _ _ _ _ _ (kinds i small) (contextual_kinds i small) (editions i small) (joints i small))
 
--- a further word without bits
-zero_word : (words : List ℕ) (j : ℕ) → get_or (words ++ 0 ∷ []) j 0 ≡ get_or words j 0
-zero_word [] zero = refl
-zero_word [] (suc j) = refl
-zero_word (word ∷ words) zero = refl
-zero_word (word ∷ words) (suc j) = zero_word words j
+-- further words without bits
+no_bits : (m j none : ℕ) → get_or (replicate m none) j none ≡ none
+no_bits m j none = elim (cases_lt j m) [
+  | inl within ↦ get_or-replicate m j none none within
+  | inr past ↦ get_or_past (replicate m none) j none (omega (arith, length-replicate m none))
+]
 
-pub bit-zero_word : (words : List ℕ) (i : ℕ) → bit (words ++ 0 ∷ []) i ≡ bit words i
+zero_words : (words : List ℕ) (m j : ℕ) → get_or (words ++ replicate m 0) j 0 ≡ get_or words j 0
+zero_words words m j = elim (cases_lt j (length words)) [
+  | inl within ↦ get_or_append_left words (replicate m 0) 0 j within
+  | inr past ↦ get_or-append_right words (replicate m 0) (length words) j 0 refl past ∙ no_bits m (j - length words) 0 ∙ sym (get_or_past words j 0 past)
+]
+
+pub bit-filled : (old new : List ℕ) (n m i : ℕ) → length old ≤ n → new ≡ take n old ++ replicate m 0 → bit new i ≡ bit old i
 unfolding bit
-bit-zero_word words i = ap (λ n. bit_at n (i % 64) == 1) (zero_word words (i / 64))
+bit-filled old new n m i fits filled =
+    ap (λ (words : List ℕ). bit_at (get_or words (i / 64) 0) (i % 64) == 1) (filled ∙ ap (λ (words : List ℕ). words ++ replicate m 0) (take_all n old fits))
+    ∙ ap (λ (word : ℕ). bit_at word (i % 64) == 1) (zero_words old m (i / 64))
 
 -- the joints with the bit of one more record
 abbrev pub with_joint : List ℕ → ℕ → Bool → List ℕ
@@ -137,17 +146,15 @@ pub no_records : (columns : Columns) → records columns 0 ≡ []
 unfolding records
 no_records columns = refl
 
--- the lists filled up by 64 places
-pub grew : (old new : Columns) (len room : ℕ) → Holds old len → len ≡ 64 * length old.joints.items → room ≡ len + 64 → length new.kinds.items ≡ room → length new.contextual_kinds.items ≡ room → length new.editions.items ≡ room → new.joints.items ≡ old.joints.items ++ 0 ∷ [] → Holds new len
-grew old new len room holds full up kinds contextual_kinds editions joints =
-    let words : length new.joints.items ≡ length old.joints.items + 1 = ap length joints ∙ length_push old.joints.items 0 in
-    record {
-      room = omega arith;
-      kinds = omega arith;
-      contextual_kinds = omega arith;
-      editions = omega arith;
-      clear = λ i past. ap (λ (words : List ℕ). bit words i) joints ∙ bit-zero_word old.joints.items i ∙ holds.clear i past;
-    }
+-- the lists filled up to so many places
+pub grew : (old new : Columns) (len room : ℕ) → Holds old len → 64 * length new.joints.items ≤ room → length old.joints.items ≤ length new.joints.items → length new.kinds.items ≡ room → length new.contextual_kinds.items ≡ room → length new.editions.items ≡ room → ((i : ℕ) → bit new.joints.items i ≡ bit old.joints.items i) → Holds new len
+grew old new len room holds within words kinds contextual_kinds editions bits = record {
+  room = omega (arith, holds.room);
+  kinds = omega arith;
+  contextual_kinds = omega arith;
+  editions = omega arith;
+  clear = λ i past. bits i ∙ holds.clear i past;
+}
 
 -- what stands in a place once a record is written there
 pub record Wrote (old new : Columns) (place : ℕ) (r : Record) : Type 0 where
@@ -174,27 +181,98 @@ wrote-holds old new place r wrote holds room =
           ap (λ (words : List ℕ). bit words i) wrote.joints ∙ joint_other old.joints.items place r.joint i within apart ∙ holds.clear i before;
     }
 
-pub wrote-records : (old new : Columns) (place : ℕ) (r : Record) → Wrote old new place r → Holds old place → place < 64 * length old.joints.items → records new (place + 1) ≡ records old place ++ r ∷ []
-wrote-records old new place r wrote holds room =
-    let within : place / 64 < length old.joints.items = omega arith in
-    let in_kinds : place < length old.kinds.items = omega (arith, holds.kinds) in
-    let in_contextual_kinds : place < length old.contextual_kinds.items = omega (arith, holds.contextual_kinds) in
-    let in_editions : place < length old.editions.items = omega (arith, holds.editions) in
-    let same : (i : ℕ) → i < place → record_at new i ≡ record_at old i = λ i small.
+-- what stands before the place stays
+before : (old new : Columns) (place : ℕ) (r : Record) → Wrote old new place r → place / 64 < length old.joints.items → (i : ℕ) → i < place → record_at new i ≡ record_at old i
+before old new place r wrote within i small =
     let other : i ≢ place = omega arith in
     let apart : place ≢ i = omega arith in
     by_fields _ _ _ _ _ _ _ _
     (ap (λ (xs : List ℕ). get_or xs i EOF) wrote.kinds ∙ get_or-set_other old.kinds.items place i _ EOF other)
     (ap (λ (xs : List ℕ). get_or xs i EOF) wrote.contextual_kinds ∙ get_or-set_other old.contextual_kinds.items place i _ EOF other)
     (ap (λ (xs : List Edition). get_or xs i Edition2024) wrote.editions ∙ get_or-set_other old.editions.items place i _ Edition2024 other)
-    (ap (λ (words : List ℕ). bit words i) wrote.joints ∙ joint_other old.joints.items place r.joint i within apart) in
+    (ap (λ (words : List ℕ). bit words i) wrote.joints ∙ joint_other old.joints.items place r.joint i within apart)
+
+pub wrote-records : (old new : Columns) (place : ℕ) (r : Record) → Wrote old new place r → Holds old place → place < 64 * length old.joints.items → records new (place + 1) ≡ records old place ++ r ∷ []
+wrote-records old new place r wrote holds room =
+    let within : place / 64 < length old.joints.items = omega arith in
+    let in_kinds : place < length old.kinds.items = omega (arith, holds.kinds) in
+    let in_contextual_kinds : place < length old.contextual_kinds.items = omega (arith, holds.contextual_kinds) in
+    let in_editions : place < length old.editions.items = omega (arith, holds.editions) in
     let last : record_at new place ≡ r =
     by_fields _ _ _ _ _ _ _ _
     (ap (λ (xs : List ℕ). get_or xs place EOF) wrote.kinds ∙ get_or-set_same old.kinds.items place _ EOF in_kinds)
     (ap (λ (xs : List ℕ). get_or xs place EOF) wrote.contextual_kinds ∙ get_or-set_same old.contextual_kinds.items place _ EOF in_contextual_kinds)
     (ap (λ (xs : List Edition). get_or xs place Edition2024) wrote.editions ∙ get_or-set_same old.editions.items place _ Edition2024 in_editions)
     (ap (λ (words : List ℕ). bit words place) wrote.joints ∙ joint_same old.joints.items place r.joint within (holds.clear place (omega arith))) in
-    written old new place r same last
+    written old new place r (before old new place r wrote within) last
+
+-- a record without a joint bit is written, and the place stays free
+passed-holds : (old new : Columns) (place : ℕ) (r : Record) → Wrote old new place r → Holds old place → place < 64 * length old.joints.items → r.joint ≡ false → Holds new place
+passed-holds old new place r wrote holds room none =
+    let kinds : length new.kinds.items ≡ length old.kinds.items = ap length wrote.kinds ∙ length-set old.kinds.items place r.kind in
+    let contextual_kinds : length new.contextual_kinds.items ≡ length old.contextual_kinds.items = ap length wrote.contextual_kinds ∙ length-set old.contextual_kinds.items place r.contextual in
+    let editions : length new.editions.items ≡ length old.editions.items = ap length wrote.editions ∙ length-set old.editions.items place r.edition in
+    let joints : length new.joints.items ≡ length old.joints.items = ap length wrote.joints ∙ length-set old.joints.items (place / 64) _ in
+    let within : place / 64 < length old.joints.items = omega arith in
+    record {
+      room = omega arith;
+      kinds = omega (arith, holds.kinds);
+      contextual_kinds = omega (arith, holds.contextual_kinds);
+      editions = omega (arith, holds.editions);
+      clear = λ i past.
+          ap (λ (words : List ℕ). bit words i) wrote.joints
+          ∙ ap (λ (joint : Bool). bit (with_joint old.joints.items place joint) i) none
+          ∙ no_more old.joints.items place i within
+          ∙ holds.clear i past;
+    }
+
+passed-records : (old new : Columns) (place : ℕ) (r : Record) → Wrote old new place r → place < 64 * length old.joints.items → records new place ≡ records old place
+passed-records old new place r wrote room =
+    let within : place / 64 < length old.joints.items = omega arith in
+    same_records old new place (before old new place r wrote within)
+
+-- a token is put at a place, where it stays unless it is trivia
+pub put-holds : (old new : Columns) (place end : ℕ) (r : Record) (trivia : Bool) → Wrote old new place r → Holds old place → place < 64 * length old.joints.items → (r.joint ≡ true → trivia ≡ false) → end ≡ place + from_bool (not trivia) → Holds new end
+put-holds old new place end r false wrote holds room only is =
+    let more : place + 1 ≡ end = omega arith in
+    subst (λ (n : ℕ). Holds new n) more (wrote-holds old new place r wrote holds room)
+put-holds old new place end r true wrote holds room only is =
+    let same : place ≡ end = omega arith in
+    let none : r.joint ≡ false = false_from_ne_true r.joint (λ e. true≢false (only e)) in
+    subst (λ (n : ℕ). Holds new n) same (passed-holds old new place r wrote holds room none)
+
+pub put-records : (old new : Columns) (place end : ℕ) (r : Record) (trivia : Bool) → Wrote old new place r → Holds old place → place < 64 * length old.joints.items → end ≡ place + from_bool (not trivia) → records new end ≡ records old place ++ cond trivia [] (r ∷ [])
+put-records old new place end r false wrote holds room is =
+    let more : place + 1 ≡ end = omega arith in
+    subst (λ (n : ℕ). records new n ≡ records old place ++ r ∷ []) more (wrote-records old new place r wrote holds room)
+put-records old new place end r true wrote holds room is =
+    let same : place ≡ end = omega arith in
+    subst (λ (n : ℕ). records new n ≡ records old place ++ []) same (passed-records old new place r wrote room ∙ sym (append-nil (records old place)))
+
+-- a bit in the word that is not yet written
+pub bit_in_word : (words : List ℕ) (i : ℕ) (joint : Bool) (word number : ℕ) → i / 64 < length words → number ≡ from_bool joint →
+    set words (i / 64) (bit_or word (number * 2 ^ (i % 64) % 18446744073709551616)) ≡ with_joint (set words (i / 64) word) i joint
+bit_in_word words i joint word number within is =
+    ap (λ (n : ℕ). set words (i / 64) (bit_or word (n * 2 ^ (i % 64) % 18446744073709551616))) is
+    ∙ ap (λ (w : ℕ). set words (i / 64) (bit_or w (from_bool joint * 2 ^ (i % 64) % 18446744073709551616))) (sym (get_or-set_same words (i / 64) word 0 within))
+    ∙ sym (set-set words (i / 64) word (bit_or (get_or (set words (i / 64) word) (i / 64) 0) (from_bool joint * 2 ^ (i % 64) % 18446744073709551616)))
+
+-- the word that stands there, in its own place
+module _ (columns : Columns) (block word len : ℕ) (read : word ≡ get_or columns.joints.items block word) where
+  own_word : set columns.joints.items block word ≡ columns.joints.items
+  own_word = ap (λ (w : ℕ). set columns.joints.items block w) read ∙ set-get_or columns.joints.items block word
+
+  pub own_word-holds : Holds columns len → Holds (with_word columns block word) len
+  own_word-holds holds = record {
+    room = omega (arith, holds.room, length-set columns.joints.items block word);
+    kinds = omega (arith, holds.kinds, length-set columns.joints.items block word);
+    contextual_kinds = omega (arith, holds.contextual_kinds, length-set columns.joints.items block word);
+    editions = omega (arith, holds.editions, length-set columns.joints.items block word);
+    clear = λ i past. ap (λ (words : List ℕ). bit words i) own_word ∙ holds.clear i past;
+  }
+
+  pub own_word-records : records (with_word columns block word) len ≡ records columns len
+  own_word-records = kept columns (with_word columns block word) len (λ i small. refl) (λ i small. refl) (λ i small. refl) (λ i small. ap (λ (words : List ℕ). bit words i) own_word)
 
 -- the word that is read and written back
 pub as_with_joint : (words : List ℕ) (i : ℕ) (joint : Bool) (word number : ℕ) → i / 64 < length words → word ≡ get_or words (i / 64) word → number ≡ from_bool joint →

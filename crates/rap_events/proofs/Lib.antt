@@ -7,6 +7,7 @@ pub mod Finished
 pub mod FloatSplits
 pub mod HistoryLemmas
 pub mod Intervals
+pub mod KindRecords
 pub mod LastTokens
 pub mod MachineLemmas
 pub mod MessageCount

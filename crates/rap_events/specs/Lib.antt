@@ -6,6 +6,7 @@ pub mod Forest
 pub mod History
 pub mod Input
 pub mod Interval
+pub mod KindRecords
 pub mod LastToken
 pub mod Machine
 pub mod Message

@@ -1,7 +1,8 @@
 //! The tokens that a parser reads.
-ghost use Rattle.std.specs.Prelude.{◌≡◌, ◌≢◌, ℕ, ◌+◌, ◌-◌, ◌<◌, ◌↔◌, List, [], ◌∷◌, ◌++◌, length, map, true, false, All, IsTrue, IsFalse, IfOk, OnOk, OnErr};
-ghost use Rattle.rap_base.specs.TokenKind.{EOF, IDENT};
-ghost use Rattle.rap_base.specs.TokenTests.{is_token};
+ghost use Rattle.std.specs.Prelude.{◌≡◌, ◌≢◌, ℕ, ◌+◌, ◌-◌, ◌<◌, ◌≤◌, ◌↔◌, List, [], ◌∷◌, ◌++◌, length, map, take, true, false, All, IsTrue, IsFalse, IfOk, OnOk, OnErr};
+ghost use Rattle.rap_base.specs.TokenKind.{EOF, IDENT, FLOAT_NUMBER};
+ghost use Rattle.rap_base.specs.TokenTests.{is_token, IsTokenKind};
+ghost use Rattle.rap_events.specs.KindRecords.{kind_records};
 
 use rap_base::edition::Edition;
 use rap_base::no_memory::NoMemory;
@@ -125,6 +126,27 @@ impl Input {
         self.columns.write(self.len, SyntaxKind::IDENT, contextual_kind, edition, false);
         self.len += 1;
         true
+    }
+
+    /// Appends tokens by their kinds alone, if there is room for them without asking for memory: those of consecutive
+    /// tokens of a text, trivia among them, which are left out. The last kind is only looked at, as the one after.
+    /// Returns how many of the kinds were taken, which may be none.
+    ///
+    /// An identifier may be read as nothing else. A token is joint if neither it nor the one right after it is trivia
+    /// or an identifier. A float number is not taken: its joint bit needs its text.
+    #[inline(always)]
+    pub fn push_kinds_in_room(&mut self, kinds: &[SyntaxKind], edition: Edition) -> usize
+        requires { All IsTokenKind kinds.now }
+        ensures taken { result ≤ length kinds.now - 1 }
+        ensures floats { All (λ kind. kind ≢ FLOAT_NUMBER) (take result kinds.now) }
+        ensures pushed { self.new ≡ self.old ++ kind_records (take (result + 1) kinds.now) edition }
+    {
+        if kinds.is_empty() || !self.columns.has_room(self.len) {
+            return 0;
+        }
+        let (end, taken) = self.columns.write_kinds(self.len, kinds, edition);
+        self.len = end;
+        taken
     }
 
     /// Marks the last token as touching the next one. There must be a token.

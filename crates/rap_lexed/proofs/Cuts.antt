@@ -1,5 +1,5 @@
 -- A text cut at starts: its tokens joined are the text, and each stands between its start and the next one.
-use Rattle.std.proofs.Common.{◌≡◌, ℕ, zero, suc, List, [], ◌∷◌, ◌++◌, ◌+◌, ◌-◌, ◌<◌, ◌≤◌, length, take, drop, get_or, slice_index, slice_range, IsUtf8, refl, ap, sym, ◌∙◌, arith, length-take, length-drop, add-one}
+use Rattle.std.proofs.Common.{◌≡◌, ℕ, zero, suc, List, [], ◌∷◌, ◌++◌, ◌+◌, ◌-◌, ◌<◌, ◌≤◌, length, map, take, drop, get_or, slice_index, slice_range, IsUtf8, refl, ap, sym, ◌∙◌, arith, length-take, length-drop, add-one}
 use Rattle.std.proofs.Math.Seq.{take-add}
 use Rattle.std.proofs.lemmas.List.{take_all, get_or-drop, length-take-le}
 use Rattle.std.proofs.lemmas.List.Elements.{All-from_get_or}
@@ -10,6 +10,10 @@ use Rattle.rap_lexed.specs.LexedStr.{Token, joined, start_of, token_at, AreToken
 pub length-cut : (text ks ss : List ℕ) → length (cut text ks ss) ≡ length ks
 length-cut text [] ss = refl
 length-cut text (k ∷ ks) ss = ap suc (length-cut text ks (drop 1 ss))
+
+kinds-cut : (text ks ss : List ℕ) → map (λ (t : Token). t.kind) (cut text ks ss) ≡ ks
+kinds-cut text [] ss = refl
+kinds-cut text (k ∷ ks) ss = ap (λ l. k ∷ l) (kinds-cut text ks (drop 1 ss))
 
 -- the piece between the i-th start and the next
 abbrev pub piece : List ℕ → List ℕ → List ℕ → ℕ → Token
@@ -79,6 +83,9 @@ module _ (text ks ss : List ℕ) (s : AreStarts text (length ks) ss) where
 module _ (text ks ss : List ℕ) (s : AreStarts text (length ks) ss) (ts : List Token) (seen : cut text ks ss ≡ ts) where
   pub count : length ts ≡ length ks
   count = sym (ap length seen) ∙ length-cut text ks ss
+
+  pub kinds : ks ≡ map (λ (t : Token). t.kind) ts
+  kinds = sym (kinds-cut text ks ss) ∙ ap (map (λ (t : Token). t.kind)) seen
 
   pub whole : joined ts ≡ text
   whole = sym (ap joined seen) ∙ joined-cut text ks ss s

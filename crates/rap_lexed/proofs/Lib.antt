@@ -1,6 +1,6 @@
 pub mod Bodies
 pub mod CommonTokens
-pub mod ContextualWords
+pub mod Contextual
 pub mod Covered
 pub mod Cuts
 pub mod Eating
@@ -15,6 +15,7 @@ pub mod Joined
 pub mod Messages
 pub mod OneLexing
 pub mod OpenStrings
+pub mod PlainRecords
 pub mod Records
 pub mod Reports
 pub mod TailExamples

@@ -58,7 +58,7 @@ new xs x i h = grind (arith, common_steps)
 len : (xs : List ℕ) (x : ℕ) → length (xs ++ x ∷ []) ≡ length xs + 1
 len xs x = length-append xs (x ∷ [])
 
-last_or : (i n : ℕ) → i ≤ n → (i < n) ⊎ (i ≡ n)
+pub last_or : (i n : ℕ) → i ≤ n → (i < n) ⊎ (i ≡ n)
 last_or zero zero h = inr refl
 last_or zero (suc n) h = inl (omega arith)
 last_or (suc i) zero h = absurd (omega arith)
@@ -107,13 +107,13 @@ module _ (edition : Edition) (text : List ℕ) (header : List Token) (ks ss : Li
         | inr e ↦ subst (λ (x : ℕ). IsCharBoundary text x) (sym (is i e)) there
       ]
 
-  same_piece : (i : ℕ) → i < length ks → piece text (ks ++ k ∷ []) (ss ++ end ∷ []) i ≡ piece text ks ss i
+  pub same_piece : (i : ℕ) → i < length ks → piece text (ks ++ k ∷ []) (ss ++ end ∷ []) i ≡ piece text ks ss i
   same_piece i h = let x = was i (omega arith) in let y = was (i + 1) (omega arith) in let z = old ks k i h in rw (x, y, z) refl
 
   same_since : (i : ℕ) → i ≤ length ks → since_open (piece text (ks ++ k ∷ []) (ss ++ end ∷ [])) i ≡ since_open (piece text ks ss) i
   same_since i h = since_same _ _ i (λ j m. same_piece j (omega arith))
 
-  new_piece : piece text (ks ++ k ∷ []) (ss ++ end ∷ []) (length ks) ≡ record { kind = k; text = slice_range text offset end }
+  pub new_piece : piece text (ks ++ k ∷ []) (ss ++ end ∷ []) (length ks) ≡ record { kind = k; text = slice_range text offset end }
   new_piece =
       let x : slice_index (ss ++ end ∷ []) (length ks) ≡ offset = was (length ks) (omega arith) ∙ u.finish in
       let y = is (length ks + 1) refl in

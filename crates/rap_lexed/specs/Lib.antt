@@ -2,6 +2,7 @@ pub mod About
 pub mod Attached
 pub mod Builder
 pub mod CommonTokens
+pub mod Contextual
 pub mod ErrorSteps
 pub mod Fault
 pub mod FloatParts

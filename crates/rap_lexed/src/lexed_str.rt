@@ -1,10 +1,12 @@
 //! A text divided into tokens, with the lexer's messages.
-ghost use Rattle.std.specs.Prelude.{◌≡◌, ℕ, ◌<◌, ◌≤◌, ◌+◌, ◌^◌, ◌↔◌, ◌&&◌, ◌==◌, Some, IfOk, IfSome, IsCharBoundary, IsFalse, IsTrue, MatchOption, OnOk, min, string_bytes, length, slice_range};
+ghost use Rattle.std.specs.Prelude.{◌≡◌, ℕ, ◌<◌, ◌≤◌, ◌+◌, ◌++◌, ◌∷◌, [], ◌^◌, ◌↔◌, ◌&&◌, ◌==◌, Some, IfOk, IfSome, IsCharBoundary, IsFalse, IsTrue, MatchOption, OnOk, min, string_bytes, length, map, slice_range, All};
 ghost use Rattle.std.specs.List.Sorted.{IsNonDecreasingBy, IsPartitionPoint};
 ghost use Rattle.std.specs.Option.{option_copied, option_map};
 ghost use Rattle.rap_base.specs.TokenKind.{STRING};
 ghost use Rattle.rap_base.specs.TokenTests.{IsTokenKind};
+ghost use Rattle.rap_lexer.specs.Common.{is_contextual};
 ghost use Rattle.rap_lexed.specs.CommonTokens.{TakesCommon};
+ghost use Rattle.rap_lexed.specs.Contextual.{noted, AreNoted};
 ghost use Rattle.rap_lexed.specs.OneLexing.{IsOnlyLexing};
 ghost use Rattle.rap_lexed.specs.SingleToken.{IsNotOneToken, IsOneToken};
 ghost use Rattle.rap_lexed.specs.Reported.{looks_open};
@@ -95,25 +97,30 @@ impl From<NoMemory> for LexFault {
 /// A text divided into tokens: none is empty, and joined they are the text. Contracts see the list of the tokens and
 /// the list of the messages.
 ///
+/// The numbers of the identifiers that are contextual keywords of some edition are kept too: the parser's input needs
+/// the texts of these alone.
+///
 /// No accessor allocates memory; texts are slices of the caller's text.
 #[derive(Drop)]
 pub struct LexedStr<'a> {
     text: &'a str,
     kind: Vec<SyntaxKind>,
     start: Vec<u32>,
+    contextual: Vec<u32>,
     error: Vec<LexError>,
 }
 
 impl<'a> Model for LexedStr<'a> {
     ghost use Rattle.std.specs.Prelude.{length, All};
     ghost use Rattle.rap_base.specs.TokenTests.{IsTokenKind};
-    ghost use Rattle.rap_lexed.specs.LexedStr.{Lexed, cut, AreStarts, AreInOrder};
+    ghost use Rattle.rap_lexed.specs.Contextual.{AreNoted};
+    ghost use Rattle.rap_lexed.specs.LexedStr.{Lexed, cut, token_at, AreStarts, AreInOrder};
 
     ghost Value = { Lexed };
 
     ghost view = { λ s. record { tokens = cut s.text.now s.kind.items s.start.items; errors = s.error.items } };
 
-    ghost invariant = { λ s. AreStarts s.text.now (length s.kind.items) s.start.items × All IsTokenKind s.kind.items × AreInOrder (length s.kind.items) s.error.items };
+    ghost invariant = { λ s. AreStarts s.text.now (length s.kind.items) s.start.items × All IsTokenKind s.kind.items × AreInOrder (length s.kind.items) s.error.items × AreNoted (token_at (cut s.text.now s.kind.items s.start.items)) 0 (length s.kind.items) s.contextual.items };
 }
 
 /// How many tokens stand after the last string that looks open, up to 5, with one token more.
@@ -148,24 +155,58 @@ fn take_common(
     from: usize,
     kind: &mut Vec<SyntaxKind>,
     start: &mut Vec<u32>,
+    contextual: &mut Vec<u32>,
 ) -> Result<usize, NoMemory>
     requires short { length text.now ≤ MAX_TEXT }
+    requires few { length kind.old.items ≤ from }
     requires border { IsCharBoundary text.now from }
-    ensures taken { IfOk result (TakesCommon edition text.now kind.old.items start.old.items from kind.new.items start.new.items) }
+    ensures taken { IfOk result (TakesCommon edition text.now kind.old.items start.old.items contextual.old.items from kind.new.items start.new.items contextual.new.items) }
     ensures border { IfOk result (IsCharBoundary text.now) }
     ensures further { IfOk result (λ end. from ≤ end) }
     ensures grows { OnOk result (length kind.old.items ≤ length kind.new.items) }
 {
     let mut end = from;
     'common: while end < text.len() {
-        let Some((token, len)) = common_token(edition, &text[end..]) else {
+        let Some(token) = common_token(edition, &text[end..]) else {
             break;
         };
-        end += len;
-        kind.push(token)?;
+        end += token.len;
+        note(contextual, kind.len(), token.is_contextual)?;
+        kind.push(token.kind)?;
         start.push(end as u32)?;
     }
     Ok(end)
+}
+
+/// Notes the number of a token, if it is a contextual keyword of some edition.
+#[inline(always)]
+fn note(numbers: &mut Vec<u32>, number: usize, is_contextual: bool) -> Result<(), NoMemory>
+    requires { number < 2 ^ 32 }
+    ensures { OnOk result (numbers.new.items ≡ noted numbers.old.items number is_contextual) }
+{
+    if is_contextual {
+        push_number(numbers, number as u32)
+    } else {
+        Ok(())
+    }
+}
+
+/// Appends a number: few tokens are contextual keywords.
+#[cold]
+#[inline(never)]
+fn push_number(numbers: &mut Vec<u32>, number: u32) -> Result<(), NoMemory>
+    ensures { OnOk result (numbers.new.items ≡ numbers.old.items ++ number ∷ []) }
+{
+    numbers.push(number)?;
+    Ok(())
+}
+
+/// Whether a token is an identifier that is a contextual keyword of some edition: then it is one of the first edition.
+fn is_contextual(kind: SyntaxKind, text: &str) -> bool
+    ensures { result ≡ is_contextual kind text.now }
+{
+    kind == SyntaxKind::IDENT
+        && SyntaxKind::from_contextual_keyword(text, Edition::Edition2015).is_some()
 }
 
 /// Where the messages about the token and the later ones begin.
@@ -200,11 +241,19 @@ impl<'a> LexedStr<'a> {
         start.push(0)?;
         push_header(&header, &mut kind, &mut start)?;
         let mut offset = header.end();
+        let mut contextual = Vec::new(alloc);
         let mut error = Vec::new(alloc);
         let mut since_open = 5usize;
         'tokens: while offset < text.len() {
             let before = kind.len();
-            offset = take_common(edition, text, offset, &mut kind, &mut start)?;
+            offset = take_common(
+                edition,
+                text,
+                offset,
+                &mut kind,
+                &mut start,
+                &mut contextual,
+            )?;
             since_open = since_open_with(since_open, kind.len() - before);
             if offset == text.len() {
                 break;
@@ -216,6 +265,7 @@ impl<'a> LexedStr<'a> {
             report(alloc, &mut error, number, next, token.remark, after_open)?;
             since_open = since_open_after(since_open, token.kind, next);
             offset += len;
+            note(&mut contextual, kind.len(), is_contextual(token.kind, next))?;
             kind.push(token.kind)?;
             start.push(offset as u32)?;
         }
@@ -223,6 +273,7 @@ impl<'a> LexedStr<'a> {
             text,
             kind,
             start,
+            contextual,
             error,
         })
     }
@@ -283,6 +334,23 @@ impl<'a> LexedStr<'a> {
         ensures token { IsTokenKind result }
     {
         self.kind[i]
+    }
+
+    /// The kinds of the tokens.
+    #[inline(always)]
+    pub(crate) fn kinds(&self) -> &[SyntaxKind]
+        ensures kinds { result.now ≡ map (λ token. token.kind) self.now.tokens }
+        ensures count { length result.now ≡ length self.now.tokens }
+        ensures tokens { All IsTokenKind result.now }
+    {
+        self.kind.as_slice()
+    }
+
+    /// The numbers of the tokens that are contextual keywords of some edition, in order.
+    pub(crate) fn contextual_numbers(&self) -> &[u32]
+        ensures { AreNoted (token_at self.now.tokens) 0 (length self.now.tokens) result.now }
+    {
+        self.contextual.as_slice()
     }
 
     /// Returns the text of the token with the number `i`.

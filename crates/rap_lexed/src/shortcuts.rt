@@ -1,5 +1,5 @@
 //! From a text's tokens to the parser's input, and from the parser's output to the steps of the tree over the text.
-ghost use Rattle.std.specs.Prelude.{◌≡◌, ◌+◌, ◌*◌, ◌<◌, ◌≤◌, ◌↔◌, ◌∷◌, [], ◌++◌, length, drop, map, true, IsTrue, IsFalse, IfOk, OnOk, not, ◌||◌, ◌==◌};
+ghost use Rattle.std.specs.Prelude.{◌≡◌, ◌+◌, ◌-◌, ◌*◌, ◌<◌, ◌≤◌, ◌↔◌, ◌∷◌, [], ◌++◌, length, drop, map, true, IsTrue, IfOk, OnOk, not, ◌||◌, ◌==◌};
 ghost use Rattle.rap_base.specs.TokenKind.{IDENT};
 ghost use Rattle.rap_base.specs.TokenTests.{is_trivia};
 ghost use Rattle.rap_base.specs.declared.edition.Edition.{Edition};
@@ -7,6 +7,7 @@ ghost use Rattle.rap_events.specs.Forest.{flat, one_tree, splits_placed, used};
 ghost use Rattle.rap_events.specs.Cover.{covers};
 ghost use Rattle.rap_events.specs.Reading.{forest_of};
 ghost use Rattle.rap_events.specs.Step.{step_value};
+ghost use Rattle.rap_lexed.specs.Contextual.{past, past_first, ArePlain};
 ghost use Rattle.rap_lexed.specs.Input.{records, records_at, joint_of};
 ghost use Rattle.rap_lexed.specs.LexedStr.{joined, token_at};
 ghost use Rattle.rap_lexed.specs.StrForest.{str_flat, str_joined, str_one_tree};
@@ -23,10 +24,8 @@ use std::alloc::Global;
 
 mod attached;
 mod builder;
-mod contextual;
 
 use builder::Builder;
-use contextual::contextual_keyword;
 
 /// A step of a walk through a tree over a text, from left to right.
 #[derive(Clone, Copy, Debug)]
@@ -72,10 +71,13 @@ impl LexedStr<'_> {
         ensures count { IfOk result (λ input. length input ≡ significant self.now.tokens) }
     {
         let mut input = Input::with_capacity(alloc, self.len())?;
+        let mut numbers = self.contextual_numbers();
         let mut i = 0;
         'tokens: while i < self.len() {
+            numbers = past(numbers, i);
             push_record(self, i, edition, &mut input)?;
-            i = push_in_room(self, i + 1, edition, &mut input);
+            let end = past_first(numbers, self.len());
+            i = push_plain(self, i + 1, end, edition, &mut input);
         }
         Ok(input)
     }
@@ -183,49 +185,54 @@ fn push_record(
         return Ok(());
     }
     if kind == SyntaxKind::IDENT {
-        let keyword = contextual_keyword(lexed.text(i), edition);
+        let keyword = SyntaxKind::from_contextual_keyword(lexed.text(i), edition);
         return input.push_ident(keyword.unwrap_or(SyntaxKind::IDENT), edition);
     }
     input.push_joint(kind, edition, is_joint(lexed, i))?;
     Ok(())
 }
 
-/// Appends the records of the tokens from `from` on, as long as there is room for them. Returns how far it came.
-///
-/// It is inlined, and calls nothing that changes the input's lists, so that they stay in registers.
-#[inline(always)]
-fn push_in_room(lexed: &LexedStr<'_>, from: usize, edition: Edition, input: &mut Input) -> usize
-    requires { from ≤ length lexed.now.tokens }
-    ensures further { from ≤ result }
-    ensures within { result ≤ length lexed.now.tokens }
-    ensures pushed { input.new ++ records (drop result lexed.now.tokens) edition ≡ input.old ++ records (drop from lexed.now.tokens) edition }
+/// The numbers, which are in order, past this one.
+fn past(numbers: &[u32], number: usize) -> &[u32]
+    ensures { result.now ≡ past numbers.now number }
 {
-    let mut i = from;
-    'tokens: while i < lexed.len() {
-        if !push_record_in_room(lexed, i, edition, input) {
-            break;
-        }
-        i += 1;
+    match numbers {
+        [first, rest @ ..] if *first as usize == number => rest,
+        _ => numbers,
     }
-    i
 }
 
-/// Appends the record of a token as `push_record` does, if there is room for it. Returns whether there was.
-#[inline(always)]
-fn push_record_in_room(lexed: &LexedStr<'_>, i: usize, edition: Edition, input: &mut Input) -> bool
-    requires { i < length lexed.now.tokens }
-    ensures pushed { IsTrue result → input.new ≡ input.old ++ records_at lexed.now.tokens i edition }
-    ensures full { IsFalse result → input.new ≡ input.old }
+/// One past the first of the numbers; without one, how many tokens there are.
+fn past_first(numbers: &[u32], count: usize) -> usize
+    ensures { result ≡ past_first numbers.now count }
 {
-    let kind = lexed.kind(i);
-    if kind.is_trivia() {
-        return true;
+    match numbers {
+        [first, ..] => *first as usize + 1,
+        [] => count,
     }
-    if kind == SyntaxKind::IDENT {
-        let keyword = contextual_keyword(lexed.text(i), edition);
-        return input.push_ident_in_room(keyword.unwrap_or(SyntaxKind::IDENT), edition);
-    }
-    input.push_joint_in_room(kind, edition, is_joint(lexed, i))
+}
+
+/// Appends the records of tokens from `from` on, as far as the kinds alone give them. The last one before `end` is only
+/// looked at, and none before that may be a contextual keyword. Returns how far it came.
+///
+/// It stops where there is no room, and at a float number: `push_record` goes on from there.
+#[inline(always)]
+fn push_plain(
+    lexed: &LexedStr<'_>,
+    from: usize,
+    end: usize,
+    edition: Edition,
+    input: &mut Input,
+) -> usize
+    requires rising { from ≤ end }
+    requires within { end ≤ length lexed.now.tokens }
+    requires plain { ArePlain (token_at lexed.now.tokens) from (end - 1) }
+    ensures further { from ≤ result }
+    ensures within { result ≤ end }
+    ensures last { from < end → result < end }
+    ensures pushed { input.new ++ records (drop result lexed.now.tokens) edition ≡ input.old ++ records (drop from lexed.now.tokens) edition }
+{
+    from + input.push_kinds_in_room(&lexed.kinds()[from..end], edition)
 }
 
 /// The joint bit of a token.

@@ -4,11 +4,11 @@ use Rattle.std.proofs.lemmas.Bool.{and_parts, or_parts, lt-ltb, cond-true, cond-
 use Rattle.std.proofs.lemmas.Bool.Decides.{eqb_tells}
 use Rattle.std.proofs.lemmas.Str.{chars-nil, chars_past_char, encode_ascii, encodes-chars, IsUtf8-drop, IsUtf8-past_char, IsCharBoundary-at_seam}
 use Rattle.std.specs.Str.{byte}
-use Rattle.rap_base.specs.TokenKind.{STRING, WHITESPACE}
+use Rattle.rap_base.specs.TokenKind.{IDENT, STRING, WHITESPACE}
 use Rattle.rap_base.specs.TokenTests.{IsTokenKind}
 use Rattle.rap_base.specs.declared.edition.Edition.{Edition}
 use Rattle.rap_lexer.specs.Class.{is_in, is_ascii_in}
-use Rattle.rap_lexer.specs.Common.{is_lone, ends_no_word, next_fits, is_uncommon, IsCommon}
+use Rattle.rap_lexer.specs.Common.{is_contextual, is_lone, ends_no_word, next_fits, is_uncommon, IsCommon}
 use Rattle.rap_lexer.specs.First.{First, single_kind}
 use Rattle.rap_lexer.specs.Lexeme.{plain}
 use Rattle.rap_lexer.specs.Run.{next_is, next_in, tail, run_of, after_run}
@@ -272,13 +272,18 @@ other_uncommon (b ∷ t) w s h = uncommon_other b t w s ∙ ap not h
 
 -- ---- What the parts say, of the whole
 
-pub if_some : (P : Type 0) (Q R : ℕ × ℕ → Type 0) (o : Option (ℕ × ℕ)) → ((r : ℕ × ℕ) → Q r → R r) → MatchOption o P Q → IfSome o R
-if_some P Q R None f h = tt
-if_some P Q R (Some r) f h = f r h
+module _ {A : Type 0} (P : Type 0) (Q R : A → Type 0) where
+  pub if_some : (o : Option A) → ((r : A) → Q r → R r) → MatchOption o P Q → IfSome o R
+  if_some None f h = tt
+  if_some (Some r) f h = f r h
 
-pub match_some : (P : Type 0) (Q R : ℕ × ℕ → Type 0) (o : Option (ℕ × ℕ)) → ((r : ℕ × ℕ) → Q r → R r) → MatchOption o P Q → MatchOption o P R
-match_some P Q R None f h = h
-match_some P Q R (Some r) f h = f r h
+  pub match_some : (o : Option A) → ((r : A) → Q r → R r) → MatchOption o P Q → MatchOption o P R
+  match_some None f h = h
+  match_some (Some r) f h = f r h
 
-pub common_kind : (edition : Edition) (text : List ℕ) (r : ℕ × ℕ) → IsCommon edition text r.0 r.1 → IsTokenKind r.0
-common_kind edition text r h = token_kind edition (chars text) (plain r.0) (chars (drop r.1 text)) h.token
+pub common_kind : (edition : Edition) (text : List ℕ) (kind n : ℕ) → IsCommon edition text kind n → IsTokenKind kind
+common_kind edition text kind n h = token_kind edition (chars text) (plain kind) (chars (drop n text)) h.token
+
+-- a lone character is no word
+pub lone_plain : (kind class : ℕ) (word : List ℕ) → kind ≡ class → class < 29 → is_contextual kind word ≡ false
+lone_plain kind class word e l = let other : (kind == IDENT) ≡ false = grind (arith, e, l) in rw other refl

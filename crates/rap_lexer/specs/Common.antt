@@ -1,7 +1,8 @@
 -- Common tokens: characters that are tokens of their own, white space, and words.
 use Rattle.std.specs.Prelude.{◌≡◌, ◌≢◌, ◌<◌, ℕ, Bool, true, false, ◌||◌, ◌&&◌, ◌==◌, not, nat_lt, List, [], ◌∷◌, if◌then◌else◌, chars, drop, IsCharBoundary}
 use Rattle.std.specs.Str.{byte}
-use Rattle.rap_base.specs.TokenKind.{ERROR, STRING}
+use Rattle.rap_base.specs.TokenKind.{ERROR, IDENT, STRING}
+use Rattle.rap_base.specs.Word.{is_ever_contextual}
 use Rattle.rap_base.specs.declared.edition.Edition.{Edition}
 use Rattle.rap_lexer.specs.Class.{is_ascii_in}
 use Rattle.rap_lexer.specs.First.{First, single_kind}
@@ -29,6 +30,10 @@ is_uncommon (b ∷ bs) =
     if is_ascii_in White b then next_fits (nat_lt 127) (after_run (is_ascii_in White) (b ∷ bs))
     else (if is_ascii_in IdentStart b then next_fits ends_no_word (after_run (is_ascii_in IdentContinue) (b ∷ bs))
     else not (is_lone b))
+
+-- a word of this kind is an identifier that is a contextual keyword of some edition
+abbrev pub is_contextual : ℕ → List ℕ → Bool
+is_contextual kind word = (kind == IDENT) && is_ever_contextual word
 
 -- The text begins with a common token of this kind and this length in bytes.
 pub record IsCommon (edition : Edition) (text : List ℕ) (kind n : ℕ) : Type 0 where

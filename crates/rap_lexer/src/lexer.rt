@@ -12,7 +12,7 @@ use crate::lexer::number::number;
 use crate::lexer::quoted::{string, tick};
 use crate::lexer::run::{Class, eat_run, is_in};
 use crate::lexer::word::{invalid_word, word_like};
-pub use common::common_token;
+pub use common::{CommonToken, common_token};
 pub use lexeme::{Lexeme, Remark};
 use rap_base::edition::Edition;
 use rap_base::syntax_kind::SyntaxKind;

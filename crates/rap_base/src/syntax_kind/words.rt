@@ -1,24 +1,21 @@
 // Written by crates/rap_base/kinds from kinds.txt beside it: an edit here is lost.
-//! The kinds of words. The lexer looks each word up among the reserved ones, so that takes one comparison. Of
-//! contextual words the length is tested first: then few are compared.
+//! The kinds of words. The lexer looks each word up, so that takes one comparison.
 ghost use Rattle.std.specs.Prelude.{◌≡◌, ◌≤◌, length};
-ghost use Rattle.rap_base.specs.Keyword.{kind_of_word, reserved};
-ghost use Rattle.rap_base.specs.KeywordTable.{contextual_ever};
-ghost use Rattle.rap_base.specs.WordPlace.{place};
+ghost use Rattle.rap_base.specs.Word.{known_kind, place};
 
 use super::SyntaxKind;
-use super::reserved_words::reserved_words;
-use crate::edition::Edition;
+use super::word_table::word_table;
 
-/// The kind of a word that the latest edition reserves.
-pub(super) fn reserved_in_2024(text: &str) -> Option<SyntaxKind>
-    ensures { result ≡ kind_of_word (reserved Edition.Edition2024) text.now }
+/// The kind of a word that the latest edition reserves, or that is contextual in every edition.
+#[inline(always)]
+pub(super) fn known_word(text: &str) -> Option<SyntaxKind>
+    ensures { result ≡ known_kind text.now }
 {
     let len = text.len();
-    if len < 2 || 8 < len {
+    if len < 2 || 15 < len {
         return None;
     }
-    let (word, number) = reserved_words()[place(text.as_bytes())];
+    let (word, number) = word_table()[place(text.as_bytes())];
     if word == text {
         Some(SyntaxKind { number })
     } else {
@@ -26,96 +23,15 @@ pub(super) fn reserved_in_2024(text: &str) -> Option<SyntaxKind>
     }
 }
 
-/// Where the word stands among the reserved ones, if it is one. No two of them have the same place.
+/// Where the word stands in the table, if it is there. No two words have the same place.
 #[inline(always)]
 fn place(text: &[u8]) -> usize
     requires some { 2 ≤ length text.now }
-    requires few { length text.now ≤ 8 }
+    requires few { length text.now ≤ 15 }
     ensures { result ≡ place text.now }
 {
     let len = text.len();
     let first = usize::from(text[0]);
     let middle = usize::from(text[len / 2]);
-    (4 * len + 21 * first + middle) % 256
-}
-
-/// The kind of a word that is contextual in every edition.
-pub(super) fn contextual_ever(text: &str) -> Option<SyntaxKind>
-    ensures { result ≡ kind_of_word contextual_ever text.now }
-{
-    match text.len() {
-        2 => match text {
-            "is" => Some(SyntaxKind::IS_KW),
-            _ => None,
-        },
-        3 => match text {
-            "asm" => Some(SyntaxKind::ASM_KW),
-            "cfg" => Some(SyntaxKind::CFG_KW),
-            "out" => Some(SyntaxKind::OUT_KW),
-            "raw" => Some(SyntaxKind::RAW_KW),
-            "sym" => Some(SyntaxKind::SYM_KW),
-            _ => None,
-        },
-        4 => match text {
-            "auto" => Some(SyntaxKind::AUTO_KW),
-            "pure" => Some(SyntaxKind::PURE_KW),
-            "safe" => Some(SyntaxKind::SAFE_KW),
-            "yeet" => Some(SyntaxKind::YEET_KW),
-            _ => None,
-        },
-        5 => match text {
-            "deref" => Some(SyntaxKind::DEREF_KW),
-            "inout" => Some(SyntaxKind::INOUT_KW),
-            "label" => Some(SyntaxKind::LABEL_KW),
-            "nomem" => Some(SyntaxKind::NOMEM_KW),
-            "union" => Some(SyntaxKind::UNION_KW),
-            _ => None,
-        },
-        7 => match text {
-            "builtin" => Some(SyntaxKind::BUILTIN_KW),
-            "default" => Some(SyntaxKind::DEFAULT_KW),
-            "lateout" => Some(SyntaxKind::LATEOUT_KW),
-            "nostack" => Some(SyntaxKind::NOSTACK_KW),
-            "options" => Some(SyntaxKind::OPTIONS_KW),
-            _ => None,
-        },
-        8 => match text {
-            "bikeshed" => Some(SyntaxKind::BIKESHED_KW),
-            "cfg_attr" => Some(SyntaxKind::CFG_ATTR_KW),
-            "noreturn" => Some(SyntaxKind::NORETURN_KW),
-            "readonly" => Some(SyntaxKind::READONLY_KW),
-            _ => None,
-        },
-        9 => match text {
-            "inlateout" => Some(SyntaxKind::INLATEOUT_KW),
-            "naked_asm" => Some(SyntaxKind::NAKED_ASM_KW),
-            "offset_of" => Some(SyntaxKind::OFFSET_OF_KW),
-            _ => None,
-        },
-        10 => match text {
-            "att_syntax" => Some(SyntaxKind::ATT_SYNTAX_KW),
-            "global_asm" => Some(SyntaxKind::GLOBAL_ASM_KW),
-            "may_unwind" => Some(SyntaxKind::MAY_UNWIND_KW),
-            _ => None,
-        },
-        11 => match text {
-            "clobber_abi" => Some(SyntaxKind::CLOBBER_ABI_KW),
-            "format_args" => Some(SyntaxKind::FORMAT_ARGS_KW),
-            "macro_rules" => Some(SyntaxKind::MACRO_RULES_KW),
-            _ => None,
-        },
-        12 => match text {
-            "pattern_type" => Some(SyntaxKind::PATTERN_TYPE_KW),
-            _ => None,
-        },
-        13 => match text {
-            "include_bytes" => Some(SyntaxKind::INCLUDE_BYTES_KW),
-            _ => None,
-        },
-        15 => match text {
-            "preserves_flags" => Some(SyntaxKind::PRESERVES_FLAGS_KW),
-            _ => None,
-        },
-        _ => None,
-    }
+    (192 * len + 31 * first + middle) % 512
 }

@@ -1,16 +1,23 @@
 //! The lists in which an input keeps its records.
-ghost use Rattle.std.specs.Prelude.{◌≡◌, ℕ, ◌+◌, ◌*◌, ◌<◌, ◌↔◌, length, [], ◌∷◌, ◌++◌, IfOk, IsTrue, OnOk};
+ghost use Rattle.std.specs.Prelude.{◌≡◌, ◌≢◌, ℕ, ◌+◌, ◌*◌, ◌<◌, ◌↔◌, length, take, [], ◌∷◌, ◌++◌, All, IfOk, IsTrue, OnOk};
 ghost use Rattle.rap_base.specs.Bits.{bit};
+ghost use Rattle.rap_base.specs.TokenKind.{FLOAT_NUMBER};
 ghost use Rattle.rap_events.specs.Record.{with_last_joint};
 ghost use Rattle.rap_events.specs.Input.{records, Holds};
+ghost use Rattle.rap_events.specs.KindRecords.{kind_records};
 
 use rap_base::edition::Edition;
 use rap_base::no_memory::NoMemory;
 use rap_base::syntax_kind::SyntaxKind;
 use std::alloc::Global;
 
-/// How many records a word of joints has bits for. The lists grow by so many.
+mod kinds;
+
+/// How many records a word of joints has bits for.
 const BLOCK: usize = 64;
+
+/// How many places the lists grow by: those of 16 words of joints.
+const GROWTH: usize = 1024;
 
 /// The fields of the records, a list for each, at the record's place. Whether record i is joint is bit i mod 64 of
 /// word i div 64 of the joints.
@@ -30,7 +37,7 @@ impl Columns {
     pub(super) fn with_capacity(alloc: Global, capacity: usize) -> Result<Columns, NoMemory>
         ensures { IfOk result (λ columns. Holds columns 0) }
     {
-        let words = capacity.div_ceil(BLOCK);
+        let words = capacity.div_ceil(GROWTH) * (GROWTH / BLOCK);
         let room = words.saturating_mul(BLOCK);
         let kinds = Vec::with_capacity(alloc, room)?;
         let contextual_kinds = Vec::with_capacity(alloc, room)?;
@@ -67,8 +74,8 @@ impl Columns {
         self.grow(len)
     }
 
-    /// Fills the lists up by 64 places. The word of joints comes last, so that its places count only where the other
-    /// lists have grown.
+    /// Fills the lists up by 1,024 places. The words of joints come last, so that their places count only where the
+    /// other lists have grown.
     #[cold]
     #[inline(never)]
     fn grow(&mut self, len: usize) -> Result<(), NoMemory>
@@ -78,13 +85,13 @@ impl Columns {
         ensures room { OnOk result (len < 64 * length self.new.joints.items) }
         ensures records { records self.new len ≡ records self.old len }
     {
-        let Some(room) = len.checked_add(BLOCK) else {
+        let Some(room) = len.checked_add(GROWTH) else {
             return Err(NoMemory);
         };
         self.kinds.resize(room, SyntaxKind::EOF)?;
         self.contextual_kinds.resize(room, SyntaxKind::EOF)?;
         self.editions.resize(room, Edition::Edition2024)?;
-        self.joints.push(0)?;
+        self.joints.resize(room / BLOCK, 0)?;
         Ok(())
     }
 
@@ -106,6 +113,30 @@ impl Columns {
         self.contextual_kinds[place] = contextual_kind;
         self.editions[place] = edition;
         self.joints[place / BLOCK] |= u64::from(joint) << (place % BLOCK);
+    }
+
+    /// Writes the records of tokens of these kinds where the records end, as far as the word of joints there goes. The
+    /// last kind is only looked at, and a float number is not taken: its joint bit needs its text. Returns where the
+    /// records end then, and how many of the kinds were taken.
+    #[inline(always)]
+    pub(super) fn write_kinds(
+        &mut self,
+        place: usize,
+        kinds: &[SyntaxKind],
+        edition: Edition,
+    ) -> (usize, usize)
+        requires holds { Holds self.old place }
+        requires room { place < 64 * length self.old.joints.items }
+        requires some { 0 < length kinds.now }
+        ensures holds { Holds self.new result.0 }
+        ensures records { records self.new result.0 ≡ records self.old place ++ kind_records (take (result.1 + 1) kinds.now) edition }
+        ensures floats { All (λ kind. kind ≢ FLOAT_NUMBER) (take result.1 kinds.now) }
+        ensures within { result.1 < length kinds.now }
+    {
+        let first = self.joints[place / BLOCK];
+        let (word, end, taken) = self.put_kinds(place, first, kinds, edition);
+        self.joints[place / BLOCK] = word;
+        (end, taken)
     }
 
     /// Makes the last record joint.

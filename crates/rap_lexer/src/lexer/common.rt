@@ -1,9 +1,9 @@
 //! Common tokens: characters that are tokens of their own, white space, and words.
-ghost use Rattle.std.specs.Prelude.{◌≡◌, ◌≢◌, ◌<◌, ◌==◌, IfSome, MatchOption, nat_lt, false, true, length, chars, drop, get_or, IsCharBoundary};
+ghost use Rattle.std.specs.Prelude.{◌≡◌, ◌≢◌, ◌<◌, ◌==◌, IfSome, MatchOption, nat_lt, false, true, length, chars, drop, get_or, slice_range, IsCharBoundary};
 ghost use Rattle.rap_base.specs.TokenKind.{STRING};
 ghost use Rattle.rap_base.specs.TokenTests.{IsTokenKind};
 ghost use Rattle.rap_lexer.specs.Class.{is_ascii_in};
-ghost use Rattle.rap_lexer.specs.Common.{is_lone, ends_no_word, is_uncommon, IsCommon};
+ghost use Rattle.rap_lexer.specs.Common.{is_contextual, is_lone, ends_no_word, is_uncommon, IsCommon};
 ghost use Rattle.rap_lexer.specs.First.{First, single_kind};
 ghost use Rattle.rap_lexer.specs.Lexeme.{plain};
 ghost use Rattle.rap_lexer.specs.Run.{run_of};
@@ -11,29 +11,44 @@ ghost use Rattle.rap_base.specs.declared.edition.Edition.{Edition};
 ghost use Rattle.rap_lexer.specs.declared.lexer.run.Class.TheVariants.{White, IdentStart, IdentContinue};
 
 use crate::lexer::lanes::{white_run, word_run};
-use crate::lexer::word::word_kind;
+use crate::lexer::word::common_word;
 use rap_base::edition::Edition;
 use rap_base::syntax_kind::SyntaxKind;
 
-/// Returns the kind of the first token of `text`, which must not be empty, and its length in bytes, if it is a common
-/// one, and otherwise `None`: [`first_token`](crate::lexer::first_token) takes any.
+/// A common token, about which there is nothing to report.
+#[derive(Clone, Copy)]
+pub struct CommonToken {
+    pub kind: SyntaxKind,
+    /// Its length in bytes.
+    pub len: usize,
+    /// Whether it is an identifier that is a contextual keyword of some edition.
+    pub is_contextual: bool,
+}
+
+/// Returns the first token of `text`, which must not be empty, if it is a common one, and otherwise `None`:
+/// [`first_token`](crate::lexer::first_token) takes any.
 ///
 /// Common are a character that is a token of its own whatever follows it; white space in ASCII, unless a character
 /// past ASCII follows it; and a word in ASCII, unless a quote, a `#` or a character past ASCII follows it. There is
 /// nothing to report about any of them.
 #[inline(always)]
-pub fn common_token(edition: Edition, text: &str) -> Option<(SyntaxKind, usize)>
+pub fn common_token(edition: Edition, text: &str) -> Option<CommonToken>
     requires { 0 < length text.now }
-    ensures token { IfSome result (λ r. First edition (chars text.now) (plain r.0) (chars (drop r.1 text.now))) }
-    ensures kind { IfSome result (λ r. IsTokenKind r.0) }
-    ensures no_string { IfSome result (λ r. r.0 ≢ STRING) }
-    ensures positive { IfSome result (λ r. 0 < r.1) }
-    ensures border { IfSome result (λ r. IsCharBoundary text.now r.1) }
+    ensures token { IfSome result (λ r. First edition (chars text.now) (plain r.kind) (chars (drop r.len text.now))) }
+    ensures kind { IfSome result (λ r. IsTokenKind r.kind) }
+    ensures no_string { IfSome result (λ r. r.kind ≢ STRING) }
+    ensures positive { IfSome result (λ r. 0 < r.len) }
+    ensures border { IfSome result (λ r. IsCharBoundary text.now r.len) }
     ensures common { MatchOption result (is_uncommon text.now ≡ true) (λ _. is_uncommon text.now ≡ false) }
+    ensures contextual { IfSome result (λ r. r.is_contextual ≡ is_contextual r.kind (slice_range text.now 0 r.len)) }
 {
     let class = class_of(text.as_bytes()[0]);
     if class < WHITE {
-        Some((SyntaxKind::from_u16(u16::from(class)), 1))
+        Some(CommonToken {
+            kind: SyntaxKind::from_u16(u16::from(class)),
+            len: 1,
+            is_contextual: false,
+        })
     } else if class == WHITE {
         white_token(text)
     } else if class == WORD {
@@ -45,16 +60,21 @@ pub fn common_token(edition: Edition, text: &str) -> Option<(SyntaxKind, usize)>
 
 /// The white space that the text begins with.
 #[inline(always)]
-fn white_token(text: &str) -> Option<(SyntaxKind, usize)>
+fn white_token(text: &str) -> Option<CommonToken>
     requires { is_ascii_in White (get_or text.now 0 0) ≡ true }
-    ensures { MatchOption result (is_uncommon text.now ≡ true) (λ r. (edition : Edition) → IsCommon edition text.now r.0 r.1) }
+    ensures token { MatchOption result (is_uncommon text.now ≡ true) (λ r. (edition : Edition) → IsCommon edition text.now r.kind r.len) }
+    ensures contextual { IfSome result (λ r. r.is_contextual ≡ is_contextual r.kind (slice_range text.now 0 r.len)) }
 {
     let bytes = text.as_bytes();
     let n = white_len(bytes);
     if n < bytes.len() && PAST_ASCII == class_of(bytes[n]) {
         None
     } else {
-        Some((SyntaxKind::WHITESPACE, n))
+        Some(CommonToken {
+            kind: SyntaxKind::WHITESPACE,
+            len: n,
+            is_contextual: false,
+        })
     }
 }
 
@@ -73,16 +93,22 @@ fn white_len(bytes: &[u8]) -> usize
 
 /// The word that the text begins with.
 #[inline(always)]
-fn word_token(edition: Edition, text: &str) -> Option<(SyntaxKind, usize)>
+fn word_token(edition: Edition, text: &str) -> Option<CommonToken>
     requires { is_ascii_in IdentStart (get_or text.now 0 0) ≡ true }
-    ensures { MatchOption result (is_uncommon text.now ≡ true) (λ r. IsCommon edition text.now r.0 r.1) }
+    ensures token { MatchOption result (is_uncommon text.now ≡ true) (λ r. IsCommon edition text.now r.kind r.len) }
+    ensures contextual { IfSome result (λ r. r.is_contextual ≡ is_contextual r.kind (slice_range text.now 0 r.len)) }
 {
     let bytes = text.as_bytes();
     let n = word_run(bytes);
     if n < bytes.len() && OTHER < class_of(bytes[n]) {
         None
     } else {
-        Some((word_kind(edition, &text[..n]), n))
+        let (kind, is_contextual) = common_word(edition, &text[..n]);
+        Some(CommonToken {
+            kind,
+            len: n,
+            is_contextual,
+        })
     }
 }
 

@@ -1,6 +1,7 @@
 //! Identifiers, keywords, and the literals that begin with letters.
 ghost use Rattle.std.specs.Prelude.{◌≡◌, ◌∷◌, ◌++◌, ℕ, List, chars, encode_utf8_all};
 ghost use Rattle.std.specs.Str.{byte};
+ghost use Rattle.rap_lexer.specs.Common.{is_contextual};
 ghost use Rattle.rap_lexer.specs.Word.{word_kind, prefix_remark, ends_prefix, starts_raw, starts_raw_ident, starts_prefixed_raw, IsInvalidWord, IsWordBefore, IsWord, IsPastR, IsPastB, IsPastC, IsWordLike};
 
 use crate::escape::Mode;
@@ -161,6 +162,19 @@ pub fn word_kind(edition: Edition, text: &str) -> SyntaxKind
         SyntaxKind::UNDERSCORE
     } else {
         SyntaxKind::from_keyword(text, edition).unwrap_or(SyntaxKind::IDENT)
+    }
+}
+
+/// The kind of a word with this text, and whether it is an identifier that is a contextual keyword of some edition.
+#[inline(always)]
+pub fn common_word(edition: Edition, text: &str) -> (SyntaxKind, bool)
+    ensures kind { result.0 ≡ word_kind edition text.now }
+    ensures contextual { result.1 ≡ is_contextual result.0 text.now }
+{
+    if text == "_" {
+        (SyntaxKind::UNDERSCORE, false)
+    } else {
+        SyntaxKind::of_word(text, edition)
     }
 }
 

@@ -5,16 +5,16 @@ use Rattle.rap_lexer.proofs.CommonTokens.{next_at, next_end, white_common, white
 use Rattle.rap_lexer.proofs.lexer.common.white_token.Goals as goal
 use Rattle.rap_lexer.proofs.lexer.common.white_token.Goals.{else-n-bytes-via-then-n-bytes+else-class_of-eq-PAST_ASCII, else-n-bytes-via-else-n-bytes}
 
-pub returns-then-class_of-eq-PAST_ASCII : goal.returns-then-class_of-eq-PAST_ASCII
-returns-then-class_of-eq-PAST_ASCII c =
+pub returns-then-class_of-eq-PAST_ASCII-clause-token : goal.returns-then-class_of-eq-PAST_ASCII-clause-token
+returns-then-class_of-eq-PAST_ASCII-clause-token c =
     let bytes = c.as_bytes-bytes.result.now in
     let n = c.white_len-n.result in
     let past : nat_lt 127 (get_or bytes n 0) ≡ true = sym c.class_of.ensures.past ∙ eq-eqb _ _ (sym c.if-class_of-eq-PAST_ASCII.true) in
     let next : next_fits (nat_lt 127) (drop n bytes) ≡ true = next_at (nat_lt 127) bytes n c.if-n-bytes.true ∙ past in
     white_uncommon c.args.text.now n c.requires (rw c.as_bytes-bytes.ensures.value at c.white_len-n.ensures) (rw c.as_bytes-bytes.ensures.value at next)
 
-pub returns-else-n-bytes : goal.returns-else-n-bytes
-returns-else-n-bytes c =
+pub returns-else-n-bytes-clause-token : goal.returns-else-n-bytes-clause-token
+returns-else-n-bytes-clause-token c =
     let bytes = c.as_bytes-bytes.result.now in
     let n = c.white_len-n.result in
     let next : next_fits (nat_lt 127) (drop n bytes) ≡ false = elim c.else-n-bytes.branch [
