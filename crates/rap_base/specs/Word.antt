@@ -1,5 +1,4 @@
 -- Words that some edition reserves or reads as contextual keywords, and where they are looked for in their table.
--- (What calls promise one another; no promise of the library rests on it.)
 use Rattle.std.specs.Prelude.{ℕ, Bool, Option, is_some, List, ◌++◌, ◌+◌, ◌*◌, ◌/◌, ◌%◌, ◌||◌, ◌==◌, nat_le, length, slice_index_or}
 use Rattle.rap_base.specs.Keyword.{kind_of_word, reserved, from_contextual_keyword}
 use Rattle.rap_base.specs.KeywordTable.{contextual_ever}

@@ -1,5 +1,4 @@
 -- Which tokens are contextual keywords of some edition. A lexed text keeps a list of them.
--- (What calls promise one another; no promise of the library rests on it.)
 use Rattle.std.specs.Prelude.{◌≡◌, ℕ, Bool, false, ◌<◌, ◌≤◌, ◌+◌, ◌==◌, List, [], ◌∷◌, ◌++◌, if◌then◌else◌}
 use Rattle.rap_lexer.specs.Common.{is_contextual}
 use Rattle.rap_lexed.specs.Token.{Token}
