@@ -5,5 +5,4 @@ pub mod Outputs
 pub mod Padded
 pub mod Parts
 pub mod Prefixes
-pub mod Stating
 pub mod TopTree

@@ -59,11 +59,16 @@ kept_whole s f e same h =
     same ∙ ap (λ (b : Bool). kept b s.forest) (sym (ap one_tree (sym same) ∙ h)) ∙ ap (top_tree s.forest) (sym e)
 
 -- nothing is left, and the forest is not one tree
-pub in_error : (s : State) (f g : Forest) → s.rest ≡ [] → f ≡ s.forest → one_tree f ≡ false → g ≡ node none ERROR f →
+in_error : (s : State) (f g : Forest) → s.rest ≡ [] → f ≡ s.forest → one_tree f ≡ false → g ≡ node none ERROR f →
     g ≡ top_tree s.forest s.rest
 in_error s f g e same h w =
     w ∙ ap (λ (x : Forest). node none ERROR x) same ∙
     ap (λ (b : Bool). kept b s.forest) (sym (ap one_tree (sym same) ∙ h)) ∙ ap (top_tree s.forest) (sym e)
+
+-- nothing is left, and what the only open marker had is not one tree
+pub wrapped : (s t : State) → Abandoned s t → s.below ≡ push floor None none → s.rest ≡ [] →
+    one_tree t.forest ≡ false → node none ERROR t.forest ≡ top_tree s.forest s.rest
+wrapped s t a e n h = in_error s t.forest (node none ERROR t.forest) n (alone s t a e) h refl
 
 -- where none is left, all tokens were used
 pub all_used : (s t : State) (f : Forest) → used f + t.left ≡ length t.input → Abandoned s t → s.left ≡ 0 →
@@ -88,4 +93,4 @@ fit_in_error f g e h z =
     rw e (let y : message_count f ≡ 0 = omega (arith, ap message_count e) in ∥∥₁_map (h y) (fit_error f))
 
 -- how a parse ends
-pub ruleset closing = (left-none, alone, in_error, all_used, length-flat-node, fit_in_error)
+pub ruleset closing = (left-none, alone, wrapped, all_used, length-flat-node, fit_in_error)

@@ -17,6 +17,7 @@ use Rattle.rap_grammar_scripts.specs.TokenTree.{token_tree}
 use Rattle.rap_grammar_scripts.specs.Traits.{assoc_item_list}
 use Rattle.rap_grammar_scripts.specs.UseItem.{use_tree_list}
 use Rattle.rap_grammar_scripts.specs.Visibility.{opt_visibility}
+use Rattle.rap_grammar_scripts.specs.Words.{recur, done}
 use Rattle.rap_grammar_core.specs.Derives.{Derives, Block, Fields, Items}
 use Rattle.rap_grammar_core.specs.ParsedAgain.{IsBracketed}
 use Rattle.rap_grammar.specs.Top.{IsForestOver}
@@ -121,6 +122,10 @@ pub record IsOneNode (kind : ℕ) (output : Forest) : Type 0 where
   pub children : Forest
   pub node_is : output ≡ node none kind children
   pub one : one_tree output ≡ true
+
+-- the script of a rule alone, whatever it returns
+unfoldable pub part_of : Rule → Script Rule
+part_of c = recur c done
 
 -- A parser went along a script, with some outcome.
 pub record Goes (s : Script Rule) (old new : State) : Type 0 where

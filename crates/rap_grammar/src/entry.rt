@@ -14,8 +14,7 @@ ghost use Rattle.rap_grammar_scripts.specs.Modules as modules_script;
 ghost use Rattle.rap_grammar_scripts.specs.Exec.{Does};
 ghost use Rattle.rap_grammar_scripts.specs.Knot.{script_of};
 ghost use Rattle.rap_grammar_scripts.specs.Script.{something};
-ghost use Rattle.rap_grammar_scripts.specs.Words.{done, recur};
-ghost use Rattle.rap_grammar.specs.Part.{Goes};
+ghost use Rattle.rap_grammar.specs.Part.{Goes, part_of};
 ghost use Rattle.rap_grammar.specs.Top.{top_tree, with_leaves};
 
 use crate::knot::{AllRules, run};
@@ -75,12 +74,12 @@ pub fn is_one_tree(output: &Output) -> bool
 }
 
 /// Runs a rule that is an entry of its own.
-#[tactic(auto, using(crate::proofs::Depth::own_goes))]
+#[tactic(auto, using(crate::proofs::Depth::own_goes, crate::proofs::Depth::part_goes))]
 fn run_alone(p: &mut Parser<'_>, rule: Rule) -> Result<Answer, NoMemory>
     requires { Pre rule (state p.old) }
     ensures parses { IfOk result (Parses rule (state p.old) (state p.new)) }
     ensures own { OnOk result (Goes (script_of rule) (state p.old) (state p.new)) }
-    ensures part { OnOk result (Goes (recur rule done) (state p.old) (state p.new)) }
+    ensures part { OnOk result (Goes (part_of rule) (state p.old) (state p.new)) }
 {
     let answer = run(p, rule)?;
     Ok(answer)

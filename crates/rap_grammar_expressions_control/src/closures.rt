@@ -100,6 +100,7 @@ fn closure_body<G: Grammar>(p: &mut Parser<'_>, g: &G) -> Result<(), NoMemory>
 }
 
 /// Angle brackets that nothing opened, after the type of a closure.
+#[tactic(auto, using(rap_grammar_frame::proofs::Loops::turns, crate::proofs::Skipping::loop_skipped), unfolding(rap_grammar_scripts::specs::Closures::closing_angles))]
 fn closing_angles(p: &mut Parser<'_>) -> Result<(), NoMemory>
     ensures grew { OnOk result (Grew (state p.old) (state p.new) 0) }
     ensures script { OnOk result

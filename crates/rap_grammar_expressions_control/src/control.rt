@@ -155,6 +155,7 @@ pub fn for_expr<G: Grammar>(p: &mut Parser<'_>, g: &G) -> Result<CompletedMarker
 }
 
 /// The same from the newest marker on.
+#[tactic(auto, using(rap_grammar_frame::proofs::Steps::by_report), unfolding(rap_grammar_scripts::specs::Control::for_from))]
 fn for_from<G: Grammar>(p: &mut Parser<'_>, g: &G, m: Marker) -> Result<CompletedMarker, NoMemory>
     requires within { Within G.valid G.left g.now (state p.old) }
     requires newest { (state p.old).marker ≡ Some m.pos.value }

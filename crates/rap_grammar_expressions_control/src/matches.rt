@@ -107,6 +107,7 @@ fn next_arm<G: Grammar>(p: &mut Parser<'_>, g: &G) -> Result<bool, NoMemory>
 }
 
 /// An arm, as `a if b => c,`.
+#[tactic(auto, using(rap_grammar_frame::proofs::Steps::by_report), unfolding(rap_grammar_scripts::specs::Matches::match_arm))]
 fn match_arm<G: Grammar>(p: &mut Parser<'_>, g: &G) -> Result<(), NoMemory>
     requires behind { Behind G.valid G.left g.now (state p.old) }
     requires more { one_of (EOF ∷ L_CURLY ∷ R_CURLY ∷ []) (next (state p.old)) ≡ false }

@@ -157,7 +157,7 @@ pub fn stmt(alloc: Global, input: &Input) -> Result<Output, NoMemory>
 }
 
 /// A pattern without alternatives.
-#[tactic(auto, unfolding(rap_grammar_scripts::specs::ThroughKnot::pattern_single))]
+#[tactic(auto, unfolding(rap_grammar_scripts::specs::ThroughKnot::pattern_single, crate::specs::Part::part_of))]
 pub fn pattern_single(alloc: Global, input: &Input) -> Result<Output, NoMemory>
     requires { length input.now ≤ max_tokens }
     ensures prefix { IfOk result (IsPrefixOver input.now) }
@@ -170,7 +170,7 @@ pub fn pattern_single(alloc: Global, input: &Input) -> Result<Output, NoMemory>
 }
 
 /// A pattern with its alternatives.
-#[tactic(auto, unfolding(rap_grammar_scripts::specs::ThroughKnot::pattern))]
+#[tactic(auto, unfolding(rap_grammar_scripts::specs::ThroughKnot::pattern, crate::specs::Part::part_of))]
 pub fn pattern(alloc: Global, input: &Input) -> Result<Output, NoMemory>
     requires { length input.now ≤ max_tokens }
     ensures prefix { IfOk result (IsPrefixOver input.now) }
@@ -183,7 +183,7 @@ pub fn pattern(alloc: Global, input: &Input) -> Result<Output, NoMemory>
 }
 
 /// A type.
-#[tactic(auto, unfolding(rap_grammar_scripts::specs::ThroughKnot::type_))]
+#[tactic(auto, unfolding(rap_grammar_scripts::specs::ThroughKnot::type_, crate::specs::Part::part_of))]
 pub fn type_(alloc: Global, input: &Input) -> Result<Output, NoMemory>
     requires { length input.now ≤ max_tokens }
     ensures prefix { IfOk result (IsPrefixOver input.now) }
@@ -227,7 +227,7 @@ pub fn item(alloc: Global, input: &Input) -> Result<Output, NoMemory>
 }
 
 /// The contents of an attribute's brackets.
-#[tactic(auto, unfolding(rap_grammar_scripts::specs::ThroughKnot::meta))]
+#[tactic(auto, unfolding(rap_grammar_scripts::specs::ThroughKnot::meta, crate::specs::Part::part_of))]
 pub fn meta_item(alloc: Global, input: &Input) -> Result<Output, NoMemory>
     requires { length input.now ≤ max_tokens }
     ensures prefix { IfOk result (IsPrefixOver input.now) }

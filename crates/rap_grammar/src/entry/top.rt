@@ -9,13 +9,13 @@ ghost use Rattle.rap_grammar.specs.Top.{IsTreeOver, IsTopOf, IsRootOf};
 ghost use Rattle.rap_base.specs.Limits.{max_tokens};
 
 use super::{close_root, close_top, run_alone};
-use crate::knot::{all_rules, run};
+use crate::knot::all_rules;
 use rap_base::no_memory::NoMemory;
 use rap_base::syntax_kind::SyntaxKind;
 use rap_events::input::Input;
 use rap_events::output::Output;
 use rap_events::parser::Parser;
-use rap_grammar_scripts::arguments::Restrictions;
+use rap_grammar_frame::through_knot;
 use rap_grammar_scripts::rule::Rule;
 use std::alloc::Global;
 
@@ -34,7 +34,7 @@ pub fn source_file(alloc: Global, input: &Input) -> Result<Output, NoMemory>
 }
 
 /// A pattern with its alternatives. If the input is not exactly one pattern, the tree is an `ERROR`.
-#[tactic(auto, unfolding(rap_grammar_scripts::specs::ThroughKnot::pattern))]
+#[tactic(auto, unfolding(rap_grammar_scripts::specs::ThroughKnot::pattern, crate::specs::Part::part_of))]
 pub fn pattern(alloc: Global, input: &Input) -> Result<Output, NoMemory>
     requires { length input.now ≤ max_tokens }
     ensures tree { IfOk result (IsTreeOver input.now) }
@@ -48,7 +48,7 @@ pub fn pattern(alloc: Global, input: &Input) -> Result<Output, NoMemory>
 }
 
 /// A type. If the input is not exactly one type, the tree is an `ERROR`.
-#[tactic(auto, unfolding(rap_grammar_scripts::specs::ThroughKnot::type_))]
+#[tactic(auto, unfolding(rap_grammar_scripts::specs::ThroughKnot::type_, crate::specs::Part::part_of))]
 pub fn type_(alloc: Global, input: &Input) -> Result<Output, NoMemory>
     requires { length input.now ≤ max_tokens }
     ensures tree { IfOk result (IsTreeOver input.now) }
@@ -69,17 +69,14 @@ pub fn expr(alloc: Global, input: &Input) -> Result<Output, NoMemory>
 {
     let mut p = Parser::new(alloc, input);
     let m = p.start()?;
-    let r = Restrictions {
-        forbid_structs: false,
-        prefer_stmt: false,
-    };
-    run(&mut p, Rule::ExprBp { r, bp: 1 })?;
+    let g = all_rules(&p);
+    through_knot::expr(&mut p, &g)?;
     let output = close_top(alloc, p, m)?;
     Ok(output)
 }
 
 /// The contents of an attribute's brackets, as `cfg(a)` in `#[cfg(a)]`. If other tokens follow, the tree is an `ERROR`.
-#[tactic(auto, unfolding(rap_grammar_scripts::specs::ThroughKnot::meta))]
+#[tactic(auto, unfolding(rap_grammar_scripts::specs::ThroughKnot::meta, crate::specs::Part::part_of))]
 pub fn meta_item(alloc: Global, input: &Input) -> Result<Output, NoMemory>
     requires { length input.now ≤ max_tokens }
     ensures tree { IfOk result (IsTreeOver input.now) }

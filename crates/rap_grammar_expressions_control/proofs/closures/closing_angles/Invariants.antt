@@ -1,4 +1,4 @@
-use Rattle.std.proofs.Common.{ℕ, false}
+use Rattle.std.proofs.Common.{false}
 use Rattle.rap_events.specs.State.{state}
 use Rattle.rap_grammar_scripts.specs.Closures.{angles_turn}
 use Rattle.rap_grammar_frame.specs.Grew.{Grew}
@@ -8,7 +8,7 @@ use Rattle.rap_grammar_expressions_control.proofs.closures.closing_angles.Given 
 abbrev pub invariant-angles : goal.invariant-angles
 invariant-angles l = record {
   grew : Grew (state l.initial.p) (state l.p) 0;
-  script : (depth : ℕ) → Turns depth angles_turn false false false false l.initial.p l.p;
+  script : Turns 0 angles_turn false false false false l.initial.p l.p;
 }
 
 abbrev pub decreases-angles : goal.decreases-angles
