@@ -1,5 +1,5 @@
 -- What a rule does with so many rules inside one another, it does where there may be more.
-use Rattle.std.proofs.Common.{ℕ, suc, ◌<◌, ◌≤◌, Option, Result, Ok, Err}
+use Rattle.std.proofs.Common.{ℕ, suc, ◌<◌, ◌≤◌, Option, Some, None, Result, Ok, Err}
 use Rattle.std.specs.Prelude.{IfOk}
 use Rattle.rap_events.specs.State.{State}
 use Rattle.rap_events.specs.declared.parser.CompletedMarker.{CompletedMarker}
@@ -12,9 +12,11 @@ use Rattle.rap_grammar_scripts.specs.declared.arguments.Restrictions.{Restrictio
 use Rattle.rap_grammar_scripts.specs.declared.rule.Rule.{Rule}
 use Rattle.rap_grammar_scripts.specs.declared.rule.Rule.TheVariants as knot
 use Rattle.rap_grammar_scripts.specs.Script.{Script, Outcome, something, Spot, spot, Runs}
-use Rattle.rap_grammar_scripts.specs.Words.{of_expr}
+use Rattle.rap_grammar_scripts.specs.ThroughKnot.{expr, unrestricted}
+use Rattle.rap_grammar_scripts.specs.Words.{of_expr, of_option}
 use Rattle.rap_grammar.specs.Part.{Goes, part_of}
 use Rattle.rap_grammar_scripts.specs.declared.arguments.BlockLike.{BlockLike}
+use Rattle.rap_grammar_scripts.specs.declared.arguments.BlockLike.TheVariants as like
 use Rattle.rap_grammar_frame.specs.Rules.{Answered, Post}
 
 -- what the two clauses of an expression say of its rule, where its result is returned as it is
@@ -35,6 +37,13 @@ answers_so n m c p q v h l = answers c l h
 -- a script that ends so runs to there
 pub ends_run : {n : ℕ} {s : Script Rule} {p q : Spot} {v : Outcome} → Ends n s p q v → Runs script_of s p q v
 ends_run {n = n} {s = s} {p = p} {q = q} {v = v} d = runs n s p q v d.run
+
+pub expr_runs : {n : ℕ} {p q : Spot} (e : Option (CompletedMarker × BlockLike)) →
+    Answers n (knot.ExprBp unrestricted 1) p q (of_expr e) → Runs script_of expr p q (of_option e)
+unfolding expr
+expr_runs None h = ends_run (obeys h gives)
+expr_runs (Some (m, like.Block)) h = ends_run (obeys h gives)
+expr_runs (Some (m, like.NotBlock)) h = ends_run (obeys h gives)
 
 -- a parser goes along a rule's script, along a rule alone, and along any script that it follows
 pub own_goes : {n : ℕ} {c : Rule} {v : Outcome} {old new : State} → Obeys (suc n) c v old new → Goes (script_of c) old new

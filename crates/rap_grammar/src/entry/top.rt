@@ -9,13 +9,13 @@ ghost use Rattle.rap_grammar.specs.Top.{IsTreeOver, IsTopOf, IsRootOf};
 ghost use Rattle.rap_base.specs.Limits.{max_tokens};
 
 use super::{close_root, close_top, run_alone};
-use crate::knot::all_rules;
+use crate::knot::{all_rules, run};
 use rap_base::no_memory::NoMemory;
 use rap_base::syntax_kind::SyntaxKind;
 use rap_events::input::Input;
 use rap_events::output::Output;
 use rap_events::parser::Parser;
-use rap_grammar_frame::through_knot;
+use rap_grammar_scripts::arguments::Restrictions;
 use rap_grammar_scripts::rule::Rule;
 use std::alloc::Global;
 
@@ -69,8 +69,11 @@ pub fn expr(alloc: Global, input: &Input) -> Result<Output, NoMemory>
 {
     let mut p = Parser::new(alloc, input);
     let m = p.start()?;
-    let g = all_rules(&p);
-    through_knot::expr(&mut p, &g)?;
+    let r = Restrictions {
+        forbid_structs: false,
+        prefer_stmt: false,
+    };
+    run(&mut p, Rule::ExprBp { r, bp: 1 })?;
     let output = close_top(alloc, p, m)?;
     Ok(output)
 }
