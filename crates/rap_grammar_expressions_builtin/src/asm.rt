@@ -156,7 +156,7 @@ fn no_operand<G: Grammar>(
 }
 
 /// A message where no operand stands, with the block or the token that stands there.
-#[tactic(auto, using(crate::proofs::Taken::skip_took, rap_grammar_frame::proofs::Left::left_past), unfolding(rap_grammar_scripts::specs::Asm::missing_operand))]
+#[tactic(auto, using(crate::proofs::Taken::skip_took, rap_grammar_frame::proofs::Left::left_past, rap_grammar_frame::proofs::Steps::by_report), unfolding(rap_grammar_scripts::specs::Asm::missing_operand))]
 fn missing_operand<G: Grammar>(p: &mut Parser<'_>, g: &G) -> Result<(), NoMemory>
     requires behind { Behind G.valid G.left g.now (state p.old) }
     ensures grew { OnOk result (Grew (state p.old) (state p.new) 11) }

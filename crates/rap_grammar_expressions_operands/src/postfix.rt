@@ -222,7 +222,7 @@ fn index_expr<G: Grammar>(
 }
 
 /// The name and the arguments of a method after the dot, as `f(1)` after `a.`.
-#[tactic(auto, unfolding(rap_grammar_scripts::specs::Postfix::method_call_expr))]
+#[tactic(auto, using(rap_grammar_frame::proofs::Steps::by_report), unfolding(rap_grammar_scripts::specs::Postfix::method_call_expr))]
 fn method_call_expr<G: Grammar>(
     p: &mut Parser<'_>,
     g: &G,

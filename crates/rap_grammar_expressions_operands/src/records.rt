@@ -134,7 +134,7 @@ fn named_field<G: Grammar>(p: &mut Parser<'_>, g: &G, m: Marker) -> Result<(), N
 }
 
 /// The base of a record whose dots are missing, as `a::b()`.
-#[tactic(auto, using(crate::proofs::Fields::base_spent))]
+#[tactic(auto, using(crate::proofs::Fields::base_spent, rap_grammar_frame::proofs::Steps::by_report), unfolding(rap_grammar_scripts::specs::Records::base_without_dots))]
 fn base_without_dots<G: Grammar>(p: &mut Parser<'_>, g: &G, m: Marker) -> Result<(), NoMemory>
     requires behind { Behind G.valid G.left g.now (state p.old) }
     requires newest { (state p.old).marker ≡ Some m.pos.value }

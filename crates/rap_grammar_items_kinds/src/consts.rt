@@ -85,6 +85,7 @@ fn const_name(p: &mut Parser<'_>, is_const: bool) -> Result<(), NoMemory>
 }
 
 /// Generic parameters, which are reported at a static.
+#[tactic(auto, using(rap_grammar_frame::proofs::Steps::by_report), unfolding(rap_grammar_scripts::specs::Consts::const_params))]
 fn const_params<G: Grammar>(p: &mut Parser<'_>, g: &G, is_const: bool) -> Result<(), NoMemory>
     requires behind { Behind G.valid G.left g.now (state p.old) }
     ensures grew { OnOk result (Grew (state p.old) (state p.new) 1) }
