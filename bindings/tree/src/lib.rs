@@ -45,9 +45,9 @@
 //! between; what is at an offset by bisection and such a climb.
 #![deny(missing_docs)]
 
-mod builder;
 mod iterators;
 mod line_index;
+mod message;
 mod node;
 mod node_or_token;
 mod offsets;
@@ -58,10 +58,11 @@ mod tree;
 
 pub use iterators::{Children, ChildrenWithTokens, Descendants, DescendantsWithTokens, PreorderWithTokens, WalkEvent};
 pub use line_index::{LineIndex, Position, Unit};
+pub use message::Message;
 pub use node::{Direction, Node};
 pub use node_or_token::NodeOrToken;
 pub use token::Token;
 pub use token_at_offset::TokenAtOffset;
-pub use tree::{Message, Tree};
+pub use tree::Tree;
 
 pub use ra_ap_parser::{Edition, SyntaxKind, T, TopEntryPoint};

@@ -21,9 +21,14 @@ pub(super) fn take(words: usize) -> Vec<u32> {
         return kept;
     }
     drop(kept);
+    anew(words)
+}
+
+/// New room for so many values, if there is memory for them.
+pub(super) fn anew<T>(count: usize) -> Vec<T> {
     let mut room = Vec::new();
     // If this much is refused, the first call of the library writes nothing and returns how much is needed.
-    let _ = room.try_reserve_exact(words);
+    let _ = room.try_reserve_exact(count);
     room
 }
 
