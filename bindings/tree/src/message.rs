@@ -4,6 +4,9 @@ use ra_ap_parser::sys;
 use std::fmt;
 use std::ops::Range;
 
+/// What most messages of the parser begin with, and none of the lexer.
+const OF_PARSER: &str = "expected ";
+
 /// A message about a text.
 ///
 /// ```
@@ -69,13 +72,13 @@ impl fmt::Display for Message {
 
 /// The messages about a text: those of the parser, and after them those of the lexer.
 ///
-/// The library lists them by their places, of two at one byte the parser's first. Which of them are the lexer's follows
-/// from where the lexer has messages: a text that has any message is divided into tokens again.
+/// The library lists them by their places, of those at one byte the parser's first. Which of them are the lexer's
+/// follows from where the lexer has messages. For that a text is divided into tokens again, but not where all messages
+/// begin as only the parser's do.
 pub(crate) fn parser_first(nodes: &sys::Nodes, edition: Edition, text: &str) -> Vec<Message> {
-    if nodes.messages.is_empty() {
-        return Vec::new();
-    }
-    let mut places = sys::lexer_places(text, edition);
+    let may_be_of_lexer = |message: &sys::Message| !nodes.text_of(message).starts_with(OF_PARSER);
+    let is_in_doubt = nodes.messages.iter().any(may_be_of_lexer);
+    let mut places = if is_in_doubt { sys::lexer_places(text, edition) } else { Vec::new() };
     let is_of_lexer = |message: &&sys::Message| places.last() == Some(&message.at) && places.pop().is_some();
     let (of_lexer, of_parser): (Vec<_>, Vec<_>) = nodes.messages.iter().rev().partition(is_of_lexer);
     let ordered = of_parser.into_iter().rev().chain(of_lexer.into_iter().rev());

@@ -22,6 +22,9 @@ impl Nodes {
     }
 }
 
+/// For how many bytes of messages there is room at first, at most. A message has about 16.
+const MOST_BYTES: usize = 1 << 14;
+
 /// Arrays that a call fills.
 struct Rooms {
     elements: Vec<Element>,
@@ -30,10 +33,11 @@ struct Rooms {
 }
 
 impl Rooms {
-    /// Room for a text's tree and its messages, as a first guess. What is not used of it takes no memory.
+    /// Room for a text's tree and its messages, as a first guess: most texts have half as many elements, and few have
+    /// more. What is not used of it takes no memory.
     fn for_text(text: &str) -> Rooms {
-        let (elements, bytes) = (text.len() / 4 * 3 + 64, text.len() + 64);
-        Rooms { elements: room::anew(elements), messages: room::anew(bytes / 16), bytes: room::anew(bytes) }
+        let (elements, bytes) = (text.len() / 8 * 7 + 64, text.len().min(MOST_BYTES) + 64);
+        Rooms { elements: room::take_elements(elements), messages: room::anew(bytes / 16), bytes: room::anew(bytes) }
     }
 
     /// Fills the arrays with a text's tree, and returns whether they had room for all of it. If not, they are empty and
@@ -77,10 +81,13 @@ pub fn nodes(text: &str, edition: Edition, entry: &TopEntryPoint) -> Nodes {
     let mut rooms = Rooms::for_text(text);
     while !rooms.fill(text, edition.year(), entry.number()) {}
     let Rooms { mut elements, messages, bytes } = rooms;
-    if elements.len() < elements.capacity() / 2 {
-        elements.shrink_to_fit();
-    }
+    room::trim_elements(&mut elements);
     Nodes { elements, messages, texts: String::from_utf8(bytes).expect("messages are UTF-8") }
+}
+
+/// Keeps the room of a long list that is no longer used, for the next text of this thread.
+pub fn keep_elements(elements: Vec<Element>) {
+    room::keep_elements(elements);
 }
 
 /// The bytes of a text at which the lexer has messages, in their order, by `rap_tokens`.
