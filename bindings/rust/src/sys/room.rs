@@ -104,3 +104,46 @@ fn advise_huge_pages(room: &Vec<Element>) {
     // SAFETY: the pages are whole ones of the room, and are read and written as before.
     let _ = unsafe { madvise(first.wrapping_add(before).cast_mut().cast(), within, MADV_HUGEPAGE) };
 }
+
+#[cfg(test)]
+mod tests {
+    use super::{ELEMENTS, LONG, MOST_KEPT, anew, keep_elements, take_elements, trim_elements};
+    use crate::SyntaxKind;
+    use crate::sys::{Element, NO_PARENT};
+
+    const LONG_COUNT: usize = LONG / size_of::<Element>() + 1;
+
+    #[test]
+    fn of_a_long_list_is_kept_for_one_as_long() {
+        let first = take_elements(LONG_COUNT);
+        let at = first.as_ptr();
+        keep_elements(first);
+        let second = take_elements(LONG_COUNT * 2 / 3);
+        assert_eq!((second.as_ptr(), second.capacity()), (at, LONG_COUNT));
+        keep_elements(second);
+        assert_eq!(take_elements(LONG_COUNT / 3).capacity(), LONG_COUNT / 3);
+        assert_eq!(ELEMENTS.take().capacity(), 0);
+    }
+
+    #[test]
+    fn of_a_short_list_or_of_too_long_a_one_is_not_kept() {
+        for count in [LONG_COUNT / 2, MOST_KEPT / size_of::<Element>() + 1] {
+            keep_elements(anew(count));
+            assert_eq!(ELEMENTS.take().capacity(), 0);
+        }
+    }
+
+    #[test]
+    fn is_given_back_where_most_of_it_is_not_used() {
+        let left = |room, used| {
+            let mut list = anew(room);
+            list.resize(used, Element::new(SyntaxKind::SOURCE_FILE, 0, 0, 1, NO_PARENT));
+            trim_elements(&mut list);
+            (list.len(), list.capacity())
+        };
+        assert_eq!([left(100, 49), left(100, 50)], [(49, 49), (50, 100)]);
+        let fourth = LONG_COUNT / 4;
+        let want = [(fourth - 1, fourth - 1), (fourth, LONG_COUNT)];
+        assert_eq!([left(LONG_COUNT, fourth - 1), left(LONG_COUNT, fourth)], want);
+    }
+}
