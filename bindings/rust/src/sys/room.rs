@@ -96,7 +96,7 @@ fn is_long(list: &Vec<Element>) -> bool {
     list.capacity() >= LONG / size_of::<Element>()
 }
 
-/// Asks the system for huge pages: to get small ones, one after another, takes up to a third of the time of a parse.
+/// Asks the system for huge pages: to get small ones, one after another, takes a fifth of the time of a parse.
 fn advise_huge_pages(room: &Vec<Element>) {
     let (first, size) = (room.as_ptr().cast::<u8>(), room.capacity() * size_of::<Element>());
     let before = first.align_offset(HUGE_PAGE);
