@@ -3,13 +3,15 @@
 //! This module is no part of the interface of the Rust crate: it is public for the tests of the package.
 //!
 //! - `declarations` has what the header declares,
-//! - `room` the room for words that a thread keeps,
+//! - `room` the rooms that a thread keeps,
 //! - `words` the reader of a tree in words,
+//! - `nodes` the calls for trees in one list,
 //! - `stack` the stacks on which calls parse,
 //! - `status` the statuses, and `processor` what the library needs of the processor.
 #![allow(unsafe_code)]
 
 mod declarations;
+mod nodes;
 mod processor;
 mod room;
 mod stack;
@@ -17,10 +19,10 @@ mod status;
 mod words;
 
 pub use declarations::*;
+pub use nodes::{Nodes, keep_elements, lexer_places, nodes};
 pub(crate) use status::check_status;
 pub(crate) use words::Woven;
 
-use crate::{Edition, StrStep, TopEntryPoint};
 use std::sync::Arc;
 
 /// What a call filled: its status, all its steps, and all bytes of its messages.
@@ -69,7 +71,7 @@ unsafe fn fill<T>(mut steps: Vec<T>, message_room: usize, call: Fill<'_, T>) -> 
 }
 
 /// Makes a call that parses so many records, on a stack that is large enough for them.
-fn call_on_stack(records: usize, call: impl Fn() -> Answer) -> Answer {
+fn call_on_stack<A>(records: usize, call: impl Fn() -> A) -> A {
     match stack::call_on(records, call) {
         Some(answer) => answer,
         None => panic!("no stack of {} bytes can be had, for {records} tokens", stack::size_for(records)),
@@ -77,7 +79,7 @@ fn call_on_stack(records: usize, call: impl Fn() -> Answer) -> Answer {
 }
 
 /// Makes a call that parses a text, on a stack that is large enough for it.
-fn call_on_stack_of(text: &str, edition: u32, call: impl Fn() -> Answer) -> Answer {
+fn call_on_stack_of<A>(text: &str, edition: u32, call: impl Fn() -> A) -> A {
     // A text has no more tokens than bytes. They are counted only where the system has no stack for so many.
     stack::call_on(text.len(), &call).unwrap_or_else(|| call_on_stack(count_of_records(text, edition), &call))
 }
@@ -100,15 +102,6 @@ pub(crate) fn tree(text: &Arc<str>, edition: u32, entry: u32) -> Woven {
         });
         Woven::of(text.clone(), filled)
     }
-}
-
-/// Hands the steps of a text's tree to a function, and after them the lexer's messages, each with its place: for the
-/// package `rap_tree`, which needs no token of the text so. It panics where [`TopEntryPoint::parse`] does.
-#[inline]
-pub fn each_step(text: &str, edition: Edition, entry: &TopEntryPoint, take: impl FnMut(StrStep<'_>)) {
-    let woven = tree(&text.into(), edition.year(), entry.number());
-    check_status(woven.status, &[]);
-    woven.each_with_messages(take);
 }
 
 /// The parts of a script source, or what refuses it, by `rap_script`, with the message.

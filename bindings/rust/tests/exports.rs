@@ -1,5 +1,7 @@
 //! The exports as C calls them, with results worked out by hand.
+use ra_ap_parser::SyntaxKind::{BIN_EXPR, EOF, ERROR, INT_NUMBER, LITERAL, PLUS, WHITESPACE};
 use ra_ap_parser::sys::{self, Answer, ENTER, EXIT, LONG, MESSAGE, NO_KIND, NO_SCRIPT, Part, Step, TOKEN, VERSION};
+use ra_ap_parser::sys::{Element, Message, NO_PARENT, NodesAnswer};
 
 /// The contents of an array that no call has written to.
 const BLANK: Step = Step { what: 99, kind: 99, at: 99, start: 99, end: 99 };
@@ -153,6 +155,47 @@ fn hands_out_long_tokens_in_two_words() {
     }
 }
 
+/// The result of a call for a tree in one list, and the contents of its arrays.
+type List = (NodesAnswer, Vec<Element>, Vec<Message>, String);
+
+/// Calls with arrays for this number of elements, of messages and of their bytes.
+fn nodes(text: &[u8], edition: u32, entry: u32, room: (usize, usize, usize)) -> List {
+    let mut elements = vec![Element::new(EOF, 99, 99, 99, 99); room.0];
+    let mut messages = vec![Message { at: 99, start: 99, end: 99, text_start: 99, text_end: 99 }; room.1];
+    let mut bytes = vec![b'.'; room.2];
+    let (at, length) = (text.as_ptr(), text.len());
+    let (first, second, third) = (elements.as_mut_ptr(), messages.as_mut_ptr(), bytes.as_mut_ptr());
+    let answer = unsafe { sys::rap_nodes(at, length, edition, entry, first, room.0, second, room.1, third, room.2) };
+    (answer, elements, messages, String::from_utf8(bytes).expect("messages are ASCII here"))
+}
+
+fn nodes_answer(status: u32, elements: usize, messages: usize, message_bytes: usize, used: usize) -> NodesAnswer {
+    NodesAnswer { status, elements, messages, message_bytes, used }
+}
+
+#[test]
+fn hands_out_a_tree_in_one_list() {
+    let elements = vec![
+        Element::new(BIN_EXPR, 0, 4, 6, NO_PARENT),
+        Element::new(LITERAL, 0, 2, 3, 0),
+        Element::new(INT_NUMBER, 0, 2, 3, 1),
+        Element::new(WHITESPACE, 2, 3, 4, 0),
+        Element::new(PLUS, 3, 4, 5, 0),
+        Element::new(ERROR, 4, 4, 6, 0),
+        Element::new(EOF, 99, 99, 99, 99),
+    ];
+    let messages = vec![
+        Message { at: 0, start: 0, end: 2, text_start: 0, text_end: 44 },
+        Message { at: 4, start: 4, end: 4, text_start: 44, text_end: 63 },
+        Message { at: 99, start: 99, end: 99, text_start: 99, text_end: 99 },
+    ];
+    let text = "Missing digits after the integer base prefixexpected expression.".to_string();
+    let counts = nodes_answer(0, 6, 2, 63, 4);
+    let cut = (counts, elements[..3].to_vec(), messages[..1].to_vec(), "Missing".to_string());
+    assert_eq!(nodes(b"0x +", 2024, 5, (7, 3, 64)), (counts, elements, messages, text));
+    assert_eq!(nodes(b"0x +", 2024, 5, (3, 1, 7)), cut);
+}
+
 fn script(text: &[u8], room: (usize, usize)) -> (Answer, Vec<Part>, String) {
     let mut parts = vec![Part { there: 9, start: 9, end: 9 }; room.0];
     let mut messages = vec![b'.'; room.1];
@@ -285,6 +328,10 @@ fn tells_faults_apart() {
     assert_eq!(tree_words(b"a", 2020, 9, none).0, is(2));
     assert_eq!(tree_words(wrong, 2024, 7, none).0, is(3));
     assert_eq!(tree_words(wrong, 2024, 6, none).0, is(4));
+    let of_list = |text: &[u8], edition, entry| nodes(text, edition, entry, (0, 0, 0)).0;
+    assert_eq!(of_list(b"a", 2020, 9), nodes_answer(2, 0, 0, 0, 0));
+    assert_eq!(of_list(wrong, 2024, 7), nodes_answer(3, 0, 0, 0, 0));
+    assert_eq!(of_list(wrong, 2024, 6), nodes_answer(4, 0, 0, 0, 0));
     assert_eq!(tokens(b"a", 0, none).0, is(2));
     assert_eq!(tokens(wrong, 2015, none).0, is(4));
     assert_eq!(prefix(b"a", 10, none).0, is(3));

@@ -1,26 +1,17 @@
 //! What stands at a byte of the text, or covers a range.
 use crate::TokenAtOffset;
 use crate::place::Place;
-use crate::tree::Element;
 use std::iter::successors;
 use std::ops::Range;
 
-/// The index of the token that has the byte at this offset; `None` at the end of the text and after it.
-///
-/// Of all elements that begin at a byte or before, the last one is the token that has it, as elements are in the order
-/// of their beginnings, and behind an empty node some token begins where the node does.
-pub(crate) fn leaf_at(elements: &[Element], offset: usize) -> Option<usize> {
-    if elements.first().is_none_or(|root| offset >= root.end as usize) {
-        return None;
-    }
-    Some(elements.partition_point(|element| element.start as usize <= offset) - 1)
-}
-
 impl<'t> Place<'t> {
     /// The token that has a byte of the text.
+    ///
+    /// Of all elements that begin at a byte or before, the last one is the token that has it, as elements are in the
+    /// order of their beginnings, and behind an empty node some token begins where the node does.
     fn token_of_byte(self, offset: usize) -> Place<'t> {
-        let index = leaf_at(self.tree().elements(), offset).expect("a token has the byte");
-        self.at(index as u32)
+        let begun = self.tree().elements().partition_point(|element| element.start as usize <= offset);
+        self.at(begun as u32 - 1)
     }
 
     /// The tokens of this place that touch an offset. Panics if the offset is not in its range.
@@ -98,22 +89,34 @@ impl<'t> Place<'t> {
 
 #[cfg(test)]
 mod tests {
-    use crate::SyntaxKind::{self, ATTR, NAME, PARAM, SOURCE_FILE, VISIBILITY, WHITESPACE};
-    use crate::Tree;
-    use ra_ap_parser::StrStep;
+    use crate::SyntaxKind::{ATTR, NAME, PARAM, SOURCE_FILE, VISIBILITY, WHITESPACE};
+    use crate::{Node, Tree};
+    use ra_ap_parser::sys::{Element, NO_PARENT};
 
-    fn node(kind: SyntaxKind, inside: Vec<Vec<StrStep<'static>>>) -> Vec<StrStep<'static>> {
-        std::iter::once(StrStep::Enter { kind }).chain(inside.into_iter().flatten()).chain([StrStep::Exit]).collect()
+    /// A tree as no parse gives it, with several empty nodes beside one another.
+    fn with_empty_nodes() -> Tree {
+        let elements = [
+            (SOURCE_FILE, 0..1, 10, NO_PARENT),
+            (NAME, 0..0, 2, 0),
+            (PARAM, 0..1, 8, 0),
+            (ATTR, 0..0, 4, 2),
+            (NAME, 0..0, 5, 2),
+            (WHITESPACE, 0..1, 6, 2),
+            (ATTR, 1..1, 7, 2),
+            (VISIBILITY, 1..1, 8, 2),
+            (NAME, 1..1, 9, 0),
+            (ATTR, 1..1, 10, 0),
+        ];
+        let element_of = |(kind, range, after, parent): (_, std::ops::Range<u32>, _, _)| {
+            Element::new(kind, range.start, range.end, after, parent)
+        };
+        Tree::of_elements(" ", elements.map(element_of).to_vec())
     }
 
-    /// Trees as no parse gives them, with several empty nodes beside one another.
     #[test]
     fn covers_an_offset_beside_empty_nodes() {
-        let token = || vec![StrStep::Token { kind: WHITESPACE, text: " " }];
-        let empty = |kind| node(kind, Vec::new());
-        let inner = node(PARAM, vec![empty(ATTR), empty(NAME), token(), empty(ATTR), empty(VISIBILITY)]);
-        let tree = Tree::of_steps(" ", node(SOURCE_FILE, vec![empty(NAME), inner, empty(NAME), empty(ATTR)]));
-        let covering = |node: crate::Node<'_>, at| node.covering_element(at..at).kind();
+        let tree = with_empty_nodes();
+        let covering = |node: Node<'_>, at| node.covering_element(at..at).kind();
         let param = tree.root().children().nth(1).expect("it is there");
         assert_eq!([covering(tree.root(), 0), covering(tree.root(), 1)], [NAME, ATTR]);
         assert_eq!([covering(param, 0), covering(param, 1)], [NAME, VISIBILITY]);

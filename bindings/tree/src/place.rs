@@ -1,6 +1,6 @@
 //! What nodes and tokens have in common: a tree and an index.
-use crate::tree::{Element, NO_PARENT, Tree};
-use crate::{Direction, SyntaxKind};
+use crate::{Direction, SyntaxKind, Tree};
+use ra_ap_parser::sys::{Element, NO_PARENT};
 use std::fmt;
 use std::hash::{Hash, Hasher};
 use std::iter::successors;
@@ -31,8 +31,8 @@ impl Hash for Place<'_> {
 /// On one line, as `IDENT@0..1`.
 impl fmt::Debug for Place<'_> {
     fn fmt(&self, f: &mut fmt::Formatter<'_>) -> fmt::Result {
-        let Element { kind, start, end, .. } = self.element();
-        write!(f, "{}@{start}..{end}", kind.name())
+        let Range { start, end } = self.range();
+        write!(f, "{}@{start}..{end}", self.kind().name())
     }
 }
 
@@ -58,12 +58,14 @@ impl<'t> Place<'t> {
 
     #[inline]
     pub(crate) fn kind(self) -> SyntaxKind {
-        self.element().kind
+        self.element().kind()
     }
 
+    /// No token is empty, and nothing is inside it.
     #[inline]
     pub(crate) fn is_token(self) -> bool {
-        self.element().is_token
+        let element = self.element();
+        element.after == self.index + 1 && element.start < element.end
     }
 
     #[inline]

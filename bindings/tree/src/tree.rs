@@ -1,34 +1,14 @@
-//! Trees, their elements and their messages.
-use crate::builder;
+//! Trees.
+use crate::message::parser_first;
 use crate::place::Place;
-use crate::{Edition, Node, SyntaxKind, TopEntryPoint};
+use crate::{Edition, Message, Node, TopEntryPoint};
+use ra_ap_parser::sys::{self, Element};
 use std::fmt;
-use std::ops::Range;
-
-/// What stands for the parent of the root, which has none.
-pub(crate) const NO_PARENT: u32 = u32::MAX;
-
-/// A node or a token in the list of a tree. The list is in preorder, so that what is inside a node follows it.
-#[derive(Clone, Copy, Debug)]
-pub(crate) struct Element {
-    pub(crate) kind: SyntaxKind,
-    pub(crate) is_token: bool,
-    /// The byte of the text at which it begins.
-    pub(crate) start: u32,
-    /// The byte of the text at which it ends.
-    pub(crate) end: u32,
-    /// The index past all that is inside it.
-    pub(crate) after: u32,
-    /// The index of the node that it is in, or [`NO_PARENT`].
-    pub(crate) parent: u32,
-}
-
-const _: () = assert!(size_of::<Element>() == 20);
 
 /// The syntax tree of a text, with the text and with the messages about it.
 ///
-/// All nodes and tokens are in one list of 20 bytes each: there is no allocation for each node, and neither building
-/// nor dropping a tree takes stack for its levels. [`Tree::root`] is where reading it begins.
+/// All nodes and tokens are in one list of 20 bytes each, which the library writes: there is no allocation for each
+/// node, and neither building nor dropping a tree takes stack for its levels. Reading begins at [`Tree::root`].
 ///
 /// ```
 /// use rap_tree::{Edition, TopEntryPoint, Tree};
@@ -40,6 +20,7 @@ const _: () = assert!(size_of::<Element>() == 20);
 #[derive(Clone)]
 pub struct Tree {
     text: Box<str>,
+    /// The nodes and tokens in preorder, so that what is inside a node follows it.
     elements: Vec<Element>,
     messages: Vec<Message>,
 }
@@ -63,14 +44,15 @@ impl Tree {
     #[must_use]
     pub fn of_text(edition: Edition, entry: TopEntryPoint, text: impl Into<Box<str>>) -> Tree {
         let text = text.into();
-        let (elements, messages) = builder::build(edition, &entry, &text);
-        Tree { text, elements, messages }
+        let nodes = sys::nodes(&text, edition, &entry);
+        let messages = parser_first(&nodes, edition, &text);
+        Tree { text, elements: nodes.elements, messages }
     }
 
-    /// The tree of these steps.
+    /// The tree of this list.
     #[cfg(test)]
-    pub(crate) fn of_steps(text: &str, steps: Vec<ra_ap_parser::StrStep<'_>>) -> Tree {
-        Tree { text: text.into(), elements: builder::of_steps(steps), messages: Vec::new() }
+    pub(crate) fn of_elements(text: &str, elements: Vec<Element>) -> Tree {
+        Tree { text: text.into(), elements, messages: Vec::new() }
     }
 
     /// The text that the tree is over.
@@ -121,6 +103,13 @@ impl Tree {
     }
 }
 
+/// Its thread keeps the room of a long list for the next tree.
+impl Drop for Tree {
+    fn drop(&mut self) {
+        sys::keep_elements(std::mem::take(&mut self.elements));
+    }
+}
+
 /// The text of the tree.
 impl fmt::Display for Tree {
     fn fmt(&self, f: &mut fmt::Formatter<'_>) -> fmt::Result {
@@ -132,73 +121,5 @@ impl fmt::Display for Tree {
 impl fmt::Debug for Tree {
     fn fmt(&self, f: &mut fmt::Formatter<'_>) -> fmt::Result {
         self.root().fmt(f)
-    }
-}
-
-/// A message about a text.
-///
-/// ```
-/// use rap_tree::{Edition, TopEntryPoint, Tree};
-///
-/// let tree = Tree::of_text(Edition::CURRENT, TopEntryPoint::Expr, "1 +");
-/// assert_eq!(tree.messages()[0].to_string(), "expected expression");
-/// ```
-#[derive(Clone, Debug, PartialEq, Eq)]
-pub struct Message {
-    text: String,
-    position: usize,
-    range: Range<usize>,
-}
-
-impl Message {
-    /// The message at a byte of a text, with the range of the token there.
-    pub(crate) fn new(text: String, position: usize, range: Range<usize>) -> Message {
-        Message { text, position, range }
-    }
-
-    /// What it says.
-    ///
-    /// ```
-    /// use rap_tree::{Edition, TopEntryPoint, Tree};
-    ///
-    /// let tree = Tree::of_text(Edition::CURRENT, TopEntryPoint::SourceFile, "struct S 5");
-    /// assert_eq!(tree.messages()[1].text(), "expected an item");
-    /// ```
-    #[must_use]
-    pub fn text(&self) -> &str {
-        &self.text
-    }
-
-    /// The byte of the text at which it stands.
-    ///
-    /// ```
-    /// use rap_tree::{Edition, TopEntryPoint, Tree};
-    ///
-    /// let tree = Tree::of_text(Edition::CURRENT, TopEntryPoint::SourceFile, "struct S 5");
-    /// assert_eq!([tree.messages()[0].position(), tree.messages()[1].position()], [8, 9]);
-    /// ```
-    #[must_use]
-    pub fn position(&self) -> usize {
-        self.position
-    }
-
-    /// The bytes of the token at its position. At the end of the text the range is empty.
-    ///
-    /// ```
-    /// use rap_tree::{Edition, TopEntryPoint, Tree};
-    ///
-    /// let tree = Tree::of_text(Edition::CURRENT, TopEntryPoint::SourceFile, "let x = é");
-    /// assert_eq!(tree.messages()[0].range(), 0..3);
-    /// ```
-    #[must_use]
-    pub fn range(&self) -> Range<usize> {
-        self.range.clone()
-    }
-}
-
-/// What it says.
-impl fmt::Display for Message {
-    fn fmt(&self, f: &mut fmt::Formatter<'_>) -> fmt::Result {
-        f.pad(&self.text)
     }
 }

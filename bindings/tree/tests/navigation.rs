@@ -178,10 +178,12 @@ fn check_covering(pair: &Pair<'_>, part: usize, random: &mut Random) {
 }
 
 /// The messages: the parser's, the lexer's after them, each with the range of the token that begins there or before.
+/// Of these `message.rs` takes none that begins with `expected ` for the lexer's.
 fn check_messages(pair: &Pair<'_>) {
     let tokens = pair.naive.tokens(0);
     let messages = pair.tree.messages().iter().map(|message| (message.position(), message.text().to_owned()));
     assert_eq!(messages.collect::<Vec<_>>(), pair.naive.messages);
+    assert!(pair.naive.of_lexer().iter().all(|(_, text)| !text.starts_with("expected ")));
     for message in pair.tree.messages() {
         let at = message.position();
         let token = tokens.iter().map(|part| &pair.naive.parts[*part].range).find(|range| range.contains(&at));

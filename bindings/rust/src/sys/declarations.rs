@@ -1,6 +1,8 @@
 //! What `include/rap.h` declares, as it is: structs, numbers and calls.
 #![allow(missing_docs)]
 
+use crate::SyntaxKind;
+
 /// A step, as `struct rap_step`.
 #[repr(C)]
 #[derive(Clone, Copy, Debug, Default, PartialEq, Eq)]
@@ -41,6 +43,57 @@ pub struct Answer {
     pub used: usize,
 }
 
+/// A node or a leaf in the list of a tree, as `struct rap_element`.
+///
+/// Its kind is always the number of one: the library writes no other, and [`Element::new`] takes none.
+#[repr(C)]
+#[derive(Clone, Copy, Debug, PartialEq, Eq)]
+pub struct Element {
+    kind: u32,
+    pub start: u32,
+    pub end: u32,
+    pub after: u32,
+    pub parent: u32,
+}
+
+const _: () = assert!(size_of::<Element>() == 20);
+
+impl Element {
+    #[must_use]
+    pub fn new(kind: SyntaxKind, start: u32, end: u32, after: u32, parent: u32) -> Element {
+        Element { kind: kind as u32, start, end, after, parent }
+    }
+
+    #[inline(always)]
+    #[must_use]
+    pub fn kind(&self) -> SyntaxKind {
+        // SAFETY: it is the number of a kind, from 0 to 329, and the enum has these numbers.
+        unsafe { std::mem::transmute::<u16, SyntaxKind>(self.kind as u16) }
+    }
+}
+
+/// A message about a text, as `struct rap_message`.
+#[repr(C)]
+#[derive(Clone, Copy, Debug, Default, PartialEq, Eq)]
+pub struct Message {
+    pub at: usize,
+    pub start: usize,
+    pub end: usize,
+    pub text_start: usize,
+    pub text_end: usize,
+}
+
+/// An answer with a tree in one list, as `struct rap_nodes_answer`.
+#[repr(C)]
+#[derive(Clone, Copy, Debug, Default, PartialEq, Eq)]
+pub struct NodesAnswer {
+    pub status: u32,
+    pub elements: usize,
+    pub messages: usize,
+    pub message_bytes: usize,
+    pub used: usize,
+}
+
 pub const ENTER: u32 = 0;
 pub const EXIT: u32 = 1;
 pub const TOKEN: u32 = 2;
@@ -63,6 +116,9 @@ pub const LONG: u32 = 8191;
 
 /// A number that is no kind's, as `RAP_NO_KIND`.
 pub const NO_KIND: u32 = 330;
+
+/// The parent of a list's root, as `RAP_NO_PARENT`.
+pub const NO_PARENT: u32 = u32::MAX;
 
 /// The version of the interface that is declared here, as `RAP_VERSION`.
 pub const VERSION: u32 = 1_001_000;
@@ -177,6 +233,19 @@ unsafe extern "C" {
         messages: *mut u8,
         message_room: usize,
     ) -> Answer;
+
+    pub fn rap_nodes(
+        text: *const u8,
+        text_length: usize,
+        edition: u32,
+        entry: u32,
+        elements: *mut Element,
+        element_room: usize,
+        messages: *mut Message,
+        message_room: usize,
+        message_bytes: *mut u8,
+        byte_room: usize,
+    ) -> NodesAnswer;
 
     pub fn rap_script(
         text: *const u8,

@@ -41,20 +41,8 @@ impl Woven {
 
     /// Hands the tree's steps to a function.
     #[inline(always)]
-    pub(crate) fn each(&self, take: impl FnMut(StrStep<'_>)) {
-        self.each_of(&self.words[..self.tree], take);
-    }
-
-    /// Hands the tree's steps to a function, and after them the lexer's messages.
-    #[inline(always)]
-    pub(super) fn each_with_messages(&self, take: impl FnMut(StrStep<'_>)) {
-        self.each_of(&self.words, take);
-    }
-
-    /// Hands steps to a function that stand in words, from the first one on.
-    #[inline(always)]
-    fn each_of(&self, words: &[u32], mut take: impl FnMut(StrStep<'_>)) {
-        let text = &*self.text;
+    pub(crate) fn each(&self, mut take: impl FnMut(StrStep<'_>)) {
+        let (text, words) = (&*self.text, &self.words[..self.tree]);
         let messages = std::str::from_utf8(&self.messages).expect("messages are UTF-8");
         let (mut at, mut start, mut said) = (0, 0, 0);
         while let Some(&word) = words.get(at) {

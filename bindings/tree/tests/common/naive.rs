@@ -18,15 +18,18 @@ pub struct Part {
 /// A tree: all its parts in the order in which they begin.
 pub struct Naive {
     pub parts: Vec<Part>,
-    /// The parser's messages, each with its position.
+    /// The parser's messages, and after them the lexer's, each with its position.
     pub messages: Vec<(usize, String)>,
+    /// How many of them are the parser's.
+    pub of_parser: usize,
 }
 
 impl Naive {
     pub fn of(sample: &Sample) -> Naive {
         let lexed = LexedStr::new(sample.edition, &sample.text);
         let output = sample.entry().parse(&lexed.to_input(sample.edition));
-        let (mut naive, mut open, mut at) = (Naive { parts: Vec::new(), messages: Vec::new() }, Vec::new(), 0);
+        let mut naive = Naive { parts: Vec::new(), messages: Vec::new(), of_parser: 0 };
+        let (mut open, mut at) = (Vec::new(), 0);
         lexed.intersperse_trivia(&output, &mut |step| match step {
             StrStep::Enter { kind } => {
                 let new = naive.push(kind, false, at..at, open.last().copied());
@@ -41,6 +44,7 @@ impl Naive {
             StrStep::Exit => naive.parts[open.pop().expect("a node is open")].range.end = at,
             StrStep::Error { msg, pos } => naive.messages.push((pos, msg.to_owned())),
         });
+        naive.of_parser = naive.messages.len();
         naive.messages.extend(lexed.errors().map(|(token, message)| (lexed.text_start(token), message.to_owned())));
         naive
     }
@@ -52,6 +56,11 @@ impl Naive {
             self.parts[parent].children.push(new);
         }
         new
+    }
+
+    /// The lexer's messages.
+    pub fn of_lexer(&self) -> &[(usize, String)] {
+        &self.messages[self.of_parser..]
     }
 
     /// The part and all that is inside it, in the order in which they begin.
