@@ -8,6 +8,7 @@ it crates/rast/out/rast. With Debian's own Python and packages; what is missing 
 2, and 0 with the first word."""
 import importlib.util
 import os
+import signal
 import subprocess
 import sys
 import tempfile
@@ -58,6 +59,8 @@ def main() -> int:
     with tempfile.TemporaryDirectory() as folder:
         named = {'RAP_LIBRARY': shared_library(folder), 'RAST': rast, 'PYTHONPATH': PACKAGE,
                  'PYTHONDONTWRITEBYTECODE': '1'}
+        # A shell has what it runs in the background ignore the interrupts that some tests send.
+        signal.signal(signal.SIGINT, signal.default_int_handler)
         line = [sys.executable, '-m', 'pytest', *words]
         return subprocess.run(line, cwd=PACKAGE, env={**os.environ, **named}, check=False).returncode
 
