@@ -4,12 +4,12 @@ use Rattle.std.specs.Prelude.{nat_eq}
 use Rattle.std.specs.List.{slice_get}
 use Rattle.std.proofs.lemmas.Bool.{cases_lt, cond-true, cond-false, eq-eqb, ne_eqb}
 use Rattle.rap_ranged.specs.RangedForest.{RangedNode}
-use Rattle.flat_tree.specs.FlatTree.{elements_of_tree}
-use Rattle.flat_tree.specs.Navigation.{AreAncestors, HasNoParent}
-use Rattle.flat_tree.specs.Order.{ParentsComeFirst, climbing, parent_of}
-use Rattle.flat_tree.specs.declared.element.Element.{Element}
-use Rattle.flat_tree.proofs.Kin.{counted, parent_is, some_or_none}
-use Rattle.flat_tree.proofs.Nested.{parents_first}
+use Rattle.flat_elements.specs.Elements.{elements_of_tree}
+use Rattle.flat_elements.specs.Navigation.{AreAncestors, HasNoParent}
+use Rattle.flat_elements.specs.Order.{ParentsComeFirst, climbing, parent_of}
+use Rattle.flat_elements.specs.declared.element.Element.{Element}
+use Rattle.flat_elements.proofs.Kin.{counted, parent_is, some_or_none}
+use Rattle.flat_elements.proofs.Nested.{parents_first}
 
 pub climbing_none : (es : List Element) (n : ℕ) → climbing es n 0 ≡ []
 climbing_none es zero = refl

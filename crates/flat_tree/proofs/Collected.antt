@@ -16,15 +16,15 @@ use Rattle.rap_ranged.specs.Ranged.{Ranged}
 use Rattle.rap_ranged.specs.RangedForest.{RangedNode}
 use Rattle.rap_ranged.specs.RangedMessages.{RangedMessage, ranged_message}
 use Rattle.rap_ranged.specs.Reports.{ReportValue, reports_of_step, reports_of, lexer_reports}
-use Rattle.flat_tree.specs.Building.{Builds, building}
-use Rattle.flat_tree.specs.Built.{IsOver}
-use Rattle.flat_tree.specs.Collects.{Collects}
-use Rattle.flat_tree.specs.FlatTree.{elements_of_tree, no_parent}
-use Rattle.flat_tree.specs.TextTree.{IsFlatText}
-use Rattle.flat_tree.specs.declared.collector.Collector.{Collector}
-use Rattle.flat_tree.specs.declared.element.Element.{Element}
-use Rattle.flat_tree.proofs.Runs.{held}
-use Rattle.flat_tree.proofs.Trees.{IsOrdered, flat_of, ordered, over_of}
+use Rattle.flat_elements.specs.Building.{Builds, building}
+use Rattle.flat_elements.specs.Built.{IsOver}
+use Rattle.flat_elements.specs.Collects.{Collects}
+use Rattle.flat_elements.specs.Elements.{elements_of_tree, no_parent}
+use Rattle.flat_tree.specs.TextTree.{IsFlatText, TextsAreCovered}
+use Rattle.flat_elements.specs.declared.collector.Collector.{Collector}
+use Rattle.flat_elements.specs.declared.element.Element.{Element}
+use Rattle.flat_elements.proofs.Runs.{held}
+use Rattle.flat_elements.proofs.Trees.{IsOrdered, flat_of, ordered, over_of}
 
 builds_along : (steps : List StrStepValue) (s t : Collector) → Takes Collects s steps t → Takes Builds s.builder steps t.builder
 builds_along [] s t h = ap (λ (c : Collector). c.builder) h
@@ -83,3 +83,13 @@ pub text_order : (text : List ℕ) (edition : Edition) (entry : TopEntryPoint) (
 text_order text edition entry lexed all s t es e h is =
     let f = with_trivia lexed.tokens h.forest in
     ordered f es (flat_of f s.builder t.builder es h.parsed.str_one e (builds_along (str_flat f) s t h.taken) is)
+
+pub text_covered : TextsAreCovered
+text_covered text edition entry es messages h = record {
+  root = h.root;
+  ranged = h.ranged;
+  elements = h.elements;
+  start = h.start;
+  end = h.end;
+  places = h.places;
+}

@@ -15,17 +15,17 @@ use Rattle.rap_ranged.specs.Elements.{RangedElement, node_element, elements_of}
 use Rattle.rap_ranged.specs.InRow.{InRow}
 use Rattle.rap_ranged.specs.Ranged.{Ranged}
 use Rattle.rap_ranged.specs.RangedForest.{RangedNode, alone}
-use Rattle.flat_tree.specs.ByteLeaf.{EndsBegun}
+use Rattle.flat_elements.specs.ByteLeaf.{EndsBegun}
 use Rattle.flat_tree.specs.CoveringIndex.{IsSmallest}
-use Rattle.flat_tree.specs.FlatTree.{elements_of_tree}
-use Rattle.flat_tree.specs.Navigation.{element_at}
-use Rattle.flat_tree.specs.declared.element.Element.{Element}
-use Rattle.flat_tree.proofs.ByteLeaves.{ends, starts, there, whole_row}
-use Rattle.flat_tree.proofs.Bytes.{within}
-use Rattle.flat_tree.proofs.Kin.{counted, found, reaches, some_or_none}
-use Rattle.flat_tree.proofs.Nested.{apart}
-use Rattle.flat_tree.proofs.Pairs.{in_order}
-use Rattle.flat_tree.proofs.Rows.{count-elements_of}
+use Rattle.flat_elements.specs.Elements.{elements_of_tree}
+use Rattle.flat_elements.specs.Navigation.{element_at}
+use Rattle.flat_elements.specs.declared.element.Element.{Element}
+use Rattle.flat_elements.proofs.ByteLeaves.{ends, starts, there, whole_row}
+use Rattle.flat_elements.proofs.Bytes.{within}
+use Rattle.flat_elements.proofs.Kin.{counted, found, reaches, some_or_none}
+use Rattle.flat_elements.proofs.Nested.{apart}
+use Rattle.flat_elements.proofs.Pairs.{in_order}
+use Rattle.flat_elements.proofs.Rows.{count-elements_of}
 
 -- two places and a range
 begins_after : (a b s e : ℕ) → s < a → (nat_le a s && nat_le e b) ≡ false

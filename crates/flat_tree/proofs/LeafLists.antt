@@ -5,9 +5,9 @@ use Rattle.std.proofs.lemmas.List.{map-append}
 use Rattle.std.proofs.lemmas.List.Elements.{filter-append}
 use Rattle.rap_ranged.specs.Leaves.{RangedLeaf, leaves_of}
 use Rattle.rap_ranged.specs.RangedForest.{RangedForest, ranged_none, ranged_node, ranged_leaf, forest_size}
-use Rattle.flat_tree.specs.FlatTree.{elements}
-use Rattle.flat_tree.specs.LeavesOf.{is_leaf, leaf_shown}
-use Rattle.flat_tree.specs.declared.element.Element.{Element}
+use Rattle.flat_elements.specs.Elements.{elements}
+use Rattle.flat_elements.specs.LeavesOf.{is_leaf, leaf_shown}
+use Rattle.flat_elements.specs.declared.element.Element.{Element}
 
 -- the leaves of two lists
 both : (xs ys : List Element) → map leaf_shown (filter is_leaf (xs ++ ys)) ≡ map leaf_shown (filter is_leaf xs) ++ map leaf_shown (filter is_leaf ys)

@@ -4,12 +4,12 @@ use Rattle.std.specs.Prelude.{nat_lt}
 use Rattle.std.specs.List.{slice_get}
 use Rattle.std.proofs.lemmas.Bool.{cases_lt, cond-true, cond-false, lt-ltb, le-ltb}
 use Rattle.rap_ranged.specs.RangedForest.{RangedForest, RangedNode, forest_size}
-use Rattle.flat_tree.specs.FlatTree.{elements_of_tree}
-use Rattle.flat_tree.specs.Navigation.{child_indices, inside, tops}
-use Rattle.flat_tree.specs.Order.{PassesForward, after_of, passing}
-use Rattle.flat_tree.specs.declared.element.Element.{Element}
-use Rattle.flat_tree.proofs.Kin.{found, missing, reaches, some_or_none}
-use Rattle.flat_tree.proofs.Links.{Links, links, links_rise}
+use Rattle.flat_elements.specs.Elements.{elements_of_tree}
+use Rattle.flat_elements.specs.Navigation.{child_indices, inside, tops}
+use Rattle.flat_elements.specs.Order.{PassesForward, after_of, passing}
+use Rattle.flat_elements.specs.declared.element.Element.{Element}
+use Rattle.flat_elements.proofs.Kin.{found, missing, reaches, some_or_none}
+use Rattle.flat_elements.proofs.Links.{Links, links, links_rise}
 
 -- there are none where nothing is left
 pub passing_none : (es : List Element) (n at end : ℕ) → end ≤ at → passing es n at end ≡ []

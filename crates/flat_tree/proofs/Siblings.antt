@@ -4,13 +4,13 @@ use Rattle.std.specs.List.{slice_get}
 use Rattle.std.proofs.lemmas.Bool.{cases_lt}
 use Rattle.std.proofs.lemmas.Option.{slice_get_within}
 use Rattle.rap_ranged.specs.RangedForest.{RangedNode}
-use Rattle.flat_tree.specs.FlatTree.{elements_of_tree}
-use Rattle.flat_tree.specs.Navigation.{child_indices, AreNeighbors, IsChild, IsFirstChild}
-use Rattle.flat_tree.specs.declared.element.Element.{Element}
-use Rattle.flat_tree.proofs.Cuts.{rising}
-use Rattle.flat_tree.proofs.Kin.{first_is, from_child, next_is, parent_is, same_element, some_or_none}
-use Rattle.flat_tree.proofs.Links.{links_rise}
-use Rattle.flat_tree.proofs.Nested.{apart, parents_first, under}
+use Rattle.flat_elements.specs.Elements.{elements_of_tree}
+use Rattle.flat_elements.specs.Navigation.{child_indices, AreNeighbors, IsChild, IsFirstChild}
+use Rattle.flat_elements.specs.declared.element.Element.{Element}
+use Rattle.flat_elements.proofs.Cuts.{rising}
+use Rattle.flat_elements.proofs.Kin.{first_is, from_child, next_is, parent_is, same_element, some_or_none}
+use Rattle.flat_elements.proofs.Links.{links_rise}
+use Rattle.flat_elements.proofs.Nested.{apart, parents_first, under}
 
 -- Where a climb from the element before one has come: to the parent, from the element itself, or to something in the
 -- parent with which the other ends that is inside it.

@@ -14,8 +14,9 @@ use Rattle.rap_ranged.specs.Ranged.{Ranged}
 use Rattle.rap_ranged.specs.RangedForest.{RangedNode}
 use Rattle.rap_ranged.specs.RangedMessages.{RangedMessage, ranged_message}
 use Rattle.rap_ranged.specs.Reports.{lexer_reports, reports_of}
-use Rattle.flat_tree.specs.FlatTree.{elements_of_tree}
-use Rattle.flat_tree.specs.declared.element.Element.{Element}
+use Rattle.flat_elements.specs.Built.{IsOver}
+use Rattle.flat_elements.specs.Elements.{elements_of_tree}
+use Rattle.flat_elements.specs.declared.element.Element.{Element}
 
 -- The elements are those of the one tree of the text's tokens, with the place of each node and leaf. It covers the whole
 -- text, and each range is on character boundaries. The messages are those of the tree merged with those of the lexer,
@@ -35,3 +36,9 @@ pub record IsFlatText (text : List ℕ) (edition : Edition) (entry : TopEntryPoi
       ≡ merged (map (ranged_message root.children) (reports_of (str_flat (with_trivia lexed.tokens forest))))
       (map (ranged_message root.children) (lexer_reports lexed.tokens lexed.errors))
   pub in_order : IsNonDecreasingBy (λ (m : RangedMessage). m.at) messages
+
+-- the tree of a text is over all of it
+abbrev pub TextsAreCovered : Type 0
+TextsAreCovered =
+    (text : List ℕ) (edition : Edition) (entry : TopEntryPoint) (es : List Element) (messages : List RangedMessage)
+    → (h : IsFlatText text edition entry es messages) → IsOver text text (with_trivia h.lexed.tokens h.forest) es

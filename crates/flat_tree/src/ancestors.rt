@@ -1,11 +1,11 @@
 //! The nodes that a node or leaf is in.
 ghost use Rattle.std.specs.Prelude.{◌≡◌};
 ghost use Rattle.rap_ranged.specs.RangedForest.{RangedNode};
-ghost use Rattle.flat_tree.specs.FlatTree.{elements_of_tree};
-ghost use Rattle.flat_tree.specs.Navigation.{AreAncestors};
+ghost use Rattle.flat_elements.specs.Elements.{elements_of_tree};
+ghost use Rattle.flat_elements.specs.Navigation.{AreAncestors};
 
-use crate::element::Element;
 use crate::tree::FlatTree;
+use flat_elements::Element;
 use std::marker::Model;
 
 impl FlatTree<'_> {
@@ -32,7 +32,7 @@ pub struct Ancestors<'a> {
 
 impl<'a> Model for Ancestors<'a> {
     ghost use Rattle.std.specs.Prelude.{ℕ, ◌<◌, List, length};
-    ghost use Rattle.flat_tree.specs.Order.{ParentsComeFirst, climbing};
+    ghost use Rattle.flat_elements.specs.Order.{ParentsComeFirst, climbing};
 
     ghost Value = { List ℕ };
 

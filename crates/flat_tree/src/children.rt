@@ -1,11 +1,11 @@
 //! What stands right in a node.
 ghost use Rattle.std.specs.Prelude.{◌≡◌};
 ghost use Rattle.rap_ranged.specs.RangedForest.{RangedNode};
-ghost use Rattle.flat_tree.specs.FlatTree.{elements_of_tree};
-ghost use Rattle.flat_tree.specs.Navigation.{child_indices};
+ghost use Rattle.flat_elements.specs.Elements.{elements_of_tree};
+ghost use Rattle.flat_elements.specs.Navigation.{child_indices};
 
-use crate::element::Element;
 use crate::tree::FlatTree;
+use flat_elements::Element;
 use std::marker::Model;
 
 impl FlatTree<'_> {
@@ -43,7 +43,7 @@ pub struct Children<'a> {
 
 impl<'a> Model for Children<'a> {
     ghost use Rattle.std.specs.Prelude.{ℕ, ◌-◌, ◌≤◌, List, length};
-    ghost use Rattle.flat_tree.specs.Order.{PassesForward, passing};
+    ghost use Rattle.flat_elements.specs.Order.{PassesForward, passing};
 
     ghost Value = { List ℕ };
 

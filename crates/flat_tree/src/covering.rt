@@ -4,12 +4,13 @@ ghost use Rattle.rap_lexed.specs.StrForest.{StrForest};
 ghost use Rattle.rap_ranged.specs.Covering.{smallest_holding};
 ghost use Rattle.rap_ranged.specs.Ranged.{Ranged};
 ghost use Rattle.rap_ranged.specs.RangedForest.{RangedNode, alone};
-ghost use Rattle.flat_tree.specs.ByteLeaf.{EndsBegun};
+ghost use Rattle.flat_elements.specs.ByteLeaf.{EndsBegun};
 ghost use Rattle.flat_tree.specs.CoveringIndex.{IsSmallest};
-ghost use Rattle.flat_tree.specs.FlatTree.{elements_of_tree};
+ghost use Rattle.flat_elements.specs.Elements.{elements_of_tree};
 
-use crate::leaf_at::{begun_at, end_at, parent_at};
+use crate::leaf_at::{end_at, parent_at};
 use crate::tree::FlatTree;
+use flat_elements::begun_at;
 use std::ops::Range;
 
 impl FlatTree<'_> {

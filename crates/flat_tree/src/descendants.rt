@@ -1,11 +1,11 @@
 //! What is inside a node.
 ghost use Rattle.std.specs.Prelude.{◌≡◌, ◌+◌, ◌≤◌, length, slice_range};
 ghost use Rattle.rap_ranged.specs.RangedForest.{RangedNode};
-ghost use Rattle.flat_tree.specs.FlatTree.{elements, elements_of_tree};
-ghost use Rattle.flat_tree.specs.Navigation.{element_at, inside};
+ghost use Rattle.flat_elements.specs.Elements.{elements, elements_of_tree};
+ghost use Rattle.flat_elements.specs.Navigation.{element_at, inside};
 
-use crate::element::Element;
 use crate::tree::FlatTree;
+use flat_elements::Element;
 
 /// The part of a list from one place to another; nothing if it has no such part.
 fn part_of(elements: &[Element], first: usize, after: usize) -> &[Element]

@@ -2,8 +2,8 @@
 ghost use Rattle.std.specs.Prelude.{◌≡◌, ◌⊎◌, Some, MatchOption};
 ghost use Rattle.std.specs.List.{slice_get};
 ghost use Rattle.rap_ranged.specs.RangedForest.{RangedNode};
-ghost use Rattle.flat_tree.specs.FlatTree.{elements_of_tree};
-ghost use Rattle.flat_tree.specs.Navigation.{child_indices, AreNeighbors, HasNoParent, IsChild, IsFirstChild, IsLastChild};
+ghost use Rattle.flat_elements.specs.Elements.{elements_of_tree};
+ghost use Rattle.flat_elements.specs.Navigation.{child_indices, AreNeighbors, HasNoParent, IsChild, IsFirstChild, IsLastChild};
 
 use crate::leaf_at::parent_at;
 use crate::tree::FlatTree;

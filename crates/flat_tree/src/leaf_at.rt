@@ -1,23 +1,15 @@
 //! The leaf that holds a byte.
-ghost use Rattle.std.specs.Prelude.{◌≡◌, ◌<◌, Some, length, option_copied};
+ghost use Rattle.std.specs.Prelude.{◌≡◌, ◌<◌, Some, length};
 ghost use Rattle.std.specs.List.{slice_get};
 ghost use Rattle.rap_lexed.specs.StrForest.{StrForest};
 ghost use Rattle.rap_ranged.specs.Ranged.{Ranged};
 ghost use Rattle.rap_ranged.specs.RangedForest.{RangedNode};
-ghost use Rattle.flat_tree.specs.ByteLeaf.{EndsBegun, IsLeafAt};
-ghost use Rattle.flat_tree.specs.FlatTree.{elements_of_tree};
-ghost use Rattle.flat_tree.specs.declared.element.Element.{Element};
+ghost use Rattle.flat_elements.specs.ByteLeaf.{IsLeafAt};
+ghost use Rattle.flat_elements.specs.Elements.{elements_of_tree};
+ghost use Rattle.flat_elements.specs.declared.element.Element.{Element};
 
-use crate::element::Element;
 use crate::tree::FlatTree;
-
-/// The element with this index, if one has it.
-#[inline(always)]
-pub(crate) fn element_of(elements: &[Element], index: u32) -> Option<&Element>
-    ensures { option_copied result ≡ slice_get elements.now index }
-{
-    elements.get(index as usize)
-}
+use flat_elements::{Element, leaf_of};
 
 /// Where the element with this index ends.
 #[inline(always)]
@@ -35,43 +27,6 @@ pub(crate) fn parent_at(elements: &[Element], index: u32) -> u32
     ensures { (e : Element) → slice_get elements.now index ≡ Some e → result ≡ e.parent }
 {
     elements[index as usize].parent()
-}
-
-/// How many elements begin at a byte or before, if they are in the order of their beginnings: by bisection.
-pub(crate) fn begun_at(elements: &[Element], offset: usize) -> usize
-    ensures { EndsBegun elements.now offset result }
-{
-    let mut low = 0;
-    let mut high = elements.len();
-    'halves: while low < high {
-        let middle = low + (high - low) / 2;
-        if elements[middle].start() as usize <= offset {
-            low = middle + 1;
-        } else {
-            high = middle;
-        }
-    }
-    low
-}
-
-/// The index of the last element that begins at a byte or before, if it ends after it.
-pub(crate) fn leaf_of(elements: &[Element], offset: usize) -> Option<u32>
-    ensures { (f : StrForest) (root : RangedNode) → Ranged f root → elements.now ≡ elements_of_tree root → IsLeafAt root offset result }
-{
-    let whole = elements.first()?.after() as usize;
-    let count = begun_at(elements, offset);
-    if count == 0 {
-        return None;
-    }
-    let index = count - 1;
-    if index >= whole {
-        return None;
-    }
-    if offset < elements[index].end() as usize {
-        Some(index as u32)
-    } else {
-        None
-    }
 }
 
 impl FlatTree<'_> {

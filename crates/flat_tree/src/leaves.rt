@@ -2,12 +2,12 @@
 ghost use Rattle.std.specs.Prelude.{◌≡◌, ◌+◌, filter, map};
 ghost use Rattle.rap_ranged.specs.Leaves.{leaves_of};
 ghost use Rattle.rap_ranged.specs.RangedForest.{RangedNode};
-ghost use Rattle.flat_tree.specs.FlatTree.{elements, elements_of_tree};
-ghost use Rattle.flat_tree.specs.LeavesOf.{is_leaf, leaf_shown};
-ghost use Rattle.flat_tree.specs.Navigation.{element_at, inside};
+ghost use Rattle.flat_elements.specs.Elements.{elements, elements_of_tree};
+ghost use Rattle.flat_elements.specs.LeavesOf.{is_leaf, leaf_shown};
+ghost use Rattle.flat_elements.specs.Navigation.{element_at, inside};
 
-use crate::element::Element;
 use crate::tree::FlatTree;
+use flat_elements::Element;
 use std::marker::Model;
 
 impl FlatTree<'_> {
@@ -33,8 +33,8 @@ pub struct Leaves<'a> {
 
 impl<'a> Model for Leaves<'a> {
     ghost use Rattle.std.specs.Prelude.{List, filter};
-    ghost use Rattle.flat_tree.specs.LeavesOf.{is_leaf};
-    ghost use Rattle.flat_tree.specs.declared.element.Element.{Element};
+    ghost use Rattle.flat_elements.specs.LeavesOf.{is_leaf};
+    ghost use Rattle.flat_elements.specs.declared.element.Element.{Element};
 
     ghost Value = { List Element };
 

@@ -12,24 +12,17 @@
 #![tactic(auto)]
 
 mod ancestors;
-mod builder;
 mod children;
-mod collector;
 mod covering;
 mod descendants;
-mod element;
 mod family;
 pub mod laws;
 mod leaf_at;
 mod leaves;
-mod merge;
-mod message;
-mod report;
 mod tree;
 
 pub use ancestors::Ancestors;
 pub use children::Children;
-pub use element::{Element, NO_PARENT};
+pub use flat_elements::{Element, Message, NO_PARENT};
 pub use leaves::Leaves;
-pub use message::Message;
 pub use tree::FlatTree;

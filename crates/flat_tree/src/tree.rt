@@ -10,14 +10,10 @@ ghost use Rattle.rap_lexed.specs.Input.{records};
 ghost use Rattle.rap_lexed.specs.LexedStr.{joined};
 ghost use Rattle.rap_lexed.specs.Trivia.{front_of, significant, with_trivia};
 ghost use Rattle.rap_ranged.specs.Places.{IsPlace};
-ghost use Rattle.flat_tree.specs.Built.{IsFlat, IsOver};
-ghost use Rattle.flat_tree.specs.Order.{ParentsComeFirst, PassesForward, PassesWithin};
+ghost use Rattle.flat_elements.specs.Built.{IsFlat, IsOver};
+ghost use Rattle.flat_elements.specs.Order.{ParentsComeFirst, PassesForward, PassesWithin};
 
-use crate::builder::Builder;
-use crate::collector::Collector;
-use crate::element::Element;
-use crate::message::Message;
-use crate::report::all_messages;
+use flat_elements::{Builder, Collector, Element, Message, all_messages};
 use ra_ap_parser::{Edition, MAX_TEXT, TextFault, TopEntryPoint, parse_text};
 use rap_base::no_memory::NoMemory;
 use rap_events::output::Output;

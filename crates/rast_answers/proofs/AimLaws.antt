@@ -3,7 +3,7 @@ use Rattle.std.proofs.Common.{◌≡◌, ℕ, ◌+◌, ◌<◌, ◌≤◌, Bool,
 use Rattle.std.specs.Prelude.{◌&&◌, ◌||◌, not, if◌then◌else◌, nat_le, nat_lt}
 use Rattle.std.proofs.lemmas.Bool.{eq-eqb, le-leb, lt-ltb}
 use Rattle.std.proofs.lemmas.Slice.Eq.{bytes_eq-Decides}
-use Rattle.flat_tree.specs.declared.element.Element.{Element}
+use Rattle.flat_elements.specs.declared.element.Element.{Element}
 use Rattle.rast_answers.specs.declared.about.Reach.{Reach}
 use Rattle.rast_answers.specs.declared.jumps.Aim.{Aim}
 use Rattle.rast_answers.specs.declared.jumps.Aim.TheVariants.{Body, Loop, Labelled, LabelledLoop}

@@ -5,7 +5,7 @@ use Rattle.std.specs.List.{All, dedup_from, slice_get}
 use Rattle.std.proofs.lemmas.Bool.{cond-true, cond-false}
 use Rattle.std.proofs.lemmas.Str.{IsCharBoundary-start}
 use Rattle.std.proofs.lemmas.List.Elements.{All-cons, All-map}
-use Rattle.flat_tree.specs.declared.element.Element.{Element}
+use Rattle.flat_elements.specs.declared.element.Element.{Element}
 use Rattle.rast_answers.specs.declared.extent.Extent.{Extent}
 use Rattle.rast_answers.specs.declared.folds.Fold.{Fold}
 use Rattle.rast_answers.specs.declared.folds.FoldKind.{FoldKind}
@@ -20,7 +20,7 @@ use Rattle.rast_answers.specs.Folds.{fold_at, fold_from, fold_of, fold_of_row, i
 use Rattle.rast_answers.specs.Gaps.{line_of}
 use Rattle.rast_answers.specs.Imports.{last_of_imports}
 use Rattle.rast_answers.specs.Kinds.{after_at, children, kind_at, around}
-use Rattle.flat_tree.specs.Order.{climbing}
+use Rattle.flat_elements.specs.Order.{climbing}
 use Rattle.rast_answers.specs.SymbolTable.{symbol_kind}
 use Rattle.rast_answers.specs.Symbols.{extent_found, header_in, is_in_header, is_name_at, name_of, span_more, span_to, symbol_at, symbol_named, symbol_of, symbols_of, up_to}
 use Rattle.rast_answers.proofs.Picked.{picked_all}

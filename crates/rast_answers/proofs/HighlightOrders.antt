@@ -2,11 +2,10 @@
 use Rattle.std.proofs.Common.{◌≡◌, ℕ, ◌<◌, ◌≤◌, true, List, Option, Some, None, refl, sym, subst, length, arith}
 use Rattle.std.specs.List.{AllPairs, slice_get}
 use Rattle.rap_lexed.specs.StrForest.{StrForest}
-use Rattle.rap_lexed.specs.Trivia.{with_trivia}
 use Rattle.rap_ranged.specs.Ranged.{Ranged}
 use Rattle.rap_ranged.specs.RangedForest.{RangedNode}
-use Rattle.flat_tree.specs.FlatTree.{elements_of_tree}
-use Rattle.flat_tree.specs.declared.element.Element.{Element}
+use Rattle.flat_elements.specs.Elements.{elements_of_tree}
+use Rattle.flat_elements.specs.declared.element.Element.{Element}
 use Rattle.rast_answers.specs.declared.extent.Extent.{Extent}
 use Rattle.rast_answers.specs.declared.highlights.Subject.{Subject}
 use Rattle.rast_answers.specs.Borders.{IsOnBorders}
@@ -52,5 +51,5 @@ ordered f root s es i (Some x) ranged is e = picked_pairs IsBefore (highlight_at
     leaves_before f root es k l y z ranged is low (belongs_to s es i k x e a.also).leaf (belongs_to s es i l x e b.also).leaf a.range b.range)
 
 pub highlights_in_order : HighlightsAreInOrder
-highlights_in_order s edition entry es messages h i =
-    ordered (with_trivia h.lexed.tokens h.forest) h.root s es i (subject_at s es i) h.ranged h.elements refl
+highlights_in_order s front f es h i =
+    ordered f h.root s es i (subject_at s es i) h.ranged h.elements refl

@@ -6,7 +6,7 @@ use Rattle.std.proofs.lemmas.Bool.{cond-true, cond-false}
 use Rattle.std.proofs.lemmas.List.Sums.{prefix_len-drop_all, prefix_len-drop_no, prefix_len-drop_yes}
 use Rattle.std.proofs.lemmas.Option.{slice_get_read, slice_get_within, get_or_from_slice_get}
 use Rattle.rast_answers.specs.Gaps.{is_leaf, is_some_leaf, leaf_before, leaf_from}
-use Rattle.flat_tree.specs.declared.element.Element.{Element}
+use Rattle.flat_elements.specs.declared.element.Element.{Element}
 
 -- what was read is the element there
 pub read_at : (es : List Element) (i : ℕ) (x : Element) → i < length es → x ≡ get_or es i x → slice_get es i ≡ Some x

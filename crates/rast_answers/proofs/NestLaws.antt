@@ -1,4 +1,4 @@
--- Symbols, folds and selections of the tree of a text.
+-- Symbols, folds and selections of a tree over a text.
 use Rattle.std.proofs.Common.{◌≡◌, ℕ, zero, suc, ◌+◌, ◌<◌, ◌≤◌, ◌≢◌, Bool, true, false, List, [], ◌∷◌, Some, refl, ap, sym, subst, ◌∙◌, length, get_or, arith, inl, inr}
 use Rattle.std.specs.Prelude.{if◌then◌else◌, map}
 use Rattle.std.specs.List.{All, AllPairs, dedup_from, slice_get}
@@ -6,19 +6,18 @@ use Rattle.std.proofs.lemmas.List.Elements.{All-cons}
 use Rattle.std.proofs.lemmas.List.Kept.{AllPairs-cons}
 use Rattle.std.proofs.lemmas.Option.{get_or_from_slice_get, slice_get_within}
 use Rattle.rap_lexed.specs.StrForest.{StrForest}
-use Rattle.rap_lexed.specs.Trivia.{with_trivia}
 use Rattle.rap_ranged.specs.Elements.{RangedElement, leaf_element, node_element}
 use Rattle.rap_ranged.specs.Places.{IsPlace}
 use Rattle.rap_ranged.specs.Ranged.{Ranged}
 use Rattle.rap_ranged.specs.RangedForest.{RangedNode}
-use Rattle.flat_tree.specs.FlatTree.{elements_of_tree}
-use Rattle.flat_tree.specs.Order.{after_of, climbing, parent_of}
-use Rattle.flat_tree.specs.declared.element.Element.{Element}
-use Rattle.flat_tree.proofs.Kin.{found, from_child, parent_is, some_or_none}
-use Rattle.flat_tree.proofs.Links.{links_rise}
-use Rattle.flat_tree.proofs.ListLaws.{nest}
-use Rattle.flat_tree.proofs.Nested.{parents_first, passes_forward}
-use Rattle.flat_tree.proofs.Rows.{row}
+use Rattle.flat_elements.specs.Elements.{elements_of_tree}
+use Rattle.flat_elements.specs.Order.{after_of, climbing, parent_of}
+use Rattle.flat_elements.specs.declared.element.Element.{Element}
+use Rattle.flat_elements.proofs.Kin.{found, from_child, parent_is, some_or_none}
+use Rattle.flat_elements.proofs.Links.{links_rise}
+use Rattle.flat_elements.proofs.ListLaws.{nest}
+use Rattle.flat_elements.proofs.Nested.{parents_first, passes_forward}
+use Rattle.flat_elements.proofs.Rows.{row}
 use Rattle.rast_answers.specs.declared.extent.Extent.{Extent}
 use Rattle.rast_answers.specs.declared.folds.Fold.{Fold}
 use Rattle.rast_answers.specs.declared.symbols.Symbol.{Symbol}
@@ -72,8 +71,8 @@ symbols_relate f root es i j x y ranged is low high hx hy =
     ]
 
 pub symbols_nest : SymbolsNest
-symbols_nest text edition entry es messages h =
-    picked_pairs NestOrFollow (symbol_at es) (length es) (λ k l x y low high hx hy. symbols_relate (with_trivia h.lexed.tokens h.forest) h.root es k l x y h.ranged h.elements low high hx hy)
+symbols_nest text front f es h =
+    picked_pairs NestOrFollow (symbol_at es) (length es) (λ k l x y low high hx hy. symbols_relate f h.root es k l x y h.ranged h.elements low high hx hy)
 
 -- an element that is later in the list does not begin earlier
 begins_later : (f : StrForest) (root : RangedNode) (es : List Element) (i j : ℕ) (d e : Element) → Ranged f root → es ≡ elements_of_tree root → d.start ≤ d.end
@@ -90,11 +89,11 @@ place_rises text es i e places at =
     subst P same (places i e (slice_get_within es i e at)).rising
 
 pub folds_in_order : FoldsAreInOrder
-folds_in_order text edition entry es messages h =
+folds_in_order text front f es h =
     picked_pairs (λ (a b : Fold). a.start ≤ b.start) (fold_at text es) (length es) (λ k l x y low high hx hy.
     let a = is_folded_from text es k x hx in
     let b = is_folded_from text es l y hy in
-    let first = begins_later (with_trivia h.lexed.tokens h.forest) h.root es k l a.first b.first h.ranged h.elements (place_rises text es k a.first h.places a.at) low a.at b.at in
+    let first = begins_later f h.root es k l a.first b.first h.ranged h.elements (place_rises text es k a.first h.places a.at) low a.at b.at in
     omega (arith, first, a.start, b.start))
 
 -- a node holds what stands right in it
@@ -182,10 +181,10 @@ kept_pairs R E k (x ∷ xs) each pairs =
     (AllPairs-cons R k (dedup_from E x xs) (kept_all (R k) E x xs first rest) (kept_pairs R E x xs after_x later))
 
 pub selections_go_outwards : SelectionsGoOutwards
-selections_go_outwards text edition entry es messages h i low =
+selections_go_outwards text front f es h i low =
     let e = some_or_none es i low in
-    kept_pairs IsIn is_same_extent (extent_at es i) (map (extent_at es) (climbing es i i)) (up_holds (with_trivia h.lexed.tokens h.forest) h.root es i i e.0 h.ranged h.elements e.1)
-    (pairs_up (with_trivia h.lexed.tokens h.forest) h.root es i i e.0 h.ranged h.elements e.1)
+    kept_pairs IsIn is_same_extent (extent_at es i) (map (extent_at es) (climbing es i i)) (up_holds f h.root es i i e.0 h.ranged h.elements e.1)
+    (pairs_up f h.root es i i e.0 h.ranged h.elements e.1)
 
 -- past a leaf is the next index
 row_after_leaf : (i p : ℕ) (x : RangedElement) (e : Element) → e ≡ row i p x → e.leaf ≡ true → e.after ≡ i + 1
@@ -205,10 +204,10 @@ leaves_apart f root es i j d e ranged is low hd he leaf = elim (nest f root es i
 ]
 
 pub tokens_in_order : TokensAreInOrder
-tokens_in_order text edition entry es messages h e from to =
+tokens_in_order text front f es h e from to =
     tokens_follow e text from to es (record {
       rising = λ i x at. place_rises text es i x h.places at;
-      apart = λ i j d x low hd hx leaf is_leaf. leaves_apart (with_trivia h.lexed.tokens h.forest) h.root es i j d x h.ranged h.elements low hd hx leaf;
+      apart = λ i j d x low hd hx leaf is_leaf. leaves_apart f h.root es i j d x h.ranged h.elements low hd hx leaf;
     })
 
 place_is : (text : List ℕ) (es : List Element) (i : ℕ) (e : Element) → All (λ (x : Element). IsPlace text x.start x.end) es → slice_get es i ≡ Some e
@@ -219,7 +218,7 @@ place_is text es i e places at =
     subst P same (places i e (slice_get_within es i e at))
 
 pub elements_on_borders : ElementsAreOnBorders
-elements_on_borders text edition entry es messages h utf8 = record {
+elements_on_borders text front f es h utf8 = record {
   utf8 = utf8;
   each = λ i e at. record { begins = (place_is text es i e h.places at).begins; ends = (place_is text es i e h.places at).ends };
 }

@@ -6,7 +6,7 @@ use Rattle.std.specs.Option.{option_or}
 use Rattle.std.proofs.lemmas.Bool.{cond-true, lt-ltb, ltb-true}
 use Rattle.std.proofs.lemmas.List.Folds.{find-append}
 use Rattle.rap_base.specs.TokenKind.{L_ANGLE, L_BRACK, L_CURLY, L_PAREN, R_ANGLE, R_BRACK, R_CURLY, R_PAREN}
-use Rattle.flat_tree.specs.declared.element.Element.{Element}
+use Rattle.flat_elements.specs.declared.element.Element.{Element}
 use Rattle.rast_answers.specs.declared.brackets.BracketKinds.{BracketKinds}
 use Rattle.rast_answers.specs.declared.brackets.Pair.{Pair}
 use Rattle.rast_answers.specs.Brackets.{bracket_kinds, first_in, is_generic_list, is_leaf_in, last_in, pair_at, pair_of_kinds, paired}

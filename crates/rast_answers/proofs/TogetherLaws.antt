@@ -6,7 +6,7 @@ use Rattle.std.specs.Option.{option_to_list}
 use Rattle.std.proofs.lemmas.Bool.{cases_lt, cond-true, cond-false, eq-eqb, lt-ltb, ne_eqb}
 use Rattle.std.proofs.lemmas.List.Elements.{Contains-append_left, Contains-push}
 use Rattle.std.proofs.lemmas.Option.{slice_get_within}
-use Rattle.flat_tree.specs.declared.element.Element.{Element}
+use Rattle.flat_elements.specs.declared.element.Element.{Element}
 use Rattle.rast_answers.specs.declared.brackets.BracketKinds.{BracketKinds}
 use Rattle.rast_answers.specs.declared.brackets.Pair.{Pair}
 use Rattle.rast_answers.specs.declared.extent.Extent.{Extent}

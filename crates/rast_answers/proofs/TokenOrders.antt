@@ -10,7 +10,7 @@ use Rattle.rast_document.specs.Units.{units}
 use Rattle.rast_document.specs.declared.encoding.Encoding.{Encoding}
 use Rattle.rast_document.proofs.LineLemmas.{line_end_from, starts_bound, starts_keep, starts_some}
 use Rattle.rast_document.proofs.UnitLemmas.{units_range, units_rise}
-use Rattle.flat_tree.specs.declared.element.Element.{Element}
+use Rattle.flat_elements.specs.declared.element.Element.{Element}
 use Rattle.rast_answers.specs.declared.token_kind.Class.{Class}
 use Rattle.rast_answers.specs.declared.tokens.Colored.{Colored}
 use Rattle.rast_answers.specs.declared.tokens.Token.{Token}

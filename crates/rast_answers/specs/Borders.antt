@@ -1,7 +1,7 @@
 -- Ranges whose ends are on character boundaries of a text.
 use Rattle.std.specs.Prelude.{◌≡◌, ℕ, List, Some, IsCharBoundary, IsUtf8}
 use Rattle.std.specs.List.{All, slice_get}
-use Rattle.flat_tree.specs.declared.element.Element.{Element}
+use Rattle.flat_elements.specs.declared.element.Element.{Element}
 use Rattle.rast_answers.specs.declared.extent.Extent.{Extent}
 use Rattle.rast_answers.specs.declared.folds.Fold.{Fold}
 use Rattle.rast_answers.specs.declared.symbols.Symbol.{Symbol}

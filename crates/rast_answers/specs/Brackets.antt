@@ -3,7 +3,7 @@ use Rattle.std.specs.Prelude.{ℕ, Bool, ◌&&◌, ◌||◌, ◌==◌, if◌then
 use Rattle.std.specs.List.{slice_get}
 use Rattle.rap_base.specs.NodeKind.{GENERIC_ARG_LIST, GENERIC_PARAM_LIST}
 use Rattle.rap_base.specs.TokenKind.{L_ANGLE, L_BRACK, L_CURLY, L_PAREN, R_ANGLE, R_BRACK, R_CURLY, R_PAREN}
-use Rattle.flat_tree.specs.declared.element.Element.{Element}
+use Rattle.flat_elements.specs.declared.element.Element.{Element}
 use Rattle.rast_answers.specs.declared.brackets.BracketKinds.{BracketKinds}
 use Rattle.rast_answers.specs.declared.brackets.Pair.{Pair}
 use Rattle.rast_answers.specs.Gaps.{is_some_leaf}

@@ -1,7 +1,7 @@
 -- Comments in a row.
 use Rattle.std.specs.Prelude.{ℕ, ◌+◌, Bool, ◌&&◌, ◌||◌, not, ◌==◌, if◌then◌else◌, List, Option, Some, None, length, nat_lt}
 use Rattle.rap_base.specs.TokenKind.{COMMENT, INNER_DOC_COMMENT, OUTER_DOC_COMMENT}
-use Rattle.flat_tree.specs.declared.element.Element.{Element}
+use Rattle.flat_elements.specs.declared.element.Element.{Element}
 use Rattle.rast_answers.specs.Gaps.{is_gap, leaf_before, leaf_from}
 use Rattle.rast_answers.specs.Kinds.{kind_at}
 use Rattle.rast_answers.specs.Rows.{last_in_row}

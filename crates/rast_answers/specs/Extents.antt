@@ -1,7 +1,7 @@
 -- Ranges of elements.
 use Rattle.std.specs.Prelude.{ℕ, Bool, ◌&&◌, ◌==◌, List, Option, Some, None}
 use Rattle.std.specs.List.{slice_get}
-use Rattle.flat_tree.specs.declared.element.Element.{Element}
+use Rattle.flat_elements.specs.declared.element.Element.{Element}
 use Rattle.rast_answers.specs.declared.extent.Extent.{Extent}
 
 -- the range of an element; without one that of the start of the text

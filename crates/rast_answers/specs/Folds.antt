@@ -2,7 +2,7 @@
 use Rattle.std.specs.Prelude.{ℕ, Bool, ◌||◌, ◌==◌, if◌then◌else◌, List, Option, Some, None, filter_map, length, nat_lt}
 use Rattle.std.specs.List.{slice_get}
 use Rattle.rap_base.specs.NodeKind.{STMT_LIST, ITEM_LIST, EXTERN_ITEM_LIST, ASSOC_ITEM_LIST, RECORD_FIELD_LIST, TUPLE_FIELD_LIST, VARIANT_LIST, MATCH_ARM_LIST, USE_TREE_LIST, PARAM_LIST, ARG_LIST, GENERIC_PARAM_LIST, GENERIC_ARG_LIST, RECORD_EXPR_FIELD_LIST, RECORD_PAT_FIELD_LIST, ARRAY_EXPR, TOKEN_TREE}
-use Rattle.flat_tree.specs.declared.element.Element.{Element}
+use Rattle.flat_elements.specs.declared.element.Element.{Element}
 use Rattle.rast_answers.specs.declared.folds.Fold.{Fold}
 use Rattle.rast_answers.specs.declared.folds.FoldKind.{FoldKind}
 use Rattle.rast_answers.specs.declared.folds.FoldKind.TheVariants.{Block, Comment, Imports}

@@ -3,7 +3,7 @@ use Rattle.std.specs.Prelude.{ℕ, zero, suc, ◌+◌, ◌-◌, Bool, true, fals
 use Rattle.std.specs.List.{position_or_len, slice_get}
 use Rattle.rap_base.specs.TokenKind.{WHITESPACE}
 use Rattle.rast_document.specs.Lines.{line_at}
-use Rattle.flat_tree.specs.declared.element.Element.{Element}
+use Rattle.flat_elements.specs.declared.element.Element.{Element}
 
 -- the line of an offset; past the end of the text that of the end
 abbrev pub line_of : List ℕ → ℕ → ℕ

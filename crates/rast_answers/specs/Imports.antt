@@ -1,7 +1,7 @@
 -- Imports in a row.
 use Rattle.std.specs.Prelude.{ℕ, ◌+◌, ◌-◌, Bool, ◌&&◌, not, ◌==◌, if◌then◌else◌, List, Option, Some, None, length, nat_lt}
 use Rattle.rap_base.specs.NodeKind.{USE}
-use Rattle.flat_tree.specs.declared.element.Element.{Element}
+use Rattle.flat_elements.specs.declared.element.Element.{Element}
 use Rattle.rast_answers.specs.Gaps.{is_gap}
 use Rattle.rast_answers.specs.Kinds.{after_at, around, kind_at}
 use Rattle.rast_answers.specs.Rows.{last_in_row}

@@ -3,7 +3,7 @@ use Rattle.std.specs.Prelude.{ℕ, ◌+◌, Bool, true, false, ◌&&◌, ◌||�
 use Rattle.std.specs.List.{slice_get}
 use Rattle.rap_base.specs.NodeKind.{BLOCK_EXPR, BREAK_EXPR, CLOSURE_EXPR, CONST, CONTINUE_EXPR, FN, FOR_EXPR, LABEL, LIFETIME, LOOP_EXPR, PARAM_LIST, RETURN_EXPR, STATIC, WHILE_EXPR}
 use Rattle.rap_base.specs.TokenKind.{ASYNC_KW, BREAK_KW, CONST_KW, CONTINUE_KW, FN_KW, FOR_KW, GEN_KW, LIFETIME_IDENT, LOOP_KW, PIPE, RETURN_KW, WHILE_KW}
-use Rattle.flat_tree.specs.declared.element.Element.{Element}
+use Rattle.flat_elements.specs.declared.element.Element.{Element}
 use Rattle.rast_answers.specs.declared.jumps.Aim.{Aim}
 use Rattle.rast_answers.specs.declared.jumps.Aim.TheVariants.{Body, Loop, Labelled, LabelledLoop}
 use Rattle.rast_answers.specs.Extents.{extent_at}

@@ -2,8 +2,8 @@
 use Rattle.std.specs.Prelude.{ℕ, ◌+◌, ◌-◌, List, Option, Some, None, length, min}
 use Rattle.std.specs.List.{slice_get}
 use Rattle.rap_base.specs.TokenKind.{EOF}
-use Rattle.flat_tree.specs.Order.{after_of, parent_of, passing}
-use Rattle.flat_tree.specs.declared.element.Element.{Element}
+use Rattle.flat_elements.specs.Order.{after_of, parent_of, passing}
+use Rattle.flat_elements.specs.declared.element.Element.{Element}
 
 -- the kind of an element; without one that of the end
 abbrev pub kind_of : Option Element → ℕ

@@ -1,11 +1,9 @@
--- Laws of the answers about the tree of a text: they nest, and are in the order of the text.
+-- Laws of the answers about a tree over a text: they nest, and are in the order of the text.
 use Rattle.std.specs.Prelude.{◌≡◌, ◌⊎◌, ℕ, ◌<◌, ◌≤◌, List, IsUtf8, length}
 use Rattle.std.specs.List.{AllPairs}
-use Rattle.rap_base.specs.declared.edition.Edition.{Edition}
-use Rattle.ra_ap_parser.specs.declared.entry_point.TopEntryPoint.{TopEntryPoint}
-use Rattle.rap_ranged.specs.RangedMessages.{RangedMessage}
-use Rattle.flat_tree.specs.TextTree.{IsFlatText}
-use Rattle.flat_tree.specs.declared.element.Element.{Element}
+use Rattle.rap_lexed.specs.StrForest.{StrForest}
+use Rattle.flat_elements.specs.Built.{IsOver}
+use Rattle.flat_elements.specs.declared.element.Element.{Element}
 use Rattle.rast_answers.specs.declared.extent.Extent.{Extent}
 use Rattle.rast_answers.specs.declared.folds.Fold.{Fold}
 use Rattle.rast_answers.specs.declared.symbols.Symbol.{Symbol}
@@ -17,11 +15,10 @@ use Rattle.rast_answers.specs.Selections.{outwards}
 use Rattle.rast_answers.specs.Symbols.{symbols_of}
 use Rattle.rast_answers.specs.Tokens.{tokens_of}
 
--- a fact about the elements of the tree of each text
-abbrev pub OfEachText : (List ℕ → List Element → Type 0) → Type 0
-OfEachText P =
-    (text : List ℕ) (edition : Edition) (entry : TopEntryPoint) (es : List Element) (messages : List RangedMessage)
-    → IsFlatText text edition entry es messages → P text es
+-- a fact about the elements of each tree over a text, or over its front
+abbrev pub OfEachTree : (List ℕ → List Element → Type 0) → Type 0
+OfEachTree P =
+    (text front : List ℕ) (f : StrForest) (es : List Element) → IsOver text front f es → P text es
 
 -- the first range is in the second
 pub record IsIn (a b : Extent) : Type 0 where
@@ -44,20 +41,20 @@ NestOrFollow a b = IsInside a b ⊎ IsPast a b
 
 -- of two symbols the later one is inside the other, or past it
 abbrev pub SymbolsNest : Type 0
-SymbolsNest = OfEachText (λ text es. AllPairs NestOrFollow (symbols_of es))
+SymbolsNest = OfEachTree (λ text es. AllPairs NestOrFollow (symbols_of es))
 
 -- folds are in the order of their beginnings
 abbrev pub FoldsAreInOrder : Type 0
-FoldsAreInOrder = OfEachText (λ text es. AllPairs (λ (a b : Fold). a.start ≤ b.start) (folds_of text es))
+FoldsAreInOrder = OfEachTree (λ text es. AllPairs (λ (a b : Fold). a.start ≤ b.start) (folds_of text es))
 
 -- what may be selected goes outwards: each range is in all later ones
 abbrev pub SelectionsGoOutwards : Type 0
-SelectionsGoOutwards = OfEachText (λ text es. (i : ℕ) → i < length es → AllPairs IsIn (outwards es i))
+SelectionsGoOutwards = OfEachTree (λ text es. (i : ℕ) → i < length es → AllPairs IsIn (outwards es i))
 
 -- the tokens of a range are in order: so what is decoded of their numbers is these tokens
 abbrev pub TokensAreInOrder : Type 0
-TokensAreInOrder = OfEachText (λ text es. (e : Encoding) (from to : ℕ) → AreInOrder 0 0 (tokens_of e text from to es))
+TokensAreInOrder = OfEachTree (λ text es. (e : Encoding) (from to : ℕ) → AreInOrder 0 0 (tokens_of e text from to es))
 
--- the ranges of a text's tree are on its boundaries: so those of its symbols, folds and selections are
+-- the ranges of a tree over a text are on its boundaries: so those of its symbols, folds and selections are
 abbrev pub ElementsAreOnBorders : Type 0
-ElementsAreOnBorders = OfEachText (λ text es. IsUtf8 text → AreOnBorders text es)
+ElementsAreOnBorders = OfEachTree (λ text es. IsUtf8 text → AreOnBorders text es)

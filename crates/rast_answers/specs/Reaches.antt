@@ -1,7 +1,7 @@
 -- How far nodes inside a node reach, in one pass over the elements.
 -- (Used in contracts between internal functions only; no public contract rests on it.)
 use Rattle.std.specs.Prelude.{◌≡◌, ℕ, zero, suc, Bool, false, ◌&&◌, ◌||◌, if◌then◌else◌, List, Option, Some, None, max, nat_le, nat_lt}
-use Rattle.flat_tree.specs.declared.element.Element.{Element}
+use Rattle.flat_elements.specs.declared.element.Element.{Element}
 use Rattle.rast_answers.specs.declared.about.Reach.{Reach}
 use Rattle.rast_answers.specs.declared.jumps.Aim.{Aim}
 use Rattle.rast_answers.specs.declared.jumps.Aim.TheVariants.{Body, Loop, Labelled, LabelledLoop}

@@ -2,9 +2,9 @@
 use Rattle.std.specs.Prelude.{◌≡◌, ℕ, ◌-◌, List, ◌∷◌, Option, map, unwrap_or}
 use Rattle.std.specs.List.{dedup}
 use Rattle.rap_ranged.specs.RangedForest.{RangedNode}
-use Rattle.flat_tree.specs.ByteLeaf.{IsLeafAt}
-use Rattle.flat_tree.specs.Order.{climbing}
-use Rattle.flat_tree.specs.declared.element.Element.{Element}
+use Rattle.flat_elements.specs.ByteLeaf.{IsLeafAt}
+use Rattle.flat_elements.specs.Order.{climbing}
+use Rattle.flat_elements.specs.declared.element.Element.{Element}
 use Rattle.rast_answers.specs.declared.extent.Extent.{Extent}
 use Rattle.rast_answers.specs.Extents.{extent_at, is_same_extent}
 

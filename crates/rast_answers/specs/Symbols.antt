@@ -2,7 +2,7 @@
 use Rattle.std.specs.Prelude.{ℕ, Bool, ◌||◌, not, ◌==◌, if◌then◌else◌, List, Option, Some, None, [], ◌∷◌, filter_map, find, length}
 use Rattle.rap_base.specs.NodeKind.{NAME, DOC_COMMENT, ATTR, WHERE_CLAUSE, ASSOC_ITEM_LIST}
 use Rattle.rap_base.specs.TokenKind.{COMMENT, UNDERSCORE, WHITESPACE}
-use Rattle.flat_tree.specs.declared.element.Element.{Element}
+use Rattle.flat_elements.specs.declared.element.Element.{Element}
 use Rattle.rast_answers.specs.declared.extent.Extent.{Extent}
 use Rattle.rast_answers.specs.declared.symbol_kind.SymbolKind.{SymbolKind}
 use Rattle.rast_answers.specs.declared.symbol_kind.SymbolKind.TheVariants.{Impl}

@@ -1,7 +1,7 @@
 -- Laws of highlights: leaves that belong together.
 use Rattle.std.specs.Prelude.{◌≡◌, ◌⊎◌, ℕ, ◌<◌, ◌≤◌, true, false, ◌==◌, if◌then◌else◌, List, [], Option, Some, None}
 use Rattle.std.specs.List.{All, AllPairs, Contains, slice_get}
-use Rattle.flat_tree.specs.declared.element.Element.{Element}
+use Rattle.flat_elements.specs.declared.element.Element.{Element}
 use Rattle.rast_answers.specs.declared.brackets.Pair.{Pair}
 use Rattle.rast_answers.specs.declared.extent.Extent.{Extent}
 use Rattle.rast_answers.specs.declared.highlights.Subject.{Subject}
@@ -12,7 +12,7 @@ use Rattle.rast_answers.specs.Extents.{extent_at}
 use Rattle.rast_answers.specs.Highlights.{belongs, highlights_of, subject_at}
 use Rattle.rast_answers.specs.Jumps.{accepts, aim_at, stops, target_at}
 use Rattle.rast_answers.specs.Kinds.{after_at}
-use Rattle.rast_answers.specs.Nesting.{OfEachText}
+use Rattle.rast_answers.specs.Nesting.{OfEachTree}
 
 -- the range of a leaf
 pub record IsOfLeaf (es : List Element) (x : Extent) : Type 0 where
@@ -71,7 +71,7 @@ TargetsAreNearest = (s : List ℕ) (es : List Element) (i node : ℕ) → target
 
 -- the highlights of a text are in its order, none over another
 abbrev pub HighlightsAreInOrder : Type 0
-HighlightsAreInOrder = OfEachText (λ s es. (i : ℕ) → AllPairs (λ (a b : Extent). a.end ≤ b.start) (highlights_of s es i))
+HighlightsAreInOrder = OfEachTree (λ s es. (i : ℕ) → AllPairs (λ (a b : Extent). a.end ≤ b.start) (highlights_of s es i))
 
 -- their ends are on character boundaries
 abbrev pub HighlightsAreOnBorders : Type 0

@@ -2,7 +2,7 @@
 use Rattle.std.specs.Prelude.{◌≡◌, ℕ, ◌<◌, ◌≤◌, true, List, Some}
 use Rattle.std.specs.List.{slice_get}
 use Rattle.rast_document.specs.declared.encoding.Encoding.{Encoding}
-use Rattle.flat_tree.specs.declared.element.Element.{Element}
+use Rattle.flat_elements.specs.declared.element.Element.{Element}
 use Rattle.rast_answers.specs.Deltas.{AreInOrder}
 use Rattle.rast_answers.specs.Tokens.{tokens_of}
 

@@ -2,7 +2,7 @@
 use Rattle.std.specs.Prelude.{ℕ, ◌+◌, Bool, ◌&&◌, ◌||◌, ◌==◌, if◌then◌else◌, List, Option, Some, None, nat_le}
 use Rattle.rap_base.specs.NodeKind.{NAME, NAME_REF, MACRO_CALL, MACRO_RULES, MACRO_DEF, MODULE, STRUCT, UNION, ENUM, TRAIT, TYPE_ALIAS, TYPE_PARAM, CONST_PARAM, RECORD_FIELD, VARIANT, CONST, STATIC, FN, ASSOC_ITEM_LIST, IDENT_PAT, PARAM, RECORD_EXPR, RECORD_PAT, PATH_META, TOKEN_TREE_META, KEY_VALUE_META, PATH_TYPE, TYPE_BOUND, PATH_EXPR, CALL_EXPR, METHOD_CALL_EXPR, FIELD_EXPR, RECORD_EXPR_FIELD, RECORD_PAT_FIELD, EXTERN_CRATE, ASSOC_TYPE_ARG, PATH_SEGMENT}
 use Rattle.rap_base.specs.TokenKind.{COMMENT, SHEBANG, FRONTMATTER, INNER_DOC_COMMENT, OUTER_DOC_COMMENT, INT_NUMBER, FLOAT_NUMBER, CHAR, BYTE, STRING, BYTE_STRING, C_STRING, LIFETIME_IDENT, BANG, AS_KW, YEET_KW, IDENT}
-use Rattle.flat_tree.specs.declared.element.Element.{Element}
+use Rattle.flat_elements.specs.declared.element.Element.{Element}
 use Rattle.rast_answers.specs.declared.token_kind.Class.{Class}
 use Rattle.rast_answers.specs.declared.token_kind.TokenKind.{TokenKind}
 use Rattle.rast_answers.specs.declared.token_kind.TokenKind.TheVariants.{Comment, Keyword, String, Number, Namespace, «Type», Struct, Enum, Interface, TypeParameter, Parameter, Variable, Property, EnumMember, Function, Method, Macro, Label, Decorator}

@@ -5,7 +5,7 @@ use Rattle.rast_document.specs.Lines.{line_end}
 use Rattle.rast_document.specs.Places.{position}
 use Rattle.rast_document.specs.declared.encoding.Encoding.{Encoding}
 use Rattle.rast_document.specs.declared.position.Position.{Position}
-use Rattle.flat_tree.specs.declared.element.Element.{Element}
+use Rattle.flat_elements.specs.declared.element.Element.{Element}
 use Rattle.rast_answers.specs.declared.token_kind.Class.{Class}
 use Rattle.rast_answers.specs.declared.tokens.Colored.{Colored}
 use Rattle.rast_answers.specs.declared.tokens.Token.{Token}

@@ -7,7 +7,7 @@ ghost use Rattle.rast_answers.specs.Reaches.{IsReach, has_this_label, is_meant, 
 
 use crate::jumps::{Aim, aim_at, has_label, is_body, is_labelled, is_loop, is_text};
 use crate::kinds::{after_at, kind_at};
-use flat_tree::Element;
+use flat_elements::Element;
 use rast_document::Document;
 
 /// How far what is inside a node reaches, of what begins before an index: the bodies, the bodies and loops, and the

@@ -3,7 +3,7 @@ ghost use Rattle.std.specs.Prelude.{◌≡◌};
 ghost use Rattle.rast_answers.specs.Brackets.{bracket_kinds, first_in, is_generic_list, is_leaf_in, last_in, pair_at};
 
 use crate::kinds::{around, kind_at};
-use flat_tree::Element;
+use flat_elements::Element;
 use rap_base::syntax_kind::SyntaxKind;
 
 /// The kinds of an opening bracket and of its partner.

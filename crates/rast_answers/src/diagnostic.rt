@@ -2,7 +2,7 @@
 ghost use Rattle.std.specs.Prelude.{◌≡◌, IfOk, map};
 ghost use Rattle.rast_answers.specs.Diagnostics.{said, shown};
 
-use flat_tree::Message;
+use flat_elements::Message;
 use std::alloc::{AllocError, Global};
 
 /// A message about a text, and the range that it is about.

@@ -2,7 +2,7 @@
 ghost use Rattle.std.specs.Prelude.{◌≡◌};
 ghost use Rattle.rast_answers.specs.Extents.{extent_at, is_same_extent};
 
-use flat_tree::Element;
+use flat_elements::Element;
 
 /// A range of a text: the bytes at which it begins and ends.
 #[derive(Clone, Copy, Debug, PartialEq, Eq)]

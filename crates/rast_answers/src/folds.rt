@@ -8,7 +8,7 @@ use crate::imports::last_of_imports;
 use crate::kinds::kind_at;
 use crate::lines::line_of;
 use crate::lists::push_option;
-use flat_tree::Element;
+use flat_elements::Element;
 use rap_base::syntax_kind::SyntaxKind;
 use rast_document::Document;
 use std::alloc::{AllocError, Global};

@@ -10,7 +10,7 @@ use crate::brackets::{Pair, pair_at};
 use crate::extent::{Extent, extent_at};
 use crate::jumps::{is_body, label_in, target_at};
 use crate::lists::push_option;
-use flat_tree::Element;
+use flat_elements::Element;
 use rast_document::Document;
 use std::alloc::{AllocError, Global};
 

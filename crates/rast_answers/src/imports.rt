@@ -5,7 +5,7 @@ ghost use Rattle.rast_answers.specs.Rows.{last_in_row};
 
 use crate::kinds::{after_at, around, kind_at};
 use crate::rows::is_gap;
-use flat_tree::Element;
+use flat_elements::Element;
 use rap_base::syntax_kind::SyntaxKind;
 use rast_document::Document;
 

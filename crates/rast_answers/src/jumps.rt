@@ -4,7 +4,7 @@ ghost use Rattle.rast_answers.specs.Jumps.{accepts, aim_at, aim_in, aim_of_break
 
 use crate::extent::extent_at;
 use crate::kinds::{after_at, around, kind_at};
-use flat_tree::Element;
+use flat_elements::Element;
 use rap_base::syntax_kind::SyntaxKind;
 use rast_document::Document;
 

@@ -2,7 +2,7 @@
 ghost use Rattle.std.specs.Prelude.{◌≡◌, ◌<◌, ◌^◌};
 ghost use Rattle.rast_answers.specs.Kinds.{after_at, around, kind_at, parent_at};
 
-use flat_tree::Element;
+use flat_elements::Element;
 use rap_base::syntax_kind::SyntaxKind;
 
 /// The kind of the element with this index; `EOF`, which no element has, where there is none.

@@ -1,9 +1,10 @@
-//! Laws of the answers. Each is a function that does nothing, whose contract is the law.
+//! Laws of the answers. Each is a function that does nothing, whose contract is the law. Those of a tree over a text hold
+//! of the tree of each text: it is one, as a law of `flat_tree` says.
 ghost use Rattle.rast_answers.specs.Borders.{FoldsAreOnBorders, SelectionsAreOnBorders, SymbolsAreOnBorders};
 ghost use Rattle.rast_answers.specs.Together.{HighlightsAreInOrder, HighlightsAreLeaves, HighlightsAreOnBorders, HighlightsAreShared, HighlightsHoldTheirLeaf, PartnersArePartners, TargetsAreNearest};
 ghost use Rattle.rast_answers.specs.Nesting.{ElementsAreOnBorders, FoldsAreInOrder, SelectionsGoOutwards, SymbolsNest, TokensAreInOrder};
 
-/// The ranges of all elements of a text's tree are on character boundaries of the text.
+/// The ranges of all elements of a tree over a text are on character boundaries of the text.
 pub fn elements_are_on_borders()
     ensures { ElementsAreOnBorders }
 {}
@@ -23,22 +24,22 @@ pub fn selections_are_on_borders()
     ensures { SelectionsAreOnBorders }
 {}
 
-/// Of two symbols of a text the later one is inside the earlier one or past it, by its index and by its range.
+/// Of two symbols of a tree over a text the later one is inside the earlier one or past it, by its index and by its range.
 pub fn symbols_nest()
     ensures { SymbolsNest }
 {}
 
-/// The folds of a text are in the order of their beginnings.
+/// The folds of a tree over a text are in the order of their beginnings.
 pub fn folds_are_in_order()
     ensures { FoldsAreInOrder }
 {}
 
-/// What may be selected in a text goes outwards: each range is in all later ones.
+/// What may be selected in a tree over a text goes outwards: each range is in all later ones.
 pub fn selections_go_outwards()
     ensures { SelectionsGoOutwards }
 {}
 
-/// The tokens of a text are in order, so that what a client decodes of their numbers is these tokens.
+/// The tokens of a tree over a text are in order, so that what a client decodes of their numbers is these tokens.
 pub fn tokens_are_in_order()
     ensures { TokensAreInOrder }
 {}
@@ -48,7 +49,7 @@ pub fn highlights_are_leaves()
     ensures { HighlightsAreLeaves }
 {}
 
-/// The highlights of a text are in its order, and none is over another.
+/// The highlights of a tree over a text are in its order, and none is over another.
 pub fn highlights_are_in_order()
     ensures { HighlightsAreInOrder }
 {}

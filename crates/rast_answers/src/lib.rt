@@ -1,7 +1,8 @@
 //! What an editor is answered about a document: diagnostics, symbols, folds, selections, highlights, tokens.
 //!
-//! [`Analysis::of_document`] parses a document; each of its other methods makes one answer, in byte offsets of the text
-//! on character boundaries. Only the tokens are in positions of the document, since their numbers are.
+//! An [`Analysis`] is a document with the elements and the messages of its tree. Each of its methods makes one answer, in
+//! byte offsets of the text on character boundaries. Only the tokens are in positions of the document, since their
+//! numbers are. Whence the elements come is not said here: no grammar is needed.
 #![tactic(auto)]
 
 mod about;

@@ -3,7 +3,7 @@ ghost use Rattle.std.specs.Prelude.{◌≡◌, ◌≤◌, length, string_bytes};
 ghost use Rattle.rast_answers.specs.Gaps.{is_gap, leaf_before, leaf_from};
 
 use crate::lines::line_of;
-use flat_tree::Element;
+use flat_elements::Element;
 use rap_base::syntax_kind::SyntaxKind;
 use rast_document::Document;
 

@@ -6,7 +6,7 @@ ghost use Rattle.rast_answers.specs.Selections.{outwards};
 
 use crate::extent::{Extent, extent_at, is_same_extent};
 use crate::kinds::parent_at;
-use flat_tree::Element;
+use flat_elements::Element;
 use std::alloc::{AllocError, Global};
 
 /// Adds the range before another, if they differ.

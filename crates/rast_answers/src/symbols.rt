@@ -7,7 +7,7 @@ use crate::extent::{Extent, extent_at};
 use crate::kinds::{after_at, around, kind_at};
 use crate::lists::push_option;
 use crate::symbol_kind::{SymbolKind, symbol_kind};
-use flat_tree::Element;
+use flat_elements::Element;
 use rap_base::syntax_kind::SyntaxKind;
 use std::alloc::{AllocError, Global};
 

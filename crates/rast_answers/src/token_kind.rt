@@ -3,7 +3,7 @@ ghost use Rattle.std.specs.Prelude.{◌≡◌};
 ghost use Rattle.rast_answers.specs.TokenTable.{class_of, class_of_leaf, class_of_name, class_of_path, class_of_reference, declaring, is_keyword, plain, token_number};
 
 use crate::kinds::{around, kind_at};
-use flat_tree::Element;
+use flat_elements::Element;
 use rap_base::syntax_kind::SyntaxKind;
 
 /// The kind of a token, by its place in [`TOKEN_KINDS`].

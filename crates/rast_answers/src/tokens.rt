@@ -5,7 +5,7 @@ ghost use Rattle.rast_answers.specs.Tokens.{colored_at, piece, token_of, tokens_
 
 use crate::places::place_of;
 use crate::token_kind::{Class, TokenKind, class_of};
-use flat_tree::Element;
+use flat_elements::Element;
 use rast_document::Document;
 use std::alloc::{AllocError, Global};
 

@@ -1,5 +1,6 @@
 //! The answers about a document, as JSON texts.
 use crate::tree::tree_lines;
+use flat_tree::FlatTree;
 use rast_answers::{Analysis, Delta, Diagnostic, Extent, Fold, FoldKind, Symbol};
 use rast_document::{Document, Position};
 use rast_messages::{position_of, push_comma, push_range, push_string};
@@ -208,8 +209,8 @@ pub fn tokens(alloc: Global, list: &[Delta]) -> Result<String, AllocError> {
 }
 
 /// The tree as text.
-pub fn tree(alloc: Global, analysis: &Analysis<'_>) -> Result<String, AllocError> {
-    let lines = tree_lines(alloc, analysis.tree())?;
+pub fn tree(alloc: Global, tree: &FlatTree<'_>) -> Result<String, AllocError> {
+    let lines = tree_lines(alloc, tree)?;
     let mut json = String::new(alloc);
     push_string(alloc, &mut json, lines.as_str())?;
     Ok(json)

@@ -11,6 +11,8 @@ ghost use Rattle.rast_server.specs.declared.server.Stage.TheVariants.{Fresh, Rea
 
 use crate::answers::{folds, highlights, push_diagnostics, selections, symbols, tokens, tree};
 use crate::initialize::capabilities;
+use crate::tree::tree_of;
+use flat_tree::FlatTree;
 use ra_ap_parser::{Edition, NoMemory, TextFault};
 use rast_answers::{Analysis, Diagnostic};
 use rast_document::{Change, ChangeFault, Document, Encoding};
@@ -151,12 +153,12 @@ fn fault_of(fault: TextFault<NoMemory>) -> Fault
     }
 }
 
-/// The tree of a document.
-fn analysis_of(alloc: Global, document: &Document) -> Result<Analysis<'_>, Fault>
+/// The tree of a document, or why it has none.
+fn parsed(alloc: Global, document: &Document) -> Result<FlatTree<'_>, Fault>
     ensures { IfErr result (λ fault. IsOfDocument fault.code) }
 {
-    match Analysis::of_document(alloc, Edition::CURRENT, document) {
-        Ok(analysis) => Ok(analysis),
+    match tree_of(alloc, Edition::CURRENT, document) {
+        Ok(tree) => Ok(tree),
         Err(fault) => Err(fault_of(fault)),
     }
 }
@@ -165,8 +167,9 @@ fn analysis_of(alloc: Global, document: &Document) -> Result<Analysis<'_>, Fault
 fn push_messages(alloc: Global, json: &mut String, document: &Document) -> Result<(), Fault>
     ensures { IfErr result IsNoMemory }
 {
-    match Analysis::of_document(alloc, Edition::CURRENT, document) {
-        Ok(analysis) => {
+    match tree_of(alloc, Edition::CURRENT, document) {
+        Ok(tree) => {
+            let analysis = Analysis::new(document, tree.elements(), tree.messages());
             let list = analysis.diagnostics(alloc)?;
             push_diagnostics(alloc, json, document, list.as_slice())?;
         }
@@ -254,7 +257,8 @@ fn result_of(
 ) -> Result<String, Fault>
     ensures { IfErr result (λ fault. IsOfDocument fault.code) }
 {
-    let analysis = analysis_of(alloc, document)?;
+    let flat = parsed(alloc, document)?;
+    let analysis = Analysis::new(document, flat.elements(), flat.messages());
     match method {
         "textDocument/documentSymbol" => Ok(symbols(alloc, &analysis)?),
         "textDocument/foldingRange" => Ok(folds(alloc, &analysis)?),
@@ -265,7 +269,7 @@ fn result_of(
             Ok(tokens(alloc, list.as_slice())?)
         }
         "textDocument/semanticTokens/range" => tokens_of_range(alloc, &analysis, params),
-        _ => Ok(tree(alloc, &analysis)?),
+        _ => Ok(tree(alloc, &flat)?),
     }
 }
 

@@ -1,8 +1,25 @@
-//! The tree of a document as text.
+//! The tree of a document, and its lines.
+ghost use Rattle.std.specs.Prelude.{IfOk, string_bytes};
+ghost use Rattle.ra_ap_parser.specs.declared.entry_point.TopEntryPoint.{TopEntryPoint};
+ghost use Rattle.flat_tree.specs.TextTree.{IsFlatText};
+
 use flat_tree::{Element, FlatTree};
+use ra_ap_parser::{Edition, NoMemory, TextFault, TopEntryPoint};
 use rast_common::quote::push_quoted;
+use rast_document::Document;
 use std::alloc::{AllocError, Global};
 use std::fmt::Write as _;
+
+/// Parses a document as a source file. The errors are those of [`FlatTree::of_text`].
+pub fn tree_of(
+    alloc: Global,
+    edition: Edition,
+    document: &Document,
+) -> Result<FlatTree<'_>, TextFault<NoMemory>>
+    ensures { IfOk result (λ tree. IsFlatText (string_bytes document.now.text) edition TopEntryPoint.SourceFile tree.elements.items tree.messages.items) }
+{
+    FlatTree::of_text(alloc, edition, TopEntryPoint::SourceFile, document.text())
+}
 
 /// Adds the line of a node or leaf: its kind, its place and a leaf's text in quotes, after two spaces for each level.
 fn push_element(

@@ -1,6 +1,6 @@
 use Rattle.std.proofs.Common.{◌≡◌, ◌-◌}
 use Rattle.std.specs.Prelude.{find}
-use Rattle.flat_tree.specs.Order.{passing}
+use Rattle.flat_elements.specs.Order.{passing}
 use Rattle.rast_answers.specs.Jumps.{child_of_kind, is_kind_at}
 use Rattle.rast_answers.proofs.jumps.child_of_kind.Given as goal
 

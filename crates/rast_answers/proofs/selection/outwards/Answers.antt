@@ -1,5 +1,5 @@
 use Rattle.std.proofs.Common.{◌≡◌, ◌-◌, [], arith}
-use Rattle.flat_tree.specs.Order.{climbing}
+use Rattle.flat_elements.specs.Order.{climbing}
 use Rattle.rast_answers.proofs.Climbs.{no_more_climbing, no_more_steps, step_up, top_reached}
 use Rattle.rast_answers.proofs.selection.outwards.Goals as goal
 use Rattle.rast_answers.proofs.selection.outwards.Goals.{else-up-test, then-up-test+then-at-eq0}

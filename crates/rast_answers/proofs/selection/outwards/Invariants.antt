@@ -1,7 +1,7 @@
 use Rattle.std.proofs.Common.{◌≡◌, ◌++◌, ◌-◌}
 use Rattle.std.specs.Prelude.{map}
 use Rattle.std.specs.List.{dedup_from}
-use Rattle.flat_tree.specs.Order.{climbing}
+use Rattle.flat_elements.specs.Order.{climbing}
 use Rattle.rast_answers.specs.Extents.{extent_at, is_same_extent}
 use Rattle.rast_answers.specs.Selections.{outwards}
 use Rattle.rast_answers.proofs.selection.outwards.Given as goal

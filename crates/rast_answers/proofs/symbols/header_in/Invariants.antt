@@ -1,5 +1,5 @@
 use Rattle.std.proofs.Common.{◌≡◌, ◌-◌}
-use Rattle.flat_tree.specs.Order.{passing}
+use Rattle.flat_elements.specs.Order.{passing}
 use Rattle.rast_answers.specs.Symbols.{header_in, span_to}
 use Rattle.rast_answers.proofs.symbols.header_in.Given as goal
 

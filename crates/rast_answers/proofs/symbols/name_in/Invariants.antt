@@ -1,7 +1,7 @@
 use Rattle.std.proofs.Common.{◌≡◌, ◌-◌}
 use Rattle.std.specs.Prelude.{find}
 use Rattle.rast_answers.specs.Kinds.{children}
-use Rattle.flat_tree.specs.Order.{passing}
+use Rattle.flat_elements.specs.Order.{passing}
 use Rattle.rast_answers.specs.Symbols.{is_name_at}
 use Rattle.rast_answers.proofs.symbols.name_in.Given as goal
 

@@ -1,8 +1,8 @@
 use Rattle.std.proofs.Common.{◌≡◌, ◌<◌, ◌∷◌, Some, ap, sym, ◌∙◌, length, arith}
 use Rattle.std.specs.List.{slice_get}
-use Rattle.flat_tree.specs.Order.{climbing}
-use Rattle.flat_tree.specs.declared.element.Element.{Element}
-use Rattle.flat_tree.proofs.Bytes.{read_at}
+use Rattle.flat_elements.specs.Order.{climbing}
+use Rattle.flat_elements.specs.declared.element.Element.{Element}
+use Rattle.flat_elements.proofs.Bytes.{read_at}
 use Rattle.flat_tree.proofs.Climbing.{climbing_first}
 use Rattle.flat_tree.proofs.Steps.{progress}
 use Rattle.flat_tree.proofs.ancestors.AncestorsIterator.next.Goals as goal

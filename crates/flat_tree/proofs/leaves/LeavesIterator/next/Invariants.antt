@@ -1,6 +1,6 @@
 use Rattle.std.proofs.Common.{◌≡◌, length}
 use Rattle.std.specs.Prelude.{filter}
-use Rattle.flat_tree.specs.LeavesOf.{is_leaf}
+use Rattle.flat_elements.specs.LeavesOf.{is_leaf}
 use Rattle.flat_tree.proofs.leaves.LeavesIterator.next.Given as goal
 
 abbrev pub invariant-nodes : goal.invariant-nodes

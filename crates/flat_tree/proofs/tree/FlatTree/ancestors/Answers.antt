@@ -1,6 +1,6 @@
 use Rattle.std.proofs.Common.{◌<◌, ◌≤◌, length, ◌∙◌, inr, arith}
 use Rattle.flat_tree.proofs.Climbing.{ancestors_are}
-use Rattle.flat_tree.proofs.Kin.{counted}
+use Rattle.flat_elements.proofs.Kin.{counted}
 use Rattle.flat_tree.proofs.tree.FlatTree.ancestors.Goals as goal
 
 pub returns-then-index-elements : goal.returns-then-index-elements

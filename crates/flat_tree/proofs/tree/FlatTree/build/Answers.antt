@@ -2,8 +2,8 @@ use Rattle.rap_events.specs.Forest.{used}
 use Rattle.rap_lexed.specs.Trivia.{with_trivia}
 use Rattle.rap_ranged.proofs.Fronts.{places_of_front}
 use Rattle.rap_lexed.specs.StrForest.{str_flat}
-use Rattle.flat_tree.proofs.Runs.{texts_along}
-use Rattle.flat_tree.proofs.Trees.{flat_of, ordered, over_front, over_of}
+use Rattle.flat_elements.proofs.Runs.{texts_along}
+use Rattle.flat_elements.proofs.Trees.{flat_of, ordered, over_front, over_of}
 use Rattle.flat_tree.proofs.tree.FlatTree.build.Goals as goal
 
 pub returns-clause-flat : goal.returns-clause-flat

@@ -1,8 +1,8 @@
 use Rattle.std.proofs.Common.{◌≡◌, ◌+◌, ◌-◌, Some, ap, sym, ◌∙◌}
 use Rattle.std.specs.List.{slice_get}
-use Rattle.flat_tree.specs.Navigation.{inside, tops}
-use Rattle.flat_tree.specs.Order.{passing}
-use Rattle.flat_tree.proofs.Kin.{missing}
+use Rattle.flat_elements.specs.Navigation.{inside, tops}
+use Rattle.flat_elements.specs.Order.{passing}
+use Rattle.flat_elements.proofs.Kin.{missing}
 use Rattle.flat_tree.proofs.Passing.{children_are}
 use Rattle.flat_tree.proofs.tree.FlatTree.children.Goals as goal
 

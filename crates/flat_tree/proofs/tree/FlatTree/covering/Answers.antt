@@ -1,9 +1,9 @@
 use Rattle.std.proofs.Common.{◌≡◌, ℕ, ◌+◌, ◌<◌, ◌≤◌, List, Some, None, refl, ap, sym, subst, ◌∙◌, length, arith}
 use Rattle.std.specs.List.{slice_get}
-use Rattle.flat_tree.specs.ByteLeaf.{EndsBegun}
-use Rattle.flat_tree.specs.declared.element.Element.{Element}
+use Rattle.flat_elements.specs.ByteLeaf.{EndsBegun}
+use Rattle.flat_elements.specs.declared.element.Element.{Element}
 use Rattle.flat_tree.proofs.Coverings.{NoneLater, ends_within, from_begun, none_smallest, smallest, some_begun, to_parent}
-use Rattle.flat_tree.proofs.Kin.{some_or_none}
+use Rattle.flat_elements.proofs.Kin.{some_or_none}
 use Rattle.flat_tree.proofs.tree.FlatTree.covering.Goals as goal
 
 pub returns-in_err-index-clause-element : goal.returns-in_err-index-clause-element

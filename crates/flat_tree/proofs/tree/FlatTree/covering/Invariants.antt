@@ -2,8 +2,8 @@ use Rattle.std.proofs.Common.{◌≡◌, ℕ, ◌<◌, length}
 use Rattle.rap_lexed.specs.StrForest.{StrForest}
 use Rattle.rap_ranged.specs.Ranged.{Ranged}
 use Rattle.rap_ranged.specs.RangedForest.{RangedNode}
-use Rattle.flat_tree.specs.ByteLeaf.{EndsBegun}
-use Rattle.flat_tree.specs.FlatTree.{elements_of_tree}
+use Rattle.flat_elements.specs.ByteLeaf.{EndsBegun}
+use Rattle.flat_elements.specs.Elements.{elements_of_tree}
 use Rattle.flat_tree.proofs.Coverings.{NoneLater}
 use Rattle.flat_tree.proofs.tree.FlatTree.covering.Given as goal
 

@@ -1,6 +1,6 @@
 use Rattle.std.proofs.Common.{◌≡◌, ◌+◌, length, ap, sym, ◌∙◌, arith}
 use Rattle.std.specs.Prelude.{slice_range}
-use Rattle.flat_tree.proofs.Cuts.{bounded, inside_is, none_inside, rising}
+use Rattle.flat_elements.proofs.Cuts.{bounded, inside_is, none_inside, rising}
 use Rattle.flat_tree.proofs.tree.FlatTree.descendants.Goals as goal
 
 pub returns-in-None : goal.returns-in-None

@@ -1,5 +1,5 @@
 use Rattle.std.proofs.Common.{◌≤◌, ◌+◌, sym, ◌∙◌, arith}
-use Rattle.flat_tree.proofs.Kin.{first_missing, first_none, first_is}
+use Rattle.flat_elements.proofs.Kin.{first_missing, first_none, first_is}
 use Rattle.flat_tree.proofs.tree.FlatTree.first_child.Goals as goal
 use Rattle.flat_tree.proofs.tree.FlatTree.first_child.Goals.{then-after-index-via-then-after-index, then-after-index-via-else-after-index+then-after-index-eq1}
 

@@ -1,8 +1,8 @@
 use Rattle.std.proofs.Common.{◌≡◌, ℕ, ◌+◌, ◌-◌, ◌<◌, List, Some, ap, sym, subst, ◌∙◌, length, arith}
 use Rattle.std.specs.List.{slice_get}
-use Rattle.flat_tree.specs.ByteLeaf.{EndsBegun}
-use Rattle.flat_tree.specs.declared.element.Element.{Element}
-use Rattle.flat_tree.proofs.Bytes.{read_at}
+use Rattle.flat_elements.specs.ByteLeaf.{EndsBegun}
+use Rattle.flat_elements.specs.declared.element.Element.{Element}
+use Rattle.flat_elements.proofs.Bytes.{read_at}
 use Rattle.flat_tree.proofs.tree.FlatTree.last_begun.Goals as goal
 
 pub returns-then-begun-eq0 : goal.returns-then-begun-eq0

@@ -1,7 +1,7 @@
 use Rattle.std.proofs.Common.{◌+◌, ap, ◌∙◌, map}
 use Rattle.std.specs.Prelude.{filter}
-use Rattle.flat_tree.specs.LeavesOf.{is_leaf, leaf_shown}
-use Rattle.flat_tree.specs.Navigation.{element_at, inside}
+use Rattle.flat_elements.specs.LeavesOf.{is_leaf, leaf_shown}
+use Rattle.flat_elements.specs.Navigation.{element_at, inside}
 use Rattle.flat_tree.proofs.LeafLists.{leaves_are}
 use Rattle.flat_tree.proofs.tree.FlatTree.leaves_of.Goals as goal
 

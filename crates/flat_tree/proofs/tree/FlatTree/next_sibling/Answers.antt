@@ -1,7 +1,7 @@
 use Rattle.std.proofs.Common.{◌⊎◌, ℕ, Option, sym, subst, inl, inr, arith}
 use Rattle.std.specs.Prelude.{MatchOption}
-use Rattle.flat_tree.specs.Navigation.{AreNeighbors, HasNoParent, IsLastChild}
-use Rattle.flat_tree.proofs.Kin.{missing, next_is, none_next, parent_there}
+use Rattle.flat_elements.specs.Navigation.{AreNeighbors, HasNoParent, IsLastChild}
+use Rattle.flat_elements.proofs.Kin.{missing, next_is, none_next, parent_there}
 use Rattle.flat_tree.proofs.tree.FlatTree.next_sibling.Goals as goal
 
 pub returns-in_err-element : goal.returns-in_err-element

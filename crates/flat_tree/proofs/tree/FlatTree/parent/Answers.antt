@@ -1,7 +1,7 @@
 use Rattle.std.proofs.Common.{ℕ, Option, sym, subst, inr}
 use Rattle.std.specs.Prelude.{MatchOption}
-use Rattle.flat_tree.specs.Navigation.{HasNoParent, IsChild}
-use Rattle.flat_tree.proofs.Kin.{missing, parent_is}
+use Rattle.flat_elements.specs.Navigation.{HasNoParent, IsChild}
+use Rattle.flat_elements.proofs.Kin.{missing, parent_is}
 use Rattle.flat_tree.proofs.tree.FlatTree.parent.Goals as goal
 
 pub returns-in_err-element : goal.returns-in_err-element

@@ -2,8 +2,8 @@ use Rattle.std.proofs.Common.{◌≡◌, ◌⊎◌, ℕ, ◌<◌, ◌≤◌, Opt
 use Rattle.std.specs.Prelude.{MatchOption}
 use Rattle.std.specs.List.{slice_get}
 use Rattle.std.proofs.lemmas.Option.{slice_get_within}
-use Rattle.flat_tree.specs.Navigation.{AreNeighbors, HasNoParent, IsFirstChild}
-use Rattle.flat_tree.proofs.Kin.{missing, some_or_none}
+use Rattle.flat_elements.specs.Navigation.{AreNeighbors, HasNoParent, IsFirstChild}
+use Rattle.flat_elements.proofs.Kin.{missing, some_or_none}
 use Rattle.flat_tree.proofs.Siblings.{IsBefore, at_parent, at_sibling, climbs}
 use Rattle.flat_tree.proofs.tree.FlatTree.prev_sibling.Goals as goal
 

@@ -1,6 +1,6 @@
 use Rattle.std.proofs.Common.{◌≡◌, ◌<◌}
 use Rattle.rap_ranged.specs.RangedForest.{RangedNode}
-use Rattle.flat_tree.specs.FlatTree.{elements_of_tree}
+use Rattle.flat_elements.specs.Elements.{elements_of_tree}
 use Rattle.flat_tree.proofs.Siblings.{IsBefore}
 use Rattle.flat_tree.proofs.tree.FlatTree.prev_sibling.Given as goal
 

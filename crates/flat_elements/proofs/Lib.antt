@@ -1,0 +1,15 @@
+pub mod ByteLeaves
+pub mod Bytes
+pub mod Cuts
+pub mod Kin
+pub mod Links
+pub mod ListLaws
+pub mod MergeLaw
+pub mod Messages
+pub mod Moving
+pub mod Nested
+pub mod Pairs
+pub mod Placed
+pub mod Rows
+pub mod Runs
+pub mod Trees

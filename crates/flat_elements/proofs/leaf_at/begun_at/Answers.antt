@@ -1,0 +1,16 @@
+use Rattle.std.proofs.Common.{ap, arith}
+use Rattle.flat_elements.specs.declared.element.Element.{Element}
+use Rattle.flat_elements.proofs.Bytes.{read_is}
+use Rattle.flat_elements.proofs.leaf_at.begun_at.Goals as goal
+
+pub halves-preserved : goal.halves-preserved
+halves-preserved c =
+    let middle = c.index-elements-middle in
+    record {
+      ordered = omega arith;
+      bound = omega arith;
+      before = c.halves.invariant.before;
+      later = λ e h.
+          let same = ap (λ (x : Element). x.start) (read_is c.args.elements.now _ middle.result e (omega arith) middle.is h) in
+          omega (arith, same, c.start.ensures, c.if-start-offset.false);
+    }

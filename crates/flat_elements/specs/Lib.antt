@@ -1,0 +1,9 @@
+pub mod Building
+pub mod Built
+pub mod ByteLeaf
+pub mod Collects
+pub mod Elements
+pub mod Laws
+pub mod LeavesOf
+pub mod Navigation
+pub mod Order

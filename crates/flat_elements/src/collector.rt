@@ -1,0 +1,65 @@
+//! The sink that makes the list of a tree and keeps its messages.
+ghost use Rattle.std.specs.Prelude.{◌≡◌, ◌++◌, ◌∷◌, [], OnOk};
+ghost use Rattle.flat_elements.specs.Building.{building};
+
+use crate::builder::Builder;
+use crate::element::NO_PARENT;
+use crate::report::Report;
+use rap_base::no_memory::NoMemory;
+use rap_lexed::shortcuts::{StrSink, StrStep};
+use std::alloc::Global;
+
+/// The list of a tree and its messages after some of its steps.
+#[derive(Drop)]
+pub struct Collector {
+    alloc: Global,
+    /// The list so far.
+    pub builder: Builder,
+    /// The messages so far, whose places are not known yet.
+    pub reports: Vec<Report>,
+}
+
+impl Collector {
+    /// An empty collector. Room for so many elements is made if there is memory for it.
+    pub fn with_hint(alloc: Global, room: usize) -> Collector
+        ensures tree { building result.builder ≡ record { elements = []; newest = NO_PARENT; at = 0 } }
+        ensures reports { result.reports.items ≡ [] }
+    {
+        Collector {
+            alloc,
+            builder: Builder::with_hint(alloc, room),
+            reports: Vec::new(alloc),
+        }
+    }
+
+    /// Keeps a message.
+    fn keep(&mut self, text: &str, at: usize) -> Result<(), NoMemory>
+        ensures reports { OnOk result (self.new.reports.items ≡ self.old.reports.items ++ record { text = text.now; at = at } ∷ []) }
+        ensures tree { self.new.builder ≡ self.old.builder }
+    {
+        let text = String::from_str(self.alloc, text)?;
+        self.reports.push(Report::new(text, at))?;
+        Ok(())
+    }
+}
+
+impl StrSink for Collector {
+    ghost use Rattle.flat_elements.specs.Collects.{Collects};
+
+    type Refusal = NoMemory;
+
+    ghost takes = { Collects };
+
+    // After a call that was out of memory, nothing is specified about what was kept.
+    ghost refuses = { λ _ _ _ _. Unit {0} };
+
+    #[inline(always)]
+    fn step(&mut self, step: StrStep<'_>) -> Result<(), NoMemory> {
+        match step {
+            StrStep::Error { msg, pos } => self.keep(msg, pos),
+            StrStep::Token { kind, text } => self.builder.token(kind, text),
+            StrStep::Enter { kind } => self.builder.enter(kind),
+            StrStep::Exit => self.builder.exit(),
+        }
+    }
+}

@@ -1,0 +1,99 @@
+//! Messages whose place is not known yet.
+ghost use Rattle.std.specs.Prelude.{◌≡◌, IfOk, Some, map, string_bytes};
+ghost use Rattle.std.specs.List.{slice_get};
+ghost use Rattle.flat_elements.specs.declared.element.Element.{Element};
+ghost use Rattle.rap_lexed.specs.StrForest.{StrForest};
+ghost use Rattle.rap_ranged.specs.MergedMessages.{merged};
+ghost use Rattle.rap_ranged.specs.Ranged.{Ranged};
+ghost use Rattle.rap_ranged.specs.RangedForest.{RangedNode};
+ghost use Rattle.rap_ranged.specs.RangedMessages.{ranged_message};
+ghost use Rattle.flat_elements.specs.Elements.{elements_of_tree};
+
+use crate::element::Element;
+use crate::leaf_at::{element_of, leaf_of};
+use crate::merge::merge;
+use crate::message::Message;
+use rap_base::no_memory::NoMemory;
+use std::alloc::Global;
+use std::marker::Model;
+use std::ops::Range;
+
+/// A message: its text, and its position in bytes.
+#[derive(Drop)]
+pub struct Report {
+    text: String,
+    at: usize,
+}
+
+impl Model for Report {
+    ghost use Rattle.std.specs.Prelude.{string_bytes};
+    ghost use Rattle.rap_ranged.specs.Reports.{ReportValue};
+
+    ghost Value = { ReportValue };
+
+    ghost view = { λ r. record { text = string_bytes r.text; at = r.at } };
+}
+
+impl Report {
+    /// A message of this text at this byte.
+    pub fn new(text: String, at: usize) -> Report
+        ensures { result ≡ record { text = string_bytes text; at = at } }
+    {
+        Report { text, at }
+    }
+
+    /// The message with the range of the leaf at its position.
+    fn placed(self, elements: &[Element]) -> Message
+        ensures { (f : StrForest) (root : RangedNode) → Ranged f root → elements.now ≡ elements_of_tree root → result ≡ ranged_message root.children self }
+    {
+        match leaf_of(elements, self.at) {
+            Some(index) => {
+                let range = place_of(elements, index, self.at);
+                Message::new(self.text, self.at, range)
+            }
+            None => Message::new(self.text, self.at, self.at..self.at),
+        }
+    }
+}
+
+/// The place of the element with this index; where none has it, an empty one at this byte.
+fn place_of(elements: &[Element], index: u32, at: usize) -> Range<usize>
+    ensures start { (e : Element) → slice_get elements.now index ≡ Some e → result.start ≡ e.start }
+    ensures end { (e : Element) → slice_get elements.now index ≡ Some e → result.end ≡ e.end }
+{
+    match element_of(elements, index) {
+        Some(element) => element.range(),
+        None => at..at,
+    }
+}
+
+/// The messages of the parser and those of the lexer in the order of their positions, with their places.
+pub fn all_messages(
+    alloc: Global,
+    of_parser: Vec<Report>,
+    of_lexer: Vec<Report>,
+    elements: &[Element],
+) -> Result<Vec<Message>, NoMemory>
+    ensures { (f : StrForest) (root : RangedNode) → Ranged f root → elements.now ≡ elements_of_tree root
+        → IfOk result (λ messages. messages.items ≡ merged (map (ranged_message root.children) of_parser.items) (map (ranged_message root.children) of_lexer.items)) }
+{
+    let first = all_placed(alloc, of_parser, elements)?;
+    let second = all_placed(alloc, of_lexer, elements)?;
+    merge(alloc, first, second)
+}
+
+/// The messages with their places.
+fn all_placed(
+    alloc: Global,
+    reports: Vec<Report>,
+    elements: &[Element],
+) -> Result<Vec<Message>, NoMemory>
+    ensures { (f : StrForest) (root : RangedNode) → Ranged f root → elements.now ≡ elements_of_tree root
+        → IfOk result (λ messages. messages.items ≡ map (ranged_message root.children) reports.items) }
+{
+    let mut messages = Vec::with_capacity(alloc, reports.len())?;
+    'reports: for report in reports {
+        messages.push(report.placed(elements))?;
+    }
+    Ok(messages)
+}

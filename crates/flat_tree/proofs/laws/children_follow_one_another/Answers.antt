@@ -1,5 +1,0 @@
-use Rattle.flat_tree.proofs.ListLaws.{children_follow}
-use Rattle.flat_tree.proofs.laws.children_follow_one_another.Goals as goal
-
-pub returns : goal.returns
-returns c = children_follow

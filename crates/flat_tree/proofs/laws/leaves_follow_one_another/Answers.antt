@@ -1,5 +1,0 @@
-use Rattle.flat_tree.proofs.ListLaws.{leaves_follow}
-use Rattle.flat_tree.proofs.laws.leaves_follow_one_another.Goals as goal
-
-pub returns : goal.returns
-returns c = leaves_follow
