@@ -431,6 +431,7 @@ fn restricted_field<G: Grammar>(p: &mut Parser<'_>, g: &G, m: Marker) -> Result<
 }
 
 /// A field from its name on.
+#[tactic(auto, using(rap_grammar_frame::proofs::Steps::by_report), unfolding(rap_grammar_scripts::specs::Adt::named_field))]
 fn named_field<G: Grammar>(p: &mut Parser<'_>, g: &G, m: Marker) -> Result<(), NoMemory>
     requires behind { Behind G.valid G.left g.now (state p.old) }
     requires newest { (state p.old).marker ≡ Some m.pos.value }
