@@ -6,14 +6,16 @@ use Rattle.rap_base.specs.TokenSet.{member}
 use Rattle.rap_base.specs.declared.token_set.TokenSet.{TokenSet}
 use Rattle.rap_events.specs.Machine.{push, top}
 use Rattle.rap_events.specs.Record.{next_kind}
-use Rattle.rap_events.specs.State.{State, next, Opened, Abandoned, Recovered, but_last}
+use Rattle.rap_events.specs.State.{State, state, next, Opened, Abandoned, Recovered, but_last}
 use Rattle.rap_events.specs.declared.parser.CompletedMarker.{CompletedMarker}
+use Rattle.rap_events.specs.declared.parser.Parser.{Parser}
 use Rattle.rap_grammar_scripts.specs.First.{is_expr_first, is_outer_attr_first}
 use Rattle.rap_grammar_frame.specs.Grew.{Grew, Took, Spent, Dropped}
 use Rattle.rap_grammar_scripts.specs.Recovery.{is_expr_recovery, stops_expr}
 use Rattle.rap_grammar_frame.specs.Room.{expression_room, marked_room, list_room}
 use Rattle.rap_grammar_frame.specs.Rules.{Answered, AnsweredFrom}
 use Rattle.rap_grammar_scripts.specs.declared.arguments.BlockLike.{BlockLike}
+use Rattle.rap_grammar_frame.proofs.Left.{left_at_end}
 use Rattle.rap_grammar_frame.proofs.Steps.{clash}
 
 abbrev keeps : ℕ → Bool
@@ -61,14 +63,13 @@ spent_missing {s = s} {kept = false} first f r a h =
     }
 
 -- and takes nothing where that ends it
-pub stays_missing : {s t u : State} {bytes : List ℕ} {set : TokenSet} {kept : Bool} →
-    ((k : ℕ) → member set k ≡ is_expr_recovery k) → (next s ≡ EOF → s.left ≡ 0) → Recovered s t bytes set kept →
-    Abandoned t u →
-    stops_expr (next s) ≡ true → u.left ≡ s.left
-stays_missing {kept = true} first end r a h = a.recorded.left ∙ (r.reported refl).left
-stays_missing {s = s} {kept = false} first end r a h =
-    let k : keeps (next s) ≡ false = rw (← (first (next s))) (sym r.decided) in
-    let none = end (only_end (next s) h k) in
+pub stays_missing : (p : Parser) {t u : State} {bytes : List ℕ} {set : TokenSet} {kept : Bool} →
+    ((k : ℕ) → member set k ≡ is_expr_recovery k) → Recovered (state p) t bytes set kept → Abandoned t u →
+    stops_expr (next (state p)) ≡ true → u.left ≡ (state p).left
+stays_missing p {kept = true} first r a h = a.recorded.left ∙ (r.reported refl).left
+stays_missing p {kept = false} first r a h =
+    let k : keeps (next (state p)) ≡ false = rw (← (first (next (state p)))) (sym r.decided) in
+    let none = left_at_end p (only_end (next (state p)) h k) in
     omega (arith, none, r.left, a.recorded.left)
 
 by_test : {A : Type 0} (b : Bool) → (b ≡ true → A) → (b ≡ false → A) → A

@@ -88,7 +88,7 @@ pub fn expr_from<G: Grammar>(
 /// Reports that an expression is missing, and abandons the marker. It is a function of its own so that the set
 /// takes no room on the stack of the recursive rules.
 #[inline(never)]
-#[tactic(auto, using(crate::proofs::Missing::spent_missing), unfolding(rap_grammar_scripts::specs::Expressions::missing_expr))]
+#[tactic(auto, using(crate::proofs::Missing::spent_missing, crate::proofs::Missing::stays_missing), unfolding(rap_grammar_scripts::specs::Expressions::missing_expr))]
 fn missing_expr(p: &mut Parser<'_>, m: Marker) -> Result<(), NoMemory>
     requires newest { (state p.old).marker ≡ Some m.pos.value }
     requires missing { is_expr_first (next (state p.old)) ≡ false }

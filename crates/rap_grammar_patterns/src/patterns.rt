@@ -1,5 +1,5 @@
 //! Patterns.
-ghost use Rattle.std.specs.Prelude.{Bool, ◌≡◌, ◌≢◌, ◌<◌, ◌≤◌, ◌∷◌, ℕ, OnOk, IfOk, true, [], false};
+ghost use Rattle.std.specs.Prelude.{Bool, ◌≡◌, ◌≢◌, ◌<◌, ◌≤◌, ◌∷◌, ℕ, OnOk, IfOk, IfSome, None, true, [], false};
 ghost use Rattle.rap_base.specs.TokenSet.{member};
 ghost use Rattle.rap_base.specs.TokenKind.{DOT2EQ, DOT2, EOF, AMP, POUND, BUILTIN_KW, L_PAREN, L_CURLY, R_CURLY, UNDERSCORE, BANG, L_BRACK, IDENT, MUT_KW, REF_KW, BOX_KW, CONST_KW};
 ghost use Rattle.rap_base.specs.NodeKind.{LITERAL_PAT, WILDCARD_PAT, REF_PAT, NOT_NULL, SLICE_PAT, IDENT_PAT, BOX_PAT, CONST_BLOCK_PAT};
@@ -9,7 +9,7 @@ ghost use Rattle.rap_grammar_frame.specs.Grew.{Within, Grew, Took, Makes, Made, 
 ghost use Rattle.rap_grammar_scripts.specs.Exec.{Does};
 ghost use Rattle.rap_grammar_scripts.specs.Patterns as script;
 ghost use Rattle.rap_grammar_scripts.specs.Patterns.{ends_range_pat, is_ident_pat_start, is_literal_pat_start, at_field, is_rest_pat, ends_search};
-ghost use Rattle.rap_grammar_scripts.specs.Recovery.{is_pattern_recovery, stops_of};
+ghost use Rattle.rap_grammar_scripts.specs.Recovery.{is_pattern_recovery, stops_of, stops_pattern};
 ghost use Rattle.rap_grammar_frame.specs.Room.{element_room, pattern_room, single_pattern_room, atom_pattern_room, list_room, name_room, recovery_events};
 ghost use Rattle.rap_grammar_frame.specs.Rules.{IsAtomPattern, PatternUntil};
 ghost use Rattle.rap_grammar_scripts.specs.Script.{something, nothing, again};
@@ -335,7 +335,12 @@ fn builtin_pat<G: Grammar>(p: &mut Parser<'_>, g: &G) -> Result<Option<Completed
     requires within { Within G.valid G.left g.now (state p.old) }
     requires here { ReadsAs (state p.old) BUILTIN_KW }
     requires pound { NthAt (state p.old) 1 POUND }
-    ensures atom { IfOk result (λ o. (in_arm : Bool) → IsAtomPattern in_arm (state p.old) (state p.new) o) }
+    ensures made { IfOk result
+        (λ o. IfSome o (λ cm. Made (state p.old) (state p.new) cm atom_pattern_room ×
+        (stops_pattern (next (state p.old)) ≡ false))) }
+    ensures none { IfOk result
+        (λ o. o ≡ None → (in_arm : Bool) →
+        PatternUntil (stops_of in_arm) recovery_events atom_pattern_room (state p.old) (state p.new)) }
     ensures script { IfOk result
         (λ o. Does (G.left g.now) script.builtin_pat (of_option o) (state p.old) (state p.new)) }
 {
@@ -514,8 +519,8 @@ fn record_pat_turn<G: Grammar>(p: &mut Parser<'_>, g: &G) -> Result<(), NoMemory
     requires more { next (state p.old) ≢ EOF }
     requires open { next (state p.old) ≢ R_CURLY }
     ensures took { OnOk result (Took (state p.old) (state p.new) pattern_room) }
-    ensures script { OnOk result ((a b : Bool) →
-        Does (G.left g.now) (script.record_pat_turn a b) (again a b) (state p.old) (state p.new)) }
+    ensures script { OnOk result
+        (Does (G.left g.now) (script.record_pat_turn false false) (again false false) (state p.old) (state p.new)) }
 {
     record_pat_element(p, g)?;
     if !p.at(T!['}']) {

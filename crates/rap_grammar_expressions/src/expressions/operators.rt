@@ -124,7 +124,7 @@ pub(crate) fn climb<G: Grammar>(
 }
 
 /// An operator between two expressions, the left one done, as `+ b` after `a`.
-#[tactic(auto, using(rap_grammar_frame::proofs::Binary::width_positive, rap_grammar_frame::proofs::Binary::bound), unfolding(rap_grammar_scripts::specs::Operators::bin_expr))]
+#[tactic(auto, using(rap_grammar_frame::proofs::Binary::width_positive, rap_grammar_frame::proofs::Binary::bound, rap_grammar_frame::proofs::Binary::fits), unfolding(rap_grammar_scripts::specs::Operators::bin_expr))]
 fn bin_expr<G: Grammar>(
     p: &mut Parser<'_>,
     g: &G,
