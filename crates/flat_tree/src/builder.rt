@@ -1,7 +1,6 @@
 //! The sink that makes the list of a tree.
-ghost use Rattle.std.specs.Prelude.{◌≡◌, ◌+◌, ◌<◌, [], IfOk, OnOk, length, IsUtf8};
+ghost use Rattle.std.specs.Prelude.{◌≡◌, ◌+◌, ◌<◌, ◌≤◌, ◌^◌, [], IfOk, OnOk, length, vec_capacity, vec_len, IsUtf8};
 ghost use Rattle.rap_lexed.specs.StrStep.{str_enter, str_exit, str_token};
-ghost use Rattle.flat_tree.specs.Building.{after, building};
 
 use crate::element::{Element, NO_PARENT};
 use rap_base::no_memory::NoMemory;
@@ -11,11 +10,17 @@ use std::alloc::Global;
 
 /// The list of a tree as far as its steps have come, the index of the newest open node, and the end of the last leaf.
 /// Each open node has the index of the one around it.
+///
+/// Up to `room` elements the list takes another one without asking for memory, and each of these has an index in 32
+/// bits: so one comparison is all that stands before a step.
 #[derive(Drop)]
 pub(crate) struct Builder {
     elements: Vec<Element>,
+    room: u32,
     newest: u32,
     at: u32,
+    ghost few: { vec_len elements ≤ room },
+    ghost fits: { room ≤ vec_capacity elements },
 }
 
 /// Where a text ends that begins at a place. A place past 32 bits is refused; no lexed text is so long.
@@ -23,30 +28,39 @@ pub(crate) struct Builder {
 fn end_of(at: u32, text: &str) -> Result<u32, NoMemory>
     ensures { IfOk result (λ end. end ≡ at + length text.now) }
 {
-    let end = (at as usize).checked_add(text.len()).ok_or(NoMemory)?;
-    narrow(end)
-}
-
-/// The number in 32 bits. A larger one is refused: a list of so many elements would take 80 GiB.
-#[inline(always)]
-fn narrow(number: usize) -> Result<u32, NoMemory>
-    ensures { IfOk result (λ narrowed. narrowed ≡ number) }
-{
-    if number > u32::MAX as usize {
+    let left = u32::MAX - at;
+    if text.len() > left as usize {
         return Err(NoMemory);
     }
-    Ok(number as u32)
+    Ok(at + text.len() as u32)
+}
+
+/// For how many elements there is room: as many as the list takes without asking for memory, but no more than have an
+/// index in 32 bits.
+fn room_of(elements: &Vec<Element>) -> u32
+    ensures fits { result ≤ vec_capacity elements.now }
+    ensures few { vec_len elements.now < 2 ^ 32 → vec_len elements.now ≤ result }
+    ensures more { vec_len elements.now + 1 < 2 ^ 32 → vec_len elements.now < vec_capacity elements.now → vec_len elements.now < result }
+{
+    if elements.capacity() > u32::MAX as usize {
+        return u32::MAX;
+    }
+    elements.capacity() as u32
 }
 
 impl Builder {
+    ghost use Rattle.flat_tree.specs.Building.{after, building};
+
     /// Nothing yet. Room for so many elements is made if there is memory for it; else the list grows as it is filled.
     pub(crate) fn with_hint(alloc: Global, room: usize) -> Builder
         ensures { building result ≡ record { elements = []; newest = NO_PARENT; at = 0 } }
     {
         let mut elements = Vec::new(alloc);
         let _ = elements.reserve(room);
+        let room = room_of(&elements);
         Builder {
             elements,
+            room,
             newest: NO_PARENT,
             at: 0,
         }
@@ -56,8 +70,11 @@ impl Builder {
     pub(crate) fn with_room(alloc: Global, room: usize) -> Result<Builder, NoMemory>
         ensures { IfOk result (λ builder. building builder ≡ record { elements = []; newest = NO_PARENT; at = 0 }) }
     {
+        let elements = Vec::with_capacity(alloc, room)?;
+        let room = room_of(&elements);
         Ok(Builder {
-            elements: Vec::with_capacity(alloc, room)?,
+            elements,
+            room,
             newest: NO_PARENT,
             at: 0,
         })
@@ -69,10 +86,49 @@ impl Builder {
     {
         let Builder {
             elements,
+            room: _,
             newest: _,
             at: _,
         } = self;
         elements
+    }
+
+    /// Makes room for one more element. A list of so many that one has no index in 32 bits is refused: it would take 80
+    /// GiB. What was built stays, also if this is out of memory.
+    #[cold]
+    #[inline(never)]
+    fn grow(&mut self) -> Result<(), NoMemory>
+        ensures same { building self.new ≡ building self.old }
+        ensures room { OnOk result (vec_len self.new.elements < self.new.room) }
+    {
+        if self.room == u32::MAX {
+            return Err(NoMemory);
+        }
+        self.elements.reserve(1)?;
+        self.room = room_of(&self.elements);
+        Ok(())
+    }
+
+    /// How many elements there are.
+    #[inline(always)]
+    fn count(&self) -> u32
+        ensures count { result ≡ length self.now.elements.items }
+        ensures below { vec_len self.now.elements < self.now.room → result + 1 < 2 ^ 32 }
+    {
+        let _room = self.room;
+        self.elements.len() as u32
+    }
+
+    /// Makes room for one more element, if there is none. What was built stays.
+    #[inline(always)]
+    fn make_room(&mut self) -> Result<(), NoMemory>
+        ensures same { building self.new ≡ building self.old }
+        ensures room { OnOk result (vec_len self.new.elements < self.new.room) }
+    {
+        if self.elements.len() < self.room as usize {
+            return Ok(());
+        }
+        self.grow()
     }
 
     /// A node begins.
@@ -80,9 +136,10 @@ impl Builder {
     pub(crate) fn enter(&mut self, kind: SyntaxKind) -> Result<(), NoMemory>
         ensures { OnOk result (building self.new ≡ after (building self.old) (str_enter kind)) }
     {
-        let index = narrow(self.elements.len())?;
+        self.make_room()?;
+        let index = self.count();
         self.elements
-            .push(Element::opened(kind, self.at, self.newest))?;
+            .push_reserved(Element::opened(kind, self.at, self.newest));
         self.newest = index;
         Ok(())
     }
@@ -92,7 +149,7 @@ impl Builder {
     pub(crate) fn exit(&mut self) -> Result<(), NoMemory>
         ensures { OnOk result (building self.new ≡ after (building self.old) str_exit) }
     {
-        let after = narrow(self.elements.len())?;
+        let after = self.count();
         let index = self.newest as usize;
         if index < self.elements.len() {
             let node = &mut self.elements[index];
@@ -108,10 +165,10 @@ impl Builder {
         ensures text { IsUtf8 text.now }
     {
         let end = end_of(self.at, text)?;
-        let count = self.elements.len();
-        let after = narrow(count.saturating_add(1))?;
+        self.make_room()?;
+        let after = self.count() + 1;
         self.elements
-            .push(Element::leaf(kind, self.at, end, after, self.newest))?;
+            .push_reserved(Element::leaf(kind, self.at, end, after, self.newest));
         self.at = end;
         Ok(())
     }
