@@ -61,6 +61,7 @@ impl<'a, 'text> Builder<'a, 'text> {
         }
     }
 
+    #[inline(always)]
     pub(super) fn step<S: StrSink>(
         &mut self,
         step: Step<'_>,
@@ -97,6 +98,7 @@ impl<'a, 'text> Builder<'a, 'text> {
         Ok(self.pos == self.lexed.len())
     }
 
+    #[inline(always)]
     fn token<S: StrSink>(
         &mut self,
         kind: SyntaxKind,
@@ -127,6 +129,7 @@ impl<'a, 'text> Builder<'a, 'text> {
         hand_out_float(text, ends_in_dot, start, sink)
     }
 
+    #[inline(always)]
     fn enter<S: StrSink>(&mut self, kind: SyntaxKind, sink: &mut S) -> Result<(), S::Refusal>
         requires { self.old.pos ≤ length self.old.lexed.now.tokens }
         ensures steps { HandsOut S.takes S.refuses sink.old (made_by self.old (enter kind)) result sink.new }
@@ -142,6 +145,7 @@ impl<'a, 'text> Builder<'a, 'text> {
 
     /// Hands out the beginning of a node, and the trivia that stand here: its attached tail after it, and the others
     /// before. Most nodes begin where none stand.
+    #[inline(always)]
     fn enter_between_trivias<S: StrSink>(
         &mut self,
         kind: SyntaxKind,
@@ -198,6 +202,7 @@ impl<'a, 'text> Builder<'a, 'text> {
         self.eat_trivias(sink)
     }
 
+    #[inline(always)]
     fn exit<S: StrSink>(&mut self, sink: &mut S) -> Result<(), S::Refusal>
         ensures steps { HandsOut S.takes S.refuses sink.old (made_by self.old exit) result sink.new }
         ensures after { OnOk result (self.new ≡ moved self.old exit) }
@@ -208,6 +213,7 @@ impl<'a, 'text> Builder<'a, 'text> {
     }
 
     /// Hands out the end of a node that waits, and the trivia that stand here.
+    #[inline(always)]
     fn settle<S: StrSink>(&mut self, sink: &mut S) -> Result<(), S::Refusal>
         requires { self.old.pos ≤ length self.old.lexed.now.tokens }
         ensures steps { HandsOut S.takes S.refuses sink.old (before_next self.old.lexed.now.tokens self.old.state self.old.pos) result sink.new }
@@ -226,6 +232,7 @@ impl<'a, 'text> Builder<'a, 'text> {
     }
 
     /// Hands out the end of a node that waits.
+    #[inline(always)]
     pub(super) fn close<S: StrSink>(&mut self, sink: &mut S) -> Result<(), S::Refusal>
         ensures steps { HandsOut S.takes S.refuses sink.old (held self.old.state) result sink.new }
         ensures after { OnOk result (self.new ≡ record self.old { state = Normal }) }
@@ -237,6 +244,7 @@ impl<'a, 'text> Builder<'a, 'text> {
         Ok(())
     }
 
+    #[inline(always)]
     fn eat_trivias<S: StrSink>(&mut self, sink: &mut S) -> Result<(), S::Refusal>
         requires { self.old.pos ≤ length self.old.lexed.now.tokens }
         ensures steps { HandsOut S.takes S.refuses sink.old (leaves_of (trivia_at self.old.lexed.now.tokens self.old.pos)) result sink.new }
@@ -265,6 +273,7 @@ impl<'a, 'text> Builder<'a, 'text> {
         Ok(())
     }
 
+    #[inline(always)]
     fn do_token<S: StrSink>(
         &mut self,
         kind: SyntaxKind,
