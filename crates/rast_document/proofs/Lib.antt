@@ -1,3 +1,4 @@
+pub mod BlockLemmas
 pub mod CharacterLemmas
 pub mod ChangeLemmas
 pub mod LineLemmas

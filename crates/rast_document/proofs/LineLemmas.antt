@@ -199,6 +199,31 @@ break_is b h = grind (arith, nat_tests)
 pub break_not : (b : ℕ) → is_line_break b ≡ false → (b ≢ 10) × (b ≢ 13)
 break_not b h = grind (arith, nat_tests)
 
+-- bytes that are no line breaks begin no line
+no_end : (s : List ℕ) (i : ℕ) → is_line_break (get_or s i 0) ≡ false → ends_line s i ≡ false
+no_end s i h = let bytes = break_not (get_or s i 0) h in grind (arith, nat_tests)
+
+starts_pass : (s : List ℕ) (n k : ℕ) → ((i : ℕ) → n ≤ i → i < n + k → is_line_break (get_or s i 0) ≡ false) → starts_to s (n + k) ≡ starts_to s n
+starts_pass s n zero none = ap (starts_to s) (omega arith)
+starts_pass s n (suc k) none =
+    let e : n + suc k ≡ suc (n + k) = omega arith in
+    let here = no_end s (n + k) (none (n + k) (omega arith) (omega arith)) in
+    ap (starts_to s) e
+    ∙ (elim (stepped s (n + k)) [ inl b ↦ absurd (false≢true (sym here ∙ b.0)) | inr b ↦ b.1 ]
+    ∙ starts_pass s n k (λ i from before. none i from (omega arith)))
+
+pub starts_past : (s : List ℕ) (n m : ℕ) → n ≤ m → ((i : ℕ) → n ≤ i → i < m → is_line_break (get_or s i 0) ≡ false) → starts_to s m ≡ starts_to s n
+starts_past s n m rising none =
+    let e : m ≡ n + (m - n) = omega arith in
+    ap (starts_to s) e ∙ starts_pass s n (m - n) (λ i from before. none i from (omega arith))
+
+-- one byte further, by whether a line ends with it
+pub starts_ending : (s : List ℕ) (n : ℕ) → ends_line s n ≡ true → starts_to s (n + 1) ≡ starts_to s n ++ (n + 1) ∷ []
+starts_ending s n h = let e : n + 1 ≡ suc n = omega arith in ap (starts_to s) e ∙ elim (stepped s n) [ inl b ↦ b.1 | inr b ↦ absurd (false≢true (sym b.0 ∙ h)) ]
+
+pub starts_open : (s : List ℕ) (n : ℕ) → ends_line s n ≡ false → starts_to s (n + 1) ≡ starts_to s n
+starts_open s n h = let e : n + 1 ≡ suc n = omega arith in ap (starts_to s) e ∙ elim (stepped s n) [ inl b ↦ absurd (false≢true (sym h ∙ b.0)) | inr b ↦ b.1 ]
+
 -- where a line ends, by its bytes
 pub line_end_is : (s : List ℕ) (start end : ℕ) → start ≤ end → end ≤ length s → ((i : ℕ) → start ≤ i → i < end → (get_or s i 0 ≢ 10) × (get_or s i 0 ≢ 13)) →
     (end < length s → (get_or s end 0 ≡ 10) ⊎ (get_or s end 0 ≡ 13)) → line_end s start ≡ end

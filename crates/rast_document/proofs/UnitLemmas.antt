@@ -1,8 +1,7 @@
 -- Units of parts of a text.
-use Rattle.std.proofs.Common.{◌≡◌, ◌≢◌, ℕ, ◌+◌, ◌-◌, ◌*◌, ◌%◌, ◌<◌, ◌≤◌, List, [], ◌∷◌, ◌++◌, length, take, drop, get_or, slice_range, sym, ap, ◌∙◌, inl, inr, arith}
-use Rattle.std.proofs.lemmas.Bool.{cases_lt}
+use Rattle.std.proofs.Common.{◌≡◌, ℕ, ◌+◌, ◌-◌, ◌*◌, ◌<◌, ◌≤◌, List, [], ◌∷◌, length, take, drop, get_or, slice_range, sym, ap, ◌∙◌, arith}
 use Rattle.std.proofs.lemmas.Bool.Decides.{nat_tests}
-use Rattle.std.proofs.lemmas.List.{take-take, take-append-drop, drop-take, length_push, get_or_append_left, get_or_push}
+use Rattle.std.proofs.lemmas.List.{take-take, take-append-drop, drop-take}
 use Rattle.std.proofs.lemmas.List.Elements.{All-from_get_or}
 use Rattle.std.proofs.lemmas.List.Sums.{sum_by-append, sum_by-take-le, sum_by-le, sum_by_more}
 use Rattle.rast_document.specs.declared.encoding.Encoding.{Encoding}
@@ -52,7 +51,7 @@ pub units_past : (e : Encoding) (s : List ℕ) (a b : ℕ) → a < b → b ≤ l
 units_past e s a b h within first =
     omega (arith, units_more e s a (omega arith), units_of_first e (get_or s a 0) first, units_rise e s (a + 1) b (omega arith))
 
--- marks, one byte further
+-- the first mark
 pub marks_none : (e : Encoding) (s : List ℕ) → AreMarks e s 0 (0 ∷ [])
 marks_none e s = record {
   count = omega arith;
@@ -60,21 +59,4 @@ marks_none e s = record {
       let first : k ≡ 0 = omega arith in
       let here : k * 64 ≡ 0 = omega arith in
       ap {B = ℕ} (λ i. get_or (0 ∷ []) i 0) first ∙ sym (ap (λ i. units e (take i s)) here);
-}
-
-pub marks_keep : (e : Encoding) (s marks : List ℕ) (i : ℕ) → AreMarks e s i marks → (i + 1) % 64 ≢ 0 → AreMarks e s (i + 1) marks
-marks_keep e s marks i are between = record {
-  count = omega (arith, are.count);
-  each = λ k h. are.each k (omega arith);
-}
-
-pub marks_push : (e : Encoding) (s marks : List ℕ) (i n : ℕ) → AreMarks e s i marks → (i + 1) % 64 ≡ 0 → n ≡ units e (take (i + 1) s) → AreMarks e s (i + 1) (marks ++ n ∷ [])
-marks_push e s marks i n are full same = record {
-  count = omega (arith, are.count, length_push marks n);
-  each = λ k h.
-      elim (cases_lt k (length marks)) [
-        | inl x ↦ get_or_append_left marks (n ∷ []) 0 k x ∙ are.each k (omega (arith, are.count))
-        | inr x ↦ let here : i + 1 ≡ k * 64 = omega (arith, are.count) in
-            get_or_push marks n 0 k (omega (arith, are.count)) ∙ (same ∙ ap (λ j. units e (take j s)) here)
-      ];
 }

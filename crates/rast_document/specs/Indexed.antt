@@ -1,6 +1,6 @@
 -- What calls promise one another of lines and of units counted ahead.
 -- (Used in contracts between internal functions and in what a document keeps true; no public contract rests on it.)
-use Rattle.std.specs.Prelude.{◌≡◌, ℕ, ◌+◌, ◌-◌, ◌*◌, ◌/◌, ◌<◌, ◌≤◌, true, false, List, length, take, slice_index}
+use Rattle.std.specs.Prelude.{◌≡◌, ℕ, Bool, nat_le, ◌+◌, ◌-◌, ◌*◌, ◌/◌, ◌<◌, ◌≤◌, true, false, List, length, take, slice_index}
 use Rattle.rast_document.specs.declared.encoding.Encoding.{Encoding}
 use Rattle.rast_document.specs.Lines.{ends_line, line_start, line_starts}
 use Rattle.rast_document.specs.Units.{units}
@@ -41,3 +41,7 @@ pub record IsReached (e : Encoding) (s : List ℕ) (start end count offset : ℕ
   pub to : offset ≤ end
   pub few : units e (take offset s) ≤ units e (take start s) + count
   pub next : offset < end → units e (take start s) + count < units e (take (offset + 1) s)
+
+-- the byte is this one or a greater one
+abbrev pub is_from : ℕ → ℕ → Bool
+is_from least b = nat_le least b

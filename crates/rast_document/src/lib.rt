@@ -5,6 +5,7 @@
 //! positions and back, and [`Document::change`] replaces ranges.
 #![tactic(auto)]
 
+mod blocks;
 mod change;
 mod document;
 mod encoding;

@@ -1,8 +1,9 @@
 //! The lines of a text.
-ghost use Rattle.std.specs.Prelude.{◌≡◌, ◌+◌, ◌<◌, ◌≤◌, ◌↔◌, IfOk, IsTrue, length, slice_index};
-ghost use Rattle.rast_document.specs.Lines.{ends_line, line_end, line_starts};
+ghost use Rattle.std.specs.Prelude.{◌≡◌, ◌+◌, ◌<◌, ◌≤◌, ◌↔◌, IfOk, IsTrue, OnOk, length, slice_index};
+ghost use Rattle.rast_document.specs.Lines.{ends_line, line_end, line_starts, starts_to};
 ghost use Rattle.rast_document.specs.Indexed.{IsLastStart, IsNextStart, IsPair};
 
+use crate::blocks::{BLOCK, breaks_of};
 use std::alloc::{AllocError, Global};
 
 /// Whether a line end is complete with the byte at this index.
@@ -17,13 +18,38 @@ fn ends_line(text: &[u8], index: usize) -> bool
     }
 }
 
+/// Adds the starts of lines after the line ends of the block at an offset. The error means out of memory.
+fn push_starts(starts: &mut Vec<usize>, text: &[u8], at: usize) -> Result<(), AllocError>
+    requires within { at + 64 ≤ length text.now }
+    requires before { starts.old.items ≡ starts_to text.now at }
+    ensures { OnOk result (starts.new.items ≡ starts_to text.now (at + 64)) }
+{
+    let mut left = breaks_of(text, at);
+    let mut from = at;
+    'breaks: while left != 0 {
+        let skipped = left.trailing_zeros();
+        let index = from + skipped as usize;
+        if ends_line(text, index) {
+            starts.push(index + 1)?;
+        }
+        left = (left >> skipped) >> 1;
+        from = index + 1;
+    }
+    Ok(())
+}
+
 /// The offsets at which the lines of a text begin. The error means out of memory.
 pub(crate) fn line_starts(alloc: Global, text: &[u8]) -> Result<Vec<usize>, AllocError>
     ensures { IfOk result (λ starts. starts.items ≡ line_starts text.now) }
 {
     let mut starts = Vec::new(alloc);
     starts.push(0)?;
-    for index in 0..text.len() {
+    let mut at = 0;
+    'whole: while text.len() - at >= BLOCK {
+        push_starts(&mut starts, text, at)?;
+        at += BLOCK;
+    }
+    for index in at..text.len() {
         if ends_line(text, index) {
             starts.push(index + 1)?;
         }

@@ -3,11 +3,9 @@ ghost use Rattle.std.specs.Prelude.{◌≡◌, ◌<◌, ◌≤◌, ◌^◌, IfOk
 ghost use Rattle.rast_document.specs.Indexed.{AreMarks};
 ghost use Rattle.rast_document.specs.Units.{units};
 
+use crate::blocks::{BLOCK, units_of_block};
 use crate::encoding::Encoding;
 use std::alloc::{AllocError, Global};
-
-// How many bytes are between two marks.
-const STEP: usize = 64;
 
 /// The units of a text before each 64th byte. The error means out of memory.
 pub(crate) fn marks_of(
@@ -18,14 +16,12 @@ pub(crate) fn marks_of(
     requires { length text.now < 2 ^ 63 }
     ensures { IfOk result (λ marks. AreMarks encoding text.now (length text.now) marks.items) }
 {
-    let mut marks = Vec::new(alloc);
+    let mut marks = Vec::with_capacity(alloc, text.len() / BLOCK + 1)?;
     marks.push(0)?;
     let mut total = 0;
-    for index in 0..text.len() {
-        total += encoding.units_of_byte(text[index]);
-        if (index + 1) % STEP == 0 {
-            marks.push(total)?;
-        }
+    for block in 0..text.len() / BLOCK {
+        total += units_of_block(encoding, text, block * BLOCK);
+        marks.push(total)?;
     }
     Ok(marks)
 }
@@ -37,9 +33,9 @@ pub(crate) fn units_to(encoding: Encoding, text: &[u8], marks: &[usize], offset:
     requires room { length text.now < 2 ^ 63 }
     ensures { result ≡ units encoding (take offset text.now) }
 {
-    let mark = offset / STEP;
+    let mark = offset / BLOCK;
     let mut total = marks[mark];
-    for index in mark * STEP..offset {
+    for index in mark * BLOCK..offset {
         total += encoding.units_of_byte(text[index]);
     }
     total

@@ -1,37 +1,34 @@
-use Rattle.std.proofs.Common.{◌≡◌, ◌+◌, take, get_or, arith}
+use Rattle.std.proofs.Common.{◌≡◌, ◌+◌, ◌*◌, take, arith, ap, ℕ}
 use Rattle.std.proofs.lemmas.List.{length-take-le}
 use Rattle.rast_document.specs.Units.{units}
-use Rattle.rast_document.proofs.UnitLemmas.{marks_keep, marks_push, units_le, units_more, units_of_byte_le}
+use Rattle.rast_document.proofs.BlockLemmas.{marks_block, units_chunk}
+use Rattle.rast_document.proofs.UnitLemmas.{units_le}
 use Rattle.rast_document.proofs.marks.marks_of.Goals as goal
-use Rattle.rast_document.proofs.marks.marks_of.Goals.{then-index-eq0+in_ok-push-2, else-index-eq0}
 
 pub overflow_add-total : goal.overflow_add-total
 overflow_add-total c =
-    let i = c.loop-index.index in
     let s = c.args.text.now in
+    let e = c.args.encoding in
+    let at = c.loop-block.block * 64 in
     omega (
       arith,
-      units_le c.args.encoding (take i s),
-      length-take-le i s (omega arith),
-      units_of_byte_le c.args.encoding (get_or s i 0),
-      c.units_of_byte-total.ensures,
-      c.loop-index.invariant.total,
+      c.loop-block.invariant.total,
+      c.units_of_block-total.ensures,
+      units_chunk e s at,
+      units_le e (take (at + 64) s),
+      length-take-le (at + 64) s (omega arith),
       c.requires,
     )
 
-pub loop-index-preserved : goal.loop-index-preserved
-loop-index-preserved c =
-    let i = c.loop-index.index in
+pub loop-block-preserved : goal.loop-block-preserved
+loop-block-preserved c =
     let s = c.args.text.now in
     let e = c.args.encoding in
-    let total : c.loop-index.total + c.units_of_byte-total.result ≡ units e (take (i + 1) s) =
-    omega (arith, c.loop-index.invariant.total, c.units_of_byte-total.ensures, units_more e s i (omega arith)) in
+    let at = c.loop-block.block * 64 in
+    let further : units e (take (at + 64) s) ≡ units e (take ((c.loop-block.block + 1) * 64) s) = ap {B = ℕ} (λ n. units e (take n s)) (omega arith) in
+    let total : c.loop-block.total + c.units_of_block-total.result ≡ units e (take ((c.loop-block.block + 1) * 64) s) =
+    omega (arith, c.loop-block.invariant.total, c.units_of_block-total.ensures, units_chunk e s at, further) in
     record {
       total = total;
-      marks = elim c.if-index-eq0.branch [
-        | then-index-eq0+in_ok-push-2 w ↦
-            rw (w.marks-is, w.in_ok-push-2.ensures.items)
-            (marks_push e s c.loop-index.marks.items i _ c.loop-index.invariant.marks w.if-index-eq0.true total)
-        | else-index-eq0 w ↦ rw w.marks-is (marks_keep e s c.loop-index.marks.items i c.loop-index.invariant.marks w.if-index-eq0.false)
-      ];
+      marks = rw c.in_ok-push-2.ensures.items (marks_block e s c.loop-block.marks.items c.loop-block.block _ c.loop-block.invariant.marks total);
     }

@@ -1,0 +1,15 @@
+use Rattle.std.proofs.Common.{◌≡◌, ◌+◌, ◌-◌, ◌≤◌, map, drop}
+use Rattle.std.specs.Simd.Lanes.{chunk, mask_l}
+use Rattle.rast_document.specs.Lines.{is_line_break, starts_to}
+use Rattle.rast_document.proofs.lines.push_starts.Given as goal
+
+abbrev pub invariant-breaks : goal.invariant-breaks
+invariant-breaks l = record {
+  from : l.at ≤ l.from;
+  to : l.from ≤ l.at + 64;
+  left : l.left ≡ mask_l (map is_line_break (drop (l.from - l.at) (chunk l.at 64 l.text)));
+  starts : l.starts.items ≡ starts_to l.text l.from;
+}
+
+abbrev pub decreases-breaks : goal.decreases-breaks
+decreases-breaks l = l.at + 64 - l.from
