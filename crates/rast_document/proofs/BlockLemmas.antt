@@ -1,13 +1,15 @@
 -- Blocks of 64 bytes, by the bits and the counts of their lanes.
-use Rattle.std.proofs.Common.{◌≡◌, ◌≢◌, ℕ, zero, suc, ◌+◌, ◌-◌, ◌*◌, ◌/◌, ◌%◌, ◌^◌, ◌<◌, ◌≤◌, Bool, true, false, not, cond, ◌||◌, leb, eqb, bit_or, List, [], ◌∷◌, map, length, take, drop, get_or, replicate, w8, refl, sym, ap, ap₂, ◌∙◌, ◌++◌, slice_range, inl, inr, arith}
-use Rattle.std.specs.List.{count_by, drop-map, prefix_len}
+use Rattle.std.proofs.Common.{◌≡◌, ◌≢◌, ℕ, zero, suc, ◌+◌, ◌-◌, ◌*◌, ◌/◌, ◌%◌, ◌^◌, ◌<◌, ◌≤◌, Bool, true, false, not, cond, ◌||◌, leb, eqb, bit_and, bit_or, List, [], ◌∷◌, map, length, take, drop, get_or, replicate, w8, refl, sym, ap, ap₂, ◌∙◌, ◌++◌, slice_range, inl, inr, arith}
+use Rattle.std.specs.List.{count_by, drop-map, prefix_len, take-map}
 use Rattle.std.specs.Int.Count.{count_trailing_zeros}
 use Rattle.std.specs.Simd.Lanes.{chunk, mask_l, top, zip2}
-use Rattle.std.proofs.Math.Nat.{div-div-eq-div-mul, div-one, pow-suc, pow-succ', zero-div}
+use Rattle.std.proofs.Math.Arith.{mod-mul}
+use Rattle.std.proofs.Math.Nat.{div-div-eq-div-mul, div-one, mod-one, pow-suc, pow-succ', zero-div, zero-mod}
+use Rattle.std.proofs.lemmas.Nat.{and_mask, one_shl, pow_pos}
 use Rattle.std.proofs.lemmas.Bool.{cases_lt, not-true}
 use Rattle.std.proofs.lemmas.Bool.Decides.{nat_tests}
 use Rattle.std.proofs.lemmas.Simd.{get_or-chunk, leading_from_mask_l, length-chunk, map-map, mask_l-mod, trailing_mask_l, tops_compared, zip2_of_maps, zip2_splat, zip2_splat_left}
-use Rattle.std.proofs.lemmas.List.{drop-drop, get_or-drop, get_or_append_left, get_or_push, length-drop, length-map, length_push}
+use Rattle.std.proofs.lemmas.List.{drop-drop, get_or-drop, get_or_append_left, get_or_push, length-drop, length-map, length-take-le, length_push, take-take}
 use Rattle.std.proofs.lemmas.List.Sums.{prefix_len-le-length, prefix_len_passes, sum_by-cons, sum_by-le-sum_by}
 use Rattle.rast_document.specs.declared.encoding.Encoding.{Encoding}
 use Rattle.rast_document.specs.declared.encoding.Encoding.TheVariants.{Utf8, Utf16, Utf32}
@@ -101,6 +103,24 @@ mask_drop (b ∷ ms) (suc k) =
     ap (λ n. mask_l (b ∷ ms) / n) (pow-succ' 2 k)
     ∙ (sym (div-div-eq-div-mul (mask_l (b ∷ ms)) 2 (2 ^ k)) ∙ (ap (λ n. n / 2 ^ k) (one_fewer b ms) ∙ mask_drop ms k))
 
+-- the bits of the first lanes
+odd_by : (b : Bool) (ms : List Bool) → mask_l (b ∷ ms) % 2 ≡ cond b 1 0
+odd_by true ms = omega arith
+odd_by false ms = omega arith
+
+mask_take : (ms : List Bool) (k : ℕ) → mask_l ms % 2 ^ k ≡ mask_l (take k ms)
+mask_take ms zero = mod-one (mask_l ms)
+mask_take [] (suc k) = zero-mod (2 ^ suc k)
+mask_take (b ∷ ms) (suc k) =
+    ap (λ n. mask_l (b ∷ ms) % n) (pow-suc 2 k)
+    ∙ (mod-mul (mask_l (b ∷ ms)) {m = 2 ^ k} {c = 2} (pow_pos k) (omega arith)
+    ∙ omega (arith, ap (λ n. n % 2 ^ k) (one_fewer b ms), odd_by b ms, mask_take ms k))
+
+pub first_mask : (p : ℕ → Bool) (xs : List ℕ) (k : ℕ) → k < 64 → bit_and (mask_l (map p xs)) (1 * 2 ^ k % 2 ^ 64 - 1) ≡ mask_l (map p (take k xs))
+first_mask p xs k few =
+    ap (λ n. bit_and (mask_l (map p xs)) (n - 1)) (one_shl k 64 few)
+    ∙ (and_mask (mask_l (map p xs)) k ∙ (mask_take (map p xs) k ∙ ap mask_l (take-map p k xs)))
+
 pub mask_later : (p : ℕ → Bool) (xs : List ℕ) (k : ℕ) → mask_l (map p xs) / 2 ^ k / 2 ≡ mask_l (map p (drop (k + 1) xs))
 mask_later p xs k =
     div-div-eq-div-mul (mask_l (map p xs)) (2 ^ k) 2
@@ -173,6 +193,15 @@ units_chunk e s a =
     let same : a + 64 - a ≡ 64 = omega arith in
     let part : units e (slice_range s a (a + 64)) ≡ units e (chunk a 64 s) = ap (λ n. units e (take n (drop a s))) same in
     omega (arith, part, units_range e s a (a + 64) (omega arith))
+
+-- units up to an offset in a block, or at its end
+pub units_of_part : (e : Encoding) (s : List ℕ) (a b : ℕ) → a ≤ b → b ≤ a + 64 → units e (take a s) + units e (take (b - a) (chunk a 64 s)) ≡ units e (take b s)
+units_of_part e s a b rising few =
+    let part : units e (take (b - a) (chunk a 64 s)) ≡ units e (slice_range s a b) = ap (units e) (take-take (b - a) 64 (drop a s) (omega arith)) in
+    omega (arith, part, units_range e s a b rising)
+
+pub length_of_first : (s : List ℕ) (a k : ℕ) → a + 64 ≤ length s → k < 64 → length (take k (chunk a 64 s)) ≡ k
+length_of_first s a k within few = length-take-le k (chunk a 64 s) (omega (arith, length-chunk a 64 s within))
 
 -- marks, one block further
 pub marks_block : (e : Encoding) (s marks : List ℕ) (b n : ℕ) → AreMarks e s (b * 64) marks → n ≡ units e (take ((b + 1) * 64) s) →

@@ -1,5 +1,5 @@
 //! A text with its lines, and the positions in it.
-ghost use Rattle.std.specs.Prelude.{◌≡◌, ℕ, ◌<◌, ◌≤◌, IfNone, IfOk, IfSome, IsCharBoundary, length, string_bytes, take};
+ghost use Rattle.std.specs.Prelude.{◌≡◌, ℕ, ◌+◌, ◌<◌, ◌≤◌, IfNone, IfOk, IfSome, IsCharBoundary, length, string_bytes, take};
 ghost use Rattle.rast_document.specs.Indexed.{AreMarks, IsOnLine, IsReached};
 ghost use Rattle.rast_document.specs.Lines.{line_end, line_start, line_starts};
 ghost use Rattle.rast_document.specs.Places.{IsAt, IsInLineEnd, position, within_line};
@@ -7,9 +7,12 @@ ghost use Rattle.rast_document.specs.Units.{units};
 
 use crate::encoding::Encoding;
 use crate::lines::{end_before, end_of_last, line_of, line_starts};
-use crate::marks::{marks_of, units_to};
+use crate::marks::{marks_of, units_between, units_to};
 use crate::position::Position;
 use std::alloc::{AllocError, Global};
+
+// Up to how many bytes are counted with no look at the marks.
+const NEAR: usize = 256;
 
 /// A text with what leads from its offsets to positions and back, in the units of one encoding. An offset is a number of
 /// bytes of the text. Lines end with `\n`, `\r\n` or `\r`.
@@ -62,9 +65,9 @@ impl Document {
             → IsAt self.now.encoding (string_bytes self.now.text) result offset }
     {
         let line = self.line_of(offset);
+        let start = self.starts[line];
         let end = self.line_end(line);
-        let before = self.units_to(self.starts[line]);
-        let character = self.units_to(offset.min(end)) - before;
+        let character = self.units_between(start, offset.min(end));
         Position { line, character }
     }
 
@@ -104,6 +107,20 @@ impl Document {
             self.marks.as_slice(),
             offset,
         )
+    }
+
+    // The units from an offset on to a later one: counted where it is near, and else by what was counted ahead.
+    fn units_between(&self, from: usize, to: usize) -> usize
+        requires rising { from ≤ to }
+        requires within { to ≤ length (string_bytes self.now.text) }
+        ensures { units self.now.encoding (take from (string_bytes self.now.text)) + result
+            ≡ units self.now.encoding (take to (string_bytes self.now.text)) }
+    {
+        if to - from <= NEAR {
+            units_between(self.encoding, self.text.as_bytes(), from, to)
+        } else {
+            self.units_to(to) - self.units_to(from)
+        }
     }
 
     // The line that an offset is on.

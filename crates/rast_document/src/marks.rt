@@ -1,9 +1,9 @@
 //! Units of a text counted ahead, so that a count to any offset looks at few bytes.
-ghost use Rattle.std.specs.Prelude.{◌≡◌, ◌<◌, ◌≤◌, ◌^◌, IfOk, length, take};
+ghost use Rattle.std.specs.Prelude.{◌≡◌, ◌+◌, ◌<◌, ◌≤◌, ◌^◌, IfOk, length, take};
 ghost use Rattle.rast_document.specs.Indexed.{AreMarks};
 ghost use Rattle.rast_document.specs.Units.{units};
 
-use crate::blocks::{BLOCK, units_of_block};
+use crate::blocks::{BLOCK, units_of_block, units_of_first};
 use crate::encoding::Encoding;
 use std::alloc::{AllocError, Global};
 
@@ -26,6 +26,40 @@ pub(crate) fn marks_of(
     Ok(marks)
 }
 
+/// The units from an offset on to a later one that is less than a block further.
+fn units_within(encoding: Encoding, text: &[u8], from: usize, to: usize) -> usize
+    requires rising { from ≤ to }
+    requires few { to < from + 64 }
+    requires within { to ≤ length text.now }
+    requires room { length text.now < 2 ^ 63 }
+    ensures { units encoding (take from text.now) + result ≡ units encoding (take to text.now) }
+{
+    if text.len() - from >= BLOCK {
+        return units_of_first(encoding, text, from, to - from);
+    }
+    let mut total = 0;
+    for index in from..to {
+        total += encoding.units_of_byte(text[index]);
+    }
+    total
+}
+
+/// The units from an offset on to a later one, counted block by block.
+pub(crate) fn units_between(encoding: Encoding, text: &[u8], from: usize, to: usize) -> usize
+    requires rising { from ≤ to }
+    requires within { to ≤ length text.now }
+    requires room { length text.now < 2 ^ 63 }
+    ensures { units encoding (take from text.now) + result ≡ units encoding (take to text.now) }
+{
+    let mut total = 0;
+    let mut at = from;
+    'whole: while to - at >= BLOCK {
+        total += units_of_block(encoding, text, at);
+        at += BLOCK;
+    }
+    total + units_within(encoding, text, at, to)
+}
+
 /// The units of a text before an offset, which is in it or at its end.
 pub(crate) fn units_to(encoding: Encoding, text: &[u8], marks: &[usize], offset: usize) -> usize
     requires marks { AreMarks encoding text.now (length text.now) marks.now }
@@ -34,9 +68,5 @@ pub(crate) fn units_to(encoding: Encoding, text: &[u8], marks: &[usize], offset:
     ensures { result ≡ units encoding (take offset text.now) }
 {
     let mark = offset / BLOCK;
-    let mut total = marks[mark];
-    for index in mark * BLOCK..offset {
-        total += encoding.units_of_byte(text[index]);
-    }
-    total
+    marks[mark] + units_within(encoding, text, mark * BLOCK, offset)
 }

@@ -1,6 +1,0 @@
-use Rattle.std.proofs.Common.{◌≡◌, ◌≤◌, take}
-use Rattle.rast_document.specs.Units.{units}
-use Rattle.rast_document.proofs.marks.units_to.Given as goal
-
-abbrev pub invariant-loop-index : goal.invariant-loop-index
-invariant-loop-index l = (l.total ≡ units l.encoding (take l.index l.text)) × (l.index ≤ l.offset)
