@@ -6,11 +6,11 @@ use Rattle.std.specs.Simd.Lanes.{chunk, mask_l, top, zip2}
 use Rattle.std.proofs.Math.Arith.{mod-mul}
 use Rattle.std.proofs.Math.Nat.{div-div-eq-div-mul, div-one, mod-one, pow-suc, pow-succ', zero-div, zero-mod}
 use Rattle.std.proofs.lemmas.Nat.{and_mask, one_shl, pow_pos}
-use Rattle.std.proofs.lemmas.Bool.{cases_lt, not-true}
+use Rattle.std.proofs.lemmas.Bool.{cases_lt, not-false, not-true}
 use Rattle.std.proofs.lemmas.Bool.Decides.{nat_tests}
 use Rattle.std.proofs.lemmas.Simd.{get_or-chunk, leading_from_mask_l, length-chunk, map-map, mask_l-mod, trailing_mask_l, tops_compared, zip2_of_maps, zip2_splat, zip2_splat_left}
 use Rattle.std.proofs.lemmas.List.{drop-drop, get_or-drop, get_or_append_left, get_or_push, length-drop, length-map, length-take-le, length_push, take-take}
-use Rattle.std.proofs.lemmas.List.Sums.{prefix_len-le-length, prefix_len_passes, sum_by-cons, sum_by-le-sum_by}
+use Rattle.std.proofs.lemmas.List.Sums.{prefix_len-le-length, prefix_len_passes, prefix_len_stops, sum_by-cons, sum_by-le-sum_by}
 use Rattle.rast_document.specs.declared.encoding.Encoding.{Encoding}
 use Rattle.rast_document.specs.declared.encoding.Encoding.TheVariants.{Utf8, Utf16, Utf32}
 use Rattle.rast_document.specs.Indexed.{AreMarks, is_from}
@@ -139,6 +139,7 @@ none_passes p (x ∷ xs) h = elim (p x) as (λ b. cond (not b) (1 + prefix_len (
 pub record IsNextBreak (s : List ℕ) (at from left : ℕ) : Type 0 where
   pub inside : from + count_trailing_zeros 64 left < at + 64
   pub none : (i : ℕ) → from ≤ i → i < from + count_trailing_zeros 64 left → is_line_break (get_or s i 0) ≡ false
+  pub here : is_line_break (get_or s (from + count_trailing_zeros 64 left) 0) ≡ true
   pub rest : left / 2 ^ count_trailing_zeros 64 left / 2 ≡ mask_l (map is_line_break (drop (from + count_trailing_zeros 64 left + 1 - at) (chunk at 64 s)))
 
 -- a byte of the rest of a block
@@ -173,6 +174,11 @@ next_break s at from left within low high same some =
     record {
       inside = inside;
       none = passed_rest s at from (count_trailing_zeros 64 left) within low high (omega (arith, found));
+      here =
+          let byte = in_rest s at from (from + count_trailing_zeros 64 left) low (omega arith) inside in
+          let place : from + count_trailing_zeros 64 left - from ≡ prefix_len (λ x. not (is_line_break x)) xs = omega (arith, found) in
+          ap is_line_break (sym byte ∙ ap (λ j. get_or xs j 0) place)
+          ∙ not-false _ (prefix_len_stops (λ x. not (is_line_break x)) xs 0 (omega (arith, fewer, bound)));
       rest = ap (λ n. n / 2 ^ count_trailing_zeros 64 left / 2) same
           ∙ (mask_later is_line_break xs (count_trailing_zeros 64 left)
           ∙ ap (λ ys. mask_l (map is_line_break ys)) (drop-drop (count_trailing_zeros 64 left + 1) (from - at) (chunk at 64 s)
@@ -186,6 +192,17 @@ last_break s at from left within low high same none i after before =
     let long = long_rest s at from within low high in
     let whole = leading_from_mask_l is_line_break xs (sym same ∙ none) in
     passed_rest s at from (length xs) within low high (omega (arith, whole)) i after (omega (arith, long))
+
+-- the same of a whole block
+whole_rest : (s : List ℕ) (at left : ℕ) → left ≡ mask_l (map is_line_break (chunk at 64 s)) → left ≡ mask_l (map is_line_break (drop (at - at) (chunk at 64 s)))
+whole_rest s at left same = let none : 0 ≡ at - at = omega arith in same ∙ ap (λ n. mask_l (map is_line_break (drop n (chunk at 64 s)))) none
+
+pub first_break : (s : List ℕ) (at left : ℕ) → at + 64 ≤ length s → left ≡ mask_l (map is_line_break (chunk at 64 s)) → left ≢ 0 → IsNextBreak s at at left
+first_break s at left within same some = next_break s at at left within (omega arith) (omega arith) (whole_rest s at left same) some
+
+pub no_break_in : (s : List ℕ) (at left : ℕ) → at + 64 ≤ length s → left ≡ mask_l (map is_line_break (chunk at 64 s)) → left ≡ 0 →
+    (i : ℕ) → at ≤ i → i < at + 64 → is_line_break (get_or s i 0) ≡ false
+no_break_in s at left within same none = last_break s at at left within (omega arith) (omega arith) (whole_rest s at left same) none
 
 -- units up to the end of a block
 pub units_chunk : (e : Encoding) (s : List ℕ) (a : ℕ) → units e (take a s) + units e (chunk a 64 s) ≡ units e (take (a + 64) s)

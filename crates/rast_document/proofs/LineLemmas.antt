@@ -5,7 +5,7 @@ use Rattle.std.proofs.lemmas.Bool.Decides.{nat_tests}
 use Rattle.std.proofs.lemmas.List.{length_push, get_or_push, get_or_append_left, get_or-drop, get_or_past, get_or_read, length-drop}
 use Rattle.std.proofs.lemmas.List.Sums.{position_or_len_is, fails_before_first, passes_at_first, prefix_len-le-length}
 use Rattle.std.specs.List.{position_or_len}
-use Rattle.rast_document.specs.Indexed.{IsLastStart, IsNextStart, IsPair}
+use Rattle.rast_document.specs.Indexed.{IsLastStart, IsNextStart, IsPair, IsStart}
 use Rattle.rast_document.specs.Lines.{ends_line, is_line_break, line_at, line_end, line_start, line_starts, starts_to}
 
 -- one byte further a line begins, or none
@@ -31,6 +31,9 @@ pub starts_first : (s : List ℕ) (n : ℕ) → get_or (starts_to s n) 0 0 ≡ 0
 starts_first s zero = refl
 starts_first s (suc n) =
     elim (stepped s n) [ inl h ↦ ap (λ xs. get_or xs 0 0) h.1 ∙ (get_or_append_left (starts_to s n) ((n + 1) ∷ []) 0 0 (starts_some s n) ∙ starts_first s n) | inr h ↦ ap (λ xs. get_or xs 0 0) h.1 ∙ starts_first s n ]
+
+pub first_start : (s : List ℕ) → IsStart s 0 0
+first_start s = record { some = starts_some s (length s); here = sym (starts_first s (length s)) }
 
 -- a start is at most the offset up to which it was looked for
 pub starts_bound : (s : List ℕ) (n k : ℕ) → k < length (starts_to s n) → get_or (starts_to s n) k 0 ≤ n
@@ -224,6 +227,28 @@ starts_ending s n h = let e : n + 1 ≡ suc n = omega arith in ap (starts_to s) 
 pub starts_open : (s : List ℕ) (n : ℕ) → ends_line s n ≡ false → starts_to s (n + 1) ≡ starts_to s n
 starts_open s n h = let e : n + 1 ≡ suc n = omega arith in ap (starts_to s) e ∙ elim (stepped s n) [ inl b ↦ absurd (false≢true (sym h ∙ b.0)) | inr b ↦ b.1 ]
 
+pub ends_more : (s : List ℕ) (n : ℕ) → ends_line s n ≡ true → length (starts_to s (n + 1)) ≡ length (starts_to s n) + 1
+ends_more s n h = ap length (starts_ending s n h) ∙ length_push (starts_to s n) (n + 1)
+
+-- up to where a line begins the starts are those of the lines before it and its own
+pub starts_at : (s : List ℕ) (k : ℕ) → k < length (line_starts s) → length (starts_to s (line_start s k)) ≡ k + 1
+starts_at s k h =
+    omega (
+      arith,
+      starts_some s (line_start s k),
+      line_found s (line_start s k) k (starts_bound s (length s) k h) h (omega arith) (λ more. starts_rise s (length s) k (k + 1) (omega arith) more),
+    )
+
+-- the line that begins after a line end
+pub start_found : (s : List ℕ) (i k : ℕ) → i < length s → ends_line s i ≡ true → length (starts_to s i) ≡ k → IsStart s k (i + 1)
+start_found s i k within ended before =
+    let step = starts_ending s i ended in
+    let long = ends_more s i ended in
+    let meant : get_or (starts_to s (i + 1)) k 0 ≡ i + 1 =
+    ap (λ xs. get_or xs k 0) step ∙ get_or_push (starts_to s i) (i + 1) 0 k (omega (arith, before)) in
+    let kept = whole_keep s (i + 1) k (omega arith) (omega (arith, long, before)) in
+    record { some = kept.0; here = sym (kept.1 ∙ meant) }
+
 -- where a line ends, by its bytes
 pub line_end_is : (s : List ℕ) (start end : ℕ) → start ≤ end → end ≤ length s → ((i : ℕ) → start ≤ i → i < end → (get_or s i 0 ≢ 10) × (get_or s i 0 ≢ 13)) →
     (end < length s → (get_or s end 0 ≡ 10) ⊎ (get_or s end 0 ≡ 13)) → line_end s start ≡ end
@@ -240,6 +265,12 @@ line_end_is s start end rising within before meant =
     let byte : get_or (drop start s) (end - start) 0 ≡ get_or s end 0 = get_or-drop start s (end - start) 0 ∙ ap (λ i. get_or s i 0) here in
     ap is_line_break byte ∙ is_break (get_or s end 0) (meant (omega (arith, long)))) in
     ap (λ n. start + n) found ∙ here
+
+-- a line ends at the first line break in it
+pub end_at_break : (s : List ℕ) (start end : ℕ) → start ≤ end → end ≤ length s → ((i : ℕ) → start ≤ i → i < end → is_line_break (get_or s i 0) ≡ false) →
+    (end < length s → is_line_break (get_or s end 0) ≡ true) → line_end s start ≡ end
+end_at_break s start end rising within none meant =
+    line_end_is s start end rising within (λ i from before. break_not (get_or s i 0) (none i from before)) (λ h. break_is (get_or s end 0) (meant h))
 
 pub line_end_le : (s : List ℕ) (start : ℕ) → start ≤ length s → line_end s start ≤ length s
 line_end_le s start within =

@@ -2,7 +2,10 @@
 -- (Used in contracts between internal functions and in what a document keeps true; no public contract rests on it.)
 use Rattle.std.specs.Prelude.{◌≡◌, ℕ, Bool, nat_le, ◌+◌, ◌-◌, ◌*◌, ◌/◌, ◌<◌, ◌≤◌, true, false, List, length, take, slice_index}
 use Rattle.rast_document.specs.declared.encoding.Encoding.{Encoding}
+use Rattle.rast_document.specs.declared.position.Span.{Span}
+use Rattle.rast_document.specs.Changes.{IsInOrder}
 use Rattle.rast_document.specs.Lines.{ends_line, line_start, line_starts}
+use Rattle.rast_document.specs.Places.{IsAt}
 use Rattle.rast_document.specs.Units.{units}
 
 -- the offset is on the line with this number
@@ -11,6 +14,17 @@ pub record IsOnLine (s : List ℕ) (offset line : ℕ) : Type 0 where
   pub some : line < length (line_starts s)
   pub from : line_start s line ≤ offset
   pub next : line + 1 < length (line_starts s) → offset < line_start s (line + 1)
+
+-- the line with this number begins at start
+pub record IsStart (s : List ℕ) (line start : ℕ) : Type 0 where
+  pub some : line < length (line_starts s)
+  pub here : start ≡ line_start s line
+
+-- the ends of the range are in order and mean these offsets
+pub record IsRange (e : Encoding) (s : List ℕ) (span : Span) (from to : ℕ) : Type 0 where
+  pub order : IsInOrder span.start span.end
+  pub start : IsAt e s span.start from
+  pub end : IsAt e s span.end to
 
 -- a line begins at start, and the line after it at next
 pub record IsNextStart (s : List ℕ) (start next : ℕ) : Type 0 where

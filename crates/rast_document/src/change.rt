@@ -3,6 +3,8 @@ ghost use Rattle.std.specs.Prelude.{◌≡◌, ℕ, List, ◌++◌, ◌≤◌, �
 ghost use Rattle.rast_document.specs.Changes.{AllChange, Changes, IsInOrder, Replaces};
 
 use crate::document::Document;
+use crate::encoding::Encoding;
+use crate::places::range_of;
 use crate::position::{Position, Span};
 use std::alloc::{AllocError, Global};
 use std::error::Error;
@@ -48,7 +50,7 @@ impl From<AllocError> for ChangeFault {
 }
 
 /// Whether the second position is not before the first.
-fn is_in_order(first: Position, second: Position) -> bool
+pub(crate) fn is_in_order(first: Position, second: Position) -> bool
     ensures { IsTrue result ↔ IsInOrder first second }
 {
     first.line < second.line || (first.line == second.line && first.character <= second.character)
@@ -67,10 +69,46 @@ fn replaced(
     requires rising { from ≤ to }
     ensures { IfOk result (λ new. string_bytes new ≡ take from text.now ++ by.now ++ drop to text.now) }
 {
-    let mut new = String::from_str(alloc, &text[..from])?;
+    let length = (text.len() - (to - from)).saturating_add(by.len());
+    let mut new = String::with_capacity(alloc, length)?;
+    new.push_str(&text[..from])?;
     new.push_str(by)?;
     new.push_str(&text[to..])?;
     Ok(new)
+}
+
+/// Makes a change of a range in a text of which nothing is counted ahead. After an error the text is as before.
+fn change_range(
+    encoding: Encoding,
+    text: &mut String,
+    span: Span,
+    by: &str,
+) -> Result<(), ChangeFault>
+    ensures ok { OnOk result (Replaces encoding (string_bytes text.old) span by.now (string_bytes text.new)) }
+    ensures none { result ≡ Err ChangeFault.NoRange → (other : List ℕ) → ¬ Replaces encoding (string_bytes text.old) span by.now other }
+{
+    let Some((from, to)) = range_of(encoding, text.as_str(), 0, 0, span) else {
+        return Err(ChangeFault::NoRange);
+    };
+    text.replace_range(from..to, by)?;
+    Ok(())
+}
+
+/// Makes a change in a text of which nothing is counted ahead. After an error the text is not to be used.
+fn change_text(
+    alloc: Global,
+    encoding: Encoding,
+    text: &mut String,
+    change: &Change<'_>,
+) -> Result<(), ChangeFault>
+    ensures ok { OnOk result (Changes encoding (string_bytes text.old) change.now (string_bytes text.new)) }
+    ensures none { result ≡ Err ChangeFault.NoRange → (other : List ℕ) → ¬ Changes encoding (string_bytes text.old) change.now other }
+{
+    match change.span {
+        None => *text = String::from_str(alloc, change.text)?,
+        Some(span) => change_range(encoding, text, span, change.text)?,
+    }
+    Ok(())
 }
 
 impl Document {
@@ -102,16 +140,6 @@ impl Document {
         }
     }
 
-    // The document after a change.
-    fn changed(&self, alloc: Global, change: &Change<'_>) -> Result<Document, ChangeFault>
-        ensures encoding { IfOk result (λ new. new.encoding ≡ self.now.encoding) }
-        ensures changed { IfOk result (λ new. Changes self.now.encoding (string_bytes self.now.text) change.now (string_bytes new.text)) }
-        ensures none { result ≡ Err ChangeFault.NoRange → (other : List ℕ) → ¬ Changes self.now.encoding (string_bytes self.now.text) change.now other }
-    {
-        let text = self.text_after(alloc, change)?;
-        Ok(Document::new(alloc, self.encoding(), text)?)
-    }
-
     /// Makes changes in order, each of what the ones before it left. After an error the document is as before: a range is
     /// none exactly after `NoRange`, which is returned for the first such change.
     pub fn change(&mut self, alloc: Global, changes: &[Change<'_>]) -> Result<(), ChangeFault>
@@ -126,11 +154,11 @@ impl Document {
         let Some((first, rest)) = changes.split_first() else {
             return Ok(());
         };
-        let mut next = self.changed(alloc, first)?;
+        let mut text = self.text_after(alloc, first)?;
         for change in rest {
-            next = next.changed(alloc, change)?;
+            change_text(alloc, self.encoding(), &mut text, change)?;
         }
-        *self = next;
+        *self = Document::new(alloc, self.encoding(), text)?;
         Ok(())
     }
 }

@@ -7,7 +7,8 @@ ghost use Rattle.rast_document.specs.Units.{units};
 
 use crate::encoding::Encoding;
 use crate::lines::{end_before, end_of_last, line_of, line_starts};
-use crate::marks::{marks_of, units_between, units_to};
+use crate::marks::{Reached, marks_of, reached_from, units_between, units_to};
+use crate::places::meant;
 use crate::position::Position;
 use std::alloc::{AllocError, Global};
 
@@ -85,15 +86,8 @@ impl Document {
         }
         let start = self.starts[place.line];
         let end = self.line_end(place.line);
-        let offset = self.reached(start, end, place.character);
-        if offset < end && self.units_to(offset) - self.units_to(start) < place.character {
-            return None;
-        }
-        if self.text.as_str().is_char_boundary(offset) {
-            Some(offset)
-        } else {
-            None
-        }
+        let reached = self.reached(start, end, place.character);
+        meant(self.encoding, self.text(), place, start, end, reached)
     }
 
     // The units of the text before an offset.
@@ -144,8 +138,25 @@ impl Document {
         }
     }
 
-    // The last offset from `start` to `end` up to which at most so many units stand, counted from `start`: by bisection.
-    fn reached(&self, start: usize, end: usize, count: usize) -> usize
+    // The last offset from `start` to `end` up to which at most so many units stand, counted from `start`: block by block
+    // where the end is near, and else by bisection.
+    fn reached(&self, start: usize, end: usize, count: usize) -> Reached
+        requires rising { start ≤ end }
+        requires within { end ≤ length (string_bytes self.now.text) }
+        ensures offset { IsReached self.now.encoding (string_bytes self.now.text) start end count result.offset }
+        ensures units { units self.now.encoding (take start (string_bytes self.now.text)) + result.units
+            ≡ units self.now.encoding (take result.offset (string_bytes self.now.text)) }
+    {
+        if end - start <= NEAR {
+            return reached_from(self.encoding, self.text.as_bytes(), start, end, count);
+        }
+        let offset = self.reached_far(start, end, count);
+        let units = self.units_between(start, offset);
+        Reached { offset, units }
+    }
+
+    // The same offset by bisection.
+    fn reached_far(&self, start: usize, end: usize, count: usize) -> usize
         requires rising { start ≤ end }
         requires within { end ≤ length (string_bytes self.now.text) }
         ensures { IsReached self.now.encoding (string_bytes self.now.text) start end count result }

@@ -11,6 +11,7 @@ mod document;
 mod encoding;
 mod lines;
 mod marks;
+mod places;
 mod position;
 
 pub use change::{Change, ChangeFault};

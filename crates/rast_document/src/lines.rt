@@ -1,7 +1,7 @@
 //! The lines of a text.
-ghost use Rattle.std.specs.Prelude.{◌≡◌, ◌+◌, ◌<◌, ◌≤◌, ◌↔◌, IfOk, IsTrue, OnOk, length, slice_index};
-ghost use Rattle.rast_document.specs.Lines.{ends_line, line_end, line_starts, starts_to};
-ghost use Rattle.rast_document.specs.Indexed.{IsLastStart, IsNextStart, IsPair};
+ghost use Rattle.std.specs.Prelude.{◌≡◌, ◌+◌, ◌<◌, ◌≤◌, ◌↔◌, IfNone, IfOk, IfSome, IsTrue, OnOk, length, slice_index};
+ghost use Rattle.rast_document.specs.Lines.{ends_line, line_end, line_start, line_starts, starts_to};
+ghost use Rattle.rast_document.specs.Indexed.{IsLastStart, IsNextStart, IsPair, IsStart};
 
 use crate::blocks::{BLOCK, breaks_of};
 use std::alloc::{AllocError, Global};
@@ -55,6 +55,84 @@ pub(crate) fn line_starts(alloc: Global, text: &[u8]) -> Result<Vec<usize>, Allo
         }
     }
     Ok(starts)
+}
+
+/// How many line ends are complete in the block at an offset.
+fn ends_of_block(text: &[u8], at: usize) -> usize
+    requires { at + 64 ≤ length text.now }
+    ensures { length (starts_to text.now (at + 64)) ≡ length (starts_to text.now at) + result }
+{
+    let mut left = breaks_of(text, at);
+    let mut from = at;
+    let mut ends = 0;
+    'breaks: while left != 0 {
+        let skipped = left.trailing_zeros();
+        let index = from + skipped as usize;
+        if ends_line(text, index) {
+            ends += 1;
+        }
+        left = (left >> skipped) >> 1;
+        from = index + 1;
+    }
+    ends
+}
+
+/// Where a line begins, looked for from the start of a line that is not after it; `None` if there is no such line.
+pub(crate) fn start_of_line(
+    text: &[u8],
+    known: usize,
+    known_start: usize,
+    line: usize,
+) -> Option<usize>
+    requires known { known < length (line_starts text.now) }
+    requires start { known_start ≡ line_start text.now known }
+    requires rising { known ≤ line }
+    ensures found { IfSome result (λ start. IsStart text.now line start) }
+    ensures none { IfNone result (length (line_starts text.now) ≤ line) }
+{
+    let mut left = line - known;
+    if left == 0 {
+        return Some(known_start);
+    }
+    let mut at = known_start;
+    'whole: while text.len() - at >= BLOCK {
+        let ends = ends_of_block(text, at);
+        if ends >= left {
+            break;
+        }
+        left -= ends;
+        at += BLOCK;
+    }
+    for index in at..text.len() {
+        if ends_line(text, index) {
+            left -= 1;
+            if left == 0 {
+                return Some(index + 1);
+            }
+        }
+    }
+    None
+}
+
+/// Where the line that begins at an offset ends.
+pub(crate) fn end_of_line(text: &[u8], start: usize) -> usize
+    requires { start ≤ length text.now }
+    ensures { result ≡ line_end text.now start }
+{
+    let mut at = start;
+    'whole: while text.len() - at >= BLOCK {
+        let breaks = breaks_of(text, at);
+        if breaks != 0 {
+            return at + breaks.trailing_zeros() as usize;
+        }
+        at += BLOCK;
+    }
+    for index in at..text.len() {
+        if text[index] == b'\n' || text[index] == b'\r' {
+            return index;
+        }
+    }
+    text.len()
 }
 
 /// Whether the line end whose last byte is at `last` is a `\r\n` that begins at `start` or after it.

@@ -1,6 +1,6 @@
 //! Units of a text counted ahead, so that a count to any offset looks at few bytes.
 ghost use Rattle.std.specs.Prelude.{◌≡◌, ◌+◌, ◌<◌, ◌≤◌, ◌^◌, IfOk, length, take};
-ghost use Rattle.rast_document.specs.Indexed.{AreMarks};
+ghost use Rattle.rast_document.specs.Indexed.{AreMarks, IsReached};
 ghost use Rattle.rast_document.specs.Units.{units};
 
 use crate::blocks::{BLOCK, units_of_block, units_of_first};
@@ -69,4 +69,49 @@ pub(crate) fn units_to(encoding: Encoding, text: &[u8], marks: &[usize], offset:
 {
     let mark = offset / BLOCK;
     marks[mark] + units_within(encoding, text, mark * BLOCK, offset)
+}
+
+/// The last offset that so many units of a line reach.
+#[derive(Clone, Copy)]
+pub(crate) struct Reached {
+    /// The offset.
+    pub(crate) offset: usize,
+    /// How many units of the line are before it.
+    pub(crate) units: usize,
+}
+
+/// The last offset from `start` to `end` up to which at most so many units stand, counted from `start`: block by block.
+pub(crate) fn reached_from(
+    encoding: Encoding,
+    text: &[u8],
+    start: usize,
+    end: usize,
+    count: usize,
+) -> Reached
+    requires rising { start ≤ end }
+    requires within { end ≤ length text.now }
+    ensures offset { IsReached encoding text.now start end count result.offset }
+    ensures units { units encoding (take start text.now) + result.units ≡ units encoding (take result.offset text.now) }
+{
+    let mut units = 0;
+    let mut at = start;
+    'whole: while end - at >= BLOCK {
+        let more = units_of_block(encoding, text, at);
+        if more > count - units {
+            break;
+        }
+        units += more;
+        at += BLOCK;
+    }
+    for index in at..end {
+        let more = encoding.units_of_byte(text[index]);
+        if more > count - units {
+            return Reached {
+                offset: index,
+                units,
+            };
+        }
+        units += more;
+    }
+    Reached { offset: end, units }
 }

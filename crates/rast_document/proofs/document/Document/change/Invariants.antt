@@ -1,12 +1,11 @@
-use Rattle.std.proofs.Common.{◌≡◌, ℕ, List, drop, string_bytes}
+use Rattle.std.proofs.Common.{ℕ, List, drop, string_bytes}
 use Rattle.rast_document.specs.Changes.{AllChange}
 use Rattle.rast_document.proofs.document.Document.change.Given as goal
 
 abbrev pub invariant-loop-change : goal.invariant-loop-change
 invariant-loop-change l = record {
-  encoding : l.next.encoding ≡ l.fn.self.encoding;
-  reach : (new : List ℕ) → AllChange l.fn.self.encoding (string_bytes l.next.text) (drop l.change-index l.rest) new
+  reach : (new : List ℕ) → AllChange l.fn.self.encoding (string_bytes l.text) (drop l.change-index l.rest) new
       → AllChange l.fn.self.encoding (string_bytes l.fn.self.text) l.fn.changes new;
   only : (new : List ℕ) → AllChange l.fn.self.encoding (string_bytes l.fn.self.text) l.fn.changes new
-      → AllChange l.fn.self.encoding (string_bytes l.next.text) (drop l.change-index l.rest) new;
+      → AllChange l.fn.self.encoding (string_bytes l.text) (drop l.change-index l.rest) new;
 }

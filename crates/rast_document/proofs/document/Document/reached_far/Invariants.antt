@@ -1,6 +1,6 @@
 use Rattle.std.proofs.Common.{◌+◌, ◌-◌, ◌<◌, ◌≤◌, take, string_bytes}
 use Rattle.rast_document.specs.Units.{units}
-use Rattle.rast_document.proofs.document.Document.reached.Given as goal
+use Rattle.rast_document.proofs.document.Document.reached_far.Given as goal
 
 abbrev pub invariant-halves : goal.invariant-halves
 invariant-halves l = record {

@@ -1,6 +1,6 @@
 use Rattle.std.proofs.Common.{◌-◌, ◌/◌, string_bytes, arith}
 use Rattle.rast_document.proofs.UnitLemmas.{units_rise}
-use Rattle.rast_document.proofs.document.Document.reached.Goals as goal
+use Rattle.rast_document.proofs.document.Document.reached_far.Goals as goal
 
 pub overflow_sub-units_to : goal.overflow_sub-units_to
 overflow_sub-units_to c =

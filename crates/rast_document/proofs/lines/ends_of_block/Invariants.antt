@@ -1,0 +1,16 @@
+use Rattle.std.proofs.Common.{◌≡◌, ◌+◌, ◌-◌, ◌≤◌, length, map, drop}
+use Rattle.std.specs.Simd.Lanes.{chunk, mask_l}
+use Rattle.rast_document.specs.Lines.{is_line_break, starts_to}
+use Rattle.rast_document.proofs.lines.ends_of_block.Given as goal
+
+abbrev pub invariant-breaks : goal.invariant-breaks
+invariant-breaks l = record {
+  from : l.at ≤ l.from;
+  to : l.from ≤ l.at + 64;
+  left : l.left ≡ mask_l (map is_line_break (drop (l.from - l.at) (chunk l.at 64 l.text)));
+  few : l.ends ≤ l.from - l.at;
+  ends : length (starts_to l.text l.from) ≡ length (starts_to l.text l.at) + l.ends;
+}
+
+abbrev pub decreases-breaks : goal.decreases-breaks
+decreases-breaks l = l.at + 64 - l.from
