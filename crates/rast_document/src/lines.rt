@@ -62,17 +62,17 @@ fn ends_of_block(text: &[u8], at: usize) -> usize
     requires { at + 64 ≤ length text.now }
     ensures { length (starts_to text.now (at + 64)) ≡ length (starts_to text.now at) + result }
 {
-    let mut left = breaks_of(text, at);
-    let mut from = at;
+    let mut bits = breaks_of(text, at);
+    let mut place = at;
     let mut ends = 0;
-    'breaks: while left != 0 {
-        let skipped = left.trailing_zeros();
-        let index = from + skipped as usize;
+    'breaks: while bits != 0 {
+        let skipped = bits.trailing_zeros();
+        let index = place + skipped as usize;
         if ends_line(text, index) {
             ends += 1;
         }
-        left = (left >> skipped) >> 1;
-        from = index + 1;
+        bits = (bits >> skipped) >> 1;
+        place = index + 1;
     }
     ends
 }

@@ -8,22 +8,22 @@ use Rattle.rast_document.proofs.lines.ends_of_block.Goals.{then-ends_line, else-
 pub ends_line-requires : goal.ends_line-requires
 ends_line-requires c =
     let is = c.breaks.invariant in
-    let next = next_break c.args.text.now c.args.at c.breaks.from c.breaks.left c.requires is.from is.to is.left c.breaks-test.true in
+    let next = next_break c.args.text.now c.args.at c.breaks.place c.breaks.bits c.requires is.from is.to is.left c.breaks-test.true in
     omega (arith, next.inside, c.requires)
 
 pub breaks-smaller : goal.breaks-smaller
 breaks-smaller c =
     let is = c.breaks.invariant in
-    let next = next_break c.args.text.now c.args.at c.breaks.from c.breaks.left c.requires is.from is.to is.left c.breaks-test.true in
+    let next = next_break c.args.text.now c.args.at c.breaks.place c.breaks.bits c.requires is.from is.to is.left c.breaks-test.true in
     omega (arith, next.inside)
 
 pub breaks-preserved : goal.breaks-preserved
 breaks-preserved c =
     let s = c.args.text.now in
     let is = c.breaks.invariant in
-    let next = next_break s c.args.at c.breaks.from c.breaks.left c.requires is.from is.to is.left c.breaks-test.true in
-    let index = c.breaks.from + count_trailing_zeros 64 c.breaks.left in
-    let before = ap length (starts_past s c.breaks.from index (omega arith) next.none) in
+    let next = next_break s c.args.at c.breaks.place c.breaks.bits c.requires is.from is.to is.left c.breaks-test.true in
+    let index = c.breaks.place + count_trailing_zeros 64 c.breaks.bits in
+    let before = ap length (starts_past s c.breaks.place index (omega arith) next.none) in
     record {
       from = omega (arith, is.from);
       to = omega (arith, next.inside);
@@ -39,5 +39,5 @@ pub returns : goal.returns
 returns c =
     let s = c.args.text.now in
     let is = c.breaks.invariant in
-    ap length (starts_past s c.breaks.from (c.args.at + 64) is.to (last_break s c.args.at c.breaks.from c.breaks.left c.requires is.from is.to is.left c.breaks-test.false))
+    ap length (starts_past s c.breaks.place (c.args.at + 64) is.to (last_break s c.args.at c.breaks.place c.breaks.bits c.requires is.from is.to is.left c.breaks-test.false))
     ∙ is.ends

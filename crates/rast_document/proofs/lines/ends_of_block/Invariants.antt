@@ -5,12 +5,12 @@ use Rattle.rast_document.proofs.lines.ends_of_block.Given as goal
 
 abbrev pub invariant-breaks : goal.invariant-breaks
 invariant-breaks l = record {
-  from : l.at ≤ l.from;
-  to : l.from ≤ l.at + 64;
-  left : l.left ≡ mask_l (map is_line_break (drop (l.from - l.at) (chunk l.at 64 l.text)));
-  few : l.ends ≤ l.from - l.at;
-  ends : length (starts_to l.text l.from) ≡ length (starts_to l.text l.at) + l.ends;
+  from : l.at ≤ l.place;
+  to : l.place ≤ l.at + 64;
+  left : l.bits ≡ mask_l (map is_line_break (drop (l.place - l.at) (chunk l.at 64 l.text)));
+  few : l.ends ≤ l.place - l.at;
+  ends : length (starts_to l.text l.place) ≡ length (starts_to l.text l.at) + l.ends;
 }
 
 abbrev pub decreases-breaks : goal.decreases-breaks
-decreases-breaks l = l.at + 64 - l.from
+decreases-breaks l = l.at + 64 - l.place
