@@ -1,22 +1,23 @@
 -- Blocks of 64 bytes, by the bits and the counts of their lanes.
-use Rattle.std.proofs.Common.{◌≡◌, ◌≢◌, ℕ, zero, suc, ◌+◌, ◌-◌, ◌*◌, ◌/◌, ◌%◌, ◌^◌, ◌<◌, ◌≤◌, Bool, true, false, not, cond, ◌||◌, leb, eqb, bit_and, bit_or, List, [], ◌∷◌, map, length, take, drop, get_or, replicate, w8, refl, sym, ap, ap₂, ◌∙◌, ◌++◌, slice_range, inl, inr, arith}
+use Rattle.std.proofs.Common.{◌≡◌, ◌≢◌, ℕ, zero, suc, ◌+◌, ◌-◌, ◌*◌, ◌/◌, ◌%◌, ◌^◌, ◌<◌, ◌≤◌, Bool, true, false, not, cond, ◌||◌, leb, eqb, bit_and, bit_or, List, [], ◌∷◌, map, length, take, drop, get_or, replicate, w8, refl, sym, ap, ap₂, ◌∙◌, ◌++◌, slice_range, inl, inr, arith, lit≤, add-zero}
 use Rattle.std.specs.List.{count_by, drop-map, prefix_len, take-map}
 use Rattle.std.specs.Int.Count.{count_trailing_zeros}
 use Rattle.std.specs.Simd.Lanes.{chunk, mask_l, top, zip2}
 use Rattle.std.proofs.Math.Arith.{mod-mul}
 use Rattle.std.proofs.Math.Nat.{div-div-eq-div-mul, div-one, mod-one, pow-suc, pow-succ', zero-div, zero-mod}
 use Rattle.std.proofs.lemmas.Nat.{and_mask, one_shl, pow_pos}
-use Rattle.std.proofs.lemmas.Bool.{cases_lt, not-false, not-true}
+use Rattle.std.proofs.lemmas.Bool.{cases_lt, not-false, not-true, cases_Bool, false_from_ne_true}
 use Rattle.std.proofs.lemmas.Bool.Decides.{nat_tests}
 use Rattle.std.proofs.lemmas.Simd.{get_or-chunk, leading_from_mask_l, length-chunk, map-map, mask_l-mod, trailing_mask_l, tops_compared, zip2_of_maps, zip2_splat, zip2_splat_left}
-use Rattle.std.proofs.lemmas.List.{drop-drop, get_or-drop, get_or_append_left, get_or_push, length-drop, length-map, length-take-le, length_push, take-take}
-use Rattle.std.proofs.lemmas.List.Sums.{prefix_len-le-length, prefix_len_passes, prefix_len_stops, sum_by-cons, sum_by-le-sum_by}
+use Rattle.std.proofs.lemmas.List.{drop-drop, get_or-drop, get_or_append_left, get_or_push, length-drop, length-map, length-take-le, length_push, take-take, take_all}
+use Rattle.std.proofs.lemmas.List.Sums.{prefix_len-le-length, prefix_len_passes, prefix_len_stops, sum_by-cons, sum_by-le-sum_by, get_or-le-sum_by, count_by_more_yes, count_by_more_no}
 use Rattle.rast_document.specs.declared.encoding.Encoding.{Encoding}
 use Rattle.rast_document.specs.declared.encoding.Encoding.TheVariants.{Utf8, Utf16, Utf32}
-use Rattle.rast_document.specs.Indexed.{AreMarks, is_from}
-use Rattle.rast_document.specs.Lines.{is_line_break}
+use Rattle.rast_document.specs.Indexed.{AreMarks, is_from, is_byte}
+use Rattle.rast_document.specs.Lines.{is_line_break, ends_line, starts_to}
 use Rattle.rast_document.specs.Units.{units, units_of_byte}
 use Rattle.rast_document.proofs.UnitLemmas.{units_range}
+use Rattle.rast_document.proofs.LineLemmas.{ends_more, starts_open}
 
 -- the bits of a test of each lane against one byte
 pub from_mask : (least : ℕ) (xs : List ℕ) → length xs ≡ 64 →
@@ -203,6 +204,38 @@ first_break s at left within same some = next_break s at at left within (omega a
 pub no_break_in : (s : List ℕ) (at left : ℕ) → at + 64 ≤ length s → left ≡ mask_l (map is_line_break (chunk at 64 s)) → left ≡ 0 →
     (i : ℕ) → at ≤ i → i < at + 64 → is_line_break (get_or s i 0) ≡ false
 no_break_in s at left within same none = last_break s at at left within (omega arith) (omega arith) (whole_rest s at left same) none
+
+-- a block with no `\r` has the line ends that its `\n` make
+uncounted : (p : ℕ → Bool) (xs : List ℕ) (k : ℕ) → k < length xs → count_by p xs ≡ 0 → p (get_or xs k 0) ≡ false
+uncounted p xs k within none =
+    let least : cond (p (get_or xs k 0)) 1 0 ≤ count_by p xs = get_or-le-sum_by (λ x. cond (p x) 1 0) xs k 0 within in
+    false_from_ne_true (p (get_or xs k 0)) (λ e. omega (arith, least, none, ap {B = ℕ} (λ b. cond b 1 0) e))
+
+feed_ends : (s : List ℕ) (i : ℕ) → is_byte 13 (get_or s i 0) ≡ false → ends_line s i ≡ is_byte 10 (get_or s i 0)
+feed_ends s i h = grind (arith, nat_tests)
+
+feeds_to : (s : List ℕ) (at k : ℕ) → at + 64 ≤ length s → count_by (is_byte 13) (chunk at 64 s) ≡ 0 → k ≤ 64 →
+    length (starts_to s (at + k)) ≡ length (starts_to s at) + count_by (is_byte 10) (take k (chunk at 64 s))
+feeds_to s at zero within none few = omega (arith, ap {B = ℕ} (λ n. length (starts_to s n)) (add-zero at))
+feeds_to s at (suc k) within none few =
+    let xs = chunk at 64 s in
+    let before = feeds_to s at k within none (omega arith) in
+    let some : k < length xs = omega (arith, length-chunk at 64 s within) in
+    let byte : get_or xs k 0 ≡ get_or s (at + k) 0 = get_or-chunk at 64 s k 0 (omega arith) in
+    let ended = feed_ends s (at + k) (ap (is_byte 13) (sym byte) ∙ uncounted (is_byte 13) xs k some none) ∙ ap (is_byte 10) (sym byte) in
+    let here : at + suc k ≡ at + k + 1 = omega arith in
+    let next : suc k ≡ k + 1 = omega arith in
+    let ends : length (starts_to s (at + suc k)) ≡ length (starts_to s (at + k + 1)) = ap (λ n. length (starts_to s n)) here in
+    let counts : count_by (is_byte 10) (take (suc k) xs) ≡ count_by (is_byte 10) (take (k + 1) xs) = ap (λ n. count_by (is_byte 10) (take n xs)) next in
+    elim (cases_Bool (is_byte 10 (get_or xs k 0))) [
+      | inl b ↦ omega (arith, before, ends, counts, ends_more s (at + k) (ended ∙ b), count_by_more_yes (is_byte 10) xs k 0 some b)
+      | inr b ↦ omega (arith, before, ends, counts, ap length (starts_open s (at + k) (ended ∙ b)), count_by_more_no (is_byte 10) xs k 0 some b)
+    ]
+
+pub feeds_end : (s : List ℕ) (at : ℕ) → at + 64 ≤ length s → count_by (is_byte 13) (chunk at 64 s) ≡ 0 →
+    length (starts_to s (at + 64)) ≡ length (starts_to s at) + count_by (is_byte 10) (chunk at 64 s)
+feeds_end s at within none =
+    feeds_to s at 64 within none (lit≤ tt) ∙ ap (λ ys. length (starts_to s at) + count_by (is_byte 10) ys) (take_all 64 (chunk at 64 s) (omega (arith, length-chunk at 64 s within)))
 
 -- units up to the end of a block
 pub units_chunk : (e : Encoding) (s : List ℕ) (a : ℕ) → units e (take a s) + units e (chunk a 64 s) ≡ units e (take (a + 64) s)

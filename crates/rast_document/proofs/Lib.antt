@@ -1,3 +1,4 @@
+pub mod AgreeLemmas
 pub mod BlockLemmas
 pub mod CharacterLemmas
 pub mod ChangeLemmas

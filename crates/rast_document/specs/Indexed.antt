@@ -1,6 +1,6 @@
 -- What calls promise one another of lines and of units counted ahead.
 -- (Used in contracts between internal functions and in what a document keeps true; no public contract rests on it.)
-use Rattle.std.specs.Prelude.{◌≡◌, ℕ, Bool, nat_le, ◌+◌, ◌-◌, ◌*◌, ◌/◌, ◌<◌, ◌≤◌, true, false, List, length, take, slice_index}
+use Rattle.std.specs.Prelude.{◌≡◌, ℕ, Bool, nat_le, ◌==◌, ◌+◌, ◌-◌, ◌*◌, ◌/◌, ◌<◌, ◌≤◌, true, false, List, length, take, slice_index}
 use Rattle.rast_document.specs.declared.encoding.Encoding.{Encoding}
 use Rattle.rast_document.specs.declared.position.Span.{Span}
 use Rattle.rast_document.specs.Changes.{IsInOrder}
@@ -19,6 +19,11 @@ pub record IsOnLine (s : List ℕ) (offset line : ℕ) : Type 0 where
 pub record IsStart (s : List ℕ) (line start : ℕ) : Type 0 where
   pub some : line < length (line_starts s)
   pub here : start ≡ line_start s line
+
+-- the second text is the first one up to the offset
+pub record AgreeTo (s t : List ℕ) (same : ℕ) : Type 0 where
+  pub within : same ≤ length s
+  pub bytes : take same s ≡ take same t
 
 -- the ends of the range are in order and mean these offsets
 pub record IsRange (e : Encoding) (s : List ℕ) (span : Span) (from to : ℕ) : Type 0 where
@@ -59,3 +64,7 @@ pub record IsReached (e : Encoding) (s : List ℕ) (start end count offset : ℕ
 -- the byte is this one or a greater one
 abbrev pub is_from : ℕ → ℕ → Bool
 is_from least b = nat_le least b
+
+-- the byte is this one
+abbrev pub is_byte : ℕ → ℕ → Bool
+is_byte byte b = b == byte

@@ -2,7 +2,7 @@
 ghost use Rattle.std.specs.Prelude.{◌≡◌, ◌+◌, ◌<◌, ◌≤◌, length, map, take};
 ghost use Rattle.std.specs.List.{count_by};
 ghost use Rattle.std.specs.Simd.Lanes.{chunk, mask_l};
-ghost use Rattle.rast_document.specs.Indexed.{is_from};
+ghost use Rattle.rast_document.specs.Indexed.{is_byte, is_from};
 ghost use Rattle.rast_document.specs.Lines.{is_line_break};
 ghost use Rattle.rast_document.specs.Units.{units};
 ghost use Rattle.rast_document.specs.declared.encoding.Encoding.TheVariants.{Utf16, Utf32};
@@ -20,6 +20,16 @@ pub(crate) fn breaks_of(text: &[u8], at: usize) -> u64
 {
     let block = u8x64::from_slice(&text[at..]);
     (block.simd_eq(u8x64::splat(b'\n')) | block.simd_eq(u8x64::splat(b'\r'))).to_bitmask()
+}
+
+/// How many bytes of the block at an offset are this one.
+pub(crate) fn count_of(text: &[u8], at: usize, byte: u8) -> usize
+    requires { at + 64 ≤ length text.now }
+    ensures { result ≡ count_by (is_byte byte) (chunk at 64 text.now) }
+{
+    let block = u8x64::from_slice(&text[at..]);
+    let same = block.simd_eq(u8x64::splat(byte)).to_bitmask();
+    same.count_ones() as usize
 }
 
 /// A bit for each byte of the block at an offset, the lowest for the first one: whether it is `least` or more.

@@ -1,10 +1,9 @@
 //! Changes of a document.
-ghost use Rattle.std.specs.Prelude.{◌≡◌, ℕ, List, ◌++◌, ◌≤◌, ◌↔◌, Err, IfOk, IsTrue, IsCharBoundary, OnErr, OnOk, drop, string_bytes, take};
-ghost use Rattle.rast_document.specs.Changes.{AllChange, Changes, IsInOrder, Replaces};
+ghost use Rattle.std.specs.Prelude.{◌≡◌, ℕ, List, ◌++◌, ◌≤◌, ◌↔◌, Err, IfNone, IfOk, IfSome, IsTrue, IsCharBoundary, OnErr, OnOk, drop, string_bytes, take};
+ghost use Rattle.rast_document.specs.Changes.{AllChange, Changes, IsInOrder};
+ghost use Rattle.rast_document.specs.Indexed.{AgreeTo, IsRange};
 
 use crate::document::Document;
-use crate::encoding::Encoding;
-use crate::places::range_of;
 use crate::position::{Position, Span};
 use std::alloc::{AllocError, Global};
 use std::error::Error;
@@ -77,67 +76,58 @@ fn replaced(
     Ok(new)
 }
 
-/// Makes a change of a range in a text of which nothing is counted ahead. After an error the text is as before.
-fn change_range(
-    encoding: Encoding,
-    text: &mut String,
-    span: Span,
-    by: &str,
-) -> Result<(), ChangeFault>
-    ensures ok { OnOk result (Replaces encoding (string_bytes text.old) span by.now (string_bytes text.new)) }
-    ensures none { result ≡ Err ChangeFault.NoRange → (other : List ℕ) → ¬ Replaces encoding (string_bytes text.old) span by.now other }
-{
-    let Some((from, to)) = range_of(encoding, text.as_str(), 0, 0, span) else {
-        return Err(ChangeFault::NoRange);
-    };
-    text.replace_range(from..to, by)?;
-    Ok(())
-}
-
-/// Makes a change in a text of which nothing is counted ahead. After an error the text is not to be used.
-fn change_text(
-    alloc: Global,
-    encoding: Encoding,
-    text: &mut String,
-    change: &Change<'_>,
-) -> Result<(), ChangeFault>
-    ensures ok { OnOk result (Changes encoding (string_bytes text.old) change.now (string_bytes text.new)) }
-    ensures none { result ≡ Err ChangeFault.NoRange → (other : List ℕ) → ¬ Changes encoding (string_bytes text.old) change.now other }
-{
-    match change.span {
-        None => *text = String::from_str(alloc, change.text)?,
-        Some(span) => change_range(encoding, text, span, change.text)?,
-    }
-    Ok(())
-}
-
 impl Document {
-    // The text after a change of a range.
-    fn with_span(&self, alloc: Global, span: Span, text: &str) -> Result<String, ChangeFault>
-        ensures replaced { IfOk result (λ new. Replaces self.now.encoding (string_bytes self.now.text) span text.now (string_bytes new)) }
-        ensures none { result ≡ Err ChangeFault.NoRange → (other : List ℕ) → ¬ Replaces self.now.encoding (string_bytes self.now.text) span text.now other }
+    // The offsets that the ends of a range mean.
+    fn range(&self, span: Span) -> Option<(usize, usize)>
+        ensures found { IfSome result (λ range. IsRange self.now.encoding (string_bytes self.now.text) span range.0 range.1) }
+        ensures none { IfNone result ((from to : ℕ) → ¬ IsRange self.now.encoding (string_bytes self.now.text) span from to) }
     {
         if !is_in_order(span.start, span.end) {
-            return Err(ChangeFault::NoRange);
+            return None;
         }
-        let Some(from) = self.offset(span.start) else {
-            return Err(ChangeFault::NoRange);
-        };
-        let Some(to) = self.offset(span.end) else {
-            return Err(ChangeFault::NoRange);
-        };
-        Ok(replaced(alloc, self.text(), from, to, text)?)
+        let from = self.offset(span.start)?;
+        let to = self.offset(span.end)?;
+        Some((from, to))
     }
 
-    // The text after a change.
-    fn text_after(&self, alloc: Global, change: &Change<'_>) -> Result<String, ChangeFault>
-        ensures changed { IfOk result (λ new. Changes self.now.encoding (string_bytes self.now.text) change.now (string_bytes new)) }
+    // The text after a change, and an offset up to which it is the document's.
+    fn text_after(&self, alloc: Global, change: &Change<'_>) -> Result<(String, usize), ChangeFault>
+        ensures changed { IfOk result (λ new. Changes self.now.encoding (string_bytes self.now.text) change.now (string_bytes new.0)) }
+        ensures agree { IfOk result (λ new. AgreeTo (string_bytes self.now.text) (string_bytes new.0) new.1) }
         ensures none { result ≡ Err ChangeFault.NoRange → (other : List ℕ) → ¬ Changes self.now.encoding (string_bytes self.now.text) change.now other }
     {
-        match change.span {
-            None => Ok(String::from_str(alloc, change.text)?),
-            Some(span) => self.with_span(alloc, span, change.text),
-        }
+        let Some(span) = change.span else {
+            return Ok((String::from_str(alloc, change.text)?, 0));
+        };
+        let Some((from, to)) = self.range(span) else {
+            return Err(ChangeFault::NoRange);
+        };
+        Ok((replaced(alloc, self.text(), from, to, change.text)?, from))
+    }
+
+    // The same of another text, which is the document's up to an offset and of which nothing is counted ahead.
+    fn text_after_more(
+        &self,
+        alloc: Global,
+        text: &str,
+        same: usize,
+        change: &Change<'_>,
+    ) -> Result<(String, usize), ChangeFault>
+        requires { AgreeTo (string_bytes self.now.text) text.now same }
+        ensures changed { IfOk result (λ new. Changes self.now.encoding text.now change.now (string_bytes new.0)) }
+        ensures agree { IfOk result (λ new. AgreeTo (string_bytes self.now.text) (string_bytes new.0) new.1) }
+        ensures none { result ≡ Err ChangeFault.NoRange → (other : List ℕ) → ¬ Changes self.now.encoding text.now change.now other }
+    {
+        let Some(span) = change.span else {
+            return Ok((String::from_str(alloc, change.text)?, 0));
+        };
+        let Some((from, to)) = self.range_in(text, same, span) else {
+            return Err(ChangeFault::NoRange);
+        };
+        Ok((
+            replaced(alloc, text, from, to, change.text)?,
+            from.min(same),
+        ))
     }
 
     /// Makes changes in order, each of what the ones before it left. After an error the document is as before: a range is
@@ -154,9 +144,11 @@ impl Document {
         let Some((first, rest)) = changes.split_first() else {
             return Ok(());
         };
-        let mut text = self.text_after(alloc, first)?;
+        let (mut text, mut same) = self.text_after(alloc, first)?;
         for change in rest {
-            change_text(alloc, self.encoding(), &mut text, change)?;
+            let next = self.text_after_more(alloc, text.as_str(), same, change)?;
+            text = next.0;
+            same = next.1;
         }
         *self = Document::new(alloc, self.encoding(), text)?;
         Ok(())

@@ -1,6 +1,6 @@
 //! A text with its lines, and the positions in it.
-ghost use Rattle.std.specs.Prelude.{◌≡◌, ℕ, ◌+◌, ◌<◌, ◌≤◌, IfNone, IfOk, IfSome, IsCharBoundary, length, string_bytes, take};
-ghost use Rattle.rast_document.specs.Indexed.{AreMarks, IsOnLine, IsReached};
+ghost use Rattle.std.specs.Prelude.{◌≡◌, ℕ, ◌+◌, ◌<◌, ◌≤◌, ◌⊎◌, IfNone, IfOk, IfSome, IsCharBoundary, length, string_bytes, take};
+ghost use Rattle.rast_document.specs.Indexed.{AgreeTo, AreMarks, IsOnLine, IsRange, IsReached};
 ghost use Rattle.rast_document.specs.Lines.{line_end, line_start, line_starts};
 ghost use Rattle.rast_document.specs.Places.{IsAt, IsInLineEnd, position, within_line};
 ghost use Rattle.rast_document.specs.Units.{units};
@@ -8,8 +8,8 @@ ghost use Rattle.rast_document.specs.Units.{units};
 use crate::encoding::Encoding;
 use crate::lines::{end_before, end_of_last, line_of, line_starts};
 use crate::marks::{Reached, marks_of, reached_from, units_between, units_to};
-use crate::places::meant;
-use crate::position::Position;
+use crate::places::{meant, range_of};
+use crate::position::{Position, Span};
 use std::alloc::{AllocError, Global};
 
 // Up to how many bytes are counted with no look at the marks.
@@ -88,6 +88,30 @@ impl Document {
         let end = self.line_end(place.line);
         let reached = self.reached(start, end, place.character);
         meant(self.encoding, self.text(), place, start, end, reached)
+    }
+
+    // The offsets that the ends of a range mean in another text, which is this one up to an offset: its lines up to there
+    // are known.
+    pub(crate) fn range_in(&self, text: &str, same: usize, span: Span) -> Option<(usize, usize)>
+        requires { AgreeTo (string_bytes self.now.text) text.now same }
+        ensures found { IfSome result (λ range. IsRange self.now.encoding text.now span range.0 range.1) }
+        ensures none { IfNone result ((from to : ℕ) → ¬ IsRange self.now.encoding text.now span from to) }
+    {
+        let known = self.line_before(same, span.start.line);
+        range_of(self.encoding, text, known, self.starts[known], span)
+    }
+
+    // The last line up to the one given that begins before an offset, or the first one.
+    fn line_before(&self, offset: usize, line: usize) -> usize
+        requires { offset ≤ length (string_bytes self.now.text) }
+        ensures some { result < length (line_starts (string_bytes self.now.text)) }
+        ensures order { result ≤ line }
+        ensures before { (result ≡ 0) ⊎ (line_start (string_bytes self.now.text) result < offset) }
+    {
+        if offset == 0 {
+            return 0;
+        }
+        self.line_of(offset - 1).min(line)
     }
 
     // The units of the text before an offset.

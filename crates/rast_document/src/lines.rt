@@ -3,7 +3,7 @@ ghost use Rattle.std.specs.Prelude.{◌≡◌, ◌+◌, ◌<◌, ◌≤◌, ◌�
 ghost use Rattle.rast_document.specs.Lines.{ends_line, line_end, line_start, line_starts, starts_to};
 ghost use Rattle.rast_document.specs.Indexed.{IsLastStart, IsNextStart, IsPair, IsStart};
 
-use crate::blocks::{BLOCK, breaks_of};
+use crate::blocks::{BLOCK, breaks_of, count_of};
 use std::alloc::{AllocError, Global};
 
 /// Whether a line end is complete with the byte at this index.
@@ -57,8 +57,8 @@ pub(crate) fn line_starts(alloc: Global, text: &[u8]) -> Result<Vec<usize>, Allo
     Ok(starts)
 }
 
-/// How many line ends are complete in the block at an offset.
-fn ends_of_block(text: &[u8], at: usize) -> usize
+/// How many line ends are complete in the block at an offset, whatever line breaks are in it.
+fn ends_by_breaks(text: &[u8], at: usize) -> usize
     requires { at + 64 ≤ length text.now }
     ensures { length (starts_to text.now (at + 64)) ≡ length (starts_to text.now at) + result }
 {
@@ -75,6 +75,18 @@ fn ends_of_block(text: &[u8], at: usize) -> usize
         place = index + 1;
     }
     ends
+}
+
+/// How many line ends are complete in the block at an offset: its `\n`, if it has no `\r`.
+fn ends_of_block(text: &[u8], at: usize) -> usize
+    requires { at + 64 ≤ length text.now }
+    ensures { length (starts_to text.now (at + 64)) ≡ length (starts_to text.now at) + result }
+{
+    if count_of(text, at, b'\r') == 0 {
+        count_of(text, at, b'\n')
+    } else {
+        ends_by_breaks(text, at)
+    }
 }
 
 /// Where a line begins, looked for from the start of a line that is not after it; `None` if there is no such line.

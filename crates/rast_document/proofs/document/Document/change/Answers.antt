@@ -1,7 +1,6 @@
-use Rattle.std.proofs.Common.{rules, ◌≡◌, List, [], ◌∷◌, string_bytes, drop, get_or, refl, sym, ◌∙◌, subst, arith}
+use Rattle.std.proofs.Common.{rules, ◌≡◌, ℕ, List, [], ◌∷◌, string_bytes, drop, get_or, refl, sym, ◌∙◌, subst, arith}
 use Rattle.std.proofs.lemmas.List.{drop_all}
 use Rattle.rast_document.specs.declared.change.Change.{Change}
-use Rattle.rast_document.specs.declared.encoding.Encoding.{Encoding}
 use Rattle.rast_document.specs.Changes.{AllChange, Changes}
 use Rattle.rast_document.proofs.ChangeLemmas.{changed_more, changed_past, one_text, reach_more, reach_past}
 use Rattle.rast_document.proofs.document.Document.change.Goals as goal
@@ -14,6 +13,7 @@ loop-change-init c =
     let whole : c.args.changes.now ≡ c.in-Some.first.now ∷ c.in-Some.rest.now = search rules in
     let next = string_bytes c.in_ok-text.text in
     record {
+      agree = c.in_ok-text.ensures.agree;
       reach = λ new more.
           subst (λ (cs : List Change). AllChange e old cs new) (sym whole)
           (changed_more e old next c.in-Some.first.now c.in-Some.rest.now new c.in_ok-text.ensures.changed more);
@@ -26,10 +26,11 @@ pub loop-change-preserved : goal.loop-change-preserved
 loop-change-preserved c =
     let e = c.args.self.now.encoding in
     let next = string_bytes c.loop-change.text in
-    let later = string_bytes c.change_text.new.text in
+    let later = string_bytes c.in_ok-next.next.0 in
     let i = c.loop-change.change-index in
-    let one = subst (λ (x : Encoding). Changes x next (get_or c.in-Some.rest.now i _) later) c.encoding.ensures c.in_ok-change_text.ensures.ok in
+    let one = subst (λ (x : List ℕ). Changes e x (get_or c.in-Some.rest.now i _) later) c.as_str.ensures.value c.in_ok-next.ensures.changed in
     record {
+      agree = c.in_ok-next.ensures.agree;
       reach = λ new more.
           c.loop-change.invariant.reach new (reach_more e next later c.in-Some.rest.now i _ new c.loop-change-test.true one more);
       only = λ new all.

@@ -1,7 +1,7 @@
 use Rattle.std.proofs.Common.{◌≡◌, ◌+◌, ◌-◌, ◌≤◌, length, map, drop}
 use Rattle.std.specs.Simd.Lanes.{chunk, mask_l}
 use Rattle.rast_document.specs.Lines.{is_line_break, starts_to}
-use Rattle.rast_document.proofs.lines.ends_of_block.Given as goal
+use Rattle.rast_document.proofs.lines.ends_by_breaks.Given as goal
 
 abbrev pub invariant-breaks : goal.invariant-breaks
 invariant-breaks l = record {
