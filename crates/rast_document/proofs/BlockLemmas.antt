@@ -253,15 +253,15 @@ units_of_part e s a b rising few =
 pub length_of_first : (s : List ℕ) (a k : ℕ) → a + 64 ≤ length s → k < 64 → length (take k (chunk a 64 s)) ≡ k
 length_of_first s a k within few = length-take-le k (chunk a 64 s) (omega (arith, length-chunk a 64 s within))
 
--- marks, one block further
-pub marks_block : (e : Encoding) (s marks : List ℕ) (b n : ℕ) → AreMarks e s (b * 64) marks → n ≡ units e (take ((b + 1) * 64) s) →
-    AreMarks e s ((b + 1) * 64) (marks ++ n ∷ [])
-marks_block e s marks b n are same = record {
+-- marks, one step further
+pub marks_step : (e : Encoding) (s marks : List ℕ) (b n : ℕ) → AreMarks e s (b * 256) marks → n ≡ units e (take ((b + 1) * 256) s) →
+    AreMarks e s ((b + 1) * 256) (marks ++ n ∷ [])
+marks_step e s marks b n are same = record {
   count = omega (arith, are.count, length_push marks n);
   each = λ k h.
       elim (cases_lt k (length marks)) [
         | inl x ↦ get_or_append_left marks (n ∷ []) 0 k x ∙ are.each k (omega (arith, are.count))
         | inr x ↦ let here : b + 1 ≡ k = omega (arith, are.count) in
-            get_or_push marks n 0 k (omega (arith, are.count)) ∙ (same ∙ ap (λ j. units e (take (j * 64) s)) here)
+            get_or_push marks n 0 k (omega (arith, are.count)) ∙ (same ∙ ap (λ j. units e (take (j * 256) s)) here)
       ];
 }

@@ -4,4 +4,5 @@ pub mod CharacterLemmas
 pub mod ChangeLemmas
 pub mod LineLemmas
 pub mod PlaceLemmas
+pub mod RowLemmas
 pub mod UnitLemmas

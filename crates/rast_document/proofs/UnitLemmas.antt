@@ -57,6 +57,6 @@ marks_none e s = record {
   count = omega arith;
   each = λ k h.
       let first : k ≡ 0 = omega arith in
-      let here : k * 64 ≡ 0 = omega arith in
+      let here : k * 256 ≡ 0 = omega arith in
       ap {B = ℕ} (λ i. get_or (0 ∷ []) i 0) first ∙ sym (ap (λ i. units e (take i s)) here);
 }

@@ -49,10 +49,18 @@ pub record IsPair (s : List ℕ) (start last : ℕ) : Type 0 where
   pub feed : slice_index s last ≡ 10
   pub return : slice_index s (last - 1) ≡ 13
 
--- the units of the text before each 64th byte, up to the offset given
+-- the units of the text before each 256th byte, up to the offset given
 pub record AreMarks (e : Encoding) (s : List ℕ) (offset : ℕ) (marks : List ℕ) : Type 0 where
-  pub count : length marks ≡ offset / 64 + 1
-  pub each : (k : ℕ) → k * 64 ≤ offset → slice_index marks k ≡ units e (take (k * 64) s)
+  pub count : length marks ≡ offset / 256 + 1
+  pub each : (k : ℕ) → k * 256 ≤ offset → slice_index marks k ≡ units e (take (k * 256) s)
+
+-- the lines that the first ones of the 256th bytes are on, if the starts are where the lines begin
+pub record AreRows (starts rows : List ℕ) (count : ℕ) : Type 0 where
+  pub long : length rows ≡ count
+  pub some : (k : ℕ) → k < count → slice_index rows k < length starts
+  pub rising : (k : ℕ) → k + 1 < count → slice_index rows k ≤ slice_index rows (k + 1)
+  pub begins : (k : ℕ) → k < count → slice_index starts (slice_index rows k) ≤ k * 256
+  pub next : (k : ℕ) → k < count → slice_index rows k + 1 < length starts → k * 256 < slice_index starts (slice_index rows k + 1)
 
 -- the last offset from start to end up to which at most count units stand, counted from start
 pub record IsReached (e : Encoding) (s : List ℕ) (start end count offset : ℕ) : Type 0 where

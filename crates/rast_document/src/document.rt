@@ -1,12 +1,12 @@
 //! A text with its lines, and the positions in it.
-ghost use Rattle.std.specs.Prelude.{◌≡◌, ℕ, ◌+◌, ◌<◌, ◌≤◌, ◌⊎◌, IfNone, IfOk, IfSome, IsCharBoundary, length, string_bytes, take};
-ghost use Rattle.rast_document.specs.Indexed.{AgreeTo, AreMarks, IsOnLine, IsRange, IsReached};
+ghost use Rattle.std.specs.Prelude.{◌≡◌, ℕ, ◌+◌, ◌/◌, ◌<◌, ◌≤◌, ◌⊎◌, IfNone, IfOk, IfSome, IsCharBoundary, length, string_bytes, take};
+ghost use Rattle.rast_document.specs.Indexed.{AgreeTo, AreMarks, AreRows, IsOnLine, IsRange, IsReached};
 ghost use Rattle.rast_document.specs.Lines.{line_end, line_start, line_starts};
 ghost use Rattle.rast_document.specs.Places.{IsAt, IsInLineEnd, position, within_line};
 ghost use Rattle.rast_document.specs.Units.{units};
 
 use crate::encoding::Encoding;
-use crate::lines::{end_before, end_of_last, line_of, line_starts};
+use crate::lines::{end_before, end_of_last, line_of, line_starts, rows_of};
 use crate::marks::{Reached, marks_of, reached_from, units_between, units_to};
 use crate::places::{meant, range_of};
 use crate::position::{Position, Span};
@@ -22,8 +22,10 @@ pub struct Document {
     encoding: Encoding,
     text: String,
     starts: Vec<usize>,
+    rows: Vec<usize>,
     marks: Vec<usize>,
     ghost lines: { starts.items ≡ line_starts (string_bytes text) },
+    ghost placed: { AreRows starts.items rows.items (length (string_bytes text) / 256 + 1) },
     ghost counted: { AreMarks encoding (string_bytes text) (length (string_bytes text)) marks.items },
 }
 
@@ -34,11 +36,13 @@ impl Document {
         ensures text { IfOk result (λ document. string_bytes document.text ≡ string_bytes text) }
     {
         let starts = line_starts(alloc, text.as_bytes())?;
+        let rows = rows_of(alloc, starts.as_slice(), text.len())?;
         let marks = marks_of(alloc, encoding, text.as_bytes())?;
         Ok(Document {
             encoding,
             text,
             starts,
+            rows,
             marks,
         })
     }
@@ -146,7 +150,7 @@ impl Document {
         requires { offset ≤ length (string_bytes self.now.text) }
         ensures { IsOnLine (string_bytes self.now.text) offset result }
     {
-        line_of(self.starts.as_slice(), offset)
+        line_of(self.starts.as_slice(), self.rows.as_slice(), offset)
     }
 
     // Where a line ends.

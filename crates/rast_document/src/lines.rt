@@ -1,9 +1,10 @@
 //! The lines of a text.
-ghost use Rattle.std.specs.Prelude.{◌≡◌, ◌+◌, ◌<◌, ◌≤◌, ◌↔◌, IfNone, IfOk, IfSome, IsTrue, OnOk, length, slice_index};
+ghost use Rattle.std.specs.Prelude.{◌≡◌, ◌+◌, ◌/◌, ◌<◌, ◌≤◌, ◌↔◌, IfNone, IfOk, IfSome, IsTrue, OnOk, length, slice_index};
 ghost use Rattle.rast_document.specs.Lines.{ends_line, line_end, line_start, line_starts, starts_to};
-ghost use Rattle.rast_document.specs.Indexed.{IsLastStart, IsNextStart, IsPair, IsStart};
+ghost use Rattle.rast_document.specs.Indexed.{AreRows, IsLastStart, IsNextStart, IsPair, IsStart};
 
 use crate::blocks::{BLOCK, breaks_of, count_of};
+use crate::marks::STEP;
 use std::alloc::{AllocError, Global};
 
 /// Whether a line end is complete with the byte at this index.
@@ -173,16 +174,59 @@ pub(crate) fn end_of_last(text: &[u8], start: usize) -> usize
     text.len()
 }
 
-/// The line that an offset is on, if `starts` are where the lines begin: by bisection.
-pub(crate) fn line_of(starts: &[usize], offset: usize) -> usize
+/// The lines that each 256th byte of a text of this size is on, if `starts` are where its lines begin. The error means
+/// out of memory.
+pub(crate) fn rows_of(
+    alloc: Global,
+    starts: &[usize],
+    size: usize,
+) -> Result<Vec<usize>, AllocError>
     requires some { 0 < length starts.now }
-    requires first { slice_index starts.now 0 ≤ offset }
+    requires first { slice_index starts.now 0 ≡ 0 }
+    ensures { IfOk result (λ rows. AreRows starts.now rows.items (size / 256 + 1)) }
+{
+    let count = size / STEP + 1;
+    let mut rows = Vec::with_capacity(alloc, count)?;
+    let mut line = 0;
+    for step in 0..count {
+        line = line_reached(starts, line, step * STEP);
+        rows.push(line)?;
+    }
+    Ok(rows)
+}
+
+/// The line that an offset is on, looked for from a line that is not after it.
+fn line_reached(starts: &[usize], from: usize, offset: usize) -> usize
+    requires some { from < length starts.now }
+    requires begins { slice_index starts.now from ≤ offset }
+    ensures rising { from ≤ result }
     ensures bound { result < length starts.now }
     ensures begins { slice_index starts.now result ≤ offset }
     ensures next { result + 1 < length starts.now → offset < slice_index starts.now (result + 1) }
 {
-    let mut low = 0;
-    let mut high = starts.len();
+    let mut line = from;
+    'lines: while line + 1 < starts.len() && starts[line + 1] <= offset {
+        line += 1;
+    }
+    line
+}
+
+/// The line that an offset is on, if `starts` are where the lines begin, and `rows` the lines of each 256th byte: by
+/// bisection of the lines around it.
+pub(crate) fn line_of(starts: &[usize], rows: &[usize], offset: usize) -> usize
+    requires rows { AreRows starts.now rows.now (length rows.now) }
+    requires within { offset / 256 < length rows.now }
+    ensures bound { result < length starts.now }
+    ensures begins { slice_index starts.now result ≤ offset }
+    ensures next { result + 1 < length starts.now → offset < slice_index starts.now (result + 1) }
+{
+    let step = offset / STEP;
+    let mut low = rows[step];
+    let mut high = if step + 1 < rows.len() {
+        rows[step + 1] + 1
+    } else {
+        starts.len()
+    };
     'halves: while high - low > 1 {
         let middle = low + (high - low) / 2;
         if starts[middle] <= offset {

@@ -7,7 +7,10 @@ use crate::blocks::{BLOCK, units_of_block, units_of_first};
 use crate::encoding::Encoding;
 use std::alloc::{AllocError, Global};
 
-/// The units of a text before each 64th byte. The error means out of memory.
+/// How many bytes are between two marks.
+pub(crate) const STEP: usize = 256;
+
+/// The units of a text before each 256th byte. The error means out of memory.
 pub(crate) fn marks_of(
     alloc: Global,
     encoding: Encoding,
@@ -16,11 +19,12 @@ pub(crate) fn marks_of(
     requires { length text.now < 2 ^ 63 }
     ensures { IfOk result (λ marks. AreMarks encoding text.now (length text.now) marks.items) }
 {
-    let mut marks = Vec::with_capacity(alloc, text.len() / BLOCK + 1)?;
+    let mut marks = Vec::with_capacity(alloc, text.len() / STEP + 1)?;
     marks.push(0)?;
     let mut total = 0;
-    for block in 0..text.len() / BLOCK {
-        total += units_of_block(encoding, text, block * BLOCK);
+    for step in 0..text.len() / STEP {
+        let from = step * STEP;
+        total += units_between(encoding, text, from, from + STEP);
         marks.push(total)?;
     }
     Ok(marks)
@@ -67,8 +71,8 @@ pub(crate) fn units_to(encoding: Encoding, text: &[u8], marks: &[usize], offset:
     requires room { length text.now < 2 ^ 63 }
     ensures { result ≡ units encoding (take offset text.now) }
 {
-    let mark = offset / BLOCK;
-    marks[mark] + units_within(encoding, text, mark * BLOCK, offset)
+    let mark = offset / STEP;
+    marks[mark] + units_between(encoding, text, mark * STEP, offset)
 }
 
 /// The last offset that so many units of a line reach.

@@ -8,8 +8,8 @@ overflow_add-result c =
     let s = c.args.text.now in
     omega (
       arith,
-      c.requires.marks.each (c.args.offset / 64) (omega arith),
-      c.units_within.ensures,
+      c.requires.marks.each (c.args.offset / 256) (omega arith),
+      c.units_between.ensures,
       units_le c.args.encoding (take c.args.offset s),
       length-take-le c.args.offset s c.requires.offset,
       c.requires.room,
