@@ -1,7 +1,7 @@
 //! A text with its lines, and the positions in it.
 ghost use Rattle.std.specs.Prelude.{◌≡◌, ℕ, ◌+◌, ◌/◌, ◌<◌, ◌≤◌, ◌⊎◌, IfNone, IfOk, IfSome, IsCharBoundary, length, string_bytes, take};
 ghost use Rattle.rast_document.specs.Indexed.{AgreeTo, AreMarks, AreRows, IsOnLine, IsRange, IsReached};
-ghost use Rattle.rast_document.specs.Lines.{line_end, line_start, line_starts};
+ghost use Rattle.rast_document.specs.Lines.{line_at, line_end, line_start, line_starts};
 ghost use Rattle.rast_document.specs.Places.{IsAt, IsInLineEnd, position, within_line};
 ghost use Rattle.rast_document.specs.Units.{units};
 
@@ -74,6 +74,14 @@ impl Document {
         let end = self.line_end(line);
         let character = self.units_between(start, offset.min(end));
         Position { line, character }
+    }
+
+    /// The line of an offset, which is in the text or at its end: that of its position, with no count of units.
+    pub fn line(&self, offset: usize) -> usize
+        requires { offset ≤ length (string_bytes self.now.text) }
+        ensures { result ≡ line_at (string_bytes self.now.text) offset }
+    {
+        self.line_of(offset)
     }
 
     /// The offset that a position means: past the end of its line the line's end. `None` exactly if no offset is meant:
