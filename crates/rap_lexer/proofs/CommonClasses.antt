@@ -9,7 +9,7 @@ use Rattle.rap_lexer.specs.Class.{is_ascii_in}
 use Rattle.rap_lexer.specs.Common.{is_lone, ends_no_word}
 use Rattle.rap_lexer.specs.First.{single_kind}
 use Rattle.rap_lexer.specs.declared.lexer.common.TheConstants.{CLASSES, WHITE, WORD, OTHER, PAST_ASCII}
-use Rattle.rap_lexer.specs.declared.lexer.run.Class.TheVariants.{White, IdentStart, IdentContinue, Digit}
+use Rattle.rap_lexer.specs.declared.lexer.run.Class.TheVariants.{White, IdentStart, IdentContinue, Digit, DigitOrUnderscore}
 use Rattle.rap_lexer.proofs.AsciiClasses.{starts, continues}
 
 -- the test holds of the numbers below n
@@ -87,3 +87,13 @@ lone_no_word b l h = sym (starts b) ∙ are_same _ _ (follows _ _ (each (λ b. n
 
 pub lone_no_string : (b : ℕ) → b < 256 → is_lone b ≡ true → (single_kind b == STRING) ≡ false
 lone_no_string b l h = are_same _ _ (follows _ _ (each (λ b. not (is_lone b) || same (single_kind b == STRING) false) 256 refl b l) h)
+
+-- no digit is white space or begins a word, and what begins a run of digits goes on with it
+pub digit_no_white : (b : ℕ) → b < 256 → is_ascii_in Digit b ≡ true → is_ascii_in White b ≡ false
+digit_no_white b l h = are_same _ _ (follows _ _ (each (λ b. not (is_ascii_in Digit b) || same (is_ascii_in White b) false) 256 refl b l) h)
+
+pub digit_no_word : (b : ℕ) → b < 256 → is_ascii_in Digit b ≡ true → is_ascii_in IdentStart b ≡ false
+digit_no_word b l h = sym (starts b) ∙ are_same _ _ (follows _ _ (each (λ b. not (is_ascii_in Digit b) || same (is_start b) false) 256 refl b l) h)
+
+pub digit_goes_on : (b : ℕ) → b < 256 → is_ascii_in Digit b ≡ true → is_ascii_in DigitOrUnderscore b ≡ true
+digit_goes_on b l h = follows _ _ (each (λ b. not (is_ascii_in Digit b) || is_ascii_in DigitOrUnderscore b) 256 refl b l) h

@@ -24,16 +24,16 @@ use Rattle.rap_lexer.proofs.Runs.{after_drop, run_prefix}
 use Rattle.rap_lexer.proofs.TokenKinds.{token_kind, word_no_string}
 
 -- an ASCII byte is a character
-chars_head : (b : ℕ) (t : List ℕ) → IsUtf8 (b ∷ t) → b < 128 → chars (b ∷ t) ≡ b ∷ chars t
+pub chars_head : (b : ℕ) (t : List ℕ) → IsUtf8 (b ∷ t) → b < 128 → chars (b ∷ t) ≡ b ∷ chars t
 chars_head b t u l = chars_past_char (b ∷ t) t b u (ap (λ x. x ++ t) (sym (encode_ascii b l)))
 
-low : (class : Class) (b : ℕ) → is_ascii_in class b ≡ true → b < 128
+pub low : (class : Class) (b : ℕ) → is_ascii_in class b ≡ true → b < 128
 low class b h = ltb-true b 128 (and_parts (nat_lt b 128) (is_in class b) h).0
 
-within : (class : Class) (b : ℕ) → is_ascii_in class b ≡ true → is_in class b ≡ true
+pub within : (class : Class) (b : ℕ) → is_ascii_in class b ≡ true → is_in class b ≡ true
 within class b h = (and_parts (nat_lt b 128) (is_in class b) h).1
 
-without : (class : Class) (b : ℕ) → b < 128 → is_ascii_in class b ≡ false → is_in class b ≡ false
+pub without : (class : Class) (b : ℕ) → b < 128 → is_ascii_in class b ≡ false → is_in class b ≡ false
 without class b l h = sym (ap (λ x. x && is_in class b) (lt-ltb b 128 l)) ∙ h
 
 -- ---- What stands next
@@ -49,7 +49,7 @@ next_end p [] (suc n) l = refl
 next_end p (x ∷ xs) zero l = absurd (omega (arith, l))
 next_end p (x ∷ xs) (suc n) l = next_end p xs n (omega (arith, l))
 
-next_low : (xs : List ℕ) (n : ℕ) → next_fits (nat_lt 127) (drop n xs) ≡ false → get_or xs n 0 < 128
+pub next_low : (xs : List ℕ) (n : ℕ) → next_fits (nat_lt 127) (drop n xs) ≡ false → get_or xs n 0 < 128
 next_low [] zero h = omega arith
 next_low [] (suc n) h = omega arith
 next_low (x ∷ xs) zero h = omega (arith, ltb-false 127 x h)
@@ -60,7 +60,7 @@ end_low : (xs : List ℕ) → next_fits ends_no_word xs ≡ false → next_fits 
 end_low [] h = refl
 end_low (x ∷ xs) h = (or_parts (nat_lt 127 x) ((x == byte "\"") || ((x == byte "'") || (x == byte "#"))) h).0
 
-no_past : (b : ℕ) → b < 128 → nat_le 128 b ≡ false
+pub no_past : (b : ℕ) → b < 128 → nat_le 128 b ≡ false
 no_past b l = grind (arith, l)
 
 after_word : (ds : List ℕ) → IsUtf8 ds → next_fits ends_no_word ds ≡ false → (ends_prefix (chars ds) ≡ false) × (next_in Emoji (chars ds) ≡ false)
@@ -84,11 +84,11 @@ uncommon_other : (b : ℕ) (t : List ℕ) → is_ascii_in White b ≡ false → 
 uncommon_other b t w s = cond-false (is_ascii_in White b) _ _ w ∙ cond-false (is_ascii_in IdentStart b) _ _ s
 
 -- what follows as many bytes as the run has
-past_run : (class : Class) (p : ℕ → Bool) (text : List ℕ) (n : ℕ) → n ≡ length (run_of (is_ascii_in class) text) → next_fits p (after_run (is_ascii_in class) text) ≡ next_fits p (drop n text)
+pub past_run : (class : Class) (p : ℕ → Bool) (text : List ℕ) (n : ℕ) → n ≡ length (run_of (is_ascii_in class) text) → next_fits p (after_run (is_ascii_in class) text) ≡ next_fits p (drop n text)
 past_run class p text n e = ap (next_fits p) (sym (ap (λ i. drop i text) e ∙ after_drop (is_ascii_in class) text))
 
 -- a run that begins has a length
-some_run : (class : Class) (b n : ℕ) (t : List ℕ) → is_ascii_in class b ≡ true → n ≡ length (run_of (is_ascii_in class) (b ∷ t)) → 0 < n
+pub some_run : (class : Class) (b n : ℕ) (t : List ℕ) → is_ascii_in class b ≡ true → n ≡ length (run_of (is_ascii_in class) (b ∷ t)) → 0 < n
 some_run class b n t h e = omega (arith, e, ap (λ x. length (if x then b ∷ run_of (is_ascii_in class) t else [])) h)
 
 -- ---- White space
@@ -124,7 +124,7 @@ white_common edition (b ∷ t) n u w e h =
 -- ---- Words
 
 -- a character that ends a run and does not follow it is not before it either
-skipped : (p : ℕ → Bool) (x : ℕ) (cs : List ℕ) → p x ≡ false → next_is x (after_run p cs) ≡ false → next_is x cs ≡ false
+pub skipped : (p : ℕ → Bool) (x : ℕ) (cs : List ℕ) → p x ≡ false → next_is x (after_run p cs) ≡ false → next_is x cs ≡ false
 skipped p x [] f h = refl
 skipped p x (d ∷ ds) f h =
     elim (eqb_tells d x) [

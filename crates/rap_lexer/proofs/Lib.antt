@@ -18,6 +18,7 @@ pub mod Nesting
 pub mod OneBody
 pub mod OneRun
 pub mod OneToken
+pub mod PlainNumbers
 pub mod Prefixes
 pub mod RawStrings
 pub mod RawWalk

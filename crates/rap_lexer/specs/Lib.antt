@@ -7,6 +7,7 @@ pub mod First
 pub mod Lexeme
 pub mod Number
 pub mod OneToken
+pub mod Plain
 pub mod Quoted
 pub mod Run
 pub mod Word

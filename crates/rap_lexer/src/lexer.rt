@@ -14,6 +14,7 @@ use crate::lexer::run::{Class, eat_run, is_in};
 use crate::lexer::word::{invalid_word, word_like};
 pub use common::{CommonToken, common_token};
 pub use lexeme::{Lexeme, Remark};
+pub use plain::quick_token;
 use rap_base::edition::Edition;
 use rap_base::syntax_kind::SyntaxKind;
 
@@ -23,6 +24,7 @@ pub(crate) mod cursor;
 mod lanes;
 mod lexeme;
 mod number;
+mod plain;
 mod quoted;
 mod raw_string;
 mod run;

@@ -114,7 +114,7 @@ fn word_token(edition: Edition, text: &str) -> Option<CommonToken>
 
 /// The class of a byte.
 #[inline(always)]
-fn class_of(b: u8) -> u8
+pub fn class_of(b: u8) -> u8
     ensures lone { nat_lt result WHITE ≡ is_lone b }
     ensures kind { result < WHITE → result ≡ single_kind b }
     ensures white { (result == WHITE) ≡ is_ascii_in White b }
@@ -128,19 +128,19 @@ fn class_of(b: u8) -> u8
 // The class of a character that is a token of its own is the number of its kind, from 1 to 28. The others:
 
 /// White space.
-const WHITE: u8 = 29;
+pub const WHITE: u8 = 29;
 
 /// The first character of a word.
-const WORD: u8 = 30;
+pub const WORD: u8 = 30;
 
 /// Any other ASCII character.
-const OTHER: u8 = 31;
+pub const OTHER: u8 = 31;
 
 /// A quote or a `#`, which make the word before them a prefix.
-const QUOTE: u8 = 32;
+pub const QUOTE: u8 = 32;
 
 /// Part of a character past ASCII.
-const PAST_ASCII: u8 = 33;
+pub const PAST_ASCII: u8 = 33;
 
 // Their letters in the table, which has a row for each sixteen bytes.
 

@@ -97,7 +97,7 @@ pub fn is_next_in(cursor: &Cursor<'_>, class: Class) -> bool
 
 /// Whether the byte is an ASCII character of the class.
 #[inline(always)]
-fn is_ascii_in(class: Class, b: u8) -> bool
+pub fn is_ascii_in(class: Class, b: u8) -> bool
     ensures { result ≡ is_ascii_in class b }
 {
     match class {
@@ -170,7 +170,7 @@ fn text_run(bytes: &[u8], class: Class) -> usize
 }
 
 /// How many bytes of the class stand first.
-fn any_run(bytes: &[u8], class: Class) -> usize
+pub fn any_run(bytes: &[u8], class: Class) -> usize
     ensures { result ≡ length (run_of (is_in class) bytes.now) }
 {
     let mut n = 0usize;

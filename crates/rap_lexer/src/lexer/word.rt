@@ -171,7 +171,7 @@ pub fn common_word(edition: Edition, text: &str) -> (SyntaxKind, bool)
     ensures kind { result.0 ≡ word_kind edition text.now }
     ensures contextual { result.1 ≡ is_contextual result.0 text.now }
 {
-    if text == "_" {
+    if text.len() == 1 && text.as_bytes()[0] == b'_' {
         (SyntaxKind::UNDERSCORE, false)
     } else {
         SyntaxKind::of_word(text, edition)
