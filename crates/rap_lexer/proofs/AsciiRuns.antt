@@ -21,7 +21,7 @@ not_second true y e h = h
 not_second false y e h = cc
 
 -- past ASCII characters the text goes on
-utf8_rest : (xs ys : List ℕ) → IsAscii xs → IsUtf8 (xs ++ ys) → IsUtf8 ys
+pub utf8_rest : (xs ys : List ℕ) → IsAscii xs → IsUtf8 (xs ++ ys) → IsUtf8 ys
 utf8_rest [] ys a u = u
 utf8_rest (x ∷ xs) ys a u = utf8_rest xs ys (IsAscii-drop (x ∷ xs) 1 a) (IsUtf8-past_char (x ∷ (xs ++ ys)) (xs ++ ys) x u (ap (λ l. l ++ (xs ++ ys)) (sym (encode_ascii x (a 0)))))
 

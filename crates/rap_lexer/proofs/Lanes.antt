@@ -1,5 +1,5 @@
 -- Tests of sixteen bytes at a time.
-use Rattle.std.proofs.Common.{◌≡◌, ℕ, zero, suc, ◌+◌, ◌-◌, ◌%◌, ◌^◌, ◌<◌, ◌≤◌, List, [], ◌∷◌, Bool, true, false, not, ◌&&◌, ◌||◌, ◌==◌, nat_lt, cond, leb, eqb, length, get_or, drop, length-drop, map, replicate, bit_and, refl, sym, ap, ◌∙◌, arith}
+use Rattle.std.proofs.Common.{◌≡◌, ℕ, zero, suc, ◌+◌, ◌-◌, ◌%◌, ◌^◌, ◌<◌, ◌≤◌, List, [], ◌∷◌, Bool, true, false, not, ◌&&◌, ◌||◌, ◌==◌, nat_lt, cond, leb, eqb, length, get_or, drop, length-drop, map, replicate, bit_and, bit_or, refl, sym, ap, ◌∙◌, arith}
 use Rattle.std.specs.Bool.{beq}
 use Rattle.std.specs.Char.{is_ascii_alphanumeric}
 use Rattle.std.specs.Simd.Lanes.{zip2, mask_l, top, chunk, Each1}
@@ -7,8 +7,8 @@ use Rattle.std.proofs.lemmas.Bool.{eqb-true, eqb-false, ltb-true, ltb-false}
 use Rattle.std.proofs.lemmas.Simd.{zip2_of_maps, splat_is_map, map-map, mask_l-mod, bit_mask_l, length-chunk, get_or-chunk, none_from_empty_mask}
 use Rattle.std.proofs.Math.ListN.{get_or-map}
 use Rattle.std.proofs.lemmas.List.{length-map, get_or_default, get_or_past, get_or-drop, drop-drop}
-use Rattle.rap_lexer.specs.Class.{is_ascii_in}
-use Rattle.rap_lexer.specs.declared.lexer.run.Class.TheVariants.{White, IdentContinue}
+use Rattle.rap_lexer.specs.Class.{is_in, is_ascii_in}
+use Rattle.rap_lexer.specs.declared.lexer.run.Class.TheVariants.{White, InString, IdentContinue}
 use Rattle.std.specs.Int.{bit_at}
 use Rattle.rap_lexer.specs.Run.{run_of}
 use Rattle.rap_lexer.proofs.AsciiClasses.{continues}
@@ -94,6 +94,24 @@ word_lanes v long fits =
     let letters = zip2_of_maps bit_and (λ x. at_least 26 (sub x 97)) (λ x. at_least 26 (sub x 65)) v (past 26 97) (past 26 65) in
     let signs = zip2_of_maps bit_and (λ x. bit_and (at_least 26 (sub x 97)) (at_least 26 (sub x 65))) (λ x. at_least 10 (sub x 48)) v letters (past 10 48) in
     masked word_lane _ v _ long fits word_test (zip2_of_maps bit_and (λ x. bit_and (bit_and (at_least 26 (sub x 97)) (at_least 26 (sub x 65))) (at_least 10 (sub x 48))) (λ x. apart x 95) v signs lines)
+
+abbrev alike : ℕ → ℕ → ℕ
+alike a b = cond (eqb a b) 255 0
+
+abbrev string_lane : ℕ → ℕ
+string_lane x = bit_or (alike x 34) (alike x 92)
+
+string_test : (x : ℕ) → x < 256 → top 7 (string_lane x) ≡ not (is_in InString x)
+unfolding all_under
+string_test x l = same _ _ (under (λ x. beq (top 7 (string_lane x)) (not (is_in InString x))) 256 refl x l)
+
+pub string_lanes : (v : List ℕ) → length v ≡ 16 → Each1 (λ x. x < 256) v
+    → mask_l (map (top 7) (zip2 bit_or (zip2 alike v (replicate 16 34)) (zip2 alike v (replicate 16 92)))) % 2 ^ 64 ≡ mask_l (map (λ b. not (is_in InString b)) v)
+string_lanes v long fits =
+    let splat = λ (y : ℕ). splat_is_map v 16 y long in
+    let quotes = zip2_of_maps alike (λ x. x) (λ _. 34) v (itself v) (splat 34) in
+    let backslashes = zip2_of_maps alike (λ x. x) (λ _. 92) v (itself v) (splat 92) in
+    masked string_lane _ v _ long fits string_test (zip2_of_maps bit_or (λ x. alike x 34) (λ x. alike x 92) v quotes backslashes)
 
 is_one : (b : Bool) → cond {A = ℕ} b 1 0 ≡ 1 → b ≡ true
 is_one true e = refl

@@ -18,7 +18,9 @@ pub mod Nesting
 pub mod OneBody
 pub mod OneRun
 pub mod OneToken
+pub mod PlainCharacters
 pub mod PlainNumbers
+pub mod PlainStrings
 pub mod Prefixes
 pub mod RawStrings
 pub mod RawWalk

@@ -70,3 +70,12 @@ run_past p (x ∷ xs) (suc n) w h =
     let f : p x ≡ true = h 0 (omega arith) in
     let g : n + length (run_of p (drop n xs)) ≡ length (run_of p xs) = run_past p xs n (omega arith) (λ k l. h (suc k) (omega arith)) in
     rw f (omega (arith, g))
+
+-- a run is no longer than the text
+pub run_within : (p : ℕ → Bool) (cs : List ℕ) → length (run_of p cs) ≤ length cs
+run_within p [] = omega arith
+run_within p (c ∷ cs) =
+    elim (p c) as (λ z. length (if z then c ∷ run_of p cs else []) ≤ length (c ∷ cs)) [
+      | true ↦ omega (arith, run_within p cs)
+      | false ↦ omega arith
+    ]

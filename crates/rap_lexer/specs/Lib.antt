@@ -8,6 +8,7 @@ pub mod Lexeme
 pub mod Number
 pub mod OneToken
 pub mod Plain
+pub mod PlainLiteral
 pub mod Quoted
 pub mod Run
 pub mod Word

@@ -6,7 +6,7 @@ ghost use Rattle.rap_lexer.specs.EscapeWalk.{faults};
 ghost use Rattle.rap_lexer.specs.Run.{after_run};
 ghost use Rattle.rap_lexer.specs.declared.escape.Fault.{Fault};
 
-mod character;
+pub(crate) mod character;
 
 use crate::escape::character::character;
 use crate::lexer::cursor::Cursor;

@@ -45,7 +45,8 @@ fn escape(mode: Mode, rest: &mut Cursor<'_>) -> Result<u32, Fault>
     }
 }
 
-fn simple_escape(c: char) -> Option<u32>
+/// What an escape of one character stands for.
+pub fn simple_escape(c: char) -> Option<u32>
     ensures { result ≡ simple_escape c }
 {
     match c {

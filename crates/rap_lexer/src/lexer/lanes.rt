@@ -1,12 +1,12 @@
 //! Scans of sixteen bytes at a time.
-ghost use Rattle.std.specs.Prelude.{◌≡◌, ◌≢◌, ◌<◌, ℕ, not, map, length};
+ghost use Rattle.std.specs.Prelude.{◌≡◌, ◌≢◌, ◌<◌, ◌≤◌, ℕ, not, map, length};
 ghost use Rattle.std.specs.Int.{bit_at};
 ghost use Rattle.std.specs.Simd.Lanes.{mask_l};
-ghost use Rattle.rap_lexer.specs.Class.{is_ascii_in};
+ghost use Rattle.rap_lexer.specs.Class.{is_in, is_ascii_in};
 ghost use Rattle.rap_lexer.specs.Run.{run_of};
-ghost use Rattle.rap_lexer.specs.declared.lexer.run.Class.TheVariants.{White, IdentContinue};
+ghost use Rattle.rap_lexer.specs.declared.lexer.run.Class.TheVariants.{White, InString, IdentContinue};
 
-use crate::lexer::run::{Class, byte_run};
+use crate::lexer::run::{Class, any_run, byte_run};
 use std::simd::prelude::*;
 
 /// A bit for each byte that is no ASCII white space, the lowest for the first byte.
@@ -61,6 +61,33 @@ pub fn word_run(bytes: &[u8]) -> usize
         n += 16;
     }
     n + byte_run(&bytes[n..], Class::IdentContinue)
+}
+
+/// A bit for each byte that is a double quote or a backslash, the lowest for the first byte.
+#[inline(always)]
+pub fn not_string(bytes: u8x16) -> u64
+    ensures { result ≡ mask_l (map (λ b. not (is_in InString b)) bytes) }
+{
+    let quotes = bytes.simd_eq(u8x16::splat(b'"'));
+    let backslashes = bytes.simd_eq(u8x16::splat(b'\\'));
+    (quotes | backslashes).to_bitmask()
+}
+
+/// How many bytes stand before the first double quote or backslash.
+#[inline(always)]
+pub fn string_run(bytes: &[u8]) -> usize
+    ensures run { result ≡ length (run_of (is_in InString) bytes.now) }
+    ensures within { result ≤ length bytes.now }
+{
+    let mut n = 0usize;
+    'lanes: while 16 <= bytes.len() - n {
+        let others = not_string(u8x16::from_slice(&bytes[n..]));
+        if others != 0 {
+            return n + lowest(others);
+        }
+        n += 16;
+    }
+    n + any_run(&bytes[n..], Class::InString)
 }
 
 /// The place of the lowest bit that is set.

@@ -70,7 +70,7 @@ fn ends_no_integer(b: u8) -> bool
 
 /// Whether the byte may begin a suffix.
 #[inline(always)]
-fn begins_suffix(b: u8) -> bool
+pub fn begins_suffix(b: u8) -> bool
     ensures { result ≡ begins_suffix b }
 {
     let class = class_of(b);

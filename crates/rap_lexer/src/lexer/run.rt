@@ -171,7 +171,8 @@ fn text_run(bytes: &[u8], class: Class) -> usize
 
 /// How many bytes of the class stand first.
 pub fn any_run(bytes: &[u8], class: Class) -> usize
-    ensures { result ≡ length (run_of (is_in class) bytes.now) }
+    ensures run { result ≡ length (run_of (is_in class) bytes.now) }
+    ensures within { result ≤ length bytes.now }
 {
     let mut n = 0usize;
     'run: while n < bytes.len() && is_in(class, bytes[n] as char) {

@@ -1,0 +1,9 @@
+use Rattle.std.proofs.Common.{◌-◌, length}
+use Rattle.rap_lexer.proofs.PlainStrings.{Passed}
+use Rattle.rap_lexer.proofs.lexer.literal.plain_string.Given as goal
+
+abbrev pub invariant-body : goal.invariant-body
+invariant-body l = Passed l.text l.end
+
+abbrev pub decreases-body : goal.decreases-body
+decreases-body l = length l.text - l.end
