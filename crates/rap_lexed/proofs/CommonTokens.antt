@@ -1,5 +1,5 @@
 -- Common tokens, taken where a prefix of the text is cut into tokens.
-use Rattle.std.proofs.Common.{◌≡◌, ℕ, ◌+◌, ◌-◌, ◌≤◌, nat_lt, slice_range, List, [], ◌∷◌, ◌++◌, drop, length, length-append, append-nil, refl, ap, sym, arith, ◌∙◌}
+use Rattle.std.proofs.Common.{◌≡◌, ℕ, ◌+◌, ◌-◌, ◌≤◌, nat_lt, slice_range, List, [], ◌∷◌, ◌++◌, take, drop, length, length-append, append-nil, refl, ap, sym, arith, ◌∙◌}
 use Rattle.std.proofs.lemmas.List.Elements.{All-push}
 use Rattle.std.specs.Prelude.{All, min}
 use Rattle.rap_base.specs.TokenTests.{IsTokenKind}
@@ -43,3 +43,7 @@ module _ (edition : Edition) (text : List ℕ) (header : List Token) (kinds star
             let new = upto.new_piece edition text header ks ss errors count at kind to f.upto c.some c.border in
             rw longer (noted-more (piece text ks ss) (piece text (ks ++ kind ∷ []) (ss ++ to ∷ [])) (length ks) (λ i h. sym (old i h)) ns _ (ap is_contextual_token new) f.noted);
       }
+
+-- a part of what is left
+pub range-drop : (text : List ℕ) (at n : ℕ) → slice_range (drop at text) 0 n ≡ slice_range text at (at + n)
+range-drop text at n = let size : n - 0 ≡ at + n - at = omega arith in ap (λ k. take k (drop at text)) size

@@ -16,6 +16,7 @@ pub mod Messages
 pub mod OneLexing
 pub mod OpenStrings
 pub mod PlainRecords
+pub mod QuietLiterals
 pub mod Records
 pub mod Reports
 pub mod TailExamples

@@ -1,10 +1,12 @@
 //! A text divided into tokens, with the lexer's messages.
-ghost use Rattle.std.specs.Prelude.{◌≡◌, ℕ, ◌<◌, ◌≤◌, ◌+◌, ◌++◌, ◌∷◌, [], ◌^◌, ◌↔◌, ◌&&◌, ◌==◌, Some, IfOk, IfSome, IsCharBoundary, IsFalse, IsTrue, MatchOption, OnOk, min, string_bytes, length, map, slice_range, All};
+ghost use Rattle.std.specs.Prelude.{◌≡◌, ℕ, ◌<◌, ◌≤◌, ◌+◌, ◌++◌, ◌∷◌, [], ◌^◌, ◌↔◌, ◌&&◌, ◌==◌, Some, IfOk, IfSome, IsCharBoundary, IsFalse, IsTrue, MatchOption, OnOk, min, string_bytes, chars, drop, length, map, slice_range, All};
 ghost use Rattle.std.specs.List.Sorted.{IsNonDecreasingBy, IsPartitionPoint};
 ghost use Rattle.std.specs.Option.{option_copied, option_map};
 ghost use Rattle.rap_base.specs.TokenKind.{STRING};
 ghost use Rattle.rap_base.specs.TokenTests.{IsTokenKind};
 ghost use Rattle.rap_lexer.specs.Common.{is_contextual};
+ghost use Rattle.rap_lexer.specs.First.{First};
+ghost use Rattle.rap_lexed.specs.About.{IsQuiet};
 ghost use Rattle.rap_lexed.specs.CommonTokens.{TakesCommon};
 ghost use Rattle.rap_lexed.specs.Contextual.{noted, AreNoted};
 ghost use Rattle.rap_lexed.specs.OneLexing.{IsOnlyLexing};
@@ -20,7 +22,7 @@ use header::{find_header, push_header};
 use rap_base::edition::Edition;
 use rap_base::no_memory::NoMemory;
 use rap_base::syntax_kind::SyntaxKind;
-use rap_lexer::lexer::{common_token, first_token};
+use rap_lexer::lexer::{Lexeme, first_token, plain_literal, quick_token};
 pub(crate) use reported::holds_pair;
 use reported::{LexError, last_message, looks_open, report};
 
@@ -167,7 +169,7 @@ fn take_common(
 {
     let mut end = from;
     'common: while end < text.len() {
-        let Some(token) = common_token(edition, &text[end..]) else {
+        let Some(token) = quick_token(edition, &text[end..]) else {
             break;
         };
         end += token.len;
@@ -176,6 +178,29 @@ fn take_common(
         start.push(end as u32)?;
     }
     Ok(end)
+}
+
+/// The first token of the text, its length in bytes, and whether it is sure that there is nothing to report about it.
+#[inline(always)]
+fn next_token(edition: Edition, text: &str) -> (Lexeme, usize, bool)
+    requires { 0 < length text.now }
+    ensures token { First edition (chars text.now) result.0 (chars (drop result.1 text.now)) }
+    ensures kind { IsTokenKind result.0.kind }
+    ensures positive { 0 < result.1 }
+    ensures border { IsCharBoundary text.now result.1 }
+    ensures quiet { IsTrue result.2 → IsQuiet (slice_range text.now 0 result.1) result.0.remark }
+{
+    match plain_literal(text) {
+        Some(token) => (
+            Lexeme::literal(token.kind, token.mode, true),
+            token.len,
+            true,
+        ),
+        None => {
+            let (token, len) = first_token(edition, text);
+            (token, len, false)
+        }
+    }
 }
 
 /// Notes the number of a token, if it is a contextual keyword of some edition.
@@ -258,11 +283,19 @@ impl<'a> LexedStr<'a> {
             if offset == text.len() {
                 break;
             }
-            let (token, len) = first_token(edition, &text[offset..]);
+            let (token, len, quiet) = next_token(edition, &text[offset..]);
             let next = &text[offset..offset + len];
             let number = kind.len() as u32;
             let after_open = since_open < 5;
-            report(alloc, &mut error, number, next, token.remark, after_open)?;
+            report(
+                alloc,
+                &mut error,
+                number,
+                next,
+                token.remark,
+                after_open,
+                quiet,
+            )?;
             since_open = since_open_after(since_open, token.kind, next);
             offset += len;
             note(&mut contextual, kind.len(), is_contextual(token.kind, next))?;

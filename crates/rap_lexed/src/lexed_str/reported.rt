@@ -1,9 +1,9 @@
 //! The messages of the lexer about a token.
-ghost use Rattle.std.specs.Prelude.{◌≡◌, ◌++◌, ◌∷◌, [], ℕ, List, IfOk, OnOk, map, length, string_bytes, option_to_list};
+ghost use Rattle.std.specs.Prelude.{◌≡◌, ◌++◌, ◌∷◌, [], ℕ, List, IfOk, IsTrue, OnOk, map, length, string_bytes, option_to_list};
 ghost use Rattle.std.specs.Option.{option_copied, option_map};
 ghost use Rattle.rap_lexed.specs.SingleToken.{ReportsLast};
 ghost use Rattle.rap_lexed.specs.Reported.{ReportsFaults, checked_mode, has_note, quote_of, IsBody, fixed_message, unterminated, holds, holds_pair, looks_open, prefix_note, ReportsOf};
-ghost use Rattle.rap_lexed.specs.About.{about, Adds};
+ghost use Rattle.rap_lexed.specs.About.{about, Adds, IsQuiet};
 
 use rap_lexer::escape::{Faults, Mode};
 use rap_lexer::lexer::Remark;
@@ -56,7 +56,7 @@ pub fn last_message(alloc: Global, text: &str, remark: Remark) -> Result<Option<
     ensures { IfOk result (λ last. ReportsLast text.now remark (option_map string_bytes last)) }
 {
     let mut errors = Vec::new(alloc);
-    report(alloc, &mut errors, 0, text, remark, false)?;
+    report(alloc, &mut errors, 0, text, remark, false, false)?;
     match errors.pop() {
         Some(error) => Ok(Some(error.into_message())),
         None => Ok(None),
@@ -64,6 +64,7 @@ pub fn last_message(alloc: Global, text: &str, remark: Remark) -> Result<Option<
 }
 
 /// Reports what the remark says about the token with this text. After an open string an unknown prefix has a note.
+/// `quiet` is whether it is sure that it says nothing.
 #[inline(always)]
 pub fn report(
     alloc: Global,
@@ -72,9 +73,14 @@ pub fn report(
     text: &str,
     remark: Remark,
     after_open: bool,
+    quiet: bool,
 ) -> Result<(), AllocError>
+    requires { IsTrue quiet → IsQuiet text.now remark }
     ensures { OnOk result (Adds (ReportsOf after_open text.now remark) token errors.old.items errors.new.items) }
 {
+    if quiet {
+        return Ok(());
+    }
     match remark {
         Remark::Nothing => Ok(()),
         _ => report_remark(alloc, errors, token, text, remark, after_open),

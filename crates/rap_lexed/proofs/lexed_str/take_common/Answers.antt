@@ -1,4 +1,4 @@
-use Rattle.std.proofs.Common.{◌≡◌, ◌≢◌, ℕ, ◌+◌, ◌-◌, ◌<◌, List, [], ◌∷◌, take, drop, length, slice_range, length-append, chars, IsCharBoundary, ap, subst, arith}
+use Rattle.std.proofs.Common.{◌≡◌, ◌≢◌, ℕ, ◌+◌, ◌<◌, List, [], ◌∷◌, drop, length, slice_range, length-append, chars, IsCharBoundary, subst, arith}
 use Rattle.std.proofs.lemmas.List.{drop-drop}
 use Rattle.std.proofs.lemmas.Str.{IsCharBoundary-from_rest}
 use Rattle.rap_base.specs.TokenKind.{STRING}
@@ -9,11 +9,8 @@ use Rattle.rap_lexer.specs.First.{First}
 use Rattle.rap_lexer.specs.Lexeme.{plain}
 use Rattle.rap_lexed.specs.CommonTokens.{IsCommonAt}
 use Rattle.rap_lexed.specs.CommonTokens.TakesCommon.{none, more}
+use Rattle.rap_lexed.proofs.CommonTokens.{range-drop}
 use Rattle.rap_lexed.proofs.lexed_str.take_common.Goals as goal
-
--- a part of what is left
-range-drop : (text : List ℕ) (at n : ℕ) → slice_range (drop at text) 0 n ≡ slice_range text at (at + n)
-range-drop text at n = let size : n - 0 ≡ at + n - at = omega arith in ap (λ k. take k (drop at text)) size
 
 -- the token that begins what is left
 common-at : (edition : Edition) (text seen : List ℕ) (at kind n : ℕ) → IsCharBoundary text at → seen ≡ drop at text → First edition (chars seen) (plain kind) (chars (drop n seen)) → IsTokenKind kind → kind ≢ STRING → 0 < n → IsCharBoundary seen n → IsCommonAt edition text kind at (at + n)

@@ -12,7 +12,7 @@ use Rattle.rap_lexed.specs.Header.{pieces, header_kinds, IsHeader}
 use Rattle.rap_lexed.specs.LexedStr.{Token, Message, IsFirst, token_at, cut}
 use Rattle.rap_lexed.specs.Reported.{ReportsOf}
 use Rattle.std.proofs.lemmas.Str.{IsCharBoundary-from_rest}
-use Rattle.rap_lexed.proofs.CommonTokens.{further}
+use Rattle.rap_lexed.proofs.CommonTokens.{further, range-drop}
 use Rattle.rap_lexed.proofs.Contextual.{header-noted, noted-more, noted-same}
 use Rattle.rap_lexed.proofs.Cuts.{piece, token_at-cut}
 use Rattle.rap_lexed.proofs.OneLexing.{only_lexing}
@@ -53,6 +53,16 @@ note-requires c =
     let f = further _ _ i.header _ _ _ _ _ _ i.upto i.kinds i.numbers c.in_ok-offset.ensures.taken in
     omega (arith, c.len-in-tokens.ensures, c.if-text-gt-MAX_TEXT.false, f.upto.few, f.upto.within)
 
+pub report-requires : goal.report-requires
+report-requires c =
+    let text = c.args.text.now in
+    let offset = c.in_ok-offset.offset in
+    let n = c.next_token-len.result.1 in
+    let next : c.range-next.result.now ≡ slice_range text offset (offset + n) = c.range-next.ensures.value in
+    let part : slice_range c.range_from.result.now 0 n ≡ slice_range text offset (offset + n) = ap (λ l. slice_range l 0 n) c.range_from.ensures.value ∙ range-drop text offset n in
+    let quiet = c.next_token-len.ensures.quiet in
+    rw next (rw part at quiet)
+
 pub tokens-preserved : goal.tokens-preserved
 tokens-preserved c =
     let text = c.args.text.now in
@@ -62,11 +72,11 @@ tokens-preserved c =
     let since = c.since_open_with-since_open.result in
     let kinds = c.take_common.new.kind.items in
     let with_common : min (c.tokens.since_open + (length kinds - length c.tokens.kind.items)) 5 ≡ since = omega (arith, c.since_open_with-since_open.ensures, c.len.ensures, c.len-before.ensures) in
-    let token = c.first_token-len.result.0 in
-    let n = c.first_token-len.result.1 in
+    let token = c.next_token-len.result.0 in
+    let n = c.next_token-len.result.1 in
     let e = c.range_from.ensures.value in
-    let first : First c.args.edition (chars (drop offset text)) token (chars (drop (offset + n) text)) = subst (λ (l : List ℕ). First c.args.edition (chars (drop offset text)) token (chars l)) (drop-drop n offset text) (rw e at c.first_token-len.ensures.token) in
-    let border : IsCharBoundary (drop offset text) n = subst (λ (l : List ℕ). IsCharBoundary l n) e c.first_token-len.ensures.border in
+    let first : First c.args.edition (chars (drop offset text)) token (chars (drop (offset + n) text)) = subst (λ (l : List ℕ). First c.args.edition (chars (drop offset text)) token (chars l)) (drop-drop n offset text) (rw e at c.next_token-len.ensures.token) in
+    let border : IsCharBoundary (drop offset text) n = subst (λ (l : List ℕ). IsCharBoundary l n) e c.next_token-len.ensures.border in
     let reported = c.in_ok-report.ensures in
     let next : c.range-next.result.now ≡ slice_range text offset (offset + n) = c.range-next.ensures.value in
     let reports : ReportsOf (nat_lt since 5) (slice_range text offset (offset + n)) token.remark reported.0 = rw next at reported.1 in
@@ -74,16 +84,16 @@ tokens-preserved c =
     let number : c.len-number.result ≡ length kinds = omega (arith, c.len-number.ensures) in
     let errors : c.report.new.errors.items ≡ c.tokens.error.items ++ about (length kinds) reported.0 = reported.2 ∙ ap (λ i. c.tokens.error.items ++ about i reported.0) number in
     let counted = counts since token.kind (slice_range text offset (offset + n)) _ (rw next at c.since_open_after-since_open.ensures.opens) (rw next at c.since_open_after-since_open.ensures.other) in
-    let all = more c.args.edition text _ _ _ c.tokens.error.items since offset token.kind (offset + n) (rw with_common at f.upto) (omega (arith, c.first_token-len.ensures.positive)) (IsCharBoundary-from_rest text offset n f.upto.within border) reported.0 is_first in
+    let all = more c.args.edition text _ _ _ c.tokens.error.items since offset token.kind (offset + n) (rw with_common at f.upto) (omega (arith, c.next_token-len.ensures.positive)) (IsCharBoundary-from_rest text offset n f.upto.within border) reported.0 is_first in
     record {
       header = i.header;
       is_header = i.is_header;
       upto = rw (c.in_ok-push-2.ensures.items, c.in_ok-push-3.ensures.items, errors, counted) all;
-      kinds = rw c.in_ok-push-2.ensures.items (All-push IsTokenKind kinds token.kind f.tokens c.first_token-len.ensures.kind);
+      kinds = rw c.in_ok-push-2.ensures.items (All-push IsTokenKind kinds token.kind f.tokens c.next_token-len.ensures.kind);
       numbers =
           let starts = c.take_common.new.start.items in
           let end : ℕ = offset + n in
-          let positive : offset < end = omega (arith, c.first_token-len.ensures.positive) in
+          let positive : offset < end = omega (arith, c.next_token-len.ensures.positive) in
           let there : IsCharBoundary text end = IsCharBoundary-from_rest text offset n f.upto.within border in
           let old = same_piece c.args.edition text i.header kinds starts c.tokens.error.items since offset token.kind end (rw with_common at f.upto) positive there in
           let latest = new_piece c.args.edition text i.header kinds starts c.tokens.error.items since offset token.kind end (rw with_common at f.upto) positive there in
