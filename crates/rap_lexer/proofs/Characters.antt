@@ -1,7 +1,7 @@
 -- The steps of a character.
-use Rattle.std.proofs.Common.{◌≡◌, ◌≢◌, ℕ, Bool, true, false, List, [], ◌∷◌, Some, None, slice_get, ap, sym, ◌∙◌, subst}
+use Rattle.std.proofs.Common.{◌≡◌, ◌≢◌, ℕ, Bool, true, false, ◌&&◌, ◌==◌, List, [], ◌∷◌, Some, None, slice_get, refl, ap, sym, ◌∙◌, subst}
 use Rattle.std.specs.Str.{byte}
-use Rattle.rap_lexer.specs.Quoted.{CharacterRun, stops_at}
+use Rattle.rap_lexer.specs.Quoted.{CharacterEnds, CharacterRun, is_one_character, stops_at}
 use Rattle.rap_lexer.specs.Quoted.CharacterRun.{end, stop, quote, escaped, other}
 use Rattle.rap_lexer.specs.Run.{tail}
 use Rattle.rap_lexer.proofs.Ends.{IsEnd, all, then', cons, past}
@@ -38,3 +38,13 @@ character_end (stop c cs t) = all (c ∷ cs)
 character_end (quote cs) = cons (byte "'") (all cs)
 character_end (escaped cs closed rest r) = cons (byte "\\") (then' (past cs) (character_end r))
 character_end (other c cs closed rest q b t r) = cons c (character_end r)
+
+-- a backslash and a character, and a quote
+pub escape_ends : (c : ℕ) (rest : List ℕ) → CharacterEnds (92 ∷ c ∷ 39 ∷ rest) true rest
+escape_ends c rest =
+    let run : CharacterRun (92 ∷ c ∷ 39 ∷ rest) true rest = escaped (c ∷ 39 ∷ rest) true rest (quote rest) in
+    let more : is_one_character (92 ∷ c ∷ 39 ∷ rest) ≡ false = elim (c == 39) as (λ z. (z && false) ≡ false) [
+      | true ↦ refl
+      | false ↦ refl
+    ] in
+    rw more run

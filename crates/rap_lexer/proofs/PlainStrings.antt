@@ -68,7 +68,7 @@ text_chars xs u h =
 
 -- ---- Escapes of one character
 
-some_of : (o : Option ℕ) → is_some o ≡ true → (v : ℕ) × (o ≡ Some v)
+pub some_of : (o : Option ℕ) → is_some o ≡ true → (v : ℕ) × (o ≡ Some v)
 some_of None h = cc
 some_of (Some v) h = (v, refl)
 
@@ -83,7 +83,7 @@ big c l =
     let z : (c == byte "0") ≡ false = grind (arith, l) in
     rw (n, r, t, b, q, d, z) refl
 
-simple_low : (c : ℕ) → is_simple c ≡ true → c < 128
+pub simple_low : (c : ℕ) → is_simple c ≡ true → c < 128
 simple_low c h = elim (cases_lt c 128) [
   | inl l ↦ l
   | inr l ↦ absurd (true≢false (sym h ∙ big c l))

@@ -30,11 +30,21 @@ is_plain_string text = next_is (byte "\"") text && ends_plainly false (tail text
 abbrev pub is_bare : ℕ → Bool
 is_bare b = nat_le 32 b && (nat_le b 126 && (not (b == byte "'") && not (b == byte "\\")))
 
--- The text begins with such a character in quotes, and nothing follows that may begin a suffix.
-abbrev pub is_plain_character : List ℕ → Bool
-is_plain_character text =
+-- The text begins with an escape of one character in quotes, and nothing follows that may begin a suffix.
+abbrev pub is_escaped_character : List ℕ → Bool
+is_escaped_character text =
+    next_is (byte "'") text && (next_is (byte "\\") (drop 1 text) && (next_fits is_simple (drop 2 text) &&
+    (next_is (byte "'") (drop 3 text) && not (next_fits begins_suffix (drop 4 text)))))
+
+-- The text begins with a bare character in quotes, and nothing follows that may begin a suffix.
+abbrev pub is_bare_character : List ℕ → Bool
+is_bare_character text =
     next_is (byte "'") text && (next_fits is_bare (drop 1 text) &&
     (next_is (byte "'") (drop 2 text) && not (next_fits begins_suffix (drop 3 text))))
+
+-- The text begins with one of the two.
+abbrev pub is_plain_character : List ℕ → Bool
+is_plain_character text = if next_is (byte "\\") (drop 1 text) then is_escaped_character text else is_bare_character text
 
 -- The text begins with one of the two.
 abbrev pub is_plain_literal : List ℕ → Bool

@@ -3,7 +3,7 @@ ghost use Rattle.std.specs.Prelude.{◌≡◌, ◌≢◌, ◌<◌, ◌==◌, IfS
 ghost use Rattle.std.specs.Str.{byte};
 ghost use Rattle.rap_base.specs.TokenKind.{CHAR, STRING};
 ghost use Rattle.rap_base.specs.TokenTests.{IsTokenKind};
-ghost use Rattle.rap_lexer.specs.PlainLiteral.{is_simple, is_bare, is_plain_string, is_plain_character, is_plain_literal, IsPlainLiteral};
+ghost use Rattle.rap_lexer.specs.PlainLiteral.{is_simple, is_bare, is_plain_string, is_bare_character, is_escaped_character, is_plain_character, is_plain_literal, IsPlainLiteral};
 ghost use Rattle.rap_lexer.specs.Run.{next_is};
 ghost use Rattle.rap_lexer.specs.Common.{next_fits};
 ghost use Rattle.rap_lexer.specs.Plain.{begins_suffix};
@@ -29,7 +29,7 @@ pub struct PlainLiteral {
 /// [`first_token`](crate::lexer::first_token) takes any.
 ///
 /// Plain are a string in which a backslash stands only before one of `n`, `r`, `t`, `\`, `'`, `"` and `0`, and a
-/// character in quotes that is printing ASCII, no quote and no backslash; unless an ASCII character that begins an
+/// character in quotes that is such an escape, or printing ASCII, no quote and no backslash; unless an ASCII character that begins an
 /// identifier or a character past ASCII follows. There is nothing to report about any of them.
 #[inline(always)]
 pub fn plain_literal(text: &str) -> Option<PlainLiteral>
@@ -94,8 +94,23 @@ fn plain_end(bytes: &[u8], end: usize) -> Option<usize>
 /// How long the plain character is that the text begins with.
 #[inline(always)]
 fn plain_character(text: &str) -> Option<usize>
+    requires { 0 < length text.now }
     ensures literal { MatchOption result (is_plain_character text.now ≡ false) (λ n. IsPlainLiteral text.now CHAR Char n) }
     ensures plain { IfSome result (λ _. is_plain_character text.now ≡ true) }
+{
+    let bytes = text.as_bytes();
+    if 1 < bytes.len() && bytes[1] == b'\\' {
+        escaped_character(text)
+    } else {
+        bare_character(text)
+    }
+}
+
+/// How long the bare character in quotes is that the text begins with.
+#[inline(always)]
+fn bare_character(text: &str) -> Option<usize>
+    ensures literal { MatchOption result (is_bare_character text.now ≡ false) (λ n. IsPlainLiteral text.now CHAR Char n) }
+    ensures plain { IfSome result (λ _. is_bare_character text.now ≡ true) }
 {
     let bytes = text.as_bytes();
     if bytes.len() < 3 {
@@ -111,6 +126,31 @@ fn plain_character(text: &str) -> Option<usize>
         return None;
     }
     plain_end(bytes, 3)
+}
+
+/// How long the escape of one character in quotes is that the text begins with.
+#[inline(always)]
+fn escaped_character(text: &str) -> Option<usize>
+    ensures literal { MatchOption result (is_escaped_character text.now ≡ false) (λ n. IsPlainLiteral text.now CHAR Char n) }
+    ensures plain { IfSome result (λ _. is_escaped_character text.now ≡ true) }
+{
+    let bytes = text.as_bytes();
+    if bytes.len() < 4 {
+        return None;
+    }
+    if bytes[0] != b'\'' {
+        return None;
+    }
+    if bytes[1] != b'\\' {
+        return None;
+    }
+    if bytes[3] != b'\'' {
+        return None;
+    }
+    if !is_simple(bytes[2]) {
+        return None;
+    }
+    plain_end(bytes, 4)
 }
 
 /// Whether a backslash and this character are an escape.

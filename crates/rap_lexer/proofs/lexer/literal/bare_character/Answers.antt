@@ -1,6 +1,6 @@
 use Rattle.std.proofs.Common.{sym, ap, ◌∙◌, length, arith}
 use Rattle.rap_lexer.proofs.PlainCharacters.{quoted}
-use Rattle.rap_lexer.proofs.lexer.literal.plain_character.Goals as goal
+use Rattle.rap_lexer.proofs.lexer.literal.bare_character.Goals as goal
 
 pub returns-clause-literal : goal.returns-clause-literal
 returns-clause-literal c =
