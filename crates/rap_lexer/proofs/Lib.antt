@@ -19,6 +19,7 @@ pub mod OneBody
 pub mod OneRun
 pub mod OneToken
 pub mod PlainCharacters
+pub mod PlainFloats
 pub mod PlainNumbers
 pub mod PlainStrings
 pub mod Prefixes

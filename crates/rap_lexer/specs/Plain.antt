@@ -1,5 +1,5 @@
 -- Tokens in their plainest form, by their bytes.
-use Rattle.std.specs.Prelude.{◌≢◌, ◌<◌, ℕ, Bool, ◌||◌, ◌&&◌, ◌==◌, not, nat_lt, List, chars, drop, IsCharBoundary}
+use Rattle.std.specs.Prelude.{◌≡◌, ◌≢◌, ◌<◌, ◌+◌, ℕ, Bool, true, false, ◌||◌, ◌&&◌, ◌==◌, not, nat_lt, List, length, get_or, chars, drop, IsCharBoundary}
 use Rattle.std.specs.Str.{byte}
 use Rattle.rap_base.specs.TokenKind.{STRING}
 use Rattle.rap_base.specs.declared.edition.Edition.{Edition}
@@ -7,7 +7,7 @@ use Rattle.rap_lexer.specs.Class.{is_ascii_in}
 use Rattle.rap_lexer.specs.Common.{next_fits, is_uncommon}
 use Rattle.rap_lexer.specs.First.{First}
 use Rattle.rap_lexer.specs.Lexeme.{plain}
-use Rattle.rap_lexer.specs.Run.{after_run}
+use Rattle.rap_lexer.specs.Run.{next_is, run_of, after_run}
 use Rattle.rap_lexer.specs.declared.lexer.run.Class.TheVariants.{IdentStart, Digit, DigitOrUnderscore}
 
 -- the byte may begin a suffix: it begins an identifier in ASCII, or it is past ASCII
@@ -23,9 +23,32 @@ abbrev pub is_plain_integer : List ℕ → Bool
 is_plain_integer text =
     next_fits (is_ascii_in Digit) text && not (next_fits ends_no_integer (after_run (is_ascii_in DigitOrUnderscore) text))
 
--- The text begins with a token that is taken at once: a common one, or a plain integer.
+-- A dot, a digit, and more digits and `_`, with neither a suffix nor an exponent.
+abbrev pub is_fraction : List ℕ → Bool
+is_fraction text =
+    next_is (byte ".") text && (next_fits (is_ascii_in Digit) (drop 1 text) &&
+    not (next_fits begins_suffix (after_run (is_ascii_in DigitOrUnderscore) (drop 1 text))))
+
+-- A fraction of this length in bytes stands first.
+pub record IsFractionOf (text : List ℕ) (n : ℕ) : Type 0 where
+  pub dot : get_or text 0 0 ≡ byte "."
+  pub digit : is_ascii_in Digit (get_or text 1 0) ≡ true
+  pub some : 1 < length text
+  pub size : n ≡ 1 + length (run_of (is_ascii_in DigitOrUnderscore) (drop 1 text))
+  pub end : next_fits begins_suffix (drop n text) ≡ false
+
+-- The text begins with decimal digits and `_`, and such a fraction.
+abbrev pub is_plain_float : List ℕ → Bool
+is_plain_float text =
+    next_fits (is_ascii_in Digit) text && is_fraction (after_run (is_ascii_in DigitOrUnderscore) text)
+
+-- The text begins with one of the two.
+abbrev pub is_plain_number : List ℕ → Bool
+is_plain_number text = is_plain_integer text || is_plain_float text
+
+-- The text begins with a token that is taken at once: a common one, or a plain number.
 abbrev pub is_quick : List ℕ → Bool
-is_quick text = not (is_uncommon text) || is_plain_integer text
+is_quick text = not (is_uncommon text) || is_plain_number text
 
 -- The text begins with a token of this kind and this length in bytes, about which there is nothing to report, and which
 -- is no string.

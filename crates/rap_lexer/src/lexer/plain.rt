@@ -1,12 +1,12 @@
-//! Tokens in their plainest form: integers of decimal digits, and literals in which no character is escaped.
-ghost use Rattle.std.specs.Prelude.{◌≡◌, ◌≢◌, ◌<◌, ◌==◌, IfSome, MatchOption, false, true, length, chars, drop, slice_range, IsCharBoundary};
-ghost use Rattle.rap_base.specs.TokenKind.{INT_NUMBER, STRING};
+//! Tokens that are taken at once: common ones, and numbers of decimal digits in their plainest form.
+ghost use Rattle.std.specs.Prelude.{◌≡◌, ◌≢◌, ◌<◌, ◌≤◌, ◌==◌, IfSome, MatchOption, false, true, length, chars, drop, slice_range, IsCharBoundary};
+ghost use Rattle.rap_base.specs.TokenKind.{FLOAT_NUMBER, INT_NUMBER, STRING};
 ghost use Rattle.rap_base.specs.TokenTests.{IsTokenKind};
 ghost use Rattle.rap_base.specs.declared.edition.Edition.{Edition};
 ghost use Rattle.rap_lexer.specs.Common.{is_contextual};
 ghost use Rattle.rap_lexer.specs.First.{First};
 ghost use Rattle.rap_lexer.specs.Lexeme.{plain};
-ghost use Rattle.rap_lexer.specs.Plain.{begins_suffix, ends_no_integer, is_plain_integer, is_quick, IsQuick};
+ghost use Rattle.rap_lexer.specs.Plain.{begins_suffix, ends_no_integer, is_fraction, is_plain_float, is_plain_integer, is_quick, IsFractionOf, IsQuick};
 
 use crate::lexer::common::{CommonToken, PAST_ASCII, WORD, class_of, common_token};
 use crate::lexer::run::{Class, byte_run, is_ascii_in};
@@ -16,8 +16,9 @@ use rap_base::syntax_kind::SyntaxKind;
 /// Returns the first token of `text`, which must not be empty, if it can be taken at once, and otherwise `None`:
 /// [`first_token`](crate::lexer::first_token) takes any.
 ///
-/// Taken at once are the common tokens and plain integers: decimal digits and `_`, unless a suffix, a dot or a character
-/// past ASCII follows them. There is nothing to report about any of them.
+/// Taken at once are the common tokens; plain integers, decimal digits and `_`, unless a suffix, a dot or a character
+/// past ASCII follows them; and plain floats, digits and `_`, a dot, and at once a digit and more, unless a suffix, an
+/// exponent or a character past ASCII follows them. There is nothing to report about any of them.
 #[inline(always)]
 pub fn quick_token(edition: Edition, text: &str) -> Option<CommonToken>
     requires { 0 < length text.now }
@@ -31,7 +32,10 @@ pub fn quick_token(edition: Edition, text: &str) -> Option<CommonToken>
 {
     match common_token(edition, text) {
         Some(token) => Some(token),
-        None => plain_integer(text),
+        None => match plain_integer(text) {
+            Some(token) => Some(token),
+            None => plain_float(text),
+        },
     }
 }
 
@@ -57,6 +61,53 @@ fn plain_integer(text: &str) -> Option<CommonToken>
             len: n,
             is_contextual: false,
         })
+    }
+}
+
+/// The plain float that the text begins with.
+#[inline(always)]
+fn plain_float(text: &str) -> Option<CommonToken>
+    requires { 0 < length text.now }
+    ensures token { MatchOption result (is_plain_float text.now ≡ false) (λ r. (edition : Edition) → IsQuick edition text.now r.kind r.len) }
+    ensures float { IfSome result (λ _. is_plain_float text.now ≡ true) }
+    ensures kind { IfSome result (λ r. r.kind ≡ FLOAT_NUMBER) }
+    ensures contextual { IfSome result (λ r. r.is_contextual ≡ false) }
+{
+    let bytes = text.as_bytes();
+    if !is_ascii_in(Class::Digit, bytes[0]) {
+        return None;
+    }
+    let n = byte_run(bytes, Class::DigitOrUnderscore);
+    match fraction(&bytes[n..]) {
+        None => None,
+        Some(more) => Some(CommonToken {
+            kind: SyntaxKind::FLOAT_NUMBER,
+            len: n + more,
+            is_contextual: false,
+        }),
+    }
+}
+
+/// How long the fraction is that the bytes begin with.
+#[inline(always)]
+fn fraction(bytes: &[u8]) -> Option<usize>
+    ensures fraction { MatchOption result (is_fraction bytes.now ≡ false) (λ m. IsFractionOf bytes.now m) }
+    ensures within { IfSome result (λ m. m ≤ length bytes.now) }
+{
+    if bytes.len() < 2 {
+        return None;
+    }
+    if bytes[0] != b'.' {
+        return None;
+    }
+    if !is_ascii_in(Class::Digit, bytes[1]) {
+        return None;
+    }
+    let end = 1 + byte_run(&bytes[1..], Class::DigitOrUnderscore);
+    if end < bytes.len() && begins_suffix(bytes[end]) {
+        None
+    } else {
+        Some(end)
     }
 }
 

@@ -1,8 +1,14 @@
 use Rattle.rap_lexer.proofs.CommonTokens.{if_some}
 use Rattle.rap_lexer.proofs.lexer.plain.quick_token.Goals as goal
 
-pub returns-in-None-clause-positive : goal.returns-in-None-clause-positive
-returns-in-None-clause-positive c = if_some _ _ _ c.plain_integer.result (λ r h. (h c.args.edition).positive) c.plain_integer.ensures.token
+pub returns-in-Some-plain_integer-clause-positive : goal.returns-in-Some-plain_integer-clause-positive
+returns-in-Some-plain_integer-clause-positive c = (c.in-Some-plain_integer.ensures.token c.args.edition).positive
 
-pub returns-in-None-clause-border : goal.returns-in-None-clause-border
-returns-in-None-clause-border c = if_some _ _ _ c.plain_integer.result (λ r h. (h c.args.edition).border) c.plain_integer.ensures.token
+pub returns-in-Some-plain_integer-clause-border : goal.returns-in-Some-plain_integer-clause-border
+returns-in-Some-plain_integer-clause-border c = (c.in-Some-plain_integer.ensures.token c.args.edition).border
+
+pub returns-in-None-plain_integer-clause-positive : goal.returns-in-None-plain_integer-clause-positive
+returns-in-None-plain_integer-clause-positive c = if_some _ _ _ c.plain_float.result (λ r h. (h c.args.edition).positive) c.plain_float.ensures.token
+
+pub returns-in-None-plain_integer-clause-border : goal.returns-in-None-plain_integer-clause-border
+returns-in-None-plain_integer-clause-border c = if_some _ _ _ c.plain_float.result (λ r h. (h c.args.edition).border) c.plain_float.ensures.token
