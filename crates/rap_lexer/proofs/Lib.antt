@@ -20,6 +20,7 @@ pub mod OneRun
 pub mod OneToken
 pub mod PlainCharacters
 pub mod PlainFloats
+pub mod PlainHexadecimals
 pub mod PlainNumbers
 pub mod PlainStrings
 pub mod Prefixes

@@ -40,11 +40,11 @@ pub suffix_low : (xs : List ℕ) → next_fits begins_suffix xs ≡ false → ne
 suffix_low [] h = refl
 suffix_low (x ∷ xs) h = (or_parts (nat_lt 127 x) (is_ascii_in IdentStart x) h).0
 
-integer_suffix : (xs : List ℕ) → next_fits ends_no_integer xs ≡ false → next_fits begins_suffix xs ≡ false
+pub integer_suffix : (xs : List ℕ) → next_fits ends_no_integer xs ≡ false → next_fits begins_suffix xs ≡ false
 integer_suffix [] h = refl
 integer_suffix (x ∷ xs) h = (or_parts (x == byte ".") (begins_suffix x) h).1
 
-no_dot : (ds : List ℕ) → IsUtf8 ds → next_fits ends_no_integer ds ≡ false → next_is (byte ".") (chars ds) ≡ false
+pub no_dot : (ds : List ℕ) → IsUtf8 ds → next_fits ends_no_integer ds ≡ false → next_is (byte ".") (chars ds) ≡ false
 no_dot [] u h = rw chars-nil refl
 no_dot (d ∷ es) u h =
     let dot = or_parts (d == byte ".") (begins_suffix d) h in
@@ -75,10 +75,10 @@ module _ (c : ℕ) (cs : List ℕ) (dot : next_is (byte ".") (after_run digit cs
   pub number : IsNumber c cs (plain INT_NUMBER) (after_run digit cs)
   number = rw no_base past_digits
 
-first_number : (edition : Edition) (b : ℕ) (cs rest : List ℕ) → is_in White b ≡ false → is_in IdentStart b ≡ false → is_in Digit b ≡ true → IsNumber b cs (plain INT_NUMBER) rest → First edition (b ∷ cs) (plain INT_NUMBER) rest
+pub first_number : (edition : Edition) (b : ℕ) (cs rest : List ℕ) → is_in White b ≡ false → is_in IdentStart b ≡ false → is_in Digit b ≡ true → IsNumber b cs (plain INT_NUMBER) rest → First edition (b ∷ cs) (plain INT_NUMBER) rest
 first_number edition b cs rest w s d h = rw (w, s, d) h
 
-int_no_string : INT_NUMBER ≢ STRING
+pub int_no_string : INT_NUMBER ≢ STRING
 int_no_string e = true≢false (sym (ap (λ k. k == STRING) e))
 
 digit_rest : (b : ℕ) (t : List ℕ) → digit b ≡ true → chars (b ∷ t) ≡ b ∷ chars t → after_run digit (chars (b ∷ t)) ≡ after_run digit (chars t)

@@ -8,7 +8,7 @@ use Rattle.rap_lexer.specs.Common.{next_fits, is_uncommon}
 use Rattle.rap_lexer.specs.First.{First}
 use Rattle.rap_lexer.specs.Lexeme.{plain}
 use Rattle.rap_lexer.specs.Run.{next_is, run_of, after_run}
-use Rattle.rap_lexer.specs.declared.lexer.run.Class.TheVariants.{IdentStart, Digit, DigitOrUnderscore}
+use Rattle.rap_lexer.specs.declared.lexer.run.Class.TheVariants.{IdentStart, Digit, DigitOrUnderscore, HexOrUnderscore}
 
 -- the byte may begin a suffix: it begins an identifier in ASCII, or it is past ASCII
 abbrev pub begins_suffix : ℕ → Bool
@@ -42,9 +42,19 @@ abbrev pub is_plain_float : List ℕ → Bool
 is_plain_float text =
     next_fits (is_ascii_in Digit) text && is_fraction (after_run (is_ascii_in DigitOrUnderscore) text)
 
--- The text begins with one of the two.
+-- the byte is a hexadecimal digit
+abbrev pub is_digit_of_sixteen : ℕ → Bool
+is_digit_of_sixteen b = is_ascii_in HexOrUnderscore b && not (b == byte "_")
+
+-- The text begins with `0x`, a hexadecimal digit, and more and `_`, with no suffix, and no dot follows it.
+abbrev pub is_plain_hexadecimal : List ℕ → Bool
+is_plain_hexadecimal text =
+    next_is (byte "0") text && (next_is (byte "x") (drop 1 text) && (next_fits is_digit_of_sixteen (drop 2 text) &&
+    not (next_fits ends_no_integer (after_run (is_ascii_in HexOrUnderscore) (drop 2 text)))))
+
+-- The text begins with one of the three.
 abbrev pub is_plain_number : List ℕ → Bool
-is_plain_number text = is_plain_integer text || is_plain_float text
+is_plain_number text = is_plain_integer text || (is_plain_float text || is_plain_hexadecimal text)
 
 -- The text begins with a token that is taken at once: a common one, or a plain number.
 abbrev pub is_quick : List ℕ → Bool

@@ -6,7 +6,7 @@ ghost use Rattle.rap_base.specs.declared.edition.Edition.{Edition};
 ghost use Rattle.rap_lexer.specs.Common.{is_contextual};
 ghost use Rattle.rap_lexer.specs.First.{First};
 ghost use Rattle.rap_lexer.specs.Lexeme.{plain};
-ghost use Rattle.rap_lexer.specs.Plain.{begins_suffix, ends_no_integer, is_fraction, is_plain_float, is_plain_integer, is_quick, IsFractionOf, IsQuick};
+ghost use Rattle.rap_lexer.specs.Plain.{begins_suffix, ends_no_integer, is_digit_of_sixteen, is_fraction, is_plain_float, is_plain_hexadecimal, is_plain_integer, is_quick, IsFractionOf, IsQuick};
 
 use crate::lexer::common::{CommonToken, PAST_ASCII, WORD, class_of, common_token};
 use crate::lexer::run::{Class, byte_run, is_ascii_in};
@@ -18,7 +18,8 @@ use rap_base::syntax_kind::SyntaxKind;
 ///
 /// Taken at once are the common tokens; plain integers, decimal digits and `_`, unless a suffix, a dot or a character
 /// past ASCII follows them; and plain floats, digits and `_`, a dot, and at once a digit and more, unless a suffix, an
-/// exponent or a character past ASCII follows them. There is nothing to report about any of them.
+/// exponent or a character past ASCII follows them; and plain hexadecimal integers, `0x`, a digit and more digits and `_`,
+/// unless a suffix, a dot or a character past ASCII follows them. There is nothing to report about any of them.
 #[inline(always)]
 pub fn quick_token(edition: Edition, text: &str) -> Option<CommonToken>
     requires { 0 < length text.now }
@@ -34,7 +35,10 @@ pub fn quick_token(edition: Edition, text: &str) -> Option<CommonToken>
         Some(token) => Some(token),
         None => match plain_integer(text) {
             Some(token) => Some(token),
-            None => plain_float(text),
+            None => match plain_float(text) {
+                Some(token) => Some(token),
+                None => plain_hexadecimal(text),
+            },
         },
     }
 }
@@ -109,6 +113,47 @@ fn fraction(bytes: &[u8]) -> Option<usize>
     } else {
         Some(end)
     }
+}
+
+/// The plain hexadecimal integer that the text begins with.
+#[inline(always)]
+fn plain_hexadecimal(text: &str) -> Option<CommonToken>
+    ensures token { MatchOption result (is_plain_hexadecimal text.now ≡ false) (λ r. (edition : Edition) → IsQuick edition text.now r.kind r.len) }
+    ensures hexadecimal { IfSome result (λ _. is_plain_hexadecimal text.now ≡ true) }
+    ensures kind { IfSome result (λ r. r.kind ≡ INT_NUMBER) }
+    ensures contextual { IfSome result (λ r. r.is_contextual ≡ false) }
+{
+    let bytes = text.as_bytes();
+    if bytes.len() < 3 {
+        return None;
+    }
+    if bytes[0] != b'0' {
+        return None;
+    }
+    if bytes[1] != b'x' {
+        return None;
+    }
+    if !is_digit_of_sixteen(bytes[2]) {
+        return None;
+    }
+    let end = 2 + byte_run(&bytes[2..], Class::HexOrUnderscore);
+    if end < bytes.len() && ends_no_integer(bytes[end]) {
+        None
+    } else {
+        Some(CommonToken {
+            kind: SyntaxKind::INT_NUMBER,
+            len: end,
+            is_contextual: false,
+        })
+    }
+}
+
+/// Whether the byte is a hexadecimal digit.
+#[inline(always)]
+fn is_digit_of_sixteen(b: u8) -> bool
+    ensures { result ≡ is_digit_of_sixteen b }
+{
+    is_ascii_in(Class::HexOrUnderscore, b) && b != b'_'
 }
 
 /// Whether the byte makes more than an integer of the digits before it.
