@@ -17,9 +17,9 @@ use rap_base::syntax_kind::SyntaxKind;
 /// [`first_token`](crate::lexer::first_token) takes any.
 ///
 /// Taken at once are the common tokens; plain integers, decimal digits and `_`, unless a suffix, a dot or a character
-/// past ASCII follows them; and plain floats, digits and `_`, a dot, and at once a digit and more, unless a suffix, an
-/// exponent or a character past ASCII follows them; and plain hexadecimal integers, `0x`, a digit and more digits and `_`,
-/// unless a suffix, a dot or a character past ASCII follows them. There is nothing to report about any of them.
+/// past ASCII follows them; plain floats, digits and `_`, a dot, and at once a digit and more, unless a suffix, an
+/// exponent or a character past ASCII follows them; and plain hexadecimal integers, `0x`, a digit and more digits and
+/// `_`, with the same behind them as behind plain integers. There is nothing to report about any of them.
 #[inline(always)]
 pub fn quick_token(edition: Edition, text: &str) -> Option<CommonToken>
     requires { 0 < length text.now }
