@@ -1,3 +1,5 @@
 pub mod Reported
+mod Blocks
+mod Escapes
 mod Spelling
 pub mod Fronts

@@ -120,18 +120,18 @@ pub front-none : (before : Option (List ℕ)) (items : List ℕ) (is : List Inde
     → AddsFront before (append_known before items) 0 is t all
 front-none before items is t all none e h = record { front = []; added = empty_block before items none; split = e; in_order = h }
 
-pub front-more : (before known mid after : Option (List ℕ)) (start : ℕ) (rest is : List Indent) (i : Indent) (t all bytes : List ℕ)
-    → rest ≡ i ∷ is → bytes ≡ slice_range t start i.at → AddsFront before known start rest t all → Appends known mid bytes → Appends mid after (indent i.levels)
+pub front-more : (before known after : Option (List ℕ)) (start : ℕ) (rest is : List Indent) (i : Indent) (t all bytes : List ℕ)
+    → rest ≡ i ∷ is → bytes ≡ slice_range t start i.at → AddsFront before known start rest t all → Appends known after (bytes ++ indent i.levels)
     → AddsFront before after i.at is t all
-front-more before known mid after start rest is i t all bytes first these h p q =
+front-more before known after start rest is i t all bytes first these h p =
     let levels : List ℕ = indent i.levels in
     let P : List Indent → Type 0 = λ is. AreInOrder start is (length t) in
     record {
-      front = (h.front ++ bytes) ++ levels;
-      added = Appends-trans before mid after (h.front ++ bytes) levels (Appends-trans before known mid h.front bytes h.added p) q;
+      front = h.front ++ (bytes ++ levels);
+      added = Appends-trans before known after h.front (bytes ++ levels) h.added p;
       split =
-          append_assoc (h.front ++ bytes) levels (spelled i.at is t)
-          ∙ append_assoc h.front bytes (levels ++ spelled i.at is t)
+          append_assoc h.front (bytes ++ levels) (spelled i.at is t)
+          ∙ ap (λ l. h.front ++ l) (append_assoc bytes levels (spelled i.at is t))
           ∙ ap (λ l. h.front ++ (l ++ (levels ++ spelled i.at is t))) these
           ∙ ap (λ l. h.front ++ spelled start l t) (sym first)
           ∙ h.split;

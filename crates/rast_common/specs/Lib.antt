@@ -1,5 +1,6 @@
 pub mod Indented
 pub mod Message
+pub mod Plain
 pub mod Program
 pub mod Quote
 pub mod Spelled

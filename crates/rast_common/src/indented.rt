@@ -1,11 +1,11 @@
 //! Texts of indented lines.
-ghost use Rattle.std.specs.Prelude.{◌≡◌, ◌++◌, [], IfSome, IsSome, OnErr, OnOk, chars, string_bytes};
+ghost use Rattle.std.specs.Prelude.{◌≡◌, ◌++◌, [], IfSome, IsSome, OnErr, OnOk, chars, codes, string_bytes};
 ghost use Rattle.std.specs.Io.KnownBytes.{Appends};
 ghost use Rattle.rast_common.specs.Indented.{indent};
 ghost use Rattle.rast_common.specs.Quote.{quoted};
 
-use crate::block::{Block, put, put_indent};
-use crate::quote::push_quoted;
+use crate::block::{Block, put, put_line};
+use crate::quote::{push_quoted, push_quoted_line};
 use std::alloc::{AllocError, Global};
 use std::fmt::Display;
 use std::io;
@@ -89,6 +89,18 @@ impl IndentedText {
         Ok(())
     }
 
+    /// Adds a space, a text in quotes, and the end of the line. The error means out of memory; then nothing is specified
+    /// about the text.
+    pub fn push_quoted_line(&mut self, text: &str) -> Result<(), AllocError>
+        ensures { OnOk result (self.new ≡ self.old ++ (codes " " ++ (quoted (chars text.now) ++ codes "\n"))) }
+    {
+        let Ok(()) = push_quoted_line(&mut self.text, text) else {
+            self.indents.clear();
+            return Err(AllocError);
+        };
+        Ok(())
+    }
+
     /// Adds what is displayed, whose bytes must be known; `write!` calls it. The error means out of memory; then
     /// nothing is specified about the text.
     pub fn write_fmt<D: Display + Drop>(&mut self, value: D) -> Result<(), AllocError>
@@ -111,8 +123,7 @@ impl IndentedText {
         let mut block = Block::new();
         let mut from = 0;
         'indents: for indent in self.indents.as_slice() {
-            put(&mut block, &text[from..indent.at], out)?;
-            put_indent(&mut block, indent.levels, out)?;
+            put_line(&mut block, text, from, indent.at, indent.levels, out)?;
             from = indent.at;
         }
         put(&mut block, &text[from..], out)?;

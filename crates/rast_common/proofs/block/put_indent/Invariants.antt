@@ -6,7 +6,7 @@ use Rattle.rast_common.proofs.block.put_indent.Given as goal
 abbrev pub invariant-levels : goal.invariant-levels
 invariant-levels g l = record {
   within : l.left ≤ l.fn.levels;
-  added : Appends (append_known (g.W.Write.contents l.fn.out) l.fn.block.items) (append_known (g.W.Write.contents l.out) l.block.items) (indent (l.fn.levels - l.left));
+  added : Appends (append_known (g.W.Write.contents l.fn.out) l.fn.block) (append_known (g.W.Write.contents l.out) l.block) (indent (l.fn.levels - l.left));
 }
 
 abbrev pub decreases-levels : goal.decreases-levels
