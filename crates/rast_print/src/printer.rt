@@ -26,7 +26,18 @@ pub fn push_kind(lines: &mut IndentedText, depth: usize, kind: SyntaxKind) -> Re
     Ok(())
 }
 
+/// Adds a node's line.
+#[inline(never)]
+fn push_node(lines: &mut IndentedText, depth: usize, kind: SyntaxKind) -> Result<(), AllocError>
+    ensures { OnOk result (lines.new ≡ lines.old ++ (indent depth ++ (name_of kind ++ codes "\n"))) }
+{
+    push_kind(lines, depth, kind)?;
+    lines.push_str("\n")?;
+    Ok(())
+}
+
 /// Adds a token's line.
+#[inline(never)]
 fn push_token(
     lines: &mut IndentedText,
     depth: usize,
@@ -37,9 +48,7 @@ fn push_token(
         ≡ lines.old ++ (indent depth ++ (name_of kind ++ (codes " " ++ (quoted (chars text.now) ++ codes "\n"))))) }
 {
     push_kind(lines, depth, kind)?;
-    lines.push_str(" ")?;
-    lines.push_quoted(text)?;
-    lines.push_str("\n")?;
+    lines.push_quoted_line(text)?;
     Ok(())
 }
 
@@ -77,11 +86,11 @@ impl StrSink for Printer {
     // After a call that was out of memory, nothing is specified about the lines.
     ghost refuses = { λ _ _ _ _. Unit {0} };
 
+    #[inline(always)]
     fn step(&mut self, step: StrStep<'_>) -> Result<(), NoMemory> {
         match step {
             StrStep::Enter { kind } => {
-                push_kind(&mut self.tree, self.depth, kind)?;
-                self.tree.push_str("\n")?;
+                push_node(&mut self.tree, self.depth, kind)?;
                 self.depth = self.depth.saturating_add(1);
             }
             StrStep::Token { kind, text } => push_token(&mut self.tree, self.depth, kind, text)?,

@@ -1,7 +1,7 @@
 -- What is left of a walk, and the capacity that it needs.
-use Rattle.std.proofs.Common.{◌≡◌, ℕ, ◌+◌, ◌-◌, ◌<◌, ◌≤◌, max, List, [], ◌∷◌, ◌++◌, length, length-append, get_or, take, drop, refl, ap, sym, ◌∙◌, append_assoc, append-nil, arith}
+use Rattle.std.proofs.Common.{◌≡◌, ℕ, ◌+◌, ◌-◌, ◌<◌, ◌≤◌, max, min, List, [], ◌∷◌, ◌++◌, length, length-append, get_or, take, drop, refl, ap, sym, ◌∙◌, append_assoc, append-nil, arith}
 use Rattle.std.proofs.Math.Nat.{le-max_left, le-max_right, max-le, max-zero, max-eq_right}
-use Rattle.std.proofs.lemmas.List.{take_all}
+use Rattle.std.proofs.lemmas.List.{take_all, take_more}
 use Rattle.std.specs.Borrow.{Bor}
 use Rattle.std.specs.declared.ops.Range.{Range}
 use Rattle.syntax_tree.specs.Children.{with_child, with_children, children_of}
@@ -11,6 +11,7 @@ use Rattle.syntax_tree.specs.RangedForest.{RangedForest, RangedNode, ranged_none
 use Rattle.syntax_tree.specs.Walking.{element_of, nodes_in, leaves_in, ahead, levels, room}
 use Rattle.syntax_tree.specs.declared.node.Child.{Child}
 use Rattle.syntax_tree.specs.declared.node.Child.TheVariants.{Node as a_node, Leaf as a_leaf}
+use Rattle.syntax_tree.proofs.ChildLists.{children-snoc}
 use Rattle.syntax_tree.proofs.ChildRows.{only}
 use Rattle.syntax_tree.proofs.Weights.{weight}
 
@@ -304,3 +305,25 @@ leaves-elements (ranged_leaf before kind start end) =
     let l : RangedLeaf = record { kind = kind; start = start; end = end } in
     leaves-append (elements_of before) (leaf_element l ∷ [])
     ∙ ap (λ ls. ls ++ l ∷ []) (leaves-elements before)
+
+-- The depth of the first of some children, and of the next: a number at least as large as the depth of the lists below
+-- those, or one that says nothing.
+levels-more : (cs : List Child) (i : ℕ) (c : Child) → i < length cs → c ≡ get_or cs i c → levels (children_of (take (i + 1) cs)) ≡ max (levels (children_of (take i cs))) (levels (only c))
+levels-more cs i c low read =
+    let more : take (i + 1) cs ≡ take i cs ++ c ∷ [] = take_more cs i c low ∙ ap (λ d. take i cs ++ d ∷ []) (sym read) in
+    ap levels (children-snoc (take i cs) (take (i + 1) cs) c more) ∙ levels-with_child c (children_of (take i cs))
+
+pub deep_node : (cs : List Child) (i most deeper next deep : ℕ) (c : Child) (n : RangedNode) → i < length cs → c ≡ get_or cs i c → c ≡ a_node n
+    → (most < 4294967295 → levels (children_of (take i cs)) ≤ most) → (deep < 4294967295 → levels n.children ≤ deep)
+    → deeper ≡ min (deep + 1) 4294967295 → next ≡ max most deeper → next < 4294967295 → levels (children_of (take (i + 1) cs)) ≤ next
+deep_node cs i most deeper next deep c n low read node before inside one two few =
+    let more = levels-more cs i c low read in
+    let own : levels (only c) ≡ max 0 (levels n.children + 1) = ap (λ k. levels (only k)) node in
+    omega (arith, more, own)
+
+pub deep_leaf : (cs : List Child) (i most : ℕ) (c : Child) (kind : ℕ) (range : Range ℕ) → i < length cs → c ≡ get_or cs i c → c ≡ a_leaf kind range
+    → (most < 4294967295 → levels (children_of (take i cs)) ≤ most) → most < 4294967295 → levels (children_of (take (i + 1) cs)) ≤ most
+deep_leaf cs i most c kind range low read leaf before few =
+    let more = levels-more cs i c low read in
+    let own : levels (only c) ≡ 0 = ap (λ k. levels (only k)) leaf in
+    omega (arith, more, own)

@@ -93,7 +93,7 @@ impl Builder {
     }
 
     /// The newest node ends, if there is one. Its children move into a list of their number.
-    #[inline(always)]
+    #[inline(never)]
     pub(crate) fn exit(&mut self) -> Result<(), NoMemory>
         ensures { OnOk result (building self.new ≡ after (building self.old) str_exit) }
     {

@@ -51,6 +51,7 @@ impl StrSink for Collector {
     // After a call that was out of memory, nothing is specified about what was kept.
     ghost refuses = { λ _ _ _ _. Unit {0} };
 
+    #[inline(always)]
     fn step(&mut self, step: StrStep<'_>) -> Result<(), NoMemory> {
         match step {
             StrStep::Error { msg, pos } => self.keep(msg, pos),

@@ -1,17 +1,22 @@
 //! Nodes, and what stands in them.
-ghost use Rattle.std.specs.Prelude.{◌≡◌, ◌+◌, ◌≤◌};
+ghost use Rattle.std.specs.Prelude.{◌≡◌, ◌+◌, ◌<◌, ◌≤◌};
 ghost use Rattle.syntax_tree.specs.Children.{children_of};
+ghost use Rattle.syntax_tree.specs.Walking.{levels};
 
 use rap_base::syntax_kind::SyntaxKind;
 use std::marker::Model;
 use std::ops::Range;
 
-/// A node of a tree: its kind, its place in the text in bytes, and its children.
+/// What stands for a depth that is not known, or is larger.
+pub(crate) const DEEP: u32 = u32::MAX;
+
+/// A node of a tree: its kind, its place in the text in bytes, and its children. It knows how deep they are.
 #[cycle(tree)]
 pub struct Node {
     kind: SyntaxKind,
     start: u32,
     end: u32,
+    depth: u32,
     children: Vec<Child>,
 }
 
@@ -40,6 +45,11 @@ impl Model for Node {
 
     ghost view = { λ a. record { kind = a.kind; start = a.start; end = a.end; children = children_of a.children.items } };
 
+    ghost use Rattle.std.specs.Prelude.{◌<◌, ◌≤◌};
+    ghost use Rattle.syntax_tree.specs.Walking.{levels};
+
+    ghost invariant = { λ a. a.depth < 4294967295 → levels (children_of a.children.items) ≤ a.depth };
+
     ghost size = { node_size };
 
     ghost use Rattle.std.proofs.Common.{arith};
@@ -51,6 +61,7 @@ impl Model for Node {
 
 impl Node {
     /// A node over these children.
+    #[inline(always)]
     pub(crate) fn new(kind: SyntaxKind, start: u32, end: u32, children: Vec<Child>) -> Node
         ensures { result ≡ record { kind = kind; start = start; end = end; children = children_of children.items } }
     {
@@ -58,8 +69,31 @@ impl Node {
             kind,
             start,
             end,
+            depth: depth_of(children.as_slice()),
             children,
         }
+    }
+
+    /// A node that only holds these children, with no kind and no place.
+    #[inline(always)]
+    fn holding(children: Vec<Child>) -> Node
+        ensures { result.children ≡ children_of children.items }
+    {
+        Node {
+            kind: SyntaxKind::TOMBSTONE,
+            start: 0,
+            end: 0,
+            depth: DEEP,
+            children,
+        }
+    }
+
+    /// The depth of the lists of children below it, if it is known.
+    #[inline(always)]
+    pub(crate) fn depth(&self) -> u32
+        ensures { result < DEEP → levels self.now.children ≤ result }
+    {
+        self.depth
     }
 
     /// The node's children, without the node.
@@ -70,6 +104,7 @@ impl Node {
             kind: _,
             start: _,
             end: _,
+            depth: _,
             children,
         } = self;
         children
@@ -98,6 +133,21 @@ impl Node {
     }
 }
 
+/// The depth of the lists of children below these, if it is known.
+#[inline(always)]
+fn depth_of(children: &[Child]) -> u32
+    ensures { result < DEEP → levels (children_of children.now) ≤ result }
+{
+    let mut most = 0u32;
+    'children: for child in children {
+        match child {
+            Child::Node(node) => most = most.max(node.depth().saturating_add(1)),
+            Child::Leaf { .. } => {}
+        }
+    }
+    most
+}
+
 /// A loop: a tree may be deeper than the stack.
 impl Drop for Node {
     fn drop(self) {
@@ -118,7 +168,7 @@ fn discard(children: Vec<Child>) {
             Some(Child::Leaf { .. }) => {}
             Some(Child::Node(node)) => {
                 let inner = node.into_children();
-                list.push_reserved(Child::Node(Node::new(SyntaxKind::TOMBSTONE, 0, 0, outer)));
+                list.push_reserved(Child::Node(Node::holding(outer)));
                 outer = list;
                 list = inner;
             }

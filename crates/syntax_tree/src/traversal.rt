@@ -13,14 +13,13 @@ use std::marker::Model;
 
 impl Node {
     /// The node and all nodes inside it, each before those inside it, from left to right. The memory for the depth
-    /// of the tree is allocated here, in one walk through the tree, and a step allocates none. The error means out of
-    /// memory.
+    /// of the node is allocated here, and a step allocates none. The error means out of memory.
     pub fn descendants(&self, alloc: Global) -> Result<Descendants<'_>, NoMemory>
         ensures { IfOk result (λ nodes. nodes ≡ self.now ∷ descendants_of self.now.children) }
     {
         Ok(Descendants {
             first: Some(self),
-            walk: Walk::new(alloc, self.children())?,
+            walk: Walk::new(alloc, self)?,
         })
     }
 
@@ -30,7 +29,7 @@ impl Node {
         ensures { IfOk result (λ leaves. leaves ≡ leaves_of self.now.children) }
     {
         Ok(Leaves {
-            walk: Walk::new(alloc, self.children())?,
+            walk: Walk::new(alloc, self)?,
         })
     }
 }

@@ -4,7 +4,7 @@ ghost use Rattle.syntax_tree.specs.Children.{children_of};
 ghost use Rattle.syntax_tree.specs.Elements.{elements_of};
 ghost use Rattle.syntax_tree.specs.Walking.{element_of, levels};
 
-use crate::node::Child;
+use crate::node::{Child, DEEP, Node};
 use rap_base::no_memory::NoMemory;
 use std::alloc::Global;
 use std::marker::Model;
@@ -32,12 +32,12 @@ impl<'a> Model for Walk<'a> {
 }
 
 impl<'a> Walk<'a> {
-    /// The walk through these children.
-    pub(crate) fn new(alloc: Global, children: &'a [Child]) -> Result<Walk<'a>, NoMemory>
-        ensures { IfOk result (λ walk. walk ≡ elements_of (children_of children.now)) }
+    /// The walk through all that stands in this node.
+    pub(crate) fn new(alloc: Global, node: &'a Node) -> Result<Walk<'a>, NoMemory>
+        ensures { IfOk result (λ walk. walk ≡ elements_of node.now.children) }
     {
-        let mut stack = with_room(alloc, children)?;
-        stack.push_reserved(children);
+        let mut stack = room_for(alloc, node)?;
+        stack.push_reserved(node.children());
         Ok(Walk { stack })
     }
 
@@ -59,6 +59,19 @@ impl<'a> Walk<'a> {
             }
         }
     }
+}
+
+/// An empty list with capacity for as many lists of children as the walk through all that stands in this node ever holds.
+fn room_for<'a>(alloc: Global, node: &'a Node) -> Result<Vec<&'a [Child]>, NoMemory>
+    ensures items { IfOk result (λ stack. stack.items ≡ []) }
+    ensures room { IfOk result (λ stack. 1 + levels node.now.children ≤ vec_capacity stack) }
+{
+    let depth = node.depth();
+    if depth < DEEP {
+        let stack = Vec::with_capacity(alloc, depth as usize + 1)?;
+        return Ok(stack);
+    }
+    with_room(alloc, node.children())
 }
 
 /// An empty list with capacity for as many lists of children as the walk through these ever holds: it makes the walk.

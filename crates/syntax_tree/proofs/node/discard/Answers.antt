@@ -11,8 +11,8 @@ loop-node-smaller-in-Some-Leaf c =
 pub loop-node-smaller-in-Some-Node : goal.loop-node-smaller-in-Some-Node
 loop-node-smaller-in-Some-Node c =
     let e = weight-node c.pop.new.self.items c.loop-node.list.items c.in-Some-Node.field-0 c.in-Some-Node.node c.in-Some-Node.ensures.items c.in-Some-Node.field-0-is in
-    let o = outer_weight-node c.pop.new.self.items c.push_reserved.new.self.items _ c.new.result c.push_reserved.ensures.items refl in
-    let made = ap (λ n. outer_weight n.children) c.new.ensures in
+    let o = outer_weight-node c.pop.new.self.items c.push_reserved.new.self.items _ c.holding.result c.push_reserved.ensures.items refl in
+    let made = ap outer_weight c.holding.ensures in
     let inner = ap weight c.into_children-inner.ensures in
     omega (arith, e, o, made, inner)
 
