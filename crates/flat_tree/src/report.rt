@@ -7,10 +7,11 @@ ghost use Rattle.rap_ranged.specs.MergedMessages.{merged};
 ghost use Rattle.rap_ranged.specs.Ranged.{Ranged};
 ghost use Rattle.rap_ranged.specs.RangedForest.{RangedNode};
 ghost use Rattle.rap_ranged.specs.RangedMessages.{ranged_message};
+ghost use Rattle.flat_tree.specs.ByteLeaf.{EndsBegun};
 ghost use Rattle.flat_tree.specs.FlatTree.{elements_of_tree};
 
 use crate::element::Element;
-use crate::leaf_at::{element_of, leaf_of};
+use crate::leaf_at::{begun_near, element_of, leaf_before};
 use crate::merge::merge;
 use crate::message::Message;
 use rap_base::no_memory::NoMemory;
@@ -42,11 +43,12 @@ impl Report {
         Report { text, at }
     }
 
-    /// The message with the range of the leaf at its position.
-    fn placed(self, elements: &[Element]) -> Message
+    /// The message with the range of the leaf at its position. So many elements begin there or before.
+    fn placed(self, elements: &[Element], begun: usize) -> Message
+        requires { EndsBegun elements.now self.at begun }
         ensures { (f : StrForest) (root : RangedNode) → Ranged f root → elements.now ≡ elements_of_tree root → result ≡ ranged_message root.children self }
     {
-        match leaf_of(elements, self.at) {
+        match leaf_before(elements, self.at, begun) {
             Some(index) => {
                 let range = place_of(elements, index, self.at);
                 Message::new(self.text, self.at, range)
@@ -82,7 +84,7 @@ pub(crate) fn all_messages(
     merge(alloc, first, second)
 }
 
-/// The messages with their places.
+/// The messages with their places. Most come in the order of their positions, so a place is looked for from the last one.
 fn all_placed(
     alloc: Global,
     reports: Vec<Report>,
@@ -92,8 +94,10 @@ fn all_placed(
         → IfOk result (λ messages. messages.items ≡ map (ranged_message root.children) reports.items) }
 {
     let mut messages = Vec::with_capacity(alloc, reports.len())?;
+    let mut begun = 0;
     'reports: for report in reports {
-        messages.push(report.placed(elements))?;
+        begun = begun_near(elements, report.at, begun);
+        messages.push(report.placed(elements, begun))?;
     }
     Ok(messages)
 }

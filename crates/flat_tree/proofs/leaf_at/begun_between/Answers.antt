@@ -1,7 +1,7 @@
 use Rattle.std.proofs.Common.{ap, arith}
 use Rattle.flat_tree.specs.declared.element.Element.{Element}
 use Rattle.flat_tree.proofs.Bytes.{read_is}
-use Rattle.flat_tree.proofs.leaf_at.begun_at.Goals as goal
+use Rattle.flat_tree.proofs.leaf_at.begun_between.Goals as goal
 
 pub halves-preserved : goal.halves-preserved
 halves-preserved c =
