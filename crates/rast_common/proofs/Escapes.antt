@@ -1,5 +1,5 @@
 -- A text as it is written between quotes, byte by byte.
-use Rattle.std.proofs.Common.{◌≡◌, ℕ, suc, ◌+◌, ◌-◌, ◌<◌, ◌≤◌, true, false, cond, List, [], ◌∷◌, ◌++◌, refl, ap, sym, ◌∙◌, append_assoc, append-nil, arith, chars, length, take, drop, get_or, inl, inr}
+use Rattle.std.proofs.Common.{subst, zero, ◌≡◌, ℕ, suc, ◌+◌, ◌-◌, ◌<◌, ◌≤◌, true, false, cond, List, [], ◌∷◌, ◌++◌, refl, ap, sym, ◌∙◌, append_assoc, append-nil, arith, chars, length, take, drop, get_or, inl, inr}
 use Rattle.std.specs.List.{flat_map, slice_range}
 use Rattle.std.specs.Str.{IsUtf8, IsCharBoundary}
 use Rattle.std.proofs.lemmas.Bool.{cases_lt, cases_Bool}
@@ -98,6 +98,31 @@ text_plain old now text from i b low read plain h =
           ∙ (ap (λ l. (old ++ flat_map escaped_byte (take i text)) ++ l) (sym (plain_byte (get_or text i 0) plain_here))
           ∙ sym (next_bytes old text i low))));
     }
+
+-- so many bytes that are as they are
+pub text_run : (n : ℕ) (old now text : List ℕ) (from i : ℕ) → i + n ≤ length text → ((k : ℕ) → i ≤ k → k < i + n → is_plain (get_or text k 0) ≡ true)
+    → AddsText old now text from i → AddsText old now text from (i + n)
+text_run zero old now text from i low plain h =
+    let same : i ≡ i + 0 = omega arith in
+    let P : ℕ → Type 0 = λ j. AddsText old now text from j in
+    subst P same h
+text_run (suc n) old now text from i low plain h =
+    let here : i < length text = omega (arith, low) in
+    let first : is_plain (get_or text i 0) ≡ true = plain i (omega arith) (omega arith) in
+    let rest : (k : ℕ) → i + 1 ≤ k → k < i + 1 + n → is_plain (get_or text k 0) ≡ true = λ k p q. plain k (omega (arith, p)) (omega (arith, q)) in
+    let end : i + 1 + n ≡ i + suc n = omega arith in
+    let P : ℕ → Type 0 = λ j. AddsText old now text from j in
+    subst P end (text_run n old now text from (i + 1) (omega (arith, low)) rest (text_plain old now text from i (get_or text i 0) here refl first h))
+
+-- the same up to a place, of bytes that are those of the text
+pub text_to : (old now text bytes : List ℕ) (from to : ℕ) → bytes ≡ text → from ≤ to → to ≤ length bytes → ((k : ℕ) → from ≤ k → k < to → is_plain (get_or bytes k 0) ≡ true)
+    → AddsText old now text from from → AddsText old now text from to
+text_to old now text bytes from to same le low plain h =
+    let end : from + (to - from) ≡ to = omega (arith, le) in
+    let P : ℕ → Type 0 = λ j. AddsText old now text from j in
+    subst P end
+    (text_run (to - from) old now text from from (omega (arith, le, low, ap length same))
+    (λ k p q. ap (λ l. is_plain (get_or l k 0)) (sym same) ∙ plain k p (omega (arith, q, le))) h)
 
 pub text_escape : (old now mid new text : List ℕ) (from i b : ℕ) → IsUtf8 text → i < length text → b ≡ get_or text i 0 → is_plain b ≡ false
     → mid ≡ now ++ slice_range text from i → new ≡ mid ++ escaped b → AddsText old now text from i → AddsText old new text (i + 1) (i + 1)

@@ -1,5 +1,5 @@
 //! Texts as the programs print them.
-ghost use Rattle.std.specs.Prelude.{◌≡◌, ◌<◌, ◌≤◌, ◌++◌, slice_range, OnOk, string_bytes, chars, codes};
+ghost use Rattle.std.specs.Prelude.{◌≡◌, ◌<◌, ◌≤◌, ◌++◌, ℕ, true, false, length, slice_index, slice_range, OnOk, string_bytes, chars, codes};
 ghost use Rattle.std.specs.List.{flat_map};
 ghost use Rattle.std.specs.Str.{IsCharBoundary};
 ghost use Rattle.rast_common.specs.Quote.{hex_digit, hex_digits, escaped, quoted};
@@ -36,7 +36,30 @@ fn push_hex(out: &mut String, n: u8) -> Result<(), AllocError>
 fn is_plain(byte: u8) -> bool
     ensures { result ≡ is_plain byte }
 {
-    byte >= 32 && byte != b'"' && byte != b'\\' && byte != 127
+    if byte > b'\\' {
+        byte != 127
+    } else {
+        byte >= 32 && byte != b'"' && byte != b'\\'
+    }
+}
+
+/// Where the bytes end, from a place on, that are the same between quotes.
+#[inline(always)]
+fn plain_end(bytes: &[u8], from: usize) -> usize
+    requires { from ≤ length bytes.now }
+    ensures order { from ≤ result }
+    ensures within { result ≤ length bytes.now }
+    ensures plain { (k : ℕ) → from ≤ k → k < result → is_plain (slice_index bytes.now k) ≡ true }
+    ensures ends { result < length bytes.now → is_plain (slice_index bytes.now result) ≡ false }
+{
+    let mut at = from;
+    'plain: while at < bytes.len() {
+        if !is_plain(bytes[at]) {
+            break;
+        }
+        at += 1;
+    }
+    at
 }
 
 /// Adds what stands between quotes for a character that is a byte.
@@ -81,17 +104,15 @@ fn push_escaped(out: &mut String, text: &str) -> Result<(), AllocError>
 {
     let bytes = text.as_bytes();
     let mut from = 0;
-    'bytes: for i in 0..bytes.len() {
-        let byte = bytes[i];
-        if is_plain(byte) {
-            continue;
+    'escapes: loop {
+        let to = plain_end(bytes, from);
+        push_part(out, text, from, to)?;
+        if to == bytes.len() {
+            return Ok(());
         }
-        push_part(out, text, from, i)?;
-        push_escape(out, byte)?;
-        from = i + 1;
+        push_escape(out, bytes[to])?;
+        from = to + 1;
     }
-    push_part(out, text, from, text.len())?;
-    Ok(())
 }
 
 /// Adds the text in quotes.
