@@ -89,8 +89,9 @@ pub(crate) fn begun_near(elements: &[Element], offset: usize, near: usize) -> us
     begun_between(elements, offset, low, elements.len())
 }
 
-/// The index of the last element that begins at a byte or before, if it ends after it.
-pub(crate) fn leaf_of(elements: &[Element], offset: usize) -> Option<u32>
+/// The index of the leaf that holds the byte at this offset, of the elements of a tree: what [`FlatTree::leaf_at`] gives
+/// of the tree. It is the last element that begins there or before, if it ends after it.
+pub fn leaf_of(elements: &[Element], offset: usize) -> Option<u32>
     ensures { (f : StrForest) (root : RangedNode) → Ranged f root → elements.now ≡ elements_of_tree root → IsLeafAt root offset result }
 {
     leaf_before(elements, offset, begun_at(elements, offset))

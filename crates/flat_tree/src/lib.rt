@@ -30,6 +30,7 @@ mod tree;
 pub use ancestors::Ancestors;
 pub use children::Children;
 pub use element::{Element, NO_PARENT};
+pub use leaf_at::leaf_of;
 pub use leaves::Leaves;
 pub use message::Message;
 pub use tree::FlatTree;

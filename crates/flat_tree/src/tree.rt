@@ -116,6 +116,19 @@ impl<'t> FlatTree<'t> {
         self.messages.as_slice()
     }
 
+    /// The nodes and leaves in preorder, and the messages, without the text: so they outlive its borrow.
+    pub fn into_lists(self) -> (Vec<Element>, Vec<Message>)
+        ensures elements { result.0.items ≡ self.entry.elements.items }
+        ensures messages { result.1.items ≡ self.entry.messages.items }
+    {
+        let FlatTree {
+            text: _,
+            elements,
+            messages,
+        } = self;
+        (elements, messages)
+    }
+
     /// The text that the tree is over.
     pub fn text(&self) -> &'t str
         ensures { result.now ≡ self.now.text.now }

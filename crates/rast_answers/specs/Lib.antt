@@ -10,6 +10,7 @@ pub mod Highlights
 pub mod Imports
 pub mod Jumps
 pub mod Kinds
+pub mod Listings
 pub mod Nesting
 pub mod Reaches
 pub mod Rows

@@ -1,7 +1,8 @@
 //! What an editor is answered about a document: diagnostics, symbols, folds, selections, highlights, tokens.
 //!
 //! [`Analysis::of_document`] parses a document; each of its other methods makes one answer, in byte offsets of the text
-//! on character boundaries. Only the tokens are in positions of the document, since their numbers are.
+//! on character boundaries. Only the tokens are in positions of the document, since their numbers are. A [`Listing`]
+//! answers the same of a document whose tree's lists are kept.
 #![tactic(auto)]
 
 mod about;
@@ -18,6 +19,7 @@ mod jumps;
 mod kinds;
 pub mod laws;
 mod lines;
+mod listing;
 mod lists;
 mod places;
 mod rows;
@@ -32,6 +34,7 @@ pub use deltas::Delta;
 pub use diagnostic::Diagnostic;
 pub use extent::Extent;
 pub use folds::{Fold, FoldKind};
+pub use listing::Listing;
 pub use symbol_kind::SymbolKind;
 pub use symbols::Symbol;
 pub use token_kind::{
