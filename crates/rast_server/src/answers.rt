@@ -1,6 +1,6 @@
 //! The answers about a document, as JSON texts.
 use crate::tree::tree_lines;
-use rast_answers::{Analysis, Delta, Diagnostic, Extent, Fold, FoldKind, Symbol};
+use rast_answers::{Delta, Diagnostic, Extent, Fold, FoldKind, Listing, Symbol};
 use rast_document::{Document, Position};
 use rast_messages::{position_of, push_comma, push_range, push_string};
 use std::alloc::{AllocError, Global};
@@ -79,15 +79,15 @@ fn close_symbols(
 }
 
 /// The symbols of a document, each in the one around it.
-pub fn symbols(alloc: Global, analysis: &Analysis<'_>) -> Result<String, AllocError> {
-    let list = analysis.symbols(alloc)?;
+pub fn symbols(alloc: Global, listing: &Listing<'_>) -> Result<String, AllocError> {
+    let list = listing.symbols(alloc)?;
     let mut json = String::from_str(alloc, "[")?;
     let mut ends: Vec<usize> = Vec::new(alloc);
     let mut is_first = true;
     for symbol in list.as_slice() {
         close_symbols(&mut json, &mut ends, symbol.index, &mut is_first)?;
         push_comma(&mut json, &mut is_first)?;
-        open_symbol(alloc, &mut json, analysis.document(), symbol)?;
+        open_symbol(alloc, &mut json, listing.document(), symbol)?;
         ends.push(symbol.after)?;
         is_first = true;
     }
@@ -112,13 +112,13 @@ fn push_fold(json: &mut String, document: &Document, fold: &Fold) -> Result<(), 
 }
 
 /// What folds.
-pub fn folds(alloc: Global, analysis: &Analysis<'_>) -> Result<String, AllocError> {
-    let list = analysis.folds(alloc)?;
+pub fn folds(alloc: Global, listing: &Listing<'_>) -> Result<String, AllocError> {
+    let list = listing.folds(alloc)?;
     let mut json = String::from_str(alloc, "[")?;
     let mut is_first = true;
     for fold in list.as_slice() {
         push_comma(&mut json, &mut is_first)?;
-        push_fold(&mut json, analysis.document(), fold)?;
+        push_fold(&mut json, listing.document(), fold)?;
     }
     json.push_str("]")?;
     Ok(json)
@@ -145,18 +145,18 @@ fn push_nested(
 /// What may be selected around each position. `None` if one of them is none of the document.
 pub fn selections(
     alloc: Global,
-    analysis: &Analysis<'_>,
+    listing: &Listing<'_>,
     positions: &[Position],
 ) -> Result<Option<String>, AllocError> {
     let mut json = String::from_str(alloc, "[")?;
     let mut is_first = true;
     for position in positions {
-        let Some(offset) = analysis.document().offset(*position) else {
+        let Some(offset) = listing.document().offset(*position) else {
             return Ok(None);
         };
-        let extents = analysis.selection(alloc, offset)?;
+        let extents = listing.selection(alloc, offset)?;
         push_comma(&mut json, &mut is_first)?;
-        push_nested(&mut json, analysis.document(), extents.as_slice())?;
+        push_nested(&mut json, listing.document(), extents.as_slice())?;
     }
     json.push_str("]")?;
     Ok(Some(json))
@@ -165,16 +165,16 @@ pub fn selections(
 /// What belongs together with what stands at an offset.
 pub fn highlights(
     alloc: Global,
-    analysis: &Analysis<'_>,
+    listing: &Listing<'_>,
     offset: usize,
 ) -> Result<String, AllocError> {
-    let list = analysis.highlights(alloc, offset)?;
+    let list = listing.highlights(alloc, offset)?;
     let mut json = String::from_str(alloc, "[")?;
     let mut is_first = true;
     for extent in list.as_slice() {
         push_comma(&mut json, &mut is_first)?;
         json.push_str("{\"range\":")?;
-        push_range(&mut json, analysis.document(), extent.start, extent.end)?;
+        push_range(&mut json, listing.document(), extent.start, extent.end)?;
         json.push_str("}")?;
     }
     json.push_str("]")?;
@@ -208,8 +208,8 @@ pub fn tokens(alloc: Global, list: &[Delta]) -> Result<String, AllocError> {
 }
 
 /// The tree as text.
-pub fn tree(alloc: Global, analysis: &Analysis<'_>) -> Result<String, AllocError> {
-    let lines = tree_lines(alloc, analysis.tree())?;
+pub fn tree(alloc: Global, listing: &Listing<'_>) -> Result<String, AllocError> {
+    let lines = tree_lines(alloc, listing.document().text(), listing.elements())?;
     let mut json = String::new(alloc);
     push_string(alloc, &mut json, lines.as_str())?;
     Ok(json)

@@ -3,6 +3,7 @@
 
 mod answers;
 mod initialize;
+mod parsed;
 mod run;
 mod server;
 mod tree;

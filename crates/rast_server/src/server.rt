@@ -1,5 +1,7 @@
 //! The state of the server, and what each message does to it.
 ghost use Rattle.std.specs.Prelude.{◌≡◌, ◌⊎◌, ◌≤◌, ◌↔◌, ℕ, List, [], IfErr, IfOk, IsTrue, OnErr, OnOk, codes, false, true, option_map, string_bytes};
+ghost use Rattle.rap_base.specs.declared.edition.Edition.TheVariants.{Edition2024};
+ghost use Rattle.rast_answers.specs.Listings.{AreListsOf};
 ghost use Rattle.serde_json.specs.Data.{null};
 ghost use Rattle.serde_json.specs.View.{view};
 ghost use Rattle.serde_json.specs.Written.{has_float};
@@ -11,8 +13,9 @@ ghost use Rattle.rast_server.specs.declared.server.Stage.TheVariants.{Fresh, Rea
 
 use crate::answers::{folds, highlights, push_diagnostics, selections, symbols, tokens, tree};
 use crate::initialize::capabilities;
-use ra_ap_parser::{Edition, NoMemory, TextFault};
-use rast_answers::{Analysis, Diagnostic};
+use crate::parsed::{Lists, Parsed};
+use ra_ap_parser::{NoMemory, TextFault};
+use rast_answers::{Diagnostic, Listing};
 use rast_document::{Change, ChangeFault, Document, Encoding};
 use rast_messages::{
     Code, Fault, Message, NO_MEMORY, changes_in, classify, encoding_of, error, log, notification,
@@ -38,7 +41,7 @@ enum Stage {
 #[derive(Drop)]
 struct Opened {
     version: i64,
-    document: Document,
+    document: Parsed,
 }
 
 impl Opened {
@@ -60,6 +63,14 @@ impl Opened {
             Err(ChangeFault::NoRange) => Err(NO_PLACE),
             Err(ChangeFault::NoMemory) => Err(NO_MEMORY),
         }
+    }
+
+    // The notification of its messages, for which it is parsed.
+    fn publish(&mut self, alloc: Global, uri: &str) -> Result<String, Fault>
+        ensures same { self.new ≡ self.old }
+        ensures why { IfErr result IsNoMemory }
+    {
+        published(alloc, uri, self.version, &mut self.document)
     }
 }
 
@@ -151,44 +162,74 @@ fn fault_of(fault: TextFault<NoMemory>) -> Fault
     }
 }
 
-/// The tree of a document.
-fn analysis_of(alloc: Global, document: &Document) -> Result<Analysis<'_>, Fault>
-    ensures { IfErr result (λ fault. IsOfDocument fault.code) }
-{
-    match Analysis::of_document(alloc, Edition::CURRENT, document) {
-        Ok(analysis) => Ok(analysis),
-        Err(fault) => Err(fault_of(fault)),
-    }
-}
-
-/// Adds the messages of a document, or the one that it has no tree.
-fn push_messages(alloc: Global, json: &mut String, document: &Document) -> Result<(), Fault>
+/// Adds the message that a document has no tree.
+fn push_fault(
+    alloc: Global,
+    json: &mut String,
+    document: &Document,
+    fault: TextFault<NoMemory>,
+) -> Result<(), Fault>
     ensures { IfErr result IsNoMemory }
 {
-    match Analysis::of_document(alloc, Edition::CURRENT, document) {
-        Ok(analysis) => {
-            let list = analysis.diagnostics(alloc)?;
-            push_diagnostics(alloc, json, document, list.as_slice())?;
-        }
-        Err(fault) => {
-            let fault = fault_of(fault);
-            if fault.text == NO_MEMORY.text {
-                return Err(NO_MEMORY);
-            }
-            let none = Diagnostic {
-                text: fault.text,
-                start: 0,
-                end: 0,
-            };
-            push_diagnostics(alloc, json, document, &[none])?;
-        }
+    let fault = fault_of(fault);
+    if fault.text == NO_MEMORY.text {
+        return Err(NO_MEMORY);
     }
+    let none = Diagnostic {
+        text: fault.text,
+        start: 0,
+        end: 0,
+    };
+    Ok(push_diagnostics(alloc, json, document, &[none])?)
+}
+
+/// Adds the messages of the tree of a document.
+fn push_listed(
+    alloc: Global,
+    json: &mut String,
+    document: &Document,
+    lists: &Lists,
+) -> Result<(), Fault>
+    requires { AreListsOf (string_bytes document.now.text) Edition2024 lists.now.elements.items lists.now.messages.items }
+    ensures { IfErr result IsNoMemory }
+{
+    let listing = lists.listing(document);
+    let list = listing.diagnostics(alloc)?;
+    Ok(push_diagnostics(alloc, json, document, list.as_slice())?)
+}
+
+/// Adds the messages of the tree of a document, which keeps its lists.
+fn push_kept(
+    alloc: Global,
+    json: &mut String,
+    document: &mut Parsed,
+    lists: Lists,
+) -> Result<(), Fault>
+    requires { AreListsOf (string_bytes document.old.text) Edition2024 lists.elements.items lists.messages.items }
+    ensures same { document.new ≡ document.old }
+    ensures why { IfErr result IsNoMemory }
+{
+    push_listed(alloc, json, document.document(), &lists)?;
+    document.keep(lists);
     Ok(())
 }
 
-/// The notification of a document's messages.
-fn published(alloc: Global, uri: &str, version: i64, document: &Document) -> Result<String, Fault>
-    ensures { IfErr result IsNoMemory }
+/// Adds the messages of a document, or the one that it has no tree. The document is parsed for them, and keeps the lists
+/// of its tree.
+fn push_messages(alloc: Global, json: &mut String, document: &mut Parsed) -> Result<(), Fault>
+    ensures same { document.new ≡ document.old }
+    ensures why { IfErr result IsNoMemory }
+{
+    match Lists::of_document(alloc, document.document()) {
+        Ok(lists) => push_kept(alloc, json, document, lists),
+        Err(fault) => push_fault(alloc, json, document.document(), fault),
+    }
+}
+
+/// The notification of a document's messages, for which it is parsed.
+fn published(alloc: Global, uri: &str, version: i64, document: &mut Parsed) -> Result<String, Fault>
+    ensures same { document.new ≡ document.old }
+    ensures why { IfErr result IsNoMemory }
 {
     let mut json = String::from_str(alloc, "{\"uri\":")?;
     push_string(alloc, &mut json, uri)?;
@@ -216,56 +257,73 @@ fn opened_text(params: &Value) -> Option<&str>
 }
 
 /// What may be selected around the positions of a message.
-fn selected(alloc: Global, analysis: &Analysis<'_>, params: &Value) -> Result<String, Fault>
+fn selected(alloc: Global, listing: &Listing<'_>, params: &Value) -> Result<String, Fault>
     ensures { IfErr result (λ fault. IsOfDocument fault.code) }
 {
     let positions = positions_in(alloc, params)?.ok_or(WRONG_PARAMS)?;
-    selections(alloc, analysis, positions.as_slice())?.ok_or(NO_PLACE)
+    selections(alloc, listing, positions.as_slice())?.ok_or(NO_PLACE)
 }
 
 /// What belongs together with what stands at the position of a message.
-fn highlighted(alloc: Global, analysis: &Analysis<'_>, params: &Value) -> Result<String, Fault>
+fn highlighted(alloc: Global, listing: &Listing<'_>, params: &Value) -> Result<String, Fault>
     ensures { IfErr result (λ fault. IsOfDocument fault.code) }
 {
     let place = params.get("position").ok_or(WRONG_PARAMS)?;
     let position = position_in(place).ok_or(WRONG_PARAMS)?;
-    let offset = analysis.document().offset(position).ok_or(NO_PLACE)?;
-    Ok(highlights(alloc, analysis, offset)?)
+    let offset = listing.document().offset(position).ok_or(NO_PLACE)?;
+    Ok(highlights(alloc, listing, offset)?)
 }
 
 /// The tokens of the range of a message.
-fn tokens_of_range(alloc: Global, analysis: &Analysis<'_>, params: &Value) -> Result<String, Fault>
+fn tokens_of_range(alloc: Global, listing: &Listing<'_>, params: &Value) -> Result<String, Fault>
     ensures { IfErr result (λ fault. IsOfDocument fault.code) }
 {
     let range = params.get("range").ok_or(WRONG_PARAMS)?;
     let span = span_in(range).ok_or(WRONG_PARAMS)?;
-    let start = analysis.document().offset(span.start).ok_or(NO_PLACE)?;
-    let end = analysis.document().offset(span.end).ok_or(NO_PLACE)?;
-    let list = analysis.tokens_within(alloc, start, end)?;
+    let start = listing.document().offset(span.start).ok_or(NO_PLACE)?;
+    let end = listing.document().offset(span.end).ok_or(NO_PLACE)?;
+    let list = listing.tokens_within(alloc, start, end)?;
     Ok(tokens(alloc, list.as_slice())?)
 }
 
-/// The result of a request about a document.
-fn result_of(
+/// The result of a request about a document, of which the tree is known.
+fn answered(
     alloc: Global,
-    document: &Document,
+    listing: &Listing<'_>,
     method: &str,
     params: &Value,
 ) -> Result<String, Fault>
     ensures { IfErr result (λ fault. IsOfDocument fault.code) }
 {
-    let analysis = analysis_of(alloc, document)?;
     match method {
-        "textDocument/documentSymbol" => Ok(symbols(alloc, &analysis)?),
-        "textDocument/foldingRange" => Ok(folds(alloc, &analysis)?),
-        "textDocument/selectionRange" => selected(alloc, &analysis, params),
-        "textDocument/documentHighlight" => highlighted(alloc, &analysis, params),
+        "textDocument/documentSymbol" => Ok(symbols(alloc, listing)?),
+        "textDocument/foldingRange" => Ok(folds(alloc, listing)?),
+        "textDocument/selectionRange" => selected(alloc, listing, params),
+        "textDocument/documentHighlight" => highlighted(alloc, listing, params),
         "textDocument/semanticTokens/full" => {
-            let list = analysis.tokens(alloc)?;
+            let list = listing.tokens(alloc)?;
             Ok(tokens(alloc, list.as_slice())?)
         }
-        "textDocument/semanticTokens/range" => tokens_of_range(alloc, &analysis, params),
-        _ => Ok(tree(alloc, &analysis)?),
+        "textDocument/semanticTokens/range" => tokens_of_range(alloc, listing, params),
+        _ => Ok(tree(alloc, listing)?),
+    }
+}
+
+/// The result of a request about a document. It is parsed if it keeps no tree: there was no memory, or it has none.
+fn result_of(
+    alloc: Global,
+    document: &Parsed,
+    method: &str,
+    params: &Value,
+) -> Result<String, Fault>
+    ensures { IfErr result (λ fault. IsOfDocument fault.code) }
+{
+    if let Some(listing) = document.listing() {
+        return answered(alloc, &listing, method, params);
+    }
+    match Lists::of_document(alloc, document.document()) {
+        Ok(lists) => answered(alloc, &lists.listing(document.document()), method, params),
+        Err(fault) => Err(fault_of(fault)),
     }
 }
 
@@ -455,12 +513,13 @@ impl Server {
         let text = String::from_str(alloc, text)?;
         let document = Document::new(alloc, self.encoding, text)?;
         let key = String::from_str(alloc, uri)?;
-        let note = published(alloc, uri, version, &document)?;
-        if self
-            .documents
-            .insert(key, Opened { version, document })
-            .is_err()
-        {
+        let parsed = Parsed::new(document);
+        let mut opened = Opened {
+            version,
+            document: parsed,
+        };
+        let note = opened.publish(alloc, uri)?;
+        if self.documents.insert(key, opened).is_err() {
             return Err(NO_MEMORY);
         }
         Ok(note)
@@ -479,7 +538,7 @@ impl Server {
         let changes = changes_in(alloc, params)?.ok_or(WRONG_PARAMS)?;
         let opened = self.documents.get_mut(uri).ok_or(NOT_OPEN)?;
         opened.change(alloc, version, changes.as_slice())?;
-        published(alloc, uri, version, &opened.document)
+        opened.publish(alloc, uri)
     }
 
     fn close(&mut self, alloc: Global, params: &Value) -> Result<String, Fault>

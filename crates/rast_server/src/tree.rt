@@ -1,5 +1,5 @@
 //! The tree of a document as text.
-use flat_tree::{Element, FlatTree};
+use flat_tree::Element;
 use rast_common::quote::push_quoted;
 use std::alloc::{AllocError, Global};
 use std::fmt::Write as _;
@@ -7,7 +7,7 @@ use std::fmt::Write as _;
 /// Adds the line of a node or leaf: its kind, its place and a leaf's text in quotes, after two spaces for each level.
 fn push_element(
     lines: &mut String,
-    tree: &FlatTree<'_>,
+    text: &str,
     depth: usize,
     element: &Element,
 ) -> Result<(), AllocError> {
@@ -20,7 +20,7 @@ fn push_element(
     write!(lines, "{kind}@{start}..{end}")?;
     if element.is_leaf() {
         lines.push_str(" ")?;
-        let text = tree.text().get(start as usize..end as usize);
+        let text = text.get(start as usize..end as usize);
         push_quoted(lines, text.unwrap_or(""))?;
     }
     lines.push_str("\n")?;
@@ -28,9 +28,14 @@ fn push_element(
 }
 
 /// Adds the lines of all nodes and leaves.
-fn push_elements(alloc: Global, lines: &mut String, tree: &FlatTree<'_>) -> Result<(), AllocError> {
+fn push_elements(
+    alloc: Global,
+    lines: &mut String,
+    text: &str,
+    elements: &[Element],
+) -> Result<(), AllocError> {
     let mut ends: Vec<usize> = Vec::new(alloc);
-    'elements: for (index, element) in tree.elements().iter().enumerate() {
+    'elements: for (index, element) in elements.iter().enumerate() {
         for _ in 0..ends.len() {
             match ends.last() {
                 Some(end) if *end <= index => {
@@ -39,15 +44,15 @@ fn push_elements(alloc: Global, lines: &mut String, tree: &FlatTree<'_>) -> Resu
                 _ => break,
             }
         }
-        push_element(lines, tree, ends.len(), element)?;
+        push_element(lines, text, ends.len(), element)?;
         ends.push(element.after() as usize)?;
     }
     Ok(())
 }
 
-/// The lines of a tree with the place of each node and leaf. The error means out of memory.
-pub fn tree_lines(alloc: Global, tree: &FlatTree<'_>) -> Result<String, AllocError> {
+/// The lines of the tree of a text with the place of each node and leaf. The error means out of memory.
+pub fn tree_lines(alloc: Global, text: &str, elements: &[Element]) -> Result<String, AllocError> {
     let mut lines = String::new(alloc);
-    push_elements(alloc, &mut lines, tree)?;
+    push_elements(alloc, &mut lines, text, elements)?;
     Ok(lines)
 }

@@ -25,35 +25,35 @@ returns-in_err-change-clause-err c =
 
 pub returns-clause-changes : goal.returns-clause-changes
 returns-clause-changes c =
-    let new : Server = record { stage = c.args.self.now.stage; encoding = c.args.self.now.encoding; documents = c.get_mut.follows.lender c.change.new.self } in
-    always c.published.result (record {
+    let new : Server = record { stage = c.args.self.now.stage; encoding = c.args.self.now.encoding; documents = c.get_mut.follows.lender c.publish.new.self } in
+    always c.publish.result (record {
       uri = c.in_ok-uri.uri.now;
       changes = c.in_ok-changes.changes.items;
       before = c.in_ok-opened.opened.now;
-      after = c.change.new.self;
+      after = c.publish.new.self;
       uri_is = search rules;
       changes_are = search rules;
       was = search rules;
-      version_is = search rules;
-      encoding = c.change.ensures.encoding;
-      text = rw c.as_slice.ensures.value at c.in_ok-change.ensures.ok;
-      puts = put c.in_ok-uri.uri.now (Some c.change.new.self) c.args.self.now new ((c.get_mut.follows.holds c.change.new.self).3 (search rules));
+      version_is = rw c.publish.ensures.same (search rules);
+      encoding = rw c.publish.ensures.same c.change.ensures.encoding;
+      text = rw c.publish.ensures.same (rw c.as_slice.ensures.value at c.in_ok-change.ensures.ok);
+      puts = put c.in_ok-uri.uri.now (Some c.publish.new.self) c.args.self.now new ((c.get_mut.follows.holds c.publish.new.self).3 (search rules));
     })
 
 pub returns-clause-err : goal.returns-clause-err
 returns-clause-err c =
-    let new : Server = record { stage = c.args.self.now.stage; encoding = c.args.self.now.encoding; documents = c.get_mut.follows.lender c.change.new.self } in
+    let new : Server = record { stage = c.args.self.now.stage; encoding = c.args.self.now.encoding; documents = c.get_mut.follows.lender c.publish.new.self } in
     let made : Changes (view c.args.params.now) c.args.self.now new = record {
       uri = c.in_ok-uri.uri.now;
       changes = c.in_ok-changes.changes.items;
       before = c.in_ok-opened.opened.now;
-      after = c.change.new.self;
+      after = c.publish.new.self;
       uri_is = search rules;
       changes_are = search rules;
       was = search rules;
-      version_is = search rules;
-      encoding = c.change.ensures.encoding;
-      text = rw c.as_slice.ensures.value at c.in_ok-change.ensures.ok;
-      puts = put c.in_ok-uri.uri.now (Some c.change.new.self) c.args.self.now new ((c.get_mut.follows.holds c.change.new.self).3 (search rules));
+      version_is = rw c.publish.ensures.same (search rules);
+      encoding = rw c.publish.ensures.same c.change.ensures.encoding;
+      text = rw c.publish.ensures.same (rw c.as_slice.ensures.value at c.in_ok-change.ensures.ok);
+      puts = put c.in_ok-uri.uri.now (Some c.publish.new.self) c.args.self.now new ((c.get_mut.follows.holds c.publish.new.self).3 (search rules));
     } in
-    done_first _ c.published.result c.published.ensures made
+    done_first _ c.publish.result c.publish.ensures.why made
