@@ -36,11 +36,7 @@ fn push_hex(out: &mut String, n: u8) -> Result<(), AllocError>
 fn is_plain(byte: u8) -> bool
     ensures { result ≡ is_plain byte }
 {
-    if byte > b'\\' {
-        byte != 127
-    } else {
-        byte >= 32 && byte != b'"' && byte != b'\\'
-    }
+    byte >= 32 && byte != b'"' && byte != b'\\' && byte != 127
 }
 
 /// Where the bytes end, from a place on, that are the same between quotes.
