@@ -13,4 +13,5 @@ pub mod PieceLaws
 pub mod ReachLaws
 pub mod RowLaws
 pub mod TogetherLaws
+pub mod TokenLaws
 pub mod TokenOrders

@@ -1,7 +1,8 @@
 //! Tokens with their places: each leaf that has a class, a token for each of its lines.
-ghost use Rattle.std.specs.Prelude.{◌≡◌, ◌++◌, ◌≤◌, IfOk, OnOk, length, min, string_bytes};
+ghost use Rattle.std.specs.Prelude.{◌≡◌, ◌++◌, ◌≤◌, IfOk, OnOk, length, min, option_copied, string_bytes};
+ghost use Rattle.std.specs.List.{slice_get};
 ghost use Rattle.rast_document.specs.Lines.{line_end};
-ghost use Rattle.rast_answers.specs.Tokens.{colored_at, piece, token_of, tokens_of, tokens_of_leaf, tokens_of_option};
+ghost use Rattle.rast_answers.specs.Tokens.{colored_at, is_asked, piece, token_of, tokens_of, tokens_of_leaf, tokens_of_option};
 
 use crate::places::place_of;
 use crate::token_kind::{Class, TokenKind, class_of};
@@ -111,19 +112,34 @@ fn push_pieces(
     Ok(())
 }
 
+/// The element with this index, if one has it.
+fn element_at(elements: &[Element], index: usize) -> Option<&Element>
+    ensures { option_copied result ≡ slice_get elements.now index }
+{
+    elements.get(index)
+}
+
+/// Whether an element is a leaf that is in a range or touches it.
+fn is_asked(element: &Element, from: usize, to: usize) -> bool
+    ensures { result ≡ is_asked from to element.now }
+{
+    element.is_leaf() && element.start() as usize <= to && from <= element.end() as usize
+}
+
 /// The element with this index, if it is a leaf that has a class, and is in a range or touches it.
 fn colored_at(elements: &[Element], index: usize, from: usize, to: usize) -> Option<Colored>
     ensures { result ≡ colored_at from to elements.now index }
 {
-    let element = elements.get(index)?;
-    let class = class_of(elements, index)?;
-    let start = element.start();
-    let end = element.end();
-    if element.is_leaf() && start as usize <= to && from <= end as usize {
-        Some(Colored { start, end, class })
-    } else {
-        None
+    let element = element_at(elements, index)?;
+    if !is_asked(element, from, to) {
+        return None;
     }
+    let class = class_of(elements, index)?;
+    Some(Colored {
+        start: element.start(),
+        end: element.end(),
+        class,
+    })
 }
 
 /// Adds the tokens of a leaf, if there is one.
