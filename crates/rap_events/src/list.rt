@@ -4,6 +4,9 @@ ghost use Rattle.std.specs.Prelude.{◌≡◌, ◌<◌, IsTrue, is_ok, if◌then
 use rap_base::no_memory::NoMemory;
 use std::mem::replace;
 
+/// For how many items a list gets room that had none: short lists then grow once.
+const FIRST_ROOM: usize = 64;
+
 /// Adds an item at the end. If memory is refused, the list is as before.
 ///
 /// A list that must grow is moved out and back in, so nothing but a copy of it is lent: a caller can keep the list's
@@ -55,7 +58,7 @@ fn push_growing<T: Copy>(list: &mut Vec<T>, item: T, expected: usize) -> Result<
     Ok(())
 }
 
-// The list with room for one more item, and whether memory was left for that.
+// The list with room for one more item, and whether memory was left for that. An empty list gets room for more at once.
 #[cold]
 #[inline(never)]
 fn with_room<T: Copy>(list: Vec<T>) -> (Vec<T>, bool)
@@ -63,6 +66,7 @@ fn with_room<T: Copy>(list: Vec<T>) -> (Vec<T>, bool)
     ensures room { IsTrue result.1 → vec_len result.0 < vec_capacity result.0 }
 {
     let mut roomier = list;
-    let is_grown = roomier.reserve(1).is_ok();
+    let more = if roomier.is_empty() { FIRST_ROOM } else { 1 };
+    let is_grown = roomier.reserve(more).is_ok();
     (roomier, is_grown)
 }
