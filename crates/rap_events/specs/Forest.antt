@@ -100,3 +100,13 @@ one_tree (node (split f d) kind children) = false
 one_tree (leaf before kind width) = false
 one_tree (message before bytes) = false
 one_tree (split before dot) = false
+
+-- whether the last thing is a leaf of this kind that stands in so many nodes, each the last thing in the one around it
+abbrev pub ends_in : ℕ → ℕ → Forest → Bool
+ends_in kind n none = false
+ends_in kind zero (node before other children) = false
+ends_in kind (suc n) (node before other children) = ends_in kind n children
+ends_in kind zero (leaf before other width) = other == kind
+ends_in kind (suc n) (leaf before other width) = false
+ends_in kind n (message before bytes) = false
+ends_in kind n (split before ends_in_dot) = false

@@ -7,6 +7,7 @@ pub mod History
 pub mod Input
 pub mod Interval
 pub mod KindRecords
+pub mod LastSteps
 pub mod LastToken
 pub mod Machine
 pub mod Message

@@ -1,6 +1,8 @@
 -- The steps that an output holds.
-use Rattle.std.specs.Prelude.{◌≤◌, ⊤, ℕ, List, [], Option, Some, None, map, string_bytes, drop, length}
+use Rattle.std.specs.Prelude.{◌≡◌, ◌≤◌, ⊤, ℕ, List, [], Option, Some, None, map, string_bytes, drop, length}
 use Rattle.rap_events.specs.History.{in_turn, first_message}
+use Rattle.rap_events.specs.Forest.{used}
+use Rattle.rap_events.specs.Reading.{forest_of}
 use Rattle.rap_events.specs.StepValue.{StepValue, enter, exit, token, float_split, error}
 use Rattle.rap_events.specs.declared.event.Event.{Event}
 use Rattle.rap_events.specs.declared.event.Event.TheVariants as event
@@ -33,3 +35,8 @@ values_of (Some list) = values (drop list.first list.steps.items) (map string_by
 abbrev pub IsWithin : Option StepList → Type 0
 IsWithin None = ⊤
 IsWithin (Some list) = list.first ≤ length list.steps.items
+
+-- the number beside the steps is that of the tokens that their forest has
+abbrev pub IsCounted : Option StepList → Type 0
+IsCounted None = ⊤
+IsCounted (Some list) = list.tokens ≡ used (forest_of (values (drop list.first list.steps.items) (map string_bytes list.messages.items)))

@@ -54,9 +54,10 @@ pub(crate) enum Event {
 }
 
 impl Event {
+    ghost use Rattle.rap_events.specs.Forest.{used};
     ghost use Rattle.rap_events.specs.History.{history};
 
-    /// Makes the output of the events. Events and messages are moved into it.
+    /// Makes the output of the events, which take so many tokens. Events and messages are moved into it.
     ///
     /// The events are read backwards, from the last one: at the start of a node it is then known which nodes that were
     /// finished later begin before it. The steps are written over the events that were read.
@@ -64,17 +65,19 @@ impl Event {
         alloc: Global,
         events: Vec<Word>,
         messages: Vec<String>,
+        tokens: usize,
     ) -> Result<Output, NoMemory>
         requires sound { (run initial (history events.items (map string_bytes messages.items))).sound ≡ true }
         requires closed { (run initial (history events.items (map string_bytes messages.items))).below ≡ floor }
         requires splits { all_splits_placed (run initial (history events.items (map string_bytes messages.items))) ≡ true }
+        requires tokens { tokens ≡ used (run initial (history events.items (map string_bytes messages.items))).forest }
         ensures { IfOk result (λ output. output ≡ (run initial (history events.items (map string_bytes messages.items))).forest) }
     {
         let mut walk = Walk::new(alloc, events, messages);
         while walk.left > 0 {
             walk.back()?;
         }
-        let output = walk.output();
+        let output = walk.output(tokens);
         Ok(output)
     }
 }

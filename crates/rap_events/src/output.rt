@@ -1,11 +1,12 @@
 //! The output of a parse: the steps of its forest.
-ghost use Rattle.std.specs.Prelude.{◌≡◌, ◌≤◌, ◌<◌, ◌^◌, ℕ, List, ◌∷◌, length, drop, map, not, true, IfOk, string_bytes};
+ghost use Rattle.std.specs.Prelude.{◌≡◌, ◌==◌, ◌-◌, ◌≤◌, ◌<◌, ◌^◌, ℕ, List, ◌∷◌, length, drop, map, not, true, IfOk, string_bytes};
 ghost use Rattle.rap_events.specs.Output.{value_of, values};
 ghost use Rattle.rap_events.specs.Message.{is_at_message_or_end};
 ghost use Rattle.rap_events.specs.StepValue.{StepValue};
 ghost use Rattle.rap_events.specs.History.{first_message};
-ghost use Rattle.rap_events.specs.Forest.{none, node, flat, splits_placed};
+ghost use Rattle.rap_events.specs.Forest.{none, node, flat, splits_placed, used, ends_in};
 ghost use Rattle.rap_events.specs.Reading.{forest_of};
+ghost use Rattle.rap_events.specs.LastSteps.{left_behind};
 
 use crate::event::Event;
 use crate::word::Word;
@@ -14,12 +15,14 @@ use rap_base::syntax_kind::SyntaxKind;
 use std::alloc::Global;
 use std::marker::Model;
 
-/// The steps of an output: the words from `first` on. The messages are those of the errors, in the same order.
+/// The steps of an output: the words from `first` on. The messages are those of the errors, in the same order. They stand
+/// for so many tokens.
 #[derive(Drop)]
 pub(crate) struct StepList {
     steps: Vec<Word>,
     first: usize,
     messages: Vec<String>,
+    tokens: usize,
 }
 
 /// The output of a parse. Contracts see its forest.
@@ -38,11 +41,11 @@ impl Model for Output {
 
     ghost coded = { forest_code };
 
-    ghost use Rattle.rap_events.specs.Output.{values_of, IsWithin};
+    ghost use Rattle.rap_events.specs.Output.{values_of, IsWithin, IsCounted};
 
     ghost view = { λ output. forest_of (values_of output.list) };
 
-    ghost invariant = { λ output. IsWithin output.list × ((flat (forest_of (values_of output.list)) ≡ values_of output.list) × (splits_placed (forest_of (values_of output.list)) ≡ true)) };
+    ghost invariant = { λ output. (IsWithin output.list × IsCounted output.list) × ((flat (forest_of (values_of output.list)) ≡ values_of output.list) × (splits_placed (forest_of (values_of output.list)) ≡ true)) };
 }
 
 /// The output without steps.
@@ -58,11 +61,18 @@ impl Default for Output {
 }
 
 impl Output {
-    /// Makes the output of the steps from `first` on. The messages are those of the errors, in the same order.
-    pub(crate) fn of_steps(steps: Vec<Word>, first: usize, messages: Vec<String>) -> Output
+    /// Makes the output of the steps from `first` on, which stand for so many tokens. The messages are those of the
+    /// errors, in the same order.
+    pub(crate) fn of_steps(
+        steps: Vec<Word>,
+        first: usize,
+        messages: Vec<String>,
+        tokens: usize,
+    ) -> Output
         requires within { first ≤ length steps.items }
         requires steps { flat (forest_of (values (drop first steps.items) (map string_bytes messages.items))) ≡ values (drop first steps.items) (map string_bytes messages.items) }
         requires splits { splits_placed (forest_of (values (drop first steps.items) (map string_bytes messages.items))) ≡ true }
+        requires tokens { tokens ≡ used (forest_of (values (drop first steps.items) (map string_bytes messages.items))) }
         ensures { result ≡ forest_of (values (drop first steps.items) (map string_bytes messages.items)) }
     {
         Output {
@@ -70,6 +80,7 @@ impl Output {
                 steps,
                 first,
                 messages,
+                tokens,
             }),
         }
     }
@@ -79,6 +90,7 @@ impl Output {
         ensures within { result.first ≤ length result.steps.items }
         ensures list { values (drop result.first result.steps.items) (map string_bytes result.messages.items) ≡ flat self }
         ensures splits { splits_placed self ≡ true }
+        ensures tokens { result.tokens ≡ used self }
     {
         match self.list {
             Some(list) => list,
@@ -86,6 +98,7 @@ impl Output {
                 steps: Vec::new(alloc),
                 first: 0,
                 messages: Vec::new(alloc),
+                tokens: 0,
             },
         }
     }
@@ -108,6 +121,73 @@ impl Output {
             },
         }
     }
+
+    /// Returns how many input tokens the output stands for, without a walk through its steps: a leaf for as many as it
+    /// was taken from, and a float that is split for one.
+    pub fn used(&self) -> usize
+        ensures { result ≡ used self.now }
+    {
+        match &self.list {
+            Some(list) => list.tokens,
+            None => 0,
+        }
+    }
+
+    /// Returns whether the last thing in the output is a leaf of this kind that stands in so many nodes, each the last
+    /// thing in the one around it. Only as many of the last steps are looked at.
+    pub fn ends_in(&self, kind: SyntaxKind, depth: u8) -> bool
+        ensures { result ≡ ends_in kind depth self.now }
+    {
+        match &self.list {
+            Some(list) => words_end_in(
+                &list.steps[list.first..],
+                list.messages.as_slice(),
+                kind,
+                depth,
+            ),
+            None => false,
+        }
+    }
+}
+
+// The same of the forest that words and messages show.
+#[tactic(auto, using(crate::proofs::Endings::last_show))]
+fn words_end_in(words: &[Word], messages: &[String], kind: SyntaxKind, depth: u8) -> bool
+    requires { flat (forest_of (values words.now (map string_bytes messages.now))) ≡ values words.now (map string_bytes messages.now) }
+    ensures { result ≡ ends_in kind depth (forest_of (values words.now (map string_bytes messages.now))) }
+{
+    end_in(
+        last_steps(words, messages, usize::from(depth) + 1),
+        kind,
+        depth,
+    )
+}
+
+// The last steps that words show, at most so many. The messages of errors among them need not be their own.
+fn last_steps<'a>(words: &'a [Word], messages: &'a [String], count: usize) -> Steps<'a>
+    ensures { result ≡ values (drop (length words.now - count) words.now) (map string_bytes messages.now) }
+{
+    Steps {
+        rest: &words[words.len().saturating_sub(count)..],
+        messages,
+    }
+}
+
+// Whether one is left behind these steps of a count that begins at each leaf of the kind, with one more than so many,
+// of which each end of a node takes one, and all else takes all.
+fn end_in(last: Steps<'_>, kind: SyntaxKind, depth: u8) -> bool
+    ensures { result ≡ (left_behind kind depth 0 last.entry == 1) }
+{
+    let at_leaf = u16::from(depth) + 1;
+    let mut left = 0u16;
+    'steps: for step in last {
+        left = match step {
+            Step::Token { kind: other, .. } => { if other == kind { at_leaf } else { 0 } }
+            Step::Exit => left.saturating_sub(1),
+            _ => 0,
+        };
+    }
+    left == 1
 }
 
 /// Makes the output of one node of this kind, whose children are the forest of `output`.
@@ -120,10 +200,11 @@ pub fn wrap_in_node(alloc: Global, output: Output, kind: SyntaxKind) -> Result<O
         mut steps,
         first,
         messages,
+        tokens,
     } = output.into_list(alloc);
     steps.insert(first, Word::of_event(Event::Enter { kind }))?;
     steps.push(Word::of_event(Event::Exit))?;
-    Ok(Output::of_steps(steps, first, messages))
+    Ok(Output::of_steps(steps, first, messages, tokens))
 }
 
 /// A step of an output: `n_input_tokens` tokens as one leaf of a kind, a float of a field access that is split, the

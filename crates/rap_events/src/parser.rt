@@ -274,7 +274,7 @@ impl<'t> Parser<'t> {
     }
 
     /// Takes a token of this kind if one comes next; otherwise reports that it is missing. Returns whether it took one.
-    #[inline(never)]
+    #[inline(always)]
     pub fn expect(&mut self, kind: SyntaxKind) -> Result<bool, NoMemory>
         requires { kind ≢ EOF }
         ensures state { IfOk result (λ taken. Expected (state self.old) (state self.new) kind taken) }
@@ -283,10 +283,29 @@ impl<'t> Parser<'t> {
         if self.eat(kind)? {
             return Ok(true);
         }
+        self.report_missing(kind)?;
+        Ok(false)
+    }
+
+    // Reports that a token of this kind is missing. The call is not inlined: where a token is expected, it mostly comes.
+    #[cold]
+    #[inline(never)]
+    fn report_missing(&mut self, kind: SyntaxKind) -> Result<(), NoMemory>
+        ensures state { OnOk result (Reported (state self.old) (state self.new) (expected kind)) }
+        ensures recorded { OnOk result (calls self.new ≡ calls self.old ++ call.error (expected kind) ∷ []) }
+    {
+        let message = self.missing(kind)?;
+        self.report(message)?;
+        Ok(())
+    }
+
+    // The message that a token of this kind is missing.
+    fn missing(&self, kind: SyntaxKind) -> Result<String, NoMemory>
+        ensures { IfOk result (λ message. string_bytes message ≡ expected kind) }
+    {
         let mut message = String::from_str(self.alloc, "expected ")?;
         message.push_str(kind.name())?;
-        self.report(message)?;
-        Ok(false)
+        Ok(message)
     }
 
     /// Reports a message before the next token.
@@ -475,8 +494,9 @@ impl<'t> Parser<'t> {
         ensures splits { IfOk result (λ output. splits_placed output ≡ true) }
         ensures fit { IfOk result (λ output. message_count output ≡ 0 → ∥ AllFitIn output ∥₁) }
     {
+        let tokens = self.pos;
         let messages = self.messages;
-        let output = Event::process(alloc, self.events, messages)?;
+        let output = Event::process(alloc, self.events, messages, tokens)?;
         Ok(output)
     }
 
@@ -493,12 +513,12 @@ impl<'t> Parser<'t> {
     }
 }
 
-// For how many events room is made at first: most texts have three to three and a half for each token.
+// For how many events room is made at first: most texts have three and a half to four and a half for each token.
 #[inline(always)]
 fn expected_events(tokens: usize) -> usize
-    ensures { tokens * 7 < 2 ^ 64 → result ≡ tokens * 7 / 2 }
+    ensures { tokens * 9 < 2 ^ 64 → result ≡ tokens * 9 / 2 }
 {
-    tokens.saturating_mul(7) / 2
+    tokens.saturating_mul(9) / 2
 }
 
 /// The number of events of a float that is split.

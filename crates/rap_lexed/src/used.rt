@@ -5,23 +5,14 @@ ghost use Rattle.rap_events.specs.Forest.{used};
 ghost use Rattle.rap_lexed.specs.Used.{end_after};
 
 use crate::lexed_str::LexedStr;
-use rap_events::output::{Output, Step};
+use rap_events::output::Output;
 
 /// Returns the number of tokens that an output covers.
-#[tactic(auto, using(crate::proofs::UsedTokens::tokens_in_flat))]
 pub fn used_tokens(output: &Output) -> usize
     requires { used output.now ≤ max_tokens }
     ensures { result ≡ used output.now }
 {
-    let mut count = 0usize;
-    'steps: for step in output.iter() {
-        count += match step {
-            Step::Token { n_input_tokens, .. } => usize::from(n_input_tokens),
-            Step::FloatSplit { .. } => 1,
-            _ => 0,
-        };
-    }
-    count
+    output.used()
 }
 
 /// Returns the end, in bytes, of the `count`-th token that is no trivia: 0 if `count` is 0, and the length of the text

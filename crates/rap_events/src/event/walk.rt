@@ -1,6 +1,6 @@
 //! Reading events backwards and writing the steps in their place.
 ghost use Rattle.std.specs.Prelude.{◌≡◌, ◌≤◌, ◌<◌, ◌+◌, OnOk, length, take, reverse, true, [], ◌∷◌};
-ghost use Rattle.rap_events.specs.Forest.{flat, splits_placed};
+ghost use Rattle.rap_events.specs.Forest.{flat, splits_placed, used};
 ghost use Rattle.rap_events.specs.Reading.{forest_of};
 ghost use Rattle.rap_events.specs.Interval.{without_exit};
 ghost use Rattle.rap_events.specs.Pending.{inners, slot, pasts};
@@ -239,12 +239,13 @@ impl Walk {
         Ok(())
     }
 
-    /// The output that the steps and all messages make.
-    pub(super) fn output(self) -> Output
+    /// The output that the steps and all messages make. They stand for so many tokens.
+    pub(super) fn output(self, tokens: usize) -> Output
         requires steps { flat (forest_of (walk_with (texts self) self).steps) ≡ (walk_with (texts self) self).steps }
         requires splits { splits_placed (forest_of (walk_with (texts self) self).steps) ≡ true }
+        requires tokens { tokens ≡ used (forest_of (walk_with (texts self) self).steps) }
         ensures { result ≡ forest_of (walk_with (texts self) self).steps }
     {
-        Output::of_steps(self.events, self.first, self.messages)
+        Output::of_steps(self.events, self.first, self.messages, tokens)
     }
 }

@@ -1,8 +1,8 @@
-use Rattle.std.proofs.Common.{◌≡◌, ℕ, List, [], ◌∷◌, ◌++◌, drop, map, refl, ap, sym, ◌∙◌}
+use Rattle.std.proofs.Common.{◌≡◌, ℕ, List, [], ◌∷◌, ◌++◌, drop, map, refl, ap, sym, ◌∙◌, arith}
 use Rattle.std.specs.Prelude.{string_bytes}
 use Rattle.std.specs.List.{insert}
 use Rattle.rap_events.specs.StepValue.{StepValue, enter, exit}
-use Rattle.rap_events.specs.Forest.{Forest, none, node, flat}
+use Rattle.rap_events.specs.Forest.{Forest, none, node, flat, used}
 use Rattle.rap_events.specs.Reading.{forest_of}
 use Rattle.rap_events.specs.Output.{values}
 use Rattle.rap_events.specs.declared.event.Event.{Event}
@@ -49,3 +49,15 @@ returns c =
     values_wrap c.args.kind list.first list.steps.items c.push.new.self.items ms c.into_list-steps.ensures.within (around c.args.kind list.first list.steps.items _ _ _ _ c.of_event.ensures c.of_event-2.ensures c.in_ok-insert.ensures.items c.in_ok-push.ensures.items)
     ∙ ap (λ (ss : List StepValue). enter c.args.kind ∷ (ss ++ exit ∷ [])) c.into_list-steps.ensures.list ∙ sym w.steps in
     c.of_steps.ensures ∙ (ap forest_of after ∙ forest_of-flat f w.placed)
+
+pub of_steps-requires-clause-tokens : goal.of_steps-requires-clause-tokens
+of_steps-requires-clause-tokens c =
+    let f : Forest = node none c.args.kind c.args.output in
+    let w = wrapped c.args.kind c.args.output c.into_list-steps.ensures.splits in
+    let list = c.into_list-steps.result in
+    let ms : List (List ℕ) = map string_bytes list.messages.items in
+    let after : values (drop list.first c.push.new.self.items) ms ≡ flat f =
+    values_wrap c.args.kind list.first list.steps.items c.push.new.self.items ms c.into_list-steps.ensures.within (around c.args.kind list.first list.steps.items _ _ _ _ c.of_event.ensures c.of_event-2.ensures c.in_ok-insert.ensures.items c.in_ok-push.ensures.items)
+    ∙ ap (λ (ss : List StepValue). enter c.args.kind ∷ (ss ++ exit ∷ [])) c.into_list-steps.ensures.list ∙ sym w.steps in
+    let counted : used f ≡ used (forest_of (values (drop list.first c.push.new.self.items) ms)) = ap used (sym (ap forest_of after ∙ forest_of-flat f w.placed)) in
+    omega (arith, c.into_list-steps.ensures.tokens, counted)

@@ -1,5 +1,5 @@
 use mathlib.Core.Logic.{∥∥₁_map}
-use Rattle.std.proofs.Common.{◌≡◌, refl, length-drop, ap, ◌∙◌, arith}
+use Rattle.std.proofs.Common.{◌≡◌, refl, sym, length-drop, ap, ◌∙◌, arith}
 use Rattle.rap_events.specs.Forest.{used}
 use Rattle.rap_events.specs.Machine.{run, initial}
 use Rattle.rap_events.specs.State.{state, calls}
@@ -14,6 +14,12 @@ use Rattle.rap_events.proofs.parser.Parser.process.Goals as goal
 pub process-requires-clause-closed : goal.process-requires-clause-closed
 unfolding state calls
 process-requires-clause-closed c = c.requires
+
+pub process-requires-clause-tokens : goal.process-requires-clause-tokens
+unfolding state calls
+process-requires-clause-tokens c =
+    let s = c.args.self in
+    sym (used_all (run initial (calls s)) s.pos c.requires s.place)
 
 pub returns-clause-forest : goal.returns-clause-forest
 unfolding state calls
