@@ -149,7 +149,8 @@ fn since_open_with(since: usize, more: usize) -> usize
     (since + more).min(5)
 }
 
-/// Takes the common tokens that stand next, as many as there are. Returns where they end.
+/// Takes the common tokens that stand next, as many as there are that begin before the last byte of the text: so each
+/// has a byte after it to look at. Returns where they end.
 #[inline(always)]
 fn take_common(
     edition: Edition,
@@ -168,7 +169,7 @@ fn take_common(
     ensures grows { OnOk result (length kind.old.items ≤ length kind.new.items) }
 {
     let mut end = from;
-    'common: while end < text.len() {
+    'common: while 1 < text.len() - end {
         let Some(token) = quick_token(edition, &text[end..]) else {
             break;
         };

@@ -1,6 +1,6 @@
 -- The common tokens of a text by its bytes.
 use Rattle.std.proofs.Common.{◌≡◌, ◌≢◌, ◌<◌, ◌≤◌, ◌-◌, ℕ, zero, suc, Bool, true, false, ◌&&◌, ◌||◌, ◌==◌, not, nat_lt, nat_le, List, [], ◌∷◌, ◌++◌, Option, Some, None, MatchOption, IfSome, if◌then◌else◌, length, drop, get_or, slice_range, chars, encode_utf8_all, IsUtf8, IsCharBoundary, refl, ap, sym, ◌∙◌, subst, inl, inr, arith, ltb-true, ltb-false, length-drop}
-use Rattle.std.proofs.lemmas.Bool.{and_parts, or_parts, lt-ltb, cond-true, cond-false, true≢false}
+use Rattle.std.proofs.lemmas.Bool.{eq-eqb, and_parts, or_parts, lt-ltb, cond-true, cond-false, true≢false}
 use Rattle.std.proofs.lemmas.Bool.Decides.{eqb_tells}
 use Rattle.std.proofs.lemmas.Str.{chars-nil, chars_past_char, encode_ascii, encodes-chars, IsUtf8-drop, IsUtf8-past_char, IsCharBoundary-at_seam}
 use Rattle.std.specs.Str.{byte}
@@ -265,6 +265,33 @@ lone_common edition (b ∷ t) kind u some h k =
       border = IsCharBoundary-at_seam (b ∷ t) (b ∷ []) t seam v;
       common = uncommon_other b t w s ∙ ap not h;
     }
+
+-- white space before an ASCII byte that is none
+white_alone : (edition : Edition) (b d : ℕ) (t : List ℕ) → IsUtf8 (b ∷ d ∷ t) → is_ascii_in White b ≡ true → (is_ascii_in White d || nat_lt 127 d) ≡ false → IsCommon edition (b ∷ d ∷ t) WHITESPACE 1
+white_alone edition b d t u w h =
+    let parts = or_parts (is_ascii_in White d) (nat_lt 127 d) h in
+    let run : length (run_of (is_ascii_in White) (b ∷ d ∷ t)) ≡ 1 = ap (λ x. length (if x then b ∷ run_of (is_ascii_in White) (d ∷ t) else [])) w ∙ ap (λ x. length (b ∷ (if x then d ∷ run_of (is_ascii_in White) t else []))) parts.0 in
+    white_common edition (b ∷ d ∷ t) 1 u w (sym run) parts.1
+
+-- a byte that is a common token before another one, by its class
+pub alone_common : (edition : Edition) (text : List ℕ) (class last : ℕ) → IsUtf8 text → 1 < length text
+    → nat_lt class 151 ≡ is_lone (get_or text 0 0) → (class < 151 → class ≡ single_kind (get_or text 0 0)) → (class == 151) ≡ is_ascii_in White (get_or text 0 0)
+    → last ≡ (if is_ascii_in White (get_or text 1 0) || nat_lt 127 (get_or text 1 0) then 150 else 151) → class ≤ last → IsCommon edition text class 1
+alone_common edition [] class last u some lone kind white ends test = absurd (omega (arith, some))
+alone_common edition (b ∷ []) class last u some lone kind white ends test = absurd (omega (arith, some))
+alone_common edition (b ∷ d ∷ t) class last u some lone kind white ends test =
+    (elim (nat_lt class 151) as (λ z. nat_lt class 151 ≡ z → IsCommon edition (b ∷ d ∷ t) class 1) [
+      | true ↦ λ e. lone_common edition (b ∷ d ∷ t) class u (omega (arith, some)) (sym lone ∙ e) (kind (ltb-true class 151 e))
+      | false ↦ λ e.
+          let joins = is_ascii_in White d || nat_lt 127 d in
+          let least = ltb-false class 151 e in
+          let none : joins ≡ false = (elim joins as (λ z. joins ≡ z → z ≡ false) [
+            | true ↦ λ j. absurd (omega (arith, test, least, ends ∙ ap (λ x. if x then 150 else 151) j))
+            | false ↦ λ j. refl
+          ]) refl in
+          let is : class ≡ 151 = omega (arith, test, least, ends ∙ ap (λ x. if x then 150 else 151) none) in
+          subst (λ k. IsCommon edition (b ∷ d ∷ t) k 1) (sym is) (white_alone edition b d t u (sym white ∙ eq-eqb class 151 is) none)
+    ]) refl
 
 pub other_uncommon : (text : List ℕ) → is_ascii_in White (get_or text 0 0) ≡ false → is_ascii_in IdentStart (get_or text 0 0) ≡ false → is_lone (get_or text 0 0) ≡ false → is_uncommon text ≡ true
 other_uncommon [] w s h = refl

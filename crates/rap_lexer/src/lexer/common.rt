@@ -1,12 +1,11 @@
 //! Common tokens: characters that are tokens of their own, white space, and words.
-ghost use Rattle.std.specs.Prelude.{◌≡◌, ◌≢◌, ◌<◌, ◌==◌, IfSome, MatchOption, nat_lt, false, true, length, chars, drop, get_or, slice_range, IsCharBoundary};
+ghost use Rattle.std.specs.Prelude.{◌≡◌, ◌≢◌, ◌<◌, ◌==◌, ◌||◌, if◌then◌else◌, IfSome, MatchOption, nat_lt, false, true, length, chars, drop, get_or, slice_range, IsCharBoundary};
 ghost use Rattle.rap_base.specs.TokenKind.{STRING};
 ghost use Rattle.rap_base.specs.TokenTests.{IsTokenKind};
 ghost use Rattle.rap_lexer.specs.Class.{is_ascii_in};
 ghost use Rattle.rap_lexer.specs.Common.{is_contextual, is_lone, ends_no_word, is_uncommon, IsCommon};
 ghost use Rattle.rap_lexer.specs.First.{First, single_kind};
 ghost use Rattle.rap_lexer.specs.Lexeme.{plain};
-ghost use Rattle.rap_lexer.specs.Run.{run_of};
 ghost use Rattle.rap_base.specs.declared.edition.Edition.{Edition};
 ghost use Rattle.rap_lexer.specs.declared.lexer.run.Class.TheVariants.{White, IdentStart, IdentContinue};
 
@@ -42,6 +41,49 @@ pub fn common_token(edition: Edition, text: &str) -> Option<CommonToken>
     ensures common { MatchOption result (is_uncommon text.now ≡ true) (λ _. is_uncommon text.now ≡ false) }
     ensures contextual { IfSome result (λ r. r.is_contextual ≡ is_contextual r.kind (slice_range text.now 0 r.len)) }
 {
+    match byte_token(text) {
+        Some(token) => Some(token),
+        None => token_of_class(edition, text),
+    }
+}
+
+/// The first byte, if it is a common token and the byte after it tells so: a character that is a token of its own, or
+/// white space that does not go on.
+///
+/// Both are one case, which seldom changes to another from token to token: processors guess it better than whether a
+/// token is white space.
+#[inline(always)]
+fn byte_token(text: &str) -> Option<CommonToken>
+    ensures token { IfSome result (λ r. (edition : Edition) → IsCommon edition text.now r.kind r.len) }
+    ensures contextual { IfSome result (λ r. r.is_contextual ≡ is_contextual r.kind (slice_range text.now 0 r.len)) }
+{
+    let bytes = text.as_bytes();
+    if bytes.len() < 2 {
+        return None;
+    }
+    let class = class_of(bytes[0]);
+    if class > last_alone(bytes[1]) {
+        return None;
+    }
+    Some(CommonToken {
+        kind: SyntaxKind::from_u16(u16::from(class)),
+        len: 1,
+        is_contextual: false,
+    })
+}
+
+/// The common token that the text begins with, by the class of its first byte.
+#[inline(always)]
+fn token_of_class(edition: Edition, text: &str) -> Option<CommonToken>
+    requires { 0 < length text.now }
+    ensures token { IfSome result (λ r. First edition (chars text.now) (plain r.kind) (chars (drop r.len text.now))) }
+    ensures kind { IfSome result (λ r. IsTokenKind r.kind) }
+    ensures no_string { IfSome result (λ r. r.kind ≢ STRING) }
+    ensures positive { IfSome result (λ r. 0 < r.len) }
+    ensures border { IfSome result (λ r. IsCharBoundary text.now r.len) }
+    ensures common { MatchOption result (is_uncommon text.now ≡ true) (λ _. is_uncommon text.now ≡ false) }
+    ensures contextual { IfSome result (λ r. r.is_contextual ≡ is_contextual r.kind (slice_range text.now 0 r.len)) }
+{
     let class = class_of(text.as_bytes()[0]);
     if class < WHITE {
         Some(CommonToken {
@@ -66,7 +108,7 @@ fn white_token(text: &str) -> Option<CommonToken>
     ensures contextual { IfSome result (λ r. r.is_contextual ≡ is_contextual r.kind (slice_range text.now 0 r.len)) }
 {
     let bytes = text.as_bytes();
-    let n = white_len(bytes);
+    let n = white_run(bytes);
     if n < bytes.len() && PAST_ASCII == class_of(bytes[n]) {
         None
     } else {
@@ -75,19 +117,6 @@ fn white_token(text: &str) -> Option<CommonToken>
             len: n,
             is_contextual: false,
         })
-    }
-}
-
-/// How many bytes of ASCII white space stand first. Most often it is one.
-#[inline(always)]
-fn white_len(bytes: &[u8]) -> usize
-    requires { is_ascii_in White (get_or bytes.now 0 0) ≡ true }
-    ensures { result ≡ length (run_of (is_ascii_in White) bytes.now) }
-{
-    if 1 < bytes.len() && class_of(bytes[1]) != WHITE {
-        1
-    } else {
-        white_run(bytes)
     }
 }
 
@@ -121,26 +150,36 @@ pub fn class_of(b: u8) -> u8
     ensures word { (result == WORD) ≡ is_ascii_in IdentStart b }
     ensures end { nat_lt OTHER result ≡ ends_no_word b }
     ensures past { (result == PAST_ASCII) ≡ nat_lt 127 b }
+    ensures few { result < WHITE → result < 29 }
 {
     CLASSES[usize::from(b)]
 }
 
+/// The last class of a byte that is a token of its own before this byte: before white space and characters past ASCII,
+/// white space is none.
+#[inline(always)]
+fn last_alone(b: u8) -> u8
+    ensures { result ≡ (if is_ascii_in White b || nat_lt 127 b then 150 else WHITE) }
+{
+    LAST_ALONE[usize::from(b)]
+}
+
 // The class of a character that is a token of its own is the number of its kind, from 1 to 28. The others:
 
-/// White space.
-pub const WHITE: u8 = 29;
+/// White space: the number of its kind.
+pub const WHITE: u8 = 151;
 
 /// The first character of a word.
-pub const WORD: u8 = 30;
+pub const WORD: u8 = 152;
 
 /// Any other ASCII character.
-pub const OTHER: u8 = 31;
+pub const OTHER: u8 = 153;
 
 /// A quote or a `#`, which make the word before them a prefix.
-pub const QUOTE: u8 = 32;
+pub const QUOTE: u8 = 154;
 
 /// Part of a character past ASCII.
-pub const PAST_ASCII: u8 = 33;
+pub const PAST_ASCII: u8 = 155;
 
 // Their letters in the table, which has a row for each sixteen bytes.
 
@@ -172,4 +211,27 @@ static CLASSES: [u8; 256] = [
     H,  H,  H,  H,  H,  H,  H,  H,  H,  H,  H,  H,  H,  H,  H,  H, // 0xd0
     H,  H,  H,  H,  H,  H,  H,  H,  H,  H,  H,  H,  H,  H,  H,  H, // 0xe0
     H,  H,  H,  H,  H,  H,  H,  H,  H,  H,  H,  H,  H,  H,  H,  H, // 0xf0
+];
+
+/// The class before white space: no byte has it.
+const B: u8 = 150;
+
+#[rattlefmt::skip]
+static LAST_ALONE: [u8; 256] = [
+    W,  W,  W,  W,  W,  W,  W,  W,  W,  B,  B,  B,  B,  B,  W,  W, // 0x00
+    W,  W,  W,  W,  W,  W,  W,  W,  W,  W,  W,  W,  W,  W,  W,  W, // 0x10
+    B,  W,  W,  W,  W,  W,  W,  W,  W,  W,  W,  W,  W,  W,  W,  W, // 0x20
+    W,  W,  W,  W,  W,  W,  W,  W,  W,  W,  W,  W,  W,  W,  W,  W, // 0x30
+    W,  W,  W,  W,  W,  W,  W,  W,  W,  W,  W,  W,  W,  W,  W,  W, // 0x40
+    W,  W,  W,  W,  W,  W,  W,  W,  W,  W,  W,  W,  W,  W,  W,  W, // 0x50
+    W,  W,  W,  W,  W,  W,  W,  W,  W,  W,  W,  W,  W,  W,  W,  W, // 0x60
+    W,  W,  W,  W,  W,  W,  W,  W,  W,  W,  W,  W,  W,  W,  W,  W, // 0x70
+    B,  B,  B,  B,  B,  B,  B,  B,  B,  B,  B,  B,  B,  B,  B,  B, // 0x80
+    B,  B,  B,  B,  B,  B,  B,  B,  B,  B,  B,  B,  B,  B,  B,  B, // 0x90
+    B,  B,  B,  B,  B,  B,  B,  B,  B,  B,  B,  B,  B,  B,  B,  B, // 0xa0
+    B,  B,  B,  B,  B,  B,  B,  B,  B,  B,  B,  B,  B,  B,  B,  B, // 0xb0
+    B,  B,  B,  B,  B,  B,  B,  B,  B,  B,  B,  B,  B,  B,  B,  B, // 0xc0
+    B,  B,  B,  B,  B,  B,  B,  B,  B,  B,  B,  B,  B,  B,  B,  B, // 0xd0
+    B,  B,  B,  B,  B,  B,  B,  B,  B,  B,  B,  B,  B,  B,  B,  B, // 0xe0
+    B,  B,  B,  B,  B,  B,  B,  B,  B,  B,  B,  B,  B,  B,  B,  B, // 0xf0
 ];

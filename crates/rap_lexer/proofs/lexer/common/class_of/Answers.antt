@@ -1,4 +1,4 @@
-use Rattle.rap_lexer.proofs.CommonClasses.{lone_row, kind_row, white_row, word_row, end_row, past_row}
+use Rattle.rap_lexer.proofs.CommonClasses.{lone_row, kind_row, white_row, word_row, end_row, past_row, few_row}
 use Rattle.rap_lexer.proofs.lexer.common.class_of.Goals as goal
 
 pub returns-clause-lone : goal.returns-clause-lone
@@ -18,3 +18,6 @@ returns-clause-end c = rw c.from.ensures (end_row c.args.b c.ranges.b.fits)
 
 pub returns-clause-past : goal.returns-clause-past
 returns-clause-past c = rw c.from.ensures (past_row c.args.b c.ranges.b.fits)
+
+pub returns-clause-few : goal.returns-clause-few
+returns-clause-few c = rw c.from.ensures (few_row c.args.b c.ranges.b.fits)
