@@ -50,6 +50,7 @@ pub fn expr_bp<G: Grammar>(
 }
 
 /// An expression of at least the power `bp`, from the newest marker on.
+#[inline(always)]
 #[tactic(auto, using(crate::proofs::Missing::begins_none), unfolding(rap_grammar_scripts::specs::Expressions::expr_from))]
 pub fn expr_from<G: Grammar>(
     p: &mut Parser<'_>,
@@ -103,6 +104,7 @@ fn missing_expr(p: &mut Parser<'_>, m: Marker) -> Result<(), NoMemory>
 }
 
 /// An expression without an operator between two expressions, as `-a` and `a.b()`.
+#[inline(always)]
 #[tactic(auto, unfolding(rap_grammar_scripts::specs::Expressions::lhs))]
 fn lhs<G: Grammar>(
     p: &mut Parser<'_>,

@@ -18,6 +18,7 @@ pub fn is_outer_attr_first(kind: SyntaxKind) -> bool
 
 /// Whether an expression may begin with a token of this kind: a `.` may be the first of `..`, and a `#` that of an
 /// attribute.
+#[inline(always)]
 pub fn is_expr_first(kind: SyntaxKind) -> bool
     ensures first { result ≡ is_expr_first kind }
     ensures more { IsTrue result → kind ≢ EOF }
@@ -41,6 +42,7 @@ pub fn is_generic_arg_first(kind: SyntaxKind) -> bool
 }
 
 /// Whether a path may begin with a token of this kind: a `:` may be the first of `::`.
+#[inline(always)]
 pub fn is_path_first(kind: SyntaxKind) -> bool
     ensures { result ≡ is_path_first kind }
 {
@@ -121,6 +123,7 @@ pub fn is_fn_ptr_first(kind: SyntaxKind) -> bool
 }
 
 /// Whether a kind is a literal.
+#[inline(always)]
 pub fn is_literal_first(kind: SyntaxKind) -> bool
     ensures { result ≡ is_literal_first kind }
 {
@@ -139,6 +142,7 @@ pub fn is_literal_first(kind: SyntaxKind) -> bool
 }
 
 /// Whether an expression without an operator before it may begin with a token of this kind.
+#[inline(always)]
 fn is_atom_expr_first(kind: SyntaxKind) -> bool
     ensures { result ≡ is_atom_expr_first kind }
 {

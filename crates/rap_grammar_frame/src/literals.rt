@@ -16,7 +16,7 @@ use rap_base::syntax_kind::SyntaxKind;
 use rap_events::parser::{CompletedMarker, Parser};
 
 /// A literal, as `1` and `true`, if one comes next.
-#[inline(never)]
+#[inline(always)]
 #[tactic(auto, unfolding(rap_grammar_scripts::specs::Literals::literal))]
 pub fn literal(p: &mut Parser<'_>) -> Result<Option<CompletedMarker>, NoMemory>
     ensures made { IfOk result (Optional LITERAL atom_room (state p.old) (state p.new)) }

@@ -30,6 +30,7 @@ pub fn starts_builtin(p: &Parser<'_>) -> bool
 }
 
 /// Whether a kind is a name in a path.
+#[inline(always)]
 pub fn is_path_name(kind: SyntaxKind) -> bool
     ensures { result ≡ is_path_name kind }
 {
@@ -40,6 +41,7 @@ pub fn is_path_name(kind: SyntaxKind) -> bool
 }
 
 /// A name in a path, as `a` or `self`.
+#[inline(always)]
 #[tactic(auto, unfolding(rap_grammar_scripts::specs::Names::name_ref_mod_path))]
 pub fn name_ref_mod_path(p: &mut Parser<'_>) -> Result<(), NoMemory>
     ensures grew { OnOk result (Grew (state p.old) (state p.new) recovery_events) }

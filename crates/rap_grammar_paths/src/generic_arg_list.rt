@@ -45,6 +45,7 @@ impl Element for GenericArg {
 }
 
 /// Arguments in angle brackets, as `<a, 'b, 1>`, whose marker is open.
+#[inline(never)]
 #[tactic(auto, unfolding(rap_grammar_scripts::specs::GenericArgList::generic_arg_list, rap_events::specs::Machine::top))]
 pub(crate) fn generic_arg_list<G: Grammar>(
     p: &mut Parser<'_>,
@@ -72,6 +73,7 @@ pub(crate) fn generic_arg_list<G: Grammar>(
 }
 
 /// Whether the arguments after a name in an expression come next.
+#[inline(always)]
 fn starts_expr_args(p: &Parser<'_>) -> bool
     ensures { result ≡ starts_expr_args (state p.now).rest }
 {
@@ -79,6 +81,7 @@ fn starts_expr_args(p: &Parser<'_>) -> bool
 }
 
 /// The arguments after a name in an expression, as `::<a>`, if there are.
+#[inline(always)]
 #[tactic(auto, unfolding(rap_grammar_scripts::specs::GenericArgList::opt_generic_arg_list_expr))]
 pub fn opt_generic_arg_list_expr<G: Grammar>(p: &mut Parser<'_>, g: &G) -> Result<(), NoMemory>
     requires within { Within G.valid G.left g.now (state p.old) }

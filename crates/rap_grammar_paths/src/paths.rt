@@ -31,6 +31,7 @@ use rap_grammar_scripts::arguments::Mode;
 use rap_grammar_scripts::rule::Rule;
 
 /// A path in an import, as `a::b`, and where an item may be a macro call.
+#[inline(never)]
 #[tactic(auto, unfolding(rap_grammar_scripts::specs::Paths::use_path))]
 pub fn use_path<G: Grammar>(p: &mut Parser<'_>, g: &G) -> Result<(), NoMemory>
     requires within { Within G.valid G.left g.now (state p.old) }
@@ -43,6 +44,7 @@ pub fn use_path<G: Grammar>(p: &mut Parser<'_>, g: &G) -> Result<(), NoMemory>
 }
 
 /// A path in a restriction, as the `a::b` of `pub(in a::b)`.
+#[inline(never)]
 #[tactic(auto, unfolding(rap_grammar_scripts::specs::Paths::vis_path))]
 pub fn vis_path<G: Grammar>(p: &mut Parser<'_>, g: &G) -> Result<(), NoMemory>
     requires within { Within G.valid G.left g.now (state p.old) }
@@ -54,6 +56,7 @@ pub fn vis_path<G: Grammar>(p: &mut Parser<'_>, g: &G) -> Result<(), NoMemory>
 }
 
 /// A path in an attribute, as the `a::b` of `#[a::b]`.
+#[inline(never)]
 #[tactic(auto, unfolding(rap_grammar_scripts::specs::Paths::attr_path))]
 pub fn attr_path<G: Grammar>(p: &mut Parser<'_>, g: &G) -> Result<(), NoMemory>
     requires within { Within G.valid G.left g.now (state p.old) }
@@ -66,6 +69,7 @@ pub fn attr_path<G: Grammar>(p: &mut Parser<'_>, g: &G) -> Result<(), NoMemory>
 }
 
 /// A path in a type, as `a::b<c>`.
+#[inline(never)]
 #[tactic(auto, unfolding(rap_grammar_scripts::specs::Paths::type_path))]
 pub fn type_path<G: Grammar>(p: &mut Parser<'_>, g: &G) -> Result<(), NoMemory>
     requires within { Within G.valid G.left g.now (state p.old) }
@@ -78,6 +82,7 @@ pub fn type_path<G: Grammar>(p: &mut Parser<'_>, g: &G) -> Result<(), NoMemory>
 }
 
 /// A path in a type, where one may be missing, as after the `sym` of inline assembly or at the front of an input.
+#[inline(never)]
 #[tactic(auto, unfolding(rap_grammar_scripts::specs::Paths::type_path))]
 pub fn sym_path<G: Grammar>(p: &mut Parser<'_>, g: &G) -> Result<(), NoMemory>
     requires within { Within G.valid G.left g.now (state p.old) }
@@ -89,6 +94,7 @@ pub fn sym_path<G: Grammar>(p: &mut Parser<'_>, g: &G) -> Result<(), NoMemory>
 }
 
 /// A path in an expression, as `a::b::<c>` and `::a`.
+#[inline(always)]
 #[tactic(auto, unfolding(rap_grammar_scripts::specs::Paths::expr_path))]
 pub fn expr_path<G: Grammar>(p: &mut Parser<'_>, g: &G) -> Result<(), NoMemory>
     requires within { Within G.valid G.left g.now (state p.old) }
@@ -101,6 +107,7 @@ pub fn expr_path<G: Grammar>(p: &mut Parser<'_>, g: &G) -> Result<(), NoMemory>
 }
 
 /// The segments after a first path in a type, as `::b<c>` after `a`.
+#[inline(never)]
 #[tactic(auto, unfolding(rap_grammar_scripts::specs::Paths::type_path_for_qualifier))]
 pub fn type_path_for_qualifier<G: Grammar>(
     p: &mut Parser<'_>,
@@ -120,6 +127,7 @@ pub fn type_path_for_qualifier<G: Grammar>(
 }
 
 /// A path. None, and a message, where no name follows and nothing was taken.
+#[inline(always)]
 #[tactic(auto, unfolding(rap_grammar_scripts::specs::Paths::path))]
 fn path<G: Grammar>(
     p: &mut Parser<'_>,
@@ -145,6 +153,7 @@ fn path<G: Grammar>(
 }
 
 /// Whether another segment comes next: of what is imported, no list and no star, as in `a::{b, c}` and `a::*`.
+#[inline(always)]
 fn has_segment(p: &Parser<'_>, mode: Mode) -> bool
     ensures segment { result ≡ script.has_segment mode (state p.now).rest }
     ensures here { result ≡ true → is_at COLON2 (state p.now).rest ≡ true }
@@ -156,6 +165,7 @@ fn has_segment(p: &Parser<'_>, mode: Mode) -> bool
 }
 
 /// The segments after a first path, as `::b::c` after `a`.
+#[inline(always)]
 #[tactic(auto, using(rap_grammar_frame::proofs::Loops::turns), unfolding(rap_grammar_scripts::specs::Paths::path_for_qualifier))]
 fn path_for_qualifier<G: Grammar>(
     p: &mut Parser<'_>,
@@ -182,6 +192,7 @@ fn path_for_qualifier<G: Grammar>(
 
 /// A segment of a path, as `a`, and `::a` and `<a as b>` where it is the first. None, and a message, where no name
 /// follows.
+#[inline(always)]
 #[tactic(auto, unfolding(rap_grammar_scripts::specs::Paths::path_segment))]
 fn path_segment<G: Grammar>(
     p: &mut Parser<'_>,
@@ -218,6 +229,7 @@ fn path_segment<G: Grammar>(
 }
 
 /// A type, and its trait, in the angle brackets that a path begins with, as the `<a as b>` of `<a as b>::c`.
+#[inline(never)]
 #[tactic(auto, unfolding(rap_grammar_scripts::specs::Paths::type_anchor))]
 fn type_anchor<G: Grammar>(p: &mut Parser<'_>, g: &G) -> Result<(), NoMemory>
     requires within { Within G.valid G.left g.now (state p.old) }
@@ -257,6 +269,7 @@ fn anchor_trait<G: Grammar>(p: &mut Parser<'_>, g: &G) -> Result<(), NoMemory>
 
 /// The name of a segment whose marker is open, and the arguments after it, as `a::<b>`. None, and a message, where no
 /// name follows and nothing was taken.
+#[inline(always)]
 #[tactic(auto, unfolding(rap_grammar_scripts::specs::Paths::segment_name))]
 fn segment_name<G: Grammar>(
     p: &mut Parser<'_>,
@@ -326,6 +339,7 @@ fn segment_recovery_set(mode: Mode) -> TokenSet
 }
 
 /// The arguments after a name, as they may be where the path stands.
+#[inline(always)]
 #[tactic(auto, unfolding(rap_grammar_scripts::specs::Paths::opt_path_args))]
 fn opt_path_args<G: Grammar>(p: &mut Parser<'_>, g: &G, mode: Mode) -> Result<(), NoMemory>
     requires within { Within G.valid G.left g.now (state p.old) }
@@ -361,6 +375,7 @@ fn has_args(p: &Parser<'_>) -> bool
 }
 
 /// The arguments after a name in a type, as `<a>`, `::<a>` and `(a) -> b`, if there are.
+#[inline(always)]
 #[tactic(auto, unfolding(rap_grammar_scripts::specs::Paths::opt_path_type_args))]
 pub fn opt_path_type_args<G: Grammar>(p: &mut Parser<'_>, g: &G) -> Result<(), NoMemory>
     requires within { Within G.valid G.left g.now (state p.old) }
@@ -382,6 +397,7 @@ pub fn opt_path_type_args<G: Grammar>(p: &mut Parser<'_>, g: &G) -> Result<(), N
 }
 
 /// Arguments in a type from their bracket on, as `<a>`, `(a) -> b` and `(..)`, whose marker is open.
+#[inline(never)]
 #[tactic(auto, unfolding(rap_grammar_scripts::specs::Paths::path_type_args))]
 fn path_type_args<G: Grammar>(p: &mut Parser<'_>, g: &G, m: Marker) -> Result<(), NoMemory>
     requires within { Within G.valid G.left g.now (state p.old) }
