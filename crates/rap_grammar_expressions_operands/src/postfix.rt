@@ -28,7 +28,7 @@ use rap_grammar_paths::generic_arg_list::opt_generic_arg_list_expr;
 use rap_grammar_scripts::arguments::BlockLike;
 
 /// What follows an operand directly, as `(a)`, `[0]`, `.b`, `.c()` and `?`.
-#[inline(never)]
+#[inline(always)]
 #[tactic(auto, using(rap_grammar_frame::proofs::Loops::turns), unfolding(rap_grammar_scripts::specs::Postfix::postfix_expr))]
 pub fn postfix_expr<G: Grammar>(
     p: &mut Parser<'_>,
@@ -61,6 +61,7 @@ pub fn postfix_expr<G: Grammar>(
 
 /// One call, index, field, method or `?` if one follows, and whether more may follow that. Where none does, the operand
 /// is returned as it is.
+#[inline(always)]
 fn postfix<G: Grammar>(
     p: &mut Parser<'_>,
     g: &G,
@@ -92,6 +93,7 @@ fn postfix<G: Grammar>(
 }
 
 /// A dot and what follows it, as `.b`, `.0`, `.c()` and `.await`, and whether more may follow that.
+#[inline(never)]
 #[tactic(auto, unfolding(rap_grammar_scripts::specs::Postfix::postfix_dot_expr))]
 fn postfix_dot_expr<G: Grammar>(
     p: &mut Parser<'_>,
@@ -182,6 +184,7 @@ fn is_method_call(p: &Parser<'_>) -> bool
 }
 
 /// A call, as `(1)` after `f`.
+#[inline(never)]
 #[tactic(auto, unfolding(rap_grammar_scripts::specs::Postfix::call_expr))]
 fn call_expr<G: Grammar>(
     p: &mut Parser<'_>,
@@ -201,6 +204,7 @@ fn call_expr<G: Grammar>(
 }
 
 /// An index, as `[0]` after `a`.
+#[inline(never)]
 #[tactic(auto, unfolding(rap_grammar_scripts::specs::Postfix::index_expr))]
 fn index_expr<G: Grammar>(
     p: &mut Parser<'_>,
@@ -295,6 +299,7 @@ fn field_expr(p: &mut Parser<'_>, m: Marker) -> Result<CompletedMarker, NoMemory
 }
 
 /// A question mark, as `?` after `a`.
+#[inline(never)]
 #[tactic(auto, unfolding(rap_grammar_scripts::specs::Postfix::try_expr))]
 fn try_expr(p: &mut Parser<'_>, lhs: CompletedMarker) -> Result<CompletedMarker, NoMemory>
     requires last { IsLast (state p.old) lhs lhs.kind.value }

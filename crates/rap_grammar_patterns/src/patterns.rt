@@ -117,6 +117,7 @@ pub fn pattern_elsewhere<G: Grammar>(p: &mut Parser<'_>, g: &G) -> Result<(), No
 }
 
 /// A pattern without alternatives, as `a`, `0..=9`, `..9` and `..`.
+#[inline(always)]
 #[tactic(auto, unfolding(rap_grammar_scripts::specs::Patterns::pattern_single_r))]
 pub fn pattern_single_r<G: Grammar>(p: &mut Parser<'_>, g: &G, in_arm: bool) -> Result<(), NoMemory>
     requires within { Within G.valid G.left g.now (state p.old) }
@@ -252,6 +253,7 @@ fn ends_range_pat(kind: SyntaxKind) -> bool
 }
 
 /// A pattern that is no range, as `a`, `S { x, .. }` and `&1`.
+#[inline(never)]
 #[tactic(auto, unfolding(rap_grammar_scripts::specs::Patterns::atom_pat))]
 fn atom_pat<G: Grammar>(
     p: &mut Parser<'_>,

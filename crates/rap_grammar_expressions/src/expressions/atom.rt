@@ -38,6 +38,7 @@ use rap_grammar_scripts::arguments::{BlockLike, Restrictions};
 
 /// An expression that begins with no operator, as `1`, `a::b` and `(a)`. Where none begins, the next token stands in an
 /// `ERROR`.
+#[inline(always)]
 #[tactic(auto, unfolding(rap_grammar_scripts::specs::Atom::atom_expr))]
 pub(crate) fn atom_expr<G: Grammar>(
     p: &mut Parser<'_>,
@@ -66,6 +67,7 @@ pub(crate) fn atom_expr<G: Grammar>(
 }
 
 /// An expression in brackets, `_` or a `let`, or one of those that [`control_expr`] reads.
+#[inline(never)]
 #[tactic(auto, unfolding(rap_grammar_scripts::specs::Atom::bracketed_expr))]
 fn bracketed_expr<G: Grammar>(
     p: &mut Parser<'_>,

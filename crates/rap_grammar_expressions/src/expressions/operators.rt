@@ -35,6 +35,7 @@ enum Associativity {
 }
 
 /// The operator after an operand that comes next, with its power: 12 for `as`. The power is 0 where none does.
+#[inline(always)]
 #[tactic(auto, unfolding(rap_grammar_scripts::specs::Operator::operator_at))]
 fn current_op(p: &Parser<'_>) -> (u8, SyntaxKind, Associativity)
     ensures power { result.0 ≡ power (operator_at (state p.now).rest) }
@@ -84,7 +85,7 @@ fn current_op(p: &Parser<'_>) -> (u8, SyntaxKind, Associativity)
 }
 
 /// The operators of at least the power `bp` after `lhs`, each with its operand on the right.
-#[inline(never)]
+#[inline(always)]
 pub(crate) fn climb<G: Grammar>(
     p: &mut Parser<'_>,
     g: &G,
@@ -124,6 +125,7 @@ pub(crate) fn climb<G: Grammar>(
 }
 
 /// An operator between two expressions, the left one done, as `+ b` after `a`.
+#[inline(never)]
 #[tactic(auto, using(rap_grammar_frame::proofs::Binary::width_positive, rap_grammar_frame::proofs::Binary::bound), unfolding(rap_grammar_scripts::specs::Operators::bin_expr))]
 fn bin_expr<G: Grammar>(
     p: &mut Parser<'_>,
@@ -160,6 +162,7 @@ fn bin_expr<G: Grammar>(
 }
 
 /// A cast, as `as b` after `a`.
+#[inline(never)]
 #[tactic(auto, unfolding(rap_grammar_scripts::specs::Operators::cast_expr))]
 fn cast_expr<G: Grammar>(
     p: &mut Parser<'_>,
