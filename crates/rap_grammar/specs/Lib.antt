@@ -1,2 +1,3 @@
+pub mod Brief
 pub mod Part
 pub mod Top

@@ -2,6 +2,7 @@
 ghost use Rattle.std.specs.Prelude.{◌≡◌, ◌+◌, ◌<◌, ◌≤◌, IfOk, suc};
 ghost use Rattle.rap_events.specs.State.{state};
 ghost use Rattle.rap_grammar_frame.specs.Rules.{Pre, Post};
+ghost use Rattle.rap_grammar.specs.Brief.{rule_of};
 
 use crate::statements::stmt;
 use rap_base::no_memory::NoMemory;
@@ -14,6 +15,7 @@ use rap_grammar_frame::token_tree::token_tree;
 use rap_grammar_items::items::item_or_macro;
 use rap_grammar_items_kinds::use_item::use_tree;
 use rap_grammar_patterns::patterns::{pattern_elsewhere, pattern_r, pattern_single_elsewhere};
+use rap_grammar_scripts::arguments::{Restrictions, Semicolon};
 use rap_grammar_scripts::rule::Rule;
 use rap_grammar_types::generic_args::generic_arg;
 use rap_grammar_types::generic_params::{bounds_without_colon, generic_param_list, where_clause};
@@ -35,6 +37,90 @@ impl<F: Fn(&mut Parser<'_>, Rule) -> Result<Answer, NoMemory>> Grammar for Rules
     #[inline(always)]
     fn run(&self, p: &mut Parser<'_>, rule: Rule) -> Result<Answer, NoMemory> {
         (self.run)(p, rule)
+    }
+}
+
+/// A rule, but for the restrictions and the power of an expression. It goes in registers, where a [`Rule`] goes through
+/// memory: so where a call names its rule, that rule alone is left of the choice between all.
+#[derive(Clone, Copy)]
+enum Brief {
+    Expr,
+    Type { allow_bounds: bool },
+    PathTypeBounds,
+    GenericArg,
+    GenericParamList,
+    BoundsWithoutColon,
+    WhereClause,
+    Pattern,
+    PatternSingle,
+    ArmPattern,
+    Stmt { semicolon: Semicolon },
+    IfExpr,
+    Item { stop_on_r_curly: bool },
+    ExternItem { stop_on_r_curly: bool },
+    UseTree,
+    Meta,
+    CfgPredicate,
+    TokenTree,
+}
+
+/// Parts a rule.
+#[inline(always)]
+fn brief_of(rule: Rule) -> (Brief, Restrictions, u8)
+    ensures { rule_of result.0 result.1 result.2 ≡ rule }
+{
+    let none = Restrictions {
+        forbid_structs: false,
+        prefer_stmt: false,
+    };
+    match rule {
+        Rule::ExprBp { r, bp } => (Brief::Expr, r, bp),
+        Rule::TypeWithBoundsCond { allow_bounds } => (Brief::Type { allow_bounds }, none, 0),
+        Rule::PathTypeBounds => (Brief::PathTypeBounds, none, 0),
+        Rule::GenericArg => (Brief::GenericArg, none, 0),
+        Rule::GenericParamList => (Brief::GenericParamList, none, 0),
+        Rule::BoundsWithoutColon => (Brief::BoundsWithoutColon, none, 0),
+        Rule::WhereClause => (Brief::WhereClause, none, 0),
+        Rule::Pattern => (Brief::Pattern, none, 0),
+        Rule::PatternSingle => (Brief::PatternSingle, none, 0),
+        Rule::ArmPattern => (Brief::ArmPattern, none, 0),
+        Rule::Stmt { semicolon } => (Brief::Stmt { semicolon }, none, 0),
+        Rule::IfExpr => (Brief::IfExpr, none, 0),
+        Rule::ItemOrMacro {
+            stop_on_r_curly,
+            is_in_extern,
+        } => {
+            if is_in_extern {
+                (Brief::ExternItem { stop_on_r_curly }, none, 0)
+            } else {
+                (Brief::Item { stop_on_r_curly }, none, 0)
+            }
+        }
+        Rule::UseTree => (Brief::UseTree, none, 0),
+        Rule::Meta => (Brief::Meta, none, 0),
+        Rule::CfgPredicate => (Brief::CfgPredicate, none, 0),
+        Rule::TokenTree => (Brief::TokenTree, none, 0),
+    }
+}
+
+/// The same as a function that runs any rule by its parts.
+#[derive(Drop)]
+struct BriefRules<F: Fn(&mut Parser<'_>, Brief, Restrictions, u8) -> Result<Answer, NoMemory>> {
+    run: F,
+    left: usize,
+}
+
+impl<F: Fn(&mut Parser<'_>, Brief, Restrictions, u8) -> Result<Answer, NoMemory>> Grammar
+    for BriefRules<F> {
+    ghost left = { λ rules. rules.left };
+
+    ghost valid = { λ rules. ((q : _) (c : _) (r : _) (bp : _) → Pre (rule_of c r bp) (state q.now) → (state q.now).left < rules.left → F.pre rules.run q c r bp) ×
+        ((q : _) (c : _) (r : _) (bp : _) (a : _) (s : _) → F.post rules.run q c r bp a s → IfOk a (Post rules.left (rule_of c r bp) (state q.now) (state s.now))) };
+
+    #[inline(always)]
+    fn run(&self, p: &mut Parser<'_>, rule: Rule) -> Result<Answer, NoMemory> {
+        let (brief, r, bp) = brief_of(rule);
+        (self.run)(p, brief, r, bp)
     }
 }
 
@@ -64,91 +150,105 @@ pub(crate) fn all_rules(p: &Parser<'_>) -> AllRules
     AllRules { left: p.left() }
 }
 
-/// Runs a rule. It is inlined into the recursive calls, so that each call goes to its rule directly: that halves
-/// what a level of nesting keeps on the stack.
+/// Runs a rule.
 #[inline(always)]
-#[cycle(run)]
-#[tactic(auto, using(crate::proofs::Depth::more, crate::proofs::Depth::answers_so), unfolding(rap_grammar_scripts::specs::Knot::script_of))]
 pub fn run(p: &mut Parser<'_>, rule: Rule) -> Result<Answer, NoMemory>
     requires { Pre rule (state p.old) }
     ensures { IfOk result (Post (suc (state p.old).left) rule (state p.old) (state p.new)) }
 {
+    let (brief, r, bp) = brief_of(rule);
+    run_brief(p, brief, r, bp)
+}
+
+/// Runs a rule that is parted. It is inlined into the recursive calls, so that each call goes to its rule directly: that
+/// halves what a level of nesting keeps on the stack.
+#[inline(always)]
+#[cycle(run)]
+#[tactic(auto, using(crate::proofs::Depth::more, crate::proofs::Depth::answers_so), unfolding(rap_grammar_scripts::specs::Knot::script_of))]
+fn run_brief(p: &mut Parser<'_>, brief: Brief, r: Restrictions, bp: u8) -> Result<Answer, NoMemory>
+    requires { Pre (rule_of brief r bp) (state p.old) }
+    ensures { IfOk result (Post (suc (state p.old).left) (rule_of brief r bp) (state p.old) (state p.new)) }
+{
     let left = p.left();
-    let call = |q: &mut Parser<'_>, c: Rule| -> Result<Answer, NoMemory>
-        requires pre { Pre c (state q.old) }
+    let call = |q: &mut Parser<'_>, c: Brief, d: Restrictions, power: u8| -> Result<
+        Answer,
+        NoMemory,
+    >
+        requires pre { Pre (rule_of c d power) (state q.old) }
         requires left { (state q.old).left < left }
-        ensures { IfOk result (Post left c (state q.old) (state q.new)) }
+        ensures { IfOk result (Post left (rule_of c d power) (state q.old) (state q.new)) }
     {
         let _ = &left;
-        run(q, c)
+        run_brief(q, c, d, power)
     };
-    let g = Rules { run: call, left };
-    match rule {
-        Rule::ExprBp { r, bp } => expr_bp(p, &g, r, bp),
-        Rule::TypeWithBoundsCond { allow_bounds } => {
+    let g = BriefRules { run: call, left };
+    match brief {
+        Brief::Expr => expr_bp(p, &g, r, bp),
+        Brief::Type { allow_bounds } => {
             type_with_bounds_cond(p, &g, allow_bounds)?;
             Ok(None)
         }
-        Rule::PathTypeBounds => {
+        Brief::PathTypeBounds => {
             path_type_bounds(p, &g, true)?;
             Ok(None)
         }
-        Rule::GenericArg => {
+        Brief::GenericArg => {
             generic_arg(p, &g)?;
             Ok(None)
         }
-        Rule::GenericParamList => {
+        Brief::GenericParamList => {
             generic_param_list(p, &g)?;
             Ok(None)
         }
-        Rule::Pattern => {
+        Brief::Pattern => {
             pattern_elsewhere(p, &g)?;
             Ok(None)
         }
-        Rule::PatternSingle => {
+        Brief::PatternSingle => {
             pattern_single_elsewhere(p, &g)?;
             Ok(None)
         }
-        Rule::BoundsWithoutColon => {
+        Brief::BoundsWithoutColon => {
             bounds_without_colon(p, &g)?;
             Ok(None)
         }
-        Rule::WhereClause => {
+        Brief::WhereClause => {
             where_clause(p, &g)?;
             Ok(None)
         }
-        Rule::ArmPattern => {
+        Brief::ArmPattern => {
             pattern_r(p, &g, true)?;
             Ok(None)
         }
-        Rule::Stmt { semicolon } => {
+        Brief::Stmt { semicolon } => {
             stmt(p, &g, semicolon)?;
             Ok(None)
         }
-        Rule::IfExpr => {
+        Brief::IfExpr => {
             if_expr(p, &g)?;
             Ok(None)
         }
-        Rule::ItemOrMacro {
-            stop_on_r_curly,
-            is_in_extern,
-        } => {
-            item_or_macro(p, &g, stop_on_r_curly, is_in_extern)?;
+        Brief::Item { stop_on_r_curly } => {
+            item_or_macro(p, &g, stop_on_r_curly, false)?;
             Ok(None)
         }
-        Rule::UseTree => {
+        Brief::ExternItem { stop_on_r_curly } => {
+            item_or_macro(p, &g, stop_on_r_curly, true)?;
+            Ok(None)
+        }
+        Brief::UseTree => {
             use_tree(p, &g)?;
             Ok(None)
         }
-        Rule::Meta => {
+        Brief::Meta => {
             meta(p, &g)?;
             Ok(None)
         }
-        Rule::CfgPredicate => {
+        Brief::CfgPredicate => {
             cfg_predicate(p, &g)?;
             Ok(None)
         }
-        Rule::TokenTree => {
+        Brief::TokenTree => {
             token_tree(p)?;
             Ok(None)
         }

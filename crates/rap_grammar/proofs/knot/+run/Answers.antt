@@ -4,9 +4,9 @@ use Rattle.rap_grammar_scripts.specs.Knot.{script_of}
 use Rattle.rap_grammar.proofs.Depth.{expr_post, more}
 use Rattle.rap_grammar.proofs.knot.+run.Goals as goal
 
-pub returns-in-ExprBp : goal.returns-in-ExprBp
+pub returns-in-Expr : goal.returns-in-Expr
 unfolding script_of
-returns-in-ExprBp t c = rw c.in-ExprBp.is (expr_post (search rules) c.in-ExprBp.r c.in-ExprBp.bp _ _ _ c.expr_bp.ensures.answered c.expr_bp.ensures.script)
+returns-in-Expr t c = rw c.in-Expr.is (expr_post (search rules) c.args.r c.args.bp _ _ _ c.expr_bp.ensures.answered c.expr_bp.ensures.script)
 
 pub call-returns : goal.call-returns
-call-returns t c = IfOk-weaker _ _ _ (more _ _ c.requires.left _ _ _) c.run.ensures
+call-returns t c = IfOk-weaker _ _ _ (more _ _ c.requires.left _ _ _) c.run_brief.ensures
