@@ -85,7 +85,7 @@ impl<'t> FlatTree<'t> {
         ensures too_long { (result ≡ Err TextFault.TextTooLong) ↔ (MAX_TEXT < length text.now) }
         ensures too_many { (result ≡ Err TextFault.TooManyTokens) ↔ HasTooManyTokens text.now edition }
     {
-        let mut collector = Collector::with_hint(alloc, text.len() / 2);
+        let mut collector = Collector::with_hint(alloc, text.len() - text.len() / 4);
         let parsed = parse_text(alloc, edition, entry, text, &mut collector)?;
         let mut of_lexer = Collector::with_hint(alloc, 0);
         let Ok(()) = parsed.lexed.report_errors(&mut of_lexer) else {
