@@ -1,5 +1,6 @@
 //! JSON that is written piece by piece, so that deeply nested answers take no stack.
-ghost use Rattle.std.specs.Prelude.{◌≡◌, ◌++◌, [], OnOk, false, codes, if◌then◌else◌, length, min, string_bytes};
+ghost use Rattle.std.specs.Prelude.{◌≡◌, ◌+◌, ◌<◌, ◌∷◌, ◌++◌, [], OnOk, false, codes, if◌then◌else◌, length, min, string_bytes};
+ghost use Rattle.std.specs.Fmt.{decimal};
 ghost use Rattle.rast_document.specs.Places.{position};
 ghost use Rattle.rast_messages.specs.Places.{position_text, range_text};
 ghost use Rattle.rast_messages.specs.Replies.{string_text};
@@ -26,8 +27,55 @@ pub fn push_comma(json: &mut String, is_first: &mut bool) -> Result<(), AllocErr
     if *is_first {
         *is_first = false;
     } else {
-        json.push_str(",")?;
+        json.push(',')?;
     }
+    Ok(())
+}
+
+/// Adds a digit.
+fn push_digit(json: &mut String, digit: u8) -> Result<(), AllocError>
+    requires { digit < 10 }
+    ensures { OnOk result (string_bytes json.new ≡ string_bytes json.old ++ (48 + digit) ∷ []) }
+{
+    json.push(char::from(b'0' + digit))
+}
+
+/// Adds a number below 100.
+#[tactic(auto, using(std::proofs::lemmas::Fmt::decimal_digit, crate::proofs::Numbers::two_digits))]
+fn push_tens(json: &mut String, number: u8) -> Result<(), AllocError>
+    requires { number < 100 }
+    ensures { OnOk result (string_bytes json.new ≡ string_bytes json.old ++ decimal number) }
+{
+    if number < 10 {
+        return push_digit(json, number);
+    }
+    push_digit(json, number / 10)?;
+    push_digit(json, number % 10)
+}
+
+/// Adds a number below 10000.
+#[tactic(auto, using(crate::proofs::Numbers::four_digits))]
+fn push_hundreds(json: &mut String, number: u16) -> Result<(), AllocError>
+    requires { number < 10000 }
+    ensures { OnOk result (string_bytes json.new ≡ string_bytes json.old ++ decimal number) }
+{
+    if number < 100 {
+        return push_tens(json, number as u8);
+    }
+    let last = (number % 100) as u8;
+    push_tens(json, (number / 100) as u8)?;
+    push_digit(json, last / 10)?;
+    push_digit(json, last % 10)
+}
+
+/// Adds a number in decimal digits.
+pub fn push_number(json: &mut String, number: usize) -> Result<(), AllocError>
+    ensures { OnOk result (string_bytes json.new ≡ string_bytes json.old ++ decimal number) }
+{
+    if number < 10000 {
+        return push_hundreds(json, number as u16);
+    }
+    write!(json, "{number}")?;
     Ok(())
 }
 
@@ -36,9 +84,11 @@ pub fn push_comma(json: &mut String, is_first: &mut bool) -> Result<(), AllocErr
 fn push_position(json: &mut String, position: Position) -> Result<(), AllocError>
     ensures { OnOk result (string_bytes json.new ≡ string_bytes json.old ++ position_text position) }
 {
-    let line = position.line;
-    let character = position.character;
-    write!(json, "{{\"line\":{line},\"character\":{character}}}")?;
+    json.push_str("{\"line\":")?;
+    push_number(json, position.line)?;
+    json.push_str(",\"character\":")?;
+    push_number(json, position.character)?;
+    json.push_str("}")?;
     Ok(())
 }
 

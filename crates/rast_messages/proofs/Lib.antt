@@ -1,0 +1,2 @@
+-- Lemmas of the messages.
+pub mod Numbers
