@@ -2,9 +2,8 @@
 use crate::tree::tree_lines;
 use rast_answers::{Delta, Diagnostic, Extent, Fold, FoldKind, Listing, Symbol};
 use rast_document::{Document, Position};
-use rast_messages::{position_of, push_comma, push_range, push_string};
+use rast_messages::{position_of, push_comma, push_number, push_range, push_string};
 use std::alloc::{AllocError, Global};
-use std::fmt::Write as _;
 
 /// Adds a message at a range.
 fn push_diagnostic(
@@ -50,7 +49,9 @@ fn open_symbol(
     json.push_str("{\"name\":")?;
     push_string(alloc, json, name)?;
     let kind = symbol.kind.number();
-    write!(json, ",\"kind\":{kind},\"range\":")?;
+    json.push_str(",\"kind\":")?;
+    push_number(json, kind as usize)?;
+    json.push_str(",\"range\":")?;
     push_range(json, document, symbol.extent.start, symbol.extent.end)?;
     json.push_str(",\"selectionRange\":")?;
     push_range(json, document, symbol.name.start, symbol.name.end)?;
@@ -101,8 +102,14 @@ fn push_fold(json: &mut String, document: &Document, fold: &Fold) -> Result<(), 
     let start = position_of(document, fold.start);
     let end = position_of(document, fold.end);
     let (first, from, last, to) = (start.line, start.character, end.line, end.character);
-    write!(json, "{{\"startLine\":{first},\"startCharacter\":{from}")?;
-    write!(json, ",\"endLine\":{last},\"endCharacter\":{to}")?;
+    json.push_str("{\"startLine\":")?;
+    push_number(json, first)?;
+    json.push_str(",\"startCharacter\":")?;
+    push_number(json, from)?;
+    json.push_str(",\"endLine\":")?;
+    push_number(json, last)?;
+    json.push_str(",\"endCharacter\":")?;
+    push_number(json, to)?;
     json.push_str(match fold.kind {
         FoldKind::Block => "}",
         FoldKind::Comment => ",\"kind\":\"comment\"}",
@@ -191,7 +198,15 @@ fn push_token(json: &mut String, token: &Delta) -> Result<(), AllocError> {
         modifiers,
     } = token;
     let kind = kind.number();
-    write!(json, "{line},{start},{length},{kind},{modifiers}")?;
+    push_number(json, *line)?;
+    json.push(',')?;
+    push_number(json, *start)?;
+    json.push(',')?;
+    push_number(json, *length)?;
+    json.push(',')?;
+    push_number(json, kind as usize)?;
+    json.push(',')?;
+    push_number(json, *modifiers as usize)?;
     Ok(())
 }
 
