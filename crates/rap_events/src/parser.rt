@@ -303,8 +303,10 @@ impl<'t> Parser<'t> {
     fn missing(&self, kind: SyntaxKind) -> Result<String, NoMemory>
         ensures { IfOk result (λ message. string_bytes message ≡ expected kind) }
     {
-        let mut message = String::from_str(self.alloc, "expected ")?;
-        message.push_str(kind.name())?;
+        let name = kind.name();
+        let mut message = String::with_capacity(self.alloc, name.len().saturating_add(9))?;
+        message.push_str("expected ")?;
+        message.push_str(name)?;
         Ok(message)
     }
 
