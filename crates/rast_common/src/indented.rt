@@ -49,6 +49,20 @@ impl IndentedText {
         }
     }
 
+    /// An empty text. Room for about so many bytes and indentations is made if there is memory for it.
+    pub fn with_hint(alloc: Global, bytes: usize, indents: usize) -> IndentedText
+        ensures { result ≡ [] }
+    {
+        let mut text = String::new(alloc);
+        let _ = text.reserve(bytes);
+        let mut list = Vec::new(alloc);
+        let _ = list.reserve(indents);
+        IndentedText {
+            text,
+            indents: list,
+        }
+    }
+
     /// A text without indentations.
     pub fn unindented(alloc: Global, text: String) -> IndentedText
         ensures { result ≡ string_bytes text }

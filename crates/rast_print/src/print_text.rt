@@ -4,9 +4,11 @@ ghost use Rattle.rast_print.specs.Shown.{Comes, IsPrinted};
 
 use crate::printer::Printer;
 use ra_ap_parser::{Edition, NoMemory, TextFault, TopEntryPoint, parse_text};
+use rast_common::indented::IndentedText;
 use std::alloc::Global;
 
-/// The lines of the text's tree and of its messages, the tree's messages before the lexer's.
+/// The lines of the text's tree and of its messages, the tree's messages before the lexer's. Room for half of the lines
+/// that code of this length mostly has is made at first, if there is memory for it.
 pub fn print_text(
     alloc: Global,
     edition: Edition,
@@ -16,7 +18,8 @@ pub fn print_text(
     ensures printed { IfOk result (IsPrinted text.now edition entry) }
     ensures fault { IfErr result (Comes text.now edition) }
 {
-    let mut printer = Printer::new(alloc);
+    let lines = IndentedText::with_hint(alloc, text.len().saturating_mul(4), text.len() / 4);
+    let mut printer = Printer::after(alloc, lines);
     let parsed = parse_text(alloc, edition, entry, text, &mut printer)?;
     let Ok(()) = parsed.lexed.report_errors(&mut printer) else {
         return Err(TextFault::NoMemory);
