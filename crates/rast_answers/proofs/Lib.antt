@@ -6,6 +6,7 @@ pub mod HighlightOrders
 pub mod LastLaws
 pub mod LeafRows
 pub mod NestLaws
+pub mod Outside
 pub mod PairLaws
 pub mod Passes
 pub mod Picked

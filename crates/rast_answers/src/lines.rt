@@ -8,5 +8,5 @@ use rast_document::Document;
 pub(crate) fn line_of(document: &Document, offset: usize) -> usize
     ensures { result ≡ line_of (string_bytes document.now.text) offset }
 {
-    document.position(offset.min(document.text().len())).line
+    document.line(offset.min(document.text().len()))
 }

@@ -1,5 +1,5 @@
 //! Symbols: what a text declares.
-ghost use Rattle.std.specs.Prelude.{◌≡◌, ◌<◌, IfOk, find, length};
+ghost use Rattle.std.specs.Prelude.{◌≡◌, ◌<◌, IfOk, IsTrue, find, length};
 ghost use Rattle.rast_answers.specs.Kinds.{children};
 ghost use Rattle.rast_answers.specs.Symbols.{header_in, is_in_header, is_name, is_name_at, name_of, span_more, symbol_at, symbols_of};
 
@@ -116,11 +116,23 @@ fn name_of(elements: &[Element], index: usize, kind: SymbolKind) -> Option<Exten
     Some(extent_at(elements, name))
 }
 
+/// Whether an element declares nothing by its kind alone: all kinds of nodes that declare are from `MODULE` to `IMPL`.
+#[tactic(auto, using(crate::proofs::Outside::no_symbol_before, crate::proofs::Outside::no_symbol_past))]
+fn declares_nothing(elements: &[Element], index: usize) -> bool
+    ensures { IsTrue result → symbol_at elements.now index ≡ None }
+{
+    let kind = kind_at(elements, index);
+    kind < SyntaxKind::MODULE || SyntaxKind::IMPL < kind
+}
+
 /// The symbol that the node with this index declares.
 fn symbol_at(elements: &[Element], index: usize) -> Option<Symbol>
     requires { index < length elements.now }
     ensures { result ≡ symbol_at elements.now index }
 {
+    if declares_nothing(elements, index) {
+        return None;
+    }
     let outer = kind_at(elements, around(elements, index));
     let kind = symbol_kind(kind_at(elements, index), outer)?;
     let name = name_of(elements, index, kind)?;

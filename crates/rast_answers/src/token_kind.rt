@@ -1,5 +1,5 @@
 //! Kinds of tokens: the table from leaves to what an editor colors.
-ghost use Rattle.std.specs.Prelude.{◌≡◌};
+ghost use Rattle.std.specs.Prelude.{◌≡◌, IsTrue};
 ghost use Rattle.rast_answers.specs.TokenTable.{class_of, class_of_leaf, class_of_name, class_of_path, class_of_reference, declaring, is_keyword, plain, token_number};
 
 use crate::kinds::{around, kind_at};
@@ -264,10 +264,22 @@ fn class_of_reference(elements: &[Element], node: usize) -> Option<Class>
     }
 }
 
+/// Whether a leaf has no class by its kind alone: white space has none, nor has punctuation other than `!`.
+#[tactic(auto, using(crate::proofs::Outside::white_space_no_class, crate::proofs::Outside::punctuation_no_class))]
+fn has_no_class(elements: &[Element], index: usize) -> bool
+    ensures { IsTrue result → class_of elements.now index ≡ None }
+{
+    let kind = kind_at(elements, index);
+    kind == SyntaxKind::WHITESPACE || (kind < SyntaxKind::AS_KW && kind != SyntaxKind::BANG)
+}
+
 /// The class of the leaf with this index, if it has one.
 pub(crate) fn class_of(elements: &[Element], index: usize) -> Option<Class>
     ensures { result ≡ class_of elements.now index }
 {
+    if has_no_class(elements, index) {
+        return None;
+    }
     let node = around(elements, index);
     let outer = around(elements, node);
     if kind_at(elements, index) != SyntaxKind::IDENT {
