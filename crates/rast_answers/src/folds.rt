@@ -80,12 +80,21 @@ fn fold_from(
     }
 }
 
-/// The fold that begins with the element with this index.
+/// The fold that begins with the element with this index. Most kinds begin none: leaves before comments, and nodes up to
+/// `STMT_LIST`.
+#[tactic(auto, using(crate::proofs::Outside::no_fold_before, crate::proofs::Outside::no_fold_between))]
 fn fold_at(document: &Document, elements: &[Element], index: usize) -> Option<Fold>
     requires { index < length elements.now }
     ensures { result ≡ fold_at (string_bytes document.now.text) elements.now index }
 {
-    if is_folded(kind_at(elements, index)) {
+    let kind = kind_at(elements, index);
+    if kind < SyntaxKind::COMMENT {
+        return None;
+    }
+    if SyntaxKind::OUTER_DOC_COMMENT < kind && kind < SyntaxKind::STMT_LIST {
+        return None;
+    }
+    if is_folded(kind) {
         return fold_from(document, elements, FoldKind::Block, index, index);
     }
     if let Some(last) = last_of_comments(document, elements, index) {
