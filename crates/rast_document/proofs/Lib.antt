@@ -6,3 +6,4 @@ pub mod LineLemmas
 pub mod PlaceLemmas
 pub mod RowLemmas
 pub mod UnitLemmas
+pub mod PartLemmas

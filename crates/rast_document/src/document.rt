@@ -1,5 +1,5 @@
 //! A text with its lines, and the positions in it.
-ghost use Rattle.std.specs.Prelude.{◌≡◌, ℕ, ◌+◌, ◌/◌, ◌<◌, ◌≤◌, ◌⊎◌, IfNone, IfOk, IfSome, IsCharBoundary, length, string_bytes, take};
+ghost use Rattle.std.specs.Prelude.{◌≡◌, ℕ, ◌+◌, ◌/◌, ◌<◌, ◌≤◌, ◌⊎◌, IfNone, IfOk, IfSome, IsCharBoundary, length, min, string_bytes, take};
 ghost use Rattle.rast_document.specs.Indexed.{AgreeTo, AreMarks, AreRows, IsOnLine, IsRange, IsReached};
 ghost use Rattle.rast_document.specs.Lines.{line_at, line_end, line_start, line_starts};
 ghost use Rattle.rast_document.specs.Places.{IsAt, IsInLineEnd, position, within_line};
@@ -9,7 +9,7 @@ use crate::encoding::Encoding;
 use crate::lines::{end_before, end_of_last, line_of, line_starts, rows_of};
 use crate::marks::{Reached, marks_of, reached_from, units_between, units_to};
 use crate::places::{meant, range_of};
-use crate::position::{Position, Span};
+use crate::position::{Part, Position, Span};
 use std::alloc::{AllocError, Global};
 
 // Up to how many bytes are counted with no look at the marks.
@@ -74,6 +74,28 @@ impl Document {
         let end = self.line_end(line);
         let character = self.units_between(start, offset.min(end));
         Position { line, character }
+    }
+
+    /// The part of a range that is on the line of its start, from there on: up to the end of the line or of the range.
+    pub fn part(&self, start: usize, end: usize) -> Part
+        requires rising { start ≤ end }
+        requires within { start ≤ length (string_bytes self.now.text) }
+        ensures position { result.position ≡ position self.now.encoding (string_bytes self.now.text) start }
+        ensures end { result.end ≡ min end (line_end (string_bytes self.now.text) start) }
+        ensures units { result.position.character + result.units
+            ≡ (position self.now.encoding (string_bytes self.now.text) result.end).character }
+    {
+        let line = self.line_of(start);
+        let begin = self.starts[line];
+        let stop = self.line_end(line);
+        let character = self.units_between(begin, start.min(stop));
+        let to = end.min(stop.max(start));
+        let units = self.units_between(start, to);
+        Part {
+            position: Position { line, character },
+            end: to,
+            units,
+        }
     }
 
     /// The line of an offset, which is in the text or at its end: that of its position, with no count of units.

@@ -17,4 +17,4 @@ mod position;
 pub use change::{Change, ChangeFault};
 pub use document::Document;
 pub use encoding::Encoding;
-pub use position::{Position, Span};
+pub use position::{Part, Position, Span};

@@ -17,3 +17,14 @@ pub struct Span {
     /// The position at which it ends.
     pub end: Position,
 }
+
+/// A part of a line.
+#[derive(Clone, Copy, Debug, PartialEq, Eq)]
+pub struct Part {
+    /// The position of its start.
+    pub position: Position,
+    /// The offset of its end.
+    pub end: usize,
+    /// The units of it.
+    pub units: usize,
+}
