@@ -1,15 +1,17 @@
 -- Parts of a range that are on one line.
-use Rattle.std.proofs.Common.{◌≡◌, ℕ, zero, suc, ◌+◌, ◌-◌, ◌<◌, ◌≤◌, true, false, List, [], ◌∷◌, ◌++◌, refl, ap, sym, ◌∙◌, append_assoc, length, min, drop, get_or, arith}
-use Rattle.std.specs.Prelude.{not, nat_lt}
-use Rattle.std.specs.List.{position_or_len, prefix_len}
+use Rattle.std.proofs.Common.{◌≡◌, ℕ, zero, suc, ◌+◌, ◌-◌, ◌<◌, ◌≤◌, List, [], ◌∷◌, ◌++◌, refl, ap, sym, ◌∙◌, append_assoc, length, min, drop, arith}
+use Rattle.std.specs.Prelude.{not}
+use Rattle.std.specs.List.{prefix_len}
 use Rattle.std.proofs.lemmas.Bool.{cond-true, cond-false, lt-ltb, le-ltb}
-use Rattle.std.proofs.lemmas.List.Sums.{prefix_len-drop_all, prefix_len-drop_no, prefix_len-drop_yes}
-use Rattle.std.proofs.lemmas.List.{append-nil}
+use Rattle.std.proofs.lemmas.List.Sums.{prefix_len-drop_all, prefix_len-le-length}
+use Rattle.std.proofs.lemmas.List.{append-nil, length-drop}
 use Rattle.rast_document.specs.Lines.{is_line_break, line_end}
+use Rattle.rast_document.specs.Places.{position}
 use Rattle.rast_document.specs.declared.encoding.Encoding.{Encoding}
+use Rattle.rast_document.specs.declared.position.Position.{Position}
 use Rattle.rast_answers.specs.declared.token_kind.Class.{Class}
 use Rattle.rast_answers.specs.declared.tokens.Token.{Token}
-use Rattle.rast_answers.specs.Tokens.{piece, pieces}
+use Rattle.rast_answers.specs.Tokens.{piece, pieces, place_of}
 
 pub pieces_end : (e : Encoding) (s : List ℕ) (c : Class) (n start end : ℕ) → end ≤ start → pieces e s c n start end ≡ []
 pieces_end e s c zero start end h = refl
@@ -23,28 +25,35 @@ pieces_more e s c (suc n) m start end h low =
     cond-true _ _ _ (lt-ltb start end low)
     ∙ ap (λ k. piece e s c start (min end (line_end s start)) ++ pieces e s c k (min end (line_end s start) + 1) end) same
 
--- a line goes on past a byte that is no line break
-pub line_goes_on : (s : List ℕ) (i : ℕ) → i < length s → is_line_break (get_or s i 0) ≡ false → line_end s i ≡ line_end s (i + 1)
-line_goes_on s i low h =
-    let more : prefix_len (λ b. not (is_line_break b)) (drop i s) ≡ 1 + prefix_len (λ b. not (is_line_break b)) (drop (i + 1) s) =
-    prefix_len-drop_yes (λ b. not (is_line_break b)) s i 0 low (ap not h) in
-    omega (arith, more)
-
--- and ends at one that is
-pub line_ends : (s : List ℕ) (i : ℕ) → i < length s → is_line_break (get_or s i 0) ≡ true → line_end s i ≡ i
-line_ends s i low h =
-    let none : prefix_len (λ b. not (is_line_break b)) (drop i s) ≡ 0 =
-    prefix_len-drop_no (λ b. not (is_line_break b)) s i 0 low (ap not h) in
-    omega (arith, none)
-
--- past the text too
+-- past the text a line ends at once
 pub line_past : (s : List ℕ) (i : ℕ) → length s ≤ i → line_end s i ≡ i
 line_past s i h =
     let none : prefix_len (λ b. not (is_line_break b)) (drop i s) ≡ 0 = prefix_len-drop_all (λ b. not (is_line_break b)) s i h in
     omega (arith, none)
 
-pub line_not_before : (s : List ℕ) (i : ℕ) → i ≤ line_end s i
-line_not_before s i = omega arith
+-- and else in it or at its end
+pub end_within : (s : List ℕ) (i : ℕ) → i ≤ length s → line_end s i ≤ length s
+end_within s i h = omega (arith, length-drop i s, prefix_len-le-length (λ b. not (is_line_break b)) (drop i s))
+
+-- the position of an offset in the text
+pub place_within : (e : Encoding) (s : List ℕ) (i : ℕ) → i ≤ length s → position e s i ≡ place_of e s i
+place_within e s i h =
+    let same : i ≡ min i (length s) = omega arith in
+    ap (position e s) same
+
+-- a part with a byte is a token
+pub piece_some : (e : Encoding) (s : List ℕ) (c : Class) (start to n : ℕ) (p : Position) → start < to → p ≡ place_of e s start
+    → p.character + n ≡ (place_of e s to).character
+    → record { line = p.line; start = p.character; length = n; kind = c.kind; modifiers = c.modifiers } ∷ [] ≡ piece e s c start to
+piece_some e s c start to n p low here there =
+    let f : Position → ℕ → List Token = λ q m. record { line = q.line; start = q.character; length = m; kind = c.kind; modifiers = c.modifiers } ∷ [] in
+    let begins : p.character ≡ (place_of e s start).character = ap (λ (q : Position). q.character) here in
+    let count : n ≡ (place_of e s to).character - (place_of e s start).character = omega (arith, there, begins) in
+    ap (λ q. f q n) here ∙ ap (f (place_of e s start)) count ∙ sym (cond-true _ _ _ (lt-ltb start to low))
+
+-- and one without none
+pub piece_none : (e : Encoding) (s : List ℕ) (c : Class) (start to : ℕ) → to ≤ start → piece e s c start to ≡ []
+piece_none e s c start to h = cond-false _ _ _ (le-ltb start to h)
 
 -- a step to the next line
 pub step_line : (e : Encoding) (s : List ℕ) (c : Class) (n m at end to : ℕ) (ts more all : List Token) → n ≡ m + 1 → at < end

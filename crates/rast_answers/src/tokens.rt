@@ -1,13 +1,13 @@
 //! Tokens with their places: each leaf that has a class, a token for each of its lines.
-ghost use Rattle.std.specs.Prelude.{◌≡◌, ◌++◌, ◌≤◌, IfOk, OnOk, length, min, option_copied, string_bytes};
+ghost use Rattle.std.specs.Prelude.{◌≡◌, ◌+◌, ◌++◌, ◌≤◌, IfOk, OnOk, length, min, option_copied, string_bytes};
 ghost use Rattle.std.specs.List.{slice_get};
 ghost use Rattle.rast_document.specs.Lines.{line_end};
-ghost use Rattle.rast_answers.specs.Tokens.{colored_at, is_asked, piece, token_of, tokens_of, tokens_of_leaf, tokens_of_option};
+ghost use Rattle.rast_answers.specs.Tokens.{colored_at, is_asked, piece, place_of, tokens_of, tokens_of_leaf, tokens_of_option};
 
 use crate::places::place_of;
 use crate::token_kind::{Class, TokenKind, class_of};
 use flat_tree::Element;
-use rast_document::Document;
+use rast_document::{Document, Part};
 use std::alloc::{AllocError, Global};
 
 /// A token on one line: the line, the place in it and the length in the document's units.
@@ -33,60 +33,49 @@ struct Colored {
     class: Class,
 }
 
-/// Where the part of a range that is on one line ends, from an offset on: with the line, or with the range.
-#[tactic(auto, using(crate::proofs::PieceLaws::line_goes_on, crate::proofs::PieceLaws::line_ends, crate::proofs::PieceLaws::line_past, crate::proofs::PieceLaws::line_not_before))]
-fn piece_end(text: &[u8], start: usize, end: usize) -> usize
+/// The part of a range that is on the line of its start, from there on; past the end of the text there is nothing of it.
+#[tactic(auto, using(crate::proofs::PieceLaws::line_past, crate::proofs::PieceLaws::end_within, crate::proofs::PieceLaws::place_within))]
+fn part_of(document: &Document, start: usize, end: usize) -> Part
     requires { start ≤ end }
-    ensures { result ≡ min end (line_end text.now start) }
+    ensures position { result.position ≡ place_of document.now.encoding (string_bytes document.now.text) start }
+    ensures end { result.end ≡ min end (line_end (string_bytes document.now.text) start) }
+    ensures units { result.position.character + result.units
+        ≡ (place_of document.now.encoding (string_bytes document.now.text) result.end).character }
 {
-    let mut at = start;
-    'bytes: while at < end {
-        match text.get(at) {
-            Some(b'\n' | b'\r') | None => return at,
-            _ => at += 1,
-        }
+    if start <= document.text().len() {
+        return document.part(start, end);
     }
-    end
-}
-
-/// Where the part of a range of a document that is on one line ends.
-fn part_end(document: &Document, start: usize, end: usize) -> usize
-    requires { start ≤ end }
-    ensures { result ≡ min end (line_end (string_bytes document.now.text) start) }
-{
-    piece_end(document.text().as_bytes(), start, end)
-}
-
-/// The token of a part of one line.
-fn token_of(document: &Document, start: usize, end: usize, class: Class) -> Token
-    ensures { result ≡ token_of document.now.encoding (string_bytes document.now.text) class start end }
-{
-    let from = place_of(document, start);
-    let to = place_of(document, end);
-    Token {
-        line: from.line,
-        start: from.character,
-        length: to.character.saturating_sub(from.character),
-        kind: class.kind,
-        modifiers: class.modifiers,
+    Part {
+        position: place_of(document, start),
+        end: start,
+        units: 0,
     }
 }
 
-/// Adds the token of a part of one line, if it is not empty.
+/// Adds the token of the part of a range that is on the line of its start, if it is not empty: where that part ends.
 fn push_piece(
     tokens: &mut Vec<Token>,
     document: &Document,
     start: usize,
     end: usize,
     class: Class,
-) -> Result<(), AllocError>
-    ensures { OnOk result (tokens.new.items
-        ≡ tokens.old.items ++ piece document.now.encoding (string_bytes document.now.text) class start end) }
+) -> Result<usize, AllocError>
+    requires { start ≤ end }
+    ensures end { IfOk result (λ to. to ≡ min end (line_end (string_bytes document.now.text) start)) }
+    ensures tokens { OnOk result (tokens.new.items ≡ tokens.old.items
+        ++ piece document.now.encoding (string_bytes document.now.text) class start (min end (line_end (string_bytes document.now.text) start))) }
 {
-    if start < end {
-        tokens.push(token_of(document, start, end, class))?;
+    let part = part_of(document, start, end);
+    if start < part.end {
+        tokens.push(Token {
+            line: part.position.line,
+            start: part.position.character,
+            length: part.units,
+            kind: class.kind,
+            modifiers: class.modifiers,
+        })?;
     }
-    Ok(())
+    Ok(part.end)
 }
 
 /// Adds the tokens of a leaf: one for each line of it that is not empty.
@@ -105,8 +94,7 @@ fn push_pieces(
         if end <= at {
             return Ok(());
         }
-        let to = part_end(document, at, end);
-        push_piece(tokens, document, at, to, leaf.class)?;
+        let to = push_piece(tokens, document, at, end, leaf.class)?;
         at = to + 1;
     }
     Ok(())

@@ -1,4 +1,5 @@
-use Rattle.std.proofs.Common.{arith}
+use Rattle.std.proofs.Common.{◌∙◌, ◌++◌, ap, string_bytes, sym, arith}
+use Rattle.rast_answers.specs.Tokens.{piece}
 use Rattle.rast_answers.proofs.PieceLaws.{last_line, step_line}
 use Rattle.rast_answers.proofs.tokens.push_pieces.Goals as goal
 
@@ -7,4 +8,6 @@ returns-then-end-at c = last_line _ _ _ _ _ _ _ _ c.if-end-at.true c.lines.invar
 
 pub lines-preserved : goal.lines-preserved
 lines-preserved c =
-    step_line _ _ _ _ _ _ _ _ _ _ _ (omega arith) c.if-end-at.false c.part_end-to.ensures c.in_ok-push_piece.ensures c.lines.invariant
+    let d = c.args.document.now in
+    let same = ap (λ k. c.lines.tokens.items ++ piece d.encoding (string_bytes d.text) c.args.leaf.class c.lines.at k) (sym c.in_ok-to.ensures.end) in
+    step_line _ _ _ _ _ _ _ _ _ _ _ (omega arith) c.if-end-at.false c.in_ok-to.ensures.end (c.in_ok-to.ensures.tokens ∙ same) c.lines.invariant
