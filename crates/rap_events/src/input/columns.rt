@@ -16,9 +16,8 @@ mod kinds;
 /// How many records a word of joints has bits for.
 const BLOCK: usize = 64;
 
-/// How many places the lists grow by: those of 4 words of joints. What is filled at once is small, as most inputs that
-/// macros are expanded to have fewer tokens.
-const GROWTH: usize = 256;
+/// How many places the lists grow by: those of 16 words of joints.
+const GROWTH: usize = 1024;
 
 /// The fields of the records, a list for each, at the record's place. Whether record i is joint is bit i mod 64 of
 /// word i div 64 of the joints.
@@ -75,7 +74,7 @@ impl Columns {
         self.grow(len)
     }
 
-    /// Fills the lists up by 256 places. The words of joints come last, so that their places count only where the
+    /// Fills the lists up by 1,024 places. The words of joints come last, so that their places count only where the
     /// other lists have grown.
     #[cold]
     #[inline(never)]
