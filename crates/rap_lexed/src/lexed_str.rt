@@ -42,6 +42,20 @@ pub const MAX_TEXT: usize = 4_294_967_295;
 /// The most tokens for which room is allocated at the start: a long text may have few tokens.
 const FIRST_ROOM: usize = 4_194_304;
 
+/// Up to how many bytes a text is short. Such a text may have a token to two bytes.
+const SHORT: usize = 512;
+
+/// For how many tokens of a text of this length room is allocated at the start: never for more than it may have.
+fn first_room(len: usize) -> usize
+    ensures { result ≤ len }
+{
+    if len <= SHORT {
+        len / 3 + len / 4
+    } else {
+        (len / 3).min(FIRST_ROOM)
+    }
+}
+
 /// Why a text was not lexed.
 #[derive(Clone, Copy, Debug, PartialEq, Eq)]
 pub enum LexFault {
@@ -261,7 +275,7 @@ impl<'a> LexedStr<'a> {
             return Err(LexFault::TextTooLong);
         }
         let header = find_header(alloc, edition, text);
-        let room = (text.len() / 3).min(FIRST_ROOM);
+        let room = first_room(text.len());
         let mut kind = Vec::with_capacity(alloc, room)?;
         let mut start = Vec::with_capacity(alloc, room + 1)?;
         start.push(0)?;
