@@ -229,7 +229,7 @@ fn path_segment<G: Grammar>(
 }
 
 /// A type, and its trait, in the angle brackets that a path begins with, as the `<a as b>` of `<a as b>::c`.
-#[inline(never)]
+#[inline(always)]
 #[tactic(auto, unfolding(rap_grammar_scripts::specs::Paths::type_anchor))]
 fn type_anchor<G: Grammar>(p: &mut Parser<'_>, g: &G) -> Result<(), NoMemory>
     requires within { Within G.valid G.left g.now (state p.old) }
