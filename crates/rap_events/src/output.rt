@@ -134,7 +134,7 @@ impl Output {
     }
 
     /// Returns whether the last thing in the output is a leaf of this kind that stands in so many nodes, each the last
-    /// thing in the one around it. Only as many of the last steps are looked at.
+    /// thing in the one around it. Of the steps only the last ones are looked at, one more than there are such nodes.
     pub fn ends_in(&self, kind: SyntaxKind, depth: u8) -> bool
         ensures { result ≡ ends_in kind depth self.now }
     {

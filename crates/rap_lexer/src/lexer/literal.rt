@@ -29,8 +29,8 @@ pub struct PlainLiteral {
 /// [`first_token`](crate::lexer::first_token) takes any.
 ///
 /// Plain are a string in which a backslash stands only before one of `n`, `r`, `t`, `\`, `'`, `"` and `0`, and a
-/// character in quotes that is such an escape, or printing ASCII, no quote and no backslash; unless an ASCII character that begins an
-/// identifier or a character past ASCII follows. There is nothing to report about any of them.
+/// character in quotes that is such an escape, or printing ASCII but no `'` and no backslash; unless an ASCII character
+/// that begins an identifier or a character past ASCII follows. There is nothing to report about any of them.
 #[inline(always)]
 pub fn plain_literal(text: &str) -> Option<PlainLiteral>
     requires { 0 < length text.now }

@@ -1,4 +1,4 @@
-//! Tokens that are taken at once: common ones, and numbers of decimal digits in their plainest form.
+//! Tokens that are taken at once: common ones, and numbers in their plainest form.
 ghost use Rattle.std.specs.Prelude.{◌≡◌, ◌≢◌, ◌<◌, ◌≤◌, ◌==◌, IfSome, MatchOption, false, true, length, chars, drop, slice_range, IsCharBoundary};
 ghost use Rattle.rap_base.specs.TokenKind.{FLOAT_NUMBER, INT_NUMBER, STRING};
 ghost use Rattle.rap_base.specs.TokenTests.{IsTokenKind};
