@@ -3,6 +3,7 @@ pub mod BorderLaws
 pub mod Climbs
 pub mod DeltaLaws
 pub mod HighlightOrders
+pub mod Kept
 pub mod LastLaws
 pub mod LeafRows
 pub mod NestLaws

@@ -29,10 +29,7 @@ fn diagnostic_of(message: &Message) -> Diagnostic<'_>
 }
 
 /// Messages with their ranges, in their order. The error means out of memory.
-pub(crate) fn diagnostics(
-    alloc: Global,
-    messages: &[Message],
-) -> Result<Vec<Diagnostic<'_>>, AllocError>
+pub fn diagnostics(alloc: Global, messages: &[Message]) -> Result<Vec<Diagnostic<'_>>, AllocError>
     ensures { IfOk result (λ list. map shown list.items ≡ map said messages.now) }
 {
     let mut list = Vec::new(alloc);

@@ -2,7 +2,7 @@
 //!
 //! [`Analysis::of_document`] parses a document; each of its other methods makes one answer, in byte offsets of the text
 //! on character boundaries. Only the tokens are in positions of the document, since their numbers are. A [`Listing`]
-//! answers the same of a document whose tree's lists are kept.
+//! answers the same, but for the diagnostics, of a document whose tree's list is kept.
 #![tactic(auto)]
 
 mod about;
@@ -31,7 +31,7 @@ mod tokens;
 
 pub use analysis::Analysis;
 pub use deltas::Delta;
-pub use diagnostic::Diagnostic;
+pub use diagnostic::{Diagnostic, diagnostics};
 pub use extent::Extent;
 pub use folds::{Fold, FoldKind};
 pub use listing::Listing;

@@ -1,57 +1,45 @@
-//! A document with the lists of its tree.
-ghost use Rattle.std.specs.Prelude.{◌≡◌, IfOk, length, map, string_bytes};
+//! A document with the list of its tree.
+ghost use Rattle.std.specs.Prelude.{◌≡◌, IfOk, length, string_bytes};
 ghost use Rattle.rap_base.specs.declared.edition.Edition.{Edition};
 ghost use Rattle.rap_lexed.specs.StrForest.{StrForest};
 ghost use Rattle.rap_ranged.specs.Ranged.{Ranged};
 ghost use Rattle.rap_ranged.specs.RangedForest.{RangedNode};
 ghost use Rattle.flat_tree.specs.FlatTree.{elements_of_tree};
 ghost use Rattle.rast_answers.specs.Deltas.{AreInOrder, decoded, deltas_from};
-ghost use Rattle.rast_answers.specs.Diagnostics.{said, shown};
 ghost use Rattle.rast_answers.specs.Folds.{folds_of};
 ghost use Rattle.rast_answers.specs.Highlights.{AreHighlights};
-ghost use Rattle.rast_answers.specs.Listings.{AreListsOf};
+ghost use Rattle.rast_answers.specs.Listings.{AreElementsOf};
 ghost use Rattle.rast_answers.specs.Selections.{IsSelection};
 ghost use Rattle.rast_answers.specs.Symbols.{symbols_of};
 ghost use Rattle.rast_answers.specs.Tokens.{tokens_of};
 
 use crate::deltas::{Delta, deltas};
-use crate::diagnostic::{Diagnostic, diagnostics};
 use crate::extent::Extent;
 use crate::folds::{Fold, folds};
 use crate::highlights::highlights;
 use crate::selection::outwards;
 use crate::symbols::{Symbol, symbols};
 use crate::tokens::tokens;
-use flat_tree::{Element, Message, leaf_of};
+use flat_tree::{Element, leaf_of};
 use rast_document::Document;
 use std::alloc::{AllocError, Global};
 
-/// A document with the lists of its tree, which were made before and are kept by the caller. It answers what an
-/// [`Analysis`](crate::Analysis) of the document answers, and parses nothing.
+/// A document with the list of its tree, which was made before and is kept by the caller. It answers what an
+/// [`Analysis`](crate::Analysis) of the document answers, but for the messages, and parses nothing.
 #[derive(Clone, Copy)]
 pub struct Listing<'d> {
     document: &'d Document,
     elements: &'d [Element],
-    messages: &'d [Message],
 }
 
 impl<'d> Listing<'d> {
-    /// A document with the nodes and leaves, and the messages, of the tree of its text, which was parsed as a source file.
-    pub fn new(
-        document: &'d Document,
-        elements: &'d [Element],
-        messages: &'d [Message],
-    ) -> Listing<'d>
-        requires { (edition : Edition) × AreListsOf (string_bytes document.now.text) edition elements.now messages.now }
+    /// A document with the nodes and leaves of the tree of its text, which was parsed as a source file.
+    pub fn new(document: &'d Document, elements: &'d [Element]) -> Listing<'d>
+        requires { (edition : Edition) × AreElementsOf (string_bytes document.now.text) edition elements.now }
         ensures document { result.document.now ≡ document.now }
         ensures elements { result.elements.now ≡ elements.now }
-        ensures messages { result.messages.now ≡ messages.now }
     {
-        Listing {
-            document,
-            elements,
-            messages,
-        }
+        Listing { document, elements }
     }
 
     /// The document.
@@ -66,13 +54,6 @@ impl<'d> Listing<'d> {
         ensures { result.now ≡ self.now.elements.now }
     {
         self.elements
-    }
-
-    /// The messages of the tree, each with its range, in the order of the text. The error means out of memory.
-    pub fn diagnostics(&self, alloc: Global) -> Result<Vec<Diagnostic<'d>>, AllocError>
-        ensures { IfOk result (λ list. map shown list.items ≡ map said self.now.messages.now) }
-    {
-        diagnostics(alloc, self.messages)
     }
 
     /// The symbols that the text declares, in the order of the text, each before those inside it. The error means out of

@@ -36,34 +36,49 @@ impl Lists {
         Ok(Lists { elements, messages })
     }
 
-    /// The document whose tree they are of, with them.
+    /// The messages, in the order of the text.
+    pub(crate) fn messages(&self) -> &[Message]
+        ensures { result.now ≡ self.now.messages.items }
+    {
+        self.messages.as_slice()
+    }
+
+    /// The document whose tree they are of, with its nodes and leaves.
+    #[tactic(auto, using(rast_answers::proofs::Kept::elements_of_lists))]
     pub(crate) fn listing<'d>(&'d self, document: &'d Document) -> Listing<'d>
         requires { AreListsOf (string_bytes document.now.text) Edition2024 self.now.elements.items self.now.messages.items }
         ensures { result.document.now ≡ document.now }
     {
-        Listing::new(document, self.elements.as_slice(), self.messages.as_slice())
+        Listing::new(document, self.elements.as_slice())
+    }
+
+    /// The nodes and leaves alone.
+    fn into_elements(self) -> Vec<Element>
+        ensures { result.items ≡ self.elements.items }
+    {
+        self.elements
     }
 }
 
-/// A document with the lists of the tree of its text, if it has one. Contracts see the document.
+/// A document with the nodes and leaves of the tree of its text, if it has one. Contracts see the document.
 #[derive(Drop)]
 pub(crate) struct Parsed {
     document: Document,
-    lists: Option<Lists>,
+    elements: Option<Vec<Element>>,
 }
 
 impl Model for Parsed {
     ghost use Rattle.std.specs.Prelude.{string_bytes};
     ghost use Rattle.std.specs.Option.{ForSome};
     ghost use Rattle.rap_base.specs.declared.edition.Edition.TheVariants.{Edition2024};
-    ghost use Rattle.rast_answers.specs.Listings.{AreListsOf};
+    ghost use Rattle.rast_answers.specs.Listings.{AreElementsOf};
     ghost use Rattle.rast_document.specs.declared.document.Document.{Document};
 
     ghost Value = { Document };
 
     ghost view = { λ p. p.document };
 
-    ghost invariant = { λ p. ForSome p.lists (λ lists. AreListsOf (string_bytes p.document.text) Edition2024 lists.elements.items lists.messages.items) };
+    ghost invariant = { λ p. ForSome p.elements (λ elements. AreElementsOf (string_bytes p.document.text) Edition2024 elements.items) };
 }
 
 impl Parsed {
@@ -73,7 +88,7 @@ impl Parsed {
     {
         Parsed {
             document,
-            lists: None,
+            elements: None,
         }
     }
 
@@ -84,22 +99,23 @@ impl Parsed {
         &self.document
     }
 
-    /// The document with the lists of its tree, if they are kept.
+    /// The document with the nodes and leaves of its tree, if they are kept.
     pub(crate) fn listing(&self) -> Option<Listing<'_>>
         ensures { IfSome result (λ listing. listing.document.now ≡ self.now) }
     {
-        match &self.lists {
-            Some(lists) => Some(lists.listing(&self.document)),
+        match &self.elements {
+            Some(elements) => Some(Listing::new(&self.document, elements.as_slice())),
             None => None,
         }
     }
 
-    /// Keeps the lists of its tree.
+    /// Keeps the nodes and leaves of its tree.
+    #[tactic(auto, using(rast_answers::proofs::Kept::elements_of_lists))]
     pub(crate) fn keep(&mut self, lists: Lists)
         requires { AreListsOf (string_bytes self.old.text) Edition2024 lists.elements.items lists.messages.items }
         ensures { self.new ≡ self.old }
     {
-        self.lists = Some(lists);
+        self.elements = Some(lists.into_elements());
     }
 
     /// Makes changes, as [`Document::change`] does. Then the document is not parsed any more.
@@ -115,7 +131,7 @@ impl Parsed {
         ensures err { OnErr result (self.new ≡ self.old) }
     {
         self.document.change(alloc, changes)?;
-        self.lists = None;
+        self.elements = None;
         Ok(())
     }
 }

@@ -15,7 +15,7 @@ use crate::answers::{folds, highlights, push_diagnostics, selections, symbols, t
 use crate::initialize::capabilities;
 use crate::parsed::{Lists, Parsed};
 use ra_ap_parser::{NoMemory, TextFault};
-use rast_answers::{Diagnostic, Listing};
+use rast_answers::{Diagnostic, Listing, diagnostics};
 use rast_document::{Change, ChangeFault, Document, Encoding};
 use rast_messages::{
     Code, Fault, Message, NO_MEMORY, changes_in, classify, encoding_of, error, log, notification,
@@ -193,12 +193,11 @@ fn push_listed(
     requires { AreListsOf (string_bytes document.now.text) Edition2024 lists.now.elements.items lists.now.messages.items }
     ensures { IfErr result IsNoMemory }
 {
-    let listing = lists.listing(document);
-    let list = listing.diagnostics(alloc)?;
+    let list = diagnostics(alloc, lists.messages())?;
     Ok(push_diagnostics(alloc, json, document, list.as_slice())?)
 }
 
-/// Adds the messages of the tree of a document, which keeps its lists.
+/// Adds the messages of the tree of a document, which keeps its nodes and leaves.
 fn push_kept(
     alloc: Global,
     json: &mut String,
@@ -214,8 +213,8 @@ fn push_kept(
     Ok(())
 }
 
-/// Adds the messages of a document, or the one that it has no tree. The document is parsed for them, and keeps the lists
-/// of its tree.
+/// Adds the messages of a document, or the one that it has no tree. The document is parsed for them, and keeps the nodes
+/// and leaves of its tree.
 fn push_messages(alloc: Global, json: &mut String, document: &mut Parsed) -> Result<(), Fault>
     ensures same { document.new ≡ document.old }
     ensures why { IfErr result IsNoMemory }
