@@ -23,7 +23,7 @@ impl Tree<'_> {
     /// it ends or after, the last one in preorder. None of the others is inside it. Of two leaves between which an
     /// empty range is, it is the second one. `None` exactly if the range ends after the text. The tree must have
     /// the places of a text, as [`Tree::build`] and [`Tree::of_text`] return it. On each level it searches the children
-    /// of one node, by bisection if they are more than a few, and it allocates no memory.
+    /// of one node by bisection, and it allocates no memory.
     pub fn covering(&self, range: Range<usize>) -> Option<Element<'_>>
         requires { (forest : StrForest) × Ranged forest self.now.root }
         ensures element { option_map shown result ≡ smallest_holding range.start range.end (alone self.now.root) }

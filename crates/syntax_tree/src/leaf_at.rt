@@ -15,7 +15,7 @@ impl Tree<'_> {
     /// The leaf that holds the byte at this offset in the text: the one that begins there or before, and ends after it.
     /// `None` exactly at the end of the text and after it. The tree must have the places of a text, as [`Tree::build`]
     /// and [`Tree::of_text`] return it. On each level it searches the
-    /// children of one node, by bisection if they are more than a few, and it allocates no memory.
+    /// children of one node by bisection, and it allocates no memory.
     pub fn leaf_at(&self, offset: usize) -> Option<Leaf>
         requires { (forest : StrForest) × Ranged forest self.now.root }
         ensures leaf { result ≡ leaf_of_byte offset self.now.root.children }
@@ -35,25 +35,11 @@ pub(crate) fn end_of(child: &Child) -> usize
     }
 }
 
-/// How many children are looked at one after another; more are searched by bisection.
-const FEW: usize = 8;
-
-/// The first child that ends after a byte, looked for from the first child on.
-#[inline(always)]
-fn first_after(children: &[Child], offset: usize) -> Option<&Child>
-    ensures { option_copied result ≡ find (ends_after offset) children.now }
-{
-    children.iter().find(|child| offset < end_of(*child))
-}
-
 /// The first child that ends after a byte.
 pub(crate) fn child_after(children: &[Child], offset: usize) -> Option<&Child>
     requires { IsNonDecreasingBy child_end children.now }
     ensures { option_copied result ≡ find (ends_after offset) children.now }
 {
-    if children.len() <= FEW {
-        return first_after(children, offset);
-    }
     let at = children.partition_point(|child| end_of(child) <= offset);
     if at < children.len() {
         Some(&children[at])
