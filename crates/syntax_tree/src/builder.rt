@@ -103,8 +103,8 @@ impl Builder {
         let inside = one_more(open.before)?;
         let before = self.children.len().saturating_sub(self.inside);
         let children = self.children.split_off(before)?;
-        self.children.reserve(1)?;
         let node = Node::new(open.kind, open.start, self.at, children);
+        self.children.reserve(1)?;
         self.children.push_reserved(Child::Node(node));
         self.inside = inside;
         Ok(())
