@@ -1,5 +1,4 @@
 pub mod Reported
 mod Blocks
-mod Escapes
 mod Spelling
 pub mod Fronts

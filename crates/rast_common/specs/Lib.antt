@@ -1,6 +1,5 @@
 pub mod Indented
 pub mod Message
-pub mod Plain
 pub mod Program
 pub mod Quote
 pub mod Spelled

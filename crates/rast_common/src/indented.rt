@@ -1,11 +1,11 @@
 //! Texts of indented lines.
-ghost use Rattle.std.specs.Prelude.{◌≡◌, ◌++◌, [], IfSome, IsSome, OnErr, OnOk, chars, codes, string_bytes};
+ghost use Rattle.std.specs.Prelude.{◌≡◌, ◌++◌, [], IfSome, IsSome, OnErr, OnOk, chars, string_bytes};
 ghost use Rattle.std.specs.Io.KnownBytes.{Appends};
 ghost use Rattle.rast_common.specs.Indented.{indent};
 ghost use Rattle.rast_common.specs.Quote.{quoted};
 
 use crate::block::{Block, put, put_line};
-use crate::quote::{push_quoted, push_quoted_line};
+use crate::quote::push_quoted;
 use std::alloc::{AllocError, Global};
 use std::fmt::Display;
 use std::io;
@@ -97,18 +97,6 @@ impl IndentedText {
         ensures { OnOk result (self.new ≡ self.old ++ quoted (chars text.now)) }
     {
         let Ok(()) = push_quoted(&mut self.text, text) else {
-            self.indents.clear();
-            return Err(AllocError);
-        };
-        Ok(())
-    }
-
-    /// Adds a space, a text in quotes, and the end of the line. The error means out of memory; then nothing is specified
-    /// about the text.
-    pub fn push_quoted_line(&mut self, text: &str) -> Result<(), AllocError>
-        ensures { OnOk result (self.new ≡ self.old ++ (codes " " ++ (quoted (chars text.now) ++ codes "\n"))) }
-    {
-        let Ok(()) = push_quoted_line(&mut self.text, text) else {
             self.indents.clear();
             return Err(AllocError);
         };

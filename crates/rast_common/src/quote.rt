@@ -1,9 +1,6 @@
 //! Texts as the programs print them.
-ghost use Rattle.std.specs.Prelude.{◌≡◌, ◌<◌, ◌≤◌, ◌++◌, ℕ, true, false, length, slice_index, slice_range, OnOk, string_bytes, chars, codes};
-ghost use Rattle.std.specs.List.{flat_map};
-ghost use Rattle.std.specs.Str.{IsCharBoundary};
+ghost use Rattle.std.specs.Prelude.{◌≡◌, ◌<◌, ◌++◌, OnOk, string_bytes, chars};
 ghost use Rattle.rast_common.specs.Quote.{hex_digit, hex_digits, escaped, quoted};
-ghost use Rattle.rast_common.specs.Plain.{is_plain};
 
 use std::alloc::AllocError;
 
@@ -30,85 +27,25 @@ fn push_hex(out: &mut String, n: u8) -> Result<(), AllocError>
     Ok(())
 }
 
-/// Whether a byte of a text is the same between quotes: that of a character that needs no escape, or one of several that
-/// are a character.
-#[inline(always)]
-fn is_plain(byte: u8) -> bool
-    ensures { result ≡ is_plain byte }
+/// Adds the character as it is written between quotes.
+fn push_escaped(out: &mut String, c: char) -> Result<(), AllocError>
+    ensures { OnOk result (string_bytes out.new ≡ string_bytes out.old ++ escaped c) }
 {
-    byte >= 32 && byte != b'"' && byte != b'\\' && byte != 127
-}
-
-/// Where the bytes end, from a place on, that are the same between quotes.
-#[inline(always)]
-fn plain_end(bytes: &[u8], from: usize) -> usize
-    requires { from ≤ length bytes.now }
-    ensures order { from ≤ result }
-    ensures within { result ≤ length bytes.now }
-    ensures plain { (k : ℕ) → from ≤ k → k < result → is_plain (slice_index bytes.now k) ≡ true }
-    ensures ends { result < length bytes.now → is_plain (slice_index bytes.now result) ≡ false }
-{
-    let mut at = from;
-    'plain: while at < bytes.len() {
-        if !is_plain(bytes[at]) {
-            break;
-        }
-        at += 1;
-    }
-    at
-}
-
-/// Adds what stands between quotes for a character that is a byte.
-fn push_escape(out: &mut String, byte: u8) -> Result<(), AllocError>
-    requires { byte < 128 }
-    ensures { OnOk result (string_bytes out.new ≡ string_bytes out.old ++ escaped byte) }
-{
-    match byte {
-        b'"' => out.push_str("\\\"")?,
-        b'\\' => out.push_str("\\\\")?,
-        b'\n' => out.push_str("\\n")?,
-        b'\r' => out.push_str("\\r")?,
-        b'\t' => out.push_str("\\t")?,
-        b'\0' => out.push_str("\\0")?,
-        1..=31 | 127 => {
+    match c {
+        '"' => out.push_str("\\\"")?,
+        '\\' => out.push_str("\\\\")?,
+        '\n' => out.push_str("\\n")?,
+        '\r' => out.push_str("\\r")?,
+        '\t' => out.push_str("\\t")?,
+        '\0' => out.push_str("\\0")?,
+        '\u{1}'..='\u{1f}' | '\u{7f}' => {
             out.push_str("\\u{")?;
-            push_hex(out, byte)?;
+            push_hex(out, c as u8)?;
             out.push_str("}")?;
         }
-        _ => out.push(byte as char)?,
+        _ => out.push(c)?,
     }
     Ok(())
-}
-
-/// Adds a part of a text.
-#[inline(always)]
-fn push_part(out: &mut String, text: &str, from: usize, to: usize) -> Result<(), AllocError>
-    requires order { from ≤ to }
-    requires begins { IsCharBoundary text.now from }
-    requires ends { IsCharBoundary text.now to }
-    ensures { OnOk result (string_bytes out.new ≡ string_bytes out.old ++ slice_range text.now from to) }
-{
-    if from < to {
-        out.push_str(&text[from..to])?;
-    }
-    Ok(())
-}
-
-/// Adds the text as it is written between quotes: what needs no escape as it is, as far as it goes.
-fn push_escaped(out: &mut String, text: &str) -> Result<(), AllocError>
-    ensures { OnOk result (string_bytes out.new ≡ string_bytes out.old ++ flat_map escaped (chars text.now)) }
-{
-    let bytes = text.as_bytes();
-    let mut from = 0;
-    'escapes: loop {
-        let to = plain_end(bytes, from);
-        push_part(out, text, from, to)?;
-        if to == bytes.len() {
-            return Ok(());
-        }
-        push_escape(out, bytes[to])?;
-        from = to + 1;
-    }
 }
 
 /// Adds the text in quotes.
@@ -119,17 +56,9 @@ pub fn push_quoted(out: &mut String, text: &str) -> Result<(), AllocError>
     ensures { OnOk result (string_bytes out.new ≡ string_bytes out.old ++ quoted (chars text.now)) }
 {
     out.push_str("\"")?;
-    push_escaped(out, text)?;
+    for c in text.chars() {
+        push_escaped(out, c)?;
+    }
     out.push_str("\"")?;
-    Ok(())
-}
-
-/// Adds a space, the text in quotes, and a line feed.
-pub(crate) fn push_quoted_line(out: &mut String, text: &str) -> Result<(), AllocError>
-    ensures { OnOk result (string_bytes out.new ≡ string_bytes out.old ++ (codes " " ++ (quoted (chars text.now) ++ codes "\n"))) }
-{
-    out.push_str(" \"")?;
-    push_escaped(out, text)?;
-    out.push_str("\"\n")?;
     Ok(())
 }

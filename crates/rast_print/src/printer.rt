@@ -48,7 +48,9 @@ fn push_token(
         ≡ lines.old ++ (indent depth ++ (name_of kind ++ (codes " " ++ (quoted (chars text.now) ++ codes "\n"))))) }
 {
     push_kind(lines, depth, kind)?;
-    lines.push_quoted_line(text)?;
+    lines.push_str(" ")?;
+    lines.push_quoted(text)?;
+    lines.push_str("\n")?;
     Ok(())
 }
 
