@@ -9,7 +9,8 @@ use Rattle.rap_lexer.specs.Class.{is_ascii_in}
 use Rattle.rap_lexer.specs.Common.{is_lone, ends_no_word}
 use Rattle.rap_lexer.specs.First.{single_kind}
 use Rattle.rap_lexer.specs.declared.lexer.common.TheConstants.{CLASSES, LAST_ALONE, WHITE, WORD, OTHER, PAST_ASCII}
-use Rattle.rap_lexer.specs.declared.lexer.run.Class.TheVariants.{White, IdentStart, IdentContinue, Digit, DigitOrUnderscore}
+use Rattle.rap_lexer.specs.declared.lexer.run.TheConstants.{HEXADECIMAL}
+use Rattle.rap_lexer.specs.declared.lexer.run.Class.TheVariants.{White, IdentStart, IdentContinue, Digit, DigitOrUnderscore, HexOrUnderscore}
 use Rattle.rap_lexer.proofs.AsciiClasses.{starts, continues}
 
 -- the test holds of the numbers below n
@@ -103,3 +104,7 @@ digit_no_word b l h = sym (starts b) ∙ are_same _ _ (follows _ _ (each (λ b. 
 
 pub digit_goes_on : (b : ℕ) → b < 256 → is_ascii_in Digit b ≡ true → is_ascii_in DigitOrUnderscore b ≡ true
 digit_goes_on b l h = follows _ _ (each (λ b. not (is_ascii_in Digit b) || is_ascii_in DigitOrUnderscore b) 256 refl b l) h
+
+-- the table of hexadecimal digits and `_`
+pub hexadecimal_row : (b : ℕ) → b < 256 → (get_or HEXADECIMAL b 0 == 1) ≡ is_ascii_in HexOrUnderscore b
+hexadecimal_row b l = are_same _ _ (each (λ b. same (get_or HEXADECIMAL b 0 == 1) (is_ascii_in HexOrUnderscore b)) 256 refl b l)

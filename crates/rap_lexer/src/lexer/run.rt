@@ -2,6 +2,7 @@
 ghost use Rattle.std.specs.Prelude.{◌≡◌, ◌<◌, ◌≤◌, ℕ, false, length};
 ghost use Rattle.rap_lexer.specs.Class.{is_hex_digit, is_in, is_ascii_in};
 ghost use Rattle.rap_lexer.specs.Run.{next_in, run_of, after_run, after_suffix};
+ghost use Rattle.rap_lexer.specs.declared.lexer.run.Class.TheVariants.{HexOrUnderscore};
 
 use crate::lexer::cursor::Cursor;
 use crate::lexer::lanes::{white_run, word_run};
@@ -113,10 +114,41 @@ pub fn is_ascii_in(class: Class, b: u8) -> bool
         Class::Digit => b.is_ascii_digit(),
         Class::Underscore => b == b'_',
         Class::DigitOrUnderscore => (b == b'_') | b.is_ascii_digit(),
-        Class::HexOrUnderscore => (b == b'_') | b.is_ascii_hexdigit(),
+        Class::HexOrUnderscore => is_hexadecimal(b),
         Class::Hash => b == b'#',
     }
 }
+
+/// Whether the byte is a hexadecimal digit or `_`.
+///
+/// A look-up takes no jump, where to compare the byte with three ranges takes some: of digits in no order processors
+/// guess them wrong.
+#[inline(always)]
+fn is_hexadecimal(b: u8) -> bool
+    ensures { result ≡ is_ascii_in HexOrUnderscore b }
+{
+    HEXADECIMAL[usize::from(b)] == 1
+}
+
+#[rattlefmt::skip]
+static HEXADECIMAL: [u8; 256] = [
+    0, 0, 0, 0, 0, 0, 0, 0, 0, 0, 0, 0, 0, 0, 0, 0, // 0x00
+    0, 0, 0, 0, 0, 0, 0, 0, 0, 0, 0, 0, 0, 0, 0, 0, // 0x10
+    0, 0, 0, 0, 0, 0, 0, 0, 0, 0, 0, 0, 0, 0, 0, 0, // 0x20
+    1, 1, 1, 1, 1, 1, 1, 1, 1, 1, 0, 0, 0, 0, 0, 0, // 0x30
+    0, 1, 1, 1, 1, 1, 1, 0, 0, 0, 0, 0, 0, 0, 0, 0, // 0x40
+    0, 0, 0, 0, 0, 0, 0, 0, 0, 0, 0, 0, 0, 0, 0, 1, // 0x50
+    0, 1, 1, 1, 1, 1, 1, 0, 0, 0, 0, 0, 0, 0, 0, 0, // 0x60
+    0, 0, 0, 0, 0, 0, 0, 0, 0, 0, 0, 0, 0, 0, 0, 0, // 0x70
+    0, 0, 0, 0, 0, 0, 0, 0, 0, 0, 0, 0, 0, 0, 0, 0, // 0x80
+    0, 0, 0, 0, 0, 0, 0, 0, 0, 0, 0, 0, 0, 0, 0, 0, // 0x90
+    0, 0, 0, 0, 0, 0, 0, 0, 0, 0, 0, 0, 0, 0, 0, 0, // 0xa0
+    0, 0, 0, 0, 0, 0, 0, 0, 0, 0, 0, 0, 0, 0, 0, 0, // 0xb0
+    0, 0, 0, 0, 0, 0, 0, 0, 0, 0, 0, 0, 0, 0, 0, 0, // 0xc0
+    0, 0, 0, 0, 0, 0, 0, 0, 0, 0, 0, 0, 0, 0, 0, 0, // 0xd0
+    0, 0, 0, 0, 0, 0, 0, 0, 0, 0, 0, 0, 0, 0, 0, 0, // 0xe0
+    0, 0, 0, 0, 0, 0, 0, 0, 0, 0, 0, 0, 0, 0, 0, 0, // 0xf0
+];
 
 /// How many ASCII characters of the class stand first.
 #[inline(always)]
