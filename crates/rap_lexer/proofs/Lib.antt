@@ -19,8 +19,6 @@ pub mod OneBody
 pub mod OneRun
 pub mod OneToken
 pub mod PlainCharacters
-pub mod PlainFloats
-pub mod PlainHexadecimals
 pub mod PlainNumbers
 pub mod PlainStrings
 pub mod Prefixes

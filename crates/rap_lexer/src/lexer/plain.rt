@@ -1,14 +1,18 @@
 //! Tokens that are taken at once: common ones, and numbers in their plainest form.
-ghost use Rattle.std.specs.Prelude.{◌≡◌, ◌≢◌, ◌<◌, ◌≤◌, ◌==◌, IfSome, MatchOption, false, true, length, chars, drop, slice_range, IsCharBoundary};
-ghost use Rattle.rap_base.specs.TokenKind.{FLOAT_NUMBER, INT_NUMBER, STRING};
+ghost use Rattle.std.specs.Prelude.{◌≡◌, ◌≢◌, ◌<◌, IfSome, MatchOption, nat_lt, false, true, length, chars, drop, slice_range, IsCharBoundary};
+ghost use Rattle.rap_base.specs.TokenKind.{STRING};
 ghost use Rattle.rap_base.specs.TokenTests.{IsTokenKind};
-ghost use Rattle.rap_base.specs.declared.edition.Edition.{Edition};
-ghost use Rattle.rap_lexer.specs.Common.{is_contextual};
+ghost use Rattle.rap_lexer.specs.Class.{is_ascii_in};
+ghost use Rattle.rap_lexer.specs.Common.{is_contextual, next_fits};
 ghost use Rattle.rap_lexer.specs.First.{First};
 ghost use Rattle.rap_lexer.specs.Lexeme.{plain};
-ghost use Rattle.rap_lexer.specs.Plain.{begins_suffix, ends_no_integer, is_digit_of_sixteen, is_fraction, is_plain_float, is_plain_hexadecimal, is_plain_integer, is_quick, IsFractionOf, IsQuick};
+ghost use Rattle.rap_lexer.specs.Number.{after_sign};
+ghost use Rattle.rap_lexer.specs.Plain.{begins_suffix, has_plain_suffix, after_plain_suffix, has_plain_power, after_plain_power, has_plain_exponent, after_plain_exponent, has_plain_end, after_plain_end, kind_with_end, ends_before_dot, has_plain_fraction, after_plain_fraction, is_plain_past_digits, after_past_digits, kind_past_digits, is_based, is_binary, is_digit_of, has_plain_digits, after_plain_digits, is_plain_number, is_quick, IsPlainNumber, Leaves};
+ghost use Rattle.rap_lexer.specs.Run.{next_is, after_run};
+ghost use Rattle.rap_lexer.specs.declared.lexer.run.Class.TheVariants.{Digit};
 
 use crate::lexer::common::{CommonToken, PAST_ASCII, WORD, class_of, common_token};
+use crate::lexer::lanes::word_run;
 use crate::lexer::run::{Class, byte_run, is_ascii_in};
 use rap_base::edition::Edition;
 use rap_base::syntax_kind::SyntaxKind;
@@ -16,10 +20,10 @@ use rap_base::syntax_kind::SyntaxKind;
 /// Returns the first token of `text`, which must not be empty, if it can be taken at once, and otherwise `None`:
 /// [`first_token`](crate::lexer::first_token) takes any.
 ///
-/// Taken at once are the common tokens; plain integers, decimal digits and `_`, unless a suffix, a dot or a character
-/// past ASCII follows them; plain floats, digits and `_`, a dot, and at once a digit and more, unless a suffix, an
-/// exponent or a character past ASCII follows them; and plain hexadecimal integers, `0x`, a digit and more digits and
-/// `_`, with the same behind them as behind plain integers. There is nothing to report about any of them.
+/// Taken at once are the common tokens and plain numbers. A number is plain if a digit of its base stands at once after
+/// `0b`, `0o` and `0x`, and a digit after the `e` and the sign of an exponent; if its suffix is of ASCII; and if no
+/// character past ASCII follows it, or a dot directly after its first digits. There is nothing to report about any of
+/// them.
 #[inline(always)]
 pub fn quick_token(edition: Edition, text: &str) -> Option<CommonToken>
     requires { 0 < length text.now }
@@ -33,135 +37,255 @@ pub fn quick_token(edition: Edition, text: &str) -> Option<CommonToken>
 {
     match common_token(edition, text) {
         Some(token) => Some(token),
-        None => match plain_integer(text) {
-            Some(token) => Some(token),
-            None => match plain_float(text) {
-                Some(token) => Some(token),
-                None => plain_hexadecimal(text),
-            },
-        },
+        None => plain_number(text),
     }
 }
 
-/// The plain integer that the text begins with.
+/// The plain number that the text begins with.
 #[inline(always)]
-fn plain_integer(text: &str) -> Option<CommonToken>
-    requires { 0 < length text.now }
-    ensures token { MatchOption result (is_plain_integer text.now ≡ false) (λ r. (edition : Edition) → IsQuick edition text.now r.kind r.len) }
-    ensures integer { IfSome result (λ _. is_plain_integer text.now ≡ true) }
-    ensures kind { IfSome result (λ r. r.kind ≡ INT_NUMBER) }
-    ensures contextual { IfSome result (λ r. r.is_contextual ≡ false) }
+fn plain_number(text: &str) -> Option<CommonToken>
+    ensures number { MatchOption result (is_plain_number text.now ≡ false) (λ r. IsPlainNumber text.now r.kind r.len) }
+    ensures contextual { IfSome result (λ r. r.is_contextual ≡ is_contextual r.kind (slice_range text.now 0 r.len)) }
 {
-    let bytes = text.as_bytes();
-    if !is_ascii_in(Class::Digit, bytes[0]) {
-        return None;
-    }
-    let n = byte_run(bytes, Class::DigitOrUnderscore);
-    if n < bytes.len() && ends_no_integer(bytes[n]) {
-        None
+    if begins_with(text.as_bytes(), Class::Digit) {
+        number_of(text)
     } else {
-        Some(CommonToken {
-            kind: SyntaxKind::INT_NUMBER,
-            len: n,
-            is_contextual: false,
-        })
-    }
-}
-
-/// The plain float that the text begins with.
-#[inline(always)]
-fn plain_float(text: &str) -> Option<CommonToken>
-    requires { 0 < length text.now }
-    ensures token { MatchOption result (is_plain_float text.now ≡ false) (λ r. (edition : Edition) → IsQuick edition text.now r.kind r.len) }
-    ensures float { IfSome result (λ _. is_plain_float text.now ≡ true) }
-    ensures kind { IfSome result (λ r. r.kind ≡ FLOAT_NUMBER) }
-    ensures contextual { IfSome result (λ r. r.is_contextual ≡ false) }
-{
-    let bytes = text.as_bytes();
-    if !is_ascii_in(Class::Digit, bytes[0]) {
-        return None;
-    }
-    let n = byte_run(bytes, Class::DigitOrUnderscore);
-    match fraction(&bytes[n..]) {
-        None => None,
-        Some(more) => Some(CommonToken {
-            kind: SyntaxKind::FLOAT_NUMBER,
-            len: n + more,
-            is_contextual: false,
-        }),
-    }
-}
-
-/// How long the fraction is that the bytes begin with.
-#[inline(always)]
-fn fraction(bytes: &[u8]) -> Option<usize>
-    ensures fraction { MatchOption result (is_fraction bytes.now ≡ false) (λ m. IsFractionOf bytes.now m) }
-    ensures within { IfSome result (λ m. m ≤ length bytes.now) }
-{
-    if bytes.len() < 2 {
-        return None;
-    }
-    if bytes[0] != b'.' {
-        return None;
-    }
-    if !is_ascii_in(Class::Digit, bytes[1]) {
-        return None;
-    }
-    let end = 1 + byte_run(&bytes[1..], Class::DigitOrUnderscore);
-    if end < bytes.len() && begins_suffix(bytes[end]) {
         None
-    } else {
-        Some(end)
     }
 }
 
-/// The plain hexadecimal integer that the text begins with.
-#[inline(always)]
-fn plain_hexadecimal(text: &str) -> Option<CommonToken>
-    ensures token { MatchOption result (is_plain_hexadecimal text.now ≡ false) (λ r. (edition : Edition) → IsQuick edition text.now r.kind r.len) }
-    ensures hexadecimal { IfSome result (λ _. is_plain_hexadecimal text.now ≡ true) }
-    ensures kind { IfSome result (λ r. r.kind ≡ INT_NUMBER) }
-    ensures contextual { IfSome result (λ r. r.is_contextual ≡ false) }
+/// The same, of a text that begins with a digit.
+///
+/// It stands apart, since few tokens are numbers: the loop that takes the common ones is faster without it.
+#[inline(never)]
+fn number_of(text: &str) -> Option<CommonToken>
+    requires { next_fits (is_ascii_in Digit) text.now ≡ true }
+    ensures number { MatchOption result (is_plain_number text.now ≡ false) (λ r. IsPlainNumber text.now r.kind r.len) }
+    ensures contextual { IfSome result (λ r. r.is_contextual ≡ is_contextual r.kind (slice_range text.now 0 r.len)) }
 {
     let bytes = text.as_bytes();
+    let n = first_digits(bytes)?;
+    let end = past_digits(&bytes[n..])?;
+    Some(CommonToken {
+        kind: end.kind,
+        len: n + end.len,
+        is_contextual: false,
+    })
+}
+
+/// How long the base prefix, the digits and the `_` are that the bytes begin with.
+#[inline(always)]
+fn first_digits(bytes: &[u8]) -> Option<usize>
+    requires { next_fits (is_ascii_in Digit) bytes.now ≡ true }
+    ensures digits { MatchOption result (has_plain_digits bytes.now ≡ false) (λ n. Leaves bytes.now n (after_plain_digits bytes.now)) }
+    ensures plain { IfSome result (λ _. has_plain_digits bytes.now ≡ true) }
+    ensures positive { IfSome result (λ n. 0 < n) }
+{
+    if is_based(bytes, b'x') {
+        digits_of_base(bytes, Class::HexOrUnderscore)
+    } else if is_binary(bytes) {
+        digits_of_base(bytes, Class::DigitOrUnderscore)
+    } else {
+        Some(byte_run(bytes, Class::DigitOrUnderscore))
+    }
+}
+
+/// How long the base prefix is, with the digits and the `_` after it, if a digit is the first of them.
+#[inline(always)]
+fn digits_of_base(bytes: &[u8], class: Class) -> Option<usize>
+    ensures digits { MatchOption result (next_fits (is_digit_of class) (drop 2 bytes.now) ≡ false) (λ n. Leaves bytes.now n (after_run (is_ascii_in class) (drop 2 bytes.now))) }
+    ensures plain { IfSome result (λ _. next_fits (is_digit_of class) (drop 2 bytes.now) ≡ true) }
+    ensures positive { IfSome result (λ n. 0 < n) }
+{
     if bytes.len() < 3 {
         return None;
     }
-    if bytes[0] != b'0' {
+    if !is_digit_of(class, bytes[2]) {
         return None;
     }
-    if bytes[1] != b'x' {
+    Some(2 + byte_run(&bytes[2..], class))
+}
+
+/// Where a number ends, and its kind.
+#[derive(Clone, Copy)]
+struct NumberEnd {
+    kind: SyntaxKind,
+    /// How many bytes stand before its end.
+    len: usize,
+}
+
+/// How a number goes on past its first digits: with a fraction or without one.
+#[inline(always)]
+fn past_digits(bytes: &[u8]) -> Option<NumberEnd>
+    ensures end { MatchOption result (is_plain_past_digits bytes.now ≡ false) (λ r. Leaves bytes.now r.len (after_past_digits bytes.now)) }
+    ensures plain { IfSome result (λ _. is_plain_past_digits bytes.now ≡ true) }
+    ensures kind { IfSome result (λ r. r.kind ≡ kind_past_digits bytes.now) }
+{
+    if !is_next(bytes, b'.') {
+        return number_end(bytes, SyntaxKind::INT_NUMBER);
+    }
+    if ends_before_dot(&bytes[1..]) {
+        return Some(NumberEnd {
+            kind: SyntaxKind::INT_NUMBER,
+            len: 0,
+        });
+    }
+    let n = fraction(&bytes[1..])?;
+    Some(NumberEnd {
+        kind: SyntaxKind::FLOAT_NUMBER,
+        len: 1 + n,
+    })
+}
+
+/// How long the fraction is past its dot, with what ends the number. A dot alone makes a float too.
+#[inline(always)]
+fn fraction(bytes: &[u8]) -> Option<usize>
+    ensures fraction { MatchOption result (has_plain_fraction bytes.now ≡ false) (λ n. Leaves bytes.now n (after_plain_fraction bytes.now)) }
+    ensures plain { IfSome result (λ _. has_plain_fraction bytes.now ≡ true) }
+{
+    if !begins_with(bytes, Class::Digit) {
+        return if is_past_ascii(bytes) { None } else { Some(0) };
+    }
+    let digits = byte_run(bytes, Class::DigitOrUnderscore);
+    let end = number_end(&bytes[digits..], SyntaxKind::FLOAT_NUMBER)?;
+    Some(digits + end.len)
+}
+
+/// Whether a dot before these bytes is not the number's: a second dot follows it, or an identifier in ASCII.
+#[inline(always)]
+fn ends_before_dot(bytes: &[u8]) -> bool
+    ensures { result ≡ ends_before_dot bytes.now }
+{
+    is_next(bytes, b'.') || begins_with(bytes, Class::IdentStart)
+}
+
+/// How a number of this kind goes on past its last digits: with an exponent, which makes it a float, or a suffix.
+#[inline(always)]
+fn number_end(bytes: &[u8], kind: SyntaxKind) -> Option<NumberEnd>
+    ensures end { MatchOption result (has_plain_end bytes.now ≡ false) (λ r. Leaves bytes.now r.len (after_plain_end bytes.now)) }
+    ensures plain { IfSome result (λ _. has_plain_end bytes.now ≡ true) }
+    ensures kind { IfSome result (λ r. r.kind ≡ kind_with_end kind bytes.now) }
+{
+    if is_next(bytes, b'e') || is_next(bytes, b'E') {
+        let n = exponent(&bytes[1..])?;
+        Some(NumberEnd {
+            kind: SyntaxKind::FLOAT_NUMBER,
+            len: 1 + n,
+        })
+    } else {
+        let len = suffix(bytes)?;
+        Some(NumberEnd { kind, len })
+    }
+}
+
+/// How long the exponent is past its letter, with its suffix.
+#[inline(always)]
+fn exponent(bytes: &[u8]) -> Option<usize>
+    ensures exponent { MatchOption result (has_plain_exponent bytes.now ≡ false) (λ n. Leaves bytes.now n (after_plain_exponent bytes.now)) }
+    ensures plain { IfSome result (λ _. has_plain_exponent bytes.now ≡ true) }
+{
+    let sign = sign(bytes);
+    let n = power(&bytes[sign..])?;
+    Some(sign + n)
+}
+
+/// How long the exponent is past its sign, with its suffix.
+#[inline(always)]
+fn power(bytes: &[u8]) -> Option<usize>
+    ensures power { MatchOption result (has_plain_power bytes.now ≡ false) (λ n. Leaves bytes.now n (after_plain_power bytes.now)) }
+    ensures plain { IfSome result (λ _. has_plain_power bytes.now ≡ true) }
+{
+    if !begins_with(bytes, Class::Digit) {
         return None;
     }
-    if !is_digit_of_sixteen(bytes[2]) {
-        return None;
+    let n = byte_run(bytes, Class::DigitOrUnderscore);
+    let more = suffix(&bytes[n..])?;
+    Some(n + more)
+}
+
+/// How long the sign is that the bytes begin with.
+#[inline(always)]
+fn sign(bytes: &[u8]) -> usize
+    ensures { Leaves bytes.now result (after_sign bytes.now) }
+{
+    if is_next(bytes, b'+') || is_next(bytes, b'-') {
+        1
+    } else {
+        0
     }
-    let end = 2 + byte_run(&bytes[2..], Class::HexOrUnderscore);
-    if end < bytes.len() && ends_no_integer(bytes[end]) {
+}
+
+/// How long the suffix is that the bytes begin with.
+#[inline(always)]
+fn suffix(bytes: &[u8]) -> Option<usize>
+    ensures suffix { MatchOption result (has_plain_suffix bytes.now ≡ false) (λ n. Leaves bytes.now n (after_plain_suffix bytes.now)) }
+    ensures plain { IfSome result (λ _. has_plain_suffix bytes.now ≡ true) }
+{
+    if !has_suffix(bytes) {
+        return Some(0);
+    }
+    let n = word_run(bytes);
+    if is_past_ascii(&bytes[n..]) {
         None
     } else {
-        Some(CommonToken {
-            kind: SyntaxKind::INT_NUMBER,
-            len: end,
-            is_contextual: false,
-        })
+        Some(n)
     }
 }
 
-/// Whether the byte is a hexadecimal digit.
+/// Whether the bytes begin with `0` and this letter.
 #[inline(always)]
-fn is_digit_of_sixteen(b: u8) -> bool
-    ensures { result ≡ is_digit_of_sixteen b }
+fn is_based(bytes: &[u8], letter: u8) -> bool
+    ensures { result ≡ is_based letter bytes.now }
 {
-    is_ascii_in(Class::HexOrUnderscore, b) && b != b'_'
+    1 < bytes.len() && bytes[0] == b'0' && bytes[1] == letter
 }
 
-/// Whether the byte makes more than an integer of the digits before it.
+/// Whether the bytes begin with `0b` or `0o`.
 #[inline(always)]
-fn ends_no_integer(b: u8) -> bool
-    ensures { result ≡ ends_no_integer b }
+fn is_binary(bytes: &[u8]) -> bool
+    ensures { result ≡ is_binary bytes.now }
 {
-    b == b'.' || begins_suffix(b)
+    is_based(bytes, b'b') || is_based(bytes, b'o')
+}
+
+/// Whether the byte is a digit of the class.
+#[inline(always)]
+fn is_digit_of(class: Class, b: u8) -> bool
+    ensures { result ≡ is_digit_of class b }
+{
+    is_ascii_in(class, b) && b != b'_'
+}
+
+/// Whether the bytes begin with this one.
+#[inline(always)]
+fn is_next(bytes: &[u8], b: u8) -> bool
+    ensures { result ≡ next_is b bytes.now }
+{
+    !bytes.is_empty() && bytes[0] == b
+}
+
+/// Whether the bytes begin with an ASCII character of the class.
+#[inline(always)]
+fn begins_with(bytes: &[u8], class: Class) -> bool
+    ensures { result ≡ next_fits (is_ascii_in class) bytes.now }
+{
+    !bytes.is_empty() && is_ascii_in(class, bytes[0])
+}
+
+/// Whether the bytes begin with one past ASCII.
+#[inline(always)]
+fn is_past_ascii(bytes: &[u8]) -> bool
+    ensures { result ≡ next_fits (nat_lt 127) bytes.now }
+{
+    !bytes.is_empty() && 127 < bytes[0]
+}
+
+/// Whether the bytes begin with one that may begin a suffix.
+#[inline(always)]
+fn has_suffix(bytes: &[u8]) -> bool
+    ensures { result ≡ next_fits begins_suffix bytes.now }
+{
+    !bytes.is_empty() && begins_suffix(bytes[0])
 }
 
 /// Whether the byte may begin a suffix.

@@ -1,18 +1,35 @@
-use Rattle.std.proofs.Common.{◌≡◌, ◌+◌, ℕ, true, length, drop, sym, ap, ◌∙◌, arith}
+use Rattle.std.proofs.Common.{◌≡◌, true, sym, ◌∙◌}
 use Rattle.std.proofs.lemmas.List.{take_rest}
 use Rattle.rap_lexer.specs.Class.{is_ascii_in}
 use Rattle.rap_lexer.specs.Common.{next_fits}
-use Rattle.rap_lexer.specs.Plain.{begins_suffix}
-use Rattle.rap_lexer.specs.Run.{run_of}
-use Rattle.rap_lexer.specs.declared.lexer.run.Class.TheVariants.{DigitOrUnderscore}
-use Rattle.rap_lexer.proofs.CommonTokens.{next_at}
-use Rattle.rap_lexer.proofs.PlainFloats.{fraction_test}
+use Rattle.rap_lexer.specs.Run.{after_run}
+use Rattle.rap_lexer.specs.declared.lexer.run.Class.TheVariants.{Digit, DigitOrUnderscore}
+use Rattle.rap_lexer.proofs.PlainNumbers.{leaves_more, run_leaves, run_rest}
 use Rattle.rap_lexer.proofs.lexer.plain.fraction.Goals as goal
 
-pub returns-then-begins_suffix-clause-fraction : goal.returns-then-begins_suffix-clause-fraction
-returns-then-begins_suffix-clause-fraction c =
+pub returns-in_err-end-clause-fraction : goal.returns-in_err-end-clause-fraction
+returns-in_err-end-clause-fraction c =
     let bytes = c.args.bytes.now in
-    let n : ℕ = 1 + c.byte_run-end.result in
-    let run : n ≡ 1 + length (run_of (is_ascii_in DigitOrUnderscore) (drop 1 bytes)) = ap (λ k. 1 + k) (c.byte_run-end.ensures.run ∙ ap (λ l. length (run_of (is_ascii_in DigitOrUnderscore) l)) (take_rest bytes 1)) in
-    let next : next_fits begins_suffix (drop n bytes) ≡ true = next_at begins_suffix bytes n c.if-end-bytes.true ∙ (sym c.begins_suffix.ensures ∙ c.if-begins_suffix.true) in
-    fraction_test bytes n true c.if-bytes-ne46.false (sym c.is_ascii_in.ensures ∙ c.if-not-is_ascii_in.false) (omega (arith, c.if-bytes-lt2.false)) run next
+    let n = c.byte_run-digits.result in
+    let rest = run_rest DigitOrUnderscore bytes n c.byte_run-digits.ensures.run in
+    let none = rw (take_rest bytes n, rest) at c.in_err-end.ensures.end in
+    let digit : next_fits (is_ascii_in Digit) bytes ≡ true = sym c.begins_with.ensures ∙ c.if-not-begins_with.false in
+    rw (c.from_residual.ensures, digit) none
+
+pub returns-clause-fraction : goal.returns-clause-fraction
+returns-clause-fraction c =
+    let bytes = c.args.bytes.now in
+    let n = c.byte_run-digits.result in
+    let rest = run_rest DigitOrUnderscore bytes n c.byte_run-digits.ensures.run in
+    let end = rw (take_rest bytes n, rest) at c.in_ok-end.ensures.end in
+    let digit : next_fits (is_ascii_in Digit) bytes ≡ true = sym c.begins_with.ensures ∙ c.if-not-begins_with.false in
+    rw digit (leaves_more bytes (after_run (is_ascii_in DigitOrUnderscore) bytes) _ n c.in_ok-end.end.len (run_leaves DigitOrUnderscore bytes n c.byte_run-digits.ensures.run c.byte_run-digits.ensures.within) end)
+
+pub returns-clause-plain : goal.returns-clause-plain
+returns-clause-plain c =
+    let bytes = c.args.bytes.now in
+    let n = c.byte_run-digits.result in
+    let rest = run_rest DigitOrUnderscore bytes n c.byte_run-digits.ensures.run in
+    let some = rw (take_rest bytes n, rest) at c.in_ok-end.ensures.plain in
+    let digit : next_fits (is_ascii_in Digit) bytes ≡ true = sym c.begins_with.ensures ∙ c.if-not-begins_with.false in
+    rw digit some
