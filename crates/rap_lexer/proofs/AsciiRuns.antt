@@ -34,6 +34,29 @@ after_head q (b ∷ bs) c t e =
       | false ↦ λ h e. cc
     ]) refl e
 
+-- a run of ASCII characters that pass a test
+module _ (q : ℕ → Bool) (ascii : (b : ℕ) → q b ≡ true → b < 128) where
+  pub tested_ascii : (bs : List ℕ) → IsAscii (run_of q bs)
+  tested_ascii [] = IsAscii-nil
+  tested_ascii (b ∷ bs) =
+      (elim (q b) as (λ z. q b ≡ z → IsAscii (if z then b ∷ run_of q bs else [])) [
+        | true ↦ λ h. IsAscii-cons b (run_of q bs) (ascii b h) (tested_ascii bs)
+        | false ↦ λ h. IsAscii-nil
+      ]) refl
+
+  -- the bytes of the run are its characters
+  pub tested_spelt : (bs : List ℕ) → IsUtf8 bs → chars bs ≡ run_of q bs ++ chars (after_run q bs)
+  tested_spelt bs u =
+      ap chars (sym (run_of-after_run q bs))
+      ∙ (chars-append (run_of q bs) (after_run q bs) (IsUtf8-from_ascii (run_of q bs) (tested_ascii bs))
+      ∙ ap (λ x. x ++ chars (after_run q bs)) (chars-IsAscii (run_of q bs) (tested_ascii bs)))
+
+  -- a character begins past the run, or the text ends there
+  pub tested_border : (bs : List ℕ) → IsUtf8 bs → IsCharBoundary bs (length (run_of q bs))
+  tested_border bs u =
+      let e = sym (run_of-after_run q bs) in
+      IsCharBoundary-at_seam bs (run_of q bs) (after_run q bs) e (utf8_rest (run_of q bs) (after_run q bs) (tested_ascii bs) (rw e at u))
+
 module _ (class : Class) where
   abbrev p : ℕ → Bool
   p = is_in class
@@ -48,12 +71,7 @@ module _ (class : Class) where
   q_in b h = second_true (nat_lt b 128) (is_in class b) h
 
   pub run_ascii : (bs : List ℕ) → IsAscii (run_of (is_ascii_in class) bs)
-  run_ascii [] = IsAscii-nil
-  run_ascii (b ∷ bs) =
-      (elim (q b) as (λ z. q b ≡ z → IsAscii (if z then b ∷ run_of q bs else [])) [
-        | true ↦ λ h. IsAscii-cons b (run_of q bs) (q_ascii b h) (run_ascii bs)
-        | false ↦ λ h. IsAscii-nil
-      ]) refl
+  run_ascii = tested_ascii q q_ascii
 
   past : (bs ys : List ℕ) → after_run p (run_of q bs ++ ys) ≡ after_run p ys
   past [] ys = refl
@@ -63,22 +81,15 @@ module _ (class : Class) where
         | false ↦ λ h. refl
       ]) refl
 
-  -- the bytes of the run are its characters
   pub spelt : (bs : List ℕ) → IsUtf8 bs → chars bs ≡ run_of (is_ascii_in class) bs ++ chars (after_run (is_ascii_in class) bs)
-  spelt bs u =
-      ap chars (sym (run_of-after_run q bs))
-      ∙ (chars-append (run_of q bs) (after_run q bs) (IsUtf8-from_ascii (run_of q bs) (run_ascii bs))
-      ∙ ap (λ x. x ++ chars (after_run q bs)) (chars-IsAscii (run_of q bs) (run_ascii bs)))
+  spelt = tested_spelt q q_ascii
 
   -- past the run the same characters are left to be taken
   pub same : (bs : List ℕ) → IsUtf8 bs → after_run (is_in class) (chars (drop (length (run_of (is_ascii_in class) bs)) bs)) ≡ after_run (is_in class) (chars bs)
   same bs u = rw (after_drop q bs) (sym (ap (after_run p) (spelt bs u) ∙ past bs (chars (after_run q bs))))
 
-  -- a character begins past the run, or the text ends there
   pub border : (bs : List ℕ) → IsUtf8 bs → IsCharBoundary bs (length (run_of (is_ascii_in class) bs))
-  border bs u =
-      let e = sym (run_of-after_run q bs) in
-      IsCharBoundary-at_seam bs (run_of q bs) (after_run q bs) e (utf8_rest (run_of q bs) (after_run q bs) (run_ascii bs) (rw e at u))
+  border = tested_border q q_ascii
 
   stopped_at : (ys : List ℕ) → IsUtf8 ys → ((c : ℕ) (t : List ℕ) → ys ≡ c ∷ t → q c ≡ false) → get_or ys 0 0 < 128 → chars ys ≡ after_run p (chars ys)
   stopped_at [] u h low = rw chars-nil refl

@@ -1,5 +1,6 @@
 pub mod AsciiClasses
 pub mod AsciiRuns
+pub mod BareCharacters
 pub mod Characters
 pub mod CommonClasses
 pub mod CommonTokens

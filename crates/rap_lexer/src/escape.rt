@@ -1,15 +1,17 @@
 //! The faults of escapes in literals, after the Rust Reference, "Tokens", and the crate `rustc-literal-escaper`.
-ghost use Rattle.std.specs.Prelude.{◌≡◌, List, [], ◌∷◌, MatchOption, option_to_list, IfSome};
+ghost use Rattle.std.specs.Prelude.{◌≡◌, ◌≤◌, List, [], ◌∷◌, ◌++◌, length, MatchOption, option_to_list, IfSome, encode_utf8_all};
 ghost use Rattle.std.specs.Str.{chars};
 ghost use Rattle.rap_lexer.specs.Escape.{message, is_byte, is_single, hex_limit, reported, Character, CharacterReports, StringReports, Reports, is_gap};
 ghost use Rattle.rap_lexer.specs.EscapeWalk.{faults};
-ghost use Rattle.rap_lexer.specs.Run.{after_run};
+ghost use Rattle.rap_lexer.specs.PlainLiteral.{is_bare};
+ghost use Rattle.rap_lexer.specs.Run.{run_of, after_run};
 ghost use Rattle.rap_lexer.specs.declared.escape.Fault.{Fault};
 
 pub(crate) mod character;
 
 use crate::escape::character::character;
 use crate::lexer::cursor::Cursor;
+use crate::lexer::literal::is_bare;
 use std::marker::Model;
 
 /// What kind of literal a body belongs to.
@@ -168,12 +170,38 @@ fn skip_gap(rest: &mut Cursor<'_>)
     }
 }
 
+// How many bare characters stand first: printing ASCII that is neither a `'` nor a backslash.
+#[inline(always)]
+fn bare_run(bytes: &[u8]) -> usize
+    ensures run { result ≡ length (run_of is_bare bytes.now) }
+    ensures within { result ≤ length bytes.now }
+{
+    let mut n = 0usize;
+    'run: while n < bytes.len() && is_bare(bytes[n]) {
+        n += 1;
+    }
+    n
+}
+
+// Passes over bare characters: nothing is reported about them.
+#[inline(always)]
+fn skip_bare(rest: &mut Cursor<'_>)
+    ensures { rest.old ≡ run_of is_bare (encode_utf8_all rest.old) ++ rest.new }
+{
+    let n = bare_run(rest.as_str().as_bytes());
+    rest.advance(n);
+}
+
 // The next fault of a string's body.
 fn next_fault(mode: Mode, rest: &mut Cursor<'_>) -> Option<Fault>
     ensures { MatchOption result ((rest.new ≡ []) × StringReports mode rest.old [])
         (λ fault. (faults : List Fault) → StringReports mode rest.new faults → StringReports mode rest.old (fault ∷ faults)) }
 {
-    'body: while let Some(c) = rest.bump() {
+    'body: loop {
+        skip_bare(rest);
+        let Some(c) = rest.bump() else {
+            return None;
+        };
         if c == '\\' && rest.first() == Some('\n') {
             skip_gap(rest);
             continue;
@@ -182,7 +210,6 @@ fn next_fault(mode: Mode, rest: &mut Cursor<'_>) -> Option<Fault>
             return Some(fault);
         }
     }
-    None
 }
 
 /// An iterator over the faults of a literal's body. Contracts see the list of those that are left.

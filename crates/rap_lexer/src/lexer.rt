@@ -24,7 +24,7 @@ mod common;
 pub(crate) mod cursor;
 mod lanes;
 mod lexeme;
-mod literal;
+pub(crate) mod literal;
 mod number;
 mod plain;
 mod quoted;

@@ -163,7 +163,7 @@ fn is_simple(b: u8) -> bool
 
 /// Whether the character is printing ASCII that is neither a quote of a character nor a backslash.
 #[inline(always)]
-fn is_bare(b: u8) -> bool
+pub fn is_bare(b: u8) -> bool
     ensures { result ≡ is_bare b }
 {
     32 <= b && b <= 126 && b != b'\'' && b != b'\\'
