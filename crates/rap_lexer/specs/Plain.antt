@@ -1,4 +1,4 @@
--- Tokens in their plainest form, by their bytes.
+-- Tokens that are taken at once, by their bytes.
 use Rattle.std.specs.Prelude.{◌≡◌, ◌≢◌, ◌<◌, ◌≤◌, ℕ, Bool, true, ◌||◌, ◌&&◌, ◌==◌, not, nat_lt, if◌then◌else◌, List, length, chars, drop, IsCharBoundary}
 use Rattle.std.specs.Str.{byte}
 use Rattle.rap_base.specs.TokenKind.{FLOAT_NUMBER, INT_NUMBER, STRING}
@@ -111,7 +111,7 @@ after_plain_digits text =
     else (if is_binary text then after_run (is_ascii_in DigitOrUnderscore) (drop 2 text)
     else after_run (is_ascii_in DigitOrUnderscore) text)
 
--- The text begins with a number of that form.
+-- The text begins with a digit, and with such digits and such a rest of a number.
 abbrev pub is_plain_number : List ℕ → Bool
 is_plain_number text =
     next_fits (is_ascii_in Digit) text && (has_plain_digits text && is_plain_past_digits (after_plain_digits text))

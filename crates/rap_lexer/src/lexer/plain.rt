@@ -1,4 +1,4 @@
-//! Tokens that are taken at once: common ones, and numbers in their plainest form.
+//! Tokens that are taken at once: common ones, and plain numbers.
 ghost use Rattle.std.specs.Prelude.{◌≡◌, ◌≢◌, ◌<◌, IfSome, MatchOption, nat_lt, false, true, length, chars, drop, slice_range, IsCharBoundary};
 ghost use Rattle.rap_base.specs.TokenKind.{STRING};
 ghost use Rattle.rap_base.specs.TokenTests.{IsTokenKind};
@@ -20,10 +20,10 @@ use rap_base::syntax_kind::SyntaxKind;
 /// Returns the first token of `text`, which must not be empty, if it can be taken at once, and otherwise `None`:
 /// [`first_token`](crate::lexer::first_token) takes any.
 ///
-/// Taken at once are the common tokens and plain numbers. A number is plain if a digit of its base stands at once after
-/// `0b`, `0o` and `0x`, and a digit after the `e` and the sign of an exponent; if its suffix is of ASCII; and if no
-/// character past ASCII follows it, or a dot directly after its first digits. There is nothing to report about any of
-/// them.
+/// Taken at once are the common tokens and plain numbers. A number is plain if a decimal digit stands at once after `0b`
+/// and `0o`, a hexadecimal one after `0x`, and a decimal one after the letter and the optional sign of an exponent; if its
+/// suffix is of ASCII; and if no character past ASCII stands directly behind it, or behind a dot that directly follows its
+/// first digits. There is nothing to report about any of them.
 #[inline(always)]
 pub fn quick_token(edition: Edition, text: &str) -> Option<CommonToken>
     requires { 0 < length text.now }

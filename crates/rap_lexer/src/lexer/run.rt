@@ -122,7 +122,7 @@ pub fn is_ascii_in(class: Class, b: u8) -> bool
 /// Whether the byte is a hexadecimal digit or `_`.
 ///
 /// A look-up takes no jump, where to compare the byte with three ranges takes some: of digits in no order processors
-/// guess them wrong.
+/// guess many of them wrong.
 #[inline(always)]
 fn is_hexadecimal(b: u8) -> bool
     ensures { result ≡ is_ascii_in HexOrUnderscore b }
