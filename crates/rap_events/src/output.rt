@@ -15,8 +15,8 @@ use rap_base::syntax_kind::SyntaxKind;
 use std::alloc::Global;
 use std::marker::Model;
 
-/// The steps of an output: the words from `first` on. The messages are those of the errors, in the same order. They stand
-/// for so many tokens.
+/// The steps of an output: the words from `first` on, which stand for `tokens` tokens of the input. The messages are
+/// those of the errors, in the same order.
 #[derive(Drop)]
 pub(crate) struct StepList {
     steps: Vec<Word>,

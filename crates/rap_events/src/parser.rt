@@ -515,7 +515,8 @@ impl<'t> Parser<'t> {
     }
 }
 
-// For how many events room is made at first: most texts have three and a half to four and a half for each token.
+// For how many events room is made at first: half of real files have at most three and a half for each token, and this
+// is one more.
 #[inline(always)]
 fn expected_events(tokens: usize) -> usize
     ensures { tokens * 9 < 2 ^ 64 → result ≡ tokens * 9 / 2 }

@@ -5,10 +5,10 @@
 //! is proved from what that trait promises. A rule is called directly before a token was taken, and through the
 //! trait afterwards.
 //!
-//! One function, `run` of the crate above all rules, ties the knot: it hands each rule a `Grammar` that runs `run`
-//! again. It ends because a rule that is called through the trait has fewer tokens left than its caller: the trait
-//! requires that, so a rule that called itself without taking a token would not be proved. And since a rule knows the
-//! others by this trait alone, the crates of rules do not depend on one another.
+//! One function, `run_brief` of the crate above all rules, ties the knot: it hands each rule a `Grammar` that runs
+//! `run_brief` again. It ends because a rule that is called through the trait has fewer tokens left than its caller: the
+//! trait requires that, so a rule that called itself without taking a token would not be proved. And since a rule knows
+//! the others by this trait alone, the crates of rules do not depend on one another.
 ghost use Rattle.std.specs.Prelude.{◌≡◌, ℕ, ◌<◌, ◌≤◌, IfOk};
 ghost use Rattle.rap_events.specs.State.{state};
 ghost use Rattle.rap_grammar_frame.specs.Rules.{Pre, Post};

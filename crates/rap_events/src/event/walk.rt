@@ -239,7 +239,7 @@ impl Walk {
         Ok(())
     }
 
-    /// The output that the steps and all messages make. They stand for so many tokens.
+    /// The output that the steps, which stand for so many tokens, and all messages make.
     pub(super) fn output(self, tokens: usize) -> Output
         requires steps { flat (forest_of (walk_with (texts self) self).steps) ≡ (walk_with (texts self) self).steps }
         requires splits { splits_placed (forest_of (walk_with (texts self) self).steps) ≡ true }
