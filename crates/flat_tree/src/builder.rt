@@ -12,7 +12,7 @@ use std::alloc::Global;
 /// Each open node has the index of the one around it.
 ///
 /// Up to `room` elements the list takes another one without asking for memory, and each of these has an index in 32
-/// bits: so one comparison is all that stands before a step.
+/// bits: so one comparison tells both before an element is added.
 #[derive(Drop)]
 pub(crate) struct Builder {
     elements: Vec<Element>,

@@ -1,4 +1,4 @@
-//! Many small texts, as a macro expander and an analyser have them: each of 5 to 200 tokens.
+//! Many small texts, as a macro expander and an analyser have them: each of 1 to 130 tokens, white space among them.
 
 use crate::digest::{Digest, number};
 use crate::edited::parse_again;
