@@ -22,7 +22,8 @@ use header::{find_header, push_header};
 use rap_base::edition::Edition;
 use rap_base::no_memory::NoMemory;
 use rap_base::syntax_kind::SyntaxKind;
-use rap_lexer::lexer::{Lexeme, first_token, plain_literal, quick_token};
+use rap_lexer::escape::Mode;
+use rap_lexer::lexer::{Lexeme, first_token, plain_character, quick_token, string_token};
 pub(crate) use reported::holds_pair;
 use reported::{LexError, last_message, looks_open, report};
 
@@ -205,10 +206,15 @@ fn next_token(edition: Edition, text: &str) -> (Lexeme, usize, bool)
     ensures border { IsCharBoundary text.now result.1 }
     ensures quiet { IsTrue result.2 → IsQuiet (slice_range text.now 0 result.1) result.0.remark }
 {
-    match plain_literal(text) {
-        Some(token) => (
-            Lexeme::literal(token.kind, token.mode, true),
-            token.len,
+    let bytes = text.as_bytes();
+    if bytes[0] == b'"' {
+        let string = string_token(text);
+        return (string.token, string.len, string.is_plain);
+    }
+    match plain_character(text) {
+        Some(len) => (
+            Lexeme::literal(SyntaxKind::CHAR, Mode::Char, true),
+            len,
             true,
         ),
         None => {

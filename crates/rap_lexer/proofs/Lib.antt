@@ -25,6 +25,7 @@ pub mod PlainStrings
 pub mod Prefixes
 pub mod RawStrings
 pub mod RawWalk
+pub mod RestOfStrings
 pub mod Runs
 pub mod Steps
 pub mod Strings

@@ -23,6 +23,7 @@ use Rattle.rap_lexer.specs.PlainLiteral.{is_simple, is_plain_string, ends_plainl
 use Rattle.rap_lexer.specs.Quoted.{IsLiteral, StringRun}
 use Rattle.rap_lexer.specs.Run.{next_is, next_in, tail, run_of, after_run, after_suffix}
 use Rattle.rap_lexer.specs.declared.escape.Mode.TheVariants.{Str}
+use Rattle.rap_lexer.specs.declared.lexer.lexeme.Lexeme.{Lexeme}
 use Rattle.rap_lexer.specs.declared.lexer.run.Class.TheVariants.{White, InString, IdentStart, Digit}
 use Rattle.rap_lexer.proofs.AsciiClasses.{starts}
 use Rattle.rap_lexer.proofs.AsciiRuns.{after_head, utf8_rest}
@@ -188,15 +189,18 @@ module _ (text : List ℕ) (at : ℕ) (p : Passed text at) where
 
 -- ---- The whole string
 
-first_quote : (edition : Edition) (c : ℕ) (cs rest : List ℕ) → is_in White c ≡ false → is_in IdentStart c ≡ false → is_in Digit c ≡ false → (c == byte "/") ≡ false → (c == byte "'") ≡ false → (c == byte "\"") ≡ true
-    → IsLiteral StringRun STRING Str cs (literal STRING Str true) rest → First edition (c ∷ cs) (literal STRING Str true) rest
-first_quote edition c cs rest w s d k t q h = rw (w, s, d, k, t, q) h
+first_quote : (edition : Edition) (c : ℕ) (cs : List ℕ) (token : Lexeme) (rest : List ℕ) → is_in White c ≡ false → is_in IdentStart c ≡ false → is_in Digit c ≡ false → (c == byte "/") ≡ false → (c == byte "'") ≡ false → (c == byte "\"") ≡ true
+    → IsLiteral StringRun STRING Str cs token rest → First edition (c ∷ cs) token rest
+first_quote edition c cs token rest w s d k t q h = rw (w, s, d, k, t, q) h
+
+-- a string by the rules
+pub first_literal : (edition : Edition) (cs : List ℕ) (token : Lexeme) (rest : List ℕ) → IsLiteral StringRun STRING Str cs token rest → First edition (34 ∷ cs) token rest
+first_literal edition cs token rest = first_quote edition 34 cs token rest (without White 34 (omega arith) refl) (without IdentStart 34 (omega arith) (sym (starts 34))) refl refl refl refl
 
 first_string : (edition : Edition) (cs rest : List ℕ) → StringRun cs true rest → next_in IdentStart rest ≡ false → First edition (34 ∷ cs) (literal STRING Str true) rest
 first_string edition cs rest run s =
     let suffix : rest ≡ after_suffix rest = rw s refl in
-    first_quote edition 34 cs rest (without White 34 (omega arith) refl) (without IdentStart 34 (omega arith) (sym (starts 34))) refl refl refl refl
-    (true, rest, run, refl, suffix)
+    first_literal edition cs (literal STRING Str true) rest (true, rest, run, refl, suffix)
 
 pub plain_string : (text : List ℕ) (at : ℕ) (after : List ℕ) → IsUtf8 text → next_is (byte "\"") text ≡ true → Passed text at → drop at text ≡ 34 ∷ after → next_fits begins_suffix (drop (at + 1) text) ≡ false → IsPlainLiteral text STRING Str (at + 1)
 plain_string [] at after u q p e h = cc
@@ -264,13 +268,11 @@ run_ends text bytes at n e r l q =
     ]
 
 module _ (text : List ℕ) (at : ℕ) (u : IsUtf8 text) (q : next_is (byte "\"") text ≡ true) (p : Passed text at) where
-  pub closed : (o : Option ℕ) → at < length text → get_or text at 0 ≡ 34 → MatchOption o (next_fits begins_suffix (drop (at + 1) text) ≡ true) (λ n. (n ≡ at + 1) × (next_fits begins_suffix (drop (at + 1) text) ≡ false)) → MatchOption o (is_plain_string text ≡ false) (λ n. IsPlainLiteral text STRING Str n)
-  closed None l m h = whole_test text false q (at_end text at (drop (at + 1) text) p (head_at text at l ∙ ap (λ x. x ∷ drop (at + 1) text) m) ∙ ap not h)
-  closed (Some n) l m h = subst (λ i. IsPlainLiteral text STRING Str i) (sym h.0) (plain_string text at (drop (at + 1) text) u q p (head_at text at l ∙ ap (λ x. x ∷ drop (at + 1) text) m) h.1)
+  pub closed : at < length text → get_or text at 0 ≡ 34 → next_fits begins_suffix (drop (at + 1) text) ≡ false → IsPlainLiteral text STRING Str (at + 1)
+  closed l m h = plain_string text at (drop (at + 1) text) u q p (head_at text at l ∙ ap (λ x. x ∷ drop (at + 1) text) m) h
 
-  pub closed_is : (o : Option ℕ) → at < length text → get_or text at 0 ≡ 34 → MatchOption o (next_fits begins_suffix (drop (at + 1) text) ≡ true) (λ n. (n ≡ at + 1) × (next_fits begins_suffix (drop (at + 1) text) ≡ false)) → IfSome o (λ _. is_plain_string text ≡ true)
-  closed_is None l m h = tt
-  closed_is (Some n) l m h = whole_test text true q (at_end text at (drop (at + 1) text) p (head_at text at l ∙ ap (λ x. x ∷ drop (at + 1) text) m) ∙ ap not h.1)
+  pub closed_is : (r : Bool) → at < length text → get_or text at 0 ≡ 34 → next_fits begins_suffix (drop (at + 1) text) ≡ r → is_plain_string text ≡ not r
+  closed_is r l m h = whole_test text (not r) q (at_end text at (drop (at + 1) text) p (head_at text at l ∙ ap (λ x. x ∷ drop (at + 1) text) m) ∙ ap not h)
 
   pub runs_out : length text ≤ at → is_plain_string text ≡ false
   runs_out l = whole_test text false q (no_end text at p (nil_from_length (drop at text) (omega (arith, length-drop at text, l))))

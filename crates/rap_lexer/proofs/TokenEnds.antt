@@ -79,7 +79,7 @@ number_end c cs token rest = by_option (base_of c cs)
 literal_end : (Run : List ℕ → Bool → List ℕ → Type 0) → ((cs : List ℕ) (closed : Bool) (rest : List ℕ) → Run cs closed rest → IsEnd cs rest) → (kind : ℕ) (mode : Mode) (cs : List ℕ) (token : Lexeme) (rest : List ℕ) → IsLiteral Run kind mode cs token rest → IsEnd cs rest
 literal_end Run ends kind mode cs token rest h = is h.4 (then' (ends cs h.0 h.1 h.2) (either h.0 (suffix h.1) (all h.1)))
 
-string_literal_end : (kind : ℕ) (mode : Mode) (cs : List ℕ) (token : Lexeme) (rest : List ℕ) → IsLiteral StringRun kind mode cs token rest → IsEnd cs rest
+pub string_literal_end : (kind : ℕ) (mode : Mode) (cs : List ℕ) (token : Lexeme) (rest : List ℕ) → IsLiteral StringRun kind mode cs token rest → IsEnd cs rest
 string_literal_end = literal_end StringRun (λ cs closed rest r. string_end r)
 
 character_ends_end : (cs : List ℕ) (closed : Bool) (rest : List ℕ) → CharacterEnds cs closed rest → IsEnd cs rest

@@ -46,10 +46,6 @@ is_bare_character text =
 abbrev pub is_plain_character : List ℕ → Bool
 is_plain_character text = if next_is (byte "\\") (drop 1 text) then is_escaped_character text else is_bare_character text
 
--- The text begins with one of the two.
-abbrev pub is_plain_literal : List ℕ → Bool
-is_plain_literal text = if next_is (byte "\"") text then is_plain_string text else is_plain_character text
-
 -- the quote of a literal
 abbrev pub quote_of : Mode → ℕ
 quote_of Char = byte "'"

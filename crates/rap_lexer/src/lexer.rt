@@ -14,7 +14,7 @@ use crate::lexer::run::{Class, eat_run, is_in};
 use crate::lexer::word::{invalid_word, word_like};
 pub use common::{CommonToken, common_token};
 pub use lexeme::{Lexeme, Remark};
-pub use literal::{PlainLiteral, plain_literal};
+pub use literal::{StringToken, plain_character, string_token};
 pub use plain::quick_token;
 use rap_base::edition::Edition;
 use rap_base::syntax_kind::SyntaxKind;

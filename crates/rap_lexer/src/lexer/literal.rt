@@ -1,81 +1,92 @@
-//! Literals in their plainest form, about which there is nothing to report.
-ghost use Rattle.std.specs.Prelude.{◌≡◌, ◌≢◌, ◌<◌, ◌==◌, IfSome, MatchOption, false, true, length, chars, drop, IsCharBoundary};
+//! Literals in their plainest form, about which there is nothing to report, and other strings.
+ghost use Rattle.std.specs.Prelude.{◌≡◌, ◌≢◌, ◌<◌, ◌≤◌, ◌==◌, IfSome, IsTrue, MatchOption, false, true, length, chars, drop, IsCharBoundary};
 ghost use Rattle.std.specs.Str.{byte};
 ghost use Rattle.rap_base.specs.TokenKind.{CHAR, STRING};
 ghost use Rattle.rap_base.specs.TokenTests.{IsTokenKind};
-ghost use Rattle.rap_lexer.specs.PlainLiteral.{is_simple, is_bare, is_plain_string, is_bare_character, is_escaped_character, is_plain_character, is_plain_literal, IsPlainLiteral};
-ghost use Rattle.rap_lexer.specs.Run.{next_is};
+ghost use Rattle.rap_base.specs.declared.edition.Edition.{Edition};
 ghost use Rattle.rap_lexer.specs.Common.{next_fits};
+ghost use Rattle.rap_lexer.specs.First.{First};
+ghost use Rattle.rap_lexer.specs.Lexeme.{literal};
 ghost use Rattle.rap_lexer.specs.Plain.{begins_suffix};
+ghost use Rattle.rap_lexer.specs.PlainLiteral.{is_simple, is_bare, is_plain_string, is_bare_character, is_escaped_character, is_plain_character, IsPlainLiteral};
+ghost use Rattle.rap_lexer.specs.Quoted.{IsLiteral, StringRun};
+ghost use Rattle.rap_lexer.specs.Run.{next_is};
 ghost use Rattle.rap_lexer.specs.declared.escape.Mode.TheVariants.{Char, Str};
 
 use crate::escape::Mode;
 use crate::escape::character::simple_escape;
+use crate::lexer::cursor::Cursor;
 use crate::lexer::lanes::string_run;
+use crate::lexer::lexeme::Lexeme;
 use crate::lexer::plain::begins_suffix;
+use crate::lexer::quoted::string;
 use rap_base::syntax_kind::SyntaxKind;
 
-/// A closed literal, in whose body there is nothing to report.
+/// A string that a text begins with.
 #[derive(Clone, Copy)]
-pub struct PlainLiteral {
-    pub kind: SyntaxKind,
-    /// What kind of literal it is.
-    pub mode: Mode,
-    /// Its length in bytes, with its quotes.
+pub struct StringToken {
+    pub token: Lexeme,
+    /// Its length in bytes.
     pub len: usize,
+    /// Whether it is plain: then there is nothing to report about it.
+    pub is_plain: bool,
 }
 
-/// Returns the first token of `text`, which must not be empty, if it is a plain literal, and otherwise `None`:
-/// [`first_token`](crate::lexer::first_token) takes any.
+/// Returns the first token of `text`, which must begin with a double quote, as
+/// [`first_token`](crate::lexer::first_token) has it, and whether it is a plain string.
 ///
-/// Plain are a string in which a backslash stands only before one of `n`, `r`, `t`, `\`, `'`, `"` and `0`, and a
-/// character in quotes that is such an escape, or printing ASCII but no `'` and no backslash; unless an ASCII character
-/// that begins an identifier or a character past ASCII follows. There is nothing to report about any of them.
+/// Plain is a closed string in which a backslash stands only before one of `n`, `r`, `t`, `\`, `'`, `"` and `0`, unless an
+/// ASCII character that begins an identifier or a character past ASCII follows it. There is nothing to report about one.
 #[inline(always)]
-pub fn plain_literal(text: &str) -> Option<PlainLiteral>
-    requires { 0 < length text.now }
-    ensures literal { MatchOption result (is_plain_literal text.now ≡ false) (λ r. IsPlainLiteral text.now r.kind r.mode r.len) }
-    ensures plain { IfSome result (λ _. is_plain_literal text.now ≡ true) }
-    ensures kind { IfSome result (λ r. IsTokenKind r.kind) }
-{
-    if text.as_bytes()[0] == b'"' {
-        let len = plain_string(text)?;
-        Some(PlainLiteral {
-            kind: SyntaxKind::STRING,
-            mode: Mode::Str,
-            len,
-        })
-    } else {
-        let len = plain_character(text)?;
-        Some(PlainLiteral {
-            kind: SyntaxKind::CHAR,
-            mode: Mode::Char,
-            len,
-        })
-    }
-}
-
-/// How long the plain string is that the text begins with.
-#[inline(always)]
-fn plain_string(text: &str) -> Option<usize>
+pub fn string_token(text: &str) -> StringToken
     requires { next_is (byte "\"") text.now ≡ true }
-    ensures literal { MatchOption result (is_plain_string text.now ≡ false) (λ n. IsPlainLiteral text.now STRING Str n) }
-    ensures plain { IfSome result (λ _. is_plain_string text.now ≡ true) }
+    ensures token { (edition : Edition) → First edition (chars text.now) result.token (chars (drop result.len text.now)) }
+    ensures kind { IsTokenKind result.token.kind }
+    ensures positive { 0 < result.len }
+    ensures border { IsCharBoundary text.now result.len }
+    ensures test { result.is_plain ≡ is_plain_string text.now }
+    ensures literal { IsTrue result.is_plain → result.token ≡ literal STRING Str true }
+    ensures plain { IsTrue result.is_plain → IsPlainLiteral text.now STRING Str result.len }
 {
     let bytes = text.as_bytes();
     let mut end = 1usize;
     'body: loop {
         end += string_run(&bytes[end..]);
         if end == bytes.len() {
-            return None;
+            return string_from(text, end);
         }
         if bytes[end] == b'"' {
-            return plain_end(bytes, end + 1);
+            let Some(len) = plain_end(bytes, end + 1) else {
+                return string_from(text, end);
+            };
+            return StringToken {
+                token: Lexeme::literal(SyntaxKind::STRING, Mode::Str, true),
+                len,
+                is_plain: true,
+            };
         }
         if end + 1 == bytes.len() || !is_simple(bytes[end + 1]) {
-            return None;
+            return string_from(text, end);
         }
         end += 2;
+    }
+}
+
+/// The string of which `at` bytes are taken, by the rules for what follows them.
+#[inline(never)]
+fn string_from(text: &str, at: usize) -> StringToken
+    requires { IsCharBoundary text.now at }
+    ensures token { IsLiteral StringRun STRING Str (chars (drop at text.now)) result.token (chars (drop result.len text.now)) }
+    ensures further { at ≤ result.len }
+    ensures border { IsCharBoundary text.now result.len }
+    ensures test { result.is_plain ≡ false }
+{
+    let mut cursor = Cursor::new(&text[at..]);
+    let token = string(&mut cursor, SyntaxKind::STRING, Mode::Str);
+    StringToken {
+        token,
+        len: text.len() - cursor.as_str().len(),
+        is_plain: false,
     }
 }
 
@@ -91,14 +102,22 @@ fn plain_end(bytes: &[u8], end: usize) -> Option<usize>
     }
 }
 
-/// How long the plain character is that the text begins with.
+/// Returns the length in bytes of the first token of `text`, which must not be empty, if it is a plain character, and
+/// otherwise `None`: [`first_token`](crate::lexer::first_token) takes any.
+///
+/// Plain is a character in quotes that is printing ASCII but no `'` and no backslash, or a backslash and one of `n`, `r`,
+/// `t`, `\`, `'`, `"` and `0`; unless an ASCII character that begins an identifier or a character past ASCII follows. There
+/// is nothing to report about one.
 #[inline(always)]
-fn plain_character(text: &str) -> Option<usize>
+pub fn plain_character(text: &str) -> Option<usize>
     requires { 0 < length text.now }
     ensures literal { MatchOption result (is_plain_character text.now ≡ false) (λ n. IsPlainLiteral text.now CHAR Char n) }
     ensures plain { IfSome result (λ _. is_plain_character text.now ≡ true) }
 {
     let bytes = text.as_bytes();
+    if bytes[0] != b'\'' {
+        return None;
+    }
     if 1 < bytes.len() && bytes[1] == b'\\' {
         escaped_character(text)
     } else {
