@@ -16,6 +16,7 @@ pub mod Lanes
 pub mod Leads
 pub mod LoneSigns
 pub mod Nesting
+pub mod NextBytes
 pub mod OneBody
 pub mod OneRun
 pub mod OneToken

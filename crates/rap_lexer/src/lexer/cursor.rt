@@ -3,6 +3,7 @@ ghost use Rattle.std.specs.Prelude.{◌≡◌, ◌≢◌, ◌≤◌, ◌++◌, M
 ghost use Rattle.std.specs.Str.{chars, IsCharBoundary};
 ghost use Rattle.rap_lexer.specs.Run.{next_is, tail};
 
+use crate::lexer::plain::is_next;
 use std::marker::Model;
 
 /// A place in a text. Contracts see the characters that are left.
@@ -81,10 +82,14 @@ impl<'a> Cursor<'a> {
         ahead
     }
 
-    /// Whether this character stands next.
+    /// Whether this character stands next. One of ASCII is looked for as a byte.
+    #[inline(always)]
     pub fn is_next(&self, c: char) -> bool
         ensures { result ≡ next_is c self.now }
     {
+        if c.is_ascii() {
+            return is_next(self.rest.as_bytes(), c as u8);
+        }
         match self.first() {
             Some(next) => next == c,
             None => false,

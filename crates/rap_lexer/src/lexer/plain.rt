@@ -258,7 +258,7 @@ fn is_digit_of(class: Class, b: u8) -> bool
 
 /// Whether the bytes begin with this one.
 #[inline(always)]
-fn is_next(bytes: &[u8], b: u8) -> bool
+pub fn is_next(bytes: &[u8], b: u8) -> bool
     ensures { result ≡ next_is b bytes.now }
 {
     !bytes.is_empty() && bytes[0] == b
