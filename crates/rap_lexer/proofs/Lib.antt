@@ -12,6 +12,7 @@ pub mod EscapeReadings
 pub mod EscapeRules
 pub mod EscapeStrings
 pub mod EscapeWalks
+pub mod FirstCharacters
 pub mod Lanes
 pub mod Leads
 pub mod LoneSigns

@@ -46,7 +46,8 @@ pub fn first_token(edition: Edition, text: &str) -> (Lexeme, usize)
     (token, text.len() - cursor.as_str().len())
 }
 
-/// Takes the first token.
+/// Takes the first token: comments, lifetimes, characters and numbers are told by their first byte, before the tests for
+/// white space and words.
 fn take_token(edition: Edition, cursor: &mut Cursor<'_>) -> Lexeme
     requires { 0 < length cursor.old }
     ensures { First edition cursor.old result cursor.new }
@@ -55,13 +56,17 @@ fn take_token(edition: Edition, cursor: &mut Cursor<'_>) -> Lexeme
     match cursor.bump() {
         None => unreachable!(),
         Some(c) => {
-            if is_in(Class::White, c) {
+            if c == '/' {
+                slash(cursor)
+            } else if c == '\'' {
+                tick(cursor)
+            } else if is_in(Class::Digit, c) {
+                number(cursor, c)
+            } else if is_in(Class::White, c) {
                 eat_run(cursor, Class::White);
                 Lexeme::plain(SyntaxKind::WHITESPACE)
             } else if is_in(Class::IdentStart, c) {
                 word_like(edition, cursor, c, text)
-            } else if is_in(Class::Digit, c) {
-                number(cursor, c)
             } else {
                 sign(edition, cursor, c)
             }
