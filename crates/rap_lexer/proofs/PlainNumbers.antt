@@ -56,6 +56,15 @@ suffix_leaves bs n s e w = rw s (run_leaves IdentContinue bs n e w)
 
 -- ---- What begins no suffix
 
+-- a suffix that begins past ASCII
+pub past_first : (bs : List ℕ) → next_fits begins_suffix bs ≡ true → next_fits (nat_lt 127) bs ≡ true → has_plain_suffix bs ≡ false
+past_first [] b h = cc
+past_first (c ∷ cs) b h =
+    let l : 127 < c = ltb-true 127 c h in
+    let high : nat_lt c 128 ≡ false = grind (arith, l) in
+    let run : after_run (is_ascii_in IdentContinue) (c ∷ cs) ≡ c ∷ cs = rw high refl in
+    rw (b, ap (next_fits (nat_lt 127)) run ∙ h) refl
+
 -- what begins no suffix is ASCII, and begins no identifier
 pub no_suffix : (ds : List ℕ) → IsUtf8 ds → next_fits begins_suffix ds ≡ false → next_in IdentStart (chars ds) ≡ false
 no_suffix [] u h = rw chars-nil refl

@@ -224,6 +224,9 @@ fn suffix(bytes: &[u8]) -> Option<usize>
     if !has_suffix(bytes) {
         return Some(0);
     }
+    if is_past_ascii(bytes) {
+        return None;
+    }
     let n = word_run(bytes);
     if is_past_ascii(&bytes[n..]) {
         None
