@@ -3,6 +3,7 @@
  * REFUSE_KIND   which calls are counted from the start of `main` on: growth (malloc, realloc, calloc), write, read or
  *               open
  * REFUSE_AT     the number of the call that fails, from 1 on
+ * REFUSE_COUNT  a file, which gets the number of these calls when the program ends by itself
  * REFUSE_SWEEP  instead of REFUSE_AT, a file: the program is run for each number from 0 on, each time in a process of
  *               its own, until a run meets no call that fails. The file gets a line for each run:
  *
@@ -199,8 +200,19 @@ __attribute__((constructor)) static void start(void)
     enum kind which = kind_named(kind);
     if (path) {
         sweep(path, which);
-    } else if (at) {
-        refused = strtoul(at, NULL, 10);
+    } else if (at || getenv("REFUSE_COUNT")) {
+        refused = at ? strtoul(at, NULL, 10) : 0;
         counted = which;
     }
+}
+
+__attribute__((destructor)) static void end(void)
+{
+    const char *path = getenv("REFUSE_COUNT");
+    if (!path)
+        return;
+    counted = NONE;
+    FILE *file = fopen(path, "w");
+    if (!file || fprintf(file, "%lu\n", calls) < 0 || fclose(file))
+        _exit(125);
 }

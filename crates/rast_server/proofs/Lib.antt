@@ -1,3 +1,4 @@
 pub mod Documents
+pub mod KeptTrees
 pub mod Requests
 pub mod Runs

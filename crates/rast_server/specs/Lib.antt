@@ -1,3 +1,5 @@
 pub mod Answered
 pub mod Documents
 pub mod Ran
+pub mod Rows
+pub mod Trees

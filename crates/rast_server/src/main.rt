@@ -3,10 +3,11 @@
 
 mod answers;
 mod initialize;
-mod parsed;
+mod open_documents;
 mod run;
 mod server;
 mod tree;
+mod trees;
 
 use rast_common::fault::{exit_code, report};
 use rast_common::program::Program;

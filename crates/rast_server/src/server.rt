@@ -1,7 +1,9 @@
 //! The state of the server, and what each message does to it.
-ghost use Rattle.std.specs.Prelude.{◌≡◌, ◌⊎◌, ◌≤◌, ◌↔◌, ℕ, List, [], IfErr, IfOk, IsTrue, OnErr, OnOk, codes, false, true, option_map, string_bytes};
+ghost use Rattle.std.specs.Prelude.{◌≡◌, ◌⊎◌, ◌≤◌, ◌↔◌, ℕ, List, [], IfErr, IfOk, IsSome, IsTrue, OnErr, OnOk, codes, false, true, option_map, string_bytes};
 ghost use Rattle.rap_base.specs.declared.edition.Edition.TheVariants.{Edition2024};
 ghost use Rattle.rast_answers.specs.Listings.{AreListsOf};
+ghost use Rattle.std.specs.BTreeMap.{get_by_text};
+ghost use Rattle.rast_server.specs.Trees.{AreKeptOf};
 ghost use Rattle.serde_json.specs.Data.{null};
 ghost use Rattle.serde_json.specs.View.{view};
 ghost use Rattle.serde_json.specs.Written.{has_float};
@@ -13,7 +15,9 @@ ghost use Rattle.rast_server.specs.declared.server.Stage.TheVariants.{Fresh, Rea
 
 use crate::answers::{folds, highlights, push_diagnostics, selections, symbols, tokens, tree};
 use crate::initialize::capabilities;
-use crate::parsed::{Lists, Parsed};
+use crate::open_documents::Documents;
+use crate::trees::Lists;
+use flat_tree::Element;
 use ra_ap_parser::{NoMemory, TextFault};
 use rast_answers::{Diagnostic, Listing, diagnostics};
 use rast_document::{Change, ChangeFault, Document, Encoding};
@@ -23,7 +27,6 @@ use rast_messages::{
 };
 use serde_json::Value;
 use std::alloc::{AllocError, Global};
-use std::collections::BTreeMap;
 use std::fmt::Write as _;
 
 /// How far the server has come.
@@ -39,14 +42,19 @@ enum Stage {
 
 /// A document that the editor has open.
 #[derive(Drop)]
-struct Opened {
-    version: i64,
-    document: Parsed,
+pub(crate) struct Opened {
+    pub(crate) version: i64,
+    pub(crate) document: Document,
 }
 
 impl Opened {
     // Makes changes. After an error the document is as before.
-    fn change(&mut self, alloc: Global, version: i64, changes: &[Change<'_>]) -> Result<(), Fault>
+    pub(crate) fn change(
+        &mut self,
+        alloc: Global,
+        version: i64,
+        changes: &[Change<'_>],
+    ) -> Result<(), Fault>
         ensures ok { OnOk result (AllChange self.old.document.encoding (string_bytes self.old.document.text) changes.now
             (string_bytes self.new.document.text)) }
         ensures encoding { self.new.document.encoding ≡ self.old.document.encoding }
@@ -64,14 +72,6 @@ impl Opened {
             Err(ChangeFault::NoMemory) => Err(NO_MEMORY),
         }
     }
-
-    // The notification of its messages, for which it is parsed.
-    fn publish(&mut self, alloc: Global, uri: &str) -> Result<String, Fault>
-        ensures same { self.new ≡ self.old }
-        ensures why { IfErr result IsNoMemory }
-    {
-        published(alloc, uri, self.version, &mut self.document)
-    }
 }
 
 /// The server.
@@ -79,7 +79,7 @@ impl Opened {
 pub struct Server {
     stage: Stage,
     encoding: Encoding,
-    documents: BTreeMap<String, Opened>,
+    documents: Documents,
 }
 
 /// The result of a request, a JSON text, and what the request makes of the server.
@@ -116,7 +116,7 @@ const WRONG_PARAMS: Fault = Fault {
 };
 
 /// The document of a message is not open.
-const NOT_OPEN: Fault = Fault {
+pub(crate) const NOT_OPEN: Fault = Fault {
     code: Code::InvalidParams,
     text: "the document is not open",
 };
@@ -197,45 +197,58 @@ fn push_listed(
     Ok(push_diagnostics(alloc, json, document, list.as_slice())?)
 }
 
-/// Adds the messages of the tree of a document, which keeps its nodes and leaves.
-fn push_kept(
+/// Adds the messages of a document, or the one that it has no tree. Returns the nodes and leaves of its tree, for which it
+/// is parsed.
+fn push_messages(
     alloc: Global,
     json: &mut String,
-    document: &mut Parsed,
-    lists: Lists,
-) -> Result<(), Fault>
-    requires { AreListsOf (string_bytes document.old.text) Edition2024 lists.elements.items lists.messages.items }
-    ensures same { document.new ≡ document.old }
+    document: &Document,
+) -> Result<Option<Vec<Element>>, Fault>
+    ensures tree { IfOk result (λ tree. AreKeptOf (string_bytes document.now.text) tree) }
     ensures why { IfErr result IsNoMemory }
 {
-    push_listed(alloc, json, document.document(), &lists)?;
-    document.keep(lists);
-    Ok(())
-}
-
-/// Adds the messages of a document, or the one that it has no tree. The document is parsed for them, and keeps the nodes
-/// and leaves of its tree.
-fn push_messages(alloc: Global, json: &mut String, document: &mut Parsed) -> Result<(), Fault>
-    ensures same { document.new ≡ document.old }
-    ensures why { IfErr result IsNoMemory }
-{
-    match Lists::of_document(alloc, document.document()) {
-        Ok(lists) => push_kept(alloc, json, document, lists),
-        Err(fault) => push_fault(alloc, json, document.document(), fault),
+    match Lists::of_document(alloc, document) {
+        Ok(lists) => {
+            push_listed(alloc, json, document, &lists)?;
+            Ok(Some(lists.into_elements()))
+        }
+        Err(fault) => {
+            push_fault(alloc, json, document, fault)?;
+            Ok(None)
+        }
     }
 }
 
-/// The notification of a document's messages, for which it is parsed.
-fn published(alloc: Global, uri: &str, version: i64, document: &mut Parsed) -> Result<String, Fault>
-    ensures same { document.new ≡ document.old }
+/// The notification of a document's messages, and the nodes and leaves of its tree, for which it is parsed, if it has one.
+fn published(
+    alloc: Global,
+    uri: &str,
+    version: i64,
+    document: &Document,
+) -> Result<(String, Option<Vec<Element>>), Fault>
+    ensures tree { IfOk result (λ made. AreKeptOf (string_bytes document.now.text) made.1) }
     ensures why { IfErr result IsNoMemory }
 {
     let mut json = String::from_str(alloc, "{\"uri\":")?;
     push_string(alloc, &mut json, uri)?;
     write!(json, ",\"version\":{version},\"diagnostics\":[").map_err(AllocError::from)?;
-    push_messages(alloc, &mut json, document)?;
+    let tree = push_messages(alloc, &mut json, document)?;
     json.push_str("]}")?;
-    Ok(notification(alloc, "textDocument/publishDiagnostics", json.as_str())?)
+    let note = notification(alloc, "textDocument/publishDiagnostics", json.as_str())?;
+    Ok((note, tree))
+}
+
+/// The notification of the messages of an open document, for which it is parsed. Its tree is kept.
+fn republished(alloc: Global, uri: &str, documents: &mut Documents) -> Result<String, Fault>
+    requires { IsSome (get_by_text documents.old uri.now) }
+    ensures same { documents.new ≡ documents.old }
+    ensures why { IfErr result IsNoMemory }
+{
+    documents.prepare(uri);
+    let opened = documents.get(uri);
+    let (note, tree) = published(alloc, uri, opened.version, &opened.document)?;
+    documents.keep(alloc, uri, tree);
+    Ok(note)
 }
 
 /// The notification that a document has no messages any more.
@@ -308,20 +321,29 @@ fn answered(
     }
 }
 
-/// The result of a request about a document. It is parsed if it keeps no tree: there was no memory, or it has none.
+/// The result of a request about an open document. It is parsed if its tree is not kept, and that is kept then.
 fn result_of(
     alloc: Global,
-    document: &Parsed,
+    documents: &mut Documents,
+    uri: &str,
     method: &str,
     params: &Value,
 ) -> Result<String, Fault>
-    ensures { IfErr result (λ fault. IsOfDocument fault.code) }
+    requires { IsSome (get_by_text documents.old uri.now) }
+    ensures same { documents.new ≡ documents.old }
+    ensures why { IfErr result (λ fault. IsOfDocument fault.code) }
 {
-    if let Some(listing) = document.listing() {
+    documents.prepare(uri);
+    if let Some(listing) = documents.listing(uri) {
         return answered(alloc, &listing, method, params);
     }
-    match Lists::of_document(alloc, document.document()) {
-        Ok(lists) => answered(alloc, &lists.listing(document.document()), method, params),
+    let document = &documents.get(uri).document;
+    match Lists::of_document(alloc, document) {
+        Ok(lists) => {
+            let result = answered(alloc, &lists.listing(document), method, params);
+            documents.keep(alloc, uri, Some(lists.into_elements()));
+            result
+        }
         Err(fault) => Err(fault_of(fault)),
     }
 }
@@ -361,7 +383,7 @@ impl Server {
         Server {
             stage: Stage::Fresh,
             encoding: Encoding::Utf16,
-            documents: BTreeMap::new(alloc),
+            documents: Documents::new(alloc),
         }
     }
 
@@ -420,9 +442,10 @@ impl Server {
     }
 
     // The result of a request.
-    fn request(&self, alloc: Global, method: &str, params: &Value) -> Result<Granted, Fault>
-        ensures grants { IfOk result (Grants self.now method.now) }
-        ensures refuses { IfErr result (λ fault. Refuses self.now.stage method.now fault.code) }
+    fn request(&mut self, alloc: Global, method: &str, params: &Value) -> Result<Granted, Fault>
+        ensures same { self.new ≡ self.old }
+        ensures grants { IfOk result (Grants self.old method.now) }
+        ensures refuses { IfErr result (λ fault. Refuses self.old.stage method.now fault.code) }
     {
         match self.stage {
             Stage::Fresh => started(alloc, method, params),
@@ -432,10 +455,11 @@ impl Server {
     }
 
     // The result of a request after `initialize`.
-    fn asked(&self, alloc: Global, method: &str, params: &Value) -> Result<Granted, Fault>
-        requires { self.now.stage ≡ Ready }
-        ensures grants { IfOk result (Grants self.now method.now) }
-        ensures refuses { IfErr result (λ fault. Refuses self.now.stage method.now fault.code) }
+    fn asked(&mut self, alloc: Global, method: &str, params: &Value) -> Result<Granted, Fault>
+        requires { self.old.stage ≡ Ready }
+        ensures same { self.new ≡ self.old }
+        ensures grants { IfOk result (Grants self.old method.now) }
+        ensures refuses { IfErr result (λ fault. Refuses self.old.stage method.now fault.code) }
     {
         if method == "initialize" {
             return Err(NOT_NOW);
@@ -458,12 +482,20 @@ impl Server {
     }
 
     // The result of a request about a document.
-    fn about_document(&self, alloc: Global, method: &str, params: &Value) -> Result<String, Fault>
-        ensures { IfErr result (λ fault. IsOfDocument fault.code) }
+    fn about_document(
+        &mut self,
+        alloc: Global,
+        method: &str,
+        params: &Value,
+    ) -> Result<String, Fault>
+        ensures same { self.new ≡ self.old }
+        ensures why { IfErr result (λ fault. IsOfDocument fault.code) }
     {
         let uri = uri_of(params).ok_or(WRONG_PARAMS)?;
-        let opened = self.documents.get(uri).ok_or(NOT_OPEN)?;
-        result_of(alloc, &opened.document, method, params)
+        if !self.documents.has(uri) {
+            return Err(NOT_OPEN);
+        }
+        result_of(alloc, &mut self.documents, uri, method, params)
     }
 
     // What is sent for a notification.
@@ -509,18 +541,13 @@ impl Server {
         let uri = uri_of(params).ok_or(WRONG_PARAMS)?;
         let version = version_of(params).ok_or(WRONG_PARAMS)?;
         let text = opened_text(params).ok_or(WRONG_PARAMS)?;
+        self.documents.prepare(uri);
         let text = String::from_str(alloc, text)?;
         let document = Document::new(alloc, self.encoding, text)?;
-        let key = String::from_str(alloc, uri)?;
-        let parsed = Parsed::new(document);
-        let mut opened = Opened {
-            version,
-            document: parsed,
-        };
-        let note = opened.publish(alloc, uri)?;
-        if self.documents.insert(key, opened).is_err() {
-            return Err(NO_MEMORY);
-        }
+        let (note, tree) = published(alloc, uri, version, &document)?;
+        let opened = Opened { version, document };
+        self.documents.insert(alloc, uri, opened)?;
+        self.documents.keep(alloc, uri, tree);
         Ok(note)
     }
 
@@ -535,9 +562,9 @@ impl Server {
         let uri = uri_of(params).ok_or(WRONG_PARAMS)?;
         let version = version_of(params).ok_or(WRONG_PARAMS)?;
         let changes = changes_in(alloc, params)?.ok_or(WRONG_PARAMS)?;
-        let opened = self.documents.get_mut(uri).ok_or(NOT_OPEN)?;
-        opened.change(alloc, version, changes.as_slice())?;
-        opened.publish(alloc, uri)
+        self.documents
+            .change(alloc, uri, version, changes.as_slice())?;
+        republished(alloc, uri, &mut self.documents)
     }
 
     fn close(&mut self, alloc: Global, params: &Value) -> Result<String, Fault>

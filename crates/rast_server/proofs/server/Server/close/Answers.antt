@@ -1,5 +1,4 @@
-use Rattle.std.proofs.Common.{rules, ◌∙◌, ℕ, List, Bor, None, option_map, ap, sym}
-use Rattle.rast_server.proofs.Documents.{put}
+use Rattle.std.proofs.Common.{rules, ◌∙◌, ℕ, List, Bor, option_map, ap, sym}
 use Rattle.rast_server.proofs.server.Server.close.Goals as goal
 
 pub returns-clause-closes : goal.returns-clause-closes
@@ -7,6 +6,5 @@ returns-clause-closes c = record {
   uri = c.in_ok-uri.uri.now;
   uri_is = sym c.uri_of.ensures ∙ ap (option_map (λ (u : Bor (List ℕ)). u.now)) c.in_ok-uri.ensures.ok_part;
   was = search rules;
-  puts = put c.in_ok-uri.uri.now None c.args.self.now
-      (record { stage = c.args.self.now.stage; encoding = c.args.self.now.encoding; documents = c.remove.new.self }) c.remove.ensures.updates;
+  puts = c.remove.ensures.puts;
 }

@@ -1,5 +1,6 @@
 use Rattle.std.proofs.Common.{inl, refl, ap, ◌∙◌}
 use Rattle.rast_messages.specs.Replies.{success_text}
+use Rattle.rast_server.specs.declared.server.Server.{Server}
 use Rattle.rast_server.proofs.server.Server.reply.Goals as goal
 
 pub returns-clause-answers : goal.returns-clause-answers
@@ -9,5 +10,5 @@ returns-clause-answers c = λ plain. inl record {
   text_is = c.in-Ok-success.ensures plain ∙ ap (success_text _) c.as_str.ensures.value;
   stage = refl;
   encoding = refl;
-  documents = refl;
+  documents = ap (λ (s : Server). s.documents) c.request.ensures.same;
 }
