@@ -2,7 +2,7 @@
 
 use crate::digest::Digest;
 use crate::failure::Failure;
-use crate::small::add_output;
+use crate::small::{add_errors, add_output};
 use ra_ap_parser::{Edition, LexedStr, Reparser, SyntaxKind};
 use std::alloc::Global;
 
@@ -24,5 +24,6 @@ pub fn parse_again(
         digest.add(reparser.is_closed(&lexed, &output) as u64);
         add_output(digest, &output);
     }
+    add_errors(digest, &lexed);
     Ok(())
 }

@@ -4,6 +4,7 @@
 use crate::digest::{Digest, number};
 use crate::failure::Failure;
 use crate::shapes::Shapes;
+use crate::small::add_errors;
 use crate::texts::Maker;
 use ra_ap_parser::{Edition, LexedStr, TopEntryPoint, parse_text};
 use std::alloc::Global;
@@ -16,10 +17,7 @@ fn add_tokens(digest: &mut Digest, lexed: &LexedStr<'_>) {
     for i in 0..lexed.len() {
         digest.add_range(number(lexed.kind(i)), lexed.text_range(i));
     }
-    for (token, message) in lexed.errors() {
-        digest.add(token as u64);
-        digest.add_bytes(message.as_bytes());
-    }
+    add_errors(digest, lexed);
 }
 
 /// Makes so many texts; every other one is only lexed, and the rest are parsed.

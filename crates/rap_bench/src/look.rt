@@ -3,6 +3,7 @@
 
 use crate::digest::{Digest, number};
 use crate::failure::Failure;
+use crate::files::add_tree;
 use crate::texts::Maker;
 use flat_tree::FlatTree;
 use ra_ap_parser::{Edition, NoMemory, TextFault, TopEntryPoint};
@@ -26,7 +27,7 @@ impl io::Write for Digest {
     }
 }
 
-/// Goes through an owned tree, and asks it for places.
+/// Goes through an owned tree with its leaves and messages, and asks it for places.
 fn ask_tree(
     alloc: Global,
     maker: &mut Maker<'_>,
@@ -38,6 +39,13 @@ fn ask_tree(
         digest.count(1);
         digest.add_range(number(node.kind()), node.range());
         digest.add(node.children().len() as u64);
+    }
+    for leaf in tree.root().leaves(alloc)? {
+        digest.add_range(number(leaf.kind()), leaf.range());
+    }
+    for message in tree.messages() {
+        digest.add_range(message.position() as u64, message.range());
+        digest.add_bytes(message.text().as_bytes());
     }
     for _ in 0..PLACES {
         let offset = maker.random.below(text.len() as u64 + 1) as usize;
@@ -52,7 +60,7 @@ fn ask_tree(
     Ok(())
 }
 
-/// Asks a flat tree for places, and what is around them.
+/// Goes through a flat tree with its messages, and asks it for places, and what is around them.
 fn ask_flat_tree(
     alloc: Global,
     maker: &mut Maker<'_>,
@@ -60,6 +68,7 @@ fn ask_flat_tree(
     digest: &mut Digest,
 ) -> Result<(), Failure> {
     let tree = FlatTree::of_text(alloc, Edition::CURRENT, TopEntryPoint::SourceFile, text)?;
+    add_tree(digest, &tree);
     for _ in 0..PLACES {
         let offset = maker.random.below(text.len() as u64 + 1) as usize;
         if let Some(leaf) = tree.leaf_at(offset) {

@@ -27,6 +27,14 @@ pub fn add_output(digest: &mut Digest, output: &Output) {
     }
 }
 
+/// Adds the lexer's messages, each with the number of its token.
+pub fn add_errors(digest: &mut Digest, lexed: &LexedStr<'_>) {
+    for (token, message) in lexed.errors() {
+        digest.add(token as u64);
+        digest.add_bytes(message.as_bytes());
+    }
+}
+
 /// Pushes the tokens of a text one by one, as a macro expander does, and parses them.
 fn parse_pushed(
     alloc: Global,
@@ -50,6 +58,7 @@ fn parse_pushed(
     }
     let output = entry.parse(alloc, &input)?;
     add_output(digest, &output);
+    add_errors(digest, &lexed);
     Ok(())
 }
 
@@ -64,10 +73,11 @@ fn parse_prefix(
     let input = lexed.to_input(alloc, Edition::CURRENT)?;
     let output = entry.parse(alloc, &input)?;
     add_output(digest, &output);
+    add_errors(digest, &lexed);
     Ok(())
 }
 
-/// Parses a text of a few tokens, and adds the steps of its tree.
+/// Parses a text of a few tokens, and adds the steps of its tree and the lexer's messages.
 fn parse_all(
     alloc: Global,
     entry: TopEntryPoint,
@@ -76,6 +86,7 @@ fn parse_all(
 ) -> Result<(), Failure> {
     let parsed = parse_text(alloc, Edition::CURRENT, entry, text, digest)?;
     digest.add(parsed.whole as u64);
+    add_errors(digest, &parsed.lexed);
     Ok(())
 }
 
