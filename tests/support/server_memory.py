@@ -285,7 +285,7 @@ def are_trees_kept(library: str) -> bool:
     for words, kept, others in KEPT:
         before = growths(library, done(words))
         costs = {name: growths(library, done(f'{words} ?{name}')) - before for name in kept + others}
-        if [name for name, cost in costs.items() if cost == least] != list(kept) or any(costs[it] <= least for it in others):
+        if any(costs[it] != least for it in kept) or any(costs[it] <= least for it in others):
             is_well = False
             print(f'{words}: {costs}, where an answer alone takes {least}')
     return is_well
