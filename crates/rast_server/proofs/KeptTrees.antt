@@ -71,8 +71,8 @@ trees_with : (m : Map) (uri : List ℕ) (elements : List Element) (old new : Lis
     → Keeps uri elements old new → AreTrees m old → AreTrees m new
 trees_with m uri elements old new h k t =
     let own : IsTree m k.tree = λ opened e.
-        subst (λ (es : List Element). AreElementsOf (string_bytes opened.document.text) Edition2024 es) (sym k.elements_are)
-        (h opened (ap (λ (u : List ℕ). get_by_text m u) (sym k.under) ∙ e)) in
+    subst (λ (es : List Element). AreElementsOf (string_bytes opened.document.text) Edition2024 es) (sym k.elements_are)
+    (h opened (ap (λ (u : List ℕ). get_by_text m u) (sym k.under) ∙ e)) in
     let rest = All-drop (IsTree m) (length (others uri old) - 3) (others uri old) (All-filter (λ (x : Kept). not (is_under uri x)) (IsTree m) old t) in
     All-same (IsTree m) new (last 3 (others uri old) ++ k.tree ∷ []) k.kept (All-push (IsTree m) (last 3 (others uri old)) k.tree rest own)
 

@@ -8,6 +8,8 @@ use Rattle.rast_server.proofs.open_documents.Documents.listing.Goals as goal
 
 pub new-requires : goal.new-requires
 new-requires c =
-    let stands : get_by_text c.self.inside.opened c.args.uri.now ≡ Some c.in_ok-opened.opened.now = search rules in
-    (Edition2024, subst (λ (es : List Element). AreElementsOf (string_bytes c.in_ok-opened.opened.now.document.text) Edition2024 es) (sym c.elements.ensures)
-    (tree_of c.self.inside.opened c.args.uri.now c.in_ok-opened.opened.now c.in_ok-kept.kept.now c.self.inside.trees.kept.items c.self.invariant c.in_ok-kept.ensures.some stands))
+    let stands : get_by_text c.self.inside.opened c.args.uri.now ≡ Some c.in_ok-opened.opened.now = search rules in (
+      Edition2024,
+      subst (λ (es : List Element). AreElementsOf (string_bytes c.in_ok-opened.opened.now.document.text) Edition2024 es) (sym c.elements.ensures)
+          (tree_of c.self.inside.opened c.args.uri.now c.in_ok-opened.opened.now c.in_ok-kept.kept.now c.self.inside.trees.kept.items c.self.invariant c.in_ok-kept.ensures.some stands),
+    )
