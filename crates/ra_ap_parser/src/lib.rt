@@ -2,8 +2,9 @@
 //!
 //! [`LexedStr::new`] divides a text into tokens, [`LexedStr::to_input`] leaves the trivia out,
 //! [`TopEntryPoint::parse`] parses what is left, and [`LexedStr::intersperse_trivia`] passes the tree, with the
-//! texts and the trivia put back, to a [`StrSink`]. [`parse_text`] is all of that in one call. [`frontmatter`] divides
-//! a script source into its parts. [`laws`] has the laws of the core grammar, for which the tree is proved.
+//! texts and the trivia put back, to a [`StrSink`]. [`parse_text`] is all of that in one call, and [`parse_tokens`] all
+//! but the last. [`frontmatter`] divides a script source into its parts. [`laws`] has the laws of the core grammar, for
+//! which the tree is proved.
 #![tactic(auto)]
 
 mod closed;
@@ -24,4 +25,4 @@ pub use rap_grammar_core::laws;
 pub use rap_lexed::lexed_str::{Errors, LexFault, LexedStr, MAX_TEXT};
 pub use rap_lexed::shortcuts::{StrSink, StrStep};
 pub use reparser::Reparser;
-pub use whole_text::{ParsedText, TextFault, parse_text};
+pub use whole_text::{ParsedText, ParsedTokens, TextFault, parse_text, parse_tokens};

@@ -1,9 +1,10 @@
 //! A whole text, from its bytes to the steps of its tree.
-ghost use Rattle.std.specs.Prelude.{◌≡◌, ◌≤◌, ◌<◌, ◌↔◌, ◌⊎◌, Err, IfErr, IfOk, Some, length};
-ghost use Rattle.ra_ap_parser.specs.Headline.{HasTooManyTokens, Headline, Leaves};
+ghost use Rattle.std.specs.Prelude.{◌≡◌, ◌≢◌, ◌≤◌, ◌<◌, ◌↔◌, ◌⊎◌, Err, IfErr, IfOk, Some, length};
+ghost use Rattle.ra_ap_parser.specs.Headline.{HasTooManyTokens, Headline, IsParsed, Leaves};
 
 use crate::entry_point::{MAX_TOKENS, ParseFault, TopEntryPoint};
 use rap_base::edition::Edition;
+use rap_events::output::Output;
 use rap_lexed::lexed_str::{LexFault, LexedStr, MAX_TEXT, significant_tokens};
 use rap_lexed::shortcuts::StrSink;
 use std::alloc::Global;
@@ -47,6 +48,13 @@ pub struct ParsedText<'t> {
     pub whole: bool,
 }
 
+/// A text's tokens, and the output of their parse.
+#[derive(Drop)]
+pub struct ParsedTokens<'t> {
+    pub lexed: LexedStr<'t>,
+    pub output: Output,
+}
+
 /// The fault of a text whose tokens are out of memory.
 fn without_memory<R>(alloc: Global, edition: Edition, text: &str) -> TextFault<R>
     requires { length text.now ≤ MAX_TEXT }
@@ -57,6 +65,40 @@ fn without_memory<R>(alloc: Global, edition: Edition, text: &str) -> TextFault<R
         TextFault::TooManyTokens
     } else {
         TextFault::NoMemory
+    }
+}
+
+/// Divides the text into tokens, and parses them from the entry point. The steps of the output's tree are passed on by
+/// [`LexedStr::intersperse_trivia`]; [`parse_text`] does both.
+///
+/// The errors are those of [`parse_text`], and come when they come there; it is never `Refused`.
+pub fn parse_tokens<'t, R>(
+    alloc: Global,
+    edition: Edition,
+    entry: TopEntryPoint,
+    text: &'t str,
+) -> Result<ParsedTokens<'t>, TextFault<R>>
+    ensures parsed { IfOk result (λ r. IsParsed text.now edition entry r.lexed r.output) }
+    ensures too_long { (result ≡ Err TextFault.TextTooLong) ↔ (MAX_TEXT < length text.now) }
+    ensures too_many { (result ≡ Err TextFault.TooManyTokens) ↔ HasTooManyTokens text.now edition }
+    ensures taken { (refusal : R) → result ≢ Err (TextFault.Refused refusal) }
+{
+    let lexed = match LexedStr::new(alloc, edition, text) {
+        Ok(lexed) => lexed,
+        Err(LexFault::TextTooLong) => return Err(TextFault::TextTooLong),
+        Err(LexFault::NoMemory) => return Err(without_memory(alloc, edition, text)),
+    };
+    let _count = lexed.len();
+    let Ok(input) = lexed.to_input(alloc, edition) else {
+        return Err(without_memory(alloc, edition, text));
+    };
+    match entry.parse(alloc, &input) {
+        Ok(output) => {
+            let _steps = output.iter();
+            Ok(ParsedTokens { lexed, output })
+        }
+        Err(ParseFault::TooManyTokens) => Err(TextFault::TooManyTokens),
+        Err(ParseFault::NoMemory) => Err(TextFault::NoMemory),
     }
 }
 
@@ -78,19 +120,9 @@ pub fn parse_text<'t, S: StrSink>(
     ensures too_many { (result ≡ Err TextFault.TooManyTokens) ↔ HasTooManyTokens text.now edition }
     ensures left { IfErr result (λ fault. Leaves S.takes S.refuses text.now edition entry fault sink.old sink.new) }
 {
-    let lexed = match LexedStr::new(alloc, edition, text) {
-        Ok(lexed) => lexed,
-        Err(LexFault::TextTooLong) => return Err(TextFault::TextTooLong),
-        Err(LexFault::NoMemory) => return Err(without_memory(alloc, edition, text)),
-    };
-    let _count = lexed.len();
-    let Ok(input) = lexed.to_input(alloc, edition) else {
-        return Err(without_memory(alloc, edition, text));
-    };
-    let output = match entry.parse(alloc, &input) {
-        Ok(output) => output,
-        Err(ParseFault::TooManyTokens) => return Err(TextFault::TooManyTokens),
-        Err(ParseFault::NoMemory) => return Err(TextFault::NoMemory),
+    let ParsedTokens { lexed, output } = match parse_tokens(alloc, edition, entry, text) {
+        Ok(parsed) => parsed,
+        Err(fault) => return Err(fault),
     };
     match lexed.intersperse_trivia(&output, sink) {
         Ok(whole) => Ok(ParsedText { lexed, whole }),
