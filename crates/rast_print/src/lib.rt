@@ -7,3 +7,4 @@ pub mod listing;
 pub mod print_text;
 pub mod printer;
 pub mod request;
+mod room;
