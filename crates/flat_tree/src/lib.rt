@@ -25,6 +25,7 @@ mod leaves;
 mod merge;
 mod message;
 mod report;
+mod room;
 mod tree;
 
 pub use ancestors::Ancestors;

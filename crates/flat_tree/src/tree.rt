@@ -18,7 +18,8 @@ use crate::collector::Collector;
 use crate::element::Element;
 use crate::message::Message;
 use crate::report::all_messages;
-use ra_ap_parser::{Edition, MAX_TEXT, TextFault, TopEntryPoint, parse_text};
+use crate::room::first_room;
+use ra_ap_parser::{Edition, MAX_TEXT, ParsedTokens, TextFault, TopEntryPoint, parse_tokens};
 use rap_base::no_memory::NoMemory;
 use rap_events::output::Output;
 use rap_lexed::lexed_str::LexedStr;
@@ -85,10 +86,15 @@ impl<'t> FlatTree<'t> {
         ensures too_long { (result ≡ Err TextFault.TextTooLong) ↔ (MAX_TEXT < length text.now) }
         ensures too_many { (result ≡ Err TextFault.TooManyTokens) ↔ HasTooManyTokens text.now edition }
     {
-        let mut collector = Collector::with_hint(alloc, text.len() - text.len() / 4);
-        let parsed = parse_text(alloc, edition, entry, text, &mut collector)?;
+        let parsed = parse_tokens(alloc, edition, entry, text)?;
+        let ParsedTokens { lexed, output } = parsed;
+        let mut collector = Collector::with_hint(alloc, first_room(&lexed, &output));
+        let Ok(_whole) = lexed.intersperse_trivia(&output, &mut collector) else {
+            return Err(TextFault::Refused(NoMemory));
+        };
+        drop(output);
         let mut of_lexer = Collector::with_hint(alloc, 0);
-        let Ok(()) = parsed.lexed.report_errors(&mut of_lexer) else {
+        let Ok(()) = lexed.report_errors(&mut of_lexer) else {
             return Err(TextFault::Refused(NoMemory));
         };
         let Collector {
