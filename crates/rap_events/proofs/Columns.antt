@@ -4,7 +4,7 @@ use Rattle.std.proofs.lemmas.List.FromFn.{length-map-range_with_len, get_or-map-
 use Rattle.std.proofs.Math.Bool.{or-true, or-false}
 use Rattle.std.proofs.lemmas.Bool.{cases_lt, false_from_ne_true, true≢false}
 use Rattle.std.proofs.lemmas.Bool.Decides.{eqb_tells}
-use Rattle.std.proofs.lemmas.List.{get_or-set_same, get_or-set_other, get_or_default, get_or_past, get_or_append_left, get_or-append_right, get_or-replicate, length-replicate, length-set, set-set, set-get_or, take_all}
+use Rattle.std.proofs.lemmas.List.{get_or-set_same, get_or-set_other, get_or_default, get_or_past, get_or_append_left, get_or-append_right, get_or-replicate, length-replicate, length-set, take_all}
 use Rattle.std.proofs.lemmas.Nat.Bits.{bit_at_or, bit_at-zero}
 use Rattle.std.specs.Int.{bit_at, from_bool}
 use Rattle.std.specs.Int.Bits.{bit_or}
@@ -15,7 +15,7 @@ use Rattle.rap_base.specs.declared.edition.Edition.TheVariants.{Edition2024}
 use Rattle.rap_base.proofs.Bits.{bit-with}
 use Rattle.rap_base.specs.Bits.{bit}
 use Rattle.rap_events.specs.Record.{Record, with_last_joint}
-use Rattle.rap_events.specs.Input.{record_at, records, with_word, Holds}
+use Rattle.rap_events.specs.Input.{record_at, records, Holds}
 use Rattle.rap_events.specs.declared.input.columns.Columns.{Columns}
 use Rattle.rap_events.proofs.Records.{IsAt, IsPast, is_at-get_or, is_past}
 
@@ -248,31 +248,6 @@ put-records old new place end r false wrote holds room is =
 put-records old new place end r true wrote holds room is =
     let same : place ≡ end = omega arith in
     subst (λ (n : ℕ). records new n ≡ records old place ++ []) same (passed-records old new place r wrote room ∙ sym (append-nil (records old place)))
-
--- a bit in the word that is not yet written
-pub bit_in_word : (words : List ℕ) (i : ℕ) (joint : Bool) (word number : ℕ) → i / 64 < length words → number ≡ from_bool joint →
-    set words (i / 64) (bit_or word (number * 2 ^ (i % 64) % 18446744073709551616)) ≡ with_joint (set words (i / 64) word) i joint
-bit_in_word words i joint word number within is =
-    ap (λ (n : ℕ). set words (i / 64) (bit_or word (n * 2 ^ (i % 64) % 18446744073709551616))) is
-    ∙ ap (λ (w : ℕ). set words (i / 64) (bit_or w (from_bool joint * 2 ^ (i % 64) % 18446744073709551616))) (sym (get_or-set_same words (i / 64) word 0 within))
-    ∙ sym (set-set words (i / 64) word (bit_or (get_or (set words (i / 64) word) (i / 64) 0) (from_bool joint * 2 ^ (i % 64) % 18446744073709551616)))
-
--- the word that stands there, in its own place
-module _ (columns : Columns) (block word len : ℕ) (read : word ≡ get_or columns.joints.items block word) where
-  own_word : set columns.joints.items block word ≡ columns.joints.items
-  own_word = ap (λ (w : ℕ). set columns.joints.items block w) read ∙ set-get_or columns.joints.items block word
-
-  pub own_word-holds : Holds columns len → Holds (with_word columns block word) len
-  own_word-holds holds = record {
-    room = omega (arith, holds.room, length-set columns.joints.items block word);
-    kinds = omega (arith, holds.kinds, length-set columns.joints.items block word);
-    contextual_kinds = omega (arith, holds.contextual_kinds, length-set columns.joints.items block word);
-    editions = omega (arith, holds.editions, length-set columns.joints.items block word);
-    clear = λ i past. ap (λ (words : List ℕ). bit words i) own_word ∙ holds.clear i past;
-  }
-
-  pub own_word-records : records (with_word columns block word) len ≡ records columns len
-  own_word-records = kept columns (with_word columns block word) len (λ i small. refl) (λ i small. refl) (λ i small. refl) (λ i small. ap (λ (words : List ℕ). bit words i) own_word)
 
 -- the word that is read and written back
 pub as_with_joint : (words : List ℕ) (i : ℕ) (joint : Bool) (word number : ℕ) → i / 64 < length words → word ≡ get_or words (i / 64) word → number ≡ from_bool joint →

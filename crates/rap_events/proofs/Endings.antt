@@ -1,12 +1,11 @@
 -- Whether the last steps of an output show that it ends with a leaf of a kind, inside so many nodes.
 use Rattle.std.proofs.Common.{◌≡◌, ℕ, zero, suc, ◌+◌, ◌-◌, ◌≤◌, ◌<◌, List, [], ◌∷◌, ◌++◌, false, inl, inr, refl, ap, sym, ◌∙◌, arith, append_assoc, append-nil, eq-eqb, length, drop}
-use Rattle.std.specs.Prelude.{◌==◌, if◌then◌else◌}
+use Rattle.std.specs.Prelude.{◌==◌}
 use Rattle.std.proofs.lemmas.Bool.{cases_eq, ne_eqb, cond-true, cond-false, cases_Bool}
 use Rattle.rap_events.specs.StepValue.{StepValue, enter, exit, token, float_split, error}
 use Rattle.rap_events.specs.Forest.{Forest, none, node, leaf, message, split, flat, split_ends, exit_of, ends_in}
-use Rattle.rap_events.specs.History.{reports}
 use Rattle.rap_events.specs.LastSteps.{at_token, left_behind}
-use Rattle.rap_events.specs.Output.{value_of, values}
+use Rattle.rap_events.specs.Output.{values}
 use Rattle.rap_events.specs.Reading.{forest_of}
 use Rattle.rap_events.specs.declared.event.Event.{Event}
 use Rattle.rap_events.specs.declared.event.Event.TheVariants as event

@@ -1,7 +1,6 @@
 -- How an input keeps its records.
 use Rattle.std.specs.Prelude.{◌≡◌, ℕ, ◌*◌, ◌≤◌, List, length, map, slice_index_or, false}
 use Rattle.std.specs.List.{range_with_len}
-use Rattle.std.specs.Vec.{with_item}
 use Rattle.rap_base.specs.Bits.{bit}
 use Rattle.rap_base.specs.TokenKind.{EOF}
 use Rattle.rap_base.specs.declared.edition.Edition.TheVariants.{Edition2024}
@@ -28,7 +27,3 @@ pub record Holds (columns : Columns) (len : ℕ) : Type 0 where
   pub contextual_kinds : 64 * length columns.joints.items ≤ length columns.contextual_kinds.items
   pub editions : 64 * length columns.joints.items ≤ length columns.editions.items
   pub clear : (i : ℕ) → len ≤ i → bit columns.joints.items i ≡ false
-
--- the lists with another word of joints
-abbrev pub with_word : Columns → ℕ → ℕ → Columns
-with_word columns block word = record columns { joints = with_item columns.joints block word }

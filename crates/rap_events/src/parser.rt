@@ -515,13 +515,12 @@ impl<'t> Parser<'t> {
     }
 }
 
-// For how many events room is made at first: half of real files have at most three and a half for each token, and this
-// is one more.
+// For how many events room is made at first: half of real files have at most three and a half for each token.
 #[inline(always)]
 fn expected_events(tokens: usize) -> usize
-    ensures { tokens * 9 < 2 ^ 64 → result ≡ tokens * 9 / 2 }
+    ensures { tokens * 7 < 2 ^ 64 → result ≡ tokens * 7 / 2 }
 {
-    tokens.saturating_mul(9) / 2
+    tokens.saturating_mul(7) / 2
 }
 
 /// The number of events of a float that is split.

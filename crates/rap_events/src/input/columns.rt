@@ -13,6 +13,8 @@ use std::alloc::Global;
 
 mod kinds;
 
+use kinds::AT_ONCE;
+
 /// How many records a word of joints has bits for.
 const BLOCK: usize = 64;
 
@@ -115,9 +117,10 @@ impl Columns {
         self.joints[place / BLOCK] |= u64::from(joint) << (place % BLOCK);
     }
 
-    /// Writes the records of tokens of these kinds where the records end, as far as the word of joints there goes. The
-    /// last kind is only looked at, and a float number is not taken: its joint bit needs its text. Returns where the
-    /// records end then, and how many of the kinds were taken.
+    /// Writes the records of tokens of these kinds where the records end, as far as there is room: up to eight one by
+    /// one, and if no float number was among them, more of them eight at a time. The last kind is only looked at, and a
+    /// float number is not taken: its joint bit needs its text. Returns where the records end then, and how many of the
+    /// kinds were taken.
     #[inline(always)]
     pub(super) fn write_kinds(
         &mut self,
@@ -133,10 +136,14 @@ impl Columns {
         ensures floats { All (λ kind. kind ≢ FLOAT_NUMBER) (take result.1 kinds.now) }
         ensures within { result.1 < length kinds.now }
     {
-        let first = self.joints[place / BLOCK];
-        let (word, end, taken) = self.put_kinds(place, first, kinds, edition);
-        self.joints[place / BLOCK] = word;
-        (end, taken)
+        let room = self.joints.len() * BLOCK - place;
+        let few = (kinds.len() - 1).min(AT_ONCE).min(room);
+        let (end, taken, touching) = self.put_few(place, kinds, few, edition);
+        if taken < few {
+            return (end, taken);
+        }
+        let (end, more) = self.put_eights(end, &kinds[taken..], touching, edition);
+        (end, taken + more)
     }
 
     /// Makes the last record joint.

@@ -1,75 +1,181 @@
 //! Records of tokens of which nothing but the kinds is known.
-ghost use Rattle.std.specs.Prelude.{◌≡◌, ◌≢◌, ◌+◌, ◌*◌, ◌/◌, ◌<◌, ◌++◌, All, IsTrue, false, length, take};
-ghost use Rattle.rap_base.specs.TokenKind.{FLOAT_NUMBER};
+//!
+//! Processors read a jump that crosses or ends at a border of some bytes slower than others, so that a loop of many jumps
+//! takes up to half more time where it lies badly. So tokens are put eight at a time, without a jump.
+ghost use Rattle.std.specs.Prelude.{◌≡◌, ◌≢◌, ◌↔◌, ◌+◌, ◌*◌, ◌<◌, ◌≤◌, ◌++◌, All, IsTrue, IsFalse, false, length, drop, take, slice_index_or};
+ghost use Rattle.rap_base.specs.TokenKind.{EOF, FLOAT_NUMBER};
 ghost use Rattle.rap_base.specs.TokenTests.{is_trivia};
-ghost use Rattle.rap_events.specs.Input.{records, with_word, Holds};
+ghost use Rattle.rap_events.specs.Input.{records, Holds};
 ghost use Rattle.rap_events.specs.KindRecords.{touches, contextual_of_kind, kind_record, kind_records};
 
 use super::{BLOCK, Columns};
 use rap_base::edition::Edition;
 use rap_base::syntax_kind::SyntaxKind;
 
+/// How many tokens are put at a time.
+pub(super) const AT_ONCE: usize = 8;
+
 impl Columns {
-    /// Puts the records of tokens of these kinds where the records end, as far as one word of joints goes. The last
-    /// kind is only looked at, and a float number is not taken: its joint bit needs its text.
+    /// Puts the records of the first `few` tokens of these kinds where the records end, one by one. A float number is
+    /// not taken, and ends this. There must be a kind after them, which is only looked at.
     ///
-    /// The word of joints is `first`, and is not written. Returns it with the new bits, where the records end then, and
-    /// how many of the kinds were taken.
+    /// Returns where the records end then, how many of the kinds were taken, and whether the next kind touches.
     #[inline(always)]
-    pub(super) fn put_kinds(
+    pub(super) fn put_few(
         &mut self,
         start: usize,
-        first: u64,
         kinds: &[SyntaxKind],
+        few: usize,
         edition: Edition,
-    ) -> (u64, usize, usize)
-        requires holds { Holds (with_word self.old (start / 64) first) start }
-        requires room { start < 64 * length self.old.joints.items }
-        requires some { 0 < length kinds.now }
-        ensures holds { Holds (with_word self.new (start / 64) result.0) result.1 }
-        ensures records { records (with_word self.new (start / 64) result.0) result.1 ≡ records (with_word self.old (start / 64) first) start ++ kind_records (take (result.2 + 1) kinds.now) edition }
-        ensures floats { All (λ kind. kind ≢ FLOAT_NUMBER) (take result.2 kinds.now) }
-        ensures within { result.2 < length kinds.now }
+    ) -> (usize, usize, bool)
+        requires holds { Holds self.old start }
+        requires room { start + few ≤ 64 * length self.old.joints.items }
+        requires within { few < length kinds.now }
+        ensures holds { Holds self.new result.0 }
+        ensures records { records self.new result.0 ≡ records self.old start ++ kind_records (take (result.1 + 1) kinds.now) edition }
+        ensures floats { All (λ kind. kind ≢ FLOAT_NUMBER) (take result.1 kinds.now) }
+        ensures few { result.1 ≤ few }
+        ensures touching { result.2 ≡ touches (slice_index_or kinds.now result.1 EOF) }
         ensures words { length self.new.joints.items ≡ length self.old.joints.items }
     {
-        let last = kinds.len() - 1;
-        let mut word = first;
         let mut place = start;
         let mut taken = 0usize;
         let mut touching = touches(kinds[0]);
-        'tokens: while taken < last && place / BLOCK == start / BLOCK {
-            let kind = kinds[taken];
-            if kind == SyntaxKind::FLOAT_NUMBER {
+        'tokens: while taken < few {
+            if kinds[taken] == SyntaxKind::FLOAT_NUMBER {
                 break;
             }
-            let next_touching = touches(kinds[taken + 1]);
-            let joint = touching & next_touching;
-            let (next_word, next_place) = self.put(place, word, kind, edition, joint);
-            word = next_word;
+            let pair = &kinds[taken..taken + 2];
+            let (next_place, next_touching) = self.put_one(place, pair, touching, edition);
             place = next_place;
             touching = next_touching;
             taken += 1;
         }
-        (word, place, taken)
+        (place, taken, touching)
     }
 
-    /// Puts the record of a token at a place that has room, where the records end. The word of joints there is `word`,
-    /// and is not written. Returns it with the joint bit, and where the records end then: trivia have no record, so
-    /// that the next token is put at the same place.
+    /// Puts the records of tokens of these kinds where the records end, eight at a time: as long as there are as many,
+    /// with a kind after them and with room, and none of them is a float number. `touching` says whether the first one
+    /// touches.
+    ///
+    /// Returns where the records end then, and how many of the kinds were taken.
     #[inline(always)]
-    fn put(
+    pub(super) fn put_eights(
+        &mut self,
+        start: usize,
+        kinds: &[SyntaxKind],
+        first_touching: bool,
+        edition: Edition,
+    ) -> (usize, usize)
+        requires holds { Holds self.old start }
+        requires some { 0 < length kinds.now }
+        requires touching { first_touching ≡ touches (slice_index_or kinds.now 0 EOF) }
+        ensures holds { Holds self.new result.0 }
+        ensures records { records self.new result.0 ≡ records self.old start ++ kind_records (take (result.1 + 1) kinds.now) edition }
+        ensures floats { All (λ kind. kind ≢ FLOAT_NUMBER) (take result.1 kinds.now) }
+        ensures within { result.1 < length kinds.now }
+        ensures words { length self.new.joints.items ≡ length self.old.joints.items }
+    {
+        let mut place = start;
+        let mut taken = 0usize;
+        let mut touching = first_touching;
+        // Asked at the end of the loop, so that no jump stands before the straight part of it.
+        let mut more = self.takes_eight(place, kinds);
+        'eights: while more {
+            let (middle, middle_touching) = self.put_four(
+                place,
+                &kinds[taken..taken + 5],
+                touching,
+                edition,
+            );
+            let (end, end_touching) = self.put_four(
+                middle,
+                &kinds[taken + 4..taken + 9],
+                middle_touching,
+                edition,
+            );
+            place = end;
+            touching = end_touching;
+            taken += AT_ONCE;
+            more = self.takes_eight(place, &kinds[taken..]);
+        }
+        (place, taken)
+    }
+
+    /// Whether the first eight of these kinds can be put at once: there is one after them, there is room for a record of
+    /// each, and none is that of a float number.
+    #[inline(always)]
+    fn takes_eight(&self, place: usize, kinds: &[SyntaxKind]) -> bool
+        requires { Holds self.now place }
+        ensures { IsTrue result ↔ (8 < length kinds.now × place + 8 ≤ 64 * length self.now.joints.items × All (λ kind. kind ≢ FLOAT_NUMBER) (take 8 kinds.now)) }
+    {
+        AT_ONCE < kinds.len()
+            && AT_ONCE <= self.joints.len() * BLOCK - place
+            && !holds_float(&kinds[..AT_ONCE])
+    }
+
+    /// Puts the records of four tokens, with the kind of the token after them, as [`Columns::put_one`] does.
+    #[inline(always)]
+    fn put_four(
         &mut self,
         place: usize,
-        word: u64,
-        kind: SyntaxKind,
+        kinds: &[SyntaxKind],
+        touching: bool,
         edition: Edition,
-        joint: bool,
-    ) -> (u64, usize)
-        requires holds { Holds (with_word self.old (place / 64) word) place }
+    ) -> (usize, bool)
+        requires holds { Holds self.old place }
+        requires room { place + 4 ≤ 64 * length self.old.joints.items }
+        requires kinds { length kinds.now ≡ 5 }
+        requires touching { touching ≡ touches (slice_index_or kinds.now 0 EOF) }
+        ensures holds { Holds self.new result.0 }
+        ensures records { records self.new result.0 ≡ records self.old place ++ kind_records kinds.now edition }
+        ensures near { result.0 ≤ place + 4 }
+        ensures touching { result.1 ≡ touches (slice_index_or kinds.now 4 EOF) }
+        ensures words { length self.new.joints.items ≡ length self.old.joints.items }
+    {
+        let (second, second_touching) = self.put_one(place, &kinds[..2], touching, edition);
+        let (third, third_touching) = self.put_one(second, &kinds[1..3], second_touching, edition);
+        let (fourth, fourth_touching) = self.put_one(third, &kinds[2..4], third_touching, edition);
+        self.put_one(fourth, &kinds[3..5], fourth_touching, edition)
+    }
+
+    /// Puts the record of a token at a place that has room, where the records end: the first kind is the token's, and the
+    /// second that of the token after it. `touching` says whether the first one touches.
+    ///
+    /// Returns where the records end then, and whether the second kind touches.
+    #[inline(always)]
+    fn put_one(
+        &mut self,
+        place: usize,
+        kinds: &[SyntaxKind],
+        touching: bool,
+        edition: Edition,
+    ) -> (usize, bool)
+        requires holds { Holds self.old place }
+        requires room { place < 64 * length self.old.joints.items }
+        requires kinds { length kinds.now ≡ 2 }
+        requires touching { touching ≡ touches (slice_index_or kinds.now 0 EOF) }
+        ensures holds { Holds self.new result.0 }
+        ensures records { records self.new result.0 ≡ records self.old place ++ kind_records kinds.now edition }
+        ensures near { result.0 ≤ place + 1 }
+        ensures touching { result.1 ≡ touches (slice_index_or kinds.now 1 EOF) }
+        ensures words { length self.new.joints.items ≡ length self.old.joints.items }
+    {
+        let next_touching = touches(kinds[1]);
+        let end = self.put(place, kinds[0], edition, touching & next_touching);
+        (end, next_touching)
+    }
+
+    /// Puts the record of a token at a place that has room, where the records end. Returns where they end then: trivia
+    /// have no record, so that the next token is put at the same place.
+    #[inline(always)]
+    fn put(&mut self, place: usize, kind: SyntaxKind, edition: Edition, joint: bool) -> usize
+        requires holds { Holds self.old place }
         requires room { place < 64 * length self.old.joints.items }
         requires kept { IsTrue joint → is_trivia kind ≡ false }
-        ensures holds { Holds (with_word self.new (place / 64) result.0) result.1 }
-        ensures records { records (with_word self.new (place / 64) result.0) result.1 ≡ records (with_word self.old (place / 64) word) place ++ kind_record kind joint edition }
+        ensures holds { Holds self.new result }
+        ensures records { records self.new result ≡ records self.old place ++ kind_record kind joint edition }
+        ensures near { result ≤ place + 1 }
         ensures words { length self.new.joints.items ≡ length self.old.joints.items }
     {
         let contextual_kind = contextual_of_kind(kind);
@@ -77,8 +183,21 @@ impl Columns {
         self.kinds[place] = kind;
         self.contextual_kinds[place] = contextual_kind;
         self.editions[place] = edition;
-        (word | (u64::from(joint) << (place % BLOCK)), place + count)
+        self.joints[place / BLOCK] |= u64::from(joint) << (place % BLOCK);
+        place + count
     }
+}
+
+/// Whether one of these kinds is that of a float number. All are looked at, so that there are no jumps.
+#[inline(always)]
+fn holds_float(kinds: &[SyntaxKind]) -> bool
+    ensures { IsFalse result ↔ All (λ kind. kind ≢ FLOAT_NUMBER) kinds.now }
+{
+    let mut found = false;
+    for kind in kinds {
+        found |= *kind == SyntaxKind::FLOAT_NUMBER;
+    }
+    found
 }
 
 /// What a token may be read as where its text is no contextual keyword.
