@@ -7,7 +7,7 @@ import sys
 from collections.abc import Callable
 from typing import IO, Optional, Union
 
-from support import built
+from support import TOP, built
 
 HEAD = re.compile(r'\$ (\S+)((?: \S+)*?)( > full)?(?: (b?)("(?:[^"\\]|\\.)*"))? = (\d+)')
 
@@ -27,7 +27,9 @@ def cases_of(file: str) -> list[tuple[str, dict[str, list[str]]]]:
 
 
 def word_of(word: str) -> bytes:
-    """The bytes of a word."""
+    """The bytes of a word. One that begins with `@` names a file of the repository."""
+    if word.startswith('@'):
+        return os.fsencode(f'{TOP}/{word[1:]}')
     return re.sub(rb'\\x([0-9a-f]{2})', lambda it: bytes.fromhex(it[1].decode()), word.encode())
 
 
