@@ -1,8 +1,8 @@
 """The pages of nested brackets, each line worked out here, and runs of programs that must print them."""
 import resource
 import subprocess
-from collections.abc import Callable, Iterator
-from typing import IO, Optional
+from collections.abc import Iterator
+from typing import IO
 
 from support import built
 
@@ -52,15 +52,14 @@ def limit() -> None:
     resource.setrlimit(resource.RLIMIT_CORE, (0, 0))
 
 
-def is_well(program: str, line: str, depth: int, folder: str, start: Callable[[str], list[str]] = built,
-            limited: Optional[Callable[[], None]] = limit) -> bool:
-    """Whether a run prints what it must, nothing on the standard error, and returns the status 0, of a program that
-    these words start, in a process that is `limited` so."""
+def is_well(program: str, line: str, depth: int, folder: str) -> bool:
+    """Whether a run of the built program, with little memory, prints what it must, nothing on the standard error, and
+    returns the status 0."""
     with open(f'{folder}/a.rs', 'w', encoding='ascii') as file:
         file.write('[' * depth + '_' + ']' * depth)
     words = [f'{folder}/a.rs' if it == 'FILE' else it for it in line.split()]
-    with subprocess.Popen([*start(program), *words], stdout=subprocess.PIPE, stderr=subprocess.PIPE, bufsize=1 << 20,
-                          preexec_fn=limited) as done:
+    with subprocess.Popen([*built(program), *words], stdout=subprocess.PIPE, stderr=subprocess.PIPE, bufsize=1 << 20,
+                          preexec_fn=limit) as done:
         assert done.stdout and done.stderr
         is_same = is_page(program, done.stdout, words, depth)
         done.stdout.close()

@@ -4,8 +4,7 @@ import os
 import re
 import subprocess
 import sys
-from collections.abc import Callable
-from typing import IO, Optional, Union
+from typing import IO, NamedTuple, Optional, Union
 
 from support import TOP, built
 
@@ -33,29 +32,43 @@ def word_of(word: str) -> bytes:
     return re.sub(rb'\\x([0-9a-f]{2})', lambda it: bytes.fromhex(it[1].decode()), word.encode())
 
 
-def words_of(line: str, in_bytes: str, text: Optional[str], folder: str) -> list[bytes]:
-    """The words of a case, whose file is written if it has a text."""
+class Run(NamedTuple):
+    """What a case asks for."""
+    program: str
+    words: list[bytes]
+    # Whether the standard output is a device that refuses what is written.
+    is_refused: bool
+    # The status that is wanted.
+    status: int
+
+
+def words_of(line: str, in_bytes: str, text: Optional[str], folder: str, name: str) -> list[bytes]:
+    """The words of a case, whose file is written into the folder if it has a text, and has this name in the words."""
     words = line.split()
     if text is not None:
         with open(f'{folder}/a.rs', 'wb') as file:
             file.write(json.loads(text).encode('latin-1' if in_bytes else 'utf-8'))
-        words = [it.replace('FILE', 'a.rs') for it in words] if 'FILE' in words else [*words, 'a.rs']
+        words = [it.replace('FILE', name) for it in words] if 'FILE' in words else [*words, name]
     return [word_of(it) for it in words]
 
 
-def ran(head: str, folder: str, start: Callable[[str], list[str]]) -> tuple[int, int, str, str]:
-    """Runs a case. Gives the status that is wanted, the status, and both streams."""
+def run_of(head: str, folder: str, name: str = 'a.rs') -> Run:
+    """What a case asks for, its file written into the folder; it has this name in the words."""
     found = HEAD.fullmatch(head)
     if not found:
         sys.exit(f'this is no head of a case: {head}')
     program, line, full, in_bytes, text, status = found.groups()
-    words = words_of(line, in_bytes, text, folder)
+    return Run(program, words_of(line, in_bytes, text, folder, name), full is not None, int(status))
+
+
+def ran(run: Run, folder: str) -> tuple[int, str, str]:
+    """Runs what a case asks for, in the folder of its file. Gives the status and both streams."""
     with open('/dev/full', 'wb') as device:
-        to: Union[int, IO[bytes]] = device if full else subprocess.PIPE
-        started = [*map(os.fsencode, start(program)), *words]
+        to: Union[int, IO[bytes]] = device if run.is_refused else subprocess.PIPE
+        started = [*map(os.fsencode, built(run.program)), *run.words]
         done = subprocess.run(started, cwd=folder, stdout=to, stderr=subprocess.PIPE, check=False)
     out, err = ((it or b'').decode(errors='backslashreplace') for it in (done.stdout, done.stderr))
-    return int(status), done.returncode, out, err
+    return done.returncode, out, err
 
 
 def has_lines(wanted: str, out: str) -> bool:
@@ -64,12 +77,17 @@ def has_lines(wanted: str, out: str) -> bool:
     return sum(bool(re.fullmatch(pattern, it)) for it in out.split('\n')) == int(count)
 
 
-def is_as_wanted(head: str, lines: dict[str, list[str]], folder: str,
-                 start: Callable[[str], list[str]] = built) -> bool:
-    """Whether a case is as its lines say, of a program that these words start."""
-    wanted, status, out, err = ran(head, folder, start)
+def is_as(lines: dict[str, list[str]], out: str, err: str) -> bool:
+    """Whether both streams are as the lines of a case say."""
     if lines['~'] or lines['*']:
         is_out = all(it in out for it in lines['~']) and all(has_lines(it, out) for it in lines['*'])
     else:
         is_out = out == ''.join(f'{it}\n' for it in lines['|'])
-    return status == wanted and is_out and err == ''.join(f'{it}\n' for it in lines['!'])
+    return is_out and err == ''.join(f'{it}\n' for it in lines['!'])
+
+
+def is_as_wanted(head: str, lines: dict[str, list[str]], folder: str) -> bool:
+    """Whether a case is as its lines say, of the built program."""
+    run = run_of(head, folder)
+    status, out, err = ran(run, folder)
+    return status == run.status and is_as(lines, out, err)

@@ -91,7 +91,7 @@ TREE_OF_MODULE = '''SOURCE_FILE@0..9
 FOLD = [{'startLine': 0, 'startCharacter': 7, 'endLine': 1, 'endCharacter': 1}]
 TOKENS = {'data': [0, 0, 2, 1, 0, 0, 3, 1, 14, 1]}
 # What is answered about each text, worked out by hand.
-ANSWERS = {
+ANSWERS: dict[str, dict[str, Any]] = {
     'textDocument/documentSymbol': {ONE: symbol('f', 12, span(0, 0, 1, 1), span(0, 3, 0, 4)),
                                     TWO: symbol('g', 12, span(0, 0, 1, 1), span(0, 3, 0, 4)),
                                     THREE: symbol('m', 2, span(0, 0, 0, 8), span(0, 4, 0, 5))},
@@ -243,7 +243,8 @@ def done(words: str) -> bytes:
     """The messages of some words: `+a` opens the document a, `-a` closes it, `?a` asks about it, `!a` changes it, and
     `~a` is a change of which no text comes."""
     sent = b''
-    for way, name in words.split():
+    for word in words.split():
+        way, name = word[0], word[1:]
         about = {'textDocument': {'uri': uri_of(name)}}
         if way == '+':
             sent += open_document(uri_of(name), 1, 'fn f() {\n    g(1)\n}\n' * 9)
