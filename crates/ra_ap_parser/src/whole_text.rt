@@ -72,6 +72,7 @@ fn without_memory<R>(alloc: Global, edition: Edition, text: &str) -> TextFault<R
 /// [`LexedStr::intersperse_trivia`]; [`parse_text`] does both.
 ///
 /// The errors are those of [`parse_text`], and come when they come there; it is never `Refused`.
+#[inline(always)]
 pub fn parse_tokens<'t, R>(
     alloc: Global,
     edition: Edition,

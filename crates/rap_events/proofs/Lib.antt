@@ -2,6 +2,7 @@ pub mod Backing
 pub mod Calls
 pub mod Columns
 pub mod Composites
+pub mod Counts
 pub mod Endings
 pub mod Ends
 pub mod Finished

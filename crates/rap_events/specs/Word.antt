@@ -37,6 +37,10 @@ word_of_event (event.Finish kind) = fields 6 0 kind
 word_of_event event.Extend = fields 7 0 0
 word_of_event event.Abandon = fields 8 0 0
 
+-- whether the lowest byte of its word is this one
+abbrev pub has_byte : ℕ → Event → Bool
+has_byte byte e = word_of_event e % 2 ^ 8 == byte
+
 -- the event of these fields
 abbrev pub event_of_fields : ℕ → ℕ → ℕ → Event
 event_of_fields which byte kind =

@@ -1,12 +1,14 @@
 //! The output of a parse: the steps of its forest.
-ghost use Rattle.std.specs.Prelude.{◌≡◌, ◌==◌, ◌-◌, ◌≤◌, ◌<◌, ◌^◌, ℕ, List, ◌∷◌, length, drop, map, not, true, IfOk, string_bytes};
+ghost use Rattle.std.specs.Prelude.{◌≡◌, ◌==◌, ◌||◌, ◌-◌, ◌≤◌, ◌<◌, ◌^◌, ℕ, List, ◌∷◌, length, drop, map, not, true, IfOk, string_bytes};
+ghost use Rattle.std.specs.List.{count_by};
 ghost use Rattle.rap_events.specs.Output.{value_of, values};
 ghost use Rattle.rap_events.specs.Message.{is_at_message_or_end};
-ghost use Rattle.rap_events.specs.StepValue.{StepValue};
+ghost use Rattle.rap_events.specs.StepValue.{StepValue, is_element, is_leaf, is_split};
 ghost use Rattle.rap_events.specs.History.{first_message};
 ghost use Rattle.rap_events.specs.Forest.{none, node, flat, splits_placed, used, ends_in};
 ghost use Rattle.rap_events.specs.Reading.{forest_of};
 ghost use Rattle.rap_events.specs.LastSteps.{left_behind};
+ghost use Rattle.rap_events.specs.Word.{has_byte};
 
 use crate::event::Event;
 use crate::word::Word;
@@ -150,6 +152,18 @@ impl Output {
     }
 }
 
+// How many of these words have one of two lowest bytes. No jump hangs on a word, so that several are looked at at a time.
+#[inline(always)]
+fn count_bytes(words: &[Word], byte: u32, other: u32) -> usize
+    ensures { result ≡ count_by (λ e. has_byte byte e || has_byte other e) words.now }
+{
+    let mut count = 0usize;
+    for word in words {
+        count += usize::from(word.has_byte(byte) | word.has_byte(other));
+    }
+    count
+}
+
 // The same of the forest that words and messages show.
 #[tactic(auto, using(crate::proofs::Endings::last_show))]
 fn words_end_in(words: &[Word], messages: &[String], kind: SyntaxKind, depth: u8) -> bool
@@ -262,6 +276,30 @@ impl Steps<'_> {
             [word, ..] => !is_step_without_message(word.event()),
             [] => true,
         }
+    }
+
+    /// Returns how many of the steps that are left begin a node or are a leaf. A float that is split is neither.
+    #[tactic(auto, using(crate::proofs::Counts::count_elements))]
+    pub fn elements(&self) -> usize
+        ensures { result ≡ count_by is_element self.now }
+    {
+        count_bytes(self.rest, 0x01, 0x11)
+    }
+
+    /// Returns how many of the steps that are left are a leaf. A float that is split is none.
+    #[tactic(auto, using(crate::proofs::Counts::count_leaves))]
+    pub fn leaves(&self) -> usize
+        ensures { result ≡ count_by is_leaf self.now }
+    {
+        count_bytes(self.rest, 0x01, 0x01)
+    }
+
+    /// Returns how many of the steps that are left are a float that is split.
+    #[tactic(auto, using(crate::proofs::Counts::count_splits))]
+    pub fn splits(&self) -> usize
+        ensures { result ≡ count_by is_split self.now }
+    {
+        count_bytes(self.rest, 0x31, 0x31)
     }
 }
 

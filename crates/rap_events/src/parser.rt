@@ -515,12 +515,13 @@ impl<'t> Parser<'t> {
     }
 }
 
-// For how many events room is made at first: half of real files have at most three and a half for each token.
+// For how many events room is made at first: half of real files have at most three and a half for each token. Short texts
+// may have more.
 #[inline(always)]
 fn expected_events(tokens: usize) -> usize
-    ensures { tokens * 7 < 2 ^ 64 → result ≡ tokens * 7 / 2 }
+    ensures { tokens * 7 < 2 ^ 64 → result ≡ tokens * 7 / 2 + 64 }
 {
-    tokens.saturating_mul(7) / 2
+    tokens.saturating_mul(7) / 2 + 64
 }
 
 /// The number of events of a float that is split.

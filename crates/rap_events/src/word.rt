@@ -3,7 +3,7 @@ ghost use Rattle.std.specs.Prelude.{◌≡◌, ℕ, List, ◌+◌, ◌*◌, ◌/
 ghost use Rattle.rap_base.specs.NodeKind.{PATH_META, SOURCE_FILE};
 ghost use Rattle.rap_events.specs.declared.event.Event.TheVariants as event;
 ghost use Rattle.rap_events.specs.StepValue.{enter, exit, float_split, error};
-ghost use Rattle.rap_events.specs.Word.{fields, word_of, word_of_event, Fits, HasNumber};
+ghost use Rattle.rap_events.specs.Word.{fields, has_byte, word_of, word_of_event, Fits, HasNumber};
 
 use crate::event::Event;
 use rap_base::syntax_kind::SyntaxKind;
@@ -146,6 +146,14 @@ impl Word {
             0x21 => Event::Exit,
             _ => self.event(),
         }
+    }
+
+    /// Whether this is the lowest byte of the word.
+    #[inline(always)]
+    pub(crate) fn has_byte(&self, byte: u32) -> bool
+        ensures { result ≡ has_byte byte self.now }
+    {
+        self.bits % 256 == byte
     }
 }
 

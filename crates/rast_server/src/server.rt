@@ -219,7 +219,13 @@ fn push_messages(
     }
 }
 
+/// The notification that brings the messages of a document.
+fn of_messages(alloc: Global, params: &str) -> Result<String, AllocError> {
+    notification(alloc, "textDocument/publishDiagnostics", params)
+}
+
 /// The notification of a document's messages, and the nodes and leaves of its tree, for which it is parsed, if it has one.
+/// Where memory runs out behind the messages, the tree is given up first.
 fn published(
     alloc: Global,
     uri: &str,
@@ -233,9 +239,17 @@ fn published(
     push_string(alloc, &mut json, uri)?;
     write!(json, ",\"version\":{version},\"diagnostics\":[").map_err(AllocError::from)?;
     let tree = push_messages(alloc, &mut json, document)?;
+    if json.reserve(2).is_err() {
+        drop(tree);
+        json.push_str("]}")?;
+        return Ok((of_messages(alloc, json.as_str())?, None));
+    }
     json.push_str("]}")?;
-    let note = notification(alloc, "textDocument/publishDiagnostics", json.as_str())?;
-    Ok((note, tree))
+    if let Ok(note) = of_messages(alloc, json.as_str()) {
+        return Ok((note, tree));
+    }
+    drop(tree);
+    Ok((of_messages(alloc, json.as_str())?, None))
 }
 
 /// The notification of the messages of an open document, for which it is parsed. Its tree is kept.
@@ -258,7 +272,7 @@ fn withdrawn(alloc: Global, uri: &str) -> Result<String, Fault>
     let mut json = String::from_str(alloc, "{\"uri\":")?;
     push_string(alloc, &mut json, uri)?;
     json.push_str(",\"diagnostics\":[]}")?;
-    Ok(notification(alloc, "textDocument/publishDiagnostics", json.as_str())?)
+    Ok(of_messages(alloc, json.as_str())?)
 }
 
 /// The text that a `didOpen` brings.
