@@ -7,6 +7,7 @@ pub mod Limits
 pub mod Names
 pub mod NodeKind
 pub mod Numbered
+pub mod Room
 pub mod TokenKind
 pub mod TokenSet
 pub mod TokenTests

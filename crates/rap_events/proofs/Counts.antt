@@ -5,7 +5,7 @@ use Rattle.std.specs.List.{count_by}
 use Rattle.std.proofs.lemmas.List.Sums.{sum_by-cons}
 use Rattle.rap_events.specs.History.{reports}
 use Rattle.rap_events.specs.Output.{value_of, values}
-use Rattle.rap_events.specs.StepValue.{StepValue, is_element, is_leaf, is_split}
+use Rattle.rap_events.specs.StepValue.{StepValue, is_element, is_leaf}
 use Rattle.rap_events.specs.Word.{has_byte, word_of_event}
 use Rattle.rap_events.specs.declared.event.Event.{Event}
 use Rattle.rap_events.specs.declared.event.Event.TheVariants as event
@@ -72,19 +72,6 @@ of_leaf (event.Finish kind) ms = rw (low_byte (event.Finish kind)) refl
 of_leaf event.Extend ms = refl
 of_leaf event.Abandon ms = refl
 
-of_split : (e : Event) → Agrees is_split 49 49 e
-of_split (event.Token width kind) ms = rw (low_byte (event.Token width kind)) refl
-of_split (event.Enter kind) ms = rw (low_byte (event.Enter kind)) refl
-of_split event.Exit ms = refl
-of_split (event.FloatSplit true) ms = refl
-of_split (event.FloatSplit false) ms = refl
-of_split (event.Error number) ms = rw (even number 49 refl) refl
-of_split event.Start ms = refl
-of_split event.Precede ms = refl
-of_split (event.Finish kind) ms = rw (low_byte (event.Finish kind)) refl
-of_split event.Extend ms = refl
-of_split event.Abandon ms = refl
-
 -- where a test of steps agrees with the bytes, as many pass it as words have one of the bytes
 counted : (p : StepValue → Bool) (a b : ℕ) → ((e : Event) → Agrees p a b e) → (es : List Event) (ms : List (List ℕ)) → count_by (λ e. has_byte a e || has_byte b e) es ≡ count_by p (values es ms)
 counted p a b agree [] ms = refl
@@ -102,6 +89,3 @@ count_elements es ms = counted is_element 1 17 of_element es ms
 
 pub count_leaves : (es : List Event) (ms : List (List ℕ)) → count_by (λ e. has_byte 1 e || has_byte 1 e) es ≡ count_by is_leaf (values es ms)
 count_leaves es ms = counted is_leaf 1 1 of_leaf es ms
-
-pub count_splits : (es : List Event) (ms : List (List ℕ)) → count_by (λ e. has_byte 49 e || has_byte 49 e) es ≡ count_by is_split (values es ms)
-count_splits es ms = counted is_split 49 49 of_split es ms

@@ -25,11 +25,3 @@ is_element exit = false
 is_element (token kind width) = true
 is_element (float_split ends_in_dot) = false
 is_element (error bytes) = false
-
--- whether a step is a float that is taken apart
-abbrev pub is_split : StepValue → Bool
-is_split (enter kind) = false
-is_split exit = false
-is_split (token kind width) = false
-is_split (float_split ends_in_dot) = true
-is_split (error bytes) = false

@@ -3,7 +3,7 @@ ghost use Rattle.std.specs.Prelude.{◌≡◌, ◌==◌, ◌||◌, ◌-◌, ◌�
 ghost use Rattle.std.specs.List.{count_by};
 ghost use Rattle.rap_events.specs.Output.{value_of, values};
 ghost use Rattle.rap_events.specs.Message.{is_at_message_or_end};
-ghost use Rattle.rap_events.specs.StepValue.{StepValue, is_element, is_leaf, is_split};
+ghost use Rattle.rap_events.specs.StepValue.{StepValue, is_element, is_leaf};
 ghost use Rattle.rap_events.specs.History.{first_message};
 ghost use Rattle.rap_events.specs.Forest.{none, node, flat, splits_placed, used, ends_in};
 ghost use Rattle.rap_events.specs.Reading.{forest_of};
@@ -292,14 +292,6 @@ impl Steps<'_> {
         ensures { result ≡ count_by is_leaf self.now }
     {
         count_bytes(self.rest, 0x01, 0x01)
-    }
-
-    /// Returns how many of the steps that are left are a float that is split.
-    #[tactic(auto, using(crate::proofs::Counts::count_splits))]
-    pub fn splits(&self) -> usize
-        ensures { result ≡ count_by is_split self.now }
-    {
-        count_bytes(self.rest, 0x31, 0x31)
     }
 }
 

@@ -125,7 +125,7 @@ fn precedes_a_node(rt: HostRuntime) -> Result<(), Fail> {
         "RANGE_EXPR( NAME_REF( IDENT ) EQ2+ 'expected COMMA' ) "
     );
     let steps = output.iter();
-    assert!(rt; steps.elements() == 4 && steps.leaves() == 2 && steps.splits() == 0);
+    assert!(rt; steps.elements() == 4 && steps.leaves() == 2);
     Ok(())
 }
 

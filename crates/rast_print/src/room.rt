@@ -1,7 +1,8 @@
 //! Room for the lines of a tree before the first of them.
-ghost use Rattle.std.specs.Prelude.{◌≡◌, ◌*◌, ◌<◌, ◌≤◌, [], max};
+ghost use Rattle.std.specs.Prelude.{◌≡◌, []};
 
 use ra_ap_parser::{LexedStr, Output, Step};
+use rap_base::room::doubled;
 use rast_common::indented::IndentedText;
 use std::alloc::Global;
 
@@ -11,20 +12,6 @@ fn root_len(output: &Output) -> usize {
         Some(Step::Enter { kind }) => kind.name().len(),
         _ => 0,
     }
-}
-
-/// The first room of at least so much that a list comes to which doubles its room.
-fn reached(first: usize, least: usize) -> usize
-    requires { 0 < first }
-    ensures enough { least ≤ result }
-    ensures near { result ≤ max first (2 * least) }
-    ensures first { least ≤ first → result ≡ first }
-{
-    let mut room = first;
-    'doublings: while room < least {
-        room = room.saturating_mul(2);
-    }
-    room
 }
 
 /// No lines yet, but room for as many as growing by doubling would surely come to, if there is memory for it. The output's
@@ -46,5 +33,5 @@ pub(crate) fn roomy_lines(alloc: Global, lexed: &LexedStr<'_>, output: &Output) 
     let lines = trivia.saturating_add(leaves).saturating_add(nodes);
     // The first text that is added is the name of the root; and of indentations there is room for four at first.
     let first = root_len(output).max(8);
-    IndentedText::with_hint(alloc, reached(first, bytes), reached(4, lines))
+    IndentedText::with_hint(alloc, doubled(first, bytes), doubled(4, lines))
 }
