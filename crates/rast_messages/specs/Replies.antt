@@ -29,6 +29,10 @@ success_text id value = begun id ++ codes ",\"result\":" ++ value ++ codes "}"
 abbrev pub error_text : Data → Fault → List ℕ
 error_text id fault = begun id ++ codes ",\"error\":{\"code\":" ++ number_of fault.code ++ codes ",\"message\":" ++ string_text fault.text.now ++ codes "}}"
 
+-- what a notification begins with: its parameters follow
+abbrev pub notification_begun : List ℕ → List ℕ
+notification_begun method = codes "{\"jsonrpc\":\"2.0\",\"method\":\"" ++ method ++ codes "\",\"params\":"
+
 abbrev pub notification_text : List ℕ → List ℕ → List ℕ
 notification_text method params = codes "{\"jsonrpc\":\"2.0\",\"method\":\"" ++ method ++ codes "\",\"params\":" ++ params ++ codes "}"
 

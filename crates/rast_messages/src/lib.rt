@@ -10,4 +10,6 @@ mod reply;
 pub use json::{position_of, push_comma, push_number, push_range, push_string};
 pub use message::{Message, classify};
 pub use params::{changes_in, encoding_of, position_in, positions_in, span_in, uri_of, version_of};
-pub use reply::{Code, Fault, NO_MEMORY, OUT_OF_MEMORY, error, log, notification, success};
+pub use reply::{
+    Code, Fault, NO_MEMORY, OUT_OF_MEMORY, begin_notification, error, log, notification, success,
+};

@@ -3,7 +3,7 @@ ghost use Rattle.std.specs.Prelude.{◌≡◌, ◌++◌, false, IfOk, MatchOptio
 ghost use Rattle.serde_json.specs.Data.{null};
 ghost use Rattle.serde_json.specs.View.{view};
 ghost use Rattle.serde_json.specs.Written.{has_float};
-ghost use Rattle.rast_messages.specs.Replies.{begun, error_text, failure, notification_text, number_of, shown_params, success_text};
+ghost use Rattle.rast_messages.specs.Replies.{begun, error_text, failure, notification_begun, notification_text, number_of, shown_params, success_text};
 
 use crate::json::push_string;
 use serde_json::Value;
@@ -114,13 +114,22 @@ pub fn error(alloc: Global, id: Option<&Value>, fault: Fault) -> Result<String, 
     Ok(json)
 }
 
-/// A notification of a method with its parameters, a JSON text.
-pub fn notification(alloc: Global, method: &str, params: &str) -> Result<String, AllocError>
-    ensures { IfOk result (λ json. string_bytes json ≡ notification_text method.now params.now) }
+/// What a notification of a method begins with: its parameters follow, a JSON text, and then `}`. So long parameters are
+/// written where they stay.
+pub fn begin_notification(alloc: Global, method: &str) -> Result<String, AllocError>
+    ensures { IfOk result (λ json. string_bytes json ≡ notification_begun method.now) }
 {
     let mut json = String::from_str(alloc, "{\"jsonrpc\":\"2.0\",\"method\":\"")?;
     json.push_str(method)?;
     json.push_str("\",\"params\":")?;
+    Ok(json)
+}
+
+/// A notification of a method with its parameters, a JSON text.
+pub fn notification(alloc: Global, method: &str, params: &str) -> Result<String, AllocError>
+    ensures { IfOk result (λ json. string_bytes json ≡ notification_text method.now params.now) }
+{
+    let mut json = begin_notification(alloc, method)?;
     json.push_str(params)?;
     json.push_str("}")?;
     Ok(json)

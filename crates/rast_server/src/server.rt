@@ -22,8 +22,8 @@ use ra_ap_parser::{NoMemory, TextFault};
 use rast_answers::{Diagnostic, Listing, diagnostics};
 use rast_document::{Change, ChangeFault, Document, Encoding};
 use rast_messages::{
-    Code, Fault, Message, NO_MEMORY, changes_in, classify, encoding_of, error, log, notification,
-    position_in, positions_in, push_string, span_in, success, uri_of, version_of,
+    Code, Fault, Message, NO_MEMORY, begin_notification, changes_in, classify, encoding_of, error,
+    log, position_in, positions_in, push_string, span_in, success, uri_of, version_of,
 };
 use serde_json::Value;
 use std::alloc::{AllocError, Global};
@@ -219,13 +219,16 @@ fn push_messages(
     }
 }
 
-/// The notification that brings the messages of a document.
-fn of_messages(alloc: Global, params: &str) -> Result<String, AllocError> {
-    notification(alloc, "textDocument/publishDiagnostics", params)
+/// The notification of a document's messages, up to these.
+fn begin_messages(alloc: Global, uri: &str) -> Result<String, AllocError> {
+    let mut json = begin_notification(alloc, "textDocument/publishDiagnostics")?;
+    json.push_str("{\"uri\":")?;
+    push_string(alloc, &mut json, uri)?;
+    Ok(json)
 }
 
 /// The notification of a document's messages, and the nodes and leaves of its tree, for which it is parsed, if it has one.
-/// Where memory runs out behind the messages, the tree is given up first.
+/// Where no memory is left for the end, the tree is given up.
 fn published(
     alloc: Global,
     uri: &str,
@@ -235,21 +238,15 @@ fn published(
     ensures tree { IfOk result (λ made. AreKeptOf (string_bytes document.now.text) made.1) }
     ensures why { IfErr result IsNoMemory }
 {
-    let mut json = String::from_str(alloc, "{\"uri\":")?;
-    push_string(alloc, &mut json, uri)?;
+    let mut json = begin_messages(alloc, uri)?;
     write!(json, ",\"version\":{version},\"diagnostics\":[").map_err(AllocError::from)?;
     let tree = push_messages(alloc, &mut json, document)?;
-    if json.reserve(2).is_err() {
-        drop(tree);
-        json.push_str("]}")?;
-        return Ok((of_messages(alloc, json.as_str())?, None));
-    }
-    json.push_str("]}")?;
-    if let Ok(note) = of_messages(alloc, json.as_str()) {
-        return Ok((note, tree));
+    if json.push_str("]}}").is_ok() {
+        return Ok((json, tree));
     }
     drop(tree);
-    Ok((of_messages(alloc, json.as_str())?, None))
+    json.push_str("]}}")?;
+    Ok((json, None))
 }
 
 /// The notification of the messages of an open document, for which it is parsed. Its tree is kept.
@@ -269,10 +266,9 @@ fn republished(alloc: Global, uri: &str, documents: &mut Documents) -> Result<St
 fn withdrawn(alloc: Global, uri: &str) -> Result<String, Fault>
     ensures { IfErr result IsNoMemory }
 {
-    let mut json = String::from_str(alloc, "{\"uri\":")?;
-    push_string(alloc, &mut json, uri)?;
-    json.push_str(",\"diagnostics\":[]}")?;
-    Ok(of_messages(alloc, json.as_str())?)
+    let mut json = begin_messages(alloc, uri)?;
+    json.push_str(",\"diagnostics\":[]}}")?;
+    Ok(json)
 }
 
 /// The text that a `didOpen` brings.
