@@ -1,18 +1,16 @@
 //! Room for the lines of a tree before the first of them.
 ghost use Rattle.std.specs.Prelude.{◌≡◌, []};
 
-use ra_ap_parser::{LexedStr, Output, Step};
+use ra_ap_parser::{LexedStr, Output};
 use rap_base::room::doubled;
 use rast_common::indented::IndentedText;
 use std::alloc::Global;
 
-/// How many bytes the root's name has.
-fn root_len(output: &Output) -> usize {
-    match output.iter().next() {
-        Some(Step::Enter { kind }) => kind.name().len(),
-        _ => 0,
-    }
-}
+/// For how many bytes the lines have room at first: the first text that is added is the root's name, mostly `SOURCE_FILE`.
+const FIRST_BYTES: usize = 11;
+
+/// For how many indentations a list has room at first.
+const FIRST_LINES: usize = 4;
 
 /// No lines yet, but room for as many as growing by doubling would surely come to, if there is memory for it. The output's
 /// tree must cover the lexed text.
@@ -31,7 +29,9 @@ pub(crate) fn roomy_lines(alloc: Global, lexed: &LexedStr<'_>, output: &Output) 
         .saturating_add(nodes.saturating_mul(3));
     let bytes = names.saturating_add(lexed.as_str().len());
     let lines = trivia.saturating_add(leaves).saturating_add(nodes);
-    // The first text that is added is the name of the root; and of indentations there is room for four at first.
-    let first = root_len(output).max(8);
-    IndentedText::with_hint(alloc, doubled(first, bytes), doubled(4, lines))
+    IndentedText::with_hint(
+        alloc,
+        doubled(FIRST_BYTES, bytes),
+        doubled(FIRST_LINES, lines),
+    )
 }
