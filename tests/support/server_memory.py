@@ -241,13 +241,14 @@ def uri_of(name: str) -> str:
 
 def done(words: str) -> bytes:
     """The messages of some words: `+a` opens the document a, `-a` closes it, `?a` asks about it, `!a` changes it, and
-    `~a` is a change of which no text comes."""
+    `~a` is a change of which no text comes. Each text has split floats, of which the tree has more than is counted
+    before its list is made."""
     sent = b''
     for word in words.split():
         way, name = word[0], word[1:]
         about = {'textDocument': {'uri': uri_of(name)}}
         if way == '+':
-            sent += open_document(uri_of(name), 1, 'fn f() {\n    g(1)\n}\n' * 9)
+            sent += open_document(uri_of(name), 1, 'fn f() {\n    g(1, t.0.1)\n}\n' * 9)
         elif way == '-':
             sent += tell('textDocument/didClose', about)
         elif way == '?':

@@ -4,20 +4,33 @@ use rap_base::room::doubled;
 use rap_events::output::Output;
 use rap_lexed::lexed_str::LexedStr;
 
-/// For how many elements room is made: for as many as a list comes to that begins with one to two bytes of the text and
-/// doubles its room, so that it has never less. The output's tree must cover the text.
-///
-/// More is needed only where a float is split: what it gives is not counted.
-pub(crate) fn first_room(lexed: &LexedStr<'_>, output: &Output) -> usize {
-    // No list begins with room for less than four.
-    let first = (lexed.as_str().len() / 2).max(4);
-    let used = output.used();
-    let steps = output.iter();
-    let trivia = lexed.len().saturating_sub(used);
-    // A node has two steps, and a leaf one that stands for at least one token.
-    let most = (steps.len().saturating_add(used) / 2).saturating_add(trivia);
-    if most <= first {
-        return first;
+/// How much room a list gets. More than that is needed only where a float is split: what it gives is not counted.
+#[derive(Clone, Copy, Debug, PartialEq, Eq)]
+pub(crate) enum Room {
+    /// As much as a list comes to that begins with one to two bytes of the text and doubles its room, so that it has never
+    /// less: where trees are made and dropped, blocks of like sizes serve the next one.
+    Doubled,
+    /// As much as the elements need.
+    Exact,
+}
+
+impl Room {
+    /// For how many elements of an output's tree, which must cover the text, room is made.
+    pub(crate) fn of(self, lexed: &LexedStr<'_>, output: &Output) -> usize {
+        let used = output.used();
+        let steps = output.iter();
+        let trivia = lexed.len().saturating_sub(used);
+        // No list begins with room for less than four.
+        let first = (lexed.as_str().len() / 2).max(4);
+        // A node has two steps, and a leaf one that stands for at least one token.
+        let most = (steps.len().saturating_add(used) / 2).saturating_add(trivia);
+        if self == Room::Doubled && most <= first {
+            return first;
+        }
+        let needed = steps.elements().saturating_add(trivia);
+        match self {
+            Room::Doubled => doubled(first, needed),
+            Room::Exact => needed,
+        }
     }
-    doubled(first, steps.elements().saturating_add(trivia))
 }

@@ -18,7 +18,7 @@ use crate::collector::Collector;
 use crate::element::Element;
 use crate::message::Message;
 use crate::report::all_messages;
-use crate::room::first_room;
+use crate::room::Room;
 use ra_ap_parser::{Edition, MAX_TEXT, ParsedTokens, TextFault, TopEntryPoint, parse_tokens};
 use rap_base::no_memory::NoMemory;
 use rap_events::output::Output;
@@ -86,9 +86,46 @@ impl<'t> FlatTree<'t> {
         ensures too_long { (result ≡ Err TextFault.TextTooLong) ↔ (MAX_TEXT < length text.now) }
         ensures too_many { (result ≡ Err TextFault.TooManyTokens) ↔ HasTooManyTokens text.now edition }
     {
+        FlatTree::with_room(alloc, edition, entry, text, Room::Doubled)
+    }
+
+    /// The tree of a text, as [`FlatTree::of_text`] makes it, for whoever keeps it: the list asks for no more room than
+    /// its elements need, and what it has more where a float was split, which is not counted beforehand, is given back if
+    /// the allocator can do so.
+    ///
+    /// The errors are those of [`FlatTree::of_text`].
+    pub fn of_text_exact(
+        alloc: Global,
+        edition: Edition,
+        entry: TopEntryPoint,
+        text: &'t str,
+    ) -> Result<FlatTree<'t>, TextFault<NoMemory>>
+        ensures tree { IfOk result (λ tree. IsFlatText text.now edition entry tree.elements.items tree.messages.items) }
+        ensures text { IfOk result (λ tree. tree.text.now ≡ text.now) }
+        ensures too_long { (result ≡ Err TextFault.TextTooLong) ↔ (MAX_TEXT < length text.now) }
+        ensures too_many { (result ≡ Err TextFault.TooManyTokens) ↔ HasTooManyTokens text.now edition }
+    {
+        let mut tree = FlatTree::with_room(alloc, edition, entry, text, Room::Exact)?;
+        tree.elements.shrink_to_fit();
+        Ok(tree)
+    }
+
+    // The tree of a text, whose list gets this room before its first step, if there is memory for it.
+    fn with_room(
+        alloc: Global,
+        edition: Edition,
+        entry: TopEntryPoint,
+        text: &'t str,
+        room: Room,
+    ) -> Result<FlatTree<'t>, TextFault<NoMemory>>
+        ensures tree { IfOk result (λ tree. IsFlatText text.now edition entry tree.elements.items tree.messages.items) }
+        ensures text { IfOk result (λ tree. tree.text.now ≡ text.now) }
+        ensures too_long { (result ≡ Err TextFault.TextTooLong) ↔ (MAX_TEXT < length text.now) }
+        ensures too_many { (result ≡ Err TextFault.TooManyTokens) ↔ HasTooManyTokens text.now edition }
+    {
         let parsed = parse_tokens(alloc, edition, entry, text)?;
         let ParsedTokens { lexed, output } = parsed;
-        let mut collector = Collector::with_hint(alloc, first_room(&lexed, &output));
+        let mut collector = Collector::with_hint(alloc, room.of(&lexed, &output));
         let Ok(_whole) = lexed.intersperse_trivia(&output, &mut collector) else {
             return Err(TextFault::Refused(NoMemory));
         };
@@ -114,7 +151,7 @@ impl<'t> FlatTree<'t> {
     }
 
     /// The messages, each with the range of the leaf at which it is: none after [`FlatTree::build`]; after
-    /// [`FlatTree::of_text`] those of the parser and those of the lexer in the order of their positions. Of two at one
+    /// [`FlatTree::of_text`] and [`FlatTree::of_text_exact`] those of the parser and those of the lexer in the order of their positions. Of two at one
     /// position that of the parser comes first, and each of the two lists keeps its order.
     pub fn messages(&self) -> &[Message]
         ensures { result.now ≡ self.now.messages.items }

@@ -20,22 +20,21 @@ pub(crate) struct Lists {
 }
 
 impl Lists {
-    /// Parses a document. The errors are those of [`FlatTree::of_text`]. The room that the nodes and leaves do not need
-    /// is given back.
+    /// Parses a document. The errors are those of [`FlatTree::of_text_exact`]. The nodes and leaves have no more room
+    /// than they need, if the allocator can give back what was too much.
     pub(crate) fn of_document(
         alloc: Global,
         document: &Document,
     ) -> Result<Lists, TextFault<NoMemory>>
         ensures { IfOk result (λ lists. AreListsOf (string_bytes document.now.text) Edition2024 lists.elements.items lists.messages.items) }
     {
-        let tree = FlatTree::of_text(
+        let tree = FlatTree::of_text_exact(
             alloc,
             Edition::CURRENT,
             TopEntryPoint::SourceFile,
             document.text(),
         )?;
-        let (mut elements, messages) = tree.into_lists();
-        elements.shrink_to_fit();
+        let (elements, messages) = tree.into_lists();
         Ok(Lists { elements, messages })
     }
 

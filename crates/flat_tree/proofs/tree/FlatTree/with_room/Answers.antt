@@ -3,7 +3,7 @@ use Rattle.rap_lexed.specs.Trivia.{with_trivia}
 use Rattle.ra_ap_parser.proofs.Parsed.{headed}
 use Rattle.flat_tree.specs.Collects.{Collects}
 use Rattle.flat_tree.proofs.Collected.{errors_along, text_order, text_tree}
-use Rattle.flat_tree.proofs.tree.FlatTree.of_text.Goals as goal
+use Rattle.flat_tree.proofs.tree.FlatTree.with_room.Goals as goal
 
 pub returns-in-Ok-all_messages-clause-tree : goal.returns-in-Ok-all_messages-clause-tree
 returns-in-Ok-all_messages-clause-tree c =
