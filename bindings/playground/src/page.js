@@ -101,10 +101,21 @@ const leafIndexAt = (place) => lastUpTo(tree.leaves.length, (k) => tree.start[tr
 const lineAt = (place) => lastUpTo(lineStarts.length, (k) => lineStarts[k], place);
 const counted = (n, what) => n.toLocaleString('en') + ' ' + what + (n === 1 ? '' : 's');
 
+// How many characters of a line are before a place. It is counted on from the place that was asked for last: of many
+// messages at the end of a long line each would else have the whole line counted.
+let lastAsked = { line: -1, place: 0, before: 0 };
+function charactersBefore(line, place) {
+  const isFurther = lastAsked.line === line && lastAsked.place <= place;
+  let at = isFurther ? lastAsked.place : lineStarts[line];
+  let before = isFurther ? lastAsked.before : 0;
+  for (; at < place; at += text.codePointAt(at) > 0xffff ? 2 : 1) before += 1;
+  lastAsked = { line, place, before };
+  return before;
+}
 // A place as the line and the character in it, from 1.
 function placeName(place) {
   const line = lineAt(place);
-  return line + 1 + ':' + (Array.from(text.slice(lineStarts[line], place)).length + 1);
+  return line + 1 + ':' + (charactersBefore(line, place) + 1);
 }
 function piece(className, content) {
   const span = document.createElement('span');
@@ -130,6 +141,7 @@ function showRows(box, list) {
 // The text: the lines in view are drawn under the field that is typed in, whose own letters are not seen.
 function findLines() {
   lineStarts = [0];
+  lastAsked.line = -1;
   for (let at = text.indexOf('\n'); at >= 0; at = text.indexOf('\n', at + 1)) lineStarts.push(at + 1);
 }
 function lineStop(line) {
