@@ -2,6 +2,12 @@
 use rap_tree::{Edition, NodeOrToken, SyntaxKind, TopEntryPoint, Tree, WalkEvent};
 use std::fmt::Write as _;
 
+/// How many levels of nodes a tree has at most that is shown.
+const MOST_LEVELS: usize = 10_000;
+
+/// What is answered for a text: its tree and messages, or why they are not shown.
+pub type Answer = Result<Vec<u8>, String>;
+
 /// A text, and how it is to be read.
 pub struct Asked {
     edition: Edition,
@@ -86,6 +92,19 @@ impl Units {
     }
 }
 
+/// Whether a tree has more than so many levels of nodes. The walk ends at the first node of one more.
+fn is_deeper(tree: &Tree, most: usize) -> bool {
+    let mut levels = 0;
+    tree.root().preorder_with_tokens().any(|event| {
+        match event {
+            WalkEvent::Enter(NodeOrToken::Node(_)) => levels += 1,
+            WalkEvent::Leave(NodeOrToken::Node(_)) => levels -= 1,
+            WalkEvent::Enter(NodeOrToken::Token(_)) | WalkEvent::Leave(NodeOrToken::Token(_)) => {}
+        }
+        levels > most
+    })
+}
+
 /// A message, and the unit of the text at which it stands.
 fn push_message(messages: &mut String, at: u32, message: &str) {
     messages.push_str(if messages.is_empty() { "[" } else { "," });
@@ -97,8 +116,15 @@ fn push_message(messages: &mut String, at: u32, message: &str) {
 /// after them the messages as JSON, each with its place before it.
 ///
 /// A node's begin is its kind times four and 1; a token its kind times four and 2, and its length; a node's end is 0.
-pub fn answer_to(asked: Asked) -> Vec<u8> {
+///
+/// # Errors
+///
+/// Where the tree has more than [`MOST_LEVELS`], before any of it is written.
+pub fn answer_to(asked: Asked) -> Answer {
     let tree = Tree::of_text(asked.edition, asked.entry, asked.text);
+    if is_deeper(&tree, MOST_LEVELS) {
+        return Err(format!("the tree is too deep to be shown: it has more than {MOST_LEVELS} levels"));
+    }
     let units = Units::of(tree.text());
     let (mut numbers, mut messages) = (vec![0], String::new());
     for event in tree.root().preorder_with_tokens() {
@@ -120,5 +146,5 @@ pub fn answer_to(asked: Asked) -> Vec<u8> {
     numbers[0] = numbers.len() as u32 - 1;
     let mut bytes: Vec<u8> = numbers.iter().flat_map(|number| number.to_le_bytes()).collect();
     bytes.extend_from_slice(messages.as_bytes());
-    bytes
+    Ok(bytes)
 }

@@ -2,13 +2,13 @@
 //!
 //! It serves the parts of this page, and the tree of a text that is posted to `/parse`, and nothing else. A request
 //! that names another host, or comes from a page of another origin, is refused, and so is a text of more than
-//! [`MOST_BYTES`].
+//! [`MOST_BYTES`], or one whose tree is too deep to be shown.
 //!
 //! A browser's field holds line feeds alone: a file's carriage returns before them are not in the text that is read.
 mod answer;
 mod http;
 
-use answer::{Asked, answer_to};
+use answer::{Answer, Asked, answer_to};
 use http::{Request, Response};
 use std::ffi::OsString;
 use std::io::{self, Write as _};
@@ -36,7 +36,7 @@ const LOOKS: &str = include_str!("page.css");
 const SCRIPT: &str = include_str!("page.js");
 
 /// A text that is to be parsed, and where its answer goes.
-type Job = (Asked, Sender<Vec<u8>>);
+type Job = (Asked, Sender<Answer>);
 
 /// What is served.
 struct Site {
@@ -77,7 +77,8 @@ impl Site {
         let (to, answers) = mpsc::channel();
         let answer = self.jobs.send((asked, to)).ok().and_then(|()| answers.recv().ok());
         match answer {
-            Some(answer) => Response::new("application/octet-stream", &answer),
+            Some(Ok(answer)) => Response::new("application/octet-stream", &answer),
+            Some(Err(why)) => Response::refusal(422, &why),
             None => Response::refusal(500, "the text could not be parsed"),
         }
     }

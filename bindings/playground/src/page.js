@@ -448,7 +448,7 @@ async function readLink() {
   }
 }
 
-// Shows that there is no tree, and why.
+// Shows no tree, and says why.
 function showNone(why) {
   tree = noTree();
   folded = new Set();
@@ -461,6 +461,7 @@ function showNone(why) {
   drawText();
   byId('notice').textContent = why;
   byId('notice').hidden = false;
+  byId('headline').textContent = '';
   byId('counts').textContent = '';
   byId('place').textContent = '';
   byId('state').textContent = '';
@@ -491,7 +492,8 @@ async function ask() {
       const bytes = await response.arrayBuffer();
       if (text === asked) draw(bytes, begin);
     } else {
-      showNone('There is no tree: ' + (await response.text()).trim() + '.');
+      const why = (await response.text()).trim();
+      showNone(why.charAt(0).toUpperCase() + why.slice(1) + '.');
     }
   } catch (error) {
     byId('state').textContent = 'no answer: ' + error.message;

@@ -92,6 +92,20 @@ byId('data').textContent = JSON.stringify({ kinds: KINDS, most: MOST, text: '' }
 const script = path.join(__dirname, '../src/page.js');
 vm.runInThisContext(fs.readFileSync(script, 'utf8'), { filename: script });
 
+test('a tree that is too deep is not shown, and the page says why', async () => {
+  const why = 'the tree is too deep to be shown: it has more than 10000 levels';
+  await type('(', () => new Response(brackets(1)));
+  assert.deepStrictEqual(rows(), ['\u25beTUPLE_EXPR', 'L_PAREN "(" \u25c2 expected R_PAREN']);
+  await type('('.repeat(20000), () => new Response(why + '\n', { status: 422 }));
+  assert.strictEqual(byId('notice').textContent, 'The tree is too deep to be shown: it has more than 10000 levels.');
+  assert.strictEqual(byId('notice').hidden, false);
+  assert.deepStrictEqual(rows(), []);
+  assert.strictEqual(byId('headline').textContent, '');
+  await type('((', () => new Response(brackets(2)));
+  assert.strictEqual(byId('notice').hidden, true);
+  assert.strictEqual(rows().length, 4);
+});
+
 test('of a deep tree the rows in view are drawn', async () => {
   const depth = 10000;
   await type('('.repeat(depth), () => new Response(brackets(depth)));

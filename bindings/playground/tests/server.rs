@@ -124,11 +124,31 @@ fn refuses_what_it_cannot_parse() {
 }
 
 #[test]
-fn parses_what_nests_deeply() {
+fn shows_no_tree_that_is_too_deep() {
     let server = Server::start();
-    let (status, answer) = server.post("/parse?edition=2024&entry=Expr", &"(".repeat(1 << 20));
-    // Of each tuple its begin, its bracket with that one's length, and its end.
-    assert_eq!((status, read(&answer).0.len()), (200, 4 << 20));
+    let post = |entry: &str, text: &str| server.post(&format!("/parse?edition=2024&entry={entry}"), text);
+    let too_deep = "the tree is too deep to be shown: it has more than 10000 levels\n";
+    for (entry, text) in [
+        ("Expr", "(".repeat(10_001)),
+        ("SourceFile", format!("fn f(){{{}", "(".repeat(20_000))),
+        ("Expr", format!("[{}{}", "(),".repeat(20_000), "(".repeat(20_000))),
+        ("Expr", format!("a{}", "?".repeat(20_000))),
+        ("Type", "[".repeat(1 << 20)),
+        ("Expr", "(".repeat(2 << 20)),
+    ] {
+        let (status, answer) = post(entry, &text);
+        assert_eq!((status, String::from_utf8_lossy(&answer).as_ref()), (422, too_deep), "{entry} {}", text.len());
+    }
+    // It goes on, and of as many levels or of more nodes beside one another the tree is shown. Of a tuple there are its
+    // begin, each bracket with that one's length, and its end, and of a comma as much as of a bracket.
+    for (entry, text, want) in [
+        ("Expr", "(".repeat(10_000), 4 * 10_000),
+        ("Expr", format!("[{}]", "(),".repeat(20_000)), 8 * 20_000 + 6),
+        ("SourceFile", "(".repeat(20_000), 4 * 20_000 + 2),
+    ] {
+        let (status, answer) = post(entry, &text);
+        assert_eq!((status, read(&answer).0.len()), (200, want), "{entry} {}", text.len());
+    }
 }
 
 #[test]
