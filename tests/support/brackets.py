@@ -9,6 +9,10 @@ from support import built
 # How many bytes a process may map.
 MEMORY = 128 << 20
 
+# The steps of a level in the page of rast_page, and how many bytes that has beside them, at most.
+OPENED, CLOSED = b',1,"SLICE_TYPE",2,"L_BRACK","["', b',2,"R_BRACK","]",0'
+FIXED = 64 << 10
+
 
 def lines_of(depth: int, has_ranges: bool) -> Iterator[tuple[int, str]]:
     """The lines of the type `[[.. _ ..]]`, each as how many columns it is indented and what it says."""
@@ -36,7 +40,8 @@ def is_page(program: str, out: IO[bytes], words: list[str], depth: int) -> bool:
     """Whether the program prints what it must."""
     if program == 'rast_page':
         page = out.read()
-        return page.count(b',1,"SLICE_TYPE",2,"L_BRACK","["') == depth and page.count(b',2,"R_BRACK","]",0') == depth
+        beside = len(page) - depth * len(OPENED + CLOSED)
+        return page.count(OPENED) == depth and page.count(CLOSED) == depth and beside <= FIXED
     if program == 'rast_steps' and not all(out.readline() == f'{it}\n'.encode() for it in steps_of(depth)):
         return False
     is_same = all(out.readline() == b' ' * columns + f'{it}\n'.encode()
