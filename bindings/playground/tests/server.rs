@@ -137,7 +137,8 @@ fn shows_no_tree_that_is_too_deep() {
         ("Expr", "(".repeat(2 << 20)),
     ] {
         let (status, answer) = post(entry, &text);
-        assert_eq!((status, String::from_utf8_lossy(&answer).as_ref()), (422, too_deep), "{entry} {}", text.len());
+        assert_eq!(status, 422, "{entry}, {} bytes", text.len());
+        assert_eq!(String::from_utf8_lossy(&answer), too_deep);
     }
     // It goes on, and of as many levels or of more nodes beside one another the tree is shown. Of a tuple there are its
     // begin, each bracket with that one's length, and its end, and of a comma as much as of a bracket.
@@ -147,7 +148,8 @@ fn shows_no_tree_that_is_too_deep() {
         ("SourceFile", "(".repeat(20_000), 4 * 20_000 + 2),
     ] {
         let (status, answer) = post(entry, &text);
-        assert_eq!((status, read(&answer).0.len()), (200, want), "{entry} {}", text.len());
+        assert_eq!(status, 200, "{entry}, {} bytes", text.len());
+        assert_eq!(read(&answer).0.len(), want);
     }
 }
 
