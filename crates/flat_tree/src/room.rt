@@ -16,6 +16,10 @@ pub(crate) enum Room {
 
 impl Room {
     /// For how many elements of an output's tree, which must cover the text, room is made.
+    ///
+    /// It is not inlined, so that the walk which fills the list keeps its registers: else that took a twentieth
+    /// more instructions.
+    #[inline(never)]
     pub(crate) fn of(self, lexed: &LexedStr<'_>, output: &Output) -> usize {
         let used = output.used();
         let steps = output.iter();
