@@ -154,26 +154,36 @@ function lastUpTo(length, valueAt, value) {
 const leafIndexAt = (place) => lastUpTo(leaves.length, (k) => startOf[leaves[k]], place);
 const leafIndexAtByte = (byte) => lastUpTo(leaves.length, (k) => byteOf[leaves[k]], byte);
 
-// The lines as they are drawn: a long one is cut. `numbers` has 0 where a cut line goes on.
+// The lines as they are drawn: a long one is cut. `numbers` has 0 where a cut line goes on, `lineNumbers` the
+// line's number there too, and `columns` how many characters of the line come before.
 const lineStarts = [0];
 const numbers = [1];
+const columns = [0];
+const lineNumbers = [1];
 (() => {
-  let number = 1;
+  let number = 1, column = 0;
   for (let at = 0; at < text.length;) {
     const feed = text.indexOf('\n', at);
     const stop = feed < 0 ? text.length : feed;
     while (stop - at > LONGEST_LINE) {
+      const start = at;
       at += LONGEST_LINE;
       const unit = text.charCodeAt(at);
       if (unit >= 0xdc00 && unit <= 0xdfff) at += 1;
+      column += Array.from(text.slice(start, at)).length;
       lineStarts.push(at);
       numbers.push(0);
+      columns.push(column);
+      lineNumbers.push(number);
     }
     if (feed < 0) break;
     at = feed + 1;
     number += 1;
+    column = 0;
     lineStarts.push(at);
     numbers.push(number);
+    columns.push(0);
+    lineNumbers.push(number);
   }
 })();
 const lineAt = (place) => lastUpTo(lineStarts.length, (k) => lineStarts[k], place);
@@ -195,14 +205,9 @@ function counted(n, what) {
 
 // A place as the numbers of its line and of the character in it, from 1.
 function placeName(place) {
-  let line = lineAt(place);
-  const start = lineStarts[line];
-  let column = Array.from(text.slice(start, place)).length + 1;
-  while (numbers[line] === 0) {
-    line -= 1;
-    column += Array.from(text.slice(lineStarts[line], lineStarts[line + 1])).length;
-  }
-  return numbers[line] + ':' + column;
+  const line = lineAt(place);
+  const column = columns[line] + Array.from(text.slice(lineStarts[line], place)).length + 1;
+  return lineNumbers[line] + ':' + column;
 }
 
 // The messages: the item at whose place each is, and the line under which it is shown.
@@ -223,8 +228,9 @@ for (let i = 1; i < data.messages.length; i += 2) {
   notesOf.get(line).push(message);
   if (!saidAt.has(item)) saidAt.set(item, []);
   saidAt.get(item).push(said);
-  for (let up = item; up >= 0; up = parentOf[up]) saidIn[up] += 1;
+  saidIn[item] += 1;
 }
+for (let item = count - 1; item > 0; item -= 1) saidIn[parentOf[item]] += saidIn[item];
 
 function piece(className, content) {
   const span = document.createElement('span');
