@@ -1,2 +1,3 @@
 -- Lemmas of the messages.
+pub mod Escapes
 pub mod Numbers

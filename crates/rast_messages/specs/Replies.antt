@@ -1,9 +1,9 @@
 -- Replies and notifications of a server.
-use Rattle.std.specs.Prelude.{◌≡◌, ℕ, List, ◌++◌, codes}
-use Rattle.serde_json.specs.Data.{Data, null, string}
+use Rattle.std.specs.Prelude.{ℕ, List, ◌++◌, codes}
+use Rattle.serde_json.specs.Data.{Data, string}
 use Rattle.serde_json.specs.Written.{compact_text}
 use Rattle.rast_messages.specs.declared.reply.Code.{Code}
-use Rattle.rast_messages.specs.declared.reply.Code.TheVariants.{ParseError, InvalidRequest, MethodNotFound, InvalidParams, InternalError, ServerNotInitialized}
+use Rattle.rast_messages.specs.declared.reply.Code.TheVariants.{ParseError, InvalidRequest, MethodNotFound, InvalidParams, InternalError, ServerNotInitialized, RequestFailed}
 use Rattle.rast_messages.specs.declared.reply.Fault.{Fault}
 
 -- the numbers of JSON-RPC and of the protocol
@@ -14,6 +14,7 @@ number_of MethodNotFound = codes "-32601"
 number_of InvalidParams = codes "-32602"
 number_of InternalError = codes "-32603"
 number_of ServerNotInitialized = codes "-32002"
+number_of RequestFailed = codes "-32803"
 
 -- a text as a JSON string
 abbrev pub string_text : List ℕ → List ℕ

@@ -5,7 +5,7 @@ ghost use Rattle.serde_json.specs.View.{view};
 ghost use Rattle.serde_json.specs.Written.{has_float};
 ghost use Rattle.rast_messages.specs.Replies.{begun, error_text, failure, notification_begun, notification_text, number_of, shown_params, success_text};
 
-use crate::json::push_string;
+use crate::pieces::push_string;
 use serde_json::Value;
 use std::alloc::{AllocError, Global};
 use std::fmt::Write as _;
@@ -25,6 +25,8 @@ pub enum Code {
     InternalError,
     /// The request came before `initialize`.
     ServerNotInitialized,
+    /// The request is as it must be, and cannot be answered.
+    RequestFailed,
 }
 
 impl Code {
@@ -39,6 +41,7 @@ impl Code {
             Code::InvalidParams => "-32602",
             Code::InternalError => "-32603",
             Code::ServerNotInitialized => "-32002",
+            Code::RequestFailed => "-32803",
         }
     }
 }
@@ -89,13 +92,14 @@ fn begin(alloc: Global, id: Option<&Value>) -> Result<String, AllocError>
     Ok(json)
 }
 
-/// The reply to a request with its result, a JSON text.
+/// The reply to a request with its result, a JSON text. A long one is copied into room that is made for it at once.
 pub fn success(alloc: Global, id: &Value, value: &str) -> Result<String, AllocError>
     ensures { IfOk result (λ json. has_float (view id.now) ≡ false
         → string_bytes json ≡ success_text (view id.now) value.now) }
 {
     let mut json = begin(alloc, Some(id))?;
     json.push_str(",\"result\":")?;
+    json.reserve_exact(value.len().saturating_add(1))?;
     json.push_str(value)?;
     json.push_str("}")?;
     Ok(json)
@@ -109,7 +113,7 @@ pub fn error(alloc: Global, id: Option<&Value>, fault: Fault) -> Result<String, 
     let mut json = begin(alloc, id)?;
     let number = fault.code.number();
     write!(json, ",\"error\":{{\"code\":{number},\"message\":")?;
-    push_string(alloc, &mut json, fault.text)?;
+    push_string(&mut json, fault.text)?;
     json.push_str("}}")?;
     Ok(json)
 }
@@ -152,7 +156,7 @@ fn shown_params(alloc: Global, text: &str) -> Result<String, AllocError>
     ensures { IfOk result (λ params. string_bytes params ≡ shown_params text.now) }
 {
     let mut params = String::from_str(alloc, "{\"type\":1,\"message\":")?;
-    push_string(alloc, &mut params, text)?;
+    push_string(&mut params, text)?;
     params.push_str("}")?;
     Ok(params)
 }

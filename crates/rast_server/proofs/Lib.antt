@@ -1,4 +1,10 @@
 pub mod Documents
 pub mod KeptTrees
+pub mod Limits
+pub mod Nested
+pub mod Parsed
+pub mod Positions
 pub mod Requests
 pub mod Runs
+pub mod SymbolLens
+pub mod TreeLines

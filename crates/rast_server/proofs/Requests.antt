@@ -34,10 +34,11 @@ pub id_plain : (d i : Data) → id_in d ≡ Some i → has_float i ≡ false
 id_plain d i e = checked_plain _ i e
 
 -- a request is answered
-pub requested : (old new : Server) (content method : List ℕ) (d i : Data) (r : Result Outcome AllocError) → read content ≡ Some d → IsRequest d i method
-    → IfOk r (λ o. has_float i ≡ false → Answers old i method o new) → IfOk r (λ o. IsAnswer old content o new)
-requested old new content method d i (Ok o) e p h = request d i method e p (h (id_plain d i p.id_is))
-requested old new content method d i (Err a) e p h = tt
+pub requested : (old new : Server) (content method : List ℕ) (d i params : Data) (r : Result Outcome AllocError) → read content ≡ Some d → IsRequest d i method
+    → params ≡ params_in d → IfOk r (λ o. has_float i ≡ false → Answers old i method params o new) → IfOk r (λ o. IsAnswer old content o new)
+requested old new content method d i params (Ok o) e p q h =
+    request d i method e p (subst (λ (x : Data). Answers old i method x o new) q (h (id_plain d i p.id_is)))
+requested old new content method d i params (Err a) e p q h = tt
 
 -- a notification is heeded
 pub notified : (old new : Server) (content method : List ℕ) (d params : Data) (r : Result Outcome AllocError) → read content ≡ Some d → IsNotification d method

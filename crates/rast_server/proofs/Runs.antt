@@ -13,7 +13,7 @@ use Rattle.rast_server.specs.Ran.{FrontAnswers, FrontLeaves, GoesOn, IsExited, I
 use Rattle.rast_server.specs.Ran.Serves.{answers, begins, comes, fails, leaves_out}
 use Rattle.rast_server.specs.declared.run.Next.{Next}
 use Rattle.rast_server.specs.declared.run.Next.TheVariants.{Read, Exit, CannotWrite, Lost}
-use Rattle.rast_server.specs.declared.run.TheConstants.{LIMIT}
+use Rattle.rast_server.specs.declared.limit.TheConstants.{LIMIT}
 use Rattle.rast_server.specs.declared.server.Outcome.{Outcome}
 use Rattle.rast_server.specs.declared.server.Outcome.TheVariants.{Nothing, Reply, Note, Exit as Ends}
 use Rattle.rast_server.specs.declared.server.Server.{Server}

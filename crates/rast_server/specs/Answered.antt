@@ -9,6 +9,7 @@ use Rattle.rast_messages.specs.declared.reply.Code.{Code}
 use Rattle.rast_messages.specs.declared.reply.Code.TheVariants.{ParseError, InvalidRequest, MethodNotFound, InvalidParams, InternalError, ServerNotInitialized}
 use Rattle.rast_messages.specs.declared.reply.Fault.{Fault}
 use Rattle.rast_server.specs.Documents.{Cannot, Changes, Does, KeepsDocuments, Leaves}
+use Rattle.rast_server.specs.Limited.{AsksOfPlaces, Gives, NamesNone, Withholds}
 use Rattle.rast_server.specs.declared.server.Granted.{Granted}
 use Rattle.rast_server.specs.declared.server.Outcome.{Outcome}
 use Rattle.rast_server.specs.declared.server.Outcome.TheVariants.{Nothing, Reply, Note, Exit}
@@ -27,46 +28,52 @@ IsAboutDocument m = (m ≡ codes "textDocument/documentSymbol") ⊎ ((m ≡ code
 abbrev pub IsHeeded : List ℕ → Type 0
 IsHeeded m = (m ≡ codes "textDocument/didOpen") ⊎ ((m ≡ codes "textDocument/didChange") ⊎ (m ≡ codes "textDocument/didClose"))
 
--- an answer about a document fails by its parameters, or out of memory
-abbrev pub IsOfDocument : Code → Type 0
-IsOfDocument code = (code ≡ InvalidParams) ⊎ (code ≡ InternalError)
-
--- when a request is refused with which code; out of memory it may always be
-abbrev pub Refuses : Stage → List ℕ → Code → Type 0
-Refuses stage method code = (code ≡ InternalError)
+-- when a request is refused with which code for its time or its method alone; out of memory it may always be
+abbrev pub IsRefusedAt : Stage → List ℕ → Code → Type 0
+IsRefusedAt stage method code = (code ≡ InternalError)
     ⊎ (((code ≡ ServerNotInitialized) × (stage ≡ Fresh) × (method ≢ codes "initialize"))
     ⊎ (((code ≡ InvalidRequest) × ((stage ≡ ShutDown) ⊎ ((stage ≡ Ready) × (method ≡ codes "initialize"))))
-    ⊎ (((code ≡ MethodNotFound) × (stage ≡ Ready) × (method ≢ codes "initialize") × (method ≢ codes "shutdown") × ¬ IsAboutDocument method)
-    ⊎ ((code ≡ InvalidParams) × (stage ≡ Ready) × IsAboutDocument method))))
+    ⊎ ((code ≡ MethodNotFound) × (stage ≡ Ready) × (method ≢ codes "initialize") × (method ≢ codes "shutdown") × ¬ IsAboutDocument method)))
+
+-- when one about a document is: it names none that is open, its places are none, or its answer would be longer than the
+-- limit
+abbrev pub IsRefusedAbout : Server → List ℕ → Data → Fault → Type 0
+IsRefusedAbout s method params fault =
+    ((fault.code ≡ InvalidParams) × (NamesNone s params ⊎ AsksOfPlaces method)) ⊎ Withholds s method params fault
+
+abbrev pub Refuses : Server → List ℕ → Data → Fault → Type 0
+Refuses s method params fault =
+    IsRefusedAt s.stage method fault.code ⊎ ((s.stage ≡ Ready) × IsAboutDocument method × IsRefusedAbout s method params fault)
 
 -- what a request makes of the server: `initialize` and `shutdown` lead on, and nothing else changes it
-abbrev pub Grants : Server → List ℕ → Granted → Type 0
-Grants s method g = ((s.stage ≡ Fresh) × (method ≡ codes "initialize") × (g.stage ≡ Ready))
+abbrev pub Grants : Server → List ℕ → Data → Granted → Type 0
+Grants s method params g = ((s.stage ≡ Fresh) × (method ≡ codes "initialize") × (g.stage ≡ Ready))
     ⊎ (((s.stage ≡ Ready) × (method ≡ codes "shutdown") × (g.stage ≡ ShutDown) × (g.encoding ≡ s.encoding) × (string_bytes g.text ≡ codes "null"))
-    ⊎ ((s.stage ≡ Ready) × IsAboutDocument method × (g.stage ≡ Ready) × (g.encoding ≡ s.encoding)))
+    ⊎ ((s.stage ≡ Ready) × IsAboutDocument method × (g.stage ≡ Ready) × (g.encoding ≡ s.encoding) × Gives s method params (string_bytes g.text)))
 
 -- the reply with the result, and the server as the request leaves it
-pub record IsGranted (old : Server) (id : Data) (method text : List ℕ) (new : Server) : Type 0 where
+pub record IsGranted (old : Server) (id : Data) (method : List ℕ) (params : Data) (text : List ℕ) (new : Server) : Type 0 where
   pub granted : Granted
-  pub grants : Grants old method granted
+  pub grants : Grants old method params granted
   pub text_is : text ≡ success_text id (string_bytes granted.text)
   pub stage : new.stage ≡ granted.stage
   pub encoding : new.encoding ≡ granted.encoding
   pub documents : new.documents ≡ old.documents
 
 -- the reply with an error, and the server as it was
-pub record IsRefused (old : Server) (id : Data) (method text : List ℕ) (new : Server) : Type 0 where
+pub record IsRefused (old : Server) (id : Data) (method : List ℕ) (params : Data) (text : List ℕ) (new : Server) : Type 0 where
   pub fault : Fault
-  pub refuses : Refuses old.stage method fault.code
+  pub refuses : Refuses old method params fault
   pub text_is : text ≡ error_text id fault
   pub same : new ≡ old
 
 -- the reply to a request, exactly one
-abbrev pub Answers : Server → Data → List ℕ → Outcome → Server → Type 0
-Answers old id method Nothing new = ⊥
-Answers old id method (Reply text) new = IsGranted old id method (string_bytes text) new ⊎ IsRefused old id method (string_bytes text) new
-Answers old id method (Note text) new = ⊥
-Answers old id method (Exit status) new = ⊥
+abbrev pub Answers : Server → Data → List ℕ → Data → Outcome → Server → Type 0
+Answers old id method params Nothing new = ⊥
+Answers old id method params (Reply text) new =
+    IsGranted old id method params (string_bytes text) new ⊎ IsRefused old id method params (string_bytes text) new
+Answers old id method params (Note text) new = ⊥
+Answers old id method params (Exit status) new = ⊥
 
 -- the status with which the server ends
 abbrev pub status_of : Stage → ℕ
@@ -125,7 +132,7 @@ id_or_null (Some id) = id
 
 -- what is sent for the content of a message, and what the server is after it
 pub data IsAnswer (old : Server) (content : List ℕ) (outcome : Outcome) (new : Server) : Type 0 where
-  request : (d id : Data) (method : List ℕ) → read content ≡ Some d → IsRequest d id method → Answers old id method outcome new → IsAnswer old content outcome new
+  request : (d id : Data) (method : List ℕ) → read content ≡ Some d → IsRequest d id method → Answers old id method (params_in d) outcome new → IsAnswer old content outcome new
   notification : (d : Data) (method : List ℕ) → read content ≡ Some d → IsNotification d method → Heeds old method (params_in d) outcome new → IsAnswer old content outcome new
   response : (d : Data) → read content ≡ Some d → IsResponse d → outcome ≡ Nothing → new ≡ old → IsAnswer old content outcome new
   no_message : (d : Data) → read content ≡ Some d → IsNoMessage d → Reports InvalidRequest (id_or_null (id_in d)) outcome → new ≡ old → IsAnswer old content outcome new

@@ -1,5 +1,9 @@
 pub mod Answered
 pub mod Documents
+pub mod Limited
 pub mod Ran
 pub mod Rows
+pub mod SelectionText
+pub mod SymbolLengths
+pub mod TreeText
 pub mod Trees

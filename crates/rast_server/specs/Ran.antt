@@ -12,7 +12,7 @@ use Rattle.rast_messages.specs.declared.reply.TheConstants.{OUT_OF_MEMORY}
 use Rattle.rast_server.specs.Answered.{IsAnswer, IsUnanswered, Reports, status_of}
 use Rattle.rast_server.specs.declared.run.Next.{Next}
 use Rattle.rast_server.specs.declared.run.Next.TheVariants.{Read, Exit, CannotWrite, Lost}
-use Rattle.rast_server.specs.declared.run.TheConstants.{LIMIT}
+use Rattle.rast_server.specs.declared.limit.TheConstants.{LIMIT}
 use Rattle.rast_server.specs.declared.server.Outcome.{Outcome}
 use Rattle.rast_server.specs.declared.server.Outcome.TheVariants.{Nothing, Reply, Note, Exit as Ends}
 use Rattle.rast_server.specs.declared.server.Server.{Server}

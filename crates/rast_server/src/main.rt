@@ -3,8 +3,11 @@
 
 mod answers;
 mod initialize;
+mod limit;
 mod open_documents;
+mod outline;
 mod run;
+mod selected;
 mod server;
 mod tree;
 mod trees;

@@ -2,6 +2,8 @@
 ghost use Rattle.std.specs.Prelude.{◌≡◌, ◌⊎◌, [], IfErr, IfNone, IfSome, IsSome, None, OnErr, OnOk, Some, is_some, option_map, string_bytes};
 ghost use Rattle.std.specs.BTreeMap.{get_by_text};
 ghost use Rattle.std.specs.Option.{ForSome};
+ghost use Rattle.rap_base.specs.declared.edition.Edition.TheVariants.{Edition2024};
+ghost use Rattle.rast_answers.specs.Listings.{AreElementsOf};
 ghost use Rattle.rast_server.specs.Documents.{IsNoMemory, SaysNoPlace, SaysNotOpen};
 ghost use Rattle.rast_server.specs.Trees.{AreKeptOf, ChangesText, HasNoText, PutsIn};
 
@@ -63,7 +65,8 @@ impl Documents {
 
     /// The document under this uri with its tree, if that is kept.
     pub(crate) fn listing(&self, uri: &str) -> Option<Listing<'_>>
-        ensures { IfSome result (λ listing. option_map (λ opened. opened.document) (get_by_text self.now uri.now) ≡ Some listing.document.now) }
+        ensures document { IfSome result (λ listing. option_map (λ opened. opened.document) (get_by_text self.now uri.now) ≡ Some listing.document.now) }
+        ensures tree { IfSome result (λ listing. AreElementsOf (string_bytes listing.document.now.text) Edition2024 listing.elements.now) }
     {
         let opened = self.opened.get(uri)?;
         let kept = self.trees.find(uri)?;

@@ -5,18 +5,16 @@ ghost use Rattle.rast_frames.specs.Fronts.{Fronts};
 ghost use Rattle.rast_frames.specs.Stream.{waiting};
 ghost use Rattle.rast_messages.specs.declared.reply.Code.TheVariants.{InvalidRequest, ParseError};
 ghost use Rattle.rast_server.specs.Ran.{FrontAnswers, FrontLeaves, GoesOn, IsReported, IsRun, IsServed, Sends};
-ghost use Rattle.rast_server.specs.declared.run.TheConstants.{LIMIT};
+ghost use Rattle.rast_server.specs.declared.limit.TheConstants.{LIMIT};
 ghost use Rattle.rast_server.specs.declared.server.Server.{Server};
 
+use crate::limit::LIMIT;
 use crate::server::{Outcome, Server};
 use rast_common::fault::report;
 use rast_frames::{Frames, Front, HeaderFault, write_frame};
 use rast_messages::{Code, Fault, OUT_OF_MEMORY, error};
 use std::alloc::{AllocError, Global};
 use std::io;
-
-/// The longest message, in bytes.
-const LIMIT: usize = 268_435_456;
 
 /// How many bytes are read at a time.
 const PIECE: usize = 65_536;

@@ -1,7 +1,7 @@
 //! The state of the server, and what each message does to it.
-ghost use Rattle.std.specs.Prelude.{◌≡◌, ◌⊎◌, ◌≤◌, ◌↔◌, ℕ, List, [], IfErr, IfOk, IsSome, IsTrue, OnErr, OnOk, codes, false, true, option_map, string_bytes};
+ghost use Rattle.std.specs.Prelude.{◌≡◌, ◌⊎◌, ◌<◌, ◌≤◌, ◌↔◌, ℕ, List, [], IfErr, IfOk, IsSome, IsTrue, OnErr, OnOk, codes, false, true, length, option_map, string_bytes};
 ghost use Rattle.rap_base.specs.declared.edition.Edition.TheVariants.{Edition2024};
-ghost use Rattle.rast_answers.specs.Listings.{AreListsOf};
+ghost use Rattle.rast_answers.specs.Listings.{AreElementsOf, AreListsOf};
 ghost use Rattle.std.specs.BTreeMap.{get_by_text};
 ghost use Rattle.rast_server.specs.Trees.{AreKeptOf};
 ghost use Rattle.serde_json.specs.Data.{null};
@@ -9,13 +9,19 @@ ghost use Rattle.serde_json.specs.View.{view};
 ghost use Rattle.serde_json.specs.Written.{has_float};
 ghost use Rattle.rast_document.specs.Changes.{AllChange};
 ghost use Rattle.rast_messages.specs.declared.reply.Code.TheVariants.{InternalError, InvalidRequest, ParseError};
-ghost use Rattle.rast_server.specs.Answered.{Answers, Grants, Heeds, IsAboutDocument, IsHeeded, IsOfDocument, IsAnswer, IsUnanswered, IsUntold, Refuses, Reports, status_of};
+ghost use Rattle.rast_server.specs.Answered.{Answers, Grants, Heeds, IsAboutDocument, IsHeeded, IsAnswer, IsRefusedAbout, IsRefusedAt, IsUnanswered, IsUntold, Refuses, Reports, status_of};
 ghost use Rattle.rast_server.specs.Documents.{Cannot, CannotChange, CannotClose, CannotOpen, Changes, Closes, Does, IsNoMemory, KeepsDocuments, Leaves, Opens, SaysNoPlace, opened_text};
+ghost use Rattle.rast_server.specs.Limited.{AreLonger, AreSelections, Fails, Gives, IsGiven, IsOfPlaces, IsParsedAt, IsProportional, IsWithheld, SaysTooDeep, SaysTooLong, shown_text};
+ghost use Rattle.rast_server.specs.declared.limit.TheConstants.{LIMIT};
 ghost use Rattle.rast_server.specs.declared.server.Stage.TheVariants.{Fresh, Ready, ShutDown};
 
-use crate::answers::{folds, highlights, push_diagnostics, selections, symbols, tokens, tree};
+use crate::answers::{folds, highlights, push_diagnostics, tokens};
 use crate::initialize::capabilities;
+use crate::limit::TOO_DEEP;
 use crate::open_documents::Documents;
+use crate::outline::symbols;
+use crate::selected::selections;
+use crate::tree::tree_string;
 use crate::trees::Lists;
 use flat_tree::Element;
 use ra_ap_parser::{NoMemory, TextFault};
@@ -140,7 +146,7 @@ const NO_JSON: Fault = Fault {
 };
 
 /// A position or a range is none of the document.
-const NO_PLACE: Fault = Fault {
+pub(crate) const NO_PLACE: Fault = Fault {
     code: Code::InvalidParams,
     text: "the position or range is none of the document",
 };
@@ -164,7 +170,6 @@ fn fault_of(fault: TextFault<NoMemory>) -> Fault
 
 /// Adds the message that a document has no tree.
 fn push_fault(
-    alloc: Global,
     json: &mut String,
     document: &Document,
     fault: TextFault<NoMemory>,
@@ -180,7 +185,7 @@ fn push_fault(
         start: 0,
         end: 0,
     };
-    Ok(push_diagnostics(alloc, json, document, &[none])?)
+    Ok(push_diagnostics(json, document, &[none])?)
 }
 
 /// Adds the messages of the tree of a document.
@@ -194,7 +199,7 @@ fn push_listed(
     ensures { IfErr result IsNoMemory }
 {
     let list = diagnostics(alloc, lists.messages())?;
-    Ok(push_diagnostics(alloc, json, document, list.as_slice())?)
+    Ok(push_diagnostics(json, document, list.as_slice())?)
 }
 
 /// Adds the messages of a document, or the one that it has no tree. Returns the nodes and leaves of its tree, for which it
@@ -213,7 +218,7 @@ fn push_messages(
             Ok(Some(lists.into_elements()))
         }
         Err(fault) => {
-            push_fault(alloc, json, document, fault)?;
+            push_fault(json, document, fault)?;
             Ok(None)
         }
     }
@@ -223,7 +228,7 @@ fn push_messages(
 fn begin_messages(alloc: Global, uri: &str) -> Result<String, AllocError> {
     let mut json = begin_notification(alloc, "textDocument/publishDiagnostics")?;
     json.push_str("{\"uri\":")?;
-    push_string(alloc, &mut json, uri)?;
+    push_string(&mut json, uri)?;
     Ok(json)
 }
 
@@ -280,15 +285,30 @@ fn opened_text(params: &Value) -> Option<&str>
 
 /// What may be selected around the positions of a message.
 fn selected(alloc: Global, listing: &Listing<'_>, params: &Value) -> Result<String, Fault>
-    ensures { IfErr result (λ fault. IsOfDocument fault.code) }
+    ensures selected { IfOk result (λ text. AreSelections listing.now.document.now listing.now.elements.now (view params.now) (string_bytes text)) }
+    ensures within { IfOk result (λ text. length (string_bytes text) ≤ LIMIT) }
+    ensures why { IfErr result (λ fault. IsOfPlaces fault.code
+        ⊎ (SaysTooLong fault × AreLonger listing.now.document.now listing.now.elements.now (view params.now))) }
 {
     let positions = positions_in(alloc, params)?.ok_or(WRONG_PARAMS)?;
-    selections(alloc, listing, positions.as_slice())?.ok_or(NO_PLACE)
+    selections(alloc, listing, positions.as_slice())
+}
+
+/// The tree of a document.
+#[tactic(auto, using(crate::proofs::Parsed::have_places, crate::proofs::Parsed::parents_first))]
+fn shown(alloc: Global, listing: &Listing<'_>) -> Result<String, Fault>
+    requires { AreElementsOf (string_bytes listing.now.document.now.text) Edition2024 listing.now.elements.now }
+    ensures text { IfOk result (λ text. string_bytes text ≡ shown_text listing.now.document.now listing.now.elements.now) }
+    ensures within { IfOk result (λ text. length (string_bytes text) ≤ LIMIT) }
+    ensures why { IfErr result (λ fault. (fault.code ≡ InternalError)
+        ⊎ (SaysTooDeep fault × (LIMIT < length (shown_text listing.now.document.now listing.now.elements.now)))) }
+{
+    tree_string(alloc, listing.document().text(), listing.elements())?.ok_or(TOO_DEEP)
 }
 
 /// What belongs together with what stands at the position of a message.
 fn highlighted(alloc: Global, listing: &Listing<'_>, params: &Value) -> Result<String, Fault>
-    ensures { IfErr result (λ fault. IsOfDocument fault.code) }
+    ensures { IfErr result (λ fault. IsOfPlaces fault.code) }
 {
     let place = params.get("position").ok_or(WRONG_PARAMS)?;
     let position = position_in(place).ok_or(WRONG_PARAMS)?;
@@ -298,7 +318,7 @@ fn highlighted(alloc: Global, listing: &Listing<'_>, params: &Value) -> Result<S
 
 /// The tokens of the range of a message.
 fn tokens_of_range(alloc: Global, listing: &Listing<'_>, params: &Value) -> Result<String, Fault>
-    ensures { IfErr result (λ fault. IsOfDocument fault.code) }
+    ensures { IfErr result (λ fault. IsOfPlaces fault.code) }
 {
     let range = params.get("range").ok_or(WRONG_PARAMS)?;
     let span = span_in(range).ok_or(WRONG_PARAMS)?;
@@ -308,26 +328,47 @@ fn tokens_of_range(alloc: Global, listing: &Listing<'_>, params: &Value) -> Resu
     Ok(tokens(alloc, list.as_slice())?)
 }
 
-/// The result of a request about a document, of which the tree is known.
+/// The result of a request about a document, which is no longer than in proportion to the text and the message.
+fn proportional(
+    alloc: Global,
+    listing: &Listing<'_>,
+    method: &str,
+    params: &Value,
+) -> Result<String, Fault>
+    requires about { IsAboutDocument method.now }
+    requires proportional { IsProportional method.now }
+    ensures { IfErr result (λ fault. Fails method.now fault.code) }
+{
+    match method {
+        "textDocument/foldingRange" => Ok(folds(alloc, listing)?),
+        "textDocument/documentHighlight" => highlighted(alloc, listing, params),
+        "textDocument/semanticTokens/full" => {
+            let list = listing.tokens(alloc)?;
+            Ok(tokens(alloc, list.as_slice())?)
+        }
+        _ => tokens_of_range(alloc, listing, params),
+    }
+}
+
+/// The result of a request about a document, of which the tree is known. If it may be longer than in proportion to the
+/// text and the message, it is within the limit.
 fn answered(
     alloc: Global,
     listing: &Listing<'_>,
     method: &str,
     params: &Value,
 ) -> Result<String, Fault>
-    ensures { IfErr result (λ fault. IsOfDocument fault.code) }
+    requires tree { AreElementsOf (string_bytes listing.now.document.now.text) Edition2024 listing.now.elements.now }
+    requires about { IsAboutDocument method.now }
+    ensures given { IfOk result (λ text. IsGiven listing.now.document.now listing.now.elements.now method.now (view params.now) (string_bytes text)) }
+    ensures why { IfErr result (λ fault. Fails method.now fault.code
+        ⊎ IsWithheld listing.now.document.now listing.now.elements.now method.now (view params.now) fault) }
 {
     match method {
-        "textDocument/documentSymbol" => Ok(symbols(alloc, listing)?),
-        "textDocument/foldingRange" => Ok(folds(alloc, listing)?),
+        "rust-analyzer/viewSyntaxTree" => shown(alloc, listing),
         "textDocument/selectionRange" => selected(alloc, listing, params),
-        "textDocument/documentHighlight" => highlighted(alloc, listing, params),
-        "textDocument/semanticTokens/full" => {
-            let list = listing.tokens(alloc)?;
-            Ok(tokens(alloc, list.as_slice())?)
-        }
-        "textDocument/semanticTokens/range" => tokens_of_range(alloc, listing, params),
-        _ => Ok(tree(alloc, listing)?),
+        "textDocument/documentSymbol" => symbols(alloc, listing),
+        _ => proportional(alloc, listing, method, params),
     }
 }
 
@@ -339,9 +380,12 @@ fn result_of(
     method: &str,
     params: &Value,
 ) -> Result<String, Fault>
-    requires { IsSome (get_by_text documents.old uri.now) }
+    requires is_open { IsSome (get_by_text documents.old uri.now) }
+    requires about { IsAboutDocument method.now }
     ensures same { documents.new ≡ documents.old }
-    ensures why { IfErr result (λ fault. IsOfDocument fault.code) }
+    ensures given { IfOk result (λ text. IsParsedAt documents.old uri.now (λ d es. IsGiven d es method.now (view params.now) (string_bytes text))) }
+    ensures why { IfErr result (λ fault. Fails method.now fault.code
+        ⊎ IsParsedAt documents.old uri.now (λ d es. IsWithheld d es method.now (view params.now) fault)) }
 {
     documents.prepare(uri);
     if let Some(listing) = documents.listing(uri) {
@@ -435,7 +479,7 @@ impl Server {
         method: &str,
         params: &Value,
     ) -> Result<Outcome, AllocError>
-        ensures answers { IfOk result (λ outcome. has_float (view id.now) ≡ false → Answers self.old (view id.now) method.now outcome self.new) }
+        ensures answers { IfOk result (λ outcome. has_float (view id.now) ≡ false → Answers self.old (view id.now) method.now (view params.now) outcome self.new) }
         ensures err { OnErr result (self.new ≡ self.old) }
     {
         let granted = match self.request(alloc, method, params) {
@@ -454,8 +498,8 @@ impl Server {
     // The result of a request.
     fn request(&mut self, alloc: Global, method: &str, params: &Value) -> Result<Granted, Fault>
         ensures same { self.new ≡ self.old }
-        ensures grants { IfOk result (Grants self.old method.now) }
-        ensures refuses { IfErr result (λ fault. Refuses self.old.stage method.now fault.code) }
+        ensures grants { IfOk result (Grants self.old method.now (view params.now)) }
+        ensures refuses { IfErr result (Refuses self.old method.now (view params.now)) }
     {
         match self.stage {
             Stage::Fresh => started(alloc, method, params),
@@ -468,8 +512,8 @@ impl Server {
     fn asked(&mut self, alloc: Global, method: &str, params: &Value) -> Result<Granted, Fault>
         requires { self.old.stage ≡ Ready }
         ensures same { self.new ≡ self.old }
-        ensures grants { IfOk result (Grants self.old method.now) }
-        ensures refuses { IfErr result (λ fault. Refuses self.old.stage method.now fault.code) }
+        ensures grants { IfOk result (Grants self.old method.now (view params.now)) }
+        ensures refuses { IfErr result (Refuses self.old method.now (view params.now)) }
     {
         if method == "initialize" {
             return Err(NOT_NOW);
@@ -498,8 +542,10 @@ impl Server {
         method: &str,
         params: &Value,
     ) -> Result<String, Fault>
+        requires { IsAboutDocument method.now }
         ensures same { self.new ≡ self.old }
-        ensures why { IfErr result (λ fault. IsOfDocument fault.code) }
+        ensures gives { IfOk result (λ text. Gives self.old method.now (view params.now) (string_bytes text)) }
+        ensures why { IfErr result (λ fault. (fault.code ≡ InternalError) ⊎ IsRefusedAbout self.old method.now (view params.now) fault) }
     {
         let uri = uri_of(params).ok_or(WRONG_PARAMS)?;
         if !self.documents.has(uri) {
@@ -596,7 +642,7 @@ impl Server {
 // The result of `initialize`. Nothing else is granted before it.
 fn started(alloc: Global, method: &str, params: &Value) -> Result<Granted, Fault>
     ensures grants { IfOk result (λ granted. (method.now ≡ codes "initialize") × (granted.stage ≡ Ready)) }
-    ensures refuses { IfErr result (λ fault. Refuses Fresh method.now fault.code) }
+    ensures refuses { IfErr result (λ fault. IsRefusedAt Fresh method.now fault.code) }
 {
     if method != "initialize" {
         return Err(NOT_INITIALIZED);

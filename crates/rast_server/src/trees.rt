@@ -49,7 +49,8 @@ impl Lists {
     #[tactic(auto, using(rast_answers::proofs::Kept::elements_of_lists))]
     pub(crate) fn listing<'d>(&'d self, document: &'d Document) -> Listing<'d>
         requires { AreListsOf (string_bytes document.now.text) Edition2024 self.now.elements.items self.now.messages.items }
-        ensures { result.document.now ≡ document.now }
+        ensures document { result.document.now ≡ document.now }
+        ensures elements { result.elements.now ≡ self.now.elements.items }
     {
         Listing::new(document, self.elements.as_slice())
     }

@@ -7,8 +7,10 @@ use Rattle.rast_server.proofs.server.Server.answer.Goals as goal
 
 pub returns-in-Request-clause-answers : goal.returns-in-Request-clause-answers
 returns-in-Request-clause-answers c =
-    requested c.args.self.now c.reply.new.self c.args.content.now c.in-Request.method.now (view c.in-Ok.message) (view c.in-Request.id.now) c.reply.result
-    c.in-Ok.ensures.ok.1 c.in-Request.ensures c.reply.ensures.answers
+    requested c.args.self.now c.reply.new.self c.args.content.now c.in-Request.method.now (view c.in-Ok.message) (view c.in-Request.id.now) _ c.reply.result
+    c.in-Ok.ensures.ok.1 c.in-Request.ensures
+    (params_are c.get.result c.unwrap_or-params.result _ (view c.in-Ok.message) c.unwrap_or-params.ensures c.get.ensures view-Null)
+    c.reply.ensures.answers
 
 pub returns-in-Request-clause-unanswered : goal.returns-in-Request-clause-unanswered
 returns-in-Request-clause-unanswered c = left c.args.self.now c.reply.new.self c.args.content.now c.reply.result c.reply.ensures.err
