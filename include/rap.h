@@ -125,13 +125,12 @@ struct rap_part {
     size_t end;
 };
 
-/* Statuses. Where more than one applies, a call returns the first of those that it lists. One exception: a call may
- * run out of memory before it finds another fault, and then returns RAP_NO_MEMORY in place of it. So may rap_prefix
- * and rap_prefix_nodes in place of RAP_TOO_MANY_TOKENS; rap_reparse and rap_reparse_nodes in place of RAP_NO_BRACE and
- * RAP_TOO_MANY_TOKENS; rap_parse and
- * rap_parse_prefix in place of RAP_NO_RECORD and RAP_TOO_MANY_TOKENS; rap_parse_node in place of these two and
- * RAP_NO_BRACE; rap_weave in place of RAP_NO_STEPS; and rap_script in place of RAP_NO_SCRIPT. No other call returns it
- * where another of these applies.
+/* Statuses. Where more than one applies, a call returns the first of those that it lists. One exception: a call may run
+ * out of memory before it finds another fault, and then returns RAP_NO_MEMORY in place of it. So may rap_prefix and
+ * rap_prefix_nodes in place of RAP_TOO_MANY_TOKENS; rap_reparse and rap_reparse_nodes in place of RAP_NO_BRACE and
+ * RAP_TOO_MANY_TOKENS; rap_parse and rap_parse_prefix in place of RAP_NO_RECORD and RAP_TOO_MANY_TOKENS; rap_parse_node
+ * in place of these two and RAP_NO_BRACE; rap_weave in place of RAP_NO_STEPS; and rap_script in place of RAP_NO_SCRIPT.
+ * No other call returns it where another of these applies.
  * The text of a status is written by rap_status_text.
  */
 enum rap_status {
@@ -215,8 +214,8 @@ enum { RAP_LONG = 8191 };
  * In the first word of a step bits 0 to 2 are one of enum rap_what; bits 16 to 31 are the number of its kind, for
  * RAP_ENTER and RAP_TOKEN; the others are 0, but for RAP_TOKEN bits 3 to 15 are the length of the token in bytes, or
  * RAP_LONG where that is RAP_LONG or more, and then the next word is the length. Two words follow that of RAP_MESSAGE:
- * the byte of the text at which the message is, and the number of its bytes in the array of messages; a message
- * begins there where the one before it ended. A token begins in the text where the one before it ended. There is no
+ * the byte of the text at which the message is, and the number of its bytes in the array of messages; a message begins
+ * there where the one before it ended. A token begins in the text where the one before it ended. There is no
  * RAP_SPLIT. After the end of the last node follow the lexer's messages, each at its token.
  * Status: as for rap_tree. `steps` is the number of words, and `used` the number of those before the lexer's messages.
  */
@@ -301,8 +300,8 @@ struct rap_nodes_answer rap_nodes(const uint8_t *text, size_t text_length, uint3
 
 /* The tokens of a text, trivia included: a RAP_TOKEN step for each, and after the last one the lexer's messages, each
  * at its token. Nothing is parsed.
- * Status: RAP_OK, RAP_NO_EDITION, RAP_NOT_UTF8, RAP_TEXT_TOO_LONG, RAP_NO_MEMORY; the first of them that applies. `used`
- * is the text's length.
+ * Status: RAP_OK, RAP_NO_EDITION, RAP_NOT_UTF8, RAP_TEXT_TOO_LONG, RAP_NO_MEMORY; the first of them that applies.
+ * `used` is the text's length.
  */
 struct rap_answer rap_tokens(const uint8_t *text, size_t text_length, uint32_t edition,
                              struct rap_step *steps, size_t step_room, uint8_t *messages, size_t message_room);
@@ -370,8 +369,8 @@ struct rap_nodes_answer rap_reparse_nodes(const uint8_t *text, size_t text_lengt
 
 /* The parser's input of a text: a record for each token that is no trivia, in order.
  * `records`, `record_room`: the caller's array and its length in records. As many records as fit are written.
- * Status: RAP_OK, RAP_NO_EDITION, RAP_NOT_UTF8, RAP_TEXT_TOO_LONG, RAP_NO_MEMORY; the first of them that applies. `steps`
- * is the number of records, `message_bytes` is 0, and `used` is the text's length.
+ * Status: RAP_OK, RAP_NO_EDITION, RAP_NOT_UTF8, RAP_TEXT_TOO_LONG, RAP_NO_MEMORY; the first of them that applies.
+ * `steps` is the number of records, `message_bytes` is 0, and `used` is the text's length.
  */
 struct rap_answer rap_records(const uint8_t *text, size_t text_length, uint32_t edition,
                               struct rap_record *records, size_t record_room);
@@ -380,24 +379,24 @@ struct rap_answer rap_records(const uint8_t *text, size_t text_length, uint32_t 
  * The steps are those of the output, one tree over all records, in which places count records, from 0 on, and with no
  * trivia. So the status is never RAP_NO_TREE. A leaf has the records from `start` to `end`: two or three of them make
  * one operator. A RAP_SPLIT has one record. A message is before the record at its place.
- * Status: RAP_OK, RAP_NO_ENTRY, RAP_NO_RECORD, RAP_TOO_MANY_TOKENS, RAP_NO_MEMORY; the first of them that applies. `used`
- * is the number of records.
+ * Status: RAP_OK, RAP_NO_ENTRY, RAP_NO_RECORD, RAP_TOO_MANY_TOKENS, RAP_NO_MEMORY; the first of them that applies.
+ * `used` is the number of records.
  */
 struct rap_answer rap_parse(const struct rap_record *records, size_t record_count, uint32_t entry,
                             struct rap_step *steps, size_t step_room, uint8_t *messages, size_t message_room);
 
 /* Parses a prefix of the records. `entry`: one of enum rap_prefix_entry.
  * The steps are as those of rap_parse. The status is RAP_OK if they are those of one tree, and RAP_NO_TREE otherwise.
- * `used` is the number of records that were taken; those after them are left. On a fault the
- * status is RAP_NO_ENTRY, RAP_NO_RECORD, RAP_TOO_MANY_TOKENS or RAP_NO_MEMORY; the first of them that applies.
+ * `used` is the number of records that were taken; those after them are left. On a fault the status is RAP_NO_ENTRY,
+ * RAP_NO_RECORD, RAP_TOO_MANY_TOKENS or RAP_NO_MEMORY; the first of them that applies.
  */
 struct rap_answer rap_parse_prefix(const struct rap_record *records, size_t record_count, uint32_t entry,
                                    struct rap_step *steps, size_t step_room, uint8_t *messages, size_t message_room);
 
 /* Parses a node in braces again from its own records. `node`, `first_child`, `parent`: as at rap_reparse.
  * The answer is as that of rap_parse_prefix; but the statuses are, after RAP_OK and RAP_NO_TREE, RAP_NO_NODE,
- * RAP_NO_RECORD, RAP_NO_BRACE, RAP_TOO_MANY_TOKENS and RAP_NO_MEMORY; the first of them that applies. Without
- * records the call tests whether such a node is parsed again alone: exactly if the status is not RAP_NO_NODE.
+ * RAP_NO_RECORD, RAP_NO_BRACE, RAP_TOO_MANY_TOKENS and RAP_NO_MEMORY; the first of them that applies. Without records
+ * the call tests whether such a node is parsed again alone: exactly if the status is not RAP_NO_NODE.
  */
 struct rap_answer rap_parse_node(const struct rap_record *records, size_t record_count, uint32_t node,
                                  uint32_t first_child, uint32_t parent,
@@ -410,12 +409,11 @@ struct rap_answer rap_parse_node(const struct rap_record *records, size_t record
  * messages.
  * Of the given steps these are read: `what`; `kind` at RAP_ENTER, RAP_TOKEN and RAP_SPLIT; `end` minus `start` at
  * RAP_TOKEN, the number of tokens; and `start` and `end` at RAP_MESSAGE. They must be those of one tree, with nothing
- * beside it, whose leaves match the first tokens of the text that are no trivia, one after another: each token
- * under its own kind, an identifier as its contextual kind, a keyword as an identifier, or the two or three of an
- * operator; a RAP_SPLIT at a float, last in as many FIELD_EXPR nodes as it ends: in one where the float ends in a dot,
- * and else in one that is itself last in another. Where the float ends in a dot, that FIELD_EXPR stands in another node,
- * which then has the dot as a leaf after it. Where it does not, the outer of the two may be the root. Messages must be
- * UTF-8.
+ * beside it, whose leaves match the first tokens of the text that are no trivia, one after another: each token under
+ * its own kind, an identifier as its contextual kind, a keyword as an identifier, or the two or three of an operator; a
+ * RAP_SPLIT at a float, last in as many FIELD_EXPR nodes as it ends: in one where the float ends in a dot, and else in
+ * one that is itself last in another. Where the float ends in a dot, that FIELD_EXPR stands in another node, which then
+ * has the dot as a leaf after it. Where it does not, the outer of the two may be the root. Messages must be UTF-8.
  * Status: RAP_OK, RAP_NO_EDITION, RAP_NOT_UTF8, RAP_TEXT_TOO_LONG, RAP_NO_STEPS, RAP_NO_MEMORY; the first of them that
  * applies.
  * `used` is the end of the last token of the tree. Trivia after it are in the tree. The last step's `at` is the length
