@@ -12,6 +12,7 @@ from typing import Optional
 
 from packing import Refused, output
 from packing.python import wheel
+from support.left_out import leave_out
 from trying import Count, Fresh, Place, make_system, put_samples
 from trying.cargo import try_crates
 from trying.installed import try_packages, try_tar, try_wheel
@@ -54,11 +55,16 @@ def folder_in_memory(at: str) -> Iterator[str]:
             subprocess.run(['umount', '--lazy', at], check=False)
 
 
+def say(part: str, why: str) -> None:
+    """Says that a part is left out, and why."""
+    leave_out('release/gate', f'release: left out, as {why}: {part}')
+
+
 def has(part: str, *tools: str) -> bool:
     """Whether all these tools are there. If not, a line says that the part is left out."""
     missing = [it for it in tools if not shutil.which(it)]
     if missing:
-        print(f'left out, as {" and ".join(missing)} is not there: {part}', flush=True)
+        say(part, f'{" and ".join(missing)} is not there')
     return not missing
 
 
@@ -68,7 +74,7 @@ def has_modules(part: str) -> bool:
     missing = subprocess.run(['/usr/bin/python3', '-c', lines, *MODULES], stdout=subprocess.PIPE, text=True,
                              check=False).stdout.split()
     if missing:
-        print(f'left out, as {" and ".join(MODULES[it] for it in missing)} is not there: {part}', flush=True)
+        say(part, f'{" and ".join(MODULES[it] for it in missing)} is not there')
     return not missing
 
 
@@ -78,7 +84,7 @@ def start_system(pool: ThreadPoolExecutor, at: str, suite: str) -> Optional[Syst
     if not has(part, 'mmdebstrap', 'unshare', 'chroot'):
         return None
     if os.geteuid() != 0:
-        print(f'left out, as only root can enter it: {part}', flush=True)
+        say(part, 'only root can enter it')
         return None
     return pool.submit(make_system, at, suite)
 
@@ -116,8 +122,7 @@ def all_fresh(count: Count, dist: str, system: System) -> None:
     try:
         fresh = Fresh(count, system.result(), dist)
     except Refused as why:
-        print('left out, as no mirror of Debian gives a system: the packages in a fresh Debian '
-              f'({str(why).splitlines()[-1]})', flush=True)
+        say('the packages in a fresh Debian', f'no mirror of Debian gives a system ({str(why).splitlines()[-1]})')
         return
     try_wheel(fresh, f'/release/{wheel()}')
     try_packages(fresh)

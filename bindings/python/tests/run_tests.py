@@ -17,9 +17,10 @@ sys.dont_write_bytecode = True
 
 PACKAGE = os.path.dirname(os.path.dirname(os.path.abspath(__file__)))
 TOP = os.path.dirname(os.path.dirname(PACKAGE))
-sys.path.insert(0, f'{TOP}/release')
+sys.path[:0] = [f'{TOP}/release', f'{TOP}/tests']
 
 from packing import Refused, ended, library, output  # noqa: E402
+from support.left_out import leave_out  # noqa: E402
 
 NEEDED = {'cffi': 'python3-cffi', 'numpy': 'python3-numpy', 'tqdm': 'python3-tqdm', 'pytest': 'python3-pytest',
           'hypothesis': 'python3-hypothesis', 'distributed': 'python3-distributed'}
@@ -49,7 +50,8 @@ def main() -> int:
     if words[:1] == ['--or-leave-out']:
         words = words[1:]
         if missing:
-            print(f'left out, as these packages of Debian are not there: {" ".join(missing)}')
+            leave_out('tests/run', 'bindings/python/test: left out, as these packages of Debian are not there: '
+                      + ' '.join(missing))
             return 0
     if missing:
         raise Refused(f'needs packages of Debian: apt install {" ".join(missing)}')
