@@ -69,6 +69,38 @@ fn pushes_while_there_is_room(rt: HostRuntime) -> Result<(), Fail> {
     Ok(())
 }
 
+// The tokens of `<= a.1.;`, the last for the one before it.
+fn push_comparison(input: &mut Input) -> usize {
+    let kinds = [
+        SyntaxKind::L_ANGLE,
+        SyntaxKind::EQ,
+        SyntaxKind::WHITESPACE,
+        SyntaxKind::IDENT,
+        SyntaxKind::DOT,
+        SyntaxKind::FLOAT_NUMBER,
+        SyntaxKind::SEMICOLON,
+    ];
+    input.push_kinds_in_room(&kinds, Edition::Edition2021)
+}
+
+#[test]
+fn pushes_kinds_up_to_a_float_number(rt: HostRuntime) -> Result<(), Fail> {
+    let mut input = Input::with_capacity(rt.alloc(), 4)?;
+    let without_room = push_comparison(&mut input);
+    assert!(rt; without_room == 0 && input.is_empty());
+    input.push(SyntaxKind::COMMA, Edition::Edition2024)?;
+    assert_eq!(rt; push_comparison(&mut input), 5);
+    assert_eq!(rt; input.len(), 5);
+    assert!(rt; input.kind(1) == SyntaxKind::L_ANGLE && input.is_joint(1));
+    assert!(rt; input.kind(2) == SyntaxKind::EQ && !input.is_joint(2));
+    assert!(rt; input.kind(3) == SyntaxKind::IDENT && !input.is_joint(3));
+    assert!(rt; input.contextual_kind(3) == SyntaxKind::IDENT);
+    assert!(rt; input.kind(4) == SyntaxKind::DOT && input.is_joint(4));
+    assert!(rt; input.contextual_kind(4) == SyntaxKind::EOF);
+    assert!(rt; input.edition(4) == Edition::Edition2021);
+    Ok(())
+}
+
 #[test]
 fn reads_tokens_back(rt: HostRuntime) -> Result<(), Fail> {
     let input = comparison(rt.alloc())?;

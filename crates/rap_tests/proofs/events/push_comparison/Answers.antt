@@ -4,7 +4,7 @@ use Rattle.std.proofs.lemmas.List.Elements.{All-nil, All-cons}
 use Rattle.std.specs.List.{list_all}
 use Rattle.rap_base.specs.TokenKind.{EOF, L_ANGLE, EQ, WHITESPACE, IDENT, DOT, FLOAT_NUMBER, SEMICOLON}
 use Rattle.rap_base.specs.TokenTests.{is_token, IsTokenKind}
-use Rattle.rap_events.proofs.input.tests.push_comparison.Goals as goal
+use Rattle.rap_tests.proofs.events.push_comparison.Goals as goal
 
 abbrev is_token_kind : ℕ → Bool
 is_token_kind kind = is_token kind && not (kind == EOF)
