@@ -1,4 +1,4 @@
-"""What the scripts of tests/, examples/ and bindings/ share."""
+"""What the scripts of tests/, examples/, bindings/ and crates/ share."""
 import os
 
 TOP = os.path.dirname(os.path.dirname(os.path.dirname(os.path.abspath(__file__))))
