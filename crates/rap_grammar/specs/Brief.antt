@@ -9,6 +9,7 @@ use Rattle.rap_grammar_scripts.specs.declared.rule.Rule.TheVariants as knot
 
 -- a rule by its parts: the restrictions and the power are those of an expression
 abbrev pub rule_of : Brief → Restrictions → ℕ → Rule
+-- rule_of: written by crates/rap_grammar_scripts/rules up to "end"
 rule_of brief.Expr r bp = knot.ExprBp r bp
 rule_of (brief.Type allow_bounds) r bp = knot.TypeWithBoundsCond allow_bounds
 rule_of brief.PathTypeBounds r bp = knot.PathTypeBounds
@@ -27,3 +28,5 @@ rule_of brief.UseTree r bp = knot.UseTree
 rule_of brief.Meta r bp = knot.Meta
 rule_of brief.CfgPredicate r bp = knot.CfgPredicate
 rule_of brief.TokenTree r bp = knot.TokenTree
+
+-- end

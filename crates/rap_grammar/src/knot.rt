@@ -4,22 +4,25 @@ ghost use Rattle.rap_events.specs.State.{state};
 ghost use Rattle.rap_grammar_frame.specs.Rules.{Pre, Post};
 ghost use Rattle.rap_grammar.specs.Brief.{rule_of};
 
-use crate::statements::stmt;
 use rap_base::no_memory::NoMemory;
 use rap_events::parser::Parser;
+use rap_grammar_frame::knot::{Answer, Grammar};
+use rap_grammar_scripts::arguments::{Restrictions, Semicolon};
+use rap_grammar_scripts::rule::Rule;
+
+// functions: written by crates/rap_grammar_scripts/rules up to "end"
+use crate::statements::stmt;
 use rap_grammar_attributes::attributes::{cfg_predicate, meta};
 use rap_grammar_expressions::expressions::expr_bp;
 use rap_grammar_expressions_control::control::if_expr;
-use rap_grammar_frame::knot::{Answer, Grammar};
 use rap_grammar_frame::token_tree::token_tree;
 use rap_grammar_items::items::item_or_macro;
 use rap_grammar_items_kinds::use_item::use_tree;
 use rap_grammar_patterns::patterns::{pattern_elsewhere, pattern_r, pattern_single_elsewhere};
-use rap_grammar_scripts::arguments::{Restrictions, Semicolon};
-use rap_grammar_scripts::rule::Rule;
 use rap_grammar_types::generic_args::generic_arg;
 use rap_grammar_types::generic_params::{bounds_without_colon, generic_param_list, where_clause};
 use rap_grammar_types::types::{path_type_bounds, type_with_bounds_cond};
+// end
 
 /// The grammar as a function that runs any rule.
 #[derive(Drop)]
@@ -44,6 +47,7 @@ impl<F: Fn(&mut Parser<'_>, Rule) -> Result<Answer, NoMemory>> Grammar for Rules
 /// memory: so where a call names its rule, that rule alone is left of the choice between all.
 #[derive(Clone, Copy)]
 enum Brief {
+    // Brief: written by crates/rap_grammar_scripts/rules up to "end"
     Expr,
     Type { allow_bounds: bool },
     PathTypeBounds,
@@ -62,6 +66,7 @@ enum Brief {
     Meta,
     CfgPredicate,
     TokenTree,
+    // end
 }
 
 /// Parts a rule.
@@ -74,6 +79,7 @@ fn brief_of(rule: Rule) -> (Brief, Restrictions, u8)
         prefer_stmt: false,
     };
     match rule {
+        // brief_of: written by crates/rap_grammar_scripts/rules up to "end"
         Rule::ExprBp { r, bp } => (Brief::Expr, r, bp),
         Rule::TypeWithBoundsCond { allow_bounds } => (Brief::Type { allow_bounds }, none, 0),
         Rule::PathTypeBounds => (Brief::PathTypeBounds, none, 0),
@@ -100,6 +106,7 @@ fn brief_of(rule: Rule) -> (Brief, Restrictions, u8)
         Rule::Meta => (Brief::Meta, none, 0),
         Rule::CfgPredicate => (Brief::CfgPredicate, none, 0),
         Rule::TokenTree => (Brief::TokenTree, none, 0),
+        // end
     }
 }
 
@@ -183,6 +190,7 @@ fn run_brief(p: &mut Parser<'_>, brief: Brief, r: Restrictions, bp: u8) -> Resul
     };
     let g = BriefRules { run: call, left };
     match brief {
+        // run_brief: written by crates/rap_grammar_scripts/rules up to "end"
         Brief::Expr => expr_bp(p, &g, r, bp),
         Brief::Type { allow_bounds } => {
             type_with_bounds_cond(p, &g, allow_bounds)?;
@@ -200,20 +208,20 @@ fn run_brief(p: &mut Parser<'_>, brief: Brief, r: Restrictions, bp: u8) -> Resul
             generic_param_list(p, &g)?;
             Ok(None)
         }
-        Brief::Pattern => {
-            pattern_elsewhere(p, &g)?;
-            Ok(None)
-        }
-        Brief::PatternSingle => {
-            pattern_single_elsewhere(p, &g)?;
-            Ok(None)
-        }
         Brief::BoundsWithoutColon => {
             bounds_without_colon(p, &g)?;
             Ok(None)
         }
         Brief::WhereClause => {
             where_clause(p, &g)?;
+            Ok(None)
+        }
+        Brief::Pattern => {
+            pattern_elsewhere(p, &g)?;
+            Ok(None)
+        }
+        Brief::PatternSingle => {
+            pattern_single_elsewhere(p, &g)?;
             Ok(None)
         }
         Brief::ArmPattern => {
@@ -252,5 +260,6 @@ fn run_brief(p: &mut Parser<'_>, brief: Brief, r: Restrictions, bp: u8) -> Resul
             token_tree(p)?;
             Ok(None)
         }
+        // end
     }
 }

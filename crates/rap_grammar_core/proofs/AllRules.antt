@@ -17,6 +17,7 @@ computed true true (knot.ExprBp r bp) = refl
 computed true false (knot.ExprBp r bp) = refl
 computed false true (knot.ExprBp r bp) = refl
 computed false false (knot.ExprBp r bp) = refl
+-- computed: written by crates/rap_grammar_scripts/rules up to "end"
 computed a b (knot.TypeWithBoundsCond true) = refl
 computed a b (knot.TypeWithBoundsCond false) = refl
 computed a b knot.PathTypeBounds = refl
@@ -39,6 +40,8 @@ computed a b knot.UseTree = refl
 computed a b knot.Meta = refl
 computed a b knot.CfgPredicate = refl
 computed a b knot.TokenTree = refl
+
+-- end
 
 pub sound : Sound
 sound (knot.ExprBp r bp) = computed r.forbid_structs r.prefer_stmt (knot.ExprBp r bp)

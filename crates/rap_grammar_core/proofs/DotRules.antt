@@ -410,81 +410,84 @@ a_statement semi =
 abbrev Computes : Rule → Type 0
 Computes c = every (as_said c) (dot_ends (script_of c) inside []) ≡ true
 
-type_with_bounds : Computes (knot.TypeWithBoundsCond true)
+-- lemmas: written by crates/rap_grammar_scripts/rules up to "end"
+of_type_with_bounds_cond_true : Computes (knot.TypeWithBoundsCond true)
 unfolding scripts
-type_with_bounds = refl
+of_type_with_bounds_cond_true = refl
 
-type_without_bounds : Computes (knot.TypeWithBoundsCond false)
+of_type_with_bounds_cond_false : Computes (knot.TypeWithBoundsCond false)
 unfolding scripts
-type_without_bounds = refl
+of_type_with_bounds_cond_false = refl
 
-of_trait_path : Computes knot.PathTypeBounds
+of_path_type_bounds : Computes knot.PathTypeBounds
 unfolding scripts
-of_trait_path = refl
+of_path_type_bounds = refl
 
-of_generic_argument : Computes knot.GenericArg
+of_generic_arg : Computes knot.GenericArg
 unfolding scripts
-of_generic_argument = refl
+of_generic_arg = refl
 
-of_generic_parameters : Computes knot.GenericParamList
+of_generic_param_list : Computes knot.GenericParamList
 unfolding scripts
-of_generic_parameters = refl
+of_generic_param_list = refl
 
-of_bound_list : Computes knot.BoundsWithoutColon
+of_bounds_without_colon : Computes knot.BoundsWithoutColon
 unfolding scripts
-of_bound_list = refl
+of_bounds_without_colon = refl
 
-of_where_part : Computes knot.WhereClause
+of_where_clause : Computes knot.WhereClause
 unfolding scripts
-of_where_part = refl
+of_where_clause = refl
 
-of_any_pattern : Computes knot.Pattern
+of_pattern : Computes knot.Pattern
 unfolding scripts
-of_any_pattern = refl
+of_pattern = refl
 
-of_single_pattern : Computes knot.PatternSingle
+of_pattern_single : Computes knot.PatternSingle
 unfolding scripts
-of_single_pattern = refl
+of_pattern_single = refl
 
-of_pattern_of_arm : Computes knot.ArmPattern
+of_arm_pattern : Computes knot.ArmPattern
 unfolding scripts
-of_pattern_of_arm = refl
+of_arm_pattern = refl
 
-of_if_behind_else : Computes knot.IfExpr
+of_if_expr : Computes knot.IfExpr
 unfolding scripts
-of_if_behind_else = refl
+of_if_expr = refl
 
-of_item_to_brace_in_extern : Computes (knot.ItemOrMacro true true)
+of_item_or_macro_true_true : Computes (knot.ItemOrMacro true true)
 unfolding scripts
-of_item_to_brace_in_extern = refl
+of_item_or_macro_true_true = refl
 
-of_item_to_brace : Computes (knot.ItemOrMacro true false)
+of_item_or_macro_true_false : Computes (knot.ItemOrMacro true false)
 unfolding scripts
-of_item_to_brace = refl
+of_item_or_macro_true_false = refl
 
-of_item_in_extern : Computes (knot.ItemOrMacro false true)
+of_item_or_macro_false_true : Computes (knot.ItemOrMacro false true)
 unfolding scripts
-of_item_in_extern = refl
+of_item_or_macro_false_true = refl
 
-of_item : Computes (knot.ItemOrMacro false false)
+of_item_or_macro_false_false : Computes (knot.ItemOrMacro false false)
 unfolding scripts
-of_item = refl
+of_item_or_macro_false_false = refl
 
-of_tree_of_use : Computes knot.UseTree
+of_use_tree : Computes knot.UseTree
 unfolding scripts
-of_tree_of_use = refl
+of_use_tree = refl
 
-of_meta_item : Computes knot.Meta
+of_meta : Computes knot.Meta
 unfolding scripts
-of_meta_item = refl
+of_meta = refl
 
-of_condition : Computes knot.CfgPredicate
+of_cfg_predicate : Computes knot.CfgPredicate
 unfolding scripts
-of_condition = refl
+of_cfg_predicate = refl
 
-of_bracketed : Computes knot.TokenTree
+of_token_tree : Computes knot.TokenTree
 unfolding scripts
-of_bracketed = refl
+of_token_tree = refl
+
+-- end
 
 -- all rules
 from_computed : (c : Rule) → Computes c → Fits is_range (script_of c) inside [] (as_said c)
@@ -497,22 +500,26 @@ statement_said semi = a_statement semi
 pub dots_sound : Sound
 dots_sound (knot.ExprBp r bp) = an_expression r.forbid_structs r.prefer_stmt bp
 dots_sound (knot.Stmt semi) = statement_said semi
-dots_sound (knot.TypeWithBoundsCond true) = from_computed (knot.TypeWithBoundsCond true) type_with_bounds
-dots_sound (knot.TypeWithBoundsCond false) = from_computed (knot.TypeWithBoundsCond false) type_without_bounds
-dots_sound knot.PathTypeBounds = from_computed knot.PathTypeBounds of_trait_path
-dots_sound knot.GenericArg = from_computed knot.GenericArg of_generic_argument
-dots_sound knot.GenericParamList = from_computed knot.GenericParamList of_generic_parameters
-dots_sound knot.BoundsWithoutColon = from_computed knot.BoundsWithoutColon of_bound_list
-dots_sound knot.WhereClause = from_computed knot.WhereClause of_where_part
-dots_sound knot.Pattern = from_computed knot.Pattern of_any_pattern
-dots_sound knot.PatternSingle = from_computed knot.PatternSingle of_single_pattern
-dots_sound knot.ArmPattern = from_computed knot.ArmPattern of_pattern_of_arm
-dots_sound knot.IfExpr = from_computed knot.IfExpr of_if_behind_else
-dots_sound (knot.ItemOrMacro true true) = from_computed (knot.ItemOrMacro true true) of_item_to_brace_in_extern
-dots_sound (knot.ItemOrMacro true false) = from_computed (knot.ItemOrMacro true false) of_item_to_brace
-dots_sound (knot.ItemOrMacro false true) = from_computed (knot.ItemOrMacro false true) of_item_in_extern
-dots_sound (knot.ItemOrMacro false false) = from_computed (knot.ItemOrMacro false false) of_item
-dots_sound knot.UseTree = from_computed knot.UseTree of_tree_of_use
-dots_sound knot.Meta = from_computed knot.Meta of_meta_item
-dots_sound knot.CfgPredicate = from_computed knot.CfgPredicate of_condition
-dots_sound knot.TokenTree = from_computed knot.TokenTree of_bracketed
+-- dots_sound: written by crates/rap_grammar_scripts/rules up to "end"
+dots_sound (knot.TypeWithBoundsCond true) = from_computed (knot.TypeWithBoundsCond true) of_type_with_bounds_cond_true
+dots_sound (knot.TypeWithBoundsCond false) =
+    from_computed (knot.TypeWithBoundsCond false) of_type_with_bounds_cond_false
+dots_sound knot.PathTypeBounds = from_computed knot.PathTypeBounds of_path_type_bounds
+dots_sound knot.GenericArg = from_computed knot.GenericArg of_generic_arg
+dots_sound knot.GenericParamList = from_computed knot.GenericParamList of_generic_param_list
+dots_sound knot.BoundsWithoutColon = from_computed knot.BoundsWithoutColon of_bounds_without_colon
+dots_sound knot.WhereClause = from_computed knot.WhereClause of_where_clause
+dots_sound knot.Pattern = from_computed knot.Pattern of_pattern
+dots_sound knot.PatternSingle = from_computed knot.PatternSingle of_pattern_single
+dots_sound knot.ArmPattern = from_computed knot.ArmPattern of_arm_pattern
+dots_sound knot.IfExpr = from_computed knot.IfExpr of_if_expr
+dots_sound (knot.ItemOrMacro true true) = from_computed (knot.ItemOrMacro true true) of_item_or_macro_true_true
+dots_sound (knot.ItemOrMacro true false) = from_computed (knot.ItemOrMacro true false) of_item_or_macro_true_false
+dots_sound (knot.ItemOrMacro false true) = from_computed (knot.ItemOrMacro false true) of_item_or_macro_false_true
+dots_sound (knot.ItemOrMacro false false) = from_computed (knot.ItemOrMacro false false) of_item_or_macro_false_false
+dots_sound knot.UseTree = from_computed knot.UseTree of_use_tree
+dots_sound knot.Meta = from_computed knot.Meta of_meta
+dots_sound knot.CfgPredicate = from_computed knot.CfgPredicate of_cfg_predicate
+dots_sound knot.TokenTree = from_computed knot.TokenTree of_token_tree
+
+-- end

@@ -92,6 +92,7 @@ pub record IsItem (stop_on_r_curly : Bool) (old new : State) : Type 0 where
 
 -- what each rule requires
 abbrev pub Pre : Rule → State → Type 0
+-- Pre: written by crates/rap_grammar_scripts/rules up to "end"
 Pre (knot.ExprBp r bp) s = 1 ≤ bp
 Pre (knot.TypeWithBoundsCond allow_bounds) s = Unit {0}
 Pre knot.PathTypeBounds s = is_use_path_start s.rest ≡ true
@@ -110,8 +111,11 @@ Pre knot.Meta s = Unit {0}
 Pre knot.CfgPredicate s = Unit {0}
 Pre knot.TokenTree s = is_bracket (next s) ≡ true
 
+-- end
+
 -- what each rule takes and records, and an expression's node
 abbrev pub Parses : Rule → State → State → Option (CompletedMarker × BlockLike) → Type 0
+-- Parses: written by crates/rap_grammar_scripts/rules up to "end"
 Parses (knot.ExprBp r bp) old new e = Answered old new r.prefer_stmt bp e
 Parses (knot.TypeWithBoundsCond allow_bounds) old new e = IsType old new
 Parses knot.PathTypeBounds old new e = Took old new type_room
@@ -129,6 +133,8 @@ Parses knot.UseTree old new e = Took old new list_room
 Parses knot.Meta old new e = Grew old new 16
 Parses knot.CfgPredicate old new e = Parsed is_cfg_predicate_first 8 element_room old new
 Parses knot.TokenTree old new e = Took old new list_room
+
+-- end
 
 -- the outcome of each rule: what an expression is, and something
 abbrev pub outcome_of : Rule → Option (CompletedMarker × BlockLike) → Outcome

@@ -106,6 +106,56 @@ pub fn expr_stmt<G: Grammar>(p: &mut Parser<'_>, g: &G) -> Result<Answer, NoMemo
     Ok(expr)
 }
 
+// calls: written by crates/rap_grammar_scripts/rules up to "end"
+/// A type, after a token of the rule around it.
+#[tactic(auto, unfolding(rap_grammar_scripts::specs::ThroughKnot::type_))]
+pub fn type_<G: Grammar>(p: &mut Parser<'_>, g: &G) -> Result<(), NoMemory>
+    requires behind { Behind G.valid G.left g.now (state p.old) }
+    ensures reads { OnOk result (IsType (state p.old) (state p.new)) }
+    ensures script { OnOk result (Does (G.left g.now) script.type_ something (state p.old) (state p.new)) }
+{
+    g.run(p, Rule::TypeWithBoundsCond { allow_bounds: true })?;
+    Ok(())
+}
+
+/// A type without bounds after it.
+#[tactic(auto, unfolding(rap_grammar_scripts::specs::ThroughKnot::type_no_bounds))]
+pub fn type_no_bounds<G: Grammar>(p: &mut Parser<'_>, g: &G) -> Result<(), NoMemory>
+    requires behind { Behind G.valid G.left g.now (state p.old) }
+    ensures reads { OnOk result (IsType (state p.old) (state p.new)) }
+    ensures script { OnOk result (Does (G.left g.now) script.type_no_bounds something (state p.old) (state p.new)) }
+{
+    g.run(
+        p,
+        Rule::TypeWithBoundsCond {
+            allow_bounds: false,
+        },
+    )?;
+    Ok(())
+}
+
+/// A pattern, after a token of the rule around it.
+#[tactic(auto, unfolding(rap_grammar_scripts::specs::ThroughKnot::pattern))]
+pub fn pattern<G: Grammar>(p: &mut Parser<'_>, g: &G) -> Result<(), NoMemory>
+    requires behind { Behind G.valid G.left g.now (state p.old) }
+    ensures reads { OnOk result (IsPattern (state p.old) (state p.new)) }
+    ensures script { OnOk result (Does (G.left g.now) script.pattern something (state p.old) (state p.new)) }
+{
+    g.run(p, Rule::Pattern)?;
+    Ok(())
+}
+
+/// A pattern without alternatives.
+#[tactic(auto, unfolding(rap_grammar_scripts::specs::ThroughKnot::pattern_single))]
+pub fn pattern_single<G: Grammar>(p: &mut Parser<'_>, g: &G) -> Result<(), NoMemory>
+    requires behind { Behind G.valid G.left g.now (state p.old) }
+    ensures reads { OnOk result (IsSinglePattern (state p.old) (state p.new)) }
+    ensures script { OnOk result (Does (G.left g.now) script.pattern_single something (state p.old) (state p.new)) }
+{
+    g.run(p, Rule::PatternSingle)?;
+    Ok(())
+}
+
 /// Generic parameters, as `<T, 'a>`, if there are.
 #[tactic(auto, unfolding(rap_grammar_scripts::specs::ThroughKnot::opt_generic_param_list))]
 pub fn opt_generic_param_list<G: Grammar>(p: &mut Parser<'_>, g: &G) -> Result<(), NoMemory>
@@ -182,55 +232,7 @@ pub fn if_expr<G: Grammar>(p: &mut Parser<'_>, g: &G) -> Result<(), NoMemory>
     g.run(p, Rule::IfExpr)?;
     Ok(())
 }
-
-/// A pattern, after a token of the rule around it.
-#[tactic(auto, unfolding(rap_grammar_scripts::specs::ThroughKnot::pattern))]
-pub fn pattern<G: Grammar>(p: &mut Parser<'_>, g: &G) -> Result<(), NoMemory>
-    requires behind { Behind G.valid G.left g.now (state p.old) }
-    ensures reads { OnOk result (IsPattern (state p.old) (state p.new)) }
-    ensures script { OnOk result (Does (G.left g.now) script.pattern something (state p.old) (state p.new)) }
-{
-    g.run(p, Rule::Pattern)?;
-    Ok(())
-}
-
-/// A pattern without alternatives, after a token of the rule around it.
-#[tactic(auto, unfolding(rap_grammar_scripts::specs::ThroughKnot::pattern_single))]
-pub fn pattern_single<G: Grammar>(p: &mut Parser<'_>, g: &G) -> Result<(), NoMemory>
-    requires behind { Behind G.valid G.left g.now (state p.old) }
-    ensures reads { OnOk result (IsSinglePattern (state p.old) (state p.new)) }
-    ensures script { OnOk result (Does (G.left g.now) script.pattern_single something (state p.old) (state p.new)) }
-{
-    g.run(p, Rule::PatternSingle)?;
-    Ok(())
-}
-
-/// A type, after a token of the rule around it.
-#[tactic(auto, unfolding(rap_grammar_scripts::specs::ThroughKnot::type_))]
-pub fn type_<G: Grammar>(p: &mut Parser<'_>, g: &G) -> Result<(), NoMemory>
-    requires behind { Behind G.valid G.left g.now (state p.old) }
-    ensures reads { OnOk result (IsType (state p.old) (state p.new)) }
-    ensures script { OnOk result (Does (G.left g.now) script.type_ something (state p.old) (state p.new)) }
-{
-    g.run(p, Rule::TypeWithBoundsCond { allow_bounds: true })?;
-    Ok(())
-}
-
-/// A type without bounds after it.
-#[tactic(auto, unfolding(rap_grammar_scripts::specs::ThroughKnot::type_no_bounds))]
-pub fn type_no_bounds<G: Grammar>(p: &mut Parser<'_>, g: &G) -> Result<(), NoMemory>
-    requires behind { Behind G.valid G.left g.now (state p.old) }
-    ensures reads { OnOk result (IsType (state p.old) (state p.new)) }
-    ensures script { OnOk result (Does (G.left g.now) script.type_no_bounds something (state p.old) (state p.new)) }
-{
-    g.run(
-        p,
-        Rule::TypeWithBoundsCond {
-            allow_bounds: false,
-        },
-    )?;
-    Ok(())
-}
+// end
 
 /// The parameters after `for`, as `for<'a>`.
 #[tactic(auto, unfolding(rap_grammar_scripts::specs::ThroughKnot::for_binder, rap_grammar_scripts::specs::ThroughKnot::generic_param_list))]

@@ -34,10 +34,12 @@ as_statement = record { forbid_structs = false; prefer_stmt = true }
 unfoldable pub expr_stmt : Script Rule
 expr_stmt = rule (knot.ExprBp as_statement 1) (λ v. give v)
 
--- a type, with bounds after it, and without
+-- calls: written by crates/rap_grammar_scripts/rules up to "end"
+-- a type, after a token of the rule around it
 unfoldable pub type_ : Script Rule
 type_ = recur (knot.TypeWithBoundsCond true) ▸ done
 
+-- a type without bounds after it
 unfoldable pub type_no_bounds : Script Rule
 type_no_bounds = recur (knot.TypeWithBoundsCond false) ▸ done
 
@@ -53,9 +55,11 @@ generic_arg_element = only_if (λ rs. is_generic_arg_first (next_kind rs)) (recu
 unfoldable pub generic_param_list : Script Rule
 generic_param_list = recur knot.GenericParamList ▸ done
 
+-- a pattern, after a token of the rule around it
 unfoldable pub pattern : Script Rule
 pattern = recur knot.Pattern ▸ done
 
+-- a pattern without alternatives
 unfoldable pub pattern_single : Script Rule
 pattern_single = recur knot.PatternSingle ▸ done
 
@@ -67,20 +71,23 @@ meta = recur knot.Meta ▸ done
 unfoldable pub cfg_predicate_element : Script Rule
 cfg_predicate_element = only_if (λ rs. is_cfg_predicate_first (next_kind rs)) (recur knot.CfgPredicate ▸ done)
 
--- generic parameters, its bounds after their colon and without it, and its `where`
+-- generic parameters, as `<T, 'a>`, if there are
 unfoldable pub opt_generic_param_list : Script Rule
 opt_generic_param_list = optional (is_at L_ANGLE) (recur knot.GenericParamList ▸ done)
 
+-- bounds after their colon, as `: A + B`
 unfoldable pub bounds : Script Rule
 bounds = token COLON ▸ recur knot.BoundsWithoutColon ▸ done
 
+-- bounds, as `A + B`
 unfoldable pub bounds_without_colon : Script Rule
 bounds_without_colon = recur knot.BoundsWithoutColon ▸ done
 
+-- a `where` clause, as `where T: A`, if there is one
 unfoldable pub opt_where_clause : Script Rule
 opt_where_clause = optional (is_at WHERE_KW) (recur knot.WhereClause ▸ done)
 
--- the pattern of an arm
+-- the pattern of an arm of a `match`
 unfoldable pub arm_pattern : Script Rule
 arm_pattern = recur knot.ArmPattern ▸ done
 
@@ -95,6 +102,8 @@ item_or_macro stop_on_r_curly is_in_extern = recur (knot.ItemOrMacro stop_on_r_c
 -- a tree in the braces of a `use`
 unfoldable pub use_tree : Script Rule
 use_tree = recur knot.UseTree ▸ done
+
+-- end
 
 -- a return type
 unfoldable pub opt_ret_type : Script Rule

@@ -1,3 +1,4 @@
+// Written by crates/rap_grammar_scripts/rules from rules.txt beside it: an edit here is lost.
 //! The recursive rules, as the scripts and the functions name them.
 use crate::arguments::{Restrictions, Semicolon};
 
