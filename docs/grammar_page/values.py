@@ -60,15 +60,9 @@ class KindOf:
 
 
 @dataclass(frozen=True)
-class Tokens:
-    """The tokens after the first `skipped`."""
-    skipped: int
-
-
-@dataclass(frozen=True)
 class TokenAt:
-    """The kind of a token, or the keyword that it may be read as, or its edition."""
-    tokens: Tokens
+    """The kind of the token at a place, or the keyword that it may be read as, or its edition."""
+    place: int
     what: str
 
 
@@ -172,7 +166,7 @@ class Evaluator:
     def equal(self, left, right):
         if isinstance(left, TokenAt):
             kinds = frozenset([right])
-            return ReadsAs(left.tokens.skipped, right) if left.what == 'reading' else At(left.tokens.skipped, kinds)
+            return ReadsAs(left.place, right) if left.what == 'reading' else At(left.place, kinds)
         if isinstance(left, KindOf):
             same = {it for it in left.kinds if (self.kinds.powers.get(it, 0) if left.power else it) == right}
             if not same or same == left.kinds:
@@ -208,7 +202,7 @@ class Evaluator:
         native = getattr(self, f'native_{function.term[1]}', None)
         if native is None:
             raise ValueError(f'{function.scope.module}: no meaning of {function.term}')
-        return native(*arguments)
+        return native(*function.arguments, *arguments)
 
     def apply(self, definition, arguments):
         """The value of a definition for all its arguments."""
@@ -258,7 +252,7 @@ class Evaluator:
             body, scope = self.clause(definition, arguments)
             test = self.value(body, scope)
             self.sets[key] = frozenset(it for it in self.kinds.tokens if self.holds(test, it))
-        return At(kind.tokens.skipped, self.sets[key])
+        return At(kind.place, self.sets[key])
 
     def named_sets(self):
         """The sets of kinds that have a name: each definition that tests one token's kind alone."""
@@ -266,7 +260,7 @@ class Evaluator:
         for module in self.library.modules.values():
             for definition in module.definitions.values():
                 if definition.parameters == ('ℕ',) and definition.result == 'Bool':
-                    sets[definition.name] = self.apply(definition, [TokenAt(Tokens(0), 'kind')]).kinds
+                    sets[definition.name] = self.apply(definition, [TokenAt(0, 'kind')]).kinds
         return sets
 
     def holds(self, test, kind):
@@ -295,50 +289,48 @@ class Evaluator:
     def native_expected(self, kind):
         return f'expected {kind}'
 
-    def native_next_kind(self, tokens):
-        return TokenAt(tokens, 'kind')
+    def native_kind_so(self, place, function):
+        return self.give(function, [TokenAt(place, 'kind')])
 
-    def native_kind_at(self, tokens, place):
-        return TokenAt(Tokens(tokens.skipped + place), 'kind')
+    def native_word_so(self, place, function):
+        return self.give(function, [TokenAt(place, 'reading')])
 
-    def native_contextual_at(self, tokens, place):
-        return TokenAt(Tokens(tokens.skipped + place), 'reading')
+    def native_edition_so(self, place, function):
+        return self.give(function, [TokenAt(place, 'edition')])
 
-    def native_edition_at(self, tokens, place):
-        return TokenAt(Tokens(tokens.skipped + place), 'edition')
+    def native_comes(self, place, kind):
+        if isinstance(kind, Given):
+            return Said(f'the caller\'s `{kind.name}` comes next', f'the caller\'s `{kind.name}` does not come next')
+        return Operator(place, kind) if kind in self.kinds.parts else At(place, frozenset([kind]))
+
+    def native_operator_so(self, function):
+        return self.give(function, [KindOf(frozenset(self.kinds.powers) | {'EOF'})])
+
+    def native_negated(self, test):
+        return no(test)
+
+    def native_also(self, left, right):
+        return both(left, right)
+
+    def native_or_else(self, left, right):
+        return either(left, right)
+
+    def native_told(self, value):
+        return value
+
+    def native_reads_as(self, kind):
+        return ReadsAs(0, kind)
 
     def native_at_least_2018(self, edition):
         return Said('the edition is 2018 or later', 'the edition is 2015')
 
-    def native_drop(self, count, tokens):
-        if isinstance(count, Choice):
-            return Choice(count.test, self.native_drop(count.yes, tokens), self.native_drop(count.no, tokens))
-        return Tokens(tokens.skipped + count)
-
-    def native_is_at(self, kind, tokens=None):
-        if tokens is None:
-            return Function(term=('name', 'is_at'), scope=kind)
-        if isinstance(kind, Given):
-            return Said(f'the caller\'s `{kind.name}` comes next', f'the caller\'s `{kind.name}` does not come next')
-        return Operator(tokens.skipped, kind) if kind in self.kinds.parts else At(tokens.skipped, frozenset([kind]))
-
-    def native_parts(self, kind):
-        return Given(kind)
-
-    def native_begins_with(self, kind, tokens):
-        return self.native_is_at(kind.name, tokens)
-
-    def native_reads_as(self, kind, tokens):
-        return ReadsAs(tokens.skipped, kind)
-
-    def native_one_of(self, kinds, kind):
-        return At(kind.tokens.skipped, frozenset(kinds)) if isinstance(kind, TokenAt) else kind in kinds
+    def native_one_of(self, kinds, kind=None):
+        if kind is None:
+            return Function(arguments=[kinds], term=('name', 'one_of'))
+        return At(kind.place, frozenset(kinds)) if isinstance(kind, TokenAt) else kind in kinds
 
     def native_is_any_identifier(self, kind):
-        return At(kind.tokens.skipped, self.kinds.identifiers())
-
-    def native_operator_at(self, tokens):
-        return KindOf(frozenset(self.kinds.powers) | {'EOF'})
+        return At(kind.place, self.kinds.identifiers())
 
     def native_power(self, kind):
         return replace(kind, power=True) if isinstance(kind, KindOf) else self.kinds.powers.get(kind, 0)

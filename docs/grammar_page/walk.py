@@ -6,7 +6,7 @@ from grammar_page.forms import Mark, Maybe, Token, abandon, finish, form_width, 
 from grammar_page.loops import Loop
 from grammar_page.states import Call, Exit, Limit, Message, State, groups_of, read_by
 from grammar_page.tests import Last, Not, ReadsAs, There, after, bounds, no
-from grammar_page.values import NOTHING, SOMETHING, UNKNOWN, Given, KindOf, Scope, Tokens, Undecided
+from grammar_page.values import NOTHING, SOMETHING, UNKNOWN, Given, KindOf, Scope, Undecided
 
 # The words of scripts that something follows, and how many arguments each has.
 STEPS = {'token': 1, 'any': 0, 'bear': 1, 'report': 1, 'report_next': 1, 'skip': 1, 'start': 0, 'precede': 0,
@@ -77,7 +77,7 @@ class Walker:
             if term[0] == 'name' and isinstance(scope.names.get(term[1]), Thunk):
                 return scope.names[term[1]]
             return Thunk(term, scope)
-        if kind.startswith('List Record →') or kind.startswith('(List Record'):
+        if kind == 'Test':
             return Thunk(term, scope)
         return self.evaluator.value(term, scope)
 
@@ -186,7 +186,7 @@ class Walker:
         return replace(state, facts=self.kinds.tokens, tests=(), fault=True)
 
     def step_eat(self, state, scope, kind):
-        test = self.evaluator.native_is_at(self.evaluator.value(kind, scope), Tokens(0))
+        test = self.evaluator.native_comes(0, self.evaluator.value(kind, scope))
         return self.eaten(state, self.kind(kind, scope), test)
 
     def step_eat_as(self, state, scope, kind):
@@ -200,7 +200,7 @@ class Walker:
 
     def step_expect(self, state, scope, kind):
         kind = self.evaluator.value(kind, scope)
-        test = self.evaluator.native_is_at(kind, Tokens(0))
+        test = self.evaluator.native_comes(0, kind)
         holds = self.decide(test, state)
         if holds is not True:
             self.report(state, 'missing' if holds is None else 'report', f'expected {self.given(kind)}')
@@ -273,7 +273,7 @@ class Walker:
         """The tokens that a recovery does not skip."""
         if isinstance(function, Given):
             return function
-        return self.evaluator.give(function, [self.evaluator.native_next_kind(Tokens(0))])
+        return self.evaluator.native_kind_so(0, function)
 
     def end_if_some(self, scope, state, outcome, some, none):
         value = self.evaluator.value(outcome, scope)
@@ -346,14 +346,10 @@ class Walker:
         return self.new_test(term, scope) if known[place] is None else known[place]
 
     def new_test(self, term, scope):
-        tokens = ('name', 'the tokens')
-        scope = scope.bind({'the tokens': Tokens(0)})
         if term[0] == 'name' and isinstance(scope.names.get(term[1]), Thunk):
             thunk = scope.names[term[1]]
             return self.test(thunk.term, thunk.scope)
-        if term[0] == 'call':
-            return self.evaluator.value(('call', term[1], (*term[2], tokens)), scope)
-        return self.evaluator.value(('call', term, (tokens,)), scope)
+        return self.evaluator.value(term, scope)
 
     def decide(self, test, state):
         """Whether a test holds in a state; `None` if it may or may not."""

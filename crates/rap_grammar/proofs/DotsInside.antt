@@ -4,7 +4,6 @@ use Rattle.rap_events.specs.Forest.{Forest}
 use Rattle.rap_events.specs.Record.{Record}
 use Rattle.rap_grammar_scripts.specs.Blocks.{block_expr}
 use Rattle.rap_grammar_scripts.specs.ThroughKnot.{expr, meta, pattern, pattern_single, type_}
-use Rattle.rap_grammar_scripts.specs.Postfix.{is_range}
 use Rattle.rap_grammar_scripts.specs.Items.{item_or_macro}
 use Rattle.rap_grammar_scripts.specs.Knot.{script_of}
 use Rattle.rap_grammar_scripts.specs.Paths.{type_path}
@@ -15,7 +14,7 @@ use Rattle.rap_grammar_scripts.specs.Statements.{stmt}
 use Rattle.rap_grammar_scripts.specs.Visibility.{opt_visibility}
 use Rattle.rap_grammar_scripts.specs.declared.arguments.Semicolon.TheVariants as semicolon
 use Rattle.rap_grammar_core.proofs.DotEnds.{dot_ends, inside}
-use Rattle.rap_grammar_core.proofs.DotFits.{computed, range_implies}
+use Rattle.rap_grammar_core.proofs.DotFits.{at_range, computed, range_implies}
 use Rattle.rap_grammar_core.proofs.DotKeeps.{leaves_inside, kept_inside}
 use Rattle.rap_grammar_core.proofs.DotRules.{dots_sound}
 use Rattle.rap_grammar_core.proofs.Endings.{every}
@@ -29,14 +28,14 @@ LeavesNone s = every leaves_inside (dot_ends s inside []) ≡ true
 
 inside_by : (s : Script Rule) → LeavesNone s → {input : List Record} {output : Forest} → IsPrefixOf s input output →
     dots_inside output ≡ true
-inside_by s e i = kept_inside dots_sound i.run (computed s is_range inside [] leaves_inside range_implies e) refl
+inside_by s e i = kept_inside dots_sound i.run (computed s at_range inside [] leaves_inside range_implies e) refl
 
 -- the same of a rule of the knot, by what its table says
 inside_of_rule : (c : Rule) → LeavesNone (rule c (λ v. give v)) → {input : List Record} {output : Forest} →
     IsPrefixOf (script_of c) input output → dots_inside output ≡ true
 inside_of_rule c e i =
     kept_inside dots_sound (obeys {n = λ v. give v} i.run gives)
-    (computed (rule c (λ v. give v)) is_range inside [] leaves_inside range_implies e) refl
+    (computed (rule c (λ v. give v)) at_range inside [] leaves_inside range_implies e) refl
 
 visibility_leaves_none : LeavesNone (opt_visibility false)
 unfolding scripts

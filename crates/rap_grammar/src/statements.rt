@@ -12,6 +12,7 @@ ghost use Rattle.rap_grammar_frame.specs.Rules.{IsStatement};
 ghost use Rattle.rap_grammar_scripts.specs.Script.{something};
 ghost use Rattle.rap_grammar_scripts.specs.Statements as script;
 ghost use Rattle.rap_grammar_scripts.specs.Statements.{ends_block};
+ghost use Rattle.rap_grammar_scripts.specs.Test.{holds};
 
 use rap_base::T;
 use rap_base::no_memory::NoMemory;
@@ -107,7 +108,7 @@ fn expr_stmt_end(
 
 /// Whether an expression ends its block here, and is its value.
 fn ends_block(p: &Parser<'_>, semicolon: Semicolon) -> bool
-    ensures { result ≡ ends_block semicolon (state p.now).rest }
+    ensures { result ≡ holds (ends_block semicolon) (state p.now).rest }
 {
     match semicolon {
         Semicolon::Required => p.at(T!['}']),

@@ -11,6 +11,7 @@ ghost use Rattle.rap_grammar_scripts.specs.Exec.{Does};
 ghost use Rattle.rap_grammar_frame.specs.Room.{list_room, name_room, element_room, recovery_events};
 ghost use Rattle.rap_grammar_frame.specs.Rules.{Parsed};
 ghost use Rattle.rap_grammar_scripts.specs.Script.{something};
+ghost use Rattle.rap_grammar_scripts.specs.Test.{holds};
 
 use rap_base::T;
 use rap_base::no_memory::NoMemory;
@@ -26,7 +27,7 @@ use rap_grammar_scripts::rule::Rule;
 
 /// Returns whether an inner attribute comes next.
 fn is_inner_attr_start(p: &Parser<'_>) -> bool
-    ensures { result ≡ is_inner_attr_start (state p.now).rest }
+    ensures { result ≡ holds is_inner_attr_start (state p.now).rest }
 {
     p.at(SyntaxKind::INNER_DOC_COMMENT) || (p.at(T![#]) && p.nth_at(1, T![!]))
 }
@@ -36,7 +37,7 @@ fn is_inner_attr_start(p: &Parser<'_>) -> bool
 pub fn inner_attrs<G: Grammar>(p: &mut Parser<'_>, g: &G) -> Result<(), NoMemory>
     requires within { Within G.valid G.left g.now (state p.old) }
     ensures grew { OnOk result (Grew (state p.old) (state p.new) 0) }
-    ensures stays { OnOk result (is_inner_attr_start (state p.old).rest ≡ false → state p.new ≡ state p.old) }
+    ensures stays { OnOk result (holds is_inner_attr_start (state p.old).rest ≡ false → state p.new ≡ state p.old) }
     ensures script { OnOk result (Does (G.left g.now) script.inner_attrs something (state p.old) (state p.new)) }
 {
     'attrs: while is_inner_attr_start(p) {
@@ -75,7 +76,7 @@ fn doc_comment(inner: bool) -> SyntaxKind
 #[tactic(auto, unfolding(rap_grammar_scripts::specs::Attributes::attr))]
 fn attr<G: Grammar>(p: &mut Parser<'_>, g: &G, inner: bool) -> Result<(), NoMemory>
     requires within { Within G.valid G.left g.now (state p.old) }
-    requires first { starts_attr inner (state p.old).rest ≡ true }
+    requires first { holds (starts_attr inner) (state p.old).rest ≡ true }
     ensures took { OnOk result (Took (state p.old) (state p.new) list_room) }
     ensures script { OnOk result (Does (G.left g.now) (script.attr inner) something (state p.old) (state p.new)) }
 {
@@ -95,7 +96,7 @@ fn attr<G: Grammar>(p: &mut Parser<'_>, g: &G, inner: bool) -> Result<(), NoMemo
 /// What an attribute begins with: `#`, and `#!` where it is an inner one.
 #[tactic(auto, unfolding(rap_grammar_scripts::specs::Attributes::attr_mark))]
 fn attr_mark(p: &mut Parser<'_>, inner: bool) -> Result<(), NoMemory>
-    requires first { starts_attr inner (state p.old).rest ≡ true }
+    requires first { holds (starts_attr inner) (state p.old).rest ≡ true }
     requires no_comment { is_at (doc_comment inner) (state p.old).rest ≡ false }
     ensures took { OnOk result (Took (state p.old) (state p.new) name_room) }
     ensures script { OnOk result
@@ -128,7 +129,7 @@ fn attr_brackets<G: Grammar>(p: &mut Parser<'_>, g: &G) -> Result<(), NoMemory>
 #[tactic(auto, using(rap_events::proofs::Truth::and_false))]
 fn at_called_kw(p: &Parser<'_>, kw: SyntaxKind) -> bool
     requires { kw ≢ EOF }
-    ensures { result ≡ at_called_kw kw (state p.now).rest }
+    ensures { result ≡ holds (at_called_kw kw) (state p.now).rest }
 {
     p.at_contextual_kw(kw) && p.nth_at(1, T!['('])
 }
@@ -175,7 +176,7 @@ fn unsafe_meta<G: Grammar>(p: &mut Parser<'_>, g: &G) -> Result<(), NoMemory>
 /// Attributes under a condition, as `cfg_attr(a, b, c = "d")`.
 fn cfg_attr_meta<G: Grammar>(p: &mut Parser<'_>, g: &G) -> Result<(), NoMemory>
     requires within { Within G.valid G.left g.now (state p.old) }
-    requires here { at_called_kw CFG_ATTR_KW (state p.old).rest ≡ true }
+    requires here { holds (at_called_kw CFG_ATTR_KW) (state p.old).rest ≡ true }
     ensures took { OnOk result (Took (state p.old) (state p.new) element_room) }
     ensures script { OnOk result (Does (G.left g.now) script.cfg_attr_meta something (state p.old) (state p.new)) }
 {
@@ -209,7 +210,7 @@ fn cfg_attr_metas<G: Grammar>(p: &mut Parser<'_>, g: &G) -> Result<(), NoMemory>
 /// An attribute that holds if a condition does, as `cfg(a)`.
 fn cfg_meta<G: Grammar>(p: &mut Parser<'_>, g: &G) -> Result<(), NoMemory>
     requires within { Within G.valid G.left g.now (state p.old) }
-    requires here { at_called_kw CFG_KW (state p.old).rest ≡ true }
+    requires here { holds (at_called_kw CFG_KW) (state p.old).rest ≡ true }
     ensures took { OnOk result (Took (state p.old) (state p.new) element_room) }
     ensures script { OnOk result (Does (G.left g.now) script.cfg_meta something (state p.old) (state p.new)) }
 {
@@ -325,7 +326,7 @@ fn cfg_operands<G: Grammar>(p: &mut Parser<'_>, g: &G) -> Result<(), NoMemory>
 
 /// Whether an attribute's value comes next: a `=` that begins no other operator.
 fn is_value_start(p: &Parser<'_>) -> bool
-    ensures { result ≡ is_value_start (state p.now).rest }
+    ensures { result ≡ holds is_value_start (state p.now).rest }
 {
     p.at(T![=]) && !p.at(T![=>]) && !p.at(T![==])
 }

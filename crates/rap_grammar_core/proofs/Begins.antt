@@ -8,6 +8,7 @@ use Rattle.rap_events.specs.Forest.{Forest, none, node}
 use Rattle.rap_grammar_core.specs.Derives.{IsName, Is, Writes, IsOneOf, IsLiteral, Touching, tokens_of, Category, Maybe, Many, Elements, Expression, Binary, Unary, Postfix, Arguments, Atom, Path, Segment, Reference, Ty, Name, Bind, Visibility, Annotation, Value, Statement, Contents, Block, Item, Items, Fields, Field, Tuple, TupleField, Params, Param, Return, File, Derives, maybe_none, maybe_some, many_none, many_more, element_last, element_comma, element_more, reference, segment, path_one, path_more, atom_literal, atom_path, atom_paren, postfix_atom, postfix_call, postfix_index, postfix_try, postfix_field, postfix_number, postfix_method, argument_list, unary_prefix, unary_ref, unary_ref_mut, unary_postfix, binary_unary, binary_tighter, binary_operator, expression_binary, expression_assign, type_path, type_ref, type_ref_mut, type_slice, name_given, bind_name, visibility_pub, annotation_type, value_given, statement_let, statement_expression, block_of, item_module, item_module_of, item_struct, item_struct_fields, item_struct_tuple, item_function, items_of, fields_of, field_named, tuple_of, tuple_field, params_of, param_typed, return_type, file_of, statement_block, contents_none, contents_value, contents_block, contents_statement, contents_block_before, with_block, with_if, with_while, with_loop, if_of, else_block, else_if, atom_block, WithBlock, If, Else, begins_block, starts_with_block}
 use Rattle.rap_grammar_scripts.specs.First.{is_literal_first, one_of}
 use Rattle.rap_grammar_scripts.specs.Words.{reads_as, starts_builtin}
+use Rattle.rap_grammar_scripts.specs.Test.{holds}
 use Rattle.rap_grammar_core.proofs.Operators.{differ, is_operand, is_atom, differ_back}
 use Rattle.rap_grammar_core.proofs.Ways.{Single}
 use Rattle.rap_events.proofs.Truth.{and_false}
@@ -101,7 +102,7 @@ Plain r = ((r.kind == IDENT) ≡ false) ⊎ (r.contextual ≡ IDENT)
 
 -- such a token is read as no keyword
 pub not_read : (k : ℕ) (r : Record) (rs : List Record) → (r.kind == k) ≡ false → (k == IDENT) ≡ false →
-    (IDENT == k) ≡ false → Plain r → reads_as k (r ∷ rs) ≡ false
+    (IDENT == k) ≡ false → Plain r → holds (reads_as k) (r ∷ rs) ≡ false
 not_read k r rs a b c (inl h) = rw (a, h, b) refl
 not_read k r rs a b c (inr h) = rw (h, c) (and_false _)
 
@@ -369,7 +370,7 @@ path_named (path_more {os = os} {js = js} d w e) =
     record { r = n.r; rs = n.rs ++ (os ++ js); is = ap (λ (x : List Record). x ++ (os ++ js)) n.is; name = n.name }
 
 -- no `builtin#` comes next where a name does
-pub no_builtin : {ks : List Record} (l : List Record) → Named ks → starts_builtin (ks ++ l) ≡ false
+pub no_builtin : {ks : List Record} (l : List Record) → Named ks → holds starts_builtin (ks ++ l) ≡ false
 no_builtin l n = rw (n.is, n.name.kind, n.name.contextual) refl
 
 pub next_is : {c : Category} {ks : List Record} (l : List Record) (f : First c ks) → next_kind (ks ++ l) ≡ f.r.kind
@@ -383,7 +384,7 @@ pub next_begins : {c : Category} {ks : List Record} (l : List Record) → First 
 next_begins l f = rw (next_is l f) f.kind
 
 -- no `raw` before an operand
-pub next_plain : {ks : List Record} (l : List Record) → First Unary ks → reads_as RAW_KW (ks ++ l) ≡ false
+pub next_plain : {ks : List Record} (l : List Record) → First Unary ks → holds (reads_as RAW_KW) (ks ++ l) ≡ false
 next_plain l f =
     rw f.is (not_read RAW_KW f.r (f.rs ++ l) (differ is_operand f.r.kind RAW_KW f.kind refl) refl refl f.plain)
 

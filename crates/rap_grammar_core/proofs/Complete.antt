@@ -33,6 +33,7 @@ use Rattle.rap_grammar_core.proofs.Operators.{written_lead, differ, differ_back,
 use Rattle.rap_events.proofs.Truth.{and_false}
 use Rattle.rap_grammar_scripts.specs.TokenTree.{starts_macro_call}
 use Rattle.rap_grammar_scripts.specs.Types.{type_with_bounds_cond}
+use Rattle.rap_grammar_scripts.specs.Test.{holds}
 use Rattle.rap_grammar_core.proofs.Begins.{first, literal_kind, is_prefix, prefix_kind, path_named, no_builtin, next_same, next_begins, next_plain, single, begins_type, begins_statement, operand_statement, block_atom, contents_first, past_prefix, past_is, settled_expression, block_starts, First, block_operand}
 use Rattle.rap_grammar_core.proofs.Lists.{Perhaps, missing, there, Repeated, no_more, one_more, Listed, last, last_comma, and_more}
 use Rattle.rap_grammar_core.proofs.StatementWays.{EndsBind, name_way, bind_way, ascription_way, let_type_way, no_let_type, semicolon_of, let_rest, value_way, no_value_way, let_way, semicolon_way, ends_contents, last_way, contents, contents_on, contents_end, block_way, block_semicolon_way, block_before_way, block_last_way, block_expr_way}
@@ -68,7 +69,7 @@ pub record Quiet (forbid : Bool) (rs : List Record) : Type 0 where
 abbrev pub ends_quietly : ℕ → Bool
 ends_quietly k = one_of (EOF ∷ SEMICOLON ∷ COMMA ∷ R_PAREN ∷ R_BRACK ∷ R_CURLY ∷ []) k
 
-no_bang : (rs : List Record) → (next_kind rs == BANG) ≡ false → starts_macro_call rs ≡ false
+no_bang : (rs : List Record) → (next_kind rs == BANG) ≡ false → holds starts_macro_call rs ≡ false
 no_bang rs h = rw h refl
 
 quiet_calm : (k : ℕ) → ends_quietly k ≡ true → is_calm false k ≡ true
@@ -126,15 +127,15 @@ no_colon (r ∷ rs) h = rw h refl
 calm_colon : (forbid : Bool) (rs : List Record) → Calm forbid rs → is_at COLON2 rs ≡ false
 calm_colon forbid rs c = no_colon rs (differ (is_calm forbid) (next_kind rs) COLON c.kind refl)
 
-calm_brace : (forbid : Bool) (rs : List Record) → Calm forbid rs → starts_record forbid rs ≡ false
+calm_brace : (forbid : Bool) (rs : List Record) → Calm forbid rs → holds (starts_record forbid) rs ≡ false
 calm_brace true rs c = refl
 calm_brace false rs c = differ (is_calm false) (next_kind rs) L_CURLY c.kind refl
 
 -- What goes on with no atom: no path, no macro call, no fields of a record, no `else`.
 record Apart (forbid : Bool) (l : List Record) : Type 0 where
   colons : is_at COLON2 l ≡ false
-  macro : starts_macro_call l ≡ false
-  brace : starts_record forbid l ≡ false
+  macro : holds starts_macro_call l ≡ false
+  brace : holds (starts_record forbid) l ≡ false
   last : (next_kind l == ELSE_KW) ≡ false
 
 apart_by : (forbid : Bool) (l : List Record) (k : ℕ) → next_kind l ≡ k →

@@ -5,6 +5,7 @@ use Rattle.rap_events.proofs.Truth.{and_left, and_right}
 use Rattle.rap_events.specs.Record.{Record}
 use Rattle.rap_grammar_scripts.specs.Postfix.{is_range}
 use Rattle.rap_grammar_scripts.specs.declared.rule.Rule.{Rule}
+use Rattle.rap_grammar_scripts.specs.Test.{Test, holds}
 use Rattle.rap_grammar_scripts.specs.Script.{Script, Outcome, nothing, something, block, again, give, test, ends_with, token, any, bear, report, report_next, skip, start, precede, finish, extend, abandon, split_float, after, rule, loop}
 use Rattle.rap_grammar_core.proofs.Ends.{same_flag}
 use Rattle.rap_grammar_core.proofs.Endings.{Ending, unknown, gather, flagged, every, Decides, Then, Turned, joined_left, joined_right, gathered, settled, of_flags}
@@ -29,51 +30,55 @@ but g h rs = g rs && not (h rs)
 abbrev pub always : Next
 always rs = true
 
+-- the dots of a range
+abbrev pub at_range : Next
+at_range rs = holds is_range rs
+
 -- The script ends so, where at a ranged level this is what comes next if the last node ends in a dot.
 pub data Fits : Next → Script Rule → Level → List Bool → (Outcome → Levels → Bool) → Type 0 where
   fits_give : {g : Next} {v : Outcome} {l : Level} {ls : List Bool} {f : Outcome → Levels → Bool} →
-      Implies g is_range → f v (levels l ls) ≡ true → Fits g (give v) l ls f
+      Implies g at_range → f v (levels l ls) ≡ true → Fits g (give v) l ls f
   fits_settled : {g : Next} {v : Outcome} {ls : List Bool} {f : Outcome → Levels → Bool} →
       Never g → f v (levels inside ls) ≡ true → Fits g (give v) ranged ls f
-  fits_test : {g h : Next} {s t : Script Rule} {l : Level} {ls : List Bool} {f : Outcome → Levels → Bool} →
-      Fits (both g h) s l ls f → Fits (but g h) t l ls f → Fits g (test h s t) l ls f
+  fits_test : {g : Next} {h : Test} {s t : Script Rule} {l : Level} {ls : List Bool} {f : Outcome → Levels → Bool} →
+      Fits (both g (holds h)) s l ls f → Fits (but g (holds h)) t l ls f → Fits g (test h s t) l ls f
   fits_ends_with : {g : Next} {k : ℕ} {s t : Script Rule} {l : Level} {ls : List Bool} {f : Outcome → Levels → Bool} →
       Fits g s l ls f → Fits g t l ls f → Fits g (ends_with k s t) l ls f
   fits_token : {g : Next} {k : ℕ} {s : Script Rule} {l : Level} {ls : List Bool} {f : Outcome → Levels → Bool} →
-      Fits is_range s (added l) ls f → Fits g (token k s) l ls f
+      Fits at_range s (added l) ls f → Fits g (token k s) l ls f
   fits_any : {g : Next} {s : Script Rule} {l : Level} {ls : List Bool} {f : Outcome → Levels → Bool} →
-      Fits is_range s (added l) ls f → Fits g (any s) l ls f
+      Fits at_range s (added l) ls f → Fits g (any s) l ls f
   fits_bear : {g : Next} {k : ℕ} {s : Script Rule} {l : Level} {ls : List Bool} {f : Outcome → Levels → Bool} →
-      Fits is_range s (added l) ls f → Fits g (bear k s) l ls f
+      Fits at_range s (added l) ls f → Fits g (bear k s) l ls f
   fits_report : {g : Next} {bytes : List ℕ} {s : Script Rule} {l : Level} {ls : List Bool}
-      {f : Outcome → Levels → Bool} → Fits is_range s (added l) ls f → Fits g (report bytes s) l ls f
+      {f : Outcome → Levels → Bool} → Fits at_range s (added l) ls f → Fits g (report bytes s) l ls f
   fits_report_next : {g : Next} {bytes : List ℕ} {s : Script Rule} {l : Level} {ls : List Bool}
-      {f : Outcome → Levels → Bool} → Fits is_range s (added l) ls f → Fits g (report_next bytes s) l ls f
+      {f : Outcome → Levels → Bool} → Fits at_range s (added l) ls f → Fits g (report_next bytes s) l ls f
   fits_skip : {g : Next} {bytes : List ℕ} {s : Script Rule} {l : Level} {ls : List Bool}
-      {f : Outcome → Levels → Bool} → Fits is_range s (added l) ls f → Fits g (skip bytes s) l ls f
+      {f : Outcome → Levels → Bool} → Fits at_range s (added l) ls f → Fits g (skip bytes s) l ls f
   fits_start : {g : Next} {s : Script Rule} {l : Level} {ls : List Bool} {f : Outcome → Levels → Bool} →
-      Fits is_range s inside (lowered l ∷ ls) f → Fits g (start s) l ls f
+      Fits at_range s inside (lowered l ∷ ls) f → Fits g (start s) l ls f
   fits_precede : {g : Next} {s : Script Rule} {l : Level} {ls : List Bool} {f : Outcome → Levels → Bool} →
-      Fits is_range s free (before_last l ∷ ls) f → Fits g (precede s) l ls f
+      Fits at_range s free (before_last l ∷ ls) f → Fits g (precede s) l ls f
   fits_finish : {g : Next} {k : ℕ} {s : Script Rule} {l : Level} {c : Bool} {ls : List Bool}
-      {f : Outcome → Levels → Bool} → Fits is_range s (raised c) ls f → Fits g (finish k s) l (c ∷ ls) f
+      {f : Outcome → Levels → Bool} → Fits at_range s (raised c) ls f → Fits g (finish k s) l (c ∷ ls) f
   fits_extend : {g : Next} {s : Script Rule} {l : Level} {c : Bool} {ls : List Bool} {f : Outcome → Levels → Bool} →
       Fits g s (extended l c) ls f → Fits g (extend s) l (c ∷ ls) f
   fits_abandon : {g : Next} {s : Script Rule} {l : Level} {c : Bool} {ls : List Bool} {f : Outcome → Levels → Bool} →
-      Fits is_range s (merged l c) ls f → Fits g (abandon s) l (c ∷ ls) f
+      Fits at_range s (merged l c) ls f → Fits g (abandon s) l (c ∷ ls) f
   fits_split : {g : Next} {s t : Script Rule} {l : Level} {ls : List Bool} {f : Outcome → Levels → Bool} →
-      Fits always s ranged ls f → Fits is_range t inside ls f → Fits g (split_float s t) l (true ∷ ls) f
+      Fits always s ranged ls f → Fits at_range t inside ls f → Fits g (split_float s t) l (true ∷ ls) f
   fits_after : {g : Next} {s : Script Rule} {h : Outcome → Script Rule} {l : Level} {ls : List Bool}
       {e f : Outcome → Levels → Bool} → Fits g s l ls e →
-      ((v : Outcome) (m : Level) (ms : List Bool) → e v (levels m ms) ≡ true → Fits is_range (h v) m ms f) →
+      ((v : Outcome) (m : Level) (ms : List Bool) → e v (levels m ms) ≡ true → Fits at_range (h v) m ms f) →
       Fits g (after s h) l ls f
   fits_rule : {g : Next} {c : Rule} {h : Outcome → Script Rule} {l : Level} {ls : List Bool}
       {f : Outcome → Levels → Bool} →
-      ((v : Outcome) (m : Level) → said v c ≡ at_level m → Fits is_range (h v) (called l m) ls f) →
+      ((v : Outcome) (m : Level) → said v c ≡ at_level m → Fits at_range (h v) (called l m) ls f) →
       Fits g (rule c h) l ls f
   fits_loop : {g : Next} {h : Bool → Bool → Script Rule} {a b : Bool} {l m : Level} {ls : List Bool}
-      {f : Outcome → Levels → Bool} → Implies g is_range → within l m ≡ true →
-      ((c d : Bool) → Fits is_range (h c d) m ls (Turned (as_good m ls) f)) → Fits g (loop h a b) l ls f
+      {f : Outcome → Levels → Bool} → Implies g at_range → within l m ≡ true →
+      ((c d : Bool) → Fits at_range (h c d) m ls (Turned (as_good m ls) f)) → Fits g (loop h a b) l ls f
 
 -- the tests of levels
 pub same_level_is : (l m : Level) → same_level l m ≡ true → l ≡ m
@@ -116,7 +121,7 @@ both_implies g h k i rs e = i rs (and_left (g rs) (h rs) e)
 pub but_implies : (g h k : Next) → Implies g k → Implies (but g h) k
 but_implies g h k i rs e = i rs (and_left (g rs) (not (h rs)) e)
 
-pub range_implies : Implies is_range is_range
+pub range_implies : Implies at_range at_range
 range_implies rs e = e
 
 -- what holds of the ends of what follows each of these
@@ -158,42 +163,42 @@ ruled_on f h c l ls e (again a b) m i = absurd cc
 
 -- A script ends as is computed.
 pub computed : (s : Script Rule) (g : Next) (l : Level) (ls : List Bool) (f : Outcome → Levels → Bool) →
-    Implies g is_range → every f (dot_ends s l ls) ≡ true → Fits g s l ls f
+    Implies g at_range → every f (dot_ends s l ls) ≡ true → Fits g s l ls f
 computed (give v) g l ls f i e = fits_give i (and_left _ _ e)
 computed (test h s t) g l ls f i e =
     fits_test
-    (computed s (both g h) l ls f (both_implies g h is_range i)
+    (computed s (both g (holds h)) l ls f (both_implies g (holds h) at_range i)
     (joined_left same_levels decides f (dot_ends s l ls) (dot_ends t l ls) e))
-    (computed t (but g h) l ls f (but_implies g h is_range i)
+    (computed t (but g (holds h)) l ls f (but_implies g (holds h) at_range i)
     (joined_right same_levels f (dot_ends s l ls) (dot_ends t l ls) e))
 computed (ends_with k s t) g l ls f i e =
     fits_ends_with
     (computed s g l ls f i (joined_left same_levels decides f (dot_ends s l ls) (dot_ends t l ls) e))
     (computed t g l ls f i (joined_right same_levels f (dot_ends s l ls) (dot_ends t l ls) e))
-computed (token k s) g l ls f i e = fits_token (computed s is_range (added l) ls f range_implies e)
-computed (any s) g l ls f i e = fits_any (computed s is_range (added l) ls f range_implies e)
-computed (bear k s) g l ls f i e = fits_bear (computed s is_range (added l) ls f range_implies e)
-computed (report bytes s) g l ls f i e = fits_report (computed s is_range (added l) ls f range_implies e)
-computed (report_next bytes s) g l ls f i e = fits_report_next (computed s is_range (added l) ls f range_implies e)
-computed (skip bytes s) g l ls f i e = fits_skip (computed s is_range (added l) ls f range_implies e)
-computed (start s) g l ls f i e = fits_start (computed s is_range inside (lowered l ∷ ls) f range_implies e)
-computed (precede s) g l ls f i e = fits_precede (computed s is_range free (before_last l ∷ ls) f range_implies e)
+computed (token k s) g l ls f i e = fits_token (computed s at_range (added l) ls f range_implies e)
+computed (any s) g l ls f i e = fits_any (computed s at_range (added l) ls f range_implies e)
+computed (bear k s) g l ls f i e = fits_bear (computed s at_range (added l) ls f range_implies e)
+computed (report bytes s) g l ls f i e = fits_report (computed s at_range (added l) ls f range_implies e)
+computed (report_next bytes s) g l ls f i e = fits_report_next (computed s at_range (added l) ls f range_implies e)
+computed (skip bytes s) g l ls f i e = fits_skip (computed s at_range (added l) ls f range_implies e)
+computed (start s) g l ls f i e = fits_start (computed s at_range inside (lowered l ∷ ls) f range_implies e)
+computed (precede s) g l ls f i e = fits_precede (computed s at_range free (before_last l ∷ ls) f range_implies e)
 computed (finish k s) g l [] f i e = absurd cc
-computed (finish k s) g l (c ∷ ls) f i e = fits_finish (computed s is_range (raised c) ls f range_implies e)
+computed (finish k s) g l (c ∷ ls) f i e = fits_finish (computed s at_range (raised c) ls f range_implies e)
 computed (extend s) g l ls f i e = absurd cc
 computed (abandon s) g l [] f i e = absurd cc
-computed (abandon s) g l (c ∷ ls) f i e = fits_abandon (computed s is_range (merged l c) ls f range_implies e)
+computed (abandon s) g l (c ∷ ls) f i e = fits_abandon (computed s at_range (merged l c) ls f range_implies e)
 computed (split_float s t) g l ls f i e = absurd cc
 computed (after s h) g l ls f i e =
     let on : Following = λ v. elim [ levels m ms ↦ dot_ends (h v) m ms ] in
     fits_after (computed s g l ls (Then f on) i (gathered same_levels decides f on (dot_ends s l ls) e))
-    (λ v m ms k. computed (h v) is_range m ms f range_implies k)
+    (λ v m ms k. computed (h v) at_range m ms f range_implies k)
 computed (rule c h) g l ls f i e =
     let on : Following = λ v. elim [ levels m ms ↦ dot_ends (h v) m ms ] in
-    fits_rule (λ v m k. computed (h v) is_range (called l m) ls f range_implies (ruled_on f on c l ls e v m k))
+    fits_rule (λ v m k. computed (h v) at_range (called l m) ls f range_implies (ruled_on f on c l ls e v m k))
 computed (loop h a b) g l ls f i e =
     let on : Bool → Bool → List (Ending Levels) = λ c d. dot_ends (h c d) l ls in
     let t = settled (as_good l ls) f (flagged same_levels on) e in
     fits_loop i (within_itself l)
-    (λ c d. computed (h c d) is_range l ls (Turned (as_good l ls) f) range_implies
+    (λ c d. computed (h c d) at_range l ls (Turned (as_good l ls) f) range_implies
     (of_flags same_levels decides (Turned (as_good l ls) f) on c d t))

@@ -7,14 +7,14 @@ use Rattle.rap_events.proofs.Truth.{and_left, and_right, and_both}
 use Rattle.rap_events.specs.Forest.{Forest, none, node, leaf, message, split, ◌⧺◌, ends_in_dot}
 use Rattle.rap_events.specs.Record.{Record}
 use Rattle.rap_events.specs.State.{but_last, last_children, skipped}
-use Rattle.rap_grammar_scripts.specs.Postfix.{is_range}
 use Rattle.rap_grammar_scripts.specs.Knot.{script_of}
 use Rattle.rap_grammar_scripts.specs.declared.rule.Rule.{Rule}
 use Rattle.rap_grammar_scripts.specs.Script.{Script, Outcome, Spot, Runs, gives, passes, fails, ends_so, ends_else, takes, takes_any, bears, reports, reports_next, skips, starts, precedes, finishes, extends, abandons, splits_dotted, splits_whole, follows, obeys, turns, stops, newest, last_tree}
+use Rattle.rap_grammar_scripts.specs.Test.{holds}
 use Rattle.rap_grammar_core.specs.Dots.{dots_inside}
 use Rattle.rap_grammar_core.proofs.Endings.{of_stop}
 use Rattle.rap_grammar_core.proofs.DotEnds.{Level, inside, ranged, free, within, Levels, levels, same_lower, as_good, added, lowered, raised, before_last, extended, merged, Said, never, at_level, said, called}
-use Rattle.rap_grammar_core.proofs.DotFits.{Next, Implies, Fits, always, both, but, fits_give, fits_settled, fits_test, fits_ends_with, fits_token, fits_any, fits_bear, fits_report, fits_report_next, fits_skip, fits_start, fits_precede, fits_finish, fits_extend, fits_abandon, fits_split, fits_after, fits_rule, fits_loop, range_implies, same_lower_is, within_itself}
+use Rattle.rap_grammar_core.proofs.DotFits.{Next, Implies, Fits, always, at_range, both, but, fits_give, fits_settled, fits_test, fits_ends_with, fits_token, fits_any, fits_bear, fits_report, fits_report_next, fits_skip, fits_start, fits_precede, fits_finish, fits_extend, fits_abandon, fits_split, fits_after, fits_rule, fits_loop, range_implies, same_lower_is, within_itself}
 
 -- no float that ends in a dot stands at the top level itself
 abbrev pub plain : Forest → Bool
@@ -190,7 +190,7 @@ pub record Ended (g : Forest → Type 0) (b : List Forest → Type 0) (f : Outco
     (v : Outcome) : Type 0 where
   pub level : Level
   pub lower : List Bool
-  pub stand : Stand g b is_range level lower q
+  pub stand : Stand g b at_range level lower q
   pub so : f v (levels level lower) ≡ true
 
 at_plain : (g : Forest → Type 0) → Good g → (n : Next) (l : Level) (rest : List Record) (f : Forest) →
@@ -316,10 +316,10 @@ base_at g n ranged rest f a = a.flat
 base_at g n free rest f a = a
 
 back_at : (g : Forest → Type 0) → Good g → (l m k : Level) (rest : List Record) (f : Forest) → within m k ≡ true →
-    At (Base l g) is_range m rest f → At g is_range (called l k) rest f
-back_at g o inside m k rest f w a = widened g o is_range is_range range_implies m k rest f w a
-back_at g o ranged m k rest f w a = at_plain Plain good_plain is_range m rest f a
-back_at g o free m k rest f w a = at_plain Plain good_plain is_range m rest f a
+    At (Base l g) at_range m rest f → At g at_range (called l k) rest f
+back_at g o inside m k rest f w a = widened g o at_range at_range range_implies m k rest f w a
+back_at g o ranged m k rest f w a = at_plain Plain good_plain at_range m rest f a
+back_at g o free m k rest f w a = at_plain Plain good_plain at_range m rest f a
 
 -- by one of its outcomes, at the level that is said of it
 abbrev pub within_said : Level → Said → Bool
@@ -346,7 +346,7 @@ call_start c v m (d ∷ ms) h = absurd cc
 
 -- The rules of the knot end as their table says.
 abbrev pub Sound : Type 0
-Sound = (c : Rule) → Fits is_range (script_of c) inside [] (as_said c)
+Sound = (c : Rule) → Fits at_range (script_of c) inside [] (as_said c)
 
 pub keeps : Sound → {s : Script Rule} {p q : Spot} {v : Outcome} → Runs script_of s p q v →
     (g : Forest → Type 0) → Good g → (b : List Forest → Type 0) {n : Next} {l : Level} {ls : List Bool}
@@ -355,7 +355,7 @@ keeps x {p = p} gives g o b (fits_give {g = n} {l = l} {ls = ls} i e) k = record
   level = l;
   lower = ls;
   stand = record {
-    top = widened (own g ls) (own_good g o ls) n is_range i l l p.rest p.forest (within_itself l) k.top;
+    top = widened (own g ls) (own_good g o ls) n at_range i l l p.rest p.forest (within_itself l) k.top;
     older = k.older;
   };
   so = e;
@@ -368,44 +368,46 @@ keeps x {p = p} gives g o b (fits_settled {ls = ls} i e) k = record {
 }
 keeps x {p = p} (passes {h = t} h r) g o b (fits_test {g = n} {l = l} {ls = ls} y z) k =
     keeps x r g o b y (record {
-      top = narrowed (own g ls) n (both n t) l p.rest p.forest (passing (n p.rest) (t p.rest) h) k.top;
+      top = narrowed (own g ls) n (both n (holds t)) l p.rest p.forest
+          (passing (n p.rest) (holds t p.rest) h) k.top;
       older = k.older;
     })
 keeps x {p = p} (fails {h = t} h r) g o b (fits_test {g = n} {l = l} {ls = ls} y z) k =
     keeps x r g o b z (record {
-      top = narrowed (own g ls) n (but n t) l p.rest p.forest (failing (n p.rest) (t p.rest) h) k.top;
+      top = narrowed (own g ls) n (but n (holds t)) l p.rest p.forest
+          (failing (n p.rest) (holds t p.rest) h) k.top;
       older = k.older;
     })
 keeps x (ends_so h r) g o b (fits_ends_with y z) k = keeps x r g o b y k
 keeps x (ends_else h r) g o b (fits_ends_with y z) k = keeps x r g o b z k
 keeps x {p = p} (takes h r) g o b (fits_token {g = n} {l = l} {ls = ls} y) k =
     keeps x r g o b y (record {
-      top = grown (own g ls) n is_range l p.rest _ p.forest _ ((own_good g o ls).on_leaf p.forest _ _) (λ i. i) k.top;
+      top = grown (own g ls) n at_range l p.rest _ p.forest _ ((own_good g o ls).on_leaf p.forest _ _) (λ i. i) k.top;
       older = k.older;
     })
 keeps x {p = p} (takes_any h r) g o b (fits_any {g = n} {l = l} {ls = ls} y) k =
     keeps x r g o b y (record {
-      top = grown (own g ls) n is_range l p.rest _ p.forest _ ((own_good g o ls).on_leaf p.forest _ _) (λ i. i) k.top;
+      top = grown (own g ls) n at_range l p.rest _ p.forest _ ((own_good g o ls).on_leaf p.forest _ _) (λ i. i) k.top;
       older = k.older;
     })
 keeps x {p = p} (bears h r) g o b (fits_bear {g = n} {l = l} {ls = ls} y) k =
     keeps x r g o b y (record {
-      top = grown (own g ls) n is_range l p.rest _ p.forest _ ((own_good g o ls).on_leaf p.forest _ _) (λ i. i) k.top;
+      top = grown (own g ls) n at_range l p.rest _ p.forest _ ((own_good g o ls).on_leaf p.forest _ _) (λ i. i) k.top;
       older = k.older;
     })
 keeps x {p = p} (reports r) g o b (fits_report {g = n} {l = l} {ls = ls} y) k =
     keeps x r g o b y (record {
-      top = grown (own g ls) n is_range l p.rest _ p.forest _ ((own_good g o ls).on_message p.forest _) (λ i. i) k.top;
+      top = grown (own g ls) n at_range l p.rest _ p.forest _ ((own_good g o ls).on_message p.forest _) (λ i. i) k.top;
       older = k.older;
     })
 keeps x {p = p} (reports_next r) g o b (fits_report_next {g = n} {l = l} {ls = ls} y) k =
     keeps x r g o b y (record {
-      top = grown (own g ls) n is_range l p.rest _ p.forest _ ((own_good g o ls).on_message p.forest _) (λ i. i) k.top;
+      top = grown (own g ls) n at_range l p.rest _ p.forest _ ((own_good g o ls).on_message p.forest _) (λ i. i) k.top;
       older = k.older;
     })
 keeps x {p = p} (skips {bytes = bytes} r) g o b (fits_skip {g = n} {l = l} {ls = ls} y) k =
     keeps x r g o b y (record {
-      top = grown (own g ls) n is_range l p.rest _ p.forest (node p.forest ERROR (skipped p.rest bytes))
+      top = grown (own g ls) n at_range l p.rest _ p.forest (node p.forest ERROR (skipped p.rest bytes))
           (λ i. (own_good g o ls).on_node p.forest ERROR (skipped p.rest bytes) i (skipped_end p.rest bytes))
           (λ i. i) k.top;
       older = k.older;
@@ -424,7 +426,7 @@ keeps x {p = p} (finishes {k = i} r) g o b (fits_finish {g = n} {l = l} {c = c} 
     let d = older_one g b c ls p.below k.older in
     let e = plain_end p.forest (at_plain Inside good_inside n l p.rest p.forest k.top) in
     keeps x r g o b y (record {
-      top = raised_at (own g ls) is_range c p.rest (newest p.below) (node (newest p.below) i p.forest)
+      top = raised_at (own g ls) at_range c p.rest (newest p.below) (node (newest p.below) i p.forest)
           (λ j. (own_good g o ls).on_node (newest p.below) i p.forest j e) (λ j. j) d.0;
       older = d.1;
     })
@@ -437,7 +439,7 @@ keeps x {p = p} (extends r) g o b (fits_extend {g = n} {l = l} {c = c} {ls = ls}
 keeps x {p = p} (abandons r) g o b (fits_abandon {g = n} {l = l} {c = c} {ls = ls} y) k =
     let d = older_one g b c ls p.below k.older in
     keeps x r g o b y (record {
-      top = merged_at (own g ls) (own_good g o ls) n is_range l c p.rest p.forest (newest p.below) k.top d.0;
+      top = merged_at (own g ls) (own_good g o ls) n at_range l c p.rest p.forest (newest p.below) k.top d.0;
       older = d.1;
     })
 keeps x {p = p} (splits_dotted h j r) g o b (fits_split {ls = ls} y z) k =
@@ -464,27 +466,27 @@ keeps x {p = p} (obeys {c = c} {r = u} {w = w} r z) g o b (fits_rule {g = n} {l 
     }) in
     let a = call_start c w y.level y.lower y.so in
     let m =
-    subst (λ (ms : List Bool). Stand (Base l (own g ls)) (Lower g b ls) is_range y.level ms u) a.alone y.stand in
+    subst (λ (ms : List Bool). Stand (Base l (own g ls)) (Lower g b ls) at_range y.level ms u) a.alone y.stand in
     keeps x z g o b (t w a.level a.is) (record {
       top = back_at (own g ls) (own_good g o ls) l y.level a.level u.rest u.forest a.near m.top;
       older = m.older;
     })
 keeps x {p = p} (turns {a = c} {b = d} {r = u} r z) g o b (fits_loop {g = n} {l = l} {m = m} {ls = ls} i w t) k =
     let y = keeps x r g o b (t c d) (record {
-      top = widened (own g ls) (own_good g o ls) n is_range i l m p.rest p.forest w k.top;
+      top = widened (own g ls) (own_good g o ls) n at_range i l m p.rest p.forest w k.top;
       older = k.older;
     }) in
     let same = same_lower_is y.lower ls (and_right (within y.level m) (same_lower y.lower ls) y.so) in
-    let e = subst (λ (ms : List Bool). Stand g b is_range y.level ms u) same y.stand in
+    let e = subst (λ (ms : List Bool). Stand g b at_range y.level ms u) same y.stand in
     keeps x z g o b (fits_loop range_implies (within_itself m) t) (record {
-      top = widened (own g ls) (own_good g o ls) is_range is_range range_implies y.level m u.rest u.forest
+      top = widened (own g ls) (own_good g o ls) at_range at_range range_implies y.level m u.rest u.forest
           (and_left (within y.level m) (same_lower y.lower ls) y.so) e.top;
       older = e.older;
     })
 keeps x {p = p} {v = v} (stops {a = c} {b = d} r h) g o b
     (fits_loop {g = n} {l = l} {m = m} {ls = ls} {f = f} i w t) k =
     let y = keeps x r g o b (t c d) (record {
-      top = widened (own g ls) (own_good g o ls) n is_range i l m p.rest p.forest w k.top;
+      top = widened (own g ls) (own_good g o ls) n at_range i l m p.rest p.forest w k.top;
       older = k.older;
     }) in
     record {
@@ -502,14 +504,14 @@ leaves_inside v (levels ranged ls) = false
 leaves_inside v (levels free ls) = false
 
 left_inside : (v : Outcome) (l : Level) (ls : List Bool) (rest : List Record) (f : Forest) →
-    leaves_inside v (levels l ls) ≡ true → At (own Inside ls) is_range l rest f → Inside f
+    leaves_inside v (levels l ls) ≡ true → At (own Inside ls) at_range l rest f → Inside f
 left_inside v inside [] rest f h a = a
 left_inside v inside (c ∷ ls) rest f h a = a
 left_inside v ranged ls rest f h a = absurd cc
 left_inside v free ls rest f h a = absurd cc
 
 pub kept_inside : Sound → {s : Script Rule} {p q : Spot} {v : Outcome} → Runs script_of s p q v →
-    Fits is_range s inside [] leaves_inside → Inside p.forest → Inside q.forest
+    Fits at_range s inside [] leaves_inside → Inside p.forest → Inside q.forest
 kept_inside x {q = q} {v = v} r t h =
     let y = keeps x r Inside good_inside (λ fs. Unit {0}) t (record { top = h; older = tt }) in
     left_inside v y.level y.lower q.rest q.forest y.so y.stand.top

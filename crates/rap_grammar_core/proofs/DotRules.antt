@@ -10,26 +10,27 @@ use Rattle.rap_events.specs.Power.{power, power_in}
 use Rattle.rap_events.specs.Record.{Record, next_kind}
 use Rattle.rap_grammar_scripts.specs.Attributes.{outer_attrs}
 use Rattle.rap_grammar_scripts.specs.ThroughKnot.{as_statement}
-use Rattle.rap_grammar_scripts.specs.Postfix.{is_range, after_dot_turn, postfix_dot_expr, postfix_turn, postfix_expr}
+use Rattle.rap_grammar_scripts.specs.Postfix.{after_dot_turn, postfix_dot_expr, postfix_turn, postfix_expr}
 use Rattle.rap_grammar_scripts.specs.Operators.{operation, climb_turn, climb}
 use Rattle.rap_grammar_scripts.specs.Expressions.{lhs, expr_from}
 use Rattle.rap_grammar_scripts.specs.Items.{opt_item}
 use Rattle.rap_grammar_scripts.specs.Blocks.{let_stmt}
 use Rattle.rap_base.specs.NodeKind.{LET_STMT}
 use Rattle.rap_grammar_scripts.specs.Knot.{script_of}
-use Rattle.rap_grammar_scripts.specs.Operator.{operator_at, operator_in, by_operator, by_operator_of}
+use Rattle.rap_grammar_scripts.specs.Operator.{operator_at, operator_in}
 use Rattle.rap_grammar_scripts.specs.declared.rule.Rule.{Rule}
 use Rattle.rap_grammar_scripts.specs.declared.rule.Rule.TheVariants as knot
+use Rattle.rap_grammar_scripts.specs.Test.{Test, holds}
 use Rattle.rap_grammar_scripts.specs.Script.{Script, Outcome, nothing, something, block, again, give, test, finish, extend, abandon}
 use Rattle.rap_grammar_scripts.specs.Statements.{ends_block, expr_stmt_end, expr_as_stmt, stmt}
-use Rattle.rap_grammar_scripts.specs.Words.{done, if_some, is_block, call, ◌▸◌}
+use Rattle.rap_grammar_scripts.specs.Words.{done, if_some, is_block, call, by_operator, by_operator_of, ◌▸◌}
 use Rattle.rap_grammar_scripts.specs.declared.arguments.Restrictions.{Restrictions}
 use Rattle.rap_grammar_scripts.specs.declared.arguments.Semicolon.{Semicolon}
 use Rattle.rap_grammar_scripts.specs.declared.arguments.Semicolon.TheVariants as kind
 use Rattle.rap_grammar_core.proofs.Endings.{every, Turned}
 use Rattle.rap_grammar_core.proofs.Scripts.{scripts}
 use Rattle.rap_grammar_core.proofs.DotEnds.{Level, inside, ranged, free, within, Levels, levels, same_lower, as_good, extended, dot_ends}
-use Rattle.rap_grammar_core.proofs.DotFits.{Next, Implies, Never, both, but, Fits, fits_give, fits_settled, fits_test, fits_token, fits_start, fits_precede, fits_extend, fits_split, fits_after, fits_loop, both_implies, but_implies, range_implies, same_lower_is, computed}
+use Rattle.rap_grammar_core.proofs.DotFits.{Next, Implies, Never, at_range, both, but, Fits, fits_give, fits_settled, fits_test, fits_token, fits_start, fits_precede, fits_extend, fits_split, fits_after, fits_loop, both_implies, but_implies, range_implies, same_lower_is, computed}
 use Rattle.rap_grammar_core.proofs.DotKeeps.{as_said, Sound}
 
 -- The dots of a range begin with a dot, and are an operator of power 2.
@@ -40,7 +41,7 @@ dot_first : (k : ℕ) (ks : List ℕ) (rs : List Record) → begins_with (DOT �
 dot_first k ks [] h = absurd cc
 dot_first k ks (r ∷ rs) h = same_kind r.kind DOT (and_left (r.kind == DOT) _ h)
 
-range_first : (rs : List Record) → is_range rs ≡ true → next_kind rs ≡ DOT
+range_first : (rs : List Record) → at_range rs ≡ true → next_kind rs ≡ DOT
 range_first rs h = elim (or_either (is_at DOT2EQ rs) (is_at DOT2 rs) h) [
   | inl i ↦ dot_first DOT (EQ ∷ []) rs i
   | inr i ↦ dot_first DOT [] rs i
@@ -55,19 +56,20 @@ power_of_dots true c h = refl
 power_of_dots false true h = refl
 power_of_dots false false h = absurd cc
 
-range_power : (rs : List Record) → is_range rs ≡ true → power (operator_at rs) ≡ 2
+range_power : (rs : List Record) → at_range rs ≡ true → power (operator_at rs) ≡ 2
 unfolding operator_at
 range_power rs h =
     ap power (at_dots (next_kind rs) rs (range_first rs h)) ∙ power_of_dots (is_at DOT2EQ rs) (is_at DOT2 rs) h
 
 -- What goes on after both tests.
-tested : {n h : Next} {s t : Script Rule} {l : Level} {ls : List Bool} {f : Outcome → Levels → Bool} →
-    Implies n is_range → (Implies (both n h) is_range → Fits (both n h) s l ls f) →
-    (Implies (but n h) is_range → Fits (but n h) t l ls f) → Fits n (test h s t) l ls f
-tested {n = n} {h = h} i s t = fits_test (s (both_implies n h is_range i)) (t (but_implies n h is_range i))
+tested : {n : Next} {h : Test} {s t : Script Rule} {l : Level} {ls : List Bool} {f : Outcome → Levels → Bool} →
+    Implies n at_range → (Implies (both n (holds h)) at_range → Fits (both n (holds h)) s l ls f) →
+    (Implies (but n (holds h)) at_range → Fits (but n (holds h)) t l ls f) → Fits n (test h s t) l ls f
+tested {n = n} {h = h} i s t =
+    fits_test (s (both_implies n (holds h) at_range i)) (t (but_implies n (holds h) at_range i))
 
 by_computing : {n : Next} {s : Script Rule} {l : Level} {ls : List Bool} {f : Outcome → Levels → Bool} →
-    Implies n is_range → every f (dot_ends s l ls) ≡ true → Fits n s l ls f
+    Implies n at_range → every f (dot_ends s l ls) ≡ true → Fits n s l ls f
 by_computing {n = n} {s = s} {l = l} {ls = ls} {f = f} i e = computed s n l ls f i e
 
 -- at this level or a better one, above these
@@ -86,7 +88,7 @@ dot_end block n = false
 dot_end (again a b) n = false
 
 after_turn : (a b : Bool) →
-    Fits is_range (after_dot_turn a b) free (true ∷ true ∷ []) (Turned (as_good free (true ∷ true ∷ [])) dot_end)
+    Fits at_range (after_dot_turn a b) free (true ∷ true ∷ []) (Turned (as_good free (true ∷ true ∷ [])) dot_end)
 unfolding scripts
 after_turn a b =
     tested range_implies
@@ -109,20 +111,20 @@ abbrev turn_end : Outcome → Levels → Bool
 turn_end = Turned (as_good inside (true ∷ [])) operand_end
 
 -- an operand that goes on as a block or not
-as_it_was : {n : Next} (blocky : Bool) (l : Level) → Implies n is_range → within l ranged ≡ true →
+as_it_was : {n : Next} (blocky : Bool) (l : Level) → Implies n at_range → within l ranged ≡ true →
     Fits n (give (if blocky then block else something)) l (true ∷ []) turn_end
 as_it_was true l i w = fits_give i (rw w refl)
 as_it_was false l i w = fits_give i (rw w refl)
 
 access_on : (blocky : Bool) (v : Outcome) (l : Level) (ls : List Bool) → dot_end v (levels l ls) ≡ true →
-    Fits is_range (if_some v (give (again true false)) (give (if blocky then block else something))) l ls turn_end
+    Fits at_range (if_some v (give (again true false)) (give (if blocky then block else something))) l ls turn_end
 access_on blocky nothing l ls e =
     rw (good_lower ranged (true ∷ []) l ls e) (as_it_was blocky l range_implies (good_level ranged (true ∷ []) l ls e))
 access_on blocky something l ls e = fits_give range_implies e
 access_on blocky block l ls e = absurd cc
 access_on blocky (again a b) l ls e = absurd cc
 
-operand_turn : (calls blocky : Bool) → Fits is_range (postfix_turn calls blocky) inside (true ∷ []) turn_end
+operand_turn : (calls blocky : Bool) → Fits at_range (postfix_turn calls blocky) inside (true ∷ []) turn_end
 unfolding scripts
 operand_turn calls blocky =
     tested range_implies (λ i. by_computing i refl)
@@ -131,7 +133,7 @@ operand_turn calls blocky =
     (λ m. tested m (λ i. by_computing i refl)
     (λ i. as_it_was blocky inside i refl))))
 
-operand : {n : Next} (a b : Bool) → Implies n is_range → Fits n (postfix_expr a b) inside (true ∷ []) operand_end
+operand : {n : Next} (a b : Bool) → Implies n at_range → Fits n (postfix_expr a b) inside (true ∷ []) operand_end
 unfolding scripts
 operand a b i = fits_loop i refl operand_turn
 
@@ -151,7 +153,7 @@ abbrev restrictions : Bool → Bool → Restrictions
 restrictions a b = record { forbid_structs = a; prefer_stmt = b }
 
 atom_on : (a b : Bool) (v : Outcome) (l : Level) (ls : List Bool) → flat_end v (levels l ls) ≡ true →
-    Fits is_range (if_some v (postfix_expr (not (b && is_block v)) (is_block v)) (give nothing)) l ls operand_end
+    Fits at_range (if_some v (postfix_expr (not (b && is_block v)) (is_block v)) (give nothing)) l ls operand_end
 atom_on a b nothing l ls e = fits_give range_implies e
 atom_on a b something l ls e =
     rw (is_inside l (good_level inside (true ∷ []) l ls e), good_lower inside (true ∷ []) l ls e)
@@ -161,7 +163,7 @@ atom_on a b block l ls e =
     (operand (not (b && true)) true range_implies)
 atom_on a b (again c d) l ls e = absurd cc
 
-left_side : {n : Next} (a b : Bool) → Implies n is_range →
+left_side : {n : Next} (a b : Bool) → Implies n at_range →
     Fits n (lhs (restrictions a b)) inside (true ∷ []) operand_end
 unfolding scripts
 left_side a true i =
@@ -195,7 +197,7 @@ later_row true k m h e = absurd cc
 later_row false k m h e = e
 
 by_rows : (rows : List (ℕ × ℕ)) (h : ℕ → Script Rule) (n : Next) (f : Outcome → Levels → Bool) →
-    Implies n is_range → ((rs : List Record) → n rs ≡ true → nat_lt 0 (power_in rows (operator_at rs)) ≡ true) →
+    Implies n at_range → ((rs : List Record) → n rs ≡ true → nat_lt 0 (power_in rows (operator_at rs)) ≡ true) →
     all_rows f h rows ≡ true → f something (levels inside []) ≡ true → Fits n (by_operator_of rows h) ranged [] f
 by_rows [] h n f i p e s = fits_settled (λ rs. none_left (n rs) false refl (p rs)) s
 by_rows (row ∷ rows) h n f i p e s =
@@ -214,18 +216,18 @@ unfolding scripts climb_turn_end
 rows_end r true = refl
 rows_end r false = refl
 
-climb_settled : (bp : ℕ) → nat_lt 2 bp ≡ false → Never (both is_range (λ rs. nat_lt (power (operator_at rs)) bp))
+climb_settled : (bp : ℕ) → nat_lt 2 bp ≡ false → Never (both at_range (λ rs. nat_lt (power (operator_at rs)) bp))
 climb_settled bp h rs =
-    none_left (is_range rs && nat_lt (power (operator_at rs)) bp) (nat_lt 2 bp) h
-    (λ e. subst (λ (k : ℕ). nat_lt k bp ≡ true) (range_power rs (and_left (is_range rs) _ e))
-    (and_right (is_range rs) _ e))
+    none_left (at_range rs && nat_lt (power (operator_at rs)) bp) (nat_lt 2 bp) h
+    (λ e. subst (λ (k : ℕ). nat_lt k bp ≡ true) (range_power rs (and_left (at_range rs) _ e))
+    (and_right (at_range rs) _ e))
 
-some_power : (n : Next) → Implies n is_range → (rs : List Record) → n rs ≡ true →
+some_power : (n : Next) → Implies n at_range → (rs : List Record) → n rs ≡ true →
     nat_lt 0 (power_in powers (operator_at rs)) ≡ true
 some_power n i rs e = rw (range_power rs (i rs e)) refl
 
 climbs : (r : Restrictions) (bp : ℕ) (w : Bool) → nat_lt 2 bp ≡ w → (a b : Bool) →
-    Fits is_range (climb_turn r bp a b) ranged [] (climb_turn_end w)
+    Fits at_range (climb_turn r bp a b) ranged [] (climb_turn_end w)
 unfolding by_operator climb_turn_end
 climbs r bp true h a b =
     tested range_implies (λ i. fits_give i refl)
@@ -234,7 +236,7 @@ climbs r bp false h a b =
     tested range_implies (λ i. fits_settled (climb_settled bp h) refl)
     (λ j. by_rows powers (operation r) _ (climb_turn_end false) j (some_power _ j) (rows_end r false) refl)
 
-climb_fits : {n : Next} (r : Restrictions) (bp : ℕ) (w : Bool) → nat_lt 2 bp ≡ w → (l : Level) → Implies n is_range →
+climb_fits : {n : Next} (r : Restrictions) (bp : ℕ) (w : Bool) → nat_lt 2 bp ≡ w → (l : Level) → Implies n at_range →
     within l ranged ≡ true → Fits n (climb r bp) l [] (climb_end w)
 unfolding climb climb_turn_end
 climb_fits r bp w h l i near = fits_loop i near (climbs r bp w h)
@@ -247,7 +249,7 @@ climbed r bp true h l (c ∷ ls) v e = let z = and_right (within l ranged) false
 climbed r bp false h l (c ∷ ls) v e = let z = and_right (within l inside) false e in absurd cc
 
 -- the operators behind an operand
-operators_on : {n : Next} (r : Restrictions) (bp : ℕ) (l : Level) → Implies n is_range → within l ranged ≡ true →
+operators_on : {n : Next} (r : Restrictions) (bp : ℕ) (l : Level) → Implies n at_range → within l ranged ≡ true →
     Fits n (call (climb r bp) ▸ done) l [] (as_said (knot.ExprBp r bp))
 operators_on r bp l i near =
     fits_after (climb_fits r bp (nat_lt 2 bp) refl l i near)
@@ -259,7 +261,7 @@ extended_near ranged h = refl
 extended_near free h = absurd cc
 
 operand_on : (a b : Bool) (bp : ℕ) (v : Outcome) (l : Level) (ls : List Bool) → operand_end v (levels l ls) ≡ true →
-    Fits is_range (if_some v (extend ▸ (if b && is_block v then give block
+    Fits at_range (if_some v (extend ▸ (if b && is_block v then give block
     else (call (climb (restrictions a b) bp) ▸ done))) (abandon ▸ give nothing)) l ls
     (as_said (knot.ExprBp (restrictions a b) bp))
 operand_on a b bp nothing l ls e =
@@ -282,7 +284,7 @@ operand_on a false bp block l ls e =
     (extended_near l (good_level ranged (true ∷ []) l ls e))))
 operand_on a b bp (again c d) l ls e = absurd cc
 
-from_node : {n : Next} (a b : Bool) (bp : ℕ) → Implies n is_range →
+from_node : {n : Next} (a b : Bool) (bp : ℕ) → Implies n at_range →
     Fits n (expr_from (restrictions a b) bp) inside (true ∷ []) (as_said (knot.ExprBp (restrictions a b) bp))
 unfolding scripts
 from_node a b bp i =
@@ -302,15 +304,15 @@ flat_lower block l ls e = good_lower inside (true ∷ []) l ls e
 flat_lower (again a b) l ls e = absurd cc
 
 -- behind attributes
-attributed : {n : Next} {s : Script Rule} {f : Outcome → Levels → Bool} → Implies n is_range →
-    Fits is_range s inside (true ∷ []) f → Fits n (call outer_attrs ▸ s) inside (true ∷ []) f
+attributed : {n : Next} {s : Script Rule} {f : Outcome → Levels → Bool} → Implies n at_range →
+    Fits at_range s inside (true ∷ []) f → Fits n (call outer_attrs ▸ s) inside (true ∷ []) f
 unfolding scripts
 attributed i s =
     fits_after (by_computing {f = flat_end} i refl)
     (λ v l ls e. rw (flat_level v l ls e, flat_lower v l ls e) s)
 
 an_expression : (a b : Bool) (bp : ℕ) →
-    Fits is_range (script_of (knot.ExprBp (restrictions a b) bp)) inside []
+    Fits at_range (script_of (knot.ExprBp (restrictions a b) bp)) inside []
     (as_said (knot.ExprBp (restrictions a b) bp))
 unfolding scripts
 an_expression a b bp = fits_start (attributed range_implies (from_node a b bp range_implies))
@@ -319,19 +321,19 @@ an_expression a b bp = fits_start (attributed range_implies (from_node a b bp ra
 no_kind : (k : ℕ) (rs : List Record) → next_kind rs ≡ DOT → (DOT == k) ≡ false → (next_kind rs == k) ≡ false
 no_kind k rs e h = rw e h
 
-goes_on : (semi : Semicolon) (rs : List Record) → next_kind rs ≡ DOT → ends_block semi rs ≡ false
+goes_on : (semi : Semicolon) (rs : List Record) → next_kind rs ≡ DOT → holds (ends_block semi) rs ≡ false
 goes_on kind.Required rs e = no_kind R_CURLY rs e refl
 goes_on kind.Optional rs e = rw (no_kind R_CURLY rs e refl, no_kind EOF rs e refl) refl
 goes_on kind.Forbidden rs e = rw (no_kind R_CURLY rs e refl, no_kind EOF rs e refl) refl
 
-block_goes_on : (semi : Semicolon) → Never (both is_range (ends_block semi))
+block_goes_on : (semi : Semicolon) → Never (both at_range (holds (ends_block semi)))
 block_goes_on semi rs =
-    none_left (is_range rs && ends_block semi rs) false refl
-    (λ e. sym (goes_on semi rs (range_first rs (and_left (is_range rs) _ e))) ∙ and_right (is_range rs) _ e)
+    none_left (at_range rs && holds (ends_block semi) rs) false refl
+    (λ e. sym (goes_on semi rs (range_first rs (and_left (at_range rs) _ e))) ∙ and_right (at_range rs) _ e)
 
 -- an expression that ends a statement
 ended : (semi : Semicolon) (like : Bool) (l : Level) → within l ranged ≡ true →
-    Fits is_range (expr_stmt_end semi like) l [] (as_said (knot.Stmt semi))
+    Fits at_range (expr_stmt_end semi like) l [] (as_said (knot.Stmt semi))
 unfolding scripts
 ended kind.Required true inside h = by_computing range_implies refl
 ended kind.Required false inside h = by_computing range_implies refl
@@ -354,7 +356,7 @@ near_ranged free h = absurd cc
 
 value_on : (semi : Semicolon) (v : Outcome) (l : Level) (ls : List Bool) →
     as_said (knot.ExprBp as_statement 1) v (levels l ls) ≡ true →
-    Fits is_range (if_some v (expr_stmt_end semi (is_block v)) done) l ls (as_said (knot.Stmt semi))
+    Fits at_range (if_some v (expr_stmt_end semi (is_block v)) done) l ls (as_said (knot.Stmt semi))
 value_on semi v l (c ∷ ls) e = absurd cc
 value_on semi nothing l [] e = fits_give range_implies e
 value_on semi something l [] e = ended semi false l (near_ranged l e)
@@ -368,14 +370,14 @@ item_end something n = as_good inside [] n
 item_end block n = false
 item_end (again a b) n = false
 
-value : {n : Next} (semi : Semicolon) → Implies n is_range →
+value : {n : Next} (semi : Semicolon) → Implies n at_range →
     Fits n (expr_as_stmt semi) inside (true ∷ []) (as_said (knot.Stmt semi))
 unfolding scripts
 value semi i =
     tested i (λ j. fits_after (from_node false true 1 j) (value_on semi)) (λ j. by_computing j refl)
 
 no_item_on : (semi : Semicolon) (v : Outcome) (l : Level) (ls : List Bool) → item_end v (levels l ls) ≡ true →
-    Fits is_range (if_some v done (expr_as_stmt semi)) l ls (as_said (knot.Stmt semi))
+    Fits at_range (if_some v done (expr_as_stmt semi)) l ls (as_said (knot.Stmt semi))
 no_item_on semi nothing l ls e =
     rw (is_inside l (good_level inside (true ∷ []) l ls e), good_lower inside (true ∷ []) l ls e)
     (value semi range_implies)
@@ -397,7 +399,7 @@ item_ends : every item_end (dot_ends (opt_item false) inside (true ∷ [])) ≡ 
 unfolding scripts
 item_ends = refl
 
-a_statement : (semi : Semicolon) → Fits is_range (stmt semi) inside [] (as_said (knot.Stmt semi))
+a_statement : (semi : Semicolon) → Fits at_range (stmt semi) inside [] (as_said (knot.Stmt semi))
 unfolding stmt
 a_statement semi =
     tested range_implies (λ i. fits_token (fits_give range_implies refl))
@@ -490,10 +492,10 @@ of_token_tree = refl
 -- end
 
 -- all rules
-from_computed : (c : Rule) → Computes c → Fits is_range (script_of c) inside [] (as_said c)
-from_computed c e = computed (script_of c) is_range inside [] (as_said c) range_implies e
+from_computed : (c : Rule) → Computes c → Fits at_range (script_of c) inside [] (as_said c)
+from_computed c e = computed (script_of c) at_range inside [] (as_said c) range_implies e
 
-statement_said : (semi : Semicolon) → Fits is_range (script_of (knot.Stmt semi)) inside [] (as_said (knot.Stmt semi))
+statement_said : (semi : Semicolon) → Fits at_range (script_of (knot.Stmt semi)) inside [] (as_said (knot.Stmt semi))
 unfolding script_of
 statement_said semi = a_statement semi
 

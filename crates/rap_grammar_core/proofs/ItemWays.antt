@@ -22,6 +22,7 @@ use Rattle.rap_grammar_scripts.specs.declared.rule.Rule.{Rule}
 use Rattle.rap_grammar_scripts.specs.Script.{Script, Outcome, nothing, something, again, Runs, gives, passes, fails, takes, starts, finishes, abandons, follows, obeys, turns, stops}
 use Rattle.rap_grammar_scripts.specs.declared.arguments.Flavor.TheVariants as flavor
 use Rattle.rap_grammar_scripts.specs.Visibility.{opt_visibility, opt_visibility_inner}
+use Rattle.rap_grammar_scripts.specs.Test.{holds}
 use Rattle.rap_events.proofs.Truth.{and_false}
 use Rattle.rap_grammar_core.proofs.Operators.{differ, differ_back}
 use Rattle.rap_grammar_core.proofs.Ways.{Leads, no_attributes, not_first}
@@ -128,7 +129,7 @@ unfolding items
 items_brace e = stops (fails (rw e refl) (passes (rw e refl) gives)) refl
 
 pub items_on : (stop : Bool) {b : List Forest} {rs m l : List Record} {f x g : Forest} → (next_kind rs == EOF) ≡ false →
-    ends_items stop rs ≡ false → Leads (item_or_macro stop true) b rs f m x → Leads (items stop) b m x l g →
+    holds (ends_items stop) rs ≡ false → Leads (item_or_macro stop true) b rs f m x → Leads (items stop) b m x l g →
     Leads (items stop) b rs f l g
 unfolding items script_of
 items_on stop e r x y = turns (fails e (fails r (obeys x gives))) y
@@ -384,7 +385,7 @@ param_last_way {rs = rs} {m = m} e x c t y d =
     (finishes (fails (rw d refl) (fails (rw d refl) gives))))
 
 -- a first parameter, and a later one
-no_self : (rs : List Record) → next_kind rs ≡ IDENT → is_self_value rs ≡ false
+no_self : (rs : List Record) → next_kind rs ≡ IDENT → holds is_self_value rs ≡ false
 no_self [] e = refl
 no_self (r ∷ rs) e = rw e refl
 

@@ -10,6 +10,7 @@ use Rattle.rap_events.specs.Power.{power, power_in}
 use Rattle.rap_grammar_scripts.specs.First.{is_literal_first, is_path_name, one_of}
 use Rattle.rap_grammar_scripts.specs.Operator.{operator_at, operator_in, first_of, goes_on_with}
 use Rattle.rap_grammar_scripts.specs.TokenTree.{starts_macro_call}
+use Rattle.rap_grammar_scripts.specs.Test.{holds}
 use Rattle.rap_grammar_core.specs.Derives.{Touching, tokens_of, Writes, IsOperator}
 
 -- two kinds that a test distinguishes
@@ -62,7 +63,7 @@ is_calm forbid k =
 -- such a token, and no macro call
 pub record Calm (forbid : Bool) (rs : List Record) : Type 0 where
   pub kind : is_calm forbid (next_kind rs) ≡ true
-  pub macro : starts_macro_call rs ≡ false
+  pub macro : holds starts_macro_call rs ≡ false
 
 -- where record literals may stand, less goes on with no operand
 pub calm_so : (forbid : Bool) (k : ℕ) → is_calm false k ≡ true → is_calm forbid k ≡ true
@@ -288,7 +289,7 @@ written_lead {kind = kind} {os = os} rest w = lead_is (tokens_of (parts kind) ki
 
 -- an operator's tokens begin no macro call
 no_macro : {op : ℕ} {os : List Record} (rest : List Record) → Writes os op →
-    ((lead (tokens_of (parts op) op) == BANG) ≡ false) ⊎ (op ≡ NEQ) → starts_macro_call (os ++ rest) ≡ false
+    ((lead (tokens_of (parts op) op) == BANG) ≡ false) ⊎ (op ≡ NEQ) → holds starts_macro_call (os ++ rest) ≡ false
 no_macro rest w (inl h) = rw (written_lead rest w, h) refl
 no_macro {os = os} rest w (inr e) =
     let n : is_at NEQ (os ++ rest) ≡ true = rw e at (written_first rest w) in rw n (and_false (is_at BANG (os ++ rest)))

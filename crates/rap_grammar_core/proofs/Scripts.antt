@@ -27,7 +27,6 @@ use Rattle.rap_grammar_scripts.specs.Matches as matches
 use Rattle.rap_grammar_scripts.specs.Modifiers as modifiers
 use Rattle.rap_grammar_scripts.specs.Modules as modules
 use Rattle.rap_grammar_scripts.specs.Names as names
-use Rattle.rap_grammar_scripts.specs.Operator as operator
 use Rattle.rap_grammar_scripts.specs.Operators as operators
 use Rattle.rap_grammar_scripts.specs.Params as params
 use Rattle.rap_grammar_scripts.specs.PathType as path_type
@@ -43,6 +42,7 @@ use Rattle.rap_grammar_scripts.specs.Traits as traits
 use Rattle.rap_grammar_scripts.specs.Types as types
 use Rattle.rap_grammar_scripts.specs.UseItem as use_item
 use Rattle.rap_grammar_scripts.specs.Visibility as visibility
+use Rattle.rap_grammar_scripts.specs.Words as words
 
 -- what an answer unfolds to compute with scripts
 unfoldable pub scripts : Unit {0}
@@ -112,7 +112,6 @@ unfolding adt.missing_in_list adt.comma_in_braces adt.opt_value adt.mut_restrict
     names.name_ref_mod_path names.name_ref_mod_path_or_index names.lifetime names.name_r names.name
     names.name_ref_or_index names.name_ref_or_upper_self names.abi names.name_ref_or_self names.name_any_identifier
     names.opt_rename
-    operator.by_operator
     operators.bin_expr operators.cast_expr operators.climb operators.ref_qualifier operators.ref_expr
     operators.prefix_expr
     params.self_as_name params.self_value params.self_mut params.self_ref params.opt_self_param params.variadic_param
@@ -156,4 +155,5 @@ unfolding adt.missing_in_list adt.comma_in_braces adt.opt_value adt.mut_restrict
     use_item.nested_use_tree use_item.use_tree_list use_item.group use_item.group_behind use_item.after_use_path
     use_item.use_tree use_item.expect_use_tree use_item.use_
     visibility.restriction visibility.in_restriction visibility.opt_visibility_inner visibility.opt_visibility
+    words.by_operator
 scripts = tt

@@ -31,6 +31,7 @@ use Rattle.rap_grammar_scripts.specs.Words.{next_is, reads_as}
 use Rattle.rap_grammar_core.proofs.Begins.{Plain, not_read, begins_statement}
 use Rattle.rap_grammar_scripts.specs.Atom.{atom_expr}
 use Rattle.rap_grammar_scripts.specs.EffectBlocks.{plain_block}
+use Rattle.rap_grammar_scripts.specs.Test.{holds}
 use Rattle.rap_events.proofs.Truth.{and_false}
 use Rattle.rap_grammar_core.proofs.Operators.{differ, differ_back, is_atom, is_operand}
 use Rattle.rap_grammar_core.proofs.Ways.{Leads, LeadsOut, Single, attributed, precedes_one, not_first, kind_at_first, no_attributes, differ_attributes, extended_one}
@@ -50,7 +51,7 @@ no_item_by_name : {b : List Forest} {r : Record} {rs : List Record} {f : Forest}
 unfolding opt_item_by_name
 no_item_by_name {r = r} {rs = rs} o p =
     let n : (k : ℕ) → is_operand k ≡ false → (k == IDENT) ≡ false → (IDENT == k) ≡ false →
-    reads_as k (r ∷ rs) ≡ false = λ k h i j. not_read k r rs (differ is_operand r.kind k o h) i j p in
+    holds (reads_as k) (r ∷ rs) ≡ false = λ k h i j. not_read k r rs (differ is_operand r.kind k o h) i j p in
     fails (rw (n UNION_KW refl refl refl) refl) (fails (rw (n MACRO_RULES_KW refl refl refl) refl)
     (fails (rw (n BUILTIN_KW refl refl refl) refl) gives))
 
@@ -88,7 +89,7 @@ no_auto_or_default : {b : List Forest} {r : Record} {rs : List Record} {f : Fore
 unfolding auto_or_default modifier_as opt_default
 no_auto_or_default {r = r} {rs = rs} o p =
     let n : (k : ℕ) → is_operand k ≡ false → (k == IDENT) ≡ false → (IDENT == k) ≡ false →
-    reads_as k (r ∷ rs) ≡ false = λ k h i j. not_read k r rs (differ is_operand r.kind k o h) i j p in
+    holds (reads_as k) (r ∷ rs) ≡ false = λ k h i j. not_read k r rs (differ is_operand r.kind k o h) i j p in
     let d = n DEFAULT_KW refl refl refl in
     follows (fails (rw (n AUTO_KW refl refl refl) refl) gives)
     (follows (fails (rw d refl) (fails (rw d refl) (fails (rw d refl) gives))) gives)

@@ -25,6 +25,7 @@ use Rattle.rap_grammar_scripts.specs.Knot.{script_of}
 use Rattle.rap_grammar_scripts.specs.GenericArgList.{opt_generic_arg_list_expr}
 use Rattle.rap_grammar_scripts.specs.Paths.{has_args_behind, has_args, opt_path_type_args, segment_name, path_segment, path_for_qualifier, path, expr_path, opt_path_args}
 use Rattle.rap_grammar_scripts.specs.declared.rule.Rule.{Rule}
+use Rattle.rap_grammar_scripts.specs.Test.{holds}
 use Rattle.rap_grammar_scripts.specs.Script.{Script, Outcome, Spot, nothing, something, precede, after, Runs, gives, passes, fails, takes, takes_any, starts, precedes, finishes, extends, follows, obeys, turns, stops, last_kind, block, again}
 use Rattle.rap_grammar_scripts.specs.TokenTree.{starts_macro_call}
 use Rattle.rap_grammar_scripts.specs.Words.{reads_as, starts_builtin}
@@ -118,8 +119,8 @@ mode_of false = mode.Expr
 
 -- no arguments come next
 abbrev pub NoArguments : Bool → List Record → Type 0
-NoArguments true rs = (has_args_behind rs ≡ false) × (has_args rs ≡ false)
-NoArguments false rs = starts_expr_args rs ≡ false
+NoArguments true rs = (holds has_args_behind rs ≡ false) × (holds has_args rs ≡ false)
+NoArguments false rs = holds starts_expr_args rs ≡ false
 
 no_arguments_way : (ty : Bool) {b : List Forest} {rs : List Record} {f : Forest} → NoArguments ty rs →
     Leads (opt_path_args (mode_of ty)) b rs f rs f
@@ -176,8 +177,8 @@ literal_way q ne e = follows (passes e (starts (takes_any ne (finishes gives))))
 
 -- a path with neither the fields of a record nor a macro call after it
 pub path_expr_way : (r : Restrictions) {b : List Forest} {rs m : List Record} {f x : Forest} → next_kind rs ≡ IDENT →
-    starts_builtin rs ≡ false → Leads (path mode.Expr) (f ∷ b) rs none m x → starts_macro_call m ≡ false →
-    starts_record r.forbid_structs m ≡ false →
+    holds starts_builtin rs ≡ false → Leads (path mode.Expr) (f ∷ b) rs none m x →
+    holds starts_macro_call m ≡ false → holds (starts_record r.forbid_structs) m ≡ false →
     Leads (atom_expr r) b rs f m (node f PATH_EXPR x)
 unfolding atom_expr path_expr expr_path
 path_expr_way r {b = b} {f = f} e i x macro brace =
@@ -337,7 +338,7 @@ unfolding lhs prefix_expr script_of expr_bp
 prefix_way r k n ne x = fails n (passes k (starts (takes_any ne (obeys (starts x) (finishes gives)))))
 
 pub ref_way : (r : Restrictions) {b : List Forest} {a : Record} {rs l : List Record} {f x : Forest} → a.kind ≡ AMP →
-    reads_as RAW_KW rs ≡ false → (next_kind rs == MUT_KW) ≡ false →
+    holds (reads_as RAW_KW) rs ≡ false → (next_kind rs == MUT_KW) ≡ false →
     LeadsOut (attributed r prefix_power) (f ∷ b) rs (leaf none AMP 1) l x →
     Leads (lhs r) b (a ∷ rs) f l (node f REF_EXPR x)
 unfolding lhs ref_expr ref_qualifier script_of expr_bp
@@ -346,7 +347,7 @@ ref_way r e n m x =
     (takes (rw e refl) (follows (fails (rw n refl) (fails m gives)) (obeys (starts x) (finishes gives)))))
 
 pub ref_mut_way : (r : Restrictions) {b : List Forest} {a c : Record} {rs l : List Record} {f x : Forest} →
-    a.kind ≡ AMP → reads_as RAW_KW (c ∷ rs) ≡ false → c.kind ≡ MUT_KW →
+    a.kind ≡ AMP → holds (reads_as RAW_KW) (c ∷ rs) ≡ false → c.kind ≡ MUT_KW →
     LeadsOut (attributed r prefix_power) (f ∷ b) rs (leaf (leaf none AMP 1) MUT_KW 1) l x →
     Leads (lhs r) b (a ∷ c ∷ rs) f l (node f REF_EXPR x)
 unfolding lhs ref_expr ref_qualifier script_of expr_bp
@@ -403,7 +404,7 @@ try_way r {f = f} h e y =
     (passes (rw e refl) (follows (precedes_one f h (takes (rw e refl) (finishes gives))) gives))))) y
 
 -- a dot before a token that is no dot
-access : (a c : Record) (m : List Record) → a.kind ≡ DOT → (c.kind == DOT) ≡ false → is_access (a ∷ c ∷ m) ≡ true
+access : (a c : Record) (m : List Record) → a.kind ≡ DOT → (c.kind == DOT) ≡ false → holds is_access (a ∷ c ∷ m) ≡ true
 access a c m e d = rw (e, d, and_false a.joint) refl
 
 dot_way : (r : Restrictions) {b : List Forest} {a c : Record} {rs m l : List Record} {f h g : Forest} → a.kind ≡ DOT →
@@ -414,7 +415,7 @@ dot_way r {a = a} {c = c} {rs = rs} e d x y =
 
 -- a field's name or number, where no call follows
 field_way : (r : Restrictions) {b : List Forest} {a c : Record} {m l : List Record} {f t g : Forest} → Single t →
-    a.kind ≡ DOT → is_path_name_or_index c.kind ≡ true → is_method_call (c ∷ m) ≡ false →
+    a.kind ≡ DOT → is_path_name_or_index c.kind ≡ true → holds is_method_call (c ∷ m) ≡ false →
     Follows_on r b m (node f FIELD_EXPR (node (leaf t DOT 1) NAME_REF (leaf none c.kind 1))) l g →
     Follows_on r b (a ∷ c ∷ m) (f ⧺ t) l g
 unfolding postfix_dot_expr after_dot name_after_dot field_expr name_ref_mod_path_or_index

@@ -11,6 +11,7 @@ ghost use Rattle.rap_grammar_frame.specs.Grew.{Within, Behind, Took, Grew};
 ghost use Rattle.rap_grammar_scripts.specs.Exec.{Does};
 ghost use Rattle.rap_grammar_frame.specs.Room.{brackets_room, list_room, recovery_events};
 ghost use Rattle.rap_grammar_scripts.specs.Script.{something};
+ghost use Rattle.rap_grammar_scripts.specs.Test.{holds};
 ghost use Rattle.rap_grammar_scripts.specs.Words.{of_option};
 
 use rap_base::T;
@@ -107,7 +108,7 @@ pub fn error_block<G: Grammar>(p: &mut Parser<'_>, g: &G, message: &str) -> Resu
 
 /// Whether a `let` comes next, or a `super let`.
 pub fn starts_let(p: &Parser<'_>) -> bool
-    ensures { result ≡ starts_let (state p.now).rest }
+    ensures { result ≡ holds starts_let (state p.now).rest }
 {
     p.at(T![let]) || (p.at(T![super]) && p.nth_at(1, T![let]))
 }
@@ -116,7 +117,7 @@ pub fn starts_let(p: &Parser<'_>) -> bool
 #[tactic(auto, unfolding(rap_grammar_scripts::specs::Blocks::let_stmt))]
 pub fn let_stmt<G: Grammar>(p: &mut Parser<'_>, g: &G, with_semi: Semicolon) -> Result<(), NoMemory>
     requires within { Within G.valid G.left g.now (state p.old) }
-    requires here { starts_let (state p.old).rest ≡ true }
+    requires here { holds starts_let (state p.old).rest ≡ true }
     ensures took { OnOk result (Took (state p.old) (state p.new) brackets_room) }
     ensures script { OnOk result
         (Does (G.left g.now) (script.let_stmt with_semi) something (state p.old) (state p.new)) }

@@ -12,6 +12,7 @@ ghost use Rattle.rap_grammar_scripts.specs.Exec.{Does};
 ghost use Rattle.rap_grammar_frame.specs.Room.{asm_room, asm_end_room, operand_room, expression_room, name_room, recovery_events};
 ghost use Rattle.rap_grammar_frame.specs.Rules.{Missed};
 ghost use Rattle.rap_grammar_scripts.specs.Script.{something, again};
+ghost use Rattle.rap_grammar_scripts.specs.Test.{holds};
 ghost use Rattle.rap_grammar_scripts.specs.Words.{of_bool};
 
 use rap_base::T;
@@ -226,7 +227,7 @@ fn operand_name(p: &mut Parser<'_>) -> Result<bool, NoMemory>
 
 /// Whether an operand's name and its `=` come next.
 fn starts_operand_name(p: &Parser<'_>) -> bool
-    ensures here { result ≡ script.starts_operand_name (state p.now).rest }
+    ensures here { result ≡ holds script.starts_operand_name (state p.now).rest }
     ensures name { IsTrue result → is_any_identifier (next (state p.now)) ≡ true }
     ensures eq { IsTrue result → NthAt (state p.now) 1 EQ }
 {

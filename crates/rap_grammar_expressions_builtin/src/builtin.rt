@@ -12,6 +12,7 @@ ghost use Rattle.rap_grammar_scripts.specs.Exec.{Does};
 ghost use Rattle.rap_grammar_frame.specs.Room.{atom_room, name_room};
 ghost use Rattle.rap_grammar_frame.specs.Rules.{Operand};
 ghost use Rattle.rap_grammar_scripts.specs.Script.{something, again};
+ghost use Rattle.rap_grammar_scripts.specs.Test.{holds};
 
 use crate::asm::parse_asm_expr;
 use rap_base::T;
@@ -29,7 +30,7 @@ use rap_grammar_scripts::rule::Rule;
 #[tactic(auto, unfolding(rap_grammar_scripts::specs::Builtin::builtin_expr))]
 pub fn builtin_expr<G: Grammar>(p: &mut Parser<'_>, g: &G) -> Result<Answer, NoMemory>
     requires within { Within G.valid G.left g.now (state p.old) }
-    requires here { starts_builtin (state p.old).rest ≡ true }
+    requires here { holds starts_builtin (state p.old).rest ≡ true }
     ensures operand { IfOk result (Operand atom_room (state p.old) (state p.new)) }
     ensures script { IfOk result
         (λ e. Does (G.left g.now) script.builtin_expr (of_expr e) (state p.old) (state p.new)) }
@@ -220,7 +221,7 @@ fn opt_arg_name(p: &mut Parser<'_>) -> Result<(), NoMemory>
 
 /// Whether a name and an `=` that begins no `==` come next.
 fn starts_arg_name(p: &Parser<'_>) -> bool
-    ensures here { result ≡ script.starts_arg_name (state p.now).rest }
+    ensures here { result ≡ holds script.starts_arg_name (state p.now).rest }
     ensures name { IsTrue result → is_any_identifier (next (state p.now)) ≡ true }
     ensures eq { IsTrue result → NthAt (state p.now) 1 EQ }
 {

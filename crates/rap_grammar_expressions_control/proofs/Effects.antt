@@ -6,8 +6,8 @@ use Rattle.rap_events.specs.Record.{Record, next_kind, kind_at}
 use Rattle.rap_events.specs.State.{State, next, Bumped, Ate}
 use Rattle.rap_grammar_scripts.specs.EffectBlocks.{is_effect_block}
 use Rattle.rap_grammar_scripts.specs.First.{one_of}
-use Rattle.rap_grammar_scripts.specs.Params.{past}
-use Rattle.rap_grammar_frame.proofs.Lookahead.{past_ate}
+use Rattle.rap_grammar_scripts.specs.Test.{holds}
+use Rattle.rap_grammar_frame.proofs.Lookahead.{reach, past_ate}
 
 by_test : {A : Type 0} (b : Bool) → (b ≡ true → A) → (b ≡ false → A) → A
 by_test true f h = f refl
@@ -43,12 +43,12 @@ some_kind : (a b c d : ℕ) → Starts a b c d → a ≢ EOF
 some_kind a b c d h e = grind (arith, nat_tests)
 
 -- such a block begins with a token
-pub some_first : (rs : List Record) → is_effect_block rs ≡ true → next_kind rs ≢ EOF
+pub some_first : (rs : List Record) → holds is_effect_block rs ≡ true → next_kind rs ≢ EOF
 unfolding is_effect_block
 some_first rs h = some_kind (next_kind rs) (kind_at rs 1) (kind_at rs 2) (kind_at rs 3) h
 
-brace : (rs : List Record) → is_effect_block rs ≡ true →
-    next_kind (drop (past MOVE_KW (past GEN_KW 1 rs) rs) rs) ≡ L_CURLY
+brace : (rs : List Record) → holds is_effect_block rs ≡ true →
+    next_kind (drop (reach MOVE_KW (reach GEN_KW 1 rs) rs) rs) ≡ L_CURLY
 unfolding is_effect_block
 brace rs h =
     by_test (next_kind (drop 1 rs) == GEN_KW)
@@ -65,9 +65,9 @@ brace rs h =
     (next_at 1 rs ∙ after_none (next_kind rs) _ (kind_at rs 2) (kind_at rs 3) h k (rw (← (next_at 1 rs)) f))))
 
 -- after it the brace comes next
-pub brace_next : {s t u v : State} {k : ℕ} {a b : Bool} → is_effect_block s.rest ≡ true →
+pub brace_next : {s t u v : State} {k : ℕ} {a b : Bool} → holds is_effect_block s.rest ≡ true →
     Bumped s t k 1 → Ate t u GEN_KW a → Ate u v MOVE_KW b → next v ≡ L_CURLY
 brace_next {s = s} h d e f =
     let n = past_ate s.rest 1 GEN_KW refl d.rest e in
-    let m = past_ate s.rest (past GEN_KW 1 s.rest) MOVE_KW refl n f in
+    let m = past_ate s.rest (reach GEN_KW 1 s.rest) MOVE_KW refl n f in
     ap next_kind m ∙ brace s.rest h

@@ -10,6 +10,7 @@ ghost use Rattle.rap_grammar_frame.specs.Grew.{Within, Behind, Took, Grew, Makes
 ghost use Rattle.rap_grammar_scripts.specs.Exec.{Does};
 ghost use Rattle.rap_grammar_frame.specs.Room.{atom_room, list_room, name_room};
 ghost use Rattle.rap_grammar_scripts.specs.Script.{something};
+ghost use Rattle.rap_grammar_scripts.specs.Test.{holds};
 
 use rap_base::T;
 use rap_base::no_memory::NoMemory;
@@ -26,7 +27,7 @@ use rap_grammar_params::params::param_list_closure;
 #[tactic(auto, unfolding(rap_grammar_scripts::specs::Closures::closure_expr))]
 pub fn closure_expr<G: Grammar>(p: &mut Parser<'_>, g: &G) -> Result<CompletedMarker, NoMemory>
     requires within { Within G.valid G.left g.now (state p.old) }
-    requires here { is_closure (state p.old).rest ≡ true }
+    requires here { holds is_closure (state p.old).rest ≡ true }
     ensures made { IfOk result (Makes CLOSURE_EXPR atom_room (state p.old) (state p.new)) }
     ensures script { OnOk result (Does (G.left g.now) script.closure_expr something (state p.old) (state p.new)) }
 {

@@ -13,6 +13,7 @@ ghost use Rattle.rap_grammar_scripts.specs.Exec.{Does};
 ghost use Rattle.rap_grammar_frame.specs.Room.{atom_room, list_room};
 ghost use Rattle.rap_grammar_frame.specs.Rules.{Operand};
 ghost use Rattle.rap_grammar_scripts.specs.Script.{something};
+ghost use Rattle.rap_grammar_scripts.specs.Test.{holds};
 
 use crate::closures::closure_expr;
 use crate::control::for_expr;
@@ -69,7 +70,7 @@ pub fn effect_expr<G: Grammar>(p: &mut Parser<'_>, g: &G) -> Result<Answer, NoMe
 
 /// Whether a closure comes next.
 fn is_closure(p: &Parser<'_>) -> bool
-    ensures { result ≡ is_closure (state p.now).rest }
+    ensures { result ≡ holds is_closure (state p.now).rest }
 {
     matches!(
         p.current(),
@@ -80,7 +81,7 @@ fn is_closure(p: &Parser<'_>) -> bool
 /// Whether a block comes next, with what it is before its brace, as `unsafe {}` and `async move {}`.
 #[tactic(auto, unfolding(rap_grammar_scripts::specs::EffectBlocks::is_effect_block))]
 fn is_effect_block(p: &Parser<'_>) -> bool
-    ensures { result ≡ is_effect_block (state p.now).rest }
+    ensures { result ≡ holds is_effect_block (state p.now).rest }
 {
     let la = p.nth(1);
     match p.current() {
@@ -99,7 +100,7 @@ fn is_effect_block(p: &Parser<'_>) -> bool
 /// What stands before the brace of a block with an effect, as `async move`.
 #[tactic(auto, using(crate::proofs::Effects::some_first, crate::proofs::Effects::brace_next), unfolding(rap_grammar_scripts::specs::EffectBlocks::effects))]
 fn effects(p: &mut Parser<'_>) -> Result<(), NoMemory>
-    requires starts { is_effect_block (state p.old).rest ≡ true }
+    requires starts { holds is_effect_block (state p.old).rest ≡ true }
     ensures took { OnOk result (Took (state p.old) (state p.new) list_room) }
     ensures here { OnOk result (next (state p.new) ≡ L_CURLY) }
     ensures script { OnOk result ((depth : ℕ) → Does depth script.effects something (state p.old) (state p.new)) }
@@ -115,7 +116,7 @@ fn effects(p: &mut Parser<'_>) -> Result<(), NoMemory>
 #[tactic(auto, unfolding(rap_grammar_scripts::specs::EffectBlocks::effect_block))]
 fn effect_block<G: Grammar>(p: &mut Parser<'_>, g: &G) -> Result<CompletedMarker, NoMemory>
     requires within { Within G.valid G.left g.now (state p.old) }
-    requires starts { is_effect_block (state p.old).rest ≡ true }
+    requires starts { holds is_effect_block (state p.old).rest ≡ true }
     ensures made { IfOk result (Makes BLOCK_EXPR atom_room (state p.old) (state p.new)) }
     ensures script { OnOk result (Does (G.left g.now) script.effect_block something (state p.old) (state p.new)) }
 {

@@ -10,6 +10,7 @@ ghost use Rattle.rap_grammar_frame.specs.Grew.{Within, Behind, Grew, Makes};
 ghost use Rattle.rap_grammar_scripts.specs.Exec.{Does};
 ghost use Rattle.rap_grammar_frame.specs.Room.{atom_room};
 ghost use Rattle.rap_grammar_scripts.specs.Script.{something};
+ghost use Rattle.rap_grammar_scripts.specs.Test.{holds};
 
 use rap_base::T;
 use rap_base::no_memory::NoMemory;
@@ -23,7 +24,7 @@ use rap_grammar_scripts::arguments::Restrictions;
 
 /// Whether an operand follows. Before a block, as in `if break {}`, a `{` begins none.
 fn has_operand(p: &Parser<'_>, before_block: bool) -> bool
-    ensures { result ≡ script.has_operand before_block (state p.now).rest }
+    ensures { result ≡ holds (script.has_operand before_block) (state p.now).rest }
 {
     let is_block = before_block && p.current() == T!['{'];
     is_expr_first(p.current()) && !is_block
@@ -107,7 +108,7 @@ pub fn yield_expr<G: Grammar>(p: &mut Parser<'_>, g: &G) -> Result<CompletedMark
 
 /// Whether `do yeet` comes next.
 pub fn starts_yeet(p: &Parser<'_>) -> bool
-    ensures starts { result ≡ atom_script.starts_yeet (state p.now).rest }
+    ensures starts { result ≡ holds atom_script.starts_yeet (state p.now).rest }
     ensures here { result ≡ true → next (state p.now) ≡ DO_KW }
 {
     p.current() == T![do] && p.nth_at_contextual_kw(1, T![yeet])

@@ -12,6 +12,7 @@ ghost use Rattle.rap_grammar_frame.specs.Grew.{Within, Grew, Wraps, Behind, Clos
 ghost use Rattle.rap_grammar_scripts.specs.Exec.{Does};
 ghost use Rattle.rap_grammar_frame.specs.Room.{operand_room, arguments_room, recovery_events};
 ghost use Rattle.rap_grammar_scripts.specs.Script.{something, block, again};
+ghost use Rattle.rap_grammar_scripts.specs.Test.{holds};
 
 use rap_base::T;
 use rap_base::no_memory::NoMemory;
@@ -175,7 +176,7 @@ fn name_after_dot<G: Grammar>(
 /// Whether what stands after a dot is called: a name before `(` or `::`, or a `(` without a name.
 #[tactic(auto, unfolding(rap_grammar_scripts::specs::Postfix::is_method_call))]
 fn is_method_call(p: &Parser<'_>) -> bool
-    ensures { result ≡ is_method_call (state p.now).rest }
+    ensures { result ≡ holds is_method_call (state p.now).rest }
 {
     if p.current() == T!['('] {
         return true;

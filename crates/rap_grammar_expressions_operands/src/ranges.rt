@@ -11,6 +11,7 @@ ghost use Rattle.rap_grammar_frame.specs.Grew.{Within, Wraps, Makes};
 ghost use Rattle.rap_grammar_scripts.specs.Exec.{Does};
 ghost use Rattle.rap_grammar_frame.specs.Room.{operand_room};
 ghost use Rattle.rap_grammar_scripts.specs.Script.{something};
+ghost use Rattle.rap_grammar_scripts.specs.Test.{holds};
 ghost use Rattle.rap_grammar_scripts.specs.Words.{of_bool};
 
 use rap_base::T;
@@ -25,7 +26,7 @@ use rap_grammar_scripts::rule::Rule;
 /// Whether the dots of a range have an end after them: not in `(1..).max()`, nor before the block of `for i in 1.. {}`.
 #[tactic(auto, unfolding(rap_grammar_scripts::specs::Ranges::has_range_end))]
 fn has_range_end(p: &Parser<'_>, r: Restrictions) -> bool
-    ensures { result ≡ has_range_end r.forbid_structs (state p.now).rest }
+    ensures { result ≡ holds (has_range_end r.forbid_structs) (state p.now).rest }
 {
     let has_access_after = p.current() == T![.] && p.nth(1) == T![ident];
     let struct_forbidden = r.forbid_structs && p.current() == T!['{'];

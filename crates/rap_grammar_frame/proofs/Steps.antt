@@ -17,6 +17,7 @@ use Rattle.rap_events.specs.declared.parser.Parser.{Parser}
 use Rattle.rap_grammar_scripts.specs.First.{is_path_name, is_path_start}
 use Rattle.rap_grammar_scripts.proofs.Ends.{Loops, gives, passes, fails, ends_so, ends_else, takes, takes_any, bears, reports, reports_next, skips, starts, precedes, finishes, extends, abandons, splits_dotted, splits_whole, follows, obeys, turns, stops}
 use Rattle.rap_grammar_scripts.specs.Exec.{Ends, Answers, exec, run_of}
+use Rattle.rap_grammar_scripts.specs.Test.{Test, holds, comes}
 use Rattle.rap_grammar_scripts.specs.Words.{of_like, done, if_some, reads_as, eat, eat_as, expect, recover, of_option, of_bool}
 use Rattle.rap_grammar_scripts.specs.declared.rule.Rule.{Rule}
 use Rattle.rap_grammar_scripts.specs.declared.rule.Rule.TheVariants as knot
@@ -167,11 +168,11 @@ pub to_end : {j : ℕ} {c : Script Rule} {p q : Spot} {v : Outcome} → On j c p
 to_end h = h
 
 -- a test that is an equation of truth values
-pub then_by : {j : ℕ} {h : List Record → Bool} {a b : Script Rule} {p q : Spot} {v : Outcome} {t : Bool} → t ≡ h p.rest →
+pub then_by : {j : ℕ} {h : Test} {a b : Script Rule} {p q : Spot} {v : Outcome} {t : Bool} → t ≡ holds h p.rest →
     t ≡ true → On j a p q v → On j (test h a b) p q v
 then_by e f d = passes (sym e ∙ f) d
 
-pub else_by : {j : ℕ} {h : List Record → Bool} {a b : Script Rule} {p q : Spot} {v : Outcome} {t : Bool} → t ≡ h p.rest →
+pub else_by : {j : ℕ} {h : Test} {a b : Script Rule} {p q : Spot} {v : Outcome} {t : Bool} → t ≡ holds h p.rest →
     t ≡ false → On j b p q v → On j (test h a b) p q v
 else_by e f d = fails (sym e ∙ f) d
 
@@ -187,11 +188,11 @@ answers_something {o = Some x} e h = h
 
 -- a token of a kind came next and was taken, or none did
 pub ate : {j : ℕ} {s t : State} {k : ℕ} {b : Bool} {n m : Script Rule} {q : Spot} {v : Outcome} → Ate s t k b → b ≡ true →
-    On j n (spot t) q v → On j (test (is_at k) (token k n) m) (spot s) q v
+    On j n (spot t) q v → On j (test (comes 0 k) (token k n) m) (spot s) q v
 ate a e d = passes (sym a.decided ∙ e) (by_bump (sym a.decided ∙ e) (a.token e) d)
 
 pub not_ate : {j : ℕ} {s t : State} {k : ℕ} {b : Bool} {n m : Script Rule} {q : Spot} {v : Outcome} → Ate s t k b →
-    b ≡ false → On j m (spot t) q v → On j (test (is_at k) (token k n) m) (spot s) q v
+    b ≡ false → On j m (spot t) q v → On j (test (comes 0 k) (token k n) m) (spot s) q v
 not_ate a e d = fails (sym a.decided ∙ e) (from_there (ap spot (sym (a.not_token e))) d)
 
 pub clash : {b : Bool} → b ≡ true → b ≡ false → ⊥
@@ -236,11 +237,11 @@ answers_yes {b = true} e h = h
 answers_yes {b = false} e h = absurd cc
 
 pub taken_expected : {j : ℕ} {s t : State} {k : ℕ} {b : Bool} {n m : Script Rule} {q : Spot} {v : Outcome} →
-    Expected s t k b → b ≡ true → On j n (spot t) q v → On j (test (is_at k) (token k n) m) (spot s) q v
+    Expected s t k b → b ≡ true → On j n (spot t) q v → On j (test (comes 0 k) (token k n) m) (spot s) q v
 taken_expected a e d = passes (sym a.decided ∙ e) (by_bump (sym a.decided ∙ e) (a.token e) d)
 
 pub lacking_expected : {j : ℕ} {s t : State} {k : ℕ} {b : Bool} {n m : Script Rule} {q : Spot} {v : Outcome} →
-    Expected s t k b → b ≡ false → On j m (spot t) q v → On j (test (is_at k) n (report (expected k) m)) (spot s) q v
+    Expected s t k b → b ≡ false → On j m (spot t) q v → On j (test (comes 0 k) n (report (expected k) m)) (spot s) q v
 lacking_expected a e d = fails (sym a.decided ∙ e) (by_report (a.not_token e) d)
 
 -- an expression, whether it reads like a block or not
@@ -261,21 +262,21 @@ first_of {a = false} e h = absurd (clash h e)
 
 -- where a path begins with no `<` and no `::` was taken, a name comes next
 pub name_left : {s t : State} {b : Bool} → Ate s t COLON2 b → b ≡ false → (next s == L_ANGLE) ≡ false →
-    is_path_start s.rest ≡ true → is_path_name (next t) ≡ true
+    holds is_path_start s.rest ≡ true → is_path_name (next t) ≡ true
 name_left {s = s} {t = t} a e l h =
     let n : is_at COLON2 s.rest ≡ false = sym a.decided ∙ e in
     let p : is_path_name (next s) ≡ true = first_of n (first_of l h) in
     subst (λ (x : State). is_path_name (next x) ≡ true) (sym (a.not_token e)) p
 
 -- a test whose answer is a rule's outcome
-pub decided : {j : ℕ} {h : List Record → Bool} {a b : Script Rule} {p q : Spot} {v : Outcome} (t : Bool) → t ≡ h p.rest →
+pub decided : {j : ℕ} {h : Test} {a b : Script Rule} {p q : Spot} {v : Outcome} (t : Bool) → t ≡ holds h p.rest →
     (t ≡ true → On j a p q v) → (t ≡ false → On j b p q v) → On j (test h a b) p q v
 decided true e y n = passes (sym e) (y refl)
 decided false e y n = fails (sym e) (n refl)
 
 -- a token of a kind, and on by one way, or by the other without it
 pub by_eat_or : {j : ℕ} {s t : State} {k : ℕ} {b : Bool} {n m : Script Rule} {q : Spot} {v : Outcome} → Ate s t k b →
-    (b ≡ true → On j n (spot t) q v) → (b ≡ false → On j m (spot t) q v) → On j (test (is_at k) (token k n) m) (spot s) q v
+    (b ≡ true → On j n (spot t) q v) → (b ≡ false → On j m (spot t) q v) → On j (test (comes 0 k) (token k n) m) (spot s) q v
 by_eat_or {b = true} a d e = ate a refl (d refl)
 by_eat_or {b = false} a d e = not_ate a refl (e refl)
 

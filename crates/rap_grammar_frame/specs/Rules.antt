@@ -15,6 +15,7 @@ use Rattle.rap_grammar_scripts.specs.declared.rule.Rule.TheVariants as knot
 use Rattle.rap_grammar_scripts.specs.Recovery.{stops_expr, stops_pattern, stops_arm, stops_of, stops_type}
 use Rattle.rap_grammar_frame.specs.Room.{expression_room, atom_room, statement_room, marked_room, element_room, list_room, type_room, pattern_room, single_pattern_room, atom_pattern_room, recovery_events, dropped_events}
 use Rattle.rap_grammar_scripts.specs.Script.{Outcome, something}
+use Rattle.rap_grammar_scripts.specs.Test.{holds}
 use Rattle.rap_grammar_scripts.specs.UseItem.{is_use_tree_start}
 use Rattle.rap_grammar_scripts.specs.declared.arguments.BlockLike.{BlockLike}
 
@@ -95,7 +96,7 @@ abbrev pub Pre : Rule → State → Type 0
 -- Pre: written by crates/rap_grammar_scripts/rules up to "end"
 Pre (knot.ExprBp r bp) s = 1 ≤ bp
 Pre (knot.TypeWithBoundsCond allow_bounds) s = Unit {0}
-Pre knot.PathTypeBounds s = is_use_path_start s.rest ≡ true
+Pre knot.PathTypeBounds s = holds is_use_path_start s.rest ≡ true
 Pre knot.GenericArg s = is_generic_arg_first (next s) ≡ true
 Pre knot.GenericParamList s = next s ≡ L_ANGLE
 Pre knot.BoundsWithoutColon s = Unit {0}
@@ -106,7 +107,7 @@ Pre knot.ArmPattern s = Unit {0}
 Pre (knot.Stmt semicolon) s = Unit {0}
 Pre knot.IfExpr s = next s ≡ IF_KW
 Pre (knot.ItemOrMacro stop_on_r_curly is_in_extern) s = Unit {0}
-Pre knot.UseTree s = is_use_tree_start s.rest ≡ true
+Pre knot.UseTree s = holds is_use_tree_start s.rest ≡ true
 Pre knot.Meta s = Unit {0}
 Pre knot.CfgPredicate s = Unit {0}
 Pre knot.TokenTree s = is_bracket (next s) ≡ true

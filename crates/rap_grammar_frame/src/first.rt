@@ -3,6 +3,7 @@ ghost use Rattle.std.specs.Prelude.{◌≡◌, ◌≢◌, ◌∷◌, ◌<◌, �
 ghost use Rattle.rap_base.specs.TokenKind.{EOF};
 ghost use Rattle.rap_events.specs.State.{state, next};
 ghost use Rattle.rap_grammar_scripts.specs.First.{is_outer_attr_first, is_expr_first, is_const_arg_first, is_type_first, is_generic_arg_first, is_path_name, is_path_first, is_path_start, is_use_path_start, is_pattern_first, is_pat_top_first, is_fn_ptr_first, is_literal_first, is_atom_expr_first};
+ghost use Rattle.rap_grammar_scripts.specs.Test.{holds};
 
 use crate::names::is_path_name;
 use rap_base::T;
@@ -51,14 +52,14 @@ pub fn is_path_first(kind: SyntaxKind) -> bool
 
 /// Whether a path comes next.
 pub fn is_path_start(p: &Parser<'_>) -> bool
-    ensures { result ≡ is_path_start (state p.now).rest }
+    ensures { result ≡ holds is_path_start (state p.now).rest }
 {
     is_path_name(p.current()) || p.at(T![::]) || p.at(T![<])
 }
 
 /// Whether a path comes next that begins with a name or `::`, and with no `Self`.
 pub fn is_use_path_start(p: &Parser<'_>) -> bool
-    ensures { result ≡ is_use_path_start (state p.now).rest }
+    ensures { result ≡ holds is_use_path_start (state p.now).rest }
 {
     matches!(p.current(), T![ident] | T![self] | T![super] | T![crate]) || p.at(T![::])
 }

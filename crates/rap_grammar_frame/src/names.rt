@@ -12,6 +12,7 @@ ghost use Rattle.rap_grammar_scripts.specs.Exec.{Does};
 ghost use Rattle.rap_grammar_scripts.specs.Names.{given_name};
 ghost use Rattle.rap_grammar_frame.specs.Room.{name_room, recovery_events};
 ghost use Rattle.rap_grammar_scripts.specs.Script.{something};
+ghost use Rattle.rap_grammar_scripts.specs.Test.{holds};
 ghost use Rattle.rap_grammar_scripts.specs.Words.{starts_builtin};
 
 use rap_base::T;
@@ -22,7 +23,7 @@ use rap_events::parser::Parser;
 
 /// Whether `builtin#` comes next.
 pub fn starts_builtin(p: &Parser<'_>) -> bool
-    ensures here { result ≡ starts_builtin (state p.now).rest }
+    ensures here { result ≡ holds starts_builtin (state p.now).rest }
     ensures bears { IsTrue result → ReadsAs (state p.now) BUILTIN_KW }
     ensures pound { IsTrue result → NthAt (state p.now) 1 POUND }
 {

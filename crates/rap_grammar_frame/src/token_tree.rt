@@ -14,6 +14,7 @@ ghost use Rattle.rap_grammar_scripts.specs.TokenTree as script;
 ghost use Rattle.rap_grammar_scripts.specs.Exec.{Does};
 ghost use Rattle.rap_grammar_frame.specs.Room.{list_room};
 ghost use Rattle.rap_grammar_scripts.specs.Script.{something};
+ghost use Rattle.rap_grammar_scripts.specs.Test.{holds};
 
 use rap_base::T;
 use rap_base::no_memory::NoMemory;
@@ -84,7 +85,7 @@ pub fn token_tree(p: &mut Parser<'_>) -> Result<(), NoMemory>
 
 /// Whether the `!` of a macro call comes next, and no `!=`.
 pub fn starts_macro_call(p: &Parser<'_>) -> bool
-    ensures starts { result ≡ script.starts_macro_call (state p.now).rest }
+    ensures starts { result ≡ holds script.starts_macro_call (state p.now).rest }
     ensures here { result ≡ true → next (state p.now) ≡ BANG }
 {
     p.at(T![!]) && !p.at(T![!=])

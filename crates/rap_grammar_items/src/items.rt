@@ -11,6 +11,7 @@ ghost use Rattle.rap_grammar_scripts.specs.Exec.{Does};
 ghost use Rattle.rap_grammar_frame.specs.Room.{item_room, list_room};
 ghost use Rattle.rap_grammar_frame.specs.Rules.{IsItem};
 ghost use Rattle.rap_grammar_scripts.specs.Script.{something};
+ghost use Rattle.rap_grammar_scripts.specs.Test.{holds};
 ghost use Rattle.rap_grammar_scripts.specs.Words.{next_is};
 
 use rap_base::T;
@@ -175,7 +176,7 @@ fn opt_extern_crate(p: &mut Parser<'_>, m: Marker) -> Result<Result<(), Marker>,
 
 /// Whether what may stand after the keyword of a constant or a static does so.
 fn is_named(p: &Parser<'_>) -> bool
-    ensures { result ≡ script.is_named (state p.now).rest }
+    ensures { result ≡ holds script.is_named (state p.now).rest }
 {
     matches!(p.nth(1), T![ident] | T![_] | T![mut])
 }
@@ -245,7 +246,7 @@ fn opt_static<G: Grammar>(
 
 /// Whether a `union` comes next that is read as the keyword.
 fn starts_union(p: &Parser<'_>) -> bool
-    ensures here { result ≡ script.starts_union (state p.now).rest }
+    ensures here { result ≡ holds script.starts_union (state p.now).rest }
     ensures bears { result ≡ true → ReadsAs (state p.now) UNION_KW }
 {
     p.at_contextual_kw(T![union]) && p.nth(1) == T![ident]
@@ -253,7 +254,7 @@ fn starts_union(p: &Parser<'_>) -> bool
 
 /// Whether a `macro_rules` comes next that is read as the keyword.
 fn starts_macro_rules(p: &Parser<'_>) -> bool
-    ensures here { result ≡ script.starts_macro_rules (state p.now).rest }
+    ensures here { result ≡ holds script.starts_macro_rules (state p.now).rest }
     ensures bears { result ≡ true → ReadsAs (state p.now) MACRO_RULES_KW }
 {
     p.at_contextual_kw(T![macro_rules]) && p.nth_at(1, T![!]) && p.nth_at(2, T![ident])
@@ -261,7 +262,7 @@ fn starts_macro_rules(p: &Parser<'_>) -> bool
 
 /// Whether `builtin#global_asm` comes next.
 fn starts_global_asm(p: &Parser<'_>) -> bool
-    ensures here { result ≡ script.starts_global_asm (state p.now).rest }
+    ensures here { result ≡ holds script.starts_global_asm (state p.now).rest }
     ensures bears { result ≡ true → ReadsAs (state p.now) BUILTIN_KW }
     ensures pound { result ≡ true → NthAt (state p.now) 1 POUND }
     ensures more { result ≡ true → contextual_at (state p.now).rest 2 ≡ GLOBAL_ASM_KW }
@@ -466,7 +467,7 @@ fn macro_or_error<G: Grammar>(
 fn path_item<G: Grammar>(p: &mut Parser<'_>, g: &G, m: Marker) -> Result<(), NoMemory>
     requires within { Within G.valid G.left g.now (state p.old) }
     requires newest { (state p.old).marker ≡ Some m.pos.value }
-    requires path { is_use_path_start (state p.old).rest ≡ true }
+    requires path { holds is_use_path_start (state p.old).rest ≡ true }
     ensures ended { OnOk result (Ended (state p.old) (state p.new) item_room) }
     ensures script { OnOk result (Does (G.left g.now) script.path_item something (state p.old) (state p.new)) }
 {
@@ -514,7 +515,7 @@ fn missing_item<G: Grammar>(
 
 /// Whether a brace comes next that closes nothing.
 fn is_unmatched(p: &Parser<'_>, stop_on_r_curly: bool) -> bool
-    ensures here { result ≡ next_is R_CURLY (state p.now).rest && not stop_on_r_curly }
+    ensures here { result ≡ holds (next_is R_CURLY) (state p.now).rest && not stop_on_r_curly }
     ensures more { result ≡ true → next (state p.now) ≡ R_CURLY }
     ensures kept { result ≡ false → next (state p.now) ≡ R_CURLY → stop_on_r_curly ≡ true }
 {

@@ -10,6 +10,7 @@ ghost use Rattle.rap_grammar_frame.specs.Grew.{Within, Behind, Took, Grew, Ended
 ghost use Rattle.rap_grammar_scripts.specs.Exec.{Does};
 ghost use Rattle.rap_grammar_frame.specs.Room.{brackets_room, item_room, list_room, name_room, element_room, param_room, type_room, recovery_events};
 ghost use Rattle.rap_grammar_scripts.specs.Script.{something};
+ghost use Rattle.rap_grammar_scripts.specs.Test.{holds};
 ghost use Rattle.rap_grammar_scripts.specs.Words.{of_bool};
 
 use rap_base::T;
@@ -470,7 +471,7 @@ fn opt_unsafe<G: Grammar>(p: &mut Parser<'_>, g: &G) -> Result<(), NoMemory>
 
 /// Whether a `mut` restriction comes next.
 fn is_mut_restriction_start(p: &Parser<'_>) -> bool
-    ensures starts { result ≡ is_mut_restriction_start (state p.now).rest }
+    ensures starts { result ≡ holds is_mut_restriction_start (state p.now).rest }
     ensures here { result ≡ true → next (state p.now) ≡ MUT_KW }
 {
     p.at(T![mut]) && p.nth(1) == T!['(']
@@ -482,8 +483,9 @@ fn opt_mut_restriction<G: Grammar>(p: &mut Parser<'_>, g: &G) -> Result<(), NoMe
     requires within { Within G.valid G.left g.now (state p.old) }
     ensures grew { OnOk result (Grew (state p.old) (state p.new) 0) }
     ensures took { OnOk result
-        (is_mut_restriction_start (state p.old).rest ≡ true → Took (state p.old) (state p.new) brackets_room) }
-    ensures stays { OnOk result (is_mut_restriction_start (state p.old).rest ≡ false → state p.new ≡ state p.old) }
+        (holds is_mut_restriction_start (state p.old).rest ≡ true → Took (state p.old) (state p.new) brackets_room) }
+    ensures stays { OnOk result
+        (holds is_mut_restriction_start (state p.old).rest ≡ false → state p.new ≡ state p.old) }
     ensures script { OnOk result
         (Does (G.left g.now) script.opt_mut_restriction something (state p.old) (state p.new)) }
 {

@@ -8,6 +8,7 @@ ghost use Rattle.rap_grammar_frame.specs.Grew.{Within, Behind, Grew, Ended};
 ghost use Rattle.rap_grammar_scripts.specs.Exec.{Does};
 ghost use Rattle.rap_grammar_frame.specs.Room.{item_room, recovery_events};
 ghost use Rattle.rap_grammar_scripts.specs.Script.{something};
+ghost use Rattle.rap_grammar_scripts.specs.Test.{holds};
 
 use rap_base::T;
 use rap_base::no_memory::NoMemory;
@@ -22,7 +23,7 @@ use rap_grammar_frame::through_knot::{ascription, expr, opt_generic_param_list, 
 pub fn konst<G: Grammar>(p: &mut Parser<'_>, g: &G, m: Marker) -> Result<(), NoMemory>
     requires within { Within G.valid G.left g.now (state p.old) }
     requires newest { (state p.old).marker ≡ Some m.pos.value }
-    requires here { starts_const (state p.old).rest ≡ true }
+    requires here { holds starts_const (state p.old).rest ≡ true }
     ensures ended { OnOk result (Ended (state p.old) (state p.new) item_room) }
     ensures script { OnOk result (Does (G.left g.now) script.konst something (state p.old) (state p.new)) }
 {

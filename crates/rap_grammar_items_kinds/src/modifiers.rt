@@ -1,8 +1,7 @@
 //! What may stand before the keyword of an item.
 //! In the Rust crate: `grammar/items.rs`.
-ghost use Rattle.std.specs.Prelude.{ℕ, ◌≡◌, ◌≢◌, ◌<◌, ◌≤◌, IfOk, OnOk, IsTrue, true, false, ◌⊎◌, ◌||◌, List, Bool};
+ghost use Rattle.std.specs.Prelude.{ℕ, ◌≡◌, ◌≢◌, ◌<◌, ◌≤◌, IfOk, OnOk, IsTrue, true, false, ◌⊎◌, ◌||◌};
 ghost use Rattle.rap_base.specs.TokenKind.{EOF, IMPL_KW, CONST_KW, ASYNC_KW, GEN_KW, UNSAFE_KW, SAFE_KW, AUTO_KW, DEFAULT_KW};
-ghost use Rattle.rap_events.specs.Record.{Record};
 ghost use Rattle.rap_events.specs.State.{state, next, At, NthAt, ReadsAs};
 ghost use Rattle.rap_grammar_frame.specs.Grew.{Within, Took, Grew};
 ghost use Rattle.rap_grammar_scripts.specs.Exec.{Does};
@@ -10,6 +9,7 @@ ghost use Rattle.rap_grammar_scripts.specs.Modifiers as script;
 ghost use Rattle.rap_grammar_items_kinds.specs.ItemEnds.{Seen};
 ghost use Rattle.rap_grammar_frame.specs.Room.{list_room};
 ghost use Rattle.rap_grammar_scripts.specs.Script.{something, again};
+ghost use Rattle.rap_grammar_scripts.specs.Test.{Test, holds};
 ghost use Rattle.rap_grammar_scripts.specs.Words.{of_bool};
 
 use rap_base::T;
@@ -64,7 +64,7 @@ fn either(a: bool, b: bool) -> bool
 
 /// Whether an `impl` restriction of a trait comes next, and not the type of an implementation.
 fn is_impl_restriction(p: &Parser<'_>) -> bool
-    ensures here { result ≡ script.is_impl_restriction (state p.now).rest }
+    ensures here { result ≡ holds script.is_impl_restriction (state p.now).rest }
     ensures kind { result ≡ true → next (state p.now) ≡ IMPL_KW }
 {
     p.at(T![impl])
@@ -114,8 +114,8 @@ fn modifier(p: &mut Parser<'_>, found: bool, kind: SyntaxKind) -> Result<bool, N
     requires some { kind ≢ EOF }
     ensures seen { IfOk result (λ some. Seen (state p.old) (state p.new) some) }
     ensures script { IfOk result
-        (λ some. (depth : ℕ) → (h : List Record → Bool) → found ≡ h (state p.old).rest →
-        Does depth (script.modifier h kind) (of_bool some) (state p.old) (state p.new)) }
+        (λ some. (depth : ℕ) → (t : Test) → found ≡ holds t (state p.old).rest →
+        Does depth (script.modifier t kind) (of_bool some) (state p.old) (state p.new)) }
 {
     if !found {
         return Ok(false);
@@ -130,8 +130,8 @@ fn modifier_as(p: &mut Parser<'_>, found: bool, kind: SyntaxKind) -> Result<bool
     requires here { found ≡ true → ReadsAs (state p.old) kind }
     ensures seen { IfOk result (λ some. Seen (state p.old) (state p.new) some) }
     ensures script { IfOk result
-        (λ some. (depth : ℕ) → (h : List Record → Bool) → found ≡ h (state p.old).rest →
-        Does depth (script.modifier_as h kind) (of_bool some) (state p.old) (state p.new)) }
+        (λ some. (depth : ℕ) → (t : Test) → found ≡ holds t (state p.old).rest →
+        Does depth (script.modifier_as t kind) (of_bool some) (state p.old) (state p.new)) }
 {
     if !found {
         return Ok(false);
@@ -142,7 +142,7 @@ fn modifier_as(p: &mut Parser<'_>, found: bool, kind: SyntaxKind) -> Result<bool
 
 /// Whether a `const` comes next that begins no block.
 fn is_const_modifier(p: &Parser<'_>) -> bool
-    ensures here { result ≡ script.is_const_modifier (state p.now).rest }
+    ensures here { result ≡ holds script.is_const_modifier (state p.now).rest }
     ensures kind { result ≡ true → At (state p.now) CONST_KW }
 {
     p.at(T![const]) && p.nth(1) != T!['{']
@@ -150,7 +150,7 @@ fn is_const_modifier(p: &Parser<'_>) -> bool
 
 /// Whether an `async` comes next that begins no block and no closure.
 fn is_async_modifier(p: &Parser<'_>) -> bool
-    ensures here { result ≡ script.is_async_modifier (state p.now).rest }
+    ensures here { result ≡ holds script.is_async_modifier (state p.now).rest }
     ensures kind { result ≡ true → At (state p.now) ASYNC_KW }
 {
     p.at(T![async])
@@ -160,7 +160,7 @@ fn is_async_modifier(p: &Parser<'_>) -> bool
 
 /// Whether a `gen` comes next that a function follows.
 fn is_gen_modifier(p: &Parser<'_>) -> bool
-    ensures here { result ≡ script.is_gen_modifier (state p.now).rest }
+    ensures here { result ≡ holds script.is_gen_modifier (state p.now).rest }
     ensures kind { result ≡ true → At (state p.now) GEN_KW }
 {
     p.at(T![gen]) && p.nth(1) == T![fn]
@@ -168,7 +168,7 @@ fn is_gen_modifier(p: &Parser<'_>) -> bool
 
 /// Whether an `unsafe` comes next that begins no block.
 fn is_unsafe_modifier(p: &Parser<'_>) -> bool
-    ensures here { result ≡ script.is_unsafe_modifier (state p.now).rest }
+    ensures here { result ≡ holds script.is_unsafe_modifier (state p.now).rest }
     ensures kind { result ≡ true → At (state p.now) UNSAFE_KW }
 {
     p.at(T![unsafe]) && p.nth(1) != T!['{']
@@ -176,7 +176,7 @@ fn is_unsafe_modifier(p: &Parser<'_>) -> bool
 
 /// Whether a `safe` comes next where one may be.
 fn is_safe_modifier(p: &Parser<'_>, is_in_extern: bool) -> bool
-    ensures here { result ≡ script.is_safe_modifier is_in_extern (state p.now).rest }
+    ensures here { result ≡ holds (script.is_safe_modifier is_in_extern) (state p.now).rest }
     ensures bears { result ≡ true → ReadsAs (state p.now) SAFE_KW }
 {
     is_in_extern && p.at_contextual_kw(T![safe])
@@ -184,7 +184,7 @@ fn is_safe_modifier(p: &Parser<'_>, is_in_extern: bool) -> bool
 
 /// Whether an `auto` comes next that a trait follows.
 fn is_auto_modifier(p: &Parser<'_>) -> bool
-    ensures here { result ≡ script.is_auto_modifier (state p.now).rest }
+    ensures here { result ≡ holds script.is_auto_modifier (state p.now).rest }
     ensures bears { result ≡ true → ReadsAs (state p.now) AUTO_KW }
 {
     p.at_contextual_kw(T![auto]) && p.nth(1) == T![trait]
@@ -249,7 +249,7 @@ fn auto_or_default(p: &mut Parser<'_>) -> Result<bool, NoMemory>
 
 /// Whether a `default` comes next that an item's keyword follows.
 fn is_default(p: &Parser<'_>) -> bool
-    ensures here { result ≡ script.is_default (state p.now).rest }
+    ensures here { result ≡ holds script.is_default (state p.now).rest }
     ensures bears { result ≡ true → ReadsAs (state p.now) DEFAULT_KW }
 {
     p.at_contextual_kw(T![default]) && matches!(p.nth(1), T![fn] | T![type] | T![const] | T![impl])
@@ -257,7 +257,7 @@ fn is_default(p: &Parser<'_>) -> bool
 
 /// The same with an `unsafe` between.
 fn is_default_unsafe(p: &Parser<'_>) -> bool
-    ensures here { result ≡ script.is_default_unsafe (state p.now).rest }
+    ensures here { result ≡ holds script.is_default_unsafe (state p.now).rest }
     ensures bears { result ≡ true → ReadsAs (state p.now) DEFAULT_KW }
     ensures more { result ≡ true → NthAt (state p.now) 1 UNSAFE_KW }
 {
@@ -268,7 +268,7 @@ fn is_default_unsafe(p: &Parser<'_>) -> bool
 
 /// The same with an `async` between, and perhaps an `unsafe`.
 fn is_default_async(p: &Parser<'_>) -> bool
-    ensures here { result ≡ script.is_default_async (state p.now).rest }
+    ensures here { result ≡ holds script.is_default_async (state p.now).rest }
     ensures bears { result ≡ true → ReadsAs (state p.now) DEFAULT_KW }
     ensures more { result ≡ true → NthAt (state p.now) 1 ASYNC_KW }
 {

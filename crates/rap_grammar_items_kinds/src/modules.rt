@@ -10,6 +10,7 @@ ghost use Rattle.rap_grammar_scripts.specs.Modules as script;
 ghost use Rattle.rap_grammar_scripts.specs.Exec.{Does};
 ghost use Rattle.rap_grammar_frame.specs.Room.{item_room, list_room};
 ghost use Rattle.rap_grammar_scripts.specs.Script.{something};
+ghost use Rattle.rap_grammar_scripts.specs.Test.{holds};
 
 use crate::consts::konst;
 use rap_base::T;
@@ -59,7 +60,7 @@ pub fn mod_contents<G: Grammar>(
 
 /// Whether a brace comes next that ends a list of items.
 fn ends_items(p: &Parser<'_>, stop_on_r_curly: bool) -> bool
-    ensures here { result ≡ script.ends_items stop_on_r_curly (state p.now).rest }
+    ensures here { result ≡ holds (script.ends_items stop_on_r_curly) (state p.now).rest }
     ensures more { result ≡ false → stop_on_r_curly ≡ true → next (state p.now) ≢ R_CURLY }
 {
     p.at(T!['}']) && stop_on_r_curly

@@ -8,6 +8,7 @@ ghost use Rattle.rap_grammar_frame.specs.Grew.{Within, Behind, Took, Grew, Ended
 ghost use Rattle.rap_grammar_scripts.specs.Exec.{Does};
 ghost use Rattle.rap_grammar_frame.specs.Room.{item_room, list_room, statement_room};
 ghost use Rattle.rap_grammar_scripts.specs.Script.{something};
+ghost use Rattle.rap_grammar_scripts.specs.Test.{holds};
 ghost use Rattle.rap_grammar_scripts.specs.Traits as script;
 
 use rap_base::T;
@@ -118,7 +119,7 @@ fn impl_params<G: Grammar>(p: &mut Parser<'_>, g: &G) -> Result<(), NoMemory>
 
 /// Whether an implementation has parameters.
 fn is_impl_params_start(p: &Parser<'_>) -> bool
-    ensures { result ≡ script.is_impl_params_start (state p.now).rest }
+    ensures { result ≡ holds script.is_impl_params_start (state p.now).rest }
 {
     p.at(T![<]) && not_a_qualified_path(p)
 }
@@ -126,7 +127,7 @@ fn is_impl_params_start(p: &Parser<'_>) -> bool
 /// Whether the `<` that comes next begins parameters, and no type as in `impl <a>::b {}`. What may be both is
 /// parameters.
 fn not_a_qualified_path(p: &Parser<'_>) -> bool
-    ensures { result ≡ script.not_a_qualified_path (state p.now).rest }
+    ensures { result ≡ holds script.not_a_qualified_path (state p.now).rest }
 {
     matches!(p.nth(1), T![#] | T![>] | T![const])
         || (matches!(p.nth(1), T![lifetime_ident] | T![ident])
@@ -147,7 +148,7 @@ fn opt_negative(p: &mut Parser<'_>) -> Result<(), NoMemory>
 
 /// Whether a `!` comes next that is no type: the braces do not follow.
 fn is_negative_start(p: &Parser<'_>) -> bool
-    ensures starts { result ≡ script.is_negative_start (state p.now).rest }
+    ensures starts { result ≡ holds script.is_negative_start (state p.now).rest }
     ensures here { result ≡ true → next (state p.now) ≡ BANG }
 {
     p.at(T![!]) && !p.nth_at(1, T!['{'])

@@ -10,6 +10,7 @@ ghost use Rattle.rap_grammar_frame.specs.Grew.{Within, Took, Grew, Ended};
 ghost use Rattle.rap_grammar_scripts.specs.Exec.{Does};
 ghost use Rattle.rap_grammar_frame.specs.Room.{item_room, list_room, recovery_events, use_list_room};
 ghost use Rattle.rap_grammar_scripts.specs.Script.{something};
+ghost use Rattle.rap_grammar_scripts.specs.Test.{holds};
 ghost use Rattle.rap_grammar_scripts.specs.UseItem as script;
 ghost use Rattle.rap_grammar_scripts.specs.UseItem.{is_group_first, is_global_group_start, is_use_tree_start};
 
@@ -64,7 +65,7 @@ fn expect_use_tree<G: Grammar>(p: &mut Parser<'_>, g: &G) -> Result<(), NoMemory
 
 /// Whether a tree of names comes next.
 fn is_use_tree_start(p: &Parser<'_>) -> bool
-    ensures { result ≡ is_use_tree_start (state p.now).rest }
+    ensures { result ≡ holds is_use_tree_start (state p.now).rest }
 {
     is_group_first(p.current()) || is_use_path_start(p)
 }
@@ -78,7 +79,7 @@ fn is_group_first(kind: SyntaxKind) -> bool
 
 /// Whether a star, or a list in its braces, comes next after `::`.
 fn is_global_group_start(p: &Parser<'_>) -> bool
-    ensures starts { result ≡ is_global_group_start (state p.now).rest }
+    ensures starts { result ≡ holds is_global_group_start (state p.now).rest }
     ensures here { result ≡ true → is_at COLON2 (state p.now).rest ≡ true }
 {
     p.at(T![::]) && is_group_first(p.nth(2))
@@ -88,7 +89,7 @@ fn is_global_group_start(p: &Parser<'_>) -> bool
 #[tactic(auto, unfolding(rap_grammar_scripts::specs::UseItem::use_tree))]
 pub fn use_tree<G: Grammar>(p: &mut Parser<'_>, g: &G) -> Result<(), NoMemory>
     requires within { Within G.valid G.left g.now (state p.old) }
-    requires here { is_use_tree_start (state p.old).rest ≡ true }
+    requires here { holds is_use_tree_start (state p.old).rest ≡ true }
     ensures took { OnOk result (Took (state p.old) (state p.new) list_room) }
     ensures script { OnOk result (Does (G.left g.now) script.use_tree something (state p.old) (state p.new)) }
 {

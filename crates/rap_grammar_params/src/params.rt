@@ -1,5 +1,6 @@
 //! Parameters of functions and closures.
-ghost use Rattle.std.specs.Prelude.{ℕ, ◌≡◌, ◌≢◌, ◌<◌, ◌≤◌, ◌+◌, OnOk, IfOk, true, false, Some};
+ghost use Rattle.std.specs.Prelude.{ℕ, ◌≡◌, ◌≢◌, ◌<◌, ◌≤◌, ◌+◌, OnOk, IfOk, true, false, Some, drop, if◌then◌else◌};
+ghost use Rattle.rap_events.specs.Composite.{is_at};
 ghost use Rattle.rap_base.specs.TokenKind.{L_PAREN, PIPE, EOF, SELF_KW};
 ghost use Rattle.rap_events.specs.State.{state, next, At};
 ghost use Rattle.rap_grammar_scripts.specs.First.{is_param_first};
@@ -8,6 +9,7 @@ ghost use Rattle.rap_grammar_scripts.specs.Exec.{Does};
 ghost use Rattle.rap_grammar_scripts.specs.Params as script;
 ghost use Rattle.rap_grammar_frame.specs.Room.{list_room, element_room, param_room, bare_param_room, name_room};
 ghost use Rattle.rap_grammar_scripts.specs.Script.{something};
+ghost use Rattle.rap_grammar_scripts.specs.Test.{holds};
 ghost use Rattle.rap_grammar_scripts.specs.Words.{of_bool};
 
 use rap_base::T;
@@ -278,7 +280,7 @@ fn fn_ptr_param<G: Grammar>(p: &mut Parser<'_>, g: &G) -> Result<(), NoMemory>
 
 /// Whether a name and a colon come next, and no path.
 fn is_named_param(p: &Parser<'_>) -> bool
-    ensures { result ≡ script.is_named_param (state p.now).rest }
+    ensures { result ≡ holds script.is_named_param (state p.now).rest }
 {
     (p.at(T![ident]) || p.at(T![_])) && p.nth(1) == T![:] && !p.nth_at(1, T![::])
 }
@@ -354,21 +356,21 @@ fn opt_self_param<G: Grammar>(p: &mut Parser<'_>, g: &G) -> Result<bool, NoMemor
 /// Whether after `n` tokens comes a `self` with which no path begins.
 fn is_isolated_self(p: &Parser<'_>, n: usize) -> bool
     requires { n < 4 }
-    ensures { result ≡ script.is_isolated_self n (state p.now).rest }
+    ensures { result ≡ holds (script.is_isolated_self n) (state p.now).rest }
 {
     p.nth_at(n, T![self]) && !p.nth_at(n + 1, T![::])
 }
 
 /// Whether `self` or `mut self` comes next.
 fn is_self_value(p: &Parser<'_>) -> bool
-    ensures { result ≡ script.is_self_value (state p.now).rest }
+    ensures { result ≡ holds script.is_self_value (state p.now).rest }
 {
     is_isolated_self(p, past(p, T![mut], 0))
 }
 
 /// Whether `&self` comes next, with a lifetime and a `mut` or without them.
 fn is_self_ref(p: &Parser<'_>) -> bool
-    ensures { result ≡ script.is_self_ref (state p.now).rest }
+    ensures { result ≡ holds script.is_self_ref (state p.now).rest }
 {
     p.at(T![&]) && is_isolated_self(p, past(p, T![mut], past(p, T![lifetime_ident], 1)))
 }
@@ -377,7 +379,7 @@ fn is_self_ref(p: &Parser<'_>) -> bool
 fn past(p: &Parser<'_>, kind: SyntaxKind, n: usize) -> usize
     requires { n < 4 }
     ensures few { result ≤ n + 1 }
-    ensures past { result ≡ script.past kind n (state p.now).rest }
+    ensures past { result ≡ if is_at kind (drop n (state p.now).rest) then n + 1 else n }
 {
     if p.nth_at(n, kind) { n + 1 } else { n }
 }
@@ -386,7 +388,7 @@ fn past(p: &Parser<'_>, kind: SyntaxKind, n: usize) -> usize
 #[tactic(auto, unfolding(rap_grammar_scripts::specs::Params::self_value))]
 fn self_value<G: Grammar>(p: &mut Parser<'_>, g: &G) -> Result<(), NoMemory>
     requires within { Within G.valid G.left g.now (state p.old) }
-    requires here { script.is_self_value (state p.old).rest ≡ true }
+    requires here { holds script.is_self_value (state p.old).rest ≡ true }
     ensures took { OnOk result (Took (state p.old) (state p.new) param_room) }
     ensures script { OnOk result (Does (G.left g.now) script.self_value something (state p.old) (state p.new)) }
 {
@@ -401,7 +403,7 @@ fn self_value<G: Grammar>(p: &mut Parser<'_>, g: &G) -> Result<(), NoMemory>
 /// `&self`, with a lifetime and a `mut` or without them.
 #[tactic(auto, unfolding(rap_grammar_scripts::specs::Params::self_ref, rap_grammar_scripts::specs::Params::self_mut))]
 fn self_ref(p: &mut Parser<'_>) -> Result<(), NoMemory>
-    requires here { script.is_self_ref (state p.old).rest ≡ true }
+    requires here { holds script.is_self_ref (state p.old).rest ≡ true }
     ensures took { OnOk result (Took (state p.old) (state p.new) param_room) }
     ensures script { OnOk result ((depth : ℕ) → Does depth script.self_ref something (state p.old) (state p.new)) }
 {

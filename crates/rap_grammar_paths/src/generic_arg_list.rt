@@ -9,6 +9,7 @@ ghost use Rattle.rap_grammar_scripts.specs.Exec.{Does};
 ghost use Rattle.rap_grammar_scripts.specs.GenericArgList as script;
 ghost use Rattle.rap_grammar_frame.specs.Room.{element_room};
 ghost use Rattle.rap_grammar_scripts.specs.Script.{something};
+ghost use Rattle.rap_grammar_scripts.specs.Test.{holds};
 
 use rap_base::T;
 use rap_base::no_memory::NoMemory;
@@ -75,7 +76,7 @@ pub(crate) fn generic_arg_list<G: Grammar>(
 /// Whether the arguments after a name in an expression come next.
 #[inline(always)]
 fn starts_expr_args(p: &Parser<'_>) -> bool
-    ensures { result ≡ starts_expr_args (state p.now).rest }
+    ensures { result ≡ holds starts_expr_args (state p.now).rest }
 {
     p.at(T![::]) && p.nth_at(2, T![<])
 }

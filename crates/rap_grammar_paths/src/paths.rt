@@ -13,6 +13,7 @@ ghost use Rattle.rap_grammar_scripts.specs.Paths as script;
 ghost use Rattle.rap_grammar_scripts.specs.Recovery.{is_segment_recovery};
 ghost use Rattle.rap_grammar_frame.specs.Room.{path_room, segment_room, name_room, name_end_room, element_room, atom_room, dropped_events};
 ghost use Rattle.rap_grammar_scripts.specs.Script.{something};
+ghost use Rattle.rap_grammar_scripts.specs.Test.{holds};
 ghost use Rattle.rap_grammar_scripts.specs.Words.{of_option};
 
 use crate::generic_arg_list::{generic_arg_list, opt_generic_arg_list_expr};
@@ -36,7 +37,8 @@ use rap_grammar_scripts::rule::Rule;
 pub fn use_path<G: Grammar>(p: &mut Parser<'_>, g: &G) -> Result<(), NoMemory>
     requires within { Within G.valid G.left g.now (state p.old) }
     ensures grew { OnOk result (Grew (state p.old) (state p.new) 8) }
-    ensures took { OnOk result (is_path_start (state p.old).rest ≡ true → Took (state p.old) (state p.new) path_room) }
+    ensures took { OnOk result
+        (holds is_path_start (state p.old).rest ≡ true → Took (state p.old) (state p.new) path_room) }
     ensures script { OnOk result (Does (G.left g.now) script.use_path something (state p.old) (state p.new)) }
 {
     path(p, g, Mode::Use)?;
@@ -61,7 +63,8 @@ pub fn vis_path<G: Grammar>(p: &mut Parser<'_>, g: &G) -> Result<(), NoMemory>
 pub fn attr_path<G: Grammar>(p: &mut Parser<'_>, g: &G) -> Result<(), NoMemory>
     requires within { Within G.valid G.left g.now (state p.old) }
     ensures grew { OnOk result (Grew (state p.old) (state p.new) 8) }
-    ensures took { OnOk result (is_path_start (state p.old).rest ≡ true → Took (state p.old) (state p.new) path_room) }
+    ensures took { OnOk result
+        (holds is_path_start (state p.old).rest ≡ true → Took (state p.old) (state p.new) path_room) }
     ensures script { OnOk result (Does (G.left g.now) script.attr_path something (state p.old) (state p.new)) }
 {
     path(p, g, Mode::Attr)?;
@@ -73,7 +76,7 @@ pub fn attr_path<G: Grammar>(p: &mut Parser<'_>, g: &G) -> Result<(), NoMemory>
 #[tactic(auto, unfolding(rap_grammar_scripts::specs::Paths::type_path))]
 pub fn type_path<G: Grammar>(p: &mut Parser<'_>, g: &G) -> Result<(), NoMemory>
     requires within { Within G.valid G.left g.now (state p.old) }
-    requires path { is_path_start (state p.old).rest ≡ true }
+    requires path { holds is_path_start (state p.old).rest ≡ true }
     ensures took { OnOk result (Took (state p.old) (state p.new) path_room) }
     ensures script { OnOk result (Does (G.left g.now) script.type_path something (state p.old) (state p.new)) }
 {
@@ -98,7 +101,7 @@ pub fn sym_path<G: Grammar>(p: &mut Parser<'_>, g: &G) -> Result<(), NoMemory>
 #[tactic(auto, unfolding(rap_grammar_scripts::specs::Paths::expr_path))]
 pub fn expr_path<G: Grammar>(p: &mut Parser<'_>, g: &G) -> Result<(), NoMemory>
     requires within { Within G.valid G.left g.now (state p.old) }
-    requires path { is_path_start (state p.old).rest ≡ true }
+    requires path { holds is_path_start (state p.old).rest ≡ true }
     ensures took { OnOk result (Took (state p.old) (state p.new) path_room) }
     ensures script { OnOk result (Does (G.left g.now) script.expr_path something (state p.old) (state p.new)) }
 {
@@ -136,7 +139,8 @@ fn path<G: Grammar>(
 ) -> Result<Option<CompletedMarker>, NoMemory>
     requires within { Within G.valid G.left g.now (state p.old) }
     ensures grew { OnOk result (Grew (state p.old) (state p.new) 8) }
-    ensures took { OnOk result (is_path_start (state p.old).rest ≡ true → Took (state p.old) (state p.new) path_room) }
+    ensures took { OnOk result
+        (holds is_path_start (state p.old).rest ≡ true → Took (state p.old) (state p.new) path_room) }
     ensures some { IfOk result
         (λ o. IfSome o (λ cm. IsLast (state p.new) cm PATH × (but_last (state p.new).forest ≡ (state p.old).forest))) }
     ensures script { IfOk result
@@ -155,7 +159,7 @@ fn path<G: Grammar>(
 /// Whether another segment comes next: of what is imported, no list and no star, as in `a::{b, c}` and `a::*`.
 #[inline(always)]
 fn has_segment(p: &Parser<'_>, mode: Mode) -> bool
-    ensures segment { result ≡ script.has_segment mode (state p.now).rest }
+    ensures segment { result ≡ holds (script.has_segment mode) (state p.now).rest }
     ensures here { result ≡ true → is_at COLON2 (state p.now).rest ≡ true }
 {
     match mode {
@@ -206,7 +210,7 @@ fn path_segment<G: Grammar>(
         (λ o. IfSome o
         (λ cm. IsLast (state p.new) cm PATH_SEGMENT × (but_last (state p.new).forest ≡ (state p.old).forest))) }
     ensures took { OnOk result
-        (first ≡ true → is_path_start (state p.old).rest ≡ true → Took (state p.old) (state p.new) segment_room) }
+        (first ≡ true → holds is_path_start (state p.old).rest ≡ true → Took (state p.old) (state p.new) segment_room) }
     ensures script { IfOk result
         (λ o. Does (G.left g.now) (script.path_segment mode first) (of_option o) (state p.old) (state p.new)) }
 {
@@ -362,14 +366,14 @@ fn opt_path_args<G: Grammar>(p: &mut Parser<'_>, g: &G, mode: Mode) -> Result<()
 
 /// Whether arguments in a type come next, with `::` before their bracket.
 fn has_args_behind(p: &Parser<'_>) -> bool
-    ensures { result ≡ script.has_args_behind (state p.now).rest }
+    ensures { result ≡ holds script.has_args_behind (state p.now).rest }
 {
     p.at(T![::]) && matches!(p.nth(2), T![<] | T!['('])
 }
 
 /// Whether arguments in a type come next, from their bracket on.
 fn has_args(p: &Parser<'_>) -> bool
-    ensures { result ≡ script.has_args (state p.now).rest }
+    ensures { result ≡ holds script.has_args (state p.now).rest }
 {
     (p.current() == T![<] && p.nth(1) != T![=]) || p.current() == T!['(']
 }

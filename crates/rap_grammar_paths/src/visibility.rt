@@ -8,6 +8,7 @@ ghost use Rattle.rap_grammar_frame.specs.Grew.{Within, Behind, Took, Grew};
 ghost use Rattle.rap_grammar_scripts.specs.Exec.{Does};
 ghost use Rattle.rap_grammar_frame.specs.Room.{list_room};
 ghost use Rattle.rap_grammar_scripts.specs.Script.{something};
+ghost use Rattle.rap_grammar_scripts.specs.Test.{holds};
 ghost use Rattle.rap_grammar_scripts.specs.Words.{of_bool};
 
 use crate::paths::vis_path;
@@ -45,7 +46,7 @@ pub fn opt_visibility<G: Grammar>(
 /// Whether a restriction to a module comes next. In a tuple's field, parentheses around a name or around nothing are
 /// its type.
 fn starts_restriction(p: &Parser<'_>, in_tuple_field: bool) -> bool
-    ensures here { result ≡ script.starts_restriction in_tuple_field (state p.now).rest }
+    ensures here { result ≡ holds (script.starts_restriction in_tuple_field) (state p.now).rest }
     ensures paren { result ≡ true → next (state p.now) ≡ L_PAREN }
 {
     p.at(T!['('])
@@ -59,7 +60,7 @@ fn starts_restriction(p: &Parser<'_>, in_tuple_field: bool) -> bool
 
 /// Whether a restriction with `in` comes next.
 fn starts_in_restriction(p: &Parser<'_>) -> bool
-    ensures here { result ≡ script.starts_in_restriction (state p.now).rest }
+    ensures here { result ≡ holds script.starts_in_restriction (state p.now).rest }
     ensures paren { result ≡ true → next (state p.now) ≡ L_PAREN }
     ensures more { result ≡ true → NthAt (state p.now) 1 IN_KW }
 {

@@ -13,6 +13,7 @@ ghost use Rattle.rap_grammar_scripts.specs.Recovery.{is_pattern_recovery, stops_
 ghost use Rattle.rap_grammar_frame.specs.Room.{element_room, pattern_room, single_pattern_room, atom_pattern_room, list_room, name_room, recovery_events};
 ghost use Rattle.rap_grammar_frame.specs.Rules.{IsAtomPattern, PatternUntil};
 ghost use Rattle.rap_grammar_scripts.specs.Script.{something, nothing, again};
+ghost use Rattle.rap_grammar_scripts.specs.Test.{holds};
 ghost use Rattle.rap_grammar_scripts.specs.Words.{of_option, of_bool};
 
 use rap_base::T;
@@ -284,7 +285,7 @@ fn atom_pat<G: Grammar>(
 
 /// Whether an identifier comes next that begins no path of several names, no path with fields, and no macro call.
 fn is_ident_pat_start(p: &Parser<'_>) -> bool
-    ensures { result ≡ is_ident_pat_start (state p.now).rest }
+    ensures { result ≡ holds is_ident_pat_start (state p.now).rest }
 {
     p.at(T![ident]) && !matches!(p.nth(1), T!['('] | T!['{'] | T![!]) && !p.nth_at(1, T![::])
 }
@@ -366,7 +367,7 @@ fn builtin_pat<G: Grammar>(p: &mut Parser<'_>, g: &G) -> Result<Option<Completed
 
 /// Whether a literal comes next, be it with a minus.
 fn is_literal_pat_start(p: &Parser<'_>) -> bool
-    ensures { result ≡ is_literal_pat_start (state p.now).rest }
+    ensures { result ≡ holds is_literal_pat_start (state p.now).rest }
 {
     p.at(T![-]) && matches!(p.nth(1), T![int_number] | SyntaxKind::FLOAT_NUMBER)
         || is_literal_first(p.current())
@@ -376,7 +377,7 @@ fn is_literal_pat_start(p: &Parser<'_>) -> bool
 #[inline(never)]
 #[tactic(auto, unfolding(rap_grammar_scripts::specs::Patterns::literal_pat))]
 fn literal_pat(p: &mut Parser<'_>) -> Result<CompletedMarker, NoMemory>
-    requires here { is_literal_pat_start (state p.old).rest ≡ true }
+    requires here { holds is_literal_pat_start (state p.old).rest ≡ true }
     ensures made { IfOk result (Makes LITERAL_PAT atom_pattern_room (state p.old) (state p.new)) }
     ensures script { OnOk result ((depth : ℕ) → Does depth script.literal_pat something (state p.old) (state p.new)) }
 {
@@ -392,7 +393,7 @@ fn literal_pat(p: &mut Parser<'_>) -> Result<CompletedMarker, NoMemory>
 #[tactic(auto, unfolding(rap_grammar_scripts::specs::Patterns::path_or_macro_pat))]
 fn path_or_macro_pat<G: Grammar>(p: &mut Parser<'_>, g: &G) -> Result<CompletedMarker, NoMemory>
     requires within { Within G.valid G.left g.now (state p.old) }
-    requires path { is_path_start (state p.old).rest ≡ true }
+    requires path { holds is_path_start (state p.old).rest ≡ true }
     ensures made { IfOk result (λ cm. Made (state p.old) (state p.new) cm atom_pattern_room) }
     ensures script { OnOk result (Does (G.left g.now) script.path_or_macro_pat something (state p.old) (state p.new)) }
 {
@@ -439,7 +440,7 @@ fn tuple_pat_fields<G: Grammar>(p: &mut Parser<'_>, g: &G) -> Result<(), NoMemor
 
 /// Whether a field's name or number and this separator come next.
 fn at_field(p: &Parser<'_>, separator: SyntaxKind) -> bool
-    ensures { result ≡ at_field separator (state p.now).rest }
+    ensures { result ≡ holds (at_field separator) (state p.now).rest }
 {
     matches!(p.current(), T![ident] | T![int_number]) && p.nth(1) == separator
 }
@@ -676,7 +677,7 @@ fn tuple_element<G: Grammar>(p: &mut Parser<'_>, g: &G, is_tuple: bool) -> Resul
 
 /// Whether `..` comes next and no range begins with it.
 fn is_rest_pat(p: &Parser<'_>) -> bool
-    ensures { result ≡ is_rest_pat (state p.now).rest }
+    ensures { result ≡ holds is_rest_pat (state p.now).rest }
 {
     !p.at(T![..=]) && p.at(T![..]) && !is_range_pat_end_first(p.nth(2))
 }

@@ -3,21 +3,22 @@ use Rattle.std.proofs.Common.{◌≡◌, ℕ, ◌<◌, List, [], ◌∷◌, Bool
 use Rattle.std.proofs.lemmas.Bool.Decides.{nat_tests}
 use Rattle.rap_events.specs.OperatorTable.{powers}
 use Rattle.rap_events.specs.Power.{power, power_in}
-use Rattle.rap_events.specs.Record.{Record}
 use Rattle.rap_grammar_scripts.proofs.Ends as ends
 use Rattle.rap_grammar_scripts.specs.Exec.{Ends}
-use Rattle.rap_grammar_scripts.specs.Operator.{operator_at, by_operator, by_operator_of}
+use Rattle.rap_grammar_scripts.specs.Operator.{operator_at}
 use Rattle.rap_grammar_scripts.specs.declared.rule.Rule.{Rule}
 use Rattle.rap_grammar_scripts.specs.Script.{Script, Outcome, Spot, test, Runs, passes, fails}
+use Rattle.rap_grammar_scripts.specs.Test.{Test, holds}
+use Rattle.rap_grammar_scripts.specs.Words.{by_operator, by_operator_of}
 
 same_kind : (k op : ℕ) → (k == op) ≡ true → op ≡ k
 same_kind k op h = grind (arith, nat_tests)
 
 -- this operator, or one after it in the table, for a relation that goes by tests
 record Tested {P : Type 0} (R : Script P → Spot → Spot → Outcome → Type 0) : Type 0 where
-  passes : {h : List Record → Bool} {s t : Script P} {p q : Spot} {v : Outcome} → h p.rest ≡ true → R s p q v →
+  passes : {h : Test} {s t : Script P} {p q : Spot} {v : Outcome} → holds h p.rest ≡ true → R s p q v →
       R (test h s t) p q v
-  fails : {h : List Record → Bool} {s t : Script P} {p q : Spot} {v : Outcome} → h p.rest ≡ false → R t p q v →
+  fails : {h : Test} {s t : Script P} {p q : Spot} {v : Outcome} → holds h p.rest ≡ false → R t p q v →
       R (test h s t) p q v
 
 this_or_later : {P : Type 0} (R : Script P → Spot → Spot → Outcome → Type 0) → Tested R → (op : ℕ × ℕ)

@@ -3,22 +3,23 @@ use Rattle.std.proofs.Common.{◌≡◌, ◌==◌, ◌≢◌, ◌<◌, ◌≤◌
 use Rattle.rap_base.specs.TokenKind.{EOF, FLOAT_NUMBER}
 use Rattle.rap_events.specs.Composite.{is_at, width}
 use Rattle.rap_events.specs.Cover.{first_may_bear}
-use Rattle.rap_events.specs.Record.{Record, next_kind, joint_at}
+use Rattle.rap_events.specs.Record.{next_kind, joint_at}
 use Rattle.rap_events.specs.State.{with_kind}
 use Rattle.rap_grammar_scripts.proofs.Exec as laws
 use Rattle.rap_grammar_scripts.specs.Exec.{Ends, Answers, exec, run_of}
 use Rattle.rap_grammar_scripts.specs.Knot.{script_of}
 use Rattle.rap_grammar_scripts.specs.declared.rule.Rule.{Rule}
+use Rattle.rap_grammar_scripts.specs.Test.{Test, holds}
 use Rattle.rap_grammar_scripts.specs.Script.{Script, Outcome, again, goes_on, Spot, give, test, ends_with, token, any, bear, report, report_next, skip, start, precede, finish, extend, abandon, split_float, after, rule, loop, taken, reported, skipped_over, started, preceded, finished, extended, abandoned, split_apart, last_taken_at}
 
 pub gives : {j : ℕ} {v : Outcome} {p : Spot} → Ends j (give v) p p v
 gives = record { run = refl }
 
-pub passes : {j : ℕ} {h : List Record → Bool} {s t : Script Rule} {p q : Spot} {v : Outcome} → h p.rest ≡ true →
+pub passes : {j : ℕ} {h : Test} {s t : Script Rule} {p q : Spot} {v : Outcome} → holds h p.rest ≡ true →
     Ends j s p q v → Ends j (test h s t) p q v
 passes e d = record { run = rw e d.run }
 
-pub fails : {j : ℕ} {h : List Record → Bool} {s t : Script Rule} {p q : Spot} {v : Outcome} → h p.rest ≡ false →
+pub fails : {j : ℕ} {h : Test} {s t : Script Rule} {p q : Spot} {v : Outcome} → holds h p.rest ≡ false →
     Ends j t p q v → Ends j (test h s t) p q v
 fails e d = record { run = rw e d.run }
 

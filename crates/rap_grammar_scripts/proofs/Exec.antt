@@ -8,6 +8,7 @@ use Rattle.rap_events.specs.State.{State, with_kind}
 use Rattle.rap_grammar_scripts.specs.Knot.{script_of, Follows}
 use Rattle.rap_grammar_scripts.specs.declared.rule.Rule.{Rule}
 use Rattle.rap_grammar_scripts.specs.Exec.{End, and_on, next_turn, on_again, turning, looped, exec, run_of, Does}
+use Rattle.rap_grammar_scripts.specs.Test.{holds}
 use Rattle.rap_grammar_scripts.specs.Script.{Script, Outcome, nothing, something, block, again, goes_on, Spot, spot, give, test, ends_with, token, any, bear, report, report_next, skip, start, precede, finish, extend, abandon, split_float, after, rule, loop, taken, reported, skipped_over, started, preceded, finished, extended, abandoned, split_apart, last_taken_at, Runs, gives, passes, fails, ends_so, ends_else, takes, takes_any, bears, reports, reports_next, skips, starts, precedes, finishes, extends, abandons, splits_dotted, splits_whole, follows, obeys, turns, stops}
 
 -- no end is none
@@ -77,7 +78,7 @@ pub sound : {P : Type 0} {script_of : P → Script P} (o : P → Spot → End) �
 unfolding looped
 sound o u (give w) p q v e = rw (sym (ap (spot_of p) e), sym (ap outcome_of e)) gives
 sound o u (test h s t) p q v e =
-    by_test (h p.rest) (exec o s p) (exec o t p) (q, v) e (λ b f. passes b (sound o u s p q v f))
+    by_test (holds h p.rest) (exec o s p) (exec o t p) (q, v) e (λ b f. passes b (sound o u s p q v f))
     (λ b f. fails b (sound o u t p q v f))
 sound o u (ends_with k s t) p q v e =
     by_test (last_taken_at p == k) (exec o s p) (exec o t p) (q, v) e (λ b f. ends_so b (sound o u s p q v f))
@@ -237,7 +238,8 @@ pub mono : {P : Type 0} (o u : P → Spot → End) →
 unfolding looped
 mono o u i (give v) p r e = e
 mono o u i (test h s t) p r e =
-    test_mono (h p.rest) (exec o s p) (exec o t p) (exec u s p) (exec u t p) r (mono o u i s p r) (mono o u i t p r) e
+    test_mono (holds h p.rest) (exec o s p) (exec o t p) (exec u s p) (exec u t p) r (mono o u i s p r)
+    (mono o u i t p r) e
 mono o u i (ends_with k s t) p r e =
     test_mono (last_taken_at p == k) (exec o s p) (exec o t p) (exec u s p) (exec u t p) r (mono o u i s p r)
     (mono o u i t p r) e

@@ -1,11 +1,10 @@
 -- Structs, unions and enums.
-use Rattle.std.specs.Prelude.{List, ℕ, Bool, true, false, if◌then◌else◌, ◌==◌, ◌&&◌, ◌||◌, codes, [], ◌∷◌}
+use Rattle.std.specs.Prelude.{List, ℕ, Bool, true, false, if◌then◌else◌, ◌==◌, ◌||◌, codes, [], ◌∷◌}
 use Rattle.rap_base.specs.TokenKind.{EOF, ERROR, L_CURLY, R_CURLY, L_PAREN, R_PAREN, COMMA, COLON, SEMICOLON, EQ, UNDERSCORE, IDENT, STRUCT_KW, UNION_KW, ENUM_KW, WHERE_KW, MUT_KW, UNSAFE_KW, PUB_KW}
 use Rattle.rap_base.specs.NodeKind.{STRUCT, UNION, ENUM, VARIANT_LIST, VARIANT, RECORD_FIELD_LIST, RECORD_FIELD, TUPLE_FIELD_LIST, TUPLE_FIELD, MUT_RESTRICTION, CONST_ARG}
-use Rattle.rap_events.specs.Record.{Record, next_kind, kind_at}
-use Rattle.rap_events.specs.Composite.{is_at}
 use Rattle.rap_grammar_scripts.specs.Attributes.{outer_attrs}
 use Rattle.rap_grammar_scripts.specs.Blocks.{error_block}
+use Rattle.rap_grammar_scripts.specs.Test.{Test, also}
 use Rattle.rap_grammar_scripts.specs.ThroughKnot.{expr, type_, opt_generic_param_list, opt_where_clause}
 use Rattle.rap_grammar_scripts.specs.First.{is_type_first, is_outer_attr_first}
 use Rattle.rap_grammar_scripts.specs.Names.{name, name_r}
@@ -14,7 +13,7 @@ use Rattle.rap_grammar_scripts.specs.declared.rule.Rule.{Rule}
 use Rattle.rap_grammar_scripts.specs.Recovery.{is_item_recovery}
 use Rattle.rap_grammar_scripts.specs.Script.{Script, Outcome, nothing, give, test, token, bear, report, skip, start, finish, abandon, after, loop, again}
 use Rattle.rap_grammar_scripts.specs.Visibility.{opt_visibility, opt_visibility_inner}
-use Rattle.rap_grammar_scripts.specs.Words.{done, if_some, expect, ◌▸◌, call, choose, optional}
+use Rattle.rap_grammar_scripts.specs.Words.{done, if_some, expect, ◌▸◌, call, choose, optional, next_so, kind_is, is_at}
 
 -- where a field or a variant is missing: a message, with the next token in an `ERROR` unless the list ends there
 unfoldable pub missing_in_list : List ℕ → Script Rule
@@ -36,8 +35,8 @@ mut_restriction =
     if_some v (finish MUT_RESTRICTION ▸ done)
     (report (codes "expected a mut restriction") ▸ finish MUT_RESTRICTION ▸ done))
 
-abbrev pub is_mut_restriction_start : List Record → Bool
-is_mut_restriction_start rs = is_at MUT_KW rs && (kind_at rs 1 == L_PAREN)
+abbrev pub is_mut_restriction_start : Test
+is_mut_restriction_start = also (is_at MUT_KW) (kind_is 1 L_PAREN)
 
 unfoldable pub opt_mut_restriction : Script Rule
 opt_mut_restriction = optional is_mut_restriction_start mut_restriction
@@ -82,7 +81,7 @@ is_tuple_field_first kind = (is_type_first kind || is_outer_attr_first kind) || 
 -- a field without a name, from its type on; its node is open, and is kept where no type begins but `pub` was taken
 unfoldable pub typed_field : Outcome → Script Rule
 typed_field has_vis =
-    test (λ rs. is_type_first (next_kind rs)) (call type_ ▸ finish TUPLE_FIELD ▸ done)
+    test (next_so is_type_first) (call type_ ▸ finish TUPLE_FIELD ▸ done)
     (report (codes "expected a type") ▸ if_some has_vis (finish ERROR ▸ give nothing) (abandon ▸ give nothing))
 
 unfoldable pub restricted_tuple_field : Outcome → Script Rule

@@ -1,21 +1,20 @@
 -- Inline assembly.
 -- In the Rust crate: `grammar/expressions/atom.rs`.
-use Rattle.std.specs.Prelude.{Bool, true, false, ◌&&◌, if◌then◌else◌, List, drop, Option, Some, None, codes, [], ◌∷◌}
+use Rattle.std.specs.Prelude.{Bool, true, false, if◌then◌else◌, Option, Some, None, codes, [], ◌∷◌}
 use Rattle.rap_base.specs.Keyword.{is_any_identifier}
 use Rattle.rap_base.specs.TokenKind.{EOF, L_PAREN, R_PAREN, L_CURLY, R_CURLY, COMMA, EQ, FAT_ARROW, STRING, CONST_KW, IN_KW, OUT_KW, LATEOUT_KW, INOUT_KW, INLATEOUT_KW, LABEL_KW, SYM_KW, CLOBBER_ABI_KW, OPTIONS_KW, PURE_KW, NOMEM_KW, READONLY_KW, PRESERVES_FLAGS_KW, NORETURN_KW, NOSTACK_KW, MAY_UNWIND_KW, ATT_SYNTAX_KW, RAW_KW}
 use Rattle.rap_base.specs.NodeKind.{ASM_EXPR, ASM_CLOBBER_ABI, ASM_OPTIONS, ASM_OPTION, ASM_DIR_SPEC, ASM_OPERAND_EXPR, ASM_REG_OPERAND, ASM_OPERAND_NAMED, ASM_LABEL, ASM_CONST, ASM_SYM, ASM_REG_SPEC}
-use Rattle.rap_events.specs.Record.{Record, next_kind}
-use Rattle.rap_events.specs.Composite.{is_at}
 use Rattle.rap_events.specs.State.{expected}
 use Rattle.rap_grammar_scripts.specs.Attributes.{outer_attrs}
 use Rattle.rap_grammar_scripts.specs.Blocks.{block_expr}
+use Rattle.rap_grammar_scripts.specs.Test.{Test, comes, also}
 use Rattle.rap_grammar_scripts.specs.ThroughKnot.{expr}
 use Rattle.rap_grammar_scripts.specs.First.{is_path_name}
 use Rattle.rap_grammar_scripts.specs.Names.{name_any_identifier, name_ref_mod_path}
 use Rattle.rap_grammar_scripts.specs.Paths.{type_path}
 use Rattle.rap_grammar_scripts.specs.declared.rule.Rule.{Rule}
 use Rattle.rap_grammar_scripts.specs.Script.{Script, Outcome, nothing, something, block, give, test, token, bear, report, skip, start, finish, abandon, after, loop, again}
-use Rattle.rap_grammar_scripts.specs.Words.{done, if_some, reads_as, expect, ◌▸◌, call, choose, only_if}
+use Rattle.rap_grammar_scripts.specs.Words.{done, if_some, reads_as, expect, ◌▸◌, call, choose, only_if, next_so, is_at}
 
 -- a line of the assembly
 unfoldable pub asm_template : Script Rule
@@ -25,7 +24,7 @@ asm_template = after expr (λ v. if_some v done (skip (codes "expected asm templ
 unfoldable pub reg_spec : Script Rule
 reg_spec =
     choose
-    ((λ rs. is_path_name (next_kind rs), start ▸ call name_ref_mod_path ▸ finish ASM_REG_SPEC ▸ done)
+    ((next_so is_path_name, start ▸ call name_ref_mod_path ▸ finish ASM_REG_SPEC ▸ done)
     ∷ (is_at STRING, start ▸ token STRING ▸ finish ASM_REG_SPEC ▸ done)
     ∷ [])
     (skip (codes "expected register name") ▸ done)
@@ -90,8 +89,8 @@ unfoldable pub parse_options : Script Rule
 parse_options = expect L_PAREN ▸ asm_options
 
 -- the name of an operand and its `=` come next; the name may be a keyword
-abbrev pub starts_operand_name : List Record → Bool
-starts_operand_name rs = is_any_identifier (next_kind rs) && is_at EQ (drop 1 rs)
+abbrev pub starts_operand_name : Test
+starts_operand_name = also (next_so is_any_identifier) (comes 1 EQ)
 
 unfoldable pub operand_name : Script Rule
 operand_name = only_if starts_operand_name (call name_any_identifier ▸ token EQ ▸ done)

@@ -1,9 +1,7 @@
 -- Expressions that begin with no operator.
-use Rattle.std.specs.Prelude.{Bool, ◌&&◌, not, List, [], ◌∷◌, true, codes, false, ℕ, Option, Some, None, if◌then◌else◌, ◌==◌, drop}
+use Rattle.std.specs.Prelude.{Bool, ◌&&◌, not, [], ◌∷◌, true, codes, false, ℕ, Option, Some, None, if◌then◌else◌}
 use Rattle.rap_base.specs.TokenKind.{L_CURLY, EOF, COMMA, R_PAREN, L_PAREN, SEMICOLON, R_BRACK, L_BRACK, UNDERSCORE, DO_KW, YEET_KW, RETURN_KW, BECOME_KW, YIELD_KW, CONTINUE_KW, BREAK_KW, COLON, LIFETIME_IDENT, IF_KW, LOOP_KW, WHILE_KW, MATCH_KW, LET_KW}
 use Rattle.rap_base.specs.NodeKind.{PATH_EXPR, RECORD_EXPR, MACRO_CALL, MACRO_EXPR, PAREN_EXPR, TUPLE_EXPR, ARRAY_EXPR, UNDERSCORE_EXPR}
-use Rattle.rap_events.specs.Composite.{is_at}
-use Rattle.rap_events.specs.Record.{Record, next_kind, contextual_at}
 use Rattle.rap_events.specs.State.{expected}
 use Rattle.rap_grammar_scripts.specs.Builtin.{builtin_expr}
 use Rattle.rap_grammar_scripts.specs.Control.{if_expr, loop_expr, while_expr, labelled_expr, let_expr}
@@ -15,15 +13,16 @@ use Rattle.rap_grammar_scripts.specs.Matches.{match_expr}
 use Rattle.rap_grammar_scripts.specs.Paths.{expr_path}
 use Rattle.rap_grammar_scripts.specs.Records.{record_expr_field_list}
 use Rattle.rap_grammar_scripts.specs.Script.{Script, block, give, start, precede, finish, after, test, token, report, again, something, loop, Outcome, nothing}
+use Rattle.rap_grammar_scripts.specs.Test.{Test, comes, also, told}
 use Rattle.rap_grammar_scripts.specs.ThroughKnot.{expr}
 use Rattle.rap_grammar_scripts.specs.TokenTree.{starts_macro_call, macro_call_after_excl}
-use Rattle.rap_grammar_scripts.specs.Words.{done, ◌▸◌, call, choose, if_some, expect, of_bool, next_is, starts_builtin}
+use Rattle.rap_grammar_scripts.specs.Words.{done, ◌▸◌, call, choose, if_some, expect, of_bool, next_is, starts_builtin, word_is, is_at}
 use Rattle.rap_grammar_scripts.specs.declared.arguments.Restrictions.{Restrictions}
 use Rattle.rap_grammar_scripts.specs.declared.rule.Rule.{Rule}
 
 -- the fields of a record come next, where a record literal may stand
-abbrev pub starts_record : Bool → List Record → Bool
-starts_record forbid_structs rs = not forbid_structs && is_at L_CURLY rs
+abbrev pub starts_record : Bool → Test
+starts_record forbid_structs = also (told (not forbid_structs)) (is_at L_CURLY)
 
 -- a path, a record literal or a macro call; a macro call reads like a block as its brackets say
 unfoldable pub path_expr : Restrictions → Script Rule
@@ -70,7 +69,7 @@ of_semi (Some semi) = again false semi
 -- what stands after an element of an array
 unfoldable pub after_element : Bool → Bool → Script Rule
 after_element first semi =
-    test (λ rs. first && is_at SEMICOLON rs) (token SEMICOLON ▸ give (again false true))
+    test (also (told first) (is_at SEMICOLON)) (token SEMICOLON ▸ give (again false true))
     (if semi then done
     else choose
     ((is_at R_BRACK, give (again false false))
@@ -97,8 +96,8 @@ unfoldable pub underscore_expr : Script Rule
 underscore_expr = start ▸ token UNDERSCORE ▸ finish UNDERSCORE_EXPR ▸ done
 
 -- `do yeet` comes next
-abbrev pub starts_yeet : List Record → Bool
-starts_yeet rs = (next_kind rs == DO_KW) && (contextual_at rs 1 == YEET_KW)
+abbrev pub starts_yeet : Test
+starts_yeet = also (next_is DO_KW) (word_is 1 YEET_KW)
 
 -- a jump, or what follows in this list
 unfoldable pub jump_expr : Restrictions → Script Rule
@@ -114,8 +113,8 @@ jump_expr r =
     effect_expr
 
 -- a label with its colon comes next
-abbrev pub starts_label : List Record → Bool
-starts_label rs = (next_kind rs == LIFETIME_IDENT) && is_at COLON (drop 1 rs)
+abbrev pub starts_label : Test
+starts_label = also (next_is LIFETIME_IDENT) (comes 1 COLON)
 
 -- a condition, a loop or a `match`, or what follows in this list
 unfoldable pub control_expr : Restrictions → Script Rule

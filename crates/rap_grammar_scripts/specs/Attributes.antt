@@ -1,10 +1,9 @@
 -- Attributes.
-use Rattle.std.specs.Prelude.{ℕ, Bool, true, false, if◌then◌else◌, ◌&&◌, ◌||◌, not, List, [], ◌∷◌, drop, codes}
+use Rattle.std.specs.Prelude.{ℕ, Bool, true, false, if◌then◌else◌, [], ◌∷◌, codes}
 use Rattle.rap_base.specs.TokenKind.{EOF, POUND, BANG, EQ, EQ2, FAT_ARROW, COMMA, L_PAREN, R_PAREN, L_BRACK, R_BRACK, IDENT, STRING, TRUE_KW, FALSE_KW, UNSAFE_KW, CFG_KW, CFG_ATTR_KW, INNER_DOC_COMMENT, OUTER_DOC_COMMENT}
 use Rattle.rap_base.specs.NodeKind.{ATTR, DOC_COMMENT, UNSAFE_META, CFG_ATTR_META, CFG_META, CFG_ATOM, CFG_COMPOSITE, KEY_VALUE_META, TOKEN_TREE_META, PATH_META}
-use Rattle.rap_events.specs.Record.{Record, next_kind}
-use Rattle.rap_events.specs.Composite.{is_at}
 use Rattle.rap_events.specs.State.{expected}
+use Rattle.rap_grammar_scripts.specs.Test.{Test, comes, negated, also, or_else}
 use Rattle.rap_grammar_scripts.specs.ThroughKnot.{expr, cfg_predicate_element}
 use Rattle.rap_grammar_scripts.specs.First.{one_of, is_bracket, is_outer_attr_first, is_cfg_predicate_first}
 use Rattle.rap_grammar_scripts.specs.Lists.{delimited}
@@ -13,20 +12,20 @@ use Rattle.rap_grammar_scripts.specs.Paths.{attr_path}
 use Rattle.rap_grammar_scripts.specs.declared.rule.Rule.{Rule}
 use Rattle.rap_grammar_scripts.specs.declared.rule.Rule.TheVariants as knot
 use Rattle.rap_grammar_scripts.specs.Script.{Script, give, test, token, any, bear, report, skip, start, finish, after, loop, again}
-use Rattle.rap_grammar_scripts.specs.Words.{done, if_some, reads_as, eat, expect, ◌▸◌, call, recur, choose, optional}
+use Rattle.rap_grammar_scripts.specs.Words.{done, if_some, reads_as, eat, expect, ◌▸◌, call, recur, choose, optional, next_so, is_at}
 
 -- an inner attribute comes next
-abbrev pub is_inner_attr_start : List Record → Bool
-is_inner_attr_start rs = is_at INNER_DOC_COMMENT rs || (is_at POUND rs && is_at BANG (drop 1 rs))
+abbrev pub is_inner_attr_start : Test
+is_inner_attr_start = or_else (is_at INNER_DOC_COMMENT) (also (is_at POUND) (comes 1 BANG))
 
 -- the same, or one before what it is of
-abbrev pub starts_attr : Bool → List Record → Bool
-starts_attr true rs = is_inner_attr_start rs
-starts_attr false rs = is_outer_attr_first (next_kind rs)
+abbrev pub starts_attr : Bool → Test
+starts_attr true = is_inner_attr_start
+starts_attr false = next_so is_outer_attr_first
 
 -- the value of an attribute comes next: an `=` that begins no other operator
-abbrev pub is_value_start : List Record → Bool
-is_value_start rs = is_at EQ rs && (not (is_at FAT_ARROW rs) && not (is_at EQ2 rs))
+abbrev pub is_value_start : Test
+is_value_start = also (is_at EQ) (also (negated (is_at FAT_ARROW)) (negated (is_at EQ2)))
 
 -- what stands after the `=` of a condition
 unfoldable pub cfg_value : Script Rule
@@ -41,7 +40,7 @@ cfg_operands =
 unfoldable pub cfg_predicate : Script Rule
 cfg_predicate =
     start ▸
-    test (λ rs. one_of (TRUE_KW ∷ FALSE_KW ∷ []) (next_kind rs)) (any ▸ finish CFG_ATOM ▸ done)
+    test (next_so (one_of (TRUE_KW ∷ FALSE_KW ∷ []))) (any ▸ finish CFG_ATOM ▸ done)
     (expect IDENT ▸
     choose
     ((is_at EQ, token EQ ▸ call cfg_value ▸ finish CFG_ATOM ▸ done)
@@ -85,13 +84,13 @@ path_meta =
     start ▸ call attr_path ▸
     choose
     ((is_value_start, call attr_value ▸ finish KEY_VALUE_META ▸ done)
-    ∷ (λ rs. is_bracket (next_kind rs), call token_tree ▸ finish TOKEN_TREE_META ▸ done)
+    ∷ (next_so is_bracket, call token_tree ▸ finish TOKEN_TREE_META ▸ done)
     ∷ [])
     (finish PATH_META ▸ done)
 
 -- an identifier that is read as this keyword comes next, and a `(`
-abbrev pub at_called_kw : ℕ → List Record → Bool
-at_called_kw kind rs = reads_as kind rs && is_at L_PAREN (drop 1 rs)
+abbrev pub at_called_kw : ℕ → Test
+at_called_kw kind = also (reads_as kind) (comes 1 L_PAREN)
 
 -- what stands in the brackets of an attribute
 unfoldable pub meta : Script Rule
@@ -121,7 +120,7 @@ attr inner =
     (start ▸ call (attr_mark inner) ▸ call attr_brackets ▸ finish ATTR ▸ done)
 
 abbrev pub outer_turn : Bool → Bool → Script Rule
-outer_turn a b = optional (λ rs. is_outer_attr_first (next_kind rs)) (call (attr false) ▸ give (again a b))
+outer_turn a b = optional (next_so is_outer_attr_first) (call (attr false) ▸ give (again a b))
 
 -- outer attributes
 unfoldable pub outer_attrs : Script Rule

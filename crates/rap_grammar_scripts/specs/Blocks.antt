@@ -1,16 +1,15 @@
 -- Blocks, and the `let` statements in them.
 -- In the Rust crate: `grammar/expressions/atom.rs`, `grammar/expressions.rs` and `grammar.rs`.
-use Rattle.std.specs.Prelude.{List, ℕ, Bool, false, ◌||◌, ◌&&◌, drop, codes, [], ◌∷◌}
+use Rattle.std.specs.Prelude.{List, ℕ, Bool, false, codes, [], ◌∷◌}
 use Rattle.rap_base.specs.TokenKind.{EOF, ERROR, COLON, SEMICOLON, EQ, L_CURLY, R_CURLY, ELSE_KW, LET_KW, SUPER_KW}
 use Rattle.rap_base.specs.NodeKind.{STMT_LIST, BLOCK_EXPR, LET_ELSE}
-use Rattle.rap_events.specs.Record.{Record}
-use Rattle.rap_events.specs.Composite.{is_at}
 use Rattle.rap_grammar_scripts.specs.Attributes.{inner_attrs}
+use Rattle.rap_grammar_scripts.specs.Test.{Test, comes, also, or_else}
 use Rattle.rap_grammar_scripts.specs.ThroughKnot.{expr, pattern, ascription}
 use Rattle.rap_grammar_scripts.specs.declared.rule.Rule.{Rule}
 use Rattle.rap_grammar_scripts.specs.declared.rule.Rule.TheVariants as knot
 use Rattle.rap_grammar_scripts.specs.Script.{Script, Outcome, give, test, ends_with, token, report, start, finish, after, loop, again}
-use Rattle.rap_grammar_scripts.specs.Words.{done, if_some, eat, expect, ◌▸◌, call, recur, choose, optional, only_if}
+use Rattle.rap_grammar_scripts.specs.Words.{done, if_some, eat, expect, ◌▸◌, call, recur, choose, optional, only_if, is_at}
 use Rattle.rap_grammar_scripts.specs.declared.arguments.Semicolon.{Semicolon}
 use Rattle.rap_grammar_scripts.specs.declared.arguments.Semicolon.TheVariants as semicolon
 
@@ -40,8 +39,8 @@ error_block message =
     start ▸ report message ▸ token L_CURLY ▸ call expr_block_contents ▸ eat R_CURLY ▸ finish ERROR ▸ done
 
 -- a `let` comes next, or a `super let`
-abbrev pub starts_let : List Record → Bool
-starts_let rs = is_at LET_KW rs || (is_at SUPER_KW rs && is_at LET_KW (drop 1 rs))
+abbrev pub starts_let : Test
+starts_let = or_else (is_at LET_KW) (also (is_at SUPER_KW) (comes 1 LET_KW))
 
 -- its type, if it has one
 unfoldable pub let_type : Script Rule

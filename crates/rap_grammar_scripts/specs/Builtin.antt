@@ -1,16 +1,15 @@
 -- The forms after `builtin#`.
 -- In the Rust crate: `grammar/expressions/atom.rs`.
-use Rattle.std.specs.Prelude.{Bool, [], ◌∷◌, false, ◌&&◌, not, List, drop, codes}
+use Rattle.std.specs.Prelude.{Bool, [], ◌∷◌, false, codes}
 use Rattle.rap_base.specs.TokenKind.{EOF, R_PAREN, DOT, L_PAREN, COMMA, EQ, ASM_KW, GLOBAL_ASM_KW, NAKED_ASM_KW, ERROR, INCLUDE_BYTES_KW, CFG_KW, POUND, BUILTIN_KW, OFFSET_OF_KW, FORMAT_ARGS_KW}
 use Rattle.rap_base.specs.Keyword.{is_any_identifier}
 use Rattle.rap_base.specs.NodeKind.{FORMAT_ARGS_ARG, INCLUDE_BYTES_EXPR, CFG_PRED_EXPR, OFFSET_OF_EXPR, FORMAT_ARGS_EXPR}
-use Rattle.rap_events.specs.Composite.{is_at}
-use Rattle.rap_events.specs.Record.{Record, next_kind}
 use Rattle.rap_grammar_scripts.specs.Asm.{parse_asm_expr}
 use Rattle.rap_grammar_scripts.specs.Names.{name_ref_mod_path_or_index, name_any_identifier}
 use Rattle.rap_grammar_scripts.specs.Script.{Script, give, test, again, loop, token, start, finish, abandon, after, nothing, bear, report}
+use Rattle.rap_grammar_scripts.specs.Test.{Test, comes, negated, also}
 use Rattle.rap_grammar_scripts.specs.ThroughKnot.{type_, expr}
-use Rattle.rap_grammar_scripts.specs.Words.{done, expect, ◌▸◌, call, choose, optional, if_some, eat, recur, reads_as}
+use Rattle.rap_grammar_scripts.specs.Words.{done, expect, ◌▸◌, call, choose, optional, if_some, eat, recur, reads_as, next_so, is_at}
 use Rattle.rap_grammar_scripts.specs.declared.rule.Rule.{Rule}
 use Rattle.rap_grammar_scripts.specs.declared.rule.Rule.TheVariants as knot
 
@@ -34,8 +33,8 @@ offset_of =
     (call offset_of_fields ▸ expect R_PAREN ▸ done)
 
 -- a name and an `=` that begins no `==` come next; the name may be a keyword
-abbrev pub starts_arg_name : List Record → Bool
-starts_arg_name rs = is_any_identifier (next_kind rs) && (is_at EQ (drop 1 rs) && not (is_at EQ (drop 2 rs)))
+abbrev pub starts_arg_name : Test
+starts_arg_name = also (next_so is_any_identifier) (also (comes 1 EQ) (negated (comes 2 EQ)))
 
 unfoldable pub opt_arg_name : Script Rule
 opt_arg_name = optional starts_arg_name (call name_any_identifier ▸ token EQ ▸ done)

@@ -3,14 +3,12 @@
 use Rattle.std.specs.Prelude.{Bool, codes, false}
 use Rattle.rap_base.specs.TokenKind.{FOR_KW, CONST_KW, STATIC_KW, ASYNC_KW, GEN_KW, MOVE_KW, R_ANGLE, PIPE}
 use Rattle.rap_base.specs.NodeKind.{CLOSURE_EXPR}
-use Rattle.rap_events.specs.Composite.{is_at}
-use Rattle.rap_events.specs.Record.{next_kind}
 use Rattle.rap_grammar_scripts.specs.Blocks.{block_expr}
 use Rattle.rap_grammar_scripts.specs.First.{is_expr_first}
 use Rattle.rap_grammar_scripts.specs.Params.{param_list_closure}
-use Rattle.rap_grammar_scripts.specs.Script.{Script, nothing, give, skip, after, again, loop, block, test, report, start, finish}
+use Rattle.rap_grammar_scripts.specs.Script.{Script, give, skip, after, again, loop, test, report, start, finish}
 use Rattle.rap_grammar_scripts.specs.ThroughKnot.{for_binder, expr, opt_ret_type}
-use Rattle.rap_grammar_scripts.specs.Words.{optional, done, eat, ◌▸◌, if_some, call}
+use Rattle.rap_grammar_scripts.specs.Words.{optional, done, eat, ◌▸◌, if_some, call, next_so, is_at}
 use Rattle.rap_grammar_scripts.specs.declared.rule.Rule.{Rule}
 
 -- what stands before the parameters of a closure: its lifetimes, and its keywords in their order
@@ -32,7 +30,7 @@ unfoldable pub closure_body : Script Rule
 closure_body =
     after opt_ret_type (λ v.
     if_some v (call closing_angles ▸ block_expr)
-    (test (λ rs. is_expr_first (next_kind rs)) (call expr ▸ done) (report (codes "expected expression") ▸ done)))
+    (test (next_so is_expr_first) (call expr ▸ done) (report (codes "expected expression") ▸ done)))
 
 unfoldable pub closure_expr : Script Rule
 closure_expr =

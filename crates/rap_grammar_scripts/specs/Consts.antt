@@ -1,18 +1,17 @@
 -- Constants and statics.
-use Rattle.std.specs.Prelude.{List, Bool, true, false, drop, ◌||◌, ◌&&◌, codes}
+use Rattle.std.specs.Prelude.{Bool, true, false, codes}
 use Rattle.rap_base.specs.TokenKind.{CONST_KW, TYPE_KW, STATIC_KW, MUT_KW, UNDERSCORE, L_ANGLE, COLON, EQ, SEMICOLON}
 use Rattle.rap_base.specs.NodeKind.{CONST, STATIC}
-use Rattle.rap_events.specs.Record.{Record}
-use Rattle.rap_events.specs.Composite.{is_at}
+use Rattle.rap_grammar_scripts.specs.Test.{Test, comes, also, or_else}
 use Rattle.rap_grammar_scripts.specs.ThroughKnot.{expr, opt_generic_param_list, opt_where_clause, ascription}
 use Rattle.rap_grammar_scripts.specs.Names.{name}
 use Rattle.rap_grammar_scripts.specs.declared.rule.Rule.{Rule}
 use Rattle.rap_grammar_scripts.specs.Script.{Script, test, token, report, finish}
-use Rattle.rap_grammar_scripts.specs.Words.{done, eat, expect, ◌▸◌, call, optional}
+use Rattle.rap_grammar_scripts.specs.Words.{done, eat, expect, ◌▸◌, call, optional, is_at}
 
 -- `const`, or `type const`, comes next
-abbrev pub starts_const : List Record → Bool
-starts_const rs = is_at CONST_KW rs || (is_at TYPE_KW rs && is_at CONST_KW (drop 1 rs))
+abbrev pub starts_const : Test
+starts_const = or_else (is_at CONST_KW) (also (is_at TYPE_KW) (comes 1 CONST_KW))
 
 -- the name; a constant may do without
 unfoldable pub const_name : Bool → Script Rule

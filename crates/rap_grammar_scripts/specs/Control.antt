@@ -3,13 +3,12 @@
 use Rattle.std.specs.Prelude.{[], ◌∷◌, codes}
 use Rattle.rap_base.specs.TokenKind.{IF_KW, ELSE_KW, EQ, LET_KW, LOOP_KW, WHILE_KW, FOR_KW, IN_KW, COLON, ERROR, L_CURLY}
 use Rattle.rap_base.specs.NodeKind.{IF_EXPR, LET_EXPR, LOOP_EXPR, WHILE_EXPR, FOR_EXPR, LABEL, BLOCK_EXPR}
-use Rattle.rap_events.specs.Composite.{is_at}
 use Rattle.rap_grammar_scripts.specs.Blocks.{block_expr, stmt_list}
 use Rattle.rap_grammar_scripts.specs.Names.{lifetime}
-use Rattle.rap_grammar_scripts.specs.Script.{Script, block, test, token, after, start, finish, nothing, give, report, loop}
+use Rattle.rap_grammar_scripts.specs.Script.{Script, block, test, token, start, finish, nothing, give, report, loop}
 use Rattle.rap_grammar_scripts.specs.ThroughKnot.{expr_no_struct, pattern}
 use Rattle.rap_grammar_scripts.specs.ThroughKnot as through_knot
-use Rattle.rap_grammar_scripts.specs.Words.{◌▸◌, optional, done, call, expect, recur, next_is, choose}
+use Rattle.rap_grammar_scripts.specs.Words.{◌▸◌, optional, done, call, expect, recur, next_is, choose, is_at}
 use Rattle.rap_grammar_scripts.specs.declared.arguments.Restrictions.{Restrictions}
 use Rattle.rap_grammar_scripts.specs.declared.rule.Rule.{Rule}
 use Rattle.rap_grammar_scripts.specs.declared.rule.Rule.TheVariants as knot

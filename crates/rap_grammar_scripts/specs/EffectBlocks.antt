@@ -1,18 +1,17 @@
 -- Blocks with an effect: `try`, `unsafe`, `async`, `gen` and `const` before a block.
 -- In the Rust crate: `grammar/expressions/atom.rs`.
-use Rattle.std.specs.Prelude.{codes, Bool, ◌==◌, ◌&&◌, ◌||◌, List, [], ◌∷◌}
+use Rattle.std.specs.Prelude.{codes, [], ◌∷◌}
 use Rattle.rap_base.specs.TokenKind.{TRY_KW, BIKESHED_KW, L_CURLY, CONST_KW, UNSAFE_KW, ASYNC_KW, GEN_KW, MOVE_KW, FOR_KW}
 use Rattle.rap_base.specs.NodeKind.{BLOCK_EXPR, TRY_BLOCK_MODIFIER}
-use Rattle.rap_events.specs.Composite.{is_at}
-use Rattle.rap_events.specs.Record.{Record, next_kind, kind_at}
 use Rattle.rap_events.specs.State.{expected}
 use Rattle.rap_grammar_scripts.specs.Blocks.{stmt_list}
 use Rattle.rap_grammar_scripts.specs.Closures.{closure_expr}
 use Rattle.rap_grammar_scripts.specs.Control.{for_expr}
 use Rattle.rap_grammar_scripts.specs.First.{one_of, is_closure}
-use Rattle.rap_grammar_scripts.specs.Script.{Script, start, finish, block, test, token, bear, after, report, any, nothing, give, skip, loop}
+use Rattle.rap_grammar_scripts.specs.Script.{Script, start, finish, block, test, token, bear, report, any, nothing, give, skip}
+use Rattle.rap_grammar_scripts.specs.Test.{Test, also, or_else}
 use Rattle.rap_grammar_scripts.specs.ThroughKnot.{type_}
-use Rattle.rap_grammar_scripts.specs.Words.{done, ◌▸◌, call, reads_as, eat, next_is, choose}
+use Rattle.rap_grammar_scripts.specs.Words.{done, ◌▸◌, call, reads_as, eat, next_is, choose, next_so, kind_is, is_at}
 use Rattle.rap_grammar_scripts.specs.declared.rule.Rule.{Rule}
 
 unfoldable pub plain_block : Script Rule
@@ -33,14 +32,12 @@ try_block_expr =
 
 -- A block comes next, with what it is before its brace: `const`, `unsafe`, `async` or `gen`; and with `move` after
 -- `async`, `gen` and `async gen`.
-unfoldable pub is_effect_block : List Record → Bool
-is_effect_block rs =
-    (one_of (CONST_KW ∷ UNSAFE_KW ∷ ASYNC_KW ∷ GEN_KW ∷ []) (next_kind rs) && (kind_at rs 1 == L_CURLY))
-    || (((next_kind rs == ASYNC_KW) && ((kind_at rs 1 == GEN_KW) && (kind_at rs 2 == L_CURLY)))
-    || ((one_of (ASYNC_KW ∷ GEN_KW ∷ []) (next_kind rs) && ((kind_at rs 1 == MOVE_KW) && (kind_at rs 2 == L_CURLY)))
-    ||
-    ((next_kind rs == ASYNC_KW) &&
-    ((kind_at rs 1 == GEN_KW) && ((kind_at rs 2 == MOVE_KW) && (kind_at rs 3 == L_CURLY))))))
+unfoldable pub is_effect_block : Test
+is_effect_block =
+    or_else (also (next_so (one_of (CONST_KW ∷ UNSAFE_KW ∷ ASYNC_KW ∷ GEN_KW ∷ []))) (kind_is 1 L_CURLY))
+    (or_else (also (next_is ASYNC_KW) (also (kind_is 1 GEN_KW) (kind_is 2 L_CURLY)))
+    (or_else (also (next_so (one_of (ASYNC_KW ∷ GEN_KW ∷ []))) (also (kind_is 1 MOVE_KW) (kind_is 2 L_CURLY)))
+    (also (next_is ASYNC_KW) (also (kind_is 1 GEN_KW) (also (kind_is 2 MOVE_KW) (kind_is 3 L_CURLY))))))
 
 -- what stands before the brace of such a block
 unfoldable pub effects : Script Rule

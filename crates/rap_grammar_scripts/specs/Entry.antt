@@ -2,10 +2,9 @@
 -- In the Rust crate: `grammar.rs` and `grammar/expressions.rs`.
 use Rattle.std.specs.Prelude.{false, Bool}
 use Rattle.rap_base.specs.TokenKind.{SHEBANG, FRONTMATTER, EOF}
-use Rattle.rap_events.specs.Composite.{is_at}
 use Rattle.rap_grammar_scripts.specs.Modules.{mod_contents}
-use Rattle.rap_grammar_scripts.specs.Script.{Script, after, give, test, again, loop}
-use Rattle.rap_grammar_scripts.specs.Words.{eat, ◌▸◌, done, recur}
+use Rattle.rap_grammar_scripts.specs.Script.{Script, give, test, again, loop}
+use Rattle.rap_grammar_scripts.specs.Words.{eat, ◌▸◌, done, recur, is_at}
 use Rattle.rap_grammar_scripts.specs.declared.arguments.Semicolon.TheVariants as semicolon
 use Rattle.rap_grammar_scripts.specs.declared.rule.Rule.{Rule}
 use Rattle.rap_grammar_scripts.specs.declared.rule.Rule.TheVariants as knot

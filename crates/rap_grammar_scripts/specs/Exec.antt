@@ -8,6 +8,7 @@ use Rattle.rap_events.specs.State.{State, with_kind}
 use Rattle.rap_grammar_scripts.specs.Knot.{script_of}
 use Rattle.rap_grammar_scripts.specs.declared.rule.Rule.{Rule}
 use Rattle.rap_grammar_scripts.specs.Script.{Script, Outcome, nothing, something, block, again, Spot, spot, give, test, ends_with, token, any, bear, report, report_next, skip, start, precede, finish, extend, abandon, split_float, after, rule, loop, taken, reported, skipped_over, started, preceded, finished, extended, abandoned, split_apart, last_taken_at}
+use Rattle.rap_grammar_scripts.specs.Test.{holds}
 
 -- where a script ends and with which outcome, if it does
 abbrev pub End : Type 0
@@ -42,7 +43,7 @@ looped f a b p = turning (suc (length p.rest)) f a b p
 -- where a script ends, by what the rules that it calls answer
 abbrev pub exec : {P : Type 0} → (P → Spot → End) → Script P → Spot → End
 exec o (give v) p = Some (p, v)
-exec o (test h s t) p = if h p.rest then exec o s p else exec o t p
+exec o (test h s t) p = if holds h p.rest then exec o s p else exec o t p
 exec o (ends_with k s t) p = if last_taken_at p == k then exec o s p else exec o t p
 exec o (token k s) p = if is_at k p.rest then exec o s (taken k (width k) p) else None
 exec o (any s) p = if next_kind p.rest == EOF then None else exec o s (taken (next_kind p.rest) 1 p)

@@ -1,8 +1,6 @@
 -- Expressions with operators.
 use Rattle.std.specs.Prelude.{◌&&◌, not, [], ◌∷◌, codes, ℕ, if◌then◌else◌}
 use Rattle.rap_base.specs.TokenKind.{AMP, STAR, BANG, MINUS, DOT2, DOT2EQ}
-use Rattle.rap_events.specs.Composite.{is_at}
-use Rattle.rap_events.specs.Record.{next_kind}
 use Rattle.rap_grammar_scripts.specs.Atom.{atom_expr}
 use Rattle.rap_grammar_scripts.specs.Attributes.{outer_attrs}
 use Rattle.rap_grammar_scripts.specs.First.{one_of, is_expr_first}
@@ -11,7 +9,7 @@ use Rattle.rap_grammar_scripts.specs.Postfix.{postfix_expr}
 use Rattle.rap_grammar_scripts.specs.Ranges.{prefix_range}
 use Rattle.rap_grammar_scripts.specs.Recovery.{is_expr_recovery}
 use Rattle.rap_grammar_scripts.specs.Script.{Script, nothing, give, after, abandon, block, test, extend, start}
-use Rattle.rap_grammar_scripts.specs.Words.{is_block, if_some, next_is, choose, recover, ◌▸◌, done, call}
+use Rattle.rap_grammar_scripts.specs.Words.{is_block, if_some, next_is, choose, recover, ◌▸◌, done, call, next_so, is_at}
 use Rattle.rap_grammar_scripts.specs.declared.arguments.Restrictions.{Restrictions}
 use Rattle.rap_grammar_scripts.specs.declared.rule.Rule.{Rule}
 
@@ -20,7 +18,7 @@ unfoldable pub lhs : Restrictions → Script Rule
 lhs r =
     choose
     ((next_is AMP, ref_expr r)
-    ∷ (λ rs. one_of (STAR ∷ BANG ∷ MINUS ∷ []) (next_kind rs), prefix_expr r)
+    ∷ (next_so (one_of (STAR ∷ BANG ∷ MINUS ∷ [])), prefix_expr r)
     ∷ (is_at DOT2EQ, prefix_range r DOT2EQ)
     ∷ (is_at DOT2, prefix_range r DOT2)
     ∷ [])
@@ -34,7 +32,7 @@ missing_expr = recover (codes "expected expression") is_expr_recovery (abandon �
 -- an expression from the newest node on
 unfoldable pub expr_from : Restrictions → ℕ → Script Rule
 expr_from r bp =
-    test (λ rs. is_expr_first (next_kind rs))
+    test (next_so is_expr_first)
     (after (lhs r) (λ v.
     if_some v (extend ▸ (if r.prefer_stmt && is_block v then give block else (call (climb r bp) ▸ done)))
     (abandon ▸ give nothing)))

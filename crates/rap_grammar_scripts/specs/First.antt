@@ -1,10 +1,10 @@
 -- What the rules begin with.
-use Rattle.std.specs.Prelude.{ℕ, List, [], ◌∷◌, drop, Bool, ◌==◌, ◌&&◌, ◌||◌, not}
+use Rattle.std.specs.Prelude.{ℕ, List, [], ◌∷◌, Bool, ◌==◌, ◌&&◌, ◌||◌, not}
 use Rattle.std.specs.List.{list_any}
 use Rattle.rap_base.specs.TokenKind.{IDENT, SELF_KW, SUPER_KW, CRATE_KW, SELF_TYPE_KW, TRUE_KW, FALSE_KW, INT_NUMBER, FLOAT_NUMBER, BYTE, CHAR, STRING, BYTE_STRING, C_STRING, COLON, COLON2, L_ANGLE, L_PAREN, L_BRACK, L_CURLY, AMP, PIPE, STAR, BANG, DOT, MINUS, UNDERSCORE, POUND, OUTER_DOC_COMMENT, LIFETIME_IDENT, FN_KW, UNSAFE_KW, EXTERN_KW, FOR_KW, IMPL_KW, DYN_KW, CONST_KW, BOX_KW, REF_KW, MUT_KW, QUESTION, ASYNC_KW, BREAK_KW, CONTINUE_KW, DO_KW, GEN_KW, IF_KW, LET_KW, LOOP_KW, MATCH_KW, MOVE_KW, RETURN_KW, BECOME_KW, STATIC_KW, TRY_KW, WHILE_KW, YIELD_KW}
 use Rattle.rap_base.specs.Edition.{at_least_2018}
-use Rattle.rap_events.specs.Record.{Record, next_kind, kind_at, contextual_at, edition_at}
-use Rattle.rap_events.specs.Composite.{parts, begins_with, is_at}
+use Rattle.rap_grammar_scripts.specs.Test.{Test, kind_so, edition_so, comes, negated, also, or_else}
+use Rattle.rap_grammar_scripts.specs.Words.{next_is, next_so, kind_is, word_is, is_at}
 
 abbrev pub one_of : List ℕ → ℕ → Bool
 one_of kinds kind = list_any (λ k. k == kind) kinds
@@ -83,23 +83,22 @@ abbrev pub is_cfg_predicate_first : ℕ → Bool
 is_cfg_predicate_first kind = one_of (TRUE_KW ∷ FALSE_KW ∷ IDENT ∷ []) kind
 
 -- a path comes next that begins with a name or `::`
-abbrev pub is_use_path_start : List Record → Bool
-is_use_path_start rs =
-    one_of (IDENT ∷ SELF_KW ∷ SUPER_KW ∷ CRATE_KW ∷ []) (next_kind rs) || begins_with (parts COLON2) rs
+abbrev pub is_use_path_start : Test
+is_use_path_start = or_else (next_so (one_of (IDENT ∷ SELF_KW ∷ SUPER_KW ∷ CRATE_KW ∷ []))) (is_at COLON2)
 
 -- a path comes next
-abbrev pub is_path_start : List Record → Bool
-is_path_start rs = (is_path_name (next_kind rs) || begins_with (parts COLON2) rs) || (next_kind rs == L_ANGLE)
+abbrev pub is_path_start : Test
+is_path_start = or_else (or_else (next_so is_path_name) (is_at COLON2)) (next_is L_ANGLE)
 
 -- generic arguments in an expression, as `::<a>`
-abbrev pub starts_expr_args : List Record → Bool
-starts_expr_args rs = is_at COLON2 rs && is_at L_ANGLE (drop 2 rs)
+abbrev pub starts_expr_args : Test
+starts_expr_args = also (is_at COLON2) (comes 2 L_ANGLE)
 
 -- a closure comes next
-abbrev pub is_closure : List Record → Bool
-is_closure rs =
-    one_of (CONST_KW ∷ STATIC_KW ∷ ASYNC_KW ∷ MOVE_KW ∷ PIPE ∷ []) (next_kind rs) ||
-    ((next_kind rs == FOR_KW) && (kind_at rs 1 == L_ANGLE))
+abbrev pub is_closure : Test
+is_closure =
+    or_else (next_so (one_of (CONST_KW ∷ STATIC_KW ∷ ASYNC_KW ∷ MOVE_KW ∷ PIPE ∷ [])))
+    (also (next_is FOR_KW) (kind_is 1 L_ANGLE))
 
 -- a bracket that opens
 abbrev pub is_bracket : ℕ → Bool
@@ -116,12 +115,12 @@ is_weak_dyn_path_first kind =
     (IDENT ∷ SELF_KW ∷ SUPER_KW ∷ CRATE_KW ∷ SELF_TYPE_KW ∷ LIFETIME_IDENT ∷ QUESTION ∷ FOR_KW ∷ L_PAREN ∷ []) kind
 
 -- an identifier `dyn` before a bound comes next
-abbrev pub is_dyn_weak : List Record → Bool
-is_dyn_weak rs = (contextual_at rs 0 == DYN_KW) && is_weak_dyn_path_first (kind_at rs 1)
+abbrev pub is_dyn_weak : Test
+is_dyn_weak = also (word_is 0 DYN_KW) (kind_so 1 is_weak_dyn_path_first)
 
 -- the same before 2018, when it is the keyword
-abbrev pub starts_weak_dyn : List Record → Bool
-starts_weak_dyn rs = (next_kind rs == IDENT) && (not (at_least_2018 (edition_at rs 0)) && is_dyn_weak rs)
+abbrev pub starts_weak_dyn : Test
+starts_weak_dyn = also (next_is IDENT) (also (negated (edition_so 0 at_least_2018)) is_dyn_weak)
 
 -- a generic parameter, or an attribute before it
 abbrev pub is_attributed_generic_param_first : ℕ → Bool

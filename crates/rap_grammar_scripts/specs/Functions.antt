@@ -3,8 +3,6 @@
 use Rattle.std.specs.Prelude.{codes, ℕ, Bool, [], ◌∷◌, false}
 use Rattle.rap_base.specs.TokenKind.{L_PAREN, R_PAREN, R_BRACK, R_ANGLE, SEMICOLON, FN_KW}
 use Rattle.rap_base.specs.NodeKind.{FN}
-use Rattle.rap_events.specs.Composite.{is_at}
-use Rattle.rap_events.specs.Record.{next_kind}
 use Rattle.rap_grammar_scripts.specs.Blocks.{block_expr}
 use Rattle.rap_grammar_scripts.specs.First.{one_of}
 use Rattle.rap_grammar_scripts.specs.ItemNames.{is_item_paren_recovery}
@@ -12,7 +10,7 @@ use Rattle.rap_grammar_scripts.specs.Names.{name_r}
 use Rattle.rap_grammar_scripts.specs.Params.{param_list_fn_def}
 use Rattle.rap_grammar_scripts.specs.Script.{Script, test, report, after, give, skip, again, loop, token, finish}
 use Rattle.rap_grammar_scripts.specs.ThroughKnot.{opt_ret_type, opt_no_arrow_ret_type, opt_where_clause, opt_generic_param_list}
-use Rattle.rap_grammar_scripts.specs.Words.{done, ◌▸◌, if_some, call, optional}
+use Rattle.rap_grammar_scripts.specs.Words.{done, ◌▸◌, if_some, call, optional, next_so, is_at}
 use Rattle.rap_grammar_scripts.specs.declared.rule.Rule.{Rule}
 
 unfoldable pub fn_params : Script Rule
@@ -27,7 +25,7 @@ is_unbalanced kind = one_of (R_PAREN ∷ R_BRACK ∷ R_ANGLE ∷ []) kind
 
 abbrev pub bracket_turn : Bool → Bool → Script Rule
 bracket_turn a b =
-    optional (λ rs. is_unbalanced (next_kind rs)) (skip (codes "expected a curly brace") ▸ give (again a b))
+    optional (next_so is_unbalanced) (skip (codes "expected a curly brace") ▸ give (again a b))
 
 -- brackets that close nothing
 unfoldable pub unbalanced_brackets : Script Rule

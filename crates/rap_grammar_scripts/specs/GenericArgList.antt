@@ -5,7 +5,7 @@ use Rattle.rap_base.specs.TokenKind.{COMMA, L_ANGLE, R_ANGLE, COLON2}
 use Rattle.rap_base.specs.NodeKind.{GENERIC_ARG_LIST}
 use Rattle.rap_grammar_scripts.specs.First.{is_generic_arg_first, starts_expr_args}
 use Rattle.rap_grammar_scripts.specs.Lists.{delimited}
-use Rattle.rap_grammar_scripts.specs.Script.{Script, finish, token, start, after}
+use Rattle.rap_grammar_scripts.specs.Script.{Script, finish, token, start}
 use Rattle.rap_grammar_scripts.specs.ThroughKnot.{generic_arg_element}
 use Rattle.rap_grammar_scripts.specs.Words.{done, ◌▸◌, call, optional}
 use Rattle.rap_grammar_scripts.specs.declared.rule.Rule.{Rule}

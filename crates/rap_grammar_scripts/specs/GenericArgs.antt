@@ -1,9 +1,8 @@
 -- Generic arguments.
-use Rattle.std.specs.Prelude.{ℕ, List, Bool, true, ◌&&◌, not, drop, codes, [], ◌∷◌}
+use Rattle.std.specs.Prelude.{ℕ, true, codes, [], ◌∷◌}
 use Rattle.rap_base.specs.TokenKind.{LIFETIME_IDENT, PLUS, EQ, COLON, COLON2}
 use Rattle.rap_base.specs.NodeKind.{LIFETIME_ARG, TYPE_ARG, ASSOC_TYPE_ARG, PATH_SEGMENT, PATH, MACRO_CALL, MACRO_TYPE, PATH_TYPE}
-use Rattle.rap_events.specs.Record.{Record, next_kind}
-use Rattle.rap_events.specs.Composite.{is_at}
+use Rattle.rap_grammar_scripts.specs.Test.{Test, comes, negated, also}
 use Rattle.rap_grammar_scripts.specs.ThroughKnot.{type_}
 use Rattle.rap_grammar_scripts.specs.ConstArgs.{const_arg}
 use Rattle.rap_grammar_scripts.specs.First.{is_path_name, is_type_first, is_const_arg_first, starts_weak_dyn}
@@ -15,19 +14,19 @@ use Rattle.rap_grammar_scripts.specs.declared.rule.Rule.{Rule}
 use Rattle.rap_grammar_scripts.specs.Recovery.{is_generic_arg_recovery}
 use Rattle.rap_grammar_scripts.specs.Script.{Script, test, any, report, start, precede, finish}
 use Rattle.rap_grammar_scripts.specs.Types.{type_with_bounds_cond, opt_type_bounds_as_dyn_trait_type}
-use Rattle.rap_grammar_scripts.specs.Words.{done, next_is, ◌▸◌, call, choose}
+use Rattle.rap_grammar_scripts.specs.Words.{done, next_is, ◌▸◌, call, choose, next_so, is_at}
 
 -- a lifetime that is no bound of a type
-abbrev pub starts_lifetime_arg : List Record → Bool
-starts_lifetime_arg rs = next_is LIFETIME_IDENT rs && not (is_at PLUS (drop 1 rs))
+abbrev pub starts_lifetime_arg : Test
+starts_lifetime_arg = also (next_is LIFETIME_IDENT) (negated (comes 1 PLUS))
 
 -- a name that is no `dyn` of a type
-abbrev pub starts_named_arg : List Record → Bool
-starts_named_arg rs = is_path_name (next_kind rs) && not (starts_weak_dyn rs)
+abbrev pub starts_named_arg : Test
+starts_named_arg = also (next_so is_path_name) (negated starts_weak_dyn)
 
 -- the colon of bounds
-abbrev pub starts_bounds : List Record → Bool
-starts_bounds rs = next_is COLON rs && not (is_at COLON2 rs)
+abbrev pub starts_bounds : Test
+starts_bounds = also (next_is COLON) (negated (is_at COLON2))
 
 unfoldable pub lifetime_arg : Script Rule
 lifetime_arg = start ▸ call lifetime ▸ finish LIFETIME_ARG ▸ done
@@ -39,8 +38,8 @@ type_arg = start ▸ call (type_with_bounds_cond true) ▸ finish TYPE_ARG ▸ d
 unfoldable pub assoc_value : Script Rule
 assoc_value =
     choose
-    ((λ rs. is_type_first (next_kind rs), type_)
-    ∷ (λ rs. is_generic_arg_recovery (next_kind rs), report (codes "missing associated item binding") ▸ done)
+    ((next_so is_type_first, type_)
+    ∷ (next_so is_generic_arg_recovery, report (codes "missing associated item binding") ▸ done)
     ∷ [])
     const_arg
 
@@ -71,7 +70,7 @@ unfoldable pub generic_arg : Script Rule
 generic_arg =
     choose
     ((starts_lifetime_arg, lifetime_arg)
-    ∷ (λ rs. is_const_arg_first (next_kind rs), const_arg)
+    ∷ (next_so is_const_arg_first, const_arg)
     ∷ (starts_named_arg, named_arg)
     ∷ [])
     type_arg

@@ -1,10 +1,9 @@
 -- Generic parameters, bounds, and `where`.
-use Rattle.std.specs.Prelude.{ℕ, Bool, false, ◌&&◌, [], ◌∷◌, drop, codes}
+use Rattle.std.specs.Prelude.{ℕ, Bool, false, [], ◌∷◌, codes}
 use Rattle.rap_base.specs.TokenKind.{ERROR, L_ANGLE, R_ANGLE, L_PAREN, R_PAREN, L_BRACK, R_BRACK, L_CURLY, COMMA, COLON, SEMICOLON, EQ, PLUS, TILDE, QUESTION, BANG, IDENT, LIFETIME_IDENT, CONST_KW, ASYNC_KW, FOR_KW, USE_KW, IMPL_KW, WHERE_KW}
 use Rattle.rap_base.specs.NodeKind.{GENERIC_PARAM_LIST, LIFETIME_PARAM, TYPE_PARAM, CONST_PARAM, TYPE_BOUND, TYPE_BOUND_LIST, USE_BOUND_GENERIC_ARGS, WHERE_CLAUSE, WHERE_PRED}
-use Rattle.rap_events.specs.Record.{next_kind}
-use Rattle.rap_events.specs.Composite.{is_at}
 use Rattle.rap_grammar_scripts.specs.Attributes.{outer_attrs}
+use Rattle.rap_grammar_scripts.specs.Test.{comes, also}
 use Rattle.rap_grammar_scripts.specs.ThroughKnot.{type_, ascription, for_binder}
 use Rattle.rap_grammar_scripts.specs.ConstArgs.{const_arg}
 use Rattle.rap_grammar_scripts.specs.First.{one_of, is_bracket, is_attributed_generic_param_first, is_use_bound_arg_first, is_where_predicate_first, is_use_path_start}
@@ -14,7 +13,7 @@ use Rattle.rap_grammar_scripts.specs.TokenTree.{token_tree}
 use Rattle.rap_grammar_scripts.specs.declared.rule.Rule.{Rule}
 use Rattle.rap_grammar_scripts.specs.Script.{Script, nothing, give, test, token, report, skip, start, finish, abandon, after, loop, again}
 use Rattle.rap_grammar_scripts.specs.PathType.{path_type}
-use Rattle.rap_grammar_scripts.specs.Words.{done, if_some, next_is, eat, expect, ◌▸◌, call, choose, optional, only_if}
+use Rattle.rap_grammar_scripts.specs.Words.{done, if_some, next_is, eat, expect, ◌▸◌, call, choose, optional, only_if, next_so, is_at}
 
 -- a name or a lifetime in a `use<..>`
 unfoldable pub use_bound_arg : Script Rule
@@ -42,7 +41,7 @@ bound_constness =
 unfoldable pub bound_macro_call : Script Rule
 bound_macro_call =
     start ▸ token BANG ▸ report (codes "unexpected `!` in type path, macro calls are not allowed here") ▸
-    test (λ rs. is_bracket (next_kind rs)) (call token_tree ▸ finish ERROR ▸ done) (finish ERROR ▸ done)
+    test (next_so is_bracket) (call token_tree ▸ finish ERROR ▸ done) (finish ERROR ▸ done)
 
 -- a trait with what stands before it
 unfoldable pub path_type_bound : Script Rule
@@ -56,7 +55,7 @@ bare_bound =
     choose
     ((next_is LIFETIME_IDENT, lifetime)
     ∷ (next_is FOR_KW, call for_binder ▸ path_type_bound)
-    ∷ (λ rs. next_is USE_KW rs && is_at L_ANGLE (drop 1 rs), use_bound)
+    ∷ (also (next_is USE_KW) (comes 1 L_ANGLE), use_bound)
     ∷ [])
     path_type_bound
 
@@ -91,7 +90,7 @@ bounds = token COLON ▸ bounds_without_colon
 -- a bound of a lifetime: another one is reported and read
 unfoldable pub lifetime_bound : Script Rule
 lifetime_bound =
-    test (λ rs. one_of (LIFETIME_IDENT ∷ R_ANGLE ∷ COMMA ∷ []) (next_kind rs)) type_bound
+    test (next_so (one_of (LIFETIME_IDENT ∷ R_ANGLE ∷ COMMA ∷ []))) type_bound
     (report (codes "expected lifetime") ▸ type_bound)
 
 abbrev pub lifetime_bound_turn : Bool → Bool → Script Rule
@@ -175,14 +174,14 @@ ends_where kind = one_of (L_CURLY ∷ SEMICOLON ∷ EQ ∷ []) kind
 unfoldable pub after_predicate : Script Rule
 after_predicate =
     choose
-    ((is_at COMMA, token COMMA ▸ optional (λ rs. ends_where (next_kind rs)) (give nothing))
-    ∷ (λ rs. ends_where (next_kind rs), give nothing)
+    ((is_at COMMA, token COMMA ▸ optional (next_so ends_where) (give nothing))
+    ∷ (next_so ends_where, give nothing)
     ∷ [])
     (report (codes "expected comma") ▸ done)
 
 abbrev pub where_turn : Bool → Bool → Script Rule
 where_turn a b =
-    optional (λ rs. is_where_predicate_first (next_kind rs))
+    optional (next_so is_where_predicate_first)
     (call where_predicate ▸ after after_predicate (λ w. if_some w (give (again a b)) done))
 
 unfoldable pub where_predicates : Script Rule

@@ -1,9 +1,7 @@
 -- Items.
-use Rattle.std.specs.Prelude.{Bool, List, [], ◌∷◌, drop, ◌==◌, ◌&&◌, not, if◌then◌else◌, codes, false}
+use Rattle.std.specs.Prelude.{Bool, [], ◌∷◌, not, if◌then◌else◌, codes, false}
 use Rattle.rap_base.specs.TokenKind.{UNDERSCORE, IDENT, MUT_KW, CRATE_KW, UNION_KW, BANG, MACRO_RULES_KW, GLOBAL_ASM_KW, POUND, BUILTIN_KW, EXTERN_KW, USE_KW, MOD_KW, TYPE_KW, CONST_KW, STATIC_KW, STRUCT_KW, ENUM_KW, MACRO_KW, L_CURLY, FN_KW, TRAIT_KW, IMPL_KW, ERROR, SEMICOLON, R_CURLY, EOF, LET_KW}
 use Rattle.rap_base.specs.NodeKind.{EXTERN_BLOCK}
-use Rattle.rap_events.specs.Composite.{is_at}
-use Rattle.rap_events.specs.Record.{Record, kind_at, contextual_at, next_kind}
 use Rattle.rap_grammar_scripts.specs.Adt.{union, strukt, enum_}
 use Rattle.rap_grammar_scripts.specs.Asm.{parse_asm_expr}
 use Rattle.rap_grammar_scripts.specs.Attributes.{outer_attrs}
@@ -15,19 +13,20 @@ use Rattle.rap_grammar_scripts.specs.Macros.{macro_rules, macro_def, macro_call}
 use Rattle.rap_grammar_scripts.specs.Modifiers.{modifiers, found}
 use Rattle.rap_grammar_scripts.specs.Modules.{extern_crate, mod_item, type_item, extern_item_list, has_extern, has_mods}
 use Rattle.rap_grammar_scripts.specs.Paths.{use_path}
-use Rattle.rap_grammar_scripts.specs.Script.{Script, token, bear, nothing, give, block, after, finish, report, skip, test, start, abandon}
+use Rattle.rap_grammar_scripts.specs.Script.{Script, token, bear, nothing, give, after, finish, report, skip, test, start, abandon}
+use Rattle.rap_grammar_scripts.specs.Test.{Test, kind_so, comes, negated, also, told}
 use Rattle.rap_grammar_scripts.specs.Traits.{trait_, impl_}
 use Rattle.rap_grammar_scripts.specs.UseItem.{use_}
 use Rattle.rap_grammar_scripts.specs.Visibility.{opt_visibility}
-use Rattle.rap_grammar_scripts.specs.Words.{only_if, reads_as, starts_builtin, done, ◌▸◌, call, choose, next_is, if_some, optional}
+use Rattle.rap_grammar_scripts.specs.Words.{only_if, reads_as, starts_builtin, done, ◌▸◌, call, choose, next_is, if_some, optional, next_so, kind_is, word_is, is_at}
 use Rattle.rap_grammar_scripts.specs.declared.rule.Rule.{Rule}
 
 -- what follows the keyword of a constant or a static
-abbrev pub is_named : List Record → Bool
-is_named rs = one_of (IDENT ∷ UNDERSCORE ∷ MUT_KW ∷ []) (kind_at rs 1)
+abbrev pub is_named : Test
+is_named = kind_so 1 (one_of (IDENT ∷ UNDERSCORE ∷ MUT_KW ∷ []))
 
 unfoldable pub opt_extern_crate : Script Rule
-opt_extern_crate = only_if (λ rs. is_at CRATE_KW (drop 1 rs)) extern_crate
+opt_extern_crate = only_if (comes 1 CRATE_KW) extern_crate
 
 unfoldable pub opt_named_const : Script Rule
 opt_named_const = only_if is_named konst
@@ -36,14 +35,14 @@ unfoldable pub opt_static : Script Rule
 opt_static = only_if is_named static_
 
 -- an item that begins with an identifier
-abbrev pub starts_union : List Record → Bool
-starts_union rs = reads_as UNION_KW rs && (kind_at rs 1 == IDENT)
+abbrev pub starts_union : Test
+starts_union = also (reads_as UNION_KW) (kind_is 1 IDENT)
 
-abbrev pub starts_macro_rules : List Record → Bool
-starts_macro_rules rs = reads_as MACRO_RULES_KW rs && (is_at BANG (drop 1 rs) && is_at IDENT (drop 2 rs))
+abbrev pub starts_macro_rules : Test
+starts_macro_rules = also (reads_as MACRO_RULES_KW) (also (comes 1 BANG) (comes 2 IDENT))
 
-abbrev pub starts_global_asm : List Record → Bool
-starts_global_asm rs = starts_builtin rs && (contextual_at rs 2 == GLOBAL_ASM_KW)
+abbrev pub starts_global_asm : Test
+starts_global_asm = also starts_builtin (word_is 2 GLOBAL_ASM_KW)
 
 unfoldable pub global_asm : Script Rule
 global_asm = bear BUILTIN_KW ▸ token POUND ▸ bear GLOBAL_ASM_KW ▸ call parse_asm_expr ▸ done
@@ -75,7 +74,7 @@ opt_item_without_modifiers =
 
 -- a constant after modifiers: no block after `const`
 unfoldable pub opt_const : Script Rule
-opt_const = only_if (λ rs. not (kind_at rs 1 == L_CURLY)) konst
+opt_const = only_if (negated (kind_is 1 L_CURLY)) konst
 
 unfoldable pub opt_extern_block : Bool → Script Rule
 opt_extern_block has_extern = if has_extern then call extern_item_list ▸ finish EXTERN_BLOCK ▸ done else give nothing
@@ -132,8 +131,8 @@ unfoldable pub missing_item : Bool → Script Rule
 missing_item stop_on_r_curly =
     choose
     ((next_is L_CURLY, error_block (codes "expected an item"))
-    ∷ (λ rs. next_is R_CURLY rs && not stop_on_r_curly, unmatched_brace)
-    ∷ (λ rs. one_of (EOF ∷ R_CURLY ∷ []) (next_kind rs), report (codes "expected an item") ▸ done)
+    ∷ (also (next_is R_CURLY) (told (not stop_on_r_curly)), unmatched_brace)
+    ∷ (next_so (one_of (EOF ∷ R_CURLY ∷ [])), report (codes "expected an item") ▸ done)
     ∷ (next_is LET_KW, error_let_stmt (codes "expected an item"))
     ∷ [])
     (skip (codes "expected an item") ▸ done)

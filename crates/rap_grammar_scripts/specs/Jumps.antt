@@ -1,21 +1,21 @@
 -- Jumps: `return`, `break` and their like.
 -- In the Rust crate: `grammar/expressions/atom.rs`.
-use Rattle.std.specs.Prelude.{Bool, ◌==◌, ◌&&◌, not, List, false}
+use Rattle.std.specs.Prelude.{Bool, false}
 use Rattle.rap_base.specs.TokenKind.{L_CURLY, LIFETIME_IDENT, RETURN_KW, BECOME_KW, YIELD_KW, DO_KW, YEET_KW, CONTINUE_KW, BREAK_KW}
 use Rattle.rap_base.specs.NodeKind.{RETURN_EXPR, BECOME_EXPR, YIELD_EXPR, YEET_EXPR, CONTINUE_EXPR, BREAK_EXPR}
-use Rattle.rap_events.specs.Composite.{is_at}
-use Rattle.rap_events.specs.Record.{Record, next_kind}
 use Rattle.rap_grammar_scripts.specs.First.{is_expr_first}
 use Rattle.rap_grammar_scripts.specs.Names.{lifetime}
-use Rattle.rap_grammar_scripts.specs.Script.{block, Script, token, start, finish}
+use Rattle.rap_grammar_scripts.specs.Script.{Script, token, start, finish}
+use Rattle.rap_grammar_scripts.specs.Test.{Test, negated, also, told}
 use Rattle.rap_grammar_scripts.specs.ThroughKnot.{expr}
-use Rattle.rap_grammar_scripts.specs.Words.{done, ◌▸◌, call, optional, eat_as}
+use Rattle.rap_grammar_scripts.specs.Words.{done, ◌▸◌, call, optional, eat_as, next_is, next_so, is_at}
 use Rattle.rap_grammar_scripts.specs.declared.arguments.Restrictions.{Restrictions}
 use Rattle.rap_grammar_scripts.specs.declared.rule.Rule.{Rule}
 
 -- an operand follows: an expression begins and, where a block follows, it is no block
-abbrev pub has_operand : Bool → List Record → Bool
-has_operand before_block rs = is_expr_first (next_kind rs) && not (before_block && (next_kind rs == L_CURLY))
+abbrev pub has_operand : Bool → Test
+has_operand before_block =
+    also (next_so is_expr_first) (negated (also (told before_block) (next_is L_CURLY)))
 
 -- an operand that may be missing
 unfoldable pub opt_expr : Bool → Script Rule

@@ -41,6 +41,7 @@ pub mod Records
 pub mod Recovery
 pub mod Script
 pub mod Statements
+pub mod Test
 pub mod ThroughKnot
 pub mod TokenTree
 pub mod Traits

@@ -3,21 +3,19 @@
 use Rattle.std.specs.Prelude.{[], ◌∷◌, codes}
 use Rattle.rap_base.specs.TokenKind.{L_PAREN, L_BRACK, L_CURLY, SEMICOLON, BANG, MACRO_KW, MACRO_RULES_KW}
 use Rattle.rap_base.specs.NodeKind.{MACRO_RULES, MACRO_DEF, MACRO_CALL}
-use Rattle.rap_events.specs.Record.{next_kind}
-use Rattle.rap_events.specs.Composite.{is_at}
 use Rattle.rap_grammar_scripts.specs.First.{one_of, is_bracket}
 use Rattle.rap_grammar_scripts.specs.Names.{name, name_r}
 use Rattle.rap_grammar_scripts.specs.declared.rule.Rule.{Rule}
 use Rattle.rap_grammar_scripts.specs.Recovery.{is_item_recovery}
 use Rattle.rap_grammar_scripts.specs.Script.{Script, Outcome, nothing, something, block, again, test, token, bear, report, finish, after}
 use Rattle.rap_grammar_scripts.specs.TokenTree.{token_tree, macro_call_after_excl}
-use Rattle.rap_grammar_scripts.specs.Words.{done, next_is, expect, ◌▸◌, call, choose}
+use Rattle.rap_grammar_scripts.specs.Words.{done, next_is, expect, ◌▸◌, call, choose, next_so, is_at}
 
 -- the rules of a macro in their brackets; a semicolon stands after other brackets than braces
 unfoldable pub rules_in_brackets : Script Rule
 rules_in_brackets =
     choose
-    ((λ rs. one_of (L_BRACK ∷ L_PAREN ∷ []) (next_kind rs), call token_tree ▸ expect SEMICOLON ▸ done)
+    ((next_so (one_of (L_BRACK ∷ L_PAREN ∷ [])), call token_tree ▸ expect SEMICOLON ▸ done)
     ∷ (next_is L_CURLY, token_tree)
     ∷ [])
     (report (codes "expected `{`, `[`, `(`") ▸ done)
@@ -28,7 +26,7 @@ macro_rules = bear MACRO_RULES_KW ▸ expect BANG ▸ call name ▸ call rules_i
 -- what a macro is expanded to, after its parameters
 unfoldable pub macro_def_body : Script Rule
 macro_def_body =
-    test (λ rs. is_bracket (next_kind rs)) token_tree (report (codes "expected `{`, `[`, `(`") ▸ done)
+    test (next_so is_bracket) token_tree (report (codes "expected `{`, `[`, `(`") ▸ done)
 
 unfoldable pub macro_def_tokens : Script Rule
 macro_def_tokens =

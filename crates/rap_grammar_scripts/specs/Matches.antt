@@ -3,12 +3,11 @@
 use Rattle.std.specs.Prelude.{codes, Bool, if◌then◌else◌, [], ◌∷◌, false}
 use Rattle.rap_base.specs.TokenKind.{EQ, IF_KW, COMMA, R_CURLY, FAT_ARROW, EOF, L_CURLY, MATCH_KW}
 use Rattle.rap_base.specs.NodeKind.{MATCH_GUARD, MATCH_ARM, MATCH_ARM_LIST, MATCH_EXPR}
-use Rattle.rap_events.specs.Composite.{is_at}
 use Rattle.rap_grammar_scripts.specs.Attributes.{outer_attrs, inner_attrs}
 use Rattle.rap_grammar_scripts.specs.Blocks.{error_block}
-use Rattle.rap_grammar_scripts.specs.Script.{Script, test, token, report, start, finish, block, after, give, skip, again, loop}
+use Rattle.rap_grammar_scripts.specs.Script.{Script, test, token, report, start, finish, after, give, skip, again, loop}
 use Rattle.rap_grammar_scripts.specs.ThroughKnot.{expr, pattern, arm_pattern, expr_stmt, expr_no_struct}
-use Rattle.rap_grammar_scripts.specs.Words.{done, ◌▸◌, call, optional, is_block, expect, choose}
+use Rattle.rap_grammar_scripts.specs.Words.{done, ◌▸◌, call, optional, is_block, expect, choose, is_at}
 use Rattle.rap_grammar_scripts.specs.declared.rule.Rule.{Rule}
 
 unfoldable pub match_guard : Script Rule

@@ -1,17 +1,15 @@
 -- Modules, lists of items, `extern crate` and type aliases.
 -- In the Rust crate: `grammar/items.rs`.
-use Rattle.std.specs.Prelude.{Bool, false, List, ◌&&◌, true, [], ◌∷◌, codes, drop}
+use Rattle.std.specs.Prelude.{Bool, false, true, [], ◌∷◌, codes}
 use Rattle.rap_base.specs.TokenKind.{SEMICOLON, EXTERN_KW, CRATE_KW, R_CURLY, EOF, L_CURLY, MOD_KW, COLON, EQ, TYPE_KW, CONST_KW}
 use Rattle.rap_base.specs.NodeKind.{EXTERN_CRATE, ITEM_LIST, EXTERN_ITEM_LIST, MODULE, TYPE_ALIAS}
-use Rattle.rap_events.specs.Composite.{is_at}
-use Rattle.rap_events.specs.Record.{Record}
 use Rattle.rap_grammar_scripts.specs.Attributes.{inner_attrs}
 use Rattle.rap_grammar_scripts.specs.Consts.{konst}
-use Rattle.rap_grammar_scripts.specs.Modifiers.{modifiers}
 use Rattle.rap_grammar_scripts.specs.Names.{name_ref_or_self, opt_rename, name}
-use Rattle.rap_grammar_scripts.specs.Script.{Outcome, nothing, something, block, again, Script, token, finish, give, loop, after, start, report, test}
+use Rattle.rap_grammar_scripts.specs.Script.{Outcome, nothing, something, block, again, Script, token, finish, give, loop, start, report, test}
+use Rattle.rap_grammar_scripts.specs.Test.{Test, comes, also, told}
 use Rattle.rap_grammar_scripts.specs.ThroughKnot.{bounds, type_, opt_generic_param_list, opt_where_clause}
-use Rattle.rap_grammar_scripts.specs.Words.{done, expect, ◌▸◌, call, recur, choose, optional}
+use Rattle.rap_grammar_scripts.specs.Words.{done, expect, ◌▸◌, call, recur, choose, optional, is_at}
 use Rattle.rap_grammar_scripts.specs.declared.rule.Rule.{Rule}
 use Rattle.rap_grammar_scripts.specs.declared.rule.Rule.TheVariants as knot
 
@@ -34,8 +32,8 @@ extern_crate =
     finish EXTERN_CRATE ▸ done
 
 -- items in a list, up to the end, or up to a brace that closes
-abbrev pub ends_items : Bool → List Record → Bool
-ends_items stop_on_r_curly rs = is_at R_CURLY rs && stop_on_r_curly
+abbrev pub ends_items : Bool → Test
+ends_items stop_on_r_curly = also (is_at R_CURLY) (told stop_on_r_curly)
 
 abbrev pub item_turn : Bool → Bool → Bool → Script Rule
 item_turn stop_on_r_curly a b =
@@ -83,4 +81,4 @@ type_alias =
 
 -- what begins with `type`
 unfoldable pub type_item : Script Rule
-type_item = test (λ rs. is_at CONST_KW (drop 1 rs)) konst type_alias
+type_item = test (comes 1 CONST_KW) konst type_alias

@@ -3,23 +3,21 @@
 use Rattle.std.specs.Prelude.{codes, ℕ, Bool, false, [], ◌∷◌}
 use Rattle.rap_base.specs.TokenKind.{LIFETIME_IDENT, IDENT, SELF_TYPE_KW, EXTERN_KW, STRING, SELF_KW, AS_KW, UNDERSCORE}
 use Rattle.rap_base.specs.NodeKind.{NAME_REF, LIFETIME, NAME, ABI, RENAME}
-use Rattle.rap_events.specs.Composite.{is_at}
-use Rattle.rap_events.specs.Record.{next_kind}
 use Rattle.rap_grammar_scripts.specs.First.{is_path_name, is_path_name_or_index, one_of}
-use Rattle.rap_grammar_scripts.specs.Script.{Script, test, any, skip, start, finish, token, bear, after}
-use Rattle.rap_grammar_scripts.specs.Words.{done, ◌▸◌, recover, eat, call, optional}
+use Rattle.rap_grammar_scripts.specs.Script.{Script, test, any, skip, start, finish, token, bear}
+use Rattle.rap_grammar_scripts.specs.Words.{done, ◌▸◌, recover, eat, call, optional, next_so, is_at}
 use Rattle.rap_grammar_scripts.specs.declared.rule.Rule.{Rule}
 
 -- a name in a path
 unfoldable pub name_ref_mod_path : Script Rule
 name_ref_mod_path =
-    test (λ rs. is_path_name (next_kind rs)) (start ▸ any ▸ finish NAME_REF ▸ done)
+    test (next_so is_path_name) (start ▸ any ▸ finish NAME_REF ▸ done)
     (skip (codes "expected identifier, `self`, `super`, `crate`, or `Self`") ▸ done)
 
 -- a name in a path, or a field's number
 unfoldable pub name_ref_mod_path_or_index : Script Rule
 name_ref_mod_path_or_index =
-    test (λ rs. is_path_name_or_index (next_kind rs)) (start ▸ any ▸ finish NAME_REF ▸ done)
+    test (next_so is_path_name_or_index) (start ▸ any ▸ finish NAME_REF ▸ done)
     (skip (codes "expected integer, identifier, `self`, `super`, `crate`, or `Self`") ▸ done)
 
 unfoldable pub lifetime : Script Rule
@@ -38,7 +36,7 @@ name_ref_or_index = start ▸ any ▸ finish NAME_REF ▸ done
 
 unfoldable pub name_ref_or_upper_self : Script Rule
 name_ref_or_upper_self =
-    test (λ rs. one_of (IDENT ∷ SELF_TYPE_KW ∷ []) (next_kind rs)) (start ▸ any ▸ finish NAME_REF ▸ done)
+    test (next_so (one_of (IDENT ∷ SELF_TYPE_KW ∷ []))) (start ▸ any ▸ finish NAME_REF ▸ done)
     (skip (codes "expected identifier or `Self`") ▸ done)
 
 unfoldable pub abi : Script Rule
@@ -46,7 +44,7 @@ abi = start ▸ token EXTERN_KW ▸ eat STRING ▸ finish ABI ▸ done
 
 unfoldable pub name_ref_or_self : Script Rule
 name_ref_or_self =
-    test (λ rs. one_of (IDENT ∷ SELF_KW ∷ []) (next_kind rs)) (start ▸ any ▸ finish NAME_REF ▸ done)
+    test (next_so (one_of (IDENT ∷ SELF_KW ∷ []))) (start ▸ any ▸ finish NAME_REF ▸ done)
     (skip (codes "expected identifier or `self`") ▸ done)
 
 -- a name that may be a keyword

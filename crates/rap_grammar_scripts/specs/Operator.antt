@@ -2,10 +2,8 @@
 use Rattle.std.specs.Prelude.{ℕ, List, [], ◌∷◌, Bool, true, if◌then◌else◌, ◌==◌, false}
 use Rattle.rap_base.specs.TokenKind.{EOF}
 use Rattle.rap_events.specs.Composite.{begins_with}
-use Rattle.rap_events.specs.OperatorTable.{operators, powers}
-use Rattle.rap_events.specs.Power.{power}
+use Rattle.rap_events.specs.OperatorTable.{operators}
 use Rattle.rap_events.specs.Record.{Record, next_kind}
-use Rattle.rap_grammar_scripts.specs.Script.{Script, something, give, test, any}
 use Rattle.rap_grammar_scripts.specs.declared.arguments.Restrictions.{Restrictions}
 
 -- whether these tokens follow the first one, which comes next
@@ -25,15 +23,6 @@ operator_in (row ∷ rows) kind rs = if row.0 == kind then first_of row.0 row.1 
 -- the operator that the tokens begin with, or else a kind of power 0
 unfoldable pub operator_at : List Record → ℕ
 operator_at rs = operator_in operators (next_kind rs) rs
-
--- the way of the operator that comes next, if it is one of these
-abbrev pub by_operator_of : {P : Type 0} → List (ℕ × ℕ) → (ℕ → Script P) → Script P
-by_operator_of [] h = give something
-by_operator_of (row ∷ rows) h = test (λ rs. row.0 == operator_at rs) (h row.0) (by_operator_of rows h)
-
--- the way of the operator that comes next; where none does, there is nothing to do
-unfoldable pub by_operator : {P : Type 0} → (ℕ → Script P) → Script P
-by_operator h = by_operator_of powers h
 
 -- the same restrictions, but for the end of a statement
 abbrev pub operand_of : Restrictions → Restrictions

@@ -1,17 +1,16 @@
 -- Operators before and between operands.
 -- In the Rust crate: `grammar/expressions.rs`.
-use Rattle.std.specs.Prelude.{ℕ, ◌+◌, ◌==◌, if◌then◌else◌, false, Bool, nat_lt, ◌&&◌, [], ◌∷◌}
+use Rattle.std.specs.Prelude.{ℕ, ◌+◌, ◌==◌, if◌then◌else◌, false, Bool, nat_lt, [], ◌∷◌}
 use Rattle.rap_base.specs.TokenKind.{AS_KW, IDENT, MUT_KW, CONST_KW, RAW_KW, AMP}
 use Rattle.rap_base.specs.NodeKind.{BIN_EXPR, CAST_EXPR, REF_EXPR, PREFIX_EXPR}
-use Rattle.rap_events.specs.Composite.{is_at}
 use Rattle.rap_events.specs.Power.{power}
-use Rattle.rap_events.specs.Record.{kind_at}
 use Rattle.rap_grammar_scripts.specs.First.{one_of}
-use Rattle.rap_grammar_scripts.specs.Operator.{operand_of, operator_at, by_operator, prefix_power}
+use Rattle.rap_grammar_scripts.specs.Operator.{operand_of, prefix_power}
 use Rattle.rap_grammar_scripts.specs.Ranges.{range_expr}
 use Rattle.rap_grammar_scripts.specs.Script.{Script, token, precede, finish, after, give, again, test, loop, bear, start, any}
+use Rattle.rap_grammar_scripts.specs.Test.{kind_so, also, operator_so}
 use Rattle.rap_grammar_scripts.specs.ThroughKnot.{type_no_bounds}
-use Rattle.rap_grammar_scripts.specs.Words.{done, ◌▸◌, recur, call, if_some, reads_as, eat}
+use Rattle.rap_grammar_scripts.specs.Words.{done, ◌▸◌, recur, call, if_some, reads_as, eat, is_at, by_operator}
 use Rattle.rap_grammar_scripts.specs.declared.arguments.Restrictions.{Restrictions}
 use Rattle.rap_grammar_scripts.specs.declared.rule.Rule.{Rule}
 use Rattle.rap_grammar_scripts.specs.declared.rule.Rule.TheVariants as knot
@@ -37,7 +36,7 @@ operation r op =
 
 -- the operator that comes next, if it has at least a power
 abbrev pub climb_turn : Restrictions → ℕ → Bool → Bool → Script Rule
-climb_turn r bp a b = test (λ rs. nat_lt (power (operator_at rs)) bp) done (by_operator (operation r))
+climb_turn r bp a b = test (operator_so (λ op. nat_lt (power op) bp)) done (by_operator (operation r))
 
 -- the operators of at least a power after an operand
 unfoldable pub climb : Restrictions → ℕ → Script Rule
@@ -46,7 +45,7 @@ climb r bp = loop (climb_turn r bp) false false
 -- what stands between the `&` of a reference and its operand
 unfoldable pub ref_qualifier : Script Rule
 ref_qualifier =
-    test (λ rs. reads_as RAW_KW rs && one_of (MUT_KW ∷ CONST_KW ∷ IDENT ∷ []) (kind_at rs 1))
+    test (also (reads_as RAW_KW) (kind_so 1 (one_of (MUT_KW ∷ CONST_KW ∷ IDENT ∷ []))))
     (bear RAW_KW ▸ test (is_at CONST_KW) (token CONST_KW ▸ done) (eat MUT_KW ▸ done))
     (eat MUT_KW ▸ done)
 

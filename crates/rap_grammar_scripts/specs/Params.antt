@@ -1,16 +1,15 @@
 -- Parameters of functions and closures.
-use Rattle.std.specs.Prelude.{ℕ, ◌+◌, Bool, false, ◌==◌, ◌&&◌, ◌||◌, not, if◌then◌else◌, List, drop, codes, [], ◌∷◌}
+use Rattle.std.specs.Prelude.{ℕ, ◌+◌, Bool, false, codes, [], ◌∷◌}
 use Rattle.rap_base.specs.TokenKind.{EOF, L_PAREN, R_PAREN, PIPE, COMMA, COLON, COLON2, DOT3, AMP, IDENT, UNDERSCORE, LIFETIME_IDENT, MUT_KW, SELF_KW}
 use Rattle.rap_base.specs.NodeKind.{NAME, PARAM, SELF_PARAM, PARAM_LIST}
-use Rattle.rap_events.specs.Record.{Record, next_kind, kind_at}
-use Rattle.rap_events.specs.Composite.{is_at}
 use Rattle.rap_grammar_scripts.specs.Attributes.{outer_attrs}
+use Rattle.rap_grammar_scripts.specs.Test.{Test, comes, negated, also, or_else}
 use Rattle.rap_grammar_scripts.specs.ThroughKnot.{type_, pattern, pattern_single, ascription}
 use Rattle.rap_grammar_scripts.specs.First.{is_param_first}
 use Rattle.rap_grammar_scripts.specs.Names.{lifetime}
 use Rattle.rap_grammar_scripts.specs.declared.rule.Rule.{Rule}
 use Rattle.rap_grammar_scripts.specs.Script.{Script, nothing, give, test, token, report, start, finish, abandon, after, loop, again}
-use Rattle.rap_grammar_scripts.specs.Words.{done, if_some, eat, expect, ◌▸◌, call, choose, optional, only_if}
+use Rattle.rap_grammar_scripts.specs.Words.{done, if_some, eat, expect, ◌▸◌, call, choose, optional, only_if, next_so, kind_is, is_at}
 use Rattle.rap_grammar_scripts.specs.declared.arguments.Flavor.{Flavor}
 use Rattle.rap_grammar_scripts.specs.declared.arguments.Flavor.TheVariants as flavor
 
@@ -26,20 +25,20 @@ ket flavor.FnPointer = R_PAREN
 ket flavor.Closure = PIPE
 
 -- after so many tokens comes a `self` with which no path begins
-abbrev pub is_isolated_self : ℕ → List Record → Bool
-is_isolated_self n rs = is_at SELF_KW (drop n rs) && not (is_at COLON2 (drop (n + 1) rs))
+abbrev pub is_isolated_self : ℕ → Test
+is_isolated_self n = also (comes n SELF_KW) (negated (comes (n + 1) COLON2))
 
--- how far a lifetime or a `mut` after so many tokens reaches
-abbrev pub past : ℕ → ℕ → List Record → ℕ
-past kind n rs = if is_at kind (drop n rs) then n + 1 else n
+-- a test past a token of this kind, if one comes after so many tokens, and else where it would be
+abbrev pub past : ℕ → ℕ → (ℕ → Test) → Test
+past kind n t = or_else (also (comes n kind) (t (n + 1))) (also (negated (comes n kind)) (t n))
 
 -- `self` or `mut self` comes next
-abbrev pub is_self_value : List Record → Bool
-is_self_value rs = is_isolated_self (past MUT_KW 0 rs) rs
+abbrev pub is_self_value : Test
+is_self_value = past MUT_KW 0 is_isolated_self
 
 -- `&self` comes next, with a lifetime and a `mut` or without them
-abbrev pub is_self_ref : List Record → Bool
-is_self_ref rs = is_at AMP rs && is_isolated_self (past MUT_KW (past LIFETIME_IDENT 1 rs) rs) rs
+abbrev pub is_self_ref : Test
+is_self_ref = also (is_at AMP) (past LIFETIME_IDENT 1 (λ n. past MUT_KW n is_isolated_self))
 
 unfoldable pub self_as_name : Script Rule
 self_as_name = start ▸ token SELF_KW ▸ finish NAME ▸ done
@@ -59,7 +58,7 @@ unfoldable pub opt_self_param : Script Rule
 opt_self_param = choose ((is_self_value, self_value) ∷ (is_self_ref, self_ref) ∷ []) (give nothing)
 
 unfoldable pub variadic_param : Script Rule
-variadic_param = only_if (λ rs. is_at COLON rs && is_at DOT3 (drop 1 rs)) (token COLON ▸ token DOT3 ▸ done)
+variadic_param = only_if (also (is_at COLON) (comes 1 DOT3)) (token COLON ▸ token DOT3 ▸ done)
 
 -- what stands after a parameter's pattern
 unfoldable pub param_type : Script Rule
@@ -71,15 +70,16 @@ unfoldable pub fn_def_param : Script Rule
 fn_def_param = test (is_at DOT3) (token DOT3 ▸ done) (call pattern ▸ param_type)
 
 -- a name and a colon come next
-abbrev pub is_named_param : List Record → Bool
-is_named_param rs =
-    (is_at IDENT rs || is_at UNDERSCORE rs) && ((kind_at rs 1 == COLON) && not (is_at COLON2 (drop 1 rs)))
+abbrev pub is_named_param : Test
+is_named_param =
+    also (or_else (is_at IDENT) (is_at UNDERSCORE))
+    (also (kind_is 1 COLON) (negated (comes 1 COLON2)))
 
 unfoldable pub fn_ptr_param : Script Rule
 fn_ptr_param = choose ((is_at DOT3, token DOT3 ▸ done) ∷ (is_named_param, call pattern_single ▸ param_type) ∷ []) type_
 
 unfoldable pub closure_param : Script Rule
-closure_param = call pattern_single ▸ optional (λ rs. is_at COLON rs && not (is_at COLON2 rs)) ascription
+closure_param = call pattern_single ▸ optional (also (is_at COLON) (negated (is_at COLON2))) ascription
 
 -- a parameter without its marker
 abbrev pub param : Flavor → Script Rule
@@ -92,14 +92,14 @@ unfoldable pub after_param : Script Rule
 after_param =
     choose
     ((is_at COMMA, token COMMA ▸ done)
-    ∷ (λ rs. is_param_first (next_kind rs), report (codes "expected `,`") ▸ done)
+    ∷ (next_so is_param_first, report (codes "expected `,`") ▸ done)
     ∷ [])
     (give nothing)
 
 -- a parameter from its marker on, after its attributes
 unfoldable pub marked_param : Flavor → Script Rule
 marked_param f =
-    test (λ rs. is_param_first (next_kind rs)) (call (param f) ▸ finish PARAM ▸ after_param)
+    test (next_so is_param_first) (call (param f) ▸ finish PARAM ▸ after_param)
     (report (codes "expected value parameter") ▸ abandon ▸ only_if (is_at COMMA) (token COMMA ▸ done))
 
 unfoldable pub attributed_param : Flavor → Script Rule

@@ -1,17 +1,16 @@
 -- Paths.
-use Rattle.std.specs.Prelude.{codes, [], ◌∷◌, drop, Bool, ◌&&◌, List, ◌==◌, ◌||◌, not, if◌then◌else◌, true, false}
+use Rattle.std.specs.Prelude.{codes, [], ◌∷◌, Bool, if◌then◌else◌, true, false}
 use Rattle.rap_base.specs.TokenKind.{COMMA, L_PAREN, R_PAREN, DOT2, L_ANGLE, COLON2, EQ, AS_KW, R_ANGLE, L_CURLY, STAR}
 use Rattle.rap_base.specs.NodeKind.{TYPE_ARG, PARENTHESIZED_ARG_LIST, RETURN_TYPE_SYNTAX, PATH_SEGMENT, TYPE_ANCHOR, PATH}
-use Rattle.rap_events.specs.Composite.{is_at}
-use Rattle.rap_events.specs.Record.{next_kind, Record, kind_at}
 use Rattle.rap_grammar_scripts.specs.First.{is_type_first, one_of, is_path_name, is_use_path_start}
 use Rattle.rap_grammar_scripts.specs.GenericArgList.{generic_arg_list, opt_generic_arg_list_expr}
 use Rattle.rap_grammar_scripts.specs.Lists.{delimited}
 use Rattle.rap_grammar_scripts.specs.Names.{name_ref_mod_path}
 use Rattle.rap_grammar_scripts.specs.Recovery.{is_segment_recovery}
 use Rattle.rap_grammar_scripts.specs.Script.{Script, nothing, give, test, start, finish, after, token, abandon, report, precede, again, loop}
+use Rattle.rap_grammar_scripts.specs.Test.{Test, kind_so, comes, negated, also, or_else}
 use Rattle.rap_grammar_scripts.specs.ThroughKnot.{type_, opt_ret_type, path_type_bounds}
-use Rattle.rap_grammar_scripts.specs.Words.{done, ◌▸◌, call, expect, next_is, choose, recover, optional, if_some}
+use Rattle.rap_grammar_scripts.specs.Words.{done, ◌▸◌, call, expect, next_is, choose, recover, optional, if_some, next_so, kind_is, is_at}
 use Rattle.rap_grammar_scripts.specs.declared.arguments.Mode.{Mode}
 use Rattle.rap_grammar_scripts.specs.declared.arguments.Mode.TheVariants as mode
 use Rattle.rap_grammar_scripts.specs.declared.rule.Rule.{Rule}
@@ -19,7 +18,7 @@ use Rattle.rap_grammar_scripts.specs.declared.rule.Rule.{Rule}
 -- A type among those in parentheses. Where none begins, the list ends after its message.
 unfoldable pub type_arg_element : Script Rule
 type_arg_element =
-    test (λ rs. is_type_first (next_kind rs)) (start ▸ call type_ ▸ finish TYPE_ARG ▸ done)
+    test (next_so is_type_first) (start ▸ call type_ ▸ finish TYPE_ARG ▸ done)
     (start ▸ call type_ ▸ finish TYPE_ARG ▸ give nothing)
 
 -- types in parentheses, as those of a function that are taken, and the return type; their node is open
@@ -37,16 +36,16 @@ unfoldable pub path_type_args : Script Rule
 path_type_args =
     choose
     ((next_is L_ANGLE, generic_arg_list)
-    ∷ (λ rs. is_at DOT2 (drop 1 rs), return_type_syntax)
+    ∷ (comes 1 DOT2, return_type_syntax)
     ∷ [])
     parenthesized_args
 
 -- arguments in a type, with `::` before their bracket, and without
-abbrev pub has_args_behind : List Record → Bool
-has_args_behind rs = is_at COLON2 rs && one_of (L_ANGLE ∷ L_PAREN ∷ []) (kind_at rs 2)
+abbrev pub has_args_behind : Test
+has_args_behind = also (is_at COLON2) (kind_so 2 (one_of (L_ANGLE ∷ L_PAREN ∷ [])))
 
-abbrev pub has_args : List Record → Bool
-has_args rs = ((next_kind rs == L_ANGLE) && not (kind_at rs 1 == EQ)) || (next_kind rs == L_PAREN)
+abbrev pub has_args : Test
+has_args = or_else (also (next_is L_ANGLE) (negated (kind_is 1 EQ))) (next_is L_PAREN)
 
 -- the arguments after a name in a type
 unfoldable pub opt_path_type_args : Script Rule
@@ -70,7 +69,7 @@ missing_segment_name m empty =
 -- a segment's name, and the arguments after it
 unfoldable pub segment_name : Mode → Bool → Script Rule
 segment_name m empty =
-    test (λ rs. is_path_name (next_kind rs))
+    test (next_so is_path_name)
     (call name_ref_mod_path ▸ call (opt_path_args m) ▸ finish PATH_SEGMENT ▸ done)
     (missing_segment_name m empty)
 
@@ -98,12 +97,12 @@ path_segment m true =
     (segment_name m true)
 
 -- another segment comes next: of what is imported, no list and no star after the `::`
-abbrev pub has_segment : Mode → List Record → Bool
-has_segment mode.Use rs = is_at COLON2 rs && not (one_of (STAR ∷ L_CURLY ∷ []) (kind_at rs 2))
-has_segment mode.Attr rs = is_at COLON2 rs
-has_segment mode.Type rs = is_at COLON2 rs
-has_segment mode.Expr rs = is_at COLON2 rs
-has_segment mode.Vis rs = is_at COLON2 rs
+abbrev pub has_segment : Mode → Test
+has_segment mode.Use = also (is_at COLON2) (negated (kind_so 2 (one_of (STAR ∷ L_CURLY ∷ []))))
+has_segment mode.Attr = is_at COLON2
+has_segment mode.Type = is_at COLON2
+has_segment mode.Expr = is_at COLON2
+has_segment mode.Vis = is_at COLON2
 
 abbrev pub segment_turn : Mode → Bool → Bool → Script Rule
 segment_turn m a b =

@@ -1,12 +1,11 @@
 -- Patterns.
-use Rattle.std.specs.Prelude.{ℕ, Bool, true, false, ◌&&◌, ◌||◌, ◌==◌, not, List, [], ◌∷◌, codes, drop}
+use Rattle.std.specs.Prelude.{ℕ, Bool, true, false, ◌&&◌, not, [], ◌∷◌, codes}
 use Rattle.rap_base.specs.TokenKind.{EOF, ERROR, IDENT, INT_NUMBER, FLOAT_NUMBER, AT, AMP, PIPE, BANG, COLON, COLON2, COMMA, DOT2, DOT3, DOT2EQ, EQ, MINUS, POUND, UNDERSCORE, L_PAREN, R_PAREN, L_BRACK, R_BRACK, L_CURLY, R_CURLY, BOX_KW, BUILTIN_KW, CFG_KW, CONST_KW, DEREF_KW, IF_KW, MUT_KW, REF_KW}
 use Rattle.rap_base.specs.NodeKind.{OR_PAT, RANGE_PAT, REST_PAT, DEREF_PAT, CFG_PRED_PAT, LITERAL_PAT, TUPLE_STRUCT_PAT, RECORD_PAT, RECORD_PAT_FIELD_LIST, RECORD_PAT_FIELD, MACRO_CALL, MACRO_PAT, PATH_PAT, WILDCARD_PAT, REF_PAT, NOT_NULL, PAREN_PAT, TUPLE_PAT, SLICE_PAT, IDENT_PAT, BOX_PAT, CONST_BLOCK_PAT}
-use Rattle.rap_events.specs.Record.{Record, next_kind, kind_at}
-use Rattle.rap_events.specs.Composite.{is_at}
 use Rattle.rap_grammar_scripts.specs.Literals.{literal}
 use Rattle.rap_grammar_scripts.specs.Blocks.{block_expr, error_block}
 use Rattle.rap_grammar_scripts.specs.Attributes.{outer_attrs, cfg_predicate}
+use Rattle.rap_grammar_scripts.specs.Test.{Test, kind_so, comes, negated, also, or_else, told}
 use Rattle.rap_grammar_scripts.specs.ThroughKnot.{pattern, pattern_single}
 use Rattle.rap_grammar_scripts.specs.First.{one_of, is_literal_first, is_pat_top_first, is_range_pat_end_first, is_path_start}
 use Rattle.rap_grammar_scripts.specs.Names.{name_r, name_ref_or_index}
@@ -15,7 +14,7 @@ use Rattle.rap_grammar_scripts.specs.Paths.{expr_path}
 use Rattle.rap_grammar_scripts.specs.declared.rule.Rule.{Rule}
 use Rattle.rap_grammar_scripts.specs.Recovery.{is_pattern_recovery, is_arm_recovery}
 use Rattle.rap_grammar_scripts.specs.Script.{Script, Outcome, nothing, something, block, again, give, test, token, bear, report, report_next, skip, start, precede, finish, abandon, after, loop}
-use Rattle.rap_grammar_scripts.specs.Words.{done, if_some, next_is, reads_as, eat, expect, recover, of_bool, starts_builtin, ◌▸◌, call, choose, optional, only_if}
+use Rattle.rap_grammar_scripts.specs.Words.{done, if_some, next_is, reads_as, eat, expect, recover, of_bool, starts_builtin, ◌▸◌, call, choose, optional, only_if, next_so, kind_is, is_at}
 
 -- a name that is bound
 unfoldable pub binding : Script Rule
@@ -23,7 +22,7 @@ binding = eat REF_KW ▸ eat MUT_KW ▸ name_r is_pattern_recovery
 
 -- the pattern that a name stands for, after its `@`
 unfoldable pub at_pattern : Bool → Script Rule
-at_pattern with_at = optional (λ rs. with_at && is_at AT rs) (token AT ▸ call pattern_single ▸ done)
+at_pattern with_at = optional (also (told with_at) (is_at AT)) (token AT ▸ call pattern_single ▸ done)
 
 unfoldable pub ident_pat : Bool → Script Rule
 ident_pat with_at = start ▸ call binding ▸ call (at_pattern with_at) ▸ finish IDENT_PAT ▸ done
@@ -35,9 +34,9 @@ unfoldable pub const_block_pat : Script Rule
 const_block_pat = start ▸ token CONST_KW ▸ call block_expr ▸ finish CONST_BLOCK_PAT ▸ done
 
 -- a literal comes next, be it with a minus
-abbrev pub is_literal_pat_start : List Record → Bool
-is_literal_pat_start rs =
-    (is_at MINUS rs && one_of (INT_NUMBER ∷ FLOAT_NUMBER ∷ []) (kind_at rs 1)) || is_literal_first (next_kind rs)
+abbrev pub is_literal_pat_start : Test
+is_literal_pat_start =
+    or_else (also (is_at MINUS) (kind_so 1 (one_of (INT_NUMBER ∷ FLOAT_NUMBER ∷ [])))) (next_so is_literal_first)
 
 unfoldable pub literal_pat : Script Rule
 literal_pat = start ▸ eat MINUS ▸ call literal ▸ finish LITERAL_PAT ▸ done
@@ -61,7 +60,7 @@ pat_turn ket a b =
     (call pattern ▸
     choose
     ((is_at COMMA, token COMMA ▸ give (again a b))
-    ∷ (λ rs. is_pat_top_first (next_kind rs), report_next (codes "expected COMMA, got ") ▸ give (again a b))
+    ∷ (next_so is_pat_top_first, report_next (codes "expected COMMA, got ") ▸ give (again a b))
     ∷ [])
     done)
 
@@ -72,8 +71,8 @@ unfoldable pub slice_pat : Script Rule
 slice_pat = start ▸ token L_BRACK ▸ call (pat_list R_BRACK) ▸ expect R_BRACK ▸ finish SLICE_PAT ▸ done
 
 -- `..` comes next that is no range's beginning
-abbrev pub is_rest_pat : List Record → Bool
-is_rest_pat rs = not (is_at DOT2EQ rs) && (is_at DOT2 rs && not (is_range_pat_end_first (kind_at rs 2)))
+abbrev pub is_rest_pat : Test
+is_rest_pat = also (negated (is_at DOT2EQ)) (also (is_at DOT2) (negated (kind_so 2 is_range_pat_end_first)))
 
 -- a comma before the first pattern
 unfoldable pub leading_comma : Script Rule
@@ -91,7 +90,7 @@ tuple_pat_turn tuple seen =
     ((is_at EOF, give (of_bool (seen && not tuple)))
     ∷ (is_at R_PAREN, give (of_bool (seen && not tuple)))
     ∷ (
-      λ rs. is_pat_top_first (next_kind rs),
+      next_so is_pat_top_first,
       test is_rest_pat (tuple_element true) (tuple_element tuple),
     )
     ∷ [])
@@ -120,8 +119,8 @@ tuple_pat =
     after (tuple_patterns (is_something v)) (λ w. expect R_PAREN ▸ finish (tuple_pat_kind w) ▸ done))
 
 -- a field's name or number and this separator come next
-abbrev pub at_field : ℕ → List Record → Bool
-at_field separator rs = one_of (IDENT ∷ INT_NUMBER ∷ []) (next_kind rs) && (kind_at rs 1 == separator)
+abbrev pub at_field : ℕ → Test
+at_field separator = also (next_so (one_of (IDENT ∷ INT_NUMBER ∷ []))) (kind_is 1 separator)
 
 unfoldable pub record_pat_field : Script Rule
 record_pat_field =
@@ -129,7 +128,7 @@ record_pat_field =
     ((at_field COLON, call name_ref_or_index ▸ token COLON ▸ call pattern ▸ done)
     ∷ (at_field EQ, call name_ref_or_index ▸ skip (codes "expected `:`") ▸ call pattern ▸ done)
     ∷ (next_is BOX_KW, call box_pat ▸ done)
-    ∷ (λ rs. one_of (REF_KW ∷ MUT_KW ∷ IDENT ∷ []) (next_kind rs), call (ident_pat false) ▸ done)
+    ∷ (next_so (one_of (REF_KW ∷ MUT_KW ∷ IDENT ∷ [])), call (ident_pat false) ▸ done)
     ∷ [])
     (skip (codes "expected identifier") ▸ done)
 
@@ -187,9 +186,10 @@ builtin_pat =
     (report (codes "unknown name after `builtin#`") ▸ finish ERROR ▸ give nothing)
 
 -- an identifier comes next that begins no path of several names, no path with fields, and no macro call
-abbrev pub is_ident_pat_start : List Record → Bool
-is_ident_pat_start rs =
-    is_at IDENT rs && (not (one_of (L_PAREN ∷ L_CURLY ∷ BANG ∷ []) (kind_at rs 1)) && not (is_at COLON2 (drop 1 rs)))
+abbrev pub is_ident_pat_start : Test
+is_ident_pat_start =
+    also (is_at IDENT)
+    (also (negated (kind_so 1 (one_of (L_PAREN ∷ L_CURLY ∷ BANG ∷ [])))) (negated (comes 1 COLON2)))
 
 -- what stops the search for a pattern, in an arm or elsewhere
 abbrev pub ends_search : Bool → ℕ → Bool
@@ -218,7 +218,7 @@ atom_pat in_arm =
     choose
     ((starts_builtin, builtin_pat)
     ∷ (next_is BOX_KW, box_pat)
-    ∷ (λ rs. one_of (REF_KW ∷ MUT_KW ∷ []) (next_kind rs), ident_pat true)
+    ∷ (next_so (one_of (REF_KW ∷ MUT_KW ∷ [])), ident_pat true)
     ∷ (next_is CONST_KW, const_block_pat)
     ∷ (is_ident_pat_start, ident_pat true)
     ∷ (is_path_start, path_or_macro_pat)
@@ -233,7 +233,7 @@ ends_range_pat kind = one_of (EQ ∷ COMMA ∷ COLON ∷ R_PAREN ∷ R_CURLY ∷
 unfoldable pub range_from_pat : Bool → ℕ → Script Rule
 range_from_pat in_arm op =
     precede ▸ token op ▸
-    test (λ rs. ends_range_pat (next_kind rs)) (finish RANGE_PAT ▸ done)
+    test (next_so ends_range_pat) (finish RANGE_PAT ▸ done)
     (call (atom_pat in_arm) ▸ finish RANGE_PAT ▸ done)
 
 unfoldable pub range_op : Bool → Script Rule
@@ -252,7 +252,7 @@ range_to_pat in_arm = start ▸ token DOT2EQ ▸ call (atom_pat in_arm) ▸ fini
 unfoldable pub rest_pat : Bool → Script Rule
 rest_pat in_arm =
     start ▸ token DOT2 ▸
-    test (λ rs. is_range_pat_end_first (next_kind rs)) (call (atom_pat in_arm) ▸ finish RANGE_PAT ▸ done)
+    test (next_so is_range_pat_end_first) (call (atom_pat in_arm) ▸ finish RANGE_PAT ▸ done)
     (finish REST_PAT ▸ done)
 
 unfoldable pub pattern_single_r : Bool → Script Rule

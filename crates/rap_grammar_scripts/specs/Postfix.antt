@@ -1,17 +1,16 @@
 -- What follows an operand: calls, indexes, fields, `?`.
 -- In the Rust crate: `grammar/expressions.rs`.
-use Rattle.std.specs.Prelude.{codes, Bool, ◌==◌, ◌&&◌, ◌||◌, List, drop, [], ◌∷◌, false, not, true, if◌then◌else◌}
+use Rattle.std.specs.Prelude.{codes, Bool, [], ◌∷◌, false, true, if◌then◌else◌}
 use Rattle.rap_base.specs.TokenKind.{COMMA, L_PAREN, R_PAREN, L_BRACK, R_BRACK, QUESTION, COLON2, AWAIT_KW, DOT2, DOT2EQ, FLOAT_NUMBER, DOT}
 use Rattle.rap_base.specs.NodeKind.{ARG_LIST, CALL_EXPR, INDEX_EXPR, TRY_EXPR, METHOD_CALL_EXPR, AWAIT_EXPR, FIELD_EXPR}
-use Rattle.rap_events.specs.Composite.{is_at}
-use Rattle.rap_events.specs.Record.{Record, next_kind, kind_at}
 use Rattle.rap_grammar_scripts.specs.First.{is_expr_first, is_path_name, is_path_name_or_index}
 use Rattle.rap_grammar_scripts.specs.GenericArgList.{opt_generic_arg_list_expr}
 use Rattle.rap_grammar_scripts.specs.Lists.{delimited}
 use Rattle.rap_grammar_scripts.specs.Names.{name_ref_mod_path, name_ref_mod_path_or_index}
-use Rattle.rap_grammar_scripts.specs.Script.{Script, start, finish, precede, token, after, test, report, nothing, give, split_float, again, loop, something, block, any}
+use Rattle.rap_grammar_scripts.specs.Script.{Script, start, finish, precede, token, after, test, report, nothing, give, split_float, again, loop, something, block}
+use Rattle.rap_grammar_scripts.specs.Test.{Test, comes, negated, also, or_else, told}
 use Rattle.rap_grammar_scripts.specs.ThroughKnot.{expr}
-use Rattle.rap_grammar_scripts.specs.Words.{done, ◌▸◌, call, expect, next_is, choose, if_some, is_block}
+use Rattle.rap_grammar_scripts.specs.Words.{done, ◌▸◌, call, expect, next_is, choose, if_some, is_block, next_so, kind_is, is_at}
 use Rattle.rap_grammar_scripts.specs.declared.rule.Rule.{Rule}
 
 unfoldable pub arg_list : Script Rule
@@ -29,10 +28,9 @@ unfoldable pub try_expr : Script Rule
 try_expr = precede ▸ token QUESTION ▸ finish TRY_EXPR ▸ done
 
 -- What stands after a dot is called: a name before a `(` or `::`, or a `(` without a name.
-unfoldable pub is_method_call : List Record → Bool
-is_method_call rs =
-    (next_kind rs == L_PAREN) ||
-    (is_path_name (next_kind rs) && ((kind_at rs 1 == L_PAREN) || is_at COLON2 (drop 1 rs)))
+unfoldable pub is_method_call : Test
+is_method_call =
+    or_else (next_is L_PAREN) (also (next_so is_path_name) (or_else (kind_is 1 L_PAREN) (comes 1 COLON2)))
 
 unfoldable pub method_arguments : Script Rule
 method_arguments =
@@ -43,7 +41,7 @@ method_arguments =
 -- a method after the dot
 unfoldable pub method_call_expr : Script Rule
 method_call_expr =
-    test (λ rs. is_path_name (next_kind rs)) (call name_ref_mod_path ▸ method_arguments)
+    test (next_so is_path_name) (call name_ref_mod_path ▸ method_arguments)
     (report (codes "expected method name, field name or number") ▸ method_arguments)
 
 unfoldable pub await_expr : Script Rule
@@ -52,7 +50,7 @@ await_expr = token AWAIT_KW ▸ finish AWAIT_EXPR ▸ done
 -- a field after the dot
 unfoldable pub field_expr : Script Rule
 field_expr =
-    test (λ rs. is_path_name_or_index (next_kind rs)) (call name_ref_mod_path_or_index ▸ finish FIELD_EXPR ▸ done)
+    test (next_so is_path_name_or_index) (call name_ref_mod_path_or_index ▸ finish FIELD_EXPR ▸ done)
     (report (codes "expected field name or number") ▸ finish FIELD_EXPR ▸ done)
 
 -- a method, `await` or a field after the dot
@@ -60,8 +58,8 @@ unfoldable pub name_after_dot : Script Rule
 name_after_dot = choose ((is_method_call, method_call_expr) ∷ (next_is AWAIT_KW, await_expr) ∷ []) field_expr
 
 -- the dots of a range
-abbrev pub is_range : List Record → Bool
-is_range rs = is_at DOT2EQ rs || is_at DOT2 rs
+abbrev pub is_range : Test
+is_range = or_else (is_at DOT2EQ) (is_at DOT2)
 
 -- What follows a dot. A float is one field, or two where it has digits after its own dot. Where it ends in that dot,
 -- what follows it follows a dot once more; but the dots of a range are none of an access, and end all postfixes.
@@ -78,16 +76,16 @@ unfoldable pub postfix_dot_expr : Script Rule
 postfix_dot_expr = precede ▸ token DOT ▸ after_dot
 
 -- a dot that begins no range
-abbrev pub is_access : List Record → Bool
-is_access rs = (next_kind rs == DOT) && (not (is_at DOT2EQ rs) && not (is_at DOT2 rs))
+abbrev pub is_access : Test
+is_access = also (next_is DOT) (also (negated (is_at DOT2EQ)) (negated (is_at DOT2)))
 
 -- What follows an operand directly, calls and indexes only where they are allowed. A block with something after it is
 -- none any more.
 abbrev pub postfix_turn : Bool → Bool → Script Rule
 postfix_turn calls blocky =
     choose
-    ((λ rs. (next_kind rs == L_PAREN) && calls, call call_expr ▸ give (again true false))
-    ∷ (λ rs. (next_kind rs == L_BRACK) && calls, call index_expr ▸ give (again true false))
+    ((also (next_is L_PAREN) (told calls), call call_expr ▸ give (again true false))
+    ∷ (also (next_is L_BRACK) (told calls), call index_expr ▸ give (again true false))
     ∷ (
       is_access,
       after postfix_dot_expr (λ v.

@@ -1,18 +1,17 @@
 -- Record literals.
 -- In the Rust crate: `grammar/expressions.rs`.
-use Rattle.std.specs.Prelude.{ℕ, Bool, false, [], ◌∷◌, drop, codes}
+use Rattle.std.specs.Prelude.{ℕ, Bool, false, [], ◌∷◌, codes}
 use Rattle.rap_base.specs.TokenKind.{EOF, IDENT, INT_NUMBER, L_CURLY, R_CURLY, COMMA, COLON, EQ, COLON2, DOT2}
 use Rattle.rap_base.specs.NodeKind.{RECORD_EXPR_FIELD, RECORD_EXPR_FIELD_LIST}
-use Rattle.rap_events.specs.Record.{next_kind}
-use Rattle.rap_events.specs.Composite.{is_at}
 use Rattle.rap_grammar_scripts.specs.Attributes.{outer_attrs}
 use Rattle.rap_grammar_scripts.specs.Blocks.{error_block}
+use Rattle.rap_grammar_scripts.specs.Test.{comes}
 use Rattle.rap_grammar_scripts.specs.ThroughKnot.{expr}
 use Rattle.rap_grammar_scripts.specs.First.{one_of}
 use Rattle.rap_grammar_scripts.specs.Names.{name_ref_or_index}
 use Rattle.rap_grammar_scripts.specs.declared.rule.Rule.{Rule}
 use Rattle.rap_grammar_scripts.specs.Script.{Script, give, test, token, report, skip, start, finish, abandon, loop, again}
-use Rattle.rap_grammar_scripts.specs.Words.{done, expect, ◌▸◌, call, choose, optional}
+use Rattle.rap_grammar_scripts.specs.Words.{done, expect, ◌▸◌, call, choose, optional, next_so, is_at}
 
 -- a field's name or number
 abbrev pub is_field_name : ℕ → Bool
@@ -22,8 +21,8 @@ is_field_name kind = one_of (IDENT ∷ INT_NUMBER ∷ []) kind
 unfoldable pub field_name : Script Rule
 field_name =
     choose
-    ((λ rs. is_at COLON (drop 1 rs), call name_ref_or_index ▸ token COLON ▸ done)
-    ∷ (λ rs. is_at EQ (drop 1 rs), call name_ref_or_index ▸ skip (codes "expected `:`") ▸ done)
+    ((comes 1 COLON, call name_ref_or_index ▸ token COLON ▸ done)
+    ∷ (comes 1 EQ, call name_ref_or_index ▸ skip (codes "expected `:`") ▸ done)
     ∷ [])
     done
 
@@ -35,9 +34,9 @@ base_without_dots = abandon ▸ expect DOT2 ▸ call expr ▸ done
 unfoldable pub named_field : Script Rule
 named_field =
     choose
-    ((λ rs. is_at COLON2 (drop 1 rs), base_without_dots)
+    ((comes 1 COLON2, base_without_dots)
     ∷ (
-      λ rs. is_at DOT2 (drop 1 rs),
+      comes 1 DOT2,
       call name_ref_or_index ▸ report (codes "expected `:`") ▸ finish RECORD_EXPR_FIELD ▸ done,
     )
     ∷ [])
@@ -53,7 +52,7 @@ base_of_record =
 unfoldable pub marked_field : Script Rule
 marked_field =
     choose
-    ((λ rs. is_field_name (next_kind rs), named_field)
+    ((next_so is_field_name, named_field)
     ∷ (is_at DOT2, abandon ▸ token DOT2 ▸ base_of_record)
     ∷ (is_at L_CURLY, call (error_block (codes "expected a field")) ▸ abandon ▸ done)
     ∷ [])

@@ -10,6 +10,7 @@ use Rattle.rap_events.specs.Forest.{Forest, none, node, leaf, message, split, �
 use Rattle.rap_events.specs.LastToken.{last_after}
 use Rattle.rap_events.specs.Machine.{Stack, floor, push}
 use Rattle.rap_events.specs.State.{State, but_last, last_children, skipped, with_kind}
+use Rattle.rap_grammar_scripts.specs.Test.{Test, holds}
 
 -- The outcome of a script: nothing (`None`, `false`), something, or a node that reads like a block. A turn of a loop
 -- has the outcome `again`, with two flags, where the loop goes on.
@@ -29,7 +30,7 @@ pub data Outcome : Type 0 where
 -- turns, as long as their outcome says so.
 pub data Script (P : Type 0) : Type 0 where
   give : Outcome → Script P
-  test : (List Record → Bool) → Script P → Script P → Script P
+  test : Test → Script P → Script P → Script P
   ends_with : ℕ → Script P → Script P → Script P
   token : ℕ → Script P → Script P
   any : Script P → Script P
@@ -143,9 +144,9 @@ goes_on (again a b) = true
 -- rules.
 pub data Runs {P : Type 0} (script_of : P → Script P) : Script P → Spot → Spot → Outcome → Type 0 where
   gives : {v : Outcome} {p : Spot} → Runs script_of (give v) p p v
-  passes : {h : List Record → Bool} {s t : Script P} {p q : Spot} {v : Outcome} → h p.rest ≡ true →
+  passes : {h : Test} {s t : Script P} {p q : Spot} {v : Outcome} → holds h p.rest ≡ true →
       Runs script_of s p q v → Runs script_of (test h s t) p q v
-  fails : {h : List Record → Bool} {s t : Script P} {p q : Spot} {v : Outcome} → h p.rest ≡ false →
+  fails : {h : Test} {s t : Script P} {p q : Spot} {v : Outcome} → holds h p.rest ≡ false →
       Runs script_of t p q v → Runs script_of (test h s t) p q v
   ends_so : {k : ℕ} {s t : Script P} {p q : Spot} {v : Outcome} → (last_taken_at p == k) ≡ true →
       Runs script_of s p q v → Runs script_of (ends_with k s t) p q v

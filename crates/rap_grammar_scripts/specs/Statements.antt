@@ -1,18 +1,17 @@
 -- Statements.
 -- In the Rust crate: `grammar/expressions.rs`.
-use Rattle.std.specs.Prelude.{Bool, true, false, List, ◌||◌, codes}
+use Rattle.std.specs.Prelude.{Bool, true, false, codes}
 use Rattle.rap_base.specs.TokenKind.{SEMICOLON, EOF, R_CURLY}
 use Rattle.rap_base.specs.NodeKind.{EXPR_STMT, LET_STMT}
-use Rattle.rap_events.specs.Composite.{is_at}
-use Rattle.rap_events.specs.Record.{Record, next_kind}
 use Rattle.rap_grammar_scripts.specs.Attributes.{outer_attrs}
 use Rattle.rap_grammar_scripts.specs.Blocks.{let_stmt, starts_let}
 use Rattle.rap_grammar_scripts.specs.Expressions.{expr_from}
 use Rattle.rap_grammar_scripts.specs.First.{is_expr_first}
 use Rattle.rap_grammar_scripts.specs.Items.{opt_item}
 use Rattle.rap_grammar_scripts.specs.Script.{Script, after, test, precede, finish, skip, abandon, token, start}
+use Rattle.rap_grammar_scripts.specs.Test.{Test, or_else}
 use Rattle.rap_grammar_scripts.specs.ThroughKnot.{as_statement}
-use Rattle.rap_grammar_scripts.specs.Words.{is_block, done, eat, expect, ◌▸◌, call, if_some}
+use Rattle.rap_grammar_scripts.specs.Words.{is_block, done, eat, expect, ◌▸◌, call, if_some, next_so, is_at}
 use Rattle.rap_grammar_scripts.specs.declared.arguments.Semicolon.{Semicolon}
 use Rattle.rap_grammar_scripts.specs.declared.arguments.Semicolon.TheVariants as semicolon
 use Rattle.rap_grammar_scripts.specs.declared.rule.Rule.{Rule}
@@ -25,10 +24,10 @@ expr_semicolon semicolon.Optional is_block = eat SEMICOLON done
 expr_semicolon semicolon.Forbidden is_block = done
 
 -- An expression ends its block here: a brace that closes comes next, or where a semicolon may be missing, nothing does.
-abbrev pub ends_block : Semicolon → List Record → Bool
-ends_block semicolon.Required rs = is_at R_CURLY rs
-ends_block semicolon.Optional rs = is_at R_CURLY rs || is_at EOF rs
-ends_block semicolon.Forbidden rs = is_at R_CURLY rs || is_at EOF rs
+abbrev pub ends_block : Semicolon → Test
+ends_block semicolon.Required = is_at R_CURLY
+ends_block semicolon.Optional = or_else (is_at R_CURLY) (is_at EOF)
+ends_block semicolon.Forbidden = or_else (is_at R_CURLY) (is_at EOF)
 
 -- An expression as a statement, unless it ends its block.
 unfoldable pub expr_stmt_end : Semicolon → Bool → Script Rule
@@ -38,7 +37,7 @@ expr_stmt_end semi is_block =
 -- an expression from the newest node on, as a statement or as the value of the block
 unfoldable pub expr_as_stmt : Semicolon → Script Rule
 expr_as_stmt semi =
-    test (λ rs. is_expr_first (next_kind rs))
+    test (next_so is_expr_first)
     (after (expr_from as_statement 1) (λ v. if_some v (expr_stmt_end semi (is_block v)) done))
     (skip (codes "expected expression, item or let statement") ▸ abandon ▸ done)
 

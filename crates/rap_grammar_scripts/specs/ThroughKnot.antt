@@ -3,11 +3,9 @@
 use Rattle.std.specs.Prelude.{false, true, Bool, codes}
 use Rattle.rap_base.specs.TokenKind.{L_ANGLE, COLON, WHERE_KW, THIN_ARROW, EQ, FOR_KW}
 use Rattle.rap_base.specs.NodeKind.{RET_TYPE, FOR_BINDER}
-use Rattle.rap_events.specs.Composite.{is_at}
-use Rattle.rap_events.specs.Record.{next_kind}
 use Rattle.rap_grammar_scripts.specs.First.{is_generic_arg_first, is_cfg_predicate_first, is_path_name}
 use Rattle.rap_grammar_scripts.specs.Script.{Script, nothing, give, rule, token, start, finish, report, test}
-use Rattle.rap_grammar_scripts.specs.Words.{done, if_some, ◌▸◌, recur, only_if, optional, call}
+use Rattle.rap_grammar_scripts.specs.Words.{done, if_some, ◌▸◌, recur, only_if, optional, call, next_so, is_at}
 use Rattle.rap_grammar_scripts.specs.declared.arguments.Restrictions.{Restrictions}
 use Rattle.rap_grammar_scripts.specs.declared.rule.Rule.{Rule}
 use Rattle.rap_grammar_scripts.specs.declared.rule.Rule.TheVariants as knot
@@ -49,7 +47,7 @@ path_type_bounds = recur knot.PathTypeBounds ▸ done
 
 -- a generic argument, as an element of a list
 unfoldable pub generic_arg_element : Script Rule
-generic_arg_element = only_if (λ rs. is_generic_arg_first (next_kind rs)) (recur knot.GenericArg ▸ done)
+generic_arg_element = only_if (next_so is_generic_arg_first) (recur knot.GenericArg ▸ done)
 
 -- the parameters after a `for`
 unfoldable pub generic_param_list : Script Rule
@@ -69,7 +67,7 @@ meta = recur knot.Meta ▸ done
 
 -- a condition inside another, as an element of a list
 unfoldable pub cfg_predicate_element : Script Rule
-cfg_predicate_element = only_if (λ rs. is_cfg_predicate_first (next_kind rs)) (recur knot.CfgPredicate ▸ done)
+cfg_predicate_element = only_if (next_so is_cfg_predicate_first) (recur knot.CfgPredicate ▸ done)
 
 -- generic parameters, as `<T, 'a>`, if there are
 unfoldable pub opt_generic_param_list : Script Rule
@@ -112,7 +110,7 @@ opt_ret_type = only_if (is_at THIN_ARROW) (start ▸ token THIN_ARROW ▸ call t
 -- the same without the arrow, which is reported
 unfoldable pub opt_no_arrow_ret_type : Script Rule
 opt_no_arrow_ret_type =
-    only_if (λ rs. is_path_name (next_kind rs))
+    only_if (next_so is_path_name)
     (start ▸ report (codes "missing thin-arrow `->`") ▸ call type_no_bounds ▸ finish RET_TYPE ▸ done)
 
 -- a type after its colon; before a `=` a message stands in its place

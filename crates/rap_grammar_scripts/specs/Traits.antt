@@ -1,18 +1,17 @@
 -- Traits and implementations.
-use Rattle.std.specs.Prelude.{List, [], ◌∷◌, Bool, true, false, drop, ◌&&◌, ◌||◌, not, codes}
+use Rattle.std.specs.Prelude.{[], ◌∷◌, Bool, true, false, codes}
 use Rattle.rap_base.specs.TokenKind.{EOF, L_CURLY, R_CURLY, L_ANGLE, R_ANGLE, POUND, COMMA, COLON, SEMICOLON, EQ, BANG, IDENT, LIFETIME_IDENT, TRAIT_KW, IMPL_KW, CONST_KW, FOR_KW}
 use Rattle.rap_base.specs.NodeKind.{TRAIT, IMPL, ASSOC_ITEM_LIST}
-use Rattle.rap_events.specs.Record.{Record, kind_at}
-use Rattle.rap_events.specs.Composite.{is_at}
 use Rattle.rap_grammar_scripts.specs.Attributes.{inner_attrs}
 use Rattle.rap_grammar_scripts.specs.Blocks.{error_block}
+use Rattle.rap_grammar_scripts.specs.Test.{Test, kind_so, comes, negated, also, or_else}
 use Rattle.rap_grammar_scripts.specs.ThroughKnot.{type_, item_or_macro, bounds, bounds_without_colon, opt_generic_param_list, opt_where_clause}
 use Rattle.rap_grammar_scripts.specs.First.{one_of}
 use Rattle.rap_grammar_scripts.specs.Names.{name_r}
 use Rattle.rap_grammar_scripts.specs.declared.rule.Rule.{Rule}
 use Rattle.rap_grammar_scripts.specs.Recovery.{is_item_recovery}
 use Rattle.rap_grammar_scripts.specs.Script.{Script, give, test, token, report, start, finish, loop, again}
-use Rattle.rap_grammar_scripts.specs.Words.{done, eat, expect, ◌▸◌, call, choose, optional}
+use Rattle.rap_grammar_scripts.specs.Words.{done, eat, expect, ◌▸◌, call, choose, optional, is_at}
 
 -- an item of a trait or an implementation, or a block in its place
 unfoldable pub assoc_item : Script Rule
@@ -49,21 +48,21 @@ trait_ =
     done
 
 -- After an `impl`, a `<` begins parameters, and no type. Where both may be meant, as in `<T> ::a`, it is parameters.
-abbrev pub not_a_qualified_path : List Record → Bool
-not_a_qualified_path rs =
-    one_of (POUND ∷ R_ANGLE ∷ CONST_KW ∷ []) (kind_at rs 1) ||
-    (one_of (LIFETIME_IDENT ∷ IDENT ∷ []) (kind_at rs 1) &&
-    one_of (R_ANGLE ∷ COMMA ∷ COLON ∷ EQ ∷ []) (kind_at rs 2))
+abbrev pub not_a_qualified_path : Test
+not_a_qualified_path =
+    or_else (kind_so 1 (one_of (POUND ∷ R_ANGLE ∷ CONST_KW ∷ [])))
+    (also (kind_so 1 (one_of (LIFETIME_IDENT ∷ IDENT ∷ [])))
+    (kind_so 2 (one_of (R_ANGLE ∷ COMMA ∷ COLON ∷ EQ ∷ []))))
 
-abbrev pub is_impl_params_start : List Record → Bool
-is_impl_params_start rs = is_at L_ANGLE rs && not_a_qualified_path rs
+abbrev pub is_impl_params_start : Test
+is_impl_params_start = also (is_at L_ANGLE) not_a_qualified_path
 
 unfoldable pub impl_params : Script Rule
 impl_params = optional is_impl_params_start opt_generic_param_list
 
 -- a `!` before a trait, and not before the braces: there it is the type
-abbrev pub is_negative_start : List Record → Bool
-is_negative_start rs = is_at BANG rs && not (is_at L_CURLY (drop 1 rs))
+abbrev pub is_negative_start : Test
+is_negative_start = also (is_at BANG) (negated (comes 1 L_CURLY))
 
 unfoldable pub opt_negative : Script Rule
 opt_negative = optional is_negative_start (token BANG ▸ done)

@@ -1,9 +1,8 @@
 -- Types.
-use Rattle.std.specs.Prelude.{ℕ, Bool, true, false, ◌==◌, ◌&&◌, ◌||◌, not, if◌then◌else◌, List, [], ◌∷◌, drop, codes}
+use Rattle.std.specs.Prelude.{ℕ, Bool, true, false, ◌==◌, not, if◌then◌else◌, [], ◌∷◌, codes}
 use Rattle.rap_base.specs.TokenKind.{EOF, ERROR, L_PAREN, R_PAREN, L_BRACK, R_BRACK, L_ANGLE, L_CURLY, COMMA, SEMICOLON, PLUS, STAR, AMP, BANG, UNDERSCORE, POUND, LIFETIME_IDENT, MUT_KW, CONST_KW, FN_KW, UNSAFE_KW, EXTERN_KW, FOR_KW, IMPL_KW, DYN_KW, BUILTIN_KW, PATTERN_TYPE_KW, IS_KW}
 use Rattle.rap_base.specs.NodeKind.{PAREN_TYPE, TUPLE_TYPE, NEVER_TYPE, PTR_TYPE, SLICE_TYPE, ARRAY_TYPE, CONST_ARG, REF_TYPE, INFER_TYPE, FN_PTR_TYPE, FOR_TYPE, IMPL_TRAIT_TYPE, DYN_TRAIT_TYPE, TYPE_BOUND, MACRO_CALL, MACRO_TYPE, PATH_TYPE, PATTERN_TYPE}
-use Rattle.rap_events.specs.Record.{Record, next_kind}
-use Rattle.rap_events.specs.Composite.{is_at}
+use Rattle.rap_grammar_scripts.specs.Test.{Test, comes, also, or_else, told}
 use Rattle.rap_grammar_scripts.specs.ThroughKnot.{expr, type_, type_no_bounds, pattern, opt_ret_type, for_binder}
 use Rattle.rap_grammar_scripts.specs.First.{one_of, is_fn_ptr_first, starts_weak_dyn, is_use_path_start, is_path_start}
 use Rattle.rap_grammar_scripts.specs.GenericParams.{bounds_without_colon, bounds_without_colon_m}
@@ -15,7 +14,7 @@ use Rattle.rap_grammar_scripts.specs.declared.rule.Rule.{Rule}
 use Rattle.rap_grammar_scripts.specs.Recovery.{is_type_recovery}
 use Rattle.rap_grammar_scripts.specs.Script.{Script, Outcome, nothing, something, block, again, give, test, token, any, bear, report, start, precede, finish, abandon, after, loop}
 use Rattle.rap_grammar_scripts.specs.PathType.{path_type}
-use Rattle.rap_grammar_scripts.specs.Words.{done, next_is, reads_as, eat, expect, recover, of_bool, starts_builtin, ◌▸◌, call, choose, optional}
+use Rattle.rap_grammar_scripts.specs.Words.{done, next_is, reads_as, eat, expect, recover, of_bool, starts_builtin, ◌▸◌, call, choose, optional, next_so, is_at}
 
 abbrev pub types_turn : Bool → Bool → Script Rule
 types_turn seen b =
@@ -44,7 +43,7 @@ never_type = start ▸ token BANG ▸ finish NEVER_TYPE ▸ done
 -- what stands after the star of a pointer
 unfoldable pub ptr_qualifier : Script Rule
 ptr_qualifier =
-    test (λ rs. one_of (MUT_KW ∷ CONST_KW ∷ []) (next_kind rs)) (any ▸ done)
+    test (next_so (one_of (MUT_KW ∷ CONST_KW ∷ []))) (any ▸ done)
     (report (codes "expected mut or const in raw pointer type (use `*mut T` or `*const T` as appropriate)") ▸ done)
 
 unfoldable pub ptr_type : Script Rule
@@ -88,7 +87,7 @@ fn_ptr_type =
 -- The bounds after a type of this kind, which is then the first of them. A macro call has none.
 unfoldable pub opt_type_bounds_as_dyn_trait_type : ℕ → Script Rule
 opt_type_bounds_as_dyn_trait_type kind =
-    optional (λ rs. not (kind == MACRO_TYPE) && is_at PLUS rs)
+    optional (also (told (not (kind == MACRO_TYPE))) (is_at PLUS))
     (precede ▸ finish TYPE_BOUND ▸ precede ▸ token PLUS ▸ call bounds_without_colon_m ▸ precede ▸
     finish DYN_TRAIT_TYPE ▸ done)
 
@@ -97,8 +96,8 @@ abbrev pub bounds_if : Bool → ℕ → Script Rule
 bounds_if allow_bounds kind = if allow_bounds then opt_type_bounds_as_dyn_trait_type kind else done
 
 -- a function pointer or a path comes next
-abbrev pub starts_for_target : List Record → Bool
-starts_for_target rs = is_fn_ptr_first (next_kind rs) || is_use_path_start rs
+abbrev pub starts_for_target : Test
+starts_for_target = or_else (next_so is_fn_ptr_first) is_use_path_start
 
 abbrev pub for_target : Bool → Script Rule
 for_target allow_bounds = call type_no_bounds ▸ finish FOR_TYPE ▸ bounds_if allow_bounds FOR_TYPE
@@ -158,8 +157,8 @@ missing_type =
     (recover (codes "expected type") is_type_recovery done done)
 
 -- bounds come next that begin with a lifetime
-abbrev pub starts_bare_dyn : List Record → Bool
-starts_bare_dyn rs = next_is LIFETIME_IDENT rs && is_at PLUS (drop 1 rs)
+abbrev pub starts_bare_dyn : Test
+starts_bare_dyn = also (next_is LIFETIME_IDENT) (comes 1 PLUS)
 
 -- a type that begins with no symbol and no keyword of its own
 unfoldable pub named_type : Bool → Script Rule
@@ -180,7 +179,7 @@ type_with_bounds_cond allow_bounds =
     ∷ (next_is L_BRACK, array_or_slice_type)
     ∷ (next_is AMP, ref_type)
     ∷ (next_is UNDERSCORE, infer_type)
-    ∷ (λ rs. is_fn_ptr_first (next_kind rs), fn_ptr_type)
+    ∷ (next_so is_fn_ptr_first, fn_ptr_type)
     ∷ (next_is FOR_KW, for_type allow_bounds)
     ∷ (next_is IMPL_KW, impl_trait_type)
     ∷ (next_is DYN_KW, dyn_trait_type)

@@ -1,12 +1,11 @@
 -- Words of scripts.
-use Rattle.std.specs.Prelude.{Bool, List, [], ◌∷◌, true, false, ℕ, ◌==◌, ◌&&◌, drop, ◌||◌, Option, Some, None}
+use Rattle.std.specs.Prelude.{Bool, List, [], ◌∷◌, true, false, ℕ, ◌==◌, Option, Some, None}
 use Rattle.rap_base.specs.TokenKind.{POUND, BUILTIN_KW, L_CURLY, R_CURLY}
-use Rattle.rap_events.specs.Composite.{is_at}
-use Rattle.rap_events.specs.Cover.{first_may_bear}
-use Rattle.rap_events.specs.Record.{Record, next_kind, contextual_at}
+use Rattle.rap_events.specs.OperatorTable.{powers}
 use Rattle.rap_events.specs.State.{expected}
 use Rattle.rap_events.specs.declared.parser.CompletedMarker.{CompletedMarker}
 use Rattle.rap_grammar_scripts.specs.Script.{Script, after, rule, test, nothing, something, give, Outcome, block, again, token, bear, report, skip}
+use Rattle.rap_grammar_scripts.specs.Test.{Test, kind_so, word_so, comes, borne, operator_so, also, or_else}
 use Rattle.rap_grammar_scripts.specs.declared.arguments.BlockLike.{BlockLike}
 use Rattle.rap_grammar_scripts.specs.declared.arguments.BlockLike.TheVariants as like
 
@@ -23,15 +22,15 @@ abbrev pub recur : {P : Type 0} → P → Script P → Script P
 recur p s = rule p (λ v. s)
 
 -- the way of the first test that holds, or the last one where none does
-abbrev pub choose : {P : Type 0} → List ((List Record → Bool) × Script P) → Script P → Script P
+abbrev pub choose : {P : Type 0} → List (Test × Script P) → Script P → Script P
 choose [] s = s
 choose (w ∷ ws) s = test w.0 w.1 (choose ws s)
 
 -- a script that is run where its test holds: else there is nothing to do, or nothing is returned
-abbrev pub optional : {P : Type 0} → (List Record → Bool) → Script P → Script P
+abbrev pub optional : {P : Type 0} → Test → Script P → Script P
 optional t s = test t s (give something)
 
-abbrev pub only_if : {P : Type 0} → (List Record → Bool) → Script P → Script P
+abbrev pub only_if : {P : Type 0} → Test → Script P → Script P
 only_if t s = test t s (give nothing)
 
 -- the end of a rule that returns nothing
@@ -52,17 +51,30 @@ is_block something = false
 is_block block = true
 is_block (again a b) = false
 
--- whether the next token is of this kind
-abbrev pub next_is : ℕ → List Record → Bool
-next_is kind rs = next_kind rs == kind
+-- the next token is of this kind, or of such a kind; a token of this kind comes next, which may be written with several
+abbrev pub next_is : ℕ → Test
+next_is kind = kind_so 0 (λ k. k == kind)
 
--- whether the next token is an identifier that is read as this keyword
-abbrev pub reads_as : ℕ → List Record → Bool
-reads_as kind rs = first_may_bear rs kind && (contextual_at rs 0 == kind)
+abbrev pub next_so : (ℕ → Bool) → Test
+next_so f = kind_so 0 f
+
+abbrev pub is_at : ℕ → Test
+is_at kind = comes 0 kind
+
+-- the token after so many is of this kind, or may be read as this word
+abbrev pub kind_is : ℕ → ℕ → Test
+kind_is n kind = kind_so n (λ k. k == kind)
+
+abbrev pub word_is : ℕ → ℕ → Test
+word_is n word = word_so n (λ k. k == word)
+
+-- the next token is an identifier that is read as this keyword
+abbrev pub reads_as : ℕ → Test
+reads_as kind = also (borne 0 kind) (word_is 0 kind)
 
 -- `builtin#` comes next
-abbrev pub starts_builtin : List Record → Bool
-starts_builtin rs = reads_as BUILTIN_KW rs && is_at POUND (drop 1 rs)
+abbrev pub starts_builtin : Test
+starts_builtin = also (reads_as BUILTIN_KW) (comes 1 POUND)
 
 -- a token of this kind if one comes next, and on
 abbrev pub eat : {P : Type 0} → ℕ → Script P → Script P
@@ -80,8 +92,16 @@ expect kind s = test (is_at kind) (token kind s) (report (expected kind) s)
 -- the other
 abbrev pub recover : {P : Type 0} → List ℕ → (ℕ → Bool) → Script P → Script P → Script P
 recover bytes kept s t =
-    test (λ rs. (next_kind rs == L_CURLY) || ((next_kind rs == R_CURLY) || kept (next_kind rs))) (report bytes s)
-    (skip bytes t)
+    test (or_else (next_is L_CURLY) (or_else (next_is R_CURLY) (next_so kept))) (report bytes s) (skip bytes t)
+
+-- the way of the operator that comes next, if it is one of these
+abbrev pub by_operator_of : {P : Type 0} → List (ℕ × ℕ) → (ℕ → Script P) → Script P
+by_operator_of [] h = give something
+by_operator_of (row ∷ rows) h = test (operator_so (λ op. row.0 == op)) (h row.0) (by_operator_of rows h)
+
+-- the way of the operator that comes next; where none does, there is nothing to do
+unfoldable pub by_operator : {P : Type 0} → (ℕ → Script P) → Script P
+by_operator h = by_operator_of powers h
 
 -- the outcome of an option and of a truth value
 abbrev pub of_option : {A : Type 0} → Option A → Outcome

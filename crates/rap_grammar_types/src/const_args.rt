@@ -9,6 +9,7 @@ ghost use Rattle.rap_grammar_frame.specs.Grew.{Within, Took, Grew, Makes};
 ghost use Rattle.rap_grammar_scripts.specs.Exec.{Does};
 ghost use Rattle.rap_grammar_frame.specs.Room.{element_room, operand_room, atom_room, recovery_events};
 ghost use Rattle.rap_grammar_scripts.specs.Script.{something};
+ghost use Rattle.rap_grammar_scripts.specs.Test.{holds};
 
 use rap_base::T;
 use rap_base::no_memory::NoMemory;
@@ -68,7 +69,7 @@ fn const_arg_expr<G: Grammar>(p: &mut Parser<'_>, g: &G) -> Result<(), NoMemory>
 #[tactic(auto, unfolding(rap_grammar_scripts::specs::ConstArgs::const_path))]
 fn const_path<G: Grammar>(p: &mut Parser<'_>, g: &G) -> Result<CompletedMarker, NoMemory>
     requires within { Within G.valid G.left g.now (state p.old) }
-    requires path { is_path_start (state p.old).rest ≡ true }
+    requires path { holds is_path_start (state p.old).rest ≡ true }
     ensures made { IfOk result (Makes PATH_EXPR atom_room (state p.old) (state p.new)) }
     ensures script { OnOk result (Does (G.left g.now) script.const_path something (state p.old) (state p.new)) }
 {

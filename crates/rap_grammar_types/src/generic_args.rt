@@ -9,6 +9,7 @@ ghost use Rattle.rap_grammar_scripts.specs.Exec.{Does};
 ghost use Rattle.rap_grammar_scripts.specs.Recovery.{is_generic_arg_recovery};
 ghost use Rattle.rap_grammar_frame.specs.Room.{element_room};
 ghost use Rattle.rap_grammar_scripts.specs.Script.{something};
+ghost use Rattle.rap_grammar_scripts.specs.Test.{holds};
 
 use crate::const_args::const_arg;
 use crate::generic_params::bounds;
@@ -50,7 +51,7 @@ pub fn generic_arg<G: Grammar>(p: &mut Parser<'_>, g: &G) -> Result<(), NoMemory
 
 /// Whether a lifetime comes next that is no bound of a type, as in `'a + b`.
 fn starts_lifetime_arg(p: &Parser<'_>) -> bool
-    ensures starts { result ≡ script.starts_lifetime_arg (state p.now).rest }
+    ensures starts { result ≡ holds script.starts_lifetime_arg (state p.now).rest }
     ensures here { result ≡ true → next (state p.now) ≡ LIFETIME_IDENT }
 {
     p.current() == T![lifetime_ident] && !p.nth_at(1, T![+])
@@ -85,7 +86,7 @@ fn type_arg<G: Grammar>(p: &mut Parser<'_>, g: &G) -> Result<(), NoMemory>
 
 /// Whether a name comes next that is no `dyn` of a type.
 fn starts_named_arg(p: &Parser<'_>) -> bool
-    ensures starts { result ≡ script.starts_named_arg (state p.now).rest }
+    ensures starts { result ≡ holds script.starts_named_arg (state p.now).rest }
     ensures here { result ≡ true → is_path_name (next (state p.now)) ≡ true }
 {
     is_path_name(p.current()) && !starts_weak_dyn(p)
@@ -93,7 +94,7 @@ fn starts_named_arg(p: &Parser<'_>) -> bool
 
 /// Whether bounds come next, from their colon on.
 fn starts_bounds(p: &Parser<'_>) -> bool
-    ensures starts { result ≡ script.starts_bounds (state p.now).rest }
+    ensures starts { result ≡ holds script.starts_bounds (state p.now).rest }
     ensures here { result ≡ true → next (state p.now) ≡ COLON }
 {
     p.current() == T![:] && !p.at(T![::])

@@ -8,6 +8,7 @@ ghost use Rattle.rap_grammar_scripts.specs.Exec.{Does};
 ghost use Rattle.rap_grammar_frame.specs.Room.{list_room};
 ghost use Rattle.rap_grammar_scripts.specs.Script.{something};
 ghost use Rattle.rap_grammar_scripts.specs.PathType as script;
+ghost use Rattle.rap_grammar_scripts.specs.Test.{holds};
 
 use rap_base::no_memory::NoMemory;
 use rap_base::syntax_kind::SyntaxKind;
@@ -20,7 +21,7 @@ use rap_grammar_paths::paths::type_path;
 #[tactic(auto, unfolding(rap_grammar_scripts::specs::PathType::path_type))]
 pub(crate) fn path_type<G: Grammar>(p: &mut Parser<'_>, g: &G) -> Result<CompletedMarker, NoMemory>
     requires within { Within G.valid G.left g.now (state p.old) }
-    requires path { is_path_start (state p.old).rest ≡ true }
+    requires path { holds is_path_start (state p.old).rest ≡ true }
     ensures made { IfOk result (Makes PATH_TYPE list_room (state p.old) (state p.new)) }
     ensures script { OnOk result (Does (G.left g.now) script.path_type something (state p.old) (state p.new)) }
 {

@@ -9,6 +9,7 @@ ghost use Rattle.rap_grammar_scripts.specs.Exec.{Does};
 ghost use Rattle.rap_grammar_frame.specs.Room.{type_room, list_room, name_room};
 ghost use Rattle.rap_grammar_frame.specs.Rules.{IsType};
 ghost use Rattle.rap_grammar_scripts.specs.Script.{something};
+ghost use Rattle.rap_grammar_scripts.specs.Test.{holds};
 ghost use Rattle.rap_grammar_scripts.specs.Types as script;
 ghost use Rattle.rap_grammar_scripts.specs.Types.{starts_bare_dyn, starts_for_target};
 ghost use Rattle.rap_grammar_scripts.specs.Words.{of_bool};
@@ -84,7 +85,7 @@ fn named_type<G: Grammar>(p: &mut Parser<'_>, g: &G, allow_bounds: bool) -> Resu
 
 /// Whether bounds come next that begin with a lifetime, as `'a + b`.
 fn starts_bare_dyn(p: &Parser<'_>) -> bool
-    ensures { result ≡ starts_bare_dyn (state p.now).rest }
+    ensures { result ≡ holds starts_bare_dyn (state p.now).rest }
 {
     p.current() == T![lifetime_ident] && p.nth_at(1, T![+])
 }
@@ -124,7 +125,7 @@ fn is_weak_dyn_path_first(kind: SyntaxKind) -> bool
 
 /// Whether an identifier `dyn` before a bound comes next, as in `dyn a`.
 fn is_dyn_weak(p: &Parser<'_>) -> bool
-    ensures here { result ≡ is_dyn_weak (state p.now).rest }
+    ensures here { result ≡ holds is_dyn_weak (state p.now).rest }
     ensures bears { IsTrue result → ReadsAs (state p.now) DYN_KW }
 {
     p.at_contextual_kw(T![dyn]) && is_weak_dyn_path_first(p.nth(1))
@@ -132,7 +133,7 @@ fn is_dyn_weak(p: &Parser<'_>) -> bool
 
 /// The same before 2018, when such a `dyn` is the keyword.
 pub(crate) fn starts_weak_dyn(p: &Parser<'_>) -> bool
-    ensures here { result ≡ starts_weak_dyn (state p.now).rest }
+    ensures here { result ≡ holds starts_weak_dyn (state p.now).rest }
     ensures bears { IsTrue result → ReadsAs (state p.now) DYN_KW }
 {
     p.current() == T![ident] && !p.current_edition().at_least_2018() && is_dyn_weak(p)
@@ -406,7 +407,7 @@ fn for_target<G: Grammar>(
 
 /// Whether a function pointer or a path comes next.
 fn starts_for_target(p: &Parser<'_>) -> bool
-    ensures { result ≡ starts_for_target (state p.now).rest }
+    ensures { result ≡ holds starts_for_target (state p.now).rest }
 {
     is_fn_ptr_first(p.current()) || is_use_path_start(p)
 }
@@ -484,7 +485,7 @@ fn path_or_macro_type<G: Grammar>(
     allow_bounds: bool,
 ) -> Result<(), NoMemory>
     requires within { Within G.valid G.left g.now (state p.old) }
-    requires path { is_path_start (state p.old).rest ≡ true }
+    requires path { holds is_path_start (state p.old).rest ≡ true }
     ensures took { OnOk result (Took (state p.old) (state p.new) type_room) }
     ensures script { OnOk result
         (Does (G.left g.now) (script.path_or_macro_type allow_bounds) something (state p.old) (state p.new)) }
@@ -502,7 +503,7 @@ fn path_or_macro_type<G: Grammar>(
 #[tactic(auto, unfolding(rap_grammar_scripts::specs::Types::path_or_macro))]
 fn path_or_macro<G: Grammar>(p: &mut Parser<'_>, g: &G, allow_bounds: bool) -> Result<(), NoMemory>
     requires within { Within G.valid G.left g.now (state p.old) }
-    requires path { is_path_start (state p.old).rest ≡ true }
+    requires path { holds is_path_start (state p.old).rest ≡ true }
     ensures took { OnOk result (Took (state p.old) (state p.new) type_room) }
     ensures script { OnOk result
         (Does (G.left g.now) (script.path_or_macro allow_bounds) something (state p.old) (state p.new)) }
@@ -533,7 +534,7 @@ pub fn path_type_bounds<G: Grammar>(
     allow_bounds: bool,
 ) -> Result<(), NoMemory>
     requires within { Within G.valid G.left g.now (state p.old) }
-    requires path { is_path_start (state p.old).rest ≡ true }
+    requires path { holds is_path_start (state p.old).rest ≡ true }
     ensures took { OnOk result (Took (state p.old) (state p.new) type_room) }
     ensures script { OnOk result
         (Does (G.left g.now) (script.path_type_bounds allow_bounds) something (state p.old) (state p.new)) }

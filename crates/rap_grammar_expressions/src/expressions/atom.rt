@@ -12,6 +12,7 @@ ghost use Rattle.rap_grammar_scripts.specs.Exec.{Does};
 ghost use Rattle.rap_grammar_frame.specs.Room.{atom_room};
 ghost use Rattle.rap_grammar_frame.specs.Rules.{Operand};
 ghost use Rattle.rap_grammar_scripts.specs.Script.{something};
+ghost use Rattle.rap_grammar_scripts.specs.Test.{holds};
 
 use rap_base::T;
 use rap_base::no_memory::NoMemory;
@@ -95,7 +96,7 @@ fn bracketed_expr<G: Grammar>(
 
 /// Whether a label comes next, as `'a:`.
 fn starts_label(p: &Parser<'_>) -> bool
-    ensures starts { result ≡ script.starts_label (state p.now).rest }
+    ensures starts { result ≡ holds script.starts_label (state p.now).rest }
     ensures here { result ≡ true → next (state p.now) ≡ LIFETIME_IDENT }
     ensures colon { result ≡ true → NthAt (state p.now) 1 COLON }
 {
@@ -169,7 +170,7 @@ fn underscore_expr(p: &mut Parser<'_>) -> Result<CompletedMarker, NoMemory>
 
 /// Whether the fields of a record come next, where a record literal may stand.
 fn starts_record(p: &Parser<'_>, r: Restrictions) -> bool
-    ensures starts { result ≡ script.starts_record r.forbid_structs (state p.now).rest }
+    ensures starts { result ≡ holds (script.starts_record r.forbid_structs) (state p.now).rest }
     ensures here { result ≡ true → next (state p.now) ≡ L_CURLY }
 {
     !r.forbid_structs && p.at(T!['{'])
@@ -184,7 +185,7 @@ fn path_expr<G: Grammar>(
     r: Restrictions,
 ) -> Result<(CompletedMarker, BlockLike), NoMemory>
     requires within { Within G.valid G.left g.now (state p.old) }
-    requires path { is_path_start (state p.old).rest ≡ true }
+    requires path { holds is_path_start (state p.old).rest ≡ true }
     ensures made { IfOk result (λ e. Made (state p.old) (state p.new) e.0 atom_room × (is_plain e.0.kind.value ≡ true)) }
     ensures script { IfOk result
         (λ e. Does (G.left g.now) (script.path_expr r) (of_like e.1) (state p.old) (state p.new)) }
