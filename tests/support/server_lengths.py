@@ -15,7 +15,8 @@ LIMIT = 268_435_456
 # How many levels the texts of the rows nest, and how many bytes an answer may have for each byte of text and message.
 LEVELS = (10_000, 20_000)
 MOST = 300
-# How many bytes a process may map: to say that an answer is too long before it is written, and to write one of the limit.
+# How many bytes a process may map: to say that an answer is too long before it is written, and to write one of the
+# limit.
 LITTLE, ENOUGH = 128 << 20, 640 << 20
 
 
