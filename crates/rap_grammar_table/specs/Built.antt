@@ -1,0 +1,168 @@
+-- The forests that a row and a script build over the same pieces.
+use Rattle.std.specs.Prelude.{ℕ, suc, Bool, true, false, ◌&&◌, ◌==◌, List, [], ◌∷◌}
+use Rattle.rap_grammar_table.specs.Narrow.{Fact}
+use Rattle.rap_grammar_table.specs.Table.{Items}
+
+-- A forest that is built: the one that there was, nothing, a node over a forest, or the tree of a piece by its number.
+pub data Built : Type 0 where
+  base : Built
+  empty : Built
+  over : Built → ℕ → Built → Built
+  tree : Built → ℕ → Built
+
+abbrev pub same : Built → Built → Bool
+same base base = true
+same empty empty = true
+same (over a k c) (over b j d) = same a b && ((k == j) && same c d)
+same (tree a i) (tree b j) = same a b && (i == j)
+same a b = false
+
+-- nothing of what there was is in it
+abbrev pub is_own : Built → Bool
+is_own base = false
+is_own empty = true
+is_own (over a k c) = is_own a && is_own c
+is_own (tree a i) = is_own a
+
+-- it goes on from what there was
+abbrev pub goes_on_from : Built → Bool
+goes_on_from base = true
+goes_on_from empty = false
+goes_on_from (over a k c) = goes_on_from a && is_own c
+goes_on_from (tree a i) = goes_on_from a
+
+-- one after another
+abbrev pub joined : Built → Built → Built
+joined a base = a
+joined a empty = a
+joined a (over b k c) = over (joined a b) k c
+joined a (tree b i) = tree (joined a b) i
+
+-- all but the last tree
+abbrev pub under : Built → Built
+under base = base
+under empty = empty
+under (over a k c) = a
+under (tree a n) = a
+
+-- what is built over another base
+abbrev pub on_base : Built → Built → Built
+on_base a base = a
+on_base a empty = empty
+on_base a (over b k c) = over (on_base a b) k c
+on_base a (tree b n) = tree (on_base a b) n
+
+-- a node with any children, the first of the trees
+abbrev pub any_node : Built → ℕ → Built
+any_node a kind = over a kind (tree empty 0)
+
+-- the last nodes are the same, of this kind
+abbrev pub last_same : ℕ → Built → Built → Bool
+last_same kind (over a k c) (over b j d) = (k == kind) && ((j == kind) && (same c d && is_own c))
+last_same kind x y = false
+
+abbrev pub no_more : List Built → Bool
+no_more [] = true
+no_more (x ∷ xs) = false
+
+-- Where a walk is: the rest of the row, and what it has made, the newest node first; what the script has made; how many
+-- pieces are taken, and those of them whose tree is one node; and what is known of the tokens that come next.
+pub record At : Type 0 where
+  pub items : Items
+  pub row : Built
+  pub rows : List Built
+  pub own : Built
+  pub owns : List Built
+  pub count : ℕ
+  pub nodes : List ℕ
+  pub facts : List Fact
+
+abbrev pub with_row : At → Items → Built → List Built → At
+with_row s items row rows =
+    record {
+      items = items;
+      row = row;
+      rows = rows;
+      own = s.own;
+      owns = s.owns;
+      count = s.count;
+      nodes = s.nodes;
+      facts = s.facts;
+    }
+
+abbrev pub with_own : At → Built → List Built → At
+with_own s own owns =
+    record {
+      items = s.items;
+      row = s.row;
+      rows = s.rows;
+      own = own;
+      owns = owns;
+      count = s.count;
+      nodes = s.nodes;
+      facts = s.facts;
+    }
+
+abbrev pub with_facts : At → List Fact → At
+with_facts s facts =
+    record {
+      items = s.items;
+      row = s.row;
+      rows = s.rows;
+      own = s.own;
+      owns = s.owns;
+      count = s.count;
+      nodes = s.nodes;
+      facts = facts;
+    }
+
+-- before the first piece of a row
+abbrev pub at_start : Items → At
+at_start is =
+    record { items = is; row = base; rows = []; own = base; owns = []; count = 0; nodes = []; facts = [] }
+
+-- before the first turn of those that are put around a node of any children
+abbrev pub fold_start : ℕ → Items → At
+fold_start kind is =
+    record {
+      items = is;
+      row = base;
+      rows = [];
+      own = any_node base kind;
+      owns = [];
+      count = 1;
+      nodes = [];
+      facts = [];
+    }
+
+abbrev pub with_node : Bool → ℕ → List ℕ → List ℕ
+with_node true n ns = n ∷ ns
+with_node false n ns = ns
+
+-- after a piece, whose tree is one node or not
+abbrev pub after_piece : At → Items → Bool → At
+after_piece s is node =
+    record {
+      items = is;
+      row = tree s.row s.count;
+      rows = s.rows;
+      own = tree s.own s.count;
+      owns = s.owns;
+      count = suc s.count;
+      nodes = with_node node s.count s.nodes;
+      facts = [];
+    }
+
+-- after turns that are put around the last node, with a tree in its place
+abbrev pub after_fold : At → Items → At
+after_fold s is =
+    record {
+      items = is;
+      row = tree (under s.row) s.count;
+      rows = s.rows;
+      own = tree (under s.own) s.count;
+      owns = s.owns;
+      count = suc s.count;
+      nodes = s.count ∷ s.nodes;
+      facts = [];
+    }

@@ -1,0 +1,271 @@
+-- The categories of the grammar, by their numbers, and what stands in many of their rows.
+use Rattle.std.specs.Prelude.{ℕ, List, [], ◌∷◌, ◌++◌}
+use Rattle.rap_base.specs.NodeKind.{NAME, NAME_REF, LIFETIME, ABI, LITERAL, PREFIX_EXPR, PATH_EXPR, PATH, PATH_SEGMENT, CONST_ARG, MACRO_CALL}
+use Rattle.rap_base.specs.TokenKind.{EOF, IDENT, SEMICOLON, COMMA, COLON, COLON2, EQ, L_PAREN, R_PAREN, L_BRACK, R_BRACK, L_CURLY, R_CURLY, L_ANGLE, R_ANGLE, AMP, STAR, BANG, MINUS, PIPE, PLUS, TILDE, QUESTION, UNDERSCORE, POUND, OUTER_DOC_COMMENT, LIFETIME_IDENT, STRING, TRUE_KW, FALSE_KW, INT_NUMBER, FLOAT_NUMBER, BYTE, CHAR, BYTE_STRING, C_STRING, AS_KW, ASYNC_KW, CONST_KW, CRATE_KW, DYN_KW, EXTERN_KW, FN_KW, FOR_KW, IMPL_KW, SELF_KW, SELF_TYPE_KW, SUPER_KW, UNSAFE_KW, USE_KW, WHERE_KW}
+use Rattle.rap_grammar_table.specs.Known.{Place, behind}
+use Rattle.rap_grammar_table.specs.Notation.{Part, ◌⊳◌, t, ts, names, op, c, node, opt, either, many, fold, of_kinds, of_names, colons}
+
+-- A type; one without bounds after it; one before a `+`; the trait after the `as` of a path; a type that begins with no
+-- name.
+abbrev pub Ty : ℕ
+Ty = 0
+
+abbrev pub PlainTy : ℕ
+PlainTy = 1
+
+abbrev pub TyBeforePlus : ℕ
+TyBeforePlus = 2
+
+abbrev pub AnchorTrait : ℕ
+AnchorTrait = 3
+
+abbrev pub SymbolTy : ℕ
+SymbolTy = 4
+
+-- A path in a type; one before a `+`; one that begins with no `Self`, before a `+`; one that begins with `::`, and one
+-- that begins with a type; the arguments of a segment, and one of them.
+abbrev pub Path : ℕ
+Path = 5
+
+abbrev pub PathBeforePlus : ℕ
+PathBeforePlus = 6
+
+abbrev pub UsePath : ℕ
+UsePath = 7
+
+abbrev pub GlobalPath : ℕ
+GlobalPath = 8
+
+abbrev pub AnchoredPath : ℕ
+AnchoredPath = 9
+
+abbrev pub Args : ℕ
+Args = 10
+
+abbrev pub Argument : ℕ
+Argument = 11
+
+-- A bound, and bounds; a generic parameter, and all of them; a predicate, and the `where` that has it.
+abbrev pub Bound : ℕ
+Bound = 12
+
+abbrev pub Bounds : ℕ
+Bounds = 13
+
+abbrev pub GenericParam : ℕ
+GenericParam = 14
+
+abbrev pub Generics : ℕ
+Generics = 15
+
+abbrev pub Predicate : ℕ
+Predicate = 16
+
+abbrev pub Where : ℕ
+Where = 17
+
+-- The name of a parameter of a function pointer, and its parameters; a pattern, an expression, a statement, a block.
+abbrev pub ParamName : ℕ
+ParamName = 18
+
+abbrev pub FnPointerParams : ℕ
+FnPointerParams = 19
+
+abbrev pub Pattern : ℕ
+Pattern = 20
+
+abbrev pub Expr : ℕ
+Expr = 21
+
+abbrev pub Stmt : ℕ
+Stmt = 22
+
+abbrev pub Block : ℕ
+Block = 23
+
+-- A visibility; a field of a struct; a variant of an enum; the parameters of a function; an item.
+abbrev pub Visibility : ℕ
+Visibility = 24
+
+abbrev pub RecordField : ℕ
+RecordField = 25
+
+abbrev pub Variant : ℕ
+Variant = 26
+
+abbrev pub FnParams : ℕ
+FnParams = 27
+
+abbrev pub Item : ℕ
+Item = 28
+
+-- Tokens in brackets; an attribute, what stands in its brackets, and a condition there; the path of a macro.
+abbrev pub TokenTree : ℕ
+TokenTree = 29
+
+abbrev pub Attr : ℕ
+Attr = 30
+
+abbrev pub Meta : ℕ
+Meta = 31
+
+abbrev pub Cfg : ℕ
+Cfg = 32
+
+abbrev pub MacroPath : ℕ
+MacroPath = 33
+
+-- A path in an expression; a path before a `for`, and the trait that it is; a tree of a `use`; an attribute
+-- of what it stands in.
+abbrev pub ExprPath : ℕ
+ExprPath = 34
+
+abbrev pub SimplePath : ℕ
+SimplePath = 35
+
+abbrev pub TraitRef : ℕ
+TraitRef = 36
+
+abbrev pub UseTree : ℕ
+UseTree = 37
+
+abbrev pub InnerAttr : ℕ
+InnerAttr = 38
+
+-- A pattern without alternatives; the path of one; `..` in the place of one; the pattern of a parameter.
+abbrev pub SinglePattern : ℕ
+SinglePattern = 39
+
+abbrev pub PatternPath : ℕ
+PatternPath = 40
+
+abbrev pub RestPattern : ℕ
+RestPattern = 41
+
+abbrev pub ParamPattern : ℕ
+ParamPattern = 42
+
+-- names
+abbrev pub name : Part
+name = node NAME (names (IDENT ∷ []))
+
+abbrev pub lifetime : Part
+lifetime = node LIFETIME (t LIFETIME_IDENT)
+
+abbrev pub name_ref : List ℕ → Part
+name_ref kinds = node NAME_REF (names kinds)
+
+-- the names of a path, and those that begin one with no `Self`
+abbrev pub use_names : List ℕ
+use_names = IDENT ∷ SELF_KW ∷ SUPER_KW ∷ CRATE_KW ∷ []
+
+abbrev pub path_names : List ℕ
+path_names = IDENT ∷ SELF_KW ∷ SUPER_KW ∷ CRATE_KW ∷ SELF_TYPE_KW ∷ []
+
+abbrev pub abi : Part
+abi = node ABI (t EXTERN_KW ⊳ opt (t STRING))
+
+abbrev pub literals : List ℕ
+literals =
+    TRUE_KW ∷ FALSE_KW ∷ INT_NUMBER ∷ FLOAT_NUMBER ∷ BYTE ∷ CHAR ∷ STRING ∷ BYTE_STRING ∷ C_STRING ∷ []
+
+abbrev pub literal : Part
+literal = node LITERAL (ts literals)
+
+-- a constant that is no path, as an argument, and a path as one
+abbrev pub constant : Part
+constant = node CONST_ARG (either (c Block) (either literal (node PREFIX_EXPR (t MINUS ⊳ literal))))
+
+abbrev pub plain_segment : Part
+plain_segment = node PATH_SEGMENT (name_ref path_names)
+
+abbrev pub plain_path : Part
+plain_path = node PATH plain_segment ⊳ fold PATH (op COLON2 ⊳ plain_segment)
+
+abbrev pub constant_path : Part
+constant_path = node CONST_ARG (node PATH_EXPR (c ExprPath))
+
+-- a call of a macro by its path
+abbrev pub macro_call : Part → Part
+macro_call path = node MACRO_CALL (path ⊳ t BANG ⊳ c TokenTree)
+
+-- attributes before what they are of
+abbrev pub attrs : Part
+attrs = many (c Attr)
+
+abbrev pub inner_attrs : Part
+inner_attrs = many (c InnerAttr)
+
+abbrev pub attr_heads : List (List Place)
+attr_heads = (of_kinds (POUND ∷ []) ∷ of_kinds (L_BRACK ∷ []) ∷ []) ∷ (of_kinds (OUTER_DOC_COMMENT ∷ []) ∷ []) ∷ []
+
+-- What ends a type or a bound, but for `:` and `+`.
+abbrev pub ends : List ℕ
+ends =
+    EOF ∷ SEMICOLON ∷ COMMA ∷ EQ ∷ R_PAREN ∷ R_BRACK ∷ R_CURLY ∷ L_CURLY ∷ R_ANGLE ∷ PIPE ∷ WHERE_KW ∷ AS_KW ∷
+    []
+
+-- what a bound begins with, but for `::`
+abbrev pub bound_kinds : List ℕ
+bound_kinds =
+    LIFETIME_IDENT ∷ FOR_KW ∷ USE_KW ∷ TILDE ∷ L_BRACK ∷ CONST_KW ∷ ASYNC_KW ∷ QUESTION ∷ L_PAREN ∷ use_names
+
+-- what may follow a type, where a `:` is that of bounds, and one before a `+`
+abbrev pub bounds_colon : List (List Place)
+bounds_colon = (of_kinds (COLON ∷ []) ∷ of_kinds (bound_kinds ++ ends) ∷ []) ∷ []
+
+abbrev pub type_follows : List (List Place)
+type_follows = (of_kinds ends ∷ []) ∷ bounds_colon
+
+abbrev pub plus_follows : List (List Place)
+plus_follows = (of_kinds (PLUS ∷ ends) ∷ []) ∷ bounds_colon
+
+-- what may follow a segment's name
+abbrev pub segment_follows : List (List Place)
+segment_follows = plus_follows ++ (of_kinds (FOR_KW ∷ []) ∷ []) ∷ colons ((of_names path_names ∷ []) ∷ [])
+
+-- what begins with a name, and what a path in a type begins with
+abbrev pub name_heads : List ℕ → List (List Place)
+name_heads kinds =
+    (of_names kinds ∷ of_kinds (L_ANGLE ∷ L_PAREN ∷ PLUS ∷ ends) ∷ [])
+    ∷ behind (of_names kinds) (bounds_colon ++ colons ((of_kinds (L_ANGLE ∷ L_PAREN ∷ path_names) ∷ []) ∷ []))
+
+abbrev pub global_heads : List (List Place)
+global_heads = colons ((of_names path_names ∷ []) ∷ [])
+
+-- what else a type begins with
+abbrev pub symbol_kinds : List ℕ
+symbol_kinds =
+    AMP ∷ L_BRACK ∷ BANG ∷ STAR ∷ L_ANGLE ∷ FN_KW ∷ UNSAFE_KW ∷ EXTERN_KW ∷ FOR_KW ∷ IMPL_KW ∷ DYN_KW ∷ []
+
+abbrev pub other_heads : List (List Place)
+other_heads =
+    (of_kinds symbol_kinds ∷ [])
+    ∷ (of_kinds (UNDERSCORE ∷ []) ∷ of_kinds (PLUS ∷ ends) ∷ [])
+    ∷ (behind (of_kinds (UNDERSCORE ∷ [])) bounds_colon ++ global_heads)
+
+abbrev pub lifetime_head : List Place
+lifetime_head = of_kinds (LIFETIME_IDENT ∷ []) ∷ of_kinds (PLUS ∷ []) ∷ []
+
+-- a macro call
+abbrev pub brackets : List ℕ
+brackets = L_PAREN ∷ L_BRACK ∷ L_CURLY ∷ []
+
+abbrev pub macro_head : List Place
+macro_head = of_names path_names ∷ of_kinds (BANG ∷ []) ∷ of_kinds brackets ∷ []
+
+abbrev pub type_heads : List (List Place)
+type_heads = lifetime_head ∷ macro_head ∷ (name_heads path_names ++ other_heads)
+
+-- a type in parentheses by what it begins with, and others by theirs
+abbrev pub paren_heads : List (List Place)
+paren_heads =
+    behind (of_kinds (L_PAREN ∷ [])) type_heads ++
+    (of_kinds (L_PAREN ∷ []) ∷ of_kinds (L_PAREN ∷ R_PAREN ∷ []) ∷ []) ∷ []
+
+abbrev pub type_firsts : List (List Place)
+type_firsts = type_heads ++ paren_heads
+
+-- the same without bounds
+abbrev pub plain_firsts : List (List Place)
+plain_firsts = macro_head ∷ name_heads path_names ++ other_heads ++ paren_heads

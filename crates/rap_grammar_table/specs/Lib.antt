@@ -1,0 +1,17 @@
+pub mod AttributeRows
+pub mod Built
+pub mod Categories
+pub mod GenericRows
+pub mod Good
+pub mod ItemRows
+pub mod Known
+pub mod Look
+pub mod Narrow
+pub mod Notation
+pub mod PatternRows
+pub mod Refusal
+pub mod Rows
+pub mod Table
+pub mod TypeRows
+pub mod Walk
+pub mod Ways

@@ -1,0 +1,140 @@
+-- A grammar as a table, and what it derives.
+use Rattle.std.specs.Prelude.{◌≡◌, ◌⊎◌, ℕ, zero, suc, Bool, true, false, List, [], ◌∷◌, ◌++◌, Option, Some, None}
+use Rattle.rap_base.specs.TokenKind.{IDENT}
+use Rattle.rap_events.specs.Composite.{parts, width}
+use Rattle.rap_events.specs.Forest.{Forest, none, node, leaf, ◌⧺◌}
+use Rattle.rap_events.specs.Record.{Record}
+use Rattle.rap_grammar_scripts.specs.Script.{Outcome}
+use Rattle.rap_grammar_scripts.specs.Test.{Test, holds}
+use Rattle.rap_grammar_scripts.specs.declared.rule.Rule.{Rule}
+use Rattle.rap_grammar_table.specs.Known.{Place, among, within, Sees}
+
+-- A token of one of these kinds that is read as one of these words, or as any where there are none; an identifier that
+-- is taken as this word; the tokens of an operator; or a category, by its number.
+pub data Piece : Type 0 where
+  tok : List ℕ → Option (List ℕ) → Piece
+  word : ℕ → Piece
+  comp : ℕ → Piece
+  cat : ℕ → Piece
+
+-- A row: a node begins, it ends under a kind, a piece, one of two ways, or any number of turns and then what stands
+-- last; and on. Or turns alone. A part may be marked as one that a script reads alone. Around the last node any number
+-- of nodes may be put, each with one more turn after what it is put around; or such turns alone. Or of the tokens that
+-- come next a test does not hold, where the row is followed in one of these ways.
+pub data Items : Type 0 where
+  nil : Items
+  begin : Items → Items
+  close : ℕ → Items → Items
+  piece : Piece → Items → Items
+  choice : Items → Items → Items → Items
+  repeat : Items → Items → Items → Items
+  turns_of : Items → Items → Items
+  group : Items → Items → Items
+  folds : ℕ → Items → Items → Items
+  folding : ℕ → Items → Items
+  unless : Test → List (List Place) → Items → Items
+
+abbrev pub appended : Items → Items → Items
+appended nil b = b
+appended (begin a) b = begin (appended a b)
+appended (close k a) b = close k (appended a b)
+appended (piece p a) b = piece p (appended a b)
+appended (choice x y a) b = choice x y (appended a b)
+appended (repeat x y a) b = repeat x y (appended a b)
+appended (turns_of x y) b = repeat x y b
+appended (group x a) b = group x (appended a b)
+appended (folds k x a) b = folds k x (appended a b)
+appended (folding k x) b = folds k x b
+appended (unless h w a) b = unless h w (appended a b)
+
+-- The rows of each category; what its tokens begin with; what may follow it; whether its tree is always one node;
+-- whether it has its rows alone, and nothing beside the table, so that a script that no rule names may read it; and the
+-- outcomes with which a rule reads it, none where it does not.
+pub record Table : Type 0 where
+  pub rows : ℕ → List Items
+  pub firsts : ℕ → List (List Place)
+  pub follows : ℕ → List (List Place)
+  pub is_node : ℕ → Bool
+  pub by_rows : ℕ → Bool
+  pub reads : Rule → ℕ → List Outcome
+
+abbrev pub row_at : ℕ → List Items → Option Items
+row_at n [] = None
+row_at zero (r ∷ rs) = Some r
+row_at (suc n) (r ∷ rs) = row_at n rs
+
+-- What is derived: a piece; or the rest of a row, after this forest in the newest open node and these in the older
+-- ones, whose pieces have these trees.
+pub data Goal : Type 0 where
+  one : Piece → Goal
+  rest_of : Items → Forest → List Forest → List Forest → Goal
+
+-- tokens of these kinds, each but the last touching the next one
+pub data Touching : List ℕ → List Record → Type 0 where
+  last_part : {k : ℕ} {r : Record} → r.kind ≡ k → Touching (k ∷ []) (r ∷ [])
+  next_part : {k j : ℕ} {ks : List ℕ} {r : Record} {rs : List Record} → r.kind ≡ k → r.joint ≡ true →
+      Touching (j ∷ ks) rs → Touching (k ∷ j ∷ ks) (r ∷ rs)
+
+-- a category's tokens and their tree
+pub record Part : Type 0 where
+  pub category : ℕ
+  pub tokens : List Record
+  pub tree_is : Forest
+
+abbrev pub Among : Part → List Part → Type 0
+Among p [] = ⊥
+Among p (q ∷ qs) = (p ≡ q) ⊎ Among p qs
+
+-- What is derived beside the table: a category's tokens and their tree, from those of its parts.
+abbrev pub Beside : Type 1
+Beside = ℕ → List Part → List Record → Forest → Type 0
+
+-- the tokens of a piece, or of the rest of a row, and its tree; of some categories some are given beside the table
+pub data Derives (t : Table) (given : Beside) :
+    Goal → List Record → Forest → Type 0 where
+  beside : {c : ℕ} {ps : List Part} {ks : List Record} {x : Forest} → given c ps ks x →
+      ((p : Part) → Among p ps → Derives t given (one (cat p.category)) p.tokens p.tree_is) →
+      Derives t given (one (cat c)) ks x
+  by_row : {c : ℕ} {row : Items} {ks : List Record} {x : Forest} {us : List Forest} (n : ℕ) →
+      row_at n (t.rows c) ≡ Some row → Derives t given (rest_of row none [] us) ks x → Derives t given (one (cat c)) ks x
+  a_token : {kinds : List ℕ} {words : Option (List ℕ)} {r : Record} → among kinds r.kind ≡ true →
+      within words r.contextual ≡ true → Derives t given (one (tok kinds words)) (r ∷ []) (leaf none r.kind 1)
+  a_word : {k : ℕ} {r : Record} → r.kind ≡ IDENT → r.contextual ≡ k →
+      Derives t given (one (word k)) (r ∷ []) (leaf none k 1)
+  an_operator : {k : ℕ} {rs : List Record} → Touching (parts k) rs →
+      Derives t given (one (comp k)) rs (leaf none k (width k))
+  ended : {x : Forest} → Derives t given (rest_of nil x [] []) [] x
+  begun : {is : Items} {x y : Forest} {xs us : List Forest} {ks : List Record} →
+      Derives t given (rest_of is none (x ∷ xs) us) ks y → Derives t given (rest_of (begin is) x xs us) ks y
+  closed : {k : ℕ} {is : Items} {x y z : Forest} {xs us : List Forest} {ks : List Record} →
+      Derives t given (rest_of is (node z k x) xs us) ks y → Derives t given (rest_of (close k is) x (z ∷ xs) us) ks y
+  put : {p : Piece} {is : Items} {x y u : Forest} {xs us : List Forest} {ks js : List Record} →
+      Derives t given (one p) ks u → Derives t given (rest_of is (x ⧺ u) xs us) js y →
+      Derives t given (rest_of (piece p is) x xs (u ∷ us)) (ks ++ js) y
+  first_way : {a b is : Items} {x y : Forest} {xs us : List Forest} {ks : List Record} →
+      Derives t given (rest_of (appended a is) x xs us) ks y → Derives t given (rest_of (choice a b is) x xs us) ks y
+  second_way : {a b is : Items} {x y : Forest} {xs us : List Forest} {ks : List Record} →
+      Derives t given (rest_of (appended b is) x xs us) ks y → Derives t given (rest_of (choice a b is) x xs us) ks y
+  last_turn : {a z : Items} {x : Forest} {us : List Forest} {ks : List Record} →
+      Derives t given (rest_of z none [] us) ks x → Derives t given (rest_of (turns_of a z) none [] []) ks x
+  one_turn : {a z : Items} {x y : Forest} {us : List Forest} {ks js : List Record} →
+      Derives t given (rest_of a none [] us) ks x → Derives t given (rest_of (turns_of a z) none [] []) js y →
+      Derives t given (rest_of (turns_of a z) none [] []) (ks ++ js) (x ⧺ y)
+  repeated : {a z is : Items} {x y u : Forest} {xs us : List Forest} {ks js : List Record} →
+      Derives t given (rest_of (turns_of a z) none [] []) ks u → Derives t given (rest_of is (x ⧺ u) xs us) js y →
+      Derives t given (rest_of (repeat a z is) x xs (u ∷ us)) (ks ++ js) y
+  grouped : {a is : Items} {x y u : Forest} {xs us vs : List Forest} {ks js : List Record} →
+      Derives t given (rest_of a none [] vs) ks u → Derives t given (rest_of is (x ⧺ u) xs us) js y →
+      Derives t given (rest_of (group a is) x xs (u ∷ us)) (ks ++ js) y
+  folded_none : {k : ℕ} {a : Items} {x : Forest} → Derives t given (rest_of (folding k a) x [] []) [] x
+  folded_more : {k : ℕ} {a : Items} {x u w : Forest} {vs : List Forest} {ks js : List Record} →
+      Derives t given (rest_of a none [] vs) ks w →
+      Derives t given (rest_of (folding k a) (node none k (x ⧺ w)) [] []) js u →
+      Derives t given (rest_of (folding k a) x [] []) (ks ++ js) u
+  folded : {k j : ℕ} {a is : Items} {c x y u : Forest} {xs us : List Forest} {ks js : List Record} →
+      Derives t given (rest_of (folding k a) (node none j c) [] []) ks u →
+      Derives t given (rest_of is (x ⧺ u) xs us) js y →
+      Derives t given (rest_of (folds k a is) (node x j c) xs (u ∷ us)) (ks ++ js) y
+  guarded : {h : Test} {w : List (List Place)} {is : Items} {ks : List Record} {x y : Forest} {xs us : List Forest} →
+      ((l : List Record) → Sees w l → holds h (ks ++ l) ≡ false) → Derives t given (rest_of is x xs us) ks y →
+      Derives t given (rest_of (unless h w is) x xs us) ks y

@@ -1,0 +1,316 @@
+-- The rows of types, of the paths in them, and of bounds.
+use Rattle.std.specs.Prelude.{◌==◌, not, Some, None, ℕ, true, false, List, [], ◌∷◌, ◌++◌}
+use Rattle.rap_base.specs.NodeKind.{ARRAY_TYPE, CONST_ARG, DYN_TRAIT_TYPE, FN_PTR_TYPE, FOR_BINDER, FOR_TYPE, GENERIC_ARG_LIST, IDENT_PAT, IMPL_TRAIT_TYPE, INFER_TYPE, MACRO_TYPE, NEVER_TYPE, PARAM, PARAM_LIST, PARENTHESIZED_ARG_LIST, PAREN_TYPE, PATH, PATH_SEGMENT, PATH_TYPE, PTR_TYPE, REF_TYPE, RETURN_TYPE_SYNTAX, RET_TYPE, SLICE_TYPE, TUPLE_TYPE, TYPE_ANCHOR, TYPE_ARG, TYPE_BOUND, TYPE_BOUND_LIST, USE_BOUND_GENERIC_ARGS, WILDCARD_PAT}
+use Rattle.rap_base.specs.TokenKind.{IDENT, SEMICOLON, COMMA, COLON, COLON2, DOT, DOT2, DOT3, L_PAREN, R_PAREN, L_BRACK, R_BRACK, L_CURLY, L_ANGLE, R_ANGLE, AMP, STAR, BANG, MINUS, PLUS, TILDE, QUESTION, UNDERSCORE, THIN_ARROW, LIFETIME_IDENT, AS_KW, ASYNC_KW, CONST_KW, DYN_KW, FN_KW, FOR_KW, IMPL_KW, MUT_KW, SELF_TYPE_KW, UNSAFE_KW, USE_KW, EOF, SHEBANG}
+use Rattle.rap_grammar_scripts.specs.Params.{is_named_param}
+use Rattle.rap_grammar_scripts.specs.Script.{Outcome, something}
+use Rattle.rap_grammar_scripts.specs.Test.{negated}
+use Rattle.rap_grammar_scripts.specs.Types.{starts_for_target}
+use Rattle.rap_grammar_scripts.specs.Words.{is_at}
+use Rattle.rap_grammar_scripts.specs.declared.rule.Rule.{Rule}
+use Rattle.rap_grammar_scripts.specs.declared.rule.Rule.TheVariants as knot
+use Rattle.rap_grammar_table.specs.Categories.{Ty, PlainTy, TyBeforePlus, AnchorTrait, Path, PathBeforePlus, UsePath, GlobalPath, AnchoredPath, Args, Argument, SimplePath, Bound, Bounds, Generics, ParamName, FnPointerParams, MacroPath, Expr, abi, attrs, macro_call, lifetime, name, name_ref, literals, path_names, use_names, bound_kinds, global_heads, lifetime_head, name_heads, other_heads, paren_heads, plain_firsts, plus_follows, segment_follows, symbol_kinds, type_firsts, type_follows}
+use Rattle.rap_grammar_table.specs.Known.{Place, never, behind}
+use Rattle.rap_grammar_table.specs.Narrow.{those}
+use Rattle.rap_grammar_table.specs.Look.{anything}
+use Rattle.rap_grammar_table.specs.Notation.{up_to, Part, ◌⊳◌, t, ts, op, c, node, opt, either, commas, commas_last, until, alone, fold, guard, guard_before, Entry, text, read_text, of_kinds, of_names, touching, colons}
+
+-- a return type
+abbrev pub ret : ℕ → Part
+ret category = node RET_TYPE (op THIN_ARROW ⊳ c category)
+
+-- The arguments of a path's segment: in angle brackets, with `::` before them or not; types in parentheses; two dots.
+abbrev pub paren_args : Part
+paren_args =
+    node PARENTHESIZED_ARG_LIST (opt (op COLON2) ⊳ t L_PAREN ⊳ commas (node TYPE_ARG (c Ty)) ⊳ t R_PAREN)
+
+abbrev pub args_rows : List Part
+args_rows =
+    node GENERIC_ARG_LIST (opt (op COLON2) ⊳ t L_ANGLE ⊳ commas (c Argument) ⊳ t R_ANGLE)
+    ∷ paren_args
+    ∷ node RETURN_TYPE_SYNTAX (t L_PAREN ⊳ op DOT2 ⊳ t R_PAREN)
+    ∷ []
+
+-- what an argument begins with
+abbrev pub argument_kinds : List ℕ
+argument_kinds =
+    L_CURLY ∷ MINUS ∷ COLON ∷ UNDERSCORE ∷ LIFETIME_IDENT ∷ L_PAREN ∷ (literals ++ path_names ++ symbol_kinds)
+
+abbrev pub args_firsts : List (List Place)
+args_firsts =
+    (of_kinds (L_ANGLE ∷ []) ∷ of_kinds (R_ANGLE ∷ argument_kinds) ∷ [])
+    ∷ (of_kinds (L_PAREN ∷ []) ∷ of_kinds (R_PAREN ∷ argument_kinds) ∷ [])
+    ∷ (of_kinds (L_PAREN ∷ []) ∷ touching DOT ∷ of_kinds (DOT ∷ []) ∷ [])
+    ∷ colons ((of_kinds (L_ANGLE ∷ L_PAREN ∷ []) ∷ []) ∷ [])
+
+abbrev pub args_entry : Entry
+args_entry = text args_rows args_firsts segment_follows
+
+abbrev pub opt_args : Part
+opt_args = alone (opt (c Args))
+
+-- A segment. One with a return type is the last of a path, since the type would take in what follows.
+abbrev pub segment : List ℕ → Part
+segment kinds = node PATH_SEGMENT (name_ref kinds ⊳ opt_args)
+
+abbrev pub call_segment : ℕ → List ℕ → Part
+call_segment category kinds = node PATH_SEGMENT (name_ref kinds ⊳ alone (paren_args ⊳ ret category))
+
+-- what stands after a path
+abbrev pub more_segments : Part
+more_segments = fold PATH (op COLON2 ⊳ segment path_names)
+
+-- a path that begins with one of these names; its return types are of this category
+abbrev pub named_paths : ℕ → List ℕ → List Part
+named_paths category kinds =
+    (node PATH (segment kinds) ⊳ more_segments)
+    ∷ node PATH (call_segment category kinds)
+    ∷ node PATH (node PATH (segment kinds) ⊳ op COLON2 ⊳ call_segment category path_names)
+    ∷ node PATH
+    (node PATH (node PATH (segment kinds) ⊳ op COLON2 ⊳ segment path_names) ⊳ op COLON2 ⊳
+    call_segment category path_names)
+    ∷ []
+
+abbrev pub path_entry : Entry
+path_entry = text (named_paths PlainTy path_names) (name_heads path_names) type_follows
+
+abbrev pub path_before_plus_entry : Entry
+path_before_plus_entry = text (named_paths TyBeforePlus path_names) (name_heads path_names) plus_follows
+
+abbrev pub use_path_entry : Entry
+use_path_entry = text (named_paths TyBeforePlus use_names) (name_heads use_names) plus_follows
+
+-- a path that begins with `::`, and one that begins with a type
+abbrev pub global_path : Part
+global_path = node PATH (node PATH_SEGMENT (op COLON2 ⊳ name_ref path_names ⊳ opt_args)) ⊳ more_segments
+
+abbrev pub global_path_entry : Entry
+global_path_entry = text (global_path ∷ []) global_heads plus_follows
+
+abbrev pub anchor : Part
+anchor = node TYPE_ANCHOR (t L_ANGLE ⊳ c Ty ⊳ opt (t AS_KW ⊳ c AnchorTrait) ⊳ t R_ANGLE)
+
+abbrev pub anchored_path_entry : Entry
+anchored_path_entry =
+    text
+    ((node PATH (node PATH (node PATH_SEGMENT anchor) ⊳ op COLON2 ⊳ segment path_names) ⊳ more_segments) ∷ [])
+    ((of_kinds (L_ANGLE ∷ []) ∷ []) ∷ []) plus_follows
+
+-- a path in an expression, where `::` stands before its arguments
+abbrev pub expr_segment : Part
+expr_segment =
+    node PATH_SEGMENT
+    (name_ref path_names ⊳
+    alone (opt (node GENERIC_ARG_LIST (op COLON2 ⊳ t L_ANGLE ⊳ commas (c Argument) ⊳ t R_ANGLE))))
+
+abbrev pub more_expr_segments : Part
+more_expr_segments = fold PATH (op COLON2 ⊳ expr_segment)
+
+abbrev pub expr_path_rows : List Part
+expr_path_rows =
+    (node PATH expr_segment ⊳ more_expr_segments)
+    ∷ (node PATH
+    (node PATH_SEGMENT
+    (op COLON2 ⊳ name_ref path_names ⊳
+    alone (opt (node GENERIC_ARG_LIST (op COLON2 ⊳ t L_ANGLE ⊳ commas (c Argument) ⊳ t R_ANGLE))))) ⊳
+    more_expr_segments)
+    ∷ (node PATH (node PATH (node PATH_SEGMENT anchor) ⊳ op COLON2 ⊳ expr_segment) ⊳ more_expr_segments)
+    ∷ []
+
+-- any token but a `:` may follow it, and a `:` that touches no other
+abbrev pub expr_path_follows : List (List Place)
+expr_path_follows =
+    (of_kinds (EOF ∷ those (λ kind. not (kind == COLON)) (up_to SHEBANG)) ∷ [])
+    ∷ (record { kinds = Some (COLON ∷ []); words = None; joint = never } ∷ [])
+    ∷ []
+
+abbrev pub expr_path_entry : Entry
+expr_path_entry =
+    text expr_path_rows
+    ((of_kinds (L_ANGLE ∷ []) ∷ []) ∷
+    (global_heads ++
+    behind (of_names path_names)
+    (expr_path_follows ++ colons ((of_kinds (L_ANGLE ∷ path_names) ∷ []) ∷ []))))
+    expr_path_follows
+
+-- a path with no return type, before a `for`, and the trait that it is
+abbrev pub simple_path_entry : Entry
+simple_path_entry =
+    text ((node PATH (segment path_names) ⊳ more_segments) ∷ [])
+    ((of_names path_names ∷ of_kinds (L_ANGLE ∷ L_PAREN ∷ FOR_KW ∷ []) ∷ []) ∷
+    behind (of_names path_names) (colons ((of_kinds (L_ANGLE ∷ L_PAREN ∷ path_names) ∷ []) ∷ [])))
+    ((of_kinds (FOR_KW ∷ []) ∷ []) ∷ [])
+
+abbrev pub anchor_read_by : Rule → List Outcome
+anchor_read_by knot.PathTypeBounds = something ∷ []
+anchor_read_by r = []
+
+abbrev pub anchor_entry : Entry
+anchor_entry =
+    read_text anchor_read_by (node PATH_TYPE (c UsePath) ∷ node PATH_TYPE (c GlobalPath) ∷ [])
+    (name_heads use_names ++ global_heads) ((of_kinds (R_ANGLE ∷ []) ∷ []) ∷ [])
+
+-- the parameters after a `for`
+abbrev pub for_binder : Part
+for_binder = node FOR_BINDER (t FOR_KW ⊳ c Generics)
+
+-- A bound: a lifetime; the arguments that a type captures; a trait with what stands before it.
+abbrev pub constness : Part
+constness = either (t TILDE ⊳ t CONST_KW) (either (t L_BRACK ⊳ t CONST_KW ⊳ t R_BRACK) (t CONST_KW))
+
+abbrev pub captured : Part
+captured =
+    t USE_KW ⊳
+    node USE_BOUND_GENERIC_ARGS
+    (t L_ANGLE ⊳ commas (either lifetime (name_ref (IDENT ∷ SELF_TYPE_KW ∷ []))) ⊳ t R_ANGLE)
+
+abbrev pub trait_path : Part
+trait_path = alone (node PATH_TYPE (either (c UsePath) (c GlobalPath)))
+
+abbrev pub bare_bounds : List Part
+bare_bounds =
+    lifetime
+    ∷ captured
+    ∷ (opt constness ⊳ opt (t ASYNC_KW) ⊳ trait_path)
+    ∷ (t QUESTION ⊳ trait_path)
+    ∷ (for_binder ⊳ opt (t ASYNC_KW) ⊳ trait_path)
+    ∷ []
+
+-- each of them alone and in parentheses
+abbrev pub bound_rows : List Part → List Part
+bound_rows [] = []
+bound_rows (a ∷ more) =
+    node TYPE_BOUND (alone a) ∷ node TYPE_BOUND (t L_PAREN ⊳ alone a ⊳ t R_PAREN) ∷ bound_rows more
+
+abbrev pub bound_firsts : List (List Place)
+bound_firsts = (of_kinds bound_kinds ∷ []) ∷ global_heads
+
+abbrev pub bound_entry : Entry
+bound_entry = text (bound_rows bare_bounds) bound_firsts plus_follows
+
+-- bounds with `+` between them, and one behind the last or none
+abbrev pub bounds : Part
+bounds = until (c Bound ⊳ t PLUS) (alone (opt (c Bound)))
+
+abbrev pub bound_list : Part
+bound_list = node TYPE_BOUND_LIST bounds
+
+abbrev pub bounds_read_by : Rule → List Outcome
+bounds_read_by knot.BoundsWithoutColon = something ∷ []
+bounds_read_by r = []
+
+abbrev pub bounds_entry : Entry
+bounds_entry =
+    read_text bounds_read_by (bound_list ∷ [])
+    (bound_firsts ++ type_follows) type_follows
+
+-- the parameters of a function pointer, and the name of one
+abbrev pub param_name_read_by : Rule → List Outcome
+param_name_read_by knot.PatternSingle = something ∷ []
+param_name_read_by r = []
+
+abbrev pub after_colon : List ℕ
+after_colon = UNDERSCORE ∷ LIFETIME_IDENT ∷ L_PAREN ∷ (symbol_kinds ++ path_names)
+
+abbrev pub param_name_entry : Entry
+param_name_entry =
+    read_text param_name_read_by (node IDENT_PAT name ∷ node WILDCARD_PAT (t UNDERSCORE) ∷ [])
+    ((of_names (IDENT ∷ []) ∷ of_kinds (COLON ∷ []) ∷ of_kinds after_colon ∷ [])
+    ∷ (of_kinds (UNDERSCORE ∷ []) ∷ of_kinds (COLON ∷ []) ∷ of_kinds after_colon ∷ [])
+    ∷ [])
+    ((of_kinds (COLON ∷ []) ∷ of_kinds after_colon ∷ []) ∷ [])
+
+abbrev pub fn_pointer_param : List (List Place) → Part
+fn_pointer_param ways =
+    node PARAM
+    (attrs ⊳
+    either (guard_before ways is_named_param ⊳ c Ty) (either (c ParamName ⊳ t COLON ⊳ guard (is_at COLON2) ⊳ c Ty) (op DOT3)))
+
+abbrev pub fn_pointer_params_entry : Entry
+fn_pointer_params_entry =
+    text
+    (node PARAM_LIST
+    (t L_PAREN ⊳
+    commas_last (fn_pointer_param anything) (fn_pointer_param ((of_kinds (R_PAREN ∷ []) ∷ []) ∷ [])) ⊳ t R_PAREN) ∷ [])
+    ((of_kinds (L_PAREN ∷ []) ∷ []) ∷ []) anything
+
+-- The types that begin with a symbol or a keyword, by the category of the type at their end.
+abbrev pub fn_pointer : ℕ → Part
+fn_pointer category =
+    node FN_PTR_TYPE
+    (alone (opt (t UNSAFE_KW) ⊳ opt abi) ⊳ t FN_KW ⊳ c FnPointerParams ⊳ alone (opt (ret category)))
+
+abbrev pub for_type : ℕ → Part
+for_type category = node FOR_TYPE (for_binder ⊳ guard (negated starts_for_target) ⊳ c category)
+
+abbrev pub symbol_types : ℕ → List Part
+symbol_types category =
+    node REF_TYPE (t AMP ⊳ opt lifetime ⊳ opt (t MUT_KW) ⊳ c category)
+    ∷ node PTR_TYPE (t STAR ⊳ ts (MUT_KW ∷ CONST_KW ∷ []) ⊳ c category)
+    ∷ node SLICE_TYPE (t L_BRACK ⊳ c Ty ⊳ t R_BRACK)
+    ∷ node ARRAY_TYPE (t L_BRACK ⊳ c Ty ⊳ t SEMICOLON ⊳ node CONST_ARG (c Expr) ⊳ t R_BRACK)
+    ∷ node NEVER_TYPE (t BANG)
+    ∷ node INFER_TYPE (t UNDERSCORE)
+    ∷ node TUPLE_TYPE (t L_PAREN ⊳ t R_PAREN)
+    ∷ node PAREN_TYPE (t L_PAREN ⊳ c Ty ⊳ t R_PAREN)
+    ∷ node TUPLE_TYPE (t L_PAREN ⊳ c Ty ⊳ t COMMA ⊳ commas (c Ty) ⊳ t R_PAREN)
+    ∷ fn_pointer category
+    ∷ for_type category
+    ∷ node PATH_TYPE (c AnchoredPath)
+    ∷ node PATH_TYPE (c GlobalPath)
+    ∷ []
+
+abbrev pub trait_types : List Part
+trait_types = node IMPL_TRAIT_TYPE (t IMPL_KW ⊳ c Bounds) ∷ node DYN_TRAIT_TYPE (t DYN_KW ⊳ c Bounds) ∷ []
+
+-- a macro call as a type
+abbrev pub macro_type : Part
+macro_type = node MACRO_TYPE (macro_call (c MacroPath))
+
+-- a type that is the first of bounds, and a lifetime before bounds
+abbrev pub bounded : Part → Part
+bounded a = node DYN_TRAIT_TYPE (node TYPE_BOUND_LIST (node TYPE_BOUND a ⊳ t PLUS ⊳ bounds))
+
+abbrev pub bounded_symbol_types : List Part
+bounded_symbol_types =
+    bounded (node PATH_TYPE (c AnchoredPath))
+    ∷ bounded (node PATH_TYPE (c GlobalPath))
+    ∷ bounded (for_type TyBeforePlus)
+    ∷ bounded lifetime
+    ∷ []
+
+abbrev pub type_read_by : Rule → List Outcome
+type_read_by (knot.TypeWithBoundsCond true) = something ∷ []
+type_read_by r = []
+
+abbrev pub trait_ref_entry : Entry
+trait_ref_entry =
+    read_text type_read_by (node PATH_TYPE (c SimplePath) ∷ [])
+    ((of_names path_names ∷ of_kinds (L_ANGLE ∷ L_PAREN ∷ FOR_KW ∷ []) ∷ []) ∷
+    behind (of_names path_names) (colons ((of_kinds (L_ANGLE ∷ L_PAREN ∷ path_names) ∷ []) ∷ [])))
+    ((of_kinds (FOR_KW ∷ []) ∷ []) ∷ [])
+
+abbrev pub plain_read_by : Rule → List Outcome
+plain_read_by (knot.TypeWithBoundsCond false) = something ∷ []
+plain_read_by r = []
+
+abbrev pub type_entry : Entry
+type_entry =
+    read_text type_read_by
+    (node PATH_TYPE (c Path) ∷ bounded (node PATH_TYPE (c PathBeforePlus)) ∷ macro_type ∷
+    (symbol_types PlainTy ++ trait_types ++ bounded_symbol_types))
+    type_firsts type_follows
+
+abbrev pub plain_entry : Entry
+plain_entry =
+    read_text plain_read_by (node PATH_TYPE (c Path) ∷ macro_type ∷ (symbol_types PlainTy ++ trait_types)) plain_firsts type_follows
+
+abbrev pub before_plus_entry : Entry
+before_plus_entry =
+    read_text plain_read_by (node PATH_TYPE (c PathBeforePlus) ∷ macro_type ∷ symbol_types TyBeforePlus) plain_firsts plus_follows
+
+-- those that begin with no name, as arguments
+abbrev pub symbol_entry : Entry
+symbol_entry =
+    text (symbol_types PlainTy ++ trait_types ++ bounded_symbol_types) (lifetime_head ∷ (other_heads ++ paren_heads))
+    ((of_kinds (COMMA ∷ R_ANGLE ∷ []) ∷ []) ∷ [])
