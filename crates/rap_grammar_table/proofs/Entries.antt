@@ -41,7 +41,7 @@ pub record EntryChecked (t : Table) (e : Entry) : Type 0 where
   pub reads : (r : Rule) → some_outcome (e.read_by r) ≡ true → all_accepted (is_read t e r) e.rows ≡ accepted
   pub begins : all_rows (begins_so t e) e.rows ≡ true
   pub followed : all_rows (followed_so t e) e.rows ≡ true
-  pub nodes : e.is_node ≡ true → all_rows (is_one_node depth) e.rows ≡ true
+  pub nodes : e.is_node ≡ true → all_rows (is_one_node t depth) e.rows ≡ true
 
 infixr 3 ◌then◌
 pub data AllChecked (t : Table) : List Entry → Type 0 where
@@ -65,5 +65,5 @@ checked_of es a =
           λ c n row h r i. of_accepted (is_read t (entry_at c es) r) (entry_at c es).rows n row ((at c).reads r i) h;
       begins = λ c n row h. of_all (begins_so t (entry_at c es)) (entry_at c es).rows n row (at c).begins h;
       followed = λ c n row h. of_all (followed_so t (entry_at c es)) (entry_at c es).rows n row (at c).followed h;
-      is_node = λ c n row h i. of_all (is_one_node depth) (entry_at c es).rows n row ((at c).nodes i) h;
+      is_node = λ c n row h i. of_all (is_one_node t depth) (entry_at c es).rows n row ((at c).nodes i) h;
     }

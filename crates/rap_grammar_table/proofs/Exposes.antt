@@ -11,7 +11,7 @@ use Rattle.rap_grammar_table.specs.Known.{Answer, sure, never, unclear, Place, a
 use Rattle.rap_grammar_table.specs.Look.{look, depth}
 use Rattle.rap_grammar_table.specs.Narrow.{Fact, left_by, AreSo, looks_on}
 use Rattle.rap_grammar_table.specs.Refusal.{where_so, Verdict, accepted, in_case}
-use Rattle.rap_grammar_table.specs.Table.{Table, Piece, Items, nil, begin, close, piece, choice, repeat, turns_of, group, folds, folding, unless, appended}
+use Rattle.rap_grammar_table.specs.Table.{Table, Piece, Items, nil, begin, close, piece, choice, repeat, turns_of, group, folds, folding, way, unless, appended}
 use Rattle.rap_grammar_table.specs.Ways.{some_way, may_be, exposed, ahead, settled, forked, by_answer, answer_at, both_ways, by_known, undecided, tested}
 use Rattle.rap_grammar_table.proofs.Known.{agrees_all, not_true, by_truth}
 use Rattle.rap_grammar_table.proofs.Look.{seen}
@@ -90,6 +90,7 @@ exposes t g l e s fs (suc d) (group b is) x xs k us ks y a m w =
 exposes t g l e s fs (suc d) (folds j b is) x xs k us ks y a m w =
     record { items = folds j b is; row = x; rows = xs; so = w; made = m }
 exposes t g l e s fs (suc d) (folding j b) x xs k us ks y a m w = absurd cc
+exposes t g l e s fs (suc d) (way i b j ws) x xs k us ks y a m w = absurd cc
 exposes t g l e s fs (suc d) (unless h v is) x xs k us ks y a m w =
     exposes t g l e s fs d is x xs k us ks y a (unless_inv m) w
 
@@ -150,11 +151,11 @@ chooses t l (suc d) (suc m) k (made_repeat {a = a} {z = z} {is = is} n o) w =
     record { items = repeat a z is; so = w; made = made_repeat n o }
 chooses t l (suc d) (suc m) k (made_guarded {h = h} {w = v} e n) w =
     with_unless h v e (chooses t l d (suc m) (λ js. k (unless h v js)) n w)
-chooses t l (suc d) (suc m) k (made_folded_none {k = j} {a = a}) w =
+chooses t l (suc d) (suc m) k (made_folded_none {n = j} {ws = a}) w =
     record { items = folding j a; so = w; made = made_folded_none }
-chooses t l (suc d) (suc m) k (made_folded_more {k = j} {a = a} n o) w =
-    record { items = folding j a; so = w; made = made_folded_more n o }
-chooses t l (suc d) (suc m) k (made_folds {k = j} {a = a} {is = is} n o) w =
+chooses t l (suc d) (suc m) k (made_folded_more {n = j} {ws = a} v i n o) w =
+    record { items = folding j a; so = w; made = made_folded_more v i n o }
+chooses t l (suc d) (suc m) k (made_folds {n = j} {ws = a} {is = is} n o) w =
     record { items = folds j a is; so = w; made = made_folds n o }
 chooses t l (suc d) (suc m) k (made_group {a = a} {is = is} n o) w =
     record { items = group a is; so = w; made = made_group n o }
@@ -182,11 +183,11 @@ settles t g l fs (suc d) k (made_repeat {a = b} {z = z} {is = is} n o) s a w =
     record { items = repeat b z is; so = w; made = made_repeat n o }
 settles t g l fs (suc d) k (made_guarded {h = h} {w = v} {is = is} e n) s a w =
     record { items = unless h v is; so = w; made = made_guarded e n }
-settles t g l fs (suc d) k (made_folded_none {k = j} {a = b}) s a w =
+settles t g l fs (suc d) k (made_folded_none {n = j} {ws = b}) s a w =
     record { items = folding j b; so = w; made = made_folded_none }
-settles t g l fs (suc d) k (made_folded_more {k = j} {a = b} n o) s a w =
-    record { items = folding j b; so = w; made = made_folded_more n o }
-settles t g l fs (suc d) k (made_folds {k = j} {a = b} {is = is} n o) s a w =
+settles t g l fs (suc d) k (made_folded_more {n = j} {ws = b} v i n o) s a w =
+    record { items = folding j b; so = w; made = made_folded_more v i n o }
+settles t g l fs (suc d) k (made_folds {n = j} {ws = b} {is = is} n o) s a w =
     record { items = folds j b is; so = w; made = made_folds n o }
 settles t g l fs (suc d) k (made_group {a = b} {is = is} n o) s a w =
     record { items = group b is; so = w; made = made_group n o }

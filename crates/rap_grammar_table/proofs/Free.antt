@@ -69,7 +69,7 @@ clean k (repeated {x = x} {u = u} d e) = λ h i. clean k e (both_clean x u h (cl
 clean k (grouped {x = x} {u = u} d e) = λ h i. clean k e (both_clean x u h (clean k d refl tt)) i
 clean k (guarded g d) = λ h i. clean k d h i
 clean k folded_none = λ h i. h
-clean k (folded_more {x = x} {w = w} d e) = λ h i. clean k e (sum_clean 0 (message_count (x ⧺ w)) refl (both_clean x w h (clean k d refl tt))) tt
+clean k (folded_more w i d e) = λ h i. clean k e (clean k d h (refl, tt)) tt
 clean k (folded {c = cs} {x = x} {u = u} d e) = λ h i.
     clean k e (both_clean x u (left_clean (message_count x) (message_count cs) h)
     (clean k d (sum_clean 0 (message_count cs) refl (right_clean (message_count x) (message_count cs) h)) tt)) i

@@ -1,5 +1,5 @@
 -- What is known of the tokens says of a test what is so.
-use Rattle.std.proofs.Common.{◌≡◌, ℕ, zero, suc, Bool, true, false, ◌&&◌, ◌||◌, ◌==◌, not, List, [], ◌∷◌, ◌++◌, drop, Option, Some, None, refl, subst, arith}
+use Rattle.std.proofs.Common.{◌≡◌, ℕ, zero, suc, Bool, true, false, ◌&&◌, ◌||◌, ◌==◌, not, List, [], ◌∷◌, ◌++◌, drop, Option, Some, None, refl, sym, ◌∙◌, subst, arith, if◌then◌else◌}
 use Rattle.std.proofs.lemmas.Bool.Decides.{nat_tests}
 use Rattle.rap_base.specs.Keyword.{is_keyword}
 use Rattle.rap_base.specs.TokenKind.{EOF, IDENT}
@@ -7,9 +7,11 @@ use Rattle.rap_base.specs.declared.edition.Edition.TheVariants.{Edition2024}
 use Rattle.rap_events.proofs.Truth.{and_left, and_right}
 use Rattle.rap_events.specs.Composite.{parts, begins_with, is_first}
 use Rattle.rap_events.specs.Cover.{first_may_bear}
+use Rattle.rap_events.specs.OperatorTable.{operators}
 use Rattle.rap_events.specs.Record.{Record, next_kind, kind_at, contextual_at, joint_at}
+use Rattle.rap_grammar_scripts.specs.Operator.{goes_on_with, first_of, operator_in, operator_at}
 use Rattle.rap_grammar_scripts.specs.Test.{Test, kind_so, word_so, edition_so, comes, borne, negated, also, or_else, told, operator_so, holds, kind_after}
-use Rattle.rap_grammar_table.specs.Known.{Answer, sure, never, unclear, Place, place_at, among, within, agrees, Fits, Shows, Sees, this_way, later_way, every_one, judged, decided, not_so, and_so, or_so, and_then, or_then, of_truth, where_sure, is_kind, begin_so, comes_so, borne_so, evaluate, either_so, evaluate_all, says_of, says_so, says_place, says_one, says_some, says}
+use Rattle.rap_grammar_table.specs.Known.{Answer, sure, never, unclear, Place, place_at, among, within, agrees, Fits, Shows, Sees, this_way, later_way, every_one, judged, decided, not_so, and_so, or_so, and_then, or_then, of_truth, where_sure, is_kind, begin_so, comes_so, borne_so, and_more, goes_so, operators_begun, operators_at, operators_of, operators_known, evaluate, either_so, evaluate_all, says_of, says_so, says_place, says_one, says_some, says}
 
 pub same_number : (j k : ℕ) → (j == k) ≡ true → j ≡ k
 same_number j k h = grind (arith, nat_tests)
@@ -111,7 +113,7 @@ kind_after-is zero [] = refl
 kind_after-is zero (r ∷ rs) = refl
 kind_after-is (suc n) rs = refl
 
-no_end : (k : ℕ) → not (k == EOF) ≡ true → (EOF == k) ≡ false
+pub no_end : (k : ℕ) → not (k == EOF) ≡ true → (EOF == k) ≡ false
 no_end k h = grind (arith, nat_tests)
 
 agrees_begin : (ks : List ℕ) (ps : List Place) (rs : List Record) → Shows ps rs →
@@ -165,6 +167,88 @@ agrees_borne k ps (r ∷ rs) s =
     (agrees_and (of_truth (k == IDENT)) _ (k == IDENT) (is_keyword r.kind Edition2024) (agrees_truth (k == IDENT))
     (agrees_decided (λ j. is_keyword j Edition2024) (place_at 0 ps).kinds r.kind w))))
 
+-- where a truth value is so, and where it is not
+pub by_truth : {A : Type 0} (x : Bool) → (x ≡ true → A) → (x ≡ false → A) → A
+by_truth true p q = p refl
+by_truth false p q = q refl
+
+-- the operator that comes next is among those that may
+own_kind : (k : ℕ) → (k == k) ≡ true
+own_kind k = grind (arith, nat_tests)
+
+or_true : (a b : Bool) → b ≡ true → (a || b) ≡ true
+or_true true b h = refl
+or_true false b h = h
+
+among_left : (xs ys : List ℕ) (k : ℕ) → among xs k ≡ true → among (xs ++ ys) k ≡ true
+among_left [] ys k h = absurd cc
+among_left (x ∷ xs) ys k h =
+    by_or (x == k) (among xs k) h (λ e. rw e refl)
+    (λ m. or_true (x == k) (among (xs ++ ys) k) (among_left xs ys k m))
+
+among_right : (xs ys : List ℕ) (k : ℕ) → among ys k ≡ true → among (xs ++ ys) k ≡ true
+among_right [] ys k h = h
+among_right (x ∷ xs) ys k h = or_true (x == k) (among (xs ++ ys) k) (among_right xs ys k h)
+
+among_more : (a : Answer) (b : Bool) (op k : ℕ) (f : Unit {0} → List ℕ) → agrees a b ≡ true →
+    among (f tt) k ≡ true → among (and_more a op f) (if b then op else k) ≡ true
+among_more sure true op k f h m = rw (own_kind op) refl
+among_more sure false op k f h m = absurd cc
+among_more never true op k f h m = absurd cc
+among_more never false op k f h m = m
+among_more unclear true op k f h m = rw (own_kind op) refl
+among_more unclear false op k f h m = or_true (op == k) (among (f tt) k) m
+
+agrees_goes : (first : ℕ) (ks : List ℕ) (ps : List Place) (rs : List Record) → Shows ps rs → next_kind rs ≡ first →
+    agrees (goes_so ks ps) (goes_on_with first ks rs) ≡ true
+agrees_goes first [] ps rs s e = refl
+agrees_goes first (k ∷ ks) ps [] s e =
+    agrees_and (place_at 0 ps).joint _ false false (s.fits 0).joint
+    (agrees_begin (k ∷ ks) (drop 1 ps) [] (shows_drop 1 ps [] s))
+agrees_goes first (k ∷ ks) ps (r ∷ rs) s e =
+    rw (e, own_kind first)
+    (agrees_and (place_at 0 ps).joint _ r.joint (begins_with (k ∷ ks) rs) (s.fits 0).joint
+    (agrees_begin (k ∷ ks) (drop 1 ps) rs (shows_drop 1 ps (r ∷ rs) s)))
+
+begun_among : (first : ℕ) (ops : List (ℕ × ℕ × List ℕ)) (ps : List Place) (rs : List Record) → Shows ps rs →
+    next_kind rs ≡ first → among (operators_begun ops ps) (first_of first ops rs) ≡ true
+begun_among first [] ps rs s e = refl
+begun_among first (op ∷ ops) ps rs s e =
+    among_more (goes_so op.2 ps) (goes_on_with first op.2 rs) op.0 (first_of first ops rs)
+    (λ u. operators_begun ops ps) (agrees_goes first op.2 ps rs s e) (begun_among first ops ps rs s e)
+
+at_among : (rows : List (ℕ × List (ℕ × ℕ × List ℕ))) (kind : ℕ) (ps : List Place) (rs : List Record) → Shows ps rs →
+    next_kind rs ≡ kind → among (operators_at rows kind ps) (operator_in rows kind rs) ≡ true
+at_among [] kind ps rs s e = refl
+at_among (row ∷ rows) kind ps rs s e =
+    by_truth (row.0 == kind)
+    (λ h. rw h (begun_among row.0 row.1 ps rs s (e ∙ sym (same_number row.0 kind h))))
+    (λ h. rw h (at_among rows kind ps rs s e))
+
+of_among : (rows : List (ℕ × List (ℕ × ℕ × List ℕ))) (ks : List ℕ) (ps : List Place) (rs : List Record) →
+    Shows ps rs → among ks (next_kind rs) ≡ true →
+    among (operators_of rows ks ps) (operator_in rows (next_kind rs) rs) ≡ true
+of_among rows [] ps rs s m = absurd cc
+of_among rows (k ∷ ks) ps rs s m =
+    let op = operator_in rows (next_kind rs) rs in
+    by_or (k == next_kind rs) (among ks (next_kind rs)) m
+    (λ h. among_left (operators_at rows k ps) (operators_of rows ks ps) op
+    (subst (λ (j : ℕ). among (operators_at rows j ps) op ≡ true) (sym (same_number k (next_kind rs) h))
+    (at_among rows (next_kind rs) ps rs s refl)))
+    (λ h. among_right (operators_at rows k ps) (operators_of rows ks ps) op (of_among rows ks ps rs s h))
+
+operator_is : (rs : List Record) → operator_at rs ≡ operator_in operators (next_kind rs) rs
+unfolding operator_at
+operator_is rs = refl
+
+agrees_operator : (f : ℕ → Bool) (o : Option (List ℕ)) (ps : List Place) (rs : List Record) → Shows ps rs →
+    within o (next_kind rs) ≡ true → agrees (decided f (operators_known o ps)) (f (operator_at rs)) ≡ true
+agrees_operator f None ps rs s w = refl
+agrees_operator f (Some ks) ps rs s w =
+    agrees_decided f (Some (operators_of operators ks ps)) (operator_at rs)
+    (subst (λ (k : ℕ). among (operators_of operators ks ps) k ≡ true) (sym (operator_is rs))
+    (of_among operators ks ps rs s w))
+
 pub agrees_test : (h : Test) (ps : List Place) (rs : List Record) → Shows ps rs →
     agrees (evaluate h ps) (holds h rs) ≡ true
 agrees_test (kind_so n f) ps rs s =
@@ -180,7 +264,7 @@ agrees_test (also t u) ps rs s =
 agrees_test (or_else t u) ps rs s =
     agrees_or_then (evaluate t ps) (evaluate u ps) (holds t rs) (holds u rs) (agrees_test t ps rs s) (agrees_test u ps rs s)
 agrees_test (told b) ps rs s = agrees_truth b
-agrees_test (operator_so f) ps rs s = refl
+agrees_test (operator_so f) ps rs s = agrees_operator f (place_at 0 ps).kinds ps rs s (first_is ps rs s)
 
 either_left : (a b : Answer) (x : Bool) → agrees a x ≡ true → agrees (either_so a b) x ≡ true
 either_left sure sure x p = p
@@ -268,7 +352,3 @@ pub sees_right : (p q : List (List Place)) (rs : List Record) → Sees q rs → 
 sees_right [] q rs s = s
 sees_right (x ∷ p) q rs s = later_way (sees_right p q rs s)
 
--- where a truth value is so, and where it is not
-pub by_truth : {A : Type 0} (x : Bool) → (x ≡ true → A) → (x ≡ false → A) → A
-by_truth true p q = p refl
-by_truth false p q = q refl

@@ -1,13 +1,13 @@
 -- The tokens of the rest of a row begin as its look says.
-use Rattle.std.proofs.Common.{◌≡◌, ℕ, zero, suc, true, false, ◌==◌, List, [], ◌∷◌, ◌++◌, Some, None, refl, subst, ap, append_assoc, arith}
+use Rattle.std.proofs.Common.{◌≡◌, ℕ, zero, suc, Bool, true, false, ◌==◌, List, [], ◌∷◌, ◌++◌, Some, None, refl, subst, ap, append_assoc, arith}
 use Rattle.std.proofs.lemmas.Bool.Decides.{nat_tests}
 use Rattle.rap_base.specs.TokenKind.{IDENT}
 use Rattle.rap_events.specs.Composite.{parts}
 use Rattle.rap_events.specs.Forest.{Forest}
 use Rattle.rap_events.specs.Record.{Record, kind_at, contextual_at, joint_at}
 use Rattle.rap_grammar_table.specs.Known.{Place, place_at, behind, among, Fits, Shows, Sees, this_way, later_way, unclear, sure}
-use Rattle.rap_grammar_table.specs.Table.{Table, Piece, Items, nil, begin, close, piece, choice, repeat, turns_of, group, folds, folding, unless, appended, Touching, last_part, next_part}
-use Rattle.rap_grammar_table.specs.Look.{token_place, look_parts, behind_parts, look_piece, look, anything}
+use Rattle.rap_grammar_table.specs.Table.{Table, Piece, Items, nil, begin, close, piece, choice, repeat, turns_of, group, folds, folding, way, unless, appended, HasWay, first_turn, other_turn, Touching, last_part, next_part}
+use Rattle.rap_grammar_table.specs.Look.{token_place, look_parts, behind_parts, look_piece, look, look_from, where_there, anything}
 use Rattle.rap_grammar_table.specs.Narrow.{each, narrowed}
 use Rattle.rap_grammar_table.specs.Good.{Good, good_token, good_word, good_operator, good_category, Made, made_end, made_begin, made_close, made_piece, made_first, made_second, made_last, made_turn, made_repeat, made_group, made_folded_none, made_folded_more, made_folds, made_guarded}
 use Rattle.rap_grammar_table.proofs.Known.{nothing_known, sees_left, sees_right}
@@ -16,21 +16,31 @@ use Rattle.rap_grammar_table.proofs.Narrow.{each_sees, narrowed_sees}
 pub same_self : (k : ℕ) → (k == k) ≡ true
 same_self k = grind (arith, nat_tests)
 
+look_from_appended : (t : Table) (n : ℕ) (a b : Items) (g : List (List Place)) →
+    look_from t n (appended a b) g ≡ look_from t n a (look_from t n b g)
+look_from_appended t n nil b g = refl
+look_from_appended t n (begin a) b g = look_from_appended t n a b g
+look_from_appended t n (close k a) b g = look_from_appended t n a b g
+look_from_appended t n (piece p a) b g =
+    ap (λ (h : List (List Place)). look_piece t p h) (look_from_appended t n a b g)
+look_from_appended t n (choice x y a) b g =
+    ap (λ (h : List (List Place)). look_from t n x h ++ look_from t n y h) (look_from_appended t n a b g)
+look_from_appended t n (repeat x y a) b g =
+    ap (λ (h : List (List Place)). look_from t n x anything ++ look_from t n y h) (look_from_appended t n a b g)
+look_from_appended t n (turns_of x y) b g = refl
+look_from_appended t n (folds m x a) b g =
+    ap (λ (h : List (List Place)). look_from t m x [] ++ h) (look_from_appended t n a b g)
+look_from_appended t n (folding m x) b g = refl
+look_from_appended t n (way j x m a) b g =
+    ap (λ (h : List (List Place)). where_there (among j n) (λ u. look_from t 0 x anything) ++ h)
+    (look_from_appended t n a b g)
+look_from_appended t n (unless h w a) b g =
+    ap (λ (p : List (List Place)). each (λ q. narrowed h false q) p) (look_from_appended t n a b g)
+look_from_appended t n (group x a) b g =
+    ap (λ (h : List (List Place)). look_from t n x h) (look_from_appended t n a b g)
+
 pub look_appended : (t : Table) (a b : Items) (g : List (List Place)) → look t (appended a b) g ≡ look t a (look t b g)
-look_appended t nil b g = refl
-look_appended t (begin a) b g = look_appended t a b g
-look_appended t (close k a) b g = look_appended t a b g
-look_appended t (piece p a) b g = ap (λ (h : List (List Place)). look_piece t p h) (look_appended t a b g)
-look_appended t (choice x y a) b g =
-    ap (λ (h : List (List Place)). look t x h ++ look t y h) (look_appended t a b g)
-look_appended t (repeat x y a) b g =
-    ap (λ (h : List (List Place)). look t x anything ++ look t y h) (look_appended t a b g)
-look_appended t (turns_of x y) b g = refl
-look_appended t (folds k x a) b g = ap (λ (h : List (List Place)). look t x anything ++ h) (look_appended t a b g)
-look_appended t (folding k x) b g = refl
-look_appended t (unless h w a) b g =
-    ap (λ (p : List (List Place)). each (λ q. narrowed h false q) p) (look_appended t a b g)
-look_appended t (group x a) b g = ap (λ (h : List (List Place)). look t x h) (look_appended t a b g)
+look_appended t a b g = look_from_appended t 0 a b g
 
 shows_fits : (p : Place) (g : List Place) (r : Record) (rs : List Record) (n : ℕ) →
     Fits p r.kind r.contextual r.joint → Shows g rs →
@@ -76,6 +86,21 @@ piece_seen t g (good_word {k = k} {r = r} {l = l} e i) s =
 piece_seen t g (good_operator {k = k} {rs = rs} {l = l} x) s = sees_parts (parts k) rs g l x s
 piece_seen t g (good_category x n o y) s = x
 
+-- a turn that may come is seen among all that may
+there_is : (b : Bool) (f : Unit {0} → List (List Place)) (rs : List Record) → b ≡ true → Sees (f tt) rs →
+    Sees (where_there b f) rs
+there_is true f rs h s = s
+there_is false f rs h s = absurd cc
+
+pub way_seen : (t : Table) (n : ℕ) (g : List (List Place)) (rs : List Record) {ws a : Items} {js : List ℕ} {m : ℕ} →
+    HasWay ws js a m → among js n ≡ true → Sees (look t a anything) rs → Sees (look_from t n ws g) rs
+way_seen t n g rs (first_turn {js = js} {m = m} {a = a} {ws = ws}) h s =
+    sees_left (where_there (among js n) (λ u. look_from t 0 a anything)) (look_from t n ws g) rs
+    (there_is (among js n) (λ u. look_from t 0 a anything) rs h s)
+way_seen t n g rs (other_turn {is = is} {b = b} {ws = ws} w) h s =
+    sees_right (where_there (among is n) (λ u. look_from t 0 b anything)) (look_from t n ws g) rs
+    (way_seen t n g rs w h s)
+
 -- so the tokens are seen
 pub seen : (t : Table) {l : List Record} (g : List (List Place)) {is : Items} {x y : Forest} {xs us : List Forest}
     {ks : List Record} → Made t l is x xs us ks y → Sees g l → Sees (look t is g) (ks ++ l)
@@ -100,10 +125,11 @@ seen t {l = l} g (made_repeat {is = is} {ks = ks} {js = js} m n) s =
     rw (append_assoc ks js l) (seen t (look t is g) m (seen t g n s))
 seen t {l = l} g (made_group {is = is} {ks = ks} {js = js} m n) s =
     rw (append_assoc ks js l) (seen t (look t is g) m (seen t g n s))
-seen t {l = l} g (made_folded_none {a = a}) s = sees_right (look t a anything) g l s
-seen t {l = l} g (made_folded_more {a = a} {ks = ks} {js = js} m n) s =
+seen t {l = l} g (made_folded_none {n = n} {ws = ws}) s = sees_right (look_from t n ws []) g l s
+seen t {l = l} g (made_folded_more {n = n} {ws = ws} {ks = ks} {js = js} w i m o) s =
     rw (append_assoc ks js l)
-    (sees_left (look t a anything) g (ks ++ (js ++ l)) (seen t anything m (this_way (nothing_known (js ++ l)))))
+    (sees_left (look_from t n ws []) g (ks ++ (js ++ l))
+    (way_seen t n [] (ks ++ (js ++ l)) w i (seen t anything m (this_way (nothing_known (js ++ l))))))
 seen t {l = l} g (made_folds {is = is} {ks = ks} {js = js} m n) s =
     rw (append_assoc ks js l) (seen t (look t is g) m (seen t g n s))
 seen t {l = l} g (made_guarded {h = h} {is = is} {ks = ks} e m) s =

@@ -1,12 +1,13 @@
 -- The answer to a test rules out no way in which the tokens go on.
-use Rattle.std.proofs.Common.{◌≡◌, ℕ, zero, suc, Bool, true, false, ◌&&◌, ◌||◌, ◌==◌, not, List, [], ◌∷◌, drop, Option, Some, None, refl, sym, subst}
-use Rattle.rap_events.proofs.Truth.{and_left, and_right}
-use Rattle.rap_events.specs.Composite.{parts, is_first}
+use Rattle.std.proofs.Common.{◌≡◌, ℕ, zero, suc, Bool, true, false, ◌&&◌, ◌||◌, ◌==◌, not, List, [], ◌∷◌, drop, Option, Some, None, ◌++◌, refl, sym, ◌∙◌, subst}
+use Rattle.rap_base.specs.TokenKind.{EOF}
+use Rattle.rap_events.proofs.Truth.{and_left, and_right, and_false}
+use Rattle.rap_events.specs.Composite.{parts, is_first, begins_with}
 use Rattle.rap_events.specs.Record.{Record, next_kind, kind_at, contextual_at, joint_at}
 use Rattle.rap_grammar_scripts.specs.Test.{Test, kind_so, word_so, edition_so, comes, borne, negated, also, or_else, told, operator_so, holds}
 use Rattle.rap_grammar_table.specs.Known.{Answer, sure, never, unclear, Place, place_at, behind, among, within, agrees, Fits, Shows, Sees, this_way, later_way, is_kind, evaluate, of_truth}
-use Rattle.rap_grammar_table.specs.Narrow.{kept, those, answering, with_kinds, first_kinds, by_kind, with_words, first_words, by_word, unless_known, by_tokens, each, narrowed, Fact, left_by, AreSo}
-use Rattle.rap_grammar_table.proofs.Known.{same_number, by_or, by_truth, agrees_truth, agrees_test, shows_drop, kind_after-is, sees_left, sees_right}
+use Rattle.rap_grammar_table.specs.Narrow.{kept, those, answering, with_kinds, first_kinds, by_kind, with_words, first_words, by_word, unless_known, apart_from, by_apart, by_two, by_no_tokens, by_tokens, each, narrowed, Fact, left_by, AreSo}
+use Rattle.rap_grammar_table.proofs.Known.{same_number, no_end, by_or, by_truth, agrees_truth, agrees_test, shows_drop, kind_after-is, sees_left, sees_right}
 
 -- one that is among some is among those of which something holds, if it holds of it
 kept_first : (f : ℕ → Bool) (k j : ℕ) (ks : List ℕ) → (k == j) ≡ true → f j ≡ true → among (kept (f k) k ks) j ≡ true
@@ -138,13 +139,85 @@ next-at zero (r ∷ rs) = refl
 next-at (suc n) [] = refl
 next-at (suc n) (r ∷ rs) = next-at n rs
 
+-- the first token does not touch the next one
+apart_sees : (a : Answer) (p : Place) (ps : List Place) (rs : List Record) → p.joint ≡ a → Shows (p ∷ ps) rs →
+    joint_at rs 0 ≡ false → Sees (apart_from a p ps) rs
+apart_sees sure p ps rs e s h = absurd (clash p.joint (joint_at rs 0) e h (s.fits 0).joint)
+  where
+    clash : (a : Answer) (x : Bool) → a ≡ sure → x ≡ false → agrees a x ≡ true → ⊥
+    clash sure true e h w = cc
+    clash sure false e h w = cc
+    clash never x e h w = cc
+    clash unclear x e h w = cc
+apart_sees never p ps rs e s h = this_way s
+apart_sees unclear p ps rs e s h =
+    let f = s.fits 0 in
+    this_way (record {
+      fits =
+          λ n. fits_then (record { kinds = p.kinds; words = p.words; joint = never }) ps rs n
+          (record { kinds = f.kinds; words = f.words; joint = rw h refl }) (shows_rest p ps rs s);
+    })
+
+joint_later : (rs : List Record) (n : ℕ) → joint_at (drop 1 rs) n ≡ joint_at rs (suc n)
+joint_later [] n = refl
+joint_later (r ∷ rs) n = refl
+
+by_apart_sees : (n : ℕ) (p : List Place) (rs : List Record) → Shows p rs → joint_at rs n ≡ false →
+    Sees (by_apart n p) rs
+by_apart_sees n [] rs s h = this_way s
+by_apart_sees zero (p ∷ ps) rs s h = apart_sees p.joint p ps rs refl s h
+by_apart_sees (suc n) (p ∷ ps) rs s h =
+    sees_then p (by_apart n ps) rs (s.fits 0)
+    (by_apart_sees n ps (drop 1 rs) (shows_rest p ps rs s) (joint_later rs n ∙ h))
+
+-- which of two tokens is not there
+two_apart : (j i : ℕ) (n : ℕ) (rs : List Record) → not (i == EOF) ≡ true → begins_with (j ∷ i ∷ []) (drop n rs) ≡ false →
+    ((kind_at rs n == j) && (joint_at rs n && (kind_at rs (suc n) == i))) ≡ false
+two_apart j i zero [] o h = and_false (EOF == j)
+two_apart j i zero (r ∷ []) o h = rw (no_end i o, and_false r.joint) (and_false (r.kind == j))
+two_apart j i zero (r ∷ s ∷ rs) o h = h
+two_apart j i (suc n) [] o h = and_false (EOF == j)
+two_apart j i (suc n) (r ∷ rs) o h = two_apart j i n rs o h
+
+by_three : {A : Type 0} (x y z : Bool) → (x && (y && z)) ≡ false → (x ≡ false → A) → (y ≡ false → A) →
+    (z ≡ false → A) → A
+by_three false y z h f g k = f refl
+by_three true false z h f g k = g refl
+by_three true true false h f g k = k refl
+by_three true true true h f g k = absurd cc
+
+two_sees : (o : Bool) (j i n : ℕ) (a : Answer) (p : List Place) (rs : List Record) → not (i == EOF) ≡ o →
+    Shows p rs → agrees a (begins_with (j ∷ i ∷ []) (drop n rs)) ≡ true →
+    begins_with (j ∷ i ∷ []) (drop n rs) ≡ false → Sees (by_two o j i n a p) rs
+two_sees true j i n unclear p rs o s h e =
+    let first = by_kind n (answering false (is_kind j)) p in
+    let second = by_kind (suc n) (answering false (is_kind i)) p in
+    by_three (kind_at rs n == j) (joint_at rs n) (kind_at rs (suc n) == i) (two_apart j i n rs o e)
+    (λ x. sees_left first (by_apart n p ++ second) rs
+    (by_kind_sees n (answering false (is_kind j)) p rs s (answers_so false (is_kind j) (kind_at rs n) x)))
+    (λ x. sees_right first (by_apart n p ++ second) rs (sees_left (by_apart n p) second rs (by_apart_sees n p rs s x)))
+    (λ x. sees_right first (by_apart n p ++ second) rs (sees_right (by_apart n p) second rs
+    (by_kind_sees (suc n) (answering false (is_kind i)) p rs s (answers_so false (is_kind i) (kind_at rs (suc n)) x))))
+two_sees true j i n sure p rs o s h e = unless_sees false sure (begins_with (j ∷ i ∷ []) (drop n rs)) p rs s h e
+two_sees true j i n never p rs o s h e = unless_sees false never (begins_with (j ∷ i ∷ []) (drop n rs)) p rs s h e
+two_sees false j i n a p rs o s h e = unless_sees false a (begins_with (j ∷ i ∷ []) (drop n rs)) p rs s h e
+
+no_tokens_sees : (j : ℕ) (js : List ℕ) (n : ℕ) (a : Answer) (p : List Place) (rs : List Record) → Shows p rs →
+    agrees a (begins_with (j ∷ js) (drop n rs)) ≡ true → begins_with (j ∷ js) (drop n rs) ≡ false →
+    Sees (by_no_tokens j js n a p) rs
+no_tokens_sees j [] n a p rs s h e = unless_sees false a (begins_with (j ∷ []) (drop n rs)) p rs s h e
+no_tokens_sees j (i ∷ []) n a p rs s h e = two_sees (not (i == EOF)) j i n a p rs refl s h e
+no_tokens_sees j (i ∷ m ∷ ms) n a p rs s h e =
+    unless_sees false a (begins_with (j ∷ i ∷ m ∷ ms) (drop n rs)) p rs s h e
+
 tokens_sees : (js : List ℕ) (n k : ℕ) (b : Bool) (a : Answer) (p : List Place) (rs : List Record) → Shows p rs →
     agrees a (is_first js k (drop n rs)) ≡ true → is_first js k (drop n rs) ≡ b →
     Sees (by_tokens js n k b a p) rs
 tokens_sees [] n k b a p rs s h e =
     by_kind_sees n (answering b (is_kind k)) p rs s
     (answers_so b (is_kind k) (kind_at rs n) (subst (λ (j : ℕ). (j == k) ≡ b) (next-at n rs) e))
-tokens_sees (j ∷ js) n k b a p rs s h e = unless_sees b a (is_first (j ∷ js) k (drop n rs)) p rs s h e
+tokens_sees (j ∷ js) n k true a p rs s h e = unless_sees true a (is_first (j ∷ js) k (drop n rs)) p rs s h e
+tokens_sees (j ∷ js) n k false a p rs s h e = no_tokens_sees j js n a p rs s h e
 
 -- the ways of each way
 pub each_sees : (f : List Place → List (List Place)) (g : List (List Place)) (rs : List Record) → Sees g rs →
@@ -209,7 +282,8 @@ narrowed_sees (or_else t u) false p rs s e =
     (narrowed_sees t false p rs s (first_false (holds t rs) (holds u rs) e))
     (λ q r. narrowed_sees u false q rs r (last_false (holds t rs) (holds u rs) e))
 narrowed_sees (told c) b p rs s e = unless_sees b (of_truth c) c p rs s (agrees_truth c) e
-narrowed_sees (operator_so f) b p rs s e = this_way s
+narrowed_sees (operator_so f) b p rs s e =
+    unless_sees b (evaluate (operator_so f) p) (holds (operator_so f) rs) p rs s (agrees_test (operator_so f) p rs s) e
 
 -- so do some answers
 pub left_sees : (fs : List Fact) (g : List (List Place)) (rs : List Record) → AreSo fs rs → Sees g rs →

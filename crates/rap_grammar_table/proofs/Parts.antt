@@ -10,7 +10,7 @@ use Rattle.rap_grammar_table.specs.Known.{Place, Sees}
 use Rattle.rap_grammar_table.specs.Look.{look}
 use Rattle.rap_grammar_table.specs.Refusal.{ends_as, in_part, Verdict, accepted, check, or_later}
 use Rattle.rap_grammar_table.specs.Table.{Table, Piece, tok, word, comp, cat, Items, piece, group}
-use Rattle.rap_grammar_table.specs.Walk.{walk, Walked, first_outcomes, outcome_guesses, with_outcomes, all_accepted, part_so, category_part, category_first, group_so, parting, at_part, first_try}
+use Rattle.rap_grammar_table.specs.Walk.{Walked, first_outcomes, outcome_guesses, with_outcomes, reads_rows, category_part, category_first, group_so, parting, at_part, first_try}
 use Rattle.rap_grammar_table.specs.Ways.{expose, ends_so, every_outcome, has_outcome}
 use Rattle.rap_grammar_table.proofs.Exposes.{exposed_at, on_items}
 use Rattle.rap_grammar_table.proofs.Look.{seen}
@@ -58,20 +58,18 @@ Walks t a w =
     Comes t l e y f b k a (spot_at f b e s (ks ++ l))
 
 -- a category whose rows the script reads
-rows_read : (t : Table) (l : List Record) (e : List Forest) (y f : Forest) (b : List Forest) (a : Script Rule)
+rows_read : (t : Table) (deep : ℕ) (l : List Record) (e : List Forest) (y f : Forest) (b : List Forest) (a : Script Rule)
     (s : At) (k : Outcome → At → Verdict) {ks : List Record} {left : List Forest} → AreNodes e s.nodes →
     drop s.count e ≡ left → (c : ℕ) (is : Items) (x : Built) (xs : List Built) →
     Front t l (cat c) is (value none e x) (values none e [] xs) left ks y → t.by_rows c ≡ true →
-    with_outcomes (λ vs. all_accepted (part_so (λ g r m. walk t g a r m) t (t.follows c) vs) (t.rows c))
+    with_outcomes (reads_rows deep t c a) (t.ends c)
     (λ v. k v (after_piece (with_row s (piece (cat c) is) x xs) is (t.is_node c))) ≡ accepted →
     Comes t l e y f b k a (spot_at f b e s (ks ++ l))
-rows_read t l e y f b a s k ns o c is x xs u h v =
+rows_read t deep l e y f b a s k ns o c is x xs u h v =
     let place = after_piece (with_row s (piece (cat c) is) x xs) is (t.is_node c) in
     let good = of_category u.good in
-    let w = λ (g : List (List Place)) (r : At) (m : Outcome → At → Verdict). walk t g a r m in
-    let rows_so : List Outcome → Verdict = λ vs. all_accepted (part_so w t (t.follows c) vs) (t.rows c) in
-    let q = found_outcomes rows_so outcome_guesses (λ vs. every_outcome (λ v. k v place) vs) v in
-    let z = good.rows h a q.outcomes (value f e s.own) (values f e b s.owns) q.is_so in
+    let q = found_outcomes (reads_rows deep t c a) (t.ends c) (λ vs. every_outcome (λ v. k v place) vs) v in
+    let z = good.rows h deep a q.outcomes (value f e s.own) (values f e b s.owns) q.is_so in
     let j = o ∙ u.all in
     let same_tree = drop_first s.count e u.tree_is u.trees j in
     record {
@@ -93,76 +91,79 @@ rows_read t l e y f b a s k ns o c is x xs u h v =
     }
 
 -- a category's part, or the script goes on
-category_read : (t : Table) (g : List (List Place)) (l : List Record) (e : List Forest) (y f : Forest)
-    (b : List Forest) → Sees g l → (a : Script Rule) → Walks t a (λ g r m. walk t g a r m) → (s : At)
+category_read : (t : Table) (deep : ℕ) (g : List (List Place)) (l : List Record) (e : List Forest) (y f : Forest)
+    (b : List Forest) → Sees g l → (a : Script Rule) (w : List (List Place) → Walked) → Walks t a w → (s : At)
     (k : Outcome → At → Verdict) (ks : List Record) (p : Piece) (is : Items) (x : Built) (xs : List Built) →
     Stands t l e y (with_row s (piece p is) x xs) ks →
-    category_part (λ g r m. walk t g a r m) t g p is (with_row s (piece p is) x xs) k ≡ accepted →
+    category_part (reads_rows deep t) a w t g p is (with_row s (piece p is) x xs) k ≡ accepted →
     Comes t l e y f b k a (spot_at f b e s (ks ++ l))
-category_read t g l e y f b i a sound s k ks (tok kinds words) is x xs st v =
+category_read t deep g l e y f b i a w sound s k ks (tok kinds words) is x xs st v =
     sound g l e y f b i (with_row s (piece (tok kinds words) is) x xs) k ks st v
-category_read t g l e y f b i a sound s k ks (word j) is x xs st v =
+category_read t deep g l e y f b i a w sound s k ks (word j) is x xs st v =
     sound g l e y f b i (with_row s (piece (word j) is) x xs) k ks st v
-category_read t g l e y f b i a sound s k ks (comp j) is x xs st v =
+category_read t deep g l e y f b i a w sound s k ks (comp j) is x xs st v =
     sound g l e y f b i (with_row s (piece (comp j) is) x xs) k ks st v
-category_read t g l e y f b i a sound s k ks (cat c) is x xs st v =
+category_read t deep g l e y f b i a w sound s k ks (cat c) is x xs st v =
     by_try_so (t.by_rows c)
-    (λ u. with_outcomes (λ vs. all_accepted (part_so (λ g r m. walk t g a r m) t (t.follows c) vs) (t.rows c))
+    (λ u. with_outcomes (reads_rows deep t c a) (t.ends c)
     (λ v. k v (after_piece (with_row s (piece (cat c) is) x xs) is (t.is_node c))))
-    (λ u. walk t g a (with_row s (piece (cat c) is) x xs) k) v
-    (λ h w. rows_read t l e y f b a s k st.nodes st.left_is c is x xs (front_inv st.made) h w)
-    (λ w. sound g l e y f b i (with_row s (piece (cat c) is) x xs) k ks st w)
+    (λ u. w g (with_row s (piece (cat c) is) x xs) k) v
+    (λ h o. rows_read t deep l e y f b a s k st.nodes st.left_is c is x xs (front_inv st.made) h o)
+    (λ o. sound g l e y f b i (with_row s (piece (cat c) is) x xs) k ks st o)
 
 -- what comes first is a category's part, or the script goes on
-firsts : (t : Table) (g : List (List Place)) (l : List Record) (e : List Forest) (y f : Forest) (b : List Forest) →
-    Sees g l → (a : Script Rule) → Walks t a (λ g r m. walk t g a r m) → (s : At) (k : Outcome → At → Verdict)
-    (ks : List Record) (is : Items) (x : Built) (xs : List Built) → Stands t l e y (with_row s is x xs) ks →
-    category_first (λ g r m. walk t g a r m) t g is (with_row s is x xs) k ≡ accepted →
+firsts : (t : Table) (deep : ℕ) (g : List (List Place)) (l : List Record) (e : List Forest) (y f : Forest)
+    (b : List Forest) → Sees g l → (a : Script Rule) (w : List (List Place) → Walked) → Walks t a w → (s : At)
+    (k : Outcome → At → Verdict) (ks : List Record) (is : Items) (x : Built) (xs : List Built) →
+    Stands t l e y (with_row s is x xs) ks →
+    category_first (reads_rows deep t) a w t g is (with_row s is x xs) k ≡ accepted →
     Comes t l e y f b k a (spot_at f b e s (ks ++ l))
-firsts t g l e y f b i a sound s k ks (piece p is) x xs st v = category_read t g l e y f b i a sound s k ks p is x xs st v
-firsts t g l e y f b i a sound s k ks is x xs st v = sound g l e y f b i (with_row s is x xs) k ks st v
+firsts t deep g l e y f b i a w sound s k ks (piece p is) x xs st v =
+    category_read t deep g l e y f b i a w sound s k ks p is x xs st v
+firsts t deep g l e y f b i a w sound s k ks is x xs st v = sound g l e y f b i (with_row s is x xs) k ks st v
 
-start_read : (t : Table) (g : List (List Place)) (l : List Record) (e : List Forest) (y f : Forest) (b : List Forest) →
-    Sees g l → (a : Script Rule) → Walks t a (λ g r m. walk t g a r m) → (is : Items) (k : Outcome → At → Verdict)
-    (ks : List Record) → Stands t l e y (at_start is) ks →
+start_read : (t : Table) (deep : ℕ) (g : List (List Place)) (l : List Record) (e : List Forest) (y f : Forest)
+    (b : List Forest) → Sees g l → (a : Script Rule) (w : List (List Place) → Walked) → Walks t a w → (is : Items)
+    (k : Outcome → At → Verdict) (ks : List Record) → Stands t l e y (at_start is) ks →
     first_try (at_part t is)
-    (λ u. expose t g (at_start is) (λ q. category_first (λ g r m. walk t g a r m) t g q.items q k))
-    (λ u. walk t g a (at_start is) k) ≡ accepted → Comes t l e y f b k a (spot_at f b e (at_start is) (ks ++ l))
-start_read t g l e y f b i a sound is k ks st v =
+    (λ u. expose t g (at_start is) (λ q. category_first (reads_rows deep t) a w t g q.items q k))
+    (λ u. w g (at_start is) k) ≡ accepted → Comes t l e y f b k a (spot_at f b e (at_start is) (ks ++ l))
+start_read t deep g l e y f b i a w sound is k ks st v =
     by_try (at_part t is)
-    (λ u. expose t g (at_start is) (λ q. category_first (λ g r m. walk t g a r m) t g q.items q k))
-    (λ u. walk t g a (at_start is) k) v
-    (λ w.
+    (λ u. expose t g (at_start is) (λ q. category_first (reads_rows deep t) a w t g q.items q k))
+    (λ u. w g (at_start is) k) v
+    (λ o.
     let x =
     exposed_at t g l e y i (at_start is) ks
-    (λ js x xs. category_first (λ g r m. walk t g a r m) t g js (with_row (at_start is) js x xs) k) st w
+    (λ js x xs. category_first (reads_rows deep t) a w t g js (with_row (at_start is) js x xs) k) st o
     in
-    firsts t g l e y f b i a sound (at_start is) k ks x.items x.row x.rows (on_items st x.items x.row x.rows x.made) x.so)
-    (λ w. sound g l e y f b i (at_start is) k ks st w)
+    firsts t deep g l e y f b i a w sound (at_start is) k ks x.items x.row x.rows
+    (on_items st x.items x.row x.rows x.made) x.so)
+    (λ o. sound g l e y f b i (at_start is) k ks st o)
 
 -- a part that is marked
-group_read : (t : Table) (g : List (List Place)) (l : List Record) (e : List Forest) (y f : Forest) (b : List Forest) →
-    Sees g l → (c : Script Rule) → Walks t c (λ g r m. walk t g c r m) → (s : At)
+group_read : (t : Table) (deep : ℕ) (g : List (List Place)) (l : List Record) (e : List Forest) (y f : Forest)
+    (b : List Forest) → Sees g l → (c : Script Rule) (w : List (List Place) → Walked) → Walks t c w → (s : At)
     (k : Outcome → At → Verdict) {ks : List Record} {left : List Forest} → AreNodes e s.nodes → drop s.count e ≡ left →
     (a is : Items) (x : Built) (xs : List Built) →
     Grouped t l a is (value none e x) (values none e [] xs) left ks y →
-    parting (λ g r m. walk t g c r m) t g (group a is) (with_row s (group a is) x xs) k ≡ accepted →
+    parting (reads_rows deep t) c w t g (group a is) (with_row s (group a is) x xs) k ≡ accepted →
     Comes t l e y f b k c (spot_at f b e s (ks ++ l))
-group_read t g l e y f b i c sound s k {ks = ks} ns o a is x xs u v =
+group_read t deep g l e y f b i c w sound s k {ks = ks} ns o a is x xs u v =
     let n = look t is g in
-    let w = λ (g : List (List Place)) (r : At) (m : Outcome → At → Verdict). walk t g c r m in
     let place = after_piece (with_row s (group a is) x xs) is false in
     let q =
-    found_outcomes (λ vs. group_so w t n vs a) outcome_guesses (λ vs. every_outcome (λ v. k v place) vs) v
+    found_outcomes (group_so (reads_rows deep t) c w t n a) outcome_guesses (λ vs. every_outcome (λ v. k v place) vs) v
     in
     let z =
     whole t n (u.rest ++ l) u.inner u.tree_is (value f e s.own) (values f e b s.owns)
     (λ v. check (has_outcome q.outcomes v) (ends_as v)) c u.own (seen t g u.made i)
-    (start_read t n (u.rest ++ l) u.inner u.tree_is (value f e s.own) (values f e b s.owns) (seen t g u.made i) c
-    sound a (ends_so t n q.outcomes) u.own
+    (start_read t deep n (u.rest ++ l) u.inner u.tree_is (value f e s.own) (values f e b s.owns) (seen t g u.made i) c
+    w sound a (ends_so t n q.outcomes) u.own
     (record { left = u.inner; left_is = refl; made = u.part; nodes = tt; facts = tt })
     (told_so in_part
-    (first_try (at_part t a) (λ u. expose t n (at_start a) (λ q'. category_first w t n q'.items q' (ends_so t n q.outcomes)))
+    (first_try (at_part t a)
+    (λ u. expose t n (at_start a) (λ q'. category_first (reads_rows deep t) c w t n q'.items q' (ends_so t n q.outcomes)))
     (λ u. w n (at_start a) (ends_so t n q.outcomes))) q.is_so))
     in
     let j = o ∙ u.all in
@@ -185,24 +186,25 @@ group_read t g l e y f b i c sound s k {ks = ks} ns o a is x xs u v =
       run = rw (u.tokens, append_assoc u.own u.rest l, same_tree) z.run;
     }
 
-parts : (t : Table) (g : List (List Place)) (l : List Record) (e : List Forest) (y f : Forest) (b : List Forest) →
-    Sees g l → (a : Script Rule) → Walks t a (λ g r m. walk t g a r m) → (s : At) (k : Outcome → At → Verdict)
-    (ks : List Record) (is : Items) (x : Built) (xs : List Built) → Stands t l e y (with_row s is x xs) ks →
-    parting (λ g r m. walk t g a r m) t g is (with_row s is x xs) k ≡ accepted →
+parts : (t : Table) (deep : ℕ) (g : List (List Place)) (l : List Record) (e : List Forest) (y f : Forest)
+    (b : List Forest) → Sees g l → (a : Script Rule) (w : List (List Place) → Walked) → Walks t a w → (s : At)
+    (k : Outcome → At → Verdict) (ks : List Record) (is : Items) (x : Built) (xs : List Built) →
+    Stands t l e y (with_row s is x xs) ks →
+    parting (reads_rows deep t) a w t g is (with_row s is x xs) k ≡ accepted →
     Comes t l e y f b k a (spot_at f b e s (ks ++ l))
-parts t g l e y f b i a sound s k ks (group c is) x xs st v =
-    group_read t g l e y f b i a sound s k st.nodes st.left_is c is x xs (group_inv st.made) v
-parts t g l e y f b i a sound s k ks (piece p is) x xs st v =
-    category_read t g l e y f b i a sound s k ks p is x xs st v
-parts t g l e y f b i a sound s k ks is x xs st v = sound g l e y f b i (with_row s is x xs) k ks st v
+parts t deep g l e y f b i a w sound s k ks (group c is) x xs st v =
+    group_read t deep g l e y f b i a w sound s k st.nodes st.left_is c is x xs (group_inv st.made) v
+parts t deep g l e y f b i a w sound s k ks (piece p is) x xs st v =
+    category_read t deep g l e y f b i a w sound s k ks p is x xs st v
+parts t deep g l e y f b i a w sound s k ks is x xs st v = sound g l e y f b i (with_row s is x xs) k ks st v
 
-pub part_read : (t : Table) (g : List (List Place)) (l : List Record) (e : List Forest) (y f : Forest)
-    (b : List Forest) → Sees g l → (a : Script Rule) → Walks t a (λ g r m. walk t g a r m) → (s : At)
+pub part_read : (t : Table) (deep : ℕ) (g : List (List Place)) (l : List Record) (e : List Forest) (y f : Forest)
+    (b : List Forest) → Sees g l → (a : Script Rule) (w : List (List Place) → Walked) → Walks t a w → (s : At)
     (k : Outcome → At → Verdict) (ks : List Record) → Stands t l e y s ks →
-    expose t g s (λ q. parting (λ g r m. walk t g a r m) t g q.items q k) ≡ accepted →
+    expose t g s (λ q. parting (reads_rows deep t) a w t g q.items q k) ≡ accepted →
     Comes t l e y f b k a (spot_at f b e s (ks ++ l))
-part_read t g l e y f b i a sound s k ks st v =
+part_read t deep g l e y f b i a w sound s k ks st v =
     let x =
-    exposed_at t g l e y i s ks (λ is x xs. parting (λ g r m. walk t g a r m) t g is (with_row s is x xs) k) st v
+    exposed_at t g l e y i s ks (λ is x xs. parting (reads_rows deep t) a w t g is (with_row s is x xs) k) st v
     in
-    parts t g l e y f b i a sound s k ks x.items x.row x.rows (on_items st x.items x.row x.rows x.made) x.so
+    parts t deep g l e y f b i a w sound s k ks x.items x.row x.rows (on_items st x.items x.row x.rows x.made) x.so

@@ -5,11 +5,11 @@ use Rattle.rap_base.specs.TokenKind.{EOF, IDENT}
 use Rattle.rap_events.proofs.Truth.{and_left, and_right}
 use Rattle.rap_events.specs.Composite.{parts, is_at, is_first, begins_with, width, width_of}
 use Rattle.rap_events.specs.Cover.{first_may_bear}
-use Rattle.rap_events.specs.Forest.{Forest, none, leaf, ◌⧺◌}
+use Rattle.rap_events.specs.Forest.{Forest, none, node, leaf, ◌⧺◌}
 use Rattle.rap_events.specs.Record.{Record, next_kind}
-use Rattle.rap_events.specs.State.{but_last}
+use Rattle.rap_events.specs.State.{but_last, last_children}
 use Rattle.rap_grammar_scripts.specs.Knot.{script_of}
-use Rattle.rap_grammar_scripts.specs.Script.{Script, Outcome, nothing, something, block, again, Spot, Runs, finishes, abandons, precedes, finish, abandon, precede, last_tree}
+use Rattle.rap_grammar_scripts.specs.Script.{Script, Outcome, nothing, something, block, again, Spot, Runs, finishes, extends, abandons, precedes, finish, extend, abandon, precede, last_tree, last_kind}
 use Rattle.rap_grammar_scripts.specs.Test.{kind_so}
 use Rattle.rap_grammar_scripts.specs.declared.rule.Rule.{Rule}
 use Rattle.rap_grammar_table.specs.Built.{Built, base, empty, over, tree, is_own, joined, At, with_row, with_own, after_piece}
@@ -19,12 +19,12 @@ use Rattle.rap_grammar_table.specs.Look.{look_piece, anything}
 use Rattle.rap_grammar_table.specs.Narrow.{Fact, left_by, AreSo}
 use Rattle.rap_grammar_table.specs.Refusal.{Word, obeys, stopped, Verdict, accepted}
 use Rattle.rap_grammar_table.specs.Table.{Table, Piece, tok, word, comp, cat, Items, piece, Touching, last_part, next_part}
-use Rattle.rap_grammar_table.specs.Ways.{expose, front, no_parts, is_sure, has_kind, is_token, is_some, is_bearer, every_outcome, some_outcome, read_piece, read_rule, finish_own, abandon_own, precede_own, has_outcome, same_outcome, same_flag}
+use Rattle.rap_grammar_table.specs.Ways.{expose, front, no_parts, is_sure, has_kind, is_token, is_some, is_bearer, every_outcome, some_outcome, read_piece, read_rule, finish_own, extend_own, abandon_own, precede_own, has_outcome, same_outcome, same_flag}
 use Rattle.rap_grammar_table.proofs.Exposes.{exposed_at}
 use Rattle.rap_grammar_table.proofs.Known.{agrees_all, nothing_known, by_or, every_so, same_number}
 use Rattle.rap_grammar_table.proofs.Look.{piece_seen, same_self}
 use Rattle.rap_grammar_table.proofs.Narrow.{left_sees}
-use Rattle.rap_grammar_table.proofs.Values.{tree_of, value, values, spot_at, AreNodes, Stands, Comes, before, drop_first, drop_more, same_spot, joined-value, nodes_with, node_at}
+use Rattle.rap_grammar_table.proofs.Values.{tree_of, value, values, spot_at, AreNodes, Stands, Comes, before, drop_first, drop_more, same_spot, joined-value, none-⧺, nodes_with, node_at}
 use Rattle.rap_grammar_table.proofs.Verdict.{both_left, both_right, provided_is, provided_so}
 
 pub record Front (t : Table) (l : List Record) (p : Piece) (is : Items) (x : Forest) (xs us : List Forest)
@@ -374,3 +374,33 @@ precedes_own t l e y f b a s k go rs (tree c n) owns ns sound w =
     (value f e c ∷ values f e b owns) (but_last (value f e c ⧺ tree_of e n) ∷ values f e b owns) refl p.last
     (ap (λ (x : Forest). x ∷ values f e b owns) p.before)) r))
     (sound (tree empty n) (c ∷ owns) (provided_so (among s.nodes n) _ _ w))
+
+-- a node that begins where the newest open one does
+extended_node : (v u : Forest) → IsNode u →
+    node v (last_kind (none ⧺ u)) (but_last (none ⧺ u) ⧺ last_children (none ⧺ u)) ≡ v ⧺ u
+unfolding but_last last_children
+extended_node v u n = rw n.node_is (ap (λ (c : Forest). node v n.kind c) (none-⧺ n.children))
+
+pub extends_own : (t : Table) (l : List Record) (e : List Forest) (y f : Forest) (b : List Forest) (a : Script Rule)
+    (s : At) (k : Outcome → At → Verdict) (go : At → Verdict) (rs : List Record) (own : Built) (owns : List Built) →
+    AreNodes e s.nodes → OwnOn t l e y f b k a s rs go → extend_own (with_own s own owns) go owns ≡ accepted →
+    Comes t l e y f b k (extend a) (record { rest = rs; forest = value f e own; below = values f e b owns })
+unfolding but_last last_children
+extends_own t l e y f b a s k go rs own [] ns sound w = absurd cc
+extends_own t l e y f b a s k go rs base (o ∷ os) ns sound w = absurd cc
+extends_own t l e y f b a s k go rs empty (o ∷ os) ns sound w = absurd cc
+extends_own t l e y f b a s k go rs (over c kind d) (o ∷ os) ns sound w =
+    before
+    (λ z v r. extends (subst
+    (λ (x : Forest). Runs script_of a (record { rest = rs; forest = node (value f e o) kind x; below = values f e b os }) z v)
+    (joined-value f e c d (provided_is (is_own d) _ _ w)) r))
+    (sound (over o kind (joined c d)) os (provided_so (is_own d) _ _ w))
+extends_own t l e y f b a s k go rs (tree empty n) (o ∷ os) ns sound w =
+    before
+    (λ z v r. extends (subst
+    (λ (x : Forest). Runs script_of a (record { rest = rs; forest = x; below = values f e b os }) z v)
+    (sym (extended_node (value f e o) (tree_of e n) (node_at e s.nodes n ns (provided_is (among s.nodes n) _ _ w)))) r))
+    (sound (tree o n) os (provided_so (among s.nodes n) _ _ w))
+extends_own t l e y f b a s k go rs (tree base n) (o ∷ os) ns sound w = absurd cc
+extends_own t l e y f b a s k go rs (tree (over c kind d) n) (o ∷ os) ns sound w = absurd cc
+extends_own t l e y f b a s k go rs (tree (tree c m) n) (o ∷ os) ns sound w = absurd cc

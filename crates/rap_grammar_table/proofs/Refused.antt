@@ -106,8 +106,8 @@ wrong_condition :
 wrong_condition = refl
 
 -- two nodes, and a node with a token behind it, are not one node
-two_nodes : is_one_node depth (row (name ⊳ name)) ≡ false
+two_nodes : is_one_node table depth (row (name ⊳ name)) ≡ false
 two_nodes = refl
 
-node_and_token : is_one_node depth (row (name ⊳ t BANG)) ≡ false
+node_and_token : is_one_node table depth (row (name ⊳ t BANG)) ≡ false
 node_and_token = refl

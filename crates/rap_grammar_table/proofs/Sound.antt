@@ -9,10 +9,10 @@ use Rattle.rap_grammar_scripts.specs.declared.rule.Rule.{Rule}
 use Rattle.rap_grammar_table.specs.Built.{at_start}
 use Rattle.rap_grammar_table.specs.Good.{Good, good_token, good_word, good_operator, good_category, Made, made_end, made_begin, made_close, made_piece, made_first, made_second, made_last, made_turn, made_repeat, made_group, made_folded_none, made_folded_more, made_folds, made_guarded, ReadsBy}
 use Rattle.rap_grammar_table.specs.Known.{Place, Sees, says}
-use Rattle.rap_grammar_table.specs.Look.{look, followed, followed_piece, anything, is_one_node, depth}
+use Rattle.rap_grammar_table.specs.Look.{look, after_way, no_ways, followed, followed_in, followed_piece, anything, is_one_node, depth}
 use Rattle.rap_grammar_table.specs.Refusal.{ends_as, check, in_part, Verdict, accepted}
-use Rattle.rap_grammar_table.specs.Table.{Table, Piece, tok, word, comp, cat, Items, nil, begin, close, piece, choice, repeat, turns_of, group, folds, folding, unless, appended, Goal, one, rest_of, row_at, Part, Among, Beside, Derives, beside, by_row, a_token, a_word, an_operator, ended, begun, closed, put, first_way, second_way, last_turn, one_turn, repeated, grouped, folded_none, folded_more, folded, guarded}
-use Rattle.rap_grammar_table.specs.Walk.{walk, reads_row, part_so, all_accepted}
+use Rattle.rap_grammar_table.specs.Table.{Table, Piece, tok, word, comp, cat, Items, nil, begin, close, piece, choice, repeat, turns_of, group, folds, folding, way, unless, appended, HasWay, first_turn, other_turn, Goal, one, rest_of, row_at, Part, Among, Beside, Derives, beside, by_row, a_token, a_word, an_operator, ended, begun, closed, put, first_way, second_way, last_turn, one_turn, repeated, grouped, folded_none, folded_more, folded, guarded}
+use Rattle.rap_grammar_table.specs.Walk.{walk, reads_row, reads_row_by, reads_rows, nesting, part_so, all_accepted}
 use Rattle.rap_grammar_table.specs.Ways.{has_outcome, some_outcome, ends_so}
 use Rattle.rap_grammar_table.proofs.Known.{weaker}
 use Rattle.rap_grammar_table.proofs.Look.{seen, look_appended}
@@ -22,13 +22,13 @@ use Rattle.rap_grammar_table.proofs.Walk.{walks}
 use Rattle.rap_grammar_table.proofs.Wholes.{whole}
 
 -- a script reads a row
-pub row_read : (t : Table) (g : List (List Place)) (a : Script Rule) (vs : List Outcome) (is : Items) (l : List Record)
-    (ks : List Record) (us : List Forest) (y f : Forest) (b : List Forest) → Sees g l →
-    Made t l is none [] us ks y → reads_row t g a vs is ≡ accepted → ReadsBy a vs ks y l f b
-row_read t g a vs is l ks us y f b s m w =
+pub row_read : (t : Table) (d : ℕ) (g : List (List Place)) (a : Script Rule) (vs : List Outcome) (is : Items)
+    (l : List Record) (ks : List Record) (us : List Forest) (y f : Forest) (b : List Forest) → Sees g l →
+    Made t l is none [] us ks y → reads_row_by (reads_rows d t) t g a vs is ≡ accepted → ReadsBy a vs ks y l f b
+row_read t d g a vs is l ks us y f b s m w =
     let x =
     whole t g l us y f b (λ v. check (has_outcome vs v) (ends_as v)) a ks s
-    (walks t g l us y f b s a (at_start is) (ends_so t g vs) ks
+    (walks t d g l us y f b s a (at_start is) (ends_so t g vs) ks
     (record { left = us; left_is = refl; made = m; nodes = tt; facts = tt }) w)
     in
     record { outcome = x.outcome; among_them = check_so (has_outcome vs x.outcome) (ends_as x.outcome) x.so; run = x.run }
@@ -44,6 +44,16 @@ of_accepted f (r ∷ rs) zero row h e =
     same_some r row e = cc
 of_accepted f (r ∷ rs) (suc n) row h e = of_accepted f rs n row (both_right (f r) (all_accepted f rs) h) e
 
+-- a script reads all rows of a category
+rows_read : (t : Table) (d c n : ℕ) (row : Items) → row_at n (t.rows c) ≡ Some row → (a : Script Rule)
+    (vs : List Outcome) (l : List Record) (ks : List Record) (us : List Forest) (y f : Forest) (b : List Forest) →
+    Sees (t.follows c) l → Made t l row none [] us ks y → reads_rows d t c a vs ≡ accepted → ReadsBy a vs ks y l f b
+rows_read t zero c n row e a vs l ks us y f b s m w = absurd cc
+rows_read t (suc d) c n row e a vs l ks us y f b s m w =
+    row_read t d (t.follows c) a vs row l ks us y f b s m
+    (told_so in_part (reads_row_by (reads_rows d t) t (t.follows c) a vs row)
+    (of_accepted (part_so (λ g r m. walk (reads_rows d t) t g a r m) t (t.follows c) vs) (t.rows c) n row w e))
+
 -- a table whose rows are checked
 pub record Checked (t : Table) : Type 0 where
   pub reads : (c n : ℕ) (row : Items) → row_at n (t.rows c) ≡ Some row → (r : Rule) →
@@ -52,7 +62,7 @@ pub record Checked (t : Table) : Type 0 where
       says (look t row (t.follows c)) (t.firsts c) ≡ true
   pub followed : (c n : ℕ) (row : Items) → row_at n (t.rows c) ≡ Some row → followed t row (t.follows c) (t.follows c) ≡ true
   pub is_node : (c n : ℕ) (row : Items) → row_at n (t.rows c) ≡ Some row → t.is_node c ≡ true →
-      is_one_node depth row ≡ true
+      is_one_node t depth row ≡ true
 
 -- what follows a piece is what may follow it
 abbrev pub MayFollow : Table → Piece → List Record → Type 0
@@ -66,43 +76,54 @@ Claim t (one p) ks y = (l : List Record) → MayFollow t p l → Good t p ks y l
 Claim t (rest_of is x xs us) ks y = (g : List (List Place)) (l : List Record) → Sees g l → followed t is g g ≡ true →
     Made t l is x xs us ks y
 
-followed_appended : (t : Table) (a b : Items) (g e : List (List Place)) → followed t a (look t b g) e ≡ true →
-    followed t b g e ≡ true → followed t (appended a b) g e ≡ true
-followed_appended t nil b g e h i = i
-followed_appended t (begin a) b g e h i = followed_appended t a b g e h i
-followed_appended t (close k a) b g e h i = followed_appended t a b g e h i
-followed_appended t (piece p a) b g e h i =
+abbrev AfterTurn : Type 0
+AfterTurn = ℕ → List (List Place)
+
+followed_appended : (t : Table) (r : AfterTurn) (a b : Items) (g e : List (List Place)) →
+    followed_in t r a (look t b g) e ≡ true → followed_in t r b g e ≡ true → followed_in t r (appended a b) g e ≡ true
+followed_appended t r nil b g e h i = i
+followed_appended t r (begin a) b g e h i = followed_appended t r a b g e h i
+followed_appended t r (close k a) b g e h i = followed_appended t r a b g e h i
+followed_appended t r (piece p a) b g e h i =
     and_both _ _ (rw (look_appended t a b g) (and_left (followed_piece t p (look t a (look t b g))) _ h))
-    (followed_appended t a b g e (and_right (followed_piece t p (look t a (look t b g))) _ h) i)
-followed_appended t (repeat x y a) b g e h i =
+    (followed_appended t r a b g e (and_right (followed_piece t p (look t a (look t b g))) _ h) i)
+followed_appended t r (repeat x y a) b g e h i =
     let n = look t a (look t b g) in
-    let r = look t x anything ++ look t y n in
-    let h2 = and_right (followed t x r r) _ h in
-    and_both _ _ (rw (look_appended t a b g) (and_left (followed t x r r) _ h))
+    let z = look t x anything ++ look t y n in
+    let h2 = and_right (followed t x z z) _ h in
+    and_both _ _ (rw (look_appended t a b g) (and_left (followed t x z z) _ h))
     (and_both _ _ (rw (look_appended t a b g) (and_left (followed t y n n) _ h2))
-    (followed_appended t a b g e (and_right (followed t y n n) _ h2) i))
-followed_appended t (turns_of x y) b g e h i =
+    (followed_appended t r a b g e (and_right (followed t y n n) _ h2) i))
+followed_appended t r (turns_of x y) b g e h i =
     let n = look t b g in
-    let r = look t x anything ++ look t y n in
-    and_both _ _ (and_left (followed t x r r) _ h) (and_both _ _ (and_right (followed t x r r) _ h) i)
-followed_appended t (group x a) b g e h i =
+    let z = look t x anything ++ look t y n in
+    and_both _ _ (and_left (followed t x z z) _ h) (and_both _ _ (and_right (followed t x z z) _ h) i)
+followed_appended t r (group x a) b g e h i =
     let n = look t a (look t b g) in
     and_both _ _ (rw (look_appended t a b g) (and_left (followed t x n n) _ h))
-    (followed_appended t a b g e (and_right (followed t x n n) _ h) i)
-followed_appended t (folds k x a) b g e h i =
+    (followed_appended t r a b g e (and_right (followed t x n n) _ h) i)
+followed_appended t r (folds n ws a) b g e h i =
+    let z = followed_in t (after_way t ws (look t a (look t b g))) ws [] [] in
+    and_both _ _ (rw (look_appended t a b g) (and_left z _ h)) (followed_appended t r a b g e (and_right z _ h) i)
+followed_appended t r (folding n ws) b g e h i = and_both _ _ h i
+followed_appended t r (way j x m a) b g e h i =
+    and_both _ _ (and_left (followed t x (r m) (r m)) _ h)
+    (followed_appended t r a b g e (and_right (followed t x (r m) (r m)) _ h) i)
+followed_appended t r (unless x w a) b g e h i =
+    and_both _ _ (and_left (says e w) _ h) (followed_appended t r a b g e (and_right (says e w) _ h) i)
+followed_appended t r (choice x y a) b g e h i =
     let n = look t a (look t b g) in
-    let r = look t x anything ++ n in
-    and_both _ _ (rw (look_appended t a b g) (and_left (followed t x r r) _ h))
-    (followed_appended t a b g e (and_right (followed t x r r) _ h) i)
-followed_appended t (folding k x) b g e h i = and_both _ _ h i
-followed_appended t (unless x w a) b g e h i =
-    and_both _ _ (and_left (says e w) _ h) (followed_appended t a b g e (and_right (says e w) _ h) i)
-followed_appended t (choice x y a) b g e h i =
-    let n = look t a (look t b g) in
-    let h2 = and_right (followed t x n e) _ h in
-    and_both _ _ (rw (look_appended t a b g) (and_left (followed t x n e) _ h))
-    (and_both _ _ (rw (look_appended t a b g) (and_left (followed t y n e) _ h2))
-    (followed_appended t a b g e (and_right (followed t y n e) _ h2) i))
+    let h2 = and_right (followed_in t r x n e) _ h in
+    and_both _ _ (rw (look_appended t a b g) (and_left (followed_in t r x n e) _ h))
+    (and_both _ _ (rw (look_appended t a b g) (and_left (followed_in t r y n e) _ h2))
+    (followed_appended t r a b g e (and_right (followed_in t r y n e) _ h2) i))
+
+-- a turn is followed by what may follow it
+way_followed : (t : Table) (r : AfterTurn) (g e : List (List Place)) {ws a : Items} {js : List ℕ} {m : ℕ} → HasWay ws js a m →
+    followed_in t r ws g e ≡ true → followed t a (r m) (r m) ≡ true
+way_followed t r g e (first_turn {m = m} {a = a}) h = and_left (followed t a (r m) (r m)) _ h
+way_followed t r g e (other_turn {n = n} {b = b} w) h =
+    way_followed t r g e w (and_right (followed t b (r n) (r n)) _ h)
 
 may_follow : (t : Table) (p : Piece) (g : List (List Place)) (l : List Record) → followed_piece t p g ≡ true →
     Sees g l → MayFollow t p l
@@ -127,12 +148,9 @@ claim {t = t} o k (by_row {c = c} {row = row} {ks = ks} {x = y} {us = us} n e d)
     good_category
     (weaker (look t row (t.follows c)) (t.firsts c) (ks ++ l) (o.begins c n row e) (seen t (t.follows c) m s))
     (λ h. one_node depth m (o.is_node c n row e h))
-    (λ h a vs f b w.
-    row_read t (t.follows c) a vs row l ks us y f b s m
-    (told_so in_part (reads_row t (t.follows c) a vs row)
-    (of_accepted (part_so (λ g r m. walk t g a r m) t (t.follows c) vs) (t.rows c) n row w e)))
+    (λ h i a vs f b w. rows_read t i c n row e a vs l ks us y f b s m w)
     (λ r f b h.
-    let x = row_read t (t.follows c) (script_of r) (t.reads r c) row l ks us y f b s m (o.reads c n row e r h) in
+    let x = row_read t nesting (t.follows c) (script_of r) (t.reads r c) row l ks us y f b s m (o.reads c n row e r h) in
     record { outcome = x.outcome; among_them = x.among_them; run = x.run })
 claim o k (a_token m w) = λ l s. good_token m w
 claim o k (a_word e i) = λ l s. good_word e i
@@ -146,11 +164,11 @@ claim {t = t} o k (put {p = p} {is = is} {js = js} d e) = λ g l s h.
     (claim o k d (js ++ l)
     (may_follow t p (look t is g) (js ++ l) (and_left (followed_piece t p (look t is g)) _ h) (seen t g m s))) m
 claim {t = t} o k (first_way {a = a} {b = b} {is = is} d) = λ g l s h.
-    made_first (claim o k d g l s (followed_appended t a is g g (and_left (followed t a (look t is g) g) _ h)
+    made_first (claim o k d g l s (followed_appended t no_ways a is g g (and_left (followed t a (look t is g) g) _ h)
     (and_right (followed t b (look t is g) g) _ (and_right (followed t a (look t is g) g) _ h))))
 claim {t = t} o k (second_way {a = a} {b = b} {is = is} d) = λ g l s h.
     let i = and_right (followed t a (look t is g) g) _ h in
-    made_second (claim o k d g l s (followed_appended t b is g g (and_left (followed t b (look t is g) g) _ i)
+    made_second (claim o k d g l s (followed_appended t no_ways b is g g (and_left (followed t b (look t is g) g) _ i)
     (and_right (followed t b (look t is g) g) _ i)))
 claim {t = t} o k (last_turn {a = a} {z = z} d) = λ g l s h.
     made_last (claim o k d g l s (and_right (followed t a (look t a anything ++ look t z g) (look t a anything ++ look t z g)) _ h))
@@ -171,14 +189,14 @@ claim {t = t} o k (grouped {a = a} {is = is} {js = js} d e) = λ g l s h.
     let m = claim o k e g l s (and_right (followed t a n n) _ h) in
     made_group (claim o k d n (js ++ l) (seen t g m s) (and_left (followed t a n n) _ h)) m
 claim o k folded_none = λ g l s h. made_folded_none
-claim {t = t} o k (folded_more {k = kind} {a = a} {js = js} d e) = λ g l s h.
+claim {t = t} o k (folded_more {m = m} {ws = ws} {js = js} w i d e) = λ g l s h.
     let n = claim o k e g l s h in
-    let r = look t a anything ++ g in
-    made_folded_more (claim o k d r (js ++ l) (seen t g n s) h) n
-claim {t = t} o k (folded {a = a} {is = is} {js = js} d e) = λ g l s h.
+    made_folded_more w i
+    (claim o k d (after_way t ws g m) (js ++ l) (seen t g n s) (way_followed t (after_way t ws g) [] [] w h)) n
+claim {t = t} o k (folded {ws = ws} {is = is} {js = js} d e) = λ g l s h.
     let n = look t is g in
-    let r = look t a anything ++ n in
-    let m = claim o k e g l s (and_right (followed t a r r) _ h) in
-    made_folds (claim o k d n (js ++ l) (seen t g m s) (and_left (followed t a r r) _ h)) m
+    let z = followed_in t (after_way t ws n) ws [] [] in
+    let m = claim o k e g l s (and_right z _ h) in
+    made_folds (claim o k d n (js ++ l) (seen t g m s) (and_left z _ h)) m
 claim o k (guarded {w = w} h d) = λ g l s i.
     made_guarded (h l (weaker g w l (and_left (says g w) _ i) s)) (claim o k d g l s (and_right (says g w) _ i))

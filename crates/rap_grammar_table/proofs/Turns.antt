@@ -5,24 +5,24 @@ use Rattle.rap_events.specs.Forest.{Forest, none, node, ◌⧺◌}
 use Rattle.rap_events.specs.Record.{Record}
 use Rattle.rap_grammar_scripts.proofs.Forests.{⧺-assoc}
 use Rattle.rap_grammar_scripts.specs.Knot.{script_of}
-use Rattle.rap_grammar_scripts.specs.Script.{Script, Outcome, nothing, something, block, again, Runs, turns, stops, loop}
+use Rattle.rap_grammar_scripts.specs.Script.{Script, Outcome, nothing, something, block, again, Spot, Runs, turns, stops, loop}
 use Rattle.rap_grammar_scripts.specs.declared.rule.Rule.{Rule}
-use Rattle.rap_grammar_table.specs.Built.{Built, base, empty, over, tree, is_own, under, same, last_same, At, with_row, at_start, fold_start, after_piece, after_fold}
-use Rattle.rap_grammar_table.specs.Good.{Made, made_end, made_last, made_turn, made_repeat, made_folded_none, made_folded_more, made_folds}
-use Rattle.rap_grammar_table.specs.Known.{Place, Sees}
-use Rattle.rap_grammar_table.specs.Look.{look, anything}
+use Rattle.rap_grammar_table.specs.Built.{Built, over, tree, is_own, under, same, last_same, At, with_row, at_start, fold_start, after_piece, after_fold}
+use Rattle.rap_grammar_table.specs.Good.{IsNode, Made, made_end, made_last, made_turn, made_repeat, made_folded_none, made_folded_more, made_folds}
+use Rattle.rap_grammar_table.specs.Known.{Place, among, Sees}
+use Rattle.rap_grammar_table.specs.Look.{look, after_way, anything}
 use Rattle.rap_grammar_table.specs.Refusal.{Refusal, ends_as, goes_on_as, in_turn, after_turns, in_part, stopped, Verdict, accepted, refused, both, check, provided, or_else_so, told_with, or_later}
 use Rattle.rap_grammar_table.specs.Refusal as refusal
-use Rattle.rap_grammar_table.specs.Table.{Table, Items, nil, repeat, turns_of, folds, folding}
-use Rattle.rap_grammar_table.specs.Walk.{next_turn, is_repeat, at_repeat, Turn, one_turn, turns_first, turning, most_turns, Flags, flags_in, every_flags, goes_on_in, turn_ends, turn_so, no_turns, first_so, guesses, fold_ends, fold_turn_so, then_ends, last_so, repeating}
+use Rattle.rap_grammar_table.specs.Table.{Table, Items, nil, repeat, turns_of, folds, folding, HasWay, first_turn, other_turn}
+use Rattle.rap_grammar_table.specs.Walk.{next_turn, is_repeat, at_repeat, Turn, one_turn, turns_first, turning, most_turns, Flags, flags_in, every_flags, goes_on_in, turn_ends, turn_so, no_turns, first_so, guesses, fold_turn_so, ways_so, then_ends, last_so, goes_on_after, folds_so, repeating}
 use Rattle.rap_grammar_table.specs.Ways.{expose, same_flag}
 use Rattle.rap_grammar_table.proofs.Exposes.{exposed_at, on_items}
 use Rattle.rap_grammar_table.proofs.Known.{by_or, same_number}
 use Rattle.rap_grammar_table.proofs.Look.{seen}
 use Rattle.rap_grammar_table.proofs.Pieces.{same_flags}
-use Rattle.rap_grammar_table.proofs.Values.{tree_of, value, values, spot_at, AreNodes, Stands, Comes, before, drop_first, drop_more, same_built, own-value, folded_node}
+use Rattle.rap_grammar_table.proofs.Values.{tree_of, value, values, spot_at, AreNodes, Stands, Comes, before, drop_first, drop_more, same_spot, same_built, own-value, none-⧺, node_at, folded_node}
 use Rattle.rap_grammar_table.proofs.Verdict.{both_left, both_right, check_so, provided_is, provided_so, told_so, or_later_so, by_else, by_either, by_try}
-use Rattle.rap_grammar_table.proofs.Wholes.{Whole, whole, Folded, fold_turn}
+use Rattle.rap_grammar_table.proofs.Wholes.{Whole, whole, whole_from}
 
 -- the end of a turn of a loop
 on_turn : {t : Table} {l : List Record} {e : List Forest} {y f : Forest} {b : List Forest}
@@ -55,17 +55,24 @@ turn_read t l e y f b h g sound r k next c d s ks st w =
     on_turn {h = h} r k z.outcome z.place z.tokens s ks z.stands z.so z.run
     (λ m i o. next m i z.place z.tokens z.stands o)
 
--- what reads all turns of a row at once, where they come first
-abbrev AtOnce : Table → List Record → List Forest → Forest → Forest → List Forest → (Bool → Bool → Script Rule) →
+-- what goes on with a loop
+abbrev GoesOn : Table → List Record → List Forest → Forest → Forest → List Forest → (Bool → Bool → Script Rule) →
     Turn → Type 0
+GoesOn t l e y f b h on =
+    (c d : Bool) (s : At) (k : Outcome → At → Verdict) (ks : List Record) → Stands t l e y s ks →
+    on c d s k ≡ accepted → Comes t l e y f b k (loop h c d) (spot_at f b e s (ks ++ l))
+
+-- what reads all turns of a row at once, where they come first, and goes on with the loop
+abbrev AtOnce : Table → List Record → List Forest → Forest → Forest → List Forest → (Bool → Bool → Script Rule) →
+    (Turn → Turn) → Type 0
 AtOnce t l e y f b h r =
-    (c d : Bool) (s : At) (k : Outcome → At → Verdict) (ks : List Record) (is : Items) (x : Built) (xs : List Built) →
-    Stands t l e y (with_row s is x xs) ks → r c d (with_row s is x xs) k ≡ accepted →
-    Comes t l e y f b k (loop h c d) (spot_at f b e s (ks ++ l))
+    (on : Turn) → GoesOn t l e y f b h on → (c d : Bool) (s : At) (k : Outcome → At → Verdict) (ks : List Record)
+    (is : Items) (x : Built) (xs : List Built) → Stands t l e y (with_row s is x xs) ks →
+    r on c d (with_row s is x xs) k ≡ accepted → Comes t l e y f b k (loop h c d) (spot_at f b e s (ks ++ l))
 
 -- turns of a loop
 pub turned : (t : Table) (x : List (List Place)) (l : List Record) (e : List Forest) (y f : Forest) (b : List Forest) →
-    Sees x l → (h : Bool → Bool → Script Rule) (g r : Turn) →
+    Sees x l → (h : Bool → Bool → Script Rule) (g : Turn) (r : Turn → Turn) →
     ((c d : Bool) (s : At) (k : Outcome → At → Verdict) (ks : List Record) → Stands t l e y s ks →
     g c d s k ≡ accepted → Comes t l e y f b k (h c d) (spot_at f b e s (ks ++ l))) → AtOnce t l e y f b h r →
     (n : ℕ) (c d : Bool) (s : At) (k : Outcome → At → Verdict) (ks : List Record) → Stands t l e y s ks →
@@ -73,23 +80,26 @@ pub turned : (t : Table) (x : List (List Place)) (l : List Record) (e : List For
 turned t x l e y f b i h g r sound all zero c d s k ks st w = absurd cc
 turned t x l e y f b i h g r sound all (suc n) c d s k ks st w =
     let next : Bool → Bool → At → Verdict = λ c d z. turning t x n g r c d z k in
+    let on : Turn = λ c d z m. turning t x n g r c d z m in
+    let goes : GoesOn t l e y f b h on =
+    λ c d s k ks st v. turned t x l e y f b i h g r sound all n c d s k ks st v in
     let one : (q : At) → Stands t l e y q ks → one_turn g next c d q k ≡ accepted →
     Comes t l e y f b k (loop h c d) (spot_at f b e q (ks ++ l)) =
     λ q st v. turn_read t l e y f b h g sound next k
     (λ m o s ks st v. turned t x l e y f b i h g r sound all n m o s k ks st v) c d q ks st v
     in
     by_try (at_repeat s.items)
-    (λ u. expose t x s (λ q. turns_first r (λ u. one_turn g next c d q k) c d q k))
+    (λ u. expose t x s (λ q. turns_first (r on) (λ u. one_turn g next c d q k) c d q k))
     (λ u. one_turn g next c d s k) w
     (λ v.
     let z =
     exposed_at t x l e y i s ks
-    (λ is z zs. turns_first r (λ u. one_turn g next c d (with_row s is z zs) k) c d (with_row s is z zs) k) st v
+    (λ is z zs. turns_first (r on) (λ u. one_turn g next c d (with_row s is z zs) k) c d (with_row s is z zs) k) st v
     in
     let q = with_row s z.items z.row z.rows in
     let st' = on_items st z.items z.row z.rows z.made in
-    by_either (is_repeat z.items) (λ u. r c d q k) (λ u. one_turn g next c d q k) z.so
-    (λ o v. all c d s k ks z.items z.row z.rows st' v) (λ v. one q st' v))
+    by_either (is_repeat z.items) (λ u. r on c d q k) (λ u. one_turn g next c d q k) z.so
+    (λ o v. all on goes c d s k ks z.items z.row z.rows st' v) (λ v. one q st' v))
     (λ v. one s st v)
 
 of_flags : (k : Bool → Bool → Verdict) (xs : List Flags) (a b : Bool) → every_flags k xs ≡ accepted →
@@ -129,7 +139,7 @@ one_more k xs (again m n) ks js x y l f b w r g =
 -- where there are no more turns, none are read at once
 none_at_once : (t : Table) (l : List Record) (e : List Forest) (y f : Forest) (b : List Forest)
     (h : Bool → Bool → Script Rule) → AtOnce t l e y f b h no_turns
-none_at_once t l e y f b h c d s k ks is x xs st v = absurd cc
+none_at_once t l e y f b h on goes c d s k ks is x xs st v = absurd cc
 
 -- what stands after the turns
 last_read : (t : Table) (h : Bool → Bool → Script Rule) (w : List (List Place) → Turn) → Walker t h w → (z : Items)
@@ -217,13 +227,13 @@ moved : (a : Script Rule) (own rest l ks : List Record) (x x' z z' u' u : Forest
 moved a own rest l ks x x' z z' u' u b v h i j k r = rw (h, append_assoc own rest l, i, j, k) r
 
 repeat_read : (t : Table) (g : List (List Place)) (l : List Record) (e : List Forest) (y f : Forest) (b : List Forest) →
-    Sees g l → (h : Bool → Bool → Script Rule) (w : List (List Place) → Turn) → Walker t h w → (c d : Bool) (s : At)
+    Sees g l → (h : Bool → Bool → Script Rule) (w : List (List Place) → Turn) → Walker t h w → (on : Turn) → (c d : Bool) (s : At)
     (k : Outcome → At → Verdict) {ks : List Record} {left : List Forest} → AreNodes e s.nodes → drop s.count e ≡ left →
     (a z is : Items) (x : Built) (xs : List Built) →
     Turns t l a z is (value none e x) (values none e [] xs) left ks y →
-    repeating w t g (repeat a z is) c d (with_row s (repeat a z is) x xs) k ≡ accepted →
+    repeating w t g on (repeat a z is) c d (with_row s (repeat a z is) x xs) k ≡ accepted →
     Comes t l e y f b k (loop h c d) (spot_at f b e s (ks ++ l))
-repeat_read t g l e y f b i h w sound c d s k {ks = ks} ns o a z is x xs u v =
+repeat_read t g l e y f b i h w sound on c d s k {ks = ks} ns o a z is x xs u v =
     let n = look t is g in
     let r = look t a anything ++ look t z n in
     let place = after_piece (with_row s (repeat a z is) x xs) is false in
@@ -256,46 +266,64 @@ repeat_read t g l e y f b i h w sound c d s k {ks = ks} ns o a z is x xs u v =
           (tree_of e s.count) u.tree_is (values f e b s.owns) z'.outcome u.tokens refl refl same_tree z'.run;
     }
 
--- nodes that are put around the last one
-fold_more : {h : Bool → Bool → Script Rule} {c d : Bool} (k : Outcome → Verdict) (xs : List Flags) (v : Outcome)
-    (ks js l : List Record) (x y z : Forest) (b : List Forest) → goes_on_in xs v ≡ true →
-    Runs script_of (h c d) (record { rest = ks ++ (js ++ l); forest = x; below = b })
-    (record { rest = js ++ l; forest = y; below = b }) v →
-    ((m n : Bool) → flags_in xs m n ≡ true → Folded k (loop h m n) js l y z b) →
-    Folded k (loop h c d) (ks ++ js) l x z b
-fold_more k xs nothing ks js l x y z b w r g = absurd cc
-fold_more k xs something ks js l x y z b w r g = absurd cc
-fold_more k xs block ks js l x y z b w r g = absurd cc
-fold_more k xs (again m n) ks js l x y z b w r g =
-    let q = g m n w in
-    record { outcome = q.outcome; so = q.so; run = rw (append_assoc ks js l) (turns r q.run) }
+-- a turn that puts a node around another goes on
+fold_on : {t : Table} {l js : List Record} {e : List Forest} {y f v : Forest} {b bs : List Forest}
+    {k : Outcome → At → Verdict} {h : Bool → Bool → Script Rule} {c d : Bool} {p : Spot} (xs : List Flags)
+    (w : Outcome) → goes_on_in xs w ≡ true →
+    Runs script_of (h c d) p (record { rest = js; forest = v; below = bs }) w →
+    ((m n : Bool) → flags_in xs m n ≡ true →
+    Comes t l e y f b k (loop h m n) (record { rest = js; forest = v; below = bs })) →
+    Comes t l e y f b k (loop h c d) p
+fold_on xs nothing o r next = absurd cc
+fold_on xs something o r next = absurd cc
+fold_on xs block o r next = absurd cc
+fold_on xs (again m n) o r next = before (λ z v x. turns r x) (next m n o)
 
-fold_loops : (t : Table) (h : Bool → Bool → Script Rule) (w : List (List Place) → Turn) → Walker t h w → (kind : ℕ)
-    (a : Items) (g : List (List Place)) (xs : List Flags) (k : Outcome → Verdict) →
-    fold_turn_so t (look t a anything ++ g) (w (look t a anything ++ g)) kind a xs ≡ accepted →
-    last_so t g (w g) nil k xs ≡ accepted →
-    {l ks : List Record} {v u : Forest} → Made t l (folding kind a) v [] [] ks u → (cs : Forest) →
-    v ≡ node none kind cs → Sees g l → (c d : Bool) → flags_in xs c d ≡ true → (f : Forest) (b : List Forest) →
-    Folded k (loop h c d) ks l (node f kind cs) (f ⧺ u) b
-fold_loops t h w sound kind a g xs k i j {l = l} (made_folded_none {x = x}) cs p s c d o f b =
-    let q = last_read t h w sound nil g xs k j {l = l} made_end s c d o (node f kind cs) b in
-    record { outcome = q.outcome; so = q.so; run = rw p q.run }
-fold_loops t h w sound kind a g xs k i j {l = l} (made_folded_more {x = x} {u = u} {w = y} {vs = vs} {ks = ks} {js = js} m n) cs p s c d o f b =
-    let r = look t a anything ++ g in
-    let q =
-    fold_turn t r (js ++ l) vs y f b (λ v. check (goes_on_in xs v) (goes_on_as v)) kind cs (h c d) ks (seen t g n s)
-    (sound r (js ++ l) (cs ∷ vs) y f b (seen t g n s) c d (fold_start kind a) (fold_ends t r kind xs) ks
-    (record { left = vs; left_is = refl; made = m; nodes = tt; facts = tt })
-    (told_so (in_turn c d) (w r c d (fold_start kind a) (fold_ends t r kind xs))
-    (of_flags (λ c d. told_with (in_turn c d) (w r c d (fold_start kind a) (fold_ends t r kind xs))) xs c d i o)))
+-- each of the ways is so
+way_so : (t : Table) (r : ℕ → List (List Place)) (f : List (List Place) → Turn) (xs : List Flags) {ws a : Items}
+    {js : List ℕ} {m : ℕ} → HasWay ws js a m → ways_so t r f xs ws ≡ accepted → fold_turn_so t (r m) (f (r m)) a xs ≡ accepted
+way_so t r f xs (first_turn {m = m} {a = a}) h = both_left (fold_turn_so t (r m) (f (r m)) a xs) _ h
+way_so t r f xs (other_turn {n = n} {b = b} w) h =
+    way_so t r f xs w (both_right (fold_turn_so t (r n) (f (r n)) b xs) _ h)
+
+-- Nodes that are put around one, one after another, and then the loop goes on.
+fold_loops : {t : Table} {l' : List Record} {e : List Forest} {y f' : Forest} {b' : List Forest}
+    {k : Outcome → At → Verdict} (h : Bool → Bool → Script Rule) (w : List (List Place) → Turn) → Walker t h w →
+    (ws : Items) (g : List (List Place)) (xs : List Flags) → ways_so t (after_way t ws g) w xs ws ≡ accepted →
+    {n : ℕ} {l ks : List Record} {x u : Forest} → Made t l (folding n ws) x [] [] ks u → IsNode x → Sees g l →
+    (f : Forest) (bs : List Forest) →
+    ((c d : Bool) → flags_in xs c d ≡ true →
+    Comes t l' e y f' b' k (loop h c d) (record { rest = l; forest = f ⧺ u; below = bs })) → (c d : Bool) →
+    flags_in xs c d ≡ true →
+    Comes t l' e y f' b' k (loop h c d) (record { rest = ks ++ l; forest = f ⧺ x; below = bs })
+fold_loops h w sound ws g xs i made_folded_none q s f bs next c d o = next c d o
+fold_loops {t = t} h w sound ws g xs i {l = l}
+    (made_folded_more {m = m} {k = kind} {a = a} {x = x} {c = cs} {vs = vs} {ks = ks} {js = js} hw less made more)
+    q s f bs next c d o =
+    let r = after_way t ws g m in
+    let v = node none kind cs in
+    let sees = seen t g more s in
+    let start = spot_at f bs (x ∷ vs) (fold_start a) (ks ++ (js ++ l)) in
+    let z =
+    whole_from t r (js ++ l) (x ∷ vs) v f bs (λ v. check (goes_on_in xs v) (goes_on_as v)) (h c d) start sees
+    (sound r (js ++ l) (x ∷ vs) v f bs sees c d (fold_start a) (turn_ends t r xs) ks
+    (record {
+      left = vs;
+      left_is = refl;
+      made = subst (λ (z : Forest). Made t (js ++ l) a z (none ∷ []) vs ks v) (sym (none-⧺ x)) made;
+      nodes = (q, tt);
+      facts = tt;
+    })
+    (told_so (in_turn c d) (w r c d (fold_start a) (turn_ends t r xs))
+    (of_flags (λ c d. told_with (in_turn c d) (w r c d (fold_start a) (turn_ends t r xs))) xs c d
+    (way_so t (after_way t ws g) w xs hw i) o)))
     in
-    fold_more {h = h} k xs q.outcome ks js l (node f kind cs) (node f kind (node none kind cs ⧺ y)) (f ⧺ u) b
-    (check_so (goes_on_in xs q.outcome) (goes_on_as q.outcome) q.so) q.run
-    (λ m' n' o'. subst (λ (z : Forest). Folded k (loop h m' n') js l (node f kind (z ⧺ y)) (f ⧺ u) b) p
-    (fold_loops t h w sound kind a g xs k i j n (x ⧺ y) refl s m' n' o' f b))
+    rw (append_assoc ks js l)
+    (fold_on {h = h} xs z.outcome (check_so (goes_on_in xs z.outcome) (goes_on_as z.outcome) z.so) z.run
+    (λ c d o. fold_loops h w sound ws g xs i more (record { kind = kind; children = cs; node_is = refl }) s f bs next c d o))
 
 -- the folded nodes of a row that come first
-record Folds (t : Table) (l : List Record) (kind j : ℕ) (a is : Items) (c x : Forest) (xs us : List Forest)
+record Folds (t : Table) (l : List Record) (n j : ℕ) (ws is : Items) (c x : Forest) (xs us : List Forest)
     (ks : List Record) (y : Forest) : Type 0 where
   own : List Record
   rest : List Record
@@ -303,113 +331,123 @@ record Folds (t : Table) (l : List Record) (kind j : ℕ) (a is : Items) (c x : 
   trees : List Forest
   tokens : ks ≡ own ++ rest
   all : us ≡ tree_is ∷ trees
-  folds_made : Made t (rest ++ l) (folding kind a) (node none j c) [] [] own tree_is
+  folds_made : Made t (rest ++ l) (folding n ws) (node none j c) [] [] own tree_is
   made : Made t l is (x ⧺ tree_is) xs trees rest y
 
-folds_inv : {t : Table} {l : List Record} {kind j : ℕ} {a is : Items} {c x y : Forest} {xs us : List Forest}
-    {ks : List Record} → Made t l (folds kind a is) (node x j c) xs us ks y → Folds t l kind j a is c x xs us ks y
+folds_inv : {t : Table} {l : List Record} {n j : ℕ} {ws is : Items} {c x y : Forest} {xs us : List Forest}
+    {ks : List Record} → Made t l (folds n ws is) (node x j c) xs us ks y → Folds t l n j ws is c x xs us ks y
 folds_inv (made_folds {u = u} {us = us} {ks = ks} {js = js} m n) =
     record { own = ks; rest = js; tree_is = u; trees = us; tokens = refl; all = refl; folds_made = m; made = n }
 
-record LastSame (kind k : ℕ) (c own : Built) : Type 0 where
-  older : Built
-  own_is : own ≡ over older kind c
-  kind_is : k ≡ kind
-  alone : is_own c ≡ true
+-- the last tree of the row and of the script is one node
+record LastNode (f : Forest) (e : List Forest) (row own : Built) : Type 0 where
+  kind : ℕ
+  children : Forest
+  row_is : value none e row ≡ node (value none e (under row)) kind children
+  own_is : value f e own ≡ node (value f e (under own)) kind children
 
-last_as : (kind k : ℕ) (a c own : Built) → last_same kind (over a k c) own ≡ true → LastSame kind k c own
-last_as kind k a c base h = absurd cc
-last_as kind k a c empty h = absurd cc
-last_as kind k a c (tree b n) h = absurd cc
-last_as kind k a c (over b j d) h =
-    let h2 = and_right (k == kind) _ h in
-    let h3 = and_right (j == kind) _ h2 in
+last_node : (f : Forest) (e : List Forest) (ns : List ℕ) → AreNodes e ns → (row own : Built) →
+    last_same ns row own ≡ true → LastNode f e row own
+last_node f e ns n (over a k c) (over b j d) h =
+    let i = and_right (k == j) _ h in
+    let kj = same_number k j (and_left (k == j) _ h) in
+    let cd = same_built c d (and_left (same c d) _ i) in
     record {
-      older = b;
-      own_is = rw (same_number j kind (and_left (j == kind) _ h2), same_built c d (and_left (same c d) _ h3)) refl;
-      kind_is = same_number k kind (and_left (k == kind) _ h);
-      alone = and_right (same c d) _ h3;
+      kind = k;
+      children = value none e c;
+      row_is = refl;
+      own_is =
+          rw (sym kj)
+          (ap (λ (z : Forest). node (value f e b) k z)
+          (ap (λ (z : Built). value f e z) (sym cd) ∙ own-value f e c (and_right (same c d) _ i)));
     }
+last_node f e ns n (tree a i) (tree b j) h =
+    let one = node_at e ns i n (and_right (i == j) _ h) in
+    record {
+      kind = one.kind;
+      children = one.children;
+      row_is = ap (λ (z : Forest). value none e a ⧺ z) one.node_is;
+      own_is =
+          ap (λ (m : ℕ). value f e b ⧺ tree_of e m) (sym (same_number i j (and_left (i == j) _ h))) ∙
+          ap (λ (z : Forest). value f e b ⧺ z) one.node_is;
+    }
+last_node f e ns n row own h = absurd cc
 
 fold_read : (t : Table) (g : List (List Place)) (l : List Record) (e : List Forest) (y f : Forest) (b : List Forest) →
-    Sees g l → (h : Bool → Bool → Script Rule) (w : List (List Place) → Turn) → Walker t h w → (c d : Bool) (s : At)
-    (k : Outcome → At → Verdict) {ks : List Record} {left : List Forest} → AreNodes e s.nodes → drop s.count e ≡ left →
-    (kind : ℕ) (a is : Items) (x : Built) (j : ℕ) (cs : Built) (xs : List Built) →
-    Folds t l kind j a is (value none e cs) (value none e x) (values none e [] xs) left ks y →
-    repeating w t g (folds kind a is) c d (with_row s (folds kind a is) (over x j cs) xs) k ≡ accepted →
+    Sees g l → (h : Bool → Bool → Script Rule) (w : List (List Place) → Turn) → Walker t h w → (on : Turn) →
+    GoesOn t l e y f b h on → (c d : Bool) (s : At) (k : Outcome → At → Verdict) {ks : List Record}
+    {left : List Forest} → AreNodes e s.nodes → drop s.count e ≡ left → (n : ℕ) (ws is : Items) (x : Built)
+    (xs : List Built) (la : LastNode f e x s.own) →
+    Folds t l n la.kind ws is la.children (value none e (under x)) (values none e [] xs) left ks y →
+    folds_so w t g on c d (with_row s (folds n ws is) x xs) n ws is k ≡ accepted →
     Comes t l e y f b k (loop h c d) (spot_at f b e s (ks ++ l))
-fold_read t g l e y f b i h w sound c d s k {ks = ks} ns o kind a is x j cs xs u v =
-    let n = look t is g in
-    let r = look t a anything ++ n in
-    let place = after_fold (with_row s (folds kind a is) (over x j cs) xs) is in
-    let first : List Flags → Verdict = λ xs. GuessSo xs c d (fold_turn_so t r (w r) kind a xs) in
-    let then_so : List Flags → Verdict = λ xs. last_so t n (w n) nil (λ v. k v place) xs in
-    let all : Unit {0} → Verdict = λ u. first_so first (guesses c d) then_so in
-    let why = stopped refusal.turns (folds kind a is) in
-    let la = last_as kind j x cs s.own (provided_is (last_same kind (over x j cs) s.own) why all v) in
-    let q = found first (guesses c d) then_so (provided_so (last_same kind (over x j cs) s.own) why all v) in
-    let turn = fold_turn_so t r (w r) kind a q.flags in
-    let z =
-    fold_loops t h w sound kind a n q.flags (λ v. k v place) (guess_so q.flags c d turn q.is_so) q.so
-    u.folds_made (value none e cs) (ap (λ (m : ℕ). node none m (value none e cs)) la.kind_is) (seen t g u.made i) c d
-    (guess_in q.flags c d turn q.is_so) (value f e la.older) (values f e b s.owns)
-    in
-    let j' = o ∙ u.all in
-    let same_tree = drop_first s.count e u.tree_is u.trees j' in
-    let own_value : value f e s.own ≡ node (value f e la.older) kind (value none e cs) =
-    ap (λ (r : Built). value f e r) la.own_is ∙
-    ap (λ (q : Forest). node (value f e la.older) kind q) (own-value f e cs la.alone)
-    in
-    let under_value : value f e (under s.own) ≡ value f e la.older =
-    ap (λ (r : Built). value f e (under r)) la.own_is
-    in
+fold_read t g l e y f b i h w sound on goes c d s k {ks = ks} ns o n ws is x xs la u v =
+    let m = look t is g in
+    let place = after_fold (with_row s (folds n ws is) x xs) is in
+    let first : List Flags → Verdict = λ xs. GuessSo xs c d (ways_so t (after_way t ws m) w xs ws) in
+    let q = found first (guesses c d) (λ xs. goes_on_after on xs place k) v in
+    let j = o ∙ u.all in
+    let same_tree = drop_first s.count e u.tree_is u.trees j in
+    let older = value f e (under s.own) in
+    let last : IsNode (node none la.kind la.children) =
+    record { kind = la.kind; children = la.children; node_is = refl } in
+    let st : Stands t l e y place u.rest =
     record {
-      outcome = z.outcome;
-      place = place;
-      tokens = u.rest;
-      so = z.so;
-      stands =
-          record {
-            left = u.trees;
-            left_is = drop_more s.count e u.tree_is u.trees j';
-            made = rw same_tree u.made;
-            nodes = (rw same_tree (folded_node u.folds_made (record { kind = j; children = value none e cs; node_is = refl })), ns);
-            facts = tt;
-          };
-      run =
-          moved (loop h c d) u.own u.rest l ks (value f e s.own) (node (value f e la.older) kind (value none e cs))
-          (value f e (under s.own)) (value f e la.older) (tree_of e s.count) u.tree_is (values f e b s.owns) z.outcome
-          u.tokens own_value under_value same_tree z.run;
+      left = u.trees;
+      left_is = drop_more s.count e u.tree_is u.trees j;
+      made = rw same_tree u.made;
+      nodes = (rw same_tree (folded_node u.folds_made last), ns);
+      facts = tt;
     }
+    in
+    let z =
+    fold_loops h w sound ws m q.flags
+    (guess_so q.flags c d (ways_so t (after_way t ws m) w q.flags ws) q.is_so) u.folds_made last (seen t g u.made i) older
+    (values f e b s.owns)
+    (λ c d o. subst
+    (λ (z : Forest). Comes t l e y f b k (loop h c d) (record { rest = u.rest ++ l; forest = z; below = values f e b s.owns }))
+    (ap (λ (z : Forest). older ⧺ z) same_tree)
+    (goes c d place k u.rest st
+    (told_so (after_turns c d) (on c d place k)
+    (of_flags (λ c d. told_with (after_turns c d) (on c d place k)) q.flags c d q.so o))))
+    c d (guess_in q.flags c d (ways_so t (after_way t ws m) w q.flags ws) q.is_so)
+    in
+    subst (λ (p : Spot). Comes t l e y f b k (loop h c d) p)
+    (same_spot (u.own ++ (u.rest ++ l)) (ks ++ l) (older ⧺ node none la.kind la.children) (value f e s.own)
+    (values f e b s.owns) (values f e b s.owns)
+    (sym (ap (λ (js : List Record). js ++ l) u.tokens ∙ append_assoc u.own u.rest l)) (sym la.own_is) refl) z
 
 folds_row : (t : Table) (g : List (List Place)) (l : List Record) (e : List Forest) (y f : Forest) (b : List Forest) →
-    Sees g l → (h : Bool → Bool → Script Rule) (w : List (List Place) → Turn) → Walker t h w → (c d : Bool) (s : At)
-    (k : Outcome → At → Verdict) (ks : List Record) (left : List Forest) → AreNodes e s.nodes → drop s.count e ≡ left →
-    (kind : ℕ) (a is : Items) (x : Built) (xs : List Built) →
-    Made t l (folds kind a is) (value none e x) (values none e [] xs) left ks y →
-    repeating w t g (folds kind a is) c d (with_row s (folds kind a is) x xs) k ≡ accepted →
+    Sees g l → (h : Bool → Bool → Script Rule) (w : List (List Place) → Turn) → Walker t h w → (on : Turn) →
+    GoesOn t l e y f b h on → (c d : Bool) (s : At) (k : Outcome → At → Verdict) (ks : List Record)
+    (left : List Forest) → AreNodes e s.nodes → drop s.count e ≡ left → (n : ℕ) (ws is : Items) (x : Built)
+    (xs : List Built) → Made t l (folds n ws is) (value none e x) (values none e [] xs) left ks y →
+    repeating w t g on (folds n ws is) c d (with_row s (folds n ws is) x xs) k ≡ accepted →
     Comes t l e y f b k (loop h c d) (spot_at f b e s (ks ++ l))
-folds_row t g l e y f b i h w sound c d s k ks left ns o kind a is base xs m v = absurd cc
-folds_row t g l e y f b i h w sound c d s k ks left ns o kind a is empty xs m v = absurd cc
-folds_row t g l e y f b i h w sound c d s k ks left ns o kind a is (tree x n) xs m v = absurd cc
-folds_row t g l e y f b i h w sound c d s k ks left ns o kind a is (over x j cs) xs m v =
-    fold_read t g l e y f b i h w sound c d s k ns o kind a is x j cs xs (folds_inv m) v
+folds_row t g l e y f b i h w sound on goes c d s k ks left ns o n ws is x xs m v =
+    let why = stopped refusal.turns (folds n ws is) in
+    let all : Unit {0} → Verdict = λ u. folds_so w t g on c d (with_row s (folds n ws is) x xs) n ws is k in
+    let la = last_node f e s.nodes ns x s.own (provided_is (last_same s.nodes x s.own) why all v) in
+    fold_read t g l e y f b i h w sound on goes c d s k ns o n ws is x xs la
+    (folds_inv (subst (λ (z : Forest). Made t l (folds n ws is) z (values none e [] xs) left ks y) la.row_is m))
+    (provided_so (last_same s.nodes x s.own) why all v)
 
 -- the loop that reads them
 repeats : (t : Table) (g : List (List Place)) (l : List Record) (e : List Forest) (y f : Forest) (b : List Forest) →
-    Sees g l → (h : Bool → Bool → Script Rule) (w : List (List Place) → Turn) → Walker t h w → (c d : Bool) (s : At)
-    (k : Outcome → At → Verdict) (ks : List Record) (left : List Forest) → AreNodes e s.nodes → drop s.count e ≡ left →
-    (is : Items) (x : Built) (xs : List Built) → Made t l is (value none e x) (values none e [] xs) left ks y →
-    repeating w t g is c d (with_row s is x xs) k ≡ accepted →
+    Sees g l → (h : Bool → Bool → Script Rule) (w : List (List Place) → Turn) → Walker t h w → (on : Turn) →
+    GoesOn t l e y f b h on → (c d : Bool) (s : At) (k : Outcome → At → Verdict) (ks : List Record)
+    (left : List Forest) → AreNodes e s.nodes → drop s.count e ≡ left → (is : Items) (x : Built) (xs : List Built) →
+    Made t l is (value none e x) (values none e [] xs) left ks y →
+    repeating w t g on is c d (with_row s is x xs) k ≡ accepted →
     Comes t l e y f b k (loop h c d) (spot_at f b e s (ks ++ l))
-repeats t g l e y f b i h w sound c d s k ks left ns o (folds j a is) x xs m v =
-    folds_row t g l e y f b i h w sound c d s k ks left ns o j a is x xs m v
-repeats t g l e y f b i h w sound c d s k ks left ns o (repeat a z is) x xs m v =
-    repeat_read t g l e y f b i h w sound c d s k ns o a z is x xs (repeat_inv m) v
-repeats t g l e y f b i h w sound c d s k ks left ns o is x xs m v = absurd cc
+repeats t g l e y f b i h w sound on goes c d s k ks left ns o (folds n ws is) x xs m v =
+    folds_row t g l e y f b i h w sound on goes c d s k ks left ns o n ws is x xs m v
+repeats t g l e y f b i h w sound on goes c d s k ks left ns o (repeat a z is) x xs m v =
+    repeat_read t g l e y f b i h w sound on c d s k ns o a z is x xs (repeat_inv m) v
+repeats t g l e y f b i h w sound on goes c d s k ks left ns o is x xs m v = absurd cc
 
 pub all_at_once : (t : Table) (g : List (List Place)) (l : List Record) (e : List Forest) (y f : Forest)
     (b : List Forest) → Sees g l → (h : Bool → Bool → Script Rule) (w : List (List Place) → Turn) → Walker t h w →
-    AtOnce t l e y f b h (λ c d q m. repeating w t g q.items c d q m)
-all_at_once t g l e y f b i h w sound c d s k ks is x xs st v =
-    repeats t g l e y f b i h w sound c d s k ks st.left st.nodes st.left_is is x xs st.made v
+    AtOnce t l e y f b h (λ on c d q m. repeating w t g on q.items c d q m)
+all_at_once t g l e y f b i h w sound on goes c d s k ks is x xs st v =
+    repeats t g l e y f b i h w sound on goes c d s k ks st.left st.nodes st.left_is is x xs st.made v

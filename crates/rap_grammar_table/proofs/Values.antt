@@ -7,7 +7,7 @@ use Rattle.rap_grammar_scripts.proofs.Forests.{⧺-assoc}
 use Rattle.rap_grammar_scripts.specs.Knot.{script_of}
 use Rattle.rap_grammar_scripts.specs.Script.{Script, Outcome, Spot, Runs}
 use Rattle.rap_grammar_scripts.specs.declared.rule.Rule.{Rule}
-use Rattle.rap_grammar_table.specs.Built.{Built, base, empty, over, tree, same, is_own, goes_on_from, joined, on_base, no_more, At, with_node}
+use Rattle.rap_grammar_table.specs.Built.{Built, base, empty, over, tree, same, is_own, goes_on_from, joined, no_more, At, with_node}
 use Rattle.rap_grammar_table.specs.Good.{IsNode, Made, made_folded_none, made_folded_more}
 use Rattle.rap_grammar_table.specs.Known.{among}
 use Rattle.rap_grammar_table.specs.Narrow.{AreSo}
@@ -123,15 +123,6 @@ joined-value f e a (over c k d) h =
 joined-value f e a (tree c i) h =
     ap (λ (x : Forest). x ⧺ tree_of e i) (joined-value f e a c h) ∙ ⧺-assoc (value f e a) (value f e c) (tree_of e i)
 
-pub on_base-value : (f : Forest) (e : List Forest) (a r : Built) → goes_on_from r ≡ true →
-    value f e (on_base a r) ≡ value f e a ⧺ value none e r
-on_base-value f e a base h = refl
-on_base-value f e a empty h = absurd cc
-on_base-value f e a (over b k c) h =
-    rw (on_base-value f e a b (and_left (goes_on_from b) _ h), own-value f e c (and_right (goes_on_from b) _ h)) refl
-on_base-value f e a (tree b n) h =
-    rw (on_base-value f e a b h) (⧺-assoc (value f e a) (value none e b) (tree_of e n))
-
 pub no_values : (f : Forest) (e : List Forest) (b : List Forest) (xs : List Built) → no_more xs ≡ true →
     values f e b xs ≡ b
 no_values f e b [] h = refl
@@ -156,8 +147,8 @@ node_at e (n ∷ ns) i s m =
     by_or (n == i) (among ns i) m (λ h. subst (λ (j : ℕ). IsNode (tree_of e j)) (same_number n i h) s.0)
     (λ h. node_at e ns i s.1 h)
 
-pub folded_node : {t : Table} {l : List Record} {k : ℕ} {a : Items} {x y : Forest} {ks : List Record} →
-    Made t l (folding k a) x [] [] ks y → IsNode x → IsNode y
+pub folded_node : {t : Table} {l : List Record} {n : ℕ} {ws : Items} {x y : Forest} {ks : List Record} →
+    Made t l (folding n ws) x [] [] ks y → IsNode x → IsNode y
 folded_node made_folded_none h = h
-folded_node (made_folded_more {k = k} {x = x} {w = w} m n) h =
-    folded_node n (record { kind = k; children = x ⧺ w; node_is = refl })
+folded_node (made_folded_more {k = k} {c = c} w i m o) h =
+    folded_node o (record { kind = k; children = c; node_is = refl })

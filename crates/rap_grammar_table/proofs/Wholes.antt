@@ -1,20 +1,19 @@
 -- A part of a row that is walked to its end is read as its tree.
 use Rattle.std.proofs.Common.{◌≡◌, ℕ, true, ◌&&◌, List, [], ◌∷◌, ◌++◌, refl, sym, ◌∙◌, subst, ap}
 use Rattle.rap_events.proofs.Truth.{and_left, and_right}
-use Rattle.rap_events.specs.Forest.{Forest, none, node, ◌⧺◌}
+use Rattle.rap_events.specs.Forest.{Forest, none, ◌⧺◌}
 use Rattle.rap_events.specs.Record.{Record}
 use Rattle.rap_grammar_scripts.specs.Knot.{script_of}
 use Rattle.rap_grammar_scripts.specs.Script.{Script, Outcome, Spot, Runs}
 use Rattle.rap_grammar_scripts.specs.declared.rule.Rule.{Rule}
-use Rattle.rap_grammar_table.specs.Built.{Built, base, empty, over, any_node, on_base, same, goes_on_from, no_more, At, with_row}
+use Rattle.rap_grammar_table.specs.Built.{Built, same, goes_on_from, no_more, At, with_row}
 use Rattle.rap_grammar_table.specs.Good.{Made, made_end}
 use Rattle.rap_grammar_table.specs.Known.{Place, Sees}
 use Rattle.rap_grammar_table.specs.Refusal.{left_over, Verdict, accepted, both, check}
-use Rattle.rap_grammar_table.specs.Table.{Table, Items, nil, begin, close, piece, choice, repeat, turns_of, group, folds, folding, unless}
-use Rattle.rap_grammar_table.specs.Walk.{is_folded}
-use Rattle.rap_grammar_table.specs.Ways.{expose, is_nil, is_whole, ends_whole}
+use Rattle.rap_grammar_table.specs.Table.{Table, Items, nil, begin, close, piece, choice, repeat, turns_of, group, folds, folding, way, unless}
+use Rattle.rap_grammar_table.specs.Ways.{is_nil, is_whole, ends_whole}
 use Rattle.rap_grammar_table.proofs.Exposes.{exposed_at}
-use Rattle.rap_grammar_table.proofs.Values.{value, values, Comes, same_built, base-value, on_base-value, no_values, none-⧺}
+use Rattle.rap_grammar_table.proofs.Values.{value, values, Comes, same_built, base-value, no_values}
 use Rattle.rap_grammar_table.proofs.Verdict.{both_left, both_right, check_so}
 
 -- nothing is left of a row
@@ -34,15 +33,8 @@ all_made (turns_of a b) h m = absurd cc
 all_made (group a is) h m = absurd cc
 all_made (folds j a is) h m = absurd cc
 all_made (folding j a) h m = absurd cc
+all_made (way i a j ws) h m = absurd cc
 all_made (unless h w is) i m = absurd cc
-
--- a script reads these tokens as this tree, with such an outcome
-pub record Whole (k : Outcome → Verdict) (a : Script Rule) (ks : List Record) (y : Forest) (l : List Record) (f : Forest)
-    (b : List Forest) : Type 0 where
-  pub outcome : Outcome
-  pub so : k outcome ≡ accepted
-  pub run : Runs script_of a (record { rest = ks ++ l; forest = f; below = b })
-      (record { rest = l; forest = f ⧺ y; below = b }) outcome
 
 whole_spot : (l : List Record) (u v : Forest) (c d : List Forest) (js : List Record) → js ≡ [] → u ≡ v → c ≡ d →
     ◌≡◌ {A = Spot} (record { rest = js ++ l; forest = u; below = c }) (record { rest = l; forest = v; below = d })
@@ -67,11 +59,17 @@ ends_of us q is r rs w =
       none_open = and_left (no_more q.owns) _ i2;
     }
 
-pub whole : (t : Table) (g : List (List Place)) (l : List Record) (us : List Forest) (y f : Forest) (b : List Forest)
-    (k : Outcome → Verdict) (a : Script Rule) (ks : List Record) → Sees g l →
-    Comes t l us y f b (λ v q. both (k v) (ends_whole t g q)) a (record { rest = ks ++ l; forest = f; below = b }) →
-    Whole k a ks y l f b
-whole t g l us y f b k a ks s x =
+-- a script reads these tokens as this tree, with such an outcome, from where it is
+pub record WholeFrom (k : Outcome → Verdict) (a : Script Rule) (p : Spot) (y : Forest) (l : List Record) (f : Forest)
+    (b : List Forest) : Type 0 where
+  pub outcome : Outcome
+  pub so : k outcome ≡ accepted
+  pub run : Runs script_of a p (record { rest = l; forest = f ⧺ y; below = b }) outcome
+
+pub whole_from : (t : Table) (g : List (List Place)) (l : List Record) (us : List Forest) (y f : Forest)
+    (b : List Forest) (k : Outcome → Verdict) (a : Script Rule) (p : Spot) → Sees g l →
+    Comes t l us y f b (λ v q. both (k v) (ends_whole t g q)) a p → WholeFrom k a p y l f b
+whole_from t g l us y f b k a p s x =
     let q = x.place in
     let z =
     exposed_at t g l us y s q x.tokens (λ is r rs. is_whole (with_row q is r rs)) x.stands
@@ -89,67 +87,23 @@ whole t g l us y f b k a ks s x =
       outcome = x.outcome;
       so = both_left (k x.outcome) (ends_whole t g q) x.so;
       run =
-          subst (λ (p : Spot). Runs script_of a (record { rest = ks ++ l; forest = f; below = b }) p x.outcome)
+          subst (λ (z : Spot). Runs script_of a p z x.outcome)
           (whole_spot l (value f us q.own) (f ⧺ y) (values f us b q.owns) b x.tokens n.tokens tree_here
           (no_values f us b q.owns end.none_open)) x.run;
     }
 
--- a script puts a node around the last one
-pub record Folded (k : Outcome → Verdict) (a : Script Rule) (ks l : List Record) (x y : Forest) (b : List Forest) :
-    Type 0 where
+-- the same from before its tokens
+pub record Whole (k : Outcome → Verdict) (a : Script Rule) (ks : List Record) (y : Forest) (l : List Record) (f : Forest)
+    (b : List Forest) : Type 0 where
   pub outcome : Outcome
   pub so : k outcome ≡ accepted
-  pub run : Runs script_of a (record { rest = ks ++ l; forest = x; below = b })
-      (record { rest = l; forest = y; below = b }) outcome
+  pub run : Runs script_of a (record { rest = ks ++ l; forest = f; below = b })
+      (record { rest = l; forest = f ⧺ y; below = b }) outcome
 
-record FoldEnds (kind : ℕ) (q : At) (row : Built) : Type 0 where
-  on : goes_on_from row ≡ true
-  own_is : q.own ≡ over base kind (on_base (any_node empty kind) row)
-  none_open : no_more q.owns ≡ true
-
-fold_ends_of : (kind : ℕ) (q : At) (is : Items) (r : Built) (rs : List Built) →
-    is_folded kind (with_row q is r rs) ≡ accepted → FoldEnds kind q r
-fold_ends_of kind q is r rs w =
-    let made = over base kind (on_base (any_node empty kind) r) in
-    let i = check_so (no_more rs && (no_more q.owns && (goes_on_from r && same q.own made))) _
-    (both_right (check (is_nil is) (left_over is)) _ w) in
-    let i2 = and_right (no_more rs) _ i in
-    let i3 = and_right (no_more q.owns) _ i2 in
-    record {
-      on = and_left (goes_on_from r) _ i3;
-      own_is = same_built q.own made (and_right (goes_on_from r) _ i3);
-      none_open = and_left (no_more q.owns) _ i2;
-    }
-
-pub fold_turn : (t : Table) (g : List (List Place)) (l : List Record) (us : List Forest) (w f : Forest)
-    (b : List Forest) (k : Outcome → Verdict) (kind : ℕ) (c : Forest) (a : Script Rule) (ks : List Record) → Sees g l →
-    Comes t l (c ∷ us) w f b (λ v q. both (k v) (expose t g q (λ r. is_folded kind r))) a
-    (record { rest = ks ++ l; forest = node f kind (none ⧺ c); below = b }) →
-    Folded k a ks l (node f kind c) (node f kind (node none kind c ⧺ w)) b
-fold_turn t g l us w f b k kind c a ks s x =
-    let e = c ∷ us in
-    let q = x.place in
-    let z =
-    exposed_at t g l e w s q x.tokens (λ is r rs. is_folded kind (with_row q is r rs)) x.stands
-    (both_right (k x.outcome) (expose t g q (λ r. is_folded kind r)) x.so)
-    in
-    let n =
-    all_made z.items (check_so (is_nil z.items) (left_over z.items) (both_left _ _ z.so)) z.made
-    in
-    let end = fold_ends_of kind q z.items z.row z.rows z.so in
-    let on = on_base-value f e (any_node empty kind) z.row end.on in
-    let here : value f e q.own ≡ node f kind (node none kind (none ⧺ c) ⧺ w) =
-    ap (λ (r : Built). value f e r) end.own_is ∙
-    ap (λ (u : Forest). node f kind u) (on ∙ ap (λ (u : Forest). node none kind (none ⧺ c) ⧺ u) (sym n.tree_is))
-    in
-    record {
-      outcome = x.outcome;
-      so = both_left (k x.outcome) (expose t g q (λ r. is_folded kind r)) x.so;
-      run =
-          subst
-          (λ (d : Forest). Runs script_of a (record { rest = ks ++ l; forest = node f kind d; below = b })
-          (record { rest = l; forest = node f kind (node none kind d ⧺ w); below = b }) x.outcome) (none-⧺ c)
-          (subst (λ (p : Spot). Runs script_of a (record { rest = ks ++ l; forest = node f kind (none ⧺ c); below = b }) p x.outcome)
-          (whole_spot l (value f e q.own) (node f kind (node none kind (none ⧺ c) ⧺ w)) (values f e b q.owns) b x.tokens
-          n.tokens here (no_values f e b q.owns end.none_open)) x.run);
-    }
+pub whole : (t : Table) (g : List (List Place)) (l : List Record) (us : List Forest) (y f : Forest) (b : List Forest)
+    (k : Outcome → Verdict) (a : Script Rule) (ks : List Record) → Sees g l →
+    Comes t l us y f b (λ v q. both (k v) (ends_whole t g q)) a (record { rest = ks ++ l; forest = f; below = b }) →
+    Whole k a ks y l f b
+whole t g l us y f b k a ks s x =
+    let z = whole_from t g l us y f b k a (record { rest = ks ++ l; forest = f; below = b }) s x in
+    record { outcome = z.outcome; so = z.so; run = z.run }

@@ -6,7 +6,7 @@ use Rattle.rap_grammar_scripts.specs.Script.{Outcome}
 use Rattle.rap_grammar_scripts.specs.Test.{Test}
 use Rattle.rap_grammar_table.specs.Built.{Built}
 use Rattle.rap_grammar_table.specs.Refusal.{Word, Refusal, stopped, left_over, unequal, ends_as, goes_on_as, too_deep, where_so, in_turn, after_turns, in_part, Verdict, accepted, refused}
-use Rattle.rap_grammar_table.specs.Table.{Piece, Items, nil, begin, close, piece, choice, repeat, turns_of, group, folds, folding, unless}
+use Rattle.rap_grammar_table.specs.Table.{Piece, Items, nil, begin, close, piece, choice, repeat, turns_of, group, folds, folding, way, unless}
 
 -- the pieces that a row may have next
 abbrev pub next_pieces : Items → List Piece
@@ -18,8 +18,9 @@ next_pieces (choice a b is) = next_pieces a ++ next_pieces b ++ next_pieces is
 next_pieces (repeat a z is) = next_pieces a ++ next_pieces z ++ next_pieces is
 next_pieces (turns_of a z) = next_pieces a ++ next_pieces z
 next_pieces (group a is) = next_pieces a ++ next_pieces is
-next_pieces (folds k a is) = next_pieces a ++ next_pieces is
-next_pieces (folding k a) = next_pieces a
+next_pieces (folds n ws is) = next_pieces ws ++ next_pieces is
+next_pieces (folding n ws) = next_pieces ws
+next_pieces (way i a j ws) = next_pieces a ++ next_pieces ws
 next_pieces (unless h w is) = next_pieces is
 
 -- The script has this word next, and the row may have these pieces. These are left of the row. The row has built this

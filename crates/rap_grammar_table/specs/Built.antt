@@ -1,5 +1,6 @@
 -- The forests that a row and a script build over the same pieces.
 use Rattle.std.specs.Prelude.{ℕ, suc, Bool, true, false, ◌&&◌, ◌==◌, List, [], ◌∷◌}
+use Rattle.rap_grammar_table.specs.Known.{among}
 use Rattle.rap_grammar_table.specs.Narrow.{Fact}
 use Rattle.rap_grammar_table.specs.Table.{Items}
 
@@ -45,21 +46,11 @@ under empty = empty
 under (over a k c) = a
 under (tree a n) = a
 
--- what is built over another base
-abbrev pub on_base : Built → Built → Built
-on_base a base = a
-on_base a empty = empty
-on_base a (over b k c) = over (on_base a b) k c
-on_base a (tree b n) = tree (on_base a b) n
-
--- a node with any children, the first of the trees
-abbrev pub any_node : Built → ℕ → Built
-any_node a kind = over a kind (tree empty 0)
-
--- the last nodes are the same, of this kind
-abbrev pub last_same : ℕ → Built → Built → Bool
-last_same kind (over a k c) (over b j d) = (k == kind) && ((j == kind) && (same c d && is_own c))
-last_same kind x y = false
+-- The last trees are the same node: one of this kind, or the tree of a piece whose number is among these.
+abbrev pub last_same : List ℕ → Built → Built → Bool
+last_same ns (over a k c) (over b j d) = (k == j) && (same c d && is_own c)
+last_same ns (tree a i) (tree b j) = (i == j) && among ns i
+last_same ns x y = false
 
 abbrev pub no_more : List Built → Bool
 no_more [] = true
@@ -121,17 +112,17 @@ abbrev pub at_start : Items → At
 at_start is =
     record { items = is; row = base; rows = []; own = base; owns = []; count = 0; nodes = []; facts = [] }
 
--- before the first turn of those that are put around a node of any children
-abbrev pub fold_start : ℕ → Items → At
-fold_start kind is =
+-- behind a node, before a turn that puts one around it
+abbrev pub fold_start : Items → At
+fold_start is =
     record {
       items = is;
-      row = base;
-      rows = [];
-      own = any_node base kind;
+      row = tree empty 0;
+      rows = base ∷ [];
+      own = tree base 0;
       owns = [];
       count = 1;
-      nodes = [];
+      nodes = 0 ∷ [];
       facts = [];
     }
 

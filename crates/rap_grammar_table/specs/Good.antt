@@ -9,7 +9,7 @@ use Rattle.rap_grammar_scripts.specs.Script.{Outcome, Runs, Script}
 use Rattle.rap_grammar_scripts.specs.Test.{Test, holds}
 use Rattle.rap_grammar_scripts.specs.declared.rule.Rule.{Rule}
 use Rattle.rap_grammar_table.specs.Known.{Place, among, within, Sees}
-use Rattle.rap_grammar_table.specs.Table.{Table, Piece, tok, word, comp, cat, Items, nil, begin, close, piece, choice, repeat, turns_of, group, folds, folding, unless, appended, Touching}
+use Rattle.rap_grammar_table.specs.Table.{Table, Piece, tok, word, comp, cat, Items, nil, begin, close, piece, choice, repeat, turns_of, group, folds, folding, way, unless, appended, HasWay, Touching}
 use Rattle.rap_grammar_table.specs.Refusal.{accepted}
 use Rattle.rap_grammar_table.specs.Walk.{reads_rows}
 use Rattle.rap_grammar_table.specs.Ways.{some_outcome, has_outcome}
@@ -30,10 +30,10 @@ pub record ReadsBy (a : Script Rule) (vs : List Outcome) (ks : List Record) (u :
   pub run : Runs script_of a (record { rest = ks ++ l; forest = f; below = b })
       (record { rest = l; forest = f ⧺ u; below = b }) outcome
 
--- so does each script that reads all rows of the category
+-- so does each script that reads all rows of the category, however deep categories nest in it
 abbrev pub ByRows : Table → ℕ → List Record → Forest → List Record → Type 0
 ByRows t c ks u l =
-    (a : Script Rule) (vs : List Outcome) (f : Forest) (b : List Forest) → reads_rows t c a vs ≡ accepted →
+    (n : ℕ) (a : Script Rule) (vs : List Outcome) (f : Forest) (b : List Forest) → reads_rows n t c a vs ≡ accepted →
     ReadsBy a vs ks u l f b
 
 -- a forest is one node
@@ -80,12 +80,13 @@ pub data Made (t : Table) :
   made_group : {l : List Record} {a is : Items} {x y u : Forest} {xs us vs : List Forest} {ks js : List Record} →
       Made t (js ++ l) a none [] vs ks u → Made t l is (x ⧺ u) xs us js y →
       Made t l (group a is) x xs (u ∷ us) (ks ++ js) y
-  made_folded_none : {l : List Record} {k : ℕ} {a : Items} {x : Forest} → Made t l (folding k a) x [] [] [] x
-  made_folded_more : {l : List Record} {k : ℕ} {a : Items} {x u w : Forest} {vs : List Forest} {ks js : List Record} →
-      Made t (js ++ l) a none [] vs ks w → Made t l (folding k a) (node none k (x ⧺ w)) [] [] js u →
-      Made t l (folding k a) x [] [] (ks ++ js) u
-  made_folds : {l : List Record} {k j : ℕ} {a is : Items} {c x y u : Forest} {xs us : List Forest} {ks js : List Record} →
-      Made t (js ++ l) (folding k a) (node none j c) [] [] ks u → Made t l is (x ⧺ u) xs us js y →
-      Made t l (folds k a is) (node x j c) xs (u ∷ us) (ks ++ js) y
+  made_folded_none : {l : List Record} {n : ℕ} {ws : Items} {x : Forest} → Made t l (folding n ws) x [] [] [] x
+  made_folded_more : {l : List Record} {is : List ℕ} {n m k : ℕ} {ws a : Items} {x c u : Forest} {vs : List Forest}
+      {ks js : List Record} → HasWay ws is a m → among is n ≡ true →
+      Made t (js ++ l) a x (none ∷ []) vs ks (node none k c) →
+      Made t l (folding m ws) (node none k c) [] [] js u → Made t l (folding n ws) x [] [] (ks ++ js) u
+  made_folds : {l : List Record} {n j : ℕ} {ws is : Items} {c x y u : Forest} {xs us : List Forest} {ks js : List Record} →
+      Made t (js ++ l) (folding n ws) (node none j c) [] [] ks u → Made t l is (x ⧺ u) xs us js y →
+      Made t l (folds n ws is) (node x j c) xs (u ∷ us) (ks ++ js) y
   made_guarded : {l : List Record} {h : Test} {w : List (List Place)} {is : Items} {ks : List Record} {x y : Forest} {xs us : List Forest} →
       holds h (ks ++ l) ≡ false → Made t l is x xs us ks y → Made t l (unless h w is) x xs us ks y

@@ -1,9 +1,10 @@
 -- What is known of the tokens that come next, and what it says of a test.
-use Rattle.std.specs.Prelude.{◌≡◌, ℕ, zero, suc, Bool, true, false, ◌&&◌, ◌||◌, ◌==◌, not, List, [], ◌∷◌, drop, Option, Some, None}
+use Rattle.std.specs.Prelude.{◌≡◌, ℕ, zero, suc, Bool, true, false, ◌&&◌, ◌||◌, ◌==◌, not, List, [], ◌∷◌, ◌++◌, drop, Option, Some, None}
 use Rattle.rap_base.specs.Keyword.{is_keyword}
 use Rattle.rap_base.specs.TokenKind.{EOF, IDENT}
 use Rattle.rap_base.specs.declared.edition.Edition.TheVariants.{Edition2024}
 use Rattle.rap_events.specs.Composite.{parts}
+use Rattle.rap_events.specs.OperatorTable.{operators}
 use Rattle.rap_events.specs.Record.{Record, kind_at, contextual_at, joint_at}
 use Rattle.rap_grammar_scripts.specs.Test.{Test, kind_so, word_so, edition_so, comes, borne, negated, also, or_else, told, operator_so}
 
@@ -136,6 +137,37 @@ or_then sure f = sure
 or_then never f = f tt
 or_then unclear f = or_so unclear (f tt)
 
+-- The operators that may come next: by the first token, those that it begins, up to the first that surely comes.
+abbrev pub and_more : Answer → ℕ → (Unit {0} → List ℕ) → List ℕ
+and_more sure op f = op ∷ []
+and_more never op f = f tt
+and_more unclear op f = op ∷ f tt
+
+abbrev pub goes_so : List ℕ → List Place → Answer
+goes_so [] ps = sure
+goes_so (k ∷ ks) ps = and_so (place_at 0 ps).joint (begin_so (k ∷ ks) (drop 1 ps))
+
+abbrev pub operators_begun : List (ℕ × ℕ × List ℕ) → List Place → List ℕ
+operators_begun [] ps = EOF ∷ []
+operators_begun (op ∷ ops) ps = and_more (goes_so op.2 ps) op.0 (λ u. operators_begun ops ps)
+
+abbrev pub by_row_so : Bool → (Unit {0} → List ℕ) → (Unit {0} → List ℕ) → List ℕ
+by_row_so true f g = f tt
+by_row_so false f g = g tt
+
+abbrev pub operators_at : List (ℕ × List (ℕ × ℕ × List ℕ)) → ℕ → List Place → List ℕ
+operators_at [] kind ps = EOF ∷ []
+operators_at (row ∷ rows) kind ps =
+    by_row_so (row.0 == kind) (λ u. operators_begun row.1 ps) (λ u. operators_at rows kind ps)
+
+abbrev pub operators_of : List (ℕ × List (ℕ × ℕ × List ℕ)) → List ℕ → List Place → List ℕ
+operators_of rows [] ps = []
+operators_of rows (k ∷ ks) ps = operators_at rows k ps ++ operators_of rows ks ps
+
+abbrev pub operators_known : Option (List ℕ) → List Place → Option (List ℕ)
+operators_known None ps = None
+operators_known (Some ks) ps = Some (operators_of operators ks ps)
+
 -- what is known of a test
 abbrev pub evaluate : Test → List Place → Answer
 evaluate (kind_so n f) ps = decided f (place_at n ps).kinds
@@ -147,7 +179,7 @@ evaluate (negated t) ps = not_so (evaluate t ps)
 evaluate (also s t) ps = and_then (evaluate s ps) (λ u. evaluate t ps)
 evaluate (or_else s t) ps = or_then (evaluate s ps) (λ u. evaluate t ps)
 evaluate (told b) ps = of_truth b
-evaluate (operator_so f) ps = unclear
+evaluate (operator_so f) ps = decided f (operators_known (place_at 0 ps).kinds ps)
 
 abbrev pub either_so : Answer → Answer → Answer
 either_so sure sure = sure

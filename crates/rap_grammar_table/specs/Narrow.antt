@@ -1,9 +1,10 @@
 -- What the answer to a test says of the tokens that come next.
-use Rattle.std.specs.Prelude.{◌≡◌, ℕ, zero, suc, Bool, true, false, not, List, [], ◌∷◌, ◌++◌, Option, Some, None}
+use Rattle.std.specs.Prelude.{◌≡◌, ℕ, zero, suc, Bool, true, false, ◌==◌, not, List, [], ◌∷◌, ◌++◌, Option, Some, None}
+use Rattle.rap_base.specs.TokenKind.{EOF}
 use Rattle.rap_events.specs.Composite.{parts}
 use Rattle.rap_events.specs.Record.{Record}
 use Rattle.rap_grammar_scripts.specs.Test.{Test, kind_so, word_so, edition_so, comes, borne, negated, also, or_else, told, operator_so, holds}
-use Rattle.rap_grammar_table.specs.Known.{Answer, sure, never, Place, behind, evaluate, is_kind, of_truth}
+use Rattle.rap_grammar_table.specs.Known.{Answer, sure, never, unclear, Place, behind, evaluate, is_kind, of_truth}
 
 -- those of which this holds
 abbrev pub kept : Bool → ℕ → List ℕ → List ℕ
@@ -54,10 +55,33 @@ unless_known true never p = []
 unless_known false sure p = []
 unless_known b a p = p ∷ []
 
+-- a token that does not touch the next one, and where it does none
+abbrev pub apart_from : Answer → Place → List Place → List (List Place)
+apart_from sure p ps = []
+apart_from never p ps = (p ∷ ps) ∷ []
+apart_from unclear p ps = (record { kinds = p.kinds; words = p.words; joint = never } ∷ ps) ∷ []
+
+abbrev pub by_apart : ℕ → List Place → List (List Place)
+by_apart n [] = [] ∷ []
+by_apart zero (p ∷ ps) = apart_from p.joint p ps
+by_apart (suc n) (p ∷ ps) = behind p (by_apart n ps)
+
+-- Two tokens that do not come so: the first is another, or does not touch the second, or that is another.
+abbrev pub by_two : Bool → ℕ → ℕ → ℕ → Answer → List Place → List (List Place)
+by_two true j i n unclear p =
+    by_kind n (answering false (is_kind j)) p ++ (by_apart n p ++ by_kind (suc n) (answering false (is_kind i)) p)
+by_two b j i n a p = unless_known false a p
+
+abbrev pub by_no_tokens : ℕ → List ℕ → ℕ → Answer → List Place → List (List Place)
+by_no_tokens j [] n a p = unless_known false a p
+by_no_tokens j (i ∷ []) n a p = by_two (not (i == EOF)) j i n a p
+by_no_tokens j (i ∷ m ∷ ms) n a p = unless_known false a p
+
 -- tokens of this kind come next, or not: one token's kind is known then
 abbrev pub by_tokens : List ℕ → ℕ → ℕ → Bool → Answer → List Place → List (List Place)
 by_tokens [] n k b a p = by_kind n (answering b (is_kind k)) p
-by_tokens (j ∷ js) n k b a p = unless_known b a p
+by_tokens (j ∷ js) n k true a p = unless_known true a p
+by_tokens (j ∷ js) n k false a p = by_no_tokens j js n a p
 
 -- the ways of each way
 abbrev pub each : (List Place → List (List Place)) → List (List Place) → List (List Place)
@@ -77,7 +101,7 @@ narrowed (also s t) false p = narrowed s false p ++ each (λ q. narrowed t false
 narrowed (or_else s t) true p = narrowed s true p ++ each (λ q. narrowed t true q) (narrowed s false p)
 narrowed (or_else s t) false p = each (λ q. narrowed t false q) (narrowed s false p)
 narrowed (told c) b p = unless_known b (of_truth c) p
-narrowed (operator_so f) b p = p ∷ []
+narrowed (operator_so f) b p = unless_known b (evaluate (operator_so f) p) p
 
 -- a test of the tokens that come next, and its answer
 pub record Fact : Type 0 where
@@ -113,4 +137,4 @@ looks_on (negated t) = looks_on t
 looks_on (also s t) = either_is (looks_on s) (looks_on t)
 looks_on (or_else s t) = either_is (looks_on s) (looks_on t)
 looks_on (told b) = false
-looks_on (operator_so f) = false
+looks_on (operator_so f) = true

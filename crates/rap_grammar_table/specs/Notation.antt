@@ -7,7 +7,8 @@ use Rattle.rap_grammar_scripts.specs.Test.{Test}
 use Rattle.rap_grammar_scripts.specs.declared.rule.Rule.{Rule}
 use Rattle.rap_grammar_table.specs.Look.{anything}
 use Rattle.rap_grammar_table.specs.Known.{Place, unclear, sure, behind}
-use Rattle.rap_grammar_table.specs.Table.{tok, word, comp, cat, Items, nil, begin, close, piece, choice, repeat, group, folds, unless, Table}
+use Rattle.rap_grammar_table.specs.Table.{tok, word, comp, cat, Items, nil, begin, close, piece, choice, repeat, group, folds, way, unless, Table}
+use Rattle.rap_grammar_table.specs.Walk.{outcome_guesses}
 
 -- a part of a row, before the rest of it
 abbrev pub Part : Type 0
@@ -74,9 +75,17 @@ until a z r = repeat (a nil) (z nil) r
 abbrev pub alone : Part → Part
 alone a r = group (a nil) r
 
--- nodes around the last one, each with one more such part
+-- nodes of this kind around the last one, each with one more such part
 abbrev pub fold : ℕ → Part → Part
-fold kind a r = folds kind (a nil) r
+fold kind a r = folds 0 (way (0 ∷ []) (a (close kind nil)) 0 nil) r
+
+-- A turn that puts a node around the last one: the numbers for which it is there, its kind, what stands in it behind the
+-- last one, and the next number. And such turns, from this number on.
+abbrev pub turn : List ℕ → ℕ → Part → ℕ → Part
+turn from kind a next ws = way from (a (close kind nil)) next ws
+
+abbrev pub around : ℕ → Part → Part
+around n ws r = folds n (ws nil) r
 
 -- Of the tokens that come next, in the row and behind it, this test does not hold: whatever follows the row, or where it
 -- is followed in one of these ways.
@@ -115,17 +124,19 @@ abbrev pub touching : ℕ → Place
 touching kind = record { kinds = Some (kind ∷ []); words = None; joint = sure }
 
 -- What a table says of a category: its rows, what its tokens begin with, what may follow it, whether its tree is one
--- node, whether it has its rows alone, and the outcomes with which a rule reads it.
+-- node, whether it has its rows alone, the outcomes of a script that reads it then, and those with which a rule reads it.
 pub record Entry : Type 0 where
   pub rows : List Items
   pub firsts : List (List Place)
   pub follows : List (List Place)
   pub is_node : Bool
   pub by_rows : Bool
+  pub ends : List (List Outcome)
   pub read_by : Rule → List Outcome
 
 abbrev pub no_entry : Entry
-no_entry = record { rows = []; firsts = []; follows = []; is_node = false; by_rows = false; read_by = λ r. [] }
+no_entry =
+    record { rows = []; firsts = []; follows = []; is_node = false; by_rows = false; ends = []; read_by = λ r. [] }
 
 abbrev pub entry_at : ℕ → List Entry → Entry
 entry_at n [] = no_entry
@@ -140,6 +151,7 @@ table_of es =
       follows = λ c. (entry_at c es).follows;
       is_node = λ c. (entry_at c es).is_node;
       by_rows = λ c. (entry_at c es).by_rows;
+      ends = λ c. (entry_at c es).ends;
       reads = λ r c. (entry_at c es).read_by r;
     }
 
@@ -152,6 +164,7 @@ text rows firsts follows =
       follows = follows;
       is_node = true;
       by_rows = true;
+      ends = outcome_guesses;
       read_by = λ r. [];
     }
 
@@ -163,6 +176,7 @@ read_text read_by rows firsts follows =
       follows = follows;
       is_node = true;
       by_rows = true;
+      ends = outcome_guesses;
       read_by = read_by;
     }
 

@@ -11,6 +11,7 @@ use Rattle.rap_grammar_table.specs.Categories.{Pattern, SinglePattern, PatternPa
 use Rattle.rap_grammar_table.specs.Known.{Place, behind}
 use Rattle.rap_grammar_table.specs.Notation.{Part, ◌⊳◌, t, ts, names, op, c, node, opt, either, many, commas, alone, guard, Entry, text, read_text, rows_of, of_kinds, of_names, touching, colons}
 use Rattle.rap_grammar_table.specs.TypeRows.{expr_path_rows}
+use Rattle.rap_grammar_table.specs.Walk.{outcome_guesses}
 
 -- what may follow a pattern: a `:` is that of a type
 abbrev pub type_colon : List Place
@@ -109,6 +110,7 @@ pattern_entry =
       follows = (of_kinds pattern_ends ∷ []) ∷ type_colon ∷ [];
       is_node = false;
       by_rows = true;
+      ends = outcome_guesses;
       read_by = pattern_read_by;
     }
 

@@ -111,7 +111,7 @@ tells_at w (close k is) = tells_at w is
 tells_at w (unless h v is) = tells_at w is
 tells_at w (repeat a z is) = false
 tells_at w (group a is) = false
-tells_at w (folds k a is) = false
+tells_at w (folds n a is) = false
 tells_at w (piece (cat c) is) = is_call w
 tells_at w is = true
 

@@ -25,6 +25,7 @@ expr_entry =
       follows = (of_kinds (SEMICOLON ∷ COMMA ∷ R_PAREN ∷ R_BRACK ∷ R_CURLY ∷ WHERE_KW ∷ EOF ∷ []) ∷ []) ∷ [];
       is_node = false;
       by_rows = false;
+      ends = [];
       read_by = expr_read_by;
     }
 
@@ -44,6 +45,7 @@ stmt_entry =
       follows = (of_kinds (R_CURLY ∷ stmt_kinds) ∷ []) ∷ [];
       is_node = false;
       by_rows = false;
+      ends = [];
       read_by = stmt_read_by;
     }
 

@@ -19,8 +19,10 @@ pub data Piece : Type 0 where
 
 -- A row: a node begins, it ends under a kind, a piece, one of two ways, or any number of turns and then what stands
 -- last; and on. Or turns alone. A part may be marked as one that a script reads alone. Around the last node any number
--- of nodes may be put, each with one more turn after what it is put around; or such turns alone. Or of the tokens that
--- come next a test does not hold, where the row is followed in one of these ways.
+-- of nodes may be put, each by a turn that begins behind the node that it is put around and ends the new one. Which
+-- turns may come is told by a number: a turn is there for some numbers, and tells the next one. Or
+-- such turns alone, and each of them. Or of the tokens that come next a test does not hold, where the row is followed
+-- in one of these ways.
 pub data Items : Type 0 where
   nil : Items
   begin : Items → Items
@@ -32,6 +34,7 @@ pub data Items : Type 0 where
   group : Items → Items → Items
   folds : ℕ → Items → Items → Items
   folding : ℕ → Items → Items
+  way : List ℕ → Items → ℕ → Items → Items
   unless : Test → List (List Place) → Items → Items
 
 abbrev pub appended : Items → Items → Items
@@ -43,25 +46,33 @@ appended (choice x y a) b = choice x y (appended a b)
 appended (repeat x y a) b = repeat x y (appended a b)
 appended (turns_of x y) b = repeat x y b
 appended (group x a) b = group x (appended a b)
-appended (folds k x a) b = folds k x (appended a b)
-appended (folding k x) b = folds k x b
+appended (folds n x a) b = folds n x (appended a b)
+appended (folding n x) b = folds n x b
+appended (way j x m a) b = way j x m (appended a b)
 appended (unless h w a) b = unless h w (appended a b)
 
 -- The rows of each category; what its tokens begin with; what may follow it; whether its tree is always one node;
--- whether it has its rows alone, and nothing beside the table, so that a script that no rule names may read it; and the
--- outcomes with which a rule reads it, none where it does not.
+-- whether it has its rows alone, and nothing beside the table, so that a script that no rule names may read it, and the
+-- outcomes with which such a script does, to be tried in turn; and those with which a rule reads it, none where it
+-- does not.
 pub record Table : Type 0 where
   pub rows : ℕ → List Items
   pub firsts : ℕ → List (List Place)
   pub follows : ℕ → List (List Place)
   pub is_node : ℕ → Bool
   pub by_rows : ℕ → Bool
+  pub ends : ℕ → List (List Outcome)
   pub reads : Rule → ℕ → List Outcome
 
 abbrev pub row_at : ℕ → List Items → Option Items
 row_at n [] = None
 row_at zero (r ∷ rs) = Some r
 row_at (suc n) (r ∷ rs) = row_at n rs
+
+-- a turn of these, the numbers for which it is there, and the next number
+pub data HasWay : Items → List ℕ → Items → ℕ → Type 0 where
+  first_turn : {js : List ℕ} {m : ℕ} {a ws : Items} → HasWay (way js a m ws) js a m
+  other_turn : {is js : List ℕ} {m n : ℕ} {a b ws : Items} → HasWay ws js a m → HasWay (way is b n ws) js a m
 
 -- What is derived: a piece; or the rest of a row, after this forest in the newest open node and these in the older
 -- ones, whose pieces have these trees.
@@ -126,15 +137,15 @@ pub data Derives (t : Table) (given : Beside) :
   grouped : {a is : Items} {x y u : Forest} {xs us vs : List Forest} {ks js : List Record} →
       Derives t given (rest_of a none [] vs) ks u → Derives t given (rest_of is (x ⧺ u) xs us) js y →
       Derives t given (rest_of (group a is) x xs (u ∷ us)) (ks ++ js) y
-  folded_none : {k : ℕ} {a : Items} {x : Forest} → Derives t given (rest_of (folding k a) x [] []) [] x
-  folded_more : {k : ℕ} {a : Items} {x u w : Forest} {vs : List Forest} {ks js : List Record} →
-      Derives t given (rest_of a none [] vs) ks w →
-      Derives t given (rest_of (folding k a) (node none k (x ⧺ w)) [] []) js u →
-      Derives t given (rest_of (folding k a) x [] []) (ks ++ js) u
-  folded : {k j : ℕ} {a is : Items} {c x y u : Forest} {xs us : List Forest} {ks js : List Record} →
-      Derives t given (rest_of (folding k a) (node none j c) [] []) ks u →
+  folded_none : {n : ℕ} {ws : Items} {x : Forest} → Derives t given (rest_of (folding n ws) x [] []) [] x
+  folded_more : {is : List ℕ} {n m k : ℕ} {ws a : Items} {x c u : Forest} {vs : List Forest} {ks js : List Record} →
+      HasWay ws is a m → among is n ≡ true → Derives t given (rest_of a x (none ∷ []) vs) ks (node none k c) →
+      Derives t given (rest_of (folding m ws) (node none k c) [] []) js u →
+      Derives t given (rest_of (folding n ws) x [] []) (ks ++ js) u
+  folded : {n j : ℕ} {ws is : Items} {c x y u : Forest} {xs us : List Forest} {ks js : List Record} →
+      Derives t given (rest_of (folding n ws) (node none j c) [] []) ks u →
       Derives t given (rest_of is (x ⧺ u) xs us) js y →
-      Derives t given (rest_of (folds k a is) (node x j c) xs (u ∷ us)) (ks ++ js) y
+      Derives t given (rest_of (folds n ws is) (node x j c) xs (u ∷ us)) (ks ++ js) y
   guarded : {h : Test} {w : List (List Place)} {is : Items} {ks : List Record} {x y : Forest} {xs us : List Forest} →
       ((l : List Record) → Sees w l → holds h (ks ++ l) ≡ false) → Derives t given (rest_of is x xs us) ks y →
       Derives t given (rest_of (unless h w is) x xs us) ks y

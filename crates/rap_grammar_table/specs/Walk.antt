@@ -2,13 +2,13 @@
 use Rattle.std.specs.Prelude.{ℕ, zero, suc, Bool, true, false, ◌&&◌, ◌||◌, List, [], ◌∷◌, ◌++◌}
 use Rattle.rap_grammar_scripts.specs.Script.{Script, Outcome, nothing, something, block, again, give, test, ends_with, token, any, bear, report, report_next, skip, start, precede, finish, extend, abandon, split_float, after, rule, loop}
 use Rattle.rap_grammar_scripts.specs.declared.rule.Rule.{Rule}
-use Rattle.rap_grammar_table.specs.Built.{base, empty, over, on_base, any_node, last_same, same, goes_on_from, no_more, At, with_own, at_start, fold_start, after_piece, after_fold}
+use Rattle.rap_grammar_table.specs.Built.{empty, last_same, At, with_own, at_start, fold_start, after_piece, after_fold}
 use Rattle.rap_grammar_table.specs.Known.{Place}
-use Rattle.rap_grammar_table.specs.Look.{look, anything}
+use Rattle.rap_grammar_table.specs.Look.{look, after_way, anything}
 use Rattle.rap_grammar_table.specs.Narrow.{either_is}
-use Rattle.rap_grammar_table.specs.Refusal.{word_of, stopped, left_over, unequal, ends_as, goes_on_as, too_deep, in_turn, after_turns, in_part, takes, takes_any, bears, turns, Verdict, accepted, refused, both, check, provided, by_bool, or_else_so, told_with, or_earlier, or_later}
-use Rattle.rap_grammar_table.specs.Table.{Items, nil, begin, close, choice, repeat, group, folds, unless, Table, Piece, tok, word, comp, cat, piece}
-use Rattle.rap_grammar_table.specs.Ways.{expose, tested, front, is_token, is_some, is_bearer, read_rule, finish_own, abandon_own, precede_own, is_nil, ends_whole, ends_so, every_outcome, same_flag}
+use Rattle.rap_grammar_table.specs.Refusal.{word_of, stopped, ends_as, goes_on_as, too_deep, in_turn, after_turns, in_part, takes, takes_any, bears, turns, Verdict, accepted, refused, both, check, provided, by_bool, or_else_so, told_with, or_earlier, or_later}
+use Rattle.rap_grammar_table.specs.Table.{Items, nil, begin, close, choice, repeat, group, folds, way, unless, Table, Piece, tok, word, comp, cat, piece}
+use Rattle.rap_grammar_table.specs.Ways.{expose, tested, front, is_token, is_some, is_bearer, read_rule, finish_own, extend_own, abandon_own, precede_own, ends_whole, ends_so, every_outcome, same_flag}
 
 -- a turn that goes on, or the last one
 abbrev pub next_turn : Outcome → At → (Bool → Bool → At → Verdict) → (Outcome → At → Verdict) → Verdict
@@ -23,7 +23,7 @@ most_turns = 12
 -- whether turns come first, and whether they may come next in the row
 abbrev pub is_repeat : Items → Bool
 is_repeat (repeat a z is) = true
-is_repeat (folds j a is) = true
+is_repeat (folds n ws is) = true
 is_repeat is = false
 
 abbrev pub at_repeat : Items → Bool
@@ -32,7 +32,7 @@ at_repeat (close kind is) = at_repeat is
 at_repeat (unless h w is) = at_repeat is
 at_repeat (choice a b is) = either_is (at_repeat a) (either_is (at_repeat b) (at_repeat is))
 at_repeat (repeat a z is) = true
-at_repeat (folds j a is) = true
+at_repeat (folds n ws is) = true
 at_repeat is = false
 
 abbrev pub Turn : Type 0
@@ -51,13 +51,14 @@ one_turn f g a b s k = f a b s (λ v q. next_turn v q g k)
 abbrev pub turns_first : Turn → (Unit {0} → Verdict) → Bool → Bool → At → (Outcome → At → Verdict) → Verdict
 turns_first g one a b s k = by_bool (is_repeat s.items) (λ u. g a b s k) one
 
--- at most so many turns; where the row has turns too, all of them at once
-abbrev pub turning : Table → List (List Place) → ℕ → Turn → Turn → Turn
+-- At most so many turns; where the row has turns too, all of them at once, after which the loop may go on.
+abbrev pub turning : Table → List (List Place) → ℕ → Turn → (Turn → Turn) → Turn
 turning t e zero f g a b s k = refused too_deep
 turning t e (suc n) f g a b s k =
     first_try (at_repeat s.items)
     (λ u. expose t e s
-    (λ q. turns_first g (λ u. one_turn f (λ c d r. turning t e n f g c d r k) a b q k) a b q k))
+    (λ q. turns_first (g (λ c d r m. turning t e n f g c d r m))
+    (λ u. one_turn f (λ c d r. turning t e n f g c d r k) a b q k) a b q k))
     (λ u. one_turn f (λ c d r. turning t e n f g c d r k) a b s k)
 
 abbrev pub Flags : Type 0
@@ -84,8 +85,8 @@ turn_ends t g xs v q = both (check (goes_on_in xs v) (goes_on_as v)) (ends_whole
 abbrev pub turn_so : Table → List (List Place) → Turn → Items → List Flags → Verdict
 turn_so t g f a xs = every_flags (λ c d. told_with (in_turn c d) (f c d (at_start a) (turn_ends t g xs))) xs
 
-abbrev pub no_turns : Turn
-no_turns a b s k = refused (stopped turns s.items)
+abbrev pub no_turns : Turn → Turn
+no_turns on a b s k = refused (stopped turns s.items)
 
 -- which flags the turns have, of some guesses
 abbrev pub first_so : (List Flags → Verdict) → List (List Flags) → (List Flags → Verdict) → Verdict
@@ -97,25 +98,18 @@ guesses a b =
     ((a, b) ∷ [])
     ∷ ((a, b) ∷ (true, b) ∷ [])
     ∷ ((a, b) ∷ (false, b) ∷ [])
+    ∷ ((a, b) ∷ (true, false) ∷ [])
     ∷ ((a, b) ∷ (true, true) ∷ [])
     ∷ ((a, b) ∷ (true, true) ∷ (true, false) ∷ (false, true) ∷ (false, false) ∷ [])
     ∷ []
 
--- a turn that is put around a node ends with one node more around it
-abbrev pub is_folded : ℕ → At → Verdict
-is_folded kind q =
-    both (check (is_nil q.items) (left_over q.items))
-    (check (no_more q.rows && (no_more q.owns && (goes_on_from q.row &&
-    same q.own (over base kind (on_base (any_node empty kind) q.row)))))
-    (unequal q.row q.rows q.own q.owns))
+-- each turn that puts a node around another, before what may follow it by the number that it tells
+abbrev pub fold_turn_so : Table → List (List Place) → Turn → Items → List Flags → Verdict
+fold_turn_so t g f a xs = every_flags (λ c d. told_with (in_turn c d) (f c d (fold_start a) (turn_ends t g xs))) xs
 
-abbrev pub fold_ends : Table → List (List Place) → ℕ → List Flags → Outcome → At → Verdict
-fold_ends t g kind xs v q =
-    both (check (goes_on_in xs v) (goes_on_as v)) (expose t g q (λ r. is_folded kind r))
-
-abbrev pub fold_turn_so : Table → List (List Place) → Turn → ℕ → Items → List Flags → Verdict
-fold_turn_so t g f kind a xs =
-    every_flags (λ c d. told_with (in_turn c d) (f c d (fold_start kind a) (fold_ends t g kind xs))) xs
+abbrev pub ways_so : Table → (ℕ → List (List Place)) → (List (List Place) → Turn) → List Flags → Items → Verdict
+ways_so t r f xs (way j a m ws) = both (fold_turn_so t (r m) (f (r m)) a xs) (ways_so t r f xs ws)
+ways_so t r f xs is = accepted
 
 -- what stands after the turns, with any of these flags, and then what comes with each outcome
 abbrev pub then_ends : Table → List (List Place) → (Outcome → Verdict) → Outcome → At → Verdict
@@ -126,21 +120,31 @@ last_so t g f z k xs =
     every_flags
     (λ c d. told_with (after_turns c d) (turning t g most_turns f no_turns c d (at_start z) (then_ends t g k))) xs
 
--- all turns of a row, and what stands last in them; `f` takes a turn of the loop, before what may follow it
-abbrev pub repeating : (List (List Place) → Turn) → Table → List (List Place) → Items → Turn
-repeating f t g (folds j x is) a b s k =
-    provided (last_same j s.row s.own) (stopped turns (folds j x is))
-    (λ u. first_so
-    (λ xs. both (check (flags_in xs a b) (goes_on_as (again a b)))
-    (fold_turn_so t (look t x anything ++ look t is g) (f (look t x anything ++ look t is g)) j x xs)) (guesses a b)
-    (λ xs. last_so t (look t is g) (f (look t is g)) nil (λ v. k v (after_fold s is)) xs))
-repeating f t g (repeat x z is) a b s k =
+-- the loop goes on after nodes that it has put around one
+abbrev pub goes_on_after : Turn → List Flags → At → (Outcome → At → Verdict) → Verdict
+goes_on_after on xs s k = every_flags (λ c d. told_with (after_turns c d) (on c d s k)) xs
+
+-- the turns that put nodes around one, and the loop goes on
+abbrev pub folds_so : (List (List Place) → Turn) → Table → List (List Place) → Turn → Bool → Bool → At → ℕ → Items →
+    Items → (Outcome → At → Verdict) → Verdict
+folds_so f t g on a b s n ws is k =
+    first_so
+    (λ xs. both (check (flags_in xs a b) (goes_on_as (again a b))) (ways_so t (after_way t ws (look t is g)) f xs ws))
+    (guesses a b) (λ xs. goes_on_after on xs (after_fold s is) k)
+
+-- All turns of a row, and what stands last in them; `f` takes a turn of the loop, before what may follow it, and `on`
+-- goes on with the loop.
+abbrev pub repeating : (List (List Place) → Turn) → Table → List (List Place) → Turn → Items → Turn
+repeating f t g on (folds n ws is) a b s k =
+    provided (last_same s.nodes s.row s.own) (stopped turns (folds n ws is))
+    (λ u. folds_so f t g on a b s n ws is k)
+repeating f t g on (repeat x z is) a b s k =
     first_so
     (λ xs. both (check (flags_in xs a b) (goes_on_as (again a b)))
     (turn_so t (look t x anything ++ look t z (look t is g)) (f (look t x anything ++ look t z (look t is g))) x xs))
     (guesses a b)
     (λ xs. last_so t (look t is g) (f (look t is g)) z (λ v. k v (after_piece s is false)) xs)
-repeating f t g is a b s k = refused (stopped turns is)
+repeating f t g on is a b s k = refused (stopped turns is)
 
 -- whether a part that is read alone comes next, or a category that is
 abbrev pub is_part : Table → Piece → Bool
@@ -178,73 +182,87 @@ all_accepted f [] = accepted
 all_accepted f (r ∷ rs) = both (f r) (all_accepted f rs)
 
 -- a part that a script reads alone, with some outcomes, and then what comes with each
-abbrev pub with_outcomes : (List Outcome → Verdict) → (Outcome → Verdict) → Verdict
-with_outcomes f k = first_outcomes f outcome_guesses (λ vs. every_outcome k vs)
+abbrev pub with_outcomes : (List Outcome → Verdict) → List (List Outcome) → (Outcome → Verdict) → Verdict
+with_outcomes f gs k = first_outcomes f gs (λ vs. every_outcome k vs)
 
 abbrev pub part_so : (List (List Place) → Walked) → Table → List (List Place) → List Outcome → Items → Verdict
 part_so w t g vs a = told_with in_part (w g (at_start a) (ends_so t g vs))
 
-abbrev pub category_part : (List (List Place) → Walked) → Table → List (List Place) → Piece → Items → Walked
-category_part w t g (cat c) is s k =
+-- what is said of a script that is to read the rows of a category with some outcomes
+abbrev pub Vouch : Type 0
+Vouch = ℕ → Script Rule → List Outcome → Verdict
+
+abbrev pub category_part : Vouch → Script Rule → (List (List Place) → Walked) → Table → List (List Place) → Piece → Items →
+    Walked
+category_part o a w t g (cat c) is s k =
     first_try (t.by_rows c)
-    (λ u. with_outcomes (λ vs. all_accepted (part_so w t (t.follows c) vs) (t.rows c))
-    (λ v. k v (after_piece s is (t.is_node c))))
+    (λ u. with_outcomes (o c a) (t.ends c) (λ v. k v (after_piece s is (t.is_node c))))
     (λ u. w g s k)
-category_part w t g (tok kinds words) is s k = w g s k
-category_part w t g (word j) is s k = w g s k
-category_part w t g (comp j) is s k = w g s k
+category_part o a w t g (tok kinds words) is s k = w g s k
+category_part o a w t g (word j) is s k = w g s k
+category_part o a w t g (comp j) is s k = w g s k
 
 -- what comes first is read as a category, or the script is walked on
-abbrev pub category_first : (List (List Place) → Walked) → Table → List (List Place) → Items → Walked
-category_first w t g (piece p is) s k = category_part w t g p is s k
-category_first w t g is s k = w g s k
+abbrev pub category_first : Vouch → Script Rule → (List (List Place) → Walked) → Table → List (List Place) → Items → Walked
+category_first o a w t g (piece p is) s k = category_part o a w t g p is s k
+category_first o a w t g is s k = w g s k
 
 -- a part that is marked, which may be a category itself
-abbrev pub group_so : (List (List Place) → Walked) → Table → List (List Place) → List Outcome → Items → Verdict
-group_so w t g vs a =
+abbrev pub group_so : Vouch → Script Rule → (List (List Place) → Walked) → Table → List (List Place) → Items →
+    List Outcome → Verdict
+group_so o c w t g a vs =
     told_with in_part
-    (first_try (at_part t a) (λ u. expose t g (at_start a) (λ q. category_first w t g q.items q (ends_so t g vs)))
+    (first_try (at_part t a) (λ u. expose t g (at_start a) (λ q. category_first o c w t g q.items q (ends_so t g vs)))
     (λ u. w g (at_start a) (ends_so t g vs)))
 
 -- what comes first is read as a part, or the script is walked on
-abbrev pub parting : (List (List Place) → Walked) → Table → List (List Place) → Items → Walked
-parting w t g (group a is) s k =
-    with_outcomes (λ vs. group_so w t (look t is g) vs a) (λ v. k v (after_piece s is false))
-parting w t g is s k = category_first w t g is s k
+abbrev pub parting : Vouch → Script Rule → (List (List Place) → Walked) → Table → List (List Place) → Items → Walked
+parting o c w t g (group a is) s k =
+    with_outcomes (group_so o c w t (look t is g) a) outcome_guesses (λ v. k v (after_piece s is false))
+parting o c w t g is s k = category_first o c w t g is s k
 
--- whether the script, along the rest of the row, ends as `k` says wherever it ends
-abbrev pub walk : Table → List (List Place) → Script Rule → At → (Outcome → At → Verdict) → Verdict
-walk t f (give v) s k = k v s
-walk t f (test h a b) s k = tested t f h s (λ q. walk t f a q k) (λ q. walk t f b q k)
-walk t f (ends_with kind a b) s k = refused (stopped (word_of (ends_with kind a b)) s.items)
-walk t f (token kind a) s k =
-    expose t f s (λ q. front (takes kind) (is_token t q.facts kind) q.items q (λ r. walk t f a r k))
-walk t f (any a) s k = expose t f s (λ q. front takes_any is_some q.items q (λ r. walk t f a r k))
-walk t f (bear kind a) s k =
-    expose t f s (λ q. front (bears kind) (is_bearer t q.facts kind) q.items q (λ r. walk t f a r k))
-walk t f (report bytes a) s k = refused (stopped (word_of (report bytes a)) s.items)
-walk t f (report_next bytes a) s k = refused (stopped (word_of (report_next bytes a)) s.items)
-walk t f (skip bytes a) s k = refused (stopped (word_of (skip bytes a)) s.items)
-walk t f (start a) s k = walk t f a (with_own s empty (s.own ∷ s.owns)) k
-walk t f (precede a) s k = precede_own s (λ q. walk t f a q k) s.own
-walk t f (finish kind a) s k = finish_own kind s (λ q. walk t f a q k) s.owns
-walk t f (extend a) s k = refused (stopped (word_of (extend a)) s.items)
-walk t f (abandon a) s k = abandon_own s (λ q. walk t f a q k) s.owns
-walk t f (split_float a b) s k = refused (stopped (word_of (split_float a b)) s.items)
-walk t f (after a n) s k =
+-- Whether the script, along the rest of the row, ends as `k` says wherever it ends. What a script makes of the rows of a
+-- category, where it reads them alone, is asked of `o`.
+abbrev pub walk : Vouch → Table → List (List Place) → Script Rule → At → (Outcome → At → Verdict) → Verdict
+walk o t f (give v) s k = k v s
+walk o t f (test h a b) s k = tested t f h s (λ q. walk o t f a q k) (λ q. walk o t f b q k)
+walk o t f (ends_with kind a b) s k = refused (stopped (word_of (ends_with kind a b)) s.items)
+walk o t f (token kind a) s k =
+    expose t f s (λ q. front (takes kind) (is_token t q.facts kind) q.items q (λ r. walk o t f a r k))
+walk o t f (any a) s k = expose t f s (λ q. front takes_any is_some q.items q (λ r. walk o t f a r k))
+walk o t f (bear kind a) s k =
+    expose t f s (λ q. front (bears kind) (is_bearer t q.facts kind) q.items q (λ r. walk o t f a r k))
+walk o t f (report bytes a) s k = refused (stopped (word_of (report bytes a)) s.items)
+walk o t f (report_next bytes a) s k = refused (stopped (word_of (report_next bytes a)) s.items)
+walk o t f (skip bytes a) s k = refused (stopped (word_of (skip bytes a)) s.items)
+walk o t f (start a) s k = walk o t f a (with_own s empty (s.own ∷ s.owns)) k
+walk o t f (precede a) s k = precede_own s (λ q. walk o t f a q k) s.own
+walk o t f (finish kind a) s k = finish_own kind s (λ q. walk o t f a q k) s.owns
+walk o t f (extend a) s k = extend_own s (λ q. walk o t f a q k) s.owns
+walk o t f (abandon a) s k = abandon_own s (λ q. walk o t f a q k) s.owns
+walk o t f (split_float a b) s k = refused (stopped (word_of (split_float a b)) s.items)
+walk o t f (after a n) s k =
     first_try (at_part t s.items)
     (λ u. expose t f s
-    (λ q. parting (λ g r m. walk t g a r m) t f q.items q (λ v r. walk t f (n v) r k)))
-    (λ u. walk t f a s (λ v q. walk t f (n v) q k))
-walk t f (rule r n) s k = expose t f s (λ q. read_rule t r q.items q (λ v p. walk t f (n v) p k))
-walk t f (loop h a b) s k =
-    turning t f most_turns (λ c d q m. walk t f (h c d) q m)
-    (λ c d q m. repeating (λ g i j r n. walk t g (h i j) r n) t f q.items c d q m) a b s k
+    (λ q. parting o a (λ g r m. walk o t g a r m) t f q.items q (λ v r. walk o t f (n v) r k)))
+    (λ u. walk o t f a s (λ v q. walk o t f (n v) q k))
+walk o t f (rule r n) s k = expose t f s (λ q. read_rule t r q.items q (λ v p. walk o t f (n v) p k))
+walk o t f (loop h a b) s k =
+    turning t f most_turns (λ c d q m. walk o t f (h c d) q m)
+    (λ on c d q m. repeating (λ g i j r n. walk o t g (h i j) r n) t f on q.items c d q m) a b s k
+
+-- A script reads each row of a category, where categories that it reads alone nest so deep.
+abbrev pub reads_rows : ℕ → Table → ℕ → Script Rule → List Outcome → Verdict
+reads_rows zero t c a vs = refused too_deep
+reads_rows (suc n) t c a vs =
+    all_accepted (part_so (λ g r m. walk (reads_rows n t) t g a r m) t (t.follows c) vs) (t.rows c)
+
+abbrev pub nesting : ℕ
+nesting = 8
 
 -- a script reads a row, before what may follow it, with one of these outcomes
-abbrev pub reads_row : Table → List (List Place) → Script Rule → List Outcome → Items → Verdict
-reads_row t f s vs is = walk t f s (at_start is) (ends_so t f vs)
+abbrev pub reads_row_by : Vouch → Table → List (List Place) → Script Rule → List Outcome → Items → Verdict
+reads_row_by o t f s vs is = walk o t f s (at_start is) (ends_so t f vs)
 
--- a script reads each row of a category
-abbrev pub reads_rows : Table → ℕ → Script Rule → List Outcome → Verdict
-reads_rows t c a vs = all_accepted (part_so (λ g r m. walk t g a r m) t (t.follows c) vs) (t.rows c)
+abbrev pub reads_row : Table → List (List Place) → Script Rule → List Outcome → Items → Verdict
+reads_row t f s vs is = reads_row_by (reads_rows nesting t) t f s vs is

@@ -9,8 +9,8 @@ use Rattle.rap_grammar_table.specs.Built.{Built, base, empty, over, tree, same, 
 use Rattle.rap_grammar_table.specs.Known.{Answer, sure, never, unclear, Place, among, every_one, is_kind, evaluate_all}
 use Rattle.rap_grammar_table.specs.Look.{look, look_piece, anything, depth}
 use Rattle.rap_grammar_table.specs.Narrow.{Fact, left_by, looks_on}
-use Rattle.rap_grammar_table.specs.Refusal.{Word, obeys, finishes, precedes, abandons, stopped, left_over, unequal, ends_as, too_deep, where_so, Verdict, accepted, refused, both, check, provided, in_case, told_with}
-use Rattle.rap_grammar_table.specs.Table.{Piece, tok, word, comp, cat, Items, nil, begin, close, piece, choice, repeat, turns_of, group, folds, folding, unless, appended, Table}
+use Rattle.rap_grammar_table.specs.Refusal.{Word, obeys, finishes, precedes, extends, abandons, stopped, left_over, unequal, ends_as, too_deep, where_so, Verdict, accepted, refused, both, check, provided, in_case, told_with}
+use Rattle.rap_grammar_table.specs.Table.{Piece, tok, word, comp, cat, Items, nil, begin, close, piece, choice, repeat, turns_of, group, folds, folding, way, unless, appended, Table}
 
 -- whether the rest of a row, before what may follow it, can begin so that these are so
 abbrev pub some_way : List (List Place) → Bool
@@ -38,6 +38,7 @@ exposed t g fs (suc d) (turns_of a z) x xs k = refused too_deep
 exposed t g fs (suc d) (group a is) x xs k = k (group a is) x xs
 exposed t g fs (suc d) (folds j a is) x xs k = k (folds j a is) x xs
 exposed t g fs (suc d) (folding j a) x xs k = refused too_deep
+exposed t g fs (suc d) (way i a j ws) x xs k = refused too_deep
 exposed t g fs (suc d) (unless h w is) x xs k = exposed t g fs d is x xs k
 
 abbrev pub expose : Table → List (List Place) → At → (At → Verdict) → Verdict
@@ -57,6 +58,7 @@ ahead (suc d) (suc m) (turns_of a z) k = k (turns_of a z)
 ahead (suc d) (suc m) (group a is) k = k (group a is)
 ahead (suc d) (suc m) (folds j a is) k = k (folds j a is)
 ahead (suc d) (suc m) (folding j a) k = k (folding j a)
+ahead (suc d) (suc m) (way i a j ws) k = k (way i a j ws)
 ahead (suc d) (suc m) (unless h w is) k = ahead d (suc m) is (λ js. k (unless h w js))
 
 abbrev pub choose_ahead : Table → List (List Place) → At → (At → Verdict) → Verdict
@@ -84,6 +86,7 @@ settled t g fs (suc d) (turns_of a z) k = k (turns_of a z)
 settled t g fs (suc d) (group a is) k = k (group a is)
 settled t g fs (suc d) (folds j a is) k = k (folds j a is)
 settled t g fs (suc d) (folding j a) k = k (folding j a)
+settled t g fs (suc d) (way i a j ws) k = k (way i a j ws)
 settled t g fs (suc d) (unless h w is) k = k (unless h w is)
 
 -- on where a test is so answered
@@ -194,6 +197,25 @@ precede_own s k empty = refused (stopped precedes s.items)
 precede_own s k (over a kind c) = k (with_own s (over empty kind c) (a ∷ s.owns))
 precede_own s k (tree a i) =
     provided (among s.nodes i) (stopped precedes s.items) (λ u. k (with_own s (tree empty i) (a ∷ s.owns)))
+
+-- The last node begins where the newest open one does: one whose children are there, or the tree of a piece alone.
+abbrev pub extend_tree : At → (At → Verdict) → Built → ℕ → Built → List Built → Verdict
+extend_tree s k empty i y ys =
+    provided (among s.nodes i) (stopped extends s.items) (λ u. k (with_own s (tree y i) ys))
+extend_tree s k base i y ys = refused (stopped extends s.items)
+extend_tree s k (over a kind c) i y ys = refused (stopped extends s.items)
+extend_tree s k (tree a j) i y ys = refused (stopped extends s.items)
+
+abbrev pub extend_under : At → (At → Verdict) → Built → Built → List Built → Verdict
+extend_under s k base y ys = refused (stopped extends s.items)
+extend_under s k empty y ys = refused (stopped extends s.items)
+extend_under s k (over a kind c) y ys =
+    provided (is_own c) (stopped extends s.items) (λ u. k (with_own s (over y kind (joined a c)) ys))
+extend_under s k (tree a i) y ys = extend_tree s k a i y ys
+
+abbrev pub extend_own : At → (At → Verdict) → List Built → Verdict
+extend_own s k [] = refused (stopped extends s.items)
+extend_own s k (y ∷ ys) = extend_under s k s.own y ys
 
 -- at the end of a row, what the script has made is what the row makes
 abbrev pub is_nil : Items → Bool
