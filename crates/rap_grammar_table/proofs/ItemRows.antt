@@ -4,7 +4,7 @@ use Rattle.rap_grammar_scripts.specs.declared.rule.Rule.{Rule}
 use Rattle.rap_grammar_scripts.specs.declared.rule.Rule.TheVariants as knot
 use Rattle.rap_grammar_table.specs.Refusal.{accepted}
 use Rattle.rap_grammar_table.specs.Rows.{table}
-use Rattle.rap_grammar_table.specs.ItemRows.{block_entry, field_entry, fn_params_entry, item_entry, variant_entry, visibility_entry, use_tree_entry}
+use Rattle.rap_grammar_table.specs.ItemRows.{field_entry, fn_params_entry, item_entry, variant_entry, visibility_entry, use_tree_entry}
 use Rattle.rap_grammar_table.specs.Walk.{all_accepted}
 use Rattle.rap_grammar_table.specs.Ways.{some_outcome}
 use Rattle.rap_grammar_table.proofs.Entries.{is_read, EntryChecked}
@@ -36,9 +36,6 @@ items_read_by r h = absurd cc
 
 pub items : EntryChecked table item_entry
 items = record { reads = items_read_by; begins = refl; followed = refl; nodes = λ h. refl }
-
-pub blocks : EntryChecked table block_entry
-blocks = record { reads = λ r h. absurd cc; begins = refl; followed = refl; nodes = λ h. refl }
 
 pub visibilities : EntryChecked table visibility_entry
 visibilities = record { reads = λ r h. absurd cc; begins = refl; followed = refl; nodes = λ h. refl }

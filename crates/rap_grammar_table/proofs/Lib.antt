@@ -1,8 +1,8 @@
-pub mod Atoms
 pub mod AttributeRows
 pub mod Entries
 pub mod Example
 pub mod Exposes
+pub mod ExprRows
 pub mod Free
 pub mod GenericRows
 pub mod ItemRows
@@ -10,6 +10,7 @@ pub mod Known
 pub mod Look
 pub mod Narrow
 pub mod Nodes
+pub mod OperatorRows
 pub mod Parts
 pub mod PatternRows
 pub mod Pieces
@@ -17,6 +18,8 @@ pub mod Refused
 pub mod Rows
 pub mod Scripts
 pub mod Sound
+pub mod StmtRows
+pub mod Tests
 pub mod Turns
 pub mod TypeRows
 pub mod Values

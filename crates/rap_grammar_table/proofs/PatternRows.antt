@@ -14,9 +14,14 @@ patterns_read : all_accepted (is_read table pattern_entry knot.Pattern) pattern_
 unfolding scripts
 patterns_read = refl
 
+arm_patterns_read : all_accepted (is_read table pattern_entry knot.ArmPattern) pattern_entry.rows ≡ accepted
+unfolding scripts
+arm_patterns_read = refl
+
 patterns_read_by : (r : Rule) → some_outcome (pattern_entry.read_by r) ≡ true →
     all_accepted (is_read table pattern_entry r) pattern_entry.rows ≡ accepted
 patterns_read_by knot.Pattern h = patterns_read
+patterns_read_by knot.ArmPattern h = arm_patterns_read
 patterns_read_by r h = absurd cc
 
 pub patterns : EntryChecked table pattern_entry

@@ -1,21 +1,25 @@
 -- Rows that are wrong are refused.
-use Rattle.std.proofs.Common.{◌≡◌, Bool, true, false, refl, [], ◌∷◌}
-use Rattle.rap_base.specs.NodeKind.{DYN_TRAIT_TYPE, INFER_TYPE, NAME_REF, NEVER_TYPE, PARAM_LIST, PATH, PATH_SEGMENT, PATH_TYPE, PTR_TYPE, REF_TYPE, SLICE_TYPE, TUPLE_FIELD, TUPLE_FIELD_LIST, TUPLE_TYPE, STRUCT, VISIBILITY}
-use Rattle.rap_base.specs.TokenKind.{IDENT, SEMICOLON, L_PAREN, R_PAREN, L_BRACK, AMP, STAR, BANG, MUT_KW, DYN_KW, PUB_KW, STRUCT_KW}
+use Rattle.std.proofs.Common.{◌≡◌, ℕ, Bool, true, false, refl, [], ◌∷◌}
+use Rattle.rap_base.specs.NodeKind.{BIN_EXPR, CALL_EXPR, CAST_EXPR, DYN_TRAIT_TYPE, FIELD_EXPR, INFER_TYPE, NAME_REF, NEVER_TYPE, PARAM_LIST, PATH, PATH_SEGMENT, PATH_TYPE, PTR_TYPE, REF_TYPE, SLICE_TYPE, TUPLE_FIELD, TUPLE_FIELD_LIST, TUPLE_TYPE, STRUCT, VISIBILITY}
+use Rattle.rap_base.specs.TokenKind.{IDENT, SEMICOLON, L_PAREN, R_PAREN, L_BRACK, AMP, STAR, BANG, PLUS, QUESTION, MUT_KW, DYN_KW, PUB_KW, STRUCT_KW}
 use Rattle.rap_grammar_scripts.specs.Items.{item_or_macro}
+use Rattle.rap_grammar_scripts.specs.Knot.{script_of}
 use Rattle.rap_grammar_scripts.specs.Script.{something}
 use Rattle.rap_grammar_scripts.specs.Test.{negated, or_else}
 use Rattle.rap_grammar_scripts.specs.Types.{type_with_bounds_cond}
 use Rattle.rap_grammar_scripts.specs.Visibility.{starts_restriction, starts_in_restriction}
-use Rattle.rap_grammar_table.specs.Categories.{Ty, PlainTy, Args, Item, lifetime, name}
+use Rattle.rap_grammar_table.specs.Categories.{Ty, PlainTy, Args, Item, Expr, Attr, ArgList, Atom, Operand, Closed, lifetime, name}
+use Rattle.rap_grammar_table.specs.ExprRows.{field_part}
 use Rattle.rap_grammar_table.specs.ItemRows.{opt_visibility, restriction}
 use Rattle.rap_grammar_table.specs.Look.{followed, is_one_node, depth}
-use Rattle.rap_grammar_table.specs.Notation.{Part, ◌⊳◌, t, ts, c, node, opt, either, commas, guard, row, of_kinds}
+use Rattle.rap_grammar_table.specs.Notation.{Part, ◌⊳◌, t, ts, c, node, opt, either, commas, guard, turn, around, row, of_kinds}
 use Rattle.rap_grammar_table.specs.Refusal.{Verdict, accepted, refused}
 use Rattle.rap_grammar_table.specs.Rows.{table}
 use Rattle.rap_grammar_table.specs.TypeRows.{fn_pointer_param, opt_args}
 use Rattle.rap_grammar_table.specs.Walk.{reads_row}
+use Rattle.rap_grammar_table.proofs.ExprRows.{expr_rule}
 use Rattle.rap_grammar_table.proofs.Scripts.{scripts}
+use Rattle.rap_grammar_table.proofs.Tests.{tests}
 
 abbrev is_accepted : Verdict → Bool
 is_accepted accepted = true
@@ -30,47 +34,47 @@ as_item a = is_accepted (reads_row table (table.follows Item) (item_or_macro tru
 
 -- another node, a piece left out, pieces in another order, no node
 wrong_kind : as_type (node INFER_TYPE (t BANG)) ≡ false
-unfolding scripts
+unfolding scripts tests
 wrong_kind = refl
 
 no_bracket : as_type (node SLICE_TYPE (t L_BRACK ⊳ c Ty)) ≡ false
-unfolding scripts
+unfolding scripts tests
 no_bracket = refl
 
 no_qualifier : as_type (node PTR_TYPE (t STAR ⊳ c PlainTy)) ≡ false
-unfolding scripts
+unfolding scripts tests
 no_qualifier = refl
 
 other_order : as_type (node REF_TYPE (t AMP ⊳ opt (t MUT_KW) ⊳ opt lifetime ⊳ c PlainTy)) ≡ false
-unfolding scripts
+unfolding scripts tests
 other_order = refl
 
 no_node : as_type (t BANG) ≡ false
-unfolding scripts
+unfolding scripts tests
 no_node = refl
 
 -- a tuple of one type without its comma, and a category where another stands
 no_comma : as_type (node TUPLE_TYPE (t L_PAREN ⊳ c Ty ⊳ t R_PAREN)) ≡ false
-unfolding scripts
+unfolding scripts tests
 no_comma = refl
 
 other_category : as_type (node REF_TYPE (t AMP ⊳ c Ty)) ≡ false
-unfolding scripts
+unfolding scripts tests
 other_category = refl
 
 -- a token of more kinds than the script takes, and a name that may be read as `dyn`
 more_kinds : as_type (node NEVER_TYPE (ts (BANG ∷ STAR ∷ []))) ≡ false
-unfolding scripts
+unfolding scripts tests
 more_kinds = refl
 
 any_word :
     as_type (node PATH_TYPE (node PATH (node PATH_SEGMENT (node NAME_REF (ts (IDENT ∷ [])) ⊳ opt_args)))) ≡ false
-unfolding scripts
+unfolding scripts tests
 any_word = refl
 
 -- a category that the script reads by its rows, where another stands
 other_part : as_type (node DYN_TRAIT_TYPE (t DYN_KW ⊳ c Args)) ≡ false
-unfolding scripts
+unfolding scripts tests
 other_part = refl
 
 -- a visibility before a type that may read as its restriction: no condition, and the condition turned
@@ -84,13 +88,13 @@ abbrev field_with : Part → Part
 field_with a = either (node VISIBILITY (t PUB_KW ⊳ restriction)) a
 
 no_condition : as_item (tuple_struct (field_with (node VISIBILITY (t PUB_KW)))) ≡ false
-unfolding scripts
+unfolding scripts tests
 no_condition = refl
 
 turned_condition :
     as_item (tuple_struct (field_with (node VISIBILITY (t PUB_KW) ⊳
     guard (negated (or_else (starts_restriction true) starts_in_restriction))))) ≡ false
-unfolding scripts
+unfolding scripts tests
 turned_condition = refl
 
 -- a category before what may not follow it, and a condition that asks less than what follows
@@ -111,3 +115,51 @@ two_nodes = refl
 
 node_and_token : is_one_node table depth (row (name ⊳ t BANG)) ≡ false
 node_and_token = refl
+
+-- Around an operand: an operator before an operand of another power, another node, an operator that the script does not
+-- take there, a call after a field by its name. A node that ends where none began, and an attribute before an operand,
+-- which begins in it.
+abbrev as_expr : Part → Bool
+as_expr a =
+    is_accepted (reads_row table (table.follows Expr) (script_of (expr_rule false false 1)) (something ∷ []) (row a))
+
+abbrev sum_of : ℕ → ℕ → ℕ → Part
+sum_of kind operator right = c (Operand false) ⊳ around 12 (turn (12 ∷ []) kind (t operator ⊳ c (Closed false right)) 10)
+
+a_sum : as_expr (sum_of BIN_EXPR PLUS 11) ≡ true
+unfolding scripts tests
+a_sum = refl
+
+wrong_power : as_expr (sum_of BIN_EXPR PLUS 12) ≡ false
+unfolding scripts tests
+wrong_power = refl
+
+wrong_node : as_expr (sum_of CAST_EXPR PLUS 11) ≡ false
+unfolding scripts tests
+wrong_node = refl
+
+no_operator : as_expr (sum_of BIN_EXPR QUESTION 11) ≡ false
+unfolding scripts tests
+no_operator = refl
+
+field_called :
+    as_expr (c (Atom false) ⊳
+    around 1 (turn (1 ∷ []) CALL_EXPR (c ArgList) 1 ⊳ turn (1 ∷ []) FIELD_EXPR field_part 1)) ≡ false
+unfolding scripts tests
+field_called = refl
+
+attribute_outside : as_expr (c Attr ⊳ c (Operand false)) ≡ false
+unfolding scripts tests
+attribute_outside = refl
+
+-- a tighter operator behind a looser one, whose operand would take it
+tighter_later :
+    followed table (row (c (Operand false) ⊳
+    around 12
+    (turn (12 ∷ []) BIN_EXPR (t PLUS ⊳ c (Closed false 11)) 12 ⊳
+    turn (12 ∷ []) BIN_EXPR (t STAR ⊳ c (Closed false 12)) 12))) (table.follows Expr) (table.follows Expr) ≡ false
+tighter_later = refl
+
+-- two categories are not one node
+two_categories : is_one_node table depth (row (c Expr ⊳ c Expr)) ≡ false
+two_categories = refl

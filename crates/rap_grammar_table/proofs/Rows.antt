@@ -4,21 +4,18 @@ use Rattle.rap_events.specs.Forest.{Forest}
 use Rattle.rap_events.specs.Record.{Record}
 use Rattle.rap_grammar_table.specs.Good.{Good}
 use Rattle.rap_grammar_table.specs.Known.{Sees}
-use Rattle.rap_grammar_table.specs.Rows.{table, entries, expr_entry, stmt_entry}
+use Rattle.rap_grammar_table.specs.Rows.{table, entries}
 use Rattle.rap_grammar_table.specs.Table.{Beside, Derives, one, cat}
-use Rattle.rap_grammar_table.proofs.AttributeRows.{attributes, conditions, macro_paths, metas, token_trees, inner_attributes}
-use Rattle.rap_grammar_table.proofs.Entries.{EntryChecked, none_left, ◌then◌, checked_of}
+use Rattle.rap_grammar_table.proofs.AttributeRows.{attributes, conditions as cfg_conditions, macro_paths, metas, token_trees, inner_attributes}
+use Rattle.rap_grammar_table.proofs.Entries.{none_left, ◌then◌, checked_of}
+use Rattle.rap_grammar_table.proofs.ExprRows.{atoms, atoms_forbidden, arg_lists, atom_paths, brace_trees, cast_paths, cast_types, name_exprs, open_atoms_so, open_prefixed, operands, operands_forbidden, prefixed, prefixed_forbidden, round_trees, stmt_operands, stmt_prefixed}
 use Rattle.rap_grammar_table.proofs.GenericRows.{arguments, generic_params, generics, predicates, wheres}
-use Rattle.rap_grammar_table.proofs.ItemRows.{blocks, fn_params, items, record_fields_so, variants, visibilities, use_trees}
+use Rattle.rap_grammar_table.proofs.ItemRows.{fn_params, items, record_fields_so, variants, visibilities, use_trees}
+use Rattle.rap_grammar_table.proofs.OperatorRows.{closed_4, closed_5, closed_6, closed_7, closed_8, closed_9, closed_10, closed_11, closed_12, closed_forbidden_4, closed_forbidden_5, closed_forbidden_6, closed_forbidden_7, closed_forbidden_8, closed_forbidden_9, closed_forbidden_10, closed_forbidden_11, closed_forbidden_12, conditions, expressions, guards, open_4, open_5, range_ends, range_ends_forbidden}
 use Rattle.rap_grammar_table.proofs.PatternRows.{param_patterns, pattern_paths, patterns, rest_patterns, single_patterns}
 use Rattle.rap_grammar_table.proofs.Sound.{Checked, Known, claim}
+use Rattle.rap_grammar_table.proofs.StmtRows.{arms, block_stmts, blocks, ending_blocks, ifs, last_arms, stmt_blocks, stmt_exprs_so, stmt_lists, stmts, tails, with_blocks_so}
 use Rattle.rap_grammar_table.proofs.TypeRows.{anchor_traits, anchored_paths, bound_lists, bounds, fn_pointer_params, global_paths, param_names, path_args, paths, paths_before_plus, plain_types, symbol_types_so, types, types_before_plus, use_paths, expr_paths, simple_paths, trait_refs}
-
-expressions : EntryChecked table expr_entry
-expressions = record { reads = λ r h. refl; begins = refl; followed = refl; nodes = λ h. refl }
-
-statements : EntryChecked table stmt_entry
-statements = record { reads = λ r h. refl; begins = refl; followed = refl; nodes = λ h. refl }
 
 pub checked : Checked table
 checked =
@@ -26,10 +23,18 @@ checked =
     (types then plain_types then types_before_plus then anchor_traits then symbol_types_so then paths then
     paths_before_plus then use_paths then global_paths then anchored_paths then path_args then arguments then bounds then
     bound_lists then generic_params then generics then predicates then wheres then param_names then
-    fn_pointer_params then patterns then expressions then statements then blocks then visibilities then
+    fn_pointer_params then patterns then expressions then stmts then blocks then visibilities then
     record_fields_so then variants then fn_params then items then token_trees then attributes then metas then
-    conditions then macro_paths then expr_paths then simple_paths then trait_refs then use_trees then inner_attributes then
-    single_patterns then pattern_paths then rest_patterns then param_patterns then none_left)
+    cfg_conditions then macro_paths then expr_paths then simple_paths then trait_refs then use_trees then inner_attributes then
+    single_patterns then pattern_paths then rest_patterns then param_patterns then
+    atom_paths then round_trees then brace_trees then arg_lists then name_exprs then cast_types then cast_paths then
+    stmt_lists then ifs then with_blocks_so then arms then last_arms then atoms then atoms_forbidden then operands then
+    operands_forbidden then prefixed then prefixed_forbidden then stmt_operands then stmt_prefixed then open_atoms_so then
+    open_prefixed then conditions then guards then range_ends then range_ends_forbidden then stmt_exprs_so then
+    stmt_blocks then block_stmts then tails then closed_4 then closed_5 then closed_6 then closed_7 then closed_8 then
+    closed_9 then closed_10 then closed_11 then closed_12 then closed_forbidden_4 then closed_forbidden_5 then
+    closed_forbidden_6 then closed_forbidden_7 then closed_forbidden_8 then closed_forbidden_9 then
+    closed_forbidden_10 then closed_forbidden_11 then closed_forbidden_12 then open_4 then open_5 then ending_blocks then none_left)
 
 -- so what the table derives is what the scripts make
 pub complete : {given : Beside} → Known table given → (c : ℕ) {ks : List Record} {y : Forest} →

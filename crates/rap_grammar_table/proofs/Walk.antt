@@ -11,7 +11,7 @@ use Rattle.rap_grammar_table.specs.Known.{Place, Sees}
 use Rattle.rap_grammar_table.specs.Refusal.{Verdict, accepted}
 use Rattle.rap_grammar_table.specs.Refusal as refusal
 use Rattle.rap_grammar_table.specs.Table.{Table}
-use Rattle.rap_grammar_table.specs.Walk.{walk, reads_rows, at_part, parting, repeating, most_turns}
+use Rattle.rap_grammar_table.specs.Walk.{walk, reads_rows, takes_part, parting, repeating, most_turns}
 use Rattle.rap_grammar_table.specs.Ways.{expose, is_token, is_some, is_bearer}
 use Rattle.rap_grammar_table.proofs.Exposes.{tested_so}
 use Rattle.rap_grammar_table.proofs.Pieces.{taking, reading, token_at, any_at, born_at, took_token, finishes_own, extends_own, abandons_own, precedes_own}
@@ -86,7 +86,7 @@ walks t deep g l e y f b i (after a n) s k ks st w =
     λ g l e y f b i s k ks st v. walks t deep g l e y f b i a s k ks st v
     in
     let x =
-    by_try (at_part t s.items)
+    by_try (takes_part t g a s)
     (λ u. expose t g s (λ q. parting (reads_rows deep t) a (λ g r m. walk (reads_rows deep t) t g a r m) t g q.items q (λ v r. walk (reads_rows deep t) t g (n v) r k)))
     (λ u. walk (reads_rows deep t) t g a s (λ v q. walk (reads_rows deep t) t g (n v) q k)) w
     (λ o. part_read t deep g l e y f b i a (λ g r m. walk (reads_rows deep t) t g a r m) all s (λ v r. walk (reads_rows deep t) t g (n v) r k) ks st o)

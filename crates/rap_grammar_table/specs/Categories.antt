@@ -1,5 +1,5 @@
 -- The categories of the grammar, by their numbers, and what stands in many of their rows.
-use Rattle.std.specs.Prelude.{ℕ, List, [], ◌∷◌, ◌++◌}
+use Rattle.std.specs.Prelude.{ℕ, ◌+◌, Bool, true, false, List, [], ◌∷◌, ◌++◌}
 use Rattle.rap_base.specs.NodeKind.{NAME, NAME_REF, LIFETIME, ABI, LITERAL, PREFIX_EXPR, PATH_EXPR, PATH, PATH_SEGMENT, CONST_ARG, MACRO_CALL}
 use Rattle.rap_base.specs.TokenKind.{EOF, IDENT, SEMICOLON, COMMA, COLON, COLON2, EQ, L_PAREN, R_PAREN, L_BRACK, R_BRACK, L_CURLY, R_CURLY, L_ANGLE, R_ANGLE, AMP, STAR, BANG, MINUS, PIPE, PLUS, TILDE, QUESTION, UNDERSCORE, POUND, OUTER_DOC_COMMENT, LIFETIME_IDENT, STRING, TRUE_KW, FALSE_KW, INT_NUMBER, FLOAT_NUMBER, BYTE, CHAR, BYTE_STRING, C_STRING, AS_KW, ASYNC_KW, CONST_KW, CRATE_KW, DYN_KW, EXTERN_KW, FN_KW, FOR_KW, IMPL_KW, SELF_KW, SELF_TYPE_KW, SUPER_KW, UNSAFE_KW, USE_KW, WHERE_KW}
 use Rattle.rap_grammar_table.specs.Known.{Place, behind}
@@ -144,6 +144,111 @@ RestPattern = 41
 
 abbrev pub ParamPattern : ℕ
 ParamPattern = 42
+
+-- What stands in expressions: a path; tokens in `(` or `[`, and in `{`; the arguments of a call; a name as a field of a
+-- record; the type of a cast, and a path as one.
+abbrev pub AtomPath : ℕ
+AtomPath = 43
+
+abbrev pub RoundTree : ℕ
+RoundTree = 44
+
+abbrev pub BraceTree : ℕ
+BraceTree = 45
+
+abbrev pub ArgList : ℕ
+ArgList = 46
+
+abbrev pub NameExpr : ℕ
+NameExpr = 47
+
+abbrev pub CastTy : ℕ
+CastTy = 48
+
+abbrev pub CastPath : ℕ
+CastPath = 49
+
+-- The statements of a block in their braces; an `if`; a block, a condition, a loop or a `match`; an arm of a `match`, and
+-- the last one without its comma.
+abbrev pub StmtList : ℕ
+StmtList = 50
+
+abbrev pub If : ℕ
+If = 51
+
+abbrev pub WithBlock : ℕ
+WithBlock = 52
+
+abbrev pub Arm : ℕ
+Arm = 53
+
+abbrev pub LastArm : ℕ
+LastArm = 54
+
+-- A number of two, the second where no record literal may stand.
+abbrev pub where_forbidden : Bool → ℕ → ℕ → ℕ
+where_forbidden false a b = a
+where_forbidden true a b = b
+
+-- An expression without an operator and without what follows it directly; with that, or with an operator before it; the
+-- same after an operator before it. A `true` says that no record literal may stand in it.
+abbrev pub Atom : Bool → ℕ
+Atom forbid = where_forbidden forbid 55 56
+
+abbrev pub Operand : Bool → ℕ
+Operand forbid = where_forbidden forbid 57 58
+
+abbrev pub Prefixed : Bool → ℕ
+Prefixed forbid = where_forbidden forbid 59 60
+
+-- the same at the beginning of a statement
+abbrev pub StmtOperand : ℕ
+StmtOperand = 61
+
+abbrev pub StmtPrefixed : ℕ
+StmtPrefixed = 62
+
+-- A jump or a closure, which takes in what follows; the same after operators before it.
+abbrev pub OpenAtom : ℕ
+OpenAtom = 63
+
+abbrev pub OpenPrefixed : ℕ
+OpenPrefixed = 64
+
+-- The condition of an `if` or a loop, or what a `match` is of; the guard of an arm; the end of a range.
+abbrev pub Condition : ℕ
+Condition = 65
+
+abbrev pub Guard : ℕ
+Guard = 66
+
+abbrev pub RangeEnd : Bool → ℕ
+RangeEnd forbid = where_forbidden forbid 67 68
+
+-- An expression that a statement may begin with, and one that ends a statement with its block; a statement that is one
+-- without a semicolon; the value of a block.
+abbrev pub StmtExpr : ℕ
+StmtExpr = 69
+
+abbrev pub StmtBlock : ℕ
+StmtBlock = 70
+
+abbrev pub BlockStmt : ℕ
+BlockStmt = 71
+
+abbrev pub Tail : ℕ
+Tail = 72
+
+-- an expression of operators of at least this power, from 4 to 12, and one of 4 or 5 that may end with a jump or closure
+abbrev pub Closed : Bool → ℕ → ℕ
+Closed forbid power = where_forbidden forbid (69 + power) (78 + power)
+
+abbrev pub Open : ℕ → ℕ
+Open power = 87 + power
+
+-- what has a block, at the beginning of a statement, which it ends
+abbrev pub EndingBlock : ℕ
+EndingBlock = 93
 
 -- names
 abbrev pub name : Part

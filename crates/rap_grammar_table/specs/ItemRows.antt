@@ -6,7 +6,7 @@ use Rattle.rap_grammar_scripts.specs.Traits.{is_impl_params_start}
 use Rattle.rap_grammar_scripts.specs.First.{one_of}
 use Rattle.rap_base.specs.KeywordTable.{contextual_ever}
 use Rattle.std.specs.Prelude.{ℕ, true, List, [], ◌∷◌, ◌++◌, ◌==◌, not, Option, Some, map}
-use Rattle.rap_base.specs.NodeKind.{BLOCK_EXPR, STMT_LIST, CONST, CONST_ARG, ENUM, FN, ITEM_LIST, MODULE, NAME, NAME_REF, PARAM, PARAM_LIST, PATH, PATH_SEGMENT, RECORD_FIELD, RECORD_FIELD_LIST, SELF_PARAM, STATIC, STRUCT, TUPLE_FIELD, TUPLE_FIELD_LIST, TYPE_ALIAS, VARIANT, VARIANT_LIST, VISIBILITY, VISIBILITY_INNER, RENAME, USE, USE_TREE, USE_TREE_LIST, EXTERN_CRATE, EXTERN_BLOCK, EXTERN_ITEM_LIST, ASSOC_ITEM_LIST, MACRO_RULES, MACRO_CALL, UNION, TRAIT, IMPL}
+use Rattle.rap_base.specs.NodeKind.{CONST, CONST_ARG, ENUM, FN, ITEM_LIST, MODULE, NAME, NAME_REF, PARAM, PARAM_LIST, PATH, PATH_SEGMENT, RECORD_FIELD, RECORD_FIELD_LIST, SELF_PARAM, STATIC, STRUCT, TUPLE_FIELD, TUPLE_FIELD_LIST, TYPE_ALIAS, VARIANT, VARIANT_LIST, VISIBILITY, VISIBILITY_INNER, RENAME, USE, USE_TREE, USE_TREE_LIST, EXTERN_CRATE, EXTERN_BLOCK, EXTERN_ITEM_LIST, ASSOC_ITEM_LIST, MACRO_RULES, MACRO_CALL, UNION, TRAIT, IMPL}
 use Rattle.rap_base.specs.TokenKind.{DOT3, AUTO_KW, DEFAULT_KW, L_BRACK, R_BRACK, EOF, IDENT, SEMICOLON, COMMA, COLON, COLON2, EQ, L_PAREN, R_PAREN, L_CURLY, R_CURLY, AMP, UNDERSCORE, ASYNC_KW, CONST_KW, CRATE_KW, ENUM_KW, EXTERN_KW, FN_KW, IN_KW, MOD_KW, MUT_KW, PUB_KW, SELF_KW, STATIC_KW, STRUCT_KW, SUPER_KW, TYPE_KW, UNSAFE_KW, AS_KW, STAR, BANG, L_ANGLE, UNION_KW, USE_KW, TRAIT_KW, IMPL_KW, FOR_KW, MACRO_RULES_KW, SAFE_KW}
 use Rattle.rap_grammar_scripts.specs.Script.{Outcome, something}
 use Rattle.rap_grammar_scripts.specs.Test.{or_else, Test, negated}
@@ -15,7 +15,7 @@ use Rattle.rap_grammar_scripts.specs.Visibility.{starts_restriction, starts_in_r
 use Rattle.rap_grammar_scripts.specs.declared.rule.Rule.{Rule}
 use Rattle.rap_grammar_scripts.specs.declared.rule.Rule.TheVariants as knot
 use Rattle.rap_grammar_table.specs.AttributeRows.{tree_in}
-use Rattle.rap_grammar_table.specs.Categories.{Ty, PlainTy, Generics, Where, ParamPattern, Expr, Stmt, Block, Visibility, RecordField, Variant, FnParams, Item, abi, attrs, attr_heads, lifetime, name, Bounds, TraitRef, UseTree, brackets, inner_attrs, name_ref, path_names, plain_segment, use_names}
+use Rattle.rap_grammar_table.specs.Categories.{Ty, PlainTy, Generics, Where, ParamPattern, Expr, Block, Visibility, RecordField, Variant, FnParams, Item, abi, attrs, attr_heads, lifetime, name, Bounds, TraitRef, UseTree, brackets, inner_attrs, name_ref, path_names, plain_segment, use_names}
 use Rattle.rap_grammar_table.specs.Look.{anything}
 use Rattle.rap_grammar_table.specs.Notation.{Part, ◌⊳◌, t, c, node, opt, either, many, commas, alone, guard, Entry, text, read_text, of_kinds, op, weak, fold, colons, of_names}
 use Rattle.rap_grammar_table.specs.TypeRows.{ret}
@@ -214,11 +214,6 @@ macro_items =
     node MACRO_RULES (attrs ⊳ opt_visibility ⊳ weak MACRO_RULES_KW ⊳ t BANG ⊳ name ⊳ tree_and_end)
     ∷ node MACRO_CALL (attrs ⊳ call_path ⊳ t BANG ⊳ tree_and_end)
     ∷ []
-
-abbrev pub block_entry : Entry
-block_entry =
-    text (node BLOCK_EXPR (node STMT_LIST (t L_CURLY ⊳ inner_attrs ⊳ many (c Stmt) ⊳ t R_CURLY)) ∷ [])
-    ((of_kinds (L_CURLY ∷ []) ∷ []) ∷ []) anything
 
 abbrev pub item_kinds : List ℕ
 item_kinds = PUB_KW ∷ item_keywords

@@ -1,6 +1,7 @@
 pub mod AttributeRows
 pub mod Built
 pub mod Categories
+pub mod ExprRows
 pub mod GenericRows
 pub mod Good
 pub mod ItemRows
@@ -8,9 +9,11 @@ pub mod Known
 pub mod Look
 pub mod Narrow
 pub mod Notation
+pub mod Operators
 pub mod PatternRows
 pub mod Refusal
 pub mod Rows
+pub mod StmtRows
 pub mod Table
 pub mod TypeRows
 pub mod Walk

@@ -1,7 +1,7 @@
 -- The rows of patterns.
 use Rattle.std.specs.Prelude.{ℕ, true, false, List, [], ◌∷◌, ◌++◌}
 use Rattle.rap_base.specs.NodeKind.{CONST_BLOCK_PAT, IDENT_PAT, LITERAL, LITERAL_PAT, NAME_REF, OR_PAT, PAREN_PAT, PATH_PAT, RANGE_PAT, RECORD_PAT, RECORD_PAT_FIELD, RECORD_PAT_FIELD_LIST, REF_PAT, REST_PAT, SLICE_PAT, TUPLE_PAT, TUPLE_STRUCT_PAT, WILDCARD_PAT}
-use Rattle.rap_base.specs.TokenKind.{EOF, IDENT, COMMA, COLON, DOT, DOT2, DOT2EQ, EQ, L_PAREN, R_PAREN, L_BRACK, R_BRACK, L_CURLY, R_CURLY, L_ANGLE, AMP, AT, MINUS, PIPE, UNDERSCORE, LIFETIME_IDENT, INT_NUMBER, FLOAT_NUMBER, CONST_KW, IF_KW, IN_KW, MUT_KW, REF_KW}
+use Rattle.rap_base.specs.TokenKind.{EOF, IDENT, SEMICOLON, COMMA, COLON, DOT, DOT2, DOT2EQ, EQ, L_PAREN, R_PAREN, L_BRACK, R_BRACK, L_CURLY, R_CURLY, L_ANGLE, AMP, AT, MINUS, PIPE, UNDERSCORE, LIFETIME_IDENT, INT_NUMBER, FLOAT_NUMBER, CONST_KW, IF_KW, IN_KW, MUT_KW, REF_KW}
 use Rattle.rap_grammar_scripts.specs.Patterns.{is_ident_pat_start}
 use Rattle.rap_grammar_scripts.specs.Script.{Outcome, something}
 use Rattle.rap_grammar_scripts.specs.Words.{is_at}
@@ -19,7 +19,7 @@ type_colon =
     of_kinds (COLON ∷ []) ∷ of_kinds (UNDERSCORE ∷ L_PAREN ∷ DOT ∷ LIFETIME_IDENT ∷ (symbol_kinds ++ path_names)) ∷ []
 
 abbrev pub pattern_ends : List ℕ
-pattern_ends = EOF ∷ EQ ∷ COMMA ∷ R_PAREN ∷ R_BRACK ∷ R_CURLY ∷ IF_KW ∷ IN_KW ∷ []
+pattern_ends = EOF ∷ SEMICOLON ∷ EQ ∷ COMMA ∷ R_PAREN ∷ R_BRACK ∷ R_CURLY ∷ IF_KW ∷ IN_KW ∷ []
 
 -- a literal, with a minus where it is a number
 abbrev pub literal_pattern : Part
@@ -68,8 +68,13 @@ single_heads =
     ∷ (global_heads ++
     behind (of_names path_names) (name_nexts ++ colons ((of_kinds (L_ANGLE ∷ path_names) ∷ []) ∷ [])))
 
+abbrev pub plain_read_by : Rule → List Outcome
+plain_read_by knot.Pattern = something ∷ []
+plain_read_by r = []
+
 abbrev pub pattern_read_by : Rule → List Outcome
 pattern_read_by knot.Pattern = something ∷ []
+pattern_read_by knot.ArmPattern = something ∷ []
 pattern_read_by r = []
 
 abbrev pub path_entry : Entry
@@ -82,7 +87,7 @@ path_entry =
 
 abbrev pub rest_entry : Entry
 rest_entry =
-    read_text pattern_read_by (node REST_PAT (op DOT2) ∷ [])
+    read_text plain_read_by (node REST_PAT (op DOT2) ∷ [])
     ((touching DOT ∷ of_kinds (DOT ∷ []) ∷ of_kinds (COMMA ∷ R_PAREN ∷ R_BRACK ∷ []) ∷ []) ∷ [])
     ((of_kinds (COMMA ∷ R_PAREN ∷ R_BRACK ∷ []) ∷ []) ∷ [])
 
@@ -117,7 +122,7 @@ pattern_entry =
 -- The pattern of a parameter of a function: none that may begin as a `self` does.
 abbrev pub param_pattern_entry : Entry
 param_pattern_entry =
-    read_text pattern_read_by
+    read_text plain_read_by
     (node IDENT_PAT (opt (t REF_KW) ⊳ opt (t MUT_KW) ⊳ name)
     ∷ node WILDCARD_PAT (t UNDERSCORE)
     ∷ node TUPLE_PAT (t L_PAREN ⊳ element ⊳ t COMMA ⊳ commas element ⊳ t R_PAREN)

@@ -1,53 +1,14 @@
 -- The table of the grammar.
-use Rattle.std.specs.Prelude.{ℕ, false, List, [], ◌∷◌}
-use Rattle.rap_base.specs.TokenKind.{EOF, IDENT, SEMICOLON, COMMA, L_PAREN, R_PAREN, L_BRACK, R_BRACK, R_CURLY, INT_NUMBER, IF_KW, LET_KW, RETURN_KW, STRUCT_KW, WHERE_KW}
-use Rattle.rap_grammar_scripts.specs.Script.{Outcome, something}
-use Rattle.rap_grammar_scripts.specs.declared.rule.Rule.{Rule}
-use Rattle.rap_grammar_scripts.specs.declared.rule.Rule.TheVariants as knot
+use Rattle.std.specs.Prelude.{true, false, List, [], ◌∷◌, ◌++◌}
 use Rattle.rap_grammar_table.specs.AttributeRows.{attr_entry, cfg_entry, inner_attr_entry, macro_path_entry, meta_entry, token_tree_entry}
+use Rattle.rap_grammar_table.specs.ExprRows.{arg_list_entry, atom_entry, atom_path_entry, brace_tree_entry, cast_path_entry, cast_type_entry, closed_entry, condition_entry, expr_entry, guard_entry, name_expr_entry, open_atom_entry, open_entry, open_prefixed_entry, operand_entry, prefixed_entry, range_end_entry, round_tree_entry, stmt_operand_entry, stmt_prefixed_entry}
 use Rattle.rap_grammar_table.specs.GenericRows.{argument_entry, generics_entry, param_entry, predicate_entry, where_entry}
-use Rattle.rap_grammar_table.specs.ItemRows.{block_entry, field_entry, fn_params_entry, item_entry, use_tree_entry, variant_entry, visibility_entry}
-use Rattle.rap_grammar_table.specs.Notation.{Entry, table_of, of_kinds}
+use Rattle.rap_grammar_table.specs.ItemRows.{field_entry, fn_params_entry, item_entry, use_tree_entry, variant_entry, visibility_entry}
+use Rattle.rap_grammar_table.specs.Notation.{Entry, table_of}
 use Rattle.rap_grammar_table.specs.PatternRows.{param_pattern_entry, pattern_entry, path_entry as path_entry_of_patterns, rest_entry, single_entry}
+use Rattle.rap_grammar_table.specs.StmtRows.{arm_entry, block_entry, block_stmt_entry, ending_block_entry, if_entry, last_arm_entry, stmt_block_entry, stmt_entry, stmt_expr_entry, stmt_list_entry, tail_entry, with_block_entry}
 use Rattle.rap_grammar_table.specs.Table.{Table}
 use Rattle.rap_grammar_table.specs.TypeRows.{anchor_entry, anchored_path_entry, args_entry, before_plus_entry, bound_entry, bounds_entry, expr_path_entry, simple_path_entry, trait_ref_entry, fn_pointer_params_entry, global_path_entry, param_name_entry, path_before_plus_entry, path_entry, plain_entry, symbol_entry, type_entry, use_path_entry}
-
--- Expressions and statements have no rows yet: of them only those are known that are given beside the table.
-abbrev pub expr_read_by : Rule → List Outcome
-expr_read_by (knot.ExprBp restrictions power) = something ∷ []
-expr_read_by r = []
-
-abbrev pub expr_entry : Entry
-expr_entry =
-    record {
-      rows = [];
-      firsts = (of_kinds (INT_NUMBER ∷ []) ∷ []) ∷ [];
-      follows = (of_kinds (SEMICOLON ∷ COMMA ∷ R_PAREN ∷ R_BRACK ∷ R_CURLY ∷ WHERE_KW ∷ EOF ∷ []) ∷ []) ∷ [];
-      is_node = false;
-      by_rows = false;
-      ends = [];
-      read_by = expr_read_by;
-    }
-
-abbrev pub stmt_kinds : List ℕ
-stmt_kinds =
-    SEMICOLON ∷ IDENT ∷ LET_KW ∷ INT_NUMBER ∷ L_PAREN ∷ L_BRACK ∷ IF_KW ∷ RETURN_KW ∷ STRUCT_KW ∷ []
-
-abbrev pub stmt_read_by : Rule → List Outcome
-stmt_read_by (knot.Stmt semicolon) = something ∷ []
-stmt_read_by r = []
-
-abbrev pub stmt_entry : Entry
-stmt_entry =
-    record {
-      rows = [];
-      firsts = (of_kinds stmt_kinds ∷ []) ∷ [];
-      follows = (of_kinds (R_CURLY ∷ stmt_kinds) ∷ []) ∷ [];
-      is_node = false;
-      by_rows = false;
-      ends = [];
-      read_by = stmt_read_by;
-    }
 
 -- each category at the place of its number
 abbrev pub entries : List Entry
@@ -57,7 +18,17 @@ entries =
     bound_entry ∷ bounds_entry ∷ param_entry ∷ generics_entry ∷ predicate_entry ∷ where_entry ∷ param_name_entry ∷
     fn_pointer_params_entry ∷ pattern_entry ∷ expr_entry ∷ stmt_entry ∷ block_entry ∷ visibility_entry ∷ field_entry ∷
     variant_entry ∷ fn_params_entry ∷ item_entry ∷ token_tree_entry ∷ attr_entry ∷ meta_entry ∷ cfg_entry ∷
-    macro_path_entry ∷ expr_path_entry ∷ simple_path_entry ∷ trait_ref_entry ∷ use_tree_entry ∷ inner_attr_entry ∷ single_entry ∷ path_entry_of_patterns ∷ rest_entry ∷ param_pattern_entry ∷ []
+    macro_path_entry ∷ expr_path_entry ∷ simple_path_entry ∷ trait_ref_entry ∷ use_tree_entry ∷ inner_attr_entry ∷ single_entry ∷ path_entry_of_patterns ∷ rest_entry ∷ param_pattern_entry ∷
+    atom_path_entry ∷ round_tree_entry ∷ brace_tree_entry ∷ arg_list_entry ∷ name_expr_entry ∷ cast_type_entry ∷
+    cast_path_entry ∷ stmt_list_entry ∷ if_entry ∷ with_block_entry ∷ arm_entry ∷ last_arm_entry ∷ atom_entry false ∷
+    atom_entry true ∷ operand_entry false ∷ operand_entry true ∷ prefixed_entry false ∷ prefixed_entry true ∷
+    stmt_operand_entry ∷ stmt_prefixed_entry ∷ open_atom_entry ∷ open_prefixed_entry ∷ condition_entry ∷ guard_entry ∷
+    range_end_entry false ∷ range_end_entry true ∷ stmt_expr_entry ∷ stmt_block_entry ∷ block_stmt_entry ∷
+    tail_entry ∷ closed_entry false 4 ∷ closed_entry false 5 ∷ closed_entry false 6 ∷ closed_entry false 7 ∷
+    closed_entry false 8 ∷ closed_entry false 9 ∷ closed_entry false 10 ∷ closed_entry false 11 ∷
+    closed_entry false 12 ∷ closed_entry true 4 ∷ closed_entry true 5 ∷ closed_entry true 6 ∷ closed_entry true 7 ∷
+    closed_entry true 8 ∷ closed_entry true 9 ∷ closed_entry true 10 ∷ closed_entry true 11 ∷ closed_entry true 12 ∷
+    open_entry 4 ∷ open_entry 5 ∷ ending_block_entry ∷ []
 
 abbrev pub table : Table
 table = table_of entries

@@ -13,6 +13,7 @@ use Rattle.rap_grammar_table.specs.Categories.{Ty, PlainTy, TyBeforePlus, Anchor
 use Rattle.rap_grammar_table.specs.Known.{Place, never, behind}
 use Rattle.rap_grammar_table.specs.Narrow.{those}
 use Rattle.rap_grammar_table.specs.Look.{anything}
+use Rattle.rap_grammar_table.specs.Operators.{cast_follows}
 use Rattle.rap_grammar_table.specs.Notation.{up_to, Part, ◌⊳◌, t, ts, op, c, node, opt, either, commas, commas_last, until, alone, fold, guard, guard_before, Entry, text, read_text, of_kinds, of_names, touching, colons}
 
 -- a return type
@@ -44,7 +45,7 @@ args_firsts =
     ∷ colons ((of_kinds (L_ANGLE ∷ L_PAREN ∷ []) ∷ []) ∷ [])
 
 abbrev pub args_entry : Entry
-args_entry = text args_rows args_firsts segment_follows
+args_entry = text args_rows args_firsts (segment_follows ++ cast_follows)
 
 abbrev pub opt_args : Part
 opt_args = alone (opt (c Args))

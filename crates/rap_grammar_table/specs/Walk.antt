@@ -1,14 +1,14 @@
 -- A script walked along the pieces of a row.
-use Rattle.std.specs.Prelude.{ℕ, zero, suc, Bool, true, false, ◌&&◌, ◌||◌, List, [], ◌∷◌, ◌++◌}
+use Rattle.std.specs.Prelude.{ℕ, zero, suc, Bool, true, false, ◌&&◌, ◌||◌, List, [], ◌∷◌, ◌++◌, Option, Some, None}
 use Rattle.rap_grammar_scripts.specs.Script.{Script, Outcome, nothing, something, block, again, give, test, ends_with, token, any, bear, report, report_next, skip, start, precede, finish, extend, abandon, split_float, after, rule, loop}
 use Rattle.rap_grammar_scripts.specs.declared.rule.Rule.{Rule}
 use Rattle.rap_grammar_table.specs.Built.{empty, last_same, At, with_own, at_start, fold_start, after_piece, after_fold}
-use Rattle.rap_grammar_table.specs.Known.{Place}
+use Rattle.rap_grammar_table.specs.Known.{Answer, sure, never, unclear, Place}
 use Rattle.rap_grammar_table.specs.Look.{look, after_way, anything}
 use Rattle.rap_grammar_table.specs.Narrow.{either_is}
 use Rattle.rap_grammar_table.specs.Refusal.{word_of, stopped, ends_as, goes_on_as, too_deep, in_turn, after_turns, in_part, takes, takes_any, bears, turns, Verdict, accepted, refused, both, check, provided, by_bool, or_else_so, told_with, or_earlier, or_later}
 use Rattle.rap_grammar_table.specs.Table.{Items, nil, begin, close, choice, repeat, group, folds, way, unless, Table, Piece, tok, word, comp, cat, piece}
-use Rattle.rap_grammar_table.specs.Ways.{expose, tested, front, is_token, is_some, is_bearer, read_rule, finish_own, extend_own, abandon_own, precede_own, ends_whole, ends_so, every_outcome, same_flag}
+use Rattle.rap_grammar_table.specs.Ways.{answer_at, expose, tested, front, is_token, is_some, is_bearer, read_rule, finish_own, extend_own, abandon_own, precede_own, ends_whole, ends_so, every_outcome, same_flag}
 
 -- a turn that goes on, or the last one
 abbrev pub next_turn : Outcome → At → (Bool → Bool → At → Verdict) → (Outcome → At → Verdict) → Verdict
@@ -162,6 +162,41 @@ at_part t (choice a b is) = either_is (at_part t a) (either_is (at_part t b) (at
 at_part t (group a is) = true
 at_part t is = false
 
+-- The outcome of a script that surely takes nothing where a walk is: by what is known of its tests.
+abbrev pub and_passed : Option Outcome → (Outcome → Option Outcome) → Option Outcome
+and_passed None f = None
+and_passed (Some v) f = f v
+
+abbrev pub no_turn : Outcome → Option Outcome
+no_turn nothing = Some nothing
+no_turn something = Some something
+no_turn block = Some block
+no_turn (again a b) = None
+
+abbrev pub by_sure : Answer → (Unit {0} → Option Outcome) → (Unit {0} → Option Outcome) → Option Outcome
+by_sure sure f g = f tt
+by_sure never f g = g tt
+by_sure unclear f g = None
+
+abbrev pub passed : Table → List (List Place) → At → Script Rule → Option Outcome
+passed t f s (give v) = Some v
+passed t f s (test h a b) = by_sure (answer_at t f h s) (λ u. passed t f s a) (λ u. passed t f s b)
+passed t f s (after a n) = and_passed (passed t f s a) (λ v. passed t f s (n v))
+passed t f s (loop h a b) = and_passed (passed t f s (h a b)) no_turn
+passed t f s a = None
+
+abbrev pub is_none : Option Outcome → Bool
+is_none None = true
+is_none (Some v) = false
+
+-- whether a part may be read by a script alone: one comes next, and the script may take something
+abbrev pub where_part : Bool → (Unit {0} → Bool) → Bool
+where_part true f = f tt
+where_part false f = false
+
+abbrev pub takes_part : Table → List (List Place) → Script Rule → At → Bool
+takes_part t f a s = where_part (at_part t s.items) (λ u. is_none (passed t f s a))
+
 abbrev pub first_outcomes : (List Outcome → Verdict) → List (List Outcome) → (List Outcome → Verdict) → Verdict
 first_outcomes f [] k = refused (ends_as nothing)
 first_outcomes f (x ∷ xs) k = or_else_so (f x) (λ u. k x) (λ r. or_later r (first_outcomes f xs k))
@@ -242,7 +277,7 @@ walk o t f (extend a) s k = extend_own s (λ q. walk o t f a q k) s.owns
 walk o t f (abandon a) s k = abandon_own s (λ q. walk o t f a q k) s.owns
 walk o t f (split_float a b) s k = refused (stopped (word_of (split_float a b)) s.items)
 walk o t f (after a n) s k =
-    first_try (at_part t s.items)
+    first_try (takes_part t f a s)
     (λ u. expose t f s
     (λ q. parting o a (λ g r m. walk o t g a r m) t f q.items q (λ v r. walk o t f (n v) r k)))
     (λ u. walk o t f a s (λ v q. walk o t f (n v) q k))

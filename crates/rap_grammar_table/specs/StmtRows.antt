@@ -1,0 +1,144 @@
+-- The rows of blocks, of what has them, and of statements.
+use Rattle.std.specs.Prelude.{◌==◌, not, false, true, List, [], ◌∷◌, ◌++◌}
+use Rattle.rap_base.specs.NodeKind.{BLOCK_EXPR, EXPR_STMT, FOR_EXPR, IF_EXPR, LABEL, LET_STMT, LOOP_EXPR, MACRO_CALL, MACRO_EXPR, MATCH_ARM, MATCH_ARM_LIST, MATCH_EXPR, MATCH_GUARD, STMT_LIST, TRY_BLOCK_MODIFIER, WHILE_EXPR, MACRO_RULES}
+use Rattle.rap_base.specs.TokenKind.{EOF, SEMICOLON, COMMA, COLON, EQ, L_BRACK, R_CURLY, L_CURLY, L_ANGLE, BANG, DOT, QUESTION, PIPE, FAT_ARROW, SHEBANG, ASYNC_KW, CONST_KW, ELSE_KW, FOR_KW, IF_KW, IN_KW, LET_KW, LOOP_KW, MACRO_RULES_KW, MATCH_KW, MOVE_KW, TRY_KW, UNSAFE_KW, WHILE_KW}
+use Rattle.rap_grammar_scripts.specs.First.{one_of}
+use Rattle.rap_grammar_scripts.specs.Script.{Outcome, something, block}
+use Rattle.rap_grammar_scripts.specs.Words.{next_is}
+use Rattle.rap_grammar_scripts.specs.declared.arguments.Semicolon.{Semicolon}
+use Rattle.rap_grammar_scripts.specs.declared.arguments.Semicolon.TheVariants as semicolon
+use Rattle.rap_grammar_scripts.specs.declared.rule.Rule.{Rule}
+use Rattle.rap_grammar_scripts.specs.declared.rule.Rule.TheVariants as knot
+use Rattle.rap_grammar_table.specs.Categories.{Ty, Pattern, Expr, Stmt, Block, AtomPath, BraceTree, StmtList, If, WithBlock, EndingBlock, Arm, LastArm, StmtOperand, OpenAtom, Condition, Guard, StmtExpr, StmtBlock, BlockStmt, Tail, attrs, attr_heads, inner_attrs, lifetime, name}
+use Rattle.rap_grammar_table.specs.ExprRows.{block_part, by_expr, kinds_only, no_rule, nodes_of, nodes_with, open_firsts, operand_firsts, with_block_firsts}
+use Rattle.rap_grammar_table.specs.ItemRows.{import_items, item_heads, opt_visibility, other_items, struct_items, trait_items, tree_and_end}
+use Rattle.rap_grammar_table.specs.Known.{Place}
+use Rattle.rap_grammar_table.specs.Look.{anything}
+use Rattle.rap_grammar_table.specs.Narrow.{those}
+use Rattle.rap_grammar_table.specs.Notation.{up_to, Part, ◌⊳◌, t, ts, weak, op, c, node, opt, either, many, until, guard, around, Entry, text, of_kinds, touching}
+use Rattle.rap_grammar_table.specs.Operators.{all_turns, expr_ends}
+use Rattle.rap_grammar_table.specs.PatternRows.{single_heads}
+
+-- A block, and its statements: one that ends with its block and without a semicolon is not the last.
+abbrev pub stmt_list_entry : Entry
+stmt_list_entry =
+    text
+    (node STMT_LIST
+    (t L_CURLY ⊳ inner_attrs ⊳ opt (until (either (c Stmt) (c BlockStmt)) (either (c Stmt) (c Tail))) ⊳ t R_CURLY) ∷ [])
+    ((of_kinds (L_CURLY ∷ []) ∷ []) ∷ []) anything
+
+abbrev pub block_entry : Entry
+block_entry = text (block_part ∷ []) ((of_kinds (L_CURLY ∷ []) ∷ []) ∷ []) anything
+
+-- any token but an `else`
+abbrev pub no_else : List (List Place)
+no_else = kinds_only (EOF ∷ those (λ kind. not (kind == ELSE_KW)) (up_to SHEBANG))
+
+abbrev pub if_expr : Part
+if_expr = node IF_EXPR (t IF_KW ⊳ c Condition ⊳ c Block ⊳ opt (t ELSE_KW ⊳ either (c If) block_part))
+
+abbrev pub if_read_by : Rule → List Outcome
+if_read_by knot.IfExpr = something ∷ []
+if_read_by r = []
+
+abbrev pub if_entry : Entry
+if_entry = nodes_of if_read_by (if_expr ∷ []) (kinds_only (IF_KW ∷ [])) no_else
+
+-- the arms of a `match`
+abbrev pub arm_head : Part
+arm_head = attrs ⊳ c Pattern ⊳ opt (node MATCH_GUARD (t IF_KW ⊳ c Guard)) ⊳ op FAT_ARROW
+
+abbrev pub arm_firsts : List (List Place)
+arm_firsts = (of_kinds (PIPE ∷ []) ∷ []) ∷ (single_heads ++ attr_heads)
+
+abbrev pub arm_entry : Entry
+arm_entry =
+    text (node MATCH_ARM (arm_head ⊳ either (c StmtExpr ⊳ t COMMA) (c StmtBlock ⊳ opt (t COMMA))) ∷ []) arm_firsts
+    ((of_kinds (R_CURLY ∷ []) ∷ []) ∷ arm_firsts)
+
+abbrev pub last_arm_entry : Entry
+last_arm_entry = text (node MATCH_ARM (arm_head ⊳ c StmtExpr) ∷ []) arm_firsts (kinds_only (R_CURLY ∷ []))
+
+abbrev pub match_expr : Part
+match_expr =
+    node MATCH_EXPR
+    (t MATCH_KW ⊳ c Condition ⊳
+    node MATCH_ARM_LIST (t L_CURLY ⊳ inner_attrs ⊳ until (c Arm) (opt (c LastArm)) ⊳ t R_CURLY))
+
+-- loops and blocks, which may have a label, and a block that is told what it is
+abbrev pub label : Part
+label = node LABEL (lifetime ⊳ t COLON)
+
+abbrev pub with_blocks : List Part
+with_blocks =
+    if_expr
+    ∷ match_expr
+    ∷ node LOOP_EXPR (opt label ⊳ t LOOP_KW ⊳ c Block)
+    ∷ node WHILE_EXPR (opt label ⊳ t WHILE_KW ⊳ c Condition ⊳ c Block)
+    ∷ node FOR_EXPR (opt label ⊳ t FOR_KW ⊳ guard (next_is L_ANGLE) ⊳ c Pattern ⊳ t IN_KW ⊳ c Condition ⊳ c Block)
+    ∷ node BLOCK_EXPR (opt label ⊳ c StmtList)
+    ∷ node BLOCK_EXPR (ts (UNSAFE_KW ∷ CONST_KW ∷ ASYNC_KW ∷ []) ⊳ c StmtList)
+    ∷ node BLOCK_EXPR (t ASYNC_KW ⊳ t MOVE_KW ⊳ c StmtList)
+    ∷ node BLOCK_EXPR (node TRY_BLOCK_MODIFIER (t TRY_KW) ⊳ c StmtList)
+    ∷ node MACRO_EXPR (node MACRO_CALL (c AtomPath ⊳ t BANG ⊳ c BraceTree))
+    ∷ []
+
+abbrev pub with_block_entry : Entry
+with_block_entry = nodes_with ((block ∷ []) ∷ []) no_rule with_blocks with_block_firsts no_else
+
+-- Expressions at the beginning of a statement, and in an arm: one that does not end with its block, and one that does.
+abbrev pub stmt_exprs : List Part
+stmt_exprs = (c StmtOperand ⊳ around 12 all_turns) ∷ c OpenAtom ∷ []
+
+abbrev pub stmt_expr_entry : Entry
+stmt_expr_entry =
+    nodes_of (by_expr false true 1 (something ∷ [])) stmt_exprs (operand_firsts ++ open_firsts) (expr_ends false)
+
+-- What goes on with no block at the beginning of a statement: no `.` but that of a range, no `?` and no `else`.
+abbrev pub after_stmt_block : List (List Place)
+after_stmt_block =
+    kinds_only (EOF ∷ those (λ kind. not (one_of (ELSE_KW ∷ DOT ∷ QUESTION ∷ []) kind)) (up_to SHEBANG)) ++
+    (touching DOT ∷ of_kinds (DOT ∷ []) ∷ []) ∷ []
+
+abbrev pub ending_block_entry : Entry
+ending_block_entry = nodes_with ((block ∷ []) ∷ []) no_rule with_blocks with_block_firsts after_stmt_block
+
+abbrev pub stmt_block_entry : Entry
+stmt_block_entry =
+    nodes_of (by_expr false true 1 (block ∷ [])) (c EndingBlock ∷ []) with_block_firsts after_stmt_block
+
+-- statements
+abbrev pub stmt_read_by : Rule → List Outcome
+stmt_read_by (knot.Stmt semicolon.Required) = something ∷ []
+stmt_read_by r = []
+
+abbrev pub under_stmt : List Part → List Part
+under_stmt [] = []
+under_stmt (a ∷ more) = node EXPR_STMT (a ⊳ t SEMICOLON) ∷ under_stmt more
+
+abbrev pub let_stmt : Part
+let_stmt =
+    node LET_STMT
+    (attrs ⊳ t LET_KW ⊳ c Pattern ⊳ opt (t COLON ⊳ guard (next_is COLON) ⊳ c Ty) ⊳ opt (t EQ ⊳ c Expr) ⊳ t SEMICOLON)
+
+abbrev pub macro_rules : Part
+macro_rules = node MACRO_RULES (attrs ⊳ opt_visibility ⊳ weak MACRO_RULES_KW ⊳ t BANG ⊳ name ⊳ tree_and_end)
+
+abbrev pub stmt_firsts : List (List Place)
+stmt_firsts =
+    kinds_only (LET_KW ∷ []) ++ (operand_firsts ++ (open_firsts ++ item_heads))
+
+abbrev pub stmt_entry : Entry
+stmt_entry =
+    nodes_of stmt_read_by
+    (let_stmt ∷
+    (under_stmt (c EndingBlock ∷ stmt_exprs) ++
+    (struct_items ++ (other_items ++ (import_items ++ (trait_items ++ macro_rules ∷ []))))))
+    stmt_firsts (kinds_only (R_CURLY ∷ []) ++ stmt_firsts)
+
+abbrev pub block_stmt_entry : Entry
+block_stmt_entry = nodes_of stmt_read_by (node EXPR_STMT (c EndingBlock) ∷ []) with_block_firsts stmt_firsts
+
+abbrev pub tail_entry : Entry
+tail_entry =
+    nodes_of stmt_read_by (c EndingBlock ∷ stmt_exprs) (operand_firsts ++ open_firsts) (kinds_only (R_CURLY ∷ []))
