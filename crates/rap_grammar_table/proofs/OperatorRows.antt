@@ -17,7 +17,7 @@ use Rattle.rap_grammar_scripts.specs.declared.arguments.Restrictions.{Restrictio
 use Rattle.rap_grammar_scripts.specs.declared.rule.Rule.{Rule}
 use Rattle.rap_grammar_scripts.specs.declared.rule.Rule.TheVariants as knot
 use Rattle.rap_grammar_table.specs.Categories.{Operand, OpenAtom}
-use Rattle.rap_grammar_table.specs.ExprRows.{closed_entry, condition_entry, expr_entry, guard_entry, open_entry, range_end_entry, range_read_by}
+use Rattle.rap_grammar_table.specs.ExprRows.{closed_entry, condition_entry, expr_entry, guard_entry, open_entry, range_end_entry, range_read_by, with_cast_entry}
 use Rattle.rap_grammar_table.specs.Notation.{Entry}
 use Rattle.rap_grammar_table.specs.Refusal.{Verdict, accepted, both, by_bool}
 use Rattle.rap_grammar_table.specs.Rows.{table}
@@ -405,6 +405,244 @@ pub closed_forbidden_12 : EntryChecked table (closed_entry true 12)
 closed_forbidden_12 =
     record {
       reads = read_by_expr table (closed_entry true 12) true false 12 (something ∷ []) (closed_forbidden_12_with (reads_rows nesting table) forbidden);
+      begins = refl;
+      followed = refl;
+      nodes = λ h. refl;
+    }
+
+with_cast_6_taken : all_with (with_cast_entry false 6) (expr_rule false false 6) (with_cast_entry false 6).rows accepted accepted ≡ accepted
+unfolding climbing
+with_cast_6_taken = refl
+
+with_cast_6_with : WithSo false (with_cast_entry false 6) (expr_rule false false 6) (with_cast_entry false 6).rows
+unfolding climbing
+with_cast_6_with o h = taken false (with_cast_entry false 6) (expr_rule false false 6) (with_cast_entry false 6).rows o h with_cast_6_taken
+
+pub with_cast_6 : EntryChecked table (with_cast_entry false 6)
+with_cast_6 =
+    record {
+      reads = read_by_expr table (with_cast_entry false 6) false false 6 (something ∷ []) (with_cast_6_with (reads_rows nesting table) plain);
+      begins = refl;
+      followed = refl;
+      nodes = λ h. refl;
+    }
+
+with_cast_7_taken : all_with (with_cast_entry false 7) (expr_rule false false 7) (with_cast_entry false 7).rows accepted accepted ≡ accepted
+unfolding climbing
+with_cast_7_taken = refl
+
+with_cast_7_with : WithSo false (with_cast_entry false 7) (expr_rule false false 7) (with_cast_entry false 7).rows
+unfolding climbing
+with_cast_7_with o h = taken false (with_cast_entry false 7) (expr_rule false false 7) (with_cast_entry false 7).rows o h with_cast_7_taken
+
+pub with_cast_7 : EntryChecked table (with_cast_entry false 7)
+with_cast_7 =
+    record {
+      reads = read_by_expr table (with_cast_entry false 7) false false 7 (something ∷ []) (with_cast_7_with (reads_rows nesting table) plain);
+      begins = refl;
+      followed = refl;
+      nodes = λ h. refl;
+    }
+
+with_cast_8_taken : all_with (with_cast_entry false 8) (expr_rule false false 8) (with_cast_entry false 8).rows accepted accepted ≡ accepted
+unfolding climbing
+with_cast_8_taken = refl
+
+with_cast_8_with : WithSo false (with_cast_entry false 8) (expr_rule false false 8) (with_cast_entry false 8).rows
+unfolding climbing
+with_cast_8_with o h = taken false (with_cast_entry false 8) (expr_rule false false 8) (with_cast_entry false 8).rows o h with_cast_8_taken
+
+pub with_cast_8 : EntryChecked table (with_cast_entry false 8)
+with_cast_8 =
+    record {
+      reads = read_by_expr table (with_cast_entry false 8) false false 8 (something ∷ []) (with_cast_8_with (reads_rows nesting table) plain);
+      begins = refl;
+      followed = refl;
+      nodes = λ h. refl;
+    }
+
+with_cast_9_taken : all_with (with_cast_entry false 9) (expr_rule false false 9) (with_cast_entry false 9).rows accepted accepted ≡ accepted
+unfolding climbing
+with_cast_9_taken = refl
+
+with_cast_9_with : WithSo false (with_cast_entry false 9) (expr_rule false false 9) (with_cast_entry false 9).rows
+unfolding climbing
+with_cast_9_with o h = taken false (with_cast_entry false 9) (expr_rule false false 9) (with_cast_entry false 9).rows o h with_cast_9_taken
+
+pub with_cast_9 : EntryChecked table (with_cast_entry false 9)
+with_cast_9 =
+    record {
+      reads = read_by_expr table (with_cast_entry false 9) false false 9 (something ∷ []) (with_cast_9_with (reads_rows nesting table) plain);
+      begins = refl;
+      followed = refl;
+      nodes = λ h. refl;
+    }
+
+with_cast_10_taken : all_with (with_cast_entry false 10) (expr_rule false false 10) (with_cast_entry false 10).rows accepted accepted ≡ accepted
+unfolding climbing
+with_cast_10_taken = refl
+
+with_cast_10_with : WithSo false (with_cast_entry false 10) (expr_rule false false 10) (with_cast_entry false 10).rows
+unfolding climbing
+with_cast_10_with o h = taken false (with_cast_entry false 10) (expr_rule false false 10) (with_cast_entry false 10).rows o h with_cast_10_taken
+
+pub with_cast_10 : EntryChecked table (with_cast_entry false 10)
+with_cast_10 =
+    record {
+      reads = read_by_expr table (with_cast_entry false 10) false false 10 (something ∷ []) (with_cast_10_with (reads_rows nesting table) plain);
+      begins = refl;
+      followed = refl;
+      nodes = λ h. refl;
+    }
+
+with_cast_11_taken : all_with (with_cast_entry false 11) (expr_rule false false 11) (with_cast_entry false 11).rows accepted accepted ≡ accepted
+unfolding climbing
+with_cast_11_taken = refl
+
+with_cast_11_with : WithSo false (with_cast_entry false 11) (expr_rule false false 11) (with_cast_entry false 11).rows
+unfolding climbing
+with_cast_11_with o h = taken false (with_cast_entry false 11) (expr_rule false false 11) (with_cast_entry false 11).rows o h with_cast_11_taken
+
+pub with_cast_11 : EntryChecked table (with_cast_entry false 11)
+with_cast_11 =
+    record {
+      reads = read_by_expr table (with_cast_entry false 11) false false 11 (something ∷ []) (with_cast_11_with (reads_rows nesting table) plain);
+      begins = refl;
+      followed = refl;
+      nodes = λ h. refl;
+    }
+
+with_cast_12_taken : all_with (with_cast_entry false 12) (expr_rule false false 12) (with_cast_entry false 12).rows accepted accepted ≡ accepted
+unfolding climbing
+with_cast_12_taken = refl
+
+with_cast_12_with : WithSo false (with_cast_entry false 12) (expr_rule false false 12) (with_cast_entry false 12).rows
+unfolding climbing
+with_cast_12_with o h = taken false (with_cast_entry false 12) (expr_rule false false 12) (with_cast_entry false 12).rows o h with_cast_12_taken
+
+pub with_cast_12 : EntryChecked table (with_cast_entry false 12)
+with_cast_12 =
+    record {
+      reads = read_by_expr table (with_cast_entry false 12) false false 12 (something ∷ []) (with_cast_12_with (reads_rows nesting table) plain);
+      begins = refl;
+      followed = refl;
+      nodes = λ h. refl;
+    }
+
+with_cast_forbidden_6_taken : all_with (with_cast_entry true 6) (expr_rule true false 6) (with_cast_entry true 6).rows accepted accepted ≡ accepted
+unfolding climbing
+with_cast_forbidden_6_taken = refl
+
+with_cast_forbidden_6_with : WithSo true (with_cast_entry true 6) (expr_rule true false 6) (with_cast_entry true 6).rows
+unfolding climbing
+with_cast_forbidden_6_with o h = taken true (with_cast_entry true 6) (expr_rule true false 6) (with_cast_entry true 6).rows o h with_cast_forbidden_6_taken
+
+pub with_cast_forbidden_6 : EntryChecked table (with_cast_entry true 6)
+with_cast_forbidden_6 =
+    record {
+      reads = read_by_expr table (with_cast_entry true 6) true false 6 (something ∷ []) (with_cast_forbidden_6_with (reads_rows nesting table) forbidden);
+      begins = refl;
+      followed = refl;
+      nodes = λ h. refl;
+    }
+
+with_cast_forbidden_7_taken : all_with (with_cast_entry true 7) (expr_rule true false 7) (with_cast_entry true 7).rows accepted accepted ≡ accepted
+unfolding climbing
+with_cast_forbidden_7_taken = refl
+
+with_cast_forbidden_7_with : WithSo true (with_cast_entry true 7) (expr_rule true false 7) (with_cast_entry true 7).rows
+unfolding climbing
+with_cast_forbidden_7_with o h = taken true (with_cast_entry true 7) (expr_rule true false 7) (with_cast_entry true 7).rows o h with_cast_forbidden_7_taken
+
+pub with_cast_forbidden_7 : EntryChecked table (with_cast_entry true 7)
+with_cast_forbidden_7 =
+    record {
+      reads = read_by_expr table (with_cast_entry true 7) true false 7 (something ∷ []) (with_cast_forbidden_7_with (reads_rows nesting table) forbidden);
+      begins = refl;
+      followed = refl;
+      nodes = λ h. refl;
+    }
+
+with_cast_forbidden_8_taken : all_with (with_cast_entry true 8) (expr_rule true false 8) (with_cast_entry true 8).rows accepted accepted ≡ accepted
+unfolding climbing
+with_cast_forbidden_8_taken = refl
+
+with_cast_forbidden_8_with : WithSo true (with_cast_entry true 8) (expr_rule true false 8) (with_cast_entry true 8).rows
+unfolding climbing
+with_cast_forbidden_8_with o h = taken true (with_cast_entry true 8) (expr_rule true false 8) (with_cast_entry true 8).rows o h with_cast_forbidden_8_taken
+
+pub with_cast_forbidden_8 : EntryChecked table (with_cast_entry true 8)
+with_cast_forbidden_8 =
+    record {
+      reads = read_by_expr table (with_cast_entry true 8) true false 8 (something ∷ []) (with_cast_forbidden_8_with (reads_rows nesting table) forbidden);
+      begins = refl;
+      followed = refl;
+      nodes = λ h. refl;
+    }
+
+with_cast_forbidden_9_taken : all_with (with_cast_entry true 9) (expr_rule true false 9) (with_cast_entry true 9).rows accepted accepted ≡ accepted
+unfolding climbing
+with_cast_forbidden_9_taken = refl
+
+with_cast_forbidden_9_with : WithSo true (with_cast_entry true 9) (expr_rule true false 9) (with_cast_entry true 9).rows
+unfolding climbing
+with_cast_forbidden_9_with o h = taken true (with_cast_entry true 9) (expr_rule true false 9) (with_cast_entry true 9).rows o h with_cast_forbidden_9_taken
+
+pub with_cast_forbidden_9 : EntryChecked table (with_cast_entry true 9)
+with_cast_forbidden_9 =
+    record {
+      reads = read_by_expr table (with_cast_entry true 9) true false 9 (something ∷ []) (with_cast_forbidden_9_with (reads_rows nesting table) forbidden);
+      begins = refl;
+      followed = refl;
+      nodes = λ h. refl;
+    }
+
+with_cast_forbidden_10_taken : all_with (with_cast_entry true 10) (expr_rule true false 10) (with_cast_entry true 10).rows accepted accepted ≡ accepted
+unfolding climbing
+with_cast_forbidden_10_taken = refl
+
+with_cast_forbidden_10_with : WithSo true (with_cast_entry true 10) (expr_rule true false 10) (with_cast_entry true 10).rows
+unfolding climbing
+with_cast_forbidden_10_with o h = taken true (with_cast_entry true 10) (expr_rule true false 10) (with_cast_entry true 10).rows o h with_cast_forbidden_10_taken
+
+pub with_cast_forbidden_10 : EntryChecked table (with_cast_entry true 10)
+with_cast_forbidden_10 =
+    record {
+      reads = read_by_expr table (with_cast_entry true 10) true false 10 (something ∷ []) (with_cast_forbidden_10_with (reads_rows nesting table) forbidden);
+      begins = refl;
+      followed = refl;
+      nodes = λ h. refl;
+    }
+
+with_cast_forbidden_11_taken : all_with (with_cast_entry true 11) (expr_rule true false 11) (with_cast_entry true 11).rows accepted accepted ≡ accepted
+unfolding climbing
+with_cast_forbidden_11_taken = refl
+
+with_cast_forbidden_11_with : WithSo true (with_cast_entry true 11) (expr_rule true false 11) (with_cast_entry true 11).rows
+unfolding climbing
+with_cast_forbidden_11_with o h = taken true (with_cast_entry true 11) (expr_rule true false 11) (with_cast_entry true 11).rows o h with_cast_forbidden_11_taken
+
+pub with_cast_forbidden_11 : EntryChecked table (with_cast_entry true 11)
+with_cast_forbidden_11 =
+    record {
+      reads = read_by_expr table (with_cast_entry true 11) true false 11 (something ∷ []) (with_cast_forbidden_11_with (reads_rows nesting table) forbidden);
+      begins = refl;
+      followed = refl;
+      nodes = λ h. refl;
+    }
+
+with_cast_forbidden_12_taken : all_with (with_cast_entry true 12) (expr_rule true false 12) (with_cast_entry true 12).rows accepted accepted ≡ accepted
+unfolding climbing
+with_cast_forbidden_12_taken = refl
+
+with_cast_forbidden_12_with : WithSo true (with_cast_entry true 12) (expr_rule true false 12) (with_cast_entry true 12).rows
+unfolding climbing
+with_cast_forbidden_12_with o h = taken true (with_cast_entry true 12) (expr_rule true false 12) (with_cast_entry true 12).rows o h with_cast_forbidden_12_taken
+
+pub with_cast_forbidden_12 : EntryChecked table (with_cast_entry true 12)
+with_cast_forbidden_12 =
+    record {
+      reads = read_by_expr table (with_cast_entry true 12) true false 12 (something ∷ []) (with_cast_forbidden_12_with (reads_rows nesting table) forbidden);
       begins = refl;
       followed = refl;
       nodes = λ h. refl;

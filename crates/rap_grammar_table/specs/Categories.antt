@@ -250,6 +250,10 @@ Open power = 87 + power
 abbrev pub EndingBlock : ℕ
 EndingBlock = 93
 
+-- an expression of operators of at least this power, from 6 to 12, that may end with a cast
+abbrev pub WithCast : Bool → ℕ → ℕ
+WithCast forbid power = where_forbidden forbid (88 + power) (95 + power)
+
 -- names
 abbrev pub name : Part
 name = node NAME (names (IDENT ∷ []))

@@ -2,6 +2,7 @@
 use Rattle.std.specs.Prelude.{ℕ, ◌==◌, ◌&&◌, ◌||◌, nat_lt, Bool, true, false, List, [], ◌∷◌, ◌++◌}
 use Rattle.rap_base.specs.NodeKind.{ARG_LIST, ARRAY_EXPR, AWAIT_EXPR, BLOCK_EXPR, BREAK_EXPR, CALL_EXPR, CLOSURE_EXPR, CONTINUE_EXPR, FIELD_EXPR, GENERIC_ARG_LIST, INDEX_EXPR, INFER_TYPE, LET_EXPR, MACRO_CALL, MACRO_EXPR, METHOD_CALL_EXPR, NAME_REF, PARAM, PARAM_LIST, PAREN_EXPR, PATH, PATH_EXPR, PATH_SEGMENT, PATH_TYPE, PREFIX_EXPR, PTR_TYPE, RANGE_EXPR, RECORD_EXPR, RECORD_EXPR_FIELD, RECORD_EXPR_FIELD_LIST, REF_EXPR, REF_TYPE, RETURN_EXPR, TRY_EXPR, TUPLE_EXPR, UNDERSCORE_EXPR}
 use Rattle.rap_base.specs.TokenKind.{IDENT, SEMICOLON, COMMA, COLON, COLON2, EQ, L_PAREN, R_PAREN, L_BRACK, R_BRACK, L_CURLY, R_CURLY, L_ANGLE, R_ANGLE, AMP, STAR, BANG, MINUS, PIPE, DOT, DOT2, DOT2EQ, QUESTION, UNDERSCORE, LIFETIME_IDENT, INT_NUMBER, ASYNC_KW, AWAIT_KW, BREAK_KW, CONST_KW, CONTINUE_KW, EXTERN_KW, FN_KW, FOR_KW, IF_KW, LET_KW, LOOP_KW, MATCH_KW, MOVE_KW, MUT_KW, RAW_KW, REF_KW, RETURN_KW, TRY_KW, UNSAFE_KW, WHILE_KW}
+use Rattle.rap_events.specs.OperatorTable.{operators}
 use Rattle.rap_grammar_scripts.specs.Script.{Outcome, something, block}
 use Rattle.rap_grammar_scripts.specs.Words.{next_is}
 use Rattle.rap_grammar_scripts.specs.declared.arguments.Restrictions.{Restrictions}
@@ -12,7 +13,7 @@ use Rattle.rap_grammar_table.specs.Categories.{Ty, PlainTy, Argument, Expr, Stmt
 use Rattle.rap_grammar_table.specs.Known.{Place, behind}
 use Rattle.rap_grammar_table.specs.Look.{anything}
 use Rattle.rap_grammar_table.specs.Notation.{Part, ◌⊳◌, t, ts, weak, op, c, node, opt, either, commas, commas_last, alone, guard, turn, around, Entry, text, read_text, rows_of, of_kinds, of_names, touching, colons}
-use Rattle.rap_grammar_table.specs.Operators.{atom_kinds, block_kinds, operand_kinds, open_kinds, operator_kinds, end_kinds, arrow, expr_ends, operand_ends, closed_follows, cast_follows, operand_follows, atom_follows, path_follows, path_heads, binary, closed_turns, cast, with_cast, range_turn, range_with_end, and_open, all_turns}
+use Rattle.rap_grammar_table.specs.Operators.{atom_kinds, block_kinds, operand_kinds, open_kinds, operator_kinds, end_kinds, arrow, expr_ends, operand_ends, closed_follows, cast_follows, operand_follows, atom_follows, path_follows, path_heads, places_in, if_kind, binary, closed_turns, cast_turns, range_turn, range_with_end, and_open, all_turns}
 use Rattle.rap_grammar_table.specs.TypeRows.{expr_path_rows, fn_pointer, named_paths, plain_read_by, ret}
 use Rattle.rap_grammar_table.specs.Ways.{same_flag}
 
@@ -257,8 +258,14 @@ kinds_only kinds = (of_kinds kinds ∷ []) ∷ []
 
 abbrev pub closed_entry : Bool → ℕ → Entry
 closed_entry forbid power =
-    nodes_of (by_expr forbid false power (something ∷ [])) ((c (Operand forbid) ⊳ around 12 (with_cast (nat_lt power 6) (closed_turns forbid power))) ∷ [])
+    nodes_of (by_expr forbid false power (something ∷ [])) ((c (Operand forbid) ⊳ around 12 (if_kind (nat_lt power 6) (cast_turns forbid power) (closed_turns forbid power))) ∷ [])
     (kinds_only operand_kinds) (closed_follows forbid power)
+
+-- the same with a cast at the end, before operators that begin otherwise than generic arguments
+abbrev pub with_cast_entry : Bool → ℕ → Entry
+with_cast_entry forbid power =
+    nodes_of (by_expr forbid false power (something ∷ [])) ((c (Operand forbid) ⊳ around 12 (cast_turns forbid power)) ∷ [])
+    (kinds_only operand_kinds) (operand_ends forbid ++ places_in false power operators)
 
 abbrev pub range_read_by : Bool → Rule → List Outcome
 range_read_by forbid (knot.ExprBp r bp) =
@@ -268,13 +275,13 @@ range_read_by forbid r = []
 
 abbrev pub range_end_entry : Bool → Entry
 range_end_entry forbid =
-    nodes_of (range_read_by forbid) ((c (Operand forbid) ⊳ around 12 (cast ⊳ closed_turns forbid 3)) ∷ [])
+    nodes_of (range_read_by forbid) ((c (Operand forbid) ⊳ around 12 (cast_turns forbid 3)) ∷ [])
     (kinds_only operand_kinds) (operand_ends forbid)
 
 -- the same where what takes in all that follows may stand at the end
 abbrev pub open_turns : Bool → Part
-open_turns true = cast ⊳ closed_turns false 4 ⊳ and_open
-open_turns false = cast ⊳ closed_turns false 5
+open_turns true = cast_turns false 4 ⊳ and_open
+open_turns false = cast_turns false 5
 
 abbrev pub open_entry : ℕ → Entry
 open_entry power =
@@ -284,7 +291,7 @@ open_entry power =
 
 -- a range that has no end, and one that has no start
 abbrev pub open_range : Bool → Part
-open_range forbid = node RANGE_EXPR (c (Operand forbid) ⊳ around 12 (cast ⊳ closed_turns forbid 3) ⊳ op DOT2)
+open_range forbid = node RANGE_EXPR (c (Operand forbid) ⊳ around 12 (cast_turns forbid 3) ⊳ op DOT2)
 
 abbrev pub ranges_to : Bool → List Part
 ranges_to forbid =
@@ -313,14 +320,14 @@ condition_firsts = kinds_only (LET_KW ∷ operand_kinds) ++ (touching DOT ∷ of
 abbrev pub condition_entry : Entry
 condition_entry =
     nodes_of (by_expr true false 1 (something ∷ []))
-    ((c (Operand true) ⊳ around 12 (cast ⊳ closed_turns true 3 ⊳ range_turn true)) ∷ open_range true ∷
+    ((c (Operand true) ⊳ around 12 (cast_turns true 3 ⊳ range_turn true)) ∷ open_range true ∷
     (ranges_to true ++ let_chain true ∷ []))
     condition_firsts (expr_ends true)
 
 abbrev pub guard_entry : Entry
 guard_entry =
     nodes_of (by_expr false false 1 (something ∷ []))
-    ((c (Operand false) ⊳ around 12 (cast ⊳ closed_turns false 3 ⊳ range_turn false)) ∷ let_chain false ∷ [])
+    ((c (Operand false) ⊳ around 12 (cast_turns false 3 ⊳ range_turn false)) ∷ let_chain false ∷ [])
     (kinds_only (LET_KW ∷ operand_kinds)) (arrow ∷ [])
 
 -- the types of casts
