@@ -9,13 +9,13 @@ use Rattle.rap_grammar_scripts.specs.declared.arguments.Semicolon.{Semicolon}
 use Rattle.rap_grammar_scripts.specs.declared.arguments.Semicolon.TheVariants as semicolon
 use Rattle.rap_grammar_scripts.specs.declared.rule.Rule.{Rule}
 use Rattle.rap_grammar_scripts.specs.declared.rule.Rule.TheVariants as knot
-use Rattle.rap_grammar_table.specs.Categories.{Ty, Pattern, Expr, Stmt, Block, AtomPath, BraceTree, StmtList, If, WithBlock, EndingBlock, Arm, LastArm, StmtOperand, OpenAtom, Condition, Guard, StmtExpr, StmtBlock, BlockStmt, Tail, attrs, attr_heads, inner_attrs, lifetime, name}
+use Rattle.rap_grammar_table.specs.Categories.{Ty, Pattern, Expr, Stmt, Block, Attr, AtomPath, RoundTree, BraceTree, StmtList, If, WithBlock, EndingBlock, Arm, LastArm, StmtOperand, OpenAtom, Condition, Guard, StmtExpr, StmtBlock, BlockStmt, Tail, attrs, attr_heads, inner_attrs, lifetime, name}
 use Rattle.rap_grammar_table.specs.ExprRows.{block_part, by_expr, kinds_only, no_rule, nodes_of, nodes_with, open_firsts, operand_firsts, with_block_firsts}
 use Rattle.rap_grammar_table.specs.ItemRows.{import_items, item_heads, opt_visibility, other_items, struct_items, trait_items, tree_and_end}
 use Rattle.rap_grammar_table.specs.Known.{Place}
 use Rattle.rap_grammar_table.specs.Look.{anything}
 use Rattle.rap_grammar_table.specs.Narrow.{those}
-use Rattle.rap_grammar_table.specs.Notation.{up_to, Part, ◌⊳◌, t, ts, weak, op, c, node, opt, either, many, until, guard, around, Entry, text, of_kinds, touching}
+use Rattle.rap_grammar_table.specs.Notation.{up_to, Part, ◌⊳◌, t, ts, weak, op, c, node, opt, either, until, each_under, guard, around, Entry, text, of_kinds, touching}
 use Rattle.rap_grammar_table.specs.Operators.{all_turns, expr_ends}
 use Rattle.rap_grammar_table.specs.PatternRows.{single_heads}
 
@@ -34,15 +34,18 @@ block_entry = text (block_part ∷ []) ((of_kinds (L_CURLY ∷ []) ∷ []) ∷ [
 abbrev pub no_else : List (List Place)
 no_else = kinds_only (EOF ∷ those (λ kind. not (kind == ELSE_KW)) (up_to SHEBANG))
 
-abbrev pub if_expr : Part
-if_expr = node IF_EXPR (t IF_KW ⊳ c Condition ⊳ c Block ⊳ opt (t ELSE_KW ⊳ either (c If) block_part))
+abbrev pub if_after : Part → Part
+if_after pre = node IF_EXPR (pre ⊳ t IF_KW ⊳ c Condition ⊳ c Block ⊳ opt (t ELSE_KW ⊳ either (c If) block_part))
+
+abbrev pub none_before : Part
+none_before r = r
 
 abbrev pub if_read_by : Rule → List Outcome
 if_read_by knot.IfExpr = something ∷ []
 if_read_by r = []
 
 abbrev pub if_entry : Entry
-if_entry = nodes_of if_read_by (if_expr ∷ []) (kinds_only (IF_KW ∷ [])) no_else
+if_entry = nodes_of if_read_by (if_after none_before ∷ []) (kinds_only (IF_KW ∷ [])) no_else
 
 -- the arms of a `match`
 abbrev pub arm_head : Part
@@ -59,32 +62,42 @@ arm_entry =
 abbrev pub last_arm_entry : Entry
 last_arm_entry = text (node MATCH_ARM (arm_head ⊳ c StmtExpr) ∷ []) arm_firsts (kinds_only (R_CURLY ∷ []))
 
-abbrev pub match_expr : Part
-match_expr =
+abbrev pub match_after : Part → Part
+match_after pre =
     node MATCH_EXPR
-    (t MATCH_KW ⊳ c Condition ⊳
+    (pre ⊳ t MATCH_KW ⊳ c Condition ⊳
     node MATCH_ARM_LIST (t L_CURLY ⊳ inner_attrs ⊳ until (c Arm) (opt (c LastArm)) ⊳ t R_CURLY))
 
 -- loops and blocks, which may have a label, and a block that is told what it is
 abbrev pub label : Part
 label = node LABEL (lifetime ⊳ t COLON)
 
-abbrev pub with_blocks : List Part
-with_blocks =
-    if_expr
-    ∷ match_expr
-    ∷ node LOOP_EXPR (opt label ⊳ t LOOP_KW ⊳ c Block)
-    ∷ node WHILE_EXPR (opt label ⊳ t WHILE_KW ⊳ c Condition ⊳ c Block)
-    ∷ node FOR_EXPR (opt label ⊳ t FOR_KW ⊳ guard (next_is L_ANGLE) ⊳ c Pattern ⊳ t IN_KW ⊳ c Condition ⊳ c Block)
-    ∷ node BLOCK_EXPR (opt label ⊳ c StmtList)
-    ∷ node BLOCK_EXPR (ts (UNSAFE_KW ∷ CONST_KW ∷ ASYNC_KW ∷ []) ⊳ c StmtList)
-    ∷ node BLOCK_EXPR (t ASYNC_KW ⊳ t MOVE_KW ⊳ c StmtList)
-    ∷ node BLOCK_EXPR (node TRY_BLOCK_MODIFIER (t TRY_KW) ⊳ c StmtList)
-    ∷ node MACRO_EXPR (node MACRO_CALL (c AtomPath ⊳ t BANG ⊳ c BraceTree))
+abbrev pub with_blocks : Part → List Part
+with_blocks pre =
+    if_after pre
+    ∷ match_after pre
+    ∷ node LOOP_EXPR (pre ⊳ opt label ⊳ t LOOP_KW ⊳ c Block)
+    ∷ node WHILE_EXPR (pre ⊳ opt label ⊳ t WHILE_KW ⊳ c Condition ⊳ c Block)
+    ∷ node FOR_EXPR (pre ⊳ opt label ⊳ t FOR_KW ⊳ guard (next_is L_ANGLE) ⊳ c Pattern ⊳ t IN_KW ⊳ c Condition ⊳ c Block)
+    ∷ node BLOCK_EXPR (pre ⊳ opt label ⊳ c StmtList)
+    ∷ node BLOCK_EXPR (pre ⊳ ts (UNSAFE_KW ∷ CONST_KW ∷ ASYNC_KW ∷ []) ⊳ c StmtList)
+    ∷ node BLOCK_EXPR (pre ⊳ t ASYNC_KW ⊳ t MOVE_KW ⊳ c StmtList)
+    ∷ node BLOCK_EXPR (pre ⊳ node TRY_BLOCK_MODIFIER (t TRY_KW) ⊳ c StmtList)
+    ∷ node MACRO_EXPR (pre ⊳ node MACRO_CALL (c AtomPath ⊳ t BANG ⊳ c BraceTree))
     ∷ []
 
+-- the same behind attributes, which stand in the node, and a macro call with other brackets
+abbrev pub some_attrs : Part
+some_attrs = c Attr ⊳ attrs
+
+abbrev pub attributed_blocks : List Part
+attributed_blocks = with_blocks some_attrs
+
+abbrev pub attributed_call : Part
+attributed_call = node MACRO_EXPR (some_attrs ⊳ node MACRO_CALL (c AtomPath ⊳ t BANG ⊳ c RoundTree))
+
 abbrev pub with_block_entry : Entry
-with_block_entry = nodes_with ((block ∷ []) ∷ []) no_rule with_blocks with_block_firsts no_else
+with_block_entry = nodes_with ((block ∷ []) ∷ []) no_rule (with_blocks none_before) with_block_firsts no_else
 
 -- Expressions at the beginning of a statement, and in an arm: one that does not end with its block, and one that does.
 abbrev pub stmt_exprs : List Part
@@ -101,7 +114,7 @@ after_stmt_block =
     (touching DOT ∷ of_kinds (DOT ∷ []) ∷ []) ∷ []
 
 abbrev pub ending_block_entry : Entry
-ending_block_entry = nodes_with ((block ∷ []) ∷ []) no_rule with_blocks with_block_firsts after_stmt_block
+ending_block_entry = nodes_with ((block ∷ []) ∷ []) no_rule (with_blocks none_before) with_block_firsts after_stmt_block
 
 abbrev pub stmt_block_entry : Entry
 stmt_block_entry =
@@ -132,13 +145,16 @@ abbrev pub stmt_entry : Entry
 stmt_entry =
     nodes_of stmt_read_by
     (let_stmt ∷
-    (under_stmt (c EndingBlock ∷ stmt_exprs) ++
+    (under_stmt (c EndingBlock ∷ (stmt_exprs ++ attributed_call ∷ attributed_blocks)) ++
     (struct_items ++ (other_items ++ (import_items ++ (trait_items ++ macro_rules ∷ []))))))
     stmt_firsts (kinds_only (R_CURLY ∷ []) ++ stmt_firsts)
 
 abbrev pub block_stmt_entry : Entry
-block_stmt_entry = nodes_of stmt_read_by (node EXPR_STMT (c EndingBlock) ∷ []) with_block_firsts stmt_firsts
+block_stmt_entry =
+    nodes_of stmt_read_by (node EXPR_STMT (c EndingBlock) ∷ each_under EXPR_STMT attributed_blocks)
+    (with_block_firsts ++ attr_heads) stmt_firsts
 
 abbrev pub tail_entry : Entry
 tail_entry =
-    nodes_of stmt_read_by (c EndingBlock ∷ stmt_exprs) (operand_firsts ++ open_firsts) (kinds_only (R_CURLY ∷ []))
+    nodes_of stmt_read_by (c EndingBlock ∷ (stmt_exprs ++ attributed_call ∷ attributed_blocks))
+    (operand_firsts ++ (open_firsts ++ attr_heads)) (kinds_only (R_CURLY ∷ []))
