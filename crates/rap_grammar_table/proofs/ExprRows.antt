@@ -1,7 +1,7 @@
 -- The rows of expressions are read: computed.
 use Rattle.std.proofs.Common.{◌≡◌, ℕ, Bool, true, false, ◌&&◌, ◌==◌, refl, sym, subst, List, [], ◌∷◌}
 use Rattle.rap_events.proofs.Truth.{and_left, and_right}
-use Rattle.rap_grammar_scripts.specs.Script.{Outcome, something, block}
+use Rattle.rap_grammar_scripts.specs.Script.{Outcome, something}
 use Rattle.rap_grammar_scripts.specs.declared.arguments.Restrictions.{Restrictions}
 use Rattle.rap_grammar_scripts.specs.declared.rule.Rule.{Rule}
 use Rattle.rap_grammar_scripts.specs.declared.rule.Rule.TheVariants as knot

@@ -351,4 +351,3 @@ sees_left (x ∷ p) q rs (later_way s) = later_way (sees_left p q rs s)
 pub sees_right : (p q : List (List Place)) (rs : List Record) → Sees q rs → Sees (p ++ q) rs
 sees_right [] q rs s = s
 sees_right (x ∷ p) q rs s = later_way (sees_right p q rs s)
-

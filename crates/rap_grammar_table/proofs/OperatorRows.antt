@@ -832,4 +832,3 @@ range_ends_forbidden =
       followed = refl;
       nodes = λ h. refl;
     }
-

@@ -1,5 +1,5 @@
 -- The table is checked, so what it derives is what the scripts make.
-use Rattle.std.proofs.Common.{refl, List, ℕ}
+use Rattle.std.proofs.Common.{List, ℕ}
 use Rattle.rap_events.specs.Forest.{Forest}
 use Rattle.rap_events.specs.Record.{Record}
 use Rattle.rap_grammar_table.specs.Good.{Good}

@@ -1,5 +1,5 @@
 -- A part of a row that is walked to its end is read as its tree.
-use Rattle.std.proofs.Common.{◌≡◌, ℕ, true, ◌&&◌, List, [], ◌∷◌, ◌++◌, refl, sym, ◌∙◌, subst, ap}
+use Rattle.std.proofs.Common.{◌≡◌, true, ◌&&◌, List, [], ◌++◌, refl, sym, ◌∙◌, subst, ap}
 use Rattle.rap_events.proofs.Truth.{and_left, and_right}
 use Rattle.rap_events.specs.Forest.{Forest, none, ◌⧺◌}
 use Rattle.rap_events.specs.Record.{Record}

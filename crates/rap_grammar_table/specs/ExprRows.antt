@@ -1,18 +1,17 @@
 -- The rows of expressions.
 use Rattle.std.specs.Prelude.{ℕ, ◌==◌, ◌&&◌, ◌||◌, nat_lt, Bool, true, false, List, [], ◌∷◌, ◌++◌}
 use Rattle.rap_base.specs.NodeKind.{ARG_LIST, ARRAY_EXPR, AWAIT_EXPR, BLOCK_EXPR, BREAK_EXPR, CALL_EXPR, CLOSURE_EXPR, CONTINUE_EXPR, FIELD_EXPR, GENERIC_ARG_LIST, INDEX_EXPR, INFER_TYPE, LET_EXPR, MACRO_CALL, MACRO_EXPR, METHOD_CALL_EXPR, NAME_REF, PARAM, PARAM_LIST, PAREN_EXPR, PATH, PATH_EXPR, PATH_SEGMENT, PATH_TYPE, PREFIX_EXPR, PTR_TYPE, RANGE_EXPR, RECORD_EXPR, RECORD_EXPR_FIELD, RECORD_EXPR_FIELD_LIST, REF_EXPR, REF_TYPE, RETURN_EXPR, TRY_EXPR, TUPLE_EXPR, UNDERSCORE_EXPR}
-use Rattle.rap_base.specs.TokenKind.{IDENT, SEMICOLON, COMMA, COLON, COLON2, EQ, L_PAREN, R_PAREN, L_BRACK, R_BRACK, L_CURLY, R_CURLY, L_ANGLE, R_ANGLE, AMP, STAR, BANG, MINUS, PIPE, DOT, DOT2, DOT2EQ, QUESTION, UNDERSCORE, LIFETIME_IDENT, INT_NUMBER, ASYNC_KW, AWAIT_KW, BREAK_KW, CONST_KW, CONTINUE_KW, EXTERN_KW, FN_KW, FOR_KW, IF_KW, LET_KW, LOOP_KW, MATCH_KW, MOVE_KW, MUT_KW, RAW_KW, REF_KW, RETURN_KW, TRY_KW, UNSAFE_KW, WHILE_KW}
+use Rattle.rap_base.specs.TokenKind.{IDENT, SEMICOLON, COMMA, COLON, COLON2, EQ, L_PAREN, R_PAREN, L_BRACK, R_BRACK, L_CURLY, R_CURLY, L_ANGLE, R_ANGLE, AMP, STAR, BANG, MINUS, PIPE, DOT, DOT2, QUESTION, UNDERSCORE, LIFETIME_IDENT, INT_NUMBER, ASYNC_KW, AWAIT_KW, BREAK_KW, CONST_KW, CONTINUE_KW, EXTERN_KW, FN_KW, FOR_KW, IF_KW, LET_KW, LOOP_KW, MATCH_KW, MOVE_KW, MUT_KW, RAW_KW, REF_KW, RETURN_KW, TRY_KW, UNSAFE_KW, WHILE_KW}
 use Rattle.rap_events.specs.OperatorTable.{operators}
 use Rattle.rap_grammar_scripts.specs.Script.{Outcome, something, block}
 use Rattle.rap_grammar_scripts.specs.Words.{next_is}
-use Rattle.rap_grammar_scripts.specs.declared.arguments.Restrictions.{Restrictions}
 use Rattle.rap_grammar_scripts.specs.declared.rule.Rule.{Rule}
 use Rattle.rap_grammar_scripts.specs.declared.rule.Rule.TheVariants as knot
 use Rattle.rap_grammar_table.specs.AttributeRows.{tree_in}
-use Rattle.rap_grammar_table.specs.Categories.{Ty, PlainTy, Argument, Expr, StmtList, Pattern, SinglePattern, AtomPath, RoundTree, ArgList, NameExpr, CastTy, CastPath, WithBlock, Atom, Operand, Prefixed, StmtOperand, StmtPrefixed, OpenAtom, OpenPrefixed, RangeEnd, Closed, attrs, lifetime, literal, literals, name_ref, path_names}
+use Rattle.rap_grammar_table.specs.Categories.{Ty, PlainTy, Argument, Expr, StmtList, Pattern, SinglePattern, AtomPath, RoundTree, ArgList, NameExpr, CastTy, CastPath, WithBlock, Atom, Operand, Prefixed, StmtOperand, StmtPrefixed, OpenAtom, OpenPrefixed, Closed, attrs, lifetime, literal, literals, name_ref, path_names}
 use Rattle.rap_grammar_table.specs.Known.{Place, behind}
 use Rattle.rap_grammar_table.specs.Look.{anything}
-use Rattle.rap_grammar_table.specs.Notation.{Part, ◌⊳◌, t, ts, weak, op, c, node, opt, either, commas, commas_last, alone, guard, turn, around, Entry, text, read_text, rows_of, of_kinds, of_names, touching, colons}
+use Rattle.rap_grammar_table.specs.Notation.{Part, ◌⊳◌, t, ts, weak, op, c, node, opt, either, commas, commas_last, alone, guard, turn, around, Entry, text, rows_of, of_kinds, of_names, touching, colons}
 use Rattle.rap_grammar_table.specs.Operators.{atom_kinds, block_kinds, operand_kinds, open_kinds, operator_kinds, end_kinds, arrow, expr_ends, operand_ends, closed_follows, cast_follows, operand_follows, atom_follows, path_follows, path_heads, places_in, if_kind, binary, closed_turns, cast_turns, range_turn, range_with_end, and_open, all_turns}
 use Rattle.rap_grammar_table.specs.TypeRows.{expr_path_rows, fn_pointer, named_paths, plain_read_by, ret}
 use Rattle.rap_grammar_table.specs.Ways.{same_flag}

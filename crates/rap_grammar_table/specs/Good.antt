@@ -9,7 +9,7 @@ use Rattle.rap_grammar_scripts.specs.Script.{Outcome, Runs, Script}
 use Rattle.rap_grammar_scripts.specs.Test.{Test, holds}
 use Rattle.rap_grammar_scripts.specs.declared.rule.Rule.{Rule}
 use Rattle.rap_grammar_table.specs.Known.{Place, among, within, Sees}
-use Rattle.rap_grammar_table.specs.Table.{Table, Piece, tok, word, comp, cat, Items, nil, begin, close, piece, choice, repeat, turns_of, group, folds, folding, way, unless, appended, HasWay, Touching}
+use Rattle.rap_grammar_table.specs.Table.{Table, Piece, tok, word, comp, cat, Items, nil, begin, close, piece, choice, repeat, turns_of, group, folds, folding, unless, appended, HasWay, Touching}
 use Rattle.rap_grammar_table.specs.Refusal.{accepted}
 use Rattle.rap_grammar_table.specs.Walk.{reads_rows}
 use Rattle.rap_grammar_table.specs.Ways.{some_outcome, has_outcome}

@@ -1,5 +1,5 @@
 -- The table of the grammar.
-use Rattle.std.specs.Prelude.{true, false, List, [], ◌∷◌, ◌++◌}
+use Rattle.std.specs.Prelude.{true, false, List, [], ◌∷◌}
 use Rattle.rap_grammar_table.specs.AttributeRows.{attr_entry, cfg_entry, inner_attr_entry, macro_path_entry, meta_entry, token_tree_entry}
 use Rattle.rap_grammar_table.specs.ExprRows.{arg_list_entry, atom_entry, atom_path_entry, brace_tree_entry, cast_path_entry, cast_type_entry, closed_entry, condition_entry, expr_entry, guard_entry, name_expr_entry, open_atom_entry, open_entry, open_prefixed_entry, operand_entry, prefixed_entry, range_end_entry, round_tree_entry, stmt_operand_entry, stmt_prefixed_entry, with_cast_entry}
 use Rattle.rap_grammar_table.specs.GenericRows.{argument_entry, generics_entry, param_entry, predicate_entry, where_entry}

@@ -1,15 +1,14 @@
 -- The rows of blocks, of what has them, and of statements.
 use Rattle.std.specs.Prelude.{◌==◌, not, false, true, List, [], ◌∷◌, ◌++◌}
 use Rattle.rap_base.specs.NodeKind.{BLOCK_EXPR, EXPR_STMT, FOR_EXPR, IF_EXPR, LABEL, LET_STMT, LOOP_EXPR, MACRO_CALL, MACRO_EXPR, MATCH_ARM, MATCH_ARM_LIST, MATCH_EXPR, MATCH_GUARD, STMT_LIST, TRY_BLOCK_MODIFIER, WHILE_EXPR, MACRO_RULES}
-use Rattle.rap_base.specs.TokenKind.{EOF, SEMICOLON, COMMA, COLON, EQ, L_BRACK, R_CURLY, L_CURLY, L_ANGLE, BANG, DOT, QUESTION, PIPE, FAT_ARROW, SHEBANG, ASYNC_KW, CONST_KW, ELSE_KW, FOR_KW, IF_KW, IN_KW, LET_KW, LOOP_KW, MACRO_RULES_KW, MATCH_KW, MOVE_KW, TRY_KW, UNSAFE_KW, WHILE_KW}
+use Rattle.rap_base.specs.TokenKind.{EOF, SEMICOLON, COMMA, COLON, EQ, R_CURLY, L_CURLY, L_ANGLE, BANG, DOT, QUESTION, PIPE, FAT_ARROW, SHEBANG, ASYNC_KW, CONST_KW, ELSE_KW, FOR_KW, IF_KW, IN_KW, LET_KW, LOOP_KW, MACRO_RULES_KW, MATCH_KW, MOVE_KW, TRY_KW, UNSAFE_KW, WHILE_KW}
 use Rattle.rap_grammar_scripts.specs.First.{one_of}
 use Rattle.rap_grammar_scripts.specs.Script.{Outcome, something, block}
 use Rattle.rap_grammar_scripts.specs.Words.{next_is}
-use Rattle.rap_grammar_scripts.specs.declared.arguments.Semicolon.{Semicolon}
 use Rattle.rap_grammar_scripts.specs.declared.arguments.Semicolon.TheVariants as semicolon
 use Rattle.rap_grammar_scripts.specs.declared.rule.Rule.{Rule}
 use Rattle.rap_grammar_scripts.specs.declared.rule.Rule.TheVariants as knot
-use Rattle.rap_grammar_table.specs.Categories.{Ty, Pattern, Expr, Stmt, Block, Attr, AtomPath, RoundTree, BraceTree, StmtList, If, WithBlock, EndingBlock, Arm, LastArm, StmtOperand, OpenAtom, Condition, Guard, StmtExpr, StmtBlock, BlockStmt, Tail, attrs, attr_heads, inner_attrs, lifetime, name}
+use Rattle.rap_grammar_table.specs.Categories.{Ty, Pattern, Expr, Stmt, Block, Attr, AtomPath, RoundTree, BraceTree, StmtList, If, EndingBlock, Arm, LastArm, StmtOperand, OpenAtom, Condition, Guard, StmtExpr, StmtBlock, BlockStmt, Tail, attrs, attr_heads, inner_attrs, lifetime, name}
 use Rattle.rap_grammar_table.specs.ExprRows.{block_part, by_expr, kinds_only, no_rule, nodes_of, nodes_with, open_firsts, operand_firsts, with_block_firsts}
 use Rattle.rap_grammar_table.specs.ItemRows.{import_items, item_heads, opt_visibility, other_items, struct_items, trait_items, tree_and_end}
 use Rattle.rap_grammar_table.specs.Known.{Place}

@@ -7,7 +7,7 @@ use Rattle.rap_grammar_table.specs.Known.{Answer, sure, never, unclear, Place}
 use Rattle.rap_grammar_table.specs.Look.{look, after_way, anything}
 use Rattle.rap_grammar_table.specs.Narrow.{either_is}
 use Rattle.rap_grammar_table.specs.Refusal.{word_of, stopped, ends_as, goes_on_as, too_deep, in_turn, after_turns, in_part, takes, takes_any, bears, turns, Verdict, accepted, refused, both, check, provided, by_bool, or_else_so, told_with, or_earlier, or_later}
-use Rattle.rap_grammar_table.specs.Table.{Items, nil, begin, close, choice, repeat, group, folds, way, unless, Table, Piece, tok, word, comp, cat, piece}
+use Rattle.rap_grammar_table.specs.Table.{Items, begin, close, choice, repeat, group, folds, way, unless, Table, Piece, tok, word, comp, cat, piece}
 use Rattle.rap_grammar_table.specs.Ways.{answer_at, expose, tested, front, is_token, is_some, is_bearer, read_rule, finish_own, extend_own, abandon_own, precede_own, ends_whole, ends_so, every_outcome, same_flag}
 
 -- a turn that goes on, or the last one
