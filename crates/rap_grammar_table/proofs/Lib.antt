@@ -1,4 +1,5 @@
 pub mod AttributeRows
+pub mod ClosedRows
 pub mod Entries
 pub mod Example
 pub mod Exposes
@@ -10,6 +11,7 @@ pub mod Known
 pub mod Look
 pub mod Narrow
 pub mod Nodes
+pub mod Operands
 pub mod OperatorRows
 pub mod Parts
 pub mod PatternRows
