@@ -15,7 +15,7 @@ use Rattle.rap_grammar_table.proofs.ItemRows.{fn_params, items, record_fields_so
 use Rattle.rap_grammar_table.proofs.OperatorRows.{conditions, expressions, guards, open_4, open_5, range_ends, range_ends_forbidden}
 use Rattle.rap_grammar_table.proofs.PatternRows.{param_patterns, pattern_paths, patterns, rest_patterns, single_patterns}
 use Rattle.rap_grammar_table.proofs.Sound.{Checked, Known, claim}
-use Rattle.rap_grammar_table.proofs.StmtRows.{arms, block_stmts, blocks, ending_blocks, ifs, last_arms, stmt_blocks, stmt_exprs_so, stmt_lists, stmts, tails, with_blocks_so}
+use Rattle.rap_grammar_table.proofs.StmtRows.{arms, block_stmts, blocks, empty_stmts, ending_blocks, ifs, last_arms, macro_tails, stmt_blocks, stmt_exprs_so, stmt_lists, stmts, tails, with_blocks_so}
 use Rattle.rap_grammar_table.proofs.TypeRows.{anchor_traits, anchored_paths, bound_lists, bounds, fn_pointer_params, global_paths, param_names, path_args, paths, paths_before_plus, plain_types, symbol_types_so, types, types_before_plus, use_paths, expr_paths, simple_paths, trait_refs}
 
 pub checked : Checked table
@@ -38,7 +38,8 @@ checked =
     closed_forbidden_10 then closed_forbidden_11 then closed_forbidden_12 then open_4 then open_5 then ending_blocks then
     with_cast_6 then with_cast_7 then with_cast_8 then with_cast_9 then with_cast_10 then with_cast_11 then with_cast_12 then
     with_cast_forbidden_6 then with_cast_forbidden_7 then with_cast_forbidden_8 then with_cast_forbidden_9 then
-    with_cast_forbidden_10 then with_cast_forbidden_11 then with_cast_forbidden_12 then none_left)
+    with_cast_forbidden_10 then with_cast_forbidden_11 then with_cast_forbidden_12 then empty_stmts then macro_tails then
+    none_left)
 
 -- so what the table derives is what the scripts make
 pub complete : {given : Beside} → Known table given → (c : ℕ) {ks : List Record} {y : Forest} →

@@ -1,12 +1,14 @@
 -- The rows of blocks and statements are read: computed.
 use Rattle.std.proofs.Common.{◌≡◌, true, false, refl, [], ◌∷◌}
 use Rattle.rap_grammar_scripts.specs.Script.{something, block}
+use Rattle.rap_grammar_scripts.specs.declared.arguments.Semicolon.{Semicolon}
 use Rattle.rap_grammar_scripts.specs.declared.arguments.Semicolon.TheVariants as semicolon
 use Rattle.rap_grammar_scripts.specs.declared.rule.Rule.{Rule}
 use Rattle.rap_grammar_scripts.specs.declared.rule.Rule.TheVariants as knot
+use Rattle.rap_grammar_table.specs.Notation.{Entry}
 use Rattle.rap_grammar_table.specs.Refusal.{accepted}
 use Rattle.rap_grammar_table.specs.Rows.{table}
-use Rattle.rap_grammar_table.specs.StmtRows.{arm_entry, block_entry, block_stmt_entry, ending_block_entry, if_entry, last_arm_entry, stmt_block_entry, stmt_entry, stmt_expr_entry, stmt_list_entry, tail_entry, with_block_entry}
+use Rattle.rap_grammar_table.specs.StmtRows.{arm_entry, block_entry, block_stmt_entry, empty_stmt_entry, ending_block_entry, if_entry, last_arm_entry, macro_tail_entry, macro_tail_read_by, stmt_block_entry, stmt_entry, stmt_expr_entry, stmt_list_entry, stmt_read_by, tail_entry, tail_read_by, with_block_entry}
 use Rattle.rap_grammar_table.specs.Walk.{all_accepted}
 use Rattle.rap_grammar_table.specs.Ways.{some_outcome}
 use Rattle.rap_grammar_table.proofs.Entries.{is_read, EntryChecked}
@@ -70,38 +72,94 @@ ifs_read_by r h = absurd cc
 pub ifs : EntryChecked table if_entry
 ifs = record { reads = ifs_read_by; begins = refl; followed = refl; nodes = λ h. refl }
 
-stmts_read : all_accepted (is_read table stmt_entry (knot.Stmt semicolon.Required)) stmt_entry.rows ≡ accepted
-unfolding scripts tests
-stmts_read = refl
+-- a statement is read in a block and in a macro
+abbrev stmt_rule : Semicolon → Rule
+stmt_rule semi = knot.Stmt semi
 
-stmts_read_by : (r : Rule) → some_outcome (stmt_entry.read_by r) ≡ true →
-    all_accepted (is_read table stmt_entry r) stmt_entry.rows ≡ accepted
-stmts_read_by (knot.Stmt semicolon.Required) h = stmts_read
-stmts_read_by r h = absurd cc
+abbrev InBlock : Entry → Type 0
+InBlock e = all_accepted (is_read table e (stmt_rule semicolon.Required)) e.rows ≡ accepted
+
+abbrev InMacro : Entry → Type 0
+InMacro e = all_accepted (is_read table e (stmt_rule semicolon.Optional)) e.rows ≡ accepted
+
+in_both : (e : Entry) → InBlock e → InMacro e → (r : Rule) → some_outcome (stmt_read_by r) ≡ true →
+    all_accepted (is_read table e r) e.rows ≡ accepted
+in_both e a b (knot.Stmt semicolon.Required) h = a
+in_both e a b (knot.Stmt semicolon.Optional) h = b
+in_both e a b r h = absurd cc
+
+in_block : (e : Entry) → InBlock e → (r : Rule) → some_outcome (tail_read_by r) ≡ true →
+    all_accepted (is_read table e r) e.rows ≡ accepted
+in_block e a (knot.Stmt semicolon.Required) h = a
+in_block e a r h = absurd cc
+
+in_macro : (e : Entry) → InMacro e → (r : Rule) → some_outcome (macro_tail_read_by r) ≡ true →
+    all_accepted (is_read table e r) e.rows ≡ accepted
+in_macro e a (knot.Stmt semicolon.Optional) h = a
+in_macro e a r h = absurd cc
+
+stmts_in_block : InBlock stmt_entry
+unfolding scripts tests
+stmts_in_block = refl
+
+stmts_in_macro : InMacro stmt_entry
+unfolding scripts tests
+stmts_in_macro = refl
 
 pub stmts : EntryChecked table stmt_entry
-stmts = record { reads = stmts_read_by; begins = refl; followed = refl; nodes = λ h. refl }
+stmts =
+    record {
+      reads = in_both stmt_entry stmts_in_block stmts_in_macro;
+      begins = refl;
+      followed = refl;
+      nodes = λ h. refl;
+    }
 
-block_stmts_read : all_accepted (is_read table block_stmt_entry (knot.Stmt semicolon.Required)) block_stmt_entry.rows ≡ accepted
+block_stmts_in_block : InBlock block_stmt_entry
 unfolding scripts tests
-block_stmts_read = refl
+block_stmts_in_block = refl
 
-block_stmts_read_by : (r : Rule) → some_outcome (block_stmt_entry.read_by r) ≡ true →
-    all_accepted (is_read table block_stmt_entry r) block_stmt_entry.rows ≡ accepted
-block_stmts_read_by (knot.Stmt semicolon.Required) h = block_stmts_read
-block_stmts_read_by r h = absurd cc
+block_stmts_in_macro : InMacro block_stmt_entry
+unfolding scripts tests
+block_stmts_in_macro = refl
 
 pub block_stmts : EntryChecked table block_stmt_entry
-block_stmts = record { reads = block_stmts_read_by; begins = refl; followed = refl; nodes = λ h. refl }
+block_stmts =
+    record {
+      reads = in_both block_stmt_entry block_stmts_in_block block_stmts_in_macro;
+      begins = refl;
+      followed = refl;
+      nodes = λ h. refl;
+    }
 
-tails_read : all_accepted (is_read table tail_entry (knot.Stmt semicolon.Required)) tail_entry.rows ≡ accepted
+empty_stmts_in_block : InBlock empty_stmt_entry
+unfolding scripts tests
+empty_stmts_in_block = refl
+
+empty_stmts_in_macro : InMacro empty_stmt_entry
+unfolding scripts tests
+empty_stmts_in_macro = refl
+
+pub empty_stmts : EntryChecked table empty_stmt_entry
+empty_stmts =
+    record {
+      reads = in_both empty_stmt_entry empty_stmts_in_block empty_stmts_in_macro;
+      begins = refl;
+      followed = refl;
+      nodes = λ h. absurd cc;
+    }
+
+tails_read : InBlock tail_entry
 unfolding scripts tests
 tails_read = refl
 
-tails_read_by : (r : Rule) → some_outcome (tail_entry.read_by r) ≡ true →
-    all_accepted (is_read table tail_entry r) tail_entry.rows ≡ accepted
-tails_read_by (knot.Stmt semicolon.Required) h = tails_read
-tails_read_by r h = absurd cc
-
 pub tails : EntryChecked table tail_entry
-tails = record { reads = tails_read_by; begins = refl; followed = refl; nodes = λ h. refl }
+tails = record { reads = in_block tail_entry tails_read; begins = refl; followed = refl; nodes = λ h. refl }
+
+macro_tails_read : InMacro macro_tail_entry
+unfolding scripts tests
+macro_tails_read = refl
+
+pub macro_tails : EntryChecked table macro_tail_entry
+macro_tails =
+    record { reads = in_macro macro_tail_entry macro_tails_read; begins = refl; followed = refl; nodes = λ h. refl }

@@ -254,6 +254,13 @@ EndingBlock = 93
 abbrev pub WithCast : Bool → ℕ → ℕ
 WithCast forbid power = where_forbidden forbid (88 + power) (95 + power)
 
+-- a semicolon alone; the value at the end of a macro's statements
+abbrev pub EmptyStmt : ℕ
+EmptyStmt = 108
+
+abbrev pub MacroTail : ℕ
+MacroTail = 109
+
 -- names
 abbrev pub name : Part
 name = node NAME (names (IDENT ∷ []))

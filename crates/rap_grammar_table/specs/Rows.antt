@@ -6,7 +6,7 @@ use Rattle.rap_grammar_table.specs.GenericRows.{argument_entry, generics_entry, 
 use Rattle.rap_grammar_table.specs.ItemRows.{field_entry, fn_params_entry, item_entry, use_tree_entry, variant_entry, visibility_entry}
 use Rattle.rap_grammar_table.specs.Notation.{Entry, table_of}
 use Rattle.rap_grammar_table.specs.PatternRows.{param_pattern_entry, pattern_entry, path_entry as path_entry_of_patterns, rest_entry, single_entry}
-use Rattle.rap_grammar_table.specs.StmtRows.{arm_entry, block_entry, block_stmt_entry, ending_block_entry, if_entry, last_arm_entry, stmt_block_entry, stmt_entry, stmt_expr_entry, stmt_list_entry, tail_entry, with_block_entry}
+use Rattle.rap_grammar_table.specs.StmtRows.{arm_entry, block_entry, block_stmt_entry, empty_stmt_entry, ending_block_entry, if_entry, last_arm_entry, macro_tail_entry, stmt_block_entry, stmt_entry, stmt_expr_entry, stmt_list_entry, tail_entry, with_block_entry}
 use Rattle.rap_grammar_table.specs.Table.{Table}
 use Rattle.rap_grammar_table.specs.TypeRows.{anchor_entry, anchored_path_entry, args_entry, before_plus_entry, bound_entry, bounds_entry, expr_path_entry, simple_path_entry, trait_ref_entry, fn_pointer_params_entry, global_path_entry, param_name_entry, path_before_plus_entry, path_entry, plain_entry, symbol_entry, type_entry, use_path_entry}
 
@@ -28,7 +28,7 @@ entries =
     closed_entry false 8 ∷ closed_entry false 9 ∷ closed_entry false 10 ∷ closed_entry false 11 ∷
     closed_entry false 12 ∷ closed_entry true 4 ∷ closed_entry true 5 ∷ closed_entry true 6 ∷ closed_entry true 7 ∷
     closed_entry true 8 ∷ closed_entry true 9 ∷ closed_entry true 10 ∷ closed_entry true 11 ∷ closed_entry true 12 ∷
-    open_entry 4 ∷ open_entry 5 ∷ ending_block_entry ∷ with_cast_entry false 6 ∷ with_cast_entry false 7 ∷ with_cast_entry false 8 ∷ with_cast_entry false 9 ∷ with_cast_entry false 10 ∷ with_cast_entry false 11 ∷ with_cast_entry false 12 ∷ with_cast_entry true 6 ∷ with_cast_entry true 7 ∷ with_cast_entry true 8 ∷ with_cast_entry true 9 ∷ with_cast_entry true 10 ∷ with_cast_entry true 11 ∷ with_cast_entry true 12 ∷ []
+    open_entry 4 ∷ open_entry 5 ∷ ending_block_entry ∷ with_cast_entry false 6 ∷ with_cast_entry false 7 ∷ with_cast_entry false 8 ∷ with_cast_entry false 9 ∷ with_cast_entry false 10 ∷ with_cast_entry false 11 ∷ with_cast_entry false 12 ∷ with_cast_entry true 6 ∷ with_cast_entry true 7 ∷ with_cast_entry true 8 ∷ with_cast_entry true 9 ∷ with_cast_entry true 10 ∷ with_cast_entry true 11 ∷ with_cast_entry true 12 ∷ empty_stmt_entry ∷ macro_tail_entry ∷ []
 
 abbrev pub table : Table
 table = table_of entries

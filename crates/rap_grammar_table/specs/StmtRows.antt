@@ -8,22 +8,27 @@ use Rattle.rap_grammar_scripts.specs.Words.{next_is}
 use Rattle.rap_grammar_scripts.specs.declared.arguments.Semicolon.TheVariants as semicolon
 use Rattle.rap_grammar_scripts.specs.declared.rule.Rule.{Rule}
 use Rattle.rap_grammar_scripts.specs.declared.rule.Rule.TheVariants as knot
-use Rattle.rap_grammar_table.specs.Categories.{Ty, Pattern, Expr, Stmt, Block, Attr, AtomPath, RoundTree, BraceTree, StmtList, If, EndingBlock, Arm, LastArm, StmtOperand, OpenAtom, Condition, Guard, StmtExpr, StmtBlock, BlockStmt, Tail, attrs, attr_heads, inner_attrs, lifetime, name}
+use Rattle.rap_grammar_table.specs.Categories.{Ty, Pattern, Expr, Stmt, Block, Attr, AtomPath, RoundTree, BraceTree, StmtList, If, EndingBlock, Arm, LastArm, StmtOperand, OpenAtom, Condition, Guard, StmtExpr, StmtBlock, BlockStmt, EmptyStmt, Tail, attrs, attr_heads, inner_attrs, lifetime, name}
 use Rattle.rap_grammar_table.specs.ExprRows.{block_part, by_expr, kinds_only, no_rule, nodes_of, nodes_with, open_firsts, operand_firsts, with_block_firsts}
 use Rattle.rap_grammar_table.specs.ItemRows.{import_items, item_heads, opt_visibility, other_items, struct_items, trait_items, tree_and_end}
 use Rattle.rap_grammar_table.specs.Known.{Place}
 use Rattle.rap_grammar_table.specs.Look.{anything}
 use Rattle.rap_grammar_table.specs.Narrow.{those}
-use Rattle.rap_grammar_table.specs.Notation.{up_to, Part, ◌⊳◌, t, ts, weak, op, c, node, opt, either, until, each_under, guard, around, Entry, text, of_kinds, touching}
+use Rattle.rap_grammar_table.specs.Notation.{up_to, Part, ◌⊳◌, t, ts, weak, op, c, node, opt, either, until, each_under, guard, around, Entry, text, rows_of, of_kinds, touching}
 use Rattle.rap_grammar_table.specs.Operators.{all_turns, expr_ends}
 use Rattle.rap_grammar_table.specs.PatternRows.{single_heads}
 
--- A block, and its statements: one that ends with its block and without a semicolon is not the last.
+-- A block, and its statements: one that ends with its block and without a semicolon is not the last. A semicolon alone
+-- is a statement where no such one is in the block.
 abbrev pub stmt_list_entry : Entry
 stmt_list_entry =
     text
     (node STMT_LIST
-    (t L_CURLY ⊳ inner_attrs ⊳ opt (until (either (c Stmt) (c BlockStmt)) (either (c Stmt) (c Tail))) ⊳ t R_CURLY) ∷ [])
+    (t L_CURLY ⊳ inner_attrs ⊳ opt (until (either (c Stmt) (c BlockStmt)) (either (c Stmt) (c Tail))) ⊳ t R_CURLY)
+    ∷ node STMT_LIST
+    (t L_CURLY ⊳ inner_attrs ⊳ until (either (c Stmt) (c EmptyStmt)) (either (c Stmt) (either (c EmptyStmt) (c Tail))) ⊳
+    t R_CURLY)
+    ∷ [])
     ((of_kinds (L_CURLY ∷ []) ∷ []) ∷ []) anything
 
 abbrev pub block_entry : Entry
@@ -119,9 +124,10 @@ abbrev pub stmt_block_entry : Entry
 stmt_block_entry =
     nodes_of (by_expr false true 1 (block ∷ [])) (c EndingBlock ∷ []) with_block_firsts after_stmt_block
 
--- statements
+-- statements, in a block and in a macro
 abbrev pub stmt_read_by : Rule → List Outcome
 stmt_read_by (knot.Stmt semicolon.Required) = something ∷ []
+stmt_read_by (knot.Stmt semicolon.Optional) = something ∷ []
 stmt_read_by r = []
 
 abbrev pub under_stmt : List Part → List Part
@@ -140,20 +146,51 @@ abbrev pub stmt_firsts : List (List Place)
 stmt_firsts =
     kinds_only (LET_KW ∷ []) ++ (operand_firsts ++ (open_firsts ++ item_heads))
 
+abbrev pub stmt_follows : List (List Place)
+stmt_follows = kinds_only (R_CURLY ∷ EOF ∷ SEMICOLON ∷ []) ++ stmt_firsts
+
 abbrev pub stmt_entry : Entry
 stmt_entry =
     nodes_of stmt_read_by
     (let_stmt ∷
     (under_stmt (c EndingBlock ∷ (stmt_exprs ++ attributed_call ∷ attributed_blocks)) ++
     (struct_items ++ (other_items ++ (import_items ++ (trait_items ++ macro_rules ∷ []))))))
-    stmt_firsts (kinds_only (R_CURLY ∷ []) ++ stmt_firsts)
+    stmt_firsts stmt_follows
+
+abbrev pub empty_stmt_entry : Entry
+empty_stmt_entry =
+    record {
+      rows = rows_of (t SEMICOLON ∷ []);
+      firsts = kinds_only (SEMICOLON ∷ []);
+      follows = anything;
+      is_node = false;
+      by_rows = false;
+      ends = [];
+      read_by = stmt_read_by;
+    }
 
 abbrev pub block_stmt_entry : Entry
 block_stmt_entry =
     nodes_of stmt_read_by (node EXPR_STMT (c EndingBlock) ∷ each_under EXPR_STMT attributed_blocks)
     (with_block_firsts ++ attr_heads) stmt_firsts
 
+-- the value of a block, and of a macro's statements
+abbrev pub tail_rows : List Part
+tail_rows = c EndingBlock ∷ (stmt_exprs ++ attributed_call ∷ attributed_blocks)
+
+abbrev pub tail_firsts : List (List Place)
+tail_firsts = operand_firsts ++ (open_firsts ++ attr_heads)
+
+abbrev pub tail_read_by : Rule → List Outcome
+tail_read_by (knot.Stmt semicolon.Required) = something ∷ []
+tail_read_by r = []
+
 abbrev pub tail_entry : Entry
-tail_entry =
-    nodes_of stmt_read_by (c EndingBlock ∷ (stmt_exprs ++ attributed_call ∷ attributed_blocks))
-    (operand_firsts ++ (open_firsts ++ attr_heads)) (kinds_only (R_CURLY ∷ []))
+tail_entry = nodes_of tail_read_by tail_rows tail_firsts (kinds_only (R_CURLY ∷ []))
+
+abbrev pub macro_tail_read_by : Rule → List Outcome
+macro_tail_read_by (knot.Stmt semicolon.Optional) = something ∷ []
+macro_tail_read_by r = []
+
+abbrev pub macro_tail_entry : Entry
+macro_tail_entry = nodes_of macro_tail_read_by tail_rows tail_firsts (kinds_only (EOF ∷ []))
