@@ -22,6 +22,7 @@ pub mod Scripts
 pub mod Sound
 pub mod StmtRows
 pub mod Tests
+pub mod Tops
 pub mod Turns
 pub mod TypeRows
 pub mod Values

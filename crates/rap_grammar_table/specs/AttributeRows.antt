@@ -82,7 +82,7 @@ meta_entry =
     ∷ node CFG_ATTR_META
     (weak CFG_ATTR_KW ⊳ t L_PAREN ⊳ c Cfg ⊳ t COMMA ⊳ commas (c Meta) ⊳ t R_PAREN)
     ∷ [])
-    ((of_kinds (UNSAFE_KW ∷ path_names) ∷ []) ∷ []) ((of_kinds (COMMA ∷ R_PAREN ∷ R_BRACK ∷ []) ∷ []) ∷ [])
+    ((of_kinds (UNSAFE_KW ∷ path_names) ∷ []) ∷ []) ((of_kinds (EOF ∷ COMMA ∷ R_PAREN ∷ R_BRACK ∷ []) ∷ []) ∷ [])
 
 -- an attribute, or a comment that is documentation
 abbrev pub attr_entry : Entry

@@ -15,6 +15,7 @@ pub mod Refusal
 pub mod Rows
 pub mod StmtRows
 pub mod Table
+pub mod Tops
 pub mod TypeRows
 pub mod Walk
 pub mod Ways

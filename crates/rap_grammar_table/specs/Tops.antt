@@ -1,0 +1,35 @@
+-- What the table derives of a whole input.
+use Rattle.std.specs.Prelude.{ℕ, List, [], ◌∷◌}
+use Rattle.rap_base.specs.TokenKind.{EOF, SHEBANG, FRONTMATTER}
+use Rattle.rap_events.specs.Forest.{Forest, none}
+use Rattle.rap_events.specs.Record.{Record}
+use Rattle.rap_grammar_table.specs.Categories.{Item, inner_attrs}
+use Rattle.rap_grammar_table.specs.Known.{Place}
+use Rattle.rap_grammar_table.specs.Notation.{◌⊳◌, t, c, opt, many, row, of_kinds}
+use Rattle.rap_grammar_table.specs.Rows.{table}
+use Rattle.rap_grammar_table.specs.Table.{Items, Beside, Derives, one, rest_of, cat}
+
+-- nothing is given beside the table
+abbrev pub nothing_given : Beside
+nothing_given category parts tokens tree = ⊥
+
+-- a category's tokens, and their tree
+abbrev pub Makes : ℕ → List Record → Forest → Type 0
+Makes category tokens tree = Derives table nothing_given (one (cat category)) tokens tree
+
+-- the tokens of a row that stands alone, and the forest of its trees
+pub record MakesRow (is : Items) (tokens : List Record) (forest : Forest) : Type 0 where
+  pub pieces : List Forest
+  pub derives : Derives table nothing_given (rest_of is none [] pieces) tokens forest
+
+-- Items, behind attributes of what they stand in: so a macro may expand. In a file a shebang and frontmatter may stand
+-- before them.
+abbrev pub items_row : Items
+items_row = row (inner_attrs ⊳ many (c Item))
+
+abbrev pub file_row : Items
+file_row = row (opt (t SHEBANG) ⊳ opt (t FRONTMATTER) ⊳ inner_attrs ⊳ many (c Item))
+
+-- the end of the input
+abbrev pub at_end : List (List Place)
+at_end = (of_kinds (EOF ∷ []) ∷ []) ∷ []
