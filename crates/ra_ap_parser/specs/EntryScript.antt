@@ -1,5 +1,5 @@
 -- What a top entry makes of its input.
-use Rattle.std.specs.Prelude.{◌≡◌, ◌≢◌, List, true, false, ◌++◌, drop}
+use Rattle.std.specs.Prelude.{◌≡◌, ◌≢◌, ◌⊎◌, ℕ, List, true, false, ◌++◌, drop}
 use Rattle.rap_base.specs.NodeKind.{SOURCE_FILE, MACRO_STMTS, MACRO_ITEMS}
 use Rattle.rap_base.specs.TokenKind.{SEMICOLON}
 use Rattle.rap_events.specs.Record.{Record, next_kind}
@@ -8,6 +8,9 @@ use Rattle.rap_grammar_scripts.specs.ThroughKnot.{expr, pattern, pattern_single,
 use Rattle.rap_grammar_core.specs.Derives.{Derives, Expression, Ty, Block, Contents, Many, Item, File, EndsExpression, EndsType}
 use Rattle.rap_grammar_core.specs.MacroCall.{IsMacroCall}
 use Rattle.rap_grammar_core.specs.Mixed.{IsFront}
+use Rattle.rap_grammar_table.specs.Categories as table
+use Rattle.rap_grammar_table.specs.Table.{Items}
+use Rattle.rap_grammar_table.specs.Tops.{Makes, MakesRow, file_row, items_row}
 use Rattle.rap_grammar.specs.Top.{IsTopOf, IsRootOf, top_tree}
 use Rattle.rap_grammar_scripts.specs.Entry.{source_file, macro_stmts}
 use Rattle.rap_grammar_scripts.specs.Modules.{mod_contents}
@@ -35,16 +38,23 @@ IsOutputOf entry.Ty input output = IsTopOf type_ input output
 IsOutputOf entry.Expr input output = IsTopOf expr input output
 IsOutputOf entry.MetaItem input output = IsTopOf meta input output
 
--- The whole input is derived by the core grammar, with this tree. Under `MacroStmts` it is what may stand in the braces of
--- a block, and under `MacroItems` any number of items, in the node of the entry.
+-- The whole input is what a row of the table derives, and this tree is a node of this kind over it.
+abbrev pub IsRow : ℕ → Items → List Record → Forest → Type 0
+IsRow kind row input tree = (forest : Forest) × MakesRow row input forest × (tree ≡ node none kind forest)
+
+-- The whole input is derived by the core grammar, with this tree, as the relation has it or as the table has it. Under
+-- `MacroStmts` it is what may stand in the braces of a block, and under `MacroItems` any number of items, in the node of
+-- the entry.
 abbrev pub IsCore : TopEntryPoint → List Record → Forest → Type 0
-IsCore entry.SourceFile input tree = Derives File input tree
+IsCore entry.SourceFile input tree = Derives File input tree ⊎ IsRow SOURCE_FILE file_row input tree
 IsCore entry.MacroStmts input tree = (contents : Forest) × Derives Contents input contents × (tree ≡ node none MACRO_STMTS contents)
-IsCore entry.MacroItems input tree = (items : Forest) × Derives (Many Item) input items × (tree ≡ node none MACRO_ITEMS items)
+IsCore entry.MacroItems input tree =
+    ((items : Forest) × Derives (Many Item) input items × (tree ≡ node none MACRO_ITEMS items)) ⊎
+    IsRow MACRO_ITEMS items_row input tree
 IsCore entry.Pattern input tree = ⊥
-IsCore entry.Ty input tree = Derives Ty input tree
+IsCore entry.Ty input tree = Derives Ty input tree ⊎ Makes table.Ty input tree
 IsCore entry.Expr input tree = Derives Expression input tree
-IsCore entry.MetaItem input tree = ⊥
+IsCore entry.MetaItem input tree = Makes table.Meta input tree
 
 -- The whole input is a macro call in the place of an item, and this tree is the entry's node over it.
 abbrev pub IsCall : TopEntryPoint → List Record → Forest → Type 0

@@ -1,6 +1,6 @@
 -- What is read alone from the front of an input leaves no node at the top that ends with a float's dot.
 use Rattle.std.proofs.Common.{◌≡◌, List, [], true, false, refl}
-use Rattle.rap_events.specs.Forest.{Forest}
+use Rattle.rap_events.specs.Forest.{Forest, none}
 use Rattle.rap_events.specs.Record.{Record}
 use Rattle.rap_grammar_scripts.specs.Blocks.{block_expr}
 use Rattle.rap_grammar_scripts.specs.ThroughKnot.{expr, meta, pattern, pattern_single, type_}
@@ -9,7 +9,7 @@ use Rattle.rap_grammar_scripts.specs.Knot.{script_of}
 use Rattle.rap_grammar_scripts.specs.Paths.{type_path}
 use Rattle.rap_grammar_scripts.specs.declared.rule.Rule.{Rule}
 use Rattle.rap_grammar_scripts.specs.declared.rule.Rule.TheVariants as knot
-use Rattle.rap_grammar_scripts.specs.Script.{Script, give, rule, gives, obeys}
+use Rattle.rap_grammar_scripts.specs.Script.{Script, Outcome, Runs, give, rule, gives, obeys}
 use Rattle.rap_grammar_scripts.specs.Statements.{stmt}
 use Rattle.rap_grammar_scripts.specs.Visibility.{opt_visibility}
 use Rattle.rap_grammar_scripts.specs.declared.arguments.Semicolon.TheVariants as semicolon
@@ -26,9 +26,14 @@ use Rattle.rap_grammar.specs.Part.{IsPrefixOf}
 abbrev LeavesNone : Script Rule → Type 0
 LeavesNone s = every leaves_inside (dot_ends s inside []) ≡ true
 
+made_inside : (s : Script Rule) → LeavesNone s → {input rest : List Record} {made : Forest} {outcome : Outcome} →
+    Runs script_of s (record { rest = input; forest = none; below = [] })
+    (record { rest = rest; forest = made; below = [] }) outcome → dots_inside made ≡ true
+made_inside s e r = kept_inside dots_sound r (computed s at_range inside [] leaves_inside range_implies e) refl
+
 inside_by : (s : Script Rule) → LeavesNone s → {input : List Record} {output : Forest} → IsPrefixOf s input output →
     dots_inside output ≡ true
-inside_by s e i = kept_inside dots_sound i.run (computed s at_range inside [] leaves_inside range_implies e) refl
+inside_by s e i = made_inside s e i.run
 
 -- the same of a rule of the knot, by what its table says
 inside_of_rule : (c : Rule) → LeavesNone (rule c (λ v. give v)) → {input : List Record} {output : Forest} →
@@ -109,3 +114,14 @@ pub item_inside : {input : List Record} {output : Forest} → IsPrefixOf (item_o
     dots_inside output ≡ true
 unfolding script_of
 item_inside i = inside_of_rule (knot.ItemOrMacro true true) refl i
+
+-- a type, and what stands in an attribute, whatever comes after it
+pub type_makes_none : {input rest : List Record} {made : Forest} {outcome : Outcome} →
+    Runs script_of type_ (record { rest = input; forest = none; below = [] })
+    (record { rest = rest; forest = made; below = [] }) outcome → dots_inside made ≡ true
+type_makes_none r = made_inside type_ type_leaves_none r
+
+pub meta_makes_none : {input rest : List Record} {made : Forest} {outcome : Outcome} →
+    Runs script_of meta (record { rest = input; forest = none; below = [] })
+    (record { rest = rest; forest = made; below = [] }) outcome → dots_inside made ≡ true
+meta_makes_none r = made_inside meta meta_leaves_none r

@@ -5,4 +5,5 @@ pub mod Outputs
 pub mod Padded
 pub mod Parts
 pub mod Prefixes
+pub mod Tables
 pub mod TopTree

@@ -24,7 +24,7 @@ use Rattle.rap_grammar_core.proofs.Ways.{Leads}
 use Rattle.rap_grammar_core.proofs.MacroCalls.{call_file, call_whole, call_clean}
 
 -- one tree is kept as it is
-top_tree-whole : (t : Forest) → one_tree t ≡ true → top_tree t [] ≡ t
+pub top_tree-whole : (t : Forest) → one_tree t ≡ true → top_tree t [] ≡ t
 top_tree-whole t e = rw e refl
 
 -- a whole input that is derived gives its tree
