@@ -51,9 +51,9 @@ IsCore entry.MacroStmts input tree = (contents : Forest) × Derives Contents inp
 IsCore entry.MacroItems input tree =
     ((items : Forest) × Derives (Many Item) input items × (tree ≡ node none MACRO_ITEMS items)) ⊎
     IsRow MACRO_ITEMS items_row input tree
-IsCore entry.Pattern input tree = ⊥
+IsCore entry.Pattern input tree = Makes table.Pattern input tree
 IsCore entry.Ty input tree = Derives Ty input tree ⊎ Makes table.Ty input tree
-IsCore entry.Expr input tree = Derives Expression input tree
+IsCore entry.Expr input tree = Derives Expression input tree ⊎ Makes table.Expr input tree
 IsCore entry.MetaItem input tree = Makes table.Meta input tree
 
 -- The whole input is a macro call in the place of an item, and this tree is the entry's node over it.

@@ -115,11 +115,21 @@ pub item_inside : {input : List Record} {output : Forest} → IsPrefixOf (item_o
 unfolding script_of
 item_inside i = inside_of_rule (knot.ItemOrMacro true true) refl i
 
--- a type, and what stands in an attribute, whatever comes after it
+-- a type, an expression, a pattern, and what stands in an attribute, whatever comes after it
 pub type_makes_none : {input rest : List Record} {made : Forest} {outcome : Outcome} →
     Runs script_of type_ (record { rest = input; forest = none; below = [] })
     (record { rest = rest; forest = made; below = [] }) outcome → dots_inside made ≡ true
 type_makes_none r = made_inside type_ type_leaves_none r
+
+pub expression_makes_none : {input rest : List Record} {made : Forest} {outcome : Outcome} →
+    Runs script_of expr (record { rest = input; forest = none; below = [] })
+    (record { rest = rest; forest = made; below = [] }) outcome → dots_inside made ≡ true
+expression_makes_none r = made_inside expr expression_leaves_none r
+
+pub pattern_makes_none : {input rest : List Record} {made : Forest} {outcome : Outcome} →
+    Runs script_of pattern (record { rest = input; forest = none; below = [] })
+    (record { rest = rest; forest = made; below = [] }) outcome → dots_inside made ≡ true
+pattern_makes_none r = made_inside pattern pattern_leaves_none r
 
 pub meta_makes_none : {input rest : List Record} {made : Forest} {outcome : Outcome} →
     Runs script_of meta (record { rest = input; forest = none; below = [] })

@@ -7,17 +7,17 @@ use Rattle.rap_grammar_scripts.specs.Entry.{source_file}
 use Rattle.rap_grammar_scripts.specs.Knot.{script_of}
 use Rattle.rap_grammar_scripts.specs.Modules.{mod_contents}
 use Rattle.rap_grammar_scripts.specs.Script.{Script, Spot, Runs, something}
-use Rattle.rap_grammar_scripts.specs.ThroughKnot.{meta, type_}
+use Rattle.rap_grammar_scripts.specs.ThroughKnot.{expr, meta, pattern, type_}
 use Rattle.rap_grammar_scripts.specs.declared.rule.Rule.{Rule}
 use Rattle.rap_grammar_scripts.proofs.OneEnd.{one_end}
 use Rattle.rap_grammar_core.proofs.Unique.{over}
 use Rattle.rap_grammar_core.specs.Dots.{dots_inside}
-use Rattle.rap_grammar_table.specs.Categories.{Meta, Ty}
+use Rattle.rap_grammar_table.specs.Categories.{Expr, Meta, Pattern, Ty}
 use Rattle.rap_grammar_table.specs.Good.{IsNode}
 use Rattle.rap_grammar_table.specs.Tops.{Makes, MakesRow, file_row, items_row}
-use Rattle.rap_grammar_table.proofs.Tops.{MakesOf, category_clean, file_made, items_made, meta_is_node, meta_made, row_clean, type_is_node, type_made}
+use Rattle.rap_grammar_table.proofs.Tops.{MakesOf, category_clean, expr_is_node, expr_made, file_made, items_made, meta_is_node, meta_made, pattern_is_node, pattern_made, row_clean, type_is_node, type_made}
 use Rattle.rap_grammar.specs.Top.{IsRootOf, IsTopOf, top_tree}
-use Rattle.rap_grammar.proofs.DotsInside.{meta_makes_none, type_makes_none}
+use Rattle.rap_grammar.proofs.DotsInside.{expression_makes_none, meta_makes_none, pattern_makes_none, type_makes_none}
 use Rattle.rap_grammar.proofs.Outputs.{root_of, top_tree-whole}
 
 -- a file, and the items of a macro, stand under the node of their entry
@@ -45,6 +45,18 @@ pub type_of_table : {input : List Record} {t output : Forest} → IsTopOf type_ 
     (output ≡ t) × (message_count output ≡ 0)
 type_of_table i d =
     let e = top_of i (type_made d) (one_of_node (type_is_node d) (type_makes_none (type_made d []))) in
+    (e, ap message_count e ∙ category_clean d)
+
+pub expression_of_table : {input : List Record} {t output : Forest} → IsTopOf expr input output → Makes Expr input t →
+    (output ≡ t) × (message_count output ≡ 0)
+expression_of_table i d =
+    let e = top_of i (expr_made d) (one_of_node (expr_is_node d) (expression_makes_none (expr_made d []))) in
+    (e, ap message_count e ∙ category_clean d)
+
+pub pattern_of_table : {input : List Record} {t output : Forest} → IsTopOf pattern input output → Makes Pattern input t →
+    (output ≡ t) × (message_count output ≡ 0)
+pattern_of_table i d =
+    let e = top_of i (pattern_made d) (one_of_node (pattern_is_node d) (pattern_makes_none (pattern_made d []))) in
     (e, ap message_count e ∙ category_clean d)
 
 pub meta_of_table : {input : List Record} {t output : Forest} → IsTopOf meta input output → Makes Meta input t →

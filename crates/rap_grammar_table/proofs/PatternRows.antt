@@ -25,7 +25,7 @@ patterns_read_by knot.ArmPattern h = arm_patterns_read
 patterns_read_by r h = absurd cc
 
 pub patterns : EntryChecked table pattern_entry
-patterns = record { reads = patterns_read_by; begins = refl; followed = refl; nodes = λ h. absurd cc }
+patterns = record { reads = patterns_read_by; begins = refl; followed = refl; nodes = λ h. refl }
 
 singles_read : all_accepted (is_read table single_entry knot.PatternSingle) single_entry.rows ≡ accepted
 unfolding scripts

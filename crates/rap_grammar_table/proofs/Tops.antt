@@ -7,9 +7,9 @@ use Rattle.rap_grammar_scripts.specs.Entry.{source_file}
 use Rattle.rap_grammar_scripts.specs.Knot.{script_of}
 use Rattle.rap_grammar_scripts.specs.Modules.{mod_contents}
 use Rattle.rap_grammar_scripts.specs.Script.{Script, Outcome, nothing, something, block, again, Runs}
-use Rattle.rap_grammar_scripts.specs.ThroughKnot.{meta, type_}
+use Rattle.rap_grammar_scripts.specs.ThroughKnot.{expr, meta, pattern, type_}
 use Rattle.rap_grammar_scripts.specs.declared.rule.Rule.{Rule}
-use Rattle.rap_grammar_table.specs.Categories.{Meta, Ty}
+use Rattle.rap_grammar_table.specs.Categories.{Expr, Meta, Pattern, Ty}
 use Rattle.rap_grammar_table.specs.Good.{Good, good_category, IsNode}
 use Rattle.rap_grammar_table.specs.Known.{Fits, Sees, this_way, place_at}
 use Rattle.rap_grammar_table.specs.Look.{followed}
@@ -18,7 +18,7 @@ use Rattle.rap_grammar_table.specs.Refusal.{accepted}
 use Rattle.rap_grammar_table.specs.Rows.{table}
 use Rattle.rap_grammar_table.specs.Table.{Items, nil, piece, cat, put, ended}
 use Rattle.rap_grammar_table.specs.Tops.{nothing_given, Makes, MakesRow, items_row, file_row, at_end}
-use Rattle.rap_grammar_table.specs.Walk.{reads_row}
+use Rattle.rap_grammar_table.specs.Walk.{nesting, reads_row}
 use Rattle.rap_grammar_table.specs.Ways.{has_outcome}
 use Rattle.rap_grammar_table.proofs.Free.{clean}
 use Rattle.rap_grammar_table.proofs.Known.{weaker}
@@ -55,7 +55,7 @@ row_made : (is : Items) {ks : List Record} {y : Forest} (s : Script Rule) →
     MakesRow is ks y → MakesOf s ks y
 row_made is {ks = ks} {y = y} s h w d b =
     let m = claim checked known d.derives at_end [] sees_end w in
-    let r = row_read table at_end s (something ∷ []) is [] ks d.pieces y none b sees_end m h in
+    let r = row_read table nesting at_end s (something ∷ []) is [] ks d.pieces y none b sees_end m h in
     rw (append-nil, none-⧺, only_something r.outcome r.among_them) at r.run
 
 -- the same of a category
@@ -92,7 +92,7 @@ items_read = refl
 pub items_made : {ks : List Record} {y : Forest} → MakesRow items_row ks y → MakesOf (mod_contents false) ks y
 items_made d = row_made items_row (mod_contents false) items_read refl d
 
--- a type, and what stands in an attribute
+-- a type, a pattern, an expression, and what stands in an attribute
 type_read : reads_row table at_end type_ (something ∷ []) (piece (cat Ty) nil) ≡ accepted
 unfolding scripts
 type_read = refl
@@ -102,6 +102,26 @@ type_made d = row_made (piece (cat Ty) nil) type_ type_read refl (category_row T
 
 pub type_is_node : {ks : List Record} {y : Forest} → Makes Ty ks y → IsNode y
 type_is_node d = node_made Ty refl (weaker at_end (table.follows Ty) [] refl sees_end) d
+
+pattern_read : reads_row table at_end pattern (something ∷ []) (piece (cat Pattern) nil) ≡ accepted
+unfolding scripts
+pattern_read = refl
+
+pub pattern_made : {ks : List Record} {y : Forest} → Makes Pattern ks y → MakesOf pattern ks y
+pattern_made d = row_made (piece (cat Pattern) nil) pattern pattern_read refl (category_row Pattern d)
+
+pub pattern_is_node : {ks : List Record} {y : Forest} → Makes Pattern ks y → IsNode y
+pattern_is_node d = node_made Pattern refl (weaker at_end (table.follows Pattern) [] refl sees_end) d
+
+expr_read : reads_row table at_end expr (something ∷ []) (piece (cat Expr) nil) ≡ accepted
+unfolding scripts
+expr_read = refl
+
+pub expr_made : {ks : List Record} {y : Forest} → Makes Expr ks y → MakesOf expr ks y
+expr_made d = row_made (piece (cat Expr) nil) expr expr_read refl (category_row Expr d)
+
+pub expr_is_node : {ks : List Record} {y : Forest} → Makes Expr ks y → IsNode y
+expr_is_node d = node_made Expr refl (weaker at_end (table.follows Expr) [] refl sees_end) d
 
 meta_read : reads_row table at_end meta (something ∷ []) (piece (cat Meta) nil) ≡ accepted
 unfolding scripts
