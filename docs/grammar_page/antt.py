@@ -11,7 +11,7 @@ from dataclasses import dataclass, field
 
 TOKEN = re.compile(r'\s+|--[^\n]*|"(?:\\.|[^"\\])*"|[()\[\]{},;]|[^\s()\[\]{},;"λ]+|λ')
 # Each operator with how tightly it binds. All go to the right.
-POWERS = {'▸': 1, '||': 2, '&&': 3, '==': 4, '∷': 5, '++': 5, '+': 6, '*': 7}
+POWERS = {'▸': 1, '||': 2, '&&': 3, '==': 4, '⊳': 4, '∷': 5, '++': 5, '+': 6, '-': 6, '*': 7}
 DEFINITION = re.compile(r'^(?:(?:unfoldable|abbrev|pub) )+([^\s:(]+) : (.*)$')
 IMPORT = re.compile(r'^(?:(?:unfoldable|pub) )*use Rattle\.([\w.]+?)(?:\.\{([^}]*)\}| as (\w+))$')
 
