@@ -13,7 +13,7 @@ use Rattle.rap_grammar.specs.declared.entry.part.Part.TheVariants as part
 use Rattle.rap_grammar.proofs.DotsInside.{visibility_inside, block_inside, path_inside, expression_inside, type_inside, pattern_inside, single_pattern_inside, meta_inside, statement_inside, item_inside}
 use Rattle.rap_grammar.proofs.Padded.{top_of_prefix}
 use Rattle.rap_grammar_core.specs.Dots.{dots_inside}
-use Rattle.rap_grammar.proofs.Tables.{expression_of_table, file_of_table, items_of_table, meta_of_table, pattern_of_table, type_of_table}
+use Rattle.rap_grammar.proofs.Tables.{expression_of_table, file_of_table, items_of_table, meta_of_table, pattern_of_table, stmts_of_table, type_of_table}
 use Rattle.rap_grammar.proofs.Parts.{one_prefix}
 use Rattle.rap_grammar.proofs.Prefixes.{front_expression, front_type, front_block, front_item, front_part}
 use Rattle.ra_ap_parser.specs.Reparsed.{IsAgainItself}
@@ -26,7 +26,8 @@ use Rattle.ra_ap_parser.specs.declared.entry_point.TopEntryPoint.TheVariants as 
 pub core_tree : (e : TopEntryPoint) (input : List Record) {tree output : Forest} → IsOutputOf e input output → IsCore e input tree → (output ≡ tree) × (message_count output ≡ 0)
 core_tree entry.SourceFile input i (inl d) = (derived_file i d, derived_file_clean i d)
 core_tree entry.SourceFile input i (inr d) = let x = file_of_table i d.1 in (x.0 ∙ sym d.2, x.1)
-core_tree entry.MacroStmts input i d = (derived_statements i d.1 ∙ sym d.2, derived_statements_clean i d.1)
+core_tree entry.MacroStmts input i (inl d) = (derived_statements i d.1 ∙ sym d.2, derived_statements_clean i d.1)
+core_tree entry.MacroStmts input i (inr d) = let x = stmts_of_table i d.1 in (x.0 ∙ sym d.2, x.1)
 core_tree entry.MacroItems input i (inl d) = (derived_items i d.1 ∙ sym d.2, derived_items_clean i d.1)
 core_tree entry.MacroItems input i (inr d) = let x = items_of_table i d.1 in (x.0 ∙ sym d.2, x.1)
 core_tree entry.Pattern input i d = pattern_of_table i d

@@ -10,7 +10,7 @@ use Rattle.rap_grammar_core.specs.MacroCall.{IsMacroCall}
 use Rattle.rap_grammar_core.specs.Mixed.{IsFront}
 use Rattle.rap_grammar_table.specs.Categories as table
 use Rattle.rap_grammar_table.specs.Table.{Items}
-use Rattle.rap_grammar_table.specs.Tops.{Makes, MakesRow, file_row, items_row}
+use Rattle.rap_grammar_table.specs.Tops.{Makes, MakesRow, file_row, items_row, stmts_row}
 use Rattle.rap_grammar.specs.Top.{IsTopOf, IsRootOf, top_tree}
 use Rattle.rap_grammar_scripts.specs.Entry.{source_file, macro_stmts}
 use Rattle.rap_grammar_scripts.specs.Modules.{mod_contents}
@@ -47,7 +47,9 @@ IsRow kind row input tree = (forest : Forest) × MakesRow row input forest × (t
 -- the entry.
 abbrev pub IsCore : TopEntryPoint → List Record → Forest → Type 0
 IsCore entry.SourceFile input tree = Derives File input tree ⊎ IsRow SOURCE_FILE file_row input tree
-IsCore entry.MacroStmts input tree = (contents : Forest) × Derives Contents input contents × (tree ≡ node none MACRO_STMTS contents)
+IsCore entry.MacroStmts input tree =
+    ((contents : Forest) × Derives Contents input contents × (tree ≡ node none MACRO_STMTS contents)) ⊎
+    IsRow MACRO_STMTS stmts_row input tree
 IsCore entry.MacroItems input tree =
     ((items : Forest) × Derives (Many Item) input items × (tree ≡ node none MACRO_ITEMS items)) ⊎
     IsRow MACRO_ITEMS items_row input tree

@@ -1,9 +1,9 @@
 -- What a parse of a whole input makes of what the table of the grammar derives.
 use Rattle.std.proofs.Common.{◌≡◌, [], ◌∷◌, List, true, false, refl, ap, ◌∙◌}
-use Rattle.rap_base.specs.NodeKind.{MACRO_ITEMS, SOURCE_FILE}
+use Rattle.rap_base.specs.NodeKind.{MACRO_ITEMS, MACRO_STMTS, SOURCE_FILE}
 use Rattle.rap_events.specs.Forest.{Forest, none, node, message_count, one_tree}
 use Rattle.rap_events.specs.Record.{Record}
-use Rattle.rap_grammar_scripts.specs.Entry.{source_file}
+use Rattle.rap_grammar_scripts.specs.Entry.{macro_stmts, source_file}
 use Rattle.rap_grammar_scripts.specs.Knot.{script_of}
 use Rattle.rap_grammar_scripts.specs.Modules.{mod_contents}
 use Rattle.rap_grammar_scripts.specs.Script.{Script, Spot, Runs, something}
@@ -14,8 +14,8 @@ use Rattle.rap_grammar_core.proofs.Unique.{over}
 use Rattle.rap_grammar_core.specs.Dots.{dots_inside}
 use Rattle.rap_grammar_table.specs.Categories.{Expr, Meta, Pattern, Ty}
 use Rattle.rap_grammar_table.specs.Good.{IsNode}
-use Rattle.rap_grammar_table.specs.Tops.{Makes, MakesRow, file_row, items_row}
-use Rattle.rap_grammar_table.proofs.Tops.{MakesOf, category_clean, expr_is_node, expr_made, file_made, items_made, meta_is_node, meta_made, pattern_is_node, pattern_made, row_clean, type_is_node, type_made}
+use Rattle.rap_grammar_table.specs.Tops.{Makes, MakesRow, file_row, items_row, stmts_row}
+use Rattle.rap_grammar_table.proofs.Tops.{MakesOf, category_clean, expr_is_node, expr_made, file_made, items_made, meta_is_node, meta_made, pattern_is_node, pattern_made, row_clean, stmts_made, type_is_node, type_made}
 use Rattle.rap_grammar.specs.Top.{IsRootOf, IsTopOf, top_tree}
 use Rattle.rap_grammar.proofs.DotsInside.{expression_makes_none, meta_makes_none, pattern_makes_none, type_makes_none}
 use Rattle.rap_grammar.proofs.Outputs.{root_of, top_tree-whole}
@@ -29,6 +29,10 @@ pub items_of_table : {input : List Record} {t output : Forest} →
     IsRootOf MACRO_ITEMS (mod_contents false) input output → MakesRow items_row input t →
     (output ≡ node none MACRO_ITEMS t) × (message_count output ≡ 0)
 items_of_table i d = let e = root_of i (items_made d (none ∷ [])) in (e, ap message_count e ∙ over (row_clean d))
+
+pub stmts_of_table : {input : List Record} {t output : Forest} → IsRootOf MACRO_STMTS macro_stmts input output →
+    MakesRow stmts_row input t → (output ≡ node none MACRO_STMTS t) × (message_count output ≡ 0)
+stmts_of_table i d = let e = root_of i (stmts_made d (none ∷ [])) in (e, ap message_count e ∙ over (row_clean d))
 
 -- one node is one tree, unless it ends with a float's dot
 one_of_node : {t : Forest} → IsNode t → dots_inside t ≡ true → one_tree t ≡ true

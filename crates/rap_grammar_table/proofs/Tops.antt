@@ -3,7 +3,7 @@ use Rattle.std.proofs.Common.{◌≡◌, ℕ, List, [], ◌∷◌, ◌++◌, app
 use Rattle.rap_base.specs.TokenKind.{EOF}
 use Rattle.rap_events.specs.Forest.{Forest, none, ◌⧺◌, message_count}
 use Rattle.rap_events.specs.Record.{Record, kind_at, contextual_at, joint_at}
-use Rattle.rap_grammar_scripts.specs.Entry.{source_file}
+use Rattle.rap_grammar_scripts.specs.Entry.{macro_stmts, source_file}
 use Rattle.rap_grammar_scripts.specs.Knot.{script_of}
 use Rattle.rap_grammar_scripts.specs.Modules.{mod_contents}
 use Rattle.rap_grammar_scripts.specs.Script.{Script, Outcome, nothing, something, block, again, Runs}
@@ -17,7 +17,7 @@ use Rattle.rap_grammar_table.specs.Notation.{of_kinds}
 use Rattle.rap_grammar_table.specs.Refusal.{accepted}
 use Rattle.rap_grammar_table.specs.Rows.{table}
 use Rattle.rap_grammar_table.specs.Table.{Items, nil, piece, cat, put, ended}
-use Rattle.rap_grammar_table.specs.Tops.{nothing_given, Makes, MakesRow, items_row, file_row, at_end}
+use Rattle.rap_grammar_table.specs.Tops.{nothing_given, Makes, MakesRow, file_row, items_row, stmts_row, at_end}
 use Rattle.rap_grammar_table.specs.Walk.{nesting, reads_row}
 use Rattle.rap_grammar_table.specs.Ways.{has_outcome}
 use Rattle.rap_grammar_table.proofs.Free.{clean}
@@ -91,6 +91,14 @@ items_read = refl
 
 pub items_made : {ks : List Record} {y : Forest} → MakesRow items_row ks y → MakesOf (mod_contents false) ks y
 items_made d = row_made items_row (mod_contents false) items_read refl d
+
+-- the statements of a macro
+stmts_read : reads_row table at_end macro_stmts (something ∷ []) stmts_row ≡ accepted
+unfolding scripts
+stmts_read = refl
+
+pub stmts_made : {ks : List Record} {y : Forest} → MakesRow stmts_row ks y → MakesOf macro_stmts ks y
+stmts_made d = row_made stmts_row macro_stmts stmts_read refl d
 
 -- a type, a pattern, an expression, and what stands in an attribute
 type_read : reads_row table at_end type_ (something ∷ []) (piece (cat Ty) nil) ≡ accepted

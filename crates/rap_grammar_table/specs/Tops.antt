@@ -3,9 +3,9 @@ use Rattle.std.specs.Prelude.{ℕ, List, [], ◌∷◌}
 use Rattle.rap_base.specs.TokenKind.{EOF, SHEBANG, FRONTMATTER}
 use Rattle.rap_events.specs.Forest.{Forest, none}
 use Rattle.rap_events.specs.Record.{Record}
-use Rattle.rap_grammar_table.specs.Categories.{Item, inner_attrs}
+use Rattle.rap_grammar_table.specs.Categories.{BlockStmt, EmptyStmt, Item, MacroTail, Stmt, inner_attrs}
 use Rattle.rap_grammar_table.specs.Known.{Place}
-use Rattle.rap_grammar_table.specs.Notation.{◌⊳◌, t, c, opt, many, row, of_kinds}
+use Rattle.rap_grammar_table.specs.Notation.{◌⊳◌, t, c, either, opt, many, until, row, of_kinds}
 use Rattle.rap_grammar_table.specs.Rows.{table}
 use Rattle.rap_grammar_table.specs.Table.{Items, Beside, Derives, one, rest_of, cat}
 
@@ -29,6 +29,14 @@ items_row = row (inner_attrs ⊳ many (c Item))
 
 abbrev pub file_row : Items
 file_row = row (opt (t SHEBANG) ⊳ opt (t FRONTMATTER) ⊳ inner_attrs ⊳ many (c Item))
+
+-- What a macro in the place of statements expands to. A semicolon stands alone only where each block before it has one
+-- too.
+abbrev pub stmts_row : Items
+stmts_row =
+    row
+    (either (opt (until (either (c Stmt) (c BlockStmt)) (either (c Stmt) (c MacroTail))))
+    (until (either (c Stmt) (c EmptyStmt)) (either (c Stmt) (either (c EmptyStmt) (c MacroTail)))))
 
 -- the end of the input
 abbrev pub at_end : List (List Place)
