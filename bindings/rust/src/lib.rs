@@ -100,8 +100,8 @@
 //! A text is lexed only when its tokens are first used: [`LexedStr::new`] and [`LexedStr::to_input`] keep the text,
 //! and [`TopEntryPoint::parse`] goes the whole way from the text to the tree in one call of the library.
 //! A thread keeps the room for a text's tree for the next text: 8 bytes for each byte of the text, as far as they
-//! were written, and 128 MB at most. It keeps a stack of 64 MB too, of which a text that nests less than a hundred
-//! levels deep takes some 100 KB.
+//! were written, and 4 MB at most. It keeps a stack of 64 MB too, of which a text that nests less than a hundred
+//! levels deep takes some 100 KB. [`release_thread_memory`] gives both back.
 //!
 //! # Where it runs
 //!
@@ -137,4 +137,19 @@ pub use syntax_kind::SyntaxKind;
 #[must_use]
 pub fn is_rust_whitespace(c: char) -> bool {
     matches!(c, '\u{9}'..='\u{d}' | ' ' | '\u{85}' | '\u{200e}' | '\u{200f}' | '\u{2028}' | '\u{2029}')
+}
+
+/// Gives back the memory that the calling thread keeps from one text to the next: the room for a tree, of 4 MB at most,
+/// and a stack of 64 MB. The next text takes them anew. A thread that ends gives them back by itself.
+///
+/// ```
+/// use ra_ap_parser::{Edition, LexedStr, TopEntryPoint, release_thread_memory};
+///
+/// let lexed = LexedStr::new(Edition::CURRENT, "1 + 2");
+/// let output = TopEntryPoint::Expr.parse(&lexed.to_input(Edition::CURRENT));
+/// release_thread_memory();
+/// assert!(output.iter().count() > 0);
+/// ```
+pub fn release_thread_memory() {
+    sys::release_thread_memory();
 }

@@ -3,7 +3,7 @@
 //! This module is no part of the interface of the Rust crate: it is public for the tests of the package.
 //!
 //! - `declarations` has what the header declares,
-//! - `room` the rooms that a thread keeps,
+//! - `room` the room for words that a thread keeps, and the room for lists,
 //! - `words` the reader of a tree in words,
 //! - `nodes` the calls for trees in one list,
 //! - `stack` the stacks on which calls parse,
@@ -19,11 +19,17 @@ mod status;
 mod words;
 
 pub use declarations::*;
-pub use nodes::{Nodes, keep_elements, lexer_places, nodes};
+pub use nodes::{Nodes, lexer_places, nodes};
 pub(crate) use status::check_status;
 pub(crate) use words::Woven;
 
 use std::sync::Arc;
+
+/// Frees what the thread keeps from one text to the next.
+pub(crate) fn release_thread_memory() {
+    room::release();
+    stack::release();
+}
 
 /// What a call filled: its status, all its steps, and all bytes of its messages.
 #[derive(Debug, Default)]

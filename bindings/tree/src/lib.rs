@@ -40,8 +40,8 @@
 //!
 //! # What a call costs
 //!
-//! Building is linear in the text. The list of most texts takes some 8 bytes for each of theirs; where one of 8 MB or
-//! more is dropped, the thread keeps its room for the next long one, 128 MB at most.
+//! Building is linear in the text. The list of most texts takes some 8 bytes for each of theirs, and a tree that is
+//! dropped gives it back. A thread keeps a stack for the next text, which [`release_thread_memory`] gives back.
 //!
 //! No way through a tree allocates memory, and none goes deeper into the stack for a deeper tree. What begins or
 //! follows a node is found at once, what ends or precedes it by a climb through the levels between; what is at an offset
@@ -68,4 +68,4 @@ pub use token::Token;
 pub use token_at_offset::TokenAtOffset;
 pub use tree::Tree;
 
-pub use ra_ap_parser::{Edition, SyntaxKind, T, TopEntryPoint};
+pub use ra_ap_parser::{Edition, SyntaxKind, T, TopEntryPoint, release_thread_memory};

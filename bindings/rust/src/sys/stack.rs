@@ -123,9 +123,14 @@ pub(super) fn call_on<T>(tokens: usize, call: impl Fn() -> T) -> Option<T> {
     result
 }
 
+/// Frees the stack that the thread keeps.
+pub(super) fn release() {
+    drop(KEPT.try_with(Cell::take));
+}
+
 #[cfg(test)]
 mod tests {
-    use super::{KEPT_SIZE, MOST_TOKENS, OF_A_TOKEN, Stack, call_on};
+    use super::{KEPT, KEPT_SIZE, MOST_TOKENS, OF_A_TOKEN, Stack, call_on, release};
     use std::cell::RefCell;
     use std::hint::black_box;
     use std::thread;
@@ -168,6 +173,17 @@ mod tests {
         for thread in threads {
             assert_eq!(thread.join().expect("it ends"), Some(10_000));
         }
+    }
+
+    #[test]
+    fn is_kept_until_it_is_released() {
+        assert_eq!(call_on(10, || levels_of(10)), Some(10));
+        let kept = KEPT.take().expect("it is kept");
+        assert_eq!(kept.size, KEPT_SIZE);
+        KEPT.set(Some(kept));
+        release();
+        assert!(KEPT.take().is_none());
+        assert_eq!(call_on(10, || levels_of(10)), Some(10));
     }
 
     #[test]
