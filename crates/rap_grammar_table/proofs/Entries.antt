@@ -1,9 +1,10 @@
 -- A table is checked where each of its entries is.
-use Rattle.std.proofs.Common.{◌≡◌, Bool, true, ◌&&◌, refl, List, [], ◌∷◌, ℕ, zero, suc, Some, subst}
+use Rattle.std.proofs.Common.{◌≡◌, Bool, true, false, ◌&&◌, refl, List, [], ◌∷◌, ℕ, zero, suc, Some, subst}
 use Rattle.rap_events.proofs.Truth.{and_left, and_right}
 use Rattle.rap_grammar_scripts.specs.Knot.{script_of}
 use Rattle.rap_grammar_scripts.specs.declared.rule.Rule.{Rule}
 use Rattle.rap_grammar_table.specs.Known.{says}
+use Rattle.rap_grammar_table.specs.Lasts.{ends_plain, if_asked}
 use Rattle.rap_grammar_table.specs.Look.{look, followed, is_one_node, depth}
 use Rattle.rap_grammar_table.specs.Notation.{Entry, no_entry, entry_at, table_of}
 use Rattle.rap_grammar_table.specs.Refusal.{Verdict, accepted}
@@ -32,7 +33,7 @@ abbrev pub is_read : Table → Entry → Rule → Items → Verdict
 is_read t e r row = reads_row t e.follows (script_of r) (e.read_by r) row
 
 abbrev pub begins_so : Table → Entry → Items → Bool
-begins_so t e row = says (look t row e.follows) e.firsts
+begins_so t e row = says (look t row e.follows) e.firsts && if_asked e.unbraced (ends_plain t row)
 
 abbrev pub followed_so : Table → Entry → Items → Bool
 followed_so t e row = followed t row e.follows e.follows
@@ -56,6 +57,10 @@ entry_checked t none_left c = no_rows t
 entry_checked t (x then y) zero = x
 entry_checked t (x then y) (suc c) = entry_checked t y c
 
+asked_so : (a b : Bool) → a ≡ true → if_asked a b ≡ true → b ≡ true
+asked_so true b h i = i
+asked_so false b h i = absurd cc
+
 pub checked_of : (es : List Entry) → AllChecked (table_of es) es → Checked (table_of es)
 checked_of es a =
     let t = table_of es in
@@ -63,7 +68,15 @@ checked_of es a =
     record {
       reads =
           λ c n row h r i. of_accepted (is_read t (entry_at c es) r) (entry_at c es).rows n row ((at c).reads r i) h;
-      begins = λ c n row h. of_all (begins_so t (entry_at c es)) (entry_at c es).rows n row (at c).begins h;
+      begins =
+          λ c n row h.
+          and_left (says (look t row (entry_at c es).follows) (entry_at c es).firsts) _
+          (of_all (begins_so t (entry_at c es)) (entry_at c es).rows n row (at c).begins h);
+      unbraced =
+          λ c n row h i.
+          asked_so (entry_at c es).unbraced (ends_plain t row) i
+          (and_right (says (look t row (entry_at c es).follows) (entry_at c es).firsts) _
+          (of_all (begins_so t (entry_at c es)) (entry_at c es).rows n row (at c).begins h));
       followed = λ c n row h. of_all (followed_so t (entry_at c es)) (entry_at c es).rows n row (at c).followed h;
       is_node = λ c n row h i. of_all (is_one_node t depth) (entry_at c es).rows n row ((at c).nodes i) h;
     }

@@ -5,7 +5,7 @@ use Rattle.rap_grammar_scripts.specs.Script.{Outcome, something}
 use Rattle.rap_grammar_scripts.specs.declared.arguments.Restrictions.{Restrictions}
 use Rattle.rap_grammar_scripts.specs.declared.rule.Rule.{Rule}
 use Rattle.rap_grammar_scripts.specs.declared.rule.Rule.TheVariants as knot
-use Rattle.rap_grammar_table.specs.ExprRows.{outcomes_if, by_expr, arg_list_entry, atom_entry, atom_path_entry, brace_tree_entry, cast_path_entry, cast_type_entry, name_expr_entry, open_atom_entry, open_prefixed_entry, operand_entry, prefixed_entry, round_tree_entry, stmt_operand_entry, stmt_prefixed_entry}
+use Rattle.rap_grammar_table.specs.ExprRows.{outcomes_if, by_expr, arg_list_entry, atom_entry, atom_path_entry, brace_tree_entry, cast_path_entry, cast_type_entry, else_value_entry, name_expr_entry, open_atom_entry, open_prefixed_entry, operand_entry, plain_atom_entry, prefixed_entry, round_tree_entry, stmt_operand_entry, stmt_prefixed_entry}
 use Rattle.rap_grammar_table.specs.Notation.{Entry}
 use Rattle.rap_grammar_table.specs.Refusal.{accepted}
 use Rattle.rap_grammar_table.specs.Rows.{table}
@@ -152,3 +152,19 @@ cast_types_read_by r h = absurd cc
 
 pub cast_types : EntryChecked table cast_type_entry
 cast_types = record { reads = cast_types_read_by; begins = refl; followed = refl; nodes = λ h. refl }
+
+pub plain_atoms_so : EntryChecked table plain_atom_entry
+plain_atoms_so = record { reads = λ r h. absurd cc; begins = refl; followed = refl; nodes = λ h. refl }
+
+else_values_read : all_accepted (is_read table else_value_entry (expr_rule false false 1)) else_value_entry.rows ≡ accepted
+unfolding scripts tests
+else_values_read = refl
+
+pub else_values : EntryChecked table else_value_entry
+else_values =
+    record {
+      reads = read_by_expr table else_value_entry false false 1 (something ∷ []) else_values_read;
+      begins = refl;
+      followed = refl;
+      nodes = λ h. refl;
+    }

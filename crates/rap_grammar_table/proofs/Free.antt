@@ -15,7 +15,7 @@ use Rattle.rap_grammar_table.proofs.Values.{none-⧺}
 
 read_alone : {t : Table} {c : ℕ} {ks l : List Record} {y : Forest} (r : Rule) → some_outcome (t.reads r c) ≡ true →
     Good t (cat c) ks y l → Reads t r c ks y l none []
-read_alone r h (good_category x n o z) = z r none [] h
+read_alone r h (good_category x n p o z) = z r none [] h
 
 -- the same tokens of a category have one tree, before tokens that may follow
 pub unique : {t : Table} {given : Beside} → Checked t → Known t given → (c : ℕ) (r : Rule) →

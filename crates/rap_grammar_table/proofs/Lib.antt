@@ -8,6 +8,7 @@ pub mod Free
 pub mod GenericRows
 pub mod ItemRows
 pub mod Known
+pub mod Lasts
 pub mod Look
 pub mod Narrow
 pub mod Nodes

@@ -84,7 +84,7 @@ piece_seen t g (good_word {k = k} {r = r} {l = l} e i) s =
     sees_behind (token_place (IDENT ∷ []) (Some (k ∷ []))) g r l
     (record { kinds = only_one r.kind IDENT e; words = only_one r.contextual k i; joint = refl }) s
 piece_seen t g (good_operator {k = k} {rs = rs} {l = l} x) s = sees_parts (parts k) rs g l x s
-piece_seen t g (good_category x n o y) s = x
+piece_seen t g (good_category x n p o y) s = x
 
 -- a turn that may come is seen among all that may
 there_is : (b : Bool) (f : Unit {0} → List (List Place)) (rs : List Record) → b ≡ true → Sees (f tt) rs →

@@ -60,7 +60,7 @@ node_of : {t : Table} {p : Piece} {ks l : List Record} {u : Forest} → Good t p
 node_of (good_token m w) h = absurd cc
 node_of (good_word e i) h = absurd cc
 node_of (good_operator x) h = absurd cc
-node_of (good_category s n o y) h = n h
+node_of (good_category s n p o y) h = n h
 
 from_start : {t : Table} {l : List Record} (d : ℕ) {is : Items} {x y : Forest} {xs us : List Forest}
     {ks : List Record} → Made t l is x xs us ks y → is_one_node t d is ≡ true → x ≡ none → xs ≡ [] → IsNode y

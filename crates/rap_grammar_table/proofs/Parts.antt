@@ -4,8 +4,8 @@ use Rattle.rap_events.specs.Forest.{Forest, none, ◌⧺◌}
 use Rattle.rap_events.specs.Record.{Record}
 use Rattle.rap_grammar_scripts.specs.Script.{Script, Outcome}
 use Rattle.rap_grammar_scripts.specs.declared.rule.Rule.{Rule}
-use Rattle.rap_grammar_table.specs.Built.{Built, At, with_row, at_start, after_piece}
-use Rattle.rap_grammar_table.specs.Good.{IsNode, Made, made_group}
+use Rattle.rap_grammar_table.specs.Built.{Built, At, with_row, at_start, after_category, after_piece}
+use Rattle.rap_grammar_table.specs.Good.{IsNode, IsUnbraced, Made, made_group}
 use Rattle.rap_grammar_table.specs.Known.{Place, Sees}
 use Rattle.rap_grammar_table.specs.Look.{look}
 use Rattle.rap_grammar_table.specs.Refusal.{ends_as, in_part, Verdict, accepted, check, or_later}
@@ -63,10 +63,10 @@ rows_read : (t : Table) (deep : ℕ) (l : List Record) (e : List Forest) (y f : 
     drop s.count e ≡ left → (c : ℕ) (is : Items) (x : Built) (xs : List Built) →
     Front t l (cat c) is (value none e x) (values none e [] xs) left ks y → t.by_rows c ≡ true →
     with_outcomes (reads_rows deep t c a) (t.ends c)
-    (λ v. k v (after_piece (with_row s (piece (cat c) is) x xs) is (t.is_node c))) ≡ accepted →
+    (λ v. k v (after_category (with_row s (piece (cat c) is) x xs) is (t.is_node c) (t.unbraced c))) ≡ accepted →
     Comes t l e y f b k a (spot_at f b e s (ks ++ l))
 rows_read t deep l e y f b a s k ns o c is x xs u h v =
-    let place = after_piece (with_row s (piece (cat c) is) x xs) is (t.is_node c) in
+    let place = after_category (with_row s (piece (cat c) is) x xs) is (t.is_node c) (t.unbraced c) in
     let good = of_category u.good in
     let q = found_outcomes (reads_rows deep t c a) (t.ends c) (λ vs. every_outcome (λ v. k v place) vs) v in
     let z = good.rows h deep a q.outcomes (value f e s.own) (values f e b s.owns) q.is_so in
@@ -83,8 +83,9 @@ rows_read t deep l e y f b a s k ns o c is x xs u h v =
             left_is = drop_more s.count e u.tree_is u.trees j;
             made = rw same_tree u.made;
             nodes =
-                nodes_with e (t.is_node c) s.count s.nodes
-                (λ i. subst (λ (u : Forest). IsNode u) (sym same_tree) (good.node i)) ns;
+                nodes_with e (t.is_node c) (t.unbraced c) s.count s.nodes
+                (λ i. subst (λ (u : Forest). IsNode u) (sym same_tree) (good.node i))
+                (λ i. subst (λ (u : Forest). IsUnbraced u) (sym same_tree) (good.unbraced i)) ns;
             facts = tt;
           };
       run = rw (u.tokens, append_assoc u.own u.rest l, same_tree) z.run;
@@ -106,7 +107,7 @@ category_read t deep g l e y f b i a w sound s k ks (comp j) is x xs st v =
 category_read t deep g l e y f b i a w sound s k ks (cat c) is x xs st v =
     by_try_so (t.by_rows c)
     (λ u. with_outcomes (reads_rows deep t c a) (t.ends c)
-    (λ v. k v (after_piece (with_row s (piece (cat c) is) x xs) is (t.is_node c))))
+    (λ v. k v (after_category (with_row s (piece (cat c) is) x xs) is (t.is_node c) (t.unbraced c))))
     (λ u. w g (with_row s (piece (cat c) is) x xs) k) v
     (λ h o. rows_read t deep l e y f b a s k st.nodes st.left_is c is x xs (front_inv st.made) h o)
     (λ o. sound g l e y f b i (with_row s (piece (cat c) is) x xs) k ks st o)
@@ -160,7 +161,7 @@ group_read t deep g l e y f b i c w sound s k {ks = ks} ns o a is x xs u v =
     (λ v. check (has_outcome q.outcomes v) (ends_as v)) c u.own (seen t g u.made i)
     (start_read t deep n (u.rest ++ l) u.inner u.tree_is (value f e s.own) (values f e b s.owns) (seen t g u.made i) c
     w sound a (ends_so t n q.outcomes) u.own
-    (record { left = u.inner; left_is = refl; made = u.part; nodes = tt; facts = tt })
+    (record { left = u.inner; left_is = refl; made = u.part; nodes = (tt, tt); facts = tt })
     (told_so in_part
     (first_try (at_part t a)
     (λ u. expose t n (at_start a) (λ q'. category_first (reads_rows deep t) c w t n q'.items q' (ends_so t n q.outcomes)))

@@ -12,8 +12,8 @@ use Rattle.rap_grammar_scripts.specs.Knot.{script_of}
 use Rattle.rap_grammar_scripts.specs.Script.{Script, Outcome, nothing, something, block, again, Spot, Runs, finishes, extends, abandons, precedes, finish, extend, abandon, precede, last_tree, last_kind}
 use Rattle.rap_grammar_scripts.specs.Test.{kind_so}
 use Rattle.rap_grammar_scripts.specs.declared.rule.Rule.{Rule}
-use Rattle.rap_grammar_table.specs.Built.{Built, base, empty, over, tree, is_own, joined, At, with_row, with_own, after_piece}
-use Rattle.rap_grammar_table.specs.Good.{Good, good_token, good_word, good_operator, good_category, IsNode, Made, made_piece, Reads, ByRows}
+use Rattle.rap_grammar_table.specs.Built.{Built, base, empty, over, tree, is_own, joined, At, with_row, with_own, after_category, after_piece}
+use Rattle.rap_grammar_table.specs.Good.{Good, good_token, good_word, good_operator, good_category, IsNode, IsUnbraced, Made, made_piece, Reads, ByRows}
 use Rattle.rap_grammar_table.specs.Known.{Answer, sure, never, unclear, Place, agrees, among, within, is_kind, evaluate_all, Sees, this_way}
 use Rattle.rap_grammar_table.specs.Look.{look_piece, anything}
 use Rattle.rap_grammar_table.specs.Narrow.{Fact, left_by, AreSo}
@@ -175,7 +175,7 @@ token_at t fs kind (good_operator {k = k} {rs = rs} {l = l} x) a h =
       past = touching_past l x';
       leaf_is = ap (λ (j : ℕ). leaf none j (width j)) (same_number k kind h);
     }
-token_at t fs kind (good_category x n o y) a h = absurd cc
+token_at t fs kind (good_category x n p o y) a h = absurd cc
 
 pub record AnyAt (ks : List Record) (u : Forest) (l : List Record) : Type 0 where
   pub some : next_kind (ks ++ l) ≢ EOF
@@ -191,7 +191,7 @@ any_at (good_token {kinds = kinds} {r = r} m w) h =
     record { some = no_end r.kind (every_so (λ k. not (k == EOF)) kinds r.kind h m); past = refl; leaf_is = refl }
 any_at (good_word e i) h = absurd cc
 any_at (good_operator x) h = absurd cc
-any_at (good_category x n o y) h = absurd cc
+any_at (good_category x n p o y) h = absurd cc
 
 pub record BornAt (kind : ℕ) (ks : List Record) (u : Forest) (l : List Record) : Type 0 where
   pub here : first_may_bear (ks ++ l) kind ≡ true
@@ -215,7 +215,7 @@ born_at t fs kind (good_word {k = k} {r = r} e i) a h =
     born true b c d h i = refl
     born false b c d h i = rw (h, i) refl
 born_at t fs kind (good_operator x) a h = absurd cc
-born_at t fs kind (good_category x n o y) a h = absurd cc
+born_at t fs kind (good_category x n p o y) a h = absurd cc
 
 -- outcomes
 pub same_flags : (a b : Bool) → same_flag a b ≡ true → a ≡ b
@@ -252,11 +252,12 @@ pub record Reading (t : Table) (l : List Record) (e : List Forest) (y f : Forest
 
 pub record GoodCategory (t : Table) (c : ℕ) (ks : List Record) (u : Forest) (l : List Record) : Type 0 where
   pub node : t.is_node c ≡ true → IsNode u
+  pub unbraced : t.unbraced c ≡ true → IsUnbraced u
   pub rows : t.by_rows c ≡ true → ByRows t c ks u l
   pub reads : (r : Rule) (f : Forest) (b : List Forest) → some_outcome (t.reads r c) ≡ true → Reads t r c ks u l f b
 
 pub of_category : {t : Table} {c : ℕ} {ks l : List Record} {u : Forest} → Good t (cat c) ks u l → GoodCategory t c ks u l
-of_category (good_category a n o z) = record { node = n; rows = o; reads = z }
+of_category (good_category a n p o z) = record { node = n; unbraced = p; rows = o; reads = z }
 
 read_category : (t : Table) (l : List Record) (e : List Forest) (y f : Forest) (b : List Forest) (r : Rule)
     (k : Outcome → At → Verdict) (s : At) {ks : List Record} {left : List Forest} → AreNodes e s.nodes →
@@ -269,7 +270,7 @@ read_category t l e y f b r k s ns h (comp j) is x xs v w = absurd cc
 read_category t l e y f b r k s {ks = ks} ns h (cat c) is x xs v w =
     let d = h ∙ v.all in
     let same_tree = drop_first s.count e v.tree_is v.trees d in
-    let place = after_piece (with_row s (piece (cat c) is) x xs) is (t.is_node c) in
+    let place = after_category (with_row s (piece (cat c) is) x xs) is (t.is_node c) (t.unbraced c) in
     let good = of_category v.good in
     let all : Unit {0} → Verdict = λ u. every_outcome (λ o. k o place) (t.reads r c) in
     let some = provided_is (some_outcome (t.reads r c)) (stopped (obeys r) (piece (cat c) is)) all w in
@@ -287,8 +288,9 @@ read_category t l e y f b r k s {ks = ks} ns h (cat c) is x xs v w =
             left_is = drop_more s.count e v.tree_is v.trees d;
             made = rw same_tree v.made;
             nodes =
-                nodes_with e (t.is_node c) s.count s.nodes
-                (λ i. subst (λ (u : Forest). IsNode u) (sym same_tree) (good.node i)) ns;
+                nodes_with e (t.is_node c) (t.unbraced c) s.count s.nodes
+                (λ i. subst (λ (u : Forest). IsNode u) (sym same_tree) (good.node i))
+                (λ i. subst (λ (u : Forest). IsUnbraced u) (sym same_tree) (good.unbraced i)) ns;
             facts = tt;
           };
       run = rw (v.tokens, append_assoc v.own v.rest l, same_tree) g.run;
@@ -367,13 +369,13 @@ precedes_own t l e y f b a s k go rs empty owns ns sound w = absurd cc
 precedes_own t l e y f b a s k go rs (over c kind d) owns ns sound w =
     before (λ z v r. precedes r) (sound (over empty kind d) (c ∷ owns) w)
 precedes_own t l e y f b a s k go rs (tree c n) owns ns sound w =
-    let p = preceded_node (value f e c) (tree_of e n) (node_at e s.nodes n ns (provided_is (among s.nodes n) _ _ w)) in
+    let p = preceded_node (value f e c) (tree_of e n) (node_at e s.nodes n ns (provided_is (among s.nodes.0 n) _ _ w)) in
     before
     (λ z v r. precedes (subst (λ (q : Spot). Runs script_of a q z v)
     (same_spot rs rs (none ⧺ tree_of e n) (last_tree (value f e c ⧺ tree_of e n))
     (value f e c ∷ values f e b owns) (but_last (value f e c ⧺ tree_of e n) ∷ values f e b owns) refl p.last
     (ap (λ (x : Forest). x ∷ values f e b owns) p.before)) r))
-    (sound (tree empty n) (c ∷ owns) (provided_so (among s.nodes n) _ _ w))
+    (sound (tree empty n) (c ∷ owns) (provided_so (among s.nodes.0 n) _ _ w))
 
 -- a node that begins where the newest open one does
 extended_node : (v u : Forest) → IsNode u →
@@ -399,8 +401,8 @@ extends_own t l e y f b a s k go rs (tree empty n) (o ∷ os) ns sound w =
     before
     (λ z v r. extends (subst
     (λ (x : Forest). Runs script_of a (record { rest = rs; forest = x; below = values f e b os }) z v)
-    (sym (extended_node (value f e o) (tree_of e n) (node_at e s.nodes n ns (provided_is (among s.nodes n) _ _ w)))) r))
-    (sound (tree o n) os (provided_so (among s.nodes n) _ _ w))
+    (sym (extended_node (value f e o) (tree_of e n) (node_at e s.nodes n ns (provided_is (among s.nodes.0 n) _ _ w)))) r))
+    (sound (tree o n) os (provided_so (among s.nodes.0 n) _ _ w))
 extends_own t l e y f b a s k go rs (tree base n) (o ∷ os) ns sound w = absurd cc
 extends_own t l e y f b a s k go rs (tree (over c kind d) n) (o ∷ os) ns sound w = absurd cc
 extends_own t l e y f b a s k go rs (tree (tree c m) n) (o ∷ os) ns sound w = absurd cc

@@ -5,16 +5,20 @@ use Rattle.rap_base.specs.TokenKind.{IDENT, SEMICOLON, L_PAREN, R_PAREN, L_BRACK
 use Rattle.rap_grammar_scripts.specs.Items.{item_or_macro}
 use Rattle.rap_grammar_scripts.specs.Knot.{script_of}
 use Rattle.rap_grammar_scripts.specs.Script.{something}
+use Rattle.rap_grammar_scripts.specs.declared.arguments.Semicolon.TheVariants as semicolon
+use Rattle.rap_grammar_scripts.specs.declared.rule.Rule.TheVariants as knot
 use Rattle.rap_grammar_scripts.specs.Test.{negated, or_else}
 use Rattle.rap_grammar_scripts.specs.Types.{type_with_bounds_cond}
 use Rattle.rap_grammar_scripts.specs.Visibility.{starts_restriction, starts_in_restriction}
-use Rattle.rap_grammar_table.specs.Categories.{Ty, PlainTy, Args, Item, Expr, Attr, ArgList, Atom, Operand, Closed, lifetime, name}
+use Rattle.rap_grammar_table.specs.Categories.{Ty, PlainTy, Args, Item, Block, Expr, Stmt, Attr, ArgList, Atom, Operand, Closed, lifetime, name}
 use Rattle.rap_grammar_table.specs.ExprRows.{field_part}
 use Rattle.rap_grammar_table.specs.ItemRows.{opt_visibility, restriction}
+use Rattle.rap_grammar_table.specs.Lasts.{ends_plain}
 use Rattle.rap_grammar_table.specs.Look.{followed, is_one_node, depth}
 use Rattle.rap_grammar_table.specs.Notation.{Part, ◌⊳◌, t, ts, c, node, opt, either, commas, guard, turn, around, row, of_kinds}
 use Rattle.rap_grammar_table.specs.Refusal.{Verdict, accepted, refused}
 use Rattle.rap_grammar_table.specs.Rows.{table}
+use Rattle.rap_grammar_table.specs.StmtRows.{let_else}
 use Rattle.rap_grammar_table.specs.TypeRows.{fn_pointer_param, opt_args}
 use Rattle.rap_grammar_table.specs.Walk.{reads_row}
 use Rattle.rap_grammar_table.proofs.ExprRows.{expr_rule}
@@ -163,3 +167,15 @@ tighter_later = refl
 -- two categories are not one node
 two_categories : is_one_node table depth (row (c Expr ⊳ c Expr)) ≡ false
 two_categories = refl
+
+-- a value before an `else` that may end with a `}`
+abbrev as_stmt : Part → Bool
+as_stmt a =
+    is_accepted (reads_row table (table.follows Stmt) (script_of (knot.Stmt semicolon.Required)) (something ∷ []) (row a))
+
+braced_value : as_stmt (let_else Expr) ≡ false
+unfolding scripts tests
+braced_value = refl
+
+braced : ends_plain table (row (node TUPLE_TYPE (t L_PAREN ⊳ c Block))) ≡ false
+braced = refl

@@ -9,12 +9,14 @@ use Rattle.rap_grammar_scripts.specs.declared.rule.Rule.{Rule}
 use Rattle.rap_grammar_table.specs.Built.{at_start}
 use Rattle.rap_grammar_table.specs.Good.{Good, good_token, good_word, good_operator, good_category, Made, made_end, made_begin, made_close, made_piece, made_first, made_second, made_last, made_turn, made_repeat, made_group, made_folded_none, made_folded_more, made_folds, made_guarded, ReadsBy}
 use Rattle.rap_grammar_table.specs.Known.{Place, Sees, says}
+use Rattle.rap_grammar_table.specs.Lasts.{ends_plain}
 use Rattle.rap_grammar_table.specs.Look.{look, after_way, no_ways, followed, followed_in, followed_piece, anything, is_one_node, depth}
 use Rattle.rap_grammar_table.specs.Refusal.{ends_as, check, in_part, Verdict, accepted}
 use Rattle.rap_grammar_table.specs.Table.{Table, Piece, tok, word, comp, cat, Items, nil, begin, close, piece, choice, repeat, turns_of, group, folds, folding, way, unless, appended, HasWay, first_turn, other_turn, Goal, one, rest_of, row_at, Part, Among, Beside, Derives, beside, by_row, a_token, a_word, an_operator, ended, begun, closed, put, first_way, second_way, last_turn, one_turn, repeated, grouped, folded_none, folded_more, folded, guarded}
 use Rattle.rap_grammar_table.specs.Walk.{walk, reads_row, reads_row_by, reads_rows, nesting, part_so, all_accepted}
 use Rattle.rap_grammar_table.specs.Ways.{has_outcome, some_outcome, ends_so}
 use Rattle.rap_grammar_table.proofs.Known.{weaker}
+use Rattle.rap_grammar_table.proofs.Lasts.{unbraced}
 use Rattle.rap_grammar_table.proofs.Look.{seen, look_appended}
 use Rattle.rap_grammar_table.proofs.Nodes.{one_node}
 use Rattle.rap_grammar_table.proofs.Verdict.{check_so, told_so, both_left, both_right}
@@ -29,7 +31,7 @@ row_read t d g a vs is l ks us y f b s m w =
     let x =
     whole t g l us y f b (λ v. check (has_outcome vs v) (ends_as v)) a ks s
     (walks t d g l us y f b s a (at_start is) (ends_so t g vs) ks
-    (record { left = us; left_is = refl; made = m; nodes = tt; facts = tt }) w)
+    (record { left = us; left_is = refl; made = m; nodes = (tt, tt); facts = tt }) w)
     in
     record { outcome = x.outcome; among_them = check_so (has_outcome vs x.outcome) (ends_as x.outcome) x.so; run = x.run }
 
@@ -63,6 +65,7 @@ pub record Checked (t : Table) : Type 0 where
   pub followed : (c n : ℕ) (row : Items) → row_at n (t.rows c) ≡ Some row → followed t row (t.follows c) (t.follows c) ≡ true
   pub is_node : (c n : ℕ) (row : Items) → row_at n (t.rows c) ≡ Some row → t.is_node c ≡ true →
       is_one_node t depth row ≡ true
+  pub unbraced : (c n : ℕ) (row : Items) → row_at n (t.rows c) ≡ Some row → t.unbraced c ≡ true → ends_plain t row ≡ true
 
 -- what follows a piece is what may follow it
 abbrev pub MayFollow : Table → Piece → List Record → Type 0
@@ -148,6 +151,7 @@ claim {t = t} o k (by_row {c = c} {row = row} {ks = ks} {x = y} {us = us} n e d)
     good_category
     (weaker (look t row (t.follows c)) (t.firsts c) (ks ++ l) (o.begins c n row e) (seen t (t.follows c) m s))
     (λ h. one_node depth m (o.is_node c n row e h))
+    (λ h. unbraced m (o.unbraced c n row e h))
     (λ h i a vs f b w. rows_read t i c n row e a vs l ks us y f b s m w)
     (λ r f b h.
     let x = row_read t nesting (t.follows c) (script_of r) (t.reads r c) row l ks us y f b s m (o.reads c n row e r h) in

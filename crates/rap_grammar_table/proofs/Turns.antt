@@ -150,7 +150,7 @@ last_read t h w sound z g xs k j {l = l} {us = us} {ks = ks} {x = x} m s c d o f
     whole t g l us x f b k (loop h c d) ks s
     (turned t g l us x f b s h (w g) no_turns (λ c d s' k ks st v. sound g l us x f b s c d s' k ks st v)
     (none_at_once t l us x f b h) most_turns c d (at_start z)
-    (then_ends t g k) ks (record { left = us; left_is = refl; made = m; nodes = tt; facts = tt })
+    (then_ends t g k) ks (record { left = us; left_is = refl; made = m; nodes = (tt, tt); facts = tt })
     (told_so (after_turns c d) (turning t g most_turns (w g) no_turns c d (at_start z) (then_ends t g k))
     (of_flags
     (λ c d. told_with (after_turns c d) (turning t g most_turns (w g) no_turns c d (at_start z) (then_ends t g k)))
@@ -169,7 +169,7 @@ loops t h w sound a z g xs k i j {l = l} (made_turn {x = x} {y = y} {us = us} {k
     let q =
     whole t r (js ++ l) us x f b (λ v. check (goes_on_in xs v) (goes_on_as v)) (h c d) ks (seen t g n s)
     (sound r (js ++ l) us x f b (seen t g n s) c d (at_start a) (turn_ends t r xs) ks
-    (record { left = us; left_is = refl; made = m; nodes = tt; facts = tt })
+    (record { left = us; left_is = refl; made = m; nodes = (tt, tt); facts = tt })
     (told_so (in_turn c d) (w r c d (at_start a) (turn_ends t r xs))
     (of_flags (λ c d. told_with (in_turn c d) (w r c d (at_start a) (turn_ends t r xs))) xs c d i o)))
     in
@@ -311,7 +311,7 @@ fold_loops {t = t} h w sound ws g xs i {l = l}
       left = vs;
       left_is = refl;
       made = subst (λ (z : Forest). Made t (js ++ l) a z (none ∷ []) vs ks v) (sym (none-⧺ x)) made;
-      nodes = (q, tt);
+      nodes = ((q, tt), tt);
       facts = tt;
     })
     (told_so (in_turn c d) (w r c d (fold_start a) (turn_ends t r xs))
@@ -346,8 +346,8 @@ record LastNode (f : Forest) (e : List Forest) (row own : Built) : Type 0 where
   row_is : value none e row ≡ node (value none e (under row)) kind children
   own_is : value f e own ≡ node (value f e (under own)) kind children
 
-last_node : (f : Forest) (e : List Forest) (ns : List ℕ) → AreNodes e ns → (row own : Built) →
-    last_same ns row own ≡ true → LastNode f e row own
+last_node : (f : Forest) (e : List Forest) (ns : List ℕ × List ℕ) → AreNodes e ns → (row own : Built) →
+    last_same ns.0 row own ≡ true → LastNode f e row own
 last_node f e ns n (over a k c) (over b j d) h =
     let i = and_right (k == j) _ h in
     let kj = same_number k j (and_left (k == j) _ h) in
@@ -396,7 +396,7 @@ fold_read t g l e y f b i h w sound on goes c d s k {ks = ks} ns o n ws is x xs 
       left = u.trees;
       left_is = drop_more s.count e u.tree_is u.trees j;
       made = rw same_tree u.made;
-      nodes = (rw same_tree (folded_node u.folds_made last), ns);
+      nodes = ((rw same_tree (folded_node u.folds_made last), ns.0), ns.1);
       facts = tt;
     }
     in
@@ -427,10 +427,10 @@ folds_row : (t : Table) (g : List (List Place)) (l : List Record) (e : List Fore
 folds_row t g l e y f b i h w sound on goes c d s k ks left ns o n ws is x xs m v =
     let why = stopped refusal.turns (folds n ws is) in
     let all : Unit {0} → Verdict = λ u. folds_so w t g on c d (with_row s (folds n ws is) x xs) n ws is k in
-    let la = last_node f e s.nodes ns x s.own (provided_is (last_same s.nodes x s.own) why all v) in
+    let la = last_node f e s.nodes ns x s.own (provided_is (last_same s.nodes.0 x s.own) why all v) in
     fold_read t g l e y f b i h w sound on goes c d s k ns o n ws is x xs la
     (folds_inv (subst (λ (z : Forest). Made t l (folds n ws is) z (values none e [] xs) left ks y) la.row_is m))
-    (provided_so (last_same s.nodes x s.own) why all v)
+    (provided_so (last_same s.nodes.0 x s.own) why all v)
 
 -- the loop that reads them
 repeats : (t : Table) (g : List (List Place)) (l : List Record) (e : List Forest) (y f : Forest) (b : List Forest) →

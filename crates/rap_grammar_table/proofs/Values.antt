@@ -8,7 +8,7 @@ use Rattle.rap_grammar_scripts.specs.Knot.{script_of}
 use Rattle.rap_grammar_scripts.specs.Script.{Script, Outcome, Spot, Runs}
 use Rattle.rap_grammar_scripts.specs.declared.rule.Rule.{Rule}
 use Rattle.rap_grammar_table.specs.Built.{Built, base, empty, over, tree, same, is_own, goes_on_from, joined, no_more, At, with_node}
-use Rattle.rap_grammar_table.specs.Good.{IsNode, Made, made_folded_none, made_folded_more}
+use Rattle.rap_grammar_table.specs.Good.{IsNode, IsUnbraced, Made, made_folded_none, made_folded_more}
 use Rattle.rap_grammar_table.specs.Known.{among}
 use Rattle.rap_grammar_table.specs.Narrow.{AreSo}
 use Rattle.rap_grammar_table.specs.Refusal.{Verdict, accepted}
@@ -36,10 +36,17 @@ values f e b (x ∷ xs) = value f e x ∷ values f e b xs
 abbrev pub spot_at : Forest → List Forest → List Forest → At → List Record → Spot
 spot_at f b e s rs = record { rest = rs; forest = value f e s.own; below = values f e b s.owns }
 
--- the trees with these numbers are one node each
-abbrev pub AreNodes : List Forest → List ℕ → Type 0
-AreNodes e [] = Unit {0}
-AreNodes e (n ∷ ns) = IsNode (tree_of e n) × AreNodes e ns
+-- The trees with the first of these numbers are one node each, and those with the second end with no `}`.
+abbrev pub AllNodes : List Forest → List ℕ → Type 0
+AllNodes e [] = Unit {0}
+AllNodes e (n ∷ ns) = IsNode (tree_of e n) × AllNodes e ns
+
+abbrev pub AllUnbraced : List Forest → List ℕ → Type 0
+AllUnbraced e [] = Unit {0}
+AllUnbraced e (n ∷ ns) = IsUnbraced (tree_of e n) × AllUnbraced e ns
+
+abbrev pub AreNodes : List Forest → List ℕ × List ℕ → Type 0
+AreNodes e ns = AllNodes e ns.0 × AllUnbraced e ns.1
 
 -- the rest of the row is made of these tokens, and what is known is so
 pub record Stands (t : Table) (l : List Record) (e : List Forest) (y : Forest) (s : At) (ks : List Record) : Type 0 where
@@ -135,17 +142,41 @@ none-⧺ (leaf before kind width) = ap (λ (f : Forest). leaf f kind width) (non
 none-⧺ (message before bytes) = ap (λ (f : Forest). message f bytes) (none-⧺ before)
 none-⧺ (split before dot) = ap (λ (f : Forest). split f dot) (none-⧺ before)
 
--- trees that are one node
-pub nodes_with : (e : List Forest) (b : Bool) (n : ℕ) (ns : List ℕ) → (b ≡ true → IsNode (tree_of e n)) →
-    AreNodes e ns → AreNodes e (with_node b n ns)
-nodes_with e true n ns h s = (h refl, s)
-nodes_with e false n ns h s = s
+-- trees that are one node, and those that end with no `}`
+all_nodes_with : (e : List Forest) (b : Bool) (n : ℕ) (ns : List ℕ) → (b ≡ true → IsNode (tree_of e n)) →
+    AllNodes e ns → AllNodes e (with_node b n ns)
+all_nodes_with e true n ns h s = (h refl, s)
+all_nodes_with e false n ns h s = s
 
-pub node_at : (e : List Forest) (ns : List ℕ) (i : ℕ) → AreNodes e ns → among ns i ≡ true → IsNode (tree_of e i)
-node_at e [] i s m = absurd cc
-node_at e (n ∷ ns) i s m =
+all_unbraced_with : (e : List Forest) (b : Bool) (n : ℕ) (ns : List ℕ) → (b ≡ true → IsUnbraced (tree_of e n)) →
+    AllUnbraced e ns → AllUnbraced e (with_node b n ns)
+all_unbraced_with e true n ns h s = (h refl, s)
+all_unbraced_with e false n ns h s = s
+
+pub nodes_with : (e : List Forest) (a b : Bool) (n : ℕ) (ns : List ℕ × List ℕ) → (a ≡ true → IsNode (tree_of e n)) →
+    (b ≡ true → IsUnbraced (tree_of e n)) → AreNodes e ns → AreNodes e (with_node a n ns.0, with_node b n ns.1)
+nodes_with e a b n ns h i s = (all_nodes_with e a n ns.0 h s.0, all_unbraced_with e b n ns.1 i s.1)
+
+in_nodes : (e : List Forest) (ns : List ℕ) (i : ℕ) → AllNodes e ns → among ns i ≡ true → IsNode (tree_of e i)
+in_nodes e [] i s m = absurd cc
+in_nodes e (n ∷ ns) i s m =
     by_or (n == i) (among ns i) m (λ h. subst (λ (j : ℕ). IsNode (tree_of e j)) (same_number n i h) s.0)
-    (λ h. node_at e ns i s.1 h)
+    (λ h. in_nodes e ns i s.1 h)
+
+pub node_at : (e : List Forest) (ns : List ℕ × List ℕ) (i : ℕ) → AreNodes e ns → among ns.0 i ≡ true →
+    IsNode (tree_of e i)
+node_at e ns i s m = in_nodes e ns.0 i s.0 m
+
+in_unbraced : (e : List Forest) (ns : List ℕ) (i : ℕ) → AllUnbraced e ns → among ns i ≡ true →
+    IsUnbraced (tree_of e i)
+in_unbraced e [] i s m = absurd cc
+in_unbraced e (n ∷ ns) i s m =
+    by_or (n == i) (among ns i) m (λ h. subst (λ (j : ℕ). IsUnbraced (tree_of e j)) (same_number n i h) s.0)
+    (λ h. in_unbraced e ns i s.1 h)
+
+pub unbraced_at : (e : List Forest) (ns : List ℕ × List ℕ) (i : ℕ) → AreNodes e ns → among ns.1 i ≡ true →
+    IsUnbraced (tree_of e i)
+unbraced_at e ns i s m = in_unbraced e ns.1 i s.1 m
 
 pub folded_node : {t : Table} {l : List Record} {n : ℕ} {ws : Items} {x y : Forest} {ks : List Record} →
     Made t l (folding n ws) x [] [] ks y → IsNode x → IsNode y

@@ -1,30 +1,48 @@
 -- A script that was walked along a row runs over its tokens, to its tree.
-use Rattle.std.proofs.Common.{◌≡◌, ℕ, List, ◌∷◌, ◌++◌, subst, append_assoc}
+use Rattle.std.proofs.Common.{◌≡◌, ℕ, Bool, true, false, ◌&&◌, ◌==◌, List, ◌∷◌, ◌++◌, subst, append_assoc}
+use Rattle.rap_base.specs.TokenKind.{R_CURLY}
+use Rattle.rap_events.proofs.Truth.{and_left, and_right}
 use Rattle.rap_events.specs.Composite.{width}
 use Rattle.rap_events.specs.Forest.{Forest}
+use Rattle.rap_events.specs.LastToken.{last_after}
 use Rattle.rap_events.specs.Record.{Record, next_kind}
-use Rattle.rap_grammar_scripts.specs.Script.{Script, Outcome, Spot, Runs, gives, takes, takes_any, bears, starts, follows, obeys, give, test, ends_with, token, any, bear, report, report_next, skip, start, precede, finish, extend, abandon, split_float, after, rule, loop}
+use Rattle.rap_grammar_scripts.specs.Script.{Script, Outcome, Spot, Runs, gives, ends_else, last_under, takes, takes_any, bears, starts, follows, obeys, give, test, ends_with, token, any, bear, report, report_next, skip, start, precede, finish, extend, abandon, split_float, after, rule, loop}
 use Rattle.rap_grammar_scripts.specs.Knot.{script_of}
 use Rattle.rap_grammar_scripts.specs.declared.rule.Rule.{Rule}
-use Rattle.rap_grammar_table.specs.Built.{Built, empty, At, with_own}
+use Rattle.rap_grammar_table.specs.Built.{Built, base, empty, over, tree, At, with_own}
 use Rattle.rap_grammar_table.specs.Known.{Place, Sees}
-use Rattle.rap_grammar_table.specs.Refusal.{Verdict, accepted}
+use Rattle.rap_grammar_table.specs.Refusal.{stopped, word_of, Verdict, accepted}
 use Rattle.rap_grammar_table.specs.Refusal as refusal
 use Rattle.rap_grammar_table.specs.Table.{Table}
 use Rattle.rap_grammar_table.specs.Walk.{walk, reads_rows, takes_part, parting, repeating, most_turns}
-use Rattle.rap_grammar_table.specs.Ways.{expose, is_token, is_some, is_bearer}
+use Rattle.rap_grammar_table.specs.Ways.{ends_otherwise, expose, is_token, is_some, is_bearer}
+use Rattle.rap_grammar_table.proofs.Known.{same_number}
+use Rattle.rap_grammar_table.proofs.Lasts.{last-⧺}
 use Rattle.rap_grammar_table.proofs.Exposes.{tested_so}
 use Rattle.rap_grammar_table.proofs.Pieces.{taking, reading, token_at, any_at, born_at, took_token, finishes_own, extends_own, abandons_own, precedes_own}
 use Rattle.rap_grammar_table.proofs.Turns.{turned, all_at_once, Walker}
 use Rattle.rap_grammar_table.proofs.Parts.{part_read, Walks}
-use Rattle.rap_grammar_table.proofs.Values.{spot_at, Stands, Comes, before}
-use Rattle.rap_grammar_table.proofs.Verdict.{by_try}
+use Rattle.rap_grammar_table.proofs.Values.{tree_of, value, values, spot_at, AreNodes, Stands, Comes, before, unbraced_at}
+use Rattle.rap_grammar_table.proofs.Verdict.{by_try, provided_is, provided_so}
 
 -- what a script has built does not matter for what stands of the row
 stands_own : {t : Table} {l : List Record} {e : List Forest} {y : Forest} {s : At} {ks : List Record} →
     Stands t l e y s ks → (o : Built) (os : List Built) → Stands t l e y (with_own s o os) ks
 stands_own st o os =
     record { left = st.left; left_is = st.left_is; made = st.made; nodes = st.nodes; facts = st.facts }
+
+-- the last token is another
+ends_otherwise_so : (e : List Forest) (ns : List ℕ × List ℕ) → AreNodes e ns → (f : Forest) (bs : List Forest)
+    (kind : ℕ) (own : Built) → ends_otherwise kind ns.1 own ≡ true →
+    (last_under (value f e own ∷ bs) == kind) ≡ false
+ends_otherwise_so e ns n f bs kind base h = absurd cc
+ends_otherwise_so e ns n f bs kind empty h = absurd cc
+ends_otherwise_so e ns n f bs kind (over a k c) h = absurd cc
+ends_otherwise_so e ns n f bs kind (tree a i) h =
+    let k = last_under bs in
+    let last = unbraced_at e ns i n (and_right (kind == R_CURLY) _ h) in
+    rw (last-⧺ k (value f e a) (tree_of e i), same_number kind R_CURLY (and_left (kind == R_CURLY) _ h))
+    (last.last (last_after k (value f e a)))
 
 pub walks : (t : Table) (deep : ℕ) (g : List (List Place)) (l : List Record) (e : List Forest) (y f : Forest) (b : List Forest) →
     Sees g l → (a : Script Rule) (s : At) (k : Outcome → At → Verdict) (ks : List Record) → Stands t l e y s ks →
@@ -34,7 +52,14 @@ walks t deep g l e y f b i (give v) s k ks st w =
 walks t deep g l e y f b i (test h a c) s k ks st w =
     tested_so t g l e y f b i h a c s k ks (λ q. walk (reads_rows deep t) t g a q k) (λ q. walk (reads_rows deep t) t g c q k)
     (λ q u v. walks t deep g l e y f b i a q k ks u v) (λ q u v. walks t deep g l e y f b i c q k ks u v) st w
-walks t deep g l e y f b i (ends_with kind a c) s k ks st w = absurd cc
+walks t deep g l e y f b i (ends_with kind a c) s k ks st w =
+    let stop = stopped (word_of (ends_with kind a c)) s.items in
+    let go : Unit {0} → Verdict = λ u. walk (reads_rows deep t) t g c s k in
+    before
+    (λ z v r. ends_else
+    (ends_otherwise_so e s.nodes st.nodes f (values f e b s.owns) kind s.own
+    (provided_is (ends_otherwise kind s.nodes.1 s.own) stop go w)) r)
+    (walks t deep g l e y f b i c s k ks st (provided_so (ends_otherwise kind s.nodes.1 s.own) stop go w))
 walks t deep g l e y f b i (token kind a) s k ks st w =
     let go : At → Verdict = λ r. walk (reads_rows deep t) t g a r k in
     let x = taking t g l e y f b i (refusal.takes kind) (is_token t s.facts kind) go s ks st w in

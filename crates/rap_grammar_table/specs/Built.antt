@@ -57,7 +57,8 @@ no_more [] = true
 no_more (x ∷ xs) = false
 
 -- Where a walk is: the rest of the row, and what it has made, the newest node first; what the script has made; how many
--- pieces are taken, and those of them whose tree is one node; and what is known of the tokens that come next.
+-- pieces are taken, those of them whose tree is one node, and those whose last token is no `}`; and what is known of the
+-- tokens that come next.
 pub record At : Type 0 where
   pub items : Items
   pub row : Built
@@ -65,7 +66,7 @@ pub record At : Type 0 where
   pub own : Built
   pub owns : List Built
   pub count : ℕ
-  pub nodes : List ℕ
+  pub nodes : List ℕ × List ℕ
   pub facts : List Fact
 
 abbrev pub with_row : At → Items → Built → List Built → At
@@ -110,7 +111,7 @@ with_facts s facts =
 -- before the first piece of a row
 abbrev pub at_start : Items → At
 at_start is =
-    record { items = is; row = base; rows = []; own = base; owns = []; count = 0; nodes = []; facts = [] }
+    record { items = is; row = base; rows = []; own = base; owns = []; count = 0; nodes = ([], []); facts = [] }
 
 -- behind a node, before a turn that puts one around it
 abbrev pub fold_start : Items → At
@@ -122,7 +123,7 @@ fold_start is =
       own = tree base 0;
       owns = [];
       count = 1;
-      nodes = 0 ∷ [];
+      nodes = (0 ∷ [], []);
       facts = [];
     }
 
@@ -130,9 +131,9 @@ abbrev pub with_node : Bool → ℕ → List ℕ → List ℕ
 with_node true n ns = n ∷ ns
 with_node false n ns = ns
 
--- after a piece, whose tree is one node or not
-abbrev pub after_piece : At → Items → Bool → At
-after_piece s is node =
+-- after a piece, whose tree is one node or not, and whose last token is no `}` or any
+abbrev pub after_category : At → Items → Bool → Bool → At
+after_category s is node plain =
     record {
       items = is;
       row = tree s.row s.count;
@@ -140,9 +141,12 @@ after_piece s is node =
       own = tree s.own s.count;
       owns = s.owns;
       count = suc s.count;
-      nodes = with_node node s.count s.nodes;
+      nodes = (with_node node s.count s.nodes.0, with_node plain s.count s.nodes.1);
       facts = [];
     }
+
+abbrev pub after_piece : At → Items → Bool → At
+after_piece s is node = after_category s is node false
 
 -- after turns that are put around the last node, with a tree in its place
 abbrev pub after_fold : At → Items → At
@@ -154,6 +158,6 @@ after_fold s is =
       own = tree (under s.own) s.count;
       owns = s.owns;
       count = suc s.count;
-      nodes = s.count ∷ s.nodes;
+      nodes = (s.count ∷ s.nodes.0, s.nodes.1);
       facts = [];
     }

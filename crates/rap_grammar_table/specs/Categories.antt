@@ -261,6 +261,13 @@ EmptyStmt = 108
 abbrev pub MacroTail : ℕ
 MacroTail = 109
 
+-- a value before an `else`, which does not end with a `}`, and what it begins with
+abbrev pub PlainAtom : ℕ
+PlainAtom = 110
+
+abbrev pub ElseValue : ℕ
+ElseValue = 111
+
 -- names
 abbrev pub name : Part
 name = node NAME (names (IDENT ∷ []))

@@ -1,14 +1,14 @@
 -- The rows of expressions.
 use Rattle.std.specs.Prelude.{ℕ, ◌==◌, ◌&&◌, ◌||◌, nat_lt, Bool, true, false, List, [], ◌∷◌, ◌++◌}
 use Rattle.rap_base.specs.NodeKind.{ARG_LIST, ARRAY_EXPR, AWAIT_EXPR, BLOCK_EXPR, BREAK_EXPR, CALL_EXPR, CLOSURE_EXPR, CONTINUE_EXPR, FIELD_EXPR, GENERIC_ARG_LIST, INDEX_EXPR, INFER_TYPE, LET_EXPR, MACRO_CALL, MACRO_EXPR, METHOD_CALL_EXPR, NAME_REF, PARAM, PARAM_LIST, PAREN_EXPR, PATH, PATH_EXPR, PATH_SEGMENT, PATH_TYPE, PREFIX_EXPR, PTR_TYPE, RANGE_EXPR, RECORD_EXPR, RECORD_EXPR_FIELD, RECORD_EXPR_FIELD_LIST, REF_EXPR, REF_TYPE, RETURN_EXPR, TRY_EXPR, TUPLE_EXPR, UNDERSCORE_EXPR}
-use Rattle.rap_base.specs.TokenKind.{IDENT, SEMICOLON, COMMA, COLON, COLON2, EQ, L_PAREN, R_PAREN, L_BRACK, R_BRACK, L_CURLY, R_CURLY, L_ANGLE, R_ANGLE, AMP, STAR, BANG, MINUS, PIPE, DOT, DOT2, QUESTION, UNDERSCORE, LIFETIME_IDENT, INT_NUMBER, ASYNC_KW, AWAIT_KW, BREAK_KW, CONST_KW, CONTINUE_KW, EXTERN_KW, FN_KW, FOR_KW, IF_KW, LET_KW, LOOP_KW, MATCH_KW, MOVE_KW, MUT_KW, RAW_KW, REF_KW, RETURN_KW, TRY_KW, UNSAFE_KW, WHILE_KW}
+use Rattle.rap_base.specs.TokenKind.{IDENT, SEMICOLON, COMMA, COLON, COLON2, EQ, L_PAREN, R_PAREN, L_BRACK, R_BRACK, L_CURLY, R_CURLY, L_ANGLE, R_ANGLE, AMP, STAR, BANG, MINUS, PIPE, DOT, DOT2, QUESTION, UNDERSCORE, LIFETIME_IDENT, INT_NUMBER, ASYNC_KW, AWAIT_KW, BREAK_KW, CONST_KW, CONTINUE_KW, ELSE_KW, EXTERN_KW, FN_KW, FOR_KW, IF_KW, LET_KW, LOOP_KW, MATCH_KW, MOVE_KW, MUT_KW, RAW_KW, REF_KW, RETURN_KW, TRY_KW, UNSAFE_KW, WHILE_KW}
 use Rattle.rap_events.specs.OperatorTable.{operators}
 use Rattle.rap_grammar_scripts.specs.Script.{Outcome, something, block}
 use Rattle.rap_grammar_scripts.specs.Words.{next_is}
 use Rattle.rap_grammar_scripts.specs.declared.rule.Rule.{Rule}
 use Rattle.rap_grammar_scripts.specs.declared.rule.Rule.TheVariants as knot
 use Rattle.rap_grammar_table.specs.AttributeRows.{tree_in}
-use Rattle.rap_grammar_table.specs.Categories.{Ty, PlainTy, Argument, Expr, StmtList, Pattern, SinglePattern, AtomPath, RoundTree, ArgList, NameExpr, CastTy, CastPath, WithBlock, Atom, Operand, Prefixed, StmtOperand, StmtPrefixed, OpenAtom, OpenPrefixed, Closed, attrs, lifetime, literal, literals, name_ref, path_names}
+use Rattle.rap_grammar_table.specs.Categories.{Ty, PlainTy, Argument, Expr, PlainAtom, StmtList, Pattern, SinglePattern, AtomPath, RoundTree, ArgList, NameExpr, CastTy, CastPath, WithBlock, Atom, Operand, Prefixed, StmtOperand, StmtPrefixed, OpenAtom, OpenPrefixed, Closed, attrs, lifetime, literal, literals, name_ref, path_names}
 use Rattle.rap_grammar_table.specs.Known.{Place, behind}
 use Rattle.rap_grammar_table.specs.Look.{anything}
 use Rattle.rap_grammar_table.specs.Notation.{Part, ◌⊳◌, t, ts, weak, op, c, node, opt, either, commas, commas_last, alone, guard, turn, around, Entry, text, rows_of, of_kinds, of_names, touching, colons}
@@ -35,6 +35,7 @@ nodes_with ends read_by rows firsts follows =
       firsts = firsts;
       follows = follows;
       is_node = true;
+      unbraced = false;
       by_rows = true;
       ends = ends;
       read_by = read_by;
@@ -48,6 +49,7 @@ nodes_of read_by rows firsts follows =
       firsts = firsts;
       follows = follows;
       is_node = true;
+      unbraced = false;
       by_rows = false;
       ends = [];
       read_by = read_by;
@@ -56,13 +58,29 @@ nodes_of read_by rows firsts follows =
 abbrev pub no_rule : Rule → List Outcome
 no_rule r = []
 
+-- a category whose last token is no `}`
+abbrev pub unbraced_of : Entry → Entry
+unbraced_of e =
+    record {
+      rows = e.rows;
+      firsts = e.firsts;
+      follows = e.follows;
+      is_node = e.is_node;
+      unbraced = true;
+      by_rows = e.by_rows;
+      ends = e.ends;
+      read_by = e.read_by;
+    }
+
 -- Paths, tokens in brackets, and the types of casts, behind which an operator may stand.
 abbrev pub atom_path_entry : Entry
-atom_path_entry = text expr_path_rows path_heads path_follows
+atom_path_entry = unbraced_of (text expr_path_rows path_heads path_follows)
 
 abbrev pub round_tree_entry : Entry
 round_tree_entry =
-    text (tree_in L_PAREN R_PAREN ∷ tree_in L_BRACK R_BRACK ∷ []) ((of_kinds (L_PAREN ∷ L_BRACK ∷ []) ∷ []) ∷ []) anything
+    unbraced_of
+    (text (tree_in L_PAREN R_PAREN ∷ tree_in L_BRACK R_BRACK ∷ [])
+    ((of_kinds (L_PAREN ∷ L_BRACK ∷ []) ∷ []) ∷ []) anything)
 
 abbrev pub brace_tree_entry : Entry
 brace_tree_entry = text (tree_in L_CURLY R_CURLY ∷ []) ((of_kinds (L_CURLY ∷ []) ∷ []) ∷ []) anything
@@ -70,7 +88,9 @@ brace_tree_entry = text (tree_in L_CURLY R_CURLY ∷ []) ((of_kinds (L_CURLY ∷
 -- The arguments of a call; and a name that is the value of its field too.
 abbrev pub arg_list_entry : Entry
 arg_list_entry =
-    text (node ARG_LIST (t L_PAREN ⊳ commas (c Expr) ⊳ t R_PAREN) ∷ []) ((of_kinds (L_PAREN ∷ []) ∷ []) ∷ []) anything
+    unbraced_of
+    (text (node ARG_LIST (t L_PAREN ⊳ commas (c Expr) ⊳ t R_PAREN) ∷ [])
+    ((of_kinds (L_PAREN ∷ []) ∷ []) ∷ []) anything)
 
 abbrev pub name_expr_entry : Entry
 name_expr_entry =
@@ -148,6 +168,22 @@ postfixes =
     turn (0 ∷ 1 ∷ []) AWAIT_EXPR await_part 1 ⊳
     turn (0 ∷ 1 ∷ []) FIELD_EXPR field_part 0 ⊳
     turn (0 ∷ 1 ∷ []) FIELD_EXPR number_part 1
+
+-- a value before an `else`
+abbrev pub plain_atom_entry : Entry
+plain_atom_entry =
+    unbraced_of
+    (nodes_with ((something ∷ []) ∷ []) no_rule plain_atoms atom_firsts
+    ((of_kinds (ELSE_KW ∷ []) ∷ [])
+    ∷ (of_kinds (L_PAREN ∷ L_BRACK ∷ QUESTION ∷ []) ∷ [])
+    ∷ (of_kinds (DOT ∷ []) ∷ of_kinds (INT_NUMBER ∷ AWAIT_KW ∷ path_names) ∷ [])
+    ∷ []))
+
+abbrev pub else_value_entry : Entry
+else_value_entry =
+    unbraced_of
+    (nodes_of (by_expr false false 1 (something ∷ [])) ((c PlainAtom ⊳ around 1 postfixes) ∷ []) atom_firsts
+    ((of_kinds (ELSE_KW ∷ []) ∷ []) ∷ []))
 
 -- an operator before an operand
 abbrev pub ref_before : ℕ → Part

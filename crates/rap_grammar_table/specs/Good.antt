@@ -1,8 +1,9 @@
 -- What is known of the parts of a row when its script is walked: that the scripts of the rules read them.
-use Rattle.std.specs.Prelude.{◌≡◌, ℕ, true, false, Option, List, [], ◌∷◌, ◌++◌}
-use Rattle.rap_base.specs.TokenKind.{IDENT}
+use Rattle.std.specs.Prelude.{◌≡◌, ℕ, true, false, ◌==◌, Option, List, [], ◌∷◌, ◌++◌}
+use Rattle.rap_base.specs.TokenKind.{IDENT, R_CURLY}
 use Rattle.rap_events.specs.Composite.{parts, width}
 use Rattle.rap_events.specs.Forest.{Forest, none, node, leaf, ◌⧺◌}
+use Rattle.rap_events.specs.LastToken.{last_after}
 use Rattle.rap_events.specs.Record.{Record}
 use Rattle.rap_grammar_scripts.specs.Knot.{script_of}
 use Rattle.rap_grammar_scripts.specs.Script.{Outcome, Runs, Script}
@@ -42,6 +43,10 @@ pub record IsNode (u : Forest) : Type 0 where
   pub children : Forest
   pub node_is : u ≡ node none kind children
 
+-- whatever token stood before it, its last token is no `}`
+pub record IsUnbraced (u : Forest) : Type 0 where
+  pub last : (k : ℕ) → (last_after k u == R_CURLY) ≡ false
+
 -- the tokens of a piece, its tree, and what follows
 pub data Good (t : Table) : Piece → List Record → Forest → List Record → Type 0 where
   good_token : {kinds : List ℕ} {words : Option (List ℕ)} {r : Record} {l : List Record} → among kinds r.kind ≡ true →
@@ -50,7 +55,8 @@ pub data Good (t : Table) : Piece → List Record → Forest → List Record →
       Good t (word k) (r ∷ []) (leaf none k 1) l
   good_operator : {k : ℕ} {rs l : List Record} → Touching (parts k) rs → Good t (comp k) rs (leaf none k (width k)) l
   good_category : {c : ℕ} {ks l : List Record} {u : Forest} → Sees (t.firsts c) (ks ++ l) →
-      (t.is_node c ≡ true → IsNode u) → (t.by_rows c ≡ true → ByRows t c ks u l) →
+      (t.is_node c ≡ true → IsNode u) → (t.unbraced c ≡ true → IsUnbraced u) →
+      (t.by_rows c ≡ true → ByRows t c ks u l) →
       ((r : Rule) (f : Forest) (b : List Forest) → some_outcome (t.reads r c) ≡ true → Reads t r c ks u l f b) →
       Good t (cat c) ks u l
 

@@ -6,6 +6,7 @@ pub mod GenericRows
 pub mod Good
 pub mod ItemRows
 pub mod Known
+pub mod Lasts
 pub mod Look
 pub mod Narrow
 pub mod Notation

@@ -130,13 +130,14 @@ pub record Entry : Type 0 where
   pub firsts : List (List Place)
   pub follows : List (List Place)
   pub is_node : Bool
+  pub unbraced : Bool
   pub by_rows : Bool
   pub ends : List (List Outcome)
   pub read_by : Rule → List Outcome
 
 abbrev pub no_entry : Entry
 no_entry =
-    record { rows = []; firsts = []; follows = []; is_node = false; by_rows = false; ends = []; read_by = λ r. [] }
+    record { rows = []; firsts = []; follows = []; is_node = false; unbraced = false; by_rows = false; ends = []; read_by = λ r. [] }
 
 abbrev pub entry_at : ℕ → List Entry → Entry
 entry_at n [] = no_entry
@@ -150,6 +151,7 @@ table_of es =
       firsts = λ c. (entry_at c es).firsts;
       follows = λ c. (entry_at c es).follows;
       is_node = λ c. (entry_at c es).is_node;
+      unbraced = λ c. (entry_at c es).unbraced;
       by_rows = λ c. (entry_at c es).by_rows;
       ends = λ c. (entry_at c es).ends;
       reads = λ r c. (entry_at c es).read_by r;
@@ -163,6 +165,7 @@ text rows firsts follows =
       firsts = firsts;
       follows = follows;
       is_node = true;
+      unbraced = false;
       by_rows = true;
       ends = outcome_guesses;
       read_by = λ r. [];
@@ -175,6 +178,7 @@ read_text read_by rows firsts follows =
       firsts = firsts;
       follows = follows;
       is_node = true;
+      unbraced = false;
       by_rows = true;
       ends = outcome_guesses;
       read_by = read_by;

@@ -1,7 +1,7 @@
 -- What expressions begin with, what goes on behind them, and their operators by power.
 use Rattle.std.specs.Prelude.{ℕ, suc, ◌+◌, ◌==◌, ◌&&◌, ◌||◌, not, nat_lt, Bool, true, false, List, [], ◌∷◌, ◌++◌, Some, None}
 use Rattle.rap_base.specs.NodeKind.{BIN_EXPR, CAST_EXPR, RANGE_EXPR}
-use Rattle.rap_base.specs.TokenKind.{EOF, SEMICOLON, COMMA, COLON, EQ, L_PAREN, R_PAREN, L_BRACK, R_BRACK, L_CURLY, R_CURLY, L_ANGLE, R_ANGLE, AMP, STAR, SLASH, PERCENT, CARET, BANG, MINUS, PLUS, PIPE, DOT, QUESTION, UNDERSCORE, LIFETIME_IDENT, INT_NUMBER, DOT2, DOT2EQ, AMP2, PIPE2, SHL, SHLEQ, AS_KW, ASYNC_KW, AWAIT_KW, BREAK_KW, CONST_KW, CONTINUE_KW, FOR_KW, IF_KW, LOOP_KW, MATCH_KW, MOVE_KW, RETURN_KW, TRY_KW, UNSAFE_KW, WHERE_KW, WHILE_KW}
+use Rattle.rap_base.specs.TokenKind.{EOF, SEMICOLON, COMMA, COLON, EQ, L_PAREN, R_PAREN, L_BRACK, R_BRACK, L_CURLY, R_CURLY, L_ANGLE, R_ANGLE, AMP, STAR, SLASH, PERCENT, CARET, BANG, MINUS, PLUS, PIPE, DOT, QUESTION, UNDERSCORE, LIFETIME_IDENT, INT_NUMBER, DOT2, DOT2EQ, AMP2, PIPE2, SHL, SHLEQ, AS_KW, ASYNC_KW, AWAIT_KW, BREAK_KW, CONST_KW, CONTINUE_KW, ELSE_KW, FOR_KW, IF_KW, LOOP_KW, MATCH_KW, MOVE_KW, RETURN_KW, TRY_KW, UNSAFE_KW, WHERE_KW, WHILE_KW}
 use Rattle.rap_events.specs.OperatorTable.{operators}
 use Rattle.rap_grammar_scripts.specs.First.{one_of}
 use Rattle.rap_grammar_scripts.specs.Words.{is_at, next_is}
@@ -135,14 +135,14 @@ atom_follows forbid =
 -- what may follow a path, and what begins with a name
 abbrev pub path_follows : List (List Place)
 path_follows =
-    (of_kinds (L_CURLY ∷ []) ∷ []) ∷ (of_kinds (BANG ∷ []) ∷ of_kinds brackets ∷ []) ∷ atom_follows false
+    (of_kinds (L_CURLY ∷ ELSE_KW ∷ []) ∷ []) ∷ (of_kinds (BANG ∷ []) ∷ of_kinds brackets ∷ []) ∷ atom_follows false
 
 abbrev pub operator_kinds : List ℕ
 operator_kinds =
     EQ ∷ R_ANGLE ∷ L_ANGLE ∷ PIPE ∷ PLUS ∷ CARET ∷ PERCENT ∷ AMP ∷ SLASH ∷ STAR ∷ DOT ∷ MINUS ∷ AS_KW ∷ []
 
 abbrev pub end_kinds : List ℕ
-end_kinds = EOF ∷ SEMICOLON ∷ COMMA ∷ R_PAREN ∷ R_BRACK ∷ R_CURLY ∷ L_CURLY ∷ WHERE_KW ∷ []
+end_kinds = EOF ∷ SEMICOLON ∷ COMMA ∷ R_PAREN ∷ R_BRACK ∷ R_CURLY ∷ L_CURLY ∷ WHERE_KW ∷ ELSE_KW ∷ []
 
 abbrev pub path_heads : List (List Place)
 path_heads =

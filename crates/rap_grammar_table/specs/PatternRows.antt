@@ -114,6 +114,7 @@ pattern_entry =
       firsts = (of_kinds (PIPE ∷ []) ∷ []) ∷ single_heads;
       follows = (of_kinds pattern_ends ∷ []) ∷ type_colon ∷ [];
       is_node = true;
+      unbraced = false;
       by_rows = true;
       ends = outcome_guesses;
       read_by = pattern_read_by;

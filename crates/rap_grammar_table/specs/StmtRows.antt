@@ -1,6 +1,6 @@
 -- The rows of blocks, of what has them, and of statements.
-use Rattle.std.specs.Prelude.{◌==◌, not, false, true, List, [], ◌∷◌, ◌++◌}
-use Rattle.rap_base.specs.NodeKind.{BLOCK_EXPR, EXPR_STMT, FOR_EXPR, IF_EXPR, LABEL, LET_STMT, LOOP_EXPR, MACRO_CALL, MACRO_EXPR, MATCH_ARM, MATCH_ARM_LIST, MATCH_EXPR, MATCH_GUARD, STMT_LIST, TRY_BLOCK_MODIFIER, WHILE_EXPR, MACRO_RULES}
+use Rattle.std.specs.Prelude.{◌==◌, ℕ, not, false, true, List, [], ◌∷◌, ◌++◌}
+use Rattle.rap_base.specs.NodeKind.{BLOCK_EXPR, EXPR_STMT, FOR_EXPR, IF_EXPR, LABEL, LET_ELSE, LET_STMT, LOOP_EXPR, MACRO_CALL, MACRO_EXPR, MATCH_ARM, MATCH_ARM_LIST, MATCH_EXPR, MATCH_GUARD, STMT_LIST, TRY_BLOCK_MODIFIER, WHILE_EXPR, MACRO_RULES}
 use Rattle.rap_base.specs.TokenKind.{EOF, SEMICOLON, COMMA, COLON, EQ, R_CURLY, L_CURLY, L_ANGLE, BANG, DOT, QUESTION, PIPE, FAT_ARROW, SHEBANG, ASYNC_KW, CONST_KW, ELSE_KW, FOR_KW, IF_KW, IN_KW, LET_KW, LOOP_KW, MACRO_RULES_KW, MATCH_KW, MOVE_KW, TRY_KW, UNSAFE_KW, WHILE_KW}
 use Rattle.rap_grammar_scripts.specs.First.{one_of}
 use Rattle.rap_grammar_scripts.specs.Script.{Outcome, something, block}
@@ -8,7 +8,7 @@ use Rattle.rap_grammar_scripts.specs.Words.{next_is}
 use Rattle.rap_grammar_scripts.specs.declared.arguments.Semicolon.TheVariants as semicolon
 use Rattle.rap_grammar_scripts.specs.declared.rule.Rule.{Rule}
 use Rattle.rap_grammar_scripts.specs.declared.rule.Rule.TheVariants as knot
-use Rattle.rap_grammar_table.specs.Categories.{Ty, Pattern, Expr, Stmt, Block, Attr, AtomPath, RoundTree, BraceTree, StmtList, If, EndingBlock, Arm, LastArm, StmtOperand, OpenAtom, Condition, Guard, StmtExpr, StmtBlock, BlockStmt, EmptyStmt, Tail, attrs, attr_heads, inner_attrs, lifetime, name}
+use Rattle.rap_grammar_table.specs.Categories.{Ty, Pattern, Expr, Stmt, Block, Attr, AtomPath, RoundTree, BraceTree, StmtList, If, EndingBlock, Arm, LastArm, StmtOperand, OpenAtom, Condition, Guard, StmtExpr, StmtBlock, BlockStmt, EmptyStmt, ElseValue, Tail, attrs, attr_heads, inner_attrs, lifetime, name}
 use Rattle.rap_grammar_table.specs.ExprRows.{block_part, by_expr, kinds_only, no_rule, nodes_of, nodes_with, open_firsts, operand_firsts, with_block_firsts}
 use Rattle.rap_grammar_table.specs.ItemRows.{import_items, item_heads, opt_visibility, other_items, struct_items, trait_items, tree_and_end}
 use Rattle.rap_grammar_table.specs.Known.{Place}
@@ -134,10 +134,15 @@ abbrev pub under_stmt : List Part → List Part
 under_stmt [] = []
 under_stmt (a ∷ more) = node EXPR_STMT (a ⊳ t SEMICOLON) ∷ under_stmt more
 
+abbrev pub let_head : Part
+let_head = attrs ⊳ t LET_KW ⊳ c Pattern ⊳ opt (t COLON ⊳ guard (next_is COLON) ⊳ c Ty)
+
 abbrev pub let_stmt : Part
-let_stmt =
-    node LET_STMT
-    (attrs ⊳ t LET_KW ⊳ c Pattern ⊳ opt (t COLON ⊳ guard (next_is COLON) ⊳ c Ty) ⊳ opt (t EQ ⊳ c Expr) ⊳ t SEMICOLON)
+let_stmt = node LET_STMT (let_head ⊳ opt (t EQ ⊳ c Expr) ⊳ t SEMICOLON)
+
+abbrev pub let_else : ℕ → Part
+let_else category =
+    node LET_STMT (let_head ⊳ t EQ ⊳ c category ⊳ node LET_ELSE (t ELSE_KW ⊳ c Block) ⊳ t SEMICOLON)
 
 abbrev pub macro_rules : Part
 macro_rules = node MACRO_RULES (attrs ⊳ opt_visibility ⊳ weak MACRO_RULES_KW ⊳ t BANG ⊳ name ⊳ tree_and_end)
@@ -152,7 +157,7 @@ stmt_follows = kinds_only (R_CURLY ∷ EOF ∷ SEMICOLON ∷ []) ++ stmt_firsts
 abbrev pub stmt_entry : Entry
 stmt_entry =
     nodes_of stmt_read_by
-    (let_stmt ∷
+    (let_stmt ∷ let_else ElseValue ∷
     (under_stmt (c EndingBlock ∷ (stmt_exprs ++ attributed_call ∷ attributed_blocks)) ++
     (struct_items ++ (other_items ++ (import_items ++ (trait_items ++ macro_rules ∷ []))))))
     stmt_firsts stmt_follows
@@ -164,6 +169,7 @@ empty_stmt_entry =
       firsts = kinds_only (SEMICOLON ∷ []);
       follows = anything;
       is_node = false;
+      unbraced = false;
       by_rows = false;
       ends = [];
       read_by = stmt_read_by;

@@ -51,7 +51,8 @@ appended (folding n x) b = folds n x b
 appended (way j x m a) b = way j x m (appended a b)
 appended (unless h w a) b = unless h w (appended a b)
 
--- The rows of each category; what its tokens begin with; what may follow it; whether its tree is always one node;
+-- The rows of each category; what its tokens begin with; what may follow it; whether its tree is always one node, and
+-- whether its last token is never a `}`;
 -- whether it has its rows alone, and nothing beside the table, so that a script that no rule names may read it, and the
 -- outcomes with which such a script does, to be tried in turn; and those with which a rule reads it, none where it
 -- does not.
@@ -60,6 +61,7 @@ pub record Table : Type 0 where
   pub firsts : ℕ → List (List Place)
   pub follows : ℕ → List (List Place)
   pub is_node : ℕ → Bool
+  pub unbraced : ℕ → Bool
   pub by_rows : ℕ → Bool
   pub ends : ℕ → List (List Outcome)
   pub reads : Rule → ℕ → List Outcome

@@ -2,13 +2,13 @@
 use Rattle.std.specs.Prelude.{ℕ, zero, suc, Bool, true, false, ◌&&◌, ◌||◌, List, [], ◌∷◌, ◌++◌, Option, Some, None}
 use Rattle.rap_grammar_scripts.specs.Script.{Script, Outcome, nothing, something, block, again, give, test, ends_with, token, any, bear, report, report_next, skip, start, precede, finish, extend, abandon, split_float, after, rule, loop}
 use Rattle.rap_grammar_scripts.specs.declared.rule.Rule.{Rule}
-use Rattle.rap_grammar_table.specs.Built.{empty, last_same, At, with_own, at_start, fold_start, after_piece, after_fold}
+use Rattle.rap_grammar_table.specs.Built.{empty, last_same, At, with_own, at_start, fold_start, after_category, after_piece, after_fold}
 use Rattle.rap_grammar_table.specs.Known.{Answer, sure, never, unclear, Place}
 use Rattle.rap_grammar_table.specs.Look.{look, after_way, anything}
 use Rattle.rap_grammar_table.specs.Narrow.{either_is}
 use Rattle.rap_grammar_table.specs.Refusal.{word_of, stopped, ends_as, goes_on_as, too_deep, in_turn, after_turns, in_part, takes, takes_any, bears, turns, Verdict, accepted, refused, both, check, provided, by_bool, or_else_so, told_with, or_earlier, or_later}
 use Rattle.rap_grammar_table.specs.Table.{Items, begin, close, choice, repeat, group, folds, way, unless, Table, Piece, tok, word, comp, cat, piece}
-use Rattle.rap_grammar_table.specs.Ways.{answer_at, expose, tested, front, is_token, is_some, is_bearer, read_rule, finish_own, extend_own, abandon_own, precede_own, ends_whole, ends_so, every_outcome, same_flag}
+use Rattle.rap_grammar_table.specs.Ways.{answer_at, expose, tested, front, is_token, is_some, is_bearer, read_rule, ends_otherwise, finish_own, extend_own, abandon_own, precede_own, ends_whole, ends_so, every_outcome, same_flag}
 
 -- a turn that goes on, or the last one
 abbrev pub next_turn : Outcome → At → (Bool → Bool → At → Verdict) → (Outcome → At → Verdict) → Verdict
@@ -136,7 +136,7 @@ folds_so f t g on a b s n ws is k =
 -- goes on with the loop.
 abbrev pub repeating : (List (List Place) → Turn) → Table → List (List Place) → Turn → Items → Turn
 repeating f t g on (folds n ws is) a b s k =
-    provided (last_same s.nodes s.row s.own) (stopped turns (folds n ws is))
+    provided (last_same s.nodes.0 s.row s.own) (stopped turns (folds n ws is))
     (λ u. folds_so f t g on a b s n ws is k)
 repeating f t g on (repeat x z is) a b s k =
     first_so
@@ -231,7 +231,7 @@ abbrev pub category_part : Vouch → Script Rule → (List (List Place) → Walk
     Walked
 category_part o a w t g (cat c) is s k =
     first_try (t.by_rows c)
-    (λ u. with_outcomes (o c a) (t.ends c) (λ v. k v (after_piece s is (t.is_node c))))
+    (λ u. with_outcomes (o c a) (t.ends c) (λ v. k v (after_category s is (t.is_node c) (t.unbraced c))))
     (λ u. w g s k)
 category_part o a w t g (tok kinds words) is s k = w g s k
 category_part o a w t g (word j) is s k = w g s k
@@ -261,7 +261,8 @@ parting o c w t g is s k = category_first o c w t g is s k
 abbrev pub walk : Vouch → Table → List (List Place) → Script Rule → At → (Outcome → At → Verdict) → Verdict
 walk o t f (give v) s k = k v s
 walk o t f (test h a b) s k = tested t f h s (λ q. walk o t f a q k) (λ q. walk o t f b q k)
-walk o t f (ends_with kind a b) s k = refused (stopped (word_of (ends_with kind a b)) s.items)
+walk o t f (ends_with kind a b) s k =
+    provided (ends_otherwise kind s.nodes.1 s.own) (stopped (word_of (ends_with kind a b)) s.items) (λ u. walk o t f b s k)
 walk o t f (token kind a) s k =
     expose t f s (λ q. front (takes kind) (is_token t q.facts kind) q.items q (λ r. walk o t f a r k))
 walk o t f (any a) s k = expose t f s (λ q. front takes_any is_some q.items q (λ r. walk o t f a r k))

@@ -1,11 +1,11 @@
 -- The ways of a row: its choices, and the pieces that come first in each.
 use Rattle.std.specs.Prelude.{ℕ, zero, suc, Bool, true, false, ◌&&◌, ◌||◌, ◌==◌, not, List, [], ◌∷◌}
-use Rattle.rap_base.specs.TokenKind.{EOF}
+use Rattle.rap_base.specs.TokenKind.{EOF, R_CURLY}
 use Rattle.rap_events.specs.Composite.{parts}
 use Rattle.rap_grammar_scripts.specs.Script.{Outcome, nothing, something, block, again}
 use Rattle.rap_grammar_scripts.specs.Test.{Test, kind_so}
 use Rattle.rap_grammar_scripts.specs.declared.rule.Rule.{Rule}
-use Rattle.rap_grammar_table.specs.Built.{Built, base, empty, over, tree, same, goes_on_from, is_own, joined, no_more, At, with_row, with_own, with_facts, after_piece}
+use Rattle.rap_grammar_table.specs.Built.{Built, base, empty, over, tree, same, goes_on_from, is_own, joined, no_more, At, with_row, with_own, with_facts, after_category, after_piece}
 use Rattle.rap_grammar_table.specs.Known.{Answer, sure, never, unclear, Place, among, every_one, is_kind, evaluate_all}
 use Rattle.rap_grammar_table.specs.Look.{look, look_piece, anything, depth}
 use Rattle.rap_grammar_table.specs.Narrow.{Fact, left_by, looks_on}
@@ -174,7 +174,7 @@ some_outcome (v ∷ vs) = true
 abbrev pub read_piece : Table → Rule → Piece → Items → At → (Outcome → At → Verdict) → Verdict
 read_piece t r (cat c) is s k =
     provided (some_outcome (t.reads r c)) (stopped (obeys r) (piece (cat c) is))
-    (λ u. every_outcome (λ v. k v (after_piece s is (t.is_node c))) (t.reads r c))
+    (λ u. every_outcome (λ v. k v (after_category s is (t.is_node c) (t.unbraced c))) (t.reads r c))
 read_piece t r p is s k = refused (stopped (obeys r) (piece p is))
 
 abbrev pub read_rule : Table → Rule → Items → At → (Outcome → At → Verdict) → Verdict
@@ -196,12 +196,12 @@ precede_own s k base = refused (stopped precedes s.items)
 precede_own s k empty = refused (stopped precedes s.items)
 precede_own s k (over a kind c) = k (with_own s (over empty kind c) (a ∷ s.owns))
 precede_own s k (tree a i) =
-    provided (among s.nodes i) (stopped precedes s.items) (λ u. k (with_own s (tree empty i) (a ∷ s.owns)))
+    provided (among s.nodes.0 i) (stopped precedes s.items) (λ u. k (with_own s (tree empty i) (a ∷ s.owns)))
 
 -- The last node begins where the newest open one does: one whose children are there, or the tree of a piece alone.
 abbrev pub extend_tree : At → (At → Verdict) → Built → ℕ → Built → List Built → Verdict
 extend_tree s k empty i y ys =
-    provided (among s.nodes i) (stopped extends s.items) (λ u. k (with_own s (tree y i) ys))
+    provided (among s.nodes.0 i) (stopped extends s.items) (λ u. k (with_own s (tree y i) ys))
 extend_tree s k base i y ys = refused (stopped extends s.items)
 extend_tree s k (over a kind c) i y ys = refused (stopped extends s.items)
 extend_tree s k (tree a j) i y ys = refused (stopped extends s.items)
@@ -216,6 +216,13 @@ extend_under s k (tree a i) y ys = extend_tree s k a i y ys
 abbrev pub extend_own : At → (At → Verdict) → List Built → Verdict
 extend_own s k [] = refused (stopped extends s.items)
 extend_own s k (y ∷ ys) = extend_under s k s.own y ys
+
+-- the last token is not of this kind: a `}`, where the last tree is that of a piece of which this is told
+abbrev pub ends_otherwise : ℕ → List ℕ → Built → Bool
+ends_otherwise kind ns base = false
+ends_otherwise kind ns empty = false
+ends_otherwise kind ns (over a k c) = false
+ends_otherwise kind ns (tree a i) = (kind == R_CURLY) && among ns i
 
 -- at the end of a row, what the script has made is what the row makes
 abbrev pub is_nil : Items → Bool
