@@ -1,5 +1,5 @@
 -- The rows of operands with operators of at least a power are read.
-use Rattle.std.proofs.Common.{◌≡◌, ℕ, Bool, true, false, refl, [], ◌∷◌}
+use Rattle.std.proofs.Common.{ℕ, Bool, true, false, refl, [], ◌∷◌}
 use Rattle.rap_grammar_scripts.specs.Script.{something}
 use Rattle.rap_grammar_table.specs.ExprRows.{closed_entry, with_cast_entry}
 use Rattle.rap_grammar_table.specs.Rows.{table}

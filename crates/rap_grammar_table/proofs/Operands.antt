@@ -15,8 +15,6 @@ use Rattle.rap_grammar_scripts.specs.Words as words
 use Rattle.rap_grammar_scripts.specs.declared.arguments.Restrictions.{Restrictions}
 use Rattle.rap_grammar_scripts.specs.declared.rule.Rule.{Rule}
 use Rattle.rap_grammar_table.specs.Categories.{Operand, OpenAtom}
-use Rattle.rap_grammar_table.specs.ExprRows.{by_expr}
-use Rattle.rap_grammar_table.specs.Look.{is_one_node, depth}
 use Rattle.rap_grammar_table.specs.Notation.{Entry}
 use Rattle.rap_grammar_table.specs.Refusal.{Verdict, accepted, both, by_bool}
 use Rattle.rap_grammar_table.specs.Rows.{table}

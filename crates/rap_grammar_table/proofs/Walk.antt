@@ -1,5 +1,5 @@
 -- A script that was walked along a row runs over its tokens, to its tree.
-use Rattle.std.proofs.Common.{◌≡◌, ℕ, Bool, true, false, ◌&&◌, ◌==◌, List, ◌∷◌, ◌++◌, subst, append_assoc}
+use Rattle.std.proofs.Common.{◌≡◌, ℕ, true, false, ◌==◌, List, ◌∷◌, ◌++◌, subst, append_assoc}
 use Rattle.rap_base.specs.TokenKind.{R_CURLY}
 use Rattle.rap_events.proofs.Truth.{and_left, and_right}
 use Rattle.rap_events.specs.Composite.{width}
@@ -112,9 +112,11 @@ walks t deep g l e y f b i (after a n) s k ks st w =
     in
     let x =
     by_try (takes_part t g a s)
-    (λ u. expose t g s (λ q. parting (reads_rows deep t) a (λ g r m. walk (reads_rows deep t) t g a r m) t g q.items q (λ v r. walk (reads_rows deep t) t g (n v) r k)))
+    (λ u. expose t g s (λ q. parting (reads_rows deep t) a (λ g r m. walk (reads_rows deep t) t g a r m) t g q.items q
+    (λ v r. walk (reads_rows deep t) t g (n v) r k)))
     (λ u. walk (reads_rows deep t) t g a s (λ v q. walk (reads_rows deep t) t g (n v) q k)) w
-    (λ o. part_read t deep g l e y f b i a (λ g r m. walk (reads_rows deep t) t g a r m) all s (λ v r. walk (reads_rows deep t) t g (n v) r k) ks st o)
+    (λ o. part_read t deep g l e y f b i a (λ g r m. walk (reads_rows deep t) t g a r m) all s
+    (λ v r. walk (reads_rows deep t) t g (n v) r k) ks st o)
     (λ o. walks t deep g l e y f b i a s (λ v q. walk (reads_rows deep t) t g (n v) q k) ks st o)
     in
     before (λ z v r. follows x.run r) (walks t deep g l e y f b i (n x.outcome) x.place k x.tokens x.stands x.so)

@@ -232,7 +232,8 @@ operand_entry forbid =
 
 abbrev pub prefixed_entry : Bool → Entry
 prefixed_entry forbid =
-    nodes_of (by_expr forbid false 255 (something ∷ [])) (c (Operand forbid) ∷ []) operand_firsts (operand_follows forbid)
+    nodes_of (by_expr forbid false 255 (something ∷ [])) (c (Operand forbid) ∷ []) operand_firsts
+    (operand_follows forbid)
 
 -- At the beginning of a statement a block goes on only by a dot or a `?`.
 abbrev pub stmt_operand_entry : Entry
@@ -293,13 +294,16 @@ kinds_only kinds = (of_kinds kinds ∷ []) ∷ []
 
 abbrev pub closed_entry : Bool → ℕ → Entry
 closed_entry forbid power =
-    nodes_of (by_expr forbid false power (something ∷ [])) ((c (Operand forbid) ⊳ around 12 (if_kind (nat_lt power 6) (cast_turns forbid power) (closed_turns forbid power))) ∷ [])
+    nodes_of (by_expr forbid false power (something ∷ []))
+    ((c (Operand forbid) ⊳
+    around 12 (if_kind (nat_lt power 6) (cast_turns forbid power) (closed_turns forbid power))) ∷ [])
     (kinds_only operand_kinds) (closed_follows forbid power)
 
 -- the same with a cast at the end, before operators that begin otherwise than generic arguments
 abbrev pub with_cast_entry : Bool → ℕ → Entry
 with_cast_entry forbid power =
-    nodes_of (by_expr forbid false power (something ∷ [])) ((c (Operand forbid) ⊳ around 12 (cast_turns forbid power)) ∷ [])
+    nodes_of (by_expr forbid false power (something ∷ []))
+    ((c (Operand forbid) ⊳ around 12 (cast_turns forbid power)) ∷ [])
     (kinds_only operand_kinds) (operand_ends forbid ++ places_in false power operators)
 
 abbrev pub range_read_by : Bool → Rule → List Outcome

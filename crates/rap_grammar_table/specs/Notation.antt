@@ -124,7 +124,7 @@ abbrev pub touching : ℕ → Place
 touching kind = record { kinds = Some (kind ∷ []); words = None; joint = sure }
 
 -- What a table says of a category: its rows, what its tokens begin with, what may follow it, whether its tree is one
--- node, whether it has its rows alone, the outcomes of a script that reads it then, and those with which a rule reads it.
+-- node, whether its last token is never a `}`, whether it has its rows alone, the outcomes of a script that reads it then, and those with which a rule reads it.
 pub record Entry : Type 0 where
   pub rows : List Items
   pub firsts : List (List Place)
@@ -137,7 +137,16 @@ pub record Entry : Type 0 where
 
 abbrev pub no_entry : Entry
 no_entry =
-    record { rows = []; firsts = []; follows = []; is_node = false; unbraced = false; by_rows = false; ends = []; read_by = λ r. [] }
+    record {
+      rows = [];
+      firsts = [];
+      follows = [];
+      is_node = false;
+      unbraced = false;
+      by_rows = false;
+      ends = [];
+      read_by = λ r. [];
+    }
 
 abbrev pub entry_at : ℕ → List Entry → Entry
 entry_at n [] = no_entry

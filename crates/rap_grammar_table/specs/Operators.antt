@@ -93,7 +93,8 @@ operator angled power = any_of (parts_in angled power operators)
 abbrev pub places_of : Bool → ℕ → ℕ → List (ℕ × ℕ × List ℕ) → List (List Place)
 places_of all power first [] = []
 places_of all power first (row ∷ rows) =
-    if_kind ((nat_lt 0 row.1 && nat_lt row.1 power) && (all || not (is_angled row.0))) (operator_places first row.2) [] ++
+    if_kind ((nat_lt 0 row.1 && nat_lt row.1 power) && (all || not (is_angled row.0)))
+    (operator_places first row.2) [] ++
     places_of all power first rows
 
 abbrev pub places_in : Bool → ℕ → List (ℕ × List (ℕ × ℕ × List ℕ)) → List (List Place)

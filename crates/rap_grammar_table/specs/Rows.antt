@@ -18,7 +18,8 @@ entries =
     bound_entry ∷ bounds_entry ∷ param_entry ∷ generics_entry ∷ predicate_entry ∷ where_entry ∷ param_name_entry ∷
     fn_pointer_params_entry ∷ pattern_entry ∷ expr_entry ∷ stmt_entry ∷ block_entry ∷ visibility_entry ∷ field_entry ∷
     variant_entry ∷ fn_params_entry ∷ item_entry ∷ token_tree_entry ∷ attr_entry ∷ meta_entry ∷ cfg_entry ∷
-    macro_path_entry ∷ expr_path_entry ∷ simple_path_entry ∷ trait_ref_entry ∷ use_tree_entry ∷ inner_attr_entry ∷ single_entry ∷ path_entry_of_patterns ∷ rest_entry ∷ param_pattern_entry ∷
+    macro_path_entry ∷ expr_path_entry ∷ simple_path_entry ∷ trait_ref_entry ∷ use_tree_entry ∷ inner_attr_entry ∷
+    single_entry ∷ path_entry_of_patterns ∷ rest_entry ∷ param_pattern_entry ∷
     atom_path_entry ∷ round_tree_entry ∷ brace_tree_entry ∷ arg_list_entry ∷ name_expr_entry ∷ cast_type_entry ∷
     cast_path_entry ∷ stmt_list_entry ∷ if_entry ∷ with_block_entry ∷ arm_entry ∷ last_arm_entry ∷ atom_entry false ∷
     atom_entry true ∷ operand_entry false ∷ operand_entry true ∷ prefixed_entry false ∷ prefixed_entry true ∷
@@ -28,8 +29,11 @@ entries =
     closed_entry false 8 ∷ closed_entry false 9 ∷ closed_entry false 10 ∷ closed_entry false 11 ∷
     closed_entry false 12 ∷ closed_entry true 4 ∷ closed_entry true 5 ∷ closed_entry true 6 ∷ closed_entry true 7 ∷
     closed_entry true 8 ∷ closed_entry true 9 ∷ closed_entry true 10 ∷ closed_entry true 11 ∷ closed_entry true 12 ∷
-    open_entry 4 ∷ open_entry 5 ∷ ending_block_entry ∷ with_cast_entry false 6 ∷ with_cast_entry false 7 ∷ with_cast_entry false 8 ∷ with_cast_entry false 9 ∷ with_cast_entry false 10 ∷ with_cast_entry false 11 ∷ with_cast_entry false 12 ∷ with_cast_entry true 6 ∷ with_cast_entry true 7 ∷ with_cast_entry true 8 ∷ with_cast_entry true 9 ∷ with_cast_entry true 10 ∷ with_cast_entry true 11 ∷ with_cast_entry true 12 ∷ empty_stmt_entry ∷ macro_tail_entry ∷
-    plain_atom_entry ∷ else_value_entry ∷ []
+    open_entry 4 ∷ open_entry 5 ∷ ending_block_entry ∷ with_cast_entry false 6 ∷ with_cast_entry false 7 ∷
+    with_cast_entry false 8 ∷ with_cast_entry false 9 ∷ with_cast_entry false 10 ∷ with_cast_entry false 11 ∷
+    with_cast_entry false 12 ∷ with_cast_entry true 6 ∷ with_cast_entry true 7 ∷ with_cast_entry true 8 ∷
+    with_cast_entry true 9 ∷ with_cast_entry true 10 ∷ with_cast_entry true 11 ∷ with_cast_entry true 12 ∷
+    empty_stmt_entry ∷ macro_tail_entry ∷ plain_atom_entry ∷ else_value_entry ∷ []
 
 abbrev pub table : Table
 table = table_of entries

@@ -52,10 +52,9 @@ appended (way j x m a) b = way j x m (appended a b)
 appended (unless h w a) b = unless h w (appended a b)
 
 -- The rows of each category; what its tokens begin with; what may follow it; whether its tree is always one node, and
--- whether its last token is never a `}`;
--- whether it has its rows alone, and nothing beside the table, so that a script that no rule names may read it, and the
--- outcomes with which such a script does, to be tried in turn; and those with which a rule reads it, none where it
--- does not.
+-- whether its last token is never a `}`; whether it has its rows alone, and nothing beside the table, so that a script
+-- that no rule names may read it, and the outcomes with which such a script does, to be tried in turn; and those with
+-- which a rule reads it, none where it does not.
 pub record Table : Type 0 where
   pub rows : ℕ → List Items
   pub firsts : ℕ → List (List Place)

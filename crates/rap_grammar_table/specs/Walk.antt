@@ -227,8 +227,8 @@ part_so w t g vs a = told_with in_part (w g (at_start a) (ends_so t g vs))
 abbrev pub Vouch : Type 0
 Vouch = ℕ → Script Rule → List Outcome → Verdict
 
-abbrev pub category_part : Vouch → Script Rule → (List (List Place) → Walked) → Table → List (List Place) → Piece → Items →
-    Walked
+abbrev pub category_part : Vouch → Script Rule → (List (List Place) → Walked) → Table → List (List Place) → Piece →
+    Items → Walked
 category_part o a w t g (cat c) is s k =
     first_try (t.by_rows c)
     (λ u. with_outcomes (o c a) (t.ends c) (λ v. k v (after_category s is (t.is_node c) (t.unbraced c))))
@@ -238,7 +238,8 @@ category_part o a w t g (word j) is s k = w g s k
 category_part o a w t g (comp j) is s k = w g s k
 
 -- what comes first is read as a category, or the script is walked on
-abbrev pub category_first : Vouch → Script Rule → (List (List Place) → Walked) → Table → List (List Place) → Items → Walked
+abbrev pub category_first : Vouch → Script Rule → (List (List Place) → Walked) → Table → List (List Place) → Items →
+    Walked
 category_first o a w t g (piece p is) s k = category_part o a w t g p is s k
 category_first o a w t g is s k = w g s k
 
@@ -262,7 +263,8 @@ abbrev pub walk : Vouch → Table → List (List Place) → Script Rule → At �
 walk o t f (give v) s k = k v s
 walk o t f (test h a b) s k = tested t f h s (λ q. walk o t f a q k) (λ q. walk o t f b q k)
 walk o t f (ends_with kind a b) s k =
-    provided (ends_otherwise kind s.nodes.1 s.own) (stopped (word_of (ends_with kind a b)) s.items) (λ u. walk o t f b s k)
+    provided (ends_otherwise kind s.nodes.1 s.own) (stopped (word_of (ends_with kind a b)) s.items)
+    (λ u. walk o t f b s k)
 walk o t f (token kind a) s k =
     expose t f s (λ q. front (takes kind) (is_token t q.facts kind) q.items q (λ r. walk o t f a r k))
 walk o t f (any a) s k = expose t f s (λ q. front takes_any is_some q.items q (λ r. walk o t f a r k))
