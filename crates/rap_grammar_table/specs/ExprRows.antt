@@ -1,7 +1,7 @@
 -- The rows of expressions.
 use Rattle.std.specs.Prelude.{ℕ, ◌==◌, ◌&&◌, ◌||◌, nat_lt, Bool, true, false, List, [], ◌∷◌, ◌++◌}
-use Rattle.rap_base.specs.NodeKind.{ARG_LIST, ARRAY_EXPR, AWAIT_EXPR, BLOCK_EXPR, BREAK_EXPR, CALL_EXPR, CLOSURE_EXPR, CONTINUE_EXPR, FIELD_EXPR, GENERIC_ARG_LIST, INDEX_EXPR, INFER_TYPE, LET_EXPR, MACRO_CALL, MACRO_EXPR, METHOD_CALL_EXPR, NAME_REF, PARAM, PARAM_LIST, PAREN_EXPR, PATH, PATH_EXPR, PATH_SEGMENT, PATH_TYPE, PREFIX_EXPR, PTR_TYPE, RANGE_EXPR, RECORD_EXPR, RECORD_EXPR_FIELD, RECORD_EXPR_FIELD_LIST, REF_EXPR, REF_TYPE, RETURN_EXPR, TRY_EXPR, TUPLE_EXPR, UNDERSCORE_EXPR}
-use Rattle.rap_base.specs.TokenKind.{IDENT, SEMICOLON, COMMA, COLON, COLON2, EQ, L_PAREN, R_PAREN, L_BRACK, R_BRACK, L_CURLY, R_CURLY, L_ANGLE, R_ANGLE, AMP, STAR, BANG, MINUS, PIPE, DOT, DOT2, QUESTION, UNDERSCORE, LIFETIME_IDENT, INT_NUMBER, ASYNC_KW, AWAIT_KW, BREAK_KW, CONST_KW, CONTINUE_KW, ELSE_KW, EXTERN_KW, FN_KW, FOR_KW, IF_KW, LET_KW, LOOP_KW, MATCH_KW, MOVE_KW, MUT_KW, RAW_KW, REF_KW, RETURN_KW, TRY_KW, UNSAFE_KW, WHILE_KW}
+use Rattle.rap_base.specs.NodeKind.{ARG_LIST, ARRAY_EXPR, AWAIT_EXPR, BECOME_EXPR, BLOCK_EXPR, BREAK_EXPR, CALL_EXPR, CLOSURE_EXPR, CONTINUE_EXPR, FIELD_EXPR, GENERIC_ARG_LIST, INDEX_EXPR, INFER_TYPE, LET_EXPR, MACRO_CALL, MACRO_EXPR, METHOD_CALL_EXPR, NAME_REF, PARAM, PARAM_LIST, PAREN_EXPR, PATH, PATH_EXPR, PATH_SEGMENT, PATH_TYPE, PREFIX_EXPR, PTR_TYPE, RANGE_EXPR, RECORD_EXPR, RECORD_EXPR_FIELD, RECORD_EXPR_FIELD_LIST, REF_EXPR, REF_TYPE, RETURN_EXPR, TRY_EXPR, TUPLE_EXPR, UNDERSCORE_EXPR, YIELD_EXPR}
+use Rattle.rap_base.specs.TokenKind.{IDENT, SEMICOLON, COMMA, COLON, COLON2, EQ, L_PAREN, R_PAREN, L_BRACK, R_BRACK, L_CURLY, R_CURLY, L_ANGLE, R_ANGLE, AMP, STAR, BANG, MINUS, PIPE, DOT, DOT2, QUESTION, UNDERSCORE, LIFETIME_IDENT, INT_NUMBER, ASYNC_KW, AWAIT_KW, BECOME_KW, BREAK_KW, CONST_KW, CONTINUE_KW, ELSE_KW, EXTERN_KW, FN_KW, FOR_KW, IF_KW, LET_KW, LOOP_KW, MATCH_KW, MOVE_KW, MUT_KW, RAW_KW, REF_KW, RETURN_KW, TRY_KW, UNSAFE_KW, WHILE_KW, YIELD_KW}
 use Rattle.rap_events.specs.OperatorTable.{operators}
 use Rattle.rap_grammar_scripts.specs.Script.{Outcome, something, block}
 use Rattle.rap_grammar_scripts.specs.Words.{next_is}
@@ -262,6 +262,8 @@ closure_param = node PARAM (attrs ⊳ c SinglePattern ⊳ opt (t COLON ⊳ guard
 abbrev pub open_atoms : List Part
 open_atoms =
     node RETURN_EXPR (t RETURN_KW ⊳ opt (c Expr))
+    ∷ node YIELD_EXPR (t YIELD_KW ⊳ opt (c Expr))
+    ∷ node BECOME_EXPR (t BECOME_KW ⊳ c Expr)
     ∷ node BREAK_EXPR (t BREAK_KW ⊳ either (lifetime ⊳ opt (c Expr)) (opt (guard (next_is LIFETIME_IDENT) ⊳ c Expr)))
     ∷ node CLOSURE_EXPR
     (opt (t ASYNC_KW) ⊳ opt (t MOVE_KW) ⊳ node PARAM_LIST (t PIPE ⊳ commas closure_param ⊳ t PIPE) ⊳
@@ -270,7 +272,7 @@ open_atoms =
 
 abbrev pub open_firsts : List (List Place)
 open_firsts =
-    (of_kinds (RETURN_KW ∷ BREAK_KW ∷ PIPE ∷ MOVE_KW ∷ []) ∷ [])
+    (of_kinds (RETURN_KW ∷ BREAK_KW ∷ YIELD_KW ∷ BECOME_KW ∷ PIPE ∷ MOVE_KW ∷ []) ∷ [])
     ∷ (of_kinds (ASYNC_KW ∷ []) ∷ of_kinds (PIPE ∷ []) ∷ [])
     ∷ (of_kinds (ASYNC_KW ∷ []) ∷ of_kinds (MOVE_KW ∷ []) ∷ of_kinds (PIPE ∷ []) ∷ [])
     ∷ []

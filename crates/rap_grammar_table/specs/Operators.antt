@@ -1,7 +1,7 @@
 -- What expressions begin with, what goes on behind them, and their operators by power.
 use Rattle.std.specs.Prelude.{ℕ, suc, ◌+◌, ◌==◌, ◌&&◌, ◌||◌, not, nat_lt, Bool, true, false, List, [], ◌∷◌, ◌++◌, Some, None}
 use Rattle.rap_base.specs.NodeKind.{BIN_EXPR, CAST_EXPR, RANGE_EXPR}
-use Rattle.rap_base.specs.TokenKind.{EOF, SEMICOLON, COMMA, COLON, EQ, L_PAREN, R_PAREN, L_BRACK, R_BRACK, L_CURLY, R_CURLY, L_ANGLE, R_ANGLE, AMP, STAR, SLASH, PERCENT, CARET, BANG, MINUS, PLUS, PIPE, DOT, QUESTION, UNDERSCORE, LIFETIME_IDENT, INT_NUMBER, DOT2, DOT2EQ, AMP2, PIPE2, SHL, SHLEQ, AS_KW, ASYNC_KW, AWAIT_KW, BREAK_KW, CONST_KW, CONTINUE_KW, ELSE_KW, FOR_KW, IF_KW, LOOP_KW, MATCH_KW, MOVE_KW, RETURN_KW, TRY_KW, UNSAFE_KW, WHERE_KW, WHILE_KW}
+use Rattle.rap_base.specs.TokenKind.{EOF, SEMICOLON, COMMA, COLON, EQ, L_PAREN, R_PAREN, L_BRACK, R_BRACK, L_CURLY, R_CURLY, L_ANGLE, R_ANGLE, AMP, STAR, SLASH, PERCENT, CARET, BANG, MINUS, PLUS, PIPE, DOT, QUESTION, UNDERSCORE, LIFETIME_IDENT, INT_NUMBER, DOT2, DOT2EQ, AMP2, PIPE2, SHL, SHLEQ, AS_KW, ASYNC_KW, AWAIT_KW, BECOME_KW, BREAK_KW, CONST_KW, CONTINUE_KW, ELSE_KW, FOR_KW, IF_KW, LOOP_KW, MATCH_KW, MOVE_KW, RETURN_KW, TRY_KW, UNSAFE_KW, WHERE_KW, WHILE_KW, YIELD_KW}
 use Rattle.rap_events.specs.OperatorTable.{operators}
 use Rattle.rap_grammar_scripts.specs.First.{one_of}
 use Rattle.rap_grammar_scripts.specs.Words.{is_at, next_is}
@@ -25,7 +25,7 @@ abbrev pub operand_kinds : List ℕ
 operand_kinds = AMP ∷ STAR ∷ BANG ∷ MINUS ∷ (block_kinds ++ atom_kinds)
 
 abbrev pub open_kinds : List ℕ
-open_kinds = RETURN_KW ∷ BREAK_KW ∷ PIPE ∷ MOVE_KW ∷ ASYNC_KW ∷ []
+open_kinds = RETURN_KW ∷ BREAK_KW ∷ YIELD_KW ∷ BECOME_KW ∷ PIPE ∷ MOVE_KW ∷ ASYNC_KW ∷ []
 
 -- An operator whose token twice is another operator does not touch that token.
 abbrev pub doubled : List (ℕ × ℕ)
