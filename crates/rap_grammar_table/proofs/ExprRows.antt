@@ -5,7 +5,7 @@ use Rattle.rap_grammar_scripts.specs.Script.{Outcome, something}
 use Rattle.rap_grammar_scripts.specs.declared.arguments.Restrictions.{Restrictions}
 use Rattle.rap_grammar_scripts.specs.declared.rule.Rule.{Rule}
 use Rattle.rap_grammar_scripts.specs.declared.rule.Rule.TheVariants as knot
-use Rattle.rap_grammar_table.specs.ExprRows.{outcomes_if, by_expr, arg_list_entry, atom_entry, atom_path_entry, brace_tree_entry, cast_path_entry, cast_type_entry, else_value_entry, name_expr_entry, open_atom_entry, open_prefixed_entry, operand_entry, plain_atom_entry, prefixed_entry, round_tree_entry, stmt_operand_entry, stmt_prefixed_entry}
+use Rattle.rap_grammar_table.specs.ExprRows.{outcomes_if, by_expr, arg_list_entry, atom_entry, atom_path_entry, brace_tree_entry, cast_path_entry, cast_type_entry, else_prefixed_entry, else_value_entry, name_expr_entry, open_atom_entry, open_prefixed_entry, operand_entry, plain_atom_entry, prefixed_entry, round_tree_entry, stmt_operand_entry, stmt_prefixed_entry}
 use Rattle.rap_grammar_table.specs.Notation.{Entry}
 use Rattle.rap_grammar_table.specs.Refusal.{accepted}
 use Rattle.rap_grammar_table.specs.Rows.{table}
@@ -164,6 +164,19 @@ pub else_values : EntryChecked table else_value_entry
 else_values =
     record {
       reads = read_by_expr table else_value_entry false false 1 (something ∷ []) else_values_read;
+      begins = refl;
+      followed = refl;
+      nodes = λ h. refl;
+    }
+
+else_prefixed_read : all_accepted (is_read table else_prefixed_entry (expr_rule false false 255)) else_prefixed_entry.rows ≡ accepted
+unfolding scripts tests
+else_prefixed_read = refl
+
+pub else_prefixed : EntryChecked table else_prefixed_entry
+else_prefixed =
+    record {
+      reads = read_by_expr table else_prefixed_entry false false 255 (something ∷ []) else_prefixed_read;
       begins = refl;
       followed = refl;
       nodes = λ h. refl;

@@ -261,12 +261,15 @@ EmptyStmt = 108
 abbrev pub MacroTail : ℕ
 MacroTail = 109
 
--- a value before an `else`, which does not end with a `}`, and what it begins with
+-- a value before an `else`, which does not end with a `}`, with what it begins with, and an operand in it
 abbrev pub PlainAtom : ℕ
 PlainAtom = 110
 
 abbrev pub ElseValue : ℕ
 ElseValue = 111
+
+abbrev pub ElsePrefixed : ℕ
+ElsePrefixed = 112
 
 -- names
 abbrev pub name : Part

@@ -8,7 +8,7 @@ use Rattle.rap_grammar_scripts.specs.Words.{next_is}
 use Rattle.rap_grammar_scripts.specs.declared.rule.Rule.{Rule}
 use Rattle.rap_grammar_scripts.specs.declared.rule.Rule.TheVariants as knot
 use Rattle.rap_grammar_table.specs.AttributeRows.{tree_in}
-use Rattle.rap_grammar_table.specs.Categories.{Ty, PlainTy, Argument, Expr, PlainAtom, StmtList, Pattern, SinglePattern, AtomPath, RoundTree, ArgList, NameExpr, CastTy, CastPath, WithBlock, Atom, Operand, Prefixed, StmtOperand, StmtPrefixed, OpenAtom, OpenPrefixed, Closed, attrs, lifetime, literal, literals, name_ref, path_names}
+use Rattle.rap_grammar_table.specs.Categories.{Ty, PlainTy, Argument, Expr, PlainAtom, ElsePrefixed, StmtList, Pattern, SinglePattern, AtomPath, RoundTree, ArgList, NameExpr, CastTy, CastPath, WithBlock, Atom, Operand, Prefixed, StmtOperand, StmtPrefixed, OpenAtom, OpenPrefixed, Closed, attrs, lifetime, literal, literals, name_ref, path_names}
 use Rattle.rap_grammar_table.specs.Known.{Place, behind}
 use Rattle.rap_grammar_table.specs.Look.{anything}
 use Rattle.rap_grammar_table.specs.Notation.{Part, ◌⊳◌, t, ts, weak, op, c, node, opt, either, commas, commas_last, alone, guard, turn, around, Entry, text, rows_of, of_kinds, of_names, touching, colons}
@@ -169,7 +169,7 @@ postfixes =
     turn (0 ∷ 1 ∷ []) FIELD_EXPR field_part 0 ⊳
     turn (0 ∷ 1 ∷ []) FIELD_EXPR number_part 1
 
--- a value before an `else`
+-- what a value before an `else` begins with
 abbrev pub plain_atom_entry : Entry
 plain_atom_entry =
     unbraced_of
@@ -178,12 +178,6 @@ plain_atom_entry =
     ∷ (of_kinds (L_PAREN ∷ L_BRACK ∷ QUESTION ∷ []) ∷ [])
     ∷ (of_kinds (DOT ∷ []) ∷ of_kinds (INT_NUMBER ∷ AWAIT_KW ∷ path_names) ∷ [])
     ∷ []))
-
-abbrev pub else_value_entry : Entry
-else_value_entry =
-    unbraced_of
-    (nodes_of (by_expr false false 1 (something ∷ [])) ((c PlainAtom ⊳ around 1 postfixes) ∷ []) atom_firsts
-    ((of_kinds (ELSE_KW ∷ []) ∷ []) ∷ []))
 
 -- an operator before an operand
 abbrev pub ref_before : ℕ → Part
@@ -234,6 +228,20 @@ abbrev pub prefixed_entry : Bool → Entry
 prefixed_entry forbid =
     nodes_of (by_expr forbid false 255 (something ∷ [])) (c (Operand forbid) ∷ []) operand_firsts
     (operand_follows forbid)
+
+-- a value before an `else`, and an operand in it
+abbrev pub else_values_of : ℕ → Entry
+else_values_of power =
+    unbraced_of
+    (nodes_of (by_expr false false power (something ∷ []))
+    ((c PlainAtom ⊳ around 1 postfixes) ∷ prefixes ElsePrefixed) (operator_firsts ++ atom_firsts)
+    ((of_kinds (ELSE_KW ∷ []) ∷ []) ∷ []))
+
+abbrev pub else_value_entry : Entry
+else_value_entry = else_values_of 1
+
+abbrev pub else_prefixed_entry : Entry
+else_prefixed_entry = else_values_of 255
 
 -- At the beginning of a statement a block goes on only by a dot or a `?`.
 abbrev pub stmt_operand_entry : Entry

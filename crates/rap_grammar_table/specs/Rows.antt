@@ -1,7 +1,7 @@
 -- The table of the grammar.
 use Rattle.std.specs.Prelude.{true, false, List, [], ◌∷◌}
 use Rattle.rap_grammar_table.specs.AttributeRows.{attr_entry, cfg_entry, inner_attr_entry, macro_path_entry, meta_entry, token_tree_entry}
-use Rattle.rap_grammar_table.specs.ExprRows.{arg_list_entry, atom_entry, atom_path_entry, brace_tree_entry, cast_path_entry, cast_type_entry, closed_entry, condition_entry, else_value_entry, expr_entry, guard_entry, name_expr_entry, open_atom_entry, open_entry, open_prefixed_entry, operand_entry, plain_atom_entry, prefixed_entry, range_end_entry, round_tree_entry, stmt_operand_entry, stmt_prefixed_entry, with_cast_entry}
+use Rattle.rap_grammar_table.specs.ExprRows.{arg_list_entry, atom_entry, atom_path_entry, brace_tree_entry, cast_path_entry, cast_type_entry, closed_entry, condition_entry, else_prefixed_entry, else_value_entry, expr_entry, guard_entry, name_expr_entry, open_atom_entry, open_entry, open_prefixed_entry, operand_entry, plain_atom_entry, prefixed_entry, range_end_entry, round_tree_entry, stmt_operand_entry, stmt_prefixed_entry, with_cast_entry}
 use Rattle.rap_grammar_table.specs.GenericRows.{argument_entry, generics_entry, param_entry, predicate_entry, where_entry}
 use Rattle.rap_grammar_table.specs.ItemRows.{field_entry, fn_params_entry, item_entry, use_tree_entry, variant_entry, visibility_entry}
 use Rattle.rap_grammar_table.specs.Notation.{Entry, table_of}
@@ -33,7 +33,7 @@ entries =
     with_cast_entry false 8 ∷ with_cast_entry false 9 ∷ with_cast_entry false 10 ∷ with_cast_entry false 11 ∷
     with_cast_entry false 12 ∷ with_cast_entry true 6 ∷ with_cast_entry true 7 ∷ with_cast_entry true 8 ∷
     with_cast_entry true 9 ∷ with_cast_entry true 10 ∷ with_cast_entry true 11 ∷ with_cast_entry true 12 ∷
-    empty_stmt_entry ∷ macro_tail_entry ∷ plain_atom_entry ∷ else_value_entry ∷ []
+    empty_stmt_entry ∷ macro_tail_entry ∷ plain_atom_entry ∷ else_value_entry ∷ else_prefixed_entry ∷ []
 
 abbrev pub table : Table
 table = table_of entries
