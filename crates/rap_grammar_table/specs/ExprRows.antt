@@ -8,12 +8,12 @@ use Rattle.rap_grammar_scripts.specs.Words.{next_is}
 use Rattle.rap_grammar_scripts.specs.declared.rule.Rule.{Rule}
 use Rattle.rap_grammar_scripts.specs.declared.rule.Rule.TheVariants as knot
 use Rattle.rap_grammar_table.specs.AttributeRows.{tree_in}
-use Rattle.rap_grammar_table.specs.Categories.{Ty, PlainTy, Argument, Expr, PlainAtom, ElsePrefixed, StmtList, Pattern, SinglePattern, AtomPath, RoundTree, ArgList, NameExpr, CastTy, CastPath, WithBlock, Atom, Operand, Prefixed, StmtOperand, StmtPrefixed, OpenAtom, OpenPrefixed, Closed, attrs, lifetime, literal, literals, name_ref, path_names}
+use Rattle.rap_grammar_table.specs.Categories.{Ty, PlainTy, Argument, Expr, PlainAtom, ElsePrefixed, StmtList, Pattern, SinglePattern, AtomPath, RoundTree, ArgList, NameExpr, CastTy, CastPath, WithBlock, Atom, Operand, Prefixed, StmtOperand, StmtPrefixed, OpenAtom, OpenPrefixed, Closed, attrs, global_heads, lifetime, literal, literals, name_ref, path_names}
 use Rattle.rap_grammar_table.specs.Known.{Place, behind}
 use Rattle.rap_grammar_table.specs.Look.{anything}
 use Rattle.rap_grammar_table.specs.Notation.{Part, ◌⊳◌, t, ts, weak, op, c, node, opt, either, commas, commas_last, alone, guard, turn, around, Entry, text, rows_of, of_kinds, of_names, touching, colons}
 use Rattle.rap_grammar_table.specs.Operators.{atom_kinds, block_kinds, operand_kinds, open_kinds, operator_kinds, end_kinds, arrow, expr_ends, operand_ends, closed_follows, cast_follows, operand_follows, atom_follows, path_follows, path_heads, places_in, if_kind, binary, closed_turns, cast_turns, range_turn, range_with_end, and_open, all_turns}
-use Rattle.rap_grammar_table.specs.TypeRows.{expr_path_rows, fn_pointer, named_paths, plain_read_by, ret}
+use Rattle.rap_grammar_table.specs.TypeRows.{anchored_path, expr_path_rows, fn_pointer, global_path, named_paths, plain_read_by, ret}
 use Rattle.rap_grammar_table.specs.Ways.{same_flag}
 
 -- the rule of an expression with these restrictions and this power
@@ -382,10 +382,12 @@ guard_entry =
 -- the types of casts
 abbrev pub cast_path_entry : Entry
 cast_path_entry =
-    text (named_paths CastTy path_names)
-    (behind (of_names path_names)
+    text (global_path ∷ anchored_path ∷ named_paths CastTy path_names)
+    ((of_kinds (L_ANGLE ∷ []) ∷ []) ∷
+    (global_heads ++
+    behind (of_names path_names)
     ((of_kinds (L_PAREN ∷ BANG ∷ (operator_kinds ++ end_kinds)) ∷ []) ∷
-    colons ((of_kinds (L_ANGLE ∷ L_PAREN ∷ path_names) ∷ []) ∷ [])))
+    colons ((of_kinds (L_ANGLE ∷ L_PAREN ∷ path_names) ∷ []) ∷ []))))
     cast_follows
 
 abbrev pub cast_type_entry : Entry
@@ -403,4 +405,6 @@ cast_type_entry =
     ∷ node TUPLE_TYPE (t L_PAREN ⊳ c Ty ⊳ t COMMA ⊳ commas (c Ty) ⊳ t R_PAREN)
     ∷ fn_pointer CastTy
     ∷ [])
-    (kinds_only (AMP ∷ STAR ∷ UNDERSCORE ∷ BANG ∷ L_BRACK ∷ L_PAREN ∷ FN_KW ∷ UNSAFE_KW ∷ EXTERN_KW ∷ path_names)) cast_follows
+    (kinds_only (AMP ∷ STAR ∷ UNDERSCORE ∷ BANG ∷ L_BRACK ∷ L_PAREN ∷ L_ANGLE ∷ FN_KW ∷ UNSAFE_KW ∷ EXTERN_KW ∷ path_names) ++
+    global_heads)
+    cast_follows

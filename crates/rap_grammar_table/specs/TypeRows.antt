@@ -91,11 +91,12 @@ global_path_entry = text (global_path ∷ []) global_heads plus_follows
 abbrev pub anchor : Part
 anchor = node TYPE_ANCHOR (t L_ANGLE ⊳ c Ty ⊳ opt (t AS_KW ⊳ c AnchorTrait) ⊳ t R_ANGLE)
 
+abbrev pub anchored_path : Part
+anchored_path =
+    node PATH (node PATH (node PATH_SEGMENT anchor) ⊳ op COLON2 ⊳ segment path_names) ⊳ more_segments
+
 abbrev pub anchored_path_entry : Entry
-anchored_path_entry =
-    text
-    ((node PATH (node PATH (node PATH_SEGMENT anchor) ⊳ op COLON2 ⊳ segment path_names) ⊳ more_segments) ∷ [])
-    ((of_kinds (L_ANGLE ∷ []) ∷ []) ∷ []) plus_follows
+anchored_path_entry = text (anchored_path ∷ []) ((of_kinds (L_ANGLE ∷ []) ∷ []) ∷ []) plus_follows
 
 -- a path in an expression, where `::` stands before its arguments
 abbrev pub expr_segment : Part
