@@ -332,7 +332,8 @@ closed_forbidden_10_taken = refl
 closed_forbidden_10_so : ClosedSo true 10
 unfolding climbing
 closed_forbidden_10_so o h =
-    taken true (closed_entry true 10) (expr_rule true false 10) (closed_entry true 10).rows o h closed_forbidden_10_taken
+    taken true (closed_entry true 10) (expr_rule true false 10) (closed_entry true 10).rows o h
+    closed_forbidden_10_taken
 
 pub closed_forbidden_10 : EntryChecked table (closed_entry true 10)
 closed_forbidden_10 =
@@ -352,7 +353,8 @@ closed_forbidden_11_taken = refl
 closed_forbidden_11_so : ClosedSo true 11
 unfolding climbing
 closed_forbidden_11_so o h =
-    taken true (closed_entry true 11) (expr_rule true false 11) (closed_entry true 11).rows o h closed_forbidden_11_taken
+    taken true (closed_entry true 11) (expr_rule true false 11) (closed_entry true 11).rows o h
+    closed_forbidden_11_taken
 
 pub closed_forbidden_11 : EntryChecked table (closed_entry true 11)
 closed_forbidden_11 =
@@ -372,7 +374,8 @@ closed_forbidden_12_taken = refl
 closed_forbidden_12_so : ClosedSo true 12
 unfolding climbing
 closed_forbidden_12_so o h =
-    taken true (closed_entry true 12) (expr_rule true false 12) (closed_entry true 12).rows o h closed_forbidden_12_taken
+    taken true (closed_entry true 12) (expr_rule true false 12) (closed_entry true 12).rows o h
+    closed_forbidden_12_taken
 
 pub closed_forbidden_12 : EntryChecked table (closed_entry true 12)
 closed_forbidden_12 =
@@ -392,7 +395,8 @@ with_cast_6_taken = refl
 with_cast_6_so : CastSo false 6
 unfolding climbing
 with_cast_6_so o h =
-    taken false (with_cast_entry false 6) (expr_rule false false 6) (with_cast_entry false 6).rows o h with_cast_6_taken
+    taken false (with_cast_entry false 6) (expr_rule false false 6) (with_cast_entry false 6).rows o h
+    with_cast_6_taken
 
 pub with_cast_6 : EntryChecked table (with_cast_entry false 6)
 with_cast_6 =
@@ -412,7 +416,8 @@ with_cast_7_taken = refl
 with_cast_7_so : CastSo false 7
 unfolding climbing
 with_cast_7_so o h =
-    taken false (with_cast_entry false 7) (expr_rule false false 7) (with_cast_entry false 7).rows o h with_cast_7_taken
+    taken false (with_cast_entry false 7) (expr_rule false false 7) (with_cast_entry false 7).rows o h
+    with_cast_7_taken
 
 pub with_cast_7 : EntryChecked table (with_cast_entry false 7)
 with_cast_7 =
@@ -432,7 +437,8 @@ with_cast_8_taken = refl
 with_cast_8_so : CastSo false 8
 unfolding climbing
 with_cast_8_so o h =
-    taken false (with_cast_entry false 8) (expr_rule false false 8) (with_cast_entry false 8).rows o h with_cast_8_taken
+    taken false (with_cast_entry false 8) (expr_rule false false 8) (with_cast_entry false 8).rows o h
+    with_cast_8_taken
 
 pub with_cast_8 : EntryChecked table (with_cast_entry false 8)
 with_cast_8 =
@@ -452,7 +458,8 @@ with_cast_9_taken = refl
 with_cast_9_so : CastSo false 9
 unfolding climbing
 with_cast_9_so o h =
-    taken false (with_cast_entry false 9) (expr_rule false false 9) (with_cast_entry false 9).rows o h with_cast_9_taken
+    taken false (with_cast_entry false 9) (expr_rule false false 9) (with_cast_entry false 9).rows o h
+    with_cast_9_taken
 
 pub with_cast_9 : EntryChecked table (with_cast_entry false 9)
 with_cast_9 =
@@ -472,7 +479,8 @@ with_cast_10_taken = refl
 with_cast_10_so : CastSo false 10
 unfolding climbing
 with_cast_10_so o h =
-    taken false (with_cast_entry false 10) (expr_rule false false 10) (with_cast_entry false 10).rows o h with_cast_10_taken
+    taken false (with_cast_entry false 10) (expr_rule false false 10) (with_cast_entry false 10).rows o h
+    with_cast_10_taken
 
 pub with_cast_10 : EntryChecked table (with_cast_entry false 10)
 with_cast_10 =
@@ -492,7 +500,8 @@ with_cast_11_taken = refl
 with_cast_11_so : CastSo false 11
 unfolding climbing
 with_cast_11_so o h =
-    taken false (with_cast_entry false 11) (expr_rule false false 11) (with_cast_entry false 11).rows o h with_cast_11_taken
+    taken false (with_cast_entry false 11) (expr_rule false false 11) (with_cast_entry false 11).rows o h
+    with_cast_11_taken
 
 pub with_cast_11 : EntryChecked table (with_cast_entry false 11)
 with_cast_11 =
@@ -512,7 +521,8 @@ with_cast_12_taken = refl
 with_cast_12_so : CastSo false 12
 unfolding climbing
 with_cast_12_so o h =
-    taken false (with_cast_entry false 12) (expr_rule false false 12) (with_cast_entry false 12).rows o h with_cast_12_taken
+    taken false (with_cast_entry false 12) (expr_rule false false 12) (with_cast_entry false 12).rows o h
+    with_cast_12_taken
 
 pub with_cast_12 : EntryChecked table (with_cast_entry false 12)
 with_cast_12 =
@@ -532,7 +542,8 @@ with_cast_forbidden_6_taken = refl
 with_cast_forbidden_6_so : CastSo true 6
 unfolding climbing
 with_cast_forbidden_6_so o h =
-    taken true (with_cast_entry true 6) (expr_rule true false 6) (with_cast_entry true 6).rows o h with_cast_forbidden_6_taken
+    taken true (with_cast_entry true 6) (expr_rule true false 6) (with_cast_entry true 6).rows o h
+    with_cast_forbidden_6_taken
 
 pub with_cast_forbidden_6 : EntryChecked table (with_cast_entry true 6)
 with_cast_forbidden_6 =
@@ -552,7 +563,8 @@ with_cast_forbidden_7_taken = refl
 with_cast_forbidden_7_so : CastSo true 7
 unfolding climbing
 with_cast_forbidden_7_so o h =
-    taken true (with_cast_entry true 7) (expr_rule true false 7) (with_cast_entry true 7).rows o h with_cast_forbidden_7_taken
+    taken true (with_cast_entry true 7) (expr_rule true false 7) (with_cast_entry true 7).rows o h
+    with_cast_forbidden_7_taken
 
 pub with_cast_forbidden_7 : EntryChecked table (with_cast_entry true 7)
 with_cast_forbidden_7 =
@@ -572,7 +584,8 @@ with_cast_forbidden_8_taken = refl
 with_cast_forbidden_8_so : CastSo true 8
 unfolding climbing
 with_cast_forbidden_8_so o h =
-    taken true (with_cast_entry true 8) (expr_rule true false 8) (with_cast_entry true 8).rows o h with_cast_forbidden_8_taken
+    taken true (with_cast_entry true 8) (expr_rule true false 8) (with_cast_entry true 8).rows o h
+    with_cast_forbidden_8_taken
 
 pub with_cast_forbidden_8 : EntryChecked table (with_cast_entry true 8)
 with_cast_forbidden_8 =
@@ -592,7 +605,8 @@ with_cast_forbidden_9_taken = refl
 with_cast_forbidden_9_so : CastSo true 9
 unfolding climbing
 with_cast_forbidden_9_so o h =
-    taken true (with_cast_entry true 9) (expr_rule true false 9) (with_cast_entry true 9).rows o h with_cast_forbidden_9_taken
+    taken true (with_cast_entry true 9) (expr_rule true false 9) (with_cast_entry true 9).rows o h
+    with_cast_forbidden_9_taken
 
 pub with_cast_forbidden_9 : EntryChecked table (with_cast_entry true 9)
 with_cast_forbidden_9 =
@@ -612,7 +626,8 @@ with_cast_forbidden_10_taken = refl
 with_cast_forbidden_10_so : CastSo true 10
 unfolding climbing
 with_cast_forbidden_10_so o h =
-    taken true (with_cast_entry true 10) (expr_rule true false 10) (with_cast_entry true 10).rows o h with_cast_forbidden_10_taken
+    taken true (with_cast_entry true 10) (expr_rule true false 10) (with_cast_entry true 10).rows o h
+    with_cast_forbidden_10_taken
 
 pub with_cast_forbidden_10 : EntryChecked table (with_cast_entry true 10)
 with_cast_forbidden_10 =
@@ -632,7 +647,8 @@ with_cast_forbidden_11_taken = refl
 with_cast_forbidden_11_so : CastSo true 11
 unfolding climbing
 with_cast_forbidden_11_so o h =
-    taken true (with_cast_entry true 11) (expr_rule true false 11) (with_cast_entry true 11).rows o h with_cast_forbidden_11_taken
+    taken true (with_cast_entry true 11) (expr_rule true false 11) (with_cast_entry true 11).rows o h
+    with_cast_forbidden_11_taken
 
 pub with_cast_forbidden_11 : EntryChecked table (with_cast_entry true 11)
 with_cast_forbidden_11 =
@@ -652,7 +668,8 @@ with_cast_forbidden_12_taken = refl
 with_cast_forbidden_12_so : CastSo true 12
 unfolding climbing
 with_cast_forbidden_12_so o h =
-    taken true (with_cast_entry true 12) (expr_rule true false 12) (with_cast_entry true 12).rows o h with_cast_forbidden_12_taken
+    taken true (with_cast_entry true 12) (expr_rule true false 12) (with_cast_entry true 12).rows o h
+    with_cast_forbidden_12_taken
 
 pub with_cast_forbidden_12 : EntryChecked table (with_cast_entry true 12)
 with_cast_forbidden_12 =

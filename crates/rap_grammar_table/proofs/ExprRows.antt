@@ -55,7 +55,8 @@ brace_trees = record { reads = λ r h. absurd cc; begins = refl; followed = refl
 pub arg_lists : EntryChecked table arg_list_entry
 arg_lists = record { reads = λ r h. absurd cc; begins = refl; followed = refl; nodes = λ h. refl }
 
-name_exprs_read : all_accepted (is_read table name_expr_entry (expr_rule false false 1)) name_expr_entry.rows ≡ accepted
+name_exprs_read :
+    all_accepted (is_read table name_expr_entry (expr_rule false false 1)) name_expr_entry.rows ≡ accepted
 unfolding scripts tests
 name_exprs_read = refl
 
@@ -86,7 +87,8 @@ stmt_operands = record { reads = λ r h. absurd cc; begins = refl; followed = re
 pub open_atoms_so : EntryChecked table open_atom_entry
 open_atoms_so = record { reads = λ r h. absurd cc; begins = refl; followed = refl; nodes = λ h. refl }
 
-prefixed_read : all_accepted (is_read table (prefixed_entry false) (expr_rule false false 255)) ((prefixed_entry false)).rows ≡ accepted
+prefixed_read :
+    all_accepted (is_read table (prefixed_entry false) (expr_rule false false 255)) ((prefixed_entry false)).rows ≡ accepted
 unfolding scripts tests
 prefixed_read = refl
 
@@ -99,7 +101,8 @@ prefixed =
       nodes = λ h. refl;
     }
 
-prefixed_forbidden_read : all_accepted (is_read table (prefixed_entry true) (expr_rule true false 255)) ((prefixed_entry true)).rows ≡ accepted
+prefixed_forbidden_read :
+    all_accepted (is_read table (prefixed_entry true) (expr_rule true false 255)) ((prefixed_entry true)).rows ≡ accepted
 unfolding scripts tests
 prefixed_forbidden_read = refl
 
@@ -112,7 +115,8 @@ prefixed_forbidden =
       nodes = λ h. refl;
     }
 
-stmt_prefixed_read : all_accepted (is_read table stmt_prefixed_entry (expr_rule false true 255)) (stmt_prefixed_entry).rows ≡ accepted
+stmt_prefixed_read :
+    all_accepted (is_read table stmt_prefixed_entry (expr_rule false true 255)) (stmt_prefixed_entry).rows ≡ accepted
 unfolding scripts tests
 stmt_prefixed_read = refl
 
@@ -125,7 +129,8 @@ stmt_prefixed =
       nodes = λ h. refl;
     }
 
-open_prefixed_read : all_accepted (is_read table open_prefixed_entry (expr_rule false false 255)) (open_prefixed_entry).rows ≡ accepted
+open_prefixed_read :
+    all_accepted (is_read table open_prefixed_entry (expr_rule false false 255)) (open_prefixed_entry).rows ≡ accepted
 unfolding scripts tests
 open_prefixed_read = refl
 
@@ -141,7 +146,8 @@ open_prefixed =
 pub cast_paths : EntryChecked table cast_path_entry
 cast_paths = record { reads = λ r h. absurd cc; begins = refl; followed = refl; nodes = λ h. refl }
 
-cast_types_read : all_accepted (is_read table cast_type_entry (knot.TypeWithBoundsCond false)) cast_type_entry.rows ≡ accepted
+cast_types_read :
+    all_accepted (is_read table cast_type_entry (knot.TypeWithBoundsCond false)) cast_type_entry.rows ≡ accepted
 unfolding scripts tests
 cast_types_read = refl
 
@@ -156,7 +162,8 @@ cast_types = record { reads = cast_types_read_by; begins = refl; followed = refl
 pub plain_atoms_so : EntryChecked table plain_atom_entry
 plain_atoms_so = record { reads = λ r h. absurd cc; begins = refl; followed = refl; nodes = λ h. refl }
 
-else_values_read : all_accepted (is_read table else_value_entry (expr_rule false false 1)) else_value_entry.rows ≡ accepted
+else_values_read :
+    all_accepted (is_read table else_value_entry (expr_rule false false 1)) else_value_entry.rows ≡ accepted
 unfolding scripts tests
 else_values_read = refl
 
@@ -169,7 +176,8 @@ else_values =
       nodes = λ h. refl;
     }
 
-else_prefixed_read : all_accepted (is_read table else_prefixed_entry (expr_rule false false 255)) else_prefixed_entry.rows ≡ accepted
+else_prefixed_read :
+    all_accepted (is_read table else_prefixed_entry (expr_rule false false 255)) else_prefixed_entry.rows ≡ accepted
 unfolding scripts tests
 else_prefixed_read = refl
 

@@ -82,7 +82,8 @@ expressions_taken = refl
 
 expressions_first : FirstSo 2 false expr_entry (expr_rule false false 1)
 unfolding climbing
-expressions_first o h = taken false expr_entry (expr_rule false false 1) (taking 2 expr_entry.rows) o h expressions_taken
+expressions_first o h =
+    taken false expr_entry (expr_rule false false 1) (taking 2 expr_entry.rows) o h expressions_taken
 
 expressions_others : OthersSo 2 expr_entry (expr_rule false false 1)
 unfolding scripts tests
@@ -106,7 +107,8 @@ conditions_taken = refl
 
 conditions_first : FirstSo 2 true condition_entry (expr_rule true false 1)
 unfolding climbing
-conditions_first o h = taken true condition_entry (expr_rule true false 1) (taking 2 condition_entry.rows) o h conditions_taken
+conditions_first o h =
+    taken true condition_entry (expr_rule true false 1) (taking 2 condition_entry.rows) o h conditions_taken
 
 conditions_others : OthersSo 2 condition_entry (expr_rule true false 1)
 unfolding scripts tests
@@ -207,7 +209,8 @@ range_ends_forbidden_2_taken = refl
 range_ends_forbidden_2_so : RangeSo true 2
 unfolding climbing
 range_ends_forbidden_2_so o h =
-    taken true (range_end_entry true) (expr_rule true false 2) (range_end_entry true).rows o h range_ends_forbidden_2_taken
+    taken true (range_end_entry true) (expr_rule true false 2) (range_end_entry true).rows o h
+    range_ends_forbidden_2_taken
 
 range_ends_forbidden_3_taken : RangeTaken true 3
 unfolding climbing
@@ -216,7 +219,8 @@ range_ends_forbidden_3_taken = refl
 range_ends_forbidden_3_so : RangeSo true 3
 unfolding climbing
 range_ends_forbidden_3_so o h =
-    taken true (range_end_entry true) (expr_rule true false 3) (range_end_entry true).rows o h range_ends_forbidden_3_taken
+    taken true (range_end_entry true) (expr_rule true false 3) (range_end_entry true).rows o h
+    range_ends_forbidden_3_taken
 
 pub range_ends_forbidden : EntryChecked table (range_end_entry true)
 range_ends_forbidden =

@@ -34,7 +34,8 @@ ending_blocks = record { reads = λ r h. absurd cc; begins = refl; followed = re
 pub with_blocks_so : EntryChecked table with_block_entry
 with_blocks_so = record { reads = λ r h. absurd cc; begins = refl; followed = refl; nodes = λ h. refl }
 
-stmt_exprs_so_read : all_accepted (is_read table stmt_expr_entry (expr_rule false true 1)) (stmt_expr_entry).rows ≡ accepted
+stmt_exprs_so_read :
+    all_accepted (is_read table stmt_expr_entry (expr_rule false true 1)) (stmt_expr_entry).rows ≡ accepted
 unfolding scripts tests
 stmt_exprs_so_read = refl
 
@@ -47,7 +48,8 @@ stmt_exprs_so =
       nodes = λ h. refl;
     }
 
-stmt_blocks_read : all_accepted (is_read table stmt_block_entry (expr_rule false true 1)) (stmt_block_entry).rows ≡ accepted
+stmt_blocks_read :
+    all_accepted (is_read table stmt_block_entry (expr_rule false true 1)) (stmt_block_entry).rows ≡ accepted
 unfolding scripts tests
 stmt_blocks_read = refl
 

@@ -57,8 +57,8 @@ no_more [] = true
 no_more (x ∷ xs) = false
 
 -- Where a walk is: the rest of the row, and what it has made, the newest node first; what the script has made; how many
--- pieces are taken, those of them whose tree is one node, and those whose last token is no `}`; and what is known of the
--- tokens that come next.
+-- pieces are taken, those of them whose tree is one node, and those whose last token is no `}`; and what is known of
+-- the tokens that come next.
 pub record At : Type 0 where
   pub items : Items
   pub row : Built

@@ -168,8 +168,8 @@ CastTy = 48
 abbrev pub CastPath : ℕ
 CastPath = 49
 
--- The statements of a block in their braces; an `if`; a block, a condition, a loop or a `match`; an arm of a `match`, and
--- the last one without its comma.
+-- The statements of a block in their braces; an `if`; a block, a condition, a loop or a `match`; an arm of a `match`,
+-- and the last one without its comma.
 abbrev pub StmtList : ℕ
 StmtList = 50
 
@@ -239,7 +239,8 @@ BlockStmt = 71
 abbrev pub Tail : ℕ
 Tail = 72
 
--- an expression of operators of at least this power, from 4 to 12, and one of 4 or 5 that may end with a jump or closure
+-- an expression of operators of at least this power, from 4 to 12, and one of 4 or 5 that may end with a jump or
+-- closure
 abbrev pub Closed : Bool → ℕ → ℕ
 Closed forbid power = where_forbidden forbid (69 + power) (78 + power)
 

@@ -405,6 +405,7 @@ cast_type_entry =
     ∷ node TUPLE_TYPE (t L_PAREN ⊳ c Ty ⊳ t COMMA ⊳ commas (c Ty) ⊳ t R_PAREN)
     ∷ fn_pointer CastTy
     ∷ [])
-    (kinds_only (AMP ∷ STAR ∷ UNDERSCORE ∷ BANG ∷ L_BRACK ∷ L_PAREN ∷ L_ANGLE ∷ FN_KW ∷ UNSAFE_KW ∷ EXTERN_KW ∷ path_names) ++
+    (kinds_only
+    (AMP ∷ STAR ∷ UNDERSCORE ∷ BANG ∷ L_BRACK ∷ L_PAREN ∷ L_ANGLE ∷ FN_KW ∷ UNSAFE_KW ∷ EXTERN_KW ∷ path_names) ++
     global_heads)
     cast_follows

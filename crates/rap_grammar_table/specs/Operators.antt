@@ -155,10 +155,10 @@ path_heads =
     ∷ (touching BANG ∷ of_kinds (EQ ∷ []) ∷ [])
     ∷ colons ((of_kinds (L_ANGLE ∷ path_names) ∷ []) ∷ [])))
 
--- Turns of operators. Their numbers are the powers, so that no tighter one comes next; 13 after a cast, and 20 more than
--- the power where the right operand ends with one, so that no operator comes next that begins as generic arguments do.
--- The turns are those between two operands, from this power on; `as`; a range with its end; an assignment; and those whose
--- right operand takes in what follows.
+-- Turns of operators. Their numbers are the powers, so that no tighter one comes next; 13 after a cast, and 20 more
+-- than the power where the right operand ends with one, so that no operator comes next that begins as generic
+-- arguments do. The turns are those between two operands, from this power on; `as`; a range with its end; an
+-- assignment; and those whose right operand takes in what follows.
 abbrev pub from_on : ℕ → List ℕ → List ℕ
 from_on power ks = those (λ k. not (nat_lt k power)) ks
 
