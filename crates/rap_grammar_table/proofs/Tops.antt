@@ -65,7 +65,7 @@ category_row c {ks = ks} {y = y} d =
 
 -- it is one node, and no message is in it
 node_of : (c : ℕ) {ks : List Record} {y : Forest} → table.is_node c ≡ true → Good table (cat c) ks y [] → IsNode y
-node_of c h (good_category x n o z) = n h
+node_of c h (good_category x n u o z) = n h
 
 node_made : (c : ℕ) {ks : List Record} {y : Forest} → table.is_node c ≡ true → Sees (table.follows c) [] →
     Makes c ks y → IsNode y
