@@ -100,7 +100,7 @@
 //! A text is lexed only when its tokens are first used: [`LexedStr::new`] and [`LexedStr::to_input`] keep the text,
 //! and [`TopEntryPoint::parse`] goes the whole way from the text to the tree in one call of the library.
 //! A thread keeps the room for a text's tree for the next text: 8 bytes for each byte of the text, as far as they
-//! were written, and 4 MB at most. It keeps a stack of 64 MB too, of which a text that nests less than a hundred
+//! were written, and 20 MB at most. It keeps a stack of 64 MB too, of which a text that nests less than a hundred
 //! levels deep takes some 100 KB. [`release_thread_memory`] gives both back.
 //!
 //! # Where it runs
@@ -139,8 +139,8 @@ pub fn is_rust_whitespace(c: char) -> bool {
     matches!(c, '\u{9}'..='\u{d}' | ' ' | '\u{85}' | '\u{200e}' | '\u{200f}' | '\u{2028}' | '\u{2029}')
 }
 
-/// Gives back the memory that the calling thread keeps from one text to the next: the room for a tree, of 4 MB at most,
-/// and a stack of 64 MB. The next text takes them anew. A thread that ends gives them back by itself.
+/// Gives back the memory that the calling thread keeps from one text to the next: the rooms for a tree, of 20 MB at most
+/// each, and a stack of 64 MB. The next text takes them anew. A thread that ends gives them back by itself.
 ///
 /// ```
 /// use ra_ap_parser::{Edition, LexedStr, TopEntryPoint, release_thread_memory};

@@ -3,7 +3,7 @@
 //! This module is no part of the interface of the Rust crate: it is public for the tests of the package.
 //!
 //! - `declarations` has what the header declares,
-//! - `room` the room for words that a thread keeps, and the room for lists,
+//! - `room` the rooms that a thread keeps,
 //! - `words` the reader of a tree in words,
 //! - `nodes` the calls for trees in one list,
 //! - `stack` the stacks on which calls parse,
@@ -19,7 +19,7 @@ mod status;
 mod words;
 
 pub use declarations::*;
-pub use nodes::{Nodes, lexer_places, nodes};
+pub use nodes::{Nodes, keep_elements, lexer_places, nodes};
 pub(crate) use status::check_status;
 pub(crate) use words::Woven;
 

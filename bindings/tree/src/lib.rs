@@ -40,8 +40,9 @@
 //!
 //! # What a call costs
 //!
-//! Building is linear in the text. The list of most texts takes some 8 bytes for each of theirs, and a tree that is
-//! dropped gives it back. A thread keeps a stack for the next text, which [`release_thread_memory`] gives back.
+//! Building is linear in the text. The list of most texts takes some 8 bytes for each of theirs; where one of 8 MB or
+//! more is dropped, the thread keeps its room for the next long one, 20 MB at most. [`release_thread_memory`] gives that
+//! back.
 //!
 //! No way through a tree allocates memory, and none goes deeper into the stack for a deeper tree. What begins or
 //! follows a node is found at once, what ends or precedes it by a climb through the levels between; what is at an offset

@@ -103,6 +103,13 @@ impl Tree {
     }
 }
 
+/// Its thread keeps the room of a long list for the next tree.
+impl Drop for Tree {
+    fn drop(&mut self) {
+        sys::keep_elements(std::mem::take(&mut self.elements));
+    }
+}
+
 /// The text of the tree.
 impl fmt::Display for Tree {
     fn fmt(&self, f: &mut fmt::Formatter<'_>) -> fmt::Result {

@@ -85,6 +85,11 @@ pub fn nodes(text: &str, edition: Edition, entry: &TopEntryPoint) -> Nodes {
     Nodes { elements, messages, texts: String::from_utf8(bytes).expect("messages are UTF-8") }
 }
 
+/// Keeps the room of a long list that is no longer used, for the next text of this thread.
+pub fn keep_elements(elements: Vec<Element>) {
+    room::keep_elements(elements);
+}
+
 /// The bytes of a text at which the lexer has messages, in their order, by `rap_tokens`.
 ///
 /// # Panics
